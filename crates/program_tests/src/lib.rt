@@ -1,0 +1,191 @@
+//! Runs of the whole program over sources, sinks and disks in memory.
+#![tactic(auto)]
+
+#[cfg(test)]
+mod tests {
+    use graft_points::Policy;
+    use std::alloc::{AllocError, Global};
+    use std::test::Fail;
+    use vino_base::{EmptyDisk, MemSink, MemSource};
+    use vino_top::vino;
+
+    const KEY: &str = "000102030405060708090a0b0c0d0e0f101112131415161718191a1b1c1d1e1f";
+
+    /// A run of the program: its status, and what it wrote.
+    #[derive(Drop)]
+    struct Ran {
+        status: u8,
+        written: MemSink,
+    }
+
+    /// The words `run KEY`, or others.
+    fn words_of(alloc: Global, words: &[&str]) -> Result<Vec<String>, AllocError> {
+        let mut all = Vec::new(alloc);
+        for word in words {
+            all.push(String::from_str(alloc, word)?)?;
+        }
+        Ok(all)
+    }
+
+    /// Runs the program on this script. The reads and the writes with these numbers fail; 0 is none.
+    fn run_words(
+        alloc: Global,
+        words: &[&str],
+        script: &str,
+        failing_read: u64,
+        failing_write: u64,
+    ) -> Result<Ran, AllocError> {
+        let words = words_of(alloc, words)?;
+        let script = Vec::from_slice(alloc, script.as_bytes())?;
+        let mut source = MemSource::new(script, Vec::from_slice(alloc, &[failing_read])?);
+        let mut written = MemSink::new(alloc, Vec::from_slice(alloc, &[failing_write])?);
+        let mut disk = EmptyDisk::new(64);
+        let shelf: Vec<Box<dyn Policy>> = Vec::new(alloc);
+        let status = vino(alloc, &words, &mut source, &mut written, &mut disk, shelf);
+        Ok(Ran { status, written })
+    }
+
+    const STEPS: &str = "boot\nspawn 0\nyield 0\nyield 1\ntick\n";
+
+    #[test]
+    fn writes_the_lines_of_a_script(rt: HostRuntime) -> Result<(), Fail> {
+        let cases = [
+            ("", 0u8, ""),
+            ("boot\n", 0, "0 boot 8 64 0\n"),
+            ("\n#note\nboot\n\n#\n", 0, "0 boot 8 64 0\n"),
+            (
+                STEPS,
+                0,
+                "0 boot 8 64 0\n1 ok 1\n2 ok 1\n3 ok 0\n4 tick 1\n",
+            ),
+            (
+                "boot\nspawn 9\nyield 4294967295\n",
+                0,
+                "0 boot 8 64 0\n1 E1\n2 E1\n",
+            ),
+            ("boot\nspawn 0000000000\n", 0, "0 boot 8 64 0\n1 ok 1\n"),
+            ("tick\n", 2, "script 1 S5\n"),
+            ("boot\nfly 1\ntick\n", 2, "0 boot 8 64 0\nscript 2 S5\n"),
+            ("boot\nboot\n", 2, "0 boot 8 64 0\nscript 2 S5\n"),
+            (
+                "boot\nspawn 4294967296\n",
+                2,
+                "0 boot 8 64 0\nscript 2 S5\n",
+            ),
+            ("boot\nspawn +1\n", 2, "0 boot 8 64 0\nscript 2 S5\n"),
+            ("boot\ntick", 2, "0 boot 8 64 0\nscript 2 S6\n"),
+            ("boot\ntick\n#", 2, "0 boot 8 64 0\n1 tick 1\nscript 3 S6\n"),
+        ];
+        for (script, status, lines) in cases {
+            let ran = run_words(rt.alloc(), &["run", KEY], script, 0, 0)?;
+            assert_eq!(rt; ran.status, status, "on {script:?}");
+            assert!(rt; ran.written.bytes() == lines.as_bytes(), "on {script:?}");
+        }
+        Ok(())
+    }
+
+    #[test]
+    fn lives_with_sixteen_processes(rt: HostRuntime) -> Result<(), Fail> {
+        let alloc = rt.alloc();
+        let mut script = String::from_str(alloc, "boot\n")?;
+        let mut lines = String::from_str(alloc, "0 boot 8 64 0\n")?;
+        for event in 1u8..16 {
+            script.push_str("spawn 0\n")?;
+            lines.push_str(format!(in alloc; "{event} ok {event}\n")?.as_str())?;
+        }
+        script.push_str("spawn 15\n")?;
+        lines.push_str("16 E13\n")?;
+        let ran = run_words(alloc, &["run", KEY], script.as_str(), 0, 0)?;
+        assert_eq!(rt; ran.status, 0);
+        assert!(rt; ran.written.bytes() == lines.as_bytes());
+        Ok(())
+    }
+
+    #[test]
+    fn refuses_other_words(rt: HostRuntime) -> Result<(), Fail> {
+        let usage = b"usage: vino run KEY [PATH] | box KEY | check KEY | asm | dis | demo N\n";
+        let none: [&str; 0] = [];
+        let others: [&[&str]; 5] = [
+            &none,
+            &["run"],
+            &["run", "00"],
+            &["run", KEY, "x", "y"],
+            &["fly", KEY],
+        ];
+        for words in others {
+            let ran = run_words(rt.alloc(), words, STEPS, 0, 0)?;
+            assert_eq!(rt; ran.status, 1);
+            assert!(rt; ran.written.bytes() == usage.as_slice());
+            let broken = run_words(rt.alloc(), words, STEPS, 0, 1)?;
+            assert_eq!(rt; broken.status, 4);
+            assert!(rt; broken.written.bytes().is_empty());
+        }
+        Ok(())
+    }
+
+    #[test]
+    fn takes_a_line_of_the_greatest_length(rt: HostRuntime) -> Result<(), Fail> {
+        let alloc = rt.alloc();
+        for (more, newline, status, lines) in [
+            (65_534usize, "\n", 0u8, "0 boot 8 64 0\n1 tick 1\n"),
+            (65_535, "\n", 2, "0 boot 8 64 0\nscript 2 S5\n"),
+            (65_535, "", 2, "0 boot 8 64 0\nscript 2 S5\n"),
+            (65_534, "", 2, "0 boot 8 64 0\nscript 2 S6\n"),
+        ] {
+            let mut script = String::from_str(alloc, "boot\n#-")?;
+            for _ in 0..more {
+                script.push('x')?;
+            }
+            script.push_str(newline)?;
+            if status == 0 {
+                script.push_str("tick\n")?;
+            }
+            let ran = run_words(alloc, &["run", KEY], script.as_str(), 0, 0)?;
+            assert_eq!(rt; ran.status, status, "with {more} bytes");
+            assert!(rt;
+                ran.written.bytes() == lines.as_bytes(),
+                "with {more} bytes"
+            );
+        }
+        Ok(())
+    }
+
+    #[test]
+    fn stops_at_a_failing_read(rt: HostRuntime) -> Result<(), Fail> {
+        let lines = b"0 boot 8 64 0\n1 ok 1\n2 ok 1\n3 ok 0\n4 tick 1\n";
+        // The first read gives the whole script and the second its end, so there is no third.
+        for (failing, status, written) in [
+            (1u64, 3u8, 0usize),
+            (2, 3, lines.len()),
+            (3, 0, lines.len()),
+        ] {
+            let ran = run_words(rt.alloc(), &["run", KEY], STEPS, failing, 0)?;
+            assert_eq!(rt; ran.status, status, "at read {failing}");
+            assert!(rt; written <= lines.len());
+            assert!(rt;
+                ran.written.bytes() == &lines[..written],
+                "at read {failing}"
+            );
+        }
+        Ok(())
+    }
+
+    #[test]
+    fn stops_at_a_failing_write(rt: HostRuntime) -> Result<(), Fail> {
+        let lines = b"0 boot 8 64 0\n1 ok 1\n2 ok 1\n3 ok 0\n4 tick 1\n";
+        // Each event is one write: what was written before the failing one stands, and nothing after it.
+        let ends = [0usize, 14, 21, 28, 35, lines.len()];
+        for (failing, written) in ends.iter().enumerate() {
+            let number = failing as u64 + 1;
+            let ran = run_words(rt.alloc(), &["run", KEY], STEPS, 0, number)?;
+            let status = if failing == 5 { 0 } else { 4 };
+            assert_eq!(rt; ran.status, status, "at write {number}");
+            assert!(rt; *written <= lines.len());
+            assert!(rt;
+                ran.written.bytes() == &lines[..*written],
+                "at write {number}"
+            );
+        }
+        Ok(())
+    }
+}

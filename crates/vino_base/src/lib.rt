@@ -1,0 +1,50 @@
+//! Sources, sinks and disks: what a caller may rely on, and devices in memory.
+//!
+//! Each device counts its faults. A call answers [`Failed`] only where the count rose, so whoever
+//! answers for a failure can show what it came from. What a device holds is told where it can be told.
+#![tactic(auto)]
+
+mod calls;
+mod disk;
+mod memory;
+mod streams;
+
+pub use calls::CallPlan;
+pub use disk::{Disk, EmptyDisk};
+pub use memory::{MemSink, MemSource};
+pub use streams::{Failed, Sink, Source};
+
+#[cfg(test)]
+mod tests {
+    use super::*;
+    use std::test::Fail;
+
+    #[test]
+    fn streams_in_memory_fail_where_they_are_told(rt: HostRuntime) -> Result<(), Fail> {
+        let alloc = rt.alloc();
+        let bytes = Vec::from_slice(alloc, b"abcde")?;
+        let mut source = MemSource::new(bytes, Vec::from_slice(alloc, &[2])?);
+        let mut sink = MemSink::new(alloc, Vec::from_slice(alloc, &[1])?);
+        let mut buf = [0u8; 3];
+        assert_eq!(rt; source.read(&mut buf).ok(), Some(3));
+        assert!(rt; &buf == b"abc");
+        assert!(rt; source.read(&mut buf).is_err());
+        assert_eq!(rt; source.read(&mut buf).ok(), Some(2));
+        assert!(rt; &buf == b"dec");
+        assert_eq!(rt; source.read(&mut buf).ok(), Some(0));
+        assert!(rt; sink.write(b"no").is_err());
+        assert_eq!(rt; sink.write(b"yes").ok(), Some(3));
+        assert!(rt; sink.bytes() == b"yes".as_slice());
+        Ok(())
+    }
+
+    #[test]
+    fn an_empty_disk_reads_zeros_and_takes_nothing(rt: HostRuntime) {
+        let mut disk = EmptyDisk::new(2);
+        let mut block = [7u8; 512];
+        assert_eq!(rt; disk.size(), 2);
+        assert!(rt; disk.read_block(1, &mut block).is_ok());
+        assert!(rt; block.iter().all(|byte| *byte == 0));
+        assert!(rt; disk.write_block(1, &block).is_err());
+    }
+}

@@ -1,0 +1,3 @@
+pub mod QueueLemmas
+pub mod SessionLemmas
+pub mod RunLemmas

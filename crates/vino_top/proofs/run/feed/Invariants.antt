@@ -1,0 +1,11 @@
+-- The bytes before the place were fed.
+use Rattle.std.proofs.Common.{◌≤◌, take}
+use Rattle.vino_top.specs.Run.{Fed}
+use Rattle.vino_top.proofs.run.feed.Given as goal
+
+abbrev pub invariant-loop-byte : goal.invariant-loop-byte
+invariant-loop-byte g l =
+    record {
+      fed : Fed l.blocks l.fn.reader.session l.reader.session l.fn.reader.line l.reader.line (take l.byte-index l.bytes) (g.K.Sink.got l.fn.out) (g.K.Sink.got l.out);
+      later : g.K.Sink.faults l.fn.out ≤ g.K.Sink.faults l.out;
+    }

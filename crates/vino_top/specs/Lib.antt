@@ -1,0 +1,4 @@
+pub mod Words
+pub mod Queues
+pub mod Bounds
+pub mod Run
