@@ -1,57 +1,127 @@
--- The kernel's state, and what an event does to it.
-use Rattle.std.specs.Prelude.{Bool, true, false, ℕ, suc, true, false, List, [], ◌∷◌, ◌++◌, Option, Some, None}
-use Rattle.kernel_model.specs.declared.QueueRow.{QueueRow}
-use Rattle.kernel_model.specs.declared.SysCall.{SysCall}
-use Rattle.kernel_model.specs.declared.SysCall.TheVariants.{Spawn, Yield}
-use Rattle.kernel_model.specs.declared.Event.{Event}
-use Rattle.kernel_model.specs.declared.Event.TheVariants.{Tick, Sys}
-use Rattle.kernel_model.specs.declared.Reply.TheVariants.{One}
-use Rattle.kernel_model.specs.declared.Refusal.{Refusal}
-use Rattle.kernel_model.specs.declared.Refusal.TheVariants.{NoProcess, Full}
+-- The abstract kernel's state: the committed objects, a history for each call in flight, and the order of waiting.
+use Rattle.std.specs.Prelude.{ℕ, Bool, true, false, cond, not, ◌==◌, List, [], ◌∷◌, ◌++◌, Option, Some, None, filter, drop}
+use Rattle.kernel_model.specs.declared.Object.{Object}
 use Rattle.kernel_model.specs.declared.Note.{Note}
-use Rattle.kernel_model.specs.declared.Note.TheVariants.{Ticked, Ended, Refused}
-use Rattle.kernel_model.specs.Queue.{lives, least_free, first_row, to_back, front_sliced, front_of}
+use Rattle.kernel_model.specs.declared.Note.TheVariants.{Ended, Refused, Gave}
+use Rattle.kernel_model.specs.Objects.{Objects, at}
+use Rattle.kernel_model.specs.World.{World, ImageTable, Blocks}
+use Rattle.kernel_model.specs.Meaning.{Stage, Piece, After, Continues, EndsWith, Fails}
+use Rattle.kernel_model.specs.History.{Mark}
 
--- the clock, and the living processes in queue order
+-- ---- the state
+
+-- a call in flight
+pub record Call : Type 0 where
+  -- the number of the event that began it
+  pub number : ℕ
+  pub stage : Stage
+  -- its history, exactly where it has a level
+  pub marks : Option (List Mark)
+
+-- what blocks a call
+pub record Blocker : Type 0 where
+  pub object : Object
+  pub holder : ℕ
+  -- the holder's call, or none for a user lock
+  pub call : Option ℕ
+
+-- an entry of the order of waiting: the kept blocker, and for how many ticks
+pub record Entry : Type 0 where
+  pub process : ℕ
+  pub blocker : Option Blocker
+  pub count : ℕ
+
+-- an abstract kernel
 pub record Kernel : Type 0 where
+  pub world : World
+  pub images : ImageTable
+  -- what is committed
+  pub objects : Objects
   pub clock : ℕ
-  pub queue : List QueueRow
+  -- the call of each process that has one in flight
+  pub call : ℕ → Option Call
+  -- the order of waiting
+  pub order : List Entry
 
--- a kernel after an event, with what came about
-pub record Happened : Type 0 where
+-- an event under way: the kernel, the disk's blocks, the notes so far, and what the disk's next calls will do
+pub record Run : Type 0 where
   pub kernel : Kernel
-  pub note : Note
+  pub blocks : Blocks
+  pub notes : List Note
+  pub io : List Bool
 
--- the kernel after boot: process 0 lives alone
-abbrev pub opening_kernel : Kernel
-opening_kernel = record { clock = 0; queue = first_row 0 ∷ [] }
+-- ---- changes
 
--- a refused call changes nothing
-abbrev pub refused_with : ℕ → Refusal → Kernel → Happened
-refused_with number refusal k = record { kernel = k; note = Refused number refusal }
+-- a process has this call
+abbrev pub with_call : ℕ → Option Call → Run → Run
+with_call p c r = record r { kernel = record (r.kernel) { call = at p c r.kernel.call } }
 
--- a process begins under the least free number, at the back of the queue
-abbrev pub spawned : ℕ → Option ℕ → Kernel → Happened
-spawned number None k = refused_with number Full k
-spawned number (Some c) k =
-    record { kernel = record k { queue = k.queue ++ first_row c ∷ [] }; note = Ended number (One c) }
+-- one more note
+abbrev pub noted : Note → Run → Run
+noted n r = record r { notes = r.notes ++ n ∷ [] }
 
--- the process at the front of this queue is the delegate, and gets a slice
-abbrev pub delegated : ℕ → List QueueRow → Kernel → Happened
-delegated number rows k =
-    record { kernel = record k { queue = front_sliced rows }; note = Ended number (One (front_of rows)) }
+-- the history of a call becomes this one
+abbrev pub with_marks : ℕ → Call → List Mark → Run → Run
+with_marks p c ks r = with_call p (Some (record c { marks = Some ks })) r
 
--- a system call of a living process
-abbrev pub called : ℕ → SysCall → ℕ → Kernel → Happened
-called number Spawn p k = spawned number (least_free k.queue) k
-called number Yield p k = delegated number (to_back p k.queue) k
+-- the next step of a call is a piece
+abbrev pub is_at_piece : Option Call → Bool
+is_at_piece None = false
+is_at_piece (Some c) = elim c.marks [ None ↦ true | Some ks ↦ false ]
 
--- a system call of a process that may live or not
-abbrev pub if_lives : ℕ → SysCall → ℕ → Kernel → Bool → Happened
-if_lives number call p k true = called number call p k
-if_lives number call p k false = refused_with number NoProcess k
+-- a call has a level
+abbrev pub has_level : Option Call → Bool
+has_level None = false
+has_level (Some c) = elim c.marks [ None ↦ false | Some ks ↦ true ]
 
--- an event of this number
-abbrev pub event : ℕ → Event → Kernel → Happened
-event number Tick k = record { kernel = record k { clock = suc k.clock }; note = Ticked number (suc k.clock) }
-event number (Sys p call) k = if_lives number call p k (lives k.queue p)
+-- ---- the end of a piece
+
+-- the note of bytes that a piece gives
+abbrev pub gave_note : ℕ → Option (List ℕ) → List Note
+gave_note n None = []
+gave_note n (Some bytes) = Gave n bytes ∷ []
+
+-- the note of a call that ended
+abbrev pub after_note : ℕ → After → List Note
+after_note n (Continues t) = []
+after_note n (EndsWith reply) = Ended n reply ∷ []
+after_note n (Fails refusal) = Refused n refusal ∷ []
+
+-- a call after its piece
+abbrev pub call_after : Call → After → Option Call
+call_after c (Continues t) = Some (record { number = c.number; stage = t; marks = None })
+call_after c (EndsWith reply) = None
+call_after c (Fails refusal) = None
+
+-- a piece of the call of p is done: what it leaves is committed, and the call goes on or ends
+abbrev pub finish : ℕ → Call → Piece → Run → Run
+finish p c q r =
+    record {
+      kernel = record (r.kernel) { objects = q.objects; call = at p (call_after c q.after) r.kernel.call };
+      blocks = q.blocks;
+      notes = r.notes ++ gave_note c.number q.gave ++ after_note c.number q.after;
+      io = drop q.calls r.io;
+    }
+
+-- ---- the order of waiting
+
+-- an entry that has just joined: no kept blocker, and count 0
+abbrev pub new_entry : ℕ → Entry
+new_entry p = record { process = p; blocker = None; count = 0 }
+
+-- the order less a process's entry
+abbrev pub less_entry : ℕ → List Entry → List Entry
+less_entry p es = filter (λ (e : Entry). not (e.process == p)) es
+
+-- the call of p joins the order at its end
+abbrev pub joins : ℕ → Run → Run
+joins p r = record r { kernel = record (r.kernel) { order = r.kernel.order ++ new_entry p ∷ [] } }
+
+-- after a step of p: in the order, at its end, exactly where its next step is a piece
+abbrev pub requeue : ℕ → Run → Run
+requeue p r =
+    record r {
+      kernel = record (r.kernel) {
+        order = less_entry p r.kernel.order ++ cond (is_at_piece (r.kernel.call p)) (new_entry p ∷ []) [];
+      };
+    }

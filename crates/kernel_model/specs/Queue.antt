@@ -1,40 +1,75 @@
--- The queue of living processes, front first.
-use Rattle.std.specs.Prelude.{ℕ, ◌+◌, Bool, not, ◌==◌, List, [], ◌∷◌, ◌++◌, Option, Some, None, find, position, remove, slice_get, option_to_list}
-use Rattle.std.specs.List.{list_any, range_with_len}
+-- Words on the living processes: the rows of the queue, the holders of user locks, and the handlers of the event points.
+use Rattle.std.specs.Prelude.{◌≡◌, ◌<◌, ℕ, zero, suc, ◌+◌, Bool, true, false, cond, not, ◌&&◌, ◌||◌, ◌==◌, nat_lt, List, [], ◌∷◌, ◌++◌, map, filter, length, Option, Some, None}
+use Rattle.std.specs.List.{list_any}
 use Rattle.kernel_model.specs.declared.QueueRow.{QueueRow}
-use Rattle.kernel_model.specs.declared.TheConstants.{FIRST_NICE, PROCESSES}
 
--- a process is in the queue
-abbrev pub lives : List QueueRow → ℕ → Bool
-lives rows p = list_any (λ (r : QueueRow). r.process == p) rows
+-- ---- the queue
 
--- the least number that doesn't live, if there is one
-abbrev pub least_free : List QueueRow → Option ℕ
-least_free rows = find (λ p. not (lives rows p)) (range_with_len 0 PROCESSES)
+-- a process stands in the queue
+abbrev pub is_living : ℕ → List QueueRow → Bool
+is_living p rows = list_any (λ (r : QueueRow). r.process == p) rows
 
--- a process that has just begun
-abbrev pub first_row : ℕ → QueueRow
-first_row p = record { process = p; nice = FIRST_NICE; slices = 0 }
+-- the least number from p on that isn't living, among n
+unfoldable pub free_number : List QueueRow → ℕ → ℕ → Option ℕ
+free_number rows zero p = None
+free_number rows (suc n) p = elim (is_living p rows) [ true ↦ free_number rows n (suc p) | false ↦ Some p ]
 
--- the row at this place moves to the back
-abbrev pub moved_from : Option ℕ → List QueueRow → List QueueRow
-moved_from None rows = rows
-moved_from (Some i) rows = remove rows i ++ option_to_list (slice_get rows i)
+-- c is the least number that isn't living
+pub record IsLeastFree (rows : List QueueRow) (c : ℕ) : Type 0 where
+  pub below : c < 16
+  pub free : is_living c rows ≡ false
+  pub least : (q : ℕ) → q < c → is_living q rows ≡ true
 
--- the process moves to the back
-abbrev pub to_back : ℕ → List QueueRow → List QueueRow
-to_back p rows = moved_from (position (λ (r : QueueRow). r.process == p) rows) rows
+-- a process that has just joined
+abbrev pub new_row : ℕ → QueueRow
+new_row p = record { process = p; nice = 20; slices = 0 }
 
--- a row with one more slice
-abbrev pub one_more_slice : QueueRow → QueueRow
-one_more_slice r = record r { slices = r.slices + 1 }
+-- the queue without a process
+abbrev pub queue_without : ℕ → List QueueRow → List QueueRow
+queue_without p rows = filter (λ (r : QueueRow). not (r.process == p)) rows
 
--- the process at the front gets one more slice
-abbrev pub front_sliced : List QueueRow → List QueueRow
-front_sliced [] = []
-front_sliced (r ∷ rows) = one_more_slice r ∷ rows
+-- a process goes to the back of the queue
+abbrev pub queue_to_back : ℕ → List QueueRow → List QueueRow
+queue_to_back p rows = queue_without p rows ++ filter (λ (r : QueueRow). r.process == p) rows
 
--- the number of the process at the front
-abbrev pub front_of : List QueueRow → ℕ
-front_of [] = 0
-front_of (r ∷ rows) = r.process
+-- the queue with another nice for a process
+abbrev pub with_nice : ℕ → ℕ → List QueueRow → List QueueRow
+with_nice p v rows = map (λ (r : QueueRow). cond (r.process == p) (record r { nice = v }) r) rows
+
+-- the queue with one slice more for a process
+abbrev pub with_slice : ℕ → List QueueRow → List QueueRow
+with_slice p rows = map (λ (r : QueueRow). cond (r.process == p) (record r { slices = r.slices + 1 }) r) rows
+
+-- the slices of a process, 0 where it isn't living
+abbrev pub slices_of : ℕ → List QueueRow → ℕ
+slices_of p [] = 0
+slices_of p (r ∷ rows) = cond (r.process == p) r.slices (slices_of p rows)
+
+-- ---- user locks
+
+-- a lock without this holder
+abbrev pub freed_by : ℕ → Option ℕ → Option ℕ
+freed_by p None = None
+freed_by p (Some q) = cond (q == p) None (Some q)
+
+-- ---- handlers
+
+-- a handler is that of process q at point pt
+abbrev pub is_handler : ℕ → ℕ → ℕ × ℕ → Bool
+is_handler q pt h = h.0 == q && h.1 == pt
+
+-- the handlers but that of process q at point pt
+abbrev pub handlers_without : ℕ → ℕ → List (ℕ × ℕ) → List (ℕ × ℕ)
+handlers_without q pt handlers = filter (λ h. not (is_handler q pt h)) handlers
+
+-- the handlers at a point
+abbrev pub handlers_at : ℕ → List (ℕ × ℕ) → List (ℕ × ℕ)
+handlers_at pt handlers = filter (λ (h : ℕ × ℕ). h.1 == pt) handlers
+
+-- a handler that stands may be put last; another one joins where fewer than 8 stand at its point
+abbrev pub has_room : ℕ → ℕ → List (ℕ × ℕ) → Bool
+has_room q pt handlers = list_any (is_handler q pt) handlers || nat_lt (length (handlers_at pt handlers)) 8
+
+-- a handler is put last, if it has room
+abbrev pub handlers_with : ℕ → ℕ → List (ℕ × ℕ) → List (ℕ × ℕ)
+handlers_with q pt handlers = cond (has_room q pt handlers) (handlers_without q pt handlers ++ (q, pt) ∷ []) handlers

@@ -1,90 +1,438 @@
-//! The abstract kernel: plain data and definitions.
-//!
-//! What the program does is said in terms of these definitions. They stand in `specs/`;
-//! `docs/DEFINITIONS.md` lists them in reading order.
+//! The abstract kernel: plain data, definitions and laws.
 #![tactic(auto)]
 
-/// There was no memory for what a call needed.
-#[derive(Clone, Copy, Debug)]
+ghost use Rattle.std.specs.Prelude.{◌≡◌, ℕ, List};
+
+use arrayvec::ArrayVec;
+use std::marker::Model;
+
+mod lists;
+mod rules;
+
+pub use rules::Rules;
+
+/// The most bytes of a name.
+pub const NAME_BYTES: usize = 16;
+
+/// The most bytes that a call carries: a block.
+pub const BLOCK_BYTES: usize = 512;
+
+/// The most processes that live.
+pub const PROCESSES: usize = 16;
+
+/// The most frames of the cache.
+pub const FRAMES: usize = 64;
+
+/// There was no memory left.
+#[derive(Clone, Copy, PartialEq, Eq, Debug)]
 pub struct NoMemory;
 
+/// An object of the kernel's state.
+#[derive(Clone, Copy, PartialEq, Eq)]
+pub enum Object {
+    Graft(u8, u8),
+    Acct(u8),
+    Cell(u8, u8),
+    OpenFile(u8, u8),
+    Queue,
+    Cache,
+    Lock(u8),
+    Pol(u8),
+}
+
+/// How an object is held or wanted.
+#[derive(Clone, Copy, PartialEq, Eq)]
+pub enum Mode {
+    Shared,
+    Exclusive,
+}
+
+/// A kind of amount that a graft spends.
+#[derive(Clone, Copy, PartialEq, Eq)]
+pub enum Kind {
+    Steps,
+    Locks,
+    Records,
+}
+
+/// A name of at most 16 bytes, which contracts see as the list of its bytes.
+#[derive(Drop)]
+pub struct Name {
+    text: ArrayVec<u8, NAME_BYTES>,
+}
+
+impl Model for Name {
+    ghost Value = { List ℕ };
+
+    ghost view = { λ n. n.text.items };
+}
+
+/// At most 512 bytes, which contracts see as their list.
+#[derive(Drop)]
+pub struct Bytes {
+    data: ArrayVec<u8, BLOCK_BYTES>,
+}
+
+impl Model for Bytes {
+    ghost Value = { List ℕ };
+
+    ghost view = { λ n. n.data.items };
+}
+
 /// A system call, without the process that makes it.
-#[derive(Clone, Copy, Debug, PartialEq, Eq)]
+#[derive(Drop)]
 pub enum SysCall {
-    /// Begins a process.
     Spawn,
-    /// Goes to the back of the queue and gives a slice to the process at the front.
+    Exit,
     Yield,
+    OpenName(Name),
+    CloseFd(u32),
+    Read(u32, u32, u32, u32),
+    Write(u32, u32, u32, Bytes),
+    Sync,
+    TakeLock(u32),
+    FreeLock(u32),
+    Poke(u32, u32),
+    Peek(u32),
+    Tune(u32, u32, u32),
+    Choose(u32, u32),
+    Give(u32, Kind, u32),
+    Install(u32, u32, u32),
+    Remove(u32),
+    Fund(u32, Kind, u32),
+    Bill(u32),
 }
 
 /// What happens to a kernel.
-#[derive(Clone, Copy, Debug, PartialEq, Eq)]
+#[derive(Drop)]
 pub enum Event {
-    /// The clock rises by one.
     Tick,
-    /// The process of this number makes a system call. Any number may stand there.
+    Step(u32, u32),
     Sys(u32, SysCall),
 }
 
-/// What a line of a script says.
-#[derive(Clone, Copy, Debug, PartialEq, Eq)]
-pub enum Entry {
-    /// An empty line, or one that begins with `#`.
-    Blank,
-    /// The kernel begins.
-    Boot,
-    /// Something happens to it.
-    Happens(Event),
-    /// None of what may stand there.
-    Unknown,
-}
-
 /// What a call that ends well answers.
-#[derive(Clone, Copy, Debug, PartialEq, Eq)]
+#[derive(Clone, Copy)]
 pub enum Reply {
-    /// `ok` and one number.
+    Plain,
     One(u32),
+    Two(u32, u32),
 }
 
-/// Why a call is refused (codes in `docs/FORMATS.md`).
-#[derive(Clone, Copy, Debug, PartialEq, Eq)]
+/// Why a call is refused, in the order of the codes.
+#[derive(Clone, Copy)]
 pub enum Refusal {
-    /// E1: no process of that number lives.
     NoProcess,
-    /// E13: 16 processes live.
+    Busy(u32),
+    Denied,
+    BadPoint,
+    BadFd,
+    NoFile,
+    NoFd,
+    BadIndex,
+    NoImage,
+    Taken,
+    NoGraft,
+    Short(u64),
     Full,
+    Held,
+    NotHeld,
+    DiskFault,
+    TimedOut(Object, u8),
 }
 
-/// What came about. The first number is that of the event.
-#[derive(Clone, Copy, Debug, PartialEq, Eq)]
+/// Why a level is dropped, in the order of the codes.
+#[derive(Clone, Copy)]
+pub enum Cause {
+    DivideByZero,
+    Trap(u32),
+    NotCallable(u32),
+    BadArgument(u32),
+    NotYours(u32),
+    NotAllowed(u32),
+    TooDeep,
+    Reentered,
+    SpentSteps,
+    SpentRecords,
+    SpentLocks,
+    RefusedAnswer(u32, u32),
+    TimeOut(Object, u8),
+}
+
+/// What came about. The first number is that of the event or of the call.
+#[derive(Drop)]
 pub enum Note {
-    /// The clock rose to this.
     Ticked(u32, u32),
-    /// A call ended well.
     Ended(u32, Reply),
-    /// A call was refused, and nothing changed.
     Refused(u32, Refusal),
+    Gave(u32, Bytes),
+    Dropped(u32, u8, u8, Cause),
+    Ran(u32, u32),
+    Waits(u32, Object, u8),
+    InGraft(u32, u8, u8, u8),
 }
 
-/// A living process, as it stands in the queue.
-#[derive(Clone, Copy, Debug, Default, PartialEq, Eq)]
+/// The value that undoes a change of an accessor.
+#[derive(Clone, Copy)]
+pub enum Inverse {
+    Cell(u8, u8, u32),
+    Nice(u8, u8),
+    Window(u8, u8, u8),
+    Mark(u8, u8),
+    Tune(u8, u8, u32),
+}
+
+/// An operation of the graft machine, in the order of the codes.
+#[derive(Clone, Copy, PartialEq, Eq)]
+pub enum Op {
+    Li,
+    Mov,
+    Add,
+    Sub,
+    Mul,
+    And,
+    Or,
+    Xor,
+    Shl,
+    Shr,
+    Divu,
+    Remu,
+    Sltu,
+    Addi,
+    Andi,
+    Ldw,
+    Stw,
+    Ldb,
+    Stb,
+    Jmp,
+    Jz,
+    Jnz,
+    Call,
+    Callr,
+    Trap,
+    Ret,
+}
+
+/// An instruction with its fields.
+#[derive(Clone, Copy)]
+pub struct Instr {
+    pub op: Op,
+    pub a: u8,
+    pub b: u8,
+    pub c: u8,
+    pub imm: u32,
+}
+
+/// A frame of the cache that is in use.
+#[derive(Clone, Copy, Default)]
+pub struct FrameRow {
+    pub frame: u8,
+    pub owner: u8,
+    pub block: u32,
+    pub dirty: bool,
+    pub mark: u8,
+}
+
+/// A living process of the queue.
+#[derive(Clone, Copy, Default)]
 pub struct QueueRow {
-    /// Its number, 0 to 15.
     pub process: u8,
-    /// 0 to 39, the greater the less urgent.
     pub nice: u8,
-    /// How many slices it was given.
     pub slices: u32,
 }
 
-/// The most bytes of a line before its newline.
-pub const LINE_BYTES: usize = 65_536;
+/// An open file of a process.
+#[derive(Clone, Copy)]
+pub struct OpenRow {
+    pub file: u8,
+    pub next: u32,
+    pub window: u8,
+    pub seq: bool,
+    pub start: u32,
+    pub count: u8,
+}
 
-/// The most bytes of a script.
-pub const SCRIPT_BYTES: usize = 16_777_216;
+/// A usable entry of the directory.
+#[derive(Drop)]
+pub struct FileRow {
+    pub name: Name,
+    pub start: u32,
+    pub blocks: u32,
+    pub length: u32,
+}
 
-/// The most processes that live at once; their numbers are below it.
-pub const PROCESSES: u8 = 16;
+/// An object that a piece needs. `by_user`: the process that holds it as a user lock is a blocker too.
+#[derive(Clone, Copy)]
+pub struct Need {
+    pub object: Object,
+    pub mode: Mode,
+    pub by_user: bool,
+}
 
-/// What a process begins with as its `nice`.
-pub const FIRST_NICE: u8 = 20;
+/// A point that a piece asks, with the arguments.
+#[derive(Clone, Copy)]
+pub struct Point {
+    pub installer: u8,
+    pub point: u8,
+    pub args: [u32; 4],
+}
+
+/// At most 16 rows of the queue, front first, which contracts see as their list.
+#[derive(Drop)]
+pub struct QueueRows {
+    rows: ArrayVec<QueueRow, PROCESSES>,
+}
+
+impl Model for QueueRows {
+    ghost use Rattle.std.specs.Prelude.{List};
+    ghost use Rattle.kernel_model.specs.declared.QueueRow.{QueueRow};
+
+    ghost Value = { List QueueRow };
+
+    ghost view = { λ n. n.rows.items };
+}
+
+/// At most 64 rows of frames in use, oldest first, which contracts see as their list.
+#[derive(Drop)]
+pub struct FrameRows {
+    rows: ArrayVec<FrameRow, FRAMES>,
+}
+
+impl Model for FrameRows {
+    ghost use Rattle.std.specs.Prelude.{List};
+    ghost use Rattle.kernel_model.specs.declared.FrameRow.{FrameRow};
+
+    ghost Value = { List FrameRow };
+
+    ghost view = { λ n. n.rows.items };
+}
+
+/// What a call in flight waits for, and for how many ticks.
+#[derive(Clone, Copy)]
+pub struct WaitRow {
+    pub object: Object,
+    pub holder: u8,
+    pub count: u32,
+}
+
+/// The innermost level of a call in flight.
+#[derive(Clone, Copy)]
+pub struct TopRow {
+    pub installer: u8,
+    pub point: u8,
+    pub depth: u8,
+}
+
+/// A row of a kernel's whole state, in the order in which they are shown.
+#[derive(Drop)]
+pub enum RawRow {
+    Clock(u32),
+    Queue(QueueRows),
+    Acct(u8, [u64; 6]),
+    Cells(u8, [u32; 4]),
+    OpenFile(u8, u8, Name, OpenRow),
+    Graft(u8, u8, u8, u32, bool, [u64; 3]),
+    Pol(u8, u8, Option<u32>),
+    Lru(FrameRows),
+    Lock(u8, u8),
+    Call(u8, u32, Option<WaitRow>, Option<TopRow>),
+    Level(u8, u8, u8, u8, u32),
+    Undo(u8, u8, Inverse),
+}
+
+/// How a level of a call in flight holds an object.
+#[derive(Clone, Copy, PartialEq, Eq)]
+pub enum Held {
+    Free,
+    Shared,
+    Exclusive,
+}
+
+/// What one instruction of a graft came to: it went on; it waits for an object of this process, as a user lock or
+/// not; the call's level 0 returned this answer; or this level of the graft at (installer, point) was dropped.
+#[derive(Clone, Copy)]
+pub enum Micro {
+    Went,
+    Blocked(Object, u8, bool),
+    Completed([u32; 4]),
+    Dropped(u8, u8, u8, Cause),
+}
+
+/// A command of the script that is a system call of a process.
+#[derive(Clone, Copy)]
+pub enum CallName {
+    Spawn,
+    Exit,
+    Yield,
+    Sync,
+    Open,
+    Close,
+    Read,
+    Write,
+    Lock,
+    Unlock,
+    Poke,
+    Peek,
+    Tune,
+    Default,
+    Give,
+    Install,
+    Remove,
+    Fund,
+    Bill,
+}
+
+/// A command of the script, which the first word of a line names.
+#[derive(Clone, Copy)]
+pub enum Command {
+    Frames,
+    Patience,
+    Grant,
+    Boot,
+    Tick,
+    Step,
+    Raw,
+    Image,
+    Call(CallName),
+}
+
+/// What kind of word stands at a place of a script's line.
+#[derive(Clone, Copy)]
+pub enum Form {
+    /// A decimal number.
+    Number,
+    /// A kind of object: `graft`, `acct`, `cell`, `open`, `queue`, `cache`, `lock` or `pol`.
+    ObjectKind,
+    /// A kind of amount: `steps`, `records` or `locks`.
+    Amount,
+    /// A name or hex digits.
+    Text,
+}
+
+/// Which fields of an instruction an operation names. A field that isn't named is zero.
+#[derive(Clone, Copy, PartialEq, Eq, Debug)]
+pub struct Fields {
+    pub a: bool,
+    pub b: bool,
+    pub c: bool,
+    pub imm: bool,
+}
+
+/// Why eight bytes are no instruction (docs/FORMATS.md): the first byte is no operation's number,
+/// or a field that is named is no register, or one that isn't named isn't zero.
+#[derive(Clone, Copy, PartialEq, Eq, Debug)]
+pub enum IsaFault {
+    BadOp,
+    BadField,
+}
+
+/// Why a line of assembler text is refused, in the order of the codes A1 to A6 (docs/FORMATS.md).
+#[derive(Clone, Copy, PartialEq, Eq, Debug)]
+pub enum AsmKind {
+    UnknownMnemonic,
+    BadOperands,
+    LabelNotSet,
+    LabelSetTwice,
+    TooManyInstructions,
+    BadData,
+}

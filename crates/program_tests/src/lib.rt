@@ -64,15 +64,34 @@ mod tests {
                 "0 boot 8 64 0\n1 E1\n2 E1\n",
             ),
             ("boot\nspawn 0000000000\n", 0, "0 boot 8 64 0\n1 ok 1\n"),
-            ("tick\n", 2, "script 1 S5\n"),
+            (
+                "boot\npoke 0 3 7\npeek 0 3\npeek 0 2\n",
+                0,
+                "0 boot 8 64 0\n1 ok\n2 ok 7\n3 ok 0\n",
+            ),
+            (
+                "boot\npoke 0 4 7\npeek 0 4\npoke 1 0 7\npeek 1 9\n",
+                0,
+                "0 boot 8 64 0\n1 E8\n2 E8\n3 E1\n4 E1\n",
+            ),
+            (
+                "boot\nspawn 0\npoke 1 0 4294967295\npeek 1 0\npeek 0 0\n",
+                0,
+                "0 boot 8 64 0\n1 ok 1\n2 ok\n3 ok 4294967295\n4 ok 0\n",
+            ),
+            ("tick\n", 2, "script 1 S4\n"),
             ("boot\nfly 1\ntick\n", 2, "0 boot 8 64 0\nscript 2 S5\n"),
-            ("boot\nboot\n", 2, "0 boot 8 64 0\nscript 2 S5\n"),
+            ("boot\nboot\n", 2, "0 boot 8 64 0\nscript 2 S4\n"),
+            ("boot\nspawn\n", 2, "0 boot 8 64 0\nscript 2 S1\n"),
+            ("boot\nspawn 0 0\n", 2, "0 boot 8 64 0\nscript 2 S1\n"),
+            ("boot\nspawn  0\n", 2, "0 boot 8 64 0\nscript 2 S1\n"),
             (
                 "boot\nspawn 4294967296\n",
                 2,
-                "0 boot 8 64 0\nscript 2 S5\n",
+                "0 boot 8 64 0\nscript 2 S2\n",
             ),
-            ("boot\nspawn +1\n", 2, "0 boot 8 64 0\nscript 2 S5\n"),
+            ("boot\nspawn +1\n", 2, "0 boot 8 64 0\nscript 2 S2\n"),
+            ("boot\nlock +1 0\n", 2, "0 boot 8 64 0\nscript 2 S2\n"),
             ("boot\ntick", 2, "0 boot 8 64 0\nscript 2 S6\n"),
             ("boot\ntick\n#", 2, "0 boot 8 64 0\n1 tick 1\nscript 3 S6\n"),
         ];
@@ -80,6 +99,48 @@ mod tests {
             let ran = run_words(rt.alloc(), &["run", KEY], script, 0, 0)?;
             assert_eq!(rt; ran.status, status, "on {script:?}");
             assert!(rt; ran.written.bytes() == lines.as_bytes(), "on {script:?}");
+        }
+        Ok(())
+    }
+
+    #[test]
+    fn refuses_what_is_not_built(rt: HostRuntime) -> Result<(), Fail> {
+        for line in ["frames 2", "patience lock 5", "grant 1"] {
+            let script = format!(in rt.alloc(); "{line}\nboot\n")?;
+            let ran = run_words(rt.alloc(), &["run", KEY], script.as_str(), 0, 0)?;
+            assert_eq!(rt; ran.status, 2, "on {line}");
+            assert!(rt;
+                ran.written.bytes() == b"script 1 S5\n".as_slice(),
+                "on {line}"
+            );
+        }
+        for line in [
+            "step 0 1",
+            "raw",
+            "image 0 00",
+            "exit 0",
+            "sync 0",
+            "open 0 alpha",
+            "close 0 0",
+            "read 0 0 0 0 1",
+            "write 0 0 0 0 00",
+            "lock 0 0",
+            "unlock 0 0",
+            "tune 0 0 0 0",
+            "default 0 0 0",
+            "give 0 1 steps 1",
+            "install 0 0 0 0",
+            "remove 0 0",
+            "fund 0 0 locks 1",
+            "bill 0 0",
+        ] {
+            let script = format!(in rt.alloc(); "boot\n{line}\ntick\n")?;
+            let ran = run_words(rt.alloc(), &["run", KEY], script.as_str(), 0, 0)?;
+            assert_eq!(rt; ran.status, 2, "on {line}");
+            assert!(rt;
+                ran.written.bytes() == b"0 boot 8 64 0\nscript 2 S5\n".as_slice(),
+                "on {line}"
+            );
         }
         Ok(())
     }
@@ -124,12 +185,44 @@ mod tests {
     }
 
     #[test]
+    fn assembles_and_disassembles(rt: HostRuntime) -> Result<(), Fail> {
+        let cases = [
+            (
+                "asm",
+                "ret\n",
+                0u8,
+                "5647523001000000000000001a00000000000000\n",
+            ),
+            (
+                "dis",
+                "5647523001000000000000001a00000000000000\n",
+                0,
+                "ret\n",
+            ),
+            ("asm", "fly r1\n", 2, "asm 1 A1\n"),
+        ];
+        for (word, input, status, lines) in cases {
+            let ran = run_words(rt.alloc(), &[word], input, 0, 0)?;
+            assert_eq!(rt; ran.status, status, "on {word} {input:?}");
+            assert!(rt;
+                ran.written.bytes() == lines.as_bytes(),
+                "on {word} {input:?}"
+            );
+            let unread = run_words(rt.alloc(), &[word], input, 1, 0)?;
+            assert_eq!(rt; unread.status, 3, "on {word} {input:?}");
+            let unwritten = run_words(rt.alloc(), &[word], input, 0, 1)?;
+            assert_eq!(rt; unwritten.status, 4, "on {word} {input:?}");
+        }
+        Ok(())
+    }
+
+    #[test]
     fn takes_a_line_of_the_greatest_length(rt: HostRuntime) -> Result<(), Fail> {
         let alloc = rt.alloc();
         for (more, newline, status, lines) in [
             (65_534usize, "\n", 0u8, "0 boot 8 64 0\n1 tick 1\n"),
-            (65_535, "\n", 2, "0 boot 8 64 0\nscript 2 S5\n"),
-            (65_535, "", 2, "0 boot 8 64 0\nscript 2 S5\n"),
+            (65_535, "\n", 2, "0 boot 8 64 0\nscript 2 S3\n"),
+            (65_535, "", 2, "0 boot 8 64 0\nscript 2 S3\n"),
             (65_534, "", 2, "0 boot 8 64 0\nscript 2 S6\n"),
         ] {
             let mut script = String::from_str(alloc, "boot\n#-")?;

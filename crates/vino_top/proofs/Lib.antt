@@ -1,3 +1,5 @@
-pub mod QueueLemmas
+pub mod KernelLemmas
+pub mod BoundsLemmas
 pub mod SessionLemmas
 pub mod RunLemmas
+pub mod EndLemmas

@@ -1,4 +1,5 @@
-pub mod Words
-pub mod Queues
+pub mod Built
+pub mod Standing
 pub mod Bounds
 pub mod Run
+pub mod Words

@@ -1,92 +1,188 @@
-//! The clock and the queue.
+//! The clock and the processes: a kernel in which each call runs to its end at its own event.
 
-ghost use Rattle.std.specs.Prelude.{◌≡◌, ◌<◌, ◌^◌, ◌-◌};
-ghost use Rattle.kernel_model.specs.Kernel.{opening_kernel, event, called, spawned, delegated, refused_with};
-ghost use Rattle.kernel_model.specs.Queue.{least_free, to_back};
-ghost use Rattle.vino_top.specs.Bounds.{IsKernelWithin};
+ghost use Rattle.std.specs.Prelude.{◌≡◌, ℕ, ◌<◌, ◌^◌, ◌-◌, true, false};
+ghost use Rattle.std.specs.Option.{IfSome, IfNone};
+ghost use Rattle.kernel_model.specs.Queue.{is_living, free_number, queue_to_back, with_slice};
+ghost use Rattle.process_table.specs.Processes.{processes_of, spawned};
+ghost use Rattle.kernel_model.specs.declared.SysCall.TheVariants.{Spawn, Yield, Poke, Peek};
+ghost use Rattle.kernel_model.specs.World.{Blocks};
+ghost use Rattle.kernel_model.specs.Events.{event};
+ghost use Rattle.kernel_model.specs.Pieces.{plain};
+ghost use Rattle.kernel_model.specs.Opening.{opening_kernel};
+ghost use Rattle.kernel_model.specs.declared.Event.TheVariants.{Tick, Sys};
+ghost use Rattle.vino_top.specs.Built.{is_built_event, is_built_call};
+ghost use Rattle.vino_top.specs.Standing.{kernel_of, world_for};
+ghost use Rattle.vino_top.specs.Bounds.{IsKernelWithin, slices_within};
+ghost use Rattle.vino_top.specs.Standing.{answers_so, front_of};
 
-use crate::queue::Queue;
-use kernel_model::{Event, Note, Refusal, Reply, SysCall};
-use std::marker::Model;
+use kernel_model::{Event, Note, QueueRow, Refusal, Reply, SysCall};
+use process_table::Procs;
 
-/// The clock and the living processes.
-#[derive(Drop)]
-pub struct Kernel {
-    clock: u32,
-    queue: Queue,
+/// What the set-up lines of a script set.
+#[derive(Clone, Copy)]
+pub struct Setup {
+    /// How many frames the cache has, 2 to 64.
+    pub frames: u8,
+    /// How many ticks a call waits for an object of each kind, 1 to 1,000.
+    pub patience: [u32; 8],
+    /// What process 0 has of each kind of amount at first.
+    pub grant: u32,
 }
 
-impl Model for Kernel {
-    ghost use Rattle.kernel_model.specs.Kernel.{Kernel as State};
-
-    ghost Value = { State };
-
-    ghost view = { λ k. record { clock = k.clock; queue = k.queue } };
+/// The clock and the processes.
+#[derive(Drop)]
+pub struct Kernel {
+    pub setup: Setup,
+    pub clock: u32,
+    pub procs: Procs,
 }
 
 impl Kernel {
     /// The kernel after boot.
-    pub fn new() -> Kernel
-        ensures { result ≡ opening_kernel }
+    pub fn new(setup: Setup) -> Kernel
+        ensures value { (size : ℕ) → kernel_of size result ≡ opening_kernel (world_for size setup) }
+        ensures within { (most : ℕ) → IsKernelWithin most result }
     {
         Kernel {
+            setup,
             clock: 0,
-            queue: Queue::new(),
+            procs: Procs::new(),
         }
     }
 
-    /// One event, which has this number.
-    pub fn event(&mut self, number: u32, what: Event) -> Note
+    /// One event, which has this number. What came about.
+    pub fn event(&mut self, number: u32, what: &Event) -> Note
+        requires built { is_built_event what.now ≡ true }
+        requires first { 0 < number }
         requires room { number < 2 ^ 32 - 1 }
-        requires within { IsKernelWithin number self.old }
-        ensures after { self.new ≡ (event number what self.old).kernel }
-        ensures note { result ≡ (event number what self.old).note }
+        requires within { IsKernelWithin (number - 1) self.old }
+        ensures answer { answers_so number what.now self.old self.new result }
+        ensures within { IsKernelWithin number self.new }
     {
         match what {
-            Event::Tick => {
-                self.clock += 1;
-                Note::Ticked(number, self.clock)
-            }
-            Event::Sys(p, call) => self.system(number, p, call),
+            Event::Tick => self.tick(number),
+            Event::Sys(p, call) => self.system(number, *p, call),
+            Event::Step(..) => unreachable!(),
         }
     }
+}
 
-    fn system(&mut self, number: u32, p: u32, call: SysCall) -> Note
+impl Kernel {
+    fn tick(&mut self, number: u32) -> Note
+        requires first { 0 < number }
         requires room { number < 2 ^ 32 - 1 }
-        requires within { IsKernelWithin number self.old }
-        ensures after { self.new ≡ (event number (Event.Sys p call) self.old).kernel }
-        ensures note { result ≡ (event number (Event.Sys p call) self.old).note }
+        requires within { IsKernelWithin (number - 1) self.old }
+        ensures answer { answers_so number Tick self.old self.new result }
+        ensures within { IsKernelWithin number self.new }
     {
-        if !self.queue.lives(p) {
+        self.clock += 1;
+        Note::Ticked(number, self.clock)
+    }
+
+    fn system(&mut self, number: u32, p: u32, call: &SysCall) -> Note
+        requires built { is_built_call call.now ≡ true }
+        requires first { 0 < number }
+        requires room { number < 2 ^ 32 - 1 }
+        requires within { IsKernelWithin (number - 1) self.old }
+        ensures answer { answers_so number (Sys p call.now) self.old self.new result }
+        ensures within { IsKernelWithin number self.new }
+    {
+        let Some(q) = self.living(p) else {
             return Note::Refused(number, Refusal::NoProcess);
-        }
+        };
         match call {
-            SysCall::Spawn => self.spawn(number),
-            SysCall::Yield => self.delegate(number, p),
+            SysCall::Spawn => self.spawn(number, q),
+            SysCall::Yield => self.delegate(number, q),
+            SysCall::Poke(k, v) => self.poke(number, q, *k, *v),
+            SysCall::Peek(k) => self.peek(number, q, *k),
+            _ => unreachable!(),
         }
     }
 
-    fn spawn(&mut self, number: u32) -> Note
-        ensures after { self.new ≡ (spawned number (least_free self.old.queue) self.old).kernel }
-        ensures note { result ≡ (spawned number (least_free self.old.queue) self.old).note }
+    /// The process of this number, if it lives.
+    fn living(&self, p: u32) -> Option<u8>
+        ensures some { IfSome result (λ q. (q ≡ p) × (q < 16) × (is_living p self.now.procs.queue ≡ true)) }
+        ensures none { IfNone result (is_living p self.now.procs.queue ≡ false) }
     {
-        match self.queue.least_free() {
-            Some(p) => {
-                self.queue.begin(p);
-                Note::Ended(number, Reply::One(u32::from(p)))
-            }
+        if is_among(self.procs.rows(), p) {
+            Some(p as u8)
+        } else {
+            None
+        }
+    }
+
+    fn spawn(&mut self, number: u32, p: u8) -> Note
+        requires lives { is_living p self.old.procs.queue ≡ true }
+        ensures answer { answers_so number (Sys p Spawn) self.old self.new result }
+        ensures clock { self.new.clock ≡ self.old.clock }
+        ensures queue { self.new.procs.queue ≡ (spawned (free_number self.old.procs.queue 16 0) (processes_of self.old.procs)).queue }
+    {
+        match self.procs.spawn() {
+            Some(c) => Note::Ended(number, Reply::One(u32::from(c))),
             None => Note::Refused(number, Refusal::Full),
         }
     }
 
-    fn delegate(&mut self, number: u32, p: u32) -> Note
+    fn delegate(&mut self, number: u32, p: u8) -> Note
+        requires lives { is_living p self.old.procs.queue ≡ true }
         requires room { number < 2 ^ 32 - 1 }
-        requires within { IsKernelWithin number self.old }
-        ensures after { self.new ≡ (delegated number (to_back p self.old.queue) self.old).kernel }
-        ensures note { result ≡ (delegated number (to_back p self.old.queue) self.old).note }
+        requires within { slices_within (number - 1) self.old.procs.queue ≡ true }
+        ensures answer { answers_so number (Sys p Yield) self.old self.new result }
+        ensures clock { self.new.clock ≡ self.old.clock }
+        ensures queue { self.new.procs.queue ≡ with_slice (front_of (queue_to_back p self.old.procs.queue)) (queue_to_back p self.old.procs.queue) }
     {
-        self.queue.to_back(p);
-        let front = self.queue.slice_front();
+        self.procs.to_back(p);
+        let front = front(self.procs.rows());
+        self.procs.add_slice(front);
         Note::Ended(number, Reply::One(u32::from(front)))
     }
+
+    fn poke(&mut self, number: u32, p: u8, k: u32, v: u32) -> Note
+        requires lives { is_living p self.old.procs.queue ≡ true }
+        ensures answer { answers_so number (Sys p (Poke k v)) self.old self.new result }
+        ensures clock { self.new.clock ≡ self.old.clock }
+        ensures queue { self.new.procs.queue ≡ self.old.procs.queue }
+    {
+        let Some(cell) = cell_number(k) else {
+            return Note::Refused(number, Refusal::BadIndex);
+        };
+        self.procs.set_cell(p, cell, v);
+        Note::Ended(number, Reply::Plain)
+    }
+
+    fn peek(&self, number: u32, p: u8, k: u32) -> Note
+        requires process { p < 16 }
+        requires lives { is_living p self.now.procs.queue ≡ true }
+        ensures { answers_so number (Sys p (Peek k)) self.now self.now result }
+    {
+        let Some(cell) = cell_number(k) else {
+            return Note::Refused(number, Refusal::BadIndex);
+        };
+        Note::Ended(number, Reply::One(self.procs.cell(p, cell)))
+    }
+}
+
+/// Whether a process stands in the queue.
+fn is_among(rows: &[QueueRow], p: u32) -> bool
+    ensures { result ≡ is_living p rows.now }
+{
+    rows.iter().any(|row| u32::from(row.process) == p)
+}
+
+/// The process at the front of the queue.
+fn front(rows: &[QueueRow]) -> u8
+    ensures { result ≡ front_of rows.now }
+{
+    match rows.first() {
+        Some(row) => row.process,
+        None => 0,
+    }
+}
+
+/// The cell of this number, if there is one.
+fn cell_number(k: u32) -> Option<u8>
+    ensures some { IfSome result (λ c. (c ≡ k) × (c < 4)) }
+    ensures none { IfNone result (3 < k) }
+{
+    if k < 4 { u8::try_from(k).ok() } else { None }
 }

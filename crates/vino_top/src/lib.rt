@@ -6,21 +6,21 @@
 ghost use Rattle.std.specs.Prelude.{◌≡◌, ◌≢◌, ◌⊎◌, ◌≤◌, true, false, List, [], ℕ, String, Vec, map, string_bytes};
 ghost use Rattle.std.specs.Io.KnownBytes.{Appends, Keeps};
 ghost use Rattle.vino_base.specs.Faults.{Rose};
+ghost use Rattle.kernel_model.specs.World.{Blocks};
 ghost use Rattle.kernel_model.specs.Session.{first_session};
 ghost use Rattle.kernel_model.specs.Text.{line, usage_text};
-ghost use Rattle.vino_top.specs.Words.{is_run};
-ghost use Rattle.vino_top.specs.Run.{AppendsPart, Ran, Broke};
+ghost use Rattle.vino_top.specs.Standing.{session_of};
+ghost use Rattle.vino_top.specs.Bounds.{IsSessionWithin};
+ghost use Rattle.vino_top.specs.Words.{asked_by};
+ghost use Rattle.vino_top.specs.Run.{AppendsPart, RanAll, BrokeAll, LackedAll, Does, place};
 
 mod kernel;
-mod lines;
 mod output;
-mod parse;
-mod queue;
 mod run;
 mod session;
-mod text;
 mod words;
 
+use crate::words::Asked;
 use graft_points::Policy;
 use std::alloc::Global;
 use vino_base::{Disk, Sink, Source};
@@ -28,11 +28,12 @@ use vino_base::{Disk, Sink, Source};
 /// How many bytes are read at once, at most.
 const READ_BYTES: usize = 65_536;
 
-/// Runs the script that the source gives where the words are `run KEY`, and else writes the usage line.
+/// Does what the words ask: `run KEY` runs the script that the source gives, `asm` and `dis` assemble and disassemble
+/// what it gives, and for other words the usage line is written.
 ///
-/// The words are those after the program's own name. The answer is the exit status: 0 for a script that
-/// was run to its end, 1 for words that aren't in the grammar, 2 for a refused line, 3 for a source and 4
-/// for a sink that failed, 5 for want of memory, 7 for a script of more than 16,777,216 bytes.
+/// The words are those after the program's own name. The answer is the exit status: 0 for an input that
+/// was done to its end, 1 for words that aren't in the grammar, 2 for a refused line, 3 for a source and 4
+/// for a sink that failed, 5 for want of memory, 7 for an input of more than 16,777,216 bytes.
 pub fn vino<S: Source, K: Sink, D: Disk>(
     alloc: Global,
     words: &[String],
@@ -41,20 +42,13 @@ pub fn vino<S: Source, K: Sink, D: Disk>(
     disk: &mut D,
     shelf: Vec<Box<dyn Policy>>,
 ) -> u8
+    // What is done for what the words ask: the status, the bytes read and the bytes written.
+    ensures does { Does (asked_by (map (λ (w : _). string_bytes w) words.now)) (D.block_count disk.old)
+        (S.rest src.old) (S.rest src.new) (S.faults src.old) (S.faults src.new) (K.got out.old) (K.got out.new) result }
     // No other status comes.
     ensures statuses { (result ≡ 0) ⊎ (result ≡ 1) ⊎ (result ≡ 2) ⊎ (result ≡ 3) ⊎ (result ≡ 4) ⊎ (result ≡ 5) ⊎ (result ≡ 7) }
-    // The usage line is written exactly where the words aren't `run KEY`, unless the sink fails.
-    ensures words { result ≡ 1 → is_run (map (λ (w : _). string_bytes w) words.now) ≡ false }
-    ensures usage { is_run (map (λ (w : _). string_bytes w) words.now) ≡ false → Keeps (S.rest src.old) (S.rest src.new) ×
-        ((result ≡ 1) × Appends (K.got out.old) (K.got out.new) (line usage_text) ⊎ (result ≡ 4) × AppendsPart (K.got out.old) (K.got out.new) (line usage_text)) }
-    // A run has the status and the lines of its outcome, and takes at most one byte more than a script has.
-    ensures ran { is_run (map (λ (w : _). string_bytes w) words.now) ≡ true → result ≢ 4 → result ≢ 5 →
-        Ran (D.block_count disk.old) (S.rest src.old) (S.rest src.new) (S.faults src.old) (S.faults src.new) (K.got out.old) (K.got out.new) result }
-    // A run whose sink fails has written some of the pieces of its outcome, and of the next one not all.
-    ensures broke { is_run (map (λ (w : _). string_bytes w) words.now) ≡ true → result ≡ 4 →
-        Broke (D.block_count disk.old) (S.rest src.old) (S.rest src.new) (K.got out.old) (K.got out.new) }
-    // With no memory nothing is taken and nothing written.
-    ensures memory { result ≡ 5 → Keeps (S.rest src.old) (S.rest src.new) × Keeps (K.got out.old) (K.got out.new) }
+    // No command that is built changes the disk.
+    ensures disk { D.blocks disk.new ≡ D.blocks disk.old }
     // A source or a sink is blamed only where its count of faults rose.
     ensures source_failed { result ≡ 3 → Rose (S.faults src.old) (S.faults src.new) }
     ensures sink_failed { result ≡ 4 → Rose (K.faults out.old) (K.faults out.new) }
@@ -62,12 +56,29 @@ pub fn vino<S: Source, K: Sink, D: Disk>(
     ensures sink_later { K.faults out.old ≤ K.faults out.new }
 {
     drop(shelf);
-    if !words::asks_run(words) {
-        return write_usage(out);
+    match words::read_words(words) {
+        Asked::Run => run_script(alloc, disk.size(), src, out),
+        Asked::Asm => filters::asm(alloc, src, out),
+        Asked::Dis => filters::dis(alloc, src, out),
+        Asked::Nothing => write_usage(out),
     }
+}
+
+/// Runs the script that the source gives, over a disk of so many blocks.
+fn run_script<S: Source, K: Sink>(alloc: Global, size: u32, src: &mut S, out: &mut K) -> u8
+    ensures ran { result ≢ 4 → result ≢ 5 → RanAll size (S.rest src.old) (S.rest src.new) (S.faults src.old) (S.faults src.new) (K.got out.old) (K.got out.new) result }
+    ensures broke { result ≡ 4 → BrokeAll size (S.rest src.old) (S.rest src.new) (K.got out.old) (K.got out.new) }
+    ensures memory { result ≡ 5 → Keeps (S.rest src.old) (S.rest src.new) × Keeps (K.got out.old) (K.got out.new) ⊎
+        LackedAll size (S.rest src.old) (S.rest src.new) (K.got out.old) (K.got out.new) }
+    ensures statuses { (result ≡ 0) ⊎ (result ≡ 2) ⊎ (result ≡ 3) ⊎ (result ≡ 4) ⊎ (result ≡ 5) ⊎ (result ≡ 7) }
+    ensures source_later { S.faults src.old ≤ S.faults src.new }
+    ensures sink_later { K.faults out.old ≤ K.faults out.new }
+    ensures source_failed { result ≡ 3 → Rose (S.faults src.old) (S.faults src.new) }
+    ensures sink_failed { result ≡ 4 → Rose (K.faults out.old) (K.faults out.new) }
+{
     match run::Reader::new(alloc) {
         Err(_) => 5,
-        Ok(reader) => start(alloc, reader, disk.size(), src, out),
+        Ok(reader) => start(alloc, reader, size, src, out),
     }
 }
 
@@ -77,7 +88,7 @@ fn write_usage<K: Sink>(out: &mut K) -> u8
     ensures sink_failed { result ≡ 4 → Rose (K.faults out.old) (K.faults out.new) }
     ensures sink_later { K.faults out.old ≤ K.faults out.new }
 {
-    match output::write_all(out, text::usage()) {
+    match output::write_all(out, script_text::usage()) {
         Ok(()) => 1,
         Err(_) => 4,
     }
@@ -87,15 +98,18 @@ fn write_usage<K: Sink>(out: &mut K) -> u8
 fn start<S: Source, K: Sink>(
     alloc: Global,
     mut reader: run::Reader,
-    blocks: u32,
+    size: u32,
     src: &mut S,
     out: &mut K,
 ) -> u8
-    requires session { reader.session ≡ first_session }
+    requires session { (key : List ℕ) (blocks : Blocks) → session_of size blocks reader.session ≡ first_session (place key size blocks).disk }
+    requires first { (reader.session.lines ≡ 0) × (reader.session.refused ≡ false) }
+    requires within { IsSessionWithin reader.session }
     requires line { reader.line ≡ [] }
-    ensures ran { result ≢ 4 → result ≢ 5 → Ran blocks (S.rest src.old) (S.rest src.new) (S.faults src.old) (S.faults src.new) (K.got out.old) (K.got out.new) result }
-    ensures broke { result ≡ 4 → Broke blocks (S.rest src.old) (S.rest src.new) (K.got out.old) (K.got out.new) }
-    ensures memory { result ≡ 5 → Keeps (S.rest src.old) (S.rest src.new) × Keeps (K.got out.old) (K.got out.new) }
+    ensures ran { result ≢ 4 → result ≢ 5 → RanAll size (S.rest src.old) (S.rest src.new) (S.faults src.old) (S.faults src.new) (K.got out.old) (K.got out.new) result }
+    ensures broke { result ≡ 4 → BrokeAll size (S.rest src.old) (S.rest src.new) (K.got out.old) (K.got out.new) }
+    ensures memory { result ≡ 5 → Keeps (S.rest src.old) (S.rest src.new) × Keeps (K.got out.old) (K.got out.new) ⊎
+        LackedAll size (S.rest src.old) (S.rest src.new) (K.got out.old) (K.got out.new) }
     ensures statuses { (result ≡ 0) ⊎ (result ≡ 2) ⊎ (result ≡ 3) ⊎ (result ≡ 4) ⊎ (result ≡ 5) ⊎ (result ≡ 7) }
     ensures source_later { S.faults src.old ≤ S.faults src.new }
     ensures sink_later { K.faults out.old ≤ K.faults out.new }
@@ -104,6 +118,6 @@ fn start<S: Source, K: Sink>(
 {
     match run::zeros(alloc, READ_BYTES) {
         Err(_) => 5,
-        Ok(mut buf) => run::run(&mut reader, &mut buf, blocks, src, out),
+        Ok(mut buf) => run::run(alloc, &mut reader, &mut buf, size, src, out),
     }
 }

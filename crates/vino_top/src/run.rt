@@ -1,20 +1,36 @@
 //! The run loop.
 
-ghost use Rattle.std.specs.Prelude.{◌≡◌, ◌≢◌, ◌+◌, ◌-◌, ◌<◌, ◌≤◌, ◌^◌, [], ◌∷◌, length, false, OnOk, OnErr, IfOk, vec_len, ◌⊎◌};
+ghost use Rattle.std.specs.Prelude.{◌≡◌, ◌≢◌, ◌+◌, ◌-◌, ◌<◌, ◌≤◌, ◌^◌, ℕ, List, [], ◌∷◌, ◌++◌, length, false, Err, OnOk, IfOk, MatchResult, vec_len, ◌⊎◌};
 ghost use Rattle.std.specs.Io.KnownBytes.{Appends, Consumes, IsAtEnd};
 ghost use Rattle.vino_base.specs.Faults.{HasCause, Rose};
-ghost use Rattle.kernel_model.specs.Script.{lines_after};
-ghost use Rattle.kernel_model.specs.Text.{line, fault_text};
-ghost use Rattle.kernel_model.specs.Session.{first_session, after_line, pieces_of};
-ghost use Rattle.vino_top.specs.Run.{AppendsPart, CutsShort, Fed, Ran, Broke, Reached};
+ghost use Rattle.kernel_model.specs.Text.{line};
+ghost use Rattle.kernel_model.specs.Script.{Unfinished, LINE_BYTES};
+ghost use Rattle.kernel_model.specs.Session.{fault_text, first_session};
+ghost use Rattle.kernel_model.specs.Outcome.{lines_after};
+ghost use Rattle.vino_top.specs.Bounds.{IsSessionWithin};
+ghost use Rattle.vino_top.specs.declared.run.Stop.TheVariants.{SinkFailed};
+ghost use Rattle.vino_top.specs.Run.{AppendsPart, TakesLine, StopsLine, FeedsAll, StopsAll, RanAll, BrokeAll, LackedAll, place, stop_status};
+ghost use Rattle.vino_top.specs.Standing.{session_of};
+ghost use Rattle.kernel_model.specs.World.{Blocks};
 
-use crate::lines::LineBuf;
 use crate::output::write_all;
 use crate::session::Session;
-use crate::text::{Text, print_fault};
-use kernel_model::{LINE_BYTES, NoMemory, SCRIPT_BYTES};
+use kernel_model::NoMemory;
+use script_text::{Fed, LineBuf, Text, print_fault};
 use std::alloc::Global;
-use vino_base::{Failed, Sink, Source};
+use vino_base::{Sink, Source};
+
+/// The most bytes of a script.
+const SCRIPT_BYTES: usize = 16_777_216;
+
+/// Why a run stops within a script, but for a refused line.
+#[derive(Clone, Copy, Debug, PartialEq, Eq)]
+pub enum Stop {
+    /// The sink failed.
+    SinkFailed,
+    /// There was no memory for an `image` line.
+    NoMemory,
+}
 
 /// The run of a script: its session, the line that is being read, and the text that is being written.
 #[derive(Drop)]
@@ -27,7 +43,9 @@ pub struct Reader {
 impl Reader {
     /// Before the first byte.
     pub fn new(alloc: Global) -> Result<Reader, NoMemory>
-        ensures session { IfOk result (λ r. r.session ≡ first_session) }
+        ensures within { IfOk result (λ r. IsSessionWithin r.session) }
+        ensures first { IfOk result (λ r. (r.session.lines ≡ 0) × (r.session.refused ≡ false)) }
+        ensures session { IfOk result (λ r. (size : ℕ) (blocks : Blocks) → session_of size blocks r.session ≡ first_session (record { size = size; block = blocks })) }
         ensures line { IfOk result (λ r. r.line ≡ []) }
     {
         Ok(Reader {
@@ -48,53 +66,106 @@ pub fn zeros(alloc: Global, n: usize) -> Result<Vec<u8>, NoMemory>
     }
 }
 
+/// What a line writes is written.
+fn write_text<K: Sink>(reader: &Reader, out: &mut K) -> Result<(), Stop>
+    ensures later { K.faults out.old ≤ K.faults out.new }
+    ensures sink_failed { result ≡ Err SinkFailed → Rose (K.faults out.old) (K.faults out.new) }
+    ensures contents { MatchResult result (λ _. Appends (K.got out.old) (K.got out.new) reader.now.text)
+        (λ stop. (stop ≡ SinkFailed) × AppendsPart (K.got out.old) (K.got out.new) reader.now.text) }
+{
+    match write_all(out, reader.text.as_slice()) {
+        Ok(()) => Ok(()),
+        Err(_) => Err(Stop::SinkFailed),
+    }
+}
+
 /// The line has ended: it is run, and what it writes is written.
-fn end_line<K: Sink>(reader: &mut Reader, blocks: u32, out: &mut K) -> Result<(), Failed>
-    requires { reader.old.session.lines < 2 ^ 32 - 2 }
-    ensures session { reader.new.session ≡ (after_line blocks reader.old.session reader.old.line).session }
-    ensures line { reader.new.line ≡ [] }
-    ensures ok { OnOk result (Appends (K.got out.old) (K.got out.new) (after_line blocks reader.old.session reader.old.line).text) }
-    ensures err { OnErr result (AppendsPart (K.got out.old) (K.got out.new) (after_line blocks reader.old.session reader.old.line).text) }
-    ensures cause { HasCause (K.faults out.old) (K.faults out.new) result }
+fn end_line<K: Sink>(alloc: Global, reader: &mut Reader, size: u32, out: &mut K) -> Result<(), Stop>
+    requires lines { reader.old.session.lines < 2 ^ 32 - 2 }
+    requires within { IsSessionWithin reader.old.session }
+    requires short { length reader.old.line ≤ LINE_BYTES }
+    ensures within { IsSessionWithin reader.new.session }
+    ensures line { OnOk result (reader.new.line ≡ []) }
+    ensures contents { MatchResult result (λ _. TakesLine size reader.old.line reader.old.session reader.new.session (K.got out.old) (K.got out.new))
+        (StopsLine size reader.old.line reader.old.session (K.got out.old) (K.got out.new)) }
+    ensures later { K.faults out.old ≤ K.faults out.new }
+    ensures sink_failed { result ≡ Err SinkFailed → Rose (K.faults out.old) (K.faults out.new) }
 {
     reader.text.clear();
-    reader
+    if let Err(_) = reader
         .session
-        .run_line(reader.line.line(), blocks, &mut reader.text);
+        .run_line(alloc, reader.line.line(), size, &mut reader.text)
+    {
+        return Err(Stop::NoMemory);
+    }
     reader.line.clear();
-    write_all(out, reader.text.as_slice())
+    write_text(reader, out)
+}
+
+/// The line is too long with this byte.
+fn end_long<K: Sink>(reader: &mut Reader, byte: u8, size: u32, out: &mut K) -> Result<(), Stop>
+    requires lines { reader.old.session.lines < 2 ^ 32 - 2 }
+    requires within { IsSessionWithin reader.old.session }
+    requires long { length reader.old.line ≡ LINE_BYTES }
+    ensures within { IsSessionWithin reader.new.session }
+    ensures line { OnOk result (reader.new.line ≡ []) }
+    ensures contents { MatchResult result (λ _. TakesLine size (reader.old.line ++ byte ∷ []) reader.old.session reader.new.session (K.got out.old) (K.got out.new))
+        (StopsLine size (reader.old.line ++ byte ∷ []) reader.old.session (K.got out.old) (K.got out.new)) }
+    ensures later { K.faults out.old ≤ K.faults out.new }
+    ensures sink_failed { result ≡ Err SinkFailed → Rose (K.faults out.old) (K.faults out.new) }
+{
+    reader.text.clear();
+    reader.session.refuse_long(&mut reader.text);
+    reader.line.clear();
+    write_text(reader, out)
 }
 
 /// One byte of the script.
-fn take_byte<K: Sink>(reader: &mut Reader, byte: u8, blocks: u32, out: &mut K) -> Result<(), Failed>
+fn take_byte<K: Sink>(
+    alloc: Global,
+    reader: &mut Reader,
+    byte: u8,
+    size: u32,
+    out: &mut K,
+) -> Result<(), Stop>
     requires lines { reader.old.session.lines < 2 ^ 32 - 2 }
+    requires within { IsSessionWithin reader.old.session }
     requires short { length reader.old.line ≤ LINE_BYTES }
-    ensures ok { OnOk result (Fed blocks reader.old.session reader.new.session reader.old.line reader.new.line (byte ∷ []) (K.got out.old) (K.got out.new)) }
-    ensures err { OnErr result (CutsShort (K.got out.old) (K.got out.new) (pieces_of blocks reader.old.session (lines_after reader.old.line (byte ∷ [])))) }
-    ensures cause { HasCause (K.faults out.old) (K.faults out.new) result }
+    ensures within { IsSessionWithin reader.new.session }
+    ensures contents { MatchResult result
+        (λ _. FeedsAll size reader.old.session reader.new.session reader.old.line reader.new.line (byte ∷ []) (K.got out.old) (K.got out.new))
+        (StopsAll size reader.old.session (lines_after reader.old.line (byte ∷ [])) (K.got out.old) (K.got out.new)) }
+    ensures later { K.faults out.old ≤ K.faults out.new }
+    ensures sink_failed { result ≡ Err SinkFailed → Rose (K.faults out.old) (K.faults out.new) }
 {
-    if byte == b'\n' {
-        return end_line(reader, blocks, out);
+    match reader.line.push(byte) {
+        Fed::More => Ok(()),
+        Fed::Line => end_line(alloc, reader, size, out),
+        Fed::TooLong => end_long(reader, byte, size, out),
     }
-    let longest = reader.line.len() == LINE_BYTES;
-    reader.line.push(byte);
-    if longest {
-        return end_line(reader, blocks, out);
-    }
-    Ok(())
 }
 
 /// Some bytes of the script, one after another.
-fn feed<K: Sink>(reader: &mut Reader, bytes: &[u8], blocks: u32, out: &mut K) -> Result<(), Failed>
+fn feed<K: Sink>(
+    alloc: Global,
+    reader: &mut Reader,
+    bytes: &[u8],
+    size: u32,
+    out: &mut K,
+) -> Result<(), Stop>
     requires lines { reader.old.session.lines + length bytes.now < 2 ^ 32 - 2 }
+    requires within { IsSessionWithin reader.old.session }
     requires short { length reader.old.line ≤ LINE_BYTES }
-    ensures ok { OnOk result (Fed blocks reader.old.session reader.new.session reader.old.line reader.new.line bytes.now (K.got out.old) (K.got out.new)) }
-    ensures err { OnErr result (CutsShort (K.got out.old) (K.got out.new) (pieces_of blocks reader.old.session (lines_after reader.old.line bytes.now))) }
-    ensures cause { HasCause (K.faults out.old) (K.faults out.new) result }
+    ensures within { IsSessionWithin reader.new.session }
+    ensures contents { MatchResult result
+        (λ _. FeedsAll size reader.old.session reader.new.session reader.old.line reader.new.line bytes.now (K.got out.old) (K.got out.new))
+        (StopsAll size reader.old.session (lines_after reader.old.line bytes.now) (K.got out.old) (K.got out.new)) }
+    ensures later { K.faults out.old ≤ K.faults out.new }
+    ensures sink_failed { result ≡ Err SinkFailed → Rose (K.faults out.old) (K.faults out.new) }
 {
     for byte in bytes {
-        if let Err(failed) = take_byte(reader, *byte, blocks, out) {
-            return Err(failed);
+        if let Err(stop) = take_byte(alloc, reader, *byte, size, out) {
+            return Err(stop);
         }
     }
     Ok(())
@@ -104,37 +175,50 @@ fn feed<K: Sink>(reader: &mut Reader, bytes: &[u8], blocks: u32, out: &mut K) ->
 fn finish<K: Sink>(reader: &mut Reader, out: &mut K) -> u8
     requires { reader.old.session.lines < 2 ^ 32 - 2 }
     ensures whole { reader.old.line ≡ [] → (result ≡ 0) × (K.got out.new ≡ K.got out.old) }
-    ensures refused { result ≡ 2 → Appends (K.got out.old) (K.got out.new) (line (fault_text (reader.old.session.lines + 1) 6)) }
-    ensures broken { result ≡ 4 → AppendsPart (K.got out.old) (K.got out.new) (line (fault_text (reader.old.session.lines + 1) 6)) }
+    ensures refused { result ≡ 2 → Appends (K.got out.old) (K.got out.new) (line (fault_text (reader.old.session.lines + 1) Unfinished)) }
+    ensures broken { result ≡ 4 → AppendsPart (K.got out.old) (K.got out.new) (line (fault_text (reader.old.session.lines + 1) Unfinished)) }
     ensures statuses { (result ≡ 0) × (reader.old.line ≡ []) ⊎ (result ≡ 2) × (reader.old.line ≢ []) ⊎ (result ≡ 4) × (reader.old.line ≢ []) }
     ensures later { K.faults out.old ≤ K.faults out.new }
     ensures sink_failed { result ≡ 4 → Rose (K.faults out.old) (K.faults out.new) }
 {
-    if reader.line.len() == 0 {
+    if reader.line.line().is_empty() {
         return 0;
     }
-    reader.text.clear();
-    print_fault(reader.session.lines() + 1, 6, &mut reader.text);
+    print_fault(reader.session.lines + 1, 6, &mut reader.text);
     match write_all(out, reader.text.as_slice()) {
         Ok(()) => 2,
         Err(_) => 4,
     }
 }
 
+/// The status of a run that stopped.
+fn status_of(stop: Stop) -> u8
+    ensures { result ≡ stop_status stop }
+{
+    match stop {
+        Stop::SinkFailed => 4,
+        Stop::NoMemory => 5,
+    }
+}
+
 /// Runs the script that the source gives, to its end or to the first thing that stops it. The status.
 pub fn run<S: Source, K: Sink>(
+    alloc: Global,
     reader: &mut Reader,
     buf: &mut [u8],
-    blocks: u32,
+    size: u32,
     src: &mut S,
     out: &mut K,
 ) -> u8
-    requires session { reader.old.session ≡ first_session }
+    requires session { (key : List ℕ) (blocks : Blocks) → session_of size blocks reader.old.session ≡ first_session (place key size blocks).disk }
+    requires first { (reader.old.session.lines ≡ 0) × (reader.old.session.refused ≡ false) }
+    requires within { IsSessionWithin reader.old.session }
     requires line { reader.old.line ≡ [] }
     requires room { 0 < length buf.old }
-    ensures ran { result ≢ 4 → Ran blocks (S.rest src.old) (S.rest src.new) (S.faults src.old) (S.faults src.new) (K.got out.old) (K.got out.new) result }
-    ensures broke { result ≡ 4 → Broke blocks (S.rest src.old) (S.rest src.new) (K.got out.old) (K.got out.new) }
-    ensures statuses { (result ≡ 0) ⊎ (result ≡ 2) ⊎ (result ≡ 3) ⊎ (result ≡ 4) ⊎ (result ≡ 7) }
+    ensures ran { result ≢ 4 → result ≢ 5 → RanAll size (S.rest src.old) (S.rest src.new) (S.faults src.old) (S.faults src.new) (K.got out.old) (K.got out.new) result }
+    ensures broke { result ≡ 4 → BrokeAll size (S.rest src.old) (S.rest src.new) (K.got out.old) (K.got out.new) }
+    ensures lacked { result ≡ 5 → LackedAll size (S.rest src.old) (S.rest src.new) (K.got out.old) (K.got out.new) }
+    ensures statuses { (result ≡ 0) ⊎ (result ≡ 2) ⊎ (result ≡ 3) ⊎ (result ≡ 4) ⊎ (result ≡ 5) ⊎ (result ≡ 7) }
     ensures source_failed { result ≡ 3 → Rose (S.faults src.old) (S.faults src.new) }
     ensures source_later { S.faults src.old ≤ S.faults src.new }
     ensures sink_later { K.faults out.old ≤ K.faults out.new }
@@ -149,10 +233,10 @@ pub fn run<S: Source, K: Sink>(
             Ok(n) => {
                 let script = n.min(left - 1);
                 left -= n;
-                if let Err(_) = feed(reader, &buf[..script], blocks, out) {
-                    return 4;
+                if let Err(stop) = feed(alloc, reader, &buf[..script], size, out) {
+                    return status_of(stop);
                 }
-                if reader.session.refused() {
+                if reader.session.refused {
                     return 2;
                 }
             }

@@ -2,17 +2,53 @@
 
 ghost use Rattle.std.specs.Prelude.{◌≡◌, map, string_bytes};
 ghost use Rattle.std.specs.List.{list_all};
-ghost use Rattle.vino_top.specs.Words.{is_hex_digit, is_key, is_run};
+ghost use Rattle.vino_top.specs.Words.{is_hex_digit, is_key, asked_by, asked_by_one, asked_by_two};
 
 use std::alloc::Global;
 
-/// Whether the words are `run KEY`.
-pub fn asks_run(words: &[String]) -> bool
-    ensures { result ≡ is_run (map (λ (w : _). string_bytes w) words.now) }
+/// What the words of the command line ask.
+#[derive(Clone, Copy, Debug, PartialEq, Eq)]
+pub enum Asked {
+    /// `run KEY`: a script is run.
+    Run,
+    /// `asm`: a text is assembled.
+    Asm,
+    /// `dis`: an image is disassembled.
+    Dis,
+    /// Other words.
+    Nothing,
+}
+
+/// What the words ask.
+pub fn read_words(words: &[String]) -> Asked
+    ensures { result ≡ asked_by (map (λ (w : _). string_bytes w) words.now) }
 {
     match words {
-        [word, key] => word.as_bytes() == b"run".as_slice() && is_key(key.as_bytes()),
-        _ => false,
+        [word] => asked_one(word.as_bytes()),
+        [word, key] => asked_two(word.as_bytes(), key.as_bytes()),
+        _ => Asked::Nothing,
+    }
+}
+
+fn asked_one(word: &[u8]) -> Asked
+    ensures { result ≡ asked_by_one word.now }
+{
+    if word == b"asm".as_slice() {
+        Asked::Asm
+    } else if word == b"dis".as_slice() {
+        Asked::Dis
+    } else {
+        Asked::Nothing
+    }
+}
+
+fn asked_two(word: &[u8], key: &[u8]) -> Asked
+    ensures { result ≡ asked_by_two word.now key.now }
+{
+    if word == b"run".as_slice() && is_key(key) {
+        Asked::Run
+    } else {
+        Asked::Nothing
     }
 }
 

@@ -1,11 +1,20 @@
--- No process has had as many slices as there were events.
-use Rattle.std.proofs.Common.{◌≤◌, arith}
-use Rattle.kernel_model.specs.declared.QueueRow.{QueueRow}
-use Rattle.vino_top.proofs.QueueLemmas.{to_back_all}
+-- A yield is the abstract kernel's.
+use Rattle.std.proofs.Common.{refl, arith, ap, ◌∙◌, ◌-◌}
+use Rattle.kernel_model.specs.Queue.{queue_to_back}
+use Rattle.process_table.specs.Processes.{Processes, processes_of}
+use Rattle.vino_top.specs.Standing.{front_of}
+use Rattle.vino_top.proofs.KernelLemmas.{yield_so, yield_procs}
+use Rattle.vino_top.proofs.BoundsLemmas.{slices_few, within_back}
 use Rattle.vino_top.proofs.kernel.Kernel.delegate.Goals as goal
 
-pub slice_front-front-requires : goal.slice_front-front-requires
-slice_front-front-requires c =
-    let within = rw (← c.self.view_is) at c.requires.within in
-    let most = to_back_all (λ (r : QueueRow). r.slices ≤ c.args.number) c.args.p c.self.inside.queue within.slices in
-    rw c.to_back.ensures (λ k d below. let here = most k d below in omega (arith, here, c.requires.room))
+pub returns-clause-answer : goal.returns-clause-answer
+returns-clause-answer c =
+    let rows = ap (λ (x : Processes). x.queue) c.to_back.ensures in
+    let front = c.front-front.ensures ∙ ap front_of (c.rows.ensures.value ∙ rows) in
+    let procs = yield_procs (processes_of c.args.self.now.procs) (processes_of c.to_back.new.self) (processes_of c.add_slice.new.self) c.front-front.result _ (queue_to_back c.args.p c.args.self.now.procs.queue) c.add_slice.ensures c.to_back.ensures front in
+    rw (c.from.ensures, front) (yield_so c.args.number c.args.p c.args.self.now _ c.requires.lives refl refl procs)
+
+pub add_slice-requires-clause-room : goal.add_slice-requires-clause-room
+add_slice-requires-clause-room c =
+    let rows = ap (λ (x : Processes). x.queue) c.to_back.ensures in
+    rw rows (omega (arith, slices_few (c.args.number - 1) c.front-front.result (queue_to_back c.args.p c.args.self.now.procs.queue) (within_back (c.args.number - 1) c.args.p c.args.self.now.procs.queue c.requires.within), c.requires.room))

@@ -1,14 +1,8 @@
--- The clock and the slices keep behind the number of the event.
-use Rattle.std.proofs.Common.{arith, ◌+◌}
-use Rattle.vino_top.specs.Bounds.{IsKernelWithin}
-use Rattle.vino_top.proofs.SessionLemmas.{event_within}
+-- An event goes on from the kernel as the abstract one does, and its note's line is written.
+use Rattle.std.proofs.Common.{sym, ◌∙◌}
+use Rattle.vino_top.proofs.SessionLemmas.{event_runs}
 use Rattle.vino_top.proofs.session.Session.happen.Goals as goal
 
-pub invariant_of-self : goal.invariant_of-self
-invariant_of-self c =
-    let before : IsKernelWithin c.self.inside.events c.in-Some.kernel = rw c.in-Some.is at c.self.invariant.within in
-    let fresh = rw (← c.self.view_is) at c.requires.fresh in
-    record {
-      most = omega (arith, fresh);
-      within = rw c.event-note.ensures.after (event_within (c.self.inside.events + 1) c.self.inside.events c.args.event c.in-Some.kernel before);
-    }
+pub returns-in-Some-clause-runs : goal.returns-in-Some-clause-runs
+returns-in-Some-clause-runs c = λ size key blocks.
+    event_runs size key blocks c.args.self.now c.in-Some.kernel c.event-note.new.self c.args.event.now c.event-note.result c.print_note.new.out c.in-Some.is (sym c.is_built.ensures ∙ c.if-not-is_built.false) c.event-note.ensures.answer c.print_note.ensures

@@ -1,0 +1,49 @@
+-- Lemmas on hex digits: the crate `hex` decodes them as the definitions do.
+use Rattle.std.proofs.Common.{◌≡◌, ℕ, ◌+◌, ◌*◌, ◌%◌, ◌/◌, Option, Some, None, Result, Ok, Err, List, [], ◌∷◌, length, refl, arith, ap}
+use Rattle.std.specs.Prelude.{codes}
+use Rattle.std.specs.Result.{result_ok}
+use Rattle.std.proofs.lemmas.Bool.Decides.{nat_tests}
+use Rattle.hex.specs.declared.error.FromHexError.{FromHexError}
+use Rattle.hex.specs.Hex.{hex_digit_value, digit_or_error, decode_pairs, decode_of, encode_with, ◌>>=◌}
+use Rattle.kernel_model.specs.Bytes.{hex_digit, hex_text, hex_value, byte_before, hex_bytes}
+
+-- a digit has one value
+same_value : (c : ℕ) → hex_digit_value c ≡ hex_value c
+same_value c = grind (arith, nat_tests)
+
+-- a byte of two digits before others
+pair_step : (h l : Option ℕ) (c d i : ℕ) (rest : Result (List ℕ) FromHexError)
+    → result_ok ((digit_or_error c i h >>= λ a. (digit_or_error d (i + 1) l >>= λ b. Ok (a * 16 + b))) >>= λ byte. (rest >>= λ bytes. Ok (byte ∷ bytes)))
+    ≡ byte_before h l (result_ok rest)
+pair_step None l c d i rest = refl
+pair_step (Some a) None c d i rest = refl
+pair_step (Some a) (Some b) c d i (Err e) = refl
+pair_step (Some a) (Some b) c d i (Ok bytes) = let e : a * 16 + b ≡ 16 * a + b = omega arith in ap (λ n. Some (n ∷ bytes)) e
+
+-- pairs of digits
+decode_pairs-ok : (i : ℕ) (text : List ℕ) → result_ok (decode_pairs i text) ≡ hex_bytes text
+unfolding decode_pairs
+decode_pairs-ok i [] = refl
+decode_pairs-ok i (c ∷ []) = refl
+decode_pairs-ok i (c ∷ d ∷ text) = rw (← same_value c, ← same_value d, ← decode_pairs-ok (i + 2) text) (pair_step (hex_digit_value c) (hex_digit_value d) c d i (decode_pairs (i + 2) text))
+
+byte_before-none : (h l : Option ℕ) → byte_before h l None ≡ None
+byte_before-none None l = refl
+byte_before-none (Some h) None = refl
+byte_before-none (Some h) (Some l) = refl
+
+-- an odd number of digits writes no bytes
+hex_bytes-odd : (text : List ℕ) → length text % 2 ≡ 1 → hex_bytes text ≡ None
+hex_bytes-odd [] odd = absurd (omega (arith, odd))
+hex_bytes-odd (c ∷ []) odd = refl
+hex_bytes-odd (c ∷ d ∷ text) odd = rw (hex_bytes-odd text (omega (arith, odd))) (byte_before-none (hex_value c) (hex_value d))
+
+-- digits into new bytes
+pub decode_of-ok : (text : List ℕ) → result_ok (decode_of text) ≡ hex_bytes text
+decode_of-ok text = grind (arith, nat_tests, decode_pairs-ok 0 text, hex_bytes-odd text)
+
+-- bytes as digits of lower case
+pub encode_with-lower : (bytes : List ℕ) → encode_with (codes "0123456789abcdef") bytes ≡ hex_text bytes
+unfolding encode_with
+encode_with-lower [] = refl
+encode_with-lower (b ∷ bytes) = ap (λ text. hex_digit (b / 16) ∷ hex_digit (b % 16) ∷ text) (encode_with-lower bytes)

@@ -1,0 +1,133 @@
+//! The words `asm` and `dis` of the program: filters that read a whole input and write one answer.
+//!
+//! What they answer is said by the definitions of `kernel_model`; docs/FORMATS.md tells the formats.
+#![tactic(auto)]
+
+ghost use Rattle.std.specs.Prelude.{◌≡◌, ◌≢◌, ◌⊎◌, ◌≤◌, [], length, IfOk};
+ghost use Rattle.std.specs.Io.KnownBytes.{Appends, Keeps};
+ghost use Rattle.vino_base.specs.Faults.{Rose};
+ghost use Rattle.kernel_model.specs.Outcome as outcome;
+ghost use Rattle.kernel_model.specs.Filters as spec;
+ghost use Rattle.filters.specs.Views.{ending_of, filter_of};
+ghost use Rattle.filters.specs.Filtered.{AppendsPart, Gave, Ran, Broke};
+
+mod answer;
+mod hex_line;
+mod image_to_text;
+mod input;
+mod output;
+#[cfg(test)]
+mod tests;
+mod text;
+mod text_to_image;
+
+use crate::answer::{Answer, Filter};
+use crate::image_to_text::dis_answer;
+use crate::input::{Ending, read_all};
+pub use crate::output::write_all;
+use crate::text_to_image::asm_answer;
+use kernel_model::NoMemory;
+use std::alloc::Global;
+use vino_base::{Sink, Source};
+
+/// The answer to an input that was taken so far and ended so.
+fn answer_to(alloc: Global, word: Filter, taken: &[u8], ending: Ending) -> Result<Answer, NoMemory>
+    requires { ending_of ending ≡ outcome.End → length taken.now ≤ outcome.SCRIPT_BYTES }
+    ensures { IfOk result (λ a. a ≡ spec.filter_answer (filter_of word) [] taken.now (ending_of ending)) }
+{
+    match (ending, word) {
+        (Ending::End, Filter::Asm) => asm_answer(alloc, taken),
+        (Ending::End, Filter::Dis) => dis_answer(alloc, taken),
+        (Ending::Fault, _) => Ok(Answer::new(3, Vec::new(alloc))),
+        (Ending::Over, _) => Ok(Answer::new(7, Vec::new(alloc))),
+    }
+}
+
+/// Writes an answer. Its status, or 4 where the sink fails.
+fn write_answer<K: Sink>(answer: &Answer, out: &mut K) -> u8
+    requires { answer.now.status ≢ 4 }
+    ensures whole { result ≢ 4 → (result ≡ answer.now.status) × Appends (K.got out.old) (K.got out.new) answer.now.written }
+    ensures part { result ≡ 4 → AppendsPart (K.got out.old) (K.got out.new) answer.now.written }
+    ensures sink_later { K.faults out.old ≤ K.faults out.new }
+    ensures sink_failed { result ≡ 4 → Rose (K.faults out.old) (K.faults out.new) }
+{
+    match write_all(out, answer.text()) {
+        Ok(()) => answer.status(),
+        Err(_) => 4,
+    }
+}
+
+/// Reads the input and writes the answer to it.
+fn filter<S: Source, K: Sink>(alloc: Global, word: Filter, src: &mut S, out: &mut K) -> u8
+    ensures statuses { (result ≡ 0) ⊎ (result ≡ 2) ⊎ (result ≡ 3) ⊎ (result ≡ 4) ⊎ (result ≡ 5) ⊎ (result ≡ 7) }
+    ensures ran { result ≢ 4 → result ≢ 5 →
+        Ran (filter_of word) [] (S.rest src.old) (S.rest src.new) (S.faults src.old) (S.faults src.new) (K.got out.old) (K.got out.new) result }
+    ensures broke { result ≡ 4 →
+        Broke (filter_of word) [] (S.rest src.old) (S.rest src.new) (S.faults src.old) (S.faults src.new) (K.got out.old) (K.got out.new) }
+    ensures memory { result ≡ 5 → Gave (S.rest src.old) (S.rest src.new) × Keeps (K.got out.old) (K.got out.new) }
+    ensures source_failed { result ≡ 3 → Rose (S.faults src.old) (S.faults src.new) }
+    ensures sink_failed { result ≡ 4 → Rose (K.faults out.old) (K.faults out.new) }
+    ensures source_later { S.faults src.old ≤ S.faults src.new }
+    ensures sink_later { K.faults out.old ≤ K.faults out.new }
+{
+    let mut input = Vec::new(alloc);
+    let Ok(ending) = read_all(alloc, src, &mut input) else {
+        return 5;
+    };
+    let Ok(answer) = answer_to(alloc, word, input.as_slice(), ending) else {
+        return 5;
+    };
+    write_answer(&answer, out)
+}
+
+/// Reads assembler text and writes the raw image as one line of lower-case hex, or the line that is
+/// refused and why, as `asm LINE CODE`.
+///
+/// The answer is the exit status: 0 for an image, 2 for a refusal, 3 for a source and 4 for a sink that
+/// failed, 5 for want of memory, 7 for a text of more than 16,777,216 bytes. Nothing is written with 3, 5
+/// and 7.
+pub fn asm<S: Source, K: Sink>(alloc: Global, src: &mut S, out: &mut K) -> u8
+    // No other status comes.
+    ensures statuses { (result ≡ 0) ⊎ (result ≡ 2) ⊎ (result ≡ 3) ⊎ (result ≡ 4) ⊎ (result ≡ 5) ⊎ (result ≡ 7) }
+    // The status and the bytes written are those of the answer to the bytes that were taken.
+    ensures ran { result ≢ 4 → result ≢ 5 →
+        Ran spec.Asm [] (S.rest src.old) (S.rest src.new) (S.faults src.old) (S.faults src.new) (K.got out.old) (K.got out.new) result }
+    // Where the sink fails it took a part of those bytes, not whole.
+    ensures broke { result ≡ 4 →
+        Broke spec.Asm [] (S.rest src.old) (S.rest src.new) (S.faults src.old) (S.faults src.new) (K.got out.old) (K.got out.new) }
+    // With no memory nothing is written.
+    ensures memory { result ≡ 5 → Gave (S.rest src.old) (S.rest src.new) × Keeps (K.got out.old) (K.got out.new) }
+    // A source or a sink is blamed only where its count of faults rose.
+    ensures source_failed { result ≡ 3 → Rose (S.faults src.old) (S.faults src.new) }
+    ensures sink_failed { result ≡ 4 → Rose (K.faults out.old) (K.faults out.new) }
+    ensures source_later { S.faults src.old ≤ S.faults src.new }
+    ensures sink_later { K.faults out.old ≤ K.faults out.new }
+{
+    filter(alloc, Filter::Asm, src, out)
+}
+
+/// Reads one line of hex, the bytes of a raw image, and writes the image's text, or why the line
+/// (`input S2`, `input S6` or `input S1`) or the image (`L1`, `L2`, `L4` or `L6 PC`) is refused.
+///
+/// The answer is the exit status: 0 for an image, 2 for a refusal, 3 for a source and 4 for a sink that
+/// failed, 5 for want of memory, 7 for an input of more than 16,777,216 bytes. Nothing is written with 3,
+/// 5 and 7.
+pub fn dis<S: Source, K: Sink>(alloc: Global, src: &mut S, out: &mut K) -> u8
+    // No other status comes.
+    ensures statuses { (result ≡ 0) ⊎ (result ≡ 2) ⊎ (result ≡ 3) ⊎ (result ≡ 4) ⊎ (result ≡ 5) ⊎ (result ≡ 7) }
+    // The status and the bytes written are those of the answer to the bytes that were taken.
+    ensures ran { result ≢ 4 → result ≢ 5 →
+        Ran spec.Dis [] (S.rest src.old) (S.rest src.new) (S.faults src.old) (S.faults src.new) (K.got out.old) (K.got out.new) result }
+    // Where the sink fails it took a part of those bytes, not whole.
+    ensures broke { result ≡ 4 →
+        Broke spec.Dis [] (S.rest src.old) (S.rest src.new) (S.faults src.old) (S.faults src.new) (K.got out.old) (K.got out.new) }
+    // With no memory nothing is written.
+    ensures memory { result ≡ 5 → Gave (S.rest src.old) (S.rest src.new) × Keeps (K.got out.old) (K.got out.new) }
+    // A source or a sink is blamed only where its count of faults rose.
+    ensures source_failed { result ≡ 3 → Rose (S.faults src.old) (S.faults src.new) }
+    ensures sink_failed { result ≡ 4 → Rose (K.faults out.old) (K.faults out.new) }
+    ensures source_later { S.faults src.old ≤ S.faults src.new }
+    ensures sink_later { K.faults out.old ≤ K.faults out.new }
+{
+    filter(alloc, Filter::Dis, src, out)
+}

@@ -1,0 +1,7 @@
+pub mod Splits
+pub mod Digits
+pub mod Hex
+pub mod LabelLemmas
+pub mod Linking
+pub mod Texts
+pub mod Lines

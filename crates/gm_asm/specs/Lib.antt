@@ -1,0 +1,6 @@
+pub mod Parts
+pub mod Views
+pub mod Faults
+pub mod State
+pub mod Laws
+pub mod Examples

@@ -1,0 +1,148 @@
+-- What is claimed of these definitions themselves: statements of laws, each of which says what a definition means.
+use Rattle.std.specs.Prelude.{◌≡◌, ◌≢◌, ℕ, suc, ◌+◌, ◌*◌, ◌<◌, ◌≤◌, Bool, true, false, List, [], Contains, Option, Some, None, is_some, Ok, ⊤, ◌⊎◌}
+use Rattle.kernel_model.specs.declared.Instr.{Instr}
+use Rattle.kernel_model.specs.declared.Object.{Object}
+use Rattle.kernel_model.specs.declared.SysCall.TheVariants.{Sync}
+use Rattle.kernel_model.specs.declared.Refusal.{Refusal}
+use Rattle.kernel_model.specs.declared.Cause.{Cause}
+use Rattle.kernel_model.specs.declared.Kind.{Kind}
+use Rattle.kernel_model.specs.declared.Micro.{Micro}
+use Rattle.kernel_model.specs.World.{World, ImageTable, Blocks}
+use Rattle.kernel_model.specs.Objects.{Objects, Accounts, SameAt}
+use Rattle.kernel_model.specs.Machine.{Machine, Done, Went, Called, Outside, PastEnd, segment_base, seg_step, flat_step}
+use Rattle.kernel_model.specs.Boxed.{IsBoxed, IsInside, boxed_place, rewrite}
+use Rattle.kernel_model.specs.Runs.{CodeRun, first_run, raw_run, boxed_run, on_segment, done_on_segment}
+use Rattle.kernel_model.specs.Charges.{funds, charge, removed}
+use Rattle.kernel_model.specs.Meaning.{Meaning, Stage, Fails}
+use Rattle.kernel_model.specs.Levels.{Config, Effect, Outcome, drop_level}
+use Rattle.kernel_model.specs.GraftStep.{micro}
+use Rattle.kernel_model.specs.History.{Mark, Trace, effect, replay, fallen}
+use Rattle.kernel_model.specs.Kernel.{Call, Kernel, Run}
+use Rattle.kernel_model.specs.Blocking.{config_in, config_of, levels_of, blocker}
+use Rattle.kernel_model.specs.Settle.{step, settled}
+use Rattle.kernel_model.specs.Events.{expired, tick_event, drop_call}
+use Rattle.kernel_model.specs.Pieces.{plain}
+use Rattle.kernel_model.specs.InPlace.{Cut, is_changed_in, in_place, undone, store_below}
+use Rattle.kernel_model.specs.Sound.{ledger, ImagesAreLoaded, IsSoundStore, IsSoundConfig, IsSoundKernel, IsAtRest, HasWholeBlocks, count_of}
+use Rattle.kernel_model.specs.Alike.{ConfigsAlike, Extends}
+use Rattle.kernel_model.specs.Laws.{Laws}
+
+-- ---- the sandbox
+
+-- after an instruction of an inside machine: it is inside still, and neither reached out of the segment nor ran past the code
+abbrev pub IsInsideAfter : List Instr → (slot : ℕ) → Done → Type 0
+IsInsideAfter code slot (Went m) = IsInside code slot m
+IsInsideAfter code slot (Called id m) = IsInside code slot m
+IsInsideAfter code slot Outside = ⊥
+IsInsideAfter code slot PastEnd = ⊥
+IsInsideAfter code slot done = ⊤
+
+-- An inside machine on boxed code stays inside, and one instruction over flat memory is one on its segment alone.
+pub record StaysInside (code : List Instr) (slot : ℕ) (m : Machine) : Type 0 where
+  pub inside : IsInsideAfter code slot (flat_step code m)
+  pub alone : seg_step code (on_segment (segment_base slot) m) ≡ done_on_segment (segment_base slot) (flat_step code m)
+
+-- the law of the sandbox
+abbrev pub Sandbox : Type 0
+Sandbox = (code : List Instr) (slot : ℕ) (m : Machine) → IsBoxed code → IsInside code slot m → StaysInside code slot m
+
+-- a run of boxed code has come as far as the raw run: the same registers, r14 apart, place, segment, calls and end
+pub record HasComeAsFar (code : List Instr) (raw boxed : CodeRun) : Type 0 where
+  pub registers : (i : ℕ) → i ≢ 14 → boxed.machine.regs i ≡ raw.machine.regs i
+  pub place : boxed.machine.pc ≡ boxed_place code raw.machine.pc
+  pub segment : (i : ℕ) → i < 4096 → boxed.machine.memory i ≡ raw.machine.memory i
+  pub calls : boxed.calls ≡ raw.calls
+  pub answers : boxed.answers ≡ raw.answers
+  pub ended : boxed.ended ≡ raw.ended
+
+-- the law of the rewriter: n raw instructions with k accesses among them are n + 2k boxed ones
+abbrev pub Rewriting : Type 0
+Rewriting =
+    (code boxed : List Instr) (slot n : ℕ) (segment : ℕ → ℕ) (args : List ℕ) (answers : List (ℕ × ℕ)) →
+    rewrite code ≡ Ok boxed → slot < 64 →
+    let first = first_run (segment_base slot) segment args answers in
+    let raw = raw_run code n first in
+    HasComeAsFar code raw (boxed_run boxed (n + 2 * raw.accesses) first)
+
+-- ---- the calls of the table
+
+-- after a refusal the state and the disk are as before; a `sync` of which a call of the disk failed keeps what it wrote
+abbrev pub RefusalsChangeNothing : Type 0
+RefusalsChangeNothing =
+    (v : World) (images : ImageTable) (s : Objects) (blocks : Blocks) (p : ℕ) (t : Stage) (answer : Option (List ℕ)) (io : List Bool) (why : Refusal) →
+    t.call ≢ Sync → (plain.piece v images s blocks p t answer io).after ≡ Fails why →
+    ((plain.piece v images s blocks p t answer io).objects ≡ s) × ((plain.piece v images s blocks p t answer io).blocks ≡ blocks)
+
+-- ---- amounts
+
+-- charging what the payer has, and removing a graft, leave every ledger
+pub record LedgersStay : Type 0 where
+  pub charged : (a : Accounts) (q pt r : ℕ) (k j : Kind) → pt < 16 → 1 ≤ funds a q pt k → ledger (charge k q pt a) j r ≡ ledger a j r
+  pub removed : (a : Accounts) (q pt r : ℕ) (j : Kind) → pt < 16 → ledger (removed q pt a) j r ≡ ledger a j r
+
+-- ---- graft calls and their histories
+
+-- an instruction is the same once more images are loaded
+abbrev pub MoreImages : Type 0
+MoreImages =
+    (v : World) (images more : ImageTable) (p : ℕ) (c : Config) → Extends images more → ImagesAreLoaded images c.now.accounts →
+    micro v more p c ≡ micro v images p c
+
+-- an instruction changes nothing but what some level holds exclusively, before it or after it
+abbrev pub ChangesWhatIsHeld : Type 0
+ChangesWhatIsHeld =
+    (v : World) (images : ImageTable) (p : ℕ) (c : Config) (o : Object) → IsSoundConfig v c → is_changed_in c.levels o ≡ false →
+    is_changed_in (micro v images p c).config.levels o ≡ false → SameAt o (micro v images p c).config.now c.now
+
+-- an effect that is made again leaves a sound store
+abbrev pub EffectsStaySound : Type 0
+EffectsStaySound =
+    (v : World) (q : ℕ) (e : Effect) (c d : Config) → IsSoundStore v c.now → effect q e c ≡ Some d → IsSoundStore v d.now
+
+-- a sound graft call is sound after each instruction that doesn't end it
+abbrev pub ConfigsStaySound : Type 0
+ConfigsStaySound =
+    (v : World) (images : ImageTable) (p : ℕ) (c : Config) → IsSoundConfig v c → (micro v images p c).config.levels ≢ [] →
+    IsSoundConfig v (micro v images p c).config
+
+-- The history after the drop of a level above 0, by an instruction or a time-out, leads to the config that the drop gave.
+abbrev pub FallsReplay : Meaning → Type 0
+FallsReplay m =
+    (v : World) (images : ImageTable) (s : Objects) (p : ℕ) (t : Stage) (ks : List Mark) (now : Trace) (o : Outcome) (d q pt : ℕ) (cause why : Cause) →
+    Laws m → IsSoundStore v s → m.fits v s p t ≡ true → replay m v images s p t ks ≡ Some now →
+    (o ≡ micro v images p now.config) ⊎ (o ≡ drop_level v now.config.now now.config.levels (suc d) why) →
+    o.said ≡ Micro.Dropped (suc d) q pt cause →
+    config_in (replay m v images s p t (fallen now ks o.effects (suc d))) ≡ Some o.config
+
+-- p's graft call is the same, as far as it can tell, in another kernel
+abbrev pub IsStable : Meaning → (k l : Kernel) → ℕ → Type 0
+IsStable m k l p = (c : Config) → config_of m k p ≡ Some c → (d : Config) × (config_of m l p ≡ Some d) × ConfigsAlike c d
+
+-- Whatever another call does or loses, the replay of a call in a graft has the same levels and the same values of what they hold.
+pub record Stability (m : Meaning) : Type 0 where
+  pub steps : (r : Run) (p q : ℕ) (c : Call) → Laws m → IsSoundKernel m r.kernel → HasWholeBlocks r.kernel.world r.blocks → p ≢ q →
+      r.kernel.call q ≡ Some c → blocker m r.kernel q ≡ None → IsStable m r.kernel (step m q r).kernel p
+  pub drops : (r : Run) (p q : ℕ) (d : Option ℕ) (cause : Cause) → Laws m → IsSoundKernel m r.kernel → HasWholeBlocks r.kernel.world r.blocks →
+      p ≢ q → IsStable m r.kernel (drop_call m q (r.kernel.call q) d cause r).kernel p
+
+-- ---- rest
+
+-- From a sound kernel, 256 steps are enough to rest, and a tick's 288 actions leave no count at its patience.
+pub record Rests (m : Meaning) : Type 0 where
+  pub settling : (r : Run) → Laws m → IsSoundKernel m r.kernel → HasWholeBlocks r.kernel.world r.blocks → IsAtRest m (settled m r).kernel
+  pub ticking : (r : Run) (number : ℕ) → Laws m → IsSoundKernel m r.kernel → HasWholeBlocks r.kernel.world r.blocks → IsAtRest m r.kernel →
+      expired (tick_event m number r).kernel (tick_event m number r).kernel.order ≡ None
+
+-- ---- the store in place
+
+-- The store in place has what a call holds exclusively as the call's replay has it, and what none holds so as it is committed.
+pub record InPlaceReads (m : Meaning) : Type 0 where
+  pub own : (k : Kernel) (p : ℕ) (c : Config) (o : Object) → IsSoundKernel m k → config_of m k p ≡ Some c →
+      is_changed_in c.levels o ≡ true → SameAt o (in_place m k) c.now
+  pub committed : (k : Kernel) (o : Object) → ((p : ℕ) → is_changed_in (levels_of m k p) o ≡ false) → SameAt o (in_place m k) k.objects
+
+-- Undoing the calls that are cut, newest records first, one call after another in any order, gives the store below the cut.
+abbrev pub UndoneIsBelow : Meaning → Type 0
+UndoneIsBelow m =
+    (k : Kernel) (cut : Cut) (ps : List ℕ) (o : Object) → Laws m → IsSoundKernel m k → ((p : ℕ) → count_of p ps ≤ 1) →
+    ((p : ℕ) → is_some (cut p) ≡ true → Contains ps p) → SameAt o (undone m k cut ps) (store_below m k cut)

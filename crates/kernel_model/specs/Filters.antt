@@ -1,0 +1,113 @@
+-- What `box`, `check`, `asm` and `dis` write about their input, and with which status they end.
+use Rattle.std.specs.Prelude.{ℕ, ◌==◌, true, false, List, [], ◌∷◌, ◌++◌, codes, Option, None, Some, Result, Ok, Err}
+use Rattle.kernel_model.specs.declared.Instr.{Instr}
+use Rattle.kernel_model.specs.Bytes.{hex_text, hex_word}
+use Rattle.kernel_model.specs.World.{Image}
+use Rattle.kernel_model.specs.Boxed.{RewriteFault, NamesReserved, JumpsOut, CallsUnknown, NoEnd, TooLong, rewrite}
+use Rattle.kernel_model.specs.Images.{LoadFault, raw_image, sealed_image, read_raw, load}
+use Rattle.kernel_model.specs.declared.AsmKind.{AsmKind}
+use Rattle.kernel_model.specs.declared.AsmKind.TheVariants.{UnknownMnemonic, BadOperands, LabelNotSet, LabelSetTwice, TooManyInstructions, BadData}
+use Rattle.kernel_model.specs.Assembler.{LineFault, assemble, disassemble}
+use Rattle.kernel_model.specs.Text.{spaced, line, load_fault_text, image_text}
+use Rattle.kernel_model.specs.Outcome.{Ending, End, Fault, Over}
+
+-- what is asked of the input
+pub data Filter : Type 0 where
+  Box : Filter
+  Check : Filter
+  Asm : Filter
+  Dis : Filter
+
+-- a status, and the bytes written
+pub record Answer : Type 0 where
+  pub status : ℕ
+  pub written : List ℕ
+
+-- an answer of this status
+abbrev pub answer : ℕ → List ℕ → Answer
+answer status written = record { status = status; written = written }
+
+-- what stands before the first newline, and what stands behind it, if there is one
+abbrev pub first_line : List ℕ → List ℕ × Option (List ℕ)
+first_line [] = ([], None)
+first_line (b ∷ bytes) = elim (b == 10) [ true ↦ ([], Some bytes) | false ↦ let r = first_line bytes in (b ∷ r.0, r.1) ]
+
+-- bytes, unless they are no hex, have no newline or have more behind it
+abbrev pub hex_by : Option (List ℕ) → Option (List ℕ) → Result (List ℕ) (List ℕ)
+hex_by None rest = Err (codes "input S2")
+hex_by (Some bytes) None = Err (codes "input S6")
+hex_by (Some bytes) (Some []) = Ok bytes
+hex_by (Some bytes) (Some (c ∷ cs)) = Err (codes "input S1")
+
+-- the bytes of one line of hex, or the text that refuses it
+abbrev pub hex_line : List ℕ → Result (List ℕ) (List ℕ)
+hex_line input = let r = first_line input in hex_by (hex_word 16777214 r.0) r.1
+
+-- why code can't be boxed
+abbrev pub rewrite_fault_text : RewriteFault → List ℕ
+rewrite_fault_text (NamesReserved pc) = codes "Register" ++ spaced pc
+rewrite_fault_text (JumpsOut pc) = codes "Jump" ++ spaced pc
+rewrite_fault_text (CallsUnknown pc) = codes "Call" ++ spaced pc
+rewrite_fault_text NoEnd = codes "End"
+rewrite_fault_text TooLong = codes "TooLarge"
+
+-- a sealed image as hex, or why the code can't be boxed
+abbrev pub boxed_answer : List ℕ → List ℕ → Result (List Instr) RewriteFault → Answer
+boxed_answer key body (Err fault) = answer 6 (line (rewrite_fault_text fault))
+boxed_answer key body (Ok code) = answer 0 (line (hex_text (sealed_image key code body)))
+
+-- what `box` answers to a raw image
+abbrev pub box_answer : List ℕ → Result Image LoadFault → Answer
+box_answer key (Err fault) = answer 6 (line (load_fault_text fault))
+box_answer key (Ok i) = boxed_answer key i.body (rewrite i.code)
+
+-- the sizes of an image, or the refusal
+abbrev pub check_answer : Result Image LoadFault → Answer
+check_answer (Err fault) = answer 6 (line (load_fault_text fault))
+check_answer (Ok i) = answer 0 (line (image_text i))
+
+-- the text of an image, or the refusal
+abbrev pub dis_answer : Result Image LoadFault → Answer
+dis_answer (Err fault) = answer 2 (line (load_fault_text fault))
+dis_answer (Ok i) = answer 0 (disassemble i)
+
+-- the code of a refused line
+abbrev pub asm_kind_text : AsmKind → List ℕ
+asm_kind_text UnknownMnemonic = codes "A1"
+asm_kind_text BadOperands = codes "A2"
+asm_kind_text LabelNotSet = codes "A3"
+asm_kind_text LabelSetTwice = codes "A4"
+asm_kind_text TooManyInstructions = codes "A5"
+asm_kind_text BadData = codes "A6"
+
+-- a line of assembler text that is refused
+abbrev pub line_fault_text : LineFault → List ℕ
+line_fault_text fault = codes "asm" ++ spaced fault.line ++ codes " " ++ asm_kind_text fault.kind
+
+-- a raw image as hex, or the refused line
+abbrev pub asm_answer : Result Image LineFault → Answer
+asm_answer (Err fault) = answer 2 (line (line_fault_text fault))
+asm_answer (Ok i) = answer 0 (line (hex_text (raw_image i.code i.body)))
+
+-- the answer to the bytes of the input
+abbrev pub bytes_answer : Filter → List ℕ → List ℕ → Answer
+bytes_answer Box key bytes = box_answer key (read_raw bytes)
+bytes_answer Check key bytes = check_answer (load key bytes)
+bytes_answer Dis key bytes = dis_answer (read_raw bytes)
+bytes_answer Asm key bytes = answer 0 []
+
+-- the answer to a line of hex
+abbrev pub hex_answer : Filter → List ℕ → Result (List ℕ) (List ℕ) → Answer
+hex_answer f key (Err text) = answer 2 (line text)
+hex_answer f key (Ok bytes) = bytes_answer f key bytes
+
+-- the answer to a whole input
+abbrev pub input_answer : Filter → List ℕ → List ℕ → Answer
+input_answer Asm key input = asm_answer (assemble input)
+input_answer f key input = hex_answer f key (hex_line input)
+
+-- the answer to an input that was taken so far and ended so
+abbrev pub filter_answer : Filter → List ℕ → List ℕ → Ending → Answer
+filter_answer f key taken End = input_answer f key taken
+filter_answer f key taken Fault = answer 3 []
+filter_answer f key taken Over = answer 7 []

@@ -1,0 +1,55 @@
+-- Runs of scripts for worked examples: an image line may be given by what its bytes load to, so that no seal is computed.
+use Rattle.std.specs.Prelude.{ℕ, suc, Bool, List, [], ◌∷◌, Option, None, Some, Result, Ok}
+use Rattle.kernel_model.specs.declared.Instr.{Instr}
+use Rattle.kernel_model.specs.declared.Op.{Op}
+use Rattle.kernel_model.specs.World.{Image}
+use Rattle.kernel_model.specs.Directory.{sample_disk}
+use Rattle.kernel_model.specs.Images.{LoadFault}
+use Rattle.kernel_model.specs.Kernel.{Kernel}
+use Rattle.kernel_model.specs.Session.{Build, whole, Session, Written, silent, first_session, image_line_run, after_line, and_then}
+use Rattle.kernel_model.specs.Outcome.{End, lines_after, outcome_of, written}
+
+-- lines as they stand, or an image line by what its bytes load to
+pub data Given : Type 0 where
+  Lines : List ℕ → Given
+  ImageLine : (slot : ℕ) → Result Image LoadFault → Given
+
+-- an instruction: its operation, a, b, c and imm
+abbrev pub ins : Op → (a b c imm : ℕ) → Instr
+ins op a b c imm = record { op = op; a = a; b = b; c = c; imm = imm }
+
+-- an image that loads
+abbrev pub image : List Instr → List ℕ → Result Image LoadFault
+image code body = Ok (record { code = code; body = body })
+
+-- an image line after `boot`
+abbrev pub image_given : Session → ℕ → Result Image LoadFault → Option Kernel → List Bool → Written
+image_given s slot loaded None io = silent s io
+image_given s slot loaded (Some k) io = image_line_run (record s { lines = suc s.lines }) slot loaded k io
+
+module _ (b : Build) (key : List ℕ) where
+  -- what lines make of a session, where one list says of all their calls of the disk whether they fail
+  abbrev pub run_lines : Session → List (List ℕ) → List Bool → Written
+  run_lines s [] io = silent s io
+  run_lines s (text ∷ texts) io =
+      let w = after_line b key sample_disk.size s text io in and_then w (run_lines w.session texts w.io)
+
+  -- what one of these makes of a session
+  abbrev pub run_one : Session → Given → List Bool → Written
+  run_one s (Lines text) io = run_lines s (lines_after [] text) io
+  run_one s (ImageLine slot loaded) io = image_given s slot loaded s.kernel io
+
+  -- what these make of a session, in order
+  abbrev pub run_all : Session → List Given → List Bool → Written
+  run_all s [] io = silent s io
+  run_all s (g ∷ gs) io = let w = run_one s g io in and_then w (run_all w.session gs w.io)
+
+  -- the status and the lines of a script over the sample disk, whose calls fail as told
+  abbrev pub run_of : List Bool → List Given → ℕ × List ℕ
+  run_of io gs =
+      let w = run_all (first_session sample_disk) gs io in
+      let o = outcome_of End w.session (w.bytes ∷ []) [] in (o.status, written o)
+
+-- the same with all that the product has
+abbrev pub given_run : List Bool → List Given → ℕ × List ℕ
+given_run io gs = run_of whole [] io gs

@@ -1,0 +1,63 @@
+-- The one store that holds what all calls in flight have done, and that store below a cut.
+use Rattle.std.specs.Prelude.{ℕ, Bool, List, [], ◌∷◌, Option, Some, None}
+use Rattle.std.specs.List.{list_any}
+use Rattle.kernel_model.specs.declared.Object.{Object}
+use Rattle.kernel_model.specs.World.{processes}
+use Rattle.kernel_model.specs.Objects.{Objects, Things, mix}
+use Rattle.kernel_model.specs.Locks.{is_held_exclusively}
+use Rattle.kernel_model.specs.Meaning.{Meaning}
+use Rattle.kernel_model.specs.Levels.{Level, Config, level_at}
+use Rattle.kernel_model.specs.UndoLog.{undo_log, undo_on, records_from}
+use Rattle.kernel_model.specs.Kernel.{Kernel}
+use Rattle.kernel_model.specs.Blocking.{config_of, levels_of}
+
+-- a cut: for some of the calls in flight a level, from which on inward what was done is left out
+abbrev pub Cut : Type 0
+Cut = (process : ℕ) → Option ℕ
+
+-- no call is cut
+abbrev pub no_cut : Cut
+no_cut p = None
+
+-- an object is held exclusively by some level
+abbrev pub is_changed_in : List Level → Object → Bool
+is_changed_in ls o = list_any (λ (l : Level). is_held_exclusively (l.touched o)) ls
+
+-- what a level found when it began, where there is one
+abbrev pub kept_of : Option Level → Things → Things
+kept_of None w = w
+kept_of (Some l) w = l.kept
+
+-- a call's working state below a cut: what the cut level found, but accounts and grafts as they are
+abbrev pub cut_state : Option ℕ → Config → Objects
+cut_state None c = c.now
+cut_state (Some d) c = record (c.now) { things = kept_of (level_at d c.levels) c.now.things }
+
+-- a state with what a call holds exclusively as it is in the call's working state below a cut
+abbrev pub over : Option Config → Option ℕ → Objects → Objects
+over None d s = s
+over (Some c) d s = mix (is_changed_in c.levels) (cut_state d c) s
+
+-- an inverse that undoes a call's levels from the cut one inward, newest first
+abbrev pub undo_cut : Option ℕ → List Level → Objects → Objects
+undo_cut None ls s = s
+undo_cut (Some d) ls s = undo_on (records_from d (undo_log ls)) s
+
+module _ (m : Meaning) where
+  -- the committed state, with what the calls of these processes have done below a cut
+  abbrev pub store_with : Kernel → Cut → List ℕ → Objects
+  store_with k cut [] = k.objects
+  store_with k cut (p ∷ ps) = over (config_of m k p) (cut p) (store_with k cut ps)
+
+  -- the store in place below a cut: each call that is cut has its objects as the cut level found them
+  abbrev pub store_below : Kernel → Cut → Objects
+  store_below k cut = store_with k cut processes
+
+  -- the store in place: the committed state, with what each call in flight holds exclusively as that call sees it
+  abbrev pub in_place : Kernel → Objects
+  in_place k = store_below k no_cut
+
+  -- the store in place once the calls of these processes are undone above a cut, the last process first
+  abbrev pub undone : Kernel → Cut → List ℕ → Objects
+  undone k cut [] = in_place k
+  undone k cut (p ∷ ps) = undo_cut (cut p) (levels_of m k p) (undone k cut ps)

@@ -1,0 +1,186 @@
+-- The levels of a graft call: how one begins, how its answer goes to its asker, and how one is dropped.
+use Rattle.std.specs.Prelude.{ℕ, ◌+◌, ◌*◌, Bool, true, false, ◌==◌, List, [], ◌∷◌, Option, Some, None, length, slice_get}
+use Rattle.kernel_model.specs.declared.Object.{Object}
+use Rattle.kernel_model.specs.declared.Mode.{Mode}
+use Rattle.kernel_model.specs.declared.Kind.{Kind}
+use Rattle.kernel_model.specs.declared.Need.{Need}
+use Rattle.kernel_model.specs.declared.Cause.{Cause}
+use Rattle.kernel_model.specs.declared.Micro.{Micro}
+use Rattle.kernel_model.specs.declared.Inverse.{Inverse}
+use Rattle.kernel_model.specs.declared.Instr.{Instr}
+use Rattle.kernel_model.specs.Objects.{Objects, Things, Accounts, GraftValue, at}
+use Rattle.kernel_model.specs.World.{World, Image, ImageTable}
+use Rattle.kernel_model.specs.Machine.{Machine, first_machine, segment_base}
+use Rattle.kernel_model.specs.Policies.{PointKind, Ahead, Victim, Next, kind_of, default_of, or_zero}
+use Rattle.kernel_model.specs.Locks.{Touched, touch, touch_all, untouched}
+use Rattle.kernel_model.specs.Charges.{removed}
+
+-- ---- levels, configs, outcomes
+
+-- a level of a graft call
+pub record Level : Type 0 where
+  -- the installer and the point of its graft
+  pub owner : ℕ
+  pub point : ℕ
+  pub machine : Machine
+  -- how many instructions it has taken
+  pub count : ℕ
+  -- how it holds each object
+  pub touched : Touched
+  -- the arguments that it was given
+  pub args : List ℕ
+  -- what its changing accessors found, newest first
+  pub records : List Inverse
+  -- the objects as it found them when it began, accounts and grafts apart
+  pub kept : Things
+
+-- a graft call: the working state and the levels, innermost first
+pub record Config : Type 0 where
+  pub now : Objects
+  pub levels : List Level
+
+-- what an instruction, or a drop, does beyond its level: it asked a point, was charged, or lost a graft
+pub data Effect : Type 0 where
+  Asked : (point : ℕ) → Effect
+  Charged : (point : ℕ) → Kind → Effect
+  Removed : (point : ℕ) → Effect
+
+-- what one instruction, or the drop of a level, comes to: what is said of it, the config after it, its effects in order
+pub record Outcome : Type 0 where
+  pub said : Micro
+  pub config : Config
+  pub effects : List Effect
+
+-- the call goes on so
+abbrev pub goes_on : Objects → List Level → Outcome
+goes_on w ls = record { said = Micro.Went; config = record { now = w; levels = ls }; effects = [] }
+
+-- an effect before those of an outcome
+abbrev pub with_effect : Effect → Outcome → Outcome
+with_effect e r = record r { effects = e ∷ r.effects }
+
+-- the outcome of a call that goes on
+abbrev pub is_going_on : Micro → Bool
+is_going_on Micro.Went = true
+is_going_on _ = false
+
+-- ---- a level begins
+
+-- the image of a graft
+abbrev pub image_of : ImageTable → Option GraftValue → Option Image
+image_of images None = None
+image_of images (Some g) = images g.image
+
+-- the code of an image
+abbrev pub code_in : Option Image → List Instr
+code_in None = []
+code_in (Some i) = i.code
+
+-- the data bytes of an image
+abbrev pub body_in : Option Image → List ℕ
+body_in None = []
+body_in (Some i) = i.body
+
+-- the code of the graft at (q, pt)
+abbrev pub code_of : ImageTable → Accounts → (q pt : ℕ) → List Instr
+code_of images w q pt = code_in (image_of images (w.graft q pt))
+
+-- the data bytes of the graft at (q, pt)
+abbrev pub body_of : ImageTable → Accounts → (q pt : ℕ) → List ℕ
+body_of images w q pt = body_in (image_of images (w.graft q pt))
+
+-- the limit of a graft
+abbrev pub limit_in : Option GraftValue → ℕ
+limit_in None = 0
+limit_in (Some g) = g.limit
+
+-- the base of the segment of level d of a call of process p
+abbrev pub base_of : (p d : ℕ) → ℕ
+base_of p d = segment_base (4 * p + d)
+
+-- A level of process p at this depth that has just begun, on a state, with the objects that it holds. A segment that is kept
+-- between calls would begin with its kept bytes here.
+abbrev pub new_level : ImageTable → Objects → (p d q pt : ℕ) → List ℕ → Touched → Level
+new_level images w p d q pt args touched =
+    record {
+      owner = q;
+      point = pt;
+      machine = first_machine (base_of p d) args (λ i. or_zero (slice_get (body_of images w.accounts q pt) i));
+      count = 0;
+      touched = touched;
+      args = args;
+      records = [];
+      kept = w.things;
+    }
+
+-- ---- the levels changed
+
+-- a level with this machine
+abbrev pub with_machine : Machine → Level → Level
+with_machine m l = record l { machine = m }
+
+-- a level that touched these objects as well
+abbrev pub with_touched : List Need → Level → Level
+with_touched ns l = record l { touched = touch_all ns l.touched }
+
+-- level 0 touches one more object
+abbrev pub touch_outermost : Object → List Level → List Level
+touch_outermost o [] = []
+touch_outermost o (l ∷ []) = record l { touched = touch o Mode.Exclusive l.touched } ∷ []
+touch_outermost o (l ∷ k ∷ ls) = l ∷ touch_outermost o (k ∷ ls)
+
+-- how level 0 holds an object
+abbrev pub outermost_touched : List Level → Touched
+outermost_touched [] = untouched
+outermost_touched (l ∷ []) = l.touched
+outermost_touched (l ∷ k ∷ ls) = outermost_touched (k ∷ ls)
+
+-- level d, counted from the outermost
+abbrev pub level_at : ℕ → List Level → Option Level
+level_at d [] = None
+level_at d (l ∷ ls) = elim (length ls == d) [ true ↦ Some l | false ↦ level_at d ls ]
+
+-- how a level holds objects, where there is one
+abbrev pub touched_in : Option Level → Touched
+touched_in None = untouched
+touched_in (Some l) = l.touched
+
+-- how level d holds objects
+abbrev pub touched_at : List Level → ℕ → Touched
+touched_at ls d = touched_in (level_at d ls)
+
+-- the answer of a nested ask goes to its asker: r0, and for reading ahead r1 too
+abbrev pub answered : PointKind → (r0 r1 : ℕ) → Machine → Machine
+answered Ahead r0 r1 m = record { regs = at 1 r1 (at 0 r0 m.regs); pc = m.pc; memory = m.memory }
+answered Victim r0 r1 m = record { regs = at 0 r0 m.regs; pc = m.pc; memory = m.memory }
+answered Next r0 r1 m = record { regs = at 0 r0 m.regs; pc = m.pc; memory = m.memory }
+
+-- the innermost level gets the answer of the point that it asked
+abbrev pub answer_innermost : (pt r0 r1 : ℕ) → List Level → List Level
+answer_innermost pt r0 r1 [] = []
+answer_innermost pt r0 r1 (l ∷ ls) = with_machine (answered (kind_of pt) r0 r1 l.machine) l ∷ ls
+
+-- ---- a drop
+
+-- The state after the drop of a level: all is as the level found it, but for accounts and grafts, of which its own is taken out.
+abbrev pub state_without : Level → Objects → Objects
+state_without l w = record { accounts = removed l.owner l.point w.accounts; things = l.kept }
+
+-- the levels outside a dropped one, of which the innermost gets the default answer on the state after the drop
+abbrev pub asker_of : World → Level → Things → List Level → List Level
+asker_of v l w ls = let d = default_of v w l.owner l.point in answer_innermost l.point d.0 d.1 ls
+
+-- the drop of level l, those further inward being gone; ls are the levels outside it
+abbrev pub drop_innermost : World → Objects → Level → List Level → Cause → Outcome
+drop_innermost v w l ls cause =
+    record {
+      said = Micro.Dropped (length ls) l.owner l.point cause;
+      config = record { now = state_without l w; levels = asker_of v l l.kept ls };
+      effects = Removed l.point ∷ [];
+    }
+
+-- the drop of level d, counted from the outermost: those further inward end with it
+abbrev pub drop_level : World → Objects → List Level → ℕ → Cause → Outcome
+drop_level v w [] d cause = goes_on w []
+drop_level v w (l ∷ ls) d cause =
+    elim (length ls == d) [ true ↦ drop_innermost v w l ls cause | false ↦ drop_level v w ls d cause ]

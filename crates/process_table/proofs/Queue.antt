@@ -1,0 +1,184 @@
+-- Lemmas on the rows of the queue.
+use Rattle.std.proofs.Common.{◌≡◌, ℕ, zero, suc, ◌+◌, ◌<◌, ◌≤◌, Bool, true, false, Some, None, List, [], ◌∷◌, ◌++◌, length, filter, not, ◌&&◌, ◌==◌, nat_le, refl, arith, subst, sym, ◌∙◌, add-one, length-append, get_or, All}
+use Rattle.std.specs.List.{list_all}
+use Rattle.std.proofs.lemmas.Bool.Decides.{nat_tests}
+use Rattle.std.proofs.lemmas.List.Elements.{filter-append}
+use Rattle.std.proofs.lemmas.List.Folds.{list_any-append, list_all-append}
+use Rattle.kernel_model.specs.declared.QueueRow.{QueueRow}
+use Rattle.kernel_model.specs.Queue.{is_living, free_number, IsLeastFree, new_row, queue_without, queue_to_back, with_nice, with_slice, slices_of}
+use Rattle.process_table.specs.Processes.{IsQueue}
+use Rattle.process_table.proofs.Lists.{length-below}
+
+-- ---- the least number that isn't living
+
+-- a living number is passed over
+pub free_number-living : (rows : List QueueRow) (n m p q : ℕ) → n ≡ suc m → q ≡ p + 1 → is_living p rows ≡ true → free_number rows n p ≡ free_number rows m q
+unfolding free_number
+free_number-living rows n m p q e f h =
+    rw (e, f, add-one) (subst (λ (b : Bool). elim b [ true ↦ free_number rows m (suc p) | false ↦ Some p ] ≡ free_number rows m (suc p)) (sym h) refl)
+
+-- a number that isn't living is the answer
+pub free_number-free : (rows : List QueueRow) (n p : ℕ) → 0 < n → is_living p rows ≡ false → free_number rows n p ≡ Some p
+unfolding free_number
+free_number-free rows zero p some h = absurd (omega arith)
+free_number-free rows (suc m) p some h =
+    subst (λ (b : Bool). elim b [ true ↦ free_number rows m (suc p) | false ↦ Some p ] ≡ Some p) (sym h) refl
+
+-- no number is left
+pub free_number-none : (rows : List QueueRow) (n p : ℕ) → n ≡ 0 → free_number rows n p ≡ None
+unfolding free_number
+free_number-none rows n p e = rw e refl
+
+-- ---- the rows of one process
+
+-- the rows of a process
+abbrev pub rows_of : ℕ → List QueueRow → List QueueRow
+rows_of p rows = filter (λ (r : QueueRow). r.process == p) rows
+
+-- a process that isn't living has no row
+pub rows_of-gone : (p : ℕ) (rows : List QueueRow) → is_living p rows ≡ false → length (rows_of p rows) ≡ 0
+rows_of-gone p [] h = refl
+rows_of-gone p (r ∷ rows) h = grind (arith, nat_tests, rows_of-gone p rows)
+
+-- the rows of a process and the others are all rows
+pub length-parted : (p : ℕ) (rows : List QueueRow) → length (queue_without p rows) + length (rows_of p rows) ≡ length rows
+length-parted p [] = refl
+length-parted p (r ∷ rows) = grind (arith, nat_tests, length-parted p rows)
+
+-- ---- room
+
+-- where a number isn't living, fewer than 16 live
+pub length-free : (rows : List QueueRow) (c : ℕ) → IsQueue rows → IsLeastFree rows c → length rows < 16
+length-free rows c h free =
+    let none : length (filter (λ (r : QueueRow). r.process == c) rows) < 1 = grind (arith, rows_of-gone c rows free.free) in
+    length-below (λ (r : QueueRow). r.process) rows 0 16 1 c (λ k some. (omega arith, omega (arith, h.below k some))) h.once (omega arith) free.below none
+
+-- ---- without a process
+
+pub living-without : (q p : ℕ) (rows : List QueueRow) → is_living q (queue_without p rows) ≡ (not (q == p) && is_living q rows)
+living-without q p [] = grind (arith, nat_tests)
+living-without q p (r ∷ rows) = grind (arith, nat_tests, living-without q p rows)
+
+pub rows_of-without : (q p : ℕ) (rows : List QueueRow) → length (rows_of q (queue_without p rows)) ≤ length (rows_of q rows)
+rows_of-without q p [] = omega arith
+rows_of-without q p (r ∷ rows) = grind (arith, nat_tests, rows_of-without q p rows)
+
+pub nices-filter : (test : QueueRow → Bool) (rows : List QueueRow) → list_all (λ (r : QueueRow). nat_le r.nice 39) rows ≡ true → list_all (λ (r : QueueRow). nat_le r.nice 39) (filter test rows) ≡ true
+nices-filter test [] h = refl
+nices-filter test (r ∷ rows) h = grind (arith, nat_tests, nices-filter test rows)
+
+-- ---- to the back
+
+pub living-of : (q p : ℕ) (rows : List QueueRow) → is_living q (rows_of p rows) ≡ (q == p && is_living q rows)
+living-of q p [] = grind (arith, nat_tests)
+living-of q p (r ∷ rows) = grind (arith, nat_tests, living-of q p rows)
+
+pub living-to_back : (q p : ℕ) (rows : List QueueRow) → is_living q (queue_to_back p rows) ≡ is_living q rows
+living-to_back q p rows =
+    grind (arith, nat_tests, list_any-append (λ (r : QueueRow). r.process == q) (queue_without p rows) (rows_of p rows), living-without q p rows, living-of q p rows)
+
+pub rows_of-parted : (q p : ℕ) (rows : List QueueRow) → length (rows_of q (queue_without p rows)) + length (rows_of q (rows_of p rows)) ≡ length (rows_of q rows)
+rows_of-parted q p [] = refl
+rows_of-parted q p (r ∷ rows) = grind (arith, nat_tests, rows_of-parted q p rows)
+
+pub rows_of-append : (q : ℕ) (xs ys : List QueueRow) → length (rows_of q (xs ++ ys)) ≡ length (rows_of q xs) + length (rows_of q ys)
+rows_of-append q xs ys = rw filter-append (length-append (rows_of q xs) (rows_of q ys))
+
+-- ---- with changed rows
+
+pub living-nice : (q p v : ℕ) (rows : List QueueRow) → is_living q (with_nice p v rows) ≡ is_living q rows
+living-nice q p v [] = refl
+living-nice q p v (r ∷ rows) = grind (arith, nat_tests, living-nice q p v rows)
+
+pub rows_of-nice : (q p v : ℕ) (rows : List QueueRow) → length (rows_of q (with_nice p v rows)) ≡ length (rows_of q rows)
+rows_of-nice q p v [] = refl
+rows_of-nice q p v (r ∷ rows) = grind (arith, nat_tests, rows_of-nice q p v rows)
+
+pub nices-nice : (p v : ℕ) (rows : List QueueRow) → v ≤ 39 → list_all (λ (r : QueueRow). nat_le r.nice 39) rows ≡ true → list_all (λ (r : QueueRow). nat_le r.nice 39) (with_nice p v rows) ≡ true
+nices-nice p v [] le h = refl
+nices-nice p v (r ∷ rows) le h = grind (arith, nat_tests, nices-nice p v rows)
+
+pub living-slice : (q p : ℕ) (rows : List QueueRow) → is_living q (with_slice p rows) ≡ is_living q rows
+living-slice q p [] = refl
+living-slice q p (r ∷ rows) = grind (arith, nat_tests, living-slice q p rows)
+
+pub rows_of-slice : (q p : ℕ) (rows : List QueueRow) → length (rows_of q (with_slice p rows)) ≡ length (rows_of q rows)
+rows_of-slice q p [] = refl
+rows_of-slice q p (r ∷ rows) = grind (arith, nat_tests, rows_of-slice q p rows)
+
+pub nices-slice : (p : ℕ) (rows : List QueueRow) → list_all (λ (r : QueueRow). nat_le r.nice 39) rows ≡ true → list_all (λ (r : QueueRow). nat_le r.nice 39) (with_slice p rows) ≡ true
+nices-slice p [] h = refl
+nices-slice p (r ∷ rows) h = grind (arith, nat_tests, nices-slice p rows)
+
+-- ---- the queue stays one
+
+pub opening-queue : IsQueue (new_row 0 ∷ [])
+opening-queue = record {
+  once = λ p. grind (arith, nat_tests);
+  below = λ p h. grind (arith, nat_tests);
+  nices = refl;
+  root = refl;
+}
+
+pub spawned-queue : (c : ℕ) (rows : List QueueRow) → c < 16 → is_living c rows ≡ false → IsQueue rows → IsQueue (rows ++ new_row c ∷ [])
+spawned-queue c rows lt free h = record {
+  once = λ p. grind (arith, nat_tests, rows_of-append p rows (new_row c ∷ []), rows_of-gone c rows free, h.once p);
+  below = λ p living. grind (arith, nat_tests, list_any-append (λ (r : QueueRow). r.process == p) rows (new_row c ∷ []), h.below p);
+  nices = rw list_all-append (grind (arith, nat_tests, h.nices));
+  root = rw list_any-append (grind (arith, nat_tests, h.root));
+}
+
+-- whoever lived before a process joined lives
+pub living-spawned : (q c : ℕ) (rows : List QueueRow) → is_living q rows ≡ true → is_living q (rows ++ new_row c ∷ []) ≡ true
+living-spawned q c rows h = grind (arith, nat_tests, list_any-append (λ (r : QueueRow). r.process == q) rows (new_row c ∷ []))
+
+pub without-queue : (p : ℕ) (rows : List QueueRow) → 0 < p → IsQueue rows → IsQueue (queue_without p rows)
+without-queue p rows pos h = record {
+  once = λ q. grind (arith, rows_of-without q p rows, h.once q);
+  below = λ q living. grind (arith, nat_tests, living-without q p rows, h.below q);
+  nices = nices-filter (λ (r : QueueRow). not (r.process == p)) rows h.nices;
+  root = grind (arith, nat_tests, living-without 0 p rows, h.root);
+}
+
+pub to_back-queue : (p : ℕ) (rows : List QueueRow) → IsQueue rows → IsQueue (queue_to_back p rows)
+to_back-queue p rows h = record {
+  once = λ q. grind (arith, rows_of-append q (queue_without p rows) (rows_of p rows), rows_of-parted q p rows, h.once q);
+  below = λ q living. h.below q (sym (living-to_back q p rows) ∙ living);
+  nices =
+      rw list_all-append (rw (nices-filter (λ (r : QueueRow). not (r.process == p)) rows h.nices, nices-filter (λ (r : QueueRow). r.process == p) rows h.nices) refl);
+  root = living-to_back 0 p rows ∙ h.root;
+}
+
+pub nice-queue : (p v : ℕ) (rows : List QueueRow) → v ≤ 39 → IsQueue rows → IsQueue (with_nice p v rows)
+nice-queue p v rows le h = record {
+  once = λ q. grind (arith, rows_of-nice q p v rows, h.once q);
+  below = λ q living. h.below q (sym (living-nice q p v rows) ∙ living);
+  nices = nices-nice p v rows le h.nices;
+  root = living-nice 0 p v rows ∙ h.root;
+}
+
+pub slice-queue : (p : ℕ) (rows : List QueueRow) → IsQueue rows → IsQueue (with_slice p rows)
+slice-queue p rows h = record {
+  once = λ q. grind (arith, rows_of-slice q p rows, h.once q);
+  below = λ q living. h.below q (sym (living-slice q p rows) ∙ living);
+  nices = nices-slice p rows h.nices;
+  root = living-slice 0 p rows ∙ h.root;
+}
+
+-- ---- the slices of a process
+
+-- a process without rows has no slices to count
+below-none : (p n : ℕ) (rows : List QueueRow) → length (rows_of p rows) < 1 → All (λ (r : QueueRow). r.process ≡ p → r.slices < n) rows
+below-none p n [] none k d lt = absurd (omega arith)
+below-none p n (r ∷ rows) none zero d lt = λ is. grind (arith, nat_tests)
+below-none p n (r ∷ rows) none (suc k) d lt = below-none p n rows (grind (arith, nat_tests)) k d (omega arith)
+
+-- the slices of a process that has one row are those of each of its rows
+pub below-slices : (p n : ℕ) (rows : List QueueRow) → length (rows_of p rows) ≤ 1 → slices_of p rows < n → All (λ (r : QueueRow). r.process ≡ p → r.slices < n) rows
+below-slices p n [] once few k d lt = absurd (omega arith)
+below-slices p n (r ∷ rows) once few zero d lt = λ is. grind (arith, nat_tests)
+below-slices p n (r ∷ rows) once few (suc k) d lt =
+    elim (r.process == p) as (λ b. (r.process == p) ≡ b → (get_or rows k d).process ≡ p → (get_or rows k d).slices < n) [
+      | true ↦ λ e. below-none p n rows (grind (arith, nat_tests)) k d (omega arith)
+      | false ↦ λ e. below-slices p n rows (grind (arith, nat_tests)) (grind (arith, nat_tests)) k d (omega arith)
+    ] refl

@@ -1,0 +1,140 @@
+-- Lemmas on the arrays: what always holds of them stays.
+use Rattle.std.proofs.Common.{◌≡◌, ◌≢◌, ℕ, ◌+◌, ◌*◌, ◌<◌, true, cond, Option, None, List, [], ◌∷◌, length, filter, map, not, ◌==◌, get_or, set, refl, arith, ◌∙◌, IfSome}
+use Rattle.std.proofs.lemmas.Bool.Decides.{nat_tests}
+use Rattle.std.proofs.lemmas.Grind.{common_steps}
+use Rattle.std.proofs.lemmas.List.{get_or-set_same, get_or-set_other}
+use Rattle.std.proofs.Math.ListN.{length-set, get_or-map}
+use Rattle.kernel_model.specs.declared.QueueRow.{QueueRow}
+use Rattle.kernel_model.specs.declared.OpenRow.{OpenRow}
+use Rattle.kernel_model.specs.Queue.{is_living, new_row, queue_without, freed_by}
+use Rattle.process_table.specs.Processes.{Table, IsTable, IsQueue, AreHandlers, is_of}
+use Rattle.process_table.proofs.Queue.{opening-queue, without-queue, living-without}
+use Rattle.process_table.proofs.Handlers.{filtered}
+
+-- the queue changes, and whoever lived lives
+pub requeued : (t : Table) (rows : List QueueRow) → IsTable t → IsQueue rows → ((q : ℕ) → is_living q t.queue ≡ true → is_living q rows ≡ true)
+    → IsTable (record t { queue = rows })
+requeued t rows h queue lives = record {
+  cells = h.cells;
+  files = h.files;
+  holders = h.holders;
+  sound = record {
+    queue = queue;
+    cells = λ p k dead. h.sound.cells p k (grind (arith, lives p));
+    files = λ p fd dead. h.sound.files p fd (grind (arith, lives p));
+    locks = λ u p held. lives p (h.sound.locks u p held);
+    handlers = h.sound.handlers;
+  };
+}
+
+-- the handlers change
+pub handled : (t : Table) (hs : List (ℕ × ℕ)) → IsTable t → AreHandlers hs → IsTable (record t { handlers = hs })
+handled t hs h are = record {
+  cells = h.cells;
+  files = h.files;
+  holders = h.holders;
+  sound = record { queue = h.sound.queue; cells = h.sound.cells; files = h.sound.files; locks = h.sound.locks; handlers = are };
+}
+
+-- a cell of a living process changes
+pub with_cell : (t : Table) (p k v : ℕ) → k < 4 → is_living p t.queue ≡ true → IsTable t → IsTable (record t { cells = set t.cells (4 * p + k) v })
+with_cell t p k v lt lives h = record {
+  cells = length-set t.cells (4 * p + k) v ∙ h.cells;
+  files = h.files;
+  holders = h.holders;
+  sound = record {
+    queue = h.sound.queue;
+    cells = λ q l dead.
+        let other : q ≢ p = λ e. grind (arith, lives, dead) in
+        grind (arith, nat_tests, h.sound.cells q l dead, get_or-set_other t.cells (4 * p + k) (4 * q + l) v 0);
+    files = h.sound.files;
+    locks = h.sound.locks;
+    handlers = h.sound.handlers;
+  };
+}
+
+-- a descriptor changes, and an open file is that of a living process
+pub with_file : (t : Table) (p fd : ℕ) (row : Option OpenRow) → p < 16 → fd < 4 → IfSome row (λ _. is_living p t.queue ≡ true) → IsTable t
+    → IsTable (record t { files = set t.files (4 * p + fd) row })
+with_file t p fd row le lt lives h = record {
+  cells = h.cells;
+  files = length-set t.files (4 * p + fd) row ∙ h.files;
+  holders = h.holders;
+  sound = record {
+    queue = h.sound.queue;
+    cells = h.sound.cells;
+    files = λ q l dead.
+        grind (
+          arith,
+          nat_tests,
+          h.files,
+          lives,
+          dead,
+          h.sound.files q l dead,
+          get_or-set_other t.files (4 * p + fd) (4 * q + l) row None,
+          get_or-set_same t.files (4 * p + fd) row None,
+        );
+    locks = h.sound.locks;
+    handlers = h.sound.handlers;
+  };
+}
+
+-- a lock changes, and a holder lives
+pub with_holder : (t : Table) (u : ℕ) (p : Option ℕ) → u < 16 → IfSome p (λ q. is_living q t.queue ≡ true) → IsTable t
+    → IsTable (record t { holders = set t.holders u p })
+with_holder t u p lt lives h = record {
+  cells = h.cells;
+  files = h.files;
+  holders = length-set t.holders u p ∙ h.holders;
+  sound = record {
+    queue = h.sound.queue;
+    cells = h.sound.cells;
+    files = h.sound.files;
+    locks = λ w q held.
+        grind (arith, nat_tests, h.holders, lives, held, h.sound.locks w q, get_or-set_other t.holders u w p None, get_or-set_same t.holders u p None);
+    handlers = h.sound.handlers;
+  };
+}
+
+-- a process that isn't root leaves
+pub left : (t : Table) (p : ℕ) (cells : List ℕ) (files : List (Option OpenRow)) → 0 < p → length cells ≡ 64 → length files ≡ 64
+    → ((i : ℕ) → get_or cells i 0 ≡ cond (is_of p i) 0 (get_or t.cells i 0)) → ((i : ℕ) → get_or files i None ≡ cond (is_of p i) None (get_or t.files i None))
+    → IsTable t
+    → IsTable (record {
+      queue = queue_without p t.queue;
+      cells = cells;
+      files = files;
+      holders = map (freed_by p) t.holders;
+      handlers = filter (λ (h : ℕ × ℕ). not (h.0 == p)) t.handlers;
+    })
+left t p cells files pos long wide cleared closed h = record {
+  cells = long;
+  files = wide;
+  holders = grind (arith, common_steps, h.holders);
+  sound = record {
+    queue = without-queue p t.queue pos h.sound.queue;
+    cells = λ q k dead. grind (arith, nat_tests, cleared (4 * q + k), h.sound.cells q k, living-without q p t.queue);
+    files = λ q fd dead. grind (arith, nat_tests, closed (4 * q + fd), h.sound.files q fd, living-without q p t.queue);
+    locks = λ u q held.
+        let freed = get_or-map (freed_by p) t.holders u None in
+        grind (arith, nat_tests, h.sound.locks u q, living-without q p t.queue);
+    handlers = filtered (λ (x : ℕ × ℕ). not (x.0 == p)) t.handlers h.sound.handlers;
+  };
+}
+
+-- process 0 lives alone
+pub opened : (cells : List ℕ) (files : List (Option OpenRow)) (holders : List (Option ℕ)) → length cells ≡ 64 → length files ≡ 64 → length holders ≡ 16
+    → ((i : ℕ) → get_or cells i 0 ≡ 0) → ((i : ℕ) → get_or files i None ≡ None) → ((u : ℕ) → get_or holders u None ≡ None)
+    → IsTable (record { queue = new_row 0 ∷ []; cells = cells; files = files; holders = holders; handlers = [] })
+opened cells files holders a b d zeros closed free = record {
+  cells = a;
+  files = b;
+  holders = d;
+  sound = record {
+    queue = opening-queue;
+    cells = λ p k dead. grind (arith, nat_tests, zeros (4 * p + k));
+    files = λ p fd dead. grind (arith, nat_tests, closed (4 * p + fd));
+    locks = λ u p held. grind (arith, free u, held);
+    handlers = record { once = λ q pt. omega arith; points = refl; most = λ pt. omega arith };
+  };
+}

@@ -1,0 +1,5 @@
+use Rattle.process_table.proofs.Lists.{get_or-replicate}
+use Rattle.process_table.proofs.arrays.zero_cells.Goals as goal
+
+pub returns-clause-value : goal.returns-clause-value
+returns-clause-value c = λ i. get_or-replicate 64 i _

@@ -1,0 +1,272 @@
+//! The work on each array, as functions over plain lists.
+
+ghost use Rattle.std.specs.Prelude.{◌≡◌, ℕ, ◌+◌, ◌*◌, ◌<◌, ◌≤◌, ◌==◌, true, cond, not, length, map, filter, All, IfSome, IfNone, slice_index, slice_index_or, None, [], ◌∷◌, ◌++◌};
+ghost use Rattle.std.specs.List.{list_any};
+ghost use Rattle.kernel_model.specs.declared.QueueRow.{QueueRow as Row};
+ghost use Rattle.kernel_model.specs.Queue.{is_living, free_number, IsLeastFree, new_row, queue_without, queue_to_back, with_nice, with_slice, freed_by, is_handler, handlers_at, handlers_without, has_room};
+ghost use Rattle.process_table.specs.Processes.{is_of};
+
+use arrayvec::ArrayVec;
+use kernel_model::{OpenRow, PROCESSES, QueueRow};
+
+/// The cells and the descriptors of a process.
+pub(crate) const EACH: usize = 4;
+
+/// The cells and the descriptors of all processes.
+pub(crate) const NUMBERS: usize = 64;
+
+/// The user locks.
+pub(crate) const LOCKS: usize = 16;
+
+/// A process that has just joined, as number 0.
+const NEW: QueueRow = QueueRow {
+    process: 0,
+    nice: 20,
+    slices: 0,
+};
+
+/// The handlers that there may be: 8 at each of 8 points.
+pub(crate) const HANDLERS: usize = 64;
+
+/// The most handlers at one point.
+const HANDLERS_AT_POINT: usize = 8;
+
+/// Whether a process stands in the queue.
+pub(crate) fn is_listed(rows: &[QueueRow], p: u8) -> bool
+    ensures { result ≡ is_living p rows.now }
+{
+    rows.iter().any(|r| r.process == p)
+}
+
+/// The least number that isn't living.
+pub(crate) fn least_free(rows: &[QueueRow]) -> Option<u8>
+    ensures number { result ≡ free_number rows.now 16 0 }
+    ensures least { IfSome result (λ c. IsLeastFree rows.now c) }
+    ensures full { IfNone result ((q : ℕ) → q < 16 → is_living q rows.now ≡ true) }
+{
+    for p in 0..PROCESSES as u8 {
+        if !is_listed(rows, p) {
+            return Some(p);
+        }
+    }
+    None
+}
+
+/// Takes a process out of the queue.
+pub(crate) fn take_out(rows: &mut ArrayVec<QueueRow, PROCESSES>, p: u8)
+    ensures { rows.new.items ≡ queue_without p rows.old.items }
+{
+    rows.retain(|r| r.process != p);
+}
+
+/// A process joins at the back of the queue.
+pub(crate) fn join(rows: &mut ArrayVec<QueueRow, PROCESSES>, process: u8)
+    requires { length rows.old.items < 16 }
+    ensures { rows.new.items ≡ rows.old.items ++ new_row process ∷ [] }
+{
+    rows.push(QueueRow { process, ..NEW });
+}
+
+/// Puts rows at the back.
+fn append(rows: &mut ArrayVec<QueueRow, PROCESSES>, more: &[QueueRow])
+    requires { length rows.old.items + length more.now ≤ 16 }
+    ensures { rows.new.items ≡ rows.old.items ++ more.now }
+{
+    let _ = rows.try_extend_from_slice(more);
+}
+
+/// The rows of a process.
+fn rows_of(rows: &[QueueRow], p: u8) -> ArrayVec<QueueRow, PROCESSES>
+    requires { length rows.now ≤ 16 }
+    ensures { result.items ≡ filter (λ (r : Row). r.process == p) rows.now }
+{
+    let mut of = ArrayVec::new();
+    append(&mut of, rows);
+    of.retain(|r| r.process == p);
+    of
+}
+
+/// Moves a process to the back of the queue.
+pub(crate) fn move_back(rows: &mut ArrayVec<QueueRow, PROCESSES>, p: u8)
+    ensures { rows.new.items ≡ queue_to_back p rows.old.items }
+{
+    let moved = rows_of(rows.as_slice(), p);
+    take_out(rows, p);
+    append(rows, moved.as_slice());
+}
+
+/// The queue of process 0 alone.
+pub(crate) fn first_queue() -> ArrayVec<QueueRow, PROCESSES>
+    ensures { result.items ≡ new_row 0 ∷ [] }
+{
+    let mut rows = ArrayVec::new();
+    join(&mut rows, 0);
+    rows
+}
+
+/// Cells of 0.
+pub(crate) fn zero_cells() -> [u32; NUMBERS]
+    ensures value { (i : ℕ) → slice_index result i ≡ 0 }
+    ensures len { length result ≡ 64 }
+{
+    [0; NUMBERS]
+}
+
+/// Descriptors where no file is open.
+pub(crate) fn closed_files() -> [Option<OpenRow>; NUMBERS]
+    ensures value { (i : ℕ) → slice_index_or result i None ≡ None }
+    ensures len { length result ≡ 64 }
+{
+    [None; NUMBERS]
+}
+
+/// Locks that nobody holds.
+pub(crate) fn free_holders() -> [Option<u8>; LOCKS]
+    ensures value { (u : ℕ) → slice_index_or result u None ≡ None }
+    ensures len { length result ≡ 16 }
+{
+    [None; LOCKS]
+}
+
+/// A row with another nice, if it is that of the process.
+fn row_with_nice(row: QueueRow, p: u8, v: u8) -> QueueRow
+    ensures { result ≡ cond (row.process == p) (record row { nice = v }) row }
+{
+    if row.process == p {
+        QueueRow { nice: v, ..row }
+    } else {
+        row
+    }
+}
+
+/// Gives a process another nice.
+fn put_nice(rows: &mut [QueueRow], p: u8, v: u8)
+    ensures { rows.new ≡ with_nice p v rows.old }
+{
+    for row in rows.iter_mut() {
+        *row = row_with_nice(*row, p, v);
+    }
+}
+
+/// Gives a process of the queue another nice.
+pub(crate) fn change_nice(rows: &mut ArrayVec<QueueRow, PROCESSES>, p: u8, v: u8)
+    ensures { rows.new.items ≡ with_nice p v rows.old.items }
+{
+    put_nice(rows.as_mut_slice(), p, v);
+}
+
+/// A row with one slice more, if it is that of the process.
+fn row_with_slice(row: QueueRow, p: u8) -> QueueRow
+    requires { row.process ≡ p → row.slices < 4294967295 }
+    ensures { result ≡ cond (row.process == p) (record row { slices = row.slices + 1 }) row }
+{
+    if row.process == p {
+        QueueRow {
+            slices: row.slices + 1,
+            ..row
+        }
+    } else {
+        row
+    }
+}
+
+/// Gives a process one slice more.
+fn count_slice(rows: &mut [QueueRow], p: u8)
+    requires { All (λ (r : Row). r.process ≡ p → r.slices < 4294967295) rows.old }
+    ensures { rows.new ≡ with_slice p rows.old }
+{
+    for row in rows.iter_mut() {
+        *row = row_with_slice(*row, p);
+    }
+}
+
+/// Gives a process of the queue one slice more.
+pub(crate) fn raise_slices(rows: &mut ArrayVec<QueueRow, PROCESSES>, p: u8)
+    requires { All (λ (r : Row). r.process ≡ p → r.slices < 4294967295) rows.old.items }
+    ensures { rows.new.items ≡ with_slice p rows.old.items }
+{
+    count_slice(rows.as_mut_slice(), p);
+}
+
+/// Makes the cells of a process 0.
+pub(crate) fn clear_cells(cells: &mut [u32], p: u8)
+    requires { 4 * p + 4 ≤ length cells.old }
+    ensures { (i : ℕ) → slice_index cells.new i ≡ cond (is_of p i) 0 (slice_index cells.old i) }
+{
+    for k in 0..EACH {
+        cells[EACH * p as usize + k] = 0;
+    }
+}
+
+/// Closes the files of a process.
+pub(crate) fn close_files(files: &mut [Option<OpenRow>], p: u8)
+    requires { 4 * p + 4 ≤ length files.old }
+    ensures { (i : ℕ) → slice_index_or files.new i None ≡ cond (is_of p i) None (slice_index_or files.old i None) }
+{
+    for fd in 0..EACH {
+        files[EACH * p as usize + fd] = None;
+    }
+}
+
+/// Nothing, if the process holds the lock, else who holds it.
+fn without_holder(holder: Option<u8>, p: u8) -> Option<u8>
+    ensures { result ≡ freed_by p holder }
+{
+    match holder {
+        Some(q) if q == p => None,
+        _ => holder,
+    }
+}
+
+/// Frees the locks that a process holds.
+pub(crate) fn free_locks(holders: &mut [Option<u8>], p: u8)
+    ensures { holders.new ≡ map (freed_by p) holders.old }
+{
+    for holder in holders.iter_mut() {
+        *holder = without_holder(*holder, p);
+    }
+}
+
+/// Whether a handler stands.
+fn is_standing(handlers: &[(u8, u8)], q: u8, pt: u8) -> bool
+    ensures { result ≡ list_any (is_handler q pt) handlers.now }
+{
+    handlers.iter().any(|h| h.0 == q && h.1 == pt)
+}
+
+/// How many handlers stand at a point.
+fn count_at(handlers: &[(u8, u8)], pt: u8) -> usize
+    ensures { result ≡ length (handlers_at pt handlers.now) }
+{
+    handlers.iter().filter(|h| h.1 == pt).count()
+}
+
+/// Whether a handler may be put last.
+pub(crate) fn fits(handlers: &[(u8, u8)], q: u8, pt: u8) -> bool
+    ensures { result ≡ has_room q pt handlers.now }
+{
+    is_standing(handlers, q, pt) || count_at(handlers, pt) < HANDLERS_AT_POINT
+}
+
+/// Takes out a handler.
+pub(crate) fn remove_handler(handlers: &mut ArrayVec<(u8, u8), HANDLERS>, q: u8, pt: u8)
+    ensures { handlers.new.items ≡ handlers_without q pt handlers.old.items }
+{
+    handlers.retain(|h| !(h.0 == q && h.1 == pt));
+}
+
+/// Takes out the handlers of a process.
+pub(crate) fn remove_handlers(handlers: &mut ArrayVec<(u8, u8), HANDLERS>, p: u8)
+    ensures { handlers.new.items ≡ filter (λ (h : ℕ × ℕ). not (h.0 == p)) handlers.old.items }
+{
+    handlers.retain(|h| h.0 != p);
+}
+
+/// Puts a handler last, which has room.
+pub(crate) fn put_last(handlers: &mut ArrayVec<(u8, u8), HANDLERS>, q: u8, pt: u8)
+    requires { length (handlers_without q pt handlers.old.items) < 64 }
+    ensures { handlers.new.items ≡ handlers_without q pt handlers.old.items ++ (q, pt) ∷ [] }
+{
+    remove_handler(handlers, q, pt);
+    handlers.push((q, pt));
+}

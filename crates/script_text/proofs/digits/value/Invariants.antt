@@ -1,0 +1,9 @@
+use Rattle.std.proofs.Common.{◌≡◌, ◌<◌, ◌^◌, take}
+use Rattle.kernel_model.specs.Bytes.{digits_value}
+use Rattle.script_text.proofs.digits.value.Given as goal
+
+abbrev pub invariant-loop-byte : goal.invariant-loop-byte
+invariant-loop-byte l = record {
+  value : l.n ≡ digits_value (take l.byte-index l.word);
+  below : l.n < 10 ^ l.byte-index;
+}

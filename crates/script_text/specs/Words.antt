@@ -1,0 +1,41 @@
+-- Where words begin and end in a line, and what becomes of a byte of a line.
+use Rattle.std.specs.Prelude.{ℕ, Bool, true, false, cond, ◌==◌, nat_lt, List, [], ◌∷◌, ◌++◌, length, Option, Some, None, Result, Ok, Err}
+use Rattle.std.specs.List.{position_or_len}
+use Rattle.kernel_model.specs.Script.{ScriptFault, BadWord, BadNumber, words_of, LINE_BYTES}
+use Rattle.script_text.specs.declared.line_buf.Fed.{Fed}
+use Rattle.script_text.specs.declared.line_buf.Fed.TheVariants.{More, Line, TooLong}
+use Rattle.script_text.specs.declared.words.Reading.{Reading}
+use Rattle.script_text.specs.declared.words.Reading.TheVariants as reading
+
+-- how many bytes the first word of a text has
+abbrev pub word_length : List ℕ → ℕ
+word_length text = position_or_len (λ byte. byte == 32) text
+
+-- the words that stand after a word, each after a space
+abbrev pub words_left : List ℕ → List (List ℕ)
+words_left [] = []
+words_left (space ∷ text) = words_of text
+
+-- what was read of words, with these numbers
+abbrev pub said : Reading → List ℕ → Result (List ℕ × List ℕ) ScriptFault
+said (reading.Said last) numbers = Ok (numbers, last.now)
+said reading.BadNumber numbers = Err BadNumber
+said reading.BadWord numbers = Err BadWord
+
+-- the refusal of a line with a word that is no number, which is the lesser one
+abbrev pub failed : Bool → Result (List ℕ × List ℕ) ScriptFault
+failed true = Err BadNumber
+failed false = Err BadWord
+
+-- bytes that were decoded, if they were
+abbrev pub decoded : Bool → List ℕ → Option (List ℕ)
+decoded true bytes = Some bytes
+decoded false bytes = None
+
+-- what a byte makes of a line: a newline ends it, and beyond its most bytes it is too long
+abbrev pub fed : ℕ → List ℕ → Fed
+fed byte line = cond (byte == 10) Line (cond (nat_lt (length line) LINE_BYTES) More TooLong)
+
+-- the line after a byte
+abbrev pub line_with : ℕ → List ℕ → List ℕ
+line_with byte line = cond (byte == 10) line (cond (nat_lt (length line) LINE_BYTES) (line ++ byte ∷ []) line)

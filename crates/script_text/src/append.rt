@@ -1,0 +1,154 @@
+//! Bytes, numbers and hex digits are put behind a text. Each function says how much room it needs.
+
+ghost use Rattle.std.specs.Prelude.{◌≡◌, ◌≤◌, ◌+◌, ◌*◌, ◌∷◌, ◌++◌, length, decimal, take, flat_map};
+ghost use Rattle.kernel_model.specs.Bytes.{hex_text};
+ghost use Rattle.kernel_model.specs.Text.{spaced, after_colon, all_spaced, data_text};
+
+use arrayvec::ArrayVec;
+
+/// The most bytes of a text.
+pub(crate) const TEXT_BYTES: usize = 2048;
+
+/// The bytes of a text.
+pub(crate) type Buffer = ArrayVec<u8, TEXT_BYTES>;
+
+/// The most hex digits of a note: those of a block.
+const DATA_DIGITS: usize = 1024;
+
+/// Bytes.
+pub(crate) fn add(out: &mut Buffer, bytes: &[u8])
+    requires { length out.old.items + length bytes.now ≤ 2048 }
+    ensures text { out.new.items ≡ out.old.items ++ bytes.now }
+    ensures len { length out.new.items ≡ length out.old.items + length bytes.now }
+{
+    let _ = out.try_extend_from_slice(bytes);
+}
+
+/// A number of at most 3 digits.
+pub(crate) fn number_u8(out: &mut Buffer, n: u8)
+    requires { length out.old.items + 3 ≤ 2048 }
+    ensures text { out.new.items ≡ out.old.items ++ decimal n }
+    ensures len { length out.new.items ≤ length out.old.items + 3 }
+{
+    let mut digits = itoa::Buffer::new();
+    add(out, digits.format(n).as_bytes());
+}
+
+/// A number of at most 10 digits.
+pub(crate) fn number_u32(out: &mut Buffer, n: u32)
+    requires { length out.old.items + 10 ≤ 2048 }
+    ensures text { out.new.items ≡ out.old.items ++ decimal n }
+    ensures len { length out.new.items ≤ length out.old.items + 10 }
+{
+    let mut digits = itoa::Buffer::new();
+    add(out, digits.format(n).as_bytes());
+}
+
+/// A number of at most 20 digits.
+fn number_u64(out: &mut Buffer, n: u64)
+    requires { length out.old.items + 20 ≤ 2048 }
+    ensures text { out.new.items ≡ out.old.items ++ decimal n }
+    ensures len { length out.new.items ≤ length out.old.items + 20 }
+{
+    let mut digits = itoa::Buffer::new();
+    add(out, digits.format(n).as_bytes());
+}
+
+/// A space and a number.
+pub(crate) fn spaced_u8(out: &mut Buffer, n: u8)
+    requires { length out.old.items + 4 ≤ 2048 }
+    ensures text { out.new.items ≡ out.old.items ++ spaced n }
+    ensures len { length out.new.items ≤ length out.old.items + 4 }
+{
+    add(out, b" ".as_slice());
+    number_u8(out, n);
+}
+
+/// A space and a number.
+pub(crate) fn spaced_u32(out: &mut Buffer, n: u32)
+    requires { length out.old.items + 11 ≤ 2048 }
+    ensures text { out.new.items ≡ out.old.items ++ spaced n }
+    ensures len { length out.new.items ≤ length out.old.items + 11 }
+{
+    add(out, b" ".as_slice());
+    number_u32(out, n);
+}
+
+/// A space and a number.
+pub(crate) fn spaced_u64(out: &mut Buffer, n: u64)
+    requires { length out.old.items + 21 ≤ 2048 }
+    ensures text { out.new.items ≡ out.old.items ++ spaced n }
+    ensures len { length out.new.items ≤ length out.old.items + 21 }
+{
+    add(out, b" ".as_slice());
+    number_u64(out, n);
+}
+
+/// A colon and a number.
+pub(crate) fn colon_u8(out: &mut Buffer, n: u8)
+    requires { length out.old.items + 4 ≤ 2048 }
+    ensures text { out.new.items ≡ out.old.items ++ after_colon n }
+    ensures len { length out.new.items ≤ length out.old.items + 4 }
+{
+    add(out, b":".as_slice());
+    number_u8(out, n);
+}
+
+/// A colon and a number.
+pub(crate) fn colon_u32(out: &mut Buffer, n: u32)
+    requires { length out.old.items + 11 ≤ 2048 }
+    ensures text { out.new.items ≡ out.old.items ++ after_colon n }
+    ensures len { length out.new.items ≤ length out.old.items + 11 }
+{
+    add(out, b":".as_slice());
+    number_u32(out, n);
+}
+
+/// Numbers, each after a space.
+pub(crate) fn all_u32(out: &mut Buffer, ns: &[u32])
+    requires { length out.old.items + 11 * length ns.now ≤ 2048 }
+    ensures text { out.new.items ≡ out.old.items ++ all_spaced ns.now }
+    ensures len { length out.new.items ≤ length out.old.items + 11 * length ns.now }
+{
+    for n in ns {
+        spaced_u32(out, *n);
+    }
+}
+
+/// Numbers, each after a space.
+pub(crate) fn all_u64(out: &mut Buffer, ns: &[u64])
+    requires { length out.old.items + 21 * length ns.now ≤ 2048 }
+    ensures text { out.new.items ≡ out.old.items ++ all_spaced ns.now }
+    ensures len { length out.new.items ≤ length out.old.items + 21 * length ns.now }
+{
+    for n in ns {
+        spaced_u64(out, *n);
+    }
+}
+
+/// Bytes as hex digits of lower case.
+fn hex_digits(out: &mut Buffer, bytes: &[u8])
+    requires room { length out.old.items + 2 * length bytes.now ≤ 2048 }
+    requires block { length bytes.now ≤ 512 }
+    ensures text { out.new.items ≡ out.old.items ++ hex_text bytes.now }
+    ensures len { length out.new.items ≡ length out.old.items + 2 * length bytes.now }
+{
+    let mut digits = [0; DATA_DIGITS];
+    let to = &mut digits[..2 * bytes.len()];
+    let _ = hex::encode_to_slice(bytes, to);
+    add(out, to);
+}
+
+/// A space and bytes as hex digits, or nothing where there are no bytes.
+pub(crate) fn data(out: &mut Buffer, bytes: &[u8])
+    requires room { length out.old.items ≤ 1000 }
+    requires block { length bytes.now ≤ 512 }
+    ensures text { out.new.items ≡ out.old.items ++ data_text bytes.now }
+    ensures len { length out.new.items ≤ length out.old.items + 1025 }
+{
+    if bytes.is_empty() {
+        return;
+    }
+    add(out, b" ".as_slice());
+    hex_digits(out, bytes);
+}

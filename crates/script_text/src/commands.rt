@@ -1,0 +1,161 @@
+//! The commands of a script: their words, their places and the forms of their further words.
+
+ghost use Rattle.std.specs.Prelude.{◌≡◌, ◌≤◌, ◌∷◌, length, find};
+ghost use Rattle.kernel_model.specs.World.{same_bytes};
+ghost use Rattle.kernel_model.specs.Script.{call_word, command_word, command_named, is_setup, call_forms, forms_of};
+
+use kernel_model::{CallName, Command, Form};
+
+/// All commands.
+const COMMANDS: [Command; 27] = [
+    Command::Frames,
+    Command::Patience,
+    Command::Grant,
+    Command::Boot,
+    Command::Tick,
+    Command::Step,
+    Command::Raw,
+    Command::Image,
+    Command::Call(CallName::Spawn),
+    Command::Call(CallName::Exit),
+    Command::Call(CallName::Yield),
+    Command::Call(CallName::Sync),
+    Command::Call(CallName::Open),
+    Command::Call(CallName::Close),
+    Command::Call(CallName::Read),
+    Command::Call(CallName::Write),
+    Command::Call(CallName::Lock),
+    Command::Call(CallName::Unlock),
+    Command::Call(CallName::Poke),
+    Command::Call(CallName::Peek),
+    Command::Call(CallName::Tune),
+    Command::Call(CallName::Default),
+    Command::Call(CallName::Give),
+    Command::Call(CallName::Install),
+    Command::Call(CallName::Remove),
+    Command::Call(CallName::Fund),
+    Command::Call(CallName::Bill),
+];
+
+/// The word of a system call.
+fn word_of_call(name: CallName) -> &'static [u8]
+    ensures { result.now ≡ call_word name }
+{
+    match name {
+        CallName::Spawn => b"spawn".as_slice(),
+        CallName::Exit => b"exit".as_slice(),
+        CallName::Yield => b"yield".as_slice(),
+        CallName::Sync => b"sync".as_slice(),
+        CallName::Open => b"open".as_slice(),
+        CallName::Close => b"close".as_slice(),
+        CallName::Read => b"read".as_slice(),
+        CallName::Write => b"write".as_slice(),
+        CallName::Lock => b"lock".as_slice(),
+        CallName::Unlock => b"unlock".as_slice(),
+        CallName::Poke => b"poke".as_slice(),
+        CallName::Peek => b"peek".as_slice(),
+        CallName::Tune => b"tune".as_slice(),
+        CallName::Default => b"default".as_slice(),
+        CallName::Give => b"give".as_slice(),
+        CallName::Install => b"install".as_slice(),
+        CallName::Remove => b"remove".as_slice(),
+        CallName::Fund => b"fund".as_slice(),
+        CallName::Bill => b"bill".as_slice(),
+    }
+}
+
+/// The word of a command.
+fn word_of(command: Command) -> &'static [u8]
+    ensures { result.now ≡ command_word command }
+{
+    match command {
+        Command::Frames => b"frames".as_slice(),
+        Command::Patience => b"patience".as_slice(),
+        Command::Grant => b"grant".as_slice(),
+        Command::Boot => b"boot".as_slice(),
+        Command::Tick => b"tick".as_slice(),
+        Command::Step => b"step".as_slice(),
+        Command::Raw => b"raw".as_slice(),
+        Command::Image => b"image".as_slice(),
+        Command::Call(name) => word_of_call(name),
+    }
+}
+
+/// The first of these commands that has this word.
+fn find_command(commands: &[Command], word: &[u8]) -> Option<Command>
+    ensures { result ≡ find (λ c. same_bytes (command_word c) word.now) commands.now }
+{
+    for command in commands {
+        if word_of(*command) == word {
+            return Some(*command);
+        }
+    }
+    None
+}
+
+/// The command of a word.
+pub(crate) fn named(word: &[u8]) -> Option<Command>
+    ensures { result ≡ command_named word.now }
+{
+    find_command(&COMMANDS, word)
+}
+
+/// Whether a command stands before `boot`.
+pub(crate) fn sets_up(command: Command) -> bool
+    ensures { result ≡ is_setup command }
+{
+    match command {
+        Command::Frames | Command::Patience | Command::Grant | Command::Boot => true,
+        Command::Tick | Command::Step | Command::Raw | Command::Image | Command::Call(_) => false,
+    }
+}
+
+/// The forms of the words of a system call, that of its process first.
+fn forms_of_call(name: CallName) -> &'static [Form]
+    ensures forms { result.now ≡ Form.Number ∷ call_forms name }
+    ensures few { length result.now ≤ 5 }
+{
+    match name {
+        CallName::Spawn | CallName::Exit | CallName::Yield | CallName::Sync => [
+            Form::Number,
+        ].as_slice(),
+        CallName::Open => [Form::Number, Form::Text].as_slice(),
+        CallName::Read => [Form::Number; 5].as_slice(),
+        CallName::Write => {
+            [
+                Form::Number,
+                Form::Number,
+                Form::Number,
+                Form::Number,
+                Form::Text,
+            ]
+            .as_slice()
+        }
+        CallName::Tune | CallName::Install => [Form::Number; 4].as_slice(),
+        CallName::Poke | CallName::Default => [Form::Number; 3].as_slice(),
+        CallName::Give | CallName::Fund => {
+            [Form::Number, Form::Number, Form::Amount, Form::Number].as_slice()
+        }
+        CallName::Close
+        | CallName::Lock
+        | CallName::Unlock
+        | CallName::Peek
+        | CallName::Remove
+        | CallName::Bill => [Form::Number; 2].as_slice(),
+    }
+}
+
+/// The forms of the words of a command after its own.
+pub(crate) fn forms(command: Command) -> &'static [Form]
+    ensures forms { result.now ≡ forms_of command }
+    ensures few { length result.now ≤ 5 }
+{
+    match command {
+        Command::Boot | Command::Tick | Command::Raw => [].as_slice(),
+        Command::Frames | Command::Grant => [Form::Number].as_slice(),
+        Command::Patience => [Form::ObjectKind, Form::Number].as_slice(),
+        Command::Step => [Form::Number, Form::Number].as_slice(),
+        Command::Image => [Form::Number, Form::Text].as_slice(),
+        Command::Call(name) => forms_of_call(name),
+    }
+}

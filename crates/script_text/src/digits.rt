@@ -1,0 +1,77 @@
+//! Numbers, names and hex digits in words.
+
+ghost use Rattle.std.specs.Prelude.{◌≡◌, ◌≤◌, true, length};
+ghost use Rattle.std.specs.List.{list_all};
+ghost use Rattle.kernel_model.specs.Bytes.{is_digit, is_name_byte, number_of, digits_value};
+ghost use Rattle.kernel_model.specs.Script.{name_word};
+
+use kernel_model::{NAME_BYTES, Name};
+
+/// The most digits of a number.
+const DIGITS: usize = 10;
+
+/// A number of 1 to 10 decimal digits, below 2^32. Leading zeros are allowed.
+pub(crate) fn number(word: &[u8]) -> Option<u32>
+    ensures { result ≡ number_of word.now }
+{
+    if word.is_empty() || word.len() > DIGITS || !all_digits(word) {
+        return None;
+    }
+    u32::try_from(value(word)).ok()
+}
+
+/// Whether each byte is a digit.
+fn all_digits(word: &[u8]) -> bool
+    ensures { result ≡ list_all is_digit word.now }
+{
+    word.iter().all(|byte| *byte >= b'0' && *byte < b':')
+}
+
+/// The number that digits write.
+fn value(word: &[u8]) -> u64
+    requires few { length word.now ≤ 10 }
+    requires digits { list_all is_digit word.now ≡ true }
+    ensures { result ≡ digits_value word.now }
+{
+    let mut n: u64 = 0;
+    for byte in word {
+        n = n * 10 + u64::from(*byte - b'0');
+    }
+    n
+}
+
+/// Whether a byte may stand in a name: a to z, 0 to 9, `.`, `_` or `-`.
+fn stands_in_name(byte: u8) -> bool
+    ensures { result ≡ is_name_byte byte }
+{
+    matches!(byte, b'a'..=b'z' | b'0'..=b'9' | b'.' | b'_' | b'-')
+}
+
+/// Whether each byte may stand in a name.
+fn all_in_name(word: &[u8]) -> bool
+    ensures { result ≡ list_all is_name_byte word.now }
+{
+    word.iter().all(|byte| stands_in_name(*byte))
+}
+
+/// The bytes as a name.
+fn name_from(word: &[u8]) -> Name
+    requires { length word.now ≤ 16 }
+    ensures { result ≡ word.now }
+{
+    let mut name = Name::new();
+    for byte in word {
+        let _ = name.push(*byte);
+    }
+    name
+}
+
+/// A name of 1 to 16 bytes.
+pub(crate) fn name(word: &[u8]) -> Option<Name>
+    ensures { result ≡ name_word word.now }
+{
+    if word.is_empty() || word.len() > NAME_BYTES || !all_in_name(word) {
+        return None;
+    }
+    Some(name_from(word))
+}

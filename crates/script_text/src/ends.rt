@@ -1,0 +1,38 @@
+//! The lines of a run that belong to no event.
+
+ghost use Rattle.std.specs.Prelude.{◌≡◌, ◌++◌, [], ◌∷◌, codes, decimal};
+ghost use Rattle.kernel_model.specs.Text.{line, spaced, boot_text, usage_text};
+
+use crate::append::{add, number_u8, spaced_u8, spaced_u32};
+use crate::text::Text;
+
+/// The line of `boot`: the frames of the cache, the blocks of the disk, the usable files.
+pub fn print_boot(frames: u8, blocks: u32, files: u32, out: &mut Text)
+    ensures { out.new ≡ line (boot_text frames blocks files) }
+{
+    out.bytes.clear();
+    add(&mut out.bytes, b"0 boot".as_slice());
+    spaced_u8(&mut out.bytes, frames);
+    spaced_u32(&mut out.bytes, blocks);
+    spaced_u32(&mut out.bytes, files);
+    add(&mut out.bytes, b"\n".as_slice());
+}
+
+/// The line of a refused line: its number, from 1, and its S code.
+pub fn print_fault(n: u32, code: u8, out: &mut Text)
+    ensures { out.new ≡ line (codes "script" ++ spaced n ++ codes " S" ++ decimal code) }
+{
+    out.bytes.clear();
+    add(&mut out.bytes, b"script".as_slice());
+    spaced_u32(&mut out.bytes, n);
+    add(&mut out.bytes, b" S".as_slice());
+    number_u8(&mut out.bytes, code);
+    add(&mut out.bytes, b"\n".as_slice());
+}
+
+/// What is written where the words of the command line aren't in the grammar.
+pub fn usage() -> &'static [u8]
+    ensures { result.now ≡ line usage_text }
+{
+    b"usage: vino run KEY [PATH] | box KEY | check KEY | asm | dis | demo N\n".as_slice()
+}

@@ -1,0 +1,247 @@
+//! `parse_line`: what a line of a script says.
+
+ghost use Rattle.std.specs.Prelude.{◌≡◌, ◌≤◌, ◌<◌, [], ◌∷◌, length, slice_index, Some, Err, codes};
+ghost use Rattle.kernel_model.specs.declared.Command.TheVariants as command_is;
+ghost use Rattle.kernel_model.specs.Bytes.{hex_word};
+ghost use Rattle.kernel_model.specs.Script.{WRITE_DIGITS, IMAGE_DIGITS, amount_at, name_word, open_by, write_by, call_of, happens_by, loads_by, entry_of, entry_at, command_named, first_word, other_words, words_of, is_blank, parsed_line};
+ghost use Rattle.script_text.specs.declared.parse.ScriptFault.TheVariants.{NoMemory as no_memory};
+ghost use Rattle.script_text.specs.Answers.{Answers, HasListedKind};
+ghost use Rattle.script_text.specs.Words.{words_left};
+
+use crate::commands::{forms, named, sets_up};
+use crate::digits::name;
+use crate::hexes::{loaded, written};
+use crate::image_bytes::ImageBytes;
+use crate::words::{Reading, read_words, skip, word_end};
+use arrayvec::ArrayVec;
+use kernel_model::{CallName, Command, Event, Kind, NoMemory, SysCall};
+use std::alloc::Global;
+
+/// What a line says.
+#[derive(Drop)]
+pub enum Entry {
+    /// An empty line, or one that begins with `#`.
+    Blank,
+    /// How many frames the cache has, 2 to 64.
+    Frames(u8),
+    /// A kind of object, 0 to 7 in the order of `Object`, and how many ticks a call waits for it, 1 to 1,000.
+    Patience(u8, u32),
+    /// What root has of each kind of amount at first.
+    Grant(u32),
+    /// The kernel begins.
+    Boot,
+    /// An event of the kernel.
+    Happens(Event),
+    /// A slot, and the bytes of a sealed image for it.
+    Image(u32, ImageBytes),
+    /// All rows of the kernel's state are asked for.
+    Raw,
+}
+
+/// Why a line is refused. The codes are those of `docs/FORMATS.md`.
+#[derive(Clone, Copy, Debug, PartialEq, Eq)]
+pub enum ScriptFault {
+    /// S1: another number of words, an empty word, or a kind that isn't listed.
+    BadWord,
+    /// S2: a word that is no number, hex or name as asked, or a set-up number outside its range.
+    BadNumber,
+    /// S4: a set-up line or `boot` after `boot`, or an event line before it.
+    WrongPlace,
+    /// S5: the first word is no command.
+    UnknownCommand,
+    /// There was no memory for the bytes of an image.
+    NoMemory,
+}
+
+/// An empty line, or one that begins with `#`.
+fn is_blank_line(line: &[u8]) -> bool
+    ensures { result ≡ is_blank line.now }
+{
+    line.is_empty() || line[0] == b'#'
+}
+
+/// A number that was read, 0 past their end.
+fn at(numbers: &[u32], i: usize) -> u32
+    ensures { result ≡ slice_index numbers.now i }
+{
+    if i < numbers.len() { numbers[i] } else { 0 }
+}
+
+/// A kind of amount by its place in their list.
+fn amount(place: u32) -> Kind
+    ensures { result ≡ amount_at place }
+{
+    match place {
+        0 => Kind::Steps,
+        1 => Kind::Records,
+        _ => Kind::Locks,
+    }
+}
+
+/// The file that `open` names.
+fn open(last: &[u8]) -> Option<SysCall>
+    ensures { result ≡ open_by (name_word last.now) }
+{
+    match name(last) {
+        Some(name) => Some(SysCall::OpenName(name)),
+        None => None,
+    }
+}
+
+/// The bytes that `write` puts into block i of a file, from off on.
+fn write(fd: u32, i: u32, off: u32, last: &[u8]) -> Option<SysCall>
+    ensures { result ≡ write_by fd i off (hex_word WRITE_DIGITS last.now) }
+{
+    match written(last) {
+        Some(bytes) => Some(SysCall::Write(fd, i, off, bytes)),
+        None => None,
+    }
+}
+
+/// A system call by its numbers, of which the first is the process, and by its last word.
+fn call(verb: CallName, n: &[u32], last: &[u8]) -> Option<SysCall>
+    ensures { result ≡ call_of verb n.now last.now }
+{
+    match verb {
+        CallName::Spawn => Some(SysCall::Spawn),
+        CallName::Exit => Some(SysCall::Exit),
+        CallName::Yield => Some(SysCall::Yield),
+        CallName::Sync => Some(SysCall::Sync),
+        CallName::Open => open(last),
+        CallName::Close => Some(SysCall::CloseFd(at(n, 1))),
+        CallName::Read => Some(SysCall::Read(at(n, 1), at(n, 2), at(n, 3), at(n, 4))),
+        CallName::Write => write(at(n, 1), at(n, 2), at(n, 3), last),
+        CallName::Lock => Some(SysCall::TakeLock(at(n, 1))),
+        CallName::Unlock => Some(SysCall::FreeLock(at(n, 1))),
+        CallName::Poke => Some(SysCall::Poke(at(n, 1), at(n, 2))),
+        CallName::Peek => Some(SysCall::Peek(at(n, 1))),
+        CallName::Tune => Some(SysCall::Tune(at(n, 1), at(n, 2), at(n, 3))),
+        CallName::Default => Some(SysCall::Choose(at(n, 1), at(n, 2))),
+        CallName::Give => Some(SysCall::Give(at(n, 1), amount(at(n, 2)), at(n, 3))),
+        CallName::Install => Some(SysCall::Install(at(n, 1), at(n, 2), at(n, 3))),
+        CallName::Remove => Some(SysCall::Remove(at(n, 1))),
+        CallName::Fund => Some(SysCall::Fund(at(n, 1), amount(at(n, 2)), at(n, 3))),
+        CallName::Bill => Some(SysCall::Bill(at(n, 1))),
+    }
+}
+
+/// `frames n`.
+fn frames(n: u32) -> Result<Entry, ScriptFault>
+    ensures answer { Answers result (entry_of command_is.Frames (n ∷ []) []) }
+    ensures memory { result ≡ Err no_memory → ⊥ }
+    ensures kinds { HasListedKind result }
+{
+    if n >= 2 && n <= 64 {
+        Ok(Entry::Frames(n as u8))
+    } else {
+        Err(ScriptFault::BadNumber)
+    }
+}
+
+/// `patience K n`.
+fn patience(kind: u32, n: u32) -> Result<Entry, ScriptFault>
+    requires { kind < 8 }
+    ensures answer { Answers result (entry_of command_is.Patience (kind ∷ n ∷ []) []) }
+    ensures memory { result ≡ Err no_memory → ⊥ }
+    ensures kinds { HasListedKind result }
+{
+    if n >= 1 && n <= 1000 {
+        Ok(Entry::Patience(kind as u8, n))
+    } else {
+        Err(ScriptFault::BadNumber)
+    }
+}
+
+/// A system call as an event.
+fn happens(p: u32, call: Option<SysCall>) -> Result<Entry, ScriptFault>
+    ensures answer { Answers result (happens_by p call) }
+    ensures memory { result ≡ Err no_memory → ⊥ }
+    ensures kinds { HasListedKind result }
+{
+    match call {
+        Some(call) => Ok(Entry::Happens(Event::Sys(p, call))),
+        None => Err(ScriptFault::BadNumber),
+    }
+}
+
+/// `image k HEX`.
+fn image(alloc: Global, slot: u32, last: &[u8]) -> Result<Entry, ScriptFault>
+    ensures answer { Answers result (loads_by slot (hex_word IMAGE_DIGITS last.now)) }
+    ensures kinds { HasListedKind result }
+{
+    match loaded(alloc, last) {
+        Ok(Some(bytes)) => Ok(Entry::Image(slot, bytes)),
+        Ok(None) => Err(ScriptFault::BadNumber),
+        Err(NoMemory) => Err(ScriptFault::NoMemory),
+    }
+}
+
+/// A command by its numbers and its last word.
+fn entry_said(alloc: Global, command: Command, n: &[u32], last: &[u8]) -> Result<Entry, ScriptFault>
+    requires { command ≡ command_is.Patience → slice_index n.now 0 < 8 }
+    ensures answer { Answers result (entry_of command n.now last.now) }
+    ensures memory { result ≡ Err no_memory → command ≡ command_is.Image }
+    ensures kinds { HasListedKind result }
+{
+    match command {
+        Command::Frames => frames(at(n, 0)),
+        Command::Patience => patience(at(n, 0), at(n, 1)),
+        Command::Grant => Ok(Entry::Grant(at(n, 0))),
+        Command::Boot => Ok(Entry::Boot),
+        Command::Tick => Ok(Entry::Happens(Event::Tick)),
+        Command::Step => Ok(Entry::Happens(Event::Step(at(n, 0), at(n, 1)))),
+        Command::Raw => Ok(Entry::Raw),
+        Command::Image => image(alloc, at(n, 0), last),
+        Command::Call(name) => happens(at(n, 0), call(name, n, last)),
+    }
+}
+
+/// A command by what follows its word.
+fn command_line(
+    alloc: Global,
+    command: Command,
+    rest: &[u8],
+    booted: bool,
+) -> Result<Entry, ScriptFault>
+    ensures answer { Answers result (entry_at booted (words_left rest.now) (Some command)) }
+    ensures memory { result ≡ Err no_memory → command ≡ command_is.Image }
+    ensures kinds { HasListedKind result }
+{
+    if sets_up(command) == booted {
+        return Err(ScriptFault::WrongPlace);
+    }
+    let mut numbers = ArrayVec::new();
+    match read_words(forms(command), rest, &rest[..0], &mut numbers) {
+        Reading::BadWord => Err(ScriptFault::BadWord),
+        Reading::BadNumber => Err(ScriptFault::BadNumber),
+        Reading::Said(last) => entry_said(alloc, command, numbers.as_slice(), last),
+    }
+}
+
+/// A line that isn't blank.
+fn words_line(alloc: Global, line: &[u8], booted: bool) -> Result<Entry, ScriptFault>
+    ensures answer { Answers result (entry_at booted (other_words (words_of line.now)) (command_named (first_word (words_of line.now)))) }
+    ensures memory { result ≡ Err no_memory → first_word (words_of line.now) ≡ codes "image" }
+    ensures kinds { HasListedKind result }
+{
+    let end = word_end(line);
+    match named(&line[..end]) {
+        None => Err(ScriptFault::UnknownCommand),
+        Some(command) => command_line(alloc, command, skip(line, end), booted),
+    }
+}
+
+/// What a line says, before or after `boot`, or why it is refused. The line stands without its newline.
+///
+/// Memory is taken for the bytes of an image alone.
+pub fn parse_line(alloc: Global, line: &[u8], booted: bool) -> Result<Entry, ScriptFault>
+    requires { length line.now ≤ 65536 }
+    ensures answer { Answers result (parsed_line booted line.now) }
+    ensures memory { result ≡ Err no_memory → first_word (words_of line.now) ≡ codes "image" }
+    ensures kinds { HasListedKind result }
+{
+    if is_blank_line(line) {
+        return Ok(Entry::Blank);
+    }
+    words_line(alloc, line, booted)
+}

@@ -1,0 +1,64 @@
+//! `Text`: a line that is written.
+
+ghost use Rattle.std.specs.Prelude.{◌≡◌, ◌≤◌, [], ◌∷◌, ◌++◌, length, nat_lt, if◌then◌else◌};
+
+use crate::append::{Buffer, TEXT_BYTES};
+use arrayvec::ArrayVec;
+use std::marker::Model;
+
+/// At most 2,048 bytes, which lie in the value itself: no call takes memory. Contracts see their list.
+#[derive(Drop)]
+pub struct Text {
+    pub(crate) bytes: Buffer,
+}
+
+impl Model for Text {
+    ghost use Rattle.std.specs.Prelude.{ℕ, List};
+
+    ghost Value = { List ℕ };
+
+    ghost view = { λ t. t.bytes.items };
+}
+
+impl Text {
+    /// No bytes.
+    pub fn new() -> Text
+        ensures { result ≡ [] }
+    {
+        Text {
+            bytes: ArrayVec::new(),
+        }
+    }
+
+    /// Appends a byte. False, with nothing changed, exactly where the text is full.
+    pub fn push(&mut self, v: u8) -> bool
+        ensures fits { result ≡ nat_lt (length self.old) TEXT_BYTES }
+        ensures value { self.new ≡ (if result then self.old ++ v ∷ [] else self.old) }
+    {
+        self.bytes.try_push(v).is_ok()
+    }
+
+    /// The bytes, first to last.
+    pub fn as_slice(&self) -> &[u8]
+        ensures value { result.now ≡ self.now }
+        ensures fits { length result.now ≤ TEXT_BYTES }
+    {
+        self.bytes.as_slice()
+    }
+
+    /// No bytes again.
+    pub fn clear(&mut self)
+        ensures { self.new ≡ [] }
+    {
+        self.bytes.clear();
+    }
+
+    /// The same text once more.
+    pub fn copy(&self) -> Text
+        ensures { result ≡ self.now }
+    {
+        let mut bytes = ArrayVec::new();
+        let _ = bytes.try_extend_from_slice(self.bytes.as_slice());
+        Text { bytes }
+    }
+}

@@ -1,0 +1,194 @@
+//! The words of a line, and the numbers that they say.
+
+ghost use Rattle.std.specs.Prelude.{◌≡◌, ◌≤◌, ◌+◌, ◌==◌, ℕ, List, [], length, drop, position};
+ghost use Rattle.arrayvec.specs.ArrayVec.{array_vec_len};
+ghost use Rattle.kernel_model.specs.World.{same_bytes};
+ghost use Rattle.kernel_model.specs.Script.{object_kinds, amounts, number_said, is_unlisted, is_bad_word, is_well_formed, words_said};
+ghost use Rattle.script_text.specs.Words.{word_length, words_left, said, failed};
+
+use crate::digits::number;
+use arrayvec::ArrayVec;
+use kernel_model::Form;
+
+/// The most words of a command after its own.
+pub(crate) const WORDS: usize = 5;
+
+const SPACE: u8 = b' ';
+
+/// What was read of the words of a line.
+#[derive(Drop)]
+pub(crate) enum Reading<'a> {
+    /// Each says a number; this is the last word.
+    Said(&'a [u8]),
+    /// A word is no number.
+    BadNumber,
+    /// There is another number of words, an empty one, or a kind that isn't listed.
+    BadWord,
+}
+
+/// The place of the first space in a text.
+fn first_space(text: &[u8]) -> Option<usize>
+    ensures { result ≡ position (λ byte. byte == 32) text.now }
+{
+    text.iter().position(|byte| *byte == SPACE)
+}
+
+/// Where the first word of a text ends.
+pub(crate) fn word_end(text: &[u8]) -> usize
+    ensures value { result ≡ word_length text.now }
+    ensures within { result ≤ length text.now }
+{
+    match first_space(text) {
+        Some(end) => end,
+        None => text.len(),
+    }
+}
+
+/// The place of a kind of object in their list.
+fn object_kind(word: &[u8]) -> Option<u32>
+    ensures { result ≡ position (same_bytes word.now) object_kinds }
+{
+    if word == b"graft".as_slice() {
+        Some(0)
+    } else if word == b"acct".as_slice() {
+        Some(1)
+    } else if word == b"cell".as_slice() {
+        Some(2)
+    } else if word == b"open".as_slice() {
+        Some(3)
+    } else if word == b"queue".as_slice() {
+        Some(4)
+    } else if word == b"cache".as_slice() {
+        Some(5)
+    } else if word == b"lock".as_slice() {
+        Some(6)
+    } else if word == b"pol".as_slice() {
+        Some(7)
+    } else {
+        None
+    }
+}
+
+/// The place of a kind of amount in their list.
+fn amount(word: &[u8]) -> Option<u32>
+    ensures { result ≡ position (same_bytes word.now) amounts }
+{
+    if word == b"steps".as_slice() {
+        Some(0)
+    } else if word == b"records".as_slice() {
+        Some(1)
+    } else if word == b"locks".as_slice() {
+        Some(2)
+    } else {
+        None
+    }
+}
+
+/// The number that a word says.
+fn number_in(form: Form, word: &[u8]) -> Option<u32>
+    ensures { result ≡ number_said form word.now }
+{
+    match form {
+        Form::Number => number(word),
+        Form::ObjectKind => object_kind(word),
+        Form::Amount => amount(word),
+        Form::Text => Some(0),
+    }
+}
+
+/// Whether a word that is to be of a list isn't one of it.
+fn fails_list(form: Form, word: &[u8]) -> bool
+    ensures { result ≡ is_unlisted form word.now }
+{
+    match form {
+        Form::ObjectKind => object_kind(word).is_none(),
+        Form::Amount => amount(word).is_none(),
+        Form::Number | Form::Text => false,
+    }
+}
+
+/// Whether a word is empty, or is to be of a list and isn't.
+fn is_bad(form: Form, word: &[u8]) -> bool
+    ensures { result ≡ is_bad_word form word.now }
+{
+    word.is_empty() || fails_list(form, word)
+}
+
+/// A list from a place on.
+pub(crate) fn skip<T>(items: &[T], n: usize) -> &[T]
+    requires { n ≤ length items.now }
+    ensures { result.now ≡ drop n items.now }
+{
+    &items[n..]
+}
+
+/// Whether the words that are left have their forms, but for numbers.
+fn fits_forms(forms: &[Form], rest: &[u8]) -> bool
+    ensures { result ≡ is_well_formed forms.now (words_left rest.now) }
+{
+    if forms.is_empty() {
+        return rest.is_empty();
+    }
+    if rest.is_empty() {
+        return false;
+    }
+    let text = skip(rest, 1);
+    let end = word_end(text);
+    if is_bad(forms[0], &text[..end]) {
+        return false;
+    }
+    fits_forms(skip(forms, 1), skip(text, end))
+}
+
+/// The refusal of a line with a word that is no number, where the words that are left may be worse.
+fn refused(forms: &[Form], rest: &[u8]) -> Reading<'static>
+    ensures { (ns : List ℕ) → said result ns ≡ failed (is_well_formed forms.now (words_left rest.now)) }
+{
+    if fits_forms(forms, rest) {
+        Reading::BadNumber
+    } else {
+        Reading::BadWord
+    }
+}
+
+/// What was read where no form is left.
+fn nothing_left<'a>(rest: &[u8], last: &'a [u8]) -> Reading<'a>
+    ensures { (ns : List ℕ) → said result ns ≡ words_said ns last.now [] (words_left rest.now) }
+{
+    if rest.is_empty() {
+        Reading::Said(last)
+    } else {
+        Reading::BadWord
+    }
+}
+
+/// Reads the words that are left, and puts their numbers behind others. `last` is the word before them.
+pub(crate) fn read_words<'a>(
+    forms: &[Form],
+    rest: &'a [u8],
+    last: &'a [u8],
+    numbers: &mut ArrayVec<u32, WORDS>,
+) -> Reading<'a>
+    requires { array_vec_len numbers.old + length forms.now ≤ 5 }
+    ensures { said result numbers.new.items ≡ words_said numbers.old.items last.now forms.now (words_left rest.now) }
+{
+    if forms.is_empty() {
+        return nothing_left(rest, last);
+    }
+    if rest.is_empty() {
+        return Reading::BadWord;
+    }
+    let text = skip(rest, 1);
+    let end = word_end(text);
+    let word = &text[..end];
+    if is_bad(forms[0], word) {
+        return Reading::BadWord;
+    }
+    match number_in(forms[0], word) {
+        None => refused(skip(forms, 1), skip(text, end)),
+        Some(n) => {
+            numbers.push(n);
+            read_words(skip(forms, 1), skip(text, end), word, numbers)
+        }
+    }
+}

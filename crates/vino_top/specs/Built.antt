@@ -1,0 +1,34 @@
+-- What of the product is built so far.
+use Rattle.std.specs.Prelude.{Bool, true, false}
+use Rattle.kernel_model.specs.declared.SysCall.{SysCall}
+use Rattle.kernel_model.specs.declared.SysCall.TheVariants.{Spawn, Yield, Poke, Peek}
+use Rattle.kernel_model.specs.declared.Event.{Event}
+use Rattle.kernel_model.specs.declared.Event.TheVariants.{Tick, Step, Sys}
+use Rattle.kernel_model.specs.Script.{Entry, Blank, Boot, Happens}
+use Rattle.kernel_model.specs.Pieces.{plain}
+use Rattle.kernel_model.specs.Session.{Build}
+
+-- the system calls that are built
+abbrev pub is_built_call : SysCall → Bool
+is_built_call Spawn = true
+is_built_call Yield = true
+is_built_call (Poke k v) = true
+is_built_call (Peek k) = true
+is_built_call _ = false
+
+-- the events that are built
+abbrev pub is_built_event : Event → Bool
+is_built_event Tick = true
+is_built_event (Step p n) = false
+is_built_event (Sys p call) = is_built_call call
+
+-- the entries of a script that are built: a line of another one is refused as an unknown command
+abbrev pub is_built : Entry → Bool
+is_built Blank = true
+is_built Boot = true
+is_built (Happens e) = is_built_event e
+is_built _ = false
+
+-- what is built: boot takes the directory for empty
+abbrev pub present_build : Build
+present_build = record { meaning = plain; callable = 11; built = is_built; reads_directory = false }
