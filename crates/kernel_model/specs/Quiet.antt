@@ -143,7 +143,7 @@ free_alone m p number t r h =
     let k = (begins_alone p number t r).kernel in
     let needed = ap (needs_in m k p) (call_alone p number t) in
     let none = ap (first_hindrance (holds m k) k.objects.things.lock p (lock_user p (levels_of m k p))) needed
-        ∙ none_first m p number t r k.objects.things.lock p (lock_user p (levels_of m k p)) (m.need r.kernel.world r.kernel.objects p t) h in
+    ∙ none_first m p number t r k.objects.things.lock p (lock_user p (levels_of m k p)) (m.need r.kernel.world r.kernel.objects p t) h in
     ap (λ (x : Option Hindrance). elim (option_map (blocker_from k) x) as (λ _. Option ℕ) [ None ↦ Some p | Some b ↦ None ]) none
 
 -- the default finishes a piece where no graft stands
