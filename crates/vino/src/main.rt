@@ -16,23 +16,21 @@ const NO_MEMORY: u8 = 5;
 
 fn main(rt: HostRuntime) -> ExitCode {
     match words(&rt) {
-        Ok(words) => {
-            let mut source = StreamSource::new(rt.stdin());
-            let mut sink = StreamSink::new(rt.stdout());
-            let mut disk = EmptyDisk::new(BLOCKS);
-            let shelf = Vec::new(rt.alloc());
-            let status = vino_top::vino(
-                rt.alloc(),
-                &words,
-                &mut source,
-                &mut sink,
-                &mut disk,
-                shelf,
-            );
-            ExitCode::from(status)
-        }
+        Ok(words) => run(&rt, &words),
+        // A word that isn't UTF-8 is in no grammar.
+        Err(fault) if fault.kind() == io::ErrorKind::InvalidData => run(&rt, &[]),
         Err(_) => ExitCode::from(NO_MEMORY),
     }
+}
+
+/// Does what the words ask, over the real streams.
+fn run(rt: &HostRuntime, words: &[String]) -> ExitCode {
+    let mut source = StreamSource::new(rt.stdin());
+    let mut sink = StreamSink::new(rt.stdout());
+    let mut disk = EmptyDisk::new(BLOCKS);
+    let shelf = Vec::new(rt.alloc());
+    let status = vino_top::vino(rt.alloc(), words, &mut source, &mut sink, &mut disk, shelf);
+    ExitCode::from(status)
 }
 
 /// The words of the command line, without the program's own name.
