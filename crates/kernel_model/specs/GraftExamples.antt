@@ -5,7 +5,7 @@ use Rattle.kernel_model.specs.declared.Op.TheVariants.{Li, Mov, Divu, Jmp, Jnz, 
 use Rattle.kernel_model.specs.World.{World, Image}
 use Rattle.kernel_model.specs.Objects.{Objects, same_object}
 use Rattle.kernel_model.specs.Images.{LoadFault}
-use Rattle.kernel_model.specs.Directory.{sample_disk}
+use Rattle.kernel_model.specs.Directory.{entries, entry_row, is_usable, sample_directory, sample_block, sample_disk}
 use Rattle.kernel_model.specs.declared.Cause.TheVariants.{TooDeep}
 use Rattle.kernel_model.specs.Levels.{Config, drop_level}
 use Rattle.kernel_model.specs.Blocking.{config_of}
@@ -75,7 +75,7 @@ pub oldest_value_comes_back :
     ∷ Lines (codes "spawn 0\ngive 0 1 steps 100\ngive 0 1 records 10\npoke 1 0 3\ninstall 1 5 0 100\nbill 1 5\nyield 0\nstep 0 6\nraw\nstep 0 6\npeek 1 0\nraw\n")
     ∷ [])
     ≡ (0, codes "0 boot 8 64 3\n1 ok 9 0\n2 ok 1\n3 ok\n4 ok\n5 ok\n6 ok\n7 ok\n8 graft 1 5 1\n9 ran 6\n8 graft 1 5 1\n10 raw clock 0\n10 raw queue 1:20:0 0:20:0\n10 raw acct 0 999900 999990 1000000 0 0 0\n10 raw acct 1 94 8 0 6 2 0\n10 raw cells 0 0 0 0 0\n10 raw cells 1 9 0 0 0\n10 raw graft 1 5 0 100 1 0 0 0\n10 raw pol 0 1 2\n10 raw pol 1 0\n10 raw pol 2 0\n10 raw lru\n10 raw call 0 8 graft 1 5 1\n10 raw level 0 0 1 5 6\n10 raw undo 0 0 cell 1 0 7\n10 raw undo 0 0 cell 1 0 3\n8 drop 1 5 C1\n8 ok 1\n11 ran 2\n12 ok 3\n13 raw clock 0\n13 raw queue 1:20:1 0:20:0\n13 raw acct 0 999900 999990 1000000 0 0 0\n13 raw acct 1 92 8 0 8 2 0\n13 raw cells 0 0 0 0 0\n13 raw cells 1 3 0 0 0\n13 raw pol 0 1 2\n13 raw pol 1 0\n13 raw pol 2 0\n13 raw lru\n")
-unfolding digits same_object
+unfolding digits same_object entries entry_row is_usable sample_directory sample_block
 oldest_value_comes_back = refl
 
 -- The default answer doesn't see what the dropped graft changed: 4 blocks are read ahead, not 5.
@@ -86,7 +86,7 @@ pub tuned_parameter_put_back :
     ∷ Lines (codes "open 0 alpha\ninstall 0 0 0 50\nbill 0 0\nread 0 0 0 0 1\nstep 0 6\nraw\nstep 0 2\nraw\n")
     ∷ [])
     ≡ (0, codes "0 boot 8 64 3\n1 ok\n2 ok 9 0\n3 ok 0\n4 ok\n5 ok\n6 data 1f\n6 graft 0 0 1\n7 ran 6\n6 graft 0 0 1\n8 raw clock 0\n8 raw queue 0:20:0\n8 raw acct 0 999994 999999 1000000 6 1 0\n8 raw cells 0 0 0 0 0\n8 raw open 0 0 alpha 1 8 1 0 0\n8 raw graft 0 0 0 50 1 0 0 0\n8 raw pol 0 1 5\n8 raw pol 1 0\n8 raw pol 2 0\n8 raw lru 0:0:1:0:0\n8 raw call 0 6 graft 0 0 1\n8 raw level 0 0 0 0 6\n8 raw undo 0 0 tune 0 0 4\n6 drop 0 0 C1\n6 ok\n9 ran 2\n10 raw clock 0\n10 raw queue 0:20:0\n10 raw acct 0 999992 999999 1000000 8 1 0\n10 raw cells 0 0 0 0 0\n10 raw open 0 0 alpha 1 8 1 5 0\n10 raw pol 0 1 4\n10 raw pol 1 0\n10 raw pol 2 0\n10 raw lru 0:0:1:0:0 1:0:2:0:0 2:0:3:0:0 3:0:4:0:0 4:0:5:0:0\n")
-unfolding digits same_object
+unfolding digits same_object entries entry_row is_usable sample_directory sample_block
 tuned_parameter_put_back = refl
 
 -- A graft begins with nothing of its own, and is dropped at its first instruction, which isn't charged.
@@ -97,7 +97,7 @@ pub unfunded_graft_is_dropped :
     ∷ Lines (codes "spawn 0\ninstall 1 5 0 100\nyield 0\nstep 0 10\nraw\n")
     ∷ [])
     ≡ (0, codes "0 boot 8 64 3\n1 ok 1 0\n2 ok 1\n3 ok\n4 graft 1 5 1\n4 drop 1 5 C9\n4 ok 1\n5 ran 1\n6 raw clock 0\n6 raw queue 1:20:1 0:20:0\n6 raw acct 0 1000000 1000000 1000000 0 0 0\n6 raw acct 1 0 0 0 0 0 0\n6 raw cells 0 0 0 0 0\n6 raw cells 1 0 0 0 0\n6 raw pol 0 1 2\n6 raw pol 1 0\n6 raw pol 2 0\n6 raw lru\n")
-unfolding digits same_object
+unfolding digits same_object entries entry_row is_usable sample_directory sample_block
 unfunded_graft_is_dropped = refl
 
 -- The same where its installer has plenty, as long as it isn't billed.
@@ -108,7 +108,7 @@ pub new_graft_has_nothing :
     ∷ Lines (codes "install 0 5 0 100\nyield 0\nstep 0 10\nbill 0 5\n")
     ∷ [])
     ≡ (0, codes "0 boot 8 64 3\n1 ok 1 0\n2 ok\n3 graft 0 5 1\n3 drop 0 5 C9\n3 ok 0\n4 ran 1\n5 E11\n")
-unfolding digits same_object
+unfolding digits same_object entries entry_row is_usable sample_directory sample_block
 new_graft_has_nothing = refl
 
 -- The records of a nested level that completed are its asker's: its trap undoes them too.
@@ -120,7 +120,7 @@ pub nested_completes_then_asker_traps :
     ∷ Lines (codes "spawn 0\nopen 1 alpha\ngive 0 1 steps 100\ngive 0 1 records 10\npoke 1 0 3\ninstall 1 0 0 50\nfund 1 0 steps 20\nfund 1 0 records 5\ninstall 1 5 1 50\nfund 1 5 steps 20\nyield 0\nstep 0 9\nraw\nstep 0 1\nraw\nstep 0 1\npeek 1 0\nraw\n")
     ∷ [])
     ≡ (0, codes "0 boot 8 64 3\n1 ok 8 0\n2 ok 3 0\n3 ok 1\n4 ok 0\n5 ok\n6 ok\n7 ok\n8 ok\n9 ok\n10 ok\n11 ok\n12 ok\n13 graft 1 5 1\n14 ran 9\n13 graft 1 0 2\n15 raw clock 0\n15 raw queue 1:20:0 0:20:0\n15 raw acct 0 999900 999990 1000000 0 0 0\n15 raw acct 1 60 5 0 9 1 0\n15 raw cells 0 0 0 0 0\n15 raw cells 1 8 0 0 0\n15 raw open 1 0 alpha 0 8 0 0 0\n15 raw graft 1 0 0 50 0 13 4 0\n15 raw graft 1 5 1 50 0 18 0 0\n15 raw pol 0 1 2\n15 raw pol 1 0\n15 raw pol 2 0\n15 raw lru\n15 raw call 0 13 graft 1 0 2\n15 raw level 0 0 1 5 2\n15 raw level 0 1 1 0 7\n15 raw undo 0 1 cell 1 0 3\n16 ran 1\n13 graft 1 5 1\n17 raw clock 0\n17 raw queue 1:20:0 0:20:0\n17 raw acct 0 999900 999990 1000000 0 0 0\n17 raw acct 1 60 5 0 10 1 0\n17 raw cells 0 0 0 0 0\n17 raw cells 1 8 0 0 0\n17 raw open 1 0 alpha 0 8 0 0 0\n17 raw graft 1 0 0 50 0 12 4 0\n17 raw graft 1 5 1 50 0 18 0 0\n17 raw pol 0 1 2\n17 raw pol 1 0\n17 raw pol 2 0\n17 raw lru\n17 raw call 0 13 graft 1 5 1\n17 raw level 0 0 1 5 2\n17 raw undo 0 0 cell 1 0 3\n13 drop 1 5 C2 77\n13 ok 1\n18 ran 1\n19 ok 3\n20 raw clock 0\n20 raw queue 1:20:1 0:20:0\n20 raw acct 0 999900 999990 1000000 0 0 0\n20 raw acct 1 77 5 0 11 1 0\n20 raw cells 0 0 0 0 0\n20 raw cells 1 3 0 0 0\n20 raw open 1 0 alpha 0 8 0 0 0\n20 raw graft 1 0 0 50 0 12 4 0\n20 raw pol 0 1 2\n20 raw pol 1 0\n20 raw pol 2 0\n20 raw lru\n")
-unfolding digits same_object
+unfolding digits same_object entries entry_row is_usable sample_directory sample_block
 nested_completes_then_asker_traps = refl
 
 -- What a nested level held is held on after its answer: another process waits for the cell until the asker ends.
@@ -132,7 +132,7 @@ pub nested_level_hands_on_what_it_holds :
     ∷ Lines (codes "spawn 0\nopen 1 alpha\ngive 0 1 steps 100\ngive 0 1 records 10\npoke 1 0 3\ninstall 1 0 0 50\nfund 1 0 steps 20\nfund 1 0 records 5\ninstall 1 5 1 50\nfund 1 5 steps 20\nyield 0\nstep 0 10\npoke 1 0 7\nstep 0 1\npeek 1 0\n")
     ∷ [])
     ≡ (0, codes "0 boot 8 64 3\n1 ok 8 0\n2 ok 3 0\n3 ok 1\n4 ok 0\n5 ok\n6 ok\n7 ok\n8 ok\n9 ok\n10 ok\n11 ok\n12 ok\n13 graft 1 5 1\n14 ran 10\n13 graft 1 5 1\n15 waits Cell(1,0) 0\n13 drop 1 5 C2 77\n13 ok 1\n15 ok\n16 ran 1\n17 ok 7\n")
-unfolding digits same_object
+unfolding digits same_object entries entry_row is_usable sample_directory sample_block
 nested_level_hands_on_what_it_holds = refl
 
 -- A dropped nested level's change is undone, and its asker's own is not: the asker goes on and commits it.
@@ -144,7 +144,7 @@ pub nested_drop_undoes_its_own_changes :
     ∷ Lines (codes "spawn 0\nopen 1 alpha\ngive 0 1 steps 100\ngive 0 1 records 10\npoke 1 0 3\ninstall 1 0 0 50\nbill 1 0\ninstall 1 5 1 50\nbill 1 5\nyield 0\nstep 0 9\nstep 0 1\nstep 0 2\npeek 1 0\n")
     ∷ [])
     ≡ (0, codes "0 boot 8 64 3\n1 ok 4 0\n2 ok 8 0\n3 ok 1\n4 ok 0\n5 ok\n6 ok\n7 ok\n8 ok\n9 ok\n10 ok\n11 ok\n12 graft 1 5 1\n13 ran 9\n12 graft 1 0 2\n12 drop 1 0 C2 9\n14 ran 1\n12 graft 1 5 1\n12 ok 1\n15 ran 2\n16 ok 5\n")
-unfolding digits same_object
+unfolding digits same_object entries entry_row is_usable sample_directory sample_block
 nested_drop_undoes_its_own_changes = refl
 
 -- A dropped nested level lets go of the cell that it read: the cell changes, and the level isn't run again.
@@ -156,7 +156,7 @@ pub dropped_level_lets_go_what_it_read :
     ∷ Lines (codes "spawn 0\nopen 1 alpha\ngive 0 1 steps 100\ninstall 1 0 0 20\nbill 1 0\ninstall 1 5 1 20\nbill 1 5\nyield 0\nstep 0 7\npoke 1 0 7\nstep 0 2\nraw\n")
     ∷ [])
     ≡ (0, codes "0 boot 8 64 3\n1 ok 7 0\n2 ok 5 0\n3 ok 1\n4 ok 0\n5 ok\n6 ok\n7 ok\n8 ok\n9 ok\n10 graft 1 5 1\n10 drop 1 0 C1\n11 ran 7\n10 graft 1 5 1\n12 ok\n10 ok 1\n13 ran 2\n14 raw clock 0\n14 raw queue 1:20:1 0:20:0\n14 raw acct 0 999900 1000000 1000000 0 0 0\n14 raw acct 1 91 0 0 9 0 0\n14 raw cells 0 0 0 0 0\n14 raw cells 1 7 0 0 0\n14 raw open 1 0 alpha 0 8 0 0 0\n14 raw graft 1 5 1 20 1 0 0 0\n14 raw pol 0 1 2\n14 raw pol 1 0\n14 raw pol 2 0\n14 raw lru\n")
-unfolding digits same_object
+unfolding digits same_object entries entry_row is_usable sample_directory sample_block
 dropped_level_lets_go_what_it_read = refl
 
 -- An ask where no graft stands is answered by default.
@@ -167,7 +167,7 @@ pub ask_without_a_graft :
     ∷ Lines (codes "spawn 0\nopen 1 alpha\ngive 0 1 steps 50\ngive 0 1 records 50\nread 1 0 0 0 1\ninstall 1 5 0 10\nbill 1 5\nyield 0\nstep 0 9\npeek 1 0\nraw\n")
     ∷ [])
     ≡ (0, codes "0 boot 8 64 3\n1 ok 7 0\n2 ok 1\n3 ok 0\n4 ok\n5 ok\n6 data 1f\n6 ok\n7 ok\n8 ok\n9 graft 1 5 1\n9 ok 1\n10 ran 7\n11 ok 2\n12 raw clock 0\n12 raw queue 1:20:1 0:20:0\n12 raw acct 0 999950 999950 1000000 0 0 0\n12 raw acct 1 43 49 0 7 1 0\n12 raw cells 0 0 0 0 0\n12 raw cells 1 2 0 0 0\n12 raw open 1 0 alpha 1 8 1 3 0\n12 raw graft 1 5 0 10 1 0 0 0\n12 raw pol 0 1 2\n12 raw pol 1 0\n12 raw pol 2 0\n12 raw lru 0:1:1:0:0 1:1:2:0:0 2:1:3:0:0\n")
-unfolding digits same_object
+unfolding digits same_object entries entry_row is_usable sample_directory sample_block
 ask_without_a_graft = refl
 
 -- A refused answer drops the graft; an accepted victim changes places with the candidate in the order of use.
@@ -179,7 +179,7 @@ pub victim_of_another_owner :
     ∷ Lines (codes "spawn 0\ndefault 0 0 0\nopen 0 alpha\nopen 1 beta\nread 1 0 0 0 1\nread 1 0 1 0 1\nread 0 0 0 0 1\nread 1 0 2 0 1\ngive 0 1 steps 100\ninstall 1 4 0 10\nbill 1 4\nread 0 0 1 0 1\nstep 0 2\ninstall 1 4 1 10\nbill 1 4\nread 0 0 2 0 1\nstep 0 2\nraw\n")
     ∷ [])
     ≡ (0, codes "0 boot 4 64 3\n1 ok 2 0\n2 ok 2 0\n3 ok 1\n4 ok\n5 ok 0\n6 ok 0\n7 data 17\n7 ok\n8 data 36\n8 ok\n9 data 1f\n9 ok\n10 data 55\n10 ok\n11 ok\n12 ok\n13 ok\n14 graft 1 4 1\n14 drop 1 4 C12 2 2\n14 data 3e\n14 ok\n15 ran 2\n16 ok\n17 ok\n18 graft 1 4 1\n18 data 5d\n18 ok\n19 ran 2\n20 raw clock 0\n20 raw queue 0:20:0 1:20:0\n20 raw acct 0 999900 1000000 1000000 0 0 0\n20 raw acct 1 96 0 0 4 0 0\n20 raw cells 0 0 0 0 0\n20 raw cells 1 0 0 0 0\n20 raw open 0 0 alpha 3 8 1 3 0\n20 raw open 1 0 beta 3 8 1 3 0\n20 raw graft 1 4 1 10 1 0 0 0\n20 raw pol 0 0\n20 raw pol 1 0\n20 raw pol 2 0\n20 raw lru 2:0:1:0:0 1:1:10:0:0 0:0:2:0:0 3:0:3:0:0\n")
-unfolding digits same_object
+unfolding digits same_object entries entry_row is_usable sample_directory sample_block
 victim_of_another_owner = refl
 
 -- An id that isn't built drops the graft, and its step is charged.
@@ -190,7 +190,7 @@ pub ids_above_the_highest_are_refused :
     ∷ Lines (codes "install 0 5 0 9\nfund 0 5 steps 5\nyield 0\nstep 0 9\nraw\n")
     ∷ [])
     ≡ (0, codes "0 boot 8 64 3\n1 ok 3 0\n2 ok\n3 ok\n4 graft 0 5 1\n4 drop 0 5 C3 12\n4 ok 0\n5 ran 2\n6 raw clock 0\n6 raw queue 0:20:1\n6 raw acct 0 999998 1000000 1000000 2 0 0\n6 raw cells 0 0 0 0 0\n6 raw pol 0 1 2\n6 raw pol 1 0\n6 raw pol 2 0\n6 raw lru\n")
-unfolding digits same_object
+unfolding digits same_object entries entry_row is_usable sample_directory sample_block
 ids_above_the_highest_are_refused = refl
 
 -- the kernel after a script, nothing where it hasn't booted
@@ -241,5 +241,5 @@ pub each_drop_puts_back_its_own :
     ∷ Lines (codes "spawn 0\nopen 1 alpha\ngive 0 1 steps 100\ngive 0 1 records 10\npoke 1 0 3\ninstall 1 0 0 50\nbill 1 0\ninstall 1 5 1 50\nbill 1 5\nyield 0\nstep 0 9\n")
     ∷ []))
     ≡ 8 ∷ 5 ∷ 3 ∷ []
-unfolding digits same_object
+unfolding digits same_object entries entry_row is_usable sample_directory sample_block
 each_drop_puts_back_its_own = refl

@@ -1,10 +1,10 @@
 -- How a script runs, line by line: what each line makes of the session, and what it writes.
-use Rattle.std.specs.Prelude.{ℕ, suc, Bool, true, false, nat_lt, List, [], ◌∷◌, ◌++◌, length, drop, is_some, Option, None, Some, Result, Ok, Err, codes, decimal, filter}
+use Rattle.std.specs.Prelude.{ℕ, suc, Bool, true, false, nat_lt, List, [], ◌∷◌, ◌++◌, drop, is_some, Option, None, Some, Result, Ok, Err, codes, decimal}
 use Rattle.kernel_model.specs.declared.FileRow.{FileRow}
 use Rattle.kernel_model.specs.declared.Note.{Note}
 use Rattle.kernel_model.specs.Objects.{at}
 use Rattle.kernel_model.specs.World.{World, Image, Blocks}
-use Rattle.kernel_model.specs.Directory.{Disk, directory_of}
+use Rattle.kernel_model.specs.Directory.{Disk, directory_of, usable_count}
 use Rattle.kernel_model.specs.Images.{LoadFault, load}
 use Rattle.kernel_model.specs.Meaning.{Meaning, disk_fails}
 use Rattle.kernel_model.specs.Kernel.{Kernel, Run}
@@ -84,10 +84,6 @@ fault_text n fault = codes "script" ++ spaced n ++ codes " S" ++ decimal (fault_
 -- a line is refused
 abbrev pub refuses_line : Session → ScriptFault → List Bool → Written
 refuses_line s fault io = says (record s { refused = true }) (line (fault_text s.lines fault)) io
-
--- how many entries of a directory are usable
-abbrev pub usable_count : List (Option FileRow) → ℕ
-usable_count rows = length (filter (λ (r : Option FileRow). is_some r) rows)
 
 -- what no event changes, after these set-up lines, over a disk of this size with this directory
 abbrev pub world_of : Setup → (size callable : ℕ) → List (Option FileRow) → World

@@ -1,0 +1,126 @@
+//! The work on rows and on the order of use, as functions over plain lists.
+
+ghost use Rattle.std.specs.Prelude.{◌≡◌, ℕ, true, false, IfSome, IfNone, ◌<◌, ◌≤◌, ◌==◌, not, length, take, filter, map, cond, Some, None, Option, replicate, slice_set, option_map};
+ghost use Rattle.std.specs.List.{position};
+ghost use Rattle.std.specs.Option.{is_none, is_some};
+ghost use Rattle.kernel_model.specs.declared.FrameRow.{FrameRow as Row};
+ghost use Rattle.buffer_cache.specs.Frames.{newest, exchanged, handed, holds, row_at};
+
+use arrayvec::ArrayVec;
+use kernel_model::{FRAMES, FrameRow};
+
+/// Rows of frames that aren't in use.
+pub(crate) fn no_rows() -> [Option<FrameRow>; FRAMES]
+    ensures { result ≡ replicate 64 None }
+{
+    [None; FRAMES]
+}
+
+/// Whether a frame holds this block.
+pub(crate) fn is_holding(row: &Option<FrameRow>, block: u32) -> bool
+    ensures { result ≡ holds block row.now }
+{
+    match row {
+        Some(row) => row.block == block,
+        None => false,
+    }
+}
+
+/// The lowest of the first frames that isn't in use.
+pub(crate) fn free_frame(rows: &[Option<FrameRow>], count: u8) -> Option<u8>
+    requires { count ≤ length rows.now }
+    ensures value { result ≡ position (λ (r : Option Row). is_none r) (take count rows.now) }
+    ensures below { IfSome result (λ f. f < count) }
+    ensures unused { IfSome result (λ f. is_some (row_at rows.now f) ≡ false) }
+    ensures full { IfNone result ((f : ℕ) → f < count → is_some (row_at rows.now f) ≡ true) }
+{
+    for (f, row) in rows[..count as usize].iter().enumerate() {
+        if row.is_none() {
+            return Some(f as u8);
+        }
+    }
+    None
+}
+
+/// What a frame in use holds.
+pub(crate) fn row_of(rows: &[Option<FrameRow>], f: u8) -> FrameRow
+    requires { is_some (row_at rows.now f) ≡ true }
+    ensures { row_at rows.now f ≡ Some result }
+{
+    match rows[f as usize] {
+        Some(row) => row,
+        None => unreachable!(),
+    }
+}
+
+/// Makes a frame the newest.
+pub(crate) fn make_newest(order: &mut ArrayVec<u8, FRAMES>, f: u8)
+    requires { length (filter (λ g. not (g == f)) order.old.items) < 64 }
+    ensures { order.new.items ≡ newest f order.old.items }
+{
+    remove(order, f);
+    order.push(f);
+}
+
+/// Takes a frame out of the order of use.
+fn remove(order: &mut ArrayVec<u8, FRAMES>, f: u8)
+    ensures { order.new.items ≡ filter (λ g. not (g == f)) order.old.items }
+{
+    order.retain(|g| *g != f);
+}
+
+/// A frame, or the other one of two.
+fn other(h: u8, f: u8, g: u8) -> u8
+    ensures { result ≡ exchanged f g h }
+{
+    if h == f {
+        g
+    } else if h == g {
+        f
+    } else {
+        h
+    }
+}
+
+/// Two frames change places in the order of use.
+pub(crate) fn exchange(order: &mut ArrayVec<u8, FRAMES>, f: u8, g: u8)
+    ensures { order.new.items ≡ map (exchanged f g) order.old.items }
+{
+    exchange_all(order.as_mut_slice(), f, g);
+}
+
+/// Puts for each frame the other one of two.
+fn exchange_all(order: &mut [u8], f: u8, g: u8)
+    ensures { order.new ≡ map (exchanged f g) order.old }
+{
+    for h in order.iter_mut() {
+        *h = other(*h, f, g);
+    }
+}
+
+/// Puts what a frame holds.
+pub(crate) fn put_row(rows: &mut [Option<FrameRow>], f: u8, row: FrameRow)
+    requires { f < length rows.old }
+    ensures { rows.new ≡ slice_set rows.old f (Some row) }
+{
+    rows[f as usize] = Some(row);
+}
+
+/// A row with another owner, if it is that of the process.
+fn row_for(row: &Option<FrameRow>, from: u8, to: u8) -> Option<FrameRow>
+    ensures { result ≡ option_map (handed from to) row.now }
+{
+    match row {
+        Some(row) if row.owner == from => Some(FrameRow { owner: to, ..*row }),
+        _ => *row,
+    }
+}
+
+/// A process becomes the owner of what another one owned.
+pub(crate) fn change_owner(rows: &mut [Option<FrameRow>], from: u8, to: u8)
+    ensures { rows.new ≡ map (λ (r : Option Row). option_map (handed from to) r) rows.old }
+{
+    for row in rows.iter_mut() {
+        *row = row_for(row, from, to);
+    }
+}

@@ -1,0 +1,9 @@
+use Rattle.std.proofs.Common.{rules}
+use Rattle.mem_disk.proofs.Blocks.{length-blocks_of}
+use Rattle.mem_disk.proofs.disk.MemDiskDisk.size.Goals as goal
+
+pub returns-clause-count : goal.returns-clause-count
+returns-clause-count c = search (rules, length-blocks_of)
+
+pub returns-clause-told : goal.returns-clause-told
+returns-clause-told c = search (rules, length-blocks_of)

@@ -1,0 +1,139 @@
+//! A disk in memory.
+
+ghost use Rattle.std.specs.Prelude.{◌≡◌, ℕ, ◌<◌, ◌≤◌, ◌*◌, ◌/◌, ◌%◌, ◌+◌, ◌++◌, List, Some, length, cond, take, drop, slice_get, slice_set, slice_range, vec_len, if◌then◌else◌, is_ok, slice_index_or, []};
+ghost use Rattle.std.specs.Option.{IfSome};
+ghost use Rattle.std.specs.Result.{is_err, OnOk};
+ghost use Rattle.vino_base.specs.Faults.{HasCause, counted};
+ghost use Rattle.vino_base.specs.Calls.{Plan, after_call, call_fails};
+ghost use Rattle.mem_disk.specs.DiskState.{blocks_of, disk_after};
+
+use kernel_model::BLOCK_BYTES;
+use std::marker::Model;
+use vino_base::{CallPlan, Disk, Failed};
+
+/// A disk in memory. Chosen calls of it fail, and no other.
+///
+/// Contracts see the list of its blocks, its calls and its count of faults.
+#[derive(Drop)]
+pub struct MemDisk {
+    bytes: Vec<u8>,
+    size: u32,
+    plan: CallPlan,
+    faults: u64,
+}
+
+impl Model for MemDisk {
+    ghost use Rattle.std.specs.Prelude.{◌≡◌, ◌≤◌, ◌/◌, vec_len};
+    ghost use Rattle.mem_disk.specs.DiskState.{DiskState, blocks_of};
+
+    ghost Value = { DiskState };
+
+    ghost view = { λ d. record { blocks = blocks_of d.bytes.items; plan = d.plan; faults = d.faults } };
+
+    ghost invariant = { λ d. (d.size ≡ vec_len d.bytes / 512) × (1 ≤ d.size) × (d.size ≤ 4096) };
+}
+
+impl MemDisk {
+    /// The disk of these blocks, one after another: 1 to 4,096 of 512 bytes. The k-th call of read and write, counted
+    /// from 1, fails exactly where k is in `fails`. No fault was counted yet.
+    pub fn from_bytes(bytes: Vec<u8>, fails: Vec<u64>) -> MemDisk
+        requires whole { vec_len bytes % 512 ≡ 0 }
+        requires least { 512 ≤ vec_len bytes }
+        requires most { vec_len bytes ≤ 512 * 4096 }
+        ensures { result ≡ record { blocks = blocks_of bytes.items; plan = record { made = 0; failing = fails.items }; faults = 0 } }
+    {
+        let size = (bytes.len() / BLOCK_BYTES) as u32;
+        MemDisk {
+            bytes,
+            size,
+            plan: CallPlan::new(fails),
+            faults: 0,
+        }
+    }
+}
+
+impl Disk for MemDisk {
+    ghost faults = { λ d. d.faults };
+
+    ghost block_count = { λ d. length d.blocks };
+
+    ghost blocks = { λ d. Some d.blocks };
+
+    ghost plan = { λ d. Some d.plan };
+
+    fn size(&self) -> u32 {
+        self.size
+    }
+
+    fn read_block(&mut self, b: u32, to: &mut [u8; 512]) -> Result<(), Failed>
+        requires { b < length self.old.blocks }
+        ensures cause { HasCause self.old.faults self.new.faults result }
+        ensures same_size { length self.new.blocks ≡ length self.old.blocks }
+        ensures given { (bs : List (List ℕ)) → Some self.old.blocks ≡ Some bs → OnOk result (slice_get bs b ≡ Some to.new) }
+        ensures kept { (bs : List (List ℕ)) → Some self.old.blocks ≡ Some bs → Some self.new.blocks ≡ Some bs }
+        ensures planned { (p : Plan) → Some self.old.plan ≡ Some p → (is_err result ≡ call_fails p) × (Some self.new.plan ≡ Some (after_call p)) }
+        ensures fails { is_err result ≡ call_fails self.old.plan }
+        ensures after { self.new ≡ disk_after self.old self.old.blocks }
+        ensures buffer { to.new ≡ cond (call_fails self.old.plan) to.old (slice_index_or self.old.blocks b []) }
+    {
+        if self.plan.next_fails() {
+            self.faults = counted_up(self.faults);
+            return Err(Failed);
+        }
+        get_block(&self.bytes, b, to);
+        Ok(())
+    }
+
+    fn write_block(&mut self, b: u32, from: &[u8; 512]) -> Result<(), Failed>
+        requires { b < length self.old.blocks }
+        ensures cause { HasCause self.old.faults self.new.faults result }
+        ensures same_size { length self.new.blocks ≡ length self.old.blocks }
+        ensures replaced { (bs : List (List ℕ)) → Some self.old.blocks ≡ Some bs →
+            Some self.new.blocks ≡ Some (if is_ok result then slice_set bs b from.now else bs) }
+        ensures planned { (p : Plan) → Some self.old.plan ≡ Some p → (is_err result ≡ call_fails p) × (Some self.new.plan ≡ Some (after_call p)) }
+        ensures fails { is_err result ≡ call_fails self.old.plan }
+        ensures after { self.new ≡ disk_after self.old (slice_set self.old.blocks b from.now) }
+    {
+        if !self.plan.next_fails() {
+            put_block(&mut self.bytes, b, from);
+            return Ok(());
+        }
+        self.faults = counted_up(self.faults);
+        Err(Failed)
+    }
+}
+
+/// A count after one more, which stands still at its end.
+fn counted_up(count: u64) -> u64
+    ensures { result ≡ counted count }
+{
+    count.saturating_add(1)
+}
+
+/// Where block b begins.
+fn start_of(bytes: &[u8], b: u32) -> usize
+    requires { b < length (blocks_of bytes.now) }
+    ensures value { result ≡ 512 * b }
+    ensures bound { result + 512 ≤ length bytes.now }
+{
+    BLOCK_BYTES * b as usize
+}
+
+/// Copies block b out.
+fn get_block(bytes: &[u8], b: u32, to: &mut [u8; 512])
+    requires { b < length (blocks_of bytes.now) }
+    ensures told { slice_get (blocks_of bytes.now) b ≡ Some to.new }
+    ensures value { to.new ≡ slice_index_or (blocks_of bytes.now) b [] }
+{
+    let start = start_of(bytes, b);
+    to.copy_from_slice(&bytes[start..start + BLOCK_BYTES]);
+}
+
+/// Replaces block b.
+fn put_block(bytes: &mut [u8], b: u32, from: &[u8; 512])
+    requires { b < length (blocks_of bytes.old) }
+    ensures { blocks_of bytes.new ≡ slice_set (blocks_of bytes.old) b from.now }
+{
+    let start = start_of(bytes, b);
+    bytes[start..start + BLOCK_BYTES].copy_from_slice(from);
+}

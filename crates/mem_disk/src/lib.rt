@@ -1,0 +1,12 @@
+//! A disk in memory, and the directory in block 0 of a disk. `docs/FORMATS.md` has the formats.
+#![tactic(auto)]
+
+mod directory;
+mod disk;
+mod sample;
+
+pub use directory::{Directory, read_directory};
+pub use disk::MemDisk;
+
+#[cfg(test)]
+mod tests;
