@@ -1,6 +1,6 @@
 //! The directory in block 0 of a disk.
 
-ghost use Rattle.std.specs.Prelude.{◌≡◌, ℕ, true, ◌≤◌, ◌==◌, ◌+◌, ◌*◌, nat_le, length, slice_range, slice_index_or, None, Some, IsSome, IfSome, ◌&&◌, cond, take_while};
+ghost use Rattle.std.specs.Prelude.{◌≡◌, ℕ, true, ◌≤◌, ◌==◌, ◌+◌, ◌*◌, nat_le, [], length, slice_range, slice_index_or, None, Some, IsSome, IfSome, ◌&&◌, cond, take_while};
 ghost use Rattle.std.specs.List.{list_any, list_all, prefix_len};
 ghost use Rattle.kernel_model.specs.declared.FileRow.{FileRow as Row};
 ghost use Rattle.kernel_model.specs.Bytes.{is_name_byte, word_at};
@@ -27,24 +27,33 @@ const BLOCKS: usize = 20;
 
 const LENGTH: usize = 24;
 
-/// The 16 entries of a directory by their numbers, nothing where an entry isn't usable.
+/// The entries of a directory by their numbers, at most 16, nothing where an entry isn't usable.
 #[derive(Drop)]
 pub struct Directory {
     rows: ArrayVec<Option<FileRow>, ENTRIES>,
 }
 
 impl Model for Directory {
-    ghost use Rattle.std.specs.Prelude.{◌≡◌, List, Option, length};
+    ghost use Rattle.std.specs.Prelude.{◌≤◌, List, Option, length};
     ghost use Rattle.kernel_model.specs.declared.FileRow.{FileRow};
 
     ghost Value = { List (Option FileRow) };
 
     ghost view = { λ d. d.rows.items };
 
-    ghost invariant = { λ d. length d.rows.items ≡ 16 };
+    ghost invariant = { λ d. length d.rows.items ≤ 16 };
 }
 
 impl Directory {
+    /// No entries.
+    pub fn empty() -> Directory
+        ensures { result ≡ [] }
+    {
+        Directory {
+            rows: ArrayVec::new(),
+        }
+    }
+
     /// The number of the usable entry of this name.
     pub fn find(&self, name: &[u8]) -> Option<u8>
         ensures value { result ≡ entry_named name.now 0 self.now }

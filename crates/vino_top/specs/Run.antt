@@ -1,14 +1,15 @@
--- What a call of `vino` does to its source and its sink.
-use Rattle.std.specs.Prelude.{◌≡◌, ◌≢◌, ℕ, ◌+◌, ◌<◌, ◌≤◌, ◌⊎◌, true, false, List, [], ◌∷◌, ◌++◌, length, take, Option, codes}
+-- What a call of `vino` does to its source, its sink and its disk.
+use Rattle.std.specs.Prelude.{◌≡◌, ◌≢◌, ℕ, ◌+◌, ◌<◌, ◌≤◌, ◌⊎◌, ⊤, Bool, true, false, List, [], ◌∷◌, ◌++◌, length, take, flat_map, Option, codes}
 use Rattle.std.specs.List.{concat}
 use Rattle.std.specs.Io.KnownBytes.{Appends, Consumes, IsAtEnd, Keeps}
 use Rattle.vino_base.specs.Faults.{Rose}
+use Rattle.vino_base.specs.Calls.{Plan}
+use Rattle.disk_log.specs.Calls.{Tells, Made}
 use Rattle.kernel_model.specs.World.{Blocks}
-use Rattle.kernel_model.specs.Directory.{Disk}
 use Rattle.kernel_model.specs.Script.{words_of, first_word}
-use Rattle.kernel_model.specs.Session.{Session, Written, first_session, after_line, after_built, session_after, pieces_of}
+use Rattle.kernel_model.specs.Session.{Session, Written, first_session, after_line, after_built, session_after, pieces_of, first_io, later_io}
 use Rattle.kernel_model.specs.Script.{Entry}
-use Rattle.kernel_model.specs.Outcome.{SCRIPT_BYTES, Ending, End, Fault, Over, Outcome, outcome, written, lines_after, rest_after, IsCutShort}
+use Rattle.kernel_model.specs.Outcome.{SCRIPT_BYTES, Ending, End, Fault, Over, Outcome, outcome, written, lines_after, rest_after}
 use Rattle.kernel_model.specs.Text.{line, usage_text}
 use Rattle.kernel_model.specs.Filters.{Filter}
 use Rattle.kernel_model.specs.Filters as filter
@@ -23,32 +24,56 @@ use Rattle.vino_top.specs.declared.run.Stop.TheVariants.{SinkFailed, NoMemory}
 
 -- ---- the abstract run
 
--- where a script runs: the key of its images, and the disk
+-- where a script runs: the key of its images, and how many blocks its disk has
 pub record Place : Type 0 where
   pub key : List ℕ
-  pub disk : Disk
+  pub size : ℕ
 
--- with this key, over a disk of this size with these blocks
-abbrev pub place : (key : List ℕ) (size : ℕ) → Blocks → Place
-place key size blocks = record { key = key; disk = record { size = size; block = blocks } }
+-- with this key, over a disk of this size
+abbrev pub place : (key : List ℕ) (size : ℕ) → Place
+place key size = record { key = key; size = size }
 
--- what a line makes of a session
-abbrev pub line_run : Place → Session → List ℕ → Written
-line_run c s text = after_line present_build c.key c.disk.size s text []
+-- what a line makes of a session, where the list says of each of its calls of the disk whether it fails
+abbrev pub line_run : Place → Session → List ℕ → List Bool → Written
+line_run c a text io = after_line present_build c.key c.size a text io
 
--- the session after lines
-abbrev pub lines_run : Place → Session → List (List ℕ) → Session
-lines_run c s texts = session_after present_build c.key c.disk.size s texts []
+-- the session after lines, with one such list for each line
+abbrev pub lines_run : Place → Session → List (List ℕ) → List (List Bool) → Session
+lines_run c a texts ios = session_after present_build c.key c.size a texts ios
 
 -- what each of these lines writes
-abbrev pub pieces_run : Place → Session → List (List ℕ) → List (List ℕ)
-pieces_run c s texts = pieces_of present_build c.key c.disk.size s texts []
+abbrev pub pieces_run : Place → Session → List (List ℕ) → List (List Bool) → List (List ℕ)
+pieces_run c a texts ios = pieces_of present_build c.key c.size a texts ios
+
+-- each of these lines made all calls of its list
+abbrev pub UsesAll : Place → Session → List (List ℕ) → List (List Bool) → Type 0
+UsesAll c a [] ios = ⊤
+UsesAll c a (text ∷ texts) ios =
+    ((line_run c a text (first_io ios)).io ≡ []) × UsesAll c (line_run c a text (first_io ios)).session texts (later_io ios)
+
+-- the session before the first line, over a disk with these blocks
+abbrev pub first_on : (size : ℕ) → Blocks → Session
+first_on size blocks = first_session (record { size = size; block = blocks })
 
 -- the outcome of a run that took these bytes and ended so
-abbrev pub outcome_at : Place → List ℕ → Ending → Outcome
-outcome_at c taken e = outcome present_build c.key taken e c.disk []
+abbrev pub outcome_at : Place → Blocks → (taken : List ℕ) → Ending → List (List Bool) → Outcome
+outcome_at c blocks taken e ios = outcome present_build c.key taken e (record { size = c.size; block = blocks }) ios
 
--- ---- the sink
+-- ---- the disk and the sink
+
+-- what is seen of a disk: its blocks and its plan, where it tells them, and its count of faults
+pub record DiskSeen : Type 0 where
+  pub told : Option (List (List ℕ))
+  pub plan : Option Plan
+  pub faults : ℕ
+
+-- these blocks, this plan, this count
+abbrev pub disk_seen : Option (List (List ℕ)) → Option Plan → ℕ → DiskSeen
+disk_seen told plan faults = record { told = told; plan = plan; faults = faults }
+
+-- from one moment to another the disk had the calls of these lists
+abbrev pub MadeAll : DiskSeen → DiskSeen → List (List Bool) → Type 0
+MadeAll d e ios = Made d.faults e.faults d.plan e.plan (flat_map (λ (io : List Bool). io) ios)
 
 -- the sink took a part of these bytes, not whole
 pub record AppendsPart (old new : Option (List ℕ)) (bytes : List ℕ) : Type 0 where
@@ -58,66 +83,82 @@ pub record AppendsPart (old new : Option (List ℕ)) (bytes : List ℕ) : Type 0
   pub lacks : 0 < length more
   pub appended : Appends old new part
 
--- the sink took some of these pieces, and of the next one a part, not whole
-pub record CutsShort (old new : Option (List ℕ)) (pieces : List (List ℕ)) : Type 0 where
-  pub bytes : List ℕ
-  pub appended : Appends old new bytes
-  pub cut : IsCutShort pieces bytes
+-- ---- a session of the code beside the abstract one
+
+-- the session stands for the abstract one, whose blocks the disk tells
+pub record StandsFor (s : code.Session) (told : Option (List (List ℕ))) (a : Session) : Type 0 where
+  pub session : session_of a.blocks s ≡ a
+  pub blocks : Tells told a.blocks
+
+-- what came of a line or an entry: the session and the disk stand for what is written of them, all calls of the list were made,
+-- and the bytes are these
+pub record Comes (t : code.Session) (told : Option (List (List ℕ))) (out : List ℕ) (w : Written) : Type 0 where
+  pub stands : StandsFor t told w.session
+  pub used : w.io ≡ []
+  pub bytes : out ≡ w.bytes
+
+-- the session went on by this line, which made these calls and writes `out`
+abbrev pub RunsLine : (size : ℕ) → List ℕ → (s t : code.Session) → (told told_new : Option (List (List ℕ))) → List Bool → List ℕ → Type 0
+RunsLine size text s t told told_new io out =
+    (key : List ℕ) (a : Session) → StandsFor s told a → Comes t told_new out (line_run (place key size) a text io)
+
+-- the session went on by this entry, which made these calls and writes `out`
+abbrev pub RunsEntry : (size : ℕ) → Entry → (s t : code.Session) → (told told_new : Option (List (List ℕ))) → List Bool → List ℕ → Type 0
+RunsEntry size e s t told told_new io out =
+    (key : List ℕ) (a : Session) → StandsFor s told a → Comes t told_new out (after_built present_build key size a e io (is_built e))
 
 -- a line is an `image` line, which alone wants memory
 abbrev pub IsImageLine : List ℕ → Type 0
 IsImageLine text = first_word (words_of text) ≡ codes "image"
 
--- Among these lines there was no memory for the bytes of an `image` line. The sink took what the lines before it write.
-pub record Lacks (c : Place) (s : Session) (lines : List (List ℕ)) (old new : Option (List ℕ)) : Type 0 where
+-- whatever the key is, and from whichever of these sessions
+abbrev pub Whenever : (size : ℕ) → (Session → Type 0) → (Place → Session → Type 0) → Type 0
+Whenever size from holds = (key : List ℕ) (a : Session) → from a → holds (place key size) a
+
+-- These bytes were fed to a session and to the line that was being read. The sink took what they write.
+pub record Feeds (size : ℕ) (s t : code.Session) (line line_new bytes : List ℕ) (got got_new : Option (List ℕ)) (d e : DiskSeen) : Type 0 where
+  pub ios : List (List Bool)
+  pub one_each : length ios ≡ length (lines_after line bytes)
+  pub calls : MadeAll d e ios
+  pub line_is : line_new ≡ rest_after line bytes
+  pub lines : t.lines ≤ s.lines + length bytes
+  pub stands : Whenever size (StandsFor s d.told) (λ c a. StandsFor t e.told (lines_run c a (lines_after line bytes) ios))
+  pub used : Whenever size (StandsFor s d.told) (λ c a. UsesAll c a (lines_after line bytes) ios)
+  pub appended : Whenever size (StandsFor s d.told) (λ c a. Appends got got_new (concat (pieces_run c a (lines_after line bytes) ios)))
+
+-- Of these lines some were run, and of what the next one writes the sink took a part, not whole. The disk is as that line
+-- leaves it.
+pub record CutsShort (size : ℕ) (from : Session → Type 0) (lines : List (List ℕ)) (got got_new : Option (List ℕ)) (d e : DiskSeen) : Type 0 where
+  pub done : List (List ℕ)
+  pub next : List ℕ
+  pub later : List (List ℕ)
+  pub order : lines ≡ done ++ next ∷ later
+  pub ios : List (List Bool)
+  pub io : List Bool
+  pub one_each : length ios ≡ length done
+  pub calls : MadeAll d e (ios ++ io ∷ [])
+  pub part : List ℕ
+  pub more : List ℕ
+  pub lacks : 0 < length more
+  pub used : Whenever size from (λ c a. UsesAll c a done ios × ((line_run c (lines_run c a done ios) next io).io ≡ []))
+  pub bytes : Whenever size from (λ c a. (line_run c (lines_run c a done ios) next io).bytes ≡ part ++ more)
+  pub appended : Whenever size from (λ c a. Appends got got_new (concat (pieces_run c a done ios) ++ part))
+  pub blocks : Whenever size from (λ c a. Tells e.told (line_run c (lines_run c a done ios) next io).session.blocks)
+
+-- Of these lines some were run. For the bytes of the next one, an `image` line, there was no memory.
+pub record Lacks (size : ℕ) (from : Session → Type 0) (lines : List (List ℕ)) (got got_new : Option (List ℕ)) (d e : DiskSeen) : Type 0 where
   pub done : List (List ℕ)
   pub next : List ℕ
   pub later : List (List ℕ)
   pub order : lines ≡ done ++ next ∷ later
   pub image : IsImageLine next
-  pub going : (lines_run c s done).refused ≡ false
-  pub appended : Appends old new (concat (pieces_run c s done))
-
--- ---- a session of the code beside the abstract one, whatever the key and the disk's blocks are
-
--- the session went on by this line, and `out` is what the line writes
-abbrev pub RunsLine : (size : ℕ) → List ℕ → (old new : code.Session) → List ℕ → Type 0
-RunsLine size text old new out =
-    (key : List ℕ) (blocks : Blocks) →
-    (session_of size blocks new ≡ (line_run (place key size blocks) (session_of size blocks old) text).session)
-    × (out ≡ (line_run (place key size blocks) (session_of size blocks old) text).bytes)
-
--- the session went on by this entry, and `out` is what it writes
-abbrev pub RunsEntry : (size : ℕ) → Entry → (old new : code.Session) → List ℕ → Type 0
-RunsEntry size e old new out =
-    (key : List ℕ) (blocks : Blocks) →
-    (session_of size blocks new ≡ (after_built present_build key size (session_of size blocks old) e [] (is_built e)).session)
-    × (out ≡ (after_built present_build key size (session_of size blocks old) e [] (is_built e)).bytes)
-
--- the session went on by this line, and the sink took what the line writes
-abbrev pub TakesLine : (size : ℕ) → List ℕ → (s t : code.Session) → (got got_new : Option (List ℕ)) → Type 0
-TakesLine size text s t got got_new =
-    (key : List ℕ) (blocks : Blocks) →
-    (session_of size blocks t ≡ (line_run (place key size blocks) (session_of size blocks s) text).session)
-    × Appends got got_new (line_run (place key size blocks) (session_of size blocks s) text).bytes
-
--- why a line stopped the run
-abbrev pub StopsLine : (size : ℕ) → List ℕ → (s : code.Session) → (got got_new : Option (List ℕ)) → Stop → Type 0
-StopsLine size text s got got_new SinkFailed =
-    (key : List ℕ) (blocks : Blocks) → AppendsPart got got_new (line_run (place key size blocks) (session_of size blocks s) text).bytes
-StopsLine size text s got got_new NoMemory = IsImageLine text × (s.refused ≡ false) × (got_new ≡ got)
-
--- These bytes were fed to a session, and to the line that was being read. The sink took what they write.
-pub record Feeds (c : Place) (session session_new : Session) (line line_new bytes : List ℕ) (got got_new : Option (List ℕ)) : Type 0 where
-  pub session_is : session_new ≡ lines_run c session (lines_after line bytes)
-  pub line_is : line_new ≡ rest_after line bytes
-  pub appended : Appends got got_new (concat (pieces_run c session (lines_after line bytes)))
-
--- the same, of sessions of the code
-abbrev pub FeedsAll : (size : ℕ) → (s t : code.Session) → (line line_new bytes : List ℕ) → (got got_new : Option (List ℕ)) → Type 0
-FeedsAll size s t line line_new bytes got got_new =
-    (key : List ℕ) (blocks : Blocks) →
-    Feeds (place key size blocks) (session_of size blocks s) (session_of size blocks t) line line_new bytes got got_new
+  pub ios : List (List Bool)
+  pub one_each : length ios ≡ length done
+  pub calls : MadeAll d e ios
+  pub used : Whenever size from (λ c a. UsesAll c a done ios)
+  pub going : Whenever size from (λ c a. (lines_run c a done ios).refused ≡ false)
+  pub appended : Whenever size from (λ c a. Appends got got_new (concat (pieces_run c a done ios)))
+  pub blocks : Whenever size from (λ c a. Tells e.told (lines_run c a done ios).blocks)
 
 -- the status of a run that stopped
 abbrev pub stop_status : Stop → ℕ
@@ -125,78 +166,95 @@ stop_status SinkFailed = 4
 stop_status NoMemory = 5
 
 -- why the run stopped among these lines
-abbrev pub StopsAt : (c : Place) → Session → List (List ℕ) → (got got_new : Option (List ℕ)) → Stop → Type 0
-StopsAt c s lines got got_new SinkFailed = CutsShort got got_new (pieces_run c s lines)
-StopsAt c s lines got got_new NoMemory = Lacks c s lines got got_new
+abbrev pub StopsAt : (size : ℕ) → (Session → Type 0) → List (List ℕ) → (got got_new : Option (List ℕ)) → (d e : DiskSeen) → Stop → Type 0
+StopsAt size from lines got got_new d e SinkFailed = CutsShort size from lines got got_new d e
+StopsAt size from lines got got_new d e NoMemory = Lacks size from lines got got_new d e
 
--- the same, of a session of the code
-abbrev pub StopsAll : (size : ℕ) → (s : code.Session) → List (List ℕ) → (got got_new : Option (List ℕ)) → Stop → Type 0
-StopsAll size s lines got got_new stop =
-    (key : List ℕ) (blocks : Blocks) → StopsAt (place key size blocks) (session_of size blocks s) lines got got_new stop
+-- the session went on by this line, and the sink took what the line writes
+pub record TakesLine (size : ℕ) (text : List ℕ) (s t : code.Session) (got got_new : Option (List ℕ)) (d e : DiskSeen) : Type 0 where
+  pub io : List Bool
+  pub calls : MadeAll d e (io ∷ [])
+  pub lines : t.lines ≤ s.lines + 1
+  pub out : List ℕ
+  pub appended : Appends got got_new out
+  pub runs : RunsLine size text s t d.told e.told io out
 
 -- ---- a whole run
 
--- a line was refused among these bytes
-abbrev pub IsRefused : Place → List ℕ → Type 0
-IsRefused c bytes = (lines_run c (first_session c.disk) (lines_after [] (take SCRIPT_BYTES bytes))).refused ≡ true
+-- a session before the first line, whose blocks the disk tells
+pub record IsFirst (size : ℕ) (told : Option (List (List ℕ))) (a : Session) : Type 0 where
+  pub session : a ≡ first_on size a.blocks
+  pub blocks : Tells told a.blocks
+
+-- the lines of a script, of which these bytes were taken
+abbrev pub script_lines : List ℕ → List (List ℕ)
+script_lines taken = lines_after [] (take SCRIPT_BYTES taken)
 
 -- what the source did where reading ended so
-abbrev pub HasEnded : Ending → List ℕ → Option (List ℕ) → ℕ → ℕ → Type 0
+abbrev pub HasEnded : Ending → (taken : List ℕ) → Option (List ℕ) → (before now : ℕ) → Type 0
 HasEnded End taken rest_new before now = (length taken ≤ SCRIPT_BYTES) × IsAtEnd rest_new
 HasEnded Fault taken rest_new before now = (length taken ≤ SCRIPT_BYTES) × Rose before now
 HasEnded Over taken rest_new before now = length taken ≡ SCRIPT_BYTES + 1
 
 -- The source gave some bytes, at most one more than a script may have, and reading ended somehow, or stopped behind a
--- refused line. The status is that of the outcome, and the sink took its bytes.
-pub record Ran (c : Place) (rest rest_new : Option (List ℕ)) (before now : ℕ) (got got_new : Option (List ℕ)) (status : ℕ) : Type 0 where
+-- refused line. Whatever the key is, and over the blocks that the disk told: each line made the calls of its list, the status
+-- is that of the outcome, the sink took its bytes, and the disk tells its blocks.
+pub record Ran (size : ℕ) (rest rest_new : Option (List ℕ)) (before now : ℕ) (got got_new : Option (List ℕ)) (d e : DiskSeen) (status : ℕ) : Type 0 where
   pub taken : List ℕ
   pub ending : Ending
   pub within : length taken ≤ SCRIPT_BYTES + 1
   pub consumed : Consumes rest rest_new taken
-  pub ended : IsRefused c taken ⊎ HasEnded ending taken rest_new before now
-  pub status_is : status ≡ (outcome_at c taken ending).status
-  pub appended : Appends got got_new (written (outcome_at c taken ending))
+  pub ios : List (List Bool)
+  pub one_each : length ios ≡ length (script_lines taken)
+  pub calls : MadeAll d e ios
+  pub ended : Whenever size (IsFirst size d.told) (λ c a. (lines_run c a (script_lines taken) ios).refused ≡ true) ⊎ HasEnded ending taken rest_new before now
+  pub used : Whenever size (IsFirst size d.told) (λ c a. UsesAll c a (script_lines taken) ios)
+  pub status_is : Whenever size (IsFirst size d.told) (λ c a. status ≡ (outcome_at c a.blocks taken ending ios).status)
+  pub appended : Whenever size (IsFirst size d.told) (λ c a. Appends got got_new (written (outcome_at c a.blocks taken ending ios)))
+  pub blocks : Whenever size (IsFirst size d.told) (λ c a. Tells e.told (outcome_at c a.blocks taken ending ios).blocks)
 
--- The source gave some bytes, and the sink took some of the pieces of the outcome, and not all.
-pub record Broke (c : Place) (rest rest_new got got_new : Option (List ℕ)) : Type 0 where
+-- The input has ended. Of what the outcome writes behind the lines of the script the sink took a part, not whole.
+pub record CutsLast (size : ℕ) (taken : List ℕ) (rest_new got got_new : Option (List ℕ)) (d e : DiskSeen) : Type 0 where
+  pub ended : (length taken ≤ SCRIPT_BYTES) × IsAtEnd rest_new
+  pub ios : List (List Bool)
+  pub one_each : length ios ≡ length (script_lines taken)
+  pub calls : MadeAll d e ios
+  pub part : List ℕ
+  pub more : List ℕ
+  pub lacks : 0 < length more
+  pub used : Whenever size (IsFirst size d.told) (λ c a. UsesAll c a (script_lines taken) ios)
+  pub bytes : Whenever size (IsFirst size d.told) (λ c a. written (outcome_at c a.blocks taken End ios) ≡ concat (pieces_run c a (script_lines taken) ios) ++ part ++ more)
+  pub appended : Whenever size (IsFirst size d.told) (λ c a. Appends got got_new (concat (pieces_run c a (script_lines taken) ios) ++ part))
+  pub blocks : Whenever size (IsFirst size d.told) (λ c a. Tells e.told (outcome_at c a.blocks taken End ios).blocks)
+
+-- The source gave some bytes, and what a line of them writes was cut short, or the last lines were.
+pub record Broke (size : ℕ) (rest rest_new got got_new : Option (List ℕ)) (d e : DiskSeen) : Type 0 where
   pub taken : List ℕ
-  pub ending : Ending
   pub within : length taken ≤ SCRIPT_BYTES + 1
   pub consumed : Consumes rest rest_new taken
-  pub short : CutsShort got got_new (outcome_at c taken ending).pieces
+  pub short : CutsShort size (IsFirst size d.told) (script_lines taken) got got_new d e ⊎ CutsLast size taken rest_new got got_new d e
 
 -- The source gave some bytes, and for one of their lines there was no memory.
-pub record Lacked (c : Place) (rest rest_new got got_new : Option (List ℕ)) : Type 0 where
+pub record Lacked (size : ℕ) (rest rest_new got got_new : Option (List ℕ)) (d e : DiskSeen) : Type 0 where
   pub taken : List ℕ
   pub within : length taken ≤ SCRIPT_BYTES + 1
   pub consumed : Consumes rest rest_new taken
-  pub lacks : Lacks c (first_session c.disk) (lines_after [] (take SCRIPT_BYTES taken)) got got_new
-
--- the same, whatever the key and the disk's blocks are
-abbrev pub RanAll : (size : ℕ) → (rest rest_new : Option (List ℕ)) → (before now : ℕ) → (got got_new : Option (List ℕ)) → (status : ℕ) → Type 0
-RanAll size rest rest_new before now got got_new status =
-    (key : List ℕ) (blocks : Blocks) → Ran (place key size blocks) rest rest_new before now got got_new status
-
-abbrev pub BrokeAll : (size : ℕ) → (rest rest_new got got_new : Option (List ℕ)) → Type 0
-BrokeAll size rest rest_new got got_new = (key : List ℕ) (blocks : Blocks) → Broke (place key size blocks) rest rest_new got got_new
-
-abbrev pub LackedAll : (size : ℕ) → (rest rest_new got got_new : Option (List ℕ)) → Type 0
-LackedAll size rest rest_new got got_new = (key : List ℕ) (blocks : Blocks) → Lacked (place key size blocks) rest rest_new got got_new
+  pub lacks : Lacks size (IsFirst size d.told) (script_lines taken) got got_new d e
 
 -- ---- the words of the command line
 
 -- a script was run, over a disk of this size
-pub record RunDoes (size : ℕ) (rest rest_new : Option (List ℕ)) (before now : ℕ) (got got_new : Option (List ℕ)) (status : ℕ) : Type 0 where
+pub record RunDoes (size : ℕ) (rest rest_new : Option (List ℕ)) (before now : ℕ) (got got_new : Option (List ℕ)) (d e : DiskSeen) (status : ℕ) : Type 0 where
   pub known : status ≢ 1
-  -- the status and the lines are those of the outcome
-  pub ran : status ≢ 4 → status ≢ 5 → RanAll size rest rest_new before now got got_new status
-  -- the sink failed: it took some of the pieces of the outcome, and of the next one not all
-  pub broke : status ≡ 4 → BrokeAll size rest rest_new got got_new
+  -- the status, the lines and the disk's blocks are those of the outcome
+  pub ran : status ≢ 4 → status ≢ 5 → Ran size rest rest_new before now got got_new d e status
+  -- the sink failed: it took what some lines write, and of what comes next a part, not whole
+  pub broke : status ≡ 4 → Broke size rest rest_new got got_new d e
   -- want of memory stopped the run before its first byte, or at an `image` line: the lines before it are written
-  pub memory : status ≡ 5 → Keeps rest rest_new × Keeps got got_new ⊎ LackedAll size rest rest_new got got_new
+  pub memory : status ≡ 5 → Keeps rest rest_new × Keeps got got_new × (e ≡ d) ⊎ Lacked size rest rest_new got got_new d e
 
--- a filter read its input, and answered
-pub record FilterDoes (f : Filter) (rest rest_new : Option (List ℕ)) (before now : ℕ) (got got_new : Option (List ℕ)) (status : ℕ) : Type 0 where
+-- a filter read its input, and answered; the disk stays
+pub record FilterDoes (f : Filter) (rest rest_new : Option (List ℕ)) (before now : ℕ) (got got_new : Option (List ℕ)) (d e : DiskSeen) (status : ℕ) : Type 0 where
   pub known : status ≢ 1
   -- the status and the bytes are those of the filter's answer
   pub ran : status ≢ 4 → status ≢ 5 → filtered.Ran f [] rest rest_new before now got got_new status
@@ -204,30 +262,26 @@ pub record FilterDoes (f : Filter) (rest rest_new : Option (List ℕ)) (before n
   pub broke : status ≡ 4 → filtered.Broke f [] rest rest_new before now got got_new
   -- with no memory nothing is written
   pub memory : status ≡ 5 → filtered.Gave rest rest_new × Keeps got got_new
+  pub disk : e ≡ d
 
--- the usage line was written, and nothing was read
-abbrev pub UsageDoes : (rest rest_new got got_new : Option (List ℕ)) → (status : ℕ) → Type 0
-UsageDoes rest rest_new got got_new status =
-    Keeps rest rest_new
+-- the usage line was written, nothing was read, and the disk stays
+abbrev pub UsageDoes : (rest rest_new got got_new : Option (List ℕ)) → (d e : DiskSeen) → (status : ℕ) → Type 0
+UsageDoes rest rest_new got got_new d e status =
+    Keeps rest rest_new × (e ≡ d)
     × ((status ≡ 1) × Appends got got_new (line usage_text) ⊎ (status ≡ 4) × AppendsPart got got_new (line usage_text))
 
 -- what is done for what the words ask, over a disk of this size
-abbrev pub Does : Asked → (size : ℕ) → (rest rest_new : Option (List ℕ)) → (before now : ℕ) → (got got_new : Option (List ℕ)) → (status : ℕ) → Type 0
-Does Run size rest rest_new before now got got_new status = RunDoes size rest rest_new before now got got_new status
-Does Asm size rest rest_new before now got got_new status = FilterDoes filter.Asm rest rest_new before now got got_new status
-Does Dis size rest rest_new before now got got_new status = FilterDoes filter.Dis rest rest_new before now got got_new status
-Does Nothing size rest rest_new before now got got_new status = UsageDoes rest rest_new got got_new status
+abbrev pub Does : Asked → (size : ℕ) → (rest rest_new : Option (List ℕ)) → (before now : ℕ) → (got got_new : Option (List ℕ)) → (d e : DiskSeen) → (status : ℕ) → Type 0
+Does Run size rest rest_new before now got got_new d e status = RunDoes size rest rest_new before now got got_new d e status
+Does Asm size rest rest_new before now got got_new d e status = FilterDoes filter.Asm rest rest_new before now got got_new d e status
+Does Dis size rest rest_new before now got got_new d e status = FilterDoes filter.Dis rest rest_new before now got got_new d e status
+Does Nothing size rest rest_new before now got got_new d e status = UsageDoes rest rest_new got got_new d e status
 
 -- ---- the steps of a run
 
 -- Where a run stands before a read, while so many bytes may still be taken.
-pub record Reached (c : Place) (rest rest_new got got_new : Option (List ℕ)) (session : Session) (line : List ℕ) (left : ℕ) : Type 0 where
+pub record Reached (size : ℕ) (s t : code.Session) (rest rest_new got got_new : Option (List ℕ)) (d e : DiskSeen) (line : List ℕ) (left : ℕ) : Type 0 where
   pub taken : List ℕ
   pub count : length taken + left ≡ SCRIPT_BYTES + 1
   pub consumed : Consumes rest rest_new taken
-  pub fed : Feeds c (first_session c.disk) session [] line (take SCRIPT_BYTES taken) got got_new
-
--- the same, of a session of the code, whatever the key and the disk's blocks are
-abbrev pub ReachedAll : (size : ℕ) → (rest rest_new got got_new : Option (List ℕ)) → (s : code.Session) → (line : List ℕ) → (left : ℕ) → Type 0
-ReachedAll size rest rest_new got got_new s line left =
-    (key : List ℕ) (blocks : Blocks) → Reached (place key size blocks) rest rest_new got got_new (session_of size blocks s) line left
+  pub fed : Feeds size s t [] line (take SCRIPT_BYTES taken) got got_new d e
