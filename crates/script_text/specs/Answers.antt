@@ -1,5 +1,5 @@
 -- How the answers of `parse_line` stand for what the definitions say of a line.
-use Rattle.std.specs.Prelude.{◌≡◌, ◌<◌, ⊤, Result, Ok, Err}
+use Rattle.std.specs.Prelude.{◌≡◌, ◌<◌, ◌≤◌, ⊤, Result, Ok, Err}
 use Rattle.kernel_model.specs.Script as script
 use Rattle.script_text.specs.declared.parse.Entry.{Entry}
 use Rattle.script_text.specs.declared.parse.Entry.TheVariants.{Blank, Frames, Patience, Grant, Boot, Happens, Image, Raw}
@@ -30,7 +30,8 @@ abbrev pub Answers : Result Entry ScriptFault → Result script.Entry script.Scr
 Answers (Ok entry) said = said ≡ Ok (entry_seen entry)
 Answers (Err fault) said = Refuses fault said
 
--- the kind of object of a set-up line is one of the eight
-abbrev pub HasListedKind : Result Entry ScriptFault → Type 0
-HasListedKind (Ok (Patience kind n)) = kind < 8
-HasListedKind _ = ⊤
+-- what a set-up line sets is within its limits
+abbrev pub SetsWithin : Result Entry ScriptFault → Type 0
+SetsWithin (Ok (Frames n)) = (2 ≤ n) × (n ≤ 64)
+SetsWithin (Ok (Patience kind n)) = kind < 8
+SetsWithin _ = ⊤

@@ -5,7 +5,7 @@ ghost use Rattle.kernel_model.specs.declared.Command.TheVariants as command_is;
 ghost use Rattle.kernel_model.specs.Bytes.{hex_word};
 ghost use Rattle.kernel_model.specs.Script.{WRITE_DIGITS, IMAGE_DIGITS, amount_at, name_word, open_by, write_by, call_of, happens_by, loads_by, entry_of, entry_at, command_named, first_word, other_words, words_of, is_blank, parsed_line};
 ghost use Rattle.script_text.specs.declared.parse.ScriptFault.TheVariants.{NoMemory as no_memory};
-ghost use Rattle.script_text.specs.Answers.{Answers, HasListedKind};
+ghost use Rattle.script_text.specs.Answers.{Answers, SetsWithin};
 ghost use Rattle.script_text.specs.Words.{words_left};
 
 use crate::commands::{forms, named, sets_up};
@@ -129,7 +129,7 @@ fn call(verb: CallName, n: &[u32], last: &[u8]) -> Option<SysCall>
 fn frames(n: u32) -> Result<Entry, ScriptFault>
     ensures answer { Answers result (entry_of command_is.Frames (n ∷ []) []) }
     ensures memory { result ≡ Err no_memory → ⊥ }
-    ensures kinds { HasListedKind result }
+    ensures limits { SetsWithin result }
 {
     if n >= 2 && n <= 64 {
         Ok(Entry::Frames(n as u8))
@@ -143,7 +143,7 @@ fn patience(kind: u32, n: u32) -> Result<Entry, ScriptFault>
     requires { kind < 8 }
     ensures answer { Answers result (entry_of command_is.Patience (kind ∷ n ∷ []) []) }
     ensures memory { result ≡ Err no_memory → ⊥ }
-    ensures kinds { HasListedKind result }
+    ensures limits { SetsWithin result }
 {
     if n >= 1 && n <= 1000 {
         Ok(Entry::Patience(kind as u8, n))
@@ -156,7 +156,7 @@ fn patience(kind: u32, n: u32) -> Result<Entry, ScriptFault>
 fn happens(p: u32, call: Option<SysCall>) -> Result<Entry, ScriptFault>
     ensures answer { Answers result (happens_by p call) }
     ensures memory { result ≡ Err no_memory → ⊥ }
-    ensures kinds { HasListedKind result }
+    ensures limits { SetsWithin result }
 {
     match call {
         Some(call) => Ok(Entry::Happens(Event::Sys(p, call))),
@@ -167,7 +167,7 @@ fn happens(p: u32, call: Option<SysCall>) -> Result<Entry, ScriptFault>
 /// `image k HEX`.
 fn image(alloc: Global, slot: u32, last: &[u8]) -> Result<Entry, ScriptFault>
     ensures answer { Answers result (loads_by slot (hex_word IMAGE_DIGITS last.now)) }
-    ensures kinds { HasListedKind result }
+    ensures limits { SetsWithin result }
 {
     match loaded(alloc, last) {
         Ok(Some(bytes)) => Ok(Entry::Image(slot, bytes)),
@@ -181,7 +181,7 @@ fn entry_said(alloc: Global, command: Command, n: &[u32], last: &[u8]) -> Result
     requires { command ≡ command_is.Patience → slice_index n.now 0 < 8 }
     ensures answer { Answers result (entry_of command n.now last.now) }
     ensures memory { result ≡ Err no_memory → command ≡ command_is.Image }
-    ensures kinds { HasListedKind result }
+    ensures limits { SetsWithin result }
 {
     match command {
         Command::Frames => frames(at(n, 0)),
@@ -205,7 +205,7 @@ fn command_line(
 ) -> Result<Entry, ScriptFault>
     ensures answer { Answers result (entry_at booted (words_left rest.now) (Some command)) }
     ensures memory { result ≡ Err no_memory → command ≡ command_is.Image }
-    ensures kinds { HasListedKind result }
+    ensures limits { SetsWithin result }
 {
     if sets_up(command) == booted {
         return Err(ScriptFault::WrongPlace);
@@ -222,7 +222,7 @@ fn command_line(
 fn words_line(alloc: Global, line: &[u8], booted: bool) -> Result<Entry, ScriptFault>
     ensures answer { Answers result (entry_at booted (other_words (words_of line.now)) (command_named (first_word (words_of line.now)))) }
     ensures memory { result ≡ Err no_memory → first_word (words_of line.now) ≡ codes "image" }
-    ensures kinds { HasListedKind result }
+    ensures limits { SetsWithin result }
 {
     let end = word_end(line);
     match named(&line[..end]) {
@@ -238,7 +238,7 @@ pub fn parse_line(alloc: Global, line: &[u8], booted: bool) -> Result<Entry, Scr
     requires { length line.now ≤ 65536 }
     ensures answer { Answers result (parsed_line booted line.now) }
     ensures memory { result ≡ Err no_memory → first_word (words_of line.now) ≡ codes "image" }
-    ensures kinds { HasListedKind result }
+    ensures limits { SetsWithin result }
 {
     if is_blank_line(line) {
         return Ok(Entry::Blank);

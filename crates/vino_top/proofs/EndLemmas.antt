@@ -1,123 +1,279 @@
--- How a run of the code's session goes on and ends, whatever the key and the disk's blocks are.
-use Rattle.std.proofs.Common.{refl, ◌≡◌, ◌≢◌, ◌<◌, ◌≤◌, ◌+◌, ◌-◌, ℕ, false, true, List, [], length, take, Option, Some, None, arith, ◌⊎◌}
+-- How the run of a script ends.
+use Rattle.std.proofs.Common.{refl, sym, ap, ◌∙◌, ◌≡◌, ◌≢◌, ◌<◌, ◌≤◌, ◌+◌, ◌-◌, ℕ, suc, Bool, false, true, List, [], ◌∷◌, ◌++◌, length, take, Option, Some, None, arith, ◌⊎◌, inl, inr, length-append, length-take, append-nil, append_assoc, add-one, subst}
+use Rattle.std.specs.List.{concat}
+use Rattle.std.proofs.lemmas.List.Folds.{concat-append}
 use Rattle.std.specs.Io.KnownBytes.{Appends, Consumes, Keeps, IsAtEnd}
-use Rattle.std.proofs.KnownBytes.{Appends-nil, Consumes-nil}
+use Rattle.std.proofs.KnownBytes.{Appends-nil, Appends-trans, Consumes-nil, Consumes-trans, Consumes-kept}
 use Rattle.vino_base.specs.Faults.{Rose}
+use Rattle.disk_log.specs.Calls.{Tells}
 use Rattle.kernel_model.specs.World.{Blocks}
 use Rattle.kernel_model.specs.Script.{LINE_BYTES, Unfinished}
-use Rattle.kernel_model.specs.Session.{first_session, fault_text}
-use Rattle.kernel_model.specs.Outcome.{SCRIPT_BYTES, lines_after, left_lines}
+use Rattle.kernel_model.specs.Session.{Session, fault_text}
+use Rattle.kernel_model.specs.Kernel as abstract
+use Rattle.kernel_model.specs.Outcome.{SCRIPT_BYTES, Ending, End, Fault, Over, Outcome, lines_after, rest_after, left_lines, at_end, at_ending, outcome_of, ends_as, ends_with, written}
 use Rattle.kernel_model.specs.Text.{line}
-use Rattle.vino_top.specs.Standing.{session_of, kernel_of}
-use Rattle.vino_top.specs.Run.{place, AppendsPart, FeedsAll, StopsAll, stop_status, ReachedAll, RanAll, BrokeAll, LackedAll}
+use Rattle.vino_top.specs.Standing.{session_of, kernel_in}
+use Rattle.vino_top.specs.Run.{Place, place, first_on, script_lines, lines_run, pieces_run, UsesAll, outcome_at, DiskSeen, MadeAll, AppendsPart, StandsFor, IsFirst, HasEnded, Whenever, Feeds, StopsAt, stop_status, Reached, Ran, CutsLast, Broke, Lacked}
 use Rattle.vino_top.specs.declared.kernel.Kernel.{Kernel}
-use Rattle.vino_top.specs.declared.session.Session.{Session}
+use Rattle.vino_top.specs.declared.session.Session as code
 use Rattle.vino_top.specs.declared.run.Stop.{Stop}
 use Rattle.vino_top.specs.declared.run.Stop.TheVariants.{SinkFailed, NoMemory}
-use Rattle.vino_top.proofs.RunLemmas.{reached_lines, reached_short, reached_more, ran_fault, ran_over, ran_stopped, ran_finish, broke_finish, broke_fed, lacked_fed}
-use Rattle.std.specs.Prelude.{option_map}
+use Rattle.vino_top.proofs.LineLemmas.{script_more}
+use Rattle.vino_top.proofs.RunLemmas.{fed_none, fed_more, fed_short, stops_fed, stops_from}
 
--- no disk but for its size
-no_blocks : Blocks
-no_blocks = λ b. []
+-- ---- where a run stands
 
--- no call is left in flight
-none_left : (size : ℕ) (k : Option Kernel) → left_lines (option_map (kernel_of size) k) ≡ []
-none_left size None = refl
-none_left size (Some k) = refl
+-- a session of the code that stands for every first one
+abbrev pub IsBegun : (size : ℕ) → code.Session → Type 0
+IsBegun size s = (blocks : Blocks) → session_of blocks s ≡ first_on size blocks
+
+-- it stands for a first session
+begun_stands : (size : ℕ) (s : code.Session) (told : Option (List (List ℕ))) (a : Session) → IsBegun size s → IsFirst size told a → StandsFor s told a
+begun_stands size s told a begun first =
+    record { session = begun a.blocks ∙ sym first.session; blocks = first.blocks }
+
+-- before the first read
+pub reached_first : (size : ℕ) (s : code.Session) (r g : Option (List ℕ)) (d : DiskSeen) (l : List ℕ) → l ≡ [] → Reached size s s r r g g d d l (SCRIPT_BYTES + 1)
+reached_first size s r g d l empty =
+    rw empty (record { taken = []; count = omega arith; consumed = Consumes-nil r; fed = fed_none size s [] g d })
 
 -- a script has had no more lines than bytes
-pub all_reached_lines : (size : ℕ) (r r2 g g2 : Option (List ℕ)) (s : Session) (l : List ℕ) (left : ℕ) → ReachedAll size r r2 g g2 s l left → s.lines + left ≤ SCRIPT_BYTES + 1
-all_reached_lines size r r2 g g2 s l left p =
-    reached_lines (place [] size no_blocks) r r2 g g2 (session_of size no_blocks s) l left (p [] no_blocks)
+pub reached_lines : (size : ℕ) (s t : code.Session) (r r2 g g2 : Option (List ℕ)) (d e : DiskSeen) (l : List ℕ) (left : ℕ) →
+    s.lines ≡ 0 → Reached size s t r r2 g g2 d e l left → t.lines + left ≤ SCRIPT_BYTES + 1
+reached_lines size s t r r2 g g2 d e l left none p = omega (arith, p.fed.lines, length-take SCRIPT_BYTES p.taken, p.count, none)
 
 -- and a line that is no longer than a line may be
-pub all_reached_short : (size : ℕ) (r r2 g g2 : Option (List ℕ)) (s : Session) (l : List ℕ) (left : ℕ) → ReachedAll size r r2 g g2 s l left → length l ≤ LINE_BYTES
-all_reached_short size r r2 g g2 s l left p =
-    reached_short (place [] size no_blocks) r r2 g g2 (session_of size no_blocks s) l left (p [] no_blocks)
+pub reached_short : (size : ℕ) (s t : code.Session) (r r2 g g2 : Option (List ℕ)) (d e : DiskSeen) (l : List ℕ) (left : ℕ) →
+    Reached size s t r r2 g g2 d e l left → length l ≤ LINE_BYTES
+reached_short size s t r r2 g g2 d e l left p = fed_short _ _ _ _ _ _ _ _ _ _ p.fed (omega arith)
 
--- more bytes of the source were fed
-pub all_reached_more : (size : ℕ) (r r2 r3 g g2 g3 : Option (List ℕ)) (s t : Session) (l m : List ℕ) (left n : ℕ) (given : List ℕ) →
-    ReachedAll size r r2 g g2 s l left → 0 < left → length given ≡ n → n ≤ left → Consumes r2 r3 given → FeedsAll size s t l m (take (left - 1) given) g2 g3 →
-    ReachedAll size r r3 g g3 t m (left - n)
-all_reached_more size r r2 r3 g g2 g3 s t l m left n given p some count most consumed fed = λ key blocks.
-    reached_more (place key size blocks) r r2 r3 g g2 g3 (session_of size blocks s) (session_of size blocks t) l m left n given (p key blocks) some count most consumed (fed key blocks)
-
--- a failed read
-pub all_ran_fault : (size : ℕ) (r r2 r3 : Option (List ℕ)) (f f2 f3 : ℕ) (g g2 : Option (List ℕ)) (s : Session) (l : List ℕ) (left : ℕ) →
-    ReachedAll size r r2 g g2 s l left → s.refused ≡ false → 0 < left → Keeps r2 r3 → f ≤ f2 → Rose f2 f3 → RanAll size r r3 f f3 g g2 3
-all_ran_fault size r r2 r3 f f2 f3 g g2 s l left p going some kept before rose = λ key blocks.
-    ran_fault (place key size blocks) r r2 r3 f f2 f3 g g2 (session_of size blocks s) l left (p key blocks) going some kept before rose
-
--- more than a script may have
-pub all_ran_over : (size : ℕ) (r r2 : Option (List ℕ)) (f f2 : ℕ) (g g2 : Option (List ℕ)) (s : Session) (l : List ℕ) →
-    ReachedAll size r r2 g g2 s l 0 → s.refused ≡ false → RanAll size r r2 f f2 g g2 7
-all_ran_over size r r2 f f2 g g2 s l p going = λ key blocks.
-    ran_over (place key size blocks) r r2 f f2 g g2 (session_of size blocks s) l (p key blocks) going
-
--- a refused line
-pub all_ran_stopped : (size : ℕ) (r r2 : Option (List ℕ)) (f f2 : ℕ) (g g2 : Option (List ℕ)) (s : Session) (l : List ℕ) (left : ℕ) →
-    ReachedAll size r r2 g g2 s l left → s.refused ≡ true → RanAll size r r2 f f2 g g2 2
-all_ran_stopped size r r2 f f2 g g2 s l left p refused = λ key blocks.
-    ran_stopped (place key size blocks) r r2 f f2 g g2 (session_of size blocks s) l left (p key blocks) refused
-
--- how the last line of a script ends a run
-pub all_ran_finish : (size : ℕ) (r r2 r3 : Option (List ℕ)) (f f2 : ℕ) (g g2 g3 : Option (List ℕ)) (s : Session) (l : List ℕ) (left status : ℕ) →
-    ReachedAll size r r2 g g2 s l left → s.refused ≡ false → 0 < left → Consumes r2 r3 [] → IsAtEnd r3 →
-    (l ≡ [] → g3 ≡ g2) → (status ≡ 2 → Appends g2 g3 (line (fault_text (s.lines + 1) Unfinished))) →
-    (status ≡ 0) × (l ≡ []) ⊎ (status ≡ 2) × (l ≢ []) ⊎ (status ≡ 4) × (l ≢ []) → status ≢ 4 → RanAll size r r3 f f2 g g3 status
-all_ran_finish size r r2 r3 f f2 g g2 g3 s l left status p going some kept end whole refused cases other = λ key blocks.
-    ran_finish (place key size blocks) r r2 r3 f f2 g g2 g3 (session_of size blocks s) l left status (p key blocks) going some kept end whole refused cases other
-    (none_left size s.kernel)
-
--- and how it ends one whose sink fails
-pub all_broke_finish : (size : ℕ) (r r2 r3 g g2 g3 : Option (List ℕ)) (s : Session) (l : List ℕ) (left status : ℕ) →
-    ReachedAll size r r2 g g2 s l left → s.refused ≡ false → 0 < left → Consumes r2 r3 [] →
-    (status ≡ 4 → AppendsPart g2 g3 (line (fault_text (s.lines + 1) Unfinished))) →
-    (status ≡ 0) × (l ≡ []) ⊎ (status ≡ 2) × (l ≢ []) ⊎ (status ≡ 4) × (l ≢ []) → status ≡ 4 → BrokeAll size r r3 g g3
-all_broke_finish size r r2 r3 g g2 g3 s l left status p going some kept broken cases is = λ key blocks.
-    broke_finish (place key size blocks) r r2 r3 g g2 g3 (session_of size blocks s) l left status (p key blocks) going some kept broken cases is
-
--- the sink failed at a line before
-pub all_broke_fed : (size : ℕ) (r r2 r3 g g2 g3 : Option (List ℕ)) (s : Session) (l : List ℕ) (left n : ℕ) (given : List ℕ) →
-    ReachedAll size r r2 g g2 s l left → 0 < left → length given ≡ n → n ≤ left → Consumes r2 r3 given →
-    StopsAll size s (lines_after l (take (left - 1) given)) g2 g3 SinkFailed → BrokeAll size r r3 g g3
-all_broke_fed size r r2 r3 g g2 g3 s l left n given p some count most consumed cut = λ key blocks.
-    broke_fed (place key size blocks) r r2 r3 g g2 g3 (session_of size blocks s) l left n given (p key blocks) some count most consumed (cut key blocks)
-
--- there was no memory for a line before
-pub all_lacked_fed : (size : ℕ) (r r2 r3 g g2 g3 : Option (List ℕ)) (s : Session) (l : List ℕ) (left n : ℕ) (given : List ℕ) →
-    ReachedAll size r r2 g g2 s l left → 0 < left → length given ≡ n → n ≤ left → Consumes r2 r3 given →
-    StopsAll size s (lines_after l (take (left - 1) given)) g2 g3 NoMemory → LackedAll size r r3 g g3
-all_lacked_fed size r r2 r3 g g2 g3 s l left n given p some count most consumed lacks = λ key blocks.
-    lacked_fed (place key size blocks) r r2 r3 g g2 g3 (session_of size blocks s) l left n given (p key blocks) some count most consumed (lacks key blocks)
-
--- before the first byte
-pub all_first : (size : ℕ) (r g : Option (List ℕ)) (s : Session) (l : List ℕ) →
-    ((key : List ℕ) (blocks : Blocks) → session_of size blocks s ≡ first_session (place key size blocks).disk) → l ≡ [] → ReachedAll size r r g g s l (SCRIPT_BYTES + 1)
-all_first size r g s l is empty = λ key blocks.
+-- more bytes of the source were fed: all that it gave, but for one past the script's end
+pub reached_more : (size : ℕ) (s t u : code.Session) (r r2 r3 g g2 g3 : Option (List ℕ)) (d e f : DiskSeen) (l m : List ℕ) (left n : ℕ) (given : List ℕ) →
+    Reached size s t r r2 g g2 d e l left → 0 < left → length given ≡ n → n ≤ left → Consumes r2 r3 given → Feeds size t u l m (take (left - 1) given) g2 g3 e f →
+    Reached size s u r r3 g g3 d f m (left - n)
+reached_more size s t u r r2 r3 g g2 g3 d e f l m left n given p some count most consumed fed =
     record {
-      taken = [];
-      count = refl;
-      consumed = Consumes-nil r;
-      fed = record { session_is = is key blocks; line_is = empty; appended = Appends-nil g };
+      taken = p.taken ++ given;
+      count = omega (arith, p.count, length-append p.taken given);
+      consumed = Consumes-trans _ _ _ _ _ p.consumed consumed;
+      fed = rw (script_more p.taken given left p.count some) (fed_more _ _ _ _ _ _ _ _ _ _ _ _ _ _ _ p.fed fed);
     }
 
--- the run stopped for the sink
-pub all_broke_stop : (size : ℕ) (r r2 r3 g g2 g3 : Option (List ℕ)) (s : Session) (l : List ℕ) (left n : ℕ) (given bytes : List ℕ) (stop : Stop) →
-    ReachedAll size r r2 g g2 s l left → 0 < left → length given ≡ n → n ≤ left → Consumes r2 r3 given → bytes ≡ take (left - 1) given →
-    stop_status stop ≡ 4 → StopsAll size s (lines_after l bytes) g2 g3 stop → BrokeAll size r r3 g g3
-all_broke_stop size r r2 r3 g g2 g3 s l left n given bytes SinkFailed p some count most consumed is status stopped =
-    all_broke_fed size r r2 r3 g g2 g3 s l left n given p some count most consumed (rw is at stopped)
-all_broke_stop size r r2 r3 g g2 g3 s l left n given bytes NoMemory p some count most consumed is status stopped = absurd (omega (arith, status))
+-- ---- outcomes
 
--- the run stopped for want of memory
-pub all_lacked_stop : (size : ℕ) (r r2 r3 g g2 g3 : Option (List ℕ)) (s : Session) (l : List ℕ) (left n : ℕ) (given bytes : List ℕ) (stop : Stop) →
-    ReachedAll size r r2 g g2 s l left → 0 < left → length given ≡ n → n ≤ left → Consumes r2 r3 given → bytes ≡ take (left - 1) given →
-    stop_status stop ≡ 5 → StopsAll size s (lines_after l bytes) g2 g3 stop → LackedAll size r r3 g g3
-all_lacked_stop size r r2 r3 g g2 g3 s l left n given bytes SinkFailed p some count most consumed is status stopped = absurd (omega (arith, status))
-all_lacked_stop size r r2 r3 g g2 g3 s l left n given bytes NoMemory p some count most consumed is status stopped =
-    all_lacked_fed size r r2 r3 g g2 g3 s l left n given p some count most consumed (rw is at stopped)
+-- the outcome where no line was refused
+going_outcome : (e : Ending) (a : Session) (pieces : List (List ℕ)) (rest : List ℕ) → a.refused ≡ false → outcome_of e a pieces rest ≡ at_ending e a pieces rest
+going_outcome e a pieces rest h =
+    ap (λ refused. elim refused as (λ _. Outcome) [ true ↦ ends_as 2 a pieces | false ↦ at_ending e a pieces rest ]) h
+
+-- the outcome where a line was refused
+refused_outcome : (e : Ending) (a : Session) (pieces : List (List ℕ)) (rest : List ℕ) → a.refused ≡ true → outcome_of e a pieces rest ≡ ends_as 2 a pieces
+refused_outcome e a pieces rest h =
+    ap (λ refused. elim refused as (λ _. Outcome) [ true ↦ ends_as 2 a pieces | false ↦ at_ending e a pieces rest ]) h
+
+-- the outcome over the blocks of a first session
+outcome_is : (c : Place) (a : Session) (taken : List ℕ) (e : Ending) (ios : List (List Bool)) → a ≡ first_on c.size a.blocks →
+    outcome_at c a.blocks taken e ios
+    ≡ outcome_of e (lines_run c a (script_lines taken) ios) (pieces_run c a (script_lines taken) ios) (rest_after [] (take SCRIPT_BYTES taken))
+outcome_is c a taken e ios first =
+    ap (λ (x : Session). outcome_of e (lines_run c x (script_lines taken) ios) (pieces_run c x (script_lines taken) ios) (rest_after [] (take SCRIPT_BYTES taken))) (sym first)
+
+-- an outcome of this status, which writes these bytes behind the pieces, and has the blocks of this session
+record EndsSo (o : Outcome) (a : Session) (pieces : List (List ℕ)) (status : ℕ) (last : List ℕ) : Type 0 where
+  status_is : status ≡ o.status
+  bytes : written o ≡ concat pieces ++ last
+  blocks : o.blocks ≡ a.blocks
+
+-- it ends as it stands
+ends_plain : (status : ℕ) (a : Session) (pieces : List (List ℕ)) → EndsSo (ends_as status a pieces) a pieces status []
+ends_plain status a pieces = record { status_is = refl; bytes = sym (append-nil (concat pieces)); blocks = refl }
+
+-- it ends with a last piece
+ends_last : (status : ℕ) (a : Session) (pieces : List (List ℕ)) (last : List ℕ) → EndsSo (ends_with status a pieces last) a pieces status last
+ends_last status a pieces last =
+    record { status_is = refl; bytes = concat-append pieces (last ∷ []) ∙ ap (λ x. concat pieces ++ x) (append-nil last); blocks = refl }
+
+-- How a run ends, by how its outcome does.
+ran_by : (size : ℕ) (s t : code.Session) (r r2 r3 : Option (List ℕ)) (f f2 : ℕ) (g g2 g3 : Option (List ℕ)) (d e : DiskSeen) (l : List ℕ) (left status : ℕ) (ending : Ending) (last : List ℕ) →
+    IsBegun size s → (p : Reached size s t r r2 g g2 d e l left) → Consumes r2 r3 [] → Appends g2 g3 last →
+    (t.refused ≡ true) ⊎ HasEnded ending p.taken r3 f f2 →
+    ((a : Session) (pieces : List (List ℕ)) → StandsFor t e.told a → EndsSo (outcome_of ending a pieces l) a pieces status last) →
+    Ran size r r3 f f2 g g3 d e status
+ran_by size s t r r2 r3 f f2 g g2 g3 d e l left status ending last begun p kept more ended out =
+    let lines = script_lines p.taken in
+    let from = λ (a : Session) (first : IsFirst size d.told a). begun_stands size s d.told a begun first in
+    let is = λ (key : List ℕ) (a : Session) (first : IsFirst size d.told a).
+    outcome_is (place key size) a p.taken ending p.fed.ios first.session
+    ∙ ap (outcome_of ending (lines_run (place key size) a lines p.fed.ios) (pieces_run (place key size) a lines p.fed.ios)) (sym p.fed.line_is) in
+    let so = λ (key : List ℕ) (a : Session) (first : IsFirst size d.told a).
+    out (lines_run (place key size) a lines p.fed.ios) (pieces_run (place key size) a lines p.fed.ios) (p.fed.stands key a (from a first)) in
+    record {
+      taken = p.taken;
+      ending = ending;
+      within = omega (arith, p.count);
+      consumed = rw (← append-nil p.taken) (Consumes-trans _ _ _ _ _ p.consumed kept);
+      ios = p.fed.ios;
+      one_each = p.fed.one_each;
+      calls = p.fed.calls;
+      ended = elim ended [
+        | inl refused ↦ inl (λ key a first. sym (ap (λ (x : Session). x.refused) (p.fed.stands key a (from a first)).session) ∙ refused)
+        | inr so ↦ inr so
+      ];
+      used = λ key a first. p.fed.used key a (from a first);
+      status_is = λ key a first. (so key a first).status_is ∙ ap (λ (o : Outcome). o.status) (sym (is key a first));
+      appended = λ key a first. rw (is key a first, (so key a first).bytes) (Appends-trans _ _ _ _ _ (p.fed.appended key a (from a first)) more);
+      blocks = λ key a first. rw (is key a first, (so key a first).blocks) (p.fed.stands key a (from a first)).blocks;
+    }
+
+-- what a session of the code says of the abstract one
+refused_as : (t : code.Session) (told : Option (List (List ℕ))) (a : Session) (b : Bool) → StandsFor t told a → t.refused ≡ b → a.refused ≡ b
+refused_as t told a b stands h = sym (ap (λ (x : Session). x.refused) stands.session) ∙ h
+
+-- no call is left in flight
+none_in : (booted : Bool) (k : Kernel) → left_lines (kernel_in booted k) ≡ []
+none_in false k = refl
+none_in true k = refl
+
+none_left : (t : code.Session) (told : Option (List (List ℕ))) (a : Session) → StandsFor t told a → left_lines a.kernel ≡ []
+none_left t told a stands = ap (λ (x : Session). left_lines x.kernel) (sym stands.session) ∙ none_in t.booted t.kernel
+
+-- a failed read
+pub ran_fault : (size : ℕ) (s t : code.Session) (r r2 r3 : Option (List ℕ)) (f f2 f3 : ℕ) (g g2 : Option (List ℕ)) (d e : DiskSeen) (l : List ℕ) (left : ℕ) →
+    IsBegun size s → Reached size s t r r2 g g2 d e l left → t.refused ≡ false → 0 < left → Keeps r2 r3 → f ≤ f2 → Rose f2 f3 → Ran size r r3 f f3 g g2 d e 3
+ran_fault size s t r r2 r3 f f2 f3 g g2 d e l left begun p going some kept before rose =
+    ran_by size s t r r2 r3 f f3 g g2 g2 d e l left 3 Fault [] begun p (keeps_consumes r2 r3 kept) (Appends-nil g2) (inr (omega (arith, p.count), omega arith))
+    (λ a pieces stands. rw (going_outcome Fault a pieces l (refused_as t e.told a false stands going)) (ends_plain 3 a pieces))
+  where
+    keeps_consumes : (r r2 : Option (List ℕ)) → Keeps r r2 → Consumes r r2 []
+    keeps_consumes r r2 kept = Consumes-kept _ _ _ _ (Consumes-nil r) kept
+
+-- more than a script may have
+pub ran_over : (size : ℕ) (s t : code.Session) (r r2 : Option (List ℕ)) (f f2 : ℕ) (g g2 : Option (List ℕ)) (d e : DiskSeen) (l : List ℕ) (left : ℕ) →
+    IsBegun size s → Reached size s t r r2 g g2 d e l left → left ≡ 0 → t.refused ≡ false → Ran size r r2 f f2 g g2 d e 7
+ran_over size s t r r2 f f2 g g2 d e l left begun p none going =
+    ran_by size s t r r2 r2 f f2 g g2 g2 d e l left 7 Over [] begun p (Consumes-nil r2) (Appends-nil g2) (inr (omega (arith, p.count, none)))
+    (λ a pieces stands. rw (going_outcome Over a pieces l (refused_as t e.told a false stands going)) (ends_plain 7 a pieces))
+
+-- a refused line
+pub ran_stopped : (size : ℕ) (s t : code.Session) (r r2 : Option (List ℕ)) (f f2 : ℕ) (g g2 : Option (List ℕ)) (d e : DiskSeen) (l : List ℕ) (left : ℕ) →
+    IsBegun size s → Reached size s t r r2 g g2 d e l left → t.refused ≡ true → Ran size r r2 f f2 g g2 d e 2
+ran_stopped size s t r r2 f f2 g g2 d e l left begun p refused =
+    ran_by size s t r r2 r2 f f2 g g2 g2 d e l left 2 Fault [] begun p (Consumes-nil r2) (Appends-nil g2) (inl refused)
+    (λ a pieces stands. rw (refused_outcome Fault a pieces l (refused_as t e.told a true stands refused)) (ends_plain 2 a pieces))
+
+-- the end of the input behind a newline
+end_plain : (a : Session) (pieces : List (List ℕ)) (l : List ℕ) → l ≡ [] → left_lines a.kernel ≡ [] → EndsSo (at_end a pieces l) a pieces 0 []
+end_plain a pieces l empty none = rw (empty, none) (ends_last 0 a pieces [])
+
+-- the end of the input behind other bytes
+end_unfinished : (a : Session) (pieces : List (List ℕ)) (l : List ℕ) (n : ℕ) → l ≢ [] → a.lines ≡ n → EndsSo (at_end a pieces l) a pieces 2 (line (fault_text (suc n) Unfinished))
+end_unfinished a pieces [] n other is = absurd (other refl)
+end_unfinished a pieces (x ∷ l) n other is = rw (← is) (ends_last 2 a pieces (line (fault_text (suc a.lines) Unfinished)))
+
+-- how the last line of a script ends a run: as it stands, or refused
+pub ran_finish : (size : ℕ) (s t : code.Session) (r r2 r3 : Option (List ℕ)) (f f2 : ℕ) (g g2 g3 : Option (List ℕ)) (d e : DiskSeen) (l : List ℕ) (left status : ℕ) →
+    IsBegun size s → Reached size s t r r2 g g2 d e l left → t.refused ≡ false → 0 < left → Consumes r2 r3 [] → IsAtEnd r3 →
+    (l ≡ [] → g3 ≡ g2) → (status ≡ 2 → Appends g2 g3 (line (fault_text (t.lines + 1) Unfinished))) →
+    (status ≡ 0) × (l ≡ []) ⊎ (status ≡ 2) × (l ≢ []) ⊎ (status ≡ 4) × (l ≢ []) → status ≢ 4 → Ran size r r3 f f2 g g3 d e status
+ran_finish size s t r r2 r3 f f2 g g2 g3 d e l left status begun p going some kept end whole refused cases other =
+    elim cases [
+      | inl w ↦ rw (w.0, whole w.1) (ran_by size s t r r2 r3 f f2 g g2 g2 d e l left 0 End [] begun p kept (Appends-nil g2) (inr (omega (arith, p.count), end))
+          (λ a pieces stands. rw (going_outcome End a pieces l (refused_as t e.told a false stands going)) (end_plain a pieces l w.1 (none_left t e.told a stands))))
+      | inr w ↦ elim w [
+        | inl x ↦ rw x.0 (ran_by size s t r r2 r3 f f2 g g2 g3 d e l left 2 End (line (fault_text (suc t.lines) Unfinished)) begun p kept ((rw add-one at refused) x.0) (inr (omega (arith, p.count), end))
+            (λ a pieces stands. rw (going_outcome End a pieces l (refused_as t e.told a false stands going)) (end_unfinished a pieces l t.lines x.1 (sym (ap (λ (x : Session). x.lines) stands.session)))))
+        | inr x ↦ absurd (other x.0)
+      ]
+    ]
+
+-- ---- runs that stop
+
+-- why the run stopped at a line, among those of the script
+stopped : (size : ℕ) (s t : code.Session) (r r2 r3 g g2 g3 : Option (List ℕ)) (d e f : DiskSeen) (l : List ℕ) (left n : ℕ) (given : List ℕ) (stop : Stop) →
+    IsBegun size s → (p : Reached size s t r r2 g g2 d e l left) → 0 < left →
+    StopsAt size (StandsFor t e.told) (lines_after l (take (left - 1) given)) g2 g3 e f stop → StopsAt size (IsFirst size d.told) (script_lines (p.taken ++ given)) g g3 d f stop
+stopped size s t r r2 r3 g g2 g3 d e f l left n given stop begun p some q =
+    let script = script_more p.taken given left p.count some in
+    let all = stops_fed size s t [] l (take SCRIPT_BYTES p.taken) (take (left - 1) given) [] g g2 g3 d e f stop p.fed q in
+    rw script
+    (subst (λ x. StopsAt size (IsFirst size d.told) (lines_after [] x) g g3 d f stop) (append-nil (take SCRIPT_BYTES p.taken ++ take (left - 1) given))
+    (stops_from size (StandsFor s d.told) (IsFirst size d.told) (lines_after [] ((take SCRIPT_BYTES p.taken ++ take (left - 1) given) ++ [])) g g3 d f stop (λ a first. begun_stands size s d.told a begun first) all))
+
+-- the sink failed at a line
+pub broke_fed : (size : ℕ) (s t : code.Session) (r r2 r3 g g2 g3 : Option (List ℕ)) (d e f : DiskSeen) (l : List ℕ) (left n : ℕ) (given script : List ℕ) (stop : Stop) →
+    IsBegun size s → Reached size s t r r2 g g2 d e l left → 0 < left → length given ≡ n → n ≤ left → Consumes r2 r3 given →
+    script ≡ take (left - 1) given → stop_status stop ≡ 4 → StopsAt size (StandsFor t e.told) (lines_after l script) g2 g3 e f stop → Broke size r r3 g g3 d f
+broke_fed size s t r r2 r3 g g2 g3 d e f l left n given script SinkFailed begun p some count most consumed is four q =
+    record {
+      taken = p.taken ++ given;
+      within = omega (arith, p.count, length-append p.taken given);
+      consumed = Consumes-trans _ _ _ _ _ p.consumed consumed;
+      short = inl (stopped size s t r r2 r3 g g2 g3 d e f l left n given SinkFailed begun p some (rw is at q));
+    }
+broke_fed size s t r r2 r3 g g2 g3 d e f l left n given script NoMemory begun p some count most consumed is four q = absurd (omega (arith, four))
+
+-- there was no memory for a line
+pub lacked_fed : (size : ℕ) (s t : code.Session) (r r2 r3 g g2 g3 : Option (List ℕ)) (d e f : DiskSeen) (l : List ℕ) (left n : ℕ) (given script : List ℕ) (stop : Stop) →
+    IsBegun size s → Reached size s t r r2 g g2 d e l left → 0 < left → length given ≡ n → n ≤ left → Consumes r2 r3 given →
+    script ≡ take (left - 1) given → stop_status stop ≡ 5 → StopsAt size (StandsFor t e.told) (lines_after l script) g2 g3 e f stop → Lacked size r r3 g g3 d f
+lacked_fed size s t r r2 r3 g g2 g3 d e f l left n given script SinkFailed begun p some count most consumed is five q = absurd (omega (arith, five))
+lacked_fed size s t r r2 r3 g g2 g3 d e f l left n given script NoMemory begun p some count most consumed is five q =
+    record {
+      taken = p.taken ++ given;
+      within = omega (arith, p.count, length-append p.taken given);
+      consumed = Consumes-trans _ _ _ _ _ p.consumed consumed;
+      lacks = stopped size s t r r2 r3 g g2 g3 d e f l left n given NoMemory begun p some (rw is at q);
+    }
+
+-- the sink failed at the last line
+pub broke_finish : (size : ℕ) (s t : code.Session) (r r2 r3 g g2 g3 : Option (List ℕ)) (d e : DiskSeen) (l : List ℕ) (left status : ℕ) →
+    IsBegun size s → Reached size s t r r2 g g2 d e l left → t.refused ≡ false → 0 < left → Consumes r2 r3 [] → IsAtEnd r3 →
+    (status ≡ 4 → AppendsPart g2 g3 (line (fault_text (t.lines + 1) Unfinished))) →
+    (status ≡ 0) × (l ≡ []) ⊎ (status ≡ 2) × (l ≢ []) ⊎ (status ≡ 4) × (l ≢ []) → status ≡ 4 → Broke size r r3 g g3 d e
+broke_finish size s t r r2 r3 g g2 g3 d e l left status begun p going some kept end broken cases is =
+    elim cases [
+      | inl w ↦ absurd (omega (arith, w.0))
+      | inr w ↦ elim w [
+        | inl x ↦ absurd (omega (arith, x.0))
+        | inr x ↦ record {
+          taken = p.taken;
+          within = omega (arith, p.count);
+          consumed = rw (← append-nil p.taken) (Consumes-trans _ _ _ _ _ p.consumed kept);
+          short = inr (cuts_last size s t r r2 r3 g g2 g3 d e l left begun p going some end x.1 ((rw add-one at broken) is));
+        }
+      ]
+    ]
+  where
+    cuts_last : (size : ℕ) (s t : code.Session) (r r2 r3 g g2 g3 : Option (List ℕ)) (d e : DiskSeen) (l : List ℕ) (left : ℕ) →
+        IsBegun size s → (p : Reached size s t r r2 g g2 d e l left) → t.refused ≡ false → 0 < left → IsAtEnd r3 → l ≢ [] →
+        AppendsPart g2 g3 (line (fault_text (suc t.lines) Unfinished)) → CutsLast size p.taken r3 g g3 d e
+    cuts_last size s t r r2 r3 g g2 g3 d e l left begun p going some end other cut =
+        let lines = script_lines p.taken in
+        let from = λ (a : Session) (first : IsFirst size d.told a). begun_stands size s d.told a begun first in
+        let so = λ (key : List ℕ) (a : Session) (first : IsFirst size d.told a).
+        let b = lines_run (place key size) a lines p.fed.ios in
+        let stands = p.fed.stands key a (from a first) in
+        subst (λ o. EndsSo o b (pieces_run (place key size) a lines p.fed.ios) 2 (line (fault_text (suc t.lines) Unfinished)))
+        (sym (going_outcome End b (pieces_run (place key size) a lines p.fed.ios) l (refused_as t e.told b false stands going)))
+        (end_unfinished b (pieces_run (place key size) a lines p.fed.ios) l t.lines other (sym (ap (λ (x : Session). x.lines) stands.session))) in
+        let is = λ (key : List ℕ) (a : Session) (first : IsFirst size d.told a).
+        outcome_is (place key size) a p.taken End p.fed.ios first.session
+        ∙ ap (outcome_of End (lines_run (place key size) a lines p.fed.ios) (pieces_run (place key size) a lines p.fed.ios)) (sym p.fed.line_is) in
+        record {
+          ended = (omega (arith, p.count), end);
+          ios = p.fed.ios;
+          one_each = p.fed.one_each;
+          calls = p.fed.calls;
+          part = cut.part;
+          more = cut.more;
+          lacks = cut.lacks;
+          used = λ key a first. p.fed.used key a (from a first);
+          bytes = λ key a first. ap written (is key a first) ∙ (so key a first).bytes ∙ ap (λ x. concat (pieces_run (place key size) a lines p.fed.ios) ++ x) cut.whole ∙ sym (append_assoc (concat (pieces_run (place key size) a lines p.fed.ios)) cut.part cut.more);
+          appended = λ key a first. Appends-trans _ _ _ _ _ (p.fed.appended key a (from a first)) cut.appended;
+          blocks = λ key a first. rw (is key a first, (so key a first).blocks) (p.fed.stands key a (from a first)).blocks;
+        }
+
+-- ---- other words
 
 -- known bytes that stay
 pub kept : (bytes : Option (List ℕ)) → Keeps bytes bytes

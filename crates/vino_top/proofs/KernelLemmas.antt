@@ -9,7 +9,7 @@ use Rattle.kernel_model.specs.declared.Reply.{Reply}
 use Rattle.kernel_model.specs.declared.Refusal.TheVariants.{Full, BadIndex, NoProcess}
 use Rattle.kernel_model.specs.Queue.{is_living, free_number, queue_to_back, with_slice}
 use Rattle.kernel_model.specs.Objects.{Objects, at2}
-use Rattle.kernel_model.specs.World.{Blocks}
+use Rattle.kernel_model.specs.World.{World, Blocks}
 use Rattle.kernel_model.specs.Meaning.{stage}
 use Rattle.kernel_model.specs.Needs.{spawn_needs, slice_needs, free_process}
 use Rattle.kernel_model.specs.Pieces.{plain, spawn_piece}
@@ -51,67 +51,67 @@ spawn_ends s None blocks = refl
 spawn_ends s (Some c) blocks = refl
 
 -- what a spawn leaves
-spawn_leaves : (number size : ℕ) (old : Kernel) (x : Option ℕ) (blocks : Blocks) (io : List Bool) →
-    left_by number (spawn_piece (kernel_of size old).objects x blocks) (record { kernel = kernel_of size old; blocks = blocks; notes = []; io = io })
-    ≡ record { kernel = record (kernel_of size old) { objects = objects_of old.setup.grant (spawned x (processes_of old.procs)) }; blocks = blocks; notes = spawn_note number x ∷ []; io = io }
-spawn_leaves number size old None blocks io = refl
-spawn_leaves number size old (Some c) blocks io = refl
+spawn_leaves : (number : ℕ) (old : Kernel) (x : Option ℕ) (blocks : Blocks) (io : List Bool) →
+    left_by number (spawn_piece (kernel_of old).objects x blocks) (record { kernel = kernel_of old; blocks = blocks; notes = []; io = io })
+    ≡ record { kernel = record (kernel_of old) { objects = objects_of old.setup.grant (spawned x (processes_of old.procs)) }; blocks = blocks; notes = spawn_note number x ∷ []; io = io }
+spawn_leaves number old None blocks io = refl
+spawn_leaves number old (Some c) blocks io = refl
 
 -- a kernel with other processes
-stands_so : (size : ℕ) (old new : Kernel) (z : Processes) (blocks : Blocks) (notes : List Note) (io : List Bool) →
-    new.setup ≡ old.setup → new.clock ≡ old.clock → processes_of new.procs ≡ z →
-    at_rest (world_for size old.setup) (λ slot. None) (objects_of old.setup.grant z) old.clock blocks notes io
-    ≡ record { kernel = kernel_of size new; blocks = blocks; notes = notes; io = io }
-stands_so size old new z blocks notes io setup clock procs =
-    ap (λ (w : Processes). at_rest (world_for size old.setup) (λ slot. None) (objects_of old.setup.grant w) old.clock blocks notes io) (sym procs)
-    ∙ ap (λ (c : ℕ). at_rest (world_for size old.setup) (λ slot. None) (objects_of old.setup.grant (processes_of new.procs)) c blocks notes io) (sym clock)
-    ∙ ap (λ (u : Setup). at_rest (world_for size u) (λ slot. None) (objects_of u.grant (processes_of new.procs)) new.clock blocks notes io) (sym setup)
+stands_so : (old new : Kernel) (z : Processes) (blocks : Blocks) (notes : List Note) (io : List Bool) →
+    world_for new.size new.setup new.directory ≡ world_for old.size old.setup old.directory → new.clock ≡ old.clock → processes_of new.procs ≡ z →
+    at_rest (world_for old.size old.setup old.directory) (λ slot. None) (objects_of old.setup.grant z) old.clock blocks notes io
+    ≡ record { kernel = kernel_of new; blocks = blocks; notes = notes; io = io }
+stands_so old new z blocks notes io world clock procs =
+    ap (λ (w : Processes). at_rest (world_for old.size old.setup old.directory) (λ slot. None) (objects_of old.setup.grant w) old.clock blocks notes io) (sym procs)
+    ∙ ap (λ (c : ℕ). at_rest (world_for old.size old.setup old.directory) (λ slot. None) (objects_of old.setup.grant (processes_of new.procs)) c blocks notes io) (sym clock)
+    ∙ ap (λ (v : World). at_rest v (λ slot. None) (objects_of v.grant (processes_of new.procs)) new.clock blocks notes io) (sym world)
 
 -- a spawn
 pub spawn_so : (number p : ℕ) (old new : Kernel) (x : Option ℕ) → is_living p old.procs.queue ≡ true → x ≡ free_number old.procs.queue 16 0 →
-    new.setup ≡ old.setup → new.clock ≡ old.clock → processes_of new.procs ≡ spawned x (processes_of old.procs) → answers_so number (Sys p Spawn) old new (spawn_note number x)
-spawn_so number p old new x alive found setup clock procs = λ size blocks io.
+    world_for new.size new.setup new.directory ≡ world_for old.size old.setup old.directory → new.clock ≡ old.clock → processes_of new.procs ≡ spawned x (processes_of old.procs) → answers_so number (Sys p Spawn) old new (spawn_note number x)
+spawn_so number p old new x alive found world clock procs = λ blocks io.
     let s = objects_of old.setup.grant (processes_of old.procs) in
-    let r = at_rest (world_for size old.setup) (λ slot. None) s old.clock blocks [] io in
-    event_of_one plain p number Spawn (stage Spawn 0) (world_for size old.setup) (λ slot. None) s old.clock blocks io alive refl
+    let r = at_rest (world_for old.size old.setup old.directory) (λ slot. None) s old.clock blocks [] io in
+    event_of_one plain p number Spawn (stage Spawn 0) (world_for old.size old.setup old.directory) (λ slot. None) s old.clock blocks io alive refl
     (none_stands old.setup.grant (processes_of old.procs)) (spawn_users (free_process old.procs.queue 16 0)) (spawn_ends s (free_process old.procs.queue 16 0) blocks)
     ∙ ap (λ (y : Option ℕ). left_by number (spawn_piece s y blocks) r) (same_free old.procs.queue 16 0 ∙ sym found)
-    ∙ spawn_leaves number size old x blocks io
-    ∙ stands_so size old new (spawned x (processes_of old.procs)) blocks (spawn_note number x ∷ []) io setup clock procs
+    ∙ spawn_leaves number old x blocks io
+    ∙ stands_so old new (spawned x (processes_of old.procs)) blocks (spawn_note number x ∷ []) io world clock procs
 
 -- a cell gets a value
 pub poke_so : (number p k x : ℕ) (old new : Kernel) → is_living p old.procs.queue ≡ true → nat_lt 3 k ≡ false →
-    new.setup ≡ old.setup → new.clock ≡ old.clock → processes_of new.procs ≡ record (processes_of old.procs) { cell = at2 p k x (processes_of old.procs).cell } →
+    world_for new.size new.setup new.directory ≡ world_for old.size old.setup old.directory → new.clock ≡ old.clock → processes_of new.procs ≡ record (processes_of old.procs) { cell = at2 p k x (processes_of old.procs).cell } →
     answers_so number (Sys p (Poke k x)) old new (Ended number Reply.Plain)
-poke_so number p k x old new alive small setup clock procs = λ size blocks io.
-    event_of_one plain p number (Poke k x) (stage (Poke k x) 0) (world_for size old.setup) (λ slot. None) (objects_of old.setup.grant (processes_of old.procs)) old.clock blocks io alive
+poke_so number p k x old new alive small world clock procs = λ blocks io.
+    event_of_one plain p number (Poke k x) (stage (Poke k x) 0) (world_for old.size old.setup old.directory) (λ slot. None) (objects_of old.setup.grant (processes_of old.procs)) old.clock blocks io alive
     (ap (λ (b : Bool). begins_unless (Poke k x) (refused b BadIndex None)) small)
     (none_stands old.setup.grant (processes_of old.procs)) refl refl
-    ∙ stands_so size old new (record (processes_of old.procs) { cell = at2 p k x (processes_of old.procs).cell }) blocks (Ended number Reply.Plain ∷ []) io setup clock procs
+    ∙ stands_so old new (record (processes_of old.procs) { cell = at2 p k x (processes_of old.procs).cell }) blocks (Ended number Reply.Plain ∷ []) io world clock procs
 
 -- a cell's value is told
 pub peek_so : (number p k : ℕ) (old : Kernel) → is_living p old.procs.queue ≡ true → nat_lt 3 k ≡ false →
     answers_so number (Sys p (Peek k)) old old (Ended number (Reply.One ((processes_of old.procs).cell p k)))
-peek_so number p k old alive small = λ size blocks io.
-    event_of_one plain p number (Peek k) (stage (Peek k) 0) (world_for size old.setup) (λ slot. None) (objects_of old.setup.grant (processes_of old.procs)) old.clock blocks io alive
+peek_so number p k old alive small = λ blocks io.
+    event_of_one plain p number (Peek k) (stage (Peek k) 0) (world_for old.size old.setup old.directory) (λ slot. None) (objects_of old.setup.grant (processes_of old.procs)) old.clock blocks io alive
     (ap (λ (b : Bool). begins_unless (Peek k) (refused b BadIndex None)) small)
     (none_stands old.setup.grant (processes_of old.procs)) refl refl
 
 -- a cell that isn't there
 pub poke_refused : (number p k x : ℕ) (old : Kernel) → is_living p old.procs.queue ≡ true → nat_lt 3 k ≡ true → answers_so number (Sys p (Poke k x)) old old (Refused number BadIndex)
-poke_refused number p k x old alive large = λ size blocks io.
-    event_refused plain p number (Poke k x) BadIndex (world_for size old.setup) (λ slot. None) (objects_of old.setup.grant (processes_of old.procs)) old.clock blocks io alive
+poke_refused number p k x old alive large = λ blocks io.
+    event_refused plain p number (Poke k x) BadIndex (world_for old.size old.setup old.directory) (λ slot. None) (objects_of old.setup.grant (processes_of old.procs)) old.clock blocks io alive
     (ap (λ (b : Bool). begins_unless (Poke k x) (refused b BadIndex None)) large)
 
 pub peek_refused : (number p k : ℕ) (old : Kernel) → is_living p old.procs.queue ≡ true → nat_lt 3 k ≡ true → answers_so number (Sys p (Peek k)) old old (Refused number BadIndex)
-peek_refused number p k old alive large = λ size blocks io.
-    event_refused plain p number (Peek k) BadIndex (world_for size old.setup) (λ slot. None) (objects_of old.setup.grant (processes_of old.procs)) old.clock blocks io alive
+peek_refused number p k old alive large = λ blocks io.
+    event_refused plain p number (Peek k) BadIndex (world_for old.size old.setup old.directory) (λ slot. None) (objects_of old.setup.grant (processes_of old.procs)) old.clock blocks io alive
     (ap (λ (b : Bool). begins_unless (Peek k) (refused b BadIndex None)) large)
 
 -- a process that doesn't live
 pub none_so : (number p : ℕ) (c : SysCall) (old : Kernel) → is_living p old.procs.queue ≡ false → answers_so number (Sys p c) old old (Refused number NoProcess)
-none_so number p c old absent = λ size blocks io.
-    event_of_none plain p number c (world_for size old.setup) (λ slot. None) (objects_of old.setup.grant (processes_of old.procs)) old.clock blocks io absent
+none_so number p c old absent = λ blocks io.
+    event_of_none plain p number c (world_for old.size old.setup old.directory) (λ slot. None) (objects_of old.setup.grant (processes_of old.procs)) old.clock blocks io absent
 
 -- the first of those with equal keys
 least_first : (r : QueueRow) (x : Option QueueRow) →
@@ -131,17 +131,17 @@ slice_users grant (Some c) = refl
 
 -- a process goes to the back, and the one at the front gets a slice
 pub yield_so : (number p : ℕ) (old new : Kernel) → is_living p old.procs.queue ≡ true →
-    new.setup ≡ old.setup → new.clock ≡ old.clock →
+    world_for new.size new.setup new.directory ≡ world_for old.size old.setup old.directory → new.clock ≡ old.clock →
     processes_of new.procs ≡ record (processes_of old.procs) { queue = with_slice (front_of (queue_to_back p old.procs.queue)) (queue_to_back p old.procs.queue) } →
     answers_so number (Sys p Yield) old new (Ended number (Reply.One (front_of (queue_to_back p old.procs.queue))))
-yield_so number p old new alive setup clock procs = λ size blocks io.
+yield_so number p old new alive world clock procs = λ blocks io.
     let s = objects_of old.setup.grant (processes_of old.procs) in
     let rows = queue_to_back p old.procs.queue in
-    event_of_two plain p number Yield (stage Yield 0) (stage Yield 1) (world_for size old.setup) (λ slot. None) s old.clock blocks io alive refl
+    event_of_two plain p number Yield (stage Yield 0) (stage Yield 1) (world_for old.size old.setup old.directory) (λ slot. None) s old.clock blocks io alive refl
     (none_stands old.setup.grant (processes_of old.procs)) refl refl (none_stands old.setup.grant (processes_of old.procs))
     (slice_users old.setup.grant (next_process (opening_policy 2) rows)) refl
-    ∙ ap (λ (c : ℕ). at_rest (world_for size old.setup) (λ slot. None) (objects_of old.setup.grant (record (processes_of old.procs) { queue = with_slice c rows })) old.clock blocks (Ended number (Reply.One c) ∷ []) io) (next_front rows)
-    ∙ stands_so size old new (record (processes_of old.procs) { queue = with_slice (front_of rows) rows }) blocks (Ended number (Reply.One (front_of rows)) ∷ []) io setup clock procs
+    ∙ ap (λ (c : ℕ). at_rest (world_for old.size old.setup old.directory) (λ slot. None) (objects_of old.setup.grant (record (processes_of old.procs) { queue = with_slice c rows })) old.clock blocks (Ended number (Reply.One c) ∷ []) io) (next_front rows)
+    ∙ stands_so old new (record (processes_of old.procs) { queue = with_slice (front_of rows) rows }) blocks (Ended number (Reply.One (front_of rows)) ∷ []) io world clock procs
 
 -- a number below 4 is that of a cell
 pub small_cell : (c k : ℕ) → c ≡ k → c < 4 → nat_lt 3 k ≡ false
@@ -154,4 +154,4 @@ yield_procs old mid new f g rows first second front = first ∙ ap (λ (m : Proc
 
 -- a tick
 pub tick_so : (number : ℕ) (old : Kernel) → answers_so number Tick old (record old { clock = old.clock + 1 }) (Ticked number (old.clock + 1))
-tick_so number old = λ size blocks io. rw add-one refl
+tick_so number old = λ blocks io. rw add-one refl

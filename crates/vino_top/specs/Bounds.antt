@@ -1,5 +1,5 @@
 -- How large the numbers of a session grow.
-use Rattle.std.specs.Prelude.{◌≡◌, ℕ, ◌≤◌, Bool, true, nat_le, List, MatchOption, ⊤}
+use Rattle.std.specs.Prelude.{◌≡◌, ℕ, ◌≤◌, Bool, true, nat_le, List}
 use Rattle.std.specs.List.{list_all}
 use Rattle.kernel_model.specs.declared.QueueRow.{QueueRow}
 use Rattle.vino_top.specs.declared.kernel.Kernel.{Kernel}
@@ -17,4 +17,4 @@ pub record IsKernelWithin (most : ℕ) (k : Kernel) : Type 0 where
 -- the clock and the slices are at most the number of the last event, and each event had a line
 pub record IsSessionWithin (s : Session) : Type 0 where
   pub events : s.events ≤ s.lines
-  pub kernel : MatchOption s.kernel ⊤ (IsKernelWithin s.events)
+  pub kernel : IsKernelWithin s.events s.kernel

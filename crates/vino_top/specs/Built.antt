@@ -4,7 +4,7 @@ use Rattle.kernel_model.specs.declared.SysCall.{SysCall}
 use Rattle.kernel_model.specs.declared.SysCall.TheVariants.{Spawn, Yield, Poke, Peek}
 use Rattle.kernel_model.specs.declared.Event.{Event}
 use Rattle.kernel_model.specs.declared.Event.TheVariants.{Tick, Step, Sys}
-use Rattle.kernel_model.specs.Script.{Entry, Blank, Boot, Happens}
+use Rattle.kernel_model.specs.Script.{Entry, Blank, Frames, Boot, Happens}
 use Rattle.kernel_model.specs.Pieces.{plain}
 use Rattle.kernel_model.specs.Session.{Build}
 
@@ -26,9 +26,10 @@ is_built_event (Sys p call) = is_built_call call
 abbrev pub is_built : Entry → Bool
 is_built Blank = true
 is_built Boot = true
+is_built (Frames n) = true
 is_built (Happens e) = is_built_event e
 is_built _ = false
 
--- what is built: boot takes the directory for empty
+-- what is built
 abbrev pub present_build : Build
-present_build = record { meaning = plain; callable = 11; built = is_built; reads_directory = false }
+present_build = record { meaning = plain; callable = 11; built = is_built; reads_directory = true }

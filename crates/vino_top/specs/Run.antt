@@ -223,7 +223,7 @@ pub record CutsLast (size : ℕ) (taken : List ℕ) (rest_new got got_new : Opti
   pub more : List ℕ
   pub lacks : 0 < length more
   pub used : Whenever size (IsFirst size d.told) (λ c a. UsesAll c a (script_lines taken) ios)
-  pub bytes : Whenever size (IsFirst size d.told) (λ c a. written (outcome_at c a.blocks taken End ios) ≡ concat (pieces_run c a (script_lines taken) ios) ++ part ++ more)
+  pub bytes : Whenever size (IsFirst size d.told) (λ c a. written (outcome_at c a.blocks taken End ios) ≡ (concat (pieces_run c a (script_lines taken) ios) ++ part) ++ more)
   pub appended : Whenever size (IsFirst size d.told) (λ c a. Appends got got_new (concat (pieces_run c a (script_lines taken) ios) ++ part))
   pub blocks : Whenever size (IsFirst size d.told) (λ c a. Tells e.told (outcome_at c a.blocks taken End ios).blocks)
 

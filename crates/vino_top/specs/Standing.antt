@@ -1,5 +1,7 @@
 -- Which abstract kernel and which session a kernel and a session of the code stand for.
-use Rattle.std.specs.Prelude.{◌≡◌, ℕ, Bool, List, [], ◌∷◌, Option, Some, None, option_map, slice_index_or}
+use Rattle.std.specs.Prelude.{◌≡◌, ℕ, Bool, true, false, List, [], ◌∷◌, Option, Some, None, slice_index_or}
+use Rattle.disk_log.specs.Calls.{Tells}
+use Rattle.kernel_model.specs.declared.FileRow.{FileRow}
 use Rattle.process_table.specs.Processes.{Processes, processes_of}
 use Rattle.kernel_model.specs.Objects.{Objects}
 use Rattle.kernel_model.specs.World.{World, Blocks}
@@ -31,21 +33,26 @@ objects_of grant s =
 abbrev pub setup_of : Setup → script.Setup
 setup_of u = record { frames = u.frames; patience = λ kind. slice_index_or u.patience kind 10; grant = u.grant }
 
--- what no event changes, on a disk of this size
-abbrev pub world_for : (size : ℕ) → Setup → World
-world_for size u = world_of (setup_of u) size 11 []
+-- what no event changes, on a disk of this size with this directory
+abbrev pub world_for : (size : ℕ) → Setup → List (Option FileRow) → World
+world_for size u directory = world_of (setup_of u) size 11 directory
 
 -- the abstract kernel, in which no call is in flight
-abbrev pub kernel_of : (size : ℕ) → Kernel → abstract.Kernel
-kernel_of size k =
-    quiet (world_for size k.setup) (λ slot. None) (objects_of k.setup.grant (processes_of k.procs)) k.clock
+abbrev pub kernel_of : Kernel → abstract.Kernel
+kernel_of k =
+    quiet (world_for k.size k.setup k.directory) (λ slot. None) (objects_of k.setup.grant (processes_of k.procs)) k.clock
 
--- the session, over a disk of this size and with these blocks
-abbrev pub session_of : (size : ℕ) → Blocks → Session → script.Session
-session_of size blocks s =
+-- the abstract kernel, once there is one
+abbrev pub kernel_in : (booted : Bool) → Kernel → Option abstract.Kernel
+kernel_in false k = None
+kernel_in true k = Some (kernel_of k)
+
+-- the session, over a disk with these blocks
+abbrev pub session_of : Blocks → Session → script.Session
+session_of blocks s =
     record {
       setup = setup_of s.setup;
-      kernel = option_map (kernel_of size) s.kernel;
+      kernel = kernel_in s.booted s.kernel;
       blocks = blocks;
       lines = s.lines;
       events = s.events;
@@ -56,9 +63,17 @@ session_of size blocks s =
 -- disk isn't called.
 abbrev pub answers_so : (number : ℕ) → Event → Kernel → Kernel → Note → Type 0
 answers_so number what old new note =
-    (size : ℕ) (blocks : Blocks) (io : List Bool) →
-    event plain (kernel_of size old) blocks number what io
-    ≡ record { kernel = kernel_of size new; blocks = blocks; notes = note ∷ []; io = io }
+    (blocks : Blocks) (io : List Bool) →
+    event plain (kernel_of old) blocks number what io
+    ≡ record { kernel = kernel_of new; blocks = blocks; notes = note ∷ []; io = io }
+
+-- An event took the abstract kernel and the told blocks of the one to those of the other, made all calls of the list, and
+-- left these notes.
+pub record Happened (old new : Kernel) (told told_new : Option (List (List ℕ))) (number : ℕ) (what : Event) (io : List Bool) (notes : List Note) : Type 0 where
+  pub kernel_is : (blocks : Blocks) → Tells told blocks → (event plain (kernel_of old) blocks number what io).kernel ≡ kernel_of new
+  pub blocks_are : (blocks : Blocks) → Tells told blocks → Tells told_new (event plain (kernel_of old) blocks number what io).blocks
+  pub notes_are : (blocks : Blocks) → Tells told blocks → (event plain (kernel_of old) blocks number what io).notes ≡ notes
+  pub used_all : (blocks : Blocks) → Tells told blocks → (event plain (kernel_of old) blocks number what io).io ≡ []
 
 -- the process at the front of the queue
 abbrev pub front_of : List QueueRow → ℕ

@@ -1,22 +1,25 @@
 //! The clock and the processes: a kernel in which each call runs to its end at its own event.
 
-ghost use Rattle.std.specs.Prelude.{◌≡◌, ℕ, ◌<◌, ◌^◌, ◌-◌, true, false};
+ghost use Rattle.std.specs.Prelude.{◌≡◌, ℕ, ◌<◌, ◌≤◌, ◌^◌, ◌-◌, true, false, [], ◌∷◌};
 ghost use Rattle.std.specs.Option.{IfSome, IfNone};
+ghost use Rattle.vino_base.specs.Calls.{Plan};
+ghost use Rattle.disk_log.specs.Calls.{GoesOn};
 ghost use Rattle.kernel_model.specs.Queue.{is_living, free_number, queue_to_back, with_slice};
 ghost use Rattle.process_table.specs.Processes.{processes_of, spawned};
 ghost use Rattle.kernel_model.specs.declared.SysCall.TheVariants.{Spawn, Yield, Poke, Peek};
-ghost use Rattle.kernel_model.specs.World.{Blocks};
-ghost use Rattle.kernel_model.specs.Events.{event};
-ghost use Rattle.kernel_model.specs.Pieces.{plain};
 ghost use Rattle.kernel_model.specs.Opening.{opening_kernel};
 ghost use Rattle.kernel_model.specs.declared.Event.TheVariants.{Tick, Sys};
 ghost use Rattle.vino_top.specs.Built.{is_built_event, is_built_call};
-ghost use Rattle.vino_top.specs.Standing.{kernel_of, world_for};
+ghost use Rattle.vino_top.specs.Standing.{kernel_of, world_for, Happened};
 ghost use Rattle.vino_top.specs.Bounds.{IsKernelWithin, slices_within};
 ghost use Rattle.vino_top.specs.Standing.{answers_so, front_of};
 
+use crate::notes::Notes;
+use disk_log::DiskLog;
 use kernel_model::{Event, Note, QueueRow, Refusal, Reply, SysCall};
+use mem_disk::Directory;
 use process_table::Procs;
+use vino_base::Disk;
 
 /// What the set-up lines of a script set.
 #[derive(Clone, Copy)]
@@ -33,25 +36,63 @@ pub struct Setup {
 #[derive(Drop)]
 pub struct Kernel {
     pub setup: Setup,
+    pub size: u32,
+    pub directory: Directory,
     pub clock: u32,
     pub procs: Procs,
 }
 
 impl Kernel {
-    /// The kernel after boot.
+    /// A kernel before boot.
     pub fn new(setup: Setup) -> Kernel
-        ensures value { (size : ℕ) → kernel_of size result ≡ opening_kernel (world_for size setup) }
         ensures within { (most : ℕ) → IsKernelWithin most result }
     {
         Kernel {
             setup,
+            size: 1,
+            directory: Directory::empty(),
             clock: 0,
             procs: Procs::new(),
         }
     }
 
-    /// One event, which has this number. What came about.
-    pub fn event(&mut self, number: u32, what: &Event) -> Note
+    /// Begins again, after `boot`.
+    pub fn boot(&mut self, setup: Setup, size: u32, directory: Directory)
+        ensures value { kernel_of self.new ≡ opening_kernel (world_for size setup directory) }
+        ensures within { (most : ℕ) → IsKernelWithin most self.new }
+    {
+        self.setup = setup;
+        self.size = size;
+        self.directory = directory;
+        self.clock = 0;
+        self.procs = Procs::new();
+    }
+
+    /// One event, which has this number. Its notes are left behind.
+    pub fn event<D: Disk>(
+        &mut self,
+        number: u32,
+        what: &Event,
+        disk: &mut D,
+        log: &mut DiskLog,
+        notes: &mut Notes,
+    )
+        requires built { is_built_event what.now ≡ true }
+        requires first { 0 < number }
+        requires room { number < 2 ^ 32 - 1 }
+        requires within { IsKernelWithin (number - 1) self.old }
+        requires no_calls { log.old ≡ [] }
+        requires no_notes { notes.old ≡ [] }
+        ensures happened { Happened self.old self.new (D.blocks disk.old) (D.blocks disk.new) number what.now log.new notes.new }
+        ensures within { IsKernelWithin number self.new }
+        ensures calls { GoesOn (D.faults disk.old) (D.faults disk.new) (D.plan disk.old) (D.plan disk.new) log.old log.new }
+        ensures same_size { D.block_count disk.new ≡ D.block_count disk.old }
+    {
+        let note = self.answer(number, what);
+        notes.push(note);
+    }
+
+    fn answer(&mut self, number: u32, what: &Event) -> Note
         requires built { is_built_event what.now ≡ true }
         requires first { 0 < number }
         requires room { number < 2 ^ 32 - 1 }

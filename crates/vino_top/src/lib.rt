@@ -12,9 +12,10 @@ ghost use Rattle.kernel_model.specs.Text.{line, usage_text};
 ghost use Rattle.vino_top.specs.Standing.{session_of};
 ghost use Rattle.vino_top.specs.Bounds.{IsSessionWithin};
 ghost use Rattle.vino_top.specs.Words.{asked_by};
-ghost use Rattle.vino_top.specs.Run.{AppendsPart, RanAll, BrokeAll, LackedAll, Does, place};
+ghost use Rattle.vino_top.specs.Run.{AppendsPart, Ran, Broke, Lacked, Does, disk_seen};
 
 mod kernel;
+mod notes;
 mod output;
 mod run;
 mod session;
@@ -42,13 +43,12 @@ pub fn vino<S: Source, K: Sink, D: Disk>(
     disk: &mut D,
     shelf: Vec<Box<dyn Policy>>,
 ) -> u8
-    // What is done for what the words ask: the status, the bytes read and the bytes written.
+    // What is done for what the words ask: the status, the bytes read and written, and the disk.
     ensures does { Does (asked_by (map (λ (w : _). string_bytes w) words.now)) (D.block_count disk.old)
-        (S.rest src.old) (S.rest src.new) (S.faults src.old) (S.faults src.new) (K.got out.old) (K.got out.new) result }
+        (S.rest src.old) (S.rest src.new) (S.faults src.old) (S.faults src.new) (K.got out.old) (K.got out.new)
+        (disk_seen (D.blocks disk.old) (D.plan disk.old) (D.faults disk.old)) (disk_seen (D.blocks disk.new) (D.plan disk.new) (D.faults disk.new)) result }
     // No other status comes.
     ensures statuses { (result ≡ 0) ⊎ (result ≡ 1) ⊎ (result ≡ 2) ⊎ (result ≡ 3) ⊎ (result ≡ 4) ⊎ (result ≡ 5) ⊎ (result ≡ 7) }
-    // No command that is built changes the disk.
-    ensures disk { D.blocks disk.new ≡ D.blocks disk.old }
     // A source or a sink is blamed only where its count of faults rose.
     ensures source_failed { result ≡ 3 → Rose (S.faults src.old) (S.faults src.new) }
     ensures sink_failed { result ≡ 4 → Rose (K.faults out.old) (K.faults out.new) }
@@ -57,19 +57,28 @@ pub fn vino<S: Source, K: Sink, D: Disk>(
 {
     drop(shelf);
     match words::read_words(words) {
-        Asked::Run => run_script(alloc, disk.size(), src, out),
+        Asked::Run => run_script(alloc, src, out, disk),
         Asked::Asm => filters::asm(alloc, src, out),
         Asked::Dis => filters::dis(alloc, src, out),
         Asked::Nothing => write_usage(out),
     }
 }
 
-/// Runs the script that the source gives, over a disk of so many blocks.
-fn run_script<S: Source, K: Sink>(alloc: Global, size: u32, src: &mut S, out: &mut K) -> u8
-    ensures ran { result ≢ 4 → result ≢ 5 → RanAll size (S.rest src.old) (S.rest src.new) (S.faults src.old) (S.faults src.new) (K.got out.old) (K.got out.new) result }
-    ensures broke { result ≡ 4 → BrokeAll size (S.rest src.old) (S.rest src.new) (K.got out.old) (K.got out.new) }
-    ensures memory { result ≡ 5 → Keeps (S.rest src.old) (S.rest src.new) × Keeps (K.got out.old) (K.got out.new) ⊎
-        LackedAll size (S.rest src.old) (S.rest src.new) (K.got out.old) (K.got out.new) }
+/// Runs the script that the source gives.
+fn run_script<S: Source, K: Sink, D: Disk>(
+    alloc: Global,
+    src: &mut S,
+    out: &mut K,
+    disk: &mut D,
+) -> u8
+    ensures ran { result ≢ 4 → result ≢ 5 → Ran (D.block_count disk.old) (S.rest src.old) (S.rest src.new) (S.faults src.old) (S.faults src.new) (K.got out.old) (K.got out.new)
+        (disk_seen (D.blocks disk.old) (D.plan disk.old) (D.faults disk.old)) (disk_seen (D.blocks disk.new) (D.plan disk.new) (D.faults disk.new)) result }
+    ensures broke { result ≡ 4 → Broke (D.block_count disk.old) (S.rest src.old) (S.rest src.new) (K.got out.old) (K.got out.new)
+        (disk_seen (D.blocks disk.old) (D.plan disk.old) (D.faults disk.old)) (disk_seen (D.blocks disk.new) (D.plan disk.new) (D.faults disk.new)) }
+    ensures memory { result ≡ 5 → Keeps (S.rest src.old) (S.rest src.new) × Keeps (K.got out.old) (K.got out.new)
+        × (disk_seen (D.blocks disk.new) (D.plan disk.new) (D.faults disk.new) ≡ disk_seen (D.blocks disk.old) (D.plan disk.old) (D.faults disk.old))
+        ⊎ Lacked (D.block_count disk.old) (S.rest src.old) (S.rest src.new) (K.got out.old) (K.got out.new)
+        (disk_seen (D.blocks disk.old) (D.plan disk.old) (D.faults disk.old)) (disk_seen (D.blocks disk.new) (D.plan disk.new) (D.faults disk.new)) }
     ensures statuses { (result ≡ 0) ⊎ (result ≡ 2) ⊎ (result ≡ 3) ⊎ (result ≡ 4) ⊎ (result ≡ 5) ⊎ (result ≡ 7) }
     ensures source_later { S.faults src.old ≤ S.faults src.new }
     ensures sink_later { K.faults out.old ≤ K.faults out.new }
@@ -78,7 +87,7 @@ fn run_script<S: Source, K: Sink>(alloc: Global, size: u32, src: &mut S, out: &m
 {
     match run::Reader::new(alloc) {
         Err(_) => 5,
-        Ok(reader) => start(alloc, reader, size, src, out),
+        Ok(reader) => start(alloc, reader, src, out, disk),
     }
 }
 
@@ -94,22 +103,26 @@ fn write_usage<K: Sink>(out: &mut K) -> u8
     }
 }
 
-/// Runs a script from its beginning, on a disk of so many blocks.
-fn start<S: Source, K: Sink>(
+/// Runs a script from its beginning.
+fn start<S: Source, K: Sink, D: Disk>(
     alloc: Global,
     mut reader: run::Reader,
-    size: u32,
     src: &mut S,
     out: &mut K,
+    disk: &mut D,
 ) -> u8
-    requires session { (key : List ℕ) (blocks : Blocks) → session_of size blocks reader.session ≡ first_session (place key size blocks).disk }
+    requires session { (size : ℕ) (blocks : Blocks) → session_of blocks reader.session ≡ first_session (record { size = size; block = blocks }) }
     requires first { (reader.session.lines ≡ 0) × (reader.session.refused ≡ false) }
     requires within { IsSessionWithin reader.session }
     requires line { reader.line ≡ [] }
-    ensures ran { result ≢ 4 → result ≢ 5 → RanAll size (S.rest src.old) (S.rest src.new) (S.faults src.old) (S.faults src.new) (K.got out.old) (K.got out.new) result }
-    ensures broke { result ≡ 4 → BrokeAll size (S.rest src.old) (S.rest src.new) (K.got out.old) (K.got out.new) }
-    ensures memory { result ≡ 5 → Keeps (S.rest src.old) (S.rest src.new) × Keeps (K.got out.old) (K.got out.new) ⊎
-        LackedAll size (S.rest src.old) (S.rest src.new) (K.got out.old) (K.got out.new) }
+    ensures ran { result ≢ 4 → result ≢ 5 → Ran (D.block_count disk.old) (S.rest src.old) (S.rest src.new) (S.faults src.old) (S.faults src.new) (K.got out.old) (K.got out.new)
+        (disk_seen (D.blocks disk.old) (D.plan disk.old) (D.faults disk.old)) (disk_seen (D.blocks disk.new) (D.plan disk.new) (D.faults disk.new)) result }
+    ensures broke { result ≡ 4 → Broke (D.block_count disk.old) (S.rest src.old) (S.rest src.new) (K.got out.old) (K.got out.new)
+        (disk_seen (D.blocks disk.old) (D.plan disk.old) (D.faults disk.old)) (disk_seen (D.blocks disk.new) (D.plan disk.new) (D.faults disk.new)) }
+    ensures memory { result ≡ 5 → Keeps (S.rest src.old) (S.rest src.new) × Keeps (K.got out.old) (K.got out.new)
+        × (disk_seen (D.blocks disk.new) (D.plan disk.new) (D.faults disk.new) ≡ disk_seen (D.blocks disk.old) (D.plan disk.old) (D.faults disk.old))
+        ⊎ Lacked (D.block_count disk.old) (S.rest src.old) (S.rest src.new) (K.got out.old) (K.got out.new)
+        (disk_seen (D.blocks disk.old) (D.plan disk.old) (D.faults disk.old)) (disk_seen (D.blocks disk.new) (D.plan disk.new) (D.faults disk.new)) }
     ensures statuses { (result ≡ 0) ⊎ (result ≡ 2) ⊎ (result ≡ 3) ⊎ (result ≡ 4) ⊎ (result ≡ 5) ⊎ (result ≡ 7) }
     ensures source_later { S.faults src.old ≤ S.faults src.new }
     ensures sink_later { K.faults out.old ≤ K.faults out.new }
@@ -118,6 +131,6 @@ fn start<S: Source, K: Sink>(
 {
     match run::zeros(alloc, READ_BYTES) {
         Err(_) => 5,
-        Ok(mut buf) => run::run(alloc, &mut reader, &mut buf, size, src, out),
+        Ok(mut buf) => run::run(alloc, &mut reader, &mut buf, src, out, disk),
     }
 }

@@ -9,16 +9,16 @@ ghost use Rattle.kernel_model.specs.Session.{fault_text, first_session};
 ghost use Rattle.kernel_model.specs.Outcome.{lines_after};
 ghost use Rattle.vino_top.specs.Bounds.{IsSessionWithin};
 ghost use Rattle.vino_top.specs.declared.run.Stop.TheVariants.{SinkFailed};
-ghost use Rattle.vino_top.specs.Run.{AppendsPart, TakesLine, StopsLine, FeedsAll, StopsAll, RanAll, BrokeAll, LackedAll, place, stop_status};
+ghost use Rattle.vino_top.specs.Run.{AppendsPart, DiskSeen, disk_seen, StandsFor, IsFirst, TakesLine, Feeds, StopsAt, Ran, Broke, Lacked, stop_status};
 ghost use Rattle.vino_top.specs.Standing.{session_of};
 ghost use Rattle.kernel_model.specs.World.{Blocks};
 
 use crate::output::write_all;
-use crate::session::Session;
+use crate::session::{Buffers, Session};
 use kernel_model::NoMemory;
-use script_text::{Fed, LineBuf, Text, print_fault};
+use script_text::{Fed, LineBuf, print_fault};
 use std::alloc::Global;
-use vino_base::{Sink, Source};
+use vino_base::{Disk, Sink, Source};
 
 /// The most bytes of a script.
 const SCRIPT_BYTES: usize = 16_777_216;
@@ -32,12 +32,12 @@ pub enum Stop {
     NoMemory,
 }
 
-/// The run of a script: its session, the line that is being read, and the text that is being written.
+/// The run of a script: its session, the line that is being read, and what a line leaves behind.
 #[derive(Drop)]
 pub struct Reader {
     pub session: Session,
     pub line: LineBuf,
-    pub text: Text,
+    pub out: Buffers,
 }
 
 impl Reader {
@@ -45,13 +45,13 @@ impl Reader {
     pub fn new(alloc: Global) -> Result<Reader, NoMemory>
         ensures within { IfOk result (λ r. IsSessionWithin r.session) }
         ensures first { IfOk result (λ r. (r.session.lines ≡ 0) × (r.session.refused ≡ false)) }
-        ensures session { IfOk result (λ r. (size : ℕ) (blocks : Blocks) → session_of size blocks r.session ≡ first_session (record { size = size; block = blocks })) }
+        ensures session { IfOk result (λ r. (size : ℕ) (blocks : Blocks) → session_of blocks r.session ≡ first_session (record { size = size; block = blocks })) }
         ensures line { IfOk result (λ r. r.line ≡ []) }
     {
         Ok(Reader {
             session: Session::new(),
             line: LineBuf::new(alloc)?,
-            text: Text::new(),
+            out: Buffers::new(alloc)?,
         })
     }
 }
@@ -67,104 +67,124 @@ pub fn zeros(alloc: Global, n: usize) -> Result<Vec<u8>, NoMemory>
 }
 
 /// What a line writes is written.
-fn write_text<K: Sink>(reader: &Reader, out: &mut K) -> Result<(), Stop>
+fn write_lines<K: Sink>(reader: &Reader, out: &mut K) -> Result<(), Stop>
     ensures later { K.faults out.old ≤ K.faults out.new }
     ensures sink_failed { result ≡ Err SinkFailed → Rose (K.faults out.old) (K.faults out.new) }
-    ensures contents { MatchResult result (λ _. Appends (K.got out.old) (K.got out.new) reader.now.text)
-        (λ stop. (stop ≡ SinkFailed) × AppendsPart (K.got out.old) (K.got out.new) reader.now.text) }
+    ensures contents { MatchResult result (λ _. Appends (K.got out.old) (K.got out.new) reader.now.out.lines)
+        (λ stop. (stop ≡ SinkFailed) × AppendsPart (K.got out.old) (K.got out.new) reader.now.out.lines) }
 {
-    match write_all(out, reader.text.as_slice()) {
+    match write_all(out, reader.out.lines.as_slice()) {
         Ok(()) => Ok(()),
         Err(_) => Err(Stop::SinkFailed),
     }
 }
 
 /// The line has ended: it is run, and what it writes is written.
-fn end_line<K: Sink>(alloc: Global, reader: &mut Reader, size: u32, out: &mut K) -> Result<(), Stop>
+fn end_line<K: Sink, D: Disk>(
+    alloc: Global,
+    reader: &mut Reader,
+    size: u32,
+    out: &mut K,
+    disk: &mut D,
+) -> Result<(), Stop>
     requires lines { reader.old.session.lines < 2 ^ 32 - 2 }
     requires within { IsSessionWithin reader.old.session }
     requires short { length reader.old.line ≤ LINE_BYTES }
+    requires disk { D.block_count disk.old ≡ size }
     ensures within { IsSessionWithin reader.new.session }
     ensures line { OnOk result (reader.new.line ≡ []) }
-    ensures contents { MatchResult result (λ _. TakesLine size reader.old.line reader.old.session reader.new.session (K.got out.old) (K.got out.new))
-        (StopsLine size reader.old.line reader.old.session (K.got out.old) (K.got out.new)) }
+    ensures contents { MatchResult result
+        (λ _. TakesLine size reader.old.line reader.old.session reader.new.session (K.got out.old) (K.got out.new)
+        (disk_seen (D.blocks disk.old) (D.plan disk.old) (D.faults disk.old)) (disk_seen (D.blocks disk.new) (D.plan disk.new) (D.faults disk.new)))
+        (StopsAt size (StandsFor reader.old.session (D.blocks disk.old)) (reader.old.line ∷ []) (K.got out.old) (K.got out.new)
+        (disk_seen (D.blocks disk.old) (D.plan disk.old) (D.faults disk.old)) (disk_seen (D.blocks disk.new) (D.plan disk.new) (D.faults disk.new))) }
     ensures later { K.faults out.old ≤ K.faults out.new }
     ensures sink_failed { result ≡ Err SinkFailed → Rose (K.faults out.old) (K.faults out.new) }
+    ensures same_size { D.block_count disk.new ≡ size }
 {
-    reader.text.clear();
     if let Err(_) = reader
         .session
-        .run_line(alloc, reader.line.line(), size, &mut reader.text)
+        .run_line(alloc, reader.line.line(), size, disk, &mut reader.out)
     {
         return Err(Stop::NoMemory);
     }
     reader.line.clear();
-    write_text(reader, out)
+    write_lines(reader, out)
 }
 
 /// The line is too long with this byte.
-fn end_long<K: Sink>(reader: &mut Reader, byte: u8, size: u32, out: &mut K) -> Result<(), Stop>
+fn end_long<K: Sink>(reader: &mut Reader, byte: u8, out: &mut K) -> Result<(), Stop>
     requires lines { reader.old.session.lines < 2 ^ 32 - 2 }
     requires within { IsSessionWithin reader.old.session }
     requires long { length reader.old.line ≡ LINE_BYTES }
     ensures within { IsSessionWithin reader.new.session }
     ensures line { OnOk result (reader.new.line ≡ []) }
-    ensures contents { MatchResult result (λ _. TakesLine size (reader.old.line ++ byte ∷ []) reader.old.session reader.new.session (K.got out.old) (K.got out.new))
-        (StopsLine size (reader.old.line ++ byte ∷ []) reader.old.session (K.got out.old) (K.got out.new)) }
+    ensures contents { (size : ℕ) (d : DiskSeen) → MatchResult result
+        (λ _. TakesLine size (reader.old.line ++ byte ∷ []) reader.old.session reader.new.session (K.got out.old) (K.got out.new) d d)
+        (StopsAt size (StandsFor reader.old.session d.told) ((reader.old.line ++ byte ∷ []) ∷ []) (K.got out.old) (K.got out.new) d d) }
     ensures later { K.faults out.old ≤ K.faults out.new }
     ensures sink_failed { result ≡ Err SinkFailed → Rose (K.faults out.old) (K.faults out.new) }
 {
-    reader.text.clear();
-    reader.session.refuse_long(&mut reader.text);
+    reader.session.refuse_long(&mut reader.out);
     reader.line.clear();
-    write_text(reader, out)
+    write_lines(reader, out)
 }
 
 /// One byte of the script.
-fn take_byte<K: Sink>(
+fn take_byte<K: Sink, D: Disk>(
     alloc: Global,
     reader: &mut Reader,
     byte: u8,
     size: u32,
     out: &mut K,
+    disk: &mut D,
 ) -> Result<(), Stop>
     requires lines { reader.old.session.lines < 2 ^ 32 - 2 }
     requires within { IsSessionWithin reader.old.session }
     requires short { length reader.old.line ≤ LINE_BYTES }
+    requires disk { D.block_count disk.old ≡ size }
     ensures within { IsSessionWithin reader.new.session }
     ensures contents { MatchResult result
-        (λ _. FeedsAll size reader.old.session reader.new.session reader.old.line reader.new.line (byte ∷ []) (K.got out.old) (K.got out.new))
-        (StopsAll size reader.old.session (lines_after reader.old.line (byte ∷ [])) (K.got out.old) (K.got out.new)) }
+        (λ _. Feeds size reader.old.session reader.new.session reader.old.line reader.new.line (byte ∷ []) (K.got out.old) (K.got out.new)
+        (disk_seen (D.blocks disk.old) (D.plan disk.old) (D.faults disk.old)) (disk_seen (D.blocks disk.new) (D.plan disk.new) (D.faults disk.new)))
+        (StopsAt size (StandsFor reader.old.session (D.blocks disk.old)) (lines_after reader.old.line (byte ∷ [])) (K.got out.old) (K.got out.new)
+        (disk_seen (D.blocks disk.old) (D.plan disk.old) (D.faults disk.old)) (disk_seen (D.blocks disk.new) (D.plan disk.new) (D.faults disk.new))) }
     ensures later { K.faults out.old ≤ K.faults out.new }
     ensures sink_failed { result ≡ Err SinkFailed → Rose (K.faults out.old) (K.faults out.new) }
+    ensures same_size { D.block_count disk.new ≡ size }
 {
     match reader.line.push(byte) {
         Fed::More => Ok(()),
-        Fed::Line => end_line(alloc, reader, size, out),
-        Fed::TooLong => end_long(reader, byte, size, out),
+        Fed::Line => end_line(alloc, reader, size, out, disk),
+        Fed::TooLong => end_long(reader, byte, out),
     }
 }
 
 /// Some bytes of the script, one after another.
-fn feed<K: Sink>(
+fn feed<K: Sink, D: Disk>(
     alloc: Global,
     reader: &mut Reader,
     bytes: &[u8],
     size: u32,
     out: &mut K,
+    disk: &mut D,
 ) -> Result<(), Stop>
     requires lines { reader.old.session.lines + length bytes.now < 2 ^ 32 - 2 }
     requires within { IsSessionWithin reader.old.session }
     requires short { length reader.old.line ≤ LINE_BYTES }
+    requires disk { D.block_count disk.old ≡ size }
     ensures within { IsSessionWithin reader.new.session }
     ensures contents { MatchResult result
-        (λ _. FeedsAll size reader.old.session reader.new.session reader.old.line reader.new.line bytes.now (K.got out.old) (K.got out.new))
-        (StopsAll size reader.old.session (lines_after reader.old.line bytes.now) (K.got out.old) (K.got out.new)) }
+        (λ _. Feeds size reader.old.session reader.new.session reader.old.line reader.new.line bytes.now (K.got out.old) (K.got out.new)
+        (disk_seen (D.blocks disk.old) (D.plan disk.old) (D.faults disk.old)) (disk_seen (D.blocks disk.new) (D.plan disk.new) (D.faults disk.new)))
+        (StopsAt size (StandsFor reader.old.session (D.blocks disk.old)) (lines_after reader.old.line bytes.now) (K.got out.old) (K.got out.new)
+        (disk_seen (D.blocks disk.old) (D.plan disk.old) (D.faults disk.old)) (disk_seen (D.blocks disk.new) (D.plan disk.new) (D.faults disk.new))) }
     ensures later { K.faults out.old ≤ K.faults out.new }
     ensures sink_failed { result ≡ Err SinkFailed → Rose (K.faults out.old) (K.faults out.new) }
+    ensures same_size { D.block_count disk.new ≡ size }
 {
     for byte in bytes {
-        if let Err(stop) = take_byte(alloc, reader, *byte, size, out) {
+        if let Err(stop) = take_byte(alloc, reader, *byte, size, out, disk) {
             return Err(stop);
         }
     }
@@ -184,8 +204,8 @@ fn finish<K: Sink>(reader: &mut Reader, out: &mut K) -> u8
     if reader.line.line().is_empty() {
         return 0;
     }
-    print_fault(reader.session.lines + 1, 6, &mut reader.text);
-    match write_all(out, reader.text.as_slice()) {
+    print_fault(reader.session.lines + 1, 6, &mut reader.out.text);
+    match write_all(out, reader.out.text.as_slice()) {
         Ok(()) => 2,
         Err(_) => 4,
     }
@@ -202,28 +222,32 @@ fn status_of(stop: Stop) -> u8
 }
 
 /// Runs the script that the source gives, to its end or to the first thing that stops it. The status.
-pub fn run<S: Source, K: Sink>(
+pub fn run<S: Source, K: Sink, D: Disk>(
     alloc: Global,
     reader: &mut Reader,
     buf: &mut [u8],
-    size: u32,
     src: &mut S,
     out: &mut K,
+    disk: &mut D,
 ) -> u8
-    requires session { (key : List ℕ) (blocks : Blocks) → session_of size blocks reader.old.session ≡ first_session (place key size blocks).disk }
+    requires session { (blocks : Blocks) → session_of blocks reader.old.session ≡ first_session (record { size = D.block_count disk.old; block = blocks }) }
     requires first { (reader.old.session.lines ≡ 0) × (reader.old.session.refused ≡ false) }
     requires within { IsSessionWithin reader.old.session }
     requires line { reader.old.line ≡ [] }
     requires room { 0 < length buf.old }
-    ensures ran { result ≢ 4 → result ≢ 5 → RanAll size (S.rest src.old) (S.rest src.new) (S.faults src.old) (S.faults src.new) (K.got out.old) (K.got out.new) result }
-    ensures broke { result ≡ 4 → BrokeAll size (S.rest src.old) (S.rest src.new) (K.got out.old) (K.got out.new) }
-    ensures lacked { result ≡ 5 → LackedAll size (S.rest src.old) (S.rest src.new) (K.got out.old) (K.got out.new) }
+    ensures ran { result ≢ 4 → result ≢ 5 → Ran (D.block_count disk.old) (S.rest src.old) (S.rest src.new) (S.faults src.old) (S.faults src.new) (K.got out.old) (K.got out.new)
+        (disk_seen (D.blocks disk.old) (D.plan disk.old) (D.faults disk.old)) (disk_seen (D.blocks disk.new) (D.plan disk.new) (D.faults disk.new)) result }
+    ensures broke { result ≡ 4 → Broke (D.block_count disk.old) (S.rest src.old) (S.rest src.new) (K.got out.old) (K.got out.new)
+        (disk_seen (D.blocks disk.old) (D.plan disk.old) (D.faults disk.old)) (disk_seen (D.blocks disk.new) (D.plan disk.new) (D.faults disk.new)) }
+    ensures lacked { result ≡ 5 → Lacked (D.block_count disk.old) (S.rest src.old) (S.rest src.new) (K.got out.old) (K.got out.new)
+        (disk_seen (D.blocks disk.old) (D.plan disk.old) (D.faults disk.old)) (disk_seen (D.blocks disk.new) (D.plan disk.new) (D.faults disk.new)) }
     ensures statuses { (result ≡ 0) ⊎ (result ≡ 2) ⊎ (result ≡ 3) ⊎ (result ≡ 4) ⊎ (result ≡ 5) ⊎ (result ≡ 7) }
     ensures source_failed { result ≡ 3 → Rose (S.faults src.old) (S.faults src.new) }
     ensures source_later { S.faults src.old ≤ S.faults src.new }
     ensures sink_later { K.faults out.old ≤ K.faults out.new }
     ensures sink_failed { result ≡ 4 → Rose (K.faults out.old) (K.faults out.new) }
 {
+    let size = disk.size();
     let mut left = SCRIPT_BYTES + 1;
     while left > 0 {
         let room = left.min(buf.len());
@@ -233,7 +257,7 @@ pub fn run<S: Source, K: Sink>(
             Ok(n) => {
                 let script = n.min(left - 1);
                 left -= n;
-                if let Err(stop) = feed(alloc, reader, &buf[..script], size, out) {
+                if let Err(stop) = feed(alloc, reader, &buf[..script], size, out, disk) {
                     return status_of(stop);
                 }
                 if reader.session.refused {

@@ -1,28 +1,69 @@
 //! How a script runs, line by line.
 
-ghost use Rattle.std.specs.Prelude.{◌≡◌, ℕ, ◌<◌, ◌≤◌, ◌-◌, ◌++◌, ◌^◌, true, false, List, [], length, codes, decimal, OnOk, OnErr};
+ghost use Rattle.std.specs.Prelude.{◌≡◌, ℕ, ◌+◌, ◌<◌, ◌≤◌, ◌-◌, ◌++◌, ◌^◌, true, false, List, [], length, codes, decimal, Option, Some, IfOk, OnOk, OnErr};
 ghost use Rattle.kernel_model.specs.Text.{line, spaced};
 ghost use Rattle.kernel_model.specs.Script.{Happens, Boot};
+ghost use Rattle.kernel_model.specs.World.{Blocks};
+ghost use Rattle.kernel_model.specs.Session.{first_session};
+ghost use Rattle.disk_log.specs.Calls.{GoesOn, Made};
 ghost use Rattle.script_text.specs.Answers.{entry_seen};
 ghost use Rattle.vino_top.specs.Bounds.{IsSessionWithin};
 ghost use Rattle.vino_top.specs.Built.{is_built_event, is_built_call as built_call};
-ghost use Rattle.vino_top.specs.Standing.{session_of, code_seen};
-ghost use Rattle.kernel_model.specs.World.{Blocks};
-ghost use Rattle.kernel_model.specs.Session.{first_session};
-ghost use Rattle.vino_top.specs.Run.{IsImageLine, RunsLine, RunsEntry};
+ghost use Rattle.vino_top.specs.Standing.{session_of, world_for, code_seen};
+ghost use Rattle.kernel_model.specs.Opening.{opening_kernel};
+ghost use Rattle.vino_top.specs.Run.{IsImageLine, RunsLine, RunsEntry, disk_seen};
 
 use crate::kernel::{Kernel, Setup};
-use kernel_model::{Event, NoMemory, SysCall};
+use crate::notes::{Lines, Notes};
+use disk_log::DiskLog;
+use kernel_model::{Event, NoMemory, Note, Refusal, SysCall};
+use mem_disk::{Directory, read_directory};
 use script_text::{Entry, ScriptFault, Text, parse_line, print_boot, print_fault, print_note};
 use std::alloc::Global;
+use vino_base::Disk;
+
+/// What a line leaves behind: the calls of the disk, the notes of its event, and the bytes that are written. Memory is
+/// taken once, before the first line.
+#[derive(Drop)]
+pub struct Buffers {
+    pub log: DiskLog,
+    pub notes: Notes,
+    pub text: Text,
+    pub lines: Lines,
+}
+
+impl Buffers {
+    /// Empty ones.
+    pub fn new(alloc: Global) -> Result<Buffers, NoMemory> {
+        Ok(Buffers {
+            log: DiskLog::new(),
+            notes: Notes::new(alloc)?,
+            text: Text::new(),
+            lines: Lines::new(),
+        })
+    }
+
+    /// Forgets what the last line left.
+    fn clear(&mut self)
+        ensures log { self.new.log ≡ [] }
+        ensures notes { self.new.notes ≡ [] }
+        ensures lines { self.new.lines ≡ [] }
+    {
+        self.log.clear();
+        self.notes.clear();
+        self.lines.clear();
+    }
+}
 
 /// How far a script has come.
 #[derive(Drop)]
 pub struct Session {
     /// What the set-up lines set.
     pub setup: Setup,
-    /// Nothing before `boot`.
-    pub kernel: Option<Kernel>,
+    /// Whether `boot` was run.
+    pub booted: bool,
+    /// What `boot` begins anew.
+    pub kernel: Kernel,
     /// How many lines were taken.
     pub lines: u32,
     /// How many events were counted.
@@ -36,43 +77,51 @@ impl Session {
     pub fn new() -> Session
         ensures within { IsSessionWithin result }
         ensures first { (result.lines ≡ 0) × (result.refused ≡ false) }
-        ensures value { (size : ℕ) (blocks : Blocks) → session_of size blocks result ≡ first_session (record { size = size; block = blocks }) }
+        ensures value { (size : ℕ) (blocks : Blocks) → session_of blocks result ≡ first_session (record { size = size; block = blocks }) }
     {
+        let setup = Setup {
+            frames: 8,
+            patience: [10; 8],
+            grant: 1_000_000,
+        };
         Session {
-            setup: Setup {
-                frames: 8,
-                patience: [10; 8],
-                grant: 1_000_000,
-            },
-            kernel: None,
+            setup,
+            booted: false,
+            kernel: Kernel::new(setup),
             lines: 0,
             events: 0,
             refused: false,
         }
     }
 
-    /// Runs the next line, over a disk of so many blocks. What it writes is `out`.
+    /// Runs the next line, over a disk of so many blocks. What it writes stands in the buffers.
     ///
     /// Memory is wanted for the bytes of an `image` line alone; where there is none, nothing changes.
-    pub fn run_line(
+    pub fn run_line<D: Disk>(
         &mut self,
         alloc: Global,
         text: &[u8],
         size: u32,
-        out: &mut Text,
+        disk: &mut D,
+        out: &mut Buffers,
     ) -> Result<(), NoMemory>
         requires room { self.old.lines < 2 ^ 32 - 2 }
         requires within { IsSessionWithin self.old }
         requires short { length text.now ≤ 65536 }
-        requires empty { out.old ≡ [] }
+        requires disk { D.block_count disk.old ≡ size }
         ensures within { IsSessionWithin self.new }
-        ensures ok { OnOk result (RunsLine size text.now self.old self.new out.new) }
+        ensures counted { self.new.lines ≤ self.old.lines + 1 }
+        ensures same_size { D.block_count disk.new ≡ size }
+        ensures ok { OnOk result (RunsLine size text.now self.old self.new (D.blocks disk.old) (D.blocks disk.new) out.new.log out.new.lines) }
+        ensures calls { OnOk result (Made (D.faults disk.old) (D.faults disk.new) (D.plan disk.old) (D.plan disk.new) out.new.log) }
         ensures err { OnErr result ((self.new ≡ self.old) × IsImageLine text.now × (self.old.refused ≡ false)) }
+        ensures same_disk { OnErr result (disk_seen (D.blocks disk.new) (D.plan disk.new) (D.faults disk.new) ≡ disk_seen (D.blocks disk.old) (D.plan disk.old) (D.faults disk.old)) }
     {
+        out.clear();
         if self.refused {
             return Ok(());
         }
-        match parse_line(alloc, text, self.kernel.is_some()) {
+        match parse_line(alloc, text, self.booted) {
             Err(fault) => {
                 let Some(code) = fault_code(fault) else {
                     return Err(NoMemory);
@@ -82,20 +131,23 @@ impl Session {
             }
             Ok(entry) => {
                 self.lines += 1;
-                self.run_entry(&entry, size, out);
+                self.run_entry(&entry, size, disk, out);
             }
         }
         Ok(())
     }
 
     /// Takes a line that is longer than a line may be.
-    pub fn refuse_long(&mut self, out: &mut Text)
+    pub fn refuse_long(&mut self, out: &mut Buffers)
         requires room { self.old.lines < 2 ^ 32 - 2 }
         requires within { IsSessionWithin self.old }
-        requires empty { out.old ≡ [] }
         ensures within { IsSessionWithin self.new }
-        ensures runs { (size : ℕ) (text : List ℕ) → 65536 < length text → RunsLine size text self.old self.new out.new }
+        ensures counted { self.new.lines ≤ self.old.lines + 1 }
+        ensures no_calls { out.new.log ≡ [] }
+        ensures runs { (size : ℕ) (text : List ℕ) (told : Option (List (List ℕ))) → 65536 < length text →
+            RunsLine size text self.old self.new told told [] out.new.lines }
     {
+        out.clear();
         if self.refused {
             return;
         }
@@ -104,65 +156,116 @@ impl Session {
     }
 
     /// Refuses the line: its S code is this.
-    fn refuse(&mut self, code: u8, out: &mut Text)
+    fn refuse(&mut self, code: u8, out: &mut Buffers)
+        requires empty { out.old.lines ≡ [] }
         ensures state { self.new ≡ record self.old { refused = true } }
-        ensures text { out.new ≡ line (codes "script" ++ spaced self.old.lines ++ codes " S" ++ decimal code) }
+        ensures text { out.new.lines ≡ line (codes "script" ++ spaced self.old.lines ++ codes " S" ++ decimal code) }
+        ensures no_calls { out.new.log ≡ out.old.log }
     {
         self.refused = true;
-        print_fault(self.lines, code, out);
+        print_fault(self.lines, code, &mut out.text);
+        out.lines.add(&out.text);
     }
 
     /// Runs an entry of the line that was counted.
-    fn run_entry(&mut self, entry: &Entry, size: u32, out: &mut Text)
+    fn run_entry<D: Disk>(&mut self, entry: &Entry, size: u32, disk: &mut D, out: &mut Buffers)
         requires room { self.old.lines < 2 ^ 32 - 1 }
         requires fresh { self.old.events < self.old.lines }
         requires within { IsSessionWithin self.old }
-        requires empty { out.old ≡ [] }
+        requires disk { D.block_count disk.old ≡ size }
+        requires no_calls { out.old.log ≡ [] }
+        requires no_notes { out.old.notes ≡ [] }
+        requires empty { out.old.lines ≡ [] }
         ensures within { IsSessionWithin self.new }
-        ensures runs { RunsEntry size (entry_seen entry.now) self.old self.new out.new }
+        ensures counted { self.new.lines ≡ self.old.lines }
+        ensures same_size { D.block_count disk.new ≡ size }
+        ensures runs { RunsEntry size (entry_seen entry.now) self.old self.new (D.blocks disk.old) (D.blocks disk.new) out.new.log out.new.lines }
+        ensures calls { GoesOn (D.faults disk.old) (D.faults disk.new) (D.plan disk.old) (D.plan disk.new) out.old.log out.new.log }
     {
         match entry {
             Entry::Blank => {}
-            Entry::Boot => self.boot(size, out),
-            Entry::Happens(event) => self.happen(event, out),
-            Entry::Frames(_)
-            | Entry::Patience(..)
-            | Entry::Grant(_)
-            | Entry::Image(..)
-            | Entry::Raw => self.refuse(5, out),
+            Entry::Frames(n) => self.setup.frames = *n,
+            Entry::Boot => self.boot(size, disk, out),
+            Entry::Happens(event) => self.happen(event, size, disk, out),
+            Entry::Patience(..) | Entry::Grant(_) | Entry::Image(..) | Entry::Raw => {
+                self.refuse(5, out)
+            }
         }
     }
 
-    /// The kernel begins.
-    fn boot(&mut self, size: u32, out: &mut Text)
+    /// The kernel begins: block 0 of the disk has the directory. Where it can't be read there are no files.
+    fn boot<D: Disk>(&mut self, size: u32, disk: &mut D, out: &mut Buffers)
         requires within { IsSessionWithin self.old }
+        requires disk { D.block_count disk.old ≡ size }
+        requires no_calls { out.old.log ≡ [] }
+        requires empty { out.old.lines ≡ [] }
         ensures within { IsSessionWithin self.new }
-        ensures runs { RunsEntry size Boot self.old self.new out.new }
+        ensures counted { self.new.lines ≡ self.old.lines }
+        ensures same_size { D.block_count disk.new ≡ size }
+        ensures runs { RunsEntry size Boot self.old self.new (D.blocks disk.old) (D.blocks disk.new) out.new.log out.new.lines }
+        ensures calls { GoesOn (D.faults disk.old) (D.faults disk.new) (D.plan disk.old) (D.plan disk.new) out.old.log out.new.log }
     {
-        self.kernel = Some(Kernel::new(self.setup));
-        print_boot(self.setup.frames, size, 0, out);
+        disk.size();
+        let mut block = [0; 512];
+        match out.log.read(disk, 0, &mut block) {
+            Ok(()) => {
+                let directory = read_directory(&block, size);
+                print_boot(
+                    self.setup.frames,
+                    size,
+                    u32::from(directory.count()),
+                    &mut out.text,
+                );
+                self.begin(size, directory, out)
+            }
+            Err(_) => {
+                print_note(&Note::Refused(0, Refusal::DiskFault), &mut out.text);
+                self.begin(size, Directory::empty(), out)
+            }
+        }
+    }
+
+    /// The kernel begins with this directory, and the text is written.
+    fn begin(&mut self, size: u32, directory: Directory, out: &mut Buffers)
+        requires within { IsSessionWithin self.old }
+        requires empty { out.old.lines ≡ [] }
+        ensures within { IsSessionWithin self.new }
+        ensures counted { self.new.lines ≡ self.old.lines }
+        ensures session { (blocks : Blocks) → session_of blocks self.new ≡ record (session_of blocks self.old) { kernel = Some (opening_kernel (world_for size self.old.setup directory)) } }
+        ensures text { out.new.lines ≡ out.old.text }
+        ensures no_calls { out.new.log ≡ out.old.log }
+    {
+        self.kernel.boot(self.setup, size, directory);
+        self.booted = true;
+        out.lines.add(&out.text);
     }
 
     /// An event of the kernel, or the refusal of one that isn't built.
-    fn happen(&mut self, event: &Event, out: &mut Text)
+    fn happen<D: Disk>(&mut self, event: &Event, size: u32, disk: &mut D, out: &mut Buffers)
         requires room { self.old.lines < 2 ^ 32 - 1 }
         requires fresh { self.old.events < self.old.lines }
         requires within { IsSessionWithin self.old }
-        requires empty { out.old ≡ [] }
+        requires disk { D.block_count disk.old ≡ size }
+        requires no_calls { out.old.log ≡ [] }
+        requires no_notes { out.old.notes ≡ [] }
+        requires empty { out.old.lines ≡ [] }
         ensures within { IsSessionWithin self.new }
-        ensures runs { (size : ℕ) → RunsEntry size (Happens event.now) self.old self.new out.new }
+        ensures counted { self.new.lines ≡ self.old.lines }
+        ensures same_size { D.block_count disk.new ≡ size }
+        ensures runs { RunsEntry size (Happens event.now) self.old self.new (D.blocks disk.old) (D.blocks disk.new) out.new.log out.new.lines }
+        ensures calls { GoesOn (D.faults disk.old) (D.faults disk.new) (D.plan disk.old) (D.plan disk.new) out.old.log out.new.log }
     {
         if !is_built(event) {
             return self.refuse(5, out);
         }
-        if let Some(kernel) = &mut self.kernel {
+        if self.booted {
             self.events += 1;
-            let note = kernel.event(self.events, event);
-            print_note(&note, out);
+            self.kernel
+                .event(self.events, event, disk, &mut out.log, &mut out.notes);
+            out.lines.add_notes(&out.notes, &mut out.text);
         }
     }
 }
-
 /// Whether an event is built.
 fn is_built(event: &Event) -> bool
     ensures { result ≡ is_built_event event.now }

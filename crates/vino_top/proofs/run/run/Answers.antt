@@ -1,53 +1,57 @@
 -- Each turn of the run goes on from what was reached, or ends it.
 use Rattle.std.proofs.Common.{arith, length, take, drop, ◌≤◌, ◌≡◌, ◌-◌, ◌++◌, ◌∙◌, sym, refl, length-append, length-take}
-use Rattle.vino_top.proofs.RunLemmas.{piece_is}
-use Rattle.vino_top.proofs.EndLemmas.{all_first, all_reached_lines, all_reached_short, all_reached_more, all_ran_fault, all_ran_over, all_ran_stopped, all_ran_finish, all_broke_finish, all_broke_stop, all_lacked_stop}
+use Rattle.vino_top.proofs.LineLemmas.{piece_is}
+use Rattle.vino_top.proofs.EndLemmas.{reached_first, reached_lines, reached_short, reached_more, ran_fault, ran_over, ran_stopped, ran_finish, broke_finish, broke_fed, lacked_fed}
 use Rattle.vino_top.proofs.run.run.Goals as goal
 
 pub loop-left-init : goal.loop-left-init
 loop-left-init g c =
     record {
-      reached = all_first c.args.size _ _ c.args.reader.now.session c.args.reader.now.line c.requires.session c.requires.line;
+      reached = reached_first c.size-size.result c.args.reader.now.session _ _ _ c.args.reader.now.line c.requires.line;
       within = c.requires.within;
       going = c.requires.first.1;
       source = omega arith;
       sink = omega arith;
       room = c.requires.room;
+      same_size = sym c.size-size.ensures.count;
     }
 
 pub finish-requires : goal.finish-requires
-finish-requires g c = omega (arith, all_reached_lines _ _ _ _ _ _ _ _ c.loop-left.invariant.reached)
+finish-requires g c = omega (arith, reached_lines _ _ _ _ _ _ _ _ _ _ _ c.requires.first.0 c.loop-left.invariant.reached)
 
 pub feed-requires-clause-lines : goal.feed-requires-clause-lines
 feed-requires-clause-lines g c =
-    omega (arith, all_reached_lines _ _ _ _ _ _ _ _ c.loop-left.invariant.reached, length-take c.min-script.result (c.read.new.buf ++ drop c.min-room.result c.loop-left.buf), c.min-script.ensures, c.loop-left-test.true)
+    omega (arith, reached_lines _ _ _ _ _ _ _ _ _ _ _ c.requires.first.0 c.loop-left.invariant.reached, length-take c.min-script.result (c.read.new.buf ++ drop c.min-room.result c.loop-left.buf), c.min-script.ensures, c.loop-left-test.true)
 
 pub feed-requires-clause-short : goal.feed-requires-clause-short
-feed-requires-clause-short g c = all_reached_short _ _ _ _ _ _ _ _ c.loop-left.invariant.reached
+feed-requires-clause-short g c = reached_short _ _ _ _ _ _ _ _ _ _ _ c.loop-left.invariant.reached
 
 pub returns-in-Err-clause-ran : goal.returns-in-Err-clause-ran
 returns-in-Err-clause-ran g c = λ other more.
-    all_ran_fault c.args.size _ _ _ _ _ _ _ _ c.loop-left.reader.session c.loop-left.reader.line c.loop-left.left c.loop-left.invariant.reached c.loop-left.invariant.going c.loop-left-test.true
-    c.in-Err.ensures.contents c.loop-left.invariant.source c.in-Err.ensures.cause.failed
+    rw (← c.size-size.ensures.count)
+    (ran_fault c.size-size.result c.args.reader.now.session c.loop-left.reader.session _ _ _ _ _ _ _ _ _ _ c.loop-left.reader.line c.loop-left.left c.requires.session c.loop-left.invariant.reached c.loop-left.invariant.going c.loop-left-test.true
+    c.in-Err.ensures.contents c.loop-left.invariant.source c.in-Err.ensures.cause.failed)
 
 pub returns-clause-ran : goal.returns-clause-ran
 returns-clause-ran g c = λ other more.
-    let none : c.loop-left.left ≡ 0 = omega (arith, c.loop-left-test.false) in
-    let reached = rw none at c.loop-left.invariant.reached in
-    all_ran_over c.args.size _ _ _ _ _ _ c.loop-left.reader.session c.loop-left.reader.line reached c.loop-left.invariant.going
+    rw (← c.size-size.ensures.count)
+    (ran_over c.size-size.result c.args.reader.now.session c.loop-left.reader.session _ _ _ _ _ _ _ _ c.loop-left.reader.line c.loop-left.left c.requires.session c.loop-left.invariant.reached (omega (arith, c.loop-left-test.false)) c.loop-left.invariant.going)
 
 pub returns-in-Ok-eq0-clause-ran : goal.returns-in-Ok-eq0-clause-ran
 returns-in-Ok-eq0-clause-ran g c = λ other more.
     let none = rw c.in-Ok-eq0.field-0-test at c.in-Ok-eq0.ensures.contents in
-    all_ran_finish c.args.size _ _ _ _ _ _ _ _ c.loop-left.reader.session c.loop-left.reader.line c.loop-left.left c.finish.result c.loop-left.invariant.reached c.loop-left.invariant.going c.loop-left-test.true none.0
+    rw (← c.size-size.ensures.count)
+    (ran_finish c.size-size.result c.args.reader.now.session c.loop-left.reader.session _ _ _ _ _ _ _ _ _ _ c.loop-left.reader.line c.loop-left.left c.finish.result c.requires.session c.loop-left.invariant.reached c.loop-left.invariant.going c.loop-left-test.true none.0
     (none.1 refl (omega (arith, c.read.auto.buf, length-take c.min-room.result c.loop-left.buf, c.min-room.ensures, c.loop-left.invariant.room, c.loop-left-test.true)))
-    (λ empty. (c.finish.ensures.whole empty).1) c.finish.ensures.refused c.finish.ensures.statuses other
+    (λ empty. (c.finish.ensures.whole empty).1) c.finish.ensures.refused c.finish.ensures.statuses other)
 
 pub returns-in-Ok-eq0-clause-broke : goal.returns-in-Ok-eq0-clause-broke
-returns-in-Ok-eq0-clause-broke g c =
+returns-in-Ok-eq0-clause-broke g c = λ four.
     let none = rw c.in-Ok-eq0.field-0-test at c.in-Ok-eq0.ensures.contents in
-    all_broke_finish c.args.size _ _ _ _ _ _ c.loop-left.reader.session c.loop-left.reader.line c.loop-left.left c.finish.result c.loop-left.invariant.reached c.loop-left.invariant.going c.loop-left-test.true none.0
-    c.finish.ensures.broken c.finish.ensures.statuses
+    rw (← c.size-size.ensures.count)
+    (broke_finish c.size-size.result c.args.reader.now.session c.loop-left.reader.session _ _ _ _ _ _ _ _ c.loop-left.reader.line c.loop-left.left c.finish.result c.requires.session c.loop-left.invariant.reached c.loop-left.invariant.going c.loop-left-test.true none.0
+    (none.1 refl (omega (arith, c.read.auto.buf, length-take c.min-room.result c.loop-left.buf, c.min-room.ensures, c.loop-left.invariant.room, c.loop-left-test.true)))
+    c.finish.ensures.broken c.finish.ensures.statuses four)
 
 pub loop-left-preserved : goal.loop-left-preserved
 loop-left-preserved g c =
@@ -56,13 +60,14 @@ loop-left-preserved g c =
     let size : length (take c.in-Ok.n c.read.new.buf) ≡ c.in-Ok.n = omega (arith, length-take c.in-Ok.n c.read.new.buf) in
     let fed = rw (piece_is c.in-Ok.n c.loop-left.left c.min-script.result c.read.new.buf (drop c.min-room.result c.loop-left.buf) c.min-script.ensures within) at c.in_default.ensures.contents in
     record {
-      reached = all_reached_more c.args.size _ _ _ _ _ _ c.loop-left.reader.session c.feed.new.reader.session c.loop-left.reader.line c.feed.new.reader.line c.loop-left.left c.in-Ok.n (take c.in-Ok.n c.read.new.buf)
+      reached = reached_more c.size-size.result c.args.reader.now.session c.loop-left.reader.session c.feed.new.reader.session _ _ _ _ _ _ _ _ _ c.loop-left.reader.line c.feed.new.reader.line c.loop-left.left c.in-Ok.n (take c.in-Ok.n c.read.new.buf)
           c.loop-left.invariant.reached c.loop-left-test.true size most c.in-Ok.ensures.contents.0 fed;
       within = c.feed.ensures.within;
       going = c.if-reader.false;
       source = omega (arith, c.loop-left.invariant.source, c.in-Ok.ensures.cause.later);
       sink = omega (arith, c.loop-left.invariant.sink, c.feed.ensures.later);
       room = omega (arith, c.loop-left.invariant.room, c.read.auto.buf, length-take c.min-room.result c.loop-left.buf, c.min-room.ensures, c.loop-left-test.true, length-append c.read.new.buf (drop c.min-room.result c.loop-left.buf));
+      same_size = c.feed.ensures.same_size;
     }
 
 pub returns-in-Err-feed-clause-broke : goal.returns-in-Err-feed-clause-broke
@@ -71,8 +76,9 @@ returns-in-Err-feed-clause-broke g c = λ is.
     let most : c.in-Ok.n ≤ c.loop-left.left = omega (arith, c.in-Ok.ensures.bound, length-take c.min-room.result c.loop-left.buf, c.min-room.ensures) in
     let size : length (take c.in-Ok.n c.read.new.buf) ≡ c.in-Ok.n = omega (arith, length-take c.in-Ok.n c.read.new.buf) in
     let piece = piece_is c.in-Ok.n c.loop-left.left c.min-script.result c.read.new.buf (drop c.min-room.result c.loop-left.buf) c.min-script.ensures within in
-    all_broke_stop c.args.size _ _ _ _ _ _ c.loop-left.reader.session c.loop-left.reader.line c.loop-left.left c.in-Ok.n (take c.in-Ok.n c.read.new.buf) _ c.in-Err-feed.stop
-    c.loop-left.invariant.reached c.loop-left-test.true size most c.in-Ok.ensures.contents.0 piece (sym c.status_of.ensures ∙ is) c.in-Err-feed.ensures.contents
+    rw (← c.size-size.ensures.count)
+    (broke_fed c.size-size.result c.args.reader.now.session c.loop-left.reader.session _ _ _ _ _ _ _ _ _ c.loop-left.reader.line c.loop-left.left c.in-Ok.n (take c.in-Ok.n c.read.new.buf) _ c.in-Err-feed.stop
+    c.requires.session c.loop-left.invariant.reached c.loop-left-test.true size most c.in-Ok.ensures.contents.0 piece (sym c.status_of.ensures ∙ is) c.in-Err-feed.ensures.contents)
 
 pub returns-in-Err-feed-clause-lacked : goal.returns-in-Err-feed-clause-lacked
 returns-in-Err-feed-clause-lacked g c = λ is.
@@ -80,8 +86,9 @@ returns-in-Err-feed-clause-lacked g c = λ is.
     let most : c.in-Ok.n ≤ c.loop-left.left = omega (arith, c.in-Ok.ensures.bound, length-take c.min-room.result c.loop-left.buf, c.min-room.ensures) in
     let size : length (take c.in-Ok.n c.read.new.buf) ≡ c.in-Ok.n = omega (arith, length-take c.in-Ok.n c.read.new.buf) in
     let piece = piece_is c.in-Ok.n c.loop-left.left c.min-script.result c.read.new.buf (drop c.min-room.result c.loop-left.buf) c.min-script.ensures within in
-    all_lacked_stop c.args.size _ _ _ _ _ _ c.loop-left.reader.session c.loop-left.reader.line c.loop-left.left c.in-Ok.n (take c.in-Ok.n c.read.new.buf) _ c.in-Err-feed.stop
-    c.loop-left.invariant.reached c.loop-left-test.true size most c.in-Ok.ensures.contents.0 piece (sym c.status_of.ensures ∙ is) c.in-Err-feed.ensures.contents
+    rw (← c.size-size.ensures.count)
+    (lacked_fed c.size-size.result c.args.reader.now.session c.loop-left.reader.session _ _ _ _ _ _ _ _ _ c.loop-left.reader.line c.loop-left.left c.in-Ok.n (take c.in-Ok.n c.read.new.buf) _ c.in-Err-feed.stop
+    c.requires.session c.loop-left.invariant.reached c.loop-left-test.true size most c.in-Ok.ensures.contents.0 piece (sym c.status_of.ensures ∙ is) c.in-Err-feed.ensures.contents)
 
 pub returns-then-reader-clause-ran : goal.returns-then-reader-clause-ran
 returns-then-reader-clause-ran g c = λ other more.
@@ -89,6 +96,7 @@ returns-then-reader-clause-ran g c = λ other more.
     let most : c.in-Ok.n ≤ c.loop-left.left = omega (arith, c.in-Ok.ensures.bound, length-take c.min-room.result c.loop-left.buf, c.min-room.ensures) in
     let size : length (take c.in-Ok.n c.read.new.buf) ≡ c.in-Ok.n = omega (arith, length-take c.in-Ok.n c.read.new.buf) in
     let piece = piece_is c.in-Ok.n c.loop-left.left c.min-script.result c.read.new.buf (drop c.min-room.result c.loop-left.buf) c.min-script.ensures within in
-    let reached = all_reached_more c.args.size _ _ _ _ _ _ c.loop-left.reader.session c.feed.new.reader.session c.loop-left.reader.line c.feed.new.reader.line c.loop-left.left c.in-Ok.n (take c.in-Ok.n c.read.new.buf)
+    let reached = reached_more c.size-size.result c.args.reader.now.session c.loop-left.reader.session c.feed.new.reader.session _ _ _ _ _ _ _ _ _ c.loop-left.reader.line c.feed.new.reader.line c.loop-left.left c.in-Ok.n (take c.in-Ok.n c.read.new.buf)
     c.loop-left.invariant.reached c.loop-left-test.true size most c.in-Ok.ensures.contents.0 (rw piece at c.in_default.ensures.contents) in
-    all_ran_stopped c.args.size _ _ _ _ _ _ c.feed.new.reader.session c.feed.new.reader.line (c.loop-left.left - c.in-Ok.n) reached c.if-reader.true
+    rw (← c.size-size.ensures.count)
+    (ran_stopped c.size-size.result c.args.reader.now.session c.feed.new.reader.session _ _ _ _ _ _ _ _ c.feed.new.reader.line (c.loop-left.left - c.in-Ok.n) c.requires.session reached c.if-reader.true)

@@ -1,18 +1,21 @@
 -- What was taken so far was fed, and no line was refused.
 use Rattle.std.proofs.Common.{◌≡◌, ◌<◌, ◌≤◌, length, false}
-use Rattle.vino_top.specs.Run.{ReachedAll}
+use Rattle.vino_top.specs.Run.{Reached, disk_seen}
 use Rattle.vino_top.specs.Bounds.{IsSessionWithin}
 use Rattle.vino_top.proofs.run.run.Given as goal
 
 abbrev pub invariant-loop-left : goal.invariant-loop-left
 invariant-loop-left g l =
     record {
-      reached : ReachedAll l.size (g.S.Source.rest l.fn.src) (g.S.Source.rest l.src) (g.K.Sink.got l.fn.out) (g.K.Sink.got l.out) l.reader.session l.reader.line l.left;
+      reached : Reached l.size l.fn.reader.session l.reader.session (g.S.Source.rest l.fn.src) (g.S.Source.rest l.src) (g.K.Sink.got l.fn.out) (g.K.Sink.got l.out)
+          (disk_seen (g.D.Disk.blocks l.fn.disk) (g.D.Disk.plan l.fn.disk) (g.D.Disk.faults l.fn.disk)) (disk_seen (g.D.Disk.blocks l.disk) (g.D.Disk.plan l.disk) (g.D.Disk.faults l.disk))
+          l.reader.line l.left;
       within : IsSessionWithin l.reader.session;
       going : l.reader.session.refused ≡ false;
       source : g.S.Source.faults l.fn.src ≤ g.S.Source.faults l.src;
       sink : g.K.Sink.faults l.fn.out ≤ g.K.Sink.faults l.out;
       room : 0 < length l.buf;
+      same_size : g.D.Disk.block_count l.disk ≡ l.size;
     }
 
 abbrev pub decreases-loop-left : goal.decreases-loop-left

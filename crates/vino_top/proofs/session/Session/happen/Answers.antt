@@ -1,8 +1,9 @@
--- An event goes on from the kernel as the abstract one does, and its note's line is written.
+-- An event goes on from the kernel as the abstract one does, and the lines of its notes are written.
 use Rattle.std.proofs.Common.{sym, ◌∙◌}
 use Rattle.vino_top.proofs.SessionLemmas.{event_runs}
 use Rattle.vino_top.proofs.session.Session.happen.Goals as goal
 
-pub returns-in-Some-clause-runs : goal.returns-in-Some-clause-runs
-returns-in-Some-clause-runs c = λ size key blocks.
-    event_runs size key blocks c.args.self.now c.in-Some.kernel c.event-note.new.self c.args.event.now c.event-note.result c.print_note.new.out c.in-Some.is (sym c.is_built.ensures ∙ c.if-not-is_built.false) c.event-note.ensures.answer c.print_note.ensures
+pub returns-then-self-clause-runs : goal.returns-then-self-clause-runs
+returns-then-self-clause-runs g c =
+    event_runs c.args.size c.args.self.now c.event.new.self (g.D.Disk.blocks c.args.disk.now) (g.D.Disk.blocks c.event.new.disk) c.args.event.now c.event.new.log c.event.new.notes c.add_notes.new.self
+    c.if-self.true (sym c.is_built.ensures ∙ c.if-not-is_built.false) c.event.ensures.happened c.add_notes.ensures

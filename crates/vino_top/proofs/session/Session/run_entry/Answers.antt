@@ -2,4 +2,4 @@
 use Rattle.vino_top.proofs.session.Session.run_entry.Goals as goal
 
 pub returns-in-Boot-clause-runs : goal.returns-in-Boot-clause-runs
-returns-in-Boot-clause-runs c = λ key blocks. rw c.in-Boot.is (c.boot.ensures.runs key blocks)
+returns-in-Boot-clause-runs g c = λ key a stands. rw c.in-Boot.is (c.boot.ensures.runs key a stands)
