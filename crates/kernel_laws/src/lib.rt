@@ -1,0 +1,4 @@
+//! Laws of the abstract kernel's definitions.
+#![tactic(auto)]
+
+pub mod undoing;
