@@ -1,1 +1,3 @@
+pub mod AmountLemmas
+pub mod ClockLemmas
 pub mod UndoingLemmas

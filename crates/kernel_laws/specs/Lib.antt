@@ -1,1 +1,3 @@
+pub mod Amounts
+pub mod Clock
 pub mod Undoing
