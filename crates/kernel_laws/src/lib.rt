@@ -1,6 +1,7 @@
 //! Laws of the abstract kernel's definitions.
 #![tactic(auto)]
 
+pub mod alone;
 pub mod amounts;
 pub mod clock;
 pub mod undoing;
