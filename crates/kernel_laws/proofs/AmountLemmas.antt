@@ -121,7 +121,7 @@ same_total : (a b : Accounts) (j : Kind) → ((r : ℕ) → ledger a j r ≡ led
 same_total a b j h = sum_same 16 (ledger a j) (ledger b j) (λ r low. h r)
 
 -- a charge, by whether a graft stands
-charge_total : (v : World) (s : Objects) (q pt : ℕ) (k j : Kind) (g : Option GraftValue) → s.accounts.graft q pt ≡ g → IsSoundStore v s →
+pub charge_total : (v : World) (s : Objects) (q pt : ℕ) (k j : Kind) (g : Option GraftValue) → s.accounts.graft q pt ≡ g → IsSoundStore v s →
     1 ≤ payer_balance k (s.accounts.acct q) g → total (charge_by k q pt g s.accounts) j ≡ total s.accounts j
 charge_total v s q pt k j None e h enough = refl
 charge_total v s q pt k j (Some g) e h enough =

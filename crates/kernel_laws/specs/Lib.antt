@@ -1,3 +1,4 @@
 pub mod Amounts
 pub mod Clock
+pub mod Soundness
 pub mod Undoing

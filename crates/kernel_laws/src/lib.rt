@@ -4,4 +4,5 @@
 pub mod alone;
 pub mod amounts;
 pub mod clock;
+pub mod soundness;
 pub mod undoing;
