@@ -1,23 +1,21 @@
 -- What accessors keep sound.
-use Rattle.std.specs.Prelude.{◌≡◌, ◌≢◌, ℕ, zero, suc, ◌+◌, ◌<◌, ◌≤◌, ◌==◌, ◌&&◌, ◌||◌, nat_lt, nat_le, Bool, true, false, cond, not, List, [], ◌∷◌, map, length, slice_get, option_map, Option, Some, None, is_some, All, Contains, ⊤}
-use Rattle.std.proofs.Common.{◌⊎◌, arith, refl, subst, sym, ap, ◌∙◌, inl, inr}
+use Rattle.std.specs.Prelude.{◌≡◌, ℕ, ◌<◌, ◌≤◌, ◌==◌, Bool, true, false, cond, List, [], ◌∷◌, slice_get, Option, Some, None, Contains, ⊤}
+use Rattle.std.proofs.Common.{arith, refl, subst, sym, ap, ◌∙◌, inl, inr}
 use Rattle.std.proofs.lemmas.Bool.{cases_Bool, cond-true, cond-false}
 use Rattle.std.proofs.lemmas.Bool.Decides.{nat_tests}
 use Rattle.std.proofs.lemmas.List.Elements.{All-contains, All-map, All-weaker, All-contains_itself}
-use Rattle.kernel_model.specs.declared.Cause.{Cause}
 use Rattle.kernel_model.specs.declared.Cause.TheVariants.{BadArgument, NotYours}
-use Rattle.kernel_model.specs.declared.Inverse.{Inverse}
-use Rattle.kernel_model.specs.declared.Inverse.TheVariants.{Nice, Window, Mark, Tune}
+use Rattle.kernel_model.specs.declared.Inverse.TheVariants.{Mark}
 use Rattle.kernel_model.specs.declared.QueueRow.{QueueRow}
 use Rattle.kernel_model.specs.declared.OpenRow.{OpenRow}
 use Rattle.kernel_model.specs.World.{World}
-use Rattle.kernel_model.specs.Objects.{Objects, Accounts, Things, FrameValue, PolValue, CacheValue, at, at2}
-use Rattle.kernel_model.specs.Policies.{lives, nice_of, frames_of}
-use Rattle.kernel_model.specs.Access.{Access, Gives, Changes, Refuses, Callable, CellGet, CellSet, NiceGet, NiceSet, WindowGet, WindowSet, FramesMine, FrameAt, FrameBlock, FrameMark, TuneGet, TuneSet, TakeLock, callable, access, access_by, early_refusal, with_nice, with_window, with_mark, with_param, set_cell, set_nice, set_window, set_mark, set_param, own_frame, window_change, tune_change, param_top, in_range, chosen_param}
-use Rattle.kernel_model.specs.Sound.{IsSoundStore, IsSoundFile, IsSoundFrame, IsSoundPolicy, count_of, in_queue}
-use Rattle.kernel_model.specs.Alike.{AreAlike, windowless, markless, niceless}
+use Rattle.kernel_model.specs.Objects.{Objects, Accounts, Things, FrameValue, PolValue, at, at2}
+use Rattle.kernel_model.specs.Policies.{lives, frames_of}
+use Rattle.kernel_model.specs.Access.{Access, Gives, Changes, Refuses, Callable, CellGet, CellSet, NiceGet, NiceSet, WindowGet, WindowSet, FramesMine, FrameAt, FrameBlock, FrameMark, TuneGet, TuneSet, TakeLock, callable, access_by, early_refusal, with_nice, with_window, with_mark, with_param, set_cell, set_nice, set_window, set_mark, set_param, own_frame, window_change, tune_change, param_top, in_range, chosen_param}
+use Rattle.kernel_model.specs.Sound.{IsSoundFile, IsSoundFrame, count_of, in_queue}
+use Rattle.kernel_model.specs.Alike.{windowless, markless, niceless}
 use Rattle.plain_rules.specs.Rows.{NicesFit}
-use Rattle.plain_rules.specs.SoundStores.{IsSameQueue, store_with_cell, store_with_file, store_with_cache, store_with_policy, store_with_queue}
+use Rattle.plain_rules.specs.SoundStores.{store_with_cell, store_with_file, store_with_cache, store_with_policy, store_with_queue}
 use Rattle.plain_rules.specs.SoundCaches.{cache_of_store, sound_reframed, block_at}
 use Rattle.plain_rules.specs.KeepingStore.{tuned_policy}
 use Rattle.kernel_laws.proofs.StoreLemmas.{found_at}

@@ -1,18 +1,17 @@
 -- Proofs of the laws of amounts.
-use Rattle.std.specs.Prelude.{◌≡◌, ◌≢◌, ℕ, zero, suc, ◌+◌, ◌-◌, ◌<◌, ◌≤◌, ◌==◌, ◌&&◌, Bool, true, false, cond, Option, Some, None}
+use Rattle.std.specs.Prelude.{◌≡◌, ◌≢◌, ℕ, ◌+◌, ◌<◌, ◌≤◌, Bool, true, false, cond, Option, Some, None}
 use Rattle.std.proofs.Common.{arith, refl, subst, sym, ap, ◌∙◌, inl, inr}
-use Rattle.std.proofs.lemmas.Bool.{cases_Bool, cases_eq, cond-true, cond-false}
+use Rattle.std.proofs.lemmas.Bool.{cases_eq}
 use Rattle.std.proofs.lemmas.Bool.Decides.{nat_tests}
 use Rattle.kernel_model.specs.declared.Kind.{Kind}
 use Rattle.kernel_model.specs.declared.Kind.TheVariants.{Steps, Records, Locks}
 use Rattle.kernel_model.specs.World.{World}
-use Rattle.kernel_model.specs.Objects.{Objects, Accounts, GraftValue, AcctValue, at, at2, at_kind, same_kind}
-use Rattle.kernel_model.specs.Policies.{lives}
+use Rattle.kernel_model.specs.Objects.{Objects, Accounts, GraftValue, AcctValue, at, at2}
 use Rattle.kernel_model.specs.Charges.{payer_balance, funds, spend, pay, taken_from, charge_account, charge_graft, charge_by, charge, removed, removed_by}
 use Rattle.kernel_model.specs.Claims.{LedgersStay}
-use Rattle.kernel_model.specs.Pieces.{less, accounts_after, funded, accounts_funded}
+use Rattle.kernel_model.specs.Pieces.{less, funded, accounts_funded}
 use Rattle.kernel_model.specs.Sound.{sum_below, graft_balance, ledger, IsSoundStore}
-use Rattle.plain_rules.specs.Ledgers.{sum_same, sum_one, at_here, at_other, less_balance, more_balance, give_ledger, removed_ledger, exchange_ledger}
+use Rattle.plain_rules.specs.Ledgers.{sum_same, sum_one, at_here, at_other, less_balance, more_balance, give_ledger, removed_ledger}
 use Rattle.kernel_laws.specs.Amounts.{total, GrantStays}
 
 -- ---- a graft and its installer's account

@@ -1,6 +1,6 @@
 -- Proofs of the laws of the clock.
 use Rattle.std.specs.Prelude.{◌≡◌, ℕ, zero, suc, Bool, true, false, not, ◌&&◌, nat_le, List, [], ◌∷◌, Option, Some, None, Result, Ok, Err}
-use Rattle.std.proofs.Common.{refl, ap, ◌∙◌}
+use Rattle.std.proofs.Common.{refl, ◌∙◌}
 use Rattle.kernel_model.specs.declared.Event.{Event}
 use Rattle.kernel_model.specs.declared.Event.TheVariants.{Tick, Step, Sys}
 use Rattle.kernel_model.specs.declared.Micro.{Micro}
@@ -12,17 +12,16 @@ use Rattle.kernel_model.specs.declared.Refusal.TheVariants.{NoProcess, BadIndex}
 use Rattle.kernel_model.specs.declared.Note.TheVariants.{Refused, Ran}
 use Rattle.kernel_model.specs.declared.Point.{Point}
 use Rattle.kernel_model.specs.Objects.{GraftValue}
-use Rattle.kernel_model.specs.World.{Blocks}
 use Rattle.kernel_model.specs.Policies.{lives}
 use Rattle.kernel_model.specs.Meaning.{Meaning, Stage}
 use Rattle.kernel_model.specs.Levels.{Level, Outcome, drop_level}
 use Rattle.kernel_model.specs.GraftStep.{micro}
 use Rattle.kernel_model.specs.History.{Mark, Trace}
-use Rattle.kernel_model.specs.Kernel.{Call, Blocker, Entry, Kernel, Run, joins, noted, with_call, has_level}
+use Rattle.kernel_model.specs.Kernel.{Call, Blocker, Entry, Run, joins, noted, with_call, has_level}
 use Rattle.kernel_model.specs.Blocking.{levels_of, blocker, trace_of, needs, holds}
 use Rattle.kernel_model.specs.Locks.{outermost_holding}
-use Rattle.kernel_model.specs.Settle.{piece_at, piece_step, after_drop, after_outcome, outcome_step, graft_step, marked_step, call_step, step, first_free, rested, settle, settled}
-use Rattle.kernel_model.specs.Events.{MOST_STEPS, in_order, waits_note, graft_note, expired, ticked, last_note, last, begun, sys_event, steps, step_event, drop_at, drop_marked, drop_call, wanted, times_out, waiter_action, innermost, holder_action, action, entry_action, actions, tick_event, event_on, event}
+use Rattle.kernel_model.specs.Settle.{piece_at, piece_step, after_drop, after_outcome, graft_step, marked_step, call_step, step, first_free, rested, settle, settled}
+use Rattle.kernel_model.specs.Events.{MOST_STEPS, in_order, waits_note, graft_note, expired, ticked, last_note, last, begun, sys_event, steps, step_event, drop_at, drop_marked, drop_call, wanted, times_out, waiter_action, innermost, action, entry_action, actions, event_on}
 use Rattle.kernel_laws.specs.Clock.{is_tick, TicksRaiseTheClock, OthersLeaveTheClock}
 
 -- the clock of a run

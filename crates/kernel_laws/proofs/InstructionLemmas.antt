@@ -1,26 +1,23 @@
 -- An instruction of a graft call that works on a state leaves one.
-use Rattle.std.specs.Prelude.{◌≡◌, ℕ, zero, suc, ◌+◌, ◌<◌, ◌≤◌, ◌==◌, ◌&&◌, ◌||◌, Bool, true, false, cond, not, List, [], ◌∷◌, ◌++◌, map, length, slice_index, Option, Some, None, is_some, ⊤}
-use Rattle.std.proofs.Common.{arith, refl, subst, sym, ap, ◌∙◌, inl, inr}
-use Rattle.std.proofs.lemmas.Bool.{cases_Bool, cond-true, cond-false}
+use Rattle.std.specs.Prelude.{◌≡◌, ℕ, suc, ◌+◌, ◌≤◌, ◌==◌, ◌||◌, Bool, true, false, List, [], ◌∷◌, ◌++◌, length, Option, Some, None}
+use Rattle.std.proofs.Common.{arith, refl, subst, sym, ap, ◌∙◌}
 use Rattle.std.proofs.lemmas.Bool.Decides.{nat_tests}
 use Rattle.kernel_model.specs.declared.Kind.{Kind}
 use Rattle.kernel_model.specs.declared.Kind.TheVariants.{Steps, Records, Locks}
 use Rattle.kernel_model.specs.declared.Cause.{Cause}
 use Rattle.kernel_model.specs.declared.Cause.TheVariants.{SpentSteps, SpentRecords, SpentLocks, RefusedAnswer}
 use Rattle.kernel_model.specs.declared.Inverse.{Inverse}
-use Rattle.kernel_model.specs.declared.Micro.{Micro}
-use Rattle.kernel_model.specs.declared.Need.{Need}
 use Rattle.kernel_model.specs.declared.Point.{Point}
 use Rattle.kernel_model.specs.declared.Object.{Object}
 use Rattle.kernel_model.specs.World.{World, ImageTable}
-use Rattle.kernel_model.specs.Objects.{Objects, Accounts, Things, GraftValue, with_accounts}
+use Rattle.kernel_model.specs.Objects.{Objects, Things, GraftValue, with_accounts}
 use Rattle.kernel_model.specs.Machine.{Machine, Done, Called, Returned, Trapped, Outside, PastEnd, seg_step}
 use Rattle.kernel_model.specs.Policies.{lives, valid, kind_of, default_of, args_by}
 use Rattle.kernel_model.specs.Charges.{payer_balance, funds, charge, removed}
-use Rattle.kernel_model.specs.Access.{Access, Gives, Changes, Refuses, access, callable, early_refusal, is_ask, accessed, asked_point, asked_objects, asked_graft}
+use Rattle.kernel_model.specs.Access.{Access, Gives, Changes, Refuses, access, callable, early_refusal, is_ask, asked_point, asked_objects, asked_graft}
 use Rattle.kernel_model.specs.Locks.{joined, untouched}
-use Rattle.kernel_model.specs.Levels.{Level, Config, Effect, Outcome, goes_on, code_of, limit_in, new_level, with_machine, with_touched, touch_outermost, answered, answer_innermost, state_without, asker_of, drop_innermost}
-use Rattle.kernel_model.specs.GraftStep.{after_access, is_lock_due, read_done, lock_paid, after_result, record_count, is_record_spent, after_change, after_accessor, ask_refusal, ask_answered, after_ask, granted_call, after_call, first_registers, completed, after_return, after_machine, is_spent, charged_step, micro_on, micro}
+use Rattle.kernel_model.specs.Levels.{Level, Outcome, goes_on, code_of, limit_in, new_level, with_machine, with_touched, touch_outermost, answered, answer_innermost, drop_innermost}
+use Rattle.kernel_model.specs.GraftStep.{after_access, is_lock_due, lock_paid, after_result, record_count, is_record_spent, after_change, after_accessor, ask_refusal, ask_answered, after_ask, granted_call, after_call, completed, after_return, after_machine, is_spent, charged_step, micro_on}
 use Rattle.kernel_model.specs.Sound.{IsSoundStore}
 use Rattle.kernel_laws.specs.Soundness.{IsGraftsWork, AreGraftsWork, found_by, IsAskedAt, WorksOn, AnswersRightly, InstructionsWork}
 use Rattle.kernel_laws.proofs.StoreLemmas.{charge_work, remove_work}

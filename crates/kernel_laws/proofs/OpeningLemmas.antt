@@ -1,18 +1,14 @@
 -- The state after boot is sound.
-use Rattle.std.specs.Prelude.{◌≡◌, ◌≢◌, ℕ, zero, suc, ◌+◌, ◌<◌, ◌≤◌, ◌==◌, Bool, true, false, cond, List, [], ◌∷◌, Option, Some, None, is_some, Contains, All, ⊤}
-use Rattle.std.proofs.Common.{arith, refl, subst, sym, ap, ◌∙◌, inl, inr}
-use Rattle.std.proofs.lemmas.Bool.{cases_eq}
+use Rattle.std.specs.Prelude.{◌≡◌, ◌≢◌, ℕ, ◌+◌, ◌<◌, ◌≤◌, ◌==◌, Bool, true, false, cond, List, [], ◌∷◌, Some, None, Contains}
+use Rattle.std.proofs.Common.{arith, refl, ap, ◌∙◌}
 use Rattle.std.proofs.lemmas.Bool.Decides.{nat_tests}
 use Rattle.std.proofs.lemmas.List.Elements.{All-contains, All-from_recursion}
 use Rattle.kernel_model.specs.declared.Kind.{Kind}
 use Rattle.kernel_model.specs.declared.QueueRow.{QueueRow}
-use Rattle.kernel_model.specs.World.{World, ImageTable}
-use Rattle.kernel_model.specs.Objects.{Objects, AcctValue, GraftValue}
 use Rattle.kernel_model.specs.Policies.{lives}
 use Rattle.kernel_model.specs.Access.{param_top}
-use Rattle.kernel_model.specs.Early.{policy_count}
-use Rattle.kernel_model.specs.Opening.{opening_account, opening_accounts, opening_things, opening_objects, opening_policy}
-use Rattle.kernel_model.specs.Sound.{IsSoundWorld, IsSoundStore, IsSoundState, IsSoundPolicy, ParamFits, FitsDisk, count_of, once_if, in_queue, ledger, sum_below, graft_balance}
+use Rattle.kernel_model.specs.Opening.{opening_account, opening_accounts, opening_policy}
+use Rattle.kernel_model.specs.Sound.{IsSoundPolicy, ParamFits, count_of, once_if, in_queue, ledger, sum_below, graft_balance}
 use Rattle.plain_rules.specs.Ledgers.{sum_one, sum_zero}
 use Rattle.kernel_laws.specs.Soundness.{OpeningIsSound}
 

@@ -1,10 +1,9 @@
 -- Proofs of the laws of undoing.
-use Rattle.std.specs.Prelude.{◌≡◌, ◌≢◌, ℕ, zero, suc, ◌+◌, ◌<◌, ◌≤◌, ◌==◌, ◌&&◌, Bool, true, false, cond, List, [], ◌∷◌, Option, Some, None, map, filter, slice_get, option_map, length, ⊤}
-use Rattle.std.proofs.Common.{arith, refl, subst, sym, ap, ◌∙◌, inl, inr}
+use Rattle.std.specs.Prelude.{◌≡◌, ◌≢◌, ℕ, suc, ◌==◌, ◌&&◌, Bool, true, false, cond, List, [], ◌∷◌, Option, Some, None, slice_get}
+use Rattle.std.proofs.Common.{arith, refl, sym, ap, ◌∙◌, inl, inr}
 use Rattle.std.proofs.lemmas.Bool.{cases_Bool, and_parts, eqb-true}
 use Rattle.std.proofs.lemmas.Bool.Decides.{nat_tests}
 use mathlib.Core.Path.{fun_ext}
-use Rattle.kernel_model.specs.declared.Object.{Object}
 use Rattle.kernel_model.specs.declared.Object.TheVariants.{Graft, Acct, Cell, OpenFile, Queue, Cache, Lock, Pol}
 use Rattle.kernel_model.specs.declared.Mode.TheVariants.{Exclusive}
 use Rattle.kernel_model.specs.declared.Cause.TheVariants.{BadArgument, NotYours}
@@ -12,9 +11,9 @@ use Rattle.kernel_model.specs.declared.Inverse.{Inverse}
 use Rattle.kernel_model.specs.declared.Inverse.TheVariants.{Nice, Window, Mark, Tune}
 use Rattle.kernel_model.specs.declared.QueueRow.{QueueRow}
 use Rattle.kernel_model.specs.declared.OpenRow.{OpenRow}
-use Rattle.kernel_model.specs.Objects.{Things, FrameValue, PolValue, CacheValue, SameThing, at, at2}
-use Rattle.kernel_model.specs.Policies.{nice_of, first_nice, frames_of}
-use Rattle.kernel_model.specs.Access.{Access, Gives, Changes, Refuses, Callable, CellGet, CellSet, NiceGet, NiceSet, WindowGet, WindowSet, FramesMine, FrameAt, FrameBlock, FrameMark, TuneGet, TuneSet, TakeLock, callable, access, access_by, accessed, needed, undo, changed_by, with_nice, with_window, with_mark, with_param, set_cell, set_nice, set_window, set_mark, set_param, own_frame, window_change, tune_change, param_top, in_range, chosen_param}
+use Rattle.kernel_model.specs.Objects.{Things, FrameValue, PolValue, at, at2}
+use Rattle.kernel_model.specs.Policies.{nice_of, frames_of}
+use Rattle.kernel_model.specs.Access.{Access, Gives, Changes, Refuses, Callable, CellGet, CellSet, NiceGet, NiceSet, WindowGet, WindowSet, FramesMine, FrameAt, FrameBlock, FrameMark, TuneGet, TuneSet, TakeLock, callable, access_by, accessed, needed, undo, with_nice, with_window, with_mark, with_param, set_window, set_mark, set_param, own_frame, window_change, tune_change, param_top, in_range, chosen_param}
 use Rattle.kernel_model.specs.Sound.{count_of, in_queue}
 use Rattle.kernel_laws.specs.Undoing.{IsOnceIn, LeadsBack, ChangesItsObject, InversesCommute, InversesUndo, InversesChangeOneObject, ChangesAreOfOneObject}
 

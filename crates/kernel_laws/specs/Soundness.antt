@@ -1,15 +1,15 @@
 -- What keeps states sound: boot, the pieces of calls, and the instructions of levels.
-use Rattle.std.specs.Prelude.{◌≡◌, ℕ, Bool, List, [], ◌∷◌, map, Option, None, ⊤, slice_index, true}
+use Rattle.std.specs.Prelude.{◌≡◌, ℕ, Bool, List, [], ◌∷◌, map, Option, ⊤, slice_index, true}
 use Rattle.kernel_model.specs.declared.Point.{Point}
 use Rattle.kernel_model.specs.declared.Micro.{Micro}
 use Rattle.kernel_model.specs.World.{World, ImageTable, Blocks}
 use Rattle.kernel_model.specs.Objects.{Objects, Accounts, Things}
 use Rattle.kernel_model.specs.Policies.{valid}
 use Rattle.kernel_model.specs.Meaning.{Meaning, Stage}
-use Rattle.kernel_model.specs.Levels.{Level, Config, Outcome}
+use Rattle.kernel_model.specs.Levels.{Level, Config}
 use Rattle.kernel_model.specs.GraftStep.{micro}
-use Rattle.kernel_model.specs.Opening.{opening_objects, opening_things, opening_kernel}
-use Rattle.kernel_model.specs.Sound.{IsSoundWorld, IsSoundStore, IsSoundState, IsSoundKernel, FitsDisk, ImagesAreLoaded, HasWholeBlocks}
+use Rattle.kernel_model.specs.Opening.{opening_objects, opening_things}
+use Rattle.kernel_model.specs.Sound.{IsSoundWorld, IsSoundStore, IsSoundState, FitsDisk, ImagesAreLoaded, HasWholeBlocks}
 use Rattle.kernel_model.specs.Alike.{AreAlike}
 use Rattle.kernel_model.specs.Laws.{IsReady}
 

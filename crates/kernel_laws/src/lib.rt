@@ -4,5 +4,6 @@
 pub mod alone;
 pub mod amounts;
 pub mod clock;
+pub mod rest;
 pub mod soundness;
 pub mod undoing;
