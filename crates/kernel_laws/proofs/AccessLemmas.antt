@@ -19,6 +19,7 @@ use Rattle.plain_rules.specs.SoundStores.{store_with_cell, store_with_file, stor
 use Rattle.plain_rules.specs.SoundCaches.{cache_of_store, sound_reframed, block_at}
 use Rattle.plain_rules.specs.KeepingStore.{tuned_policy}
 use Rattle.kernel_laws.proofs.StoreLemmas.{found_at}
+use Rattle.kernel_laws.proofs.UndoingLemmas.{nice_count}
 use Rattle.kernel_laws.specs.Soundness.{IsGraftsWork}
 
 -- ---- ranges that early refusals keep
@@ -53,11 +54,6 @@ tune_range highest r0 r1 q h = grind (arith, nat_tests)
 nice_lives : (p n : ℕ) (rows : List QueueRow) (q : ℕ) → lives (with_nice p n rows) q ≡ lives rows q
 nice_lives p n [] q = refl
 nice_lives p n (r ∷ rows) q = grind (arith, nat_tests, nice_lives p n rows q)
-
--- how often
-nice_count : (p n : ℕ) (rows : List QueueRow) (q : ℕ) → count_of q (in_queue (with_nice p n rows)) ≡ count_of q (in_queue rows)
-nice_count p n [] q = refl
-nice_count p n (r ∷ rows) q = grind (arith, nat_tests, nice_count p n rows q)
 
 -- a row with another nice
 row_nice : (p n : ℕ) (r : QueueRow) → n ≤ 39 → r.nice ≤ 39 → (cond (r.process == p) (record r { nice = n }) r).nice ≤ 39

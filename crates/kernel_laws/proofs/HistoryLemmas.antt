@@ -15,7 +15,7 @@ use Rattle.kernel_model.specs.Levels.{Level, Config, Effect, Asked, Charged, Rem
 use Rattle.kernel_model.specs.GraftStep.{micro}
 use Rattle.kernel_model.specs.History.{Mark, Stepped, Fell, Trace, begin_at, begin_with, first_trace, trace_after, stepped, is_found, with_accounts_of, config_if, effect, effects_on, level_ends, owner_among, fallen_if, fell_on, mark_on, marks_on, replay}
 use Rattle.kernel_model.specs.Sound.{IsSoundStore}
-use Rattle.kernel_laws.specs.Soundness.{IsGraftsWork, AreGraftsWork, found_by, WorksOn}
+use Rattle.kernel_laws.specs.Soundness.{IsGraftsWork, AreGraftsWork, found_by, WorksOn, ReplayWorks, HistoriesWork}
 use Rattle.kernel_laws.proofs.StoreLemmas.{charge_work, remove_work}
 use Rattle.kernel_laws.proofs.InstructionLemmas.{touch_same, answer_same, asked_outside, instructions_work}
 
@@ -28,13 +28,6 @@ ConfigWorks v s a (Some c) = WorksOn v s a c
 abbrev TraceWorks : World → Objects → Point → Option Trace → Type 0
 TraceWorks v s a None = ⊤
 TraceWorks v s a (Some t) = WorksOn v s a t.config
-
--- a trace of a call that asks no point there isn't; of one that asks, it works on the state
-abbrev pub ReplayWorks : World → Objects → Option Point → Option Trace → Type 0
-ReplayWorks v s None None = ⊤
-ReplayWorks v s None (Some t) = ⊥
-ReplayWorks v s (Some a) None = ⊤
-ReplayWorks v s (Some a) (Some t) = WorksOn v s a t.config
 
 -- a test passes, and its second part
 second : (b c : Bool) → (b && c) ≡ true → c ≡ true
@@ -155,6 +148,5 @@ replay_by v images s p ks base (Some a) h =
     asked_works (Some t) works = works
 
 -- wherever a history leads, the graft call works on the state
-pub replay_works : (m : Meaning) (v : World) (images : ImageTable) (s : Objects) (p : ℕ) (t : Stage) (ks : List Mark) → IsSoundStore v s →
-    ReplayWorks v s (m.asks v s p t) (replay m v images s p t ks)
-replay_works m v images s p t ks h = replay_by v images s p ks (m.need v s p t) (m.asks v s p t) h
+pub histories_work : (m : Meaning) → HistoriesWork m
+histories_work m v images s p t ks h = replay_by v images s p ks (m.need v s p t) (m.asks v s p t) h

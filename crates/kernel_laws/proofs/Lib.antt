@@ -3,6 +3,7 @@ pub mod AmountLemmas
 pub mod ClockLemmas
 pub mod HistoryLemmas
 pub mod InstructionLemmas
+mod NeededPremises
 pub mod OpeningLemmas
 pub mod PieceLemmas
 pub mod SettleLemmas

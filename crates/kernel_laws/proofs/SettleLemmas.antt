@@ -29,9 +29,9 @@ use Rattle.kernel_model.specs.Alike.{AreAlike, SameFiles, windowless}
 use Rattle.kernel_model.specs.Laws.{Laws, IsReady, IsStanding, continues}
 use Rattle.plain_rules.specs.Ledgers.{at_here, at_other, sum_one}
 use Rattle.kernel_laws.specs.Rest.{SettlesToRest}
-use Rattle.kernel_laws.specs.Soundness.{WorksOn, AnswersRightly}
+use Rattle.kernel_laws.specs.Soundness.{WorksOn, AnswersRightly, ReplayWorks}
 use Rattle.kernel_laws.proofs.InstructionLemmas.{instructions_work}
-use Rattle.kernel_laws.proofs.HistoryLemmas.{ReplayWorks, replay_works}
+use Rattle.kernel_laws.proofs.HistoryLemmas.{histories_work}
 use Rattle.kernel_laws.proofs.StepLemmas.{niceless_lives, alike_disk, right_answer, others_files}
 
 -- ---- what a kernel needs for its steps
@@ -254,7 +254,7 @@ module _ (m : Meaning) (laws : Laws m) where
       let same : replay m v r.kernel.images s p c.stage ks ≡ trace_of m r.kernel p (Some c) =
       ap (λ (x : Option (List Mark)). elim x as (λ _. Option Trace) [ None ↦ None | Some y ↦ replay m v r.kernel.images s p c.stage y ]) (sym marked) in
       graft_after p c ks (trace_of m r.kernel p (Some c)) (m.asks v s p c.stage) r h e marked refl
-      (subst (ReplayWorks v s (m.asks v s p c.stage)) same (replay_works m v r.kernel.images s p c.stage ks h.store))
+      (subst (ReplayWorks v s (m.asks v s p c.stage)) same (histories_work m v r.kernel.images s p c.stage ks h.store))
 
   -- a step of a call in flight
   call_has_stepped : (p : ℕ) (c : Call) (r : Run) → GoesOn m r → r.kernel.call p ≡ Some c →

@@ -1,6 +1,6 @@
 -- Proofs of the laws of undoing.
-use Rattle.std.specs.Prelude.{◌≡◌, ◌≢◌, ℕ, suc, ◌==◌, ◌&&◌, Bool, true, false, cond, List, [], ◌∷◌, Option, Some, None, slice_get}
-use Rattle.std.proofs.Common.{arith, refl, sym, ap, ◌∙◌, inl, inr}
+use Rattle.std.specs.Prelude.{◌≡◌, ◌≢◌, ◌≤◌, ℕ, suc, ◌==◌, ◌&&◌, Bool, true, false, cond, List, [], ◌∷◌, Option, Some, None, slice_get}
+use Rattle.std.proofs.Common.{arith, refl, subst, sym, ap, ◌∙◌, inl, inr}
 use Rattle.std.proofs.lemmas.Bool.{cases_Bool, and_parts, eqb-true}
 use Rattle.std.proofs.lemmas.Bool.Decides.{nat_tests}
 use mathlib.Core.Path.{fun_ext}
@@ -13,9 +13,10 @@ use Rattle.kernel_model.specs.declared.QueueRow.{QueueRow}
 use Rattle.kernel_model.specs.declared.OpenRow.{OpenRow}
 use Rattle.kernel_model.specs.Objects.{Things, FrameValue, PolValue, at, at2}
 use Rattle.kernel_model.specs.Policies.{nice_of, frames_of}
-use Rattle.kernel_model.specs.Access.{Access, Gives, Changes, Refuses, Callable, CellGet, CellSet, NiceGet, NiceSet, WindowGet, WindowSet, FramesMine, FrameAt, FrameBlock, FrameMark, TuneGet, TuneSet, TakeLock, callable, access_by, accessed, needed, undo, with_nice, with_window, with_mark, with_param, set_window, set_mark, set_param, own_frame, window_change, tune_change, param_top, in_range, chosen_param}
+use Rattle.kernel_model.specs.Access.{Access, Gives, Changes, Refuses, Callable, CellGet, CellSet, NiceGet, NiceSet, WindowGet, WindowSet, FramesMine, FrameAt, FrameBlock, FrameMark, TuneGet, TuneSet, TakeLock, callable, access, access_by, accessed, needed, undo, with_nice, with_window, with_mark, with_param, set_window, set_mark, set_param, own_frame, window_change, tune_change, param_top, in_range, chosen_param}
 use Rattle.kernel_model.specs.Sound.{count_of, in_queue}
-use Rattle.kernel_laws.specs.Undoing.{IsOnceIn, LeadsBack, ChangesItsObject, InversesCommute, InversesUndo, InversesChangeOneObject, ChangesAreOfOneObject}
+use Rattle.kernel_model.specs.UndoLog.{undo_all}
+use Rattle.kernel_laws.specs.Undoing.{AccessorCall, recorded, after_calls, RecordsLeadBack, IsOnceIn, LeadsBack, ChangesItsObject, InversesCommute, InversesUndo, InversesChangeOneObject, ChangesAreOfOneObject}
 
 -- ---- one changed place
 
@@ -289,6 +290,43 @@ leads_back TakeLock id r0 r1 r2 q w h = tt
 -- an inverse undoes the change of the accessor that recorded it
 pub inverses_undo : InversesUndo
 inverses_undo id r0 r1 r2 q w h = leads_back (callable id) id r0 r1 r2 q w h
+
+-- ---- records one after another
+
+-- how often a process stands in the queue once a nice changed
+pub nice_count : (p n : ℕ) (rows : List QueueRow) (q : ℕ) → count_of q (in_queue (with_nice p n rows)) ≡ count_of q (in_queue rows)
+nice_count p n [] q = refl
+nice_count p n (r ∷ rows) q = grind (arith, nat_tests, nice_count p n rows q)
+
+-- an inverse leaves that as it is
+undo_count : (i : Inverse) (q : ℕ) (w : Things) → count_of q (in_queue (undo i w).queue) ≡ count_of q (in_queue w.queue)
+undo_count (Inverse.Cell p k v) q w = refl
+undo_count (Nice p v) q w = nice_count p v w.queue q
+undo_count (Window p fd v) q w = refl
+undo_count (Mark f v) q w = refl
+undo_count (Tune kind k v) q w = refl
+
+-- records lead back, and each process stands in the queue at most once
+abbrev LeadBack : Things → Things × List Inverse → Type 0
+LeadBack w e = (undo_all e.1 e.0 ≡ w) × ((q : ℕ) → IsOnceIn q e.0.queue)
+
+-- after one more accessor
+one_more_back : (w : Things) (e : Things × List Inverse) (x : Access) → LeadBack w e → LeadsBack e.0 x → LeadBack w (recorded x e)
+one_more_back w e (Gives result) h leads = h
+one_more_back w e (Changes result i u) h leads =
+    (ap (undo_all e.1) leads ∙ h.0, λ q. subst (λ n. n ≤ 1) (sym (ap (λ (x : Things). count_of q (in_queue x.queue)) leads) ∙ undo_count i q u) (h.1 q))
+one_more_back w e (Refuses cause) h leads = h
+
+-- after several
+more_back : (cs : List AccessorCall) (w : Things) (e : Things × List Inverse) → LeadBack w e → LeadBack w (after_calls cs e)
+more_back [] w e h = h
+more_back (c ∷ cs) w e h =
+    let x = access c.id c.r0 c.r1 c.r2 c.process e.0 in
+    more_back cs w (recorded x e) (one_more_back w e x h (inverses_undo c.id c.r0 c.r1 c.r2 c.process e.0 (h.1 c.process)))
+
+-- the records of accessors, newest first, lead back
+pub records_lead_back : RecordsLeadBack
+records_lead_back cs w once = (more_back cs w (w, []) (refl, once)).0
 
 -- ---- an accessor changes the object that it needs
 

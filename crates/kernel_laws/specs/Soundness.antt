@@ -1,5 +1,5 @@
 -- What keeps states sound: boot, the pieces of calls, and the instructions of levels.
-use Rattle.std.specs.Prelude.{◌≡◌, ℕ, Bool, List, [], ◌∷◌, map, Option, ⊤, slice_index, true}
+use Rattle.std.specs.Prelude.{◌≡◌, ℕ, Bool, List, [], ◌∷◌, map, Option, ⊤, slice_index, true, Some, None}
 use Rattle.kernel_model.specs.declared.Point.{Point}
 use Rattle.kernel_model.specs.declared.Micro.{Micro}
 use Rattle.kernel_model.specs.World.{World, ImageTable, Blocks}
@@ -8,6 +8,7 @@ use Rattle.kernel_model.specs.Policies.{valid}
 use Rattle.kernel_model.specs.Meaning.{Meaning, Stage}
 use Rattle.kernel_model.specs.Levels.{Level, Config}
 use Rattle.kernel_model.specs.GraftStep.{micro}
+use Rattle.kernel_model.specs.History.{Mark, Trace, replay}
 use Rattle.kernel_model.specs.Opening.{opening_objects, opening_things}
 use Rattle.kernel_model.specs.Sound.{IsSoundWorld, IsSoundStore, IsSoundState, FitsDisk, ImagesAreLoaded, HasWholeBlocks}
 use Rattle.kernel_model.specs.Alike.{AreAlike}
@@ -64,3 +65,16 @@ abbrev pub InstructionsWork : Type 0
 InstructionsWork =
     (v : World) (images : ImageTable) (p : ℕ) (s : Objects) (a : Point) (c : Config) → WorksOn v s a c →
     WorksOn v s a (micro v images p c).config × AnswersRightly a (micro v images p c).config.now.things (micro v images p c).said
+
+-- Where a replay leads: nowhere if no point is asked, and else, if somewhere, to a graft call that works on the state.
+abbrev pub ReplayWorks : World → Objects → Option Point → Option Trace → Type 0
+ReplayWorks v s None None = ⊤
+ReplayWorks v s None (Some t) = ⊥
+ReplayWorks v s (Some a) None = ⊤
+ReplayWorks v s (Some a) (Some t) = WorksOn v s a t.config
+
+-- wherever a history leads from a sound store, the graft call works on it
+abbrev pub HistoriesWork : Meaning → Type 0
+HistoriesWork m =
+    (v : World) (images : ImageTable) (s : Objects) (p : ℕ) (t : Stage) (ks : List Mark) → IsSoundStore v s →
+    ReplayWorks v s (m.asks v s p t) (replay m v images s p t ks)

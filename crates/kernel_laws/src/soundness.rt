@@ -1,6 +1,6 @@
 //! Laws of what keeps states sound. A call of one brings its statement into a proof.
 
-ghost use Rattle.kernel_laws.specs.Soundness.{OpeningIsSound, PiecesStaySound, InstructionsWork};
+ghost use Rattle.kernel_laws.specs.Soundness.{OpeningIsSound, PiecesStaySound, InstructionsWork, HistoriesWork};
 
 use kernel_model::Rules;
 
@@ -18,4 +18,9 @@ pub fn pieces_stay_sound<R: Rules>()
 /// of it only what grafts may change, and completes the call only with an answer that its point accepts.
 pub fn instructions_work()
     ensures { InstructionsWork }
+{}
+
+/// Wherever a history leads from a sound store, the graft call works on it in that sense.
+pub fn histories_work<R: Rules>()
+    ensures { HistoriesWork R.meaning }
 {}

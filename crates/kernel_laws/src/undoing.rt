@@ -1,6 +1,6 @@
 //! Laws of what accessors change. A call of one brings its statement into a proof.
 
-ghost use Rattle.kernel_laws.specs.Undoing.{InversesCommute, InversesUndo, InversesChangeOneObject, ChangesAreOfOneObject};
+ghost use Rattle.kernel_laws.specs.Undoing.{InversesCommute, InversesUndo, InversesChangeOneObject, ChangesAreOfOneObject, RecordsLeadBack};
 
 /// Inverses of distinct objects commute.
 pub fn inverses_commute()
@@ -10,6 +10,11 @@ pub fn inverses_commute()
 /// An inverse undoes the change of the accessor that recorded it.
 pub fn inverses_undo()
     ensures { InversesUndo }
+{}
+
+/// The records of accessors, newest first, lead back to the things before the first.
+pub fn records_lead_back()
+    ensures { RecordsLeadBack }
 {}
 
 /// An inverse changes its object alone.
