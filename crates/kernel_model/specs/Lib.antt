@@ -41,6 +41,7 @@ pub mod Demo
 pub mod Sound
 pub mod Alike
 pub mod Laws
+pub mod Alone
 pub mod Claims
 pub mod Given
 pub mod GraftExamples

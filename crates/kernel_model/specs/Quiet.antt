@@ -62,6 +62,15 @@ goes_alone p number (Fails refusal) r = r
 abbrev pub needs_no_user : List Need → Bool
 needs_no_user ns = list_all (λ (n : Need). not n.by_user) ns
 
+-- a user lock has another holder than p
+abbrev pub is_others : ℕ → Option ℕ → Bool
+is_others p None = false
+is_others p (Some q) = not (q == p)
+
+-- no user lock of another process keeps p from these needs
+abbrev pub is_unhindered : (users : ℕ → Option ℕ) → (p : ℕ) → List Need → Bool
+is_unhindered users p ns = list_all (λ (n : Need). not (n.by_user && is_others p (user_of users n.object))) ns
+
 -- no graft stands
 abbrev pub HasNoGraft : Objects → Type 0
 HasNoGraft s = (q pt : ℕ) → s.accounts.graft q pt ≡ None
@@ -110,7 +119,7 @@ none_holds m p number t r u o mode =
     (λ q. and_fails (not (q == u)) (hinders o mode (holds m (begins_alone p number t r).kernel q)) (none_hinders m p number t r o mode q)) processes
 
 -- two tests pass
-both_hold : (a b : Bool) → (a && b) ≡ true → (a ≡ true) × (b ≡ true)
+pub both_hold : (a b : Bool) → (a && b) ≡ true → (a ≡ true) × (b ≡ true)
 both_hold true b h = (refl, h)
 both_hold false b h = absurd cc
 
@@ -119,14 +128,33 @@ not_holds : (a : Bool) → not a ≡ true → a ≡ false
 not_holds true h = absurd cc
 not_holds false h = refl
 
--- so nothing hinders a step that no user lock hinders
-none_first : (m : Meaning) (p number : ℕ) (t : Stage) (r : Run) (users : ℕ → Option ℕ) (u w : ℕ) (ns : List Need) → needs_no_user ns ≡ true →
+-- where user locks don't count, none keeps any process from these needs
+pub free_of_users : (users : ℕ → Option ℕ) (p : ℕ) (ns : List Need) → needs_no_user ns ≡ true → is_unhindered users p ns ≡ true
+free_of_users users p [] h = refl
+free_of_users users p (n ∷ ns) h =
+    let both = both_hold (not n.by_user) (needs_no_user ns) h in
+    ap (λ b. not (b && is_others p (user_of users n.object)) && is_unhindered users p ns) (not_holds n.by_user both.0)
+    ∙ free_of_users users p ns both.1
+
+-- a user lock that doesn't count, or that no other process holds, doesn't hinder
+user_free : (b : Bool) (w : ℕ) (o : Object) (x : Option ℕ) → not (b && is_others w x) ≡ true → cond b (user_hindrance w o x) None ≡ None
+user_free false w o x h = refl
+user_free true w o None h = refl
+user_free true w o (Some q) h =
+    ap (λ (b : Bool). cond b None (Some (record { object = o; holder = q; by_user = true }))) (twice_not (q == w) (not_holds (not (q == w)) h))
+  where
+    twice_not : (b : Bool) → not b ≡ false → b ≡ true
+    twice_not true h = refl
+    twice_not false h = absurd cc
+
+-- so nothing hinders a step that no user lock of another process hinders
+none_first : (m : Meaning) (p number : ℕ) (t : Stage) (r : Run) (users : ℕ → Option ℕ) (u w : ℕ) (ns : List Need) → is_unhindered users w ns ≡ true →
     first_hindrance (holds m (begins_alone p number t r).kernel) users u w ns ≡ None
 none_first m p number t r users u w [] h = refl
 none_first m p number t r users u w (n ∷ ns) h =
     let locks = holds m (begins_alone p number t r).kernel in
-    let both = both_hold (not n.by_user) (needs_no_user ns) h in
-    let none = ap (hindrance_by users w n) (none_holds m p number t r u n.object n.mode) ∙ ap (λ b. cond b (user_hindrance w n.object (user_of users n.object)) None) (not_holds n.by_user both.0) in
+    let both = both_hold (not (n.by_user && is_others w (user_of users n.object))) (is_unhindered users w ns) h in
+    let none = ap (hindrance_by users w n) (none_holds m p number t r u n.object n.mode) ∙ user_free n.by_user w n.object (user_of users n.object) both.0 in
     ap (λ (x : Option Hindrance). elim x as (λ _. Option Hindrance) [ Some y ↦ Some y | None ↦ first_hindrance locks users u w ns ]) none
     ∙ none_first m p number t r users u w ns both.1
 
@@ -137,13 +165,15 @@ call_alone : (p number : ℕ) (t : Stage) → at p (Some (call_at number t)) (λ
 call_alone p number t = ap (λ (b : Bool). cond b (Some (call_at number t)) None) (same_number p)
 
 -- a call that is alone in flight is the first that nothing blocks
-free_alone : (m : Meaning) (p number : ℕ) (t : Stage) (r : Run) → needs_no_user (m.need r.kernel.world r.kernel.objects p t) ≡ true →
+free_alone : (m : Meaning) (p number : ℕ) (t : Stage) (r : Run) →
+    is_unhindered r.kernel.objects.things.lock p (m.need r.kernel.world r.kernel.objects p t) ≡ true →
     first_free m (begins_alone p number t r).kernel (new_entry p ∷ []) ≡ Some p
 free_alone m p number t r h =
     let k = (begins_alone p number t r).kernel in
     let needed = ap (needs_in m k p) (call_alone p number t) in
     let none = ap (first_hindrance (holds m k) k.objects.things.lock p (lock_user p (levels_of m k p))) needed
-    ∙ none_first m p number t r k.objects.things.lock p (lock_user p (levels_of m k p)) (m.need r.kernel.world r.kernel.objects p t) h in
+    ∙ ap (λ ls. first_hindrance (holds m k) k.objects.things.lock p (lock_user p ls) (m.need r.kernel.world r.kernel.objects p t)) (levels_alone m p number t r p)
+    ∙ none_first m p number t r k.objects.things.lock p p (m.need r.kernel.world r.kernel.objects p t) h in
     ap (λ (x : Option Hindrance). elim (option_map (blocker_from k) x) as (λ _. Option ℕ) [ None ↦ Some p | Some b ↦ None ]) none
 
 -- the default finishes a piece where no graft stands
@@ -228,7 +258,7 @@ step_alone m p number t v images s clock blocks notes io none =
 
 -- Settling a kernel with one call in flight takes its piece, by default, and settles what is then.
 pub settle_alone : (m : Meaning) (n p number : ℕ) (t : Stage) (v : World) (images : ImageTable) (s : Objects) (clock : ℕ) (blocks : Blocks) (notes : List Note) (io : List Bool) →
-    HasNoGraft s → needs_no_user (m.need v s p t) ≡ true →
+    HasNoGraft s → is_unhindered s.things.lock p (m.need v s p t) ≡ true →
     let r = at_rest v images s clock blocks notes io in
     let q = m.piece v images s blocks p t None io in
     settle m (suc n) (begins_alone p number t r) ≡ settle m n (goes_alone p number q.after (left_by number q r))
@@ -261,7 +291,7 @@ gone_alone : (p number : ℕ) (a : After) (u : Stage) (r : Run) → a ≡ Contin
 gone_alone p number a u r h = ap (λ x. goes_alone p number x r) h
 
 -- The event of a call that is granted, of a process that lives, where no call is in flight: it settles with that call alone.
-granted_alone : (m : Meaning) (p number : ℕ) (c : SysCall) (t : Stage) (v : World) (images : ImageTable) (s : Objects) (clock : ℕ) (blocks : Blocks) (io : List Bool) →
+pub granted_alone : (m : Meaning) (p number : ℕ) (c : SysCall) (t : Stage) (v : World) (images : ImageTable) (s : Objects) (clock : ℕ) (blocks : Blocks) (io : List Bool) →
     lives s.things.queue p ≡ true → m.early v images p c ≡ Ok t →
     event m (quiet v images s clock) blocks number (Sys p c) io ≡ last m p (settle m 256 (begins_alone p number t (at_rest v images s clock blocks [] io)))
 granted_alone m p number c t v images s clock blocks io alive granted =
@@ -296,7 +326,7 @@ event_of_one m p number c t v images s clock blocks io alive granted none users 
     let q = m.piece v images s blocks p t None io in
     let l = left_by number q (at_rest v images s clock blocks [] io) in
     granted_alone m p number c t v images s clock blocks io alive granted
-    ∙ ap (last m p) (settle_alone m 255 p number t v images s clock blocks [] io none users)
+    ∙ ap (last m p) (settle_alone m 255 p number t v images s clock blocks [] io none (free_of_users s.things.lock p (m.need v s p t) users))
     ∙ ap (λ (x : Run). last m p (settle m 255 x)) (ended_alone p number q.after l ended)
 
 -- The event of a call of two pieces.
@@ -312,7 +342,8 @@ event_of_two m p number c t u v images s clock blocks io alive granted none user
     let w = m.piece v images q.objects q.blocks p u None (drop q.calls io) in
     let l = left_by number q (at_rest v images s clock blocks [] io) in
     granted_alone m p number c t v images s clock blocks io alive granted
-    ∙ ap (last m p) (settle_alone m 255 p number t v images s clock blocks [] io none users)
+    ∙ ap (last m p) (settle_alone m 255 p number t v images s clock blocks [] io none (free_of_users s.things.lock p (m.need v s p t) users))
     ∙ ap (λ (x : Run). last m p (settle m 255 x)) (gone_alone p number q.after u l goes)
-    ∙ ap (last m p) (settle_alone m 254 p number u v images q.objects clock q.blocks l.notes l.io none_then users_then)
+    ∙ ap (last m p) (settle_alone m 254 p number u v images q.objects clock q.blocks l.notes l.io none_then
+    (free_of_users q.objects.things.lock p (m.need v q.objects p u) users_then))
     ∙ ap (λ (x : Run). last m p (settle m 254 x)) (ended_alone p number w.after (left_by number w l) ended)

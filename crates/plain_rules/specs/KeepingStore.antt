@@ -46,7 +46,7 @@ in_range_fits None k x h = cc
 in_range_fits (Some top) k x h = leb-true x top (and_parts (k == 0) (nat_le x top) h).1
 
 -- a policy with another parameter of the chosen one
-tuned_policy : (kind k x : ℕ) (pol : PolValue) → IsSoundPolicy kind pol → in_range (param_top kind pol.chosen) k x ≡ true → IsSoundPolicy kind (with_param x pol)
+pub tuned_policy : (kind k x : ℕ) (pol : PolValue) → IsSoundPolicy kind pol → in_range (param_top kind pol.chosen) k x ≡ true → IsSoundPolicy kind (with_param x pol)
 tuned_policy kind k x pol h fits = record {
   chosen = h.chosen;
   params = λ j low. elim (cases_eq j pol.chosen) [

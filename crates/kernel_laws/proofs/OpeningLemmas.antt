@@ -1,0 +1,96 @@
+-- The state after boot is sound.
+use Rattle.std.specs.Prelude.{◌≡◌, ◌≢◌, ℕ, ◌+◌, ◌<◌, ◌≤◌, ◌==◌, Bool, true, false, cond, List, [], ◌∷◌, Some, None, Contains}
+use Rattle.std.proofs.Common.{arith, refl, ap, ◌∙◌}
+use Rattle.std.proofs.lemmas.Bool.Decides.{nat_tests}
+use Rattle.std.proofs.lemmas.List.Elements.{All-contains, All-from_recursion}
+use Rattle.kernel_model.specs.declared.Kind.{Kind}
+use Rattle.kernel_model.specs.declared.QueueRow.{QueueRow}
+use Rattle.kernel_model.specs.Policies.{lives}
+use Rattle.kernel_model.specs.Access.{param_top}
+use Rattle.kernel_model.specs.Opening.{opening_account, opening_accounts, opening_policy}
+use Rattle.kernel_model.specs.Sound.{IsSoundPolicy, ParamFits, count_of, once_if, in_queue, ledger, sum_below, graft_balance}
+use Rattle.plain_rules.specs.Ledgers.{sum_one, sum_zero}
+use Rattle.kernel_laws.specs.Soundness.{OpeningIsSound}
+
+-- the queue after boot
+abbrev first_queue : List QueueRow
+first_queue = record { process = 0; nice = 20; slices = 0 } ∷ []
+
+-- process 0 lives, and no other
+only_root : (p : ℕ) → lives first_queue p ≡ true → p ≡ 0
+only_root p h = grind (arith, nat_tests)
+
+not_root : (p : ℕ) → lives first_queue p ≡ false → (p == 0) ≡ false
+not_root p h = grind (arith, nat_tests)
+
+once_each : (p : ℕ) → count_of p (in_queue first_queue) ≡ once_if (lives first_queue p)
+once_each p = grind (arith, nat_tests)
+
+first_nices : (r : QueueRow) → Contains first_queue r → r.nice ≤ 39
+first_nices r c = All-contains (λ (x : QueueRow). x.nice ≤ 39) first_queue r (All-from_recursion (λ (x : QueueRow). x.nice ≤ 39) first_queue (low_nice, tt)) c
+  where
+    low_nice : 20 ≤ 39
+    low_nice = omega arith
+
+-- nothing stands where nothing is
+none_some : {A : Type 0} (x : A) → None ≡ Some x → ⊥
+none_some x e = cc
+
+-- a parameter of at most 2 is in the range of each policy that has one
+fits_by : (b c d : Bool) (x : ℕ) → x ≤ 2 → ParamFits (cond b None (cond c (Some 8) (cond d (Some 255) (Some 39)))) x
+fits_by true c d x low = tt
+fits_by false true d x low = omega arith
+fits_by false false true x low = omega arith
+fits_by false false false x low = omega arith
+
+-- the parameters after boot
+low_param : (kind j : ℕ) → (opening_policy kind).param j ≤ 2
+low_param kind j = grind (arith, nat_tests)
+
+first_param : (kind j : ℕ) → ParamFits (param_top kind j) ((opening_policy kind).param j)
+first_param kind j = fits_by (j == 0) (kind == 0) (kind == 1) ((opening_policy kind).param j) (low_param kind j)
+
+first_policies : (kind : ℕ) → kind < 3 → IsSoundPolicy kind (opening_policy kind)
+first_policies kind low = record { chosen = grind (arith, nat_tests); params = λ j few. first_param kind j }
+
+-- the ledgers after boot
+first_ledgers : (grant : ℕ) (k : Kind) → sum_below 16 (ledger (opening_accounts grant) k) ≡ grant
+first_ledgers grant k =
+    let nothing : sum_below 16 (λ pt. graft_balance k None) ≡ 0 = sum_zero 16 (λ pt. graft_balance k None) (λ i low. refl) in
+    let others = sum_one 16 0 (ledger (opening_accounts grant) k) (λ i. 0) (omega arith) (λ i low ne. ap (λ n. (opening_account grant i).balance k + 0 + n) nothing ∙ other_balance grant k i ne) in
+    let zeros = sum_zero 16 (λ i. 0) (λ i low. refl) in
+    omega arith
+  where
+    other_balance : (grant : ℕ) (k : Kind) (i : ℕ) → i ≢ 0 → (opening_account grant i).balance k + 0 + 0 ≡ 0
+    other_balance grant k i ne = grind (arith, nat_tests)
+
+-- the state after boot is sound
+pub opening_is_sound : OpeningIsSound
+opening_is_sound v images world disk =
+    record {
+      store = record {
+        world = world;
+        root = refl;
+        once = once_each;
+        numbers = λ p e. below_sixteen p (only_root p e);
+        nices = first_nices;
+        in_use = λ f. refl;
+        frame_numbers = λ f e. absurd (not_some e);
+        one_frame = λ f g x y e k b. absurd (none_some x e);
+        frames = λ f x e. absurd (none_some x e);
+        holders = λ u p e. absurd (none_some p e);
+        grafts = λ q pt g e. absurd (none_some g e);
+        gone = λ p e. record { cells = λ k. refl; files = λ fd. refl; balances = λ k. ap (λ b. cond b v.grant 0) (not_root p e); spent = λ k. refl };
+        files = λ p fd o e. absurd (none_some o e);
+        policies = first_policies;
+        ledgers = first_ledgers v.grant;
+      };
+      images_loaded = λ q pt g e. absurd (none_some g e);
+      disk = disk;
+    }
+  where
+    below_sixteen : (p : ℕ) → p ≡ 0 → p < 16
+    below_sixteen p e = omega arith
+
+    not_some : false ≡ true → ⊥
+    not_some e = cc

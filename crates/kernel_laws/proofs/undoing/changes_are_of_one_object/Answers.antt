@@ -1,0 +1,5 @@
+use Rattle.kernel_laws.proofs.UndoingLemmas.{changes_are_of_one_object}
+use Rattle.kernel_laws.proofs.undoing.changes_are_of_one_object.Goals as goal
+
+pub returns : goal.returns
+returns c = changes_are_of_one_object

@@ -1,0 +1,5 @@
+use Rattle.kernel_laws.proofs.UndoingLemmas.{inverses_undo}
+use Rattle.kernel_laws.proofs.undoing.inverses_undo.Goals as goal
+
+pub returns : goal.returns
+returns c = inverses_undo

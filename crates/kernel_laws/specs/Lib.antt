@@ -1,0 +1,5 @@
+pub mod Amounts
+pub mod Clock
+pub mod Rest
+pub mod Soundness
+pub mod Undoing

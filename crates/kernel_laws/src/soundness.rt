@@ -1,0 +1,26 @@
+//! Laws of what keeps states sound. A call of one brings its statement into a proof.
+
+ghost use Rattle.kernel_laws.specs.Soundness.{OpeningIsSound, PiecesStaySound, InstructionsWork, HistoriesWork};
+
+use kernel_model::Rules;
+
+/// The state after boot is sound, where what no call changes is within the limits and the files lie on the disk.
+pub fn opening_is_sound()
+    ensures { OpeningIsSound }
+{}
+
+/// A piece of a sound state, over whole blocks, leaves a sound state and whole blocks.
+pub fn pieces_stay_sound<R: Rules>()
+    ensures { PiecesStaySound R.meaning }
+{}
+
+/// An instruction of a graft call keeps sound what the call works on, the working state and what each level found, changes
+/// of it only what grafts may change, and completes the call only with an answer that its point accepts.
+pub fn instructions_work()
+    ensures { InstructionsWork }
+{}
+
+/// Wherever a history leads from a sound store, the graft call works on it in that sense.
+pub fn histories_work<R: Rules>()
+    ensures { HistoriesWork R.meaning }
+{}
