@@ -1,0 +1,237 @@
+//! The policies of a kernel on a shelf: the chosen ones are asked and tuned.
+
+ghost use Rattle.std.specs.Prelude.{◌≡◌, ◌≢◌, ◌<◌, ◌↔◌, ◌==◌, ℕ, true, IsTrue, map, length, Some, slice_index, slice_index_or, slice_set};
+ghost use Rattle.std.specs.List.{list_any};
+ghost use Rattle.kernel_model.specs.declared.FrameRow.{FrameRow as Frame};
+ghost use Rattle.kernel_model.specs.Objects.{CacheValue, at};
+ghost use Rattle.kernel_model.specs.Access.{in_range, param_top, with_param};
+ghost use Rattle.kernel_model.specs.Opening.{opening_policy};
+ghost use Rattle.kernel_model.specs.Policies.{ahead_in, victim_among, next_process, lives};
+ghost use Rattle.kernel_model.specs.RawRows.{shown_param};
+ghost use Rattle.graft_points.specs.Views.{kind_of_code, top_of_code, asked_kind, has_choice, answer_of, answer_by, MarksOf, victim_of};
+ghost use Rattle.graft_points.specs.Shelf.{IsShelf, view_at, code_of, params_of, stock_view, stock_views, retuned, shelf_with, pol_of, first_choice, head_of};
+
+use crate::ask::Ask;
+use crate::choice::Choice;
+use crate::policy::Policy;
+use kernel_model::{FrameRow, OpenRow, QueueRow};
+
+/// The policies on a shelf.
+pub const POLICIES: usize = 7;
+
+/// The codes and the parameters of the stock policies at boot.
+const STOCK: [(u8, Option<u32>); POLICIES] = [
+    (0, None),
+    (1, Some(2)),
+    (2, Some(1)),
+    (3, None),
+    (4, Some(0)),
+    (5, None),
+    (6, Some(0)),
+];
+
+/// The code of a policy.
+fn code_in(policy: &Box<dyn Policy>) -> u8
+    ensures { result ≡ (seen policy.now).code }
+{
+    policy.code()
+}
+
+/// How many parameters a policy has.
+fn count_in(policy: &Box<dyn Policy>) -> u8
+    ensures { result ≡ length (seen policy.now).params }
+{
+    policy.params()
+}
+
+/// The first parameter of a policy.
+fn first_in(policy: &Box<dyn Policy>) -> u32
+    requires { 0 < length (seen policy.now).params }
+    ensures { result ≡ slice_index (seen policy.now).params 0 }
+{
+    policy.get(0)
+}
+
+/// The parameter of a policy, if it has one.
+fn param_in(policy: &Box<dyn Policy>) -> Option<u32>
+    ensures { result ≡ head_of (seen policy.now).params }
+{
+    if count_in(policy) == 0 {
+        None
+    } else {
+        Some(first_in(policy))
+    }
+}
+
+/// What a policy answers.
+fn ask_policy(policy: &Box<dyn Policy>, ask: &Ask) -> u32
+    requires kind { asked_kind ask.now ≡ kind_of_code (seen policy.now).code }
+    requires some { has_choice ask.now ≡ true }
+    ensures value { result ≡ answer_of (seen policy.now) ask.now }
+    ensures byte { 0 < asked_kind ask.now → result < 256 }
+{
+    policy.answer(ask)
+}
+
+/// Sets the parameter of a policy.
+fn tune(policy: &mut Box<dyn Policy>, v: u32)
+    requires number { 0 < length (seen policy.old).params }
+    requires range { in_range (top_of_code (seen policy.old).code) 0 v ≡ true }
+    ensures { seen policy.new ≡ retuned v (seen policy.old) }
+{
+    (&mut **policy).set(0, v);
+}
+
+/// Whether a policy has this parameter, or none.
+fn has_param(policy: &Box<dyn Policy>, param: Option<u32>) -> bool
+    ensures { IsTrue result ↔ (seen policy.now).params ≡ params_of param }
+{
+    match param {
+        None => count_in(policy) == 0,
+        Some(x) => count_in(policy) == 1 && first_in(policy) == x,
+    }
+}
+
+/// Whether a policy has this code, and this parameter or none.
+fn is_like(policy: &Box<dyn Policy>, code: u8, param: Option<u32>) -> bool
+    ensures { IsTrue result ↔ seen policy.now ≡ stock_view code param }
+{
+    code_in(policy) == code && has_param(policy, param)
+}
+
+/// Whether the policy at a place has this code, and this parameter or none.
+fn is_like_at(shelf: &[Box<dyn Policy>], i: usize, code: u8, param: Option<u32>) -> bool
+    requires { i < length shelf.now }
+    ensures { IsTrue result ↔ view_at (map (λ b. seen b) shelf.now) i ≡ stock_view code param }
+{
+    is_like(&shelf[i], code, param)
+}
+
+#[tactic(auto, using(crate::proofs::Places::alike_at, crate::proofs::Places::alike_everywhere))]
+/// Whether the policies of a shelf have these codes and parameters, in order.
+fn are_like(shelf: &[Box<dyn Policy>], table: &[(u8, Option<u32>)]) -> bool
+    ensures { IsTrue result ↔ map (λ b. seen b) shelf.now ≡ map (λ s. stock_view s.0 s.1) table.now }
+{
+    if shelf.len() != table.len() {
+        return false;
+    }
+    for i in 0..table.len() {
+        if !is_like_at(shelf, i, table[i].0, table[i].1) {
+            return false;
+        }
+    }
+    true
+}
+
+#[tactic(auto, using(crate::proofs::Tuned::stock_is_shelf, crate::proofs::Tuned::stock_opens))]
+/// Whether these are the seven stock policies in the order of their codes, with their parameters at boot.
+pub fn is_stock(shelf: &[Box<dyn Policy>]) -> bool
+    ensures exact { IsTrue result ↔ map (λ b. seen b) shelf.now ≡ stock_views }
+    ensures shelf { IsTrue result → IsShelf (map (λ b. seen b) shelf.now) }
+    ensures opening { IsTrue result → pol_of (map (λ b. seen b) shelf.now) first_choice ≡ opening_policy }
+{
+    are_like(shelf, &STOCK)
+}
+
+/// What the policy at a place answers.
+fn ask_at(shelf: &[Box<dyn Policy>], i: usize, ask: &Ask) -> u32
+    requires place { i < length shelf.now }
+    requires kind { asked_kind ask.now ≡ kind_of_code (view_at (map (λ b. seen b) shelf.now) i).code }
+    requires some { has_choice ask.now ≡ true }
+    ensures value { result ≡ answer_of (view_at (map (λ b. seen b) shelf.now) i) ask.now }
+    ensures byte { 0 < asked_kind ask.now → result < 256 }
+{
+    ask_policy(&shelf[i], ask)
+}
+
+/// The parameter of the policy at a place, if it has one.
+fn param_at(shelf: &[Box<dyn Policy>], i: usize) -> Option<u32>
+    requires { i < length shelf.now }
+    ensures { result ≡ head_of (view_at (map (λ b. seen b) shelf.now) i).params }
+{
+    param_in(&shelf[i])
+}
+
+/// What the chosen policy of a kind answers to a question of that kind, with at least one to choose.
+#[tactic(auto, using(crate::proofs::Chosen::chosen_answers, crate::proofs::Chosen::kind_of_its_code))]
+pub fn ask_chosen(shelf: &[Box<dyn Policy>], choice: &Choice, kind: u8, ask: &Ask) -> u32
+    requires shelf { IsShelf (map (λ b. seen b) shelf.now) }
+    requires range { kind < 3 }
+    requires asked { asked_kind ask.now ≡ kind }
+    requires some { has_choice ask.now ≡ true }
+    ensures value { result ≡ answer_by (pol_of (map (λ b. seen b) shelf.now) choice.now kind) ask.now }
+    ensures byte { 0 < asked_kind ask.now → result < 256 }
+{
+    ask_at(shelf, choice.code(kind) as usize, ask)
+}
+
+/// Where reading ahead starts in an open file of so many blocks, and by how many, as the chosen policy has it.
+pub fn ahead(shelf: &[Box<dyn Policy>], choice: &Choice, file: &OpenRow, blocks: u32) -> (u32, u32)
+    requires { IsShelf (map (λ b. seen b) shelf.now) }
+    ensures { result ≡ ahead_in (pol_of (map (λ b. seen b) shelf.now) choice.now 0) file.now blocks }
+{
+    let start = file.next.min(blocks);
+    let ask = Ask::Ahead(file.seq, u32::from(file.window), blocks - start);
+    (start, ask_chosen(shelf, choice, 0, &ask))
+}
+
+#[tactic(auto, using(crate::proofs::Rows::victim_named, crate::proofs::Rows::victim_among_rows))]
+/// The frame that the chosen policy evicts of these, which are in use and oldest first.
+pub fn victim(shelf: &[Box<dyn Policy>], choice: &Choice, rows: &[FrameRow]) -> u8
+    requires shelf { IsShelf (map (λ b. seen b) shelf.now) }
+    requires some { 0 < length rows.now }
+    ensures value { victim_of (pol_of (map (λ b. seen b) shelf.now) choice.now 1) rows.now ≡ Some result }
+    ensures candidate { (c : CacheValue) → MarksOf c rows.now →
+        victim_among (pol_of (map (λ b. seen b) shelf.now) choice.now 1) c (map (λ (r : Frame). r.frame) rows.now) ≡ Some result }
+    ensures stands { list_any (λ (r : Frame). r.frame == result) rows.now ≡ true }
+{
+    ask_chosen(shelf, choice, 1, &Ask::Victim(rows)) as u8
+}
+
+#[tactic(auto, using(crate::proofs::Rows::next_named))]
+/// The process of the queue that the chosen policy takes next.
+pub fn next(shelf: &[Box<dyn Policy>], choice: &Choice, rows: &[QueueRow]) -> u8
+    requires shelf { IsShelf (map (λ b. seen b) shelf.now) }
+    requires some { 0 < length rows.now }
+    ensures value { next_process (pol_of (map (λ b. seen b) shelf.now) choice.now 2) rows.now ≡ Some result }
+    ensures living { lives rows.now result ≡ true }
+{
+    ask_chosen(shelf, choice, 2, &Ask::Next(rows)) as u8
+}
+
+/// The parameter of the chosen policy of a kind, if it has one.
+#[tactic(auto, using(crate::proofs::Tuned::param_shown))]
+pub fn param(shelf: &[Box<dyn Policy>], choice: &Choice, kind: u8) -> Option<u32>
+    requires shelf { IsShelf (map (λ b. seen b) shelf.now) }
+    requires range { kind < 3 }
+    ensures { result ≡ shown_param kind (pol_of (map (λ b. seen b) shelf.now) choice.now kind) }
+{
+    param_at(shelf, choice.code(kind) as usize)
+}
+
+#[tactic(auto, using(crate::proofs::Places::shelf_with_map))]
+/// Sets the parameter of the policy at a place. The other boxes stay what they were.
+fn tune_at(shelf: &mut [Box<dyn Policy>], i: usize, v: u32)
+    requires place { i < length shelf.old }
+    requires number { 0 < length (view_at (map (λ b. seen b) shelf.old) i).params }
+    requires range { in_range (top_of_code (view_at (map (λ b. seen b) shelf.old) i).code) 0 v ≡ true }
+    ensures views { map (λ b. seen b) shelf.new ≡ shelf_with i v (map (λ b. seen b) shelf.old) }
+    ensures others { (j : ℕ) (d : _) → j ≢ i → slice_index_or shelf.new j d ≡ slice_index_or shelf.old j d }
+{
+    tune(&mut shelf[i], v);
+}
+
+/// Sets the parameter of the chosen policy of a kind, which has one, to a value in its range. The other policies stay
+/// what they were.
+pub fn set_param(shelf: &mut [Box<dyn Policy>], choice: &Choice, kind: u8, v: u32)
+    requires shelf { IsShelf (map (λ b. seen b) shelf.old) }
+    requires kind { kind < 3 }
+    requires range { in_range (param_top kind (slice_index choice.now kind)) 0 v ≡ true }
+    ensures views { map (λ b. seen b) shelf.new ≡ shelf_with (code_of kind (slice_index choice.now kind)) v (map (λ b. seen b) shelf.old) }
+    ensures others { (j : ℕ) (d : _) → j ≢ code_of kind (slice_index choice.now kind) → slice_index_or shelf.new j d ≡ slice_index_or shelf.old j d }
+    ensures policies { pol_of (map (λ b. seen b) shelf.new) choice.now ≡
+        at kind (with_param v (pol_of (map (λ b. seen b) shelf.old) choice.now kind)) (pol_of (map (λ b. seen b) shelf.old) choice.now) }
+    ensures stays { IsShelf (map (λ b. seen b) shelf.new) }
+{
+    tune_at(shelf, choice.code(kind) as usize, v);
+}
