@@ -1,0 +1,131 @@
+//! The calls of a disk, with a list of which of them failed.
+#![tactic(auto)]
+
+ghost use Rattle.std.specs.Prelude.{◌≡◌, ℕ, ◌+◌, ◌<◌, ◌≤◌, List, [], ◌∷◌, ◌++◌, length, cond, is_ok};
+ghost use Rattle.std.specs.Result.{is_err, OnOk};
+ghost use Rattle.kernel_model.specs.World.{Blocks};
+ghost use Rattle.kernel_model.specs.Objects.{at};
+ghost use Rattle.disk_log.specs.Calls.{Tells, GoesOn};
+
+use arrayvec::ArrayVec;
+use std::marker::Model;
+use vino_base::{Disk, Failed};
+
+/// The most calls that one log notes: 64 for each of 256 pieces of system calls.
+pub const CALLS: usize = 16_384;
+
+/// Which calls of a disk failed, in order.
+#[derive(Drop)]
+pub struct DiskLog {
+    failed: ArrayVec<bool, CALLS>,
+}
+
+impl Model for DiskLog {
+    ghost use Rattle.std.specs.Prelude.{List, Bool, ◌≤◌, length};
+
+    ghost Value = { List Bool };
+
+    ghost view = { λ l. l.failed.items };
+}
+
+impl DiskLog {
+    /// No call was made.
+    pub fn new() -> DiskLog
+        ensures { result ≡ [] }
+    {
+        DiskLog {
+            failed: ArrayVec::new(),
+        }
+    }
+
+    /// Forgets all calls.
+    pub fn clear(&mut self)
+        ensures { self.new ≡ [] }
+    {
+        self.failed.clear();
+    }
+
+    /// The calls so far: whether each failed.
+    pub fn calls(&self) -> &[bool]
+        ensures { result.now ≡ self.now }
+    {
+        self.failed.as_slice()
+    }
+
+    /// Notes the calls of another list behind these.
+    pub fn append(&mut self, later: &DiskLog)
+        requires room { length self.old + length later.now ≤ CALLS }
+        ensures { self.new ≡ self.old ++ later.now }
+    {
+        note_all(&mut self.failed, later.failed.as_slice());
+    }
+
+    /// Reads block b.
+    pub fn read<D: Disk>(&mut self, disk: &mut D, b: u32, to: &mut [u8; 512]) -> Result<(), Failed>
+        requires room { length self.old < CALLS }
+        requires block { b < D.block_count disk.old }
+        ensures noted { self.new ≡ self.old ++ is_err result ∷ [] }
+        ensures told { (blocks : Blocks) → Tells (D.blocks disk.old) blocks → Tells (D.blocks disk.new) blocks × OnOk result (to.new ≡ blocks b) }
+        ensures same_size { D.block_count disk.new ≡ D.block_count disk.old }
+        ensures calls { GoesOn (D.faults disk.old) (D.faults disk.new) (D.plan disk.old) (D.plan disk.new) self.old self.new }
+    {
+        let result = disk.read_block(b, to);
+        note(&mut self.failed, result.is_err());
+        result
+    }
+
+    /// Replaces block b.
+    pub fn write<D: Disk>(&mut self, disk: &mut D, b: u32, from: &[u8; 512]) -> Result<(), Failed>
+        requires room { length self.old < CALLS }
+        requires block { b < D.block_count disk.old }
+        ensures noted { self.new ≡ self.old ++ is_err result ∷ [] }
+        ensures told { (blocks : Blocks) → Tells (D.blocks disk.old) blocks →
+            Tells (D.blocks disk.new) (cond (is_ok result) (at b from.now blocks) blocks) }
+        ensures same_size { D.block_count disk.new ≡ D.block_count disk.old }
+        ensures calls { GoesOn (D.faults disk.old) (D.faults disk.new) (D.plan disk.old) (D.plan disk.new) self.old self.new }
+    {
+        disk.size();
+        let result = disk.write_block(b, from);
+        note(&mut self.failed, result.is_err());
+        result
+    }
+}
+
+/// Notes one call.
+fn note(failed: &mut ArrayVec<bool, CALLS>, fails: bool)
+    requires { length failed.old.items < CALLS }
+    ensures { failed.new.items ≡ failed.old.items ++ fails ∷ [] }
+{
+    failed.push(fails);
+}
+
+/// Notes calls in order.
+fn note_all(failed: &mut ArrayVec<bool, CALLS>, later: &[bool])
+    requires { length failed.old.items + length later.now ≤ CALLS }
+    ensures { failed.new.items ≡ failed.old.items ++ later.now }
+{
+    let _ = failed.try_extend_from_slice(later);
+}
+
+#[cfg(test)]
+mod tests {
+    use super::*;
+    use vino_base::EmptyDisk;
+
+    #[test]
+    fn each_call_is_noted(rt: HostRuntime) {
+        let mut disk = EmptyDisk::new(3);
+        let mut log = DiskLog::new();
+        let mut whole = DiskLog::new();
+        let mut block = [7u8; 512];
+        assert!(rt; log.write(&mut disk, 2, &block).is_err());
+        assert!(rt; log.read(&mut disk, 2, &mut block).is_ok());
+        assert!(rt; block.iter().all(|byte| *byte == 0));
+        assert!(rt; log.calls() == [true, false].as_slice());
+        whole.append(&log);
+        whole.append(&log);
+        assert!(rt; whole.calls() == [true, false, true, false].as_slice());
+        whole.clear();
+        assert!(rt; whole.calls().is_empty());
+    }
+}
