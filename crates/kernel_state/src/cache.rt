@@ -3,7 +3,7 @@
 ghost use Rattle.std.specs.Prelude.{◌≡◌, ℕ, ◌+◌, ◌*◌, ◌<◌, ◌≤◌, true, false, length, Some, None, IfSome, IfNone, slice_range, option_map};
 ghost use Rattle.kernel_model.specs.Objects.{FrameValue};
 ghost use Rattle.kernel_model.specs.Needs.{frame_of_block, free_frame};
-ghost use Rattle.kernel_model.specs.Policies.{victim_among};
+ghost use Rattle.kernel_model.specs.Policies.{lives, victim_among};
 ghost use Rattle.kernel_model.specs.Fetch.{used, filled, new_frame, replaced, with_patch, cleaned, bytes_of, dirty_value};
 ghost use Rattle.kernel_model.specs.FilePieces.{with_cache};
 ghost use Rattle.kernel_model.specs.Opening.{opening_policy};
@@ -12,6 +12,7 @@ ghost use Rattle.kernel_state.specs.Stores.{world_of_store, objects_of, cache_of
 
 use crate::Store;
 use kernel_model::{BLOCK_BYTES, Bytes};
+use ram_space::Ram;
 
 impl Store {
     /// The frame that holds a block.
@@ -19,6 +20,7 @@ impl Store {
         ensures value { result ≡ frame_of_block (cache_of self.now) block }
         ensures in_cache { IfSome result (λ f. in_use f self.now.cache ≡ true) }
     {
+        self.cache.lru();
         self.cache.find(block)
     }
 
@@ -29,6 +31,7 @@ impl Store {
         ensures below { IfSome result (λ f. f < self.now.cache.count) }
         ensures full { IfNone result ((f : ℕ) → f < self.now.cache.count → in_use f self.now.cache ≡ true) }
     {
+        self.cache.lru();
         self.cache.free()
     }
 
@@ -64,7 +67,7 @@ impl Store {
     pub fn fill(&mut self, f: u8, owner: u8, block: u32, bytes: &[u8; 512])
         requires sound { IsStore self.old }
         requires frame { f < self.old.cache.count }
-        requires owner { owner < 16 }
+        requires alive { lives (queue_of self.old) owner ≡ true }
         requires block { block < self.old.size }
         requires missing { frame_of_block (cache_of self.old) block ≡ None }
         ensures objects { objects_of self.new ≡ with_cache (filled f (new_frame owner block bytes.now) (cache_of self.old)) (objects_of self.old) }
@@ -72,7 +75,9 @@ impl Store {
         ensures sound { IsStore self.new }
         ensures in_cache { in_use f self.new.cache ≡ true }
     {
+        self.procs.rows();
         self.cache.lru();
+        whole(&self.ram);
         self.cache.fill(&mut self.ram, f, owner, block, bytes);
     }
 
@@ -81,7 +86,7 @@ impl Store {
         requires sound { IsStore self.old }
         requires frame { in_use f self.old.cache ≡ true }
         requires candidate { in_use candidate self.old.cache ≡ true }
-        requires owner { owner < 16 }
+        requires alive { lives (queue_of self.old) owner ≡ true }
         requires block { block < self.old.size }
         requires missing { frame_of_block (cache_of self.old) block ≡ None }
         ensures objects { objects_of self.new ≡
@@ -90,8 +95,11 @@ impl Store {
         ensures sound { IsStore self.new }
         ensures in_cache { in_use f self.new.cache ≡ true }
     {
+        self.procs.rows();
         self.cache.lru();
+        whole(&self.ram);
         self.cache.swap_places(f, candidate);
+        self.cache.lru();
         self.cache.fill(&mut self.ram, f, owner, block, bytes);
     }
 
@@ -105,6 +113,7 @@ impl Store {
         ensures sound { IsStore self.new }
     {
         self.cache.lru();
+        whole(&self.ram);
         self.cache.patch(&mut self.ram, f, off, bytes);
     }
 
@@ -130,6 +139,7 @@ impl Store {
         ensures world { world_of_store self.new ≡ world_of_store self.old }
         ensures sound { IsStore self.new }
     {
+        self.cache.lru();
         self.cache.clean(f);
     }
 
@@ -152,6 +162,13 @@ impl Store {
         self.copy_frame(f, &mut block);
         bytes_from(&block[off as usize..(off + len) as usize])
     }
+}
+
+/// The memory has the bytes of all frames.
+fn whole(ram: &Ram)
+    ensures { length ram.now ≡ 524288 }
+{
+    ram.byte(0);
 }
 
 /// Where a frame's bytes begin.

@@ -4,14 +4,14 @@ ghost use Rattle.std.specs.Prelude.{◌≡◌, ℕ, ◌+◌, ◌<◌, ◌≤◌,
 ghost use Rattle.kernel_model.specs.declared.OpenRow.{OpenRow as Row};
 ghost use Rattle.kernel_model.specs.World.{file_named};
 ghost use Rattle.kernel_model.specs.Policies.{lives, ahead_default};
-ghost use Rattle.kernel_model.specs.Needs.{file_block, ahead_block};
+ghost use Rattle.kernel_model.specs.Needs.{file_block, ahead_block, is_within};
 ghost use Rattle.kernel_model.specs.FilePieces.{with_file, free_descriptor as lowest_free, new_file};
 ghost use Rattle.kernel_model.specs.Opening.{opening_policy};
 ghost use Rattle.kernel_model.specs.Sound.{IsSoundFile};
 ghost use Rattle.kernel_state.specs.Stores.{world_of_store, objects_of, queue_of, IsStore};
 
 use crate::{Ahead, Store};
-use kernel_model::{BLOCK_BYTES, OpenRow, Refusal};
+use kernel_model::{BLOCK_BYTES, FileRow, OpenRow, Refusal};
 
 impl Store {
     /// The usable file of this name, as it is when it was just opened.
@@ -77,11 +77,10 @@ impl Store {
             return Err(Refusal::BadFd);
         };
         let row = self.dir.file(opened.file);
-        if i < row.blocks && end_of(i, off, len) <= u64::from(row.length) {
-            Ok(row.start + i)
-        } else {
-            Err(Refusal::BadIndex)
+        if !has_bytes(&row, i, off, len) {
+            return Err(Refusal::BadIndex);
         }
+        Ok(row.start + i)
     }
 
     /// The disk's block that is to be read ahead next for an open file, which has one to be read ahead.
@@ -113,7 +112,10 @@ impl Store {
     }
 }
 
-/// The place in a file behind byte off + len of block i.
-fn end_of(i: u32, off: u32, len: u32) -> u64 {
-    BLOCK_BYTES as u64 * u64::from(i) + u64::from(off) + u64::from(len)
+/// Whether bytes off to off + len of block i lie within a file.
+fn has_bytes(row: &FileRow, i: u32, off: u32, len: u32) -> bool
+    ensures { result ≡ is_within row.now i off len }
+{
+    let end = BLOCK_BYTES as u64 * u64::from(i) + u64::from(off) + u64::from(len);
+    i < row.blocks && end <= u64::from(row.length)
 }

@@ -11,6 +11,7 @@ ghost use Rattle.kernel_model.specs.Opening.{opening_policy};
 ghost use Rattle.kernel_state.specs.Stores.{world_of_store, objects_of, queue_of, queue_joined, IsStore};
 
 use crate::Store;
+use kernel_model::QueueRow;
 
 impl Store {
     /// Whether process p lives.
@@ -18,10 +19,7 @@ impl Store {
         ensures value { result ≡ lives (queue_of self.now) p }
         ensures number { result ≡ true → p < 16 }
     {
-        self.procs
-            .rows()
-            .iter()
-            .any(|row| u32::from(row.process) == p)
+        is_among(self.procs.rows(), p)
     }
 
     /// The least number that isn't living joins at the back. None, with nothing changed, where 16 processes live.
@@ -93,4 +91,11 @@ impl Store {
     {
         self.procs.set_cell(p, k, v);
     }
+}
+
+/// Whether a process stands in the queue.
+fn is_among(rows: &[QueueRow], p: u32) -> bool
+    ensures { result ≡ lives rows.now p }
+{
+    rows.iter().any(|row| u32::from(row.process) == p)
 }
