@@ -1,0 +1,61 @@
+-- What came of a piece, in the code's terms, beside what the definitions say.
+use Rattle.std.specs.Prelude.{◌≡◌, ℕ, ◌<◌, Bool, true, false, List, Option, Some, None, Result, Ok, Err}
+use Rattle.std.specs.List.{list_any}
+use Rattle.kernel_model.specs.declared.Refusal.TheVariants.{DiskFault}
+use Rattle.kernel_model.specs.World.{Blocks}
+use Rattle.kernel_model.specs.Objects.{Objects, CacheValue}
+use Rattle.kernel_model.specs.Meaning.{Piece, After}
+use Rattle.kernel_model.specs.Fetch.{Fetched, Got, Failed}
+use Rattle.kernel_model.specs.Pieces.{pieces_left}
+use Rattle.kernel_state.specs.declared.Store.{Store}
+use Rattle.kernel_state.specs.Stores.{objects_of}
+use Rattle.vino_base.specs.declared.streams.Failed.{Failed as DiskFailed}
+use Rattle.disk_log.specs.Calls.{Tells}
+use Rattle.call_pieces.specs.declared.Work.{Work}
+use Rattle.call_pieces.specs.declared.Next.{Next}
+use Rattle.call_pieces.specs.Works.{IsReady}
+
+-- A piece left these objects, the disk tells this, these bytes were given, this comes next, and so many calls of the disk
+-- were made: all as the definitions' piece has it.
+pub record CameTo (q : Piece) (s : Objects) (told : Option (List (List ℕ))) (gave : Option (List ℕ)) (after : After) (calls : ℕ) : Type 0 where
+  pub objects : s ≡ q.objects
+  pub blocks : Tells told q.blocks
+  pub bytes : gave ≡ q.gave
+  pub next : after ≡ q.after
+  pub calls_made : calls ≡ q.calls
+
+-- the blocks after a fetch, where they were these
+abbrev pub blocks_after : Fetched → Blocks → Blocks
+blocks_after (Got cache after frame calls) blocks = after
+blocks_after (Failed calls) blocks = blocks
+
+-- a fetch that left this cache and these blocks, with so many calls of the disk: it gave a frame or failed
+abbrev pub fetched_so : Result ℕ DiskFailed → CacheValue → Blocks → ℕ → Fetched
+fetched_so (Ok f) cache blocks calls = Got cache blocks f calls
+fetched_so (Err e) cache blocks calls = Failed calls
+
+-- a fetch left this cache, the disk tells this, and so many calls were made: all as the definitions' fetch has it
+pub record FetchCameTo (q : Fetched) (blocks : Blocks) (result : Result ℕ DiskFailed) (cache : CacheValue) (told : Option (List (List ℕ))) (calls : ℕ) : Type 0 where
+  pub outcome : fetched_so result cache (blocks_after q blocks) calls ≡ q
+  pub tells : Tells told (blocks_after q blocks)
+
+-- one of these calls of the disk failed
+abbrev pub has_failed : List Bool → Bool
+has_failed io = list_any (λ failed. failed) io
+
+-- a call was refused for the disk
+abbrev pub is_fault : Next → Bool
+is_fault (Next.Fails DiskFault) = true
+is_fault _ = false
+
+-- a call goes on
+abbrev pub goes_on : Next → Bool
+goes_on Next.Goes = true
+goes_on _ = false
+
+-- a call that goes on: its next piece may come, and fewer pieces are left
+pub record HasGone (old new : Work) (old_store new_store : Store) : Type 0 where
+  pub caller : new.caller ≡ old.caller
+  pub call : new.call ≡ old.call
+  pub ready : IsReady new new_store
+  pub fewer : pieces_left new.call new.piece (objects_of new_store).things new.caller < pieces_left old.call old.piece (objects_of old_store).things old.caller

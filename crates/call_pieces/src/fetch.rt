@@ -1,0 +1,162 @@
+//! How a block comes into the cache.
+
+ghost use Rattle.std.specs.Prelude.{◌≡◌, ℕ, ◌<◌, true, false, List, Bool, [], ◌∷◌, ◌++◌, None, length, IfOk, IfErr};
+ghost use Rattle.kernel_model.specs.World.{Blocks};
+ghost use Rattle.kernel_model.specs.Policies.{lives, or_zero, victim_among};
+ghost use Rattle.kernel_model.specs.Needs.{frame_of_block, free_frame};
+ghost use Rattle.kernel_model.specs.Fetch as fetches;
+ghost use Rattle.kernel_model.specs.Fetch.{new_frame, replaced, read_block, place_block, evict as evicted};
+ghost use Rattle.kernel_model.specs.FilePieces.{with_cache};
+ghost use Rattle.kernel_model.specs.Opening.{opening_policy};
+ghost use Rattle.buffer_cache.specs.Frames.{in_use};
+ghost use Rattle.disk_log.specs.Calls.{Tells, GoesOn};
+ghost use Rattle.kernel_state.specs.Stores.{world_of_store, objects_of, cache_of, queue_of, IsStore};
+ghost use Rattle.call_pieces.specs.Coming.{FetchCameTo, has_failed};
+
+use disk_log::DiskLog;
+use kernel_model::BLOCK_BYTES;
+use kernel_state::Store;
+use vino_base::{Disk, Failed};
+
+/// Block b for process p: the frame that holds it becomes the newest, or the block is read into a frame.
+pub(crate) fn fetch<D: Disk>(store: &mut Store, disk: &mut D, log: &mut DiskLog, p: u8, b: u32) -> Result<u8, Failed>
+    requires sound { IsStore store.old }
+    requires alive { lives (queue_of store.old) p ≡ true }
+    requires block { b < store.old.size }
+    requires disk { store.old.size ≡ D.block_count disk.old }
+    requires fresh { log.old ≡ [] }
+    ensures does { (blocks : Blocks) (rest : List Bool) → Tells (D.blocks disk.old) blocks →
+        FetchCameTo (fetches.fetch (world_of_store store.old) (opening_policy 1) p b None (cache_of store.old) blocks (log.new ++ rest)) blocks
+            result (cache_of store.new) (D.blocks disk.new) (length log.new) }
+    ensures objects { objects_of store.new ≡ with_cache (cache_of store.new) (objects_of store.old) }
+    ensures in_cache { IfOk result (λ f. in_use f store.new.cache ≡ true) }
+    ensures kept { IfErr result (λ _. objects_of store.new ≡ objects_of store.old) }
+    ensures failed { IfErr result (λ _. has_failed log.new ≡ true) }
+    ensures world { world_of_store store.new ≡ world_of_store store.old }
+    ensures sound { IsStore store.new }
+    ensures same_size { D.block_count disk.new ≡ D.block_count disk.old }
+    ensures calls { GoesOn (D.faults disk.old) (D.faults disk.new) (D.plan disk.old) (D.plan disk.new) log.old log.new }
+{
+    match store.find(b) {
+        Some(f) => {
+            store.touch(f);
+            Ok(f)
+        }
+        None => load(store, disk, log, p, b),
+    }
+}
+
+/// Block b, ahead of a read of process p: where a frame holds it already, nothing changes.
+pub(crate) fn fetch_ahead<D: Disk>(store: &mut Store, disk: &mut D, log: &mut DiskLog, p: u8, b: u32) -> Result<u8, Failed>
+    requires sound { IsStore store.old }
+    requires alive { lives (queue_of store.old) p ≡ true }
+    requires block { b < store.old.size }
+    requires disk { store.old.size ≡ D.block_count disk.old }
+    requires fresh { log.old ≡ [] }
+    ensures does { (blocks : Blocks) (rest : List Bool) → Tells (D.blocks disk.old) blocks →
+        FetchCameTo (fetches.fetch_ahead (world_of_store store.old) (opening_policy 1) p b None (cache_of store.old) blocks (log.new ++ rest)) blocks
+            result (cache_of store.new) (D.blocks disk.new) (length log.new) }
+    ensures objects { objects_of store.new ≡ with_cache (cache_of store.new) (objects_of store.old) }
+    ensures in_cache { IfOk result (λ f. in_use f store.new.cache ≡ true) }
+    ensures kept { IfErr result (λ _. objects_of store.new ≡ objects_of store.old) }
+    ensures failed { IfErr result (λ _. has_failed log.new ≡ true) }
+    ensures world { world_of_store store.new ≡ world_of_store store.old }
+    ensures sound { IsStore store.new }
+    ensures same_size { D.block_count disk.new ≡ D.block_count disk.old }
+    ensures calls { GoesOn (D.faults disk.old) (D.faults disk.new) (D.plan disk.old) (D.plan disk.new) log.old log.new }
+{
+    match store.find(b) {
+        Some(f) => Ok(f),
+        None => load(store, disk, log, p, b),
+    }
+}
+
+/// Reads block b, which no frame holds, into a frame.
+fn load<D: Disk>(store: &mut Store, disk: &mut D, log: &mut DiskLog, p: u8, b: u32) -> Result<u8, Failed>
+    requires sound { IsStore store.old }
+    requires alive { lives (queue_of store.old) p ≡ true }
+    requires block { b < store.old.size }
+    requires disk { store.old.size ≡ D.block_count disk.old }
+    requires fresh { log.old ≡ [] }
+    requires missing { frame_of_block (cache_of store.old) b ≡ None }
+    ensures does { (blocks : Blocks) (rest : List Bool) → Tells (D.blocks disk.old) blocks →
+        FetchCameTo (read_block (world_of_store store.old) (opening_policy 1) p b None (cache_of store.old) blocks (log.new ++ rest)) blocks
+            result (cache_of store.new) (D.blocks disk.new) (length log.new) }
+    ensures objects { objects_of store.new ≡ with_cache (cache_of store.new) (objects_of store.old) }
+    ensures in_cache { IfOk result (λ f. in_use f store.new.cache ≡ true) }
+    ensures kept { IfErr result (λ _. objects_of store.new ≡ objects_of store.old) }
+    ensures failed { IfErr result (λ _. has_failed log.new ≡ true) }
+    ensures world { world_of_store store.new ≡ world_of_store store.old }
+    ensures sound { IsStore store.new }
+    ensures same_size { D.block_count disk.new ≡ D.block_count disk.old }
+    ensures calls { GoesOn (D.faults disk.old) (D.faults disk.new) (D.plan disk.old) (D.plan disk.new) log.old log.new }
+{
+    let mut bytes = [0; BLOCK_BYTES];
+    match log.read(disk, b, &mut bytes) {
+        Ok(()) => place(store, disk, log, p, b, &bytes),
+        Err(failed) => Err(failed),
+    }
+}
+
+/// Puts block b, which no frame holds, into the lowest free frame, or else into that of the candidate.
+fn place<D: Disk>(store: &mut Store, disk: &mut D, log: &mut DiskLog, p: u8, b: u32, bytes: &[u8; 512]) -> Result<u8, Failed>
+    requires sound { IsStore store.old }
+    requires alive { lives (queue_of store.old) p ≡ true }
+    requires block { b < store.old.size }
+    requires disk { store.old.size ≡ D.block_count disk.old }
+    requires read { log.old ≡ false ∷ [] }
+    requires missing { frame_of_block (cache_of store.old) b ≡ None }
+    ensures does { (blocks : Blocks) (rest : List Bool) → Tells (D.blocks disk.old) blocks → blocks b ≡ bytes.now →
+        let candidate = or_zero (victim_among (opening_policy 1) (cache_of store.old) (cache_of store.old).lru) in
+        FetchCameTo (place_block (free_frame (cache_of store.old) (world_of_store store.old).frames 0) p b candidate candidate (cache_of store.old) blocks (log.new ++ rest)) blocks
+            result (cache_of store.new) (D.blocks disk.new) (length log.new) }
+    ensures objects { objects_of store.new ≡ with_cache (cache_of store.new) (objects_of store.old) }
+    ensures in_cache { IfOk result (λ f. in_use f store.new.cache ≡ true) }
+    ensures kept { IfErr result (λ _. objects_of store.new ≡ objects_of store.old) }
+    ensures failed { IfErr result (λ _. has_failed log.new ≡ true) }
+    ensures world { world_of_store store.new ≡ world_of_store store.old }
+    ensures sound { IsStore store.new }
+    ensures same_size { D.block_count disk.new ≡ D.block_count disk.old }
+    ensures calls { GoesOn (D.faults disk.old) (D.faults disk.new) (D.plan disk.old) (D.plan disk.new) log.old log.new }
+{
+    if let Some(f) = store.free() {
+        store.fill(f, p, b, bytes);
+        return Ok(f);
+    }
+    match store.candidate() {
+        Some(f) => evict(store, disk, log, p, b, f, bytes),
+        None => unreachable!(),
+    }
+}
+
+/// Puts block b, which no frame holds, into frame f, which is in use: what it held is written first, if it is dirty.
+fn evict<D: Disk>(store: &mut Store, disk: &mut D, log: &mut DiskLog, p: u8, b: u32, f: u8, bytes: &[u8; 512]) -> Result<u8, Failed>
+    requires sound { IsStore store.old }
+    requires alive { lives (queue_of store.old) p ≡ true }
+    requires block { b < store.old.size }
+    requires disk { store.old.size ≡ D.block_count disk.old }
+    requires read { log.old ≡ false ∷ [] }
+    requires missing { frame_of_block (cache_of store.old) b ≡ None }
+    requires frame { in_use f store.old.cache ≡ true }
+    ensures does { (blocks : Blocks) (rest : List Bool) → Tells (D.blocks disk.old) blocks →
+        FetchCameTo (evicted ((cache_of store.old).frame f) f (replaced f f (new_frame p b bytes.now) (cache_of store.old)) blocks (log.new ++ rest)) blocks
+            result (cache_of store.new) (D.blocks disk.new) (length log.new) }
+    ensures objects { objects_of store.new ≡ with_cache (cache_of store.new) (objects_of store.old) }
+    ensures in_cache { IfOk result (λ g. in_use g store.new.cache ≡ true) }
+    ensures kept { IfErr result (λ _. objects_of store.new ≡ objects_of store.old) }
+    ensures failed { IfErr result (λ _. has_failed log.new ≡ true) }
+    ensures world { world_of_store store.new ≡ world_of_store store.old }
+    ensures sound { IsStore store.new }
+    ensures same_size { D.block_count disk.new ≡ D.block_count disk.old }
+    ensures calls { GoesOn (D.faults disk.old) (D.faults disk.new) (D.plan disk.old) (D.plan disk.new) log.old log.new }
+{
+    if let Some(old) = store.dirty_block(f) {
+        let mut evicted = [0; BLOCK_BYTES];
+        store.copy_frame(f, &mut evicted);
+        if let Err(failed) = log.write(disk, old, &evicted) {
+            return Err(failed);
+        }
+    }
+    store.replace(f, f, p, b, bytes);
+    Ok(f)
+}

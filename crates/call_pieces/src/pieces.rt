@@ -1,0 +1,67 @@
+//! `piece`.
+
+ghost use Rattle.std.specs.Prelude.{◌≡◌, ℕ, ◌<◌, true, false, List, Bool, [], ◌++◌, Some, None, length};
+ghost use Rattle.kernel_model.specs.World.{Blocks, ImageTable};
+ghost use Rattle.kernel_model.specs.Policies.{lives};
+ghost use Rattle.kernel_model.specs.Queue.{slices_of};
+ghost use Rattle.kernel_model.specs.Pieces.{plain};
+ghost use Rattle.disk_log.specs.Calls.{Tells, GoesOn};
+ghost use Rattle.kernel_state.specs.Stores.{world_of_store, objects_of, queue_of, IsStore};
+ghost use Rattle.call_pieces.specs.Works.{stage_of, comes_after, queue_after, IsReady};
+ghost use Rattle.call_pieces.specs.Coming.{CameTo, HasGone, has_failed, is_fault, goes_on};
+
+use crate::{After, Work};
+use crate::quick::{close, open, peek, poke, spawn, yield_turn};
+use crate::reads::{Range, read};
+use crate::syncs::sync;
+use crate::writes::write;
+use disk_log::DiskLog;
+use kernel_model::SysCall;
+use kernel_state::Store;
+use vino_base::Disk;
+
+/// The next piece of a call, where no graft answers.
+///
+/// The log starts empty and has this piece's calls of the disk then.
+pub fn piece<D: Disk>(work: &mut Work, store: &mut Store, disk: &mut D, log: &mut DiskLog) -> After
+    requires sound { IsStore store.old }
+    requires ready { IsReady work.old store.old }
+    requires room { (q : ℕ) → slices_of q (queue_of store.old) < 4294967295 }
+    requires disk { store.old.size ≡ D.block_count disk.old }
+    requires fresh { log.old ≡ [] }
+    ensures does { (images : ImageTable) (blocks : Blocks) (rest : List Bool) → Tells (D.blocks disk.old) blocks →
+        CameTo (plain.piece (world_of_store store.old) images (objects_of store.old) blocks work.old.caller (stage_of work.old) None (log.new ++ rest))
+            (objects_of store.new) (D.blocks disk.new) result.gave (comes_after result.next (stage_of work.new)) (length log.new) }
+    ensures queue { queue_of store.new ≡ queue_after work.old.call work.old.piece work.old.caller (queue_of store.old) }
+    ensures living { (q : ℕ) → lives (queue_of store.old) q ≡ true → lives (queue_of store.new) q ≡ true }
+    ensures gone { goes_on result.next ≡ true → HasGone work.old work.new store.old store.new }
+    ensures failed { is_fault result.next ≡ true → has_failed log.new ≡ true }
+    ensures world { world_of_store store.new ≡ world_of_store store.old }
+    ensures sound { IsStore store.new }
+    ensures same_size { D.block_count disk.new ≡ D.block_count disk.old }
+    ensures calls { GoesOn (D.faults disk.old) (D.faults disk.new) (D.plan disk.old) (D.plan disk.new) log.old log.new }
+{
+    let p = work.caller;
+    match &work.call {
+        SysCall::Spawn => spawn(store),
+        SysCall::Yield => yield_turn(&mut work.piece, store, p),
+        SysCall::OpenName(name) => open(store, p, name.as_slice()),
+        SysCall::CloseFd(fd) => close(store, p, *fd),
+        SysCall::Read(fd, i, off, len) => {
+            let range = Range {
+                fd: *fd,
+                i: *i,
+                off: *off,
+                len: *len,
+            };
+            read(&mut work.piece, store, disk, log, p, range)
+        }
+        SysCall::Write(fd, i, off, bytes) => {
+            write(store, disk, log, p, *fd, *i, *off, bytes.as_slice())
+        }
+        SysCall::Sync => sync(store, disk, log),
+        SysCall::Poke(k, v) => poke(store, p, *k, *v),
+        SysCall::Peek(k) => peek(store, p, *k),
+        _ => unreachable!(),
+    }
+}

@@ -1,0 +1,115 @@
+//! The pieces of a read: the block itself, how far to read ahead, and each block ahead.
+
+ghost use Rattle.std.specs.Prelude.{◌≡◌, ℕ, ◌+◌, ◌<◌, ◌≤◌, true, false, List, Bool, [], ◌++◌, Some, None, length};
+ghost use Rattle.kernel_model.specs.World.{Blocks};
+ghost use Rattle.kernel_model.specs.declared.OpenRow.{OpenRow as Row};
+ghost use Rattle.kernel_model.specs.declared.SysCall.TheVariants.{Read};
+ghost use Rattle.kernel_model.specs.Meaning.{stage};
+ghost use Rattle.kernel_model.specs.Policies.{lives};
+ghost use Rattle.kernel_model.specs.FilePieces.{read_piece};
+ghost use Rattle.kernel_model.specs.Pieces.{piece_fits, pieces_left};
+ghost use Rattle.disk_log.specs.Calls.{Tells, GoesOn};
+ghost use Rattle.kernel_state.specs.Stores.{world_of_store, objects_of, queue_of, IsStore};
+ghost use Rattle.call_pieces.specs.Works.{comes_after};
+ghost use Rattle.call_pieces.specs.Coming.{CameTo, has_failed, is_fault, goes_on};
+
+use crate::fetch::{fetch, fetch_ahead};
+use crate::{After, Next, came};
+use disk_log::DiskLog;
+use kernel_model::{OpenRow, Refusal, Reply};
+use kernel_state::Store;
+use vino_base::Disk;
+
+/// What a read asks for: bytes off to off + len of block i of the file at a descriptor.
+#[derive(Clone, Copy)]
+pub(crate) struct Range {
+    pub fd: u32,
+    pub i: u32,
+    pub off: u32,
+    pub len: u32,
+}
+
+/// The next piece of a read of process p.
+pub(crate) fn read<D: Disk>(piece: &mut u8, store: &mut Store, disk: &mut D, log: &mut DiskLog, p: u8, r: Range) -> After
+    requires sound { IsStore store.old }
+    requires alive { lives (queue_of store.old) p ≡ true }
+    requires descriptor { r.fd < 4 }
+    requires inside { r.off + r.len ≤ 512 }
+    requires fits { piece_fits (Read r.fd r.i r.off r.len) piece.old (objects_of store.old).things p ≡ true }
+    requires disk { store.old.size ≡ D.block_count disk.old }
+    requires fresh { log.old ≡ [] }
+    ensures does { (blocks : Blocks) (rest : List Bool) → Tells (D.blocks disk.old) blocks →
+        CameTo (read_piece piece.old (world_of_store store.old) (objects_of store.old) blocks p r.fd r.i r.off r.len ((objects_of store.old).things.file p r.fd) None (log.new ++ rest))
+            (objects_of store.new) (D.blocks disk.new) result.gave (comes_after result.next (stage (Read r.fd r.i r.off r.len) piece.new)) (length log.new) }
+    ensures queue { queue_of store.new ≡ queue_of store.old }
+    ensures fits { goes_on result.next ≡ true → piece_fits (Read r.fd r.i r.off r.len) piece.new (objects_of store.new).things p ≡ true }
+    ensures fewer { goes_on result.next ≡ true →
+        pieces_left (Read r.fd r.i r.off r.len) piece.new (objects_of store.new).things p < pieces_left (Read r.fd r.i r.off r.len) piece.old (objects_of store.old).things p }
+    ensures failed { is_fault result.next ≡ true → has_failed log.new ≡ true }
+    ensures world { world_of_store store.new ≡ world_of_store store.old }
+    ensures sound { IsStore store.new }
+    ensures same_size { D.block_count disk.new ≡ D.block_count disk.old }
+    ensures calls { GoesOn (D.faults disk.old) (D.faults disk.new) (D.plan disk.old) (D.plan disk.new) log.old log.new }
+{
+    let Some(opened) = store.file(p, r.fd as u8) else {
+        return came(Next::Fails(Refusal::BadFd));
+    };
+    match *piece {
+        0 => first(piece, store, disk, log, p, r, opened),
+        1 => second(piece, store, p, r.fd as u8, opened),
+        _ => later(store, disk, log, p, r.fd as u8, opened),
+    }
+}
+
+/// The first piece: the block is fetched, and its bytes are given.
+fn first<D: Disk>(piece: &mut u8, store: &mut Store, disk: &mut D, log: &mut DiskLog, p: u8, r: Range, opened: OpenRow) -> After {
+    let b = match store.block_of(p, r.fd as u8, r.i, r.off, r.len) {
+        Ok(b) => b,
+        Err(refusal) => return came(Next::Fails(refusal)),
+    };
+    let Ok(f) = fetch(store, disk, log, p, b) else {
+        return came(Next::Fails(Refusal::DiskFault));
+    };
+    let row = OpenRow {
+        next: r.i + 1,
+        seq: r.i == opened.next,
+        ..opened
+    };
+    store.put_file(p, r.fd as u8, Some(row));
+    *piece = 1;
+    After {
+        gave: Some(store.bytes(f, r.off, r.len)),
+        next: Next::Goes,
+    }
+}
+
+/// The second piece: the policy says what is to be read ahead.
+fn second(piece: &mut u8, store: &mut Store, p: u8, fd: u8, opened: OpenRow) -> After {
+    let ahead = store.ahead(&opened);
+    let row = OpenRow {
+        start: ahead.start,
+        count: ahead.count,
+        ..opened
+    };
+    store.put_file(p, fd, Some(row));
+    if ahead.count == 0 {
+        return came(Next::Ends(Reply::Plain));
+    }
+    *piece = 2;
+    came(Next::Goes)
+}
+
+/// A later piece: one block more is fetched ahead.
+fn later<D: Disk>(store: &mut Store, disk: &mut D, log: &mut DiskLog, p: u8, fd: u8, opened: OpenRow) -> After {
+    let b = store.block_ahead(&opened);
+    if fetch_ahead(store, disk, log, p, b).is_err() {
+        return came(Next::Fails(Refusal::DiskFault));
+    }
+    let row = OpenRow {
+        start: opened.start + 1,
+        count: opened.count - 1,
+        ..opened
+    };
+    store.put_file(p, fd, Some(row));
+    came(if row.count == 0 { Next::Ends(Reply::Plain) } else { Next::Goes })
+}

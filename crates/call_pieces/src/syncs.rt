@@ -1,0 +1,54 @@
+//! `sync`.
+
+ghost use Rattle.std.specs.Prelude.{◌≡◌, ℕ, ◌+◌, ◌<◌, ◌≤◌, true, false, List, Bool, [], ◌++◌, None, length};
+ghost use Rattle.kernel_model.specs.World.{Blocks};
+ghost use Rattle.kernel_model.specs.Meaning.{Stage};
+ghost use Rattle.kernel_model.specs.FilePieces.{sync_from};
+ghost use Rattle.disk_log.specs.Calls.{Tells, GoesOn};
+ghost use Rattle.kernel_state.specs.Stores.{world_of_store, objects_of, queue_of, IsStore};
+ghost use Rattle.call_pieces.specs.Works.{comes_after};
+ghost use Rattle.call_pieces.specs.Coming.{CameTo, has_failed, is_fault, goes_on};
+
+use crate::{After, Next, came};
+use disk_log::DiskLog;
+use kernel_model::{BLOCK_BYTES, Refusal, Reply};
+use kernel_state::Store;
+use vino_base::{Disk, Failed};
+
+/// Writes the dirty frames in the order of their numbers; each is clean then. Where a call of the disk fails, what was
+/// written before stays written.
+pub(crate) fn sync<D: Disk>(store: &mut Store, disk: &mut D, log: &mut DiskLog) -> After
+    requires sound { IsStore store.old }
+    requires disk { store.old.size ≡ D.block_count disk.old }
+    requires fresh { log.old ≡ [] }
+    ensures does { (blocks : Blocks) (rest : List Bool) (t : Stage) → Tells (D.blocks disk.old) blocks →
+        CameTo (sync_from (world_of_store store.old).frames 0 0 (objects_of store.old) blocks (log.new ++ rest))
+            (objects_of store.new) (D.blocks disk.new) result.gave (comes_after result.next t) (length log.new) }
+    ensures queue { queue_of store.new ≡ queue_of store.old }
+    ensures ends { goes_on result.next ≡ false }
+    ensures failed { is_fault result.next ≡ true → has_failed log.new ≡ true }
+    ensures world { world_of_store store.new ≡ world_of_store store.old }
+    ensures sound { IsStore store.new }
+    ensures same_size { D.block_count disk.new ≡ D.block_count disk.old }
+    ensures calls { GoesOn (D.faults disk.old) (D.faults disk.new) (D.plan disk.old) (D.plan disk.new) log.old log.new }
+{
+    let mut written = 0;
+    for f in 0..store.setup.frames {
+        if let Some(b) = store.dirty_block(f) {
+            if write_back(store, disk, log, f, b).is_err() {
+                return came(Next::Fails(Refusal::DiskFault));
+            }
+            written += 1;
+        }
+    }
+    came(Next::Ends(Reply::One(written)))
+}
+
+/// Writes frame f, which holds block b and is dirty. It is clean then, unless the call of the disk fails.
+fn write_back<D: Disk>(store: &mut Store, disk: &mut D, log: &mut DiskLog, f: u8, b: u32) -> Result<(), Failed> {
+    let mut bytes = [0; BLOCK_BYTES];
+    store.copy_frame(f, &mut bytes);
+    log.write(disk, b, &bytes)?;
+    store.clean(f);
+    Ok(())
+}

@@ -1,0 +1,51 @@
+//! A write.
+
+ghost use Rattle.std.specs.Prelude.{◌≡◌, ℕ, ◌+◌, ◌<◌, ◌≤◌, true, false, List, Bool, [], ◌++◌, None, length};
+ghost use Rattle.kernel_model.specs.World.{Blocks};
+ghost use Rattle.kernel_model.specs.Meaning.{Stage};
+ghost use Rattle.kernel_model.specs.Policies.{lives};
+ghost use Rattle.kernel_model.specs.Needs.{file_block};
+ghost use Rattle.kernel_model.specs.FilePieces.{write_piece};
+ghost use Rattle.disk_log.specs.Calls.{Tells, GoesOn};
+ghost use Rattle.kernel_state.specs.Stores.{world_of_store, objects_of, queue_of, IsStore};
+ghost use Rattle.call_pieces.specs.Works.{comes_after};
+ghost use Rattle.call_pieces.specs.Coming.{CameTo, has_failed, is_fault, goes_on};
+
+use crate::fetch::fetch;
+use crate::{After, Next, came};
+use disk_log::DiskLog;
+use kernel_model::{Refusal, Reply};
+use kernel_state::Store;
+use vino_base::Disk;
+
+/// Process p writes bytes into block i of the file at descriptor fd, from a place in it on.
+pub(crate) fn write<D: Disk>(store: &mut Store, disk: &mut D, log: &mut DiskLog, p: u8, fd: u32, i: u32, off: u32, bytes: &[u8]) -> After
+    requires sound { IsStore store.old }
+    requires alive { lives (queue_of store.old) p ≡ true }
+    requires descriptor { fd < 4 }
+    requires inside { off + length bytes.now ≤ 512 }
+    requires disk { store.old.size ≡ D.block_count disk.old }
+    requires fresh { log.old ≡ [] }
+    ensures does { (blocks : Blocks) (rest : List Bool) (t : Stage) → Tells (D.blocks disk.old) blocks →
+        CameTo (write_piece (file_block (world_of_store store.old) ((objects_of store.old).things.file p fd) i off (length bytes.now)) (world_of_store store.old) (objects_of store.old) blocks p off bytes.now None (log.new ++ rest))
+            (objects_of store.new) (D.blocks disk.new) result.gave (comes_after result.next t) (length log.new) }
+    ensures queue { queue_of store.new ≡ queue_of store.old }
+    ensures ends { goes_on result.next ≡ false }
+    ensures failed { is_fault result.next ≡ true → has_failed log.new ≡ true }
+    ensures world { world_of_store store.new ≡ world_of_store store.old }
+    ensures sound { IsStore store.new }
+    ensures same_size { D.block_count disk.new ≡ D.block_count disk.old }
+    ensures calls { GoesOn (D.faults disk.old) (D.faults disk.new) (D.plan disk.old) (D.plan disk.new) log.old log.new }
+{
+    let b = match store.block_of(p, fd as u8, i, off, bytes.len() as u32) {
+        Ok(b) => b,
+        Err(refusal) => return came(Next::Fails(refusal)),
+    };
+    match fetch(store, disk, log, p, b) {
+        Ok(f) => {
+            store.patch(f, off, bytes);
+            came(Next::Ends(Reply::Plain))
+        }
+        Err(_) => came(Next::Fails(Refusal::DiskFault)),
+    }
+}

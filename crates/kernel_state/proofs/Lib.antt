@@ -1,0 +1,6 @@
+pub mod Memory
+pub mod CacheLaws
+pub mod Search
+pub mod Fits
+pub mod Blocks
+pub mod Queues

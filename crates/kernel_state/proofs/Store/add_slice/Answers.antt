@@ -1,0 +1,16 @@
+use Rattle.std.proofs.Common.{◌∙◌, ap, refl}
+use Rattle.kernel_model.specs.declared.QueueRow.{QueueRow}
+use Rattle.kernel_model.specs.Policies.{lives}
+use Rattle.process_table.specs.Processes.{Processes}
+use Rattle.kernel_state.specs.Stores.{world_of_store, objects_of}
+use Rattle.kernel_state.proofs.Queues.{lives_slice}
+use Rattle.kernel_state.proofs.Fits.{fits_same}
+use Rattle.kernel_state.proofs.Store.add_slice.Goals as goal
+
+pub returns-clause-living : goal.returns-clause-living
+returns-clause-living c = λ q. ap (λ (x : Processes). lives x.queue q) c.add_slice.ensures ∙ lives_slice c.args.p q c.args.self.now.procs.queue
+
+pub returns-clause-sound : goal.returns-clause-sound
+returns-clause-sound c =
+    let s = c.args.self.now in
+    fits_same s.cache.count (world_of_store s) (objects_of s).things _ c.requires.sound (ap (λ (x : Processes). x.file) c.add_slice.ensures) refl

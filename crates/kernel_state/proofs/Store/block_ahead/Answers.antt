@@ -1,0 +1,16 @@
+use Rattle.std.proofs.Common.{◌<◌, ◌+◌, arith}
+use Rattle.kernel_state.specs.Stores.{world_of_store}
+use Rattle.kernel_state.proofs.Blocks.{ahead_inside}
+use Rattle.kernel_state.proofs.Store.block_ahead.Goals as goal
+
+pub overflow_add-result : goal.overflow_add-result
+overflow_add-result c =
+    let s = c.args.self.now in
+    let row = c.file.result in
+    let inside = ahead_inside (world_of_store s) c.args.opened.now row c.requires.file c.file.ensures (c.requires.sound.directory c.args.opened.now.file row c.file.ensures) c.requires.some in
+    let most = c.requires.sound.most in omega arith
+
+pub returns-clause-on_disk : goal.returns-clause-on_disk
+returns-clause-on_disk c =
+    let s = c.args.self.now in
+    ahead_inside (world_of_store s) c.args.opened.now c.file.result c.requires.file c.file.ensures (c.requires.sound.directory c.args.opened.now.file c.file.result c.file.ensures) c.requires.some

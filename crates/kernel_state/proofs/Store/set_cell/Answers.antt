@@ -1,0 +1,10 @@
+use Rattle.std.proofs.Common.{ap, refl}
+use Rattle.process_table.specs.Processes.{Processes}
+use Rattle.kernel_state.specs.Stores.{world_of_store, objects_of}
+use Rattle.kernel_state.proofs.Fits.{fits_same}
+use Rattle.kernel_state.proofs.Store.set_cell.Goals as goal
+
+pub returns-clause-sound : goal.returns-clause-sound
+returns-clause-sound c =
+    let s = c.args.self.now in
+    fits_same s.cache.count (world_of_store s) (objects_of s).things _ c.requires.sound (ap (λ (x : Processes). x.file) c.set_cell.ensures) refl

@@ -1,0 +1,191 @@
+//! The cache of a store, with the bytes of its frames.
+
+ghost use Rattle.std.specs.Prelude.{◌≡◌, ℕ, ◌+◌, ◌*◌, ◌<◌, ◌≤◌, true, false, length, Some, None, IfSome, IfNone, slice_range, option_map};
+ghost use Rattle.kernel_model.specs.Objects.{FrameValue};
+ghost use Rattle.kernel_model.specs.Needs.{frame_of_block, free_frame};
+ghost use Rattle.kernel_model.specs.Policies.{lives, victim_among};
+ghost use Rattle.kernel_model.specs.Fetch.{used, filled, new_frame, replaced, with_patch, cleaned, bytes_of, dirty_value};
+ghost use Rattle.kernel_model.specs.FilePieces.{with_cache};
+ghost use Rattle.kernel_model.specs.Opening.{opening_policy};
+ghost use Rattle.buffer_cache.specs.Frames.{in_use};
+ghost use Rattle.kernel_state.specs.Stores.{world_of_store, objects_of, cache_of, queue_of, IsStore};
+
+use crate::Store;
+use kernel_model::{BLOCK_BYTES, Bytes};
+use ram_space::Ram;
+
+impl Store {
+    /// The frame that holds a block.
+    pub fn find(&self, block: u32) -> Option<u8>
+        ensures value { result ≡ frame_of_block (cache_of self.now) block }
+        ensures in_cache { IfSome result (λ f. in_use f self.now.cache ≡ true) }
+    {
+        self.cache.lru();
+        self.cache.find(block)
+    }
+
+    /// The lowest frame that isn't in use.
+    pub fn free(&self) -> Option<u8>
+        requires { IsStore self.now }
+        ensures value { result ≡ free_frame (cache_of self.now) (world_of_store self.now).frames 0 }
+        ensures below { IfSome result (λ f. f < self.now.cache.count) }
+        ensures full { IfNone result ((f : ℕ) → f < self.now.cache.count → in_use f self.now.cache ≡ true) }
+    {
+        self.cache.lru();
+        self.cache.free()
+    }
+
+    /// The candidate for eviction by default: the frame that was used the longest time ago.
+    pub fn candidate(&self) -> Option<u8>
+        ensures value { result ≡ victim_among (opening_policy 1) (cache_of self.now) (cache_of self.now).lru }
+        ensures in_cache { IfSome result (λ f. in_use f self.now.cache ≡ true) }
+        ensures none { IfNone result ((f : ℕ) → in_use f self.now.cache ≡ false) }
+    {
+        self.cache.lru().first().copied()
+    }
+
+    /// Whether frame f is in use.
+    pub fn is_used(&self, f: u8) -> bool
+        ensures { result ≡ in_use f self.now.cache }
+    {
+        self.cache.lru().contains(&f)
+    }
+
+    /// Makes frame f, which is in use, the newest.
+    pub fn touch(&mut self, f: u8)
+        requires sound { IsStore self.old }
+        requires in_cache { in_use f self.old.cache ≡ true }
+        ensures objects { objects_of self.new ≡ with_cache (used f (cache_of self.old)) (objects_of self.old) }
+        ensures world { world_of_store self.new ≡ world_of_store self.old }
+        ensures sound { IsStore self.new }
+        ensures kept { (g : ℕ) → in_use g self.new.cache ≡ in_use g self.old.cache }
+    {
+        self.cache.touch(f);
+    }
+
+    /// Fills frame f with a block that no frame holds: it is clean, has mark 0 and is the newest.
+    pub fn fill(&mut self, f: u8, owner: u8, block: u32, bytes: &[u8; 512])
+        requires sound { IsStore self.old }
+        requires frame { f < self.old.cache.count }
+        requires alive { lives (queue_of self.old) owner ≡ true }
+        requires block { block < self.old.size }
+        requires missing { frame_of_block (cache_of self.old) block ≡ None }
+        ensures objects { objects_of self.new ≡ with_cache (filled f (new_frame owner block bytes.now) (cache_of self.old)) (objects_of self.old) }
+        ensures world { world_of_store self.new ≡ world_of_store self.old }
+        ensures sound { IsStore self.new }
+        ensures in_cache { in_use f self.new.cache ≡ true }
+    {
+        self.procs.rows();
+        self.cache.lru();
+        whole(&self.ram);
+        self.cache.fill(&mut self.ram, f, owner, block, bytes);
+    }
+
+    /// Fills frame f, which is in use, with a block that no frame holds, once it changed places with the candidate.
+    pub fn replace(&mut self, f: u8, candidate: u8, owner: u8, block: u32, bytes: &[u8; 512])
+        requires sound { IsStore self.old }
+        requires frame { in_use f self.old.cache ≡ true }
+        requires candidate { in_use candidate self.old.cache ≡ true }
+        requires alive { lives (queue_of self.old) owner ≡ true }
+        requires block { block < self.old.size }
+        requires missing { frame_of_block (cache_of self.old) block ≡ None }
+        ensures objects { objects_of self.new ≡
+            with_cache (replaced f candidate (new_frame owner block bytes.now) (cache_of self.old)) (objects_of self.old) }
+        ensures world { world_of_store self.new ≡ world_of_store self.old }
+        ensures sound { IsStore self.new }
+        ensures in_cache { in_use f self.new.cache ≡ true }
+    {
+        self.procs.rows();
+        self.cache.lru();
+        whole(&self.ram);
+        self.cache.swap_places(f, candidate);
+        self.cache.lru();
+        self.cache.fill(&mut self.ram, f, owner, block, bytes);
+    }
+
+    /// Puts bytes into frame f, which is in use, from a place in it on. It is dirty then.
+    pub fn patch(&mut self, f: u8, off: u32, bytes: &[u8])
+        requires sound { IsStore self.old }
+        requires in_cache { in_use f self.old.cache ≡ true }
+        requires inside { off + length bytes.now ≤ 512 }
+        ensures objects { objects_of self.new ≡ with_cache (with_patch f off bytes.now (cache_of self.old)) (objects_of self.old) }
+        ensures world { world_of_store self.new ≡ world_of_store self.old }
+        ensures sound { IsStore self.new }
+    {
+        self.cache.lru();
+        whole(&self.ram);
+        self.cache.patch(&mut self.ram, f, off, bytes);
+    }
+
+    /// The block of frame f, where it is in use and dirty.
+    pub fn dirty_block(&self, f: u8) -> Option<u32>
+        requires { IsStore self.now }
+        ensures value { result ≡ option_map (λ (x : FrameValue). x.block) (dirty_value ((cache_of self.now).frame f)) }
+        ensures in_cache { IfSome result (λ b. (b < self.now.size) × (in_use f self.now.cache ≡ true)) }
+    {
+        if !self.is_used(f) {
+            return None;
+        }
+        let row = self.cache.row(f);
+        if row.dirty { Some(row.block) } else { None }
+    }
+
+    /// Frame f, which is in use, is clean.
+    pub fn clean(&mut self, f: u8)
+        requires sound { IsStore self.old }
+        requires in_cache { in_use f self.old.cache ≡ true }
+        ensures objects { (x : FrameValue) → (cache_of self.old).frame f ≡ Some x →
+            objects_of self.new ≡ with_cache (cleaned f x (cache_of self.old)) (objects_of self.old) }
+        ensures world { world_of_store self.new ≡ world_of_store self.old }
+        ensures sound { IsStore self.new }
+    {
+        self.cache.lru();
+        self.cache.clean(f);
+    }
+
+    /// Copies out the bytes of frame f, which is in use.
+    pub fn copy_frame(&self, f: u8, to: &mut [u8; 512])
+        requires { in_use f self.now.cache ≡ true }
+        ensures { to.new ≡ bytes_of (cache_of self.now) f }
+    {
+        self.cache.lru();
+        self.ram.copy_out(start_of(f), to);
+    }
+
+    /// Bytes off to off + len of frame f, which is in use.
+    pub fn bytes(&self, f: u8, off: u32, len: u32) -> Bytes
+        requires in_cache { in_use f self.now.cache ≡ true }
+        requires inside { off + len ≤ 512 }
+        ensures { result ≡ slice_range (bytes_of (cache_of self.now) f) off (off + len) }
+    {
+        let mut block = [0; BLOCK_BYTES];
+        self.copy_frame(f, &mut block);
+        bytes_from(&block[off as usize..(off + len) as usize])
+    }
+}
+
+/// The memory has the bytes of all frames.
+fn whole(ram: &Ram)
+    ensures { length ram.now ≡ 524288 }
+{
+    ram.byte(0);
+}
+
+/// Where a frame's bytes begin.
+fn start_of(f: u8) -> u32
+    ensures { result ≡ 512 * f }
+{
+    BLOCK_BYTES as u32 * u32::from(f)
+}
+
+/// At most 512 bytes as a list.
+fn bytes_from(from: &[u8]) -> Bytes
+    requires { length from.now ≤ 512 }
+    ensures { result ≡ from.now }
+{
+    let mut bytes = Bytes::new();
+    for byte in from {
+        let _ = bytes.push(*byte);
+    }
+    bytes
+}

@@ -1,0 +1,49 @@
+//! The kernel's state as one store: set-up, processes, cache, memory and the disk's directory.
+//!
+//! Contracts see a store as the objects and the world of the definitions, and each change of it as a change of objects.
+#![tactic(auto)]
+
+mod boot;
+mod cache;
+mod files;
+mod processes;
+
+use buffer_cache::Cache;
+use mem_disk::Directory;
+use process_table::Procs;
+use ram_space::Ram;
+
+/// What the set-up lines of a script set.
+#[derive(Clone, Copy)]
+pub struct Setup {
+    /// How many frames the cache has, 2 to 64.
+    pub frames: u8,
+    /// How many ticks a call waits for an object of each kind, 1 to 1,000.
+    pub patience: [u32; 8],
+    /// What process 0 has of each kind of amount at first.
+    pub grant: u32,
+}
+
+/// The kernel's state, but for the clock and the calls in flight.
+#[derive(Drop)]
+pub struct Store {
+    /// What the set-up lines set.
+    pub setup: Setup,
+    /// How many blocks the disk has.
+    pub size: u32,
+    /// The processes.
+    pub procs: Procs,
+    /// What each frame holds, and the order of use.
+    pub cache: Cache,
+    /// The bytes of the frames, from 0 on.
+    pub ram: Ram,
+    /// The files of the disk.
+    pub dir: Directory,
+}
+
+/// What a process is to read ahead: this many blocks of its file, from a block on.
+#[derive(Clone, Copy)]
+pub struct Ahead {
+    pub start: u32,
+    pub count: u8,
+}

@@ -1,0 +1,101 @@
+//! The queue and the cells of a store.
+
+ghost use Rattle.std.specs.Prelude.{◌≡◌, ℕ, ◌<◌, true, Some, None, IfSome};
+ghost use Rattle.kernel_model.specs.Needs.{free_process};
+ghost use Rattle.kernel_model.specs.Queue.{slices_of};
+ghost use Rattle.kernel_model.specs.Policies.{lives, next_process};
+ghost use Rattle.kernel_model.specs.Pieces.{with_queue, to_back as queue_to_back, add_slice as queue_with_slice};
+ghost use Rattle.kernel_model.specs.Objects.{with_things};
+ghost use Rattle.kernel_model.specs.Access.{set_cell as cell_set};
+ghost use Rattle.kernel_model.specs.Opening.{opening_policy};
+ghost use Rattle.kernel_state.specs.Stores.{world_of_store, objects_of, queue_of, queue_joined, IsStore};
+
+use crate::Store;
+use kernel_model::QueueRow;
+
+impl Store {
+    /// Whether process p lives.
+    pub fn living(&self, p: u32) -> bool
+        ensures value { result ≡ lives (queue_of self.now) p }
+        ensures number { result ≡ true → p < 16 }
+    {
+        is_among(self.procs.rows(), p)
+    }
+
+    /// The least number that isn't living joins at the back. None, with nothing changed, where 16 processes live.
+    pub fn spawn(&mut self) -> Option<u8>
+        requires { IsStore self.old }
+        ensures number { result ≡ free_process (queue_of self.old) 16 0 }
+        ensures objects { objects_of self.new ≡ with_queue (queue_joined result (queue_of self.old)) (objects_of self.old) }
+        ensures living { (q : ℕ) → lives (queue_of self.old) q ≡ true → lives (queue_of self.new) q ≡ true }
+        ensures world { world_of_store self.new ≡ world_of_store self.old }
+        ensures sound { IsStore self.new }
+    {
+        self.procs.spawn()
+    }
+
+    /// Process p goes to the back of the queue.
+    pub fn to_back(&mut self, p: u8)
+        requires sound { IsStore self.old }
+        requires lives { lives (queue_of self.old) p ≡ true }
+        ensures objects { objects_of self.new ≡ with_queue (queue_to_back p (queue_of self.old)) (objects_of self.old) }
+        ensures living { (q : ℕ) → lives (queue_of self.new) q ≡ lives (queue_of self.old) q }
+        ensures world { world_of_store self.new ≡ world_of_store self.old }
+        ensures sound { IsStore self.new }
+    {
+        self.procs.to_back(p);
+    }
+
+    /// The process that is next by default: the front of the queue.
+    pub fn next(&self) -> u8
+        ensures value { next_process (opening_policy 2) (queue_of self.now) ≡ Some result }
+        ensures lives { lives (queue_of self.now) result ≡ true }
+    {
+        match self.procs.rows().first() {
+            Some(row) => row.process,
+            None => unreachable!(),
+        }
+    }
+
+    /// Raises the slices of process p by one.
+    pub fn add_slice(&mut self, p: u8)
+        requires sound { IsStore self.old }
+        requires lives { lives (queue_of self.old) p ≡ true }
+        requires room { slices_of p (queue_of self.old) < 4294967295 }
+        ensures objects { objects_of self.new ≡ with_queue (queue_with_slice p (queue_of self.old)) (objects_of self.old) }
+        ensures living { (q : ℕ) → lives (queue_of self.new) q ≡ lives (queue_of self.old) q }
+        ensures world { world_of_store self.new ≡ world_of_store self.old }
+        ensures sound { IsStore self.new }
+    {
+        self.procs.add_slice(p);
+    }
+
+    /// Cell k of process p, which lives.
+    pub fn cell(&self, p: u8, k: u8) -> u32
+        requires lives { lives (queue_of self.now) p ≡ true }
+        requires number { k < 4 }
+        ensures { result ≡ (objects_of self.now).things.cell p k }
+    {
+        self.procs.rows();
+        self.procs.cell(p, k)
+    }
+
+    /// Changes cell k of process p, which lives.
+    pub fn set_cell(&mut self, p: u8, k: u8, v: u32)
+        requires sound { IsStore self.old }
+        requires lives { lives (queue_of self.old) p ≡ true }
+        requires number { k < 4 }
+        ensures objects { objects_of self.new ≡ with_things (cell_set p k v (objects_of self.old).things) (objects_of self.old) }
+        ensures world { world_of_store self.new ≡ world_of_store self.old }
+        ensures sound { IsStore self.new }
+    {
+        self.procs.set_cell(p, k, v);
+    }
+}
+
+/// Whether a process stands in the queue.
+fn is_among(rows: &[QueueRow], p: u32) -> bool
+    ensures { result ≡ lives rows.now p }
+{
+    rows.iter().any(|row| u32::from(row.process) == p)
+}
