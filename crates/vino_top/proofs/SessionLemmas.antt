@@ -22,7 +22,8 @@ use Rattle.kernel_model.specs.declared.Refusal.TheVariants.{DiskFault}
 use Rattle.kernel_model.specs.Text.{line, spaced, note_text, note_lines, boot_text}
 use Rattle.kernel_model.specs.Opening.{opening_kernel}
 use Rattle.vino_top.specs.Built.{present_build, is_built, is_built_event}
-use Rattle.vino_top.specs.Standing.{kernel_of, kernel_in, session_of, world_for, Happened, code_seen}
+use Rattle.vino_top.specs.Standing.{kernel_of, kernel_in, session_of, Happened, code_seen}
+use Rattle.kernel_state.specs.Stores.{world_for}
 use Rattle.vino_top.specs.Run.{place, line_run, StandsFor, Comes, RunsLine, RunsEntry}
 use Rattle.vino_top.specs.declared.kernel.Kernel.{Kernel}
 use Rattle.vino_top.specs.declared.session.Session.{Session}
@@ -61,7 +62,7 @@ event_runs size s k told told_new what io notes out booted built h text = λ key
 -- a session once the kernel began, with the directory of block 0
 pub boot_runs : (size : ℕ) (s t : Session) (told told_new : Option (List (List ℕ))) (directory : List (Option FileRow)) (block out : List ℕ) →
     ((blocks : Blocks) → Tells told blocks → Tells told_new blocks × (block ≡ blocks 0)) →
-    ((blocks : Blocks) → session_of blocks t ≡ record (session_of blocks s) { kernel = Some (opening_kernel (world_for size s.setup directory)) }) →
+    ((blocks : Blocks) → session_of blocks t ≡ record (session_of blocks s) { kernel = Some (opening_kernel (world_for s.setup size directory)) }) →
     directory ≡ directory_of size block → out ≡ line (boot_text s.setup.frames size (usable_count directory)) →
     RunsEntry size Boot s t told told_new (false ∷ []) out
 boot_runs size s t told told_new directory block out reads session is text = λ key a stands.
@@ -69,7 +70,7 @@ boot_runs size s t told told_new directory block out reads session is text = λ 
     let rows = is ∙ ap (directory_of size) read.1 in
     comes_of t told_new out s told a (λ x. after_built present_build key size x Boot (false ∷ []) true) stands (record {
       stands = record {
-        session = session a.blocks ∙ ap (λ d. record (session_of a.blocks s) { kernel = Some (opening_kernel (world_for size s.setup d)) }) rows;
+        session = session a.blocks ∙ ap (λ d. record (session_of a.blocks s) { kernel = Some (opening_kernel (world_for s.setup size d)) }) rows;
         blocks = read.0;
       };
       used = refl;
@@ -79,7 +80,7 @@ boot_runs size s t told told_new directory block out reads session is text = λ 
 -- a session once the kernel began, where block 0 couldn't be read
 pub boot_fails : (size : ℕ) (s t : Session) (told told_new : Option (List (List ℕ))) (out : List ℕ) →
     ((blocks : Blocks) → Tells told blocks → Tells told_new blocks) →
-    ((blocks : Blocks) → session_of blocks t ≡ record (session_of blocks s) { kernel = Some (opening_kernel (world_for size s.setup [])) }) →
+    ((blocks : Blocks) → session_of blocks t ≡ record (session_of blocks s) { kernel = Some (opening_kernel (world_for s.setup size [])) }) →
     out ≡ line (codes "0 E16") → RunsEntry size Boot s t told told_new (true ∷ []) out
 boot_fails size s t told told_new out keeps session text = λ key a stands.
     comes_of t told_new out s told a (λ x. after_built present_build key size x Boot (true ∷ []) true) stands (record {

@@ -1,20 +1,11 @@
 -- What of the product is built so far.
 use Rattle.std.specs.Prelude.{Bool, true, false}
-use Rattle.kernel_model.specs.declared.SysCall.{SysCall}
-use Rattle.kernel_model.specs.declared.SysCall.TheVariants.{Spawn, Yield, Poke, Peek}
+use Rattle.call_pieces.specs.Works.{is_built_call}
 use Rattle.kernel_model.specs.declared.Event.{Event}
 use Rattle.kernel_model.specs.declared.Event.TheVariants.{Tick, Step, Sys}
 use Rattle.kernel_model.specs.Script.{Entry, Blank, Frames, Boot, Happens}
 use Rattle.kernel_model.specs.Pieces.{plain}
 use Rattle.kernel_model.specs.Session.{Build}
-
--- the system calls that are built
-abbrev pub is_built_call : SysCall → Bool
-is_built_call Spawn = true
-is_built_call Yield = true
-is_built_call (Poke k v) = true
-is_built_call (Peek k) = true
-is_built_call _ = false
 
 -- the events that are built
 abbrev pub is_built_event : Event → Bool

@@ -1,229 +1,187 @@
-//! The clock and the processes: a kernel in which each call runs to its end at its own event.
+//! The clock and the store: a kernel in which each call runs to its end at its own event.
 
-ghost use Rattle.std.specs.Prelude.{◌≡◌, ℕ, ◌<◌, ◌≤◌, ◌^◌, ◌-◌, true, false, [], ◌∷◌};
-ghost use Rattle.std.specs.Option.{IfSome, IfNone};
-ghost use Rattle.vino_base.specs.Calls.{Plan};
-ghost use Rattle.disk_log.specs.Calls.{GoesOn};
-ghost use Rattle.kernel_model.specs.Queue.{is_living, free_number, queue_to_back, with_slice};
-ghost use Rattle.process_table.specs.Processes.{processes_of, spawned};
-ghost use Rattle.kernel_model.specs.declared.SysCall.TheVariants.{Spawn, Yield, Poke, Peek};
+ghost use Rattle.std.specs.Prelude.{◌≡◌, ℕ, ◌+◌, ◌*◌, ◌<◌, ◌≤◌, ◌^◌, ◌-◌, ◌++◌, true, false, [], ◌∷◌, length, drop, Some, None, slice_index_or};
+ghost use Rattle.kernel_model.specs.declared.FileRow.{FileRow as Row};
+ghost use Rattle.kernel_model.specs.declared.Event.TheVariants.{Sys};
+ghost use Rattle.kernel_model.specs.declared.Note.TheVariants.{Ticked};
+ghost use Rattle.kernel_model.specs.Directory.{lies_on_disk};
 ghost use Rattle.kernel_model.specs.Opening.{opening_kernel};
-ghost use Rattle.kernel_model.specs.declared.Event.TheVariants.{Tick, Sys};
-ghost use Rattle.vino_top.specs.Built.{is_built_event, is_built_call};
-ghost use Rattle.vino_top.specs.Standing.{kernel_of, world_for, Happened};
+ghost use Rattle.kernel_model.specs.Pieces.{pieces_left};
+ghost use Rattle.disk_log.specs.Calls.{GoesOn};
+ghost use Rattle.kernel_state.specs.Stores.{world_for, world_of_store, objects_of, queue_of, IsStore};
+ghost use Rattle.call_pieces.specs.Works.{is_built_call, stage_of, IsReady};
+ghost use Rattle.vino_top.specs.Built.{is_built_event};
+ghost use Rattle.vino_top.specs.Standing.{kernel_of, Happened, CallRan};
 ghost use Rattle.vino_top.specs.Bounds.{IsKernelWithin, slices_within};
-ghost use Rattle.vino_top.specs.Standing.{answers_so, front_of};
 
 use crate::notes::Notes;
+use call_pieces::{Next, Work, early, piece};
 use disk_log::DiskLog;
-use kernel_model::{Event, Note, QueueRow, Refusal, Reply, SysCall};
+use kernel_model::{Event, Note, Refusal, SysCall};
+use kernel_state::{Setup, Store};
 use mem_disk::Directory;
-use process_table::Procs;
+use ram_space::Ram;
 use vino_base::Disk;
 
-/// What the set-up lines of a script set.
-#[derive(Clone, Copy)]
-pub struct Setup {
-    /// How many frames the cache has, 2 to 64.
-    pub frames: u8,
-    /// How many ticks a call waits for an object of each kind, 1 to 1,000.
-    pub patience: [u32; 8],
-    /// What process 0 has of each kind of amount at first.
-    pub grant: u32,
-}
+/// The most pieces of one call: those of a read.
+const PIECES: u32 = 10;
 
-/// The clock and the processes.
+/// The clock and the store.
 #[derive(Drop)]
 pub struct Kernel {
-    pub setup: Setup,
-    pub size: u32,
-    pub directory: Directory,
+    pub store: Store,
     pub clock: u32,
-    pub procs: Procs,
+}
+
+/// The calls of the disk: those of an event, and those of the piece that runs.
+#[derive(Drop)]
+pub struct Logs {
+    pub event: DiskLog,
+    pub piece: DiskLog,
 }
 
 impl Kernel {
-    /// A kernel before boot.
-    pub fn new(setup: Setup) -> Kernel
+    /// A kernel before boot, with its memory.
+    pub fn new(setup: Setup, ram: Ram) -> Kernel
+        requires frames_least { 2 ≤ setup.frames }
+        requires frames_most { setup.frames ≤ 64 }
         ensures within { (most : ℕ) → IsKernelWithin most result }
     {
         Kernel {
-            setup,
-            size: 1,
-            directory: Directory::empty(),
+            store: Store::new(setup, 1, Directory::empty(), ram),
             clock: 0,
-            procs: Procs::new(),
         }
     }
 
     /// Begins again, after `boot`.
-    pub fn boot(&mut self, setup: Setup, size: u32, directory: Directory)
-        ensures value { kernel_of self.new ≡ opening_kernel (world_for size setup directory) }
+    pub fn boot(&mut self, setup: Setup, size: u32, dir: Directory)
+        requires frames_least { 2 ≤ setup.frames }
+        requires frames_most { setup.frames ≤ 64 }
+        requires size_least { 1 ≤ size }
+        requires size_most { size ≤ 4096 }
+        requires files { (n : ℕ) (r : Row) → slice_index_or dir n None ≡ Some r → lies_on_disk size r ≡ true }
+        ensures value { kernel_of self.new ≡ opening_kernel (world_for setup size dir) }
         ensures within { (most : ℕ) → IsKernelWithin most self.new }
+        ensures size { self.new.store.size ≡ size }
     {
-        self.setup = setup;
-        self.size = size;
-        self.directory = directory;
+        self.store.restart(setup, size, dir);
         self.clock = 0;
-        self.procs = Procs::new();
     }
 
-    /// One event, which has this number. Its notes are left behind.
+    /// One event, which has this number. Its notes and its calls of the disk are left behind.
     pub fn event<D: Disk>(
         &mut self,
         number: u32,
-        what: &Event,
+        what: Event,
         disk: &mut D,
-        log: &mut DiskLog,
+        logs: &mut Logs,
         notes: &mut Notes,
     )
-        requires built { is_built_event what.now ≡ true }
+        requires built { is_built_event what ≡ true }
         requires first { 0 < number }
         requires room { number < 2 ^ 32 - 1 }
         requires within { IsKernelWithin (number - 1) self.old }
-        requires no_calls { log.old ≡ [] }
+        requires disk { self.old.store.size ≡ D.block_count disk.old }
+        requires no_calls { logs.old.event ≡ [] }
         requires no_notes { notes.old ≡ [] }
-        ensures happened { Happened self.old self.new (D.blocks disk.old) (D.blocks disk.new) number what.now log.new notes.new }
+        ensures happened { Happened self.old self.new (D.blocks disk.old) (D.blocks disk.new) number what logs.new.event notes.new }
         ensures within { IsKernelWithin number self.new }
-        ensures calls { GoesOn (D.faults disk.old) (D.faults disk.new) (D.plan disk.old) (D.plan disk.new) log.old log.new }
+        ensures size { self.new.store.size ≡ self.old.store.size }
+        ensures calls { GoesOn (D.faults disk.old) (D.faults disk.new) (D.plan disk.old) (D.plan disk.new) logs.old.event logs.new.event }
         ensures same_size { D.block_count disk.new ≡ D.block_count disk.old }
     {
-        let note = self.answer(number, what);
-        notes.push(note);
-    }
-
-    fn answer(&mut self, number: u32, what: &Event) -> Note
-        requires built { is_built_event what.now ≡ true }
-        requires first { 0 < number }
-        requires room { number < 2 ^ 32 - 1 }
-        requires within { IsKernelWithin (number - 1) self.old }
-        ensures answer { answers_so number what.now self.old self.new result }
-        ensures within { IsKernelWithin number self.new }
-    {
         match what {
-            Event::Tick => self.tick(number),
-            Event::Sys(p, call) => self.system(number, *p, call),
+            Event::Tick => self.tick(number, notes),
+            Event::Sys(p, call) => self.system(number, p, call, disk, logs, notes),
             Event::Step(..) => unreachable!(),
         }
     }
 }
 
 impl Kernel {
-    fn tick(&mut self, number: u32) -> Note
+    fn tick(&mut self, number: u32, notes: &mut Notes)
         requires first { 0 < number }
         requires room { number < 2 ^ 32 - 1 }
         requires within { IsKernelWithin (number - 1) self.old }
-        ensures answer { answers_so number Tick self.old self.new result }
+        requires no_notes { notes.old ≡ [] }
+        ensures store { self.new.store ≡ self.old.store }
+        ensures clock { self.new.clock ≡ self.old.clock + 1 }
+        ensures notes { notes.new ≡ Ticked number (self.old.clock + 1) ∷ [] }
         ensures within { IsKernelWithin number self.new }
     {
         self.clock += 1;
-        Note::Ticked(number, self.clock)
+        notes.push(Note::Ticked(number, self.clock));
     }
 
-    fn system(&mut self, number: u32, p: u32, call: &SysCall) -> Note
-        requires built { is_built_call call.now ≡ true }
+    fn system<D: Disk>(
+        &mut self,
+        number: u32,
+        p: u32,
+        call: SysCall,
+        disk: &mut D,
+        logs: &mut Logs,
+        notes: &mut Notes,
+    )
+        requires built { is_built_call call ≡ true }
         requires first { 0 < number }
         requires room { number < 2 ^ 32 - 1 }
         requires within { IsKernelWithin (number - 1) self.old }
-        ensures answer { answers_so number (Sys p call.now) self.old self.new result }
+        requires disk { self.old.store.size ≡ D.block_count disk.old }
+        requires no_calls { logs.old.event ≡ [] }
+        requires no_notes { notes.old ≡ [] }
+        ensures happened { Happened self.old self.new (D.blocks disk.old) (D.blocks disk.new) number (Sys p call) logs.new.event notes.new }
         ensures within { IsKernelWithin number self.new }
+        ensures size { self.new.store.size ≡ self.old.store.size }
+        ensures calls { GoesOn (D.faults disk.old) (D.faults disk.new) (D.plan disk.old) (D.plan disk.new) logs.old.event logs.new.event }
+        ensures same_size { D.block_count disk.new ≡ D.block_count disk.old }
     {
-        let Some(q) = self.living(p) else {
-            return Note::Refused(number, Refusal::NoProcess);
-        };
-        match call {
-            SysCall::Spawn => self.spawn(number, q),
-            SysCall::Yield => self.delegate(number, q),
-            SysCall::Poke(k, v) => self.poke(number, q, *k, *v),
-            SysCall::Peek(k) => self.peek(number, q, *k),
-            _ => unreachable!(),
+        if !self.store.living(p) {
+            return notes.push(Note::Refused(number, Refusal::NoProcess));
+        }
+        match early(&self.store, p as u8, call) {
+            Err(refusal) => notes.push(Note::Refused(number, refusal)),
+            Ok(work) => self.run(number, work, PIECES, disk, logs, notes),
         }
     }
 
-    /// The process of this number, if it lives.
-    fn living(&self, p: u32) -> Option<u8>
-        ensures some { IfSome result (λ q. (q ≡ p) × (q < 16) × (is_living p self.now.procs.queue ≡ true)) }
-        ensures none { IfNone result (is_living p self.now.procs.queue ≡ false) }
-    {
-        if is_among(self.procs.rows(), p) {
-            Some(p as u8)
-        } else {
-            None
-        }
-    }
-
-    fn spawn(&mut self, number: u32, p: u8) -> Note
-        requires lives { is_living p self.old.procs.queue ≡ true }
-        ensures answer { answers_so number (Sys p Spawn) self.old self.new result }
-        ensures clock { self.new.clock ≡ self.old.clock }
-        ensures queue { self.new.procs.queue ≡ (spawned (free_number self.old.procs.queue 16 0) (processes_of self.old.procs)).queue }
-    {
-        match self.procs.spawn() {
-            Some(c) => Note::Ended(number, Reply::One(u32::from(c))),
-            None => Note::Refused(number, Refusal::Full),
-        }
-    }
-
-    fn delegate(&mut self, number: u32, p: u8) -> Note
-        requires lives { is_living p self.old.procs.queue ≡ true }
+    /// At most so many pieces of a call, to its end.
+    fn run<D: Disk>(
+        &mut self,
+        number: u32,
+        mut work: Work,
+        turns: u32,
+        disk: &mut D,
+        logs: &mut Logs,
+        notes: &mut Notes,
+    )
+        requires first { 0 < number }
         requires room { number < 2 ^ 32 - 1 }
-        requires within { slices_within (number - 1) self.old.procs.queue ≡ true }
-        ensures answer { answers_so number (Sys p Yield) self.old self.new result }
+        requires within { IsKernelWithin (number - 1) self.old }
+        requires ready { IsReady work self.old.store }
+        requires left { pieces_left work.call work.piece (objects_of self.old.store).things work.caller ≤ turns }
+        requires few { turns ≤ PIECES }
+        requires log_room { length logs.old.event + 64 * turns ≤ 16384 }
+        requires notes_room { length notes.old + turns < 16 }
+        requires disk { self.old.store.size ≡ D.block_count disk.old }
+        ensures ran { CallRan turns work.caller number (stage_of work) (world_of_store self.old.store) (objects_of self.old.store) (objects_of self.new.store) self.old.clock
+            notes.old notes.new (D.blocks disk.old) (D.blocks disk.new) (drop (length logs.old.event) logs.new.event) }
+        ensures grown { logs.new.event ≡ logs.old.event ++ drop (length logs.old.event) logs.new.event }
+        ensures within { IsKernelWithin number self.new }
+        ensures world { world_of_store self.new.store ≡ world_of_store self.old.store }
         ensures clock { self.new.clock ≡ self.old.clock }
-        ensures queue { self.new.procs.queue ≡ with_slice (front_of (queue_to_back p self.old.procs.queue)) (queue_to_back p self.old.procs.queue) }
+        ensures calls { GoesOn (D.faults disk.old) (D.faults disk.new) (D.plan disk.old) (D.plan disk.new) logs.old.event logs.new.event }
+        ensures same_size { D.block_count disk.new ≡ D.block_count disk.old }
     {
-        self.procs.to_back(p);
-        let front = front(self.procs.rows());
-        self.procs.add_slice(front);
-        Note::Ended(number, Reply::One(u32::from(front)))
+        logs.piece.clear();
+        let after = piece(&mut work, &mut self.store, disk, &mut logs.piece);
+        logs.event.append(&logs.piece);
+        if let Some(bytes) = after.gave {
+            notes.push(Note::Gave(number, bytes));
+        }
+        match after.next {
+            Next::Goes => self.run(number, work, turns - 1, disk, logs, notes),
+            Next::Ends(reply) => notes.push(Note::Ended(number, reply)),
+            Next::Fails(refusal) => notes.push(Note::Refused(number, refusal)),
+        }
     }
-
-    fn poke(&mut self, number: u32, p: u8, k: u32, v: u32) -> Note
-        requires lives { is_living p self.old.procs.queue ≡ true }
-        ensures answer { answers_so number (Sys p (Poke k v)) self.old self.new result }
-        ensures clock { self.new.clock ≡ self.old.clock }
-        ensures queue { self.new.procs.queue ≡ self.old.procs.queue }
-    {
-        let Some(cell) = cell_number(k) else {
-            return Note::Refused(number, Refusal::BadIndex);
-        };
-        self.procs.set_cell(p, cell, v);
-        Note::Ended(number, Reply::Plain)
-    }
-
-    fn peek(&self, number: u32, p: u8, k: u32) -> Note
-        requires process { p < 16 }
-        requires lives { is_living p self.now.procs.queue ≡ true }
-        ensures { answers_so number (Sys p (Peek k)) self.now self.now result }
-    {
-        let Some(cell) = cell_number(k) else {
-            return Note::Refused(number, Refusal::BadIndex);
-        };
-        Note::Ended(number, Reply::One(self.procs.cell(p, cell)))
-    }
-}
-
-/// Whether a process stands in the queue.
-fn is_among(rows: &[QueueRow], p: u32) -> bool
-    ensures { result ≡ is_living p rows.now }
-{
-    rows.iter().any(|row| u32::from(row.process) == p)
-}
-
-/// The process at the front of the queue.
-fn front(rows: &[QueueRow]) -> u8
-    ensures { result ≡ front_of rows.now }
-{
-    match rows.first() {
-        Some(row) => row.process,
-        None => 0,
-    }
-}
-
-/// The cell of this number, if there is one.
-fn cell_number(k: u32) -> Option<u8>
-    ensures some { IfSome result (λ c. (c ≡ k) × (c < 4)) }
-    ensures none { IfNone result (3 < k) }
-{
-    if k < 4 { u8::try_from(k).ok() } else { None }
 }

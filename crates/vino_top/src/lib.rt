@@ -113,7 +113,7 @@ fn start<S: Source, K: Sink, D: Disk>(
 ) -> u8
     requires session { (size : ℕ) (blocks : Blocks) → session_of blocks reader.session ≡ first_session (record { size = size; block = blocks }) }
     requires first { (reader.session.lines ≡ 0) × (reader.session.refused ≡ false) }
-    requires within { IsSessionWithin reader.session }
+    requires within { (size : ℕ) → IsSessionWithin size reader.session }
     requires line { reader.line ≡ [] }
     ensures ran { result ≢ 4 → result ≢ 5 → Ran (D.block_count disk.old) (S.rest src.old) (S.rest src.new) (S.faults src.old) (S.faults src.new) (K.got out.old) (K.got out.new)
         (disk_seen (D.blocks disk.old) (D.plan disk.old) (D.faults disk.old)) (disk_seen (D.blocks disk.new) (D.plan disk.new) (D.faults disk.new)) result }

@@ -43,13 +43,13 @@ pub struct Reader {
 impl Reader {
     /// Before the first byte.
     pub fn new(alloc: Global) -> Result<Reader, NoMemory>
-        ensures within { IfOk result (λ r. IsSessionWithin r.session) }
+        ensures within { IfOk result (λ r. (size : ℕ) → IsSessionWithin size r.session) }
         ensures first { IfOk result (λ r. (r.session.lines ≡ 0) × (r.session.refused ≡ false)) }
         ensures session { IfOk result (λ r. (size : ℕ) (blocks : Blocks) → session_of blocks r.session ≡ first_session (record { size = size; block = blocks })) }
         ensures line { IfOk result (λ r. r.line ≡ []) }
     {
         Ok(Reader {
-            session: Session::new(),
+            session: Session::new(alloc)?,
             line: LineBuf::new(alloc)?,
             out: Buffers::new(alloc)?,
         })
@@ -88,10 +88,10 @@ fn end_line<K: Sink, D: Disk>(
     disk: &mut D,
 ) -> Result<(), Stop>
     requires lines { reader.old.session.lines < 2 ^ 32 - 2 }
-    requires within { IsSessionWithin reader.old.session }
+    requires within { IsSessionWithin size reader.old.session }
     requires short { length reader.old.line ≤ LINE_BYTES }
     requires disk { D.block_count disk.old ≡ size }
-    ensures within { IsSessionWithin reader.new.session }
+    ensures within { IsSessionWithin size reader.new.session }
     ensures line { OnOk result (reader.new.line ≡ []) }
     ensures contents { MatchResult result
         (λ _. TakesLine size reader.old.line reader.old.session reader.new.session (K.got out.old) (K.got out.new)
@@ -115,9 +115,8 @@ fn end_line<K: Sink, D: Disk>(
 /// The line is too long with this byte.
 fn end_long<K: Sink>(reader: &mut Reader, byte: u8, out: &mut K) -> Result<(), Stop>
     requires lines { reader.old.session.lines < 2 ^ 32 - 2 }
-    requires within { IsSessionWithin reader.old.session }
     requires long { length reader.old.line ≡ LINE_BYTES }
-    ensures within { IsSessionWithin reader.new.session }
+    ensures within { (size : ℕ) → IsSessionWithin size reader.old.session → IsSessionWithin size reader.new.session }
     ensures line { OnOk result (reader.new.line ≡ []) }
     ensures contents { (size : ℕ) (d : DiskSeen) → MatchResult result
         (λ _. TakesLine size (reader.old.line ++ byte ∷ []) reader.old.session reader.new.session (K.got out.old) (K.got out.new) d d)
@@ -140,10 +139,10 @@ fn take_byte<K: Sink, D: Disk>(
     disk: &mut D,
 ) -> Result<(), Stop>
     requires lines { reader.old.session.lines < 2 ^ 32 - 2 }
-    requires within { IsSessionWithin reader.old.session }
+    requires within { IsSessionWithin size reader.old.session }
     requires short { length reader.old.line ≤ LINE_BYTES }
     requires disk { D.block_count disk.old ≡ size }
-    ensures within { IsSessionWithin reader.new.session }
+    ensures within { IsSessionWithin size reader.new.session }
     ensures contents { MatchResult result
         (λ _. Feeds size reader.old.session reader.new.session reader.old.line reader.new.line (byte ∷ []) (K.got out.old) (K.got out.new)
         (disk_seen (D.blocks disk.old) (D.plan disk.old) (D.faults disk.old)) (disk_seen (D.blocks disk.new) (D.plan disk.new) (D.faults disk.new)))
@@ -170,10 +169,10 @@ fn feed<K: Sink, D: Disk>(
     disk: &mut D,
 ) -> Result<(), Stop>
     requires lines { reader.old.session.lines + length bytes.now < 2 ^ 32 - 2 }
-    requires within { IsSessionWithin reader.old.session }
+    requires within { IsSessionWithin size reader.old.session }
     requires short { length reader.old.line ≤ LINE_BYTES }
     requires disk { D.block_count disk.old ≡ size }
-    ensures within { IsSessionWithin reader.new.session }
+    ensures within { IsSessionWithin size reader.new.session }
     ensures contents { MatchResult result
         (λ _. Feeds size reader.old.session reader.new.session reader.old.line reader.new.line bytes.now (K.got out.old) (K.got out.new)
         (disk_seen (D.blocks disk.old) (D.plan disk.old) (D.faults disk.old)) (disk_seen (D.blocks disk.new) (D.plan disk.new) (D.faults disk.new)))
@@ -232,7 +231,7 @@ pub fn run<S: Source, K: Sink, D: Disk>(
 ) -> u8
     requires session { (blocks : Blocks) → session_of blocks reader.old.session ≡ first_session (record { size = D.block_count disk.old; block = blocks }) }
     requires first { (reader.old.session.lines ≡ 0) × (reader.old.session.refused ≡ false) }
-    requires within { IsSessionWithin reader.old.session }
+    requires within { IsSessionWithin (D.block_count disk.old) reader.old.session }
     requires line { reader.old.line ≡ [] }
     requires room { 0 < length buf.old }
     ensures ran { result ≢ 4 → result ≢ 5 → Ran (D.block_count disk.old) (S.rest src.old) (S.rest src.new) (S.faults src.old) (S.faults src.new) (K.got out.old) (K.got out.new)

@@ -1,23 +1,29 @@
 //! How a script runs, line by line.
 
-ghost use Rattle.std.specs.Prelude.{◌≡◌, ℕ, ◌+◌, ◌<◌, ◌≤◌, ◌-◌, ◌++◌, ◌^◌, true, false, List, [], length, codes, decimal, Option, Some, IfOk, OnOk, OnErr};
+ghost use Rattle.std.specs.Prelude.{◌≡◌, ℕ, ◌+◌, ◌<◌, ◌≤◌, ◌-◌, ◌++◌, ◌^◌, true, false, List, [], length, codes, decimal, Option, Some, None, Ok, IfOk, OnOk, OnErr, slice_index_or};
 ghost use Rattle.kernel_model.specs.Text.{line, spaced};
 ghost use Rattle.kernel_model.specs.Script.{Happens, Boot};
 ghost use Rattle.kernel_model.specs.World.{Blocks};
 ghost use Rattle.kernel_model.specs.Session.{first_session};
 ghost use Rattle.disk_log.specs.Calls.{GoesOn, Made};
-ghost use Rattle.script_text.specs.Answers.{entry_seen};
+ghost use Rattle.script_text.specs.Answers.{entry_seen, SetsWithin};
 ghost use Rattle.vino_top.specs.Bounds.{IsSessionWithin};
-ghost use Rattle.vino_top.specs.Built.{is_built_event, is_built_call as built_call};
-ghost use Rattle.vino_top.specs.Standing.{session_of, world_for, code_seen};
+ghost use Rattle.vino_top.specs.Built.{is_built_event};
+ghost use Rattle.call_pieces.specs.Works.{is_built_call as built_call};
+ghost use Rattle.kernel_state.specs.Stores.{world_for};
+ghost use Rattle.kernel_model.specs.declared.FileRow.{FileRow as Row};
+ghost use Rattle.kernel_model.specs.Directory.{lies_on_disk};
+ghost use Rattle.vino_top.specs.Standing.{session_of, code_seen};
 ghost use Rattle.kernel_model.specs.Opening.{opening_kernel};
 ghost use Rattle.vino_top.specs.Run.{IsImageLine, RunsLine, RunsEntry, disk_seen};
 
-use crate::kernel::{Kernel, Setup};
+use crate::kernel::{Kernel, Logs};
 use crate::notes::{Lines, Notes};
 use disk_log::DiskLog;
 use kernel_model::{Event, NoMemory, Note, Refusal, SysCall};
+use kernel_state::Setup;
 use mem_disk::{Directory, read_directory};
+use ram_space::Ram;
 use script_text::{Entry, ScriptFault, Text, parse_line, print_boot, print_fault, print_note};
 use std::alloc::Global;
 use vino_base::Disk;
@@ -26,7 +32,7 @@ use vino_base::Disk;
 /// taken once, before the first line.
 #[derive(Drop)]
 pub struct Buffers {
-    pub log: DiskLog,
+    pub logs: Logs,
     pub notes: Notes,
     pub text: Text,
     pub lines: Lines,
@@ -36,7 +42,10 @@ impl Buffers {
     /// Empty ones.
     pub fn new(alloc: Global) -> Result<Buffers, NoMemory> {
         Ok(Buffers {
-            log: DiskLog::new(),
+            logs: Logs {
+                event: DiskLog::new(),
+                piece: DiskLog::new(),
+            },
             notes: Notes::new(alloc)?,
             text: Text::new(),
             lines: Lines::new(),
@@ -45,11 +54,11 @@ impl Buffers {
 
     /// Forgets what the last line left.
     fn clear(&mut self)
-        ensures log { self.new.log ≡ [] }
+        ensures log { self.new.logs.event ≡ [] }
         ensures notes { self.new.notes ≡ [] }
         ensures lines { self.new.lines ≡ [] }
     {
-        self.log.clear();
+        self.logs.event.clear();
         self.notes.clear();
         self.lines.clear();
     }
@@ -74,23 +83,26 @@ pub struct Session {
 
 impl Session {
     /// Before the first line.
-    pub fn new() -> Session
-        ensures within { IsSessionWithin result }
-        ensures first { (result.lines ≡ 0) × (result.refused ≡ false) }
-        ensures value { (size : ℕ) (blocks : Blocks) → session_of blocks result ≡ first_session (record { size = size; block = blocks }) }
+    pub fn new(alloc: Global) -> Result<Session, NoMemory>
+        ensures within { IfOk result (λ s. (size : ℕ) → IsSessionWithin size s) }
+        ensures first { IfOk result (λ s. (s.lines ≡ 0) × (s.refused ≡ false)) }
+        ensures value { IfOk result (λ s. (size : ℕ) (blocks : Blocks) → session_of blocks s ≡ first_session (record { size = size; block = blocks })) }
     {
         let setup = Setup {
             frames: 8,
             patience: [10; 8],
             grant: 1_000_000,
         };
-        Session {
-            setup,
-            booted: false,
-            kernel: Kernel::new(setup),
-            lines: 0,
-            events: 0,
-            refused: false,
+        match Ram::new(alloc) {
+            Err(_) => Err(NoMemory),
+            Ok(ram) => Ok(Session {
+                setup,
+                booted: false,
+                kernel: Kernel::new(setup, ram),
+                lines: 0,
+                events: 0,
+                refused: false,
+            }),
         }
     }
 
@@ -106,14 +118,14 @@ impl Session {
         out: &mut Buffers,
     ) -> Result<(), NoMemory>
         requires room { self.old.lines < 2 ^ 32 - 2 }
-        requires within { IsSessionWithin self.old }
+        requires within { IsSessionWithin size self.old }
         requires short { length text.now ≤ 65536 }
         requires disk { D.block_count disk.old ≡ size }
-        ensures within { IsSessionWithin self.new }
+        ensures within { IsSessionWithin size self.new }
         ensures counted { self.new.lines ≤ self.old.lines + 1 }
         ensures same_size { D.block_count disk.new ≡ size }
-        ensures ok { OnOk result (RunsLine size text.now self.old self.new (D.blocks disk.old) (D.blocks disk.new) out.new.log out.new.lines) }
-        ensures calls { OnOk result (Made (D.faults disk.old) (D.faults disk.new) (D.plan disk.old) (D.plan disk.new) out.new.log) }
+        ensures ok { OnOk result (RunsLine size text.now self.old self.new (D.blocks disk.old) (D.blocks disk.new) out.new.logs.event out.new.lines) }
+        ensures calls { OnOk result (Made (D.faults disk.old) (D.faults disk.new) (D.plan disk.old) (D.plan disk.new) out.new.logs.event) }
         ensures err { OnErr result ((self.new ≡ self.old) × IsImageLine text.now × (self.old.refused ≡ false)) }
         ensures same_disk { OnErr result (disk_seen (D.blocks disk.new) (D.plan disk.new) (D.faults disk.new) ≡ disk_seen (D.blocks disk.old) (D.plan disk.old) (D.faults disk.old)) }
     {
@@ -131,7 +143,7 @@ impl Session {
             }
             Ok(entry) => {
                 self.lines += 1;
-                self.run_entry(&entry, size, disk, out);
+                self.run_entry(entry, size, disk, out);
             }
         }
         Ok(())
@@ -140,10 +152,9 @@ impl Session {
     /// Takes a line that is longer than a line may be.
     pub fn refuse_long(&mut self, out: &mut Buffers)
         requires room { self.old.lines < 2 ^ 32 - 2 }
-        requires within { IsSessionWithin self.old }
-        ensures within { IsSessionWithin self.new }
+        ensures within { (size : ℕ) → IsSessionWithin size self.old → IsSessionWithin size self.new }
         ensures counted { self.new.lines ≤ self.old.lines + 1 }
-        ensures no_calls { out.new.log ≡ [] }
+        ensures no_calls { out.new.logs.event ≡ [] }
         ensures runs { (size : ℕ) (text : List ℕ) (told : Option (List (List ℕ))) → 65536 < length text →
             RunsLine size text self.old self.new told told [] out.new.lines }
     {
@@ -160,7 +171,7 @@ impl Session {
         requires empty { out.old.lines ≡ [] }
         ensures state { self.new ≡ record self.old { refused = true } }
         ensures text { out.new.lines ≡ line (codes "script" ++ spaced self.old.lines ++ codes " S" ++ decimal code) }
-        ensures no_calls { out.new.log ≡ out.old.log }
+        ensures no_calls { out.new.logs.event ≡ out.old.logs.event }
     {
         self.refused = true;
         print_fault(self.lines, code, &mut out.text);
@@ -168,23 +179,24 @@ impl Session {
     }
 
     /// Runs an entry of the line that was counted.
-    fn run_entry<D: Disk>(&mut self, entry: &Entry, size: u32, disk: &mut D, out: &mut Buffers)
+    fn run_entry<D: Disk>(&mut self, entry: Entry, size: u32, disk: &mut D, out: &mut Buffers)
         requires room { self.old.lines < 2 ^ 32 - 1 }
         requires fresh { self.old.events < self.old.lines }
-        requires within { IsSessionWithin self.old }
+        requires within { IsSessionWithin size self.old }
         requires disk { D.block_count disk.old ≡ size }
-        requires no_calls { out.old.log ≡ [] }
+        requires limits { SetsWithin (Ok entry) }
+        requires no_calls { out.old.logs.event ≡ [] }
         requires no_notes { out.old.notes ≡ [] }
         requires empty { out.old.lines ≡ [] }
-        ensures within { IsSessionWithin self.new }
+        ensures within { IsSessionWithin size self.new }
         ensures counted { self.new.lines ≡ self.old.lines }
         ensures same_size { D.block_count disk.new ≡ size }
-        ensures runs { RunsEntry size (entry_seen entry.now) self.old self.new (D.blocks disk.old) (D.blocks disk.new) out.new.log out.new.lines }
-        ensures calls { GoesOn (D.faults disk.old) (D.faults disk.new) (D.plan disk.old) (D.plan disk.new) out.old.log out.new.log }
+        ensures runs { RunsEntry size (entry_seen entry) self.old self.new (D.blocks disk.old) (D.blocks disk.new) out.new.logs.event out.new.lines }
+        ensures calls { GoesOn (D.faults disk.old) (D.faults disk.new) (D.plan disk.old) (D.plan disk.new) out.old.logs.event out.new.logs.event }
     {
         match entry {
             Entry::Blank => {}
-            Entry::Frames(n) => self.setup.frames = *n,
+            Entry::Frames(n) => self.setup.frames = n,
             Entry::Boot => self.boot(size, disk, out),
             Entry::Happens(event) => self.happen(event, size, disk, out),
             Entry::Patience(..) | Entry::Grant(_) | Entry::Image(..) | Entry::Raw => {
@@ -195,19 +207,19 @@ impl Session {
 
     /// The kernel begins: block 0 of the disk has the directory. Where it can't be read there are no files.
     fn boot<D: Disk>(&mut self, size: u32, disk: &mut D, out: &mut Buffers)
-        requires within { IsSessionWithin self.old }
+        requires within { IsSessionWithin size self.old }
         requires disk { D.block_count disk.old ≡ size }
-        requires no_calls { out.old.log ≡ [] }
+        requires no_calls { out.old.logs.event ≡ [] }
         requires empty { out.old.lines ≡ [] }
-        ensures within { IsSessionWithin self.new }
+        ensures within { IsSessionWithin size self.new }
         ensures counted { self.new.lines ≡ self.old.lines }
         ensures same_size { D.block_count disk.new ≡ size }
-        ensures runs { RunsEntry size Boot self.old self.new (D.blocks disk.old) (D.blocks disk.new) out.new.log out.new.lines }
-        ensures calls { GoesOn (D.faults disk.old) (D.faults disk.new) (D.plan disk.old) (D.plan disk.new) out.old.log out.new.log }
+        ensures runs { RunsEntry size Boot self.old self.new (D.blocks disk.old) (D.blocks disk.new) out.new.logs.event out.new.lines }
+        ensures calls { GoesOn (D.faults disk.old) (D.faults disk.new) (D.plan disk.old) (D.plan disk.new) out.old.logs.event out.new.logs.event }
     {
         disk.size();
         let mut block = [0; 512];
-        match out.log.read(disk, 0, &mut block) {
+        match out.logs.event.read(disk, 0, &mut block) {
             Ok(()) => {
                 let directory = read_directory(&block, size);
                 print_boot(
@@ -227,13 +239,16 @@ impl Session {
 
     /// The kernel begins with this directory, and the text is written.
     fn begin(&mut self, size: u32, directory: Directory, out: &mut Buffers)
-        requires within { IsSessionWithin self.old }
+        requires within { IsSessionWithin size self.old }
+        requires size_least { 1 ≤ size }
+        requires size_most { size ≤ 4096 }
+        requires files { (n : ℕ) (r : Row) → slice_index_or directory n None ≡ Some r → lies_on_disk size r ≡ true }
         requires empty { out.old.lines ≡ [] }
-        ensures within { IsSessionWithin self.new }
+        ensures within { IsSessionWithin size self.new }
         ensures counted { self.new.lines ≡ self.old.lines }
-        ensures session { (blocks : Blocks) → session_of blocks self.new ≡ record (session_of blocks self.old) { kernel = Some (opening_kernel (world_for size self.old.setup directory)) } }
+        ensures session { (blocks : Blocks) → session_of blocks self.new ≡ record (session_of blocks self.old) { kernel = Some (opening_kernel (world_for self.old.setup size directory)) } }
         ensures text { out.new.lines ≡ out.old.text }
-        ensures no_calls { out.new.log ≡ out.old.log }
+        ensures no_calls { out.new.logs.event ≡ out.old.logs.event }
     {
         self.kernel.boot(self.setup, size, directory);
         self.booted = true;
@@ -241,27 +256,27 @@ impl Session {
     }
 
     /// An event of the kernel, or the refusal of one that isn't built.
-    fn happen<D: Disk>(&mut self, event: &Event, size: u32, disk: &mut D, out: &mut Buffers)
+    fn happen<D: Disk>(&mut self, event: Event, size: u32, disk: &mut D, out: &mut Buffers)
         requires room { self.old.lines < 2 ^ 32 - 1 }
         requires fresh { self.old.events < self.old.lines }
-        requires within { IsSessionWithin self.old }
+        requires within { IsSessionWithin size self.old }
         requires disk { D.block_count disk.old ≡ size }
-        requires no_calls { out.old.log ≡ [] }
+        requires no_calls { out.old.logs.event ≡ [] }
         requires no_notes { out.old.notes ≡ [] }
         requires empty { out.old.lines ≡ [] }
-        ensures within { IsSessionWithin self.new }
+        ensures within { IsSessionWithin size self.new }
         ensures counted { self.new.lines ≡ self.old.lines }
         ensures same_size { D.block_count disk.new ≡ size }
-        ensures runs { RunsEntry size (Happens event.now) self.old self.new (D.blocks disk.old) (D.blocks disk.new) out.new.log out.new.lines }
-        ensures calls { GoesOn (D.faults disk.old) (D.faults disk.new) (D.plan disk.old) (D.plan disk.new) out.old.log out.new.log }
+        ensures runs { RunsEntry size (Happens event) self.old self.new (D.blocks disk.old) (D.blocks disk.new) out.new.logs.event out.new.lines }
+        ensures calls { GoesOn (D.faults disk.old) (D.faults disk.new) (D.plan disk.old) (D.plan disk.new) out.old.logs.event out.new.logs.event }
     {
-        if !is_built(event) {
+        if !is_built(&event) {
             return self.refuse(5, out);
         }
         if self.booted {
             self.events += 1;
             self.kernel
-                .event(self.events, event, disk, &mut out.log, &mut out.notes);
+                .event(self.events, event, disk, &mut out.logs, &mut out.notes);
             out.lines.add_notes(&out.notes, &mut out.text);
         }
     }
@@ -283,7 +298,15 @@ fn is_built_call(call: &SysCall) -> bool
 {
     matches!(
         call,
-        SysCall::Spawn | SysCall::Yield | SysCall::Poke(..) | SysCall::Peek(..)
+        SysCall::Spawn
+            | SysCall::Yield
+            | SysCall::OpenName(_)
+            | SysCall::CloseFd(_)
+            | SysCall::Read(..)
+            | SysCall::Write(..)
+            | SysCall::Sync
+            | SysCall::Poke(..)
+            | SysCall::Peek(_)
     )
 }
 

@@ -9,7 +9,7 @@ invariant-loop-byte g l =
     record {
       fed : Feeds l.size l.fn.reader.session l.reader.session l.fn.reader.line l.reader.line (take l.byte-index l.bytes) (g.K.Sink.got l.fn.out) (g.K.Sink.got l.out)
           (disk_seen (g.D.Disk.blocks l.fn.disk) (g.D.Disk.plan l.fn.disk) (g.D.Disk.faults l.fn.disk)) (disk_seen (g.D.Disk.blocks l.disk) (g.D.Disk.plan l.disk) (g.D.Disk.faults l.disk));
-      within : IsSessionWithin l.reader.session;
+      within : IsSessionWithin l.size l.reader.session;
       later : g.K.Sink.faults l.fn.out ≤ g.K.Sink.faults l.out;
       same_size : g.D.Disk.block_count l.disk ≡ l.size;
     }

@@ -10,7 +10,7 @@ invariant-loop-left g l =
       reached : Reached l.size l.fn.reader.session l.reader.session (g.S.Source.rest l.fn.src) (g.S.Source.rest l.src) (g.K.Sink.got l.fn.out) (g.K.Sink.got l.out)
           (disk_seen (g.D.Disk.blocks l.fn.disk) (g.D.Disk.plan l.fn.disk) (g.D.Disk.faults l.fn.disk)) (disk_seen (g.D.Disk.blocks l.disk) (g.D.Disk.plan l.disk) (g.D.Disk.faults l.disk))
           l.reader.line l.left;
-      within : IsSessionWithin l.reader.session;
+      within : IsSessionWithin l.size l.reader.session;
       going : l.reader.session.refused ≡ false;
       source : g.S.Source.faults l.fn.src ≤ g.S.Source.faults l.src;
       sink : g.K.Sink.faults l.fn.out ≤ g.K.Sink.faults l.out;
