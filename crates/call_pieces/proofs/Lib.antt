@@ -1,0 +1,4 @@
+pub mod Logs
+pub mod SyncLaws
+pub mod ReadLaws
+pub mod Grants

@@ -1,12 +1,13 @@
 -- What came of a piece, in the code's terms, beside what the definitions say.
-use Rattle.std.specs.Prelude.{◌≡◌, ℕ, ◌<◌, Bool, true, false, List, Option, Some, None, Result, Ok, Err}
+use Rattle.std.specs.Prelude.{◌≡◌, ℕ, ◌<◌, Bool, true, false, List, Option, Some, None, Result, Ok, Err, nat_le}
 use Rattle.std.specs.List.{list_any}
 use Rattle.kernel_model.specs.declared.Refusal.TheVariants.{DiskFault}
+use Rattle.kernel_model.specs.declared.OpenRow.{OpenRow}
 use Rattle.kernel_model.specs.World.{Blocks}
 use Rattle.kernel_model.specs.Objects.{Objects, CacheValue}
 use Rattle.kernel_model.specs.Meaning.{Piece, After}
 use Rattle.kernel_model.specs.Fetch.{Fetched, Got, Failed}
-use Rattle.kernel_model.specs.Pieces.{pieces_left}
+use Rattle.kernel_model.specs.Pieces.{pieces_left, read_fits, read_left}
 use Rattle.kernel_state.specs.declared.Store.{Store}
 use Rattle.kernel_state.specs.Stores.{objects_of}
 use Rattle.vino_base.specs.declared.streams.Failed.{Failed as DiskFailed}
@@ -59,3 +60,9 @@ pub record HasGone (old new : Work) (old_store new_store : Store) : Type 0 where
   pub call : new.call ≡ old.call
   pub ready : IsReady new new_store
   pub fewer : pieces_left new.call new.piece (objects_of new_store).things new.caller < pieces_left old.call old.piece (objects_of old_store).things old.caller
+
+-- a read that goes on from before one piece to before another, where its open file was the first and is the second
+pub record ReadGoes (old new : ℕ) (before after : Option OpenRow) : Type 0 where
+  pub few : nat_le new 2 ≡ true
+  pub fits : read_fits new after ≡ true
+  pub fewer : read_left new after < read_left old before

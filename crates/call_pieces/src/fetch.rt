@@ -1,11 +1,13 @@
 //! How a block comes into the cache.
 
-ghost use Rattle.std.specs.Prelude.{◌≡◌, ℕ, ◌<◌, true, false, List, Bool, [], ◌∷◌, ◌++◌, None, length, IfOk, IfErr};
+ghost use Rattle.std.specs.Prelude.{◌≡◌, ℕ, ◌<◌, true, false, List, Bool, [], ◌∷◌, ◌++◌, Some, None, option_map, length, IfOk, IfErr};
 ghost use Rattle.kernel_model.specs.World.{Blocks};
+ghost use Rattle.kernel_model.specs.Objects.{FrameValue};
 ghost use Rattle.kernel_model.specs.Policies.{lives, or_zero, victim_among};
 ghost use Rattle.kernel_model.specs.Needs.{frame_of_block, free_frame};
 ghost use Rattle.kernel_model.specs.Fetch as fetches;
-ghost use Rattle.kernel_model.specs.Fetch.{new_frame, replaced, read_block, place_block, evict as evicted};
+ghost use Rattle.kernel_model.specs.Fetch.{new_frame, replaced, dirty_value, read_block, place_block, evict as evicted};
+ghost use Rattle.kernel_model.specs.Meaning.{disk_fails};
 ghost use Rattle.kernel_model.specs.FilePieces.{with_cache};
 ghost use Rattle.kernel_model.specs.Opening.{opening_policy};
 ghost use Rattle.buffer_cache.specs.Frames.{in_use};
@@ -110,6 +112,7 @@ fn place<D: Disk>(store: &mut Store, disk: &mut D, log: &mut DiskLog, p: u8, b: 
         let candidate = or_zero (victim_among (opening_policy 1) (cache_of store.old) (cache_of store.old).lru) in
         FetchCameTo (place_block (free_frame (cache_of store.old) (world_of_store store.old).frames 0) p b candidate candidate (cache_of store.old) blocks (log.new ++ rest)) blocks
             result (cache_of store.new) (D.blocks disk.new) (length log.new) }
+    ensures first { (rest : List Bool) → disk_fails (log.new ++ rest) 0 ≡ false }
     ensures objects { objects_of store.new ≡ with_cache (cache_of store.new) (objects_of store.old) }
     ensures in_cache { IfOk result (λ f. in_use f store.new.cache ≡ true) }
     ensures kept { IfErr result (λ _. objects_of store.new ≡ objects_of store.old) }
@@ -141,6 +144,7 @@ fn evict<D: Disk>(store: &mut Store, disk: &mut D, log: &mut DiskLog, p: u8, b: 
     ensures does { (blocks : Blocks) (rest : List Bool) → Tells (D.blocks disk.old) blocks →
         FetchCameTo (evicted ((cache_of store.old).frame f) f (replaced f f (new_frame p b bytes.now) (cache_of store.old)) blocks (log.new ++ rest)) blocks
             result (cache_of store.new) (D.blocks disk.new) (length log.new) }
+    ensures first { (rest : List Bool) → disk_fails (log.new ++ rest) 0 ≡ false }
     ensures objects { objects_of store.new ≡ with_cache (cache_of store.new) (objects_of store.old) }
     ensures in_cache { IfOk result (λ g. in_use g store.new.cache ≡ true) }
     ensures kept { IfErr result (λ _. objects_of store.new ≡ objects_of store.old) }
@@ -150,13 +154,46 @@ fn evict<D: Disk>(store: &mut Store, disk: &mut D, log: &mut DiskLog, p: u8, b: 
     ensures same_size { D.block_count disk.new ≡ D.block_count disk.old }
     ensures calls { GoesOn (D.faults disk.old) (D.faults disk.new) (D.plan disk.old) (D.plan disk.new) log.old log.new }
 {
-    if let Some(old) = store.dirty_block(f) {
-        let mut evicted = [0; BLOCK_BYTES];
-        store.copy_frame(f, &mut evicted);
-        if let Err(failed) = log.write(disk, old, &evicted) {
-            return Err(failed);
+    match store.dirty_block(f) {
+        Some(old) => evict_dirty(store, disk, log, p, b, f, bytes, old),
+        None => {
+            store.replace(f, f, p, b, bytes);
+            Ok(f)
         }
     }
-    store.replace(f, f, p, b, bytes);
-    Ok(f)
+}
+
+/// Puts block b, which no frame holds, into frame f, which is in use and dirty: its block is written first.
+fn evict_dirty<D: Disk>(store: &mut Store, disk: &mut D, log: &mut DiskLog, p: u8, b: u32, f: u8, bytes: &[u8; 512], old: u32) -> Result<u8, Failed>
+    requires sound { IsStore store.old }
+    requires alive { lives (queue_of store.old) p ≡ true }
+    requires block { b < store.old.size }
+    requires disk { store.old.size ≡ D.block_count disk.old }
+    requires read { log.old ≡ false ∷ [] }
+    requires missing { frame_of_block (cache_of store.old) b ≡ None }
+    requires frame { in_use f store.old.cache ≡ true }
+    requires dirty { option_map (λ (x : FrameValue). x.block) (dirty_value ((cache_of store.old).frame f)) ≡ Some old }
+    requires evicted { old < store.old.size }
+    ensures does { (blocks : Blocks) (rest : List Bool) → Tells (D.blocks disk.old) blocks →
+        FetchCameTo (evicted ((cache_of store.old).frame f) f (replaced f f (new_frame p b bytes.now) (cache_of store.old)) blocks (log.new ++ rest)) blocks
+            result (cache_of store.new) (D.blocks disk.new) (length log.new) }
+    ensures first { (rest : List Bool) → disk_fails (log.new ++ rest) 0 ≡ false }
+    ensures objects { objects_of store.new ≡ with_cache (cache_of store.new) (objects_of store.old) }
+    ensures in_cache { IfOk result (λ g. in_use g store.new.cache ≡ true) }
+    ensures kept { IfErr result (λ _. objects_of store.new ≡ objects_of store.old) }
+    ensures failed { IfErr result (λ _. has_failed log.new ≡ true) }
+    ensures world { world_of_store store.new ≡ world_of_store store.old }
+    ensures sound { IsStore store.new }
+    ensures same_size { D.block_count disk.new ≡ D.block_count disk.old }
+    ensures calls { GoesOn (D.faults disk.old) (D.faults disk.new) (D.plan disk.old) (D.plan disk.new) log.old log.new }
+{
+    let mut evicted = [0; BLOCK_BYTES];
+    store.copy_frame(f, &mut evicted);
+    match log.write(disk, old, &evicted) {
+        Ok(()) => {
+            store.replace(f, f, p, b, bytes);
+            Ok(f)
+        }
+        Err(failed) => Err(failed),
+    }
 }

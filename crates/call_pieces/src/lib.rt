@@ -4,6 +4,8 @@
 //! does in one step.
 #![tactic(auto)]
 
+ghost use Rattle.std.specs.Prelude.{◌≡◌, None};
+
 mod begin;
 mod fetch;
 mod pieces;

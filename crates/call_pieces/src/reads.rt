@@ -1,17 +1,20 @@
 //! The pieces of a read: the block itself, how far to read ahead, and each block ahead.
 
-ghost use Rattle.std.specs.Prelude.{◌≡◌, ℕ, ◌+◌, ◌<◌, ◌≤◌, true, false, List, Bool, [], ◌++◌, Some, None, length};
+ghost use Rattle.std.specs.Prelude.{◌≡◌, ℕ, ◌+◌, ◌<◌, ◌≤◌, true, false, List, Bool, Option, [], ◌++◌, Some, None, length};
 ghost use Rattle.kernel_model.specs.World.{Blocks};
-ghost use Rattle.kernel_model.specs.declared.OpenRow.{OpenRow as Row};
 ghost use Rattle.kernel_model.specs.declared.SysCall.TheVariants.{Read};
 ghost use Rattle.kernel_model.specs.Meaning.{stage};
-ghost use Rattle.kernel_model.specs.Policies.{lives};
-ghost use Rattle.kernel_model.specs.FilePieces.{read_piece};
-ghost use Rattle.kernel_model.specs.Pieces.{piece_fits, pieces_left};
+ghost use Rattle.kernel_model.specs.Policies.{lives, ahead_default};
+ghost use Rattle.kernel_model.specs.FilePieces.{read_piece, read_first_at, read_first, read_second, read_third_at};
+ghost use Rattle.kernel_model.specs.Pieces.{piece_fits};
+ghost use Rattle.kernel_model.specs.Needs.{file_block, ahead_block};
+ghost use Rattle.kernel_model.specs.Fetch as fetches;
+ghost use Rattle.kernel_model.specs.Opening.{opening_policy};
+ghost use Rattle.kernel_model.specs.Sound.{IsSoundFile};
 ghost use Rattle.disk_log.specs.Calls.{Tells, GoesOn};
-ghost use Rattle.kernel_state.specs.Stores.{world_of_store, objects_of, queue_of, IsStore};
+ghost use Rattle.kernel_state.specs.Stores.{world_of_store, objects_of, cache_of, queue_of, IsStore};
 ghost use Rattle.call_pieces.specs.Works.{comes_after};
-ghost use Rattle.call_pieces.specs.Coming.{CameTo, has_failed, is_fault, goes_on};
+ghost use Rattle.call_pieces.specs.Coming.{CameTo, ReadGoes, has_failed, is_fault, goes_on};
 
 use crate::fetch::{fetch, fetch_ahead};
 use crate::{After, Next, came};
@@ -42,9 +45,7 @@ pub(crate) fn read<D: Disk>(piece: &mut u8, store: &mut Store, disk: &mut D, log
         CameTo (read_piece piece.old (world_of_store store.old) (objects_of store.old) blocks p r.fd r.i r.off r.len ((objects_of store.old).things.file p r.fd) None (log.new ++ rest))
             (objects_of store.new) (D.blocks disk.new) result.gave (comes_after result.next (stage (Read r.fd r.i r.off r.len) piece.new)) (length log.new) }
     ensures queue { queue_of store.new ≡ queue_of store.old }
-    ensures fits { goes_on result.next ≡ true → piece_fits (Read r.fd r.i r.off r.len) piece.new (objects_of store.new).things p ≡ true }
-    ensures fewer { goes_on result.next ≡ true →
-        pieces_left (Read r.fd r.i r.off r.len) piece.new (objects_of store.new).things p < pieces_left (Read r.fd r.i r.off r.len) piece.old (objects_of store.old).things p }
+    ensures next { goes_on result.next ≡ true → ReadGoes piece.old piece.new ((objects_of store.old).things.file p r.fd) ((objects_of store.new).things.file p r.fd) }
     ensures failed { is_fault result.next ≡ true → has_failed log.new ≡ true }
     ensures world { world_of_store store.new ≡ world_of_store store.old }
     ensures sound { IsStore store.new }
@@ -56,17 +57,61 @@ pub(crate) fn read<D: Disk>(piece: &mut u8, store: &mut Store, disk: &mut D, log
     };
     match *piece {
         0 => first(piece, store, disk, log, p, r, opened),
-        1 => second(piece, store, p, r.fd as u8, opened),
-        _ => later(store, disk, log, p, r.fd as u8, opened),
+        1 => second(piece, store, p, r, opened),
+        _ => later(store, disk, log, p, r, opened),
     }
 }
 
 /// The first piece: the block is fetched, and its bytes are given.
-fn first<D: Disk>(piece: &mut u8, store: &mut Store, disk: &mut D, log: &mut DiskLog, p: u8, r: Range, opened: OpenRow) -> After {
-    let b = match store.block_of(p, r.fd as u8, r.i, r.off, r.len) {
-        Ok(b) => b,
-        Err(refusal) => return came(Next::Fails(refusal)),
-    };
+fn first<D: Disk>(piece: &mut u8, store: &mut Store, disk: &mut D, log: &mut DiskLog, p: u8, r: Range, opened: OpenRow) -> After
+    requires sound { IsStore store.old }
+    requires alive { lives (queue_of store.old) p ≡ true }
+    requires descriptor { r.fd < 4 }
+    requires inside { r.off + r.len ≤ 512 }
+    requires number { piece.old ≡ 0 }
+    requires file { (objects_of store.old).things.file p r.fd ≡ Some opened }
+    requires disk { store.old.size ≡ D.block_count disk.old }
+    requires fresh { log.old ≡ [] }
+    ensures does { (blocks : Blocks) (rest : List Bool) → Tells (D.blocks disk.old) blocks →
+        CameTo (read_first_at (file_block (world_of_store store.old) (Some opened) r.i r.off r.len) (world_of_store store.old) (objects_of store.old) blocks p r.fd r.i r.off r.len opened None (log.new ++ rest))
+            (objects_of store.new) (D.blocks disk.new) result.gave (comes_after result.next (stage (Read r.fd r.i r.off r.len) piece.new)) (length log.new) }
+    ensures queue { queue_of store.new ≡ queue_of store.old }
+    ensures next { goes_on result.next ≡ true → ReadGoes 0 piece.new (Some opened) ((objects_of store.new).things.file p r.fd) }
+    ensures failed { is_fault result.next ≡ true → has_failed log.new ≡ true }
+    ensures world { world_of_store store.new ≡ world_of_store store.old }
+    ensures sound { IsStore store.new }
+    ensures same_size { D.block_count disk.new ≡ D.block_count disk.old }
+    ensures calls { GoesOn (D.faults disk.old) (D.faults disk.new) (D.plan disk.old) (D.plan disk.new) log.old log.new }
+{
+    match store.block_of(p, r.fd as u8, r.i, r.off, r.len) {
+        Ok(b) => first_at(piece, store, disk, log, p, r, opened, b),
+        Err(refusal) => came(Next::Fails(refusal)),
+    }
+}
+
+/// The first piece, for block b.
+fn first_at<D: Disk>(piece: &mut u8, store: &mut Store, disk: &mut D, log: &mut DiskLog, p: u8, r: Range, opened: OpenRow, b: u32) -> After
+    requires sound { IsStore store.old }
+    requires alive { lives (queue_of store.old) p ≡ true }
+    requires descriptor { r.fd < 4 }
+    requires inside { r.off + r.len ≤ 512 }
+    requires number { piece.old ≡ 0 }
+    requires opened { IsSoundFile (world_of_store store.old) opened }
+    requires block { b < store.old.size }
+    requires place { r.i < 4096 }
+    requires disk { store.old.size ≡ D.block_count disk.old }
+    requires fresh { log.old ≡ [] }
+    ensures does { (blocks : Blocks) (rest : List Bool) → Tells (D.blocks disk.old) blocks →
+        CameTo (read_first (objects_of store.old) blocks p r.fd r.i r.off r.len opened (fetches.fetch (world_of_store store.old) (opening_policy 1) p b None (cache_of store.old) blocks (log.new ++ rest)))
+            (objects_of store.new) (D.blocks disk.new) result.gave (comes_after result.next (stage (Read r.fd r.i r.off r.len) piece.new)) (length log.new) }
+    ensures queue { queue_of store.new ≡ queue_of store.old }
+    ensures next { goes_on result.next ≡ true → ReadGoes 0 piece.new (Some opened) ((objects_of store.new).things.file p r.fd) }
+    ensures failed { is_fault result.next ≡ true → has_failed log.new ≡ true }
+    ensures world { world_of_store store.new ≡ world_of_store store.old }
+    ensures sound { IsStore store.new }
+    ensures same_size { D.block_count disk.new ≡ D.block_count disk.old }
+    ensures calls { GoesOn (D.faults disk.old) (D.faults disk.new) (D.plan disk.old) (D.plan disk.new) log.old log.new }
+{
     let Ok(f) = fetch(store, disk, log, p, b) else {
         return came(Next::Fails(Refusal::DiskFault));
     };
@@ -75,23 +120,37 @@ fn first<D: Disk>(piece: &mut u8, store: &mut Store, disk: &mut D, log: &mut Dis
         seq: r.i == opened.next,
         ..opened
     };
+    let bytes = store.bytes(f, r.off, r.len);
     store.put_file(p, r.fd as u8, Some(row));
     *piece = 1;
     After {
-        gave: Some(store.bytes(f, r.off, r.len)),
+        gave: Some(bytes),
         next: Next::Goes,
     }
 }
 
 /// The second piece: the policy says what is to be read ahead.
-fn second(piece: &mut u8, store: &mut Store, p: u8, fd: u8, opened: OpenRow) -> After {
+fn second(piece: &mut u8, store: &mut Store, p: u8, r: Range, opened: OpenRow) -> After
+    requires sound { IsStore store.old }
+    requires alive { lives (queue_of store.old) p ≡ true }
+    requires descriptor { r.fd < 4 }
+    requires opened { IsSoundFile (world_of_store store.old) opened }
+    ensures does { (blocks : Blocks) (told : Option (List (List ℕ))) → Tells told blocks →
+        CameTo (read_second (objects_of store.old) blocks p r.fd r.i r.off r.len opened (ahead_default (world_of_store store.old) (opening_policy 0) (Some opened)))
+            (objects_of store.new) told result.gave (comes_after result.next (stage (Read r.fd r.i r.off r.len) piece.new)) 0 }
+    ensures queue { queue_of store.new ≡ queue_of store.old }
+    ensures next { goes_on result.next ≡ true → ReadGoes 1 piece.new (Some opened) ((objects_of store.new).things.file p r.fd) }
+    ensures no_fault { is_fault result.next ≡ false }
+    ensures world { world_of_store store.new ≡ world_of_store store.old }
+    ensures sound { IsStore store.new }
+{
     let ahead = store.ahead(&opened);
     let row = OpenRow {
         start: ahead.start,
         count: ahead.count,
         ..opened
     };
-    store.put_file(p, fd, Some(row));
+    store.put_file(p, r.fd as u8, Some(row));
     if ahead.count == 0 {
         return came(Next::Ends(Reply::Plain));
     }
@@ -100,7 +159,25 @@ fn second(piece: &mut u8, store: &mut Store, p: u8, fd: u8, opened: OpenRow) -> 
 }
 
 /// A later piece: one block more is fetched ahead.
-fn later<D: Disk>(store: &mut Store, disk: &mut D, log: &mut DiskLog, p: u8, fd: u8, opened: OpenRow) -> After {
+fn later<D: Disk>(store: &mut Store, disk: &mut D, log: &mut DiskLog, p: u8, r: Range, opened: OpenRow) -> After
+    requires sound { IsStore store.old }
+    requires alive { lives (queue_of store.old) p ≡ true }
+    requires descriptor { r.fd < 4 }
+    requires opened { IsSoundFile (world_of_store store.old) opened }
+    requires some { 1 ≤ opened.count }
+    requires disk { store.old.size ≡ D.block_count disk.old }
+    requires fresh { log.old ≡ [] }
+    ensures does { (blocks : Blocks) (rest : List Bool) → Tells (D.blocks disk.old) blocks →
+        CameTo (read_third_at (ahead_block (world_of_store store.old) (Some opened)) (world_of_store store.old) (objects_of store.old) blocks p r.fd r.i r.off r.len opened None (log.new ++ rest))
+            (objects_of store.new) (D.blocks disk.new) result.gave (comes_after result.next (stage (Read r.fd r.i r.off r.len) 2)) (length log.new) }
+    ensures queue { queue_of store.new ≡ queue_of store.old }
+    ensures next { goes_on result.next ≡ true → ReadGoes 2 2 (Some opened) ((objects_of store.new).things.file p r.fd) }
+    ensures failed { is_fault result.next ≡ true → has_failed log.new ≡ true }
+    ensures world { world_of_store store.new ≡ world_of_store store.old }
+    ensures sound { IsStore store.new }
+    ensures same_size { D.block_count disk.new ≡ D.block_count disk.old }
+    ensures calls { GoesOn (D.faults disk.old) (D.faults disk.new) (D.plan disk.old) (D.plan disk.new) log.old log.new }
+{
     let b = store.block_ahead(&opened);
     if fetch_ahead(store, disk, log, p, b).is_err() {
         return came(Next::Fails(Refusal::DiskFault));
@@ -110,6 +187,9 @@ fn later<D: Disk>(store: &mut Store, disk: &mut D, log: &mut DiskLog, p: u8, fd:
         count: opened.count - 1,
         ..opened
     };
-    store.put_file(p, fd, Some(row));
-    came(if row.count == 0 { Next::Ends(Reply::Plain) } else { Next::Goes })
+    store.put_file(p, r.fd as u8, Some(row));
+    if row.count == 0 {
+        return came(Next::Ends(Reply::Plain));
+    }
+    came(Next::Goes)
 }

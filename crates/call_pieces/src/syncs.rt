@@ -1,11 +1,15 @@
 //! `sync`.
 
-ghost use Rattle.std.specs.Prelude.{◌≡◌, ℕ, ◌+◌, ◌<◌, ◌≤◌, true, false, List, Bool, [], ◌++◌, None, length};
+ghost use Rattle.std.specs.Prelude.{◌≡◌, ℕ, ◌+◌, ◌<◌, ◌≤◌, true, false, List, Bool, [], ◌∷◌, ◌++◌, Some, length, cond, is_ok, IfOk, IfErr};
 ghost use Rattle.kernel_model.specs.World.{Blocks};
 ghost use Rattle.kernel_model.specs.Meaning.{Stage};
-ghost use Rattle.kernel_model.specs.FilePieces.{sync_from};
+ghost use Rattle.kernel_model.specs.FilePieces.{sync_from, with_cache};
+ghost use Rattle.std.specs.Result.{is_err};
+ghost use Rattle.kernel_model.specs.Objects.{FrameValue, at};
+ghost use Rattle.kernel_model.specs.Fetch.{bytes_of, cleaned};
+ghost use Rattle.buffer_cache.specs.Frames.{in_use};
 ghost use Rattle.disk_log.specs.Calls.{Tells, GoesOn};
-ghost use Rattle.kernel_state.specs.Stores.{world_of_store, objects_of, queue_of, IsStore};
+ghost use Rattle.kernel_state.specs.Stores.{world_of_store, objects_of, cache_of, queue_of, IsStore};
 ghost use Rattle.call_pieces.specs.Works.{comes_after};
 ghost use Rattle.call_pieces.specs.Coming.{CameTo, has_failed, is_fault, goes_on};
 
@@ -34,21 +38,41 @@ pub(crate) fn sync<D: Disk>(store: &mut Store, disk: &mut D, log: &mut DiskLog) 
 {
     let mut written = 0;
     for f in 0..store.setup.frames {
-        if let Some(b) = store.dirty_block(f) {
-            if write_back(store, disk, log, f, b).is_err() {
-                return came(Next::Fails(Refusal::DiskFault));
-            }
-            written += 1;
+        let Some(b) = store.dirty_block(f) else {
+            continue;
+        };
+        if write_back(store, disk, log, f, b).is_err() {
+            return came(Next::Fails(Refusal::DiskFault));
         }
+        written += 1;
     }
     came(Next::Ends(Reply::One(written)))
 }
 
 /// Writes frame f, which holds block b and is dirty. It is clean then, unless the call of the disk fails.
-fn write_back<D: Disk>(store: &mut Store, disk: &mut D, log: &mut DiskLog, f: u8, b: u32) -> Result<(), Failed> {
+fn write_back<D: Disk>(store: &mut Store, disk: &mut D, log: &mut DiskLog, f: u8, b: u32) -> Result<(), Failed>
+    requires sound { IsStore store.old }
+    requires block { b < store.old.size }
+    requires disk { store.old.size ≡ D.block_count disk.old }
+    requires frame { in_use f store.old.cache ≡ true }
+    requires room { length log.old < 256 }
+    ensures noted { log.new ≡ log.old ++ is_err result ∷ [] }
+    ensures told { (blocks : Blocks) → Tells (D.blocks disk.old) blocks →
+        Tells (D.blocks disk.new) (cond (is_ok result) (at b (bytes_of (cache_of store.old) f) blocks) blocks) }
+    ensures cleaned { IfOk result (λ _. (x : FrameValue) → (cache_of store.old).frame f ≡ Some x →
+        objects_of store.new ≡ with_cache (cleaned f x (cache_of store.old)) (objects_of store.old)) }
+    ensures kept { IfErr result (λ _. objects_of store.new ≡ objects_of store.old) }
+    ensures queue { queue_of store.new ≡ queue_of store.old }
+    ensures world { world_of_store store.new ≡ world_of_store store.old }
+    ensures sound { IsStore store.new }
+    ensures same_size { D.block_count disk.new ≡ D.block_count disk.old }
+    ensures calls { GoesOn (D.faults disk.old) (D.faults disk.new) (D.plan disk.old) (D.plan disk.new) log.old log.new }
+{
     let mut bytes = [0; BLOCK_BYTES];
     store.copy_frame(f, &mut bytes);
-    log.write(disk, b, &bytes)?;
+    if let Err(failed) = log.write(disk, b, &bytes) {
+        return Err(failed);
+    }
     store.clean(f);
     Ok(())
 }

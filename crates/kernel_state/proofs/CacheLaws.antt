@@ -66,7 +66,7 @@ pub cleaned_is : (c d : Frames) (m : List ℕ) (f : ℕ) (x : FrameValue) → Is
 cleaned_is c d m f x h was is held =
     ap (λ (w : Frames). cache_value w m) is
     ∙ cache_by c m m f (option_map (λ (r : FrameRow). record r { dirty = false }) (row_at c.rows f)) (Some (record x { dirty = false })) c.order h (used_below c f h was) (λ g less apart. refl)
-      (clean_value m f (row_at c.rows f) x held)
+    (clean_value m f (row_at c.rows f) x held)
 
 -- a frame with bytes put in
 patch_value : (m n new : List ℕ) (f off : ℕ) (o : Option FrameRow) → frame_bytes n f ≡ bytes_with off new (frame_bytes m f)
@@ -82,8 +82,8 @@ patched_is c d m n new f off h size was fits is memory =
     let less = used_below c f h was in
     ap (λ (w : Frames). cache_value w n) is ∙ ap (λ w. cache_value (with_row f (λ (r : FrameRow). record r { dirty = true }) c) w) memory
     ∙ cache_by c m (written (512 * f + off) new m) f (option_map (λ (r : FrameRow). record r { dirty = true }) (row_at c.rows f)) (patched off new (frame_value m f (row_at c.rows f))) c.order h less
-      (λ g below apart. frame_same m new (512 * f + off) f g size less below apart (omega arith) (omega arith))
-      (patch_value m (written (512 * f + off) new m) new f off (row_at c.rows f) (frame_patched m new f off size less fits))
+    (λ g below apart. frame_same m new (512 * f + off) f g size less below apart (omega arith) (omega arith))
+    (patch_value m (written (512 * f + off) new m) new f off (row_at c.rows f) (frame_patched m new f off size less fits))
 
 -- a frame is filled
 pub filled_is : (c d : Frames) (m n new : List ℕ) (f owner block : ℕ) → IsFrames c → length m ≡ 524288 → f < c.count → length new ≡ 512
@@ -96,7 +96,7 @@ filled_is c d m n new f owner block h size below long is memory =
     let here : frame_bytes (written (512 * f) new m) f ≡ new = ap (λ w. frame_bytes w f) (sym as_written) ∙ frame_filled m new f size less long in
     ap (λ (w : Frames). cache_value w n) is ∙ ap (λ w. cache_value (filled f (filled_row f owner block) c) w) (memory ∙ as_written)
     ∙ cache_by c m (written (512 * f) new m) f (Some (filled_row f owner block)) (Some (new_frame owner block new)) (newest f c.order) h less
-      (λ g under apart. frame_same m new (512 * f) f g size less under apart (omega arith) (omega arith)) (ap (λ bytes. Some (value_with bytes (filled_row f owner block))) here)
+    (λ g under apart. frame_same m new (512 * f) f g size less under apart (omega arith) (omega arith)) (ap (λ bytes. Some (value_with bytes (filled_row f owner block))) here)
 
 -- a frame is filled, once it changed places with another one
 pub replaced_is : (b c d : Frames) (m n new : List ℕ) (f g owner block : ℕ) → IsFrames b → length m ≡ 524288 → in_use f b ≡ true → length new ≡ 512 → c ≡ swapped f g b

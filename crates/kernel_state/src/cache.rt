@@ -28,6 +28,7 @@ impl Store {
     pub fn free(&self) -> Option<u8>
         requires { IsStore self.now }
         ensures value { result ≡ free_frame (cache_of self.now) (world_of_store self.now).frames 0 }
+        ensures some { 2 ≤ self.now.cache.count }
         ensures below { IfSome result (λ f. f < self.now.cache.count) }
         ensures full { IfNone result ((f : ℕ) → f < self.now.cache.count → in_use f self.now.cache ≡ true) }
     {
