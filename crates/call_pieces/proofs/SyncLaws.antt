@@ -146,8 +146,7 @@ past_written n f b written first now next told told_now told_next log more faile
           let so = m.rest blocks (failed ∷ io) tells in
           let whole : more ++ io ≡ log ++ (failed ∷ io) = ap (λ w. w ++ io) noted ∙ append_assoc log (failed ∷ []) io in
           let after : Blocks = at b (bytes_of now.things.cache f) so.0 in
-          let result = fails_is more log io failed written noted m.count ∙ fine in
-          (
+          let result = fails_is more log io failed written noted m.count ∙ fine in (
             after,
             tells_next so.0 so.1,
             ap (λ w. sync_from n 0 0 first blocks w) whole ∙ so.2 ∙ ap (λ w. sync_from (n - f) f written now so.0 w) (sym whole) ∙ one_less n f written now so.0 (more ++ io) less

@@ -1,6 +1,6 @@
 //! How a block comes into the cache.
 
-ghost use Rattle.std.specs.Prelude.{◌≡◌, ℕ, ◌<◌, true, false, List, Bool, [], ◌∷◌, ◌++◌, Some, None, option_map, length, IfOk, IfErr};
+ghost use Rattle.std.specs.Prelude.{◌≡◌, ℕ, ◌<◌, true, false, List, Bool, [], ◌∷◌, ◌++◌, Some, None, option_map, length, IfOk, IfErr, ◌≤◌};
 ghost use Rattle.kernel_model.specs.World.{Blocks};
 ghost use Rattle.kernel_model.specs.Objects.{FrameValue};
 ghost use Rattle.kernel_model.specs.Policies.{lives, or_zero, victim_among};
@@ -21,7 +21,13 @@ use kernel_state::Store;
 use vino_base::{Disk, Failed};
 
 /// Block b for process p: the frame that holds it becomes the newest, or the block is read into a frame.
-pub(crate) fn fetch<D: Disk>(store: &mut Store, disk: &mut D, log: &mut DiskLog, p: u8, b: u32) -> Result<u8, Failed>
+pub(crate) fn fetch<D: Disk>(
+    store: &mut Store,
+    disk: &mut D,
+    log: &mut DiskLog,
+    p: u8,
+    b: u32,
+) -> Result<u8, Failed>
     requires sound { IsStore store.old }
     requires alive { lives (queue_of store.old) p ≡ true }
     requires block { b < store.old.size }
@@ -29,7 +35,7 @@ pub(crate) fn fetch<D: Disk>(store: &mut Store, disk: &mut D, log: &mut DiskLog,
     requires fresh { log.old ≡ [] }
     ensures does { (blocks : Blocks) (rest : List Bool) → Tells (D.blocks disk.old) blocks →
         FetchCameTo (fetches.fetch (world_of_store store.old) (opening_policy 1) p b None (cache_of store.old) blocks (log.new ++ rest)) blocks
-            result (cache_of store.new) (D.blocks disk.new) (length log.new) }
+        result (cache_of store.new) (D.blocks disk.new) (length log.new) }
     ensures objects { objects_of store.new ≡ with_cache (cache_of store.new) (objects_of store.old) }
     ensures in_cache { IfOk result (λ f. in_use f store.new.cache ≡ true) }
     ensures kept { IfErr result (λ _. objects_of store.new ≡ objects_of store.old) }
@@ -38,6 +44,7 @@ pub(crate) fn fetch<D: Disk>(store: &mut Store, disk: &mut D, log: &mut DiskLog,
     ensures sound { IsStore store.new }
     ensures same_size { D.block_count disk.new ≡ D.block_count disk.old }
     ensures calls { GoesOn (D.faults disk.old) (D.faults disk.new) (D.plan disk.old) (D.plan disk.new) log.old log.new }
+    ensures few { length log.new ≤ 256 }
 {
     match store.find(b) {
         Some(f) => {
@@ -49,7 +56,13 @@ pub(crate) fn fetch<D: Disk>(store: &mut Store, disk: &mut D, log: &mut DiskLog,
 }
 
 /// Block b, ahead of a read of process p: where a frame holds it already, nothing changes.
-pub(crate) fn fetch_ahead<D: Disk>(store: &mut Store, disk: &mut D, log: &mut DiskLog, p: u8, b: u32) -> Result<u8, Failed>
+pub(crate) fn fetch_ahead<D: Disk>(
+    store: &mut Store,
+    disk: &mut D,
+    log: &mut DiskLog,
+    p: u8,
+    b: u32,
+) -> Result<u8, Failed>
     requires sound { IsStore store.old }
     requires alive { lives (queue_of store.old) p ≡ true }
     requires block { b < store.old.size }
@@ -57,7 +70,7 @@ pub(crate) fn fetch_ahead<D: Disk>(store: &mut Store, disk: &mut D, log: &mut Di
     requires fresh { log.old ≡ [] }
     ensures does { (blocks : Blocks) (rest : List Bool) → Tells (D.blocks disk.old) blocks →
         FetchCameTo (fetches.fetch_ahead (world_of_store store.old) (opening_policy 1) p b None (cache_of store.old) blocks (log.new ++ rest)) blocks
-            result (cache_of store.new) (D.blocks disk.new) (length log.new) }
+        result (cache_of store.new) (D.blocks disk.new) (length log.new) }
     ensures objects { objects_of store.new ≡ with_cache (cache_of store.new) (objects_of store.old) }
     ensures in_cache { IfOk result (λ f. in_use f store.new.cache ≡ true) }
     ensures kept { IfErr result (λ _. objects_of store.new ≡ objects_of store.old) }
@@ -66,6 +79,7 @@ pub(crate) fn fetch_ahead<D: Disk>(store: &mut Store, disk: &mut D, log: &mut Di
     ensures sound { IsStore store.new }
     ensures same_size { D.block_count disk.new ≡ D.block_count disk.old }
     ensures calls { GoesOn (D.faults disk.old) (D.faults disk.new) (D.plan disk.old) (D.plan disk.new) log.old log.new }
+    ensures few { length log.new ≤ 256 }
 {
     match store.find(b) {
         Some(f) => Ok(f),
@@ -74,7 +88,13 @@ pub(crate) fn fetch_ahead<D: Disk>(store: &mut Store, disk: &mut D, log: &mut Di
 }
 
 /// Reads block b, which no frame holds, into a frame.
-fn load<D: Disk>(store: &mut Store, disk: &mut D, log: &mut DiskLog, p: u8, b: u32) -> Result<u8, Failed>
+fn load<D: Disk>(
+    store: &mut Store,
+    disk: &mut D,
+    log: &mut DiskLog,
+    p: u8,
+    b: u32,
+) -> Result<u8, Failed>
     requires sound { IsStore store.old }
     requires alive { lives (queue_of store.old) p ≡ true }
     requires block { b < store.old.size }
@@ -83,7 +103,7 @@ fn load<D: Disk>(store: &mut Store, disk: &mut D, log: &mut DiskLog, p: u8, b: u
     requires missing { frame_of_block (cache_of store.old) b ≡ None }
     ensures does { (blocks : Blocks) (rest : List Bool) → Tells (D.blocks disk.old) blocks →
         FetchCameTo (read_block (world_of_store store.old) (opening_policy 1) p b None (cache_of store.old) blocks (log.new ++ rest)) blocks
-            result (cache_of store.new) (D.blocks disk.new) (length log.new) }
+        result (cache_of store.new) (D.blocks disk.new) (length log.new) }
     ensures objects { objects_of store.new ≡ with_cache (cache_of store.new) (objects_of store.old) }
     ensures in_cache { IfOk result (λ f. in_use f store.new.cache ≡ true) }
     ensures kept { IfErr result (λ _. objects_of store.new ≡ objects_of store.old) }
@@ -92,6 +112,7 @@ fn load<D: Disk>(store: &mut Store, disk: &mut D, log: &mut DiskLog, p: u8, b: u
     ensures sound { IsStore store.new }
     ensures same_size { D.block_count disk.new ≡ D.block_count disk.old }
     ensures calls { GoesOn (D.faults disk.old) (D.faults disk.new) (D.plan disk.old) (D.plan disk.new) log.old log.new }
+    ensures few { length log.new ≤ 256 }
 {
     let mut bytes = [0; BLOCK_BYTES];
     match log.read(disk, b, &mut bytes) {
@@ -101,7 +122,14 @@ fn load<D: Disk>(store: &mut Store, disk: &mut D, log: &mut DiskLog, p: u8, b: u
 }
 
 /// Puts block b, which no frame holds, into the lowest free frame, or else into that of the candidate.
-fn place<D: Disk>(store: &mut Store, disk: &mut D, log: &mut DiskLog, p: u8, b: u32, bytes: &[u8; 512]) -> Result<u8, Failed>
+fn place<D: Disk>(
+    store: &mut Store,
+    disk: &mut D,
+    log: &mut DiskLog,
+    p: u8,
+    b: u32,
+    bytes: &[u8; 512],
+) -> Result<u8, Failed>
     requires sound { IsStore store.old }
     requires alive { lives (queue_of store.old) p ≡ true }
     requires block { b < store.old.size }
@@ -111,7 +139,7 @@ fn place<D: Disk>(store: &mut Store, disk: &mut D, log: &mut DiskLog, p: u8, b: 
     ensures does { (blocks : Blocks) (rest : List Bool) → Tells (D.blocks disk.old) blocks → blocks b ≡ bytes.now →
         let candidate = or_zero (victim_among (opening_policy 1) (cache_of store.old) (cache_of store.old).lru) in
         FetchCameTo (place_block (free_frame (cache_of store.old) (world_of_store store.old).frames 0) p b candidate candidate (cache_of store.old) blocks (log.new ++ rest)) blocks
-            result (cache_of store.new) (D.blocks disk.new) (length log.new) }
+        result (cache_of store.new) (D.blocks disk.new) (length log.new) }
     ensures first { (rest : List Bool) → disk_fails (log.new ++ rest) 0 ≡ false }
     ensures objects { objects_of store.new ≡ with_cache (cache_of store.new) (objects_of store.old) }
     ensures in_cache { IfOk result (λ f. in_use f store.new.cache ≡ true) }
@@ -121,6 +149,7 @@ fn place<D: Disk>(store: &mut Store, disk: &mut D, log: &mut DiskLog, p: u8, b: 
     ensures sound { IsStore store.new }
     ensures same_size { D.block_count disk.new ≡ D.block_count disk.old }
     ensures calls { GoesOn (D.faults disk.old) (D.faults disk.new) (D.plan disk.old) (D.plan disk.new) log.old log.new }
+    ensures few { length log.new ≤ 256 }
 {
     if let Some(f) = store.free() {
         store.fill(f, p, b, bytes);
@@ -133,7 +162,15 @@ fn place<D: Disk>(store: &mut Store, disk: &mut D, log: &mut DiskLog, p: u8, b: 
 }
 
 /// Puts block b, which no frame holds, into frame f, which is in use: what it held is written first, if it is dirty.
-fn evict<D: Disk>(store: &mut Store, disk: &mut D, log: &mut DiskLog, p: u8, b: u32, f: u8, bytes: &[u8; 512]) -> Result<u8, Failed>
+fn evict<D: Disk>(
+    store: &mut Store,
+    disk: &mut D,
+    log: &mut DiskLog,
+    p: u8,
+    b: u32,
+    f: u8,
+    bytes: &[u8; 512],
+) -> Result<u8, Failed>
     requires sound { IsStore store.old }
     requires alive { lives (queue_of store.old) p ≡ true }
     requires block { b < store.old.size }
@@ -143,7 +180,7 @@ fn evict<D: Disk>(store: &mut Store, disk: &mut D, log: &mut DiskLog, p: u8, b: 
     requires frame { in_use f store.old.cache ≡ true }
     ensures does { (blocks : Blocks) (rest : List Bool) → Tells (D.blocks disk.old) blocks →
         FetchCameTo (evicted ((cache_of store.old).frame f) f (replaced f f (new_frame p b bytes.now) (cache_of store.old)) blocks (log.new ++ rest)) blocks
-            result (cache_of store.new) (D.blocks disk.new) (length log.new) }
+        result (cache_of store.new) (D.blocks disk.new) (length log.new) }
     ensures first { (rest : List Bool) → disk_fails (log.new ++ rest) 0 ≡ false }
     ensures objects { objects_of store.new ≡ with_cache (cache_of store.new) (objects_of store.old) }
     ensures in_cache { IfOk result (λ g. in_use g store.new.cache ≡ true) }
@@ -153,6 +190,7 @@ fn evict<D: Disk>(store: &mut Store, disk: &mut D, log: &mut DiskLog, p: u8, b: 
     ensures sound { IsStore store.new }
     ensures same_size { D.block_count disk.new ≡ D.block_count disk.old }
     ensures calls { GoesOn (D.faults disk.old) (D.faults disk.new) (D.plan disk.old) (D.plan disk.new) log.old log.new }
+    ensures few { length log.new ≤ 256 }
 {
     match store.dirty_block(f) {
         Some(old) => evict_dirty(store, disk, log, p, b, f, bytes, old),
@@ -164,7 +202,16 @@ fn evict<D: Disk>(store: &mut Store, disk: &mut D, log: &mut DiskLog, p: u8, b: 
 }
 
 /// Puts block b, which no frame holds, into frame f, which is in use and dirty: its block is written first.
-fn evict_dirty<D: Disk>(store: &mut Store, disk: &mut D, log: &mut DiskLog, p: u8, b: u32, f: u8, bytes: &[u8; 512], old: u32) -> Result<u8, Failed>
+fn evict_dirty<D: Disk>(
+    store: &mut Store,
+    disk: &mut D,
+    log: &mut DiskLog,
+    p: u8,
+    b: u32,
+    f: u8,
+    bytes: &[u8; 512],
+    old: u32,
+) -> Result<u8, Failed>
     requires sound { IsStore store.old }
     requires alive { lives (queue_of store.old) p ≡ true }
     requires block { b < store.old.size }
@@ -176,7 +223,7 @@ fn evict_dirty<D: Disk>(store: &mut Store, disk: &mut D, log: &mut DiskLog, p: u
     requires evicted { old < store.old.size }
     ensures does { (blocks : Blocks) (rest : List Bool) → Tells (D.blocks disk.old) blocks →
         FetchCameTo (evicted ((cache_of store.old).frame f) f (replaced f f (new_frame p b bytes.now) (cache_of store.old)) blocks (log.new ++ rest)) blocks
-            result (cache_of store.new) (D.blocks disk.new) (length log.new) }
+        result (cache_of store.new) (D.blocks disk.new) (length log.new) }
     ensures first { (rest : List Bool) → disk_fails (log.new ++ rest) 0 ≡ false }
     ensures objects { objects_of store.new ≡ with_cache (cache_of store.new) (objects_of store.old) }
     ensures in_cache { IfOk result (λ g. in_use g store.new.cache ≡ true) }
@@ -186,6 +233,7 @@ fn evict_dirty<D: Disk>(store: &mut Store, disk: &mut D, log: &mut DiskLog, p: u
     ensures sound { IsStore store.new }
     ensures same_size { D.block_count disk.new ≡ D.block_count disk.old }
     ensures calls { GoesOn (D.faults disk.old) (D.faults disk.new) (D.plan disk.old) (D.plan disk.new) log.old log.new }
+    ensures few { length log.new ≤ 256 }
 {
     let mut evicted = [0; BLOCK_BYTES];
     store.copy_frame(f, &mut evicted);

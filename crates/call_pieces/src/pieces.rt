@@ -1,6 +1,6 @@
 //! `piece`.
 
-ghost use Rattle.std.specs.Prelude.{◌≡◌, ℕ, ◌<◌, true, false, List, Bool, [], ◌++◌, Some, None, length};
+ghost use Rattle.std.specs.Prelude.{◌≡◌, ℕ, ◌<◌, true, false, List, Bool, [], ◌++◌, Some, None, length, ◌≤◌};
 ghost use Rattle.kernel_model.specs.World.{Blocks, ImageTable};
 ghost use Rattle.kernel_model.specs.Policies.{lives};
 ghost use Rattle.kernel_model.specs.Queue.{slices_of};
@@ -10,11 +10,11 @@ ghost use Rattle.kernel_state.specs.Stores.{world_of_store, objects_of, queue_of
 ghost use Rattle.call_pieces.specs.Works.{stage_of, comes_after, queue_after, IsReady};
 ghost use Rattle.call_pieces.specs.Coming.{CameTo, HasGone, has_failed, is_fault, goes_on};
 
-use crate::{After, Work};
 use crate::quick::{close, open, peek, poke, spawn, yield_turn};
 use crate::reads::{Range, read};
 use crate::syncs::sync;
 use crate::writes::write;
+use crate::{After, Work};
 use disk_log::DiskLog;
 use kernel_model::SysCall;
 use kernel_state::Store;
@@ -31,7 +31,7 @@ pub fn piece<D: Disk>(work: &mut Work, store: &mut Store, disk: &mut D, log: &mu
     requires fresh { log.old ≡ [] }
     ensures does { (images : ImageTable) (blocks : Blocks) (rest : List Bool) → Tells (D.blocks disk.old) blocks →
         CameTo (plain.piece (world_of_store store.old) images (objects_of store.old) blocks work.old.caller (stage_of work.old) None (log.new ++ rest))
-            (objects_of store.new) (D.blocks disk.new) result.gave (comes_after result.next (stage_of work.new)) (length log.new) }
+        (objects_of store.new) (D.blocks disk.new) result.gave (comes_after result.next (stage_of work.new)) (length log.new) }
     ensures queue { queue_of store.new ≡ queue_after work.old.call work.old.piece work.old.caller (queue_of store.old) }
     ensures living { (q : ℕ) → lives (queue_of store.old) q ≡ true → lives (queue_of store.new) q ≡ true }
     ensures gone { goes_on result.next ≡ true → HasGone work.old work.new store.old store.new }
@@ -40,6 +40,7 @@ pub fn piece<D: Disk>(work: &mut Work, store: &mut Store, disk: &mut D, log: &mu
     ensures sound { IsStore store.new }
     ensures same_size { D.block_count disk.new ≡ D.block_count disk.old }
     ensures calls { GoesOn (D.faults disk.old) (D.faults disk.new) (D.plan disk.old) (D.plan disk.new) log.old log.new }
+    ensures few { length log.new ≤ 256 }
 {
     let p = work.caller;
     match &work.call {

@@ -27,7 +27,7 @@ pub(crate) fn sync<D: Disk>(store: &mut Store, disk: &mut D, log: &mut DiskLog) 
     requires fresh { log.old ≡ [] }
     ensures does { (blocks : Blocks) (rest : List Bool) (t : Stage) → Tells (D.blocks disk.old) blocks →
         CameTo (sync_from (world_of_store store.old).frames 0 0 (objects_of store.old) blocks (log.new ++ rest))
-            (objects_of store.new) (D.blocks disk.new) result.gave (comes_after result.next t) (length log.new) }
+        (objects_of store.new) (D.blocks disk.new) result.gave (comes_after result.next t) (length log.new) }
     ensures queue { queue_of store.new ≡ queue_of store.old }
     ensures ends { goes_on result.next ≡ false }
     ensures failed { is_fault result.next ≡ true → has_failed log.new ≡ true }
@@ -35,6 +35,7 @@ pub(crate) fn sync<D: Disk>(store: &mut Store, disk: &mut D, log: &mut DiskLog) 
     ensures sound { IsStore store.new }
     ensures same_size { D.block_count disk.new ≡ D.block_count disk.old }
     ensures calls { GoesOn (D.faults disk.old) (D.faults disk.new) (D.plan disk.old) (D.plan disk.new) log.old log.new }
+    ensures few { length log.new ≤ 256 }
 {
     let mut written = 0;
     for f in 0..store.setup.frames {
@@ -50,7 +51,13 @@ pub(crate) fn sync<D: Disk>(store: &mut Store, disk: &mut D, log: &mut DiskLog) 
 }
 
 /// Writes frame f, which holds block b and is dirty. It is clean then, unless the call of the disk fails.
-fn write_back<D: Disk>(store: &mut Store, disk: &mut D, log: &mut DiskLog, f: u8, b: u32) -> Result<(), Failed>
+fn write_back<D: Disk>(
+    store: &mut Store,
+    disk: &mut D,
+    log: &mut DiskLog,
+    f: u8,
+    b: u32,
+) -> Result<(), Failed>
     requires sound { IsStore store.old }
     requires block { b < store.old.size }
     requires disk { store.old.size ≡ D.block_count disk.old }
@@ -67,6 +74,7 @@ fn write_back<D: Disk>(store: &mut Store, disk: &mut D, log: &mut DiskLog, f: u8
     ensures sound { IsStore store.new }
     ensures same_size { D.block_count disk.new ≡ D.block_count disk.old }
     ensures calls { GoesOn (D.faults disk.old) (D.faults disk.new) (D.plan disk.old) (D.plan disk.new) log.old log.new }
+    ensures few { length log.new ≤ 256 }
 {
     let mut bytes = [0; BLOCK_BYTES];
     store.copy_frame(f, &mut bytes);

@@ -1,14 +1,20 @@
 -- How many slices the processes of a queue have had.
-use Rattle.std.proofs.Common.{◌≡◌, ℕ, ◌+◌, ◌-◌, ◌<◌, ◌≤◌, not, Option, Some, None, ◌∙◌, Bool, true, false, ◌&&◌, List, [], ◌∷◌, arith, refl}
+use Rattle.std.proofs.Common.{◌≡◌, ℕ, zero, suc, ◌+◌, ◌-◌, ◌<◌, ◌≤◌, not, Option, Some, None, ◌∙◌, Bool, true, false, ◌&&◌, List, [], ◌∷◌, arith, refl}
 use Rattle.std.specs.Prelude.{nat_le, cond, filter, ◌==◌}
 use Rattle.std.specs.List.{list_all}
 use Rattle.std.proofs.lemmas.Bool.Decides.{nat_tests}
 use Rattle.std.proofs.lemmas.List.Folds.{list_all-append}
 use Rattle.kernel_model.specs.declared.QueueRow.{QueueRow}
+use Rattle.kernel_model.specs.declared.OpenRow.{OpenRow}
+use Rattle.kernel_model.specs.declared.SysCall.{SysCall}
+use Rattle.kernel_model.specs.declared.SysCall.TheVariants.{Spawn, Yield, Read}
+use Rattle.kernel_model.specs.Objects.{Things}
+use Rattle.kernel_model.specs.Needs.{free_process}
+use Rattle.kernel_model.specs.Pieces.{to_back, piece_fits, pieces_left, read_fits, read_left}
 use Rattle.kernel_model.specs.Queue.{slices_of, with_slice, queue_to_back, new_row}
-use Rattle.process_table.specs.Processes.{Processes, processes_of, spawned}
-use Rattle.vino_top.specs.declared.kernel.Kernel.{Kernel}
-use Rattle.vino_top.specs.Bounds.{slices_within, IsKernelWithin}
+use Rattle.kernel_state.specs.Stores.{queue_joined}
+use Rattle.call_pieces.specs.Works.{queue_after, next_of}
+use Rattle.vino_top.specs.Bounds.{slices_within}
 
 -- two tests pass
 both_hold : (a b : Bool) → (a && b) ≡ true → (a ≡ true) × (b ≡ true)
@@ -78,28 +84,50 @@ begun_within : (n c : ℕ) → slices_within n (new_row c ∷ []) ≡ true
 begun_within n c = grind (arith, nat_tests)
 
 -- a process joins, or not
-within_spawned : (n : ℕ) (x : Option ℕ) (s : Processes) → slices_within (n - 1) s.queue ≡ true → slices_within n (spawned x s).queue ≡ true
-within_spawned n None s h = within_later n s.queue h
-within_spawned n (Some c) s h =
-    list_all-append (λ (r : QueueRow). nat_le r.slices n) s.queue (new_row c ∷ [])
-    ∙ hold_both (slices_within n s.queue) (slices_within n (new_row c ∷ [])) (within_later n s.queue h) (begun_within n c)
+within_joined : (n : ℕ) (x : Option ℕ) (queue : List QueueRow) → slices_within n queue ≡ true → slices_within n (queue_joined x queue) ≡ true
+within_joined n None queue h = h
+within_joined n (Some c) queue h =
+    list_all-append (λ (r : QueueRow). nat_le r.slices n) queue (new_row c ∷ [])
+    ∙ hold_both (slices_within n queue) (slices_within n (new_row c ∷ [])) h (begun_within n c)
 
--- a kernel after a spawn
-pub spawn_within : (n : ℕ) (old new : Kernel) (x : Option ℕ) → IsKernelWithin (n - 1) old → new.clock ≡ old.clock → new.procs.queue ≡ (spawned x (processes_of old.procs)).queue → IsKernelWithin n new
-spawn_within n old new x h clock queue =
-    record { clock = rw clock (omega (arith, h.clock)); slices = rw queue (within_spawned n x (processes_of old.procs) h.slices) }
+-- a queue after the last piece of a call
+pub within_after : (n : ℕ) (c : SysCall) (piece p : ℕ) (queue : List QueueRow) → 0 < n → slices_within (n - 1) queue ≡ true → slices_within n (queue_after c piece p queue) ≡ true
+within_after n Spawn piece p queue some h = within_joined n (free_process queue 16 0) queue (within_later n queue h)
+within_after n Yield zero p queue some h = within_later n (to_back p queue) (within_back (n - 1) p queue h)
+within_after n Yield (suc k) p queue some h = within_more n (next_of queue) queue some h
+within_after n _ piece p queue some h = within_later n queue h
 
--- a kernel after a yield
-pub yield_within : (n p c : ℕ) (old new : Kernel) → 0 < n → IsKernelWithin (n - 1) old → new.clock ≡ old.clock → new.procs.queue ≡ with_slice c (queue_to_back p old.procs.queue) → IsKernelWithin n new
-yield_within n p c old new some h clock queue =
-    record { clock = rw clock (omega (arith, h.clock)); slices = rw queue (within_more n c (queue_to_back p old.procs.queue) some (within_back (n - 1) p old.procs.queue h.slices)) }
+-- a second piece of a yield is the last
+last_yield : (k m : ℕ) → nat_le m 1 ≡ true → 2 - m < 2 - suc k → ⊥
+last_yield k m fits fewer = absurd (grind (arith, nat_tests))
 
--- a kernel whose queue stayed
-pub same_within : (n : ℕ) (old new : Kernel) → IsKernelWithin (n - 1) old → new.clock ≡ old.clock → new.procs.queue ≡ old.procs.queue → IsKernelWithin n new
-same_within n old new h clock queue =
-    record { clock = rw clock (omega (arith, h.clock)); slices = rw queue (within_later n old.procs.queue h.slices) }
+-- a queue after a piece that isn't the last of its call
+pub within_going : (n : ℕ) (c : SysCall) (piece next p : ℕ) (queue : List QueueRow) (w w_new : Things) → slices_within n queue ≡ true →
+    piece_fits c next w_new p ≡ true → pieces_left c next w_new p < pieces_left c piece w p → slices_within n (queue_after c piece p queue) ≡ true
+within_going n Spawn piece next p queue w w_new h fits fewer = within_joined n (free_process queue 16 0) queue h
+within_going n Yield zero next p queue w w_new h fits fewer = within_back n p queue h
+within_going n Yield (suc k) next p queue w w_new h fits fewer = absurd (last_yield k next fits fewer)
+within_going n _ piece next p queue w w_new h fits fewer = h
 
--- a kernel whose clock rose
-pub tick_within : (n : ℕ) (old new : Kernel) → 0 < n → IsKernelWithin (n - 1) old → new.clock ≡ old.clock + 1 → new.procs ≡ old.procs → IsKernelWithin n new
-tick_within n old new some h clock procs =
-    record { clock = rw clock (omega (arith, h.clock)); slices = rw procs (within_later n old.procs.queue h.slices) }
+-- the next piece of a yield
+left_yield : (n : ℕ) → nat_le n 1 ≡ true → 1 ≤ 2 - n
+left_yield n h = grind (arith, nat_tests)
+
+-- the next piece of a read
+left_read : (n : ℕ) (o : Option OpenRow) → read_fits n o ≡ true → 1 ≤ read_left n o
+left_read zero o h = omega arith
+left_read (suc n) None h = absurd cc
+left_read (suc zero) (Some o) h = omega arith
+left_read (suc (suc n)) (Some o) h = grind (arith, nat_tests)
+
+-- a call that stands before one of its pieces has one left
+pub some_left : (c : SysCall) (n : ℕ) (w : Things) (p : ℕ) → piece_fits c n w p ≡ true → 1 ≤ pieces_left c n w p
+some_left Yield n w p h = left_yield n h
+some_left (Read fd i off len) n w p h = left_read n (w.file p fd) (both_hold (nat_le n 2) (read_fits n (w.file p fd)) h).1
+some_left _ n w p h = omega arith
+
+-- a call that was granted has at most ten
+pub most_left : (c : SysCall) (w : Things) (p : ℕ) → pieces_left c 0 w p ≤ 10
+most_left Yield w p = omega arith
+most_left (Read fd i off len) w p = omega arith
+most_left _ w p = omega arith

@@ -1,157 +1,245 @@
--- What the kernel's calls are as events of the abstract kernel, in which no call is in flight.
-use Rattle.std.proofs.Common.{add-one, ◌<◌, ◌≡◌, ℕ, zero, suc, ◌+◌, ◌<◌, Bool, true, false, List, [], ◌∷◌, Some, None, Option, arith, refl, sym, ap, ◌∙◌}
-use Rattle.kernel_model.specs.declared.QueueRow.{QueueRow}
-use Rattle.kernel_model.specs.declared.SysCall.TheVariants.{Spawn, Yield, Poke, Peek}
-use Rattle.kernel_model.specs.declared.Event.TheVariants.{Tick, Sys}
-use Rattle.kernel_model.specs.declared.Note.{Note}
-use Rattle.kernel_model.specs.declared.Note.TheVariants.{Ended, Refused, Ticked}
-use Rattle.kernel_model.specs.declared.Reply.{Reply}
-use Rattle.kernel_model.specs.declared.Refusal.TheVariants.{Full, BadIndex, NoProcess}
-use Rattle.kernel_model.specs.Queue.{is_living, free_number, queue_to_back, with_slice}
-use Rattle.kernel_model.specs.Objects.{Objects, at2}
-use Rattle.kernel_model.specs.World.{World, Blocks}
-use Rattle.kernel_model.specs.Meaning.{stage}
-use Rattle.kernel_model.specs.Needs.{spawn_needs, slice_needs, free_process}
-use Rattle.kernel_model.specs.Pieces.{plain, spawn_piece}
-use Rattle.kernel_model.specs.Early.{begins_unless, refused}
-use Rattle.kernel_model.specs.Opening.{opening_policy, opening_accounts}
-use Rattle.kernel_model.specs.Policies.{next_process, process_in, least, turn_key, or_zero}
+-- A call is run piece by piece as the abstract kernel runs it, and so is an event.
+use Rattle.std.proofs.Common.{add-one, ◌<◌, ◌≡◌, ◌≤◌, ℕ, zero, suc, ◌+◌, ◌-◌, not, ◌&&◌, Bool, true, false, List, [], ◌∷◌, ◌++◌, Some, None, Option, Ok, Err, Result, length, drop, arith, refl, sym, ap, subst, ◌∙◌, append_assoc, append-nil}
+use Rattle.std.specs.Prelude.{⊤, Contains}
+use Rattle.std.proofs.Math.Seq.{drop-append_seam}
+use Rattle.std.proofs.lemmas.List.{Contains-append_right}
 use Rattle.kernel_model.specs.declared.SysCall.{SysCall}
-use Rattle.std.specs.Prelude.{nat_lt, cond}
-use Rattle.std.proofs.lemmas.Bool.Decides.{nat_tests}
-use Rattle.kernel_model.specs.Quiet.{HasNoGraft, needs_no_user, has_ended, left_by, at_rest, event_of_one, event_of_two, event_refused, event_of_none}
-use Rattle.process_table.specs.Processes.{Processes, processes_of, spawned}
+use Rattle.kernel_model.specs.declared.SysCall.TheVariants.{TakeLock}
+use Rattle.kernel_model.specs.declared.Event.TheVariants.{Tick, Sys}
+use Rattle.kernel_model.specs.declared.Need.{Need}
+use Rattle.kernel_model.specs.declared.Note.{Note}
+use Rattle.kernel_model.specs.declared.Note.TheVariants.{Refused, Ticked}
+use Rattle.kernel_model.specs.declared.Object.{Object}
+use Rattle.kernel_model.specs.declared.Refusal.{Refusal}
+use Rattle.kernel_model.specs.declared.Refusal.TheVariants.{NoProcess}
+use Rattle.kernel_model.specs.Objects.{Objects}
+use Rattle.kernel_model.specs.World.{World, ImageTable, Blocks}
+use Rattle.kernel_model.specs.Locks.{user_of}
+use Rattle.kernel_model.specs.Laws.{waits_for_user}
+use Rattle.kernel_model.specs.Meaning.{Stage, Piece, After, Continues, EndsWith, Fails, stage}
+use Rattle.kernel_model.specs.Kernel.{Run, gave_note, after_note}
+use Rattle.kernel_model.specs.Kernel as abstract
+use Rattle.kernel_model.specs.Pieces.{plain, piece_fits}
+use Rattle.kernel_model.specs.Early.{plain_early}
+use Rattle.kernel_model.specs.Events.{event}
+use Rattle.kernel_model.specs.Policies.{lives}
+use Rattle.kernel_model.specs.Quiet.{quiet, at_rest, left_by, has_ended, is_others, is_unhindered, HasNoGraft, event_of_none, event_refused}
+use Rattle.kernel_model.specs.Alone.{pieces_from, GoesToItsEnd, is_lock, event_of_pieces}
+use Rattle.plain_rules.specs.PlainLaws.{laws_of_plain}
+use Rattle.disk_log.specs.Calls.{Tells, Made, GoesOn}
+use Rattle.disk_log.specs.Joined.{made_none, made_joined}
+use Rattle.vino_base.specs.Calls.{Plan}
+use Rattle.kernel_state.specs.declared.Store.{Store}
+use Rattle.kernel_state.specs.Stores.{world_of_store, objects_of}
+use Rattle.call_pieces.specs.Works.{is_built_call}
+use Rattle.call_pieces.specs.Coming.{CameTo}
 use Rattle.vino_top.specs.declared.kernel.Kernel.{Kernel}
-use Rattle.vino_top.specs.declared.kernel.Setup.{Setup}
-use Rattle.vino_top.specs.Standing.{kernel_of, world_for, objects_of, answers_so, front_of}
+use Rattle.vino_top.specs.Standing.{no_images, kernel_of, CallRan, Happened}
 
--- the same number is free
-same_free : (rows : List QueueRow) (n p : ℕ) → free_process rows n p ≡ free_number rows n p
-unfolding free_number
-same_free rows zero p = refl
-same_free rows (suc n) p = ap (λ x. elim (is_living p rows) as (λ _. Option ℕ) [ true ↦ x | false ↦ Some p ]) (same_free rows n (suc p))
+-- ---- nothing hinders a call that is built
 
--- the note of a spawn
-abbrev pub spawn_note : ℕ → Option ℕ → Note
-spawn_note number None = Refused number Full
-spawn_note number (Some c) = Ended number (Reply.One c)
+-- the place of the first is below
+below_suc : (n : ℕ) → 0 < suc n
+below_suc n = omega arith
 
--- no graft stands in the opening accounts
-none_stands : (grant : ℕ) (s : Processes) → HasNoGraft (objects_of grant s)
-none_stands grant s q pt = refl
+-- needs of which none is of a user lock are hindered by none
+each_free : (users : ℕ → Option ℕ) (p : ℕ) (ns : List Need) → ((x : Need) → Contains ns x → x.by_user ≡ false) → is_unhindered users p ns ≡ true
+each_free users p [] h = refl
+each_free users p (x ∷ ns) h =
+    ap (λ b. not (b && is_others p (user_of users x.object)) && is_unhindered users p ns) (h x (0, below_suc (length ns), refl))
+    ∙ each_free users p ns (λ y c. h y (Contains-append_right (x ∷ []) ns y c))
 
--- a spawn's needs are of no user lock
-spawn_users : (x : Option ℕ) → needs_no_user (spawn_needs x) ≡ true
-spawn_users None = refl
-spawn_users (Some c) = refl
+-- no call that is built waits for a user lock
+built_waits : (c : SysCall) (o : Object) → is_built_call c ≡ true → waits_for_user c o ≡ false
+built_waits (TakeLock u) o h = absurd cc
+built_waits _ o h = refl
 
--- a spawn has one piece
-spawn_ends : (s : Objects) (x : Option ℕ) (blocks : Blocks) → has_ended (spawn_piece s x blocks).after ≡ true
-spawn_ends s None blocks = refl
-spawn_ends s (Some c) blocks = refl
+-- so no piece of such a call is hindered
+pub free_piece : (c : SysCall) (n p : ℕ) (v : World) (s : Objects) → is_built_call c ≡ true → piece_fits c n s.things p ≡ true →
+    is_unhindered s.things.lock p (plain.need v s p (stage c n)) ≡ true
+free_piece c n p v s built fits =
+    each_free s.things.lock p (plain.need v s p (stage c n)) (λ x k. laws_of_plain.need.user v s p (stage c n) x fits k ∙ built_waits c x.object built)
 
--- what a spawn leaves
-spawn_leaves : (number : ℕ) (old : Kernel) (x : Option ℕ) (blocks : Blocks) (io : List Bool) →
-    left_by number (spawn_piece (kernel_of old).objects x blocks) (record { kernel = kernel_of old; blocks = blocks; notes = []; io = io })
-    ≡ record { kernel = record (kernel_of old) { objects = objects_of old.setup.grant (spawned x (processes_of old.procs)) }; blocks = blocks; notes = spawn_note number x ∷ []; io = io }
-spawn_leaves number old None blocks io = refl
-spawn_leaves number old (Some c) blocks io = refl
+-- no graft stands in a store
+pub none_stands : (s : Store) → HasNoGraft (objects_of s)
+none_stands s q pt = refl
 
--- a kernel with other processes
-stands_so : (old new : Kernel) (z : Processes) (blocks : Blocks) (notes : List Note) (io : List Bool) →
-    world_for new.size new.setup new.directory ≡ world_for old.size old.setup old.directory → new.clock ≡ old.clock → processes_of new.procs ≡ z →
-    at_rest (world_for old.size old.setup old.directory) (λ slot. None) (objects_of old.setup.grant z) old.clock blocks notes io
-    ≡ record { kernel = kernel_of new; blocks = blocks; notes = notes; io = io }
-stands_so old new z blocks notes io world clock procs =
-    ap (λ (w : Processes). at_rest (world_for old.size old.setup old.directory) (λ slot. None) (objects_of old.setup.grant w) old.clock blocks notes io) (sym procs)
-    ∙ ap (λ (c : ℕ). at_rest (world_for old.size old.setup old.directory) (λ slot. None) (objects_of old.setup.grant (processes_of new.procs)) c blocks notes io) (sym clock)
-    ∙ ap (λ (v : World). at_rest v (λ slot. None) (objects_of v.grant (processes_of new.procs)) new.clock blocks notes io) (sym world)
+-- ---- pieces
 
--- a spawn
-pub spawn_so : (number p : ℕ) (old new : Kernel) (x : Option ℕ) → is_living p old.procs.queue ≡ true → x ≡ free_number old.procs.queue 16 0 →
-    world_for new.size new.setup new.directory ≡ world_for old.size old.setup old.directory → new.clock ≡ old.clock → processes_of new.procs ≡ spawned x (processes_of old.procs) → answers_so number (Sys p Spawn) old new (spawn_note number x)
-spawn_so number p old new x alive found world clock procs = λ blocks io.
-    let s = objects_of old.setup.grant (processes_of old.procs) in
-    let r = at_rest (world_for old.size old.setup old.directory) (λ slot. None) s old.clock blocks [] io in
-    event_of_one plain p number Spawn (stage Spawn 0) (world_for old.size old.setup old.directory) (λ slot. None) s old.clock blocks io alive refl
-    (none_stands old.setup.grant (processes_of old.procs)) (spawn_users (free_process old.procs.queue 16 0)) (spawn_ends s (free_process old.procs.queue 16 0) blocks)
-    ∙ ap (λ (y : Option ℕ). left_by number (spawn_piece s y blocks) r) (same_free old.procs.queue 16 0 ∙ sym found)
-    ∙ spawn_leaves number old x blocks io
-    ∙ stands_so old new (spawned x (processes_of old.procs)) blocks (spawn_note number x ∷ []) io world clock procs
+-- what a piece leaves, in the terms of the code
+left_so : (number : ℕ) (q : Piece) (v : World) (images : ImageTable) (s s_new : Objects) (clock : ℕ) (blocks : Blocks) (notes : List Note) (told : Option (List (List ℕ))) (own rest : List Bool) (gave : Option (List ℕ)) (a : After) →
+    CameTo q s_new told gave a (length own) →
+    left_by number q (at_rest v images s clock blocks notes (own ++ rest)) ≡ at_rest v images s_new clock q.blocks (notes ++ gave_note number gave ++ after_note number a) rest
+left_so number q v images s s_new clock blocks notes told own rest gave a came =
+    ap (λ (x : Objects). at_rest v images x clock q.blocks (notes ++ gave_note number q.gave ++ after_note number q.after) (drop q.calls (own ++ rest))) (sym came.objects)
+    ∙ ap (λ (x : Option (List ℕ)). at_rest v images s_new clock q.blocks (notes ++ gave_note number x ++ after_note number q.after) (drop q.calls (own ++ rest))) (sym came.bytes)
+    ∙ ap (λ (x : After). at_rest v images s_new clock q.blocks (notes ++ gave_note number gave ++ after_note number x) (drop q.calls (own ++ rest))) (sym came.next)
+    ∙ ap (λ (n : ℕ). at_rest v images s_new clock q.blocks (notes ++ gave_note number gave ++ after_note number a) (drop n (own ++ rest))) (sym came.calls_made)
+    ∙ ap (λ (io : List Bool). at_rest v images s_new clock q.blocks (notes ++ gave_note number gave ++ after_note number a) io) (drop-append_seam own rest)
 
--- a cell gets a value
-pub poke_so : (number p k x : ℕ) (old new : Kernel) → is_living p old.procs.queue ≡ true → nat_lt 3 k ≡ false →
-    world_for new.size new.setup new.directory ≡ world_for old.size old.setup old.directory → new.clock ≡ old.clock → processes_of new.procs ≡ record (processes_of old.procs) { cell = at2 p k x (processes_of old.procs).cell } →
-    answers_so number (Sys p (Poke k x)) old new (Ended number Reply.Plain)
-poke_so number p k x old new alive small world clock procs = λ blocks io.
-    event_of_one plain p number (Poke k x) (stage (Poke k x) 0) (world_for old.size old.setup old.directory) (λ slot. None) (objects_of old.setup.grant (processes_of old.procs)) old.clock blocks io alive
-    (ap (λ (b : Bool). begins_unless (Poke k x) (refused b BadIndex None)) small)
-    (none_stands old.setup.grant (processes_of old.procs)) refl refl
-    ∙ stands_so old new (record (processes_of old.procs) { cell = at2 p k x (processes_of old.procs).cell }) blocks (Ended number Reply.Plain ∷ []) io world clock procs
+-- what comes after the last piece
+ended_holds : (a x : After) (F : Stage → Type 0) → a ≡ x → has_ended a ≡ true → elim x as (λ _. Type 0) [ Continues u ↦ F u | EndsWith reply ↦ ⊤ | Fails refusal ↦ ⊤ ]
+ended_holds a (Continues u) F e h = absurd (contrary (sym h ∙ ap has_ended e))
+  where
+    contrary : true ≡ false → ⊥
+    contrary k = cc
+ended_holds a (EndsWith reply) F e h = tt
+ended_holds a (Fails refusal) F e h = tt
 
--- a cell's value is told
-pub peek_so : (number p k : ℕ) (old : Kernel) → is_living p old.procs.queue ≡ true → nat_lt 3 k ≡ false →
-    answers_so number (Sys p (Peek k)) old old (Ended number (Reply.One ((processes_of old.procs).cell p k)))
-peek_so number p k old alive small = λ blocks io.
-    event_of_one plain p number (Peek k) (stage (Peek k) 0) (world_for old.size old.setup old.directory) (λ slot. None) (objects_of old.setup.grant (processes_of old.procs)) old.clock blocks io alive
-    (ap (λ (b : Bool). begins_unless (Peek k) (refused b BadIndex None)) small)
-    (none_stands old.setup.grant (processes_of old.procs)) refl refl
+ended_run : (a x : After) (f : Stage → Run) (l : Run) → a ≡ x → has_ended a ≡ true → elim x as (λ _. Run) [ Continues u ↦ f u | EndsWith reply ↦ l | Fails refusal ↦ l ] ≡ l
+ended_run a (Continues u) f l e h = absurd (contrary (sym h ∙ ap has_ended e))
+  where
+    contrary : true ≡ false → ⊥
+    contrary k = cc
+ended_run a (EndsWith reply) f l e h = refl
+ended_run a (Fails refusal) f l e h = refl
 
--- a cell that isn't there
-pub poke_refused : (number p k x : ℕ) (old : Kernel) → is_living p old.procs.queue ≡ true → nat_lt 3 k ≡ true → answers_so number (Sys p (Poke k x)) old old (Refused number BadIndex)
-poke_refused number p k x old alive large = λ blocks io.
-    event_refused plain p number (Poke k x) BadIndex (world_for old.size old.setup old.directory) (λ slot. None) (objects_of old.setup.grant (processes_of old.procs)) old.clock blocks io alive
-    (ap (λ (b : Bool). begins_unless (Poke k x) (refused b BadIndex None)) large)
+-- a run that is a run at rest with blocks of its own
+same_rest : (x : Run) (v : World) (images : ImageTable) (s : Objects) (clock : ℕ) (b : Blocks) (notes : List Note) (io : List Bool) → x ≡ at_rest v images s clock b notes io →
+    x ≡ at_rest v images s clock x.blocks notes io
+same_rest x v images s clock b notes io e = e ∙ ap (λ (y : Blocks). at_rest v images s clock y notes io) (sym (ap (λ (y : Run). y.blocks) e))
 
-pub peek_refused : (number p k : ℕ) (old : Kernel) → is_living p old.procs.queue ≡ true → nat_lt 3 k ≡ true → answers_so number (Sys p (Peek k)) old old (Refused number BadIndex)
-peek_refused number p k old alive large = λ blocks io.
-    event_refused plain p number (Peek k) BadIndex (world_for old.size old.setup old.directory) (λ slot. None) (objects_of old.setup.grant (processes_of old.procs)) old.clock blocks io alive
-    (ap (λ (b : Bool). begins_unless (Peek k) (refused b BadIndex None)) large)
+-- the last piece of a call
+pub call_ended : (n p number : ℕ) (t : Stage) (v : World) (s s_new : Objects) (clock : ℕ) (notes notes_new : List Note) (told told_new : Option (List (List ℕ))) (own : List Bool) (gave : Option (List ℕ)) (a : After) →
+    HasNoGraft s → is_unhindered s.things.lock p (plain.need v s p t) ≡ true → has_ended a ≡ true →
+    ((images : ImageTable) (blocks : Blocks) (rest : List Bool) → Tells told blocks → CameTo (plain.piece v images s blocks p t None (own ++ rest)) s_new told_new gave a (length own)) →
+    notes_new ≡ notes ++ gave_note number gave ++ after_note number a →
+    CallRan (suc n) p number t v s s_new clock notes notes_new told told_new own
+call_ended n p number t v s s_new clock notes notes_new told told_new own gave a none free ended came said =
+    let q = λ (images : ImageTable) (blocks : Blocks) (rest : List Bool). plain.piece v images s blocks p t None (own ++ rest) in
+    let l = λ (images : ImageTable) (blocks : Blocks) (rest : List Bool). left_by number (q images blocks rest) (at_rest v images s clock blocks notes (own ++ rest)) in
+    let run = λ (images : ImageTable) (blocks : Blocks) (rest : List Bool) (tells : Tells told blocks).
+        ended_run a (q images blocks rest).after (λ u. pieces_from plain n p number u (l images blocks rest)) (l images blocks rest) (came images blocks rest tells).next ended
+        ∙ left_so number (q images blocks rest) v images s s_new clock blocks notes told_new own rest gave a (came images blocks rest tells)
+        ∙ ap (λ (x : List Note). at_rest v images s_new clock (q images blocks rest).blocks x rest) (sym said) in
+    record {
+      ends = λ images blocks rest tells. (none, free, ended_holds a (q images blocks rest).after (λ u. GoesToItsEnd plain n p number u (l images blocks rest)) (came images blocks rest tells).next ended);
+      rests = λ images blocks rest tells.
+        same_rest (pieces_from plain (suc n) p number t (at_rest v images s clock blocks notes (own ++ rest))) v images s_new clock (q images blocks rest).blocks notes_new rest (run images blocks rest tells);
+      tells = λ images blocks rest tells.
+        subst (λ (b : Blocks). Tells told_new b) (sym (ap (λ (x : Run). x.blocks) (run images blocks rest tells))) (came images blocks rest tells).blocks;
+    }
+
+-- a piece that isn't the last, and those after it
+pub call_goes : (n p number : ℕ) (t u : Stage) (v : World) (s s_mid s_new : Objects) (clock : ℕ) (notes notes_mid notes_new : List Note) (told told_mid told_new : Option (List (List ℕ))) (own io : List Bool) (gave : Option (List ℕ)) →
+    HasNoGraft s → is_unhindered s.things.lock p (plain.need v s p t) ≡ true →
+    ((images : ImageTable) (blocks : Blocks) (rest : List Bool) → Tells told blocks → CameTo (plain.piece v images s blocks p t None (own ++ rest)) s_mid told_mid gave (Continues u) (length own)) →
+    notes_mid ≡ notes ++ gave_note number gave → CallRan n p number u v s_mid s_new clock notes_mid notes_new told_mid told_new io →
+    CallRan (suc n) p number t v s s_new clock notes notes_new told told_new (own ++ io)
+call_goes n p number t u v s s_mid s_new clock notes notes_mid notes_new told told_mid told_new own io gave none free came said later =
+    let q = λ (images : ImageTable) (blocks : Blocks) (rest : List Bool). plain.piece v images s blocks p t None (own ++ (io ++ rest)) in
+    let l = λ (images : ImageTable) (blocks : Blocks) (rest : List Bool). left_by number (q images blocks rest) (at_rest v images s clock blocks notes (own ++ (io ++ rest))) in
+    let mid = λ (images : ImageTable) (blocks : Blocks) (rest : List Bool) (tells : Tells told blocks).
+        left_so number (q images blocks rest) v images s s_mid clock blocks notes told_mid own (io ++ rest) gave (Continues u) (came images blocks (io ++ rest) tells)
+        ∙ ap (λ (x : List Note). at_rest v images s_mid clock (q images blocks rest).blocks x (io ++ rest)) (append-nil (notes ++ gave_note number gave) ∙ sym said) in
+    let first = λ (images : ImageTable) (blocks : Blocks) (rest : List Bool) (tells : Tells told blocks).
+        subst (λ (a : After). elim a as (λ _. Run) [ Continues w ↦ pieces_from plain n p number w (l images blocks rest) | EndsWith reply ↦ l images blocks rest | Fails refusal ↦ l images blocks rest ] ≡ pieces_from plain n p number u (l images blocks rest))
+        (came images blocks (io ++ rest) tells).next refl in
+    let run = λ (images : ImageTable) (blocks : Blocks) (rest : List Bool) (tells : Tells told blocks).
+        first images blocks rest tells ∙ ap (pieces_from plain n p number u) (mid images blocks rest tells) in
+    let told_by = λ (images : ImageTable) (blocks : Blocks) (rest : List Bool) (tells : Tells told blocks). (came images blocks (io ++ rest) tells).blocks in
+    record {
+      ends = λ images blocks rest tells.
+        subst (λ (x : List Bool). GoesToItsEnd plain (suc n) p number t (at_rest v images s clock blocks notes x)) (sym (append_assoc own io rest)) (
+          none,
+          free,
+          subst (λ (a : After). elim a as (λ _. Type 0) [ Continues w ↦ GoesToItsEnd plain n p number w (l images blocks rest) | EndsWith reply ↦ ⊤ | Fails refusal ↦ ⊤ ])
+              (came images blocks (io ++ rest) tells).next
+              (subst (λ (x : Run). GoesToItsEnd plain n p number u x) (sym (mid images blocks rest tells)) (later.ends images (q images blocks rest).blocks rest (told_by images blocks rest tells))),
+        );
+      rests = λ images blocks rest tells.
+        let x = pieces_from plain n p number u (at_rest v images s_mid clock (q images blocks rest).blocks notes_mid (io ++ rest)) in
+        subst (λ (y : List Bool). pieces_from plain (suc n) p number t (at_rest v images s clock blocks notes y) ≡ at_rest v images s_new clock (pieces_from plain (suc n) p number t (at_rest v images s clock blocks notes y)).blocks notes_new rest) (sym (append_assoc own io rest))
+        (same_rest (pieces_from plain (suc n) p number t (at_rest v images s clock blocks notes (own ++ (io ++ rest)))) v images s_new clock x.blocks notes_new rest
+        (run images blocks rest tells ∙ later.rests images (q images blocks rest).blocks rest (told_by images blocks rest tells)));
+      tells = λ images blocks rest tells.
+        subst (λ (y : List Bool). Tells told_new (pieces_from plain (suc n) p number t (at_rest v images s clock blocks notes y)).blocks) (sym (append_assoc own io rest))
+        (subst (λ (x : Run). Tells told_new x.blocks) (sym (run images blocks rest tells)) (later.tells images (q images blocks rest).blocks rest (told_by images blocks rest tells)));
+    }
+
+-- ---- lists of calls
+
+-- what was appended
+pub appended : (before own after : List Bool) → after ≡ before ++ own → drop (length before) after ≡ own
+appended before own after is = ap (drop (length before)) is ∙ drop-append_seam before own
+
+-- what was appended twice
+pub appended_twice : (before own mid after : List Bool) → mid ≡ before ++ own → after ≡ mid ++ drop (length mid) after → drop (length before) after ≡ own ++ drop (length mid) after
+appended_twice before own mid after is later =
+    appended before (own ++ drop (length mid) after) after (later ∙ ap (λ (x : List Bool). x ++ drop (length mid) after) is ∙ append_assoc before own (drop (length mid) after))
+
+-- a list goes on by the calls of a piece
+pub goes_on_by : (faults faults_new : ℕ) (plan plan_new : Option Plan) (before own after : List Bool) → after ≡ before ++ own →
+    GoesOn faults faults_new plan plan_new [] own → GoesOn faults faults_new plan plan_new before after
+goes_on_by faults faults_new plan plan_new before own after is made = λ f p first.
+    subst (λ io. Made f faults_new p plan_new io) (sym is) (made_joined f faults faults_new p plan plan_new before own first (made faults plan (made_none faults plan)))
+
+-- ---- events
+
+-- the event of a call that was run
+pub call_happened : (n p number : ℕ) (c : SysCall) (t : Stage) (old new : Kernel) (notes : List Note) (told told_new : Option (List (List ℕ))) (io : List Bool) →
+    n ≤ 256 → lives (objects_of old.store).things.queue p ≡ true → plain_early (world_of_store old.store) no_images p c ≡ Ok t →
+    CallRan n p number t (world_of_store old.store) (objects_of old.store) (objects_of new.store) old.clock [] notes told told_new io →
+    world_of_store new.store ≡ world_of_store old.store → new.clock ≡ old.clock → Happened old new told told_new number (Sys p c) io notes
+call_happened n p number c t old new notes told told_new io few alive granted ran world clock =
+    let v = world_of_store old.store in
+    let s = objects_of old.store in
+    let x = λ (blocks : Blocks). pieces_from plain n p number t (at_rest v no_images s old.clock blocks [] io) in
+    let ends = λ (blocks : Blocks) (tells : Tells told blocks).
+        subst (λ (y : List Bool). GoesToItsEnd plain n p number t (at_rest v no_images s old.clock blocks [] y)) (append-nil io) (ran.ends no_images blocks [] tells) in
+    let rests = λ (blocks : Blocks) (tells : Tells told blocks).
+        subst (λ (y : List Bool). pieces_from plain n p number t (at_rest v no_images s old.clock blocks [] y) ≡ at_rest v no_images (objects_of new.store) old.clock (pieces_from plain n p number t (at_rest v no_images s old.clock blocks [] y)).blocks notes []) (append-nil io) (ran.rests no_images blocks [] tells) in
+    let is = λ (blocks : Blocks) (tells : Tells told blocks).
+        event_of_pieces plain n p number c t v no_images s old.clock blocks io alive granted few (ends blocks tells) in
+    record {
+      kernel_is = λ blocks tells.
+        ap (λ (r : Run). r.kernel) (is blocks tells ∙ rests blocks tells)
+        ∙ ap (λ (y : World). quiet y no_images (objects_of new.store) old.clock) (sym world)
+        ∙ ap (λ (y : ℕ). quiet (world_of_store new.store) no_images (objects_of new.store) y) (sym clock);
+      blocks_are = λ blocks tells.
+        subst (λ (r : Run). Tells told_new r.blocks) (sym (is blocks tells))
+        (subst (λ (y : List Bool). Tells told_new (pieces_from plain n p number t (at_rest v no_images s old.clock blocks [] y)).blocks) (append-nil io) (ran.tells no_images blocks [] tells));
+      notes_are = λ blocks tells. ap (λ (r : Run). r.notes) (is blocks tells ∙ rests blocks tells);
+      used_all = λ blocks tells. ap (λ (r : Run). r.io) (is blocks tells ∙ rests blocks tells);
+    }
+
+-- an event that leaves the kernel as it was, with one note
+stays_so : (k : Kernel) (told : Option (List (List ℕ))) (number p : ℕ) (c : SysCall) (note : Note) (io : List Bool) (notes : List Note) →
+    ((blocks : Blocks) → event plain (kernel_of k) blocks number (Sys p c) io ≡ at_rest (world_of_store k.store) no_images (objects_of k.store) k.clock blocks (note ∷ []) io) →
+    io ≡ [] → notes ≡ note ∷ [] → Happened k k told told number (Sys p c) io notes
+stays_so k told number p c note io notes is none said =
+    record {
+      kernel_is = λ blocks tells. ap (λ (r : Run). r.kernel) (is blocks);
+      blocks_are = λ blocks tells. subst (λ (r : Run). Tells told r.blocks) (sym (is blocks)) tells;
+      notes_are = λ blocks tells. ap (λ (r : Run). r.notes) (is blocks) ∙ sym said;
+      used_all = λ blocks tells. ap (λ (r : Run). r.io) (is blocks) ∙ none;
+    }
 
 -- a process that doesn't live
-pub none_so : (number p : ℕ) (c : SysCall) (old : Kernel) → is_living p old.procs.queue ≡ false → answers_so number (Sys p c) old old (Refused number NoProcess)
-none_so number p c old absent = λ blocks io.
-    event_of_none plain p number c (world_for old.size old.setup old.directory) (λ slot. None) (objects_of old.setup.grant (processes_of old.procs)) old.clock blocks io absent
+pub none_happened : (k : Kernel) (told : Option (List (List ℕ))) (number p : ℕ) (c : SysCall) (io : List Bool) (notes : List Note) →
+    lives (objects_of k.store).things.queue p ≡ false → io ≡ [] → notes ≡ Refused number NoProcess ∷ [] → Happened k k told told number (Sys p c) io notes
+none_happened k told number p c io notes absent none said =
+    stays_so k told number p c (Refused number NoProcess) io notes
+    (λ blocks. event_of_none plain p number c (world_of_store k.store) no_images (objects_of k.store) k.clock blocks io absent) none said
 
--- the first of those with equal keys
-least_first : (r : QueueRow) (x : Option QueueRow) →
-    or_zero (process_in (elim x as (λ _. Option QueueRow) [ None ↦ Some r | Some y ↦ cond (nat_lt 0 0) (Some y) (Some r) ])) ≡ r.process
-least_first r None = refl
-least_first r (Some y) = refl
-
--- the candidate of the opening policy is the process at the front
-next_front : (rows : List QueueRow) → or_zero (next_process (opening_policy 2) rows) ≡ front_of rows
-next_front [] = refl
-next_front (r ∷ rows) = least_first r (least (turn_key (opening_policy 2)) rows)
-
--- what a slice needs, where no graft stands
-slice_users : (grant : ℕ) (x : Option ℕ) → needs_no_user (slice_needs (opening_accounts grant) x) ≡ true
-slice_users grant None = refl
-slice_users grant (Some c) = refl
-
--- a process goes to the back, and the one at the front gets a slice
-pub yield_so : (number p : ℕ) (old new : Kernel) → is_living p old.procs.queue ≡ true →
-    world_for new.size new.setup new.directory ≡ world_for old.size old.setup old.directory → new.clock ≡ old.clock →
-    processes_of new.procs ≡ record (processes_of old.procs) { queue = with_slice (front_of (queue_to_back p old.procs.queue)) (queue_to_back p old.procs.queue) } →
-    answers_so number (Sys p Yield) old new (Ended number (Reply.One (front_of (queue_to_back p old.procs.queue))))
-yield_so number p old new alive world clock procs = λ blocks io.
-    let s = objects_of old.setup.grant (processes_of old.procs) in
-    let rows = queue_to_back p old.procs.queue in
-    event_of_two plain p number Yield (stage Yield 0) (stage Yield 1) (world_for old.size old.setup old.directory) (λ slot. None) s old.clock blocks io alive refl
-    (none_stands old.setup.grant (processes_of old.procs)) refl refl (none_stands old.setup.grant (processes_of old.procs))
-    (slice_users old.setup.grant (next_process (opening_policy 2) rows)) refl
-    ∙ ap (λ (c : ℕ). at_rest (world_for old.size old.setup old.directory) (λ slot. None) (objects_of old.setup.grant (record (processes_of old.procs) { queue = with_slice c rows })) old.clock blocks (Ended number (Reply.One c) ∷ []) io) (next_front rows)
-    ∙ stands_so old new (record (processes_of old.procs) { queue = with_slice (front_of rows) rows }) blocks (Ended number (Reply.One (front_of rows)) ∷ []) io world clock procs
-
--- a number below 4 is that of a cell
-pub small_cell : (c k : ℕ) → c ≡ k → c < 4 → nat_lt 3 k ≡ false
-small_cell c k is below = grind (arith, nat_tests)
-
--- the processes after a yield
-pub yield_procs : (old mid new : Processes) (f g : ℕ) (rows : List QueueRow) → new ≡ record mid { queue = with_slice f mid.queue } → mid ≡ record old { queue = rows } → f ≡ g →
-    new ≡ record old { queue = with_slice g rows }
-yield_procs old mid new f g rows first second front = first ∙ ap (λ (m : Processes). record m { queue = with_slice f m.queue }) second ∙ ap (λ (c : ℕ). record old { queue = with_slice c rows }) front
+-- a call that is refused at once
+pub refused_happened : (k : Kernel) (told : Option (List (List ℕ))) (number p : ℕ) (c : SysCall) (refusal : Refusal) (io : List Bool) (notes : List Note) →
+    lives (objects_of k.store).things.queue p ≡ true → plain_early (world_of_store k.store) no_images p c ≡ Err refusal → io ≡ [] → notes ≡ Refused number refusal ∷ [] →
+    Happened k k told told number (Sys p c) io notes
+refused_happened k told number p c refusal io notes alive refused none said =
+    stays_so k told number p c (Refused number refusal) io notes
+    (λ blocks. event_refused plain p number c refusal (world_of_store k.store) no_images (objects_of k.store) k.clock blocks io alive refused) none said
 
 -- a tick
-pub tick_so : (number : ℕ) (old : Kernel) → answers_so number Tick old (record old { clock = old.clock + 1 }) (Ticked number (old.clock + 1))
-tick_so number old = λ blocks io. rw add-one refl
+pub tick_happened : (old new : Kernel) (told : Option (List (List ℕ))) (number : ℕ) (io : List Bool) (notes : List Note) →
+    new.store ≡ old.store → new.clock ≡ old.clock + 1 → io ≡ [] → notes ≡ Ticked number (old.clock + 1) ∷ [] → Happened old new told told number Tick io notes
+tick_happened old new told number io notes store clock none said =
+    let rose = rw add-one at clock in
+    record {
+      kernel_is = λ blocks tells.
+        ap (λ (y : Store). quiet (world_of_store y) no_images (objects_of y) (suc old.clock)) (sym store)
+        ∙ ap (λ (y : ℕ). quiet (world_of_store new.store) no_images (objects_of new.store) y) (sym rose);
+      blocks_are = λ blocks tells. tells;
+      notes_are = λ blocks tells. ap (λ (n : ℕ). Ticked number n ∷ []) (sym (add-one old.clock)) ∙ sym said;
+      used_all = λ blocks tells. none;
+    }
