@@ -14,7 +14,12 @@ use Rattle.kernel_model.specs.Pieces.{to_back, piece_fits, pieces_left, read_fit
 use Rattle.kernel_model.specs.Queue.{slices_of, with_slice, queue_to_back, new_row}
 use Rattle.kernel_state.specs.Stores.{queue_joined}
 use Rattle.call_pieces.specs.Works.{queue_after, next_of}
-use Rattle.vino_top.specs.Bounds.{slices_within}
+use Rattle.call_pieces.specs.Coming.{HasGone}
+use Rattle.call_pieces.specs.declared.Work.{Work}
+use Rattle.kernel_state.specs.declared.Store.{Store}
+use Rattle.kernel_state.specs.Stores.{queue_of}
+use Rattle.vino_top.specs.declared.kernel.Kernel.{Kernel}
+use Rattle.vino_top.specs.Bounds.{slices_within, IsKernelWithin}
 
 -- two tests pass
 both_hold : (a b : Bool) → (a && b) ≡ true → (a ≡ true) × (b ≡ true)
@@ -131,3 +136,23 @@ pub most_left : (c : SysCall) (w : Things) (p : ℕ) → pieces_left c 0 w p ≤
 most_left Yield w p = omega arith
 most_left (Read fd i off len) w p = omega arith
 most_left _ w p = omega arith
+
+-- the same, by what a piece of a call that goes on leaves
+pub within_gone : (n : ℕ) (old new : Work) (s s_new : Store) → HasGone old new s s_new → slices_within n (queue_of s) ≡ true →
+    slices_within n (queue_after old.call old.piece old.caller (queue_of s)) ≡ true
+within_gone n old new s s_new g h =
+    let fits = rw (g.call, g.caller) at g.ready.fits in
+    let fewer = rw (g.call, g.caller) at g.fewer in
+    within_going n old.call old.piece new.piece old.caller (queue_of s) _ _ h fits fewer
+
+-- a kernel that stayed
+pub kernel_later : (n : ℕ) (k : Kernel) → IsKernelWithin (n - 1) k → IsKernelWithin n k
+kernel_later n k h =
+    record { store = h.store; clock = omega (arith, h.clock); slices = within_later n (queue_of k.store) h.slices }
+
+-- what can't be
+pub never_true : {A : Type 0} → false ≡ true → A
+never_true h = absurd (contrary h)
+  where
+    contrary : false ≡ true → ⊥
+    contrary k = cc

@@ -2,7 +2,7 @@
 use Rattle.std.proofs.Common.{add-one, ◌<◌, ◌≡◌, ◌≤◌, ℕ, zero, suc, ◌+◌, ◌-◌, not, ◌&&◌, Bool, true, false, List, [], ◌∷◌, ◌++◌, Some, None, Option, Ok, Err, Result, length, drop, arith, refl, sym, ap, subst, ◌∙◌, append_assoc, append-nil}
 use Rattle.std.specs.Prelude.{⊤, Contains}
 use Rattle.std.proofs.Math.Seq.{drop-append_seam}
-use Rattle.std.proofs.lemmas.List.{Contains-append_right}
+use Rattle.std.proofs.lemmas.List.Elements.{Contains-append_right}
 use Rattle.kernel_model.specs.declared.SysCall.{SysCall}
 use Rattle.kernel_model.specs.declared.SysCall.TheVariants.{TakeLock}
 use Rattle.kernel_model.specs.declared.Event.TheVariants.{Tick, Sys}
@@ -31,7 +31,8 @@ use Rattle.disk_log.specs.Joined.{made_none, made_joined}
 use Rattle.vino_base.specs.Calls.{Plan}
 use Rattle.kernel_state.specs.declared.Store.{Store}
 use Rattle.kernel_state.specs.Stores.{world_of_store, objects_of}
-use Rattle.call_pieces.specs.Works.{is_built_call}
+use Rattle.call_pieces.specs.Works.{is_built_call, stage_of}
+use Rattle.call_pieces.specs.declared.Work.{Work}
 use Rattle.call_pieces.specs.Coming.{CameTo}
 use Rattle.vino_top.specs.declared.kernel.Kernel.{Kernel}
 use Rattle.vino_top.specs.Standing.{no_images, kernel_of, CallRan, Happened}
@@ -109,15 +110,15 @@ call_ended n p number t v s s_new clock notes notes_new told told_new own gave a
     let q = λ (images : ImageTable) (blocks : Blocks) (rest : List Bool). plain.piece v images s blocks p t None (own ++ rest) in
     let l = λ (images : ImageTable) (blocks : Blocks) (rest : List Bool). left_by number (q images blocks rest) (at_rest v images s clock blocks notes (own ++ rest)) in
     let run = λ (images : ImageTable) (blocks : Blocks) (rest : List Bool) (tells : Tells told blocks).
-        ended_run a (q images blocks rest).after (λ u. pieces_from plain n p number u (l images blocks rest)) (l images blocks rest) (came images blocks rest tells).next ended
-        ∙ left_so number (q images blocks rest) v images s s_new clock blocks notes told_new own rest gave a (came images blocks rest tells)
-        ∙ ap (λ (x : List Note). at_rest v images s_new clock (q images blocks rest).blocks x rest) (sym said) in
+    ended_run a (q images blocks rest).after (λ u. pieces_from plain n p number u (l images blocks rest)) (l images blocks rest) (came images blocks rest tells).next ended
+    ∙ left_so number (q images blocks rest) v images s s_new clock blocks notes told_new own rest gave a (came images blocks rest tells)
+    ∙ ap (λ (x : List Note). at_rest v images s_new clock (q images blocks rest).blocks x rest) (sym said) in
     record {
       ends = λ images blocks rest tells. (none, free, ended_holds a (q images blocks rest).after (λ u. GoesToItsEnd plain n p number u (l images blocks rest)) (came images blocks rest tells).next ended);
       rests = λ images blocks rest tells.
-        same_rest (pieces_from plain (suc n) p number t (at_rest v images s clock blocks notes (own ++ rest))) v images s_new clock (q images blocks rest).blocks notes_new rest (run images blocks rest tells);
+          same_rest (pieces_from plain (suc n) p number t (at_rest v images s clock blocks notes (own ++ rest))) v images s_new clock (q images blocks rest).blocks notes_new rest (run images blocks rest tells);
       tells = λ images blocks rest tells.
-        subst (λ (b : Blocks). Tells told_new b) (sym (ap (λ (x : Run). x.blocks) (run images blocks rest tells))) (came images blocks rest tells).blocks;
+          subst (λ (b : Blocks). Tells told_new b) (sym (ap (λ (x : Run). x.blocks) (run images blocks rest tells))) (came images blocks rest tells).blocks;
     }
 
 -- a piece that isn't the last, and those after it
@@ -130,32 +131,53 @@ call_goes n p number t u v s s_mid s_new clock notes notes_mid notes_new told to
     let q = λ (images : ImageTable) (blocks : Blocks) (rest : List Bool). plain.piece v images s blocks p t None (own ++ (io ++ rest)) in
     let l = λ (images : ImageTable) (blocks : Blocks) (rest : List Bool). left_by number (q images blocks rest) (at_rest v images s clock blocks notes (own ++ (io ++ rest))) in
     let mid = λ (images : ImageTable) (blocks : Blocks) (rest : List Bool) (tells : Tells told blocks).
-        left_so number (q images blocks rest) v images s s_mid clock blocks notes told_mid own (io ++ rest) gave (Continues u) (came images blocks (io ++ rest) tells)
-        ∙ ap (λ (x : List Note). at_rest v images s_mid clock (q images blocks rest).blocks x (io ++ rest)) (append-nil (notes ++ gave_note number gave) ∙ sym said) in
+    left_so number (q images blocks rest) v images s s_mid clock blocks notes told_mid own (io ++ rest) gave (Continues u) (came images blocks (io ++ rest) tells)
+    ∙ ap (λ (x : List Note). at_rest v images s_mid clock (q images blocks rest).blocks x (io ++ rest)) (append-nil (notes ++ gave_note number gave) ∙ sym said) in
     let first = λ (images : ImageTable) (blocks : Blocks) (rest : List Bool) (tells : Tells told blocks).
-        subst (λ (a : After). elim a as (λ _. Run) [ Continues w ↦ pieces_from plain n p number w (l images blocks rest) | EndsWith reply ↦ l images blocks rest | Fails refusal ↦ l images blocks rest ] ≡ pieces_from plain n p number u (l images blocks rest))
-        (came images blocks (io ++ rest) tells).next refl in
+    subst (λ (a : After). elim a as (λ _. Run) [ Continues w ↦ pieces_from plain n p number w (l images blocks rest) | EndsWith reply ↦ l images blocks rest | Fails refusal ↦ l images blocks rest ] ≡ pieces_from plain n p number u (l images blocks rest))
+    (came images blocks (io ++ rest) tells).next refl in
     let run = λ (images : ImageTable) (blocks : Blocks) (rest : List Bool) (tells : Tells told blocks).
-        first images blocks rest tells ∙ ap (pieces_from plain n p number u) (mid images blocks rest tells) in
+    first images blocks rest tells ∙ ap (pieces_from plain n p number u) (mid images blocks rest tells) in
     let told_by = λ (images : ImageTable) (blocks : Blocks) (rest : List Bool) (tells : Tells told blocks). (came images blocks (io ++ rest) tells).blocks in
     record {
       ends = λ images blocks rest tells.
-        subst (λ (x : List Bool). GoesToItsEnd plain (suc n) p number t (at_rest v images s clock blocks notes x)) (sym (append_assoc own io rest)) (
-          none,
-          free,
-          subst (λ (a : After). elim a as (λ _. Type 0) [ Continues w ↦ GoesToItsEnd plain n p number w (l images blocks rest) | EndsWith reply ↦ ⊤ | Fails refusal ↦ ⊤ ])
-              (came images blocks (io ++ rest) tells).next
-              (subst (λ (x : Run). GoesToItsEnd plain n p number u x) (sym (mid images blocks rest tells)) (later.ends images (q images blocks rest).blocks rest (told_by images blocks rest tells))),
-        );
+          subst (λ (x : List Bool). GoesToItsEnd plain (suc n) p number t (at_rest v images s clock blocks notes x)) (sym (append_assoc own io rest)) (
+            none,
+            free,
+            subst (λ (a : After). elim a as (λ _. Type 0) [ Continues w ↦ GoesToItsEnd plain n p number w (l images blocks rest) | EndsWith reply ↦ ⊤ | Fails refusal ↦ ⊤ ])
+                (came images blocks (io ++ rest) tells).next
+                (subst (λ (x : Run). GoesToItsEnd plain n p number u x) (sym (mid images blocks rest tells)) (later.ends images (q images blocks rest).blocks rest (told_by images blocks rest tells))),
+          );
       rests = λ images blocks rest tells.
-        let x = pieces_from plain n p number u (at_rest v images s_mid clock (q images blocks rest).blocks notes_mid (io ++ rest)) in
-        subst (λ (y : List Bool). pieces_from plain (suc n) p number t (at_rest v images s clock blocks notes y) ≡ at_rest v images s_new clock (pieces_from plain (suc n) p number t (at_rest v images s clock blocks notes y)).blocks notes_new rest) (sym (append_assoc own io rest))
-        (same_rest (pieces_from plain (suc n) p number t (at_rest v images s clock blocks notes (own ++ (io ++ rest)))) v images s_new clock x.blocks notes_new rest
-        (run images blocks rest tells ∙ later.rests images (q images blocks rest).blocks rest (told_by images blocks rest tells)));
+          let x = pieces_from plain n p number u (at_rest v images s_mid clock (q images blocks rest).blocks notes_mid (io ++ rest)) in
+          subst (λ (y : List Bool). pieces_from plain (suc n) p number t (at_rest v images s clock blocks notes y) ≡ at_rest v images s_new clock (pieces_from plain (suc n) p number t (at_rest v images s clock blocks notes y)).blocks notes_new rest) (sym (append_assoc own io rest))
+          (same_rest (pieces_from plain (suc n) p number t (at_rest v images s clock blocks notes (own ++ (io ++ rest)))) v images s_new clock x.blocks notes_new rest
+          (run images blocks rest tells ∙ later.rests images (q images blocks rest).blocks rest (told_by images blocks rest tells)));
       tells = λ images blocks rest tells.
-        subst (λ (y : List Bool). Tells told_new (pieces_from plain (suc n) p number t (at_rest v images s clock blocks notes y)).blocks) (sym (append_assoc own io rest))
-        (subst (λ (x : Run). Tells told_new x.blocks) (sym (run images blocks rest tells)) (later.tells images (q images blocks rest).blocks rest (told_by images blocks rest tells)));
+          subst (λ (y : List Bool). Tells told_new (pieces_from plain (suc n) p number t (at_rest v images s clock blocks notes y)).blocks) (sym (append_assoc own io rest))
+          (subst (λ (x : Run). Tells told_new x.blocks) (sym (run images blocks rest tells)) (later.tells images (q images blocks rest).blocks rest (told_by images blocks rest tells)));
     }
+
+-- the last piece, where so many may be left
+pub call_ended_at : (turns n p number : ℕ) (t : Stage) (v : World) (s s_new : Objects) (clock : ℕ) (notes notes_new : List Note) (told told_new : Option (List (List ℕ))) (own io : List Bool) (gave : Option (List ℕ)) (a : After) →
+    turns ≡ suc n → io ≡ own → HasNoGraft s → is_unhindered s.things.lock p (plain.need v s p t) ≡ true → has_ended a ≡ true →
+    ((images : ImageTable) (blocks : Blocks) (rest : List Bool) → Tells told blocks → CameTo (plain.piece v images s blocks p t None (own ++ rest)) s_new told_new gave a (length own)) →
+    notes_new ≡ notes ++ gave_note number gave ++ after_note number a →
+    CallRan turns p number t v s s_new clock notes notes_new told told_new io
+call_ended_at turns n p number t v s s_new clock notes notes_new told told_new own io gave a is io_is none free ended came said =
+    rw (is, io_is) (call_ended n p number t v s s_new clock notes notes_new told told_new own gave a none free ended came said)
+
+-- a piece that isn't the last, where so many may be left
+pub call_goes_at : (turns n p q number : ℕ) (t u : Stage) (v v_mid : World) (s s_mid s_new : Objects) (clock : ℕ) (notes notes_mid notes_new : List Note) (told told_mid told_new : Option (List (List ℕ))) (own later io : List Bool) (gave : Option (List ℕ)) (a : After) →
+    turns ≡ suc n → io ≡ own ++ later → q ≡ p → v_mid ≡ v → a ≡ Continues u → HasNoGraft s → is_unhindered s.things.lock p (plain.need v s p t) ≡ true →
+    ((images : ImageTable) (blocks : Blocks) (rest : List Bool) → Tells told blocks → CameTo (plain.piece v images s blocks p t None (own ++ rest)) s_mid told_mid gave a (length own)) →
+    notes_mid ≡ notes ++ gave_note number gave → CallRan n q number u v_mid s_mid s_new clock notes_mid notes_new told_mid told_new later →
+    CallRan turns p number t v s s_new clock notes notes_new told told_new io
+call_goes_at turns n p q number t u v v_mid s s_mid s_new clock notes notes_mid notes_new told told_mid told_new own later io gave a is io_is caller world next none free came said ran =
+    rw (is, io_is)
+    (call_goes n p number t u v s s_mid s_new clock notes notes_mid notes_new told told_mid told_new own later gave none free
+    (λ images blocks rest tells. subst (λ (x : After). CameTo (plain.piece v images s blocks p t None (own ++ rest)) s_mid told_mid gave x (length own)) next (came images blocks rest tells))
+    said (rw (caller, world) at ran))
 
 -- ---- lists of calls
 
@@ -186,22 +208,34 @@ call_happened n p number c t old new notes told told_new io few alive granted ra
     let s = objects_of old.store in
     let x = λ (blocks : Blocks). pieces_from plain n p number t (at_rest v no_images s old.clock blocks [] io) in
     let ends = λ (blocks : Blocks) (tells : Tells told blocks).
-        subst (λ (y : List Bool). GoesToItsEnd plain n p number t (at_rest v no_images s old.clock blocks [] y)) (append-nil io) (ran.ends no_images blocks [] tells) in
+    subst (λ (y : List Bool). GoesToItsEnd plain n p number t (at_rest v no_images s old.clock blocks [] y)) (append-nil io) (ran.ends no_images blocks [] tells) in
     let rests = λ (blocks : Blocks) (tells : Tells told blocks).
-        subst (λ (y : List Bool). pieces_from plain n p number t (at_rest v no_images s old.clock blocks [] y) ≡ at_rest v no_images (objects_of new.store) old.clock (pieces_from plain n p number t (at_rest v no_images s old.clock blocks [] y)).blocks notes []) (append-nil io) (ran.rests no_images blocks [] tells) in
+    subst (λ (y : List Bool). pieces_from plain n p number t (at_rest v no_images s old.clock blocks [] y) ≡ at_rest v no_images (objects_of new.store) old.clock (pieces_from plain n p number t (at_rest v no_images s old.clock blocks [] y)).blocks notes []) (append-nil io) (ran.rests no_images blocks [] tells) in
     let is = λ (blocks : Blocks) (tells : Tells told blocks).
-        event_of_pieces plain n p number c t v no_images s old.clock blocks io alive granted few (ends blocks tells) in
+    event_of_pieces plain n p number c t v no_images s old.clock blocks io alive granted few (ends blocks tells) in
     record {
       kernel_is = λ blocks tells.
-        ap (λ (r : Run). r.kernel) (is blocks tells ∙ rests blocks tells)
-        ∙ ap (λ (y : World). quiet y no_images (objects_of new.store) old.clock) (sym world)
-        ∙ ap (λ (y : ℕ). quiet (world_of_store new.store) no_images (objects_of new.store) y) (sym clock);
+          ap (λ (r : Run). r.kernel) (is blocks tells ∙ rests blocks tells)
+          ∙ ap (λ (y : World). quiet y no_images (objects_of new.store) old.clock) (sym world)
+          ∙ ap (λ (y : ℕ). quiet (world_of_store new.store) no_images (objects_of new.store) y) (sym clock);
       blocks_are = λ blocks tells.
-        subst (λ (r : Run). Tells told_new r.blocks) (sym (is blocks tells))
-        (subst (λ (y : List Bool). Tells told_new (pieces_from plain n p number t (at_rest v no_images s old.clock blocks [] y)).blocks) (append-nil io) (ran.tells no_images blocks [] tells));
+          subst (λ (r : Run). Tells told_new r.blocks) (sym (is blocks tells))
+          (subst (λ (y : List Bool). Tells told_new (pieces_from plain n p number t (at_rest v no_images s old.clock blocks [] y)).blocks) (append-nil io) (ran.tells no_images blocks [] tells));
       notes_are = λ blocks tells. ap (λ (r : Run). r.notes) (is blocks tells ∙ rests blocks tells);
       used_all = λ blocks tells. ap (λ (r : Run). r.io) (is blocks tells ∙ rests blocks tells);
     }
+
+-- the same, of a call that was just granted
+pub call_happened_at : (n p number : ℕ) (c : SysCall) (w : Work) (old new : Kernel) (before after : List Bool) (notes_old notes : List Note) (told told_new : Option (List (List ℕ))) →
+    n ≤ 256 → w ≡ record { caller = p; call = c; piece = 0 } → before ≡ [] → notes_old ≡ [] → lives (objects_of old.store).things.queue p ≡ true →
+    Ok (stage_of w) ≡ plain_early (world_of_store old.store) no_images p c →
+    CallRan n w.caller number (stage_of w) (world_of_store old.store) (objects_of old.store) (objects_of new.store) old.clock notes_old notes told told_new (drop (length before) after) →
+    world_of_store new.store ≡ world_of_store old.store → new.clock ≡ old.clock → Happened old new told told_new number (Sys p c) after notes
+call_happened_at n p number c w old new before after notes_old notes told told_new few is none said alive granted ran world clock =
+    let stage_is : stage_of w ≡ stage c 0 = ap stage_of is in
+    let granted_is : plain_early (world_of_store old.store) no_images p c ≡ Ok (stage c 0) = sym granted ∙ ap (λ (t : Stage). Ok t) stage_is in
+    let ran_is = rw (is, none, said, appended [] after after refl) at ran in
+    call_happened n p number c (stage c 0) old new notes told told_new after few alive granted_is ran_is world clock
 
 -- an event that leaves the kernel as it was, with one note
 stays_so : (k : Kernel) (told : Option (List (List ℕ))) (number p : ℕ) (c : SysCall) (note : Note) (io : List Bool) (notes : List Note) →
@@ -237,8 +271,8 @@ tick_happened old new told number io notes store clock none said =
     let rose = rw add-one at clock in
     record {
       kernel_is = λ blocks tells.
-        ap (λ (y : Store). quiet (world_of_store y) no_images (objects_of y) (suc old.clock)) (sym store)
-        ∙ ap (λ (y : ℕ). quiet (world_of_store new.store) no_images (objects_of new.store) y) (sym rose);
+          ap (λ (y : Store). quiet (world_of_store y) no_images (objects_of y) (suc old.clock)) (sym store)
+          ∙ ap (λ (y : ℕ). quiet (world_of_store new.store) no_images (objects_of new.store) y) (sym rose);
       blocks_are = λ blocks tells. tells;
       notes_are = λ blocks tells. ap (λ (n : ℕ). Ticked number n ∷ []) (sym (add-one old.clock)) ∙ sym said;
       used_all = λ blocks tells. none;

@@ -6,6 +6,7 @@ ghost use Rattle.kernel_model.specs.declared.Event.TheVariants.{Sys};
 ghost use Rattle.kernel_model.specs.declared.Note.TheVariants.{Ticked};
 ghost use Rattle.kernel_model.specs.Directory.{lies_on_disk};
 ghost use Rattle.kernel_model.specs.Opening.{opening_kernel};
+ghost use Rattle.kernel_model.specs.Kernel.{gave_note};
 ghost use Rattle.kernel_model.specs.Pieces.{pieces_left};
 ghost use Rattle.disk_log.specs.Calls.{GoesOn};
 ghost use Rattle.kernel_state.specs.Stores.{world_for, world_of_store, objects_of, queue_of, IsStore};
@@ -14,10 +15,11 @@ ghost use Rattle.vino_top.specs.Built.{is_built_event};
 ghost use Rattle.vino_top.specs.Standing.{kernel_of, Happened, CallRan};
 ghost use Rattle.vino_top.specs.Bounds.{IsKernelWithin, slices_within};
 
+use crate::calls::copy_call;
 use crate::notes::Notes;
 use call_pieces::{Next, Work, early, piece};
 use disk_log::DiskLog;
-use kernel_model::{Event, Note, Refusal, SysCall};
+use kernel_model::{Bytes, Event, Note, Refusal, SysCall};
 use kernel_state::{Setup, Store};
 use mem_disk::Directory;
 use ram_space::Ram;
@@ -72,19 +74,19 @@ impl Kernel {
     pub fn event<D: Disk>(
         &mut self,
         number: u32,
-        what: Event,
+        what: &Event,
         disk: &mut D,
         logs: &mut Logs,
         notes: &mut Notes,
     )
-        requires built { is_built_event what ≡ true }
+        requires built { is_built_event what.now ≡ true }
         requires first { 0 < number }
         requires room { number < 2 ^ 32 - 1 }
         requires within { IsKernelWithin (number - 1) self.old }
         requires disk { self.old.store.size ≡ D.block_count disk.old }
         requires no_calls { logs.old.event ≡ [] }
         requires no_notes { notes.old ≡ [] }
-        ensures happened { Happened self.old self.new (D.blocks disk.old) (D.blocks disk.new) number what logs.new.event notes.new }
+        ensures happened { Happened self.old self.new (D.blocks disk.old) (D.blocks disk.new) number what.now logs.new.event notes.new }
         ensures within { IsKernelWithin number self.new }
         ensures size { self.new.store.size ≡ self.old.store.size }
         ensures calls { GoesOn (D.faults disk.old) (D.faults disk.new) (D.plan disk.old) (D.plan disk.new) logs.old.event logs.new.event }
@@ -92,7 +94,7 @@ impl Kernel {
     {
         match what {
             Event::Tick => self.tick(number, notes),
-            Event::Sys(p, call) => self.system(number, p, call, disk, logs, notes),
+            Event::Sys(p, call) => self.system(number, *p, call, disk, logs, notes),
             Event::Step(..) => unreachable!(),
         }
     }
@@ -117,19 +119,19 @@ impl Kernel {
         &mut self,
         number: u32,
         p: u32,
-        call: SysCall,
+        call: &SysCall,
         disk: &mut D,
         logs: &mut Logs,
         notes: &mut Notes,
     )
-        requires built { is_built_call call ≡ true }
+        requires built { is_built_call call.now ≡ true }
         requires first { 0 < number }
         requires room { number < 2 ^ 32 - 1 }
         requires within { IsKernelWithin (number - 1) self.old }
         requires disk { self.old.store.size ≡ D.block_count disk.old }
         requires no_calls { logs.old.event ≡ [] }
         requires no_notes { notes.old ≡ [] }
-        ensures happened { Happened self.old self.new (D.blocks disk.old) (D.blocks disk.new) number (Sys p call) logs.new.event notes.new }
+        ensures happened { Happened self.old self.new (D.blocks disk.old) (D.blocks disk.new) number (Sys p call.now) logs.new.event notes.new }
         ensures within { IsKernelWithin number self.new }
         ensures size { self.new.store.size ≡ self.old.store.size }
         ensures calls { GoesOn (D.faults disk.old) (D.faults disk.new) (D.plan disk.old) (D.plan disk.new) logs.old.event logs.new.event }
@@ -138,9 +140,9 @@ impl Kernel {
         if !self.store.living(p) {
             return notes.push(Note::Refused(number, Refusal::NoProcess));
         }
-        match early(&self.store, p as u8, call) {
+        match early(&self.store, p as u8, copy_call(call)) {
             Err(refusal) => notes.push(Note::Refused(number, refusal)),
-            Ok(work) => self.run(number, work, PIECES, disk, logs, notes),
+            Ok(mut work) => self.run(number, &mut work, PIECES, disk, logs, notes),
         }
     }
 
@@ -148,7 +150,7 @@ impl Kernel {
     fn run<D: Disk>(
         &mut self,
         number: u32,
-        mut work: Work,
+        work: &mut Work,
         turns: u32,
         disk: &mut D,
         logs: &mut Logs,
@@ -157,13 +159,13 @@ impl Kernel {
         requires first { 0 < number }
         requires room { number < 2 ^ 32 - 1 }
         requires within { IsKernelWithin (number - 1) self.old }
-        requires ready { IsReady work self.old.store }
-        requires left { pieces_left work.call work.piece (objects_of self.old.store).things work.caller ≤ turns }
+        requires ready { IsReady work.old self.old.store }
+        requires left { pieces_left work.old.call work.old.piece (objects_of self.old.store).things work.old.caller ≤ turns }
         requires few { turns ≤ PIECES }
-        requires log_room { length logs.old.event + 64 * turns ≤ 16384 }
+        requires log_room { length logs.old.event + 256 * turns ≤ 16384 }
         requires notes_room { length notes.old + turns < 16 }
         requires disk { self.old.store.size ≡ D.block_count disk.old }
-        ensures ran { CallRan turns work.caller number (stage_of work) (world_of_store self.old.store) (objects_of self.old.store) (objects_of self.new.store) self.old.clock
+        ensures ran { CallRan turns work.old.caller number (stage_of work.old) (world_of_store self.old.store) (objects_of self.old.store) (objects_of self.new.store) self.old.clock
             notes.old notes.new (D.blocks disk.old) (D.blocks disk.new) (drop (length logs.old.event) logs.new.event) }
         ensures grown { logs.new.event ≡ logs.old.event ++ drop (length logs.old.event) logs.new.event }
         ensures within { IsKernelWithin number self.new }
@@ -173,15 +175,24 @@ impl Kernel {
         ensures same_size { D.block_count disk.new ≡ D.block_count disk.old }
     {
         logs.piece.clear();
-        let after = piece(&mut work, &mut self.store, disk, &mut logs.piece);
+        let after = piece(work, &mut self.store, disk, &mut logs.piece);
         logs.event.append(&logs.piece);
-        if let Some(bytes) = after.gave {
-            notes.push(Note::Gave(number, bytes));
-        }
+        note_bytes(number, after.gave, notes);
         match after.next {
             Next::Goes => self.run(number, work, turns - 1, disk, logs, notes),
             Next::Ends(reply) => notes.push(Note::Ended(number, reply)),
             Next::Fails(refusal) => notes.push(Note::Refused(number, refusal)),
         }
+    }
+}
+
+/// The note of bytes that a piece gave, if it gave some.
+fn note_bytes(number: u32, gave: Option<Bytes>, notes: &mut Notes)
+    requires { length notes.old < 16 }
+    ensures value { notes.new ≡ notes.old ++ gave_note number gave }
+    ensures room { length notes.new ≤ length notes.old + 1 }
+{
+    if let Some(bytes) = gave {
+        notes.push(Note::Gave(number, bytes));
     }
 }

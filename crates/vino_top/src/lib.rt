@@ -14,6 +14,7 @@ ghost use Rattle.vino_top.specs.Bounds.{IsSessionWithin};
 ghost use Rattle.vino_top.specs.Words.{asked_by};
 ghost use Rattle.vino_top.specs.Run.{AppendsPart, Ran, Broke, Lacked, Does, disk_seen};
 
+mod calls;
 mod kernel;
 mod notes;
 mod output;

@@ -143,7 +143,7 @@ impl Session {
             }
             Ok(entry) => {
                 self.lines += 1;
-                self.run_entry(entry, size, disk, out);
+                self.run_entry(&entry, size, disk, out);
             }
         }
         Ok(())
@@ -179,24 +179,24 @@ impl Session {
     }
 
     /// Runs an entry of the line that was counted.
-    fn run_entry<D: Disk>(&mut self, entry: Entry, size: u32, disk: &mut D, out: &mut Buffers)
+    fn run_entry<D: Disk>(&mut self, entry: &Entry, size: u32, disk: &mut D, out: &mut Buffers)
         requires room { self.old.lines < 2 ^ 32 - 1 }
         requires fresh { self.old.events < self.old.lines }
         requires within { IsSessionWithin size self.old }
         requires disk { D.block_count disk.old ≡ size }
-        requires limits { SetsWithin (Ok entry) }
+        requires limits { SetsWithin (Ok entry.now) }
         requires no_calls { out.old.logs.event ≡ [] }
         requires no_notes { out.old.notes ≡ [] }
         requires empty { out.old.lines ≡ [] }
         ensures within { IsSessionWithin size self.new }
         ensures counted { self.new.lines ≡ self.old.lines }
         ensures same_size { D.block_count disk.new ≡ size }
-        ensures runs { RunsEntry size (entry_seen entry) self.old self.new (D.blocks disk.old) (D.blocks disk.new) out.new.logs.event out.new.lines }
+        ensures runs { RunsEntry size (entry_seen entry.now) self.old self.new (D.blocks disk.old) (D.blocks disk.new) out.new.logs.event out.new.lines }
         ensures calls { GoesOn (D.faults disk.old) (D.faults disk.new) (D.plan disk.old) (D.plan disk.new) out.old.logs.event out.new.logs.event }
     {
         match entry {
             Entry::Blank => {}
-            Entry::Frames(n) => self.setup.frames = n,
+            Entry::Frames(n) => self.setup.frames = *n,
             Entry::Boot => self.boot(size, disk, out),
             Entry::Happens(event) => self.happen(event, size, disk, out),
             Entry::Patience(..) | Entry::Grant(_) | Entry::Image(..) | Entry::Raw => {
@@ -256,7 +256,7 @@ impl Session {
     }
 
     /// An event of the kernel, or the refusal of one that isn't built.
-    fn happen<D: Disk>(&mut self, event: Event, size: u32, disk: &mut D, out: &mut Buffers)
+    fn happen<D: Disk>(&mut self, event: &Event, size: u32, disk: &mut D, out: &mut Buffers)
         requires room { self.old.lines < 2 ^ 32 - 1 }
         requires fresh { self.old.events < self.old.lines }
         requires within { IsSessionWithin size self.old }
@@ -267,10 +267,10 @@ impl Session {
         ensures within { IsSessionWithin size self.new }
         ensures counted { self.new.lines ≡ self.old.lines }
         ensures same_size { D.block_count disk.new ≡ size }
-        ensures runs { RunsEntry size (Happens event) self.old self.new (D.blocks disk.old) (D.blocks disk.new) out.new.logs.event out.new.lines }
+        ensures runs { RunsEntry size (Happens event.now) self.old self.new (D.blocks disk.old) (D.blocks disk.new) out.new.logs.event out.new.lines }
         ensures calls { GoesOn (D.faults disk.old) (D.faults disk.new) (D.plan disk.old) (D.plan disk.new) out.old.logs.event out.new.logs.event }
     {
-        if !is_built(&event) {
+        if !is_built(event) {
             return self.refuse(5, out);
         }
         if self.booted {

@@ -8,5 +8,5 @@ returns-in-Err-clause-contents g c =
 
 pub returns-clause-contents : goal.returns-clause-contents
 returns-clause-contents g c =
-    line_written c.args.size c.args.reader.now.line c.args.reader.now.session c.run_line.new.self c.run_line.new.out.log c.run_line.new.out.lines _ _ _ _ c.write_lines.result
+    line_written c.args.size c.args.reader.now.line c.args.reader.now.session c.run_line.new.self c.run_line.new.out.logs.event c.run_line.new.out.lines _ _ _ _ c.write_lines.result
     (rw c.line.ensures.value at c.in_default.ensures.ok) c.in_default.ensures.calls c.run_line.ensures.counted c.write_lines.ensures.contents

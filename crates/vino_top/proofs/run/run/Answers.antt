@@ -8,7 +8,7 @@ pub loop-left-init : goal.loop-left-init
 loop-left-init g c =
     record {
       reached = reached_first c.size-size.result c.args.reader.now.session _ _ _ c.args.reader.now.line c.requires.line;
-      within = c.requires.within;
+      within = rw c.size-size.ensures.count c.requires.within;
       going = c.requires.first.1;
       source = omega arith;
       sink = omega arith;

@@ -21,3 +21,6 @@ returns-in-TooLong-clause-contents g c =
     let ends = longest_ends c.args.reader.now.line c.push.new.self c.args.byte (sym c.push.ensures.answer ∙ c.in-TooLong.is) c.requires.short c.push.ensures.line in
     line_ended c.args.size c.args.reader.now.line _ c.end_long.new.reader.line c.args.byte c.args.reader.now.session c.end_long.new.reader.session _ _ _ _ c.end_long.result ends.0 ends.1
     c.end_long.ensures.line (c.end_long.ensures.contents c.args.size (disk_seen (g.D.Disk.blocks c.args.disk.now) (g.D.Disk.plan c.args.disk.now) (g.D.Disk.faults c.args.disk.now)))
+
+pub returns-in-TooLong-clause-within : goal.returns-in-TooLong-clause-within
+returns-in-TooLong-clause-within g c = c.end_long.ensures.within c.args.size c.requires.within

@@ -13,7 +13,7 @@ returns-in-Some-clause-ok g c = λ key a stands.
 
 pub returns-in-Ok-clause-ok : goal.returns-in-Ok-clause-ok
 returns-in-Ok-clause-ok g c =
-    line_entered c.args.size c.args.self.now c.run_entry.new.self (g.D.Disk.blocks c.args.disk.now) (g.D.Disk.blocks c.run_entry.new.disk) c.run_entry.new.out.log c.args.text.now c.run_entry.new.out.lines (entry_seen c.in-Ok.entry) c.if-self.false
+    line_entered c.args.size c.args.self.now c.run_entry.new.self (g.D.Disk.blocks c.args.disk.now) (g.D.Disk.blocks c.run_entry.new.disk) c.run_entry.new.out.logs.event c.args.text.now c.run_entry.new.out.lines (entry_seen c.in-Ok.entry) c.if-self.false
     c.in-Ok.ensures.answer c.run_entry.ensures.runs
 
 pub returns-in-Ok-clause-calls : goal.returns-in-Ok-clause-calls
