@@ -1,5 +1,5 @@
 -- Codes, kinds and numbers of policies; the chosen policy alone answers as the value of its kind.
-use Rattle.std.proofs.Common.{◌≡◌, ◌≢◌, ℕ, zero, suc, ◌+◌, ◌-◌, ◌<◌, ◌≤◌, max, Bool, true, false, cond, ◌&&◌, ◌==◌, nat_lt, List, length, slice_index, slice_index_or, refl, sym, ◌∙◌, ap, arith}
+use Rattle.std.proofs.Common.{◌≡◌, ℕ, ◌<◌, max, Bool, true, cond, ◌==◌, List, slice_index, refl, sym, ◌∙◌, ap, arith}
 use Rattle.std.proofs.Math.Path.{fun_ext}
 use Rattle.std.proofs.lemmas.Bool.Decides.{nat_tests}
 use Rattle.kernel_model.specs.declared.FrameRow.{FrameRow}
@@ -7,10 +7,10 @@ use Rattle.kernel_model.specs.declared.QueueRow.{QueueRow}
 use Rattle.kernel_model.specs.Objects.{PolValue}
 use Rattle.kernel_model.specs.Early.{policy_count}
 use Rattle.kernel_model.specs.Access.{param_top}
-use Rattle.kernel_model.specs.Policies.{least, or_zero, process_in, turn_key, ahead_count}
+use Rattle.kernel_model.specs.Policies.{least, or_zero, process_in, ahead_count}
 use Rattle.graft_points.specs.declared.ask.Ask.{Ask}
 use Rattle.graft_points.specs.declared.ask.Ask.TheVariants.{Ahead, Victim, Next}
-use Rattle.graft_points.specs.Views.{PolicyView, kind_of_code, number_of_code, top_of_code, as_chosen, asked_kind, answer_by, answer_of, row_key, frame_in}
+use Rattle.graft_points.specs.Views.{PolicyView, kind_of_code, number_of_code, top_of_code, as_chosen, asked_kind, answer_by, answer_of, frame_in}
 use Rattle.graft_points.specs.Shelf.{IsShelf, code_of, view_at, is_policy, param_on, pol_of}
 
 pub code_below : (kind c : ℕ) → kind < 3 → c < policy_count kind → code_of kind c < 7

@@ -1,5 +1,5 @@
 -- The first with the least key, found from the front on.
-use Rattle.std.proofs.Common.{◌≡◌, ℕ, suc, ◌+◌, ◌<◌, Bool, cond, nat_lt, List, [], ◌∷◌, drop, length, Option, Some, None, slice_index_or, refl, sym, ◌∙◌, ap, add-one, arith, drop-cons}
+use Rattle.std.proofs.Common.{◌≡◌, ℕ, suc, ◌+◌, ◌<◌, cond, nat_lt, List, [], ◌∷◌, drop, length, Option, Some, None, slice_index_or, sym, ◌∙◌, ap, add-one, arith, drop-cons}
 use Rattle.std.proofs.lemmas.Bool.Decides.{nat_tests}
 use Rattle.kernel_model.specs.Policies.{least}
 use Rattle.graft_points.specs.Views.{lesser}

@@ -1,5 +1,5 @@
 -- The policies of a shelf by place, where the shelf is a list of boxes that are seen as policies.
-use Rattle.std.proofs.Common.{◌≡◌, ◌≢◌, ℕ, ◌<◌, IsTrue, nat_eq, Option, Some, None, List, [], ◌∷◌, length, refl, slice_index, map, slice_index_or, slice_set, sym, ◌∙◌, ap, arith}
+use Rattle.std.proofs.Common.{◌≡◌, ℕ, ◌<◌, IsTrue, nat_eq, Option, Some, None, List, [], ◌∷◌, length, refl, slice_index, map, slice_index_or, slice_set, sym, ◌∙◌, ap, arith}
 use Rattle.std.proofs.lemmas.List.{get_or-map, map-set, ext_get_or}
 use Rattle.std.proofs.lemmas.Bool.Decides.{nat_tests}
 use Rattle.graft_points.specs.Views.{PolicyView}

@@ -1,11 +1,11 @@
 -- The candidates of a list of rows.
-use Rattle.std.proofs.Common.{◌≡◌, ℕ, suc, zero, ◌<◌, Bool, true, false, cond, max, ◌==◌, nat_lt, List, [], ◌∷◌, length, map, Option, Some, None, option_map, slice_index_or, refl, sym, subst, ◌∙◌, ap, arith}
+use Rattle.std.proofs.Common.{◌≡◌, ℕ, suc, zero, ◌<◌, Bool, true, false, cond, ◌==◌, nat_lt, List, [], ◌∷◌, length, map, Option, Some, None, option_map, slice_index_or, refl, sym, subst, ◌∙◌, ap, arith}
 use Rattle.std.specs.List.{list_any, All}
 use Rattle.std.proofs.lemmas.Bool.Decides.{nat_tests}
 use Rattle.kernel_model.specs.declared.FrameRow.{FrameRow}
 use Rattle.kernel_model.specs.declared.QueueRow.{QueueRow}
 use Rattle.kernel_model.specs.Objects.{PolValue, CacheValue}
-use Rattle.kernel_model.specs.Policies.{least, or_zero, process_in, next_process, turn_key, victim_key, victim_among, mark_of, lives}
+use Rattle.kernel_model.specs.Policies.{least, or_zero, process_in, next_process, turn_key, victim_key, victim_among}
 use Rattle.graft_points.specs.Views.{row_key, frame_in, victim_of, MarksOf}
 use Rattle.graft_points.proofs.Firsts.{better}
 
@@ -61,7 +61,7 @@ pub victim_among_rows : (pol : PolValue) (c : CacheValue) (rows : List FrameRow)
 victim_among_rows pol c rows marks =
     least_map (victim_key pol c) (λ (r : FrameRow). r.frame) rows
     ∙ ap frame_in (least_alike (λ (r : FrameRow). victim_key pol c r.frame) (row_key pol) rows
-        (λ k d h. rw (marks.marked k d h) refl))
+    (λ k d h. rw (marks.marked k d h) refl))
 
 any_at : {A : Type 0} (p : A → Bool) (xs : List A) (k : ℕ) (d : A) → k < length xs → p (slice_index_or xs k d) ≡ true → list_any p xs ≡ true
 any_at p [] k d h e = absurd (omega arith)

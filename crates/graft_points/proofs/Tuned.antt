@@ -1,5 +1,5 @@
 -- A shelf on which one parameter was set.
-use Rattle.std.proofs.Common.{◌≡◌, ◌≢◌, ℕ, zero, suc, ◌+◌, ◌-◌, ◌<◌, ◌≤◌, Bool, true, false, cond, ◌&&◌, ◌==◌, nat_lt, List, [], ◌∷◌, length, Option, Some, None, option_map, slice_index, slice_index_or, slice_set, refl, sym, subst, ◌∙◌, ap, arith}
+use Rattle.std.proofs.Common.{◌≡◌, ◌≢◌, ℕ, zero, suc, ◌<◌, Bool, true, false, cond, ◌&&◌, ◌==◌, List, [], ◌∷◌, length, Option, Some, None, option_map, slice_index, slice_set, refl, sym, subst, ◌∙◌, ap, arith}
 use Rattle.std.proofs.Math.Path.{fun_ext}
 use Rattle.std.proofs.lemmas.Bool.Decides.{nat_tests}
 use Rattle.std.proofs.lemmas.List.{get_or-set_same, get_or-set_other, length-set}
@@ -10,7 +10,7 @@ use Rattle.kernel_model.specs.Access.{param_top, in_range, with_param}
 use Rattle.kernel_model.specs.Opening.{opening_policy}
 use Rattle.kernel_model.specs.RawRows.{shown_param}
 use Rattle.graft_points.specs.Views.{PolicyView, top_of_code}
-use Rattle.graft_points.specs.Shelf.{IsShelf, IsPolicy, IsChoice, no_policy, code_of, view_at, is_policy, param_count, param_on, pol_of, retuned, shelf_with, head_of, stock_views, first_choice}
+use Rattle.graft_points.specs.Shelf.{IsShelf, IsPolicy, no_policy, code_of, view_at, is_policy, param_on, pol_of, retuned, shelf_with, head_of, stock_views, first_choice}
 use Rattle.graft_points.proofs.Chosen.{code_below, top_of_its_code, is_its_policy}
 
 -- ---- the policies of a shelf
@@ -54,7 +54,7 @@ retuned_is_policy i x v p h =
       code = p.code;
       count = length_set_first x v.params ∙ p.count;
       range = let F : ℕ → Type 0 = λ n. ParamFits (top_of_code i) n in
-        subst F (sym (set_first x v.params (has_param i x v p h))) (fits_range (top_of_code i) x h);
+          subst F (sym (set_first x v.params (has_param i x v p h))) (fits_range (top_of_code i) x h);
     }
 
 -- a shelf stays one when a parameter is set
@@ -64,12 +64,12 @@ shelf_stays i x views s h r =
     record {
       seven = length-set views i (retuned x (view_at views i)) ∙ s.seven;
       each = λ j k.
-        let P : ℕ → Type 0 = λ n. n < 7 → IsPolicy n (view_at (shelf_with i x views) n) in
-        place_or_other P i j (j == i) refl
+          let P : ℕ → Type 0 = λ n. n < 7 → IsPolicy n (view_at (shelf_with i x views) n) in
+          place_or_other P i j (j == i) refl
           (λ _. let Q : PolicyView → Type 0 = λ v. IsPolicy i v in
-            subst Q (sym (view_at_same i x views inside)) (retuned_is_policy i x (view_at views i) (s.each i h) r))
+          subst Q (sym (view_at_same i x views inside)) (retuned_is_policy i x (view_at views i) (s.each i h) r))
           (λ apart k. let Q : PolicyView → Type 0 = λ v. IsPolicy j v in
-            subst Q (sym (view_at_other i j x views apart)) (s.each j k))
+          subst Q (sym (view_at_other i j x views apart)) (s.each j k))
           k;
     }
 
@@ -87,8 +87,8 @@ param_elsewhere : (views : List PolicyView) (kind c x k j : ℕ) → kind < 3 �
     (k == kind && j == c) ≡ false → ParamAfter views kind c x k j
 param_elsewhere views kind c x k j h i e q =
     let apart : code_of k j ≢ code_of kind c = λ same.
-        let both = codes_apart kind c k j h i e same in
-        let k_is = both.0 in let j_is = both.1 in grind (arith, nat_tests) in
+    let both = codes_apart kind c k j h i e same in
+    let k_is = both.0 in let j_is = both.1 in grind (arith, nat_tests) in
     rw (e, q, view_at_other (code_of kind c) (code_of k j) x views apart) refl
 
 param_here : (views : List PolicyView) (kind c x : ℕ) → IsShelf views → kind < 3 → c < policy_count kind →
@@ -128,14 +128,14 @@ value_after views choice kind x k s h i r true e =
     let c = slice_index choice kind in
     let P : ℕ → Type 0 = λ n. pol_of (shelf_with (code_of kind c) x views) choice n ≡ with_param x (pol_of views choice kind) in
     let params : param_on (shelf_with (code_of kind c) x views) kind ≡ at c x (param_on views kind) =
-        fun_ext (λ j. param_after views kind c x kind j s h i r (kind == kind && j == c) refl (is_policy kind j) refl
-        ∙ rw (same_number kind) refl) in
+    fun_ext (λ j. param_after views kind c x kind j s h i r (kind == kind && j == c) refl (is_policy kind j) refl
+    ∙ rw (same_number kind) refl) in
     let value : (ℕ → ℕ) → PolValue = λ ps. record { chosen = c; param = ps } in
     subst P same (ap value params)
 value_after views choice kind x k s h i r false e =
     let c = slice_index choice kind in
     let params : param_on (shelf_with (code_of kind c) x views) k ≡ param_on views k =
-        fun_ext (λ j. param_after views kind c x k j s h i r (k == kind && j == c) refl (is_policy k j) refl ∙ rw e refl) in
+    fun_ext (λ j. param_after views kind c x k j s h i r (k == kind && j == c) refl (is_policy k j) refl ∙ rw e refl) in
     let value : (ℕ → ℕ) → PolValue = λ ps. record { chosen = slice_index choice k; param = ps } in
     ap value params
 
@@ -182,7 +182,7 @@ param_shown views choice kind s h i =
     let v = view_at views (code_of kind c) in
     rw (is_its_policy kind c h i)
     (shown_of v.params (param_top kind c)
-        ((s.each (code_of kind c) (code_below kind c h i)).count ∙ ap (λ top. elim top [ None ↦ 0 | Some t ↦ 1 ]) (top_of_its_code kind c h i)))
+    ((s.each (code_of kind c) (code_below kind c h i)).count ∙ ap (λ top. elim top [ None ↦ 0 | Some t ↦ 1 ]) (top_of_its_code kind c h i)))
 
 -- ---- the shelf at boot
 

@@ -1,8 +1,7 @@
 -- What contracts see of a policy, and what it answers.
-use Rattle.std.specs.Prelude.{◌≡◌, ℕ, ◌-◌, max, Bool, true, false, cond, ◌&&◌, ◌==◌, nat_lt, List, All, [], ◌∷◌, Option, Some, None, option_map, slice_index}
+use Rattle.std.specs.Prelude.{◌≡◌, ℕ, ◌-◌, max, Bool, true, false, cond, ◌&&◌, ◌==◌, nat_lt, List, All, [], ◌∷◌, Option, option_map, slice_index}
 use Rattle.std.specs.List.{list_any}
 use Rattle.kernel_model.specs.declared.FrameRow.{FrameRow}
-use Rattle.kernel_model.specs.declared.QueueRow.{QueueRow}
 use Rattle.kernel_model.specs.Objects.{PolValue, CacheValue}
 use Rattle.kernel_model.specs.Access.{param_top}
 use Rattle.kernel_model.specs.Policies.{least, or_zero, next_process, ahead_count, is_owned, mark_of}

@@ -24,7 +24,8 @@ pub fn valid_ahead(blocks: u32, start: u32, count: u32) -> bool
 fn has_frame(rows: &[FrameRow], owner: u8, f: u32) -> bool
     ensures { result ≡ is_owned_row rows.now owner f }
 {
-    rows.iter().any(|r| u32::from(r.frame) == f && r.owner == owner)
+    rows.iter()
+        .any(|r| u32::from(r.frame) == f && r.owner == owner)
 }
 
 /// Whether the point of eviction of a process accepts frame f, where these are the frames in use.

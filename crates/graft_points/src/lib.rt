@@ -15,5 +15,5 @@ pub use ask::Ask;
 pub use checks::{valid_ahead, valid_next, valid_victim};
 pub use choice::{Choice, KINDS};
 pub use policy::Policy;
-pub use shelf::{POLICIES, ahead, ask_chosen, is_stock, next, param, set_param, victim};
+pub use shelf::{POLICIES, ahead, ask_chosen, is_stock, next, param, put_last, set_param, victim};
 pub use stock::{RaNext, RaNone, RaSeq, SchedNice, SchedRound, VictimLru, VictimMark};

@@ -1,6 +1,6 @@
 //! The policies of a kernel on a shelf: the chosen ones are asked and tuned.
 
-ghost use Rattle.std.specs.Prelude.{◌≡◌, ◌≢◌, ◌<◌, ◌↔◌, ◌==◌, ℕ, true, IsTrue, map, length, Some, slice_index, slice_index_or, slice_set};
+ghost use Rattle.std.specs.Prelude.{◌≡◌, ◌≢◌, ◌<◌, ◌↔◌, ◌==◌, ℕ, true, IsTrue, IfOk, IfErr, map, length, Some, [], ◌∷◌, ◌++◌, slice_index, slice_index_or, slice_set};
 ghost use Rattle.std.specs.List.{list_any};
 ghost use Rattle.kernel_model.specs.declared.FrameRow.{FrameRow as Frame};
 ghost use Rattle.kernel_model.specs.Objects.{CacheValue, at};
@@ -15,6 +15,7 @@ use crate::ask::Ask;
 use crate::choice::Choice;
 use crate::policy::Policy;
 use kernel_model::{FrameRow, OpenRow, QueueRow};
+use std::alloc::AllocError;
 
 /// The policies on a shelf.
 pub const POLICIES: usize = 7;
@@ -131,6 +132,24 @@ pub fn is_stock(shelf: &[Box<dyn Policy>]) -> bool
     ensures opening { IsTrue result → pol_of (map (λ b. seen b) shelf.now) first_choice ≡ opening_policy }
 {
     are_like(shelf, &STOCK)
+}
+
+/// Puts a policy last on a shelf, which is known to have this code, and this parameter or none. Err, with the shelf as
+/// it was, comes for want of memory alone.
+pub fn put_last(
+    shelf: &mut Vec<Box<dyn Policy>>,
+    policy: Box<dyn Policy>,
+    code: u8,
+    param: Option<u32>,
+) -> Result<(), AllocError>
+    requires { seen policy ≡ stock_view code param }
+    ensures placed { IfOk result (λ _. map (λ b. seen b) shelf.new.items ≡ map (λ b. seen b) shelf.old.items ++ stock_view code param ∷ []) }
+    ensures failed { IfErr result (λ _. map (λ b. seen b) shelf.new.items ≡ map (λ b. seen b) shelf.old.items) }
+{
+    match shelf.push(policy) {
+        Ok(()) => Ok(()),
+        Err(_) => Err(AllocError),
+    }
 }
 
 /// What the policy at a place answers.

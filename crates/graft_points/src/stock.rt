@@ -39,8 +39,7 @@ impl Policy for RaNone {
 
     fn set(&mut self, _k: u8, _v: u32)
         ensures { self.new ≡ self.old }
-    {
-    }
+    {}
 
     fn answer(&self, _ask: &Ask) -> u32 {
         0
@@ -170,8 +169,7 @@ impl Policy for VictimLru {
 
     fn set(&mut self, _k: u8, _v: u32)
         ensures { self.new ≡ self.old }
-    {
-    }
+    {}
 
     fn answer(&self, ask: &Ask) -> u32 {
         match *ask {
@@ -259,8 +257,7 @@ impl Policy for SchedRound {
 
     fn set(&mut self, _k: u8, _v: u32)
         ensures { self.new ≡ self.old }
-    {
-    }
+    {}
 
     fn answer(&self, ask: &Ask) -> u32 {
         match *ask {

@@ -3,6 +3,10 @@
 
 mod streams;
 
+use graft_points::{
+    Policy, RaNext, RaNone, RaSeq, SchedNice, SchedRound, VictimLru, VictimMark, put_last,
+};
+use std::alloc::AllocError;
 use std::process::ExitCode;
 use std::{env, io};
 use streams::{StreamSink, StreamSource};
@@ -25,12 +29,24 @@ fn main(rt: HostRuntime) -> ExitCode {
 
 /// Does what the words ask, over the real streams.
 fn run(rt: &HostRuntime, words: &[String]) -> ExitCode {
+    ExitCode::from(run_stock(rt, words).unwrap_or(NO_MEMORY))
+}
+
+/// Does what the words ask, with the stock policies: the exit status.
+fn run_stock(rt: &HostRuntime, words: &[String]) -> Result<u8, AllocError> {
+    let alloc = rt.alloc();
     let mut source = StreamSource::new(rt.stdin());
     let mut sink = StreamSink::new(rt.stdout());
     let mut disk = EmptyDisk::new(BLOCKS);
-    let shelf = Vec::new(rt.alloc());
-    let status = vino_top::vino(rt.alloc(), words, &mut source, &mut sink, &mut disk, shelf);
-    ExitCode::from(status)
+    let mut shelf: Vec<Box<dyn Policy>> = Vec::new(alloc);
+    put_last(&mut shelf, Box::new(alloc, RaNone::new())?, 0, None)?;
+    put_last(&mut shelf, Box::new(alloc, RaSeq::new())?, 1, Some(2))?;
+    put_last(&mut shelf, Box::new(alloc, RaNext::new())?, 2, Some(1))?;
+    put_last(&mut shelf, Box::new(alloc, VictimLru::new())?, 3, None)?;
+    put_last(&mut shelf, Box::new(alloc, VictimMark::new())?, 4, Some(0))?;
+    put_last(&mut shelf, Box::new(alloc, SchedRound::new())?, 5, None)?;
+    put_last(&mut shelf, Box::new(alloc, SchedNice::new())?, 6, Some(0))?;
+    Ok(vino_top::vino(alloc, words, &mut source, &mut sink, &mut disk, shelf))
 }
 
 /// The words of the command line, without the program's own name.

@@ -1,0 +1,6 @@
+pub mod Places
+pub mod Seen
+pub mod Totals
+pub mod Moves
+pub mod Boot
+pub mod Ledgers

@@ -1,0 +1,177 @@
+//! The amounts of one kind.
+
+ghost use Rattle.std.specs.Prelude.{◌≡◌, ◌+◌, ◌<◌, ◌≤◌, length, replicate, sum, slice_index};
+ghost use Rattle.graft_accounts.specs.Sums.{less_at, more_at};
+
+/// The processes.
+pub(crate) const PROCESSES: usize = 16;
+
+/// The points of all processes, 16 each.
+pub(crate) const POINTS: usize = 256;
+
+/// The amounts of one kind: what each process has and has spent, and what the graft at each point has. In all they are
+/// the grant.
+#[derive(Drop)]
+pub(crate) struct Amounts {
+    pub(crate) grant: u32,
+    pub(crate) balances: [u64; PROCESSES],
+    pub(crate) spent: [u64; PROCESSES],
+    pub(crate) funds: [u64; POINTS],
+}
+
+/// Takes n from the amount at a place, which has as much.
+fn take_from(xs: &mut [u64], i: usize, n: u64)
+    requires place { i < length xs.old }
+    requires enough { n ≤ slice_index xs.old i }
+    ensures value { xs.new ≡ less_at i n xs.old }
+    ensures total { sum xs.new + n ≡ sum xs.old }
+{
+    xs[i] -= n;
+}
+
+/// Adds n to the amount at a place.
+fn add_to(xs: &mut [u64], i: usize, n: u64)
+    requires place { i < length xs.old }
+    requires room { sum xs.old + n < 18446744073709551616 }
+    ensures value { xs.new ≡ more_at i n xs.old }
+    ensures total { sum xs.new ≡ sum xs.old + n }
+{
+    xs[i] += n;
+}
+
+/// No amount at all for so many processes.
+fn no_amounts<const N: usize>() -> [u64; N]
+    ensures value { result ≡ replicate N 0 }
+    ensures total { sum result ≡ 0 }
+{
+    [0; N]
+}
+
+impl Amounts {
+    ghost use Rattle.std.specs.Prelude.{◌*◌, nat_lt, cond, [], ◌∷◌, ◌++◌, Ok, Err};
+    ghost use Rattle.graft_accounts.specs.Sums.{IsSums, opening, given, funded_at, paid, paid_at, given_back, closed};
+
+    /// Process 0 has the whole grant.
+    pub(crate) fn new(grant: u32) -> Amounts
+        ensures value { result ≡ opening grant }
+        ensures sound { IsSums result }
+    {
+        let mut balances = no_amounts();
+        add_to(&mut balances, 0, u64::from(grant));
+        Amounts {
+            grant,
+            balances,
+            spent: no_amounts(),
+            funds: no_amounts(),
+        }
+    }
+
+    /// What process p has.
+    pub(crate) fn balance(&self, p: u8) -> u64
+        requires process { p < 16 }
+        requires long { length self.now.balances ≡ 16 }
+        ensures { result ≡ slice_index self.now.balances p }
+    {
+        self.balances[p as usize]
+    }
+
+    /// What process p has spent.
+    pub(crate) fn spent(&self, p: u8) -> u64
+        requires process { p < 16 }
+        requires long { length self.now.spent ≡ 16 }
+        ensures { result ≡ slice_index self.now.spent p }
+    {
+        self.spent[p as usize]
+    }
+
+    /// What the graft at a place has.
+    pub(crate) fn funds(&self, i: usize) -> u64
+        requires place { i < 256 }
+        requires long { length self.now.funds ≡ 256 }
+        ensures { result ≡ slice_index self.now.funds i }
+    {
+        self.funds[i]
+    }
+
+    /// Moves n from process p to process q.
+    pub(crate) fn give(&mut self, p: u8, q: u8, n: u64)
+        requires from { p < 16 }
+        requires to { q < 16 }
+        requires enough { n ≤ slice_index self.old.balances p }
+        requires sound { IsSums self.old }
+        ensures value { self.new ≡ given p q n self.old }
+        ensures sound { IsSums self.new }
+        ensures funds { self.new.funds ≡ self.old.funds }
+    {
+        take_from(&mut self.balances, p as usize, n);
+        add_to(&mut self.balances, q as usize, n);
+    }
+
+    /// Moves n from process p to the graft at a place.
+    pub(crate) fn fund(&mut self, p: u8, i: usize, n: u64)
+        requires process { p < 16 }
+        requires place { i < 256 }
+        requires enough { n ≤ slice_index self.old.balances p }
+        requires sound { IsSums self.old }
+        ensures value { self.new ≡ funded_at p i n self.old }
+        ensures sound { IsSums self.new }
+    {
+        take_from(&mut self.balances, p as usize, n);
+        add_to(&mut self.funds, i, n);
+    }
+
+    /// Process p pays one.
+    pub(crate) fn pay(&mut self, p: u8)
+        requires process { p < 16 }
+        requires enough { 1 ≤ slice_index self.old.balances p }
+        requires sound { IsSums self.old }
+        ensures value { self.new ≡ paid p self.old }
+        ensures sound { IsSums self.new }
+        ensures funds { self.new.funds ≡ self.old.funds }
+    {
+        take_from(&mut self.balances, p as usize, 1);
+        add_to(&mut self.spent, p as usize, 1);
+    }
+
+    /// The graft at a place, which process p installed, pays one.
+    pub(crate) fn pay_at(&mut self, p: u8, i: usize)
+        requires process { p < 16 }
+        requires place { i < 256 }
+        requires enough { 1 ≤ slice_index self.old.funds i }
+        requires sound { IsSums self.old }
+        ensures value { self.new ≡ paid_at p i self.old }
+        ensures sound { IsSums self.new }
+    {
+        take_from(&mut self.funds, i, 1);
+        add_to(&mut self.spent, p as usize, 1);
+    }
+
+    /// Process p gets all that the graft at a place has.
+    pub(crate) fn give_back(&mut self, p: u8, i: usize)
+        requires process { p < 16 }
+        requires place { i < 256 }
+        requires sound { IsSums self.old }
+        ensures value { self.new ≡ given_back p i self.old }
+        ensures sound { IsSums self.new }
+    {
+        let n = self.funds[i];
+        take_from(&mut self.funds, i, n);
+        add_to(&mut self.balances, p as usize, n);
+    }
+
+    /// Process 0 gets all that process p has and has spent.
+    pub(crate) fn close(&mut self, p: u8)
+        requires process { p < 16 }
+        requires sound { IsSums self.old }
+        ensures value { self.new ≡ closed p self.old }
+        ensures sound { IsSums self.new }
+        ensures funds { self.new.funds ≡ self.old.funds }
+    {
+        let had = self.balances[p as usize];
+        let spent = self.spent[p as usize];
+        take_from(&mut self.balances, p as usize, had);
+        add_to(&mut self.balances, 0, had);
+        take_from(&mut self.spent, p as usize, spent);
+        add_to(&mut self.spent, 0, spent);
+    }
+}

@@ -1,0 +1,13 @@
+//! Who has how much of each kind of amount, who spent it, and which grafts stand.
+//!
+//! Everything stands in arrays of fixed size: no call takes memory.
+#![tactic(auto)]
+
+mod accounts;
+mod amounts;
+mod rows;
+#[cfg(test)]
+mod tests;
+
+pub use accounts::Accounts;
+pub use rows::GraftRow;
