@@ -1,5 +1,6 @@
 //! Laws of what keeps states sound. A call of one brings its statement into a proof.
 
+ghost use Rattle.kernel_model.specs.Claims.{ConfigsStaySound};
 ghost use Rattle.kernel_laws.specs.Soundness.{OpeningIsSound, PiecesStaySound, InstructionsWork, HistoriesWork};
 
 use kernel_model::Rules;
@@ -23,4 +24,9 @@ pub fn instructions_work()
 /// Wherever a history leads from a sound store, the graft call works on it in that sense.
 pub fn histories_work<R: Rules>()
     ensures { HistoriesWork R.meaning }
+{}
+
+/// A sound graft call is sound after each instruction that doesn't end it.
+pub fn configs_stay_sound()
+    ensures { ConfigsStaySound }
 {}
