@@ -133,25 +133,38 @@ undo_both (i ∷ is) js w = undo_both is js (undo i w)
 abbrev HeldAfter : Outcome → Type 0
 HeldAfter o = AreHeld o.config.now o.config.levels
 
--- the innermost level is dropped
-pub drop_held : (v : World) (w : Objects) (l : Level) (ls : List Level) (cause : Cause) → AreHeld w (l ∷ ls) → HeldAfter (drop_innermost v w l ls cause)
-drop_held v w l ls cause h =
-    let d = default_of v l.kept l.owner l.point in
-    let first = first_of_found l.kept (undo_all l.records w.things) (found_by ls) (kept_by_log (undo_all l.records w.things) (undo_log ls)) h.kept in
-    let rest = rest_of_found l.kept (undo_all l.records w.things) (found_by ls) (kept_by_log (undo_all l.records w.things) (undo_log ls)) h.kept in
-    held_on (state_without l w) (answer_innermost l.point d.0 d.1 ls) ls (keep_answer l.point d.0 d.1 ls) (record {
-      each = each_left (outermost_touched ls) w.accounts l.owner l.point ls h.apart.0 (each_outside w.accounts l ls h.each.1);
+-- the levels outside the innermost one, on what it found
+pub outside_held : (w : Objects) (l : Level) (ls : List Level) → AreHeld w (l ∷ ls) → AreHeld (record { accounts = w.accounts; things = l.kept }) ls
+outside_held w l ls h =
+    let before = undo_all l.records w.things in
+    let first = first_of_found l.kept before (found_by ls) (kept_by_log before (undo_log ls)) h.kept in
+    let rest = rest_of_found l.kept before (found_by ls) (kept_by_log before (undo_log ls)) h.kept in
+    record {
+      each = each_outside w.accounts l ls h.each.1;
       apart = h.apart.1;
       few = fewer (length l.records) (record_count ls) h.few;
       most = one_less (length ls) h.most;
       kept = rest ∙ ap (λ x. kept_by_log x (undo_log ls)) (sym first);
-    })
+    }
   where
     fewer : (a b : ℕ) → a + b ≤ 64 → b ≤ 64
     fewer a b h = omega arith
 
     one_less : (n : ℕ) → suc n ≤ 4 → n ≤ 4
     one_less n h = omega arith
+
+-- the innermost level is dropped
+pub drop_held : (v : World) (w : Objects) (l : Level) (ls : List Level) (cause : Cause) → AreHeld w (l ∷ ls) → HeldAfter (drop_innermost v w l ls cause)
+drop_held v w l ls cause h =
+    let d = default_of v l.kept l.owner l.point in
+    let k = outside_held w l ls h in
+    held_on (state_without l w) (answer_innermost l.point d.0 d.1 ls) ls (keep_answer l.point d.0 d.1 ls) (record {
+      each = each_left (outermost_touched ls) w.accounts l.owner l.point ls h.apart.0 k.each;
+      apart = k.apart;
+      few = k.few;
+      most = k.most;
+      kept = k.kept;
+    })
 
 -- one of a kind is charged
 charged_held : (w : Objects) (ls : List Level) (q pt : ℕ) (k : Kind) → AreHeld w ls → AreHeld (with_accounts (charge k q pt w.accounts) w) ls

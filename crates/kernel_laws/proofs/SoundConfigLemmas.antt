@@ -1,5 +1,5 @@
 -- A sound graft call has levels that are held and works on its own state, and the other way round.
-use Rattle.std.specs.Prelude.{◌≡◌, ◌≢◌, ℕ, suc, ◌<◌, ◌≤◌, ◌==◌, ◌&&◌, ◌||◌, Bool, true, false, List, [], ◌∷◌, length, Option, Some, None, Contains}
+use Rattle.std.specs.Prelude.{◌≡◌, ◌≢◌, ℕ, suc, ◌<◌, ◌≤◌, ◌==◌, ◌&&◌, ◌||◌, Bool, true, false, not, List, [], ◌∷◌, length, Option, Some, None, Contains, ⊤}
 use Rattle.std.specs.List.{AllByRecursion as Each}
 use Rattle.std.proofs.Common.{arith, refl, subst, sym, ap, ◌∙◌, inl, inr}
 use Rattle.std.proofs.lemmas.Bool.{cases_Bool, and_parts, eqb-true}
@@ -11,19 +11,24 @@ use Rattle.kernel_model.specs.World.{World}
 use Rattle.kernel_model.specs.Objects.{Objects, Accounts, Things}
 use Rattle.kernel_model.specs.Access.{undo}
 use Rattle.kernel_model.specs.UndoLog.{undo_all, undo_log, kept_by_log}
-use Rattle.kernel_model.specs.Levels.{Level, Config, level_at, outermost_touched}
+use Rattle.kernel_model.specs.Levels.{Level, Config, Effect, Asked, Charged, Removed, Outcome, level_at, outermost_touched, drop_innermost, drop_level}
 use Rattle.kernel_model.specs.GraftStep.{is_running, micro}
 use Rattle.kernel_model.specs.Alike.{AreAlike}
-use Rattle.kernel_model.specs.Claims.{ConfigsStaySound}
+use Rattle.kernel_model.specs.Claims.{ConfigsStaySound, EffectsStaySound}
+use Rattle.kernel_model.specs.Charges.{funds, charge, removed}
+use Rattle.kernel_model.specs.History.{is_found, config_if, with_accounts_of, effect}
+use Rattle.kernel_model.specs.declared.Cause.{Cause}
+use Rattle.kernel_model.specs.declared.Kind.{Kind}
+use Rattle.kernel_laws.proofs.StoreLemmas.{charge_store, removed_store}
 use Rattle.kernel_model.specs.Sound.{IsSoundStore, IsSoundConfig, once_if}
 use Rattle.kernel_model.specs.Policies.{lives}
-use Rattle.kernel_laws.specs.Soundness.{AreGraftsWork, found_by, IsAskedAt, WorksOn}
+use Rattle.kernel_laws.specs.Soundness.{AreGraftsWork, found_by, IsAskedAt, WorksOn, DropsStaySound}
 use Rattle.kernel_laws.specs.Undoing.{IsOnceIn}
 use Rattle.kernel_laws.proofs.AccessLemmas.{nice_alike, window_alike, mark_alike, param_alike}
 use Rattle.kernel_laws.proofs.HistoryLemmas.{own_work}
-use Rattle.kernel_laws.proofs.InstructionLemmas.{instructions_work}
+use Rattle.kernel_laws.proofs.InstructionLemmas.{instructions_work, asked_outside, drop_work}
 use Rattle.kernel_laws.proofs.LevelLemmas.{IsHeld, AreApart, AreHeld, each_from, each_contains}
-use Rattle.kernel_laws.proofs.ConfigLemmas.{levels_held}
+use Rattle.kernel_laws.proofs.ConfigLemmas.{levels_held, drop_held, outside_held}
 
 -- ---- levels by number
 
@@ -261,3 +266,63 @@ configs_stay_sound v images p c h some =
     let a = point_of c.levels in
     held_sound v c.now a (micro v images p c).config (instructions_work v images p c.now a c (sound_works v c h)).0
     (levels_held v images p c.now c.levels (sound_held v c h) (sound_once v c.now h.now)) some
+
+-- ---- the drop of any level
+
+-- on a state whose working things don't matter
+drops_held : (v : World) (w : Objects) (x : Things) (ls : List Level) (d : ℕ) (cause : Cause) → AreHeld (record { accounts = w.accounts; things = x }) ls →
+    AreHeld (drop_level v w ls d cause).config.now (drop_level v w ls d cause).config.levels
+drops_held v w x [] d cause h = record { each = tt; apart = tt; few = h.few; most = h.most; kept = refl }
+drops_held v w x (l ∷ ls) d cause h =
+    drops_by (length ls == d) (drops_held v w l.kept ls d cause (outside_held (record { accounts = w.accounts; things = x }) l ls h))
+  where
+    drops_by : (b : Bool) → AreHeld (drop_level v w ls d cause).config.now (drop_level v w ls d cause).config.levels →
+        let o : Outcome = elim b as (λ _. Outcome) [ true ↦ drop_innermost v w l ls cause | false ↦ drop_level v w ls d cause ] in AreHeld o.config.now o.config.levels
+    drops_by true further = drop_held v (record { accounts = w.accounts; things = x }) l ls cause h
+    drops_by false further = further
+
+drops_work : (v : World) (s : Objects) (a : Point) (w : Objects) (ls : List Level) (d : ℕ) (cause : Cause) → WorksOn v s a (record { now = w; levels = ls }) →
+    WorksOn v s a (drop_level v w ls d cause).config
+drops_work v s a w [] d cause h = h
+drops_work v s a w (l ∷ ls) d cause h =
+    drops_by (length ls == d)
+    (drops_work v s a w ls d cause (record { works = (h.works.0, (h.works.1.0, h.works.1.1.1)); asked = asked_outside a l ls h.asked }))
+  where
+    drops_by : (b : Bool) → WorksOn v s a (drop_level v w ls d cause).config →
+        let o : Outcome = elim b as (λ _. Outcome) [ true ↦ drop_innermost v w l ls cause | false ↦ drop_level v w ls d cause ] in WorksOn v s a o.config
+    drops_by true further = (drop_work v s a w l ls cause h).0
+    drops_by false further = further
+
+-- a sound graft call is sound after the drop of a level above 0
+pub drops_stay_sound : DropsStaySound
+drops_stay_sound v c d cause h some =
+    held_sound v c.now (point_of c.levels) (drop_level v c.now c.levels d cause).config
+    (drops_work v c.now (point_of c.levels) c.now c.levels d cause (sound_works v c h)) (drops_held v c.now c.now.things c.levels d cause (sound_held v c h)) some
+
+-- ---- effects
+
+-- a config, if there is one, has a sound store
+abbrev HasSoundStore : World → Option Config → Type 0
+HasSoundStore v None = ⊤
+HasSoundStore v (Some c) = IsSoundStore v c.now
+
+effect_charged : (v : World) (q pt : ℕ) (k : Kind) (c : Config) (b : Bool) → (is_found q pt c && not (funds c.now.accounts q pt k == 0)) ≡ b → IsSoundStore v c.now →
+    HasSoundStore v (config_if b (with_accounts_of (charge k q pt c.now.accounts) c))
+effect_charged v q pt k c true e h = charge_store v c.now q pt k h (some_funds (is_found q pt c) (funds c.now.accounts q pt k) e)
+  where
+    some_funds : (b : Bool) (n : ℕ) → (b && not (n == 0)) ≡ true → 1 ≤ n
+    some_funds b n e = grind (arith, nat_tests)
+effect_charged v q pt k c false e h = tt
+
+effect_removed : (v : World) (q pt : ℕ) (c : Config) (b : Bool) → IsSoundStore v c.now → HasSoundStore v (config_if b (with_accounts_of (removed q pt c.now.accounts) c))
+effect_removed v q pt c true h = removed_store v c.now q pt h
+effect_removed v q pt c false h = tt
+
+effect_sound : (v : World) (q : ℕ) (e : Effect) (c : Config) → IsSoundStore v c.now → HasSoundStore v (effect q e c)
+effect_sound v q (Asked pt) c h = h
+effect_sound v q (Charged pt k) c h = effect_charged v q pt k c (is_found q pt c && not (funds c.now.accounts q pt k == 0)) refl h
+effect_sound v q (Removed pt) c h = effect_removed v q pt c (is_found q pt c) h
+
+-- an effect that is made again leaves a sound store
+pub effects_stay_sound : EffectsStaySound
+effects_stay_sound v q e c d h is = subst (HasSoundStore v) is (effect_sound v q e c h)
