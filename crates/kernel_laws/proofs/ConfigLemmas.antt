@@ -116,7 +116,7 @@ outermost_records l is [] = refl
 outermost_records l is (k ∷ ls) = refl
 
 -- the head and the tail of what levels found
-first_of_found : (x y : Things) (xs ys : List Things) → x ∷ xs ≡ y ∷ ys → x ≡ y
+pub first_of_found : (x y : Things) (xs ys : List Things) → x ∷ xs ≡ y ∷ ys → x ≡ y
 first_of_found x y xs ys e = ap (λ (ws : List Things). elim ws as (λ _. Things) [ [] ↦ x | w ∷ rest ↦ w ]) e
 
 rest_of_found : (x y : Things) (xs ys : List Things) → x ∷ xs ≡ y ∷ ys → xs ≡ ys
@@ -167,7 +167,7 @@ drop_held v w l ls cause h =
     })
 
 -- one of a kind is charged
-charged_held : (w : Objects) (ls : List Level) (q pt : ℕ) (k : Kind) → AreHeld w ls → AreHeld (with_accounts (charge k q pt w.accounts) w) ls
+pub charged_held : (w : Objects) (ls : List Level) (q pt : ℕ) (k : Kind) → AreHeld w ls → AreHeld (with_accounts (charge k q pt w.accounts) w) ls
 charged_held w ls q pt k h =
     record {
       each = each_standing (outermost_touched ls) w.accounts (charge k q pt w.accounts) ls (λ r pu. charge_stands w.accounts q pt r pu k) h.each;

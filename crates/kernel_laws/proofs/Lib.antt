@@ -2,6 +2,7 @@ pub mod AccessLemmas
 pub mod AmountLemmas
 pub mod ClockLemmas
 pub mod ConfigLemmas
+pub mod FrameLemmas
 pub mod HistoryLemmas
 pub mod InstructionLemmas
 pub mod LevelLemmas

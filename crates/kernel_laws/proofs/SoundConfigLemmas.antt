@@ -215,7 +215,7 @@ sound_works v c h =
     }
 
 -- its levels are held
-sound_held : (v : World) (c : Config) → IsSoundConfig v c → AreHeld c.now c.levels
+pub sound_held : (v : World) (c : Config) → IsSoundConfig v c → AreHeld c.now c.levels
 sound_held v c h =
     record {
       each = each_from (IsHeld (outermost_touched c.levels) c.now.accounts) c.levels

@@ -1,6 +1,6 @@
 //! Laws of what keeps states sound. A call of one brings its statement into a proof.
 
-ghost use Rattle.kernel_model.specs.Claims.{ConfigsStaySound, EffectsStaySound};
+ghost use Rattle.kernel_model.specs.Claims.{ChangesWhatIsHeld, ConfigsStaySound, EffectsStaySound};
 ghost use Rattle.kernel_laws.specs.Soundness.{OpeningIsSound, OpeningKernelIsSound, PiecesStaySound, InstructionsWork, HistoriesWork, DropsStaySound};
 
 use kernel_model::Rules;
@@ -44,4 +44,9 @@ pub fn drops_stay_sound()
 /// An effect that is made again leaves a sound store.
 pub fn effects_stay_sound()
     ensures { EffectsStaySound }
+{}
+
+/// An instruction of a sound graft call changes nothing but what some level holds exclusively, before it or after it.
+pub fn changes_what_is_held()
+    ensures { ChangesWhatIsHeld }
 {}
