@@ -4,6 +4,7 @@ pub mod ClockLemmas
 pub mod ConfigLemmas
 pub mod FrameLemmas
 pub mod HistoryLemmas
+pub mod ImageLemmas
 pub mod InstructionLemmas
 pub mod LevelLemmas
 mod NeededPremises

@@ -1,6 +1,6 @@
 //! Laws of what keeps states sound. A call of one brings its statement into a proof.
 
-ghost use Rattle.kernel_model.specs.Claims.{ChangesWhatIsHeld, ConfigsStaySound, EffectsStaySound};
+ghost use Rattle.kernel_model.specs.Claims.{ChangesWhatIsHeld, ConfigsStaySound, EffectsStaySound, MoreImages};
 ghost use Rattle.kernel_laws.specs.Soundness.{OpeningIsSound, OpeningKernelIsSound, PiecesStaySound, InstructionsWork, HistoriesWork, DropsStaySound};
 
 use kernel_model::Rules;
@@ -49,4 +49,9 @@ pub fn effects_stay_sound()
 /// An instruction of a sound graft call changes nothing but what some level holds exclusively, before it or after it.
 pub fn changes_what_is_held()
     ensures { ChangesWhatIsHeld }
+{}
+
+/// An instruction is the same once more images are loaded.
+pub fn more_images()
+    ensures { MoreImages }
 {}
