@@ -12,7 +12,7 @@ use Rattle.kernel_model.specs.World.{World}
 use Rattle.kernel_model.specs.Objects.{Objects, Accounts, Things, FrameValue, PolValue, at, at2}
 use Rattle.kernel_model.specs.Policies.{lives, frames_of}
 use Rattle.kernel_model.specs.Access.{Access, Gives, Changes, Refuses, Callable, CellGet, CellSet, NiceGet, NiceSet, WindowGet, WindowSet, FramesMine, FrameAt, FrameBlock, FrameMark, TuneGet, TuneSet, TakeLock, callable, access_by, early_refusal, with_nice, with_window, with_mark, with_param, set_cell, set_nice, set_window, set_mark, set_param, own_frame, window_change, tune_change, param_top, in_range, chosen_param}
-use Rattle.kernel_model.specs.Sound.{IsSoundFile, IsSoundFrame, count_of, in_queue}
+use Rattle.kernel_model.specs.Sound.{IsSoundFile, IsSoundFrame}
 use Rattle.kernel_model.specs.Alike.{windowless, markless, niceless}
 use Rattle.plain_rules.specs.Rows.{NicesFit}
 use Rattle.plain_rules.specs.SoundStores.{store_with_cell, store_with_file, store_with_cache, store_with_policy, store_with_queue}
@@ -68,7 +68,7 @@ nice_fits p n rows low h x c =
     (λ r k. row_nice p n r low (h r k)) rows (All-contains_itself rows))) c
 
 -- nothing but nices changed
-nice_alike : (p n : ℕ) (rows : List QueueRow) → niceless (with_nice p n rows) ≡ niceless rows
+pub nice_alike : (p n : ℕ) (rows : List QueueRow) → niceless (with_nice p n rows) ≡ niceless rows
 nice_alike p n [] = refl
 nice_alike p n (r ∷ rows) = grind (arith, nat_tests, nice_alike p n rows)
 
@@ -81,7 +81,7 @@ window_sound v n x o h low e =
     (record { usable = h.usable; count = h.count; within = h.within; window = low })
 
 -- the changed window is left out
-window_alike : (q fd n p l : ℕ) (f : ℕ → ℕ → Option OpenRow) → windowless (at2 q fd (with_window n (f q fd)) f p l) ≡ windowless (f p l)
+pub window_alike : (q fd n p l : ℕ) (f : ℕ → ℕ → Option OpenRow) → windowless (at2 q fd (with_window n (f q fd)) f p l) ≡ windowless (f p l)
 window_alike q fd n p l f = elim (found_at q fd p l (with_window n (f q fd)) f) [
   | inl a ↦ ap windowless a.2 ∙ same_windowless (f q fd) ∙ ap windowless (ap (λ i. f i fd) (sym a.0) ∙ ap (f p) (sym a.1))
   | inr a ↦ ap windowless a
@@ -126,7 +126,7 @@ mark_found queue f n g frame x h low e = elim (cases_Bool (g == f)) [
 ]
 
 -- nothing but marks changed
-mark_alike : (f n g : ℕ) (frame : ℕ → Option FrameValue) → markless (at f (with_mark n (frame f)) frame g) ≡ markless (frame g)
+pub mark_alike : (f n g : ℕ) (frame : ℕ → Option FrameValue) → markless (at f (with_mark n (frame f)) frame g) ≡ markless (frame g)
 mark_alike f n g frame = elim (cases_Bool (g == f)) [
   | inl e ↦ ap markless (cond-true (g == f) (with_mark n (frame f)) (frame g) e) ∙ same_markless (frame f) ∙ ap (λ i. markless (frame i)) (sym (same_number g f e))
   | inr e ↦ ap markless (cond-false (g == f) (with_mark n (frame f)) (frame g) e)
@@ -140,7 +140,7 @@ mark_alike f n g frame = elim (cases_Bool (g == f)) [
     same_number g f e = grind (arith, nat_tests)
 
 -- nothing but parameters changed
-param_alike : (kind n k : ℕ) (pol : ℕ → PolValue) → (at kind (with_param n (pol kind)) pol k).chosen ≡ (pol k).chosen
+pub param_alike : (kind n k : ℕ) (pol : ℕ → PolValue) → (at kind (with_param n (pol kind)) pol k).chosen ≡ (pol k).chosen
 param_alike kind n k pol = grind (arith, nat_tests)
 
 -- ---- accessors

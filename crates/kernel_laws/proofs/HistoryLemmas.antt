@@ -10,10 +10,10 @@ use Rattle.kernel_model.specs.World.{World, ImageTable}
 use Rattle.kernel_model.specs.Objects.{Objects}
 use Rattle.kernel_model.specs.Policies.{default_of}
 use Rattle.kernel_model.specs.Charges.{funds, charge, removed}
-use Rattle.kernel_model.specs.Meaning.{Meaning, Stage}
+use Rattle.kernel_model.specs.Meaning.{Meaning}
 use Rattle.kernel_model.specs.Levels.{Level, Config, Effect, Asked, Charged, Removed, Outcome, is_going_on}
 use Rattle.kernel_model.specs.GraftStep.{micro}
-use Rattle.kernel_model.specs.History.{Mark, Stepped, Fell, Trace, begin_at, begin_with, first_trace, trace_after, stepped, is_found, with_accounts_of, config_if, effect, effects_on, level_ends, owner_among, fallen_if, fell_on, mark_on, marks_on, replay}
+use Rattle.kernel_model.specs.History.{Mark, Stepped, Fell, Trace, begin_at, begin_with, first_trace, trace_after, stepped, is_found, with_accounts_of, config_if, effect, effects_on, level_ends, owner_among, fallen_if, fell_on, mark_on, marks_on}
 use Rattle.kernel_model.specs.Sound.{IsSoundStore}
 use Rattle.kernel_laws.specs.Soundness.{IsGraftsWork, AreGraftsWork, found_by, WorksOn, ReplayWorks, HistoriesWork}
 use Rattle.kernel_laws.proofs.StoreLemmas.{charge_work, remove_work}
@@ -126,7 +126,7 @@ module _ (v : World) (images : ImageTable) (p : ℕ) (s : Objects) (a : Point) w
 -- ---- replay
 
 -- a state is a graft's work on itself
-own_work : (v : World) (s : Objects) → IsSoundStore v s → IsGraftsWork v s s.accounts s.things
+pub own_work : (v : World) (s : Objects) → IsSoundStore v s → IsGraftsWork v s s.accounts s.things
 own_work v s h =
     record {
       store = h;

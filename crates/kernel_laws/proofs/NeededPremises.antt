@@ -1,25 +1,23 @@
 -- Premises of the laws that can't be left out: for each the smallest example in which the law would be false.
-use Rattle.std.specs.Prelude.{◌≡◌, ◌≢◌, ℕ, zero, suc, ◌+◌, ◌≤◌, ◌==◌, Bool, true, false, cond, List, [], ◌∷◌, length, Option, Some, None, Ok}
+use Rattle.std.specs.Prelude.{◌≡◌, ℕ, suc, ◌==◌, false, cond, List, [], ◌∷◌, Option, Some, None}
 use Rattle.std.proofs.Common.{arith, refl, sym, ap, ◌∙◌}
 use Rattle.kernel_model.specs.declared.Object.TheVariants.{Lock}
-use Rattle.kernel_model.specs.declared.Kind.{Kind}
 use Rattle.kernel_model.specs.declared.Kind.TheVariants.{Steps}
 use Rattle.kernel_model.specs.declared.Inverse.{Inverse}
-use Rattle.kernel_model.specs.declared.Inverse.TheVariants.{Nice}
 use Rattle.kernel_model.specs.declared.Event.{Event}
 use Rattle.kernel_model.specs.declared.Event.TheVariants.{Tick, Sys}
-use Rattle.kernel_model.specs.declared.SysCall.TheVariants.{TakeLock, Yield, Spawn}
+use Rattle.kernel_model.specs.declared.SysCall.TheVariants.{TakeLock, Yield}
 use Rattle.kernel_model.specs.declared.Note.{Note}
-use Rattle.kernel_model.specs.declared.Note.TheVariants.{Ended, Refused, Waits, InGraft, Ticked}
+use Rattle.kernel_model.specs.declared.Note.TheVariants.{Refused, Waits, InGraft}
 use Rattle.kernel_model.specs.declared.Refusal.TheVariants.{Held}
 use Rattle.kernel_model.specs.declared.QueueRow.{QueueRow}
-use Rattle.kernel_model.specs.World.{World, Blocks, ImageTable}
-use Rattle.kernel_model.specs.Objects.{Objects, Accounts, Things, AcctValue, GraftValue, at, at2}
+use Rattle.kernel_model.specs.World.{World, Blocks}
+use Rattle.kernel_model.specs.Objects.{Objects, Accounts, Things, GraftValue, at, at2}
 use Rattle.kernel_model.specs.Access.{access, undo, set_cell}
 use Rattle.kernel_model.specs.UndoLog.{undo_all}
-use Rattle.kernel_model.specs.Charges.{charge, removed, returned}
-use Rattle.kernel_model.specs.Meaning.{Meaning, Stage, stage}
-use Rattle.kernel_model.specs.Kernel.{Kernel, Run}
+use Rattle.kernel_model.specs.Charges.{charge, returned}
+use Rattle.kernel_model.specs.Meaning.{Meaning, stage}
+use Rattle.kernel_model.specs.Kernel.{Kernel}
 use Rattle.kernel_model.specs.Events.{event}
 use Rattle.kernel_model.specs.Quiet.{quiet, at_rest}
 use Rattle.kernel_model.specs.Alone.{pieces_from}

@@ -1,16 +1,20 @@
 -- The state after boot is sound.
-use Rattle.std.specs.Prelude.{◌≡◌, ◌≢◌, ℕ, ◌+◌, ◌<◌, ◌≤◌, ◌==◌, Bool, true, false, cond, List, [], ◌∷◌, Some, None, Contains}
+use Rattle.std.specs.Prelude.{◌≡◌, ◌≢◌, ℕ, ◌+◌, ◌<◌, ◌≤◌, ◌==◌, Bool, true, false, cond, List, [], ◌∷◌, Some, None, Contains, map, slice_index_or, zero, suc}
 use Rattle.std.proofs.Common.{arith, refl, ap, ◌∙◌}
 use Rattle.std.proofs.lemmas.Bool.Decides.{nat_tests}
 use Rattle.std.proofs.lemmas.List.Elements.{All-contains, All-from_recursion}
 use Rattle.kernel_model.specs.declared.Kind.{Kind}
 use Rattle.kernel_model.specs.declared.QueueRow.{QueueRow}
+use Rattle.kernel_model.specs.World.{processes}
 use Rattle.kernel_model.specs.Policies.{lives}
+use Rattle.kernel_model.specs.Meaning.{Meaning}
+use Rattle.kernel_model.specs.Levels.{Level, touched_at}
+use Rattle.kernel_model.specs.Blocking.{levels_of, holds}
 use Rattle.kernel_model.specs.Access.{param_top}
-use Rattle.kernel_model.specs.Opening.{opening_account, opening_accounts, opening_policy}
-use Rattle.kernel_model.specs.Sound.{IsSoundPolicy, ParamFits, count_of, once_if, in_queue, ledger, sum_below, graft_balance}
+use Rattle.kernel_model.specs.Opening.{opening_account, opening_accounts, opening_policy, opening_kernel}
+use Rattle.kernel_model.specs.Sound.{IsSoundPolicy, ParamFits, count_of, once_if, in_queue, ledger, sum_below, graft_balance, clash}
 use Rattle.plain_rules.specs.Ledgers.{sum_one, sum_zero}
-use Rattle.kernel_laws.specs.Soundness.{OpeningIsSound}
+use Rattle.kernel_laws.specs.Soundness.{OpeningIsSound, OpeningKernelIsSound}
 
 -- the queue after boot
 abbrev first_queue : List QueueRow
@@ -94,3 +98,31 @@ opening_is_sound v images world disk =
 
     not_some : false ≡ true → ⊥
     not_some e = cc
+
+-- a table of lists that are all empty
+all_empty : (f : ℕ → List Level) → ((q : ℕ) → f q ≡ []) → (ps : List ℕ) (q : ℕ) → slice_index_or (map f ps) q [] ≡ []
+all_empty f h [] q = refl
+all_empty f h (p ∷ ps) zero = h p
+all_empty f h (p ∷ ps) (suc q) = all_empty f h ps q
+
+-- the kernel after boot is sound
+pub opening_kernel_is_sound : (m : Meaning) → OpeningKernelIsSound m
+opening_kernel_is_sound m v world disk =
+    let k = opening_kernel v in
+    record {
+      state = opening_is_sound v (λ slot. None) world disk;
+      runs = λ p c ks e marked. absurd (none_some c e);
+      grafts = λ p f l e c. absurd (none_some f e);
+      apart = λ p q d e o ne. ap (λ (ls : List Level). clash (touched_at ls d o) (holds m k q e o)) (all_empty (levels_of m k) (λ i. refl) processes p);
+      callers = λ p c e. absurd (none_some c e);
+      granted = λ p c e. absurd (none_some c e);
+      fit = λ p c e. absurd (none_some c e);
+      pieces = λ p e. absurd (not_some e);
+      others = λ e c away. absurd (none_below c.0 c.1);
+    }
+  where
+    not_some : false ≡ true → ⊥
+    not_some e = cc
+
+    none_below : (k : ℕ) → k < 0 → ⊥
+    none_below k h = omega arith

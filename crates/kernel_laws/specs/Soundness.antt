@@ -1,16 +1,17 @@
 -- What keeps states sound: boot, the pieces of calls, and the instructions of levels.
-use Rattle.std.specs.Prelude.{◌≡◌, ℕ, Bool, List, [], ◌∷◌, map, Option, ⊤, slice_index, true, Some, None}
+use Rattle.std.specs.Prelude.{◌≡◌, ◌≢◌, ℕ, Bool, List, [], ◌∷◌, map, Option, ⊤, slice_index, true, Some, None}
 use Rattle.kernel_model.specs.declared.Point.{Point}
 use Rattle.kernel_model.specs.declared.Micro.{Micro}
 use Rattle.kernel_model.specs.World.{World, ImageTable, Blocks}
 use Rattle.kernel_model.specs.Objects.{Objects, Accounts, Things}
 use Rattle.kernel_model.specs.Policies.{valid}
 use Rattle.kernel_model.specs.Meaning.{Meaning, Stage}
-use Rattle.kernel_model.specs.Levels.{Level, Config}
+use Rattle.kernel_model.specs.Levels.{Level, Config, drop_level}
+use Rattle.kernel_model.specs.declared.Cause.{Cause}
 use Rattle.kernel_model.specs.GraftStep.{micro}
 use Rattle.kernel_model.specs.History.{Mark, Trace, replay}
-use Rattle.kernel_model.specs.Opening.{opening_objects, opening_things}
-use Rattle.kernel_model.specs.Sound.{IsSoundWorld, IsSoundStore, IsSoundState, FitsDisk, ImagesAreLoaded, HasWholeBlocks}
+use Rattle.kernel_model.specs.Opening.{opening_objects, opening_things, opening_kernel}
+use Rattle.kernel_model.specs.Sound.{IsSoundWorld, IsSoundStore, IsSoundState, FitsDisk, ImagesAreLoaded, HasWholeBlocks, IsSoundConfig, IsSoundKernel}
 use Rattle.kernel_model.specs.Alike.{AreAlike}
 use Rattle.kernel_model.specs.Laws.{IsReady}
 
@@ -18,6 +19,11 @@ use Rattle.kernel_model.specs.Laws.{IsReady}
 abbrev pub OpeningIsSound : Type 0
 OpeningIsSound =
     (v : World) (images : ImageTable) → IsSoundWorld v → FitsDisk v opening_things.cache → IsSoundState v images (opening_objects v.grant)
+
+-- and so is the kernel after boot
+abbrev pub OpeningKernelIsSound : Meaning → Type 0
+OpeningKernelIsSound m =
+    (v : World) → IsSoundWorld v → FitsDisk v opening_things.cache → IsSoundKernel m (opening_kernel v)
 
 -- a piece of a sound state, over whole blocks, leaves a sound state and whole blocks
 abbrev pub PiecesStaySound : Meaning → Type 0
@@ -78,3 +84,9 @@ abbrev pub HistoriesWork : Meaning → Type 0
 HistoriesWork m =
     (v : World) (images : ImageTable) (s : Objects) (p : ℕ) (t : Stage) (ks : List Mark) → IsSoundStore v s →
     ReplayWorks v s (m.asks v s p t) (replay m v images s p t ks)
+
+-- a sound graft call is sound after the drop of a level, by a time-out too, if a level is left
+abbrev pub DropsStaySound : Type 0
+DropsStaySound =
+    (v : World) (c : Config) (d : ℕ) (cause : Cause) → IsSoundConfig v c → (drop_level v c.now c.levels d cause).config.levels ≢ [] →
+    IsSoundConfig v (drop_level v c.now c.levels d cause).config

@@ -6,4 +6,6 @@ pub mod amounts;
 pub mod clock;
 pub mod rest;
 pub mod soundness;
+#[cfg(test)]
+mod tests;
 pub mod undoing;

@@ -1,12 +1,18 @@
 //! Laws of what keeps states sound. A call of one brings its statement into a proof.
 
-ghost use Rattle.kernel_laws.specs.Soundness.{OpeningIsSound, PiecesStaySound, InstructionsWork, HistoriesWork};
+ghost use Rattle.kernel_model.specs.Claims.{ChangesWhatIsHeld, ConfigsStaySound, EffectsStaySound, MoreImages};
+ghost use Rattle.kernel_laws.specs.Soundness.{OpeningIsSound, OpeningKernelIsSound, PiecesStaySound, InstructionsWork, HistoriesWork, DropsStaySound};
 
 use kernel_model::Rules;
 
 /// The state after boot is sound, where what no call changes is within the limits and the files lie on the disk.
 pub fn opening_is_sound()
     ensures { OpeningIsSound }
+{}
+
+/// The kernel after boot is sound, where the same holds.
+pub fn opening_kernel_is_sound<R: Rules>()
+    ensures { OpeningKernelIsSound R.meaning }
 {}
 
 /// A piece of a sound state, over whole blocks, leaves a sound state and whole blocks.
@@ -23,4 +29,29 @@ pub fn instructions_work()
 /// Wherever a history leads from a sound store, the graft call works on it in that sense.
 pub fn histories_work<R: Rules>()
     ensures { HistoriesWork R.meaning }
+{}
+
+/// A sound graft call is sound after each instruction that doesn't end it.
+pub fn configs_stay_sound()
+    ensures { ConfigsStaySound }
+{}
+
+/// A sound graft call is sound after the drop of a level, by a time-out too, if a level is left.
+pub fn drops_stay_sound()
+    ensures { DropsStaySound }
+{}
+
+/// An effect that is made again leaves a sound store.
+pub fn effects_stay_sound()
+    ensures { EffectsStaySound }
+{}
+
+/// An instruction of a sound graft call changes nothing but what some level holds exclusively, before it or after it.
+pub fn changes_what_is_held()
+    ensures { ChangesWhatIsHeld }
+{}
+
+/// An instruction is the same once more images are loaded.
+pub fn more_images()
+    ensures { MoreImages }
 {}

@@ -1,0 +1,5 @@
+use Rattle.kernel_laws.proofs.SoundConfigLemmas.{configs_stay_sound}
+use Rattle.kernel_laws.proofs.soundness.configs_stay_sound.Goals as goal
+
+pub returns : goal.returns
+returns c = configs_stay_sound

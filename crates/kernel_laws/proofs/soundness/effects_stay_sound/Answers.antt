@@ -1,0 +1,5 @@
+use Rattle.kernel_laws.proofs.SoundConfigLemmas.{effects_stay_sound}
+use Rattle.kernel_laws.proofs.soundness.effects_stay_sound.Goals as goal
+
+pub returns : goal.returns
+returns c = effects_stay_sound
