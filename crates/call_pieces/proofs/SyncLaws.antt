@@ -1,8 +1,7 @@
 -- `sync`, frame by frame.
-use Rattle.std.proofs.Common.{◌≡◌, ℕ, zero, suc, ◌+◌, ◌-◌, ◌<◌, ◌≤◌, Bool, true, false, cond, List, [], ◌∷◌, ◌++◌, length, Option, Some, None, option_map, refl, arith, sym, ◌∙◌, ap, subst, append_assoc, add-one, Result, Ok, Err, IfOk, IfErr, is_ok}
+use Rattle.std.proofs.Common.{◌≡◌, ℕ, suc, ◌+◌, ◌-◌, ◌<◌, ◌≤◌, Bool, true, false, cond, List, [], ◌∷◌, ◌++◌, length, Option, Some, None, option_map, refl, arith, sym, ◌∙◌, ap, subst, append_assoc, add-one, Result, Ok, Err, IfOk, IfErr, is_ok}
 use Rattle.std.specs.Result.{is_err}
 use Rattle.kernel_model.specs.declared.Refusal.TheVariants.{DiskFault}
-use Rattle.kernel_model.specs.declared.Reply.{Reply}
 use Rattle.kernel_model.specs.declared.Reply.TheVariants.{One}
 use Rattle.kernel_model.specs.World.{Blocks}
 use Rattle.kernel_model.specs.Objects.{Objects, CacheValue, FrameValue, at}
@@ -146,8 +145,7 @@ past_written n f b written first now next told told_now told_next log more faile
           let so = m.rest blocks (failed ∷ io) tells in
           let whole : more ++ io ≡ log ++ (failed ∷ io) = ap (λ w. w ++ io) noted ∙ append_assoc log (failed ∷ []) io in
           let after : Blocks = at b (bytes_of now.things.cache f) so.0 in
-          let result = fails_is more log io failed written noted m.count ∙ fine in
-          (
+          let result = fails_is more log io failed written noted m.count ∙ fine in (
             after,
             tells_next so.0 so.1,
             ap (λ w. sync_from n 0 0 first blocks w) whole ∙ so.2 ∙ ap (λ w. sync_from (n - f) f written now so.0 w) (sym whole) ∙ one_less n f written now so.0 (more ++ io) less

@@ -39,7 +39,11 @@ fn refusal(store: &Store, call: &SysCall) -> Option<Refusal>
         SysCall::OpenName(name) => unless(store.named(name.as_slice()).is_some(), Refusal::NoFile),
         SysCall::CloseFd(fd) => unless(*fd <= 3, Refusal::BadFd),
         SysCall::Read(fd, _, off, len) => range_refusal(*fd, *off, *len),
-        SysCall::Write(fd, _, off, bytes) => range_refusal(*fd, *off, bytes.as_slice().len() as u32),
+        SysCall::Write(fd, _, off, bytes) => range_refusal(
+            *fd,
+            *off,
+            bytes.as_slice().len() as u32,
+        ),
         SysCall::Poke(k, _) | SysCall::Peek(k) => unless(*k <= 3, Refusal::BadIndex),
         _ => None,
     }
@@ -59,6 +63,9 @@ fn range_refusal(fd: u32, off: u32, len: u32) -> Option<Refusal>
     if fd > 3 {
         Some(Refusal::BadFd)
     } else {
-        unless(u64::from(off) + u64::from(len) <= BLOCK_BYTES as u64, Refusal::BadIndex)
+        unless(
+            u64::from(off) + u64::from(len) <= BLOCK_BYTES as u64,
+            Refusal::BadIndex,
+        )
     }
 }

@@ -21,7 +21,13 @@ use kernel_state::Store;
 use vino_base::{Disk, Failed};
 
 /// Block b for process p: the frame that holds it becomes the newest, or the block is read into a frame.
-pub(crate) fn fetch<D: Disk>(store: &mut Store, disk: &mut D, log: &mut DiskLog, p: u8, b: u32) -> Result<u8, Failed>
+pub(crate) fn fetch<D: Disk>(
+    store: &mut Store,
+    disk: &mut D,
+    log: &mut DiskLog,
+    p: u8,
+    b: u32,
+) -> Result<u8, Failed>
     requires sound { IsStore store.old }
     requires alive { lives (queue_of store.old) p ≡ true }
     requires block { b < store.old.size }
@@ -29,7 +35,7 @@ pub(crate) fn fetch<D: Disk>(store: &mut Store, disk: &mut D, log: &mut DiskLog,
     requires fresh { log.old ≡ [] }
     ensures does { (blocks : Blocks) (rest : List Bool) → Tells (D.blocks disk.old) blocks →
         FetchCameTo (fetches.fetch (world_of_store store.old) (opening_policy 1) p b None (cache_of store.old) blocks (log.new ++ rest)) blocks
-            result (cache_of store.new) (D.blocks disk.new) (length log.new) }
+        result (cache_of store.new) (D.blocks disk.new) (length log.new) }
     ensures objects { objects_of store.new ≡ with_cache (cache_of store.new) (objects_of store.old) }
     ensures in_cache { IfOk result (λ f. in_use f store.new.cache ≡ true) }
     ensures kept { IfErr result (λ _. objects_of store.new ≡ objects_of store.old) }
@@ -49,7 +55,13 @@ pub(crate) fn fetch<D: Disk>(store: &mut Store, disk: &mut D, log: &mut DiskLog,
 }
 
 /// Block b, ahead of a read of process p: where a frame holds it already, nothing changes.
-pub(crate) fn fetch_ahead<D: Disk>(store: &mut Store, disk: &mut D, log: &mut DiskLog, p: u8, b: u32) -> Result<u8, Failed>
+pub(crate) fn fetch_ahead<D: Disk>(
+    store: &mut Store,
+    disk: &mut D,
+    log: &mut DiskLog,
+    p: u8,
+    b: u32,
+) -> Result<u8, Failed>
     requires sound { IsStore store.old }
     requires alive { lives (queue_of store.old) p ≡ true }
     requires block { b < store.old.size }
@@ -57,7 +69,7 @@ pub(crate) fn fetch_ahead<D: Disk>(store: &mut Store, disk: &mut D, log: &mut Di
     requires fresh { log.old ≡ [] }
     ensures does { (blocks : Blocks) (rest : List Bool) → Tells (D.blocks disk.old) blocks →
         FetchCameTo (fetches.fetch_ahead (world_of_store store.old) (opening_policy 1) p b None (cache_of store.old) blocks (log.new ++ rest)) blocks
-            result (cache_of store.new) (D.blocks disk.new) (length log.new) }
+        result (cache_of store.new) (D.blocks disk.new) (length log.new) }
     ensures objects { objects_of store.new ≡ with_cache (cache_of store.new) (objects_of store.old) }
     ensures in_cache { IfOk result (λ f. in_use f store.new.cache ≡ true) }
     ensures kept { IfErr result (λ _. objects_of store.new ≡ objects_of store.old) }
@@ -74,7 +86,13 @@ pub(crate) fn fetch_ahead<D: Disk>(store: &mut Store, disk: &mut D, log: &mut Di
 }
 
 /// Reads block b, which no frame holds, into a frame.
-fn load<D: Disk>(store: &mut Store, disk: &mut D, log: &mut DiskLog, p: u8, b: u32) -> Result<u8, Failed>
+fn load<D: Disk>(
+    store: &mut Store,
+    disk: &mut D,
+    log: &mut DiskLog,
+    p: u8,
+    b: u32,
+) -> Result<u8, Failed>
     requires sound { IsStore store.old }
     requires alive { lives (queue_of store.old) p ≡ true }
     requires block { b < store.old.size }
@@ -83,7 +101,7 @@ fn load<D: Disk>(store: &mut Store, disk: &mut D, log: &mut DiskLog, p: u8, b: u
     requires missing { frame_of_block (cache_of store.old) b ≡ None }
     ensures does { (blocks : Blocks) (rest : List Bool) → Tells (D.blocks disk.old) blocks →
         FetchCameTo (read_block (world_of_store store.old) (opening_policy 1) p b None (cache_of store.old) blocks (log.new ++ rest)) blocks
-            result (cache_of store.new) (D.blocks disk.new) (length log.new) }
+        result (cache_of store.new) (D.blocks disk.new) (length log.new) }
     ensures objects { objects_of store.new ≡ with_cache (cache_of store.new) (objects_of store.old) }
     ensures in_cache { IfOk result (λ f. in_use f store.new.cache ≡ true) }
     ensures kept { IfErr result (λ _. objects_of store.new ≡ objects_of store.old) }
@@ -101,7 +119,14 @@ fn load<D: Disk>(store: &mut Store, disk: &mut D, log: &mut DiskLog, p: u8, b: u
 }
 
 /// Puts block b, which no frame holds, into the lowest free frame, or else into that of the candidate.
-fn place<D: Disk>(store: &mut Store, disk: &mut D, log: &mut DiskLog, p: u8, b: u32, bytes: &[u8; 512]) -> Result<u8, Failed>
+fn place<D: Disk>(
+    store: &mut Store,
+    disk: &mut D,
+    log: &mut DiskLog,
+    p: u8,
+    b: u32,
+    bytes: &[u8; 512],
+) -> Result<u8, Failed>
     requires sound { IsStore store.old }
     requires alive { lives (queue_of store.old) p ≡ true }
     requires block { b < store.old.size }
@@ -111,7 +136,7 @@ fn place<D: Disk>(store: &mut Store, disk: &mut D, log: &mut DiskLog, p: u8, b: 
     ensures does { (blocks : Blocks) (rest : List Bool) → Tells (D.blocks disk.old) blocks → blocks b ≡ bytes.now →
         let candidate = or_zero (victim_among (opening_policy 1) (cache_of store.old) (cache_of store.old).lru) in
         FetchCameTo (place_block (free_frame (cache_of store.old) (world_of_store store.old).frames 0) p b candidate candidate (cache_of store.old) blocks (log.new ++ rest)) blocks
-            result (cache_of store.new) (D.blocks disk.new) (length log.new) }
+        result (cache_of store.new) (D.blocks disk.new) (length log.new) }
     ensures first { (rest : List Bool) → disk_fails (log.new ++ rest) 0 ≡ false }
     ensures objects { objects_of store.new ≡ with_cache (cache_of store.new) (objects_of store.old) }
     ensures in_cache { IfOk result (λ f. in_use f store.new.cache ≡ true) }
@@ -133,7 +158,15 @@ fn place<D: Disk>(store: &mut Store, disk: &mut D, log: &mut DiskLog, p: u8, b: 
 }
 
 /// Puts block b, which no frame holds, into frame f, which is in use: what it held is written first, if it is dirty.
-fn evict<D: Disk>(store: &mut Store, disk: &mut D, log: &mut DiskLog, p: u8, b: u32, f: u8, bytes: &[u8; 512]) -> Result<u8, Failed>
+fn evict<D: Disk>(
+    store: &mut Store,
+    disk: &mut D,
+    log: &mut DiskLog,
+    p: u8,
+    b: u32,
+    f: u8,
+    bytes: &[u8; 512],
+) -> Result<u8, Failed>
     requires sound { IsStore store.old }
     requires alive { lives (queue_of store.old) p ≡ true }
     requires block { b < store.old.size }
@@ -143,7 +176,7 @@ fn evict<D: Disk>(store: &mut Store, disk: &mut D, log: &mut DiskLog, p: u8, b: 
     requires frame { in_use f store.old.cache ≡ true }
     ensures does { (blocks : Blocks) (rest : List Bool) → Tells (D.blocks disk.old) blocks →
         FetchCameTo (evicted ((cache_of store.old).frame f) f (replaced f f (new_frame p b bytes.now) (cache_of store.old)) blocks (log.new ++ rest)) blocks
-            result (cache_of store.new) (D.blocks disk.new) (length log.new) }
+        result (cache_of store.new) (D.blocks disk.new) (length log.new) }
     ensures first { (rest : List Bool) → disk_fails (log.new ++ rest) 0 ≡ false }
     ensures objects { objects_of store.new ≡ with_cache (cache_of store.new) (objects_of store.old) }
     ensures in_cache { IfOk result (λ g. in_use g store.new.cache ≡ true) }
@@ -164,7 +197,16 @@ fn evict<D: Disk>(store: &mut Store, disk: &mut D, log: &mut DiskLog, p: u8, b: 
 }
 
 /// Puts block b, which no frame holds, into frame f, which is in use and dirty: its block is written first.
-fn evict_dirty<D: Disk>(store: &mut Store, disk: &mut D, log: &mut DiskLog, p: u8, b: u32, f: u8, bytes: &[u8; 512], old: u32) -> Result<u8, Failed>
+fn evict_dirty<D: Disk>(
+    store: &mut Store,
+    disk: &mut D,
+    log: &mut DiskLog,
+    p: u8,
+    b: u32,
+    f: u8,
+    bytes: &[u8; 512],
+    old: u32,
+) -> Result<u8, Failed>
     requires sound { IsStore store.old }
     requires alive { lives (queue_of store.old) p ≡ true }
     requires block { b < store.old.size }
@@ -176,7 +218,7 @@ fn evict_dirty<D: Disk>(store: &mut Store, disk: &mut D, log: &mut DiskLog, p: u
     requires evicted { old < store.old.size }
     ensures does { (blocks : Blocks) (rest : List Bool) → Tells (D.blocks disk.old) blocks →
         FetchCameTo (evicted ((cache_of store.old).frame f) f (replaced f f (new_frame p b bytes.now) (cache_of store.old)) blocks (log.new ++ rest)) blocks
-            result (cache_of store.new) (D.blocks disk.new) (length log.new) }
+        result (cache_of store.new) (D.blocks disk.new) (length log.new) }
     ensures first { (rest : List Bool) → disk_fails (log.new ++ rest) 0 ≡ false }
     ensures objects { objects_of store.new ≡ with_cache (cache_of store.new) (objects_of store.old) }
     ensures in_cache { IfOk result (λ g. in_use g store.new.cache ≡ true) }

@@ -15,9 +15,8 @@ mod syncs;
 mod writes;
 
 pub use begin::early;
-pub use pieces::piece;
-
 use kernel_model::{Bytes, Refusal, Reply, SysCall};
+pub use pieces::piece;
 
 /// A call in flight.
 #[derive(Drop)]

@@ -10,11 +10,11 @@ ghost use Rattle.kernel_state.specs.Stores.{world_of_store, objects_of, queue_of
 ghost use Rattle.call_pieces.specs.Works.{stage_of, comes_after, queue_after, IsReady};
 ghost use Rattle.call_pieces.specs.Coming.{CameTo, HasGone, has_failed, is_fault, goes_on};
 
-use crate::{After, Work};
 use crate::quick::{close, open, peek, poke, spawn, yield_turn};
 use crate::reads::{Range, read};
 use crate::syncs::sync;
 use crate::writes::write;
+use crate::{After, Work};
 use disk_log::DiskLog;
 use kernel_model::SysCall;
 use kernel_state::Store;
@@ -31,7 +31,7 @@ pub fn piece<D: Disk>(work: &mut Work, store: &mut Store, disk: &mut D, log: &mu
     requires fresh { log.old ≡ [] }
     ensures does { (images : ImageTable) (blocks : Blocks) (rest : List Bool) → Tells (D.blocks disk.old) blocks →
         CameTo (plain.piece (world_of_store store.old) images (objects_of store.old) blocks work.old.caller (stage_of work.old) None (log.new ++ rest))
-            (objects_of store.new) (D.blocks disk.new) result.gave (comes_after result.next (stage_of work.new)) (length log.new) }
+        (objects_of store.new) (D.blocks disk.new) result.gave (comes_after result.next (stage_of work.new)) (length log.new) }
     ensures queue { queue_of store.new ≡ queue_after work.old.call work.old.piece work.old.caller (queue_of store.old) }
     ensures living { (q : ℕ) → lives (queue_of store.old) q ≡ true → lives (queue_of store.new) q ≡ true }
     ensures gone { goes_on result.next ≡ true → HasGone work.old work.new store.old store.new }

@@ -98,7 +98,7 @@ pub(crate) fn open(store: &mut Store, p: u8, name: &[u8]) -> After
     requires alive { lives (queue_of store.old) p ≡ true }
     ensures does { (blocks : Blocks) (told : Option (List (List ℕ))) (t : Stage) → Tells told blocks →
         CameTo (open_piece (objects_of store.old) p (file_named (world_of_store store.old) name.now) (free_descriptor (objects_of store.old).things p 4 0) blocks)
-            (objects_of store.new) told result.gave (comes_after result.next t) 0 }
+        (objects_of store.new) told result.gave (comes_after result.next t) 0 }
     ensures queue { queue_of store.new ≡ queue_of store.old }
     ensures world { world_of_store store.new ≡ world_of_store store.old }
     ensures sound { IsStore store.new }

@@ -33,7 +33,14 @@ pub(crate) struct Range {
 }
 
 /// The next piece of a read of process p.
-pub(crate) fn read<D: Disk>(piece: &mut u8, store: &mut Store, disk: &mut D, log: &mut DiskLog, p: u8, r: Range) -> After
+pub(crate) fn read<D: Disk>(
+    piece: &mut u8,
+    store: &mut Store,
+    disk: &mut D,
+    log: &mut DiskLog,
+    p: u8,
+    r: Range,
+) -> After
     requires sound { IsStore store.old }
     requires alive { lives (queue_of store.old) p ≡ true }
     requires descriptor { r.fd < 4 }
@@ -43,7 +50,7 @@ pub(crate) fn read<D: Disk>(piece: &mut u8, store: &mut Store, disk: &mut D, log
     requires fresh { log.old ≡ [] }
     ensures does { (blocks : Blocks) (rest : List Bool) → Tells (D.blocks disk.old) blocks →
         CameTo (read_piece piece.old (world_of_store store.old) (objects_of store.old) blocks p r.fd r.i r.off r.len ((objects_of store.old).things.file p r.fd) None (log.new ++ rest))
-            (objects_of store.new) (D.blocks disk.new) result.gave (comes_after result.next (stage (Read r.fd r.i r.off r.len) piece.new)) (length log.new) }
+        (objects_of store.new) (D.blocks disk.new) result.gave (comes_after result.next (stage (Read r.fd r.i r.off r.len) piece.new)) (length log.new) }
     ensures queue { queue_of store.new ≡ queue_of store.old }
     ensures next { goes_on result.next ≡ true → ReadGoes piece.old piece.new ((objects_of store.old).things.file p r.fd) ((objects_of store.new).things.file p r.fd) }
     ensures failed { is_fault result.next ≡ true → has_failed log.new ≡ true }
@@ -63,7 +70,15 @@ pub(crate) fn read<D: Disk>(piece: &mut u8, store: &mut Store, disk: &mut D, log
 }
 
 /// The first piece: the block is fetched, and its bytes are given.
-fn first<D: Disk>(piece: &mut u8, store: &mut Store, disk: &mut D, log: &mut DiskLog, p: u8, r: Range, opened: OpenRow) -> After
+fn first<D: Disk>(
+    piece: &mut u8,
+    store: &mut Store,
+    disk: &mut D,
+    log: &mut DiskLog,
+    p: u8,
+    r: Range,
+    opened: OpenRow,
+) -> After
     requires sound { IsStore store.old }
     requires alive { lives (queue_of store.old) p ≡ true }
     requires descriptor { r.fd < 4 }
@@ -74,7 +89,7 @@ fn first<D: Disk>(piece: &mut u8, store: &mut Store, disk: &mut D, log: &mut Dis
     requires fresh { log.old ≡ [] }
     ensures does { (blocks : Blocks) (rest : List Bool) → Tells (D.blocks disk.old) blocks →
         CameTo (read_first_at (file_block (world_of_store store.old) (Some opened) r.i r.off r.len) (world_of_store store.old) (objects_of store.old) blocks p r.fd r.i r.off r.len opened None (log.new ++ rest))
-            (objects_of store.new) (D.blocks disk.new) result.gave (comes_after result.next (stage (Read r.fd r.i r.off r.len) piece.new)) (length log.new) }
+        (objects_of store.new) (D.blocks disk.new) result.gave (comes_after result.next (stage (Read r.fd r.i r.off r.len) piece.new)) (length log.new) }
     ensures queue { queue_of store.new ≡ queue_of store.old }
     ensures next { goes_on result.next ≡ true → ReadGoes 0 piece.new (Some opened) ((objects_of store.new).things.file p r.fd) }
     ensures failed { is_fault result.next ≡ true → has_failed log.new ≡ true }
@@ -90,7 +105,16 @@ fn first<D: Disk>(piece: &mut u8, store: &mut Store, disk: &mut D, log: &mut Dis
 }
 
 /// The first piece, for block b.
-fn first_at<D: Disk>(piece: &mut u8, store: &mut Store, disk: &mut D, log: &mut DiskLog, p: u8, r: Range, opened: OpenRow, b: u32) -> After
+fn first_at<D: Disk>(
+    piece: &mut u8,
+    store: &mut Store,
+    disk: &mut D,
+    log: &mut DiskLog,
+    p: u8,
+    r: Range,
+    opened: OpenRow,
+    b: u32,
+) -> After
     requires sound { IsStore store.old }
     requires alive { lives (queue_of store.old) p ≡ true }
     requires descriptor { r.fd < 4 }
@@ -103,7 +127,7 @@ fn first_at<D: Disk>(piece: &mut u8, store: &mut Store, disk: &mut D, log: &mut 
     requires fresh { log.old ≡ [] }
     ensures does { (blocks : Blocks) (rest : List Bool) → Tells (D.blocks disk.old) blocks →
         CameTo (read_first (objects_of store.old) blocks p r.fd r.i r.off r.len opened (fetches.fetch (world_of_store store.old) (opening_policy 1) p b None (cache_of store.old) blocks (log.new ++ rest)))
-            (objects_of store.new) (D.blocks disk.new) result.gave (comes_after result.next (stage (Read r.fd r.i r.off r.len) piece.new)) (length log.new) }
+        (objects_of store.new) (D.blocks disk.new) result.gave (comes_after result.next (stage (Read r.fd r.i r.off r.len) piece.new)) (length log.new) }
     ensures queue { queue_of store.new ≡ queue_of store.old }
     ensures next { goes_on result.next ≡ true → ReadGoes 0 piece.new (Some opened) ((objects_of store.new).things.file p r.fd) }
     ensures failed { is_fault result.next ≡ true → has_failed log.new ≡ true }
@@ -137,7 +161,7 @@ fn second(piece: &mut u8, store: &mut Store, p: u8, r: Range, opened: OpenRow) -
     requires opened { IsSoundFile (world_of_store store.old) opened }
     ensures does { (blocks : Blocks) (told : Option (List (List ℕ))) → Tells told blocks →
         CameTo (read_second (objects_of store.old) blocks p r.fd r.i r.off r.len opened (ahead_default (world_of_store store.old) (opening_policy 0) (Some opened)))
-            (objects_of store.new) told result.gave (comes_after result.next (stage (Read r.fd r.i r.off r.len) piece.new)) 0 }
+        (objects_of store.new) told result.gave (comes_after result.next (stage (Read r.fd r.i r.off r.len) piece.new)) 0 }
     ensures queue { queue_of store.new ≡ queue_of store.old }
     ensures next { goes_on result.next ≡ true → ReadGoes 1 piece.new (Some opened) ((objects_of store.new).things.file p r.fd) }
     ensures no_fault { is_fault result.next ≡ false }
@@ -159,7 +183,14 @@ fn second(piece: &mut u8, store: &mut Store, p: u8, r: Range, opened: OpenRow) -
 }
 
 /// A later piece: one block more is fetched ahead.
-fn later<D: Disk>(store: &mut Store, disk: &mut D, log: &mut DiskLog, p: u8, r: Range, opened: OpenRow) -> After
+fn later<D: Disk>(
+    store: &mut Store,
+    disk: &mut D,
+    log: &mut DiskLog,
+    p: u8,
+    r: Range,
+    opened: OpenRow,
+) -> After
     requires sound { IsStore store.old }
     requires alive { lives (queue_of store.old) p ≡ true }
     requires descriptor { r.fd < 4 }
@@ -169,7 +200,7 @@ fn later<D: Disk>(store: &mut Store, disk: &mut D, log: &mut DiskLog, p: u8, r: 
     requires fresh { log.old ≡ [] }
     ensures does { (blocks : Blocks) (rest : List Bool) → Tells (D.blocks disk.old) blocks →
         CameTo (read_third_at (ahead_block (world_of_store store.old) (Some opened)) (world_of_store store.old) (objects_of store.old) blocks p r.fd r.i r.off r.len opened None (log.new ++ rest))
-            (objects_of store.new) (D.blocks disk.new) result.gave (comes_after result.next (stage (Read r.fd r.i r.off r.len) 2)) (length log.new) }
+        (objects_of store.new) (D.blocks disk.new) result.gave (comes_after result.next (stage (Read r.fd r.i r.off r.len) 2)) (length log.new) }
     ensures queue { queue_of store.new ≡ queue_of store.old }
     ensures next { goes_on result.next ≡ true → ReadGoes 2 2 (Some opened) ((objects_of store.new).things.file p r.fd) }
     ensures failed { is_fault result.next ≡ true → has_failed log.new ≡ true }

@@ -27,7 +27,7 @@ pub(crate) fn sync<D: Disk>(store: &mut Store, disk: &mut D, log: &mut DiskLog) 
     requires fresh { log.old ≡ [] }
     ensures does { (blocks : Blocks) (rest : List Bool) (t : Stage) → Tells (D.blocks disk.old) blocks →
         CameTo (sync_from (world_of_store store.old).frames 0 0 (objects_of store.old) blocks (log.new ++ rest))
-            (objects_of store.new) (D.blocks disk.new) result.gave (comes_after result.next t) (length log.new) }
+        (objects_of store.new) (D.blocks disk.new) result.gave (comes_after result.next t) (length log.new) }
     ensures queue { queue_of store.new ≡ queue_of store.old }
     ensures ends { goes_on result.next ≡ false }
     ensures failed { is_fault result.next ≡ true → has_failed log.new ≡ true }
@@ -50,7 +50,13 @@ pub(crate) fn sync<D: Disk>(store: &mut Store, disk: &mut D, log: &mut DiskLog) 
 }
 
 /// Writes frame f, which holds block b and is dirty. It is clean then, unless the call of the disk fails.
-fn write_back<D: Disk>(store: &mut Store, disk: &mut D, log: &mut DiskLog, f: u8, b: u32) -> Result<(), Failed>
+fn write_back<D: Disk>(
+    store: &mut Store,
+    disk: &mut D,
+    log: &mut DiskLog,
+    f: u8,
+    b: u32,
+) -> Result<(), Failed>
     requires sound { IsStore store.old }
     requires block { b < store.old.size }
     requires disk { store.old.size ≡ D.block_count disk.old }

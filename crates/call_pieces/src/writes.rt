@@ -19,7 +19,16 @@ use kernel_state::Store;
 use vino_base::Disk;
 
 /// Process p writes bytes into block i of the file at descriptor fd, from a place in it on.
-pub(crate) fn write<D: Disk>(store: &mut Store, disk: &mut D, log: &mut DiskLog, p: u8, fd: u32, i: u32, off: u32, bytes: &[u8]) -> After
+pub(crate) fn write<D: Disk>(
+    store: &mut Store,
+    disk: &mut D,
+    log: &mut DiskLog,
+    p: u8,
+    fd: u32,
+    i: u32,
+    off: u32,
+    bytes: &[u8],
+) -> After
     requires sound { IsStore store.old }
     requires alive { lives (queue_of store.old) p ≡ true }
     requires descriptor { fd < 4 }
@@ -28,7 +37,7 @@ pub(crate) fn write<D: Disk>(store: &mut Store, disk: &mut D, log: &mut DiskLog,
     requires fresh { log.old ≡ [] }
     ensures does { (blocks : Blocks) (rest : List Bool) (t : Stage) → Tells (D.blocks disk.old) blocks →
         CameTo (write_piece (file_block (world_of_store store.old) ((objects_of store.old).things.file p fd) i off (length bytes.now)) (world_of_store store.old) (objects_of store.old) blocks p off bytes.now None (log.new ++ rest))
-            (objects_of store.new) (D.blocks disk.new) result.gave (comes_after result.next t) (length log.new) }
+        (objects_of store.new) (D.blocks disk.new) result.gave (comes_after result.next t) (length log.new) }
     ensures queue { queue_of store.new ≡ queue_of store.old }
     ensures ends { goes_on result.next ≡ false }
     ensures failed { is_fault result.next ≡ true → has_failed log.new ≡ true }

@@ -47,7 +47,7 @@ returns-in-OpenName-clause-does g c =
     let s = objects_of c.args.store.now in
     let w = c.args.work.now in
     came_named (λ (k : SysCall). piece_of k w.piece (world_of_store c.args.store.now) s blocks w.caller None (c.args.log.now ++ rest)) w.call (OpenName c.in-OpenName.name) (objects_of c.open.new.store) (g.D.Disk.blocks c.args.disk.now)
-    _ _ (length c.args.log.now) 0 c.in-OpenName.is (ap length c.requires.fresh) 
+    _ _ (length c.args.log.now) 0 c.in-OpenName.is (ap length c.requires.fresh)
     (subst (λ (name : List ℕ). CameTo (open_piece s w.caller (file_named (world_of_store c.args.store.now) name) (free_descriptor s.things w.caller 4 0) blocks) (objects_of c.open.new.store) (g.D.Disk.blocks c.args.disk.now) c.open.result.gave (comes_after c.open.result.next (stage w.call w.piece)) 0) c.as_slice.ensures.value
     (c.open.ensures.does blocks _ (stage w.call w.piece) tells))
 
