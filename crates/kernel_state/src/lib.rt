@@ -7,6 +7,8 @@ mod boot;
 mod cache;
 mod files;
 mod processes;
+#[cfg(test)]
+mod tests;
 
 use buffer_cache::Cache;
 use mem_disk::Directory;
