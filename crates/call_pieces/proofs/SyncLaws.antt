@@ -1,8 +1,7 @@
 -- `sync`, frame by frame.
-use Rattle.std.proofs.Common.{◌≡◌, ℕ, zero, suc, ◌+◌, ◌-◌, ◌<◌, ◌≤◌, Bool, true, false, cond, List, [], ◌∷◌, ◌++◌, length, Option, Some, None, option_map, refl, arith, sym, ◌∙◌, ap, subst, append_assoc, add-one, Result, Ok, Err, IfOk, IfErr, is_ok}
+use Rattle.std.proofs.Common.{◌≡◌, ℕ, suc, ◌+◌, ◌-◌, ◌<◌, ◌≤◌, Bool, true, false, cond, List, [], ◌∷◌, ◌++◌, length, Option, Some, None, option_map, refl, arith, sym, ◌∙◌, ap, subst, append_assoc, add-one, Result, Ok, Err, IfOk, IfErr, is_ok}
 use Rattle.std.specs.Result.{is_err}
 use Rattle.kernel_model.specs.declared.Refusal.TheVariants.{DiskFault}
-use Rattle.kernel_model.specs.declared.Reply.{Reply}
 use Rattle.kernel_model.specs.declared.Reply.TheVariants.{One}
 use Rattle.kernel_model.specs.World.{Blocks}
 use Rattle.kernel_model.specs.Objects.{Objects, CacheValue, FrameValue, at}

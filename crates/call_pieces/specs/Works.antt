@@ -1,5 +1,5 @@
 -- A call in flight: where it stands, which calls are built, and when its next piece may come.
-use Rattle.std.specs.Prelude.{◌≡◌, ℕ, zero, suc, ◌<◌, Bool, true, false, List, Option, Some, Result, Ok, Err}
+use Rattle.std.specs.Prelude.{◌≡◌, ℕ, zero, suc, Bool, true, false, List, Result, Ok, Err}
 use Rattle.kernel_model.specs.declared.SysCall.{SysCall}
 use Rattle.kernel_model.specs.declared.SysCall.TheVariants.{Spawn, Yield, OpenName, CloseFd, Read, Write, Sync, Poke, Peek}
 use Rattle.kernel_model.specs.declared.Refusal.{Refusal}

@@ -12,6 +12,8 @@ mod pieces;
 mod quick;
 mod reads;
 mod syncs;
+#[cfg(test)]
+mod tests;
 mod writes;
 
 pub use begin::early;

@@ -1,6 +1,5 @@
 -- What a change of the rows and of the memory makes of the cache.
-use Rattle.std.proofs.Common.{◌≡◌, ℕ, ◌+◌, ◌*◌, ◌<◌, ◌≤◌, ◌==◌, Bool, true, false, cond, List, ◌++◌, length, take, drop, set, option_map, Option, Some, None, refl, arith, sym, ◌∙◌, ap, subst, inl, inr, slice_index_or}
-use Rattle.std.specs.Option.{is_some}
+use Rattle.std.proofs.Common.{◌≡◌, ℕ, ◌+◌, ◌*◌, ◌<◌, ◌≤◌, ◌==◌, true, false, cond, List, ◌++◌, length, take, drop, set, option_map, Option, Some, None, refl, arith, sym, ◌∙◌, ap, inl, inr}
 use mathlib.Core.Path.{fun_ext}
 use Rattle.std.proofs.lemmas.Bool.{cases_lt, cases_eq}
 use Rattle.std.proofs.lemmas.Bool.Decides.{nat_tests}

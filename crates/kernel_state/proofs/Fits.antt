@@ -1,5 +1,5 @@
 -- What always holds of a store stays.
-use Rattle.std.proofs.Common.{◌≡◌, ℕ, ◌+◌, ◌<◌, ◌≤◌, ◌==◌, ◌&&◌, Bool, true, false, cond, List, [], length, set, replicate, zero, suc, option_map, Option, Some, None, IfSome, refl, arith, sym, ◌∙◌, ap, subst, inl, inr}
+use Rattle.std.proofs.Common.{◌≡◌, ℕ, ◌<◌, ◌≤◌, ◌==◌, ◌&&◌, Bool, true, false, cond, List, [], length, set, replicate, zero, suc, option_map, Option, Some, None, IfSome, refl, arith, sym, ◌∙◌, ap, subst, inl, inr}
 use Rattle.std.proofs.lemmas.Bool.{cases_eq}
 use Rattle.std.proofs.lemmas.List.{get_or-set_same, get_or-set_other}
 use Rattle.kernel_model.specs.declared.FrameRow.{FrameRow}
@@ -12,7 +12,7 @@ use Rattle.kernel_state.specs.CacheViews.{frame_bytes, value_with, frame_value, 
 use Rattle.kernel_state.specs.declared.Store.{Store}
 use Rattle.kernel_model.specs.declared.OpenRow.{OpenRow}
 use Rattle.kernel_model.specs.World.{World, file_row}
-use Rattle.kernel_model.specs.Objects.{Objects, Things, CacheValue, FrameValue, at, at2}
+use Rattle.kernel_model.specs.Objects.{Objects, Things, CacheValue, FrameValue, at}
 use Rattle.kernel_model.specs.FilePieces.{with_cache, with_file}
 use Rattle.kernel_model.specs.Sound.{IsSoundFile}
 use Rattle.kernel_state.specs.Stores.{StoreFits, objects_of, objects_with, cache_of}

@@ -1,5 +1,5 @@
 -- The bytes of a frame, once bytes were written into the memory.
-use Rattle.std.proofs.Common.{◌≡◌, ℕ, ◌+◌, ◌-◌, ◌*◌, ◌<◌, ◌≤◌, List, ◌++◌, length, take, drop, slice_range, refl, arith, sym, ◌∙◌, ap, subst, append_assoc, add_assoc, length-append, length-drop, inl, inr}
+use Rattle.std.proofs.Common.{◌≡◌, ℕ, ◌+◌, ◌-◌, ◌*◌, ◌<◌, ◌≤◌, List, ◌++◌, length, take, drop, slice_range, refl, arith, sym, ◌∙◌, ap, append_assoc, add_assoc, length-append, length-drop, inl, inr}
 use Rattle.std.proofs.lemmas.Bool.{cases_lt}
 use Rattle.std.proofs.lemmas.List.{take-append-drop, take-append-le, take-take, take_at, drop_at, drop-append-le, length-take-le}
 use Rattle.std.proofs.lemmas.List.Folds.{drop_split}

@@ -1,12 +1,11 @@
 -- The frames that are looked for: the one that holds a block, and the lowest one that isn't in use.
-use Rattle.std.proofs.Common.{◌≡◌, ℕ, zero, suc, ◌+◌, ◌<◌, ◌≤◌, ◌==◌, Bool, true, false, cond, List, [], ◌∷◌, length, take, drop, filter, get_or, Option, Some, None, IfSome, IfNone, refl, arith, sym, ◌∙◌, ap, subst, add-one}
+use Rattle.std.proofs.Common.{◌≡◌, ℕ, zero, suc, ◌≤◌, ◌==◌, Bool, true, false, cond, List, [], ◌∷◌, length, take, drop, get_or, Option, Some, None, IfSome, IfNone, refl, arith, sym, ◌∙◌, ap, add-one}
 use Rattle.std.specs.List.{position, position_from, list_any}
 use Rattle.std.specs.Option.{is_some, is_none}
 use Rattle.std.proofs.lemmas.Bool.Decides.{nat_tests}
 use Rattle.std.proofs.lemmas.List.{get_or-drop, drop-drop}
 use Rattle.std.proofs.lemmas.Iterator.Adapters.{position_from-zero}
 use Rattle.kernel_model.specs.declared.FrameRow.{FrameRow}
-use Rattle.kernel_model.specs.Objects.{FrameValue, CacheValue}
 use Rattle.kernel_model.specs.Needs.{frame_with, frame_of_block, free_frame}
 use Rattle.buffer_cache.specs.Frames.{Frames, row_at, in_use, holds, uses, IsFrames}
 use Rattle.kernel_state.specs.CacheViews.{frame_value, cache_value}

@@ -137,6 +137,7 @@ impl Store {
         requires in_cache { in_use f self.old.cache ≡ true }
         ensures objects { (x : FrameValue) → (cache_of self.old).frame f ≡ Some x →
             objects_of self.new ≡ with_cache (cleaned f x (cache_of self.old)) (objects_of self.old) }
+        ensures processes { self.new.procs ≡ self.old.procs }
         ensures world { world_of_store self.new ≡ world_of_store self.old }
         ensures sound { IsStore self.new }
     {

@@ -1,4 +1,4 @@
-use Rattle.std.proofs.Common.{◌<◌, ◌+◌, arith}
+use Rattle.std.proofs.Common.{arith}
 use Rattle.kernel_state.specs.Stores.{world_of_store}
 use Rattle.kernel_state.proofs.Blocks.{ahead_inside}
 use Rattle.kernel_state.proofs.Store.block_ahead.Goals as goal

@@ -1,6 +1,5 @@
 use Rattle.std.proofs.Common.{◌∙◌, sym, arith}
-use Rattle.kernel_state.specs.Stores.{world_of_store}
-use Rattle.kernel_state.proofs.Blocks.{block_inside, block_found, block_refused}
+use Rattle.kernel_state.proofs.Blocks.{block_inside}
 use Rattle.kernel_state.proofs.Store.block_of.Goals as goal
 
 pub overflow_add-result : goal.overflow_add-result

@@ -1,4 +1,4 @@
-use Rattle.std.proofs.Common.{◌≡◌, ◌∙◌, List, Option, length, ap, subst, sym, refl, arith, true}
+use Rattle.std.proofs.Common.{◌≡◌, ◌∙◌, List, Option, length, ap, subst, refl, arith, true}
 use Rattle.kernel_model.specs.declared.FrameRow.{FrameRow}
 use Rattle.kernel_model.specs.Objects.{CacheValue}
 use Rattle.buffer_cache.specs.Frames.{Frames, holds, row_at}
