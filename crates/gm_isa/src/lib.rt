@@ -6,10 +6,12 @@ ghost use Rattle.std.specs.Prelude.{◌≡◌, IsTrue, IfOk};
 ghost use Rattle.kernel_model.specs.Instructions as spec;
 ghost use Rattle.kernel_model.specs.Instructions.{row_of, is_register_field, is_imm_field};
 
+mod classes;
 pub mod laws;
 #[cfg(test)]
 mod tests;
 
+pub use classes::{access_mask, ends_well, is_end, is_jump, names_register};
 pub use kernel_model::{Fields, Instr, IsaFault, Op};
 
 const THREE_REGISTERS: Fields = Fields {

@@ -1,0 +1,8 @@
+-- The law of boxed code.
+use Rattle.std.specs.Prelude.{◌≡◌, List, Ok}
+use Rattle.kernel_model.specs.declared.Instr.{Instr}
+use Rattle.kernel_model.specs.Boxed.{IsBoxed, rewrite}
+
+-- what the rewriter makes is boxed
+abbrev pub RewrittenIsBoxed : Type 0
+RewrittenIsBoxed = (code boxed : List Instr) → rewrite code ≡ Ok boxed → IsBoxed boxed
