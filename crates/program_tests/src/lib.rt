@@ -6,7 +6,8 @@ mod tests {
     use graft_points::Policy;
     use std::alloc::{AllocError, Global};
     use std::test::Fail;
-    use vino_base::{EmptyDisk, MemSink, MemSource};
+    use mem_disk::MemDisk;
+    use vino_base::{MemSink, MemSource};
     use vino_top::vino;
 
     const KEY: &str = "000102030405060708090a0b0c0d0e0f101112131415161718191a1b1c1d1e1f";
@@ -27,22 +28,35 @@ mod tests {
         Ok(all)
     }
 
-    /// Runs the program on this script. The reads and the writes with these numbers fail; 0 is none.
+    /// Runs the program on this script, over the sample disk. The reads, the writes and the calls of the disk with these
+    /// numbers fail; 0 is none.
+    fn run_failing(
+        alloc: Global,
+        words: &[&str],
+        script: &str,
+        failing_read: u64,
+        failing_write: u64,
+        failing_call: u64,
+    ) -> Result<Ran, Fail> {
+        let words = words_of(alloc, words)?;
+        let script = Vec::from_slice(alloc, script.as_bytes())?;
+        let mut source = MemSource::new(script, Vec::from_slice(alloc, &[failing_read])?);
+        let mut written = MemSink::new(alloc, Vec::from_slice(alloc, &[failing_write])?);
+        let mut disk = MemDisk::sample(alloc, Vec::from_slice(alloc, &[failing_call])?)?;
+        let shelf: Vec<Box<dyn Policy>> = Vec::new(alloc);
+        let status = vino(alloc, &words, &mut source, &mut written, &mut disk, shelf);
+        Ok(Ran { status, written })
+    }
+
+    /// The same, over a disk of which no call fails.
     fn run_words(
         alloc: Global,
         words: &[&str],
         script: &str,
         failing_read: u64,
         failing_write: u64,
-    ) -> Result<Ran, AllocError> {
-        let words = words_of(alloc, words)?;
-        let script = Vec::from_slice(alloc, script.as_bytes())?;
-        let mut source = MemSource::new(script, Vec::from_slice(alloc, &[failing_read])?);
-        let mut written = MemSink::new(alloc, Vec::from_slice(alloc, &[failing_write])?);
-        let mut disk = EmptyDisk::new(64);
-        let shelf: Vec<Box<dyn Policy>> = Vec::new(alloc);
-        let status = vino(alloc, &words, &mut source, &mut written, &mut disk, shelf);
-        Ok(Ran { status, written })
+    ) -> Result<Ran, Fail> {
+        run_failing(alloc, words, script, failing_read, failing_write, 0)
     }
 
     const STEPS: &str = "boot\nspawn 0\nyield 0\nyield 1\ntick\n";
@@ -51,49 +65,49 @@ mod tests {
     fn writes_the_lines_of_a_script(rt: HostRuntime) -> Result<(), Fail> {
         let cases = [
             ("", 0u8, ""),
-            ("boot\n", 0, "0 boot 8 64 0\n"),
-            ("\n#note\nboot\n\n#\n", 0, "0 boot 8 64 0\n"),
+            ("boot\n", 0, "0 boot 8 64 3\n"),
+            ("\n#note\nboot\n\n#\n", 0, "0 boot 8 64 3\n"),
             (
                 STEPS,
                 0,
-                "0 boot 8 64 0\n1 ok 1\n2 ok 1\n3 ok 0\n4 tick 1\n",
+                "0 boot 8 64 3\n1 ok 1\n2 ok 1\n3 ok 0\n4 tick 1\n",
             ),
             (
                 "boot\nspawn 9\nyield 4294967295\n",
                 0,
-                "0 boot 8 64 0\n1 E1\n2 E1\n",
+                "0 boot 8 64 3\n1 E1\n2 E1\n",
             ),
-            ("boot\nspawn 0000000000\n", 0, "0 boot 8 64 0\n1 ok 1\n"),
+            ("boot\nspawn 0000000000\n", 0, "0 boot 8 64 3\n1 ok 1\n"),
             (
                 "boot\npoke 0 3 7\npeek 0 3\npeek 0 2\n",
                 0,
-                "0 boot 8 64 0\n1 ok\n2 ok 7\n3 ok 0\n",
+                "0 boot 8 64 3\n1 ok\n2 ok 7\n3 ok 0\n",
             ),
             (
                 "boot\npoke 0 4 7\npeek 0 4\npoke 1 0 7\npeek 1 9\n",
                 0,
-                "0 boot 8 64 0\n1 E8\n2 E8\n3 E1\n4 E1\n",
+                "0 boot 8 64 3\n1 E8\n2 E8\n3 E1\n4 E1\n",
             ),
             (
                 "boot\nspawn 0\npoke 1 0 4294967295\npeek 1 0\npeek 0 0\n",
                 0,
-                "0 boot 8 64 0\n1 ok 1\n2 ok\n3 ok 4294967295\n4 ok 0\n",
+                "0 boot 8 64 3\n1 ok 1\n2 ok\n3 ok 4294967295\n4 ok 0\n",
             ),
             ("tick\n", 2, "script 1 S4\n"),
-            ("boot\nfly 1\ntick\n", 2, "0 boot 8 64 0\nscript 2 S5\n"),
-            ("boot\nboot\n", 2, "0 boot 8 64 0\nscript 2 S4\n"),
-            ("boot\nspawn\n", 2, "0 boot 8 64 0\nscript 2 S1\n"),
-            ("boot\nspawn 0 0\n", 2, "0 boot 8 64 0\nscript 2 S1\n"),
-            ("boot\nspawn  0\n", 2, "0 boot 8 64 0\nscript 2 S1\n"),
+            ("boot\nfly 1\ntick\n", 2, "0 boot 8 64 3\nscript 2 S5\n"),
+            ("boot\nboot\n", 2, "0 boot 8 64 3\nscript 2 S4\n"),
+            ("boot\nspawn\n", 2, "0 boot 8 64 3\nscript 2 S1\n"),
+            ("boot\nspawn 0 0\n", 2, "0 boot 8 64 3\nscript 2 S1\n"),
+            ("boot\nspawn  0\n", 2, "0 boot 8 64 3\nscript 2 S1\n"),
             (
                 "boot\nspawn 4294967296\n",
                 2,
-                "0 boot 8 64 0\nscript 2 S2\n",
+                "0 boot 8 64 3\nscript 2 S2\n",
             ),
-            ("boot\nspawn +1\n", 2, "0 boot 8 64 0\nscript 2 S2\n"),
-            ("boot\nlock +1 0\n", 2, "0 boot 8 64 0\nscript 2 S2\n"),
-            ("boot\ntick", 2, "0 boot 8 64 0\nscript 2 S6\n"),
-            ("boot\ntick\n#", 2, "0 boot 8 64 0\n1 tick 1\nscript 3 S6\n"),
+            ("boot\nspawn +1\n", 2, "0 boot 8 64 3\nscript 2 S2\n"),
+            ("boot\nlock +1 0\n", 2, "0 boot 8 64 3\nscript 2 S2\n"),
+            ("boot\ntick", 2, "0 boot 8 64 3\nscript 2 S6\n"),
+            ("boot\ntick\n#", 2, "0 boot 8 64 3\n1 tick 1\nscript 3 S6\n"),
         ];
         for (script, status, lines) in cases {
             let ran = run_words(rt.alloc(), &["run", KEY], script, 0, 0)?;
@@ -104,8 +118,46 @@ mod tests {
     }
 
     #[test]
+    fn reads_and_writes_files(rt: HostRuntime) -> Result<(), Fail> {
+        let script = "frames 2\nboot\nopen 0 alpha\nread 0 0 0 0 4\nread 0 0 7 510 2\nread 0 0 7 511 2\nopen 0 gamma\n\
+            read 0 1 2 75 1\nread 0 1 2 76 1\nwrite 0 0 0 0 aabb\nsync 0\nclose 0 0\nread 0 0 0 0 1\nopen 0 delta\n";
+        let lines = "0 boot 2 64 3\n1 ok 0\n2 data 1f202122\n2 ok\n3 data f6f7\n3 ok\n4 E8\n5 ok 1\n6 data 78\n6 ok\n\
+            7 E8\n8 ok\n9 ok 1\n10 ok\n11 E5\n12 E6\n";
+        let ran = run_words(rt.alloc(), &["run", KEY, "anywhere"], script, 0, 0)?;
+        assert_eq!(rt; ran.status, 0);
+        assert!(rt; ran.written.bytes() == lines.as_bytes());
+        Ok(())
+    }
+
+    #[test]
+    fn a_failed_call_of_the_disk_is_one_refusal(rt: HostRuntime) -> Result<(), Fail> {
+        let script = "boot\nopen 0 gamma\nread 0 0 2 0 1\nread 0 0 2 0 1\nwrite 0 0 2 1 ff\nsync 0\nsync 0\n";
+        let cases = [
+            (1u64, "0 E16\n1 E6\n2 E5\n3 E5\n4 E5\n5 ok 0\n6 ok 0\n"),
+            (
+                2,
+                "0 boot 8 64 3\n1 ok 0\n2 E16\n3 data 2d\n3 ok\n4 ok\n5 ok 1\n6 ok 0\n",
+            ),
+            (
+                3,
+                "0 boot 8 64 3\n1 ok 0\n2 data 2d\n2 ok\n3 data 2d\n3 ok\n4 ok\n5 E16\n6 ok 1\n",
+            ),
+            (
+                4,
+                "0 boot 8 64 3\n1 ok 0\n2 data 2d\n2 ok\n3 data 2d\n3 ok\n4 ok\n5 ok 1\n6 ok 0\n",
+            ),
+        ];
+        for (call, lines) in cases {
+            let ran = run_failing(rt.alloc(), &["run", KEY], script, 0, 0, call)?;
+            assert_eq!(rt; ran.status, 0, "at call {call}");
+            assert!(rt; ran.written.bytes() == lines.as_bytes(), "at call {call}");
+        }
+        Ok(())
+    }
+
+    #[test]
     fn refuses_what_is_not_built(rt: HostRuntime) -> Result<(), Fail> {
-        for line in ["frames 2", "patience lock 5", "grant 1"] {
+        for line in ["patience lock 5", "grant 1"] {
             let script = format!(in rt.alloc(); "{line}\nboot\n")?;
             let ran = run_words(rt.alloc(), &["run", KEY], script.as_str(), 0, 0)?;
             assert_eq!(rt; ran.status, 2, "on {line}");
@@ -119,11 +171,6 @@ mod tests {
             "raw",
             "image 0 00",
             "exit 0",
-            "sync 0",
-            "open 0 alpha",
-            "close 0 0",
-            "read 0 0 0 0 1",
-            "write 0 0 0 0 00",
             "lock 0 0",
             "unlock 0 0",
             "tune 0 0 0 0",
@@ -138,7 +185,7 @@ mod tests {
             let ran = run_words(rt.alloc(), &["run", KEY], script.as_str(), 0, 0)?;
             assert_eq!(rt; ran.status, 2, "on {line}");
             assert!(rt;
-                ran.written.bytes() == b"0 boot 8 64 0\nscript 2 S5\n".as_slice(),
+                ran.written.bytes() == b"0 boot 8 64 3\nscript 2 S5\n".as_slice(),
                 "on {line}"
             );
         }
@@ -149,7 +196,7 @@ mod tests {
     fn lives_with_sixteen_processes(rt: HostRuntime) -> Result<(), Fail> {
         let alloc = rt.alloc();
         let mut script = String::from_str(alloc, "boot\n")?;
-        let mut lines = String::from_str(alloc, "0 boot 8 64 0\n")?;
+        let mut lines = String::from_str(alloc, "0 boot 8 64 3\n")?;
         for event in 1u8..16 {
             script.push_str("spawn 0\n")?;
             lines.push_str(format!(in alloc; "{event} ok {event}\n")?.as_str())?;
@@ -220,10 +267,10 @@ mod tests {
     fn takes_a_line_of_the_greatest_length(rt: HostRuntime) -> Result<(), Fail> {
         let alloc = rt.alloc();
         for (more, newline, status, lines) in [
-            (65_534usize, "\n", 0u8, "0 boot 8 64 0\n1 tick 1\n"),
-            (65_535, "\n", 2, "0 boot 8 64 0\nscript 2 S3\n"),
-            (65_535, "", 2, "0 boot 8 64 0\nscript 2 S3\n"),
-            (65_534, "", 2, "0 boot 8 64 0\nscript 2 S6\n"),
+            (65_534usize, "\n", 0u8, "0 boot 8 64 3\n1 tick 1\n"),
+            (65_535, "\n", 2, "0 boot 8 64 3\nscript 2 S3\n"),
+            (65_535, "", 2, "0 boot 8 64 3\nscript 2 S3\n"),
+            (65_534, "", 2, "0 boot 8 64 3\nscript 2 S6\n"),
         ] {
             let mut script = String::from_str(alloc, "boot\n#-")?;
             for _ in 0..more {
@@ -245,7 +292,7 @@ mod tests {
 
     #[test]
     fn stops_at_a_failing_read(rt: HostRuntime) -> Result<(), Fail> {
-        let lines = b"0 boot 8 64 0\n1 ok 1\n2 ok 1\n3 ok 0\n4 tick 1\n";
+        let lines = b"0 boot 8 64 3\n1 ok 1\n2 ok 1\n3 ok 0\n4 tick 1\n";
         // The first read gives the whole script and the second its end, so there is no third.
         for (failing, status, written) in [
             (1u64, 3u8, 0usize),
@@ -265,7 +312,7 @@ mod tests {
 
     #[test]
     fn stops_at_a_failing_write(rt: HostRuntime) -> Result<(), Fail> {
-        let lines = b"0 boot 8 64 0\n1 ok 1\n2 ok 1\n3 ok 0\n4 tick 1\n";
+        let lines = b"0 boot 8 64 3\n1 ok 1\n2 ok 1\n3 ok 0\n4 tick 1\n";
         // Each event is one write: what was written before the failing one stands, and nothing after it.
         let ends = [0usize, 14, 21, 28, 35, lines.len()];
         for (failing, written) in ends.iter().enumerate() {

@@ -1,43 +1,76 @@
 //! The program: it makes the real source and sink, the disk and the policies, and calls `vino`.
 #![tactic(auto)]
 
-mod streams;
-
 use graft_points::{
     Policy, RaNext, RaNone, RaSeq, SchedNice, SchedRound, VictimLru, VictimMark, put_last,
 };
+use mem_disk::MemDisk;
+use real_edge::{FileDisk, StreamSink, StreamSource};
 use std::alloc::AllocError;
+use std::fs::OpenOptions;
 use std::process::ExitCode;
 use std::{env, io};
-use streams::{StreamSink, StreamSource};
-use vino_base::EmptyDisk;
+use vino_base::Disk;
 
-/// The blocks of the disk.
-const BLOCKS: u32 = 64;
+/// The most blocks of a disk that are used.
+const BLOCKS: u64 = 4096;
+
+/// The bytes of a block.
+const BLOCK_BYTES: u64 = 512;
 
 /// The status where main itself found no memory.
 const NO_MEMORY: u8 = 5;
 
 fn main(rt: HostRuntime) -> ExitCode {
-    match words(&rt) {
+    ExitCode::from(match words(&rt) {
         Ok(words) => run(&rt, &words),
         // A word that isn't UTF-8 is in no grammar.
         Err(fault) if fault.kind() == io::ErrorKind::InvalidData => run(&rt, &[]),
-        Err(_) => ExitCode::from(NO_MEMORY),
+        Err(_) => NO_MEMORY,
+    })
+}
+
+/// Does what the words ask, over the file that they name or else over the sample disk: the exit status.
+fn run(rt: &HostRuntime, words: &[String]) -> u8 {
+    match words {
+        [word, _, path] if word.as_str() == "run" => {
+            let mut disk = file_disk(rt, path.as_str());
+            run_over(rt, words, &mut disk)
+        }
+        _ => match MemDisk::sample(rt.alloc(), Vec::new(rt.alloc())) {
+            Ok(mut disk) => run_over(rt, words, &mut disk),
+            Err(_) => NO_MEMORY,
+        },
     }
 }
 
-/// Does what the words ask, over the real streams.
-fn run(rt: &HostRuntime, words: &[String]) -> ExitCode {
-    ExitCode::from(run_stock(rt, words).unwrap_or(NO_MEMORY))
+/// The whole blocks of a file as a disk; a closed disk where there is no such file or it has none.
+fn file_disk(rt: &HostRuntime, path: &str) -> FileDisk {
+    open_disk(rt, path).unwrap_or(FileDisk::closed())
 }
 
-/// Does what the words ask, with the stock policies: the exit status.
-fn run_stock(rt: &HostRuntime, words: &[String]) -> Result<u8, AllocError> {
+fn open_disk(rt: &HostRuntime, path: &str) -> io::Result<FileDisk> {
+    let file = OpenOptions::new().read(true).write(true).open(rt, path)?;
+    let blocks = file.metadata()?.len() / BLOCK_BYTES;
+    Ok(match u32::try_from(blocks.min(BLOCKS)) {
+        Ok(size) if size >= 1 => FileDisk::new(file, size),
+        _ => FileDisk::closed(),
+    })
+}
+
+/// Does what the words ask over a disk, the real streams and the stock policies: the exit status.
+fn run_over<D: Disk>(rt: &HostRuntime, words: &[String], disk: &mut D) -> u8 {
+    run_stock(rt, words, disk).unwrap_or(NO_MEMORY)
+}
+
+fn run_stock<D: Disk>(
+    rt: &HostRuntime,
+    words: &[String],
+    disk: &mut D,
+) -> Result<u8, AllocError> {
     let alloc = rt.alloc();
     let mut source = StreamSource::new(rt.stdin());
     let mut sink = StreamSink::new(rt.stdout());
-    let mut disk = EmptyDisk::new(BLOCKS);
     let mut shelf: Vec<Box<dyn Policy>> = Vec::new(alloc);
     put_last(&mut shelf, Box::new(alloc, RaNone::new())?, 0, None)?;
     put_last(&mut shelf, Box::new(alloc, RaSeq::new())?, 1, Some(2))?;
@@ -46,7 +79,7 @@ fn run_stock(rt: &HostRuntime, words: &[String]) -> Result<u8, AllocError> {
     put_last(&mut shelf, Box::new(alloc, VictimMark::new())?, 4, Some(0))?;
     put_last(&mut shelf, Box::new(alloc, SchedRound::new())?, 5, None)?;
     put_last(&mut shelf, Box::new(alloc, SchedNice::new())?, 6, Some(0))?;
-    Ok(vino_top::vino(alloc, words, &mut source, &mut sink, &mut disk, shelf))
+    Ok(vino_top::vino(alloc, words, &mut source, &mut sink, disk, shelf))
 }
 
 /// The words of the command line, without the program's own name.

@@ -22,8 +22,9 @@ asked_by_two word key = cond (same_bytes word (codes "run") && is_key key) Run N
 abbrev pub asked_by_one : (word : List ℕ) → Asked
 asked_by_one word = cond (same_bytes word (codes "asm")) Asm (cond (same_bytes word (codes "dis")) Dis Nothing)
 
--- what the words of the command line ask: `run KEY`, `asm` or `dis`
+-- what the words of the command line ask: `run KEY`, `run KEY PATH`, `asm` or `dis`; the path isn't looked at
 abbrev pub asked_by : List (List ℕ) → Asked
 asked_by (word ∷ []) = asked_by_one word
 asked_by (word ∷ key ∷ []) = asked_by_two word key
+asked_by (word ∷ key ∷ path ∷ []) = asked_by_two word key
 asked_by _ = Nothing

@@ -9,7 +9,7 @@ use std::alloc::Global;
 /// What the words of the command line ask.
 #[derive(Clone, Copy, Debug, PartialEq, Eq)]
 pub enum Asked {
-    /// `run KEY`: a script is run.
+    /// `run KEY` or `run KEY PATH`: a script is run.
     Run,
     /// `asm`: a text is assembled.
     Asm,
@@ -26,6 +26,7 @@ pub fn read_words(words: &[String]) -> Asked
     match words {
         [word] => asked_one(word.as_bytes()),
         [word, key] => asked_two(word.as_bytes(), key.as_bytes()),
+        [word, key, _] => asked_two(word.as_bytes(), key.as_bytes()),
         _ => Asked::Nothing,
     }
 }
