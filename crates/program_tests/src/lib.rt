@@ -4,9 +4,9 @@
 #[cfg(test)]
 mod tests {
     use graft_points::Policy;
+    use mem_disk::MemDisk;
     use std::alloc::{AllocError, Global};
     use std::test::Fail;
-    use mem_disk::MemDisk;
     use vino_base::{MemSink, MemSource};
     use vino_top::vino;
 
@@ -119,9 +119,11 @@ mod tests {
 
     #[test]
     fn reads_and_writes_files(rt: HostRuntime) -> Result<(), Fail> {
-        let script = "frames 2\nboot\nopen 0 alpha\nread 0 0 0 0 4\nread 0 0 7 510 2\nread 0 0 7 511 2\nopen 0 gamma\n\
+        let script =
+            "frames 2\nboot\nopen 0 alpha\nread 0 0 0 0 4\nread 0 0 7 510 2\nread 0 0 7 511 2\nopen 0 gamma\n\
             read 0 1 2 75 1\nread 0 1 2 76 1\nwrite 0 0 0 0 aabb\nsync 0\nclose 0 0\nread 0 0 0 0 1\nopen 0 delta\n";
-        let lines = "0 boot 2 64 3\n1 ok 0\n2 data 1f202122\n2 ok\n3 data f6f7\n3 ok\n4 E8\n5 ok 1\n6 data 78\n6 ok\n\
+        let lines =
+            "0 boot 2 64 3\n1 ok 0\n2 data 1f202122\n2 ok\n3 data f6f7\n3 ok\n4 E8\n5 ok 1\n6 data 78\n6 ok\n\
             7 E8\n8 ok\n9 ok 1\n10 ok\n11 E5\n12 E6\n";
         let ran = run_words(rt.alloc(), &["run", KEY, "anywhere"], script, 0, 0)?;
         assert_eq!(rt; ran.status, 0);
@@ -131,7 +133,8 @@ mod tests {
 
     #[test]
     fn a_failed_call_of_the_disk_is_one_refusal(rt: HostRuntime) -> Result<(), Fail> {
-        let script = "boot\nopen 0 gamma\nread 0 0 2 0 1\nread 0 0 2 0 1\nwrite 0 0 2 1 ff\nsync 0\nsync 0\n";
+        let script =
+            "boot\nopen 0 gamma\nread 0 0 2 0 1\nread 0 0 2 0 1\nwrite 0 0 2 1 ff\nsync 0\nsync 0\n";
         let cases = [
             (1u64, "0 E16\n1 E6\n2 E5\n3 E5\n4 E5\n5 ok 0\n6 ok 0\n"),
             (

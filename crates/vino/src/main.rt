@@ -63,11 +63,7 @@ fn run_over<D: Disk>(rt: &HostRuntime, words: &[String], disk: &mut D) -> u8 {
     run_stock(rt, words, disk).unwrap_or(NO_MEMORY)
 }
 
-fn run_stock<D: Disk>(
-    rt: &HostRuntime,
-    words: &[String],
-    disk: &mut D,
-) -> Result<u8, AllocError> {
+fn run_stock<D: Disk>(rt: &HostRuntime, words: &[String], disk: &mut D) -> Result<u8, AllocError> {
     let alloc = rt.alloc();
     let mut source = StreamSource::new(rt.stdin());
     let mut sink = StreamSink::new(rt.stdout());
