@@ -110,22 +110,31 @@ fn note_all(failed: &mut ArrayVec<bool, CALLS>, later: &[bool])
 #[cfg(test)]
 mod tests {
     use super::*;
-    use vino_base::EmptyDisk;
+    use mem_disk::MemDisk;
+    use std::test::Fail;
 
     #[test]
-    fn each_call_is_noted(rt: HostRuntime) {
-        let mut disk = EmptyDisk::new(3);
+    fn each_call_is_noted(rt: HostRuntime) -> Result<(), Fail> {
+        let alloc = rt.alloc();
+        let mut disk = MemDisk::sample(alloc, Vec::from_slice(alloc, &[1, 3])?)?;
         let mut log = DiskLog::new();
         let mut whole = DiskLog::new();
-        let mut block = [7u8; 512];
-        assert!(rt; log.write(&mut disk, 2, &block).is_err());
+        let mut block = [0u8; 512];
+        assert!(rt; log.read(&mut disk, 2, &mut block).is_err());
         assert!(rt; log.read(&mut disk, 2, &mut block).is_ok());
-        assert!(rt; block.iter().all(|byte| *byte == 0));
-        assert!(rt; log.calls() == [true, false].as_slice());
+        assert_eq!(rt; block[0], 62);
+        block[0] = 7;
+        assert!(rt; log.write(&mut disk, 2, &block).is_err());
+        assert!(rt; log.write(&mut disk, 2, &block).is_ok());
+        block[0] = 0;
+        assert!(rt; log.read(&mut disk, 2, &mut block).is_ok());
+        assert_eq!(rt; block[0], 7);
+        assert!(rt; log.calls() == [true, false, true, false, false].as_slice());
         whole.append(&log);
         whole.append(&log);
-        assert!(rt; whole.calls() == [true, false, true, false].as_slice());
+        assert_eq!(rt; whole.calls().len(), 10);
         whole.clear();
         assert!(rt; whole.calls().is_empty());
+        Ok(())
     }
 }

@@ -1,5 +1,5 @@
 -- The devices in memory, as what they hold.
-use Rattle.std.specs.Prelude.{ℕ, Bool, cond, min, List, ◌++◌, length, take, drop, replicate}
+use Rattle.std.specs.Prelude.{ℕ, Bool, cond, min, List, ◌++◌, length, take, drop}
 use Rattle.vino_base.specs.Faults.{counted}
 use Rattle.vino_base.specs.Calls.{Plan, after_call, call_fails}
 
@@ -35,7 +35,3 @@ abbrev pub sink_after : Bool → List ℕ → SinkState → SinkState
 sink_after took bytes s =
     cond took (record { got = s.got ++ bytes; plan = after_call s.plan; faults = s.faults })
     (record { got = s.got; plan = after_call s.plan; faults = counted s.faults })
-
--- a block of zeros
-unfoldable pub zero_block : List ℕ
-zero_block = replicate 512 0

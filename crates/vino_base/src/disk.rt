@@ -1,13 +1,11 @@
 //! Disks of blocks of 512 bytes.
 
-ghost use Rattle.std.specs.Prelude.{◌≡◌, ℕ, ◌<◌, ◌≤◌, List, Option, Some, None, length, IfOk, replicate, slice_get, slice_set, is_ok, if◌then◌else◌};
+ghost use Rattle.std.specs.Prelude.{◌≡◌, ℕ, ◌<◌, ◌≤◌, List, Option, Some, None, length, IfOk, slice_get, slice_set, is_ok, if◌then◌else◌};
 ghost use Rattle.std.specs.Option.{IfSome};
 ghost use Rattle.std.specs.Result.{is_err, OnErr, OnOk};
-ghost use Rattle.vino_base.specs.Faults.{HasCause, counted};
+ghost use Rattle.vino_base.specs.Faults.{HasCause};
 ghost use Rattle.vino_base.specs.Calls.{Plan, after_call, call_fails};
-ghost use Rattle.vino_base.specs.Memory.{zero_block};
 
-use crate::calls::counted_up;
 use crate::streams::Failed;
 
 /// A disk of 1 to 4,096 blocks of 512 bytes, numbered from 0.
@@ -48,57 +46,4 @@ pub trait Disk {
         ensures replaced { (bs : List (List ℕ)) → blocks self.old ≡ Some bs →
             blocks self.new ≡ Some (if is_ok result then slice_set bs b from.now else bs) }
         ensures planned { (p : Plan) → plan self.old ≡ Some p → (is_err result ≡ call_fails p) × (plan self.new ≡ Some (after_call p)) };
-}
-
-/// A disk of zeros that can't be written: each write counts a fault and fails.
-#[derive(Drop)]
-pub struct EmptyDisk {
-    pub size: u32,
-    pub faults: u64,
-    ghost least: { 1 ≤ size },
-    ghost most: { size ≤ 4096 },
-}
-
-impl EmptyDisk {
-    /// So many blocks, 1 to 4,096. No fault was counted yet.
-    pub fn new(size: u32) -> EmptyDisk
-        requires least { 1 ≤ size }
-        requires most { size ≤ 4096 }
-        ensures size { result.size ≡ size }
-        ensures faults { result.faults ≡ 0 }
-    {
-        EmptyDisk { size, faults: 0 }
-    }
-}
-
-impl Disk for EmptyDisk {
-    ghost faults = { λ d. d.faults };
-
-    ghost block_count = { λ d. d.size };
-
-    ghost blocks = { λ d. Some (replicate d.size zero_block) };
-
-    ghost plan = { λ d. None };
-
-    fn size(&self) -> u32 {
-        self.size
-    }
-
-    fn read_block(&mut self, _b: u32, to: &mut [u8; 512]) -> Result<(), Failed> {
-        clear(to);
-        Ok(())
-    }
-
-    fn write_block(&mut self, _b: u32, _from: &[u8; 512]) -> Result<(), Failed> {
-        self.faults = counted_up(self.faults);
-        Err(Failed)
-    }
-}
-
-/// Makes every byte 0.
-#[tactic(auto, unfolding(crate::specs::Memory::zero_block))]
-fn clear(to: &mut [u8; 512])
-    ensures { to.new ≡ zero_block }
-{
-    to.fill(0);
 }

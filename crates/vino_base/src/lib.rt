@@ -10,7 +10,7 @@ mod memory;
 mod streams;
 
 pub use calls::CallPlan;
-pub use disk::{Disk, EmptyDisk};
+pub use disk::Disk;
 pub use memory::{MemSink, MemSource};
 pub use streams::{Failed, Sink, Source};
 
@@ -36,15 +36,5 @@ mod tests {
         assert_eq!(rt; sink.write(b"yes").ok(), Some(3));
         assert!(rt; sink.bytes() == b"yes".as_slice());
         Ok(())
-    }
-
-    #[test]
-    fn an_empty_disk_reads_zeros_and_takes_nothing(rt: HostRuntime) {
-        let mut disk = EmptyDisk::new(2);
-        let mut block = [7u8; 512];
-        assert_eq!(rt; disk.size(), 2);
-        assert!(rt; disk.read_block(1, &mut block).is_ok());
-        assert!(rt; block.iter().all(|byte| *byte == 0));
-        assert!(rt; disk.write_block(1, &block).is_err());
     }
 }
