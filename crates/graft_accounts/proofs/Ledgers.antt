@@ -4,11 +4,11 @@ use Rattle.std.proofs.lemmas.Bool.Decides.{nat_tests}
 use Rattle.kernel_model.specs.declared.Kind.{Kind}
 use Rattle.kernel_model.specs.Sound.{sum_below, ledger}
 use Rattle.graft_accounts.specs.declared.amounts.Amounts.{Amounts}
-use Rattle.graft_accounts.specs.Sums.{IsSums, less_at, more_at, paid, paid_at}
+use Rattle.graft_accounts.specs.Sums.{less_at, paid, paid_at}
 use Rattle.graft_accounts.specs.Table.{Table, IsTable, sums_of, with_sums, accounts_of, total}
 use Rattle.graft_accounts.proofs.Places.{set_here, set_other, each_place}
 use Rattle.graft_accounts.proofs.Seen.{field_of, same_fields}
-use Rattle.graft_accounts.proofs.Totals.{kept_of, sum_same, point_funds, totals_stay}
+use Rattle.graft_accounts.proofs.Totals.{kept_of, sum_same, point_funds}
 
 -- one of the summands is less by one
 sum_less : (n j : ℕ) (f g : ℕ → ℕ) → j < n → ((i : ℕ) → i ≢ j → f i ≡ g i) → f j + 1 ≡ g j → sum_below n f + 1 ≡ sum_below n g

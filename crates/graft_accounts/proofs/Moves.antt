@@ -1,16 +1,16 @@
 -- What each move of amounts is seen as.
-use Rattle.std.proofs.Common.{◌≡◌, ◌≢◌, ℕ, ◌+◌, ◌-◌, ◌*◌, ◌<◌, ◌≤◌, ◌==◌, nat_lt, nat_le, Bool, true, false, cond, List, length, slice_index, slice_index_or, slice_set, Option, Some, None, is_some, option_map, refl, sym, subst, ◌∙◌, ap, arith}
+use Rattle.std.proofs.Common.{◌≡◌, ◌≢◌, ℕ, ◌+◌, ◌-◌, ◌*◌, ◌<◌, ◌≤◌, ◌==◌, nat_lt, Bool, true, false, cond, List, length, slice_index, slice_index_or, Option, Some, None, is_some, refl, sym, ◌∙◌, ap, arith}
 use Rattle.std.proofs.Math.Path.{fun_ext}
 use Rattle.std.proofs.lemmas.Bool.Decides.{nat_tests}
 use Rattle.std.proofs.lemmas.List.{get_or-set_same, get_or-set_other, length-set}
 use Rattle.kernel_model.specs.declared.Kind.{Kind}
 use Rattle.kernel_model.specs.declared.Kind.TheVariants.{Steps, Records, Locks}
 use Rattle.kernel_model.specs.Objects.{Accounts, GraftValue, AcctValue, at, at2, at_kind}
-use Rattle.kernel_model.specs.Charges.{spend, pay, taken_from, charge_account, charge_graft, charge_by, charge, returned, removed_by, removed, funds}
+use Rattle.kernel_model.specs.Charges.{spend, pay, taken_from, charge_account, charge_graft, charge_by, charge, returned, removed_by, removed}
 use Rattle.kernel_model.specs.Pieces.{less, more, funded, accounts_after, accounts_funded, with_graft, new_graft, empty_account, joint_account, account_closed}
 use Rattle.graft_accounts.specs.declared.amounts.Amounts.{Amounts}
 use Rattle.graft_accounts.specs.declared.rows.Standing.{Standing}
-use Rattle.graft_accounts.specs.Sums.{IsSums, IsKept, less_at, more_at, given, funded_at, paid, paid_at, given_back, closed}
+use Rattle.graft_accounts.specs.Sums.{less_at, more_at, given, funded_at, paid, paid_at, given_back, closed}
 use Rattle.graft_accounts.specs.Table.{Table, IsTable, sums_of, with_sums, standing_at, put_at, taken_out, closed_all, account_at, graft_at, accounts_of, total, after_give, after_fund, after_bill}
 use Rattle.graft_accounts.proofs.Places.{set_here, set_other, each_place, at_by}
 use Rattle.graft_accounts.proofs.Seen.{field_of, with_fields, same_fields, sums_with, grafts_with, with_twice, account_same, account_balance, account_spent, account_both, graft_by, graft_alike, accounts_by, graft_point, grafts_same, grafts_but}

@@ -1,16 +1,14 @@
 -- What the arrays are seen as, once amounts of one kind changed.
-use Rattle.std.proofs.Common.{◌≡◌, ◌≢◌, ℕ, ◌+◌, ◌-◌, ◌*◌, ◌<◌, ◌==◌, ◌&&◌, nat_lt, Bool, true, false, cond, List, length, slice_index, slice_index_or, slice_set, Option, Some, None, option_map, refl, sym, subst, ◌∙◌, ap, arith}
+use Rattle.std.proofs.Common.{◌≡◌, ◌≢◌, ℕ, ◌+◌, ◌*◌, ◌<◌, nat_lt, Bool, true, false, slice_index, Option, Some, None, refl, ◌∙◌, ap, arith}
 use Rattle.std.proofs.Math.Path.{fun_ext}
 use Rattle.std.proofs.lemmas.Bool.Decides.{nat_tests}
 use Rattle.kernel_model.specs.declared.Kind.{Kind}
 use Rattle.kernel_model.specs.declared.Kind.TheVariants.{Steps, Records, Locks}
-use Rattle.kernel_model.specs.Objects.{Accounts, GraftValue, AcctValue, at, at2, at_kind}
-use Rattle.kernel_model.specs.Pieces.{less, more}
+use Rattle.kernel_model.specs.Objects.{Accounts, GraftValue, AcctValue, at2, at_kind}
 use Rattle.graft_accounts.specs.declared.amounts.Amounts.{Amounts}
 use Rattle.graft_accounts.specs.declared.rows.Standing.{Standing}
-use Rattle.graft_accounts.specs.Sums.{less_at, more_at}
 use Rattle.graft_accounts.specs.Table.{Table, sums_of, with_sums, standing_at, account_at, graft_at, accounts_of}
-use Rattle.graft_accounts.proofs.Places.{set_here, set_other, at_by, at2_by, at_kind_same}
+use Rattle.graft_accounts.proofs.Places.{at2_by, at_kind_same}
 
 -- a number of each kind, by amounts
 abbrev pub field_of : (Amounts → ℕ) → Table → Kind → ℕ

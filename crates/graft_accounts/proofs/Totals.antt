@@ -1,14 +1,12 @@
 -- In all there is the grant.
-use Rattle.std.proofs.Common.{◌≡◌, ◌≢◌, ℕ, zero, suc, ◌+◌, ◌-◌, ◌*◌, ◌<◌, nat_lt, true, false, cond, List, [], ◌∷◌, length, sum, slice_index, slice_index_or, Option, Some, None, refl, sym, subst, ◌∙◌, ap, arith, add-zero, zero-add, add-suc}
-use Rattle.std.proofs.lemmas.Bool.Decides.{nat_tests}
+use Rattle.std.proofs.Common.{◌≡◌, ℕ, zero, suc, ◌+◌, ◌*◌, ◌<◌, List, [], ◌∷◌, length, sum, slice_index, Option, Some, None, refl, sym, subst, ◌∙◌, ap, arith, add-zero, add-suc}
 use Rattle.std.proofs.lemmas.List.Sums.{sum_by-cons}
 use Rattle.kernel_model.specs.declared.Kind.{Kind}
 use Rattle.kernel_model.specs.declared.Kind.TheVariants.{Steps, Records, Locks}
-use Rattle.kernel_model.specs.Objects.{Accounts, GraftValue, AcctValue}
-use Rattle.kernel_model.specs.Sound.{sum_below, graft_balance, ledger}
+use Rattle.kernel_model.specs.Sound.{sum_below, graft_balance}
 use Rattle.graft_accounts.specs.declared.amounts.Amounts.{Amounts}
 use Rattle.graft_accounts.specs.declared.rows.Standing.{Standing}
-use Rattle.graft_accounts.specs.Sums.{IsSums, IsKept}
+use Rattle.graft_accounts.specs.Sums.{IsKept}
 use Rattle.graft_accounts.specs.Table.{Table, IsTable, sums_of, with_sums, standing_at, graft_at, accounts_of, total}
 use Rattle.graft_accounts.proofs.Seen.{graft_point, same_fields}
 

@@ -1,4 +1,4 @@
-use Rattle.std.proofs.Common.{rules, arith, refl, sym, ◌∙◌}
+use Rattle.std.proofs.Common.{sym, ◌∙◌}
 use Rattle.graft_accounts.proofs.Moves.{bill_seen, put_totals}
 use Rattle.graft_accounts.proofs.accounts.Accounts.bill.Goals as goal
 

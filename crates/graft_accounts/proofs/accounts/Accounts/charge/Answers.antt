@@ -1,4 +1,4 @@
-use Rattle.std.proofs.Common.{rules, arith, refl, sym, ◌∙◌}
+use Rattle.std.proofs.Common.{sym, ◌∙◌}
 use Rattle.graft_accounts.proofs.Moves.{account_charge_seen, graft_charge_seen}
 use Rattle.graft_accounts.proofs.Ledgers.{account_charge_ledgers, graft_charge_ledgers, same_totals}
 use Rattle.graft_accounts.proofs.accounts.Accounts.charge.Goals as goal

@@ -1,4 +1,4 @@
-use Rattle.std.proofs.Common.{rules, arith, refl}
+use Rattle.std.proofs.Common.{arith, refl}
 use Rattle.graft_accounts.specs.Sums.{funded_at}
 use Rattle.graft_accounts.specs.Table.{sums_of}
 use Rattle.graft_accounts.proofs.Moves.{fund_stands}

@@ -1,4 +1,4 @@
-use Rattle.std.proofs.Common.{rules, arith, refl}
+use Rattle.std.proofs.Common.{refl}
 use Rattle.graft_accounts.proofs.Moves.{install_seen, put_totals}
 use Rattle.graft_accounts.proofs.accounts.Accounts.install.Goals as goal
 

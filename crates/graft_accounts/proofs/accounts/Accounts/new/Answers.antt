@@ -1,5 +1,5 @@
 use Rattle.graft_accounts.proofs.Boot.{IsBoot, boot_table, boot_seen, boot_totals}
-use Rattle.std.proofs.Common.{rules, subst}
+use Rattle.std.proofs.Common.{subst}
 use Rattle.graft_accounts.specs.Sums.{IsSums}
 use Rattle.graft_accounts.proofs.accounts.Accounts.new.Goals as goal
 
