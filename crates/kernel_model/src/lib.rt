@@ -182,6 +182,17 @@ pub enum Inverse {
     Tune(u8, u8, u32),
 }
 
+impl Default for Inverse {
+    ghost use Rattle.kernel_model.specs.declared.Inverse.TheVariants.{Cell};
+
+    /// Cell 0 of process 0 back to 0: what stands in a place of a fixed list that isn't used.
+    fn default() -> Inverse
+        ensures { result ≡ Cell 0 0 0 }
+    {
+        Inverse::Cell(0, 0, 0)
+    }
+}
+
 /// An operation of the graft machine, in the order of the codes.
 #[derive(Clone, Copy, PartialEq, Eq)]
 pub enum Op {
