@@ -1,0 +1,4 @@
+mod ObjectNumbers
+mod MaskLemmas
+mod Places
+mod Views

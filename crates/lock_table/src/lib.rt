@@ -1,0 +1,23 @@
+//! What each level of each call in flight holds of the kernel's objects: a table of masks, two for each process and
+//! object.
+#![tactic(auto)]
+
+pub mod laws;
+mod levels;
+mod masks;
+mod numbers;
+mod rows;
+mod table;
+#[cfg(test)]
+mod tests;
+
+pub use kernel_model::{Mode, NoMemory, Object};
+pub use numbers::object_number;
+pub use table::LockTable;
+
+/// The levels of one process that hold one object: a mask of four bits for each mode, the outermost level's lowest.
+#[derive(Clone, Copy)]
+struct Holds {
+    shared: u8,
+    exclusive: u8,
+}
