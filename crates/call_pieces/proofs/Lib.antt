@@ -2,3 +2,6 @@ pub mod Logs
 pub mod SyncLaws
 pub mod ReadLaws
 pub mod Grants
+pub mod Granting
+pub mod Slices
+pub mod WriteLaws

@@ -1,13 +1,17 @@
 -- The pieces of a read.
-use Rattle.std.proofs.Common.{◌≡◌, ℕ, ◌+◌, ◌-◌, ◌≤◌, List, Option, Some, Ok, slice_range, refl, arith, sym, ◌∙◌, ap, subst}
+use Rattle.std.proofs.Common.{◌≡◌, ℕ, zero, suc, ◌+◌, ◌-◌, ◌≤◌, ◌&&◌, nat_le, Bool, true, List, Option, Some, None, Result, Ok, slice_range, refl, arith, sym, ◌∙◌, ap, subst}
+use Rattle.std.proofs.lemmas.Bool.{and_parts}
 use Rattle.std.proofs.lemmas.Bool.Decides.{nat_tests}
 use Rattle.kernel_model.specs.declared.OpenRow.{OpenRow}
 use Rattle.kernel_model.specs.declared.SysCall.TheVariants.{Read}
-use Rattle.kernel_model.specs.World.{Blocks}
+use Rattle.kernel_model.specs.declared.Refusal.{Refusal}
+use Rattle.kernel_model.specs.World.{World, Blocks}
 use Rattle.kernel_model.specs.Objects.{Objects, CacheValue, at2}
-use Rattle.kernel_model.specs.Meaning.{Continues, stage}
-use Rattle.kernel_model.specs.Fetch.{Fetched, Got, bytes_of}
-use Rattle.kernel_model.specs.FilePieces.{with_cache, with_file, read_on, read_first}
+use Rattle.kernel_model.specs.Meaning.{Stage, After, Continues, stage}
+use Rattle.kernel_model.specs.Needs.{file_block, ahead_block}
+use Rattle.kernel_model.specs.Fetch.{Fetched, Got, bytes_of, fetch, fetch_ahead}
+use Rattle.kernel_model.specs.FilePieces.{with_cache, with_file, with_ahead, well, unless_zero, read_on, read_first, read_third, read_first_at, read_third_at, read_piece}
+use Rattle.kernel_model.specs.Pieces.{read_fits}
 use Rattle.call_pieces.specs.Coming.{CameTo, FetchCameTo, ReadGoes, blocks_after}
 
 -- the first piece, once the block is fetched
@@ -49,3 +53,54 @@ pub goes_later : (o y : OpenRow) (x : Option OpenRow) → x ≡ Some y → y.cou
 goes_later o y x is one some =
     let there : ReadGoes 2 2 (Some o) (Some y) = record { few = refl; fits = grind (arith, nat_tests, some); fewer = omega arith } in
     subst (λ (z : Option OpenRow). ReadGoes 2 2 (Some o) z) (sym is) there
+
+-- a later piece, once its block is fetched
+pub third_came : (s mid new : Objects) (blocks : Blocks) (p fd i off len f n : ℕ) (o : OpenRow) (q : Fetched) (cache : CacheValue) (told : Option (List (List ℕ))) (after : After)
+    → FetchCameTo q blocks (Ok f) cache told n → mid ≡ with_cache cache s → new ≡ with_file p fd (Some (with_ahead (o.start + 1) (o.count - 1) o)) mid
+    → after ≡ unless_zero (stage (Read fd i off len) 2) (o.count - 1)
+    → CameTo (read_third s blocks p fd i off len o q) new told None after n
+third_came s mid new blocks p fd i off len f n o q cache told after came cached opened next =
+    let r : Fetched = Got cache (blocks_after q blocks) f n in
+    let there : CameTo (read_third s blocks p fd i off len o r) new told None after n =
+    record {
+      objects = opened ∙ ap (λ (x : Objects). with_file p fd (Some (with_ahead (o.start + 1) (o.count - 1) o)) x) cached;
+      blocks = came.tells;
+      bytes = refl;
+      next = next;
+      calls_made = refl;
+    } in
+    subst (λ (x : Fetched). CameTo (read_third s blocks p fd i off len o x) new told None after n) came.outcome there
+
+-- nothing is left to be read ahead, or something
+pub none_ahead : (t : Stage) (n : ℕ) → n ≡ 0 → well ≡ unless_zero t n
+none_ahead t n is = ap (unless_zero t) (sym is)
+
+pub some_ahead : (t : Stage) (n : ℕ) → (n ≡ 0 → ⊥) → Continues t ≡ unless_zero t n
+some_ahead t zero h = absurd (h refl)
+some_ahead t (suc n) h = refl
+
+-- the pieces of a read, by the blocks that they name
+pub first_block : (x : Result ℕ Refusal) (b : ℕ) (v : World) (s new : Objects) (blocks : Blocks) (p fd i off len n : ℕ) (o : OpenRow) (io : List Bool) (told : Option (List (List ℕ))) (gave : Option (List ℕ)) (after : After)
+    → Ok b ≡ x → CameTo (read_first s blocks p fd i off len o (fetch v (s.things.pol 1) p b None s.things.cache blocks io)) new told gave after n
+    → CameTo (read_first_at x v s blocks p fd i off len o None io) new told gave after n
+first_block x b v s new blocks p fd i off len n o io told gave after is came =
+    subst (λ (y : Result ℕ Refusal). CameTo (read_first_at y v s blocks p fd i off len o None io) new told gave after n) is came
+
+pub third_block : (x : Result ℕ Refusal) (b : ℕ) (v : World) (s new : Objects) (blocks : Blocks) (p fd i off len n : ℕ) (o : OpenRow) (io : List Bool) (told : Option (List (List ℕ))) (gave : Option (List ℕ)) (after : After)
+    → x ≡ Ok b → CameTo (read_third s blocks p fd i off len o (fetch_ahead v (s.things.pol 1) p b None s.things.cache blocks io)) new told gave after n
+    → CameTo (read_third_at x v s blocks p fd i off len o None io) new told gave after n
+third_block x b v s new blocks p fd i off len n o io told gave after is came =
+    subst (λ (y : Result ℕ Refusal). CameTo (read_third_at y v s blocks p fd i off len o None io) new told gave after n) (sym is) came
+
+-- the pieces of a read, by their number
+pub read_zero : (n : ℕ) (v : World) (s : Objects) (blocks : Blocks) (p fd i off len : ℕ) (x : Option OpenRow) (o : OpenRow) (io : List Bool) → n ≡ 0 → x ≡ Some o →
+    read_piece n v s blocks p fd i off len x None io ≡ read_first_at (file_block v (Some o) i off len) v s blocks p fd i off len o None io
+read_zero n v s blocks p fd i off len x o io number file = ap (λ k. read_piece k v s blocks p fd i off len x None io) number ∙ ap (λ (y : Option OpenRow). read_piece 0 v s blocks p fd i off len y None io) file
+
+pub read_later : (n : ℕ) (v : World) (s : Objects) (blocks : Blocks) (p fd i off len : ℕ) (x : Option OpenRow) (o : OpenRow) (io : List Bool) → n ≡ 2 → x ≡ Some o →
+    read_piece n v s blocks p fd i off len x None io ≡ read_third_at (ahead_block v (Some o)) v s blocks p fd i off len o None io
+read_later n v s blocks p fd i off len x o io number file = ap (λ k. read_piece k v s blocks p fd i off len x None io) number ∙ ap (λ (y : Option OpenRow). read_piece 2 v s blocks p fd i off len y None io) file
+
+-- a read stands before one of three kinds of pieces
+pub is_third : (n : ℕ) (x : Option OpenRow) → (nat_le n 2 && read_fits n x) ≡ true → (n ≡ 0 → ⊥) → (n ≡ 1 → ⊥) → n ≡ 2
+is_third n x fits first second = let few = (and_parts (nat_le n 2) (read_fits n x) fits).0 in grind (arith, nat_tests)

@@ -3,18 +3,17 @@ use Rattle.std.specs.Prelude.{◌≡◌, ℕ, ◌<◌, Bool, true, false, List, 
 use Rattle.std.specs.List.{list_any}
 use Rattle.kernel_model.specs.declared.Refusal.TheVariants.{DiskFault}
 use Rattle.kernel_model.specs.declared.OpenRow.{OpenRow}
-use Rattle.kernel_model.specs.World.{Blocks}
+use Rattle.kernel_model.specs.World.{World, Blocks}
 use Rattle.kernel_model.specs.Objects.{Objects, CacheValue}
-use Rattle.kernel_model.specs.Meaning.{Piece, After}
+use Rattle.kernel_model.specs.Meaning.{Meaning, Stage, Piece, After}
 use Rattle.kernel_model.specs.Fetch.{Fetched, Got, Failed}
-use Rattle.kernel_model.specs.Pieces.{pieces_left, read_fits, read_left}
-use Rattle.kernel_state.specs.declared.Store.{Store}
-use Rattle.kernel_state.specs.Stores.{objects_of}
+use Rattle.kernel_model.specs.Policies.{lives}
+use Rattle.kernel_model.specs.Pieces.{piece_fits, pieces_left, read_fits, read_left}
 use Rattle.vino_base.specs.declared.streams.Failed.{Failed as DiskFailed}
 use Rattle.disk_log.specs.Calls.{Tells}
 use Rattle.call_pieces.specs.declared.Work.{Work}
 use Rattle.call_pieces.specs.declared.Next.{Next}
-use Rattle.call_pieces.specs.Works.{IsReady}
+use Rattle.call_pieces.specs.Works.{MayCome}
 
 -- A piece left these objects, the disk tells this, these bytes were given, this comes next, and so many calls of the disk
 -- were made: all as the definitions' piece has it.
@@ -54,12 +53,20 @@ abbrev pub goes_on : Next → Bool
 goes_on Next.Goes = true
 goes_on _ = false
 
--- a call that goes on: its next piece may come, and fewer pieces are left
-pub record HasGone (old new : Work) (old_store new_store : Store) : Type 0 where
+-- a call that goes on: it is the same call, its next piece may come, and fewer pieces are left
+pub record HasGone (old new : Work) (s t : Objects) : Type 0 where
   pub caller : new.caller ≡ old.caller
   pub call : new.call ≡ old.call
-  pub ready : IsReady new new_store
-  pub fewer : pieces_left new.call new.piece (objects_of new_store).things new.caller < pieces_left old.call old.piece (objects_of old_store).things old.caller
+  pub alive : lives t.things.queue new.caller ≡ true
+  pub fits : piece_fits new.call new.piece t.things new.caller ≡ true
+  pub fewer : pieces_left new.call new.piece t.things new.caller < pieces_left old.call old.piece s.things old.caller
+
+-- the same in the terms of a table of calls
+pub record GoesOnFrom (m : Meaning) (v : World) (s u : Objects) (p q : ℕ) (t r : Stage) : Type 0 where
+  pub caller : q ≡ p
+  pub call : r.call ≡ t.call
+  pub ready : MayCome m v u q r
+  pub fewer : m.left v u q r < m.left v s p t
 
 -- a read that goes on from before one piece to before another, where its open file was the first and is the second
 pub record ReadGoes (old new : ℕ) (before after : Option OpenRow) : Type 0 where

@@ -1,42 +1,32 @@
--- A call in flight: where it stands, which calls are built, and when its next piece may come.
-use Rattle.std.specs.Prelude.{◌≡◌, ℕ, zero, suc, Bool, true, false, List, Result, Ok, Err}
+-- A call in flight: where it stands, and when its next piece may come.
+use Rattle.std.specs.Prelude.{◌≡◌, ℕ, zero, suc, ◌/◌, ◌%◌, ◌^◌, ◌==◌, ◌<◌, ◌≤◌, Bool, true, false, List, Result, Ok, Err, nat_le, is_some}
+use Rattle.std.specs.List.{list_all}
+use Rattle.std.specs.Result.{is_ok}
 use Rattle.kernel_model.specs.declared.SysCall.{SysCall}
-use Rattle.kernel_model.specs.declared.SysCall.TheVariants.{Spawn, Yield, OpenName, CloseFd, Read, Write, Sync, Poke, Peek}
+use Rattle.kernel_model.specs.declared.SysCall.TheVariants.{Spawn, Exit, Yield, Install}
 use Rattle.kernel_model.specs.declared.Refusal.{Refusal}
 use Rattle.kernel_model.specs.declared.QueueRow.{QueueRow}
-use Rattle.kernel_model.specs.World.{ImageTable}
-use Rattle.kernel_model.specs.Meaning.{Stage, After, Continues, EndsWith, Fails, stage}
-use Rattle.kernel_model.specs.Early.{plain_early}
+use Rattle.kernel_model.specs.World.{World, ImageTable}
+use Rattle.kernel_model.specs.Objects.{Objects, PolValue}
+use Rattle.kernel_model.specs.Queue.{queue_without}
+use Rattle.kernel_model.specs.Meaning.{Meaning, Stage, After, Continues, EndsWith, Fails, stage}
 use Rattle.kernel_model.specs.Needs.{free_process}
 use Rattle.kernel_model.specs.Policies.{lives, next_process, or_zero}
-use Rattle.kernel_model.specs.Opening.{opening_policy}
-use Rattle.kernel_model.specs.Pieces.{piece_fits, to_back, add_slice}
-use Rattle.kernel_state.specs.declared.Store.{Store}
-use Rattle.kernel_state.specs.Stores.{world_of_store, objects_of, queue_of, queue_joined}
+use Rattle.kernel_model.specs.Pieces.{to_back, add_slice}
+use Rattle.kernel_state.specs.Stores.{queue_joined}
 use Rattle.call_pieces.specs.declared.Work.{Work}
 use Rattle.call_pieces.specs.declared.Next.{Next}
 
--- the calls that are built
-abbrev pub is_built_call : SysCall → Bool
-is_built_call Spawn = true
-is_built_call Yield = true
-is_built_call (OpenName name) = true
-is_built_call (CloseFd fd) = true
-is_built_call (Read fd i off len) = true
-is_built_call (Write fd i off bytes) = true
-is_built_call Sync = true
-is_built_call (Poke k x) = true
-is_built_call (Peek k) = true
-is_built_call _ = false
+-- ---- where a call stands
 
 -- where a call stands
 abbrev pub stage_of : Work → Stage
 stage_of w = stage w.call w.piece
 
 -- where a call stands that was just granted, or its refusal
-abbrev pub stage_granted : Result Work Refusal → Result Stage Refusal
-stage_granted (Ok w) = Ok (stage_of w)
-stage_granted (Err refusal) = Err refusal
+abbrev pub stage_granted : {W : Type 0} → (W → Stage) → Result W Refusal → Result Stage Refusal
+stage_granted at (Ok w) = Ok (at w)
+stage_granted at (Err refusal) = Err refusal
 
 -- what comes after a piece, where the call stands so now
 abbrev pub comes_after : Next → Stage → After
@@ -44,25 +34,56 @@ comes_after Next.Goes t = Continues t
 comes_after (Next.Ends reply) t = EndsWith reply
 comes_after (Next.Fails refusal) t = Fails refusal
 
--- The next piece of a call may come: its caller lives, no early refusal of it holds whatever images are loaded, and it stands
+-- the bit of this number is set
+abbrev pub has_bit : ℕ → ℕ → Bool
+has_bit k bits = (bits / 2 ^ k) % 2 == 1
+
+-- bit k tells whether image k of the table is loaded
+abbrev pub TellsImages : ℕ → ImageTable → Type 0
+TellsImages bits images = (k : ℕ) → k < 32 → is_some (images k) ≡ has_bit k bits
+
+-- The next piece of a call may come: its caller lives, no early refusal of it holds with some images loaded, and it stands
 -- before one of its pieces.
-pub record IsReady (w : Work) (s : Store) : Type 0 where
-  pub built : is_built_call w.call ≡ true
-  pub alive : lives (queue_of s) w.caller ≡ true
-  pub granted : (images : ImageTable) → plain_early (world_of_store s) images w.caller w.call ≡ Ok (stage w.call 0)
-  pub fits : piece_fits w.call w.piece (objects_of s).things w.caller ≡ true
+pub record MayCome (m : Meaning) (v : World) (s : Objects) (p : ℕ) (t : Stage) : Type 0 where
+  pub images : ImageTable
+  pub alive : lives s.things.queue p ≡ true
+  pub granted : is_ok (m.early v images p t.call) ≡ true
+  pub fits : m.fits v s p t ≡ true
+  pub left : 1 ≤ m.left v s p t
+
+-- ---- the queue
+
+-- each process has had at most so many slices
+abbrev pub slices_within : ℕ → List QueueRow → Bool
+slices_within most rows = list_all (λ (r : QueueRow). nat_le r.slices most) rows
+
+-- no process has more slices after than the most before
+abbrev pub SlicesStay : (rows after : List QueueRow) → Type 0
+SlicesStay rows after = (most : ℕ) → slices_within most rows ≡ true → slices_within most after ≡ true
+
+-- no process has more slices after than one more than the most before
+abbrev pub SlicesRise : (rows after : List QueueRow) → Type 0
+SlicesRise rows after = (most : ℕ) → slices_within most rows ≡ true → slices_within (suc most) after ≡ true
 
 -- the process that is next by default
-abbrev pub next_of : List QueueRow → ℕ
-next_of queue = or_zero (next_process (opening_policy 2) queue)
+abbrev pub next_of : PolValue → List QueueRow → ℕ
+next_of pol queue = or_zero (next_process pol queue)
 
 -- the queue after the two pieces of a yield
-abbrev pub queue_yielded : ℕ → ℕ → List QueueRow → List QueueRow
-queue_yielded zero p queue = to_back p queue
-queue_yielded (suc n) p queue = add_slice (next_of queue) queue
+abbrev pub queue_yielded : PolValue → ℕ → ℕ → List QueueRow → List QueueRow
+queue_yielded pol zero p queue = to_back p queue
+queue_yielded pol (suc n) p queue = add_slice (next_of pol queue) queue
 
 -- the queue after a piece of this number of a call of process p
-abbrev pub queue_after : SysCall → ℕ → ℕ → List QueueRow → List QueueRow
-queue_after Spawn n p queue = queue_joined (free_process queue 16 0) queue
-queue_after Yield n p queue = queue_yielded n p queue
-queue_after _ n p queue = queue
+abbrev pub queue_after : PolValue → SysCall → ℕ → ℕ → List QueueRow → List QueueRow
+queue_after pol Spawn n p queue = queue_joined (free_process queue 16 0) queue
+queue_after pol Exit n p queue = queue_without p queue
+queue_after pol Yield n p queue = queue_yielded pol n p queue
+queue_after pol _ n p queue = queue
+
+-- ---- grafts
+
+-- a call puts a graft in place
+abbrev pub is_install : SysCall → Bool
+is_install (Install pt image limit) = true
+is_install _ = false

@@ -9,10 +9,9 @@ ghost use Rattle.kernel_model.specs.Fetch as fetches;
 ghost use Rattle.kernel_model.specs.Fetch.{new_frame, replaced, dirty_value, read_block, place_block, evict as evicted};
 ghost use Rattle.kernel_model.specs.Meaning.{disk_fails};
 ghost use Rattle.kernel_model.specs.FilePieces.{with_cache};
-ghost use Rattle.kernel_model.specs.Opening.{opening_policy};
 ghost use Rattle.buffer_cache.specs.Frames.{in_use};
 ghost use Rattle.disk_log.specs.Calls.{Tells, GoesOn};
-ghost use Rattle.kernel_state.specs.Stores.{world_of_store, objects_of, cache_of, queue_of, IsStore};
+ghost use Rattle.kernel_state.specs.Stores.{world_of_store, objects_of, cache_of, queue_of, policies_of, IsStore};
 ghost use Rattle.call_pieces.specs.Coming.{FetchCameTo, has_failed};
 
 use disk_log::DiskLog;
@@ -28,20 +27,20 @@ pub(crate) fn fetch<D: Disk>(
     p: u8,
     b: u32,
 ) -> Result<u8, Failed>
-    requires sound { IsStore store.old }
+    requires sound { IsStore (λ b. seen (b.vtable, b.value)) store.old }
     requires alive { lives (queue_of store.old) p ≡ true }
     requires block { b < store.old.size }
     requires disk { store.old.size ≡ D.block_count disk.old }
     requires fresh { log.old ≡ [] }
     ensures does { (blocks : Blocks) (rest : List Bool) → Tells (D.blocks disk.old) blocks →
-        FetchCameTo (fetches.fetch (world_of_store store.old) (opening_policy 1) p b None (cache_of store.old) blocks (log.new ++ rest)) blocks
+        FetchCameTo (fetches.fetch (world_of_store store.old) (policies_of (λ b. seen (b.vtable, b.value)) store.old 1) p b None (cache_of store.old) blocks (log.new ++ rest)) blocks
         result (cache_of store.new) (D.blocks disk.new) (length log.new) }
-    ensures objects { objects_of store.new ≡ with_cache (cache_of store.new) (objects_of store.old) }
+    ensures objects { objects_of (λ b. seen (b.vtable, b.value)) store.new ≡ with_cache (cache_of store.new) (objects_of (λ b. seen (b.vtable, b.value)) store.old) }
     ensures in_cache { IfOk result (λ f. in_use f store.new.cache ≡ true) }
-    ensures kept { IfErr result (λ _. objects_of store.new ≡ objects_of store.old) }
+    ensures kept { IfErr result (λ _. objects_of (λ b. seen (b.vtable, b.value)) store.new ≡ objects_of (λ b. seen (b.vtable, b.value)) store.old) }
     ensures failed { IfErr result (λ _. has_failed log.new ≡ true) }
     ensures world { world_of_store store.new ≡ world_of_store store.old }
-    ensures sound { IsStore store.new }
+    ensures sound { IsStore (λ b. seen (b.vtable, b.value)) store.new }
     ensures same_size { D.block_count disk.new ≡ D.block_count disk.old }
     ensures calls { GoesOn (D.faults disk.old) (D.faults disk.new) (D.plan disk.old) (D.plan disk.new) log.old log.new }
     ensures few { length log.new ≤ 256 }
@@ -63,20 +62,20 @@ pub(crate) fn fetch_ahead<D: Disk>(
     p: u8,
     b: u32,
 ) -> Result<u8, Failed>
-    requires sound { IsStore store.old }
+    requires sound { IsStore (λ b. seen (b.vtable, b.value)) store.old }
     requires alive { lives (queue_of store.old) p ≡ true }
     requires block { b < store.old.size }
     requires disk { store.old.size ≡ D.block_count disk.old }
     requires fresh { log.old ≡ [] }
     ensures does { (blocks : Blocks) (rest : List Bool) → Tells (D.blocks disk.old) blocks →
-        FetchCameTo (fetches.fetch_ahead (world_of_store store.old) (opening_policy 1) p b None (cache_of store.old) blocks (log.new ++ rest)) blocks
+        FetchCameTo (fetches.fetch_ahead (world_of_store store.old) (policies_of (λ b. seen (b.vtable, b.value)) store.old 1) p b None (cache_of store.old) blocks (log.new ++ rest)) blocks
         result (cache_of store.new) (D.blocks disk.new) (length log.new) }
-    ensures objects { objects_of store.new ≡ with_cache (cache_of store.new) (objects_of store.old) }
+    ensures objects { objects_of (λ b. seen (b.vtable, b.value)) store.new ≡ with_cache (cache_of store.new) (objects_of (λ b. seen (b.vtable, b.value)) store.old) }
     ensures in_cache { IfOk result (λ f. in_use f store.new.cache ≡ true) }
-    ensures kept { IfErr result (λ _. objects_of store.new ≡ objects_of store.old) }
+    ensures kept { IfErr result (λ _. objects_of (λ b. seen (b.vtable, b.value)) store.new ≡ objects_of (λ b. seen (b.vtable, b.value)) store.old) }
     ensures failed { IfErr result (λ _. has_failed log.new ≡ true) }
     ensures world { world_of_store store.new ≡ world_of_store store.old }
-    ensures sound { IsStore store.new }
+    ensures sound { IsStore (λ b. seen (b.vtable, b.value)) store.new }
     ensures same_size { D.block_count disk.new ≡ D.block_count disk.old }
     ensures calls { GoesOn (D.faults disk.old) (D.faults disk.new) (D.plan disk.old) (D.plan disk.new) log.old log.new }
     ensures few { length log.new ≤ 256 }
@@ -95,21 +94,21 @@ fn load<D: Disk>(
     p: u8,
     b: u32,
 ) -> Result<u8, Failed>
-    requires sound { IsStore store.old }
+    requires sound { IsStore (λ b. seen (b.vtable, b.value)) store.old }
     requires alive { lives (queue_of store.old) p ≡ true }
     requires block { b < store.old.size }
     requires disk { store.old.size ≡ D.block_count disk.old }
     requires fresh { log.old ≡ [] }
     requires missing { frame_of_block (cache_of store.old) b ≡ None }
     ensures does { (blocks : Blocks) (rest : List Bool) → Tells (D.blocks disk.old) blocks →
-        FetchCameTo (read_block (world_of_store store.old) (opening_policy 1) p b None (cache_of store.old) blocks (log.new ++ rest)) blocks
+        FetchCameTo (read_block (world_of_store store.old) (policies_of (λ b. seen (b.vtable, b.value)) store.old 1) p b None (cache_of store.old) blocks (log.new ++ rest)) blocks
         result (cache_of store.new) (D.blocks disk.new) (length log.new) }
-    ensures objects { objects_of store.new ≡ with_cache (cache_of store.new) (objects_of store.old) }
+    ensures objects { objects_of (λ b. seen (b.vtable, b.value)) store.new ≡ with_cache (cache_of store.new) (objects_of (λ b. seen (b.vtable, b.value)) store.old) }
     ensures in_cache { IfOk result (λ f. in_use f store.new.cache ≡ true) }
-    ensures kept { IfErr result (λ _. objects_of store.new ≡ objects_of store.old) }
+    ensures kept { IfErr result (λ _. objects_of (λ b. seen (b.vtable, b.value)) store.new ≡ objects_of (λ b. seen (b.vtable, b.value)) store.old) }
     ensures failed { IfErr result (λ _. has_failed log.new ≡ true) }
     ensures world { world_of_store store.new ≡ world_of_store store.old }
-    ensures sound { IsStore store.new }
+    ensures sound { IsStore (λ b. seen (b.vtable, b.value)) store.new }
     ensures same_size { D.block_count disk.new ≡ D.block_count disk.old }
     ensures calls { GoesOn (D.faults disk.old) (D.faults disk.new) (D.plan disk.old) (D.plan disk.new) log.old log.new }
     ensures few { length log.new ≤ 256 }
@@ -130,23 +129,23 @@ fn place<D: Disk>(
     b: u32,
     bytes: &[u8; 512],
 ) -> Result<u8, Failed>
-    requires sound { IsStore store.old }
+    requires sound { IsStore (λ b. seen (b.vtable, b.value)) store.old }
     requires alive { lives (queue_of store.old) p ≡ true }
     requires block { b < store.old.size }
     requires disk { store.old.size ≡ D.block_count disk.old }
     requires read { log.old ≡ false ∷ [] }
     requires missing { frame_of_block (cache_of store.old) b ≡ None }
     ensures does { (blocks : Blocks) (rest : List Bool) → Tells (D.blocks disk.old) blocks → blocks b ≡ bytes.now →
-        let candidate = or_zero (victim_among (opening_policy 1) (cache_of store.old) (cache_of store.old).lru) in
+        let candidate = or_zero (victim_among (policies_of (λ b. seen (b.vtable, b.value)) store.old 1) (cache_of store.old) (cache_of store.old).lru) in
         FetchCameTo (place_block (free_frame (cache_of store.old) (world_of_store store.old).frames 0) p b candidate candidate (cache_of store.old) blocks (log.new ++ rest)) blocks
         result (cache_of store.new) (D.blocks disk.new) (length log.new) }
     ensures first { (rest : List Bool) → disk_fails (log.new ++ rest) 0 ≡ false }
-    ensures objects { objects_of store.new ≡ with_cache (cache_of store.new) (objects_of store.old) }
+    ensures objects { objects_of (λ b. seen (b.vtable, b.value)) store.new ≡ with_cache (cache_of store.new) (objects_of (λ b. seen (b.vtable, b.value)) store.old) }
     ensures in_cache { IfOk result (λ f. in_use f store.new.cache ≡ true) }
-    ensures kept { IfErr result (λ _. objects_of store.new ≡ objects_of store.old) }
+    ensures kept { IfErr result (λ _. objects_of (λ b. seen (b.vtable, b.value)) store.new ≡ objects_of (λ b. seen (b.vtable, b.value)) store.old) }
     ensures failed { IfErr result (λ _. has_failed log.new ≡ true) }
     ensures world { world_of_store store.new ≡ world_of_store store.old }
-    ensures sound { IsStore store.new }
+    ensures sound { IsStore (λ b. seen (b.vtable, b.value)) store.new }
     ensures same_size { D.block_count disk.new ≡ D.block_count disk.old }
     ensures calls { GoesOn (D.faults disk.old) (D.faults disk.new) (D.plan disk.old) (D.plan disk.new) log.old log.new }
     ensures few { length log.new ≤ 256 }
@@ -171,7 +170,7 @@ fn evict<D: Disk>(
     f: u8,
     bytes: &[u8; 512],
 ) -> Result<u8, Failed>
-    requires sound { IsStore store.old }
+    requires sound { IsStore (λ b. seen (b.vtable, b.value)) store.old }
     requires alive { lives (queue_of store.old) p ≡ true }
     requires block { b < store.old.size }
     requires disk { store.old.size ≡ D.block_count disk.old }
@@ -182,12 +181,12 @@ fn evict<D: Disk>(
         FetchCameTo (evicted ((cache_of store.old).frame f) f (replaced f f (new_frame p b bytes.now) (cache_of store.old)) blocks (log.new ++ rest)) blocks
         result (cache_of store.new) (D.blocks disk.new) (length log.new) }
     ensures first { (rest : List Bool) → disk_fails (log.new ++ rest) 0 ≡ false }
-    ensures objects { objects_of store.new ≡ with_cache (cache_of store.new) (objects_of store.old) }
+    ensures objects { objects_of (λ b. seen (b.vtable, b.value)) store.new ≡ with_cache (cache_of store.new) (objects_of (λ b. seen (b.vtable, b.value)) store.old) }
     ensures in_cache { IfOk result (λ g. in_use g store.new.cache ≡ true) }
-    ensures kept { IfErr result (λ _. objects_of store.new ≡ objects_of store.old) }
+    ensures kept { IfErr result (λ _. objects_of (λ b. seen (b.vtable, b.value)) store.new ≡ objects_of (λ b. seen (b.vtable, b.value)) store.old) }
     ensures failed { IfErr result (λ _. has_failed log.new ≡ true) }
     ensures world { world_of_store store.new ≡ world_of_store store.old }
-    ensures sound { IsStore store.new }
+    ensures sound { IsStore (λ b. seen (b.vtable, b.value)) store.new }
     ensures same_size { D.block_count disk.new ≡ D.block_count disk.old }
     ensures calls { GoesOn (D.faults disk.old) (D.faults disk.new) (D.plan disk.old) (D.plan disk.new) log.old log.new }
     ensures few { length log.new ≤ 256 }
@@ -212,7 +211,7 @@ fn evict_dirty<D: Disk>(
     bytes: &[u8; 512],
     old: u32,
 ) -> Result<u8, Failed>
-    requires sound { IsStore store.old }
+    requires sound { IsStore (λ b. seen (b.vtable, b.value)) store.old }
     requires alive { lives (queue_of store.old) p ≡ true }
     requires block { b < store.old.size }
     requires disk { store.old.size ≡ D.block_count disk.old }
@@ -225,12 +224,12 @@ fn evict_dirty<D: Disk>(
         FetchCameTo (evicted ((cache_of store.old).frame f) f (replaced f f (new_frame p b bytes.now) (cache_of store.old)) blocks (log.new ++ rest)) blocks
         result (cache_of store.new) (D.blocks disk.new) (length log.new) }
     ensures first { (rest : List Bool) → disk_fails (log.new ++ rest) 0 ≡ false }
-    ensures objects { objects_of store.new ≡ with_cache (cache_of store.new) (objects_of store.old) }
+    ensures objects { objects_of (λ b. seen (b.vtable, b.value)) store.new ≡ with_cache (cache_of store.new) (objects_of (λ b. seen (b.vtable, b.value)) store.old) }
     ensures in_cache { IfOk result (λ g. in_use g store.new.cache ≡ true) }
-    ensures kept { IfErr result (λ _. objects_of store.new ≡ objects_of store.old) }
+    ensures kept { IfErr result (λ _. objects_of (λ b. seen (b.vtable, b.value)) store.new ≡ objects_of (λ b. seen (b.vtable, b.value)) store.old) }
     ensures failed { IfErr result (λ _. has_failed log.new ≡ true) }
     ensures world { world_of_store store.new ≡ world_of_store store.old }
-    ensures sound { IsStore store.new }
+    ensures sound { IsStore (λ b. seen (b.vtable, b.value)) store.new }
     ensures same_size { D.block_count disk.new ≡ D.block_count disk.old }
     ensures calls { GoesOn (D.faults disk.old) (D.faults disk.new) (D.plan disk.old) (D.plan disk.new) log.old log.new }
     ensures few { length log.new ≤ 256 }

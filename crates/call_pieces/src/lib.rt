@@ -6,9 +6,14 @@
 
 ghost use Rattle.std.specs.Prelude.{◌≡◌, None};
 
+mod amounts;
 mod begin;
+mod calls;
+mod copies;
 mod fetch;
+mod locks;
 mod pieces;
+mod policies;
 mod quick;
 mod reads;
 mod syncs;
@@ -17,6 +22,7 @@ mod tests;
 mod writes;
 
 pub use begin::early;
+pub use calls::{Calls, Plain};
 use kernel_model::{Bytes, Refusal, Reply, SysCall};
 pub use pieces::piece;
 

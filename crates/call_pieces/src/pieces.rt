@@ -2,15 +2,17 @@
 
 ghost use Rattle.std.specs.Prelude.{◌≡◌, ℕ, ◌<◌, true, false, List, Bool, [], ◌++◌, Some, None, length, ◌≤◌};
 ghost use Rattle.kernel_model.specs.World.{Blocks, ImageTable};
-ghost use Rattle.kernel_model.specs.Policies.{lives};
 ghost use Rattle.kernel_model.specs.Queue.{slices_of};
 ghost use Rattle.kernel_model.specs.Pieces.{plain};
 ghost use Rattle.disk_log.specs.Calls.{Tells, GoesOn};
-ghost use Rattle.kernel_state.specs.Stores.{world_of_store, objects_of, queue_of, IsStore};
-ghost use Rattle.call_pieces.specs.Works.{stage_of, comes_after, queue_after, IsReady};
+ghost use Rattle.kernel_state.specs.Stores.{world_of_store, objects_of, queue_of, policies_of, IsStore};
+ghost use Rattle.call_pieces.specs.Works.{stage_of, comes_after, queue_after, MayCome};
 ghost use Rattle.call_pieces.specs.Coming.{CameTo, HasGone, has_failed, is_fault, goes_on};
 
-use crate::quick::{close, open, peek, poke, spawn, yield_turn};
+use crate::amounts::{bill, fund, give, install, remove};
+use crate::locks::{free_lock, take_lock};
+use crate::policies::{choose, tune};
+use crate::quick::{close, exit, open, peek, poke, spawn, yield_turn};
 use crate::reads::{Range, read};
 use crate::syncs::sync;
 use crate::writes::write;
@@ -24,20 +26,19 @@ use vino_base::Disk;
 ///
 /// The log starts empty and has this piece's calls of the disk then.
 pub fn piece<D: Disk>(work: &mut Work, store: &mut Store, disk: &mut D, log: &mut DiskLog) -> After
-    requires sound { IsStore store.old }
-    requires ready { IsReady work.old store.old }
+    requires sound { IsStore (λ b. seen (b.vtable, b.value)) store.old }
+    requires ready { MayCome plain (world_of_store store.old) (objects_of (λ b. seen (b.vtable, b.value)) store.old) work.old.caller (stage_of work.old) }
     requires room { (q : ℕ) → slices_of q (queue_of store.old) < 4294967295 }
     requires disk { store.old.size ≡ D.block_count disk.old }
     requires fresh { log.old ≡ [] }
     ensures does { (images : ImageTable) (blocks : Blocks) (rest : List Bool) → Tells (D.blocks disk.old) blocks →
-        CameTo (plain.piece (world_of_store store.old) images (objects_of store.old) blocks work.old.caller (stage_of work.old) None (log.new ++ rest))
-        (objects_of store.new) (D.blocks disk.new) result.gave (comes_after result.next (stage_of work.new)) (length log.new) }
-    ensures queue { queue_of store.new ≡ queue_after work.old.call work.old.piece work.old.caller (queue_of store.old) }
-    ensures living { (q : ℕ) → lives (queue_of store.old) q ≡ true → lives (queue_of store.new) q ≡ true }
-    ensures gone { goes_on result.next ≡ true → HasGone work.old work.new store.old store.new }
+        CameTo (plain.piece (world_of_store store.old) images (objects_of (λ b. seen (b.vtable, b.value)) store.old) blocks work.old.caller (stage_of work.old) None (log.new ++ rest))
+        (objects_of (λ b. seen (b.vtable, b.value)) store.new) (D.blocks disk.new) result.gave (comes_after result.next (stage_of work.new)) (length log.new) }
+    ensures queue { queue_of store.new ≡ queue_after (policies_of (λ b. seen (b.vtable, b.value)) store.old 2) work.old.call work.old.piece work.old.caller (queue_of store.old) }
+    ensures gone { goes_on result.next ≡ true → HasGone work.old work.new (objects_of (λ b. seen (b.vtable, b.value)) store.old) (objects_of (λ b. seen (b.vtable, b.value)) store.new) }
     ensures failed { is_fault result.next ≡ true → has_failed log.new ≡ true }
     ensures world { world_of_store store.new ≡ world_of_store store.old }
-    ensures sound { IsStore store.new }
+    ensures sound { IsStore (λ b. seen (b.vtable, b.value)) store.new }
     ensures same_size { D.block_count disk.new ≡ D.block_count disk.old }
     ensures calls { GoesOn (D.faults disk.old) (D.faults disk.new) (D.plan disk.old) (D.plan disk.new) log.old log.new }
     ensures few { length log.new ≤ 256 }
@@ -45,6 +46,7 @@ pub fn piece<D: Disk>(work: &mut Work, store: &mut Store, disk: &mut D, log: &mu
     let p = work.caller;
     match &work.call {
         SysCall::Spawn => spawn(store),
+        SysCall::Exit => exit(store, p),
         SysCall::Yield => yield_turn(&mut work.piece, store, p),
         SysCall::OpenName(name) => open(store, p, name.as_slice()),
         SysCall::CloseFd(fd) => close(store, p, *fd),
@@ -61,8 +63,16 @@ pub fn piece<D: Disk>(work: &mut Work, store: &mut Store, disk: &mut D, log: &mu
             write(store, disk, log, p, *fd, *i, *off, bytes.as_slice())
         }
         SysCall::Sync => sync(store, disk, log),
+        SysCall::TakeLock(u) => take_lock(store, p, *u),
+        SysCall::FreeLock(u) => free_lock(store, p, *u),
         SysCall::Poke(k, v) => poke(store, p, *k, *v),
         SysCall::Peek(k) => peek(store, p, *k),
-        _ => unreachable!(),
+        SysCall::Tune(kind, k, v) => tune(store, *kind, *k, *v),
+        SysCall::Choose(kind, j) => choose(store, *kind, *j),
+        SysCall::Give(q, kind, n) => give(store, p, *q, *kind, *n),
+        SysCall::Install(pt, image, limit) => install(store, p, *pt, *image, *limit),
+        SysCall::Remove(pt) => remove(store, p, *pt),
+        SysCall::Fund(pt, kind, n) => fund(store, p, *pt, *kind, *n),
+        SysCall::Bill(pt) => bill(store, p, *pt),
     }
 }

@@ -9,10 +9,9 @@ ghost use Rattle.kernel_model.specs.FilePieces.{read_piece, read_first_at, read_
 ghost use Rattle.kernel_model.specs.Pieces.{piece_fits};
 ghost use Rattle.kernel_model.specs.Needs.{file_block, ahead_block};
 ghost use Rattle.kernel_model.specs.Fetch as fetches;
-ghost use Rattle.kernel_model.specs.Opening.{opening_policy};
 ghost use Rattle.kernel_model.specs.Sound.{IsSoundFile};
 ghost use Rattle.disk_log.specs.Calls.{Tells, GoesOn};
-ghost use Rattle.kernel_state.specs.Stores.{world_of_store, objects_of, cache_of, queue_of, IsStore};
+ghost use Rattle.kernel_state.specs.Stores.{world_of_store, objects_of, cache_of, queue_of, policies_of, IsStore};
 ghost use Rattle.call_pieces.specs.Works.{comes_after};
 ghost use Rattle.call_pieces.specs.Coming.{CameTo, ReadGoes, has_failed, is_fault, goes_on};
 
@@ -41,21 +40,21 @@ pub(crate) fn read<D: Disk>(
     p: u8,
     r: Range,
 ) -> After
-    requires sound { IsStore store.old }
+    requires sound { IsStore (λ b. seen (b.vtable, b.value)) store.old }
     requires alive { lives (queue_of store.old) p ≡ true }
     requires descriptor { r.fd < 4 }
     requires inside { r.off + r.len ≤ 512 }
-    requires fits { piece_fits (Read r.fd r.i r.off r.len) piece.old (objects_of store.old).things p ≡ true }
+    requires fits { piece_fits (Read r.fd r.i r.off r.len) piece.old (objects_of (λ b. seen (b.vtable, b.value)) store.old).things p ≡ true }
     requires disk { store.old.size ≡ D.block_count disk.old }
     requires fresh { log.old ≡ [] }
     ensures does { (blocks : Blocks) (rest : List Bool) → Tells (D.blocks disk.old) blocks →
-        CameTo (read_piece piece.old (world_of_store store.old) (objects_of store.old) blocks p r.fd r.i r.off r.len ((objects_of store.old).things.file p r.fd) None (log.new ++ rest))
-        (objects_of store.new) (D.blocks disk.new) result.gave (comes_after result.next (stage (Read r.fd r.i r.off r.len) piece.new)) (length log.new) }
+        CameTo (read_piece piece.old (world_of_store store.old) (objects_of (λ b. seen (b.vtable, b.value)) store.old) blocks p r.fd r.i r.off r.len ((objects_of (λ b. seen (b.vtable, b.value)) store.old).things.file p r.fd) None (log.new ++ rest))
+        (objects_of (λ b. seen (b.vtable, b.value)) store.new) (D.blocks disk.new) result.gave (comes_after result.next (stage (Read r.fd r.i r.off r.len) piece.new)) (length log.new) }
     ensures queue { queue_of store.new ≡ queue_of store.old }
-    ensures next { goes_on result.next ≡ true → ReadGoes piece.old piece.new ((objects_of store.old).things.file p r.fd) ((objects_of store.new).things.file p r.fd) }
+    ensures next { goes_on result.next ≡ true → ReadGoes piece.old piece.new ((objects_of (λ b. seen (b.vtable, b.value)) store.old).things.file p r.fd) ((objects_of (λ b. seen (b.vtable, b.value)) store.new).things.file p r.fd) }
     ensures failed { is_fault result.next ≡ true → has_failed log.new ≡ true }
     ensures world { world_of_store store.new ≡ world_of_store store.old }
-    ensures sound { IsStore store.new }
+    ensures sound { IsStore (λ b. seen (b.vtable, b.value)) store.new }
     ensures same_size { D.block_count disk.new ≡ D.block_count disk.old }
     ensures calls { GoesOn (D.faults disk.old) (D.faults disk.new) (D.plan disk.old) (D.plan disk.new) log.old log.new }
     ensures few { length log.new ≤ 256 }
@@ -80,22 +79,22 @@ fn first<D: Disk>(
     r: Range,
     opened: OpenRow,
 ) -> After
-    requires sound { IsStore store.old }
+    requires sound { IsStore (λ b. seen (b.vtable, b.value)) store.old }
     requires alive { lives (queue_of store.old) p ≡ true }
     requires descriptor { r.fd < 4 }
     requires inside { r.off + r.len ≤ 512 }
     requires number { piece.old ≡ 0 }
-    requires file { (objects_of store.old).things.file p r.fd ≡ Some opened }
+    requires file { (objects_of (λ b. seen (b.vtable, b.value)) store.old).things.file p r.fd ≡ Some opened }
     requires disk { store.old.size ≡ D.block_count disk.old }
     requires fresh { log.old ≡ [] }
     ensures does { (blocks : Blocks) (rest : List Bool) → Tells (D.blocks disk.old) blocks →
-        CameTo (read_first_at (file_block (world_of_store store.old) (Some opened) r.i r.off r.len) (world_of_store store.old) (objects_of store.old) blocks p r.fd r.i r.off r.len opened None (log.new ++ rest))
-        (objects_of store.new) (D.blocks disk.new) result.gave (comes_after result.next (stage (Read r.fd r.i r.off r.len) piece.new)) (length log.new) }
+        CameTo (read_first_at (file_block (world_of_store store.old) (Some opened) r.i r.off r.len) (world_of_store store.old) (objects_of (λ b. seen (b.vtable, b.value)) store.old) blocks p r.fd r.i r.off r.len opened None (log.new ++ rest))
+        (objects_of (λ b. seen (b.vtable, b.value)) store.new) (D.blocks disk.new) result.gave (comes_after result.next (stage (Read r.fd r.i r.off r.len) piece.new)) (length log.new) }
     ensures queue { queue_of store.new ≡ queue_of store.old }
-    ensures next { goes_on result.next ≡ true → ReadGoes 0 piece.new (Some opened) ((objects_of store.new).things.file p r.fd) }
+    ensures next { goes_on result.next ≡ true → ReadGoes 0 piece.new (Some opened) ((objects_of (λ b. seen (b.vtable, b.value)) store.new).things.file p r.fd) }
     ensures failed { is_fault result.next ≡ true → has_failed log.new ≡ true }
     ensures world { world_of_store store.new ≡ world_of_store store.old }
-    ensures sound { IsStore store.new }
+    ensures sound { IsStore (λ b. seen (b.vtable, b.value)) store.new }
     ensures same_size { D.block_count disk.new ≡ D.block_count disk.old }
     ensures calls { GoesOn (D.faults disk.old) (D.faults disk.new) (D.plan disk.old) (D.plan disk.new) log.old log.new }
     ensures few { length log.new ≤ 256 }
@@ -117,7 +116,7 @@ fn first_at<D: Disk>(
     opened: OpenRow,
     b: u32,
 ) -> After
-    requires sound { IsStore store.old }
+    requires sound { IsStore (λ b. seen (b.vtable, b.value)) store.old }
     requires alive { lives (queue_of store.old) p ≡ true }
     requires descriptor { r.fd < 4 }
     requires inside { r.off + r.len ≤ 512 }
@@ -128,13 +127,13 @@ fn first_at<D: Disk>(
     requires disk { store.old.size ≡ D.block_count disk.old }
     requires fresh { log.old ≡ [] }
     ensures does { (blocks : Blocks) (rest : List Bool) → Tells (D.blocks disk.old) blocks →
-        CameTo (read_first (objects_of store.old) blocks p r.fd r.i r.off r.len opened (fetches.fetch (world_of_store store.old) (opening_policy 1) p b None (cache_of store.old) blocks (log.new ++ rest)))
-        (objects_of store.new) (D.blocks disk.new) result.gave (comes_after result.next (stage (Read r.fd r.i r.off r.len) piece.new)) (length log.new) }
+        CameTo (read_first (objects_of (λ b. seen (b.vtable, b.value)) store.old) blocks p r.fd r.i r.off r.len opened (fetches.fetch (world_of_store store.old) (policies_of (λ b. seen (b.vtable, b.value)) store.old 1) p b None (cache_of store.old) blocks (log.new ++ rest)))
+        (objects_of (λ b. seen (b.vtable, b.value)) store.new) (D.blocks disk.new) result.gave (comes_after result.next (stage (Read r.fd r.i r.off r.len) piece.new)) (length log.new) }
     ensures queue { queue_of store.new ≡ queue_of store.old }
-    ensures next { goes_on result.next ≡ true → ReadGoes 0 piece.new (Some opened) ((objects_of store.new).things.file p r.fd) }
+    ensures next { goes_on result.next ≡ true → ReadGoes 0 piece.new (Some opened) ((objects_of (λ b. seen (b.vtable, b.value)) store.new).things.file p r.fd) }
     ensures failed { is_fault result.next ≡ true → has_failed log.new ≡ true }
     ensures world { world_of_store store.new ≡ world_of_store store.old }
-    ensures sound { IsStore store.new }
+    ensures sound { IsStore (λ b. seen (b.vtable, b.value)) store.new }
     ensures same_size { D.block_count disk.new ≡ D.block_count disk.old }
     ensures calls { GoesOn (D.faults disk.old) (D.faults disk.new) (D.plan disk.old) (D.plan disk.new) log.old log.new }
     ensures few { length log.new ≤ 256 }
@@ -158,18 +157,18 @@ fn first_at<D: Disk>(
 
 /// The second piece: the policy says what is to be read ahead.
 fn second(piece: &mut u8, store: &mut Store, p: u8, r: Range, opened: OpenRow) -> After
-    requires sound { IsStore store.old }
+    requires sound { IsStore (λ b. seen (b.vtable, b.value)) store.old }
     requires alive { lives (queue_of store.old) p ≡ true }
     requires descriptor { r.fd < 4 }
     requires opened { IsSoundFile (world_of_store store.old) opened }
     ensures does { (blocks : Blocks) (told : Option (List (List ℕ))) → Tells told blocks →
-        CameTo (read_second (objects_of store.old) blocks p r.fd r.i r.off r.len opened (ahead_default (world_of_store store.old) (opening_policy 0) (Some opened)))
-        (objects_of store.new) told result.gave (comes_after result.next (stage (Read r.fd r.i r.off r.len) piece.new)) 0 }
+        CameTo (read_second (objects_of (λ b. seen (b.vtable, b.value)) store.old) blocks p r.fd r.i r.off r.len opened (ahead_default (world_of_store store.old) (policies_of (λ b. seen (b.vtable, b.value)) store.old 0) (Some opened)))
+        (objects_of (λ b. seen (b.vtable, b.value)) store.new) told result.gave (comes_after result.next (stage (Read r.fd r.i r.off r.len) piece.new)) 0 }
     ensures queue { queue_of store.new ≡ queue_of store.old }
-    ensures next { goes_on result.next ≡ true → ReadGoes 1 piece.new (Some opened) ((objects_of store.new).things.file p r.fd) }
+    ensures next { goes_on result.next ≡ true → ReadGoes 1 piece.new (Some opened) ((objects_of (λ b. seen (b.vtable, b.value)) store.new).things.file p r.fd) }
     ensures no_fault { is_fault result.next ≡ false }
     ensures world { world_of_store store.new ≡ world_of_store store.old }
-    ensures sound { IsStore store.new }
+    ensures sound { IsStore (λ b. seen (b.vtable, b.value)) store.new }
 {
     let ahead = store.ahead(&opened);
     let row = OpenRow {
@@ -194,7 +193,7 @@ fn later<D: Disk>(
     r: Range,
     opened: OpenRow,
 ) -> After
-    requires sound { IsStore store.old }
+    requires sound { IsStore (λ b. seen (b.vtable, b.value)) store.old }
     requires alive { lives (queue_of store.old) p ≡ true }
     requires descriptor { r.fd < 4 }
     requires opened { IsSoundFile (world_of_store store.old) opened }
@@ -202,13 +201,13 @@ fn later<D: Disk>(
     requires disk { store.old.size ≡ D.block_count disk.old }
     requires fresh { log.old ≡ [] }
     ensures does { (blocks : Blocks) (rest : List Bool) → Tells (D.blocks disk.old) blocks →
-        CameTo (read_third_at (ahead_block (world_of_store store.old) (Some opened)) (world_of_store store.old) (objects_of store.old) blocks p r.fd r.i r.off r.len opened None (log.new ++ rest))
-        (objects_of store.new) (D.blocks disk.new) result.gave (comes_after result.next (stage (Read r.fd r.i r.off r.len) 2)) (length log.new) }
+        CameTo (read_third_at (ahead_block (world_of_store store.old) (Some opened)) (world_of_store store.old) (objects_of (λ b. seen (b.vtable, b.value)) store.old) blocks p r.fd r.i r.off r.len opened None (log.new ++ rest))
+        (objects_of (λ b. seen (b.vtable, b.value)) store.new) (D.blocks disk.new) result.gave (comes_after result.next (stage (Read r.fd r.i r.off r.len) 2)) (length log.new) }
     ensures queue { queue_of store.new ≡ queue_of store.old }
-    ensures next { goes_on result.next ≡ true → ReadGoes 2 2 (Some opened) ((objects_of store.new).things.file p r.fd) }
+    ensures next { goes_on result.next ≡ true → ReadGoes 2 2 (Some opened) ((objects_of (λ b. seen (b.vtable, b.value)) store.new).things.file p r.fd) }
     ensures failed { is_fault result.next ≡ true → has_failed log.new ≡ true }
     ensures world { world_of_store store.new ≡ world_of_store store.old }
-    ensures sound { IsStore store.new }
+    ensures sound { IsStore (λ b. seen (b.vtable, b.value)) store.new }
     ensures same_size { D.block_count disk.new ≡ D.block_count disk.old }
     ensures calls { GoesOn (D.faults disk.old) (D.faults disk.new) (D.plan disk.old) (D.plan disk.new) log.old log.new }
     ensures few { length log.new ≤ 256 }

@@ -22,17 +22,17 @@ use vino_base::{Disk, Failed};
 /// Writes the dirty frames in the order of their numbers; each is clean then. Where a call of the disk fails, what was
 /// written before stays written.
 pub(crate) fn sync<D: Disk>(store: &mut Store, disk: &mut D, log: &mut DiskLog) -> After
-    requires sound { IsStore store.old }
+    requires sound { IsStore (λ b. seen (b.vtable, b.value)) store.old }
     requires disk { store.old.size ≡ D.block_count disk.old }
     requires fresh { log.old ≡ [] }
     ensures does { (blocks : Blocks) (rest : List Bool) (t : Stage) → Tells (D.blocks disk.old) blocks →
-        CameTo (sync_from (world_of_store store.old).frames 0 0 (objects_of store.old) blocks (log.new ++ rest))
-        (objects_of store.new) (D.blocks disk.new) result.gave (comes_after result.next t) (length log.new) }
+        CameTo (sync_from (world_of_store store.old).frames 0 0 (objects_of (λ b. seen (b.vtable, b.value)) store.old) blocks (log.new ++ rest))
+        (objects_of (λ b. seen (b.vtable, b.value)) store.new) (D.blocks disk.new) result.gave (comes_after result.next t) (length log.new) }
     ensures queue { queue_of store.new ≡ queue_of store.old }
     ensures ends { goes_on result.next ≡ false }
     ensures failed { is_fault result.next ≡ true → has_failed log.new ≡ true }
     ensures world { world_of_store store.new ≡ world_of_store store.old }
-    ensures sound { IsStore store.new }
+    ensures sound { IsStore (λ b. seen (b.vtable, b.value)) store.new }
     ensures same_size { D.block_count disk.new ≡ D.block_count disk.old }
     ensures calls { GoesOn (D.faults disk.old) (D.faults disk.new) (D.plan disk.old) (D.plan disk.new) log.old log.new }
     ensures few { length log.new ≤ 256 }
@@ -58,7 +58,7 @@ fn write_back<D: Disk>(
     f: u8,
     b: u32,
 ) -> Result<(), Failed>
-    requires sound { IsStore store.old }
+    requires sound { IsStore (λ b. seen (b.vtable, b.value)) store.old }
     requires block { b < store.old.size }
     requires disk { store.old.size ≡ D.block_count disk.old }
     requires frame { in_use f store.old.cache ≡ true }
@@ -67,11 +67,11 @@ fn write_back<D: Disk>(
     ensures told { (blocks : Blocks) → Tells (D.blocks disk.old) blocks →
         Tells (D.blocks disk.new) (cond (is_ok result) (at b (bytes_of (cache_of store.old) f) blocks) blocks) }
     ensures cleaned { IfOk result (λ _. (x : FrameValue) → (cache_of store.old).frame f ≡ Some x →
-        objects_of store.new ≡ with_cache (cleaned f x (cache_of store.old)) (objects_of store.old)) }
-    ensures kept { IfErr result (λ _. objects_of store.new ≡ objects_of store.old) }
+        objects_of (λ b. seen (b.vtable, b.value)) store.new ≡ with_cache (cleaned f x (cache_of store.old)) (objects_of (λ b. seen (b.vtable, b.value)) store.old)) }
+    ensures kept { IfErr result (λ _. objects_of (λ b. seen (b.vtable, b.value)) store.new ≡ objects_of (λ b. seen (b.vtable, b.value)) store.old) }
     ensures queue { queue_of store.new ≡ queue_of store.old }
     ensures world { world_of_store store.new ≡ world_of_store store.old }
-    ensures sound { IsStore store.new }
+    ensures sound { IsStore (λ b. seen (b.vtable, b.value)) store.new }
     ensures same_size { D.block_count disk.new ≡ D.block_count disk.old }
     ensures calls { GoesOn (D.faults disk.old) (D.faults disk.new) (D.plan disk.old) (D.plan disk.new) log.old log.new }
     ensures few { length log.new ≤ 256 }

@@ -28,13 +28,13 @@ fn list_of(from: &[u8]) -> Bytes {
 
 /// Runs a call of process 0 to its end.
 fn run(store: &mut Store, disk: &mut MemDisk, log: &mut DiskLog, call: SysCall) -> After
-    requires sound { IsStore store.old }
+    requires sound { IsStore (λ b. seen (b.vtable, b.value)) store.old }
     requires root { lives (queue_of store.old) 0 ≡ true }
     requires room { (q : ℕ) → slices_of q (queue_of store.old) < 4294967295 }
     requires disk { store.old.size ≡ length disk.old.blocks }
     requires built { is_built_call call ≡ true }
     requires still { (n : ℕ) (rows : List Row) → queue_after call n 0 rows ≡ rows }
-    ensures sound { IsStore store.new }
+    ensures sound { IsStore (λ b. seen (b.vtable, b.value)) store.new }
     ensures root { lives (queue_of store.new) 0 ≡ true }
     ensures room { (q : ℕ) → slices_of q (queue_of store.new) < 4294967295 }
     ensures disk { store.new.size ≡ length disk.new.blocks }
@@ -94,7 +94,7 @@ fn gives(after: &After, bytes: &[u8]) -> bool {
 
 /// A store after boot with two frames, over this disk.
 fn booted(alloc: Global, disk: &mut MemDisk) -> Result<Store, NoMemory>
-    ensures sound { IfOk result (λ s. IsStore s) }
+    ensures sound { IfOk result (λ s. IsStore (λ b. seen (b.vtable, b.value)) s) }
     ensures root { IfOk result (λ s. lives (queue_of s) 0 ≡ true) }
     ensures room { IfOk result (λ s. (q : ℕ) → slices_of q (queue_of s) < 4294967295) }
     ensures disk { IfOk result (λ s. s.size ≡ length disk.new.blocks) }
@@ -121,11 +121,11 @@ fn begins(disk: &mut MemDisk, b: u32, bytes: &[u8; 2]) -> bool
 /// Seven calls, of which the disk is called seven times: which of them was refused for the disk first, counted from 1, and
 /// how many were.
 fn seven(store: &mut Store, disk: &mut MemDisk, log: &mut DiskLog) -> (u8, u8)
-    requires sound { IsStore store.old }
+    requires sound { IsStore (λ b. seen (b.vtable, b.value)) store.old }
     requires root { lives (queue_of store.old) 0 ≡ true }
     requires room { (q : ℕ) → slices_of q (queue_of store.old) < 4294967295 }
     requires disk { store.old.size ≡ length disk.old.blocks }
-    ensures sound { IsStore store.new }
+    ensures sound { IsStore (λ b. seen (b.vtable, b.value)) store.new }
     ensures root { lives (queue_of store.new) 0 ≡ true }
     ensures room { (q : ℕ) → slices_of q (queue_of store.new) < 4294967295 }
     ensures disk { store.new.size ≡ length disk.new.blocks }

@@ -29,20 +29,20 @@ pub(crate) fn write<D: Disk>(
     off: u32,
     bytes: &[u8],
 ) -> After
-    requires sound { IsStore store.old }
+    requires sound { IsStore (λ b. seen (b.vtable, b.value)) store.old }
     requires alive { lives (queue_of store.old) p ≡ true }
     requires descriptor { fd < 4 }
     requires inside { off + length bytes.now ≤ 512 }
     requires disk { store.old.size ≡ D.block_count disk.old }
     requires fresh { log.old ≡ [] }
     ensures does { (blocks : Blocks) (rest : List Bool) (t : Stage) → Tells (D.blocks disk.old) blocks →
-        CameTo (write_piece (file_block (world_of_store store.old) ((objects_of store.old).things.file p fd) i off (length bytes.now)) (world_of_store store.old) (objects_of store.old) blocks p off bytes.now None (log.new ++ rest))
-        (objects_of store.new) (D.blocks disk.new) result.gave (comes_after result.next t) (length log.new) }
+        CameTo (write_piece (file_block (world_of_store store.old) ((objects_of (λ b. seen (b.vtable, b.value)) store.old).things.file p fd) i off (length bytes.now)) (world_of_store store.old) (objects_of (λ b. seen (b.vtable, b.value)) store.old) blocks p off bytes.now None (log.new ++ rest))
+        (objects_of (λ b. seen (b.vtable, b.value)) store.new) (D.blocks disk.new) result.gave (comes_after result.next t) (length log.new) }
     ensures queue { queue_of store.new ≡ queue_of store.old }
     ensures ends { goes_on result.next ≡ false }
     ensures failed { is_fault result.next ≡ true → has_failed log.new ≡ true }
     ensures world { world_of_store store.new ≡ world_of_store store.old }
-    ensures sound { IsStore store.new }
+    ensures sound { IsStore (λ b. seen (b.vtable, b.value)) store.new }
     ensures same_size { D.block_count disk.new ≡ D.block_count disk.old }
     ensures calls { GoesOn (D.faults disk.old) (D.faults disk.new) (D.plan disk.old) (D.plan disk.new) log.old log.new }
     ensures few { length log.new ≤ 256 }

@@ -6,7 +6,7 @@ use Rattle.call_pieces.specs.Coming.{CameTo}
 use Rattle.call_pieces.proofs.quick.open.Goals as goal
 
 pub returns-in-Some-free_descriptor-clause-does : goal.returns-in-Some-free_descriptor-clause-does
-returns-in-Some-free_descriptor-clause-does c =
+returns-in-Some-free_descriptor-clause-does g c =
     λ blocks told t tells.
     let s = objects_of c.args.store.now in
     let after = comes_after c.open_at.result.next t in

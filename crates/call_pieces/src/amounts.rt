@@ -1,0 +1,122 @@
+//! Amounts that are given, and the grafts that have them.
+
+ghost use Rattle.std.specs.Prelude.{◌≡◌, ℕ, ◌<◌, ◌≤◌, true, false, List, Option};
+ghost use Rattle.kernel_model.specs.World.{Blocks};
+ghost use Rattle.kernel_model.specs.Meaning.{Stage};
+ghost use Rattle.kernel_model.specs.Policies.{lives};
+ghost use Rattle.kernel_model.specs.Pieces.{give_piece, install_piece, remove_piece, fund_piece, bill_piece, new_graft};
+ghost use Rattle.disk_log.specs.Calls.{Tells};
+ghost use Rattle.kernel_state.specs.Stores.{world_of_store, objects_of, queue_of, IsStore};
+ghost use Rattle.call_pieces.specs.Works.{comes_after};
+ghost use Rattle.call_pieces.specs.Coming.{CameTo, is_fault, goes_on};
+
+use crate::{After, Next, came};
+use kernel_model::{Kind, Refusal, Reply};
+use kernel_state::Store;
+
+/// Process p gives n to process q, if that lives.
+pub(crate) fn give(store: &mut Store, p: u8, q: u32, k: Kind, n: u32) -> After
+    requires sound { IsStore (λ b. seen (b.vtable, b.value)) store.old }
+    requires alive { lives (queue_of store.old) p ≡ true }
+    requires granted { q < 16 }
+    ensures does { (blocks : Blocks) (told : Option (List (List ℕ))) (t : Stage) → Tells told blocks →
+        CameTo (give_piece (objects_of (λ b. seen (b.vtable, b.value)) store.old) p q k n blocks (lives (queue_of store.old) q)) (objects_of (λ b. seen (b.vtable, b.value)) store.new) told result.gave (comes_after result.next t) 0 }
+    ensures queue { queue_of store.new ≡ queue_of store.old }
+    ensures world { world_of_store store.new ≡ world_of_store store.old }
+    ensures sound { IsStore (λ b. seen (b.vtable, b.value)) store.new }
+    ensures ends { goes_on result.next ≡ false }
+    ensures no_fault { is_fault result.next ≡ false }
+{
+    if !store.living(q) {
+        return came(Next::Fails(Refusal::NoProcess));
+    }
+    match store.give(p, q as u8, k, n) {
+        Ok(()) => came(Next::Ends(Reply::Plain)),
+        Err(has) => came(Next::Fails(Refusal::Short(has))),
+    }
+}
+
+/// A graft is put at point pt of process p, if none stands there.
+pub(crate) fn install(store: &mut Store, p: u8, pt: u32, image: u32, limit: u32) -> After
+    requires sound { IsStore (λ b. seen (b.vtable, b.value)) store.old }
+    requires alive { lives (queue_of store.old) p ≡ true }
+    requires point { pt < 16 }
+    requires image { image < 32 }
+    requires some { 1 ≤ limit }
+    requires most { limit ≤ 65536 }
+    ensures does { (blocks : Blocks) (told : Option (List (List ℕ))) (t : Stage) → Tells told blocks →
+        CameTo (install_piece (objects_of (λ b. seen (b.vtable, b.value)) store.old) p pt (new_graft image limit) ((objects_of (λ b. seen (b.vtable, b.value)) store.old).accounts.graft p pt) blocks) (objects_of (λ b. seen (b.vtable, b.value)) store.new) told result.gave (comes_after result.next t) 0 }
+    ensures queue { queue_of store.new ≡ queue_of store.old }
+    ensures world { world_of_store store.new ≡ world_of_store store.old }
+    ensures sound { IsStore (λ b. seen (b.vtable, b.value)) store.new }
+    ensures ends { goes_on result.next ≡ false }
+    ensures no_fault { is_fault result.next ≡ false }
+{
+    if store.has_graft(p, pt as u8) {
+        return came(Next::Fails(Refusal::Taken));
+    }
+    store.install(p, pt as u8, image as u8, limit);
+    came(Next::Ends(Reply::Plain))
+}
+
+/// The graft at point pt of process p is taken out, if one stands there.
+pub(crate) fn remove(store: &mut Store, p: u8, pt: u32) -> After
+    requires sound { IsStore (λ b. seen (b.vtable, b.value)) store.old }
+    requires alive { lives (queue_of store.old) p ≡ true }
+    requires point { pt < 16 }
+    ensures does { (blocks : Blocks) (told : Option (List (List ℕ))) (t : Stage) → Tells told blocks →
+        CameTo (remove_piece (objects_of (λ b. seen (b.vtable, b.value)) store.old) p pt ((objects_of (λ b. seen (b.vtable, b.value)) store.old).accounts.graft p pt) blocks) (objects_of (λ b. seen (b.vtable, b.value)) store.new) told result.gave (comes_after result.next t) 0 }
+    ensures queue { queue_of store.new ≡ queue_of store.old }
+    ensures world { world_of_store store.new ≡ world_of_store store.old }
+    ensures sound { IsStore (λ b. seen (b.vtable, b.value)) store.new }
+    ensures ends { goes_on result.next ≡ false }
+    ensures no_fault { is_fault result.next ≡ false }
+{
+    if !store.has_graft(p, pt as u8) {
+        return came(Next::Fails(Refusal::NoGraft));
+    }
+    store.remove(p, pt as u8);
+    came(Next::Ends(Reply::Plain))
+}
+
+/// Process p gives n to its graft at point pt, if one stands there.
+pub(crate) fn fund(store: &mut Store, p: u8, pt: u32, k: Kind, n: u32) -> After
+    requires sound { IsStore (λ b. seen (b.vtable, b.value)) store.old }
+    requires alive { lives (queue_of store.old) p ≡ true }
+    requires point { pt < 16 }
+    ensures does { (blocks : Blocks) (told : Option (List (List ℕ))) (t : Stage) → Tells told blocks →
+        CameTo (fund_piece (objects_of (λ b. seen (b.vtable, b.value)) store.old) p pt k n ((objects_of (λ b. seen (b.vtable, b.value)) store.old).accounts.graft p pt) blocks) (objects_of (λ b. seen (b.vtable, b.value)) store.new) told result.gave (comes_after result.next t) 0 }
+    ensures queue { queue_of store.new ≡ queue_of store.old }
+    ensures world { world_of_store store.new ≡ world_of_store store.old }
+    ensures sound { IsStore (λ b. seen (b.vtable, b.value)) store.new }
+    ensures ends { goes_on result.next ≡ false }
+    ensures no_fault { is_fault result.next ≡ false }
+{
+    if !store.has_graft(p, pt as u8) {
+        return came(Next::Fails(Refusal::NoGraft));
+    }
+    match store.fund(p, pt as u8, k, n) {
+        Ok(()) => came(Next::Ends(Reply::Plain)),
+        Err(has) => came(Next::Fails(Refusal::Short(has))),
+    }
+}
+
+/// From here on process p pays for its graft at point pt, if one stands there.
+pub(crate) fn bill(store: &mut Store, p: u8, pt: u32) -> After
+    requires sound { IsStore (λ b. seen (b.vtable, b.value)) store.old }
+    requires alive { lives (queue_of store.old) p ≡ true }
+    requires point { pt < 16 }
+    ensures does { (blocks : Blocks) (told : Option (List (List ℕ))) (t : Stage) → Tells told blocks →
+        CameTo (bill_piece (objects_of (λ b. seen (b.vtable, b.value)) store.old) p pt ((objects_of (λ b. seen (b.vtable, b.value)) store.old).accounts.graft p pt) blocks) (objects_of (λ b. seen (b.vtable, b.value)) store.new) told result.gave (comes_after result.next t) 0 }
+    ensures queue { queue_of store.new ≡ queue_of store.old }
+    ensures world { world_of_store store.new ≡ world_of_store store.old }
+    ensures sound { IsStore (λ b. seen (b.vtable, b.value)) store.new }
+    ensures ends { goes_on result.next ≡ false }
+    ensures no_fault { is_fault result.next ≡ false }
+{
+    if !store.has_graft(p, pt as u8) {
+        return came(Next::Fails(Refusal::NoGraft));
+    }
+    store.bill(p, pt as u8);
+    came(Next::Ends(Reply::Plain))
+}

@@ -1,0 +1,99 @@
+//! What a kernel runs: a table of calls.
+
+use crate::{After, Work, early, piece};
+use disk_log::DiskLog;
+use kernel_model::{Refusal, Rules, SysCall};
+use kernel_state::Store;
+use plain_rules::PlainRules;
+use vino_base::Disk;
+
+/// A table of system calls, each of which is refused at once or is in flight until a piece ends it.
+pub trait Calls {
+    ghost use Rattle.std.specs.Prelude.{◌≡◌, ℕ, ◌<◌, ◌≤◌, ◌+◌, true, List, Bool, [], ◌++◌, None, length, IfOk};
+    ghost use Rattle.kernel_model.specs.World.{ImageTable, Blocks};
+    ghost use Rattle.kernel_model.specs.Meaning.{Stage};
+    ghost use Rattle.kernel_model.specs.Policies.{lives};
+    ghost use Rattle.kernel_model.specs.Queue.{slices_of};
+    ghost use Rattle.disk_log.specs.Calls.{Tells, GoesOn};
+    ghost use Rattle.kernel_state.specs.Stores.{world_of_store, objects_of, queue_of, IsStore};
+    ghost use Rattle.call_pieces.specs.Works.{TellsImages, MayCome, SlicesStay, SlicesRise, stage_granted, comes_after};
+    ghost use Rattle.call_pieces.specs.Coming.{CameTo, GoesOnFrom, has_failed, is_fault, goes_on};
+
+    /// What the calls mean.
+    type Meaning: Rules;
+
+    /// A call in flight.
+    type Work: Drop;
+
+    /// Where a call in flight stands.
+    ghost stage: { Self.Work → Stage };
+
+    /// The process that made it.
+    ghost caller: { Self.Work → ℕ };
+
+    /// A call of process p, which lives, before its first piece; or its refusal of least number that needs no object. Bit k
+    /// of `images` tells whether image k is loaded.
+    fn early(store: &Store, images: u32, p: u8, call: &SysCall) -> Result<Self::Work, Refusal>
+        requires sound { IsStore (λ b. seen (b.vtable, b.value)) store.now }
+        requires alive { lives (queue_of store.now) p ≡ true }
+        ensures value { (table : ImageTable) → TellsImages images table →
+            stage_granted stage result ≡ Self.Meaning.meaning.early (world_of_store store.now) table p call.now }
+        ensures ready { IfOk result (λ w. MayCome Self.Meaning.meaning (world_of_store store.now) (objects_of (λ b. seen (b.vtable, b.value)) store.now) (caller w) (stage w)) }
+        ensures caller { IfOk result (λ w. caller w ≡ p) }
+        ensures few { IfOk result (λ w. Self.Meaning.meaning.left (world_of_store store.now) (objects_of (λ b. seen (b.vtable, b.value)) store.now) (caller w) (stage w) ≤ 15) };
+
+    /// The next piece of a call, where no graft answers. The log starts empty and has this piece's calls of the disk then.
+    fn piece<D: Disk>(
+        work: &mut Self::Work,
+        store: &mut Store,
+        disk: &mut D,
+        log: &mut DiskLog,
+    ) -> After
+        requires sound { IsStore (λ b. seen (b.vtable, b.value)) store.old }
+        requires ready { MayCome Self.Meaning.meaning (world_of_store store.old) (objects_of (λ b. seen (b.vtable, b.value)) store.old) (caller work.old) (stage work.old) }
+        requires room { (q : ℕ) → slices_of q (queue_of store.old) < 4294967295 }
+        requires disk { store.old.size ≡ D.block_count disk.old }
+        requires fresh { log.old ≡ [] }
+        ensures does { (images : ImageTable) (blocks : Blocks) (rest : List Bool) → Tells (D.blocks disk.old) blocks →
+            CameTo (Self.Meaning.meaning.piece (world_of_store store.old) images (objects_of (λ b. seen (b.vtable, b.value)) store.old) blocks (caller work.old) (stage work.old) None (log.new ++ rest))
+            (objects_of (λ b. seen (b.vtable, b.value)) store.new) (D.blocks disk.new) result.gave (comes_after result.next (stage work.new)) (length log.new) }
+        ensures gone { goes_on result.next ≡ true → GoesOnFrom Self.Meaning.meaning (world_of_store store.old) (objects_of (λ b. seen (b.vtable, b.value)) store.old) (objects_of (λ b. seen (b.vtable, b.value)) store.new)
+            (caller work.old) (caller work.new) (stage work.old) (stage work.new) }
+        ensures stay { goes_on result.next ≡ true → SlicesStay (queue_of store.old) (queue_of store.new) }
+        ensures rise { SlicesRise (queue_of store.old) (queue_of store.new) }
+        ensures failed { is_fault result.next ≡ true → has_failed log.new ≡ true }
+        ensures world { world_of_store store.new ≡ world_of_store store.old }
+        ensures sound { IsStore (λ b. seen (b.vtable, b.value)) store.new }
+        ensures same_size { D.block_count disk.new ≡ D.block_count disk.old }
+        ensures calls { GoesOn (D.faults disk.old) (D.faults disk.new) (D.plan disk.old) (D.plan disk.new) log.old log.new }
+        ensures few { length log.new ≤ 256 };
+}
+
+/// The table of the system calls.
+#[derive(Clone, Copy, Drop)]
+pub struct Plain;
+
+impl Calls for Plain {
+    type Meaning = PlainRules;
+
+    type Work = Work;
+
+    ghost use Rattle.call_pieces.specs.Works.{stage_of};
+
+    ghost stage = { stage_of };
+
+    ghost caller = { λ w. w.caller };
+
+    fn early(store: &Store, images: u32, p: u8, call: &SysCall) -> Result<Work, Refusal> {
+        early(store, images, p, call)
+    }
+
+    fn piece<D: Disk>(
+        work: &mut Work,
+        store: &mut Store,
+        disk: &mut D,
+        log: &mut DiskLog,
+    ) -> After {
+        piece(work, store, disk, log)
+    }
+}
