@@ -102,5 +102,5 @@ pub read_later : (n : ℕ) (v : World) (s : Objects) (blocks : Blocks) (p fd i o
 read_later n v s blocks p fd i off len x o io number file = ap (λ k. read_piece k v s blocks p fd i off len x None io) number ∙ ap (λ (y : Option OpenRow). read_piece 2 v s blocks p fd i off len y None io) file
 
 -- a read stands before one of three kinds of pieces
-pub is_third : (n : ℕ) (x : Option OpenRow) → (nat_le n 2 && read_fits n x) ≡ true → (n ≡ 0 → ⊥) → (n ≡ 1 → ⊥) → n ≡ 2
-is_third n x fits first second = let few = (and_parts (nat_le n 2) (read_fits n x) fits).0 in grind (arith, nat_tests)
+pub few_kinds : (n : ℕ) (x : Option OpenRow) → (nat_le n 2 && read_fits n x) ≡ true → n ≤ 2
+few_kinds n x fits = let few = (and_parts (nat_le n 2) (read_fits n x) fits).0 in grind (arith, nat_tests, few)

@@ -213,9 +213,9 @@ fn later<D: Disk>(
     ensures few { length log.new ≤ 256 }
 {
     let b = store.block_ahead(&opened);
-    if fetch_ahead(store, disk, log, p, b).is_err() {
+    let Ok(_) = fetch_ahead(store, disk, log, p, b) else {
         return came(Next::Fails(Refusal::DiskFault));
-    }
+    };
     let row = OpenRow {
         start: opened.start + 1,
         count: opened.count - 1,

@@ -1,6 +1,6 @@
-use Rattle.std.proofs.Common.{ℕ, ◌++◌, List, None, length, refl, ap, subst}
+use Rattle.std.proofs.Common.{ℕ, ◌++◌, List, None, length, refl, ap, sym, subst}
 use Rattle.kernel_model.specs.declared.SysCall.{SysCall}
-use Rattle.kernel_model.specs.declared.SysCall.TheVariants.{Spawn, OpenName, CloseFd, Write, Sync, Poke, Peek}
+use Rattle.kernel_model.specs.declared.SysCall.TheVariants.{Spawn, Exit, OpenName, CloseFd, Write, Sync, TakeLock, FreeLock, Poke, Peek, Tune, Choose, Give, Install, Remove, Fund, Bill}
 use Rattle.kernel_model.specs.World.{file_named}
 use Rattle.kernel_model.specs.Meaning.{stage}
 use Rattle.kernel_model.specs.Needs.{file_block}
@@ -9,88 +9,218 @@ use Rattle.kernel_model.specs.Pieces.{piece_of}
 use Rattle.kernel_state.specs.Stores.{world_of_store, objects_of}
 use Rattle.call_pieces.specs.Works.{comes_after}
 use Rattle.call_pieces.specs.Coming.{CameTo}
-use Rattle.call_pieces.proofs.Grants.{close_granted, poke_granted, peek_granted, read_granted, write_granted, came_named}
+use Rattle.call_pieces.proofs.Grants.{exit_granted, close_granted, take_granted, free_granted, poke_granted, peek_granted, tune_granted, choose_granted, give_granted, install_granted, remove_granted, fund_granted, bill_granted, read_granted, write_granted, came_named}
 use Rattle.call_pieces.proofs.pieces.piece.Goals as goal
 
+pub exit-requires-clause-granted : goal.exit-requires-clause-granted
+exit-requires-clause-granted g c = exit_granted (world_of_store c.args.store.now) c.args.work.now.caller c.args.work.now.call (c.requires.ready.images, c.requires.ready.granted) c.in-Exit.is
+
 pub close-requires-clause-granted : goal.close-requires-clause-granted
-close-requires-clause-granted g c = close_granted (world_of_store c.args.store.now) c.args.work.now.caller c.args.work.now.call c.in-CloseFd.fd c.requires.ready.granted c.in-CloseFd.is
+close-requires-clause-granted g c = close_granted (world_of_store c.args.store.now) c.args.work.now.caller c.args.work.now.call c.in-CloseFd.fd (c.requires.ready.images, c.requires.ready.granted) c.in-CloseFd.is
 
 pub read-requires-clause-descriptor : goal.read-requires-clause-descriptor
-read-requires-clause-descriptor g c = (read_granted (world_of_store c.args.store.now) c.args.work.now.caller c.args.work.now.call c.in-Read.fd c.in-Read.i c.in-Read.off c.in-Read.len c.requires.ready.granted c.in-Read.is).0
+read-requires-clause-descriptor g c = (read_granted (world_of_store c.args.store.now) c.args.work.now.caller c.args.work.now.call c.in-Read.fd c.in-Read.i c.in-Read.off c.in-Read.len (c.requires.ready.images, c.requires.ready.granted) c.in-Read.is).0
 
 pub read-requires-clause-inside : goal.read-requires-clause-inside
-read-requires-clause-inside g c = (read_granted (world_of_store c.args.store.now) c.args.work.now.caller c.args.work.now.call c.in-Read.fd c.in-Read.i c.in-Read.off c.in-Read.len c.requires.ready.granted c.in-Read.is).1
+read-requires-clause-inside g c = (read_granted (world_of_store c.args.store.now) c.args.work.now.caller c.args.work.now.call c.in-Read.fd c.in-Read.i c.in-Read.off c.in-Read.len (c.requires.ready.images, c.requires.ready.granted) c.in-Read.is).1
 
 pub write-requires-clause-descriptor : goal.write-requires-clause-descriptor
-write-requires-clause-descriptor g c = (write_granted (world_of_store c.args.store.now) c.args.work.now.caller c.args.work.now.call c.in-Write.fd c.in-Write.i c.in-Write.off c.in-Write.bytes c.requires.ready.granted c.in-Write.is).0
+write-requires-clause-descriptor g c = (write_granted (world_of_store c.args.store.now) c.args.work.now.caller c.args.work.now.call c.in-Write.fd c.in-Write.i c.in-Write.off c.in-Write.bytes (c.requires.ready.images, c.requires.ready.granted) c.in-Write.is).0
 
 pub write-requires-clause-inside : goal.write-requires-clause-inside
-write-requires-clause-inside g c = rw c.as_slice-in-Write.ensures.value ((write_granted (world_of_store c.args.store.now) c.args.work.now.caller c.args.work.now.call c.in-Write.fd c.in-Write.i c.in-Write.off c.in-Write.bytes c.requires.ready.granted c.in-Write.is).1)
+write-requires-clause-inside g c = rw c.as_slice-in-Write.ensures.value ((write_granted (world_of_store c.args.store.now) c.args.work.now.caller c.args.work.now.call c.in-Write.fd c.in-Write.i c.in-Write.off c.in-Write.bytes (c.requires.ready.images, c.requires.ready.granted) c.in-Write.is).1)
+
+pub take_lock-requires-clause-granted : goal.take_lock-requires-clause-granted
+take_lock-requires-clause-granted g c = take_granted (world_of_store c.args.store.now) c.args.work.now.caller c.args.work.now.call c.in-TakeLock.u (c.requires.ready.images, c.requires.ready.granted) c.in-TakeLock.is
+
+pub free_lock-requires-clause-granted : goal.free_lock-requires-clause-granted
+free_lock-requires-clause-granted g c = free_granted (world_of_store c.args.store.now) c.args.work.now.caller c.args.work.now.call c.in-FreeLock.u (c.requires.ready.images, c.requires.ready.granted) c.in-FreeLock.is
 
 pub poke-requires-clause-granted : goal.poke-requires-clause-granted
-poke-requires-clause-granted g c = poke_granted (world_of_store c.args.store.now) c.args.work.now.caller c.args.work.now.call c.in-Poke.k c.in-Poke.v c.requires.ready.granted c.in-Poke.is
+poke-requires-clause-granted g c = poke_granted (world_of_store c.args.store.now) c.args.work.now.caller c.args.work.now.call c.in-Poke.k c.in-Poke.v (c.requires.ready.images, c.requires.ready.granted) c.in-Poke.is
 
 pub peek-requires-clause-granted : goal.peek-requires-clause-granted
-peek-requires-clause-granted g c = peek_granted (world_of_store c.args.store.now) c.args.work.now.caller c.args.work.now.call c.in-Peek.k c.requires.ready.granted c.in-Peek.is
+peek-requires-clause-granted g c = peek_granted (world_of_store c.args.store.now) c.args.work.now.caller c.args.work.now.call c.in-Peek.k (c.requires.ready.images, c.requires.ready.granted) c.in-Peek.is
+
+pub tune-requires-clause-granted : goal.tune-requires-clause-granted
+tune-requires-clause-granted g c = tune_granted (world_of_store c.args.store.now) c.args.work.now.caller c.args.work.now.call c.in-Tune.kind c.in-Tune.k c.in-Tune.v (c.requires.ready.images, c.requires.ready.granted) c.in-Tune.is
+
+pub choose-requires-clause-kind : goal.choose-requires-clause-kind
+choose-requires-clause-kind g c = (choose_granted (world_of_store c.args.store.now) c.args.work.now.caller c.args.work.now.call c.in-Choose.kind c.in-Choose.j (c.requires.ready.images, c.requires.ready.granted) c.in-Choose.is).0
+
+pub choose-requires-clause-granted : goal.choose-requires-clause-granted
+choose-requires-clause-granted g c = (choose_granted (world_of_store c.args.store.now) c.args.work.now.caller c.args.work.now.call c.in-Choose.kind c.in-Choose.j (c.requires.ready.images, c.requires.ready.granted) c.in-Choose.is).1
+
+pub give-requires-clause-granted : goal.give-requires-clause-granted
+give-requires-clause-granted g c = give_granted (world_of_store c.args.store.now) c.args.work.now.caller c.args.work.now.call c.in-Give.q c.in-Give.kind c.in-Give.n (c.requires.ready.images, c.requires.ready.granted) c.in-Give.is
+
+pub install-requires-clause-point : goal.install-requires-clause-point
+install-requires-clause-point g c = (install_granted (world_of_store c.args.store.now) c.args.work.now.caller c.args.work.now.call c.in-Install.pt c.in-Install.image c.in-Install.limit (c.requires.ready.images, c.requires.ready.granted) c.in-Install.is).point
+
+pub install-requires-clause-image : goal.install-requires-clause-image
+install-requires-clause-image g c = (install_granted (world_of_store c.args.store.now) c.args.work.now.caller c.args.work.now.call c.in-Install.pt c.in-Install.image c.in-Install.limit (c.requires.ready.images, c.requires.ready.granted) c.in-Install.is).number
+
+pub install-requires-clause-some : goal.install-requires-clause-some
+install-requires-clause-some g c = (install_granted (world_of_store c.args.store.now) c.args.work.now.caller c.args.work.now.call c.in-Install.pt c.in-Install.image c.in-Install.limit (c.requires.ready.images, c.requires.ready.granted) c.in-Install.is).some
+
+pub install-requires-clause-most : goal.install-requires-clause-most
+install-requires-clause-most g c = (install_granted (world_of_store c.args.store.now) c.args.work.now.caller c.args.work.now.call c.in-Install.pt c.in-Install.image c.in-Install.limit (c.requires.ready.images, c.requires.ready.granted) c.in-Install.is).most
+
+pub remove-requires-clause-point : goal.remove-requires-clause-point
+remove-requires-clause-point g c = remove_granted (world_of_store c.args.store.now) c.args.work.now.caller c.args.work.now.call c.in-Remove.pt (c.requires.ready.images, c.requires.ready.granted) c.in-Remove.is
+
+pub fund-requires-clause-point : goal.fund-requires-clause-point
+fund-requires-clause-point g c = fund_granted (world_of_store c.args.store.now) c.args.work.now.caller c.args.work.now.call c.in-Fund.pt c.in-Fund.kind c.in-Fund.n (c.requires.ready.images, c.requires.ready.granted) c.in-Fund.is
+
+pub bill-requires-clause-point : goal.bill-requires-clause-point
+bill-requires-clause-point g c = bill_granted (world_of_store c.args.store.now) c.args.work.now.caller c.args.work.now.call c.in-Bill.pt (c.requires.ready.images, c.requires.ready.granted) c.in-Bill.is
 
 pub returns-in-Spawn-clause-does : goal.returns-in-Spawn-clause-does
 returns-in-Spawn-clause-does g c =
     λ images blocks rest tells.
-    let s = objects_of c.args.store.now in
+    let s = objects_of (λ b. (goal.Policy-dyn g (b.vtable, b.value)).seen b.value) c.args.store.now in
     let w = c.args.work.now in
-    came_named (λ (k : SysCall). piece_of k w.piece (world_of_store c.args.store.now) s blocks w.caller None (c.args.log.now ++ rest)) w.call Spawn (objects_of c.spawn.new.store) (g.D.Disk.blocks c.args.disk.now)
-    _ _ (length c.args.log.now) 0 c.in-Spawn.is (ap length c.requires.fresh) (c.spawn.ensures.does blocks _ (stage w.call w.piece) tells)
+    came_named (λ (k : SysCall). piece_of k w.piece (world_of_store c.args.store.now) s blocks w.caller None (c.args.log.now ++ rest)) w.call Spawn (objects_of (λ b. (goal.Policy-dyn g (b.vtable, b.value)).seen b.value) c.spawn.new.store)
+    (g.D.Disk.blocks c.args.disk.now) _ _ (length c.args.log.now) 0 c.in-Spawn.is (ap length c.requires.fresh) (c.spawn.ensures.does blocks _ (stage w.call w.piece) tells)
+
+pub returns-in-Exit-clause-does : goal.returns-in-Exit-clause-does
+returns-in-Exit-clause-does g c =
+    λ images blocks rest tells.
+    let s = objects_of (λ b. (goal.Policy-dyn g (b.vtable, b.value)).seen b.value) c.args.store.now in
+    let w = c.args.work.now in
+    came_named (λ (k : SysCall). piece_of k w.piece (world_of_store c.args.store.now) s blocks w.caller None (c.args.log.now ++ rest)) w.call Exit (objects_of (λ b. (goal.Policy-dyn g (b.vtable, b.value)).seen b.value) c.exit.new.store)
+    (g.D.Disk.blocks c.args.disk.now) _ _ (length c.args.log.now) 0 c.in-Exit.is (ap length c.requires.fresh) (c.exit.ensures.does blocks _ (stage w.call w.piece) tells)
 
 pub returns-in-OpenName-clause-does : goal.returns-in-OpenName-clause-does
 returns-in-OpenName-clause-does g c =
     λ images blocks rest tells.
-    let s = objects_of c.args.store.now in
+    let s = objects_of (λ b. (goal.Policy-dyn g (b.vtable, b.value)).seen b.value) c.args.store.now in
     let w = c.args.work.now in
-    came_named (λ (k : SysCall). piece_of k w.piece (world_of_store c.args.store.now) s blocks w.caller None (c.args.log.now ++ rest)) w.call (OpenName c.in-OpenName.name) (objects_of c.open.new.store) (g.D.Disk.blocks c.args.disk.now)
+    came_named (λ (k : SysCall). piece_of k w.piece (world_of_store c.args.store.now) s blocks w.caller None (c.args.log.now ++ rest)) w.call (OpenName c.in-OpenName.name) (objects_of (λ b. (goal.Policy-dyn g (b.vtable, b.value)).seen b.value) c.open.new.store) (g.D.Disk.blocks c.args.disk.now)
     _ _ (length c.args.log.now) 0 c.in-OpenName.is (ap length c.requires.fresh)
-    (subst (λ (name : List ℕ). CameTo (open_piece s w.caller (file_named (world_of_store c.args.store.now) name) (free_descriptor s.things w.caller 4 0) blocks) (objects_of c.open.new.store) (g.D.Disk.blocks c.args.disk.now) c.open.result.gave (comes_after c.open.result.next (stage w.call w.piece)) 0) c.as_slice.ensures.value
+    (subst (λ (name : List ℕ). CameTo (open_piece s w.caller (file_named (world_of_store c.args.store.now) name) (free_descriptor s.things w.caller 4 0) blocks) (objects_of (λ b. (goal.Policy-dyn g (b.vtable, b.value)).seen b.value) c.open.new.store) (g.D.Disk.blocks c.args.disk.now) c.open.result.gave (comes_after c.open.result.next (stage w.call w.piece)) 0) c.as_slice.ensures.value
     (c.open.ensures.does blocks _ (stage w.call w.piece) tells))
 
 pub returns-in-CloseFd-clause-does : goal.returns-in-CloseFd-clause-does
 returns-in-CloseFd-clause-does g c =
     λ images blocks rest tells.
-    let s = objects_of c.args.store.now in
+    let s = objects_of (λ b. (goal.Policy-dyn g (b.vtable, b.value)).seen b.value) c.args.store.now in
     let w = c.args.work.now in
-    came_named (λ (k : SysCall). piece_of k w.piece (world_of_store c.args.store.now) s blocks w.caller None (c.args.log.now ++ rest)) w.call (CloseFd c.in-CloseFd.fd) (objects_of c.close.new.store) (g.D.Disk.blocks c.args.disk.now)
-    _ _ (length c.args.log.now) 0 c.in-CloseFd.is (ap length c.requires.fresh) (c.close.ensures.does blocks _ (stage w.call w.piece) tells)
+    came_named (λ (k : SysCall). piece_of k w.piece (world_of_store c.args.store.now) s blocks w.caller None (c.args.log.now ++ rest)) w.call (CloseFd c.in-CloseFd.fd) (objects_of (λ b. (goal.Policy-dyn g (b.vtable, b.value)).seen b.value) c.close.new.store)
+    (g.D.Disk.blocks c.args.disk.now) _ _ (length c.args.log.now) 0 c.in-CloseFd.is (ap length c.requires.fresh) (c.close.ensures.does blocks _ (stage w.call w.piece) tells)
 
-pub returns-in-Poke-clause-does : goal.returns-in-Poke-clause-does
-returns-in-Poke-clause-does g c =
+pub returns-in-Read-clause-does : goal.returns-in-Read-clause-does
+returns-in-Read-clause-does g c =
     λ images blocks rest tells.
-    let s = objects_of c.args.store.now in
+    let s = objects_of (λ b. (goal.Policy-dyn g (b.vtable, b.value)).seen b.value) c.args.store.now in
     let w = c.args.work.now in
-    came_named (λ (k : SysCall). piece_of k w.piece (world_of_store c.args.store.now) s blocks w.caller None (c.args.log.now ++ rest)) w.call (Poke c.in-Poke.k c.in-Poke.v) (objects_of c.poke.new.store) (g.D.Disk.blocks c.args.disk.now)
-    _ _ (length c.args.log.now) 0 c.in-Poke.is (ap length c.requires.fresh) (c.poke.ensures.does blocks _ (stage w.call w.piece) tells)
-
-pub returns-in-Peek-clause-does : goal.returns-in-Peek-clause-does
-returns-in-Peek-clause-does g c =
-    λ images blocks rest tells.
-    let s = objects_of c.args.store.now in
-    let w = c.args.work.now in
-    came_named (λ (k : SysCall). piece_of k w.piece (world_of_store c.args.store.now) s blocks w.caller None (c.args.log.now ++ rest)) w.call (Peek c.in-Peek.k) (objects_of c.args.store.now) (g.D.Disk.blocks c.args.disk.now)
-    _ _ (length c.args.log.now) 0 c.in-Peek.is (ap length c.requires.fresh) (c.peek.ensures.does blocks _ (stage w.call w.piece) tells)
+    subst (λ (k : SysCall). CameTo (piece_of k w.piece (world_of_store c.args.store.now) s blocks w.caller None (c.read.new.log ++ rest)) (objects_of (λ b. (goal.Policy-dyn g (b.vtable, b.value)).seen b.value) c.read.new.store) (g.D.Disk.blocks c.read.new.disk)
+    c.read.result.gave (comes_after c.read.result.next (stage k c.read.new.piece)) (length c.read.new.log)) (sym c.in-Read.is) (c.read.ensures.does blocks rest tells)
 
 pub returns-in-Write-clause-does : goal.returns-in-Write-clause-does
 returns-in-Write-clause-does g c =
     λ images blocks rest tells.
-    let s = objects_of c.args.store.now in
+    let s = objects_of (λ b. (goal.Policy-dyn g (b.vtable, b.value)).seen b.value) c.args.store.now in
     let v = world_of_store c.args.store.now in
     let w = c.args.work.now in
     let x = c.in-Write in
-    came_named (λ (k : SysCall). piece_of k w.piece v s blocks w.caller None (c.write.new.log ++ rest)) w.call (Write x.fd x.i x.off x.bytes) (objects_of c.write.new.store)
+    came_named (λ (k : SysCall). piece_of k w.piece v s blocks w.caller None (c.write.new.log ++ rest)) w.call (Write x.fd x.i x.off x.bytes) (objects_of (λ b. (goal.Policy-dyn g (b.vtable, b.value)).seen b.value) c.write.new.store)
     (g.D.Disk.blocks c.write.new.disk) _ _ (length c.write.new.log) (length c.write.new.log) x.is refl
-    (subst (λ (bytes : List ℕ). CameTo (write_piece (file_block v (s.things.file w.caller x.fd) x.i x.off (length bytes)) v s blocks w.caller x.off bytes None (c.write.new.log ++ rest)) (objects_of c.write.new.store)
+    (subst (λ (bytes : List ℕ). CameTo (write_piece (file_block v (s.things.file w.caller x.fd) x.i x.off (length bytes)) v s blocks w.caller x.off bytes None (c.write.new.log ++ rest)) (objects_of (λ b. (goal.Policy-dyn g (b.vtable, b.value)).seen b.value) c.write.new.store)
     (g.D.Disk.blocks c.write.new.disk) c.write.result.gave (comes_after c.write.result.next (stage w.call w.piece)) (length c.write.new.log)) c.as_slice-in-Write.ensures.value (c.write.ensures.does blocks rest (stage w.call w.piece) tells))
 
 pub returns-in-Sync-clause-does : goal.returns-in-Sync-clause-does
 returns-in-Sync-clause-does g c =
     λ images blocks rest tells.
-    let s = objects_of c.args.store.now in
+    let s = objects_of (λ b. (goal.Policy-dyn g (b.vtable, b.value)).seen b.value) c.args.store.now in
     let w = c.args.work.now in
-    came_named (λ (k : SysCall). piece_of k w.piece (world_of_store c.args.store.now) s blocks w.caller None (c.sync.new.log ++ rest)) w.call Sync (objects_of c.sync.new.store)
+    came_named (λ (k : SysCall). piece_of k w.piece (world_of_store c.args.store.now) s blocks w.caller None (c.sync.new.log ++ rest)) w.call Sync (objects_of (λ b. (goal.Policy-dyn g (b.vtable, b.value)).seen b.value) c.sync.new.store)
     (g.D.Disk.blocks c.sync.new.disk) _ _ (length c.sync.new.log) (length c.sync.new.log) c.in-Sync.is refl (c.sync.ensures.does blocks rest (stage w.call w.piece) tells)
+
+pub returns-in-TakeLock-clause-does : goal.returns-in-TakeLock-clause-does
+returns-in-TakeLock-clause-does g c =
+    λ images blocks rest tells.
+    let s = objects_of (λ b. (goal.Policy-dyn g (b.vtable, b.value)).seen b.value) c.args.store.now in
+    let w = c.args.work.now in
+    came_named (λ (k : SysCall). piece_of k w.piece (world_of_store c.args.store.now) s blocks w.caller None (c.args.log.now ++ rest)) w.call (TakeLock c.in-TakeLock.u) (objects_of (λ b. (goal.Policy-dyn g (b.vtable, b.value)).seen b.value) c.take_lock.new.store)
+    (g.D.Disk.blocks c.args.disk.now) _ _ (length c.args.log.now) 0 c.in-TakeLock.is (ap length c.requires.fresh) (c.take_lock.ensures.does blocks _ (stage w.call w.piece) tells)
+
+pub returns-in-FreeLock-clause-does : goal.returns-in-FreeLock-clause-does
+returns-in-FreeLock-clause-does g c =
+    λ images blocks rest tells.
+    let s = objects_of (λ b. (goal.Policy-dyn g (b.vtable, b.value)).seen b.value) c.args.store.now in
+    let w = c.args.work.now in
+    came_named (λ (k : SysCall). piece_of k w.piece (world_of_store c.args.store.now) s blocks w.caller None (c.args.log.now ++ rest)) w.call (FreeLock c.in-FreeLock.u) (objects_of (λ b. (goal.Policy-dyn g (b.vtable, b.value)).seen b.value) c.free_lock.new.store)
+    (g.D.Disk.blocks c.args.disk.now) _ _ (length c.args.log.now) 0 c.in-FreeLock.is (ap length c.requires.fresh) (c.free_lock.ensures.does blocks _ (stage w.call w.piece) tells)
+
+pub returns-in-Poke-clause-does : goal.returns-in-Poke-clause-does
+returns-in-Poke-clause-does g c =
+    λ images blocks rest tells.
+    let s = objects_of (λ b. (goal.Policy-dyn g (b.vtable, b.value)).seen b.value) c.args.store.now in
+    let w = c.args.work.now in
+    came_named (λ (k : SysCall). piece_of k w.piece (world_of_store c.args.store.now) s blocks w.caller None (c.args.log.now ++ rest)) w.call (Poke c.in-Poke.k c.in-Poke.v) (objects_of (λ b. (goal.Policy-dyn g (b.vtable, b.value)).seen b.value) c.poke.new.store)
+    (g.D.Disk.blocks c.args.disk.now) _ _ (length c.args.log.now) 0 c.in-Poke.is (ap length c.requires.fresh) (c.poke.ensures.does blocks _ (stage w.call w.piece) tells)
+
+pub returns-in-Peek-clause-does : goal.returns-in-Peek-clause-does
+returns-in-Peek-clause-does g c =
+    λ images blocks rest tells.
+    let s = objects_of (λ b. (goal.Policy-dyn g (b.vtable, b.value)).seen b.value) c.args.store.now in
+    let w = c.args.work.now in
+    came_named (λ (k : SysCall). piece_of k w.piece (world_of_store c.args.store.now) s blocks w.caller None (c.args.log.now ++ rest)) w.call (Peek c.in-Peek.k) (objects_of (λ b. (goal.Policy-dyn g (b.vtable, b.value)).seen b.value) c.args.store.now)
+    (g.D.Disk.blocks c.args.disk.now) _ _ (length c.args.log.now) 0 c.in-Peek.is (ap length c.requires.fresh) (c.peek.ensures.does blocks _ (stage w.call w.piece) tells)
+
+pub returns-in-Tune-clause-does : goal.returns-in-Tune-clause-does
+returns-in-Tune-clause-does g c =
+    λ images blocks rest tells.
+    let s = objects_of (λ b. (goal.Policy-dyn g (b.vtable, b.value)).seen b.value) c.args.store.now in
+    let w = c.args.work.now in
+    came_named (λ (k : SysCall). piece_of k w.piece (world_of_store c.args.store.now) s blocks w.caller None (c.args.log.now ++ rest)) w.call (Tune c.in-Tune.kind c.in-Tune.k c.in-Tune.v) (objects_of (λ b. (goal.Policy-dyn g (b.vtable, b.value)).seen b.value) c.tune.new.store)
+    (g.D.Disk.blocks c.args.disk.now) _ _ (length c.args.log.now) 0 c.in-Tune.is (ap length c.requires.fresh) (c.tune.ensures.does blocks _ (stage w.call w.piece) tells)
+
+pub returns-in-Choose-clause-does : goal.returns-in-Choose-clause-does
+returns-in-Choose-clause-does g c =
+    λ images blocks rest tells.
+    let s = objects_of (λ b. (goal.Policy-dyn g (b.vtable, b.value)).seen b.value) c.args.store.now in
+    let w = c.args.work.now in
+    came_named (λ (k : SysCall). piece_of k w.piece (world_of_store c.args.store.now) s blocks w.caller None (c.args.log.now ++ rest)) w.call (Choose c.in-Choose.kind c.in-Choose.j) (objects_of (λ b. (goal.Policy-dyn g (b.vtable, b.value)).seen b.value) c.choose.new.store)
+    (g.D.Disk.blocks c.args.disk.now) _ _ (length c.args.log.now) 0 c.in-Choose.is (ap length c.requires.fresh) (c.choose.ensures.does blocks _ (stage w.call w.piece) tells)
+
+pub returns-in-Give-clause-does : goal.returns-in-Give-clause-does
+returns-in-Give-clause-does g c =
+    λ images blocks rest tells.
+    let s = objects_of (λ b. (goal.Policy-dyn g (b.vtable, b.value)).seen b.value) c.args.store.now in
+    let w = c.args.work.now in
+    came_named (λ (k : SysCall). piece_of k w.piece (world_of_store c.args.store.now) s blocks w.caller None (c.args.log.now ++ rest)) w.call (Give c.in-Give.q c.in-Give.kind c.in-Give.n) (objects_of (λ b. (goal.Policy-dyn g (b.vtable, b.value)).seen b.value) c.give.new.store)
+    (g.D.Disk.blocks c.args.disk.now) _ _ (length c.args.log.now) 0 c.in-Give.is (ap length c.requires.fresh) (c.give.ensures.does blocks _ (stage w.call w.piece) tells)
+
+pub returns-in-Install-clause-does : goal.returns-in-Install-clause-does
+returns-in-Install-clause-does g c =
+    λ images blocks rest tells.
+    let s = objects_of (λ b. (goal.Policy-dyn g (b.vtable, b.value)).seen b.value) c.args.store.now in
+    let w = c.args.work.now in
+    came_named (λ (k : SysCall). piece_of k w.piece (world_of_store c.args.store.now) s blocks w.caller None (c.args.log.now ++ rest)) w.call (Install c.in-Install.pt c.in-Install.image c.in-Install.limit) (objects_of (λ b. (goal.Policy-dyn g (b.vtable, b.value)).seen b.value) c.install.new.store)
+    (g.D.Disk.blocks c.args.disk.now) _ _ (length c.args.log.now) 0 c.in-Install.is (ap length c.requires.fresh) (c.install.ensures.does blocks _ (stage w.call w.piece) tells)
+
+pub returns-in-Remove-clause-does : goal.returns-in-Remove-clause-does
+returns-in-Remove-clause-does g c =
+    λ images blocks rest tells.
+    let s = objects_of (λ b. (goal.Policy-dyn g (b.vtable, b.value)).seen b.value) c.args.store.now in
+    let w = c.args.work.now in
+    came_named (λ (k : SysCall). piece_of k w.piece (world_of_store c.args.store.now) s blocks w.caller None (c.args.log.now ++ rest)) w.call (Remove c.in-Remove.pt) (objects_of (λ b. (goal.Policy-dyn g (b.vtable, b.value)).seen b.value) c.remove.new.store)
+    (g.D.Disk.blocks c.args.disk.now) _ _ (length c.args.log.now) 0 c.in-Remove.is (ap length c.requires.fresh) (c.remove.ensures.does blocks _ (stage w.call w.piece) tells)
+
+pub returns-in-Fund-clause-does : goal.returns-in-Fund-clause-does
+returns-in-Fund-clause-does g c =
+    λ images blocks rest tells.
+    let s = objects_of (λ b. (goal.Policy-dyn g (b.vtable, b.value)).seen b.value) c.args.store.now in
+    let w = c.args.work.now in
+    came_named (λ (k : SysCall). piece_of k w.piece (world_of_store c.args.store.now) s blocks w.caller None (c.args.log.now ++ rest)) w.call (Fund c.in-Fund.pt c.in-Fund.kind c.in-Fund.n) (objects_of (λ b. (goal.Policy-dyn g (b.vtable, b.value)).seen b.value) c.fund.new.store)
+    (g.D.Disk.blocks c.args.disk.now) _ _ (length c.args.log.now) 0 c.in-Fund.is (ap length c.requires.fresh) (c.fund.ensures.does blocks _ (stage w.call w.piece) tells)
+
+pub returns-in-Bill-clause-does : goal.returns-in-Bill-clause-does
+returns-in-Bill-clause-does g c =
+    λ images blocks rest tells.
+    let s = objects_of (λ b. (goal.Policy-dyn g (b.vtable, b.value)).seen b.value) c.args.store.now in
+    let w = c.args.work.now in
+    came_named (λ (k : SysCall). piece_of k w.piece (world_of_store c.args.store.now) s blocks w.caller None (c.args.log.now ++ rest)) w.call (Bill c.in-Bill.pt) (objects_of (λ b. (goal.Policy-dyn g (b.vtable, b.value)).seen b.value) c.bill.new.store)
+    (g.D.Disk.blocks c.args.disk.now) _ _ (length c.args.log.now) 0 c.in-Bill.is (ap length c.requires.fresh) (c.bill.ensures.does blocks _ (stage w.call w.piece) tells)

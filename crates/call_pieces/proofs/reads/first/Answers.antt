@@ -1,4 +1,18 @@
+use Rattle.std.proofs.Common.{◌++◌, length, ap, Option, Some, ◌∙◌}
+use Rattle.kernel_model.specs.declared.OpenRow.{OpenRow}
+use Rattle.kernel_model.specs.Needs.{file_block}
+use Rattle.kernel_state.specs.Stores.{world_of_store, objects_of}
+use Rattle.call_pieces.proofs.ReadLaws.{first_block}
 use Rattle.call_pieces.proofs.reads.first.Goals as goal
 
 pub first_at-requires-clause-opened : goal.first_at-requires-clause-opened
-first_at-requires-clause-opened g c = c.requires.sound.files c.args.p c.args.r.fd c.args.opened c.requires.file
+first_at-requires-clause-opened g c = c.requires.sound.fits.files c.args.p c.args.r.fd c.args.opened c.requires.file
+
+pub returns-in-Ok-clause-does : goal.returns-in-Ok-clause-does
+returns-in-Ok-clause-does g c =
+    λ blocks rest tells.
+    let s = c.args.store.now in
+    let r = c.args.r in
+    first_block (file_block (world_of_store s) (Some c.args.opened) r.i r.off r.len) c.in-Ok.b (world_of_store s) (objects_of (λ b. (goal.Policy-dyn g (b.vtable, b.value)).seen b.value) s) (objects_of (λ b. (goal.Policy-dyn g (b.vtable, b.value)).seen b.value) c.first_at.new.store) blocks c.args.p r.fd r.i r.off r.len
+    (length c.first_at.new.log) c.args.opened (c.first_at.new.log ++ rest) (g.D.Disk.blocks c.first_at.new.disk) _ _
+    (c.in-Ok.ensures.value ∙ ap (λ (x : Option OpenRow). file_block (world_of_store s) x r.i r.off r.len) c.requires.file) (c.first_at.ensures.does blocks rest tells)
