@@ -1,2 +1,3 @@
 pub mod Reading
 pub mod RoundTrips
+pub mod Splitting

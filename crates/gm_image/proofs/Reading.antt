@@ -62,15 +62,15 @@ Reads-all n bytes code pc rest h short =
     h.said ∙ rw e (ap Ok (append-nil code))
 
 -- a test that isn't passed
-not_below : (m n : ℕ) → n ≤ m → ltb m n ≡ false
+pub not_below : (m n : ℕ) → n ≤ m → ltb m n ≡ false
 not_below m n h = grind (arith, nat_tests)
 
 -- sizes within the limits
-few : (n d : ℕ) → n ≤ 1024 → d ≤ 4096 → is_too_large n d ≡ false
+pub few : (n d : ℕ) → n ≤ 1024 → d ≤ 4096 → is_too_large n d ≡ false
 few n d h g = rw (not_below 1024 n h) (rw (not_below 4096 d g) refl)
 
 -- a test that fails when it is turned round
-not_false : (b : Bool) → false ≡ not b → b ≡ true
+pub not_false : (b : Bool) → false ≡ not b → b ≡ true
 not_false true h = refl
 not_false false h = cc
 

@@ -1,4 +1,4 @@
-//! Raw images of graft code: their bytes, read and written (docs/FORMATS.md).
+//! Raw and sealed images of graft code: their bytes, read and written (docs/FORMATS.md).
 #![tactic(auto)]
 
 ghost use Rattle.std.specs.Prelude.{◌≡◌, ◌≤◌, ◌+◌, ◌*◌, ◌++◌, [], ◌∷◌, length, true, IfOk, IfErr, OnOk};
@@ -14,11 +14,13 @@ use std::marker::Model;
 use thiserror::Error;
 
 pub mod laws;
+mod sealed;
 #[cfg(test)]
 mod tests;
 
 pub use gm_isa::{Instr, Op};
 pub use kernel_model::NoMemory;
+pub use sealed::{SealedImage, read_sealed};
 
 /// The most instructions of an image.
 pub const MAX_CODE: u32 = 1024;

@@ -1,6 +1,6 @@
-//! Raw images both ways, and refused bytes, by docs/FORMATS.md.
+//! Raw images both ways, sealed images read, and refused bytes, by docs/FORMATS.md.
 
-use crate::{ImageFault, read_raw, write_raw};
+use crate::{ImageFault, read_raw, read_sealed, write_raw};
 use std::alloc::Global;
 use std::process::Abort;
 use std::test::Fail;
@@ -68,6 +68,81 @@ fn other_bytes_are_refused(rt: HostRuntime) -> Result<(), Fail> {
     ];
     for (bytes, fault) in rows {
         match read_raw(rt.alloc(), bytes) {
+            Ok(_) => assert!(rt; false, "{fault:?}"),
+            Err(said) => assert_eq!(rt; said, fault),
+        }
+    }
+    Ok(())
+}
+
+/// Two words of code, three data bytes, and a seal of 32 equal bytes.
+const SEALED: &[u8; 67] = b"VGR1\x01\x00\x00\x00\x02\x00\x00\x00\x03\x00\x00\x00\
+    12345678abcdefghxyz================================";
+
+#[test]
+fn a_sealed_image_has_its_parts(rt: HostRuntime) -> Result<(), Fail> {
+    let image = read_sealed(rt.alloc(), SEALED)?;
+    let words: [&[u8]; 2] = [b"12345678", b"abcdefgh"];
+    assert_eq!(rt; image.words().len(), 2);
+    for (word, wanted) in image.words().iter().zip(words) {
+        assert!(rt; word.as_slice() == wanted);
+    }
+    assert!(rt; image.body() == b"xyz".as_slice());
+    assert!(rt; image.seal().iter().all(|byte| *byte == b'='));
+    Ok(())
+}
+
+#[test]
+fn other_sealed_bytes_are_refused(rt: HostRuntime) -> Result<(), Fail> {
+    let alloc = rt.alloc();
+    for (head, size, fault) in [
+        (
+            b"VGR1\x01\x00\x00\x00\x00\x00\x00\x00\x00\x00\x00\x00",
+            47,
+            ImageFault::Length,
+        ),
+        (
+            b"VGR0\x01\x00\x00\x00\x00\x00\x00\x00\x00\x00\x00\x00",
+            48,
+            ImageFault::Magic,
+        ),
+        // The magic decides before the version, the version before the sizes, the sizes before the length.
+        (
+            b"VGR2\x07\x00\x00\x00\x00\x00\x00\x00\x00\x00\x00\x00",
+            48,
+            ImageFault::Magic,
+        ),
+        (
+            b"VGR1\x07\x00\x00\x00\xff\xff\xff\xff\x00\x00\x00\x00",
+            48,
+            ImageFault::Version,
+        ),
+        (
+            b"VGR1\x01\x00\x00\x00\x01\x04\x00\x00\x00\x00\x00\x00",
+            48,
+            ImageFault::TooLarge,
+        ),
+        (
+            b"VGR1\x01\x00\x00\x00\x00\x00\x00\x00\x01\x10\x00\x00",
+            48,
+            ImageFault::TooLarge,
+        ),
+        (
+            b"VGR1\x01\x00\x00\x00\x01\x00\x00\x00\x00\x00\x00\x00",
+            48,
+            ImageFault::Length,
+        ),
+        (
+            b"VGR1\x01\x00\x00\x00\x00\x00\x00\x00\x00\x00\x00\x00",
+            49,
+            ImageFault::Length,
+        ),
+    ] {
+        let mut bytes = Vec::from_slice(alloc, head)?;
+        for _ in 16..size {
+            bytes.push(0)?;
+        }
+        match read_sealed(alloc, bytes.as_slice()) {
             Ok(_) => assert!(rt; false, "{fault:?}"),
             Err(said) => assert_eq!(rt; said, fault),
         }

@@ -1,0 +1,61 @@
+-- Reading words of eight bytes, and the head of a sealed image.
+use Rattle.std.proofs.Common.{◌≡◌, ℕ, zero, suc, ◌+◌, ◌-◌, ◌*◌, ◌<◌, ◌≤◌, false, not, List, [], ◌∷◌, ◌++◌, length, take, drop, Ok, refl, sym, ap, ◌∙◌, append_assoc, arith, length-append, length-drop, codes}
+use Rattle.std.proofs.lemmas.List.{append-nil, drop-take}
+use Rattle.std.proofs.lemmas.Bool.{eq-eqb}
+use Rattle.kernel_model.specs.Bytes.{word_at}
+use Rattle.kernel_model.specs.World.{same_bytes}
+use Rattle.kernel_model.specs.Images.{is_too_large}
+use Rattle.gm_image.specs.Sealed.{words_of, parts_of, read_sealed}
+use Rattle.gm_image.proofs.Reading.{not_below, few, not_false}
+
+-- the first bytes of the first bytes
+take_fewer : (n k : ℕ) (xs : List ℕ) → n ≤ k → take n (take k xs) ≡ take n xs
+take_fewer zero k xs h = refl
+take_fewer (suc n) zero xs h = absurd (omega (arith, h))
+take_fewer (suc n) (suc k) [] h = refl
+take_fewer (suc n) (suc k) (x ∷ xs) h = ap (λ (ys : List ℕ). x ∷ ys) (take_fewer n k xs (omega (arith, h)))
+
+-- n words are read from the first 8n bytes
+pub words_of-take : (n : ℕ) (xs : List ℕ) → words_of n (take (8 * n) xs) ≡ words_of n xs
+words_of-take zero xs = refl
+words_of-take (suc n) xs =
+    let size : 8 * suc n ≡ 8 + 8 * n = omega arith in
+    let first : take 8 (take (8 * suc n) xs) ≡ take 8 xs = take_fewer 8 (8 * suc n) xs (omega arith) in
+    let rest : drop 8 (take (8 * suc n) xs) ≡ take (8 * n) (drop 8 xs) = rw size (drop-take 8 (8 * n) xs) in
+    rw (first, rest, words_of-take n (drop 8 xs)) refl
+
+-- the first of n words are these, and the rest are still to be read
+pub record Splits (n : ℕ) (bytes : List ℕ) (words : List (List ℕ)) (rest : List ℕ) : Type 0 where
+  pub said : words ++ words_of (n - length words) rest ≡ words_of n bytes
+  pub left : length rest + 8 * length words ≡ 8 * n
+
+-- the words that are left begin with one more
+one_more : (words : List (List ℕ)) (k m : ℕ) (rest : List ℕ) → k ≡ suc m
+    → (words ++ take 8 rest ∷ []) ++ words_of m (drop 8 rest) ≡ words ++ words_of k rest
+one_more words k m rest e = rw e (append_assoc words (take 8 rest ∷ []) (words_of m (drop 8 rest)))
+
+-- one more word is read
+pub Splits-more : (n : ℕ) (bytes : List ℕ) (words : List (List ℕ)) (rest : List ℕ) → Splits n bytes words rest → 8 ≤ length rest
+    → Splits n bytes (words ++ take 8 rest ∷ []) (drop 8 rest)
+Splits-more n bytes words rest h room =
+    let count : length (words ++ take 8 rest ∷ []) ≡ length words + 1 = length-append words (take 8 rest ∷ []) in
+    record {
+      said = rw count (one_more words (n - length words) (n - (length words + 1)) rest (omega (arith, h.left)) ∙ h.said);
+      left = omega (arith, h.left, length-drop 8 rest, count);
+    }
+
+-- no word is left
+pub Splits-all : (n : ℕ) (bytes : List ℕ) (words : List (List ℕ)) (rest : List ℕ) → Splits n bytes words rest → length rest < 8
+    → (words ≡ words_of n bytes) × (length words ≡ n)
+Splits-all n bytes words rest h short =
+    let none : n - length words ≡ 0 = omega (arith, h.left) in
+    (sym (append-nil words) ∙ rw none at h.said, omega (arith, h.left))
+
+-- a sealed image whose head, sizes and length are right is its parts
+pub read_sealed-parts : (bytes magic : List ℕ) (n d version : ℕ) → 48 ≤ length bytes → false ≡ not (same_bytes (take 4 bytes) magic)
+    → magic ≡ codes "VGR1" → version ≡ word_at bytes 4 → version ≡ 1 → n ≡ word_at bytes 8 → d ≡ word_at bytes 12 → n ≤ 1024 → d ≤ 4096
+    → length bytes ≡ 48 + 8 * n + d → read_sealed bytes ≡ Ok (parts_of n bytes)
+read_sealed-parts bytes magic n d version head same magic_is version_is one n_is d_is h g len =
+    let sized : length bytes ≡ 48 + 8 * word_at bytes 8 + word_at bytes 12 = omega (arith, len, n_is, d_is) in
+    let small : is_too_large (word_at bytes 8) (word_at bytes 12) ≡ false = few (word_at bytes 8) (word_at bytes 12) (omega (arith, h, n_is)) (omega (arith, g, d_is)) in
+    rw (not_below (length bytes) 48 head, read_sealed) (rw (rw magic_is at (not_false (same_bytes (take 4 bytes) magic) same)) (rw (eq-eqb (word_at bytes 4) 1 (sym version_is ∙ one)) (rw small (rw (eq-eqb (length bytes) (48 + 8 * word_at bytes 8 + word_at bytes 12) sized) (ap (λ (m : ℕ). Ok (parts_of m bytes)) (sym n_is))))))

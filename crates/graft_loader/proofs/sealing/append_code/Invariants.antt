@@ -1,0 +1,6 @@
+use Rattle.std.proofs.Common.{◌≡◌, ◌++◌, take}
+use Rattle.kernel_model.specs.Images.{code_bytes}
+use Rattle.graft_loader.proofs.sealing.append_code.Given as goal
+
+abbrev pub invariant-loop-instr : goal.invariant-loop-instr
+invariant-loop-instr l = l.out.items ≡ l.initial.out.items ++ code_bytes (take l.instr-index l.code)

@@ -1,0 +1,30 @@
+-- Words of the loader's parts, and what a loaded image keeps.
+use Rattle.std.specs.Prelude.{◌≡◌, ◌≤◌, ℕ, suc, true, false, List, [], ◌∷◌, length, Result, Ok, Err}
+use Rattle.std.specs.List.{list_all}
+use Rattle.kernel_model.specs.declared.Instr.{Instr}
+use Rattle.kernel_model.specs.Instructions.{decode, fits}
+use Rattle.kernel_model.specs.World.{Image, same_bytes}
+use Rattle.kernel_model.specs.Boxed.{IsBoxed}
+use Rattle.kernel_model.specs.Images.{LoadFault, Seal, hmac, with_first, image_with, verified}
+use Rattle.gm_image.specs.Sealed.{Parts}
+
+-- boxed code of at most 1,024 instructions, each of which can be encoded, and at most 4,096 data bytes
+pub record IsLoaded (i : Image) : Type 0 where
+  pub code_len : length i.code ≤ 1024
+  pub code_fits : list_all fits i.code ≡ true
+  pub boxed : IsBoxed i.code
+  pub body_len : length i.body ≤ 4096
+
+-- the instructions of words, the first of which has this number
+abbrev pub decoded_words : ℕ → List (List ℕ) → Result (List Instr) LoadFault
+decoded_words pc [] = Ok []
+decoded_words pc (word ∷ words) = with_first (decode word) pc (decoded_words (suc pc) words)
+
+-- the image of parts whose seal is right, or the first refusal
+abbrev pub unsealed : Parts → Result Image LoadFault
+unsealed p = verified (image_with p.body (decoded_words 0 p.words))
+
+-- the image of parts, whose seal is over this text, or the first refusal
+abbrev pub loaded : List ℕ → List ℕ → Result Parts LoadFault → Result Image LoadFault
+loaded key text (Err fault) = Err fault
+loaded key text (Ok p) = elim (same_bytes (hmac key text) p.seal) [ false ↦ Err Seal | true ↦ unsealed p ]

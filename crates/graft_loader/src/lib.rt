@@ -1,0 +1,221 @@
+//! The seal of images of graft code, and the loader: code and data of sealed bytes whose seal is right
+//! and whose code is boxed (docs/FORMATS.md).
+#![tactic(auto)]
+
+ghost use Rattle.std.specs.Prelude.{◌≡◌, ◌≤◌, ◌-◌, ◌++◌, [], ◌∷◌, length, true, take, Ok, IfOk, IfErr, OnOk};
+ghost use Rattle.std.specs.List.{list_all};
+ghost use Rattle.kernel_model.specs.Instructions.{fits};
+ghost use Rattle.kernel_model.specs.Boxed.{IsBoxed, box_fault};
+ghost use Rattle.kernel_model.specs.Images as spec;
+ghost use Rattle.graft_loader.specs.Faults.{Refuses, of_image, of_verifier};
+ghost use Rattle.gm_image.specs.Sealed as image;
+ghost use Rattle.graft_loader.specs.Loading.{IsLoaded, decoded_words, loaded, unsealed};
+
+use box_verify::{Verified, VerifyFault, verify};
+use gm_image::{ImageFault, SealedImage, read_sealed};
+use gm_isa::decode;
+use std::alloc::{AllocError, Global};
+use std::marker::Model;
+use thiserror::Error;
+
+mod mac;
+mod sealing;
+#[cfg(test)]
+mod tests;
+
+pub use gm_isa::{Instr, Op};
+pub use kernel_model::NoMemory;
+pub use mac::hmac;
+use mac::is_same;
+pub use sealing::seal;
+
+/// The bytes of a seal.
+const SEAL: usize = 32;
+
+/// Why bytes are no image that can be used, in the order in which it is decided; with the place of the
+/// first instruction that is refused.
+#[derive(Clone, Copy, PartialEq, Eq, Debug, Error)]
+pub enum LoadFault {
+    #[error("the length is not that of an image")]
+    Length,
+    #[error("the magic is not that of a sealed image")]
+    Magic,
+    #[error("the version is not known")]
+    Version,
+    #[error("more instructions or data bytes than an image may have")]
+    TooLarge,
+    #[error("the seal is not right")]
+    Seal,
+    #[error("instruction {0} does not decode")]
+    BadOp(u32),
+    #[error("instruction {0} names r14 or r15 outside a triple")]
+    Register(u32),
+    #[error("instruction {0} jumps past the code or into a triple")]
+    Jump(u32),
+    #[error("instruction {0} is an access outside a triple")]
+    Memory(u32),
+    #[error("instruction {0} calls an id above 15")]
+    Call(u32),
+    #[error("the last instruction is not ret, jmp or trap")]
+    End,
+    #[error("out of memory")]
+    NoMemory,
+}
+
+impl From<AllocError> for LoadFault {
+    ghost use Rattle.graft_loader.specs.declared.LoadFault.{LoadFault};
+
+    ghost from_gives = { λ _ e. e ≡ LoadFault.NoMemory };
+
+    fn from(_: AllocError) -> LoadFault {
+        LoadFault::NoMemory
+    }
+}
+
+/// The code and data of an image that was loaded: boxed code, within the limits of images.
+#[derive(Drop)]
+pub struct Loaded {
+    code: Verified,
+    body: Vec<u8>,
+}
+
+impl Model for Loaded {
+    ghost use Rattle.kernel_model.specs.World.{Image};
+    ghost use Rattle.graft_loader.specs.Loading.{IsLoaded};
+
+    ghost Value = { Image };
+
+    ghost view = { λ l. record { code = l.code; body = l.body.items } };
+
+    ghost invariant = { λ l. IsLoaded (record { code = l.code; body = l.body.items }) };
+}
+
+impl Loaded {
+    /// The code.
+    pub fn code(&self) -> &Verified
+        ensures code { result.now ≡ self.now.code }
+        ensures usable { IsLoaded self.now }
+    {
+        &self.code
+    }
+
+    /// The data bytes.
+    pub fn body(&self) -> &[u8]
+        ensures body { result.now ≡ self.now.body }
+        ensures usable { IsLoaded self.now }
+    {
+        self.body.as_slice()
+    }
+}
+
+fn push(code: &mut Vec<Instr>, instr: Instr) -> Result<(), LoadFault>
+    ensures ok { OnOk result (code.new.items ≡ code.old.items ++ instr ∷ []) }
+    ensures err { IfErr result (λ e. e ≡ LoadFault.NoMemory) }
+{
+    match code.push(instr) {
+        Ok(()) => Ok(()),
+        Err(_) => Err(LoadFault::NoMemory),
+    }
+}
+
+/// The instructions of words. `BadOp` has the place of the first that doesn't decode.
+fn decode_words(alloc: Global, words: &[[u8; 8]]) -> Result<Vec<Instr>, LoadFault>
+    requires { length words.now ≤ 1024 }
+    ensures ok { IfOk result (λ code. decoded_words 0 words.now ≡ Ok code.items) }
+    ensures code_len { IfOk result (λ code. length code.items ≤ 1024) }
+    ensures code_fits { IfOk result (λ code. list_all fits code.items ≡ true) }
+    ensures err { IfErr result (λ e. Refuses e (decoded_words 0 words.now)) }
+{
+    let mut code = Vec::with_capacity(alloc, words.len())?;
+    for (pc, word) in words.iter().enumerate() {
+        match decode(word) {
+            Ok(instr) => push(&mut code, instr)?,
+            Err(_) => return Err(LoadFault::BadOp(pc as u32)),
+        }
+    }
+    Ok(code)
+}
+
+/// What the verifier refuses, as a fault of the image.
+fn unboxed(fault: VerifyFault) -> LoadFault
+    ensures { result ≡ of_verifier fault }
+{
+    match fault {
+        VerifyFault::Register(pc) => LoadFault::Register(pc),
+        VerifyFault::Jump(pc) => LoadFault::Jump(pc),
+        VerifyFault::Memory(pc) => LoadFault::Memory(pc),
+        VerifyFault::Call(pc) => LoadFault::Call(pc),
+        VerifyFault::End => LoadFault::End,
+    }
+}
+
+/// What is refused of an image before its seal is looked at.
+fn unread(fault: ImageFault) -> LoadFault
+    ensures { result ≡ of_image fault }
+{
+    match fault {
+        ImageFault::Length => LoadFault::Length,
+        ImageFault::Magic => LoadFault::Magic,
+        ImageFault::Version => LoadFault::Version,
+        ImageFault::TooLarge => LoadFault::TooLarge,
+        ImageFault::BadOp(pc) => LoadFault::BadOp(pc),
+        ImageFault::NoMemory => LoadFault::NoMemory,
+    }
+}
+
+/// The image of parts whose seal is right.
+fn unseal(alloc: Global, image: &SealedImage) -> Result<Loaded, LoadFault>
+    ensures ok { IfOk result (λ l. unsealed image.now ≡ Ok l) }
+    ensures usable { IfOk result IsLoaded }
+    ensures err { IfErr result (λ e. Refuses e (unsealed image.now)) }
+{
+    let body = Vec::from_slice(alloc, image.body())?;
+    let code = decode_words(alloc, image.words())?;
+    match verify(code) {
+        Ok(code) => Ok(Loaded { code, body }),
+        Err(fault) => Err(unboxed(fault)),
+    }
+}
+
+/// What a seal is over: all bytes but the last 32.
+fn sealed_part(bytes: &[u8]) -> &[u8]
+    requires { 32 ≤ length bytes.now }
+    ensures { result.now ≡ image.sealed_part bytes.now }
+{
+    &bytes[..bytes.len() - SEAL]
+}
+
+/// The image of parts whose seal is to be over this text.
+fn check_seal(
+    alloc: Global,
+    key: &[u8; 32],
+    text: &[u8],
+    image: &SealedImage,
+) -> Result<Loaded, LoadFault>
+    ensures ok { IfOk result (λ l. loaded key.now text.now (Ok image.now) ≡ Ok l) }
+    ensures usable { IfOk result IsLoaded }
+    ensures err { IfErr result (λ e. Refuses e (loaded key.now text.now (Ok image.now))) }
+{
+    if is_same(&hmac(key, text), image.seal()) {
+        unseal(alloc, image)
+    } else {
+        Err(LoadFault::Seal)
+    }
+}
+
+/// The image of sealed bytes, or the first refusal: `Length` below 48 bytes, `Magic`, `Version`,
+/// `TooLarge`, `Length` where it isn't that of the two sizes, `Seal`, `BadOp` with the first instruction
+/// that doesn't decode; then the first place with `Register`, `Jump`, `Memory` or `Call`, in this order at
+/// one place; then `End`.
+///
+/// Comparing the seal takes the same steps whichever bytes differ.
+pub fn load(alloc: Global, key: &[u8; 32], bytes: &[u8]) -> Result<Loaded, LoadFault>
+    ensures ok { IfOk result (λ l. spec.load key.now bytes.now ≡ Ok l) }
+    ensures usable { IfOk result IsLoaded }
+    ensures err { IfErr result (λ e. Refuses e (spec.load key.now bytes.now)) }
+{
+    match read_sealed(alloc, bytes) {
+        Ok(image) => check_seal(alloc, key, sealed_part(bytes), &image),
+        Err(fault) => Err(unread(fault)),
+    }
+}

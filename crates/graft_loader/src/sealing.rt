@@ -1,0 +1,75 @@
+//! Sealed images, written.
+
+ghost use Rattle.std.specs.Prelude.{◌≡◌, ◌≤◌, ◌++◌, length, true, codes, OnOk, IfOk};
+ghost use Rattle.std.specs.List.{list_all};
+ghost use Rattle.kernel_model.specs.Instructions.{fits};
+ghost use Rattle.kernel_model.specs.Bytes.{word_bytes};
+ghost use Rattle.kernel_model.specs.Images as spec;
+
+use crate::mac::hmac;
+use gm_isa::{Instr, encode};
+use kernel_model::NoMemory;
+use std::alloc::Global;
+
+const MAGIC: &[u8; 4] = b"VGR1";
+
+/// The one version of sealed images.
+const VERSION: u32 = 1;
+
+fn append(out: &mut Vec<u8>, bytes: &[u8]) -> Result<(), NoMemory>
+    ensures { OnOk result (out.new.items ≡ out.old.items ++ bytes.now) }
+{
+    match out.extend_from_slice(bytes) {
+        Ok(()) => Ok(()),
+        Err(_) => Err(NoMemory),
+    }
+}
+
+/// Appends the four bytes of a number.
+fn append_word(out: &mut Vec<u8>, n: u32) -> Result<(), NoMemory>
+    ensures { OnOk result (out.new.items ≡ out.old.items ++ word_bytes n) }
+{
+    append(out, &n.to_le_bytes())
+}
+
+/// Appends the bytes of instructions.
+fn append_code(out: &mut Vec<u8>, code: &[Instr]) -> Result<(), NoMemory>
+    requires { list_all fits code.now ≡ true }
+    ensures { OnOk result (out.new.items ≡ out.old.items ++ spec.code_bytes code.now) }
+{
+    for instr in code {
+        append(out, &encode(instr))?;
+    }
+    Ok(())
+}
+
+/// What a seal is over.
+fn sealed_text(alloc: Global, code: &[Instr], body: &[u8]) -> Result<Vec<u8>, NoMemory>
+    requires code_len { length code.now ≤ 1024 }
+    requires code_fits { list_all fits code.now ≡ true }
+    requires body_len { length body.now ≤ 4096 }
+    ensures { IfOk result (λ bytes. bytes.items ≡ spec.sealed_text code.now body.now) }
+{
+    let mut out = Vec::new(alloc);
+    append(&mut out, MAGIC)?;
+    append_word(&mut out, VERSION)?;
+    append_word(&mut out, code.len() as u32)?;
+    append_word(&mut out, body.len() as u32)?;
+    append_code(&mut out, code)?;
+    append(&mut out, body)?;
+    Ok(out)
+}
+
+/// The bytes of the image of this code and data, sealed under a key. Whether the code is boxed isn't
+/// looked at.
+pub fn seal(alloc: Global, key: &[u8; 32], code: &[Instr], body: &[u8]) -> Result<Vec<u8>, NoMemory>
+    requires code_len { length code.now ≤ 1024 }
+    requires code_fits { list_all fits code.now ≡ true }
+    requires body_len { length body.now ≤ 4096 }
+    ensures { IfOk result (λ bytes. bytes.items ≡ spec.sealed_image key.now code.now body.now) }
+{
+    let mut out = sealed_text(alloc, code, body)?;
+    let seal = hmac(key, out.as_slice());
+    append(&mut out, &seal)?;
+    Ok(out)
+}
