@@ -1,4 +1,4 @@
-//! The callable list: the names by which graft code calls the kernel, and their ids
+//! The callable list: the names by which graft code calls the kernel, their ids, and the objects that they need
 //! (docs/FORMATS.md).
 #![tactic(auto)]
 
@@ -8,8 +8,12 @@ ghost use Rattle.kernel_model.specs.World.{same_bytes};
 ghost use Rattle.kernel_model.specs.Assembler.{callable_name, callable_id};
 
 pub mod laws;
+mod objects;
 #[cfg(test)]
 mod tests;
+
+pub use kernel_model::{Cause, Mode, Object};
+pub use objects::early;
 
 /// The names of the callable list, in the order of the ids.
 const NAMES: [&str; 16] = [

@@ -1,4 +1,6 @@
 mod ObjectNumbers
 mod MaskLemmas
+mod Used
+mod NotedLemmas
 mod Places
 mod Views

@@ -1,64 +1,50 @@
--- Lemmas on the list of masks and its places.
-use Rattle.std.proofs.Common.{◌≡◌, ◌≢◌, ℕ, ◌+◌, ◌-◌, ◌*◌, ◌<◌, ◌≤◌, Bool, true, false, cond, not, ◌&&◌, ◌==◌, nat_lt, nat_le, List, [], ◌∷◌, length, get_or, set, replicate, take, drop, ◌++◌, Some, None, find, refl, arith, ◌∙◌, sym, ap, suc, zero}
+-- Lemmas on lists of masks, on the numbers that are noted beside them, and on the search of the processes.
+use Rattle.std.proofs.Common.{◌≡◌, ◌≢◌, ℕ, ◌+◌, ◌-◌, ◌<◌, ◌≤◌, Bool, true, false, not, ◌&&◌, ◌==◌, List, [], ◌∷◌, length, get_or, replicate, take, drop, ◌++◌, Some, None, find, refl, arith, ◌∙◌, sym, ap, suc, zero}
 use Rattle.std.proofs.Math.Seq.{take-append_seam}
 use Rattle.std.proofs.lemmas.Bool.Decides.{nat_tests}
-use Rattle.std.proofs.lemmas.List.{get_or-set_same, get_or-set_other}
 use Rattle.kernel_model.specs.World.{processes}
 use Rattle.kernel_model.specs.declared.Held.{Held}
 use Rattle.lock_table.specs.declared.Holds.{Holds}
-use Rattle.lock_table.specs.Masks.{no_holds, held_by, levels_at, is_of}
-
--- a place among those from a place on
-abbrev pub is_among : (from count i : ℕ) → Bool
-is_among from count i = nat_le from i && nat_lt i (from + count)
-
--- the levels of so many places from one on are changed, and the other places are the same
-pub record Changed (f : (ℕ → Held) → ℕ → Held) (old new : List Holds) (from count : ℕ) : Type 0 where
-  pub done : (i e : ℕ) → is_among from count i ≡ true → levels_at new i e ≡ f (levels_at old i) e
-  pub rest : (i : ℕ) → is_among from count i ≡ false → get_or new i no_holds ≡ get_or old i no_holds
-
-pub begins : (f : (ℕ → Held) → ℕ → Held) (xs : List Holds) (from : ℕ) → Changed f xs xs from 0
-begins f xs from = record { done = λ i e h. grind (arith, nat_tests, h); rest = λ i h. refl }
-
--- one more place
-pub goes_on : (f : (ℕ → Held) → ℕ → Held) (old new : List Holds) (from n : ℕ) (h : Holds) → from + n < length new
-    → ((e : ℕ) → held_by h e ≡ f (levels_at new (from + n)) e) → Changed f old new from n → Changed f old (set new (from + n) h) from (n + 1)
-goes_on f old new from n h lt given c = record { done = λ i e among. at_place i e (i == from + n) refl among; rest = λ i among. elsewhere i among }
-  where
-    untouched_yet : get_or new (from + n) no_holds ≡ get_or old (from + n) no_holds
-    untouched_yet = c.rest (from + n) (grind (arith, nat_tests))
-
-    at_place : (i e : ℕ) (b : Bool) → (i == from + n) ≡ b → is_among from (n + 1) i ≡ true → levels_at (set new (from + n) h) i e ≡ f (levels_at old i) e
-    at_place i e true is among =
-        let here : i ≡ from + n = grind (arith, nat_tests, is) in
-        rw here (rw (get_or-set_same new (from + n) h no_holds lt) (given e ∙ ap (λ (x : Holds). f (held_by x) e) untouched_yet))
-    at_place i e false is among =
-        let other : i ≢ from + n = λ here. grind (arith, nat_tests, is, here) in
-        rw (get_or-set_other new (from + n) i h no_holds other) (c.done i e (grind (arith, nat_tests, is, among)))
-
-    elsewhere : (i : ℕ) → is_among from (n + 1) i ≡ false → get_or (set new (from + n) h) i no_holds ≡ get_or old i no_holds
-    elsewhere i among =
-        let other : i ≢ from + n = λ here. grind (arith, nat_tests, among, here) in
-        get_or-set_other new (from + n) i h no_holds other ∙ c.rest i (grind (arith, nat_tests, among))
-
--- all places of a process
-pub ends : (f : (ℕ → Held) → ℕ → Held) (old new : List Holds) (p : ℕ) → Changed f old new (421 * p) 421
-    → (i e : ℕ) → levels_at new i e ≡ cond (is_of p i) (f (levels_at old i) e) (levels_at old i e)
-ends f old new p c i e = go (is_of p i) refl
-  where
-    go : (b : Bool) → is_of p i ≡ b → levels_at new i e ≡ cond (is_of p i) (f (levels_at old i) e) (levels_at old i e)
-    go true h = rw h (c.done i e h)
-    go false h = rw h (ap (λ (x : Holds). held_by x e) (c.rest i h))
+use Rattle.lock_table.specs.Masks.{masks_of, levels_at, holds_at, no_holds}
+use Rattle.lock_table.proofs.Used.{free_levels, no_holds-unused}
 
 -- a list of one thing alone
-pub get_or-alike : (n i : ℕ) (h : Holds) → get_or (replicate n h) i h ≡ h
+get_or-alike : (n i : ℕ) (h : Holds) → get_or (replicate n h) i h ≡ h
 get_or-alike zero i h = refl
 get_or-alike (suc n) zero h = refl
 get_or-alike (suc n) (suc i) h = get_or-alike n i h
 
+pub alike : (n : ℕ) (xs : List Holds) → xs ≡ replicate n no_holds → (i : ℕ) → holds_at xs i ≡ no_holds
+alike n xs h i = rw h (get_or-alike n i no_holds)
+
 -- what is written through a list's own slice
-pub written : (new old : List Holds) (n : ℕ) → length new ≡ n → take n (new ++ drop (length new) old) ≡ new
+pub written : {X : Type 0} (new old : List X) (n : ℕ) → length new ≡ n → take n (new ++ drop (length new) old) ≡ new
 written new old n h = rw (sym h) (take-append_seam new (drop (length new) old))
+
+-- calls of which each holds nothing
+pub record IsFree (calls : List (List Holds)) : Type 0 where
+  pub free : (p n e : ℕ) → levels_at (masks_of calls p) n e ≡ Held.Free
+
+nothing_there : (n e : ℕ) → levels_at [] n e ≡ Held.Free
+nothing_there n e = free_levels no_holds no_holds-unused e
+
+pub none_free : IsFree []
+none_free = record { free = λ p n e. nothing_there n e }
+
+pub one_more_free : (calls : List (List Holds)) (masks : List Holds) → IsFree calls → ((n e : ℕ) → levels_at masks n e ≡ Held.Free) → IsFree (calls ++ masks ∷ [])
+one_more_free calls masks free h = record { free = go calls free.free }
+  where
+    go : (xs : List (List Holds)) → ((p n e : ℕ) → levels_at (masks_of xs p) n e ≡ Held.Free) → (p n e : ℕ) → levels_at (masks_of (xs ++ masks ∷ []) p) n e ≡ Held.Free
+    go [] none zero n e = h n e
+    go [] none (suc p) n e = nothing_there n e
+    go (x ∷ xs) none zero n e = none 0 n e
+    go (x ∷ xs) none (suc p) n e = go xs (λ q. none (suc q)) p n e
+
+-- an element of a list, whatever the default
+pub element : (xs : List (List Holds)) (p : ℕ) (x : List Holds) → p < length xs → x ≡ get_or xs p x → x ≡ masks_of xs p
+element [] p x lt is = absurd (omega (arith, lt))
+element (y ∷ xs) zero x lt is = is
+element (y ∷ xs) (suc p) x lt is = element xs p x (omega (arith, lt)) is
 
 -- ---- the search for the first of some numbers
 

@@ -1,9 +1,9 @@
 -- The table of holds as masks, and what each level of each process holds by them.
-use Rattle.std.specs.Prelude.{ℕ, ◌+◌, ◌*◌, ◌-◌, Bool, cond, not, ◌&&◌, ◌==◌, nat_lt, nat_le, List, [], ◌∷◌, slice_index_or, find, is_some}
+use Rattle.std.specs.Prelude.{ℕ, ◌-◌, Bool, cond, not, ◌&&◌, ◌||◌, ◌==◌, nat_lt, nat_le, List, [], ◌∷◌, slice_index_or, Option, find, is_some}
 use Rattle.std.specs.Int.{bit_at}
 use Rattle.kernel_model.specs.declared.Held.{Held}
 use Rattle.kernel_model.specs.declared.Mode.{Mode}
-use Rattle.kernel_model.specs.Locks.{LockTable, stronger, conflicts}
+use Rattle.kernel_model.specs.Locks.{LockTable, stronger, conflicts, is_held}
 use Rattle.kernel_model.specs.Objects.{at}
 use Rattle.lock_table.specs.declared.Holds.{Holds}
 use Rattle.lock_table.specs.Numbers.{number_of, is_in_range}
@@ -20,13 +20,21 @@ held_by h d = cond (has_level h.exclusive d) Held.Exclusive (cond (has_level h.s
 abbrev pub no_holds : Holds
 no_holds = record { shared = 0; exclusive = 0 }
 
--- how the levels of a place hold
-abbrev pub levels_at : List Holds → ℕ → ℕ → Held
-levels_at masks i d = held_by (slice_index_or masks i no_holds) d
+-- some level holds
+abbrev pub is_used : Holds → Bool
+is_used h = is_held (held_by h 0) || is_held (held_by h 1) || is_held (held_by h 2) || is_held (held_by h 3)
 
--- a place is one of the 421 of a process
-abbrev pub is_of : ℕ → ℕ → Bool
-is_of p i = nat_le (421 * p) i && nat_lt i (421 * p + 421)
+-- what the levels of one process hold of the object with a number, as masks
+abbrev pub holds_at : List Holds → ℕ → Holds
+holds_at masks n = slice_index_or masks n no_holds
+
+-- how they hold it
+abbrev pub levels_at : List Holds → ℕ → ℕ → Held
+levels_at masks n d = held_by (holds_at masks n) d
+
+-- the masks of one process
+abbrev pub masks_of : List (List Holds) → ℕ → List Holds
+masks_of calls p = slice_index_or calls p []
 
 -- what level d holds goes to the level outside it
 abbrev pub merged : ℕ → (ℕ → Held) → ℕ → Held
@@ -37,13 +45,13 @@ abbrev pub released : ℕ → (ℕ → Held) → ℕ → Held
 released d h e = cond (nat_le d e) Held.Free (h e)
 
 -- the table: what each level of each process holds of each object; nothing where a number is out of its range
-abbrev pub held : List Holds → LockTable
-held masks p d o = cond (nat_lt p 16 && is_in_range o) (levels_at masks (421 * p + number_of o) d) Held.Free
+abbrev pub held : List (List Holds) → LockTable
+held calls p d o = cond (nat_lt p 16 && is_in_range o) (levels_at (masks_of calls p) (number_of o) d) Held.Free
 
--- some level of process q holds the object with a number so that it conflicts with a mode
-abbrev pub hinders_at : List Holds → ℕ → Mode → ℕ → Bool
-hinders_at masks number mode q = is_some (find (λ d. conflicts (levels_at masks (421 * q + number) d) mode) (0 ∷ 1 ∷ 2 ∷ 3 ∷ []))
+-- the outermost level of one process whose hold on the object with a number conflicts with a mode
+abbrev pub conflicting_level : List Holds → ℕ → Mode → Option ℕ
+conflicting_level masks n mode = find (λ d. conflicts (levels_at masks n d) mode) (0 ∷ 1 ∷ 2 ∷ 3 ∷ [])
 
--- process q isn't p, and hinders
-abbrev pub is_other_hindering : List Holds → (p number : ℕ) → Mode → ℕ → Bool
-is_other_hindering masks p number mode q = not (q == p) && hinders_at masks number mode q
+-- process q isn't p, and some level of it hinders
+abbrev pub is_other_hindering : List (List Holds) → (p n : ℕ) → Mode → ℕ → Bool
+is_other_hindering calls p n mode q = not (q == p) && is_some (conflicting_level (masks_of calls q) n mode)

@@ -4,7 +4,7 @@ ghost use Rattle.std.specs.Prelude.{◌≡◌, ℕ, ◌-◌, ◌<◌, ◌==◌, 
 ghost use Rattle.std.specs.Prelude.{◌||◌};
 ghost use Rattle.kernel_model.specs.Locks.{conflicts, held_as, stronger};
 ghost use Rattle.kernel_model.specs.Objects.{at};
-ghost use Rattle.lock_table.specs.Masks.{has_level, held_by, merged, released};
+ghost use Rattle.lock_table.specs.Masks.{has_level, held_by, is_used, merged, released};
 
 use crate::Holds;
 use crate::masks::{has, outermost, outside, union, with, without};
@@ -15,6 +15,13 @@ pub(crate) const NO_HOLDS: Holds = Holds {
     shared: 0,
     exclusive: 0,
 };
+
+/// Whether some level holds.
+pub(crate) fn any_holds(holds: Holds) -> bool
+    ensures { result ≡ is_used holds }
+{
+    outermost(union(holds.shared, holds.exclusive)).is_some()
+}
 
 /// The outermost level whose hold conflicts with a mode.
 pub(crate) fn conflicting(holds: Holds, mode: Mode) -> Option<u8>

@@ -2,6 +2,7 @@
 //! object.
 #![tactic(auto)]
 
+mod call;
 pub mod laws;
 mod levels;
 mod masks;

@@ -1,10 +1,9 @@
 //! The numbers of objects.
 
-ghost use Rattle.std.specs.Prelude.{◌≡◌, ◌+◌, ◌*◌, ◌<◌};
+ghost use Rattle.std.specs.Prelude.{◌≡◌, ◌<◌};
 ghost use Rattle.kernel_model.specs.Laws.{IsInRange};
 ghost use Rattle.lock_table.specs.Numbers.{number_of};
 
-use crate::rows::place;
 use kernel_model::Object;
 
 const FIRST_ACCT: u16 = 256;
@@ -38,14 +37,4 @@ pub fn object_number(o: &Object) -> u16
         Object::Lock(u) => FIRST_LOCK + u as u16,
         Object::Pol(kind) => FIRST_POLICY + kind as u16,
     }
-}
-
-/// The place of an object's masks for a process in the list of all masks.
-pub(crate) fn place_of(p: u8, o: &Object) -> usize
-    requires process { p < 16 }
-    requires range { IsInRange o.now }
-    ensures value { result ≡ 421 * p + number_of o.now }
-    ensures inside { result < 6736 }
-{
-    place(p, object_number(o))
 }

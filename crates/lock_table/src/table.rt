@@ -1,16 +1,16 @@
 //! `LockTable`.
 
-ghost use Rattle.std.specs.Prelude.{◌≡◌, ◌<◌, IfOk};
+ghost use Rattle.std.specs.Prelude.{◌≡◌, ℕ, ◌<◌, length, find, is_some, IfOk};
+ghost use Rattle.kernel_model.specs.World.{processes};
 ghost use Rattle.kernel_model.specs.Laws.{IsInRange};
 ghost use Rattle.kernel_model.specs.Locks.{no_locks, lowest_holder, outermost_holding, with_touch, merge_level as level_merged, release_from as released_inward};
+ghost use Rattle.kernel_model.specs.declared.Held.TheVariants.{Free};
+ghost use Rattle.lock_table.specs.Masks.{conflicting_level, is_other_hindering, levels_at, masks_of};
 
-use crate::Holds;
-use crate::numbers::{object_number, place_of};
-use crate::rows::{
-    PLACES, conflicting_at, lowest_other, merge_all, nothing_held, release_all, touch_at,
-};
-use kernel_model::{Mode, NoMemory, Object};
-use std::alloc::Global;
+use crate::call::CallHolds;
+use crate::numbers::object_number;
+use kernel_model::{Mode, NoMemory, Object, PROCESSES};
+use std::alloc::{AllocError, Global};
 use std::marker::Model;
 
 /// What each level of each process's call holds of each object.
@@ -18,18 +18,53 @@ use std::marker::Model;
 /// Contracts see the masks, through `held`: a function from process, level and object to free, shared or exclusive.
 #[derive(Drop)]
 pub struct LockTable {
-    masks: Vec<Holds>,
+    calls: Vec<CallHolds>,
 }
 
 impl Model for LockTable {
     ghost use Rattle.std.specs.Prelude.{◌≡◌, List, length};
     ghost use Rattle.lock_table.specs.declared.Holds.{Holds};
 
-    ghost Value = { List Holds };
+    ghost Value = { List (List Holds) };
 
-    ghost view = { λ t. t.masks.items };
+    ghost view = { λ t. t.calls.items };
 
-    ghost invariant = { λ t. length t.masks.items ≡ 6736 };
+    ghost invariant = { λ t. length t.calls.items ≡ 16 };
+}
+
+/// So many calls that hold nothing.
+fn no_calls(alloc: Global, count: usize) -> Result<Vec<CallHolds>, AllocError>
+    ensures size { IfOk result (λ v. length v.items ≡ count) }
+    ensures free { IfOk result (λ v. (p n e : ℕ) → levels_at (masks_of v.items p) n e ≡ Free) }
+{
+    let mut calls = Vec::with_capacity(alloc, count)?;
+    while calls.len() < count {
+        calls.push(CallHolds::new(alloc)?)?;
+    }
+    Ok(calls)
+}
+
+/// Whether the hold of some level of process q conflicts with a mode.
+fn hinders(calls: &[CallHolds], q: u8, number: u16, mode: Mode) -> bool
+    requires process { q < length calls.now }
+    requires number { number < 421 }
+    ensures { result ≡ is_some (conflicting_level (masks_of calls.now q) number mode) }
+{
+    calls[q as usize].level_of(number, mode).is_some()
+}
+
+/// The lowest process but one of which some level hinders.
+fn lowest_other(calls: &[CallHolds], p: u8, number: u16, mode: Mode) -> Option<u8>
+    requires size { length calls.now ≡ 16 }
+    requires number { number < 421 }
+    ensures { result ≡ find (is_other_hindering calls.now p number mode) processes }
+{
+    for q in 0..PROCESSES as u8 {
+        if q != p && hinders(calls, q, number, mode) {
+            return Some(q);
+        }
+    }
+    None
 }
 
 impl LockTable {
@@ -39,8 +74,8 @@ impl LockTable {
     pub fn new(alloc: Global) -> Result<LockTable, NoMemory>
         ensures { IfOk result (λ t. held t ≡ no_locks) }
     {
-        match nothing_held(alloc, PLACES) {
-            Ok(masks) => Ok(LockTable { masks }),
+        match no_calls(alloc, PROCESSES) {
+            Ok(calls) => Ok(LockTable { calls }),
             Err(_) => Err(NoMemory),
         }
     }
@@ -50,7 +85,7 @@ impl LockTable {
         requires range { IsInRange o }
         ensures { result ≡ lowest_holder (held self.now) p o mode }
     {
-        lowest_other(&self.masks, p, object_number(&o), mode)
+        lowest_other(&self.calls, p, object_number(&o), mode)
     }
 
     /// The outermost level of process p whose hold on an object conflicts with a mode.
@@ -59,7 +94,8 @@ impl LockTable {
         requires range { IsInRange o }
         ensures { result ≡ outermost_holding o wanted (held self.now p) }
     {
-        conflicting_at(&self.masks, place_of(p, &o), wanted)
+        let call = &self.calls[p as usize];
+        call.level_of(object_number(&o), wanted)
     }
 
     /// A level of process p holds an object in a mode. Where it holds the object already, the stronger way stays.
@@ -69,7 +105,8 @@ impl LockTable {
         requires range { IsInRange o }
         ensures { held self.new ≡ with_touch p level o mode (held self.old) }
     {
-        touch_at(&mut self.masks, place_of(p, &o), level, mode);
+        let call = &mut self.calls[p as usize];
+        call.touch(object_number(&o), level, mode);
     }
 
     /// What a level of process p above level 0 holds goes to the level outside it. Where both hold an object, the
@@ -80,7 +117,8 @@ impl LockTable {
         requires depth { level < 4 }
         ensures { held self.new ≡ level_merged p level (held self.old) }
     {
-        merge_all(&mut self.masks, p, level);
+        let call = &mut self.calls[p as usize];
+        call.merge_level(level);
     }
 
     /// A level of process p and those further inward hold nothing.
@@ -89,6 +127,7 @@ impl LockTable {
         requires depth { level < 4 }
         ensures { held self.new ≡ released_inward p level (held self.old) }
     {
-        release_all(&mut self.masks, p, level);
+        let call = &mut self.calls[p as usize];
+        call.release_from(level);
     }
 }

@@ -1,7 +1,7 @@
-use Rattle.std.proofs.Common.{◌*◌}
+use Rattle.std.proofs.Common.{take}
 use Rattle.lock_table.specs.Masks.{released}
-use Rattle.lock_table.proofs.Places.{Changed}
+use Rattle.lock_table.proofs.NotedLemmas.{Changed}
 use Rattle.lock_table.proofs.rows.release_all.Given as goal
 
-abbrev pub invariant-loop-n : goal.invariant-loop-n
-invariant-loop-n l = Changed (released l.level) l.initial.masks l.masks (421 * l.p) l.n
+abbrev pub invariant-loop-number : goal.invariant-loop-number
+invariant-loop-number l = Changed (released l.level) l.initial.masks l.masks (take l.number-index l.numbers)

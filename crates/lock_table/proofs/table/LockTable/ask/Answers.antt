@@ -10,5 +10,5 @@ pub returns : goal.returns
 returns c =
     c.lowest_other.ensures ∙
     ap (λ (n : ℕ). find (is_other_hindering c.deref.result.now c.args.p n c.args.mode) processes) c.object_number.ensures.value ∙
-    ap (λ (xs : List Holds). find (is_other_hindering xs c.args.p (number_of c.args.o) c.args.mode) processes) (c.deref.ensures.value ∙ c.self.view_is) ∙
+    ap (λ (calls : List (List Holds)). find (is_other_hindering calls c.args.p (number_of c.args.o) c.args.mode) processes) (c.deref.ensures.value ∙ c.self.view_is) ∙
     ask_view c.args.self.now c.args.p c.args.o c.args.mode c.requires.range

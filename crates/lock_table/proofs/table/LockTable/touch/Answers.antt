@@ -1,14 +1,17 @@
-use Rattle.std.proofs.Common.{◌∙◌, ap, List}
-use Rattle.kernel_model.specs.Locks.{with_touch}
+use Rattle.std.proofs.Common.{◌∙◌, ◌<◌, ◌==◌, ◌&&◌, ℕ, cond, ap, length, List, arith}
+use Rattle.kernel_model.specs.Locks.{with_touch, stronger, held_as}
 use Rattle.lock_table.specs.declared.Holds.{Holds}
-use Rattle.lock_table.specs.Masks.{held}
-use Rattle.lock_table.proofs.Places.{written}
+use Rattle.lock_table.specs.Numbers.{number_of}
+use Rattle.lock_table.specs.Masks.{held, levels_at}
+use Rattle.lock_table.proofs.Places.{element}
 use Rattle.lock_table.proofs.Views.{touch_view}
 use Rattle.lock_table.proofs.table.LockTable.touch.Goals as goal
 
 pub returns : goal.returns
 returns c =
-    let place = c.place_of.ensures.value in
-    ap held (written c.touch_at.new.masks c.self.inside.masks.items _ (c.touch_at.auto.masks ∙ c.deref_mut.ensures.len)) ∙
-    touch_view c.deref_mut.result.now c.touch_at.new.masks c.args.p c.args.level c.place_of.result c.args.o c.args.mode c.requires.process c.requires.range place c.touch_at.ensures ∙
-    ap (λ (xs : List Holds). with_touch c.args.p c.args.level c.args.o c.args.mode (held xs)) (c.deref_mut.ensures.value ∙ c.self.view_is)
+    let inside : c.args.p < length c.self.inside.calls.items = omega (arith, c.requires.process, c.self.invariant) in
+    let own = element c.self.inside.calls.items c.args.p c.index_mut-call.result.now inside c.index_mut-call.ensures.value in
+    let now = λ (number : ℕ) (xs : List Holds) (n e : ℕ). cond (n == number && e == c.args.level) (stronger (levels_at xs n e) (held_as c.args.mode)) (levels_at xs n e) in
+    touch_view c.self.inside.calls.items c.touch.new.self c.args.p c.args.level c.args.o c.args.mode c.requires.process c.self.invariant c.requires.range
+    (λ n e. c.touch.ensures n e ∙ ap (λ (i : ℕ). now i c.index_mut-call.result.now n e) c.object_number.ensures.value ∙ ap (λ (xs : List Holds). now (number_of c.args.o) xs n e) own)
+    ∙ ap (λ (xs : List (List Holds)). with_touch c.args.p c.args.level c.args.o c.args.mode (held xs)) c.self.view_is

@@ -1,0 +1,87 @@
+//! `CallHolds`.
+
+ghost use Rattle.std.specs.Prelude.{◌≡◌, ℕ, ◌<◌, ◌&&◌, ◌==◌, cond, length, IfOk};
+ghost use Rattle.kernel_model.specs.Locks.{held_as, stronger};
+ghost use Rattle.kernel_model.specs.declared.Held.TheVariants.{Free};
+
+use crate::Holds;
+use crate::rows::{
+    OBJECTS, conflicting_at, forget_unused, merge_all, note, nothing_held, release_all, touch_at,
+};
+use arrayvec::ArrayVec;
+use kernel_model::Mode;
+use std::alloc::{AllocError, Global};
+use std::marker::Model;
+
+/// What the levels of one process's call hold of the objects, by the objects' numbers.
+///
+/// Contracts see the masks. The numbers of the objects that are held stand in a list beside them, so that all of these are
+/// found without a look at the others.
+#[derive(Drop)]
+pub(crate) struct CallHolds {
+    masks: Vec<Holds>,
+    numbers: ArrayVec<u16, OBJECTS>,
+}
+
+impl Model for CallHolds {
+    ghost use Rattle.std.specs.Prelude.{◌≡◌, List, length};
+    ghost use Rattle.lock_table.specs.declared.Holds.{Holds};
+    ghost use Rattle.lock_table.specs.Noted.{IsNoted};
+
+    ghost Value = { List Holds };
+
+    ghost view = { λ c. c.masks.items };
+
+    ghost invariant = { λ c. (length c.masks.items ≡ 421) × IsNoted c.masks.items c.numbers.items };
+}
+
+impl CallHolds {
+    ghost use Rattle.lock_table.specs.Masks.{conflicting_level, levels_at, merged, released};
+
+    /// Nothing is held.
+    pub(crate) fn new(alloc: Global) -> Result<CallHolds, AllocError>
+        ensures { IfOk result (λ c. (n e : ℕ) → levels_at c n e ≡ Free) }
+    {
+        let masks = nothing_held(alloc, OBJECTS)?;
+        Ok(CallHolds {
+            masks,
+            numbers: ArrayVec::new(),
+        })
+    }
+
+    /// The outermost level whose hold on an object conflicts with a mode.
+    pub(crate) fn level_of(&self, number: u16, wanted: Mode) -> Option<u8>
+        requires { number < 421 }
+        ensures { result ≡ conflicting_level self.now number wanted }
+    {
+        conflicting_at(&self.masks, number, wanted)
+    }
+
+    /// A level holds an object in a mode; where it held, the stronger way stays.
+    pub(crate) fn touch(&mut self, number: u16, level: u8, mode: Mode)
+        requires number { number < 421 }
+        requires depth { level < 4 }
+        ensures { (n e : ℕ) → levels_at self.new n e ≡ cond (n == number && e == level) (stronger (levels_at self.old n e) (held_as mode)) (levels_at self.old n e) }
+    {
+        note(&mut self.numbers, &self.masks, number);
+        touch_at(&mut self.masks, number, level, mode);
+    }
+
+    /// What a level above 0 holds goes to the level outside it.
+    pub(crate) fn merge_level(&mut self, level: u8)
+        requires inner { 0 < level }
+        requires depth { level < 4 }
+        ensures { (n e : ℕ) → levels_at self.new n e ≡ merged level (levels_at self.old n) e }
+    {
+        merge_all(&mut self.masks, &self.numbers, level);
+    }
+
+    /// A level and those further inward let go.
+    pub(crate) fn release_from(&mut self, level: u8)
+        requires { level < 4 }
+        ensures { (n e : ℕ) → levels_at self.new n e ≡ released level (levels_at self.old n) e }
+    {
+        release_all(&mut self.masks, &self.numbers, level);
+        forget_unused(&mut self.numbers, &self.masks);
+    }
+}
