@@ -1,0 +1,4 @@
+//! Laws of graft calls and of the histories that lead to them.
+#![tactic(auto)]
+
+pub mod alike;
