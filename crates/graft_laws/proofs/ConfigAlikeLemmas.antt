@@ -131,7 +131,7 @@ valid_alike PastEnd w u l same = tt
 -- ---- whole configs
 
 -- a process stands in a sound store's queue at most once
-once_in : (v : World) (s : Objects) → IsSoundStore v s → (q : ℕ) → IsOnceIn q s.things.queue
+pub once_in : (v : World) (s : Objects) → IsSoundStore v s → (q : ℕ) → IsOnceIn q s.things.queue
 once_in v s h q = subst (λ n. n ≤ 1) (sym (h.once q)) (once_most (lives s.things.queue q))
   where
     once_most : (b : Bool) → once_if b ≤ 1
@@ -269,7 +269,7 @@ drops_alike v c d n cause first second alike asks =
 -- ---- what levels hold of their points
 
 -- a level inside others
-asks_of_rest : (l : Level) (ls : List Level) → AsksAreHeld (l ∷ ls) → AsksAreHeld ls
+pub asks_of_rest : (l : Level) (ls : List Level) → AsksAreHeld (l ∷ ls) → AsksAreHeld ls
 asks_of_rest l [] asks = tt
 asks_of_rest l (m ∷ ls) asks = asks.1
 
@@ -285,7 +285,7 @@ answer_inside : (n : Level) (l : Level) (ks ls : List Level) → AreGrown ks (l 
 answer_inside n l [] ls grown held = absurd grown
 answer_inside n l (k ∷ ks) ls grown held = held
 
-shape_asks : (l : Level) (ls : List Level) (w : Things) (went : Bool) (after : List Level) → Shape l l.touched ls w went after → AsksAreHeld (l ∷ ls) → AsksAreHeld after
+pub shape_asks : (l : Level) (ls : List Level) (w : Things) (went : Bool) (after : List Level) → Shape l l.touched ls w went after → AsksAreHeld (l ∷ ls) → AsksAreHeld after
 shape_asks l ls w went after (Goes g h) asks = grown_asks after (l ∷ ls) h asks
 shape_asks l ls w went after (Begins n ks g e h new held) asks = subst AsksAreHeld (sym e) (asks_inside n ks held (grown_asks ks (l ∷ ls) h asks))
 shape_asks l ls w went after (Joins a b rest g e f h more) asks =
@@ -293,7 +293,7 @@ shape_asks l ls w went after (Joins a b rest g e f h more) asks =
 shape_asks l ls w went after (Ends g e) asks = subst AsksAreHeld (sym e) tt
 shape_asks l ls w went after (Falls g h) asks = grown_asks after ls h (asks_of_rest l ls asks)
 
-shape_answer : (l : Level) (ls : List Level) (w : Things) (went : Bool) (after : List Level) → Shape l l.touched ls w went after → AnswerIsHeld (l ∷ ls) → AnswerIsHeld after
+pub shape_answer : (l : Level) (ls : List Level) (w : Things) (went : Bool) (after : List Level) → Shape l l.touched ls w went after → AnswerIsHeld (l ∷ ls) → AnswerIsHeld after
 shape_answer l ls w went after (Goes g h) held = grown_answer_held after (l ∷ ls) h held
 shape_answer l ls w went after (Begins n ks g e h new _) held = subst AnswerIsHeld (sym e) (answer_inside n l ks ls h (grown_answer_held ks (l ∷ ls) h held))
 shape_answer l ls w went after (Joins a b rest g e f h more) held =

@@ -1,17 +1,18 @@
 -- Levels that go on: the same grafts, and all that they held.
-use Rattle.std.specs.Prelude.{◌≡◌, ℕ, suc, true, List, [], ◌∷◌, length, ⊤}
+use Rattle.std.specs.Prelude.{◌≡◌, ℕ, suc, Bool, true, false, List, [], ◌∷◌, length, ⊤}
 use Rattle.std.proofs.Common.{refl, subst, sym, ap, ◌∙◌, inl, inr}
 use Rattle.kernel_model.specs.declared.Held.{Held}
 use Rattle.kernel_model.specs.declared.Mode.{Mode}
 use Rattle.kernel_model.specs.declared.Object.{Object}
 use Rattle.kernel_model.specs.Policies.{kind_of}
-use Rattle.kernel_model.specs.Locks.{Touched, is_held}
-use Rattle.kernel_model.specs.Levels.{Level, touch_outermost, answer_innermost}
+use Rattle.kernel_model.specs.Locks.{Touched, is_held, is_held_exclusively}
+use Rattle.kernel_model.specs.Levels.{Level, touch_outermost, outermost_touched, answer_innermost}
+use Rattle.kernel_model.specs.InPlace.{is_changed_in}
 use Rattle.kernel_model.specs.Alike.{is_held_in}
 use Rattle.graft_laws.specs.Alike.{point_objects, answer_objects, AreHeldBy, AsksAreHeld, AnswerIsHeld}
 use Rattle.kernel_laws.proofs.LevelLemmas.{touch_holds}
 use Rattle.graft_laws.proofs.PointLemmas.{or_cases, or_left, or_right}
-use Rattle.graft_laws.proofs.HoldLemmas.{touch_held}
+use Rattle.graft_laws.proofs.HoldLemmas.{touch_held, exclusive_is}
 
 -- what is held so is held so in another way too
 pub record HoldsMore (t u : Touched) : Type 0 where
@@ -116,3 +117,34 @@ grown_answer_held [] (l ∷ ls) h held = absurd h
 grown_answer_held (n ∷ ns) [] h held = absurd h
 grown_answer_held (n ∷ []) (l ∷ k ∷ ls) h held = absurd h.1
 grown_answer_held (n ∷ m ∷ ns) (l ∷ []) h held = absurd h.1
+
+-- ---- what stays held exclusively
+
+pub grown_changed : (ns ls : List Level) (o : Object) → AreGrown ns ls → is_changed_in ls o ≡ true → is_changed_in ns o ≡ true
+grown_changed [] [] o h e = e
+grown_changed (n ∷ ns) (l ∷ ls) o h e = elim (or_cases (is_held_exclusively (l.touched o)) (is_changed_in ls o) e) [
+  | inl here ↦ or_left (is_held_exclusively (n.touched o)) (is_changed_in ns o) (ap is_held_exclusively (h.0.holds.exclusive o (exclusive_is (l.touched o) here)))
+  | inr outer ↦ or_right (is_held_exclusively (n.touched o)) (is_changed_in ns o) (grown_changed ns ls o h.1 outer)
+]
+grown_changed [] (l ∷ ls) o h e = absurd h
+grown_changed (n ∷ ns) [] o h e = absurd h
+
+pub grown_outermost : (ns ls : List Level) (o : Object) → AreGrown ns ls → outermost_touched ls o ≡ Held.Exclusive → outermost_touched ns o ≡ Held.Exclusive
+grown_outermost [] [] o h e = e
+grown_outermost (n ∷ []) (l ∷ []) o h e = h.0.holds.exclusive o e
+grown_outermost (n ∷ m ∷ ns) (l ∷ k ∷ ls) o h e = grown_outermost (m ∷ ns) (k ∷ ls) o h.1 e
+grown_outermost [] (l ∷ ls) o h e = absurd h
+grown_outermost (n ∷ ns) [] o h e = absurd h
+grown_outermost (n ∷ []) (l ∷ k ∷ ls) o h e = absurd h.1
+grown_outermost (n ∷ m ∷ ns) (l ∷ []) o h e = absurd h.1
+
+-- what isn't held exclusively wasn't before
+pub grown_unchanged : (ns ls : List Level) (o : Object) → AreGrown ns ls → is_changed_in ns o ≡ false → is_changed_in ls o ≡ false
+grown_unchanged ns ls o h e = unchanged_by (is_changed_in ls o) refl
+  where
+    contrary : true ≡ false → ⊥
+    contrary h = cc
+
+    unchanged_by : (b : Bool) → is_changed_in ls o ≡ b → b ≡ false
+    unchanged_by true f = absurd (contrary (sym (grown_changed ns ls o h f) ∙ e))
+    unchanged_by false f = refl

@@ -9,11 +9,17 @@ use Rattle.kernel_model.specs.declared.Op.{Op}
 use Rattle.kernel_model.specs.declared.Op.TheVariants.{Call, Ret}
 use Rattle.kernel_model.specs.declared.QueueRow.{QueueRow}
 use Rattle.kernel_model.specs.World.{World, ImageTable}
-use Rattle.kernel_model.specs.Objects.{Objects, Things, FrameValue}
-use Rattle.kernel_model.specs.Locks.{untouched}
+use Rattle.kernel_model.specs.Objects.{Objects, Things, FrameValue, same_object}
+use Rattle.kernel_model.specs.Locks.{touch, untouched}
 use Rattle.kernel_model.specs.Opening.{opening_things}
-use Rattle.kernel_model.specs.Levels.{Level, Config, drop_level}
+use Rattle.kernel_model.specs.Levels.{Level, Config, Charged, drop_level}
 use Rattle.kernel_model.specs.GraftStep.{micro}
+use Rattle.kernel_model.specs.Charges.{funds}
+use Rattle.kernel_model.specs.History.{effect}
+use Rattle.kernel_model.specs.InPlace.{is_changed_in}
+use Rattle.kernel_model.specs.declared.Kind.TheVariants.{Steps}
+use Rattle.kernel_model.specs.declared.Mode.{Mode}
+use Rattle.kernel_model.specs.declared.Object.TheVariants.{Graft}
 
 -- a world of the least size
 abbrev small_world : World
@@ -95,3 +101,36 @@ chooses_one w = record { now = with_grafts w; levels = level 5 1 w ∷ [] }
 unheld_answer_differs : ((micro small_world (image_of_one (instr Ret 0)) 0 (chooses_one (with_living (0 ∷ 1 ∷ [])))).said ≡ Micro.Completed (1 ∷ 1 ∷ 1 ∷ 1 ∷ []))
     × ((micro small_world (image_of_one (instr Ret 0)) 0 (chooses_one (with_living (0 ∷ [])))).said ≡ Micro.Dropped 0 0 5 (RefusedAnswer 1 1))
 unheld_answer_differs = (refl, refl)
+
+-- ---- what levels found, and what they hold
+
+-- what the innermost level found
+abbrev first_kept : List Level → Things
+first_kept [] = opening_things
+first_kept (l ∷ ls) = l.kept
+
+-- a level that changed a cell of 0 to 7, and asks another point
+abbrev asks_after_change : Config
+asks_after_change = record { now = with_grafts (with_cell 7); levels = level 4 0 (with_cell 0) ∷ [] }
+
+-- the level that begins finds the change
+outer_change_is_found : (first_kept (micro small_world (image_of_one (instr Call 15)) 0 asks_after_change).config.levels).cell 0 0 ≡ 7
+outer_change_is_found = refl
+
+-- a level that holds the graft of point 1 shared, as a piece that needs it so would
+abbrev shares_graft : Config
+shares_graft =
+    record {
+      now = with_grafts opening_things;
+      levels = record (level 5 0 opening_things) { touched = touch (Graft 0 1) Mode.Shared untouched } ∷ [];
+    }
+
+-- what the graft of point 1 has of steps
+abbrev steps_left : Option Config → ℕ
+steps_left None = 0
+steps_left (Some c) = funds c.now.accounts 0 1 Steps
+
+-- an effect that is made again changes it, though no level holds it exclusively
+shared_graft_is_charged : (steps_left (effect 0 (Charged 1 Steps) shares_graft) ≡ 9) × (is_changed_in shares_graft.levels (Graft 0 1) ≡ false)
+unfolding same_object
+shared_graft_is_charged = (refl, refl)

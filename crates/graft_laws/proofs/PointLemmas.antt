@@ -1,5 +1,5 @@
 -- What a point's objects tell.
-use Rattle.std.specs.Prelude.{◌≡◌, ℕ, ◌==◌, ◌||◌, not, nat_lt, Bool, true, false, cond, List, [], ◌∷◌, ◌++◌, length, is_some, None}
+use Rattle.std.specs.Prelude.{◌≡◌, ℕ, ◌==◌, ◌&&◌, ◌||◌, not, nat_lt, Bool, true, false, cond, List, [], ◌∷◌, ◌++◌, length, is_some, None}
 use Rattle.std.specs.List.{AllByRecursion as Each}
 use Rattle.std.proofs.Common.{◌⊎◌, arith, refl, subst, sym, ap, ◌∙◌, inl, inr}
 use Rattle.std.proofs.lemmas.Bool.Decides.{nat_tests}
@@ -14,7 +14,7 @@ use Rattle.kernel_model.specs.Policies.{PointKind, Ahead, Victim, Next, kind_of,
 use Rattle.kernel_model.specs.Access.{early_refusal, needed, asked_point, asked_objects}
 use Rattle.kernel_model.specs.Levels.{Level}
 use Rattle.kernel_model.specs.GraftStep.{is_vain_ask}
-use Rattle.kernel_model.specs.Alike.{is_needed, is_held_in}
+use Rattle.kernel_model.specs.Alike.{is_exclusive, is_needed, is_needed_exclusively, is_held_in}
 use Rattle.graft_laws.specs.Alike.{point_objects, answer_objects, AreHeldBy}
 
 -- things have the same values of each of these objects
@@ -119,3 +119,23 @@ needed_before o (k ∷ ns) n h = elim (or_cases (same_object o k.object) (is_nee
 pub needed_last : (ns : List Need) (n : Need) → is_needed n.object (ns ++ n ∷ []) ≡ true
 needed_last [] n = needed_here n []
 needed_last (k ∷ ns) n = needed_later n.object k (ns ++ n ∷ []) (needed_last ns n)
+
+-- what is needed of such a list
+pub needed_cases : (o : Object) (ns : List Need) (n : Need) → is_needed o (ns ++ n ∷ []) ≡ true → (is_needed o ns ≡ true) ⊎ (same_object o n.object ≡ true)
+needed_cases o [] n h = elim (or_cases (same_object o n.object) false h) [ inl same ↦ inr same | inr none ↦ absurd cc ]
+needed_cases o (k ∷ ns) n h = elim (or_cases (same_object o k.object) (is_needed o (ns ++ n ∷ [])) h) [
+  | inl here ↦ inl (or_left (same_object o k.object) (is_needed o ns) here)
+  | inr later ↦ elim (needed_cases o ns n later) [ inl before ↦ inl (or_right (same_object o k.object) (is_needed o ns) before) | inr same ↦ inr same ]
+]
+
+-- the same of what is needed exclusively
+pub taken_before : (o : Object) (ns : List Need) (n : Need) → is_needed_exclusively o ns ≡ true → is_needed_exclusively o (ns ++ n ∷ []) ≡ true
+taken_before o [] n h = absurd cc
+taken_before o (k ∷ ns) n h = elim (or_cases (is_exclusive k.mode && same_object o k.object) (is_needed_exclusively o ns) h) [
+  | inl here ↦ or_left (is_exclusive k.mode && same_object o k.object) (is_needed_exclusively o (ns ++ n ∷ [])) here
+  | inr later ↦ or_right (is_exclusive k.mode && same_object o k.object) (is_needed_exclusively o (ns ++ n ∷ [])) (taken_before o ns n later)
+]
+
+pub taken_last : (ns : List Need) (n : Need) → is_exclusive n.mode ≡ true → is_needed_exclusively n.object (ns ++ n ∷ []) ≡ true
+taken_last [] n e = ap (λ b. b && same_object n.object n.object || false) e ∙ ap (λ b. b || false) (same_object_self n.object)
+taken_last (k ∷ ns) n e = or_right (is_exclusive k.mode && same_object n.object k.object) (is_needed_exclusively n.object (ns ++ n ∷ [])) (taken_last ns n e)

@@ -1,6 +1,7 @@
 -- What an instruction makes of the levels: they go on, one begins, one answers its asker, or one is gone.
-use Rattle.std.specs.Prelude.{◌≡◌, ℕ, ◌+◌, ◌==◌, Bool, true, false, cond, List, [], ◌∷◌, ◌++◌, length, Option, Some, None, is_some}
+use Rattle.std.specs.Prelude.{◌≡◌, ℕ, ◌+◌, ◌==◌, ◌||◌, Bool, true, false, cond, List, [], ◌∷◌, ◌++◌, length, Option, Some, None, is_some}
 use Rattle.std.proofs.Common.{◌⊎◌, refl, subst, sym, ap, ◌∙◌, inl, inr}
+use Rattle.kernel_model.specs.declared.Held.{Held}
 use Rattle.kernel_model.specs.declared.Kind.{Kind}
 use Rattle.kernel_model.specs.declared.Kind.TheVariants.{Steps, Records, Locks}
 use Rattle.kernel_model.specs.declared.Cause.{Cause}
@@ -8,6 +9,7 @@ use Rattle.kernel_model.specs.declared.Cause.TheVariants.{SpentSteps, SpentRecor
 use Rattle.kernel_model.specs.declared.Inverse.{Inverse}
 use Rattle.kernel_model.specs.declared.Need.{Need}
 use Rattle.kernel_model.specs.declared.Object.{Object}
+use Rattle.kernel_model.specs.declared.Object.TheVariants.{Graft}
 use Rattle.kernel_model.specs.World.{World, ImageTable}
 use Rattle.kernel_model.specs.Objects.{Objects, Accounts, Things, GraftValue, with_accounts}
 use Rattle.kernel_model.specs.SameObject.{same_object_is}
@@ -15,16 +17,18 @@ use Rattle.kernel_model.specs.Machine.{Machine, Done, Called, Returned, Trapped,
 use Rattle.kernel_model.specs.Policies.{valid, kind_of, default_of, args_by}
 use Rattle.kernel_model.specs.Charges.{funds, taken_from, charge, charge_by, charge_account, charge_graft, removed, removed_by}
 use Rattle.kernel_model.specs.Access.{Access, Gives, Changes, Refuses, access, early_refusal, is_ask, accessed, asked_point, asked_objects, asked_graft}
-use Rattle.kernel_model.specs.Locks.{Touched, is_held, joined, untouched, touch_all}
-use Rattle.kernel_model.specs.Levels.{Level, Effect, Asked, Charged, Outcome, is_going_on, code_of, goes_on, with_effect, new_level, with_machine, with_touched, touch_outermost, answered, answer_innermost, drop_innermost}
+use Rattle.kernel_model.specs.Locks.{is_held_exclusively, Touched, is_held, joined, untouched, touch_all}
+use Rattle.kernel_model.specs.Levels.{Level, Effect, Asked, Charged, Outcome, is_going_on, code_of, goes_on, with_effect, new_level, with_machine, with_touched, touch_outermost, outermost_touched, answered, answer_innermost, drop_innermost}
 use Rattle.kernel_model.specs.GraftStep.{after_access, is_lock_due, lock_paid, after_result, is_record_spent, after_change, after_accessor, ask_refusal, ask_answered, after_ask, granted_call, after_call, completed, after_return, after_machine, is_spent, charged_step, micro_on, call_needs, instruction_needs, next_needs}
-use Rattle.kernel_model.specs.Alike.{is_needed, is_held_in}
+use Rattle.kernel_model.specs.InPlace.{is_changed_in}
+use Rattle.kernel_model.specs.Alike.{is_needed, is_needed_exclusively, is_held_in}
 use Rattle.kernel_laws.proofs.StoreLemmas.{found_at}
 use Rattle.kernel_laws.proofs.LevelLemmas.{touch_all_holds, stronger_left, stronger_right}
 use Rattle.graft_laws.specs.Alike.{point_objects, AreHeldBy}
-use Rattle.graft_laws.proofs.PointLemmas.{or_cases, or_left, or_right, needed_before, needed_last, asked_each}
-use Rattle.graft_laws.proofs.HoldLemmas.{stronger_held, stronger_with, stronger_from, touch_all_held, touch_all_gives, touch_all_from, touch_outermost_from}
-use Rattle.graft_laws.proofs.GrownLemmas.{HoldsMore, GrowsFrom, AreGrown, holds_self, grown_self, grown_then, grown_answer, grown_touch, grown_held}
+use Rattle.graft_laws.proofs.PointLemmas.{or_cases, or_left, or_right, needed_before, needed_last, taken_before, taken_last, needed_cases, asked_each}
+use Rattle.graft_laws.proofs.HoldLemmas.{stronger_held, stronger_with, stronger_from, touch_all_held, touch_all_gives, stronger_changed, touch_all_from, touch_all_changed, touch_outermost_from, touch_outermost_changed, touch_outermost_takes, touch_outermost_outer, outermost_inside, changed_held}
+use Rattle.graft_laws.proofs.GrownLemmas.{HoldsMore, GrowsFrom, AreGrown, holds_self, grown_self, grown_then, grown_answer, grown_touch, grown_held, grown_outermost}
+use Rattle.graft_laws.proofs.RangeLemmas.{no_graft, no_graft_asked}
 use Rattle.graft_laws.proofs.CalledLemmas.{called_in, step_calls}
 
 -- ---- shapes
@@ -53,6 +57,10 @@ pub data Shape (l : Level) (t : Touched) (ls : List Level) (w : Things) (went : 
 abbrev pub IsHeldFrom : List Need → (before after : List Level) → Type 0
 IsHeldFrom ns before after = (o : Object) → is_held_in after o ≡ true → (is_held_in before o ≡ true) ⊎ (is_needed o ns ≡ true)
 
+-- what is held exclusively afterwards was held so, or is needed so
+abbrev pub IsChangedFrom : List Need → (before after : List Level) → Type 0
+IsChangedFrom ns before after = (o : Object) → is_changed_in after o ≡ true → (is_changed_in before o ≡ true) ⊎ (is_needed_exclusively o ns ≡ true)
+
 -- a graft that stands stood before
 abbrev pub StandsFrom : (a b : Accounts) → Type 0
 StandsFrom a b = (q pt : ℕ) → is_some (b.graft q pt) ≡ true → is_some (a.graft q pt) ≡ true
@@ -62,10 +70,14 @@ pub record Turn (w : Objects) (l : Level) (ls : List Level) (ns : List Need) (o 
   pub shape : Shape l l.touched ls o.config.now.things (is_going_on o.said) o.config.levels
   pub held : IsHeldFrom ns (l ∷ ls) o.config.levels
   pub stands : StandsFrom w.accounts o.config.now.accounts
+  pub changed : IsChangedFrom ns (l ∷ ls) o.config.levels
+  -- where the call goes on, what it needs is held afterwards, and a graft by level 0 exclusively
+  pub gets : is_going_on o.said ≡ true → (a : Object) → is_needed a ns ≡ true → is_held_in o.config.levels a ≡ true
+  pub outer : is_going_on o.said ≡ true → (q pt : ℕ) → is_needed (Graft q pt) ns ≡ true → outermost_touched o.config.levels (Graft q pt) ≡ Held.Exclusive
 
 -- ---- grafts that stand
 
-charged_stood : (k : Kind) (q pt : ℕ) (a : Accounts) → StandsFrom a (charge k q pt a)
+pub charged_stood : (k : Kind) (q pt : ℕ) (a : Accounts) → StandsFrom a (charge k q pt a)
 charged_stood k q pt a = λ r pu h. stood_by (a.graft q pt) refl r pu h
   where
     stood_if : (billed : Bool) (g : GraftValue) → a.graft q pt ≡ Some g →
@@ -80,7 +92,7 @@ charged_stood k q pt a = λ r pu h. stood_by (a.graft q pt) refl r pu h
     stood_by None e = λ r pu h. h
     stood_by (Some g) e = stood_if g.billed g e
 
-removed_stood : (q pt : ℕ) (a : Accounts) → StandsFrom a (removed q pt a)
+pub removed_stood : (q pt : ℕ) (a : Accounts) → StandsFrom a (removed q pt a)
 removed_stood q pt a = λ r pu h. stood_by (a.graft q pt) r pu h
   where
     stood_by : (g : Option GraftValue) → StandsFrom a (removed_by q pt g a)
@@ -93,17 +105,26 @@ removed_stood q pt a = λ r pu h. stood_by (a.graft q pt) r pu h
 -- ---- turns
 
 effect_turn : (e : Effect) (w : Objects) (l : Level) (ls : List Level) (ns : List Need) (o : Outcome) → Turn w l ls ns o → Turn w l ls ns (with_effect e o)
-effect_turn e w l ls ns o h = record { shape = h.shape; held = h.held; stands = h.stands }
+effect_turn e w l ls ns o h = record { shape = h.shape; held = h.held; stands = h.stands; changed = h.changed; gets = h.gets; outer = h.outer }
 
 -- after a charge of the innermost level's graft
 charged_turn : (k : Kind) (w : Objects) (l : Level) (ls : List Level) (ns : List Need) (o : Outcome) →
     Turn (with_accounts (charge k l.owner l.point w.accounts) w) l ls ns o → Turn w l ls ns o
-charged_turn k w l ls ns o h = record { shape = h.shape; held = h.held; stands = λ q pt e. charged_stood k l.owner l.point w.accounts q pt (h.stands q pt e) }
+charged_turn k w l ls ns o h =
+    record {
+      shape = h.shape;
+      held = h.held;
+      stands = λ q pt e. charged_stood k l.owner l.point w.accounts q pt (h.stands q pt e);
+      changed = h.changed;
+      gets = h.gets;
+      outer = h.outer;
+    }
 
 -- the innermost level goes on
 pub goes_turn : (w x : Objects) (l n : Level) (ls : List Level) (ns : List Need) → GrowsFrom n l →
-    ((o : Object) → is_held (n.touched o) ≡ true → (is_held (l.touched o) ≡ true) ⊎ (is_needed o ns ≡ true)) → StandsFrom w.accounts x.accounts → Turn w l ls ns (goes_on x (n ∷ ls))
-goes_turn w x l n ls ns grows from stands =
+    ((o : Object) → is_held (n.touched o) ≡ true → (is_held (l.touched o) ≡ true) ⊎ (is_needed o ns ≡ true)) → StandsFrom w.accounts x.accounts →
+    ((o : Object) → is_needed o ns ≡ true → is_held (n.touched o) ≡ true) → IsChangedFrom ns (l ∷ []) (n ∷ []) → ((q pt : ℕ) → is_needed (Graft q pt) ns ≡ true → ⊥) → Turn w l ls ns (goes_on x (n ∷ ls))
+goes_turn w x l n ls ns grows from stands gets changed none =
     record {
       shape = Goes refl (grows, grown_self ls);
       held = λ o h. elim (or_cases (is_held (n.touched o)) (is_held_in ls o) h) [
@@ -111,7 +132,28 @@ goes_turn w x l n ls ns grows from stands =
         | inr outer ↦ inl (or_right (is_held (l.touched o)) (is_held_in ls o) outer)
       ];
       stands = stands;
+      gets = λ e o h. or_left (is_held (n.touched o)) (is_held_in ls o) (gets o h);
+      changed = λ o h. elim (or_cases (is_held_exclusively (n.touched o)) (is_changed_in ls o) h) [
+        | inl here ↦ elim (changed o (or_left (is_held_exclusively (n.touched o)) false here)) [
+          | inl before ↦ inl (or_left (is_held_exclusively (l.touched o)) (is_changed_in ls o) (first_changed (l.touched o) before))
+          | inr needs ↦ inr needs
+        ]
+        | inr outer ↦ inl (or_right (is_held_exclusively (l.touched o)) (is_changed_in ls o) outer)
+      ];
+      outer = λ e q pt h. absurd (none q pt h);
     }
+  where
+    first_changed : (h : Held) → (is_held_exclusively h || false) ≡ true → is_held_exclusively h ≡ true
+    first_changed Held.Free e = e
+    first_changed Held.Shared e = e
+    first_changed Held.Exclusive e = e
+
+-- a call that ended doesn't go on
+pub not_going : {A : Type 0} → false ≡ true → A
+not_going h = absurd (contrary h)
+  where
+    contrary : false ≡ true → ⊥
+    contrary h = cc
 
 -- a touch of these objects
 touches : (l n : Level) (ns : List Need) → n.owner ≡ l.owner → n.point ≡ l.point → n.args ≡ l.args → n.kept ≡ l.kept → n.touched ≡ touch_all ns l.touched → GrowsFrom n l
@@ -124,6 +166,16 @@ touches l n ns owner point args kept touched =
       holds = subst (λ t. HoldsMore t l.touched) (sym touched) (record { held = λ o h. touch_all_held ns l.touched o h; exclusive = λ o h. touch_all_holds ns l.touched o h });
     }
 
+-- what is held exclusively after a touch
+touched_from : (ns : List Need) (l n : Level) (o : Object) → n.touched ≡ touch_all ns l.touched → is_changed_in (n ∷ []) o ≡ true → (is_changed_in (l ∷ []) o ≡ true) ⊎ (is_needed_exclusively o ns ≡ true)
+touched_from ns l n o e h = elim (or_cases (is_held_exclusively (n.touched o)) false h) [
+  | inl here ↦ elim (touch_all_changed ns l.touched o (ap (λ (t : Touched). is_held_exclusively (t o)) (sym e) ∙ here)) [
+    | inl before ↦ inl (or_left (is_held_exclusively (l.touched o)) false before)
+    | inr needs ↦ inr needs
+  ]
+  | inr none ↦ absurd cc
+]
+
 module _ (v : World) where
   drop_turn : (w : Objects) (l : Level) (ls : List Level) (ns : List Need) (cause : Cause) → Turn w l ls ns (drop_innermost v w l ls cause)
   drop_turn w l ls ns cause =
@@ -132,8 +184,15 @@ module _ (v : World) where
         shape = Falls refl (grown_answer l.point d.0 d.1 ls);
         held = λ o h. inl (or_right (is_held (l.touched o)) (is_held_in ls o) (answered_held l.point d.0 d.1 ls o h));
         stands = removed_stood l.owner l.point w.accounts;
+        gets = λ e. not_going e;
+        changed = λ o h. inl (or_right (is_held_exclusively (l.touched o)) (is_changed_in ls o) (answered_changed l.point d.0 d.1 ls o h));
+        outer = λ e. not_going e;
       }
     where
+      answered_changed : (pt r0 r1 : ℕ) (ls : List Level) (o : Object) → is_changed_in (answer_innermost pt r0 r1 ls) o ≡ true → is_changed_in ls o ≡ true
+      answered_changed pt r0 r1 [] o h = h
+      answered_changed pt r0 r1 (k ∷ ls) o h = h
+
       answered_held : (pt r0 r1 : ℕ) (ls : List Level) (o : Object) → is_held_in (answer_innermost pt r0 r1 ls) o ≡ true → is_held_in ls o ≡ true
       answered_held pt r0 r1 [] o h = h
       answered_held pt r0 r1 (k ∷ ls) o h = h
@@ -147,6 +206,7 @@ module _ (v : World) where
       let ns = accessed id (l.machine.regs 0) l.owner ∷ [] in
       let n = record (after_access l m id result) { records = is } in
       goes_turn w x l n ls ns (touches l n ns refl refl refl refl refl) (λ o h. touch_all_from ns l.touched o h) stands
+      (λ o h. touch_all_gives ns l.touched o h) (λ o h. touched_from ns l n o refl h) (λ q pt h. no_graft id (l.machine.regs 0) l.owner q pt h)
 
   lock_turn : (w : Objects) (l : Level) (ls : List Level) (m : Machine) (id result : ℕ) (spent : Bool) →
       Turn w l ls (accessed id (l.machine.regs 0) l.owner ∷ []) (lock_paid v w l ls m id result spent)
@@ -179,23 +239,35 @@ module _ (v : World) where
     -- ---- asks
 
     answered_turn : (w : Objects) (l : Level) (ls ks : List Level) (ns : List Need) (q pt : ℕ) (g : Option GraftValue) → AreGrown ks (l ∷ ls) → IsHeldFrom ns (l ∷ ls) ks →
-        AreHeldBy ks (point_objects (kind_of pt) q pt) → Turn w l ls ns (ask_answered v images w p q pt ks g)
-    answered_turn w l ls ks ns q pt None grown from held =
+        AreHeldBy ks (point_objects (kind_of pt) q pt) → ((o : Object) → is_needed o ns ≡ true → is_held_in ks o ≡ true) →
+        IsChangedFrom ns (l ∷ ls) ks → ((r pu : ℕ) → is_needed (Graft r pu) ns ≡ true → outermost_touched ks (Graft r pu) ≡ Held.Exclusive) →
+        Turn w l ls ns (ask_answered v images w p q pt ks g)
+    answered_turn w l ls ks ns q pt None grown from held gets changed outer =
         let d = default_of v w.things q pt in
         record {
           shape = Goes refl (grown_then (answer_innermost pt d.0 d.1 ks) ks (l ∷ ls) (grown_answer pt d.0 d.1 ks) grown);
           held = λ o h. from o (answered_held pt d.0 d.1 ks o h);
           stands = λ r pu h. h;
+          gets = λ e o h. grown_held (answer_innermost pt d.0 d.1 ks) ks o (grown_answer pt d.0 d.1 ks) (gets o h);
+          changed = λ o h. changed o (answered_changed pt d.0 d.1 ks o h);
+          outer = λ e r pu h. grown_outermost (answer_innermost pt d.0 d.1 ks) ks (Graft r pu) (grown_answer pt d.0 d.1 ks) (outer r pu h);
         }
       where
+        answered_changed : (pt r0 r1 : ℕ) (ls : List Level) (o : Object) → is_changed_in (answer_innermost pt r0 r1 ls) o ≡ true → is_changed_in ls o ≡ true
+        answered_changed pt r0 r1 [] o h = h
+        answered_changed pt r0 r1 (k ∷ ls) o h = h
+
         answered_held : (pt r0 r1 : ℕ) (ls : List Level) (o : Object) → is_held_in (answer_innermost pt r0 r1 ls) o ≡ true → is_held_in ls o ≡ true
         answered_held pt r0 r1 [] o h = h
         answered_held pt r0 r1 (k ∷ ls) o h = h
-    answered_turn w l ls ks ns q pt (Some g) grown from held =
+    answered_turn w l ls ks ns q pt (Some g) grown from held gets changed outer =
         record {
           shape = Begins (new_level images w p (length ks) q pt (args_by (kind_of pt) v w.things q pt) untouched) ks refl refl grown (record { touched = refl; records = refl; kept = refl }) held;
           held = λ o h. from o h;
           stands = λ r pu h. h;
+          gets = λ e o h. gets o h;
+          changed = λ o h. changed o h;
+          outer = λ e r pu h. outermost_inside (new_level images w p (length ks) q pt (args_by (kind_of pt) v w.things q pt) untouched) ks (Graft r pu) (outer r pu h);
         }
 
     ask_turn : (w : Objects) (l : Level) (ls : List Level) (m : Machine) (id : ℕ) (c : Option Cause) →
@@ -226,7 +298,25 @@ module _ (v : World) where
           | inr same ↦ inr (subst (λ a. is_needed a ns ≡ true) (sym (same_object_is o g.object same)) (needed_last objects g))
         ])
         (asked_each (λ o. is_held_in ks o ≡ true) v.callable id r0 (l.machine.regs 1) l.owner early (λ o needs.
-        grown_held ks (asker ∷ ls) o (grown_touch g.object (asker ∷ ls)) (or_left (is_held (asker.touched o)) (is_held_in ls o) (touch_all_gives objects l.touched o needs)))))
+        grown_held ks (asker ∷ ls) o (grown_touch g.object (asker ∷ ls)) (or_left (is_held (asker.touched o)) (is_held_in ls o) (touch_all_gives objects l.touched o needs))))
+        (λ o h. elim (needed_cases o objects g h) [
+          | inl needs ↦ grown_held ks (asker ∷ ls) o (grown_touch g.object (asker ∷ ls)) (or_left (is_held (asker.touched o)) (is_held_in ls o) (touch_all_gives objects l.touched o needs))
+          | inr same ↦ subst (λ a. is_held_in ks a ≡ true) (sym (same_object_is o g.object same)) (changed_held ks g.object (touch_outermost_takes g.object asker ls))
+        ])
+        (λ o h. elim (touch_outermost_changed g.object (asker ∷ ls) o h) [
+          | inl before ↦ elim (or_cases (is_held_exclusively (asker.touched o)) (is_changed_in ls o) before) [
+            | inl here ↦ elim (touch_all_changed objects l.touched o here) [
+              | inl own ↦ inl (or_left (is_held_exclusively (l.touched o)) (is_changed_in ls o) own)
+              | inr needs ↦ inr (taken_before o objects g needs)
+            ]
+            | inr outer ↦ inl (or_right (is_held_exclusively (l.touched o)) (is_changed_in ls o) outer)
+          ]
+          | inr same ↦ inr (subst (λ a. is_needed_exclusively a ns ≡ true) (sym (same_object_is o g.object same)) (taken_last objects g refl))
+        ])
+        (λ r pu h. elim (needed_cases (Graft r pu) objects g h) [
+          | inl needs ↦ absurd (no_graft_asked id r0 l.owner r pu needs)
+          | inr same ↦ subst (λ a. outermost_touched ks a ≡ Held.Exclusive) (sym (same_object_is (Graft r pu) g.object same)) (touch_outermost_outer g.object asker ls)
+        ]))
 
     -- ---- calls and answers
 
@@ -243,7 +333,7 @@ module _ (v : World) where
     call_turn w l ls m id None early = granted_turn w l ls m id (is_ask id) early
 
     completed_turn : (w : Objects) (l : Level) (ls : List Level) → Turn w l ls [] (completed w l ls)
-    completed_turn w l [] = record { shape = Ends refl refl; held = λ o h. absurd cc; stands = λ q pt h. h }
+    completed_turn w l [] = record { shape = Ends refl refl; held = λ o h. absurd cc; stands = λ q pt h. h; changed = λ o h. absurd cc; gets = λ e. not_going e; outer = λ e. not_going e }
     completed_turn w l (a ∷ rest) =
         let b = record a {
           machine = answered (kind_of l.point) (l.machine.regs 0) (l.machine.regs 1) a.machine;
@@ -268,6 +358,15 @@ module _ (v : World) where
             | inr outer ↦ inl (or_right (is_held (l.touched o)) (is_held_in (a ∷ rest) o) (or_right (is_held (a.touched o)) (is_held_in rest o) outer))
           ];
           stands = λ q pt h. h;
+          changed = λ o h. elim (or_cases (is_held_exclusively (joined l.touched a.touched o)) (is_changed_in rest o) h) [
+            | inl here ↦ elim (stronger_changed (l.touched o) (a.touched o) here) [
+              | inl own ↦ inl (or_left (is_held_exclusively (l.touched o)) (is_changed_in (a ∷ rest) o) own)
+              | inr asker ↦ inl (or_right (is_held_exclusively (l.touched o)) (is_changed_in (a ∷ rest) o) (or_left (is_held_exclusively (a.touched o)) (is_changed_in rest o) asker))
+            ]
+            | inr outer ↦ inl (or_right (is_held_exclusively (l.touched o)) (is_changed_in (a ∷ rest) o) (or_right (is_held_exclusively (a.touched o)) (is_changed_in rest o) outer))
+          ];
+          gets = λ e o h. not_going h;
+          outer = λ e q pt h. not_going h;
         }
 
     return_turn : (w : Objects) (l : Level) (ls : List Level) (b : Bool) → Turn w l ls [] (after_return v w l ls b)
@@ -278,7 +377,7 @@ module _ (v : World) where
 
     machine_turn : (w : Objects) (l : Level) (ls : List Level) (d : Done) → Turn w l ls (instruction_needs v l (called_in d)) (after_machine v images p w l ls d)
     machine_turn w l ls (Done.Went m) =
-        goes_turn w w l (with_machine m l) ls [] (touches l (with_machine m l) [] refl refl refl refl refl) (λ o h. inl h) (λ q pt h. h)
+        goes_turn w w l (with_machine m l) ls [] (touches l (with_machine m l) [] refl refl refl refl refl) (λ o h. inl h) (λ q pt h. h) (λ o h. not_going h) (λ o h. inl h) (λ q pt h. not_going h)
     machine_turn w l ls (Called id m) = call_turn w l ls m id (early_refusal v.callable id (l.machine.regs 0) (l.machine.regs 1) l.owner) refl
     machine_turn w l ls Returned = return_turn w l ls (valid w.things l.owner l.point l.args (l.machine.regs 0) (l.machine.regs 1))
     machine_turn w l ls Done.DividedByZero = drop_turn w l ls [] Cause.DivideByZero
@@ -314,7 +413,7 @@ module _ (v : World) where
         subst (λ c. Turn w l ls (instruction_needs v l c) (charged_step v images p w l ls false)) (step_calls code l.machine)
         (effect_turn (Charged l.point Steps) w l ls ns o
         (charged_turn Steps w l ls ns o
-        (record { shape = count_shape l (l.count + 1) l.touched ls o.config.now.things (is_going_on o.said) o.config.levels h.shape; held = h.held; stands = h.stands })))
+        (record { shape = count_shape l (l.count + 1) l.touched ls o.config.now.things (is_going_on o.said) o.config.levels h.shape; held = h.held; stands = h.stands; changed = h.changed; gets = h.gets; outer = h.outer })))
 
     -- what one instruction makes of levels
     pub levels_turn : (w : Objects) (l : Level) (ls : List Level) → Turn w l ls (next_needs v images w.accounts (l ∷ ls)) (micro_on v images p w (l ∷ ls))

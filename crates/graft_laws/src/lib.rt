@@ -2,3 +2,6 @@
 #![tactic(auto)]
 
 pub mod alike;
+pub mod histories;
+#[cfg(test)]
+mod tests;
