@@ -1,0 +1,21 @@
+pub mod ObjectLemmas
+pub mod PointLemmas
+pub mod HoldLemmas
+pub mod AccessSameLemmas
+pub mod LevelsAlikeLemmas
+pub mod MarkLemmas
+pub mod RangeLemmas
+mod NeededPremises
+pub mod CalledLemmas
+pub mod GrownLemmas
+pub mod TurnLemmas
+pub mod ShapeLemmas
+pub mod StandLemmas
+pub mod EffectLemmas
+pub mod ReplayLemmas
+pub mod HistoryReplayLemmas
+pub mod ConfigAlikeLemmas
+pub mod AlikeLemmas
+pub mod BeginningLemmas
+pub mod DropReplayLemmas
+pub mod PlainNeedsLemmas

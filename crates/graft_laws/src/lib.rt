@@ -1,0 +1,7 @@
+//! Laws of graft calls and of the histories that lead to them.
+#![tactic(auto)]
+
+pub mod alike;
+pub mod histories;
+#[cfg(test)]
+mod tests;
