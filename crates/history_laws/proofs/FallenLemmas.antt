@@ -20,7 +20,7 @@ use Rattle.history_laws.proofs.PastLemmas.{GoesOnFrom, goes_on_self, goes_on_by,
 pub no_trace : (u : Trace) → None ≡ Some u → ⊥
 no_trace u h = cc
 
-same_trace : (t u : Trace) → Some t ≡ Some u → t ≡ u
+pub same_trace : (t u : Trace) → Some t ≡ Some u → t ≡ u
 same_trace t u h = cc
 
 -- marks behind others
@@ -44,7 +44,7 @@ one_mark v images p k t = one_by (mark_on v images p k t)
     one_by (Some u) = refl
 
 -- where an instruction led, the call went on
-went_where : (t u : Trace) (r : Outcome) → stepped t r ≡ Some u → (r.said ≡ Micro.Went) × (trace_after t r ≡ u)
+pub went_where : (t u : Trace) (r : Outcome) → stepped t r ≡ Some u → (r.said ≡ Micro.Went) × (trace_after t r ≡ u)
 went_where t u r h = went_by r.said h
   where
     went_by : (said : Micro) → elim (is_going_on said) as (λ _. Option Trace) [ true ↦ Some (trace_after t r) | false ↦ None ] ≡ Some u →
@@ -63,7 +63,7 @@ pub record FellFrom (v : World) (es : List Effect) (n : ℕ) (x : Option Trace) 
   pub effects : effects_on (owner_among asked.config.levels) es asked.config ≡ Some made
   pub is : trace_fallen v es asked made ≡ u
 
-fell_where : (v : World) (es : List Effect) (n : ℕ) (x : Option Trace) (u : Trace) →
+pub fell_where : (v : World) (es : List Effect) (n : ℕ) (x : Option Trace) (u : Trace) →
     elim x as (λ _. Option Trace) [ None ↦ None | Some y ↦ fell_on v es n y ] ≡ Some u → FellFrom v es n x u
 fell_where v es n None u h = absurd (no_trace u h)
 fell_where v es n (Some y) u h = deeper_by (length y.config.levels == suc n) refl h

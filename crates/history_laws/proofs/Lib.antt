@@ -1,6 +1,11 @@
+mod NeededPremises
 pub mod ActLemmas
 pub mod DropLemmas
 pub mod EffectLemmas
 pub mod FallenLemmas
-mod NeededPremises
+pub mod InPlaceLemmas
+pub mod InverseLemmas
 pub mod PastLemmas
+pub mod RecordLemmas
+pub mod UndoableLemmas
+pub mod UndoneLemmas
