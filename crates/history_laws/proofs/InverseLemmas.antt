@@ -1,0 +1,148 @@
+-- Inverses change objects one by one.
+use Rattle.std.specs.Prelude.{◌≡◌, ℕ, ◌==◌, ◌&&◌, Bool, true, false, cond, List, [], ◌∷◌, ◌++◌, ⊤}
+use Rattle.std.proofs.Common.{refl, sym, ap, ◌∙◌, inl, inr}
+use Rattle.std.proofs.lemmas.Bool.{cases_Bool, and_parts, eqb-true}
+use Rattle.kernel_model.specs.declared.Inverse.{Inverse}
+use Rattle.kernel_model.specs.declared.Inverse.TheVariants.{Nice, Window, Mark, Tune}
+use Rattle.kernel_model.specs.declared.Object.{Object}
+use Rattle.kernel_model.specs.declared.Object.TheVariants.{Graft, Acct, Cell, OpenFile, Queue, Cache, Lock, Pol}
+use Rattle.kernel_model.specs.Objects.{Objects, Accounts, Things, CacheValue, SameAt, SameThing, at, at2}
+use Rattle.kernel_model.specs.Access.{undo, changed_by, with_nice, with_window, with_mark, with_param}
+use Rattle.kernel_model.specs.UndoLog.{undo_all}
+use Rattle.kernel_laws.specs.Undoing.{InversesChangeOneObject}
+
+-- ---- the same value
+
+pub thing_self : (o : Object) (w : Things) → SameThing o w w
+thing_self (Graft q pt) w = tt
+thing_self (Acct q) w = tt
+thing_self (Cell q k) w = refl
+thing_self (OpenFile q fd) w = refl
+thing_self Queue w = refl
+thing_self Cache w = refl
+thing_self (Lock u) w = refl
+thing_self (Pol k) w = refl
+
+pub thing_then : (o : Object) (x y z : Things) → SameThing o x y → SameThing o y z → SameThing o x z
+thing_then (Graft q pt) x y z h k = tt
+thing_then (Acct q) x y z h k = tt
+thing_then (Cell q i) x y z h k = h ∙ k
+thing_then (OpenFile q fd) x y z h k = h ∙ k
+thing_then Queue x y z h k = h ∙ k
+thing_then Cache x y z h k = h ∙ k
+thing_then (Lock u) x y z h k = h ∙ k
+thing_then (Pol i) x y z h k = h ∙ k
+
+pub thing_back : (o : Object) (x y : Things) → SameThing o x y → SameThing o y x
+thing_back (Graft q pt) x y h = tt
+thing_back (Acct q) x y h = tt
+thing_back (Cell q i) x y h = sym h
+thing_back (OpenFile q fd) x y h = sym h
+thing_back Queue x y h = sym h
+thing_back Cache x y h = sym h
+thing_back (Lock u) x y h = sym h
+thing_back (Pol i) x y h = sym h
+
+pub at_self : (o : Object) (s : Objects) → SameAt o s s
+at_self (Graft q pt) s = refl
+at_self (Acct q) s = refl
+at_self (Cell q k) s = refl
+at_self (OpenFile q fd) s = refl
+at_self Queue s = refl
+at_self Cache s = refl
+at_self (Lock u) s = refl
+at_self (Pol k) s = refl
+
+pub at_then : (o : Object) (x y z : Objects) → SameAt o x y → SameAt o y z → SameAt o x z
+at_then (Graft q pt) x y z h k = h ∙ k
+at_then (Acct q) x y z h k = h ∙ k
+at_then (Cell q i) x y z h k = h ∙ k
+at_then (OpenFile q fd) x y z h k = h ∙ k
+at_then Queue x y z h k = h ∙ k
+at_then Cache x y z h k = h ∙ k
+at_then (Lock u) x y z h k = h ∙ k
+at_then (Pol i) x y z h k = h ∙ k
+
+-- of two states with the same value the things have it
+pub thing_of : (o : Object) (s t : Objects) → SameAt o s t → SameThing o s.things t.things
+thing_of (Graft q pt) s t h = tt
+thing_of (Acct q) s t h = tt
+thing_of (Cell q i) s t h = h
+thing_of (OpenFile q fd) s t h = h
+thing_of Queue s t h = h
+thing_of Cache s t h = h
+thing_of (Lock u) s t h = h
+thing_of (Pol i) s t h = h
+
+-- states with the same accounts have the same value where their things have it
+pub at_of : (o : Object) (s t : Objects) → s.accounts ≡ t.accounts → SameThing o s.things t.things → SameAt o s t
+at_of (Graft q pt) s t e h = ap (λ (a : Accounts). a.graft q pt) e
+at_of (Acct q) s t e h = ap (λ (a : Accounts). a.acct q) e
+at_of (Cell q i) s t e h = h
+at_of (OpenFile q fd) s t e h = h
+at_of Queue s t e h = h
+at_of Cache s t e h = h
+at_of (Lock u) s t e h = h
+at_of (Pol i) s t e h = h
+
+-- ---- one inverse
+
+-- a place that is changed by its own value
+own_place2 : {A : Type 0} (q k r l : ℕ) (f g : ℕ → ℕ → A) (change : A → A) → f r l ≡ g r l → at2 q k (change (f q k)) f r l ≡ at2 q k (change (g q k)) g r l
+own_place2 q k r l f g change h = elim (cases_Bool (r == q && l == k)) [
+  | inl here ↦
+      let b = and_parts (r == q) (l == k) here in
+      let same = sym (ap (λ i. f i k) (eqb-true r q b.0)) ∙ sym (ap (λ i. f r i) (eqb-true l k b.1)) ∙ h ∙ ap (λ i. g r i) (eqb-true l k b.1) ∙ ap (λ i. g i k) (eqb-true r q b.0) in
+      ap (λ x. cond x (change (f q k)) (f r l)) here ∙ ap change same ∙ ap (λ x. cond x (change (g q k)) (g r l)) (sym here)
+  | inr other ↦ ap (λ x. cond x (change (f q k)) (f r l)) other ∙ h ∙ ap (λ x. cond x (change (g q k)) (g r l)) (sym other)
+]
+
+own_place : {A : Type 0} (q r : ℕ) (f g : ℕ → A) (change : A → A) → f r ≡ g r → at q (change (f q)) f r ≡ at q (change (g q)) g r
+own_place q r f g change h = elim (cases_Bool (r == q)) [
+  | inl here ↦
+      let same = sym (ap f (eqb-true r q here)) ∙ h ∙ ap g (eqb-true r q here) in
+      ap (λ x. cond x (change (f q)) (f r)) here ∙ ap change same ∙ ap (λ x. cond x (change (g q)) (g r)) (sym here)
+  | inr other ↦ ap (λ x. cond x (change (f q)) (f r)) other ∙ h ∙ ap (λ x. cond x (change (g q)) (g r)) (sym other)
+]
+
+-- an inverse gives the same value of an object where it had the same
+undo_same : (i : Inverse) (o : Object) (w u : Things) → SameThing o w u → SameThing o (undo i w) (undo i u)
+undo_same i (Graft q pt) w u h = tt
+undo_same i (Acct q) w u h = tt
+undo_same (Inverse.Cell q k v) (Cell r l) w u h = ap (λ x. cond (r == q && l == k) v x) h
+undo_same (Nice q v) Queue w u h = ap (with_nice q v) h
+undo_same (Window q k v) (OpenFile r l) w u h = own_place2 q k r l w.file u.file (with_window v) h
+undo_same (Mark f v) Cache w u h = ap (λ (c : CacheValue). record c { frame = at f (with_mark v (c.frame f)) c.frame }) h
+undo_same (Tune q k v) (Pol r) w u h = own_place q r w.pol u.pol (with_param v) h
+undo_same (Inverse.Cell q k v) (Lock x) w u h = h
+undo_same (Nice q v) (Lock x) w u h = h
+undo_same (Window q k v) (Lock x) w u h = h
+undo_same (Mark f v) (Lock x) w u h = h
+undo_same (Tune q k v) (Lock x) w u h = h
+undo_same i o w u h = h
+
+-- ---- several
+
+-- the objects of inverses pass a test
+abbrev pub AllPass : (Object → Bool) → List Inverse → Type 0
+AllPass test [] = ⊤
+AllPass test (i ∷ is) = (test (changed_by i) ≡ true) × AllPass test is
+
+pub pass_both : (test : Object → Bool) (is js : List Inverse) → AllPass test is → AllPass test js → AllPass test (is ++ js)
+pass_both test [] js h k = k
+pass_both test (i ∷ is) js h k = (h.0, pass_both test is js h.1 k)
+
+-- inverses give the same value of an object where it had the same
+pub undo_all_same : (is : List Inverse) (o : Object) (w u : Things) → SameThing o w u → SameThing o (undo_all is w) (undo_all is u)
+undo_all_same [] o w u h = h
+undo_all_same (i ∷ is) o w u h = undo_all_same is o (undo i w) (undo i u) (undo_same i o w u h)
+
+-- inverses of other objects leave an object
+pub undo_all_other : InversesChangeOneObject → (test : Object → Bool) (is : List Inverse) (o : Object) (w : Things) → AllPass test is → test o ≡ false →
+    SameThing o (undo_all is w) w
+undo_all_other one test [] o w h none = thing_self o w
+undo_all_other one test (i ∷ is) o w h none =
+    thing_then o (undo_all is (undo i w)) (undo i w) w (undo_all_other one test is o (undo i w) h.1 none) (one i o w (λ e. contrary (sym h.0 ∙ ap test (sym e) ∙ none)))
+  where
+    contrary : true ≡ false → ⊥
+    contrary h = cc

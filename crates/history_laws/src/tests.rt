@@ -1,0 +1,13 @@
+//! Each law over every table of calls, at the table of the system calls.
+
+use crate::{histories, notes, store};
+use plain_rules::PlainRules;
+
+#[test]
+fn the_system_calls_have_the_laws(_rt: HostRuntime) {
+    histories::fallen_levels_replay::<PlainRules>();
+    store::in_place_reads::<PlainRules>();
+    store::undone_is_below::<PlainRules>();
+    notes::leaves_few_notes::<PlainRules>();
+    notes::calls_leave_few_drops::<PlainRules>();
+}
