@@ -1,0 +1,11 @@
+//! The kernel: events over one store and a disk, for any table of calls.
+//!
+//! Contracts see a kernel as the abstract kernel of the definitions that it stands for.
+#![tactic(auto)]
+
+mod kernel;
+mod notes;
+
+pub use kernel::{BootNote, Kernel, Logs};
+pub use kernel_state::Setup;
+pub use notes::Notes;
