@@ -3,7 +3,9 @@
 
 #[cfg(test)]
 mod tests {
-    use graft_points::Policy;
+    use graft_points::{
+        Policy, RaNext, RaNone, RaSeq, SchedNice, SchedRound, VictimLru, VictimMark, is_stock, put_last,
+    };
     use mem_disk::MemDisk;
     use std::alloc::{AllocError, Global};
     use std::test::Fail;
@@ -43,7 +45,17 @@ mod tests {
         let mut source = MemSource::new(script, Vec::from_slice(alloc, &[failing_read])?);
         let mut written = MemSink::new(alloc, Vec::from_slice(alloc, &[failing_write])?);
         let mut disk = MemDisk::sample(alloc, Vec::from_slice(alloc, &[failing_call])?)?;
-        let shelf: Vec<Box<dyn Policy>> = Vec::new(alloc);
+        let mut shelf: Vec<Box<dyn Policy>> = Vec::new(alloc);
+        put_last(&mut shelf, Box::new(alloc, RaNone::new())?, 0, None)?;
+        put_last(&mut shelf, Box::new(alloc, RaSeq::new())?, 1, Some(2))?;
+        put_last(&mut shelf, Box::new(alloc, RaNext::new())?, 2, Some(1))?;
+        put_last(&mut shelf, Box::new(alloc, VictimLru::new())?, 3, None)?;
+        put_last(&mut shelf, Box::new(alloc, VictimMark::new())?, 4, Some(0))?;
+        put_last(&mut shelf, Box::new(alloc, SchedRound::new())?, 5, None)?;
+        put_last(&mut shelf, Box::new(alloc, SchedNice::new())?, 6, Some(0))?;
+        if !is_stock(&shelf) {
+            unreachable!()
+        }
         let status = vino(alloc, &words, &mut source, &mut written, &mut disk, shelf);
         Ok(Ran { status, written })
     }

@@ -2,7 +2,7 @@
 #![tactic(auto)]
 
 use graft_points::{
-    Policy, RaNext, RaNone, RaSeq, SchedNice, SchedRound, VictimLru, VictimMark, put_last,
+    Policy, RaNext, RaNone, RaSeq, SchedNice, SchedRound, VictimLru, VictimMark, is_stock, put_last,
 };
 use mem_disk::MemDisk;
 use real_edge::{FileDisk, StreamSink, StreamSource};
@@ -75,6 +75,9 @@ fn run_stock<D: Disk>(rt: &HostRuntime, words: &[String], disk: &mut D) -> Resul
     put_last(&mut shelf, Box::new(alloc, VictimMark::new())?, 4, Some(0))?;
     put_last(&mut shelf, Box::new(alloc, SchedRound::new())?, 5, None)?;
     put_last(&mut shelf, Box::new(alloc, SchedNice::new())?, 6, Some(0))?;
+    if !is_stock(&shelf) {
+        unreachable!()
+    }
     Ok(vino_top::vino(alloc, words, &mut source, &mut sink, disk, shelf))
 }
 

@@ -12,10 +12,8 @@ use Rattle.kernel_model.specs.Session.{Session, fault_text}
 use Rattle.kernel_model.specs.Kernel as abstract
 use Rattle.kernel_model.specs.Outcome.{SCRIPT_BYTES, Ending, End, Fault, Over, Outcome, lines_after, rest_after, left_lines, at_end, at_ending, outcome_of, ends_as, ends_with, written}
 use Rattle.kernel_model.specs.Text.{line}
-use Rattle.vino_top.specs.Standing.{session_of, kernel_in}
+use Rattle.vino_top.specs.Standing.{Seen, kernel_seen, session_of, kernel_in}
 use Rattle.vino_top.specs.Run.{Place, place, first_on, script_lines, lines_run, pieces_run, UsesAll, outcome_at, DiskSeen, MadeAll, AppendsPart, StandsFor, IsFirst, HasEnded, Whenever, Feeds, StopsAt, stop_status, Reached, Ran, CutsLast, Broke, Lacked}
-use Rattle.vino_top.specs.declared.kernel.Kernel.{Kernel}
-use Rattle.vino_top.specs.declared.session.Session as code
 use Rattle.vino_top.specs.declared.run.Stop.{Stop}
 use Rattle.vino_top.specs.declared.run.Stop.TheVariants.{SinkFailed, NoMemory}
 use Rattle.vino_top.proofs.LineLemmas.{script_more}
@@ -24,31 +22,39 @@ use Rattle.vino_top.proofs.RunLemmas.{fed_none, fed_more, fed_short, stops_fed, 
 -- ---- where a run stands
 
 -- a session of the code that stands for every first one
-abbrev pub IsBegun : (size : ℕ) → code.Session → Type 0
+abbrev pub IsBegun : (size : ℕ) → Seen → Type 0
 IsBegun size s = (blocks : Blocks) → session_of blocks s ≡ first_on size blocks
 
 -- it stands for a first session
-begun_stands : (size : ℕ) (s : code.Session) (told : Option (List (List ℕ))) (a : Session) → IsBegun size s → IsFirst size told a → StandsFor s told a
+begun_stands : (size : ℕ) (s : Seen) (told : Option (List (List ℕ))) (a : Session) → IsBegun size s → IsFirst size told a → StandsFor s told a
 begun_stands size s told a begun first =
-    record { session = begun a.blocks ∙ sym first.session; blocks = first.blocks }
+    record {
+      session = begun a.blocks ∙ sym first.session;
+      blocks = first.blocks;
+      graftless = λ up. absurd (unbooted s.booted (kernel_seen s) up (ap (λ (x : Session). x.kernel) (begun a.blocks)));
+    }
+  where
+    unbooted : (booted : Bool) (k : abstract.Kernel) → booted ≡ true → kernel_in booted k ≡ None → ⊥
+    unbooted false k up none = cc
+    unbooted true k up none = cc
 
 -- before the first read
-pub reached_first : (size : ℕ) (s : code.Session) (r g : Option (List ℕ)) (d : DiskSeen) (l : List ℕ) → l ≡ [] → Reached size s s r r g g d d l (SCRIPT_BYTES + 1)
+pub reached_first : (size : ℕ) (s : Seen) (r g : Option (List ℕ)) (d : DiskSeen) (l : List ℕ) → l ≡ [] → Reached size s s r r g g d d l (SCRIPT_BYTES + 1)
 reached_first size s r g d l empty =
     rw empty (record { taken = []; count = omega arith; consumed = Consumes-nil r; fed = fed_none size s [] g d })
 
 -- a script has had no more lines than bytes
-pub reached_lines : (size : ℕ) (s t : code.Session) (r r2 g g2 : Option (List ℕ)) (d e : DiskSeen) (l : List ℕ) (left : ℕ) →
+pub reached_lines : (size : ℕ) (s t : Seen) (r r2 g g2 : Option (List ℕ)) (d e : DiskSeen) (l : List ℕ) (left : ℕ) →
     s.lines ≡ 0 → Reached size s t r r2 g g2 d e l left → t.lines + left ≤ SCRIPT_BYTES + 1
 reached_lines size s t r r2 g g2 d e l left none p = omega (arith, p.fed.lines, length-take SCRIPT_BYTES p.taken, p.count, none)
 
 -- and a line that is no longer than a line may be
-pub reached_short : (size : ℕ) (s t : code.Session) (r r2 g g2 : Option (List ℕ)) (d e : DiskSeen) (l : List ℕ) (left : ℕ) →
+pub reached_short : (size : ℕ) (s t : Seen) (r r2 g g2 : Option (List ℕ)) (d e : DiskSeen) (l : List ℕ) (left : ℕ) →
     Reached size s t r r2 g g2 d e l left → length l ≤ LINE_BYTES
 reached_short size s t r r2 g g2 d e l left p = fed_short _ _ _ _ _ _ _ _ _ _ p.fed (omega arith)
 
 -- more bytes of the source were fed: all that it gave, but for one past the script's end
-pub reached_more : (size : ℕ) (s t u : code.Session) (r r2 r3 g g2 g3 : Option (List ℕ)) (d e f : DiskSeen) (l m : List ℕ) (left n : ℕ) (given : List ℕ) →
+pub reached_more : (size : ℕ) (s t u : Seen) (r r2 r3 g g2 g3 : Option (List ℕ)) (d e f : DiskSeen) (l m : List ℕ) (left n : ℕ) (given : List ℕ) →
     Reached size s t r r2 g g2 d e l left → 0 < left → length given ≡ n → n ≤ left → Consumes r2 r3 given → Feeds size t u l m (take (left - 1) given) g2 g3 e f →
     Reached size s u r r3 g g3 d f m (left - n)
 reached_more size s t u r r2 r3 g g2 g3 d e f l m left n given p some count most consumed fed =
@@ -94,7 +100,7 @@ ends_last status a pieces last =
     record { status_is = refl; bytes = concat-append pieces (last ∷ []) ∙ ap (λ x. concat pieces ++ x) (append-nil last); blocks = refl }
 
 -- How a run ends, by how its outcome does.
-ran_by : (size : ℕ) (s t : code.Session) (r r2 r3 : Option (List ℕ)) (f f2 : ℕ) (g g2 g3 : Option (List ℕ)) (d e : DiskSeen) (l : List ℕ) (left status : ℕ) (ending : Ending) (last : List ℕ) →
+ran_by : (size : ℕ) (s t : Seen) (r r2 r3 : Option (List ℕ)) (f f2 : ℕ) (g g2 g3 : Option (List ℕ)) (d e : DiskSeen) (l : List ℕ) (left status : ℕ) (ending : Ending) (last : List ℕ) →
     IsBegun size s → (p : Reached size s t r r2 g g2 d e l left) → Consumes r2 r3 [] → Appends g2 g3 last →
     (t.refused ≡ true) ⊎ HasEnded ending p.taken r3 f f2 →
     ((a : Session) (pieces : List (List ℕ)) → StandsFor t e.told a → EndsSo (outcome_of ending a pieces l) a pieces status last) →
@@ -126,19 +132,19 @@ ran_by size s t r r2 r3 f f2 g g2 g3 d e l left status ending last begun p kept 
     }
 
 -- what a session of the code says of the abstract one
-refused_as : (t : code.Session) (told : Option (List (List ℕ))) (a : Session) (b : Bool) → StandsFor t told a → t.refused ≡ b → a.refused ≡ b
+refused_as : (t : Seen) (told : Option (List (List ℕ))) (a : Session) (b : Bool) → StandsFor t told a → t.refused ≡ b → a.refused ≡ b
 refused_as t told a b stands h = sym (ap (λ (x : Session). x.refused) stands.session) ∙ h
 
 -- no call is left in flight
-none_in : (booted : Bool) (k : Kernel) → left_lines (kernel_in booted k) ≡ []
-none_in false k = refl
-none_in true k = refl
+none_in : (booted : Bool) (s : Seen) → left_lines (kernel_in booted (kernel_seen s)) ≡ []
+none_in false s = refl
+none_in true s = refl
 
-none_left : (t : code.Session) (told : Option (List (List ℕ))) (a : Session) → StandsFor t told a → left_lines a.kernel ≡ []
-none_left t told a stands = ap (λ (x : Session). left_lines x.kernel) (sym stands.session) ∙ none_in t.booted t.kernel
+none_left : (t : Seen) (told : Option (List (List ℕ))) (a : Session) → StandsFor t told a → left_lines a.kernel ≡ []
+none_left t told a stands = ap (λ (x : Session). left_lines x.kernel) (sym stands.session) ∙ none_in t.booted t
 
 -- a failed read
-pub ran_fault : (size : ℕ) (s t : code.Session) (r r2 r3 : Option (List ℕ)) (f f2 f3 : ℕ) (g g2 : Option (List ℕ)) (d e : DiskSeen) (l : List ℕ) (left : ℕ) →
+pub ran_fault : (size : ℕ) (s t : Seen) (r r2 r3 : Option (List ℕ)) (f f2 f3 : ℕ) (g g2 : Option (List ℕ)) (d e : DiskSeen) (l : List ℕ) (left : ℕ) →
     IsBegun size s → Reached size s t r r2 g g2 d e l left → t.refused ≡ false → 0 < left → Keeps r2 r3 → f ≤ f2 → Rose f2 f3 → Ran size r r3 f f3 g g2 d e 3
 ran_fault size s t r r2 r3 f f2 f3 g g2 d e l left begun p going some kept before rose =
     ran_by size s t r r2 r3 f f3 g g2 g2 d e l left 3 Fault [] begun p (keeps_consumes r2 r3 kept) (Appends-nil g2) (inr (omega (arith, p.count), omega arith))
@@ -148,14 +154,14 @@ ran_fault size s t r r2 r3 f f2 f3 g g2 d e l left begun p going some kept befor
     keeps_consumes r r2 kept = Consumes-kept _ _ _ _ (Consumes-nil r) kept
 
 -- more than a script may have
-pub ran_over : (size : ℕ) (s t : code.Session) (r r2 : Option (List ℕ)) (f f2 : ℕ) (g g2 : Option (List ℕ)) (d e : DiskSeen) (l : List ℕ) (left : ℕ) →
+pub ran_over : (size : ℕ) (s t : Seen) (r r2 : Option (List ℕ)) (f f2 : ℕ) (g g2 : Option (List ℕ)) (d e : DiskSeen) (l : List ℕ) (left : ℕ) →
     IsBegun size s → Reached size s t r r2 g g2 d e l left → left ≡ 0 → t.refused ≡ false → Ran size r r2 f f2 g g2 d e 7
 ran_over size s t r r2 f f2 g g2 d e l left begun p none going =
     ran_by size s t r r2 r2 f f2 g g2 g2 d e l left 7 Over [] begun p (Consumes-nil r2) (Appends-nil g2) (inr (omega (arith, p.count, none)))
     (λ a pieces stands. rw (going_outcome Over a pieces l (refused_as t e.told a false stands going)) (ends_plain 7 a pieces))
 
 -- a refused line
-pub ran_stopped : (size : ℕ) (s t : code.Session) (r r2 : Option (List ℕ)) (f f2 : ℕ) (g g2 : Option (List ℕ)) (d e : DiskSeen) (l : List ℕ) (left : ℕ) →
+pub ran_stopped : (size : ℕ) (s t : Seen) (r r2 : Option (List ℕ)) (f f2 : ℕ) (g g2 : Option (List ℕ)) (d e : DiskSeen) (l : List ℕ) (left : ℕ) →
     IsBegun size s → Reached size s t r r2 g g2 d e l left → t.refused ≡ true → Ran size r r2 f f2 g g2 d e 2
 ran_stopped size s t r r2 f f2 g g2 d e l left begun p refused =
     ran_by size s t r r2 r2 f f2 g g2 g2 d e l left 2 Fault [] begun p (Consumes-nil r2) (Appends-nil g2) (inl refused)
@@ -171,7 +177,7 @@ end_unfinished a pieces [] n other is = absurd (other refl)
 end_unfinished a pieces (x ∷ l) n other is = rw (← is) (ends_last 2 a pieces (line (fault_text (suc a.lines) Unfinished)))
 
 -- how the last line of a script ends a run: as it stands, or refused
-pub ran_finish : (size : ℕ) (s t : code.Session) (r r2 r3 : Option (List ℕ)) (f f2 : ℕ) (g g2 g3 : Option (List ℕ)) (d e : DiskSeen) (l : List ℕ) (left status : ℕ) →
+pub ran_finish : (size : ℕ) (s t : Seen) (r r2 r3 : Option (List ℕ)) (f f2 : ℕ) (g g2 g3 : Option (List ℕ)) (d e : DiskSeen) (l : List ℕ) (left status : ℕ) →
     IsBegun size s → Reached size s t r r2 g g2 d e l left → t.refused ≡ false → 0 < left → Consumes r2 r3 [] → IsAtEnd r3 →
     (l ≡ [] → g3 ≡ g2) → (status ≡ 2 → Appends g2 g3 (line (fault_text (t.lines + 1) Unfinished))) →
     (status ≡ 0) × (l ≡ []) ⊎ (status ≡ 2) × (l ≢ []) ⊎ (status ≡ 4) × (l ≢ []) → status ≢ 4 → Ran size r r3 f f2 g g3 d e status
@@ -189,7 +195,7 @@ ran_finish size s t r r2 r3 f f2 g g2 g3 d e l left status begun p going some ke
 -- ---- runs that stop
 
 -- why the run stopped at a line, among those of the script
-stopped : (size : ℕ) (s t : code.Session) (r r2 r3 g g2 g3 : Option (List ℕ)) (d e f : DiskSeen) (l : List ℕ) (left n : ℕ) (given : List ℕ) (stop : Stop) →
+stopped : (size : ℕ) (s t : Seen) (r r2 r3 g g2 g3 : Option (List ℕ)) (d e f : DiskSeen) (l : List ℕ) (left n : ℕ) (given : List ℕ) (stop : Stop) →
     IsBegun size s → (p : Reached size s t r r2 g g2 d e l left) → 0 < left →
     StopsAt size (StandsFor t e.told) (lines_after l (take (left - 1) given)) g2 g3 e f stop → StopsAt size (IsFirst size d.told) (script_lines (p.taken ++ given)) g g3 d f stop
 stopped size s t r r2 r3 g g2 g3 d e f l left n given stop begun p some q =
@@ -200,7 +206,7 @@ stopped size s t r r2 r3 g g2 g3 d e f l left n given stop begun p some q =
     (stops_from size (StandsFor s d.told) (IsFirst size d.told) (lines_after [] ((take SCRIPT_BYTES p.taken ++ take (left - 1) given) ++ [])) g g3 d f stop (λ a first. begun_stands size s d.told a begun first) all))
 
 -- the sink failed at a line
-pub broke_fed : (size : ℕ) (s t : code.Session) (r r2 r3 g g2 g3 : Option (List ℕ)) (d e f : DiskSeen) (l : List ℕ) (left n : ℕ) (given script : List ℕ) (stop : Stop) →
+pub broke_fed : (size : ℕ) (s t : Seen) (r r2 r3 g g2 g3 : Option (List ℕ)) (d e f : DiskSeen) (l : List ℕ) (left n : ℕ) (given script : List ℕ) (stop : Stop) →
     IsBegun size s → Reached size s t r r2 g g2 d e l left → 0 < left → length given ≡ n → n ≤ left → Consumes r2 r3 given →
     script ≡ take (left - 1) given → stop_status stop ≡ 4 → StopsAt size (StandsFor t e.told) (lines_after l script) g2 g3 e f stop → Broke size r r3 g g3 d f
 broke_fed size s t r r2 r3 g g2 g3 d e f l left n given script SinkFailed begun p some count most consumed is four q =
@@ -213,7 +219,7 @@ broke_fed size s t r r2 r3 g g2 g3 d e f l left n given script SinkFailed begun 
 broke_fed size s t r r2 r3 g g2 g3 d e f l left n given script NoMemory begun p some count most consumed is four q = absurd (omega (arith, four))
 
 -- there was no memory for a line
-pub lacked_fed : (size : ℕ) (s t : code.Session) (r r2 r3 g g2 g3 : Option (List ℕ)) (d e f : DiskSeen) (l : List ℕ) (left n : ℕ) (given script : List ℕ) (stop : Stop) →
+pub lacked_fed : (size : ℕ) (s t : Seen) (r r2 r3 g g2 g3 : Option (List ℕ)) (d e f : DiskSeen) (l : List ℕ) (left n : ℕ) (given script : List ℕ) (stop : Stop) →
     IsBegun size s → Reached size s t r r2 g g2 d e l left → 0 < left → length given ≡ n → n ≤ left → Consumes r2 r3 given →
     script ≡ take (left - 1) given → stop_status stop ≡ 5 → StopsAt size (StandsFor t e.told) (lines_after l script) g2 g3 e f stop → Lacked size r r3 g g3 d f
 lacked_fed size s t r r2 r3 g g2 g3 d e f l left n given script SinkFailed begun p some count most consumed is five q = absurd (omega (arith, five))
@@ -226,7 +232,7 @@ lacked_fed size s t r r2 r3 g g2 g3 d e f l left n given script NoMemory begun p
     }
 
 -- the sink failed at the last line
-pub broke_finish : (size : ℕ) (s t : code.Session) (r r2 r3 g g2 g3 : Option (List ℕ)) (d e : DiskSeen) (l : List ℕ) (left status : ℕ) →
+pub broke_finish : (size : ℕ) (s t : Seen) (r r2 r3 g g2 g3 : Option (List ℕ)) (d e : DiskSeen) (l : List ℕ) (left status : ℕ) →
     IsBegun size s → Reached size s t r r2 g g2 d e l left → t.refused ≡ false → 0 < left → Consumes r2 r3 [] → IsAtEnd r3 →
     (status ≡ 4 → AppendsPart g2 g3 (line (fault_text (t.lines + 1) Unfinished))) →
     (status ≡ 0) × (l ≡ []) ⊎ (status ≡ 2) × (l ≢ []) ⊎ (status ≡ 4) × (l ≢ []) → status ≡ 4 → Broke size r r3 g g3 d e
@@ -244,7 +250,7 @@ broke_finish size s t r r2 r3 g g2 g3 d e l left status begun p going some kept 
       ]
     ]
   where
-    cuts_last : (size : ℕ) (s t : code.Session) (r r2 r3 g g2 g3 : Option (List ℕ)) (d e : DiskSeen) (l : List ℕ) (left : ℕ) →
+    cuts_last : (size : ℕ) (s t : Seen) (r r2 r3 g g2 g3 : Option (List ℕ)) (d e : DiskSeen) (l : List ℕ) (left : ℕ) →
         IsBegun size s → (p : Reached size s t r r2 g g2 d e l left) → t.refused ≡ false → 0 < left → IsAtEnd r3 → l ≢ [] →
         AppendsPart g2 g3 (line (fault_text (suc t.lines) Unfinished)) → CutsLast size p.taken r3 g g3 d e
     cuts_last size s t r r2 r3 g g2 g3 d e l left begun p going some end other cut =

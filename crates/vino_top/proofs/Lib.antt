@@ -1,5 +1,5 @@
-pub mod KernelLemmas
-pub mod BoundsLemmas
+pub mod PlaceLemmas
+pub mod AloneLemmas
 pub mod SessionLemmas
 pub mod LineLemmas
 pub mod RunLemmas

@@ -12,8 +12,7 @@ use Rattle.kernel_model.specs.Script.{LINE_BYTES}
 use Rattle.kernel_model.specs.Session.{Session, first_io, later_io}
 use Rattle.kernel_model.specs.Outcome.{lines_after, rest_after, ends_line, ended_line}
 use Rattle.vino_top.specs.Run.{Place, place, line_run, lines_run, pieces_run, UsesAll, DiskSeen, MadeAll, AppendsPart, StandsFor, Comes, RunsLine, IsImageLine, Whenever, Feeds, CutsShort, Lacks, StopsAt, TakesLine}
-use Rattle.vino_top.specs.Standing.{session_of}
-use Rattle.vino_top.specs.declared.session.Session as code
+use Rattle.vino_top.specs.Standing.{Seen, session_of}
 use Rattle.vino_top.specs.declared.run.Stop.{Stop}
 use Rattle.vino_top.specs.declared.run.Stop.TheVariants.{SinkFailed, NoMemory}
 use Rattle.vino_top.proofs.LineLemmas.{lines-append, rest-append, lines_ended, lines_gone, rest_ended, rest_gone, lines_few, rest_short}
@@ -75,7 +74,7 @@ uses-append c a (x ∷ xs) ys (io ∷ is) js h p q =
 -- ---- bytes that are fed
 
 -- nothing is fed
-pub fed_none : (size : ℕ) (s : code.Session) (l : List ℕ) (g : Option (List ℕ)) (d : DiskSeen) → Feeds size s s l l [] g g d d
+pub fed_none : (size : ℕ) (s : Seen) (l : List ℕ) (g : Option (List ℕ)) (d : DiskSeen) → Feeds size s s l l [] g g d d
 fed_none size s l g d =
     record {
       ios = [];
@@ -89,7 +88,7 @@ fed_none size s l g d =
     }
 
 -- more bytes are fed
-pub fed_more : (size : ℕ) (s t u : code.Session) (l m n xs ys : List ℕ) (g h k : Option (List ℕ)) (d e f : DiskSeen) →
+pub fed_more : (size : ℕ) (s t u : Seen) (l m n xs ys : List ℕ) (g h k : Option (List ℕ)) (d e f : DiskSeen) →
     Feeds size s t l m xs g h d e → Feeds size t u m n ys h k e f → Feeds size s u l n (xs ++ ys) g k d f
 fed_more size s t u l m n xs ys g h k d e f p q =
     let second = rw p.line_is at q in
@@ -115,7 +114,7 @@ fed_more size s t u l m n xs ys g h k d e f p q =
     }
 
 -- the line goes on at this byte
-pub fed_byte : (size : ℕ) (s : code.Session) (l : List ℕ) (byte : ℕ) (g : Option (List ℕ)) (d : DiskSeen) → ends_line l byte ≡ false →
+pub fed_byte : (size : ℕ) (s : Seen) (l : List ℕ) (byte : ℕ) (g : Option (List ℕ)) (d : DiskSeen) → ends_line l byte ≡ false →
     Feeds size s s l (l ++ byte ∷ []) (byte ∷ []) g g d d
 fed_byte size s l byte g d goes =
     let gone = lines_gone l byte [] goes in
@@ -131,7 +130,7 @@ fed_byte size s l byte g d goes =
     }
 
 -- a line ended at this byte
-pub fed_line : (size : ℕ) (s t : code.Session) (l m n : List ℕ) (byte : ℕ) (g h : Option (List ℕ)) (d e : DiskSeen) → ends_line l byte ≡ true → ended_line l byte ≡ m →
+pub fed_line : (size : ℕ) (s t : Seen) (l m n : List ℕ) (byte : ℕ) (g h : Option (List ℕ)) (d e : DiskSeen) → ends_line l byte ≡ true → ended_line l byte ≡ m →
     n ≡ [] → TakesLine size m s t g h d e → Feeds size s t l n (byte ∷ []) g h d e
 fed_line size s t l m n byte g h d e ends is empty p =
     let ended = lines_ended l byte [] ends in
@@ -147,18 +146,18 @@ fed_line size s t l m n byte g h d e ends is empty p =
     }
 
 -- the byte at a place is fed
-pub fed_next : (size : ℕ) (s t u : code.Session) (l m n bytes : List ℕ) (i : ℕ) (g h k : Option (List ℕ)) (d e f : DiskSeen) → i < length bytes →
+pub fed_next : (size : ℕ) (s t u : Seen) (l m n bytes : List ℕ) (i : ℕ) (g h k : Option (List ℕ)) (d e f : DiskSeen) → i < length bytes →
     Feeds size s t l m (take i bytes) g h d e → Feeds size t u m n (get_or bytes i 0 ∷ []) h k e f → Feeds size s u l n (take (i + 1) bytes) g k d f
 fed_next size s t u l m n bytes i g h k d e f below p q =
     rw (take_more bytes i 0 below) (fed_more size s t u l m n (take i bytes) (get_or bytes i 0 ∷ []) g h k d e f p q)
 
 -- all bytes were fed
-pub fed_whole : (size : ℕ) (s t : code.Session) (l m bytes : List ℕ) (i : ℕ) (g h : Option (List ℕ)) (d e : DiskSeen) → length bytes ≤ i →
+pub fed_whole : (size : ℕ) (s t : Seen) (l m bytes : List ℕ) (i : ℕ) (g h : Option (List ℕ)) (d e : DiskSeen) → length bytes ≤ i →
     Feeds size s t l m (take i bytes) g h d e → Feeds size s t l m bytes g h d e
 fed_whole size s t l m bytes i g h d e whole p = rw (take_all i bytes whole) at p
 
 -- the line so far, once bytes were fed
-pub fed_short : (size : ℕ) (s t : code.Session) (l m xs : List ℕ) (g h : Option (List ℕ)) (d e : DiskSeen) → Feeds size s t l m xs g h d e →
+pub fed_short : (size : ℕ) (s t : Seen) (l m xs : List ℕ) (g h : Option (List ℕ)) (d e : DiskSeen) → Feeds size s t l m xs g h d e →
     length l ≤ LINE_BYTES → length m ≤ LINE_BYTES
 fed_short size s t l m xs g h d e p short = rw p.line_is (rest_short l xs short)
 
@@ -171,7 +170,7 @@ order_later first done later third next second is =
     rw (is, append_assoc first done (next ∷ (later ++ third)), append_assoc first (done ++ next ∷ later) third, append_assoc done (next ∷ later) third) refl
 
 -- Some lines were run, and why the run stopped among others; then this is why it stopped among all.
-stops_later : (size : ℕ) (s t : code.Session) (l m xs : List ℕ) (second third : List (List ℕ)) (g h k : Option (List ℕ)) (d e f : DiskSeen) (stop : Stop) →
+stops_later : (size : ℕ) (s t : Seen) (l m xs : List ℕ) (second third : List (List ℕ)) (g h k : Option (List ℕ)) (d e f : DiskSeen) (stop : Stop) →
     Feeds size s t l m xs g h d e → StopsAt size (StandsFor t e.told) second h k e f stop → StopsAt size (StandsFor s d.told) ((lines_after l xs ++ second) ++ third) g k d f stop
 stops_later size s t l m xs second third g h k d e f SinkFailed p q =
     let first = lines_after l xs in
@@ -231,7 +230,7 @@ stops_later size s t l m xs second third g h k d e f NoMemory p q =
     }
 
 -- why the run stopped at some bytes, among others
-pub stops_fed : (size : ℕ) (s t : code.Session) (l m xs ys zs : List ℕ) (g h k : Option (List ℕ)) (d e f : DiskSeen) (stop : Stop) →
+pub stops_fed : (size : ℕ) (s t : Seen) (l m xs ys zs : List ℕ) (g h k : Option (List ℕ)) (d e f : DiskSeen) (stop : Stop) →
     Feeds size s t l m xs g h d e → StopsAt size (StandsFor t e.told) (lines_after m ys) h k e f stop →
     StopsAt size (StandsFor s d.told) (lines_after l ((xs ++ ys) ++ zs)) g k d f stop
 stops_fed size s t l m xs ys zs g h k d e f stop p q =
@@ -241,7 +240,7 @@ stops_fed size s t l m xs ys zs g h k d e f stop p q =
     (stops_later size s t l m xs second third g h k d e f stop p (rw p.line_is at q))
 
 -- why the run stopped at the byte at a place
-pub stops_next : (size : ℕ) (s t : code.Session) (l m bytes : List ℕ) (i : ℕ) (g h k : Option (List ℕ)) (d e f : DiskSeen) (stop : Stop) → i < length bytes →
+pub stops_next : (size : ℕ) (s t : Seen) (l m bytes : List ℕ) (i : ℕ) (g h k : Option (List ℕ)) (d e f : DiskSeen) (stop : Stop) → i < length bytes →
     Feeds size s t l m (take i bytes) g h d e → StopsAt size (StandsFor t e.told) (lines_after m (get_or bytes i 0 ∷ [])) h k e f stop →
     StopsAt size (StandsFor s d.told) (lines_after l bytes) g k d f stop
 stops_next size s t l m bytes i g h k d e f stop below p q =
@@ -290,7 +289,7 @@ stops_from size from less lines g h d e NoMemory into p =
 -- ---- one line
 
 -- what a line writes was written, or a part of it
-pub line_written : {T : Type 0} → (size : ℕ) (text : List ℕ) (s t : code.Session) (io : List Bool) (out : List ℕ) (g h : Option (List ℕ)) (d e : DiskSeen) (r : Result T Stop) →
+pub line_written : {T : Type 0} → (size : ℕ) (text : List ℕ) (s t : Seen) (io : List Bool) (out : List ℕ) (g h : Option (List ℕ)) (d e : DiskSeen) (r : Result T Stop) →
     RunsLine size text s t d.told e.told io out → Made d.faults e.faults d.plan e.plan io → t.lines ≤ s.lines + 1 →
     MatchResult r (λ _. Appends g h out) (λ stop. (stop ≡ SinkFailed) × AppendsPart g h out) →
     MatchResult r (λ _. TakesLine size text s t g h d e) (StopsAt size (StandsFor s d.told) (text ∷ []) g h d e)
@@ -316,7 +315,7 @@ line_written size text s t io out g h d e (Err stop) runs calls lines p =
     })
 
 -- there was no memory for a line
-pub line_lacks : (size : ℕ) (text : List ℕ) (s : code.Session) (g : Option (List ℕ)) (d e : DiskSeen) → e ≡ d → IsImageLine text → s.refused ≡ false →
+pub line_lacks : (size : ℕ) (text : List ℕ) (s : Seen) (g : Option (List ℕ)) (d e : DiskSeen) → e ≡ d → IsImageLine text → s.refused ≡ false →
     StopsAt size (StandsFor s d.told) (text ∷ []) g g d e NoMemory
 line_lacks size text s g d e same image going =
     rw same (record {
@@ -335,7 +334,7 @@ line_lacks size text s g d e same image going =
     })
 
 -- a line that ended with this byte was fed, or stopped the run
-pub line_ended : {T : Type 0} → (size : ℕ) (l m n : List ℕ) (byte : ℕ) (s t : code.Session) (g h : Option (List ℕ)) (d e : DiskSeen) (r : Result T Stop) → ends_line l byte ≡ true → ended_line l byte ≡ m →
+pub line_ended : {T : Type 0} → (size : ℕ) (l m n : List ℕ) (byte : ℕ) (s t : Seen) (g h : Option (List ℕ)) (d e : DiskSeen) (r : Result T Stop) → ends_line l byte ≡ true → ended_line l byte ≡ m →
     OnOk r (n ≡ []) → MatchResult r (λ _. TakesLine size m s t g h d e) (StopsAt size (StandsFor s d.told) (m ∷ []) g h d e) →
     MatchResult r (λ _. Feeds size s t l n (byte ∷ []) g h d e) (StopsAt size (StandsFor s d.told) (lines_after l (byte ∷ [])) g h d e)
 line_ended size l m n byte s t g h d e (Ok x) ends is empty p = fed_line size s t l m n byte g h d e ends is empty p

@@ -1,26 +1,17 @@
 -- How large the numbers of a session grow, and what always holds of its store.
-use Rattle.std.specs.Prelude.{◌≡◌, ℕ, ◌≤◌, Bool, true, nat_le, List}
-use Rattle.std.specs.List.{list_all}
-use Rattle.kernel_model.specs.declared.QueueRow.{QueueRow}
-use Rattle.kernel_state.specs.Stores.{queue_of, IsStore}
-use Rattle.vino_top.specs.declared.kernel.Kernel.{Kernel}
+use Rattle.std.specs.Prelude.{◌≡◌, ℕ, ◌≤◌, true, false}
+use Rattle.kernel_model.specs.Opening.{opening_policy}
+use Rattle.graft_points.specs.Shelf.{pol_of, first_choice}
+use Rattle.kernel_state.specs.Stores.{Seeing, views_of}
+use Rattle.kernel_core.specs.Bounds.{IsKernelWithin}
 use Rattle.vino_top.specs.declared.session.Session.{Session}
 
--- each process has had at most so many slices
-abbrev pub slices_within : ℕ → List QueueRow → Bool
-slices_within most rows = list_all (λ (r : QueueRow). nat_le r.slices most) rows
-
--- the store is sound, and the clock and the slices of each process are at most this
-pub record IsKernelWithin (most : ℕ) (k : Kernel) : Type 0 where
-  pub store : IsStore k.store
-  pub clock : k.clock ≤ most
-  pub slices : slices_within most (queue_of k.store) ≡ true
-
 -- On a disk of this size: the set-up is within its limits, the clock and the slices are at most the number of the last event,
--- and each event had a line.
-pub record IsSessionWithin (size : ℕ) (s : Session) : Type 0 where
+-- and each event had a line. Before `boot` the policies are those of the opening state.
+pub record IsSessionWithin {X : Type 0} {F : X → Type 0} (view : Seeing X F) (size : ℕ) (s : Session X F) : Type 0 where
   pub frames_least : 2 ≤ s.setup.frames
   pub frames_most : s.setup.frames ≤ 64
   pub events : s.events ≤ s.lines
-  pub kernel : IsKernelWithin s.events s.kernel
+  pub kernel : IsKernelWithin view s.events s.kernel.store s.kernel.clock
   pub size_is : s.booted ≡ true → s.kernel.store.size ≡ size
+  pub unbooted : s.booted ≡ false → IsKernelWithin view 0 s.kernel.store s.kernel.clock × (pol_of (views_of view s.kernel.store) first_choice ≡ opening_policy)

@@ -1,11 +1,22 @@
 -- What of the product is built so far.
 use Rattle.std.specs.Prelude.{Bool, true, false}
-use Rattle.call_pieces.specs.Works.{is_built_call}
 use Rattle.kernel_model.specs.declared.Event.{Event}
 use Rattle.kernel_model.specs.declared.Event.TheVariants.{Tick, Step, Sys}
-use Rattle.kernel_model.specs.Script.{Entry, Blank, Frames, Boot, Happens}
+use Rattle.kernel_model.specs.declared.SysCall.{SysCall}
+use Rattle.kernel_model.specs.declared.SysCall.TheVariants.{TakeLock, FreeLock, Install, Remove, Fund, Bill}
+use Rattle.kernel_model.specs.Script.{Entry, Blank, Frames, Grant, Boot, Happens}
 use Rattle.kernel_model.specs.Pieces.{plain}
 use Rattle.kernel_model.specs.Session.{Build}
+
+-- the system calls that are built
+abbrev pub is_built_call : SysCall → Bool
+is_built_call (TakeLock u) = false
+is_built_call (FreeLock u) = false
+is_built_call (Install pt i limit) = false
+is_built_call (Remove pt) = false
+is_built_call (Fund pt k n) = false
+is_built_call (Bill pt) = false
+is_built_call _ = true
 
 -- the events that are built
 abbrev pub is_built_event : Event → Bool
@@ -18,6 +29,7 @@ abbrev pub is_built : Entry → Bool
 is_built Blank = true
 is_built Boot = true
 is_built (Frames n) = true
+is_built (Grant n) = true
 is_built (Happens e) = is_built_event e
 is_built _ = false
 

@@ -10,15 +10,18 @@ use Rattle.kernel_model.specs.Script.{words_of, first_word}
 use Rattle.kernel_model.specs.Session.{Session, Written, first_session, after_line, after_built, session_after, pieces_of, first_io, later_io}
 use Rattle.kernel_model.specs.Script.{Entry}
 use Rattle.kernel_model.specs.Outcome.{SCRIPT_BYTES, Ending, End, Fault, Over, Outcome, outcome, written, lines_after, rest_after}
-use Rattle.kernel_model.specs.Text.{line, usage_text}
+use Rattle.kernel_model.specs.Text.{line, usage_text, boot_text}
+use Rattle.kernel_core.specs.declared.kernel.BootNote.{BootNote}
+use Rattle.kernel_core.specs.declared.kernel.BootNote.TheVariants.{Up}
+use Rattle.kernel_core.specs.declared.kernel.BootNote.TheVariants as boot_is
 use Rattle.kernel_model.specs.Filters.{Filter}
 use Rattle.kernel_model.specs.Filters as filter
 use Rattle.filters.specs.Filtered as filtered
 use Rattle.vino_top.specs.declared.words.Asked.{Asked}
 use Rattle.vino_top.specs.declared.words.Asked.TheVariants.{Run, Asm, Dis, Nothing}
 use Rattle.vino_top.specs.Built.{present_build, is_built}
-use Rattle.vino_top.specs.Standing.{session_of}
-use Rattle.vino_top.specs.declared.session.Session as code
+use Rattle.kernel_model.specs.Quiet.{HasNoGraft}
+use Rattle.vino_top.specs.Standing.{Seen, session_of}
 use Rattle.vino_top.specs.declared.run.Stop.{Stop}
 use Rattle.vino_top.specs.declared.run.Stop.TheVariants.{SinkFailed, NoMemory}
 
@@ -85,27 +88,33 @@ pub record AppendsPart (old new : Option (List ℕ)) (bytes : List ℕ) : Type 0
 
 -- ---- a session of the code beside the abstract one
 
--- the session stands for the abstract one, whose blocks the disk tells
-pub record StandsFor (s : code.Session) (told : Option (List (List ℕ))) (a : Session) : Type 0 where
+-- what is seen of the session stands for the abstract one, whose blocks the disk tells; no graft is installed
+pub record StandsFor (s : Seen) (told : Option (List (List ℕ))) (a : Session) : Type 0 where
   pub session : session_of a.blocks s ≡ a
   pub blocks : Tells told a.blocks
+  pub graftless : s.booted ≡ true → HasNoGraft s.objects
 
 -- what came of a line or an entry: the session and the disk stand for what is written of them, all calls of the list were made,
 -- and the bytes are these
-pub record Comes (t : code.Session) (told : Option (List (List ℕ))) (out : List ℕ) (w : Written) : Type 0 where
+pub record Comes (t : Seen) (told : Option (List (List ℕ))) (out : List ℕ) (w : Written) : Type 0 where
   pub stands : StandsFor t told w.session
   pub used : w.io ≡ []
   pub bytes : out ≡ w.bytes
 
 -- the session went on by this line, which made these calls and writes `out`
-abbrev pub RunsLine : (size : ℕ) → List ℕ → (s t : code.Session) → (told told_new : Option (List (List ℕ))) → List Bool → List ℕ → Type 0
+abbrev pub RunsLine : (size : ℕ) → List ℕ → (s t : Seen) → (told told_new : Option (List (List ℕ))) → List Bool → List ℕ → Type 0
 RunsLine size text s t told told_new io out =
     (key : List ℕ) (a : Session) → StandsFor s told a → Comes t told_new out (line_run (place key size) a text io)
 
 -- the session went on by this entry, which made these calls and writes `out`
-abbrev pub RunsEntry : (size : ℕ) → Entry → (s t : code.Session) → (told told_new : Option (List (List ℕ))) → List Bool → List ℕ → Type 0
+abbrev pub RunsEntry : (size : ℕ) → Entry → (s t : Seen) → (told told_new : Option (List (List ℕ))) → List Bool → List ℕ → Type 0
 RunsEntry size e s t told told_new io out =
     (key : List ℕ) (a : Session) → StandsFor s told a → Comes t told_new out (after_built present_build key size a e io (is_built e))
+
+-- what is written of a boot
+abbrev pub boot_line : BootNote → List ℕ
+boot_line (Up frames size files) = boot_text frames size files
+boot_line boot_is.Fault = codes "0 E16"
 
 -- a line is an `image` line, which alone wants memory
 abbrev pub IsImageLine : List ℕ → Type 0
@@ -116,7 +125,7 @@ abbrev pub Whenever : (size : ℕ) → (Session → Type 0) → (Place → Sessi
 Whenever size from holds = (key : List ℕ) (a : Session) → from a → holds (place key size) a
 
 -- These bytes were fed to a session and to the line that was being read. The sink took what they write.
-pub record Feeds (size : ℕ) (s t : code.Session) (line line_new bytes : List ℕ) (got got_new : Option (List ℕ)) (d e : DiskSeen) : Type 0 where
+pub record Feeds (size : ℕ) (s t : Seen) (line line_new bytes : List ℕ) (got got_new : Option (List ℕ)) (d e : DiskSeen) : Type 0 where
   pub ios : List (List Bool)
   pub one_each : length ios ≡ length (lines_after line bytes)
   pub calls : MadeAll d e ios
@@ -171,7 +180,7 @@ StopsAt size from lines got got_new d e SinkFailed = CutsShort size from lines g
 StopsAt size from lines got got_new d e NoMemory = Lacks size from lines got got_new d e
 
 -- the session went on by this line, and the sink took what the line writes
-pub record TakesLine (size : ℕ) (text : List ℕ) (s t : code.Session) (got got_new : Option (List ℕ)) (d e : DiskSeen) : Type 0 where
+pub record TakesLine (size : ℕ) (text : List ℕ) (s t : Seen) (got got_new : Option (List ℕ)) (d e : DiskSeen) : Type 0 where
   pub io : List Bool
   pub calls : MadeAll d e (io ∷ [])
   pub lines : t.lines ≤ s.lines + 1
@@ -280,7 +289,7 @@ Does Nothing size rest rest_new before now got got_new d e status = UsageDoes re
 -- ---- the steps of a run
 
 -- Where a run stands before a read, while so many bytes may still be taken.
-pub record Reached (size : ℕ) (s t : code.Session) (rest rest_new got got_new : Option (List ℕ)) (d e : DiskSeen) (line : List ℕ) (left : ℕ) : Type 0 where
+pub record Reached (size : ℕ) (s t : Seen) (rest rest_new got got_new : Option (List ℕ)) (d e : DiskSeen) (line : List ℕ) (left : ℕ) : Type 0 where
   pub taken : List ℕ
   pub count : length taken + left ≡ SCRIPT_BYTES + 1
   pub consumed : Consumes rest rest_new taken

@@ -9,14 +9,14 @@ ghost use Rattle.vino_base.specs.Faults.{Rose};
 ghost use Rattle.kernel_model.specs.World.{Blocks};
 ghost use Rattle.kernel_model.specs.Session.{first_session};
 ghost use Rattle.kernel_model.specs.Text.{line, usage_text};
-ghost use Rattle.vino_top.specs.Standing.{session_of};
+ghost use Rattle.kernel_model.specs.Opening.{opening_policy};
+ghost use Rattle.graft_points.specs.Shelf.{IsShelf, pol_of, first_choice};
+ghost use Rattle.vino_top.specs.Standing.{seen_of, session_of};
 ghost use Rattle.vino_top.specs.Bounds.{IsSessionWithin};
 ghost use Rattle.vino_top.specs.Words.{asked_by};
 ghost use Rattle.vino_top.specs.Run.{AppendsPart, Ran, Broke, Lacked, Does, disk_seen};
 
-mod calls;
-mod kernel;
-mod notes;
+mod lines;
 mod output;
 mod run;
 mod session;
@@ -44,6 +44,9 @@ pub fn vino<S: Source, K: Sink, D: Disk>(
     disk: &mut D,
     shelf: Vec<Box<dyn Policy>>,
 ) -> u8
+    // The shelf has the seven stock policies, with their parameters at boot.
+    requires shelf { IsShelf (map (λ b. seen b) shelf.items) }
+    requires stock { pol_of (map (λ b. seen b) shelf.items) first_choice ≡ opening_policy }
     // What is done for what the words ask: the status, the bytes read and written, and the disk.
     ensures does { Does (asked_by (map (λ (w : _). string_bytes w) words.now)) (D.block_count disk.old)
         (S.rest src.old) (S.rest src.new) (S.faults src.old) (S.faults src.new) (K.got out.old) (K.got out.new)
@@ -56,9 +59,8 @@ pub fn vino<S: Source, K: Sink, D: Disk>(
     ensures source_later { S.faults src.old ≤ S.faults src.new }
     ensures sink_later { K.faults out.old ≤ K.faults out.new }
 {
-    drop(shelf);
     match words::read_words(words) {
-        Asked::Run => run_script(alloc, src, out, disk),
+        Asked::Run => run_script(alloc, src, out, disk, shelf),
         Asked::Asm => filters::asm(alloc, src, out),
         Asked::Dis => filters::dis(alloc, src, out),
         Asked::Nothing => write_usage(out),
@@ -71,7 +73,10 @@ fn run_script<S: Source, K: Sink, D: Disk>(
     src: &mut S,
     out: &mut K,
     disk: &mut D,
+    shelf: Vec<Box<dyn Policy>>,
 ) -> u8
+    requires shelf { IsShelf (map (λ b. seen b) shelf.items) }
+    requires stock { pol_of (map (λ b. seen b) shelf.items) first_choice ≡ opening_policy }
     ensures ran { result ≢ 4 → result ≢ 5 → Ran (D.block_count disk.old) (S.rest src.old) (S.rest src.new) (S.faults src.old) (S.faults src.new) (K.got out.old) (K.got out.new)
         (disk_seen (D.blocks disk.old) (D.plan disk.old) (D.faults disk.old)) (disk_seen (D.blocks disk.new) (D.plan disk.new) (D.faults disk.new)) result }
     ensures broke { result ≡ 4 → Broke (D.block_count disk.old) (S.rest src.old) (S.rest src.new) (K.got out.old) (K.got out.new)
@@ -86,7 +91,7 @@ fn run_script<S: Source, K: Sink, D: Disk>(
     ensures source_failed { result ≡ 3 → Rose (S.faults src.old) (S.faults src.new) }
     ensures sink_failed { result ≡ 4 → Rose (K.faults out.old) (K.faults out.new) }
 {
-    match run::Reader::new(alloc) {
+    match run::Reader::new(alloc, shelf) {
         Err(_) => 5,
         Ok(reader) => start(alloc, reader, src, out, disk),
     }
@@ -112,9 +117,9 @@ fn start<S: Source, K: Sink, D: Disk>(
     out: &mut K,
     disk: &mut D,
 ) -> u8
-    requires session { (size : ℕ) (blocks : Blocks) → session_of blocks reader.session ≡ first_session (record { size = size; block = blocks }) }
+    requires session { (size : ℕ) (blocks : Blocks) → session_of blocks (seen_of (λ b. seen (b.vtable, b.value)) reader.session) ≡ first_session (record { size = size; block = blocks }) }
     requires first { (reader.session.lines ≡ 0) × (reader.session.refused ≡ false) }
-    requires within { (size : ℕ) → IsSessionWithin size reader.session }
+    requires within { (size : ℕ) → IsSessionWithin (λ b. seen (b.vtable, b.value)) size reader.session }
     requires line { reader.line ≡ [] }
     ensures ran { result ≢ 4 → result ≢ 5 → Ran (D.block_count disk.old) (S.rest src.old) (S.rest src.new) (S.faults src.old) (S.faults src.new) (K.got out.old) (K.got out.new)
         (disk_seen (D.blocks disk.old) (D.plan disk.old) (D.faults disk.old)) (disk_seen (D.blocks disk.new) (D.plan disk.new) (D.faults disk.new)) result }

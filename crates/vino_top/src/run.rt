@@ -1,6 +1,6 @@
 //! The run loop.
 
-ghost use Rattle.std.specs.Prelude.{◌≡◌, ◌≢◌, ◌+◌, ◌-◌, ◌<◌, ◌≤◌, ◌^◌, ℕ, List, [], ◌∷◌, ◌++◌, length, false, Err, OnOk, IfOk, MatchResult, vec_len, ◌⊎◌};
+ghost use Rattle.std.specs.Prelude.{◌≡◌, ◌≢◌, ◌+◌, ◌-◌, ◌<◌, ◌≤◌, ◌^◌, ℕ, List, [], ◌∷◌, ◌++◌, length, false, Err, OnOk, IfOk, MatchResult, map, vec_len, ◌⊎◌};
 ghost use Rattle.std.specs.Io.KnownBytes.{Appends, Consumes, IsAtEnd};
 ghost use Rattle.vino_base.specs.Faults.{HasCause, Rose};
 ghost use Rattle.kernel_model.specs.Text.{line};
@@ -10,11 +10,14 @@ ghost use Rattle.kernel_model.specs.Outcome.{lines_after};
 ghost use Rattle.vino_top.specs.Bounds.{IsSessionWithin};
 ghost use Rattle.vino_top.specs.declared.run.Stop.TheVariants.{SinkFailed};
 ghost use Rattle.vino_top.specs.Run.{AppendsPart, DiskSeen, disk_seen, StandsFor, IsFirst, TakesLine, Feeds, StopsAt, Ran, Broke, Lacked, stop_status};
-ghost use Rattle.vino_top.specs.Standing.{session_of};
+ghost use Rattle.vino_top.specs.Standing.{seen_of, session_of};
+ghost use Rattle.kernel_model.specs.Opening.{opening_policy};
+ghost use Rattle.graft_points.specs.Shelf.{IsShelf, pol_of, first_choice};
 ghost use Rattle.kernel_model.specs.World.{Blocks};
 
 use crate::output::write_all;
 use crate::session::{Buffers, Session};
+use graft_points::Policy;
 use kernel_model::NoMemory;
 use script_text::{Fed, LineBuf, print_fault};
 use std::alloc::Global;
@@ -41,15 +44,17 @@ pub struct Reader {
 }
 
 impl Reader {
-    /// Before the first byte.
-    pub fn new(alloc: Global) -> Result<Reader, NoMemory>
-        ensures within { IfOk result (λ r. (size : ℕ) → IsSessionWithin size r.session) }
+    /// Before the first byte, with the stock policies.
+    pub fn new(alloc: Global, shelf: Vec<Box<dyn Policy>>) -> Result<Reader, NoMemory>
+        requires shelf { IsShelf (map (λ b. seen b) shelf.items) }
+        requires stock { pol_of (map (λ b. seen b) shelf.items) first_choice ≡ opening_policy }
+        ensures within { IfOk result (λ r. (size : ℕ) → IsSessionWithin (λ b. seen b) size r.session) }
         ensures first { IfOk result (λ r. (r.session.lines ≡ 0) × (r.session.refused ≡ false)) }
-        ensures session { IfOk result (λ r. (size : ℕ) (blocks : Blocks) → session_of blocks r.session ≡ first_session (record { size = size; block = blocks })) }
+        ensures session { IfOk result (λ r. (size : ℕ) (blocks : Blocks) → session_of blocks (seen_of (λ b. seen b) r.session) ≡ first_session (record { size = size; block = blocks })) }
         ensures line { IfOk result (λ r. r.line ≡ []) }
     {
         Ok(Reader {
-            session: Session::new(alloc)?,
+            session: Session::new(alloc, shelf)?,
             line: LineBuf::new(alloc)?,
             out: Buffers::new(alloc)?,
         })
@@ -88,15 +93,15 @@ fn end_line<K: Sink, D: Disk>(
     disk: &mut D,
 ) -> Result<(), Stop>
     requires lines { reader.old.session.lines < 2 ^ 32 - 2 }
-    requires within { IsSessionWithin size reader.old.session }
+    requires within { IsSessionWithin (λ b. seen (b.vtable, b.value)) size reader.old.session }
     requires short { length reader.old.line ≤ LINE_BYTES }
     requires disk { D.block_count disk.old ≡ size }
-    ensures within { IsSessionWithin size reader.new.session }
+    ensures within { IsSessionWithin (λ b. seen (b.vtable, b.value)) size reader.new.session }
     ensures line { OnOk result (reader.new.line ≡ []) }
     ensures contents { MatchResult result
-        (λ _. TakesLine size reader.old.line reader.old.session reader.new.session (K.got out.old) (K.got out.new)
+        (λ _. TakesLine size reader.old.line (seen_of (λ b. seen (b.vtable, b.value)) reader.old.session) (seen_of (λ b. seen (b.vtable, b.value)) reader.new.session) (K.got out.old) (K.got out.new)
         (disk_seen (D.blocks disk.old) (D.plan disk.old) (D.faults disk.old)) (disk_seen (D.blocks disk.new) (D.plan disk.new) (D.faults disk.new)))
-        (StopsAt size (StandsFor reader.old.session (D.blocks disk.old)) (reader.old.line ∷ []) (K.got out.old) (K.got out.new)
+        (StopsAt size (StandsFor (seen_of (λ b. seen (b.vtable, b.value)) reader.old.session) (D.blocks disk.old)) (reader.old.line ∷ []) (K.got out.old) (K.got out.new)
         (disk_seen (D.blocks disk.old) (D.plan disk.old) (D.faults disk.old)) (disk_seen (D.blocks disk.new) (D.plan disk.new) (D.faults disk.new))) }
     ensures later { K.faults out.old ≤ K.faults out.new }
     ensures sink_failed { result ≡ Err SinkFailed → Rose (K.faults out.old) (K.faults out.new) }
@@ -116,11 +121,11 @@ fn end_line<K: Sink, D: Disk>(
 fn end_long<K: Sink>(reader: &mut Reader, byte: u8, out: &mut K) -> Result<(), Stop>
     requires lines { reader.old.session.lines < 2 ^ 32 - 2 }
     requires long { length reader.old.line ≡ LINE_BYTES }
-    ensures within { (size : ℕ) → IsSessionWithin size reader.old.session → IsSessionWithin size reader.new.session }
+    ensures within { (size : ℕ) → IsSessionWithin (λ b. seen (b.vtable, b.value)) size reader.old.session → IsSessionWithin (λ b. seen (b.vtable, b.value)) size reader.new.session }
     ensures line { OnOk result (reader.new.line ≡ []) }
     ensures contents { (size : ℕ) (d : DiskSeen) → MatchResult result
-        (λ _. TakesLine size (reader.old.line ++ byte ∷ []) reader.old.session reader.new.session (K.got out.old) (K.got out.new) d d)
-        (StopsAt size (StandsFor reader.old.session d.told) ((reader.old.line ++ byte ∷ []) ∷ []) (K.got out.old) (K.got out.new) d d) }
+        (λ _. TakesLine size (reader.old.line ++ byte ∷ []) (seen_of (λ b. seen (b.vtable, b.value)) reader.old.session) (seen_of (λ b. seen (b.vtable, b.value)) reader.new.session) (K.got out.old) (K.got out.new) d d)
+        (StopsAt size (StandsFor (seen_of (λ b. seen (b.vtable, b.value)) reader.old.session) d.told) ((reader.old.line ++ byte ∷ []) ∷ []) (K.got out.old) (K.got out.new) d d) }
     ensures later { K.faults out.old ≤ K.faults out.new }
     ensures sink_failed { result ≡ Err SinkFailed → Rose (K.faults out.old) (K.faults out.new) }
 {
@@ -139,14 +144,14 @@ fn take_byte<K: Sink, D: Disk>(
     disk: &mut D,
 ) -> Result<(), Stop>
     requires lines { reader.old.session.lines < 2 ^ 32 - 2 }
-    requires within { IsSessionWithin size reader.old.session }
+    requires within { IsSessionWithin (λ b. seen (b.vtable, b.value)) size reader.old.session }
     requires short { length reader.old.line ≤ LINE_BYTES }
     requires disk { D.block_count disk.old ≡ size }
-    ensures within { IsSessionWithin size reader.new.session }
+    ensures within { IsSessionWithin (λ b. seen (b.vtable, b.value)) size reader.new.session }
     ensures contents { MatchResult result
-        (λ _. Feeds size reader.old.session reader.new.session reader.old.line reader.new.line (byte ∷ []) (K.got out.old) (K.got out.new)
+        (λ _. Feeds size (seen_of (λ b. seen (b.vtable, b.value)) reader.old.session) (seen_of (λ b. seen (b.vtable, b.value)) reader.new.session) reader.old.line reader.new.line (byte ∷ []) (K.got out.old) (K.got out.new)
         (disk_seen (D.blocks disk.old) (D.plan disk.old) (D.faults disk.old)) (disk_seen (D.blocks disk.new) (D.plan disk.new) (D.faults disk.new)))
-        (StopsAt size (StandsFor reader.old.session (D.blocks disk.old)) (lines_after reader.old.line (byte ∷ [])) (K.got out.old) (K.got out.new)
+        (StopsAt size (StandsFor (seen_of (λ b. seen (b.vtable, b.value)) reader.old.session) (D.blocks disk.old)) (lines_after reader.old.line (byte ∷ [])) (K.got out.old) (K.got out.new)
         (disk_seen (D.blocks disk.old) (D.plan disk.old) (D.faults disk.old)) (disk_seen (D.blocks disk.new) (D.plan disk.new) (D.faults disk.new))) }
     ensures later { K.faults out.old ≤ K.faults out.new }
     ensures sink_failed { result ≡ Err SinkFailed → Rose (K.faults out.old) (K.faults out.new) }
@@ -169,14 +174,14 @@ fn feed<K: Sink, D: Disk>(
     disk: &mut D,
 ) -> Result<(), Stop>
     requires lines { reader.old.session.lines + length bytes.now < 2 ^ 32 - 2 }
-    requires within { IsSessionWithin size reader.old.session }
+    requires within { IsSessionWithin (λ b. seen (b.vtable, b.value)) size reader.old.session }
     requires short { length reader.old.line ≤ LINE_BYTES }
     requires disk { D.block_count disk.old ≡ size }
-    ensures within { IsSessionWithin size reader.new.session }
+    ensures within { IsSessionWithin (λ b. seen (b.vtable, b.value)) size reader.new.session }
     ensures contents { MatchResult result
-        (λ _. Feeds size reader.old.session reader.new.session reader.old.line reader.new.line bytes.now (K.got out.old) (K.got out.new)
+        (λ _. Feeds size (seen_of (λ b. seen (b.vtable, b.value)) reader.old.session) (seen_of (λ b. seen (b.vtable, b.value)) reader.new.session) reader.old.line reader.new.line bytes.now (K.got out.old) (K.got out.new)
         (disk_seen (D.blocks disk.old) (D.plan disk.old) (D.faults disk.old)) (disk_seen (D.blocks disk.new) (D.plan disk.new) (D.faults disk.new)))
-        (StopsAt size (StandsFor reader.old.session (D.blocks disk.old)) (lines_after reader.old.line bytes.now) (K.got out.old) (K.got out.new)
+        (StopsAt size (StandsFor (seen_of (λ b. seen (b.vtable, b.value)) reader.old.session) (D.blocks disk.old)) (lines_after reader.old.line bytes.now) (K.got out.old) (K.got out.new)
         (disk_seen (D.blocks disk.old) (D.plan disk.old) (D.faults disk.old)) (disk_seen (D.blocks disk.new) (D.plan disk.new) (D.faults disk.new))) }
     ensures later { K.faults out.old ≤ K.faults out.new }
     ensures sink_failed { result ≡ Err SinkFailed → Rose (K.faults out.old) (K.faults out.new) }
@@ -229,9 +234,9 @@ pub fn run<S: Source, K: Sink, D: Disk>(
     out: &mut K,
     disk: &mut D,
 ) -> u8
-    requires session { (blocks : Blocks) → session_of blocks reader.old.session ≡ first_session (record { size = D.block_count disk.old; block = blocks }) }
+    requires session { (blocks : Blocks) → session_of blocks (seen_of (λ b. seen (b.vtable, b.value)) reader.old.session) ≡ first_session (record { size = D.block_count disk.old; block = blocks }) }
     requires first { (reader.old.session.lines ≡ 0) × (reader.old.session.refused ≡ false) }
-    requires within { IsSessionWithin (D.block_count disk.old) reader.old.session }
+    requires within { IsSessionWithin (λ b. seen (b.vtable, b.value)) (D.block_count disk.old) reader.old.session }
     requires line { reader.old.line ≡ [] }
     requires room { 0 < length buf.old }
     ensures ran { result ≢ 4 → result ≢ 5 → Ran (D.block_count disk.old) (S.rest src.old) (S.rest src.new) (S.faults src.old) (S.faults src.new) (K.got out.old) (K.got out.new)

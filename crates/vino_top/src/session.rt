@@ -1,28 +1,25 @@
 //! How a script runs, line by line.
 
-ghost use Rattle.std.specs.Prelude.{◌≡◌, ℕ, ◌+◌, ◌<◌, ◌≤◌, ◌-◌, ◌++◌, ◌^◌, true, false, List, [], length, codes, decimal, Option, Some, None, Ok, IfOk, OnOk, OnErr, slice_index_or};
+ghost use Rattle.std.specs.Prelude.{◌≡◌, ℕ, ◌+◌, ◌<◌, ◌≤◌, ◌-◌, ◌++◌, ◌^◌, true, false, List, [], length, map, codes, decimal, Option, Some, Ok, IfOk, OnOk, OnErr};
 ghost use Rattle.kernel_model.specs.Text.{line, spaced};
+ghost use Rattle.kernel_model.specs.Opening.{opening_policy};
 ghost use Rattle.kernel_model.specs.Script.{Happens, Boot};
 ghost use Rattle.kernel_model.specs.World.{Blocks};
 ghost use Rattle.kernel_model.specs.Session.{first_session};
 ghost use Rattle.disk_log.specs.Calls.{GoesOn, Made};
 ghost use Rattle.script_text.specs.Answers.{entry_seen, SetsWithin};
 ghost use Rattle.vino_top.specs.Bounds.{IsSessionWithin};
-ghost use Rattle.vino_top.specs.Built.{is_built_event};
-ghost use Rattle.call_pieces.specs.Works.{is_built_call as built_call};
-ghost use Rattle.kernel_state.specs.Stores.{world_for};
-ghost use Rattle.kernel_model.specs.declared.FileRow.{FileRow as Row};
-ghost use Rattle.kernel_model.specs.Directory.{lies_on_disk};
-ghost use Rattle.vino_top.specs.Standing.{session_of, code_seen};
-ghost use Rattle.kernel_model.specs.Opening.{opening_kernel};
-ghost use Rattle.vino_top.specs.Run.{IsImageLine, RunsLine, RunsEntry, disk_seen};
+ghost use Rattle.vino_top.specs.Built.{is_built_event, is_built_call as built_call};
+ghost use Rattle.graft_points.specs.Shelf.{IsShelf, pol_of, first_choice};
+ghost use Rattle.vino_top.specs.Standing.{seen_of, session_of, code_seen};
+ghost use Rattle.vino_top.specs.Run.{IsImageLine, RunsLine, RunsEntry, disk_seen, boot_line};
 
-use crate::kernel::{Kernel, Logs};
-use crate::notes::{Lines, Notes};
+use crate::lines::Lines;
+use call_pieces::Plain;
 use disk_log::DiskLog;
+use graft_points::Policy;
+use kernel_core::{BootNote, Kernel, Logs, Notes, Setup};
 use kernel_model::{Event, NoMemory, Note, Refusal, SysCall};
-use kernel_state::Setup;
-use mem_disk::{Directory, read_directory};
 use ram_space::Ram;
 use script_text::{Entry, ScriptFault, Text, parse_line, print_boot, print_fault, print_note};
 use std::alloc::Global;
@@ -48,7 +45,7 @@ impl Buffers {
             },
             notes: Notes::new(alloc)?,
             text: Text::new(),
-            lines: Lines::new(),
+            lines: Lines::new(alloc)?,
         })
     }
 
@@ -72,7 +69,7 @@ pub struct Session {
     /// Whether `boot` was run.
     pub booted: bool,
     /// What `boot` begins anew.
-    pub kernel: Kernel,
+    pub kernel: Kernel<Plain>,
     /// How many lines were taken.
     pub lines: u32,
     /// How many events were counted.
@@ -82,11 +79,13 @@ pub struct Session {
 }
 
 impl Session {
-    /// Before the first line.
-    pub fn new(alloc: Global) -> Result<Session, NoMemory>
-        ensures within { IfOk result (λ s. (size : ℕ) → IsSessionWithin size s) }
+    /// Before the first line, with the stock policies.
+    pub fn new(alloc: Global, shelf: Vec<Box<dyn Policy>>) -> Result<Session, NoMemory>
+        requires shelf { IsShelf (map (λ b. seen b) shelf.items) }
+        requires stock { pol_of (map (λ b. seen b) shelf.items) first_choice ≡ opening_policy }
+        ensures within { IfOk result (λ s. (size : ℕ) → IsSessionWithin (λ b. seen b) size s) }
         ensures first { IfOk result (λ s. (s.lines ≡ 0) × (s.refused ≡ false)) }
-        ensures value { IfOk result (λ s. (size : ℕ) (blocks : Blocks) → session_of blocks s ≡ first_session (record { size = size; block = blocks })) }
+        ensures value { IfOk result (λ s. (size : ℕ) (blocks : Blocks) → session_of blocks (seen_of (λ b. seen b) s) ≡ first_session (record { size = size; block = blocks })) }
     {
         let setup = Setup {
             frames: 8,
@@ -98,7 +97,7 @@ impl Session {
             Ok(ram) => Ok(Session {
                 setup,
                 booted: false,
-                kernel: Kernel::new(setup, ram),
+                kernel: Kernel::new(setup, ram, shelf),
                 lines: 0,
                 events: 0,
                 refused: false,
@@ -118,13 +117,13 @@ impl Session {
         out: &mut Buffers,
     ) -> Result<(), NoMemory>
         requires room { self.old.lines < 2 ^ 32 - 2 }
-        requires within { IsSessionWithin size self.old }
+        requires within { IsSessionWithin (λ b. seen (b.vtable, b.value)) size self.old }
         requires short { length text.now ≤ 65536 }
         requires disk { D.block_count disk.old ≡ size }
-        ensures within { IsSessionWithin size self.new }
+        ensures within { IsSessionWithin (λ b. seen (b.vtable, b.value)) size self.new }
         ensures counted { self.new.lines ≤ self.old.lines + 1 }
         ensures same_size { D.block_count disk.new ≡ size }
-        ensures ok { OnOk result (RunsLine size text.now self.old self.new (D.blocks disk.old) (D.blocks disk.new) out.new.logs.event out.new.lines) }
+        ensures ok { OnOk result (RunsLine size text.now (seen_of (λ b. seen (b.vtable, b.value)) self.old) (seen_of (λ b. seen (b.vtable, b.value)) self.new) (D.blocks disk.old) (D.blocks disk.new) out.new.logs.event out.new.lines) }
         ensures calls { OnOk result (Made (D.faults disk.old) (D.faults disk.new) (D.plan disk.old) (D.plan disk.new) out.new.logs.event) }
         ensures err { OnErr result ((self.new ≡ self.old) × IsImageLine text.now × (self.old.refused ≡ false)) }
         ensures same_disk { OnErr result (disk_seen (D.blocks disk.new) (D.plan disk.new) (D.faults disk.new) ≡ disk_seen (D.blocks disk.old) (D.plan disk.old) (D.faults disk.old)) }
@@ -152,11 +151,11 @@ impl Session {
     /// Takes a line that is longer than a line may be.
     pub fn refuse_long(&mut self, out: &mut Buffers)
         requires room { self.old.lines < 2 ^ 32 - 2 }
-        ensures within { (size : ℕ) → IsSessionWithin size self.old → IsSessionWithin size self.new }
+        ensures within { (size : ℕ) → IsSessionWithin (λ b. seen (b.vtable, b.value)) size self.old → IsSessionWithin (λ b. seen (b.vtable, b.value)) size self.new }
         ensures counted { self.new.lines ≤ self.old.lines + 1 }
         ensures no_calls { out.new.logs.event ≡ [] }
         ensures runs { (size : ℕ) (text : List ℕ) (told : Option (List (List ℕ))) → 65536 < length text →
-            RunsLine size text self.old self.new told told [] out.new.lines }
+            RunsLine size text (seen_of (λ b. seen (b.vtable, b.value)) self.old) (seen_of (λ b. seen (b.vtable, b.value)) self.new) told told [] out.new.lines }
     {
         out.clear();
         if self.refused {
@@ -182,76 +181,45 @@ impl Session {
     fn run_entry<D: Disk>(&mut self, entry: &Entry, size: u32, disk: &mut D, out: &mut Buffers)
         requires room { self.old.lines < 2 ^ 32 - 1 }
         requires fresh { self.old.events < self.old.lines }
-        requires within { IsSessionWithin size self.old }
+        requires within { IsSessionWithin (λ b. seen (b.vtable, b.value)) size self.old }
         requires disk { D.block_count disk.old ≡ size }
         requires limits { SetsWithin (Ok entry.now) }
+        requires place { entry_seen entry.now ≡ Boot → self.old.booted ≡ false }
         requires no_calls { out.old.logs.event ≡ [] }
         requires no_notes { out.old.notes ≡ [] }
         requires empty { out.old.lines ≡ [] }
-        ensures within { IsSessionWithin size self.new }
+        ensures within { IsSessionWithin (λ b. seen (b.vtable, b.value)) size self.new }
         ensures counted { self.new.lines ≡ self.old.lines }
         ensures same_size { D.block_count disk.new ≡ size }
-        ensures runs { RunsEntry size (entry_seen entry.now) self.old self.new (D.blocks disk.old) (D.blocks disk.new) out.new.logs.event out.new.lines }
+        ensures runs { RunsEntry size (entry_seen entry.now) (seen_of (λ b. seen (b.vtable, b.value)) self.old) (seen_of (λ b. seen (b.vtable, b.value)) self.new) (D.blocks disk.old) (D.blocks disk.new) out.new.logs.event out.new.lines }
         ensures calls { GoesOn (D.faults disk.old) (D.faults disk.new) (D.plan disk.old) (D.plan disk.new) out.old.logs.event out.new.logs.event }
     {
         match entry {
             Entry::Blank => {}
             Entry::Frames(n) => self.setup.frames = *n,
+            Entry::Grant(n) => self.setup.grant = *n,
             Entry::Boot => self.boot(size, disk, out),
             Entry::Happens(event) => self.happen(event, size, disk, out),
-            Entry::Patience(..) | Entry::Grant(_) | Entry::Image(..) | Entry::Raw => {
-                self.refuse(5, out)
-            }
+            Entry::Patience(..) | Entry::Image(..) | Entry::Raw => self.refuse(5, out),
         }
     }
 
-    /// The kernel begins: block 0 of the disk has the directory. Where it can't be read there are no files.
+    /// The kernel begins.
     fn boot<D: Disk>(&mut self, size: u32, disk: &mut D, out: &mut Buffers)
-        requires within { IsSessionWithin size self.old }
+        requires first { self.old.booted ≡ false }
+        requires within { IsSessionWithin (λ b. seen (b.vtable, b.value)) size self.old }
         requires disk { D.block_count disk.old ≡ size }
         requires no_calls { out.old.logs.event ≡ [] }
         requires empty { out.old.lines ≡ [] }
-        ensures within { IsSessionWithin size self.new }
+        ensures within { IsSessionWithin (λ b. seen (b.vtable, b.value)) size self.new }
         ensures counted { self.new.lines ≡ self.old.lines }
         ensures same_size { D.block_count disk.new ≡ size }
-        ensures runs { RunsEntry size Boot self.old self.new (D.blocks disk.old) (D.blocks disk.new) out.new.logs.event out.new.lines }
+        ensures runs { RunsEntry size Boot (seen_of (λ b. seen (b.vtable, b.value)) self.old) (seen_of (λ b. seen (b.vtable, b.value)) self.new) (D.blocks disk.old) (D.blocks disk.new) out.new.logs.event out.new.lines }
         ensures calls { GoesOn (D.faults disk.old) (D.faults disk.new) (D.plan disk.old) (D.plan disk.new) out.old.logs.event out.new.logs.event }
     {
-        disk.size();
-        let mut block = [0; 512];
-        match out.logs.event.read(disk, 0, &mut block) {
-            Ok(()) => {
-                let directory = read_directory(&block, size);
-                print_boot(
-                    self.setup.frames,
-                    size,
-                    u32::from(directory.count()),
-                    &mut out.text,
-                );
-                self.begin(size, directory, out)
-            }
-            Err(_) => {
-                print_note(&Note::Refused(0, Refusal::DiskFault), &mut out.text);
-                self.begin(size, Directory::empty(), out)
-            }
-        }
-    }
-
-    /// The kernel begins with this directory, and the text is written.
-    fn begin(&mut self, size: u32, directory: Directory, out: &mut Buffers)
-        requires within { IsSessionWithin size self.old }
-        requires size_least { 1 ≤ size }
-        requires size_most { size ≤ 4096 }
-        requires files { (n : ℕ) (r : Row) → slice_index_or directory n None ≡ Some r → lies_on_disk size r ≡ true }
-        requires empty { out.old.lines ≡ [] }
-        ensures within { IsSessionWithin size self.new }
-        ensures counted { self.new.lines ≡ self.old.lines }
-        ensures session { (blocks : Blocks) → session_of blocks self.new ≡ record (session_of blocks self.old) { kernel = Some (opening_kernel (world_for self.old.setup size directory)) } }
-        ensures text { out.new.lines ≡ out.old.text }
-        ensures no_calls { out.new.logs.event ≡ out.old.logs.event }
-    {
-        self.kernel.boot(self.setup, size, directory);
+        let note = self.kernel.boot(self.setup, disk, &mut out.logs);
         self.booted = true;
+        say_boot(note, &mut out.text);
         out.lines.add(&out.text);
     }
 
@@ -259,15 +227,15 @@ impl Session {
     fn happen<D: Disk>(&mut self, event: &Event, size: u32, disk: &mut D, out: &mut Buffers)
         requires room { self.old.lines < 2 ^ 32 - 1 }
         requires fresh { self.old.events < self.old.lines }
-        requires within { IsSessionWithin size self.old }
+        requires within { IsSessionWithin (λ b. seen (b.vtable, b.value)) size self.old }
         requires disk { D.block_count disk.old ≡ size }
         requires no_calls { out.old.logs.event ≡ [] }
         requires no_notes { out.old.notes ≡ [] }
         requires empty { out.old.lines ≡ [] }
-        ensures within { IsSessionWithin size self.new }
+        ensures within { IsSessionWithin (λ b. seen (b.vtable, b.value)) size self.new }
         ensures counted { self.new.lines ≡ self.old.lines }
         ensures same_size { D.block_count disk.new ≡ size }
-        ensures runs { RunsEntry size (Happens event.now) self.old self.new (D.blocks disk.old) (D.blocks disk.new) out.new.logs.event out.new.lines }
+        ensures runs { RunsEntry size (Happens event.now) (seen_of (λ b. seen (b.vtable, b.value)) self.old) (seen_of (λ b. seen (b.vtable, b.value)) self.new) (D.blocks disk.old) (D.blocks disk.new) out.new.logs.event out.new.lines }
         ensures calls { GoesOn (D.faults disk.old) (D.faults disk.new) (D.plan disk.old) (D.plan disk.new) out.old.logs.event out.new.logs.event }
     {
         if !is_built(event) {
@@ -281,6 +249,16 @@ impl Session {
         }
     }
 }
+/// What is said of a boot.
+fn say_boot(note: BootNote, text: &mut Text)
+    ensures { text.new ≡ line (boot_line note) }
+{
+    match note {
+        BootNote::Up(frames, size, files) => print_boot(frames, size, u32::from(files), text),
+        BootNote::Fault => print_note(&Note::Refused(0, Refusal::DiskFault), text),
+    }
+}
+
 /// Whether an event is built.
 fn is_built(event: &Event) -> bool
     ensures { result ≡ is_built_event event.now }
@@ -296,17 +274,14 @@ fn is_built(event: &Event) -> bool
 fn is_built_call(call: &SysCall) -> bool
     ensures { result ≡ built_call call.now }
 {
-    matches!(
+    !matches!(
         call,
-        SysCall::Spawn
-            | SysCall::Yield
-            | SysCall::OpenName(_)
-            | SysCall::CloseFd(_)
-            | SysCall::Read(..)
-            | SysCall::Write(..)
-            | SysCall::Sync
-            | SysCall::Poke(..)
-            | SysCall::Peek(_)
+        SysCall::TakeLock(_)
+            | SysCall::FreeLock(_)
+            | SysCall::Install(..)
+            | SysCall::Remove(_)
+            | SysCall::Fund(..)
+            | SysCall::Bill(_)
     )
 }
 

@@ -1,19 +1,25 @@
 -- A line is refused, or run for what it says.
-use Rattle.std.proofs.Common.{sym, ◌∙◌}
+use Rattle.std.proofs.Common.{sym, ◌∙◌, ap, Ok}
 use Rattle.disk_log.specs.Joined.{made_none}
 use Rattle.script_text.specs.Answers.{entry_seen}
+use Rattle.vino_top.specs.Standing.{seen_of}
+use Rattle.vino_top.proofs.PlaceLemmas.{boot_is_first}
 use Rattle.vino_top.proofs.SessionLemmas.{line_refused_as, line_entered}
 use Rattle.vino_top.proofs.session.Session.run_line.Goals as goal
+
+pub run_entry-requires-clause-place : goal.run_entry-requires-clause-place
+run_entry-requires-clause-place g c = λ boot.
+    boot_is_first c.args.self.now.booted c.args.text.now (c.in-Ok.ensures.answer ∙ ap (λ e. Ok e) boot)
 
 pub returns-in-Some-clause-ok : goal.returns-in-Some-clause-ok
 returns-in-Some-clause-ok g c = λ key a stands.
     rw (c.refuse.ensures.no_calls ∙ c.clear.ensures.log)
-    (line_refused_as c.args.size c.args.self.now c.refuse.new.self (g.D.Disk.blocks c.args.disk.now) c.args.text.now c.refuse.new.out.lines c.in-Err.fault c.in-Some.code c.if-self.false
-    (sym c.fault_code.ensures ∙ c.in-Some.is) c.in-Err.ensures.answer c.refuse.ensures.state c.refuse.ensures.text key a stands)
+    (line_refused_as c.args.size (seen_of (λ b. (goal.Policy-dyn g (b.vtable, b.value)).seen b.value) c.args.self.now) (seen_of (λ b. (goal.Policy-dyn g (b.vtable, b.value)).seen b.value) c.refuse.new.self) (g.D.Disk.blocks c.args.disk.now) c.args.text.now c.refuse.new.out.lines c.in-Err.fault c.in-Some.code c.if-self.false
+    (sym c.fault_code.ensures ∙ c.in-Some.is) c.in-Err.ensures.answer (ap (λ s. seen_of (λ b. (goal.Policy-dyn g (b.vtable, b.value)).seen b.value) s) c.refuse.ensures.state) c.refuse.ensures.text key a stands)
 
 pub returns-in-Ok-clause-ok : goal.returns-in-Ok-clause-ok
 returns-in-Ok-clause-ok g c =
-    line_entered c.args.size c.args.self.now c.run_entry.new.self (g.D.Disk.blocks c.args.disk.now) (g.D.Disk.blocks c.run_entry.new.disk) c.run_entry.new.out.logs.event c.args.text.now c.run_entry.new.out.lines (entry_seen c.in-Ok.entry) c.if-self.false
+    line_entered c.args.size (seen_of (λ b. (goal.Policy-dyn g (b.vtable, b.value)).seen b.value) c.args.self.now) (seen_of (λ b. (goal.Policy-dyn g (b.vtable, b.value)).seen b.value) c.run_entry.new.self) (g.D.Disk.blocks c.args.disk.now) (g.D.Disk.blocks c.run_entry.new.disk) c.run_entry.new.out.logs.event c.args.text.now c.run_entry.new.out.lines (entry_seen c.in-Ok.entry) c.if-self.false
     c.in-Ok.ensures.answer c.run_entry.ensures.runs
 
 pub returns-in-Ok-clause-calls : goal.returns-in-Ok-clause-calls
