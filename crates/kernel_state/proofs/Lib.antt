@@ -4,3 +4,5 @@ pub mod Search
 pub mod Fits
 pub mod Blocks
 pub mod Queues
+pub mod Rows
+pub mod Leaving

@@ -1,17 +1,26 @@
 -- Which objects and which world a store stands for, and what always holds of a store.
-use Rattle.std.specs.Prelude.{◌≡◌, ℕ, ◌<◌, ◌≤◌, true, List, [], ◌∷◌, ◌++◌, Option, Some, None, slice_index_or}
+use Rattle.std.specs.Prelude.{◌≡◌, ℕ, ◌<◌, ◌≤◌, true, List, [], ◌∷◌, ◌++◌, Option, Some, None, map, slice_index_or}
+use Rattle.std.specs.declared.dyn_box.DynBox.{DynBox}
+use Rattle.std.specs.declared.alloc.Global.{Global}
 use Rattle.kernel_model.specs.declared.FileRow.{FileRow}
 use Rattle.kernel_model.specs.declared.OpenRow.{OpenRow}
 use Rattle.kernel_model.specs.declared.QueueRow.{QueueRow}
 use Rattle.kernel_model.specs.World.{World, file_row}
-use Rattle.kernel_model.specs.Objects.{Objects, Things, CacheValue, FrameValue}
+use Rattle.kernel_model.specs.Objects.{Objects, Accounts, Things, CacheValue, FrameValue, PolValue}
 use Rattle.kernel_model.specs.Directory.{lies_on_disk}
-use Rattle.kernel_model.specs.Opening.{opening_accounts, opening_policy}
 use Rattle.kernel_model.specs.Sound.{IsSoundFile}
 use Rattle.process_table.specs.Processes.{Processes, processes_of}
+use Rattle.graft_accounts.specs.Table.{accounts_of}
+use Rattle.graft_points.specs.Views.{PolicyView}
+use Rattle.graft_points.specs.Shelf.{IsShelf, pol_of}
 use Rattle.kernel_state.specs.CacheViews.{cache_value}
 use Rattle.kernel_state.specs.declared.Setup.{Setup}
 use Rattle.kernel_state.specs.declared.Store.{Store}
+
+-- A store has boxes of policies, of whatever types X and F the boxes are. What contracts see of a box is a function; they
+-- hand in the policies' own, `λ b. seen b`.
+abbrev pub Seeing : (X : Type 0) → (X → Type 0) → Type 0
+Seeing X F = DynBox X Global F → PolicyView
 
 -- what no call changes, on a disk of this size with this directory: grafts may call up to id 11
 abbrev pub world_for : Setup → (size : ℕ) → (directory : List (Option FileRow)) → World
@@ -25,29 +34,13 @@ world_for u size directory =
       callable = 11;
     }
 
--- what no call changes
-abbrev pub world_of_store : Store → World
-world_of_store s = world_for s.setup s.size s.dir
-
--- the cache
-abbrev pub cache_of : Store → CacheValue
-cache_of s = cache_value s.cache s.ram
-
--- the objects, of which no call that is built changes an account, a graft or a policy
-abbrev pub objects_with : (grant : ℕ) → Processes → CacheValue → Objects
-objects_with grant s cache =
+-- the objects of these accounts, processes, cache and policies
+abbrev pub objects_with : Accounts → Processes → CacheValue → (ℕ → PolValue) → Objects
+objects_with accounts s cache pol =
     record {
-      accounts = opening_accounts grant;
-      things = record { cell = s.cell; file = s.file; queue = s.queue; cache = cache; lock = s.lock; pol = opening_policy };
+      accounts = accounts;
+      things = record { cell = s.cell; file = s.file; queue = s.queue; cache = cache; lock = s.lock; pol = pol };
     }
-
--- the objects
-abbrev pub objects_of : Store → Objects
-objects_of s = objects_with s.setup.grant (processes_of s.procs) (cache_of s)
-
--- the living processes, front first
-abbrev pub queue_of : Store → List QueueRow
-queue_of s = s.procs.queue
 
 -- the queue with a process that has just joined, if one has
 abbrev pub queue_joined : Option ℕ → List QueueRow → List QueueRow
@@ -64,6 +57,31 @@ pub record StoreFits (count : ℕ) (v : World) (w : Things) : Type 0 where
   pub blocks : (f : ℕ) (x : FrameValue) → w.cache.frame f ≡ Some x → x.block < v.disk_size
   pub files : (p fd : ℕ) (o : OpenRow) → w.file p fd ≡ Some o → IsSoundFile v o
 
+-- what no call changes
+abbrev pub world_of_store : {X : Type 0} {F : X → Type 0} → Store X F → World
+world_of_store s = world_for s.setup s.size s.dir
+
+-- the cache
+abbrev pub cache_of : {X : Type 0} {F : X → Type 0} → Store X F → CacheValue
+cache_of s = cache_value s.cache s.ram
+
+-- the living processes, front first
+abbrev pub queue_of : {X : Type 0} {F : X → Type 0} → Store X F → List QueueRow
+queue_of s = s.procs.queue
+
+-- the policies on the shelf
+abbrev pub views_of : {X : Type 0} {F : X → Type 0} → Seeing X F → Store X F → List PolicyView
+views_of view s = map view s.shelf.items
+
+-- the value of each kind of policy: which is chosen, and the parameters of all
+abbrev pub policies_of : {X : Type 0} {F : X → Type 0} → Seeing X F → Store X F → ℕ → PolValue
+policies_of view s = pol_of (views_of view s) s.choice
+
+-- the objects
+abbrev pub objects_of : {X : Type 0} {F : X → Type 0} → Seeing X F → Store X F → Objects
+objects_of view s = objects_with (accounts_of s.accounts) (processes_of s.procs) (cache_of s) (policies_of view s)
+
 -- what always holds of a store, whatever the disk's blocks are
-abbrev pub IsStore : Store → Type 0
-IsStore s = StoreFits s.cache.count (world_of_store s) (objects_of s).things
+pub record IsStore {X : Type 0} {F : X → Type 0} (view : Seeing X F) (s : Store X F) : Type 0 where
+  pub fits : StoreFits s.cache.count (world_of_store s) (objects_of view s).things
+  pub shelf : IsShelf (views_of view s)

@@ -1,16 +1,20 @@
-//! The kernel's state as one store: set-up, processes, cache, memory and the disk's directory.
+//! The kernel's state as one store: set-up, processes, accounts, cache, memory, policies and the disk's directory.
 //!
 //! Contracts see a store as the objects and the world of the definitions, and each change of it as a change of objects.
 #![tactic(auto)]
 
+mod accounts;
 mod boot;
 mod cache;
 mod files;
+mod policies;
 mod processes;
 #[cfg(test)]
 mod tests;
 
 use buffer_cache::Cache;
+use graft_accounts::Accounts;
+use graft_points::{Choice, Policy};
 use mem_disk::Directory;
 use process_table::Procs;
 use ram_space::Ram;
@@ -26,7 +30,7 @@ pub struct Setup {
     pub grant: u32,
 }
 
-/// The kernel's state, but for the clock and the calls in flight.
+/// The kernel's state, but for the clock and the calls in flight: one value for each object.
 #[derive(Drop)]
 pub struct Store {
     /// What the set-up lines set.
@@ -35,12 +39,18 @@ pub struct Store {
     pub size: u32,
     /// The processes.
     pub procs: Procs,
+    /// What processes have and have spent, and the grafts.
+    pub accounts: Accounts,
     /// What each frame holds, and the order of use.
     pub cache: Cache,
     /// The bytes of the frames, from 0 on.
     pub ram: Ram,
     /// The files of the disk.
     pub dir: Directory,
+    /// Which policy of each kind is chosen.
+    pub choice: Choice,
+    /// The policies, in the order of their codes, with their parameters.
+    pub shelf: Vec<Box<dyn Policy>>,
 }
 
 /// What a process is to read ahead: this many blocks of its file, from a block on.

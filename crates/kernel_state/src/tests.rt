@@ -1,45 +1,66 @@
 //! A store over the sample disk's directory.
 
-ghost use Rattle.std.specs.Prelude.{◌≡◌, ◌+◌, ◌<◌, ◌≤◌, true, length, IfOk};
+ghost use Rattle.std.specs.Prelude.{◌≡◌, ◌+◌, ◌<◌, ◌≤◌, true, length, map, IfOk};
+ghost use Rattle.kernel_model.specs.Opening.{opening_policy};
+ghost use Rattle.graft_points.specs.Shelf.{IsShelf, pol_of, first_choice};
 ghost use Rattle.kernel_model.specs.Policies.{lives};
 ghost use Rattle.kernel_model.specs.FilePieces.{new_file};
 ghost use Rattle.kernel_state.specs.Stores.{queue_of, IsStore};
 
 use crate::{Setup, Store};
-use kernel_model::{Bytes, OpenRow};
+use graft_points::{
+    Policy, RaNext, RaNone, RaSeq, SchedNice, SchedRound, VictimLru, VictimMark, is_stock, put_last,
+};
+use kernel_model::{Bytes, Kind, OpenRow};
 use mem_disk::read_directory;
-use ram_space::{NoMemory, Ram};
+use ram_space::Ram;
 use std::alloc::Global;
+use std::test::Fail;
 
 /// The entries of the sample disk, byte for byte.
 const ENTRIES: &[u8; 96] =
     b"alpha\0\0\0\0\0\0\0\0\0\0\0\x01\0\0\0\x08\0\0\0\0\x10\0\0\0\0\0\0beta\0\0\0\0\0\0\0\0\0\0\0\0\x09\0\0\0\x28\0\0\0\0\x50\0\0\0\0\0\0gamma\0\0\0\0\0\0\0\0\0\0\0\x31\0\0\0\x03\0\0\0\x4c\x04\0\0\0\0\0\0";
 
-/// A store of so many frames after boot.
-fn booted(alloc: Global, frames: u8) -> Result<Store, NoMemory>
-    requires least { 2 ≤ frames }
-    requires most { frames ≤ 64 }
-    ensures sound { IfOk result (λ s. IsStore s) }
+/// The seven stock policies.
+macro_rules! stock_shelf {
+    ($alloc:expr) => {{
+        let mut shelf: Vec<Box<dyn Policy>> = Vec::new($alloc);
+        put_last(&mut shelf, Box::new($alloc, RaNone::new())?, 0, None)?;
+        put_last(&mut shelf, Box::new($alloc, RaSeq::new())?, 1, Some(2))?;
+        put_last(&mut shelf, Box::new($alloc, RaNext::new())?, 2, Some(1))?;
+        put_last(&mut shelf, Box::new($alloc, VictimLru::new())?, 3, None)?;
+        put_last(&mut shelf, Box::new($alloc, VictimMark::new())?, 4, Some(0))?;
+        put_last(&mut shelf, Box::new($alloc, SchedRound::new())?, 5, None)?;
+        put_last(&mut shelf, Box::new($alloc, SchedNice::new())?, 6, Some(0))?;
+        shelf
+    }};
+}
+
+/// A store of two frames after boot, over the stock policies.
+fn booted(alloc: Global, shelf: Vec<Box<dyn Policy>>) -> Result<Store, Fail>
+    requires shelf { IsShelf (map (λ b. seen b) shelf.items) }
+    requires stock { pol_of (map (λ b. seen b) shelf.items) first_choice ≡ opening_policy }
+    ensures sound { IfOk result (λ s. IsStore (λ b. seen b) s) }
     ensures size { IfOk result (λ s. s.size ≡ 64) }
     ensures root { IfOk result (λ s. lives (queue_of s) 0 ≡ true) }
 {
     let mut block = [0u8; 512];
     block[..96].copy_from_slice(ENTRIES);
     let setup = Setup {
-        frames,
+        frames: 2,
         patience: [10; 8],
         grant: 1000,
     };
     let ram = Ram::new(alloc)?;
-    Ok(Store::new(setup, 64, read_directory(&block, 64), ram))
+    Ok(Store::new(setup, 64, read_directory(&block, 64), ram, shelf))
 }
 
 /// Uses a block: touches its frame, or puts it into a free one, or into that of the candidate.
 fn bring(store: &mut Store, block: u32, bytes: &[u8; 512])
-    requires sound { IsStore store.old }
+    requires sound { IsStore (λ b. seen b) store.old }
     requires root { lives (queue_of store.old) 0 ≡ true }
     requires block { block < store.old.size }
-    ensures sound { IsStore store.new }
+    ensures sound { IsStore (λ b. seen b) store.new }
     ensures root { lives (queue_of store.new) 0 ≡ true }
     ensures size { store.new.size ≡ store.old.size }
 {
@@ -58,10 +79,10 @@ fn bring(store: &mut Store, block: u32, bytes: &[u8; 512])
 
 /// Changes four bytes of a block that is in a frame.
 fn change(store: &mut Store, block: u32, off: u32, bytes: &[u8; 4])
-    requires sound { IsStore store.old }
+    requires sound { IsStore (λ b. seen b) store.old }
     requires root { lives (queue_of store.old) 0 ≡ true }
     requires inside { off + 4 ≤ 512 }
-    ensures sound { IsStore store.new }
+    ensures sound { IsStore (λ b. seen b) store.new }
     ensures root { lives (queue_of store.new) 0 ≡ true }
     ensures size { store.new.size ≡ store.old.size }
 {
@@ -72,9 +93,9 @@ fn change(store: &mut Store, block: u32, off: u32, bytes: &[u8; 4])
 
 /// The frame of a block is clean.
 fn wash(store: &mut Store, block: u32)
-    requires sound { IsStore store.old }
+    requires sound { IsStore (λ b. seen b) store.old }
     requires root { lives (queue_of store.old) 0 ≡ true }
-    ensures sound { IsStore store.new }
+    ensures sound { IsStore (λ b. seen b) store.new }
     ensures root { lives (queue_of store.new) 0 ≡ true }
     ensures size { store.new.size ≡ store.old.size }
 {
@@ -106,8 +127,10 @@ fn opened(file: u8) -> OpenRow
 }
 
 #[test]
-fn only_root_lives_after_boot(rt: HostRuntime) -> Result<(), NoMemory> {
-    let mut store = booted(rt.alloc(), 2)?;
+fn only_root_lives_after_boot(rt: HostRuntime) -> Result<(), Fail> {
+    let shelf = stock_shelf!(rt.alloc());
+    assert!(rt; is_stock(&shelf));
+    let mut store = booted(rt.alloc(), shelf)?;
     assert!(rt; store.living(0) && !store.living(1));
     assert_eq!(rt; store.next(), 0);
     assert_eq!(rt; store.cell(0, 3), 0);
@@ -121,8 +144,30 @@ fn only_root_lives_after_boot(rt: HostRuntime) -> Result<(), NoMemory> {
 }
 
 #[test]
-fn frames_are_filled_changed_and_evicted(rt: HostRuntime) -> Result<(), NoMemory> {
-    let mut store = booted(rt.alloc(), 2)?;
+fn what_a_process_has_goes_to_root_when_it_leaves(rt: HostRuntime) -> Result<(), Fail> {
+    let shelf = stock_shelf!(rt.alloc());
+    assert!(rt; is_stock(&shelf));
+    let mut store = booted(rt.alloc(), shelf)?;
+    assert_eq!(rt; store.spawn(), Some(1));
+    assert!(rt; store.give(0, 1, Kind::Records, 300).is_ok());
+    assert_eq!(rt; store.give(1, 0, Kind::Records, 301).err(), Some(300));
+    bring(&mut store, 5, &[7; 512]);
+    store.set_holder(2, Some(0));
+    assert_eq!(rt; store.holder(2), Some(0));
+    if store.living(1) {
+        store.leave(1);
+    }
+    assert!(rt; !store.living(1));
+    assert_eq!(rt; store.accounts.balance(0, Kind::Records), 1000);
+    assert_eq!(rt; store.accounts.balance(1, Kind::Records), 0);
+    Ok(())
+}
+
+#[test]
+fn frames_are_filled_changed_and_evicted(rt: HostRuntime) -> Result<(), Fail> {
+    let shelf = stock_shelf!(rt.alloc());
+    assert!(rt; is_stock(&shelf));
+    let mut store = booted(rt.alloc(), shelf)?;
     bring(&mut store, 5, &[7; 512]);
     bring(&mut store, 6, &[8; 512]);
     assert!(rt; store.free().is_none());
@@ -142,8 +187,10 @@ fn frames_are_filled_changed_and_evicted(rt: HostRuntime) -> Result<(), NoMemory
 }
 
 #[test]
-fn blocks_of_files_end_with_their_bytes(rt: HostRuntime) -> Result<(), NoMemory> {
-    let mut store = booted(rt.alloc(), 2)?;
+fn blocks_of_files_end_with_their_bytes(rt: HostRuntime) -> Result<(), Fail> {
+    let shelf = stock_shelf!(rt.alloc());
+    assert!(rt; is_stock(&shelf));
+    let mut store = booted(rt.alloc(), shelf)?;
     assert_eq!(rt; store.named(b"alpha"), Some(0));
     assert!(rt; store.named(b"zeta").is_none());
     if let Some(file) = store.named(b"gamma") {
@@ -154,5 +201,24 @@ fn blocks_of_files_end_with_their_bytes(rt: HostRuntime) -> Result<(), NoMemory>
         assert!(rt; store.block_of(0, 1, 3, 0, 0).is_err());
         assert!(rt; store.block_of(0, 0, 0, 0, 1).is_err());
     }
+    Ok(())
+}
+
+#[test]
+fn the_chosen_policy_answers_with_its_parameter(rt: HostRuntime) -> Result<(), Fail> {
+    let shelf = stock_shelf!(rt.alloc());
+    assert!(rt; is_stock(&shelf));
+    let mut store = booted(rt.alloc(), shelf)?;
+    assert_eq!(rt; store.chosen(0), 1);
+    assert_eq!(rt; store.param(0), Some(2));
+    assert_eq!(rt; store.param(1), None);
+    store.choose(0, 2);
+    assert!(rt; store.takes(0, 0, 8) && !store.takes(0, 0, 9) && !store.takes(0, 1, 2));
+    store.set_param(0, 8);
+    assert_eq!(rt; store.param(0), Some(8));
+    store.choose(0, 1);
+    assert_eq!(rt; store.param(0), Some(2));
+    store.choose(2, 1);
+    assert_eq!(rt; store.next(), 0);
     Ok(())
 }

@@ -6,13 +6,16 @@ use Rattle.kernel_state.proofs.Fits.{fits_frames, blocks_changed, stands_so}
 use Rattle.kernel_state.proofs.Store.clean.Goals as goal
 
 pub returns-clause-objects : goal.returns-clause-objects
-returns-clause-objects c =
+returns-clause-objects g c =
     λ x held.
     let s = c.args.self.now in
-    stands_so s c.clean.new.self s.ram _ (cleaned_is s.cache c.clean.new.self s.ram c.args.f x c.lru.ensures.sound c.requires.in_cache c.clean.ensures held)
+    stands_so _ s c.clean.new.self s.ram _ (cleaned_is s.cache c.clean.new.self s.ram c.args.f x c.lru.ensures.sound c.requires.in_cache c.clean.ensures held)
 
 pub returns-clause-sound : goal.returns-clause-sound
-returns-clause-sound c =
+returns-clause-sound g c =
     let s = c.args.self.now in
-    fits_frames s.cache.count c.clean.new.self.count (world_of_store s) (objects_of s).things _ c.requires.sound (ap (λ (w : Frames). w.count) c.clean.ensures) refl
-    (blocks_changed s.cache c.clean.new.self s.ram s.ram s.size c.args.f false c.lru.ensures.sound (used_below s.cache c.args.f c.lru.ensures.sound c.requires.in_cache) c.clean.ensures c.requires.sound.blocks)
+    record {
+      fits = fits_frames s.cache.count c.clean.new.self.count (world_of_store s) _ _ c.requires.sound.fits (ap (λ (w : Frames). w.count) c.clean.ensures) refl
+          (blocks_changed s.cache c.clean.new.self s.ram s.ram s.size c.args.f false c.lru.ensures.sound (used_below s.cache c.args.f c.lru.ensures.sound c.requires.in_cache) c.clean.ensures c.requires.sound.fits.blocks);
+      shelf = c.requires.sound.shelf;
+    }

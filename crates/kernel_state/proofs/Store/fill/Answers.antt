@@ -9,22 +9,25 @@ use Rattle.kernel_state.proofs.Fits.{fits_frames, blocks_filled, stands_so}
 use Rattle.kernel_state.proofs.Store.fill.Goals as goal
 
 pub fill-requires-clause-no_other : goal.fill-requires-clause-no_other
-fill-requires-clause-no_other c =
+fill-requires-clause-no_other g c =
     λ g does. none_holds c.args.self.now.cache c.args.self.now.ram c.args.block c.args.f g c.lru.ensures.sound c.requires.missing does
 
 pub returns-clause-objects : goal.returns-clause-objects
-returns-clause-objects c =
+returns-clause-objects g c =
     let s = c.args.self.now in
     let long : length c.args.bytes.now ≡ 512 = omega arith in
-    stands_so s c.fill.new.self c.fill.new.ram _
+    stands_so _ s c.fill.new.self c.fill.new.ram _
     (filled_is s.cache c.fill.new.self s.ram c.fill.new.ram c.args.bytes.now c.args.f c.args.owner c.args.block c.lru.ensures.sound c.whole.ensures c.requires.frame long c.fill.ensures.cache
     c.fill.ensures.memory)
 
 pub returns-clause-sound : goal.returns-clause-sound
-returns-clause-sound c =
+returns-clause-sound g c =
     let s = c.args.self.now in
     let long : length c.args.bytes.now ≡ 512 = omega arith in
     let is = filled_is s.cache c.fill.new.self s.ram c.fill.new.ram c.args.bytes.now c.args.f c.args.owner c.args.block c.lru.ensures.sound c.whole.ensures c.requires.frame long c.fill.ensures.cache
     c.fill.ensures.memory in
-    fits_frames s.cache.count c.fill.new.self.count (world_of_store s) (objects_of s).things _ c.requires.sound (ap (λ (w : Frames). w.count) c.fill.ensures.cache) refl
-    (blocks_filled s.size c.args.f c.args.owner c.args.block c.args.bytes.now (cache_of s) (cache_value c.fill.new.self c.fill.new.ram) c.requires.sound.blocks c.requires.block (ap (λ (w : CacheValue). w.frame) is))
+    record {
+      fits = fits_frames s.cache.count c.fill.new.self.count (world_of_store s) _ _ c.requires.sound.fits (ap (λ (w : Frames). w.count) c.fill.ensures.cache) refl
+          (blocks_filled s.size c.args.f c.args.owner c.args.block c.args.bytes.now (cache_of s) (cache_value c.fill.new.self c.fill.new.ram) c.requires.sound.fits.blocks c.requires.block (ap (λ (w : CacheValue). w.frame) is));
+      shelf = c.requires.sound.shelf;
+    }

@@ -4,5 +4,5 @@ use Rattle.kernel_state.proofs.Fits.{fits_new}
 use Rattle.kernel_state.proofs.Store.new.Goals as goal
 
 pub returns-clause-sound : goal.returns-clause-sound
-returns-clause-sound c =
-    fits_new (world_for c.args.setup c.args.size c.args.dir) _ c.new-2.result c.new.result c.args.ram c.new-2.ensures c.new.ensures refl refl c.requires.size_least c.requires.size_most c.requires.files
+returns-clause-sound g c =
+    record { fits = fits_new (world_for c.args.setup c.args.size c.args.dir) _ c.new-3.result c.new.result c.args.ram c.new-3.ensures c.new.ensures refl refl c.requires.size_least c.requires.size_most c.requires.files; shelf = c.requires.shelf }

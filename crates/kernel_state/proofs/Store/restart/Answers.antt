@@ -4,5 +4,5 @@ use Rattle.kernel_state.proofs.Fits.{fits_new}
 use Rattle.kernel_state.proofs.Store.restart.Goals as goal
 
 pub returns-clause-sound : goal.returns-clause-sound
-returns-clause-sound c =
-    fits_new (world_for c.args.setup c.args.size c.args.dir) _ c.new-self-2.result c.new-self.result c.args.self.now.ram c.new-self-2.ensures c.new-self.ensures refl refl c.requires.size_least c.requires.size_most c.requires.files
+returns-clause-sound g c =
+    record { fits = fits_new (world_for c.args.setup c.args.size c.args.dir) _ c.new-self-3.result c.new-self.result c.args.self.now.ram c.new-self-3.ensures c.new-self.ensures refl refl c.requires.size_least c.requires.size_most c.requires.files; shelf = c.requires.sound.shelf }

@@ -5,6 +5,6 @@ use Rattle.kernel_state.proofs.Fits.{fits_same}
 use Rattle.kernel_state.proofs.Store.spawn.Goals as goal
 
 pub returns-clause-sound : goal.returns-clause-sound
-returns-clause-sound c =
+returns-clause-sound g c =
     let s = c.args.self.now in
-    fits_same s.cache.count (world_of_store s) (objects_of s).things _ c.requires (ap (λ (x : Processes). x.file) c.spawn.ensures.value) refl
+    record { fits = fits_same s.cache.count (world_of_store s) _ _ c.requires.fits (ap (λ (x : Processes). x.file) c.spawn.ensures.value) refl; shelf = c.requires.shelf }

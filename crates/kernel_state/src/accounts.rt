@@ -1,0 +1,101 @@
+//! The accounts and the grafts of a store.
+
+ghost use Rattle.std.specs.Prelude.{◌≡◌, ◌<◌, ◌≤◌, true, None, is_some};
+ghost use Rattle.kernel_model.specs.Charges.{removed};
+ghost use Rattle.kernel_model.specs.Objects.{with_accounts};
+ghost use Rattle.kernel_model.specs.Pieces.{with_graft, new_graft};
+ghost use Rattle.graft_accounts.specs.Table.{short_of, after_give, after_fund, after_bill};
+ghost use Rattle.kernel_state.specs.Stores.{world_of_store, objects_of, queue_of, IsStore};
+
+use crate::Store;
+use kernel_model::Kind;
+
+impl Store {
+    /// Moves n from process p to process q. Err has the balance of p, with nothing changed, exactly where it is smaller.
+    pub fn give(&mut self, p: u8, q: u8, k: Kind, n: u32) -> Result<(), u64>
+        requires sound { IsStore (λ b. seen b) self.old }
+        requires from { p < 16 }
+        requires to { q < 16 }
+        ensures answer { result ≡ short_of (((objects_of (λ b. seen b) self.old).accounts.acct p).balance k) n }
+        ensures objects { objects_of (λ b. seen b) self.new ≡
+            with_accounts (after_give p q k n (objects_of (λ b. seen b) self.old).accounts) (objects_of (λ b. seen b) self.old) }
+        ensures queue { queue_of self.new ≡ queue_of self.old }
+        ensures world { world_of_store self.new ≡ world_of_store self.old }
+        ensures sound { IsStore (λ b. seen b) self.new }
+    {
+        self.accounts.give(p, q, k, n)
+    }
+
+    /// Whether a graft stands at point pt of process p.
+    pub fn has_graft(&self, p: u8, pt: u8) -> bool
+        requires process { p < 16 }
+        requires point { pt < 16 }
+        ensures { result ≡ is_some ((objects_of (λ b. seen b) self.now).accounts.graft p pt) }
+    {
+        self.accounts.graft(p, pt).is_some()
+    }
+
+    /// Puts a graft at point pt of process p, where none stands. It has nothing, and isn't billed.
+    pub fn install(&mut self, p: u8, pt: u8, image: u8, limit: u32)
+        requires sound { IsStore (λ b. seen b) self.old }
+        requires process { p < 16 }
+        requires point { pt < 16 }
+        requires image { image < 32 }
+        requires some { 1 ≤ limit }
+        requires most { limit ≤ 65536 }
+        requires free { (objects_of (λ b. seen b) self.old).accounts.graft p pt ≡ None }
+        ensures objects { objects_of (λ b. seen b) self.new ≡
+            with_accounts (with_graft p pt (new_graft image limit) (objects_of (λ b. seen b) self.old).accounts) (objects_of (λ b. seen b) self.old) }
+        ensures queue { queue_of self.new ≡ queue_of self.old }
+        ensures world { world_of_store self.new ≡ world_of_store self.old }
+        ensures sound { IsStore (λ b. seen b) self.new }
+    {
+        self.accounts.install(p, pt, image, limit);
+    }
+
+    /// Takes out the graft at point pt of process p, if one stands, and gives what it has back to p.
+    pub fn remove(&mut self, p: u8, pt: u8)
+        requires sound { IsStore (λ b. seen b) self.old }
+        requires process { p < 16 }
+        requires point { pt < 16 }
+        ensures objects { objects_of (λ b. seen b) self.new ≡
+            with_accounts (removed p pt (objects_of (λ b. seen b) self.old).accounts) (objects_of (λ b. seen b) self.old) }
+        ensures queue { queue_of self.new ≡ queue_of self.old }
+        ensures world { world_of_store self.new ≡ world_of_store self.old }
+        ensures sound { IsStore (λ b. seen b) self.new }
+    {
+        self.accounts.remove(p, pt);
+    }
+
+    /// Moves n from process p to its graft at point pt, where one stands. Err has the balance of p, with nothing changed,
+    /// exactly where it is smaller.
+    pub fn fund(&mut self, p: u8, pt: u8, k: Kind, n: u32) -> Result<(), u64>
+        requires sound { IsStore (λ b. seen b) self.old }
+        requires process { p < 16 }
+        requires point { pt < 16 }
+        requires stands { is_some ((objects_of (λ b. seen b) self.old).accounts.graft p pt) ≡ true }
+        ensures answer { result ≡ short_of (((objects_of (λ b. seen b) self.old).accounts.acct p).balance k) n }
+        ensures objects { let s = objects_of (λ b. seen b) self.old in
+            objects_of (λ b. seen b) self.new ≡ with_accounts (after_fund p pt k n (s.accounts.graft p pt) s.accounts) s }
+        ensures queue { queue_of self.new ≡ queue_of self.old }
+        ensures world { world_of_store self.new ≡ world_of_store self.old }
+        ensures sound { IsStore (λ b. seen b) self.new }
+    {
+        self.accounts.fund(p, pt, k, n)
+    }
+
+    /// From here on process p pays for its graft at point pt, where one stands.
+    pub fn bill(&mut self, p: u8, pt: u8)
+        requires sound { IsStore (λ b. seen b) self.old }
+        requires process { p < 16 }
+        requires point { pt < 16 }
+        requires stands { is_some ((objects_of (λ b. seen b) self.old).accounts.graft p pt) ≡ true }
+        ensures objects { let s = objects_of (λ b. seen b) self.old in
+            objects_of (λ b. seen b) self.new ≡ with_accounts (after_bill p pt (s.accounts.graft p pt) s.accounts) s }
+        ensures queue { queue_of self.new ≡ queue_of self.old }
+        ensures world { world_of_store self.new ≡ world_of_store self.old }
+        ensures sound { IsStore (λ b. seen b) self.new }
+    {
+        self.accounts.bill(p, pt);
+    }
+}

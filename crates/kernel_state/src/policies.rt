@@ -1,0 +1,82 @@
+//! The policies of a store: which one of each kind is chosen, and its parameter.
+
+ghost use Rattle.std.specs.Prelude.{◌≡◌, ◌<◌, true};
+ghost use Rattle.kernel_model.specs.Objects.{at, with_things};
+ghost use Rattle.kernel_model.specs.Access.{in_range, param_top, set_param as param_set};
+ghost use Rattle.kernel_model.specs.Early.{policy_count};
+ghost use Rattle.kernel_model.specs.RawRows.{shown_param};
+ghost use Rattle.kernel_state.specs.Stores.{world_of_store, objects_of, queue_of, IsStore};
+
+use crate::Store;
+use graft_points::{param, set_param};
+
+impl Store {
+    /// Which policy of a kind is chosen.
+    pub fn chosen(&self, kind: u8) -> u8
+        requires { kind < 3 }
+        ensures { result ≡ ((objects_of (λ b. seen b) self.now).things.pol kind).chosen }
+    {
+        self.choice.of(kind)
+    }
+
+    /// The parameter of the chosen policy of a kind. None where it has none.
+    pub fn param(&self, kind: u8) -> Option<u32>
+        requires sound { IsStore (λ b. seen b) self.now }
+        requires kind { kind < 3 }
+        ensures { result ≡ shown_param kind ((objects_of (λ b. seen b) self.now).things.pol kind) }
+    {
+        param(self.shelf.as_slice(), &self.choice, kind)
+    }
+
+    /// Whether parameter k of the chosen policy of a kind takes a value: there is parameter 0 at most, and it has a range.
+    pub fn takes(&self, kind: u8, k: u32, v: u32) -> bool
+        requires { kind < 3 }
+        ensures { result ≡ in_range (param_top kind ((objects_of (λ b. seen b) self.now).things.pol kind).chosen) k v }
+    {
+        match top_of(kind, self.chosen(kind)) {
+            Some(top) => k == 0 && v <= top,
+            None => false,
+        }
+    }
+
+    /// Chooses policy j of a kind. No parameter changes.
+    pub fn choose(&mut self, kind: u8, j: u8)
+        requires sound { IsStore (λ b. seen b) self.old }
+        requires kind { kind < 3 }
+        requires number { j < policy_count kind }
+        ensures objects { let s = objects_of (λ b. seen b) self.old in
+            objects_of (λ b. seen b) self.new ≡ with_things (record (s.things) { pol = at kind (record (s.things.pol kind) { chosen = j }) s.things.pol }) s }
+        ensures queue { queue_of self.new ≡ queue_of self.old }
+        ensures world { world_of_store self.new ≡ world_of_store self.old }
+        ensures sound { IsStore (λ b. seen b) self.new }
+    {
+        self.choice.choose(kind, j);
+    }
+
+    /// Sets the parameter of the chosen policy of a kind, which has one, to a value in its range. The other policies stay
+    /// what they were.
+    pub fn set_param(&mut self, kind: u8, v: u32)
+        requires sound { IsStore (λ b. seen b) self.old }
+        requires kind { kind < 3 }
+        requires range { in_range (param_top kind ((objects_of (λ b. seen b) self.old).things.pol kind).chosen) 0 v ≡ true }
+        ensures objects { objects_of (λ b. seen b) self.new ≡
+            with_things (param_set kind v (objects_of (λ b. seen b) self.old).things) (objects_of (λ b. seen b) self.old) }
+        ensures queue { queue_of self.new ≡ queue_of self.old }
+        ensures world { world_of_store self.new ≡ world_of_store self.old }
+        ensures sound { IsStore (λ b. seen b) self.new }
+    {
+        set_param(self.shelf.as_mut_slice(), &self.choice, kind, v);
+    }
+}
+
+/// The highest value of the parameter of policy j of a kind, if it has one.
+fn top_of(kind: u8, j: u8) -> Option<u32>
+    ensures { result ≡ param_top kind j }
+{
+    match (kind, j) {
+        (_, 0) => None,
+        (0, _) => Some(8),
+        (1, _) => Some(255),
+        _ => Some(39),
+    }
+}
