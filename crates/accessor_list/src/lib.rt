@@ -7,6 +7,7 @@ ghost use Rattle.std.specs.Option.{option_copied};
 ghost use Rattle.kernel_model.specs.World.{same_bytes};
 ghost use Rattle.kernel_model.specs.Assembler.{callable_name, callable_id};
 
+pub mod ids;
 pub mod laws;
 mod objects;
 #[cfg(test)]

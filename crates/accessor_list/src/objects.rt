@@ -5,31 +5,11 @@ ghost use Rattle.std.specs.Result.{result_err};
 ghost use Rattle.kernel_model.specs.Access.{accessed, early_refusal, is_ask, is_out_of_range, is_tuning};
 ghost use Rattle.kernel_model.specs.Laws.{IsInRange};
 
+use crate::ids::{
+    ASK_RA, CELL_GET, CELL_SET, FRAME_MARK, FRAMES_MINE, NICE_GET, NICE_SET, TAKE_LOCK, TUNE_GET,
+    TUNE_SET, WINDOW_GET, WINDOW_SET,
+};
 use kernel_model::{Cause, Mode, Object};
-
-const CELL_GET: u32 = 0;
-
-const CELL_SET: u32 = 1;
-
-const NICE_GET: u32 = 2;
-
-const NICE_SET: u32 = 3;
-
-const WINDOW_GET: u32 = 4;
-
-const WINDOW_SET: u32 = 5;
-
-const FRAMES_MINE: u32 = 6;
-
-const FRAME_MARK: u32 = 9;
-
-const TUNE_GET: u32 = 10;
-
-const TUNE_SET: u32 = 11;
-
-const TAKE_LOCK: u32 = 12;
-
-const ASK_RA: u32 = 13;
 
 /// The process that may tune policies.
 const ROOT: u8 = 0;

@@ -97,29 +97,34 @@ block_less : (m : List ℕ) (g b n : ℕ) (o : Option FrameRow) → ((y : FrameV
 block_less m g b n None was is = absurd (cc)
 block_less m g b n (Some r) was is = let same : r.block ≡ b = cc in subst (λ k. k < n) same (was (value_with (frame_bytes m g) r) refl)
 
-changed_block : (dirty : Bool) (o : Option FrameRow) → row_block (option_map (λ (r : FrameRow). record r { dirty = dirty }) o) ≡ row_block o
-changed_block dirty None = refl
-changed_block dirty (Some r) = refl
+changed_block : (change : FrameRow → FrameRow) (o : Option FrameRow) → ((r : FrameRow) → (change r).block ≡ r.block) → row_block (option_map change o) ≡ row_block o
+changed_block change None same = refl
+changed_block change (Some r) same = ap (λ (b : ℕ). Some b) (same r)
 
-row_changed : (rows : List (Option FrameRow)) (dirty : Bool) (f g : ℕ) → f < length rows
-    → row_block (row_at (set rows f (option_map (λ (r : FrameRow). record r { dirty = dirty }) (row_at rows f))) g) ≡ row_block (row_at rows g)
-row_changed rows dirty f g inside =
-    let o = option_map (λ (r : FrameRow). record r { dirty = dirty }) (row_at rows f) in
+row_changed : (rows : List (Option FrameRow)) (change : FrameRow → FrameRow) (f g : ℕ) → ((r : FrameRow) → (change r).block ≡ r.block) → f < length rows
+    → row_block (row_at (set rows f (option_map change (row_at rows f))) g) ≡ row_block (row_at rows g)
+row_changed rows change f g same inside =
+    let o = option_map change (row_at rows f) in
     elim (cases_eq g f) [
       | inl one ↦
-          ap (λ h. row_block (row_at (set rows f o) h)) one ∙ ap (λ (r : Option FrameRow). row_block r) (get_or-set_same rows f o None inside) ∙ changed_block dirty (row_at rows f)
+          ap (λ h. row_block (row_at (set rows f o) h)) one ∙ ap (λ (r : Option FrameRow). row_block r) (get_or-set_same rows f o None inside) ∙ changed_block change (row_at rows f) same
           ∙ ap (λ h. row_block (row_at rows h)) (sym one)
       | inr apart ↦ ap (λ (r : Option FrameRow). row_block r) (get_or-set_other rows f g o None apart)
     ]
 
+-- the blocks of the frames, once one changed but for its block
+pub blocks_by : (change : FrameRow → FrameRow) (c d : Frames) (m n : List ℕ) (size f : ℕ) → ((r : FrameRow) → (change r).block ≡ r.block) → IsFrames c → f < 64 → d ≡ with_row f change c
+    → ((g : ℕ) (y : FrameValue) → (cache_value c m).frame g ≡ Some y → y.block < size) → (g : ℕ) (x : FrameValue) → (cache_value d n).frame g ≡ Some x → x.block < size
+blocks_by change c d m n size f same h less is was g x held =
+    let inside : f < length c.rows = let len = h.rows in omega arith in
+    let now : row_block (row_at d.rows g) ≡ Some x.block = value_block n g (row_at d.rows g) x held in
+    let here : row_block (row_at c.rows g) ≡ Some x.block = sym (row_changed c.rows change f g same inside) ∙ ap (λ (w : Frames). row_block (row_at w.rows g)) (sym is) ∙ now in
+    block_less m g x.block size (row_at c.rows g) (was g) here
+
 -- the blocks of the frames, once one became clean or dirty
 pub blocks_changed : (c d : Frames) (m n : List ℕ) (size f : ℕ) (dirty : Bool) → IsFrames c → f < 64 → d ≡ with_row f (λ (r : FrameRow). record r { dirty = dirty }) c
     → ((g : ℕ) (y : FrameValue) → (cache_value c m).frame g ≡ Some y → y.block < size) → (g : ℕ) (x : FrameValue) → (cache_value d n).frame g ≡ Some x → x.block < size
-blocks_changed c d m n size f dirty h less is was g x held =
-    let inside : f < length c.rows = let len = h.rows in omega arith in
-    let now : row_block (row_at d.rows g) ≡ Some x.block = value_block n g (row_at d.rows g) x held in
-    let here : row_block (row_at c.rows g) ≡ Some x.block = sym (row_changed c.rows dirty f g inside) ∙ ap (λ (w : Frames). row_block (row_at w.rows g)) (sym is) ∙ now in
-    block_less m g x.block size (row_at c.rows g) (was g) here
+blocks_changed c d m n size f dirty h less is was = blocks_by (λ (r : FrameRow). record r { dirty = dirty }) c d m n size f (λ r. refl) h less is was
 
 -- the block of a row in use
 pub row_fits : (c : Frames) (m : List ℕ) (size f : ℕ) (r : FrameRow) → ((g : ℕ) (y : FrameValue) → (cache_value c m).frame g ≡ Some y → y.block < size) → row_at c.rows f ≡ Some r → r.block < size

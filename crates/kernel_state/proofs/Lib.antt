@@ -6,3 +6,6 @@ pub mod Blocks
 pub mod Queues
 pub mod Rows
 pub mod Leaving
+pub mod Accessing
+pub mod Undoing
+pub mod Params

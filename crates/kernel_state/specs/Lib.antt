@@ -1,2 +1,3 @@
 pub mod CacheViews
 pub mod Stores
+pub mod Accesses

@@ -3,10 +3,12 @@
 //! Contracts see a store as the objects and the world of the definitions, and each change of it as a change of objects.
 #![tactic(auto)]
 
+mod accessors;
 mod accounts;
 mod boot;
 mod cache;
 mod files;
+mod graft_values;
 mod policies;
 mod processes;
 #[cfg(test)]
@@ -15,6 +17,7 @@ mod tests;
 use buffer_cache::Cache;
 use graft_accounts::Accounts;
 use graft_points::{Choice, Policy};
+use kernel_model::Inverse;
 use mem_disk::Directory;
 use process_table::Procs;
 use ram_space::Ram;
@@ -58,4 +61,12 @@ pub struct Store {
 pub struct Ahead {
     pub start: u32,
     pub count: u8,
+}
+
+/// What a plain accessor of a graft gives where it isn't refused: a result, and what undoes its change if it changes
+/// something.
+#[derive(Clone, Copy)]
+pub struct Access {
+    pub result: u32,
+    pub inverse: Option<Inverse>,
 }

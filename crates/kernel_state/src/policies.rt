@@ -1,6 +1,6 @@
 //! The policies of a store: which one of each kind is chosen, and its parameter.
 
-ghost use Rattle.std.specs.Prelude.{◌≡◌, ◌<◌, true};
+ghost use Rattle.std.specs.Prelude.{◌≡◌, ◌<◌, true, IfSome};
 ghost use Rattle.kernel_model.specs.Objects.{at, with_things};
 ghost use Rattle.kernel_model.specs.Access.{in_range, param_top, set_param as param_set};
 ghost use Rattle.kernel_model.specs.Early.{policy_count};
@@ -23,8 +23,10 @@ impl Store {
     pub fn param(&self, kind: u8) -> Option<u32>
         requires sound { IsStore (λ b. seen b) self.now }
         requires kind { kind < 3 }
-        ensures { result ≡ shown_param kind ((objects_of (λ b. seen b) self.now).things.pol kind) }
+        ensures value { result ≡ shown_param kind ((objects_of (λ b. seen b) self.now).things.pol kind) }
+        ensures range { IfSome result (λ v. in_range (param_top kind ((objects_of (λ b. seen b) self.now).things.pol kind).chosen) 0 v ≡ true) }
     {
+        self.choice.of(kind);
         param(self.shelf.as_slice(), &self.choice, kind)
     }
 

@@ -1,17 +1,19 @@
 //! A store over the sample disk's directory.
 
-ghost use Rattle.std.specs.Prelude.{◌≡◌, ◌+◌, ◌<◌, ◌≤◌, true, length, map, IfOk};
+ghost use Rattle.std.specs.Prelude.{◌≡◌, ◌+◌, ◌<◌, ◌≤◌, true, None, length, map, slice_index, IfOk};
 ghost use Rattle.kernel_model.specs.Opening.{opening_policy};
 ghost use Rattle.graft_points.specs.Shelf.{IsShelf, pol_of, first_choice};
+ghost use Rattle.kernel_model.specs.Access.{early_refusal};
 ghost use Rattle.kernel_model.specs.Policies.{lives};
 ghost use Rattle.kernel_model.specs.FilePieces.{new_file};
 ghost use Rattle.kernel_state.specs.Stores.{queue_of, IsStore};
 
 use crate::{Setup, Store};
+use accessor_list::ids;
 use graft_points::{
     Policy, RaNext, RaNone, RaSeq, SchedNice, SchedRound, VictimLru, VictimMark, is_stock, put_last,
 };
-use kernel_model::{Bytes, Kind, OpenRow};
+use kernel_model::{Bytes, Inverse, Kind, OpenRow};
 use mem_disk::read_directory;
 use ram_space::Ram;
 use std::alloc::Global;
@@ -222,5 +224,64 @@ fn the_chosen_policy_answers_with_its_parameter(rt: HostRuntime) -> Result<(), F
     assert_eq!(rt; store.param(0), Some(2));
     store.choose(2, 1);
     assert_eq!(rt; store.next(), 0);
+    Ok(())
+}
+
+/// The result of an accessor for a graft of root. None where it is refused.
+fn call(store: &mut Store, id: u32, args: [u32; 3]) -> Option<u32>
+    requires sound { IsStore (λ b. seen b) store.old }
+    requires root { lives (queue_of store.old) 0 ≡ true }
+    requires plain { id ≤ 12 }
+    requires early { early_refusal 15 id (slice_index args 0) (slice_index args 1) 0 ≡ None }
+    ensures sound { IsStore (λ b. seen b) store.new }
+    ensures root { lives (queue_of store.new) 0 ≡ true }
+{
+    match store.access(id, args, 0) {
+        Ok(access) => Some(access.result),
+        Err(_) => None,
+    }
+}
+
+#[test]
+fn accessors_give_the_value_from_before(rt: HostRuntime) -> Result<(), Fail> {
+    let shelf = stock_shelf!(rt.alloc());
+    assert!(rt; is_stock(&shelf));
+    let mut store = booted(rt.alloc(), shelf)?;
+    bring(&mut store, 5, &[7; 512]);
+    assert_eq!(rt; call(&mut store, ids::CELL_SET, [2, 7, 0]), Some(0));
+    assert_eq!(rt; call(&mut store, ids::CELL_GET, [2, 0, 0]), Some(7));
+    assert_eq!(rt; call(&mut store, ids::NICE_SET, [5, 0, 0]), Some(20));
+    assert_eq!(rt; call(&mut store, ids::NICE_GET, [0; 3]), Some(5));
+    assert_eq!(rt; call(&mut store, ids::WINDOW_GET, [1, 0, 0]), None);
+    assert_eq!(rt; call(&mut store, ids::FRAMES_MINE, [0; 3]), Some(1));
+    assert_eq!(rt; call(&mut store, ids::FRAME_AT, [0; 3]), Some(0));
+    assert_eq!(rt; call(&mut store, ids::FRAME_AT, [1, 0, 0]), None);
+    assert_eq!(rt; call(&mut store, ids::FRAME_BLOCK, [0; 3]), Some(5));
+    assert_eq!(rt; call(&mut store, ids::FRAME_BLOCK, [256, 0, 0]), None);
+    assert_eq!(rt; call(&mut store, ids::FRAME_MARK, [0, 9, 0]), Some(0));
+    assert_eq!(rt; call(&mut store, ids::FRAME_MARK, [0, 1, 0]), Some(9));
+    assert_eq!(rt; call(&mut store, ids::TUNE_GET, [0; 3]), Some(2));
+    assert_eq!(rt; call(&mut store, ids::TUNE_GET, [1, 0, 0]), None);
+    assert_eq!(rt; call(&mut store, ids::TUNE_SET, [0, 0, 9]), None);
+    assert_eq!(rt; call(&mut store, ids::TUNE_SET, [0, 0, 5]), Some(2));
+    assert_eq!(rt; store.param(0), Some(5));
+    assert_eq!(rt; call(&mut store, ids::TAKE_LOCK, [4, 0, 0]), Some(4));
+    assert_eq!(rt; store.candidate_of(0), Some(0));
+    assert_eq!(rt; store.candidate_of(1), None);
+    Ok(())
+}
+
+#[test]
+fn records_put_values_back(rt: HostRuntime) -> Result<(), Fail> {
+    let shelf = stock_shelf!(rt.alloc());
+    assert!(rt; is_stock(&shelf));
+    let mut store = booted(rt.alloc(), shelf)?;
+    store.undo(Inverse::Cell(0, 2, 7));
+    assert_eq!(rt; store.cell(0, 2), 7);
+    store.undo(Inverse::Nice(0, 39));
+    assert_eq!(rt; call(&mut store, ids::NICE_GET, [0; 3]), Some(39));
+    assert!(rt; store.takes(0, 0, 8));
+    store.undo(Inverse::Tune(0, 0, 8));
+    assert_eq!(rt; store.param(0), Some(8));
     Ok(())
 }

@@ -1,7 +1,7 @@
 use Rattle.std.proofs.Common.{◌∙◌, ap, refl}
 use Rattle.kernel_model.specs.Policies.{lives}
 use Rattle.process_table.specs.Processes.{Processes}
-use Rattle.kernel_state.specs.Stores.{world_of_store, objects_of}
+use Rattle.kernel_state.specs.Stores.{world_of_store}
 use Rattle.kernel_state.proofs.Queues.{lives_slice}
 use Rattle.kernel_state.proofs.Fits.{fits_same}
 use Rattle.kernel_state.proofs.Store.add_slice.Goals as goal

@@ -1,6 +1,4 @@
-use Rattle.std.proofs.Common.{ℕ, List, ap, refl, map}
-use Rattle.kernel_model.specs.Objects.{PolValue}
-use Rattle.graft_points.specs.Views.{PolicyView}
+use Rattle.std.proofs.Common.{ap, refl, map}
 use Rattle.graft_points.specs.Shelf.{pol_of}
 use Rattle.kernel_state.specs.Stores.{policies_of}
 use Rattle.kernel_state.proofs.Rows.{none_used, candidate_is, evicted_used, no_rows}

@@ -2,7 +2,7 @@ use Rattle.std.proofs.Common.{◌≡◌, length, ap, refl, arith}
 use Rattle.kernel_model.specs.Objects.{CacheValue}
 use Rattle.buffer_cache.specs.Frames.{Frames}
 use Rattle.kernel_state.specs.CacheViews.{cache_value}
-use Rattle.kernel_state.specs.Stores.{world_of_store, objects_of, cache_of}
+use Rattle.kernel_state.specs.Stores.{world_of_store, cache_of}
 use Rattle.kernel_state.proofs.CacheLaws.{filled_is}
 use Rattle.kernel_state.proofs.Search.{none_holds}
 use Rattle.kernel_state.proofs.Fits.{fits_frames, blocks_filled, stands_so}

@@ -1,4 +1,4 @@
-use Rattle.std.proofs.Common.{◌∙◌, ℕ, List, refl, ap, map, take}
+use Rattle.std.proofs.Common.{◌∙◌, ℕ, List, refl, ap, map}
 use Rattle.std.proofs.lemmas.List.{take_all}
 use Rattle.buffer_cache.specs.Frames.{row_at}
 use Rattle.kernel_state.specs.Stores.{objects_of}

@@ -1,6 +1,6 @@
 use Rattle.std.proofs.Common.{true, ap, refl}
 use Rattle.buffer_cache.specs.Frames.{Frames}
-use Rattle.kernel_state.specs.Stores.{world_of_store, objects_of}
+use Rattle.kernel_state.specs.Stores.{world_of_store}
 use Rattle.kernel_state.proofs.CacheLaws.{patched_is, used_below}
 use Rattle.kernel_state.proofs.Fits.{fits_frames, blocks_changed, stands_so}
 use Rattle.kernel_state.proofs.Store.patch.Goals as goal

@@ -1,6 +1,6 @@
 use Rattle.std.proofs.Common.{ap, refl}
 use Rattle.process_table.specs.Processes.{Processes}
-use Rattle.kernel_state.specs.Stores.{world_of_store, objects_of}
+use Rattle.kernel_state.specs.Stores.{world_of_store}
 use Rattle.kernel_state.proofs.Fits.{fits_same}
 use Rattle.kernel_state.proofs.Store.spawn.Goals as goal
 

@@ -1,0 +1,15 @@
+use Rattle.std.proofs.Common.{ap, refl, ◌∙◌}
+use Rattle.kernel_model.specs.Policies.{lives}
+use Rattle.process_table.specs.Processes.{Processes}
+use Rattle.kernel_state.specs.Stores.{world_of_store}
+use Rattle.kernel_state.proofs.Fits.{fits_same}
+use Rattle.kernel_state.proofs.Accessing.{lives_nice}
+use Rattle.kernel_state.proofs.Store.set_nice.Goals as goal
+
+pub returns-clause-living : goal.returns-clause-living
+returns-clause-living g c = λ p. ap (λ (x : Processes). lives x.queue p) c.set_nice.ensures ∙ lives_nice c.args.q c.args.v p c.args.self.now.procs.queue
+
+pub returns-clause-sound : goal.returns-clause-sound
+returns-clause-sound g c =
+    let s = c.args.self.now in
+    record { fits = fits_same s.cache.count (world_of_store s) _ _ c.requires.sound.fits (ap (λ (x : Processes). x.file) c.set_nice.ensures) refl; shelf = c.requires.sound.shelf }

@@ -1,0 +1,29 @@
+-- What the accessors of grafts do to a store, and which of their changes can be undone on it.
+use Rattle.std.specs.Prelude.{◌≡◌, ◌<◌, ◌≤◌, true, Some, None, Result, Ok, Err, is_some}
+use Rattle.kernel_model.specs.declared.Inverse.{Inverse}
+use Rattle.kernel_model.specs.declared.Inverse.TheVariants.{Cell, Nice, Window, Mark, Tune}
+use Rattle.kernel_model.specs.declared.Cause.{Cause}
+use Rattle.kernel_model.specs.Access.{Access as Accessed, Gives, Changes, Refuses, in_range, param_top}
+use Rattle.kernel_model.specs.Objects.{Things}
+use Rattle.kernel_model.specs.Policies.{lives}
+use Rattle.kernel_state.specs.declared.Access.{Access}
+
+-- the answer of an accessor: the result and what undoes the change, or the refusal
+abbrev pub answer_of : Accessed → Result Access Cause
+answer_of (Gives result) = Ok (record { result = result; inverse = None })
+answer_of (Changes result inverse w) = Ok (record { result = result; inverse = Some inverse })
+answer_of (Refuses cause) = Err cause
+
+-- the objects after an accessor: changed, or the same
+abbrev pub things_after : Accessed → Things → Things
+things_after (Gives result) w = w
+things_after (Changes result inverse u) w = u
+things_after (Refuses cause) w = w
+
+-- a record can be undone: the process lives, the cell, open file, frame or parameter is there, and the value is in its range
+abbrev pub CanBeUndone : Inverse → Things → Type 0
+CanBeUndone (Cell q k v) w = (lives w.queue q ≡ true) × (k < 4)
+CanBeUndone (Nice q v) w = (lives w.queue q ≡ true) × (v ≤ 39)
+CanBeUndone (Window q fd v) w = (lives w.queue q ≡ true) × (fd < 4) × (is_some (w.file q fd) ≡ true) × (v ≤ 8)
+CanBeUndone (Mark f v) w = is_some (w.cache.frame f) ≡ true
+CanBeUndone (Tune kind k v) w = (kind < 3) × (in_range (param_top kind (w.pol kind).chosen) k v ≡ true)

@@ -1,0 +1,240 @@
+//! The plain accessors of grafts, and the undoing of their changes.
+
+ghost use Rattle.std.specs.Prelude.{◌≡◌, ℕ, ◌<◌, ◌≤◌, true, None, Some, Ok, map, slice_get, slice_index, IfOk, IfSome};
+ghost use Rattle.std.specs.Result.{is_ok};
+ghost use Rattle.kernel_model.specs.declared.FrameRow.{FrameRow as Row};
+ghost use Rattle.kernel_model.specs.declared.Inverse.{Inverse as Inverses};
+ghost use Rattle.kernel_model.specs.Access.{access as accessed, early_refusal, undo as undone};
+ghost use Rattle.kernel_model.specs.Objects.{with_things};
+ghost use Rattle.kernel_model.specs.Policies.{lives};
+ghost use Rattle.kernel_state.specs.Accesses.{answer_of, things_after, CanBeUndone};
+ghost use Rattle.kernel_state.specs.Stores.{world_of_store, objects_of, queue_of, IsStore};
+
+use crate::{Access, Store};
+use accessor_list::ids;
+use kernel_model::{Cause, FrameRow, Inverse};
+
+impl Store {
+    /// What the plain accessor of an id does for a graft of process q, which lives: the change in place. Nothing changes
+    /// where it is refused. The arguments aren't refused by themselves (`accessor_list::early`).
+    pub fn access(&mut self, id: u32, args: [u32; 3], q: u8) -> Result<Access, Cause>
+        requires sound { IsStore (λ b. seen b) self.old }
+        requires lives { lives (queue_of self.old) q ≡ true }
+        requires plain { id ≤ 12 }
+        requires early { early_refusal 15 id (slice_index args 0) (slice_index args 1) q ≡ None }
+        ensures answer { result ≡
+            answer_of (accessed id (slice_index args 0) (slice_index args 1) (slice_index args 2) q (objects_of (λ b. seen b) self.old).things) }
+        ensures objects { let s = objects_of (λ b. seen b) self.old in objects_of (λ b. seen b) self.new ≡
+            with_things (things_after (accessed id (slice_index args 0) (slice_index args 1) (slice_index args 2) q s.things) s.things) s }
+        ensures living { (p : ℕ) → lives (queue_of self.new) p ≡ lives (queue_of self.old) p }
+        ensures world { world_of_store self.new ≡ world_of_store self.old }
+        ensures sound { IsStore (λ b. seen b) self.new }
+        ensures undoable { IfOk result (λ a. IfSome a.inverse (λ i. CanBeUndone i (objects_of (λ b. seen b) self.new).things)) }
+        ensures kept { (i : Inverses) → CanBeUndone i (objects_of (λ b. seen b) self.old).things → CanBeUndone i (objects_of (λ b. seen b) self.new).things }
+    {
+        let answer = self.answer(id, args, q);
+        if answer.is_ok() {
+            self.change(id, args, q);
+        }
+        answer
+    }
+
+    /// Puts the value back that a record names.
+    pub fn undo(&mut self, inverse: Inverse)
+        requires sound { IsStore (λ b. seen b) self.old }
+        requires fits { CanBeUndone inverse (objects_of (λ b. seen b) self.old).things }
+        ensures objects { let s = objects_of (λ b. seen b) self.old in objects_of (λ b. seen b) self.new ≡ with_things (undone inverse s.things) s }
+        ensures living { (p : ℕ) → lives (queue_of self.new) p ≡ lives (queue_of self.old) p }
+        ensures world { world_of_store self.new ≡ world_of_store self.old }
+        ensures sound { IsStore (λ b. seen b) self.new }
+        ensures kept { (i : Inverses) → CanBeUndone i (objects_of (λ b. seen b) self.old).things → CanBeUndone i (objects_of (λ b. seen b) self.new).things }
+    {
+        match inverse {
+            Inverse::Cell(q, k, v) => self.set_cell(q, k, v),
+            Inverse::Nice(q, v) => self.set_nice(q, v),
+            Inverse::Window(q, fd, v) => self.set_window(q, fd, v),
+            Inverse::Mark(f, v) => self.set_mark(u32::from(f), v),
+            Inverse::Tune(kind, _, v) => self.set_param(kind, v),
+        }
+    }
+
+    /// What an accessor answers.
+    fn answer(&self, id: u32, args: [u32; 3], q: u8) -> Result<Access, Cause>
+        requires sound { IsStore (λ b. seen b) self.now }
+        requires lives { lives (queue_of self.now) q ≡ true }
+        requires plain { id ≤ 12 }
+        requires early { early_refusal 15 id (slice_index args 0) (slice_index args 1) q ≡ None }
+        ensures answer { result ≡
+            answer_of (accessed id (slice_index args 0) (slice_index args 1) (slice_index args 2) q (objects_of (λ b. seen b) self.now).things) }
+        ensures undoable { IfOk result (λ a. IfSome a.inverse (λ i. CanBeUndone i (objects_of (λ b. seen b) self.now).things)) }
+    {
+        let [first, second, third] = args;
+        match id {
+            ids::CELL_GET => gives(self.cell(q, first as u8)),
+            ids::CELL_SET => self.cell_set(q, first as u8),
+            ids::NICE_GET => gives(u32::from(self.nice(q))),
+            ids::NICE_SET => self.nice_set(q),
+            ids::WINDOW_GET => self.window_get(q, first as u8),
+            ids::WINDOW_SET => self.window_set(q, first as u8),
+            ids::FRAMES_MINE => gives(self.owned_rows(q).as_slice().len() as u32),
+            ids::FRAME_AT => self.frame_at(q, first),
+            ids::FRAME_BLOCK => self.frame_block(q, first),
+            ids::FRAME_MARK => self.frame_mark(q, first),
+            ids::TUNE_GET => self.tune_get(first as u8, second),
+            ids::TUNE_SET => self.tune_set(first as u8, second, third),
+            _ => gives(first),
+        }
+    }
+
+    /// The change of an accessor that isn't refused.
+    fn change(&mut self, id: u32, args: [u32; 3], q: u8)
+        requires sound { IsStore (λ b. seen b) self.old }
+        requires lives { lives (queue_of self.old) q ≡ true }
+        requires plain { id ≤ 12 }
+        requires early { early_refusal 15 id (slice_index args 0) (slice_index args 1) q ≡ None }
+        requires accepted { is_ok (answer_of (accessed id (slice_index args 0) (slice_index args 1) (slice_index args 2) q (objects_of (λ b. seen b) self.old).things)) ≡ true }
+        ensures objects { let s = objects_of (λ b. seen b) self.old in objects_of (λ b. seen b) self.new ≡
+            with_things (things_after (accessed id (slice_index args 0) (slice_index args 1) (slice_index args 2) q s.things) s.things) s }
+        ensures living { (p : ℕ) → lives (queue_of self.new) p ≡ lives (queue_of self.old) p }
+        ensures world { world_of_store self.new ≡ world_of_store self.old }
+        ensures sound { IsStore (λ b. seen b) self.new }
+    {
+        let [first, second, third] = args;
+        match id {
+            ids::CELL_SET => self.set_cell(q, first as u8, second),
+            ids::NICE_SET => self.set_nice(q, first as u8),
+            ids::WINDOW_SET => self.set_window(q, first as u8, second as u8),
+            ids::FRAME_MARK => self.set_mark(first, second as u8),
+            ids::TUNE_SET => self.set_param(first as u8, third),
+            _ => {}
+        }
+    }
+
+    fn cell_set(&self, q: u8, k: u8) -> Result<Access, Cause>
+        requires lives { lives (queue_of self.now) q ≡ true }
+        requires number { k < 4 }
+        ensures answer { result ≡ answer_of (accessed 1 k 0 0 q (objects_of (λ b. seen b) self.now).things) }
+        ensures undoable { IfOk result (λ a. IfSome a.inverse (λ i. CanBeUndone i (objects_of (λ b. seen b) self.now).things)) }
+    {
+        let was = self.cell(q, k);
+        changes(was, Inverse::Cell(q, k, was))
+    }
+
+    fn nice_set(&self, q: u8) -> Result<Access, Cause>
+        requires { lives (queue_of self.now) q ≡ true }
+        ensures answer { result ≡ answer_of (accessed 3 0 0 0 q (objects_of (λ b. seen b) self.now).things) }
+        ensures undoable { IfOk result (λ a. IfSome a.inverse (λ i. CanBeUndone i (objects_of (λ b. seen b) self.now).things)) }
+    {
+        let was = self.nice(q);
+        changes(u32::from(was), Inverse::Nice(q, was))
+    }
+
+    fn window_get(&self, q: u8, fd: u8) -> Result<Access, Cause>
+        requires sound { IsStore (λ b. seen b) self.now }
+        requires lives { lives (queue_of self.now) q ≡ true }
+        requires number { fd < 4 }
+        ensures { result ≡ answer_of (accessed 4 fd 0 0 q (objects_of (λ b. seen b) self.now).things) }
+    {
+        match self.file(q, fd) {
+            Some(row) => gives(u32::from(row.window)),
+            None => Err(Cause::BadArgument(ids::WINDOW_GET)),
+        }
+    }
+
+    fn window_set(&self, q: u8, fd: u8) -> Result<Access, Cause>
+        requires sound { IsStore (λ b. seen b) self.now }
+        requires lives { lives (queue_of self.now) q ≡ true }
+        requires number { fd < 4 }
+        ensures answer { (v : ℕ) → result ≡ answer_of (accessed 5 fd v 0 q (objects_of (λ b. seen b) self.now).things) }
+        ensures undoable { IfOk result (λ a. IfSome a.inverse (λ i. CanBeUndone i (objects_of (λ b. seen b) self.now).things)) }
+    {
+        match self.file(q, fd) {
+            Some(row) => changes(u32::from(row.window), Inverse::Window(q, fd, row.window)),
+            None => Err(Cause::BadArgument(ids::WINDOW_SET)),
+        }
+    }
+
+    fn frame_at(&self, q: u8, n: u32) -> Result<Access, Cause>
+        ensures { result ≡ answer_of (accessed 7 n 0 0 q (objects_of (λ b. seen b) self.now).things) }
+    {
+        let rows = self.owned_rows(q);
+        match nth_frame(rows.as_slice(), n) {
+            Some(f) => gives(u32::from(f)),
+            None => Err(Cause::BadArgument(ids::FRAME_AT)),
+        }
+    }
+
+    fn frame_block(&self, q: u8, f: u32) -> Result<Access, Cause>
+        ensures { result ≡ answer_of (accessed 8 f 0 0 q (objects_of (λ b. seen b) self.now).things) }
+    {
+        match self.row(f) {
+            Some(row) if row.owner == q => gives(row.block),
+            Some(_) => Err(Cause::NotYours(ids::FRAME_BLOCK)),
+            None => Err(Cause::BadArgument(ids::FRAME_BLOCK)),
+        }
+    }
+
+    fn frame_mark(&self, q: u8, f: u32) -> Result<Access, Cause>
+        ensures answer { (v : ℕ) → result ≡ answer_of (accessed 9 f v 0 q (objects_of (λ b. seen b) self.now).things) }
+        ensures undoable { IfOk result (λ a. IfSome a.inverse (λ i. CanBeUndone i (objects_of (λ b. seen b) self.now).things)) }
+    {
+        match self.row(f) {
+            Some(row) if row.owner == q => {
+                changes(u32::from(row.mark), Inverse::Mark(row.frame, row.mark))
+            }
+            Some(_) => Err(Cause::NotYours(ids::FRAME_MARK)),
+            None => Err(Cause::BadArgument(ids::FRAME_MARK)),
+        }
+    }
+
+    fn tune_get(&self, kind: u8, k: u32) -> Result<Access, Cause>
+        requires sound { IsStore (λ b. seen b) self.now }
+        requires kind { kind < 3 }
+        ensures { result ≡ answer_of (accessed 10 kind k 0 0 (objects_of (λ b. seen b) self.now).things) }
+    {
+        match self.param(kind) {
+            Some(v) if k == 0 => gives(v),
+            _ => Err(Cause::BadArgument(ids::TUNE_GET)),
+        }
+    }
+
+    fn tune_set(&self, kind: u8, k: u32, v: u32) -> Result<Access, Cause>
+        requires sound { IsStore (λ b. seen b) self.now }
+        requires kind { kind < 3 }
+        ensures answer { result ≡ answer_of (accessed 11 kind k v 0 (objects_of (λ b. seen b) self.now).things) }
+        ensures undoable { IfOk result (λ a. IfSome a.inverse (λ i. CanBeUndone i (objects_of (λ b. seen b) self.now).things)) }
+    {
+        match self.param(kind) {
+            Some(was) if self.takes(kind, k, v) => changes(was, Inverse::Tune(kind, 0, was)),
+            _ => Err(Cause::BadArgument(ids::TUNE_SET)),
+        }
+    }
+}
+
+/// The frame of the n-th row, from 0.
+#[tactic(auto, using(crate::proofs::Accessing::frame_got))]
+fn nth_frame(rows: &[FrameRow], n: u32) -> Option<u8>
+    ensures { result ≡ slice_get (map (λ (r : Row). r.frame) rows.now) n }
+{
+    rows.get(n as usize).map(|row| row.frame)
+}
+
+/// A result where nothing changes.
+fn gives(n: u32) -> Result<Access, Cause>
+    ensures { result ≡ Ok (record { result = n; inverse = None }) }
+{
+    Ok(Access {
+        result: n,
+        inverse: None,
+    })
+}
+
+/// The value from before, and what puts it back.
+fn changes(was: u32, inverse_is: Inverse) -> Result<Access, Cause>
+    ensures { result ≡ Ok (record { result = was; inverse = Some inverse_is }) }
+{
+    Ok(Access {
+        result: was,
+        inverse: Some(inverse_is),
+    })
+}

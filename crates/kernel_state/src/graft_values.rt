@@ -1,0 +1,129 @@
+//! Values of a store that only grafts look at and change: nices, windows, marks, and the frames of one process.
+
+ghost use Rattle.std.specs.Prelude.{◌≡◌, ℕ, ◌<◌, ◌≤◌, true, Some, [], nat_le, map, is_some, IfSome, IfNone};
+ghost use Rattle.std.specs.List.{list_all};
+ghost use Rattle.kernel_model.specs.declared.FrameRow.{FrameRow as Row};
+ghost use Rattle.kernel_model.specs.declared.QueueRow.{QueueRow as Waiting};
+ghost use Rattle.kernel_model.specs.Access.{set_nice as nice_set, set_window as window_set, set_mark as mark_set};
+ghost use Rattle.kernel_model.specs.Objects.{with_things};
+ghost use Rattle.kernel_model.specs.Policies.{lives, nice_of, is_owned, frames_of, victim_among};
+ghost use Rattle.buffer_cache.specs.Frames.{in_use, row_at};
+ghost use Rattle.kernel_state.specs.Stores.{world_of_store, objects_of, cache_of, queue_of, policies_of, IsStore};
+
+use crate::Store;
+use graft_points::victim;
+use kernel_model::{FRAMES, FrameRow, FrameRows, OpenRow, QueueRow};
+
+impl Store {
+    /// The nice of process q. 0 where it doesn't live.
+    pub(crate) fn nice(&self, q: u8) -> u8
+        ensures value { result ≡ nice_of (queue_of self.now) q }
+        ensures range { result ≤ 39 }
+    {
+        nice_in(self.procs.rows(), q)
+    }
+
+    /// Gives process q, which lives, another nice.
+    pub(crate) fn set_nice(&mut self, q: u8, v: u8)
+        requires sound { IsStore (λ b. seen b) self.old }
+        requires lives { lives (queue_of self.old) q ≡ true }
+        requires range { v ≤ 39 }
+        ensures objects { objects_of (λ b. seen b) self.new ≡ with_things (nice_set q v (objects_of (λ b. seen b) self.old).things) (objects_of (λ b. seen b) self.old) }
+        ensures living { (p : ℕ) → lives (queue_of self.new) p ≡ lives (queue_of self.old) p }
+        ensures world { world_of_store self.new ≡ world_of_store self.old }
+        ensures sound { IsStore (λ b. seen b) self.new }
+    {
+        self.procs.set_nice(q, v);
+    }
+
+    /// Gives the file that is open at descriptor fd of process q another window.
+    pub(crate) fn set_window(&mut self, q: u8, fd: u8, v: u8)
+        requires sound { IsStore (λ b. seen b) self.old }
+        requires lives { lives (queue_of self.old) q ≡ true }
+        requires number { fd < 4 }
+        requires opened { is_some ((objects_of (λ b. seen b) self.old).things.file q fd) ≡ true }
+        requires range { v ≤ 8 }
+        ensures objects { objects_of (λ b. seen b) self.new ≡ with_things (window_set q fd v (objects_of (λ b. seen b) self.old).things) (objects_of (λ b. seen b) self.old) }
+        ensures queue { queue_of self.new ≡ queue_of self.old }
+        ensures world { world_of_store self.new ≡ world_of_store self.old }
+        ensures sound { IsStore (λ b. seen b) self.new }
+    {
+        if let Some(row) = self.file(q, fd) {
+            self.put_file(q, fd, Some(OpenRow { window: v, ..row }));
+        }
+    }
+
+    /// Gives frame f, which is in use, another mark.
+    pub(crate) fn set_mark(&mut self, f: u32, v: u8)
+        requires sound { IsStore (λ b. seen b) self.old }
+        requires in_cache { in_use f self.old.cache ≡ true }
+        ensures objects { objects_of (λ b. seen b) self.new ≡ with_things (mark_set f v (objects_of (λ b. seen b) self.old).things) (objects_of (λ b. seen b) self.old) }
+        ensures queue { queue_of self.new ≡ queue_of self.old }
+        ensures world { world_of_store self.new ≡ world_of_store self.old }
+        ensures sound { IsStore (λ b. seen b) self.new }
+    {
+        self.cache.lru();
+        if let Some(row) = self.row(f) {
+            self.cache.mark(row.frame, v);
+        }
+    }
+
+    /// What frame f holds, if it is in use.
+    pub(crate) fn row(&self, f: u32) -> Option<FrameRow>
+        ensures value { result ≡ row_at self.now.cache.rows f }
+        ensures number { IfSome result (λ r. r.frame ≡ f) }
+    {
+        self.cache.lru();
+        if f < FRAMES as u32 && self.is_used(f as u8) {
+            Some(self.cache.row(f as u8))
+        } else {
+            None
+        }
+    }
+
+    /// The frames of process q, oldest first.
+    pub(crate) fn owned_rows(&self, q: u8) -> FrameRows
+        ensures rows { map (λ (r : Row). Some r) result ≡ map (row_at self.now.cache.rows) (frames_of (cache_of self.now) q) }
+        ensures frames { map (λ (r : Row). r.frame) result ≡ frames_of (cache_of self.now) q }
+    {
+        let mut rows = FrameRows::new();
+        for f in self.cache.lru() {
+            let row = self.cache.row(*f);
+            if row.owner == q {
+                let _ = rows.push(row);
+            }
+        }
+        rows
+    }
+
+    /// The candidate for eviction of process q: the frame that the chosen policy evicts of those of q, if it has some.
+    pub fn candidate_of(&self, q: u8) -> Option<u8>
+        requires { IsStore (λ b. seen b) self.now }
+        ensures value { result ≡ victim_among (policies_of (λ b. seen b) self.now 1) (cache_of self.now) (frames_of (cache_of self.now) q) }
+        ensures in_cache { IfSome result (λ f. in_use f self.now.cache ≡ true) }
+        ensures owned { IfSome result (λ f. is_owned (cache_of self.now) q f ≡ true) }
+        ensures none { IfNone result (frames_of (cache_of self.now) q ≡ []) }
+    {
+        self.cache.lru();
+        let rows = self.owned_rows(q);
+        if rows.as_slice().is_empty() {
+            return None;
+        }
+        Some(victim(self.shelf.as_slice(), &self.choice, rows.as_slice()))
+    }
+}
+
+/// The nice of a process of the queue, or 0.
+#[tactic(auto, using(crate::proofs::Accessing::nice_below))]
+fn nice_in(rows: &[QueueRow], p: u8) -> u8
+    requires { list_all (λ (r : Waiting). nat_le r.nice 39) rows.now ≡ true }
+    ensures value { result ≡ nice_of rows.now p }
+    ensures range { result ≤ 39 }
+{
+    for row in rows {
+        if row.process == p {
+            return row.nice;
+        }
+    }
+    0
+}
