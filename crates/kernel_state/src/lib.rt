@@ -9,6 +9,7 @@ mod cache;
 mod files;
 mod policies;
 mod processes;
+mod shown;
 #[cfg(test)]
 mod tests;
 
