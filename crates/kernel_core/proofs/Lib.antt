@@ -1,2 +1,3 @@
 pub mod KernelLemmas
 pub mod BoundsLemmas
+pub mod SectionLemmas

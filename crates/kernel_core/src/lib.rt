@@ -5,6 +5,7 @@
 
 mod kernel;
 mod notes;
+mod rows;
 
 pub use kernel::{BootNote, Kernel, Logs};
 pub use kernel_state::Setup;

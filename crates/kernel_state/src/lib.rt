@@ -11,6 +11,7 @@ mod files;
 mod graft_values;
 mod policies;
 mod processes;
+mod shown;
 #[cfg(test)]
 mod tests;
 

@@ -1,0 +1,101 @@
+//! The rows that show a store's objects.
+
+ghost use Rattle.std.specs.Prelude.{◌≡◌, ◌<◌, ◌≤◌, length};
+ghost use Rattle.kernel_model.specs.RawRows.{acct_row, cells_row, open_row, graft_row, pol_row, lock_row};
+ghost use Rattle.kernel_model.specs.declared.RawRow.TheVariants.{Queue};
+ghost use Rattle.kernel_state.specs.Stores.{world_of_store, objects_of, queue_of, IsStore};
+
+use crate::Store;
+use kernel_model::{Kind, QueueRow, QueueRows, RawRow};
+
+impl Store {
+    /// The queue, front first.
+    pub fn shown_queue(&self) -> RawRow
+        ensures { result ≡ Queue (queue_of self.now) }
+    {
+        RawRow::Queue(copy_of(self.procs.rows()))
+    }
+
+    /// What process p has and has spent of each kind.
+    pub fn shown_account(&self, p: u8) -> RawRow
+        requires { p < 16 }
+        ensures { result ≡ acct_row (objects_of (λ b. seen b) self.now) p }
+    {
+        let amounts = [
+            self.accounts.balance(p, Kind::Steps),
+            self.accounts.balance(p, Kind::Records),
+            self.accounts.balance(p, Kind::Locks),
+            self.accounts.spent(p, Kind::Steps),
+            self.accounts.spent(p, Kind::Records),
+            self.accounts.spent(p, Kind::Locks),
+        ];
+        RawRow::Acct(p, amounts)
+    }
+
+    /// The cells of process p.
+    pub fn shown_cells(&self, p: u8) -> RawRow
+        requires { p < 16 }
+        ensures { result ≡ cells_row (objects_of (λ b. seen b) self.now) p }
+    {
+        let cells = [
+            self.procs.cell(p, 0),
+            self.procs.cell(p, 1),
+            self.procs.cell(p, 2),
+            self.procs.cell(p, 3),
+        ];
+        RawRow::Cells(p, cells)
+    }
+
+    /// The file that is open at descriptor fd of process p, with its name.
+    pub fn shown_file(&self, p: u8, fd: u8) -> Option<RawRow>
+        requires sound { IsStore (λ b. seen b) self.now }
+        requires process { p < 16 }
+        requires number { fd < 4 }
+        ensures { result ≡ open_row (world_of_store self.now) (objects_of (λ b. seen b) self.now) p fd }
+    {
+        let opened = self.procs.file(p, fd)?;
+        let file = self.dir.file(opened.file);
+        Some(RawRow::OpenFile(p, fd, file.name, opened))
+    }
+
+    /// The graft that stands at point pt of process p.
+    pub fn shown_graft(&self, p: u8, pt: u8) -> Option<RawRow>
+        requires process { p < 16 }
+        requires point { pt < 16 }
+        ensures { result ≡ graft_row (objects_of (λ b. seen b) self.now) p pt }
+    {
+        let graft = self.accounts.graft(p, pt)?;
+        let balance = [graft.steps, graft.records, graft.locks];
+        Some(RawRow::Graft(p, pt, graft.image, graft.limit, graft.billed, balance))
+    }
+
+    /// The chosen policy of a kind, with its parameter if it has one.
+    pub fn shown_policy(&self, kind: u8) -> RawRow
+        requires sound { IsStore (λ b. seen b) self.now }
+        requires kind { kind < 3 }
+        ensures { result ≡ pol_row (objects_of (λ b. seen b) self.now) kind }
+    {
+        RawRow::Pol(kind, self.chosen(kind), self.param(kind))
+    }
+
+    /// The process that holds user lock u.
+    pub fn shown_lock(&self, u: u8) -> Option<RawRow>
+        requires { u < 16 }
+        ensures { result ≡ lock_row (objects_of (λ b. seen b) self.now) u }
+    {
+        let p = self.procs.holder(u)?;
+        Some(RawRow::Lock(u, p))
+    }
+}
+
+/// These rows once more.
+fn copy_of(rows: &[QueueRow]) -> QueueRows
+    requires { length rows.now ≤ 16 }
+    ensures { result ≡ rows.now }
+{
+    let mut copy = QueueRows::new();
+    for row in rows {
+        let _ = copy.push(*row);
+    }
+    copy
+}
