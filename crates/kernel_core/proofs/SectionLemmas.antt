@@ -1,6 +1,6 @@
 -- Rows are counted down, place by place and section by section; and the sections are the rows of the definitions.
 use Rattle.std.proofs.Common.{◌≡◌, ◌<◌, ◌≤◌, ℕ, zero, suc, ◌+◌, ◌-◌, List, [], ◌∷◌, ◌++◌, Option, Some, None, Result, Ok, Err, add-one, arith, refl, sym, ap, ◌∙◌, append_assoc, append-nil, length-append}
-use Rattle.std.specs.Prelude.{◌*◌, ◌/◌, ◌%◌, cond, Bool, true, false, length, drop, map, filter, filter_map, flat_map, slice_get, sum}
+use Rattle.std.specs.Prelude.{◌*◌, ◌/◌, ◌%◌, cond, Bool, true, false, length, drop, map, filter, filter_map, flat_map, slice_get}
 use Rattle.std.specs.List.{range_with_len, cons_option}
 use Rattle.std.proofs.lemmas.List.Elements.{filter_map-append}
 use Rattle.std.proofs.lemmas.List.FromFn.{length-range_with_len}
@@ -205,14 +205,25 @@ filtered_few f (x ∷ xs) = given_few (f x) (filter_map f xs) (length xs) (filte
     given_few None ys n h = omega (arith, h)
     given_few (Some y) ys n h = omega (arith, h)
 
+-- the places of these sections
+abbrev places_in : List Section → ℕ
+places_in [] = 0
+places_in (s ∷ ss) = places s + places_in ss
+
 -- no more rows than the places of all sections
-sections_few : (v : World) (w : Objects) (clock : ℕ) (ss : List Section) → length (rows_of v w clock ss) ≤ sum (map places ss)
+joined_few : (xs ys : List RawRow) (a b : ℕ) → length xs ≤ a → length ys ≤ b → length (xs ++ ys) ≤ a + b
+joined_few xs ys a b h k = omega (arith, length-append xs ys, h, k)
+
+section_few : (v : World) (w : Objects) (clock : ℕ) (s : Section) → length (rows_in v w clock s) ≤ places s
+section_few v w clock s = omega (arith, filtered_few (row_at v w clock s) (range_with_len 0 (places s)), length-range_with_len 0 (places s))
+
+sections_few : (v : World) (w : Objects) (clock : ℕ) (ss : List Section) → length (rows_of v w clock ss) ≤ places_in ss
 sections_few v w clock [] = omega arith
 sections_few v w clock (s ∷ ss) =
-    omega (arith, length-append (rows_in v w clock s) (rows_of v w clock ss), filtered_few (row_at v w clock s) (range_with_len 0 (places s)), length-range_with_len 0 (places s), sections_few v w clock ss)
+    joined_few (rows_in v w clock s) (rows_of v w clock ss) (places s) (places_in ss) (section_few v w clock s) (sections_few v w clock ss)
 
 -- past the places there is no row
 pub rows_end : (m : Meaning) (v : World) (images : ImageTable) (s : Objects) (clock i : ℕ) → 374 ≤ i → slice_get (raw_rows m (quiet v images s clock)) i ≡ None
 rows_end m v images s clock i past =
     ap (λ (xs : List RawRow). slice_get xs i) (sym (rows_are m v images s clock))
-    ∙ slice_get_past (rows_of v s clock sections) i (omega (arith, sections_few v s clock sections, past))
+    ∙ slice_get_past (rows_of v s clock sections) i (let few : length (rows_of v s clock sections) ≤ 374 = sections_few v s clock sections in omega (arith, few, past))

@@ -1,5 +1,6 @@
 pub mod PlaceLemmas
 pub mod AloneLemmas
+pub mod RowLemmas
 pub mod SessionLemmas
 pub mod LineLemmas
 pub mod RunLemmas

@@ -6,19 +6,20 @@ use Rattle.kernel_model.specs.declared.Note.{Note}
 use Rattle.disk_log.specs.Calls.{Tells}
 use Rattle.kernel_model.specs.Directory.{directory_of, usable_count}
 use Rattle.kernel_model.specs.Script as script_is
-use Rattle.kernel_model.specs.Script.{Entry, Blank, Frames, Grant, Boot, Happens, ScriptFault, fault_number, parsed_line}
+use Rattle.kernel_model.specs.Script.{Entry, Blank, Frames, Grant, Boot, Happens, Raw, ScriptFault, fault_number, parsed_line}
 use Rattle.script_text.specs.declared.parse.ScriptFault.{ScriptFault as TextFault}
 use Rattle.script_text.specs.declared.parse.ScriptFault.TheVariants as text
 use Rattle.script_text.specs.Answers.{Refuses}
 use Rattle.kernel_model.specs.Kernel as abstract
 use Rattle.kernel_model.specs.Session as script
-use Rattle.kernel_model.specs.Session.{Written, after_parse, after_built, after_entry, after_event, running_in, refuses_line, silent}
+use Rattle.kernel_model.specs.Session.{Written, after_parse, after_built, after_entry, after_event, running_in, refuses_line, says, silent}
 use Rattle.kernel_model.specs.Events.{event}
+use Rattle.kernel_model.specs.RawRows.{raw_rows}
 use Rattle.kernel_model.specs.Pieces.{plain}
 use Rattle.std.proofs.lemmas.Fmt.{decimal_digit}
 use Rattle.kernel_model.specs.declared.Note.TheVariants.{Refused}
 use Rattle.kernel_model.specs.declared.Refusal.TheVariants.{DiskFault}
-use Rattle.kernel_model.specs.Text.{line, spaced, note_text, note_lines, boot_text}
+use Rattle.kernel_model.specs.Text.{line, spaced, note_text, note_lines, row_lines}
 use Rattle.kernel_model.specs.Opening.{opening_kernel}
 use Rattle.vino_top.specs.Built.{present_build, is_built, is_built_event}
 use Rattle.kernel_model.specs.World.{World, Blocks}
@@ -147,6 +148,32 @@ unbooted_runs size s told what booted built =
     let run : after_built present_build key size t (Happens what) [] (is_built_event what) ≡ silent t [] =
     ap (after_built present_build key size t (Happens what) []) built
     ∙ ap (λ b. running_in present_build key size t (Happens what) (kernel_in b (kernel_seen s)) []) booted in
+    subst (λ w. ComesAlone blocks s s [] w) (sym run) (record { up = refl; objects = refl; session = refl; used = refl; bytes = refl }))
+
+-- the rows of the kernel's whole state
+pub raw_runs : (size : ℕ) (s : Seen) (told : Option (List (List ℕ))) (out : List ℕ) → s.booted ≡ true → out ≡ row_lines (s.events + 1) (raw_rows plain (kernel_seen s)) →
+    RunsEntry size Raw s (record s { events = s.events + 1 }) told told [] out
+raw_runs size s told out booted text =
+    alone size Raw s (record s { events = s.events + 1 }) told out (λ key blocks.
+    let t = session_of blocks s in
+    let n = suc s.events in
+    let run : after_built present_build key size t Raw [] true ≡ says (record t { kernel = Some (kernel_seen s); events = n }) (row_lines n (raw_rows plain (kernel_seen s))) [] =
+    ap (λ b. running_in present_build key size (record t { kernel = kernel_in b (kernel_seen s) }) Raw (kernel_in b (kernel_seen s)) []) booted in
+    subst (λ w. ComesAlone blocks s (record s { events = s.events + 1 }) out w) (sym run) (record {
+      up = refl;
+      objects = refl;
+      session = ap (λ (m : ℕ). session_of blocks (record s { events = m })) (add-one s.events) ∙ ap (λ b. record t { kernel = kernel_in b (kernel_seen s); events = n }) booted;
+      used = refl;
+      bytes = text ∙ ap (λ (m : ℕ). row_lines m (raw_rows plain (kernel_seen s))) (add-one s.events);
+    }))
+
+-- the same before `boot`
+pub unbooted_raw : (size : ℕ) (s : Seen) (told : Option (List (List ℕ))) → s.booted ≡ false → RunsEntry size Raw s s told told [] []
+unbooted_raw size s told booted =
+    alone size Raw s s told [] (λ key blocks.
+    let t = session_of blocks s in
+    let run : after_built present_build key size t Raw [] true ≡ silent t [] =
+    ap (λ b. running_in present_build key size t Raw (kernel_in b (kernel_seen s)) []) booted in
     subst (λ w. ComesAlone blocks s s [] w) (sym run) (record { up = refl; objects = refl; session = refl; used = refl; bytes = refl }))
 
 -- a line that isn't built

@@ -4,7 +4,7 @@ use Rattle.kernel_model.specs.declared.Event.{Event}
 use Rattle.kernel_model.specs.declared.Event.TheVariants.{Tick, Step, Sys}
 use Rattle.kernel_model.specs.declared.SysCall.{SysCall}
 use Rattle.kernel_model.specs.declared.SysCall.TheVariants.{TakeLock, FreeLock, Install, Remove, Fund, Bill}
-use Rattle.kernel_model.specs.Script.{Entry, Blank, Frames, Grant, Boot, Happens}
+use Rattle.kernel_model.specs.Script.{Entry, Blank, Frames, Grant, Boot, Happens, Raw}
 use Rattle.kernel_model.specs.Pieces.{plain}
 use Rattle.kernel_model.specs.Session.{Build}
 
@@ -31,6 +31,7 @@ is_built Boot = true
 is_built (Frames n) = true
 is_built (Grant n) = true
 is_built (Happens e) = is_built_event e
+is_built Raw = true
 is_built _ = false
 
 -- what is built

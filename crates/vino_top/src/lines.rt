@@ -1,16 +1,24 @@
 //! The lines that are written of an event.
 
 ghost use Rattle.std.specs.Prelude.{◌≡◌, ◌+◌, ◌*◌, ◌≤◌, ◌++◌, [], length, IfOk};
-ghost use Rattle.kernel_model.specs.Text.{note_lines};
+ghost use Rattle.kernel_model.specs.Pieces.{plain};
+ghost use Rattle.kernel_model.specs.RawRows.{raw_rows};
+ghost use Rattle.kernel_model.specs.Text.{note_lines, row_lines};
+ghost use Rattle.kernel_state.specs.Stores.{IsStore};
+ghost use Rattle.kernel_core.specs.Standing.{kernel_of};
 
-use kernel_core::Notes;
+use call_pieces::Plain;
+use kernel_core::{Kernel, Notes};
 use kernel_model::NoMemory;
-use script_text::{Text, print_note};
+use script_text::{Text, print_note, print_row};
 use std::alloc::Global;
 use std::marker::Model;
 
-/// The most bytes that the lines of one event have: those of 16 notes.
-const LINES_BYTES: usize = 32_768;
+/// The most rows that show a kernel's whole state.
+const ROWS: u32 = 374;
+
+/// Room for a line of at most 2,048 bytes for each row, and one more.
+const LINES_BYTES: usize = 768_000;
 
 /// The bytes that are written at once. Contracts see their list. Memory is taken once.
 #[derive(Drop)]
@@ -25,7 +33,7 @@ impl Model for Lines {
 
     ghost view = { λ l. l.bytes.items };
 
-    ghost invariant = { λ l. 32768 ≤ vec_capacity l.bytes };
+    ghost invariant = { λ l. 768000 ≤ vec_capacity l.bytes };
 }
 
 impl Lines {
@@ -55,7 +63,7 @@ impl Lines {
 
     /// A line more.
     pub fn add(&mut self, text: &Text)
-        requires { length self.old + 2048 ≤ 32768 }
+        requires { length self.old + 2048 ≤ 768000 }
         ensures value { self.new ≡ self.old ++ text.now }
         ensures fits { length self.new ≤ length self.old + 2048 }
     {
@@ -70,6 +78,23 @@ impl Lines {
         for note in notes.list() {
             print_note(note, text);
             self.add(text);
+        }
+    }
+
+    /// The lines of the rows that show a kernel's whole state, for event n.
+    pub fn add_rows(&mut self, kernel: &Kernel<Plain>, n: u32, text: &mut Text)
+        requires empty { self.old ≡ [] }
+        requires sound { IsStore (λ b. seen (b.vtable, b.value)) kernel.now.store }
+        ensures { self.new ≡ row_lines n (raw_rows plain (kernel_of (λ b. seen (b.vtable, b.value)) kernel.now.store kernel.now.clock)) }
+    {
+        for i in 0..ROWS + 1 {
+            match kernel.raw(i) {
+                Some(row) => {
+                    print_row(n, &row, text);
+                    self.add(text);
+                }
+                None => return,
+            }
         }
     }
 }

@@ -3,7 +3,8 @@
 ghost use Rattle.std.specs.Prelude.{◌≡◌, ℕ, ◌+◌, ◌<◌, ◌≤◌, ◌-◌, ◌++◌, ◌^◌, true, false, List, [], length, map, codes, decimal, Option, Some, Ok, IfOk, OnOk, OnErr};
 ghost use Rattle.kernel_model.specs.Text.{line, spaced};
 ghost use Rattle.kernel_model.specs.Opening.{opening_policy};
-ghost use Rattle.kernel_model.specs.Script.{Happens, Boot};
+ghost use Rattle.kernel_model.specs.Script.{Happens, Boot, Raw};
+ghost use Rattle.kernel_state.specs.Stores.{IsStore};
 ghost use Rattle.kernel_model.specs.World.{Blocks};
 ghost use Rattle.kernel_model.specs.Session.{first_session};
 ghost use Rattle.disk_log.specs.Calls.{GoesOn, Made};
@@ -200,7 +201,8 @@ impl Session {
             Entry::Grant(n) => self.setup.grant = *n,
             Entry::Boot => self.boot(size, disk, out),
             Entry::Happens(event) => self.happen(event, size, disk, out),
-            Entry::Patience(..) | Entry::Image(..) | Entry::Raw => self.refuse(5, out),
+            Entry::Raw => self.raw(out),
+            Entry::Patience(..) | Entry::Image(..) => self.refuse(5, out),
         }
     }
 
@@ -221,6 +223,23 @@ impl Session {
         self.booted = true;
         say_boot(note, &mut out.text);
         out.lines.add(&out.text);
+    }
+
+    /// The rows that show the kernel's whole state, as an event.
+    fn raw(&mut self, out: &mut Buffers)
+        requires room { self.old.lines < 2 ^ 32 - 1 }
+        requires fresh { self.old.events < self.old.lines }
+        requires empty { out.old.lines ≡ [] }
+        requires sound { IsStore (λ b. seen (b.vtable, b.value)) self.old.kernel.store }
+        ensures within { (size : ℕ) → IsSessionWithin (λ b. seen (b.vtable, b.value)) size self.old → IsSessionWithin (λ b. seen (b.vtable, b.value)) size self.new }
+        ensures counted { self.new.lines ≡ self.old.lines }
+        ensures no_calls { out.new.logs.event ≡ out.old.logs.event }
+        ensures runs { (size : ℕ) (told : Option (List (List ℕ))) → RunsEntry size Raw (seen_of (λ b. seen (b.vtable, b.value)) self.old) (seen_of (λ b. seen (b.vtable, b.value)) self.new) told told [] out.new.lines }
+    {
+        if self.booted {
+            self.events += 1;
+            out.lines.add_rows(&self.kernel, self.events, &mut out.text);
+        }
     }
 
     /// An event of the kernel, or the refusal of one that isn't built.
