@@ -9,7 +9,7 @@ use Rattle.kernel_model.specs.declared.SysCall.TheVariants.{Spawn, Exit, Yield}
 use Rattle.kernel_model.specs.Objects.{Objects, Things, PolValue}
 use Rattle.kernel_model.specs.Needs.{free_process}
 use Rattle.kernel_model.specs.Pieces.{to_back, add_slice, piece_fits, pieces_left}
-use Rattle.kernel_model.specs.Queue.{queue_without}
+use Rattle.kernel_model.specs.Queue.{queue_without, slices_of}
 use Rattle.kernel_state.specs.Stores.{queue_joined}
 use Rattle.call_pieces.specs.declared.Work.{Work}
 use Rattle.call_pieces.specs.Works.{slices_within, SlicesStay, SlicesRise, queue_after, next_of}
@@ -98,3 +98,17 @@ stay_going pol _ n next p rows w u fits fewer = λ most h. h
 pub stay_gone : (pol : PolValue) (old new : Work) (s t : Objects) (rows : List QueueRow) → HasGone old new s t → SlicesStay rows (queue_after pol old.call old.piece old.caller rows)
 stay_gone pol old new s t rows g =
     stay_going pol old.call old.piece new.piece old.caller rows s.things t.things (rw (g.call, g.caller) at g.fits) (rw (g.call, g.caller) at g.fewer)
+
+-- ---- a bound of each row
+
+-- one row
+row_few : (n a b : ℕ) (is : Bool) → nat_le a n ≡ true → b ≤ n → cond is a b ≤ n
+row_few n a b true h g = grind (arith, nat_tests)
+row_few n a b false h g = g
+
+-- a process has had no more than each
+pub slices_few : (n p : ℕ) (rows : List QueueRow) → slices_within n rows ≡ true → slices_of p rows ≤ n
+slices_few n p [] h = omega arith
+slices_few n p (r ∷ rows) h =
+    let both = both_hold (nat_le r.slices n) (slices_within n rows) h in
+    row_few n r.slices (slices_of p rows) (r.process == p) both.0 (slices_few n p rows both.1)

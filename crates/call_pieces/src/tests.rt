@@ -1,21 +1,93 @@
-//! Calls of process 0 over the sample disk, with two frames.
+//! Calls over the sample disk, with two frames.
 
-ghost use Rattle.std.specs.Prelude.{◌≡◌, ℕ, ◌<◌, true, length, List, IfOk};
-ghost use Rattle.kernel_model.specs.declared.QueueRow.{QueueRow as Row};
-ghost use Rattle.kernel_model.specs.Policies.{lives};
+ghost use Rattle.std.specs.Prelude.{◌≡◌, ℕ, ◌<◌, true, length, map, IfOk};
+ghost use Rattle.kernel_model.specs.Opening.{opening_policy};
 ghost use Rattle.kernel_model.specs.Queue.{slices_of};
+ghost use Rattle.graft_points.specs.Shelf.{IsShelf, pol_of, first_choice};
 ghost use Rattle.kernel_state.specs.Stores.{queue_of, IsStore};
-ghost use Rattle.call_pieces.specs.Works.{is_built_call, queue_after};
+ghost use Rattle.call_pieces.specs.Works.{slices_within};
 
-use crate::{After, Next, early, piece};
+use crate::{After, Calls, Next, Plain};
 use disk_log::DiskLog;
-use kernel_model::{Bytes, Name, Refusal, Reply, SysCall};
+use graft_points::{
+    Policy, RaNext, RaNone, RaSeq, SchedNice, SchedRound, VictimLru, VictimMark, is_stock, put_last,
+};
+use kernel_model::{Bytes, Kind, Name, QueueRow, Refusal, Reply, SysCall};
 use kernel_state::{Setup, Store};
 use mem_disk::{MemDisk, read_directory};
-use ram_space::{NoMemory, Ram};
+use ram_space::Ram;
 use std::alloc::Global;
 use std::test::Fail;
 use vino_base::Disk;
+
+/// Image 2 alone is loaded.
+const IMAGES: u32 = 4;
+
+/// The seven stock policies.
+macro_rules! stock_shelf {
+    ($alloc:expr) => {{
+        let mut shelf: Vec<Box<dyn Policy>> = Vec::new($alloc);
+        put_last(&mut shelf, Box::new($alloc, RaNone::new())?, 0, None)?;
+        put_last(&mut shelf, Box::new($alloc, RaSeq::new())?, 1, Some(2))?;
+        put_last(&mut shelf, Box::new($alloc, RaNext::new())?, 2, Some(1))?;
+        put_last(&mut shelf, Box::new($alloc, VictimLru::new())?, 3, None)?;
+        put_last(&mut shelf, Box::new($alloc, VictimMark::new())?, 4, Some(0))?;
+        put_last(&mut shelf, Box::new($alloc, SchedRound::new())?, 5, None)?;
+        put_last(&mut shelf, Box::new($alloc, SchedNice::new())?, 6, Some(0))?;
+        shelf
+    }};
+}
+
+/// What a call came to.
+#[derive(Clone, Copy, PartialEq, Eq, Debug)]
+enum Came {
+    Plain,
+    One(u32),
+    NoProcess,
+    Denied,
+    BadPoint,
+    BadFd,
+    NoFile,
+    BadIndex,
+    NoImage,
+    Taken,
+    NoGraft,
+    Short(u64),
+    Held,
+    NotHeld,
+    DiskFault,
+    Other,
+}
+
+/// What comes next, as far as a test tells it apart.
+fn came_to(next: &Next) -> Came {
+    match next {
+        Next::Ends(Reply::Plain) => Came::Plain,
+        Next::Ends(Reply::One(x)) => Came::One(*x),
+        Next::Fails(refusal) => refused(refusal),
+        _ => Came::Other,
+    }
+}
+
+/// A refusal, as far as a test tells it apart.
+fn refused(refusal: &Refusal) -> Came {
+    match refusal {
+        Refusal::NoProcess => Came::NoProcess,
+        Refusal::Denied => Came::Denied,
+        Refusal::BadPoint => Came::BadPoint,
+        Refusal::BadFd => Came::BadFd,
+        Refusal::NoFile => Came::NoFile,
+        Refusal::BadIndex => Came::BadIndex,
+        Refusal::NoImage => Came::NoImage,
+        Refusal::Taken => Came::Taken,
+        Refusal::NoGraft => Came::NoGraft,
+        Refusal::Short(has) => Came::Short(*has),
+        Refusal::Held => Came::Held,
+        Refusal::NotHeld => Came::NotHeld,
+        Refusal::DiskFault => Came::DiskFault,
+        _ => Came::Other,
+    }
+}
 
 /// Bytes as a list, as far as they fit.
 fn list_of(from: &[u8]) -> Bytes {
@@ -26,32 +98,53 @@ fn list_of(from: &[u8]) -> Bytes {
     bytes
 }
 
-/// Runs a call of process 0 to its end.
-fn run(store: &mut Store, disk: &mut MemDisk, log: &mut DiskLog, call: SysCall) -> After
-    requires sound { IsStore (λ b. seen (b.vtable, b.value)) store.old }
-    requires root { lives (queue_of store.old) 0 ≡ true }
-    requires room { (q : ℕ) → slices_of q (queue_of store.old) < 4294967295 }
-    requires disk { store.old.size ≡ length disk.old.blocks }
-    requires built { is_built_call call ≡ true }
-    requires still { (n : ℕ) (rows : List Row) → queue_after call n 0 rows ≡ rows }
-    ensures sound { IsStore (λ b. seen (b.vtable, b.value)) store.new }
-    ensures root { lives (queue_of store.new) 0 ≡ true }
-    ensures room { (q : ℕ) → slices_of q (queue_of store.new) < 4294967295 }
-    ensures disk { store.new.size ≡ length disk.new.blocks }
+/// The name of a file, as far as it fits.
+fn name_of(from: &[u8]) -> Name {
+    let mut name = Name::new();
+    for byte in from {
+        let _ = name.push(*byte);
+    }
+    name
+}
+
+/// Whether each process of the queue may have one slice more.
+fn may_rise(rows: &[QueueRow]) -> bool
+    ensures { result ≡ slices_within 4294967294 rows.now }
 {
-    let mut work = match early(store, 0, call) {
+    rows.iter().all(|row| row.slices <= 4294967294)
+}
+
+/// Whether each process of a store may have one slice more.
+fn has_room(store: &Store) -> bool
+    ensures { result ≡ true → (q : ℕ) → slices_of q (queue_of store.now) < 4294967295 }
+{
+    may_rise(store.procs.rows())
+}
+
+/// Runs a call of process p to its end, over a disk that isn't of another size.
+fn run<C: Calls>(store: &mut Store, disk: &mut MemDisk, p: u8, call: &SysCall) -> After
+    requires { IsStore (λ b. seen (b.vtable, b.value)) store.old }
+    ensures { IsStore (λ b. seen (b.vtable, b.value)) store.new }
+{
+    let mut gave = None;
+    if !store.living(u32::from(p)) {
+        let next = Next::Fails(Refusal::NoProcess);
+        return After { gave, next };
+    }
+    let mut work = match C::early(store, IMAGES, p, call) {
         Ok(work) => work,
         Err(refusal) => {
-            return After {
-                gave: None,
-                next: Next::Fails(refusal),
-            };
+            let next = Next::Fails(refusal);
+            return After { gave, next };
         }
     };
-    let mut gave = None;
+    let mut log = DiskLog::new();
     'turns: for _ in 0..11u8 {
+        if !has_room(store) || store.size != disk.size() {
+            break 'turns;
+        }
         log.clear();
-        let After { gave: given, next } = piece(&mut work, store, disk, log);
+        let After { gave: given, next } = C::piece(&mut work, store, disk, &mut log);
         if given.is_some() {
             gave = given;
         }
@@ -66,38 +159,31 @@ fn run(store: &mut Store, disk: &mut MemDisk, log: &mut DiskLog, call: SysCall) 
     }
 }
 
-/// What a run of a call came to.
-fn is_plain(after: &After) -> bool {
-    matches!(after.next, Next::Ends(Reply::Plain))
+/// What a call of process p comes to.
+fn call(store: &mut Store, disk: &mut MemDisk, p: u8, call: SysCall) -> Came
+    requires { IsStore (λ b. seen (b.vtable, b.value)) store.old }
+    ensures { IsStore (λ b. seen (b.vtable, b.value)) store.new }
+{
+    came_to(&run::<Plain>(store, disk, p, &call).next)
 }
 
-/// Whether a call answered this number.
-fn answers(after: &After, n: u32) -> bool {
-    match after.next {
-        Next::Ends(Reply::One(x)) => x == n,
-        _ => false,
-    }
-}
-
-/// Whether a call was refused for the disk.
-fn is_fault(after: &After) -> bool {
-    matches!(after.next, Next::Fails(Refusal::DiskFault))
-}
-
-/// Whether a call gave these bytes.
-fn gives(after: &After, bytes: &[u8]) -> bool {
-    match &after.gave {
+/// Whether a read of process 0 from its file 0 gives these bytes.
+fn gives(store: &mut Store, disk: &mut MemDisk, i: u32, off: u32, bytes: &[u8]) -> bool
+    requires { IsStore (λ b. seen (b.vtable, b.value)) store.old }
+    ensures { IsStore (λ b. seen (b.vtable, b.value)) store.new }
+{
+    let len = (bytes.len() % 512) as u32;
+    match run::<Plain>(store, disk, 0, &SysCall::Read(0, i, off, len)).gave {
         Some(gave) => gave.as_slice() == bytes,
         None => false,
     }
 }
 
-/// A store after boot with two frames, over this disk.
-fn booted(alloc: Global, disk: &mut MemDisk) -> Result<Store, NoMemory>
-    ensures sound { IfOk result (λ s. IsStore (λ b. seen (b.vtable, b.value)) s) }
-    ensures root { IfOk result (λ s. lives (queue_of s) 0 ≡ true) }
-    ensures room { IfOk result (λ s. (q : ℕ) → slices_of q (queue_of s) < 4294967295) }
-    ensures disk { IfOk result (λ s. s.size ≡ length disk.new.blocks) }
+/// A store after boot with two frames, over this disk and the stock policies.
+fn booted(alloc: Global, shelf: Vec<Box<dyn Policy>>, disk: &mut MemDisk) -> Result<Store, Fail>
+    requires shelf { IsShelf (map (λ b. seen b) shelf.items) }
+    requires stock { pol_of (map (λ b. seen b) shelf.items) first_choice ≡ opening_policy }
+    ensures sound { IfOk result (λ s. IsStore (λ b. seen b) s) }
 {
     let size = disk.size();
     let mut block = [0; 512];
@@ -107,40 +193,37 @@ fn booted(alloc: Global, disk: &mut MemDisk) -> Result<Store, NoMemory>
         patience: [10; 8],
         grant: 1000,
     };
-    Ok(Store::new(setup, size, read_directory(&block, size), Ram::new(alloc)?))
+    let ram = Ram::new(alloc)?;
+    Ok(Store::new(setup, size, read_directory(&block, size), ram, shelf))
 }
 
 /// Whether block b begins with these two bytes.
-fn begins(disk: &mut MemDisk, b: u32, bytes: &[u8; 2]) -> bool
-    ensures { length disk.new.blocks ≡ length disk.old.blocks }
-{
+fn begins(disk: &mut MemDisk, b: u32, bytes: &[u8; 2]) -> bool {
     let mut block = [0; 512];
     b < disk.size() && disk.read_block(b, &mut block).is_ok() && &block[..2] == bytes.as_slice()
 }
 
+/// Whether a call of process 0 is refused for the disk.
+fn faults(store: &mut Store, disk: &mut MemDisk, what: SysCall) -> bool
+    requires { IsStore (λ b. seen (b.vtable, b.value)) store.old }
+    ensures { IsStore (λ b. seen (b.vtable, b.value)) store.new }
+{
+    call(store, disk, 0, what) == Came::DiskFault
+}
+
 /// Seven calls, of which the disk is called seven times: which of them was refused for the disk first, counted from 1, and
 /// how many were.
-fn seven(store: &mut Store, disk: &mut MemDisk, log: &mut DiskLog) -> (u8, u8)
-    requires sound { IsStore (λ b. seen (b.vtable, b.value)) store.old }
-    requires root { lives (queue_of store.old) 0 ≡ true }
-    requires room { (q : ℕ) → slices_of q (queue_of store.old) < 4294967295 }
-    requires disk { store.old.size ≡ length disk.old.blocks }
-    ensures sound { IsStore (λ b. seen (b.vtable, b.value)) store.new }
-    ensures root { lives (queue_of store.new) 0 ≡ true }
-    ensures room { (q : ℕ) → slices_of q (queue_of store.new) < 4294967295 }
-    ensures disk { store.new.size ≡ length disk.new.blocks }
+fn seven(store: &mut Store, disk: &mut MemDisk) -> (u8, u8)
+    requires { IsStore (λ b. seen (b.vtable, b.value)) store.old }
+    ensures { IsStore (λ b. seen (b.vtable, b.value)) store.new }
 {
-    let mut name = Name::new();
-    for byte in b"alpha" {
-        let _ = name.push(*byte);
-    }
-    let open = is_fault(&run(store, disk, log, SysCall::OpenName(name)));
-    let first = is_fault(&run(store, disk, log, SysCall::Read(0, 0, 0, 4)));
-    let hit = is_fault(&run(store, disk, log, SysCall::Write(0, 1, 0, list_of(b"xy"))));
-    let miss = is_fault(&run(store, disk, log, SysCall::Read(0, 3, 0, 1)));
-    let evicts = is_fault(&run(store, disk, log, SysCall::Read(0, 5, 0, 1)));
-    let last = is_fault(&run(store, disk, log, SysCall::Write(0, 5, 0, list_of(b"zz"))));
-    let sync = is_fault(&run(store, disk, log, SysCall::Sync));
+    let open = faults(store, disk, SysCall::OpenName(name_of(b"alpha")));
+    let first = faults(store, disk, SysCall::Read(0, 0, 0, 4));
+    let hit = faults(store, disk, SysCall::Write(0, 1, 0, list_of(b"xy")));
+    let miss = faults(store, disk, SysCall::Read(0, 3, 0, 1));
+    let evicts = faults(store, disk, SysCall::Read(0, 5, 0, 1));
+    let last = faults(store, disk, SysCall::Write(0, 5, 0, list_of(b"zz")));
+    let sync = faults(store, disk, SysCall::Sync);
     tally(&[open, first, hit, miss, evicts, last, sync])
 }
 
@@ -162,29 +245,26 @@ fn tally(tests: &[bool; 7]) -> (u8, u8) {
 #[test]
 fn a_read_gives_the_bytes_of_its_block(rt: HostRuntime) -> Result<(), Fail> {
     let alloc = rt.alloc();
+    let shelf = stock_shelf!(alloc);
+    assert!(rt; is_stock(&shelf));
     let mut disk = MemDisk::sample(alloc, Vec::new(alloc))?;
-    let mut store = booted(alloc, &mut disk)?;
-    let mut log = DiskLog::new();
-    let mut name = Name::new();
-    let _ = name.push(b'a');
-    assert!(rt;
-        matches!(
-            run(&mut store, &mut disk, &mut log, SysCall::OpenName(name)).next,
-            Next::Fails(Refusal::NoFile)
-        )
+    let mut store = booted(alloc, shelf, &mut disk)?;
+    let unknown = SysCall::OpenName(name_of(b"a"));
+    assert_eq!(rt; call(&mut store, &mut disk, 0, unknown), Came::NoFile);
+    let closed = SysCall::Read(0, 0, 0, 1);
+    assert_eq!(rt; call(&mut store, &mut disk, 0, closed), Came::BadFd);
+    assert_eq!(rt; seven(&mut store, &mut disk), (0, 0));
+    assert!(rt; gives(&mut store, &mut disk, 0, 510, b"\x1d\x1e"));
+    assert!(rt; gives(&mut store, &mut disk, 1, 0, b"xy\x40"));
+    assert_eq!(rt; call(&mut store, &mut disk, 0, SysCall::Sync), Came::One(0));
+    assert_eq!(rt;
+        call(&mut store, &mut disk, 0, SysCall::CloseFd(0)),
+        Came::Plain
     );
-    assert!(rt;
-        matches!(
-            run(&mut store, &mut disk, &mut log, SysCall::Read(0, 0, 0, 1)).next,
-            Next::Fails(Refusal::BadFd)
-        )
+    assert_eq!(rt;
+        call(&mut store, &mut disk, 0, SysCall::CloseFd(0)),
+        Came::BadFd
     );
-    assert_eq!(rt; seven(&mut store, &mut disk, &mut log), (0, 0));
-    let missed = run(&mut store, &mut disk, &mut log, SysCall::Read(0, 0, 510, 2));
-    assert!(rt; gives(&missed, b"\x1d\x1e"));
-    let evicted = run(&mut store, &mut disk, &mut log, SysCall::Read(0, 1, 0, 3));
-    assert!(rt; gives(&evicted, b"xy\x40"));
-    assert!(rt; answers(&run(&mut store, &mut disk, &mut log, SysCall::Sync), 0));
     Ok(())
 }
 
@@ -193,16 +273,16 @@ fn each_call_of_the_disk_fails_in_turn(rt: HostRuntime) -> Result<(), Fail> {
     let alloc = rt.alloc();
     let refused: [u8; 7] = [2, 2, 2, 4, 5, 5, 7];
     for (k, number) in refused.iter().enumerate() {
+        let shelf = stock_shelf!(alloc);
+        assert!(rt; is_stock(&shelf));
         let mut disk = MemDisk::sample(alloc, Vec::from_slice(alloc, &[k as u64 + 2])?)?;
-        let mut store = booted(alloc, &mut disk)?;
-        let mut log = DiskLog::new();
-        let (first, count) = seven(&mut store, &mut disk, &mut log);
-        assert_eq!(rt; first, *number);
-        assert_eq!(rt; count, 1);
+        let mut store = booted(alloc, shelf, &mut disk)?;
+        assert_eq!(rt; seven(&mut store, &mut disk), (*number, 1));
+        let is_last = *number == 7;
         assert!(rt; begins(&mut disk, 2, b"xy"));
-        assert!(rt; begins(&mut disk, 6, if *number == 7 { b"\xba\xbb" } else { b"zz" }));
-        let again = run(&mut store, &mut disk, &mut log, SysCall::Sync);
-        assert!(rt; answers(&again, if *number == 7 { 1 } else { 0 }));
+        assert!(rt; begins(&mut disk, 6, if is_last { b"\xba\xbb" } else { b"zz" }));
+        let again = call(&mut store, &mut disk, 0, SysCall::Sync);
+        assert_eq!(rt; again, Came::One(u32::from(is_last)));
         assert!(rt; begins(&mut disk, 6, b"zz"));
     }
     Ok(())
@@ -211,22 +291,231 @@ fn each_call_of_the_disk_fails_in_turn(rt: HostRuntime) -> Result<(), Fail> {
 #[test]
 fn cells_keep_what_was_put(rt: HostRuntime) -> Result<(), Fail> {
     let alloc = rt.alloc();
+    let shelf = stock_shelf!(alloc);
+    assert!(rt; is_stock(&shelf));
     let mut disk = MemDisk::sample(alloc, Vec::new(alloc))?;
-    let mut store = booted(alloc, &mut disk)?;
-    let mut log = DiskLog::new();
-    assert!(rt; is_plain(&run(&mut store, &mut disk, &mut log, SysCall::Poke(3, 77))));
-    assert!(rt; answers(&run(&mut store, &mut disk, &mut log, SysCall::Peek(3)), 77));
-    assert!(rt;
-        matches!(
-            run(&mut store, &mut disk, &mut log, SysCall::Peek(4)).next,
-            Next::Fails(Refusal::BadIndex)
-        )
+    let mut store = booted(alloc, shelf, &mut disk)?;
+    assert_eq!(rt;
+        call(&mut store, &mut disk, 0, SysCall::Poke(3, 77)),
+        Came::Plain
     );
-    assert!(rt;
-        matches!(
-            run(&mut store, &mut disk, &mut log, SysCall::CloseFd(0)).next,
-            Next::Fails(Refusal::BadFd)
-        )
+    assert_eq!(rt;
+        call(&mut store, &mut disk, 0, SysCall::Peek(3)),
+        Came::One(77)
+    );
+    assert_eq!(rt;
+        call(&mut store, &mut disk, 0, SysCall::Peek(4)),
+        Came::BadIndex
+    );
+    Ok(())
+}
+
+#[test]
+fn a_parameter_is_set_within_its_range_and_kept(rt: HostRuntime) -> Result<(), Fail> {
+    let alloc = rt.alloc();
+    let shelf = stock_shelf!(alloc);
+    assert!(rt; is_stock(&shelf));
+    let mut disk = MemDisk::sample(alloc, Vec::new(alloc))?;
+    let mut store = booted(alloc, shelf, &mut disk)?;
+    assert_eq!(rt;
+        call(&mut store, &mut disk, 0, SysCall::Tune(0, 0, 8)),
+        Came::Plain
+    );
+    assert_eq!(rt;
+        call(&mut store, &mut disk, 0, SysCall::Tune(0, 0, 9)),
+        Came::BadIndex
+    );
+    assert_eq!(rt;
+        call(&mut store, &mut disk, 0, SysCall::Tune(0, 1, 2)),
+        Came::BadIndex
+    );
+    assert_eq!(rt;
+        call(&mut store, &mut disk, 0, SysCall::Tune(1, 0, 0)),
+        Came::BadIndex
+    );
+    assert_eq!(rt;
+        call(&mut store, &mut disk, 0, SysCall::Tune(3, 0, 0)),
+        Came::BadPoint
+    );
+    assert_eq!(rt; store.param(0), Some(8));
+    assert_eq!(rt;
+        call(&mut store, &mut disk, 0, SysCall::Choose(0, 3)),
+        Came::BadPoint
+    );
+    assert_eq!(rt;
+        call(&mut store, &mut disk, 0, SysCall::Choose(0, 2)),
+        Came::Plain
+    );
+    assert_eq!(rt; store.param(0), Some(1));
+    assert_eq!(rt;
+        call(&mut store, &mut disk, 0, SysCall::Choose(0, 1)),
+        Came::Plain
+    );
+    assert_eq!(rt; store.param(0), Some(8));
+    Ok(())
+}
+
+#[test]
+fn more_than_there_is_is_not_given(rt: HostRuntime) -> Result<(), Fail> {
+    let alloc = rt.alloc();
+    let shelf = stock_shelf!(alloc);
+    assert!(rt; is_stock(&shelf));
+    let mut disk = MemDisk::sample(alloc, Vec::new(alloc))?;
+    let mut store = booted(alloc, shelf, &mut disk)?;
+    let records = SysCall::Give(1, Kind::Records, 300);
+    assert_eq!(rt; call(&mut store, &mut disk, 0, records), Came::NoProcess);
+    assert_eq!(rt;
+        call(&mut store, &mut disk, 0, SysCall::Spawn),
+        Came::One(1)
+    );
+    let records = SysCall::Give(1, Kind::Records, 300);
+    assert_eq!(rt; call(&mut store, &mut disk, 0, records), Came::Plain);
+    let more = SysCall::Give(1, Kind::Records, 701);
+    assert_eq!(rt; call(&mut store, &mut disk, 0, more), Came::Short(700));
+    let back = SysCall::Give(0, Kind::Records, 301);
+    assert_eq!(rt; call(&mut store, &mut disk, 1, back), Came::Short(300));
+    assert_eq!(rt;
+        call(&mut store, &mut disk, 1, SysCall::Tune(3, 0, 0)),
+        Came::Denied
+    );
+    Ok(())
+}
+
+#[test]
+fn what_a_process_leaves_is_roots(rt: HostRuntime) -> Result<(), Fail> {
+    let alloc = rt.alloc();
+    let shelf = stock_shelf!(alloc);
+    assert!(rt; is_stock(&shelf));
+    let mut disk = MemDisk::sample(alloc, Vec::new(alloc))?;
+    let mut store = booted(alloc, shelf, &mut disk)?;
+    assert_eq!(rt;
+        call(&mut store, &mut disk, 0, SysCall::Spawn),
+        Came::One(1)
+    );
+    let locks = SysCall::Give(1, Kind::Locks, 1000);
+    assert_eq!(rt; call(&mut store, &mut disk, 0, locks), Came::Plain);
+    let open = SysCall::OpenName(name_of(b"gamma"));
+    assert_eq!(rt; call(&mut store, &mut disk, 1, open), Came::One(0));
+    let write = SysCall::Write(0, 2, 75, list_of(b"q"));
+    assert_eq!(rt; call(&mut store, &mut disk, 1, write), Came::Plain);
+    assert_eq!(rt;
+        call(&mut store, &mut disk, 1, SysCall::TakeLock(4)),
+        Came::Plain
+    );
+    assert_eq!(rt; store.candidate_of(1), Some(0));
+    assert_eq!(rt; call(&mut store, &mut disk, 1, SysCall::Exit), Came::Plain);
+    assert_eq!(rt;
+        call(&mut store, &mut disk, 1, SysCall::Exit),
+        Came::NoProcess
+    );
+    assert_eq!(rt; call(&mut store, &mut disk, 0, SysCall::Exit), Came::Denied);
+    assert_eq!(rt; store.candidate_of(0), Some(0));
+    assert_eq!(rt; store.candidate_of(1), None);
+    let all = SysCall::Give(0, Kind::Locks, 1001);
+    assert_eq!(rt; call(&mut store, &mut disk, 0, all), Came::Short(1000));
+    assert_eq!(rt;
+        call(&mut store, &mut disk, 0, SysCall::TakeLock(4)),
+        Came::Plain
+    );
+    Ok(())
+}
+
+#[test]
+fn a_graft_stands_once_and_gives_back_what_it_has(rt: HostRuntime) -> Result<(), Fail> {
+    let alloc = rt.alloc();
+    let shelf = stock_shelf!(alloc);
+    assert!(rt; is_stock(&shelf));
+    let mut disk = MemDisk::sample(alloc, Vec::new(alloc))?;
+    let mut store = booted(alloc, shelf, &mut disk)?;
+    assert_eq!(rt;
+        call(&mut store, &mut disk, 0, SysCall::Install(6, 1, 0)),
+        Came::BadPoint
+    );
+    assert_eq!(rt;
+        call(&mut store, &mut disk, 0, SysCall::Install(5, 1, 0)),
+        Came::BadIndex
+    );
+    assert_eq!(rt;
+        call(&mut store, &mut disk, 0, SysCall::Install(5, 1, 9)),
+        Came::NoImage
+    );
+    assert_eq!(rt;
+        call(&mut store, &mut disk, 0, SysCall::Install(5, 2, 9)),
+        Came::Plain
+    );
+    assert_eq!(rt;
+        call(&mut store, &mut disk, 0, SysCall::Install(5, 2, 9)),
+        Came::Taken
+    );
+    let fund = SysCall::Fund(5, Kind::Steps, 400);
+    assert_eq!(rt; call(&mut store, &mut disk, 0, fund), Came::Plain);
+    let more = SysCall::Fund(5, Kind::Steps, 601);
+    assert_eq!(rt; call(&mut store, &mut disk, 0, more), Came::Short(600));
+    assert_eq!(rt;
+        call(&mut store, &mut disk, 0, SysCall::Bill(4)),
+        Came::NoGraft
+    );
+    assert_eq!(rt;
+        call(&mut store, &mut disk, 0, SysCall::Bill(5)),
+        Came::Plain
+    );
+    assert_eq!(rt;
+        call(&mut store, &mut disk, 0, SysCall::Remove(5)),
+        Came::Plain
+    );
+    assert_eq!(rt;
+        call(&mut store, &mut disk, 0, SysCall::Remove(5)),
+        Came::NoGraft
+    );
+    let gone = SysCall::Fund(5, Kind::Steps, 1001);
+    assert_eq!(rt; call(&mut store, &mut disk, 0, gone), Came::NoGraft);
+    let all = SysCall::Give(0, Kind::Steps, 1001);
+    assert_eq!(rt; call(&mut store, &mut disk, 0, all), Came::Short(1000));
+    Ok(())
+}
+
+#[test]
+fn only_its_holder_frees_a_lock(rt: HostRuntime) -> Result<(), Fail> {
+    let alloc = rt.alloc();
+    let shelf = stock_shelf!(alloc);
+    assert!(rt; is_stock(&shelf));
+    let mut disk = MemDisk::sample(alloc, Vec::new(alloc))?;
+    let mut store = booted(alloc, shelf, &mut disk)?;
+    assert_eq!(rt;
+        call(&mut store, &mut disk, 0, SysCall::Spawn),
+        Came::One(1)
+    );
+    assert_eq!(rt;
+        call(&mut store, &mut disk, 0, SysCall::TakeLock(15)),
+        Came::Plain
+    );
+    assert_eq!(rt;
+        call(&mut store, &mut disk, 1, SysCall::TakeLock(15)),
+        Came::Held
+    );
+    assert_eq!(rt;
+        call(&mut store, &mut disk, 1, SysCall::FreeLock(15)),
+        Came::NotHeld
+    );
+    assert_eq!(rt;
+        call(&mut store, &mut disk, 0, SysCall::FreeLock(15)),
+        Came::Plain
+    );
+    assert_eq!(rt;
+        call(&mut store, &mut disk, 0, SysCall::FreeLock(15)),
+        Came::NotHeld
+    );
+    assert_eq!(rt;
+        call(&mut store, &mut disk, 0, SysCall::TakeLock(16)),
+        Came::BadIndex
+    );
+    assert_eq!(rt;
+        call(&mut store, &mut disk, 0, SysCall::Yield),
+        Came::One(1)
+    );
+    assert_eq!(rt;
+        call(&mut store, &mut disk, 1, SysCall::Yield),
+        Came::One(0)
     );
     Ok(())
 }

@@ -57,6 +57,32 @@ fn booted(alloc: Global, shelf: Vec<Box<dyn Policy>>) -> Result<Store, Fail>
     Ok(Store::new(setup, 64, read_directory(&block, 64), ram, shelf))
 }
 
+/// Process 0 gives 300 records to process 1, which hasn't one more to give back.
+fn gives_records(store: &mut Store) -> bool
+    requires sound { IsStore (λ b. seen b) store.old }
+    requires root { lives (queue_of store.old) 0 ≡ true }
+    ensures sound { IsStore (λ b. seen b) store.new }
+    ensures root { lives (queue_of store.new) 0 ≡ true }
+    ensures size { store.new.size ≡ store.old.size }
+{
+    if !store.living(1) {
+        return false;
+    }
+    let given = store.give(0, 1, Kind::Records, 300);
+    given.is_ok() && store.give(1, 0, Kind::Records, 301).err() == Some(300)
+}
+
+/// Process 1 leaves.
+fn leaves(store: &mut Store) -> bool
+    requires sound { IsStore (λ b. seen b) store.old }
+    ensures sound { IsStore (λ b. seen b) store.new }
+{
+    if store.living(1) {
+        store.leave(1);
+    }
+    !store.living(1)
+}
+
 /// Uses a block: touches its frame, or puts it into a free one, or into that of the candidate.
 fn bring(store: &mut Store, block: u32, bytes: &[u8; 512])
     requires sound { IsStore (λ b. seen b) store.old }
@@ -151,17 +177,11 @@ fn what_a_process_has_goes_to_root_when_it_leaves(rt: HostRuntime) -> Result<(),
     assert!(rt; is_stock(&shelf));
     let mut store = booted(rt.alloc(), shelf)?;
     assert_eq!(rt; store.spawn(), Some(1));
-    if store.living(0) && store.living(1) {
-        assert!(rt; store.give(0, 1, Kind::Records, 300).is_ok());
-        assert_eq!(rt; store.give(1, 0, Kind::Records, 301).err(), Some(300));
-    }
+    assert!(rt; gives_records(&mut store));
     bring(&mut store, 5, &[7; 512]);
     store.set_holder(2, Some(0));
     assert_eq!(rt; store.holder(2), Some(0));
-    if store.living(1) {
-        store.leave(1);
-    }
-    assert!(rt; !store.living(1));
+    assert!(rt; leaves(&mut store));
     assert_eq!(rt; store.accounts.balance(0, Kind::Records), 1000);
     assert_eq!(rt; store.accounts.balance(1, Kind::Records), 0);
     Ok(())

@@ -171,8 +171,35 @@ mod tests {
     }
 
     #[test]
+    fn policies_are_chosen_and_tuned(rt: HostRuntime) -> Result<(), Fail> {
+        let script =
+            "grant 500\nboot\nspawn 0\ntune 0 0 0 8\ntune 0 0 0 9\ntune 0 0 1 1\ntune 1 0 0 3\ntune 0 3 0 0\n\
+            default 0 0 2\ntune 0 0 0 4\ndefault 0 0 1\ndefault 0 0 3\ndefault 1 0 1\nraw\n";
+        let lines =
+            "0 boot 8 64 3\n1 ok 1\n2 ok\n3 E8\n4 E8\n5 E3\n6 E4\n7 ok\n8 ok\n9 ok\n10 E4\n11 E3\n\
+            12 raw clock 0\n12 raw queue 0:20:0 1:20:0\n12 raw acct 0 500 500 500 0 0 0\n12 raw acct 1 0 0 0 0 0 0\n\
+            12 raw cells 0 0 0 0 0\n12 raw cells 1 0 0 0 0\n12 raw pol 0 1 8\n12 raw pol 1 0\n12 raw pol 2 0\n12 raw lru\n";
+        let ran = run_words(rt.alloc(), &["run", KEY], script, 0, 0)?;
+        assert_eq!(rt; ran.status, 0);
+        assert!(rt; ran.written.bytes() == lines.as_bytes());
+        Ok(())
+    }
+
+    #[test]
+    fn amounts_are_given_and_come_back(rt: HostRuntime) -> Result<(), Fail> {
+        let script =
+            "grant 500\nboot\nspawn 0\ngive 0 1 records 300\ngive 0 1 records 201\ngive 0 3 records 1\ngive 1 1 records 300\n\
+            exit 1\npeek 1 0\ngive 0 0 records 500\ngive 0 0 records 501\n";
+        let lines = "0 boot 8 64 3\n1 ok 1\n2 ok\n3 E12 200\n4 E1\n5 ok\n6 ok\n7 E1\n8 ok\n9 E12 500\n";
+        let ran = run_words(rt.alloc(), &["run", KEY], script, 0, 0)?;
+        assert_eq!(rt; ran.status, 0);
+        assert!(rt; ran.written.bytes() == lines.as_bytes());
+        Ok(())
+    }
+
+    #[test]
     fn refuses_what_is_not_built(rt: HostRuntime) -> Result<(), Fail> {
-        for line in ["patience lock 5", "grant 1"] {
+        for line in ["patience lock 5"] {
             let script = format!(in rt.alloc(); "{line}\nboot\n")?;
             let ran = run_words(rt.alloc(), &["run", KEY], script.as_str(), 0, 0)?;
             assert_eq!(rt; ran.status, 2, "on {line}");
@@ -183,14 +210,9 @@ mod tests {
         }
         for line in [
             "step 0 1",
-            "raw",
             "image 0 00",
-            "exit 0",
             "lock 0 0",
             "unlock 0 0",
-            "tune 0 0 0 0",
-            "default 0 0 0",
-            "give 0 1 steps 1",
             "install 0 0 0 0",
             "remove 0 0",
             "fund 0 0 locks 1",
