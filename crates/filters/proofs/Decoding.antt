@@ -4,8 +4,9 @@ use Rattle.std.specs.Prelude.{codes}
 use Rattle.std.specs.Result.{result_ok}
 use Rattle.std.proofs.lemmas.Bool.Decides.{nat_tests}
 use Rattle.hex.specs.declared.error.FromHexError.{FromHexError}
-use Rattle.hex.specs.Hex.{hex_digit_value, digit_or_error, decode_pairs, decode_of, encode_with, ◌>>=◌}
+use Rattle.hex.specs.Hex.{hex_digit_value, digit_or_error, decode_pairs, decode_of, decode_sized, encode_with, ◌>>=◌}
 use Rattle.kernel_model.specs.Bytes.{hex_digit, hex_text, hex_value, byte_before, hex_bytes}
+use Rattle.filters.specs.Keys.{key_of}
 
 -- a digit has one value
 same_value : (c : ℕ) → hex_digit_value c ≡ hex_value c
@@ -47,3 +48,7 @@ pub encode_with-lower : (bytes : List ℕ) → encode_with (codes "0123456789abc
 unfolding encode_with
 encode_with-lower [] = refl
 encode_with-lower (b ∷ bytes) = ap (λ text. hex_digit (b / 16) ∷ hex_digit (b % 16) ∷ text) (encode_with-lower bytes)
+
+-- digits into room for a key
+pub decode_sized-ok : (text : List ℕ) → result_ok (decode_sized text 32) ≡ key_of text
+decode_sized-ok text = grind (arith, nat_tests, decode_pairs-ok 0 text)

@@ -1,3 +1,4 @@
 pub mod Views
 pub mod Filtered
+pub mod Keys
 pub mod Lines

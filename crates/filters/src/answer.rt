@@ -1,17 +1,25 @@
 //! What a filter answers: a status, and the bytes to write.
 
-ghost use Rattle.std.specs.Prelude.{◌≡◌, ◌≤◌, length, IfOk};
+ghost use Rattle.std.specs.Prelude.{◌≡◌, ◌≤◌, ◌++◌, length, IfOk};
 ghost use Rattle.kernel_model.specs.Outcome.{SCRIPT_BYTES};
 ghost use Rattle.kernel_model.specs.Filters as spec;
-ghost use Rattle.kernel_model.specs.Text.{line};
+ghost use Rattle.kernel_model.specs.Text.{line, spaced};
 
+use crate::text::{add, add_spaced};
 use kernel_model::NoMemory;
+use std::alloc::Global;
 use std::marker::Model;
 
 /// What is asked of the input.
 #[derive(Clone, Copy)]
 pub(crate) enum Filter {
+    /// A raw image is boxed and sealed under a key.
+    Box([u8; 32]),
+    /// A sealed image is loaded under a key.
+    Check([u8; 32]),
+    /// A text is assembled.
     Asm,
+    /// A raw image is disassembled.
     Dis,
 }
 
@@ -46,6 +54,31 @@ impl Answer {
             Ok(()) => Ok(Answer { status, text }),
             Err(_) => Err(NoMemory),
         }
+    }
+
+    /// An answer of this status, with a line of this text.
+    pub(crate) fn refusal(alloc: Global, status: u8, text: &[u8]) -> Result<Answer, NoMemory>
+        ensures { IfOk result (λ a. a ≡ spec.answer status (line text.now)) }
+    {
+        match Vec::from_slice(alloc, text) {
+            Ok(text) => Answer::line(status, text),
+            Err(_) => Err(NoMemory),
+        }
+    }
+
+    /// An answer of this status, with a line of this text, a space and a number.
+    pub(crate) fn refusal_at(
+        alloc: Global,
+        status: u8,
+        text: &[u8],
+        place: u32,
+    ) -> Result<Answer, NoMemory>
+        ensures { IfOk result (λ a. a ≡ spec.answer status (line (text.now ++ spaced place))) }
+    {
+        let mut line = Vec::new(alloc);
+        add(&mut line, text)?;
+        add_spaced(&mut line, place)?;
+        Answer::line(status, line)
     }
 
     /// The status.

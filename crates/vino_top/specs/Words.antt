@@ -1,30 +1,38 @@
 -- The words of the command line.
-use Rattle.std.specs.Prelude.{ℕ, Bool, cond, ◌&&◌, ◌||◌, ◌==◌, nat_le, nat_lt, List, [], ◌∷◌, length, codes}
-use Rattle.std.specs.List.{list_all}
-use Rattle.kernel_model.specs.Bytes.{is_digit}
+use Rattle.std.specs.Prelude.{ℕ, cond, List, [], ◌∷◌, codes, Option, None, Some}
 use Rattle.kernel_model.specs.World.{same_bytes}
+use Rattle.filters.specs.Keys.{key_of}
 use Rattle.vino_top.specs.declared.words.Asked.{Asked}
-use Rattle.vino_top.specs.declared.words.Asked.TheVariants.{Run, Asm, Dis, Nothing}
+use Rattle.vino_top.specs.declared.words.Asked.TheVariants.{Run, Box, Check, Asm, Dis, Nothing}
 
--- a hex digit of either case
-abbrev pub is_hex_digit : ℕ → Bool
-is_hex_digit byte = is_digit byte || nat_le 97 byte && nat_lt byte 103 || nat_le 65 byte && nat_lt byte 71
+-- what a word asks beside a key, if there is one
+abbrev pub asked_with : (word : List ℕ) → Option (List ℕ) → Asked
+asked_with word None = Nothing
+asked_with word (Some key) =
+    cond (same_bytes word (codes "run")) (Run key)
+    (cond (same_bytes word (codes "box")) (Box key) (cond (same_bytes word (codes "check")) (Check key) Nothing))
 
--- a key: 64 hex digits
-abbrev pub is_key : List ℕ → Bool
-is_key text = length text == 64 && list_all is_hex_digit text
-
--- what two words ask
-abbrev pub asked_by_two : (word key : List ℕ) → Asked
-asked_by_two word key = cond (same_bytes word (codes "run") && is_key key) Run Nothing
+-- what a word asks beside a key, if there is one, and a path
+abbrev pub asked_over : (word : List ℕ) → Option (List ℕ) → Asked
+asked_over word None = Nothing
+asked_over word (Some key) = cond (same_bytes word (codes "run")) (Run key) Nothing
 
 -- what one word asks
 abbrev pub asked_by_one : (word : List ℕ) → Asked
 asked_by_one word = cond (same_bytes word (codes "asm")) Asm (cond (same_bytes word (codes "dis")) Dis Nothing)
 
--- what the words of the command line ask: `run KEY`, `run KEY PATH`, `asm` or `dis`; the path isn't looked at
+-- what two words ask, the second of which is to be a key
+unfoldable pub asked_by_two : (word key : List ℕ) → Asked
+asked_by_two word key = asked_with word (key_of key)
+
+-- what a word, a key and a path ask; the path isn't looked at
+unfoldable pub asked_by_three : (word key : List ℕ) → Asked
+asked_by_three word key = asked_over word (key_of key)
+
+-- what the words of the command line ask: `run KEY`, `run KEY PATH`, `box KEY`, `check KEY`, `asm` or `dis`, a key being 64 hex
+-- digits of either case
 abbrev pub asked_by : List (List ℕ) → Asked
 asked_by (word ∷ []) = asked_by_one word
 asked_by (word ∷ key ∷ []) = asked_by_two word key
-asked_by (word ∷ key ∷ path ∷ []) = asked_by_two word key
+asked_by (word ∷ key ∷ path ∷ []) = asked_by_three word key
 asked_by _ = Nothing

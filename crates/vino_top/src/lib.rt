@@ -30,12 +30,13 @@ use vino_base::{Disk, Sink, Source};
 /// How many bytes are read at once, at most.
 const READ_BYTES: usize = 65_536;
 
-/// Does what the words ask: `run KEY` runs the script that the source gives, `asm` and `dis` assemble and disassemble
-/// what it gives, and for other words the usage line is written.
+/// Does what the words ask: `run KEY` runs the script that the source gives, `box KEY` boxes and seals the raw image that it
+/// gives, `check KEY` says whether a sealed image can be used, `asm` and `dis` assemble and disassemble what it gives, and
+/// for other words the usage line is written.
 ///
 /// The words are those after the program's own name. The answer is the exit status: 0 for an input that
 /// was done to its end, 1 for words that aren't in the grammar, 2 for a refused line, 3 for a source and 4
-/// for a sink that failed, 5 for want of memory, 7 for an input of more than 16,777,216 bytes.
+/// for a sink that failed, 5 for want of memory, 6 for an image that is refused, 7 for an input of more than 16,777,216 bytes.
 pub fn vino<S: Source, K: Sink, D: Disk>(
     alloc: Global,
     words: &[String],
@@ -52,7 +53,7 @@ pub fn vino<S: Source, K: Sink, D: Disk>(
         (S.rest src.old) (S.rest src.new) (S.faults src.old) (S.faults src.new) (K.got out.old) (K.got out.new)
         (disk_seen (D.blocks disk.old) (D.plan disk.old) (D.faults disk.old)) (disk_seen (D.blocks disk.new) (D.plan disk.new) (D.faults disk.new)) result }
     // No other status comes.
-    ensures statuses { (result ≡ 0) ⊎ (result ≡ 1) ⊎ (result ≡ 2) ⊎ (result ≡ 3) ⊎ (result ≡ 4) ⊎ (result ≡ 5) ⊎ (result ≡ 7) }
+    ensures statuses { (result ≡ 0) ⊎ (result ≡ 1) ⊎ (result ≡ 2) ⊎ (result ≡ 3) ⊎ (result ≡ 4) ⊎ (result ≡ 5) ⊎ (result ≡ 6) ⊎ (result ≡ 7) }
     // A source or a sink is blamed only where its count of faults rose.
     ensures source_failed { result ≡ 3 → Rose (S.faults src.old) (S.faults src.new) }
     ensures sink_failed { result ≡ 4 → Rose (K.faults out.old) (K.faults out.new) }
@@ -60,7 +61,9 @@ pub fn vino<S: Source, K: Sink, D: Disk>(
     ensures sink_later { K.faults out.old ≤ K.faults out.new }
 {
     match words::read_words(words) {
-        Asked::Run => run_script(alloc, src, out, disk, shelf),
+        Asked::Run(_) => run_script(alloc, src, out, disk, shelf),
+        Asked::Box(key) => filters::box_image(alloc, &key, src, out),
+        Asked::Check(key) => filters::check_image(alloc, &key, src, out),
         Asked::Asm => filters::asm(alloc, src, out),
         Asked::Dis => filters::dis(alloc, src, out),
         Asked::Nothing => write_usage(out),

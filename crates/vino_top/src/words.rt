@@ -1,16 +1,20 @@
 //! The words of the command line.
 
 ghost use Rattle.std.specs.Prelude.{◌≡◌, map, string_bytes};
-ghost use Rattle.std.specs.List.{list_all};
-ghost use Rattle.vino_top.specs.Words.{is_hex_digit, is_key, asked_by, asked_by_one, asked_by_two};
+ghost use Rattle.vino_top.specs.Words.{asked_by, asked_by_one, asked_by_two, asked_by_three};
 
+use filters::read_key;
 use std::alloc::Global;
 
 /// What the words of the command line ask.
 #[derive(Clone, Copy, Debug, PartialEq, Eq)]
 pub enum Asked {
     /// `run KEY` or `run KEY PATH`: a script is run.
-    Run,
+    Run([u8; 32]),
+    /// `box KEY`: a raw image is boxed and sealed.
+    Box([u8; 32]),
+    /// `check KEY`: a sealed image is loaded.
+    Check([u8; 32]),
     /// `asm`: a text is assembled.
     Asm,
     /// `dis`: an image is disassembled.
@@ -26,7 +30,7 @@ pub fn read_words(words: &[String]) -> Asked
     match words {
         [word] => asked_one(word.as_bytes()),
         [word, key] => asked_two(word.as_bytes(), key.as_bytes()),
-        [word, key, _] => asked_two(word.as_bytes(), key.as_bytes()),
+        [word, key, _] => asked_three(word.as_bytes(), key.as_bytes()),
         _ => Asked::Nothing,
     }
 }
@@ -43,30 +47,31 @@ fn asked_one(word: &[u8]) -> Asked
     }
 }
 
+#[tactic(auto, unfolding(crate::specs::Words::asked_by_two))]
 fn asked_two(word: &[u8], key: &[u8]) -> Asked
     ensures { result ≡ asked_by_two word.now key.now }
 {
-    if word == b"run".as_slice() && is_key(key) {
-        Asked::Run
+    let Some(key) = read_key(key) else {
+        return Asked::Nothing;
+    };
+    if word == b"run".as_slice() {
+        Asked::Run(key)
+    } else if word == b"box".as_slice() {
+        Asked::Box(key)
+    } else if word == b"check".as_slice() {
+        Asked::Check(key)
     } else {
         Asked::Nothing
     }
 }
 
-fn is_key(text: &[u8]) -> bool
-    ensures { result ≡ is_key text.now }
+/// What two words and a path ask. The path isn't looked at.
+#[tactic(auto, unfolding(crate::specs::Words::asked_by_three))]
+fn asked_three(word: &[u8], key: &[u8]) -> Asked
+    ensures { result ≡ asked_by_three word.now key.now }
 {
-    text.len() == 64 && is_hex_text(text)
-}
-
-fn is_hex_text(text: &[u8]) -> bool
-    ensures { result ≡ list_all is_hex_digit text.now }
-{
-    text.iter().all(|byte| is_hex(*byte))
-}
-
-fn is_hex(byte: u8) -> bool
-    ensures { result ≡ is_hex_digit byte }
-{
-    48 <= byte && byte < 58 || 97 <= byte && byte < 103 || 65 <= byte && byte < 71
+    match read_key(key) {
+        Some(key) if word == b"run".as_slice() => Asked::Run(key),
+        _ => Asked::Nothing,
+    }
 }

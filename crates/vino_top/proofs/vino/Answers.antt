@@ -1,7 +1,11 @@
 -- What is done for what the words ask.
-use Rattle.std.proofs.Common.{sym, ◌∙◌, refl}
+use Rattle.std.proofs.Common.{◌≡◌, ◌≢◌, ◌⊎◌, ℕ, sym, ◌∙◌, refl, arith}
 use Rattle.vino_top.proofs.EndLemmas.{kept, known_run}
 use Rattle.vino_top.proofs.vino.Goals as goal
+
+-- the statuses of a filter of images aren't that of the usage line
+known_image : (status : ℕ) → (status ≡ 0) ⊎ (status ≡ 2) ⊎ (status ≡ 3) ⊎ (status ≡ 4) ⊎ (status ≡ 5) ⊎ (status ≡ 6) ⊎ (status ≡ 7) → status ≢ 1
+known_image status cases = λ is. grind (arith, cases, is)
 
 pub returns-in-Run-clause-does : goal.returns-in-Run-clause-does
 returns-in-Run-clause-does g c =
@@ -29,6 +33,26 @@ returns-in-Dis-clause-does g c =
       ran = c.dis.ensures.ran;
       broke = c.dis.ensures.broke;
       memory = c.dis.ensures.memory;
+      disk = refl;
+    })
+
+pub returns-in-Box-clause-does : goal.returns-in-Box-clause-does
+returns-in-Box-clause-does g c =
+    rw (sym c.read_words.ensures ∙ c.in-Box.is) (record {
+      known = known_image c.box_image.result c.box_image.ensures.statuses;
+      ran = c.box_image.ensures.ran;
+      broke = c.box_image.ensures.broke;
+      memory = c.box_image.ensures.memory;
+      disk = refl;
+    })
+
+pub returns-in-Check-clause-does : goal.returns-in-Check-clause-does
+returns-in-Check-clause-does g c =
+    rw (sym c.read_words.ensures ∙ c.in-Check.is) (record {
+      known = known_image c.check_image.result c.check_image.ensures.statuses;
+      ran = c.check_image.ensures.ran;
+      broke = c.check_image.ensures.broke;
+      memory = c.check_image.ensures.memory;
       disk = refl;
     })
 
