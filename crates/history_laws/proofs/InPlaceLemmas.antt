@@ -133,11 +133,11 @@ over_other o None d s h = at_self o s
 over_other o (Some c) d s h = mix_other o (is_changed_in c.levels) (cut_state d c) s h
 
 -- no config is a config
-no_config : (c : Config) → None ≡ Some c → ⊥
+pub no_config : (c : Config) → None ≡ Some c → ⊥
 no_config c h = cc
 
 -- a config is that of a trace
-config_is : (x : Option Trace) (c : Config) → config_in x ≡ Some c → (t : Trace) × (x ≡ Some t) × (t.config ≡ c)
+pub config_is : (x : Option Trace) (c : Config) → config_in x ≡ Some c → (t : Trace) × (x ≡ Some t) × (t.config ≡ c)
 config_is None c h = absurd (no_config c h)
 config_is (Some t) c h = (t, refl, same_config t.config c h)
   where

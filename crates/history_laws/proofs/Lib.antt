@@ -1,9 +1,11 @@
 mod NeededPremises
 pub mod ActLemmas
+pub mod ComeLemmas
 pub mod DropLemmas
 pub mod EffectLemmas
 pub mod FallenLemmas
 pub mod GoLemmas
+pub mod HoldLemmas
 pub mod InPlaceLemmas
 pub mod InverseLemmas
 pub mod MoveLemmas
@@ -12,6 +14,8 @@ pub mod OrderLemmas
 pub mod PastLemmas
 pub mod RecordLemmas
 pub mod SettleDropLemmas
+pub mod ShapeLemmas
+pub mod SoundCallLemmas
 pub mod StandLemmas
 pub mod StepMoveLemmas
 pub mod UndoableLemmas

@@ -1,2 +1,3 @@
 pub mod Fallen
 pub mod Notes
+pub mod SoundCalls

@@ -1,0 +1,403 @@
+-- What the grafts of a call that comes from a history are, beside those of the state that it is replayed from.
+use Rattle.std.specs.Prelude.{◌≡◌, ℕ, suc, ◌+◌, ◌<◌, ◌≤◌, ◌==◌, ◌&&◌, Bool, true, false, cond, List, [], ◌∷◌, ◌++◌, length, Option, Some, None, is_some, Contains, ⊤, ◌⊎◌}
+use Rattle.std.proofs.Common.{arith, refl, subst, sym, ap, ◌∙◌, inl, inr}
+use Rattle.std.proofs.lemmas.Bool.{cases_Bool, and_parts, eqb-true}
+use Rattle.kernel_model.specs.declared.Held.{Held}
+use Rattle.kernel_model.specs.declared.Kind.{Kind}
+use Rattle.kernel_model.specs.declared.Micro.{Micro}
+use Rattle.kernel_model.specs.declared.Mode.{Mode}
+use Rattle.kernel_model.specs.declared.Need.{Need}
+use Rattle.kernel_model.specs.declared.Object.{Object}
+use Rattle.kernel_model.specs.declared.Object.TheVariants.{Graft, Acct}
+use Rattle.kernel_model.specs.declared.Point.{Point}
+use Rattle.kernel_model.specs.World.{World, ImageTable}
+use Rattle.kernel_model.specs.Objects.{Objects, Accounts, Things, GraftValue, at2}
+use Rattle.kernel_model.specs.Policies.{default_of}
+use Rattle.kernel_model.specs.Charges.{funds, taken_from, charge, charge_by, charge_account, charge_graft, removed, removed_by}
+use Rattle.kernel_model.specs.Locks.{Touched, touch, touch_all, untouched, is_held}
+use Rattle.kernel_model.specs.Meaning.{Meaning, Stage}
+use Rattle.kernel_model.specs.Levels.{Level, Config, Effect, Asked, Charged, Removed, outermost_touched, answer_innermost}
+use Rattle.kernel_model.specs.GraftStep.{micro, micro_on}
+use Rattle.kernel_model.specs.History.{Mark, Past, Stepped, Fell, Trace, begin_at, begin_with, first_trace, trace_after, stepped, effects_on, level_ends, owner_among, trace_fallen, fell_on, mark_on, marks_on, replay}
+use Rattle.kernel_model.specs.Laws.{Laws, needs_of_point, before_point}
+use Rattle.kernel_model.specs.Needs.{payer_needs}
+use Rattle.history_laws.proofs.EffectLemmas.{levels_by, touched_by, accounts_by, is_standing, CanBeMade, levels_inside, levels_none, levels_above, levels_touched, held_on, touch_held, touch_all_held, config_with, have_been_made}
+use Rattle.history_laws.proofs.ActLemmas.{HoldsMore, StaysIn, GoesDeeper, ComesBack, Next, NoneRemoved, WhereGoesOn, instruction_acts, both_pass}
+use Rattle.history_laws.proofs.FallenLemmas.{marks_lead, no_trace, same_trace, went_where, fell_where}
+use Rattle.history_laws.proofs.PastLemmas.{HasPasts}
+use Rattle.history_laws.proofs.RecordLemmas.{touch_here, touch_all_holds}
+use Rattle.history_laws.proofs.ShapeLemmas.{AreGrafts, HasShape, ShapeWhereWent, keep_answer, keep_effects, shape_on, shape_outside, instruction_shape}
+
+-- ---- grafts of other accounts
+
+-- a graft that stands is the other, with the same image
+abbrev pub GraftFrom : Option GraftValue → Option GraftValue → Type 0
+GraftFrom None h = ⊤
+GraftFrom (Some g) None = ⊥
+GraftFrom (Some g) (Some h) = g.image ≡ h.image
+
+-- the grafts that stand do so in the other accounts
+abbrev pub GraftsFrom : Accounts → Accounts → Type 0
+GraftsFrom s a = (q pt : ℕ) → GraftFrom (a.graft q pt) (s.graft q pt)
+
+graft_self : (x : Option GraftValue) → GraftFrom x x
+graft_self None = tt
+graft_self (Some g) = refl
+
+pub from_stands : (x y : Option GraftValue) → GraftFrom x y → is_some x ≡ true → is_some y ≡ true
+from_stands None y h e = absurd cc
+from_stands (Some g) None h e = absurd h
+from_stands (Some g) (Some k) h e = refl
+
+-- a changed place
+from_place : (q pt r pu : ℕ) (x : Option GraftValue) (f s : ℕ → ℕ → Option GraftValue) → GraftFrom x (s q pt) → GraftFrom (f r pu) (s r pu) → GraftFrom (at2 q pt x f r pu) (s r pu)
+from_place q pt r pu x f s h k = elim (cases_Bool (r == q && pu == pt)) [
+  | inl here ↦
+      let b = and_parts (r == q) (pu == pt) here in
+      subst (λ y. GraftFrom y (s r pu)) (ap (λ b. cond b x (f r pu)) (sym here))
+      (subst (λ i. GraftFrom x (s i pu)) (sym (eqb-true r q b.0)) (subst (λ i. GraftFrom x (s q i)) (sym (eqb-true pu pt b.1)) h))
+  | inr other ↦ subst (λ y. GraftFrom y (s r pu)) (ap (λ b. cond b x (f r pu)) (sym other)) k
+]
+
+taken_from_same : (k : Kind) (g : GraftValue) (y : Option GraftValue) → GraftFrom (Some g) y → GraftFrom (Some (taken_from k g)) y
+taken_from_same k g None h = h
+taken_from_same k g (Some x) h = h
+
+charge_from : (s a : Accounts) (q pt : ℕ) (k : Kind) → GraftsFrom s a → GraftsFrom s (charge k q pt a)
+charge_from s a q pt k h r pu = from_by (a.graft q pt) refl
+  where
+    from_if : (billed : Bool) (g : GraftValue) → a.graft q pt ≡ Some g →
+        GraftFrom ((elim billed as (λ _. Accounts) [ true ↦ charge_account k q a | false ↦ charge_graft k q pt g a ]).graft r pu) (s.graft r pu)
+    from_if true g e = h r pu
+    from_if false g e = from_place q pt r pu (Some (taken_from k g)) a.graft s.graft (taken_from_same k g (s.graft q pt) (subst (λ x. GraftFrom x (s.graft q pt)) e (h q pt))) (h r pu)
+
+    from_by : (g : Option GraftValue) → a.graft q pt ≡ g → GraftFrom ((charge_by k q pt g a).graft r pu) (s.graft r pu)
+    from_by None e = h r pu
+    from_by (Some g) e = from_if g.billed g e
+
+removed_from : (s a : Accounts) (q pt : ℕ) → GraftsFrom s a → GraftsFrom s (removed q pt a)
+removed_from s a q pt h r pu = from_by (a.graft q pt)
+  where
+    from_by : (g : Option GraftValue) → GraftFrom ((removed_by q pt g a).graft r pu) (s.graft r pu)
+    from_by None = h r pu
+    from_by (Some g) = from_place q pt r pu None a.graft s.graft tt (h r pu)
+
+pub effects_from : (s : Accounts) (q : ℕ) (es : List Effect) (a : Accounts) → GraftsFrom s a → GraftsFrom s (accounts_by q es a)
+effects_from s q [] a h = h
+effects_from s q (Asked pt ∷ es) a h = effects_from s q es a h
+effects_from s q (Charged pt k ∷ es) a h = effects_from s q es (charge k q pt a) (charge_from s a q pt k h)
+effects_from s q (Removed pt ∷ es) a h = effects_from s q es (removed q pt a) (removed_from s a q pt h)
+
+-- ---- grafts that stand as before
+
+abbrev pub StandSame : Accounts → Accounts → Type 0
+StandSame a b = (q pt : ℕ) → is_some (a.graft q pt) ≡ is_some (b.graft q pt)
+
+same_place : (q pt r pu : ℕ) (x : Option GraftValue) (f : ℕ → ℕ → Option GraftValue) → is_some x ≡ is_some (f q pt) → is_some (at2 q pt x f r pu) ≡ is_some (f r pu)
+same_place q pt r pu x f h = elim (cases_Bool (r == q && pu == pt)) [
+  | inl here ↦
+      let b = and_parts (r == q) (pu == pt) here in
+      ap (λ b. is_some (cond b x (f r pu))) here ∙ h ∙ ap (λ i. is_some (f i pt)) (sym (eqb-true r q b.0)) ∙ ap (λ i. is_some (f r i)) (sym (eqb-true pu pt b.1))
+  | inr other ↦ ap (λ b. is_some (cond b x (f r pu))) other
+]
+
+pub charge_same : (a : Accounts) (q pt : ℕ) (k : Kind) → StandSame (charge k q pt a) a
+charge_same a q pt k r pu = same_by (a.graft q pt) refl
+  where
+    same_if : (billed : Bool) (g : GraftValue) → a.graft q pt ≡ Some g →
+        is_some ((elim billed as (λ _. Accounts) [ true ↦ charge_account k q a | false ↦ charge_graft k q pt g a ]).graft r pu) ≡ is_some (a.graft r pu)
+    same_if true g e = refl
+    same_if false g e = same_place q pt r pu (Some (taken_from k g)) a.graft (ap is_some (sym e))
+
+    same_by : (g : Option GraftValue) → a.graft q pt ≡ g → is_some ((charge_by k q pt g a).graft r pu) ≡ is_some (a.graft r pu)
+    same_by None e = refl
+    same_by (Some g) e = same_if g.billed g e
+
+pub none_removed_same : (q : ℕ) (es : List Effect) (a : Accounts) → NoneRemoved es → StandSame (accounts_by q es a) a
+none_removed_same q [] a h r pu = refl
+none_removed_same q (Asked pt ∷ es) a h r pu = none_removed_same q es a h r pu
+none_removed_same q (Charged pt k ∷ es) a h r pu = none_removed_same q es (charge k q pt a) h r pu ∙ charge_same a q pt k r pu
+none_removed_same q (Removed pt ∷ es) a h r pu = absurd h
+
+-- another graft stands as before one was taken out
+pub removed_other : (a : Accounts) (q pt r pu : ℕ) → (r == q && pu == pt) ≡ false → is_some ((removed q pt a).graft r pu) ≡ is_some (a.graft r pu)
+removed_other a q pt r pu other = other_by (a.graft q pt)
+  where
+    other_by : (g : Option GraftValue) → is_some ((removed_by q pt g a).graft r pu) ≡ is_some (a.graft r pu)
+    other_by None = refl
+    other_by (Some g) = ap (λ b. is_some (cond b None (a.graft r pu))) other
+
+-- ---- grafts that level 0 doesn't hold
+
+-- each graft stands as in the other accounts, or is held
+abbrev pub AsBeforeOrHeld : Accounts → Accounts → Touched → Type 0
+AsBeforeOrHeld s a t = (q pt : ℕ) → (is_some (a.graft q pt) ≡ is_some (s.graft q pt)) ⊎ (is_held (t (Graft q pt)) ≡ true)
+
+pub before_more : (s a b : Accounts) (t u : Touched) → StandSame b a → HoldsMore u t → AsBeforeOrHeld s a t → AsBeforeOrHeld s b u
+before_more s a b t u same more h q pt = elim (h q pt) [ inl e ↦ inl (same q pt ∙ e) | inr held ↦ inr (more (Graft q pt) held) ]
+
+removed_before : (s a : Accounts) (t : Touched) (q pt : ℕ) → is_standing q pt a t ≡ true → AsBeforeOrHeld s a t → AsBeforeOrHeld s (removed q pt a) t
+removed_before s a t q pt stands h r pu = elim (cases_Bool (r == q && pu == pt)) [
+  | inl here ↦
+      let b = and_parts (r == q) (pu == pt) here in
+      let held = (and_parts (is_some (a.graft q pt)) (is_held (t (Graft q pt))) stands).1 in
+      inr (ap (λ i. is_held (t (Graft i pu))) (eqb-true r q b.0) ∙ ap (λ i. is_held (t (Graft q i))) (eqb-true pu pt b.1) ∙ held)
+  | inr other ↦ elim (h r pu) [ inl e ↦ inl (removed_other a q pt r pu other ∙ e) | inr held ↦ inr held ]
+]
+
+pub effects_before : (s : Accounts) (q : ℕ) (es : List Effect) (a : Accounts) (t : Touched) → CanBeMade q es a t → AsBeforeOrHeld s a t → AsBeforeOrHeld s (accounts_by q es a) (touched_by q es t)
+effects_before s q [] a t made h = h
+effects_before s q (Asked pt ∷ es) a t made h =
+    effects_before s q es a (touch (Graft q pt) Mode.Exclusive t) made
+    (before_more s a a t (touch (Graft q pt) Mode.Exclusive t) (λ r pu. refl) (λ o e. touch_held (Graft q pt) Mode.Exclusive t o e) h)
+effects_before s q (Charged pt k ∷ es) a t made h =
+    effects_before s q es (charge k q pt a) t made.1 (before_more s a (charge k q pt a) t t (charge_same a q pt k) (λ o e. e) h)
+effects_before s q (Removed pt ∷ es) a t made h = effects_before s q es (removed q pt a) t made.1 (removed_before s a t q pt made.0 h)
+
+-- ---- what holds along a history
+
+module _ (v : World) (images : ImageTable) (p : ℕ) (P : Config → Type 0) where
+  -- what instructions keep where the call goes on, and ends of levels that just began keep, holds wherever a history leads
+  pub marks_keep : ((c : Config) → P c → (micro v images p c).said ≡ Micro.Went → P (micro v images p c).config) →
+      ((c d : Config) (es : List Effect) → P c → let u = (micro v images p c).config in (micro v images p c).said ≡ Micro.Went → length u.levels ≡ suc (length c.levels) →
+      effects_on (owner_among u.levels) es u ≡ Some d → P (level_ends v d.now d.levels)) →
+      (ks : List Mark) (t u : Trace) → P t.config → marks_on v images p ks t ≡ Some u → P u.config
+  marks_keep went fell [] t u h e = subst (λ (x : Trace). P x.config) (same_trace t u e) h
+  marks_keep went fell (k ∷ ks) t u h e = keep_by (mark_on v images p k t) refl (λ x. marks_keep went fell ks x u) e
+    where
+      mark_keeps : (k : Mark) (x : Trace) → mark_on v images p k t ≡ Some x → P x.config
+      mark_keeps Stepped x is =
+          let r = micro v images p t.config in
+          let step = went_where t x r is in subst (λ (y : Trace). P y.config) step.1 (went t.config h step.0)
+      mark_keeps (Fell es) x is =
+          let r = micro v images p t.config in
+          let f = fell_where v es (length t.config.levels) (stepped t r) x is in
+          let step = went_where t f.asked r f.asks in
+          subst (λ (y : Trace). P y.config) f.is
+          (fell t.config f.made es h step.0 (ap (λ (y : Trace). length y.config.levels) step.1 ∙ f.deeper)
+          (ap (λ (y : Trace). effects_on (owner_among y.config.levels) es y.config) step.1 ∙ f.effects))
+
+      keep_by : (x : Option Trace) → mark_on v images p k t ≡ x → ((y : Trace) → P y.config → marks_on v images p ks y ≡ Some u → P u.config) →
+          elim x as (λ _. Option Trace) [ None ↦ None | Some y ↦ marks_on v images p ks y ] ≡ Some u → P u.config
+      keep_by None is again e = absurd (no_trace u e)
+      keep_by (Some y) is again e = again y (mark_keeps k y is) e
+
+-- ---- grafts along a history
+
+-- where a graft call goes on its accounts are what its effects make of them
+went_accounts : (v : World) (images : ImageTable) (p : ℕ) (s : Accounts) (w : Objects) (ls : List Level) → GraftsFrom s w.accounts → GraftsFrom s (micro_on v images p w ls).config.now.accounts
+went_accounts v images p s w [] h = h
+went_accounts v images p s w (l ∷ ls) h =
+    let r = micro_on v images p w (l ∷ ls) in
+    let acts = instruction_acts v (λ o. Held.Exclusive) images p w l ls refl in
+    subst (GraftsFrom s) (sym acts.accounts) (effects_from s l.owner r.effects w.accounts h)
+
+-- no level at all
+none_some : 1 ≤ 0 → ⊥
+none_some h = omega arith
+
+ends_accounts : (v : World) (w : Objects) (ls : List Level) → (level_ends v w ls).now ≡ w
+ends_accounts v w [] = refl
+ends_accounts v w (l ∷ ls) = refl
+
+fell_accounts : (v : World) (s : Accounts) (q : ℕ) (es : List Effect) (w : Objects) (ls : List Level) (d : Config) → GraftsFrom s w.accounts → 1 ≤ length ls →
+    effects_on q es (record { now = w; levels = ls }) ≡ Some d → GraftsFrom s (level_ends v d.now d.levels).now.accounts
+fell_accounts v s q es w [] d h some made = absurd (none_some some)
+fell_accounts v s q es w (l ∷ ls) d h some made =
+    let been = have_been_made q es w.accounts w.things l ls d made in
+    subst (λ (x : Objects). GraftsFrom s x.accounts) (sym (ends_accounts v d.now d.levels))
+    (subst (λ (c : Config). GraftsFrom s c.now.accounts) (sym been.leads) (effects_from s q es w.accounts h))
+
+-- one level more is some
+some_of : (n m : ℕ) → m ≡ suc n → 1 ≤ m
+some_of n m e = omega arith
+
+-- wherever marks lead, the grafts that stand did so at first
+pub marks_from : (v : World) (images : ImageTable) (p : ℕ) (s : Accounts) (ks : List Mark) (t u : Trace) → GraftsFrom s t.config.now.accounts → marks_on v images p ks t ≡ Some u →
+    GraftsFrom s u.config.now.accounts
+marks_from v images p s =
+    marks_keep v images p (λ c. GraftsFrom s c.now.accounts) (λ c h said. went_accounts v images p s c.now c.levels h)
+    (λ c d es h said deeper made.
+    let u = (micro v images p c).config in
+    fell_accounts v s (owner_among u.levels) es u.now u.levels d (went_accounts v images p s c.now c.levels h) (some_of (length c.levels) (length u.levels) deeper) made)
+
+-- ---- the shape along a history
+
+-- the call's levels have the shape, and grafts that level 0 doesn't hold stand as they did
+pub record HasCome (s : Accounts) (q : ℕ) (c : Config) : Type 0 where
+  pub shape : HasShape q c.levels
+  pub before : AsBeforeOrHeld s c.now.accounts (outermost_touched c.levels)
+
+-- level 0 holds what it held, once the call goes on
+outermost_more : (v : World) (q pt : ℕ) (kept : Things) (l : Level) (es : List Effect) (ls : List Level) (c : Config) → Next v q pt kept l.touched (levels_by q es ls) Micro.Went c →
+    HoldsMore (outermost_touched c.levels) (outermost_touched (l ∷ ls))
+outermost_more v q pt kept l es ls c next o h = by_next next
+  where
+    more_by : (own : Level) → HoldsMore own.touched l.touched → is_held (outermost_touched (own ∷ levels_by q es ls) o) ≡ true
+    more_by own more = by_levels ls h
+      where
+        by_levels : (ks : List Level) → is_held (outermost_touched (l ∷ ks) o) ≡ true → is_held (outermost_touched (own ∷ levels_by q es ks) o) ≡ true
+        by_levels [] h = none_by (levels_by q es []) (levels_none q es) (more o h)
+          where
+            none_by : (ks : List Level) → ks ≡ [] → is_held (own.touched o) ≡ true → is_held (outermost_touched (own ∷ ks) o) ≡ true
+            none_by ks e h = subst (λ xs. is_held (outermost_touched (own ∷ xs) o) ≡ true) (sym e) h
+        by_levels (k ∷ ks) h =
+            let next = levels_inside q es k ks in
+            subst (λ xs. is_held (outermost_touched (own ∷ xs) o) ≡ true) (sym next.1)
+            (subst (λ xs. is_held (outermost_touched xs o) ≡ true) next.1
+            (subst (λ (t : Touched). is_held (t o) ≡ true) (sym (levels_touched q es k ks)) (held_on q es (outermost_touched (k ∷ ks)) o h)))
+
+    back_by : (x : ComesBack (levels_by q es ls) c) → is_held (outermost_touched c.levels o) ≡ true
+    back_by x = subst (λ ys. is_held (outermost_touched ys o) ≡ true) (sym x.levels) (rest_by x.rest (subst (λ ys. is_held (outermost_touched ys o) ≡ true) x.outside outer))
+      where
+        outer : is_held (outermost_touched (levels_by q es ls) o) ≡ true
+        outer = outer_by ls x.outside h
+          where
+            no_asker : (k : Level) (ks : List Level) → [] ≡ k ∷ ks → ⊥
+            no_asker k ks e = cc
+
+            outer_by : (ks : List Level) → levels_by q es ks ≡ x.asker ∷ x.rest → is_held (outermost_touched (l ∷ ks) o) ≡ true →
+                is_held (outermost_touched (levels_by q es ks) o) ≡ true
+            outer_by [] e h = absurd (no_asker x.asker x.rest (sym (levels_none q es) ∙ e))
+            outer_by (k ∷ ks) e h = subst (λ (t : Touched). is_held (t o) ≡ true) (sym (levels_touched q es k ks)) (held_on q es (outermost_touched (k ∷ ks)) o h)
+
+        rest_by : (rest : List Level) → is_held (outermost_touched (x.asker ∷ rest) o) ≡ true → is_held (outermost_touched (x.own ∷ rest) o) ≡ true
+        rest_by [] h = x.more o h
+        rest_by (k ∷ ks) h = h
+
+    by_next : StaysIn q pt kept l.touched (levels_by q es ls) c ⊎ GoesDeeper q pt kept l.touched (levels_by q es ls) c ⊎ ComesBack (levels_by q es ls) c →
+        is_held (outermost_touched c.levels o) ≡ true
+    by_next (inl s) = subst (λ ys. is_held (outermost_touched ys o) ≡ true) (sym s.levels) (more_by s.own s.more)
+    by_next (inr (inl d)) = subst (λ ys. is_held (outermost_touched ys o) ≡ true) (sym d.levels) (more_by d.own d.more)
+    by_next (inr (inr x)) = back_by x
+
+-- after an instruction
+went_come : (v : World) (images : ImageTable) (p : ℕ) (s : Accounts) (q : ℕ) (w : Objects) (ls : List Level) → HasShape q ls → AsBeforeOrHeld s w.accounts (outermost_touched ls) →
+    (micro_on v images p w ls).said ≡ Micro.Went → HasCome s q (micro_on v images p w ls).config
+went_come v images p s q w [] shape before said = absurd (none_some shape.some)
+went_come v images p s q w (l ∷ ls) shape before said =
+    let r = micro_on v images p w (l ∷ ls) in
+    let acts = instruction_acts v (λ o. Held.Exclusive) images p w l ls refl in
+    let none = subst (λ x. WhereGoesOn x (NoneRemoved r.effects)) said acts.none in
+    let next = subst (λ x. Next v l.owner l.point l.kept l.touched (levels_by l.owner r.effects ls) x r.config) said acts.next in
+    record {
+      shape = subst (λ x. ShapeWhereWent q x r.config) said (instruction_shape v images p q w (l ∷ ls) shape);
+      before = before_more s w.accounts r.config.now.accounts (outermost_touched (l ∷ ls)) (outermost_touched r.config.levels)
+          (λ i pt. ap (λ (a : Accounts). is_some (a.graft i pt)) acts.accounts ∙ none_removed_same l.owner r.effects w.accounts none i pt)
+          (outermost_more v l.owner l.point l.kept l r.effects ls r.config next) before;
+    }
+
+-- levels with another machine are held as they were
+answer_outermost : (pt r0 r1 : ℕ) (ls : List Level) → outermost_touched (answer_innermost pt r0 r1 ls) ≡ outermost_touched ls
+answer_outermost pt r0 r1 [] = refl
+answer_outermost pt r0 r1 (l ∷ []) = refl
+answer_outermost pt r0 r1 (l ∷ k ∷ ls) = refl
+
+-- after a fallen level's mark
+fell_come : (v : World) (s : Accounts) (q i : ℕ) (es : List Effect) (w : Objects) (ls : List Level) (d : Config) → HasShape q ls → AsBeforeOrHeld s w.accounts (outermost_touched ls) →
+    2 ≤ length ls → effects_on i es (record { now = w; levels = ls }) ≡ Some d → HasCome s q (level_ends v d.now d.levels)
+fell_come v s q i es w [] d shape before some made = absurd (none_some shape.some)
+fell_come v s q i es w (l ∷ []) d shape before some made = absurd (none_two some)
+  where
+    none_two : 2 ≤ 1 → ⊥
+    none_two h = omega arith
+fell_come v s q i es w (l ∷ k ∷ ks) d shape before some made =
+    let been = have_been_made i es w.accounts w.things l (k ∷ ks) d made in
+    let a = accounts_by i es w.accounts in
+    let next = levels_inside i es k ks in
+    let levels = levels_above i es l k ks ∙ ap (λ ys. l ∷ ys) next.1 in
+    let all = subst (HasShape q) levels (shape_on q (levels_by i es (l ∷ k ∷ ks)) (l ∷ k ∷ ks) (keep_effects i es (l ∷ k ∷ ks)) shape) in
+    let outer = next.0 ∷ levels_by i es ks in
+    let e = default_of v w.things l.owner l.point in
+    let touched : touched_by i es (outermost_touched (k ∷ ks)) ≡ outermost_touched (answer_innermost l.point e.0 e.1 outer) =
+    sym (levels_touched i es k ks) ∙ ap outermost_touched next.1 ∙ sym (answer_outermost l.point e.0 e.1 outer) in
+    subst (λ (c : Config). HasCome s q (level_ends v c.now c.levels)) (sym (been.leads ∙ ap (config_with a w.things) levels)) (record {
+      shape = shape_on q (answer_innermost l.point e.0 e.1 outer) outer (keep_answer l.point e.0 e.1 outer) (shape_outside q l next.0 (levels_by i es ks) all);
+      before = subst (AsBeforeOrHeld s a) touched (effects_before s i es w.accounts (outermost_touched (k ∷ ks)) been.made before);
+    })
+
+-- one level more is two
+two_of : (n m : ℕ) → m ≡ suc n → 1 ≤ n → 2 ≤ m
+two_of n m e h = omega arith
+
+-- wherever marks lead from a call that has come, one has come
+pub marks_come : (v : World) (images : ImageTable) (p : ℕ) (s : Accounts) (q : ℕ) (ks : List Mark) (t u : Trace) → HasCome s q t.config → marks_on v images p ks t ≡ Some u → HasCome s q u.config
+marks_come v images p s q =
+    marks_keep v images p (HasCome s q) (λ c h said. went_come v images p s q c.now c.levels h.shape h.before said)
+    (λ c d es h said deeper made.
+    let u = (micro v images p c).config in
+    let come = went_come v images p s q c.now c.levels h.shape h.before said in
+    fell_come v s q (owner_among u.levels) es u.now u.levels d come.shape come.before (two_of (length c.levels) (length u.levels) deeper h.shape.some) made)
+
+-- ---- the beginning
+
+-- objects touched one after another
+touch_more : (xs ys : List Need) (t : Touched) → touch_all (xs ++ ys) t ≡ touch_all ys (touch_all xs t)
+touch_more [] ys t = refl
+touch_more (x ∷ xs) ys t = touch_more xs ys (touch x.object x.mode t)
+
+-- level 0 holds the graft of the point and its installer's account, where the graft stands
+base_held : (m : Meaning) → Laws m → (v : World) (s : Objects) (p : ℕ) (t : Stage) (a : Point) (g : GraftValue) → m.fits v s p t ≡ true → m.asks v s p t ≡ Some a →
+    s.accounts.graft a.installer a.point ≡ Some g →
+    (touch_all (m.need v s p t) untouched (Graft a.installer a.point) ≡ Held.Exclusive) × (touch_all (m.need v s p t) untouched (Acct a.installer) ≡ Held.Exclusive)
+base_held m laws v s p t a g fits asked stands =
+    let xs = before_point s a (m.need v s p t) in
+    let rest = payer_needs a.installer (s.accounts.graft a.installer a.point) in
+    let all = ap (λ ns. touch_all ns untouched) (laws.need.point v s p t a fits asked) ∙ touch_more xs (needs_of_point s a) untouched in
+    let u = touch (Graft a.installer a.point) Mode.Exclusive (touch_all xs untouched) in (
+      ap (λ (x : Touched). x (Graft a.installer a.point)) all
+          ∙ touch_all_holds rest u (Graft a.installer a.point) (touch_here (Graft a.installer a.point) (touch_all xs untouched)),
+      ap (λ (x : Touched). x (Acct a.installer)) all ∙ ap (λ y. touch_all (payer_needs a.installer y) u (Acct a.installer)) stands ∙ touch_here (Acct a.installer) u,
+    )
+
+-- a call begins so
+begins_come : (m : Meaning) → Laws m → (v : World) (images : ImageTable) (s : Objects) (p : ℕ) (t : Stage) (a : Point) (g : GraftValue) → m.fits v s p t ≡ true →
+    m.asks v s p t ≡ Some a → s.accounts.graft a.installer a.point ≡ Some g → HasCome s.accounts a.installer (begin_at images s p (m.need v s p t) a)
+begins_come m laws v images s p t a g fits asked stands =
+    let held = base_held m laws v s p t a g fits asked stands in
+    record {
+      shape = record { grafts = (refl, held.0, refl, tt); acct = held.1; few = zero_few; most = one_most; some = one_some };
+      before = λ q pt. inl refl;
+    }
+  where
+    zero_few : 0 + 0 ≤ 64
+    zero_few = omega arith
+
+    one_most : 1 ≤ 4
+    one_most = omega arith
+
+    one_some : 1 ≤ 1
+    one_some = omega arith
+
+-- what a replay comes to
+pub record Comes (m : Meaning) (v : World) (s : Objects) (p : ℕ) (t : Stage) (c : Config) : Type 0 where
+  pub point : Point
+  pub asked : m.asks v s p t ≡ Some point
+  pub some : 1 ≤ length c.levels
+  pub grafts_from : GraftsFrom s.accounts c.now.accounts
+  pub come : (g : GraftValue) → s.accounts.graft point.installer point.point ≡ Some g → HasCome s.accounts point.installer c
+
+pub replay_comes : (m : Meaning) → Laws m → (v : World) (images : ImageTable) (s : Objects) (p : ℕ) (t : Stage) (ks : List Mark) (u : Trace) → m.fits v s p t ≡ true →
+    replay m v images s p t ks ≡ Some u → Comes m v s p t u.config
+replay_comes m laws v images s p t ks u fits e = comes_by (m.asks v s p t) refl e
+  where
+    some_levels : (first : Trace) (q : ℕ) (ms : List Mark) (a : Accounts) (ls : List Level) (ps : List Past) → HasPasts v images p first q ms a [] ls ps → 1 ≤ length ls
+    some_levels first q ms a [] ps h = absurd h
+    some_levels first q ms a (l ∷ ls) ps h = some_more (length ls)
+      where
+        some_more : (n : ℕ) → 1 ≤ suc n
+        some_more n = omega arith
+
+    comes_by : (ask : Option Point) → m.asks v s p t ≡ ask →
+        elim (begin_with images s p (m.need v s p t) ask) as (λ _. Option Trace) [ None ↦ None | Some c ↦ marks_on v images p ks (first_trace c) ] ≡ Some u → Comes m v s p t u.config
+    comes_by None asked e = absurd (no_trace u e)
+    comes_by (Some a) asked e =
+        let first = first_trace (begin_at images s p (m.need v s p t) a) in
+        record {
+          point = a;
+          asked = asked;
+          some = some_levels first a.installer ([] ++ ks) u.config.now.accounts u.config.levels u.pasts
+              (marks_lead v images p first a.installer [] ks first u (record { leads = refl; marks = refl; pasts = refl }) e).pasts;
+          grafts_from = marks_from v images p s.accounts ks first u (λ q pt. graft_self (s.accounts.graft q pt)) e;
+          come = λ g stands. marks_come v images p s.accounts a.installer ks first u (begins_come m laws v images s p t a g fits asked stands) e;
+        }
