@@ -1,5 +1,5 @@
 -- What the grafts of a call that comes from a history are, beside those of the state that it is replayed from.
-use Rattle.std.specs.Prelude.{◌≡◌, ℕ, suc, ◌+◌, ◌<◌, ◌≤◌, ◌==◌, ◌&&◌, Bool, true, false, cond, List, [], ◌∷◌, ◌++◌, length, Option, Some, None, is_some, Contains, ⊤, ◌⊎◌}
+use Rattle.std.specs.Prelude.{◌≡◌, ℕ, suc, ◌+◌, ◌≤◌, ◌==◌, ◌&&◌, Bool, true, false, cond, List, [], ◌∷◌, ◌++◌, length, Option, Some, None, is_some, ⊤, ◌⊎◌}
 use Rattle.std.proofs.Common.{arith, refl, subst, sym, ap, ◌∙◌, inl, inr}
 use Rattle.std.proofs.lemmas.Bool.{cases_Bool, and_parts, eqb-true}
 use Rattle.kernel_model.specs.declared.Held.{Held}
@@ -7,26 +7,25 @@ use Rattle.kernel_model.specs.declared.Kind.{Kind}
 use Rattle.kernel_model.specs.declared.Micro.{Micro}
 use Rattle.kernel_model.specs.declared.Mode.{Mode}
 use Rattle.kernel_model.specs.declared.Need.{Need}
-use Rattle.kernel_model.specs.declared.Object.{Object}
 use Rattle.kernel_model.specs.declared.Object.TheVariants.{Graft, Acct}
 use Rattle.kernel_model.specs.declared.Point.{Point}
 use Rattle.kernel_model.specs.World.{World, ImageTable}
 use Rattle.kernel_model.specs.Objects.{Objects, Accounts, Things, GraftValue, at2}
 use Rattle.kernel_model.specs.Policies.{default_of}
-use Rattle.kernel_model.specs.Charges.{funds, taken_from, charge, charge_by, charge_account, charge_graft, removed, removed_by}
+use Rattle.kernel_model.specs.Charges.{taken_from, charge, charge_by, charge_account, charge_graft, removed, removed_by}
 use Rattle.kernel_model.specs.Locks.{Touched, touch, touch_all, untouched, is_held}
 use Rattle.kernel_model.specs.Meaning.{Meaning, Stage}
 use Rattle.kernel_model.specs.Levels.{Level, Config, Effect, Asked, Charged, Removed, outermost_touched, answer_innermost}
 use Rattle.kernel_model.specs.GraftStep.{micro, micro_on}
-use Rattle.kernel_model.specs.History.{Mark, Past, Stepped, Fell, Trace, begin_at, begin_with, first_trace, trace_after, stepped, effects_on, level_ends, owner_among, trace_fallen, fell_on, mark_on, marks_on, replay}
+use Rattle.kernel_model.specs.History.{Mark, Past, Stepped, Fell, Trace, begin_at, begin_with, first_trace, stepped, effects_on, level_ends, owner_among, mark_on, marks_on, replay}
 use Rattle.kernel_model.specs.Laws.{Laws, needs_of_point, before_point}
 use Rattle.kernel_model.specs.Needs.{payer_needs}
-use Rattle.history_laws.proofs.EffectLemmas.{levels_by, touched_by, accounts_by, is_standing, CanBeMade, levels_inside, levels_none, levels_above, levels_touched, held_on, touch_held, touch_all_held, config_with, have_been_made}
-use Rattle.history_laws.proofs.ActLemmas.{HoldsMore, StaysIn, GoesDeeper, ComesBack, Next, NoneRemoved, WhereGoesOn, instruction_acts, both_pass}
+use Rattle.history_laws.proofs.EffectLemmas.{levels_by, touched_by, accounts_by, is_standing, CanBeMade, levels_inside, levels_none, levels_above, levels_touched, held_on, touch_held, config_with, have_been_made}
+use Rattle.history_laws.proofs.ActLemmas.{HoldsMore, StaysIn, GoesDeeper, ComesBack, Next, NoneRemoved, WhereGoesOn, instruction_acts}
 use Rattle.history_laws.proofs.FallenLemmas.{marks_lead, no_trace, same_trace, went_where, fell_where}
 use Rattle.history_laws.proofs.PastLemmas.{HasPasts}
 use Rattle.history_laws.proofs.RecordLemmas.{touch_here, touch_all_holds}
-use Rattle.history_laws.proofs.ShapeLemmas.{AreGrafts, HasShape, ShapeWhereWent, keep_answer, keep_effects, shape_on, shape_outside, instruction_shape}
+use Rattle.history_laws.proofs.ShapeLemmas.{HasShape, ShapeWhereWent, keep_answer, keep_effects, shape_on, shape_outside, instruction_shape}
 
 -- ---- grafts of other accounts
 
@@ -75,7 +74,7 @@ charge_from s a q pt k h r pu = from_by (a.graft q pt) refl
     from_by None e = h r pu
     from_by (Some g) e = from_if g.billed g e
 
-removed_from : (s a : Accounts) (q pt : ℕ) → GraftsFrom s a → GraftsFrom s (removed q pt a)
+pub removed_from : (s a : Accounts) (q pt : ℕ) → GraftsFrom s a → GraftsFrom s (removed q pt a)
 removed_from s a q pt h r pu = from_by (a.graft q pt)
   where
     from_by : (g : Option GraftValue) → GraftFrom ((removed_by q pt g a).graft r pu) (s.graft r pu)
@@ -185,7 +184,7 @@ module _ (v : World) (images : ImageTable) (p : ℕ) (P : Config → Type 0) whe
 -- ---- grafts along a history
 
 -- where a graft call goes on its accounts are what its effects make of them
-went_accounts : (v : World) (images : ImageTable) (p : ℕ) (s : Accounts) (w : Objects) (ls : List Level) → GraftsFrom s w.accounts → GraftsFrom s (micro_on v images p w ls).config.now.accounts
+pub went_accounts : (v : World) (images : ImageTable) (p : ℕ) (s : Accounts) (w : Objects) (ls : List Level) → GraftsFrom s w.accounts → GraftsFrom s (micro_on v images p w ls).config.now.accounts
 went_accounts v images p s w [] h = h
 went_accounts v images p s w (l ∷ ls) h =
     let r = micro_on v images p w (l ∷ ls) in

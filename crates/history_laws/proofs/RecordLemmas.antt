@@ -119,7 +119,7 @@ touch_many o [] = refl
 touch_many o (l ∷ []) = refl
 touch_many o (l ∷ k ∷ ls) = ap suc (touch_many o (k ∷ ls))
 
-answer_many : (pt r0 r1 : ℕ) (ls : List Level) → length (answer_innermost pt r0 r1 ls) ≡ length ls
+pub answer_many : (pt r0 r1 : ℕ) (ls : List Level) → length (answer_innermost pt r0 r1 ls) ≡ length ls
 answer_many pt r0 r1 [] = refl
 answer_many pt r0 r1 (l ∷ ls) = refl
 

@@ -1,5 +1,5 @@
 -- The levels of a call: of different grafts of one process, held by level 0, few, and with few records.
-use Rattle.std.specs.Prelude.{◌≡◌, ℕ, suc, ◌+◌, ◌<◌, ◌≤◌, ◌==◌, ◌&&◌, ◌||◌, Bool, true, false, cond, List, [], ◌∷◌, ◌++◌, length, Option, Some, None, is_some, ⊤}
+use Rattle.std.specs.Prelude.{◌≡◌, ℕ, suc, ◌+◌, ◌≤◌, ◌==◌, ◌&&◌, ◌||◌, Bool, true, false, cond, List, [], ◌∷◌, ◌++◌, length, Option, Some, None, is_some, ⊤}
 use Rattle.std.proofs.Common.{arith, refl, subst, sym, ap, ◌∙◌}
 use Rattle.std.proofs.lemmas.Bool.Decides.{nat_tests}
 use Rattle.std.proofs.lemmas.List.{length-append}
@@ -13,13 +13,13 @@ use Rattle.kernel_model.specs.declared.Mode.{Mode}
 use Rattle.kernel_model.specs.declared.Object.{Object}
 use Rattle.kernel_model.specs.declared.Object.TheVariants.{Graft, Acct}
 use Rattle.kernel_model.specs.World.{World, ImageTable}
-use Rattle.kernel_model.specs.Objects.{Objects, Accounts, Things, GraftValue, with_accounts}
+use Rattle.kernel_model.specs.Objects.{Objects, Things, GraftValue, with_accounts}
 use Rattle.kernel_model.specs.Machine.{Machine, Done, Called, Returned, Trapped, Outside, PastEnd, seg_step}
 use Rattle.kernel_model.specs.Policies.{valid, kind_of, default_of, args_by}
 use Rattle.kernel_model.specs.Access.{Access, Gives, Changes, Refuses, access, early_refusal, is_ask, accessed, asked_point, asked_objects}
 use Rattle.kernel_model.specs.Charges.{funds, charge}
-use Rattle.kernel_model.specs.Locks.{Touched, touch, joined, untouched}
-use Rattle.kernel_model.specs.Levels.{Level, Config, Effect, Asked, Charged, Removed, Outcome, code_of, new_level, with_machine, with_touched, touch_outermost, outermost_touched, answered, answer_innermost, drop_innermost}
+use Rattle.kernel_model.specs.Locks.{Touched, joined, untouched}
+use Rattle.kernel_model.specs.Levels.{Level, Config, Effect, Asked, Charged, Removed, Outcome, code_of, new_level, with_machine, with_touched, touch_outermost, outermost_touched, answered, answer_innermost}
 use Rattle.kernel_model.specs.GraftStep.{after_access, is_lock_due, lock_paid, after_result, record_count, is_record_spent, after_change, after_accessor, is_vain_ask, is_running, ask_refusal, ask_answered, after_ask, granted_call, after_call, completed, after_return, after_machine, is_spent, charged_step, micro_on}
 use Rattle.history_laws.proofs.EffectLemmas.{levels_by, outermost_touch}
 use Rattle.history_laws.proofs.ActLemmas.{neither}

@@ -1,8 +1,8 @@
 -- The graft calls of a sound kernel are sound.
-use Rattle.std.specs.Prelude.{◌≡◌, ◌≢◌, ℕ, suc, ◌+◌, ◌<◌, ◌≤◌, ◌==◌, ◌&&◌, ◌||◌, Bool, true, false, List, [], ◌∷◌, length, map, Option, Some, None, is_some, Contains, ⊤}
+use Rattle.std.specs.Prelude.{◌≡◌, ℕ, suc, ◌<◌, ◌≤◌, ◌==◌, ◌&&◌, ◌||◌, Bool, true, false, List, [], ◌∷◌, length, map, Option, Some, None, is_some, Contains}
 use Rattle.std.specs.List.{AllByRecursion as Each}
 use Rattle.std.proofs.Common.{arith, refl, subst, sym, ap, ◌∙◌, inl, inr}
-use Rattle.std.proofs.lemmas.Bool.{cases_Bool, and_parts, eqb-true}
+use Rattle.std.proofs.lemmas.Bool.{cases_Bool}
 use Rattle.std.proofs.lemmas.Bool.Decides.{nat_tests}
 use Rattle.std.proofs.lemmas.List.Elements.{Contains-append_right, All-contains, All-from_recursion}
 use Rattle.kernel_model.specs.declared.Held.{Held}
@@ -17,7 +17,7 @@ use Rattle.kernel_model.specs.Meaning.{Meaning}
 use Rattle.kernel_model.specs.Levels.{Level, Config, level_at, outermost_touched}
 use Rattle.kernel_model.specs.GraftStep.{is_running}
 use Rattle.kernel_model.specs.History.{Mark, Trace, replay}
-use Rattle.kernel_model.specs.UndoLog.{undo_all, undo_log, kept_by_log}
+use Rattle.kernel_model.specs.UndoLog.{undo_log, kept_by_log}
 use Rattle.kernel_model.specs.Kernel.{Call, Kernel}
 use Rattle.kernel_model.specs.Blocking.{config_in, trace_of, config_of}
 use Rattle.kernel_model.specs.Sound.{IsSoundStore, IsSoundConfig, IsSoundKernel}
@@ -25,7 +25,7 @@ use Rattle.kernel_model.specs.Laws.{Laws}
 use Rattle.kernel_laws.specs.Soundness.{AreGraftsWork, found_by, IsAskedAt, WorksOn, ReplayWorks, HistoriesWork}
 use Rattle.kernel_laws.specs.Undoing.{InversesUndo, ChangesAreOfOneObject}
 use Rattle.history_laws.proofs.RecordLemmas.{AreHeldBy, FoundByUndoing}
-use Rattle.history_laws.proofs.ShapeLemmas.{AreGrafts, HasShape}
+use Rattle.history_laws.proofs.ShapeLemmas.{AreGrafts}
 use Rattle.history_laws.proofs.ComeLemmas.{from_stands, HasCome, Comes, replay_comes}
 use Rattle.history_laws.proofs.InPlaceLemmas.{config_is, no_config, call_undoable}
 

@@ -1,3 +1,4 @@
 pub mod Fallen
 pub mod Notes
 pub mod SoundCalls
+pub mod Ticks

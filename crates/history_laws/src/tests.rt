@@ -1,6 +1,6 @@
 //! Each law over every table of calls, at the table of the system calls.
 
-use crate::{histories, notes, store};
+use crate::{histories, notes, store, ticks};
 use plain_rules::PlainRules;
 
 #[test]
@@ -11,4 +11,6 @@ fn the_system_calls_have_the_laws(_rt: HostRuntime) {
     store::undone_is_below::<PlainRules>();
     notes::leaves_few_notes::<PlainRules>();
     notes::calls_leave_few_drops::<PlainRules>();
+    ticks::stable_kernels_stay_sound::<PlainRules>();
+    ticks::ticks_end::<PlainRules>();
 }
