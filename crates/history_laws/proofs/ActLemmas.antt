@@ -1,6 +1,7 @@
 -- What one instruction does is what its effects do, but for the machine, the things, and which level is the innermost.
 use Rattle.std.specs.Prelude.{◌≡◌, ℕ, ◌+◌, ◌==◌, ◌&&◌, ◌||◌, Bool, true, false, cond, not, List, [], ◌∷◌, length, Option, Some, None, is_some, ⊤, ◌⊎◌}
-use Rattle.std.proofs.Common.{refl, sym, ap, ◌∙◌, inl, inr}
+use Rattle.std.proofs.Common.{arith, refl, sym, ap, ◌∙◌, inl, inr}
+use Rattle.std.proofs.lemmas.Bool.Decides.{nat_tests}
 use Rattle.kernel_model.specs.declared.Cause.{Cause}
 use Rattle.kernel_model.specs.declared.Cause.TheVariants.{SpentSteps, SpentRecords, SpentLocks, RefusedAnswer}
 use Rattle.kernel_model.specs.declared.Inverse.{Inverse}
@@ -14,7 +15,7 @@ use Rattle.kernel_model.specs.Objects.{Objects, Accounts, Things, GraftValue, wi
 use Rattle.kernel_model.specs.Machine.{Machine, Done, Called, Returned, Trapped, Outside, PastEnd, seg_step}
 use Rattle.kernel_model.specs.Policies.{valid, kind_of, default_of, args_by}
 use Rattle.kernel_model.specs.Access.{Access, Gives, Changes, Refuses, access, early_refusal, is_ask, accessed, asked_point, asked_objects}
-use Rattle.kernel_model.specs.Charges.{payer_balance, funds, charge, charge_by, charge_account, charge_graft, taken_from}
+use Rattle.kernel_model.specs.Charges.{payer_balance, funds, charge, charge_by, charge_account, charge_graft, taken_from, removed, removed_by}
 use Rattle.kernel_model.specs.Locks.{Touched, untouched, is_held}
 use Rattle.kernel_model.specs.Levels.{Level, Config, Effect, Asked, Charged, Removed, Outcome, with_effect, code_of, new_level, with_machine, with_touched, touch_outermost, outermost_touched, answered, answer_innermost, drop_innermost}
 use Rattle.kernel_model.specs.GraftStep.{after_access, is_lock_due, lock_paid, after_result, is_record_spent, after_change, after_accessor, ask_refusal, ask_answered, after_ask, granted_call, after_call, completed, after_return, after_machine, is_spent, charged_step, micro_on}
@@ -64,6 +65,7 @@ pub record WasDropped (v : World) (q pt : ℕ) (kept : Things) (ls : List Level)
   pub owner : r ≡ q
   pub point : pu ≡ pt
   pub things : c.now.things ≡ kept
+  pub gone : is_some (c.now.accounts.graft q pt) ≡ false
   pub levels : c.levels ≡ answer_innermost pt (default_of v kept q pt).0 (default_of v kept q pt).1 ls
 
 -- by what is said of the instruction, where ls are the levels outside after its effects
@@ -135,6 +137,17 @@ charge_stands a q pt k h = stands_by (a.graft q pt)
     stands_by None = h
     stands_by (Some g) = stands_if g.billed g
 
+-- a graft that was taken out doesn't stand
+pub removed_gone : (a : Accounts) (q pt : ℕ) → is_some ((removed q pt a).graft q pt) ≡ false
+removed_gone a q pt = gone_by (a.graft q pt) refl
+  where
+    both_same : (q pt : ℕ) → (q == q && pt == pt) ≡ true
+    both_same q pt = grind (arith, nat_tests)
+
+    gone_by : (g : Option GraftValue) → a.graft q pt ≡ g → is_some ((removed_by q pt g a).graft q pt) ≡ false
+    gone_by None e = ap is_some e
+    gone_by (Some g) e = ap (λ b. is_some (cond b None (a.graft q pt))) (both_same q pt)
+
 -- the same where a level was dropped
 dropped_stands : (said : Micro) (a : Accounts) (q pt : ℕ) (k : Kind) → WhereDropped said (is_some (a.graft q pt)) → WhereDropped said (is_some ((charge k q pt a).graft q pt))
 dropped_stands (Micro.Dropped d r pu cause) a q pt k h = charge_stands a q pt k h
@@ -174,7 +187,7 @@ module _ (v : World) (t : Touched) where
       record {
         accounts = refl;
         made = λ stands. (both_pass (is_some (w.accounts.graft l.owner l.point)) (is_held (t (Graft l.owner l.point))) stands held, tt);
-        next = record { level = refl; owner = refl; point = refl; things = refl; levels = refl };
+        next = record { level = refl; owner = refl; point = refl; things = refl; gone = removed_gone w.accounts l.owner l.point; levels = refl };
         none = tt;
       }
 

@@ -39,7 +39,7 @@ GraftFrom (Some g) (Some h) = g.image ≡ h.image
 abbrev pub GraftsFrom : Accounts → Accounts → Type 0
 GraftsFrom s a = (q pt : ℕ) → GraftFrom (a.graft q pt) (s.graft q pt)
 
-graft_self : (x : Option GraftValue) → GraftFrom x x
+pub graft_self : (x : Option GraftValue) → GraftFrom x x
 graft_self None = tt
 graft_self (Some g) = refl
 

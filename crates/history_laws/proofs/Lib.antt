@@ -2,8 +2,11 @@ mod NeededPremises
 pub mod ActLemmas
 pub mod BesideLemmas
 pub mod ComeLemmas
+pub mod CountLemmas
+pub mod DropCountLemmas
 pub mod DropLemmas
 pub mod EffectLemmas
+pub mod EventDropLemmas
 pub mod FallenLemmas
 pub mod GoLemmas
 pub mod HinderLemmas
@@ -17,6 +20,7 @@ pub mod NoteLemmas
 pub mod OrderLemmas
 pub mod OutcomeLemmas
 pub mod PastLemmas
+pub mod PayLemmas
 pub mod RecordLemmas
 pub mod SettleDropLemmas
 pub mod ShapeLemmas
@@ -27,6 +31,7 @@ pub mod SoundStepLemmas
 pub mod StandLemmas
 pub mod SteadyLemmas
 pub mod StepMoveLemmas
+pub mod SumLemmas
 pub mod TickLemmas
 pub mod TotalLemmas
 pub mod UndoableLemmas

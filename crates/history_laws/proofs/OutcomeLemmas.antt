@@ -45,6 +45,7 @@ pub record FellAmong (ls : List Level) (d q pt : ℕ) (c : Config) : Type 0 wher
   pub point : pt ≡ level.point
   pub left : length c.levels ≡ d
   pub below : d < length ls
+  pub gone : is_some (c.now.accounts.graft q pt) ≡ false
 
 pub micro_fell : (v : World) (images : ImageTable) (p : ℕ) (w : Objects) (ls : List Level) (d q pt : ℕ) (cause : Cause) → (micro_on v images p w ls).said ≡ Micro.Dropped d q pt cause →
     FellAmong ls d q pt (micro_on v images p w ls).config
@@ -64,6 +65,7 @@ micro_fell v images p w (l ∷ ls) d q pt cause e =
       point = x.point;
       left = ap length x.levels ∙ answer_many l.point y.0 y.1 (levels_by l.owner r.effects ls) ∙ sym x.level;
       below = below_next d (length ls) (x.level ∙ levels_length l.owner r.effects ls);
+      gone = ap (λ i. is_some (r.config.now.accounts.graft i pt)) x.owner ∙ ap (λ i. is_some (r.config.now.accounts.graft l.owner i)) x.point ∙ x.gone;
     }
   where
     below_next : (d n : ℕ) → d ≡ n → d < suc n

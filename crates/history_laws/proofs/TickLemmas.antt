@@ -55,7 +55,7 @@ innermost_is (l ∷ ls) h = (length ls, refl, below_next (length ls))
     below_next n = omega arith
 
 -- a sound kernel with another clock is sound
-clock_sound : (m : Meaning) (k : Kernel) (n : ℕ) → IsSoundKernel m k → IsSoundKernel m (record k { clock = n })
+pub clock_sound : (m : Meaning) (k : Kernel) (n : ℕ) → IsSoundKernel m k → IsSoundKernel m (record k { clock = n })
 clock_sound m k n h =
     record {
       state = h.state;
