@@ -25,7 +25,7 @@ use Rattle.history_laws.proofs.InPlaceLemmas.{is_in, low_stands, caller_low}
 use Rattle.history_laws.proofs.MoveLemmas.{count_more, gave_counts, after_counts}
 use Rattle.history_laws.proofs.GoLemmas.{calls_left}
 use Rattle.history_laws.proofs.NoteLemmas.{once_most}
-use Rattle.history_laws.proofs.ComeLemmas.{GraftsFrom, from_stands}
+use Rattle.history_laws.proofs.GraftLemmas.{GraftsFrom, from_stands}
 use Rattle.history_laws.proofs.SoundCallLemmas.{in_graft, call_comes, call_has_come}
 use Rattle.history_laws.proofs.SteadyLemmas.{outermost_in}
 use Rattle.history_laws.proofs.SumLemmas.{sum_pairs, pairs_fall, pairs_one, pairs_none, pairs_few}

@@ -222,9 +222,9 @@ module _ (m : Meaning) (know : Known m) (stability : Stability m) where
   -- ---- an action of a tick
 
   -- any action leaves a sound kernel, and pays
-  record ActsWell (r u : Run) : Type 0 where
-    sound : IsSoundKernel m u.kernel
-    pays : PaysTo m r u
+  pub record ActsWell (r u : Run) : Type 0 where
+    pub sound : IsSoundKernel m u.kernel
+    pub pays : PaysTo m r u
 
   acts_self : (r : Run) → IsSoundKernel m r.kernel → ActsWell r r
   acts_self r sound = record { sound = sound; pays = same_most (note_count is_drop r.notes + drops_left m r.kernel) }
@@ -246,7 +246,7 @@ module _ (m : Meaning) (know : Known m) (stability : Stability m) where
           subst (λ x. ActsWell r (drop_call m p x (innermost (levels_of m r.kernel p)) (TimeOut b.object b.holder) r)) is
           (acts_drop r p (innermost (levels_of m r.kernel p)) (TimeOut b.object b.holder) sound whole (innermost_below (levels_of m r.kernel p)))
 
-  entry_acts : (r : Run) (e : Entry) (x : Option Blocker) → IsSoundKernel m r.kernel → HasWholeBlocks r.kernel.world r.blocks → ActsWell r (entry_action m e x r)
+  pub entry_acts : (r : Run) (e : Entry) (x : Option Blocker) → IsSoundKernel m r.kernel → HasWholeBlocks r.kernel.world r.blocks → ActsWell r (entry_action m e x r)
   entry_acts r e None sound whole = acts_self r sound
   entry_acts r e (Some b) sound whole = by_call b.call
     where

@@ -51,7 +51,7 @@ module _ (m : Meaning) (know : Known m) (stability : Stability m) where
   -- ---- steps
 
   -- a call with a level has some levels
-  some_levels : (r : Run) (p : ℕ) (c : Call) (ks : List Mark) → IsSoundKernel m r.kernel → r.kernel.call p ≡ Some c → c.marks ≡ Some ks → 1 ≤ length (levels_of m r.kernel p)
+  pub some_levels : (r : Run) (p : ℕ) (c : Call) (ks : List Mark) → IsSoundKernel m r.kernel → r.kernel.call p ≡ Some c → c.marks ≡ Some ks → 1 ≤ length (levels_of m r.kernel p)
   some_levels r p c ks sound is marked = by_trace (trace_of m r.kernel p (Some c)) (ap (λ x. config_in (trace_of m r.kernel p x)) is) (sound.runs p c ks is marked)
     where
       by_trace : (x : Option Trace) → config_of m r.kernel p ≡ config_in x → is_some x ≡ true → 1 ≤ length (levels_of m r.kernel p)
@@ -60,7 +60,7 @@ module _ (m : Meaning) (know : Known m) (stability : Stability m) where
           subst (λ x. 1 ≤ length (levels_in x)) (sym e) (call_comes m know.laws know.histories r.kernel sound p t.config e (in_graft m r.kernel p t.config e)).some
 
   -- a call that is blocked needs something
-  some_needs : (r : Run) (p : ℕ) (b : Blocker) → blocker m r.kernel p ≡ Some b → 1 ≤ length (needs m r.kernel p)
+  pub some_needs : (r : Run) (p : ℕ) (b : Blocker) → blocker m r.kernel p ≡ Some b → 1 ≤ length (needs m r.kernel p)
   some_needs r p b e = by_hindrance (first_hindrance (holds m r.kernel) r.kernel.objects.things.lock p (lock_user p (levels_of m r.kernel p)) (needs m r.kernel p)) refl e
     where
       some_of : (ns : List Need) (n : Need) → Contains ns n → 1 ≤ length ns
@@ -76,7 +76,7 @@ module _ (m : Meaning) (know : Known m) (stability : Stability m) where
           let i = hindered_is (holds m r.kernel) r.kernel.objects.things.lock p (lock_user p (levels_of m r.kernel p)) (needs m r.kernel p) h is in some_of (needs m r.kernel p) i.need i.among
 
   -- a call that has a level
-  level_is : (x : Option Call) → has_level x ≡ true → (c : Call) × (ks : List Mark) × (x ≡ Some c) × (c.marks ≡ Some ks)
+  pub level_is : (x : Option Call) → has_level x ≡ true → (c : Call) × (ks : List Mark) × (x ≡ Some c) × (c.marks ≡ Some ks)
   level_is None h = absurd cc
   level_is (Some c) h = by_marks c.marks refl h
     where

@@ -144,10 +144,10 @@ holder_holds m k p o mode x h =
 abbrev pub OneMode : List Need → Type 0
 OneMode ns = Each (λ (n : Need). wanted n.object ns ≡ n.mode) ns
 
-first_wanted : (n : Need) (ns : List Need) → wanted n.object (n ∷ ns) ≡ n.mode
+pub first_wanted : (n : Need) (ns : List Need) → wanted n.object (n ∷ ns) ≡ n.mode
 first_wanted n ns = ap (λ b. elim b as (λ _. Mode) [ true ↦ n.mode | false ↦ wanted n.object ns ]) (same_object_self n.object)
 
-later_wanted : (x n : Need) (ns : List Need) → same_object x.object n.object ≡ false → wanted n.object (x ∷ ns) ≡ wanted n.object ns
+pub later_wanted : (x n : Need) (ns : List Need) → same_object x.object n.object ≡ false → wanted n.object (x ∷ ns) ≡ wanted n.object ns
 later_wanted x n ns h = ap (λ b. elim b as (λ _. Mode) [ true ↦ x.mode | false ↦ wanted n.object ns ]) h
 
 three_modes : (a b c : Need) → same_object a.object b.object ≡ false → same_object a.object c.object ≡ false → same_object b.object c.object ≡ false → OneMode (a ∷ b ∷ c ∷ [])

@@ -24,7 +24,7 @@ use Rattle.history_laws.proofs.HoldLemmas.{AllOk}
 use Rattle.history_laws.proofs.FallenLemmas.{no_trace, marks_more}
 use Rattle.history_laws.proofs.MoveLemmas.{StandsAt}
 use Rattle.history_laws.proofs.OrderLemmas.{order_after}
-use Rattle.history_laws.proofs.ComeLemmas.{GraftsFrom, GraftFrom}
+use Rattle.history_laws.proofs.GraftLemmas.{GraftsFrom, GraftFrom}
 use Rattle.history_laws.proofs.InPlaceLemmas.{no_config}
 use Rattle.history_laws.proofs.SoundCallLemmas.{each_from}
 use Rattle.history_laws.proofs.SteadyLemmas.{moved}

@@ -7,14 +7,17 @@ pub mod DropCountLemmas
 pub mod DropLemmas
 pub mod EffectLemmas
 pub mod EventDropLemmas
+pub mod EventSoundLemmas
 pub mod FallenLemmas
 pub mod GoLemmas
+pub mod GraftLemmas
 pub mod HinderLemmas
 pub mod HoldLemmas
 pub mod InPlaceLemmas
 pub mod InverseLemmas
 pub mod KernelLemmas
 pub mod KernelStepLemmas
+pub mod ModeLemmas
 pub mod MoveLemmas
 pub mod NoteLemmas
 pub mod OrderLemmas

@@ -30,7 +30,8 @@ use Rattle.history_laws.proofs.DropLemmas.{fallen_levels_replay}
 use Rattle.history_laws.proofs.MoveLemmas.{StandsAt}
 use Rattle.history_laws.proofs.StandLemmas.{alike_disk}
 use Rattle.history_laws.proofs.StepMoveLemmas.{WhereCompleted, alike_lost, stands_on, completes, dropped_base, none_completes}
-use Rattle.history_laws.proofs.ComeLemmas.{GraftsFrom, removed_from, went_accounts}
+use Rattle.history_laws.proofs.ComeLemmas.{went_accounts}
+use Rattle.history_laws.proofs.GraftLemmas.{GraftsFrom, removed_from}
 use Rattle.history_laws.proofs.SoundCallLemmas.{contains_first, contains_later, each_from, InGraft, call_comes, call_works, call_has_come, call_sound}
 use Rattle.history_laws.proofs.BesideLemmas.{may_hold, own_ok, unblocked_ok}
 use Rattle.history_laws.proofs.KernelStepLemmas.{Known, loaded_from, replay_more, StaysSound, May, finish_sound, marks_sound, stay_sound}

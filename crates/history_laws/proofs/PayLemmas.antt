@@ -25,7 +25,8 @@ use Rattle.history_laws.proofs.InPlaceLemmas.{row_low, caller_low}
 use Rattle.history_laws.proofs.StandLemmas.{alike_disk}
 use Rattle.history_laws.proofs.MoveLemmas.{count_more, StandsAt, alike_self}
 use Rattle.history_laws.proofs.StepMoveLemmas.{WhereCompleted, alike_lost, stands_on}
-use Rattle.history_laws.proofs.ComeLemmas.{GraftsFrom, from_stands, graft_self, removed_from, went_accounts}
+use Rattle.history_laws.proofs.ComeLemmas.{went_accounts}
+use Rattle.history_laws.proofs.GraftLemmas.{GraftsFrom, from_stands, graft_self, removed_from}
 use Rattle.history_laws.proofs.SoundCallLemmas.{in_graft, call_comes, call_has_come, call_sound}
 use Rattle.history_laws.proofs.KernelStepLemmas.{Known}
 use Rattle.history_laws.proofs.OutcomeLemmas.{micro_fell, drops_level, IsLikely, own_graft, own_config}

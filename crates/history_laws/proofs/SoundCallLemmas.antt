@@ -26,7 +26,8 @@ use Rattle.kernel_laws.specs.Soundness.{AreGraftsWork, found_by, IsAskedAt, Work
 use Rattle.kernel_laws.specs.Undoing.{InversesUndo, ChangesAreOfOneObject}
 use Rattle.history_laws.proofs.RecordLemmas.{AreHeldBy, FoundByUndoing}
 use Rattle.history_laws.proofs.ShapeLemmas.{AreGrafts}
-use Rattle.history_laws.proofs.ComeLemmas.{from_stands, HasCome, Comes, replay_comes}
+use Rattle.history_laws.proofs.ComeLemmas.{HasCome, Comes, replay_comes}
+use Rattle.history_laws.proofs.GraftLemmas.{from_stands}
 use Rattle.history_laws.proofs.InPlaceLemmas.{config_is, no_config, call_undoable}
 
 -- ---- lists

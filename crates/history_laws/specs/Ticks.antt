@@ -1,14 +1,15 @@
--- What keeps kernels sound, and when a tick ends.
-use Rattle.std.specs.Prelude.{◌≡◌, ℕ, ◌<◌, true, length, Some, None, Contains}
+-- What keeps kernels sound, and that a tick ends.
+use Rattle.std.specs.Prelude.{◌≡◌, ℕ, ◌<◌, Bool, true, List, length, Some, None, Contains}
 use Rattle.kernel_model.specs.declared.Cause.{Cause}
+use Rattle.kernel_model.specs.declared.Event.{Event}
 use Rattle.kernel_model.specs.declared.Need.{Need}
-use Rattle.kernel_model.specs.World.{World}
+use Rattle.kernel_model.specs.World.{World, Blocks}
 use Rattle.kernel_model.specs.Objects.{Objects}
 use Rattle.kernel_model.specs.Meaning.{Meaning, Stage}
-use Rattle.kernel_model.specs.Kernel.{Call, Run}
+use Rattle.kernel_model.specs.Kernel.{Call, Kernel, Run}
 use Rattle.kernel_model.specs.Blocking.{levels_of, blocker}
 use Rattle.kernel_model.specs.Settle.{step, settled}
-use Rattle.kernel_model.specs.Events.{wanted, expired, drop_call, tick_event}
+use Rattle.kernel_model.specs.Events.{wanted, expired, drop_call, tick_event, event}
 use Rattle.kernel_model.specs.Claims.{Stability}
 use Rattle.kernel_model.specs.Sound.{IsSoundKernel, IsAtRest, HasWholeBlocks}
 
@@ -35,3 +36,9 @@ abbrev pub TicksEnd : Meaning → Type 0
 TicksEnd m =
     Stability m → NeedsHaveOneMode m → (r : Run) (number : ℕ) → IsSoundKernel m r.kernel → HasWholeBlocks r.kernel.world r.blocks → IsAtRest m r.kernel →
     expired (tick_event m number r).kernel (tick_event m number r).kernel.order ≡ None
+
+-- an event from a sound kernel over whole blocks leaves a sound kernel, where replays stay alike
+abbrev pub StableEventsStaySound : Meaning → Type 0
+StableEventsStaySound m =
+    Stability m → (k : Kernel) (blocks : Blocks) (number : ℕ) (e : Event) (io : List Bool) → IsSoundKernel m k → HasWholeBlocks k.world blocks →
+    IsSoundKernel m (event m k blocks number e io).kernel

@@ -13,5 +13,6 @@ fn the_system_calls_have_the_laws(_rt: HostRuntime) {
     notes::calls_leave_few_drops::<PlainRules>();
     notes::stable_events_leave_few_notes::<PlainRules>();
     ticks::stable_kernels_stay_sound::<PlainRules>();
+    ticks::stable_events_stay_sound::<PlainRules>();
     ticks::ticks_end::<PlainRules>();
 }
