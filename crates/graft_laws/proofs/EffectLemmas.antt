@@ -143,7 +143,7 @@ affected_then v w x y ks js is h k =
     }
 
 -- what level 0 holds is held
-outer_held : (ls : List Level) (o : Object) → is_held (outermost_touched ls o) ≡ true → is_held_in ls o ≡ true
+pub outer_held : (ls : List Level) (o : Object) → is_held (outermost_touched ls o) ≡ true → is_held_in ls o ≡ true
 outer_held [] o h = absurd cc
 outer_held (l ∷ []) o h = or_left (is_held (l.touched o)) false h
 outer_held (l ∷ k ∷ ls) o h = or_right (is_held (l.touched o)) (is_held_in (k ∷ ls) o) (outer_held (k ∷ ls) o h)

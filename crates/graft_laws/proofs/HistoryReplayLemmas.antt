@@ -50,7 +50,7 @@ shape_begun l ls w went after (Falls g h) e more = not_going (sym g ∙ e)
 -- ---- where a mark leads, its grafts stood before
 
 -- effects put no graft in place
-effects_stood : (q : ℕ) (es : List Effect) (c d : Config) → effects_on q es c ≡ Some d → StandsFrom c.now.accounts d.now.accounts × AreGrown d.levels c.levels
+pub effects_stood : (q : ℕ) (es : List Effect) (c d : Config) → effects_on q es c ≡ Some d → StandsFrom c.now.accounts d.now.accounts × AreGrown d.levels c.levels
 effects_stood q [] c d h = subst (λ (x : Config). StandsFrom c.now.accounts x.now.accounts × AreGrown x.levels c.levels) (some_is c d h) (λ r pu e. e, grown_self c.levels)
   where
     some_is : (c d : Config) → Some c ≡ Some d → c ≡ d

@@ -19,3 +19,6 @@ pub mod AlikeLemmas
 pub mod BeginningLemmas
 pub mod DropReplayLemmas
 pub mod PlainNeedsLemmas
+pub mod AlikeEffectLemmas
+pub mod AlikeMarkLemmas
+pub mod AlikeHistoryLemmas

@@ -1,7 +1,7 @@
 //! Laws of where histories lead. A call of one brings its statement into a proof.
 
 ghost use Rattle.kernel_model.specs.Pieces.{plain};
-ghost use Rattle.graft_laws.specs.Histories.{NeedsGraftsExclusively, BeginningsReplay, InstructionsReplay, HistoriesReplay, DropsReplay};
+ghost use Rattle.graft_laws.specs.Histories.{NeedsGraftsExclusively, BeginningsReplay, InstructionsReplay, HistoriesReplay, DropsReplay, HistoriesAlike};
 
 use kernel_model::Rules;
 
@@ -28,4 +28,9 @@ pub fn histories_replay<R: Rules>()
 /// And after the drop of any level; with level 0 all but accounts and grafts is as in the state.
 pub fn drops_replay()
     ensures { DropsReplay }
+{}
+
+/// A history leads to the like from another state that agrees on what the call holds in the end.
+pub fn histories_alike<R: Rules>()
+    ensures { HistoriesAlike R.meaning }
 {}

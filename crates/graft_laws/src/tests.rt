@@ -7,4 +7,5 @@ use plain_rules::PlainRules;
 fn the_system_calls_have_the_laws(_rt: HostRuntime) {
     histories::beginnings_replay::<PlainRules>();
     histories::histories_replay::<PlainRules>();
+    histories::histories_alike::<PlainRules>();
 }
