@@ -1,22 +1,21 @@
 -- Effects that are made again on two graft calls that are alike.
-use Rattle.std.specs.Prelude.{◌≡◌, ℕ, suc, ◌≤◌, ◌==◌, ◌&&◌, ◌||◌, not, Bool, true, false, List, [], ◌∷◌, length, Option, Some, None, is_some}
+use Rattle.std.specs.Prelude.{◌≡◌, ℕ, ◌≤◌, ◌==◌, ◌&&◌, not, Bool, true, List, [], ◌∷◌, Option, Some, None, is_some}
 use Rattle.std.specs.List.{AllByRecursion as Each}
 use Rattle.std.proofs.Common.{arith, refl, subst, sym, ap, ◌∙◌}
 use Rattle.std.proofs.lemmas.Bool.{and_parts}
 use Rattle.std.proofs.lemmas.Bool.Decides.{nat_tests}
-use Rattle.kernel_model.specs.declared.Held.{Held}
 use Rattle.kernel_model.specs.declared.Kind.{Kind}
 use Rattle.kernel_model.specs.declared.Object.{Object}
 use Rattle.kernel_model.specs.declared.Object.TheVariants.{Graft, Acct}
-use Rattle.kernel_model.specs.Objects.{Objects, Accounts, Things, AcctValue, GraftValue, SameAt, with_accounts}
+use Rattle.kernel_model.specs.Objects.{Accounts, AcctValue, GraftValue, SameAt}
 use Rattle.kernel_model.specs.Charges.{funds, payer_balance, charge, removed}
-use Rattle.kernel_model.specs.Locks.{Touched, is_held}
+use Rattle.kernel_model.specs.Locks.{is_held}
 use Rattle.kernel_model.specs.Levels.{Level, Config, Effect, Asked, Charged, Removed, touch_outermost, outermost_touched}
 use Rattle.kernel_model.specs.History.{is_found, config_if, with_accounts_of, effect, effects_on}
 use Rattle.kernel_model.specs.Alike.{LevelsAlike, is_held_in}
 use Rattle.graft_laws.proofs.ObjectLemmas.{charge_keeps, remove_keeps, same_thing}
 use Rattle.graft_laws.proofs.LevelsAlikeLemmas.{touch_alike}
-use Rattle.graft_laws.proofs.GrownLemmas.{AreGrown, grown_held, grown_touch}
+use Rattle.graft_laws.proofs.GrownLemmas.{grown_held}
 use Rattle.graft_laws.proofs.StandLemmas.{AllStand}
 use Rattle.graft_laws.proofs.EffectLemmas.{outer_held}
 use Rattle.graft_laws.proofs.MarkLemmas.{effects_split, charged_split, removed_split}

@@ -1,34 +1,34 @@
 -- A history from two states that agree on what the call holds in the end.
-use Rattle.std.specs.Prelude.{◌≡◌, ℕ, zero, suc, ◌+◌, ◌<◌, ◌≤◌, ◌==◌, ◌||◌, Bool, true, false, cond, List, [], ◌∷◌, ◌++◌, length, take, slice_get, Contains, Option, Some, None, is_some}
-use Rattle.std.proofs.Common.{arith, refl, subst, sym, ap, ◌∙◌, inl, inr}
+use Rattle.std.specs.Prelude.{◌≡◌, ℕ, suc, ◌+◌, ◌<◌, ◌≤◌, ◌||◌, true, false, List, [], ◌∷◌, length, slice_get, Option, Some, None}
+use Rattle.std.proofs.Common.{arith, refl, subst, sym, ap, ◌∙◌}
 use Rattle.std.proofs.lemmas.List.{take_all}
 use Rattle.kernel_model.specs.declared.Held.{Held}
-use Rattle.kernel_model.specs.declared.Need.{Need}
 use Rattle.kernel_model.specs.declared.Object.{Object}
-use Rattle.kernel_model.specs.declared.Object.TheVariants.{Graft, Acct}
+use Rattle.kernel_model.specs.declared.Object.TheVariants.{Graft}
 use Rattle.kernel_model.specs.declared.Point.{Point}
 use Rattle.kernel_model.specs.World.{World, ImageTable}
-use Rattle.kernel_model.specs.Objects.{Objects, Accounts, Things, GraftValue, SameAt, SameThing, same_object}
+use Rattle.kernel_model.specs.Objects.{Objects, Things, GraftValue, SameAt}
 use Rattle.kernel_model.specs.Machine.{first_machine}
 use Rattle.kernel_model.specs.Meaning.{Meaning, Stage}
 use Rattle.kernel_model.specs.Policies.{default_of, or_zero}
 use Rattle.kernel_model.specs.Locks.{Touched, is_held, touch_all, untouched}
-use Rattle.kernel_model.specs.Levels.{Level, Config, Effect, Outcome, is_going_on, image_of, body_in, base_of, new_level, outermost_touched, answer_innermost}
+use Rattle.kernel_model.specs.Levels.{Level, Config, Effect, is_going_on, image_of, body_in, base_of, new_level, answer_innermost}
 use Rattle.kernel_model.specs.GraftStep.{micro, micro_on}
-use Rattle.kernel_model.specs.History.{Mark, Stepped, Fell, Past, Trace, with_effects, first_trace, trace_after, trace_fallen, level_ends, outer_pasts, effects_on, owner_among, mark_on, marks_on, begin, begin_at, begin_with, replay}
-use Rattle.kernel_model.specs.Alike.{LevelsAlike, ConfigsAlike, AgreeOn, is_held_in, is_needed}
+use Rattle.kernel_model.specs.History.{Mark, Stepped, Fell, Trace, with_effects, first_trace, trace_after, trace_fallen, level_ends, outer_pasts, effects_on, owner_among, mark_on, marks_on, begin, begin_at, begin_with, replay}
+use Rattle.kernel_model.specs.Alike.{LevelsAlike, ConfigsAlike, AgreeOn, is_held_in}
 use Rattle.kernel_model.specs.Laws.{Laws, IsStanding}
 use Rattle.graft_laws.specs.Alike.{OutcomesAlike}
-use Rattle.graft_laws.specs.Histories.{NeedsGraftsExclusively, GraftsStand, IsReplayed, TracesAlike, HistoriesAlike}
-use Rattle.graft_laws.proofs.PointLemmas.{or_cases, or_left, or_right}
+use Rattle.graft_laws.specs.Histories.{NeedsGraftsExclusively, IsReplayed, TracesAlike, HistoriesAlike}
+use Rattle.graft_laws.proofs.PointLemmas.{or_left}
 use Rattle.graft_laws.proofs.HoldLemmas.{outermost_held, touch_all_gives}
 use Rattle.graft_laws.proofs.LevelsAlikeLemmas.{length_alike}
 use Rattle.graft_laws.proofs.GrownLemmas.{AreGrown, grown_held, grown_answer}
-use Rattle.graft_laws.proofs.TurnLemmas.{IsNew, levels_turn, not_going}
+use Rattle.graft_laws.proofs.TurnParts.{IsNew, not_going}
+use Rattle.graft_laws.proofs.TurnLemmas.{levels_turn}
 use Rattle.graft_laws.proofs.StandLemmas.{AllStand}
-use Rattle.graft_laws.proofs.MarkLemmas.{HasFallen, stepped_split, fell_split, marks_split, replay_split, stepped_join, fell_join, marks_join, replay_join}
+use Rattle.graft_laws.proofs.MarkLemmas.{stepped_split, fell_split, marks_split, replay_split, stepped_join, fell_join, marks_join, replay_join}
 use Rattle.graft_laws.proofs.ReplayLemmas.{instructions_replay}
-use Rattle.graft_laws.proofs.HistoryReplayLemmas.{HasBegun, shape_begun, effects_stood, mark_replays, marks_stood}
+use Rattle.graft_laws.proofs.HistoryReplayLemmas.{shape_begun, effects_stood, mark_replays, marks_stood}
 use Rattle.graft_laws.proofs.BeginningLemmas.{all_stand, beginnings_stand}
 use Rattle.graft_laws.proofs.AlikeMarkLemmas.{alike_from, stand_other, went_alike, went_holds, after_alike, FellAlike, fell_alike}
 
@@ -112,8 +112,7 @@ module _ (v : World) (images : ImageTable) (p : ℕ) (s u : Objects) where
       let on : is_going_on q.said ≡ true = sym (ap is_going_on both.said) ∙ went in
       let after = instructions_replay v images p s before first went in
       let other = instructions_replay v images p u d second on in
-      let owner : begun.new.owner ≡ owner_among q.config.levels = ap owner_among (sym begun.is) ∙ owner_alike r.config.levels q.config.levels both.config.levels in
-      (
+      let owner : begun.new.owner ≡ owner_among q.config.levels = ap owner_among (sym begun.is) ∙ owner_alike r.config.levels q.config.levels both.config.levels in (
         both,
         subst (λ i. FellAlike v c (effects_on i es q.config)) owner
             (fell_alike v s u r.config.now begun.new begun.asker begun.rest es c q.config (subst (λ xs. IsReplayed v s (record { now = r.config.now; levels = xs })) begun.is after) other

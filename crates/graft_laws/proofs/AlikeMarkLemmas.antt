@@ -1,41 +1,38 @@
 -- A mark on two traces that are alike leads to traces that are alike.
-use Rattle.std.specs.Prelude.{◌≡◌, ℕ, suc, ◌+◌, ◌<◌, ◌≤◌, ◌==◌, ◌||◌, Bool, true, false, cond, List, [], ◌∷◌, length, Contains, Option, Some, None, is_some}
-use Rattle.std.specs.List.{AllByRecursion as Each}
+use Rattle.std.specs.Prelude.{◌≡◌, ℕ, suc, ◌+◌, ◌<◌, ◌≤◌, ◌||◌, Bool, true, false, List, [], ◌∷◌, length, Option, Some, is_some}
 use Rattle.std.proofs.Common.{arith, refl, subst, sym, ap, ◌∙◌, inl, inr}
 use Rattle.std.proofs.lemmas.Bool.{cases_Bool}
 use Rattle.kernel_model.specs.declared.Held.{Held}
 use Rattle.kernel_model.specs.declared.Object.{Object}
 use Rattle.kernel_model.specs.declared.Object.TheVariants.{Graft, Acct}
 use Rattle.kernel_model.specs.World.{World, ImageTable}
-use Rattle.kernel_model.specs.Objects.{Objects, Accounts, Things, SameAt, SameThing, with_accounts}
-use Rattle.kernel_model.specs.Machine.{Machine, Done, Called, Returned, Trapped, Outside, PastEnd, seg_step}
+use Rattle.kernel_model.specs.Objects.{Objects, SameAt, with_accounts}
+use Rattle.kernel_model.specs.Machine.{Done, Called, Returned, Trapped, Outside, PastEnd, seg_step}
 use Rattle.kernel_model.specs.Policies.{kind_of, default_of, valid}
 use Rattle.kernel_model.specs.declared.Kind.TheVariants.{Steps}
 use Rattle.kernel_model.specs.Charges.{charge}
-use Rattle.kernel_model.specs.Locks.{is_held, is_held_exclusively}
+use Rattle.kernel_model.specs.Locks.{is_held}
 use Rattle.kernel_model.specs.Levels.{Level, Config, Effect, Outcome, is_going_on, code_of, outermost_touched, answer_innermost}
-use Rattle.kernel_model.specs.GraftStep.{micro, micro_on, charged_step, is_spent, after_machine, after_return, next_needs}
-use Rattle.kernel_model.specs.History.{Mark, Stepped, Fell, Past, Trace, pasts_after, with_effects, trace_after, trace_fallen, level_ends, outer_pasts, effects_on, owner_among, mark_on}
+use Rattle.kernel_model.specs.GraftStep.{micro, micro_on, charged_step, is_spent, after_machine, after_return}
+use Rattle.kernel_model.specs.History.{Trace, pasts_after, with_effects, trace_after, level_ends, effects_on}
 use Rattle.kernel_model.specs.InPlace.{is_changed_in}
-use Rattle.kernel_model.specs.Alike.{LevelsAlike, ConfigsAlike, is_held_in, is_needed}
+use Rattle.kernel_model.specs.Alike.{LevelsAlike, ConfigsAlike, is_held_in}
 use Rattle.kernel_laws.proofs.LevelLemmas.{each_from}
-use Rattle.graft_laws.specs.Alike.{point_objects, answer_objects, AreHeldBy, AsksAreHeld, OutcomesAlike}
+use Rattle.graft_laws.specs.Alike.{point_objects, AsksAreHeld, OutcomesAlike}
 use Rattle.graft_laws.specs.Histories.{IsReplayed, TracesAlike}
 use Rattle.graft_laws.proofs.ObjectLemmas.{same_thing}
-use Rattle.graft_laws.proofs.PointLemmas.{AreSame, held_same, default_same, valid_same, answer_of_point, or_cases, or_right}
+use Rattle.graft_laws.proofs.PointLemmas.{AreSame, held_same, default_same, answer_of_point, or_right}
 use Rattle.graft_laws.proofs.HoldLemmas.{changed_held, outermost_held, outermost_changed}
 use Rattle.graft_laws.proofs.LevelsAlikeLemmas.{length_alike, held_alike, answer_alike}
 use Rattle.graft_laws.proofs.AlikeLemmas.{IsAnsweredAlike}
 use Rattle.graft_laws.proofs.ConfigAlikeLemmas.{kept_alike, asked_alike, valid_alike, instruction_alike}
-use Rattle.graft_laws.proofs.GrownLemmas.{AreGrown, grown_held, grown_answer, grown_then}
-use Rattle.graft_laws.proofs.TurnLemmas.{IsNew, levels_turn, not_going}
+use Rattle.graft_laws.proofs.GrownLemmas.{AreGrown, grown_held, grown_answer}
+use Rattle.graft_laws.proofs.TurnParts.{IsNew, not_going}
+use Rattle.graft_laws.proofs.TurnLemmas.{levels_turn}
 use Rattle.graft_laws.proofs.ShapeLemmas.{contrary, shape_held}
 use Rattle.graft_laws.proofs.StandLemmas.{AllStand}
 use Rattle.graft_laws.proofs.EffectLemmas.{same_then, same_back, effects_lead}
-use Rattle.graft_laws.proofs.AlikeEffectLemmas.{LeadsAlike, stand_alike, effects_alike}
-use Rattle.graft_laws.proofs.MarkLemmas.{HasFallen, stepped_split, fell_split, stepped_join, fell_join}
-use Rattle.graft_laws.proofs.ReplayLemmas.{instructions_replay}
-use Rattle.graft_laws.proofs.HistoryReplayLemmas.{HasBegun, shape_begun, mark_replays}
+use Rattle.graft_laws.proofs.AlikeEffectLemmas.{stand_alike, effects_alike}
 
 -- ---- states
 

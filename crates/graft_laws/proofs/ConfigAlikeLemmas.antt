@@ -26,7 +26,8 @@ use Rattle.graft_laws.proofs.HoldLemmas.{outermost_held}
 use Rattle.graft_laws.proofs.LevelsAlikeLemmas.{length_alike}
 use Rattle.graft_laws.proofs.AlikeLemmas.{AreSameOutcomes, DefaultsAlike, IsAlike, IsAnsweredAlike, drop_same, levels_same}
 use Rattle.graft_laws.proofs.GrownLemmas.{AreGrown, grown_self, grown_asks, grown_answer_held}
-use Rattle.graft_laws.proofs.TurnLemmas.{Shape, Goes, Begins, Joins, Ends, Falls, levels_turn}
+use Rattle.graft_laws.proofs.TurnParts.{Shape, Goes, Begins, Joins, Ends, Falls}
+use Rattle.graft_laws.proofs.TurnLemmas.{levels_turn}
 
 -- ---- what levels found
 

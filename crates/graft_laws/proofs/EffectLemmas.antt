@@ -22,7 +22,7 @@ use Rattle.kernel_laws.proofs.LevelLemmas.{KeepOn, keep_self, keep_touch, keep_t
 use Rattle.graft_laws.proofs.PointLemmas.{or_right, or_left}
 use Rattle.graft_laws.proofs.HoldLemmas.{touch_outermost_from, touch_outermost_changed, touch_outermost_outer, outermost_changed}
 use Rattle.graft_laws.proofs.GrownLemmas.{AreGrown, grown_self, grown_then, grown_touch, grown_changed, grown_outermost, grown_unchanged}
-use Rattle.graft_laws.proofs.TurnLemmas.{StandsFrom, charged_stood, removed_stood}
+use Rattle.graft_laws.proofs.TurnParts.{StandsFrom, charged_stood, removed_stood}
 use Rattle.graft_laws.proofs.MarkLemmas.{effects_split, charged_split, removed_split}
 
 -- ---- the same value

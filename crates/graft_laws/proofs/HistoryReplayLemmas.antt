@@ -14,7 +14,8 @@ use Rattle.graft_laws.specs.Histories.{IsReplayed}
 use Rattle.graft_laws.proofs.PointLemmas.{or_right}
 use Rattle.graft_laws.proofs.HoldLemmas.{outermost_changed}
 use Rattle.graft_laws.proofs.GrownLemmas.{AreGrown, grown_self, grown_answer, grown_touch, grown_then, grown_length}
-use Rattle.graft_laws.proofs.TurnLemmas.{Shape, Goes, Begins, Joins, Ends, Falls, IsNew, StandsFrom, charged_stood, removed_stood, levels_turn, not_going}
+use Rattle.graft_laws.proofs.TurnParts.{Shape, Goes, Begins, Joins, Ends, Falls, IsNew, StandsFrom, charged_stood, removed_stood, not_going}
+use Rattle.graft_laws.proofs.TurnLemmas.{levels_turn}
 use Rattle.graft_laws.proofs.StandLemmas.{AllStand, stand_grown, stand_from, micro_stands}
 use Rattle.graft_laws.proofs.EffectLemmas.{Affected, effects_lead}
 use Rattle.graft_laws.proofs.ReplayLemmas.{instructions_replay, fallen_replays}

@@ -8,6 +8,7 @@ pub mod RangeLemmas
 mod NeededPremises
 pub mod CalledLemmas
 pub mod GrownLemmas
+pub mod TurnParts
 pub mod TurnLemmas
 pub mod ShapeLemmas
 pub mod StandLemmas
@@ -22,3 +23,7 @@ pub mod PlainNeedsLemmas
 pub mod AlikeEffectLemmas
 pub mod AlikeMarkLemmas
 pub mod AlikeHistoryLemmas
+pub mod HolderLemmas
+pub mod CommitLemmas
+pub mod StepCommitLemmas
+pub mod StabilityLemmas

@@ -1,5 +1,5 @@
 -- Premises of the laws that can't be left out: for each the smallest example in which the law would be false.
-use Rattle.std.specs.Prelude.{◌≡◌, ℕ, ◌==◌, ◌&&◌, false, cond, List, [], ◌∷◌, Option, Some, None}
+use Rattle.std.specs.Prelude.{◌≡◌, ℕ, ◌==◌, ◌&&◌, false, cond, List, [], ◌∷◌, length, Option, Some, None}
 use Rattle.std.proofs.Common.{refl}
 use Rattle.kernel_model.specs.declared.Cause.{Cause}
 use Rattle.kernel_model.specs.declared.Cause.TheVariants.{RefusedAnswer}
@@ -14,6 +14,12 @@ use Rattle.kernel_model.specs.Locks.{touch, untouched}
 use Rattle.kernel_model.specs.Opening.{opening_things}
 use Rattle.kernel_model.specs.Levels.{Level, Config, Charged, drop_level}
 use Rattle.kernel_model.specs.GraftStep.{micro}
+use Rattle.kernel_model.specs.Meaning.{stage}
+use Rattle.kernel_model.specs.Kernel.{Kernel}
+use Rattle.kernel_model.specs.Blocking.{config_of}
+use Rattle.kernel_model.specs.Settle.{step}
+use Rattle.kernel_model.specs.Pieces.{plain}
+use Rattle.kernel_model.specs.declared.SysCall.TheVariants.{Yield, Spawn}
 use Rattle.kernel_model.specs.Charges.{funds}
 use Rattle.kernel_model.specs.History.{effect}
 use Rattle.kernel_model.specs.InPlace.{is_changed_in}
@@ -134,3 +140,28 @@ steps_left (Some c) = funds c.now.accounts 0 1 Steps
 shared_graft_is_charged : (steps_left (effect 0 (Charged 1 Steps) shares_graft) ≡ 9) × (is_changed_in shares_graft.levels (Graft 0 1) ≡ false)
 unfolding same_object
 shared_graft_is_charged = (refl, refl)
+
+-- ---- calls beside each other
+
+-- process 0's slice is asked of its graft, which has begun, and process 1 is about to spawn
+abbrev two_calls : Kernel
+two_calls =
+    record {
+      world = small_world;
+      images = image_of_one (instr Ret 0);
+      objects = with_grafts (with_living (0 ∷ 1 ∷ []));
+      clock = 0;
+      call = λ p. cond (p == 0) (Some (record { number = 1; stage = stage Yield 1; marks = Some [] }))
+          (cond (p == 1) (Some (record { number = 2; stage = stage Spawn 0; marks = None })) None);
+      order = [];
+    }
+
+-- how many processes a call's graft sees
+abbrev seen_processes : Option Config → ℕ
+seen_processes None = 0
+seen_processes (Some c) = length c.now.things.queue
+
+-- the spawn is blocked by the graft call, which holds the queue; a step of it would change what that call holds
+blocked_step_changes_held : (seen_processes (config_of plain two_calls 0) ≡ 2)
+    × (seen_processes (config_of plain (step plain 1 (record { kernel = two_calls; blocks = λ b. []; notes = []; io = [] })).kernel 0) ≡ 3)
+blocked_step_changes_held = (refl, refl)

@@ -14,7 +14,7 @@ use Rattle.graft_laws.specs.Histories.{outside_of}
 use Rattle.graft_laws.proofs.PointLemmas.{or_cases, or_left, or_right}
 use Rattle.graft_laws.proofs.HoldLemmas.{exclusive_is, outermost_inside}
 use Rattle.graft_laws.proofs.GrownLemmas.{GrowsFrom, AreGrown, grown_self, grown_held, grown_changed, grown_outermost, grown_unchanged}
-use Rattle.graft_laws.proofs.TurnLemmas.{Shape, Goes, Begins, Joins, Ends, Falls, not_going}
+use Rattle.graft_laws.proofs.TurnParts.{Shape, Goes, Begins, Joins, Ends, Falls, not_going}
 
 -- a test doesn't pass and fail
 pub contrary : {A : Type 0} → true ≡ false → A

@@ -3,5 +3,6 @@
 
 pub mod alike;
 pub mod histories;
+pub mod stability;
 #[cfg(test)]
 mod tests;

@@ -1,6 +1,6 @@
 //! Each law over every table of calls, at the table of the system calls.
 
-use crate::histories;
+use crate::{histories, stability};
 use plain_rules::PlainRules;
 
 #[test]
@@ -8,4 +8,6 @@ fn the_system_calls_have_the_laws(_rt: HostRuntime) {
     histories::beginnings_replay::<PlainRules>();
     histories::histories_replay::<PlainRules>();
     histories::histories_alike::<PlainRules>();
+    stability::commits_what_is_taken::<PlainRules>();
+    stability::calls_are_stable::<PlainRules>();
 }
