@@ -27,3 +27,7 @@ pub mod HolderLemmas
 pub mod CommitLemmas
 pub mod StepCommitLemmas
 pub mod StabilityLemmas
+pub mod OuterLemmas
+pub mod PastLemmas
+pub mod RootLemmas
+pub mod FallLemmas

@@ -1,6 +1,7 @@
 //! Laws of where histories lead. A call of one brings its statement into a proof.
 
 ghost use Rattle.kernel_model.specs.Pieces.{plain};
+ghost use Rattle.graft_laws.specs.Falls.{FallsReplay};
 ghost use Rattle.graft_laws.specs.Histories.{NeedsGraftsExclusively, BeginningsReplay, InstructionsReplay, HistoriesReplay, DropsReplay, HistoriesAlike};
 
 use kernel_model::Rules;
@@ -33,4 +34,9 @@ pub fn drops_replay()
 /// A history leads to the like from another state that agrees on what the call holds in the end.
 pub fn histories_alike<R: Rules>()
     ensures { HistoriesAlike R.meaning }
+{}
+
+/// The history after the drop of a level above 0 leads to the config that the drop gave.
+pub fn falls_replay<R: Rules>()
+    ensures { FallsReplay R.meaning }
 {}

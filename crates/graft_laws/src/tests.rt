@@ -8,6 +8,7 @@ fn the_system_calls_have_the_laws(_rt: HostRuntime) {
     histories::beginnings_replay::<PlainRules>();
     histories::histories_replay::<PlainRules>();
     histories::histories_alike::<PlainRules>();
+    histories::falls_replay::<PlainRules>();
     stability::commits_what_is_taken::<PlainRules>();
     stability::calls_are_stable::<PlainRules>();
 }
