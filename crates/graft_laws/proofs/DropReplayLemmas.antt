@@ -33,6 +33,7 @@ use Rattle.graft_laws.specs.Alike.{AsksAreHeld}
 pub record DropsAt (v : World) (s : Things) (w : Objects) (ls : List Level) (n : ℕ) (cause : Cause) : Type 0 where
   pub level : Level
   pub rest : List Level
+  pub number : length rest ≡ n
   pub is : drop_level v w ls n cause ≡ drop_innermost v w level rest cause
   pub among : Contains ls level
   pub found : FoundAsIn s (level ∷ rest)
@@ -50,6 +51,7 @@ drops_at v s w (l ∷ ls) n cause low found asks = elim (cases_Bool (length ls =
   | inl top ↦ record {
     level = l;
     rest = ls;
+    number = same_number (length ls) n top;
     is = ap (λ b. elim b as (λ _. Outcome) [ true ↦ drop_innermost v w l ls cause | false ↦ drop_level v w ls n cause ]) top;
     among = (0, below_suc (length ls), refl);
     found = found;
@@ -62,6 +64,7 @@ drops_at v s w (l ∷ ls) n cause low found asks = elim (cases_Bool (length ls =
       let k = drops_at v s w ls n cause (lower n (length ls) low inner) found.1 (asks_of_rest l ls asks) in record {
         level = k.level;
         rest = k.rest;
+        number = k.number;
         is = ap (λ b. elim b as (λ _. Outcome) [ true ↦ drop_innermost v w l ls cause | false ↦ drop_level v w ls n cause ]) inner ∙ k.is;
         among = Contains-append_right (l ∷ []) ls k.level k.among;
         found = k.found;
@@ -72,6 +75,9 @@ drops_at v s w (l ∷ ls) n cause low found asks = elim (cases_Bool (length ls =
       }
 ]
   where
+    same_number : (a b : ℕ) → (a == b) ≡ true → a ≡ b
+    same_number a b e = grind (arith, nat_tests)
+
     below_suc : (n : ℕ) → 0 < suc n
     below_suc n = omega arith
 

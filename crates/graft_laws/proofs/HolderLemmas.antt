@@ -146,7 +146,7 @@ none_finds test (q ∷ qs) h = by_test (test q) refl h (none_finds test qs)
     by_test false e h rest = let k = rw e at h in (e, rest k)
 
 -- nobody hinders a need
-each_free : (locks : LockTable) (users : ℕ → Option ℕ) (p w : ℕ) (ns : List Need) → first_hindrance locks users p w ns ≡ None →
+pub each_free : (locks : LockTable) (users : ℕ → Option ℕ) (p w : ℕ) (ns : List Need) → first_hindrance locks users p w ns ≡ None →
     Each (λ (n : Need). lowest_holder locks p n.object n.mode ≡ None) ns
 each_free locks users p w [] h = tt
 each_free locks users p w (n ∷ ns) h = by_holder (lowest_holder locks p n.object n.mode) refl h (each_free locks users p w ns)
@@ -163,7 +163,7 @@ each_free locks users p w (n ∷ ns) h = by_holder (lowest_holder locks p n.obje
     by_holder (Some q) e h rest = absurd cc
 
 -- a level of another process doesn't conflict
-no_conflict : (locks : LockTable) (p q d : ℕ) (o : Object) (mode : Mode) → lowest_holder locks q o mode ≡ None → p < 16 → p ≢ q → d < 4 → conflicts (locks p d o) mode ≡ false
+pub no_conflict : (locks : LockTable) (p q d : ℕ) (o : Object) (mode : Mode) → lowest_holder locks q o mode ≡ None → p < 16 → p ≢ q → d < 4 → conflicts (locks p d o) mode ≡ false
 no_conflict locks p q d o mode h plow ne dlow =
     let each = none_finds (λ i. not (i == q) && hinders o mode (locks i)) processes h in
     let own = subst (λ i. (not (i == q) && hinders o mode (locks i)) ≡ false) (zero_plus p) (each_counted (λ i. (not (i == q) && hinders o mode (locks i)) ≡ false) processes 0 p processes_counted each plow) in

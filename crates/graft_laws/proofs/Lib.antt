@@ -31,3 +31,9 @@ pub mod OuterLemmas
 pub mod PastLemmas
 pub mod RootLemmas
 pub mod FallLemmas
+pub mod GraftOriginLemmas
+pub mod KernelLemmas
+pub mod KeptKernelLemmas
+pub mod OwnCallLemmas
+pub mod KernelSoundLemmas
+pub mod KernelStepLemmas

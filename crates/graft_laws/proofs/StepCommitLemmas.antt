@@ -285,7 +285,7 @@ module _ (m : Meaning) (laws : Laws m) (owns : NeedsGraftsExclusively m) where
       }
 
   -- where less is free
-  commits_less : (p : ℕ) (free less : Object → Type 0) (r u : Run) → ((o : Object) → less o → free o) → Commits p free r u → Commits p less r u
+  pub commits_less : (p : ℕ) (free less : Object → Type 0) (r u : Run) → ((o : Object) → less o → free o) → Commits p free r u → Commits p less r u
   commits_less p free less r u weaker h =
       record {
         world = h.world;
@@ -300,7 +300,7 @@ module _ (m : Meaning) (laws : Laws m) (owns : NeedsGraftsExclusively m) where
       }
 
   -- the order of waiting doesn't matter
-  requeue_commits : (p : ℕ) (free : Object → Type 0) (r u : Run) → Commits p free r u → Commits p free r (requeue p u)
+  pub requeue_commits : (p : ℕ) (free : Object → Type 0) (r u : Run) → Commits p free r u → Commits p free r (requeue p u)
   requeue_commits p free r u h =
       record {
         world = h.world;
@@ -333,7 +333,7 @@ module _ (m : Meaning) (laws : Laws m) (owns : NeedsGraftsExclusively m) where
       (λ l k. h.grafts p t.config l (config_is r.kernel p c t e f) k)
 
   -- what its levels don't hold exclusively
-  free_levels : (k : Kernel) (p : ℕ) (c : Call) (t : Trace) (o : Object) → k.call p ≡ Some c → trace_of m k p (Some c) ≡ Some t → is_changed_in (levels_of m k p) o ≡ false → is_changed_in t.config.levels o ≡ false
+  pub free_levels : (k : Kernel) (p : ℕ) (c : Call) (t : Trace) (o : Object) → k.call p ≡ Some c → trace_of m k p (Some c) ≡ Some t → is_changed_in (levels_of m k p) o ≡ false → is_changed_in t.config.levels o ≡ false
   free_levels k p c t o e f none = ap (λ ls. is_changed_in ls o) (sym (levels_are k p t.config (config_is k p c t e f))) ∙ none
 
   graft_step_commits : (r : Run) (p : ℕ) (c : Call) (ks : List Mark) (x : Option Trace) → IsSoundKernel m r.kernel → HasWholeBlocks r.kernel.world r.blocks → r.kernel.call p ≡ Some c → c.marks ≡ Some ks →
@@ -358,7 +358,7 @@ module _ (m : Meaning) (laws : Laws m) (owns : NeedsGraftsExclusively m) where
   piece_commits r p c None h = default_commits m laws p c r h
   piece_commits r p c (Some a) h = piece_at_commits r p c (r.kernel.objects.accounts.graft a.installer a.point) h
 
-  marked_commits : (r : Run) (p : ℕ) (c : Call) (x : Option (List Mark)) → IsSoundKernel m r.kernel → HasWholeBlocks r.kernel.world r.blocks → r.kernel.call p ≡ Some c → c.marks ≡ x →
+  pub marked_commits : (r : Run) (p : ℕ) (c : Call) (x : Option (List Mark)) → IsSoundKernel m r.kernel → HasWholeBlocks r.kernel.world r.blocks → r.kernel.call p ≡ Some c → c.marks ≡ x →
       Commits p (λ o. is_taken_in m r.kernel p o (Some c) ≡ false) r (marked_step m p c x r)
   marked_commits r p c None h whole e marked =
       let k = r.kernel in
@@ -381,18 +381,25 @@ module _ (m : Meaning) (laws : Laws m) (owns : NeedsGraftsExclusively m) where
 
   -- ---- one drop
 
-  drop_at_commits : (r : Run) (p : ℕ) (c : Call) (ks : List Mark) (t : Trace) (d : Option ℕ) (cause : Cause) → IsSoundKernel m r.kernel → HasWholeBlocks r.kernel.world r.blocks → r.kernel.call p ≡ Some c →
-      c.marks ≡ Some ks → trace_of m r.kernel p (Some c) ≡ Some t → Commits p (λ o. is_changed_in (levels_of m r.kernel p) o ≡ false) r (drop_at m p c ks t d cause r)
-  drop_at_commits r p c ks t None cause h whole e marked f = nothing_commits m laws p c (λ o. is_changed_in (levels_of m r.kernel p) o ≡ false) r (stands_in r p c h whole e)
-  drop_at_commits r p c ks t (Some n) cause h whole e marked f =
+  -- what the drop comes to, before the call takes its place in the order
+  pub drop_outcome_commits : (r : Run) (p : ℕ) (c : Call) (ks : List Mark) (t : Trace) (n : ℕ) (cause : Cause) → IsSoundKernel m r.kernel → HasWholeBlocks r.kernel.world r.blocks →
+      r.kernel.call p ≡ Some c → c.marks ≡ Some ks → trace_of m r.kernel p (Some c) ≡ Some t → let o = drop_level r.kernel.world t.config.now t.config.levels n cause in
+      Commits p (λ b. is_changed_in (levels_of m r.kernel p) b ≡ false) r (after_outcome m p c t ks o o.said r)
+  drop_outcome_commits r p c ks t n cause h whole e marked f =
       let k = r.kernel in
       let g = graft_of_call r p c ks t h whole e marked f in
       let o = drop_level k.world t.config.now t.config.levels n cause in
       let stands = stands_in r p c h whole e in
-      requeue_commits p (λ b. is_changed_in (levels_of m k p) b ≡ false) r (after_outcome m p c t ks o o.said r)
-      (commits_less p (λ b. is_changed_in t.config.levels b ≡ false) (λ b. is_changed_in (levels_of m k p) b ≡ false) r (after_outcome m p c t ks o o.said r) (λ b none. free_levels k p c t b e f none)
+      commits_less p (λ b. is_changed_in t.config.levels b ≡ false) (λ b. is_changed_in (levels_of m k p) b ≡ false) r (after_outcome m p c t ks o o.said r) (λ b none. free_levels k p c t b e f none)
       (outcome_commits m laws p c t ks g.point o o.said (λ b. is_changed_in t.config.levels b ≡ false) r stands g.asks
-      (λ b none. before_free m laws owns k.world k.images k.objects p c.stage t b stands.standing.fits g none) (drop_ends m laws owns k.world k.images k.objects p c.stage t n cause g)))
+      (λ b none. before_free m laws owns k.world k.images k.objects p c.stage t b stands.standing.fits g none) (drop_ends m laws owns k.world k.images k.objects p c.stage t n cause g))
+
+  drop_at_commits : (r : Run) (p : ℕ) (c : Call) (ks : List Mark) (t : Trace) (d : Option ℕ) (cause : Cause) → IsSoundKernel m r.kernel → HasWholeBlocks r.kernel.world r.blocks → r.kernel.call p ≡ Some c →
+      c.marks ≡ Some ks → trace_of m r.kernel p (Some c) ≡ Some t → Commits p (λ o. is_changed_in (levels_of m r.kernel p) o ≡ false) r (drop_at m p c ks t d cause r)
+  drop_at_commits r p c ks t None cause h whole e marked f = nothing_commits m laws p c (λ o. is_changed_in (levels_of m r.kernel p) o ≡ false) r (stands_in r p c h whole e)
+  drop_at_commits r p c ks t (Some n) cause h whole e marked f =
+      let o = drop_level r.kernel.world t.config.now t.config.levels n cause in
+      requeue_commits p (λ b. is_changed_in (levels_of m r.kernel p) b ≡ false) r (after_outcome m p c t ks o o.said r) (drop_outcome_commits r p c ks t n cause h whole e marked f)
 
   drop_marked_commits : (r : Run) (p : ℕ) (c : Call) (x : Option (List Mark)) (y : Option Trace) (d : Option ℕ) (cause : Cause) → IsSoundKernel m r.kernel → HasWholeBlocks r.kernel.world r.blocks →
       r.kernel.call p ≡ Some c → c.marks ≡ x → trace_of m r.kernel p (Some c) ≡ y → Commits p (λ o. is_changed_in (levels_of m r.kernel p) o ≡ false) r (drop_marked m p c x y d cause r)

@@ -1,4 +1,5 @@
 pub mod Alike
 pub mod Falls
 pub mod Histories
+pub mod Kernels
 pub mod Stability

@@ -1,6 +1,6 @@
 //! Each law over every table of calls, at the table of the system calls.
 
-use crate::{histories, stability};
+use crate::{histories, kernels, stability};
 use plain_rules::PlainRules;
 
 #[test]
@@ -9,6 +9,8 @@ fn the_system_calls_have_the_laws(_rt: HostRuntime) {
     histories::histories_replay::<PlainRules>();
     histories::histories_alike::<PlainRules>();
     histories::falls_replay::<PlainRules>();
+    kernels::steps_stay_sound::<PlainRules>();
+    kernels::drops_stay_sound::<PlainRules>();
     stability::commits_what_is_taken::<PlainRules>();
     stability::calls_are_stable::<PlainRules>();
 }

@@ -1,0 +1,29 @@
+-- What keeps abstract kernels sound.
+use Rattle.std.specs.Prelude.{◌≡◌, ℕ, ◌<◌, List, Bool, length, Some, None}
+use Rattle.kernel_model.specs.declared.Cause.{Cause}
+use Rattle.kernel_model.specs.declared.Event.{Event}
+use Rattle.kernel_model.specs.World.{Blocks}
+use Rattle.kernel_model.specs.Meaning.{Meaning}
+use Rattle.kernel_model.specs.Kernel.{Call, Kernel, Run}
+use Rattle.kernel_model.specs.Blocking.{levels_of, blocker}
+use Rattle.kernel_model.specs.Settle.{step, settled}
+use Rattle.kernel_model.specs.Events.{drop_call, event}
+use Rattle.kernel_model.specs.Sound.{IsSoundKernel, HasWholeBlocks}
+use Rattle.kernel_model.specs.Laws.{Laws}
+use Rattle.graft_laws.specs.Histories.{NeedsGraftsExclusively}
+
+-- a run whose kernel is sound, and whose blocks are whole
+pub record IsSoundRun (m : Meaning) (r : Run) : Type 0 where
+  pub kernel : IsSoundKernel m r.kernel
+  pub blocks : HasWholeBlocks r.kernel.world r.blocks
+
+-- a step of a call that nothing blocks keeps a run sound: also that of each object there are sharers, or one owner
+abbrev pub StepsStaySound : Meaning → Type 0
+StepsStaySound m =
+    (r : Run) (p : ℕ) (c : Call) → Laws m → NeedsGraftsExclusively m → IsSoundRun m r → r.kernel.call p ≡ Some c → blocker m r.kernel p ≡ None → IsSoundRun m (step m p r)
+
+-- so does the drop of one of a call's levels
+abbrev pub DropsStaySound : Meaning → Type 0
+DropsStaySound m =
+    (r : Run) (p n : ℕ) (cause : Cause) → Laws m → NeedsGraftsExclusively m → IsSoundRun m r → n < length (levels_of m r.kernel p) →
+    IsSoundRun m (drop_call m p (r.kernel.call p) (Some n) cause r)

@@ -1,0 +1,15 @@
+//! Laws of what keeps abstract kernels sound. A call of one brings its statement into a proof.
+
+ghost use Rattle.graft_laws.specs.Kernels.{StepsStaySound, DropsStaySound};
+
+use kernel_model::Rules;
+
+/// A step of a call that nothing blocks keeps the kernel sound, and the disk's blocks whole.
+pub fn steps_stay_sound<R: Rules>()
+    ensures { StepsStaySound R.meaning }
+{}
+
+/// So does the drop of one of a call's levels.
+pub fn drops_stay_sound<R: Rules>()
+    ensures { DropsStaySound R.meaning }
+{}
