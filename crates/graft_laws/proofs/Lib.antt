@@ -37,3 +37,5 @@ pub mod KeptKernelLemmas
 pub mod OwnCallLemmas
 pub mod KernelSoundLemmas
 pub mod KernelStepLemmas
+pub mod OrderLemmas
+pub mod EventLemmas

@@ -146,7 +146,7 @@ own_marks m k q c hs es ns z h e leads stand held changed =
 -- ---- what a step that nothing blocks needs
 
 -- beyond the levels nothing is held
-touched_beyond : (ls : List Level) (d : ℕ) (x : Option Level) → length ls ≤ d → level_at d ls ≡ x → touched_in x ≡ untouched
+pub touched_beyond : (ls : List Level) (d : ℕ) (x : Option Level) → length ls ≤ d → level_at d ls ≡ x → touched_in x ≡ untouched
 touched_beyond ls d None h e = refl
 touched_beyond ls d (Some l) h e = absurd (beyond (length ls) d h (at_below d ls l e))
   where

@@ -27,3 +27,13 @@ abbrev pub DropsStaySound : Meaning → Type 0
 DropsStaySound m =
     (r : Run) (p n : ℕ) (cause : Cause) → Laws m → NeedsGraftsExclusively m → IsSoundRun m r → n < length (levels_of m r.kernel p) →
     IsSoundRun m (drop_call m p (r.kernel.call p) (Some n) cause r)
+
+-- and settling
+abbrev pub SettlingStaysSound : Meaning → Type 0
+SettlingStaysSound m = (r : Run) → Laws m → NeedsGraftsExclusively m → IsSoundRun m r → IsSoundRun m (settled m r)
+
+-- and every event
+abbrev pub EventsStaySound : Meaning → Type 0
+EventsStaySound m =
+    (k : Kernel) (blocks : Blocks) (number : ℕ) (e : Event) (io : List Bool) → Laws m → NeedsGraftsExclusively m → IsSoundKernel m k →
+    HasWholeBlocks k.world blocks → IsSoundRun m (event m k blocks number e io)

@@ -1,6 +1,6 @@
 //! Laws of what keeps abstract kernels sound. A call of one brings its statement into a proof.
 
-ghost use Rattle.graft_laws.specs.Kernels.{StepsStaySound, DropsStaySound};
+ghost use Rattle.graft_laws.specs.Kernels.{StepsStaySound, DropsStaySound, SettlingStaysSound, EventsStaySound};
 
 use kernel_model::Rules;
 
@@ -12,4 +12,14 @@ pub fn steps_stay_sound<R: Rules>()
 /// So does the drop of one of a call's levels.
 pub fn drops_stay_sound<R: Rules>()
     ensures { DropsStaySound R.meaning }
+{}
+
+/// And settling.
+pub fn settling_stays_sound<R: Rules>()
+    ensures { SettlingStaysSound R.meaning }
+{}
+
+/// And every event.
+pub fn events_stay_sound<R: Rules>()
+    ensures { EventsStaySound R.meaning }
 {}

@@ -11,6 +11,8 @@ fn the_system_calls_have_the_laws(_rt: HostRuntime) {
     histories::falls_replay::<PlainRules>();
     kernels::steps_stay_sound::<PlainRules>();
     kernels::drops_stay_sound::<PlainRules>();
+    kernels::settling_stays_sound::<PlainRules>();
+    kernels::events_stay_sound::<PlainRules>();
     stability::commits_what_is_taken::<PlainRules>();
     stability::calls_are_stable::<PlainRules>();
 }
