@@ -1,5 +1,5 @@
 -- The history after the drop of a level above 0 leads to the config that the drop gave.
-use Rattle.std.specs.Prelude.{◌≡◌, ℕ, suc, ◌<◌, ◌≤◌, ◌==◌, nat_lt, Bool, true, false, List, [], ◌∷◌, ◌++◌, length, take, reverse, Contains, Option, Some, None, ◌⊎◌, ⊤}
+use Rattle.std.specs.Prelude.{◌≡◌, ℕ, suc, ◌<◌, ◌≤◌, ◌==◌, Bool, true, false, List, [], ◌∷◌, ◌++◌, length, take, reverse, Contains, Option, Some, None}
 use Rattle.std.proofs.Common.{arith, refl, subst, sym, ap, ◌∙◌, inl, inr}
 use Rattle.std.proofs.lemmas.Bool.{cases_Bool}
 use Rattle.std.proofs.lemmas.Bool.Decides.{nat_tests}
@@ -14,16 +14,14 @@ use Rattle.kernel_model.specs.Objects.{Objects, Accounts, Things}
 use Rattle.kernel_model.specs.Policies.{default_of}
 use Rattle.kernel_model.specs.Charges.{removed}
 use Rattle.kernel_model.specs.Meaning.{Meaning, Stage}
-use Rattle.kernel_model.specs.Levels.{Level, Config, Effect, Removed, Outcome, is_going_on, level_at, outermost_touched, answer_innermost, drop_innermost, drop_level}
+use Rattle.kernel_model.specs.Levels.{Level, Config, Effect, Removed, Outcome, level_at, outermost_touched, answer_innermost, drop_innermost, drop_level}
 use Rattle.kernel_model.specs.GraftStep.{micro, micro_on}
-use Rattle.kernel_model.specs.History.{Mark, Stepped, Fell, Past, Trace, first_trace, trace_after, trace_fallen, level_ends, effects_on, owner_among, effects_since, marks_before, fallen, mark_on, marks_on, begin, begin_at, begin_with, replay}
+use Rattle.kernel_model.specs.History.{Mark, Fell, Trace, first_trace, trace_after, trace_fallen, effects_on, owner_among, effects_since, marks_before, fallen, begin, begin_at, begin_with, replay}
 use Rattle.kernel_model.specs.Blocking.{config_in}
 use Rattle.kernel_model.specs.Laws.{Laws, IsStanding}
 use Rattle.graft_laws.specs.Falls.{FallsReplay}
 use Rattle.graft_laws.specs.Histories.{outside_of, NeedsGraftsExclusively, GraftsStand, IsReplayed}
-use Rattle.graft_laws.proofs.TurnParts.{not_going}
 use Rattle.graft_laws.proofs.ShapeLemmas.{at_top, at_inner}
-use Rattle.graft_laws.proofs.StandLemmas.{AllStand}
 use Rattle.graft_laws.proofs.MarkLemmas.{replay_split, replay_join, fell_join, marks_join}
 use Rattle.graft_laws.proofs.HistoryReplayLemmas.{marks_stood, marks_replay}
 use Rattle.graft_laws.proofs.BeginningLemmas.{all_stand, beginnings_stand}
@@ -212,10 +210,10 @@ module _ (m : Meaning) (laws : Laws m) (owns : NeedsGraftsExclusively m) (v : Wo
           let k = split ls size in
           let held : outermost_touched (k.0 ∷ k.1) (Graft l.owner l.point) ≡ Held.Exclusive = subst (λ xs. outermost_touched (l ∷ xs) (Graft l.owner l.point) ≡ Held.Exclusive) k.2 paid in
           falls_by (suc d) l o.effects o.config.now.accounts (some_suc d) at (λ new owner.
-              on_same new.owner l.owner o.effects now.config.now.accounts w.accounts o.config.now.accounts l.kept new (outside_of (suc d) now.config.levels) (k.0 ∷ k.1) owner
-              (ap (λ (c : Config). c.now.accounts) here) (outside ∙ k.2)
-              (r.effects l.kept new k.0 k.1 held
-              ∙ ap (λ x. Some (record { now = record { accounts = o.config.now.accounts; things = l.kept }; levels = new ∷ touched_by l.owner x (k.0 ∷ k.1) })) none))
+          on_same new.owner l.owner o.effects now.config.now.accounts w.accounts o.config.now.accounts l.kept new (outside_of (suc d) now.config.levels) (k.0 ∷ k.1) owner
+          (ap (λ (c : Config). c.now.accounts) here) (outside ∙ k.2)
+          (r.effects l.kept new k.0 k.1 held
+          ∙ ap (λ x. Some (record { now = record { accounts = o.config.now.accounts; things = l.kept }; levels = new ∷ touched_by l.owner x (k.0 ∷ k.1) })) none))
           ∙ ap (λ xs. Some (record {
             now = record { accounts = o.config.now.accounts; things = l.kept };
             levels = answer_innermost l.point (default_of v l.kept l.owner l.point).0 (default_of v l.kept l.owner l.point).1 xs;

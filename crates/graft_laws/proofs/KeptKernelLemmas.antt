@@ -1,5 +1,5 @@
 -- A sound kernel stays sound where one call changes, others stay as they are, and the order of waiting follows.
-use Rattle.std.specs.Prelude.{◌≡◌, ◌≢◌, ℕ, zero, suc, ◌+◌, ◌<◌, ◌≤◌, ◌==◌, nat_lt, Bool, true, false, cond, List, [], ◌∷◌, ◌++◌, length, Contains, Option, Some, None, is_some}
+use Rattle.std.specs.Prelude.{◌≡◌, ◌≢◌, ℕ, suc, ◌+◌, ◌<◌, ◌≤◌, ◌==◌, nat_lt, Bool, true, false, cond, List, [], ◌∷◌, ◌++◌, length, Contains, Option, Some, None, is_some}
 use Rattle.std.specs.List.{AllByRecursion as Each}
 use Rattle.std.specs.Result.{is_ok}
 use Rattle.std.proofs.Common.{◌⊎◌, arith, refl, subst, sym, ap, ◌∙◌, inl, inr}
@@ -8,19 +8,17 @@ use Rattle.std.proofs.lemmas.Bool.Decides.{nat_tests}
 use Rattle.kernel_model.specs.declared.Held.{Held}
 use Rattle.kernel_model.specs.declared.Need.{Need}
 use Rattle.kernel_model.specs.declared.Object.{Object}
-use Rattle.kernel_model.specs.World.{World, ImageTable}
 use Rattle.kernel_model.specs.Objects.{Objects}
 use Rattle.kernel_model.specs.Policies.{lives}
 use Rattle.kernel_model.specs.Meaning.{Meaning}
-use Rattle.kernel_model.specs.Locks.{Touched, is_held, is_held_exclusively, untouched}
+use Rattle.kernel_model.specs.Locks.{Touched, is_held, is_held_exclusively}
 use Rattle.kernel_model.specs.Levels.{Level, Config, touched_at}
-use Rattle.kernel_model.specs.GraftStep.{next_needs}
 use Rattle.kernel_model.specs.History.{Mark, Trace, replay}
 use Rattle.kernel_model.specs.Kernel.{Call, Entry, Kernel, new_entry, less_entry, is_at_piece}
 use Rattle.kernel_model.specs.Blocking.{config_in, config_of, levels_in, levels_of, trace_of, holds, needs_at, needs_in, needs}
 use Rattle.kernel_model.specs.InPlace.{is_changed_in}
-use Rattle.kernel_model.specs.Sound.{IsSoundState, IsSoundKernel, HasWholeBlocks, ImagesAreLoaded, clash, count_of, in_the_order}
-use Rattle.kernel_model.specs.Alike.{LevelsAlike, ConfigsAlike, SameFiles, is_held_in, is_needed, is_needed_exclusively}
+use Rattle.kernel_model.specs.Sound.{IsSoundState, IsSoundKernel, clash, count_of, in_the_order}
+use Rattle.kernel_model.specs.Alike.{LevelsAlike, SameFiles, is_held_in, is_needed, is_needed_exclusively}
 use Rattle.kernel_model.specs.Laws.{Laws}
 use Rattle.kernel_model.specs.Claims.{IsStable}
 use Rattle.kernel_laws.proofs.LevelLemmas.{each_from, each_contains}
@@ -218,8 +216,7 @@ module _ (m : Meaning) (q : ℕ) (k : Kernel) (s : Objects) (call : ℕ → Opti
     entry_kept e ne h away =
         let before = ap is_at_piece (sym (others e.process ne)) ∙ away in
         let x = h before in
-        let same = same_call e.process ne in
-        (
+        let same = same_call e.process ne in (
           count_other e.process ne ∙ x.0,
           subst (λ n. 1 ≤ n) (length_alike (levels_of m k e.process) (levels_of m after e.process) same.levels) x.1,
           subst (λ ns. 1 ≤ length ns) (same.needs before) x.2,

@@ -1,24 +1,22 @@
 -- What of two calls that are alike is the same, and what the order of waiting keeps.
-use Rattle.std.specs.Prelude.{◌≡◌, ◌≢◌, ℕ, zero, suc, ◌+◌, ◌<◌, ◌≤◌, ◌==◌, ◌||◌, not, nat_lt, Bool, true, false, cond, List, [], ◌∷◌, ◌++◌, length, map, filter, slice_index_or, Contains, Option, Some, None}
+use Rattle.std.specs.Prelude.{◌≡◌, ◌≢◌, ℕ, zero, suc, ◌+◌, ◌<◌, ◌≤◌, ◌==◌, ◌||◌, not, Bool, true, false, cond, List, [], ◌∷◌, ◌++◌, length, map, slice_index_or, Contains, Option, Some}
 use Rattle.std.specs.List.{AllByRecursion as Each}
-use Rattle.std.proofs.Common.{◌⊎◌, arith, refl, subst, sym, ap, ◌∙◌, inl, inr}
+use Rattle.std.proofs.Common.{arith, refl, subst, sym, ap, ◌∙◌, inl, inr}
 use Rattle.std.proofs.lemmas.Bool.{cases_Bool}
 use Rattle.std.proofs.lemmas.Bool.Decides.{nat_tests}
 use Rattle.kernel_model.specs.declared.Held.{Held}
-use Rattle.kernel_model.specs.declared.Instr.{Instr}
 use Rattle.kernel_model.specs.declared.Kind.TheVariants.{Steps}
-use Rattle.kernel_model.specs.declared.Need.{Need}
 use Rattle.kernel_model.specs.declared.Object.{Object}
 use Rattle.kernel_model.specs.declared.Object.TheVariants.{Graft, Acct}
 use Rattle.kernel_model.specs.World.{World, ImageTable, processes}
 use Rattle.kernel_model.specs.Objects.{Objects, GraftValue, AcctValue, SameAt}
-use Rattle.kernel_model.specs.Charges.{funds, payer_balance}
+use Rattle.kernel_model.specs.Charges.{payer_balance}
 use Rattle.kernel_model.specs.Machine.{next_call}
-use Rattle.kernel_model.specs.Locks.{Touched, is_held, is_held_exclusively, untouched}
+use Rattle.kernel_model.specs.Locks.{is_held, is_held_exclusively, untouched}
 use Rattle.kernel_model.specs.Meaning.{Meaning}
 use Rattle.kernel_model.specs.Levels.{Level, Config, image_of, code_in, code_of, limit_in, level_at, touched_at, touched_in, outermost_touched}
 use Rattle.kernel_model.specs.GraftStep.{is_spent, instruction_needs, next_needs}
-use Rattle.kernel_model.specs.Kernel.{Entry, Kernel, new_entry, less_entry}
+use Rattle.kernel_model.specs.Kernel.{Entry, Kernel, less_entry}
 use Rattle.kernel_model.specs.Blocking.{levels_of, holds}
 use Rattle.kernel_model.specs.InPlace.{is_changed_in}
 use Rattle.kernel_model.specs.Sound.{clash, count_of}

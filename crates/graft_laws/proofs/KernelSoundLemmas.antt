@@ -1,6 +1,5 @@
 -- A step of a call that nothing blocks, and a drop, keep a kernel sound.
-use Rattle.std.specs.Prelude.{◌≡◌, ◌≢◌, ℕ, zero, suc, ◌<◌, ◌≤◌, ◌==◌, ◌||◌, Bool, true, false, cond, List, [], ◌∷◌, ◌++◌, length, slice_index, Contains, Option, Some, None, is_some, ⊤}
-use Rattle.std.specs.List.{AllByRecursion as Each}
+use Rattle.std.specs.Prelude.{◌≡◌, ◌≢◌, ℕ, zero, suc, ◌≤◌, ◌||◌, Bool, true, false, List, [], ◌∷◌, ◌++◌, length, Contains, Option, Some, None, is_some}
 use Rattle.std.specs.Result.{is_ok}
 use Rattle.std.proofs.Common.{◌⊎◌, arith, refl, subst, sym, ap, ◌∙◌, inl, inr}
 use Rattle.kernel_model.specs.declared.Cause.{Cause}
@@ -11,48 +10,39 @@ use Rattle.kernel_model.specs.declared.Note.{Note}
 use Rattle.kernel_model.specs.declared.Note.TheVariants.{Dropped}
 use Rattle.kernel_model.specs.declared.Object.{Object}
 use Rattle.kernel_model.specs.declared.Point.{Point}
-use Rattle.kernel_model.specs.World.{World, ImageTable, Blocks}
+use Rattle.kernel_model.specs.World.{World, ImageTable}
 use Rattle.kernel_model.specs.Objects.{Objects, GraftValue}
-use Rattle.kernel_model.specs.Policies.{default_of}
-use Rattle.kernel_model.specs.Meaning.{Meaning, Stage, Continues}
+use Rattle.kernel_model.specs.Meaning.{Meaning, Stage}
 use Rattle.kernel_model.specs.Locks.{is_held, is_held_exclusively, touch_all, untouched}
-use Rattle.kernel_model.specs.Levels.{Level, Config, Outcome, is_going_on, answer_innermost, drop_innermost, drop_level}
+use Rattle.kernel_model.specs.Levels.{Level, Config, Outcome, is_going_on}
 use Rattle.kernel_model.specs.GraftStep.{micro, micro_on, next_needs}
 use Rattle.kernel_model.specs.History.{Mark, Stepped, Trace, trace_after, begin_at, begin_with, fallen, first_trace, replay, marks_on}
-use Rattle.kernel_model.specs.Kernel.{Call, Kernel, Run, noted, with_marks, requeue}
-use Rattle.kernel_model.specs.Blocking.{config_in, config_of, levels_of, trace_of, needs_at, needs_in, needs, blocker}
-use Rattle.kernel_model.specs.Settle.{lost_objects, finish_on, piece_at, piece_step, after_outcome, graft_step, marked_step, call_step, step}
-use Rattle.kernel_model.specs.Events.{drop_call}
+use Rattle.kernel_model.specs.Kernel.{Call, Run, noted, with_marks, requeue}
+use Rattle.kernel_model.specs.Blocking.{config_in, levels_of, trace_of, needs}
+use Rattle.kernel_model.specs.Settle.{lost_objects, finish_on, piece_at, piece_step, after_outcome}
 use Rattle.kernel_model.specs.InPlace.{is_changed_in}
 use Rattle.kernel_model.specs.Sound.{IsSoundKernel, HasWholeBlocks}
-use Rattle.kernel_model.specs.Alike.{AreAlike, is_held_in, is_needed, is_needed_exclusively}
-use Rattle.kernel_model.specs.Laws.{Laws, IsReady, IsStanding, continues}
+use Rattle.kernel_model.specs.Alike.{is_held_in, is_needed, is_needed_exclusively}
+use Rattle.kernel_model.specs.Laws.{Laws, IsReady, continues}
 use Rattle.kernel_laws.proofs.LevelLemmas.{each_contains}
 use Rattle.kernel_laws.proofs.StepLemmas.{alike_disk, right_answer}
-use Rattle.kernel_laws.proofs.SoundConfigLemmas.{configs_stay_sound, drops_stay_sound}
-use Rattle.graft_laws.specs.Histories.{NeedsGraftsExclusively, IsReplayed}
-use Rattle.graft_laws.specs.Stability.{is_taken_in, is_taken_by}
-use Rattle.graft_laws.specs.Kernels.{IsSoundRun, StepsStaySound, DropsStaySound}
-use Rattle.graft_laws.proofs.PointLemmas.{or_left, or_right}
+use Rattle.kernel_laws.proofs.SoundConfigLemmas.{configs_stay_sound}
+use Rattle.graft_laws.specs.Histories.{NeedsGraftsExclusively}
 use Rattle.graft_laws.proofs.HoldLemmas.{touch_all_from, touch_all_changed}
 use Rattle.graft_laws.proofs.GrownLemmas.{AreGrown}
 use Rattle.graft_laws.proofs.TurnParts.{IsEnded, not_going}
 use Rattle.graft_laws.proofs.TurnLemmas.{levels_turn}
-use Rattle.graft_laws.proofs.ShapeLemmas.{contrary}
-use Rattle.graft_laws.proofs.StandLemmas.{AllStand}
 use Rattle.graft_laws.proofs.MarkLemmas.{replay_split, replay_join, stepped_join, marks_join}
 use Rattle.graft_laws.proofs.ReplayLemmas.{instructions_replay}
 use Rattle.graft_laws.proofs.HistoryReplayLemmas.{marks_stood}
 use Rattle.graft_laws.proofs.BeginningLemmas.{all_stand, beginnings_stand}
-use Rattle.graft_laws.proofs.DropReplayLemmas.{DropsAt, drop_at as dropped_at}
 use Rattle.graft_laws.proofs.FallLemmas.{falls_replay}
 use Rattle.graft_laws.proofs.RootLemmas.{marks_both}
-use Rattle.graft_laws.proofs.GraftOriginLemmas.{ComeFrom, come_self, come_then, images_from, micro_come, marks_come, drop_come}
-use Rattle.graft_laws.proofs.HolderLemmas.{apart_unchanged}
-use Rattle.graft_laws.proofs.CommitLemmas.{Commits, Stands, EndsWell, alike_self, stands_on}
-use Rattle.graft_laws.proofs.StepCommitLemmas.{IsInGraft, micro_ends, drop_ends, stands_in, requeue_commits, trace_is, config_is, levels_are, graft_of_call}
-use Rattle.graft_laws.proofs.StabilityLemmas.{HasGraft, has_graft, caller_low, untaken}
-use Rattle.graft_laws.proofs.OwnCallLemmas.{own_piece, own_marks, Kept, needs_free, nothing_free, all_replayed, few_levels, sound_after}
+use Rattle.graft_laws.proofs.GraftOriginLemmas.{ComeFrom, come_self, come_then, images_from, micro_come, marks_come}
+use Rattle.graft_laws.proofs.CommitLemmas.{Stands, EndsWell, stands_on}
+use Rattle.graft_laws.proofs.GraftEndLemmas.{IsInGraft, micro_ends}
+use Rattle.graft_laws.proofs.StepCommitLemmas.{stands_in, trace_is, config_is, levels_are, graft_of_call}
+use Rattle.graft_laws.proofs.OwnCallLemmas.{own_piece, own_marks, Kept}
 
 module _ (m : Meaning) (laws : Laws m) (owns : NeedsGraftsExclusively m) where
   -- ---- the ends of a step
@@ -191,8 +181,7 @@ module _ (m : Meaning) (laws : Laws m) (owns : NeedsGraftsExclusively m) where
       × ((g pt : ℕ) (cause : Cause) → EndsWell m laws r.kernel.world r.kernel.objects a free o (Micro.Dropped zero g pt cause) →
       Kept m q ns r (finish_on m q c (lost_objects o.config.now r.kernel.objects) None (noted (Dropped c.number g pt cause) r)))
   ended_kept q c t ks a o ns free r h stands asks come =
-      let k = r.kernel in
-      (
+      let k = r.kernel in (
         λ answer ends. finish_kept q c o.config.now (Some answer) ns r h (record {
           standing = stands_on m laws k.world k.images k.objects o.config.now q c.stage stands.standing ends.0.store ends.0.alike;
           disk = alike_disk k.world k.objects o.config.now ends.0.alike stands.disk;

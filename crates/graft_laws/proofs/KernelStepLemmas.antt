@@ -1,38 +1,36 @@
 -- Steps, drops and settling keep runs sound.
-use Rattle.std.specs.Prelude.{◌≡◌, ◌≢◌, ℕ, zero, suc, ◌<◌, ◌≤◌, Bool, true, false, List, [], ◌∷◌, length, Contains, Option, Some, None, is_some}
-use Rattle.std.proofs.Common.{◌⊎◌, arith, refl, subst, sym, ap, ◌∙◌, inl, inr}
+use Rattle.std.specs.Prelude.{◌≡◌, ◌≢◌, ℕ, suc, ◌<◌, true, false, List, [], ◌∷◌, length, Option, Some, None, is_some}
+use Rattle.std.proofs.Common.{arith, refl, subst, sym, ap, ◌∙◌, inl, inr}
 use Rattle.kernel_model.specs.declared.Cause.{Cause}
-use Rattle.kernel_model.specs.declared.Micro.{Micro}
 use Rattle.kernel_model.specs.declared.Need.{Need}
-use Rattle.kernel_model.specs.declared.Note.TheVariants.{Dropped}
 use Rattle.kernel_model.specs.declared.Object.{Object}
 use Rattle.kernel_model.specs.World.{World, Blocks}
-use Rattle.kernel_model.specs.Objects.{Objects}
 use Rattle.kernel_model.specs.Policies.{default_of}
 use Rattle.kernel_model.specs.Meaning.{Meaning}
 use Rattle.kernel_model.specs.Levels.{Level, Config, Outcome, answer_innermost, drop_innermost, drop_level}
 use Rattle.kernel_model.specs.GraftStep.{micro, next_needs}
-use Rattle.kernel_model.specs.History.{Mark, Trace, fallen, replay}
-use Rattle.kernel_model.specs.Kernel.{Call, Kernel, Run, with_marks, noted, requeue}
+use Rattle.kernel_model.specs.History.{Mark, Trace, fallen}
+use Rattle.kernel_model.specs.Kernel.{Call, Run, requeue}
 use Rattle.kernel_model.specs.Blocking.{config_of, levels_in, levels_of, trace_of, needs_at, needs_in, needs, blocker}
 use Rattle.kernel_model.specs.Settle.{after_outcome, graft_step, marked_step, call_step, step}
 use Rattle.kernel_model.specs.Events.{drop_call, drop_marked}
 use Rattle.kernel_model.specs.InPlace.{is_changed_in}
 use Rattle.kernel_model.specs.Sound.{IsSoundConfig, IsSoundKernel, HasWholeBlocks}
-use Rattle.kernel_model.specs.Alike.{is_held_in, is_needed, is_needed_exclusively}
+use Rattle.kernel_model.specs.Alike.{is_held_in}
 use Rattle.kernel_model.specs.Laws.{Laws}
 use Rattle.kernel_laws.proofs.SoundConfigLemmas.{drops_stay_sound}
 use Rattle.graft_laws.specs.Histories.{NeedsGraftsExclusively}
 use Rattle.graft_laws.specs.Stability.{is_taken_in}
 use Rattle.graft_laws.specs.Kernels.{IsSoundRun, StepsStaySound, DropsStaySound}
-use Rattle.graft_laws.proofs.DropReplayLemmas.{DropsAt, drop_at as dropped_at}
+use Rattle.graft_laws.proofs.DropReplayLemmas.{drop_at as dropped_at}
 use Rattle.graft_laws.proofs.FallLemmas.{falls_replay}
 use Rattle.graft_laws.proofs.ShapeLemmas.{contrary}
 use Rattle.graft_laws.proofs.GraftOriginLemmas.{ComeFrom, come_then, drop_come}
 use Rattle.graft_laws.proofs.HolderLemmas.{apart_unchanged}
-use Rattle.graft_laws.proofs.CommitLemmas.{Commits, EndsWell}
-use Rattle.graft_laws.proofs.StepCommitLemmas.{IsInGraft, drop_ends, stands_in, requeue_commits, trace_is, config_is, levels_are, graft_of_call, marked_commits, drop_outcome_commits}
-use Rattle.graft_laws.proofs.StabilityLemmas.{HasGraft, has_graft, caller_low, untaken}
+use Rattle.graft_laws.proofs.CommitLemmas.{EndsWell}
+use Rattle.graft_laws.proofs.GraftEndLemmas.{IsInGraft, drop_ends}
+use Rattle.graft_laws.proofs.StepCommitLemmas.{stands_in, requeue_commits, trace_is, config_is, levels_are, graft_of_call, marked_commits, drop_outcome_commits}
+use Rattle.graft_laws.proofs.StabilityLemmas.{has_graft, caller_low, untaken}
 use Rattle.graft_laws.proofs.OwnCallLemmas.{Kept, needs_free, nothing_free, few_levels, sound_after}
 use Rattle.graft_laws.proofs.KernelSoundLemmas.{marks_kept, piece_kept, history_come, ended_kept, micro_kept}
 

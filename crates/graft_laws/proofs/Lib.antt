@@ -25,6 +25,7 @@ pub mod AlikeMarkLemmas
 pub mod AlikeHistoryLemmas
 pub mod HolderLemmas
 pub mod CommitLemmas
+pub mod GraftEndLemmas
 pub mod StepCommitLemmas
 pub mod StabilityLemmas
 pub mod OuterLemmas
@@ -38,4 +39,5 @@ pub mod OwnCallLemmas
 pub mod KernelSoundLemmas
 pub mod KernelStepLemmas
 pub mod OrderLemmas
+pub mod SettleSoundLemmas
 pub mod EventLemmas

@@ -1,17 +1,16 @@
 -- The order of waiting and the clock: what they leave of a kernel, and which orders keep it sound.
-use Rattle.std.specs.Prelude.{◌≡◌, ◌≢◌, ℕ, zero, suc, ◌+◌, ◌<◌, ◌≤◌, ◌==◌, not, nat_lt, Bool, true, false, cond, List, [], ◌∷◌, ◌++◌, length, map, Contains, Option, Some, None, is_some}
+use Rattle.std.specs.Prelude.{◌≡◌, ◌≢◌, ℕ, suc, ◌+◌, ◌<◌, ◌≤◌, ◌==◌, not, nat_lt, true, false, cond, List, [], ◌∷◌, ◌++◌, length, Contains, Option, Some, None}
 use Rattle.std.specs.List.{AllByRecursion as Each}
 use Rattle.std.proofs.Common.{arith, refl, subst, sym, ap, ◌∙◌, inl, inr}
 use Rattle.std.proofs.lemmas.Bool.{cases_Bool}
 use Rattle.std.proofs.lemmas.Bool.Decides.{nat_tests}
 use Rattle.kernel_model.specs.declared.Need.{Need}
-use Rattle.kernel_model.specs.declared.Object.{Object}
 use Rattle.kernel_model.specs.Meaning.{Meaning}
 use Rattle.kernel_model.specs.Locks.{Touched}
-use Rattle.kernel_model.specs.Levels.{Level, Config, touched_at}
-use Rattle.kernel_model.specs.History.{Mark, Trace}
-use Rattle.kernel_model.specs.Kernel.{Call, Blocker, Entry, Kernel, Run, less_entry, new_entry, is_at_piece}
-use Rattle.kernel_model.specs.Blocking.{config_in, config_of, levels_in, levels_of, trace_of, holds, needs_at, needs_in, needs, blocker}
+use Rattle.kernel_model.specs.Levels.{Config, touched_at}
+use Rattle.kernel_model.specs.History.{Mark}
+use Rattle.kernel_model.specs.Kernel.{Call, Entry, Kernel, less_entry, new_entry, is_at_piece}
+use Rattle.kernel_model.specs.Blocking.{config_in, config_of, levels_in, levels_of, trace_of, holds, needs_at, needs_in, needs}
 use Rattle.kernel_model.specs.Sound.{IsSoundKernel, clash, count_of, in_the_order}
 use Rattle.kernel_laws.proofs.LevelLemmas.{each_from, each_contains}
 use Rattle.graft_laws.proofs.ShapeLemmas.{contrary}

@@ -1,5 +1,5 @@
 -- What a call is after its own step or drop.
-use Rattle.std.specs.Prelude.{◌≡◌, ◌≢◌, ℕ, zero, suc, ◌<◌, ◌≤◌, ◌==◌, ◌&&◌, ◌||◌, nat_lt, Bool, true, false, cond, List, [], ◌∷◌, ◌++◌, length, option_map, Contains, Option, Some, None, is_some}
+use Rattle.std.specs.Prelude.{◌≡◌, ◌≢◌, ℕ, ◌<◌, ◌≤◌, ◌&&◌, nat_lt, Bool, true, false, cond, List, [], ◌∷◌, ◌++◌, length, option_map, Contains, Option, Some, None, is_some}
 use Rattle.std.specs.List.{AllByRecursion as Each}
 use Rattle.std.specs.Result.{is_ok}
 use Rattle.std.proofs.Common.{◌⊎◌, arith, refl, subst, sym, ap, ◌∙◌, inl, inr}
@@ -8,24 +8,22 @@ use Rattle.std.proofs.lemmas.Bool.Decides.{nat_tests}
 use Rattle.kernel_model.specs.declared.Held.{Held}
 use Rattle.kernel_model.specs.declared.Mode.{Mode}
 use Rattle.kernel_model.specs.declared.Need.{Need}
-use Rattle.kernel_model.specs.declared.Note.{Note}
 use Rattle.kernel_model.specs.declared.Object.{Object}
 use Rattle.kernel_model.specs.World.{World, ImageTable}
 use Rattle.kernel_model.specs.Objects.{Objects, at, same_object}
 use Rattle.kernel_model.specs.SameObject.{same_object_is}
 use Rattle.kernel_model.specs.Policies.{lives}
 use Rattle.kernel_model.specs.Meaning.{Meaning, Stage, After, Continues, EndsWith, Fails}
-use Rattle.kernel_model.specs.Locks.{Touched, LockTable, Hindrance, conflicts, is_held, is_held_exclusively, untouched, lowest_holder, first_hindrance}
-use Rattle.kernel_model.specs.Levels.{Level, Config, level_at, touched_at, touched_in}
+use Rattle.kernel_model.specs.Locks.{Touched, Hindrance, conflicts, is_held, is_held_exclusively, untouched, lowest_holder, first_hindrance}
+use Rattle.kernel_model.specs.Levels.{Level, Config, level_at, touched_in}
 use Rattle.kernel_model.specs.GraftStep.{lock_user}
 use Rattle.kernel_model.specs.History.{Mark, Trace, replay}
-use Rattle.kernel_model.specs.Kernel.{Call, Entry, Kernel, Run, call_after, noted, with_marks, requeue, less_entry, new_entry, is_at_piece}
+use Rattle.kernel_model.specs.Kernel.{Call, Entry, Kernel, Run, call_after, requeue, less_entry, new_entry, is_at_piece}
 use Rattle.kernel_model.specs.Blocking.{config_in, config_of, levels_in, levels_of, trace_of, holds, needs, blocker, blocker_from}
-use Rattle.kernel_model.specs.Settle.{finish_on}
 use Rattle.kernel_model.specs.InPlace.{is_changed_in}
-use Rattle.kernel_model.specs.Sound.{IsSoundState, IsSoundKernel, HasWholeBlocks, ImagesAreLoaded}
+use Rattle.kernel_model.specs.Sound.{IsSoundKernel, HasWholeBlocks, ImagesAreLoaded}
 use Rattle.kernel_model.specs.Alike.{is_exclusive, is_held_in, is_needed, is_needed_exclusively}
-use Rattle.kernel_model.specs.Laws.{Laws, IsReady, continues}
+use Rattle.kernel_model.specs.Laws.{Laws}
 use Rattle.kernel_model.specs.Claims.{IsStable}
 use Rattle.plain_rules.specs.Ledgers.{at_here}
 use Rattle.graft_laws.specs.Histories.{NeedsGraftsExclusively, IsReplayed}
@@ -35,7 +33,7 @@ use Rattle.graft_laws.proofs.HolderLemmas.{holds_of, each_free, no_conflict}
 use Rattle.graft_laws.proofs.CommitLemmas.{Commits}
 use Rattle.graft_laws.proofs.StepCommitLemmas.{graft_of_call}
 use Rattle.graft_laws.proofs.StabilityLemmas.{has_graft, caller_low, stable_after}
-use Rattle.graft_laws.proofs.KeptKernelLemmas.{OwnCall, AreFree, after_in, order_after, kept_kernel}
+use Rattle.graft_laws.proofs.KeptKernelLemmas.{OwnCall, AreFree, kept_kernel}
 
 -- ---- a call after its piece
 
@@ -187,8 +185,7 @@ module _ (m : Meaning) (k : Kernel) (q : ℕ) (few : (p : ℕ) → length (level
       (is_needed o ns ≡ true → is_held_exclusively (holds m k p d o) ≡ false) × (is_needed_exclusively o ns ≡ true → is_held (holds m k p d o) ≡ false)
   each_unheld [] p d o each ne low = (λ h. contrary (sym h), λ h. contrary (sym h))
   each_unheld (n ∷ ns) p d o each ne low =
-      let rest = each_unheld ns p d o each.1 ne low in
-      (
+      let rest = each_unheld ns p d o each.1 ne low in (
         λ h. elim (or_cases (same_object o n.object) (is_needed o ns) h) [
           | inl same ↦ by_mode n.mode (need_free n p d o each.0 ne low same)
           | inr later ↦ rest.0 later
@@ -259,7 +256,7 @@ module _ (m : Meaning) (laws : Laws m) (owns : NeedsGraftsExclusively m) where
       let k = r.kernel in
       let l = u.kernel in
       let kernel_of = λ (w : World) (i : ImageTable) (es : List Entry).
-          record l { world = w; images = i; order = less_entry q es ++ cond (is_at_piece (l.call q)) (new_entry q ∷ []) [] } in
+      record l { world = w; images = i; order = less_entry q es ++ cond (is_at_piece (l.call q)) (new_entry q ∷ []) [] } in
       let same : (requeue q u).kernel ≡ kernel_of k.world k.images k.order =
       ap (λ w. kernel_of w l.images l.order) commits.world ∙ ap (λ i. kernel_of k.world i l.order) commits.images ∙ ap (kernel_of k.world k.images) kept.order in
       subst (IsSoundKernel m) (sym same)

@@ -1,25 +1,24 @@
 -- What the pasts of a trace tell of each level above 0: where it began, and that the effects since lead to it.
-use Rattle.std.specs.Prelude.{◌≡◌, ℕ, suc, ◌+◌, ◌<◌, ◌≤◌, ◌==◌, ◌&&◌, not, nat_le, Bool, true, false, List, [], ◌∷◌, ◌++◌, length, take, reverse, Option, Some, None, is_some, ⊤}
+use Rattle.std.specs.Prelude.{◌≡◌, ℕ, suc, ◌+◌, ◌<◌, ◌≤◌, ◌==◌, ◌&&◌, not, nat_le, true, false, List, [], ◌∷◌, ◌++◌, length, take, reverse, Option, Some, None, is_some, ⊤}
 use Rattle.std.proofs.Common.{arith, refl, subst, sym, ap, ◌∙◌, inl, inr}
 use Rattle.std.proofs.lemmas.Bool.{cases_Bool}
 use Rattle.std.proofs.lemmas.Bool.Decides.{nat_tests}
 use Rattle.std.proofs.lemmas.List.{append_assoc, append-nil, reverse-append, reverse-reverse, take-append-le, length-append}
-use Rattle.kernel_model.specs.declared.Held.{Held}
 use Rattle.kernel_model.specs.declared.Kind.{Kind}
 use Rattle.kernel_model.specs.declared.Mode.{Mode}
 use Rattle.kernel_model.specs.declared.Object.{Object}
 use Rattle.kernel_model.specs.declared.Object.TheVariants.{Graft}
 use Rattle.kernel_model.specs.World.{World, ImageTable}
-use Rattle.kernel_model.specs.Objects.{Objects, Accounts, Things, with_accounts}
+use Rattle.kernel_model.specs.Objects.{Accounts, Things}
 use Rattle.kernel_model.specs.Charges.{funds, charge, removed}
 use Rattle.kernel_model.specs.Locks.{Touched, touch, is_held}
-use Rattle.kernel_model.specs.Levels.{Level, Config, Effect, Asked, Charged, Removed, Outcome, is_going_on, level_at, touch_outermost, outermost_touched}
+use Rattle.kernel_model.specs.Levels.{Level, Config, Effect, Asked, Charged, Removed, is_going_on, level_at, touch_outermost, outermost_touched}
 use Rattle.kernel_model.specs.GraftStep.{micro}
-use Rattle.kernel_model.specs.History.{Mark, Past, Trace, with_effects, effects_on, effect, marks_on, effects_since, marks_before, is_found, config_if, with_accounts_of}
+use Rattle.kernel_model.specs.History.{Mark, Past, Trace, effects_on, effect, marks_on, effects_since, marks_before, config_if, with_accounts_of}
 use Rattle.graft_laws.specs.Histories.{outside_of}
 use Rattle.graft_laws.proofs.ShapeLemmas.{at_top, at_inner, at_below}
 use Rattle.graft_laws.proofs.MarkLemmas.{effects_split, charged_split, removed_split}
-use Rattle.graft_laws.proofs.OuterLemmas.{IsSameGraft, touched_by, effect_then, charge_again, remove_again, touch_splits}
+use Rattle.graft_laws.proofs.OuterLemmas.{IsSameGraft, effect_then, touch_splits}
 
 -- ---- effects on other things, with other inner levels
 

@@ -1,15 +1,14 @@
 -- Each level of a trace has a beginning in its history.
-use Rattle.std.specs.Prelude.{◌≡◌, ℕ, zero, suc, ◌+◌, ◌<◌, ◌≤◌, ◌==◌, Bool, true, false, cond, List, [], ◌∷◌, ◌++◌, length, take, reverse, Contains, Option, Some, None, ⊤}
-use Rattle.std.proofs.Common.{arith, refl, subst, sym, ap, ◌∙◌, inl, inr}
+use Rattle.std.specs.Prelude.{◌≡◌, ℕ, suc, ◌+◌, ◌<◌, ◌≤◌, ◌==◌, true, false, cond, List, [], ◌∷◌, ◌++◌, length, take, reverse, Contains, Option, Some, None}
+use Rattle.std.proofs.Common.{arith, refl, subst, sym, ap, ◌∙◌}
 use Rattle.std.proofs.lemmas.Bool.Decides.{nat_tests}
 use Rattle.std.proofs.lemmas.List.{append_assoc, append-nil, length-append}
 use Rattle.std.proofs.Math.Seq.{take-append_seam}
 use Rattle.kernel_model.specs.declared.Held.{Held}
-use Rattle.kernel_model.specs.declared.Micro.{Micro}
 use Rattle.kernel_model.specs.declared.Object.{Object}
 use Rattle.kernel_model.specs.declared.Object.TheVariants.{Graft}
 use Rattle.kernel_model.specs.World.{World, ImageTable}
-use Rattle.kernel_model.specs.Objects.{Objects, Accounts, Things}
+use Rattle.kernel_model.specs.Objects.{Objects, Accounts}
 use Rattle.kernel_model.specs.Policies.{kind_of, default_of}
 use Rattle.kernel_model.specs.Levels.{Level, Config, Effect, Outcome, is_going_on, with_machine, answered, touch_outermost, outermost_touched, answer_innermost}
 use Rattle.kernel_model.specs.GraftStep.{micro, micro_on}
@@ -17,10 +16,10 @@ use Rattle.kernel_model.specs.History.{Mark, Stepped, Fell, Past, Trace, with_ef
 use Rattle.graft_laws.specs.Histories.{IsReplayed}
 use Rattle.graft_laws.proofs.TurnParts.{not_going}
 use Rattle.graft_laws.proofs.StandLemmas.{AllStand}
-use Rattle.graft_laws.proofs.MarkLemmas.{HasFallen, stepped_split, fell_split, marks_split}
+use Rattle.graft_laws.proofs.MarkLemmas.{stepped_split, fell_split, marks_split}
 use Rattle.graft_laws.proofs.HistoryReplayLemmas.{mark_replays, marks_stood}
 use Rattle.graft_laws.proofs.OuterLemmas.{IsSameGraft, touched_by, Outer, Stays, Starts, Answers, Lost, Over, Replays, levels_replay}
-use Rattle.graft_laws.proofs.PastLemmas.{touch_points, Leads, LeadsTo, effects_lead_to, HasRoot, AreRooted, rooted_over, rooted_further, touched_splits, AreOf, rooted_on}
+use Rattle.graft_laws.proofs.PastLemmas.{touch_points, Leads, effects_lead_to, HasRoot, AreRooted, rooted_over, rooted_further, touched_splits, AreOf, rooted_on}
 
 -- ---- effects of an outcome
 
@@ -203,8 +202,7 @@ module _ (v : World) (images : ImageTable) (p : ℕ) (t0 : Trace) where
         let r = micro_on v images p w (l ∷ ls) in
         let pts = points_of h.asked in
         let levels = e ∙ ap (λ xs. n ∷ xs) (touched_points l.owner h.asked ls) in
-        let size = ap length levels ∙ ap suc (touched_length l.owner pts ls) in
-        (
+        let size = ap length levels ∙ ap suc (touched_length l.owner pts ls) in (
           subst (λ ps. AreRooted v images p t0 (hs ++ Stepped ∷ []) r.config.now.accounts [] r.config.levels ps) (sym (pasts_same t.marks (length (l ∷ ls)) (length r.config.levels) (with_effects r.effects t.pasts) size))
               (subst (λ xs. AreRooted v images p t0 (hs ++ Stepped ∷ []) r.config.now.accounts [] xs (with_effects r.effects t.pasts)) (sym levels) (with_outcome r h n same)),
           (l.owner, subst (AreOf v images p t0 l.owner) (sym levels) (same.owner, of_touched l.owner pts ls own_levels.1)),
@@ -219,8 +217,7 @@ module _ (v : World) (images : ImageTable) (p : ℕ) (t0 : Trace) where
         let new = subst (λ (c : Config). HasRoot v images p t0 (hs ++ Stepped ∷ []) (micro v images p c).config.now.accounts [] n rest t.marks) here
         (new_root hs t n rest root.marks root.prefix (subst (λ (c : Config). is_going_on (micro v images p c).said ≡ true) back went)
         (subst (λ (c : Config). length (micro v images p c).config.levels ≡ suc (length c.levels)) back size) (subst (λ (c : Config). (micro v images p c).config.levels ≡ n ∷ rest) back levels)
-        (subst (λ (c : Config). n.kept ≡ (micro v images p c).config.now.things) back kept)) in
-        (
+        (subst (λ (c : Config). n.kept ≡ (micro v images p c).config.now.things) back kept)) in (
           subst (λ ps. AreRooted v images p t0 (hs ++ Stepped ∷ []) r.config.now.accounts [] r.config.levels ps) (sym (pasts_more t.marks (length (l ∷ ls)) (length r.config.levels) (with_effects r.effects t.pasts) size))
               (subst (λ xs. AreRooted v images p t0 (hs ++ Stepped ∷ []) r.config.now.accounts [] xs (record { began = t.marks; effects = [] } ∷ with_effects r.effects t.pasts)) (sym levels) (new, with_outcome r h b same)),
           (l.owner, subst (AreOf v images p t0 l.owner) (sym levels) (owner, (same.owner, of_touched l.owner pts ls own_levels.1))),
@@ -232,8 +229,7 @@ module _ (v : World) (images : ImageTable) (p : ℕ) (t0 : Trace) where
         let joined = rooted_joined (hs ++ Stepped ∷ []) r.config.now.accounts l a rest (with_effects r.effects t.pasts)
         (subst (λ xs. AreRooted v images p t0 (hs ++ Stepped ∷ []) r.config.now.accounts [] (l ∷ xs) (with_effects r.effects t.pasts)) e all) in
         let outer : AreOf v images p t0 l.owner (a ∷ rest) = subst (AreOf v images p t0 l.owner) e own_levels.1 in
-        let size = ap (λ (xs : List Level). suc (length xs)) e ∙ sym (ap (λ (xs : List Level). suc (length xs)) f) in
-        (
+        let size = ap (λ (xs : List Level). suc (length xs)) e ∙ sym (ap (λ (xs : List Level). suc (length xs)) f) in (
           subst (λ ps. AreRooted v images p t0 (hs ++ Stepped ∷ []) r.config.now.accounts [] r.config.levels ps) (sym (pasts_less t.marks (length (l ∷ ls)) (length r.config.levels) (with_effects r.effects t.pasts) size))
               (subst (λ xs. AreRooted v images p t0 (hs ++ Stepped ∷ []) r.config.now.accounts [] xs (joined_pasts (with_effects r.effects t.pasts))) (sym f)
               (rooted_same (hs ++ Stepped ∷ []) l.owner r.config.now.accounts [] a b rest (joined_pasts (with_effects r.effects t.pasts)) outer same joined)),
@@ -276,8 +272,7 @@ module _ (v : World) (images : ImageTable) (p : ℕ) (t0 : Trace) where
         let rooted = rooted_effects hs n.owner es r.config.now.accounts leads.accounts leads.points b asker outer (with_effects r.effects t.pasts) of leads.leads same_asker (at_outcome r h b same) in
         let ends : level_ends v c.now c.levels ≡ record { now = record { accounts = leads.accounts; things = r.config.now.things }; levels = asker ∷ touch_points n.owner leads.points outer } =
         ap (λ (x : Config). level_ends v x.now x.levels) (sym leads.is)
-        ∙ ap (λ xs. record { now = record { accounts = leads.accounts; things = r.config.now.things }; levels = answer_innermost n.point d.0 d.1 xs }) split.1 in
-        (
+        ∙ ap (λ xs. record { now = record { accounts = leads.accounts; things = r.config.now.things }; levels = answer_innermost n.point d.0 d.1 xs }) split.1 in (
           subst (λ (x : Config). AreRooted v images p t0 hs x.now.accounts [] x.levels (with_effects es (with_effects r.effects t.pasts))) (sym ends) rooted,
           (n.owner, subst (λ (x : Config). AreOf v images p t0 n.owner x.levels) (sym ends) (same_asker.owner ∙ of.0, of_touched n.owner leads.points outer of.1)),
         )

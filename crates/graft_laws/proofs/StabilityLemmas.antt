@@ -23,7 +23,8 @@ use Rattle.graft_laws.proofs.EffectLemmas.{same_self}
 use Rattle.graft_laws.proofs.AlikeHistoryLemmas.{histories_alike}
 use Rattle.graft_laws.proofs.HolderLemmas.{apart_unchanged, free_unneeded}
 use Rattle.graft_laws.proofs.CommitLemmas.{Commits}
-use Rattle.graft_laws.proofs.StepCommitLemmas.{thing_self, stands_in, trace_is, config_is, levels_are, graft_of_call, step_commits, drop_commits}
+use Rattle.graft_laws.proofs.GraftEndLemmas.{thing_self}
+use Rattle.graft_laws.proofs.StepCommitLemmas.{stands_in, trace_is, config_is, levels_are, graft_of_call, step_commits, drop_commits}
 
 -- ---- what is committed
 
