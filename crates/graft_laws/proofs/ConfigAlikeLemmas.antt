@@ -274,7 +274,7 @@ pub asks_of_rest : (l : Level) (ls : List Level) → AsksAreHeld (l ∷ ls) → 
 asks_of_rest l [] asks = tt
 asks_of_rest l (m ∷ ls) asks = asks.1
 
-answer_of_rest : (l : Level) (ls : List Level) → AnswerIsHeld (l ∷ ls) → AnswerIsHeld ls
+pub answer_of_rest : (l : Level) (ls : List Level) → AnswerIsHeld (l ∷ ls) → AnswerIsHeld ls
 answer_of_rest l [] held = tt
 answer_of_rest l (m ∷ ls) held = held
 

@@ -20,6 +20,7 @@ pub mod AlikeLemmas
 pub mod BeginningLemmas
 pub mod DropReplayLemmas
 pub mod PlainNeedsLemmas
+pub mod AnswerLemmas
 pub mod AlikeEffectLemmas
 pub mod AlikeMarkLemmas
 pub mod AlikeHistoryLemmas

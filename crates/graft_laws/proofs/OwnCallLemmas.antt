@@ -27,6 +27,7 @@ use Rattle.kernel_model.specs.Laws.{Laws}
 use Rattle.kernel_model.specs.Claims.{IsStable}
 use Rattle.plain_rules.specs.Ledgers.{at_here}
 use Rattle.graft_laws.specs.Histories.{NeedsGraftsExclusively, IsReplayed}
+use Rattle.graft_laws.specs.Kernels.{CallsReplay}
 use Rattle.graft_laws.proofs.PointLemmas.{or_cases}
 use Rattle.graft_laws.proofs.ShapeLemmas.{contrary, at_below}
 use Rattle.graft_laws.proofs.HolderLemmas.{holds_of, each_free, no_conflict}
@@ -265,3 +266,6 @@ module _ (m : Meaning) (laws : Laws m) (owns : NeedsGraftsExclusively m) where
       (λ p ne. subst (λ (x : Kernel). IsStable m k x p) same
       (stable_after m laws owns r (requeue q u) p q free h whole ne requeued (λ o low few held. unheld p o ne low held)))
       ns (subst (OwnCall m q ns k) same kept.own) (caller_low m laws owns r q c h e) are_free)
+
+pub calls_replay : (m : Meaning) → CallsReplay m
+calls_replay m r p c laws owns sound e = all_replayed m laws owns r sound.kernel sound.blocks p c e

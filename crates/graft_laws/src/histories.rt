@@ -2,6 +2,7 @@
 
 ghost use Rattle.kernel_model.specs.Pieces.{plain};
 ghost use Rattle.graft_laws.specs.Falls.{FallsReplay};
+ghost use Rattle.graft_laws.specs.Points.{NeedsAnswers, HistoriesHoldAnswers};
 ghost use Rattle.graft_laws.specs.Histories.{NeedsGraftsExclusively, BeginningsReplay, InstructionsReplay, HistoriesReplay, DropsReplay, HistoriesAlike};
 
 use kernel_model::Rules;
@@ -39,4 +40,14 @@ pub fn histories_alike<R: Rules>()
 /// The history after the drop of a level above 0 leads to the config that the drop gave.
 pub fn falls_replay<R: Rules>()
     ensures { FallsReplay R.meaning }
+{}
+
+/// The system calls need what tells whether an answer of the point that they ask is valid.
+pub fn calls_need_answers()
+    ensures { NeedsAnswers plain }
+{}
+
+/// Then level 0 holds it, wherever a history leads.
+pub fn histories_hold_answers<R: Rules>()
+    ensures { HistoriesHoldAnswers R.meaning }
 {}

@@ -1,6 +1,6 @@
 //! Laws of what keeps abstract kernels sound. A call of one brings its statement into a proof.
 
-ghost use Rattle.graft_laws.specs.Kernels.{StepsStaySound, DropsStaySound, SettlingStaysSound, EventsStaySound};
+ghost use Rattle.graft_laws.specs.Kernels.{StepsStaySound, DropsStaySound, SettlingStaysSound, EventsStaySound, CallsReplay};
 
 use kernel_model::Rules;
 
@@ -22,4 +22,9 @@ pub fn settling_stays_sound<R: Rules>()
 /// And every event.
 pub fn events_stay_sound<R: Rules>()
     ensures { EventsStaySound R.meaning }
+{}
+
+/// In a sound kernel each call in a graft is sound, and as in the state but for what its levels hold exclusively.
+pub fn calls_replay<R: Rules>()
+    ensures { CallsReplay R.meaning }
 {}
