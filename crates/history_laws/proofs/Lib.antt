@@ -7,7 +7,6 @@ pub mod DropCountLemmas
 pub mod DropLemmas
 pub mod EffectLemmas
 pub mod EventDropLemmas
-pub mod EventSoundLemmas
 pub mod FallenLemmas
 pub mod GoLemmas
 pub mod GraftLemmas

@@ -17,7 +17,8 @@ use Rattle.kernel_model.specs.Events.{in_order, innermost, is_over, expired, cou
 use Rattle.kernel_model.specs.Sound.{IsSoundKernel, IsAtRest, HasWholeBlocks, sum_below}
 use Rattle.kernel_model.specs.Claims.{Stability}
 use Rattle.kernel_laws.specs.Rest.{SettlesToRest}
-use Rattle.history_laws.specs.Ticks.{StableKernelsStaySound, NeedsHaveOneMode, TicksEnd}
+use Rattle.history_laws.specs.Ticks.{NeedsHaveOneMode, TicksEnd}
+use Rattle.graft_laws.specs.Stability.{CallsAreStable}
 use Rattle.history_laws.proofs.MoveLemmas.{left_of, StandsAt}
 use Rattle.history_laws.proofs.GoLemmas.{goes_self, settled_goes, entry_goes}
 use Rattle.history_laws.proofs.NoteLemmas.{sound_stands}
@@ -25,7 +26,7 @@ use Rattle.history_laws.proofs.SoundCallLemmas.{each_contains, each_from, contai
 use Rattle.history_laws.proofs.BesideLemmas.{few_levels}
 use Rattle.history_laws.proofs.KernelStepLemmas.{Known}
 use Rattle.history_laws.proofs.ShareLemmas.{depth_left, share}
-use Rattle.history_laws.proofs.SoundRunLemmas.{order_sound, counted_waiting, entry_call, step_sound, settle_sound, drop_sound, ends_sound}
+use Rattle.history_laws.proofs.SoundRunLemmas.{order_sound, counted_waiting, entry_call, settle_sound, drop_sound, ends_sound}
 use Rattle.history_laws.proofs.TotalLemmas.{total, settle_total, drop_total, ends_total}
 use Rattle.history_laws.proofs.HinderLemmas.{IsHindered, hindered_is, holder_holds, OneMode, instruction_modes}
 
@@ -276,18 +277,6 @@ module _ (m : Meaning) (know : Known m) (stability : Stability m) (one : NeedsHa
         let after = clock_sound m (record (r.kernel) { order = counted r.kernel.order }) (suc r.kernel.clock) (order_sound m r.kernel (counted r.kernel.order) (counted_waiting r.kernel.order) sound) in
         actions_end 288 u after whole (counted_rests r number rests) (total_most u after whole)
 
--- kernels stay sound
-pub stable_kernels_stay_sound : (m : Meaning) → Known m → StableKernelsStaySound m
-stable_kernels_stay_sound m know stability =
-    record {
-      steps = λ r p c sound whole is free. step_sound m know stability r p c sound whole is free;
-      settling = λ r sound whole. settle_sound m know stability 256 r sound whole;
-      drops = λ r p d cause sound whole low. drop_sound m know stability r p (Some d) cause sound whole (λ n e. subst (λ j. j < length (levels_of m r.kernel p)) (same_number d n e) low);
-    }
-  where
-    same_number : (a b : ℕ) → Some a ≡ Some b → a ≡ b
-    same_number a b h = cc
-
 -- a tick ends
-pub ticks_end : (m : Meaning) → Known m → SettlesToRest m → TicksEnd m
-ticks_end m know settles stability one r number sound whole rests = tick_ends m know stability one settles r number sound whole rests
+pub ticks_end : (m : Meaning) → Known m → SettlesToRest m → CallsAreStable m → TicksEnd m
+ticks_end m know settles stable grafts one r number sound whole rests = tick_ends m know (stable grafts) one settles r number sound whole rests

@@ -1,7 +1,8 @@
 //! Laws of how much an event writes. A call of one brings its statement into a proof.
 
-ghost use Rattle.history_laws.specs.Notes.{LeavesFewNotes, CallsLeaveFewDrops, StableEventsLeaveFewNotes};
+ghost use Rattle.history_laws.specs.Notes.{LeavesFewNotes, CallsLeaveFewDrops, EventsLeaveFewNotes};
 
+use graft_laws::stability;
 use kernel_laws::{soundness, undoing};
 use kernel_model::Rules;
 
@@ -22,10 +23,10 @@ pub fn calls_leave_few_drops<R: Rules>()
     soundness::histories_work::<R>();
 }
 
-/// An event from a sound kernel leaves at most 272 drops, and 530 notes in all, where the replay of a call stays alike
-/// whatever another call does.
-pub fn stable_events_leave_few_notes<R: Rules>()
-    ensures { StableEventsLeaveFewNotes R.meaning }
+/// An event from a sound kernel leaves at most 272 drops, and 530 notes in all, where the table needs
+/// grafts exclusively.
+pub fn events_leave_few_notes<R: Rules>()
+    ensures { EventsLeaveFewNotes R.meaning }
 {
     soundness::instructions_work();
     soundness::histories_work::<R>();
@@ -34,4 +35,5 @@ pub fn stable_events_leave_few_notes<R: Rules>()
     soundness::drops_stay_sound();
     undoing::inverses_undo();
     undoing::changes_are_of_one_object();
+    stability::calls_are_stable::<R>();
 }

@@ -11,8 +11,6 @@ fn the_system_calls_have_the_laws(_rt: HostRuntime) {
     store::undone_is_below::<PlainRules>();
     notes::leaves_few_notes::<PlainRules>();
     notes::calls_leave_few_drops::<PlainRules>();
-    notes::stable_events_leave_few_notes::<PlainRules>();
-    ticks::stable_kernels_stay_sound::<PlainRules>();
-    ticks::stable_events_stay_sound::<PlainRules>();
+    notes::events_leave_few_notes::<PlainRules>();
     ticks::ticks_end::<PlainRules>();
 }

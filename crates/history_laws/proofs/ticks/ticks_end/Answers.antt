@@ -12,4 +12,4 @@ returns g c =
       own = c.changes_are_of_one_object.ensures;
       configs = c.configs_stay_sound.ensures;
       drops = c.drops_stay_sound.ensures;
-    }) c.settles_to_rest.ensures
+    }) c.settles_to_rest.ensures c.calls_are_stable.ensures

@@ -1,9 +1,9 @@
-use Rattle.history_laws.proofs.EventSoundLemmas.{stable_events_stay_sound}
-use Rattle.history_laws.proofs.ticks.stable_events_stay_sound.Goals as goal
+use Rattle.history_laws.proofs.EventDropLemmas.{events_leave_few_notes}
+use Rattle.history_laws.proofs.notes.events_leave_few_notes.Goals as goal
 
 pub returns : goal.returns
 returns g c =
-    stable_events_stay_sound g.R.Rules.meaning (record {
+    events_leave_few_notes g.R.Rules.meaning (record {
       laws = g.R.Rules.laws;
       instructions = c.instructions_work.ensures;
       histories = c.histories_work.ensures;
@@ -12,4 +12,4 @@ returns g c =
       own = c.changes_are_of_one_object.ensures;
       configs = c.configs_stay_sound.ensures;
       drops = c.drops_stay_sound.ensures;
-    })
+    }) c.calls_are_stable.ensures
