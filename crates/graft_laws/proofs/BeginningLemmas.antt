@@ -23,7 +23,7 @@ use Rattle.graft_laws.specs.Histories.{GraftsStand, NeedsGraftsExclusively, HasR
 use Rattle.graft_laws.proofs.PointLemmas.{or_right}
 use Rattle.graft_laws.proofs.HoldLemmas.{touch_all_from, touch_all_takes, exclusive_is}
 use Rattle.graft_laws.proofs.RangeLemmas.{needed_contains}
-use Rattle.graft_laws.proofs.TurnLemmas.{not_going}
+use Rattle.graft_laws.proofs.TurnParts.{not_going}
 use Rattle.graft_laws.proofs.ShapeLemmas.{found_at_level, at_below}
 use Rattle.graft_laws.proofs.StandLemmas.{AllStand}
 use Rattle.graft_laws.proofs.EffectLemmas.{same_self}

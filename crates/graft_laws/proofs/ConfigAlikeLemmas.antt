@@ -26,12 +26,13 @@ use Rattle.graft_laws.proofs.HoldLemmas.{outermost_held}
 use Rattle.graft_laws.proofs.LevelsAlikeLemmas.{length_alike}
 use Rattle.graft_laws.proofs.AlikeLemmas.{AreSameOutcomes, DefaultsAlike, IsAlike, IsAnsweredAlike, drop_same, levels_same}
 use Rattle.graft_laws.proofs.GrownLemmas.{AreGrown, grown_self, grown_asks, grown_answer_held}
-use Rattle.graft_laws.proofs.TurnLemmas.{Shape, Goes, Begins, Joins, Ends, Falls, levels_turn}
+use Rattle.graft_laws.proofs.TurnParts.{Shape, Goes, Begins, Joins, Ends, Falls}
+use Rattle.graft_laws.proofs.TurnLemmas.{levels_turn}
 
 -- ---- what levels found
 
 -- levels that are alike found the same of what their states agree on now
-kept_alike : (ls ks : List Level) (w u : Things) → LevelsAlike ls ks → found_by ls ≡ kept_by_log w (undo_log ls) → found_by ks ≡ kept_by_log u (undo_log ks) →
+pub kept_alike : (ls ks : List Level) (w u : Things) → LevelsAlike ls ks → found_by ls ≡ kept_by_log w (undo_log ls) → found_by ks ≡ kept_by_log u (undo_log ks) →
     (o : Object) → SameThing o w u → (n : ℕ) (l k : Level) → level_at n ls ≡ Some l → level_at n ks ≡ Some k → SameThing o l.kept k.kept
 kept_alike [] [] w u levels x y o same n l k e d = absurd cc
 kept_alike (a ∷ ls) (b ∷ ks) w u levels x y o same n l k e d =
@@ -82,7 +83,7 @@ found_alike w u x y l k ls ks h o same =
     (subst (λ is. SameThing o before (undo_all is y)) (ap (λ (m : Level). m.records) h.levels.0) (undo_all_keeps l.records o x y (h.things o same))))
 
 -- the objects of a point that was asked agree
-asked_alike : (w u : Objects) (l m : Level) (ls : List Level) (q pt : ℕ) → ((o : Object) → is_held_in (l ∷ m ∷ ls) o ≡ true → SameAt o w u) →
+pub asked_alike : (w u : Objects) (l m : Level) (ls : List Level) (q pt : ℕ) → ((o : Object) → is_held_in (l ∷ m ∷ ls) o ≡ true → SameAt o w u) →
     AreHeldBy (m ∷ ls) (point_objects (kind_of pt) q pt) → AreSame (point_objects (kind_of pt) q pt) w.things u.things
 asked_alike w u l m ls q pt held asks =
     held_same (m ∷ ls) (point_objects (kind_of pt) q pt) w.things u.things
@@ -119,7 +120,7 @@ answer_alike w u l [] held asks answer = held_same (l ∷ []) (answer_objects (k
 answer_alike w u l (m ∷ ls) held asks answer =
     answer_of_point (kind_of l.point) l.owner l.point w.things u.things (asked_alike w u l m ls l.owner l.point held asks.0)
 
-valid_alike : (d : Done) (w u : Objects) (l : Level) → AreSame (answer_objects (kind_of l.point)) w.things u.things → IsAnsweredAlike d w u l
+pub valid_alike : (d : Done) (w u : Objects) (l : Level) → AreSame (answer_objects (kind_of l.point)) w.things u.things → IsAnsweredAlike d w u l
 valid_alike Returned w u l same = valid_same (kind_of l.point) l.owner l.args (l.machine.regs 0) (l.machine.regs 1) w.things u.things same
 valid_alike (Done.Went m) w u l same = tt
 valid_alike (Called id m) w u l same = tt
@@ -170,7 +171,7 @@ both_alike v w u ls ks first second alike asks =
 -- ---- instructions
 
 -- whatever the innermost level offers
-instruction_alike : (v : World) (images : ImageTable) (p : ℕ) (w u : Objects) (l : Level) (ls ks : List Level) →
+pub instruction_alike : (v : World) (images : ImageTable) (p : ℕ) (w u : Objects) (l : Level) (ls ks : List Level) →
     IsSoundConfig v (record { now = w; levels = l ∷ ls }) → IsSoundConfig v (record { now = u; levels = ks }) →
     ConfigsAlike (record { now = w; levels = l ∷ ls }) (record { now = u; levels = ks }) → AsksAreHeld (l ∷ ls) →
     IsAnsweredAlike (seg_step (code_of images w.accounts l.owner l.point) l.machine) w u l → AgreeOn (next_needs v images w.accounts (l ∷ ls)) w u →
@@ -273,7 +274,7 @@ pub asks_of_rest : (l : Level) (ls : List Level) → AsksAreHeld (l ∷ ls) → 
 asks_of_rest l [] asks = tt
 asks_of_rest l (m ∷ ls) asks = asks.1
 
-answer_of_rest : (l : Level) (ls : List Level) → AnswerIsHeld (l ∷ ls) → AnswerIsHeld ls
+pub answer_of_rest : (l : Level) (ls : List Level) → AnswerIsHeld (l ∷ ls) → AnswerIsHeld ls
 answer_of_rest l [] held = tt
 answer_of_rest l (m ∷ ls) held = held
 

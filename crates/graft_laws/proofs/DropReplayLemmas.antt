@@ -30,18 +30,19 @@ use Rattle.graft_laws.specs.Alike.{AsksAreHeld}
 -- ---- the level that is dropped
 
 -- the drop of a level (l), with the levels outside it (rest)
-record DropsAt (v : World) (s : Things) (w : Objects) (ls : List Level) (n : ℕ) (cause : Cause) : Type 0 where
-  level : Level
-  rest : List Level
-  is : drop_level v w ls n cause ≡ drop_innermost v w level rest cause
-  among : Contains ls level
-  found : FoundAsIn s (level ∷ rest)
-  asks : AsksAreHeld rest
-  held : (o : Object) → is_held_in rest o ≡ true → is_held_in ls o ≡ true
-  changed : (o : Object) → is_changed_in rest o ≡ true → is_changed_in ls o ≡ true
-  outer : rest ≢ [] → (o : Object) → outermost_touched ls o ≡ Held.Exclusive → outermost_touched rest o ≡ Held.Exclusive
+pub record DropsAt (v : World) (s : Things) (w : Objects) (ls : List Level) (n : ℕ) (cause : Cause) : Type 0 where
+  pub level : Level
+  pub rest : List Level
+  pub number : length rest ≡ n
+  pub is : drop_level v w ls n cause ≡ drop_innermost v w level rest cause
+  pub among : Contains ls level
+  pub found : FoundAsIn s (level ∷ rest)
+  pub asks : AsksAreHeld rest
+  pub held : (o : Object) → is_held_in rest o ≡ true → is_held_in ls o ≡ true
+  pub changed : (o : Object) → is_changed_in rest o ≡ true → is_changed_in ls o ≡ true
+  pub outer : rest ≢ [] → (o : Object) → outermost_touched ls o ≡ Held.Exclusive → outermost_touched rest o ≡ Held.Exclusive
 
-drops_at : (v : World) (s : Things) (w : Objects) (ls : List Level) (n : ℕ) (cause : Cause) → n < length ls → FoundAsIn s ls → AsksAreHeld ls → DropsAt v s w ls n cause
+pub drops_at : (v : World) (s : Things) (w : Objects) (ls : List Level) (n : ℕ) (cause : Cause) → n < length ls → FoundAsIn s ls → AsksAreHeld ls → DropsAt v s w ls n cause
 drops_at v s w [] n cause low found asks = absurd (none_below n low)
   where
     none_below : (k : ℕ) → k < 0 → ⊥
@@ -50,6 +51,7 @@ drops_at v s w (l ∷ ls) n cause low found asks = elim (cases_Bool (length ls =
   | inl top ↦ record {
     level = l;
     rest = ls;
+    number = same_number (length ls) n top;
     is = ap (λ b. elim b as (λ _. Outcome) [ true ↦ drop_innermost v w l ls cause | false ↦ drop_level v w ls n cause ]) top;
     among = (0, below_suc (length ls), refl);
     found = found;
@@ -62,6 +64,7 @@ drops_at v s w (l ∷ ls) n cause low found asks = elim (cases_Bool (length ls =
       let k = drops_at v s w ls n cause (lower n (length ls) low inner) found.1 (asks_of_rest l ls asks) in record {
         level = k.level;
         rest = k.rest;
+        number = k.number;
         is = ap (λ b. elim b as (λ _. Outcome) [ true ↦ drop_innermost v w l ls cause | false ↦ drop_level v w ls n cause ]) inner ∙ k.is;
         among = Contains-append_right (l ∷ []) ls k.level k.among;
         found = k.found;
@@ -72,6 +75,9 @@ drops_at v s w (l ∷ ls) n cause low found asks = elim (cases_Bool (length ls =
       }
 ]
   where
+    same_number : (a b : ℕ) → (a == b) ≡ true → a ≡ b
+    same_number a b e = grind (arith, nat_tests)
+
     below_suc : (n : ℕ) → 0 < suc n
     below_suc n = omega arith
 
@@ -92,7 +98,7 @@ drops_at v s w (l ∷ ls) n cause low found asks = elim (cases_Bool (length ls =
             none_below k h = omega arith
 
 -- where a level is left there was one at the number
-drop_low : (v : World) (w : Objects) (ls : List Level) (n : ℕ) (cause : Cause) → (drop_level v w ls n cause).config.levels ≢ [] → n < length ls
+pub drop_low : (v : World) (w : Objects) (ls : List Level) (n : ℕ) (cause : Cause) → (drop_level v w ls n cause).config.levels ≢ [] → n < length ls
 drop_low v w [] n cause some = absurd (some refl)
 drop_low v w (l ∷ ls) n cause some = low_by (length ls == n) refl some (drop_low v w ls n cause)
   where
@@ -110,13 +116,13 @@ drop_low v w (l ∷ ls) n cause some = low_by (length ls == n) refl some (drop_l
 -- ---- what is left
 
 -- the account or graft of an object
-abbrev IsAccount : Object → Type 0
+abbrev pub IsAccount : Object → Type 0
 IsAccount (Graft q pt) = ⊤
 IsAccount (Acct q) = ⊤
 IsAccount o = ⊥
 
 -- accounts as in a state, and things too
-both_parts : (o : Object) (a : Accounts) (x : Things) (w s : Objects) → a ≡ w.accounts → (IsAccount o → SameAt o w s) → SameThing o x s.things → SameAt o (record { accounts = a; things = x }) s
+pub both_parts : (o : Object) (a : Accounts) (x : Things) (w s : Objects) → a ≡ w.accounts → (IsAccount o → SameAt o w s) → SameThing o x s.things → SameAt o (record { accounts = a; things = x }) s
 both_parts (Graft q pt) a x w s e h k = ap (λ (b : Accounts). b.graft q pt) e ∙ h tt
 both_parts (Acct q) a x w s e h k = ap (λ (b : Accounts). b.acct q) e ∙ h tt
 both_parts (Cell q i) a x w s e h k = k
@@ -177,7 +183,7 @@ rest_replays v s c n cause h d some sound =
     answered_changed pt r0 r1 [] o h = h
     answered_changed pt r0 r1 (k ∷ ls) o h = h
 
-drop_at : (v : World) (s : Objects) (c : Config) (n : ℕ) (cause : Cause) → IsReplayed v s c → n < length c.levels → DropsAt v s.things c.now c.levels n cause
+pub drop_at : (v : World) (s : Objects) (c : Config) (n : ℕ) (cause : Cause) → IsReplayed v s c → n < length c.levels → DropsAt v s.things c.now c.levels n cause
 drop_at v s c n cause h low = drops_at v s.things c.now c.levels n cause low (level_found s.things c.levels h.kept) h.asks
 
 drop_some : (v : World) (s : Objects) (c : Config) (n : ℕ) (cause : Cause) → IsReplayed v s c → (drop_level v c.now c.levels n cause).config.levels ≢ [] →

@@ -22,7 +22,7 @@ use Rattle.kernel_laws.proofs.LevelLemmas.{KeepOn, keep_self, keep_touch, keep_t
 use Rattle.graft_laws.proofs.PointLemmas.{or_right, or_left}
 use Rattle.graft_laws.proofs.HoldLemmas.{touch_outermost_from, touch_outermost_changed, touch_outermost_outer, outermost_changed}
 use Rattle.graft_laws.proofs.GrownLemmas.{AreGrown, grown_self, grown_then, grown_touch, grown_changed, grown_outermost, grown_unchanged}
-use Rattle.graft_laws.proofs.TurnLemmas.{StandsFrom, charged_stood, removed_stood}
+use Rattle.graft_laws.proofs.TurnParts.{StandsFrom, charged_stood, removed_stood}
 use Rattle.graft_laws.proofs.MarkLemmas.{effects_split, charged_split, removed_split}
 
 -- ---- the same value
@@ -143,7 +143,7 @@ affected_then v w x y ks js is h k =
     }
 
 -- what level 0 holds is held
-outer_held : (ls : List Level) (o : Object) → is_held (outermost_touched ls o) ≡ true → is_held_in ls o ≡ true
+pub outer_held : (ls : List Level) (o : Object) → is_held (outermost_touched ls o) ≡ true → is_held_in ls o ≡ true
 outer_held [] o h = absurd cc
 outer_held (l ∷ []) o h = or_left (is_held (l.touched o)) false h
 outer_held (l ∷ k ∷ ls) o h = or_right (is_held (l.touched o)) (is_held_in (k ∷ ls) o) (outer_held (k ∷ ls) o h)

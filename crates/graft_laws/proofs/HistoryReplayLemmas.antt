@@ -14,7 +14,8 @@ use Rattle.graft_laws.specs.Histories.{IsReplayed}
 use Rattle.graft_laws.proofs.PointLemmas.{or_right}
 use Rattle.graft_laws.proofs.HoldLemmas.{outermost_changed}
 use Rattle.graft_laws.proofs.GrownLemmas.{AreGrown, grown_self, grown_answer, grown_touch, grown_then, grown_length}
-use Rattle.graft_laws.proofs.TurnLemmas.{Shape, Goes, Begins, Joins, Ends, Falls, IsNew, StandsFrom, charged_stood, removed_stood, levels_turn, not_going}
+use Rattle.graft_laws.proofs.TurnParts.{Shape, Goes, Begins, Joins, Ends, Falls, IsNew, StandsFrom, charged_stood, removed_stood, not_going}
+use Rattle.graft_laws.proofs.TurnLemmas.{levels_turn}
 use Rattle.graft_laws.proofs.StandLemmas.{AllStand, stand_grown, stand_from, micro_stands}
 use Rattle.graft_laws.proofs.EffectLemmas.{Affected, effects_lead}
 use Rattle.graft_laws.proofs.ReplayLemmas.{instructions_replay, fallen_replays}
@@ -50,7 +51,7 @@ shape_begun l ls w went after (Falls g h) e more = not_going (sym g ∙ e)
 -- ---- where a mark leads, its grafts stood before
 
 -- effects put no graft in place
-effects_stood : (q : ℕ) (es : List Effect) (c d : Config) → effects_on q es c ≡ Some d → StandsFrom c.now.accounts d.now.accounts × AreGrown d.levels c.levels
+pub effects_stood : (q : ℕ) (es : List Effect) (c d : Config) → effects_on q es c ≡ Some d → StandsFrom c.now.accounts d.now.accounts × AreGrown d.levels c.levels
 effects_stood q [] c d h = subst (λ (x : Config). StandsFrom c.now.accounts x.now.accounts × AreGrown x.levels c.levels) (some_is c d h) (λ r pu e. e, grown_self c.levels)
   where
     some_is : (c d : Config) → Some c ≡ Some d → c ≡ d

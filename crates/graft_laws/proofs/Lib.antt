@@ -8,6 +8,7 @@ pub mod RangeLemmas
 mod NeededPremises
 pub mod CalledLemmas
 pub mod GrownLemmas
+pub mod TurnParts
 pub mod TurnLemmas
 pub mod ShapeLemmas
 pub mod StandLemmas
@@ -19,3 +20,25 @@ pub mod AlikeLemmas
 pub mod BeginningLemmas
 pub mod DropReplayLemmas
 pub mod PlainNeedsLemmas
+pub mod AnswerLemmas
+pub mod AlikeEffectLemmas
+pub mod AlikeMarkLemmas
+pub mod AlikeHistoryLemmas
+pub mod HolderLemmas
+pub mod CommitLemmas
+pub mod GraftEndLemmas
+pub mod StepCommitLemmas
+pub mod StabilityLemmas
+pub mod OuterLemmas
+pub mod PastLemmas
+pub mod RootLemmas
+pub mod FallLemmas
+pub mod GraftOriginLemmas
+pub mod KernelLemmas
+pub mod KeptKernelLemmas
+pub mod OwnCallLemmas
+pub mod KernelSoundLemmas
+pub mod KernelStepLemmas
+pub mod OrderLemmas
+pub mod SettleSoundLemmas
+pub mod EventLemmas

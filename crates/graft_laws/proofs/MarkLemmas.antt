@@ -1,6 +1,6 @@
 -- What a history that leads somewhere passed.
 use Rattle.std.specs.Prelude.{◌≡◌, ℕ, suc, ◌≤◌, ◌==◌, ◌&&◌, not, Bool, true, false, List, ◌∷◌, length, Option, Some, None}
-use Rattle.std.proofs.Common.{arith, refl, subst, sym}
+use Rattle.std.proofs.Common.{arith, refl, subst, sym, ap, ◌∙◌}
 use Rattle.std.proofs.lemmas.Bool.{and_parts, eqb-true}
 use Rattle.std.proofs.lemmas.Bool.Decides.{nat_tests}
 use Rattle.kernel_model.specs.declared.Kind.{Kind}
@@ -108,3 +108,30 @@ removed_split q pt c d h = by_test (is_found q pt c) refl h
         (is_found q pt c ≡ true) × (with_accounts_of (removed q pt c.now.accounts) c ≡ d)
     by_test true e h = (e, cc)
     by_test false e h = absurd cc
+
+-- ---- the other way round
+
+pub stepped_join : (t : Trace) (r : Outcome) → is_going_on r.said ≡ true → stepped t r ≡ Some (trace_after t r)
+stepped_join t r went = ap (λ b. elim b as (λ _. Option Trace) [ true ↦ Some (trace_after t r) | false ↦ None ]) went
+
+pub fell_join : (v : World) (images : ImageTable) (p : ℕ) (es : List Effect) (t : Trace) (c : Config) → is_going_on (micro v images p t.config).said ≡ true →
+    length (micro v images p t.config).config.levels ≡ suc (length t.config.levels) →
+    effects_on (owner_among (micro v images p t.config).config.levels) es (micro v images p t.config).config ≡ Some c →
+    mark_on v images p (Fell es) t ≡ Some (trace_fallen v es (trace_after t (micro v images p t.config)) c)
+fell_join v images p es t c went more effects =
+    let r = micro v images p t.config in
+    ap (λ (x : Option Trace). elim x as (λ _. Option Trace) [ None ↦ None | Some u ↦ fell_on v es (length t.config.levels) u ]) (stepped_join t r went)
+    ∙ ap (λ b. elim b as (λ _. Option Trace) [ true ↦ fallen_if v es (trace_after t r) (effects_on (owner_among r.config.levels) es r.config) | false ↦ None ])
+    (same_number (length r.config.levels) (suc (length t.config.levels)) more)
+    ∙ ap (fallen_if v es (trace_after t r)) effects
+  where
+    same_number : (a b : ℕ) → a ≡ b → (a == b) ≡ true
+    same_number a b e = grind (arith, nat_tests)
+
+pub marks_join : (v : World) (images : ImageTable) (p : ℕ) (k : Mark) (ks : List Mark) (t u : Trace) → mark_on v images p k t ≡ Some u →
+    marks_on v images p (k ∷ ks) t ≡ marks_on v images p ks u
+marks_join v images p k ks t u e = ap (λ (x : Option Trace). elim x as (λ _. Option Trace) [ None ↦ None | Some z ↦ marks_on v images p ks z ]) e
+
+pub replay_join : (m : Meaning) (v : World) (images : ImageTable) (s : Objects) (p : ℕ) (t : Stage) (ks : List Mark) (c : Config) → begin m v images s p t ≡ Some c →
+    replay m v images s p t ks ≡ marks_on v images p ks (first_trace c)
+replay_join m v images s p t ks c e = ap (λ (x : Option Config). elim x as (λ _. Option Trace) [ None ↦ None | Some d ↦ marks_on v images p ks (first_trace d) ]) e

@@ -1,5 +1,5 @@
 -- Premises of the laws that can't be left out: for each the smallest example in which the law would be false.
-use Rattle.std.specs.Prelude.{◌≡◌, ℕ, ◌==◌, ◌&&◌, false, cond, List, [], ◌∷◌, Option, Some, None}
+use Rattle.std.specs.Prelude.{◌≡◌, ℕ, ◌==◌, ◌&&◌, true, false, cond, List, [], ◌∷◌, length, Option, Some, None}
 use Rattle.std.proofs.Common.{refl}
 use Rattle.kernel_model.specs.declared.Cause.{Cause}
 use Rattle.kernel_model.specs.declared.Cause.TheVariants.{RefusedAnswer}
@@ -14,12 +14,20 @@ use Rattle.kernel_model.specs.Locks.{touch, untouched}
 use Rattle.kernel_model.specs.Opening.{opening_things}
 use Rattle.kernel_model.specs.Levels.{Level, Config, Charged, drop_level}
 use Rattle.kernel_model.specs.GraftStep.{micro}
+use Rattle.kernel_model.specs.Meaning.{stage}
+use Rattle.kernel_model.specs.Kernel.{Call as CallInFlight, Kernel, Run}
+use Rattle.kernel_model.specs.Blocking.{config_of, holds}
+use Rattle.kernel_model.specs.Settle.{step}
+use Rattle.kernel_model.specs.Pieces.{plain}
+use Rattle.kernel_model.specs.Events.{drop_call}
+use Rattle.kernel_model.specs.Sound.{clash}
+use Rattle.kernel_model.specs.declared.SysCall.TheVariants.{Yield, Spawn}
 use Rattle.kernel_model.specs.Charges.{funds}
-use Rattle.kernel_model.specs.History.{effect}
+use Rattle.kernel_model.specs.History.{Mark, Stepped, effect}
 use Rattle.kernel_model.specs.InPlace.{is_changed_in}
 use Rattle.kernel_model.specs.declared.Kind.TheVariants.{Steps}
 use Rattle.kernel_model.specs.declared.Mode.{Mode}
-use Rattle.kernel_model.specs.declared.Object.TheVariants.{Graft}
+use Rattle.kernel_model.specs.declared.Object.TheVariants.{Graft, Queue}
 
 -- a world of the least size
 abbrev small_world : World
@@ -134,3 +142,57 @@ steps_left (Some c) = funds c.now.accounts 0 1 Steps
 shared_graft_is_charged : (steps_left (effect 0 (Charged 1 Steps) shares_graft) ≡ 9) × (is_changed_in shares_graft.levels (Graft 0 1) ≡ false)
 unfolding same_object
 shared_graft_is_charged = (refl, refl)
+
+-- ---- calls beside each other
+
+-- process 0's slice is asked of its graft, which has begun, and process 1 is about to spawn
+abbrev two_calls : Kernel
+two_calls =
+    record {
+      world = small_world;
+      images = image_of_one (instr Ret 0);
+      objects = with_grafts (with_living (0 ∷ 1 ∷ []));
+      clock = 0;
+      call = λ p. cond (p == 0) (Some (record { number = 1; stage = stage Yield 1; marks = Some [] }))
+          (cond (p == 1) (Some (record { number = 2; stage = stage Spawn 0; marks = None })) None);
+      order = [];
+    }
+
+-- how many processes a call's graft sees
+abbrev seen_processes : Option Config → ℕ
+seen_processes None = 0
+seen_processes (Some c) = length c.now.things.queue
+
+-- the spawn is blocked by the graft call, which holds the queue; a step of it would change what that call holds
+blocked_step_changes_held : (seen_processes (config_of plain two_calls 0) ≡ 2)
+    × (seen_processes (config_of plain (step plain 1 (record { kernel = two_calls; blocks = λ b. []; notes = []; io = [] })).kernel 0) ≡ 3)
+blocked_step_changes_held = (refl, refl)
+
+-- ---- sound kernels
+
+-- process 0's slice is asked of its graft, which has begun, and the graft of process 0 is to be asked for process 1's yield too
+abbrev two_yields : Kernel
+two_yields =
+    record two_calls {
+      call = λ p. cond (p == 0) (Some (record { number = 1; stage = stage Yield 1; marks = Some [] }))
+          (cond (p == 1) (Some (record { number = 2; stage = stage Yield 1; marks = None })) None);
+    }
+
+-- a run of a kernel over empty blocks
+abbrev run_of : Kernel → Run
+run_of k = record { kernel = k; blocks = λ b. []; notes = []; io = [] }
+
+-- a step of process 1, which is blocked, makes two calls hold the queue exclusively
+blocked_step_clashes : (clash (holds plain two_yields 0 0 Queue) (holds plain two_yields 1 0 Queue) ≡ false)
+    × (clash (holds plain (step plain 1 (run_of two_yields)).kernel 0 0 Queue) (holds plain (step plain 1 (run_of two_yields)).kernel 1 0 Queue) ≡ true)
+unfolding same_object
+blocked_step_clashes = (refl, refl)
+
+-- the history of a process's call
+abbrev history_of : Option CallInFlight → Option (List Mark)
+history_of None = None
+history_of (Some c) = c.marks
+
+-- the drop of a level that isn't there writes an instruction into the history that nobody did
+absent_drop_writes : history_of ((drop_call plain 0 (two_calls.call 0) (Some 3) Cause.DivideByZero (run_of two_calls)).kernel.call 0) ≡ Some (Stepped ∷ [])
+absent_drop_writes = refl

@@ -23,7 +23,8 @@ use Rattle.graft_laws.proofs.ObjectLemmas.{same_thing}
 use Rattle.graft_laws.proofs.PointLemmas.{or_right}
 use Rattle.graft_laws.proofs.RangeLemmas.{reached_range, needs_range}
 use Rattle.graft_laws.proofs.GrownLemmas.{AreGrown, grown_answer, grown_then, grown_asks, grown_outermost, grown_unchanged}
-use Rattle.graft_laws.proofs.TurnLemmas.{IsNew, levels_turn, not_going}
+use Rattle.graft_laws.proofs.TurnParts.{IsNew, not_going}
+use Rattle.graft_laws.proofs.TurnLemmas.{levels_turn}
 use Rattle.graft_laws.proofs.ShapeLemmas.{shape_unchanged, shape_outer, shape_some, found_grown, shape_found, new_unchanged, grown_at, at_more, found_at_level, level_found}
 use Rattle.graft_laws.proofs.StandLemmas.{AllStand}
 use Rattle.graft_laws.proofs.EffectLemmas.{same_then, IsGraft, Affected}

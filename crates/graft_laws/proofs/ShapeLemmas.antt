@@ -6,14 +6,15 @@ use Rattle.std.proofs.lemmas.Bool.Decides.{nat_tests}
 use Rattle.kernel_model.specs.declared.Held.{Held}
 use Rattle.kernel_model.specs.declared.Object.{Object}
 use Rattle.kernel_model.specs.Objects.{Things, SameThing}
-use Rattle.kernel_model.specs.Locks.{is_held_exclusively}
+use Rattle.kernel_model.specs.Locks.{is_held, is_held_exclusively}
 use Rattle.kernel_model.specs.Levels.{Level, level_at, outermost_touched}
 use Rattle.kernel_model.specs.InPlace.{is_changed_in}
+use Rattle.kernel_model.specs.Alike.{is_held_in}
 use Rattle.graft_laws.specs.Histories.{outside_of}
 use Rattle.graft_laws.proofs.PointLemmas.{or_cases, or_left, or_right}
 use Rattle.graft_laws.proofs.HoldLemmas.{exclusive_is, outermost_inside}
-use Rattle.graft_laws.proofs.GrownLemmas.{GrowsFrom, AreGrown, grown_self, grown_changed, grown_outermost, grown_unchanged}
-use Rattle.graft_laws.proofs.TurnLemmas.{Shape, Goes, Begins, Joins, Ends, Falls, not_going}
+use Rattle.graft_laws.proofs.GrownLemmas.{GrowsFrom, AreGrown, grown_self, grown_held, grown_changed, grown_outermost, grown_unchanged}
+use Rattle.graft_laws.proofs.TurnParts.{Shape, Goes, Begins, Joins, Ends, Falls, not_going}
 
 -- a test doesn't pass and fail
 pub contrary : {A : Type 0} → true ≡ false → A
@@ -37,6 +38,20 @@ shape_changed l ls w went after o (Joins a b rest g f k h more) e c =
     ])
 shape_changed l ls w went after o (Ends g f) e c = not_going (sym g ∙ e)
 shape_changed l ls w went after o (Falls g h) e c = not_going (sym g ∙ e)
+
+-- and what is held stays held
+pub shape_held : (l : Level) (ls : List Level) (w : Things) (went : Bool) (after : List Level) (o : Object) → Shape l l.touched ls w went after → went ≡ true →
+    is_held_in (l ∷ ls) o ≡ true → is_held_in after o ≡ true
+shape_held l ls w went after o (Goes g h) e c = grown_held after (l ∷ ls) o h c
+shape_held l ls w went after o (Begins n ks g f h new held) e c =
+    subst (λ xs. is_held_in xs o ≡ true) (sym f) (or_right (is_held (n.touched o)) (is_held_in ks o) (grown_held ks (l ∷ ls) o h c))
+shape_held l ls w went after o (Joins a b rest g f k h more) e c =
+    subst (λ xs. is_held_in xs o ≡ true) (sym k) (elim (or_cases (is_held (l.touched o)) (is_held_in ls o) c) [
+      | inl own ↦ or_left (is_held (b.touched o)) (is_held_in rest o) (more.held o own)
+      | inr outer ↦ grown_held (b ∷ rest) (a ∷ rest) o (h, grown_self rest) (subst (λ xs. is_held_in xs o ≡ true) f outer)
+    ])
+shape_held l ls w went after o (Ends g f) e c = not_going (sym g ∙ e)
+shape_held l ls w went after o (Falls g h) e c = not_going (sym g ∙ e)
 
 pub shape_unchanged : (l : Level) (ls : List Level) (w : Things) (went : Bool) (after : List Level) (o : Object) → Shape l l.touched ls w went after → went ≡ true →
     is_changed_in after o ≡ false → is_changed_in (l ∷ ls) o ≡ false

@@ -9,7 +9,8 @@ use Rattle.kernel_model.specs.Charges.{payer_balance}
 use Rattle.kernel_model.specs.Levels.{Level, limit_in, is_going_on}
 use Rattle.kernel_model.specs.GraftStep.{micro_on, charged_step, is_spent}
 use Rattle.graft_laws.proofs.GrownLemmas.{AreGrown, grown_self}
-use Rattle.graft_laws.proofs.TurnLemmas.{Shape, Goes, Begins, Joins, Ends, Falls, StandsFrom, not_going, levels_turn}
+use Rattle.graft_laws.proofs.TurnParts.{Shape, Goes, Begins, Joins, Ends, Falls, StandsFrom, not_going}
+use Rattle.graft_laws.proofs.TurnLemmas.{levels_turn}
 
 -- the graft of each of these levels stands
 abbrev pub AllStand : Accounts → List Level → Type 0

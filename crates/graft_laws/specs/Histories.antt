@@ -12,7 +12,7 @@ use Rattle.kernel_model.specs.GraftStep.{micro}
 use Rattle.kernel_model.specs.History.{Mark, Trace, begin, replay}
 use Rattle.kernel_model.specs.InPlace.{is_changed_in}
 use Rattle.kernel_model.specs.Sound.{IsSoundConfig}
-use Rattle.kernel_model.specs.Alike.{is_needed, is_needed_exclusively, is_held_in}
+use Rattle.kernel_model.specs.Alike.{ConfigsAlike, is_needed, is_needed_exclusively, is_held_in}
 use Rattle.kernel_model.specs.Laws.{Laws, IsStanding, IsInRange}
 use Rattle.graft_laws.specs.Alike.{AsksAreHeld}
 
@@ -74,3 +74,19 @@ pub record DropsReplay : Type 0 where
       (drop_level v c.now c.levels n cause).config.levels ≢ [] → IsReplayed v s (drop_level v c.now c.levels n cause).config
   pub none : (v : World) (s : Objects) (c : Config) (n : ℕ) (cause : Cause) (o : Object) → IsReplayed v s c →
       (drop_level v c.now c.levels n cause).config.levels ≡ [] → n < length c.levels → SameThing o (drop_level v c.now c.levels n cause).config.now.things s.things
+
+-- ---- one history from two states
+
+-- two traces have the same marks and pasts, and configs that are alike
+pub record TracesAlike (t u : Trace) : Type 0 where
+  pub config : ConfigsAlike t.config u.config
+  pub marks : t.marks ≡ u.marks
+  pub pasts : t.pasts ≡ u.pasts
+
+-- A history that leads somewhere from a state leads to the like from another state that agrees on what the call holds in the end.
+abbrev pub HistoriesAlike : Meaning → Type 0
+HistoriesAlike m =
+    (v : World) (images : ImageTable) (s u : Objects) (p : ℕ) (t : Stage) (ks : List Mark) (now : Trace) → Laws m → NeedsGraftsExclusively m →
+    IsStanding m v images s p t → IsStanding m v images u p t → replay m v images s p t ks ≡ Some now → GraftsStand now.config →
+    ((o : Object) → is_held_in now.config.levels o ≡ true → SameAt o s u) →
+    (other : Trace) × (replay m v images u p t ks ≡ Some other) × TracesAlike now other

@@ -1,2 +1,6 @@
 pub mod Alike
+pub mod Falls
 pub mod Histories
+pub mod Kernels
+pub mod Points
+pub mod Stability

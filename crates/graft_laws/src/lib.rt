@@ -3,5 +3,7 @@
 
 pub mod alike;
 pub mod histories;
+pub mod kernels;
+pub mod stability;
 #[cfg(test)]
 mod tests;

@@ -235,7 +235,7 @@ module _ (v : World) (images : ImageTable) (p : ℕ) (first : Trace) (q : ℕ) w
   instruction_replays ks w (l ∷ []) n ps d r pt cause h said stands =
       let o = micro_on v images p w (l ∷ []) in
       let acts = instruction_acts v (λ x. Held.Exclusive) images p w l [] refl in
-      let x = subst (λ y. Next v l.owner l.point l.kept (levels_by l.owner o.effects []) y o.config) said acts.next in
+      let x = subst (λ y. Next v l.owner l.point l.kept l.touched (levels_by l.owner o.effects []) y o.config) said acts.next in
       absurd (no_level d (length (levels_by l.owner o.effects [])) x.level (levels_length l.owner o.effects []))
     where
       no_level : (d n : ℕ) → suc d ≡ n → n ≡ 0 → ⊥
@@ -245,8 +245,8 @@ module _ (v : World) (images : ImageTable) (p : ℕ) (first : Trace) (q : ℕ) w
       let o = micro_on v images p w (l ∷ k ∷ ls) in
       let t = outermost_touched (k ∷ ls) in
       let held = ap (λ i. is_held (t (Graft i l.point))) h.0 ∙ h.1.held in
-      let acts = subst (λ i. Acts v t i l.point l.kept w.accounts (k ∷ ls) o) h.0 (instruction_acts v t images p w l (k ∷ ls) held) in
-      let x = subst (λ y. Next v q l.point l.kept (levels_by q o.effects (k ∷ ls)) y o.config) said acts.next in
+      let acts = subst (λ i. Acts v t i l.point l.kept l.touched w.accounts (k ∷ ls) o) h.0 (instruction_acts v t images p w l (k ∷ ls) held) in
+      let x = subst (λ y. Next v q l.point l.kept l.touched (levels_by q o.effects (k ∷ ls)) y o.config) said acts.next in
       let here : is_some (w.accounts.graft q l.point) ≡ true =
       ap (λ i. is_some (w.accounts.graft i l.point)) (sym x.owner) ∙ ap (λ i. is_some (w.accounts.graft r i)) (sym x.point) ∙ stands in
       let made = acts.made (subst (λ y. WhereDropped y (is_some (w.accounts.graft q l.point))) (sym said) here) in

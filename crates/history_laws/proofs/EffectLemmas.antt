@@ -3,12 +3,13 @@ use Rattle.std.specs.Prelude.{◌≡◌, ℕ, suc, ◌==◌, ◌&&◌, Bool, tru
 use Rattle.std.proofs.Common.{refl, subst, sym, ap, ◌∙◌}
 use Rattle.kernel_model.specs.declared.Held.{Held}
 use Rattle.kernel_model.specs.declared.Mode.{Mode}
+use Rattle.kernel_model.specs.declared.Need.{Need}
 use Rattle.kernel_model.specs.declared.Object.{Object}
 use Rattle.kernel_model.specs.declared.Object.TheVariants.{Graft}
 use Rattle.kernel_model.specs.Objects.{Accounts, Things, same_object}
 use Rattle.kernel_model.specs.SameObject.{same_object_self}
 use Rattle.kernel_model.specs.Charges.{funds, charge, removed}
-use Rattle.kernel_model.specs.Locks.{Touched, touch, held_as, stronger, is_held}
+use Rattle.kernel_model.specs.Locks.{Touched, touch, touch_all, held_as, stronger, is_held}
 use Rattle.kernel_model.specs.Levels.{Level, Config, Effect, Asked, Charged, Removed, touch_outermost, outermost_touched}
 use Rattle.kernel_model.specs.History.{config_if, effects_on}
 
@@ -157,7 +158,7 @@ stronger_exclusive Held.Free = refl
 stronger_exclusive Held.Shared = refl
 stronger_exclusive Held.Exclusive = refl
 
-touch_held : (o : Object) (mode : Mode) (t : Touched) (x : Object) → is_held (t x) ≡ true → is_held (touch o mode t x) ≡ true
+pub touch_held : (o : Object) (mode : Mode) (t : Touched) (x : Object) → is_held (t x) ≡ true → is_held (touch o mode t x) ≡ true
 touch_held o mode t x h = touch_by (same_object x o)
   where
     touch_by : (b : Bool) → is_held (cond b (stronger (t x) (held_as mode)) (t x)) ≡ true
@@ -173,6 +174,33 @@ held_on q [] t x h = h
 held_on q (Asked pt ∷ es) t x h = held_on q es (touch (Graft q pt) Mode.Exclusive t) x (touch_held (Graft q pt) Mode.Exclusive t x h)
 held_on q (Charged pt k ∷ es) t x h = held_on q es t x h
 held_on q (Removed pt ∷ es) t x h = held_on q es t x h
+
+-- several needs
+pub touch_all_held : (ns : List Need) (t : Touched) (x : Object) → is_held (t x) ≡ true → is_held (touch_all ns t x) ≡ true
+touch_all_held [] t x h = h
+touch_all_held (n ∷ ns) t x h = touch_all_held ns (touch n.object n.mode t) x (touch_held n.object n.mode t x h)
+
+-- the stronger way is a hold where the other is
+pub stronger_held_right : (h k : Held) → is_held k ≡ true → is_held (stronger h k) ≡ true
+stronger_held_right Held.Free k e = e
+stronger_held_right Held.Shared Held.Free e = refl
+stronger_held_right Held.Shared Held.Shared e = refl
+stronger_held_right Held.Shared Held.Exclusive e = refl
+stronger_held_right Held.Exclusive k e = refl
+
+-- the first of levels of which level 0 touches an object holds what it held
+pub first_held : (o : Object) (l : Level) (ls : List Level) (n : Level) → touch_outermost o (l ∷ ls) ≡ n ∷ touch_outermost o ls → (x : Object) →
+    is_held (l.touched x) ≡ true → is_held (n.touched x) ≡ true
+first_held o l [] n e x h = ap (λ (ks : List Level). is_held (first_touched l ks x)) (sym e) ∙ touch_held o Mode.Exclusive l.touched x h
+  where
+    first_touched : Level → List Level → Touched
+    first_touched l [] = l.touched
+    first_touched l (k ∷ ks) = k.touched
+first_held o l (k ∷ ls) n e x h = ap (λ (ks : List Level). is_held (first_touched l ks x)) (sym e) ∙ h
+  where
+    first_touched : Level → List Level → Touched
+    first_touched l [] = l.touched
+    first_touched l (k ∷ ks) = k.touched
 
 -- ---- effects that are made again
 

@@ -133,7 +133,7 @@ module _ (v : World) (images : ImageTable) (p : ℕ) (first : Trace) (q : ℕ) w
 
       by_next : let r = micro_on v images p w (l ∷ ls) in
           let u = trace_fallen v es (trace_after (trace_with w (l ∷ ls) n (b ∷ ps)) r) c in
-          StaysIn q l.point l.kept (levels_by q r.effects ls) r.config ⊎ GoesDeeper q l.point l.kept (levels_by q r.effects ls) r.config ⊎ ComesBack (levels_by q r.effects ls) r.config →
+          StaysIn q l.point l.kept l.touched (levels_by q r.effects ls) r.config ⊎ GoesDeeper q l.point l.kept l.touched (levels_by q r.effects ls) r.config ⊎ ComesBack (levels_by q r.effects ls) r.config →
           HasPasts v images p first q more u.config.now.accounts [] u.config.levels u.pasts
       by_next (inl s) =
           let xs = levels_by q (micro_on v images p w (l ∷ ls)).effects ls in

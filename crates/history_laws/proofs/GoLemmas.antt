@@ -92,7 +92,7 @@ module _ (m : Meaning) (laws : Laws m) where
   -- ---- one move
 
   -- another call has as many pieces left
-  left_same : (v : World) (s u : Objects) (q : ℕ) (x : Option Call) → SameFiles q s u → left_of m v u q x ≡ left_of m v s q x
+  pub left_same : (v : World) (s u : Objects) (q : ℕ) (x : Option Call) → SameFiles q s u → left_of m v u q x ≡ left_of m v s q x
   left_same v s u q None same = refl
   left_same v s u q (Some c) same = sym (laws.stages.left_same v s u q c.stage same)
 
@@ -199,16 +199,16 @@ module _ (m : Meaning) (laws : Laws m) where
           let u = drop_at m p c ks t (Some d) cause r in
           goes_order m r _ u.kernel.order (move_goes p c r _ h e (drop_moves m laws instructions histories effects p c ks t d cause r h e marked is))
 
-      call_drop_goes : (p : ℕ) (x : Option Call) (d : Option ℕ) (cause : Cause) (r : Run) → StandsAt m r → r.kernel.call p ≡ x → Goes m r (drop_call m p x d cause r)
+      pub call_drop_goes : (p : ℕ) (x : Option Call) (d : Option ℕ) (cause : Cause) (r : Run) → StandsAt m r → r.kernel.call p ≡ x → Goes m r (drop_call m p x d cause r)
       call_drop_goes p None d cause r h e = goes_self m r h
       call_drop_goes p (Some c) d cause r h e = drop_goes p c c.marks (trace_of m r.kernel p (Some c)) d cause r h e refl refl
 
       -- a waiter without a level ends
-      ends_goes : (p : ℕ) (b : Blocker) (c : Call) (r : Run) → StandsAt m r → r.kernel.call p ≡ Some c → Goes m r (times_out m p b c r)
-      ends_goes p b c r h e =
-          let u = noted (Refused c.number (TimedOut b.object b.holder)) (with_call p None r) in
+      pub ends_moves : (p : ℕ) (b : Blocker) (c : Call) (r : Run) → StandsAt m r → r.kernel.call p ≡ Some c →
+          Moves m p r (noted (Refused c.number (TimedOut b.object b.holder)) (with_call p None r))
+      ends_moves p b c r h e =
           let here = at_here p None r.kernel.call in
-          goes_order m r u (times_out m p b c r).kernel.order (move_goes p c r u h e (record {
+          record {
             world = refl;
             images = refl;
             order = refl;
@@ -225,7 +225,7 @@ module _ (m : Meaning) (laws : Laws m) where
             data_notes = none_left (left_of m r.kernel.world r.kernel.objects p _) (left_of m r.kernel.world r.kernel.objects p (r.kernel.call p)) (ap (left_of m r.kernel.world r.kernel.objects p) here);
             ends = one_end (once_if (is_some _)) (once_if (is_some (r.kernel.call p))) (ap (λ x. once_if (is_some x)) here) (ap (λ x. once_if (is_some x)) e);
             lines = refl;
-          }))
+          }
         where
           none_most : (n : ℕ) → 0 ≤ n
           none_most n = omega arith
@@ -235,6 +235,11 @@ module _ (m : Meaning) (laws : Laws m) where
 
           one_end : (x n : ℕ) → x ≡ 0 → n ≡ 1 → 1 + x ≤ n
           one_end x n e f = omega arith
+
+      pub ends_goes : (p : ℕ) (b : Blocker) (c : Call) (r : Run) → StandsAt m r → r.kernel.call p ≡ Some c → Goes m r (times_out m p b c r)
+      ends_goes p b c r h e =
+          let u = noted (Refused c.number (TimedOut b.object b.holder)) (with_call p None r) in
+          goes_order m r u (times_out m p b c r).kernel.order (move_goes p c r u h e (ends_moves p b c r h e))
 
       waiter_goes : (p : ℕ) (b : Blocker) (x : Option Call) (r : Run) → StandsAt m r → r.kernel.call p ≡ x → Goes m r (waiter_action m p b x r)
       waiter_goes p b None r h e = goes_self m r h
@@ -247,7 +252,7 @@ module _ (m : Meaning) (laws : Laws m) where
           waiter_by None = ends_goes p b c r h e
           waiter_by (Some ks) = call_drop_goes p (Some c) (innermost (levels_of m r.kernel p)) (TimeOut b.object b.holder) r h e
 
-      entry_goes : (e : Entry) (x : Option Blocker) (r : Run) → StandsAt m r → Goes m r (entry_action m e x r)
+      pub entry_goes : (e : Entry) (x : Option Blocker) (r : Run) → StandsAt m r → Goes m r (entry_action m e x r)
       entry_goes e None r h = goes_self m r h
       entry_goes e (Some b) r h = action_by b.call
         where

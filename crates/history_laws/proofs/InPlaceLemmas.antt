@@ -85,6 +85,27 @@ row_from f n (x ∷ xs) (suc i) h low = row_from f (suc n) xs i h.1 (less i (len
     one_further : (n i : ℕ) → suc n + i ≡ n + suc i
     one_further n i = omega arith
 
+-- what stands for each process stands at its number, and nothing from 16 on
+pub row_low : (f : ℕ → List Level) (p : ℕ) → p < 16 → slice_index_or (map f processes) p [] ≡ f p
+row_low f p low = row_from f 0 processes p processes_from low ∙ ap f (none_more p)
+  where
+    none_more : (p : ℕ) → 0 + p ≡ p
+    none_more p = omega arith
+
+row_none : (f : ℕ → List Level) (xs : List ℕ) (i : ℕ) → length xs ≤ i → slice_index_or (map f xs) i [] ≡ []
+row_none f [] i h = refl
+row_none f (x ∷ xs) zero h = absurd (none_less (length xs) h)
+  where
+    none_less : (n : ℕ) → suc n ≤ 0 → ⊥
+    none_less n h = omega arith
+row_none f (x ∷ xs) (suc i) h = row_none f xs i (less (length xs) i h)
+  where
+    less : (n i : ℕ) → suc n ≤ suc i → n ≤ i
+    less n i h = omega arith
+
+pub row_high : (f : ℕ → List Level) (p : ℕ) → 16 ≤ p → slice_index_or (map f processes) p [] ≡ []
+row_high f p high = row_none f processes p high
+
 -- a number stands in a list
 abbrev pub is_in : ℕ → List ℕ → Bool
 is_in p ps = list_any (λ q. q == p) ps
@@ -104,6 +125,15 @@ in_from n (x ∷ xs) p h low high = elim (cases_Bool (x == p)) [
 
     within : (n p m : ℕ) → p < n + suc m → p < suc n + m
     within n p m h = omega arith
+
+pub low_stands : (p : ℕ) → p < 16 → is_in p processes ≡ true
+low_stands p low = in_from 0 processes p processes_from (at_least p) (within p low)
+  where
+    at_least : (p : ℕ) → 0 ≤ p
+    at_least p = omega arith
+
+    within : (p : ℕ) → p < 16 → p < 0 + 16
+    within p h = omega arith
 
 -- ---- mixed states
 
@@ -133,11 +163,11 @@ over_other o None d s h = at_self o s
 over_other o (Some c) d s h = mix_other o (is_changed_in c.levels) (cut_state d c) s h
 
 -- no config is a config
-no_config : (c : Config) → None ≡ Some c → ⊥
+pub no_config : (c : Config) → None ≡ Some c → ⊥
 no_config c h = cc
 
 -- a config is that of a trace
-config_is : (x : Option Trace) (c : Config) → config_in x ≡ Some c → (t : Trace) × (x ≡ Some t) × (t.config ≡ c)
+pub config_is : (x : Option Trace) (c : Config) → config_in x ≡ Some c → (t : Trace) × (x ≡ Some t) × (t.config ≡ c)
 config_is None c h = absurd (no_config c h)
 config_is (Some t) c h = (t, refl, same_config t.config c h)
   where
@@ -197,13 +227,6 @@ module _ (m : Meaning) (k : Kernel) where
         by_call None h = absurd (no_config c h)
         by_call (Some call) h = by_marks call call.marks h
 
-    -- the levels of a call in the table
-    holds_are : (p : ℕ) → p < 16 → slice_index_or (map (levels_of m k) processes) p [] ≡ levels_of m k p
-    holds_are p low = row_from (levels_of m k) 0 processes p processes_from low ∙ ap (levels_of m k) (none_more p)
-      where
-        none_more : (p : ℕ) → 0 + p ≡ p
-        none_more p = omega arith
-
     -- a call has a config where it changed an object
     pub changer_config : (p : ℕ) (o : Object) → is_changed_in (levels_of m k p) o ≡ true → (c : Config) × (config_of m k p ≡ Some c) × (is_changed_in c.levels o ≡ true)
     changer_config p o h = config_by (config_of m k p) h
@@ -230,18 +253,12 @@ module _ (m : Meaning) (k : Kernel) where
             let x = changed_at (levels_of m k p) o own in
             let y = changed_at (levels_of m k q) o e in
             absurd (both_clash (holds m k p x.0 o) (holds m k q y.0 o) (touched_at (levels_of m k p) x.0 o) (touched_at (levels_of m k q) y.0 o)
-            (ap (λ ls. touched_at ls x.0 o) (holds_are p (caller_low p f.0 f.1))) (ap (λ ls. touched_at ls y.0 o) (holds_are q (caller_low q g.0 g.1))) x.2 y.2
+            (ap (λ ls. touched_at ls x.0 o) (row_low (levels_of m k) p (caller_low p f.0 f.1))) (ap (λ ls. touched_at ls y.0 o) (row_low (levels_of m k) q (caller_low q g.0 g.1))) x.2 y.2
             (sound.apart p q x.0 y.0 o (λ i. ne (sym i))))
 
     -- a call is among the processes
     pub caller_stands : (p : ℕ) (c : Config) → config_of m k p ≡ Some c → is_in p processes ≡ true
-    caller_stands p c is = in_from 0 processes p processes_from (at_least p) (within p (caller_low p c is))
-      where
-        at_least : (p : ℕ) → 0 ≤ p
-        at_least p = omega arith
-
-        within : (p : ℕ) → p < 16 → p < 0 + 16
-        within p h = omega arith
+    caller_stands p c is = low_stands p (caller_low p c is)
 
     -- some call changed an object, or none did
     pub changer_below : (o : Object) (n : ℕ) → ((p : ℕ) × (is_changed_in (levels_of m k p) o ≡ true)) ⊎ ((p : ℕ) → p < n → is_changed_in (levels_of m k p) o ≡ false)

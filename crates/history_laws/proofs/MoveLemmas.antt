@@ -99,7 +99,7 @@ pub alike_self : (s : Objects) → AreAlike s s
 alike_self s = record { files = λ p fd. refl; queue = refl; lru = refl; frames = λ f. refl; locks = λ l. refl; policies = λ kind. refl }
 
 -- a note of bytes, at most, and no other
-gave_counts : (n : ℕ) (gave : Option (List ℕ)) → let ns = gave_note n gave in
+pub gave_counts : (n : ℕ) (gave : Option (List ℕ)) → let ns = gave_note n gave in
     (note_count is_drop ns ≡ 0) × (note_count is_end ns ≡ 0) × (note_count is_data ns ≤ 1) × (note_count is_line ns ≡ 0)
 gave_counts n None = (refl, refl, zero_one, refl)
   where
@@ -111,7 +111,7 @@ gave_counts n (Some bytes) = (refl, refl, one_one, refl)
     one_one = omega arith
 
 -- an end, at most, and no other
-after_counts : (n : ℕ) (a : After) → let ns = after_note n a in (note_count is_drop ns ≡ 0) × (note_count is_data ns ≡ 0) × (note_count is_line ns ≡ 0)
+pub after_counts : (n : ℕ) (a : After) → let ns = after_note n a in (note_count is_drop ns ≡ 0) × (note_count is_data ns ≡ 0) × (note_count is_line ns ≡ 0)
 after_counts n (Continues t) = (refl, refl, refl)
 after_counts n (EndsWith reply) = (refl, refl, refl)
 after_counts n (Fails refusal) = (refl, refl, refl)

@@ -1,14 +1,20 @@
 -- Premises of the laws that can't be left out: for each the smallest example in which the law would be false.
-use Rattle.std.specs.Prelude.{◌≡◌, ℕ, ◌==◌, ◌&&◌, true, cond, nat_lt, ◌||◌, List, [], ◌∷◌, reverse, Option, Some, None, option_map, is_some}
+use Rattle.std.specs.Prelude.{◌≡◌, ℕ, ◌==◌, ◌&&◌, Bool, true, false, cond, nat_lt, ◌||◌, List, [], ◌∷◌, reverse, Option, Some, None, option_map, is_some}
 use Rattle.std.proofs.Common.{refl}
 use Rattle.kernel_model.specs.declared.Kind.TheVariants.{Steps}
 use Rattle.kernel_model.specs.declared.Cause.TheVariants.{Reentered, SpentSteps}
 use Rattle.kernel_model.specs.declared.Micro.{Micro}
 use Rattle.kernel_model.specs.declared.Op.TheVariants.{Call, Li}
-use Rattle.kernel_model.specs.declared.SysCall.TheVariants.{Yield}
+use Rattle.kernel_model.specs.declared.SysCall.TheVariants.{Yield, Peek}
+use Rattle.kernel_model.specs.declared.Need.{Need}
+use Rattle.kernel_model.specs.declared.Mode.TheVariants.{Shared, Exclusive}
+use Rattle.kernel_model.specs.declared.Object.TheVariants.{Cell}
+use Rattle.kernel_model.specs.declared.QueueRow.{QueueRow}
+use Rattle.kernel_model.specs.Access.{needed}
+use Rattle.kernel_model.specs.Events.{expired, tick_event}
 use Rattle.kernel_model.specs.World.{World, ImageTable}
 use Rattle.kernel_model.specs.Objects.{Objects, same_object}
-use Rattle.kernel_model.specs.Meaning.{stage}
+use Rattle.kernel_model.specs.Meaning.{Meaning, stage}
 use Rattle.kernel_model.specs.Levels.{Config, Charged, Removed}
 use Rattle.kernel_model.specs.GraftStep.{micro}
 use Rattle.kernel_model.specs.History.{Mark, Stepped, Fell, Trace, replay, fallen}
@@ -153,3 +159,45 @@ two_calls = in_flight (λ p. cond (p == 0) (Some (Stepped ∷ Stepped ∷ Steppe
 shared_is_not : cell_0 (undone plain two_calls (cut_of 1) (1 ∷ [])) ∷ cell_0 (store_below plain two_calls (cut_of 1)) ∷ [] ≡ 0 ∷ 9 ∷ []
 unfolding same_object
 shared_is_not = refl
+
+-- ---- ticks
+
+-- a row of the queue
+abbrev row : ℕ → QueueRow
+row p = record { process = p; nice = 20; slices = 0 }
+
+-- an image that reads cell 0
+abbrev reading : ImageTable
+reading slot = cond (slot == 0) (Some (record { code = ins Call 0 0 0 0 ∷ []; body = [] })) None
+
+-- a call of process 1 that needs a cell which the graft of process 0 read
+abbrev needing : List Need → Meaning
+needing ns = record plain { need = λ v s p t. cond (p == 1) ns (plain.need v s p t) }
+
+-- it waits for one tick
+abbrev waiting_kernel : Kernel
+waiting_kernel =
+    record {
+      world = record one_file { patience = λ kind. 1 };
+      images = reading;
+      objects = record three_grafts { things = record (three_grafts.things) { queue = row 0 ∷ row 1 ∷ [] } };
+      clock = 0;
+      call = λ p. cond (p == 0) (Some (record { number = 1; stage = stage Yield 1; marks = Some (Stepped ∷ []) }))
+          (cond (p == 1) (Some (record { number = 2; stage = stage (Peek 0) 0; marks = None })) None);
+      order = record { process = 1; blocker = Some (record { object = Cell 0 0; holder = 0; call = Some 1 }); count = 0 } ∷ [];
+    }
+
+-- some call has waited too long after a tick
+abbrev is_waiting_on : Meaning → Bool
+is_waiting_on m =
+    let k = (tick_event m 3 (record { kernel = waiting_kernel; blocks = λ b. []; notes = []; io = [] })).kernel in is_some (expired k k.order)
+
+-- where the object is needed in one mode the tick ends
+one_mode_ends : is_waiting_on (needing (needed (Cell 0 0) Exclusive ∷ [])) ≡ false
+unfolding same_object
+one_mode_ends = refl
+
+-- where it is needed shared first and then exclusively, nothing is dropped
+two_modes_wait : is_waiting_on (needing (needed (Cell 0 0) Shared ∷ needed (Cell 0 0) Exclusive ∷ [])) ≡ true
+unfolding same_object
+two_modes_wait = refl

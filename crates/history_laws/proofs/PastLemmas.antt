@@ -178,17 +178,17 @@ module _ (v : World) (images : ImageTable) (p : ℕ) (first : Trace) (q : ℕ) w
   pub record WentOn (w : Objects) (l : Level) (ls : List Level) (r : Outcome) : Type 0 where
     pub accounts : r.config.now.accounts ≡ accounts_by q r.effects w.accounts
     pub made : MadeOutside r.effects w.accounts ls
-    pub next : Next v q l.point l.kept (levels_by q r.effects ls) Micro.Went r.config
+    pub next : Next v q l.point l.kept l.touched (levels_by q r.effects ls) Micro.Went r.config
 
   went_on : (t : Touched) (w : Objects) (l : Level) (ls : List Level) → let r = micro_on v images p w (l ∷ ls) in
       l.owner ≡ q → is_held (t (Graft l.owner l.point)) ≡ true → r.said ≡ Micro.Went → (CanBeMade q r.effects w.accounts t → MadeOutside r.effects w.accounts ls) → WentOn w l ls r
   went_on t w l ls owner held said made =
       let r = micro_on v images p w (l ∷ ls) in
-      let acts = subst (λ i. Acts v t i l.point l.kept w.accounts ls r) owner (instruction_acts v t images p w l ls held) in
+      let acts = subst (λ i. Acts v t i l.point l.kept l.touched w.accounts ls r) owner (instruction_acts v t images p w l ls held) in
       record {
         accounts = acts.accounts;
         made = made (acts.made (subst (λ x. WhereDropped x (is_some (w.accounts.graft q l.point))) (sym said) tt));
-        next = subst (λ x. Next v q l.point l.kept (levels_by q r.effects ls) x r.config) said acts.next;
+        next = subst (λ x. Next v q l.point l.kept l.touched (levels_by q r.effects ls) x r.config) said acts.next;
       }
 
   pub goes_on : (ks : List Mark) (w : Objects) (l : Level) (ls : List Level) (ps : List Past) → HasPasts ks w.accounts [] (l ∷ ls) ps →
@@ -269,7 +269,7 @@ module _ (v : World) (images : ImageTable) (p : ℕ) (first : Trace) (q : ℕ) w
       is_own o owner point found = record { owner = owner ∙ sym (first_owner ks w.accounts [] l ls b ps h); point = point; found = found }
 
       by_next : let r = micro_on v images p w (l ∷ ls) in
-          StaysIn q l.point l.kept (levels_by q r.effects ls) r.config ⊎ GoesDeeper q l.point l.kept (levels_by q r.effects ls) r.config ⊎ ComesBack (levels_by q r.effects ls) r.config →
+          StaysIn q l.point l.kept l.touched (levels_by q r.effects ls) r.config ⊎ GoesDeeper q l.point l.kept l.touched (levels_by q r.effects ls) r.config ⊎ ComesBack (levels_by q r.effects ls) r.config →
           HasPasts more r.config.now.accounts [] r.config.levels (pasts_after n (suc (length ls)) (length r.config.levels) (with_effects r.effects (b ∷ ps)))
       by_next (inl s) =
           let es = (micro_on v images p w (l ∷ ls)).effects in

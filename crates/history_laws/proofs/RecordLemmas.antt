@@ -31,30 +31,30 @@ use Rattle.history_laws.proofs.EffectLemmas.{levels_by}
 -- ---- holds
 
 -- who holds an object exclusively still does
-abbrev HoldsOn : Touched → Touched → Type 0
+abbrev pub HoldsOn : Touched → Touched → Type 0
 HoldsOn t u = (o : Object) → u o ≡ Held.Exclusive → t o ≡ Held.Exclusive
 
 -- the stronger way is exclusive where one is
-stronger_left : (h k : Held) → h ≡ Held.Exclusive → stronger h k ≡ Held.Exclusive
+pub stronger_left : (h k : Held) → h ≡ Held.Exclusive → stronger h k ≡ Held.Exclusive
 stronger_left h k e = ap (λ x. stronger x k) e
 
-stronger_right : (h k : Held) → k ≡ Held.Exclusive → stronger h k ≡ Held.Exclusive
+pub stronger_right : (h k : Held) → k ≡ Held.Exclusive → stronger h k ≡ Held.Exclusive
 stronger_right Held.Free k e = e
 stronger_right Held.Shared k e = ap (stronger Held.Shared) e
 stronger_right Held.Exclusive k e = refl
 
-touch_holds : (o : Object) (mode : Mode) (t : Touched) → HoldsOn (touch o mode t) t
+pub touch_holds : (o : Object) (mode : Mode) (t : Touched) → HoldsOn (touch o mode t) t
 touch_holds o mode t a e = touch_by (same_object a o)
   where
     touch_by : (b : Bool) → cond b (stronger (t a) (held_as mode)) (t a) ≡ Held.Exclusive
     touch_by true = stronger_left (t a) (held_as mode) e
     touch_by false = e
 
-touch_all_holds : (ns : List Need) (t : Touched) → HoldsOn (touch_all ns t) t
+pub touch_all_holds : (ns : List Need) (t : Touched) → HoldsOn (touch_all ns t) t
 touch_all_holds [] t a e = e
 touch_all_holds (n ∷ ns) t a e = touch_all_holds ns (touch n.object n.mode t) a (touch_holds n.object n.mode t a e)
 
-touch_here : (o : Object) (t : Touched) → touch o Mode.Exclusive t o ≡ Held.Exclusive
+pub touch_here : (o : Object) (t : Touched) → touch o Mode.Exclusive t o ≡ Held.Exclusive
 touch_here o t = ap (λ b. cond b (stronger (t o) Held.Exclusive) (t o)) (same_object_self o) ∙ stronger_right (t o) Held.Exclusive refl
 
 -- ---- what undoing tells
@@ -119,7 +119,7 @@ touch_many o [] = refl
 touch_many o (l ∷ []) = refl
 touch_many o (l ∷ k ∷ ls) = ap suc (touch_many o (k ∷ ls))
 
-answer_many : (pt r0 r1 : ℕ) (ls : List Level) → length (answer_innermost pt r0 r1 ls) ≡ length ls
+pub answer_many : (pt r0 r1 : ℕ) (ls : List Level) → length (answer_innermost pt r0 r1 ls) ≡ length ls
 answer_many pt r0 r1 [] = refl
 answer_many pt r0 r1 (l ∷ ls) = refl
 

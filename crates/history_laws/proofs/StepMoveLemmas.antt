@@ -68,7 +68,7 @@ module _ (m : Meaning) (laws : Laws m) where
   -- ---- steps
 
   -- a call stands on a state that is alike to the committed one
-  stands_on : (p : ℕ) (c : Call) (w : Objects) (r : Run) → StandsAt m r → r.kernel.call p ≡ Some c → IsSoundStore r.kernel.world w → AreAlike r.kernel.objects w →
+  pub stands_on : (p : ℕ) (c : Call) (w : Objects) (r : Run) → StandsAt m r → r.kernel.call p ≡ Some c → IsSoundStore r.kernel.world w → AreAlike r.kernel.objects w →
       IsStanding m r.kernel.world r.kernel.images w p c.stage
   stands_on p c w r h e sound alike =
       record {
@@ -138,7 +138,7 @@ module _ (m : Meaning) (laws : Laws m) where
       marks_move m laws p c (fallen t ks o.effects (suc d)) r (Dropped c.number q pt cause ∷ []) h e (drop_part p c ks c.number q pt cause r e marked)
 
   -- what a right answer of an instruction is to the call
-  completes : (p : ℕ) (c : Call) (a : Point) (o : Outcome) (said : Micro) (r : Run) → StandsAt m r → r.kernel.call p ≡ Some c →
+  pub completes : (p : ℕ) (c : Call) (a : Point) (o : Outcome) (said : Micro) (r : Run) → StandsAt m r → r.kernel.call p ≡ Some c →
       m.asks r.kernel.world r.kernel.objects p c.stage ≡ Some a → WorksOn r.kernel.world r.kernel.objects a o.config → AnswersRightly a o.config.now.things said →
       WhereCompleted m r.kernel.world r.kernel.objects p c o.config.now said
   completes p c a o Micro.Went r h e asked works right = tt
@@ -182,7 +182,7 @@ module _ (m : Meaning) (laws : Laws m) where
 
     module _ (effects : EffectsStaySound) where
       -- a store with these accounts without the graft of a dropped level
-      dropped_base : (v : World) (w : Objects) (ls : List Level) (d : ℕ) (cause : Cause) (x : Things) → IsSoundStore v (record { accounts = w.accounts; things = x }) →
+      pub dropped_base : (v : World) (w : Objects) (ls : List Level) (d : ℕ) (cause : Cause) (x : Things) → IsSoundStore v (record { accounts = w.accounts; things = x }) →
           IsSoundStore v (record { accounts = (drop_level v w ls d cause).config.now.accounts; things = x })
       dropped_base v w [] d cause x h = h
       dropped_base v w (l ∷ ls) d cause x h = base_by (length ls == d) (dropped_base v w ls d cause x h)
@@ -194,7 +194,7 @@ module _ (m : Meaning) (laws : Laws m) where
           base_by false further = further
 
       -- nothing completes by a drop
-      none_completes : (v : World) (w s u : Objects) (p : ℕ) (c : Call) (ls : List Level) (d : ℕ) (cause : Cause) → WhereCompleted m v s p c u (drop_level v w ls d cause).said
+      pub none_completes : (v : World) (w s u : Objects) (p : ℕ) (c : Call) (ls : List Level) (d : ℕ) (cause : Cause) → WhereCompleted m v s p c u (drop_level v w ls d cause).said
       none_completes v w s u p c [] d cause = tt
       none_completes v w s u p c (l ∷ ls) d cause = none_by (length ls == d) (none_completes v w s u p c ls d cause)
         where
@@ -204,7 +204,7 @@ module _ (m : Meaning) (laws : Laws m) where
           none_by false further = further
 
       -- what works on the state has a sound base
-      base_of : (r : Run) (ask : Option Point) (t : Trace) → ReplayWorks r.kernel.world r.kernel.objects ask (Some t) →
+      pub base_of : (r : Run) (ask : Option Point) (t : Trace) → ReplayWorks r.kernel.world r.kernel.objects ask (Some t) →
           IsSoundStore r.kernel.world (lost_objects t.config.now r.kernel.objects)
       base_of r None t works = absurd works
       base_of r (Some a) t works = works.works.0.store

@@ -87,7 +87,7 @@ records_lead d (l ∷ ls) w h low = elim (cases_Bool (length ls == d)) [
     below d n h = omega arith
 
 -- there is no level from the count of them on
-level_none : (d : ℕ) (ls : List Level) → length ls ≤ d → level_at d ls ≡ None
+pub level_none : (d : ℕ) (ls : List Level) → length ls ≤ d → level_at d ls ≡ None
 level_none d [] h = refl
 level_none d (l ∷ ls) h = ap (λ b. elim b as (λ _. Option Level) [ true ↦ Some l | false ↦ level_at d ls ]) (differs (length ls) d h) ∙ level_none d ls (less (length ls) d h)
   where

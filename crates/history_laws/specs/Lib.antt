@@ -1,2 +1,4 @@
 pub mod Fallen
 pub mod Notes
+pub mod SoundCalls
+pub mod Ticks

@@ -1,5 +1,5 @@
 -- How many notes an event leaves.
-use Rattle.std.specs.Prelude.{ℕ, suc, ◌≤◌, Bool, true, false, cond, List, [], ◌∷◌}
+use Rattle.std.specs.Prelude.{ℕ, suc, ◌≤◌, Bool, true, false, cond, List, [], ◌∷◌, length}
 use Rattle.kernel_model.specs.declared.Event.{Event}
 use Rattle.kernel_model.specs.declared.Event.TheVariants.{Sys}
 use Rattle.kernel_model.specs.declared.Note.{Note}
@@ -10,6 +10,7 @@ use Rattle.kernel_model.specs.Meaning.{Meaning}
 use Rattle.kernel_model.specs.Kernel.{Kernel}
 use Rattle.kernel_model.specs.Events.{event}
 use Rattle.kernel_model.specs.Sound.{IsSoundKernel, HasWholeBlocks}
+use Rattle.graft_laws.specs.Histories.{NeedsGraftsExclusively}
 
 -- ---- kinds of notes
 
@@ -61,3 +62,15 @@ abbrev pub CallsLeaveFewDrops : Meaning → Type 0
 CallsLeaveFewDrops m =
     (k : Kernel) (blocks : Blocks) (number p : ℕ) (call : SysCall) (io : List Bool) → IsSoundKernel m k → HasWholeBlocks k.world blocks →
     note_count is_drop (event m k blocks number (Sys p call) io).notes ≤ 16
+
+-- the notes of an event: at most one drop for each graft and for each call, and 530 notes in all
+pub record AreFew (notes : List Note) : Type 0 where
+  pub drops : note_count is_drop notes ≤ 272
+  pub others : AreFewButDrops notes
+  pub all : length notes ≤ 530
+
+-- an event from a sound kernel leaves few notes, where the table needs grafts exclusively
+abbrev pub EventsLeaveFewNotes : Meaning → Type 0
+EventsLeaveFewNotes m =
+    NeedsGraftsExclusively m → (k : Kernel) (blocks : Blocks) (number : ℕ) (e : Event) (io : List Bool) → IsSoundKernel m k → HasWholeBlocks k.world blocks →
+    AreFew (event m k blocks number e io).notes

@@ -1,7 +1,9 @@
 //! Laws of the histories of calls. A call of one brings its statement into a proof.
 
 ghost use Rattle.history_laws.specs.Fallen.{FallenLevelsReplay};
+ghost use Rattle.history_laws.specs.SoundCalls.{CallsAreSound};
 
+use kernel_laws::{soundness, undoing};
 use kernel_model::Rules;
 
 /// Where a level above the outermost is dropped, by an instruction or a time-out, the history that results leads to the config
@@ -9,3 +11,12 @@ use kernel_model::Rules;
 pub fn fallen_levels_replay<R: Rules>()
     ensures { FallenLevelsReplay R.meaning }
 {}
+
+/// The history of each call of a sound kernel leads to a sound graft call.
+pub fn calls_are_sound<R: Rules>()
+    ensures { CallsAreSound R.meaning }
+{
+    soundness::histories_work::<R>();
+    undoing::inverses_undo();
+    undoing::changes_are_of_one_object();
+}

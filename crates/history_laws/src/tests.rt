@@ -1,13 +1,16 @@
 //! Each law over every table of calls, at the table of the system calls.
 
-use crate::{histories, notes, store};
+use crate::{histories, notes, store, ticks};
 use plain_rules::PlainRules;
 
 #[test]
 fn the_system_calls_have_the_laws(_rt: HostRuntime) {
     histories::fallen_levels_replay::<PlainRules>();
+    histories::calls_are_sound::<PlainRules>();
     store::in_place_reads::<PlainRules>();
     store::undone_is_below::<PlainRules>();
     notes::leaves_few_notes::<PlainRules>();
     notes::calls_leave_few_drops::<PlainRules>();
+    notes::events_leave_few_notes::<PlainRules>();
+    ticks::ticks_end::<PlainRules>();
 }

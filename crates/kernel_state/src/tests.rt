@@ -77,9 +77,10 @@ fn leaves(store: &mut Store) -> bool
     requires sound { IsStore (λ b. seen b) store.old }
     ensures sound { IsStore (λ b. seen b) store.new }
 {
-    if store.living(1) {
-        store.leave(1);
+    if !store.living(1) {
+        return false;
     }
+    store.leave(1);
     !store.living(1)
 }
 

@@ -1,0 +1,30 @@
+//! Laws of what keeps abstract kernels sound. A call of one brings its statement into a proof.
+
+ghost use Rattle.graft_laws.specs.Kernels.{StepsStaySound, DropsStaySound, SettlingStaysSound, EventsStaySound, CallsReplay};
+
+use kernel_model::Rules;
+
+/// A step of a call that nothing blocks keeps the kernel sound, and the disk's blocks whole.
+pub fn steps_stay_sound<R: Rules>()
+    ensures { StepsStaySound R.meaning }
+{}
+
+/// So does the drop of one of a call's levels.
+pub fn drops_stay_sound<R: Rules>()
+    ensures { DropsStaySound R.meaning }
+{}
+
+/// And settling.
+pub fn settling_stays_sound<R: Rules>()
+    ensures { SettlingStaysSound R.meaning }
+{}
+
+/// And every event.
+pub fn events_stay_sound<R: Rules>()
+    ensures { EventsStaySound R.meaning }
+{}
+
+/// In a sound kernel each call in a graft is sound, and as in the state but for what its levels hold exclusively.
+pub fn calls_replay<R: Rules>()
+    ensures { CallsReplay R.meaning }
+{}
