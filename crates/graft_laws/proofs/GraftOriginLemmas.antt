@@ -98,7 +98,7 @@ module _ (v : World) (images : ImageTable) (p : ℕ) (s : Objects) where
       below_suc : (n : ℕ) → 0 < suc n
       below_suc n = omega arith
 
-  mark_come : (k : Mark) (t z : Trace) → mark_on v images p k t ≡ Some z → IsReplayed v s t.config → ComeFrom t.config.now.accounts z.config.now.accounts
+  pub mark_come : (k : Mark) (t z : Trace) → mark_on v images p k t ≡ Some z → IsReplayed v s t.config → ComeFrom t.config.now.accounts z.config.now.accounts
   mark_come Stepped t z e h =
       let f = stepped_split t (micro v images p t.config) z e in
       subst (λ (x : Trace). ComeFrom t.config.now.accounts x.config.now.accounts) f.1 (micro_come t.config.now t.config.levels h)

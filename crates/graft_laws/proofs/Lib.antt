@@ -42,3 +42,5 @@ pub mod KernelStepLemmas
 pub mod OrderLemmas
 pub mod SettleSoundLemmas
 pub mod EventLemmas
+pub mod MoreImageLemmas
+pub mod SessionLemmas

@@ -3,4 +3,5 @@ pub mod Falls
 pub mod Histories
 pub mod Kernels
 pub mod Points
+pub mod Sessions
 pub mod Stability

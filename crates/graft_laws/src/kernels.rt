@@ -1,6 +1,6 @@
 //! Laws of what keeps abstract kernels sound. A call of one brings its statement into a proof.
 
-ghost use Rattle.graft_laws.specs.Kernels.{StepsStaySound, DropsStaySound, SettlingStaysSound, EventsStaySound, CallsReplay};
+ghost use Rattle.graft_laws.specs.Kernels.{StepsStaySound, DropsStaySound, SettlingStaysSound, EventsStaySound, ImagesStaySound, CallsReplay};
 
 use kernel_model::Rules;
 
@@ -22,6 +22,11 @@ pub fn settling_stays_sound<R: Rules>()
 /// And every event.
 pub fn events_stay_sound<R: Rules>()
     ensures { EventsStaySound R.meaning }
+{}
+
+/// More images that are loaded keep the kernel sound, and leave each call in a graft where it is.
+pub fn images_stay_sound<R: Rules>()
+    ensures { ImagesStaySound R.meaning }
 {}
 
 /// In a sound kernel each call in a graft is sound, and as in the state but for what its levels hold exclusively.

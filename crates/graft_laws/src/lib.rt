@@ -4,6 +4,7 @@
 pub mod alike;
 pub mod histories;
 pub mod kernels;
+pub mod sessions;
 pub mod stability;
 #[cfg(test)]
 mod tests;

@@ -14,6 +14,7 @@ fn the_system_calls_have_the_laws(_rt: HostRuntime) {
     kernels::drops_stay_sound::<PlainRules>();
     kernels::settling_stays_sound::<PlainRules>();
     kernels::events_stay_sound::<PlainRules>();
+    kernels::images_stay_sound::<PlainRules>();
     kernels::calls_replay::<PlainRules>();
     stability::commits_what_is_taken::<PlainRules>();
     stability::calls_are_stable::<PlainRules>();
