@@ -1,5 +1,4 @@
-use Rattle.std.proofs.Common.{◌≡◌, true, ◌<◌, ◌≤◌, sym, ◌∙◌, arith}
-use Rattle.kernel_model.specs.Queue.{slices_of}
+use Rattle.std.proofs.Common.{◌≡◌, true, sym, ◌∙◌, arith}
 use Rattle.kernel_state.specs.Stores.{queue_of}
 use Rattle.call_pieces.specs.Works.{slices_within}
 use Rattle.call_pieces.proofs.Slices.{slices_few}
