@@ -4,7 +4,8 @@
 #[cfg(test)]
 mod tests {
     use graft_points::{
-        Policy, RaNext, RaNone, RaSeq, SchedNice, SchedRound, VictimLru, VictimMark, is_stock, put_last,
+        Policy, RaNext, RaNone, RaSeq, SchedNice, SchedRound, VictimLru, VictimMark, is_stock,
+        put_last,
     };
     use mem_disk::MemDisk;
     use std::alloc::{AllocError, Global};
@@ -190,7 +191,8 @@ mod tests {
         let script =
             "grant 500\nboot\nspawn 0\ngive 0 1 records 300\ngive 0 1 records 201\ngive 0 3 records 1\ngive 1 1 records 300\n\
             exit 1\npeek 1 0\ngive 0 0 records 500\ngive 0 0 records 501\n";
-        let lines = "0 boot 8 64 3\n1 ok 1\n2 ok\n3 E12 200\n4 E1\n5 ok\n6 ok\n7 E1\n8 ok\n9 E12 500\n";
+        let lines =
+            "0 boot 8 64 3\n1 ok 1\n2 ok\n3 E12 200\n4 E1\n5 ok\n6 ok\n7 E1\n8 ok\n9 E12 500\n";
         let ran = run_words(rt.alloc(), &["run", KEY], script, 0, 0)?;
         assert_eq!(rt; ran.status, 0);
         assert!(rt; ran.written.bytes() == lines.as_bytes());
@@ -322,6 +324,34 @@ mod tests {
             assert!(rt;
                 ran.written.bytes() == lines.as_bytes(),
                 "with {more} bytes"
+            );
+        }
+        Ok(())
+    }
+
+    #[test]
+    fn boxes_and_checks_images(rt: HostRuntime) -> Result<(), Fail> {
+        let raw = "56475230020000000000000011030200000000001a00000000000000\n";
+        // The seal at the end was computed by another program.
+        let sealed =
+            "564752310100000004000000000000000f0e0200fc0f0000070e0e0f0000000011030e00000000001a00000000000000\
+            1086d3c04923710a3ea2a00cb92e12ddcf0a2d4c69ed3e6b963a964ff5a8c203\n";
+        let forged =
+            "564752310100000004000000000000000f0e0200fc0f0000070e0e0f0000000011030e00000000001a00000000000000\
+            1086d3c04923710a3ea2a00cb92e12ddcf0a2d4c69ed3e6b963a964ff5a8c202\n";
+        let cases = [
+            ("box", raw, 0u8, sealed),
+            ("check", sealed, 0, "ok 4 0\n"),
+            ("check", forged, 6, "L5\n"),
+            ("box", "00\n", 6, "L1\n"),
+            ("check", "0\n", 2, "input S2\n"),
+        ];
+        for (word, input, status, lines) in cases {
+            let ran = run_words(rt.alloc(), &[word, KEY], input, 0, 0)?;
+            assert_eq!(rt; ran.status, status, "on {word} {input:?}");
+            assert!(rt;
+                ran.written.bytes() == lines.as_bytes(),
+                "on {word} {input:?}"
             );
         }
         Ok(())
