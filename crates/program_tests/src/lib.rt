@@ -1,6 +1,10 @@
 //! Runs of the whole program over sources, sinks and disks in memory.
 #![tactic(auto)]
 
+ghost use Rattle.std.specs.Prelude.{◌≡◌, map};
+ghost use Rattle.kernel_model.specs.Opening.{opening_policy};
+ghost use Rattle.graft_points.specs.Shelf.{IsShelf, pol_of, first_choice};
+
 #[cfg(test)]
 mod tests {
     use graft_points::{
@@ -31,8 +35,29 @@ mod tests {
         Ok(all)
     }
 
-    /// Runs the program on this script, over the sample disk. The reads, the writes and the calls of the disk with these
-    /// numbers fail; 0 is none.
+    /// Runs the program on this script, over the sample disk and these policies. The reads, the writes and the calls of the
+    /// disk with these numbers fail; 0 is none.
+    fn run_with(
+        alloc: Global,
+        words: &[&str],
+        script: &str,
+        failing: [u64; 3],
+        shelf: Vec<Box<dyn Policy>>,
+    ) -> Result<Ran, Fail>
+        requires shelf { IsShelf (map (λ b. seen b) shelf.items) }
+        requires stock { pol_of (map (λ b. seen b) shelf.items) first_choice ≡ opening_policy }
+    {
+        let [failing_read, failing_write, failing_call] = failing;
+        let words = words_of(alloc, words)?;
+        let script = Vec::from_slice(alloc, script.as_bytes())?;
+        let mut source = MemSource::new(script, Vec::from_slice(alloc, &[failing_read])?);
+        let mut written = MemSink::new(alloc, Vec::from_slice(alloc, &[failing_write])?);
+        let mut disk = MemDisk::sample(alloc, Vec::from_slice(alloc, &[failing_call])?)?;
+        let status = vino(alloc, &words, &mut source, &mut written, &mut disk, shelf);
+        Ok(Ran { status, written })
+    }
+
+    /// The same, over the stock policies.
     fn run_failing(
         alloc: Global,
         words: &[&str],
@@ -41,11 +66,6 @@ mod tests {
         failing_write: u64,
         failing_call: u64,
     ) -> Result<Ran, Fail> {
-        let words = words_of(alloc, words)?;
-        let script = Vec::from_slice(alloc, script.as_bytes())?;
-        let mut source = MemSource::new(script, Vec::from_slice(alloc, &[failing_read])?);
-        let mut written = MemSink::new(alloc, Vec::from_slice(alloc, &[failing_write])?);
-        let mut disk = MemDisk::sample(alloc, Vec::from_slice(alloc, &[failing_call])?)?;
         let mut shelf: Vec<Box<dyn Policy>> = Vec::new(alloc);
         put_last(&mut shelf, Box::new(alloc, RaNone::new())?, 0, None)?;
         put_last(&mut shelf, Box::new(alloc, RaSeq::new())?, 1, Some(2))?;
@@ -55,10 +75,10 @@ mod tests {
         put_last(&mut shelf, Box::new(alloc, SchedRound::new())?, 5, None)?;
         put_last(&mut shelf, Box::new(alloc, SchedNice::new())?, 6, Some(0))?;
         if !is_stock(&shelf) {
-            unreachable!()
+            return Err(AllocError.into());
         }
-        let status = vino(alloc, &words, &mut source, &mut written, &mut disk, shelf);
-        Ok(Ran { status, written })
+        let failing = [failing_read, failing_write, failing_call];
+        run_with(alloc, words, script, failing, shelf)
     }
 
     /// The same, over a disk of which no call fails.

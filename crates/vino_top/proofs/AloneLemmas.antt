@@ -89,18 +89,16 @@ sync_keeps (suc n) f written s blocks io =
         | true ↦ disk_failed s blocks (suc written)
         | false ↦ sync_from n (suc f) (suc written) (with_cache (cleaned f value s.things.cache) s) (at value.block value.bytes blocks) io
       ]
-    ]))
-    [
+    ])) [
       | None ↦ sync_keeps n (suc f) written s blocks io
       | Some value ↦ elim (disk_fails io written)
-        as (λ b. Keeps s (elim b as (λ _. Piece) [
-          | true ↦ disk_failed s blocks (suc written)
-          | false ↦ sync_from n (suc f) (suc written) (with_cache (cleaned f value s.things.cache) s) (at value.block value.bytes blocks) io
-        ]))
-        [
-          | true ↦ (λ r pt. refl)
-          | false ↦ sync_keeps n (suc f) (suc written) (with_cache (cleaned f value s.things.cache) s) (at value.block value.bytes blocks) io
-        ]
+          as (λ b. Keeps s (elim b as (λ _. Piece) [
+            | true ↦ disk_failed s blocks (suc written)
+            | false ↦ sync_from n (suc f) (suc written) (with_cache (cleaned f value s.things.cache) s) (at value.block value.bytes blocks) io
+          ])) [
+            | true ↦ (λ r pt. refl)
+            | false ↦ sync_keeps n (suc f) (suc written) (with_cache (cleaned f value s.things.cache) s) (at value.block value.bytes blocks) io
+          ]
     ]
 
 tune_keeps : (s : Objects) (kind k x : ℕ) (blocks : Blocks) → Keeps s (tune_piece s kind k x blocks)
@@ -124,6 +122,7 @@ fewer_none p (suc n) a none = fewer_none p n (removed p n a) (removed_none (a.gr
   where
     no_some : (g : GraftValue) → Some g ≡ None → ⊥
     no_some g is = cc
+
     removed_none : (g : Option GraftValue) → g ≡ None → (r pt : ℕ) → (removed_by p n g a).graft r pt ≡ None
     removed_none None is = none
     removed_none (Some g) is = absurd (no_some g is)

@@ -15,7 +15,7 @@ returns-in-Ok g c =
     let s = c.args.self.now in
     let rows = store_rows (λ b. (goal.Policy-dyn g (b.vtable, b.value)).seen b.value) s.store s.clock in
     let value = in_section rows sections c.args.i c.loop-section.section-index c.loop-section.left (get_or sections c.loop-section.section-index Clock) c.in-Ok.row c.loop-section.invariant (slice_get-get_or sections c.loop-section.section-index Clock c.loop-section-test.true) c.in-Ok.ensures.value
-          ∙ ap (λ (xs : List RawRow). slice_get xs c.args.i) (rows_are g.C.Meaning.Rules.meaning (world_of_store s.store) no_images (objects_of (λ b. (goal.Policy-dyn g (b.vtable, b.value)).seen b.value) s.store) s.clock) in
+    ∙ ap (λ (xs : List RawRow). slice_get xs c.args.i) (rows_are g.C.Meaning.Rules.meaning (world_of_store s.store) no_images (objects_of (λ b. (goal.Policy-dyn g (b.vtable, b.value)).seen b.value) s.store) s.clock) in
     record {
       value = value;
       few = λ past. value ∙ rows_end g.C.Meaning.Rules.meaning (world_of_store s.store) no_images (objects_of (λ b. (goal.Policy-dyn g (b.vtable, b.value)).seen b.value) s.store) s.clock c.args.i past;
@@ -32,7 +32,7 @@ returns g c =
     let s = c.args.self.now in
     let rows = store_rows (λ b. (goal.Policy-dyn g (b.vtable, b.value)).seen b.value) s.store s.clock in
     let value = past_all rows sections c.args.i c.loop-section.section-index c.loop-section.left c.loop-section.invariant (omega arith)
-          ∙ ap (λ (xs : List RawRow). slice_get xs c.args.i) (rows_are g.C.Meaning.Rules.meaning (world_of_store s.store) no_images (objects_of (λ b. (goal.Policy-dyn g (b.vtable, b.value)).seen b.value) s.store) s.clock) in
+    ∙ ap (λ (xs : List RawRow). slice_get xs c.args.i) (rows_are g.C.Meaning.Rules.meaning (world_of_store s.store) no_images (objects_of (λ b. (goal.Policy-dyn g (b.vtable, b.value)).seen b.value) s.store) s.clock) in
     record {
       value = value;
       few = λ past. value ∙ rows_end g.C.Meaning.Rules.meaning (world_of_store s.store) no_images (objects_of (λ b. (goal.Policy-dyn g (b.vtable, b.value)).seen b.value) s.store) s.clock c.args.i past;
