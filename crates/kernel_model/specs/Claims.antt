@@ -105,13 +105,14 @@ ConfigsStaySound =
     (v : World) (images : ImageTable) (p : ℕ) (c : Config) → IsSoundConfig v c → (micro v images p c).config.levels ≢ [] →
     IsSoundConfig v (micro v images p c).config
 
--- The history after the drop of a level above 0, by an instruction or a time-out, leads to the config that the drop gave.
+-- The history after the drop of a level above 0, by an instruction or a time-out, leads to the config that the drop gave, if the
+-- level's graft stood.
 abbrev pub FallsReplay : Meaning → Type 0
 FallsReplay m =
     (v : World) (images : ImageTable) (s : Objects) (p : ℕ) (t : Stage) (ks : List Mark) (now : Trace) (o : Outcome) (d q pt : ℕ) (cause why : Cause) →
-    Laws m → IsSoundStore v s → m.fits v s p t ≡ true → replay m v images s p t ks ≡ Some now →
+    replay m v images s p t ks ≡ Some now →
     (o ≡ micro v images p now.config) ⊎ (o ≡ drop_level v now.config.now now.config.levels (suc d) why) →
-    o.said ≡ Micro.Dropped (suc d) q pt cause →
+    o.said ≡ Micro.Dropped (suc d) q pt cause → is_some (now.config.now.accounts.graft q pt) ≡ true →
     config_in (replay m v images s p t (fallen now ks o.effects (suc d))) ≡ Some o.config
 
 -- p's graft call is the same, as far as it can tell, in another kernel

@@ -1,6 +1,6 @@
 -- What has to hold of the meaning of every kernel's calls.
-use Rattle.std.specs.Prelude.{◌≡◌, ℕ, suc, ◌+◌, ◌-◌, ◌<◌, ◌≤◌, ◌^◌, Bool, true, false, not, ◌&&◌, List, ◌++◌, length, take, map, sum, nat_le, ◌≢◌, Contains, Option, Some, None, is_some, Ok, slice_index, ⊤}
-use Rattle.std.specs.List.{list_any}
+use Rattle.std.specs.Prelude.{◌≡◌, ℕ, suc, ◌+◌, ◌-◌, ◌<◌, ◌≤◌, ◌^◌, Bool, true, false, not, ◌&&◌, List, [], ◌∷◌, ◌++◌, length, take, map, sum, nat_le, ◌≢◌, Contains, Option, Some, None, is_some, Ok, slice_index, ⊤}
+use Rattle.std.specs.List.{list_any, AllByRecursion}
 use Rattle.std.specs.Result.{is_ok}
 use Rattle.kernel_model.specs.declared.Need.{Need}
 use Rattle.kernel_model.specs.declared.Point.{Point}
@@ -16,7 +16,8 @@ use Rattle.kernel_model.specs.Policies.{PointKind, Ahead, Victim, Next, kind_of,
 use Rattle.kernel_model.specs.Meaning.{Meaning, Stage, Piece, After, Continues, Fails}
 use Rattle.kernel_model.specs.Needs.{point_needs}
 use Rattle.kernel_model.specs.Sound.{IsSoundStore, ImagesAreLoaded, FitsDisk, HasWholeBlocks}
-use Rattle.kernel_model.specs.Alike.{AgreeOn, SameLiving, SameFiles, AreAlike, Extends, is_needed_exclusively}
+use Rattle.kernel_model.specs.Events.{wanted}
+use Rattle.kernel_model.specs.Alike.{AgreeOn, SameLiving, SameFiles, AreAlike, Extends, is_needed, is_needed_exclusively}
 
 -- ---- words of the laws
 
@@ -115,7 +116,33 @@ pub record IsReady (m : Meaning) (v : World) (images : ImageTable) (s : Objects)
   pub disk : FitsDisk v s.things.cache
   pub right : IsRightAnswer s (m.asks v s p t) answer
 
+-- the objects that tell whether an answer of a point is valid
+abbrev pub answer_objects : PointKind → List Object
+answer_objects Ahead = []
+answer_objects Victim = Cache ∷ []
+answer_objects Next = Queue ∷ []
+
+-- ---- the laws
+
 module _ (m : Meaning) where
+  -- A graft that a piece needs it needs exclusively.
+  abbrev pub NeedsGraftsExclusively : Type 0
+  NeedsGraftsExclusively =
+      (v : World) (s : Objects) (p : ℕ) (t : Stage) (q pt : ℕ) → m.fits v s p t ≡ true → is_needed (Graft q pt) (m.need v s p t) ≡ true →
+      is_needed_exclusively (Graft q pt) (m.need v s p t) ≡ true
+
+  -- A piece needs each object in one mode.
+  abbrev pub NeedsHaveOneMode : Type 0
+  NeedsHaveOneMode =
+      (v : World) (s : Objects) (p : ℕ) (t : Stage) (n : Need) → m.fits v s p t ≡ true → Contains (m.need v s p t) n →
+      wanted n.object (m.need v s p t) ≡ n.mode
+
+  -- A piece that asks a point needs what tells whether an answer of that point is valid.
+  abbrev pub NeedsAnswers : Type 0
+  NeedsAnswers =
+      (v : World) (images : ImageTable) (s : Objects) (p : ℕ) (t : Stage) (a : Point) → IsStanding m v images s p t → m.asks v s p t ≡ Some a →
+      AllByRecursion (λ (o : Object). is_needed o (m.need v s p t) ≡ true) (answer_objects (kind_of a.point))
+
   -- The objects of a piece.
   pub record NeedLaws : Type 0 where
     -- states that agree on the first objects of the list have the same next one, or both none
@@ -134,6 +161,10 @@ module _ (m : Meaning) where
     -- where the piece asks a point, the list ends with that point's objects
     pub point : (v : World) (s : Objects) (p : ℕ) (t : Stage) (a : Point) → m.fits v s p t ≡ true → m.asks v s p t ≡ Some a →
         m.need v s p t ≡ before_point s a (m.need v s p t) ++ needs_of_point s a
+    -- grafts are needed exclusively, each object in one mode, and what tells whether an answer is valid is needed
+    pub grafts : NeedsGraftsExclusively
+    pub modes : NeedsHaveOneMode
+    pub answers : NeedsAnswers
 
   -- The points that pieces ask.
   pub record AskLaws : Type 0 where

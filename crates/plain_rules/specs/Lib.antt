@@ -10,6 +10,9 @@ pub mod NeedKinds
 pub mod Numbers
 pub mod NeedRanges
 pub mod BeforePoint
+pub mod NeedGrafts
+pub mod NeedModes
+pub mod NeedAnswers
 pub mod Needs
 pub mod Counts
 pub mod AskLooks

@@ -9,6 +9,9 @@ use Rattle.plain_rules.specs.NeedOrder.{follows_next, follows_piece}
 use Rattle.plain_rules.specs.NeedKinds.{IsOwnNeed, own_piece, piece_few}
 use Rattle.plain_rules.specs.NeedRanges.{NeedIsInRange, piece_ranges}
 use Rattle.plain_rules.specs.BeforePoint.{piece_ends, piece_before_point}
+use Rattle.plain_rules.specs.NeedGrafts.{calls_take_grafts}
+use Rattle.plain_rules.specs.NeedModes.{plain_needs_have_one_mode}
+use Rattle.plain_rules.specs.NeedAnswers.{calls_need_answers}
 
 -- the laws of needed objects hold of the system calls
 pub needs_of_plain : NeedLaws plain
@@ -26,4 +29,7 @@ needs_of_plain =
       point = λ v s p t a h e.
           piece_ends t.call t.piece v s p a e
           ∙ sym (ap (λ ns. ns ++ needs_of_point s a) (piece_before_point t.call t.piece v s p a e));
+      grafts = calls_take_grafts;
+      modes = plain_needs_have_one_mode;
+      answers = calls_need_answers;
     }
