@@ -29,12 +29,13 @@ impl Store {
         ensures living { (p : ℕ) → lives (queue_of self.new) p ≡ lives (queue_of self.old) p }
         ensures world { world_of_store self.new ≡ world_of_store self.old }
         ensures sound { IsStore (λ b. seen b) self.new }
+        ensures memory { self.new.ram ≡ self.old.ram }
         ensures undoable { IfOk result (λ a. IfSome a.inverse (λ i. CanBeUndone i (objects_of (λ b. seen b) self.new).things)) }
         ensures kept { (i : Inverses) → CanBeUndone i (objects_of (λ b. seen b) self.old).things → CanBeUndone i (objects_of (λ b. seen b) self.new).things }
     {
         let answer = self.answer(id, args, q);
         if answer.is_ok() {
-            self.change(id, args, q);
+            self.apply(id, args, q);
         }
         answer
     }
@@ -47,6 +48,7 @@ impl Store {
         ensures living { (p : ℕ) → lives (queue_of self.new) p ≡ lives (queue_of self.old) p }
         ensures world { world_of_store self.new ≡ world_of_store self.old }
         ensures sound { IsStore (λ b. seen b) self.new }
+        ensures memory { self.new.ram ≡ self.old.ram }
         ensures kept { (i : Inverses) → CanBeUndone i (objects_of (λ b. seen b) self.old).things → CanBeUndone i (objects_of (λ b. seen b) self.new).things }
     {
         match inverse {
@@ -58,8 +60,8 @@ impl Store {
         }
     }
 
-    /// What an accessor answers.
-    fn answer(&self, id: u32, args: [u32; 3], q: u8) -> Result<Access, Cause>
+    /// What an accessor answers, as `access` says. Nothing changes.
+    pub fn answer(&self, id: u32, args: [u32; 3], q: u8) -> Result<Access, Cause>
         requires sound { IsStore (λ b. seen b) self.now }
         requires lives { lives (queue_of self.now) q ≡ true }
         requires plain { id ≤ 12 }
@@ -86,6 +88,24 @@ impl Store {
         }
     }
 
+    /// Makes the change of an accessor whose answer isn't a refusal.
+    pub fn apply(&mut self, id: u32, args: [u32; 3], q: u8)
+        requires sound { IsStore (λ b. seen b) self.old }
+        requires lives { lives (queue_of self.old) q ≡ true }
+        requires plain { id ≤ 12 }
+        requires early { early_refusal 15 id (slice_index args 0) (slice_index args 1) q ≡ None }
+        requires accepted { is_ok (answer_of (accessed id (slice_index args 0) (slice_index args 1) (slice_index args 2) q (objects_of (λ b. seen b) self.old).things)) ≡ true }
+        ensures objects { let s = objects_of (λ b. seen b) self.old in objects_of (λ b. seen b) self.new ≡
+            with_things (things_after (accessed id (slice_index args 0) (slice_index args 1) (slice_index args 2) q s.things) s.things) s }
+        ensures living { (p : ℕ) → lives (queue_of self.new) p ≡ lives (queue_of self.old) p }
+        ensures world { world_of_store self.new ≡ world_of_store self.old }
+        ensures sound { IsStore (λ b. seen b) self.new }
+        ensures memory { self.new.ram ≡ self.old.ram }
+        ensures kept { (i : Inverses) → CanBeUndone i (objects_of (λ b. seen b) self.old).things → CanBeUndone i (objects_of (λ b. seen b) self.new).things }
+    {
+        self.change(id, args, q);
+    }
+
     /// The change of an accessor that isn't refused.
     fn change(&mut self, id: u32, args: [u32; 3], q: u8)
         requires sound { IsStore (λ b. seen b) self.old }
@@ -98,6 +118,7 @@ impl Store {
         ensures living { (p : ℕ) → lives (queue_of self.new) p ≡ lives (queue_of self.old) p }
         ensures world { world_of_store self.new ≡ world_of_store self.old }
         ensures sound { IsStore (λ b. seen b) self.new }
+        ensures memory { self.new.ram ≡ self.old.ram }
     {
         let [first, second, third] = args;
         match id {

@@ -2,7 +2,7 @@
 
 ghost use Rattle.std.specs.Prelude.{◌≡◌, ℕ, ◌+◌, ◌<◌, ◌≤◌, true, Some, None, Ok, IfSome, IfOk};
 ghost use Rattle.kernel_model.specs.declared.OpenRow.{OpenRow as Row};
-ghost use Rattle.kernel_model.specs.World.{file_named};
+ghost use Rattle.kernel_model.specs.World.{file_named, blocks_of};
 ghost use Rattle.kernel_model.specs.Policies.{lives, ahead_default};
 ghost use Rattle.kernel_model.specs.Needs.{file_block, ahead_block, is_within};
 ghost use Rattle.kernel_model.specs.FilePieces.{with_file, free_descriptor as lowest_free, new_file};
@@ -58,6 +58,7 @@ impl Store {
         ensures objects { objects_of (λ b. seen b) self.new ≡ with_file p fd row (objects_of (λ b. seen b) self.old) }
         ensures world { world_of_store self.new ≡ world_of_store self.old }
         ensures sound { IsStore (λ b. seen b) self.new }
+        ensures memory { self.new.ram ≡ self.old.ram }
     {
         self.procs.rows();
         self.procs.put_file(p, fd, row);
@@ -92,6 +93,14 @@ impl Store {
         ensures on_disk { result < self.now.size }
     {
         self.dir.file(opened.file).start + opened.start
+    }
+
+    /// How many blocks the file has that is open here.
+    pub fn blocks(&self, opened: &OpenRow) -> u32
+        requires { IsSoundFile (world_of_store self.now) opened.now }
+        ensures { result ≡ blocks_of (world_of_store self.now) opened.now.file }
+    {
+        self.dir.file(opened.file).blocks
     }
 
     /// What is to be read ahead of an open file by default, as the chosen policy has it.

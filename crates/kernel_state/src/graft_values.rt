@@ -16,7 +16,7 @@ use kernel_model::{FRAMES, FrameRow, FrameRows, OpenRow, QueueRow};
 
 impl Store {
     /// The nice of process q. 0 where it doesn't live.
-    pub(crate) fn nice(&self, q: u8) -> u8
+    pub fn nice(&self, q: u8) -> u8
         ensures value { result ≡ nice_of (queue_of self.now) q }
         ensures range { result ≤ 39 }
     {
@@ -32,6 +32,7 @@ impl Store {
         ensures living { (p : ℕ) → lives (queue_of self.new) p ≡ lives (queue_of self.old) p }
         ensures world { world_of_store self.new ≡ world_of_store self.old }
         ensures sound { IsStore (λ b. seen b) self.new }
+        ensures memory { self.new.ram ≡ self.old.ram }
     {
         self.procs.set_nice(q, v);
     }
@@ -47,6 +48,7 @@ impl Store {
         ensures queue { queue_of self.new ≡ queue_of self.old }
         ensures world { world_of_store self.new ≡ world_of_store self.old }
         ensures sound { IsStore (λ b. seen b) self.new }
+        ensures memory { self.new.ram ≡ self.old.ram }
     {
         if let Some(row) = self.file(q, fd) {
             self.put_file(q, fd, Some(OpenRow { window: v, ..row }));
@@ -61,6 +63,7 @@ impl Store {
         ensures queue { queue_of self.new ≡ queue_of self.old }
         ensures world { world_of_store self.new ≡ world_of_store self.old }
         ensures sound { IsStore (λ b. seen b) self.new }
+        ensures memory { self.new.ram ≡ self.old.ram }
     {
         self.cache.lru();
         if let Some(row) = self.row(f) {
@@ -82,7 +85,7 @@ impl Store {
     }
 
     /// The frames of process q, oldest first.
-    pub(crate) fn owned_rows(&self, q: u8) -> FrameRows
+    pub fn owned_rows(&self, q: u8) -> FrameRows
         ensures rows { map (λ (r : Row). Some r) result ≡ map (row_at self.now.cache.rows) (frames_of (cache_of self.now) q) }
         ensures frames { map (λ (r : Row). r.frame) result ≡ frames_of (cache_of self.now) q }
     {
@@ -94,6 +97,16 @@ impl Store {
             }
         }
         rows
+    }
+
+    /// Whether frame f is in use and of process q.
+    pub fn is_owner(&self, q: u8, f: u32) -> bool
+        ensures { result ≡ is_owned (cache_of self.now) q f }
+    {
+        match self.row(f) {
+            Some(row) => row.owner == q,
+            None => false,
+        }
     }
 
     /// The candidate for eviction of process q: the frame that the chosen policy evicts of those of q, if it has some.

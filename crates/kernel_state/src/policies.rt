@@ -66,6 +66,7 @@ impl Store {
         ensures queue { queue_of self.new ≡ queue_of self.old }
         ensures world { world_of_store self.new ≡ world_of_store self.old }
         ensures sound { IsStore (λ b. seen b) self.new }
+        ensures memory { self.new.ram ≡ self.old.ram }
     {
         set_param(self.shelf.as_mut_slice(), &self.choice, kind, v);
     }

@@ -105,6 +105,7 @@ impl Store {
         ensures objects { objects_of (λ b. seen b) self.new ≡ with_things (cell_set p k v (objects_of (λ b. seen b) self.old).things) (objects_of (λ b. seen b) self.old) }
         ensures world { world_of_store self.new ≡ world_of_store self.old }
         ensures sound { IsStore (λ b. seen b) self.new }
+        ensures memory { self.new.ram ≡ self.old.ram }
     {
         self.procs.set_cell(p, k, v);
     }
