@@ -1,22 +1,27 @@
 //! A store over the sample disk's directory.
 
-ghost use Rattle.std.specs.Prelude.{◌≡◌, ◌+◌, ◌<◌, ◌≤◌, true, None, length, map, slice_index, IfOk};
+ghost use Rattle.std.specs.Prelude.{◌≡◌, ◌+◌, ◌<◌, ◌≤◌, true, None, length, map, slice_index, IfOk, IfSome};
 ghost use Rattle.kernel_model.specs.Opening.{opening_policy};
 ghost use Rattle.graft_points.specs.Shelf.{IsShelf, pol_of, first_choice};
 ghost use Rattle.kernel_model.specs.Access.{early_refusal};
 ghost use Rattle.kernel_model.specs.Policies.{lives};
 ghost use Rattle.kernel_model.specs.FilePieces.{new_file};
-ghost use Rattle.kernel_state.specs.Stores.{queue_of, IsStore};
+ghost use Rattle.kernel_model.specs.declared.Inverse.{Inverse as Inverses};
+ghost use Rattle.kernel_state.specs.Accesses.{CanBeUndone};
+ghost use Rattle.kernel_state.specs.Stores.{objects_of, queue_of, IsStore};
 
 use crate::{Setup, Store};
 use accessor_list::ids;
 use graft_points::{
-    Policy, RaNext, RaNone, RaSeq, SchedNice, SchedRound, VictimLru, VictimMark, is_stock, put_last,
+    Ask, Policy, RaNext, RaNone, RaSeq, SchedNice, SchedRound, VictimLru, VictimMark, is_stock,
+    put_last,
 };
 use kernel_model::{Bytes, Inverse, Kind, OpenRow};
 use mem_disk::read_directory;
 use ram_space::Ram;
 use std::alloc::Global;
+use std::cell::Cell;
+use std::rc::Rc;
 use std::test::Fail;
 
 /// The entries of the sample disk, byte for byte.
@@ -304,5 +309,136 @@ fn records_put_values_back(rt: HostRuntime) -> Result<(), Fail> {
     assert!(rt; store.takes(0, 0, 8));
     store.undo(Inverse::Tune(0, 0, 8));
     assert_eq!(rt; store.param(0), Some(8));
+    Ok(())
+}
+
+/// The last value that a policy was set to, and how often it was set.
+#[derive(Clone, Copy)]
+struct Told {
+    value: u32,
+    times: u32,
+}
+
+/// Reads ahead, and notes in a cell what it is set to.
+#[derive(Drop)]
+struct Noting {
+    blocks: u32,
+    told: Rc<Cell<Told>>,
+}
+
+impl Policy for Noting {
+    ghost use Rattle.graft_points.specs.Views.{PolicyView};
+    ghost use Rattle.std.specs.Prelude.{[], ◌∷◌};
+
+    ghost seen = { λ p. record { code = 1; params = p.blocks ∷ [] } };
+
+    fn code(&self) -> u8 {
+        1
+    }
+
+    fn params(&self) -> u8 {
+        1
+    }
+
+    fn get(&self, _k: u8) -> u32 {
+        self.blocks
+    }
+
+    fn set(&mut self, _k: u8, v: u32) {
+        self.told.set(Told {
+            value: v,
+            times: self.told.get().times.wrapping_add(1),
+        });
+        self.blocks = v;
+    }
+
+    fn answer(&self, ask: &Ask) -> u32 {
+        match *ask {
+            Ask::Ahead(true, window, left) => self.blocks.min(window).min(left),
+            _ => 0,
+        }
+    }
+}
+
+/// An accessor of a graft of root tunes reading ahead.
+fn tunes(store: &mut Store, blocks: u32) -> Option<Inverse>
+    requires sound { IsStore (λ b. seen b) store.old }
+    requires root { lives (queue_of store.old) 0 ≡ true }
+    ensures sound { IsStore (λ b. seen b) store.new }
+    ensures root { lives (queue_of store.new) 0 ≡ true }
+    ensures undoable { IfSome result (λ i. CanBeUndone i (objects_of (λ b. seen b) store.new).things) }
+    ensures kept { (i : Inverses) → CanBeUndone i (objects_of (λ b. seen b) store.old).things → CanBeUndone i (objects_of (λ b. seen b) store.new).things }
+{
+    match store.access(ids::TUNE_SET, [0, 0, blocks], 0) {
+        Ok(access) => access.inverse,
+        Err(_) => None,
+    }
+}
+
+/// Puts back what a record names, if there is one.
+fn puts_back(store: &mut Store, found: Option<Inverse>)
+    requires sound { IsStore (λ b. seen b) store.old }
+    requires undoable { IfSome found (λ i. CanBeUndone i (objects_of (λ b. seen b) store.old).things) }
+    ensures sound { IsStore (λ b. seen b) store.new }
+    ensures kept { (i : Inverses) → CanBeUndone i (objects_of (λ b. seen b) store.old).things → CanBeUndone i (objects_of (λ b. seen b) store.new).things }
+{
+    if let Some(inverse) = found {
+        store.undo(inverse);
+    }
+}
+
+/// A policy from outside is tuned to 5 and to 6, and put back to 5 and to 2: it is told of each value, once.
+fn tunes_and_puts_back(store: &mut Store, told: &Cell<Told>) -> bool
+    requires sound { IsStore (λ b. seen b) store.old }
+    requires root { lives (queue_of store.old) 0 ≡ true }
+{
+    let first = tunes(store, 5);
+    let after_first = told.get();
+    let second = tunes(store, 6);
+    let after_second = told.get();
+    puts_back(store, second);
+    let back_once = told.get();
+    puts_back(store, first);
+    let back_twice = told.get();
+    after_first.value == 5
+        && after_second.value == 6
+        && back_once.value == 5
+        && back_twice.value == 2
+        && back_twice.times == 4
+}
+
+#[test]
+fn a_policy_is_told_of_each_value_that_is_put_back(rt: HostRuntime) -> Result<(), Fail> {
+    let told = Rc::new(rt.alloc(), Cell::new(Told { value: 0, times: 0 }))?;
+    let noting = Noting {
+        blocks: 2,
+        told: told.clone()?,
+    };
+    let mut shelf: Vec<Box<dyn Policy>> = Vec::new(rt.alloc());
+    put_last(&mut shelf, Box::new(rt.alloc(), RaNone::new())?, 0, None)?;
+    put_last(&mut shelf, Box::new(rt.alloc(), noting)?, 1, Some(2))?;
+    put_last(&mut shelf, Box::new(rt.alloc(), RaNext::new())?, 2, Some(1))?;
+    put_last(&mut shelf, Box::new(rt.alloc(), VictimLru::new())?, 3, None)?;
+    put_last(
+        &mut shelf,
+        Box::new(rt.alloc(), VictimMark::new())?,
+        4,
+        Some(0),
+    )?;
+    put_last(
+        &mut shelf,
+        Box::new(rt.alloc(), SchedRound::new())?,
+        5,
+        None,
+    )?;
+    put_last(
+        &mut shelf,
+        Box::new(rt.alloc(), SchedNice::new())?,
+        6,
+        Some(0),
+    )?;
+    assert!(rt; is_stock(&shelf));
+    let mut store = booted(rt.alloc(), shelf)?;
+    assert!(rt; tunes_and_puts_back(&mut store, &told));
     Ok(())
 }
