@@ -11,7 +11,8 @@ use Rattle.kernel_model.specs.Meaning.{stage}
 use Rattle.kernel_model.specs.Early.{call_refusal, begins_unless}
 use Rattle.kernel_model.specs.Policies.{lives}
 use Rattle.kernel_model.specs.Pieces.{plain, piece_fits, pieces_left}
-use Rattle.call_pieces.specs.Works.{TellsImages, MayCome, has_bit}
+use Rattle.kernel_model.specs.ImageMask.{TellsImages, has_bit}
+use Rattle.call_pieces.specs.Works.{MayCome}
 
 -- a table in which the images of these bits are loaded
 abbrev table_of : ℕ → ImageTable

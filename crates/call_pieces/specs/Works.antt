@@ -1,5 +1,5 @@
 -- A call in flight: where it stands, and when its next piece may come.
-use Rattle.std.specs.Prelude.{◌≡◌, ℕ, zero, suc, ◌/◌, ◌%◌, ◌^◌, ◌==◌, ◌<◌, ◌≤◌, Bool, true, false, List, Result, Ok, Err, nat_le, is_some}
+use Rattle.std.specs.Prelude.{◌≡◌, ℕ, zero, suc, ◌≤◌, Bool, true, false, List, Result, Ok, Err, nat_le}
 use Rattle.std.specs.List.{list_all}
 use Rattle.std.specs.Result.{is_ok}
 use Rattle.kernel_model.specs.declared.SysCall.{SysCall}
@@ -33,14 +33,6 @@ abbrev pub comes_after : Next → Stage → After
 comes_after Next.Goes t = Continues t
 comes_after (Next.Ends reply) t = EndsWith reply
 comes_after (Next.Fails refusal) t = Fails refusal
-
--- the bit of this number is set
-abbrev pub has_bit : ℕ → ℕ → Bool
-has_bit k bits = (bits / 2 ^ k) % 2 == 1
-
--- bit k tells whether image k of the table is loaded
-abbrev pub TellsImages : ℕ → ImageTable → Type 0
-TellsImages bits images = (k : ℕ) → k < 32 → is_some (images k) ≡ has_bit k bits
 
 -- The next piece of a call may come: its caller lives, no early refusal of it holds with some images loaded, and it stands
 -- before one of its pieces.

@@ -3,11 +3,12 @@
 ghost use Rattle.std.specs.Prelude.{◌≡◌, ℕ, ◌+◌, ◌<◌, ◌≤◌, ◌==◌, ◌||◌, true, not, length, nat_lt, nat_le, is_some, None, IfOk};
 ghost use Rattle.kernel_model.specs.declared.Refusal.TheVariants.{BadFd, BadIndex, BadPoint, Denied, NoImage};
 ghost use Rattle.kernel_model.specs.World.{ImageTable};
+ghost use Rattle.kernel_model.specs.ImageMask.{TellsImages, has_bit};
 ghost use Rattle.kernel_model.specs.Policies.{lives};
 ghost use Rattle.kernel_model.specs.Pieces.{plain};
 ghost use Rattle.kernel_model.specs.Early.{plain_early, call_refusal, refused, policy_count, TOP_POINT};
 ghost use Rattle.kernel_state.specs.Stores.{world_of_store, objects_of, queue_of, IsStore};
-ghost use Rattle.call_pieces.specs.Works.{TellsImages, MayCome, stage_of, stage_granted, has_bit};
+ghost use Rattle.call_pieces.specs.Works.{MayCome, stage_of, stage_granted};
 
 use crate::Work;
 use crate::copies::copy_call;

@@ -16,7 +16,8 @@ pub trait Calls {
     ghost use Rattle.kernel_model.specs.Queue.{slices_of};
     ghost use Rattle.disk_log.specs.Calls.{Tells, GoesOn};
     ghost use Rattle.kernel_state.specs.Stores.{world_of_store, objects_of, queue_of, IsStore};
-    ghost use Rattle.call_pieces.specs.Works.{TellsImages, MayCome, SlicesStay, SlicesRise, stage_granted, comes_after};
+    ghost use Rattle.kernel_model.specs.ImageMask.{TellsImages};
+    ghost use Rattle.call_pieces.specs.Works.{MayCome, SlicesStay, SlicesRise, stage_granted, comes_after};
     ghost use Rattle.call_pieces.specs.Coming.{CameTo, GoesOnFrom, has_failed, is_fault, goes_on};
 
     /// What the calls mean.

@@ -1,3 +1,4 @@
 pub mod Comparing
 pub mod Decoding
 pub mod Masking
+pub mod Slots

@@ -18,12 +18,14 @@ use std::alloc::{AllocError, Global};
 use std::marker::Model;
 use thiserror::Error;
 
+mod images;
 mod mac;
 mod sealing;
 #[cfg(test)]
 mod tests;
 
 pub use gm_isa::{Instr, Op};
+pub use images::Images;
 pub use kernel_model::NoMemory;
 pub use mac::hmac;
 use mac::is_same;

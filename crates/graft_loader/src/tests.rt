@@ -1,6 +1,6 @@
 //! The seal by vectors from outside, and images that are refused, by docs/FORMATS.md.
 
-use crate::{Instr, LoadFault, Op, hmac, load, seal};
+use crate::{Images, Instr, LoadFault, Loaded, Op, hmac, load, seal};
 use std::alloc::Global;
 use std::process::Abort;
 
@@ -144,4 +144,50 @@ fn hostile_images_are_refused(rt: HostRuntime) {
         let bytes = sealed(&rt, alloc, words);
         expect_refused(&rt, alloc, &KEY, bytes.as_slice(), fault);
     }
+}
+
+/// The image of `ret` with these data bytes.
+fn image_with(rt: &impl Abort, alloc: Global, body: &[u8]) -> Loaded {
+    let ret = Instr {
+        op: Op::Ret,
+        a: 0,
+        b: 0,
+        c: 0,
+        imm: 0,
+    };
+    let bytes = seal(alloc, &KEY, &[ret], body).expect(rt, "memory");
+    load(alloc, &KEY, bytes.as_slice()).expect(rt, "an image")
+}
+
+#[test]
+fn a_slot_has_the_image_that_was_put_there_last(rt: HostRuntime) {
+    let alloc = rt.alloc();
+    let mut images = Images::new(alloc).expect(&rt, "memory");
+    assert_eq!(rt; images.mask(), 0);
+    for slot in 0..34 {
+        assert!(rt; images.get(slot).is_none());
+    }
+    images.add(0, image_with(&rt, alloc, b"a"));
+    images.add(31, image_with(&rt, alloc, b"bb"));
+    images.add(5, image_with(&rt, alloc, b"ccc"));
+    assert_eq!(rt; images.mask(), 0x8000_0021);
+    images.add(31, image_with(&rt, alloc, b"dddd"));
+    assert_eq!(rt; images.mask(), 0x8000_0021);
+    for slot in 0..32 {
+        let free = slot != 0 && slot != 5 && slot != 31;
+        assert_eq!(rt; images.is_free(slot), free);
+        assert_eq!(rt; images.get(slot).is_none(), free);
+    }
+    let rows: [(u32, &[u8]); 3] = [(0, b"a"), (5, b"ccc"), (31, b"dddd")];
+    for (slot, body) in rows {
+        let image = images.get(slot).expect(&rt, "an image");
+        assert!(rt; image.body() == body);
+    }
+    images.clear();
+    assert_eq!(rt; images.mask(), 0);
+    for slot in 0..32 {
+        assert!(rt; images.is_free(slot));
+    }
+    images.add(5, image_with(&rt, alloc, b"e"));
+    assert_eq!(rt; images.mask(), 0x20);
 }

@@ -26,7 +26,8 @@ use Rattle.kernel_model.specs.Alone.{pieces_from, GoesToItsEnd, is_lock, event_o
 use Rattle.disk_log.specs.Calls.{Tells, Made, GoesOn}
 use Rattle.disk_log.specs.Joined.{made_none, made_joined}
 use Rattle.vino_base.specs.Calls.{Plan}
-use Rattle.call_pieces.specs.Works.{TellsImages, has_bit, stage_granted}
+use Rattle.kernel_model.specs.ImageMask.{TellsImages, has_bit}
+use Rattle.call_pieces.specs.Works.{stage_granted}
 use Rattle.call_pieces.specs.Coming.{CameTo}
 use Rattle.kernel_core.specs.Standing.{no_images, CallRan, Happened, RunsAlone}
 

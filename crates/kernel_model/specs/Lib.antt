@@ -1,5 +1,6 @@
 pub mod Bytes
 pub mod World
+pub mod ImageMask
 pub mod Directory
 pub mod Objects
 pub mod Queue
