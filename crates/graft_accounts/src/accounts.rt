@@ -202,11 +202,13 @@ impl Accounts {
 
     /// The graft that stands at a place.
     fn standing(&self, i: usize) -> Option<Standing>
-        requires { i < 256 }
         ensures value { result ≡ standing_at self.now i }
         ensures sound { IsTable self.now }
     {
-        self.grafts[i]
+        match self.grafts.get(i) {
+            Some(found) => *found,
+            None => None,
+        }
     }
 
     /// Puts a graft at a place.
@@ -277,6 +279,14 @@ impl Accounts {
             records: self.funds_at(i, Kind::Records),
             locks: self.funds_at(i, Kind::Locks),
         })
+    }
+
+    /// Whether a graft stands at point pt of process p: none does where p is no process.
+    pub fn stands(&self, p: u8, pt: u8) -> bool
+        requires { pt < 16 }
+        ensures { result ≡ is_some ((accounts_of self.now).graft p pt) }
+    {
+        self.standing(place(p, pt)).is_some()
     }
 
     /// Puts a graft at point pt of process p, where none stands. It has nothing, and isn't billed.

@@ -280,6 +280,23 @@ pub struct Need {
     pub by_user: bool,
 }
 
+impl Default for Need {
+    ghost use Rattle.std.specs.Prelude.{false};
+    ghost use Rattle.kernel_model.specs.declared.Object.TheVariants.{Queue};
+    ghost use Rattle.kernel_model.specs.declared.Mode.TheVariants.{Shared};
+
+    /// The queue, shared: what stands in a place of a fixed list that isn't used.
+    fn default() -> Need
+        ensures { result ≡ record { object = Queue; mode = Shared; by_user = false } }
+    {
+        Need {
+            object: Object::Queue,
+            mode: Mode::Shared,
+            by_user: false,
+        }
+    }
+}
+
 /// A point that a piece asks, with the arguments.
 #[derive(Clone, Copy)]
 pub struct Point {

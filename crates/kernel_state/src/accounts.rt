@@ -30,12 +30,10 @@ impl Store {
 
     /// Whether a graft stands at point pt of process p.
     pub fn has_graft(&self, p: u8, pt: u8) -> bool
-        requires lives { lives (queue_of self.now) p ≡ true }
-        requires point { pt < 16 }
+        requires { pt < 16 }
         ensures { result ≡ is_some ((objects_of (λ b. seen b) self.now).accounts.graft p pt) }
     {
-        self.procs.rows();
-        self.accounts.graft(p, pt).is_some()
+        self.accounts.stands(p, pt)
     }
 
     /// Puts a graft at point pt of process p, where none stands. It has nothing, and isn't billed.

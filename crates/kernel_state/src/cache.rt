@@ -2,7 +2,7 @@
 
 ghost use Rattle.std.specs.Prelude.{◌≡◌, ℕ, ◌+◌, ◌*◌, ◌<◌, ◌≤◌, true, false, length, Some, None, IfSome, IfNone, slice_range, option_map, map, filter_map};
 ghost use Rattle.kernel_model.specs.Objects.{FrameValue};
-ghost use Rattle.kernel_model.specs.Needs.{frame_of_block, free_frame};
+ghost use Rattle.kernel_model.specs.Needs.{frame_of_block, free_frame, owner_asked};
 ghost use Rattle.kernel_model.specs.Policies.{lives, victim_among};
 ghost use Rattle.kernel_model.specs.Fetch.{used, filled, new_frame, replaced, with_patch, cleaned, bytes_of, dirty_value};
 ghost use Rattle.kernel_model.specs.FilePieces.{with_cache};
@@ -70,6 +70,15 @@ impl Store {
         ensures { result ≡ in_use f self.now.cache }
     {
         self.cache.lru().contains(&f)
+    }
+
+    /// The process of frame f, which is in use.
+    pub fn owner(&self, f: u8) -> u8
+        requires { in_use f self.now.cache ≡ true }
+        ensures { result ≡ owner_asked (cache_of self.now) f }
+    {
+        self.cache.lru();
+        self.cache.row(f).owner
     }
 
     /// Makes frame f, which is in use, the newest.
