@@ -1,3 +1,4 @@
+pub mod NeedLists
 pub mod Logs
 pub mod SyncLaws
 pub mod ReadLaws

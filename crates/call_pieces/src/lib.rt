@@ -12,7 +12,9 @@ mod calls;
 mod copies;
 mod fetch;
 mod locks;
+mod needs;
 mod pieces;
+mod points;
 mod policies;
 mod quick;
 mod reads;
@@ -24,7 +26,9 @@ mod writes;
 pub use begin::early;
 pub use calls::{Calls, Plain};
 use kernel_model::{Bytes, Refusal, Reply, SysCall};
+pub use needs::{NEEDS, Needs, need};
 pub use pieces::piece;
+pub use points::asks;
 
 /// A call in flight.
 #[derive(Drop)]

@@ -22,6 +22,14 @@ impl Store {
         is_among(self.procs.rows(), p)
     }
 
+    /// The least number that isn't living. None where 16 processes live.
+    #[tactic(auto, unfolding(kernel_model::specs::Queue::free_number))]
+    pub fn free_process(&self) -> Option<u8>
+        ensures { result ≡ free_process (queue_of self.now) 16 0 }
+    {
+        self.procs.free()
+    }
+
     /// The least number that isn't living joins at the back. None, with nothing changed, where 16 processes live.
     pub fn spawn(&mut self) -> Option<u8>
         requires { IsStore (λ b. seen b) self.old }

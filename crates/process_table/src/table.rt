@@ -66,6 +66,13 @@ impl Procs {
         is_listed(self.rows.as_slice(), p)
     }
 
+    /// The least number that isn't living. None where 16 processes live.
+    pub fn free(&self) -> Option<u8>
+        ensures { result ≡ free_number self.now.queue 16 0 }
+    {
+        least_free(self.rows.as_slice())
+    }
+
     /// The least number that isn't living joins at the back, with nice 20 and slices 0. None, with nothing changed,
     /// exactly where 16 processes live.
     pub fn spawn(&mut self) -> Option<u8>

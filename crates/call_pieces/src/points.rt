@@ -1,0 +1,128 @@
+//! The points that pieces ask.
+
+ghost use Rattle.std.specs.Prelude.{◌≡◌, ◌<◌, true, Some, Ok, length, option_map};
+ghost use Rattle.kernel_model.specs.Policies.{lives, frames_of};
+ghost use Rattle.kernel_model.specs.Pieces.{plain, read_fits};
+ghost use Rattle.kernel_model.specs.Needs as spec;
+ghost use Rattle.buffer_cache.specs.Frames.{in_use};
+ghost use Rattle.kernel_state.specs.Stores.{world_of_store, objects_of, cache_of, queue_of, policies_of, IsStore};
+ghost use Rattle.call_pieces.specs.Works.{MayCome, stage_of};
+
+use crate::Work;
+use crate::needs::candidate_for;
+use crate::reads::Range;
+use kernel_model::{Point, SysCall};
+use kernel_state::Store;
+
+/// The point that the next piece of a call asks, with its arguments.
+pub fn asks(work: &Work, store: &Store) -> Option<Point>
+    requires sound { IsStore (λ b. seen (b.vtable, b.value)) store.now }
+    requires ready { MayCome plain (world_of_store store.now) (objects_of (λ b. seen (b.vtable, b.value)) store.now) work.now.caller (stage_of work.now) }
+    ensures { result ≡ spec.piece_ask work.now.call work.now.piece (world_of_store store.now) (objects_of (λ b. seen (b.vtable, b.value)) store.now).things work.now.caller }
+{
+    let p = work.caller;
+    match &work.call {
+        SysCall::Yield => turn_ask(work.piece, store),
+        SysCall::Read(fd, i, off, len) => {
+            let range = Range {
+                fd: *fd,
+                i: *i,
+                off: *off,
+                len: *len,
+            };
+            read_ask(work.piece, store, p, range)
+        }
+        SysCall::Write(fd, i, off, bytes) => {
+            let len = bytes.as_slice().len() as u32;
+            block_ask(store, p, *fd as u8, *i, *off, len)
+        }
+        _ => None,
+    }
+}
+
+/// The scheduling point of the candidate, before the second piece of a yield.
+fn turn_ask(piece: u8, store: &Store) -> Option<Point>
+    requires { IsStore (λ b. seen (b.vtable, b.value)) store.now }
+    ensures { result ≡ spec.yield_ask piece (world_of_store store.now) (objects_of (λ b. seen (b.vtable, b.value)) store.now).things }
+{
+    if piece == 0 {
+        return None;
+    }
+    let c = store.next();
+    let living = store.procs.rows().len() as u32;
+    Some(Point {
+        installer: c,
+        point: 5,
+        args: [u32::from(c), u32::from(store.nice(c)), living, 0],
+    })
+}
+
+/// The points of the three kinds of pieces of a read.
+fn read_ask(piece: u8, store: &Store, p: u8, r: Range) -> Option<Point>
+    requires sound { IsStore (λ b. seen (b.vtable, b.value)) store.now }
+    requires alive { lives (queue_of store.now) p ≡ true }
+    requires descriptor { r.fd < 4 }
+    requires fits { read_fits piece ((objects_of (λ b. seen (b.vtable, b.value)) store.now).things.file p r.fd) ≡ true }
+    ensures { result ≡ spec.read_ask piece (world_of_store store.now) (objects_of (λ b. seen (b.vtable, b.value)) store.now).things p r.fd r.i r.off r.len }
+{
+    let fd = r.fd as u8;
+    match piece {
+        0 => block_ask(store, p, fd, r.i, r.off, r.len),
+        1 => file_ask(store, p, fd),
+        _ => match store.file(p, fd) {
+            Some(opened) => victim_ask(store, store.block_ahead(&opened)),
+            None => None,
+        },
+    }
+}
+
+/// The point of an open file, which says what is to be read ahead.
+fn file_ask(store: &Store, p: u8, fd: u8) -> Option<Point>
+    requires sound { IsStore (λ b. seen (b.vtable, b.value)) store.now }
+    requires alive { lives (queue_of store.now) p ≡ true }
+    requires descriptor { fd < 4 }
+    requires fits { read_fits 1 ((objects_of (λ b. seen (b.vtable, b.value)) store.now).things.file p fd) ≡ true }
+    ensures { result ≡ spec.read_ask 1 (world_of_store store.now) (objects_of (λ b. seen (b.vtable, b.value)) store.now).things p fd 0 0 0 }
+{
+    let opened = store.file(p, fd)?;
+    let default = store.ahead(&opened);
+    Some(Point {
+        installer: p,
+        point: fd,
+        args: [
+            default.start,
+            u32::from(default.count),
+            store.blocks(&opened),
+            u32::from(fd),
+        ],
+    })
+}
+
+/// The point that a fetch of block i of an open file asks, of which bytes off to off + len are meant.
+fn block_ask(store: &Store, p: u8, fd: u8, i: u32, off: u32, len: u32) -> Option<Point>
+    requires sound { IsStore (λ b. seen (b.vtable, b.value)) store.now }
+    requires alive { lives (queue_of store.now) p ≡ true }
+    requires descriptor { fd < 4 }
+    ensures { result ≡ spec.fetch_ask (world_of_store store.now) (objects_of (λ b. seen (b.vtable, b.value)) store.now).things
+        (spec.file_block (world_of_store store.now) ((objects_of (λ b. seen (b.vtable, b.value)) store.now).things.file p fd) i off len) }
+{
+    match store.block_of(p, fd, i, off, len) {
+        Ok(b) => victim_ask(store, b),
+        Err(_) => None,
+    }
+}
+
+/// The point of the owner of the candidate, where a frame must be chosen for block b.
+fn victim_ask(store: &Store, b: u32) -> Option<Point>
+    requires { IsStore (λ b. seen (b.vtable, b.value)) store.now }
+    ensures { result ≡ spec.fetch_ask (world_of_store store.now) (objects_of (λ b. seen (b.vtable, b.value)) store.now).things (Ok b) }
+{
+    let f = candidate_for(store, b)?;
+    let owner = store.owner(f);
+    let frames = store.owned_rows(owner).as_slice().len() as u32;
+    Some(Point {
+        installer: owner,
+        point: 4,
+        args: [u32::from(f), b, frames, 0],
+    })
+}
