@@ -80,26 +80,26 @@ some_ahead t zero h = absurd (h refl)
 some_ahead t (suc n) h = refl
 
 -- the pieces of a read, by the blocks that they name
-pub first_block : (x : Result ℕ Refusal) (b : ℕ) (v : World) (s new : Objects) (blocks : Blocks) (p fd i off len n : ℕ) (o : OpenRow) (io : List Bool) (told : Option (List (List ℕ))) (gave : Option (List ℕ)) (after : After)
-    → Ok b ≡ x → CameTo (read_first s blocks p fd i off len o (fetch v (s.things.pol 1) p b None s.things.cache blocks io)) new told gave after n
-    → CameTo (read_first_at x v s blocks p fd i off len o None io) new told gave after n
-first_block x b v s new blocks p fd i off len n o io told gave after is came =
-    subst (λ (y : Result ℕ Refusal). CameTo (read_first_at y v s blocks p fd i off len o None io) new told gave after n) is came
+pub first_block : (x : Result ℕ Refusal) (b : ℕ) (v : World) (s new : Objects) (blocks : Blocks) (p fd i off len n : ℕ) (o : OpenRow) (answer : Option (List ℕ)) (io : List Bool) (told : Option (List (List ℕ))) (gave : Option (List ℕ)) (after : After)
+    → Ok b ≡ x → CameTo (read_first s blocks p fd i off len o (fetch v (s.things.pol 1) p b answer s.things.cache blocks io)) new told gave after n
+    → CameTo (read_first_at x v s blocks p fd i off len o answer io) new told gave after n
+first_block x b v s new blocks p fd i off len n o answer io told gave after is came =
+    subst (λ (y : Result ℕ Refusal). CameTo (read_first_at y v s blocks p fd i off len o answer io) new told gave after n) is came
 
-pub third_block : (x : Result ℕ Refusal) (b : ℕ) (v : World) (s new : Objects) (blocks : Blocks) (p fd i off len n : ℕ) (o : OpenRow) (io : List Bool) (told : Option (List (List ℕ))) (gave : Option (List ℕ)) (after : After)
-    → x ≡ Ok b → CameTo (read_third s blocks p fd i off len o (fetch_ahead v (s.things.pol 1) p b None s.things.cache blocks io)) new told gave after n
-    → CameTo (read_third_at x v s blocks p fd i off len o None io) new told gave after n
-third_block x b v s new blocks p fd i off len n o io told gave after is came =
-    subst (λ (y : Result ℕ Refusal). CameTo (read_third_at y v s blocks p fd i off len o None io) new told gave after n) (sym is) came
+pub third_block : (x : Result ℕ Refusal) (b : ℕ) (v : World) (s new : Objects) (blocks : Blocks) (p fd i off len n : ℕ) (o : OpenRow) (answer : Option (List ℕ)) (io : List Bool) (told : Option (List (List ℕ))) (gave : Option (List ℕ)) (after : After)
+    → x ≡ Ok b → CameTo (read_third s blocks p fd i off len o (fetch_ahead v (s.things.pol 1) p b answer s.things.cache blocks io)) new told gave after n
+    → CameTo (read_third_at x v s blocks p fd i off len o answer io) new told gave after n
+third_block x b v s new blocks p fd i off len n o answer io told gave after is came =
+    subst (λ (y : Result ℕ Refusal). CameTo (read_third_at y v s blocks p fd i off len o answer io) new told gave after n) (sym is) came
 
 -- the pieces of a read, by their number
-pub read_zero : (n : ℕ) (v : World) (s : Objects) (blocks : Blocks) (p fd i off len : ℕ) (x : Option OpenRow) (o : OpenRow) (io : List Bool) → n ≡ 0 → x ≡ Some o →
-    read_piece n v s blocks p fd i off len x None io ≡ read_first_at (file_block v (Some o) i off len) v s blocks p fd i off len o None io
-read_zero n v s blocks p fd i off len x o io number file = ap (λ k. read_piece k v s blocks p fd i off len x None io) number ∙ ap (λ (y : Option OpenRow). read_piece 0 v s blocks p fd i off len y None io) file
+pub read_zero : (n : ℕ) (v : World) (s : Objects) (blocks : Blocks) (p fd i off len : ℕ) (x : Option OpenRow) (o : OpenRow) (answer : Option (List ℕ)) (io : List Bool) → n ≡ 0 → x ≡ Some o →
+    read_piece n v s blocks p fd i off len x answer io ≡ read_first_at (file_block v (Some o) i off len) v s blocks p fd i off len o answer io
+read_zero n v s blocks p fd i off len x o answer io number file = ap (λ k. read_piece k v s blocks p fd i off len x answer io) number ∙ ap (λ (y : Option OpenRow). read_piece 0 v s blocks p fd i off len y answer io) file
 
-pub read_later : (n : ℕ) (v : World) (s : Objects) (blocks : Blocks) (p fd i off len : ℕ) (x : Option OpenRow) (o : OpenRow) (io : List Bool) → n ≡ 2 → x ≡ Some o →
-    read_piece n v s blocks p fd i off len x None io ≡ read_third_at (ahead_block v (Some o)) v s blocks p fd i off len o None io
-read_later n v s blocks p fd i off len x o io number file = ap (λ k. read_piece k v s blocks p fd i off len x None io) number ∙ ap (λ (y : Option OpenRow). read_piece 2 v s blocks p fd i off len y None io) file
+pub read_later : (n : ℕ) (v : World) (s : Objects) (blocks : Blocks) (p fd i off len : ℕ) (x : Option OpenRow) (o : OpenRow) (answer : Option (List ℕ)) (io : List Bool) → n ≡ 2 → x ≡ Some o →
+    read_piece n v s blocks p fd i off len x answer io ≡ read_third_at (ahead_block v (Some o)) v s blocks p fd i off len o answer io
+read_later n v s blocks p fd i off len x o answer io number file = ap (λ k. read_piece k v s blocks p fd i off len x answer io) number ∙ ap (λ (y : Option OpenRow). read_piece 2 v s blocks p fd i off len y answer io) file
 
 -- a read stands before one of three kinds of pieces
 pub few_kinds : (n : ℕ) (x : Option OpenRow) → (nat_le n 2 && read_fits n x) ≡ true → n ≤ 2

@@ -8,6 +8,7 @@ use Rattle.kernel_model.specs.declared.SysCall.{SysCall}
 use Rattle.kernel_model.specs.declared.SysCall.TheVariants.{Spawn, Exit, Yield}
 use Rattle.kernel_model.specs.Objects.{Objects, Things, PolValue}
 use Rattle.kernel_model.specs.Needs.{free_process}
+use Rattle.kernel_model.specs.Fetch.{chosen_by}
 use Rattle.kernel_model.specs.Pieces.{to_back, add_slice, piece_fits, pieces_left}
 use Rattle.kernel_model.specs.Queue.{queue_without, slices_of}
 use Rattle.kernel_state.specs.Stores.{queue_joined}
@@ -75,29 +76,29 @@ within_joined n (Some c) queue h =
     ∙ hold_both (slices_within n queue) (slices_within n (record { process = c; nice = 20; slices = 0 } ∷ [])) h begun
 
 -- a queue after a piece
-pub rise_after : (pol : PolValue) (c : SysCall) (n p : ℕ) (rows : List QueueRow) → SlicesRise rows (queue_after pol c n p rows)
-rise_after pol Spawn n p rows = λ most h. within_joined (suc most) (free_process rows 16 0) rows (within_later most rows h)
-rise_after pol Exit n p rows = λ most h. within_later most (queue_without p rows) (kept_all (λ r. nat_le r.slices most) (λ r. not (r.process == p)) rows h)
-rise_after pol Yield zero p rows = λ most h. within_later most (to_back p rows) (within_back most p rows h)
-rise_after pol Yield (suc k) p rows = λ most h. within_more most (next_of pol rows) rows h
-rise_after pol _ n p rows = λ most h. within_later most rows h
+pub rise_after : (pol : PolValue) (answer : Option (List ℕ)) (c : SysCall) (n p : ℕ) (rows : List QueueRow) → SlicesRise rows (queue_after pol answer c n p rows)
+rise_after pol answer Spawn n p rows = λ most h. within_joined (suc most) (free_process rows 16 0) rows (within_later most rows h)
+rise_after pol answer Exit n p rows = λ most h. within_later most (queue_without p rows) (kept_all (λ r. nat_le r.slices most) (λ r. not (r.process == p)) rows h)
+rise_after pol answer Yield zero p rows = λ most h. within_later most (to_back p rows) (within_back most p rows h)
+rise_after pol answer Yield (suc k) p rows = λ most h. within_more most (chosen_by answer (next_of pol rows)) rows h
+rise_after pol answer _ n p rows = λ most h. within_later most rows h
 
 -- a second piece of a yield is the last
 last_yield : (k m : ℕ) → nat_le m 1 ≡ true → 2 - m < 2 - suc k → ⊥
 last_yield k m fits fewer = absurd (grind (arith, nat_tests))
 
 -- a queue after a piece that isn't the last of its call
-stay_going : (pol : PolValue) (c : SysCall) (n next p : ℕ) (rows : List QueueRow) (w u : Things) → piece_fits c next u p ≡ true → pieces_left c next u p < pieces_left c n w p →
-    SlicesStay rows (queue_after pol c n p rows)
-stay_going pol Spawn n next p rows w u fits fewer = λ most h. within_joined most (free_process rows 16 0) rows h
-stay_going pol Exit n next p rows w u fits fewer = λ most h. kept_all (λ r. nat_le r.slices most) (λ r. not (r.process == p)) rows h
-stay_going pol Yield zero next p rows w u fits fewer = λ most h. within_back most p rows h
-stay_going pol Yield (suc k) next p rows w u fits fewer = absurd (last_yield k next fits fewer)
-stay_going pol _ n next p rows w u fits fewer = λ most h. h
+stay_going : (pol : PolValue) (answer : Option (List ℕ)) (c : SysCall) (n next p : ℕ) (rows : List QueueRow) (w u : Things) → piece_fits c next u p ≡ true → pieces_left c next u p < pieces_left c n w p →
+    SlicesStay rows (queue_after pol answer c n p rows)
+stay_going pol answer Spawn n next p rows w u fits fewer = λ most h. within_joined most (free_process rows 16 0) rows h
+stay_going pol answer Exit n next p rows w u fits fewer = λ most h. kept_all (λ r. nat_le r.slices most) (λ r. not (r.process == p)) rows h
+stay_going pol answer Yield zero next p rows w u fits fewer = λ most h. within_back most p rows h
+stay_going pol answer Yield (suc k) next p rows w u fits fewer = absurd (last_yield k next fits fewer)
+stay_going pol answer _ n next p rows w u fits fewer = λ most h. h
 
-pub stay_gone : (pol : PolValue) (old new : Work) (s t : Objects) (rows : List QueueRow) → HasGone old new s t → SlicesStay rows (queue_after pol old.call old.piece old.caller rows)
-stay_gone pol old new s t rows g =
-    stay_going pol old.call old.piece new.piece old.caller rows s.things t.things (rw (g.call, g.caller) at g.fits) (rw (g.call, g.caller) at g.fewer)
+pub stay_gone : (pol : PolValue) (answer : Option (List ℕ)) (old new : Work) (s t : Objects) (rows : List QueueRow) → HasGone old new s t → SlicesStay rows (queue_after pol answer old.call old.piece old.caller rows)
+stay_gone pol answer old new s t rows g =
+    stay_going pol answer old.call old.piece new.piece old.caller rows s.things t.things (rw (g.call, g.caller) at g.fits) (rw (g.call, g.caller) at g.fewer)
 
 -- ---- a bound of each row
 

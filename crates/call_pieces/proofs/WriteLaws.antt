@@ -39,8 +39,8 @@ write_came s mid new blocks off f n bytes q cache told came cached patched =
     subst (λ (x : Fetched). CameTo (write_fetched s blocks off bytes x) new told None well n) came.outcome there
 
 -- a write, by the block that it names
-pub write_at : (x : Result ℕ Refusal) (b : ℕ) (v : World) (s new : Objects) (blocks : Blocks) (p off n : ℕ) (bytes : List ℕ) (io : List Bool) (told : Option (List (List ℕ))) (after : After) → Ok b ≡ x →
-    CameTo (write_fetched s blocks off bytes (fetch v (s.things.pol 1) p b None s.things.cache blocks io)) new told None after n →
-    CameTo (write_piece x v s blocks p off bytes None io) new told None after n
-write_at x b v s new blocks p off n bytes io told after is came =
-    subst (λ (y : Result ℕ Refusal). CameTo (write_piece y v s blocks p off bytes None io) new told None after n) is came
+pub write_at : (x : Result ℕ Refusal) (b : ℕ) (v : World) (s new : Objects) (blocks : Blocks) (p off n : ℕ) (bytes : List ℕ) (answer : Option (List ℕ)) (io : List Bool) (told : Option (List (List ℕ))) (after : After) → Ok b ≡ x →
+    CameTo (write_fetched s blocks off bytes (fetch v (s.things.pol 1) p b answer s.things.cache blocks io)) new told None after n →
+    CameTo (write_piece x v s blocks p off bytes answer io) new told None after n
+write_at x b v s new blocks p off n bytes answer io told after is came =
+    subst (λ (y : Result ℕ Refusal). CameTo (write_piece y v s blocks p off bytes answer io) new told None after n) is came

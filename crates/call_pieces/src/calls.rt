@@ -1,8 +1,8 @@
 //! What a kernel runs: a table of calls.
 
-use crate::{After, Work, early, piece};
+use crate::{After, Needs, Work, asks, early, need, piece};
 use disk_log::DiskLog;
-use kernel_model::{Refusal, Rules, SysCall};
+use kernel_model::{Point, Refusal, Rules, SysCall};
 use kernel_state::Store;
 use plain_rules::PlainRules;
 use vino_base::Disk;
@@ -12,6 +12,7 @@ pub trait Calls {
     ghost use Rattle.std.specs.Prelude.{◌≡◌, ℕ, ◌<◌, ◌≤◌, ◌+◌, true, List, Bool, [], ◌++◌, None, length, IfOk};
     ghost use Rattle.kernel_model.specs.World.{ImageTable, Blocks};
     ghost use Rattle.kernel_model.specs.Meaning.{Stage};
+    ghost use Rattle.kernel_model.specs.Laws.{IsRightAnswer};
     ghost use Rattle.kernel_model.specs.Policies.{lives};
     ghost use Rattle.kernel_model.specs.Queue.{slices_of};
     ghost use Rattle.disk_log.specs.Calls.{Tells, GoesOn};
@@ -43,20 +44,34 @@ pub trait Calls {
         ensures caller { IfOk result (λ w. caller w ≡ p) }
         ensures few { IfOk result (λ w. Self.Meaning.meaning.left (world_of_store store.now) (objects_of (λ b. seen (b.vtable, b.value)) store.now) (caller w) (stage w) ≤ 15) };
 
-    /// The next piece of a call, where no graft answers. The log starts empty and has this piece's calls of the disk then.
+    /// The objects that the next piece of a call needs, in order. They take the place of what the list had.
+    fn need(work: &Self::Work, store: &Store, needs: &mut Needs)
+        requires sound { IsStore (λ b. seen (b.vtable, b.value)) store.now }
+        requires ready { MayCome Self.Meaning.meaning (world_of_store store.now) (objects_of (λ b. seen (b.vtable, b.value)) store.now) (caller work.now) (stage work.now) }
+        ensures { needs.new ≡ Self.Meaning.meaning.need (world_of_store store.now) (objects_of (λ b. seen (b.vtable, b.value)) store.now) (caller work.now) (stage work.now) };
+
+    /// The point that the next piece of a call asks, with its arguments.
+    fn asks(work: &Self::Work, store: &Store) -> Option<Point>
+        requires sound { IsStore (λ b. seen (b.vtable, b.value)) store.now }
+        requires ready { MayCome Self.Meaning.meaning (world_of_store store.now) (objects_of (λ b. seen (b.vtable, b.value)) store.now) (caller work.now) (stage work.now) }
+        ensures { result ≡ Self.Meaning.meaning.asks (world_of_store store.now) (objects_of (λ b. seen (b.vtable, b.value)) store.now) (caller work.now) (stage work.now) };
+
+    /// The next piece of a call, with an answer that the point accepts which it asks, or by default. The log starts empty and has this piece's calls of the disk then.
     fn piece<D: Disk>(
         work: &mut Self::Work,
         store: &mut Store,
+        answer: Option<[u32; 4]>,
         disk: &mut D,
         log: &mut DiskLog,
     ) -> After
         requires sound { IsStore (λ b. seen (b.vtable, b.value)) store.old }
         requires ready { MayCome Self.Meaning.meaning (world_of_store store.old) (objects_of (λ b. seen (b.vtable, b.value)) store.old) (caller work.old) (stage work.old) }
+        requires right { IsRightAnswer (objects_of (λ b. seen (b.vtable, b.value)) store.old) (Self.Meaning.meaning.asks (world_of_store store.old) (objects_of (λ b. seen (b.vtable, b.value)) store.old) (caller work.old) (stage work.old)) answer }
         requires room { (q : ℕ) → slices_of q (queue_of store.old) < 4294967295 }
         requires disk { store.old.size ≡ D.block_count disk.old }
         requires fresh { log.old ≡ [] }
         ensures does { (images : ImageTable) (blocks : Blocks) (rest : List Bool) → Tells (D.blocks disk.old) blocks →
-            CameTo (Self.Meaning.meaning.piece (world_of_store store.old) images (objects_of (λ b. seen (b.vtable, b.value)) store.old) blocks (caller work.old) (stage work.old) None (log.new ++ rest))
+            CameTo (Self.Meaning.meaning.piece (world_of_store store.old) images (objects_of (λ b. seen (b.vtable, b.value)) store.old) blocks (caller work.old) (stage work.old) answer (log.new ++ rest))
             (objects_of (λ b. seen (b.vtable, b.value)) store.new) (D.blocks disk.new) result.gave (comes_after result.next (stage work.new)) (length log.new) }
         ensures gone { goes_on result.next ≡ true → GoesOnFrom Self.Meaning.meaning (world_of_store store.old) (objects_of (λ b. seen (b.vtable, b.value)) store.old) (objects_of (λ b. seen (b.vtable, b.value)) store.new)
             (caller work.old) (caller work.new) (stage work.old) (stage work.new) }
@@ -89,12 +104,21 @@ impl Calls for Plain {
         early(store, images, p, call)
     }
 
+    fn need(work: &Work, store: &Store, needs: &mut Needs) {
+        need(work, store, needs);
+    }
+
+    fn asks(work: &Work, store: &Store) -> Option<Point> {
+        asks(work, store)
+    }
+
     fn piece<D: Disk>(
         work: &mut Work,
         store: &mut Store,
+        answer: Option<[u32; 4]>,
         disk: &mut D,
         log: &mut DiskLog,
     ) -> After {
-        piece(work, store, disk, log)
+        piece(work, store, answer, disk, log)
     }
 }

@@ -1,12 +1,12 @@
 //! How a block comes into the cache.
 
-ghost use Rattle.std.specs.Prelude.{◌≡◌, ℕ, ◌<◌, true, false, List, Bool, [], ◌∷◌, ◌++◌, Some, None, option_map, length, IfOk, IfErr, ◌≤◌};
+ghost use Rattle.std.specs.Prelude.{◌≡◌, ℕ, ◌<◌, true, false, List, Bool, [], ◌∷◌, ◌++◌, Some, None, option_map, is_some, slice_index, length, IfOk, IfErr, IfSome, ◌≤◌};
 ghost use Rattle.kernel_model.specs.World.{Blocks};
 ghost use Rattle.kernel_model.specs.Objects.{FrameValue};
 ghost use Rattle.kernel_model.specs.Policies.{lives, or_zero, victim_among};
 ghost use Rattle.kernel_model.specs.Needs.{frame_of_block, free_frame};
 ghost use Rattle.kernel_model.specs.Fetch as fetches;
-ghost use Rattle.kernel_model.specs.Fetch.{new_frame, replaced, dirty_value, read_block, place_block, evict as evicted};
+ghost use Rattle.kernel_model.specs.Fetch.{new_frame, replaced, dirty_value, read_block, place_block, chosen_by, evict as evicted};
 ghost use Rattle.kernel_model.specs.Meaning.{disk_fails};
 ghost use Rattle.kernel_model.specs.FilePieces.{with_cache};
 ghost use Rattle.buffer_cache.specs.Frames.{in_use};
@@ -19,21 +19,24 @@ use kernel_model::BLOCK_BYTES;
 use kernel_state::Store;
 use vino_base::{Disk, Failed};
 
-/// Block b for process p: the frame that holds it becomes the newest, or the block is read into a frame.
+/// Block b for process p: the frame that holds it becomes the newest, or the block is read into a frame. An answer names the
+/// frame in use that is to be evicted where none is free.
 pub(crate) fn fetch<D: Disk>(
     store: &mut Store,
     disk: &mut D,
     log: &mut DiskLog,
     p: u8,
     b: u32,
+    answer: Option<[u32; 4]>,
 ) -> Result<u8, Failed>
     requires sound { IsStore (λ b. seen (b.vtable, b.value)) store.old }
     requires alive { lives (queue_of store.old) p ≡ true }
     requires block { b < store.old.size }
+    requires right { IfSome answer (λ a. is_some ((cache_of store.old).frame (slice_index a 0)) ≡ true) }
     requires disk { store.old.size ≡ D.block_count disk.old }
     requires fresh { log.old ≡ [] }
     ensures does { (blocks : Blocks) (rest : List Bool) → Tells (D.blocks disk.old) blocks →
-        FetchCameTo (fetches.fetch (world_of_store store.old) (policies_of (λ b. seen (b.vtable, b.value)) store.old 1) p b None (cache_of store.old) blocks (log.new ++ rest)) blocks
+        FetchCameTo (fetches.fetch (world_of_store store.old) (policies_of (λ b. seen (b.vtable, b.value)) store.old 1) p b answer (cache_of store.old) blocks (log.new ++ rest)) blocks
         result (cache_of store.new) (D.blocks disk.new) (length log.new) }
     ensures objects { objects_of (λ b. seen (b.vtable, b.value)) store.new ≡ with_cache (cache_of store.new) (objects_of (λ b. seen (b.vtable, b.value)) store.old) }
     ensures in_cache { IfOk result (λ f. in_use f store.new.cache ≡ true) }
@@ -50,7 +53,7 @@ pub(crate) fn fetch<D: Disk>(
             store.touch(f);
             Ok(f)
         }
-        None => load(store, disk, log, p, b),
+        None => load(store, disk, log, p, b, answer),
     }
 }
 
@@ -61,14 +64,16 @@ pub(crate) fn fetch_ahead<D: Disk>(
     log: &mut DiskLog,
     p: u8,
     b: u32,
+    answer: Option<[u32; 4]>,
 ) -> Result<u8, Failed>
     requires sound { IsStore (λ b. seen (b.vtable, b.value)) store.old }
     requires alive { lives (queue_of store.old) p ≡ true }
     requires block { b < store.old.size }
+    requires right { IfSome answer (λ a. is_some ((cache_of store.old).frame (slice_index a 0)) ≡ true) }
     requires disk { store.old.size ≡ D.block_count disk.old }
     requires fresh { log.old ≡ [] }
     ensures does { (blocks : Blocks) (rest : List Bool) → Tells (D.blocks disk.old) blocks →
-        FetchCameTo (fetches.fetch_ahead (world_of_store store.old) (policies_of (λ b. seen (b.vtable, b.value)) store.old 1) p b None (cache_of store.old) blocks (log.new ++ rest)) blocks
+        FetchCameTo (fetches.fetch_ahead (world_of_store store.old) (policies_of (λ b. seen (b.vtable, b.value)) store.old 1) p b answer (cache_of store.old) blocks (log.new ++ rest)) blocks
         result (cache_of store.new) (D.blocks disk.new) (length log.new) }
     ensures objects { objects_of (λ b. seen (b.vtable, b.value)) store.new ≡ with_cache (cache_of store.new) (objects_of (λ b. seen (b.vtable, b.value)) store.old) }
     ensures in_cache { IfOk result (λ f. in_use f store.new.cache ≡ true) }
@@ -82,7 +87,7 @@ pub(crate) fn fetch_ahead<D: Disk>(
 {
     match store.find(b) {
         Some(f) => Ok(f),
-        None => load(store, disk, log, p, b),
+        None => load(store, disk, log, p, b, answer),
     }
 }
 
@@ -93,15 +98,17 @@ fn load<D: Disk>(
     log: &mut DiskLog,
     p: u8,
     b: u32,
+    answer: Option<[u32; 4]>,
 ) -> Result<u8, Failed>
     requires sound { IsStore (λ b. seen (b.vtable, b.value)) store.old }
     requires alive { lives (queue_of store.old) p ≡ true }
     requires block { b < store.old.size }
+    requires right { IfSome answer (λ a. is_some ((cache_of store.old).frame (slice_index a 0)) ≡ true) }
     requires disk { store.old.size ≡ D.block_count disk.old }
     requires fresh { log.old ≡ [] }
     requires missing { frame_of_block (cache_of store.old) b ≡ None }
     ensures does { (blocks : Blocks) (rest : List Bool) → Tells (D.blocks disk.old) blocks →
-        FetchCameTo (read_block (world_of_store store.old) (policies_of (λ b. seen (b.vtable, b.value)) store.old 1) p b None (cache_of store.old) blocks (log.new ++ rest)) blocks
+        FetchCameTo (read_block (world_of_store store.old) (policies_of (λ b. seen (b.vtable, b.value)) store.old 1) p b answer (cache_of store.old) blocks (log.new ++ rest)) blocks
         result (cache_of store.new) (D.blocks disk.new) (length log.new) }
     ensures objects { objects_of (λ b. seen (b.vtable, b.value)) store.new ≡ with_cache (cache_of store.new) (objects_of (λ b. seen (b.vtable, b.value)) store.old) }
     ensures in_cache { IfOk result (λ f. in_use f store.new.cache ≡ true) }
@@ -115,29 +122,32 @@ fn load<D: Disk>(
 {
     let mut bytes = [0; BLOCK_BYTES];
     match log.read(disk, b, &mut bytes) {
-        Ok(()) => place(store, disk, log, p, b, &bytes),
+        Ok(()) => place(store, disk, log, p, b, answer, &bytes),
         Err(failed) => Err(failed),
     }
 }
 
-/// Puts block b, which no frame holds, into the lowest free frame, or else into that of the candidate.
+/// Puts block b, which no frame holds, into the lowest free frame, or else into the one that the answer
+/// chooses, or by default into the candidate.
 fn place<D: Disk>(
     store: &mut Store,
     disk: &mut D,
     log: &mut DiskLog,
     p: u8,
     b: u32,
+    answer: Option<[u32; 4]>,
     bytes: &[u8; 512],
 ) -> Result<u8, Failed>
     requires sound { IsStore (λ b. seen (b.vtable, b.value)) store.old }
     requires alive { lives (queue_of store.old) p ≡ true }
     requires block { b < store.old.size }
+    requires right { IfSome answer (λ a. is_some ((cache_of store.old).frame (slice_index a 0)) ≡ true) }
     requires disk { store.old.size ≡ D.block_count disk.old }
     requires read { log.old ≡ false ∷ [] }
     requires missing { frame_of_block (cache_of store.old) b ≡ None }
     ensures does { (blocks : Blocks) (rest : List Bool) → Tells (D.blocks disk.old) blocks → blocks b ≡ bytes.now →
         let candidate = or_zero (victim_among (policies_of (λ b. seen (b.vtable, b.value)) store.old 1) (cache_of store.old) (cache_of store.old).lru) in
-        FetchCameTo (place_block (free_frame (cache_of store.old) (world_of_store store.old).frames 0) p b candidate candidate (cache_of store.old) blocks (log.new ++ rest)) blocks
+        FetchCameTo (place_block (free_frame (cache_of store.old) (world_of_store store.old).frames 0) p b (chosen_by answer candidate) candidate (cache_of store.old) blocks (log.new ++ rest)) blocks
         result (cache_of store.new) (D.blocks disk.new) (length log.new) }
     ensures first { (rest : List Bool) → disk_fails (log.new ++ rest) 0 ≡ false }
     ensures objects { objects_of (λ b. seen (b.vtable, b.value)) store.new ≡ with_cache (cache_of store.new) (objects_of (λ b. seen (b.vtable, b.value)) store.old) }
@@ -155,8 +165,24 @@ fn place<D: Disk>(
         return Ok(f);
     }
     match store.candidate() {
-        Some(f) => evict(store, disk, log, p, b, f, bytes),
+        Some(candidate) => {
+            let f = chosen(store, answer, candidate);
+            evict(store, disk, log, p, b, f, candidate, bytes)
+        }
         None => unreachable!(),
+    }
+}
+
+/// The frame that an answer chooses, which is in use, or else the candidate.
+fn chosen(store: &Store, answer: Option<[u32; 4]>, candidate: u8) -> u8
+    requires right { IfSome answer (λ a. is_some ((cache_of store.now).frame (slice_index a 0)) ≡ true) }
+    requires candidate { in_use candidate store.now.cache ≡ true }
+    ensures value { result ≡ chosen_by answer candidate }
+    ensures in_cache { in_use result store.now.cache ≡ true }
+{
+    match answer {
+        Some(a) => store.frame_number(a[0]),
+        None => candidate,
     }
 }
 
@@ -168,6 +194,7 @@ fn evict<D: Disk>(
     p: u8,
     b: u32,
     f: u8,
+    candidate: u8,
     bytes: &[u8; 512],
 ) -> Result<u8, Failed>
     requires sound { IsStore (λ b. seen (b.vtable, b.value)) store.old }
@@ -177,8 +204,9 @@ fn evict<D: Disk>(
     requires read { log.old ≡ false ∷ [] }
     requires missing { frame_of_block (cache_of store.old) b ≡ None }
     requires frame { in_use f store.old.cache ≡ true }
+    requires candidate { in_use candidate store.old.cache ≡ true }
     ensures does { (blocks : Blocks) (rest : List Bool) → Tells (D.blocks disk.old) blocks →
-        FetchCameTo (evicted ((cache_of store.old).frame f) f (replaced f f (new_frame p b bytes.now) (cache_of store.old)) blocks (log.new ++ rest)) blocks
+        FetchCameTo (evicted ((cache_of store.old).frame f) f (replaced f candidate (new_frame p b bytes.now) (cache_of store.old)) blocks (log.new ++ rest)) blocks
         result (cache_of store.new) (D.blocks disk.new) (length log.new) }
     ensures first { (rest : List Bool) → disk_fails (log.new ++ rest) 0 ≡ false }
     ensures objects { objects_of (λ b. seen (b.vtable, b.value)) store.new ≡ with_cache (cache_of store.new) (objects_of (λ b. seen (b.vtable, b.value)) store.old) }
@@ -192,9 +220,9 @@ fn evict<D: Disk>(
     ensures few { length log.new ≤ 256 }
 {
     match store.dirty_block(f) {
-        Some(old) => evict_dirty(store, disk, log, p, b, f, bytes, old),
+        Some(old) => evict_dirty(store, disk, log, p, b, f, candidate, bytes, old),
         None => {
-            store.replace(f, f, p, b, bytes);
+            store.replace(f, candidate, p, b, bytes);
             Ok(f)
         }
     }
@@ -208,6 +236,7 @@ fn evict_dirty<D: Disk>(
     p: u8,
     b: u32,
     f: u8,
+    candidate: u8,
     bytes: &[u8; 512],
     old: u32,
 ) -> Result<u8, Failed>
@@ -218,10 +247,11 @@ fn evict_dirty<D: Disk>(
     requires read { log.old ≡ false ∷ [] }
     requires missing { frame_of_block (cache_of store.old) b ≡ None }
     requires frame { in_use f store.old.cache ≡ true }
+    requires candidate { in_use candidate store.old.cache ≡ true }
     requires dirty { option_map (λ (x : FrameValue). x.block) (dirty_value ((cache_of store.old).frame f)) ≡ Some old }
     requires evicted { old < store.old.size }
     ensures does { (blocks : Blocks) (rest : List Bool) → Tells (D.blocks disk.old) blocks →
-        FetchCameTo (evicted ((cache_of store.old).frame f) f (replaced f f (new_frame p b bytes.now) (cache_of store.old)) blocks (log.new ++ rest)) blocks
+        FetchCameTo (evicted ((cache_of store.old).frame f) f (replaced f candidate (new_frame p b bytes.now) (cache_of store.old)) blocks (log.new ++ rest)) blocks
         result (cache_of store.new) (D.blocks disk.new) (length log.new) }
     ensures first { (rest : List Bool) → disk_fails (log.new ++ rest) 0 ≡ false }
     ensures objects { objects_of (λ b. seen (b.vtable, b.value)) store.new ≡ with_cache (cache_of store.new) (objects_of (λ b. seen (b.vtable, b.value)) store.old) }
@@ -238,7 +268,7 @@ fn evict_dirty<D: Disk>(
     store.copy_frame(f, &mut evicted);
     match log.write(disk, old, &evicted) {
         Ok(()) => {
-            store.replace(f, f, p, b, bytes);
+            store.replace(f, candidate, p, b, bytes);
             Ok(f)
         }
         Err(failed) => Err(failed),

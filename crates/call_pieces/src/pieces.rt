@@ -4,6 +4,8 @@ ghost use Rattle.std.specs.Prelude.{◌≡◌, ℕ, ◌<◌, true, false, List, 
 ghost use Rattle.kernel_model.specs.World.{Blocks, ImageTable};
 ghost use Rattle.kernel_model.specs.Queue.{slices_of};
 ghost use Rattle.kernel_model.specs.Pieces.{plain};
+ghost use Rattle.kernel_model.specs.Needs.{piece_ask};
+ghost use Rattle.kernel_model.specs.Laws.{IsRightAnswer};
 ghost use Rattle.disk_log.specs.Calls.{Tells, GoesOn};
 ghost use Rattle.kernel_state.specs.Stores.{world_of_store, objects_of, queue_of, policies_of, IsStore};
 ghost use Rattle.call_pieces.specs.Works.{stage_of, comes_after, queue_after, MayCome};
@@ -22,19 +24,26 @@ use kernel_model::SysCall;
 use kernel_state::Store;
 use vino_base::Disk;
 
-/// The next piece of a call, where no graft answers.
+/// The next piece of a call, with an answer to the point that it asks, or by default.
 ///
 /// The log starts empty and has this piece's calls of the disk then.
-pub fn piece<D: Disk>(work: &mut Work, store: &mut Store, disk: &mut D, log: &mut DiskLog) -> After
+pub fn piece<D: Disk>(
+    work: &mut Work,
+    store: &mut Store,
+    answer: Option<[u32; 4]>,
+    disk: &mut D,
+    log: &mut DiskLog,
+) -> After
     requires sound { IsStore (λ b. seen (b.vtable, b.value)) store.old }
     requires ready { MayCome plain (world_of_store store.old) (objects_of (λ b. seen (b.vtable, b.value)) store.old) work.old.caller (stage_of work.old) }
+    requires right { IsRightAnswer (objects_of (λ b. seen (b.vtable, b.value)) store.old) (piece_ask work.old.call work.old.piece (world_of_store store.old) (objects_of (λ b. seen (b.vtable, b.value)) store.old).things work.old.caller) answer }
     requires room { (q : ℕ) → slices_of q (queue_of store.old) < 4294967295 }
     requires disk { store.old.size ≡ D.block_count disk.old }
     requires fresh { log.old ≡ [] }
     ensures does { (images : ImageTable) (blocks : Blocks) (rest : List Bool) → Tells (D.blocks disk.old) blocks →
-        CameTo (plain.piece (world_of_store store.old) images (objects_of (λ b. seen (b.vtable, b.value)) store.old) blocks work.old.caller (stage_of work.old) None (log.new ++ rest))
+        CameTo (plain.piece (world_of_store store.old) images (objects_of (λ b. seen (b.vtable, b.value)) store.old) blocks work.old.caller (stage_of work.old) answer (log.new ++ rest))
         (objects_of (λ b. seen (b.vtable, b.value)) store.new) (D.blocks disk.new) result.gave (comes_after result.next (stage_of work.new)) (length log.new) }
-    ensures queue { queue_of store.new ≡ queue_after (policies_of (λ b. seen (b.vtable, b.value)) store.old 2) work.old.call work.old.piece work.old.caller (queue_of store.old) }
+    ensures queue { queue_of store.new ≡ queue_after (policies_of (λ b. seen (b.vtable, b.value)) store.old 2) answer work.old.call work.old.piece work.old.caller (queue_of store.old) }
     ensures gone { goes_on result.next ≡ true → HasGone work.old work.new (objects_of (λ b. seen (b.vtable, b.value)) store.old) (objects_of (λ b. seen (b.vtable, b.value)) store.new) }
     ensures failed { is_fault result.next ≡ true → has_failed log.new ≡ true }
     ensures world { world_of_store store.new ≡ world_of_store store.old }
@@ -47,7 +56,7 @@ pub fn piece<D: Disk>(work: &mut Work, store: &mut Store, disk: &mut D, log: &mu
     match &work.call {
         SysCall::Spawn => spawn(store),
         SysCall::Exit => exit(store, p),
-        SysCall::Yield => yield_turn(&mut work.piece, store, p),
+        SysCall::Yield => yield_turn(&mut work.piece, store, p, answer),
         SysCall::OpenName(name) => open(store, p, name.as_slice()),
         SysCall::CloseFd(fd) => close(store, p, *fd),
         SysCall::Read(fd, i, off, len) => {
@@ -57,10 +66,10 @@ pub fn piece<D: Disk>(work: &mut Work, store: &mut Store, disk: &mut D, log: &mu
                 off: *off,
                 len: *len,
             };
-            read(&mut work.piece, store, disk, log, p, range)
+            read(&mut work.piece, store, disk, log, p, range, answer)
         }
         SysCall::Write(fd, i, off, bytes) => {
-            write(store, disk, log, p, *fd, *i, *off, bytes.as_slice())
+            write(store, disk, log, p, *fd, *i, *off, bytes.as_slice(), answer)
         }
         SysCall::Sync => sync(store, disk, log),
         SysCall::TakeLock(u) => take_lock(store, p, *u),

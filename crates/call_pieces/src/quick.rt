@@ -1,6 +1,6 @@
 //! The pieces that take no block of the disk.
 
-ghost use Rattle.std.specs.Prelude.{◌≡◌, ℕ, ◌+◌, ◌<◌, ◌≤◌, true, false, List, Option, Some, None};
+ghost use Rattle.std.specs.Prelude.{◌≡◌, ℕ, ◌+◌, ◌<◌, ◌≤◌, true, false, List, Option, Some, slice_index, IfSome};
 ghost use Rattle.kernel_model.specs.World.{Blocks, file_named};
 ghost use Rattle.kernel_model.specs.Meaning.{Stage, stage, EndsWith};
 ghost use Rattle.kernel_model.specs.Queue.{slices_of, queue_without};
@@ -8,12 +8,13 @@ ghost use Rattle.kernel_model.specs.declared.SysCall.TheVariants.{Yield};
 ghost use Rattle.kernel_model.specs.declared.Reply.TheVariants.{One};
 ghost use Rattle.kernel_model.specs.Policies.{lives};
 ghost use Rattle.kernel_model.specs.Needs.{free_process};
+ghost use Rattle.kernel_model.specs.Fetch.{chosen_by};
 ghost use Rattle.kernel_model.specs.FilePieces.{leaves, open_piece, close_piece, free_descriptor, new_file};
 ghost use Rattle.kernel_model.specs.Pieces.{spawn_piece, exit_piece, yield_piece, poke_piece};
 ghost use Rattle.kernel_model.specs.Sound.{IsSoundFile};
 ghost use Rattle.disk_log.specs.Calls.{Tells};
 ghost use Rattle.kernel_state.specs.Stores.{world_of_store, objects_of, queue_of, queue_joined, policies_of, IsStore};
-ghost use Rattle.call_pieces.specs.Works.{queue_yielded, comes_after};
+ghost use Rattle.call_pieces.specs.Works.{queue_yielded, next_of, comes_after};
 ghost use Rattle.call_pieces.specs.Coming.{CameTo, is_fault, goes_on};
 
 use crate::{After, Next, came};
@@ -55,15 +56,35 @@ pub(crate) fn exit(store: &mut Store, p: u8) -> After
     came(Next::Ends(Reply::Plain))
 }
 
-/// Process p goes to the back of the queue; then the process at its front gets a slice.
-pub(crate) fn yield_turn(piece: &mut u8, store: &mut Store, p: u8) -> After
+/// The process that an answer chooses, which lives, or else the one that is next by default.
+fn turn(store: &Store, answer: Option<[u32; 4]>) -> u8
+    requires sound { IsStore (λ b. seen (b.vtable, b.value)) store.now }
+    requires right { IfSome answer (λ a. lives (queue_of store.now) (slice_index a 0) ≡ true) }
+    ensures value { result ≡ chosen_by answer (next_of (policies_of (λ b. seen (b.vtable, b.value)) store.now 2) (queue_of store.now)) }
+    ensures lives { lives (queue_of store.now) result ≡ true }
+{
+    store.procs.rows();
+    match answer {
+        Some(a) => a[0] as u8,
+        None => store.next(),
+    }
+}
+
+/// Process p goes to the back of the queue; then the process that the answer chooses, or by default the policy, gets a slice.
+pub(crate) fn yield_turn(
+    piece: &mut u8,
+    store: &mut Store,
+    p: u8,
+    answer: Option<[u32; 4]>,
+) -> After
     requires sound { IsStore (λ b. seen (b.vtable, b.value)) store.old }
     requires alive { lives (queue_of store.old) p ≡ true }
     requires fits { piece.old ≤ 1 }
+    requires right { IfSome answer (λ a. lives (queue_of store.old) (slice_index a 0) ≡ true) }
     requires room { (q : ℕ) → slices_of q (queue_of store.old) < 4294967295 }
     ensures does { (blocks : Blocks) (told : Option (List (List ℕ))) → Tells told blocks →
-        CameTo (yield_piece piece.old (objects_of (λ b. seen (b.vtable, b.value)) store.old) p None blocks) (objects_of (λ b. seen (b.vtable, b.value)) store.new) told result.gave (comes_after result.next (stage Yield piece.new)) 0 }
-    ensures queue { queue_of store.new ≡ queue_yielded (policies_of (λ b. seen (b.vtable, b.value)) store.old 2) piece.old p (queue_of store.old) }
+        CameTo (yield_piece piece.old (objects_of (λ b. seen (b.vtable, b.value)) store.old) p answer blocks) (objects_of (λ b. seen (b.vtable, b.value)) store.new) told result.gave (comes_after result.next (stage Yield piece.new)) 0 }
+    ensures queue { queue_of store.new ≡ queue_yielded (policies_of (λ b. seen (b.vtable, b.value)) store.old 2) answer piece.old p (queue_of store.old) }
     ensures living { (q : ℕ) → lives (queue_of store.new) q ≡ lives (queue_of store.old) q }
     ensures world { world_of_store store.new ≡ world_of_store store.old }
     ensures sound { IsStore (λ b. seen (b.vtable, b.value)) store.new }
@@ -75,7 +96,7 @@ pub(crate) fn yield_turn(piece: &mut u8, store: &mut Store, p: u8) -> After
         store.to_back(p);
         return came(Next::Goes);
     }
-    let next = store.next();
+    let next = turn(store, answer);
     store.add_slice(next);
     came(Next::Ends(Reply::One(u32::from(next))))
 }

@@ -1,13 +1,14 @@
 //! The pieces of a read: the block itself, how far to read ahead, and each block ahead.
 
-ghost use Rattle.std.specs.Prelude.{◌≡◌, ℕ, ◌+◌, ◌<◌, ◌≤◌, true, false, List, Bool, Option, [], ◌++◌, Some, None, length};
-ghost use Rattle.kernel_model.specs.World.{Blocks};
+ghost use Rattle.std.specs.Prelude.{◌≡◌, ℕ, ◌+◌, ◌<◌, ◌≤◌, true, false, List, Bool, Option, [], ◌++◌, Some, length, slice_index, is_some, IfSome};
+ghost use Rattle.kernel_model.specs.World.{Blocks, blocks_of};
 ghost use Rattle.kernel_model.specs.declared.SysCall.TheVariants.{Read};
 ghost use Rattle.kernel_model.specs.Meaning.{stage};
 ghost use Rattle.kernel_model.specs.Policies.{lives, ahead_default};
-ghost use Rattle.kernel_model.specs.FilePieces.{read_piece, read_first_at, read_first, read_second, read_third_at};
+ghost use Rattle.kernel_model.specs.FilePieces.{read_piece, read_first_at, read_first, read_second, read_third_at, ahead_by};
+ghost use Rattle.kernel_model.specs.Laws.{IsRightAnswer};
 ghost use Rattle.kernel_model.specs.Pieces.{piece_fits};
-ghost use Rattle.kernel_model.specs.Needs.{file_block, ahead_block};
+ghost use Rattle.kernel_model.specs.Needs.{file_block, ahead_block, read_ask};
 ghost use Rattle.kernel_model.specs.Fetch as fetches;
 ghost use Rattle.kernel_model.specs.Sound.{IsSoundFile};
 ghost use Rattle.disk_log.specs.Calls.{Tells, GoesOn};
@@ -19,7 +20,7 @@ use crate::fetch::{fetch, fetch_ahead};
 use crate::{After, Next, came};
 use disk_log::DiskLog;
 use kernel_model::{OpenRow, Refusal, Reply};
-use kernel_state::Store;
+use kernel_state::{Ahead, Store};
 use vino_base::Disk;
 
 /// What a read asks for: bytes off to off + len of block i of the file at a descriptor.
@@ -39,16 +40,18 @@ pub(crate) fn read<D: Disk>(
     log: &mut DiskLog,
     p: u8,
     r: Range,
+    answer: Option<[u32; 4]>,
 ) -> After
     requires sound { IsStore (λ b. seen (b.vtable, b.value)) store.old }
     requires alive { lives (queue_of store.old) p ≡ true }
     requires descriptor { r.fd < 4 }
     requires inside { r.off + r.len ≤ 512 }
     requires fits { piece_fits (Read r.fd r.i r.off r.len) piece.old (objects_of (λ b. seen (b.vtable, b.value)) store.old).things p ≡ true }
+    requires right { IsRightAnswer (objects_of (λ b. seen (b.vtable, b.value)) store.old) (read_ask piece.old (world_of_store store.old) (objects_of (λ b. seen (b.vtable, b.value)) store.old).things p r.fd r.i r.off r.len) answer }
     requires disk { store.old.size ≡ D.block_count disk.old }
     requires fresh { log.old ≡ [] }
     ensures does { (blocks : Blocks) (rest : List Bool) → Tells (D.blocks disk.old) blocks →
-        CameTo (read_piece piece.old (world_of_store store.old) (objects_of (λ b. seen (b.vtable, b.value)) store.old) blocks p r.fd r.i r.off r.len ((objects_of (λ b. seen (b.vtable, b.value)) store.old).things.file p r.fd) None (log.new ++ rest))
+        CameTo (read_piece piece.old (world_of_store store.old) (objects_of (λ b. seen (b.vtable, b.value)) store.old) blocks p r.fd r.i r.off r.len ((objects_of (λ b. seen (b.vtable, b.value)) store.old).things.file p r.fd) answer (log.new ++ rest))
         (objects_of (λ b. seen (b.vtable, b.value)) store.new) (D.blocks disk.new) result.gave (comes_after result.next (stage (Read r.fd r.i r.off r.len) piece.new)) (length log.new) }
     ensures queue { queue_of store.new ≡ queue_of store.old }
     ensures next { goes_on result.next ≡ true → ReadGoes piece.old piece.new ((objects_of (λ b. seen (b.vtable, b.value)) store.old).things.file p r.fd) ((objects_of (λ b. seen (b.vtable, b.value)) store.new).things.file p r.fd) }
@@ -63,9 +66,9 @@ pub(crate) fn read<D: Disk>(
         return came(Next::Fails(Refusal::BadFd));
     };
     match *piece {
-        0 => first(piece, store, disk, log, p, r, opened),
-        1 => second(piece, store, p, r, opened),
-        _ => later(store, disk, log, p, r, opened),
+        0 => first(piece, store, disk, log, p, r, answer, opened),
+        1 => second(piece, store, p, r, answer, opened),
+        _ => later(store, disk, log, p, r, answer, opened),
     }
 }
 
@@ -77,18 +80,20 @@ fn first<D: Disk>(
     log: &mut DiskLog,
     p: u8,
     r: Range,
+    answer: Option<[u32; 4]>,
     opened: OpenRow,
 ) -> After
     requires sound { IsStore (λ b. seen (b.vtable, b.value)) store.old }
     requires alive { lives (queue_of store.old) p ≡ true }
     requires descriptor { r.fd < 4 }
+    requires right { IfSome answer (λ a. is_some ((cache_of store.old).frame (slice_index a 0)) ≡ true) }
     requires inside { r.off + r.len ≤ 512 }
     requires number { piece.old ≡ 0 }
     requires file { (objects_of (λ b. seen (b.vtable, b.value)) store.old).things.file p r.fd ≡ Some opened }
     requires disk { store.old.size ≡ D.block_count disk.old }
     requires fresh { log.old ≡ [] }
     ensures does { (blocks : Blocks) (rest : List Bool) → Tells (D.blocks disk.old) blocks →
-        CameTo (read_first_at (file_block (world_of_store store.old) (Some opened) r.i r.off r.len) (world_of_store store.old) (objects_of (λ b. seen (b.vtable, b.value)) store.old) blocks p r.fd r.i r.off r.len opened None (log.new ++ rest))
+        CameTo (read_first_at (file_block (world_of_store store.old) (Some opened) r.i r.off r.len) (world_of_store store.old) (objects_of (λ b. seen (b.vtable, b.value)) store.old) blocks p r.fd r.i r.off r.len opened answer (log.new ++ rest))
         (objects_of (λ b. seen (b.vtable, b.value)) store.new) (D.blocks disk.new) result.gave (comes_after result.next (stage (Read r.fd r.i r.off r.len) piece.new)) (length log.new) }
     ensures queue { queue_of store.new ≡ queue_of store.old }
     ensures next { goes_on result.next ≡ true → ReadGoes 0 piece.new (Some opened) ((objects_of (λ b. seen (b.vtable, b.value)) store.new).things.file p r.fd) }
@@ -100,7 +105,7 @@ fn first<D: Disk>(
     ensures few { length log.new ≤ 256 }
 {
     match store.block_of(p, r.fd as u8, r.i, r.off, r.len) {
-        Ok(b) => first_at(piece, store, disk, log, p, r, opened, b),
+        Ok(b) => first_at(piece, store, disk, log, p, r, answer, opened, b),
         Err(refusal) => came(Next::Fails(refusal)),
     }
 }
@@ -113,12 +118,14 @@ fn first_at<D: Disk>(
     log: &mut DiskLog,
     p: u8,
     r: Range,
+    answer: Option<[u32; 4]>,
     opened: OpenRow,
     b: u32,
 ) -> After
     requires sound { IsStore (λ b. seen (b.vtable, b.value)) store.old }
     requires alive { lives (queue_of store.old) p ≡ true }
     requires descriptor { r.fd < 4 }
+    requires right { IfSome answer (λ a. is_some ((cache_of store.old).frame (slice_index a 0)) ≡ true) }
     requires inside { r.off + r.len ≤ 512 }
     requires number { piece.old ≡ 0 }
     requires opened { IsSoundFile (world_of_store store.old) opened }
@@ -127,7 +134,7 @@ fn first_at<D: Disk>(
     requires disk { store.old.size ≡ D.block_count disk.old }
     requires fresh { log.old ≡ [] }
     ensures does { (blocks : Blocks) (rest : List Bool) → Tells (D.blocks disk.old) blocks →
-        CameTo (read_first (objects_of (λ b. seen (b.vtable, b.value)) store.old) blocks p r.fd r.i r.off r.len opened (fetches.fetch (world_of_store store.old) (policies_of (λ b. seen (b.vtable, b.value)) store.old 1) p b None (cache_of store.old) blocks (log.new ++ rest)))
+        CameTo (read_first (objects_of (λ b. seen (b.vtable, b.value)) store.old) blocks p r.fd r.i r.off r.len opened (fetches.fetch (world_of_store store.old) (policies_of (λ b. seen (b.vtable, b.value)) store.old 1) p b answer (cache_of store.old) blocks (log.new ++ rest)))
         (objects_of (λ b. seen (b.vtable, b.value)) store.new) (D.blocks disk.new) result.gave (comes_after result.next (stage (Read r.fd r.i r.off r.len) piece.new)) (length log.new) }
     ensures queue { queue_of store.new ≡ queue_of store.old }
     ensures next { goes_on result.next ≡ true → ReadGoes 0 piece.new (Some opened) ((objects_of (λ b. seen (b.vtable, b.value)) store.new).things.file p r.fd) }
@@ -138,7 +145,7 @@ fn first_at<D: Disk>(
     ensures calls { GoesOn (D.faults disk.old) (D.faults disk.new) (D.plan disk.old) (D.plan disk.new) log.old log.new }
     ensures few { length log.new ≤ 256 }
 {
-    let Ok(f) = fetch(store, disk, log, p, b) else {
+    let Ok(f) = fetch(store, disk, log, p, b, answer) else {
         return came(Next::Fails(Refusal::DiskFault));
     };
     let row = OpenRow {
@@ -155,14 +162,39 @@ fn first_at<D: Disk>(
     }
 }
 
-/// The second piece: the policy says what is to be read ahead.
-fn second(piece: &mut u8, store: &mut Store, p: u8, r: Range, opened: OpenRow) -> After
+/// What is to be read ahead of an open file: what the answer says, or by default the policy.
+fn reach(store: &Store, answer: Option<[u32; 4]>, opened: &OpenRow) -> Ahead
+    requires sound { IsStore (λ b. seen (b.vtable, b.value)) store.now }
+    requires opened { IsSoundFile (world_of_store store.now) opened.now }
+    requires right { IfSome answer (λ a. (slice_index a 1 ≤ 8) × (slice_index a 0 + slice_index a 1 ≤ blocks_of (world_of_store store.now) opened.now.file)) }
+    ensures value { ahead_by answer (ahead_default (world_of_store store.now) (policies_of (λ b. seen (b.vtable, b.value)) store.now 0) (Some opened.now)) ≡ (result.start, result.count) }
+    ensures sound { IsSoundFile (world_of_store store.now) (record (opened.now) { start = result.start; count = result.count }) }
+{
+    match answer {
+        Some(a) => Ahead {
+            start: a[0],
+            count: a[1] as u8,
+        },
+        None => store.ahead(opened),
+    }
+}
+
+/// The second piece: the answer, or by default the policy, says what is to be read ahead.
+fn second(
+    piece: &mut u8,
+    store: &mut Store,
+    p: u8,
+    r: Range,
+    answer: Option<[u32; 4]>,
+    opened: OpenRow,
+) -> After
     requires sound { IsStore (λ b. seen (b.vtable, b.value)) store.old }
     requires alive { lives (queue_of store.old) p ≡ true }
     requires descriptor { r.fd < 4 }
     requires opened { IsSoundFile (world_of_store store.old) opened }
+    requires right { IfSome answer (λ a. (slice_index a 1 ≤ 8) × (slice_index a 0 + slice_index a 1 ≤ blocks_of (world_of_store store.old) opened.file)) }
     ensures does { (blocks : Blocks) (told : Option (List (List ℕ))) → Tells told blocks →
-        CameTo (read_second (objects_of (λ b. seen (b.vtable, b.value)) store.old) blocks p r.fd r.i r.off r.len opened (ahead_default (world_of_store store.old) (policies_of (λ b. seen (b.vtable, b.value)) store.old 0) (Some opened)))
+        CameTo (read_second (objects_of (λ b. seen (b.vtable, b.value)) store.old) blocks p r.fd r.i r.off r.len opened (ahead_by answer (ahead_default (world_of_store store.old) (policies_of (λ b. seen (b.vtable, b.value)) store.old 0) (Some opened))))
         (objects_of (λ b. seen (b.vtable, b.value)) store.new) told result.gave (comes_after result.next (stage (Read r.fd r.i r.off r.len) piece.new)) 0 }
     ensures queue { queue_of store.new ≡ queue_of store.old }
     ensures next { goes_on result.next ≡ true → ReadGoes 1 piece.new (Some opened) ((objects_of (λ b. seen (b.vtable, b.value)) store.new).things.file p r.fd) }
@@ -170,7 +202,7 @@ fn second(piece: &mut u8, store: &mut Store, p: u8, r: Range, opened: OpenRow) -
     ensures world { world_of_store store.new ≡ world_of_store store.old }
     ensures sound { IsStore (λ b. seen (b.vtable, b.value)) store.new }
 {
-    let ahead = store.ahead(&opened);
+    let ahead = reach(store, answer, &opened);
     let row = OpenRow {
         start: ahead.start,
         count: ahead.count,
@@ -191,17 +223,19 @@ fn later<D: Disk>(
     log: &mut DiskLog,
     p: u8,
     r: Range,
+    answer: Option<[u32; 4]>,
     opened: OpenRow,
 ) -> After
     requires sound { IsStore (λ b. seen (b.vtable, b.value)) store.old }
     requires alive { lives (queue_of store.old) p ≡ true }
     requires descriptor { r.fd < 4 }
+    requires right { IfSome answer (λ a. is_some ((cache_of store.old).frame (slice_index a 0)) ≡ true) }
     requires opened { IsSoundFile (world_of_store store.old) opened }
     requires some { 1 ≤ opened.count }
     requires disk { store.old.size ≡ D.block_count disk.old }
     requires fresh { log.old ≡ [] }
     ensures does { (blocks : Blocks) (rest : List Bool) → Tells (D.blocks disk.old) blocks →
-        CameTo (read_third_at (ahead_block (world_of_store store.old) (Some opened)) (world_of_store store.old) (objects_of (λ b. seen (b.vtable, b.value)) store.old) blocks p r.fd r.i r.off r.len opened None (log.new ++ rest))
+        CameTo (read_third_at (ahead_block (world_of_store store.old) (Some opened)) (world_of_store store.old) (objects_of (λ b. seen (b.vtable, b.value)) store.old) blocks p r.fd r.i r.off r.len opened answer (log.new ++ rest))
         (objects_of (λ b. seen (b.vtable, b.value)) store.new) (D.blocks disk.new) result.gave (comes_after result.next (stage (Read r.fd r.i r.off r.len) 2)) (length log.new) }
     ensures queue { queue_of store.new ≡ queue_of store.old }
     ensures next { goes_on result.next ≡ true → ReadGoes 2 2 (Some opened) ((objects_of (λ b. seen (b.vtable, b.value)) store.new).things.file p r.fd) }
@@ -213,7 +247,7 @@ fn later<D: Disk>(
     ensures few { length log.new ≤ 256 }
 {
     let b = store.block_ahead(&opened);
-    let Ok(_) = fetch_ahead(store, disk, log, p, b) else {
+    let Ok(_) = fetch_ahead(store, disk, log, p, b, answer) else {
         return came(Next::Fails(Refusal::DiskFault));
     };
     let row = OpenRow {

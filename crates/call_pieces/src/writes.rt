@@ -4,7 +4,8 @@ ghost use Rattle.std.specs.Prelude.{◌≡◌, ℕ, ◌+◌, ◌<◌, ◌≤◌,
 ghost use Rattle.kernel_model.specs.World.{Blocks};
 ghost use Rattle.kernel_model.specs.Meaning.{Stage};
 ghost use Rattle.kernel_model.specs.Policies.{lives};
-ghost use Rattle.kernel_model.specs.Needs.{file_block};
+ghost use Rattle.kernel_model.specs.Needs.{file_block, fetch_ask};
+ghost use Rattle.kernel_model.specs.Laws.{IsRightAnswer};
 ghost use Rattle.kernel_model.specs.FilePieces.{write_piece};
 ghost use Rattle.disk_log.specs.Calls.{Tells, GoesOn};
 ghost use Rattle.kernel_state.specs.Stores.{world_of_store, objects_of, queue_of, IsStore};
@@ -28,15 +29,17 @@ pub(crate) fn write<D: Disk>(
     i: u32,
     off: u32,
     bytes: &[u8],
+    answer: Option<[u32; 4]>,
 ) -> After
     requires sound { IsStore (λ b. seen (b.vtable, b.value)) store.old }
     requires alive { lives (queue_of store.old) p ≡ true }
     requires descriptor { fd < 4 }
     requires inside { off + length bytes.now ≤ 512 }
+    requires right { IsRightAnswer (objects_of (λ b. seen (b.vtable, b.value)) store.old) (fetch_ask (world_of_store store.old) (objects_of (λ b. seen (b.vtable, b.value)) store.old).things (file_block (world_of_store store.old) ((objects_of (λ b. seen (b.vtable, b.value)) store.old).things.file p fd) i off (length bytes.now))) answer }
     requires disk { store.old.size ≡ D.block_count disk.old }
     requires fresh { log.old ≡ [] }
     ensures does { (blocks : Blocks) (rest : List Bool) (t : Stage) → Tells (D.blocks disk.old) blocks →
-        CameTo (write_piece (file_block (world_of_store store.old) ((objects_of (λ b. seen (b.vtable, b.value)) store.old).things.file p fd) i off (length bytes.now)) (world_of_store store.old) (objects_of (λ b. seen (b.vtable, b.value)) store.old) blocks p off bytes.now None (log.new ++ rest))
+        CameTo (write_piece (file_block (world_of_store store.old) ((objects_of (λ b. seen (b.vtable, b.value)) store.old).things.file p fd) i off (length bytes.now)) (world_of_store store.old) (objects_of (λ b. seen (b.vtable, b.value)) store.old) blocks p off bytes.now answer (log.new ++ rest))
         (objects_of (λ b. seen (b.vtable, b.value)) store.new) (D.blocks disk.new) result.gave (comes_after result.next t) (length log.new) }
     ensures queue { queue_of store.new ≡ queue_of store.old }
     ensures ends { goes_on result.next ≡ false }
@@ -51,7 +54,7 @@ pub(crate) fn write<D: Disk>(
         Ok(b) => b,
         Err(refusal) => return came(Next::Fails(refusal)),
     };
-    match fetch(store, disk, log, p, b) {
+    match fetch(store, disk, log, p, b, answer) {
         Ok(f) => {
             store.patch(f, off, bytes);
             came(Next::Ends(Reply::Plain))

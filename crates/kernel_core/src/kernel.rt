@@ -233,7 +233,7 @@ impl<C: Calls> Kernel<C> {
         ensures same_size { D.block_count disk.new ≡ D.block_count disk.old }
     {
         logs.piece.clear();
-        let after = C::piece(work, &mut self.store, disk, &mut logs.piece);
+        let after = C::piece(work, &mut self.store, None, disk, &mut logs.piece);
         logs.event.append(&logs.piece);
         note_bytes(number, after.gave, notes);
         match after.next {

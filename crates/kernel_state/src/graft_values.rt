@@ -84,6 +84,18 @@ impl Store {
         }
     }
 
+    /// The number of frame f, which is in use, as one byte.
+    pub fn frame_number(&self, f: u32) -> u8
+        requires { is_some ((cache_of self.now).frame f) ≡ true }
+        ensures value { result ≡ f }
+        ensures in_cache { in_use result self.now.cache ≡ true }
+    {
+        match self.row(f) {
+            Some(row) => row.frame,
+            None => unreachable!(),
+        }
+    }
+
     /// The frames of process q, oldest first.
     pub fn owned_rows(&self, q: u8) -> FrameRows
         ensures rows { map (λ (r : Row). Some r) result ≡ map (row_at self.now.cache.rows) (frames_of (cache_of self.now) q) }

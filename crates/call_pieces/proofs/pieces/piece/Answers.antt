@@ -1,4 +1,4 @@
-use Rattle.std.proofs.Common.{ℕ, ◌++◌, List, None, length, refl, ap, sym, subst}
+use Rattle.std.proofs.Common.{ℕ, ◌++◌, List, length, refl, ap, sym, subst}
 use Rattle.kernel_model.specs.declared.SysCall.{SysCall}
 use Rattle.kernel_model.specs.declared.SysCall.TheVariants.{Spawn, Exit, OpenName, CloseFd, Write, Sync, TakeLock, FreeLock, Poke, Peek, Tune, Choose, Give, Install, Remove, Fund, Bill}
 use Rattle.kernel_model.specs.World.{file_named}
@@ -80,7 +80,7 @@ returns-in-Spawn-clause-does g c =
     λ images blocks rest tells.
     let s = objects_of (λ b. (goal.Policy-dyn g (b.vtable, b.value)).seen b.value) c.args.store.now in
     let w = c.args.work.now in
-    came_named (λ (k : SysCall). piece_of k w.piece (world_of_store c.args.store.now) s blocks w.caller None (c.args.log.now ++ rest)) w.call Spawn (objects_of (λ b. (goal.Policy-dyn g (b.vtable, b.value)).seen b.value) c.spawn.new.store)
+    came_named (λ (k : SysCall). piece_of k w.piece (world_of_store c.args.store.now) s blocks w.caller c.args.answer (c.args.log.now ++ rest)) w.call Spawn (objects_of (λ b. (goal.Policy-dyn g (b.vtable, b.value)).seen b.value) c.spawn.new.store)
     (g.D.Disk.blocks c.args.disk.now) _ _ (length c.args.log.now) 0 c.in-Spawn.is (ap length c.requires.fresh) (c.spawn.ensures.does blocks _ (stage w.call w.piece) tells)
 
 pub returns-in-Exit-clause-does : goal.returns-in-Exit-clause-does
@@ -88,7 +88,7 @@ returns-in-Exit-clause-does g c =
     λ images blocks rest tells.
     let s = objects_of (λ b. (goal.Policy-dyn g (b.vtable, b.value)).seen b.value) c.args.store.now in
     let w = c.args.work.now in
-    came_named (λ (k : SysCall). piece_of k w.piece (world_of_store c.args.store.now) s blocks w.caller None (c.args.log.now ++ rest)) w.call Exit (objects_of (λ b. (goal.Policy-dyn g (b.vtable, b.value)).seen b.value) c.exit.new.store)
+    came_named (λ (k : SysCall). piece_of k w.piece (world_of_store c.args.store.now) s blocks w.caller c.args.answer (c.args.log.now ++ rest)) w.call Exit (objects_of (λ b. (goal.Policy-dyn g (b.vtable, b.value)).seen b.value) c.exit.new.store)
     (g.D.Disk.blocks c.args.disk.now) _ _ (length c.args.log.now) 0 c.in-Exit.is (ap length c.requires.fresh) (c.exit.ensures.does blocks _ (stage w.call w.piece) tells)
 
 pub returns-in-OpenName-clause-does : goal.returns-in-OpenName-clause-does
@@ -96,7 +96,7 @@ returns-in-OpenName-clause-does g c =
     λ images blocks rest tells.
     let s = objects_of (λ b. (goal.Policy-dyn g (b.vtable, b.value)).seen b.value) c.args.store.now in
     let w = c.args.work.now in
-    came_named (λ (k : SysCall). piece_of k w.piece (world_of_store c.args.store.now) s blocks w.caller None (c.args.log.now ++ rest)) w.call (OpenName c.in-OpenName.name) (objects_of (λ b. (goal.Policy-dyn g (b.vtable, b.value)).seen b.value) c.open.new.store) (g.D.Disk.blocks c.args.disk.now)
+    came_named (λ (k : SysCall). piece_of k w.piece (world_of_store c.args.store.now) s blocks w.caller c.args.answer (c.args.log.now ++ rest)) w.call (OpenName c.in-OpenName.name) (objects_of (λ b. (goal.Policy-dyn g (b.vtable, b.value)).seen b.value) c.open.new.store) (g.D.Disk.blocks c.args.disk.now)
     _ _ (length c.args.log.now) 0 c.in-OpenName.is (ap length c.requires.fresh)
     (subst (λ (name : List ℕ). CameTo (open_piece s w.caller (file_named (world_of_store c.args.store.now) name) (free_descriptor s.things w.caller 4 0) blocks) (objects_of (λ b. (goal.Policy-dyn g (b.vtable, b.value)).seen b.value) c.open.new.store) (g.D.Disk.blocks c.args.disk.now) c.open.result.gave (comes_after c.open.result.next (stage w.call w.piece)) 0) c.as_slice.ensures.value
     (c.open.ensures.does blocks _ (stage w.call w.piece) tells))
@@ -106,7 +106,7 @@ returns-in-CloseFd-clause-does g c =
     λ images blocks rest tells.
     let s = objects_of (λ b. (goal.Policy-dyn g (b.vtable, b.value)).seen b.value) c.args.store.now in
     let w = c.args.work.now in
-    came_named (λ (k : SysCall). piece_of k w.piece (world_of_store c.args.store.now) s blocks w.caller None (c.args.log.now ++ rest)) w.call (CloseFd c.in-CloseFd.fd) (objects_of (λ b. (goal.Policy-dyn g (b.vtable, b.value)).seen b.value) c.close.new.store)
+    came_named (λ (k : SysCall). piece_of k w.piece (world_of_store c.args.store.now) s blocks w.caller c.args.answer (c.args.log.now ++ rest)) w.call (CloseFd c.in-CloseFd.fd) (objects_of (λ b. (goal.Policy-dyn g (b.vtable, b.value)).seen b.value) c.close.new.store)
     (g.D.Disk.blocks c.args.disk.now) _ _ (length c.args.log.now) 0 c.in-CloseFd.is (ap length c.requires.fresh) (c.close.ensures.does blocks _ (stage w.call w.piece) tells)
 
 pub returns-in-Read-clause-does : goal.returns-in-Read-clause-does
@@ -114,7 +114,7 @@ returns-in-Read-clause-does g c =
     λ images blocks rest tells.
     let s = objects_of (λ b. (goal.Policy-dyn g (b.vtable, b.value)).seen b.value) c.args.store.now in
     let w = c.args.work.now in
-    subst (λ (k : SysCall). CameTo (piece_of k w.piece (world_of_store c.args.store.now) s blocks w.caller None (c.read.new.log ++ rest)) (objects_of (λ b. (goal.Policy-dyn g (b.vtable, b.value)).seen b.value) c.read.new.store) (g.D.Disk.blocks c.read.new.disk)
+    subst (λ (k : SysCall). CameTo (piece_of k w.piece (world_of_store c.args.store.now) s blocks w.caller c.args.answer (c.read.new.log ++ rest)) (objects_of (λ b. (goal.Policy-dyn g (b.vtable, b.value)).seen b.value) c.read.new.store) (g.D.Disk.blocks c.read.new.disk)
     c.read.result.gave (comes_after c.read.result.next (stage k c.read.new.piece)) (length c.read.new.log)) (sym c.in-Read.is) (c.read.ensures.does blocks rest tells)
 
 pub returns-in-Write-clause-does : goal.returns-in-Write-clause-does
@@ -124,9 +124,9 @@ returns-in-Write-clause-does g c =
     let v = world_of_store c.args.store.now in
     let w = c.args.work.now in
     let x = c.in-Write in
-    came_named (λ (k : SysCall). piece_of k w.piece v s blocks w.caller None (c.write.new.log ++ rest)) w.call (Write x.fd x.i x.off x.bytes) (objects_of (λ b. (goal.Policy-dyn g (b.vtable, b.value)).seen b.value) c.write.new.store)
+    came_named (λ (k : SysCall). piece_of k w.piece v s blocks w.caller c.args.answer (c.write.new.log ++ rest)) w.call (Write x.fd x.i x.off x.bytes) (objects_of (λ b. (goal.Policy-dyn g (b.vtable, b.value)).seen b.value) c.write.new.store)
     (g.D.Disk.blocks c.write.new.disk) _ _ (length c.write.new.log) (length c.write.new.log) x.is refl
-    (subst (λ (bytes : List ℕ). CameTo (write_piece (file_block v (s.things.file w.caller x.fd) x.i x.off (length bytes)) v s blocks w.caller x.off bytes None (c.write.new.log ++ rest)) (objects_of (λ b. (goal.Policy-dyn g (b.vtable, b.value)).seen b.value) c.write.new.store)
+    (subst (λ (bytes : List ℕ). CameTo (write_piece (file_block v (s.things.file w.caller x.fd) x.i x.off (length bytes)) v s blocks w.caller x.off bytes c.args.answer (c.write.new.log ++ rest)) (objects_of (λ b. (goal.Policy-dyn g (b.vtable, b.value)).seen b.value) c.write.new.store)
     (g.D.Disk.blocks c.write.new.disk) c.write.result.gave (comes_after c.write.result.next (stage w.call w.piece)) (length c.write.new.log)) c.as_slice-in-Write.ensures.value (c.write.ensures.does blocks rest (stage w.call w.piece) tells))
 
 pub returns-in-Sync-clause-does : goal.returns-in-Sync-clause-does
@@ -134,7 +134,7 @@ returns-in-Sync-clause-does g c =
     λ images blocks rest tells.
     let s = objects_of (λ b. (goal.Policy-dyn g (b.vtable, b.value)).seen b.value) c.args.store.now in
     let w = c.args.work.now in
-    came_named (λ (k : SysCall). piece_of k w.piece (world_of_store c.args.store.now) s blocks w.caller None (c.sync.new.log ++ rest)) w.call Sync (objects_of (λ b. (goal.Policy-dyn g (b.vtable, b.value)).seen b.value) c.sync.new.store)
+    came_named (λ (k : SysCall). piece_of k w.piece (world_of_store c.args.store.now) s blocks w.caller c.args.answer (c.sync.new.log ++ rest)) w.call Sync (objects_of (λ b. (goal.Policy-dyn g (b.vtable, b.value)).seen b.value) c.sync.new.store)
     (g.D.Disk.blocks c.sync.new.disk) _ _ (length c.sync.new.log) (length c.sync.new.log) c.in-Sync.is refl (c.sync.ensures.does blocks rest (stage w.call w.piece) tells)
 
 pub returns-in-TakeLock-clause-does : goal.returns-in-TakeLock-clause-does
@@ -142,7 +142,7 @@ returns-in-TakeLock-clause-does g c =
     λ images blocks rest tells.
     let s = objects_of (λ b. (goal.Policy-dyn g (b.vtable, b.value)).seen b.value) c.args.store.now in
     let w = c.args.work.now in
-    came_named (λ (k : SysCall). piece_of k w.piece (world_of_store c.args.store.now) s blocks w.caller None (c.args.log.now ++ rest)) w.call (TakeLock c.in-TakeLock.u) (objects_of (λ b. (goal.Policy-dyn g (b.vtable, b.value)).seen b.value) c.take_lock.new.store)
+    came_named (λ (k : SysCall). piece_of k w.piece (world_of_store c.args.store.now) s blocks w.caller c.args.answer (c.args.log.now ++ rest)) w.call (TakeLock c.in-TakeLock.u) (objects_of (λ b. (goal.Policy-dyn g (b.vtable, b.value)).seen b.value) c.take_lock.new.store)
     (g.D.Disk.blocks c.args.disk.now) _ _ (length c.args.log.now) 0 c.in-TakeLock.is (ap length c.requires.fresh) (c.take_lock.ensures.does blocks _ (stage w.call w.piece) tells)
 
 pub returns-in-FreeLock-clause-does : goal.returns-in-FreeLock-clause-does
@@ -150,7 +150,7 @@ returns-in-FreeLock-clause-does g c =
     λ images blocks rest tells.
     let s = objects_of (λ b. (goal.Policy-dyn g (b.vtable, b.value)).seen b.value) c.args.store.now in
     let w = c.args.work.now in
-    came_named (λ (k : SysCall). piece_of k w.piece (world_of_store c.args.store.now) s blocks w.caller None (c.args.log.now ++ rest)) w.call (FreeLock c.in-FreeLock.u) (objects_of (λ b. (goal.Policy-dyn g (b.vtable, b.value)).seen b.value) c.free_lock.new.store)
+    came_named (λ (k : SysCall). piece_of k w.piece (world_of_store c.args.store.now) s blocks w.caller c.args.answer (c.args.log.now ++ rest)) w.call (FreeLock c.in-FreeLock.u) (objects_of (λ b. (goal.Policy-dyn g (b.vtable, b.value)).seen b.value) c.free_lock.new.store)
     (g.D.Disk.blocks c.args.disk.now) _ _ (length c.args.log.now) 0 c.in-FreeLock.is (ap length c.requires.fresh) (c.free_lock.ensures.does blocks _ (stage w.call w.piece) tells)
 
 pub returns-in-Poke-clause-does : goal.returns-in-Poke-clause-does
@@ -158,7 +158,7 @@ returns-in-Poke-clause-does g c =
     λ images blocks rest tells.
     let s = objects_of (λ b. (goal.Policy-dyn g (b.vtable, b.value)).seen b.value) c.args.store.now in
     let w = c.args.work.now in
-    came_named (λ (k : SysCall). piece_of k w.piece (world_of_store c.args.store.now) s blocks w.caller None (c.args.log.now ++ rest)) w.call (Poke c.in-Poke.k c.in-Poke.v) (objects_of (λ b. (goal.Policy-dyn g (b.vtable, b.value)).seen b.value) c.poke.new.store)
+    came_named (λ (k : SysCall). piece_of k w.piece (world_of_store c.args.store.now) s blocks w.caller c.args.answer (c.args.log.now ++ rest)) w.call (Poke c.in-Poke.k c.in-Poke.v) (objects_of (λ b. (goal.Policy-dyn g (b.vtable, b.value)).seen b.value) c.poke.new.store)
     (g.D.Disk.blocks c.args.disk.now) _ _ (length c.args.log.now) 0 c.in-Poke.is (ap length c.requires.fresh) (c.poke.ensures.does blocks _ (stage w.call w.piece) tells)
 
 pub returns-in-Peek-clause-does : goal.returns-in-Peek-clause-does
@@ -166,7 +166,7 @@ returns-in-Peek-clause-does g c =
     λ images blocks rest tells.
     let s = objects_of (λ b. (goal.Policy-dyn g (b.vtable, b.value)).seen b.value) c.args.store.now in
     let w = c.args.work.now in
-    came_named (λ (k : SysCall). piece_of k w.piece (world_of_store c.args.store.now) s blocks w.caller None (c.args.log.now ++ rest)) w.call (Peek c.in-Peek.k) (objects_of (λ b. (goal.Policy-dyn g (b.vtable, b.value)).seen b.value) c.args.store.now)
+    came_named (λ (k : SysCall). piece_of k w.piece (world_of_store c.args.store.now) s blocks w.caller c.args.answer (c.args.log.now ++ rest)) w.call (Peek c.in-Peek.k) (objects_of (λ b. (goal.Policy-dyn g (b.vtable, b.value)).seen b.value) c.args.store.now)
     (g.D.Disk.blocks c.args.disk.now) _ _ (length c.args.log.now) 0 c.in-Peek.is (ap length c.requires.fresh) (c.peek.ensures.does blocks _ (stage w.call w.piece) tells)
 
 pub returns-in-Tune-clause-does : goal.returns-in-Tune-clause-does
@@ -174,7 +174,7 @@ returns-in-Tune-clause-does g c =
     λ images blocks rest tells.
     let s = objects_of (λ b. (goal.Policy-dyn g (b.vtable, b.value)).seen b.value) c.args.store.now in
     let w = c.args.work.now in
-    came_named (λ (k : SysCall). piece_of k w.piece (world_of_store c.args.store.now) s blocks w.caller None (c.args.log.now ++ rest)) w.call (Tune c.in-Tune.kind c.in-Tune.k c.in-Tune.v) (objects_of (λ b. (goal.Policy-dyn g (b.vtable, b.value)).seen b.value) c.tune.new.store)
+    came_named (λ (k : SysCall). piece_of k w.piece (world_of_store c.args.store.now) s blocks w.caller c.args.answer (c.args.log.now ++ rest)) w.call (Tune c.in-Tune.kind c.in-Tune.k c.in-Tune.v) (objects_of (λ b. (goal.Policy-dyn g (b.vtable, b.value)).seen b.value) c.tune.new.store)
     (g.D.Disk.blocks c.args.disk.now) _ _ (length c.args.log.now) 0 c.in-Tune.is (ap length c.requires.fresh) (c.tune.ensures.does blocks _ (stage w.call w.piece) tells)
 
 pub returns-in-Choose-clause-does : goal.returns-in-Choose-clause-does
@@ -182,7 +182,7 @@ returns-in-Choose-clause-does g c =
     λ images blocks rest tells.
     let s = objects_of (λ b. (goal.Policy-dyn g (b.vtable, b.value)).seen b.value) c.args.store.now in
     let w = c.args.work.now in
-    came_named (λ (k : SysCall). piece_of k w.piece (world_of_store c.args.store.now) s blocks w.caller None (c.args.log.now ++ rest)) w.call (Choose c.in-Choose.kind c.in-Choose.j) (objects_of (λ b. (goal.Policy-dyn g (b.vtable, b.value)).seen b.value) c.choose.new.store)
+    came_named (λ (k : SysCall). piece_of k w.piece (world_of_store c.args.store.now) s blocks w.caller c.args.answer (c.args.log.now ++ rest)) w.call (Choose c.in-Choose.kind c.in-Choose.j) (objects_of (λ b. (goal.Policy-dyn g (b.vtable, b.value)).seen b.value) c.choose.new.store)
     (g.D.Disk.blocks c.args.disk.now) _ _ (length c.args.log.now) 0 c.in-Choose.is (ap length c.requires.fresh) (c.choose.ensures.does blocks _ (stage w.call w.piece) tells)
 
 pub returns-in-Give-clause-does : goal.returns-in-Give-clause-does
@@ -190,7 +190,7 @@ returns-in-Give-clause-does g c =
     λ images blocks rest tells.
     let s = objects_of (λ b. (goal.Policy-dyn g (b.vtable, b.value)).seen b.value) c.args.store.now in
     let w = c.args.work.now in
-    came_named (λ (k : SysCall). piece_of k w.piece (world_of_store c.args.store.now) s blocks w.caller None (c.args.log.now ++ rest)) w.call (Give c.in-Give.q c.in-Give.kind c.in-Give.n) (objects_of (λ b. (goal.Policy-dyn g (b.vtable, b.value)).seen b.value) c.give.new.store)
+    came_named (λ (k : SysCall). piece_of k w.piece (world_of_store c.args.store.now) s blocks w.caller c.args.answer (c.args.log.now ++ rest)) w.call (Give c.in-Give.q c.in-Give.kind c.in-Give.n) (objects_of (λ b. (goal.Policy-dyn g (b.vtable, b.value)).seen b.value) c.give.new.store)
     (g.D.Disk.blocks c.args.disk.now) _ _ (length c.args.log.now) 0 c.in-Give.is (ap length c.requires.fresh) (c.give.ensures.does blocks _ (stage w.call w.piece) tells)
 
 pub returns-in-Install-clause-does : goal.returns-in-Install-clause-does
@@ -198,7 +198,7 @@ returns-in-Install-clause-does g c =
     λ images blocks rest tells.
     let s = objects_of (λ b. (goal.Policy-dyn g (b.vtable, b.value)).seen b.value) c.args.store.now in
     let w = c.args.work.now in
-    came_named (λ (k : SysCall). piece_of k w.piece (world_of_store c.args.store.now) s blocks w.caller None (c.args.log.now ++ rest)) w.call (Install c.in-Install.pt c.in-Install.image c.in-Install.limit) (objects_of (λ b. (goal.Policy-dyn g (b.vtable, b.value)).seen b.value) c.install.new.store)
+    came_named (λ (k : SysCall). piece_of k w.piece (world_of_store c.args.store.now) s blocks w.caller c.args.answer (c.args.log.now ++ rest)) w.call (Install c.in-Install.pt c.in-Install.image c.in-Install.limit) (objects_of (λ b. (goal.Policy-dyn g (b.vtable, b.value)).seen b.value) c.install.new.store)
     (g.D.Disk.blocks c.args.disk.now) _ _ (length c.args.log.now) 0 c.in-Install.is (ap length c.requires.fresh) (c.install.ensures.does blocks _ (stage w.call w.piece) tells)
 
 pub returns-in-Remove-clause-does : goal.returns-in-Remove-clause-does
@@ -206,7 +206,7 @@ returns-in-Remove-clause-does g c =
     λ images blocks rest tells.
     let s = objects_of (λ b. (goal.Policy-dyn g (b.vtable, b.value)).seen b.value) c.args.store.now in
     let w = c.args.work.now in
-    came_named (λ (k : SysCall). piece_of k w.piece (world_of_store c.args.store.now) s blocks w.caller None (c.args.log.now ++ rest)) w.call (Remove c.in-Remove.pt) (objects_of (λ b. (goal.Policy-dyn g (b.vtable, b.value)).seen b.value) c.remove.new.store)
+    came_named (λ (k : SysCall). piece_of k w.piece (world_of_store c.args.store.now) s blocks w.caller c.args.answer (c.args.log.now ++ rest)) w.call (Remove c.in-Remove.pt) (objects_of (λ b. (goal.Policy-dyn g (b.vtable, b.value)).seen b.value) c.remove.new.store)
     (g.D.Disk.blocks c.args.disk.now) _ _ (length c.args.log.now) 0 c.in-Remove.is (ap length c.requires.fresh) (c.remove.ensures.does blocks _ (stage w.call w.piece) tells)
 
 pub returns-in-Fund-clause-does : goal.returns-in-Fund-clause-does
@@ -214,7 +214,7 @@ returns-in-Fund-clause-does g c =
     λ images blocks rest tells.
     let s = objects_of (λ b. (goal.Policy-dyn g (b.vtable, b.value)).seen b.value) c.args.store.now in
     let w = c.args.work.now in
-    came_named (λ (k : SysCall). piece_of k w.piece (world_of_store c.args.store.now) s blocks w.caller None (c.args.log.now ++ rest)) w.call (Fund c.in-Fund.pt c.in-Fund.kind c.in-Fund.n) (objects_of (λ b. (goal.Policy-dyn g (b.vtable, b.value)).seen b.value) c.fund.new.store)
+    came_named (λ (k : SysCall). piece_of k w.piece (world_of_store c.args.store.now) s blocks w.caller c.args.answer (c.args.log.now ++ rest)) w.call (Fund c.in-Fund.pt c.in-Fund.kind c.in-Fund.n) (objects_of (λ b. (goal.Policy-dyn g (b.vtable, b.value)).seen b.value) c.fund.new.store)
     (g.D.Disk.blocks c.args.disk.now) _ _ (length c.args.log.now) 0 c.in-Fund.is (ap length c.requires.fresh) (c.fund.ensures.does blocks _ (stage w.call w.piece) tells)
 
 pub returns-in-Bill-clause-does : goal.returns-in-Bill-clause-does
@@ -222,5 +222,5 @@ returns-in-Bill-clause-does g c =
     λ images blocks rest tells.
     let s = objects_of (λ b. (goal.Policy-dyn g (b.vtable, b.value)).seen b.value) c.args.store.now in
     let w = c.args.work.now in
-    came_named (λ (k : SysCall). piece_of k w.piece (world_of_store c.args.store.now) s blocks w.caller None (c.args.log.now ++ rest)) w.call (Bill c.in-Bill.pt) (objects_of (λ b. (goal.Policy-dyn g (b.vtable, b.value)).seen b.value) c.bill.new.store)
+    came_named (λ (k : SysCall). piece_of k w.piece (world_of_store c.args.store.now) s blocks w.caller c.args.answer (c.args.log.now ++ rest)) w.call (Bill c.in-Bill.pt) (objects_of (λ b. (goal.Policy-dyn g (b.vtable, b.value)).seen b.value) c.bill.new.store)
     (g.D.Disk.blocks c.args.disk.now) _ _ (length c.args.log.now) 0 c.in-Bill.is (ap length c.requires.fresh) (c.bill.ensures.does blocks _ (stage w.call w.piece) tells)

@@ -14,5 +14,5 @@ returns-in-Ok-clause-does g c =
     let s = c.args.store.now in
     let r = c.args.r in
     first_block (file_block (world_of_store s) (Some c.args.opened) r.i r.off r.len) c.in-Ok.b (world_of_store s) (objects_of (λ b. (goal.Policy-dyn g (b.vtable, b.value)).seen b.value) s) (objects_of (λ b. (goal.Policy-dyn g (b.vtable, b.value)).seen b.value) c.first_at.new.store) blocks c.args.p r.fd r.i r.off r.len
-    (length c.first_at.new.log) c.args.opened (c.first_at.new.log ++ rest) (g.D.Disk.blocks c.first_at.new.disk) _ _
+    (length c.first_at.new.log) c.args.opened c.args.answer (c.first_at.new.log ++ rest) (g.D.Disk.blocks c.first_at.new.disk) _ _
     (c.in-Ok.ensures.value ∙ ap (λ (x : Option OpenRow). file_block (world_of_store s) x r.i r.off r.len) c.requires.file) (c.first_at.ensures.does blocks rest tells)

@@ -1,4 +1,4 @@
-use Rattle.std.proofs.Common.{◌++◌, None, length, refl}
+use Rattle.std.proofs.Common.{◌++◌, length, refl}
 use Rattle.kernel_model.specs.Fetch.{fetch}
 use Rattle.kernel_model.specs.FilePieces.{read_first}
 use Rattle.kernel_state.specs.Stores.{world_of_store, objects_of, cache_of}
@@ -15,7 +15,7 @@ returns-in_default-clause-does g c =
     let o = objects_of (λ b. (goal.Policy-dyn g (b.vtable, b.value)).seen b.value) s in
     let n = length c.fetch.new.log in
     came_of _ c.came.result _ (objects_of (λ b. (goal.Policy-dyn g (b.vtable, b.value)).seen b.value) c.fetch.new.store) (g.D.Disk.blocks c.fetch.new.disk) _ n c.came.ensures
-    (fetch_failed (read_first o blocks c.args.p r.fd r.i r.off r.len c.args.opened) (fetch (world_of_store s) (o.things.pol 1) c.args.p c.args.b None o.things.cache blocks (c.fetch.new.log ++ rest)) o
+    (fetch_failed (read_first o blocks c.args.p r.fd r.i r.off r.len c.args.opened) (fetch (world_of_store s) (o.things.pol 1) c.args.p c.args.b c.args.answer o.things.cache blocks (c.fetch.new.log ++ rest)) o
     (objects_of (λ b. (goal.Policy-dyn g (b.vtable, b.value)).seen b.value) c.fetch.new.store) blocks c.in_default.field-0 (cache_of c.fetch.new.store) (g.D.Disk.blocks c.fetch.new.disk) n refl (c.in_default.ensures.does blocks rest tells) c.in_default.ensures.kept)
 
 pub returns-clause-does : goal.returns-clause-does

@@ -1,4 +1,4 @@
-use Rattle.std.proofs.Common.{◌≡◌, ℕ, arith, ◌++◌, Some, None, length, sym, ◌∙◌, subst}
+use Rattle.std.proofs.Common.{◌≡◌, ℕ, arith, ◌++◌, Some, length, sym, ◌∙◌, subst}
 use Rattle.kernel_model.specs.declared.SysCall.TheVariants.{Read}
 use Rattle.kernel_model.specs.Meaning.{stage}
 use Rattle.kernel_model.specs.Needs.{ahead_block}
@@ -16,7 +16,7 @@ returns-in-0-clause-does g c =
     let r = c.args.r in
     let s = c.args.store.now in
     came_as _ _ (objects_of (λ b. (goal.Policy-dyn g (b.vtable, b.value)).seen b.value) c.first.new.store) (g.D.Disk.blocks c.first.new.disk) _ _ (length c.first.new.log)
-    (read_zero c.args.piece.now (world_of_store s) (objects_of (λ b. (goal.Policy-dyn g (b.vtable, b.value)).seen b.value) s) blocks c.args.p r.fd r.i r.off r.len _ c.in-Some.opened (c.first.new.log ++ rest) c.in-0.is (sym c.file.ensures.value ∙ c.in-Some.is))
+    (read_zero c.args.piece.now (world_of_store s) (objects_of (λ b. (goal.Policy-dyn g (b.vtable, b.value)).seen b.value) s) blocks c.args.p r.fd r.i r.off r.len _ c.in-Some.opened c.args.answer (c.first.new.log ++ rest) c.in-0.is (sym c.file.ensures.value ∙ c.in-Some.is))
     (c.first.ensures.does blocks rest tells)
 
 pub returns-in_default-piece-clause-does : goal.returns-in_default-piece-clause-does
@@ -30,6 +30,6 @@ returns-in_default-piece-clause-does g c =
     let few = few_kinds c.args.piece.now _ c.requires.fits in
     let third : c.args.piece.now ≡ 2 = omega arith in
     came_as _ _ (objects_of (λ b. (goal.Policy-dyn g (b.vtable, b.value)).seen b.value) c.later.new.store) (g.D.Disk.blocks c.later.new.disk) _ _ (length c.later.new.log)
-    (read_later c.args.piece.now v o blocks c.args.p r.fd r.i r.off r.len _ opened (c.later.new.log ++ rest) third (sym c.file.ensures.value ∙ c.in-Some.is))
-    (subst (λ (k : ℕ). CameTo (read_third_at (ahead_block v (Some opened)) v o blocks c.args.p r.fd r.i r.off r.len opened None (c.later.new.log ++ rest)) (objects_of (λ b. (goal.Policy-dyn g (b.vtable, b.value)).seen b.value) c.later.new.store)
+    (read_later c.args.piece.now v o blocks c.args.p r.fd r.i r.off r.len _ opened c.args.answer (c.later.new.log ++ rest) third (sym c.file.ensures.value ∙ c.in-Some.is))
+    (subst (λ (k : ℕ). CameTo (read_third_at (ahead_block v (Some opened)) v o blocks c.args.p r.fd r.i r.off r.len opened c.args.answer (c.later.new.log ++ rest)) (objects_of (λ b. (goal.Policy-dyn g (b.vtable, b.value)).seen b.value) c.later.new.store)
     (g.D.Disk.blocks c.later.new.disk) c.later.result.gave (comes_after c.later.result.next (stage (Read r.fd r.i r.off r.len) k)) (length c.later.new.log)) (sym third) (c.later.ensures.does blocks rest tells))

@@ -6,4 +6,4 @@ pub returns-clause-next : goal.returns-clause-next
 returns-clause-next g c =
     λ _.
     goes_second c.args.opened _ _ (file_here (objects_of (λ b. (goal.Policy-dyn g (b.vtable, b.value)).seen b.value) c.args.store.now) (objects_of (λ b. (goal.Policy-dyn g (b.vtable, b.value)).seen b.value) c.put_file.new.self) c.args.p c.args.r.fd _ c.put_file.ensures.objects) c.if-ahead-eq0.false
-    c.ahead-ahead.ensures.sound.count
+    c.reach-ahead.ensures.sound.count

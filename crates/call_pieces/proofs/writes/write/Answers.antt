@@ -1,4 +1,4 @@
-use Rattle.std.proofs.Common.{◌++◌, None, length, refl}
+use Rattle.std.proofs.Common.{◌++◌, length, refl}
 use Rattle.kernel_model.specs.Fetch.{fetch}
 use Rattle.kernel_model.specs.FilePieces.{write_fetched}
 use Rattle.kernel_state.specs.Stores.{world_of_store, objects_of, cache_of}
@@ -14,9 +14,9 @@ returns-in-Ok-fetch-clause-does g c =
     let io = c.fetch.new.log ++ rest in
     let n = length c.fetch.new.log in
     came_of _ c.came-in-Ok-fetch.result _ (objects_of (λ b. (goal.Policy-dyn g (b.vtable, b.value)).seen b.value) c.patch.new.self) (g.D.Disk.blocks c.fetch.new.disk) t n c.came-in-Ok-fetch.ensures
-    (write_at _ c.in-Ok.b (world_of_store s) o (objects_of (λ b. (goal.Policy-dyn g (b.vtable, b.value)).seen b.value) c.patch.new.self) blocks c.args.p c.args.off n c.args.bytes.now io (g.D.Disk.blocks c.fetch.new.disk) _ c.in-Ok.ensures.value
+    (write_at _ c.in-Ok.b (world_of_store s) o (objects_of (λ b. (goal.Policy-dyn g (b.vtable, b.value)).seen b.value) c.patch.new.self) blocks c.args.p c.args.off n c.args.bytes.now c.args.answer io (g.D.Disk.blocks c.fetch.new.disk) _ c.in-Ok.ensures.value
     (write_came o (objects_of (λ b. (goal.Policy-dyn g (b.vtable, b.value)).seen b.value) c.fetch.new.store) (objects_of (λ b. (goal.Policy-dyn g (b.vtable, b.value)).seen b.value) c.patch.new.self) blocks c.args.off c.in-Ok-fetch.f n c.args.bytes.now
-    (fetch (world_of_store s) (o.things.pol 1) c.args.p c.in-Ok.b None o.things.cache blocks io) (cache_of c.fetch.new.store) (g.D.Disk.blocks c.fetch.new.disk)
+    (fetch (world_of_store s) (o.things.pol 1) c.args.p c.in-Ok.b c.args.answer o.things.cache blocks io) (cache_of c.fetch.new.store) (g.D.Disk.blocks c.fetch.new.disk)
     (c.in-Ok-fetch.ensures.does blocks rest tells) c.in-Ok-fetch.ensures.objects c.patch.ensures.objects))
 
 pub returns-in-Err-fetch-clause-does : goal.returns-in-Err-fetch-clause-does
@@ -27,6 +27,6 @@ returns-in-Err-fetch-clause-does g c =
     let io = c.fetch.new.log ++ rest in
     let n = length c.fetch.new.log in
     came_of _ c.came-in-Err-fetch.result _ (objects_of (λ b. (goal.Policy-dyn g (b.vtable, b.value)).seen b.value) c.fetch.new.store) (g.D.Disk.blocks c.fetch.new.disk) t n c.came-in-Err-fetch.ensures
-    (write_at _ c.in-Ok.b (world_of_store s) o (objects_of (λ b. (goal.Policy-dyn g (b.vtable, b.value)).seen b.value) c.fetch.new.store) blocks c.args.p c.args.off n c.args.bytes.now io (g.D.Disk.blocks c.fetch.new.disk) _ c.in-Ok.ensures.value
-    (fetch_failed (write_fetched o blocks c.args.off c.args.bytes.now) (fetch (world_of_store s) (o.things.pol 1) c.args.p c.in-Ok.b None o.things.cache blocks io) o (objects_of (λ b. (goal.Policy-dyn g (b.vtable, b.value)).seen b.value) c.fetch.new.store) blocks
+    (write_at _ c.in-Ok.b (world_of_store s) o (objects_of (λ b. (goal.Policy-dyn g (b.vtable, b.value)).seen b.value) c.fetch.new.store) blocks c.args.p c.args.off n c.args.bytes.now c.args.answer io (g.D.Disk.blocks c.fetch.new.disk) _ c.in-Ok.ensures.value
+    (fetch_failed (write_fetched o blocks c.args.off c.args.bytes.now) (fetch (world_of_store s) (o.things.pol 1) c.args.p c.in-Ok.b c.args.answer o.things.cache blocks io) o (objects_of (λ b. (goal.Policy-dyn g (b.vtable, b.value)).seen b.value) c.fetch.new.store) blocks
     c.in-Err-fetch.field-0 (cache_of c.fetch.new.store) (g.D.Disk.blocks c.fetch.new.disk) n refl (c.in-Err-fetch.ensures.does blocks rest tells) c.in-Err-fetch.ensures.kept))
