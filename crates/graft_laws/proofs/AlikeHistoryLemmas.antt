@@ -16,9 +16,9 @@ use Rattle.kernel_model.specs.Levels.{Level, Config, Effect, is_going_on, image_
 use Rattle.kernel_model.specs.GraftStep.{micro, micro_on}
 use Rattle.kernel_model.specs.History.{Mark, Stepped, Fell, Trace, with_effects, first_trace, trace_after, trace_fallen, level_ends, outer_pasts, effects_on, owner_among, mark_on, marks_on, begin, begin_at, begin_with, replay}
 use Rattle.kernel_model.specs.Alike.{LevelsAlike, ConfigsAlike, AgreeOn, is_held_in}
-use Rattle.kernel_model.specs.Laws.{Laws, IsStanding}
+use Rattle.kernel_model.specs.Laws.{Laws, IsStanding, NeedsGraftsExclusively}
 use Rattle.graft_laws.specs.Alike.{OutcomesAlike}
-use Rattle.graft_laws.specs.Histories.{NeedsGraftsExclusively, IsReplayed, TracesAlike, HistoriesAlike}
+use Rattle.graft_laws.specs.Histories.{IsReplayed, TracesAlike, HistoriesAlike}
 use Rattle.graft_laws.proofs.PointLemmas.{or_left}
 use Rattle.graft_laws.proofs.HoldLemmas.{outermost_held, touch_all_gives}
 use Rattle.graft_laws.proofs.LevelsAlikeLemmas.{length_alike}
@@ -237,10 +237,10 @@ begin_alike m laws owns v images s u p t a first second asks replayed same =
     below_suc n = omega arith
 
 pub histories_alike : (m : Meaning) → HistoriesAlike m
-histories_alike m v images s u p t ks z laws owns first second e stand same =
+histories_alike m v images s u p t ks z laws first second e stand same =
     let f = replay_split m v images s p t ks z e in
     let all = all_stand z.config stand in
-    let one = beginnings_stand m laws owns v images s p t f.0 first f.1 (marks_stood v images p ks (first_trace f.0) z f.2 all) in
+    let one = beginnings_stand m laws laws.need.grafts v images s p t f.0 first f.1 (marks_stood v images p ks (first_trace f.0) z f.2 all) in
     by_asks (m.asks v s p t) refl f.0 f.1 one f.2 all
   where
     is_it : (c d : Config) → Some c ≡ Some d → c ≡ d
@@ -261,4 +261,4 @@ histories_alike m v images s u p t ks z laws owns first second e stand same =
         let here = is_it begun c h in
         let own = subst (IsReplayed v s) (sym here) one in
         let on = subst (λ (x : Config). marks_on v images p ks (first_trace x) ≡ Some z) (sym here) marks in
-        by_begin begun own on all (begin_alike m laws owns v images s u p t a first second f own (λ o k. same o (marks_hold v images p ks (first_trace begun) z o on k)))
+        by_begin begun own on all (begin_alike m laws laws.need.grafts v images s u p t a first second f own (λ o k. same o (marks_hold v images p ks (first_trace begun) z o on k)))

@@ -15,11 +15,11 @@ use Rattle.kernel_model.specs.History.{begin, begin_at, begin_with, first_trace}
 use Rattle.kernel_model.specs.Meaning.{Meaning, Stage}
 use Rattle.kernel_model.specs.Needs.{payer_needs}
 use Rattle.kernel_model.specs.Alike.{is_needed, is_needed_exclusively, is_exclusive, is_held_in}
-use Rattle.kernel_model.specs.Laws.{Laws, IsStanding, IsInRange, before_point, needs_of_point}
+use Rattle.kernel_model.specs.Laws.{Laws, IsStanding, IsInRange, before_point, needs_of_point, NeedsGraftsExclusively}
 use Rattle.kernel_model.specs.Objects.{same_object}
 use Rattle.kernel_model.specs.SameObject.{same_object_self}
 use Rattle.kernel_laws.proofs.LevelLemmas.{each_from}
-use Rattle.graft_laws.specs.Histories.{GraftsStand, NeedsGraftsExclusively, HasRange, IsReplayed, BeginningsReplay, HistoriesReplay}
+use Rattle.graft_laws.specs.Histories.{GraftsStand, HasRange, IsReplayed, BeginningsReplay, HistoriesReplay}
 use Rattle.graft_laws.proofs.PointLemmas.{or_right}
 use Rattle.graft_laws.proofs.HoldLemmas.{touch_all_from, touch_all_takes, exclusive_is}
 use Rattle.graft_laws.proofs.RangeLemmas.{needed_contains}
@@ -147,12 +147,12 @@ beginnings_stand m laws owns v images s p t c standing e stand = by_asks (m.asks
         (begin_replays m laws owns v images s p t a standing f (subst (λ (d : Config). AllStand d.now.accounts d.levels) (sym same) stand).0)
 
 pub beginnings_replay : (m : Meaning) → BeginningsReplay m
-beginnings_replay m v images s p t c laws owns standing e stand = beginnings_stand m laws owns v images s p t c standing e (all_stand c stand)
+beginnings_replay m v images s p t c laws standing e stand = beginnings_stand m laws laws.need.grafts v images s p t c standing e (all_stand c stand)
 
 -- ---- whole histories
 
 pub histories_replay : (m : Meaning) → HistoriesReplay m
-histories_replay m v images s p t ks z laws owns standing e stand =
+histories_replay m v images s p t ks z laws standing e stand =
     let f = replay_split m v images s p t ks z e in
     let all = all_stand z.config stand in
-    marks_replay v images p s ks (first_trace f.0) z f.2 (beginnings_stand m laws owns v images s p t f.0 standing f.1 (marks_stood v images p ks (first_trace f.0) z f.2 all)) all
+    marks_replay v images p s ks (first_trace f.0) z f.2 (beginnings_stand m laws laws.need.grafts v images s p t f.0 standing f.1 (marks_stood v images p ks (first_trace f.0) z f.2 all)) all

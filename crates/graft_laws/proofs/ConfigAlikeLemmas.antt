@@ -14,12 +14,13 @@ use Rattle.kernel_model.specs.Levels.{Level, Config, Outcome, is_going_on, code_
 use Rattle.kernel_model.specs.GraftStep.{micro, micro_on, next_needs}
 use Rattle.kernel_model.specs.Sound.{IsSoundStore, IsSoundConfig, once_if}
 use Rattle.kernel_model.specs.Alike.{AgreeOn, LevelsAlike, ConfigsAlike, is_held_in}
+use Rattle.kernel_model.specs.Laws.{answer_objects}
 use Rattle.kernel_laws.specs.Soundness.{found_by}
 use Rattle.kernel_laws.specs.Undoing.{IsOnceIn}
 use Rattle.kernel_laws.proofs.LevelLemmas.{AreHeld}
 use Rattle.kernel_laws.proofs.ConfigLemmas.{first_of_found, outside_held, drop_held, levels_held}
 use Rattle.kernel_laws.proofs.SoundConfigLemmas.{sound_held}
-use Rattle.graft_laws.specs.Alike.{point_objects, answer_objects, AreHeldBy, AsksAreHeld, AnswerIsHeld, OutcomesAlike, InstructionsAlike, DropsAlike, PointsStayHeld}
+use Rattle.graft_laws.specs.Alike.{point_objects, AreHeldBy, AsksAreHeld, AnswerIsHeld, OutcomesAlike, InstructionsAlike, DropsAlike, PointsStayHeld}
 use Rattle.graft_laws.proofs.ObjectLemmas.{undo_all_keeps, same_thing}
 use Rattle.graft_laws.proofs.PointLemmas.{AreSame, held_same, default_same, valid_same, answer_of_point, or_right}
 use Rattle.graft_laws.proofs.HoldLemmas.{outermost_held}

@@ -23,8 +23,7 @@ use Rattle.kernel_model.specs.Kernel.{Call, Blocker, Entry, Kernel, Run, noted, 
 use Rattle.kernel_model.specs.Blocking.{config_in, levels_in, levels_of, trace_of, holds, needs, blocker, blocker_from}
 use Rattle.kernel_model.specs.Settle.{settled, step}
 use Rattle.kernel_model.specs.Events.{in_order, expired, counted, ticked, wanted, innermost, begun, sys_event, steps, step_event, drop_marked, drop_call, times_out, waiter_action, holder_action, action, entry_action, actions, event_on, MOST_STEPS}
-use Rattle.kernel_model.specs.Laws.{Laws}
-use Rattle.graft_laws.specs.Histories.{NeedsGraftsExclusively}
+use Rattle.kernel_model.specs.Laws.{Laws, NeedsGraftsExclusively}
 use Rattle.graft_laws.specs.Kernels.{IsSoundRun, SettlingStaysSound, EventsStaySound}
 use Rattle.graft_laws.proofs.ShapeLemmas.{contrary}
 use Rattle.graft_laws.proofs.HolderLemmas.{holds_of}
@@ -253,8 +252,8 @@ module _ (m : Meaning) (laws : Laws m) (owns : NeedsGraftsExclusively m) where
       by_lives false e = noted_sound m (Refused number NoProcess) r h
 
 pub settling_stays_sound : (m : Meaning) → SettlingStaysSound m
-settling_stays_sound m r laws owns h = settled_sound m laws owns r h
+settling_stays_sound m r laws h = settled_sound m laws laws.need.grafts r h
 
 pub events_stay_sound : (m : Meaning) → EventsStaySound m
-events_stay_sound m k blocks number e io laws owns h whole =
-    event_sound m laws owns number e (record { kernel = k; blocks = blocks; notes = []; io = io }) (record { kernel = h; blocks = whole })
+events_stay_sound m k blocks number e io laws h whole =
+    event_sound m laws laws.need.grafts number e (record { kernel = k; blocks = blocks; notes = []; io = io }) (record { kernel = h; blocks = whole })

@@ -1,5 +1,5 @@
 -- The history after the drop of a level above 0 leads to the config that the drop gave.
-use Rattle.std.specs.Prelude.{◌≡◌, ℕ, suc, ◌<◌, ◌≤◌, ◌==◌, Bool, true, false, List, [], ◌∷◌, ◌++◌, length, take, reverse, Contains, Option, Some, None}
+use Rattle.std.specs.Prelude.{◌≡◌, ℕ, suc, ◌<◌, ◌≤◌, ◌==◌, Bool, true, false, List, [], ◌∷◌, ◌++◌, length, take, reverse, Contains, Option, Some, None, ◌⊎◌}
 use Rattle.std.proofs.Common.{arith, refl, subst, sym, ap, ◌∙◌, inl, inr}
 use Rattle.std.proofs.lemmas.Bool.{cases_Bool}
 use Rattle.std.proofs.lemmas.Bool.Decides.{nat_tests}
@@ -18,9 +18,8 @@ use Rattle.kernel_model.specs.Levels.{Level, Config, Effect, Removed, Outcome, l
 use Rattle.kernel_model.specs.GraftStep.{micro, micro_on}
 use Rattle.kernel_model.specs.History.{Mark, Fell, Trace, first_trace, trace_after, trace_fallen, effects_on, owner_among, effects_since, marks_before, fallen, begin, begin_at, begin_with, replay}
 use Rattle.kernel_model.specs.Blocking.{config_in}
-use Rattle.kernel_model.specs.Laws.{Laws, IsStanding}
-use Rattle.graft_laws.specs.Falls.{FallsReplay}
-use Rattle.graft_laws.specs.Histories.{outside_of, NeedsGraftsExclusively, GraftsStand, IsReplayed}
+use Rattle.kernel_model.specs.Laws.{Laws, IsStanding, NeedsGraftsExclusively}
+use Rattle.graft_laws.specs.Histories.{outside_of, GraftsStand, IsReplayed}
 use Rattle.graft_laws.proofs.ShapeLemmas.{at_top, at_inner}
 use Rattle.graft_laws.proofs.MarkLemmas.{replay_split, replay_join, fell_join, marks_join}
 use Rattle.graft_laws.proofs.HistoryReplayLemmas.{marks_stood, marks_replay}
@@ -269,7 +268,11 @@ module _ (m : Meaning) (laws : Laws m) (owns : NeedsGraftsExclusively m) (v : Wo
           (record { now = record { accounts = b; things = l.kept }; levels = new ∷ k.0 ∷ k.1 }) (record { now = record { accounts = b; things = l.kept }; levels = new ∷ k.0 ∷ k.1 })
           (remove_again a l.kept new k.0 k.1 l.owner l.point held (h.sound.grafts l among)) refl)))
 
-pub falls_replay : (m : Meaning) → FallsReplay m
+-- the same of a history from where a call stands, where the graft of each level stands
+pub falls_replay : (m : Meaning) (v : World) (images : ImageTable) (s : Objects) (p : ℕ) (t : Stage) (ks : List Mark) (now : Trace) (o : Outcome) (d q pt : ℕ) (cause why : Cause) →
+    Laws m → NeedsGraftsExclusively m → IsStanding m v images s p t → replay m v images s p t ks ≡ Some now → GraftsStand now.config →
+    (o ≡ micro v images p now.config) ⊎ (o ≡ drop_level v now.config.now now.config.levels (suc d) why) → o.said ≡ Micro.Dropped (suc d) q pt cause →
+    config_in (replay m v images s p t (fallen now ks o.effects (suc d))) ≡ Some o.config
 falls_replay m v images s p t ks now o d q pt cause why laws owns standing leads stand (inl micro_is) said =
     subst (λ (x : Outcome). config_in (replay m v images s p t (fallen now ks x.effects (suc d))) ≡ Some x.config) (sym micro_is)
     (micro_falls m laws owns v images s p t ks now standing leads stand now.config.now now.config.levels refl d q pt cause (ap (λ (x : Outcome). x.said) (sym micro_is) ∙ said))

@@ -23,13 +23,13 @@ use Rattle.kernel_model.specs.Settle.{lost_objects}
 use Rattle.kernel_model.specs.InPlace.{is_changed_in}
 use Rattle.kernel_model.specs.Alike.{is_exclusive, is_needed_exclusively}
 use Rattle.kernel_model.specs.Objects.{same_object}
-use Rattle.kernel_model.specs.Laws.{Laws, IsStanding, before_point, needs_of_point}
+use Rattle.kernel_model.specs.Laws.{Laws, IsStanding, before_point, needs_of_point, NeedsGraftsExclusively}
 use Rattle.kernel_laws.specs.Soundness.{WorksOn, AnswersRightly, ReplayWorks}
 use Rattle.kernel_laws.proofs.StoreLemmas.{remove_work}
 use Rattle.kernel_laws.proofs.InstructionLemmas.{instructions_work}
 use Rattle.kernel_laws.proofs.HistoryLemmas.{histories_work}
 use Rattle.kernel_laws.proofs.FrameLemmas.{changes_what_is_held}
-use Rattle.graft_laws.specs.Histories.{NeedsGraftsExclusively, GraftsStand, IsReplayed}
+use Rattle.graft_laws.specs.Histories.{GraftsStand, IsReplayed}
 use Rattle.graft_laws.proofs.PointLemmas.{or_cases, or_left, or_right}
 use Rattle.graft_laws.proofs.HoldLemmas.{touch_all_takes, outermost_changed}
 use Rattle.graft_laws.proofs.GrownLemmas.{AreGrown, grown_changed, grown_answer}
@@ -131,7 +131,7 @@ module _ (m : Meaning) (laws : Laws m) (owns : NeedsGraftsExclusively m) where
             point = a;
             asks = f;
             works = subst (ReplayWorks v s (Some a)) e (subst (λ x. ReplayWorks v s x (replay m v images s p t ks)) f (histories_work m v images s p t ks standing.store));
-            replayed = histories_replay m v images s p t ks now laws owns standing e stand;
+            replayed = histories_replay m v images s p t ks now laws standing e stand;
             base = λ o needs. marks_changed v images p ks (first_trace begun) now o on
                 (or_left (is_held_exclusively (touch_all (m.need v s p t) untouched o)) false (ap is_held_exclusively (touch_all_takes (m.need v s p t) untouched o needs)));
           }

@@ -9,7 +9,8 @@ use Rattle.kernel_model.specs.Locks.{Touched, is_held, is_held_exclusively}
 use Rattle.kernel_model.specs.Levels.{Level, touch_outermost, outermost_touched, answer_innermost}
 use Rattle.kernel_model.specs.InPlace.{is_changed_in}
 use Rattle.kernel_model.specs.Alike.{is_held_in}
-use Rattle.graft_laws.specs.Alike.{point_objects, answer_objects, AreHeldBy, AsksAreHeld, AnswerIsHeld}
+use Rattle.kernel_model.specs.Laws.{answer_objects}
+use Rattle.graft_laws.specs.Alike.{point_objects, AreHeldBy, AsksAreHeld, AnswerIsHeld}
 use Rattle.kernel_laws.proofs.LevelLemmas.{touch_holds}
 use Rattle.graft_laws.proofs.PointLemmas.{or_cases, or_left, or_right}
 use Rattle.graft_laws.proofs.HoldLemmas.{touch_held, exclusive_is}

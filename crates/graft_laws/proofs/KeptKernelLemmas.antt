@@ -19,10 +19,10 @@ use Rattle.kernel_model.specs.Blocking.{config_in, config_of, levels_in, levels_
 use Rattle.kernel_model.specs.InPlace.{is_changed_in}
 use Rattle.kernel_model.specs.Sound.{IsSoundState, IsSoundKernel, clash, count_of, in_the_order}
 use Rattle.kernel_model.specs.Alike.{LevelsAlike, SameFiles, is_held_in, is_needed, is_needed_exclusively}
-use Rattle.kernel_model.specs.Laws.{Laws}
+use Rattle.kernel_model.specs.Laws.{Laws, NeedsGraftsExclusively}
 use Rattle.kernel_model.specs.Claims.{IsStable}
 use Rattle.kernel_laws.proofs.LevelLemmas.{each_from, each_contains}
-use Rattle.graft_laws.specs.Histories.{NeedsGraftsExclusively, IsReplayed}
+use Rattle.graft_laws.specs.Histories.{IsReplayed}
 use Rattle.graft_laws.proofs.LevelsAlikeLemmas.{length_alike}
 use Rattle.graft_laws.proofs.ShapeLemmas.{contrary}
 use Rattle.graft_laws.proofs.StandLemmas.{AllStand}

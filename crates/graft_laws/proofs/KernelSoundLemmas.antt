@@ -23,11 +23,10 @@ use Rattle.kernel_model.specs.Settle.{lost_objects, finish_on, piece_at, piece_s
 use Rattle.kernel_model.specs.InPlace.{is_changed_in}
 use Rattle.kernel_model.specs.Sound.{IsSoundKernel, HasWholeBlocks}
 use Rattle.kernel_model.specs.Alike.{is_held_in, is_needed, is_needed_exclusively}
-use Rattle.kernel_model.specs.Laws.{Laws, IsReady, continues}
+use Rattle.kernel_model.specs.Laws.{Laws, IsReady, continues, NeedsGraftsExclusively}
 use Rattle.kernel_laws.proofs.LevelLemmas.{each_contains}
 use Rattle.kernel_laws.proofs.StepLemmas.{alike_disk, right_answer}
 use Rattle.kernel_laws.proofs.SoundConfigLemmas.{configs_stay_sound}
-use Rattle.graft_laws.specs.Histories.{NeedsGraftsExclusively}
 use Rattle.graft_laws.proofs.HoldLemmas.{touch_all_from, touch_all_changed}
 use Rattle.graft_laws.proofs.GrownLemmas.{AreGrown}
 use Rattle.graft_laws.proofs.TurnParts.{IsEnded, not_going}

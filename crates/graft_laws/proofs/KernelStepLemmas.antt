@@ -17,9 +17,8 @@ use Rattle.kernel_model.specs.Events.{drop_call, drop_marked}
 use Rattle.kernel_model.specs.InPlace.{is_changed_in}
 use Rattle.kernel_model.specs.Sound.{IsSoundConfig, IsSoundKernel, HasWholeBlocks}
 use Rattle.kernel_model.specs.Alike.{is_held_in}
-use Rattle.kernel_model.specs.Laws.{Laws}
+use Rattle.kernel_model.specs.Laws.{Laws, NeedsGraftsExclusively}
 use Rattle.kernel_laws.proofs.SoundConfigLemmas.{drops_stay_sound}
-use Rattle.graft_laws.specs.Histories.{NeedsGraftsExclusively}
 use Rattle.graft_laws.specs.Stability.{is_taken_in}
 use Rattle.graft_laws.specs.Kernels.{IsSoundRun, StepsStaySound, DropsStaySound}
 use Rattle.graft_laws.proofs.DropReplayLemmas.{drop_at as dropped_at}
@@ -162,7 +161,7 @@ module _ (m : Meaning) (laws : Laws m) (owns : NeedsGraftsExclusively m) where
           })))
 
 pub steps_stay_sound : (m : Meaning) → StepsStaySound m
-steps_stay_sound m r p c laws owns h e unblocked = step_sound m laws owns r p c h e unblocked
+steps_stay_sound m r p c laws h e unblocked = step_sound m laws laws.need.grafts r p c h e unblocked
 
 pub drops_stay_sound_run : (m : Meaning) → DropsStaySound m
-drops_stay_sound_run m r p n cause laws owns h low = drop_sound m laws owns r p n cause h low
+drops_stay_sound_run m r p n cause laws h low = drop_sound m laws laws.need.grafts r p n cause h low

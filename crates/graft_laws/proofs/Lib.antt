@@ -19,7 +19,6 @@ pub mod ConfigAlikeLemmas
 pub mod AlikeLemmas
 pub mod BeginningLemmas
 pub mod DropReplayLemmas
-pub mod PlainNeedsLemmas
 pub mod AnswerLemmas
 pub mod AlikeEffectLemmas
 pub mod AlikeMarkLemmas

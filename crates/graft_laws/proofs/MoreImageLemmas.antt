@@ -20,9 +20,9 @@ use Rattle.kernel_model.specs.Kernel.{Call, Kernel, Run}
 use Rattle.kernel_model.specs.Blocking.{config_in, config_of, levels_in, levels_of, trace_of, locks_from, holds, needs_at, needs_in, needs}
 use Rattle.kernel_model.specs.Sound.{ImagesAreLoaded, IsSoundKernel, clash}
 use Rattle.kernel_model.specs.Alike.{Extends}
-use Rattle.kernel_model.specs.Laws.{Laws, IsStanding}
+use Rattle.kernel_model.specs.Laws.{Laws, IsStanding, NeedsGraftsExclusively}
 use Rattle.kernel_laws.proofs.ImageLemmas.{more_images}
-use Rattle.graft_laws.specs.Histories.{NeedsGraftsExclusively, IsReplayed}
+use Rattle.graft_laws.specs.Histories.{IsReplayed}
 use Rattle.graft_laws.specs.Kernels.{IsSoundRun, ImagesStaySound}
 use Rattle.graft_laws.proofs.StandLemmas.{AllStand}
 use Rattle.graft_laws.proofs.MarkLemmas.{marks_split, replay_split}
@@ -209,5 +209,5 @@ module _ (m : Meaning) (laws : Laws m) (owns : NeedsGraftsExclusively m) (r : Ru
       }
 
 pub images_stay_sound : (m : Meaning) → ImagesStaySound m
-images_stay_sound m r more laws owns sound extends =
-    (record { kernel = grown_sound m laws owns r sound more extends; blocks = sound.blocks }, config_same m laws owns r sound more extends)
+images_stay_sound m r more laws sound extends =
+    (record { kernel = grown_sound m laws laws.need.grafts r sound more extends; blocks = sound.blocks }, config_same m laws laws.need.grafts r sound more extends)

@@ -23,10 +23,10 @@ use Rattle.kernel_model.specs.Blocking.{config_in, config_of, levels_in, levels_
 use Rattle.kernel_model.specs.InPlace.{is_changed_in}
 use Rattle.kernel_model.specs.Sound.{IsSoundKernel, HasWholeBlocks, ImagesAreLoaded}
 use Rattle.kernel_model.specs.Alike.{is_exclusive, is_held_in, is_needed, is_needed_exclusively}
-use Rattle.kernel_model.specs.Laws.{Laws}
+use Rattle.kernel_model.specs.Laws.{Laws, NeedsGraftsExclusively}
 use Rattle.kernel_model.specs.Claims.{IsStable}
 use Rattle.plain_rules.specs.Ledgers.{at_here}
-use Rattle.graft_laws.specs.Histories.{NeedsGraftsExclusively, IsReplayed}
+use Rattle.graft_laws.specs.Histories.{IsReplayed}
 use Rattle.graft_laws.specs.Kernels.{CallsReplay}
 use Rattle.graft_laws.proofs.PointLemmas.{or_cases}
 use Rattle.graft_laws.proofs.ShapeLemmas.{contrary, at_below}
@@ -268,4 +268,4 @@ module _ (m : Meaning) (laws : Laws m) (owns : NeedsGraftsExclusively m) where
       ns (subst (OwnCall m q ns k) same kept.own) (caller_low m laws owns r q c h e) are_free)
 
 pub calls_replay : (m : Meaning) → CallsReplay m
-calls_replay m r p c laws owns sound e = all_replayed m laws owns r sound.kernel sound.blocks p c e
+calls_replay m r p c laws sound e = all_replayed m laws laws.need.grafts r sound.kernel sound.blocks p c e

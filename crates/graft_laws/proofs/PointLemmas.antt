@@ -15,7 +15,8 @@ use Rattle.kernel_model.specs.Access.{early_refusal, needed, asked_point, asked_
 use Rattle.kernel_model.specs.Levels.{Level}
 use Rattle.kernel_model.specs.GraftStep.{is_vain_ask}
 use Rattle.kernel_model.specs.Alike.{is_exclusive, is_needed, is_needed_exclusively, is_held_in}
-use Rattle.graft_laws.specs.Alike.{point_objects, answer_objects, AreHeldBy}
+use Rattle.kernel_model.specs.Laws.{answer_objects}
+use Rattle.graft_laws.specs.Alike.{point_objects, AreHeldBy}
 
 -- things have the same values of each of these objects
 abbrev pub AreSame : List Object → Things → Things → Type 0

@@ -16,7 +16,6 @@ use Rattle.kernel_model.specs.Laws.{Laws}
 use Rattle.kernel_model.specs.Script.{Entry, Blank, Frames, Patience, Grant, Boot, Happens, Loads, Raw, ScriptFault, LINE_BYTES, IMAGE_DIGITS, is_blank, is_setup, same_bool, call_of, words_of, first_word, other_words, command_named, words_said, forms_of, happens_by, loads_by, entry_of, entry_by, entry_at, parsed_line}
 use Rattle.kernel_model.specs.Session.{Build, Session, Written, silent, image_added, image_answer, running_in, after_entry, after_built, after_parse, after_line, first_io, later_io, session_after}
 use Rattle.plain_rules.specs.Ledgers.{at_other}
-use Rattle.graft_laws.specs.Histories.{NeedsGraftsExclusively}
 use Rattle.graft_laws.specs.Sessions.{IsSoundSession, LinesStaySound}
 use Rattle.graft_laws.proofs.EventLemmas.{events_stay_sound}
 use Rattle.graft_laws.proofs.MoreImageLemmas.{images_stay_sound}
@@ -90,7 +89,7 @@ extends_at slot i images free = λ j x e. at_other slot j (Some i) images (λ sa
     taken : (j : ℕ) (x : Image) → images j ≡ Some x → images j ≡ None → ⊥
     taken j x e f = cc
 
-module _ (b : Build) (key : List ℕ) (size : ℕ) (laws : Laws b.meaning) (owns : NeedsGraftsExclusively b.meaning) where
+module _ (b : Build) (key : List ℕ) (size : ℕ) (laws : Laws b.meaning) where
   -- a kernel after an image line
   image_kept : (slot : ℕ) (x : Result Image LoadFault) (k : Kernel) (blocks : Blocks) → IsSoundKernel b.meaning k → HasWholeBlocks k.world blocks →
       IsSoundKernel b.meaning (image_answer slot x k).0 × HasWholeBlocks (image_answer slot x k).0.world blocks
@@ -99,7 +98,7 @@ module _ (b : Build) (key : List ℕ) (size : ℕ) (laws : Laws b.meaning) (owns
       by_image : (x : Result Image LoadFault) → k.images slot ≡ None → IsSoundKernel b.meaning (image_added slot x k).0 × HasWholeBlocks (image_added slot x k).0.world blocks
       by_image (Err fault) free = (h, whole)
       by_image (Ok i) free =
-          let r = images_stay_sound b.meaning (record { kernel = k; blocks = blocks; notes = []; io = [] }) (at slot (Some i) k.images) laws owns (record { kernel = h; blocks = whole })
+          let r = images_stay_sound b.meaning (record { kernel = k; blocks = blocks; notes = []; io = [] }) (at slot (Some i) k.images) laws (record { kernel = h; blocks = whole })
           (extends_at slot i k.images free) in
           (r.0.kernel, r.0.blocks)
 
@@ -121,7 +120,7 @@ module _ (b : Build) (key : List ℕ) (size : ℕ) (laws : Laws b.meaning) (owns
   running_sound : (s : Session) (e : Entry) (k : Kernel) (io : List Bool) → s.kernel ≡ Some k → IsSoundKernel b.meaning k → HasWholeBlocks k.world s.blocks →
       IsSoundSession b.meaning (running_in b key size s e (Some k) io).session
   running_sound s (Happens e) k io is h whole =
-      let r = events_stay_sound b.meaning k s.blocks (suc s.events) e io laws owns h whole in
+      let r = events_stay_sound b.meaning k s.blocks (suc s.events) e io laws h whole in
       record { kernel = (event b.meaning k s.blocks (suc s.events) e io).kernel; is = refl; sound = r.kernel; blocks = r.blocks }
   running_sound s (Loads slot bytes) k io is h whole =
       let r = image_kept slot (load key bytes) k s.blocks h whole in record { kernel = (image_answer slot (load key bytes) k).0; is = refl; sound = r.0; blocks = r.1 }
@@ -175,4 +174,4 @@ module _ (b : Build) (key : List ℕ) (size : ℕ) (laws : Laws b.meaning) (owns
   lines_sound s (text ∷ texts) ios h = lines_sound (after_line b key size s text (first_io ios)).session texts (later_io ios) (line_sound s text (first_io ios) h)
 
 pub lines_stay_sound : LinesStaySound
-lines_stay_sound b key size s texts ios laws owns h = lines_sound b key size laws owns s texts ios h
+lines_stay_sound b key size s texts ios laws h = lines_sound b key size laws s texts ios h

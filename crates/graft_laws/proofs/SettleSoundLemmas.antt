@@ -21,10 +21,9 @@ use Rattle.kernel_model.specs.Settle.{entry_with, first_free_in, first_free, ord
 use Rattle.kernel_model.specs.Events.{in_order, waits_note, graft_note, last_note, last, begun, times_out}
 use Rattle.kernel_model.specs.Sound.{IsSoundKernel}
 use Rattle.kernel_model.specs.Alike.{LevelsAlike}
-use Rattle.kernel_model.specs.Laws.{Laws}
+use Rattle.kernel_model.specs.Laws.{Laws, NeedsGraftsExclusively}
 use Rattle.kernel_model.specs.Claims.{IsStable}
 use Rattle.plain_rules.specs.Ledgers.{at_here, at_other}
-use Rattle.graft_laws.specs.Histories.{NeedsGraftsExclusively}
 use Rattle.graft_laws.specs.Kernels.{IsSoundRun}
 use Rattle.graft_laws.proofs.ShapeLemmas.{contrary}
 use Rattle.graft_laws.proofs.EffectLemmas.{same_self}

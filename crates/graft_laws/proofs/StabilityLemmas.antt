@@ -15,10 +15,10 @@ use Rattle.kernel_model.specs.Events.{drop_call}
 use Rattle.kernel_model.specs.InPlace.{is_changed_in}
 use Rattle.kernel_model.specs.Sound.{IsSoundKernel, HasWholeBlocks}
 use Rattle.kernel_model.specs.Alike.{LevelsAlike, ConfigsAlike, is_held_in, is_needed_exclusively}
-use Rattle.kernel_model.specs.Laws.{Laws, IsStanding}
+use Rattle.kernel_model.specs.Laws.{Laws, IsStanding, NeedsGraftsExclusively}
 use Rattle.kernel_model.specs.Claims.{IsStable, Stability}
-use Rattle.graft_laws.specs.Histories.{NeedsGraftsExclusively, HasRange}
-use Rattle.graft_laws.specs.Stability.{is_taken_in, is_taken_by, CommitsWhatIsTaken, CallsAreStable}
+use Rattle.graft_laws.specs.Histories.{HasRange}
+use Rattle.graft_laws.specs.Stability.{is_taken_in, is_taken_by, CommitsWhatIsTaken}
 use Rattle.graft_laws.proofs.EffectLemmas.{same_self}
 use Rattle.graft_laws.proofs.AlikeHistoryLemmas.{histories_alike}
 use Rattle.graft_laws.proofs.HolderLemmas.{apart_unchanged, free_unneeded}
@@ -31,8 +31,8 @@ use Rattle.graft_laws.proofs.StepCommitLemmas.{stands_in, trace_is, config_is, l
 pub commits_what_is_taken : (m : Meaning) → CommitsWhatIsTaken m
 commits_what_is_taken m =
     record {
-      steps = λ r p o laws owns h whole range free. stepped_by m r p o laws owns h whole range free (r.kernel.call p) refl;
-      drops = λ r p d cause o laws owns h whole range free. dropped_by m r p d cause o laws owns h whole range free (r.kernel.call p) refl;
+      steps = λ r p o laws h whole range free. stepped_by m r p o laws laws.need.grafts h whole range free (r.kernel.call p) refl;
+      drops = λ r p d cause o laws h whole range free. dropped_by m r p d cause o laws laws.need.grafts h whole range free (r.kernel.call p) refl;
     }
   where
     stepped_by : (m : Meaning) (r : Run) (p : ℕ) (o : Object) → Laws m → NeedsGraftsExclusively m → IsSoundKernel m r.kernel → HasWholeBlocks r.kernel.world r.blocks → HasRange o →
@@ -106,7 +106,7 @@ module _ (m : Meaning) (laws : Laws m) (owns : NeedsGraftsExclusively m) where
       let g = has_graft m k p c e in
       let first = graft_of_call m laws owns r p g.call g.marks g.trace h whole g.is g.marked g.leads in
       let levels = levels_are m laws owns k p g.trace.config (config_is m laws owns k p g.call g.trace g.is g.leads) in
-      let other = histories_alike m k.world k.images k.objects l.objects p g.call.stage g.marks g.trace laws owns (stands_in m laws owns r p g.call h whole g.is).standing
+      let other = histories_alike m k.world k.images k.objects l.objects p g.call.stage g.marks g.trace laws (stands_in m laws owns r p g.call h whole g.is).standing
       (still_standing r u p q g.call free h ne g.is commits) (trace_is m laws owns k p g.call g.marks g.marked ∙ g.leads) first.replayed.sound.grafts
       (λ o held. commits.changes o (first.replayed.ranges o held)
       (unheld o (caller_low r p g.call h g.is) (subst (λ ls. length ls ≤ 4) (sym levels) first.replayed.sound.most) (ap (λ ls. is_held_in ls o) levels ∙ held))) in
@@ -161,9 +161,8 @@ module _ (m : Meaning) (laws : Laws m) (owns : NeedsGraftsExclusively m) where
           stable_after r (drop_call m q (r.kernel.call q) d cause r) p q (λ o. is_changed_in (levels_of m r.kernel q) o ≡ false) h whole ne (drop_commits m laws owns r q c d cause h whole e)
           (λ o low few held. apart_unchanged m r.kernel p q o h ne low (caller_low r q c h e) held)
 
--- each table under which grafts are needed exclusively
-pub calls_are_stable : (m : Meaning) → CallsAreStable m
-calls_are_stable m owns = record {
-  steps = λ r p q c laws h whole ne e free. (stable m laws owns).steps r p q c laws h whole ne e free;
-  drops = λ r p q d cause laws h whole ne. (stable m laws owns).drops r p q d cause laws h whole ne;
+pub calls_are_stable : (m : Meaning) → Stability m
+calls_are_stable m = record {
+  steps = λ r p q c laws h whole ne e free. (stable m laws laws.need.grafts).steps r p q c laws h whole ne e free;
+  drops = λ r p q d cause laws h whole ne. (stable m laws laws.need.grafts).drops r p q d cause laws h whole ne;
 }

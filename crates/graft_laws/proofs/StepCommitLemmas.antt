@@ -16,8 +16,7 @@ use Rattle.kernel_model.specs.Events.{drop_at, drop_marked, drop_call}
 use Rattle.kernel_model.specs.InPlace.{is_changed_in}
 use Rattle.kernel_model.specs.Sound.{IsSoundKernel, HasWholeBlocks}
 use Rattle.kernel_model.specs.Alike.{is_needed_exclusively}
-use Rattle.kernel_model.specs.Laws.{Laws}
-use Rattle.graft_laws.specs.Histories.{NeedsGraftsExclusively}
+use Rattle.kernel_model.specs.Laws.{Laws, NeedsGraftsExclusively}
 use Rattle.graft_laws.specs.Stability.{is_taken_in, is_taken_by}
 use Rattle.graft_laws.proofs.CommitLemmas.{Commits, Stands, marks_commit, nothing_commits, default_commits, outcome_commits}
 use Rattle.graft_laws.proofs.GraftEndLemmas.{IsInGraft, in_graft, before_free, micro_ends, drop_ends}

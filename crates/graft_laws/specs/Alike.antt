@@ -10,6 +10,7 @@ use Rattle.kernel_model.specs.Levels.{Level, Config, Outcome, drop_level}
 use Rattle.kernel_model.specs.GraftStep.{micro, next_needs}
 use Rattle.kernel_model.specs.Sound.{IsSoundConfig}
 use Rattle.kernel_model.specs.Alike.{AgreeOn, Keeps, ConfigsAlike, is_held_in}
+use Rattle.kernel_model.specs.Laws.{answer_objects}
 
 -- ---- the objects of points
 
@@ -18,12 +19,6 @@ abbrev pub point_objects : PointKind → (q pt : ℕ) → List Object
 point_objects Ahead q pt = OpenFile q pt ∷ Pol 0 ∷ []
 point_objects Victim q pt = Cache ∷ Pol 1 ∷ []
 point_objects Next q pt = Queue ∷ []
-
--- the objects that tell whether an answer of a point is valid
-abbrev pub answer_objects : PointKind → List Object
-answer_objects Ahead = []
-answer_objects Victim = Cache ∷ []
-answer_objects Next = Queue ∷ []
 
 -- each of these objects is held by one of the levels
 abbrev pub AreHeldBy : List Level → List Object → Type 0

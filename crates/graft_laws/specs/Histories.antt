@@ -12,7 +12,7 @@ use Rattle.kernel_model.specs.GraftStep.{micro}
 use Rattle.kernel_model.specs.History.{Mark, Trace, begin, replay}
 use Rattle.kernel_model.specs.InPlace.{is_changed_in}
 use Rattle.kernel_model.specs.Sound.{IsSoundConfig}
-use Rattle.kernel_model.specs.Alike.{ConfigsAlike, is_needed, is_needed_exclusively, is_held_in}
+use Rattle.kernel_model.specs.Alike.{ConfigsAlike, is_held_in}
 use Rattle.kernel_model.specs.Laws.{Laws, IsStanding, IsInRange}
 use Rattle.graft_laws.specs.Alike.{AsksAreHeld}
 
@@ -24,12 +24,6 @@ outside_of n (l ∷ ls) = elim (length ls == n) [ true ↦ ls | false ↦ outsid
 -- the graft of each level stands
 abbrev pub GraftsStand : Config → Type 0
 GraftsStand c = (l : Level) → Contains c.levels l → is_some (c.now.accounts.graft l.owner l.point) ≡ true
-
--- a graft that a piece needs it needs exclusively
-abbrev pub NeedsGraftsExclusively : Meaning → Type 0
-NeedsGraftsExclusively m =
-    (v : World) (s : Objects) (p : ℕ) (t : Stage) (q pt : ℕ) → m.fits v s p t ≡ true → is_needed (Graft q pt) (m.need v s p t) ≡ true →
-    is_needed_exclusively (Graft q pt) (m.need v s p t) ≡ true
 
 -- the numbers of an object are in their ranges; those of a graft may be any, since none stands outside them
 abbrev pub HasRange : Object → Type 0
@@ -53,7 +47,7 @@ pub record IsReplayed (v : World) (s : Objects) (c : Config) : Type 0 where
 -- where a graft call begins
 abbrev pub BeginningsReplay : Meaning → Type 0
 BeginningsReplay m =
-    (v : World) (images : ImageTable) (s : Objects) (p : ℕ) (t : Stage) (c : Config) → Laws m → NeedsGraftsExclusively m →
+    (v : World) (images : ImageTable) (s : Objects) (p : ℕ) (t : Stage) (c : Config) → Laws m →
     IsStanding m v images s p t → begin m v images s p t ≡ Some c → GraftsStand c → IsReplayed v s c
 
 -- after an instruction that doesn't end a level but by an answer to its asker
@@ -65,7 +59,7 @@ InstructionsReplay =
 -- wherever a history leads, if the graft of each level stands there
 abbrev pub HistoriesReplay : Meaning → Type 0
 HistoriesReplay m =
-    (v : World) (images : ImageTable) (s : Objects) (p : ℕ) (t : Stage) (ks : List Mark) (now : Trace) → Laws m → NeedsGraftsExclusively m →
+    (v : World) (images : ImageTable) (s : Objects) (p : ℕ) (t : Stage) (ks : List Mark) (now : Trace) → Laws m →
     IsStanding m v images s p t → replay m v images s p t ks ≡ Some now → GraftsStand now.config → IsReplayed v s now.config
 
 -- after the drop of any level, if one is left; and else all but accounts and grafts is as in the state
@@ -86,7 +80,7 @@ pub record TracesAlike (t u : Trace) : Type 0 where
 -- A history that leads somewhere from a state leads to the like from another state that agrees on what the call holds in the end.
 abbrev pub HistoriesAlike : Meaning → Type 0
 HistoriesAlike m =
-    (v : World) (images : ImageTable) (s u : Objects) (p : ℕ) (t : Stage) (ks : List Mark) (now : Trace) → Laws m → NeedsGraftsExclusively m →
+    (v : World) (images : ImageTable) (s u : Objects) (p : ℕ) (t : Stage) (ks : List Mark) (now : Trace) → Laws m →
     IsStanding m v images s p t → IsStanding m v images u p t → replay m v images s p t ks ≡ Some now → GraftsStand now.config →
     ((o : Object) → is_held_in now.config.levels o ≡ true → SameAt o s u) →
     (other : Trace) × (replay m v images u p t ks ≡ Some other) × TracesAlike now other

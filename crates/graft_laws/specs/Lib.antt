@@ -1,5 +1,4 @@
 pub mod Alike
-pub mod Falls
 pub mod Histories
 pub mod Kernels
 pub mod Points

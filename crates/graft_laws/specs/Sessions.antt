@@ -5,7 +5,6 @@ use Rattle.kernel_model.specs.Kernel.{Kernel}
 use Rattle.kernel_model.specs.Sound.{IsSoundKernel, HasWholeBlocks}
 use Rattle.kernel_model.specs.Laws.{Laws}
 use Rattle.kernel_model.specs.Session.{Build, Session, session_after}
-use Rattle.graft_laws.specs.Histories.{NeedsGraftsExclusively}
 
 -- a session after boot, whose kernel is sound and whose blocks are whole
 pub record IsSoundSession (m : Meaning) (s : Session) : Type 0 where
@@ -17,5 +16,5 @@ pub record IsSoundSession (m : Meaning) (s : Session) : Type 0 where
 -- lines keep it so, whatever they say
 abbrev pub LinesStaySound : Type 0
 LinesStaySound =
-    (b : Build) (key : List ℕ) (size : ℕ) (s : Session) (texts : List (List ℕ)) (ios : List (List Bool)) → Laws b.meaning → NeedsGraftsExclusively b.meaning →
+    (b : Build) (key : List ℕ) (size : ℕ) (s : Session) (texts : List (List ℕ)) (ios : List (List Bool)) → Laws b.meaning →
     IsSoundSession b.meaning s → IsSoundSession b.meaning (session_after b key size s texts ios)

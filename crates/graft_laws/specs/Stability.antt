@@ -12,8 +12,7 @@ use Rattle.kernel_model.specs.InPlace.{is_changed_in}
 use Rattle.kernel_model.specs.Sound.{IsSoundKernel, HasWholeBlocks}
 use Rattle.kernel_model.specs.Alike.{is_needed_exclusively}
 use Rattle.kernel_model.specs.Laws.{Laws}
-use Rattle.kernel_model.specs.Claims.{Stability}
-use Rattle.graft_laws.specs.Histories.{NeedsGraftsExclusively, HasRange}
+use Rattle.graft_laws.specs.Histories.{HasRange}
 
 -- an object that a call of p holds exclusively, or that it needs so where its next step is a piece
 abbrev pub is_taken_in : Meaning → Kernel → ℕ → Object → Option Call → Bool
@@ -27,11 +26,7 @@ is_taken_by m k p o = is_taken_in m k p o (k.call p)
 
 -- What a step commits: changes only of what the call takes; and the drop of a level: only of what the call holds exclusively.
 pub record CommitsWhatIsTaken (m : Meaning) : Type 0 where
-  pub steps : (r : Run) (p : ℕ) (o : Object) → Laws m → NeedsGraftsExclusively m → IsSoundKernel m r.kernel → HasWholeBlocks r.kernel.world r.blocks → HasRange o →
+  pub steps : (r : Run) (p : ℕ) (o : Object) → Laws m → IsSoundKernel m r.kernel → HasWholeBlocks r.kernel.world r.blocks → HasRange o →
       is_taken_by m r.kernel p o ≡ false → SameAt o r.kernel.objects (step m p r).kernel.objects
-  pub drops : (r : Run) (p : ℕ) (d : Option ℕ) (cause : Cause) (o : Object) → Laws m → NeedsGraftsExclusively m → IsSoundKernel m r.kernel →
+  pub drops : (r : Run) (p : ℕ) (d : Option ℕ) (cause : Cause) (o : Object) → Laws m → IsSoundKernel m r.kernel →
       HasWholeBlocks r.kernel.world r.blocks → HasRange o → is_changed_in (levels_of m r.kernel p) o ≡ false → SameAt o r.kernel.objects (drop_call m p (r.kernel.call p) d cause r).kernel.objects
-
--- a table that needs grafts exclusively is one under which the calls in flight are stable
-abbrev pub CallsAreStable : Meaning → Type 0
-CallsAreStable m = NeedsGraftsExclusively m → Stability m

@@ -1,6 +1,7 @@
 //! Laws of what a call's steps and drops leave to the other calls. A call of one brings its statement into a proof.
 
-ghost use Rattle.graft_laws.specs.Stability.{CommitsWhatIsTaken, CallsAreStable};
+ghost use Rattle.kernel_model.specs.Claims.{Stability};
+ghost use Rattle.graft_laws.specs.Stability.{CommitsWhatIsTaken};
 
 use kernel_model::Rules;
 
@@ -10,7 +11,7 @@ pub fn commits_what_is_taken<R: Rules>()
 {}
 
 /// Whatever another call does or loses, the replay of a call in a graft has the same levels and the same values of what they
-/// hold, where the table needs grafts exclusively.
+/// hold.
 pub fn calls_are_stable<R: Rules>()
-    ensures { CallsAreStable R.meaning }
+    ensures { Stability R.meaning }
 {}

@@ -8,7 +8,6 @@ fn the_system_calls_have_the_laws(_rt: HostRuntime) {
     histories::beginnings_replay::<PlainRules>();
     histories::histories_replay::<PlainRules>();
     histories::histories_alike::<PlainRules>();
-    histories::falls_replay::<PlainRules>();
     histories::histories_hold_answers::<PlainRules>();
     kernels::steps_stay_sound::<PlainRules>();
     kernels::drops_stay_sound::<PlainRules>();

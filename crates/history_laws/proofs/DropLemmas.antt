@@ -19,7 +19,7 @@ use Rattle.kernel_model.specs.Levels.{Level, Config, Effect, Removed, Outcome, o
 use Rattle.kernel_model.specs.GraftStep.{micro, micro_on}
 use Rattle.kernel_model.specs.History.{Mark, Fell, Past, Trace, begin_at, begin_with, first_trace, effects_on, owner_among, trace_fallen, fallen_if, fell_on, mark_on, marks_on, effects_since, marks_before, fallen}
 use Rattle.kernel_model.specs.Blocking.{config_in}
-use Rattle.history_laws.specs.Fallen.{FallenLevelsReplay}
+use Rattle.kernel_model.specs.Claims.{FallsReplay}
 use Rattle.history_laws.proofs.EffectLemmas.{levels_by, touched_by, accounts_by, CanBeMade, accounts_more, levels_more, made_more, levels_above, levels_length, levels_touched, config_with, made_again}
 use Rattle.history_laws.proofs.ActLemmas.{Next, WhereDropped, Acts, both_pass, instruction_acts}
 use Rattle.history_laws.proofs.PastLemmas.{Began, HasPasts, trace_with}
@@ -256,13 +256,13 @@ module _ (v : World) (images : ImageTable) (p : ℕ) (first : Trace) (q : ℕ) w
       ∙ ap Some (same_config o.config (accounts_by q o.effects w.accounts) l.kept (answer_innermost l.point e.0 e.1 (levels_by q o.effects (k ∷ ls))) acts.accounts x.things x.levels)
 
   -- either of them
-  falls_replay : (ks : List Mark) (now : Trace) (o : Outcome) (d r pt : ℕ) (cause why : Cause) → HasPasts v images p first q ks now.config.now.accounts [] now.config.levels now.pasts →
+  leads_to_drop : (ks : List Mark) (now : Trace) (o : Outcome) (d r pt : ℕ) (cause why : Cause) → HasPasts v images p first q ks now.config.now.accounts [] now.config.levels now.pasts →
       (o ≡ micro v images p now.config) ⊎ (o ≡ drop_level v now.config.now now.config.levels (suc d) why) → o.said ≡ Micro.Dropped (suc d) r pt cause →
       is_some (now.config.now.accounts.graft r pt) ≡ true → Replays ks now (suc d) o
-  falls_replay ks now o d r pt cause why h (inl e) said stands =
+  leads_to_drop ks now o d r pt cause why h (inl e) said stands =
       subst (Replays ks now (suc d)) (sym e)
       (instruction_replays ks now.config.now now.config.levels now.marks now.pasts d r pt cause h (ap (λ (x : Outcome). x.said) (sym e) ∙ said) stands)
-  falls_replay ks now o d r pt cause why h (inr e) said stands =
+  leads_to_drop ks now o d r pt cause why h (inr e) said stands =
       subst (Replays ks now (suc d)) (sym e)
       (drop_replays ks now.config.now now.config.levels now.marks now.pasts d r pt cause why h (ap (λ (x : Outcome). x.said) (sym e) ∙ said) stands)
 
@@ -276,9 +276,9 @@ replay_by v images s p base None ks now o d q pt cause why leads by said stands 
 replay_by v images s p base (Some a) ks now o d q pt cause why leads by said stands =
     let first = first_trace (begin_at images s p base a) in
     let led = marks_lead v images p first a.installer [] ks first now (record { leads = refl; marks = refl; pasts = refl }) leads in
-    falls_replay v images p first a.installer ks now o d q pt cause why led.pasts by said stands
+    leads_to_drop v images p first a.installer ks now o d q pt cause why led.pasts by said stands
 
 -- the history after the drop of a level above the outermost leads to the config that the drop gave, if its graft stood
-pub fallen_levels_replay : (m : Meaning) → FallenLevelsReplay m
-fallen_levels_replay m v images s p t ks now o d q pt cause why leads by said stands =
+pub falls_replay : (m : Meaning) → FallsReplay m
+falls_replay m v images s p t ks now o d q pt cause why leads by said stands =
     replay_by v images s p (m.need v s p t) (m.asks v s p t) ks now o d q pt cause why leads by said stands

@@ -21,7 +21,6 @@ use Rattle.kernel_model.specs.Events.{MOST_STEPS, in_order, counted, ticked, wai
 use Rattle.kernel_model.specs.Sound.{IsSoundKernel, HasWholeBlocks}
 use Rattle.kernel_model.specs.Claims.{Stability}
 use Rattle.history_laws.specs.Notes.{is_drop, is_end, is_data, is_line, note_count, EventsLeaveFewNotes}
-use Rattle.graft_laws.specs.Stability.{CallsAreStable}
 use Rattle.history_laws.proofs.MoveLemmas.{count_more}
 use Rattle.history_laws.proofs.GoLemmas.{goes_self, settled_goes, step_goes}
 use Rattle.history_laws.proofs.NoteLemmas.{sound_stands, leaves_few_notes}
@@ -180,10 +179,10 @@ module _ (m : Meaning) (know : Known m) (stability : Stability m) where
       at_most n h = omega arith
 
 -- an event leaves few notes
-pub events_leave_few_notes : (m : Meaning) → Known m → CallsAreStable m → EventsLeaveFewNotes m
-events_leave_few_notes m know stable grafts k blocks number e io sound whole =
+pub events_leave_few_notes : (m : Meaning) → Known m → Stability m → EventsLeaveFewNotes m
+events_leave_few_notes m know stable k blocks number e io sound whole =
     let ns = (event m k blocks number e io).notes in
-    let drops = event_drops m know (stable grafts) k blocks number e io sound whole in
+    let drops = event_drops m know stable k blocks number e io sound whole in
     let others = leaves_few_notes m know.laws know.instructions know.histories know.effects k blocks number e io sound whole in
     record { drops = drops; others = others; all = in_all (length ns) (note_count is_drop ns) (note_count is_end ns) (note_count is_data ns) (note_count is_line ns) (all_kinds ns) drops others.ends others.data_notes others.lines }
   where

@@ -16,7 +16,6 @@ pub mod InPlaceLemmas
 pub mod InverseLemmas
 pub mod KernelLemmas
 pub mod KernelStepLemmas
-pub mod ModeLemmas
 pub mod MoveLemmas
 pub mod NoteLemmas
 pub mod OrderLemmas

@@ -26,7 +26,7 @@ use Rattle.history_laws.proofs.RecordLemmas.{answer_many}
 use Rattle.history_laws.proofs.ShapeLemmas.{HasShape, ShapeWhereWent, instruction_shape}
 use Rattle.history_laws.proofs.HoldLemmas.{AllOk, NeedsOk, level_drop_ok, instruction_ok}
 use Rattle.history_laws.proofs.FallenLemmas.{one_mark}
-use Rattle.history_laws.proofs.DropLemmas.{fallen_levels_replay}
+use Rattle.history_laws.proofs.DropLemmas.{falls_replay}
 use Rattle.history_laws.proofs.MoveLemmas.{StandsAt}
 use Rattle.history_laws.proofs.StandLemmas.{alike_disk}
 use Rattle.history_laws.proofs.StepMoveLemmas.{WhereCompleted, alike_lost, stands_on, completes, dropped_base, none_completes}
@@ -197,7 +197,7 @@ module _ (m : Meaning) (know : Known m) (r : Run) (sound : IsSoundKernel m r.ker
             (subst (λ y. ShapeWhereWent x.point.installer y o.config) e (instruction_shape v r.kernel.images p x.point.installer t.config.now t.config.levels come.shape))));
         fell = λ d q pt cause e.
             let f = micro_fell v r.kernel.images p t.config.now t.config.levels (suc d) q pt cause e in
-            fallen_levels_replay m v r.kernel.images s p c.stage ks t o d q pt cause cause leads (inl refl) e
+            falls_replay m v r.kernel.images s p c.stage ks t o d q pt cause cause leads (inl refl) e
             (ap (λ i. is_some (t.config.now.accounts.graft i pt)) f.owner ∙ ap (λ i. is_some (t.config.now.accounts.graft f.level.owner i)) f.point ∙ own_sound.grafts f.level f.among);
         fell_stands = λ d q pt cause e.
             let f = micro_fell v r.kernel.images p t.config.now t.config.levels (suc d) q pt cause e in
@@ -233,7 +233,7 @@ module _ (m : Meaning) (know : Known m) (r : Run) (sound : IsSoundKernel m r.ker
         went_stands = λ e. absurd (not_went d f.level.owner f.level.point cause (sym e ∙ f.said));
         fell = λ n q pt why e.
             let same = same_drop d (suc n) f.level.owner q f.level.point pt cause why (sym f.said ∙ e) in
-            fallen_levels_replay m v r.kernel.images s p c.stage ks t o n q pt why cause leads (inr (ap (λ i. drop_level v t.config.now t.config.levels i cause) same.0)) e
+            falls_replay m v r.kernel.images s p c.stage ks t o n q pt why cause leads (inr (ap (λ i. drop_level v t.config.now t.config.levels i cause) same.0)) e
             (ap (λ i. is_some (t.config.now.accounts.graft i pt)) (sym same.1) ∙ ap (λ i. is_some (t.config.now.accounts.graft f.level.owner i)) (sym same.2) ∙ own_sound.grafts f.level f.among);
         fell_stands = λ n q pt why e.
             let same = same_drop d (suc n) f.level.owner q f.level.point pt cause why (sym f.said ∙ e) in

@@ -16,9 +16,9 @@ use Rattle.kernel_model.specs.Settle.{settled}
 use Rattle.kernel_model.specs.Events.{in_order, innermost, is_over, expired, counted, ticked, wanted, drop_call, times_out, waiter_action, action, entry_action, actions, tick_event}
 use Rattle.kernel_model.specs.Sound.{IsSoundKernel, IsAtRest, HasWholeBlocks, sum_below}
 use Rattle.kernel_model.specs.Claims.{Stability}
+use Rattle.kernel_model.specs.Laws.{NeedsHaveOneMode}
 use Rattle.kernel_laws.specs.Rest.{SettlesToRest}
-use Rattle.history_laws.specs.Ticks.{NeedsHaveOneMode, TicksEnd}
-use Rattle.graft_laws.specs.Stability.{CallsAreStable}
+use Rattle.history_laws.specs.Ticks.{TicksEnd}
 use Rattle.history_laws.proofs.MoveLemmas.{left_of, StandsAt}
 use Rattle.history_laws.proofs.GoLemmas.{goes_self, settled_goes, entry_goes}
 use Rattle.history_laws.proofs.NoteLemmas.{sound_stands}
@@ -278,5 +278,5 @@ module _ (m : Meaning) (know : Known m) (stability : Stability m) (one : NeedsHa
         actions_end 288 u after whole (counted_rests r number rests) (total_most u after whole)
 
 -- a tick ends
-pub ticks_end : (m : Meaning) → Known m → SettlesToRest m → CallsAreStable m → TicksEnd m
-ticks_end m know settles stable grafts one r number sound whole rests = tick_ends m know (stable grafts) one settles r number sound whole rests
+pub ticks_end : (m : Meaning) → Known m → SettlesToRest m → Stability m → TicksEnd m
+ticks_end m know settles stable r number laws sound whole rests = tick_ends m know stable laws.need.modes settles r number sound whole rests

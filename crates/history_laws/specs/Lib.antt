@@ -1,4 +1,3 @@
-pub mod Fallen
 pub mod Notes
 pub mod SoundCalls
 pub mod Ticks

@@ -10,7 +10,6 @@ use Rattle.kernel_model.specs.Meaning.{Meaning}
 use Rattle.kernel_model.specs.Kernel.{Kernel}
 use Rattle.kernel_model.specs.Events.{event}
 use Rattle.kernel_model.specs.Sound.{IsSoundKernel, HasWholeBlocks}
-use Rattle.graft_laws.specs.Histories.{NeedsGraftsExclusively}
 
 -- ---- kinds of notes
 
@@ -69,8 +68,8 @@ pub record AreFew (notes : List Note) : Type 0 where
   pub others : AreFewButDrops notes
   pub all : length notes ≤ 530
 
--- an event from a sound kernel leaves few notes, where the table needs grafts exclusively
+-- an event from a sound kernel leaves few notes
 abbrev pub EventsLeaveFewNotes : Meaning → Type 0
 EventsLeaveFewNotes m =
-    NeedsGraftsExclusively m → (k : Kernel) (blocks : Blocks) (number : ℕ) (e : Event) (io : List Bool) → IsSoundKernel m k → HasWholeBlocks k.world blocks →
+    (k : Kernel) (blocks : Blocks) (number : ℕ) (e : Event) (io : List Bool) → IsSoundKernel m k → HasWholeBlocks k.world blocks →
     AreFew (event m k blocks number e io).notes

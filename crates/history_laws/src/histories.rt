@@ -1,6 +1,6 @@
 //! Laws of the histories of calls. A call of one brings its statement into a proof.
 
-ghost use Rattle.history_laws.specs.Fallen.{FallenLevelsReplay};
+ghost use Rattle.kernel_model.specs.Claims.{FallsReplay};
 ghost use Rattle.history_laws.specs.SoundCalls.{CallsAreSound};
 
 use kernel_laws::{soundness, undoing};
@@ -8,8 +8,8 @@ use kernel_model::Rules;
 
 /// Where a level above the outermost is dropped, by an instruction or a time-out, the history that results leads to the config
 /// that the drop gave, if the level's graft stood.
-pub fn fallen_levels_replay<R: Rules>()
-    ensures { FallenLevelsReplay R.meaning }
+pub fn falls_replay<R: Rules>()
+    ensures { FallsReplay R.meaning }
 {}
 
 /// The history of each call of a sound kernel leads to a sound graft call.

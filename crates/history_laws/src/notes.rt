@@ -23,8 +23,7 @@ pub fn calls_leave_few_drops<R: Rules>()
     soundness::histories_work::<R>();
 }
 
-/// An event from a sound kernel leaves at most 272 drops, and 530 notes in all, where the table needs
-/// grafts exclusively.
+/// An event from a sound kernel leaves at most 272 drops, and 530 notes in all.
 pub fn events_leave_few_notes<R: Rules>()
     ensures { EventsLeaveFewNotes R.meaning }
 {

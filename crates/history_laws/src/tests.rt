@@ -5,7 +5,7 @@ use plain_rules::PlainRules;
 
 #[test]
 fn the_system_calls_have_the_laws(_rt: HostRuntime) {
-    histories::fallen_levels_replay::<PlainRules>();
+    histories::falls_replay::<PlainRules>();
     histories::calls_are_sound::<PlainRules>();
     store::in_place_reads::<PlainRules>();
     store::undone_is_below::<PlainRules>();

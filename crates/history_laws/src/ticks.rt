@@ -1,14 +1,12 @@
 //! Laws of ticks. A call of one brings its statement into a proof.
 
-ghost use Rattle.kernel_model.specs.Pieces.{plain};
-ghost use Rattle.history_laws.specs.Ticks.{NeedsHaveOneMode, TicksEnd};
+ghost use Rattle.history_laws.specs.Ticks.{TicksEnd};
 
 use graft_laws::stability;
 use kernel_laws::{rest, soundness, undoing};
 use kernel_model::Rules;
 
-/// A tick's 288 actions leave no count at its patience, where the table needs grafts exclusively and
-/// each object in one mode.
+/// A tick's 288 actions leave no count at its patience.
 pub fn ticks_end<R: Rules>()
     ensures { TicksEnd R.meaning }
 {
@@ -22,8 +20,3 @@ pub fn ticks_end<R: Rules>()
     rest::settles_to_rest::<R>();
     stability::calls_are_stable::<R>();
 }
-
-/// The pieces of the system calls need each object in one mode.
-pub fn plain_needs_have_one_mode()
-    ensures { NeedsHaveOneMode plain }
-{}

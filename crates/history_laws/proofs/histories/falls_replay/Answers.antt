@@ -1,0 +1,5 @@
+use Rattle.history_laws.proofs.DropLemmas.{falls_replay}
+use Rattle.history_laws.proofs.histories.falls_replay.Goals as goal
+
+pub returns : goal.returns
+returns g c = falls_replay g.R.Rules.meaning
