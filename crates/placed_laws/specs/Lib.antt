@@ -1,0 +1,6 @@
+pub mod Agreeing
+pub mod Keeping
+pub mod Placed
+pub mod PlacedRows
+pub mod PlacedSteps
+pub mod Stands

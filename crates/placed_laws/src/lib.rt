@@ -1,0 +1,2 @@
+//! Laws of the kernel in place: that it stands for the abstract kernel, whatever both do.
+#![tactic(auto)]
