@@ -66,7 +66,7 @@ mark_holds v images p (Fell es) t z o e h =
     subst (λ (y : Trace). is_held_in y.config.levels o ≡ true) f.result
     (fell_holds v images p es t.config.now t.config.levels f.config o f.went f.more f.effects (went_holds v images p t.config.now t.config.levels o f.went h))
 
-marks_hold : (v : World) (images : ImageTable) (p : ℕ) (ks : List Mark) (t z : Trace) (o : Object) → marks_on v images p ks t ≡ Some z → is_held_in t.config.levels o ≡ true →
+pub marks_hold : (v : World) (images : ImageTable) (p : ℕ) (ks : List Mark) (t z : Trace) (o : Object) → marks_on v images p ks t ≡ Some z → is_held_in t.config.levels o ≡ true →
     is_held_in z.config.levels o ≡ true
 marks_hold v images p [] t z o e h = subst (λ (y : Trace). is_held_in y.config.levels o ≡ true) (is_it t z e) h
   where

@@ -37,7 +37,7 @@ module _ (m : Meaning) (laws : Laws m) (owns : NeedsGraftsExclusively m) where
   -- ---- steps
 
   -- a blocked call in a graft joins the order
-  joins_sound : (p : ℕ) (b : Blocker) (r : Run) → IsSoundRun m r → has_level (r.kernel.call p) ≡ true → in_order p r.kernel.order ≡ false → blocker m r.kernel p ≡ Some b → IsSoundRun m (joins p r)
+  pub joins_sound : (p : ℕ) (b : Blocker) (r : Run) → IsSoundRun m r → has_level (r.kernel.call p) ≡ true → in_order p r.kernel.order ≡ false → blocker m r.kernel p ≡ Some b → IsSoundRun m (joins p r)
   joins_sound p b r h level away blocked =
       let k = r.kernel in
       let g = graft_there k p (k.call p) refl level in
@@ -116,7 +116,7 @@ module _ (m : Meaning) (laws : Laws m) (owns : NeedsGraftsExclusively m) where
 
   -- ---- ticks
 
-  ticked_sound : (number : ℕ) (r : Run) → IsSoundRun m r → IsSoundRun m (ticked number r)
+  pub ticked_sound : (number : ℕ) (r : Run) → IsSoundRun m r → IsSoundRun m (ticked number r)
   ticked_sound number r h =
       record { kernel = same_entries_sound m r.kernel (suc r.kernel.clock) (counted r.kernel.order) h.kernel (counted_same r.kernel.order); blocks = h.blocks }
     where

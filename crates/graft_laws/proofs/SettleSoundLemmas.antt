@@ -85,7 +85,7 @@ module _ (m : Meaning) (laws : Laws m) (owns : NeedsGraftsExclusively m) where
       mapped_same locks [] = refl
       mapped_same locks (e ∷ es) = ap (λ p. p ∷ processes_in (order_in m k locks es)) (one_same e (blocker_in m k locks e.process)) ∙ ap (λ ps. e.process ∷ ps) (mapped_same locks es)
 
-  rested_sound : (r : Run) → IsSoundRun m r → IsSoundRun m (rested m r)
+  pub rested_sound : (r : Run) → IsSoundRun m r → IsSoundRun m (rested m r)
   rested_sound r h =
       record {
         kernel = same_entries_sound m r.kernel r.kernel.clock (rested_order m r.kernel r.kernel.order) h.kernel (rested_same r.kernel r.kernel.order);
@@ -132,7 +132,7 @@ module _ (m : Meaning) (laws : Laws m) (owns : NeedsGraftsExclusively m) where
   trace_beside k call es p None = refl
   trace_beside k call es p (Some c) = refl
 
-  call_sound : (r : Run) (q : ℕ) (c : Call) (a : After) → IsSoundRun m r → q < 16 → PieceEnds m r.kernel q c r.kernel.objects a →
+  pub call_sound : (r : Run) (q : ℕ) (c : Call) (a : After) → IsSoundRun m r → q < 16 → PieceEnds m r.kernel q c r.kernel.objects a →
       IsSoundKernel m (after_piece m r.kernel q c r.kernel.objects (order_after m q r.kernel r.kernel.objects (at q (call_after c a) r.kernel.call) r.kernel.clock) a)
   call_sound r q c a h low ends =
       let k = r.kernel in
@@ -167,11 +167,10 @@ module _ (m : Meaning) (laws : Laws m) (owns : NeedsGraftsExclusively m) where
       ends_not : (t : Stage) → EndsWith Reply.Plain ≡ Continues t → ⊥
       ends_not t f = cc
 
-  -- a call begins
-  pub begun_sound : (number p : ℕ) (call : SysCall) (x : Result Stage Refusal) (r : Run) → IsSoundRun m r → r.kernel.call p ≡ None → lives r.kernel.objects.things.queue p ≡ true →
-      m.early r.kernel.world r.kernel.images p call ≡ x → IsSoundRun m (begun m number p x r)
-  begun_sound number p call (Err refusal) r h none alive e = noted_sound m (Refused number refusal) r h
-  begun_sound number p call (Ok t) r h none alive e =
+  -- a call begins and joins the order
+  pub joined_call_sound : (number p : ℕ) (call : SysCall) (t : Stage) (r : Run) → IsSoundRun m r → r.kernel.call p ≡ None → lives r.kernel.objects.things.queue p ≡ true →
+      m.early r.kernel.world r.kernel.images p call ≡ Ok t → IsSoundRun m (joins p (with_call p (Some (record { number = number; stage = t; marks = None })) r))
+  joined_call_sound number p call t r h none alive e =
       let k = r.kernel in
       let c : Call = record { number = number; stage = t; marks = None } in
       let calls = at p (Some c) k.call in
@@ -183,11 +182,17 @@ module _ (m : Meaning) (laws : Laws m) (owns : NeedsGraftsExclusively m) where
       let order : order_after m p k k.objects calls k.clock ≡ k.order ++ new_entry p ∷ [] =
       ap (λ y. less_entry p k.order ++ cond (is_at_piece y) (new_entry p ∷ []) []) (at_here p (Some c) k.call)
       ∙ ap (λ es. es ++ new_entry p ∷ []) (less_away p k.order (uncalled_away m k p h.kernel none)) in
-      settled_sound (joins p (with_call p (Some c) r))
-      (record { kernel = subst (λ es. IsSoundKernel m (after_piece m k p c k.objects es (Continues t))) order sound; blocks = h.blocks })
+      record { kernel = subst (λ es. IsSoundKernel m (after_piece m k p c k.objects es (Continues t))) order sound; blocks = h.blocks }
     where
       stage_is : (u : Stage) → Continues t ≡ Continues u → t ≡ u
       stage_is u f = cc
+
+  -- a call begins, or is refused
+  pub begun_sound : (number p : ℕ) (call : SysCall) (x : Result Stage Refusal) (r : Run) → IsSoundRun m r → r.kernel.call p ≡ None → lives r.kernel.objects.things.queue p ≡ true →
+      m.early r.kernel.world r.kernel.images p call ≡ x → IsSoundRun m (begun m number p x r)
+  begun_sound number p call (Err refusal) r h none alive e = noted_sound m (Refused number refusal) r h
+  begun_sound number p call (Ok t) r h none alive e =
+      settled_sound (joins p (with_call p (Some (record { number = number; stage = t; marks = None })) r)) (joined_call_sound number p call t r h none alive e)
 
   -- ---- notes
 

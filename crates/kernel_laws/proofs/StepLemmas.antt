@@ -121,14 +121,14 @@ not_among p q fd (n ∷ ns) ne h =
     not_it false e = refl
 
 -- no file stands outside the ranges
-no_file_high : (v : World) (s : Objects) (q fd : ℕ) (x : Option OpenRow) → IsSoundStore v s → s.things.file q fd ≡ x → nat_lt fd 4 ≡ false → x ≡ None
+pub no_file_high : (v : World) (s : Objects) (q fd : ℕ) (x : Option OpenRow) → IsSoundStore v s → s.things.file q fd ≡ x → nat_lt fd 4 ≡ false → x ≡ None
 no_file_high v s q fd None h e high = refl
 no_file_high v s q fd (Some o) h e high = absurd (contrary fd (h.files q fd o e).0 high)
   where
     contrary : (fd : ℕ) → fd < 4 → nat_lt fd 4 ≡ false → ⊥
     contrary fd low high = grind (arith, nat_tests)
 
-no_file_beyond : (v : World) (s : Objects) (q fd : ℕ) (b : Bool) → IsSoundStore v s → lives s.things.queue q ≡ b → nat_lt q 16 ≡ false → s.things.file q fd ≡ None
+pub no_file_beyond : (v : World) (s : Objects) (q fd : ℕ) (b : Bool) → IsSoundStore v s → lives s.things.queue q ≡ b → nat_lt q 16 ≡ false → s.things.file q fd ≡ None
 no_file_beyond v s q fd true h e high = absurd (contrary q (h.numbers q e) high)
   where
     contrary : (q : ℕ) → q < 16 → nat_lt q 16 ≡ false → ⊥

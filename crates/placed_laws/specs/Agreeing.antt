@@ -1,17 +1,13 @@
 -- What a kernel in place and the abstract kernel that it stands for have in common.
-use Rattle.std.specs.Prelude.{◌≡◌, ℕ, Bool, true, false, List, [], Option, Some, None, map}
-use Rattle.kernel_model.specs.declared.Note.{Note}
+use Rattle.std.specs.Prelude.{◌≡◌, ℕ, Bool, true, false, List, [], Some}
 use Rattle.kernel_model.specs.declared.Object.{Object}
 use Rattle.kernel_model.specs.Policies.{lives}
 use Rattle.kernel_model.specs.Meaning.{Meaning, Stage}
-use Rattle.kernel_model.specs.Levels.{Level}
-use Rattle.kernel_model.specs.GraftStep.{lock_user}
-use Rattle.kernel_model.specs.Kernel.{Blocker, Entry, Kernel, Run, has_level, is_at_piece}
+use Rattle.kernel_model.specs.Kernel.{Blocker, Kernel, Run, has_level, is_at_piece}
 use Rattle.kernel_model.specs.Blocking.{blocker, levels_of, needs, holds}
 use Rattle.kernel_model.specs.Settle.{first_free, rested_order}
 use Rattle.kernel_model.specs.Events.{wanted, innermost, graft_note}
 use Rattle.kernel_model.specs.RawRows.{raw_rows}
-use Rattle.kernel_model.specs.Laws.{Laws}
 use Rattle.placed_laws.specs.Placed.{Placed, placed_levels, placed_holds, placed_needs, placed_blocker}
 use Rattle.placed_laws.specs.PlacedSteps.{is_placed_at_piece, placed_first_free, placed_rested_order}
 use Rattle.placed_laws.specs.PlacedRows.{placed_rows}

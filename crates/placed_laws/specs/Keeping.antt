@@ -1,18 +1,16 @@
 -- That a kernel in place goes on to stand for the abstract kernel, whatever both do.
-use Rattle.std.specs.Prelude.{◌≡◌, ◌<◌, ℕ, true, false, List, [], Option, Some, None, length, Ok}
+use Rattle.std.specs.Prelude.{◌≡◌, ◌<◌, ℕ, true, false, [], Some, None, length, Ok}
 use Rattle.kernel_model.specs.declared.Cause.{Cause}
 use Rattle.kernel_model.specs.declared.Note.{Note}
 use Rattle.kernel_model.specs.declared.SysCall.{SysCall}
-use Rattle.kernel_model.specs.World.{World, ImageTable}
+use Rattle.kernel_model.specs.World.{ImageTable}
 use Rattle.kernel_model.specs.Policies.{lives}
 use Rattle.kernel_model.specs.Meaning.{Meaning, Stage}
 use Rattle.kernel_model.specs.Kernel.{Call, Blocker, Kernel, Run, with_call, noted, joins, requeue, has_level}
-use Rattle.kernel_model.specs.Blocking.{blocker, levels_of}
 use Rattle.kernel_model.specs.Settle.{step, rested}
 use Rattle.kernel_model.specs.Events.{drop_call, in_order, ticked}
 use Rattle.kernel_model.specs.Sound.{IsSoundKernel}
 use Rattle.kernel_model.specs.Alike.{Extends}
-use Rattle.kernel_model.specs.Laws.{Laws}
 use Rattle.graft_laws.specs.Kernels.{with_images}
 use Rattle.placed_laws.specs.Placed.{PlacedCall, Placed, PlacedRun, placed_blocker}
 use Rattle.placed_laws.specs.PlacedSteps.{with_placed_call, placed_noted, placed_joins, placed_requeue, placed_ticked, placed_rested_order, with_placed_order, with_placed_images, placed_step, placed_drop}

@@ -11,7 +11,7 @@ use Rattle.kernel_model.specs.Meaning.{Meaning, Piece, After, Continues, EndsWit
 use Rattle.kernel_model.specs.Levels.{Config, Outcome, drop_level}
 use Rattle.kernel_model.specs.GraftStep.{micro}
 use Rattle.kernel_model.specs.History.{begin_at}
-use Rattle.kernel_model.specs.Kernel.{Blocker, Entry, gave_note, after_note, new_entry, less_entry}
+use Rattle.kernel_model.specs.Kernel.{Entry, gave_note, after_note, new_entry, less_entry}
 use Rattle.kernel_model.specs.Settle.{entry_with}
 use Rattle.kernel_model.specs.Locks.{LockTable}
 use Rattle.kernel_model.specs.Events.{counted}

@@ -1,9 +1,7 @@
 -- When a kernel in place stands for an abstract kernel.
-use Rattle.std.specs.Prelude.{◌≡◌, ℕ, List, Option, map, option_map}
-use Rattle.kernel_model.specs.declared.Note.{Note}
+use Rattle.std.specs.Prelude.{◌≡◌, ℕ, Option, map, option_map}
 use Rattle.kernel_model.specs.declared.Object.{Object}
-use Rattle.kernel_model.specs.World.{Blocks}
-use Rattle.kernel_model.specs.Objects.{Objects, SameAt}
+use Rattle.kernel_model.specs.Objects.{SameAt}
 use Rattle.kernel_model.specs.Meaning.{Meaning}
 use Rattle.kernel_model.specs.Kernel.{Call, Kernel, Run}
 use Rattle.kernel_model.specs.Blocking.{levels_of}

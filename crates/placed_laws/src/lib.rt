@@ -1,2 +1,7 @@
 //! Laws of the kernel in place: that it stands for the abstract kernel, whatever both do.
 #![tactic(auto)]
+
+pub mod agreeing;
+pub mod keeping;
+#[cfg(test)]
+mod tests;

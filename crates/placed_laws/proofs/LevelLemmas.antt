@@ -1,0 +1,54 @@
+-- Levels laid over a store.
+use Rattle.std.specs.Prelude.{◌≡◌, List, [], ◌∷◌, map}
+use Rattle.std.proofs.Common.{refl, subst, sym, ap, ◌∙◌}
+use Rattle.kernel_model.specs.Objects.{Things}
+use Rattle.kernel_model.specs.Levels.{Level}
+use Rattle.kernel_model.specs.UndoLog.{undo_log, undo_all, kept_by_log}
+use Rattle.kernel_model.specs.Alike.{LevelsAlike}
+use Rattle.kernel_laws.specs.Soundness.{found_by}
+use Rattle.placed_laws.specs.Placed.{PlacedLevel, levels_with, bare}
+
+-- a call's levels over another store
+abbrev pub relaid : Things → List Level → List Level
+relaid w ls = levels_with w (map bare ls)
+
+-- they are alike
+pub relaid_alike : (w : Things) (ls : List Level) → LevelsAlike ls (relaid w ls)
+relaid_alike w [] = tt
+relaid_alike w (l ∷ ls) = (refl, relaid_alike (undo_all l.records w) ls)
+
+-- what each found is what undoing gives
+pub laid_kept : (w : Things) (ls : List PlacedLevel) → found_by (levels_with w ls) ≡ kept_by_log w (undo_log (levels_with w ls))
+laid_kept w [] = refl
+laid_kept w (l ∷ ls) = ap (λ ws. undo_all l.records w ∷ ws) (laid_kept (undo_all l.records w) ls)
+
+-- and they are the same without what they found
+pub bare_laid : (w : Things) (ls : List PlacedLevel) → map bare (levels_with w ls) ≡ ls
+bare_laid w [] = refl
+bare_laid w (l ∷ ls) = ap (λ xs. l ∷ xs) (bare_laid (undo_all l.records w) ls)
+
+pub bare_alike : (ls ks : List Level) → LevelsAlike ls ks → map bare ls ≡ map bare ks
+bare_alike [] [] h = refl
+bare_alike [] (k ∷ ks) h = absurd h
+bare_alike (l ∷ ls) [] h = absurd h
+bare_alike (l ∷ ls) (k ∷ ks) h = ap (λ (x : Level). bare x ∷ map bare ls) h.0 ∙ ap (λ xs. bare k ∷ xs) (bare_alike ls ks h.1)
+
+-- the same the other way round, for what is of levels without what they found
+pub alike_back : (ls ks : List Level) → LevelsAlike ls ks → LevelsAlike ks ls
+alike_back [] [] h = tt
+alike_back [] (k ∷ ks) h = absurd h
+alike_back (l ∷ ls) [] h = absurd h
+alike_back (l ∷ ls) (k ∷ ks) h = (ap (λ (x : Level). record x { kept = l.kept }) (sym h.0), alike_back ls ks h.1)
+
+pub alike_then : (ls ks js : List Level) → LevelsAlike ls ks → LevelsAlike ks js → LevelsAlike ls js
+alike_then [] [] [] h i = tt
+alike_then [] [] (j ∷ js) h i = absurd i
+alike_then [] (k ∷ ks) js h i = absurd h
+alike_then (l ∷ ls) [] js h i = absurd h
+alike_then (l ∷ ls) (k ∷ ks) [] h i = absurd i
+alike_then (l ∷ ls) (k ∷ ks) (j ∷ js) h i =
+    (ap (λ (x : Level). record x { kept = j.kept }) h.0 ∙ i.0, alike_then ls ks js h.1 i.1)
+
+-- levels laid over a store are alike to any that are the same without what they found
+pub laid_alike : (w : Things) (bs : List PlacedLevel) (ls : List Level) → bs ≡ map bare ls → LevelsAlike ls (levels_with w bs)
+laid_alike w bs ls e = subst (λ xs. LevelsAlike ls (levels_with w xs)) (sym e) (relaid_alike w ls)

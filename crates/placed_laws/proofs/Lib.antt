@@ -1,0 +1,10 @@
+pub mod LevelLemmas
+pub mod GraftedLemmas
+pub mod MixedLemmas
+pub mod SourceLemmas
+pub mod PairLemmas
+pub mod ConfigLemmas
+pub mod AlignLemmas
+pub mod FreeLemmas
+pub mod BlockerLemmas
+pub mod QuietLemmas

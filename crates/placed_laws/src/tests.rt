@@ -1,0 +1,11 @@
+//! Each law over every table of calls, at the table of the system calls.
+
+use crate::{agreeing, keeping};
+use plain_rules::PlainRules;
+
+#[test]
+fn the_system_calls_have_the_laws(_rt: HostRuntime) {
+    agreeing::same_stages::<PlainRules>();
+    agreeing::same_blockers::<PlainRules>();
+    keeping::quiet_kernels_stand::<PlainRules>();
+}
