@@ -36,7 +36,7 @@ abbrev pub laid_over : Objects → Config → Config
 laid_over x c = record { now = x; levels = relaid x.things c.levels }
 
 -- what each level found is a work on the committed state
-found_works : (m : Meaning) (k : Kernel) (a : Objects) (ls : List Level) → AreGraftsWork k.world k.objects a.accounts (found_by ls) → Each (λ (l : Level). IsGraftsWork k.world k.objects a.accounts l.kept) ls
+pub found_works : (m : Meaning) (k : Kernel) (a : Objects) (ls : List Level) → AreGraftsWork k.world k.objects a.accounts (found_by ls) → Each (λ (l : Level). IsGraftsWork k.world k.objects a.accounts l.kept) ls
 found_works m k a [] h = tt
 found_works m k a (l ∷ ls) h = (h.0, found_works m k a ls h.1)
 
@@ -63,10 +63,10 @@ module _ (m : Meaning) (laws : Laws m) (k : Kernel) (x : Objects) (here : IsPlac
       each_contains (λ (i : Level). (l : Level) × Contains c.levels l × IsAlike l i) (relaid x.things c.levels) n
       (pair_each IsAlike c.levels c.levels (relaid x.things c.levels) (λ l i. i) (alike_pairs c.levels (relaid x.things c.levels) alike)) among
 
-  abbrev Found : Level → Level → Type 0
+  abbrev pub Found : Level → Level → Type 0
   Found = FoundAs (is_changed_in c.levels) x.things
 
-  of_found : (n : Level) → Contains (relaid x.things c.levels) n → (l : Level) × Contains c.levels l × Found l n
+  pub of_found : (n : Level) → Contains (relaid x.things c.levels) n → (l : Level) × Contains c.levels l × Found l n
   of_found n among =
       each_contains (λ (i : Level). (l : Level) × Contains c.levels l × Found l i) (relaid x.things c.levels) n
       (pair_each Found c.levels c.levels (relaid x.things c.levels) (λ l i. i)

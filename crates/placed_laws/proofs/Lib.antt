@@ -8,3 +8,10 @@ pub mod AlignLemmas
 pub mod FreeLemmas
 pub mod BlockerLemmas
 pub mod QuietLemmas
+pub mod PieceLemmas
+pub mod AfterLemmas
+pub mod WorkLemmas
+pub mod OutcomeLemmas
+pub mod GoLemmas
+pub mod PointLemmas
+pub mod EndLemmas

@@ -128,20 +128,32 @@ module _ (m : Meaning) (laws : Laws m) (k : Kernel) (x : Objects) (here : IsPlac
       no_lock s sound None e high = refl
       no_lock s sound (Some h) e high = contrary (sym (lower_true u 16 (sound.holders u h e).0) ∙ high)
 
+  pub chosen : (kind : ℕ) → kind < 3 → (k.objects.things.pol kind).chosen ≡ (x.things.pol kind).chosen
+  chosen kind low = let f = from (Pol kind) low in f.alike.policies kind ∙ ap (λ (y : PolValue). y.chosen) (sym f.same)
+
+  pub queue : niceless k.objects.things.queue ≡ niceless x.things.queue
+  queue = let f = from Queue tt in f.alike.queue ∙ ap niceless (sym f.same)
+
+  pub lru : k.objects.things.cache.lru ≡ x.things.cache.lru
+  lru = let f = from Cache tt in f.alike.lru ∙ ap (λ (c : CacheValue). c.lru) (sym f.same)
+
+  pub frames : (i : ℕ) → markless (k.objects.things.cache.frame i) ≡ markless (x.things.cache.frame i)
+  frames i = let f = from Cache tt in f.alike.frames i ∙ ap (λ (c : CacheValue). markless (c.frame i)) (sym f.same)
+
   -- but for policies out of range, it differs from the committed state alone in what grafts may change
   pub near : AreAlike k.objects (shown k.objects x)
   near =
       record {
         files = files;
-        queue = let f = from Queue tt in f.alike.queue ∙ ap niceless (sym f.same);
-        lru = let f = from Cache tt in f.alike.lru ∙ ap (λ (c : CacheValue). c.lru) (sym f.same);
-        frames = λ i. let f = from Cache tt in f.alike.frames i ∙ ap (λ (c : CacheValue). markless (c.frame i)) (sym f.same);
+        queue = queue;
+        lru = lru;
+        frames = frames;
         locks = locks;
         policies = λ kind. chosen_same kind (nat_lt kind 3) refl;
       }
     where
       chosen_same : (kind : ℕ) (b : Bool) → nat_lt kind 3 ≡ b → (k.objects.things.pol kind).chosen ≡ (cond b (x.things.pol kind) (k.objects.things.pol kind)).chosen
-      chosen_same kind true e = let f = from (Pol kind) (lower_is kind 3 e) in f.alike.policies kind ∙ ap (λ (y : PolValue). y.chosen) (sym f.same)
+      chosen_same kind true e = chosen kind (lower_is kind 3 e)
       chosen_same kind false e = refl
 
   pub fits_disk : FitsDisk k.world x.things.cache
