@@ -1,5 +1,5 @@
 -- The one store after a step or a drop of one call, which leaves alone what other calls hold exclusively.
-use Rattle.std.specs.Prelude.{◌≡◌, ◌≢◌, ℕ, ◌==◌, Bool, true, false, cond, List, [], ◌∷◌, ◌++◌, map, Option, Some, None, ◌⊎◌}
+use Rattle.std.specs.Prelude.{◌≡◌, ◌≢◌, ℕ, true, false, cond, List, [], ◌∷◌, ◌++◌, map, Option, Some, None, ◌⊎◌}
 use Rattle.std.proofs.Common.{arith, refl, subst, sym, ap, ◌∙◌, inl, inr}
 use Rattle.std.proofs.lemmas.Bool.{cases_Bool}
 use Rattle.std.proofs.lemmas.Bool.Decides.{nat_tests}
@@ -13,7 +13,7 @@ use Rattle.kernel_model.specs.Kernel.{Call, Kernel, Run, new_entry, less_entry, 
 use Rattle.kernel_model.specs.Blocking.{config_in, levels_in, trace_of, config_of, levels_of}
 use Rattle.kernel_model.specs.InPlace.{in_place, is_changed_in}
 use Rattle.kernel_model.specs.Sound.{IsSoundStore, IsSoundKernel}
-use Rattle.kernel_model.specs.Alike.{LevelsAlike, ConfigsAlike}
+use Rattle.kernel_model.specs.Alike.{LevelsAlike}
 use Rattle.kernel_model.specs.Laws.{Laws}
 use Rattle.kernel_model.specs.Claims.{IsStable}
 use Rattle.graft_laws.specs.Histories.{HasRange}

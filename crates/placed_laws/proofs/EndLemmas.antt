@@ -1,19 +1,18 @@
 -- The end of a piece on two states: the committed one, and the store.
-use Rattle.std.specs.Prelude.{◌≡◌, ◌≢◌, ℕ, ◌<◌, ◌≤◌, ◌&&◌, ◌||◌, Bool, true, false, cond, List, [], ◌∷◌, ◌++◌, length, map, drop, Option, Some, None}
-use Rattle.std.proofs.Common.{arith, refl, subst, sym, ap, ◌∙◌, inl, inr}
+use Rattle.std.specs.Prelude.{◌≡◌, ◌≢◌, ℕ, ◌&&◌, ◌||◌, Bool, true, false, List, [], ◌∷◌, ◌++◌, map, drop, Option, Some, None}
+use Rattle.std.proofs.Common.{refl, sym, ap, ◌∙◌, inl, inr}
 use Rattle.std.proofs.lemmas.Bool.{cases_Bool}
 use Rattle.kernel_model.specs.declared.Need.{Need}
 use Rattle.kernel_model.specs.declared.Object.{Object}
-use Rattle.kernel_model.specs.declared.Point.{Point}
-use Rattle.kernel_model.specs.World.{World, Blocks}
+use Rattle.kernel_model.specs.World.{Blocks}
 use Rattle.kernel_model.specs.Objects.{Objects, SameAt, at, same_object}
-use Rattle.kernel_model.specs.Meaning.{Meaning, Stage, Piece, After, Continues, EndsWith, Fails}
-use Rattle.kernel_model.specs.Levels.{Level, Config}
+use Rattle.kernel_model.specs.Meaning.{Meaning, Stage, After, Continues, EndsWith, Fails}
+use Rattle.kernel_model.specs.Levels.{Config}
 use Rattle.kernel_model.specs.Kernel.{Call, Kernel, Run, call_after, gave_note, after_note, requeue}
 use Rattle.kernel_model.specs.Blocking.{config_in, levels_in, trace_of, config_of, levels_of}
 use Rattle.kernel_model.specs.Settle.{finish_on}
 use Rattle.kernel_model.specs.InPlace.{is_changed_in}
-use Rattle.kernel_model.specs.Sound.{IsSoundStore, IsSoundKernel, HasWholeBlocks}
+use Rattle.kernel_model.specs.Sound.{HasWholeBlocks}
 use Rattle.kernel_model.specs.Alike.{is_exclusive, is_needed, is_needed_exclusively}
 use Rattle.kernel_model.specs.Laws.{Laws, IsReady, IsInRange, PieceAlike}
 use Rattle.kernel_model.specs.Claims.{IsStable}
@@ -21,14 +20,14 @@ use Rattle.plain_rules.specs.Ledgers.{at_here, at_other}
 use Rattle.graft_laws.specs.Histories.{HasRange}
 use Rattle.graft_laws.specs.Kernels.{IsSoundRun}
 use Rattle.graft_laws.proofs.CommitLemmas.{in_range_enough}
-use Rattle.graft_laws.proofs.EffectLemmas.{same_self, same_then, same_back}
+use Rattle.graft_laws.proofs.EffectLemmas.{same_then, same_back}
 use Rattle.graft_laws.proofs.OrderLemmas.{config_same}
 use Rattle.placed_laws.specs.Placed.{PlacedCall, bare}
 use Rattle.placed_laws.specs.PlacedSteps.{placed_after, placed_finish_on, placed_requeue}
 use Rattle.placed_laws.specs.Stands.{without_history, RunStandsFor}
 use Rattle.placed_laws.proofs.SourceLemmas.{IsPlaced}
 use Rattle.placed_laws.proofs.AlignLemmas.{run_over}
-use Rattle.placed_laws.proofs.AfterLemmas.{OwnPart, CameAlike, stands_after}
+use Rattle.placed_laws.proofs.AfterLemmas.{stands_after}
 use Rattle.placed_laws.proofs.GoLemmas.{history_at}
 
 -- a piece of p's call does the same from state s and from state d, as far as these needs go; others keep what they hold
@@ -45,7 +44,7 @@ pub record EndsAlike (m : Meaning) (k : Kernel) (w : Objects) (p : ℕ) (t : Sta
   pub free : (o : Object) (q : ℕ) → q ≢ p → is_changed_in (levels_of m k q) o ≡ true → is_needed_exclusively o ns ≡ false
 
 -- what isn't needed isn't needed exclusively
-unneeded_free : (o : Object) (ns : List Need) → is_needed o ns ≡ false → is_needed_exclusively o ns ≡ false
+pub unneeded_free : (o : Object) (ns : List Need) → is_needed o ns ≡ false → is_needed_exclusively o ns ≡ false
 unneeded_free o [] h = refl
 unneeded_free o (n ∷ ns) h =
     let both = neither (same_object o n.object) (is_needed o ns) h in

@@ -1,12 +1,12 @@
 -- A call that goes on in its graft: the store, and its levels over it.
-use Rattle.std.specs.Prelude.{◌≡◌, ◌≢◌, ℕ, ◌==◌, Bool, true, false, cond, List, [], ◌∷◌, map, Option, Some, None}
+use Rattle.std.specs.Prelude.{◌≡◌, ◌≢◌, ℕ, ◌==◌, Bool, true, false, cond, List, map, Option, Some}
 use Rattle.std.proofs.Common.{arith, refl, subst, sym, ap, ◌∙◌, inl, inr}
 use Rattle.std.proofs.lemmas.Bool.{cases_Bool}
 use Rattle.std.proofs.lemmas.Bool.Decides.{nat_tests}
 use Rattle.kernel_model.specs.declared.Object.{Object}
 use Rattle.kernel_model.specs.Objects.{Objects, SameAt, at}
 use Rattle.kernel_model.specs.Meaning.{Meaning}
-use Rattle.kernel_model.specs.Levels.{Level, Config, Outcome}
+use Rattle.kernel_model.specs.Levels.{Config, Outcome}
 use Rattle.kernel_model.specs.History.{Mark}
 use Rattle.kernel_model.specs.Kernel.{Call, Kernel, Run, with_marks, requeue}
 use Rattle.kernel_model.specs.Blocking.{levels_in, config_of, levels_of}
@@ -16,22 +16,20 @@ use Rattle.kernel_model.specs.Alike.{is_held_in}
 use Rattle.kernel_model.specs.Laws.{Laws}
 use Rattle.kernel_model.specs.Claims.{IsStable}
 use Rattle.plain_rules.specs.Ledgers.{at_here, at_other}
-use Rattle.graft_laws.specs.Histories.{HasRange}
 use Rattle.graft_laws.specs.Kernels.{IsSoundRun}
 use Rattle.graft_laws.proofs.EffectLemmas.{same_then, same_back}
 use Rattle.graft_laws.proofs.HoldLemmas.{changed_held}
-use Rattle.graft_laws.proofs.OrderLemmas.{config_same, levels_same}
+use Rattle.graft_laws.proofs.OrderLemmas.{config_same}
 use Rattle.graft_laws.proofs.ShapeLemmas.{contrary}
 use Rattle.history_laws.proofs.InPlaceLemmas.{others_apart}
-use Rattle.placed_laws.specs.Placed.{PlacedCall, bare}
+use Rattle.placed_laws.specs.Placed.{bare}
 use Rattle.placed_laws.specs.PlacedSteps.{with_config, placed_requeue}
 use Rattle.placed_laws.specs.Stands.{without_history, RunStandsFor}
 use Rattle.placed_laws.proofs.LevelLemmas.{bare_alike}
 use Rattle.placed_laws.proofs.GraftedLemmas.{grafted}
 use Rattle.placed_laws.proofs.SourceLemmas.{IsPlaced, committed, held_same, none_of}
 use Rattle.placed_laws.proofs.AlignLemmas.{run_over}
-use Rattle.placed_laws.proofs.AfterLemmas.{OwnPart, CameAlike, changed_alike, number_cases, others_changed, stands_after}
-use Rattle.placed_laws.proofs.ConfigLemmas.{laid_over}
+use Rattle.placed_laws.proofs.AfterLemmas.{OwnPart, changed_alike, others_changed, stands_after}
 use Rattle.placed_laws.proofs.OutcomeLemmas.{PlacedOutcome}
 
 -- what is told of a call without its history is told of each place

@@ -50,7 +50,7 @@ pub call_stands : (m : Meaning) (k : Kernel) (p : ℕ) (c : Call) → IsSoundKer
 call_stands m k p c sound e = record { store = sound.state.store; caller = sound.callers p c e; granted = sound.granted p c e; fits = sound.fit p c e }
 
 -- what a piece needs its call holds, wherever the history leads
-needs_held : (m : Meaning) (v : World) (images : ImageTable) (s : Objects) (p : ℕ) (t : Stage) (ks : List Mark) (now : Trace) (o : Object) → replay m v images s p t ks ≡ Some now →
+pub needs_held : (m : Meaning) (v : World) (images : ImageTable) (s : Objects) (p : ℕ) (t : Stage) (ks : List Mark) (now : Trace) (o : Object) → replay m v images s p t ks ≡ Some now →
     is_needed o (m.need v s p t) ≡ true → is_held_in now.config.levels o ≡ true
 needs_held m v images s p t ks now o e need =
     let f = replay_split m v images s p t ks now e in

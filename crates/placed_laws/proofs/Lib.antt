@@ -15,3 +15,8 @@ pub mod OutcomeLemmas
 pub mod GoLemmas
 pub mod PointLemmas
 pub mod EndLemmas
+pub mod GraftEndLemmas
+pub mod OutcomeStandLemmas
+pub mod KnownLemmas
+pub mod PieceStandLemmas
+pub mod StandLemmas

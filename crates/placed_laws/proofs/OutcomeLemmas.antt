@@ -1,12 +1,11 @@
 -- An instruction of a call over the one store, and the drop of a level, beside the one to which the history leads.
-use Rattle.std.specs.Prelude.{◌≡◌, ◌≢◌, ℕ, zero, suc, ◌<◌, ◌≤◌, ◌==◌, Bool, true, false, List, [], ◌∷◌, length, Option, Some, None, Contains, ⊤}
-use Rattle.std.proofs.Common.{arith, refl, subst, sym, ap, ◌∙◌, inl, inr}
-use Rattle.std.proofs.lemmas.Bool.{cases_Bool}
+use Rattle.std.specs.Prelude.{◌≡◌, ℕ, suc, ◌<◌, ◌==◌, Bool, true, false, List, [], ◌∷◌, length, Some, None, Contains}
+use Rattle.std.proofs.Common.{arith, refl, subst, sym, ap, ◌∙◌}
 use Rattle.std.proofs.lemmas.Bool.Decides.{nat_tests}
 use Rattle.kernel_model.specs.declared.Cause.{Cause}
 use Rattle.kernel_model.specs.declared.Object.{Object}
 use Rattle.kernel_model.specs.declared.Object.TheVariants.{Graft, Acct}
-use Rattle.kernel_model.specs.World.{World, ImageTable}
+use Rattle.kernel_model.specs.World.{World}
 use Rattle.kernel_model.specs.Objects.{Objects, SameAt}
 use Rattle.kernel_model.specs.Charges.{removed}
 use Rattle.kernel_model.specs.Meaning.{Meaning}
@@ -15,10 +14,9 @@ use Rattle.kernel_model.specs.GraftStep.{next_needs, micro}
 use Rattle.kernel_model.specs.Kernel.{Kernel}
 use Rattle.kernel_model.specs.Blocking.{config_of, needs, blocker}
 use Rattle.kernel_model.specs.InPlace.{is_changed_in}
-use Rattle.kernel_model.specs.Sound.{IsSoundStore, IsSoundConfig}
+use Rattle.kernel_model.specs.Sound.{IsSoundStore}
 use Rattle.kernel_model.specs.Alike.{AreAlike}
 use Rattle.kernel_model.specs.Laws.{Laws}
-use Rattle.kernel_laws.specs.Soundness.{WorksOn}
 use Rattle.kernel_laws.proofs.FrameLemmas.{changes_what_is_held}
 use Rattle.kernel_laws.proofs.InstructionLemmas.{instructions_work}
 use Rattle.kernel_laws.proofs.StoreLemmas.{removed_store}
@@ -29,7 +27,7 @@ use Rattle.graft_laws.proofs.DropReplayLemmas.{both_parts}
 use Rattle.graft_laws.proofs.ConfigAlikeLemmas.{instructions_alike, drops_alike}
 use Rattle.history_laws.proofs.SoundCallLemmas.{contains_first, contains_later}
 use Rattle.placed_laws.proofs.LevelLemmas.{relaid, relaid_alike}
-use Rattle.placed_laws.proofs.GraftedLemmas.{Grafted, grafted}
+use Rattle.placed_laws.proofs.GraftedLemmas.{grafted}
 use Rattle.placed_laws.proofs.SourceLemmas.{IsPlaced}
 use Rattle.placed_laws.proofs.AfterLemmas.{changed_alike}
 use Rattle.placed_laws.proofs.ConfigLemmas.{laid_over, laid_config_alike, laid_config_sound, of_found}

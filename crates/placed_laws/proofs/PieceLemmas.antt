@@ -1,15 +1,15 @@
 -- A call has a history exactly where it has levels, in place too.
 use Rattle.std.specs.Prelude.{◌≡◌, ℕ, ◌≤◌, Bool, true, false, List, [], ◌∷◌, length, map, Option, Some, None}
-use Rattle.std.proofs.Common.{arith, refl, subst, sym, ap, ◌∙◌}
+use Rattle.std.proofs.Common.{arith, refl, sym, ap, ◌∙◌}
 use Rattle.kernel_model.specs.Meaning.{Meaning}
-use Rattle.kernel_model.specs.Levels.{Level, Config}
+use Rattle.kernel_model.specs.Levels.{Level}
 use Rattle.kernel_model.specs.History.{Mark}
 use Rattle.kernel_model.specs.Kernel.{Call, Kernel, is_at_piece, has_level}
-use Rattle.kernel_model.specs.Blocking.{levels_in, config_of, levels_of}
+use Rattle.kernel_model.specs.Blocking.{levels_in, levels_of}
 use Rattle.kernel_model.specs.Sound.{IsSoundKernel}
 use Rattle.kernel_model.specs.Laws.{Laws}
 use Rattle.placed_laws.specs.Agreeing.{has_some}
-use Rattle.placed_laws.specs.Placed.{PlacedCall, PlacedLevel, bare}
+use Rattle.placed_laws.specs.Placed.{PlacedCall, bare}
 use Rattle.placed_laws.specs.PlacedSteps.{is_placed_at_piece}
 use Rattle.placed_laws.specs.Stands.{without_history}
 use Rattle.placed_laws.proofs.GraftedLemmas.{grafted}

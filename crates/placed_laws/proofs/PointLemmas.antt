@@ -1,19 +1,18 @@
 -- Which point a piece asks on states that are alike, policies out of range apart.
-use Rattle.std.specs.Prelude.{◌≡◌, ℕ, zero, suc, ◌<◌, ◌≤◌, ◌-◌, nat_lt, ◌&&◌, ◌||◌, Bool, true, false, cond, List, [], ◌∷◌, ◌++◌, length, take, Option, Some, None, slice_index}
+use Rattle.std.specs.Prelude.{◌≡◌, ℕ, zero, suc, ◌<◌, nat_lt, ◌&&◌, Bool, true, false, cond, List, [], ◌∷◌, ◌++◌, take, Option, Some, None, slice_index}
 use Rattle.std.proofs.Common.{arith, refl, subst, sym, ap, ◌∙◌, inl, inr}
-use Rattle.std.proofs.lemmas.Bool.{cases_Bool}
 use Rattle.std.proofs.lemmas.Bool.Decides.{nat_tests}
 use Rattle.kernel_model.specs.declared.Need.{Need}
 use Rattle.kernel_model.specs.declared.Object.{Object}
 use Rattle.kernel_model.specs.declared.Object.TheVariants.{Graft, Acct, Cell, OpenFile, Queue, Cache, Lock, Pol}
 use Rattle.kernel_model.specs.declared.Point.{Point}
 use Rattle.kernel_model.specs.World.{World, ImageTable}
-use Rattle.kernel_model.specs.Objects.{Objects, PolValue, SameAt, same_object}
+use Rattle.kernel_model.specs.Objects.{Objects, SameAt, same_object}
 use Rattle.kernel_model.specs.Policies.{PointKind, Ahead, Victim, Next, kind_of, valid, valid_by}
 use Rattle.kernel_model.specs.Meaning.{Meaning, Stage}
 use Rattle.kernel_model.specs.Sound.{IsSoundStore, IsSoundPolicy}
 use Rattle.kernel_model.specs.Alike.{AgreeOn, AreAlike, is_exclusive, is_needed, is_needed_exclusively}
-use Rattle.kernel_model.specs.Laws.{Laws, IsInRange, IsStanding, IsRightAnswer, SameKindOfPoint, accepted_by, before_point, needs_of_point}
+use Rattle.kernel_model.specs.Laws.{Laws, IsInRange, IsStanding, IsRightAnswer, SameKindOfPoint, accepted_by, before_point}
 use Rattle.kernel_laws.proofs.StepLemmas.{right_answer}
 use Rattle.graft_laws.specs.Histories.{HasRange}
 use Rattle.graft_laws.proofs.EffectLemmas.{same_back}

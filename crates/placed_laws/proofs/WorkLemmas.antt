@@ -1,18 +1,16 @@
 -- A graft call over the one store works on it.
-use Rattle.std.specs.Prelude.{◌≡◌, ℕ, suc, ◌<◌, nat_lt, Bool, true, false, cond, List, [], ◌∷◌, map, Option, Some, None, Contains}
-use Rattle.std.proofs.Common.{arith, refl, subst, sym, ap, ◌∙◌, inl, inr}
+use Rattle.std.specs.Prelude.{◌≡◌, ℕ, ◌<◌, nat_lt, Bool, true, false, cond, List, [], ◌∷◌, Some, Contains}
+use Rattle.std.proofs.Common.{arith, refl, sym, ap, ◌∙◌, inl, inr}
 use Rattle.std.proofs.lemmas.Bool.{cases_Bool}
 use Rattle.std.proofs.lemmas.Bool.Decides.{nat_tests}
 use Rattle.kernel_model.specs.declared.Object.TheVariants.{OpenFile, Queue, Cache, Lock, Pol}
-use Rattle.kernel_model.specs.declared.Object.{Object}
 use Rattle.kernel_model.specs.declared.Point.{Point}
-use Rattle.kernel_model.specs.Objects.{Objects, Accounts, Things, CacheValue, PolValue}
+use Rattle.kernel_model.specs.Objects.{Objects, Accounts, CacheValue, PolValue}
 use Rattle.kernel_model.specs.Meaning.{Meaning}
 use Rattle.kernel_model.specs.Levels.{Level, Config}
 use Rattle.kernel_model.specs.Kernel.{Kernel}
 use Rattle.kernel_model.specs.Blocking.{config_of}
 use Rattle.kernel_model.specs.InPlace.{is_changed_in}
-use Rattle.kernel_model.specs.Sound.{IsSoundStore}
 use Rattle.kernel_model.specs.Alike.{LevelsAlike, AreAlike, windowless, niceless, markless}
 use Rattle.kernel_model.specs.Laws.{Laws}
 use Rattle.kernel_laws.specs.Soundness.{IsGraftsWork, AreGraftsWork, IsAskedAt, WorksOn, found_by}

@@ -1,10 +1,21 @@
 //! Laws that a kernel in place goes on to stand for the abstract kernel. A call of one brings its statement into a proof.
 
-ghost use Rattle.placed_laws.specs.Keeping.{QuietKernelsStand};
+ghost use Rattle.placed_laws.specs.Keeping.{QuietKernelsStand, StepsStand, DropsStand};
 
 use kernel_model::Rules;
 
 /// A sound kernel in which no call is in flight stands in place as it is.
 pub fn quiet_kernels_stand<R: Rules>()
     ensures { QuietKernelsStand R.meaning }
+{}
+
+/// A step of a call that nothing blocks leaves a kernel in place that stands for the abstract one: a piece, an instruction, its
+/// end or a fallen level.
+pub fn steps_stand<R: Rules>()
+    ensures { StepsStand R.meaning }
+{}
+
+/// So does the drop of one of a call's levels.
+pub fn drops_stand<R: Rules>()
+    ensures { DropsStand R.meaning }
 {}

@@ -8,4 +8,6 @@ fn the_system_calls_have_the_laws(_rt: HostRuntime) {
     agreeing::same_stages::<PlainRules>();
     agreeing::same_blockers::<PlainRules>();
     keeping::quiet_kernels_stand::<PlainRules>();
+    keeping::steps_stand::<PlainRules>();
+    keeping::drops_stand::<PlainRules>();
 }
