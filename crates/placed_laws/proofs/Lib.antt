@@ -20,3 +20,5 @@ pub mod OutcomeStandLemmas
 pub mod KnownLemmas
 pub mod PieceStandLemmas
 pub mod StandLemmas
+pub mod RowLemmas
+pub mod OtherLemmas

@@ -6,12 +6,13 @@ use Rattle.kernel_model.specs.declared.SysCall.{SysCall}
 use Rattle.kernel_model.specs.World.{ImageTable}
 use Rattle.kernel_model.specs.Policies.{lives}
 use Rattle.kernel_model.specs.Meaning.{Meaning, Stage}
-use Rattle.kernel_model.specs.Kernel.{Call, Blocker, Kernel, Run, with_call, noted, joins, requeue, has_level}
+use Rattle.kernel_model.specs.Kernel.{Call, Blocker, Kernel, Run, with_call, noted, joins, requeue}
 use Rattle.kernel_model.specs.Settle.{step, rested}
 use Rattle.kernel_model.specs.Events.{drop_call, in_order, ticked}
 use Rattle.kernel_model.specs.Sound.{IsSoundKernel}
 use Rattle.kernel_model.specs.Alike.{Extends}
 use Rattle.graft_laws.specs.Kernels.{with_images}
+use Rattle.placed_laws.specs.Agreeing.{has_some}
 use Rattle.placed_laws.specs.Placed.{PlacedCall, Placed, PlacedRun, placed_blocker}
 use Rattle.placed_laws.specs.PlacedSteps.{with_placed_call, placed_noted, placed_joins, placed_requeue, placed_ticked, placed_rested_order, with_placed_order, with_placed_images, placed_step, placed_drop}
 use Rattle.placed_laws.specs.Stands.{StandsFor, RunStandsFor}
@@ -63,7 +64,7 @@ pub record OthersStand (m : Meaning) : Type 0 where
   pub ending : (x : PlacedRun) (r : Run) (p : ℕ) (c : PlacedCall) (n : Note) → RunStandsFor m x r → x.placed.call p ≡ Some c → x.placed.levels p ≡ [] →
       RunStandsFor m (placed_requeue p (placed_noted n (with_placed_call p None x))) (requeue p (noted n (with_call p None r)))
   -- a call in a graft that is blocked, and not in the order yet, joins it
-  pub joining : (x : PlacedRun) (r : Run) (p : ℕ) (b : Blocker) → RunStandsFor m x r → has_level (r.kernel.call p) ≡ true → in_order p r.kernel.order ≡ false →
+  pub joining : (x : PlacedRun) (r : Run) (p : ℕ) (b : Blocker) → RunStandsFor m x r → has_some (x.placed.levels p) ≡ true → in_order p x.placed.order ≡ false →
       placed_blocker m x.placed p ≡ Some b → RunStandsFor m (placed_joins p x) (joins p r)
   -- the order is told its blockers
   pub resting : (x : PlacedRun) (r : Run) → RunStandsFor m x r →

@@ -1,7 +1,7 @@
 //! Laws of what a kernel in place and the abstract kernel that it stands for have in common. A call of one brings its statement
 //! into a proof.
 
-ghost use Rattle.placed_laws.specs.Agreeing.{SameStages, SameBlockers};
+ghost use Rattle.placed_laws.specs.Agreeing.{SameStages, SameBlockers, SameShown};
 
 use kernel_model::Rules;
 
@@ -13,4 +13,9 @@ pub fn same_stages<R: Rules>()
 /// The same calls block each other, want what hinders them in the same mode, and are free.
 pub fn same_blockers<R: Rules>()
     ensures { SameBlockers R.meaning }
+{}
+
+/// The same rows and lines are shown, and calls are in a graft or at a piece alike.
+pub fn same_shown<R: Rules>()
+    ensures { SameShown R.meaning }
 {}

@@ -1,6 +1,6 @@
 //! Laws that a kernel in place goes on to stand for the abstract kernel. A call of one brings its statement into a proof.
 
-ghost use Rattle.placed_laws.specs.Keeping.{QuietKernelsStand, StepsStand, DropsStand};
+ghost use Rattle.placed_laws.specs.Keeping.{QuietKernelsStand, StepsStand, DropsStand, OthersStand};
 
 use kernel_model::Rules;
 
@@ -18,4 +18,9 @@ pub fn steps_stand<R: Rules>()
 /// So does the drop of one of a call's levels.
 pub fn drops_stand<R: Rules>()
     ensures { DropsStand R.meaning }
+{}
+
+/// So do notes, calls that begin or end, entries of the order and its blockers, the clock, and images.
+pub fn others_stand<R: Rules>()
+    ensures { OthersStand R.meaning }
 {}

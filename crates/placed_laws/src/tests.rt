@@ -7,7 +7,9 @@ use plain_rules::PlainRules;
 fn the_system_calls_have_the_laws(_rt: HostRuntime) {
     agreeing::same_stages::<PlainRules>();
     agreeing::same_blockers::<PlainRules>();
+    agreeing::same_shown::<PlainRules>();
     keeping::quiet_kernels_stand::<PlainRules>();
     keeping::steps_stand::<PlainRules>();
     keeping::drops_stand::<PlainRules>();
+    keeping::others_stand::<PlainRules>();
 }

@@ -1,0 +1,5 @@
+use Rattle.placed_laws.proofs.OtherLemmas.{others_stand}
+use Rattle.placed_laws.proofs.keeping.others_stand.Goals as goal
+
+pub returns : goal.returns
+returns g c = others_stand g.R.Rules.meaning g.R.Rules.laws
