@@ -10,6 +10,7 @@ use Rattle.kernel_model.specs.declared.Event.TheVariants.{Tick, Step, Sys}
 use Rattle.kernel_model.specs.declared.Held.{Held}
 use Rattle.kernel_model.specs.declared.Mode.{Mode}
 use Rattle.kernel_model.specs.declared.Need.{Need}
+use Rattle.kernel_model.specs.declared.Object.{Object}
 use Rattle.kernel_model.specs.declared.Note.TheVariants.{Refused, Ran}
 use Rattle.kernel_model.specs.declared.Refusal.TheVariants.{NoProcess, BadIndex}
 use Rattle.kernel_model.specs.declared.SysCall.{SysCall}
@@ -162,11 +163,9 @@ module _ (m : Meaning) (laws : Laws m) (owns : NeedsGraftsExclusively m) where
       by_call None e = h
       by_call (Some c) e = by_marks c e c.marks
 
-  holder_sound : (p : ℕ) (b : Blocker) (r : Run) → IsSoundRun m r → IsSoundRun m (holder_action m p b r)
-  holder_sound p b r h =
-      let mode = wanted b.object (needs m r.kernel p) in
-      drop_if_sound r b.holder (outermost_holding b.object mode (holds m r.kernel b.holder)) (TimeOut b.object p) h
-      (λ n e. is_level mode n (found_passes (λ d. conflicts (holds m r.kernel b.holder d b.object) mode) (0 ∷ 1 ∷ 2 ∷ 3 ∷ []) n e))
+  -- a level that holds an object so is there
+  pub held_level : (r : Run) (q : ℕ) (o : Object) (mode : Mode) (n : ℕ) → outermost_holding o mode (holds m r.kernel q) ≡ Some n → n < length (levels_of m r.kernel q)
+  held_level r q o mode n e = is_level mode n (found_passes (λ d. conflicts (holds m r.kernel q d o) mode) (0 ∷ 1 ∷ 2 ∷ 3 ∷ []) n e)
     where
       found_passes : (test : ℕ → Bool) (ns : List ℕ) (n : ℕ) → find test ns ≡ Some n → test n ≡ true
       found_passes test [] n e = absurd cc
@@ -182,15 +181,15 @@ module _ (m : Meaning) (laws : Laws m) (owns : NeedsGraftsExclusively m) where
       free_not : (mode : Mode) → conflicts Held.Free mode ≡ true → ⊥
       free_not mode e = cc
 
-      is_level : (mode : Mode) (n : ℕ) → conflicts (holds m r.kernel b.holder n b.object) mode ≡ true → n < length (levels_of m r.kernel b.holder)
-      is_level mode n e = elim (cases_Bool (nat_lt b.holder 16)) [
-        | inr out ↦ absurd (free_not mode (ap (λ (t : Touched). conflicts (t b.object) mode) (sym (holds_beyond m r.kernel b.holder n (beyond b.holder out))) ∙ e))
-        | inl within ↦ elim (cases_Bool (nat_lt n (length (levels_of m r.kernel b.holder)))) [
-          | inl inside ↦ below n (length (levels_of m r.kernel b.holder)) inside
+      is_level : (mode : Mode) (n : ℕ) → conflicts (holds m r.kernel q n o) mode ≡ true → n < length (levels_of m r.kernel q)
+      is_level mode n e = elim (cases_Bool (nat_lt q 16)) [
+        | inr out ↦ absurd (free_not mode (ap (λ (t : Touched). conflicts (t o) mode) (sym (holds_beyond m r.kernel q n (beyond q out))) ∙ e))
+        | inl within ↦ elim (cases_Bool (nat_lt n (length (levels_of m r.kernel q)))) [
+          | inl inside ↦ below n (length (levels_of m r.kernel q)) inside
           | inr over ↦
-              let ls = levels_of m r.kernel b.holder in
-              absurd (free_not mode (ap (λ (t : Touched). conflicts (t b.object) mode)
-              (sym (holds_of m r.kernel b.holder n (below b.holder 16 within) ∙ touched_beyond ls n (level_at n ls) (at_least n (length ls) over) refl)) ∙ e))
+              let ls = levels_of m r.kernel q in
+              absurd (free_not mode (ap (λ (t : Touched). conflicts (t o) mode)
+              (sym (holds_of m r.kernel q n (below q 16 within) ∙ touched_beyond ls n (level_at n ls) (at_least n (length ls) over) refl)) ∙ e))
         ]
       ]
         where
@@ -202,6 +201,11 @@ module _ (m : Meaning) (laws : Laws m) (owns : NeedsGraftsExclusively m) where
 
           at_least : (n k : ℕ) → nat_lt n k ≡ false → k ≤ n
           at_least n k h = grind (arith, nat_tests)
+
+  holder_sound : (p : ℕ) (b : Blocker) (r : Run) → IsSoundRun m r → IsSoundRun m (holder_action m p b r)
+  holder_sound p b r h =
+      let mode = wanted b.object (needs m r.kernel p) in
+      drop_if_sound r b.holder (outermost_holding b.object mode (holds m r.kernel b.holder)) (TimeOut b.object p) h (λ n e. held_level r b.holder b.object mode n e)
 
   entry_sound : (e : Entry) (x : Option Blocker) (r : Run) → IsSoundRun m r → IsSoundRun m (entry_action m e x r)
   entry_sound e None r h = h

@@ -106,7 +106,7 @@ module _ (m : Meaning) (laws : Laws m) (owns : NeedsGraftsExclusively m) where
       by_blocker None f h rest = let same = is_it e.process p h in (e, first_in e es, same, ap (blocker_in m k locks) (sym same) ∙ f)
       by_blocker (Some b) f h rest = let x = rest h in (x.0, Contains-append_right (e ∷ []) es x.0 x.1, x.2, x.3)
 
-  first_free_is : (k : Kernel) (es : List Entry) (p : ℕ) → first_free m k es ≡ Some p → (e : Entry) × Contains es e × (e.process ≡ p) × (blocker m k p ≡ None)
+  pub first_free_is : (k : Kernel) (es : List Entry) (p : ℕ) → first_free m k es ≡ Some p → (e : Entry) × Contains es e × (e.process ≡ p) × (blocker m k p ≡ None)
   first_free_is k [] p h = absurd cc
   first_free_is k (e ∷ es) p h = free_in k (holds m k) (e ∷ es) p h
 

@@ -26,8 +26,7 @@ use Rattle.graft_laws.proofs.OrderLemmas.{with_order, config_same}
 use Rattle.graft_laws.proofs.SettleSoundLemmas.{rested_sound, timed_out_sound, joined_call_sound}
 use Rattle.graft_laws.proofs.EventLemmas.{joins_sound, ticked_sound}
 use Rattle.graft_laws.proofs.MoreImageLemmas.{images_stay_sound}
-use Rattle.placed_laws.specs.Agreeing.{has_some}
-use Rattle.placed_laws.specs.Placed.{PlacedCall, PlacedLevel, Placed, PlacedRun, bare, placed_blocker}
+use Rattle.placed_laws.specs.Placed.{has_some, PlacedCall, PlacedLevel, Placed, PlacedRun, bare, placed_blocker}
 use Rattle.placed_laws.specs.PlacedSteps.{is_placed_at_piece, placed_rested_order}
 use Rattle.placed_laws.specs.Stands.{without_history, StandsFor, RunStandsFor}
 use Rattle.placed_laws.specs.Keeping.{OthersStand, first_call, first_placed}

@@ -8,8 +8,7 @@ use Rattle.kernel_model.specs.Kernel.{Call, Kernel, is_at_piece, has_level}
 use Rattle.kernel_model.specs.Blocking.{levels_in, levels_of}
 use Rattle.kernel_model.specs.Sound.{IsSoundKernel}
 use Rattle.kernel_model.specs.Laws.{Laws}
-use Rattle.placed_laws.specs.Agreeing.{has_some}
-use Rattle.placed_laws.specs.Placed.{PlacedCall, bare}
+use Rattle.placed_laws.specs.Placed.{has_some, PlacedCall, bare}
 use Rattle.placed_laws.specs.PlacedSteps.{is_placed_at_piece}
 use Rattle.placed_laws.specs.Stands.{without_history}
 use Rattle.placed_laws.proofs.GraftedLemmas.{grafted}

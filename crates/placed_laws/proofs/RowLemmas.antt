@@ -30,8 +30,8 @@ use Rattle.kernel_model.specs.Laws.{Laws}
 use Rattle.kernel_laws.proofs.StepLemmas.{no_file_high, no_file_beyond}
 use Rattle.graft_laws.proofs.LevelsAlikeLemmas.{length_alike}
 use Rattle.history_laws.proofs.InPlaceLemmas.{in_place_reads, changer, changer_config}
-use Rattle.placed_laws.specs.Agreeing.{SameShown, has_some}
-use Rattle.placed_laws.specs.Placed.{PlacedCall, Placed, placed_levels}
+use Rattle.placed_laws.specs.Agreeing.{SameShown}
+use Rattle.placed_laws.specs.Placed.{has_some, PlacedCall, Placed, placed_levels}
 use Rattle.placed_laws.specs.PlacedSteps.{is_placed_at_piece}
 use Rattle.placed_laws.specs.PlacedRows.{placed_call_row, placed_level_rows, placed_undo_rows, placed_rows}
 use Rattle.placed_laws.specs.Stands.{without_history}

@@ -8,15 +8,10 @@ use Rattle.kernel_model.specs.Blocking.{blocker, levels_of, needs, holds}
 use Rattle.kernel_model.specs.Settle.{first_free, rested_order}
 use Rattle.kernel_model.specs.Events.{wanted, innermost, graft_note}
 use Rattle.kernel_model.specs.RawRows.{raw_rows}
-use Rattle.placed_laws.specs.Placed.{Placed, placed_levels, placed_holds, placed_needs, placed_blocker}
+use Rattle.placed_laws.specs.Placed.{has_some, Placed, placed_levels, placed_holds, placed_needs, placed_blocker}
 use Rattle.placed_laws.specs.PlacedSteps.{is_placed_at_piece, placed_first_free, placed_rested_order}
 use Rattle.placed_laws.specs.PlacedRows.{placed_rows}
 use Rattle.placed_laws.specs.Stands.{StandsFor}
-
--- there is some
-abbrev pub has_some : {A : Type 0} → List A → Bool
-has_some [] = false
-has_some _ = true
 
 -- The same processes live, and stages fit and have pieces left alike.
 pub record SameStages (m : Meaning) : Type 0 where

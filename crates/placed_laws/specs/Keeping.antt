@@ -1,6 +1,7 @@
 -- That a kernel in place goes on to stand for the abstract kernel, whatever both do.
 use Rattle.std.specs.Prelude.{◌≡◌, ◌<◌, ℕ, true, false, [], Some, None, length, Ok}
 use Rattle.kernel_model.specs.declared.Cause.{Cause}
+use Rattle.kernel_model.specs.declared.Event.{Event}
 use Rattle.kernel_model.specs.declared.Note.{Note}
 use Rattle.kernel_model.specs.declared.SysCall.{SysCall}
 use Rattle.kernel_model.specs.World.{ImageTable}
@@ -8,13 +9,13 @@ use Rattle.kernel_model.specs.Policies.{lives}
 use Rattle.kernel_model.specs.Meaning.{Meaning, Stage}
 use Rattle.kernel_model.specs.Kernel.{Call, Blocker, Kernel, Run, with_call, noted, joins, requeue}
 use Rattle.kernel_model.specs.Settle.{step, rested}
-use Rattle.kernel_model.specs.Events.{drop_call, in_order, ticked}
-use Rattle.kernel_model.specs.Sound.{IsSoundKernel}
+use Rattle.kernel_model.specs.Events.{drop_call, in_order, ticked, event_on}
+use Rattle.kernel_model.specs.Sound.{IsSoundKernel, IsAtRest}
 use Rattle.kernel_model.specs.Alike.{Extends}
 use Rattle.graft_laws.specs.Kernels.{with_images}
-use Rattle.placed_laws.specs.Agreeing.{has_some}
-use Rattle.placed_laws.specs.Placed.{PlacedCall, Placed, PlacedRun, placed_blocker}
+use Rattle.placed_laws.specs.Placed.{has_some, PlacedCall, Placed, PlacedRun, placed_blocker}
 use Rattle.placed_laws.specs.PlacedSteps.{with_placed_call, placed_noted, placed_joins, placed_requeue, placed_ticked, placed_rested_order, with_placed_order, with_placed_images, placed_step, placed_drop}
+use Rattle.placed_laws.specs.PlacedEvents.{placed_event_on}
 use Rattle.placed_laws.specs.Stands.{StandsFor, RunStandsFor}
 
 -- ---- the beginning
@@ -74,3 +75,11 @@ pub record OthersStand (m : Meaning) : Type 0 where
   -- more images are loaded
   pub images : (x : PlacedRun) (r : Run) (more : ImageTable) → RunStandsFor m x r → Extends x.placed.images more →
       RunStandsFor m (with_placed_images more x) (with_images more r)
+
+-- ---- events
+
+-- An event from a kernel at rest: the same notes, blocks and disk calls, and a kernel that rests again.
+abbrev pub EventsStand : Meaning → Type 0
+EventsStand m =
+    (x : PlacedRun) (r : Run) (number : ℕ) (e : Event) → RunStandsFor m x r → IsAtRest m r.kernel →
+    RunStandsFor m (placed_event_on m number e x) (event_on m number e r) × IsAtRest m (event_on m number e r).kernel

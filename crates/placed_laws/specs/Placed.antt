@@ -1,6 +1,6 @@
 -- The kernel in place: one store that is changed in place, and of each call in flight its levels, without a history and without a
 -- committed copy.
-use Rattle.std.specs.Prelude.{ℕ, Bool, cond, List, [], ◌∷◌, Option, Some, None, map, option_map}
+use Rattle.std.specs.Prelude.{ℕ, Bool, true, false, cond, List, [], ◌∷◌, Option, Some, None, map, option_map}
 use Rattle.kernel_model.specs.declared.Inverse.{Inverse}
 use Rattle.kernel_model.specs.declared.Need.{Need}
 use Rattle.kernel_model.specs.declared.Note.{Note}
@@ -60,6 +60,11 @@ pub record PlacedRun : Type 0 where
   pub io : List Bool
 
 -- ---- levels
+
+-- there is some level
+abbrev pub has_some : List PlacedLevel → Bool
+has_some [] = false
+has_some (l ∷ ls) = true
 
 -- a level that found these things
 abbrev pub level_with : Things → PlacedLevel → Level
