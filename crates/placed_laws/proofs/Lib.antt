@@ -22,3 +22,5 @@ pub mod PieceStandLemmas
 pub mod StandLemmas
 pub mod RowLemmas
 pub mod OtherLemmas
+pub mod SettleLemmas
+pub mod EventLemmas

@@ -1,6 +1,6 @@
 //! Laws that a kernel in place goes on to stand for the abstract kernel. A call of one brings its statement into a proof.
 
-ghost use Rattle.placed_laws.specs.Keeping.{QuietKernelsStand, StepsStand, DropsStand, OthersStand};
+ghost use Rattle.placed_laws.specs.Keeping.{QuietKernelsStand, StepsStand, DropsStand, OthersStand, EventsStand};
 
 use kernel_model::Rules;
 
@@ -23,4 +23,9 @@ pub fn drops_stand<R: Rules>()
 /// So do notes, calls that begin or end, entries of the order and its blockers, the clock, and images.
 pub fn others_stand<R: Rules>()
     ensures { OthersStand R.meaning }
+{}
+
+/// So does a whole event from a kernel at rest, which leaves one at rest: the same notes, blocks and disk calls.
+pub fn events_stand<R: Rules>()
+    ensures { EventsStand R.meaning }
 {}

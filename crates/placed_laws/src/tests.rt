@@ -12,4 +12,5 @@ fn the_system_calls_have_the_laws(_rt: HostRuntime) {
     keeping::steps_stand::<PlainRules>();
     keeping::drops_stand::<PlainRules>();
     keeping::others_stand::<PlainRules>();
+    keeping::events_stand::<PlainRules>();
 }
