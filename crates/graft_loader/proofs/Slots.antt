@@ -1,5 +1,5 @@
 -- Lemmas on the table of images and its bits.
-use Rattle.std.proofs.Common.{◌≡◌, ◌≢◌, ℕ, ◌*◌, ◌^◌, ◌%◌, ◌<◌, ◌==◌, ◌||◌, Bool, true, false, cond, List, [], ◌∷◌, length, map, replicate, slice_set, Option, Some, None, is_some, bit_or, refl, arith, ◌∙◌, sym, ap}
+use Rattle.std.proofs.Common.{◌≡◌, ◌≢◌, ℕ, ◌*◌, ◌^◌, ◌%◌, ◌<◌, ◌==◌, ◌||◌, Bool, true, false, cond, List, [], ◌∷◌, length, map, replicate, slice_set, Option, Some, None, is_some, bit_or, refl, arith, ◌∙◌, sym, ap, zero, suc, slice_index_or}
 use Rattle.std.proofs.lemmas.Bool.Decides.{nat_tests}
 use Rattle.std.proofs.Math.Path.{fun_ext}
 use Rattle.std.specs.Int.{w32}
@@ -8,7 +8,7 @@ use Rattle.std.proofs.lemmas.Nat.Bits.{bit_at_set_same, bit_at_set_other, bit_at
 use Rattle.kernel_model.specs.World.{Image}
 use Rattle.kernel_model.specs.ImageMask.{TellsImages, has_bit}
 use Rattle.kernel_model.specs.Objects.{at}
-use Rattle.graft_loader.specs.Slots.{IsTable, table_of, no_slots, free_in_place}
+use Rattle.graft_loader.specs.Slots.{IsTable, table_of, no_slots, no_images, free_in_place}
 
 -- each slot is free
 pub all_free : (xs : List (Option Image)) → map free_in_place xs ≡ replicate (length xs) None
@@ -59,6 +59,15 @@ told_changed xs m n k i lt told bits = λ j near. ap (λ (o : Option Image). is_
 -- no bit tells of free slots
 pub none_told : TellsImages 0 (table_of no_slots)
 none_told = λ j near. ap (λ (o : Option Image). is_some o) (get_or-replicate 32 j None None near) ∙ sym (ap (λ n. n == 1) (bit_at-zero j))
+
+-- a table of free slots has no image
+free_from : (n slot : ℕ) → slice_index_or (replicate n (let i : Option Image = None in i)) slot None ≡ None
+free_from zero slot = refl
+free_from (suc n) zero = refl
+free_from (suc n) (suc slot) = free_from n slot
+
+pub none_there : (xs : List (Option Image)) → xs ≡ no_slots → table_of xs ≡ no_images
+none_there xs is = rw is (fun_ext (λ slot. free_from 32 slot))
 
 -- free slots, and no bit set, are a table
 pub free_table : (xs : List (Option Image)) → xs ≡ no_slots → IsTable xs 0

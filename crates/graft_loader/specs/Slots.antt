@@ -7,6 +7,10 @@ use Rattle.kernel_model.specs.ImageMask.{TellsImages}
 abbrev pub no_slots : List (Option Image)
 no_slots = replicate 32 None
 
+-- no image is loaded
+abbrev pub no_images : ImageTable
+no_images slot = None
+
 -- the loaded images by slot
 abbrev pub table_of : List (Option Image) → ImageTable
 table_of slots slot = slice_index_or slots slot None

@@ -75,11 +75,12 @@ impl Images {
     ghost use Rattle.std.specs.Prelude.{slice_set};
     ghost use Rattle.kernel_model.specs.Objects.{at};
     ghost use Rattle.graft_loader.specs.Loading.{IsLoaded};
-    ghost use Rattle.graft_loader.specs.Slots.{no_slots, table_of};
+    ghost use Rattle.graft_loader.specs.Slots.{no_slots, no_images, table_of};
 
     /// Each slot is free. No other call takes memory.
     pub fn new(alloc: Global) -> Result<Images, NoMemory>
-        ensures { IfOk result (λ t. t ≡ no_slots) }
+        ensures slots { IfOk result (λ t. t ≡ no_slots) }
+        ensures table { IfOk result (λ t. table_of t ≡ no_images) }
     {
         match free_slots(alloc, SLOTS) {
             Ok(slots) => Ok(Images { slots, mask: 0 }),
@@ -125,7 +126,8 @@ impl Images {
 
     /// Frees each slot.
     pub fn clear(&mut self)
-        ensures { self.new ≡ no_slots }
+        ensures slots { self.new ≡ no_slots }
+        ensures table { table_of self.new ≡ no_images }
     {
         free_all(self.slots.as_mut_slice());
         self.mask = 0;

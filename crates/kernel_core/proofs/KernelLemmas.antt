@@ -26,10 +26,10 @@ use Rattle.kernel_model.specs.Alone.{pieces_from, GoesToItsEnd, is_lock, event_o
 use Rattle.disk_log.specs.Calls.{Tells, Made, GoesOn}
 use Rattle.disk_log.specs.Joined.{made_none, made_joined}
 use Rattle.vino_base.specs.Calls.{Plan}
-use Rattle.kernel_model.specs.ImageMask.{TellsImages, has_bit}
 use Rattle.call_pieces.specs.Works.{stage_granted}
 use Rattle.call_pieces.specs.Coming.{CameTo}
-use Rattle.kernel_core.specs.Standing.{no_images, CallRan, Happened, RunsAlone}
+use Rattle.graft_loader.specs.Slots.{no_images}
+use Rattle.kernel_core.specs.Standing.{CallRan, Happened, RunsAlone}
 
 -- ---- nothing hinders such a call
 
@@ -191,53 +191,47 @@ goes_on_by faults faults_new plan plan_new before own after is made = λ f p fir
 
 -- ---- events
 
--- bit k tells of a table without images that image k isn't loaded
-pub none_loaded : TellsImages 0 no_images
-none_loaded = λ k below. unset k
-  where
-    unset : (k : ℕ) → false ≡ has_bit k 0
-    unset k = grind arith
-
 -- the event of a call that was run
-pub call_happened : (m : Meaning) (n p number : ℕ) (c : SysCall) (t : Stage) (v w : World) (s s_new : Objects) (clock ticks : ℕ) (notes : List Note) (told told_new : Option (List (List ℕ))) (io : List Bool) →
-    n ≤ 256 → lives s.things.queue p ≡ true → m.early v no_images p c ≡ Ok t →
+pub call_happened : (m : Meaning) (n p number : ℕ) (c : SysCall) (t : Stage) (v w : World) (table later : ImageTable) (s s_new : Objects) (clock ticks : ℕ) (notes : List Note) (told told_new : Option (List (List ℕ))) (io : List Bool) →
+    n ≤ 256 → lives s.things.queue p ≡ true → m.early v table p c ≡ Ok t →
     CallRan m n p number t v s s_new clock [] notes told told_new io →
-    w ≡ v → ticks ≡ clock → HasNoGraft s → Happened m (quiet v no_images s clock) (quiet w no_images s_new ticks) told told_new number (Sys p c) io notes
-call_happened m n p number c t v w s s_new clock ticks notes told told_new io few alive granted ran world same none =
-    let x = λ (blocks : Blocks). pieces_from m n p number t (at_rest v no_images s clock blocks [] io) in
+    w ≡ v → later ≡ table → ticks ≡ clock → HasNoGraft s → Happened m (quiet v table s clock) (quiet w later s_new ticks) told told_new number (Sys p c) io notes
+call_happened m n p number c t v w table later s s_new clock ticks notes told told_new io few alive granted ran world kept same none =
+    let x = λ (blocks : Blocks). pieces_from m n p number t (at_rest v table s clock blocks [] io) in
     let ends = λ (blocks : Blocks) (tells : Tells told blocks).
-    subst (λ (y : List Bool). GoesToItsEnd m n p number t (at_rest v no_images s clock blocks [] y)) (append-nil io) (ran.ends no_images blocks [] tells none) in
+    subst (λ (y : List Bool). GoesToItsEnd m n p number t (at_rest v table s clock blocks [] y)) (append-nil io) (ran.ends table blocks [] tells none) in
     let rests = λ (blocks : Blocks) (tells : Tells told blocks).
-    subst (λ (y : List Bool). pieces_from m n p number t (at_rest v no_images s clock blocks [] y) ≡ at_rest v no_images s_new clock (pieces_from m n p number t (at_rest v no_images s clock blocks [] y)).blocks notes []) (append-nil io) (ran.rests no_images blocks [] tells) in
+    subst (λ (y : List Bool). pieces_from m n p number t (at_rest v table s clock blocks [] y) ≡ at_rest v table s_new clock (pieces_from m n p number t (at_rest v table s clock blocks [] y)).blocks notes []) (append-nil io) (ran.rests table blocks [] tells) in
     let is = λ (blocks : Blocks) (tells : Tells told blocks).
-    event_of_pieces m n p number c t v no_images s clock blocks io alive granted few (ends blocks tells) in
+    event_of_pieces m n p number c t v table s clock blocks io alive granted few (ends blocks tells) in
     record {
       kernel_is = λ blocks tells.
           ap (λ (r : Run). r.kernel) (is blocks tells ∙ rests blocks tells)
-          ∙ ap (λ (y : World). quiet y no_images s_new clock) (sym world)
-          ∙ ap (λ (y : ℕ). quiet w no_images s_new y) (sym same);
+          ∙ ap (λ (y : World). quiet y table s_new clock) (sym world)
+          ∙ ap (λ (y : ImageTable). quiet w y s_new clock) (sym kept)
+          ∙ ap (λ (y : ℕ). quiet w later s_new y) (sym same);
       blocks_are = λ blocks tells.
           subst (λ (r : Run). Tells told_new r.blocks) (sym (is blocks tells))
-          (subst (λ (y : List Bool). Tells told_new (pieces_from m n p number t (at_rest v no_images s clock blocks [] y)).blocks) (append-nil io) (ran.tells no_images blocks [] tells));
+          (subst (λ (y : List Bool). Tells told_new (pieces_from m n p number t (at_rest v table s clock blocks [] y)).blocks) (append-nil io) (ran.tells table blocks [] tells));
       notes_are = λ blocks tells. ap (λ (r : Run). r.notes) (is blocks tells ∙ rests blocks tells);
       used_all = λ blocks tells. ap (λ (r : Run). r.io) (is blocks tells ∙ rests blocks tells);
       graftless = λ blocks tells. ran.graftless blocks tells none;
     }
 
 -- the same, of a call that was just granted
-pub call_happened_at : (m : Meaning) (n p q number : ℕ) (c : SysCall) (t : Stage) (v w : World) (s s_new : Objects) (clock ticks : ℕ) (before after : List Bool) (notes_old notes : List Note) (told told_new : Option (List (List ℕ))) →
-    n ≤ 256 → q ≡ p → before ≡ [] → notes_old ≡ [] → lives s.things.queue p ≡ true → m.early v no_images p c ≡ Ok t →
+pub call_happened_at : (m : Meaning) (n p q number : ℕ) (c : SysCall) (t : Stage) (v w : World) (table later : ImageTable) (s s_new : Objects) (clock ticks : ℕ) (before after : List Bool) (notes_old notes : List Note) (told told_new : Option (List (List ℕ))) →
+    n ≤ 256 → q ≡ p → before ≡ [] → notes_old ≡ [] → lives s.things.queue p ≡ true → m.early v table p c ≡ Ok t →
     CallRan m n q number t v s s_new clock notes_old notes told told_new (drop (length before) after) →
-    w ≡ v → ticks ≡ clock → HasNoGraft s → Happened m (quiet v no_images s clock) (quiet w no_images s_new ticks) told told_new number (Sys p c) after notes
-call_happened_at m n p q number c t v w s s_new clock ticks before after notes_old notes told told_new few caller is said alive granted ran world same none =
+    w ≡ v → later ≡ table → ticks ≡ clock → HasNoGraft s → Happened m (quiet v table s clock) (quiet w later s_new ticks) told told_new number (Sys p c) after notes
+call_happened_at m n p q number c t v w table later s s_new clock ticks before after notes_old notes told told_new few caller is said alive granted ran world kept same none =
     let ran_is = rw (caller, said, is, appended [] after after refl) at ran in
-    call_happened m n p number c t v w s s_new clock ticks notes told told_new after few alive granted ran_is world same none
+    call_happened m n p number c t v w table later s s_new clock ticks notes told told_new after few alive granted ran_is world kept same none
 
 -- an event that leaves the kernel as it was, with one note
-stays_so : (m : Meaning) (v : World) (s : Objects) (clock : ℕ) (told : Option (List (List ℕ))) (number p : ℕ) (c : SysCall) (note : Note) (io : List Bool) (notes : List Note) →
-    ((blocks : Blocks) → event m (quiet v no_images s clock) blocks number (Sys p c) io ≡ at_rest v no_images s clock blocks (note ∷ []) io) →
-    io ≡ [] → notes ≡ note ∷ [] → HasNoGraft s → Happened m (quiet v no_images s clock) (quiet v no_images s clock) told told number (Sys p c) io notes
-stays_so m v s clock told number p c note io notes is none said graftless =
+stays_so : (m : Meaning) (v : World) (table : ImageTable) (s : Objects) (clock : ℕ) (told : Option (List (List ℕ))) (number p : ℕ) (c : SysCall) (note : Note) (io : List Bool) (notes : List Note) →
+    ((blocks : Blocks) → event m (quiet v table s clock) blocks number (Sys p c) io ≡ at_rest v table s clock blocks (note ∷ []) io) →
+    io ≡ [] → notes ≡ note ∷ [] → HasNoGraft s → Happened m (quiet v table s clock) (quiet v table s clock) told told number (Sys p c) io notes
+stays_so m v table s clock told number p c note io notes is none said graftless =
     record {
       kernel_is = λ blocks tells. ap (λ (r : Run). r.kernel) (is blocks);
       blocks_are = λ blocks tells. subst (λ (r : Run). Tells told r.blocks) (sym (is blocks)) tells;
@@ -247,29 +241,29 @@ stays_so m v s clock told number p c note io notes is none said graftless =
     }
 
 -- a process that doesn't live
-pub none_happened : (m : Meaning) (v : World) (s : Objects) (clock : ℕ) (told : Option (List (List ℕ))) (number p : ℕ) (c : SysCall) (io : List Bool) (notes : List Note) →
+pub none_happened : (m : Meaning) (v : World) (table : ImageTable) (s : Objects) (clock : ℕ) (told : Option (List (List ℕ))) (number p : ℕ) (c : SysCall) (io : List Bool) (notes : List Note) →
     lives s.things.queue p ≡ false → io ≡ [] → notes ≡ Refused number NoProcess ∷ [] → HasNoGraft s →
-    Happened m (quiet v no_images s clock) (quiet v no_images s clock) told told number (Sys p c) io notes
-none_happened m v s clock told number p c io notes absent none said =
-    stays_so m v s clock told number p c (Refused number NoProcess) io notes
-    (λ blocks. event_of_none m p number c v no_images s clock blocks io absent) none said
+    Happened m (quiet v table s clock) (quiet v table s clock) told told number (Sys p c) io notes
+none_happened m v table s clock told number p c io notes absent none said =
+    stays_so m v table s clock told number p c (Refused number NoProcess) io notes
+    (λ blocks. event_of_none m p number c v table s clock blocks io absent) none said
 
 -- a call that is refused at once
-pub refused_happened : (m : Meaning) (v : World) (s : Objects) (clock : ℕ) (told : Option (List (List ℕ))) (number p : ℕ) (c : SysCall) (refusal : Refusal) (io : List Bool) (notes : List Note) →
-    lives s.things.queue p ≡ true → m.early v no_images p c ≡ Err refusal → io ≡ [] → notes ≡ Refused number refusal ∷ [] → HasNoGraft s →
-    Happened m (quiet v no_images s clock) (quiet v no_images s clock) told told number (Sys p c) io notes
-refused_happened m v s clock told number p c refusal io notes alive refused none said =
-    stays_so m v s clock told number p c (Refused number refusal) io notes
-    (λ blocks. event_refused m p number c refusal v no_images s clock blocks io alive refused) none said
+pub refused_happened : (m : Meaning) (v : World) (table : ImageTable) (s : Objects) (clock : ℕ) (told : Option (List (List ℕ))) (number p : ℕ) (c : SysCall) (refusal : Refusal) (io : List Bool) (notes : List Note) →
+    lives s.things.queue p ≡ true → m.early v table p c ≡ Err refusal → io ≡ [] → notes ≡ Refused number refusal ∷ [] → HasNoGraft s →
+    Happened m (quiet v table s clock) (quiet v table s clock) told told number (Sys p c) io notes
+refused_happened m v table s clock told number p c refusal io notes alive refused none said =
+    stays_so m v table s clock told number p c (Refused number refusal) io notes
+    (λ blocks. event_refused m p number c refusal v table s clock blocks io alive refused) none said
 
 -- a tick
-pub tick_happened : (m : Meaning) (v : World) (s : Objects) (clock ticks : ℕ) (told : Option (List (List ℕ))) (number : ℕ) (io : List Bool) (notes : List Note) →
+pub tick_happened : (m : Meaning) (v : World) (table : ImageTable) (s : Objects) (clock ticks : ℕ) (told : Option (List (List ℕ))) (number : ℕ) (io : List Bool) (notes : List Note) →
     ticks ≡ clock + 1 → io ≡ [] → notes ≡ Ticked number (clock + 1) ∷ [] → HasNoGraft s →
-    Happened m (quiet v no_images s clock) (quiet v no_images s ticks) told told number Tick io notes
-tick_happened m v s clock ticks told number io notes rose_by none said graftless =
+    Happened m (quiet v table s clock) (quiet v table s ticks) told told number Tick io notes
+tick_happened m v table s clock ticks told number io notes rose_by none said graftless =
     let rose = rw add-one at rose_by in
     record {
-      kernel_is = λ blocks tells. ap (λ (y : ℕ). quiet v no_images s y) (sym rose);
+      kernel_is = λ blocks tells. ap (λ (y : ℕ). quiet v table s y) (sym rose);
       blocks_are = λ blocks tells. tells;
       notes_are = λ blocks tells. ap (λ (n : ℕ). Ticked number n ∷ []) (sym (add-one clock)) ∙ sym said;
       used_all = λ blocks tells. none;

@@ -19,13 +19,9 @@ use Rattle.kernel_state.specs.Stores.{Seeing, world_of_store, objects_of}
 use Rattle.kernel_core.specs.declared.kernel.BootNote.{BootNote}
 use Rattle.kernel_core.specs.declared.kernel.BootNote.TheVariants.{Up, Fault}
 
--- no image is loaded
-abbrev pub no_images : ImageTable
-no_images slot = None
-
--- the abstract kernel of a store and a clock, in which no call is in flight
-abbrev pub kernel_of : {X : Type 0} {F : X → Type 0} → Seeing X F → Store X F → (clock : ℕ) → abstract.Kernel
-kernel_of view s clock = quiet (world_of_store s) no_images (objects_of view s) clock
+-- the abstract kernel of a store, loaded images and a clock, in which no call is in flight
+abbrev pub kernel_of : {X : Type 0} {F : X → Type 0} → Seeing X F → Store X F → ImageTable → (clock : ℕ) → abstract.Kernel
+kernel_of view s images clock = quiet (world_of_store s) images (objects_of view s) clock
 
 -- A call that runs to its end at its own event, whatever state it begins in: it takes no user lock, for which it could wait,
 -- and none of its pieces leaves a graft where none stood, whose call could begin a level.

@@ -1,24 +1,27 @@
-//! The kernel: a store and the clock. Each call runs to its end at its own event.
+//! The kernel: a store, the loaded images and the clock. Each call runs to its end at its own event.
 
-ghost use Rattle.std.specs.Prelude.{◌≡◌, ℕ, ◌+◌, ◌*◌, ◌<◌, ◌≤◌, ◌^◌, ◌-◌, ◌++◌, true, false, [], ◌∷◌, length, drop, map, Some, None, slice_index_or};
+ghost use Rattle.std.specs.Prelude.{◌≡◌, ℕ, ◌+◌, ◌*◌, ◌<◌, ◌≤◌, ◌^◌, ◌-◌, ◌++◌, true, false, [], ◌∷◌, length, drop, map, Some, None, slice_index_or, is_some};
 ghost use Rattle.kernel_model.specs.declared.FileRow.{FileRow as Row};
 ghost use Rattle.kernel_model.specs.declared.Event.TheVariants.{Sys};
 ghost use Rattle.kernel_model.specs.declared.Note.TheVariants.{Ticked};
 ghost use Rattle.kernel_model.specs.Opening.{opening_kernel, opening_policy};
 ghost use Rattle.kernel_model.specs.Directory.{lies_on_disk};
 ghost use Rattle.kernel_model.specs.Kernel.{gave_note};
+ghost use Rattle.kernel_model.specs.Session as session;
 ghost use Rattle.kernel_model.specs.World.{Blocks};
 ghost use Rattle.kernel_model.specs.Quiet.{HasNoGraft};
 ghost use Rattle.graft_points.specs.Shelf.{IsShelf, pol_of, first_choice};
 ghost use Rattle.disk_log.specs.Calls.{Tells, GoesOn};
 ghost use Rattle.kernel_state.specs.Stores.{world_for, world_of_store, objects_of, queue_of, views_of, IsStore};
 ghost use Rattle.call_pieces.specs.Works.{MayCome};
+ghost use Rattle.graft_loader.specs.Slots.{table_of};
 ghost use Rattle.kernel_core.specs.Standing.{kernel_of, Happened, CallRan, RunsAlone, MayRun, directory_read, boot_note};
 ghost use Rattle.kernel_core.specs.Bounds.{IsKernelWithin};
 
 use crate::notes::Notes;
 use call_pieces::{Calls, Next};
 use disk_log::DiskLog;
+use graft_loader::{Images, Loaded};
 use graft_points::Policy;
 use kernel_model::{Bytes, Event, Note, Refusal, SysCall};
 use kernel_state::{Setup, Store};
@@ -30,11 +33,13 @@ use vino_base::Disk;
 /// The most pieces of one call.
 const PIECES: u32 = 15;
 
-/// The kernel over a table of calls: the store and the clock. Between events no call is in flight.
+/// The kernel over a table of calls: the store, the loaded images and the clock. Between events no call is in flight.
 #[derive(Drop)]
 pub struct Kernel<C: Calls> {
     /// One value for each object.
     pub store: Store,
+    /// The loaded images by slot.
+    pub images: Images,
     /// How many ticks there were.
     pub clock: u32,
     calls: PhantomData<C>,
@@ -57,8 +62,8 @@ pub enum BootNote {
 }
 
 impl<C: Calls> Kernel<C> {
-    /// A kernel before boot, with its memory and the stock policies.
-    pub fn new(setup: Setup, ram: Ram, shelf: Vec<Box<dyn Policy>>) -> Kernel<C>
+    /// A kernel before boot, with its memory, the table of images and the stock policies.
+    pub fn new(setup: Setup, ram: Ram, images: Images, shelf: Vec<Box<dyn Policy>>) -> Kernel<C>
         requires frames_least { 2 ≤ setup.frames }
         requires frames_most { setup.frames ≤ 64 }
         requires shelf { IsShelf (map (λ b. seen b) shelf.items) }
@@ -68,6 +73,7 @@ impl<C: Calls> Kernel<C> {
     {
         Kernel {
             store: Store::new(setup, 1, Directory::empty(), ram, shelf),
+            images,
             clock: 0,
             calls: PhantomData,
         }
@@ -81,7 +87,7 @@ impl<C: Calls> Kernel<C> {
         requires stock { pol_of (views_of (λ b. seen (b.vtable, b.value)) self.old.store) first_choice ≡ opening_policy }
         requires no_calls { logs.old.event ≡ [] }
         ensures value { (blocks : Blocks) → Tells (D.blocks disk.old) blocks →
-            kernel_of (λ b. seen (b.vtable, b.value)) self.new.store self.new.clock ≡ opening_kernel (world_for setup (D.block_count disk.old) (directory_read (D.block_count disk.old) (blocks 0) logs.new.event)) }
+            kernel_of (λ b. seen (b.vtable, b.value)) self.new.store (table_of self.new.images) self.new.clock ≡ opening_kernel (world_for setup (D.block_count disk.old) (directory_read (D.block_count disk.old) (blocks 0) logs.new.event)) }
         ensures note { (blocks : Blocks) → Tells (D.blocks disk.old) blocks → result ≡ boot_note setup.frames (D.block_count disk.old) (blocks 0) logs.new.event }
         ensures within { (most : ℕ) → IsKernelWithin (λ b. seen (b.vtable, b.value)) most self.new.store self.new.clock }
         ensures size { self.new.store.size ≡ D.block_count disk.old }
@@ -115,12 +121,32 @@ impl<C: Calls> Kernel<C> {
         requires files { (n : ℕ) (r : Row) → slice_index_or dir n None ≡ Some r → lies_on_disk size r ≡ true }
         requires within { IsKernelWithin (λ b. seen (b.vtable, b.value)) 0 self.old.store self.old.clock }
         requires stock { pol_of (views_of (λ b. seen (b.vtable, b.value)) self.old.store) first_choice ≡ opening_policy }
-        ensures value { kernel_of (λ b. seen (b.vtable, b.value)) self.new.store self.new.clock ≡ opening_kernel (world_for setup size dir) }
+        ensures value { kernel_of (λ b. seen (b.vtable, b.value)) self.new.store (table_of self.new.images) self.new.clock ≡ opening_kernel (world_for setup size dir) }
         ensures within { (most : ℕ) → IsKernelWithin (λ b. seen (b.vtable, b.value)) most self.new.store self.new.clock }
         ensures size { self.new.store.size ≡ size }
     {
         self.store.restart(setup, size, dir);
+        self.images.clear();
         self.clock = 0;
+    }
+
+    /// Whether a slot has an image.
+    pub fn has_image(&self, slot: u32) -> bool
+        requires { slot < 32 }
+        ensures { result ≡ is_some ((kernel_of (λ b. seen (b.vtable, b.value)) self.now.store (table_of self.now.images) self.now.clock).images slot) }
+    {
+        !self.images.is_free(slot)
+    }
+
+    /// A slot has this image from now on. No memory is taken.
+    pub fn add_image(&mut self, slot: u32, image: Loaded)
+        requires { slot < 32 }
+        ensures value { kernel_of (λ b. seen (b.vtable, b.value)) self.new.store (table_of self.new.images) self.new.clock
+            ≡ session.add_image slot image (kernel_of (λ b. seen (b.vtable, b.value)) self.old.store (table_of self.old.images) self.old.clock) }
+        ensures store { self.new.store ≡ self.old.store }
+        ensures clock { self.new.clock ≡ self.old.clock }
+    {
+        self.images.add(slot, image);
     }
 
     /// One event, which has this number. Its notes and its calls of the disk are left behind. No memory is taken.
@@ -140,7 +166,7 @@ impl<C: Calls> Kernel<C> {
         requires no_calls { logs.old.event ≡ [] }
         requires no_notes { notes.old ≡ [] }
         ensures happened { HasNoGraft (objects_of (λ b. seen (b.vtable, b.value)) self.old.store) →
-            Happened C.Meaning.meaning (kernel_of (λ b. seen (b.vtable, b.value)) self.old.store self.old.clock) (kernel_of (λ b. seen (b.vtable, b.value)) self.new.store self.new.clock)
+            Happened C.Meaning.meaning (kernel_of (λ b. seen (b.vtable, b.value)) self.old.store (table_of self.old.images) self.old.clock) (kernel_of (λ b. seen (b.vtable, b.value)) self.new.store (table_of self.new.images) self.new.clock)
             (D.blocks disk.old) (D.blocks disk.new) number what.now logs.new.event notes.new }
         ensures within { IsKernelWithin (λ b. seen (b.vtable, b.value)) number self.new.store self.new.clock }
         ensures size { self.new.store.size ≡ self.old.store.size }
@@ -161,6 +187,7 @@ impl<C: Calls> Kernel<C> {
         requires within { IsKernelWithin (λ b. seen (b.vtable, b.value)) (number - 1) self.old.store self.old.clock }
         requires no_notes { notes.old ≡ [] }
         ensures store { self.new.store ≡ self.old.store }
+        ensures images { self.new.images ≡ self.old.images }
         ensures clock { self.new.clock ≡ self.old.clock + 1 }
         ensures notes { notes.new ≡ Ticked number (self.old.clock + 1) ∷ [] }
         ensures within { IsKernelWithin (λ b. seen (b.vtable, b.value)) number self.new.store self.new.clock }
@@ -187,7 +214,7 @@ impl<C: Calls> Kernel<C> {
         requires no_calls { logs.old.event ≡ [] }
         requires no_notes { notes.old ≡ [] }
         ensures happened { HasNoGraft (objects_of (λ b. seen (b.vtable, b.value)) self.old.store) →
-            Happened C.Meaning.meaning (kernel_of (λ b. seen (b.vtable, b.value)) self.old.store self.old.clock) (kernel_of (λ b. seen (b.vtable, b.value)) self.new.store self.new.clock)
+            Happened C.Meaning.meaning (kernel_of (λ b. seen (b.vtable, b.value)) self.old.store (table_of self.old.images) self.old.clock) (kernel_of (λ b. seen (b.vtable, b.value)) self.new.store (table_of self.new.images) self.new.clock)
             (D.blocks disk.old) (D.blocks disk.new) number (Sys p call.now) logs.new.event notes.new }
         ensures within { IsKernelWithin (λ b. seen (b.vtable, b.value)) number self.new.store self.new.clock }
         ensures size { self.new.store.size ≡ self.old.store.size }
@@ -197,7 +224,7 @@ impl<C: Calls> Kernel<C> {
         if !self.store.living(p) {
             return notes.push(Note::Refused(number, Refusal::NoProcess));
         }
-        match C::early(&self.store, 0, p as u8, call) {
+        match C::early(&self.store, self.images.mask(), p as u8, call) {
             Err(refusal) => notes.push(Note::Refused(number, refusal)),
             Ok(mut work) => self.run(number, &mut work, PIECES, disk, logs, notes),
         }
@@ -228,6 +255,7 @@ impl<C: Calls> Kernel<C> {
         ensures grown { logs.new.event ≡ logs.old.event ++ drop (length logs.old.event) logs.new.event }
         ensures within { IsKernelWithin (λ b. seen (b.vtable, b.value)) number self.new.store self.new.clock }
         ensures world { world_of_store self.new.store ≡ world_of_store self.old.store }
+        ensures images { self.new.images ≡ self.old.images }
         ensures clock { self.new.clock ≡ self.old.clock }
         ensures calls { GoesOn (D.faults disk.old) (D.faults disk.new) (D.plan disk.old) (D.plan disk.new) logs.old.event logs.new.event }
         ensures same_size { D.block_count disk.new ≡ D.block_count disk.old }

@@ -3,6 +3,7 @@
 ghost use Rattle.std.specs.Prelude.{◌≡◌, ◌<◌, ◌≤◌, None, slice_get};
 ghost use Rattle.kernel_model.specs.RawRows.{raw_rows};
 ghost use Rattle.kernel_state.specs.Stores.{IsStore};
+ghost use Rattle.graft_loader.specs.Slots.{table_of};
 ghost use Rattle.kernel_core.specs.Standing.{kernel_of};
 ghost use Rattle.kernel_core.specs.Sections.{pick, places, store_row, store_rows};
 
@@ -63,7 +64,7 @@ impl<C: Calls> Kernel<C> {
     /// The i-th of the rows that show the whole state. None past the last.
     pub fn raw(&self, i: u32) -> Option<RawRow>
         requires sound { IsStore (λ b. seen (b.vtable, b.value)) self.now.store }
-        ensures value { result ≡ slice_get (raw_rows C.Meaning.meaning (kernel_of (λ b. seen (b.vtable, b.value)) self.now.store self.now.clock)) i }
+        ensures value { result ≡ slice_get (raw_rows C.Meaning.meaning (kernel_of (λ b. seen (b.vtable, b.value)) self.now.store (table_of self.now.images) self.now.clock)) i }
         ensures few { 374 ≤ i → result ≡ None }
     {
         let mut left = i;
