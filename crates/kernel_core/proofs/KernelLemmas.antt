@@ -1,10 +1,9 @@
 -- A call is run piece by piece as the abstract kernel runs it, and so is an event.
-use Rattle.std.proofs.Common.{add-one, ◌<◌, ◌≡◌, ◌≤◌, ℕ, zero, suc, ◌+◌, ◌-◌, not, ◌&&◌, Bool, true, false, List, [], ◌∷◌, ◌++◌, Some, None, Option, Ok, Err, Result, length, drop, arith, refl, sym, ap, subst, ◌∙◌, append_assoc, append-nil}
+use Rattle.std.proofs.Common.{add-one, ◌<◌, ◌≡◌, ◌≤◌, ℕ, suc, ◌+◌, not, ◌&&◌, Bool, true, false, List, [], ◌∷◌, ◌++◌, None, Option, Ok, Err, length, drop, arith, refl, sym, ap, subst, ◌∙◌, append_assoc, append-nil}
 use Rattle.std.specs.Prelude.{⊤, Contains}
 use Rattle.std.proofs.Math.Seq.{drop-append_seam}
 use Rattle.std.proofs.lemmas.List.Elements.{Contains-append_right}
 use Rattle.kernel_model.specs.declared.SysCall.{SysCall}
-use Rattle.kernel_model.specs.declared.SysCall.TheVariants.{TakeLock}
 use Rattle.kernel_model.specs.declared.Event.TheVariants.{Tick, Sys}
 use Rattle.kernel_model.specs.declared.Need.{Need}
 use Rattle.kernel_model.specs.declared.Note.{Note}
@@ -18,7 +17,6 @@ use Rattle.kernel_model.specs.Locks.{user_of}
 use Rattle.kernel_model.specs.Laws.{Laws, waits_for_user}
 use Rattle.kernel_model.specs.Meaning.{Meaning, Stage, Piece, After, Continues, EndsWith, Fails}
 use Rattle.kernel_model.specs.Kernel.{Run, gave_note, after_note}
-use Rattle.kernel_model.specs.Kernel as abstract
 use Rattle.kernel_model.specs.Events.{event}
 use Rattle.kernel_model.specs.Policies.{lives}
 use Rattle.kernel_model.specs.Quiet.{quiet, at_rest, left_by, has_ended, is_others, is_unhindered, HasNoGraft, event_of_none, event_refused}
@@ -26,10 +24,9 @@ use Rattle.kernel_model.specs.Alone.{pieces_from, GoesToItsEnd, is_lock, event_o
 use Rattle.disk_log.specs.Calls.{Tells, Made, GoesOn}
 use Rattle.disk_log.specs.Joined.{made_none, made_joined}
 use Rattle.vino_base.specs.Calls.{Plan}
-use Rattle.call_pieces.specs.Works.{stage_granted}
 use Rattle.call_pieces.specs.Coming.{CameTo}
 use Rattle.graft_loader.specs.Slots.{no_images}
-use Rattle.kernel_core.specs.Standing.{CallRan, Happened, RunsAlone}
+use Rattle.kernel_core.specs.Standing.{CallRan, Happened}
 
 -- ---- nothing hinders such a call
 

@@ -1,9 +1,9 @@
-//! The lines of a run that belong to no event.
+//! The lines of a run that have no note: of `boot`, of images, of refused lines.
 
-ghost use Rattle.std.specs.Prelude.{◌≡◌, ◌++◌, [], ◌∷◌, codes, decimal};
+ghost use Rattle.std.specs.Prelude.{◌≡◌, ◌≤◌, ◌++◌, [], ◌∷◌, length, codes, decimal};
 ghost use Rattle.kernel_model.specs.Text.{line, spaced, boot_text, usage_text};
 
-use crate::append::{add, number_u8, spaced_u8, spaced_u32};
+use crate::append::{add, number_u8, number_u32, spaced_u8, spaced_u32};
 use crate::text::Text;
 
 /// The line of `boot`: the frames of the cache, the blocks of the disk, the usable files.
@@ -27,6 +27,43 @@ pub fn print_fault(n: u32, code: u8, out: &mut Text)
     spaced_u32(&mut out.bytes, n);
     add(&mut out.bytes, b" S".as_slice());
     number_u8(&mut out.bytes, code);
+    add(&mut out.bytes, b"\n".as_slice());
+}
+
+/// The line of event n for an image that isn't loaded: its L code.
+pub fn print_unloaded(n: u32, code: &[u8], out: &mut Text)
+    requires { length code.now ≤ 3 }
+    ensures { out.new ≡ line (decimal n ++ 32 ∷ code.now) }
+{
+    out.bytes.clear();
+    number_u32(&mut out.bytes, n);
+    add(&mut out.bytes, b" ".as_slice());
+    add(&mut out.bytes, code);
+    add(&mut out.bytes, b"\n".as_slice());
+}
+
+/// The same with the place of the instruction that is refused.
+pub fn print_unloaded_at(n: u32, code: &[u8], pc: u32, out: &mut Text)
+    requires { length code.now ≤ 3 }
+    ensures { out.new ≡ line (decimal n ++ 32 ∷ (code.now ++ spaced pc)) }
+{
+    out.bytes.clear();
+    number_u32(&mut out.bytes, n);
+    add(&mut out.bytes, b" ".as_slice());
+    add(&mut out.bytes, code);
+    spaced_u32(&mut out.bytes, pc);
+    add(&mut out.bytes, b"\n".as_slice());
+}
+
+/// The line of event n for an image that is loaded: how many instructions and data bytes it has.
+pub fn print_loaded(n: u32, instructions: u32, bytes: u32, out: &mut Text)
+    ensures { out.new ≡ line (decimal n ++ 32 ∷ (codes "ok" ++ spaced instructions ++ spaced bytes)) }
+{
+    out.bytes.clear();
+    number_u32(&mut out.bytes, n);
+    add(&mut out.bytes, b" ok".as_slice());
+    spaced_u32(&mut out.bytes, instructions);
+    spaced_u32(&mut out.bytes, bytes);
     add(&mut out.bytes, b"\n".as_slice());
 }
 

@@ -1,20 +1,20 @@
 -- The system calls that are built run to their ends at their own events.
-use Rattle.std.proofs.Common.{◌≡◌, ℕ, zero, suc, ◌==◌, Bool, true, false, List, [], ◌∷◌, Option, Some, None, Result, Ok, Err, refl, sym, ap, subst, ◌∙◌}
+use Rattle.std.proofs.Common.{◌≡◌, ℕ, zero, suc, Bool, true, false, List, Option, Some, None, Result, Ok, Err, refl, ap, ◌∙◌}
 use Rattle.std.specs.Prelude.{nat_lt, length}
 use Rattle.kernel_model.specs.declared.SysCall.{SysCall}
-use Rattle.kernel_model.specs.declared.SysCall.TheVariants.{Spawn, Exit, Yield, OpenName, CloseFd, Read, Write, Sync, TakeLock, FreeLock, Poke, Peek, Tune, Choose, Give, Install, Remove, Fund, Bill}
+use Rattle.kernel_model.specs.declared.SysCall.TheVariants.{Spawn, Exit, Yield, OpenName, CloseFd, Read, Write, Sync, TakeLock, Poke, Peek, Tune, Choose, Give}
 use Rattle.kernel_model.specs.declared.Event.{Event}
 use Rattle.kernel_model.specs.declared.Event.TheVariants.{Tick, Step, Sys}
 use Rattle.kernel_model.specs.declared.Kind.{Kind}
 use Rattle.kernel_model.specs.declared.OpenRow.{OpenRow}
 use Rattle.kernel_model.specs.declared.Refusal.{Refusal}
 use Rattle.kernel_model.specs.declared.Refusal.TheVariants.{BadIndex}
-use Rattle.kernel_model.specs.World.{World, ImageTable, Blocks, file_named}
+use Rattle.kernel_model.specs.World.{World, Blocks, file_named}
 use Rattle.kernel_model.specs.Objects.{Objects, Accounts, GraftValue, at, with_things}
 use Rattle.kernel_model.specs.Policies.{lives}
 use Rattle.kernel_model.specs.Access.{set_param, param_top, in_range}
 use Rattle.kernel_model.specs.Charges.{removed, removed_by}
-use Rattle.kernel_model.specs.Meaning.{Stage, Piece, disk_fails}
+use Rattle.kernel_model.specs.Meaning.{Piece, disk_fails}
 use Rattle.kernel_model.specs.Needs.{file_block, ahead_block, free_process}
 use Rattle.kernel_model.specs.Fetch.{Fetched, Got, Failed, fetch, fetch_ahead, dirty_value, cleaned}
 use Rattle.kernel_model.specs.FilePieces.{leaves, refuses, well, disk_failed, open_piece, close_piece, read_first, read_third, read_first_at, read_third_at, read_piece, write_piece, write_fetched, sync_from, free_descriptor, with_cache}

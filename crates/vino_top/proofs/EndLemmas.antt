@@ -5,7 +5,6 @@ use Rattle.std.proofs.lemmas.List.Folds.{concat-append}
 use Rattle.std.specs.Io.KnownBytes.{Appends, Consumes, Keeps, IsAtEnd}
 use Rattle.std.proofs.KnownBytes.{Appends-nil, Appends-trans, Consumes-nil, Consumes-trans, Consumes-kept}
 use Rattle.vino_base.specs.Faults.{Rose}
-use Rattle.disk_log.specs.Calls.{Tells}
 use Rattle.kernel_model.specs.World.{Blocks}
 use Rattle.kernel_model.specs.Script.{LINE_BYTES, Unfinished}
 use Rattle.kernel_model.specs.Session.{Session, fault_text}
@@ -13,7 +12,7 @@ use Rattle.kernel_model.specs.Kernel as abstract
 use Rattle.kernel_model.specs.Outcome.{SCRIPT_BYTES, Ending, End, Fault, Over, Outcome, lines_after, rest_after, left_lines, at_end, at_ending, outcome_of, ends_as, ends_with, written}
 use Rattle.kernel_model.specs.Text.{line}
 use Rattle.vino_top.specs.Standing.{Seen, kernel_seen, session_of, kernel_in}
-use Rattle.vino_top.specs.Run.{Place, place, first_on, script_lines, lines_run, pieces_run, UsesAll, outcome_at, DiskSeen, MadeAll, AppendsPart, StandsFor, IsFirst, HasEnded, Whenever, Feeds, StopsAt, stop_status, Reached, Ran, CutsLast, Broke, Lacked}
+use Rattle.vino_top.specs.Run.{Place, first_on, script_lines, lines_run, pieces_run, outcome_at, DiskSeen, AppendsPart, StandsFor, IsFirst, HasEnded, Feeds, StopsAt, stop_status, Reached, Ran, CutsLast, Broke, Lacked}
 use Rattle.vino_top.specs.declared.run.Stop.{Stop}
 use Rattle.vino_top.specs.declared.run.Stop.TheVariants.{SinkFailed, NoMemory}
 use Rattle.vino_top.proofs.LineLemmas.{script_more}
@@ -39,25 +38,25 @@ begun_stands size s told a begun first =
     unbooted true k up none = cc
 
 -- before the first read
-pub reached_first : (size : ℕ) (s : Seen) (r g : Option (List ℕ)) (d : DiskSeen) (l : List ℕ) → l ≡ [] → Reached size s s r r g g d d l (SCRIPT_BYTES + 1)
-reached_first size s r g d l empty =
-    rw empty (record { taken = []; count = omega arith; consumed = Consumes-nil r; fed = fed_none size s [] g d })
+pub reached_first : (c : Place) (s : Seen) (r g : Option (List ℕ)) (d : DiskSeen) (l : List ℕ) → l ≡ [] → Reached c s s r r g g d d l (SCRIPT_BYTES + 1)
+reached_first c s r g d l empty =
+    rw empty (record { taken = []; count = omega arith; consumed = Consumes-nil r; fed = fed_none c s [] g d })
 
 -- a script has had no more lines than bytes
-pub reached_lines : (size : ℕ) (s t : Seen) (r r2 g g2 : Option (List ℕ)) (d e : DiskSeen) (l : List ℕ) (left : ℕ) →
-    s.lines ≡ 0 → Reached size s t r r2 g g2 d e l left → t.lines + left ≤ SCRIPT_BYTES + 1
-reached_lines size s t r r2 g g2 d e l left none p = omega (arith, p.fed.lines, length-take SCRIPT_BYTES p.taken, p.count, none)
+pub reached_lines : (c : Place) (s t : Seen) (r r2 g g2 : Option (List ℕ)) (d e : DiskSeen) (l : List ℕ) (left : ℕ) →
+    s.lines ≡ 0 → Reached c s t r r2 g g2 d e l left → t.lines + left ≤ SCRIPT_BYTES + 1
+reached_lines c s t r r2 g g2 d e l left none p = omega (arith, p.fed.lines, length-take SCRIPT_BYTES p.taken, p.count, none)
 
 -- and a line that is no longer than a line may be
-pub reached_short : (size : ℕ) (s t : Seen) (r r2 g g2 : Option (List ℕ)) (d e : DiskSeen) (l : List ℕ) (left : ℕ) →
-    Reached size s t r r2 g g2 d e l left → length l ≤ LINE_BYTES
-reached_short size s t r r2 g g2 d e l left p = fed_short _ _ _ _ _ _ _ _ _ _ p.fed (omega arith)
+pub reached_short : (c : Place) (s t : Seen) (r r2 g g2 : Option (List ℕ)) (d e : DiskSeen) (l : List ℕ) (left : ℕ) →
+    Reached c s t r r2 g g2 d e l left → length l ≤ LINE_BYTES
+reached_short c s t r r2 g g2 d e l left p = fed_short _ _ _ _ _ _ _ _ _ _ p.fed (omega arith)
 
 -- more bytes of the source were fed: all that it gave, but for one past the script's end
-pub reached_more : (size : ℕ) (s t u : Seen) (r r2 r3 g g2 g3 : Option (List ℕ)) (d e f : DiskSeen) (l m : List ℕ) (left n : ℕ) (given : List ℕ) →
-    Reached size s t r r2 g g2 d e l left → 0 < left → length given ≡ n → n ≤ left → Consumes r2 r3 given → Feeds size t u l m (take (left - 1) given) g2 g3 e f →
-    Reached size s u r r3 g g3 d f m (left - n)
-reached_more size s t u r r2 r3 g g2 g3 d e f l m left n given p some count most consumed fed =
+pub reached_more : (c : Place) (s t u : Seen) (r r2 r3 g g2 g3 : Option (List ℕ)) (d e f : DiskSeen) (l m : List ℕ) (left n : ℕ) (given : List ℕ) →
+    Reached c s t r r2 g g2 d e l left → 0 < left → length given ≡ n → n ≤ left → Consumes r2 r3 given → Feeds c t u l m (take (left - 1) given) g2 g3 e f →
+    Reached c s u r r3 g g3 d f m (left - n)
+reached_more c s t u r r2 r3 g g2 g3 d e f l m left n given p some count most consumed fed =
     record {
       taken = p.taken ++ given;
       count = omega (arith, p.count, length-append p.taken given);
@@ -100,19 +99,19 @@ ends_last status a pieces last =
     record { status_is = refl; bytes = concat-append pieces (last ∷ []) ∙ ap (λ x. concat pieces ++ x) (append-nil last); blocks = refl }
 
 -- How a run ends, by how its outcome does.
-ran_by : (size : ℕ) (s t : Seen) (r r2 r3 : Option (List ℕ)) (f f2 : ℕ) (g g2 g3 : Option (List ℕ)) (d e : DiskSeen) (l : List ℕ) (left status : ℕ) (ending : Ending) (last : List ℕ) →
-    IsBegun size s → (p : Reached size s t r r2 g g2 d e l left) → Consumes r2 r3 [] → Appends g2 g3 last →
+ran_by : (c : Place) (s t : Seen) (r r2 r3 : Option (List ℕ)) (f f2 : ℕ) (g g2 g3 : Option (List ℕ)) (d e : DiskSeen) (l : List ℕ) (left status : ℕ) (ending : Ending) (last : List ℕ) →
+    IsBegun c.size s → (p : Reached c s t r r2 g g2 d e l left) → Consumes r2 r3 [] → Appends g2 g3 last →
     (t.refused ≡ true) ⊎ HasEnded ending p.taken r3 f f2 →
     ((a : Session) (pieces : List (List ℕ)) → StandsFor t e.told a → EndsSo (outcome_of ending a pieces l) a pieces status last) →
-    Ran size r r3 f f2 g g3 d e status
-ran_by size s t r r2 r3 f f2 g g2 g3 d e l left status ending last begun p kept more ended out =
+    Ran c r r3 f f2 g g3 d e status
+ran_by c s t r r2 r3 f f2 g g2 g3 d e l left status ending last begun p kept more ended out =
     let lines = script_lines p.taken in
-    let from = λ (a : Session) (first : IsFirst size d.told a). begun_stands size s d.told a begun first in
-    let is = λ (key : List ℕ) (a : Session) (first : IsFirst size d.told a).
-    outcome_is (place key size) a p.taken ending p.fed.ios first.session
-    ∙ ap (outcome_of ending (lines_run (place key size) a lines p.fed.ios) (pieces_run (place key size) a lines p.fed.ios)) (sym p.fed.line_is) in
-    let so = λ (key : List ℕ) (a : Session) (first : IsFirst size d.told a).
-    out (lines_run (place key size) a lines p.fed.ios) (pieces_run (place key size) a lines p.fed.ios) (p.fed.stands key a (from a first)) in
+    let from = λ (a : Session) (first : IsFirst c.size d.told a). begun_stands c.size s d.told a begun first in
+    let is = λ (a : Session) (first : IsFirst c.size d.told a).
+    outcome_is c a p.taken ending p.fed.ios first.session
+    ∙ ap (outcome_of ending (lines_run c a lines p.fed.ios) (pieces_run c a lines p.fed.ios)) (sym p.fed.line_is) in
+    let so = λ (a : Session) (first : IsFirst c.size d.told a).
+    out (lines_run c a lines p.fed.ios) (pieces_run c a lines p.fed.ios) (p.fed.stands a (from a first)) in
     record {
       taken = p.taken;
       ending = ending;
@@ -122,13 +121,13 @@ ran_by size s t r r2 r3 f f2 g g2 g3 d e l left status ending last begun p kept 
       one_each = p.fed.one_each;
       calls = p.fed.calls;
       ended = elim ended [
-        | inl refused ↦ inl (λ key a first. sym (ap (λ (x : Session). x.refused) (p.fed.stands key a (from a first)).session) ∙ refused)
+        | inl refused ↦ inl (λ a first. sym (ap (λ (x : Session). x.refused) (p.fed.stands a (from a first)).session) ∙ refused)
         | inr so ↦ inr so
       ];
-      used = λ key a first. p.fed.used key a (from a first);
-      status_is = λ key a first. (so key a first).status_is ∙ ap (λ (o : Outcome). o.status) (sym (is key a first));
-      appended = λ key a first. rw (is key a first, (so key a first).bytes) (Appends-trans _ _ _ _ _ (p.fed.appended key a (from a first)) more);
-      blocks = λ key a first. rw (is key a first, (so key a first).blocks) (p.fed.stands key a (from a first)).blocks;
+      used = λ a first. p.fed.used a (from a first);
+      status_is = λ a first. (so a first).status_is ∙ ap (λ (o : Outcome). o.status) (sym (is a first));
+      appended = λ a first. rw (is a first, (so a first).bytes) (Appends-trans _ _ _ _ _ (p.fed.appended a (from a first)) more);
+      blocks = λ a first. rw (is a first, (so a first).blocks) (p.fed.stands a (from a first)).blocks;
     }
 
 -- what a session of the code says of the abstract one
@@ -144,27 +143,27 @@ none_left : (t : Seen) (told : Option (List (List ℕ))) (a : Session) → Stand
 none_left t told a stands = ap (λ (x : Session). left_lines x.kernel) (sym stands.session) ∙ none_in t.booted t
 
 -- a failed read
-pub ran_fault : (size : ℕ) (s t : Seen) (r r2 r3 : Option (List ℕ)) (f f2 f3 : ℕ) (g g2 : Option (List ℕ)) (d e : DiskSeen) (l : List ℕ) (left : ℕ) →
-    IsBegun size s → Reached size s t r r2 g g2 d e l left → t.refused ≡ false → 0 < left → Keeps r2 r3 → f ≤ f2 → Rose f2 f3 → Ran size r r3 f f3 g g2 d e 3
-ran_fault size s t r r2 r3 f f2 f3 g g2 d e l left begun p going some kept before rose =
-    ran_by size s t r r2 r3 f f3 g g2 g2 d e l left 3 Fault [] begun p (keeps_consumes r2 r3 kept) (Appends-nil g2) (inr (omega (arith, p.count), omega arith))
+pub ran_fault : (c : Place) (s t : Seen) (r r2 r3 : Option (List ℕ)) (f f2 f3 : ℕ) (g g2 : Option (List ℕ)) (d e : DiskSeen) (l : List ℕ) (left : ℕ) →
+    IsBegun c.size s → Reached c s t r r2 g g2 d e l left → t.refused ≡ false → 0 < left → Keeps r2 r3 → f ≤ f2 → Rose f2 f3 → Ran c r r3 f f3 g g2 d e 3
+ran_fault c s t r r2 r3 f f2 f3 g g2 d e l left begun p going some kept before rose =
+    ran_by c s t r r2 r3 f f3 g g2 g2 d e l left 3 Fault [] begun p (keeps_consumes r2 r3 kept) (Appends-nil g2) (inr (omega (arith, p.count), omega arith))
     (λ a pieces stands. rw (going_outcome Fault a pieces l (refused_as t e.told a false stands going)) (ends_plain 3 a pieces))
   where
     keeps_consumes : (r r2 : Option (List ℕ)) → Keeps r r2 → Consumes r r2 []
     keeps_consumes r r2 kept = Consumes-kept _ _ _ _ (Consumes-nil r) kept
 
 -- more than a script may have
-pub ran_over : (size : ℕ) (s t : Seen) (r r2 : Option (List ℕ)) (f f2 : ℕ) (g g2 : Option (List ℕ)) (d e : DiskSeen) (l : List ℕ) (left : ℕ) →
-    IsBegun size s → Reached size s t r r2 g g2 d e l left → left ≡ 0 → t.refused ≡ false → Ran size r r2 f f2 g g2 d e 7
-ran_over size s t r r2 f f2 g g2 d e l left begun p none going =
-    ran_by size s t r r2 r2 f f2 g g2 g2 d e l left 7 Over [] begun p (Consumes-nil r2) (Appends-nil g2) (inr (omega (arith, p.count, none)))
+pub ran_over : (c : Place) (s t : Seen) (r r2 : Option (List ℕ)) (f f2 : ℕ) (g g2 : Option (List ℕ)) (d e : DiskSeen) (l : List ℕ) (left : ℕ) →
+    IsBegun c.size s → Reached c s t r r2 g g2 d e l left → left ≡ 0 → t.refused ≡ false → Ran c r r2 f f2 g g2 d e 7
+ran_over c s t r r2 f f2 g g2 d e l left begun p none going =
+    ran_by c s t r r2 r2 f f2 g g2 g2 d e l left 7 Over [] begun p (Consumes-nil r2) (Appends-nil g2) (inr (omega (arith, p.count, none)))
     (λ a pieces stands. rw (going_outcome Over a pieces l (refused_as t e.told a false stands going)) (ends_plain 7 a pieces))
 
 -- a refused line
-pub ran_stopped : (size : ℕ) (s t : Seen) (r r2 : Option (List ℕ)) (f f2 : ℕ) (g g2 : Option (List ℕ)) (d e : DiskSeen) (l : List ℕ) (left : ℕ) →
-    IsBegun size s → Reached size s t r r2 g g2 d e l left → t.refused ≡ true → Ran size r r2 f f2 g g2 d e 2
-ran_stopped size s t r r2 f f2 g g2 d e l left begun p refused =
-    ran_by size s t r r2 r2 f f2 g g2 g2 d e l left 2 Fault [] begun p (Consumes-nil r2) (Appends-nil g2) (inl refused)
+pub ran_stopped : (c : Place) (s t : Seen) (r r2 : Option (List ℕ)) (f f2 : ℕ) (g g2 : Option (List ℕ)) (d e : DiskSeen) (l : List ℕ) (left : ℕ) →
+    IsBegun c.size s → Reached c s t r r2 g g2 d e l left → t.refused ≡ true → Ran c r r2 f f2 g g2 d e 2
+ran_stopped c s t r r2 f f2 g g2 d e l left begun p refused =
+    ran_by c s t r r2 r2 f f2 g g2 g2 d e l left 2 Fault [] begun p (Consumes-nil r2) (Appends-nil g2) (inl refused)
     (λ a pieces stands. rw (refused_outcome Fault a pieces l (refused_as t e.told a true stands refused)) (ends_plain 2 a pieces))
 
 -- the end of the input behind a newline
@@ -177,16 +176,16 @@ end_unfinished a pieces [] n other is = absurd (other refl)
 end_unfinished a pieces (x ∷ l) n other is = rw (← is) (ends_last 2 a pieces (line (fault_text (suc a.lines) Unfinished)))
 
 -- how the last line of a script ends a run: as it stands, or refused
-pub ran_finish : (size : ℕ) (s t : Seen) (r r2 r3 : Option (List ℕ)) (f f2 : ℕ) (g g2 g3 : Option (List ℕ)) (d e : DiskSeen) (l : List ℕ) (left status : ℕ) →
-    IsBegun size s → Reached size s t r r2 g g2 d e l left → t.refused ≡ false → 0 < left → Consumes r2 r3 [] → IsAtEnd r3 →
+pub ran_finish : (c : Place) (s t : Seen) (r r2 r3 : Option (List ℕ)) (f f2 : ℕ) (g g2 g3 : Option (List ℕ)) (d e : DiskSeen) (l : List ℕ) (left status : ℕ) →
+    IsBegun c.size s → Reached c s t r r2 g g2 d e l left → t.refused ≡ false → 0 < left → Consumes r2 r3 [] → IsAtEnd r3 →
     (l ≡ [] → g3 ≡ g2) → (status ≡ 2 → Appends g2 g3 (line (fault_text (t.lines + 1) Unfinished))) →
-    (status ≡ 0) × (l ≡ []) ⊎ (status ≡ 2) × (l ≢ []) ⊎ (status ≡ 4) × (l ≢ []) → status ≢ 4 → Ran size r r3 f f2 g g3 d e status
-ran_finish size s t r r2 r3 f f2 g g2 g3 d e l left status begun p going some kept end whole refused cases other =
+    (status ≡ 0) × (l ≡ []) ⊎ (status ≡ 2) × (l ≢ []) ⊎ (status ≡ 4) × (l ≢ []) → status ≢ 4 → Ran c r r3 f f2 g g3 d e status
+ran_finish c s t r r2 r3 f f2 g g2 g3 d e l left status begun p going some kept end whole refused cases other =
     elim cases [
-      | inl w ↦ rw (w.0, whole w.1) (ran_by size s t r r2 r3 f f2 g g2 g2 d e l left 0 End [] begun p kept (Appends-nil g2) (inr (omega (arith, p.count), end))
+      | inl w ↦ rw (w.0, whole w.1) (ran_by c s t r r2 r3 f f2 g g2 g2 d e l left 0 End [] begun p kept (Appends-nil g2) (inr (omega (arith, p.count), end))
           (λ a pieces stands. rw (going_outcome End a pieces l (refused_as t e.told a false stands going)) (end_plain a pieces l w.1 (none_left t e.told a stands))))
       | inr w ↦ elim w [
-        | inl x ↦ rw x.0 (ran_by size s t r r2 r3 f f2 g g2 g3 d e l left 2 End (line (fault_text (suc t.lines) Unfinished)) begun p kept ((rw add-one at refused) x.0) (inr (omega (arith, p.count), end))
+        | inl x ↦ rw x.0 (ran_by c s t r r2 r3 f f2 g g2 g3 d e l left 2 End (line (fault_text (suc t.lines) Unfinished)) begun p kept ((rw add-one at refused) x.0) (inr (omega (arith, p.count), end))
             (λ a pieces stands. rw (going_outcome End a pieces l (refused_as t e.told a false stands going)) (end_unfinished a pieces l t.lines x.1 (sym (ap (λ (x : Session). x.lines) stands.session)))))
         | inr x ↦ absurd (other x.0)
       ]
@@ -195,48 +194,48 @@ ran_finish size s t r r2 r3 f f2 g g2 g3 d e l left status begun p going some ke
 -- ---- runs that stop
 
 -- why the run stopped at a line, among those of the script
-stopped : (size : ℕ) (s t : Seen) (r r2 r3 g g2 g3 : Option (List ℕ)) (d e f : DiskSeen) (l : List ℕ) (left n : ℕ) (given : List ℕ) (stop : Stop) →
-    IsBegun size s → (p : Reached size s t r r2 g g2 d e l left) → 0 < left →
-    StopsAt size (StandsFor t e.told) (lines_after l (take (left - 1) given)) g2 g3 e f stop → StopsAt size (IsFirst size d.told) (script_lines (p.taken ++ given)) g g3 d f stop
-stopped size s t r r2 r3 g g2 g3 d e f l left n given stop begun p some q =
+stopped : (c : Place) (s t : Seen) (r r2 r3 g g2 g3 : Option (List ℕ)) (d e f : DiskSeen) (l : List ℕ) (left n : ℕ) (given : List ℕ) (stop : Stop) →
+    IsBegun c.size s → (p : Reached c s t r r2 g g2 d e l left) → 0 < left →
+    StopsAt c (StandsFor t e.told) (lines_after l (take (left - 1) given)) g2 g3 e f stop → StopsAt c (IsFirst c.size d.told) (script_lines (p.taken ++ given)) g g3 d f stop
+stopped c s t r r2 r3 g g2 g3 d e f l left n given stop begun p some q =
     let script = script_more p.taken given left p.count some in
-    let all = stops_fed size s t [] l (take SCRIPT_BYTES p.taken) (take (left - 1) given) [] g g2 g3 d e f stop p.fed q in
+    let all = stops_fed c s t [] l (take SCRIPT_BYTES p.taken) (take (left - 1) given) [] g g2 g3 d e f stop p.fed q in
     rw script
-    (subst (λ x. StopsAt size (IsFirst size d.told) (lines_after [] x) g g3 d f stop) (append-nil (take SCRIPT_BYTES p.taken ++ take (left - 1) given))
-    (stops_from size (StandsFor s d.told) (IsFirst size d.told) (lines_after [] ((take SCRIPT_BYTES p.taken ++ take (left - 1) given) ++ [])) g g3 d f stop (λ a first. begun_stands size s d.told a begun first) all))
+    (subst (λ x. StopsAt c (IsFirst c.size d.told) (lines_after [] x) g g3 d f stop) (append-nil (take SCRIPT_BYTES p.taken ++ take (left - 1) given))
+    (stops_from c (StandsFor s d.told) (IsFirst c.size d.told) (lines_after [] ((take SCRIPT_BYTES p.taken ++ take (left - 1) given) ++ [])) g g3 d f stop (λ a first. begun_stands c.size s d.told a begun first) all))
 
 -- the sink failed at a line
-pub broke_fed : (size : ℕ) (s t : Seen) (r r2 r3 g g2 g3 : Option (List ℕ)) (d e f : DiskSeen) (l : List ℕ) (left n : ℕ) (given script : List ℕ) (stop : Stop) →
-    IsBegun size s → Reached size s t r r2 g g2 d e l left → 0 < left → length given ≡ n → n ≤ left → Consumes r2 r3 given →
-    script ≡ take (left - 1) given → stop_status stop ≡ 4 → StopsAt size (StandsFor t e.told) (lines_after l script) g2 g3 e f stop → Broke size r r3 g g3 d f
-broke_fed size s t r r2 r3 g g2 g3 d e f l left n given script SinkFailed begun p some count most consumed is four q =
+pub broke_fed : (c : Place) (s t : Seen) (r r2 r3 g g2 g3 : Option (List ℕ)) (d e f : DiskSeen) (l : List ℕ) (left n : ℕ) (given script : List ℕ) (stop : Stop) →
+    IsBegun c.size s → Reached c s t r r2 g g2 d e l left → 0 < left → length given ≡ n → n ≤ left → Consumes r2 r3 given →
+    script ≡ take (left - 1) given → stop_status stop ≡ 4 → StopsAt c (StandsFor t e.told) (lines_after l script) g2 g3 e f stop → Broke c r r3 g g3 d f
+broke_fed c s t r r2 r3 g g2 g3 d e f l left n given script SinkFailed begun p some count most consumed is four q =
     record {
       taken = p.taken ++ given;
       within = omega (arith, p.count, length-append p.taken given);
       consumed = Consumes-trans _ _ _ _ _ p.consumed consumed;
-      short = inl (stopped size s t r r2 r3 g g2 g3 d e f l left n given SinkFailed begun p some (rw is at q));
+      short = inl (stopped c s t r r2 r3 g g2 g3 d e f l left n given SinkFailed begun p some (rw is at q));
     }
-broke_fed size s t r r2 r3 g g2 g3 d e f l left n given script NoMemory begun p some count most consumed is four q = absurd (omega (arith, four))
+broke_fed c s t r r2 r3 g g2 g3 d e f l left n given script NoMemory begun p some count most consumed is four q = absurd (omega (arith, four))
 
 -- there was no memory for a line
-pub lacked_fed : (size : ℕ) (s t : Seen) (r r2 r3 g g2 g3 : Option (List ℕ)) (d e f : DiskSeen) (l : List ℕ) (left n : ℕ) (given script : List ℕ) (stop : Stop) →
-    IsBegun size s → Reached size s t r r2 g g2 d e l left → 0 < left → length given ≡ n → n ≤ left → Consumes r2 r3 given →
-    script ≡ take (left - 1) given → stop_status stop ≡ 5 → StopsAt size (StandsFor t e.told) (lines_after l script) g2 g3 e f stop → Lacked size r r3 g g3 d f
-lacked_fed size s t r r2 r3 g g2 g3 d e f l left n given script SinkFailed begun p some count most consumed is five q = absurd (omega (arith, five))
-lacked_fed size s t r r2 r3 g g2 g3 d e f l left n given script NoMemory begun p some count most consumed is five q =
+pub lacked_fed : (c : Place) (s t : Seen) (r r2 r3 g g2 g3 : Option (List ℕ)) (d e f : DiskSeen) (l : List ℕ) (left n : ℕ) (given script : List ℕ) (stop : Stop) →
+    IsBegun c.size s → Reached c s t r r2 g g2 d e l left → 0 < left → length given ≡ n → n ≤ left → Consumes r2 r3 given →
+    script ≡ take (left - 1) given → stop_status stop ≡ 5 → StopsAt c (StandsFor t e.told) (lines_after l script) g2 g3 e f stop → Lacked c r r3 g g3 d f
+lacked_fed c s t r r2 r3 g g2 g3 d e f l left n given script SinkFailed begun p some count most consumed is five q = absurd (omega (arith, five))
+lacked_fed c s t r r2 r3 g g2 g3 d e f l left n given script NoMemory begun p some count most consumed is five q =
     record {
       taken = p.taken ++ given;
       within = omega (arith, p.count, length-append p.taken given);
       consumed = Consumes-trans _ _ _ _ _ p.consumed consumed;
-      lacks = stopped size s t r r2 r3 g g2 g3 d e f l left n given NoMemory begun p some (rw is at q);
+      lacks = stopped c s t r r2 r3 g g2 g3 d e f l left n given NoMemory begun p some (rw is at q);
     }
 
 -- the sink failed at the last line
-pub broke_finish : (size : ℕ) (s t : Seen) (r r2 r3 g g2 g3 : Option (List ℕ)) (d e : DiskSeen) (l : List ℕ) (left status : ℕ) →
-    IsBegun size s → Reached size s t r r2 g g2 d e l left → t.refused ≡ false → 0 < left → Consumes r2 r3 [] → IsAtEnd r3 →
+pub broke_finish : (c : Place) (s t : Seen) (r r2 r3 g g2 g3 : Option (List ℕ)) (d e : DiskSeen) (l : List ℕ) (left status : ℕ) →
+    IsBegun c.size s → Reached c s t r r2 g g2 d e l left → t.refused ≡ false → 0 < left → Consumes r2 r3 [] → IsAtEnd r3 →
     (status ≡ 4 → AppendsPart g2 g3 (line (fault_text (t.lines + 1) Unfinished))) →
-    (status ≡ 0) × (l ≡ []) ⊎ (status ≡ 2) × (l ≢ []) ⊎ (status ≡ 4) × (l ≢ []) → status ≡ 4 → Broke size r r3 g g3 d e
-broke_finish size s t r r2 r3 g g2 g3 d e l left status begun p going some kept end broken cases is =
+    (status ≡ 0) × (l ≡ []) ⊎ (status ≡ 2) × (l ≢ []) ⊎ (status ≡ 4) × (l ≢ []) → status ≡ 4 → Broke c r r3 g g3 d e
+broke_finish c s t r r2 r3 g g2 g3 d e l left status begun p going some kept end broken cases is =
     elim cases [
       | inl w ↦ absurd (omega (arith, w.0))
       | inr w ↦ elim w [
@@ -245,26 +244,26 @@ broke_finish size s t r r2 r3 g g2 g3 d e l left status begun p going some kept 
           taken = p.taken;
           within = omega (arith, p.count);
           consumed = rw (← append-nil p.taken) (Consumes-trans _ _ _ _ _ p.consumed kept);
-          short = inr (cuts_last size s t r r2 r3 g g2 g3 d e l left begun p going some end x.1 ((rw add-one at broken) is));
+          short = inr (cuts_last c s t r r2 r3 g g2 g3 d e l left begun p going some end x.1 ((rw add-one at broken) is));
         }
       ]
     ]
   where
-    cuts_last : (size : ℕ) (s t : Seen) (r r2 r3 g g2 g3 : Option (List ℕ)) (d e : DiskSeen) (l : List ℕ) (left : ℕ) →
-        IsBegun size s → (p : Reached size s t r r2 g g2 d e l left) → t.refused ≡ false → 0 < left → IsAtEnd r3 → l ≢ [] →
-        AppendsPart g2 g3 (line (fault_text (suc t.lines) Unfinished)) → CutsLast size p.taken r3 g g3 d e
-    cuts_last size s t r r2 r3 g g2 g3 d e l left begun p going some end other cut =
+    cuts_last : (c : Place) (s t : Seen) (r r2 r3 g g2 g3 : Option (List ℕ)) (d e : DiskSeen) (l : List ℕ) (left : ℕ) →
+        IsBegun c.size s → (p : Reached c s t r r2 g g2 d e l left) → t.refused ≡ false → 0 < left → IsAtEnd r3 → l ≢ [] →
+        AppendsPart g2 g3 (line (fault_text (suc t.lines) Unfinished)) → CutsLast c p.taken r3 g g3 d e
+    cuts_last c s t r r2 r3 g g2 g3 d e l left begun p going some end other cut =
         let lines = script_lines p.taken in
-        let from = λ (a : Session) (first : IsFirst size d.told a). begun_stands size s d.told a begun first in
-        let so = λ (key : List ℕ) (a : Session) (first : IsFirst size d.told a).
-        let b = lines_run (place key size) a lines p.fed.ios in
-        let stands = p.fed.stands key a (from a first) in
-        subst (λ o. EndsSo o b (pieces_run (place key size) a lines p.fed.ios) 2 (line (fault_text (suc t.lines) Unfinished)))
-        (sym (going_outcome End b (pieces_run (place key size) a lines p.fed.ios) l (refused_as t e.told b false stands going)))
-        (end_unfinished b (pieces_run (place key size) a lines p.fed.ios) l t.lines other (sym (ap (λ (x : Session). x.lines) stands.session))) in
-        let is = λ (key : List ℕ) (a : Session) (first : IsFirst size d.told a).
-        outcome_is (place key size) a p.taken End p.fed.ios first.session
-        ∙ ap (outcome_of End (lines_run (place key size) a lines p.fed.ios) (pieces_run (place key size) a lines p.fed.ios)) (sym p.fed.line_is) in
+        let from = λ (a : Session) (first : IsFirst c.size d.told a). begun_stands c.size s d.told a begun first in
+        let so = λ (a : Session) (first : IsFirst c.size d.told a).
+        let b = lines_run c a lines p.fed.ios in
+        let stands = p.fed.stands a (from a first) in
+        subst (λ o. EndsSo o b (pieces_run c a lines p.fed.ios) 2 (line (fault_text (suc t.lines) Unfinished)))
+        (sym (going_outcome End b (pieces_run c a lines p.fed.ios) l (refused_as t e.told b false stands going)))
+        (end_unfinished b (pieces_run c a lines p.fed.ios) l t.lines other (sym (ap (λ (x : Session). x.lines) stands.session))) in
+        let is = λ (a : Session) (first : IsFirst c.size d.told a).
+        outcome_is c a p.taken End p.fed.ios first.session
+        ∙ ap (outcome_of End (lines_run c a lines p.fed.ios) (pieces_run c a lines p.fed.ios)) (sym p.fed.line_is) in
         record {
           ended = (omega (arith, p.count), end);
           ios = p.fed.ios;
@@ -273,10 +272,10 @@ broke_finish size s t r r2 r3 g g2 g3 d e l left status begun p going some kept 
           part = cut.part;
           more = cut.more;
           lacks = cut.lacks;
-          used = λ key a first. p.fed.used key a (from a first);
-          bytes = λ key a first. ap written (is key a first) ∙ (so key a first).bytes ∙ ap (λ x. concat (pieces_run (place key size) a lines p.fed.ios) ++ x) cut.whole ∙ sym (append_assoc (concat (pieces_run (place key size) a lines p.fed.ios)) cut.part cut.more);
-          appended = λ key a first. Appends-trans _ _ _ _ _ (p.fed.appended key a (from a first)) cut.appended;
-          blocks = λ key a first. rw (is key a first, (so key a first).blocks) (p.fed.stands key a (from a first)).blocks;
+          used = λ a first. p.fed.used a (from a first);
+          bytes = λ a first. ap written (is a first) ∙ (so a first).bytes ∙ ap (λ x. concat (pieces_run c a lines p.fed.ios) ++ x) cut.whole ∙ sym (append_assoc (concat (pieces_run c a lines p.fed.ios)) cut.part cut.more);
+          appended = λ a first. Appends-trans _ _ _ _ _ (p.fed.appended a (from a first)) cut.appended;
+          blocks = λ a first. rw (is a first, (so a first).blocks) (p.fed.stands a (from a first)).blocks;
         }
 
 -- ---- other words

@@ -5,3 +5,4 @@ pub mod SessionLemmas
 pub mod LineLemmas
 pub mod RunLemmas
 pub mod EndLemmas
+pub mod ImageLemmas

@@ -1,6 +1,6 @@
 -- The lines of a script, byte by byte.
-use Rattle.std.proofs.Common.{cond, nat_lt, ◌==◌, get_or, take-take, add-one, length-take, ◌-◌, min, take, drop, ◌<◌, ◌≡◌, ℕ, suc, ◌+◌, ◌≤◌, Bool, true, false, List, [], ◌∷◌, ◌++◌, arith, length, refl, sym, ap, ◌∙◌, length-append, inl, inr, ◌⊎◌}
-use Rattle.std.proofs.lemmas.List.{take_more, take-append-drop, take_all, take-append-le}
+use Rattle.std.proofs.Common.{cond, nat_lt, ◌==◌, take-take, length-take, ◌-◌, min, take, ◌<◌, ◌≡◌, ℕ, ◌+◌, ◌≤◌, Bool, true, false, List, [], ◌∷◌, ◌++◌, arith, length, refl, sym, ap, ◌∙◌, length-append, inl, inr, ◌⊎◌}
+use Rattle.std.proofs.lemmas.List.{take_all, take-append-le}
 use Rattle.std.proofs.Math.Seq.{take-append-add}
 use Rattle.std.proofs.lemmas.Bool.Decides.{nat_tests}
 use Rattle.std.proofs.lemmas.Bool.{cases_lt}

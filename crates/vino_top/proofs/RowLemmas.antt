@@ -1,6 +1,6 @@
 -- The lines of rows, one after another; and numbers that stay within larger ones.
-use Rattle.std.proofs.Common.{◌≡◌, ◌<◌, ◌≤◌, ℕ, zero, suc, ◌+◌, Bool, true, false, ◌&&◌, List, [], ◌∷◌, ◌++◌, Option, Some, None, length, take, codes, decimal, arith, refl, sym, ap, ◌∙◌, append-nil, append_assoc, add-one, inl, inr}
-use Rattle.std.specs.Prelude.{slice_get, nat_le, flat_map}
+use Rattle.std.proofs.Common.{◌≡◌, ◌≤◌, ℕ, zero, suc, ◌+◌, Bool, true, false, ◌&&◌, List, [], ◌∷◌, ◌++◌, Option, Some, None, length, take, codes, decimal, arith, refl, sym, ap, ◌∙◌, append-nil, append_assoc, add-one, inl, inr}
+use Rattle.std.specs.Prelude.{slice_get, nat_le}
 use Rattle.std.proofs.lemmas.Bool.Decides.{nat_tests}
 use Rattle.std.proofs.lemmas.Bool.{cases_lt}
 use Rattle.std.proofs.lemmas.List.{take_all}

@@ -1,21 +1,21 @@
 -- How the run of a script goes on, line after line, and why it stops.
 use Rattle.std.proofs.Common.{subst, MatchResult, OnOk, get_or, take, drop, Result, Ok, Err, ◌<◌, ◌≡◌, ℕ, suc, ◌+◌, ◌≤◌, Bool, true, false, List, [], ◌∷◌, ◌++◌, Option, arith, length, refl, sym, ap, ◌∙◌, length-append, append_assoc, append-nil}
 use Rattle.std.specs.List.{concat}
-use Rattle.std.specs.Prelude.{flat_map, ⊤}
+use Rattle.std.specs.Prelude.{flat_map}
 use Rattle.std.proofs.lemmas.List.Folds.{concat-append}
 use Rattle.std.specs.Io.KnownBytes.{Appends}
 use Rattle.std.proofs.lemmas.List.{take_more, take-append-drop, take_all}
 use Rattle.std.proofs.KnownBytes.{Appends-nil, Appends-trans}
-use Rattle.disk_log.specs.Calls.{Tells, Made}
+use Rattle.disk_log.specs.Calls.{Made}
 use Rattle.disk_log.specs.Joined.{made_none, made_joined}
 use Rattle.kernel_model.specs.Script.{LINE_BYTES}
-use Rattle.kernel_model.specs.Session.{Session, first_io, later_io}
+use Rattle.kernel_model.specs.Session.{Session}
 use Rattle.kernel_model.specs.Outcome.{lines_after, rest_after, ends_line, ended_line}
-use Rattle.vino_top.specs.Run.{Place, place, line_run, lines_run, pieces_run, UsesAll, DiskSeen, MadeAll, AppendsPart, StandsFor, Comes, RunsLine, IsImageLine, Whenever, Feeds, CutsShort, Lacks, StopsAt, TakesLine}
-use Rattle.vino_top.specs.Standing.{Seen, session_of}
+use Rattle.vino_top.specs.Run.{Place, line_run, lines_run, pieces_run, UsesAll, DiskSeen, MadeAll, AppendsPart, StandsFor, RunsLine, IsImageLine, Feeds, StopsAt, TakesLine}
+use Rattle.vino_top.specs.Standing.{Seen}
 use Rattle.vino_top.specs.declared.run.Stop.{Stop}
 use Rattle.vino_top.specs.declared.run.Stop.TheVariants.{SinkFailed, NoMemory}
-use Rattle.vino_top.proofs.LineLemmas.{lines-append, rest-append, lines_ended, lines_gone, rest_ended, rest_gone, lines_few, rest_short}
+use Rattle.vino_top.proofs.LineLemmas.{lines-append, rest-append, lines_ended, lines_gone, rest_ended, rest_gone, rest_short}
 
 -- ---- lists of calls
 
@@ -74,23 +74,23 @@ uses-append c a (x ∷ xs) ys (io ∷ is) js h p q =
 -- ---- bytes that are fed
 
 -- nothing is fed
-pub fed_none : (size : ℕ) (s : Seen) (l : List ℕ) (g : Option (List ℕ)) (d : DiskSeen) → Feeds size s s l l [] g g d d
-fed_none size s l g d =
+pub fed_none : (c : Place) (s : Seen) (l : List ℕ) (g : Option (List ℕ)) (d : DiskSeen) → Feeds c s s l l [] g g d d
+fed_none c s l g d =
     record {
       ios = [];
       one_each = refl;
       calls = all_made_none d;
       line_is = refl;
       lines = omega arith;
-      stands = λ key a from. from;
-      used = λ key a from. tt;
-      appended = λ key a from. Appends-nil g;
+      stands = λ a from. from;
+      used = λ a from. tt;
+      appended = λ a from. Appends-nil g;
     }
 
 -- more bytes are fed
-pub fed_more : (size : ℕ) (s t u : Seen) (l m n xs ys : List ℕ) (g h k : Option (List ℕ)) (d e f : DiskSeen) →
-    Feeds size s t l m xs g h d e → Feeds size t u m n ys h k e f → Feeds size s u l n (xs ++ ys) g k d f
-fed_more size s t u l m n xs ys g h k d e f p q =
+pub fed_more : (c : Place) (s t u : Seen) (l m n xs ys : List ℕ) (g h k : Option (List ℕ)) (d e f : DiskSeen) →
+    Feeds c s t l m xs g h d e → Feeds c t u m n ys h k e f → Feeds c s u l n (xs ++ ys) g k d f
+fed_more c s t u l m n xs ys g h k d e f p q =
     let second = rw p.line_is at q in
     let lines = lines-append l xs ys in
     record {
@@ -99,24 +99,21 @@ fed_more size s t u l m n xs ys g h k d e f p q =
       calls = all_made_joined d e f p.ios second.ios p.calls second.calls;
       line_is = second.line_is ∙ sym (rest-append l xs ys);
       lines = omega (arith, p.lines, second.lines, length-append xs ys);
-      stands = λ key a from.
-          let c = place key size in
+      stands = λ a from.
           rw (lines, after-append c a (lines_after l xs) (lines_after (rest_after l xs) ys) p.ios second.ios p.one_each)
-          (second.stands key (lines_run c a (lines_after l xs) p.ios) (p.stands key a from));
-      used = λ key a from.
-          let c = place key size in
-          rw lines (uses-append c a (lines_after l xs) (lines_after (rest_after l xs) ys) p.ios second.ios p.one_each (p.used key a from)
-          (second.used key (lines_run c a (lines_after l xs) p.ios) (p.stands key a from)));
-      appended = λ key a from.
-          let c = place key size in
+          (second.stands (lines_run c a (lines_after l xs) p.ios) (p.stands a from));
+      used = λ a from.
+          rw lines (uses-append c a (lines_after l xs) (lines_after (rest_after l xs) ys) p.ios second.ios p.one_each (p.used a from)
+          (second.used (lines_run c a (lines_after l xs) p.ios) (p.stands a from)));
+      appended = λ a from.
           rw (lines, pieces-append c a (lines_after l xs) (lines_after (rest_after l xs) ys) p.ios second.ios p.one_each, concat-append (pieces_run c a (lines_after l xs) p.ios) (pieces_run c (lines_run c a (lines_after l xs) p.ios) (lines_after (rest_after l xs) ys) second.ios))
-          (Appends-trans _ _ _ _ _ (p.appended key a from) (second.appended key (lines_run c a (lines_after l xs) p.ios) (p.stands key a from)));
+          (Appends-trans _ _ _ _ _ (p.appended a from) (second.appended (lines_run c a (lines_after l xs) p.ios) (p.stands a from)));
     }
 
 -- the line goes on at this byte
-pub fed_byte : (size : ℕ) (s : Seen) (l : List ℕ) (byte : ℕ) (g : Option (List ℕ)) (d : DiskSeen) → ends_line l byte ≡ false →
-    Feeds size s s l (l ++ byte ∷ []) (byte ∷ []) g g d d
-fed_byte size s l byte g d goes =
+pub fed_byte : (c : Place) (s : Seen) (l : List ℕ) (byte : ℕ) (g : Option (List ℕ)) (d : DiskSeen) → ends_line l byte ≡ false →
+    Feeds c s s l (l ++ byte ∷ []) (byte ∷ []) g g d d
+fed_byte c s l byte g d goes =
     let gone = lines_gone l byte [] goes in
     record {
       ios = [];
@@ -124,15 +121,15 @@ fed_byte size s l byte g d goes =
       calls = all_made_none d;
       line_is = rw (rest_gone l byte [] goes) refl;
       lines = omega arith;
-      stands = λ key a from. rw gone from;
-      used = λ key a from. rw gone tt;
-      appended = λ key a from. rw gone (Appends-nil g);
+      stands = λ a from. rw gone from;
+      used = λ a from. rw gone tt;
+      appended = λ a from. rw gone (Appends-nil g);
     }
 
 -- a line ended at this byte
-pub fed_line : (size : ℕ) (s t : Seen) (l m n : List ℕ) (byte : ℕ) (g h : Option (List ℕ)) (d e : DiskSeen) → ends_line l byte ≡ true → ended_line l byte ≡ m →
-    n ≡ [] → TakesLine size m s t g h d e → Feeds size s t l n (byte ∷ []) g h d e
-fed_line size s t l m n byte g h d e ends is empty p =
+pub fed_line : (c : Place) (s t : Seen) (l m n : List ℕ) (byte : ℕ) (g h : Option (List ℕ)) (d e : DiskSeen) → ends_line l byte ≡ true → ended_line l byte ≡ m →
+    n ≡ [] → TakesLine c m s t g h d e → Feeds c s t l n (byte ∷ []) g h d e
+fed_line c s t l m n byte g h d e ends is empty p =
     let ended = lines_ended l byte [] ends in
     record {
       ios = p.io ∷ [];
@@ -140,26 +137,26 @@ fed_line size s t l m n byte g h d e ends is empty p =
       calls = p.calls;
       line_is = rw (rest_ended l byte [] ends) empty;
       lines = omega (arith, p.lines);
-      stands = λ key a from. rw (ended, is) (p.runs key a from).stands;
-      used = λ key a from. rw (ended, is) ((p.runs key a from).used, tt);
-      appended = λ key a from. rw (ended, is, append-nil (line_run (place key size) a m p.io).bytes, ← (p.runs key a from).bytes) p.appended;
+      stands = λ a from. rw (ended, is) (p.runs a from).stands;
+      used = λ a from. rw (ended, is) ((p.runs a from).used, tt);
+      appended = λ a from. rw (ended, is, append-nil (line_run c a m p.io).bytes, ← (p.runs a from).bytes) p.appended;
     }
 
 -- the byte at a place is fed
-pub fed_next : (size : ℕ) (s t u : Seen) (l m n bytes : List ℕ) (i : ℕ) (g h k : Option (List ℕ)) (d e f : DiskSeen) → i < length bytes →
-    Feeds size s t l m (take i bytes) g h d e → Feeds size t u m n (get_or bytes i 0 ∷ []) h k e f → Feeds size s u l n (take (i + 1) bytes) g k d f
-fed_next size s t u l m n bytes i g h k d e f below p q =
-    rw (take_more bytes i 0 below) (fed_more size s t u l m n (take i bytes) (get_or bytes i 0 ∷ []) g h k d e f p q)
+pub fed_next : (c : Place) (s t u : Seen) (l m n bytes : List ℕ) (i : ℕ) (g h k : Option (List ℕ)) (d e f : DiskSeen) → i < length bytes →
+    Feeds c s t l m (take i bytes) g h d e → Feeds c t u m n (get_or bytes i 0 ∷ []) h k e f → Feeds c s u l n (take (i + 1) bytes) g k d f
+fed_next c s t u l m n bytes i g h k d e f below p q =
+    rw (take_more bytes i 0 below) (fed_more c s t u l m n (take i bytes) (get_or bytes i 0 ∷ []) g h k d e f p q)
 
 -- all bytes were fed
-pub fed_whole : (size : ℕ) (s t : Seen) (l m bytes : List ℕ) (i : ℕ) (g h : Option (List ℕ)) (d e : DiskSeen) → length bytes ≤ i →
-    Feeds size s t l m (take i bytes) g h d e → Feeds size s t l m bytes g h d e
-fed_whole size s t l m bytes i g h d e whole p = rw (take_all i bytes whole) at p
+pub fed_whole : (c : Place) (s t : Seen) (l m bytes : List ℕ) (i : ℕ) (g h : Option (List ℕ)) (d e : DiskSeen) → length bytes ≤ i →
+    Feeds c s t l m (take i bytes) g h d e → Feeds c s t l m bytes g h d e
+fed_whole c s t l m bytes i g h d e whole p = rw (take_all i bytes whole) at p
 
 -- the line so far, once bytes were fed
-pub fed_short : (size : ℕ) (s t : Seen) (l m xs : List ℕ) (g h : Option (List ℕ)) (d e : DiskSeen) → Feeds size s t l m xs g h d e →
+pub fed_short : (c : Place) (s t : Seen) (l m xs : List ℕ) (g h : Option (List ℕ)) (d e : DiskSeen) → Feeds c s t l m xs g h d e →
     length l ≤ LINE_BYTES → length m ≤ LINE_BYTES
-fed_short size s t l m xs g h d e p short = rw p.line_is (rest_short l xs short)
+fed_short c s t l m xs g h d e p short = rw p.line_is (rest_short l xs short)
 
 -- ---- why a run stops
 
@@ -170,9 +167,9 @@ order_later first done later third next second is =
     rw (is, append_assoc first done (next ∷ (later ++ third)), append_assoc first (done ++ next ∷ later) third, append_assoc done (next ∷ later) third) refl
 
 -- Some lines were run, and why the run stopped among others; then this is why it stopped among all.
-stops_later : (size : ℕ) (s t : Seen) (l m xs : List ℕ) (second third : List (List ℕ)) (g h k : Option (List ℕ)) (d e f : DiskSeen) (stop : Stop) →
-    Feeds size s t l m xs g h d e → StopsAt size (StandsFor t e.told) second h k e f stop → StopsAt size (StandsFor s d.told) ((lines_after l xs ++ second) ++ third) g k d f stop
-stops_later size s t l m xs second third g h k d e f SinkFailed p q =
+stops_later : (c : Place) (s t : Seen) (l m xs : List ℕ) (second third : List (List ℕ)) (g h k : Option (List ℕ)) (d e f : DiskSeen) (stop : Stop) →
+    Feeds c s t l m xs g h d e → StopsAt c (StandsFor t e.told) second h k e f stop → StopsAt c (StandsFor s d.told) ((lines_after l xs ++ second) ++ third) g k d f stop
+stops_later c s t l m xs second third g h k d e f SinkFailed p q =
     let first = lines_after l xs in
     record {
       done = first ++ q.done;
@@ -186,23 +183,19 @@ stops_later size s t l m xs second third g h k d e f SinkFailed p q =
       part = q.part;
       more = q.more;
       lacks = q.lacks;
-      used = λ key a from.
-          let c = place key size in
-          let w = q.used key (lines_run c a first p.ios) (p.stands key a from) in
-          (uses-append c a first q.done p.ios q.ios p.one_each (p.used key a from) w.0, rw (after-append c a first q.done p.ios q.ios p.one_each) w.1);
-      bytes = λ key a from.
-          let c = place key size in
-          rw (after-append c a first q.done p.ios q.ios p.one_each) (q.bytes key (lines_run c a first p.ios) (p.stands key a from));
-      appended = λ key a from.
-          let c = place key size in
+      used = λ a from.
+          let w = q.used (lines_run c a first p.ios) (p.stands a from) in
+          (uses-append c a first q.done p.ios q.ios p.one_each (p.used a from) w.0, rw (after-append c a first q.done p.ios q.ios p.one_each) w.1);
+      bytes = λ a from.
+          rw (after-append c a first q.done p.ios q.ios p.one_each) (q.bytes (lines_run c a first p.ios) (p.stands a from));
+      appended = λ a from.
           let b = lines_run c a first p.ios in
           rw (pieces-append c a first q.done p.ios q.ios p.one_each, concat-append (pieces_run c a first p.ios) (pieces_run c b q.done q.ios), append_assoc (concat (pieces_run c a first p.ios)) (concat (pieces_run c b q.done q.ios)) q.part)
-          (Appends-trans _ _ _ _ _ (p.appended key a from) (q.appended key b (p.stands key a from)));
-      blocks = λ key a from.
-          let c = place key size in
-          rw (after-append c a first q.done p.ios q.ios p.one_each) (q.blocks key (lines_run c a first p.ios) (p.stands key a from));
+          (Appends-trans _ _ _ _ _ (p.appended a from) (q.appended b (p.stands a from)));
+      blocks = λ a from.
+          rw (after-append c a first q.done p.ios q.ios p.one_each) (q.blocks (lines_run c a first p.ios) (p.stands a from));
     }
-stops_later size s t l m xs second third g h k d e f NoMemory p q =
+stops_later c s t l m xs second third g h k d e f NoMemory p q =
     let first = lines_after l xs in
     record {
       done = first ++ q.done;
@@ -213,46 +206,42 @@ stops_later size s t l m xs second third g h k d e f NoMemory p q =
       ios = p.ios ++ q.ios;
       one_each = omega (arith, length-append p.ios q.ios, length-append first q.done, p.one_each, q.one_each);
       calls = all_made_joined d e f p.ios q.ios p.calls q.calls;
-      used = λ key a from.
-          let c = place key size in
-          uses-append c a first q.done p.ios q.ios p.one_each (p.used key a from) (q.used key (lines_run c a first p.ios) (p.stands key a from));
-      going = λ key a from.
-          let c = place key size in
-          rw (after-append c a first q.done p.ios q.ios p.one_each) (q.going key (lines_run c a first p.ios) (p.stands key a from));
-      appended = λ key a from.
-          let c = place key size in
+      used = λ a from.
+          uses-append c a first q.done p.ios q.ios p.one_each (p.used a from) (q.used (lines_run c a first p.ios) (p.stands a from));
+      going = λ a from.
+          rw (after-append c a first q.done p.ios q.ios p.one_each) (q.going (lines_run c a first p.ios) (p.stands a from));
+      appended = λ a from.
           let b = lines_run c a first p.ios in
           rw (pieces-append c a first q.done p.ios q.ios p.one_each, concat-append (pieces_run c a first p.ios) (pieces_run c b q.done q.ios))
-          (Appends-trans _ _ _ _ _ (p.appended key a from) (q.appended key b (p.stands key a from)));
-      blocks = λ key a from.
-          let c = place key size in
-          rw (after-append c a first q.done p.ios q.ios p.one_each) (q.blocks key (lines_run c a first p.ios) (p.stands key a from));
+          (Appends-trans _ _ _ _ _ (p.appended a from) (q.appended b (p.stands a from)));
+      blocks = λ a from.
+          rw (after-append c a first q.done p.ios q.ios p.one_each) (q.blocks (lines_run c a first p.ios) (p.stands a from));
     }
 
 -- why the run stopped at some bytes, among others
-pub stops_fed : (size : ℕ) (s t : Seen) (l m xs ys zs : List ℕ) (g h k : Option (List ℕ)) (d e f : DiskSeen) (stop : Stop) →
-    Feeds size s t l m xs g h d e → StopsAt size (StandsFor t e.told) (lines_after m ys) h k e f stop →
-    StopsAt size (StandsFor s d.told) (lines_after l ((xs ++ ys) ++ zs)) g k d f stop
-stops_fed size s t l m xs ys zs g h k d e f stop p q =
+pub stops_fed : (c : Place) (s t : Seen) (l m xs ys zs : List ℕ) (g h k : Option (List ℕ)) (d e f : DiskSeen) (stop : Stop) →
+    Feeds c s t l m xs g h d e → StopsAt c (StandsFor t e.told) (lines_after m ys) h k e f stop →
+    StopsAt c (StandsFor s d.told) (lines_after l ((xs ++ ys) ++ zs)) g k d f stop
+stops_fed c s t l m xs ys zs g h k d e f stop p q =
     let second = lines_after (rest_after l xs) ys in
     let third = lines_after (rest_after l (xs ++ ys)) zs in
     rw (lines-append l (xs ++ ys) zs, lines-append l xs ys)
-    (stops_later size s t l m xs second third g h k d e f stop p (rw p.line_is at q))
+    (stops_later c s t l m xs second third g h k d e f stop p (rw p.line_is at q))
 
 -- why the run stopped at the byte at a place
-pub stops_next : (size : ℕ) (s t : Seen) (l m bytes : List ℕ) (i : ℕ) (g h k : Option (List ℕ)) (d e f : DiskSeen) (stop : Stop) → i < length bytes →
-    Feeds size s t l m (take i bytes) g h d e → StopsAt size (StandsFor t e.told) (lines_after m (get_or bytes i 0 ∷ [])) h k e f stop →
-    StopsAt size (StandsFor s d.told) (lines_after l bytes) g k d f stop
-stops_next size s t l m bytes i g h k d e f stop below p q =
+pub stops_next : (c : Place) (s t : Seen) (l m bytes : List ℕ) (i : ℕ) (g h k : Option (List ℕ)) (d e f : DiskSeen) (stop : Stop) → i < length bytes →
+    Feeds c s t l m (take i bytes) g h d e → StopsAt c (StandsFor t e.told) (lines_after m (get_or bytes i 0 ∷ [])) h k e f stop →
+    StopsAt c (StandsFor s d.told) (lines_after l bytes) g k d f stop
+stops_next c s t l m bytes i g h k d e f stop below p q =
     let byte = get_or bytes i 0 ∷ [] in
     let whole : (take i bytes ++ byte) ++ drop (i + 1) bytes ≡ bytes =
     ap (λ front. front ++ drop (i + 1) bytes) (sym (take_more bytes i 0 below)) ∙ take-append-drop (i + 1) bytes in
-    subst (λ x. StopsAt size (StandsFor s d.told) (lines_after l x) g k d f stop) whole (stops_fed size s t l m (take i bytes) byte (drop (i + 1) bytes) g h k d e f stop p q)
+    subst (λ x. StopsAt c (StandsFor s d.told) (lines_after l x) g k d f stop) whole (stops_fed c s t l m (take i bytes) byte (drop (i + 1) bytes) g h k d e f stop p q)
 
 -- why a run stopped, from fewer sessions
-pub stops_from : (size : ℕ) (from less : Session → Type 0) (lines : List (List ℕ)) (g h : Option (List ℕ)) (d e : DiskSeen) (stop : Stop) →
-    ((a : Session) → less a → from a) → StopsAt size from lines g h d e stop → StopsAt size less lines g h d e stop
-stops_from size from less lines g h d e SinkFailed into p =
+pub stops_from : (c : Place) (from less : Session → Type 0) (lines : List (List ℕ)) (g h : Option (List ℕ)) (d e : DiskSeen) (stop : Stop) →
+    ((a : Session) → less a → from a) → StopsAt c from lines g h d e stop → StopsAt c less lines g h d e stop
+stops_from c from less lines g h d e SinkFailed into p =
     record {
       done = p.done;
       next = p.next;
@@ -265,12 +254,12 @@ stops_from size from less lines g h d e SinkFailed into p =
       part = p.part;
       more = p.more;
       lacks = p.lacks;
-      used = λ key a h. p.used key a (into a h);
-      bytes = λ key a h. p.bytes key a (into a h);
-      appended = λ key a h. p.appended key a (into a h);
-      blocks = λ key a h. p.blocks key a (into a h);
+      used = λ a h. p.used a (into a h);
+      bytes = λ a h. p.bytes a (into a h);
+      appended = λ a h. p.appended a (into a h);
+      blocks = λ a h. p.blocks a (into a h);
     }
-stops_from size from less lines g h d e NoMemory into p =
+stops_from c from less lines g h d e NoMemory into p =
     record {
       done = p.done;
       next = p.next;
@@ -280,22 +269,22 @@ stops_from size from less lines g h d e NoMemory into p =
       ios = p.ios;
       one_each = p.one_each;
       calls = p.calls;
-      used = λ key a h. p.used key a (into a h);
-      going = λ key a h. p.going key a (into a h);
-      appended = λ key a h. p.appended key a (into a h);
-      blocks = λ key a h. p.blocks key a (into a h);
+      used = λ a h. p.used a (into a h);
+      going = λ a h. p.going a (into a h);
+      appended = λ a h. p.appended a (into a h);
+      blocks = λ a h. p.blocks a (into a h);
     }
 
 -- ---- one line
 
 -- what a line writes was written, or a part of it
-pub line_written : {T : Type 0} → (size : ℕ) (text : List ℕ) (s t : Seen) (io : List Bool) (out : List ℕ) (g h : Option (List ℕ)) (d e : DiskSeen) (r : Result T Stop) →
-    RunsLine size text s t d.told e.told io out → Made d.faults e.faults d.plan e.plan io → t.lines ≤ s.lines + 1 →
+pub line_written : {T : Type 0} → (c : Place) (text : List ℕ) (s t : Seen) (io : List Bool) (out : List ℕ) (g h : Option (List ℕ)) (d e : DiskSeen) (r : Result T Stop) →
+    RunsLine c text s t d.told e.told io out → Made d.faults e.faults d.plan e.plan io → t.lines ≤ s.lines + 1 →
     MatchResult r (λ _. Appends g h out) (λ stop. (stop ≡ SinkFailed) × AppendsPart g h out) →
-    MatchResult r (λ _. TakesLine size text s t g h d e) (StopsAt size (StandsFor s d.told) (text ∷ []) g h d e)
-line_written size text s t io out g h d e (Ok x) runs calls lines p =
+    MatchResult r (λ _. TakesLine c text s t g h d e) (StopsAt c (StandsFor s d.told) (text ∷ []) g h d e)
+line_written c text s t io out g h d e (Ok x) runs calls lines p =
     record { io = io; calls = all_made_one d e io calls; lines = lines; out = out; appended = p; runs = runs }
-line_written size text s t io out g h d e (Err stop) runs calls lines p =
+line_written c text s t io out g h d e (Err stop) runs calls lines p =
     rw p.0 (record {
       done = [];
       next = text;
@@ -308,16 +297,16 @@ line_written size text s t io out g h d e (Err stop) runs calls lines p =
       part = p.1.part;
       more = p.1.more;
       lacks = p.1.lacks;
-      used = λ key a from. (tt, (runs key a from).used);
-      bytes = λ key a from. sym (runs key a from).bytes ∙ p.1.whole;
-      appended = λ key a from. p.1.appended;
-      blocks = λ key a from. (runs key a from).stands.blocks;
+      used = λ a from. (tt, (runs a from).used);
+      bytes = λ a from. sym (runs a from).bytes ∙ p.1.whole;
+      appended = λ a from. p.1.appended;
+      blocks = λ a from. (runs a from).stands.blocks;
     })
 
 -- there was no memory for a line
-pub line_lacks : (size : ℕ) (text : List ℕ) (s : Seen) (g : Option (List ℕ)) (d e : DiskSeen) → e ≡ d → IsImageLine text → s.refused ≡ false →
-    StopsAt size (StandsFor s d.told) (text ∷ []) g g d e NoMemory
-line_lacks size text s g d e same image going =
+pub line_lacks : (c : Place) (text : List ℕ) (s : Seen) (g : Option (List ℕ)) (d e : DiskSeen) → e ≡ d → IsImageLine text → s.refused ≡ false →
+    StopsAt c (StandsFor s d.told) (text ∷ []) g g d e NoMemory
+line_lacks c text s g d e same image going =
     rw same (record {
       done = [];
       next = text;
@@ -327,15 +316,15 @@ line_lacks size text s g d e same image going =
       ios = [];
       one_each = refl;
       calls = all_made_none d;
-      used = λ key a from. tt;
-      going = λ key a from. sym (ap (λ (x : Session). x.refused) from.session) ∙ going;
-      appended = λ key a from. Appends-nil g;
-      blocks = λ key a from. from.blocks;
+      used = λ a from. tt;
+      going = λ a from. sym (ap (λ (x : Session). x.refused) from.session) ∙ going;
+      appended = λ a from. Appends-nil g;
+      blocks = λ a from. from.blocks;
     })
 
 -- a line that ended with this byte was fed, or stopped the run
-pub line_ended : {T : Type 0} → (size : ℕ) (l m n : List ℕ) (byte : ℕ) (s t : Seen) (g h : Option (List ℕ)) (d e : DiskSeen) (r : Result T Stop) → ends_line l byte ≡ true → ended_line l byte ≡ m →
-    OnOk r (n ≡ []) → MatchResult r (λ _. TakesLine size m s t g h d e) (StopsAt size (StandsFor s d.told) (m ∷ []) g h d e) →
-    MatchResult r (λ _. Feeds size s t l n (byte ∷ []) g h d e) (StopsAt size (StandsFor s d.told) (lines_after l (byte ∷ [])) g h d e)
-line_ended size l m n byte s t g h d e (Ok x) ends is empty p = fed_line size s t l m n byte g h d e ends is empty p
-line_ended size l m n byte s t g h d e (Err stop) ends is empty p = rw (lines_ended l byte [] ends, is) p
+pub line_ended : {T : Type 0} → (c : Place) (l m n : List ℕ) (byte : ℕ) (s t : Seen) (g h : Option (List ℕ)) (d e : DiskSeen) (r : Result T Stop) → ends_line l byte ≡ true → ended_line l byte ≡ m →
+    OnOk r (n ≡ []) → MatchResult r (λ _. TakesLine c m s t g h d e) (StopsAt c (StandsFor s d.told) (m ∷ []) g h d e) →
+    MatchResult r (λ _. Feeds c s t l n (byte ∷ []) g h d e) (StopsAt c (StandsFor s d.told) (lines_after l (byte ∷ [])) g h d e)
+line_ended c l m n byte s t g h d e (Ok x) ends is empty p = fed_line c s t l m n byte g h d e ends is empty p
+line_ended c l m n byte s t g h d e (Err stop) ends is empty p = rw (lines_ended l byte [] ends, is) p

@@ -1,10 +1,9 @@
 -- What the lines and the entries of a session make of it.
 use Rattle.std.proofs.Common.{length, codes, decimal, is_some, Result, Ok, Err, ◌≡◌, ℕ, suc, ◌+◌, ◌++◌, ◌∙◌, true, false, Bool, List, [], ◌∷◌, Some, None, Option, arith, refl, sym, ap, subst, add-one}
 use Rattle.kernel_model.specs.declared.Event.{Event}
-use Rattle.kernel_model.specs.declared.FileRow.{FileRow}
 use Rattle.kernel_model.specs.declared.Note.{Note}
 use Rattle.disk_log.specs.Calls.{Tells}
-use Rattle.kernel_model.specs.Directory.{directory_of, usable_count}
+use Rattle.kernel_model.specs.Directory.{directory_of}
 use Rattle.kernel_model.specs.Script as script_is
 use Rattle.kernel_model.specs.Script.{Entry, Blank, Frames, Grant, Boot, Happens, Raw, ScriptFault, fault_number, parsed_line}
 use Rattle.script_text.specs.declared.parse.ScriptFault.{ScriptFault as TextFault}
@@ -22,14 +21,14 @@ use Rattle.kernel_model.specs.declared.Refusal.TheVariants.{DiskFault}
 use Rattle.kernel_model.specs.Text.{line, spaced, note_text, note_lines, row_lines}
 use Rattle.kernel_model.specs.Opening.{opening_kernel}
 use Rattle.vino_top.specs.Built.{present_build, is_built, is_built_event}
-use Rattle.kernel_model.specs.World.{World, Blocks}
+use Rattle.kernel_model.specs.World.{World, ImageTable, Blocks}
 use Rattle.kernel_model.specs.Objects.{Objects}
 use Rattle.kernel_model.specs.Quiet.{quiet, HasNoGraft}
 use Rattle.kernel_core.specs.declared.kernel.BootNote.{BootNote}
-use Rattle.kernel_core.specs.Standing.{no_images, Happened, directory_read, boot_note}
+use Rattle.kernel_core.specs.Standing.{Happened, directory_read, boot_note}
 use Rattle.vino_top.specs.Standing.{Seen, kernel_seen, kernel_in, session_of, code_seen}
 use Rattle.kernel_state.specs.Stores.{world_for}
-use Rattle.vino_top.specs.Run.{place, line_run, StandsFor, Comes, RunsLine, RunsEntry, boot_line}
+use Rattle.vino_top.specs.Run.{Place, line_run, StandsFor, Comes, RunsLine, RunsEntry, boot_line}
 
 -- ---- entries
 
@@ -43,19 +42,19 @@ opening_graftless : (k : abstract.Kernel) (v : World) → k ≡ opening_kernel v
 opening_graftless k v is = λ q pt. ap (λ (x : abstract.Kernel). x.objects.accounts.graft q pt) is
 
 -- a session goes on by an event, and writes the lines of its notes
-pub event_runs : (size : ℕ) (s : Seen) (v : World) (w : Objects) (clock : ℕ) (told told_new : Option (List (List ℕ))) (what : Event) (io : List Bool) (notes : List Note) (out : List ℕ) →
-    s.booted ≡ true → is_built_event what ≡ true → (HasNoGraft s.objects → Happened plain (kernel_seen s) (quiet v no_images w clock) told told_new (s.events + 1) what io notes) → out ≡ note_lines notes →
-    RunsEntry size (Happens what) s (record s { world = v; objects = w; clock = clock; events = s.events + 1 }) told told_new io out
-event_runs size s v w clock told told_new what io notes out booted built h text = λ key a stands.
+pub event_runs : (c : Place) (s : Seen) (v : World) (table : ImageTable) (w : Objects) (clock : ℕ) (told told_new : Option (List (List ℕ))) (what : Event) (io : List Bool) (notes : List Note) (out : List ℕ) →
+    s.booted ≡ true → is_built_event what ≡ true → (HasNoGraft s.objects → Happened plain (kernel_seen s) (quiet v table w clock) told told_new (s.events + 1) what io notes) → out ≡ note_lines notes →
+    RunsEntry c (Happens what) s (record s { world = v; images = table; objects = w; clock = clock; events = s.events + 1 }) told told_new io out
+event_runs c s v table w clock told told_new what io notes out booted built h text = λ a stands.
     let n = suc s.events in
     let t = session_of a.blocks s in
-    let u = record s { world = v; objects = w; clock = clock; events = s.events + 1 } in
+    let u = record s { world = v; images = table; objects = w; clock = clock; events = s.events + 1 } in
     let r = event plain (kernel_seen s) a.blocks n what io in
     let happened = rw add-one at (h (stands.graftless booted)) in
-    let run : after_built present_build key size t (Happens what) io (is_built_event what) ≡ after_event t n r =
-    ap (after_built present_build key size t (Happens what) io) built
-    ∙ ap (λ b. running_in present_build key size t (Happens what) (kernel_in b (kernel_seen s)) io) booted in
-    comes_of _ told_new out s told a (λ x. after_built present_build key size x (Happens what) io (is_built_event what)) stands
+    let run : after_built present_build c.key c.size t (Happens what) io (is_built_event what) ≡ after_event t n r =
+    ap (after_built present_build c.key c.size t (Happens what) io) built
+    ∙ ap (λ b. running_in present_build c.key c.size t (Happens what) (kernel_in b (kernel_seen s)) io) booted in
+    comes_of _ told_new out s told a (λ x. after_built present_build c.key c.size x (Happens what) io (is_built_event what)) stands
     (subst (λ x. Comes u told_new out x) (sym run) (record {
       stands = record {
         session =
@@ -69,96 +68,96 @@ event_runs size s v w clock told told_new what io notes out booted built h text 
     }))
 
 -- a session once the kernel began: block 0 was read, or that failed
-pub boot_runs : (size : ℕ) (s : Seen) (v : World) (w : Objects) (clock : ℕ) (told told_new : Option (List (List ℕ))) (io : List Bool) (note : BootNote) (out : List ℕ) →
+pub boot_runs : (c : Place) (s : Seen) (v : World) (table : ImageTable) (w : Objects) (clock : ℕ) (told told_new : Option (List (List ℕ))) (io : List Bool) (note : BootNote) (out : List ℕ) →
     length io ≡ 1 → ((blocks : Blocks) → Tells told blocks → Tells told_new blocks) →
-    ((blocks : Blocks) → Tells told blocks → quiet v no_images w clock ≡ opening_kernel (world_for s.setup size (directory_read size (blocks 0) io))) →
-    ((blocks : Blocks) → Tells told blocks → note ≡ boot_note s.setup.frames size (blocks 0) io) → out ≡ line (boot_line note) →
-    RunsEntry size Boot s (record s { world = v; objects = w; clock = clock; booted = true }) told told_new io out
-boot_runs size s v w clock told told_new (true ∷ []) note out one keeps kernel said text = λ key a stands.
-    let u = record s { world = v; objects = w; clock = clock; booted = true } in
-    comes_of u told_new out s told a (λ x. after_built present_build key size x Boot (true ∷ []) true) stands (record {
+    ((blocks : Blocks) → Tells told blocks → quiet v table w clock ≡ opening_kernel (world_for s.setup c.size (directory_read c.size (blocks 0) io))) →
+    ((blocks : Blocks) → Tells told blocks → note ≡ boot_note s.setup.frames c.size (blocks 0) io) → out ≡ line (boot_line note) →
+    RunsEntry c Boot s (record s { world = v; images = table; objects = w; clock = clock; booted = true }) told told_new io out
+boot_runs c s v table w clock told told_new (true ∷ []) note out one keeps kernel said text = λ a stands.
+    let u = record s { world = v; images = table; objects = w; clock = clock; booted = true } in
+    comes_of u told_new out s told a (λ x. after_built present_build c.key c.size x Boot (true ∷ []) true) stands (record {
       stands = record {
         session = ap (λ (k : abstract.Kernel). record (session_of a.blocks s) { kernel = Some k }) (kernel a.blocks stands.blocks);
         blocks = keeps a.blocks stands.blocks;
-        graftless = λ up. opening_graftless (quiet v no_images w clock) (world_for s.setup size []) (kernel a.blocks stands.blocks);
+        graftless = λ up. opening_graftless (quiet v table w clock) (world_for s.setup c.size []) (kernel a.blocks stands.blocks);
       };
       used = refl;
       bytes = text ∙ ap (λ (x : BootNote). line (boot_line x)) (said a.blocks stands.blocks);
     })
-boot_runs size s v w clock told told_new (false ∷ []) note out one keeps kernel said text = λ key a stands.
-    let u = record s { world = v; objects = w; clock = clock; booted = true } in
-    comes_of u told_new out s told a (λ x. after_built present_build key size x Boot (false ∷ []) true) stands (record {
+boot_runs c s v table w clock told told_new (false ∷ []) note out one keeps kernel said text = λ a stands.
+    let u = record s { world = v; images = table; objects = w; clock = clock; booted = true } in
+    comes_of u told_new out s told a (λ x. after_built present_build c.key c.size x Boot (false ∷ []) true) stands (record {
       stands = record {
         session = ap (λ (k : abstract.Kernel). record (session_of a.blocks s) { kernel = Some k }) (kernel a.blocks stands.blocks);
         blocks = keeps a.blocks stands.blocks;
-        graftless = λ up. opening_graftless (quiet v no_images w clock) (world_for s.setup size (directory_of size (a.blocks 0))) (kernel a.blocks stands.blocks);
+        graftless = λ up. opening_graftless (quiet v table w clock) (world_for s.setup c.size (directory_of c.size (a.blocks 0))) (kernel a.blocks stands.blocks);
       };
       used = refl;
       bytes = text ∙ ap (λ (x : BootNote). line (boot_line x)) (said a.blocks stands.blocks);
     })
-boot_runs size s v w clock told told_new [] note out one keeps kernel said text = absurd (omega (arith, one))
-boot_runs size s v w clock told told_new (x ∷ y ∷ io) note out one keeps kernel said text = absurd (omega (arith, one))
+boot_runs c s v table w clock told told_new [] note out one keeps kernel said text = absurd (omega (arith, one))
+boot_runs c s v table w clock told told_new (x ∷ y ∷ io) note out one keeps kernel said text = absurd (omega (arith, one))
 
 -- an entry that leaves the disk alone
-record ComesAlone (blocks : Blocks) (s t : Seen) (out : List ℕ) (w : Written) : Type 0 where
-  up : t.booted ≡ s.booted
-  objects : t.objects ≡ s.objects
-  session : session_of blocks t ≡ w.session
-  used : w.io ≡ []
-  bytes : out ≡ w.bytes
+pub record ComesAlone (blocks : Blocks) (s t : Seen) (out : List ℕ) (w : Written) : Type 0 where
+  pub up : t.booted ≡ s.booted
+  pub objects : t.objects ≡ s.objects
+  pub session : session_of blocks t ≡ w.session
+  pub used : w.io ≡ []
+  pub bytes : out ≡ w.bytes
 
 -- a session went on by such an entry
-alone : (size : ℕ) (e : Entry) (s t : Seen) (told : Option (List (List ℕ))) (out : List ℕ) →
-    ((key : List ℕ) (blocks : Blocks) → ComesAlone blocks s t out (after_built present_build key size (session_of blocks s) e [] (is_built e))) → RunsEntry size e s t told told [] out
-alone size e s t told out comes = λ key a stands.
-    let c = comes key a.blocks in
-    let same = ap (λ (x : script.Session). x.blocks) c.session in
-    comes_of t told out s told a (λ x. after_built present_build key size x e [] (is_built e)) stands (record {
+pub alone : (c : Place) (e : Entry) (s t : Seen) (told : Option (List (List ℕ))) (out : List ℕ) →
+    ((blocks : Blocks) → ComesAlone blocks s t out (after_built present_build c.key c.size (session_of blocks s) e [] (is_built e))) → RunsEntry c e s t told told [] out
+alone c e s t told out comes = λ a stands.
+    let came = comes a.blocks in
+    let same = ap (λ (x : script.Session). x.blocks) came.session in
+    comes_of t told out s told a (λ x. after_built present_build c.key c.size x e [] (is_built e)) stands (record {
       stands = record {
-        session = ap (λ b. session_of b t) (sym same) ∙ c.session;
+        session = ap (λ b. session_of b t) (sym same) ∙ came.session;
         blocks = subst (λ b. Tells told b) same stands.blocks;
-        graftless = λ up. subst (λ (x : Objects). HasNoGraft x) (sym c.objects) (stands.graftless (sym c.up ∙ up));
+        graftless = λ up. subst (λ (x : Objects). HasNoGraft x) (sym came.objects) (stands.graftless (sym came.up ∙ up));
       };
-      used = c.used;
-      bytes = c.bytes;
+      used = came.used;
+      bytes = came.bytes;
     })
 
 -- a blank line
-pub blank_runs : (size : ℕ) (s : Seen) (told : Option (List (List ℕ))) → RunsEntry size Blank s s told told [] []
-blank_runs size s told = alone size Blank s s told [] (λ key blocks. record { up = refl; objects = refl; session = refl; used = refl; bytes = refl })
+pub blank_runs : (c : Place) (s : Seen) (told : Option (List (List ℕ))) → RunsEntry c Blank s s told told [] []
+blank_runs c s told = alone c Blank s s told [] (λ blocks. record { up = refl; objects = refl; session = refl; used = refl; bytes = refl })
 
 -- a line that sets the frames
-pub frames_runs : (size : ℕ) (s : Seen) (told : Option (List (List ℕ))) (n : ℕ) →
-    RunsEntry size (Frames n) s (record s { setup = record (s.setup) { frames = n } }) told told [] []
-frames_runs size s told n =
-    alone size (Frames n) s (record s { setup = record (s.setup) { frames = n } }) told [] (λ key blocks. record { up = refl; objects = refl; session = refl; used = refl; bytes = refl })
+pub frames_runs : (c : Place) (s : Seen) (told : Option (List (List ℕ))) (n : ℕ) →
+    RunsEntry c (Frames n) s (record s { setup = record (s.setup) { frames = n } }) told told [] []
+frames_runs c s told n =
+    alone c (Frames n) s (record s { setup = record (s.setup) { frames = n } }) told [] (λ blocks. record { up = refl; objects = refl; session = refl; used = refl; bytes = refl })
 
 -- a line that sets the grant
-pub grant_runs : (size : ℕ) (s : Seen) (told : Option (List (List ℕ))) (n : ℕ) →
-    RunsEntry size (Grant n) s (record s { setup = record (s.setup) { grant = n } }) told told [] []
-grant_runs size s told n =
-    alone size (Grant n) s (record s { setup = record (s.setup) { grant = n } }) told [] (λ key blocks. record { up = refl; objects = refl; session = refl; used = refl; bytes = refl })
+pub grant_runs : (c : Place) (s : Seen) (told : Option (List (List ℕ))) (n : ℕ) →
+    RunsEntry c (Grant n) s (record s { setup = record (s.setup) { grant = n } }) told told [] []
+grant_runs c s told n =
+    alone c (Grant n) s (record s { setup = record (s.setup) { grant = n } }) told [] (λ blocks. record { up = refl; objects = refl; session = refl; used = refl; bytes = refl })
 
 -- an event before `boot`
-pub unbooted_runs : (size : ℕ) (s : Seen) (told : Option (List (List ℕ))) (what : Event) → s.booted ≡ false → is_built_event what ≡ true →
-    RunsEntry size (Happens what) s s told told [] []
-unbooted_runs size s told what booted built =
-    alone size (Happens what) s s told [] (λ key blocks.
+pub unbooted_runs : (c : Place) (s : Seen) (told : Option (List (List ℕ))) (what : Event) → s.booted ≡ false → is_built_event what ≡ true →
+    RunsEntry c (Happens what) s s told told [] []
+unbooted_runs c s told what booted built =
+    alone c (Happens what) s s told [] (λ blocks.
     let t = session_of blocks s in
-    let run : after_built present_build key size t (Happens what) [] (is_built_event what) ≡ silent t [] =
-    ap (after_built present_build key size t (Happens what) []) built
-    ∙ ap (λ b. running_in present_build key size t (Happens what) (kernel_in b (kernel_seen s)) []) booted in
+    let run : after_built present_build c.key c.size t (Happens what) [] (is_built_event what) ≡ silent t [] =
+    ap (after_built present_build c.key c.size t (Happens what) []) built
+    ∙ ap (λ b. running_in present_build c.key c.size t (Happens what) (kernel_in b (kernel_seen s)) []) booted in
     subst (λ w. ComesAlone blocks s s [] w) (sym run) (record { up = refl; objects = refl; session = refl; used = refl; bytes = refl }))
 
 -- the rows of the kernel's whole state
-pub raw_runs : (size : ℕ) (s : Seen) (told : Option (List (List ℕ))) (out : List ℕ) → s.booted ≡ true → out ≡ row_lines (s.events + 1) (raw_rows plain (kernel_seen s)) →
-    RunsEntry size Raw s (record s { events = s.events + 1 }) told told [] out
-raw_runs size s told out booted text =
-    alone size Raw s (record s { events = s.events + 1 }) told out (λ key blocks.
+pub raw_runs : (c : Place) (s : Seen) (told : Option (List (List ℕ))) (out : List ℕ) → s.booted ≡ true → out ≡ row_lines (s.events + 1) (raw_rows plain (kernel_seen s)) →
+    RunsEntry c Raw s (record s { events = s.events + 1 }) told told [] out
+raw_runs c s told out booted text =
+    alone c Raw s (record s { events = s.events + 1 }) told out (λ blocks.
     let t = session_of blocks s in
     let n = suc s.events in
-    let run : after_built present_build key size t Raw [] true ≡ says (record t { kernel = Some (kernel_seen s); events = n }) (row_lines n (raw_rows plain (kernel_seen s))) [] =
-    ap (λ b. running_in present_build key size (record t { kernel = kernel_in b (kernel_seen s) }) Raw (kernel_in b (kernel_seen s)) []) booted in
+    let run : after_built present_build c.key c.size t Raw [] true ≡ says (record t { kernel = Some (kernel_seen s); events = n }) (row_lines n (raw_rows plain (kernel_seen s))) [] =
+    ap (λ b. running_in present_build c.key c.size (record t { kernel = kernel_in b (kernel_seen s) }) Raw (kernel_in b (kernel_seen s)) []) booted in
     subst (λ w. ComesAlone blocks s (record s { events = s.events + 1 }) out w) (sym run) (record {
       up = refl;
       objects = refl;
@@ -168,20 +167,20 @@ raw_runs size s told out booted text =
     }))
 
 -- the same before `boot`
-pub unbooted_raw : (size : ℕ) (s : Seen) (told : Option (List (List ℕ))) → s.booted ≡ false → RunsEntry size Raw s s told told [] []
-unbooted_raw size s told booted =
-    alone size Raw s s told [] (λ key blocks.
+pub unbooted_raw : (c : Place) (s : Seen) (told : Option (List (List ℕ))) → s.booted ≡ false → RunsEntry c Raw s s told told [] []
+unbooted_raw c s told booted =
+    alone c Raw s s told [] (λ blocks.
     let t = session_of blocks s in
-    let run : after_built present_build key size t Raw [] true ≡ silent t [] =
-    ap (λ b. running_in present_build key size t Raw (kernel_in b (kernel_seen s)) []) booted in
+    let run : after_built present_build c.key c.size t Raw [] true ≡ silent t [] =
+    ap (λ b. running_in present_build c.key c.size t Raw (kernel_in b (kernel_seen s)) []) booted in
     subst (λ w. ComesAlone blocks s s [] w) (sym run) (record { up = refl; objects = refl; session = refl; used = refl; bytes = refl }))
 
 -- a line that isn't built
-pub unbuilt_runs : (size : ℕ) (e : Entry) (s t : Seen) (told : Option (List (List ℕ))) (out : List ℕ) → is_built e ≡ false →
-    t ≡ record s { refused = true } → out ≡ line (codes "script" ++ spaced s.lines ++ codes " S" ++ decimal 5) → RunsEntry size e s t told told [] out
-unbuilt_runs size e s t told out unbuilt state text =
-    alone size e s t told out (λ key blocks.
-    subst (λ b. ComesAlone blocks s t out (after_built present_build key size (session_of blocks s) e [] b)) (sym unbuilt)
+pub unbuilt_runs : (c : Place) (e : Entry) (s t : Seen) (told : Option (List (List ℕ))) (out : List ℕ) → is_built e ≡ false →
+    t ≡ record s { refused = true } → out ≡ line (codes "script" ++ spaced s.lines ++ codes " S" ++ decimal 5) → RunsEntry c e s t told told [] out
+unbuilt_runs c e s t told out unbuilt state text =
+    alone c e s t told out (λ blocks.
+    subst (λ b. ComesAlone blocks s t out (after_built present_build c.key c.size (session_of blocks s) e [] b)) (sym unbuilt)
     (record { up = ap (λ (x : Seen). x.booted) state; objects = ap (λ (x : Seen). x.objects) state; session = ap (session_of blocks) state; used = refl; bytes = text }))
 
 -- ---- lines
@@ -192,27 +191,27 @@ kernel_is_some false k = refl
 kernel_is_some true k = refl
 
 -- a session after a refused line
-pub line_after_refusal : (size : ℕ) (s : Seen) (told : Option (List (List ℕ))) (text : List ℕ) → s.refused ≡ true → RunsLine size text s s told told [] []
-line_after_refusal size s told text refused = λ key a stands.
-    let is : line_run (place key size) a text [] ≡ silent a [] =
+pub line_after_refusal : (c : Place) (s : Seen) (told : Option (List (List ℕ))) (text : List ℕ) → s.refused ≡ true → RunsLine c text s s told told [] []
+line_after_refusal c s told text refused = λ a stands.
+    let is : line_run c a text [] ≡ silent a [] =
     ap (λ (b : Bool). elim b as (λ _. Written) [
       | true ↦ silent a []
-      | false ↦ after_parse present_build key size (record a { lines = suc a.lines }) (parsed_line (is_some a.kernel) text) []
+      | false ↦ after_parse present_build c.key c.size (record a { lines = suc a.lines }) (parsed_line (is_some a.kernel) text) []
     ]) (ap (λ (x : script.Session). x.refused) (sym stands.session) ∙ refused) in
     subst (λ w. Comes s told [] w) (sym is) (record { stands = stands; used = refl; bytes = refl })
 
 -- a line of a session that goes on is what its words say
-line_parsed : (size : ℕ) (key : List ℕ) (s : Seen) (told : Option (List (List ℕ))) (a : script.Session) (text : List ℕ) (said : Result Entry ScriptFault) (io : List Bool) →
+line_parsed : (c : Place) (s : Seen) (told : Option (List (List ℕ))) (a : script.Session) (text : List ℕ) (said : Result Entry ScriptFault) (io : List Bool) →
     StandsFor s told a → s.refused ≡ false → parsed_line s.booted text ≡ said →
-    line_run (place key size) a text io ≡ after_parse present_build key size (record a { lines = suc a.lines }) said io
-line_parsed size key s told a text said io stands going is =
+    line_run c a text io ≡ after_parse present_build c.key c.size (record a { lines = suc a.lines }) said io
+line_parsed c s told a text said io stands going is =
     let u = record a { lines = suc a.lines } in
     ap (λ (refused : Bool). elim refused as (λ _. Written) [
       | true ↦ silent a io
-      | false ↦ after_parse present_build key size u (parsed_line (is_some a.kernel) text) io
+      | false ↦ after_parse present_build c.key c.size u (parsed_line (is_some a.kernel) text) io
     ]) (ap (λ (x : script.Session). x.refused) (sym stands.session) ∙ going)
-    ∙ ap (λ (b : Bool). after_parse present_build key size u (parsed_line b text) io) (ap (λ (x : script.Session). is_some x.kernel) (sym stands.session) ∙ kernel_is_some s.booted (kernel_seen s))
-    ∙ ap (λ (r : Result Entry ScriptFault). after_parse present_build key size u r io) is
+    ∙ ap (λ (b : Bool). after_parse present_build c.key c.size u (parsed_line b text) io) (ap (λ (x : script.Session). is_some x.kernel) (sym stands.session) ∙ kernel_is_some s.booted (kernel_seen s))
+    ∙ ap (λ (r : Result Entry ScriptFault). after_parse present_build c.key c.size u r io) is
 
 -- a session whose next line was counted
 counted : (s : Seen) (told : Option (List (List ℕ))) (a : script.Session) → StandsFor s told a → StandsFor (record s { lines = s.lines + 1 }) told (record a { lines = suc a.lines })
@@ -226,20 +225,20 @@ counted s told a stands =
     }
 
 -- a line is run for what it says
-pub line_entered : (size : ℕ) (s t : Seen) (told told_new : Option (List (List ℕ))) (io : List Bool) (text out : List ℕ) (e : Entry) → s.refused ≡ false →
-    parsed_line s.booted text ≡ Ok e → RunsEntry size e (record s { lines = s.lines + 1 }) t told told_new io out → RunsLine size text s t told told_new io out
-line_entered size s t told told_new io text out e going is runs = λ key a stands.
-    subst (λ w. Comes t told_new out w) (sym (line_parsed size key s told a text (Ok e) io stands going is))
-    (runs key (record a { lines = suc a.lines }) (counted s told a stands))
+pub line_entered : (c : Place) (s t : Seen) (told told_new : Option (List (List ℕ))) (io : List Bool) (text out : List ℕ) (e : Entry) → s.refused ≡ false →
+    parsed_line s.booted text ≡ Ok e → RunsEntry c e (record s { lines = s.lines + 1 }) t told told_new io out → RunsLine c text s t told told_new io out
+line_entered c s t told told_new io text out e going is runs = λ a stands.
+    subst (λ w. Comes t told_new out w) (sym (line_parsed c s told a text (Ok e) io stands going is))
+    (runs (record a { lines = suc a.lines }) (counted s told a stands))
 
 -- a line is refused for this fault
-pub line_refused : (size : ℕ) (s t : Seen) (told : Option (List (List ℕ))) (text out : List ℕ) (fault : ScriptFault) → s.refused ≡ false →
+pub line_refused : (c : Place) (s t : Seen) (told : Option (List (List ℕ))) (text out : List ℕ) (fault : ScriptFault) → s.refused ≡ false →
     parsed_line s.booted text ≡ Err fault → t ≡ record s { lines = s.lines + 1; refused = true } →
-    out ≡ line (codes "script" ++ spaced (s.lines + 1) ++ codes " S" ++ decimal (fault_number fault)) → RunsLine size text s t told told [] out
-line_refused size s t told text out fault going is state written = λ key a stands.
+    out ≡ line (codes "script" ++ spaced (s.lines + 1) ++ codes " S" ++ decimal (fault_number fault)) → RunsLine c text s t told told [] out
+line_refused c s t told text out fault going is state written = λ a stands.
     let u = counted s told a stands in
     let lines : s.lines + 1 ≡ suc a.lines = ap (λ (x : script.Session). x.lines) u.session in
-    subst (λ w. Comes t told out w) (sym (line_parsed size key s told a text (Err fault) [] stands going is)) (record {
+    subst (λ w. Comes t told out w) (sym (line_parsed c s told a text (Err fault) [] stands going is)) (record {
       stands = record {
         session = ap (session_of a.blocks) state ∙ ap (λ (x : script.Session). record x { refused = true }) u.session;
         blocks = stands.blocks;
@@ -274,12 +273,12 @@ refused_as text.NoMemory code said h r =
     let none : ℕ = 0 in let one : ℕ = 1 in let there : none ≡ one = ap count_of h in absurd (omega (arith, there))
 
 -- a line is refused with this code
-pub line_refused_as : (size : ℕ) (s t : Seen) (told : Option (List (List ℕ))) (text out : List ℕ) (fault : TextFault) (code : ℕ) → s.refused ≡ false →
+pub line_refused_as : (c : Place) (s t : Seen) (told : Option (List (List ℕ))) (text out : List ℕ) (fault : TextFault) (code : ℕ) → s.refused ≡ false →
     code_seen fault ≡ Some code → Refuses fault (parsed_line s.booted text) → t ≡ record s { lines = s.lines + 1; refused = true } →
-    out ≡ line (codes "script" ++ spaced (s.lines + 1) ++ codes " S" ++ decimal code) → RunsLine size text s t told told [] out
-line_refused_as size s t told text out fault code going seen refuses state written =
+    out ≡ line (codes "script" ++ spaced (s.lines + 1) ++ codes " S" ++ decimal code) → RunsLine c text s t told told [] out
+line_refused_as c s t told text out fault code going seen refuses state written =
     let r = refused_as fault code (parsed_line s.booted text) seen refuses in
-    line_refused size s t told text out r.fault going r.is state (rw r.number written)
+    line_refused c s t told text out r.fault going r.is state (rw r.number written)
 
 -- what is written of a boot whose read failed
 pub fault_line : line (note_text (Refused 0 DiskFault)) ≡ line (codes "0 E16")

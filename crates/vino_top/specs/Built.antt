@@ -4,7 +4,7 @@ use Rattle.kernel_model.specs.declared.Event.{Event}
 use Rattle.kernel_model.specs.declared.Event.TheVariants.{Tick, Step, Sys}
 use Rattle.kernel_model.specs.declared.SysCall.{SysCall}
 use Rattle.kernel_model.specs.declared.SysCall.TheVariants.{TakeLock, FreeLock, Install, Remove, Fund, Bill}
-use Rattle.kernel_model.specs.Script.{Entry, Blank, Frames, Grant, Boot, Happens, Raw}
+use Rattle.kernel_model.specs.Script.{Entry, Blank, Frames, Grant, Boot, Happens, Loads, Raw}
 use Rattle.kernel_model.specs.Pieces.{plain}
 use Rattle.kernel_model.specs.Session.{Build}
 
@@ -31,8 +31,14 @@ is_built Boot = true
 is_built (Frames n) = true
 is_built (Grant n) = true
 is_built (Happens e) = is_built_event e
+is_built (Loads slot bytes) = true
 is_built Raw = true
 is_built _ = false
+
+-- an entry loads an image
+abbrev pub is_load : Entry → Bool
+is_load (Loads slot bytes) = true
+is_load _ = false
 
 -- what is built
 abbrev pub present_build : Build

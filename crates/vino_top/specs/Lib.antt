@@ -3,3 +3,4 @@ pub mod Standing
 pub mod Bounds
 pub mod Run
 pub mod Words
+pub mod Loading

@@ -102,14 +102,13 @@ pub record Comes (t : Seen) (told : Option (List (List ℕ))) (out : List ℕ) (
   pub bytes : out ≡ w.bytes
 
 -- the session went on by this line, which made these calls and writes `out`
-abbrev pub RunsLine : (size : ℕ) → List ℕ → (s t : Seen) → (told told_new : Option (List (List ℕ))) → List Bool → List ℕ → Type 0
-RunsLine size text s t told told_new io out =
-    (key : List ℕ) (a : Session) → StandsFor s told a → Comes t told_new out (line_run (place key size) a text io)
+abbrev pub RunsLine : Place → List ℕ → (s t : Seen) → (told told_new : Option (List (List ℕ))) → List Bool → List ℕ → Type 0
+RunsLine c text s t told told_new io out = (a : Session) → StandsFor s told a → Comes t told_new out (line_run c a text io)
 
 -- the session went on by this entry, which made these calls and writes `out`
-abbrev pub RunsEntry : (size : ℕ) → Entry → (s t : Seen) → (told told_new : Option (List (List ℕ))) → List Bool → List ℕ → Type 0
-RunsEntry size e s t told told_new io out =
-    (key : List ℕ) (a : Session) → StandsFor s told a → Comes t told_new out (after_built present_build key size a e io (is_built e))
+abbrev pub RunsEntry : Place → Entry → (s t : Seen) → (told told_new : Option (List (List ℕ))) → List Bool → List ℕ → Type 0
+RunsEntry c e s t told told_new io out =
+    (a : Session) → StandsFor s told a → Comes t told_new out (after_built present_build c.key c.size a e io (is_built e))
 
 -- what is written of a boot
 abbrev pub boot_line : BootNote → List ℕ
@@ -120,24 +119,24 @@ boot_line boot_is.Fault = codes "0 E16"
 abbrev pub IsImageLine : List ℕ → Type 0
 IsImageLine text = first_word (words_of text) ≡ codes "image"
 
--- whatever the key is, and from whichever of these sessions
-abbrev pub Whenever : (size : ℕ) → (Session → Type 0) → (Place → Session → Type 0) → Type 0
-Whenever size from holds = (key : List ℕ) (a : Session) → from a → holds (place key size) a
+-- from whichever of these sessions
+abbrev pub Whenever : Place → (Session → Type 0) → (Place → Session → Type 0) → Type 0
+Whenever c from holds = (a : Session) → from a → holds c a
 
 -- These bytes were fed to a session and to the line that was being read. The sink took what they write.
-pub record Feeds (size : ℕ) (s t : Seen) (line line_new bytes : List ℕ) (got got_new : Option (List ℕ)) (d e : DiskSeen) : Type 0 where
+pub record Feeds (c : Place) (s t : Seen) (line line_new bytes : List ℕ) (got got_new : Option (List ℕ)) (d e : DiskSeen) : Type 0 where
   pub ios : List (List Bool)
   pub one_each : length ios ≡ length (lines_after line bytes)
   pub calls : MadeAll d e ios
   pub line_is : line_new ≡ rest_after line bytes
   pub lines : t.lines ≤ s.lines + length bytes
-  pub stands : Whenever size (StandsFor s d.told) (λ c a. StandsFor t e.told (lines_run c a (lines_after line bytes) ios))
-  pub used : Whenever size (StandsFor s d.told) (λ c a. UsesAll c a (lines_after line bytes) ios)
-  pub appended : Whenever size (StandsFor s d.told) (λ c a. Appends got got_new (concat (pieces_run c a (lines_after line bytes) ios)))
+  pub stands : Whenever c (StandsFor s d.told) (λ c a. StandsFor t e.told (lines_run c a (lines_after line bytes) ios))
+  pub used : Whenever c (StandsFor s d.told) (λ c a. UsesAll c a (lines_after line bytes) ios)
+  pub appended : Whenever c (StandsFor s d.told) (λ c a. Appends got got_new (concat (pieces_run c a (lines_after line bytes) ios)))
 
 -- Of these lines some were run, and of what the next one writes the sink took a part, not whole. The disk is as that line
 -- leaves it.
-pub record CutsShort (size : ℕ) (from : Session → Type 0) (lines : List (List ℕ)) (got got_new : Option (List ℕ)) (d e : DiskSeen) : Type 0 where
+pub record CutsShort (c : Place) (from : Session → Type 0) (lines : List (List ℕ)) (got got_new : Option (List ℕ)) (d e : DiskSeen) : Type 0 where
   pub done : List (List ℕ)
   pub next : List ℕ
   pub later : List (List ℕ)
@@ -149,13 +148,13 @@ pub record CutsShort (size : ℕ) (from : Session → Type 0) (lines : List (Lis
   pub part : List ℕ
   pub more : List ℕ
   pub lacks : 0 < length more
-  pub used : Whenever size from (λ c a. UsesAll c a done ios × ((line_run c (lines_run c a done ios) next io).io ≡ []))
-  pub bytes : Whenever size from (λ c a. (line_run c (lines_run c a done ios) next io).bytes ≡ part ++ more)
-  pub appended : Whenever size from (λ c a. Appends got got_new (concat (pieces_run c a done ios) ++ part))
-  pub blocks : Whenever size from (λ c a. Tells e.told (line_run c (lines_run c a done ios) next io).session.blocks)
+  pub used : Whenever c from (λ c a. UsesAll c a done ios × ((line_run c (lines_run c a done ios) next io).io ≡ []))
+  pub bytes : Whenever c from (λ c a. (line_run c (lines_run c a done ios) next io).bytes ≡ part ++ more)
+  pub appended : Whenever c from (λ c a. Appends got got_new (concat (pieces_run c a done ios) ++ part))
+  pub blocks : Whenever c from (λ c a. Tells e.told (line_run c (lines_run c a done ios) next io).session.blocks)
 
 -- Of these lines some were run. For the bytes of the next one, an `image` line, there was no memory.
-pub record Lacks (size : ℕ) (from : Session → Type 0) (lines : List (List ℕ)) (got got_new : Option (List ℕ)) (d e : DiskSeen) : Type 0 where
+pub record Lacks (c : Place) (from : Session → Type 0) (lines : List (List ℕ)) (got got_new : Option (List ℕ)) (d e : DiskSeen) : Type 0 where
   pub done : List (List ℕ)
   pub next : List ℕ
   pub later : List (List ℕ)
@@ -164,10 +163,10 @@ pub record Lacks (size : ℕ) (from : Session → Type 0) (lines : List (List �
   pub ios : List (List Bool)
   pub one_each : length ios ≡ length done
   pub calls : MadeAll d e ios
-  pub used : Whenever size from (λ c a. UsesAll c a done ios)
-  pub going : Whenever size from (λ c a. (lines_run c a done ios).refused ≡ false)
-  pub appended : Whenever size from (λ c a. Appends got got_new (concat (pieces_run c a done ios)))
-  pub blocks : Whenever size from (λ c a. Tells e.told (lines_run c a done ios).blocks)
+  pub used : Whenever c from (λ c a. UsesAll c a done ios)
+  pub going : Whenever c from (λ c a. (lines_run c a done ios).refused ≡ false)
+  pub appended : Whenever c from (λ c a. Appends got got_new (concat (pieces_run c a done ios)))
+  pub blocks : Whenever c from (λ c a. Tells e.told (lines_run c a done ios).blocks)
 
 -- the status of a run that stopped
 abbrev pub stop_status : Stop → ℕ
@@ -175,18 +174,18 @@ stop_status SinkFailed = 4
 stop_status NoMemory = 5
 
 -- why the run stopped among these lines
-abbrev pub StopsAt : (size : ℕ) → (Session → Type 0) → List (List ℕ) → (got got_new : Option (List ℕ)) → (d e : DiskSeen) → Stop → Type 0
-StopsAt size from lines got got_new d e SinkFailed = CutsShort size from lines got got_new d e
-StopsAt size from lines got got_new d e NoMemory = Lacks size from lines got got_new d e
+abbrev pub StopsAt : Place → (Session → Type 0) → List (List ℕ) → (got got_new : Option (List ℕ)) → (d e : DiskSeen) → Stop → Type 0
+StopsAt c from lines got got_new d e SinkFailed = CutsShort c from lines got got_new d e
+StopsAt c from lines got got_new d e NoMemory = Lacks c from lines got got_new d e
 
 -- the session went on by this line, and the sink took what the line writes
-pub record TakesLine (size : ℕ) (text : List ℕ) (s t : Seen) (got got_new : Option (List ℕ)) (d e : DiskSeen) : Type 0 where
+pub record TakesLine (c : Place) (text : List ℕ) (s t : Seen) (got got_new : Option (List ℕ)) (d e : DiskSeen) : Type 0 where
   pub io : List Bool
   pub calls : MadeAll d e (io ∷ [])
   pub lines : t.lines ≤ s.lines + 1
   pub out : List ℕ
   pub appended : Appends got got_new out
-  pub runs : RunsLine size text s t d.told e.told io out
+  pub runs : RunsLine c text s t d.told e.told io out
 
 -- ---- a whole run
 
@@ -206,9 +205,9 @@ HasEnded Fault taken rest_new before now = (length taken ≤ SCRIPT_BYTES) × Ro
 HasEnded Over taken rest_new before now = length taken ≡ SCRIPT_BYTES + 1
 
 -- The source gave some bytes, at most one more than a script may have, and reading ended somehow, or stopped behind a
--- refused line. Whatever the key is, and over the blocks that the disk told: each line made the calls of its list, the status
+-- refused line. Over the blocks that the disk told: each line made the calls of its list, the status
 -- is that of the outcome, the sink took its bytes, and the disk tells its blocks.
-pub record Ran (size : ℕ) (rest rest_new : Option (List ℕ)) (before now : ℕ) (got got_new : Option (List ℕ)) (d e : DiskSeen) (status : ℕ) : Type 0 where
+pub record Ran (c : Place) (rest rest_new : Option (List ℕ)) (before now : ℕ) (got got_new : Option (List ℕ)) (d e : DiskSeen) (status : ℕ) : Type 0 where
   pub taken : List ℕ
   pub ending : Ending
   pub within : length taken ≤ SCRIPT_BYTES + 1
@@ -216,14 +215,14 @@ pub record Ran (size : ℕ) (rest rest_new : Option (List ℕ)) (before now : �
   pub ios : List (List Bool)
   pub one_each : length ios ≡ length (script_lines taken)
   pub calls : MadeAll d e ios
-  pub ended : Whenever size (IsFirst size d.told) (λ c a. (lines_run c a (script_lines taken) ios).refused ≡ true) ⊎ HasEnded ending taken rest_new before now
-  pub used : Whenever size (IsFirst size d.told) (λ c a. UsesAll c a (script_lines taken) ios)
-  pub status_is : Whenever size (IsFirst size d.told) (λ c a. status ≡ (outcome_at c a.blocks taken ending ios).status)
-  pub appended : Whenever size (IsFirst size d.told) (λ c a. Appends got got_new (written (outcome_at c a.blocks taken ending ios)))
-  pub blocks : Whenever size (IsFirst size d.told) (λ c a. Tells e.told (outcome_at c a.blocks taken ending ios).blocks)
+  pub ended : Whenever c (IsFirst c.size d.told) (λ c a. (lines_run c a (script_lines taken) ios).refused ≡ true) ⊎ HasEnded ending taken rest_new before now
+  pub used : Whenever c (IsFirst c.size d.told) (λ c a. UsesAll c a (script_lines taken) ios)
+  pub status_is : Whenever c (IsFirst c.size d.told) (λ c a. status ≡ (outcome_at c a.blocks taken ending ios).status)
+  pub appended : Whenever c (IsFirst c.size d.told) (λ c a. Appends got got_new (written (outcome_at c a.blocks taken ending ios)))
+  pub blocks : Whenever c (IsFirst c.size d.told) (λ c a. Tells e.told (outcome_at c a.blocks taken ending ios).blocks)
 
 -- The input has ended. Of what the outcome writes behind the lines of the script the sink took a part, not whole.
-pub record CutsLast (size : ℕ) (taken : List ℕ) (rest_new got got_new : Option (List ℕ)) (d e : DiskSeen) : Type 0 where
+pub record CutsLast (c : Place) (taken : List ℕ) (rest_new got got_new : Option (List ℕ)) (d e : DiskSeen) : Type 0 where
   pub ended : (length taken ≤ SCRIPT_BYTES) × IsAtEnd rest_new
   pub ios : List (List Bool)
   pub one_each : length ios ≡ length (script_lines taken)
@@ -231,36 +230,36 @@ pub record CutsLast (size : ℕ) (taken : List ℕ) (rest_new got got_new : Opti
   pub part : List ℕ
   pub more : List ℕ
   pub lacks : 0 < length more
-  pub used : Whenever size (IsFirst size d.told) (λ c a. UsesAll c a (script_lines taken) ios)
-  pub bytes : Whenever size (IsFirst size d.told) (λ c a. written (outcome_at c a.blocks taken End ios) ≡ (concat (pieces_run c a (script_lines taken) ios) ++ part) ++ more)
-  pub appended : Whenever size (IsFirst size d.told) (λ c a. Appends got got_new (concat (pieces_run c a (script_lines taken) ios) ++ part))
-  pub blocks : Whenever size (IsFirst size d.told) (λ c a. Tells e.told (outcome_at c a.blocks taken End ios).blocks)
+  pub used : Whenever c (IsFirst c.size d.told) (λ c a. UsesAll c a (script_lines taken) ios)
+  pub bytes : Whenever c (IsFirst c.size d.told) (λ c a. written (outcome_at c a.blocks taken End ios) ≡ (concat (pieces_run c a (script_lines taken) ios) ++ part) ++ more)
+  pub appended : Whenever c (IsFirst c.size d.told) (λ c a. Appends got got_new (concat (pieces_run c a (script_lines taken) ios) ++ part))
+  pub blocks : Whenever c (IsFirst c.size d.told) (λ c a. Tells e.told (outcome_at c a.blocks taken End ios).blocks)
 
 -- The source gave some bytes, and what a line of them writes was cut short, or the last lines were.
-pub record Broke (size : ℕ) (rest rest_new got got_new : Option (List ℕ)) (d e : DiskSeen) : Type 0 where
+pub record Broke (c : Place) (rest rest_new got got_new : Option (List ℕ)) (d e : DiskSeen) : Type 0 where
   pub taken : List ℕ
   pub within : length taken ≤ SCRIPT_BYTES + 1
   pub consumed : Consumes rest rest_new taken
-  pub short : CutsShort size (IsFirst size d.told) (script_lines taken) got got_new d e ⊎ CutsLast size taken rest_new got got_new d e
+  pub short : CutsShort c (IsFirst c.size d.told) (script_lines taken) got got_new d e ⊎ CutsLast c taken rest_new got got_new d e
 
 -- The source gave some bytes, and for one of their lines there was no memory.
-pub record Lacked (size : ℕ) (rest rest_new got got_new : Option (List ℕ)) (d e : DiskSeen) : Type 0 where
+pub record Lacked (c : Place) (rest rest_new got got_new : Option (List ℕ)) (d e : DiskSeen) : Type 0 where
   pub taken : List ℕ
   pub within : length taken ≤ SCRIPT_BYTES + 1
   pub consumed : Consumes rest rest_new taken
-  pub lacks : Lacks size (IsFirst size d.told) (script_lines taken) got got_new d e
+  pub lacks : Lacks c (IsFirst c.size d.told) (script_lines taken) got got_new d e
 
 -- ---- the words of the command line
 
--- a script was run, over a disk of this size
-pub record RunDoes (size : ℕ) (rest rest_new : Option (List ℕ)) (before now : ℕ) (got got_new : Option (List ℕ)) (d e : DiskSeen) (status : ℕ) : Type 0 where
+-- a script was run under this key, over a disk of this size
+pub record RunDoes (c : Place) (rest rest_new : Option (List ℕ)) (before now : ℕ) (got got_new : Option (List ℕ)) (d e : DiskSeen) (status : ℕ) : Type 0 where
   pub known : status ≢ 1
   -- the status, the lines and the disk's blocks are those of the outcome
-  pub ran : status ≢ 4 → status ≢ 5 → Ran size rest rest_new before now got got_new d e status
+  pub ran : status ≢ 4 → status ≢ 5 → Ran c rest rest_new before now got got_new d e status
   -- the sink failed: it took what some lines write, and of what comes next a part, not whole
-  pub broke : status ≡ 4 → Broke size rest rest_new got got_new d e
+  pub broke : status ≡ 4 → Broke c rest rest_new got got_new d e
   -- want of memory stopped the run before its first byte, or at an `image` line: the lines before it are written
-  pub memory : status ≡ 5 → Keeps rest rest_new × Keeps got got_new × (e ≡ d) ⊎ Lacked size rest rest_new got got_new d e
+  pub memory : status ≡ 5 → Keeps rest rest_new × Keeps got got_new × (e ≡ d) ⊎ Lacked c rest rest_new got got_new d e
 
 -- a filter read its input, and answered under this key; the disk stays
 pub record FilterDoes (f : Filter) (key : List ℕ) (rest rest_new : Option (List ℕ)) (before now : ℕ) (got got_new : Option (List ℕ)) (d e : DiskSeen) (status : ℕ) : Type 0 where
@@ -281,7 +280,7 @@ UsageDoes rest rest_new got got_new d e status =
 
 -- what is done for what the words ask, over a disk of this size
 abbrev pub Does : Asked → (size : ℕ) → (rest rest_new : Option (List ℕ)) → (before now : ℕ) → (got got_new : Option (List ℕ)) → (d e : DiskSeen) → (status : ℕ) → Type 0
-Does (Run key) size rest rest_new before now got got_new d e status = RunDoes size rest rest_new before now got got_new d e status
+Does (Run key) size rest rest_new before now got got_new d e status = RunDoes (place key size) rest rest_new before now got got_new d e status
 Does (Box key) size rest rest_new before now got got_new d e status = FilterDoes filter.Box key rest rest_new before now got got_new d e status
 Does (Check key) size rest rest_new before now got got_new d e status = FilterDoes filter.Check key rest rest_new before now got got_new d e status
 Does Asm size rest rest_new before now got got_new d e status = FilterDoes filter.Asm [] rest rest_new before now got got_new d e status
@@ -291,8 +290,8 @@ Does Nothing size rest rest_new before now got got_new d e status = UsageDoes re
 -- ---- the steps of a run
 
 -- Where a run stands before a read, while so many bytes may still be taken.
-pub record Reached (size : ℕ) (s t : Seen) (rest rest_new got got_new : Option (List ℕ)) (d e : DiskSeen) (line : List ℕ) (left : ℕ) : Type 0 where
+pub record Reached (c : Place) (s t : Seen) (rest rest_new got got_new : Option (List ℕ)) (d e : DiskSeen) (line : List ℕ) (left : ℕ) : Type 0 where
   pub taken : List ℕ
   pub count : length taken + left ≡ SCRIPT_BYTES + 1
   pub consumed : Consumes rest rest_new taken
-  pub fed : Feeds size s t [] line (take SCRIPT_BYTES taken) got got_new d e
+  pub fed : Feeds c s t [] line (take SCRIPT_BYTES taken) got got_new d e

@@ -1,6 +1,6 @@
 -- Which abstract session a session of the code stands for.
 use Rattle.std.specs.Prelude.{ℕ, Bool, true, false, Option, Some, None, slice_index_or}
-use Rattle.kernel_model.specs.World.{World, Blocks}
+use Rattle.kernel_model.specs.World.{World, ImageTable, Blocks}
 use Rattle.kernel_model.specs.Objects.{Objects}
 use Rattle.kernel_model.specs.Quiet.{quiet}
 use Rattle.kernel_model.specs.Kernel as abstract
@@ -9,7 +9,7 @@ use Rattle.script_text.specs.declared.parse.ScriptFault.{ScriptFault}
 use Rattle.script_text.specs.declared.parse.ScriptFault.TheVariants.{BadWord, BadNumber, WrongPlace, UnknownCommand, NoMemory}
 use Rattle.kernel_state.specs.declared.Setup.{Setup}
 use Rattle.kernel_state.specs.Stores.{Seeing, world_of_store, objects_of}
-use Rattle.kernel_core.specs.Standing.{no_images}
+use Rattle.graft_loader.specs.Slots.{table_of}
 use Rattle.vino_top.specs.declared.session.Session.{Session}
 
 -- What is seen of a session: its set-up, its kernel and its counts.
@@ -18,6 +18,7 @@ pub record Seen : Type 0 where
   pub booted : Bool
   pub world : World
   pub objects : Objects
+  pub images : ImageTable
   pub clock : ℕ
   pub lines : ℕ
   pub events : ℕ
@@ -31,6 +32,7 @@ seen_of view s =
       booted = s.booted;
       world = world_of_store s.kernel.store;
       objects = objects_of view s.kernel.store;
+      images = table_of s.kernel.images;
       clock = s.kernel.clock;
       lines = s.lines;
       events = s.events;
@@ -43,7 +45,7 @@ setup_of u = record { frames = u.frames; patience = λ kind. slice_index_or u.pa
 
 -- the abstract kernel, in which no call is in flight
 abbrev pub kernel_seen : Seen → abstract.Kernel
-kernel_seen s = quiet s.world no_images s.objects s.clock
+kernel_seen s = quiet s.world s.images s.objects s.clock
 
 -- the abstract kernel, once there is one
 abbrev pub kernel_in : (booted : Bool) → abstract.Kernel → Option abstract.Kernel

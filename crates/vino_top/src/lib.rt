@@ -14,9 +14,10 @@ ghost use Rattle.graft_points.specs.Shelf.{IsShelf, pol_of, first_choice};
 ghost use Rattle.vino_top.specs.Standing.{seen_of, session_of};
 ghost use Rattle.vino_top.specs.Bounds.{IsSessionWithin};
 ghost use Rattle.vino_top.specs.Words.{asked_by};
-ghost use Rattle.vino_top.specs.Run.{AppendsPart, Ran, Broke, Lacked, Does, disk_seen};
+ghost use Rattle.vino_top.specs.Run.{place, AppendsPart, Ran, Broke, Lacked, Does, disk_seen};
 
 mod lines;
+mod loading;
 mod output;
 mod run;
 mod session;
@@ -30,7 +31,7 @@ use vino_base::{Disk, Sink, Source};
 /// How many bytes are read at once, at most.
 const READ_BYTES: usize = 65_536;
 
-/// Does what the words ask: `run KEY` runs the script that the source gives, `box KEY` boxes and seals the raw image that it
+/// Does what the words ask: `run KEY` runs the script that the source gives, whose images are sealed under the key, `box KEY` boxes and seals the raw image that it
 /// gives, `check KEY` says whether a sealed image can be used, `asm` and `dis` assemble and disassemble what it gives, and
 /// for other words the usage line is written.
 ///
@@ -61,7 +62,7 @@ pub fn vino<S: Source, K: Sink, D: Disk>(
     ensures sink_later { K.faults out.old ≤ K.faults out.new }
 {
     match words::read_words(words) {
-        Asked::Run(_) => run_script(alloc, src, out, disk, shelf),
+        Asked::Run(key) => run_script(alloc, &key, src, out, disk, shelf),
         Asked::Box(key) => filters::box_image(alloc, &key, src, out),
         Asked::Check(key) => filters::check_image(alloc, &key, src, out),
         Asked::Asm => filters::asm(alloc, src, out),
@@ -70,9 +71,10 @@ pub fn vino<S: Source, K: Sink, D: Disk>(
     }
 }
 
-/// Runs the script that the source gives.
+/// Runs the script that the source gives, with this key for its images.
 fn run_script<S: Source, K: Sink, D: Disk>(
     alloc: Global,
+    key: &[u8; 32],
     src: &mut S,
     out: &mut K,
     disk: &mut D,
@@ -80,13 +82,13 @@ fn run_script<S: Source, K: Sink, D: Disk>(
 ) -> u8
     requires shelf { IsShelf (map (λ b. seen b) shelf.items) }
     requires stock { pol_of (map (λ b. seen b) shelf.items) first_choice ≡ opening_policy }
-    ensures ran { result ≢ 4 → result ≢ 5 → Ran (D.block_count disk.old) (S.rest src.old) (S.rest src.new) (S.faults src.old) (S.faults src.new) (K.got out.old) (K.got out.new)
+    ensures ran { result ≢ 4 → result ≢ 5 → Ran (place key.now (D.block_count disk.old)) (S.rest src.old) (S.rest src.new) (S.faults src.old) (S.faults src.new) (K.got out.old) (K.got out.new)
         (disk_seen (D.blocks disk.old) (D.plan disk.old) (D.faults disk.old)) (disk_seen (D.blocks disk.new) (D.plan disk.new) (D.faults disk.new)) result }
-    ensures broke { result ≡ 4 → Broke (D.block_count disk.old) (S.rest src.old) (S.rest src.new) (K.got out.old) (K.got out.new)
+    ensures broke { result ≡ 4 → Broke (place key.now (D.block_count disk.old)) (S.rest src.old) (S.rest src.new) (K.got out.old) (K.got out.new)
         (disk_seen (D.blocks disk.old) (D.plan disk.old) (D.faults disk.old)) (disk_seen (D.blocks disk.new) (D.plan disk.new) (D.faults disk.new)) }
     ensures memory { result ≡ 5 → Keeps (S.rest src.old) (S.rest src.new) × Keeps (K.got out.old) (K.got out.new)
         × (disk_seen (D.blocks disk.new) (D.plan disk.new) (D.faults disk.new) ≡ disk_seen (D.blocks disk.old) (D.plan disk.old) (D.faults disk.old))
-        ⊎ Lacked (D.block_count disk.old) (S.rest src.old) (S.rest src.new) (K.got out.old) (K.got out.new)
+        ⊎ Lacked (place key.now (D.block_count disk.old)) (S.rest src.old) (S.rest src.new) (K.got out.old) (K.got out.new)
         (disk_seen (D.blocks disk.old) (D.plan disk.old) (D.faults disk.old)) (disk_seen (D.blocks disk.new) (D.plan disk.new) (D.faults disk.new)) }
     ensures statuses { (result ≡ 0) ⊎ (result ≡ 2) ⊎ (result ≡ 3) ⊎ (result ≡ 4) ⊎ (result ≡ 5) ⊎ (result ≡ 7) }
     ensures source_later { S.faults src.old ≤ S.faults src.new }
@@ -96,7 +98,7 @@ fn run_script<S: Source, K: Sink, D: Disk>(
 {
     match run::Reader::new(alloc, shelf) {
         Err(_) => 5,
-        Ok(reader) => start(alloc, reader, src, out, disk),
+        Ok(reader) => start(alloc, key, reader, src, out, disk),
     }
 }
 
@@ -115,6 +117,7 @@ fn write_usage<K: Sink>(out: &mut K) -> u8
 /// Runs a script from its beginning.
 fn start<S: Source, K: Sink, D: Disk>(
     alloc: Global,
+    key: &[u8; 32],
     mut reader: run::Reader,
     src: &mut S,
     out: &mut K,
@@ -124,13 +127,13 @@ fn start<S: Source, K: Sink, D: Disk>(
     requires first { (reader.session.lines ≡ 0) × (reader.session.refused ≡ false) }
     requires within { (size : ℕ) → IsSessionWithin (λ b. seen (b.vtable, b.value)) size reader.session }
     requires line { reader.line ≡ [] }
-    ensures ran { result ≢ 4 → result ≢ 5 → Ran (D.block_count disk.old) (S.rest src.old) (S.rest src.new) (S.faults src.old) (S.faults src.new) (K.got out.old) (K.got out.new)
+    ensures ran { result ≢ 4 → result ≢ 5 → Ran (place key.now (D.block_count disk.old)) (S.rest src.old) (S.rest src.new) (S.faults src.old) (S.faults src.new) (K.got out.old) (K.got out.new)
         (disk_seen (D.blocks disk.old) (D.plan disk.old) (D.faults disk.old)) (disk_seen (D.blocks disk.new) (D.plan disk.new) (D.faults disk.new)) result }
-    ensures broke { result ≡ 4 → Broke (D.block_count disk.old) (S.rest src.old) (S.rest src.new) (K.got out.old) (K.got out.new)
+    ensures broke { result ≡ 4 → Broke (place key.now (D.block_count disk.old)) (S.rest src.old) (S.rest src.new) (K.got out.old) (K.got out.new)
         (disk_seen (D.blocks disk.old) (D.plan disk.old) (D.faults disk.old)) (disk_seen (D.blocks disk.new) (D.plan disk.new) (D.faults disk.new)) }
     ensures memory { result ≡ 5 → Keeps (S.rest src.old) (S.rest src.new) × Keeps (K.got out.old) (K.got out.new)
         × (disk_seen (D.blocks disk.new) (D.plan disk.new) (D.faults disk.new) ≡ disk_seen (D.blocks disk.old) (D.plan disk.old) (D.faults disk.old))
-        ⊎ Lacked (D.block_count disk.old) (S.rest src.old) (S.rest src.new) (K.got out.old) (K.got out.new)
+        ⊎ Lacked (place key.now (D.block_count disk.old)) (S.rest src.old) (S.rest src.new) (K.got out.old) (K.got out.new)
         (disk_seen (D.blocks disk.old) (D.plan disk.old) (D.faults disk.old)) (disk_seen (D.blocks disk.new) (D.plan disk.new) (D.faults disk.new)) }
     ensures statuses { (result ≡ 0) ⊎ (result ≡ 2) ⊎ (result ≡ 3) ⊎ (result ≡ 4) ⊎ (result ≡ 5) ⊎ (result ≡ 7) }
     ensures source_later { S.faults src.old ≤ S.faults src.new }
@@ -140,6 +143,6 @@ fn start<S: Source, K: Sink, D: Disk>(
 {
     match run::zeros(alloc, READ_BYTES) {
         Err(_) => 5,
-        Ok(mut buf) => run::run(alloc, &mut reader, &mut buf, src, out, disk),
+        Ok(mut buf) => run::run(alloc, key, &mut reader, &mut buf, src, out, disk),
     }
 }

@@ -5,6 +5,7 @@ ghost use Rattle.kernel_model.specs.Pieces.{plain};
 ghost use Rattle.kernel_model.specs.RawRows.{raw_rows};
 ghost use Rattle.kernel_model.specs.Text.{note_lines, row_lines};
 ghost use Rattle.kernel_state.specs.Stores.{IsStore};
+ghost use Rattle.graft_loader.specs.Slots.{table_of};
 ghost use Rattle.kernel_core.specs.Standing.{kernel_of};
 
 use call_pieces::Plain;
@@ -85,7 +86,7 @@ impl Lines {
     pub fn add_rows(&mut self, kernel: &Kernel<Plain>, n: u32, text: &mut Text)
         requires empty { self.old ≡ [] }
         requires sound { IsStore (λ b. seen (b.vtable, b.value)) kernel.now.store }
-        ensures { self.new ≡ row_lines n (raw_rows plain (kernel_of (λ b. seen (b.vtable, b.value)) kernel.now.store kernel.now.clock)) }
+        ensures { self.new ≡ row_lines n (raw_rows plain (kernel_of (λ b. seen (b.vtable, b.value)) kernel.now.store (table_of kernel.now.images) kernel.now.clock)) }
     {
         for i in 0..ROWS + 1 {
             match kernel.raw(i) {

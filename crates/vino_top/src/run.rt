@@ -9,7 +9,7 @@ ghost use Rattle.kernel_model.specs.Session.{fault_text, first_session};
 ghost use Rattle.kernel_model.specs.Outcome.{lines_after};
 ghost use Rattle.vino_top.specs.Bounds.{IsSessionWithin};
 ghost use Rattle.vino_top.specs.declared.run.Stop.TheVariants.{SinkFailed};
-ghost use Rattle.vino_top.specs.Run.{AppendsPart, DiskSeen, disk_seen, StandsFor, IsFirst, TakesLine, Feeds, StopsAt, Ran, Broke, Lacked, stop_status};
+ghost use Rattle.vino_top.specs.Run.{Place, place, AppendsPart, DiskSeen, disk_seen, StandsFor, IsFirst, TakesLine, Feeds, StopsAt, Ran, Broke, Lacked, stop_status};
 ghost use Rattle.vino_top.specs.Standing.{seen_of, session_of};
 ghost use Rattle.kernel_model.specs.Opening.{opening_policy};
 ghost use Rattle.graft_points.specs.Shelf.{IsShelf, pol_of, first_choice};
@@ -87,6 +87,7 @@ fn write_lines<K: Sink>(reader: &Reader, out: &mut K) -> Result<(), Stop>
 /// The line has ended: it is run, and what it writes is written.
 fn end_line<K: Sink, D: Disk>(
     alloc: Global,
+    key: &[u8; 32],
     reader: &mut Reader,
     size: u32,
     out: &mut K,
@@ -99,18 +100,22 @@ fn end_line<K: Sink, D: Disk>(
     ensures within { IsSessionWithin (λ b. seen (b.vtable, b.value)) size reader.new.session }
     ensures line { OnOk result (reader.new.line ≡ []) }
     ensures contents { MatchResult result
-        (λ _. TakesLine size reader.old.line (seen_of (λ b. seen (b.vtable, b.value)) reader.old.session) (seen_of (λ b. seen (b.vtable, b.value)) reader.new.session) (K.got out.old) (K.got out.new)
+        (λ _. TakesLine (place key.now size) reader.old.line (seen_of (λ b. seen (b.vtable, b.value)) reader.old.session) (seen_of (λ b. seen (b.vtable, b.value)) reader.new.session) (K.got out.old) (K.got out.new)
         (disk_seen (D.blocks disk.old) (D.plan disk.old) (D.faults disk.old)) (disk_seen (D.blocks disk.new) (D.plan disk.new) (D.faults disk.new)))
-        (StopsAt size (StandsFor (seen_of (λ b. seen (b.vtable, b.value)) reader.old.session) (D.blocks disk.old)) (reader.old.line ∷ []) (K.got out.old) (K.got out.new)
+        (StopsAt (place key.now size) (StandsFor (seen_of (λ b. seen (b.vtable, b.value)) reader.old.session) (D.blocks disk.old)) (reader.old.line ∷ []) (K.got out.old) (K.got out.new)
         (disk_seen (D.blocks disk.old) (D.plan disk.old) (D.faults disk.old)) (disk_seen (D.blocks disk.new) (D.plan disk.new) (D.faults disk.new))) }
     ensures later { K.faults out.old ≤ K.faults out.new }
     ensures sink_failed { result ≡ Err SinkFailed → Rose (K.faults out.old) (K.faults out.new) }
     ensures same_size { D.block_count disk.new ≡ size }
 {
-    if let Err(_) = reader
-        .session
-        .run_line(alloc, reader.line.line(), size, disk, &mut reader.out)
-    {
+    if let Err(_) = reader.session.run_line(
+        alloc,
+        key,
+        reader.line.line(),
+        size,
+        disk,
+        &mut reader.out,
+    ) {
         return Err(Stop::NoMemory);
     }
     reader.line.clear();
@@ -123,9 +128,9 @@ fn end_long<K: Sink>(reader: &mut Reader, byte: u8, out: &mut K) -> Result<(), S
     requires long { length reader.old.line ≡ LINE_BYTES }
     ensures within { (size : ℕ) → IsSessionWithin (λ b. seen (b.vtable, b.value)) size reader.old.session → IsSessionWithin (λ b. seen (b.vtable, b.value)) size reader.new.session }
     ensures line { OnOk result (reader.new.line ≡ []) }
-    ensures contents { (size : ℕ) (d : DiskSeen) → MatchResult result
-        (λ _. TakesLine size (reader.old.line ++ byte ∷ []) (seen_of (λ b. seen (b.vtable, b.value)) reader.old.session) (seen_of (λ b. seen (b.vtable, b.value)) reader.new.session) (K.got out.old) (K.got out.new) d d)
-        (StopsAt size (StandsFor (seen_of (λ b. seen (b.vtable, b.value)) reader.old.session) d.told) ((reader.old.line ++ byte ∷ []) ∷ []) (K.got out.old) (K.got out.new) d d) }
+    ensures contents { (c : Place) (d : DiskSeen) → MatchResult result
+        (λ _. TakesLine c (reader.old.line ++ byte ∷ []) (seen_of (λ b. seen (b.vtable, b.value)) reader.old.session) (seen_of (λ b. seen (b.vtable, b.value)) reader.new.session) (K.got out.old) (K.got out.new) d d)
+        (StopsAt c (StandsFor (seen_of (λ b. seen (b.vtable, b.value)) reader.old.session) d.told) ((reader.old.line ++ byte ∷ []) ∷ []) (K.got out.old) (K.got out.new) d d) }
     ensures later { K.faults out.old ≤ K.faults out.new }
     ensures sink_failed { result ≡ Err SinkFailed → Rose (K.faults out.old) (K.faults out.new) }
 {
@@ -137,6 +142,7 @@ fn end_long<K: Sink>(reader: &mut Reader, byte: u8, out: &mut K) -> Result<(), S
 /// One byte of the script.
 fn take_byte<K: Sink, D: Disk>(
     alloc: Global,
+    key: &[u8; 32],
     reader: &mut Reader,
     byte: u8,
     size: u32,
@@ -149,9 +155,9 @@ fn take_byte<K: Sink, D: Disk>(
     requires disk { D.block_count disk.old ≡ size }
     ensures within { IsSessionWithin (λ b. seen (b.vtable, b.value)) size reader.new.session }
     ensures contents { MatchResult result
-        (λ _. Feeds size (seen_of (λ b. seen (b.vtable, b.value)) reader.old.session) (seen_of (λ b. seen (b.vtable, b.value)) reader.new.session) reader.old.line reader.new.line (byte ∷ []) (K.got out.old) (K.got out.new)
+        (λ _. Feeds (place key.now size) (seen_of (λ b. seen (b.vtable, b.value)) reader.old.session) (seen_of (λ b. seen (b.vtable, b.value)) reader.new.session) reader.old.line reader.new.line (byte ∷ []) (K.got out.old) (K.got out.new)
         (disk_seen (D.blocks disk.old) (D.plan disk.old) (D.faults disk.old)) (disk_seen (D.blocks disk.new) (D.plan disk.new) (D.faults disk.new)))
-        (StopsAt size (StandsFor (seen_of (λ b. seen (b.vtable, b.value)) reader.old.session) (D.blocks disk.old)) (lines_after reader.old.line (byte ∷ [])) (K.got out.old) (K.got out.new)
+        (StopsAt (place key.now size) (StandsFor (seen_of (λ b. seen (b.vtable, b.value)) reader.old.session) (D.blocks disk.old)) (lines_after reader.old.line (byte ∷ [])) (K.got out.old) (K.got out.new)
         (disk_seen (D.blocks disk.old) (D.plan disk.old) (D.faults disk.old)) (disk_seen (D.blocks disk.new) (D.plan disk.new) (D.faults disk.new))) }
     ensures later { K.faults out.old ≤ K.faults out.new }
     ensures sink_failed { result ≡ Err SinkFailed → Rose (K.faults out.old) (K.faults out.new) }
@@ -159,7 +165,7 @@ fn take_byte<K: Sink, D: Disk>(
 {
     match reader.line.push(byte) {
         Fed::More => Ok(()),
-        Fed::Line => end_line(alloc, reader, size, out, disk),
+        Fed::Line => end_line(alloc, key, reader, size, out, disk),
         Fed::TooLong => end_long(reader, byte, out),
     }
 }
@@ -167,6 +173,7 @@ fn take_byte<K: Sink, D: Disk>(
 /// Some bytes of the script, one after another.
 fn feed<K: Sink, D: Disk>(
     alloc: Global,
+    key: &[u8; 32],
     reader: &mut Reader,
     bytes: &[u8],
     size: u32,
@@ -179,16 +186,16 @@ fn feed<K: Sink, D: Disk>(
     requires disk { D.block_count disk.old ≡ size }
     ensures within { IsSessionWithin (λ b. seen (b.vtable, b.value)) size reader.new.session }
     ensures contents { MatchResult result
-        (λ _. Feeds size (seen_of (λ b. seen (b.vtable, b.value)) reader.old.session) (seen_of (λ b. seen (b.vtable, b.value)) reader.new.session) reader.old.line reader.new.line bytes.now (K.got out.old) (K.got out.new)
+        (λ _. Feeds (place key.now size) (seen_of (λ b. seen (b.vtable, b.value)) reader.old.session) (seen_of (λ b. seen (b.vtable, b.value)) reader.new.session) reader.old.line reader.new.line bytes.now (K.got out.old) (K.got out.new)
         (disk_seen (D.blocks disk.old) (D.plan disk.old) (D.faults disk.old)) (disk_seen (D.blocks disk.new) (D.plan disk.new) (D.faults disk.new)))
-        (StopsAt size (StandsFor (seen_of (λ b. seen (b.vtable, b.value)) reader.old.session) (D.blocks disk.old)) (lines_after reader.old.line bytes.now) (K.got out.old) (K.got out.new)
+        (StopsAt (place key.now size) (StandsFor (seen_of (λ b. seen (b.vtable, b.value)) reader.old.session) (D.blocks disk.old)) (lines_after reader.old.line bytes.now) (K.got out.old) (K.got out.new)
         (disk_seen (D.blocks disk.old) (D.plan disk.old) (D.faults disk.old)) (disk_seen (D.blocks disk.new) (D.plan disk.new) (D.faults disk.new))) }
     ensures later { K.faults out.old ≤ K.faults out.new }
     ensures sink_failed { result ≡ Err SinkFailed → Rose (K.faults out.old) (K.faults out.new) }
     ensures same_size { D.block_count disk.new ≡ size }
 {
     for byte in bytes {
-        if let Err(stop) = take_byte(alloc, reader, *byte, size, out, disk) {
+        if let Err(stop) = take_byte(alloc, key, reader, *byte, size, out, disk) {
             return Err(stop);
         }
     }
@@ -228,6 +235,7 @@ fn status_of(stop: Stop) -> u8
 /// Runs the script that the source gives, to its end or to the first thing that stops it. The status.
 pub fn run<S: Source, K: Sink, D: Disk>(
     alloc: Global,
+    key: &[u8; 32],
     reader: &mut Reader,
     buf: &mut [u8],
     src: &mut S,
@@ -239,11 +247,11 @@ pub fn run<S: Source, K: Sink, D: Disk>(
     requires within { IsSessionWithin (λ b. seen (b.vtable, b.value)) (D.block_count disk.old) reader.old.session }
     requires line { reader.old.line ≡ [] }
     requires room { 0 < length buf.old }
-    ensures ran { result ≢ 4 → result ≢ 5 → Ran (D.block_count disk.old) (S.rest src.old) (S.rest src.new) (S.faults src.old) (S.faults src.new) (K.got out.old) (K.got out.new)
+    ensures ran { result ≢ 4 → result ≢ 5 → Ran (place key.now (D.block_count disk.old)) (S.rest src.old) (S.rest src.new) (S.faults src.old) (S.faults src.new) (K.got out.old) (K.got out.new)
         (disk_seen (D.blocks disk.old) (D.plan disk.old) (D.faults disk.old)) (disk_seen (D.blocks disk.new) (D.plan disk.new) (D.faults disk.new)) result }
-    ensures broke { result ≡ 4 → Broke (D.block_count disk.old) (S.rest src.old) (S.rest src.new) (K.got out.old) (K.got out.new)
+    ensures broke { result ≡ 4 → Broke (place key.now (D.block_count disk.old)) (S.rest src.old) (S.rest src.new) (K.got out.old) (K.got out.new)
         (disk_seen (D.blocks disk.old) (D.plan disk.old) (D.faults disk.old)) (disk_seen (D.blocks disk.new) (D.plan disk.new) (D.faults disk.new)) }
-    ensures lacked { result ≡ 5 → Lacked (D.block_count disk.old) (S.rest src.old) (S.rest src.new) (K.got out.old) (K.got out.new)
+    ensures lacked { result ≡ 5 → Lacked (place key.now (D.block_count disk.old)) (S.rest src.old) (S.rest src.new) (K.got out.old) (K.got out.new)
         (disk_seen (D.blocks disk.old) (D.plan disk.old) (D.faults disk.old)) (disk_seen (D.blocks disk.new) (D.plan disk.new) (D.faults disk.new)) }
     ensures statuses { (result ≡ 0) ⊎ (result ≡ 2) ⊎ (result ≡ 3) ⊎ (result ≡ 4) ⊎ (result ≡ 5) ⊎ (result ≡ 7) }
     ensures source_failed { result ≡ 3 → Rose (S.faults src.old) (S.faults src.new) }
@@ -261,7 +269,7 @@ pub fn run<S: Source, K: Sink, D: Disk>(
             Ok(n) => {
                 let script = n.min(left - 1);
                 left -= n;
-                if let Err(stop) = feed(alloc, reader, &buf[..script], size, out, disk) {
+                if let Err(stop) = feed(alloc, key, reader, &buf[..script], size, out, disk) {
                     return status_of(stop);
                 }
                 if reader.session.refused {

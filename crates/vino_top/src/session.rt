@@ -3,21 +3,23 @@
 ghost use Rattle.std.specs.Prelude.{◌≡◌, ℕ, ◌+◌, ◌<◌, ◌≤◌, ◌-◌, ◌++◌, ◌^◌, true, false, List, [], length, map, codes, decimal, Option, Some, Ok, IfOk, OnOk, OnErr};
 ghost use Rattle.kernel_model.specs.Text.{line, spaced};
 ghost use Rattle.kernel_model.specs.Opening.{opening_policy};
-ghost use Rattle.kernel_model.specs.Script.{Happens, Boot, Raw};
+ghost use Rattle.kernel_model.specs.Script.{Happens, Boot, Loads, Raw};
 ghost use Rattle.kernel_state.specs.Stores.{IsStore};
 ghost use Rattle.kernel_model.specs.World.{Blocks};
 ghost use Rattle.kernel_model.specs.Session.{first_session};
 ghost use Rattle.disk_log.specs.Calls.{GoesOn, Made};
 ghost use Rattle.script_text.specs.Answers.{entry_seen, SetsWithin};
 ghost use Rattle.vino_top.specs.Bounds.{IsSessionWithin};
-ghost use Rattle.vino_top.specs.Built.{is_built_event, is_built_call as built_call};
+ghost use Rattle.vino_top.specs.Built.{is_built_event, is_built_call as built_call, is_load};
 ghost use Rattle.graft_points.specs.Shelf.{IsShelf, pol_of, first_choice};
 ghost use Rattle.vino_top.specs.Standing.{seen_of, session_of, code_seen};
-ghost use Rattle.vino_top.specs.Run.{IsImageLine, RunsLine, RunsEntry, disk_seen, boot_line};
+ghost use Rattle.vino_top.specs.Run.{Place, place, IsImageLine, RunsLine, RunsEntry, disk_seen, boot_line};
 
 use crate::lines::Lines;
+use crate::loading::load_image;
 use call_pieces::Plain;
 use disk_log::DiskLog;
+use graft_loader::Images;
 use graft_points::Policy;
 use kernel_core::{BootNote, Kernel, Logs, Notes, Setup};
 use kernel_model::{Event, NoMemory, Note, Refusal, SysCall};
@@ -25,6 +27,9 @@ use ram_space::Ram;
 use script_text::{Entry, ScriptFault, Text, parse_line, print_boot, print_fault, print_note};
 use std::alloc::Global;
 use vino_base::Disk;
+
+/// The last slot of images.
+const LAST_SLOT: u32 = 31;
 
 /// What a line leaves behind: the calls of the disk, the notes of its event, and the bytes that are written. Memory is
 /// taken once, before the first line.
@@ -93,12 +98,13 @@ impl Session {
             patience: [10; 8],
             grant: 1_000_000,
         };
+        let images = Images::new(alloc)?;
         match Ram::new(alloc) {
             Err(_) => Err(NoMemory),
             Ok(ram) => Ok(Session {
                 setup,
                 booted: false,
-                kernel: Kernel::new(setup, ram, shelf),
+                kernel: Kernel::new(setup, ram, images, shelf),
                 lines: 0,
                 events: 0,
                 refused: false,
@@ -106,12 +112,14 @@ impl Session {
         }
     }
 
-    /// Runs the next line, over a disk of so many blocks. What it writes stands in the buffers.
+    /// Runs the next line, under the key of the images and over a disk of so many blocks. What it writes stands in the
+    /// buffers.
     ///
-    /// Memory is wanted for the bytes of an `image` line alone; where there is none, nothing changes.
+    /// Memory is wanted for the image of an `image` line alone; where there is none, nothing changes.
     pub fn run_line<D: Disk>(
         &mut self,
         alloc: Global,
+        key: &[u8; 32],
         text: &[u8],
         size: u32,
         disk: &mut D,
@@ -124,7 +132,7 @@ impl Session {
         ensures within { IsSessionWithin (λ b. seen (b.vtable, b.value)) size self.new }
         ensures counted { self.new.lines ≤ self.old.lines + 1 }
         ensures same_size { D.block_count disk.new ≡ size }
-        ensures ok { OnOk result (RunsLine size text.now (seen_of (λ b. seen (b.vtable, b.value)) self.old) (seen_of (λ b. seen (b.vtable, b.value)) self.new) (D.blocks disk.old) (D.blocks disk.new) out.new.logs.event out.new.lines) }
+        ensures ok { OnOk result (RunsLine (place key.now size) text.now (seen_of (λ b. seen (b.vtable, b.value)) self.old) (seen_of (λ b. seen (b.vtable, b.value)) self.new) (D.blocks disk.old) (D.blocks disk.new) out.new.logs.event out.new.lines) }
         ensures calls { OnOk result (Made (D.faults disk.old) (D.faults disk.new) (D.plan disk.old) (D.plan disk.new) out.new.logs.event) }
         ensures err { OnErr result ((self.new ≡ self.old) × IsImageLine text.now × (self.old.refused ≡ false)) }
         ensures same_disk { OnErr result (disk_seen (D.blocks disk.new) (D.plan disk.new) (D.faults disk.new) ≡ disk_seen (D.blocks disk.old) (D.plan disk.old) (D.faults disk.old)) }
@@ -143,7 +151,11 @@ impl Session {
             }
             Ok(entry) => {
                 self.lines += 1;
-                self.run_entry(&entry, size, disk, out);
+                if let Err(lacks) = self.run_entry(alloc, key, &entry, size, disk, out) {
+                    // A line that wanted memory isn't counted.
+                    self.lines -= 1;
+                    return Err(lacks);
+                }
             }
         }
         Ok(())
@@ -155,8 +167,8 @@ impl Session {
         ensures within { (size : ℕ) → IsSessionWithin (λ b. seen (b.vtable, b.value)) size self.old → IsSessionWithin (λ b. seen (b.vtable, b.value)) size self.new }
         ensures counted { self.new.lines ≤ self.old.lines + 1 }
         ensures no_calls { out.new.logs.event ≡ [] }
-        ensures runs { (size : ℕ) (text : List ℕ) (told : Option (List (List ℕ))) → 65536 < length text →
-            RunsLine size text (seen_of (λ b. seen (b.vtable, b.value)) self.old) (seen_of (λ b. seen (b.vtable, b.value)) self.new) told told [] out.new.lines }
+        ensures runs { (c : Place) (text : List ℕ) (told : Option (List (List ℕ))) → 65536 < length text →
+            RunsLine c text (seen_of (λ b. seen (b.vtable, b.value)) self.old) (seen_of (λ b. seen (b.vtable, b.value)) self.new) told told [] out.new.lines }
     {
         out.clear();
         if self.refused {
@@ -178,8 +190,16 @@ impl Session {
         out.lines.add(&out.text);
     }
 
-    /// Runs an entry of the line that was counted.
-    fn run_entry<D: Disk>(&mut self, entry: &Entry, size: u32, disk: &mut D, out: &mut Buffers)
+    /// Runs an entry of the line that was counted. Only an image wants memory; where there is none, nothing changes.
+    fn run_entry<D: Disk>(
+        &mut self,
+        alloc: Global,
+        key: &[u8; 32],
+        entry: &Entry,
+        size: u32,
+        disk: &mut D,
+        out: &mut Buffers,
+    ) -> Result<(), NoMemory>
         requires room { self.old.lines < 2 ^ 32 - 1 }
         requires fresh { self.old.events < self.old.lines }
         requires within { IsSessionWithin (λ b. seen (b.vtable, b.value)) size self.old }
@@ -192,17 +212,38 @@ impl Session {
         ensures within { IsSessionWithin (λ b. seen (b.vtable, b.value)) size self.new }
         ensures counted { self.new.lines ≡ self.old.lines }
         ensures same_size { D.block_count disk.new ≡ size }
-        ensures runs { RunsEntry size (entry_seen entry.now) (seen_of (λ b. seen (b.vtable, b.value)) self.old) (seen_of (λ b. seen (b.vtable, b.value)) self.new) (D.blocks disk.old) (D.blocks disk.new) out.new.logs.event out.new.lines }
+        ensures runs { OnOk result (RunsEntry (place key.now size) (entry_seen entry.now) (seen_of (λ b. seen (b.vtable, b.value)) self.old) (seen_of (λ b. seen (b.vtable, b.value)) self.new) (D.blocks disk.old) (D.blocks disk.new) out.new.logs.event out.new.lines) }
         ensures calls { GoesOn (D.faults disk.old) (D.faults disk.new) (D.plan disk.old) (D.plan disk.new) out.old.logs.event out.new.logs.event }
+        ensures err { OnErr result ((self.new ≡ self.old) × (is_load (entry_seen entry.now) ≡ true)) }
+        ensures same_disk { OnErr result (disk_seen (D.blocks disk.new) (D.plan disk.new) (D.faults disk.new) ≡ disk_seen (D.blocks disk.old) (D.plan disk.old) (D.faults disk.old)) }
     {
         match entry {
-            Entry::Blank => {}
-            Entry::Frames(n) => self.setup.frames = *n,
-            Entry::Grant(n) => self.setup.grant = *n,
-            Entry::Boot => self.boot(size, disk, out),
-            Entry::Happens(event) => self.happen(event, size, disk, out),
-            Entry::Raw => self.raw(out),
-            Entry::Patience(..) | Entry::Image(..) => self.refuse(5, out),
+            Entry::Blank => Ok(()),
+            Entry::Frames(n) => {
+                self.setup.frames = *n;
+                Ok(())
+            }
+            Entry::Grant(n) => {
+                self.setup.grant = *n;
+                Ok(())
+            }
+            Entry::Boot => {
+                self.boot(size, disk, out);
+                Ok(())
+            }
+            Entry::Happens(event) => {
+                self.happen(event, size, disk, out);
+                Ok(())
+            }
+            Entry::Image(slot, bytes) => self.image(alloc, key, *slot, bytes.as_slice(), out),
+            Entry::Raw => {
+                self.raw(out);
+                Ok(())
+            }
+            Entry::Patience(..) => {
+                self.refuse(5, out);
+                Ok(())
+            }
         }
     }
 
@@ -216,12 +257,70 @@ impl Session {
         ensures within { IsSessionWithin (λ b. seen (b.vtable, b.value)) size self.new }
         ensures counted { self.new.lines ≡ self.old.lines }
         ensures same_size { D.block_count disk.new ≡ size }
-        ensures runs { RunsEntry size Boot (seen_of (λ b. seen (b.vtable, b.value)) self.old) (seen_of (λ b. seen (b.vtable, b.value)) self.new) (D.blocks disk.old) (D.blocks disk.new) out.new.logs.event out.new.lines }
+        ensures runs { (key : List ℕ) → RunsEntry (place key size) Boot (seen_of (λ b. seen (b.vtable, b.value)) self.old) (seen_of (λ b. seen (b.vtable, b.value)) self.new) (D.blocks disk.old) (D.blocks disk.new) out.new.logs.event out.new.lines }
         ensures calls { GoesOn (D.faults disk.old) (D.faults disk.new) (D.plan disk.old) (D.plan disk.new) out.old.logs.event out.new.logs.event }
     {
         let note = self.kernel.boot(self.setup, disk, &mut out.logs);
         self.booted = true;
         say_boot(note, &mut out.text);
+        out.lines.add(&out.text);
+    }
+
+    /// The line of an image, as an event: the bytes are loaded under the key into a slot that is free. Where there is no
+    /// memory for the image, nothing changes.
+    fn image(
+        &mut self,
+        alloc: Global,
+        key: &[u8; 32],
+        slot: u32,
+        bytes: &[u8],
+        out: &mut Buffers,
+    ) -> Result<(), NoMemory>
+        requires room { self.old.lines < 2 ^ 32 - 1 }
+        requires fresh { self.old.events < self.old.lines }
+        requires empty { out.old.lines ≡ [] }
+        ensures within { (size : ℕ) → IsSessionWithin (λ b. seen (b.vtable, b.value)) size self.old → IsSessionWithin (λ b. seen (b.vtable, b.value)) size self.new }
+        ensures counted { self.new.lines ≡ self.old.lines }
+        ensures no_calls { out.new.logs.event ≡ out.old.logs.event }
+        ensures runs { OnOk result ((size : ℕ) (told : Option (List (List ℕ))) → RunsEntry (place key.now size) (Loads slot bytes.now) (seen_of (λ b. seen (b.vtable, b.value)) self.old) (seen_of (λ b. seen (b.vtable, b.value)) self.new) told told [] out.new.lines) }
+        ensures err { OnErr result (self.new ≡ self.old) }
+    {
+        if !self.booted {
+            return Ok(());
+        }
+        let n = self.events + 1;
+        if slot > LAST_SLOT {
+            print_note(&Note::Refused(n, Refusal::BadIndex), &mut out.text);
+            self.answer_image(out);
+            return Ok(());
+        }
+        if self.kernel.has_image(slot) {
+            print_note(&Note::Refused(n, Refusal::Taken), &mut out.text);
+            self.answer_image(out);
+            return Ok(());
+        }
+        match load_image(alloc, key, bytes, n, &mut out.text)? {
+            None => {
+                self.answer_image(out);
+                Ok(())
+            }
+            Some(image) => {
+                self.kernel.add_image(slot, image);
+                self.answer_image(out);
+                Ok(())
+            }
+        }
+    }
+
+    /// An image line is counted as an event, and its answer is written.
+    fn answer_image(&mut self, out: &mut Buffers)
+        requires room { self.old.events < 2 ^ 32 - 1 }
+        requires empty { out.old.lines ≡ [] }
+        ensures state { self.new ≡ record self.old { events = self.old.events + 1 } }
+        ensures text { out.new.lines ≡ out.old.text }
+        ensures no_calls { out.new.logs.event ≡ out.old.logs.event }
+    {
+        self.events += 1;
         out.lines.add(&out.text);
     }
 
@@ -234,7 +333,7 @@ impl Session {
         ensures within { (size : ℕ) → IsSessionWithin (λ b. seen (b.vtable, b.value)) size self.old → IsSessionWithin (λ b. seen (b.vtable, b.value)) size self.new }
         ensures counted { self.new.lines ≡ self.old.lines }
         ensures no_calls { out.new.logs.event ≡ out.old.logs.event }
-        ensures runs { (size : ℕ) (told : Option (List (List ℕ))) → RunsEntry size Raw (seen_of (λ b. seen (b.vtable, b.value)) self.old) (seen_of (λ b. seen (b.vtable, b.value)) self.new) told told [] out.new.lines }
+        ensures runs { (c : Place) (told : Option (List (List ℕ))) → RunsEntry c Raw (seen_of (λ b. seen (b.vtable, b.value)) self.old) (seen_of (λ b. seen (b.vtable, b.value)) self.new) told told [] out.new.lines }
     {
         if self.booted {
             self.events += 1;
@@ -254,7 +353,7 @@ impl Session {
         ensures within { IsSessionWithin (λ b. seen (b.vtable, b.value)) size self.new }
         ensures counted { self.new.lines ≡ self.old.lines }
         ensures same_size { D.block_count disk.new ≡ size }
-        ensures runs { RunsEntry size (Happens event.now) (seen_of (λ b. seen (b.vtable, b.value)) self.old) (seen_of (λ b. seen (b.vtable, b.value)) self.new) (D.blocks disk.old) (D.blocks disk.new) out.new.logs.event out.new.lines }
+        ensures runs { (key : List ℕ) → RunsEntry (place key size) (Happens event.now) (seen_of (λ b. seen (b.vtable, b.value)) self.old) (seen_of (λ b. seen (b.vtable, b.value)) self.new) (D.blocks disk.old) (D.blocks disk.new) out.new.logs.event out.new.lines }
         ensures calls { GoesOn (D.faults disk.old) (D.faults disk.new) (D.plan disk.old) (D.plan disk.new) out.old.logs.event out.new.logs.event }
     {
         if !is_built(event) {

@@ -1,7 +1,5 @@
 -- The line of a fault is a note's.
-use Rattle.std.proofs.Common.{ap, ◌∙◌}
-use Rattle.kernel_model.specs.Text.{line}
-use Rattle.vino_top.specs.Run.{boot_line}
+use Rattle.std.proofs.Common.{◌∙◌}
 use Rattle.vino_top.proofs.SessionLemmas.{fault_line}
 use Rattle.vino_top.proofs.session.say_boot.Goals as goal
 

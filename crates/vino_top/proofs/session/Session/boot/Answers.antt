@@ -1,8 +1,8 @@
 -- The kernel begins as the opening one does, and the note of its boot is written.
-use Rattle.std.proofs.Common.{ap, sym, ◌∙◌}
-use Rattle.kernel_model.specs.Text.{line}
+use Rattle.std.proofs.Common.{◌∙◌}
 use Rattle.kernel_state.specs.Stores.{world_of_store, objects_of}
-use Rattle.vino_top.specs.Run.{boot_line}
+use Rattle.graft_loader.specs.Slots.{table_of}
+use Rattle.vino_top.specs.Run.{place}
 use Rattle.vino_top.specs.Standing.{seen_of}
 use Rattle.vino_top.proofs.SessionLemmas.{boot_runs, up_is_down}
 use Rattle.vino_top.proofs.session.Session.boot.Goals as goal
@@ -19,8 +19,8 @@ returns-clause-within g c =
     }
 
 pub returns-clause-runs : goal.returns-clause-runs
-returns-clause-runs g c =
-    boot_runs c.args.size (seen_of (λ b. (goal.Policy-dyn g (b.vtable, b.value)).seen b.value) c.args.self.now) (world_of_store c.boot-note.new.self.store) (objects_of (λ b. (goal.Policy-dyn g (b.vtable, b.value)).seen b.value) c.boot-note.new.self.store) c.boot-note.new.self.clock
+returns-clause-runs g c = λ key.
+    boot_runs (place key c.args.size) (seen_of (λ b. (goal.Policy-dyn g (b.vtable, b.value)).seen b.value) c.args.self.now) (world_of_store c.boot-note.new.self.store) (table_of c.boot-note.new.self.images) (objects_of (λ b. (goal.Policy-dyn g (b.vtable, b.value)).seen b.value) c.boot-note.new.self.store) c.boot-note.new.self.clock
     (g.D.Disk.blocks c.args.disk.now) (g.D.Disk.blocks c.boot-note.new.disk) c.boot-note.new.logs.event c.boot-note.result c.add.new.self
     c.boot-note.ensures.one c.boot-note.ensures.tells
     (λ blocks tells. rw (← c.requires.disk) (c.boot-note.ensures.value blocks tells))

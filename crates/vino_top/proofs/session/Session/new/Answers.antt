@@ -1,5 +1,5 @@
 -- Nothing was counted.
-use Rattle.std.proofs.Common.{arith, ◌≡◌, false, true, sym, ap, ◌∙◌}
+use Rattle.std.proofs.Common.{arith}
 use Rattle.vino_top.proofs.SessionLemmas.{down_is_up}
 use Rattle.vino_top.proofs.session.Session.new.Goals as goal
 
