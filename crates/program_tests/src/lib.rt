@@ -232,7 +232,6 @@ mod tests {
         }
         for line in [
             "step 0 1",
-            "image 0 00",
             "lock 0 0",
             "unlock 0 0",
             "install 0 0 0 0",
@@ -373,6 +372,120 @@ mod tests {
                 ran.written.bytes() == lines.as_bytes(),
                 "on {word} {input:?}"
             );
+        }
+        Ok(())
+    }
+
+    // `ret` with two data bytes, and `mov r1 r2` and `ret`, both sealed under the key by another program.
+    const TWO_BYTES: &str = "564752310100000001000000020000001a0000000000000061626d26a8a29ad77261f92c69fa097842640cfb9da68ed1d930b55b9cb95e123d44";
+    const TWO_STEPS: &str = "5647523101000000020000000000000002010200000000001a0000000000000072da673877a58cb2d07b39764585ea2fd900d26d4378259f1ceab7b350443667";
+
+    #[test]
+    fn a_refused_image_leaves_its_slot_free(rt: HostRuntime) -> Result<(), Fail> {
+        let alloc = rt.alloc();
+        // Another program computed the seals.
+        let cases = [
+            // fewer than 48 bytes
+            (
+                "00",
+                "L1",
+            ),
+            // zeros
+            (
+                "000000000000000000000000000000000000000000000000000000000000000000000000000000000000000000000000",
+                "L2",
+            ),
+            // version 7
+            (
+                "564752310700000000000000000000000000000000000000000000000000000000000000000000000000000000000000",
+                "L3",
+            ),
+            // 1025 instructions
+            (
+                "564752310100000001040000000000000000000000000000000000000000000000000000000000000000000000000000",
+                "L4",
+            ),
+            // no seal
+            (
+                "564752310100000000000000000000000000000000000000000000000000000000000000000000000000000000000000",
+                "L5",
+            ),
+            // op 1b
+            (
+                "564752310100000001000000000000001b00000000000000310b1ccc93809ade29cb306308e04c261d13be67424125b02bdfcd838ad063b2",
+                "L6 0",
+            ),
+            // mov r14 r0
+            (
+                "56475231010000000200000000000000020e0000000000001a0000000000000066b366584fb57f0b4e3105bf91e46cbae264292fa2f3b03034f7f510e3b54e99",
+                "L7 0",
+            ),
+            // jmp @1
+            (
+                "56475231010000000100000000000000140000000100000097666147dc2bfa28573528f716f4dea11a611d5d85c4c82738af44280571ae8c",
+                "L8 0",
+            ),
+            // ret; ldw r1 r2
+            (
+                "564752310100000002000000000000001a000000000000001001020000000000733c7e863bcf97560998c9e85e13780a273bc6d0295067dffa15ee996dac5482",
+                "L9 1",
+            ),
+            // call 4294967295
+            (
+                "5647523101000000020000000000000017000000ffffffff1a0000000000000093857aa65184cd63df9c6fa3a9ade619dc64e2c75b9f608a655fb444f8c122b4",
+                "L10 0",
+            ),
+            // mov r1 r2
+            (
+                "5647523101000000010000000000000002010200000000005e16953adc9a4ac1755ea88cead0ec9cf0220f702898c0f3d2a7e896e0f07ffd",
+                "L11",
+            ),
+        ];
+        for (bytes, answer) in cases {
+            let script =
+                format!(in alloc; "boot\nimage 7 {bytes}\nimage 7 {TWO_BYTES}\nimage 7 {TWO_STEPS}\nimage 8 {TWO_STEPS}\n")?;
+            let lines = format!(in alloc; "0 boot 8 64 3\n1 {answer}\n2 ok 1 2\n3 E10\n4 ok 2 0\n")?;
+            let ran = run_words(alloc, &["run", KEY], script.as_str(), 0, 0)?;
+            assert_eq!(rt; ran.status, 0, "on {answer}");
+            assert!(rt; ran.written.bytes() == lines.as_bytes(), "on {answer}");
+        }
+        Ok(())
+    }
+
+    #[test]
+    fn images_are_loaded_under_the_key_of_the_run(rt: HostRuntime) -> Result<(), Fail> {
+        let alloc = rt.alloc();
+        let capital = "000102030405060708090A0B0C0D0E0F101112131415161718191A1B1C1D1E1F";
+        let last = "000102030405060708090a0b0c0d0e0f101112131415161718191a1b1c1d1e1e";
+        let script =
+            format!(in alloc; "boot\nimage 31 {TWO_BYTES}\nimage 31 00\nimage 32 {TWO_BYTES}\nimage 4294967295 00\nimage 0 {TWO_STEPS}\n")?;
+        let loaded = "0 boot 8 64 3\n1 ok 1 2\n2 E10\n3 E8\n4 E8\n5 ok 2 0\n";
+        let refused = "0 boot 8 64 3\n1 L5\n2 L1\n3 E8\n4 E8\n5 L5\n";
+        for (key, lines) in [(KEY, loaded), (capital, loaded), (last, refused)] {
+            let ran = run_words(alloc, &["run", key], script.as_str(), 0, 0)?;
+            assert_eq!(rt; ran.status, 0, "under {key}");
+            assert!(rt; ran.written.bytes() == lines.as_bytes(), "under {key}");
+        }
+        Ok(())
+    }
+
+    #[test]
+    fn no_image_is_loaded_before_boot(rt: HostRuntime) -> Result<(), Fail> {
+        let alloc = rt.alloc();
+        let cases = [
+            (
+                format!(in alloc; "image 0 {TWO_BYTES}\nboot\n")?,
+                "script 1 S4\n",
+            ),
+            (
+                String::from_str(alloc, "boot\nimage 0 0\ntick\n")?,
+                "0 boot 8 64 3\nscript 2 S2\n",
+            ),
+        ];
+        for (script, lines) in cases {
+            let ran = run_words(alloc, &["run", KEY], script.as_str(), 0, 0)?;
+            assert_eq!(rt; ran.status, 2, "on {script:?}");
+            assert!(rt; ran.written.bytes() == lines.as_bytes(), "on {script:?}");
         }
         Ok(())
     }
