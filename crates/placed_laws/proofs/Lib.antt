@@ -1,3 +1,4 @@
+mod NeededPremises
 pub mod LevelLemmas
 pub mod GraftedLemmas
 pub mod MixedLemmas
@@ -24,3 +25,4 @@ pub mod RowLemmas
 pub mod OtherLemmas
 pub mod SettleLemmas
 pub mod EventLemmas
+pub mod SoundLemmas

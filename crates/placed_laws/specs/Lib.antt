@@ -4,4 +4,5 @@ pub mod Placed
 pub mod PlacedEvents
 pub mod PlacedRows
 pub mod PlacedSteps
+pub mod Soundness
 pub mod Stands

@@ -3,5 +3,6 @@
 
 pub mod agreeing;
 pub mod keeping;
+pub mod soundness;
 #[cfg(test)]
 mod tests;

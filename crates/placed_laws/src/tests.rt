@@ -1,6 +1,6 @@
 //! Each law over every table of calls, at the table of the system calls.
 
-use crate::{agreeing, keeping};
+use crate::{agreeing, keeping, soundness};
 use plain_rules::PlainRules;
 
 #[test]
@@ -13,4 +13,6 @@ fn the_system_calls_have_the_laws(_rt: HostRuntime) {
     keeping::drops_stand::<PlainRules>();
     keeping::others_stand::<PlainRules>();
     keeping::events_stand::<PlainRules>();
+    soundness::sound_in_place::<PlainRules>();
+    soundness::ready_in_place::<PlainRules>();
 }

@@ -1,0 +1,81 @@
+-- Premises of the laws that can't be left out: for each the smallest example in which the law would be false.
+use Rattle.std.specs.Prelude.{◌≡◌, ℕ, ◌==◌, ◌&&◌, true, false, cond, [], ◌∷◌, Some, None}
+use Rattle.std.proofs.Common.{refl}
+use Rattle.kernel_model.specs.declared.Cause.{Cause}
+use Rattle.kernel_model.specs.declared.Note.TheVariants.{Ended}
+use Rattle.kernel_model.specs.declared.Op.TheVariants.{Call, Ret}
+use Rattle.kernel_model.specs.declared.QueueRow.{QueueRow}
+use Rattle.kernel_model.specs.declared.Reply.{Reply}
+use Rattle.kernel_model.specs.declared.SysCall.TheVariants.{Yield, Peek}
+use Rattle.kernel_model.specs.World.{World, ImageTable}
+use Rattle.kernel_model.specs.Objects.{Objects, same_object}
+use Rattle.kernel_model.specs.Meaning.{stage}
+use Rattle.kernel_model.specs.History.{Stepped}
+use Rattle.kernel_model.specs.Kernel.{Run, has_level}
+use Rattle.kernel_model.specs.Settle.{step}
+use Rattle.kernel_model.specs.Events.{drop_call}
+use Rattle.kernel_model.specs.InPlace.{in_place}
+use Rattle.kernel_model.specs.Opening.{opening_accounts, opening_things}
+use Rattle.kernel_model.specs.Pieces.{plain}
+use Rattle.kernel_model.specs.Given.{ins}
+use Rattle.placed_laws.specs.Placed.{PlacedRun, has_some}
+use Rattle.placed_laws.specs.PlacedSteps.{placed_step, placed_drop}
+use Rattle.placed_laws.proofs.AlignLemmas.{run_over}
+
+-- a world of the least size
+abbrev small_world : World
+small_world = record { frames = 2; patience = λ kind. 10; grant = 0; disk_size = 1; directory = []; callable = 15 }
+
+-- an image that sets a cell
+abbrev setting : ImageTable
+setting slot = cond (slot == 0) (Some (record { code = ins Call 0 0 0 1 ∷ ins Ret 0 0 0 0 ∷ []; body = [] })) None
+
+-- a row of the queue
+abbrev row : ℕ → QueueRow
+row p = record { process = p; nice = 20; slices = 0 }
+
+-- processes 1 and 0 live, and process 1 has a graft at its slice
+abbrev one_graft : Objects
+one_graft =
+    record {
+      accounts = record (opening_accounts 10) {
+        graft = λ q pt. cond (q == 1 && pt == 5) (Some (record { image = 0; limit = 9; billed = false; balance = λ k. 9 })) None;
+      };
+      things = record opening_things { queue = row 1 ∷ row 0 ∷ [] };
+    }
+
+-- the slice that process 0 yields is asked of process 1's graft, which has set a cell; process 1 is about to read it
+abbrev reads_beside : Run
+reads_beside =
+    record {
+      kernel = record {
+        world = small_world;
+        images = setting;
+        objects = one_graft;
+        clock = 0;
+        call = λ p. cond (p == 0) (Some (record { number = 1; stage = stage Yield 1; marks = Some (Stepped ∷ []) }))
+            (cond (p == 1) (Some (record { number = 2; stage = stage (Peek 1) 0; marks = None })) None);
+        order = [];
+      };
+      blocks = λ b. [];
+      notes = [];
+      io = [];
+    }
+
+-- the same in place
+abbrev in_one_store : Run → PlacedRun
+in_one_store r = run_over plain (in_place plain r.kernel) r
+
+-- the reader is blocked; a step of it would tell the abstract kernel the committed number, and the kernel in place the other one's
+blocked_reader_differs :
+    ((step plain 1 reads_beside).notes ≡ Ended 2 (Reply.One 0) ∷ [])
+    × ((placed_step plain 1 (in_one_store reads_beside)).notes ≡ Ended 2 (Reply.One 20) ∷ [])
+unfolding same_object
+blocked_reader_differs = (refl, refl)
+
+-- the drop of a level that isn't there would take all levels from the kernel in place, and none from the abstract one
+absent_drop_differs :
+    (has_level ((drop_call plain 0 (reads_beside.kernel.call 0) (Some 3) Cause.DivideByZero reads_beside).kernel.call 0) ≡ true)
+    × (has_some ((placed_drop plain 0 3 Cause.DivideByZero (in_one_store reads_beside)).placed.levels 0) ≡ false)
+unfolding same_object
+absent_drop_differs = (refl, refl)
