@@ -1,5 +1,5 @@
 -- Who blocks whom is the same over the one store.
-use Rattle.std.specs.Prelude.{◌≡◌, ℕ, zero, suc, ◌<◌, ◌≤◌, ◌==◌, ◌||◌, nat_lt, Bool, true, false, cond, List, [], ◌∷◌, length, map, take, option_map, Option, Some, None, Contains}
+use Rattle.std.specs.Prelude.{◌≡◌, ℕ, suc, ◌<◌, ◌≤◌, ◌==◌, ◌||◌, nat_lt, Bool, true, false, cond, List, [], ◌∷◌, length, map, take, option_map, Option, Some, None, Contains}
 use Rattle.std.specs.List.{AllByRecursion as Each}
 use Rattle.std.proofs.Common.{arith, refl, subst, sym, ap, ◌∙◌, inl, inr}
 use Rattle.std.proofs.lemmas.Bool.{cases_Bool}
@@ -27,11 +27,10 @@ use Rattle.kernel_model.specs.Blocking.{levels_in, config_of, levels_of, holds, 
 use Rattle.kernel_model.specs.Settle.{first_free_in, first_free, order_in, rested_order, entry_with}
 use Rattle.kernel_model.specs.Events.{wanted}
 use Rattle.kernel_model.specs.InPlace.{is_changed_in}
-use Rattle.kernel_model.specs.Alike.{LevelsAlike, is_needed}
+use Rattle.kernel_model.specs.Alike.{LevelsAlike}
 use Rattle.kernel_model.specs.Laws.{Laws}
 use Rattle.graft_laws.proofs.EffectLemmas.{same_back}
 use Rattle.graft_laws.proofs.HoldLemmas.{changed_held, outermost_changed}
-use Rattle.graft_laws.proofs.PointLemmas.{or_cases, or_left, or_right}
 use Rattle.history_laws.proofs.InPlaceLemmas.{row_low, row_high}
 use Rattle.history_laws.proofs.SoundCallLemmas.{contains_first}
 use Rattle.history_laws.proofs.SteadyLemmas.{alike_touched}
@@ -39,11 +38,12 @@ use Rattle.placed_laws.specs.Agreeing.{SameStages, SameBlockers}
 use Rattle.placed_laws.specs.Placed.{PlacedCall, PlacedLevel, Placed, bare, placed_levels, placed_holds, placed_blocker_from, placed_needs_at, placed_needs_in, placed_needs, placed_blocker}
 use Rattle.placed_laws.specs.PlacedSteps.{placed_first_free_in, placed_first_free, placed_rested_order}
 use Rattle.placed_laws.specs.Stands.{without_history}
-use Rattle.placed_laws.proofs.LevelLemmas.{relaid, relaid_alike}
+use Rattle.placed_laws.proofs.LevelLemmas.{relaid, relaid_alike, length_bare}
 use Rattle.placed_laws.proofs.GraftedLemmas.{grafted}
 use Rattle.placed_laws.proofs.SourceLemmas.{IsPlaced, held_same, living, files, locks}
 use Rattle.placed_laws.proofs.AlignLemmas.{over_store, aligned, placed_of}
 use Rattle.placed_laws.proofs.FreeLemmas.{StandsWhere, AtPiece, InGraft, stands_where, piece_agrees}
+use Rattle.placed_laws.proofs.NeedLemmas.{taken_among}
 
 -- ---- lists of needs
 
@@ -136,15 +136,6 @@ same_first locks users p u (x ∷ xs) (y ∷ ys) next =
     by_holder rest (Some q) e = hindered (record { object = x.object; holder = q; by_user = false }) (ap (hindrance_by users u x) e)
     by_holder rest None e = by_hinder rest e (hinder locks users p u x) refl
 
--- what is needed among the first is needed
-taken_needed : (i : ℕ) (ns : List Need) (o : Object) → is_needed o (take i ns) ≡ true → is_needed o ns ≡ true
-taken_needed zero ns o h = absurd cc
-taken_needed (suc i) [] o h = absurd cc
-taken_needed (suc i) (n ∷ ns) o h = elim (or_cases (same_object o n.object) (is_needed o (take i ns)) h) [
-  | inl here ↦ or_left (same_object o n.object) (is_needed o ns) here
-  | inr later ↦ or_right (same_object o n.object) (is_needed o ns) (taken_needed i ns o later)
-]
-
 -- ---- instructions
 
 -- what an instruction needs doesn't look at what its level found
@@ -207,7 +198,7 @@ module _ (m : Meaning) (laws : Laws m) (k : Kernel) (x : Objects) (here : IsPlac
   piece_first p c e none u =
       same_first (holds m k) k.objects.things.lock p u (m.need k.world k.objects p c.stage) (m.need k.world x p c.stage)
       (λ i each. laws.need.prefix k.world k.objects x p c.stage i (here.kernel.fit p c e) (sym (laws.stages.fits_same k.world k.objects x p c.stage (files m laws k x here p)) ∙ here.kernel.fit p c e)
-      (λ o need. same_back o x k.objects (piece_agrees m laws k x here p c (take i (m.need k.world k.objects p c.stage)) o e none (λ a h. taken_needed i (m.need k.world k.objects p c.stage) a h) each need)))
+      (λ o need. same_back o x k.objects (piece_agrees m laws k x here p c (take i (m.need k.world k.objects p c.stage)) o e none (λ a h. taken_among i (m.need k.world k.objects p c.stage) a h) each need)))
 
   -- an instruction's needs
   pub next_is : (p : ℕ) (f : Config) → config_of m k p ≡ Some f → next_needs k.world k.images x.accounts (relaid x.things f.levels) ≡ next_needs k.world k.images f.now.accounts f.levels
@@ -229,10 +220,6 @@ module _ (m : Meaning) (laws : Laws m) (k : Kernel) (x : Objects) (here : IsPlac
       none_some : 1 ≤ 0 → ⊥
       none_some h = omega arith
   placed_next y p c (b ∷ bs) some = refl
-
-  length_bare : (ls : List Level) → length (map bare ls) ≡ length ls
-  length_bare [] = refl
-  length_bare (l ∷ ls) = ap suc (length_bare ls)
 
   pub placed_next_is : (p : ℕ) (c : PlacedCall) (f : Config) → config_of m k p ≡ Some f →
       placed_needs_at m (over_store m x k) p c (map bare (levels_of m k p)) ≡ next_needs k.world k.images f.now.accounts f.levels

@@ -1,11 +1,11 @@
 -- The end of a piece on two states: the committed one, and the store.
-use Rattle.std.specs.Prelude.{◌≡◌, ◌≢◌, ℕ, ◌&&◌, ◌||◌, Bool, true, false, List, [], ◌∷◌, ◌++◌, map, drop, Option, Some, None}
+use Rattle.std.specs.Prelude.{◌≡◌, ◌≢◌, ℕ, Bool, true, false, List, [], ◌++◌, map, drop, Option, Some, None}
 use Rattle.std.proofs.Common.{refl, sym, ap, ◌∙◌, inl, inr}
 use Rattle.std.proofs.lemmas.Bool.{cases_Bool}
 use Rattle.kernel_model.specs.declared.Need.{Need}
 use Rattle.kernel_model.specs.declared.Object.{Object}
 use Rattle.kernel_model.specs.World.{Blocks}
-use Rattle.kernel_model.specs.Objects.{Objects, SameAt, at, same_object}
+use Rattle.kernel_model.specs.Objects.{Objects, SameAt, at}
 use Rattle.kernel_model.specs.Meaning.{Meaning, Stage, After, Continues, EndsWith, Fails}
 use Rattle.kernel_model.specs.Levels.{Config}
 use Rattle.kernel_model.specs.Kernel.{Call, Kernel, Run, call_after, gave_note, after_note, requeue}
@@ -13,7 +13,7 @@ use Rattle.kernel_model.specs.Blocking.{config_in, levels_in, trace_of, config_o
 use Rattle.kernel_model.specs.Settle.{finish_on}
 use Rattle.kernel_model.specs.InPlace.{is_changed_in}
 use Rattle.kernel_model.specs.Sound.{HasWholeBlocks}
-use Rattle.kernel_model.specs.Alike.{is_exclusive, is_needed, is_needed_exclusively}
+use Rattle.kernel_model.specs.Alike.{is_needed, is_needed_exclusively}
 use Rattle.kernel_model.specs.Laws.{Laws, IsReady, IsInRange, PieceAlike}
 use Rattle.kernel_model.specs.Claims.{IsStable}
 use Rattle.plain_rules.specs.Ledgers.{at_here, at_other}
@@ -29,6 +29,7 @@ use Rattle.placed_laws.proofs.SourceLemmas.{IsPlaced}
 use Rattle.placed_laws.proofs.AlignLemmas.{run_over}
 use Rattle.placed_laws.proofs.AfterLemmas.{stands_after}
 use Rattle.placed_laws.proofs.GoLemmas.{history_at}
+use Rattle.placed_laws.proofs.NeedLemmas.{unneeded_free}
 
 -- a piece of p's call does the same from state s and from state d, as far as these needs go; others keep what they hold
 pub record EndsAlike (m : Meaning) (k : Kernel) (w : Objects) (p : ℕ) (t : Stage) (answer : Option (List ℕ)) (s d : Objects) (ns : List Need) : Type 0 where
@@ -42,21 +43,6 @@ pub record EndsAlike (m : Meaning) (k : Kernel) (w : Objects) (p : ℕ) (t : Sta
   -- what another does is as it was in the store, and isn't needed exclusively
   pub frame : (o : Object) (q : ℕ) → HasRange o → q ≢ p → is_changed_in (levels_of m k q) o ≡ true → SameAt o d w
   pub free : (o : Object) (q : ℕ) → q ≢ p → is_changed_in (levels_of m k q) o ≡ true → is_needed_exclusively o ns ≡ false
-
--- what isn't needed isn't needed exclusively
-pub unneeded_free : (o : Object) (ns : List Need) → is_needed o ns ≡ false → is_needed_exclusively o ns ≡ false
-unneeded_free o [] h = refl
-unneeded_free o (n ∷ ns) h =
-    let both = neither (same_object o n.object) (is_needed o ns) h in
-    ap (λ b. is_exclusive n.mode && b || is_needed_exclusively o ns) both.0 ∙ none_by (is_exclusive n.mode) (is_needed_exclusively o ns) (unneeded_free o ns both.1)
-  where
-    neither : (a b : Bool) → (a || b) ≡ false → (a ≡ false) × (b ≡ false)
-    neither true b h = absurd cc
-    neither false b h = (refl, h)
-
-    none_by : (a b : Bool) → b ≡ false → (a && false || b) ≡ false
-    none_by true b h = h
-    none_by false b h = h
 
 -- a call after its piece, in place
 after_same : (c : Call) (a : After) → placed_after (record { number = c.number; stage = c.stage }) a ≡ without_history (call_after c a)

@@ -40,10 +40,7 @@ use Rattle.placed_laws.proofs.PieceLemmas.{level_is}
 use Rattle.placed_laws.proofs.OtherLemmas.{others_stand}
 use Rattle.placed_laws.proofs.StandLemmas.{drops_stand}
 use Rattle.placed_laws.proofs.SettleLemmas.{RunsAtRest, blocker_there, step_there, settled_stands}
-
-length_bare : (ls : List Level) → length (map bare ls) ≡ length ls
-length_bare [] = refl
-length_bare (l ∷ ls) = ap suc (length_bare ls)
+use Rattle.placed_laws.proofs.LevelLemmas.{length_bare}
 
 -- ---- the order
 

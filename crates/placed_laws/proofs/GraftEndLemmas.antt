@@ -27,7 +27,8 @@ use Rattle.history_laws.proofs.InPlaceLemmas.{others_apart}
 use Rattle.placed_laws.proofs.GraftedLemmas.{needs_held}
 use Rattle.placed_laws.proofs.SourceLemmas.{IsPlaced, shown, committed, held_same, none_of, others_free, living, files}
 use Rattle.placed_laws.proofs.EndLemmas.{EndsAlike}
-use Rattle.placed_laws.proofs.PointLemmas.{point_on, first_needed, first_taken}
+use Rattle.placed_laws.proofs.PointLemmas.{point_on}
+use Rattle.placed_laws.proofs.NeedLemmas.{first_needed, first_taken}
 
 module _ (m : Meaning) (laws : Laws m) (k : Kernel) (w : Objects) (here : IsPlaced m k w) (p : ℕ) (c : Call) (e : k.call p ≡ Some c) where
   -- a call stands in the store too

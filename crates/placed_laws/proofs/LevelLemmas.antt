@@ -1,5 +1,5 @@
 -- Levels laid over a store.
-use Rattle.std.specs.Prelude.{◌≡◌, List, [], ◌∷◌, map}
+use Rattle.std.specs.Prelude.{suc, length, ◌≡◌, List, [], ◌∷◌, map}
 use Rattle.std.proofs.Common.{refl, subst, sym, ap, ◌∙◌}
 use Rattle.kernel_model.specs.Objects.{Things}
 use Rattle.kernel_model.specs.Levels.{Level}
@@ -52,3 +52,7 @@ alike_then (l ∷ ls) (k ∷ ks) (j ∷ js) h i =
 -- levels laid over a store are alike to any that are the same without what they found
 pub laid_alike : (w : Things) (bs : List PlacedLevel) (ls : List Level) → bs ≡ map bare ls → LevelsAlike ls (levels_with w bs)
 laid_alike w bs ls e = subst (λ xs. LevelsAlike ls (levels_with w xs)) (sym e) (relaid_alike w ls)
+
+pub length_bare : (ls : List Level) → length (map bare ls) ≡ length ls
+length_bare [] = refl
+length_bare (l ∷ ls) = ap suc (length_bare ls)

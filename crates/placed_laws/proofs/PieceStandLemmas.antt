@@ -40,9 +40,10 @@ use Rattle.placed_laws.proofs.AlignLemmas.{run_over}
 use Rattle.placed_laws.proofs.FreeLemmas.{piece_needs_agree}
 use Rattle.placed_laws.proofs.AfterLemmas.{stands_after}
 use Rattle.placed_laws.proofs.GoLemmas.{same_history}
-use Rattle.placed_laws.proofs.EndLemmas.{EndsAlike, unneeded_free}
+use Rattle.placed_laws.proofs.EndLemmas.{EndsAlike}
 use Rattle.placed_laws.proofs.PointLemmas.{same_needs}
 use Rattle.placed_laws.proofs.GraftEndLemmas.{store_stands}
+use Rattle.placed_laws.proofs.NeedLemmas.{unneeded_free}
 
 module _ (m : Meaning) (laws : Laws m) (k : Kernel) (w : Objects) (here : IsPlaced m k w) (p : ℕ) (c : Call) (e : k.call p ≡ Some c) (none : levels_of m k p ≡ [])
     (needed : needs m k p ≡ m.need k.world k.objects p c.stage) (unblocked : blocker m k p ≡ None) where

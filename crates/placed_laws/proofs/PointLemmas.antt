@@ -1,65 +1,26 @@
 -- Which point a piece asks on states that are alike, policies out of range apart.
-use Rattle.std.specs.Prelude.{◌≡◌, ℕ, zero, suc, ◌<◌, nat_lt, ◌&&◌, Bool, true, false, cond, List, [], ◌∷◌, ◌++◌, take, Option, Some, None, slice_index}
-use Rattle.std.proofs.Common.{arith, refl, subst, sym, ap, ◌∙◌, inl, inr}
+use Rattle.std.specs.Prelude.{◌≡◌, ℕ, ◌<◌, nat_lt, Bool, true, false, cond, List, Option, Some, None, slice_index}
+use Rattle.std.proofs.Common.{arith, refl, subst, sym, ap, ◌∙◌}
 use Rattle.std.proofs.lemmas.Bool.Decides.{nat_tests}
-use Rattle.kernel_model.specs.declared.Need.{Need}
 use Rattle.kernel_model.specs.declared.Object.{Object}
 use Rattle.kernel_model.specs.declared.Object.TheVariants.{Graft, Acct, Cell, OpenFile, Queue, Cache, Lock, Pol}
 use Rattle.kernel_model.specs.declared.Point.{Point}
 use Rattle.kernel_model.specs.World.{World, ImageTable}
-use Rattle.kernel_model.specs.Objects.{Objects, SameAt, same_object}
+use Rattle.kernel_model.specs.Objects.{Objects, SameAt}
 use Rattle.kernel_model.specs.Policies.{PointKind, Ahead, Victim, Next, kind_of, valid, valid_by}
 use Rattle.kernel_model.specs.Meaning.{Meaning, Stage}
 use Rattle.kernel_model.specs.Sound.{IsSoundStore, IsSoundPolicy}
-use Rattle.kernel_model.specs.Alike.{AgreeOn, AreAlike, is_exclusive, is_needed, is_needed_exclusively}
+use Rattle.kernel_model.specs.Alike.{AgreeOn, AreAlike}
 use Rattle.kernel_model.specs.Laws.{Laws, IsInRange, IsStanding, IsRightAnswer, SameKindOfPoint, accepted_by, before_point}
 use Rattle.kernel_laws.proofs.StepLemmas.{right_answer}
 use Rattle.graft_laws.specs.Histories.{HasRange}
 use Rattle.graft_laws.proofs.EffectLemmas.{same_back}
-use Rattle.graft_laws.proofs.PointLemmas.{or_cases, or_left, or_right}
 use Rattle.graft_laws.proofs.RangeLemmas.{needed_contains}
 use Rattle.placed_laws.proofs.FreeLemmas.{in_range}
 use Rattle.placed_laws.proofs.SourceLemmas.{shown}
+use Rattle.placed_laws.proofs.NeedLemmas.{taken_among, all_same}
 
--- ---- lists of needs
-
--- what is needed among the first is needed
-pub first_needed : (o : Object) (xs ys : List Need) → is_needed o xs ≡ true → is_needed o (xs ++ ys) ≡ true
-first_needed o [] ys h = absurd cc
-first_needed o (n ∷ xs) ys h = elim (or_cases (same_object o n.object) (is_needed o xs) h) [
-  | inl here ↦ or_left (same_object o n.object) (is_needed o (xs ++ ys)) here
-  | inr later ↦ or_right (same_object o n.object) (is_needed o (xs ++ ys)) (first_needed o xs ys later)
-]
-
-pub first_taken : (o : Object) (xs ys : List Need) → is_needed_exclusively o xs ≡ true → is_needed_exclusively o (xs ++ ys) ≡ true
-first_taken o [] ys h = absurd cc
-first_taken o (n ∷ xs) ys h = elim (or_cases (is_exclusive n.mode && same_object o n.object) (is_needed_exclusively o xs) h) [
-  | inl here ↦ or_left (is_exclusive n.mode && same_object o n.object) (is_needed_exclusively o (xs ++ ys)) here
-  | inr later ↦ or_right (is_exclusive n.mode && same_object o n.object) (is_needed_exclusively o (xs ++ ys)) (first_taken o xs ys later)
-]
-
-taken_among : (i : ℕ) (ns : List Need) (o : Object) → is_needed o (take i ns) ≡ true → is_needed o ns ≡ true
-taken_among zero ns o h = absurd cc
-taken_among (suc i) [] o h = absurd cc
-taken_among (suc i) (n ∷ ns) o h = elim (or_cases (same_object o n.object) (is_needed o (take i ns)) h) [
-  | inl here ↦ or_left (same_object o n.object) (is_needed o ns) here
-  | inr later ↦ or_right (same_object o n.object) (is_needed o ns) (taken_among i ns o later)
-]
-
--- lists of which all beginnings are the same
-all_same : (xs ys : List Need) → ((i : ℕ) → take (suc i) xs ≡ take (suc i) ys) → xs ≡ ys
-all_same [] [] h = refl
-all_same [] (y ∷ ys) h = absurd (none_some (h 0))
-  where
-    none_some : take 1 [] ≡ take 1 (y ∷ ys) → ⊥
-    none_some e = cc
-all_same (x ∷ xs) [] h = absurd (none_some (h 0))
-  where
-    none_some : take 1 (x ∷ xs) ≡ take 1 [] → ⊥
-    none_some e = cc
-all_same (x ∷ xs) (y ∷ ys) h =
-    ap (λ (n : Need). n ∷ xs) (ap (λ (zs : List Need). elim zs as (λ _. Need) [ [] ↦ x | z ∷ rest ↦ z ]) (h 0))
-    ∙ ap (λ ns. y ∷ ns) (all_same xs ys (λ i. ap (λ (zs : List Need). elim zs as (λ _. List Need) [ [] ↦ [] | z ∷ rest ↦ rest ]) (h (suc i))))
+-- ---- needs
 
 -- states that agree on all that a piece needs have it need the same
 pub same_needs : (m : Meaning) (laws : Laws m) (v : World) (s u : Objects) (p : ℕ) (t : Stage) → m.fits v s p t ≡ true → m.fits v u p t ≡ true → AgreeOn (m.need v s p t) s u →

@@ -29,7 +29,7 @@ use Rattle.placed_laws.specs.Placed.{PlacedCall, PlacedLevel, Placed, PlacedRun,
 use Rattle.placed_laws.specs.PlacedSteps.{placed_requeue, placed_piece_at, placed_piece_step, placed_outcome, placed_after_outcome, placed_step_by, placed_call_step, placed_step, placed_drop_by, placed_drop}
 use Rattle.placed_laws.specs.Stands.{without_history, RunStandsFor}
 use Rattle.placed_laws.specs.Keeping.{StepsStand, DropsStand}
-use Rattle.placed_laws.proofs.LevelLemmas.{relaid}
+use Rattle.placed_laws.proofs.LevelLemmas.{relaid, length_bare}
 use Rattle.placed_laws.proofs.GraftedLemmas.{Grafted, grafted}
 use Rattle.placed_laws.proofs.SourceLemmas.{IsPlaced}
 use Rattle.placed_laws.proofs.AlignLemmas.{run_over, aligned, aligned_run, placed_of}
@@ -46,10 +46,6 @@ use Rattle.placed_laws.proofs.PieceStandLemmas.{asks_are, graft_is, piece_ends, 
 -- runs by other names
 by_names : (m : Meaning) (y z : PlacedRun) (u v : Run) → y ≡ z → u ≡ v → RunStandsFor m z v → RunStandsFor m y u
 by_names m y z u v e f h = subst (λ (x : PlacedRun). RunStandsFor m x u) (sym e) (subst (λ (x : Run). RunStandsFor m z x) (sym f) h)
-
-length_bare : (ls : List Level) → length (map bare ls) ≡ length ls
-length_bare [] = refl
-length_bare (l ∷ ls) = ap suc (length_bare ls)
 
 -- a step of levels that are there is an instruction
 step_is : (m : Meaning) (p : ℕ) (c : PlacedCall) (bs : List PlacedLevel) (r : PlacedRun) → 1 ≤ length bs →
