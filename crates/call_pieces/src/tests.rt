@@ -7,12 +7,12 @@ ghost use Rattle.graft_points.specs.Shelf.{IsShelf, pol_of, first_choice};
 ghost use Rattle.kernel_state.specs.Stores.{queue_of, IsStore};
 ghost use Rattle.call_pieces.specs.Works.{slices_within};
 
-use crate::{After, Calls, Next, Plain};
+use crate::{After, Calls, Needs, Next, Plain};
 use disk_log::DiskLog;
 use graft_points::{
     Policy, RaNext, RaNone, RaSeq, SchedNice, SchedRound, VictimLru, VictimMark, is_stock, put_last,
 };
-use kernel_model::{Bytes, Kind, Name, QueueRow, Refusal, Reply, SysCall};
+use kernel_model::{Bytes, Kind, Mode, Name, Object, Point, QueueRow, Refusal, Reply, SysCall};
 use kernel_state::{Setup, Store};
 use mem_disk::{MemDisk, read_directory};
 use ram_space::Ram;
@@ -144,7 +144,7 @@ fn run<C: Calls>(store: &mut Store, disk: &mut MemDisk, p: u8, call: &SysCall) -
             break 'turns;
         }
         log.clear();
-        let After { gave: given, next } = C::piece(&mut work, store, disk, &mut log);
+        let After { gave: given, next } = C::piece(&mut work, store, None, disk, &mut log);
         if given.is_some() {
             gave = given;
         }
@@ -517,5 +517,106 @@ fn only_its_holder_frees_a_lock(rt: HostRuntime) -> Result<(), Fail> {
         call(&mut store, &mut disk, 1, SysCall::Yield),
         Came::One(0)
     );
+    Ok(())
+}
+
+/// What the first piece of a call of process p needs. Nothing where the call is refused at once.
+fn needs_of(store: &Store, p: u8, what: &SysCall) -> Needs
+    requires { IsStore (λ b. seen (b.vtable, b.value)) store.now }
+{
+    let mut needs = Needs::new();
+    if !store.living(u32::from(p)) {
+        return needs;
+    }
+    if let Ok(work) = Plain::early(store, IMAGES, p, what) {
+        Plain::need(&work, store, &mut needs);
+    }
+    needs
+}
+
+/// The point that the first piece of a call of process p asks.
+fn point_of(store: &Store, p: u8, what: &SysCall) -> Option<Point>
+    requires { IsStore (λ b. seen (b.vtable, b.value)) store.now }
+{
+    if !store.living(u32::from(p)) {
+        return None;
+    }
+    let work = Plain::early(store, IMAGES, p, what).ok()?;
+    Plain::asks(&work, store)
+}
+
+/// Whether the needs are these objects in these modes.
+fn are(needs: &Needs, expected: &[(Object, Mode)]) -> bool {
+    let needs = needs.as_slice();
+    if needs.len() != expected.len() {
+        return false;
+    }
+    for (need, (object, mode)) in needs.iter().zip(expected) {
+        if need.object != *object || need.mode != *mode || need.by_user {
+            return false;
+        }
+    }
+    true
+}
+
+#[test]
+fn pieces_need_their_objects_in_order(rt: HostRuntime) -> Result<(), Fail> {
+    let alloc = rt.alloc();
+    let shelf = stock_shelf!(alloc);
+    assert!(rt; is_stock(&shelf));
+    let mut disk = MemDisk::sample(alloc, Vec::new(alloc))?;
+    let store = booted(alloc, shelf, &mut disk)?;
+    let spawn = needs_of(&store, 0, &SysCall::Spawn);
+    assert!(rt;
+        are(
+            &spawn,
+            &[
+                (Object::Queue, Mode::Exclusive),
+                (Object::Acct(1), Mode::Exclusive)
+            ]
+        )
+    );
+    let peek = needs_of(&store, 0, &SysCall::Peek(3));
+    assert!(rt; are(&peek, &[(Object::Cell(0, 3), Mode::Shared)]));
+    let gives = needs_of(&store, 0, &SysCall::Give(0, Kind::Steps, 1000));
+    let account = (Object::Acct(0), Mode::Exclusive);
+    assert!(rt; are(&gives, &[(Object::Queue, Mode::Shared), account, account]));
+    let short = needs_of(&store, 0, &SysCall::Give(0, Kind::Steps, 1001));
+    assert!(rt; are(&short, &[(Object::Queue, Mode::Shared), account]));
+    let remove = needs_of(&store, 0, &SysCall::Remove(4));
+    assert!(rt; are(&remove, &[(Object::Graft(0, 4), Mode::Exclusive)]));
+    let lock = needs_of(&store, 0, &SysCall::TakeLock(2));
+    assert!(rt; lock.as_slice().len() == 1 && !are(&lock, &[(Object::Lock(2), Mode::Exclusive)]));
+    Ok(())
+}
+
+/// Fills both frames: process 0 reads two blocks of a file.
+fn fills(store: &mut Store, disk: &mut MemDisk) -> bool
+    requires { IsStore (λ b. seen (b.vtable, b.value)) store.old }
+    ensures { IsStore (λ b. seen (b.vtable, b.value)) store.new }
+{
+    let open = call(store, disk, 0, SysCall::OpenName(name_of(b"alpha")));
+    let first = call(store, disk, 0, SysCall::Read(0, 3, 0, 1));
+    let second = call(store, disk, 0, SysCall::Read(0, 5, 0, 1));
+    open == Came::One(0) && first == Came::Plain && second == Came::Plain
+}
+
+#[test]
+fn a_fetch_asks_the_owner_of_the_candidate(rt: HostRuntime) -> Result<(), Fail> {
+    let alloc = rt.alloc();
+    let shelf = stock_shelf!(alloc);
+    assert!(rt; is_stock(&shelf));
+    let mut disk = MemDisk::sample(alloc, Vec::new(alloc))?;
+    let mut store = booted(alloc, shelf, &mut disk)?;
+    let read = SysCall::Read(0, 0, 0, 1);
+    assert!(rt; point_of(&store, 0, &read).is_none());
+    assert!(rt; fills(&mut store, &mut disk));
+    assert!(rt; point_of(&store, 0, &SysCall::Read(0, 5, 0, 1)).is_none());
+    if let Some(point) = point_of(&store, 0, &read) {
+        assert!(rt; point.installer == 0 && point.point == 4);
+        assert!(rt; point.args == [0, 1, 2, 0]);
+        return Ok(());
+    }
+    assert!(rt; false);
     Ok(())
 }

@@ -1,12 +1,12 @@
 //! The kernel: a store, the loaded images and the clock. Each call runs to its end at its own event.
 
-ghost use Rattle.std.specs.Prelude.{◌≡◌, ℕ, ◌+◌, ◌*◌, ◌<◌, ◌≤◌, ◌^◌, ◌-◌, ◌++◌, true, false, [], ◌∷◌, length, drop, map, Some, None, slice_index_or, is_some};
+ghost use Rattle.std.specs.Prelude.{◌≡◌, ℕ, ◌+◌, ◌*◌, ◌<◌, ◌≤◌, ◌^◌, ◌-◌, ◌++◌, true, false, [], ◌∷◌, length, drop, map, Some, None, slice_index_or, is_some, option_map};
 ghost use Rattle.kernel_model.specs.declared.FileRow.{FileRow as Row};
 ghost use Rattle.kernel_model.specs.declared.Event.TheVariants.{Sys};
 ghost use Rattle.kernel_model.specs.declared.Note.TheVariants.{Ticked};
 ghost use Rattle.kernel_model.specs.Opening.{opening_kernel, opening_policy};
 ghost use Rattle.kernel_model.specs.Directory.{lies_on_disk};
-ghost use Rattle.kernel_model.specs.Kernel.{gave_note};
+ghost use Rattle.kernel_model.specs.Kernel.{Call, gave_note};
 ghost use Rattle.kernel_model.specs.Session as session;
 ghost use Rattle.kernel_model.specs.World.{Blocks};
 ghost use Rattle.kernel_model.specs.Quiet.{HasNoGraft};
@@ -147,6 +147,13 @@ impl<C: Calls> Kernel<C> {
         ensures clock { self.new.clock ≡ self.old.clock }
     {
         self.images.add(slot, image);
+    }
+
+    /// The number of the call that process p has in flight: none, since each runs to its end at its own event.
+    pub fn left(&self, p: u8) -> Option<u32>
+        ensures { result ≡ option_map (λ (c : Call). c.number) ((kernel_of (λ b. seen (b.vtable, b.value)) self.now.store (table_of self.now.images) self.now.clock).call p) }
+    {
+        None
     }
 
     /// One event, which has this number. Its notes and its calls of the disk are left behind. No memory is taken.
