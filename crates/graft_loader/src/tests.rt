@@ -147,7 +147,9 @@ fn hostile_images_are_refused(rt: HostRuntime) {
 }
 
 /// The image of `ret` with these data bytes.
-fn image_with(rt: &impl Abort, alloc: Global, body: &[u8]) -> Loaded {
+fn image_with(rt: &impl Abort, alloc: Global, body: &[u8]) -> Loaded
+    requires { length body.now ≤ 4096 }
+{
     let ret = Instr {
         op: Op::Ret,
         a: 0,
