@@ -1,0 +1,49 @@
+-- What is said of a drop, and the graft call after it.
+use Rattle.std.proofs.Common.{◌≡◌, ℕ, List, [], ◌∷◌, length, refl, sym, ◌∙◌, ap}
+use Rattle.kernel_model.specs.declared.Inverse.{Inverse}
+use Rattle.kernel_model.specs.declared.Cause.{Cause}
+use Rattle.kernel_model.specs.declared.Micro.{Micro}
+use Rattle.kernel_model.specs.Objects.{Objects, Accounts, Things, with_accounts}
+use Rattle.kernel_model.specs.World.{World}
+use Rattle.kernel_model.specs.Charges.{removed}
+use Rattle.kernel_model.specs.Policies.{default_of}
+use Rattle.kernel_model.specs.Locks.{LockTable, release_from}
+use Rattle.kernel_model.specs.Levels.{Level, Config, answer_innermost, drop_innermost}
+use Rattle.kernel_model.specs.UndoLog.{undo_all, undo_on}
+use Rattle.undo_calls.specs.UndoLevels.{innermost}
+use Rattle.graft_calls.specs.declared.GraftLevel.{GraftLevel}
+use Rattle.graft_calls.specs.Chains.{level_in, levels_in, outer, came}
+use Rattle.graft_calls.proofs.Views.{level_count, levels_released}
+
+-- two pairs
+pub pair : {A B : Type 0} (a b : A) (c d : B) → a ≡ b → c ≡ d → ◌≡◌ {A = A × B} (a, c) (b, d)
+pair {A} {B} a b c d first second = ap (λ x. let y : A × B = (x, c) in y) first ∙ ap (λ x. let y : A × B = (b, x) in y) second
+
+-- two graft calls
+pub configs : (w u : Objects) (ls ks : List Level) → w ≡ u → ls ≡ ks → ◌≡◌ {A = Config} (record { now = w; levels = ls }) (record { now = u; levels = ks })
+configs w u ls ks now levels =
+    ap (λ (x : Objects). let c : Config = record { now = x; levels = ls } in c) now ∙ ap (λ (x : List Level). let c : Config = record { now = u; levels = x } in c) levels
+
+-- a level is dropped: u is the state then, with levels hs and their log
+pub dropped : (v : World) (w u : Objects) (p n : ℕ) (ram mem : List ℕ) (t r : LockTable) (g : GraftLevel) (gs hs : List GraftLevel) (log rest : List (List Inverse)) (cause : Cause) (d : ℕ × ℕ) →
+    u ≡ with_accounts (removed g.owner g.point w.accounts) (undo_on (innermost log) w) → d ≡ default_of v (undo_all (innermost log) w.things) g.owner g.point →
+    mem ≡ ram → r ≡ release_from p (length gs) t → rest ≡ outer log → n ≡ length gs →
+    levels_in p mem r hs rest u.things ≡ answer_innermost g.point d.0 d.1 (levels_in p mem r gs rest u.things) →
+    came (drop_innermost v w (level_in p (length gs) ram t g (innermost log) (undo_all (innermost log) w.things)) (levels_in p ram t gs (outer log) (undo_all (innermost log) w.things)) cause)
+    ≡ (Micro.Dropped n g.owner g.point cause, record { now = u; levels = levels_in p mem r hs rest u.things })
+dropped v w u p n ram mem t r g gs hs log rest cause d state default memory locks left count levels =
+    let kept = undo_all (innermost log) w.things in
+    let ls = levels_in p ram t gs (outer log) kept in
+    let outside : levels_in p mem r gs rest u.things ≡ ls =
+        ap (λ m. levels_in p m r gs rest u.things) memory ∙ ap (λ x. levels_in p ram x gs rest u.things) locks
+        ∙ ap (λ x. levels_in p ram (release_from p (length gs) t) gs x u.things) left
+        ∙ ap (λ (x : Objects). levels_in p ram (release_from p (length gs) t) gs (outer log) x.things) state
+        ∙ levels_released p ram t gs (outer log) kept in
+    pair _ _ _ _ (ap (λ k. Micro.Dropped k g.owner g.point cause) (level_count p ram t gs (outer log) kept ∙ sym count))
+    (configs _ _ _ _ (sym state)
+    (ap (λ (e : ℕ × ℕ). answer_innermost g.point e.0 e.1 ls) (sym default) ∙ ap (answer_innermost g.point d.0 d.1) (sym outside) ∙ sym levels))
+
+-- a graft is taken out once records were undone
+pub removed_after : (q pt : ℕ) (is : List Inverse) (w one : Objects) (a : Accounts) → one ≡ undo_on is w → a ≡ removed q pt one.accounts →
+    with_accounts a one ≡ with_accounts (removed q pt w.accounts) (undo_on is w)
+removed_after q pt is w one a undone is_removed = ap (λ x. with_accounts x one) is_removed ∙ ap (λ (x : Objects). with_accounts (removed q pt x.accounts) x) undone

@@ -1,0 +1,7 @@
+mod Answering
+mod Listed
+mod Undoing
+mod Conditions
+mod Views
+mod Placing
+mod Dropping

@@ -1,0 +1,87 @@
+-- Levels stay in place, and what isn't theirs stays as it was.
+use Rattle.std.proofs.Common.{◌≡◌, ◌≢◌, ℕ, suc, ◌<◌, ◌≤◌, List, [], ◌∷◌, length, arith, refl, sym, ◌∙◌, ap, subst, slice_index}
+use Rattle.kernel_model.specs.declared.Inverse.{Inverse}
+use Rattle.kernel_model.specs.declared.Object.{Object}
+use Rattle.kernel_model.specs.Locks.{LockTable, release_from}
+use Rattle.kernel_model.specs.Policies.{lives}
+use Rattle.lock_table.specs.declared.Holds.{Holds}
+use Rattle.lock_table.specs.Masks.{held}
+use Rattle.graft_accounts.specs.Table.{Table}
+use Rattle.kernel_state.specs.declared.Store.{Store}
+use Rattle.kernel_state.specs.Stores.{Seeing, world_of_store, objects_of, queue_of, IsStore}
+use Rattle.kernel_state.specs.Accesses.{CanBeUndone}
+use Rattle.graft_calls.specs.declared.GraftLevel.{GraftLevel}
+use Rattle.graft_calls.specs.Chains.{outer}
+use Rattle.graft_calls.specs.Calls.{AreSound, AllUndoable, IsPlaced, IsElsewhereSame, IsBeyond}
+use Rattle.graft_calls.proofs.Undoing.{all_kept, of_outer, outer_length}
+use Rattle.graft_calls.proofs.Conditions.{still_sound}
+use Rattle.graft_calls.proofs.Views.{released_free, released_others}
+
+-- a level was undone, and let go
+pub ended_placed : {X : Type 0} {F : X → Type 0} (view : Seeing X F) (s u : Store X F) (t r : List (List Holds)) (p n : ℕ) (gs : List GraftLevel) (log rest : List (List Inverse)) →
+    p < 16 → length gs < 4 → length log ≡ suc (length gs) → AreSound (queue_of s) gs → AllUndoable log (objects_of view s).things →
+    IsStore view u → ((q : ℕ) → lives (queue_of u) q ≡ lives (queue_of s) q) →
+    ((i : Inverse) → CanBeUndone i (objects_of view s).things → CanBeUndone i (objects_of view u).things) → rest ≡ outer log →
+    held r ≡ release_from p n (held t) → n ≡ length gs → IsPlaced view u r p gs rest
+ended_placed view s u t r p n gs log rest process few as_many sound undoable store living kept is held_is count =
+    record {
+      store = store;
+      process = process;
+      few = omega (arith, few);
+      as_many = ap length is ∙ outer_length log (length gs) as_many;
+      unheld = λ d o le. released_free p n d o (held t) (held r) held_is (omega (arith, le, count));
+      levels = still_sound (queue_of s) (queue_of u) gs living sound;
+      undoable = subst (λ x. AllUndoable x (objects_of view u).things) (sym is) (of_outer log _ (all_kept log (objects_of view s).things _ kept undoable));
+    }
+
+-- other accounts
+pub accounts_placed : {X : Type 0} {F : X → Type 0} (view : Seeing X F) (s : Store X F) (t : List (List Holds)) (p : ℕ) (gs : List GraftLevel) (log : List (List Inverse)) (a : Table) →
+    IsPlaced view s t p gs log → IsPlaced view (record s { accounts = a }) t p gs log
+accounts_placed view s t p gs log a h =
+    record {
+      store = record { fits = h.store.fits; shelf = h.store.shelf };
+      process = h.process;
+      few = h.few;
+      as_many = h.as_many;
+      unheld = h.unheld;
+      levels = h.levels;
+      undoable = h.undoable;
+    }
+
+-- other levels, as many
+pub levels_placed : {X : Type 0} {F : X → Type 0} (view : Seeing X F) (s : Store X F) (t : List (List Holds)) (p : ℕ) (gs hs : List GraftLevel) (log : List (List Inverse)) →
+    IsPlaced view s t p gs log → length hs ≡ length gs → AreSound (queue_of s) hs → IsPlaced view s t p hs log
+levels_placed view s t p gs hs log h count sound =
+    record {
+      store = h.store;
+      process = h.process;
+      few = omega (arith, h.few, count);
+      as_many = h.as_many ∙ sym count;
+      unheld = λ d o le. h.unheld d o (omega (arith, le, count));
+      levels = sound;
+      undoable = h.undoable;
+    }
+
+-- ---- what stays
+
+pub ended_elsewhere : {X : Type 0} {F : X → Type 0} (s u : Store X F) (t r : List (List Holds)) (p n : ℕ) → world_of_store u ≡ world_of_store s → ((q : ℕ) → lives (queue_of u) q ≡ lives (queue_of s) q) →
+    u.ram ≡ s.ram → held r ≡ release_from p n (held t) → IsElsewhereSame s u t r p
+ended_elsewhere s u t r p n world living memory held_is =
+    record {
+      world = world;
+      living = living;
+      others = λ q d apart. released_others p n q d (held t) (held r) held_is apart;
+      memory = λ a beyond. ap (λ m. slice_index m a) memory;
+    }
+
+pub accounts_elsewhere : {X : Type 0} {F : X → Type 0} (s u : Store X F) (t r : List (List Holds)) (p : ℕ) (a : Table) → IsElsewhereSame s u t r p → IsElsewhereSame s (record u { accounts = a }) t r p
+accounts_elsewhere s u t r p a h = record { world = h.world; living = h.living; others = h.others; memory = h.memory }
+
+pub elsewhere_twice : {X : Type 0} {F : X → Type 0} (s u v : Store X F) (t r l : List (List Holds)) (p : ℕ) → IsElsewhereSame s u t r p → IsElsewhereSame u v r l p → IsElsewhereSame s v t l p
+elsewhere_twice s u v t r l p h k =
+    record {
+      world = k.world ∙ h.world;
+      living = λ q. k.living q ∙ h.living q;
+      others = λ q d apart. k.others q d apart ∙ h.others q d apart;
+      memory = λ a beyond. k.memory a beyond ∙ h.memory a beyond;
+    }

@@ -1,0 +1,51 @@
+use Rattle.std.proofs.Common.{◌≡◌, ap, subst, sym, ◌∙◌, length}
+use Rattle.kernel_model.specs.Policies.{default_of}
+use Rattle.kernel_model.specs.Levels.{answer_innermost}
+use Rattle.graft_calls.specs.Chains.{levels_in}
+use Rattle.kernel_model.specs.Objects.{Objects, with_accounts}
+use Rattle.kernel_model.specs.Charges.{removed}
+use Rattle.kernel_model.specs.UndoLog.{undo_on}
+use Rattle.lock_table.specs.Masks.{held}
+use Rattle.undo_calls.specs.UndoLevels.{innermost}
+use Rattle.graft_accounts.specs.Table.{accounts_of}
+use Rattle.kernel_state.specs.Stores.{world_of_store, objects_of}
+use Rattle.graft_calls.specs.Calls.{AreInside}
+use Rattle.graft_calls.proofs.Conditions.{inside_removed}
+use Rattle.graft_calls.proofs.Placing.{accounts_placed, levels_placed}
+use Rattle.graft_calls.proofs.Dropping.{dropped, removed_after}
+use Rattle.graft_calls.proofs.drops.drop_innermost.Goals as goal
+
+pub returns-clause-step : goal.returns-clause-step
+returns-clause-step g c =
+    let w = objects_of (λ b. (goal.Policy-dyn g (b.vtable, b.value)).seen b.value) c.args.store.now in
+    let one = objects_of (λ b. (goal.Policy-dyn g (b.vtable, b.value)).seen b.value) c.end_level.new.store in
+    let u = objects_of (λ b. (goal.Policy-dyn g (b.vtable, b.value)).seen b.value) (record (c.end_level.new.store) { accounts = c.remove.new.self }) in
+    let v = world_of_store c.args.store.now in
+    let g1 = c.args.level in
+    let state : u ≡ with_accounts (removed g1.owner g1.point w.accounts) (undo_on (innermost c.args.chain.now.undo) w) =
+        removed_after g1.owner g1.point (innermost c.args.chain.now.undo) w one (accounts_of c.remove.new.self) c.end_level.ensures.objects c.remove.ensures.value in
+    dropped v w u c.args.p c.count.result c.args.store.now.ram c.end_level.new.store.ram (held c.args.locks.now) (held c.end_level.new.locks) g1
+    c.args.chain.now.levels c.give_answer.new.levels c.args.chain.now.undo c.end_level.new.chain.undo c.args.cause c.default_of-r0.result
+    state
+    (c.default_of-r0.ensures ∙ ap (λ x. default_of x one.things g1.owner g1.point) c.end_level.ensures.elsewhere.world ∙ ap (λ (x : Objects). default_of v x.things g1.owner g1.point) c.end_level.ensures.objects)
+    c.end_level.ensures.memory c.end_level.ensures.locks c.end_level.ensures.log
+    (c.count.ensures.value ∙ c.give_answer.ensures.count ∙ ap length c.end_level.ensures.levels)
+    (c.give_answer.ensures.levels c.args.p c.end_level.new.store.ram (held c.end_level.new.locks) c.end_level.new.chain.undo u.things
+    ∙ ap (λ gs. answer_innermost g1.point c.default_of-r0.result.0 c.default_of-r0.result.1 (levels_in c.args.p c.end_level.new.store.ram (held c.end_level.new.locks) gs c.end_level.new.chain.undo u.things)) c.end_level.ensures.levels)
+
+pub returns-clause-placed : goal.returns-clause-placed
+returns-clause-placed g c =
+    levels_placed (λ b. (goal.Policy-dyn g (b.vtable, b.value)).seen b.value) _ _ _ _ _ _
+    (accounts_placed (λ b. (goal.Policy-dyn g (b.vtable, b.value)).seen b.value) c.end_level.new.store _ _ _ _ c.remove.new.self c.end_level.ensures.placed)
+    c.give_answer.ensures.count (c.give_answer.ensures.sound _ c.end_level.ensures.placed.levels)
+
+pub returns-clause-inside : goal.returns-clause-inside
+returns-clause-inside g c = λ images h.
+    let a = accounts_of c.end_level.new.store.accounts in
+    let gs = c.args.chain.now.levels in
+    let same : a ≡ accounts_of c.args.store.now.accounts = ap (λ (x : Objects). x.accounts) c.end_level.ensures.objects in
+    c.give_answer.ensures.inside images (accounts_of c.remove.new.self) c.args.p
+    (subst (λ hs. AreInside images (accounts_of c.remove.new.self) c.args.p hs) (sym c.end_level.ensures.levels)
+    (subst (λ b. AreInside images b c.args.p gs) (sym c.remove.ensures.value)
+    (inside_removed images c.args.level.owner c.args.level.point c.args.p a gs c.requires.placed.levels.1
+    (subst (λ b. AreInside images b c.args.p gs) (sym same) h.1))))

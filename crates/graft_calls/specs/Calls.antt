@@ -1,0 +1,83 @@
+-- What must hold of a graft call in place for its next instruction, and what an instruction leaves as it was.
+use Rattle.std.specs.Prelude.{◌≡◌, ◌≢◌, ℕ, suc, ◌+◌, ◌*◌, ◌<◌, ◌≤◌, false, true, List, [], ◌∷◌, length, slice_index, ⊤, ◌⊎◌}
+use Rattle.kernel_model.specs.declared.Inverse.{Inverse}
+use Rattle.kernel_model.specs.declared.Object.{Object}
+use Rattle.kernel_model.specs.declared.Held.{Held}
+use Rattle.kernel_model.specs.World.{ImageTable}
+use Rattle.kernel_model.specs.declared.QueueRow.{QueueRow}
+use Rattle.kernel_model.specs.Objects.{Accounts, Things}
+use Rattle.kernel_model.specs.Policies.{lives}
+use Rattle.kernel_model.specs.Levels.{base_of, code_of, limit_in}
+use Rattle.kernel_model.specs.Boxed.{IsInside}
+use Rattle.lock_table.specs.declared.Holds.{Holds}
+use Rattle.lock_table.specs.Masks.{held}
+use Rattle.graft_machine.specs.Cpu.{machine_of}
+use Rattle.kernel_state.specs.declared.Store.{Store}
+use Rattle.kernel_state.specs.Stores.{Seeing, world_of_store, objects_of, queue_of, IsStore}
+use Rattle.kernel_state.specs.Accesses.{CanBeUndone}
+use Rattle.graft_calls.specs.declared.GraftLevel.{GraftLevel}
+use Rattle.graft_calls.specs.Chains.{is_running_in}
+
+-- ---- what must hold
+
+-- a level: its owner lives
+pub record IsSoundLevel (queue : List QueueRow) (g : GraftLevel) : Type 0 where
+  pub owner : g.owner < 16
+  pub point : g.point < 16
+  pub lives : lives queue g.owner ≡ true
+
+-- levels, innermost first: each is sound, and no graft is two of them
+abbrev pub AreSound : List QueueRow → List GraftLevel → Type 0
+AreSound queue [] = ⊤
+AreSound queue (g ∷ gs) = IsSoundLevel queue g × (is_running_in gs g.owner g.point ≡ false) × AreSound queue gs
+
+-- Level d of process p runs: its count is within the limit of its graft, and its machine is inside its segment on the code of its
+-- graft, whatever memory has. So its graft stands, and the image of it is loaded.
+pub record RunsInside (images : ImageTable) (a : Accounts) (p d : ℕ) (g : GraftLevel) : Type 0 where
+  pub count : g.count ≤ limit_in (a.graft g.owner g.point)
+  pub inside : (ram : List ℕ) → IsInside (code_of images a g.owner g.point) (4 * p + d) (machine_of g.machine ram)
+
+-- levels of process p, innermost first, that run
+abbrev pub AreInside : ImageTable → Accounts → ℕ → List GraftLevel → Type 0
+AreInside images a p [] = ⊤
+AreInside images a p (g ∷ gs) = RunsInside images a p (length gs) g × AreInside images a p gs
+
+-- each of some records can be undone
+abbrev pub AreUndoable : List Inverse → Things → Type 0
+AreUndoable [] w = ⊤
+AreUndoable (i ∷ is) w = CanBeUndone i w × AreUndoable is w
+
+-- so can each record of a log
+abbrev pub AllUndoable : List (List Inverse) → Things → Type 0
+AllUndoable [] w = ⊤
+AllUndoable (is ∷ log) w = AreUndoable is w × AllUndoable log w
+
+-- Levels of process p with this undo log stand in place on a store: there are at most four, each with its records, the process
+-- holds nothing further inward, and all records can be undone.
+pub record IsPlaced {X : Type 0} {F : X → Type 0} (view : Seeing X F) (s : Store X F) (t : List (List Holds)) (p : ℕ) (gs : List GraftLevel) (log : List (List Inverse)) : Type 0 where
+  pub store : IsStore view s
+  pub process : p < 16
+  pub few : length gs ≤ 4
+  pub as_many : length log ≡ length gs
+  pub unheld : (d : ℕ) (o : Object) → length gs ≤ d → held t p d o ≡ Held.Free
+  pub levels : AreSound (queue_of s) gs
+  pub undoable : AllUndoable log (objects_of view s).things
+
+-- A graft call in place: nothing more is needed for its next instruction, nor for a drop, and both keep it.
+pub record IsInPlace {X : Type 0} {F : X → Type 0} (view : Seeing X F) (s : Store X F) (t : List (List Holds)) (images : ImageTable) (p : ℕ) (gs : List GraftLevel) (log : List (List Inverse)) : Type 0 where
+  pub placed : IsPlaced view s t p gs log
+  pub inside : AreInside images (objects_of view s).accounts p gs
+
+-- ---- what stays
+
+-- a place of memory is in none of the four segments of process p
+abbrev pub IsBeyond : (p a : ℕ) → Type 0
+IsBeyond p a = (a < base_of p 0) ⊎ (base_of p 4 ≤ a)
+
+-- Of all that the state of objects doesn't tell, another store and lock table have the same: the set-up, who lives, what other
+-- processes hold, and the bytes of memory outside the segments of process p.
+pub record IsElsewhereSame {X : Type 0} {F : X → Type 0} (s u : Store X F) (t r : List (List Holds)) (p : ℕ) : Type 0 where
+  pub world : world_of_store u ≡ world_of_store s
+  pub living : (q : ℕ) → lives (queue_of u) q ≡ lives (queue_of s) q
+  pub others : (q d : ℕ) → q ≢ p → held r q d ≡ held t q d
+  pub memory : (a : ℕ) → IsBeyond p a → slice_index u.ram a ≡ slice_index s.ram a

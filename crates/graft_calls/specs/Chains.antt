@@ -1,0 +1,76 @@
+-- Which graft call a chain of levels is in place: on a store, with the lock table and an undo log.
+use Rattle.std.specs.Prelude.{ℕ, ◌+◌, ◌*◌, Bool, ◌&&◌, ◌==◌, List, [], ◌∷◌, length}
+use Rattle.std.specs.List.{list_any}
+use Rattle.kernel_model.specs.declared.Inverse.{Inverse}
+use Rattle.kernel_model.specs.declared.Micro.{Micro}
+use Rattle.kernel_model.specs.Objects.{Things}
+use Rattle.kernel_model.specs.Locks.{LockTable}
+use Rattle.kernel_model.specs.Levels.{Level, Config, Outcome, base_of}
+use Rattle.kernel_model.specs.UndoLog.{undo_all}
+use Rattle.kernel_model.specs.Runs.{on_segment}
+use Rattle.lock_table.specs.declared.Holds.{Holds}
+use Rattle.lock_table.specs.Masks.{held}
+use Rattle.undo_calls.specs.UndoLevels.{innermost}
+use Rattle.graft_machine.specs.Cpu.{machine_of}
+use Rattle.kernel_state.specs.declared.Store.{Store}
+use Rattle.kernel_state.specs.Stores.{Seeing, objects_of}
+use Rattle.graft_calls.specs.declared.GraftLevel.{GraftLevel}
+use Rattle.graft_calls.specs.declared.Chain.{Chain}
+
+-- ---- levels
+
+-- the log without the records of the innermost level
+abbrev pub outer : List (List Inverse) → List (List Inverse)
+outer [] = []
+outer (is ∷ log) = log
+
+-- level d of process p, whose segment is in this memory and which holds what the table says; it has these records, and found
+-- these things when it began
+abbrev pub level_in : (p d : ℕ) → List ℕ → LockTable → GraftLevel → List Inverse → Things → Level
+level_in p d ram t g is kept =
+    record {
+      owner = g.owner;
+      point = g.point;
+      machine = on_segment (base_of p d) (machine_of g.machine ram);
+      count = g.count;
+      touched = t p d;
+      args = g.args;
+      records = is;
+      kept = kept;
+    }
+
+-- The levels of process p, innermost first, where these are the things now: what a level found is what undoing its records
+-- and those further inward gives.
+abbrev pub levels_in : ℕ → List ℕ → LockTable → List GraftLevel → List (List Inverse) → Things → List Level
+levels_in p ram t [] log w = []
+levels_in p ram t (g ∷ gs) log w =
+    level_in p (length gs) ram t g (innermost log) (undo_all (innermost log) w) ∷ levels_in p ram t gs (outer log) (undo_all (innermost log) w)
+
+-- the graft at (q, pt) is a level
+abbrev pub is_running_in : List GraftLevel → (q pt : ℕ) → Bool
+is_running_in gs q pt = list_any (λ (g : GraftLevel). g.owner == q && g.point == pt) gs
+
+-- ---- on a store
+
+-- the levels of a chain of process p
+abbrev pub levels_of : {X : Type 0} {F : X → Type 0} → Seeing X F → Store X F → List (List Holds) → Chain → ℕ → List Level
+levels_of view s t c p = levels_in p s.ram (held t) c.levels c.undo (objects_of view s).things
+
+-- the graft call of a chain of process p
+abbrev pub call_of : {X : Type 0} {F : X → Type 0} → Seeing X F → Store X F → List (List Holds) → Chain → ℕ → Config
+call_of view s t c p = record { now = objects_of view s; levels = levels_of view s t c p }
+
+-- a level that was taken from the inner end of a chain, whose records are still in the log
+abbrev pub level_of : {X : Type 0} {F : X → Type 0} → Seeing X F → Store X F → List (List Holds) → Chain → ℕ → GraftLevel → Level
+level_of view s t c p g =
+    level_in p (length c.levels) s.ram (held t) g (innermost c.undo) (undo_all (innermost c.undo) (objects_of view s).things)
+
+-- the levels outside it
+abbrev pub outer_of : {X : Type 0} {F : X → Type 0} → Seeing X F → Store X F → List (List Holds) → Chain → ℕ → List Level
+outer_of view s t c p = levels_in p s.ram (held t) c.levels (outer c.undo) (undo_all (innermost c.undo) (objects_of view s).things)
+
+-- ---- outcomes
+
+-- what an outcome says, and the graft call after it; its effects aren't kept
+abbrev pub came : Outcome → Micro × Config
+came o = (o.said, o.config)

@@ -1,0 +1,134 @@
+//! The drop of a level.
+
+ghost use Rattle.std.specs.Prelude.{◌≡◌, ℕ, suc, ◌<◌, ◌≤◌, [], ◌∷◌, true, length};
+ghost use Rattle.kernel_model.specs.declared.Inverse.{Inverse as Undoing};
+ghost use Rattle.kernel_model.specs.Levels.{drop_innermost as innermost_dropped, drop_level as level_dropped};
+ghost use Rattle.kernel_model.specs.Locks.{release_from};
+ghost use Rattle.kernel_model.specs.Policies.{lives};
+ghost use Rattle.kernel_model.specs.UndoLog.{undo_on};
+ghost use Rattle.kernel_model.specs.World.{ImageTable};
+ghost use Rattle.kernel_state.specs.Accesses.{CanBeUndone};
+ghost use Rattle.kernel_state.specs.Stores.{world_of_store, objects_of, queue_of, IsStore};
+ghost use Rattle.lock_table.specs.Masks.{held};
+ghost use Rattle.undo_calls.specs.UndoLevels.{innermost};
+ghost use Rattle.graft_calls.specs.Chains.{came, call_of, level_of, outer_of, levels_of, outer};
+ghost use Rattle.graft_calls.specs.Calls.{AreSound, AreInside, AreUndoable, AllUndoable, IsPlaced, IsElsewhereSame};
+
+use crate::answers::give_answer;
+use crate::points::default_of;
+use crate::{Chain, GraftLevel};
+use kernel_model::{Cause, Micro};
+use kernel_state::Store;
+use lock_table::LockTable;
+use undo_calls::UndoStack;
+
+/// Undoes the records of the innermost level, newest first, and takes them out of the log.
+pub(crate) fn undo_records(undo: &mut UndoStack, store: &mut Store)
+    requires level { 0 < length undo.old }
+    requires sound { IsStore (λ b. seen (b.vtable, b.value)) store.old }
+    requires undoable { AreUndoable (innermost undo.old) (objects_of (λ b. seen (b.vtable, b.value)) store.old).things }
+    ensures none { innermost undo.new ≡ [] }
+    ensures outer { outer undo.new ≡ outer undo.old }
+    ensures level { 0 < length undo.new }
+    ensures objects { objects_of (λ b. seen (b.vtable, b.value)) store.new ≡ undo_on (innermost undo.old) (objects_of (λ b. seen (b.vtable, b.value)) store.old) }
+    ensures memory { store.new.ram ≡ store.old.ram }
+    ensures world { world_of_store store.new ≡ world_of_store store.old }
+    ensures living { (q : ℕ) → lives (queue_of store.new) q ≡ lives (queue_of store.old) q }
+    ensures sound { IsStore (λ b. seen (b.vtable, b.value)) store.new }
+    ensures kept { (i : Undoing) → CanBeUndone i (objects_of (λ b. seen (b.vtable, b.value)) store.old).things → CanBeUndone i (objects_of (λ b. seen (b.vtable, b.value)) store.new).things }
+{
+    if let Some(inverse) = undo.pop() {
+        store.undo(inverse);
+        undo_records(undo, store);
+    }
+}
+
+/// The innermost level of the log ends: its records are undone, newest first.
+pub(crate) fn undo_level(undo: &mut UndoStack, store: &mut Store)
+    requires level { 0 < length undo.old }
+    requires sound { IsStore (λ b. seen (b.vtable, b.value)) store.old }
+    requires undoable { AreUndoable (innermost undo.old) (objects_of (λ b. seen (b.vtable, b.value)) store.old).things }
+    ensures log { undo.new ≡ outer undo.old }
+    ensures objects { objects_of (λ b. seen (b.vtable, b.value)) store.new ≡ undo_on (innermost undo.old) (objects_of (λ b. seen (b.vtable, b.value)) store.old) }
+    ensures memory { store.new.ram ≡ store.old.ram }
+    ensures world { world_of_store store.new ≡ world_of_store store.old }
+    ensures living { (q : ℕ) → lives (queue_of store.new) q ≡ lives (queue_of store.old) q }
+    ensures sound { IsStore (λ b. seen (b.vtable, b.value)) store.new }
+    ensures kept { (i : Undoing) → CanBeUndone i (objects_of (λ b. seen (b.vtable, b.value)) store.old).things → CanBeUndone i (objects_of (λ b. seen (b.vtable, b.value)) store.new).things }
+{
+    undo_records(undo, store);
+    undo.end_level();
+}
+
+/// A level that was taken out of a chain ends: its records are undone, newest first, and it lets go of what it holds.
+pub(crate) fn end_level(chain: &mut Chain, p: u8, store: &mut Store, locks: &mut LockTable)
+    requires store { IsStore (λ b. seen (b.vtable, b.value)) store.old }
+    requires process { p < 16 }
+    requires few { length chain.old.levels < 4 }
+    requires as_many { length chain.old.undo ≡ suc (length chain.old.levels) }
+    requires undoable { AllUndoable chain.old.undo (objects_of (λ b. seen (b.vtable, b.value)) store.old).things }
+    requires sound { AreSound (queue_of store.old) chain.old.levels }
+    ensures levels { chain.new.levels ≡ chain.old.levels }
+    ensures log { chain.new.undo ≡ outer chain.old.undo }
+    ensures objects { objects_of (λ b. seen (b.vtable, b.value)) store.new ≡ undo_on (innermost chain.old.undo) (objects_of (λ b. seen (b.vtable, b.value)) store.old) }
+    ensures locks { held locks.new ≡ release_from p (length chain.old.levels) (held locks.old) }
+    ensures memory { store.new.ram ≡ store.old.ram }
+    ensures placed { IsPlaced (λ b. seen (b.vtable, b.value)) store.new locks.new p chain.new.levels chain.new.undo }
+    ensures elsewhere { IsElsewhereSame store.old store.new locks.old locks.new p }
+{
+    undo_level(&mut chain.undo, store);
+    locks.release_from(p, chain.levels.count());
+}
+
+/// A level that was taken out of a chain is dropped, and those that were further inward are gone: its records are undone, it lets
+/// go of what it holds, its graft is taken out, and the level that asked gets the default answer.
+pub(crate) fn drop_innermost(
+    level: GraftLevel,
+    chain: &mut Chain,
+    p: u8,
+    store: &mut Store,
+    locks: &mut LockTable,
+    cause: Cause,
+) -> Micro
+    requires placed { IsPlaced (λ b. seen (b.vtable, b.value)) store.old locks.old p (level ∷ chain.old.levels) chain.old.undo }
+    ensures step { came (innermost_dropped (world_of_store store.old) (objects_of (λ b. seen (b.vtable, b.value)) store.old) (level_of (λ b. seen (b.vtable, b.value)) store.old locks.old chain.old p level) (outer_of (λ b. seen (b.vtable, b.value)) store.old locks.old chain.old p) cause)
+        ≡ (result, call_of (λ b. seen (b.vtable, b.value)) store.new locks.new chain.new p) }
+    ensures placed { IsPlaced (λ b. seen (b.vtable, b.value)) store.new locks.new p chain.new.levels chain.new.undo }
+    ensures inside { (images : ImageTable) → AreInside images (objects_of (λ b. seen (b.vtable, b.value)) store.old).accounts p (level ∷ chain.old.levels) → AreInside images (objects_of (λ b. seen (b.vtable, b.value)) store.new).accounts p chain.new.levels }
+    ensures elsewhere { IsElsewhereSame store.old store.new locks.old locks.new p }
+{
+    end_level(chain, p, store, locks);
+    store.accounts.remove(level.owner, level.point);
+    let (r0, r1) = default_of(store, level.owner, level.point);
+    give_answer(&mut chain.levels, level.point, r0, r1);
+    Micro::Dropped(chain.levels.count(), level.owner, level.point, cause)
+}
+
+impl Chain {
+    /// The drop of level d, counted from the outermost, by this cause: those further inward end with it.
+    pub fn drop_level(
+        &mut self,
+        p: u8,
+        store: &mut Store,
+        locks: &mut LockTable,
+        d: u8,
+        cause: Cause,
+    ) -> Micro
+        requires placed { IsPlaced (λ b. seen (b.vtable, b.value)) store.old locks.old p self.old.levels self.old.undo }
+        requires level { d < length self.old.levels }
+        ensures step { came (level_dropped (world_of_store store.old) (objects_of (λ b. seen (b.vtable, b.value)) store.old) (levels_of (λ b. seen (b.vtable, b.value)) store.old locks.old self.old p) d cause)
+            ≡ (result, call_of (λ b. seen (b.vtable, b.value)) store.new locks.new self.new p) }
+        ensures placed { IsPlaced (λ b. seen (b.vtable, b.value)) store.new locks.new p self.new.levels self.new.undo }
+        ensures inside { (images : ImageTable) → AreInside images (objects_of (λ b. seen (b.vtable, b.value)) store.old).accounts p self.old.levels → AreInside images (objects_of (λ b. seen (b.vtable, b.value)) store.new).accounts p self.new.levels }
+        ensures elsewhere { IsElsewhereSame store.old store.new locks.old locks.new p }
+    {
+        let Some(level) = self.levels.pop() else {
+            unreachable!()
+        };
+        if self.levels.count() == d {
+            return drop_innermost(level, self, p, store, locks, cause);
+        }
+        end_level(self, p, store, locks);
+        self.drop_level(p, store, locks, d, cause)
+    }
+}

@@ -1,0 +1,42 @@
+//! One graft call in place: how it begins, each instruction of it, and the drop of a level.
+//!
+//! A call changes the one store as it goes. Its undo log leads back, and the lock table has what its levels hold. Contracts see
+//! the graft call of the definitions that a chain of levels is on a store (`call_of`).
+#![tactic(auto)]
+
+mod answers;
+mod charges;
+mod drops;
+mod images;
+mod levels;
+mod points;
+
+pub use images::Images;
+pub use levels::Levels;
+
+use graft_machine::Machine;
+use undo_calls::UndoStack;
+
+/// A level of a graft call: one run of the graft that `owner` installed at `point`.
+#[derive(Drop)]
+pub struct GraftLevel {
+    /// The installer of its graft.
+    pub owner: u8,
+    /// The point of its graft.
+    pub point: u8,
+    /// How many instructions it has taken, at most the limit of its graft.
+    pub count: u32,
+    /// The arguments that it was given.
+    pub args: [u32; 4],
+    /// Its registers, and its place in the code. Level d of process p has segment 4 * p + d of memory.
+    pub machine: Machine,
+}
+
+/// The graft call of a process, as far as it isn't in the store, the memory or the lock table.
+#[derive(Drop)]
+pub struct Chain {
+    /// Its levels.
+    pub levels: Levels,
+    /// What its changing accessors found, by level.
+    pub undo: UndoStack,
+}
