@@ -1,5 +1,6 @@
 -- What is said of a drop, and the graft call after it.
-use Rattle.std.proofs.Common.{◌≡◌, ℕ, List, [], ◌∷◌, length, refl, sym, ◌∙◌, ap}
+use Rattle.std.proofs.Common.{◌≡◌, ◌≢◌, ℕ, ◌<◌, ◌==◌, Bool, true, false, List, [], ◌∷◌, length, arith, refl, sym, ◌∙◌, ap}
+use Rattle.std.proofs.lemmas.Bool.Decides.{nat_tests}
 use Rattle.kernel_model.specs.declared.Inverse.{Inverse}
 use Rattle.kernel_model.specs.declared.Cause.{Cause}
 use Rattle.kernel_model.specs.declared.Micro.{Micro}
@@ -8,7 +9,7 @@ use Rattle.kernel_model.specs.World.{World}
 use Rattle.kernel_model.specs.Charges.{removed}
 use Rattle.kernel_model.specs.Policies.{default_of}
 use Rattle.kernel_model.specs.Locks.{LockTable, release_from}
-use Rattle.kernel_model.specs.Levels.{Level, Config, answer_innermost, drop_innermost}
+use Rattle.kernel_model.specs.Levels.{Level, Config, answer_innermost, drop_innermost, drop_level, Outcome}
 use Rattle.kernel_model.specs.UndoLog.{undo_all, undo_on}
 use Rattle.undo_calls.specs.UndoLevels.{innermost}
 use Rattle.graft_calls.specs.declared.GraftLevel.{GraftLevel}
@@ -47,3 +48,51 @@ dropped v w u p n ram mem t r g gs hs log rest cause d state default memory lock
 pub removed_after : (q pt : ℕ) (is : List Inverse) (w one : Objects) (a : Accounts) → one ≡ undo_on is w → a ≡ removed q pt one.accounts →
     with_accounts a one ≡ with_accounts (removed q pt w.accounts) (undo_on is w)
 removed_after q pt is w one a undone is_removed = ap (λ x. with_accounts x one) is_removed ∙ ap (λ (x : Objects). with_accounts (removed q pt x.accounts) x) undone
+
+-- the drop of a level goes by accounts and levels alone
+chosen : (b : Bool) (v : World) (w u : Objects) (l : Level) (ls : List Level) (d : ℕ) (cause : Cause) → w.accounts ≡ u.accounts →
+    (b ≡ false → drop_level v w ls d cause ≡ drop_level v u ls d cause) →
+    elim b as (λ _. Outcome) [ true ↦ drop_innermost v w l ls cause | false ↦ drop_level v w ls d cause ]
+    ≡ elim b as (λ _. Outcome) [ true ↦ drop_innermost v u l ls cause | false ↦ drop_level v u ls d cause ]
+chosen true v w u l ls d cause same rest = ap (λ a. drop_innermost v (record { accounts = a; things = w.things }) l ls cause) same
+chosen false v w u l ls d cause same rest = rest refl
+
+same_drop : (v : World) (w u : Objects) (ls : List Level) (d : ℕ) (cause : Cause) → w.accounts ≡ u.accounts → d < length ls → drop_level v w ls d cause ≡ drop_level v u ls d cause
+same_drop v w u [] d cause same lt = absurd (omega arith)
+same_drop v w u (l ∷ ls) d cause same lt =
+    chosen (length ls == d) v w u l ls d cause same (λ no. same_drop v w u ls d cause same (grind (arith, nat_tests, lt, no)))
+
+-- a level inside the one that is dropped ends: the drop goes on with those that are left
+pub dropped_further : (v next : World) (w one : Objects) (p d n : ℕ) (ram mem : List ℕ) (t r : LockTable) (g : GraftLevel) (gs hs : List GraftLevel) (log rest : List (List Inverse)) (cause : Cause) →
+    next ≡ v → hs ≡ g ∷ gs → n ≡ length gs → n ≢ d → d < length hs → one ≡ undo_on (innermost log) w → mem ≡ ram → r ≡ release_from p n t → rest ≡ outer log →
+    drop_level v w (levels_in p ram t hs log w.things) d cause ≡ drop_level next one (levels_in p mem r gs rest one.things) d cause
+dropped_further v next w one p d n ram mem t r g gs hs log rest cause world all count other within state memory locks left =
+    let kept = undo_all (innermost log) w.things in
+    let ls = levels_in p ram t gs (outer log) kept in
+    let many : length ls ≡ length gs = level_count p ram t gs (outer log) kept in
+    let no : (length ls == d) ≡ false = grind (arith, nat_tests, many, count, other) in
+    let inner : d < length ls = let e = ap length all in grind (arith, many, count, other, within, e) in
+    let l = level_in p (length gs) ram t g (innermost log) kept in
+    let outside : levels_in p mem r gs rest one.things ≡ ls =
+        ap (λ m. levels_in p m r gs rest one.things) memory ∙ ap (λ x. levels_in p ram x gs rest one.things) (locks ∙ ap (λ k. release_from p k t) count)
+        ∙ ap (λ x. levels_in p ram (release_from p (length gs) t) gs x one.things) left
+        ∙ ap (λ (x : Objects). levels_in p ram (release_from p (length gs) t) gs (outer log) x.things) state
+        ∙ levels_released p ram t gs (outer log) kept in
+    ap (λ x. drop_level v w (levels_in p ram t x log w.things) d cause) all
+    ∙ ap (λ b. elim b as (λ _. Outcome) [ true ↦ drop_innermost v w l ls cause | false ↦ drop_level v w ls d cause ]) no
+    ∙ same_drop v w one ls d cause (ap (λ (x : Objects). x.accounts) (sym state)) inner
+    ∙ ap (λ ks. drop_level v one ks d cause) (sym outside) ∙ ap (λ x. drop_level x one (levels_in p mem r gs rest one.things) d cause) (sym world)
+
+-- it is the innermost one that is dropped
+pub dropped_here : (v : World) (w : Objects) (p d n : ℕ) (ram : List ℕ) (t : LockTable) (g : GraftLevel) (gs hs : List GraftLevel) (log : List (List Inverse)) (cause : Cause) →
+    hs ≡ g ∷ gs → n ≡ length gs → n ≡ d →
+    drop_level v w (levels_in p ram t hs log w.things) d cause
+    ≡ drop_innermost v w (level_in p (length gs) ram t g (innermost log) (undo_all (innermost log) w.things)) (levels_in p ram t gs (outer log) (undo_all (innermost log) w.things)) cause
+dropped_here v w p d n ram t g gs hs log cause all count this =
+    let kept = undo_all (innermost log) w.things in
+    let ls = levels_in p ram t gs (outer log) kept in
+    let many : length ls ≡ length gs = level_count p ram t gs (outer log) kept in
+    let yes : (length ls == d) ≡ true = grind (arith, nat_tests, many, count, this) in
+    let l = level_in p (length gs) ram t g (innermost log) kept in
+    ap (λ x. drop_level v w (levels_in p ram t x log w.things) d cause) all
+    ∙ ap (λ b. elim b as (λ _. Outcome) [ true ↦ drop_innermost v w l ls cause | false ↦ drop_level v w ls d cause ]) yes

@@ -4,6 +4,7 @@
 //! the graft call of the definitions that a chain of levels is on a store (`call_of`).
 #![tactic(auto)]
 
+mod accessors;
 mod answers;
 mod charges;
 mod drops;
