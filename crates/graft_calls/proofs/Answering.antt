@@ -64,3 +64,9 @@ pub answered_inside : (g : GraftLevel) (cpu : Cpu) (rest before after : List Gra
 answered_inside g cpu rest before after was is inside images a p h =
     let both = subst (AreInside images a p) was h in
     subst (AreInside images a p) (sym is) (record { count = both.0.count; inside = λ ram. inside _ _ ram (both.0.inside ram) }, both.1)
+
+-- the same where a level was just put in
+pub put_inside : (g : GraftLevel) (cpu : Cpu) (rest after : List GraftLevel) → after ≡ record g { machine = cpu } ∷ rest →
+    ((code : List Instr) (slot : ℕ) (ram : List ℕ) → IsInside code slot (machine_of g.machine ram) → IsInside code slot (machine_of cpu ram)) →
+    (images : ImageTable) (a : Accounts) (p : ℕ) → AreInside images a p (g ∷ rest) → AreInside images a p after
+put_inside g cpu rest after is inside images a p h = answered_inside g cpu rest (g ∷ rest) after refl is inside images a p h

@@ -80,3 +80,8 @@ inside_removed images q pt p a (g ∷ gs) apart h =
     let graft = other_graft q pt g.owner g.point a (a.graft q pt) first in
     (level_same images a (removed q pt a) p (length gs) g (record { image = ap (image_of images) graft; limit = ap limit_in graft }) h.0,
      inside_removed images q pt p a gs rest h.1)
+
+-- the same where something was charged, or not
+pub inside_if : (b : Bool) (images : ImageTable) (k : Kind) (q pt p : ℕ) (a c : Accounts) (gs : List GraftLevel) → c ≡ cond b (charge k q pt a) a → AreInside images a p gs → AreInside images c p gs
+inside_if true images k q pt p a c gs is h = subst (λ x. AreInside images x p gs) (sym is) (inside_charged images k q pt p a gs h)
+inside_if false images k q pt p a c gs is h = subst (λ x. AreInside images x p gs) (sym is) h

@@ -5,3 +5,7 @@ mod Conditions
 mod Views
 mod Placing
 mod Dropping
+mod Holding
+mod Recording
+mod Charging
+mod GoingOn

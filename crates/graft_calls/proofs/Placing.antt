@@ -1,8 +1,9 @@
 -- Levels stay in place, and what isn't theirs stays as it was.
-use Rattle.std.proofs.Common.{◌≡◌, ◌≢◌, ℕ, suc, ◌<◌, ◌≤◌, List, [], ◌∷◌, length, arith, refl, sym, ◌∙◌, ap, subst, slice_index}
+use Rattle.std.proofs.Common.{◌≡◌, ◌≢◌, ℕ, suc, ◌<◌, ◌≤◌, ◌==◌, ◌&&◌, false, List, [], ◌∷◌, length, arith, refl, sym, ◌∙◌, ap, subst, slice_index}
 use Rattle.kernel_model.specs.declared.Inverse.{Inverse}
 use Rattle.kernel_model.specs.declared.Object.{Object}
-use Rattle.kernel_model.specs.Locks.{LockTable, release_from}
+use Rattle.kernel_model.specs.declared.Mode.{Mode}
+use Rattle.kernel_model.specs.Locks.{LockTable, release_from, with_touch}
 use Rattle.kernel_model.specs.Policies.{lives}
 use Rattle.lock_table.specs.declared.Holds.{Holds}
 use Rattle.lock_table.specs.Masks.{held}
@@ -16,6 +17,8 @@ use Rattle.graft_calls.specs.Calls.{AreSound, AllUndoable, IsPlaced, IsElsewhere
 use Rattle.graft_calls.proofs.Undoing.{all_kept, of_outer, outer_length}
 use Rattle.graft_calls.proofs.Conditions.{still_sound}
 use Rattle.graft_calls.proofs.Views.{released_free, released_others}
+use Rattle.graft_calls.proofs.Holding.{touched_apart}
+use Rattle.std.proofs.lemmas.Bool.Decides.{nat_tests}
 
 -- a level was undone, and let go
 pub ended_placed : {X : Type 0} {F : X → Type 0} (view : Seeing X F) (s u : Store X F) (t r : List (List Holds)) (p n : ℕ) (gs : List GraftLevel) (log rest : List (List Inverse)) →
@@ -84,4 +87,30 @@ elsewhere_twice s u v t r l p h k =
       living = λ q. k.living q ∙ h.living q;
       others = λ q d apart. k.others q d apart ∙ h.others q d apart;
       memory = λ a beyond. k.memory a beyond ∙ h.memory a beyond;
+    }
+
+-- ---- a level goes on and touched an object
+
+pub touched_placed : {X : Type 0} {F : X → Type 0} (view : Seeing X F) (s u : Store X F) (t r : List (List Holds)) (p n : ℕ) (o : Object) (m : Mode) (g : GraftLevel) (gs hs : List GraftLevel) (log rest : List (List Inverse)) →
+    IsPlaced view s t p (g ∷ gs) log → IsStore view u → ((q : ℕ) → lives (queue_of u) q ≡ lives (queue_of s) q) → length hs ≡ suc (length gs) → AreSound (queue_of s) hs →
+    held r ≡ with_touch p n o m (held t) → n ≡ length gs → length rest ≡ length log → AllUndoable rest (objects_of view u).things → IsPlaced view u r p hs rest
+touched_placed view s u t r p n o m g gs hs log rest h store living many sound held_is count same undoable =
+    record {
+      store = store;
+      process = h.process;
+      few = omega (arith, many, h.few);
+      as_many = same ∙ h.as_many ∙ sym many;
+      unheld = λ d a le. ap (λ (x : LockTable). x p d a) held_is ∙ ap (λ x. x a) (touched_apart p n p d o m (held t) (grind (arith, nat_tests, le, many, count))) ∙ h.unheld d a (omega (arith, le, many));
+      levels = still_sound (queue_of s) (queue_of u) hs living sound;
+      undoable = undoable;
+    }
+
+pub touched_elsewhere : {X : Type 0} {F : X → Type 0} (s u : Store X F) (t r : List (List Holds)) (p n : ℕ) (o : Object) (m : Mode) → world_of_store u ≡ world_of_store s →
+    ((q : ℕ) → lives (queue_of u) q ≡ lives (queue_of s) q) → u.ram ≡ s.ram → held r ≡ with_touch p n o m (held t) → IsElsewhereSame s u t r p
+touched_elsewhere s u t r p n o m world living memory held_is =
+    record {
+      world = world;
+      living = living;
+      others = λ q d apart. ap (λ (x : LockTable). x q d) held_is ∙ touched_apart p n q d o m (held t) (grind (arith, nat_tests, apart));
+      memory = λ a beyond. ap (λ x. slice_index x a) memory;
     }

@@ -21,7 +21,7 @@ level_count p ram t [] log w = refl
 level_count p ram t (g ∷ gs) log w = ap suc (level_count p ram t gs (outer log) (undo_all (innermost log) w))
 
 -- two levels, and the levels outside them
-glued : (l : Level) (m : Machine) (x : Touched) (ls ks : List Level) → l.machine ≡ m → l.touched ≡ x → ls ≡ ks → l ∷ ls ≡ record l { machine = m; touched = x } ∷ ks
+pub glued : (l : Level) (m : Machine) (x : Touched) (ls ks : List Level) → l.machine ≡ m → l.touched ≡ x → ls ≡ ks → l ∷ ls ≡ record l { machine = m; touched = x } ∷ ks
 glued l m x ls ks machine touched rest =
     ap (λ (n : Machine). record l { machine = n } ∷ ls) machine ∙ ap (λ (y : Touched). record l { machine = m; touched = y } ∷ ls) touched ∙ ap (λ k. record l { machine = m; touched = x } ∷ k) rest
 
