@@ -9,3 +9,4 @@ mod Holding
 mod Recording
 mod Charging
 mod GoingOn
+mod Looking

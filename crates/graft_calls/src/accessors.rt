@@ -1,6 +1,6 @@
 //! What a plain accessor comes to.
 
-ghost use Rattle.std.specs.Prelude.{◌≡◌, ℕ, suc, ◌<◌, ◌≤◌, ◌&&◌, ◌==◌, not, ◌∷◌, List, None, Some, Ok, true, length, slice_index, is_some};
+ghost use Rattle.std.specs.Prelude.{◌≡◌, ◌≢◌, ℕ, suc, ◌<◌, ◌≤◌, ◌&&◌, ◌==◌, not, ◌∷◌, List, None, Some, Ok, true, length, slice_index, is_some};
 ghost use Rattle.kernel_model.specs.declared.Inverse.{Inverse as Undoing};
 ghost use Rattle.kernel_model.specs.declared.Mode.TheVariants.{Exclusive};
 ghost use Rattle.kernel_model.specs.declared.QueueRow.{QueueRow as Waiting};
@@ -16,7 +16,7 @@ ghost use Rattle.kernel_model.specs.World.{ImageTable};
 ghost use Rattle.kernel_state.specs.Accesses.{answer_of, things_after, CanBeUndone};
 ghost use Rattle.kernel_state.specs.Stores.{world_of_store, objects_of};
 ghost use Rattle.lock_table.specs.Masks.{held};
-ghost use Rattle.undo_calls.specs.UndoLevels.{innermost};
+ghost use Rattle.undo_calls.specs.UndoLevels.{innermost, recorded, records_of};
 ghost use Rattle.graft_calls.specs.Chains.{came, call_of, level_of, outer_of, level_in, levels_in, outer};
 ghost use Rattle.graft_calls.specs.Calls.{AreSound, AreInside, IsPlaced, IsElsewhereSame};
 
@@ -29,6 +29,7 @@ use kernel_laws::undoing::inverses_undo;
 use kernel_model::{Cause, Inverse, Micro, Mode, Object};
 use kernel_state::Store;
 use lock_table::LockTable;
+use undo_calls::UndoStack;
 
 /// What a plain accessor looks at or changes, and how.
 #[derive(Clone, Copy)]
@@ -93,6 +94,15 @@ fn give(
     Micro::Went
 }
 
+/// A record comes to the innermost level of a log that has fewer than 64.
+fn record(undo: &mut UndoStack, inverse_is: Inverse)
+    requires level { 0 < length undo.old }
+    requires room { length (records_of undo.old) ≢ 64 }
+    ensures { undo.new ≡ recorded inverse_is undo.old }
+{
+    let _ = undo.push(inverse_is);
+}
+
 /// An accessor's change is charged, recorded and made, unless no record can be made.
 fn change(
     id: u32,
@@ -129,7 +139,7 @@ fn change(
     inverses_undo();
     store.procs.rows();
     store.apply(id, arguments(&level.machine), level.owner);
-    let _ = chain.undo.push(inverse_is);
+    record(&mut chain.undo, inverse_is);
     locks.touch(p, chain.levels.count(), need.object, need.mode);
     go_on(level, result_is, &mut chain.levels);
     Micro::Went

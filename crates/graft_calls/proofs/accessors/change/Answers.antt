@@ -1,0 +1,96 @@
+use Rattle.std.proofs.Common.{◌≡◌, ◌≤◌, ◌<◌, ◌==◌, ◌||◌, ◌∷◌, ℕ, Bool, true, false, List, length, slice_index, ap, sym, refl, subst, arith, ◌∙◌}
+use Rattle.kernel_model.specs.declared.Kind.TheVariants.{Records}
+use Rattle.kernel_model.specs.declared.Cause.TheVariants.{SpentRecords}
+use Rattle.kernel_model.specs.Access.{access, undo}
+use Rattle.kernel_model.specs.Charges.{charge, funds}
+use Rattle.kernel_model.specs.GraftStep.{after_change, is_record_spent}
+use Rattle.kernel_model.specs.Levels.{drop_innermost}
+use Rattle.kernel_model.specs.Objects.{Objects, Accounts, Things, with_accounts, with_things}
+use Rattle.lock_table.specs.Masks.{held}
+use Rattle.undo_calls.specs.UndoLevels.{records_of}
+use Rattle.graft_accounts.specs.Table.{accounts_of}
+use Rattle.kernel_state.specs.Accesses.{things_after}
+use Rattle.kernel_state.specs.Stores.{world_of_store, objects_of}
+use Rattle.graft_calls.specs.Chains.{came, level_of, outer_of}
+use Rattle.graft_calls.specs.Calls.{AreInside}
+use Rattle.graft_calls.proofs.Charging.{not_recorded, is_recorded, uncharged}
+use Rattle.graft_calls.proofs.Conditions.{inside_if}
+use Rattle.graft_calls.proofs.Dropping.{pair, configs}
+use Rattle.graft_calls.proofs.GoingOn.{recorded_on}
+use Rattle.graft_calls.proofs.Looking.{leads_back, stands_once, more_undoable}
+use Rattle.graft_calls.proofs.Placing.{touched_placed, touched_elsewhere}
+use Rattle.graft_calls.proofs.Recording.{record_count_is, record_length}
+use Rattle.graft_calls.proofs.Undoing.{all_kept}
+use Rattle.graft_calls.proofs.accessors.change.Goals as goal
+
+pub returns-then-not-charge_record-clause-step : goal.returns-then-not-charge_record-clause-step
+returns-then-not-charge_record-clause-step g c =
+    let s = c.args.store.now in
+    let v = world_of_store s in
+    let w = objects_of (λ b. (goal.Policy-dyn g (b.vtable, b.value)).seen b.value) s in
+    let gs = c.args.level ∷ c.args.chain.now.levels in
+    let log = c.args.chain.now.undo in
+    let l = level_of (λ b. (goal.Policy-dyn g (b.vtable, b.value)).seen b.value) s c.args.locks.now c.args.chain.now c.args.p c.args.level in
+    let ls = outer_of (λ b. (goal.Policy-dyn g (b.vtable, b.value)).seen b.value) s c.args.locks.now c.args.chain.now c.args.p in
+    let spent = funds w.accounts l.owner l.point Records == 0 || length (records_of log) == 64 in
+    let same : is_record_spent w.accounts l ls ≡ spent =
+        ap (λ n. funds w.accounts l.owner l.point Records == 0 || n == 64) (record_count_is c.args.p s.ram (held c.args.locks.now) gs log w.things c.requires.placed.as_many) in
+    ap came (not_recorded v w l ls l.machine c.args.id c.args.result_is c.args.inverse_is _ spent same c.if-not-charge_record.ensures.answer)
+    ∙ ap (λ a. came (drop_innermost v (with_accounts a w) l ls SpentRecords)) (sym (uncharged false (accounts_of c.charge_record.new.accounts) (charge Records l.owner l.point w.accounts) w.accounts refl c.if-not-charge_record.ensures.accounts))
+    ∙ c.drop_innermost.ensures.step
+
+pub returns-then-not-charge_record-clause-inside : goal.returns-then-not-charge_record-clause-inside
+returns-then-not-charge_record-clause-inside g c = λ images h.
+    c.drop_innermost.ensures.inside images
+    (inside_if _ images Records c.args.level.owner c.args.level.point c.args.p (accounts_of c.args.store.now.accounts) (accounts_of c.charge_record.new.accounts) (c.args.level ∷ c.args.chain.now.levels)
+    c.charge_record.ensures.accounts h)
+
+pub returns-clause-step : goal.returns-clause-step
+returns-clause-step g c =
+    let s = c.args.store.now in
+    let v = world_of_store s in
+    let w = objects_of (λ b. (goal.Policy-dyn g (b.vtable, b.value)).seen b.value) s in
+    let u = objects_of (λ b. (goal.Policy-dyn g (b.vtable, b.value)).seen b.value) c.apply.new.self in
+    let gs = c.args.level ∷ c.args.chain.now.levels in
+    let log = c.args.chain.now.undo in
+    let l = level_of (λ b. (goal.Policy-dyn g (b.vtable, b.value)).seen b.value) s c.args.locks.now c.args.chain.now c.args.p c.args.level in
+    let ls = outer_of (λ b. (goal.Policy-dyn g (b.vtable, b.value)).seen b.value) s c.args.locks.now c.args.chain.now c.args.p in
+    let q = c.args.level.owner in
+    let a = access c.args.id (l.machine.regs 0) (l.machine.regs 1) (l.machine.regs 2) q w.things in
+    let after = things_after a w.things in
+    let spent = funds w.accounts l.owner l.point Records == 0 || length (records_of log) == 64 in
+    let same : is_record_spent w.accounts l ls ≡ spent =
+        ap (λ n. funds w.accounts l.owner l.point Records == 0 || n == 64) (record_count_is c.args.p s.ram (held c.args.locks.now) gs log w.things c.requires.placed.as_many) in
+    let state : u ≡ with_things after (with_accounts (accounts_of c.charge_record.new.accounts) w) =
+        c.apply.ensures.objects
+        ∙ ap (λ (xs : List ℕ). with_things (things_after (access c.args.id (slice_index xs 0) (slice_index xs 1) (slice_index xs 2) q w.things) w.things) (with_accounts (accounts_of c.charge_record.new.accounts) w)) c.arguments.ensures in
+    let charged : accounts_of c.charge_record.new.accounts ≡ charge Records l.owner l.point w.accounts = c.if-not-charge_record.ensures.accounts in
+    let law = c.inverses_undo.ensures c.args.id (l.machine.regs 0) (l.machine.regs 1) (l.machine.regs 2) q w.things (stands_once q w.things.queue (c.rows.ensures.sound.queue.once q)) in
+    let back : undo c.args.inverse_is u.things ≡ w.things = ap (λ (x : Objects). undo c.args.inverse_is x.things) state ∙ leads_back a c.args.result_is c.args.inverse_is w.things c.requires.answer law in
+    is_recorded v w l ls l.machine c.args.id c.args.result_is c.args.inverse_is after spent same c.if-not-charge_record.ensures.answer
+    ∙ pair _ _ _ _ refl (configs _ u _ _ (sym (state ∙ ap (λ (x : Accounts). with_things after (with_accounts x w)) charged))
+    (sym (recorded_on c.args.id c.args.result_is c.args.p c.count.result c.args.need.object c.args.need.mode s.ram c.apply.new.self.ram (held c.args.locks.now) (held c.touch.new.self) c.args.level
+      c.args.chain.now.levels c.go_on.new.levels log c.record.new.undo c.args.inverse_is w.things u.things c.go_on.ensures.levels c.apply.ensures.memory (omega (arith, c.requires.placed.as_many)) c.record.ensures back
+      c.count.ensures.value c.touch.ensures c.requires.object c.requires.mode)))
+
+pub returns-clause-placed : goal.returns-clause-placed
+returns-clause-placed g c =
+    let s = c.args.store.now in
+    let log = c.args.chain.now.undo in
+    touched_placed (λ b. (goal.Policy-dyn g (b.vtable, b.value)).seen b.value) s c.apply.new.self c.args.locks.now c.touch.new.self c.args.p c.count.result c.args.need.object c.args.need.mode
+    c.args.level c.args.chain.now.levels c.go_on.new.levels log c.record.new.undo c.requires.placed c.apply.ensures.sound
+    c.apply.ensures.living c.go_on.ensures.count (c.go_on.ensures.sound _ c.requires.placed.levels) c.touch.ensures c.count.ensures.value
+    (ap length c.record.ensures ∙ record_length c.args.inverse_is log)
+    (more_undoable c.args.inverse_is log c.record.new.undo _ c.record.ensures (c.apply.ensures.kept c.args.inverse_is c.requires.undoable)
+    (all_kept log _ _ c.apply.ensures.kept c.requires.placed.undoable))
+
+pub returns-clause-inside : goal.returns-clause-inside
+returns-clause-inside g c = λ images h.
+    c.go_on.ensures.inside images (accounts_of c.apply.new.self.accounts) c.args.p
+    (subst (λ a. AreInside images a c.args.p (c.args.level ∷ c.args.chain.now.levels)) (sym (ap (λ (x : Objects). x.accounts) c.apply.ensures.objects))
+    (inside_if _ images Records c.args.level.owner c.args.level.point c.args.p (accounts_of c.args.store.now.accounts) (accounts_of c.charge_record.new.accounts) (c.args.level ∷ c.args.chain.now.levels)
+    c.charge_record.ensures.accounts h))
+
+pub returns-clause-elsewhere : goal.returns-clause-elsewhere
+returns-clause-elsewhere g c =
+    touched_elsewhere c.args.store.now _ c.args.locks.now c.touch.new.self c.args.p c.count.result c.args.need.object c.args.need.mode c.apply.ensures.world c.apply.ensures.living c.apply.ensures.memory c.touch.ensures
