@@ -10,3 +10,4 @@ mod Recording
 mod Charging
 mod GoingOn
 mod Looking
+mod Completing

@@ -11,6 +11,7 @@ mod drops;
 mod images;
 mod levels;
 mod points;
+mod returns;
 
 pub use images::Images;
 pub use levels::Levels;

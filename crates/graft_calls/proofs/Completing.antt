@@ -1,0 +1,133 @@
+-- A level that ends with an answer of its own.
+use Rattle.std.proofs.Common.{◌≡◌, ◌≢◌, ℕ, suc, ◌+◌, ◌-◌, ◌<◌, ◌≤◌, ◌==◌, ◌&&◌, Bool, true, false, cond, List, [], ◌∷◌, ◌++◌, length, arith, refl, sym, ◌∙◌, ap, subst, slice_index}
+use Rattle.std.proofs.lemmas.Bool.Decides.{nat_tests}
+use Rattle.kernel_model.specs.declared.Held.{Held}
+use Rattle.kernel_model.specs.declared.Inverse.{Inverse}
+use Rattle.kernel_model.specs.declared.Object.{Object}
+use Rattle.kernel_model.specs.declared.Micro.{Micro}
+use Rattle.kernel_model.specs.Machine.{Machine}
+use Rattle.kernel_model.specs.Objects.{Objects, Things, at2}
+use Rattle.kernel_model.specs.Policies.{PointKind, kind_of}
+use Rattle.kernel_model.specs.Locks.{LockTable, Touched, merge_level, release_from, joined, untouched}
+use Rattle.kernel_model.specs.Levels.{Level, Config, answered, with_machine, base_of, goes_on}
+use Rattle.kernel_model.specs.GraftStep.{completed, first_registers}
+use Rattle.kernel_model.specs.UndoLog.{undo_all}
+use Rattle.kernel_model.specs.Runs.{on_segment}
+use Rattle.kernel_state.specs.Accesses.{CanBeUndone}
+use Rattle.undo_calls.specs.UndoLevels.{innermost, merged}
+use Rattle.graft_machine.specs.Cpu.{Cpu, machine_of}
+use Rattle.graft_calls.specs.declared.GraftLevel.{GraftLevel}
+use Rattle.graft_calls.specs.Chains.{level_in, levels_in, outer, came}
+use Rattle.graft_calls.specs.Calls.{AreUndoable, AllUndoable}
+use Rattle.graft_calls.proofs.Answering.{answered_on}
+use Rattle.graft_calls.proofs.Dropping.{pair, configs}
+use Rattle.graft_calls.proofs.Undoing.{undo_both}
+use Rattle.graft_calls.proofs.Views.{levels_alike, glued}
+
+-- the level that asked, with its answer
+pub joined_levels : (pt r0 r1 : ℕ) (g : GraftLevel) (cpu : Cpu) (rest after : List GraftLevel) → after ≡ record g { machine = cpu } ∷ rest →
+    ((ram : List ℕ) → machine_of cpu ram ≡ answered (kind_of pt) r0 r1 (machine_of g.machine ram)) →
+    (p : ℕ) (ram : List ℕ) (t : LockTable) (log : List (List Inverse)) (w : Things) →
+    let k = level_in p (length rest) ram t g (innermost log) (undo_all (innermost log) w) in
+    levels_in p ram t after log w ≡ record k { machine = answered (kind_of pt) r0 r1 k.machine } ∷ levels_in p ram t rest (outer log) (undo_all (innermost log) w)
+joined_levels pt r0 r1 g cpu rest after is machine p ram t log w =
+    let k = level_in p (length rest) ram t g (innermost log) (undo_all (innermost log) w) in
+    let base = base_of p (length rest) in
+    ap (λ gs. levels_in p ram t gs log w) is
+    ∙ ap (λ (m : Machine). with_machine m k ∷ levels_in p ram t rest (outer log) (undo_all (innermost log) w)) (ap (on_segment base) (machine ram) ∙ answered_on (kind_of pt) base r0 r1 (machine_of g.machine ram))
+
+-- ---- locks that go outwards
+
+merged_here : (p n : ℕ) (t : LockTable) → merge_level p (suc n) t p n ≡ joined (t p (suc n)) (t p n)
+merged_here p n t = grind (arith, nat_tests)
+
+merged_apart : (p n q e : ℕ) (t : LockTable) → (q == p && e == suc n) ≡ false → (q == p && e == n) ≡ false → merge_level p (suc n) t q e ≡ t q e
+merged_apart p n q e t first second =
+    ap (λ b. cond b untouched (cond (q == p && e == suc n - 1) (joined (t p (suc n)) (t p (suc n - 1))) (t q e))) first
+    ∙ ap (λ k. cond (q == p && e == k) (joined (t p (suc n)) (t p k)) (t q e)) (omega arith) ∙ ap (λ b. cond b (joined (t p (suc n)) (t p n)) (t q e)) second
+
+pub merged_others : (p n q d : ℕ) (t u : LockTable) → u ≡ merge_level p (suc n) t → q ≢ p → u q d ≡ t q d
+merged_others p n q d t u is apart = ap (λ (x : LockTable). x q d) is ∙ merged_apart p n q d t (grind (arith, nat_tests, apart)) (grind (arith, nat_tests, apart))
+
+merged_last : (p n : ℕ) (t : LockTable) (o : Object) → merge_level p (suc n) t p (suc n) o ≡ Held.Free
+merged_last p n t o = grind (arith, nat_tests)
+
+pub merged_free : (p n d : ℕ) (t u : LockTable) (o : Object) → u ≡ merge_level p (suc n) t → suc n ≤ d → ((e : ℕ) (a : Object) → suc (suc n) ≤ e → t p e a ≡ Held.Free) → u p d o ≡ Held.Free
+merged_free p n d t u o is le free = ap (λ (x : LockTable). x p d o) is ∙ by_place (d == suc n) refl
+  where
+    by_place : (b : Bool) → (d == suc n) ≡ b → merge_level p (suc n) t p d o ≡ Held.Free
+    by_place true e = let same : d ≡ suc n = grind (arith, nat_tests, e) in ap (λ k. merge_level p (suc n) t p k o) same ∙ merged_last p n t o
+    by_place false e =
+        ap (λ x. x o) (merged_apart p n p d t (grind (arith, nat_tests, e)) (grind (arith, nat_tests, le))) ∙ free d o (grind (arith, nat_tests, e, le))
+
+-- ---- records that go outwards
+
+-- a log of two levels or more, whose innermost level ends
+record Merged (log : List (List Inverse)) : Type 0 where
+  first : innermost (merged log) ≡ innermost log ++ innermost (outer log)
+  rest : outer (merged log) ≡ outer (outer log)
+
+merged_log : (log : List (List Inverse)) → 2 ≤ length log → Merged log
+merged_log [] some = absurd (omega arith)
+merged_log (is ∷ []) some = absurd (omega arith)
+merged_log (is ∷ js ∷ log) some = record { first = refl; rest = refl }
+
+both_undoable : (is js : List Inverse) (w : Things) → AreUndoable is w → AreUndoable js w → AreUndoable (is ++ js) w
+both_undoable [] js w h k = k
+both_undoable (i ∷ is) js w h k = (h.0, both_undoable is js w h.1 k)
+
+pub merged_undoable : (log rest : List (List Inverse)) (w : Things) → rest ≡ merged log → AllUndoable log w → AllUndoable rest w
+merged_undoable log rest w is h = subst (λ x. AllUndoable x w) (sym is) (by_log log h)
+  where
+    by_log : (log : List (List Inverse)) → AllUndoable log w → AllUndoable (merged log) w
+    by_log [] h = tt
+    by_log (is ∷ []) h = tt
+    by_log (is ∷ js ∷ log) h = (both_undoable is js w h.0 h.1.0, h.1.1)
+
+pub merged_length : (log rest : List (List Inverse)) (n : ℕ) → rest ≡ merged log → length log ≡ suc n → length rest ≡ n
+merged_length [] rest n is h = absurd (omega arith)
+merged_length (is ∷ []) rest n merged_is h = ap length merged_is ∙ omega (arith, h)
+merged_length (is ∷ js ∷ log) rest n merged_is h = ap length merged_is ∙ omega (arith, h)
+
+-- ---- outcomes
+
+-- a level that isn't level 0 ends: gs are the levels outside it, the first of which asked
+pub joined_call : (pt r0 r1 p : ℕ) (ram : List ℕ) (t r : LockTable) (g asker : GraftLevel) (gs rest hs : List GraftLevel) (log less : List (List Inverse)) (w : Objects) →
+    g.point ≡ pt → slice_index g.machine.regs 0 ≡ r0 → slice_index g.machine.regs 1 ≡ r1 → gs ≡ asker ∷ rest → length log ≡ suc (length gs) → less ≡ merged log → r ≡ merge_level p (suc (length rest)) t →
+    (levels_in p ram r hs less w.things ≡
+        let k = level_in p (length rest) ram r asker (innermost less) (undo_all (innermost less) w.things) in
+        record k { machine = answered (kind_of pt) r0 r1 k.machine } ∷ levels_in p ram r rest (outer less) (undo_all (innermost less) w.things)) →
+    let kept = undo_all (innermost log) w.things in
+    came (completed w (level_in p (length gs) ram t g (innermost log) kept) (levels_in p ram t gs (outer log) kept))
+    ≡ (Micro.Went, record { now = w; levels = levels_in p ram r hs less w.things })
+joined_call pt r0 r1 p ram t r g asker gs rest hs log less w point first second all many is_less held view =
+    let kept = undo_all (innermost log) w.things in
+    let both = merged_log log (let e = ap length all in omega (arith, many, e)) in
+    let k = level_in p (length rest) ram t asker (innermost (outer log)) (undo_all (innermost (outer log)) kept) in
+    let ls = levels_in p ram t rest (outer (outer log)) k.kept in
+    let m = answered (kind_of pt) r0 r1 k.machine in
+    ap (λ xs. came (completed w (level_in p (length xs) ram t g (innermost log) kept) (levels_in p ram t xs (outer log) kept))) all
+    ∙ ap (λ x. came (goes_on w (record k { machine = answered (kind_of x) (slice_index g.machine.regs 0) (slice_index g.machine.regs 1) k.machine; touched = joined (t p (suc (length rest))) k.touched; records = innermost log ++ k.records } ∷ ls))) point
+    ∙ ap (λ x. came (goes_on w (record k { machine = answered (kind_of pt) x (slice_index g.machine.regs 1) k.machine; touched = joined (t p (suc (length rest))) k.touched; records = innermost log ++ k.records } ∷ ls))) first
+    ∙ ap (λ x. came (goes_on w (record k { machine = answered (kind_of pt) r0 x k.machine; touched = joined (t p (suc (length rest))) k.touched; records = innermost log ++ k.records } ∷ ls))) second
+    ∙ pair _ _ _ _ refl (configs w w _ _ refl (sym
+    (view
+    ∙ ap (λ x. record (level_in p (length rest) ram r asker (innermost x) (undo_all (innermost x) w.things)) { machine = m } ∷ levels_in p ram r rest (outer x) (undo_all (innermost x) w.things)) is_less
+    ∙ ap (λ x. record (level_in p (length rest) ram r asker x (undo_all x w.things)) { machine = m } ∷ levels_in p ram r rest (outer (merged log)) (undo_all x w.things)) both.first
+    ∙ ap (λ x. record (level_in p (length rest) ram r asker (innermost log ++ innermost (outer log)) x) { machine = m } ∷ levels_in p ram r rest (outer (merged log)) x) (undo_both (innermost log) (innermost (outer log)) w.things)
+    ∙ ap (λ x. record (level_in p (length rest) ram r asker (innermost log ++ innermost (outer log)) k.kept) { machine = m } ∷ levels_in p ram r rest x k.kept) both.rest
+    ∙ glued (record (level_in p (length rest) ram r asker (innermost log ++ innermost (outer log)) k.kept) { machine = m }) m (joined (t p (suc (length rest))) (t p (length rest))) _ ls refl
+      (ap (λ (x : LockTable). x p (length rest)) held ∙ merged_here p (length rest) t)
+      (levels_alike p ram ram r t rest (outer (outer log)) k.kept
+      (λ e lt. ap (λ (x : LockTable). x p e) held ∙ merged_apart p (length rest) p e t (grind (arith, nat_tests, lt)) (grind (arith, nat_tests, lt))) (λ e cpu lt. refl)))))
+
+-- level 0 ends: the call is complete
+pub completed_call : (p : ℕ) (ram : List ℕ) (t r : LockTable) (g : GraftLevel) (gs hs : List GraftLevel) (log less : List (List Inverse)) (w : Objects) (answer : List ℕ) →
+    gs ≡ [] → hs ≡ [] → ((mem : List ℕ) → answer ≡ first_registers (machine_of g.machine mem)) →
+    let kept = undo_all (innermost log) w.things in
+    came (completed w (level_in p (length gs) ram t g (innermost log) kept) (levels_in p ram t gs (outer log) kept))
+    ≡ (Micro.Completed answer, record { now = w; levels = levels_in p ram r hs less w.things })
+completed_call p ram t r g gs hs log less w answer before after is =
+    let kept = undo_all (innermost log) w.things in
+    ap (λ xs. came (completed w (level_in p (length gs) ram t g (innermost log) kept) (levels_in p ram t xs (outer log) kept))) before
+    ∙ pair _ _ _ _ (ap Micro.Completed (sym (is ram))) (configs w w _ _ refl (ap (λ xs. levels_in p ram r xs less w.things) (sym after)))

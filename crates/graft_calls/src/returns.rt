@@ -1,0 +1,114 @@
+//! A level that ends with an answer of its own.
+
+ghost use Rattle.std.specs.Prelude.{◌≡◌, ◌≢◌, ℕ, suc, ◌<◌, ◌≤◌, ◌∷◌, [], List, length, slice_index};
+ghost use Rattle.kernel_model.specs.declared.Held.TheVariants.{Free};
+ghost use Rattle.kernel_model.specs.declared.Inverse.{Inverse as Undoing};
+ghost use Rattle.kernel_model.specs.declared.Object.{Object as Objects};
+ghost use Rattle.kernel_model.specs.declared.QueueRow.{QueueRow as Waiting};
+ghost use Rattle.kernel_model.specs.GraftStep.{completed, after_return, first_registers};
+ghost use Rattle.kernel_model.specs.Levels.{answered};
+ghost use Rattle.kernel_model.specs.Locks.{LockTable as Table, merge_level, release_from};
+ghost use Rattle.kernel_model.specs.Objects.{Objects as State, Accounts as Funds, Things};
+ghost use Rattle.kernel_model.specs.Policies.{kind_of, valid};
+ghost use Rattle.kernel_model.specs.UndoLog.{undo_all};
+ghost use Rattle.kernel_model.specs.World.{ImageTable};
+ghost use Rattle.kernel_state.specs.Stores.{world_of_store, objects_of};
+ghost use Rattle.lock_table.specs.Masks.{held};
+ghost use Rattle.undo_calls.specs.UndoLevels.{innermost, merged};
+ghost use Rattle.graft_machine.specs.Cpu.{machine_of};
+ghost use Rattle.graft_calls.specs.Chains.{came, call_of, level_of, outer_of, level_in, levels_in, outer};
+ghost use Rattle.graft_calls.specs.Calls.{AreSound, AreInside, IsPlaced, IsElsewhereSame};
+
+use crate::answers::answer;
+use crate::drops::drop_innermost;
+use crate::points::is_valid;
+use crate::{Chain, GraftLevel, Levels};
+use graft_machine::Machine;
+use kernel_model::{Cause, Micro};
+use kernel_state::Store;
+use lock_table::LockTable;
+
+/// The answer of a level: r0 to r3.
+fn registers(machine: &Machine) -> [u32; 4]
+    ensures { (ram : List ℕ) → result ≡ first_registers (machine_of machine.now ram) }
+{
+    [
+        machine.reg(0),
+        machine.reg(1),
+        machine.reg(2),
+        machine.reg(3),
+    ]
+}
+
+/// The answer of a level goes to the one that asked, which is put back with what the level held.
+fn join(level: GraftLevel, asker: GraftLevel, levels: &mut Levels, p: u8, locks: &mut LockTable)
+    requires few { length levels.old < 3 }
+    requires process { p < 16 }
+    ensures levels { (q : ℕ) (ram : List ℕ) (t : Table) (log : List (List Undoing)) (w : Things) →
+        let k = level_in q (length levels.old) ram t asker (innermost log) (undo_all (innermost log) w) in
+        levels_in q ram t levels.new log w ≡ record k { machine = answered (kind_of level.point) (slice_index level.machine.regs 0) (slice_index level.machine.regs 1) k.machine }
+            ∷ levels_in q ram t levels.old (outer log) (undo_all (innermost log) w) }
+    ensures locks { held locks.new ≡ merge_level p (suc (length levels.old)) (held locks.old) }
+    ensures count { length levels.new ≡ suc (length levels.old) }
+    ensures sound { (queue : List Waiting) → AreSound queue (asker ∷ levels.old) → AreSound queue levels.new }
+    ensures inside { (images : ImageTable) (a : Funds) (q : ℕ) → AreInside images a q (asker ∷ levels.old) → AreInside images a q levels.new }
+{
+    let mut asker = asker;
+    answer(&mut asker.machine, level.point, level.machine.reg(0), level.machine.reg(1));
+    locks.merge_level(p, levels.count() + 1);
+    levels.push(asker);
+}
+
+/// A level that was taken out of a chain ends with its answer. Level 0 ends the call: what it held is let go, and its records are
+/// forgotten. Another one gives its answer, what it held and its records to the level that asked.
+fn complete(level: GraftLevel, chain: &mut Chain, p: u8, locks: &mut LockTable) -> Micro
+    requires few { length chain.old.levels < 4 }
+    requires as_many { length chain.old.undo ≡ suc (length chain.old.levels) }
+    requires process { p < 16 }
+    ensures step { (w : State) (ram : List ℕ) → let kept = undo_all (innermost chain.old.undo) w.things in
+        came (completed w (level_in p (length chain.old.levels) ram (held locks.old) level (innermost chain.old.undo) kept)
+            (levels_in p ram (held locks.old) chain.old.levels (outer chain.old.undo) kept))
+        ≡ (result, record { now = w; levels = levels_in p ram (held locks.new) chain.new.levels chain.new.undo w.things }) }
+    ensures log { chain.new.undo ≡ merged chain.old.undo }
+    ensures count { length chain.new.levels ≡ length chain.old.levels }
+    ensures unheld { (d : ℕ) (o : Objects) → length chain.old.levels ≤ d → ((e : ℕ) (a : Objects) → suc (length chain.old.levels) ≤ e → held locks.old p e a ≡ Free) → held locks.new p d o ≡ Free }
+    ensures others { (q d : ℕ) → q ≢ p → held locks.new q d ≡ held locks.old q d }
+    ensures sound { (queue : List Waiting) → AreSound queue chain.old.levels → AreSound queue chain.new.levels }
+    ensures inside { (images : ImageTable) (a : Funds) (q : ℕ) → AreInside images a q chain.old.levels → AreInside images a q chain.new.levels }
+{
+    chain.undo.commit_level();
+    match chain.levels.pop() {
+        None => {
+            locks.release_from(p, 0);
+            Micro::Completed(registers(&level.machine))
+        }
+        Some(asker) => {
+            join(level, asker, &mut chain.levels, p, locks);
+            Micro::Went
+        }
+    }
+}
+
+/// A level that was taken out of a chain offers the answer in r0 to r3. It is dropped where its point doesn't accept that.
+pub(crate) fn offer(
+    level: GraftLevel,
+    chain: &mut Chain,
+    p: u8,
+    store: &mut Store,
+    locks: &mut LockTable,
+) -> Micro
+    requires placed { IsPlaced (λ b. seen (b.vtable, b.value)) store.old locks.old p (level ∷ chain.old.levels) chain.old.undo }
+    ensures step { let l = level_of (λ b. seen (b.vtable, b.value)) store.old locks.old chain.old p level in let ls = outer_of (λ b. seen (b.vtable, b.value)) store.old locks.old chain.old p in
+        came (after_return (world_of_store store.old) (objects_of (λ b. seen (b.vtable, b.value)) store.old) l ls
+            (valid (objects_of (λ b. seen (b.vtable, b.value)) store.old).things l.owner l.point l.args (l.machine.regs 0) (l.machine.regs 1)))
+        ≡ (result, call_of (λ b. seen (b.vtable, b.value)) store.new locks.new chain.new p) }
+    ensures placed { IsPlaced (λ b. seen (b.vtable, b.value)) store.new locks.new p chain.new.levels chain.new.undo }
+    ensures inside { (images : ImageTable) → AreInside images (objects_of (λ b. seen (b.vtable, b.value)) store.old).accounts p (level ∷ chain.old.levels) → AreInside images (objects_of (λ b. seen (b.vtable, b.value)) store.new).accounts p chain.new.levels }
+    ensures elsewhere { IsElsewhereSame store.old store.new locks.old locks.new p }
+{
+    if !is_valid(store, &level) {
+        let cause = Cause::RefusedAnswer(level.machine.reg(0), level.machine.reg(1));
+        return drop_innermost(level, chain, p, store, locks, cause);
+    }
+    complete(level, chain, p, locks)
+}
