@@ -11,3 +11,5 @@ mod Charging
 mod GoingOn
 mod Looking
 mod Completing
+mod Memory
+mod Beginning

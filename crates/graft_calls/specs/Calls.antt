@@ -3,6 +3,8 @@ use Rattle.std.specs.Prelude.{◌≡◌, ◌≢◌, ℕ, suc, ◌+◌, ◌*◌, 
 use Rattle.kernel_model.specs.declared.Inverse.{Inverse}
 use Rattle.kernel_model.specs.declared.Object.{Object}
 use Rattle.kernel_model.specs.declared.Held.{Held}
+use Rattle.kernel_model.specs.declared.Need.{Need}
+use Rattle.kernel_model.specs.Locks.{LockTable, with_touch}
 use Rattle.kernel_model.specs.World.{ImageTable}
 use Rattle.kernel_model.specs.declared.QueueRow.{QueueRow}
 use Rattle.kernel_model.specs.Objects.{Accounts, Things}
@@ -81,3 +83,10 @@ pub record IsElsewhereSame {X : Type 0} {F : X → Type 0} (s u : Store X F) (t 
   pub living : (q : ℕ) → lives (queue_of u) q ≡ lives (queue_of s) q
   pub others : (q d : ℕ) → q ≢ p → held r q d ≡ held t q d
   pub memory : (a : ℕ) → IsBeyond p a → slice_index u.ram a ≡ slice_index s.ram a
+
+-- ---- touches
+
+-- level d of process p touches objects, each in the mode in which it is needed
+abbrev pub needs_touched : (p d : ℕ) → List Need → LockTable → LockTable
+needs_touched p d [] t = t
+needs_touched p d (n ∷ ns) t = needs_touched p d ns (with_touch p d n.object n.mode t)

@@ -6,12 +6,15 @@
 
 mod accessors;
 mod answers;
+mod begin;
 mod charges;
+mod code;
 mod drops;
 mod images;
 mod levels;
 mod points;
 mod returns;
+mod segments;
 
 pub use images::Images;
 pub use levels::Levels;

@@ -1,0 +1,86 @@
+-- A level that begins.
+use Rattle.std.proofs.Common.{◌≡◌, ℕ, suc, ◌+◌, ◌*◌, ◌<◌, ◌≤◌, Bool, true, false, cond, nat_lt, List, [], ◌∷◌, length, slice_index, slice_get, Option, Some, None, arith, refl, sym, ◌∙◌, ap, subst, inl, inr, ◌⊎◌}
+use Rattle.std.proofs.Math.Path.{fun_ext}
+use Rattle.std.proofs.lemmas.Bool.Decides.{nat_tests}
+use Rattle.std.proofs.lemmas.List.{get_or_past}
+use Rattle.std.proofs.lemmas.Option.{unwrap_or-slice_get}
+use Rattle.std.specs.Option.{unwrap_or}
+use Rattle.kernel_model.specs.declared.Inverse.{Inverse}
+use Rattle.kernel_model.specs.declared.Instr.{Instr}
+use Rattle.kernel_model.specs.Machine.{Machine, first_machine, segment_base}
+use Rattle.kernel_model.specs.Objects.{Objects, Accounts, Things, CacheValue}
+use Rattle.kernel_model.specs.World.{Image, ImageTable}
+use Rattle.kernel_model.specs.Policies.{or_zero}
+use Rattle.kernel_model.specs.Boxed.{IsBoxed, IsInside}
+use Rattle.kernel_model.specs.Locks.{LockTable}
+use Rattle.kernel_model.specs.Levels.{Level, new_level, image_of, body_of, body_in, code_of, code_in, limit_in, base_of}
+use Rattle.kernel_model.specs.Runs.{on_segment, segment_of}
+use Rattle.graft_machine.specs.Cpu.{Cpu, machine_of, by_place}
+use Rattle.graft_machine.specs.Contained.{IsOutside}
+use Rattle.kernel_state.specs.declared.Store.{Store}
+use Rattle.kernel_state.specs.Stores.{Seeing, StoreFits, world_of_store, objects_of, objects_with, IsStore}
+use Rattle.buffer_cache.specs.Frames.{IsFrames}
+use Rattle.graft_calls.specs.declared.GraftLevel.{GraftLevel}
+use Rattle.graft_calls.specs.Chains.{level_in, levels_in}
+use Rattle.graft_calls.specs.Calls.{AreInside, RunsInside}
+use Rattle.graft_calls.proofs.Memory.{same_cache, same_segment}
+use Rattle.graft_calls.proofs.Views.{glued, levels_alike}
+
+zero_past : (o : Option ℕ) → or_zero o ≡ unwrap_or o 0
+zero_past None = refl
+zero_past (Some x) = refl
+
+byte_of : (body : List ℕ) (i : ℕ) → or_zero (slice_get body i) ≡ slice_index body i
+byte_of body i = zero_past (slice_get body i) ∙ unwrap_or-slice_get body i 0
+
+-- a segment that has data bytes, and zeros behind them
+segment_is : (mem body : List ℕ) (base : ℕ) → length body ≤ 4096 → ((i : ℕ) → i < 4096 → slice_index mem (base + i) ≡ slice_index body i) →
+    segment_of base (by_place mem) ≡ (λ i. or_zero (slice_get body i))
+segment_is mem body base few same = fun_ext (λ i. at_place i (nat_lt i 4096) refl)
+  where
+    at_place : (i : ℕ) (b : Bool) → nat_lt i 4096 ≡ b → cond b (slice_index mem (base + i)) 0 ≡ or_zero (slice_get body i)
+    at_place i true e = let less : i < 4096 = grind (arith, nat_tests, e) in same i less ∙ sym (byte_of body i)
+    at_place i false e = let past : length body ≤ i = let above : 4096 ≤ i = grind (arith, nat_tests, e) in omega (arith, few, above) in sym (byte_of body i ∙ get_or_past body i 0 past)
+
+-- the level that begins, and the levels outside it
+pub begun_levels : (images : ImageTable) (image : Image) (w : Objects) (p base q pt : ℕ) (args : List ℕ) (ram mem : List ℕ) (t : LockTable) (cpu : Cpu) (gs news : List GraftLevel) (log more : List (List Inverse)) →
+    news ≡ record { owner = q; point = pt; count = 0; args = args; machine = cpu } ∷ gs → more ≡ [] ∷ log → base ≡ base_of p (length gs) →
+    machine_of cpu mem ≡ first_machine base args (by_place mem) → length image.body ≤ 4096 → ((i : ℕ) → i < 4096 → slice_index mem (base + i) ≡ slice_index image.body i) →
+    ((a : ℕ) → (a < base) ⊎ (base + 4096 ≤ a) → slice_index mem a ≡ slice_index ram a) → image_of images (w.accounts.graft q pt) ≡ Some image →
+    levels_in p mem t news more w.things ≡ new_level images w p (length gs) q pt args (t p (length gs)) ∷ levels_in p ram t gs log w.things
+begun_levels images image w p base q pt args ram mem t cpu gs news log more is_news is_more is_base begins few same beyond loaded =
+    let g : GraftLevel = record { owner = q; point = pt; count = 0; args = args; machine = cpu } in
+    let l = level_in p (length gs) mem t g [] w.things in
+    let body : body_of images w.accounts q pt ≡ image.body = ap body_in loaded in
+    let memory : segment_of base (by_place mem) ≡ (λ i. or_zero (slice_get (body_of images w.accounts q pt) i)) =
+        segment_is mem image.body base few same ∙ ap (λ (b : List ℕ). λ i. or_zero (slice_get b i)) (sym body) in
+    let machine : on_segment (base_of p (length gs)) (machine_of cpu mem) ≡ first_machine (base_of p (length gs)) args (λ i. or_zero (slice_get (body_of images w.accounts q pt) i)) =
+        ap (on_segment (base_of p (length gs))) begins
+        ∙ ap (λ b. on_segment b (first_machine base args (by_place mem))) (sym is_base)
+        ∙ ap (λ f. first_machine base args f) memory
+        ∙ ap (λ b. first_machine b args (λ i. or_zero (slice_get (body_of images w.accounts q pt) i))) is_base in
+    ap (λ xs. levels_in p mem t xs more w.things) is_news ∙ ap (λ xs. levels_in p mem t (g ∷ gs) xs w.things) is_more
+    ∙ glued l _ (t p (length gs)) _ _ machine refl
+      (levels_alike p mem ram t t gs log w.things (λ e lt. refl)
+      (λ e c lt. same_segment p (length gs) e ram mem c (λ a out. beyond a (subst (λ b. (a < b) ⊎ (b + 4096 ≤ a)) (sym is_base) out)) lt))
+
+-- it runs
+pub begun_inside : (images : ImageTable) (image : Image) (a : Accounts) (p base q pt : ℕ) (args : List ℕ) (cpu : Cpu) (gs news : List GraftLevel) →
+    news ≡ record { owner = q; point = pt; count = 0; args = args; machine = cpu } ∷ gs → base ≡ base_of p (length gs) → IsBoxed image.code →
+    ((code : List Instr) (slot : ℕ) (ram : List ℕ) → IsBoxed code → base ≡ segment_base slot → IsInside code slot (machine_of cpu ram)) → image_of images (a.graft q pt) ≡ Some image →
+    AreInside images a p gs → AreInside images a p news
+begun_inside images image a p base q pt args cpu gs news is_news is_base boxed inside loaded h =
+    subst (AreInside images a p) (sym is_news)
+    (record { count = omega arith; inside = λ ram. subst (λ c. IsInside c (4 * p + length gs) (machine_of cpu ram)) (sym (ap code_in loaded)) (inside image.code (4 * p + length gs) ram boxed is_base) }, h)
+
+-- ---- the store
+
+-- other bytes outside the frames
+pub same_objects : {X : Type 0} {F : X → Type 0} (view : Seeing X F) (s : Store X F) (mem : List ℕ) → IsFrames s.cache → length s.ram ≡ 524288 → length mem ≡ 524288 →
+    ((a : ℕ) → a < 262144 → slice_index mem a ≡ slice_index s.ram a) → objects_of view (record s { ram = mem }) ≡ objects_of view s
+same_objects view s mem frames size mem_size same =
+    let w = objects_of view s in ap (λ (c : CacheValue). let o : Objects = record w { things = record (w.things) { cache = c } } in o) (same_cache s.cache s.ram mem frames size mem_size same)
+
+pub memory_store : {X : Type 0} {F : X → Type 0} (view : Seeing X F) (s : Store X F) (mem : List ℕ) → objects_of view (record s { ram = mem }) ≡ objects_of view s → IsStore view s → IsStore view (record s { ram = mem })
+memory_store view s mem same h =
+    record { fits = subst (λ (o : Objects). StoreFits s.cache.count (world_of_store s) o.things) (sym same) h.fits; shelf = h.shelf }

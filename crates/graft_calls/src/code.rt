@@ -1,0 +1,47 @@
+//! The image of a graft.
+
+ghost use Rattle.std.specs.Prelude.{◌≡◌, ◌<◌, Some, None, true, length, is_some, IfSome, IfNone};
+ghost use Rattle.kernel_model.specs.Levels as model;
+ghost use Rattle.graft_accounts.specs.Table.{accounts_of};
+ghost use Rattle.graft_calls.specs.Tables.{table_of};
+
+use crate::Images;
+use box_verify::Verified;
+use graft_accounts::Accounts;
+use graft_loader::Loaded;
+
+/// The image of the graft at point pt of process q, if it is loaded.
+fn find_image<'a>(images: &'a Images, accounts: &Accounts, q: u8, pt: u8) -> Option<&'a Loaded>
+    requires owner { q < 16 }
+    requires point { pt < 16 }
+    ensures some { IfSome result (λ l. model.image_of (table_of images.now) ((accounts_of accounts.now).graft q pt) ≡ Some l.now) }
+    ensures none { IfNone result (model.image_of (table_of images.now) ((accounts_of accounts.now).graft q pt) ≡ None) }
+{
+    match accounts.graft(q, pt) {
+        Some(row) => images.get(row.image),
+        None => None,
+    }
+}
+
+/// The image of the graft that stands at point pt of process q, which is loaded.
+pub(crate) fn image_of<'a>(images: &'a Images, accounts: &Accounts, q: u8, pt: u8) -> &'a Loaded
+    requires owner { q < 16 }
+    requires point { pt < 16 }
+    requires loaded { is_some (model.image_of (table_of images.now) ((accounts_of accounts.now).graft q pt)) ≡ true }
+    ensures { model.image_of (table_of images.now) ((accounts_of accounts.now).graft q pt) ≡ Some result.now }
+{
+    match find_image(images, accounts, q, pt) {
+        Some(image) => image,
+        None => unreachable!(),
+    }
+}
+
+/// The code of the graft that stands at point pt of process q, whose image has some.
+pub(crate) fn code_of<'a>(images: &'a Images, accounts: &Accounts, q: u8, pt: u8) -> &'a Verified
+    requires owner { q < 16 }
+    requires point { pt < 16 }
+    requires some { 0 < length (model.code_of (table_of images.now) (accounts_of accounts.now) q pt) }
+    ensures { result.now ≡ model.code_of (table_of images.now) (accounts_of accounts.now) q pt }
+{
+    image_of(images, accounts, q, pt).code()
+}

@@ -1,0 +1,52 @@
+//! The segments of levels in memory.
+
+ghost use Rattle.std.specs.Prelude.{◌≡◌, ℕ, ◌+◌, ◌*◌, ◌%◌, ◌<◌, ◌≤◌, ◌&&◌, cond, nat_le, nat_lt, List, length, slice_index, ◌⊎◌};
+ghost use Rattle.kernel_model.specs.Levels as model;
+
+use graft_machine::{FIRST_SEGMENT, SEGMENT_BYTES};
+use ram_space::Ram;
+
+/// Where the segment of level d of process p begins.
+pub(crate) fn base_of(p: u8, d: u8) -> u32
+    requires process { p < 16 }
+    requires depth { d < 4 }
+    ensures value { result ≡ model.base_of p d }
+    ensures low { FIRST_SEGMENT ≤ result }
+    ensures high { result + SEGMENT_BYTES ≤ 524288 }
+    ensures whole { result % SEGMENT_BYTES ≡ 0 }
+{
+    FIRST_SEGMENT + SEGMENT_BYTES * (4 * u32::from(p) + u32::from(d))
+}
+
+/// Zeros from an address to another.
+fn clear(ram: &mut Ram, from: u32, to: u32)
+    requires order { from ≤ to }
+    requires inside { to ≤ 524288 }
+    ensures { (a : ℕ) → slice_index ram.new a ≡ cond (nat_le from a && nat_lt a to) 0 (slice_index ram.old a) }
+{
+    for a in from..to {
+        ram.put_byte(a, 0);
+    }
+}
+
+/// The memory has all its bytes.
+fn whole(ram: &Ram)
+    ensures { length ram.now ≡ 524288 }
+{
+    ram.byte(0);
+}
+
+/// The segment at this base gets data bytes, and zeros behind them. Every other byte stays.
+pub(crate) fn fill(ram: &mut Ram, base: u32, body: &[u8])
+    requires inside { base + SEGMENT_BYTES ≤ 524288 }
+    requires few { length body.now ≤ 4096 }
+    ensures segment { (i : ℕ) → i < 4096 → slice_index ram.new (base + i) ≡ slice_index body.now i }
+    ensures outside { (a : ℕ) → (a < base) ⊎ (base + 4096 ≤ a) → slice_index ram.new a ≡ slice_index ram.old a }
+    ensures size { length ram.new ≡ 524288 }
+    ensures same_size { length ram.old ≡ 524288 }
+{
+    whole(ram);
+    clear(ram, base, base + SEGMENT_BYTES);
+    whole(ram);
+    ram.copy_in(base, body);
+}
