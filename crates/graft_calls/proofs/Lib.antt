@@ -13,3 +13,4 @@ mod Looking
 mod Completing
 mod Memory
 mod Beginning
+mod Needing
