@@ -6,6 +6,8 @@ use Rattle.kernel_model.specs.declared.QueueRow.{QueueRow}
 use Rattle.kernel_model.specs.Objects.{Accounts, GraftValue, at2}
 use Rattle.kernel_model.specs.World.{ImageTable}
 use Rattle.kernel_model.specs.Policies.{lives}
+use Rattle.std.specs.Option.{is_some}
+use Rattle.kernel_model.specs.Sound.{ImagesAreLoaded}
 use Rattle.kernel_model.specs.Boxed.{IsInside}
 use Rattle.kernel_model.specs.Charges.{charge, charge_by, charge_account, charge_graft, taken_from, removed, removed_by}
 use Rattle.kernel_model.specs.Levels.{image_of, code_in, code_of, limit_in}
@@ -85,3 +87,46 @@ inside_removed images q pt p a (g ∷ gs) apart h =
 pub inside_if : (b : Bool) (images : ImageTable) (k : Kind) (q pt p : ℕ) (a c : Accounts) (gs : List GraftLevel) → c ≡ cond b (charge k q pt a) a → AreInside images a p gs → AreInside images c p gs
 inside_if true images k q pt p a c gs is h = subst (λ x. AreInside images x p gs) (sym is) (inside_charged images k q pt p a gs h)
 inside_if false images k q pt p a c gs is h = subst (λ x. AreInside images x p gs) (sym is) h
+
+-- ---- images stay loaded
+
+loaded_on : (images : ImageTable) (x y : Option GraftValue) (g : GraftValue) → IsSameGraft images x y → is_some x ≡ is_some y → ((h : GraftValue) → y ≡ Some h → is_some (images h.image) ≡ true) → x ≡ Some g → is_some (images g.image) ≡ true
+loaded_on images x None g same stands all is = absurd (grind (arith, stands, is))
+loaded_on images x (Some h) g same stands all is = ap is_some (sym (ap (image_of images) is) ∙ same.image) ∙ all h refl
+
+paid_stands : (k : Kind) (g : GraftValue) (x : Option GraftValue) (b : Bool) → (b ≡ true → x ≡ Some g) → is_some (cond b (Some (taken_from k g)) x) ≡ is_some x
+paid_stands k g x true is = ap is_some (sym (is refl))
+paid_stands k g x false is = refl
+
+by_stands : (k : Kind) (g : GraftValue) (q pt r pu : ℕ) (a : Accounts) (billed : Bool) → a.graft q pt ≡ Some g →
+    is_some ((elim billed as (λ _. Accounts) [ true ↦ charge_account k q a | false ↦ charge_graft k q pt g a ]).graft r pu) ≡ is_some (a.graft r pu)
+by_stands k g q pt r pu a true is = refl
+by_stands k g q pt r pu a false is = paid_stands k g (a.graft r pu) (r == q && pu == pt) (here a g q pt r pu is)
+
+charged_stands : (k : Kind) (q pt r pu : ℕ) (a : Accounts) (x : Option GraftValue) → a.graft q pt ≡ x → is_some ((charge_by k q pt x a).graft r pu) ≡ is_some (a.graft r pu)
+charged_stands k q pt r pu a None is = refl
+charged_stands k q pt r pu a (Some g) is = by_stands k g q pt r pu a g.billed is
+
+pub loaded_charged : (images : ImageTable) (k : Kind) (q pt : ℕ) (a : Accounts) → ImagesAreLoaded images a → ImagesAreLoaded images (charge k q pt a)
+loaded_charged images k q pt a h = λ r pu g is.
+    loaded_on images ((charge k q pt a).graft r pu) (a.graft r pu) g (charged_graft images k q pt r pu a (a.graft q pt) refl) (charged_stands k q pt r pu a (a.graft q pt) refl) (h r pu) is
+
+pub loaded_if : (b : Bool) (images : ImageTable) (k : Kind) (q pt : ℕ) (a c : Accounts) → c ≡ cond b (charge k q pt a) a → ImagesAreLoaded images a → ImagesAreLoaded images c
+loaded_if true images k q pt a c is h = subst (ImagesAreLoaded images) (sym is) (loaded_charged images k q pt a h)
+loaded_if false images k q pt a c is h = subst (ImagesAreLoaded images) (sym is) h
+
+removed_left : (q pt r pu : ℕ) (a : Accounts) (x : Option GraftValue) (g : GraftValue) → (removed_by q pt x a).graft r pu ≡ Some g → a.graft r pu ≡ Some g
+removed_left q pt r pu a None g is = is
+removed_left q pt r pu a (Some h) g is = by_place (r == q && pu == pt) is
+  where
+    by_place : (b : Bool) → cond b None (a.graft r pu) ≡ Some g → a.graft r pu ≡ Some g
+    by_place true e = absurd (cc)
+    by_place false e = e
+
+pub loaded_removed : (images : ImageTable) (q pt : ℕ) (a : Accounts) → ImagesAreLoaded images a → ImagesAreLoaded images (removed q pt a)
+loaded_removed images q pt a h = λ r pu g is. h r pu g (removed_left q pt r pu a (a.graft q pt) g is)
+
+-- the image of a graft that stands
+pub stands_loaded : (images : ImageTable) (a : Accounts) (q pt : ℕ) (x : Option GraftValue) → a.graft q pt ≡ x → is_some x ≡ true → ImagesAreLoaded images a → is_some (image_of images x) ≡ true
+stands_loaded images a q pt None is some h = absurd (cc)
+stands_loaded images a q pt (Some g) is some h = h q pt g is

@@ -11,6 +11,7 @@ use Rattle.kernel_model.specs.Objects.{Accounts, Things}
 use Rattle.kernel_model.specs.Policies.{lives}
 use Rattle.kernel_model.specs.Levels.{base_of, code_of, limit_in}
 use Rattle.kernel_model.specs.Boxed.{IsInside}
+use Rattle.kernel_model.specs.Sound.{ImagesAreLoaded}
 use Rattle.lock_table.specs.declared.Holds.{Holds}
 use Rattle.lock_table.specs.Masks.{held}
 use Rattle.graft_machine.specs.Cpu.{machine_of}
@@ -69,6 +70,8 @@ pub record IsPlaced {X : Type 0} {F : X → Type 0} (view : Seeing X F) (s : Sto
 pub record IsInPlace {X : Type 0} {F : X → Type 0} (view : Seeing X F) (s : Store X F) (t : List (List Holds)) (images : ImageTable) (p : ℕ) (gs : List GraftLevel) (log : List (List Inverse)) : Type 0 where
   pub placed : IsPlaced view s t p gs log
   pub inside : AreInside images (objects_of view s).accounts p gs
+  -- an ask begins a level on the image of any graft that stands
+  pub loaded : ImagesAreLoaded images (objects_of view s).accounts
 
 -- ---- what stays
 

@@ -12,6 +12,7 @@ ghost use Rattle.kernel_model.specs.Locks.{LockTable as Table, outermost_holding
 ghost use Rattle.kernel_model.specs.Objects.{Accounts as Funds, Things};
 ghost use Rattle.kernel_model.specs.Policies as spec;
 ghost use Rattle.kernel_model.specs.UndoLog.{undo_all};
+ghost use Rattle.kernel_model.specs.Sound.{ImagesAreLoaded};
 ghost use Rattle.kernel_model.specs.World.{ImageTable};
 ghost use Rattle.kernel_state.specs.Accesses.{answer_of, things_after, CanBeUndone};
 ghost use Rattle.kernel_state.specs.Stores.{world_of_store, objects_of};
@@ -83,6 +84,7 @@ fn give(
         ≡ (result, call_of (λ b. seen (b.vtable, b.value)) store.new locks.new chain.new p) }
     ensures placed { IsPlaced (λ b. seen (b.vtable, b.value)) store.new locks.new p chain.new.levels chain.new.undo }
     ensures inside { (images : ImageTable) → AreInside images (objects_of (λ b. seen (b.vtable, b.value)) store.old).accounts p (level ∷ chain.old.levels) → AreInside images (objects_of (λ b. seen (b.vtable, b.value)) store.new).accounts p chain.new.levels }
+    ensures loaded { (images : ImageTable) → ImagesAreLoaded images (objects_of (λ b. seen (b.vtable, b.value)) store.old).accounts → ImagesAreLoaded images (objects_of (λ b. seen (b.vtable, b.value)) store.new).accounts }
     ensures elsewhere { IsElsewhereSame store.old store.new locks.old locks.new p }
 {
     let due = is_lock_due(id, need.object, p, locks);
@@ -131,6 +133,7 @@ fn change(
         ≡ (result, call_of (λ b. seen (b.vtable, b.value)) store.new locks.new chain.new p) }
     ensures placed { IsPlaced (λ b. seen (b.vtable, b.value)) store.new locks.new p chain.new.levels chain.new.undo }
     ensures inside { (images : ImageTable) → AreInside images (objects_of (λ b. seen (b.vtable, b.value)) store.old).accounts p (level ∷ chain.old.levels) → AreInside images (objects_of (λ b. seen (b.vtable, b.value)) store.new).accounts p chain.new.levels }
+    ensures loaded { (images : ImageTable) → ImagesAreLoaded images (objects_of (λ b. seen (b.vtable, b.value)) store.old).accounts → ImagesAreLoaded images (objects_of (λ b. seen (b.vtable, b.value)) store.new).accounts }
     ensures elsewhere { IsElsewhereSame store.old store.new locks.old locks.new p }
 {
     if !charge_record(&chain.undo, &mut store.accounts, level.owner, level.point) {
@@ -167,6 +170,7 @@ pub(crate) fn access(
         ≡ (result, call_of (λ b. seen (b.vtable, b.value)) store.new locks.new chain.new p) }
     ensures placed { IsPlaced (λ b. seen (b.vtable, b.value)) store.new locks.new p chain.new.levels chain.new.undo }
     ensures inside { (images : ImageTable) → AreInside images (objects_of (λ b. seen (b.vtable, b.value)) store.old).accounts p (level ∷ chain.old.levels) → AreInside images (objects_of (λ b. seen (b.vtable, b.value)) store.new).accounts p chain.new.levels }
+    ensures loaded { (images : ImageTable) → ImagesAreLoaded images (objects_of (λ b. seen (b.vtable, b.value)) store.old).accounts → ImagesAreLoaded images (objects_of (λ b. seen (b.vtable, b.value)) store.new).accounts }
     ensures elsewhere { IsElsewhereSame store.old store.new locks.old locks.new p }
 {
     match store.answer(id, arguments(&level.machine), level.owner) {

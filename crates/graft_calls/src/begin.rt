@@ -7,6 +7,7 @@ ghost use Rattle.kernel_model.specs.Laws.{IsInRange};
 ghost use Rattle.kernel_model.specs.Levels.{new_level, image_of};
 ghost use Rattle.kernel_model.specs.Locks.{LockTable as Table};
 ghost use Rattle.kernel_model.specs.Policies.{lives};
+ghost use Rattle.kernel_model.specs.Sound.{ImagesAreLoaded};
 ghost use Rattle.kernel_model.specs.World.{ImageTable};
 ghost use Rattle.kernel_state.specs.Stores.{world_of_store, objects_of, queue_of, IsStore};
 ghost use Rattle.lock_table.specs.Masks.{held};
@@ -91,7 +92,8 @@ impl Chain {
         requires owner { at.now.installer < 16 }
         requires point { at.now.point < 16 }
         requires lives { lives (queue_of store.old) at.now.installer ≡ true }
-        requires loaded { is_some (image_of (table_of images.now) ((objects_of (λ b. seen (b.vtable, b.value)) store.old).accounts.graft at.now.installer at.now.point)) ≡ true }
+        requires stands { is_some ((objects_of (λ b. seen (b.vtable, b.value)) store.old).accounts.graft at.now.installer at.now.point) ≡ true }
+        requires loaded { ImagesAreLoaded (table_of images.now) (objects_of (λ b. seen (b.vtable, b.value)) store.old).accounts }
         requires range { All (λ (n : Needed). IsInRange n.object) needs.now }
         ensures value { call_of (λ b. seen (b.vtable, b.value)) store.new locks.new self.new p ≡ begin_at (table_of images.now) (objects_of (λ b. seen (b.vtable, b.value)) store.old) p needs.now at.now }
         ensures in_place { IsInPlace (λ b. seen (b.vtable, b.value)) store.new locks.new (table_of images.now) p self.new.levels self.new.undo }

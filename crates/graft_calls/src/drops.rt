@@ -6,6 +6,7 @@ ghost use Rattle.kernel_model.specs.Levels.{drop_innermost as innermost_dropped,
 ghost use Rattle.kernel_model.specs.Locks.{release_from};
 ghost use Rattle.kernel_model.specs.Policies.{lives};
 ghost use Rattle.kernel_model.specs.UndoLog.{undo_on};
+ghost use Rattle.kernel_model.specs.Sound.{ImagesAreLoaded};
 ghost use Rattle.kernel_model.specs.World.{ImageTable};
 ghost use Rattle.kernel_state.specs.Accesses.{CanBeUndone};
 ghost use Rattle.kernel_state.specs.Stores.{world_of_store, objects_of, queue_of, IsStore};
@@ -95,6 +96,7 @@ pub(crate) fn drop_innermost(
         ≡ (result, call_of (λ b. seen (b.vtable, b.value)) store.new locks.new chain.new p) }
     ensures placed { IsPlaced (λ b. seen (b.vtable, b.value)) store.new locks.new p chain.new.levels chain.new.undo }
     ensures inside { (images : ImageTable) → AreInside images (objects_of (λ b. seen (b.vtable, b.value)) store.old).accounts p (level ∷ chain.old.levels) → AreInside images (objects_of (λ b. seen (b.vtable, b.value)) store.new).accounts p chain.new.levels }
+    ensures loaded { (images : ImageTable) → ImagesAreLoaded images (objects_of (λ b. seen (b.vtable, b.value)) store.old).accounts → ImagesAreLoaded images (objects_of (λ b. seen (b.vtable, b.value)) store.new).accounts }
     ensures elsewhere { IsElsewhereSame store.old store.new locks.old locks.new p }
 {
     end_level(chain, p, store, locks);
@@ -120,6 +122,7 @@ impl Chain {
             ≡ (result, call_of (λ b. seen (b.vtable, b.value)) store.new locks.new self.new p) }
         ensures placed { IsPlaced (λ b. seen (b.vtable, b.value)) store.new locks.new p self.new.levels self.new.undo }
         ensures inside { (images : ImageTable) → AreInside images (objects_of (λ b. seen (b.vtable, b.value)) store.old).accounts p self.old.levels → AreInside images (objects_of (λ b. seen (b.vtable, b.value)) store.new).accounts p self.new.levels }
+        ensures loaded { (images : ImageTable) → ImagesAreLoaded images (objects_of (λ b. seen (b.vtable, b.value)) store.old).accounts → ImagesAreLoaded images (objects_of (λ b. seen (b.vtable, b.value)) store.new).accounts }
         ensures elsewhere { IsElsewhereSame store.old store.new locks.old locks.new p }
     {
         let Some(level) = self.levels.pop() else {

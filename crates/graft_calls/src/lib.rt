@@ -6,11 +6,13 @@
 
 mod accessors;
 mod answers;
+mod asks;
 mod begin;
 mod charges;
 mod code;
 mod drops;
 mod images;
+mod instruction;
 mod levels;
 mod points;
 mod returns;

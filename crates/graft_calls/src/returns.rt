@@ -11,6 +11,7 @@ ghost use Rattle.kernel_model.specs.Locks.{LockTable as Table, merge_level, rele
 ghost use Rattle.kernel_model.specs.Objects.{Objects as State, Accounts as Funds, Things};
 ghost use Rattle.kernel_model.specs.Policies.{kind_of, valid};
 ghost use Rattle.kernel_model.specs.UndoLog.{undo_all};
+ghost use Rattle.kernel_model.specs.Sound.{ImagesAreLoaded};
 ghost use Rattle.kernel_model.specs.World.{ImageTable};
 ghost use Rattle.kernel_state.specs.Stores.{world_of_store, objects_of};
 ghost use Rattle.lock_table.specs.Masks.{held};
@@ -104,6 +105,7 @@ pub(crate) fn offer(
         ≡ (result, call_of (λ b. seen (b.vtable, b.value)) store.new locks.new chain.new p) }
     ensures placed { IsPlaced (λ b. seen (b.vtable, b.value)) store.new locks.new p chain.new.levels chain.new.undo }
     ensures inside { (images : ImageTable) → AreInside images (objects_of (λ b. seen (b.vtable, b.value)) store.old).accounts p (level ∷ chain.old.levels) → AreInside images (objects_of (λ b. seen (b.vtable, b.value)) store.new).accounts p chain.new.levels }
+    ensures loaded { (images : ImageTable) → ImagesAreLoaded images (objects_of (λ b. seen (b.vtable, b.value)) store.old).accounts → ImagesAreLoaded images (objects_of (λ b. seen (b.vtable, b.value)) store.new).accounts }
     ensures elsewhere { IsElsewhereSame store.old store.new locks.old locks.new p }
 {
     if !is_valid(store, &level) {

@@ -1,0 +1,177 @@
+//! What the ask of another point comes to.
+
+ghost use Rattle.std.specs.Prelude.{◌≡◌, ◌≢◌, ℕ, suc, ◌<◌, ◌≤◌, ◌∷◌, [], List, None, true, false, length, slice_index, All};
+ghost use Rattle.kernel_model.specs.declared.Inverse.{Inverse as Undoing};
+ghost use Rattle.kernel_model.specs.declared.Mode.TheVariants.{Exclusive, Shared};
+ghost use Rattle.kernel_model.specs.declared.Need.{Need as Needed};
+ghost use Rattle.kernel_model.specs.declared.Object.TheVariants.{Graft};
+ghost use Rattle.kernel_model.specs.Access.{asked_point as point_asked, asked_objects, early_refusal, is_ask};
+ghost use Rattle.kernel_model.specs.GraftStep.{after_ask, ask_answered, ask_refusal as refusal_of_ask, is_vain_ask};
+ghost use Rattle.kernel_model.specs.Laws.{IsInRange};
+ghost use Rattle.kernel_model.specs.Locks.{LockTable as Table, with_touch};
+ghost use Rattle.kernel_model.specs.Objects.{Things};
+ghost use Rattle.kernel_model.specs.Policies.{kind_of, lives};
+ghost use Rattle.kernel_state.specs.Stores.{world_of_store, objects_of, queue_of, IsStore};
+ghost use Rattle.lock_table.specs.Masks.{held};
+ghost use Rattle.graft_calls.specs.Tables.{table_of};
+ghost use Rattle.graft_calls.specs.Chains.{came, call_of, level_of, outer_of, levels_in, levels_of, is_running_in};
+ghost use Rattle.graft_calls.specs.Calls.{IsInPlace, IsElsewhereSame, needs_touched};
+
+use crate::answers::give_answer;
+use crate::begin::{begin_level, touch_needs};
+use crate::code::image_of;
+use crate::drops::drop_innermost;
+use crate::points::{args_of, default_of};
+use crate::{Chain, GraftLevel, Images, Levels};
+use accessor_list::ids;
+use kernel_model::{Cause, Micro, Mode, Need, Object, Point};
+use kernel_state::Store;
+use lock_table::LockTable;
+
+/// The point that an ask names, of the asker's own process.
+pub(crate) fn asked_point(id: u32, r0: u32) -> u8
+    requires { id ≡ 13 → r0 < 4 }
+    ensures value { result ≡ point_asked id r0 }
+    ensures range { result < 16 }
+{
+    match id {
+        ids::ASK_RA => r0 as u8,
+        ids::ASK_VICTIM => 4,
+        _ => 5,
+    }
+}
+
+/// An object that is looked at.
+fn shared(object: Object) -> Need
+    ensures { result ≡ record { object = object; mode = Shared; by_user = false } }
+{
+    Need {
+        object,
+        mode: Mode::Shared,
+        by_user: false,
+    }
+}
+
+/// The objects that an ask needs, before the graft of its point.
+pub(crate) fn asked_needs(id: u32, r0: u32, q: u8) -> [Need; 2]
+    requires process { q < 16 }
+    requires descriptor { id ≡ 13 → r0 < 4 }
+    ensures value { result ≡ asked_objects id r0 q }
+    ensures range { All (λ (n : Needed). IsInRange n.object) result }
+{
+    match id {
+        ids::ASK_RA => [shared(Object::OpenFile(q, r0 as u8)), shared(Object::Pol(0))],
+        ids::ASK_VICTIM => [shared(Object::Cache), shared(Object::Pol(1))],
+        _ => [shared(Object::Queue), shared(Object::Pol(2))],
+    }
+}
+
+/// Whether a point can't be asked, as the values show: its file isn't open, or process q has no frame.
+fn is_vain(store: &Store, q: u8, pt: u8) -> bool
+    requires sound { IsStore (λ b. seen (b.vtable, b.value)) store.now }
+    requires lives { lives (queue_of store.now) q ≡ true }
+    ensures { result ≡ is_vain_ask (kind_of pt) (objects_of (λ b. seen (b.vtable, b.value)) store.now).things q pt }
+{
+    match pt {
+        0..=3 => store.file(q, pt).is_none(),
+        4 => store.owned_rows(q).as_slice().is_empty(),
+        _ => false,
+    }
+}
+
+/// Why an ask of point pt is refused by the values, if it is; the asking level was taken from the others.
+fn ask_refusal(id: u32, pt: u8, level: &GraftLevel, levels: &Levels, store: &Store) -> Option<Cause>
+    requires sound { IsStore (λ b. seen (b.vtable, b.value)) store.now }
+    requires lives { lives (queue_of store.now) level.now.owner ≡ true }
+    requires owner { level.now.owner < 16 }
+    requires point { pt < 16 }
+    requires few { length levels.now < 4 }
+    ensures value { (p : ℕ) (ram : List ℕ) (t : Table) (log : List (List Undoing)) (w : Things) →
+        result ≡ refusal_of_ask (objects_of (λ b. seen (b.vtable, b.value)) store.now) level.now.owner pt id (levels_in p ram t (level.now ∷ levels.now) log w) }
+    ensures free { result ≡ None → is_running_in (level.now ∷ levels.now) level.now.owner pt ≡ false }
+    ensures room { result ≡ None → (objects_of (λ b. seen (b.vtable, b.value)) store.now).accounts.graft level.now.owner pt ≢ None → length levels.now < 3 }
+{
+    let q = level.owner;
+    if is_vain(store, q, pt) {
+        return Some(Cause::BadArgument(id));
+    }
+    if level.point == pt || levels.runs(q, pt) {
+        return Some(Cause::Reentered);
+    }
+    if levels.count() == 3 && store.accounts.graft(q, pt).is_some() {
+        return Some(Cause::TooDeep);
+    }
+    None
+}
+
+/// The asking level holds what the ask needs, and level 0 the graft of the point.
+fn touch_asked(id: u32, r0: u32, q: u8, p: u8, d: u8, locks: &mut LockTable)
+    requires asker { q < 16 }
+    requires process { p < 16 }
+    requires depth { d < 4 }
+    requires descriptor { id ≡ 13 → r0 < 4 }
+    ensures { held locks.new ≡ with_touch p 0 (Graft q (point_asked id r0)) Exclusive (needs_touched p d (asked_objects id r0 q) (held locks.old)) }
+{
+    touch_needs(&asked_needs(id, r0, q), p, d, locks);
+    locks.touch(p, 0, Object::Graft(q, asked_point(id, r0)), Mode::Exclusive);
+}
+
+/// An ask that isn't refused is answered: a level begins inside the others where a graft stands, else the innermost level gets the
+/// default.
+fn answer_ask(pt: u8, q: u8, chain: &mut Chain, p: u8, store: &mut Store, locks: &LockTable, images: &Images) -> Micro
+    requires in_place { IsInPlace (λ b. seen (b.vtable, b.value)) store.old locks.now (table_of images.now) p chain.old.levels chain.old.undo }
+    requires owner { q < 16 }
+    requires point { pt < 16 }
+    requires lives { lives (queue_of store.old) q ≡ true }
+    requires free { is_running_in chain.old.levels q pt ≡ false }
+    requires room { (objects_of (λ b. seen (b.vtable, b.value)) store.old).accounts.graft q pt ≢ None → length chain.old.levels < 4 }
+    ensures step { came (ask_answered (world_of_store store.old) (table_of images.now) (objects_of (λ b. seen (b.vtable, b.value)) store.old) p q pt (levels_of (λ b. seen (b.vtable, b.value)) store.old locks.now chain.old p) ((objects_of (λ b. seen (b.vtable, b.value)) store.old).accounts.graft q pt))
+        ≡ (result, call_of (λ b. seen (b.vtable, b.value)) store.new locks.now chain.new p) }
+    ensures in_place { IsInPlace (λ b. seen (b.vtable, b.value)) store.new locks.now (table_of images.now) p chain.new.levels chain.new.undo }
+    ensures elsewhere { IsElsewhereSame store.old store.new locks.now locks.now p }
+{
+    if store.accounts.graft(q, pt).is_none() {
+        let (r0, r1) = default_of(store, q, pt);
+        give_answer(&mut chain.levels, pt, r0, r1);
+        return Micro::Went;
+    }
+    let args = args_of(store, q, pt);
+    let image = image_of(images, &store.accounts, q, pt);
+    let at = Point {
+        installer: q,
+        point: pt,
+        args,
+    };
+    begin_level(chain, p, store, image, &at);
+    Micro::Went
+}
+
+/// What an ask comes to that isn't refused by its arguments.
+pub(crate) fn ask(
+    id: u32,
+    level: GraftLevel,
+    chain: &mut Chain,
+    p: u8,
+    store: &mut Store,
+    locks: &mut LockTable,
+    images: &Images,
+) -> Micro
+    requires in_place { IsInPlace (λ b. seen (b.vtable, b.value)) store.old locks.old (table_of images.now) p (level ∷ chain.old.levels) chain.old.undo }
+    requires early { early_refusal 15 id (slice_index level.machine.regs 0) (slice_index level.machine.regs 1) level.owner ≡ None }
+    ensures step { let l = level_of (λ b. seen (b.vtable, b.value)) store.old locks.old chain.old p level in let ls = outer_of (λ b. seen (b.vtable, b.value)) store.old locks.old chain.old p in
+        let pt = point_asked id (l.machine.regs 0) in
+        came (after_ask (world_of_store store.old) (table_of images.now) (objects_of (λ b. seen (b.vtable, b.value)) store.old) p l ls l.machine id pt (refusal_of_ask (objects_of (λ b. seen (b.vtable, b.value)) store.old) l.owner pt id (l ∷ ls)))
+        ≡ (result, call_of (λ b. seen (b.vtable, b.value)) store.new locks.new chain.new p) }
+    ensures in_place { IsInPlace (λ b. seen (b.vtable, b.value)) store.new locks.new (table_of images.now) p chain.new.levels chain.new.undo }
+    ensures elsewhere { IsElsewhereSame store.old store.new locks.old locks.new p }
+{
+    let q = level.owner;
+    let r0 = level.machine.reg(0);
+    let pt = asked_point(id, r0);
+    if let Some(cause) = ask_refusal(id, pt, &level, &chain.levels, store) {
+        return drop_innermost(level, chain, p, store, locks, cause);
+    }
+    touch_asked(id, r0, q, p, chain.levels.count(), locks);
+    chain.levels.push(level);
+    answer_ask(pt, q, chain, p, store, locks, images)
+}

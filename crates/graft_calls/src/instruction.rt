@@ -1,0 +1,143 @@
+//! One instruction of the innermost level.
+
+ghost use Rattle.std.specs.Prelude.{◌≡◌, ℕ, ◌<◌, ◌≤◌, ◌∷◌, [], length, slice_index, true, false, None};
+ghost use Rattle.kernel_model.specs.Access.{early_refusal};
+ghost use Rattle.kernel_model.specs.GraftStep.{micro, micro_on, after_machine as after_step, after_call};
+ghost use Rattle.kernel_state.specs.Stores.{world_of_store, objects_of};
+ghost use Rattle.graft_machine.specs.Cpu.{done_of};
+ghost use Rattle.graft_calls.specs.Tables.{table_of};
+ghost use Rattle.graft_calls.specs.Chains.{came, call_of, level_of, outer_of};
+ghost use Rattle.graft_calls.specs.Calls.{IsInPlace, IsElsewhereSame};
+
+use crate::accessors::{Accessed, access};
+use crate::answers::arguments;
+use crate::asks::ask;
+use crate::charges::charge_step;
+use crate::code::code_of;
+use crate::drops::drop_innermost;
+use crate::returns::offer;
+use crate::{Chain, GraftLevel, Images};
+use accessor_list::early;
+use graft_machine::{Outcome, laws};
+use kernel_model::{Cause, Micro};
+use kernel_state::Store;
+use lock_table::LockTable;
+
+/// The highest id of the callable list that grafts may call.
+const CALLABLE: u32 = 11;
+
+/// What a call comes to. The machine is behind it.
+fn call(
+    id: u32,
+    level: GraftLevel,
+    chain: &mut Chain,
+    p: u8,
+    store: &mut Store,
+    locks: &mut LockTable,
+    images: &Images,
+) -> Micro
+    requires in_place { IsInPlace (λ b. seen (b.vtable, b.value)) store.old locks.old (table_of images.now) p (level ∷ chain.old.levels) chain.old.undo }
+    ensures step { let l = level_of (λ b. seen (b.vtable, b.value)) store.old locks.old chain.old p level in
+        came (after_call (world_of_store store.old) (table_of images.now) (objects_of (λ b. seen (b.vtable, b.value)) store.old) p l (outer_of (λ b. seen (b.vtable, b.value)) store.old locks.old chain.old p) l.machine id
+            (early_refusal (world_of_store store.old).callable id (l.machine.regs 0) (l.machine.regs 1) l.owner))
+        ≡ (result, call_of (λ b. seen (b.vtable, b.value)) store.new locks.new chain.new p) }
+    ensures in_place { IsInPlace (λ b. seen (b.vtable, b.value)) store.new locks.new (table_of images.now) p chain.new.levels chain.new.undo }
+    ensures elsewhere { IsElsewhereSame store.old store.new locks.old locks.new p }
+{
+    if id > CALLABLE {
+        return drop_innermost(level, chain, p, store, locks, Cause::NotCallable(id));
+    }
+    match early(id, arguments(&level.machine), level.owner) {
+        Err(cause) => drop_innermost(level, chain, p, store, locks, cause),
+        Ok(Some((object, mode))) => {
+            let need = Accessed { object, mode };
+            access(id, need, level, chain, p, store, locks)
+        }
+        Ok(None) => ask(id, level, chain, p, store, locks, images),
+    }
+}
+
+/// What follows from what the machine of a level did, which was taken out of the chain.
+fn after_machine(
+    done: Outcome,
+    level: GraftLevel,
+    chain: &mut Chain,
+    p: u8,
+    store: &mut Store,
+    locks: &mut LockTable,
+    images: &Images,
+) -> Micro
+    requires in_place { IsInPlace (λ b. seen (b.vtable, b.value)) store.old locks.old (table_of images.now) p (level ∷ chain.old.levels) chain.old.undo }
+    ensures step { let l = level_of (λ b. seen (b.vtable, b.value)) store.old locks.old chain.old p level in
+        came (after_step (world_of_store store.old) (table_of images.now) p (objects_of (λ b. seen (b.vtable, b.value)) store.old) l (outer_of (λ b. seen (b.vtable, b.value)) store.old locks.old chain.old p) (done_of done l.machine))
+        ≡ (result, call_of (λ b. seen (b.vtable, b.value)) store.new locks.new chain.new p) }
+    ensures in_place { IsInPlace (λ b. seen (b.vtable, b.value)) store.new locks.new (table_of images.now) p chain.new.levels chain.new.undo }
+    ensures elsewhere { IsElsewhereSame store.old store.new locks.old locks.new p }
+{
+    match done {
+        Outcome::Went => {
+            chain.levels.push(level);
+            Micro::Went
+        }
+        Outcome::Called(id) => call(id, level, chain, p, store, locks, images),
+        Outcome::Returned => offer(level, chain, p, store, locks),
+        Outcome::DividedByZero => {
+            drop_innermost(level, chain, p, store, locks, Cause::DivideByZero)
+        }
+        Outcome::Trapped(code) => {
+            drop_innermost(level, chain, p, store, locks, Cause::Trap(code))
+        }
+    }
+}
+
+/// One instruction of a level that was taken out of the chain: it is charged and done, or the level is dropped where no step is
+/// left.
+fn run(
+    level: GraftLevel,
+    chain: &mut Chain,
+    p: u8,
+    store: &mut Store,
+    locks: &mut LockTable,
+    images: &Images,
+) -> Micro
+    requires in_place { IsInPlace (λ b. seen (b.vtable, b.value)) store.old locks.old (table_of images.now) p (level ∷ chain.old.levels) chain.old.undo }
+    ensures step { came (micro_on (world_of_store store.old) (table_of images.now) p (objects_of (λ b. seen (b.vtable, b.value)) store.old) (level_of (λ b. seen (b.vtable, b.value)) store.old locks.old chain.old p level ∷ outer_of (λ b. seen (b.vtable, b.value)) store.old locks.old chain.old p))
+        ≡ (result, call_of (λ b. seen (b.vtable, b.value)) store.new locks.new chain.new p) }
+    ensures in_place { IsInPlace (λ b. seen (b.vtable, b.value)) store.new locks.new (table_of images.now) p chain.new.levels chain.new.undo }
+    ensures elsewhere { IsElsewhereSame store.old store.new locks.old locks.new p }
+{
+    let mut level = level;
+    let code = code_of(images, &store.accounts, level.owner, level.point);
+    if !charge_step(&mut level, &mut store.accounts) {
+        return drop_innermost(level, chain, p, store, locks, Cause::SpentSteps);
+    }
+    laws::stays_inside();
+    store.cache.lru();
+    store.ram.byte(0);
+    code.code();
+    let done = level.machine.step(&mut store.ram, code);
+    store.ram.byte(0);
+    after_machine(done, level, chain, p, store, locks, images)
+}
+
+impl Chain {
+    /// One instruction of the innermost level, whatever another call holds. `Completed` has the answer of level 0, and then no
+    /// level is left; `Dropped` has the number of the level that was dropped, its graft and the cause. `Blocked` isn't answered.
+    pub fn instruction(
+        &mut self,
+        p: u8,
+        store: &mut Store,
+        locks: &mut LockTable,
+        images: &Images,
+    ) -> Micro
+        requires in_place { IsInPlace (λ b. seen (b.vtable, b.value)) store.old locks.old (table_of images.now) p self.old.levels self.old.undo }
+        ensures step { came (micro (world_of_store store.old) (table_of images.now) p (call_of (λ b. seen (b.vtable, b.value)) store.old locks.old self.old p)) ≡ (result, call_of (λ b. seen (b.vtable, b.value)) store.new locks.new self.new p) }
+        ensures in_place { IsInPlace (λ b. seen (b.vtable, b.value)) store.new locks.new (table_of images.now) p self.new.levels self.new.undo }
+        ensures elsewhere { IsElsewhereSame store.old store.new locks.old locks.new p }
+    {
+        match self.levels.pop() {
+            Some(level) => run(level, self, p, store, locks, images),
+            None => Micro::Went,
+        }
+    }
+}
