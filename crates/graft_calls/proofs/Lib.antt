@@ -14,3 +14,4 @@ mod Completing
 mod Memory
 mod Beginning
 mod Needing
+mod Asking

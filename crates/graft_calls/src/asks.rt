@@ -1,6 +1,6 @@
 //! What the ask of another point comes to.
 
-ghost use Rattle.std.specs.Prelude.{◌≡◌, ◌≢◌, ℕ, suc, ◌<◌, ◌≤◌, ◌∷◌, [], List, None, true, false, length, slice_index, All};
+ghost use Rattle.std.specs.Prelude.{◌≡◌, ◌≢◌, ℕ, suc, ◌<◌, ◌≤◌, ◌∷◌, ◌&&◌, ◌==◌, [], List, None, true, false, length, slice_index, is_some, All};
 ghost use Rattle.kernel_model.specs.declared.Inverse.{Inverse as Undoing};
 ghost use Rattle.kernel_model.specs.declared.Mode.TheVariants.{Exclusive, Shared};
 ghost use Rattle.kernel_model.specs.declared.Need.{Need as Needed};
@@ -11,6 +11,7 @@ ghost use Rattle.kernel_model.specs.Laws.{IsInRange};
 ghost use Rattle.kernel_model.specs.Locks.{LockTable as Table, with_touch};
 ghost use Rattle.kernel_model.specs.Objects.{Things};
 ghost use Rattle.kernel_model.specs.Policies.{kind_of, lives};
+ghost use Rattle.graft_accounts.specs.Table.{accounts_of};
 ghost use Rattle.kernel_state.specs.Stores.{world_of_store, objects_of, queue_of, IsStore};
 ghost use Rattle.lock_table.specs.Masks.{held};
 ghost use Rattle.graft_calls.specs.Tables.{table_of};
@@ -24,6 +25,7 @@ use crate::drops::drop_innermost;
 use crate::points::{args_of, default_of};
 use crate::{Chain, GraftLevel, Images, Levels};
 use accessor_list::ids;
+use graft_accounts::Accounts;
 use kernel_model::{Cause, Micro, Mode, Need, Object, Point};
 use kernel_state::Store;
 use lock_table::LockTable;
@@ -79,6 +81,22 @@ fn is_vain(store: &Store, q: u8, pt: u8) -> bool
     }
 }
 
+/// Whether the asking level or one outside it is a run of the graft at point pt of the same process.
+fn is_running(level: &GraftLevel, levels: &Levels, pt: u8) -> bool
+    ensures { result ≡ is_running_in (level.now ∷ levels.now) level.now.owner pt }
+{
+    level.point == pt || levels.runs(level.owner, pt)
+}
+
+/// Whether a graft stands at point pt of process q, but there is no room for a level, as the asking level is inside three others.
+fn is_too_deep(levels: &Levels, accounts: &Accounts, q: u8, pt: u8) -> bool
+    requires owner { q < 16 }
+    requires point { pt < 16 }
+    ensures { result ≡ (is_some ((accounts_of accounts.now).graft q pt) && length levels.now == 3) }
+{
+    accounts.graft(q, pt).is_some() && levels.count() == 3
+}
+
 /// Why an ask of point pt is refused by the values, if it is; the asking level was taken from the others.
 fn ask_refusal(id: u32, pt: u8, level: &GraftLevel, levels: &Levels, store: &Store) -> Option<Cause>
     requires sound { IsStore (λ b. seen (b.vtable, b.value)) store.now }
@@ -91,14 +109,13 @@ fn ask_refusal(id: u32, pt: u8, level: &GraftLevel, levels: &Levels, store: &Sto
     ensures free { result ≡ None → is_running_in (level.now ∷ levels.now) level.now.owner pt ≡ false }
     ensures room { result ≡ None → (objects_of (λ b. seen (b.vtable, b.value)) store.now).accounts.graft level.now.owner pt ≢ None → length levels.now < 3 }
 {
-    let q = level.owner;
-    if is_vain(store, q, pt) {
+    if is_vain(store, level.owner, pt) {
         return Some(Cause::BadArgument(id));
     }
-    if level.point == pt || levels.runs(q, pt) {
+    if is_running(level, levels, pt) {
         return Some(Cause::Reentered);
     }
-    if levels.count() == 3 && store.accounts.graft(q, pt).is_some() {
+    if is_too_deep(levels, &store.accounts, level.owner, pt) {
         return Some(Cause::TooDeep);
     }
     None

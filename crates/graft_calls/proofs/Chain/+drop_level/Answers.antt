@@ -1,6 +1,7 @@
 use Rattle.std.proofs.Common.{◌≡◌, ◌∷◌, length, ap, subst, sym, ◌∙◌}
 use Rattle.kernel_model.specs.Objects.{Objects}
 use Rattle.kernel_model.specs.Locks.{release_from}
+use Rattle.kernel_model.specs.Sound.{ImagesAreLoaded}
 use Rattle.lock_table.specs.Masks.{held}
 use Rattle.graft_accounts.specs.Table.{accounts_of}
 use Rattle.kernel_state.specs.Stores.{world_of_store}
@@ -38,3 +39,8 @@ returns-clause-inside g t c = λ images h.
 
 pub returns-clause-elsewhere : goal.returns-clause-elsewhere
 returns-clause-elsewhere g t c = elsewhere_twice _ _ _ _ _ _ _ c.end_level.ensures.elsewhere c.drop_level.ensures.elsewhere
+
+pub returns-clause-loaded : goal.returns-clause-loaded
+returns-clause-loaded g t c = λ images h.
+    let same : accounts_of c.end_level.new.store.accounts ≡ accounts_of c.args.store.now.accounts = ap (λ (x : Objects). x.accounts) c.end_level.ensures.objects in
+    c.drop_level.ensures.loaded images (subst (ImagesAreLoaded images) (sym same) h)

@@ -1,4 +1,4 @@
-use Rattle.std.proofs.Common.{◌≡◌, ◌≤◌, ◌==◌, ◌&&◌, ℕ, suc, [], ◌∷◌, List, length, false, ap, sym, subst, arith, ◌∙◌}
+use Rattle.std.proofs.Common.{◌≡◌, ◌≤◌, ◌==◌, ◌&&◌, ℕ, suc, [], ◌∷◌, List, length, false, ap, sym, subst, refl, arith, ◌∙◌}
 use Rattle.std.proofs.lemmas.Bool.Decides.{nat_tests}
 use Rattle.kernel_model.specs.Locks.{LockTable, Touched, touch_all, untouched}
 use Rattle.kernel_model.specs.Levels.{Level, new_level}
@@ -10,6 +10,8 @@ use Rattle.graft_calls.specs.Tables.{table_of}
 use Rattle.graft_calls.specs.declared.GraftLevel.{GraftLevel}
 use Rattle.graft_calls.specs.Chains.{levels_in, is_running_in}
 use Rattle.graft_calls.specs.Calls.{AreSound, AreInside}
+use Rattle.kernel_model.specs.Sound.{ImagesAreLoaded}
+use Rattle.graft_calls.proofs.Conditions.{stands_loaded}
 use Rattle.graft_calls.proofs.Dropping.{configs}
 use Rattle.graft_calls.proofs.Needing.{needs_here, needs_apart, nothing_held, begun_placed, locks_elsewhere}
 use Rattle.graft_calls.proofs.Chain.begin.Goals as goal
@@ -47,6 +49,7 @@ returns-clause-in_place g c =
           (λ d o le. ap (λ (x : LockTable). x c.args.p d o) c.touch_needs.ensures
           ∙ ap (λ (x : Touched). x o) (needs_apart c.args.p 0 c.args.p d c.args.needs.now (held c.args.locks.now) (grind (arith, nat_tests, le)))
           ∙ c.requires.placed.unheld d o (omega (arith, few, le)));
+      loaded = subst (λ (x : Objects). ImagesAreLoaded (table_of c.args.images.now) x.accounts) (sym c.begin_level.ensures.objects) c.requires.loaded;
       inside = subst (λ (x : Objects). AreInside (table_of c.args.images.now) x.accounts c.args.p c.begin_level.new.chain.levels) (sym c.begin_level.ensures.objects)
           (c.begin_level.ensures.inside (table_of c.args.images.now) c.image_of-image.ensures
           (subst (λ (x : List GraftLevel). AreInside (table_of c.args.images.now) (accounts_of s.accounts) c.args.p x) (sym c.requires.none) tt));
@@ -56,3 +59,7 @@ pub returns-clause-elsewhere : goal.returns-clause-elsewhere
 returns-clause-elsewhere g c =
     locks_elsewhere c.args.store.now c.begin_level.new.store c.args.locks.now c.touch_needs.new.locks c.args.p (c.begin_level.ensures.elsewhere c.args.locks.now)
     (λ q d apart. ap (λ (x : LockTable). x q d) c.touch_needs.ensures ∙ needs_apart c.args.p 0 q d c.args.needs.now (held c.args.locks.now) (grind (arith, nat_tests, apart)))
+
+pub image_of-image-requires-clause-loaded : goal.image_of-image-requires-clause-loaded
+image_of-image-requires-clause-loaded g c =
+    stands_loaded (table_of c.args.images.now) (accounts_of c.args.store.now.accounts) c.args.at.now.installer c.args.at.now.point _ refl c.requires.stands c.requires.loaded

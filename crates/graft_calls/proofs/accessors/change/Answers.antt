@@ -6,6 +6,7 @@ use Rattle.kernel_model.specs.Charges.{charge, funds}
 use Rattle.kernel_model.specs.GraftStep.{after_change, is_record_spent}
 use Rattle.kernel_model.specs.Levels.{drop_innermost}
 use Rattle.kernel_model.specs.Objects.{Objects, Accounts, Things, with_accounts, with_things}
+use Rattle.kernel_model.specs.Sound.{ImagesAreLoaded}
 use Rattle.lock_table.specs.Masks.{held}
 use Rattle.undo_calls.specs.UndoLevels.{records_of}
 use Rattle.graft_accounts.specs.Table.{accounts_of}
@@ -14,7 +15,7 @@ use Rattle.kernel_state.specs.Stores.{world_of_store, objects_of}
 use Rattle.graft_calls.specs.Chains.{came, level_of, outer_of}
 use Rattle.graft_calls.specs.Calls.{AreInside}
 use Rattle.graft_calls.proofs.Charging.{not_recorded, is_recorded, uncharged}
-use Rattle.graft_calls.proofs.Conditions.{inside_if}
+use Rattle.graft_calls.proofs.Conditions.{inside_if, loaded_if}
 use Rattle.graft_calls.proofs.Dropping.{pair, configs}
 use Rattle.graft_calls.proofs.GoingOn.{recorded_on}
 use Rattle.graft_calls.proofs.Looking.{leads_back, stands_once, more_undoable}
@@ -94,3 +95,13 @@ returns-clause-inside g c = λ images h.
 pub returns-clause-elsewhere : goal.returns-clause-elsewhere
 returns-clause-elsewhere g c =
     touched_elsewhere c.args.store.now _ c.args.locks.now c.touch.new.self c.args.p c.count.result c.args.need.object c.args.need.mode c.apply.ensures.world c.apply.ensures.living c.apply.ensures.memory c.touch.ensures
+
+pub returns-then-not-charge_record-clause-loaded : goal.returns-then-not-charge_record-clause-loaded
+returns-then-not-charge_record-clause-loaded g c = λ images h.
+    c.drop_innermost.ensures.loaded images
+    (loaded_if _ images Records c.args.level.owner c.args.level.point (accounts_of c.args.store.now.accounts) (accounts_of c.charge_record.new.accounts) c.charge_record.ensures.accounts h)
+
+pub returns-clause-loaded : goal.returns-clause-loaded
+returns-clause-loaded g c = λ images h.
+    subst (ImagesAreLoaded images) (sym (ap (λ (x : Objects). x.accounts) c.apply.ensures.objects))
+    (loaded_if _ images Records c.args.level.owner c.args.level.point (accounts_of c.args.store.now.accounts) (accounts_of c.charge_record.new.accounts) c.charge_record.ensures.accounts h)

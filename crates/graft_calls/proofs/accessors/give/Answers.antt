@@ -13,7 +13,7 @@ use Rattle.graft_accounts.specs.Table.{accounts_of}
 use Rattle.kernel_state.specs.Stores.{world_of_store, objects_of}
 use Rattle.graft_calls.specs.Chains.{came, level_of, outer_of, outer}
 use Rattle.graft_calls.proofs.Charging.{not_paid, is_paid, unpaid}
-use Rattle.graft_calls.proofs.Conditions.{inside_if}
+use Rattle.graft_calls.proofs.Conditions.{inside_if, loaded_if}
 use Rattle.graft_calls.proofs.Dropping.{pair, configs}
 use Rattle.graft_calls.proofs.GoingOn.{gone_on}
 use Rattle.graft_calls.proofs.Holding.{due_is}
@@ -76,3 +76,12 @@ returns-clause-inside g c = λ images h.
 pub returns-clause-elsewhere : goal.returns-clause-elsewhere
 returns-clause-elsewhere g c =
     touched_elsewhere c.args.store.now _ c.args.locks.now c.touch.new.self c.args.p c.count.result c.args.need.object c.args.need.mode refl (λ q. refl) refl c.touch.ensures
+
+pub returns-then-not-charge_lock-clause-loaded : goal.returns-then-not-charge_lock-clause-loaded
+returns-then-not-charge_lock-clause-loaded g c = λ images h.
+    c.drop_innermost.ensures.loaded images
+    (loaded_if _ images Locks c.args.level.owner c.args.level.point (accounts_of c.args.store.now.accounts) (accounts_of c.charge_lock.new.accounts) c.charge_lock.ensures.accounts h)
+
+pub returns-clause-loaded : goal.returns-clause-loaded
+returns-clause-loaded g c = λ images h.
+    loaded_if _ images Locks c.args.level.owner c.args.level.point (accounts_of c.args.store.now.accounts) (accounts_of c.charge_lock.new.accounts) c.charge_lock.ensures.accounts h

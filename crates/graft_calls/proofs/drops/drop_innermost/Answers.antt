@@ -5,12 +5,13 @@ use Rattle.graft_calls.specs.Chains.{levels_in}
 use Rattle.kernel_model.specs.Objects.{Objects, with_accounts}
 use Rattle.kernel_model.specs.Charges.{removed}
 use Rattle.kernel_model.specs.UndoLog.{undo_on}
+use Rattle.kernel_model.specs.Sound.{ImagesAreLoaded}
 use Rattle.lock_table.specs.Masks.{held}
 use Rattle.undo_calls.specs.UndoLevels.{innermost}
 use Rattle.graft_accounts.specs.Table.{accounts_of}
 use Rattle.kernel_state.specs.Stores.{world_of_store, objects_of}
 use Rattle.graft_calls.specs.Calls.{AreInside}
-use Rattle.graft_calls.proofs.Conditions.{inside_removed}
+use Rattle.graft_calls.proofs.Conditions.{inside_removed, loaded_removed}
 use Rattle.graft_calls.proofs.Placing.{accounts_placed, levels_placed}
 use Rattle.graft_calls.proofs.Dropping.{dropped, removed_after}
 use Rattle.graft_calls.proofs.drops.drop_innermost.Goals as goal
@@ -49,3 +50,9 @@ returns-clause-inside g c = λ images h.
     (subst (λ b. AreInside images b c.args.p gs) (sym c.remove.ensures.value)
     (inside_removed images c.args.level.owner c.args.level.point c.args.p a gs c.requires.placed.levels.1
     (subst (λ b. AreInside images b c.args.p gs) (sym same) h.1))))
+
+pub returns-clause-loaded : goal.returns-clause-loaded
+returns-clause-loaded g c = λ images h.
+    let same : accounts_of c.end_level.new.store.accounts ≡ accounts_of c.args.store.now.accounts = ap (λ (x : Objects). x.accounts) c.end_level.ensures.objects in
+    subst (ImagesAreLoaded images) (sym c.remove.ensures.value)
+    (loaded_removed images c.args.level.owner c.args.level.point (accounts_of c.end_level.new.store.accounts) (subst (ImagesAreLoaded images) (sym same) h))
