@@ -2,6 +2,9 @@
 use Rattle.std.proofs.Common.{◌≡◌, ◌≢◌, ℕ, suc, ◌+◌, ◌<◌, ◌≤◌, ◌==◌, ◌&&◌, ◌||◌, Bool, true, false, cond, List, [], ◌∷◌, Option, Some, None, length, arith, refl, sym, ◌∙◌, ap, subst}
 use Rattle.std.specs.List.{list_any}
 use Rattle.std.specs.Option.{is_some}
+use Rattle.std.proofs.Common.{option_map}
+use Rattle.graft_accounts.specs.declared.rows.GraftRow.{GraftRow}
+use Rattle.graft_accounts.specs.Table.{row_of}
 use Rattle.std.proofs.lemmas.Bool.Decides.{nat_tests}
 use Rattle.kernel_model.specs.declared.Inverse.{Inverse}
 use Rattle.kernel_model.specs.declared.Need.{Need}
@@ -13,9 +16,9 @@ use Rattle.kernel_model.specs.declared.Cause.TheVariants.{BadArgument, Reentered
 use Rattle.kernel_model.specs.Access.{early_refusal, asked_objects, asked_graft, asked_point}
 use Rattle.kernel_model.specs.Objects.{Objects, Things, GraftValue}
 use Rattle.kernel_model.specs.World.{World, ImageTable}
-use Rattle.kernel_model.specs.Policies.{kind_of}
-use Rattle.kernel_model.specs.Locks.{LockTable, Touched, touch_all, with_touch, touch}
-use Rattle.kernel_model.specs.Levels.{Level, with_touched, with_machine, touch_outermost}
+use Rattle.kernel_model.specs.Policies.{kind_of, args_by}
+use Rattle.kernel_model.specs.Locks.{LockTable, Touched, touch_all, with_touch, touch, untouched}
+use Rattle.kernel_model.specs.Levels.{Level, with_touched, with_machine, touch_outermost, goes_on, new_level, drop_innermost}
 use Rattle.kernel_model.specs.GraftStep.{ask_refusal, is_vain_ask, is_running, after_ask, ask_answered}
 use Rattle.kernel_model.specs.UndoLog.{undo_all}
 use Rattle.undo_calls.specs.UndoLevels.{innermost}
@@ -85,3 +88,27 @@ pub asked_apart : (id r0 q p n c d : ℕ) (t r : LockTable) → r ≡ with_touch
     (c == p && d == 0) ≡ false → (c == p && d == n) ≡ false → r c d ≡ t c d
 asked_apart id r0 q p n c d t r held first second =
     ap (λ (x : LockTable). x c d) held ∙ touched_apart p 0 c d (asked_graft id r0 q).object Mode.Exclusive (needs_touched p n (asked_objects id r0 q) t) first ∙ needs_apart p n c d (asked_objects id r0 q) t second
+
+-- ---- answers
+
+-- a graft that has a row stands
+pub stands_by : (x : Option GraftValue) (r : Option GraftRow) → r ≡ option_map row_of x → is_some r ≡ true → is_some x ≡ true
+stands_by None r is none = absurd (grind (arith, is, none))
+stands_by (Some g) r is none = refl
+
+-- where a graft stands a level begins
+pub asked_begins : (v : World) (images : ImageTable) (w : Objects) (p q pt : ℕ) (ls : List Level) (x : Option GraftValue) → is_some x ≡ true →
+    ask_answered v images w p q pt ls x ≡ goes_on w (new_level images w p (length ls) q pt (args_by (kind_of pt) v w.things q pt) untouched ∷ ls)
+asked_begins v images w p q pt ls None some = absurd (cc)
+asked_begins v images w p q pt ls (Some g) some = refl
+
+-- an ask that isn't refused
+pub asked_on : (v : World) (images : ImageTable) (w : Objects) (p : ℕ) (l : Level) (ls : List Level) (id pt : ℕ) (refusal : Option Cause) → refusal ≡ None →
+    came (after_ask v images w p l ls l.machine id pt refusal)
+    ≡ came (ask_answered v images w p l.owner pt (touch_outermost (asked_graft id (l.machine.regs 0) l.owner).object (with_touched (asked_objects id (l.machine.regs 0) l.owner) l ∷ ls)) (w.accounts.graft l.owner pt))
+asked_on v images w p l ls id pt refusal is = ap (λ r. came (after_ask v images w p l ls l.machine id pt r)) is
+
+-- an ask that is
+pub asked_off : (v : World) (images : ImageTable) (w : Objects) (p : ℕ) (l : Level) (ls : List Level) (id pt : ℕ) (refusal : Option Cause) (cause : Cause) → refusal ≡ Some cause →
+    after_ask v images w p l ls l.machine id pt refusal ≡ drop_innermost v w l ls cause
+asked_off v images w p l ls id pt refusal cause is = ap (after_ask v images w p l ls l.machine id pt) is

@@ -2,6 +2,7 @@
 use Rattle.std.proofs.Common.{◌≡◌, ◌≢◌, ℕ, suc, ◌<◌, ◌≤◌, ◌==◌, ◌&&◌, false, List, [], ◌∷◌, length, arith, refl, sym, ◌∙◌, ap, subst, slice_index}
 use Rattle.kernel_model.specs.declared.Inverse.{Inverse}
 use Rattle.kernel_model.specs.declared.Object.{Object}
+use Rattle.kernel_model.specs.declared.Held.{Held}
 use Rattle.kernel_model.specs.declared.Mode.{Mode}
 use Rattle.kernel_model.specs.Locks.{LockTable, release_from, with_touch}
 use Rattle.kernel_model.specs.Policies.{lives}
@@ -114,3 +115,14 @@ touched_elsewhere s u t r p n o m world living memory held_is =
       others = λ q d apart. ap (λ (x : LockTable). x q d) held_is ∙ touched_apart p n q d o m (held t) (grind (arith, nat_tests, apart));
       memory = λ a beyond. ap (λ x. slice_index x a) memory;
     }
+
+-- ---- the locks of this process alone change
+
+pub locks_placed : {X : Type 0} {F : X → Type 0} (view : Seeing X F) (s : Store X F) (t r : List (List Holds)) (p : ℕ) (gs hs : List GraftLevel) (log : List (List Inverse)) →
+    IsPlaced view s t p gs log → hs ≡ gs → ((d : ℕ) (o : Object) → length gs ≤ d → held r p d o ≡ Held.Free) → IsPlaced view s r p hs log
+locks_placed view s t r p gs hs log h same free =
+    subst (λ xs. IsPlaced view s r p xs log) (sym same)
+    (record { store = h.store; process = h.process; few = h.few; as_many = h.as_many; unheld = free; levels = h.levels; undoable = h.undoable })
+
+pub before_elsewhere : {X : Type 0} {F : X → Type 0} (s u : Store X F) (t r : List (List Holds)) (p : ℕ) → IsElsewhereSame s u r r p → ((q d : ℕ) → q ≢ p → held r q d ≡ held t q d) → IsElsewhereSame s u t r p
+before_elsewhere s u t r p h others = record { world = h.world; living = h.living; others = others; memory = h.memory }
