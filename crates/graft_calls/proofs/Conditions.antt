@@ -56,6 +56,9 @@ charged_graft images k q pt r pu a (Some g) is = charged_by images k g q pt r pu
 pub charged_code : (images : ImageTable) (k : Kind) (q pt r pu : ℕ) (a : Accounts) → code_of images (charge k q pt a) r pu ≡ code_of images a r pu
 charged_code images k q pt r pu a = ap code_in ((charged_graft images k q pt r pu a (a.graft q pt) refl).image)
 
+pub charged_limit : (images : ImageTable) (k : Kind) (q pt r pu : ℕ) (a : Accounts) → limit_in ((charge k q pt a).graft r pu) ≡ limit_in (a.graft r pu)
+charged_limit images k q pt r pu a = (charged_graft images k q pt r pu a (a.graft q pt) refl).limit
+
 level_same : (images : ImageTable) (a b : Accounts) (p d : ℕ) (g : GraftLevel) → IsSameGraft images (b.graft g.owner g.point) (a.graft g.owner g.point) → RunsInside images a p d g → RunsInside images b p d g
 level_same images a b p d g same h =
     record {

@@ -15,3 +15,4 @@ mod Memory
 mod Beginning
 mod Needing
 mod Asking
+mod Stepping

@@ -23,8 +23,8 @@ pub returns-in-Trapped-clause-in_place : goal.returns-in-Trapped-clause-in_place
 returns-in-Trapped-clause-in_place g c =
     let h = c.requires.in_place in
     record {
-      placed = c.drop_innermost.ensures.placed;
-      inside = c.drop_innermost.ensures.inside (table_of c.args.images.now) h.inside;
-      loaded = c.drop_innermost.ensures.loaded (table_of c.args.images.now) h.loaded;
+      placed = c.drop_innermost-in-Trapped.ensures.placed;
+      inside = c.drop_innermost-in-Trapped.ensures.inside (table_of c.args.images.now) h.inside;
+      loaded = c.drop_innermost-in-Trapped.ensures.loaded (table_of c.args.images.now) h.loaded;
     }
 
