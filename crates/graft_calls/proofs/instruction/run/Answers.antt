@@ -2,7 +2,7 @@ use Rattle.std.proofs.Common.{◌≡◌, ◌+◌, ◌*◌, ◌<◌, ◌≤◌, �
 use Rattle.kernel_model.specs.declared.Kind.TheVariants.{Steps}
 use Rattle.kernel_model.specs.declared.Cause.TheVariants.{SpentSteps}
 use Rattle.kernel_model.specs.declared.Instr.{Instr}
-use Rattle.kernel_model.specs.Boxed.{IsInside}
+use Rattle.kernel_model.specs.Boxed.{IsInside, IsBoxed}
 use Rattle.kernel_model.specs.Charges.{charge, funds}
 use Rattle.kernel_model.specs.GraftStep.{after_machine, charged_step, is_spent}
 use Rattle.kernel_model.specs.Levels.{Level, base_of, code_of, limit_in, drop_innermost}
@@ -64,6 +64,111 @@ step-done-requires g c =
     subst (λ (x : GraftLevel). x.machine.pc < length c.code_of-code.result.now) (sym c.if-not-charge_step.ensures.level)
     (subst (λ (x : List Instr). c.args.level.machine.pc < length x) (sym c.code_of-code.ensures) h.place)
 
--- the machine, before its instruction, is inside its segment on the code that was found
-before_inside : goal.returns-clause-step
-before_inside g c = ?
+pub after_machine-requires : goal.after_machine-requires
+after_machine-requires g c =
+    let s = c.args.store.now in
+    let p = c.args.p in
+    let gs = c.args.chain.now.levels in
+    let n = length gs in
+    let images = table_of c.args.images.now in
+    let code = c.code_of-code.result.now in
+    let now = c.charge_step.new.level in
+    let cpu = c.step-done.new.self in
+    let mem = c.step-done.new.ram in
+    let inside : (ram : List ℕ) → IsInside code (4 * p + n) (machine_of now.machine ram) = λ ram.
+        subst (λ (x : GraftLevel). IsInside code (4 * p + n) (machine_of x.machine ram)) (sym c.if-not-charge_step.ensures.level)
+        (subst (λ (x : List Instr). IsInside x (4 * p + n) (machine_of c.args.level.machine ram)) (sym c.code_of-code.ensures) (c.requires.in_place.inside.0.inside ram)) in
+    let same : objects_of (λ b. (goal.Policy-dyn g (b.vtable, b.value)).seen b.value) (record s { accounts = c.charge_step.new.accounts; ram = mem }) ≡ objects_of (λ b. (goal.Policy-dyn g (b.vtable, b.value)).seen b.value) (record s { accounts = c.charge_step.new.accounts }) =
+        same_objects (λ b. (goal.Policy-dyn g (b.vtable, b.value)).seen b.value) (record s { accounts = c.charge_step.new.accounts }) mem c.lru.ensures.sound c.byte.ensures.size c.byte-2.ensures.size
+        (λ a lt. c.step-done.ensures.contained (4 * p + n) a (inside s.ram) (frames_outside (4 * p + n) a lt)) in
+    let h = c.requires.in_place in
+    let w = objects_of (λ b. (goal.Policy-dyn g (b.vtable, b.value)).seen b.value) s in
+    record {
+      in_place = record {
+        placed = levels_placed (λ b. (goal.Policy-dyn g (b.vtable, b.value)).seen b.value) (record s { accounts = c.charge_step.new.accounts; ram = mem }) c.args.locks.now p (c.args.level ∷ gs) (record now { machine = cpu } ∷ gs) c.args.chain.now.undo
+            (memory_placed (λ b. (goal.Policy-dyn g (b.vtable, b.value)).seen b.value) (record s { accounts = c.charge_step.new.accounts }) mem c.args.locks.now p (c.args.level ∷ gs) c.args.chain.now.undo same
+            (accounts_placed (λ b. (goal.Policy-dyn g (b.vtable, b.value)).seen b.value) s c.args.locks.now p (c.args.level ∷ gs) c.args.chain.now.undo c.charge_step.new.accounts h.placed)) refl
+            (stepped_sound (queue_of s) c.args.level now cpu gs c.if-not-charge_step.ensures.level h.placed.levels);
+        inside = stepped_inside images w.accounts (accounts_of c.charge_step.new.accounts) p c.args.level now cpu gs c.if-not-charge_step.ensures.level c.if-not-charge_step.ensures.accounts
+            (count_rises c.args.level.count (limit_in (w.accounts.graft c.args.level.owner c.args.level.point)) (funds w.accounts c.args.level.owner c.args.level.point Steps == 0) c.if-not-charge_step.ensures.answer h.inside.0.count)
+            (λ ram. subst (λ (x : List Instr). IsInside x (4 * p + n) (machine_of cpu ram)) c.code_of-code.ensures
+            (machine_inside code (4 * p + n) c.step-done.result now.machine cpu mem inside (c.step-done.ensures.inside (4 * p + n) (inside s.ram)) c.step-done.ensures.ended ram))
+            h.inside;
+        loaded = subst (ImagesAreLoaded images) (sym c.if-not-charge_step.ensures.accounts) (loaded_charged images Steps c.args.level.owner c.args.level.point w.accounts h.loaded);
+      };
+    }
+
+pub returns-clause-step : goal.returns-clause-step
+returns-clause-step g c =
+    let s = c.args.store.now in
+    let p = c.args.p in
+    let gs = c.args.chain.now.levels in
+    let n = length gs in
+    let images = table_of c.args.images.now in
+    let code = c.code_of-code.result.now in
+    let now = c.charge_step.new.level in
+    let cpu = c.step-done.new.self in
+    let mem = c.step-done.new.ram in
+    let inside : (ram : List ℕ) → IsInside code (4 * p + n) (machine_of now.machine ram) = λ ram.
+        subst (λ (x : GraftLevel). IsInside code (4 * p + n) (machine_of x.machine ram)) (sym c.if-not-charge_step.ensures.level)
+        (subst (λ (x : List Instr). IsInside x (4 * p + n) (machine_of c.args.level.machine ram)) (sym c.code_of-code.ensures) (c.requires.in_place.inside.0.inside ram)) in
+    let same : objects_of (λ b. (goal.Policy-dyn g (b.vtable, b.value)).seen b.value) (record s { accounts = c.charge_step.new.accounts; ram = mem }) ≡ objects_of (λ b. (goal.Policy-dyn g (b.vtable, b.value)).seen b.value) (record s { accounts = c.charge_step.new.accounts }) =
+        same_objects (λ b. (goal.Policy-dyn g (b.vtable, b.value)).seen b.value) (record s { accounts = c.charge_step.new.accounts }) mem c.lru.ensures.sound c.byte.ensures.size c.byte-2.ensures.size
+        (λ a lt. c.step-done.ensures.contained (4 * p + n) a (inside s.ram) (frames_outside (4 * p + n) a lt)) in
+    let v = world_of_store s in
+    let w = objects_of (λ b. (goal.Policy-dyn g (b.vtable, b.value)).seen b.value) s in
+    let q = c.args.level.owner in
+    let pt = c.args.level.point in
+    let t = held c.args.locks.now in
+    let log = c.args.chain.now.undo in
+    let is = innermost log in
+    let kept = undo_all is w.things in
+    let base = base_of p n in
+    let l = level_of (λ b. (goal.Policy-dyn g (b.vtable, b.value)).seen b.value) s c.args.locks.now c.args.chain.now p c.args.level in
+    let ls = outer_of (λ b. (goal.Policy-dyn g (b.vtable, b.value)).seen b.value) s c.args.locks.now c.args.chain.now p in
+    let one = level_in p n s.ram t now is kept in
+    let u = with_accounts (charge Steps q pt w.accounts) w in
+    let m = machine_of now.machine s.ram in
+    let k = machine_of cpu mem in
+    let done = c.step-done.result in
+    let two = level_in p n mem t (record now { machine = cpu }) is kept in
+    let state : objects_of (λ b. (goal.Policy-dyn g (b.vtable, b.value)).seen b.value) (record s { accounts = c.charge_step.new.accounts; ram = mem }) ≡ u = same ∙ ap (λ (x : Accounts). with_accounts x w) c.if-not-charge_step.ensures.accounts in
+    let alone = done_alone c.stays_inside.ensures code (4 * p + n) m k done (subst (λ (x : List Instr). IsBoxed x) c.code.ensures.code c.code.ensures.boxed) (inside s.ram) c.step-done.ensures.flat in
+    let outside : ls ≡ levels_in p mem t gs (outer log) kept =
+        sym (levels_alike p mem s.ram t t gs (outer log) kept (λ e lt. refl)
+        (λ e x lt. same_segment p n e s.ram mem x (λ a out. c.step-done.ensures.contained (4 * p + n) a (inside s.ram) out) lt)) in
+    paid_step v images p w l ls (is_spent w.accounts l) refl c.if-not-charge_step.ensures.answer
+    ∙ ap (λ (x : GraftLevel). came (after_machine v images p u (level_in p n s.ram t x is kept) ls (seg_step (code_of images w.accounts q pt) (on_segment base (machine_of x.machine s.ram))))) (sym c.if-not-charge_step.ensures.level)
+    ∙ ap (λ (x : List Instr). came (after_machine v images p u one ls (seg_step x (on_segment base m)))) (sym c.code_of-code.ensures)
+    ∙ ap (λ (x : Done). came (after_machine v images p u one ls x)) alone
+    ∙ ap came (after_done v images p u one ls base k done (λ id called. ap by_place (c.step-done.ensures.called id called))
+      (λ ended. ap (λ (x : Cpu). on_segment base (machine_of x mem)) (c.step-done.ensures.ended ended) ∙ ap (λ (x : List ℕ). on_segment base (machine_of now.machine x)) (c.step-done.ensures.memory ended)))
+    ∙ ap (λ (x : List Level). came (after_machine v images p u two x (done_of done (on_segment base k)))) outside
+    ∙ ap (λ (x : Objects). came (after_machine v images p x (level_in p n mem t (record now { machine = cpu }) is (undo_all is x.things)) (levels_in p mem t gs (outer log) (undo_all is x.things)) (done_of done (on_segment base k)))) (sym state)
+    ∙ c.after_machine.ensures.step
+
+pub returns-clause-elsewhere : goal.returns-clause-elsewhere
+returns-clause-elsewhere g c =
+    let s = c.args.store.now in
+    let p = c.args.p in
+    let gs = c.args.chain.now.levels in
+    let n = length gs in
+    let images = table_of c.args.images.now in
+    let code = c.code_of-code.result.now in
+    let now = c.charge_step.new.level in
+    let cpu = c.step-done.new.self in
+    let mem = c.step-done.new.ram in
+    let inside : (ram : List ℕ) → IsInside code (4 * p + n) (machine_of now.machine ram) = λ ram.
+        subst (λ (x : GraftLevel). IsInside code (4 * p + n) (machine_of x.machine ram)) (sym c.if-not-charge_step.ensures.level)
+        (subst (λ (x : List Instr). IsInside x (4 * p + n) (machine_of c.args.level.machine ram)) (sym c.code_of-code.ensures) (c.requires.in_place.inside.0.inside ram)) in
+    let same : objects_of (λ b. (goal.Policy-dyn g (b.vtable, b.value)).seen b.value) (record s { accounts = c.charge_step.new.accounts; ram = mem }) ≡ objects_of (λ b. (goal.Policy-dyn g (b.vtable, b.value)).seen b.value) (record s { accounts = c.charge_step.new.accounts }) =
+        same_objects (λ b. (goal.Policy-dyn g (b.vtable, b.value)).seen b.value) (record s { accounts = c.charge_step.new.accounts }) mem c.lru.ensures.sound c.byte.ensures.size c.byte-2.ensures.size
+        (λ a lt. c.step-done.ensures.contained (4 * p + n) a (inside s.ram) (frames_outside (4 * p + n) a lt)) in
+    elsewhere_twice s (record s { accounts = c.charge_step.new.accounts; ram = mem }) c.after_machine.new.store c.args.locks.now c.args.locks.now c.after_machine.new.locks p
+    (record {
+      world = refl;
+      living = λ q. refl;
+      others = λ q d apart. refl;
+      memory = λ a beyond. c.step-done.ensures.contained (4 * p + n) a (inside s.ram) (beyond_outside p n a (omega (arith, c.requires.in_place.placed.few)) beyond);
+    })
+    c.after_machine.ensures.elsewhere
