@@ -16,3 +16,4 @@ mod Beginning
 mod Needing
 mod Asking
 mod Stepping
+mod NextNeeds

@@ -1,5 +1,5 @@
 -- Which graft call a chain of levels is in place: on a store, with the lock table and an undo log.
-use Rattle.std.specs.Prelude.{ℕ, ◌+◌, ◌*◌, Bool, ◌&&◌, ◌==◌, List, [], ◌∷◌, length}
+use Rattle.std.specs.Prelude.{ℕ, ◌+◌, ◌*◌, Bool, ◌&&◌, ◌==◌, List, [], ◌∷◌, length, Option, Some, None}
 use Rattle.std.specs.List.{list_any}
 use Rattle.kernel_model.specs.declared.Inverse.{Inverse}
 use Rattle.kernel_model.specs.declared.Micro.{Micro}
@@ -45,6 +45,11 @@ abbrev pub levels_in : ℕ → List ℕ → LockTable → List GraftLevel → Li
 levels_in p ram t [] log w = []
 levels_in p ram t (g ∷ gs) log w =
     level_in p (length gs) ram t g (innermost log) (undo_all (innermost log) w) ∷ levels_in p ram t gs (outer log) (undo_all (innermost log) w)
+
+-- the innermost level, if there is one
+abbrev pub first_level : List GraftLevel → Option GraftLevel
+first_level [] = None
+first_level (g ∷ gs) = Some g
 
 -- the graft at (q, pt) is a level
 abbrev pub is_running_in : List GraftLevel → (q pt : ℕ) → Bool

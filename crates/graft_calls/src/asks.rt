@@ -14,7 +14,7 @@ ghost use Rattle.kernel_model.specs.Policies.{kind_of, lives};
 ghost use Rattle.graft_accounts.specs.Table.{accounts_of};
 ghost use Rattle.kernel_state.specs.Stores.{world_of_store, objects_of, queue_of, IsStore};
 ghost use Rattle.lock_table.specs.Masks.{held};
-ghost use Rattle.graft_calls.specs.Tables.{table_of};
+ghost use Rattle.graft_loader.specs.Slots.{table_of};
 ghost use Rattle.graft_calls.specs.Chains.{came, call_of, level_of, outer_of, levels_in, levels_of, is_running_in};
 ghost use Rattle.graft_calls.specs.Calls.{IsInPlace, IsElsewhereSame, needs_touched};
 
@@ -23,7 +23,8 @@ use crate::begin::{begin_level, touch_needs};
 use crate::code::image_of;
 use crate::drops::drop_innermost;
 use crate::points::{args_of, default_of};
-use crate::{Chain, GraftLevel, Images, Levels};
+use crate::{Chain, GraftLevel, Levels};
+use graft_loader::Images;
 use accessor_list::ids;
 use graft_accounts::Accounts;
 use kernel_model::{Cause, Micro, Mode, Need, Object, Point};

@@ -11,14 +11,14 @@ ghost use Rattle.kernel_model.specs.Sound.{ImagesAreLoaded};
 ghost use Rattle.kernel_model.specs.World.{ImageTable};
 ghost use Rattle.kernel_state.specs.Stores.{world_of_store, objects_of, queue_of, IsStore};
 ghost use Rattle.lock_table.specs.Masks.{held};
-ghost use Rattle.graft_calls.specs.Tables.{table_of};
+ghost use Rattle.graft_loader.specs.Slots.{table_of};
 ghost use Rattle.graft_calls.specs.Chains.{call_of, levels_in, is_running_in};
 ghost use Rattle.graft_calls.specs.Calls.{AreSound, AreInside, IsPlaced, IsInPlace, IsElsewhereSame, needs_touched};
 
 use crate::code::image_of as image_at;
 use crate::segments::{base_of, fill};
-use crate::{Chain, GraftLevel, Images};
-use graft_loader::Loaded;
+use crate::{Chain, GraftLevel};
+use graft_loader::{Images, Loaded};
 use graft_machine::Machine;
 use kernel_model::{Need, Point};
 use kernel_state::Store;

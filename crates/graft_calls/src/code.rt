@@ -3,22 +3,21 @@
 ghost use Rattle.std.specs.Prelude.{◌≡◌, ◌<◌, Some, None, true, length, is_some, IfSome, IfNone};
 ghost use Rattle.kernel_model.specs.Levels as model;
 ghost use Rattle.graft_accounts.specs.Table.{accounts_of};
-ghost use Rattle.graft_calls.specs.Tables.{table_of};
+ghost use Rattle.graft_loader.specs.Slots.{table_of};
 
-use crate::Images;
 use box_verify::Verified;
 use graft_accounts::Accounts;
-use graft_loader::Loaded;
+use graft_loader::{Images, Loaded};
 
 /// The image of the graft at point pt of process q, if it is loaded.
-fn find_image<'a>(images: &'a Images, accounts: &Accounts, q: u8, pt: u8) -> Option<&'a Loaded>
+pub(crate) fn find_image<'a>(images: &'a Images, accounts: &Accounts, q: u8, pt: u8) -> Option<&'a Loaded>
     requires owner { q < 16 }
     requires point { pt < 16 }
     ensures some { IfSome result (λ l. model.image_of (table_of images.now) ((accounts_of accounts.now).graft q pt) ≡ Some l.now) }
     ensures none { IfNone result (model.image_of (table_of images.now) ((accounts_of accounts.now).graft q pt) ≡ None) }
 {
     match accounts.graft(q, pt) {
-        Some(row) => images.get(row.image),
+        Some(row) => images.get(u32::from(row.image)),
         None => None,
     }
 }

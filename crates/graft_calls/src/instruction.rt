@@ -5,7 +5,7 @@ ghost use Rattle.kernel_model.specs.Access.{early_refusal};
 ghost use Rattle.kernel_model.specs.GraftStep.{micro, micro_on, after_machine as after_step, after_call};
 ghost use Rattle.kernel_state.specs.Stores.{world_of_store, objects_of};
 ghost use Rattle.graft_machine.specs.Cpu.{done_of};
-ghost use Rattle.graft_calls.specs.Tables.{table_of};
+ghost use Rattle.graft_loader.specs.Slots.{table_of};
 ghost use Rattle.graft_calls.specs.Chains.{came, call_of, level_of, outer_of};
 ghost use Rattle.graft_calls.specs.Calls.{IsInPlace, IsElsewhereSame};
 
@@ -16,15 +16,13 @@ use crate::charges::charge_step;
 use crate::code::code_of;
 use crate::drops::drop_innermost;
 use crate::returns::offer;
-use crate::{Chain, GraftLevel, Images};
+use crate::{CALLABLE, Chain, GraftLevel};
+use graft_loader::Images;
 use accessor_list::early;
 use graft_machine::{Outcome, laws};
 use kernel_model::{Cause, Micro};
 use kernel_state::Store;
 use lock_table::LockTable;
-
-/// The highest id of the callable list that grafts may call.
-const CALLABLE: u32 = 11;
 
 /// What a call comes to. The machine is behind it.
 fn call(

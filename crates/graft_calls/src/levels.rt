@@ -1,7 +1,8 @@
 //! `Levels`.
 
 ghost use Rattle.std.specs.Prelude.{◌≡◌, ◌<◌, ◌≤◌, ◌∷◌, [], length, reverse, IfSome, IfNone};
-ghost use Rattle.graft_calls.specs.Chains.{is_running_in};
+ghost use Rattle.std.specs.Option.{option_copied};
+ghost use Rattle.graft_calls.specs.Chains.{is_running_in, first_level};
 
 use crate::GraftLevel;
 use arrayvec::ArrayVec;
@@ -79,6 +80,13 @@ impl Levels {
         ensures no_more { IfNone result (self.new ≡ []) }
     {
         self.list.pop()
+    }
+
+    /// The innermost level, if there is one.
+    pub fn innermost(&self) -> Option<&GraftLevel>
+        ensures { option_copied result ≡ first_level self.now }
+    {
+        self.list.last()
     }
 
     /// The levels, outermost first.

@@ -11,18 +11,21 @@ mod begin;
 mod charges;
 mod code;
 mod drops;
-mod images;
 mod instruction;
 mod levels;
+mod needs;
 mod points;
 mod returns;
 mod segments;
 
-pub use images::Images;
-pub use levels::Levels;
+pub use levels::{Levels, MOST_LEVELS};
+pub use needs::Needs;
 
 use graft_machine::Machine;
 use undo_calls::UndoStack;
+
+/// The highest id of the callable list that grafts may call.
+pub const CALLABLE: u32 = 11;
 
 /// A level of a graft call: one run of the graft that `owner` installed at `point`.
 #[derive(Drop)]

@@ -6,7 +6,7 @@ use Rattle.kernel_model.specs.Objects.{Objects}
 use Rattle.lock_table.specs.Masks.{held}
 use Rattle.graft_accounts.specs.Table.{accounts_of}
 use Rattle.kernel_state.specs.Stores.{objects_of, queue_of}
-use Rattle.graft_calls.specs.Tables.{table_of}
+use Rattle.graft_loader.specs.Slots.{table_of}
 use Rattle.graft_calls.specs.declared.GraftLevel.{GraftLevel}
 use Rattle.graft_calls.specs.Chains.{levels_in, is_running_in}
 use Rattle.graft_calls.specs.Calls.{AreSound, AreInside}

@@ -8,7 +8,7 @@ use Rattle.kernel_model.specs.Sound.{ImagesAreLoaded}
 use Rattle.lock_table.specs.Masks.{held}
 use Rattle.graft_accounts.specs.Table.{accounts_of}
 use Rattle.kernel_state.specs.Stores.{world_of_store, objects_of, queue_of}
-use Rattle.graft_calls.specs.Tables.{table_of}
+use Rattle.graft_loader.specs.Slots.{table_of}
 use Rattle.graft_calls.specs.Chains.{came, levels_in, levels_of}
 use Rattle.graft_calls.specs.Calls.{AreInside}
 use Rattle.graft_calls.proofs.Asking.{stands_by, asked_begins}

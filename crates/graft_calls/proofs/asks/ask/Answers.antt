@@ -8,7 +8,7 @@ use Rattle.kernel_model.specs.Locks.{Touched, with_touch}
 use Rattle.lock_table.specs.Masks.{held}
 use Rattle.graft_accounts.specs.Table.{accounts_of}
 use Rattle.kernel_state.specs.Stores.{world_of_store, objects_of}
-use Rattle.graft_calls.specs.Tables.{table_of}
+use Rattle.graft_loader.specs.Slots.{table_of}
 use Rattle.graft_calls.specs.declared.GraftLevel.{GraftLevel}
 use Rattle.graft_calls.specs.Chains.{came, level_of, outer_of}
 use Rattle.graft_calls.specs.Calls.{AreInside, needs_touched}

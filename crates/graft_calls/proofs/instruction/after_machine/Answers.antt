@@ -1,4 +1,4 @@
-use Rattle.graft_calls.specs.Tables.{table_of}
+use Rattle.graft_loader.specs.Slots.{table_of}
 use Rattle.graft_calls.proofs.instruction.after_machine.Goals as goal
 
 pub returns-in-Returned-clause-in_place : goal.returns-in-Returned-clause-in_place

@@ -1,4 +1,4 @@
-use Rattle.graft_calls.specs.Tables.{table_of}
+use Rattle.graft_loader.specs.Slots.{table_of}
 use Rattle.graft_calls.proofs.instruction.call.Goals as goal
 
 pub returns-then-id-gt-CALLABLE-clause-in_place : goal.returns-then-id-gt-CALLABLE-clause-in_place

@@ -16,7 +16,7 @@ use Rattle.undo_calls.specs.UndoLevels.{innermost}
 use Rattle.graft_accounts.specs.Table.{accounts_of}
 use Rattle.graft_machine.specs.Cpu.{Cpu, machine_of, done_of, by_place}
 use Rattle.kernel_state.specs.Stores.{world_of_store, objects_of, queue_of}
-use Rattle.graft_calls.specs.Tables.{table_of}
+use Rattle.graft_loader.specs.Slots.{table_of}
 use Rattle.graft_calls.specs.declared.GraftLevel.{GraftLevel}
 use Rattle.graft_calls.specs.Chains.{came, level_of, outer_of, level_in, levels_in, outer}
 use Rattle.graft_calls.specs.Calls.{AreInside}
