@@ -1,5 +1,5 @@
 -- An answer that goes to a level.
-use Rattle.std.proofs.Common.{◌≡◌, ℕ, ◌<◌, ◌≤◌, ◌==◌, Bool, true, false, cond, List, [], ◌∷◌, arith, refl, sym, ◌∙◌, ap, subst, length}
+use Rattle.std.proofs.Common.{◌≡◌, ℕ, ◌<◌, ◌≤◌, ◌==◌, Bool, true, false, cond, List, ◌∷◌, arith, refl, sym, ◌∙◌, ap, subst, length}
 use Rattle.std.proofs.lemmas.Bool.Decides.{nat_tests}
 use Rattle.kernel_model.specs.declared.Inverse.{Inverse}
 use Rattle.kernel_model.specs.declared.Instr.{Instr}
@@ -8,7 +8,7 @@ use Rattle.kernel_model.specs.Objects.{Accounts, Things, at}
 use Rattle.kernel_model.specs.Boxed.{IsInside}
 use Rattle.kernel_model.specs.World.{ImageTable}
 use Rattle.kernel_model.specs.Policies.{PointKind, Ahead, Victim, Next, kind_of}
-use Rattle.kernel_model.specs.Levels.{Level, answered, answer_innermost, with_machine, base_of}
+use Rattle.kernel_model.specs.Levels.{answered, answer_innermost, with_machine, base_of}
 use Rattle.kernel_model.specs.Locks.{LockTable}
 use Rattle.kernel_model.specs.UndoLog.{undo_all}
 use Rattle.kernel_model.specs.Runs.{on_segment}
@@ -16,7 +16,7 @@ use Rattle.undo_calls.specs.UndoLevels.{innermost}
 use Rattle.graft_machine.specs.Cpu.{Cpu, machine_of}
 use Rattle.graft_calls.specs.declared.GraftLevel.{GraftLevel}
 use Rattle.graft_calls.specs.Chains.{level_in, levels_in, outer}
-use Rattle.graft_calls.specs.Calls.{AreSound, AreInside, RunsInside}
+use Rattle.graft_calls.specs.Calls.{AreInside}
 
 ahead_kind : (pt : ℕ) → pt < 4 → kind_of pt ≡ Ahead
 ahead_kind pt lt = grind (arith, nat_tests)

@@ -1,6 +1,5 @@
 -- An ask that is refused, or answered.
-use Rattle.std.proofs.Common.{◌≡◌, ◌≢◌, ℕ, suc, ◌+◌, ◌<◌, ◌≤◌, ◌==◌, ◌&&◌, ◌||◌, Bool, true, false, cond, List, [], ◌∷◌, Option, Some, None, length, arith, refl, sym, ◌∙◌, ap, subst}
-use Rattle.std.specs.List.{list_any}
+use Rattle.std.proofs.Common.{◌≡◌, ℕ, suc, ◌<◌, ◌==◌, ◌&&◌, ◌||◌, Bool, true, false, cond, List, [], ◌∷◌, Option, Some, None, length, arith, refl, sym, ◌∙◌, ap}
 use Rattle.std.specs.Option.{is_some}
 use Rattle.std.proofs.Common.{option_map}
 use Rattle.graft_accounts.specs.declared.rows.GraftRow.{GraftRow}
@@ -10,15 +9,14 @@ use Rattle.kernel_model.specs.declared.Inverse.{Inverse}
 use Rattle.kernel_model.specs.declared.Need.{Need}
 use Rattle.kernel_model.specs.declared.Mode.{Mode}
 use Rattle.kernel_model.specs.declared.Object.{Object}
-use Rattle.kernel_model.specs.declared.Micro.{Micro}
 use Rattle.kernel_model.specs.declared.Cause.{Cause}
 use Rattle.kernel_model.specs.declared.Cause.TheVariants.{BadArgument, Reentered, TooDeep}
-use Rattle.kernel_model.specs.Access.{early_refusal, asked_objects, asked_graft, asked_point}
+use Rattle.kernel_model.specs.Access.{early_refusal, asked_objects, asked_graft}
 use Rattle.kernel_model.specs.Objects.{Objects, Things, GraftValue}
 use Rattle.kernel_model.specs.World.{World, ImageTable}
 use Rattle.kernel_model.specs.Policies.{kind_of, args_by}
-use Rattle.kernel_model.specs.Locks.{LockTable, Touched, touch_all, with_touch, touch, untouched}
-use Rattle.kernel_model.specs.Levels.{Level, with_touched, with_machine, touch_outermost, goes_on, new_level, drop_innermost}
+use Rattle.kernel_model.specs.Locks.{LockTable, touch_all, with_touch, touch, untouched}
+use Rattle.kernel_model.specs.Levels.{Level, with_touched, touch_outermost, goes_on, new_level, drop_innermost}
 use Rattle.kernel_model.specs.GraftStep.{ask_refusal, is_vain_ask, is_running, after_ask, ask_answered}
 use Rattle.kernel_model.specs.UndoLog.{undo_all}
 use Rattle.undo_calls.specs.UndoLevels.{innermost}
@@ -45,7 +43,7 @@ refused_is s q pt id p ram t g gs log w vain running deep is_vain is_in is_deep 
     ap (λ b. cond b (Some (BadArgument id)) (cond running (Some Reentered) (cond deep (Some TooDeep) None))) is_vain
     ∙ ap (λ b. cond (is_vain_ask (kind_of pt) s.things q pt) (Some (BadArgument id)) (cond b (Some Reentered) (cond deep (Some TooDeep) None))) (is_in ∙ sym (running_is p ram t (g ∷ gs) log w q pt))
     ∙ ap (λ b. cond (is_vain_ask (kind_of pt) s.things q pt) (Some (BadArgument id)) (cond (is_running ls q pt) (Some Reentered) (cond b (Some TooDeep) None)))
-      (is_deep ∙ ap (λ b. is_some (s.accounts.graft q pt) && b) count)
+    (is_deep ∙ ap (λ b. is_some (s.accounts.graft q pt) && b) count)
 
 -- a file that an ask names is one of four
 pub asks_file : (id r0 r1 q : ℕ) → early_refusal 15 id r0 r1 q ≡ None → id ≡ 13 → r0 < 4
@@ -75,7 +73,7 @@ pub asked_levels : (id r0 p n : ℕ) (ram : List ℕ) (t r : LockTable) (g : Gra
     r ≡ with_touch p 0 (asked_graft id r0 g.owner).object Mode.Exclusive (needs_touched p n (asked_objects id r0 g.owner) t) →
     levels_in p ram r hs log w
     ≡ touch_outermost (asked_graft id r0 g.owner).object
-      (with_touched (asked_objects id r0 g.owner) (level_in p (length gs) ram t g (innermost log) (undo_all (innermost log) w)) ∷ levels_in p ram t gs (outer log) (undo_all (innermost log) w))
+    (with_touched (asked_objects id r0 g.owner) (level_in p (length gs) ram t g (innermost log) (undo_all (innermost log) w)) ∷ levels_in p ram t gs (outer log) (undo_all (innermost log) w))
 asked_levels id r0 p n ram t r g gs hs log w all count held =
     let o = (asked_graft id r0 g.owner).object in
     let ns = asked_objects id r0 g.owner in

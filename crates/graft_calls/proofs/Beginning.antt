@@ -1,5 +1,5 @@
 -- A level that begins.
-use Rattle.std.proofs.Common.{◌≡◌, ℕ, suc, ◌+◌, ◌*◌, ◌<◌, ◌≤◌, Bool, true, false, cond, nat_lt, List, [], ◌∷◌, length, slice_index, slice_get, Option, Some, None, arith, refl, sym, ◌∙◌, ap, subst, inl, inr, ◌⊎◌}
+use Rattle.std.proofs.Common.{◌≡◌, ℕ, ◌+◌, ◌*◌, ◌<◌, ◌≤◌, Bool, true, false, cond, nat_lt, List, [], ◌∷◌, length, slice_index, slice_get, Option, Some, None, arith, refl, sym, ◌∙◌, ap, subst, ◌⊎◌}
 use Rattle.std.proofs.Math.Path.{fun_ext}
 use Rattle.std.proofs.lemmas.Bool.Decides.{nat_tests}
 use Rattle.std.proofs.lemmas.List.{get_or_past}
@@ -7,22 +7,21 @@ use Rattle.std.proofs.lemmas.Option.{unwrap_or-slice_get}
 use Rattle.std.specs.Option.{unwrap_or}
 use Rattle.kernel_model.specs.declared.Inverse.{Inverse}
 use Rattle.kernel_model.specs.declared.Instr.{Instr}
-use Rattle.kernel_model.specs.Machine.{Machine, first_machine, segment_base}
-use Rattle.kernel_model.specs.Objects.{Objects, Accounts, Things, CacheValue}
+use Rattle.kernel_model.specs.Machine.{first_machine, segment_base}
+use Rattle.kernel_model.specs.Objects.{Objects, Accounts, CacheValue}
 use Rattle.kernel_model.specs.World.{Image, ImageTable}
 use Rattle.kernel_model.specs.Policies.{or_zero}
 use Rattle.kernel_model.specs.Boxed.{IsBoxed, IsInside}
 use Rattle.kernel_model.specs.Locks.{LockTable}
-use Rattle.kernel_model.specs.Levels.{Level, new_level, image_of, body_of, body_in, code_of, code_in, limit_in, base_of}
+use Rattle.kernel_model.specs.Levels.{new_level, image_of, body_of, body_in, code_in, base_of}
 use Rattle.kernel_model.specs.Runs.{on_segment, segment_of}
 use Rattle.graft_machine.specs.Cpu.{Cpu, machine_of, by_place}
-use Rattle.graft_machine.specs.Contained.{IsOutside}
 use Rattle.kernel_state.specs.declared.Store.{Store}
-use Rattle.kernel_state.specs.Stores.{Seeing, StoreFits, world_of_store, objects_of, objects_with, IsStore}
+use Rattle.kernel_state.specs.Stores.{Seeing, StoreFits, world_of_store, objects_of, IsStore}
 use Rattle.buffer_cache.specs.Frames.{IsFrames}
 use Rattle.graft_calls.specs.declared.GraftLevel.{GraftLevel}
 use Rattle.graft_calls.specs.Chains.{level_in, levels_in}
-use Rattle.graft_calls.specs.Calls.{AreInside, RunsInside}
+use Rattle.graft_calls.specs.Calls.{AreInside}
 use Rattle.graft_calls.proofs.Memory.{same_cache, same_segment}
 use Rattle.graft_calls.proofs.Views.{glued, levels_alike}
 
@@ -53,16 +52,16 @@ begun_levels images image w p base q pt args ram mem t cpu gs news log more is_n
     let l = level_in p (length gs) mem t g [] w.things in
     let body : body_of images w.accounts q pt ≡ image.body = ap body_in loaded in
     let memory : segment_of base (by_place mem) ≡ (λ i. or_zero (slice_get (body_of images w.accounts q pt) i)) =
-        segment_is mem image.body base few same ∙ ap (λ (b : List ℕ). λ i. or_zero (slice_get b i)) (sym body) in
+    segment_is mem image.body base few same ∙ ap (λ (b : List ℕ). λ i. or_zero (slice_get b i)) (sym body) in
     let machine : on_segment (base_of p (length gs)) (machine_of cpu mem) ≡ first_machine (base_of p (length gs)) args (λ i. or_zero (slice_get (body_of images w.accounts q pt) i)) =
-        ap (on_segment (base_of p (length gs))) begins
-        ∙ ap (λ b. on_segment b (first_machine base args (by_place mem))) (sym is_base)
-        ∙ ap (λ f. first_machine base args f) memory
-        ∙ ap (λ b. first_machine b args (λ i. or_zero (slice_get (body_of images w.accounts q pt) i))) is_base in
+    ap (on_segment (base_of p (length gs))) begins
+    ∙ ap (λ b. on_segment b (first_machine base args (by_place mem))) (sym is_base)
+    ∙ ap (λ f. first_machine base args f) memory
+    ∙ ap (λ b. first_machine b args (λ i. or_zero (slice_get (body_of images w.accounts q pt) i))) is_base in
     ap (λ xs. levels_in p mem t xs more w.things) is_news ∙ ap (λ xs. levels_in p mem t (g ∷ gs) xs w.things) is_more
     ∙ glued l _ (t p (length gs)) _ _ machine refl
-      (levels_alike p mem ram t t gs log w.things (λ e lt. refl)
-      (λ e c lt. same_segment p (length gs) e ram mem c (λ a out. beyond a (subst (λ b. (a < b) ⊎ (b + 4096 ≤ a)) (sym is_base) out)) lt))
+    (levels_alike p mem ram t t gs log w.things (λ e lt. refl)
+    (λ e c lt. same_segment p (length gs) e ram mem c (λ a out. beyond a (subst (λ b. (a < b) ⊎ (b + 4096 ≤ a)) (sym is_base) out)) lt))
 
 -- it runs
 pub begun_inside : (images : ImageTable) (image : Image) (a : Accounts) (p base q pt : ℕ) (args : List ℕ) (cpu : Cpu) (gs news : List GraftLevel) →

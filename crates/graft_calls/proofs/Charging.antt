@@ -1,8 +1,8 @@
 -- What is charged, and what follows where it can't be.
-use Rattle.std.proofs.Common.{◌≡◌, ℕ, ◌+◌, ◌==◌, ◌&&◌, ◌||◌, Bool, true, false, not, cond, List, [], ◌∷◌, arith, refl, sym, ◌∙◌, ap}
+use Rattle.std.proofs.Common.{◌≡◌, ℕ, ◌==◌, ◌&&◌, Bool, true, false, not, cond, List, ◌∷◌, refl, sym, ◌∙◌, ap}
 use Rattle.kernel_model.specs.declared.Inverse.{Inverse}
-use Rattle.kernel_model.specs.declared.Kind.TheVariants.{Steps, Records, Locks}
-use Rattle.kernel_model.specs.declared.Cause.TheVariants.{SpentLocks, SpentRecords, SpentSteps}
+use Rattle.kernel_model.specs.declared.Kind.TheVariants.{Records, Locks}
+use Rattle.kernel_model.specs.declared.Cause.TheVariants.{SpentLocks, SpentRecords}
 use Rattle.kernel_model.specs.Machine.{Machine}
 use Rattle.kernel_model.specs.Objects.{Objects, Accounts, Things, with_accounts}
 use Rattle.kernel_model.specs.World.{World}

@@ -1,19 +1,18 @@
 -- A level that ends with an answer of its own.
-use Rattle.std.proofs.Common.{◌≡◌, ◌≢◌, ℕ, suc, ◌+◌, ◌-◌, ◌<◌, ◌≤◌, ◌==◌, ◌&&◌, Bool, true, false, cond, List, [], ◌∷◌, ◌++◌, length, arith, refl, sym, ◌∙◌, ap, subst, slice_index}
+use Rattle.std.proofs.Common.{◌≡◌, ◌≢◌, ℕ, suc, ◌-◌, ◌≤◌, ◌==◌, ◌&&◌, Bool, true, false, cond, List, [], ◌∷◌, ◌++◌, length, arith, refl, sym, ◌∙◌, ap, subst, slice_index}
 use Rattle.std.proofs.lemmas.Bool.Decides.{nat_tests}
 use Rattle.kernel_model.specs.declared.Held.{Held}
 use Rattle.kernel_model.specs.declared.Inverse.{Inverse}
 use Rattle.kernel_model.specs.declared.Object.{Object}
 use Rattle.kernel_model.specs.declared.Micro.{Micro}
 use Rattle.kernel_model.specs.Machine.{Machine}
-use Rattle.kernel_model.specs.Objects.{Objects, Things, at2}
-use Rattle.kernel_model.specs.Policies.{PointKind, kind_of}
-use Rattle.kernel_model.specs.Locks.{LockTable, Touched, merge_level, release_from, joined, untouched}
-use Rattle.kernel_model.specs.Levels.{Level, Config, answered, with_machine, base_of, goes_on}
+use Rattle.kernel_model.specs.Objects.{Objects, Things}
+use Rattle.kernel_model.specs.Policies.{kind_of}
+use Rattle.kernel_model.specs.Locks.{LockTable, merge_level, joined, untouched}
+use Rattle.kernel_model.specs.Levels.{answered, with_machine, base_of, goes_on}
 use Rattle.kernel_model.specs.GraftStep.{completed, first_registers}
 use Rattle.kernel_model.specs.UndoLog.{undo_all}
 use Rattle.kernel_model.specs.Runs.{on_segment}
-use Rattle.kernel_state.specs.Accesses.{CanBeUndone}
 use Rattle.undo_calls.specs.UndoLevels.{innermost, merged}
 use Rattle.graft_machine.specs.Cpu.{Cpu, machine_of}
 use Rattle.graft_calls.specs.declared.GraftLevel.{GraftLevel}
@@ -95,8 +94,8 @@ merged_length (is ∷ js ∷ log) rest n merged_is h = ap length merged_is ∙ o
 pub joined_call : (pt r0 r1 p : ℕ) (ram : List ℕ) (t r : LockTable) (g asker : GraftLevel) (gs rest hs : List GraftLevel) (log less : List (List Inverse)) (w : Objects) →
     g.point ≡ pt → slice_index g.machine.regs 0 ≡ r0 → slice_index g.machine.regs 1 ≡ r1 → gs ≡ asker ∷ rest → length log ≡ suc (length gs) → less ≡ merged log → r ≡ merge_level p (suc (length rest)) t →
     (levels_in p ram r hs less w.things ≡
-        let k = level_in p (length rest) ram r asker (innermost less) (undo_all (innermost less) w.things) in
-        record k { machine = answered (kind_of pt) r0 r1 k.machine } ∷ levels_in p ram r rest (outer less) (undo_all (innermost less) w.things)) →
+    let k = level_in p (length rest) ram r asker (innermost less) (undo_all (innermost less) w.things) in
+    record k { machine = answered (kind_of pt) r0 r1 k.machine } ∷ levels_in p ram r rest (outer less) (undo_all (innermost less) w.things)) →
     let kept = undo_all (innermost log) w.things in
     came (completed w (level_in p (length gs) ram t g (innermost log) kept) (levels_in p ram t gs (outer log) kept))
     ≡ (Micro.Went, record { now = w; levels = levels_in p ram r hs less w.things })
@@ -117,9 +116,9 @@ joined_call pt r0 r1 p ram t r g asker gs rest hs log less w point first second 
     ∙ ap (λ x. record (level_in p (length rest) ram r asker (innermost log ++ innermost (outer log)) x) { machine = m } ∷ levels_in p ram r rest (outer (merged log)) x) (undo_both (innermost log) (innermost (outer log)) w.things)
     ∙ ap (λ x. record (level_in p (length rest) ram r asker (innermost log ++ innermost (outer log)) k.kept) { machine = m } ∷ levels_in p ram r rest x k.kept) both.rest
     ∙ glued (record (level_in p (length rest) ram r asker (innermost log ++ innermost (outer log)) k.kept) { machine = m }) m (joined (t p (suc (length rest))) (t p (length rest))) _ ls refl
-      (ap (λ (x : LockTable). x p (length rest)) held ∙ merged_here p (length rest) t)
-      (levels_alike p ram ram r t rest (outer (outer log)) k.kept
-      (λ e lt. ap (λ (x : LockTable). x p e) held ∙ merged_apart p (length rest) p e t (grind (arith, nat_tests, lt)) (grind (arith, nat_tests, lt))) (λ e cpu lt. refl)))))
+    (ap (λ (x : LockTable). x p (length rest)) held ∙ merged_here p (length rest) t)
+    (levels_alike p ram ram r t rest (outer (outer log)) k.kept
+    (λ e lt. ap (λ (x : LockTable). x p e) held ∙ merged_apart p (length rest) p e t (grind (arith, nat_tests, lt)) (grind (arith, nat_tests, lt))) (λ e cpu lt. refl)))))
 
 -- level 0 ends: the call is complete
 pub completed_call : (p : ℕ) (ram : List ℕ) (t r : LockTable) (g : GraftLevel) (gs hs : List GraftLevel) (log less : List (List Inverse)) (w : Objects) (answer : List ℕ) →

@@ -1,9 +1,9 @@
 -- Levels stay sound and inside, whatever is charged, undone, or taken out.
-use Rattle.std.proofs.Common.{◌≡◌, ℕ, suc, ◌+◌, ◌*◌, ◌<◌, ◌≤◌, ◌==◌, ◌&&◌, ◌||◌, Bool, true, false, cond, List, [], ◌∷◌, Option, Some, None, length, arith, refl, sym, ◌∙◌, ap, subst}
+use Rattle.std.proofs.Common.{◌≡◌, ℕ, ◌+◌, ◌*◌, ◌≤◌, ◌==◌, ◌&&◌, Bool, true, false, cond, List, [], ◌∷◌, Option, Some, None, length, arith, refl, sym, ◌∙◌, ap, subst}
 use Rattle.std.proofs.lemmas.Bool.Decides.{nat_tests}
 use Rattle.kernel_model.specs.declared.Kind.{Kind}
 use Rattle.kernel_model.specs.declared.QueueRow.{QueueRow}
-use Rattle.kernel_model.specs.Objects.{Accounts, GraftValue, at2}
+use Rattle.kernel_model.specs.Objects.{Accounts, GraftValue}
 use Rattle.kernel_model.specs.World.{ImageTable}
 use Rattle.kernel_model.specs.Policies.{lives}
 use Rattle.std.specs.Option.{is_some}
@@ -14,7 +14,7 @@ use Rattle.kernel_model.specs.Levels.{image_of, code_in, code_of, limit_in}
 use Rattle.graft_machine.specs.Cpu.{machine_of}
 use Rattle.graft_calls.specs.declared.GraftLevel.{GraftLevel}
 use Rattle.graft_calls.specs.Chains.{is_running_in}
-use Rattle.graft_calls.specs.Calls.{IsSoundLevel, AreSound, RunsInside, AreInside}
+use Rattle.graft_calls.specs.Calls.{AreSound, RunsInside, AreInside}
 
 -- ---- soundness goes by who lives
 
@@ -82,9 +82,10 @@ inside_removed images q pt p a [] apart h = tt
 inside_removed images q pt p a (g ∷ gs) apart h =
     let first : (g.owner == q && g.point == pt) ≡ false = grind (arith, apart) in
     let rest : is_running_in gs q pt ≡ false = grind (arith, apart) in
-    let graft = other_graft q pt g.owner g.point a (a.graft q pt) first in
-    (level_same images a (removed q pt a) p (length gs) g (record { image = ap (image_of images) graft; limit = ap limit_in graft }) h.0,
-     inside_removed images q pt p a gs rest h.1)
+    let graft = other_graft q pt g.owner g.point a (a.graft q pt) first in (
+      level_same images a (removed q pt a) p (length gs) g (record { image = ap (image_of images) graft; limit = ap limit_in graft }) h.0,
+      inside_removed images q pt p a gs rest h.1,
+    )
 
 -- the same where something was charged, or not
 pub inside_if : (b : Bool) (images : ImageTable) (k : Kind) (q pt p : ℕ) (a c : Accounts) (gs : List GraftLevel) → c ≡ cond b (charge k q pt a) a → AreInside images a p gs → AreInside images c p gs

@@ -4,7 +4,7 @@ use Rattle.std.proofs.lemmas.Bool.Decides.{nat_tests}
 use Rattle.kernel_model.specs.declared.Inverse.{Inverse}
 use Rattle.kernel_model.specs.declared.Cause.{Cause}
 use Rattle.kernel_model.specs.declared.Micro.{Micro}
-use Rattle.kernel_model.specs.Objects.{Objects, Accounts, Things, with_accounts}
+use Rattle.kernel_model.specs.Objects.{Objects, Accounts, with_accounts}
 use Rattle.kernel_model.specs.World.{World}
 use Rattle.kernel_model.specs.Charges.{removed}
 use Rattle.kernel_model.specs.Policies.{default_of}
@@ -36,10 +36,10 @@ dropped v w u p n ram mem t r g gs hs log rest cause d state default memory lock
     let kept = undo_all (innermost log) w.things in
     let ls = levels_in p ram t gs (outer log) kept in
     let outside : levels_in p mem r gs rest u.things ≡ ls =
-        ap (λ m. levels_in p m r gs rest u.things) memory ∙ ap (λ x. levels_in p ram x gs rest u.things) locks
-        ∙ ap (λ x. levels_in p ram (release_from p (length gs) t) gs x u.things) left
-        ∙ ap (λ (x : Objects). levels_in p ram (release_from p (length gs) t) gs (outer log) x.things) state
-        ∙ levels_released p ram t gs (outer log) kept in
+    ap (λ m. levels_in p m r gs rest u.things) memory ∙ ap (λ x. levels_in p ram x gs rest u.things) locks
+    ∙ ap (λ x. levels_in p ram (release_from p (length gs) t) gs x u.things) left
+    ∙ ap (λ (x : Objects). levels_in p ram (release_from p (length gs) t) gs (outer log) x.things) state
+    ∙ levels_released p ram t gs (outer log) kept in
     pair _ _ _ _ (ap (λ k. Micro.Dropped k g.owner g.point cause) (level_count p ram t gs (outer log) kept ∙ sym count))
     (configs _ _ _ _ (sym state)
     (ap (λ (e : ℕ × ℕ). answer_innermost g.point e.0 e.1 ls) (sym default) ∙ ap (answer_innermost g.point d.0 d.1) (sym outside) ∙ sym levels))
@@ -74,10 +74,10 @@ dropped_further v next w one p d n ram mem t r g gs hs log rest cause world all 
     let inner : d < length ls = let e = ap length all in grind (arith, many, count, other, within, e) in
     let l = level_in p (length gs) ram t g (innermost log) kept in
     let outside : levels_in p mem r gs rest one.things ≡ ls =
-        ap (λ m. levels_in p m r gs rest one.things) memory ∙ ap (λ x. levels_in p ram x gs rest one.things) (locks ∙ ap (λ k. release_from p k t) count)
-        ∙ ap (λ x. levels_in p ram (release_from p (length gs) t) gs x one.things) left
-        ∙ ap (λ (x : Objects). levels_in p ram (release_from p (length gs) t) gs (outer log) x.things) state
-        ∙ levels_released p ram t gs (outer log) kept in
+    ap (λ m. levels_in p m r gs rest one.things) memory ∙ ap (λ x. levels_in p ram x gs rest one.things) (locks ∙ ap (λ k. release_from p k t) count)
+    ∙ ap (λ x. levels_in p ram (release_from p (length gs) t) gs x one.things) left
+    ∙ ap (λ (x : Objects). levels_in p ram (release_from p (length gs) t) gs (outer log) x.things) state
+    ∙ levels_released p ram t gs (outer log) kept in
     ap (λ x. drop_level v w (levels_in p ram t x log w.things) d cause) all
     ∙ ap (λ b. elim b as (λ _. Outcome) [ true ↦ drop_innermost v w l ls cause | false ↦ drop_level v w ls d cause ]) no
     ∙ same_drop v w one ls d cause (ap (λ (x : Objects). x.accounts) (sym state)) inner

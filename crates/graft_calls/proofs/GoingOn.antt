@@ -1,5 +1,5 @@
 -- A level goes on with the result of an accessor.
-use Rattle.std.proofs.Common.{◌≡◌, ℕ, suc, ◌<◌, ◌==◌, ◌&&◌, Bool, true, false, List, [], ◌∷◌, length, arith, refl, sym, ◌∙◌, ap}
+use Rattle.std.proofs.Common.{◌≡◌, ℕ, ◌<◌, List, ◌∷◌, length, arith, refl, ◌∙◌, ap}
 use Rattle.std.proofs.lemmas.Bool.Decides.{nat_tests}
 use Rattle.kernel_model.specs.declared.Inverse.{Inverse}
 use Rattle.kernel_model.specs.declared.Object.{Object}
@@ -8,8 +8,8 @@ use Rattle.kernel_model.specs.Machine.{Machine}
 use Rattle.kernel_model.specs.Objects.{Things}
 use Rattle.kernel_model.specs.Policies.{Victim}
 use Rattle.kernel_model.specs.Access.{accessed}
-use Rattle.kernel_model.specs.Locks.{LockTable, Touched, touch, with_touch}
-use Rattle.kernel_model.specs.Levels.{Level, answered, with_machine}
+use Rattle.kernel_model.specs.Locks.{LockTable, touch, with_touch}
+use Rattle.kernel_model.specs.Levels.{answered, with_machine}
 use Rattle.kernel_model.specs.GraftStep.{after_access}
 use Rattle.kernel_model.specs.UndoLog.{undo_all}
 use Rattle.kernel_model.specs.Access.{undo}
@@ -50,8 +50,8 @@ gone_on id x p n o mode ram t r g gs is log w count held object mode_is =
 pub recorded_on : (id x p n : ℕ) (o : Object) (mode : Mode) (ram mem : List ℕ) (t r : LockTable) (g : GraftLevel) (gs hs : List GraftLevel) (log rest : List (List Inverse)) (i : Inverse) (w u : Things) →
     let l = level_in p (length gs) ram t g (innermost log) (undo_all (innermost log) w) in
     ((q : ℕ) (bytes : List ℕ) (table : LockTable) (records : List (List Inverse)) (things : Things) →
-        let k = level_in q (length gs) bytes table g (innermost records) (undo_all (innermost records) things) in
-        levels_in q bytes table hs records things ≡ with_machine (answered Victim x 0 k.machine) k ∷ levels_in q bytes table gs (outer records) (undo_all (innermost records) things)) →
+    let k = level_in q (length gs) bytes table g (innermost records) (undo_all (innermost records) things) in
+    levels_in q bytes table hs records things ≡ with_machine (answered Victim x 0 k.machine) k ∷ levels_in q bytes table gs (outer records) (undo_all (innermost records) things)) →
     mem ≡ ram → 0 < length log → rest ≡ recorded i log → undo i u ≡ w → n ≡ length gs → r ≡ with_touch p n o mode t →
     o ≡ (accessed id (l.machine.regs 0) g.owner).object → mode ≡ (accessed id (l.machine.regs 0) g.owner).mode →
     levels_in p mem r hs rest u ≡ record (after_access l l.machine id x) { records = i ∷ l.records } ∷ levels_in p ram t gs (outer log) (undo_all (innermost log) w)

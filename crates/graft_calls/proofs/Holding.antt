@@ -1,14 +1,14 @@
 -- What the levels of a call hold, by its rows of the lock table.
-use Rattle.std.proofs.Common.{◌≡◌, ℕ, zero, suc, ◌+◌, ◌<◌, ◌≤◌, ◌==◌, ◌&&◌, ◌||◌, Bool, true, false, cond, not, List, [], ◌∷◌, Option, Some, None, length, arith, refl, sym, ◌∙◌, ap}
+use Rattle.std.proofs.Common.{◌≡◌, ℕ, zero, suc, ◌≤◌, ◌==◌, ◌&&◌, ◌||◌, Bool, true, false, cond, not, List, [], ◌∷◌, Some, None, length, arith, refl, sym, ◌∙◌, ap}
 use Rattle.std.proofs.lemmas.Bool.Decides.{nat_tests}
-use Rattle.std.specs.List.{list_any, find}
+use Rattle.std.specs.List.{list_any}
 use Rattle.std.specs.Option.{is_some}
 use Rattle.kernel_model.specs.declared.Inverse.{Inverse}
 use Rattle.kernel_model.specs.declared.Object.{Object}
 use Rattle.kernel_model.specs.declared.Object.TheVariants.{Lock}
 use Rattle.kernel_model.specs.declared.Mode.{Mode}
 use Rattle.kernel_model.specs.declared.Held.{Held}
-use Rattle.kernel_model.specs.Objects.{Things, at2}
+use Rattle.kernel_model.specs.Objects.{Things}
 use Rattle.kernel_model.specs.Locks.{LockTable, Touched, touch, with_touch, is_held, conflicts, outermost_holding}
 use Rattle.kernel_model.specs.Levels.{Level}
 use Rattle.kernel_model.specs.GraftStep.{is_lock_due}

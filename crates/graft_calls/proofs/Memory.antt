@@ -1,11 +1,11 @@
 -- Bytes of memory that stay, and what is seen of them.
-use Rattle.std.proofs.Common.{◌≡◌, ◌≢◌, ℕ, zero, suc, ◌+◌, ◌-◌, ◌*◌, ◌<◌, ◌≤◌, ◌==◌, ◌&&◌, Bool, true, false, cond, nat_le, nat_lt, List, [], ◌∷◌, ◌++◌, length, take, drop, slice_index, slice_set, slice_range, slice_get, Option, Some, None, option_map, arith, refl, sym, ◌∙◌, ap, subst, inl, inr, ◌⊎◌, length-append, length-drop}
+use Rattle.std.proofs.Common.{◌≡◌, ◌≢◌, ℕ, zero, suc, ◌+◌, ◌-◌, ◌*◌, ◌<◌, ◌≤◌, ◌==◌, ◌&&◌, Bool, true, false, cond, nat_le, nat_lt, List, [], ◌∷◌, ◌++◌, length, take, drop, slice_index, slice_set, Option, Some, None, arith, refl, sym, ◌∙◌, ap, inl, inr, ◌⊎◌, length-append, length-drop}
 use Rattle.std.proofs.Math.Path.{fun_ext}
 use Rattle.std.proofs.lemmas.Bool.Decides.{nat_tests}
 use Rattle.std.proofs.lemmas.List.{get_or-drop, get_or-set_same, get_or-set_other, get_or_append_left, get_or-append_right, length-take-le, get_or_past}
-use Rattle.kernel_model.specs.Machine.{Machine, segment_base}
+use Rattle.kernel_model.specs.Machine.{Machine}
 use Rattle.kernel_model.specs.Levels.{base_of}
-use Rattle.kernel_model.specs.Runs.{on_segment, segment_of}
+use Rattle.kernel_model.specs.Runs.{on_segment}
 use Rattle.kernel_model.specs.declared.FrameRow.{FrameRow}
 use Rattle.kernel_model.specs.Objects.{CacheValue, FrameValue}
 use Rattle.buffer_cache.specs.Frames.{Frames, IsFrames, row_at}

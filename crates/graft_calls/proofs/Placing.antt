@@ -1,5 +1,5 @@
 -- Levels stay in place, and what isn't theirs stays as it was.
-use Rattle.std.proofs.Common.{◌≡◌, ◌≢◌, ℕ, suc, ◌<◌, ◌≤◌, ◌==◌, ◌&&◌, false, List, [], ◌∷◌, length, arith, refl, sym, ◌∙◌, ap, subst, slice_index}
+use Rattle.std.proofs.Common.{◌≡◌, ◌≢◌, ℕ, suc, ◌<◌, ◌≤◌, List, ◌∷◌, length, arith, sym, ◌∙◌, ap, subst, slice_index}
 use Rattle.kernel_model.specs.declared.Inverse.{Inverse}
 use Rattle.kernel_model.specs.declared.Object.{Object}
 use Rattle.kernel_model.specs.declared.Held.{Held}
@@ -14,7 +14,7 @@ use Rattle.kernel_state.specs.Stores.{Seeing, world_of_store, objects_of, queue_
 use Rattle.kernel_state.specs.Accesses.{CanBeUndone}
 use Rattle.graft_calls.specs.declared.GraftLevel.{GraftLevel}
 use Rattle.graft_calls.specs.Chains.{outer}
-use Rattle.graft_calls.specs.Calls.{AreSound, AllUndoable, IsPlaced, IsElsewhereSame, IsBeyond}
+use Rattle.graft_calls.specs.Calls.{AreSound, AllUndoable, IsPlaced, IsElsewhereSame}
 use Rattle.graft_calls.proofs.Undoing.{all_kept, of_outer, outer_length}
 use Rattle.graft_calls.proofs.Conditions.{still_sound}
 use Rattle.graft_calls.proofs.Views.{released_free, released_others}

@@ -1,5 +1,5 @@
 -- How many records there are, and a log with one more.
-use Rattle.std.proofs.Common.{◌≡◌, ℕ, suc, ◌+◌, ◌<◌, ◌==◌, ◌||◌, Bool, List, [], ◌∷◌, ◌++◌, length, map, reverse, arith, refl, sym, ◌∙◌, ap}
+use Rattle.std.proofs.Common.{◌≡◌, ℕ, ◌+◌, ◌<◌, List, [], ◌∷◌, length, map, arith, refl, sym, ◌∙◌, ap}
 use Rattle.std.proofs.lemmas.List.{length-map, length-append, length-reverse}
 use Rattle.kernel_model.specs.declared.Inverse.{Inverse}
 use Rattle.kernel_model.specs.Objects.{Things}

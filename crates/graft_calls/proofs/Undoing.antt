@@ -1,5 +1,5 @@
 -- A log whose newest records are undone, and records that can still be undone.
-use Rattle.std.proofs.Common.{◌≡◌, ℕ, suc, ◌+◌, ◌<◌, List, [], ◌∷◌, ◌++◌, Option, Some, None, length, arith, refl, sym, ◌∙◌, ap, subst}
+use Rattle.std.proofs.Common.{◌≡◌, ℕ, suc, ◌<◌, List, [], ◌∷◌, ◌++◌, Some, None, length, arith, refl, sym, ◌∙◌, ap, subst}
 use Rattle.kernel_model.specs.declared.Inverse.{Inverse}
 use Rattle.kernel_model.specs.Objects.{Objects, Things, with_things}
 use Rattle.kernel_model.specs.Access.{undo}

@@ -1,5 +1,5 @@
 -- What the levels of a chain are once locks, memory or records changed.
-use Rattle.std.proofs.Common.{◌≡◌, ◌≢◌, ℕ, suc, ◌+◌, ◌<◌, ◌≤◌, ◌==◌, ◌&&◌, Bool, true, false, cond, nat_le, List, [], ◌∷◌, length, arith, refl, sym, ◌∙◌, ap, subst}
+use Rattle.std.proofs.Common.{◌≡◌, ◌≢◌, ℕ, suc, ◌<◌, ◌≤◌, ◌==◌, ◌&&◌, true, false, cond, nat_le, List, [], ◌∷◌, length, arith, refl, ◌∙◌, ap}
 use Rattle.std.proofs.lemmas.Bool.Decides.{nat_tests}
 use Rattle.kernel_model.specs.declared.Inverse.{Inverse}
 use Rattle.kernel_model.specs.declared.Object.{Object}
@@ -7,7 +7,7 @@ use Rattle.kernel_model.specs.declared.Held.{Held}
 use Rattle.kernel_model.specs.Machine.{Machine}
 use Rattle.kernel_model.specs.Objects.{Things}
 use Rattle.kernel_model.specs.Locks.{LockTable, Touched, release_from, untouched}
-use Rattle.kernel_model.specs.Levels.{Level, base_of, with_machine}
+use Rattle.kernel_model.specs.Levels.{Level, base_of}
 use Rattle.kernel_model.specs.UndoLog.{undo_all}
 use Rattle.kernel_model.specs.Runs.{on_segment}
 use Rattle.undo_calls.specs.UndoLevels.{innermost}

@@ -128,8 +128,8 @@ fn change(
     requires undoable { CanBeUndone inverse_is (objects_of (λ b. seen (b.vtable, b.value)) store.old).things }
     ensures step { let l = level_of (λ b. seen (b.vtable, b.value)) store.old locks.old chain.old p level in let ls = outer_of (λ b. seen (b.vtable, b.value)) store.old locks.old chain.old p in
         came (after_change (world_of_store store.old) (objects_of (λ b. seen (b.vtable, b.value)) store.old) l ls l.machine id result_is inverse_is
-            (things_after (accessed_by id (slice_index level.machine.regs 0) (slice_index level.machine.regs 1) (slice_index level.machine.regs 2) level.owner (objects_of (λ b. seen (b.vtable, b.value)) store.old).things) (objects_of (λ b. seen (b.vtable, b.value)) store.old).things)
-            (is_record_spent (objects_of (λ b. seen (b.vtable, b.value)) store.old).accounts l ls))
+        (things_after (accessed_by id (slice_index level.machine.regs 0) (slice_index level.machine.regs 1) (slice_index level.machine.regs 2) level.owner (objects_of (λ b. seen (b.vtable, b.value)) store.old).things) (objects_of (λ b. seen (b.vtable, b.value)) store.old).things)
+        (is_record_spent (objects_of (λ b. seen (b.vtable, b.value)) store.old).accounts l ls))
         ≡ (result, call_of (λ b. seen (b.vtable, b.value)) store.new locks.new chain.new p) }
     ensures placed { IsPlaced (λ b. seen (b.vtable, b.value)) store.new locks.new p chain.new.levels chain.new.undo }
     ensures inside { (images : ImageTable) → AreInside images (objects_of (λ b. seen (b.vtable, b.value)) store.old).accounts p (level ∷ chain.old.levels) → AreInside images (objects_of (λ b. seen (b.vtable, b.value)) store.new).accounts p chain.new.levels }
@@ -166,7 +166,7 @@ pub(crate) fn access(
     requires early { early_refusal 15 id (slice_index level.machine.regs 0) (slice_index level.machine.regs 1) level.owner ≡ None }
     ensures step { let l = level_of (λ b. seen (b.vtable, b.value)) store.old locks.old chain.old p level in let ls = outer_of (λ b. seen (b.vtable, b.value)) store.old locks.old chain.old p in
         came (after_accessor (world_of_store store.old) (objects_of (λ b. seen (b.vtable, b.value)) store.old) l ls l.machine id
-            (accessed_by id (l.machine.regs 0) (l.machine.regs 1) (l.machine.regs 2) l.owner (objects_of (λ b. seen (b.vtable, b.value)) store.old).things))
+        (accessed_by id (l.machine.regs 0) (l.machine.regs 1) (l.machine.regs 2) l.owner (objects_of (λ b. seen (b.vtable, b.value)) store.old).things))
         ≡ (result, call_of (λ b. seen (b.vtable, b.value)) store.new locks.new chain.new p) }
     ensures placed { IsPlaced (λ b. seen (b.vtable, b.value)) store.new locks.new p chain.new.levels chain.new.undo }
     ensures inside { (images : ImageTable) → AreInside images (objects_of (λ b. seen (b.vtable, b.value)) store.old).accounts p (level ∷ chain.old.levels) → AreInside images (objects_of (λ b. seen (b.vtable, b.value)) store.new).accounts p chain.new.levels }
@@ -176,7 +176,17 @@ pub(crate) fn access(
     match store.answer(id, arguments(&level.machine), level.owner) {
         Err(cause) => drop_innermost(level, chain, p, store, locks, cause),
         Ok(answer) => match answer.inverse {
-            Some(inverse) => change(id, answer.result, inverse, need, level, chain, p, store, locks),
+            Some(inverse) => change(
+                id,
+                answer.result,
+                inverse,
+                need,
+                level,
+                chain,
+                p,
+                store,
+                locks,
+            ),
             None => give(id, answer.result, need, level, chain, p, store, locks),
         },
     }

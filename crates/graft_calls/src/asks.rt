@@ -24,9 +24,9 @@ use crate::code::image_of;
 use crate::drops::drop_innermost;
 use crate::points::{args_of, default_of};
 use crate::{Chain, GraftLevel, Levels};
-use graft_loader::Images;
 use accessor_list::ids;
 use graft_accounts::Accounts;
+use graft_loader::Images;
 use kernel_model::{Cause, Micro, Mode, Need, Object, Point};
 use kernel_state::Store;
 use lock_table::LockTable;
@@ -63,7 +63,10 @@ pub(crate) fn asked_needs(id: u32, r0: u32, q: u8) -> [Need; 2]
     ensures range { All (λ (n : Needed). IsInRange n.object) result }
 {
     match id {
-        ids::ASK_RA => [shared(Object::OpenFile(q, r0 as u8)), shared(Object::Pol(0))],
+        ids::ASK_RA => [
+            shared(Object::OpenFile(q, r0 as u8)),
+            shared(Object::Pol(0)),
+        ],
         ids::ASK_VICTIM => [shared(Object::Cache), shared(Object::Pol(1))],
         _ => [shared(Object::Queue), shared(Object::Pol(2))],
     }
@@ -136,7 +139,15 @@ fn touch_asked(id: u32, r0: u32, q: u8, p: u8, d: u8, locks: &mut LockTable)
 
 /// An ask that isn't refused is answered: a level begins inside the others where a graft stands, else the innermost level gets the
 /// default.
-fn answer_ask(pt: u8, q: u8, chain: &mut Chain, p: u8, store: &mut Store, locks: &LockTable, images: &Images) -> Micro
+fn answer_ask(
+    pt: u8,
+    q: u8,
+    chain: &mut Chain,
+    p: u8,
+    store: &mut Store,
+    locks: &LockTable,
+    images: &Images,
+) -> Micro
     requires in_place { IsInPlace (λ b. seen (b.vtable, b.value)) store.old locks.now (table_of images.now) p chain.old.levels chain.old.undo }
     requires owner { q < 16 }
     requires point { pt < 16 }

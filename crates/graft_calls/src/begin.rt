@@ -37,13 +37,7 @@ pub(crate) fn touch_needs(needs: &[Need], p: u8, d: u8, locks: &mut LockTable)
 }
 
 /// A new innermost level begins on this image, which is that of the graft at the asked point.
-pub(crate) fn begin_level(
-    chain: &mut Chain,
-    p: u8,
-    store: &mut Store,
-    image: &Loaded,
-    at: &Point,
-)
+pub(crate) fn begin_level(chain: &mut Chain, p: u8, store: &mut Store, image: &Loaded, at: &Point)
     requires process { p < 16 }
     requires few { length chain.old.levels < 4 }
     requires as_many { length chain.old.undo ≡ length chain.old.levels }

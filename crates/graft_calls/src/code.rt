@@ -10,7 +10,12 @@ use graft_accounts::Accounts;
 use graft_loader::{Images, Loaded};
 
 /// The image of the graft at point pt of process q, if it is loaded.
-pub(crate) fn find_image<'a>(images: &'a Images, accounts: &Accounts, q: u8, pt: u8) -> Option<&'a Loaded>
+pub(crate) fn find_image<'a>(
+    images: &'a Images,
+    accounts: &Accounts,
+    q: u8,
+    pt: u8,
+) -> Option<&'a Loaded>
     requires owner { q < 16 }
     requires point { pt < 16 }
     ensures some { IfSome result (λ l. model.image_of (table_of images.now) ((accounts_of accounts.now).graft q pt) ≡ Some l.now) }

@@ -17,8 +17,8 @@ use crate::code::code_of;
 use crate::drops::drop_innermost;
 use crate::returns::offer;
 use crate::{CALLABLE, Chain, GraftLevel};
-use graft_loader::Images;
 use accessor_list::early;
+use graft_loader::Images;
 use graft_machine::{Outcome, laws};
 use kernel_model::{Cause, Micro};
 use kernel_state::Store;
@@ -37,7 +37,7 @@ fn call(
     requires in_place { IsInPlace (λ b. seen (b.vtable, b.value)) store.old locks.old (table_of images.now) p (level ∷ chain.old.levels) chain.old.undo }
     ensures step { let l = level_of (λ b. seen (b.vtable, b.value)) store.old locks.old chain.old p level in
         came (after_call (world_of_store store.old) (table_of images.now) (objects_of (λ b. seen (b.vtable, b.value)) store.old) p l (outer_of (λ b. seen (b.vtable, b.value)) store.old locks.old chain.old p) l.machine id
-            (early_refusal (world_of_store store.old).callable id (l.machine.regs 0) (l.machine.regs 1) l.owner))
+        (early_refusal (world_of_store store.old).callable id (l.machine.regs 0) (l.machine.regs 1) l.owner))
         ≡ (result, call_of (λ b. seen (b.vtable, b.value)) store.new locks.new chain.new p) }
     ensures in_place { IsInPlace (λ b. seen (b.vtable, b.value)) store.new locks.new (table_of images.now) p chain.new.levels chain.new.undo }
     ensures elsewhere { IsElsewhereSame store.old store.new locks.old locks.new p }

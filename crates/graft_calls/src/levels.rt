@@ -44,7 +44,9 @@ impl Model for Levels {
 fn is_among(levels: &[GraftLevel], q: u8, pt: u8) -> bool
     ensures { result ≡ is_running_in levels.now q pt }
 {
-    levels.iter().any(|level| level.owner == q && level.point == pt)
+    levels
+        .iter()
+        .any(|level| level.owner == q && level.point == pt)
 }
 
 impl Levels {

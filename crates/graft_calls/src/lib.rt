@@ -18,10 +18,9 @@ mod points;
 mod returns;
 mod segments;
 
+use graft_machine::Machine;
 pub use levels::{Levels, MOST_LEVELS};
 pub use needs::Needs;
-
-use graft_machine::Machine;
 use undo_calls::UndoStack;
 
 /// The highest id of the callable list that grafts may call.

@@ -23,7 +23,11 @@ fn ahead(store: &Store, q: u8, fd: u8) -> (u32, u32, u32)
         None => (0, 0, 0),
         Some(opened) => {
             let default = store.ahead(&opened);
-            (default.start, u32::from(default.count), store.blocks(&opened))
+            (
+                default.start,
+                u32::from(default.count),
+                store.blocks(&opened),
+            )
         }
     }
 }

@@ -48,14 +48,19 @@ fn join(level: GraftLevel, asker: GraftLevel, levels: &mut Levels, p: u8, locks:
     ensures levels { (q : ℕ) (ram : List ℕ) (t : Table) (log : List (List Undoing)) (w : Things) →
         let k = level_in q (length levels.old) ram t asker (innermost log) (undo_all (innermost log) w) in
         levels_in q ram t levels.new log w ≡ record k { machine = answered (kind_of level.point) (slice_index level.machine.regs 0) (slice_index level.machine.regs 1) k.machine }
-            ∷ levels_in q ram t levels.old (outer log) (undo_all (innermost log) w) }
+        ∷ levels_in q ram t levels.old (outer log) (undo_all (innermost log) w) }
     ensures locks { held locks.new ≡ merge_level p (suc (length levels.old)) (held locks.old) }
     ensures count { length levels.new ≡ suc (length levels.old) }
     ensures sound { (queue : List Waiting) → AreSound queue (asker ∷ levels.old) → AreSound queue levels.new }
     ensures inside { (images : ImageTable) (a : Funds) (q : ℕ) → AreInside images a q (asker ∷ levels.old) → AreInside images a q levels.new }
 {
     let mut asker = asker;
-    answer(&mut asker.machine, level.point, level.machine.reg(0), level.machine.reg(1));
+    answer(
+        &mut asker.machine,
+        level.point,
+        level.machine.reg(0),
+        level.machine.reg(1),
+    );
     locks.merge_level(p, levels.count() + 1);
     levels.push(asker);
 }
@@ -68,7 +73,7 @@ fn complete(level: GraftLevel, chain: &mut Chain, p: u8, locks: &mut LockTable) 
     requires process { p < 16 }
     ensures step { (w : State) (ram : List ℕ) → let kept = undo_all (innermost chain.old.undo) w.things in
         came (completed w (level_in p (length chain.old.levels) ram (held locks.old) level (innermost chain.old.undo) kept)
-            (levels_in p ram (held locks.old) chain.old.levels (outer chain.old.undo) kept))
+        (levels_in p ram (held locks.old) chain.old.levels (outer chain.old.undo) kept))
         ≡ (result, record { now = w; levels = levels_in p ram (held locks.new) chain.new.levels chain.new.undo w.things }) }
     ensures log { chain.new.undo ≡ merged chain.old.undo }
     ensures count { length chain.new.levels ≡ length chain.old.levels }
@@ -101,7 +106,7 @@ pub(crate) fn offer(
     requires placed { IsPlaced (λ b. seen (b.vtable, b.value)) store.old locks.old p (level ∷ chain.old.levels) chain.old.undo }
     ensures step { let l = level_of (λ b. seen (b.vtable, b.value)) store.old locks.old chain.old p level in let ls = outer_of (λ b. seen (b.vtable, b.value)) store.old locks.old chain.old p in
         came (after_return (world_of_store store.old) (objects_of (λ b. seen (b.vtable, b.value)) store.old) l ls
-            (valid (objects_of (λ b. seen (b.vtable, b.value)) store.old).things l.owner l.point l.args (l.machine.regs 0) (l.machine.regs 1)))
+        (valid (objects_of (λ b. seen (b.vtable, b.value)) store.old).things l.owner l.point l.args (l.machine.regs 0) (l.machine.regs 1)))
         ≡ (result, call_of (λ b. seen (b.vtable, b.value)) store.new locks.new chain.new p) }
     ensures placed { IsPlaced (λ b. seen (b.vtable, b.value)) store.new locks.new p chain.new.levels chain.new.undo }
     ensures inside { (images : ImageTable) → AreInside images (objects_of (λ b. seen (b.vtable, b.value)) store.old).accounts p (level ∷ chain.old.levels) → AreInside images (objects_of (λ b. seen (b.vtable, b.value)) store.new).accounts p chain.new.levels }

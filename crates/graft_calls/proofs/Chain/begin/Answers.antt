@@ -1,15 +1,15 @@
-use Rattle.std.proofs.Common.{◌≡◌, ◌≤◌, ◌==◌, ◌&&◌, ℕ, suc, [], ◌∷◌, List, length, false, ap, sym, subst, refl, arith, ◌∙◌}
+use Rattle.std.proofs.Common.{◌≡◌, [], ◌∷◌, List, length, ap, sym, subst, refl, arith, ◌∙◌}
 use Rattle.std.proofs.lemmas.Bool.Decides.{nat_tests}
 use Rattle.kernel_model.specs.Locks.{LockTable, Touched, touch_all, untouched}
 use Rattle.kernel_model.specs.Levels.{Level, new_level}
 use Rattle.kernel_model.specs.Objects.{Objects}
 use Rattle.lock_table.specs.Masks.{held}
 use Rattle.graft_accounts.specs.Table.{accounts_of}
-use Rattle.kernel_state.specs.Stores.{objects_of, queue_of}
+use Rattle.kernel_state.specs.Stores.{objects_of}
 use Rattle.graft_loader.specs.Slots.{table_of}
 use Rattle.graft_calls.specs.declared.GraftLevel.{GraftLevel}
 use Rattle.graft_calls.specs.Chains.{levels_in, is_running_in}
-use Rattle.graft_calls.specs.Calls.{AreSound, AreInside}
+use Rattle.graft_calls.specs.Calls.{AreInside}
 use Rattle.kernel_model.specs.Sound.{ImagesAreLoaded}
 use Rattle.graft_calls.proofs.Conditions.{stands_loaded}
 use Rattle.graft_calls.proofs.Dropping.{configs}
@@ -26,9 +26,9 @@ returns-clause-value g c =
     let gs = c.args.self.now.levels in
     let r = held c.touch_needs.new.locks in
     let none : held c.args.locks.now c.args.p 0 ≡ untouched =
-        nothing_held (held c.args.locks.now) c.args.p 0 (λ o. c.requires.placed.unheld 0 o (omega (arith, ap length c.requires.none))) in
+    nothing_held (held c.args.locks.now) c.args.p 0 (λ o. c.requires.placed.unheld 0 o (omega (arith, ap length c.requires.none))) in
     let touched : r c.args.p 0 ≡ touch_all c.args.needs.now untouched =
-        ap (λ (x : LockTable). x c.args.p 0) c.touch_needs.ensures ∙ needs_here c.args.p 0 c.args.needs.now (held c.args.locks.now) ∙ ap (touch_all c.args.needs.now) none in
+    ap (λ (x : LockTable). x c.args.p 0) c.touch_needs.ensures ∙ needs_here c.args.p 0 c.args.needs.now (held c.args.locks.now) ∙ ap (touch_all c.args.needs.now) none in
     configs _ w _ _ c.begin_level.ensures.objects
     (ap (λ (x : Objects). levels_in c.args.p c.begin_level.new.store.ram r c.begin_level.new.chain.levels c.begin_level.new.chain.undo x.things) c.begin_level.ensures.objects
     ∙ c.begin_level.ensures.levels images r c.image_of-image.ensures

@@ -1,4 +1,4 @@
-use Rattle.std.proofs.Common.{◌≡◌, ℕ, List, slice_index, ap, sym, refl, ◌∙◌}
+use Rattle.std.proofs.Common.{◌≡◌, ℕ, List, slice_index, ap, sym, ◌∙◌}
 use Rattle.kernel_model.specs.Access.{access}
 use Rattle.kernel_state.specs.Accesses.{answer_of}
 use Rattle.kernel_state.specs.Stores.{world_of_store, objects_of}
@@ -16,7 +16,7 @@ returns-in-Err-clause-step g c =
     let q = c.args.level.owner in
     let a = access c.args.id (l.machine.regs 0) (l.machine.regs 1) (l.machine.regs 2) q w.things in
     let told : answer_of a ≡ c.answer.result =
-        ap (λ (xs : List ℕ). answer_of (access c.args.id (slice_index xs 0) (slice_index xs 1) (slice_index xs 2) q w.things)) (sym c.arguments.ensures) ∙ sym c.answer.ensures.answer in
+    ap (λ (xs : List ℕ). answer_of (access c.args.id (slice_index xs 0) (slice_index xs 1) (slice_index xs 2) q w.things)) (sym c.arguments.ensures) ∙ sym c.answer.ensures.answer in
     ap came (is_refused v w l ls l.machine c.args.id a c.in-Err.cause (told ∙ c.in-Err.is)) ∙ c.drop_innermost.ensures.step
 
 pub returns-in-Some-clause-step : goal.returns-in-Some-clause-step
@@ -29,7 +29,7 @@ returns-in-Some-clause-step g c =
     let q = c.args.level.owner in
     let a = access c.args.id (l.machine.regs 0) (l.machine.regs 1) (l.machine.regs 2) q w.things in
     let told : answer_of a ≡ c.answer.result =
-        ap (λ (xs : List ℕ). answer_of (access c.args.id (slice_index xs 0) (slice_index xs 1) (slice_index xs 2) q w.things)) (sym c.arguments.ensures) ∙ sym c.answer.ensures.answer in
+    ap (λ (xs : List ℕ). answer_of (access c.args.id (slice_index xs 0) (slice_index xs 1) (slice_index xs 2) q w.things)) (sym c.arguments.ensures) ∙ sym c.answer.ensures.answer in
     ap came (is_changing v w l ls l.machine c.args.id a c.in-Ok.answer c.in-Some.inverse (told ∙ c.in-Ok.is) c.in-Some.is) ∙ c.change.ensures.step
 
 pub returns-in-None-clause-step : goal.returns-in-None-clause-step
@@ -42,5 +42,5 @@ returns-in-None-clause-step g c =
     let q = c.args.level.owner in
     let a = access c.args.id (l.machine.regs 0) (l.machine.regs 1) (l.machine.regs 2) q w.things in
     let told : answer_of a ≡ c.answer.result =
-        ap (λ (xs : List ℕ). answer_of (access c.args.id (slice_index xs 0) (slice_index xs 1) (slice_index xs 2) q w.things)) (sym c.arguments.ensures) ∙ sym c.answer.ensures.answer in
+    ap (λ (xs : List ℕ). answer_of (access c.args.id (slice_index xs 0) (slice_index xs 1) (slice_index xs 2) q w.things)) (sym c.arguments.ensures) ∙ sym c.answer.ensures.answer in
     ap came (is_given v w l ls l.machine c.args.id a c.in-Ok.answer (told ∙ c.in-Ok.is) c.in-None.is) ∙ c.give.ensures.step

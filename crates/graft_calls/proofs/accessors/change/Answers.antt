@@ -1,11 +1,11 @@
-use Rattle.std.proofs.Common.{◌≡◌, ◌≤◌, ◌<◌, ◌==◌, ◌||◌, ◌∷◌, ℕ, Bool, true, false, List, length, slice_index, ap, sym, refl, subst, arith, ◌∙◌}
+use Rattle.std.proofs.Common.{◌≡◌, ◌==◌, ◌||◌, ◌∷◌, ℕ, false, List, length, slice_index, ap, sym, refl, subst, arith, ◌∙◌}
 use Rattle.kernel_model.specs.declared.Kind.TheVariants.{Records}
 use Rattle.kernel_model.specs.declared.Cause.TheVariants.{SpentRecords}
 use Rattle.kernel_model.specs.Access.{access, undo}
 use Rattle.kernel_model.specs.Charges.{charge, funds}
-use Rattle.kernel_model.specs.GraftStep.{after_change, is_record_spent}
+use Rattle.kernel_model.specs.GraftStep.{is_record_spent}
 use Rattle.kernel_model.specs.Levels.{drop_innermost}
-use Rattle.kernel_model.specs.Objects.{Objects, Accounts, Things, with_accounts, with_things}
+use Rattle.kernel_model.specs.Objects.{Objects, Accounts, with_accounts, with_things}
 use Rattle.kernel_model.specs.Sound.{ImagesAreLoaded}
 use Rattle.lock_table.specs.Masks.{held}
 use Rattle.undo_calls.specs.UndoLevels.{records_of}
@@ -35,7 +35,7 @@ returns-then-not-charge_record-clause-step g c =
     let ls = outer_of (λ b. (goal.Policy-dyn g (b.vtable, b.value)).seen b.value) s c.args.locks.now c.args.chain.now c.args.p in
     let spent = funds w.accounts l.owner l.point Records == 0 || length (records_of log) == 64 in
     let same : is_record_spent w.accounts l ls ≡ spent =
-        ap (λ n. funds w.accounts l.owner l.point Records == 0 || n == 64) (record_count_is c.args.p s.ram (held c.args.locks.now) gs log w.things c.requires.placed.as_many) in
+    ap (λ n. funds w.accounts l.owner l.point Records == 0 || n == 64) (record_count_is c.args.p s.ram (held c.args.locks.now) gs log w.things c.requires.placed.as_many) in
     ap came (not_recorded v w l ls l.machine c.args.id c.args.result_is c.args.inverse_is _ spent same c.if-not-charge_record.ensures.answer)
     ∙ ap (λ a. came (drop_innermost v (with_accounts a w) l ls SpentRecords)) (sym (uncharged false (accounts_of c.charge_record.new.accounts) (charge Records l.owner l.point w.accounts) w.accounts refl c.if-not-charge_record.ensures.accounts))
     ∙ c.drop_innermost.ensures.step
@@ -61,18 +61,18 @@ returns-clause-step g c =
     let after = things_after a w.things in
     let spent = funds w.accounts l.owner l.point Records == 0 || length (records_of log) == 64 in
     let same : is_record_spent w.accounts l ls ≡ spent =
-        ap (λ n. funds w.accounts l.owner l.point Records == 0 || n == 64) (record_count_is c.args.p s.ram (held c.args.locks.now) gs log w.things c.requires.placed.as_many) in
+    ap (λ n. funds w.accounts l.owner l.point Records == 0 || n == 64) (record_count_is c.args.p s.ram (held c.args.locks.now) gs log w.things c.requires.placed.as_many) in
     let state : u ≡ with_things after (with_accounts (accounts_of c.charge_record.new.accounts) w) =
-        c.apply.ensures.objects
-        ∙ ap (λ (xs : List ℕ). with_things (things_after (access c.args.id (slice_index xs 0) (slice_index xs 1) (slice_index xs 2) q w.things) w.things) (with_accounts (accounts_of c.charge_record.new.accounts) w)) c.arguments.ensures in
+    c.apply.ensures.objects
+    ∙ ap (λ (xs : List ℕ). with_things (things_after (access c.args.id (slice_index xs 0) (slice_index xs 1) (slice_index xs 2) q w.things) w.things) (with_accounts (accounts_of c.charge_record.new.accounts) w)) c.arguments.ensures in
     let charged : accounts_of c.charge_record.new.accounts ≡ charge Records l.owner l.point w.accounts = c.if-not-charge_record.ensures.accounts in
     let law = c.inverses_undo.ensures c.args.id (l.machine.regs 0) (l.machine.regs 1) (l.machine.regs 2) q w.things (stands_once q w.things.queue (c.rows.ensures.sound.queue.once q)) in
     let back : undo c.args.inverse_is u.things ≡ w.things = ap (λ (x : Objects). undo c.args.inverse_is x.things) state ∙ leads_back a c.args.result_is c.args.inverse_is w.things c.requires.answer law in
     is_recorded v w l ls l.machine c.args.id c.args.result_is c.args.inverse_is after spent same c.if-not-charge_record.ensures.answer
     ∙ pair _ _ _ _ refl (configs _ u _ _ (sym (state ∙ ap (λ (x : Accounts). with_things after (with_accounts x w)) charged))
     (sym (recorded_on c.args.id c.args.result_is c.args.p c.count.result c.args.need.object c.args.need.mode s.ram c.apply.new.self.ram (held c.args.locks.now) (held c.touch.new.self) c.args.level
-      c.args.chain.now.levels c.go_on.new.levels log c.record.new.undo c.args.inverse_is w.things u.things c.go_on.ensures.levels c.apply.ensures.memory (omega (arith, c.requires.placed.as_many)) c.record.ensures back
-      c.count.ensures.value c.touch.ensures c.requires.object c.requires.mode)))
+    c.args.chain.now.levels c.go_on.new.levels log c.record.new.undo c.args.inverse_is w.things u.things c.go_on.ensures.levels c.apply.ensures.memory (omega (arith, c.requires.placed.as_many)) c.record.ensures back
+    c.count.ensures.value c.touch.ensures c.requires.object c.requires.mode)))
 
 pub returns-clause-placed : goal.returns-clause-placed
 returns-clause-placed g c =

@@ -1,11 +1,10 @@
-use Rattle.std.proofs.Common.{◌≡◌, ◌∷◌, true, false, length, slice_index, ap, sym, refl, ◌∙◌}
+use Rattle.std.proofs.Common.{◌∷◌, true, false, ap, sym, refl, ◌∙◌}
 use Rattle.kernel_model.specs.declared.Kind.TheVariants.{Locks}
-use Rattle.kernel_model.specs.declared.Micro.{Micro}
 use Rattle.kernel_model.specs.declared.Cause.TheVariants.{SpentLocks}
 use Rattle.kernel_model.specs.Access.{accessed}
-use Rattle.kernel_model.specs.GraftStep.{after_result, is_lock_due}
-use Rattle.kernel_model.specs.Levels.{Level, Config, drop_innermost}
-use Rattle.kernel_model.specs.Objects.{Objects, with_accounts}
+use Rattle.kernel_model.specs.GraftStep.{after_result}
+use Rattle.kernel_model.specs.Levels.{drop_innermost}
+use Rattle.kernel_model.specs.Objects.{with_accounts}
 use Rattle.kernel_model.specs.UndoLog.{undo_all}
 use Rattle.lock_table.specs.Masks.{held}
 use Rattle.undo_calls.specs.UndoLevels.{innermost}
@@ -58,7 +57,7 @@ returns-clause-step g c =
     ∙ pair _ _ _ _ refl (configs u u _ _ refl
     (sym (c.go_on.ensures.levels c.args.p s.ram (held c.touch.new.self) log w.things
     ∙ gone_on c.args.id c.args.result_is c.args.p c.count.result c.args.need.object c.args.need.mode s.ram (held c.args.locks.now) (held c.touch.new.self) c.args.level c.args.chain.now.levels
-      (innermost log) (outer log) (undo_all (innermost log) w.things) c.count.ensures.value c.touch.ensures c.requires.object c.requires.mode)))
+    (innermost log) (outer log) (undo_all (innermost log) w.things) c.count.ensures.value c.touch.ensures c.requires.object c.requires.mode)))
 
 pub returns-clause-placed : goal.returns-clause-placed
 returns-clause-placed g c =

@@ -1,7 +1,7 @@
-use Rattle.std.proofs.Common.{◌≡◌, ◌≢◌, ◌≤◌, ℕ, suc, [], ◌∷◌, List, Option, Some, None, true, length, refl, ap, sym, subst, arith, ◌∙◌}
+use Rattle.std.proofs.Common.{◌≡◌, ◌∷◌, Option, Some, None, true, length, refl, ap, sym, subst, arith, ◌∙◌}
 use Rattle.std.specs.Option.{is_some}
 use Rattle.kernel_model.specs.Objects.{Objects, GraftValue}
-use Rattle.kernel_model.specs.Levels.{Level, new_level}
+use Rattle.kernel_model.specs.Levels.{new_level}
 use Rattle.kernel_model.specs.Policies.{args_by, kind_of}
 use Rattle.kernel_model.specs.Locks.{Touched, untouched}
 use Rattle.kernel_model.specs.Sound.{ImagesAreLoaded}

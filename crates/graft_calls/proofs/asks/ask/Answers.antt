@@ -1,8 +1,8 @@
-use Rattle.std.proofs.Common.{◌≡◌, ◌≤◌, ◌==◌, ◌&&◌, ℕ, suc, ◌∷◌, List, Some, None, false, true, length, refl, ap, sym, subst, arith, ◌∙◌}
+use Rattle.std.proofs.Common.{◌≡◌, ◌∷◌, List, ap, sym, subst, arith, ◌∙◌}
 use Rattle.std.proofs.lemmas.Bool.Decides.{nat_tests}
 use Rattle.kernel_model.specs.Access.{asked_point, asked_objects, asked_graft}
 use Rattle.kernel_model.specs.GraftStep.{ask_refusal, ask_answered, after_ask}
-use Rattle.kernel_model.specs.Levels.{Level, touch_outermost, with_touched}
+use Rattle.kernel_model.specs.Levels.{Level}
 use Rattle.kernel_model.specs.declared.Mode.{Mode}
 use Rattle.kernel_model.specs.Locks.{Touched, with_touch}
 use Rattle.lock_table.specs.Masks.{held}
@@ -58,8 +58,8 @@ returns-clause-step g c =
     ap (λ x. came (after_ask v images w p l ls l.machine id x (ask_refusal w q x id (l ∷ ls)))) (sym point)
     ∙ asked_on v images w p l ls id pt (ask_refusal w q pt id (l ∷ ls)) (sym (c.ask_refusal.ensures.value p s.ram t c.args.chain.now.undo w.things) ∙ c.in_default.is)
     ∙ ap (λ (x : List Level). came (ask_answered v images w p q pt x (w.accounts.graft q pt)))
-      (sym (asked_levels id (l.machine.regs 0) p c.count.result s.ram t (held c.touch_asked.new.locks) c.args.level c.args.chain.now.levels c.push.new.self c.args.chain.now.undo w.things c.push.ensures
-      c.count.ensures.value held_is))
+    (sym (asked_levels id (l.machine.regs 0) p c.count.result s.ram t (held c.touch_asked.new.locks) c.args.level c.args.chain.now.levels c.push.new.self c.args.chain.now.undo w.things c.push.ensures
+    c.count.ensures.value held_is))
     ∙ c.answer_ask.ensures.step
 
 pub returns-clause-elsewhere : goal.returns-clause-elsewhere

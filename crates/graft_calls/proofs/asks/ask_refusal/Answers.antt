@@ -1,4 +1,4 @@
-use Rattle.std.proofs.Common.{true, false, refl, sym}
+use Rattle.std.proofs.Common.{true, false, refl}
 use Rattle.kernel_state.specs.Stores.{objects_of}
 use Rattle.graft_calls.proofs.Asking.{refused_is}
 use Rattle.graft_calls.proofs.asks.ask_refusal.Goals as goal

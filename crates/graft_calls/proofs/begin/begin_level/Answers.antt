@@ -1,4 +1,4 @@
-use Rattle.std.proofs.Common.{◌≡◌, ◌<◌, ℕ, List, slice_index, ap, sym, arith, inl, ◌∙◌, length}
+use Rattle.std.proofs.Common.{ℕ, List, slice_index, ap, arith, inl, ◌∙◌}
 use Rattle.kernel_model.specs.Levels.{base_of}
 use Rattle.kernel_state.specs.Stores.{objects_of}
 use Rattle.graft_accounts.specs.Table.{accounts_of}

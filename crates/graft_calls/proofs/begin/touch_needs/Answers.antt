@@ -1,1 +1,0 @@
-use Rattle.graft_calls.proofs.begin.touch_needs.Goals as goal

@@ -1,7 +1,7 @@
 -- The newest record is undone, and then those that are left.
-use Rattle.std.proofs.Common.{arith, ◌<◌, length, ap, subst, sym, ◌∙◌}
+use Rattle.std.proofs.Common.{arith, ◌<◌, length, ap}
 use Rattle.undo_calls.specs.UndoLevels.{innermost}
-use Rattle.graft_calls.proofs.Undoing.{popped, rest_kept, undone_first, none_left, none_same}
+use Rattle.graft_calls.proofs.Undoing.{popped, rest_kept}
 use Rattle.graft_calls.proofs.drops.+undo_records.Goals as goal
 
 pub undo_records-requires : goal.undo_records-requires

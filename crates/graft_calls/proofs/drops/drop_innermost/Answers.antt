@@ -24,7 +24,7 @@ returns-clause-step g c =
     let v = world_of_store c.args.store.now in
     let g1 = c.args.level in
     let state : u ≡ with_accounts (removed g1.owner g1.point w.accounts) (undo_on (innermost c.args.chain.now.undo) w) =
-        removed_after g1.owner g1.point (innermost c.args.chain.now.undo) w one (accounts_of c.remove.new.self) c.end_level.ensures.objects c.remove.ensures.value in
+    removed_after g1.owner g1.point (innermost c.args.chain.now.undo) w one (accounts_of c.remove.new.self) c.end_level.ensures.objects c.remove.ensures.value in
     dropped v w u c.args.p c.count.result c.args.store.now.ram c.end_level.new.store.ram (held c.args.locks.now) (held c.end_level.new.locks) g1
     c.args.chain.now.levels c.give_answer.new.levels c.args.chain.now.undo c.end_level.new.chain.undo c.args.cause c.default_of-r0.result
     state

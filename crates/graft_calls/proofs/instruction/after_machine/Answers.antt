@@ -27,4 +27,3 @@ returns-in-Trapped-clause-in_place g c =
       inside = c.drop_innermost-in-Trapped.ensures.inside (table_of c.args.images.now) h.inside;
       loaded = c.drop_innermost-in-Trapped.ensures.loaded (table_of c.args.images.now) h.loaded;
     }
-

@@ -27,4 +27,3 @@ returns-in-Ok-Some-clause-in_place g c =
       inside = c.access.ensures.inside (table_of c.args.images.now) h.inside;
       loaded = c.access.ensures.loaded (table_of c.args.images.now) h.loaded;
     }
-

@@ -1,10 +1,10 @@
-use Rattle.std.proofs.Common.{◌≡◌, ◌+◌, ◌*◌, ◌<◌, ◌≤◌, ◌==◌, ◌||◌, ◌∷◌, ℕ, Bool, List, false, true, length, refl, ap, sym, subst, arith, inl, ◌∙◌}
+use Rattle.std.proofs.Common.{◌≡◌, ◌+◌, ◌*◌, ◌<◌, ◌==◌, ◌∷◌, ℕ, List, length, refl, ap, sym, subst, arith, ◌∙◌}
 use Rattle.kernel_model.specs.declared.Kind.TheVariants.{Steps}
 use Rattle.kernel_model.specs.declared.Cause.TheVariants.{SpentSteps}
 use Rattle.kernel_model.specs.declared.Instr.{Instr}
 use Rattle.kernel_model.specs.Boxed.{IsInside, IsBoxed}
 use Rattle.kernel_model.specs.Charges.{charge, funds}
-use Rattle.kernel_model.specs.GraftStep.{after_machine, charged_step, is_spent}
+use Rattle.kernel_model.specs.GraftStep.{after_machine, is_spent}
 use Rattle.kernel_model.specs.Levels.{Level, base_of, code_of, limit_in, drop_innermost}
 use Rattle.kernel_model.specs.Machine.{Done, seg_step}
 use Rattle.kernel_model.specs.Objects.{Objects, Accounts, with_accounts}
@@ -21,7 +21,6 @@ use Rattle.graft_calls.specs.declared.GraftLevel.{GraftLevel}
 use Rattle.graft_calls.specs.Chains.{came, level_of, outer_of, level_in, levels_in, outer}
 use Rattle.graft_calls.specs.Calls.{AreInside}
 use Rattle.graft_calls.proofs.Beginning.{same_objects}
-use Rattle.graft_calls.proofs.Charging.{uncharged}
 use Rattle.graft_calls.proofs.Conditions.{loaded_charged}
 use Rattle.graft_calls.proofs.Memory.{same_segment}
 use Rattle.graft_calls.proofs.Placing.{accounts_placed, levels_placed, elsewhere_twice}
@@ -76,11 +75,11 @@ after_machine-requires g c =
     let cpu = c.step-done.new.self in
     let mem = c.step-done.new.ram in
     let inside : (ram : List ℕ) → IsInside code (4 * p + n) (machine_of now.machine ram) = λ ram.
-        subst (λ (x : GraftLevel). IsInside code (4 * p + n) (machine_of x.machine ram)) (sym c.if-not-charge_step.ensures.level)
-        (subst (λ (x : List Instr). IsInside x (4 * p + n) (machine_of c.args.level.machine ram)) (sym c.code_of-code.ensures) (c.requires.in_place.inside.0.inside ram)) in
+    subst (λ (x : GraftLevel). IsInside code (4 * p + n) (machine_of x.machine ram)) (sym c.if-not-charge_step.ensures.level)
+    (subst (λ (x : List Instr). IsInside x (4 * p + n) (machine_of c.args.level.machine ram)) (sym c.code_of-code.ensures) (c.requires.in_place.inside.0.inside ram)) in
     let same : objects_of (λ b. (goal.Policy-dyn g (b.vtable, b.value)).seen b.value) (record s { accounts = c.charge_step.new.accounts; ram = mem }) ≡ objects_of (λ b. (goal.Policy-dyn g (b.vtable, b.value)).seen b.value) (record s { accounts = c.charge_step.new.accounts }) =
-        same_objects (λ b. (goal.Policy-dyn g (b.vtable, b.value)).seen b.value) (record s { accounts = c.charge_step.new.accounts }) mem c.lru.ensures.sound c.byte.ensures.size c.byte-2.ensures.size
-        (λ a lt. c.step-done.ensures.contained (4 * p + n) a (inside s.ram) (frames_outside (4 * p + n) a lt)) in
+    same_objects (λ b. (goal.Policy-dyn g (b.vtable, b.value)).seen b.value) (record s { accounts = c.charge_step.new.accounts }) mem c.lru.ensures.sound c.byte.ensures.size c.byte-2.ensures.size
+    (λ a lt. c.step-done.ensures.contained (4 * p + n) a (inside s.ram) (frames_outside (4 * p + n) a lt)) in
     let h = c.requires.in_place in
     let w = objects_of (λ b. (goal.Policy-dyn g (b.vtable, b.value)).seen b.value) s in
     record {
@@ -110,11 +109,11 @@ returns-clause-step g c =
     let cpu = c.step-done.new.self in
     let mem = c.step-done.new.ram in
     let inside : (ram : List ℕ) → IsInside code (4 * p + n) (machine_of now.machine ram) = λ ram.
-        subst (λ (x : GraftLevel). IsInside code (4 * p + n) (machine_of x.machine ram)) (sym c.if-not-charge_step.ensures.level)
-        (subst (λ (x : List Instr). IsInside x (4 * p + n) (machine_of c.args.level.machine ram)) (sym c.code_of-code.ensures) (c.requires.in_place.inside.0.inside ram)) in
+    subst (λ (x : GraftLevel). IsInside code (4 * p + n) (machine_of x.machine ram)) (sym c.if-not-charge_step.ensures.level)
+    (subst (λ (x : List Instr). IsInside x (4 * p + n) (machine_of c.args.level.machine ram)) (sym c.code_of-code.ensures) (c.requires.in_place.inside.0.inside ram)) in
     let same : objects_of (λ b. (goal.Policy-dyn g (b.vtable, b.value)).seen b.value) (record s { accounts = c.charge_step.new.accounts; ram = mem }) ≡ objects_of (λ b. (goal.Policy-dyn g (b.vtable, b.value)).seen b.value) (record s { accounts = c.charge_step.new.accounts }) =
-        same_objects (λ b. (goal.Policy-dyn g (b.vtable, b.value)).seen b.value) (record s { accounts = c.charge_step.new.accounts }) mem c.lru.ensures.sound c.byte.ensures.size c.byte-2.ensures.size
-        (λ a lt. c.step-done.ensures.contained (4 * p + n) a (inside s.ram) (frames_outside (4 * p + n) a lt)) in
+    same_objects (λ b. (goal.Policy-dyn g (b.vtable, b.value)).seen b.value) (record s { accounts = c.charge_step.new.accounts }) mem c.lru.ensures.sound c.byte.ensures.size c.byte-2.ensures.size
+    (λ a lt. c.step-done.ensures.contained (4 * p + n) a (inside s.ram) (frames_outside (4 * p + n) a lt)) in
     let v = world_of_store s in
     let w = objects_of (λ b. (goal.Policy-dyn g (b.vtable, b.value)).seen b.value) s in
     let q = c.args.level.owner in
@@ -135,14 +134,14 @@ returns-clause-step g c =
     let state : objects_of (λ b. (goal.Policy-dyn g (b.vtable, b.value)).seen b.value) (record s { accounts = c.charge_step.new.accounts; ram = mem }) ≡ u = same ∙ ap (λ (x : Accounts). with_accounts x w) c.if-not-charge_step.ensures.accounts in
     let alone = done_alone c.stays_inside.ensures code (4 * p + n) m k done (subst (λ (x : List Instr). IsBoxed x) c.code.ensures.code c.code.ensures.boxed) (inside s.ram) c.step-done.ensures.flat in
     let outside : ls ≡ levels_in p mem t gs (outer log) kept =
-        sym (levels_alike p mem s.ram t t gs (outer log) kept (λ e lt. refl)
-        (λ e x lt. same_segment p n e s.ram mem x (λ a out. c.step-done.ensures.contained (4 * p + n) a (inside s.ram) out) lt)) in
+    sym (levels_alike p mem s.ram t t gs (outer log) kept (λ e lt. refl)
+    (λ e x lt. same_segment p n e s.ram mem x (λ a out. c.step-done.ensures.contained (4 * p + n) a (inside s.ram) out) lt)) in
     paid_step v images p w l ls (is_spent w.accounts l) refl c.if-not-charge_step.ensures.answer
     ∙ ap (λ (x : GraftLevel). came (after_machine v images p u (level_in p n s.ram t x is kept) ls (seg_step (code_of images w.accounts q pt) (on_segment base (machine_of x.machine s.ram))))) (sym c.if-not-charge_step.ensures.level)
     ∙ ap (λ (x : List Instr). came (after_machine v images p u one ls (seg_step x (on_segment base m)))) (sym c.code_of-code.ensures)
     ∙ ap (λ (x : Done). came (after_machine v images p u one ls x)) alone
     ∙ ap came (after_done v images p u one ls base k done (λ id called. ap by_place (c.step-done.ensures.called id called))
-      (λ ended. ap (λ (x : Cpu). on_segment base (machine_of x mem)) (c.step-done.ensures.ended ended) ∙ ap (λ (x : List ℕ). on_segment base (machine_of now.machine x)) (c.step-done.ensures.memory ended)))
+    (λ ended. ap (λ (x : Cpu). on_segment base (machine_of x mem)) (c.step-done.ensures.ended ended) ∙ ap (λ (x : List ℕ). on_segment base (machine_of now.machine x)) (c.step-done.ensures.memory ended)))
     ∙ ap (λ (x : List Level). came (after_machine v images p u two x (done_of done (on_segment base k)))) outside
     ∙ ap (λ (x : Objects). came (after_machine v images p x (level_in p n mem t (record now { machine = cpu }) is (undo_all is x.things)) (levels_in p mem t gs (outer log) (undo_all is x.things)) (done_of done (on_segment base k)))) (sym state)
     ∙ c.after_machine.ensures.step
@@ -159,11 +158,11 @@ returns-clause-elsewhere g c =
     let cpu = c.step-done.new.self in
     let mem = c.step-done.new.ram in
     let inside : (ram : List ℕ) → IsInside code (4 * p + n) (machine_of now.machine ram) = λ ram.
-        subst (λ (x : GraftLevel). IsInside code (4 * p + n) (machine_of x.machine ram)) (sym c.if-not-charge_step.ensures.level)
-        (subst (λ (x : List Instr). IsInside x (4 * p + n) (machine_of c.args.level.machine ram)) (sym c.code_of-code.ensures) (c.requires.in_place.inside.0.inside ram)) in
+    subst (λ (x : GraftLevel). IsInside code (4 * p + n) (machine_of x.machine ram)) (sym c.if-not-charge_step.ensures.level)
+    (subst (λ (x : List Instr). IsInside x (4 * p + n) (machine_of c.args.level.machine ram)) (sym c.code_of-code.ensures) (c.requires.in_place.inside.0.inside ram)) in
     let same : objects_of (λ b. (goal.Policy-dyn g (b.vtable, b.value)).seen b.value) (record s { accounts = c.charge_step.new.accounts; ram = mem }) ≡ objects_of (λ b. (goal.Policy-dyn g (b.vtable, b.value)).seen b.value) (record s { accounts = c.charge_step.new.accounts }) =
-        same_objects (λ b. (goal.Policy-dyn g (b.vtable, b.value)).seen b.value) (record s { accounts = c.charge_step.new.accounts }) mem c.lru.ensures.sound c.byte.ensures.size c.byte-2.ensures.size
-        (λ a lt. c.step-done.ensures.contained (4 * p + n) a (inside s.ram) (frames_outside (4 * p + n) a lt)) in
+    same_objects (λ b. (goal.Policy-dyn g (b.vtable, b.value)).seen b.value) (record s { accounts = c.charge_step.new.accounts }) mem c.lru.ensures.sound c.byte.ensures.size c.byte-2.ensures.size
+    (λ a lt. c.step-done.ensures.contained (4 * p + n) a (inside s.ram) (frames_outside (4 * p + n) a lt)) in
     elsewhere_twice s (record s { accounts = c.charge_step.new.accounts; ram = mem }) c.after_machine.new.store c.args.locks.now c.args.locks.now c.after_machine.new.locks p
     (record {
       world = refl;

@@ -1,4 +1,4 @@
-use Rattle.std.proofs.Common.{sym, ◌∙◌, refl}
+use Rattle.std.proofs.Common.{sym, ◌∙◌}
 use Rattle.graft_accounts.specs.Table.{accounts_of}
 use Rattle.kernel_model.specs.Levels.{code_of, base_of}
 use Rattle.graft_machine.specs.Cpu.{machine_of}

@@ -1,4 +1,4 @@
-use Rattle.std.proofs.Common.{◌≤◌, ◌≡◌, suc, length, refl, ap, sym, subst, arith, ◌∙◌, slice_index}
+use Rattle.std.proofs.Common.{◌≡◌, suc, length, refl, ap, subst, arith, slice_index}
 use Rattle.lock_table.specs.Masks.{held}
 use Rattle.graft_calls.specs.Calls.{AreInside}
 use Rattle.graft_calls.proofs.Completing.{joined_call, completed_call, merged_free, merged_others}

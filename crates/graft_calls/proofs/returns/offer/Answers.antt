@@ -1,4 +1,4 @@
-use Rattle.std.proofs.Common.{◌≤◌, ◌≡◌, ◌∷◌, suc, length, refl, ap, sym, arith, ◌∙◌}
+use Rattle.std.proofs.Common.{length, sym, arith, ◌∙◌}
 use Rattle.kernel_state.specs.Stores.{objects_of, queue_of}
 use Rattle.graft_accounts.specs.Table.{accounts_of}
 use Rattle.graft_calls.proofs.Completing.{merged_undoable, merged_length}
