@@ -1,5 +1,7 @@
 //! The seal by vectors from outside, and images that are refused, by docs/FORMATS.md.
 
+ghost use Rattle.std.specs.Prelude.{◌≤◌, length};
+
 use crate::{Images, Instr, LoadFault, Loaded, Op, hmac, load, seal};
 use std::alloc::Global;
 use std::process::Abort;
