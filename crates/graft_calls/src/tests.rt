@@ -386,6 +386,41 @@ fn policies_are_tuned_by_root_alone(rt: HostRuntime) -> Result<(), Fail> {
     Ok(())
 }
 
+/// Frame 0 is filled with block 5 for process 1, if it is free.
+fn fill_frame(store: &mut Store)
+    requires sound { IsStore (λ b. seen (b.vtable, b.value)) store.old }
+    requires alive { lives (queue_of store.old) 1 ≡ true }
+    requires graftless { (r pt : ℕ) → (objects_of (λ b. seen (b.vtable, b.value)) store.old).accounts.graft r pt ≡ None }
+    ensures sound { IsStore (λ b. seen (b.vtable, b.value)) store.new }
+    ensures graftless { (r pt : ℕ) → (objects_of (λ b. seen (b.vtable, b.value)) store.new).accounts.graft r pt ≡ None }
+{
+    if store.size < 6 {
+        return;
+    }
+    let None = store.find(5) else {
+        return;
+    };
+    if let Some(f) = store.free() {
+        store.fill(f, 1, 5, &[7; 512]);
+    }
+}
+
+#[test]
+fn a_frame_of_another_is_refused(rt: HostRuntime) -> Result<(), Fail> {
+    let alloc = rt.alloc();
+    let shelf = shelf_with!(alloc, RaSeq::new());
+    assert!(rt; is_stock(&shelf));
+    let mut store = booted(alloc, shelf)?;
+    assert!(rt; settle(&mut store));
+    fill_frame(&mut store);
+    assert!(rt; store.living(0));
+    put_graft(&mut store, 0, 9);
+    let images = image_of(&rt, alloc, &[call(8), ret()]);
+    let said = ran(&rt, alloc, &mut store, &images, 0, [0, 0, 0, 0]);
+    assert_eq!(rt; spoken(&said), (5, 8, 0));
+    Ok(())
+}
+
 #[test]
 fn a_drop_undoes_the_newest_change_first(rt: HostRuntime) -> Result<(), Fail> {
     let alloc = rt.alloc();
