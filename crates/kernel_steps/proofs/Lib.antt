@@ -1,0 +1,5 @@
+pub mod OrderLemmas
+pub mod ViewLemmas
+pub mod CallLemmas
+pub mod RunningLemmas
+pub mod StartLemmas

@@ -1,0 +1,31 @@
+use Rattle.std.proofs.Common.{◌≡◌, ap, sym, subst, ◌∙◌, arith, refl, Some, None, length, List}
+use Rattle.graft_calls.specs.declared.Chain.{Chain}
+use Rattle.graft_loader.specs.Slots.{table_of}
+use Rattle.graft_calls.specs.Calls.{IsPlaced, AreInside}
+use Rattle.kernel_state.specs.Stores.{objects_of}
+use Rattle.kernel_steps.specs.Orders.{counts_within}
+use Rattle.kernel_steps.proofs.OrderLemmas.{counts_less}
+use Rattle.kernel_steps.proofs.CallLemmas.{with_call, still_sixteen, chains_stay, callers_set}
+use Rattle.kernel_steps.proofs.RunningLemmas.{call_ended, within_flights}
+use Rattle.kernel_steps.proofs.running.Running.end.Goals as goal
+
+pub returns-clause-value : goal.returns-clause-value
+returns-clause-value g c = λ blocks io.
+    let x = c.args.self.now in
+    call_ended (λ b. (goal.Policy-dyn g (b.vtable, b.value)).seen b.value) (λ w. g.C.Calls.stage w) x c.args.p c.args.note c.set_call.new.flights.items c.leave.new.self c.args.notes.now c.push.new.self
+    (within_flights x.calls.items c.args.p c.requires.running.sixteen c.requires.process) c.set_call.ensures c.leave.ensures c.push.ensures blocks io
+
+pub returns-clause-running : goal.returns-clause-running
+returns-clause-running g c =
+    let x = c.args.self.now in
+    let r = c.requires.running in
+    let small = within_flights x.calls.items c.args.p r.sixteen c.requires.process in
+    let same = chains_stay x.calls.items c.args.p None c.set_call.new.flights.items small c.set_call.ensures in
+    record {
+      store = r.store;
+      sixteen = still_sixteen x.calls.items c.args.p None c.set_call.new.flights.items c.set_call.ensures ∙ r.sixteen;
+      callers = callers_set (λ w. g.C.Calls.caller w) x.calls.items c.args.p None c.set_call.new.flights.items small c.set_call.ensures r.callers (λ e is. grind (arith, is));
+      placed = λ q h. subst (λ (chain : Chain). IsPlaced (λ b. (goal.Policy-dyn g (b.vtable, b.value)).seen b.value) x.store x.locks q chain.levels chain.undo) (sym (same q)) (r.placed q h);
+      inside = λ q h. subst (λ (chain : Chain). AreInside (table_of x.images) (objects_of (λ b. (goal.Policy-dyn g (b.vtable, b.value)).seen b.value) x.store).accounts q chain.levels) (sym (same q)) (r.inside q h);
+      counts = ap (counts_within x.clock) c.leave.ensures ∙ counts_less x.clock c.args.p x.order r.counts;
+    }

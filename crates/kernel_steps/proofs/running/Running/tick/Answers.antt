@@ -1,0 +1,25 @@
+use Rattle.std.proofs.Common.{◌≡◌, ap, sym, subst, ◌∙◌, ◌+◌, arith, refl, List}
+use Rattle.std.specs.Prelude.{suc}
+use Rattle.kernel_steps.specs.Orders.{counts_within}
+use Rattle.kernel_steps.proofs.OrderLemmas.{rises}
+use Rattle.kernel_steps.proofs.RunningLemmas.{ticked_on}
+use Rattle.kernel_steps.proofs.running.Running.tick.Goals as goal
+
+pub returns-clause-value : goal.returns-clause-value
+returns-clause-value g c = λ blocks io.
+    let x = c.args.self.now in
+    ticked_on (λ b. (goal.Policy-dyn g (b.vtable, b.value)).seen b.value) (λ w. g.C.Calls.stage w) x c.args.number (x.clock + 1) c.count_up.new.self c.args.notes.now c.push.new.self
+    (omega arith) c.requires.running.counts c.requires.clock c.count_up.ensures c.push.ensures blocks io
+
+pub returns-clause-running : goal.returns-clause-running
+returns-clause-running g c =
+    let x = c.args.self.now in
+    let r = c.requires.running in
+    record {
+      store = r.store;
+      sixteen = r.sixteen;
+      callers = r.callers;
+      placed = r.placed;
+      inside = r.inside;
+      counts = rises x.clock x.order c.count_up.new.self c.count_up.ensures r.counts;
+    }

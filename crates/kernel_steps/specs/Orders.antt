@@ -1,0 +1,34 @@
+-- The order of waiting as the code keeps it.
+use Rattle.std.specs.Prelude.{◌≡◌, ℕ, suc, ◌==◌, Bool, true, List, [], ◌∷◌, Option, Some, None, map, option_map, nat_le, slice_index_or, ◌+◌, ◌-◌, ◌^◌, min}
+use Rattle.std.specs.List.{list_all}
+use Rattle.kernel_model.specs.Kernel.{Blocker, Entry}
+use Rattle.kernel_steps.specs.declared.order.Blocking.{Blocking}
+use Rattle.kernel_steps.specs.declared.order.Waiting.{Waiting}
+
+-- what blocks a call
+abbrev pub blocker_of : Blocking → Blocker
+blocker_of b = record { object = b.object; holder = b.holder; call = b.call }
+
+-- an entry of the order
+abbrev pub entry_of : Waiting → Entry
+entry_of w = record { process = w.process; blocker = option_map blocker_of w.blocker; count = w.count }
+
+-- the order
+abbrev pub order_of : List Waiting → List Entry
+order_of ws = map entry_of ws
+
+-- no entry has waited for more ticks than this
+abbrev pub counts_within : ℕ → List Waiting → Bool
+counts_within most ws = list_all (λ (w : Waiting). nat_le w.count most) ws
+
+-- an entry that has just joined
+abbrev pub joined : ℕ → Waiting
+joined p = record { process = p; blocker = None; count = 0 }
+
+-- the patience with each kind of object
+abbrev pub patience_of : List ℕ → ℕ → ℕ
+patience_of ns kind = slice_index_or ns kind 10
+
+-- an entry one tick later, up to the end of its count
+abbrev pub later : Waiting → Waiting
+later w = record w { count = min (w.count + 1) (2 ^ 32 - 1) }

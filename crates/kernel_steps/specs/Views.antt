@@ -1,0 +1,88 @@
+-- The kernel in place that a running kernel is.
+use Rattle.std.specs.Prelude.{◌≡◌, ℕ, ◌<◌, ◌≤◌, true, Bool, List, [], ◌∷◌, Option, Some, None, map, option_map, length, slice_index_or}
+use Rattle.kernel_model.specs.declared.Note.{Note}
+use Rattle.kernel_model.specs.World.{Blocks}
+use Rattle.kernel_model.specs.Kernel.{Kernel}
+use Rattle.kernel_model.specs.Meaning.{Meaning, Stage}
+use Rattle.lock_table.specs.Masks.{held}
+use Rattle.kernel_state.specs.declared.Store.{Store}
+use Rattle.kernel_state.specs.Stores.{Seeing, world_of_store, objects_of, IsStore}
+use Rattle.graft_calls.specs.declared.Chain.{Chain}
+use Rattle.graft_loader.specs.Slots.{table_of}
+use Rattle.graft_calls.specs.Chains.{levels_of}
+use Rattle.graft_calls.specs.Calls.{IsPlaced, AreInside}
+use Rattle.placed_laws.specs.Placed.{PlacedCall, PlacedLevel, Placed, PlacedRun, bare}
+use Rattle.placed_laws.specs.Stands.{StandsFor}
+use Rattle.kernel_steps.specs.declared.running.InFlight.{InFlight}
+use Rattle.kernel_steps.specs.declared.running.Flight.{Flight}
+use Rattle.kernel_steps.specs.declared.running.Running.{Running}
+use Rattle.kernel_steps.specs.Orders.{order_of, counts_within}
+
+-- ---- a kernel in place
+
+-- no call, and no level
+abbrev pub no_flight : {W : Type 0} → Flight W
+no_flight = record { call = None; chain = record { levels = []; undo = [] } }
+
+-- what a process has in flight
+abbrev pub flight_of : {W : Type 0} → List (Flight W) → ℕ → Flight W
+flight_of flights p = slice_index_or flights p no_flight
+
+-- a call in flight
+abbrev pub call_in_place : {W : Type 0} → (W → Stage) → InFlight W → PlacedCall
+call_in_place at f = record { number = f.number; stage = at f.work }
+
+-- the chain of a process
+abbrev pub chain_of : {C M W X : Type 0} {F : X → Type 0} → Running C M W X F → ℕ → Chain
+chain_of x p = (flight_of x.calls.items p).chain
+
+-- the levels of a process over the store, without what they found
+abbrev pub levels_at : {C M W X : Type 0} {F : X → Type 0} → Seeing X F → Running C M W X F → ℕ → List PlacedLevel
+levels_at view x p = map bare (levels_of view x.store x.locks (chain_of x p) p)
+
+-- the call of a process
+abbrev pub call_at : {C M W X : Type 0} {F : X → Type 0} → (W → Stage) → Running C M W X F → ℕ → Option PlacedCall
+call_at at x p = option_map (call_in_place at) (flight_of x.calls.items p).call
+
+-- the kernel in place
+abbrev pub placed_of : {C M W X : Type 0} {F : X → Type 0} → Seeing X F → (W → Stage) → Running C M W X F → Placed
+placed_of view at x =
+    record {
+      world = world_of_store x.store;
+      images = table_of x.images;
+      objects = objects_of view x.store;
+      clock = x.clock;
+      call = call_at at x;
+      levels = levels_at view x;
+      order = order_of x.order;
+    }
+
+-- ---- what always holds
+
+-- The calls of a running kernel are its own, and the levels of each are in place on the store.
+pub record IsRunning {C M W X : Type 0} {F : X → Type 0} (view : Seeing X F) (caller : W → ℕ) (x : Running C M W X F) : Type 0 where
+  pub store : IsStore view x.store
+  pub sixteen : length x.calls.items ≡ 16
+  pub callers : (p : ℕ) (f : InFlight W) → (flight_of x.calls.items p).call ≡ Some f → caller f.work ≡ p
+  pub placed : (p : ℕ) → p < 16 → IsPlaced view x.store x.locks p (chain_of x p).levels (chain_of x p).undo
+  pub inside : (p : ℕ) → p < 16 → AreInside (table_of x.images) (objects_of view x.store).accounts p (chain_of x p).levels
+  pub counts : counts_within x.clock x.order ≡ true
+
+-- a kernel in place stands for some abstract kernel
+pub record Stood (m : Meaning) (x : Placed) : Type 0 where
+  pub kernel : Kernel
+  pub stands : StandsFor m x kernel
+
+-- ---- what a call did
+
+-- an event under way from a kernel in place
+abbrev pub run_of : Placed → Blocks → List Note → List Bool → PlacedRun
+run_of x blocks notes io = record { placed = x; blocks = blocks; notes = notes; io = io }
+
+-- a change that makes no call of the disk took one kernel in place to another, and these notes to those
+abbrev pub Says : (PlacedRun → PlacedRun) → Placed → Placed → List Note → List Note → Type 0
+Says f x y notes notes_new = (blocks : Blocks) (io : List Bool) → f (run_of x blocks notes io) ≡ run_of y blocks notes_new io
+
+-- a change that says nothing either
+abbrev pub Goes : (PlacedRun → PlacedRun) → Placed → Placed → Type 0
+Goes f x y = (notes : List Note) → Says f x y notes notes

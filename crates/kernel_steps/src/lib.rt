@@ -1,0 +1,14 @@
+//! One step of one call of a running kernel, and the drop of one level.
+//!
+//! A running kernel changes its one store as it goes. Contracts see the kernel in place of the definitions that it is (`placed_of`).
+#![tactic(auto)]
+
+mod blocking;
+mod notes;
+mod order;
+mod running;
+
+pub use blocking::Hindrance;
+pub use notes::Notes;
+pub use order::{Blocking, Order, Waiting};
+pub use running::{Flight, InFlight, Running};

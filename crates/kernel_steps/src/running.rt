@@ -1,0 +1,150 @@
+//! The running kernel: how it begins, and how calls begin and end.
+
+ghost use Rattle.std.specs.Prelude.{◌≡◌, ◌<◌, ◌≤◌, ◌-◌, ◌^◌, None, Some, [], ◌++◌, ◌∷◌, length, IfOk, replicate, slice_set, ℕ};
+ghost use Rattle.kernel_state.specs.Stores.{world_of_store, objects_of, IsStore};
+ghost use Rattle.graft_loader.specs.Slots.{table_of};
+ghost use Rattle.placed_laws.specs.Keeping.{first_placed};
+ghost use Rattle.placed_laws.specs.PlacedSteps.{placed_joins, placed_noted, placed_requeue, placed_ticked, with_placed_call};
+ghost use Rattle.kernel_steps.specs.Views.{placed_of, flight_of, chain_of, no_flight, IsRunning, Stood, Goes, Says};
+
+use crate::notes::Notes;
+use crate::order::{Order, Waiting};
+use call_pieces::Calls;
+use graft_calls::{Chain, Levels};
+use graft_loader::Images;
+use kernel_model::{NoMemory, Note, PROCESSES};
+use kernel_state::Store;
+use lock_table::LockTable;
+use std::alloc::{AllocError, Global};
+use undo_calls::UndoStack;
+
+/// A call in flight.
+#[derive(Drop)]
+pub struct InFlight<W> {
+    /// The number of the event that began it.
+    pub number: u32,
+    /// Where it stands.
+    pub work: W,
+}
+
+/// What a process has in flight.
+#[derive(Drop)]
+pub struct Flight<W> {
+    /// Its call, if it has one.
+    pub call: Option<InFlight<W>>,
+    /// The levels of its call, if that is in a graft.
+    pub chain: Chain,
+}
+
+/// A kernel over a table of calls, with all that is in flight. The store has what all calls have done.
+#[derive(Drop)]
+pub struct Running<C: Calls> {
+    /// One value for each object.
+    pub store: Store,
+    /// How many ticks there were.
+    pub clock: u32,
+    /// The images that are loaded.
+    pub images: Images,
+    pub(crate) locks: LockTable,
+    pub(crate) calls: Vec<Flight<C::Work>>,
+    pub(crate) order: Order,
+}
+
+/// No call, and no level.
+fn no_flight<W>() -> Flight<W>
+    ensures { result ≡ no_flight }
+{
+    Flight {
+        call: None,
+        chain: Chain {
+            levels: Levels::new(),
+            undo: UndoStack::new(),
+        },
+    }
+}
+
+/// So many processes without a call.
+fn no_flights<W: Drop>(alloc: Global, count: usize) -> Result<Vec<Flight<W>>, AllocError>
+    ensures { IfOk result (λ v. v.items ≡ replicate count no_flight) }
+{
+    let mut flights = Vec::with_capacity(alloc, count)?;
+    for _ in 0..count {
+        flights.push(no_flight())?;
+    }
+    Ok(flights)
+}
+
+/// A process has this call.
+fn set_call<W: Drop>(flights: &mut Vec<Flight<W>>, p: u8, call: Option<InFlight<W>>)
+    requires { p < length flights.old.items }
+    ensures { flights.new.items ≡ slice_set flights.old.items p (record (flight_of flights.old.items p) { call = call }) }
+{
+    flights[p as usize].call = call;
+}
+
+impl<C: Calls> Running<C> {
+    /// A kernel over this store with these images, in which no call is in flight. Takes all the memory that it ever does.
+    pub fn new(alloc: Global, store: Store, images: Images) -> Result<Running<C>, NoMemory>
+        requires sound { IsStore (λ b. seen (b.vtable, b.value)) store }
+        ensures store { IfOk result (λ x. x.store ≡ store) }
+        ensures images { IfOk result (λ x. x.images ≡ images) }
+        ensures clock { IfOk result (λ x. x.clock ≡ 0) }
+        ensures order { IfOk result (λ x. x.order ≡ []) }
+        ensures calls { IfOk result (λ x. (p : ℕ) → flight_of x.calls.items p ≡ no_flight) }
+        ensures running { IfOk result (λ x. IsRunning (λ b. seen (b.vtable, b.value)) (λ w. C.caller w) x) }
+    {
+        let Ok(locks) = LockTable::new(alloc) else {
+            return Err(NoMemory);
+        };
+        match no_flights(alloc, PROCESSES) {
+            Ok(calls) => Ok(Running {
+                store,
+                clock: 0,
+                images,
+                locks,
+                calls,
+                order: Order::new(),
+            }),
+            Err(_) => Err(NoMemory),
+        }
+    }
+
+    /// A call of process p begins, which has none: it joins the order.
+    pub fn begin(&mut self, p: u8, number: u32, work: C::Work)
+        requires process { p < 16 }
+        requires caller { C.caller work ≡ p }
+        requires room { length self.old.order < 16 }
+        requires running { IsRunning (λ b. seen (b.vtable, b.value)) (λ w. C.caller w) self.old }
+        ensures value { Goes (λ r. placed_joins p (with_placed_call p (Some (first_placed number (C.stage work))) r)) (placed_of (λ b. seen (b.vtable, b.value)) (λ w. C.stage w) self.old) (placed_of (λ b. seen (b.vtable, b.value)) (λ w. C.stage w) self.new) }
+        ensures running { IsRunning (λ b. seen (b.vtable, b.value)) (λ w. C.caller w) self.new }
+    {
+        set_call(&mut self.calls, p, Some(InFlight { number, work }));
+        self.order.push(Waiting::joined(p));
+    }
+
+    /// The call of process p ends with this note; it has no level.
+    pub fn end(&mut self, p: u8, note: Note, notes: &mut Notes)
+        requires process { p < 16 }
+        requires room { length notes.old < 530 }
+        requires running { IsRunning (λ b. seen (b.vtable, b.value)) (λ w. C.caller w) self.old }
+        ensures value { Says (λ r. placed_requeue p (placed_noted note (with_placed_call p None r))) (placed_of (λ b. seen (b.vtable, b.value)) (λ w. C.stage w) self.old) (placed_of (λ b. seen (b.vtable, b.value)) (λ w. C.stage w) self.new) notes.old notes.new }
+        ensures running { IsRunning (λ b. seen (b.vtable, b.value)) (λ w. C.caller w) self.new }
+    {
+        set_call(&mut self.calls, p, None);
+        self.order.leave(p);
+        notes.push(note);
+    }
+
+    /// The clock and the count of each entry rise by one.
+    pub fn tick(&mut self, number: u32, notes: &mut Notes)
+        requires clock { self.old.clock < 2 ^ 32 - 1 }
+        requires room { length notes.old < 530 }
+        requires running { IsRunning (λ b. seen (b.vtable, b.value)) (λ w. C.caller w) self.old }
+        ensures value { Says (placed_ticked number) (placed_of (λ b. seen (b.vtable, b.value)) (λ w. C.stage w) self.old) (placed_of (λ b. seen (b.vtable, b.value)) (λ w. C.stage w) self.new) notes.old notes.new }
+        ensures running { IsRunning (λ b. seen (b.vtable, b.value)) (λ w. C.caller w) self.new }
+    {
+        self.clock += 1;
+        self.order.count_up();
+        notes.push(Note::Ticked(number, self.clock));
+    }
+}
