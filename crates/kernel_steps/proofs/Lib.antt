@@ -3,3 +3,4 @@ pub mod ViewLemmas
 pub mod CallLemmas
 pub mod RunningLemmas
 pub mod StartLemmas
+pub mod HinderLemmas

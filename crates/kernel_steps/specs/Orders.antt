@@ -1,5 +1,5 @@
 -- The order of waiting as the code keeps it.
-use Rattle.std.specs.Prelude.{◌≡◌, ℕ, suc, ◌==◌, Bool, true, List, [], ◌∷◌, Option, Some, None, map, option_map, nat_le, slice_index_or, ◌+◌, ◌-◌, ◌^◌, min}
+use Rattle.std.specs.Prelude.{◌≡◌, ℕ, suc, ◌==◌, Bool, true, List, [], ◌∷◌, Option, Some, None, map, option_map, nat_le, nat_lt, slice_index_or, ◌+◌, ◌-◌, ◌^◌, min}
 use Rattle.std.specs.List.{list_all}
 use Rattle.kernel_model.specs.Kernel.{Blocker, Entry}
 use Rattle.kernel_steps.specs.declared.order.Blocking.{Blocking}
@@ -32,3 +32,7 @@ patience_of ns kind = slice_index_or ns kind 10
 -- an entry one tick later, up to the end of its count
 abbrev pub later : Waiting → Waiting
 later w = record w { count = min (w.count + 1) (2 ^ 32 - 1) }
+
+-- each entry is of a process that can be
+abbrev pub are_processes : List Waiting → Bool
+are_processes ws = list_all (λ (w : Waiting). nat_lt w.process 16) ws

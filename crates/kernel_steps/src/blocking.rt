@@ -1,16 +1,34 @@
 //! What keeps a step from being taken.
 
-ghost use Rattle.std.specs.Prelude.{◌≡◌, ◌<◌, None, option_map, All, List};
+ghost use Rattle.std.specs.Prelude.{◌≡◌, ℕ, ◌<◌, None, Contains, option_map, All, List, length};
+ghost use Rattle.kernel_model.specs.declared.Inverse.{Inverse as Undoing};
+ghost use Rattle.kernel_model.specs.GraftStep.{next_needs, lock_user};
+ghost use Rattle.kernel_model.specs.Locks.{LockTable as Table};
+ghost use Rattle.kernel_model.specs.Objects.{Things};
+ghost use Rattle.kernel_state.specs.Stores.{world_of_store, queue_of, IsStore};
+ghost use Rattle.call_pieces.specs.Works.{MayCome};
+ghost use Rattle.graft_calls.specs.Calls.{AreSound};
+ghost use Rattle.graft_calls.specs.Chains.{levels_in};
+ghost use Rattle.graft_loader.specs.Slots.{table_of};
+ghost use Rattle.placed_laws.specs.Placed.{placed_blocker, placed_holds, placed_levels, placed_needs};
+ghost use Rattle.kernel_steps.specs.Orders.{blocker_of};
+ghost use Rattle.kernel_steps.specs.Views.{placed_of, flight_of, IsRunning, Stood};
 ghost use Rattle.kernel_model.specs.declared.Need.{Need as Needed};
 ghost use Rattle.kernel_model.specs.Laws.{IsInRange};
 ghost use Rattle.kernel_model.specs.Locks.{first_hindrance as first_of, hindrance_by, lowest_holder, user_hindrance, user_of};
 ghost use Rattle.kernel_state.specs.Stores.{objects_of};
 ghost use Rattle.lock_table.specs.Masks.{held};
-ghost use Rattle.kernel_steps.specs.Hindered.{hindrance_of};
+ghost use Rattle.kernel_steps.specs.Hindered.{hindrance_of, blocking_by};
 
+use crate::order::Blocking;
+use crate::running::{Flight, Running};
+use call_pieces::{Calls, Needs};
+use graft_calls::Chain;
+use graft_loader::Images;
 use kernel_model::{Need, Object};
 use kernel_state::Store;
 use lock_table::LockTable;
+use placed_laws::soundness;
 
 /// An object that a step needs, and what holds it.
 #[derive(Clone, Copy)]
@@ -69,5 +87,97 @@ pub(crate) fn first_hindrance(locks: &LockTable, store: &Store, p: u8, q: u8, ne
     match hindrance_by_need(locks, store, p, q, *need) {
         Some(found) => Some(found),
         None => first_hindrance(locks, store, p, q, rest),
+    }
+}
+
+/// What hinders the next piece of a call of process p.
+fn piece_hindrance<C: Calls>(locks: &LockTable, store: &Store, p: u8, work: &C::Work) -> Option<Hindrance>
+    requires sound { IsStore (λ b. seen (b.vtable, b.value)) store.now }
+    requires ready { MayCome C.Meaning.meaning (world_of_store store.now) (objects_of (λ b. seen (b.vtable, b.value)) store.now) (C.caller work.now) (C.stage work.now) }
+    requires range { (n : Needed) → Contains (C.Meaning.meaning.need (world_of_store store.now) (objects_of (λ b. seen (b.vtable, b.value)) store.now) (C.caller work.now) (C.stage work.now)) n → IsInRange n.object }
+    ensures { option_map hindrance_of result ≡ first_of (held locks.now) (objects_of (λ b. seen (b.vtable, b.value)) store.now).things.lock p p (C.Meaning.meaning.need (world_of_store store.now) (objects_of (λ b. seen (b.vtable, b.value)) store.now) (C.caller work.now) (C.stage work.now)) }
+{
+    let mut needs = Needs::new();
+    C::need(work, store, &mut needs);
+    first_hindrance(locks, store, p, p, needs.as_slice())
+}
+
+/// What hinders the next instruction of a graft call of process p.
+fn graft_hindrance(locks: &LockTable, store: &Store, images: &Images, p: u8, chain: &Chain) -> Option<Hindrance>
+    requires { AreSound (queue_of store.now) chain.now.levels }
+    ensures { (ram : List ℕ) (t : Table) (log : List (List Undoing)) (w : Things) → let ls = levels_in p ram t chain.now.levels log w in
+        option_map hindrance_of result ≡ first_of (held locks.now) (objects_of (λ b. seen (b.vtable, b.value)) store.now).things.lock p (lock_user p ls) (next_needs (world_of_store store.now) (table_of images.now) (objects_of (λ b. seen (b.vtable, b.value)) store.now).accounts ls) }
+{
+    let needs = chain.needs(store, images);
+    first_hindrance(locks, store, p, chain.lock_user(p), needs.as_slice())
+}
+
+/// The number of a process's call, if it has one.
+fn number_of<W: Drop>(flights: &[Flight<W>], p: u8) -> Option<u32>
+    ensures { result ≡ option_map (λ f. f.number) (flight_of flights.now p).call }
+{
+    match flights.get(p as usize) {
+        Some(flight) => match &flight.call {
+            Some(call) => Some(call.number),
+            None => None,
+        },
+        None => None,
+    }
+}
+
+/// What blocks a call, of what hinders its step.
+fn blocking_of<W: Drop>(flights: &[Flight<W>], found: Hindrance) -> Blocking
+    ensures { blocker_of result ≡ blocking_by flights.now found }
+{
+    Blocking {
+        object: found.object,
+        holder: found.holder,
+        call: if found.by_user {
+            None
+        } else {
+            number_of(flights, found.holder)
+        },
+    }
+}
+
+/// What a process has in flight.
+pub(crate) fn flight<W: Drop>(flights: &[Flight<W>], p: u8) -> &Flight<W>
+    requires { p < length flights.now }
+    ensures { result.now ≡ flight_of flights.now p }
+{
+    &flights[p as usize]
+}
+
+impl<C: Calls> Running<C> {
+    /// What hinders the next step of process p's call.
+    fn hindered(&self, p: u8) -> Option<Hindrance>
+        requires process { p < 16 }
+        requires running { IsRunning (λ b. seen (b.vtable, b.value)) (λ w. C.caller w) self.now }
+        requires stood { Stood C.Meaning.meaning (placed_of (λ b. seen (b.vtable, b.value)) (λ w. C.stage w) self.now) }
+        ensures { let x = placed_of (λ b. seen (b.vtable, b.value)) (λ w. C.stage w) self.now in
+            option_map hindrance_of result ≡ first_of (placed_holds x) x.objects.things.lock p (lock_user p (placed_levels x p)) (placed_needs C.Meaning.meaning x p) }
+    {
+        soundness::sound_in_place::<C::Meaning>();
+        let flight = flight(&self.calls, p);
+        let Some(call) = &flight.call else {
+            return None;
+        };
+        if flight.chain.levels.count() == 0 {
+            return piece_hindrance::<C>(&self.locks, &self.store, p, &call.work);
+        }
+        graft_hindrance(&self.locks, &self.store, &self.images, p, &flight.chain)
+    }
+
+    /// What blocks the next step of process p's call, if something does. The time that this takes doesn't grow with what is held.
+    pub fn blocker(&self, p: u8) -> Option<Blocking>
+        requires process { p < 16 }
+        requires running { IsRunning (λ b. seen (b.vtable, b.value)) (λ w. C.caller w) self.now }
+        requires stood { Stood C.Meaning.meaning (placed_of (λ b. seen (b.vtable, b.value)) (λ w. C.stage w) self.now) }
+        ensures { option_map blocker_of result ≡ placed_blocker C.Meaning.meaning (placed_of (λ b. seen (b.vtable, b.value)) (λ w. C.stage w) self.now) p }
+    {
+        match self.hindered(p) {
+            Some(found) => Some(blocking_of(&self.calls, found)),
+            None => None,
+        }
     }
 }

@@ -7,6 +7,7 @@ mod blocking;
 mod notes;
 mod order;
 mod running;
+mod waits;
 
 pub use blocking::Hindrance;
 pub use notes::Notes;

@@ -1,0 +1,121 @@
+-- What hinders the step of a call, by its needs, is what hinders it in place.
+use Rattle.std.proofs.Common.{◌≡◌, ℕ, suc, zero, ◌+◌, ◌≤◌, ◌<◌, Bool, true, false, cond, List, [], ◌∷◌, map, length, refl, ap, sym, subst, ◌∙◌, arith, Option, Some, None}
+use Rattle.std.specs.Prelude.{option_map, slice_index_or, Contains, All}
+use Rattle.std.proofs.lemmas.List.Elements.{All-contains_itself}
+use Rattle.kernel_model.specs.declared.Inverse.{Inverse}
+use Rattle.kernel_model.specs.declared.Need.{Need}
+use Rattle.kernel_model.specs.World.{World, ImageTable}
+use Rattle.kernel_model.specs.Objects.{Objects, Things}
+use Rattle.kernel_model.specs.Meaning.{Meaning, Stage}
+use Rattle.kernel_model.specs.Laws.{Laws, IsStanding, IsInRange}
+use Rattle.kernel_model.specs.Locks.{LockTable, first_hindrance}
+use Rattle.kernel_model.specs.Levels.{Level}
+use Rattle.kernel_model.specs.GraftStep.{next_needs, lock_user}
+use Rattle.kernel_model.specs.Kernel.{Blocker}
+use Rattle.lock_table.specs.Masks.{held}
+use Rattle.kernel_state.specs.Stores.{Seeing, world_of_store, objects_of}
+use Rattle.call_pieces.specs.Works.{MayCome}
+use Rattle.graft_loader.specs.Slots.{table_of}
+use Rattle.graft_calls.specs.declared.GraftLevel.{GraftLevel}
+use Rattle.graft_calls.specs.Chains.{levels_in, levels_of}
+use Rattle.placed_laws.specs.Placed.{PlacedCall, PlacedLevel, Placed, bare, has_some, levels_with, placed_levels, placed_holds, placed_needs, placed_needs_in, placed_needs_at, placed_blocker_from}
+use Rattle.placed_laws.specs.Soundness.{SoundInPlace}
+use Rattle.kernel_steps.specs.declared.blocking.Hindrance.{Hindrance}
+use Rattle.kernel_steps.specs.declared.running.InFlight.{InFlight}
+use Rattle.kernel_steps.specs.declared.running.Flight.{Flight}
+use Rattle.kernel_steps.specs.declared.running.Running.{Running}
+use Rattle.kernel_steps.specs.Hindered.{hindrance_of, blocking_by}
+use Rattle.kernel_steps.specs.Views.{placed_of, flight_of, chain_of, call_in_place, IsRunning, Stood}
+use Rattle.kernel_steps.proofs.ViewLemmas.{levels_in_place, holds_in_place}
+
+-- ---- the next piece
+
+-- a call in flight stands at its stage
+pub stands : {C M W X : Type 0} {F : X → Type 0} (m : Meaning) → SoundInPlace m → (view : Seeing X F) (stage : W → Stage) (caller : W → ℕ) (x : Running C M W X F) (p : ℕ) (f : InFlight W) →
+    IsRunning view caller x → Stood m (placed_of view stage x) → (flight_of x.calls.items p).call ≡ Some f →
+    IsStanding m (world_of_store x.store) (table_of x.images) (objects_of view x.store) (caller f.work) (stage f.work)
+stands m sound view stage caller x p f r stood is =
+    subst (λ q. IsStanding m (world_of_store x.store) (table_of x.images) (objects_of view x.store) q (stage f.work)) (sym (r.callers p f is))
+    (sound.standing (placed_of view stage x) stood.kernel p (call_in_place stage f) stood.stands (ap (option_map (call_in_place stage)) is))
+
+-- so its next piece may come
+pub may_come : (m : Meaning) → Laws m → (v : World) (images : ImageTable) (s : Objects) (p : ℕ) (t : Stage) → IsStanding m v images s p t → MayCome m v s p t
+may_come m laws v images s p t h =
+    record { images = images; alive = h.caller; granted = h.granted; fits = h.fits; left = (laws.stages.some_left v images s p t h).0 }
+
+-- what holds of each element of a list holds of each of an equal one
+pub all_of : (ns ms : List Need) → ns ≡ ms → ((n : Need) → Contains ms n → IsInRange n.object) → All (λ (n : Need). IsInRange n.object) ns
+all_of ns ms is h = subst (λ (xs : List Need). All (λ (n : Need). IsInRange n.object) xs) (sym is) (λ k d small. h (slice_index_or ms k d) (All-contains_itself ms k d small))
+
+-- ---- levels, or none
+
+no_levels : (p : ℕ) (ram : List ℕ) (t : LockTable) (gs : List GraftLevel) (log : List (List Inverse)) (w : Things) → length gs ≡ 0 → map bare (levels_in p ram t gs log w) ≡ []
+no_levels p ram t [] log w h = refl
+no_levels p ram t (g ∷ gs) log w h = absurd (omega (arith, h))
+
+some_levels : (p : ℕ) (ram : List ℕ) (t : LockTable) (gs : List GraftLevel) (log : List (List Inverse)) (w : Things) → 0 < length gs → has_some (map bare (levels_in p ram t gs log w)) ≡ true
+some_levels p ram t [] log w h = absurd (omega (arith, h))
+some_levels p ram t (g ∷ gs) log w h = refl
+
+-- a call with levels needs what its next instruction does
+graft_needs : (m : Meaning) (x : Placed) (p : ℕ) (c : PlacedCall) (ls : List PlacedLevel) → has_some ls ≡ true →
+    placed_needs_at m x p c ls ≡ next_needs x.world x.images x.objects.accounts (placed_levels x p)
+graft_needs m x p c [] h = grind (arith, h)
+graft_needs m x p c (l ∷ ls) h = refl
+
+-- ---- what hinders
+
+pub piece_hindered : {C M W X : Type 0} {F : X → Type 0} (m : Meaning) (view : Seeing X F) (stage : W → Stage) (caller : W → ℕ) (x : Running C M W X F) (p : ℕ) (f : InFlight W) →
+    IsRunning view caller x → (flight_of x.calls.items p).call ≡ Some f → length (chain_of x p).levels ≡ 0 →
+    first_hindrance (held x.locks) (objects_of view x.store).things.lock p p (m.need (world_of_store x.store) (objects_of view x.store) (caller f.work) (stage f.work))
+    ≡ first_hindrance (placed_holds (placed_of view stage x)) (objects_of view x.store).things.lock p (lock_user p (placed_levels (placed_of view stage x) p)) (placed_needs m (placed_of view stage x) p)
+piece_hindered m view stage caller x p f r is none =
+    let y = placed_of view stage x in
+    let users = (objects_of view x.store).things.lock in
+    let h = placed_holds y in
+    let v = world_of_store x.store in
+    let s = objects_of view x.store in
+    let t = stage f.work in
+    let bare_none : y.levels p ≡ [] = no_levels p x.store.ram (held x.locks) (chain_of x p).levels (chain_of x p).undo s.things none in
+    let needs_are : placed_needs m y p ≡ m.need v s p t = ap (placed_needs_in m y p) (ap (option_map (call_in_place stage)) is) ∙ ap (placed_needs_at m y p (call_in_place stage f)) bare_none in
+    let user : lock_user p (placed_levels y p) ≡ p = ap (λ ls. lock_user p (levels_with s.things ls)) bare_none in
+    ap (λ (table : LockTable). first_hindrance table users p p (m.need v s (caller f.work) t)) (sym (holds_in_place view stage caller x r))
+    ∙ ap (λ q. first_hindrance h users p p (m.need v s q t)) (r.callers p f is)
+    ∙ ap (λ q. first_hindrance h users p q (m.need v s p t)) (sym user)
+    ∙ ap (first_hindrance h users p (lock_user p (placed_levels y p))) (sym needs_are)
+
+pub graft_hindered : {C M W X : Type 0} {F : X → Type 0} (m : Meaning) (view : Seeing X F) (stage : W → Stage) (caller : W → ℕ) (x : Running C M W X F) (p : ℕ) (f : InFlight W) →
+    IsRunning view caller x → (flight_of x.calls.items p).call ≡ Some f → 0 < length (chain_of x p).levels →
+    let ls = levels_of view x.store x.locks (chain_of x p) p in
+    first_hindrance (held x.locks) (objects_of view x.store).things.lock p (lock_user p ls) (next_needs (world_of_store x.store) (table_of x.images) (objects_of view x.store).accounts ls)
+    ≡ first_hindrance (placed_holds (placed_of view stage x)) (objects_of view x.store).things.lock p (lock_user p (placed_levels (placed_of view stage x) p)) (placed_needs m (placed_of view stage x) p)
+graft_hindered m view stage caller x p f r is some =
+    let y = placed_of view stage x in
+    let users = (objects_of view x.store).things.lock in
+    let h = placed_holds y in
+    let v = world_of_store x.store in
+    let s = objects_of view x.store in
+    let ls = levels_of view x.store x.locks (chain_of x p) p in
+    let has : has_some (y.levels p) ≡ true = some_levels p x.store.ram (held x.locks) (chain_of x p).levels (chain_of x p).undo s.things some in
+    let needs_are : placed_needs m y p ≡ next_needs v (table_of x.images) s.accounts (placed_levels y p) =
+      ap (placed_needs_in m y p) (ap (option_map (call_in_place stage)) is) ∙ graft_needs m y p (call_in_place stage f) (y.levels p) has in
+    ap (λ (table : LockTable). first_hindrance table users p (lock_user p ls) (next_needs v (table_of x.images) s.accounts ls)) (sym (holds_in_place view stage caller x r))
+    ∙ ap (λ (ks : List Level). first_hindrance h users p (lock_user p ks) (next_needs v (table_of x.images) s.accounts ks)) (sym (levels_in_place view stage x p))
+    ∙ ap (first_hindrance h users p (lock_user p (placed_levels y p))) (sym needs_are)
+
+-- nothing hinders where there is no call
+pub none_hindered : {C M W X : Type 0} {F : X → Type 0} (m : Meaning) (view : Seeing X F) (stage : W → Stage) (x : Running C M W X F) (p : ℕ) → (flight_of x.calls.items p).call ≡ None →
+    placed_needs m (placed_of view stage x) p ≡ []
+none_hindered m view stage x p is = ap (placed_needs_in m (placed_of view stage x) p) (ap (option_map (call_in_place stage)) is)
+
+-- ---- what blocks
+
+numbers_same : {W : Type 0} (stage : W → Stage) (o : Option (InFlight W)) →
+    option_map (λ (f : InFlight W). f.number) o ≡ option_map (λ (c : PlacedCall). c.number) (option_map (call_in_place stage) o)
+numbers_same stage None = refl
+numbers_same stage (Some f) = refl
+
+pub blocking_in_place : {C M W X : Type 0} {F : X → Type 0} (view : Seeing X F) (stage : W → Stage) (x : Running C M W X F) (h : Hindrance) →
+    blocking_by x.calls.items h ≡ placed_blocker_from (placed_of view stage x) (hindrance_of h)
+blocking_in_place view stage x h =
+    ap (λ (call : Option ℕ). record { object = h.object; holder = h.holder; call = cond h.by_user None call }) (numbers_same stage (flight_of x.calls.items h.holder).call)

@@ -1,0 +1,55 @@
+use Rattle.std.proofs.Common.{◌≡◌, ◌<◌, ℕ, List, Some, length, arith, refl, ap, sym, ◌∙◌}
+use Rattle.std.proofs.lemmas.Bool.Decides.{nat_tests}
+use Rattle.kernel_model.specs.GraftStep.{next_needs, lock_user}
+use Rattle.kernel_model.specs.Laws.{IsStanding}
+use Rattle.kernel_model.specs.Locks.{first_hindrance}
+use Rattle.lock_table.specs.Masks.{held}
+use Rattle.graft_loader.specs.Slots.{table_of}
+use Rattle.graft_calls.specs.Chains.{levels_in}
+use Rattle.kernel_state.specs.Stores.{world_of_store, objects_of}
+use Rattle.kernel_steps.specs.declared.running.Flight.{Flight}
+use Rattle.kernel_steps.specs.Views.{flight_of}
+use Rattle.kernel_steps.proofs.HinderLemmas.{stands, may_come, piece_hindered, graft_hindered}
+use Rattle.kernel_steps.proofs.running.Running.hindered.Goals as goal
+
+pub piece_hindrance-requires-clause-ready : goal.piece_hindrance-requires-clause-ready
+piece_hindrance-requires-clause-ready g c =
+    let x = c.args.self.now in
+    let m = g.C.Meaning.Rules.meaning in
+    let fl : c.flight-flight.result.now ≡ flight_of x.calls.items c.args.p = c.flight-flight.ensures ∙ ap (λ fs. flight_of fs c.args.p) c.deref.ensures.value in
+    may_come m g.C.Meaning.Rules.laws (world_of_store x.store) (table_of x.images) (objects_of (λ b. (goal.Policy-dyn g (b.vtable, b.value)).seen b.value) x.store) (g.C.Calls.caller c.in-Some.call.work) (g.C.Calls.stage c.in-Some.call.work)
+    (stands m c.sound_in_place.ensures (λ b. (goal.Policy-dyn g (b.vtable, b.value)).seen b.value) (λ w. g.C.Calls.stage w) (λ w. g.C.Calls.caller w) x c.args.p c.in-Some.call c.requires.running c.requires.stood
+    (sym (ap (λ (f : Flight g.row.C-Work.Denot). f.call) fl) ∙ c.in-Some.is))
+
+pub piece_hindrance-requires-clause-range : goal.piece_hindrance-requires-clause-range
+piece_hindrance-requires-clause-range g c =
+    let x = c.args.self.now in
+    let m = g.C.Meaning.Rules.meaning in
+    let fl : c.flight-flight.result.now ≡ flight_of x.calls.items c.args.p = c.flight-flight.ensures ∙ ap (λ fs. flight_of fs c.args.p) c.deref.ensures.value in
+    λ n has. g.C.Meaning.Rules.laws.need.ranges (world_of_store x.store) (table_of x.images) (objects_of (λ b. (goal.Policy-dyn g (b.vtable, b.value)).seen b.value) x.store) (g.C.Calls.caller c.in-Some.call.work) (g.C.Calls.stage c.in-Some.call.work) n
+    (stands m c.sound_in_place.ensures (λ b. (goal.Policy-dyn g (b.vtable, b.value)).seen b.value) (λ w. g.C.Calls.stage w) (λ w. g.C.Calls.caller w) x c.args.p c.in-Some.call c.requires.running c.requires.stood
+    (sym (ap (λ (f : Flight g.row.C-Work.Denot). f.call) fl) ∙ c.in-Some.is)) has
+
+pub returns-then-count-eq0 : goal.returns-then-count-eq0
+returns-then-count-eq0 g c =
+    let x = c.args.self.now in
+    let m = g.C.Meaning.Rules.meaning in
+    let fl : c.flight-flight.result.now ≡ flight_of x.calls.items c.args.p = c.flight-flight.ensures ∙ ap (λ fs. flight_of fs c.args.p) c.deref.ensures.value in
+    c.piece_hindrance.ensures
+    ∙ piece_hindered m (λ b. (goal.Policy-dyn g (b.vtable, b.value)).seen b.value) (λ w. g.C.Calls.stage w) (λ w. g.C.Calls.caller w) x c.args.p c.in-Some.call c.requires.running
+      (sym (ap (λ (f : Flight g.row.C-Work.Denot). f.call) fl) ∙ c.in-Some.is)
+      (sym (ap (λ (f : Flight g.row.C-Work.Denot). length f.chain.levels) fl) ∙ sym c.count.ensures.value ∙ c.if-count-eq0.true)
+
+pub returns : goal.returns
+returns g c =
+    let x = c.args.self.now in
+    let m = g.C.Meaning.Rules.meaning in
+    let s = objects_of (λ b. (goal.Policy-dyn g (b.vtable, b.value)).seen b.value) x.store in
+    let fl : c.flight-flight.result.now ≡ flight_of x.calls.items c.args.p = c.flight-flight.ensures ∙ ap (λ fs. flight_of fs c.args.p) c.deref.ensures.value in
+    let many : length c.flight-flight.result.now.chain.levels ≡ length (flight_of x.calls.items c.args.p).chain.levels = ap (λ (f : Flight g.row.C-Work.Denot). length f.chain.levels) fl in
+    let some : 0 < length (flight_of x.calls.items c.args.p).chain.levels = grind (arith, nat_tests, many, c.count.ensures.value, c.if-count-eq0.false) in
+    c.graft_hindrance.ensures x.store.ram (held x.locks) c.flight-flight.result.now.chain.undo s.things
+    ∙ ap (λ (f : Flight g.row.C-Work.Denot). let ls = levels_in c.args.p x.store.ram (held x.locks) f.chain.levels f.chain.undo s.things in
+        first_hindrance (held x.locks) s.things.lock c.args.p (lock_user c.args.p ls) (next_needs (world_of_store x.store) (table_of x.images) s.accounts ls)) fl
+    ∙ graft_hindered m (λ b. (goal.Policy-dyn g (b.vtable, b.value)).seen b.value) (λ w. g.C.Calls.stage w) (λ w. g.C.Calls.caller w) x c.args.p c.in-Some.call c.requires.running
+      (sym (ap (λ (f : Flight g.row.C-Work.Denot). f.call) fl) ∙ c.in-Some.is) some
