@@ -14,7 +14,7 @@ use Rattle.kernel_steps.specs.declared.running.InFlight.{InFlight}
 use Rattle.kernel_steps.specs.declared.running.Flight.{Flight}
 use Rattle.kernel_steps.specs.declared.running.Running.{Running}
 use Rattle.kernel_steps.specs.Views.{flight_of, no_flight, chain_of, IsRunning}
-use Rattle.kernel_steps.specs.Orders.{counts_within}
+use Rattle.kernel_steps.specs.Orders.{counts_within, are_processes}
 
 -- each process has nothing in flight
 pub none_of_sixteen : {W : Type 0} (fs : List (Flight W)) (n p : ℕ) → fs ≡ replicate n no_flight → flight_of fs p ≡ no_flight
@@ -32,4 +32,5 @@ just_begun {W = W} view caller x sound calls free order =
         (record { store = sound; process = h; few = omega arith; as_many = refl; unheld = λ d o le. ap (λ t. t p d o) free; levels = tt; undoable = tt });
       inside = λ p h. subst (λ (chain : Chain). AreInside (table_of x.images) (objects_of view x.store).accounts p chain.levels) (sym (none p)) tt;
       counts = ap (counts_within x.clock) order;
+      order = ap are_processes order;
     }

@@ -16,7 +16,7 @@ use Rattle.placed_laws.specs.Stands.{StandsFor}
 use Rattle.kernel_steps.specs.declared.running.InFlight.{InFlight}
 use Rattle.kernel_steps.specs.declared.running.Flight.{Flight}
 use Rattle.kernel_steps.specs.declared.running.Running.{Running}
-use Rattle.kernel_steps.specs.Orders.{order_of, counts_within}
+use Rattle.kernel_steps.specs.Orders.{order_of, counts_within, are_processes}
 
 -- ---- a kernel in place
 
@@ -67,6 +67,7 @@ pub record IsRunning {C M W X : Type 0} {F : X → Type 0} (view : Seeing X F) (
   pub placed : (p : ℕ) → p < 16 → IsPlaced view x.store x.locks p (chain_of x p).levels (chain_of x p).undo
   pub inside : (p : ℕ) → p < 16 → AreInside (table_of x.images) (objects_of view x.store).accounts p (chain_of x p).levels
   pub counts : counts_within x.clock x.order ≡ true
+  pub order : are_processes x.order ≡ true
 
 -- a kernel in place stands for some abstract kernel
 pub record Stood (m : Meaning) (x : Placed) : Type 0 where

@@ -1,13 +1,16 @@
 //! The order of waiting and its blockers.
 
-ghost use Rattle.std.specs.Prelude.{◌≡◌, ℕ, ◌<◌, ◌≤◌, None, Contains, option_map, List, length, map};
+ghost use Rattle.std.specs.Prelude.{◌≡◌, ℕ, ◌<◌, ◌≤◌, ◌+◌, ◌++◌, true, None, option_map, length};
 ghost use Rattle.kernel_model.specs.Blocking.{same_blocker, same_call};
+ghost use Rattle.kernel_model.specs.Objects.{same_object};
+ghost use Rattle.kernel_model.specs.Events.{object_kind};
 ghost use Rattle.kernel_model.specs.Settle.{entry_with};
 ghost use Rattle.placed_laws.specs.Placed.{placed_blocker};
 ghost use Rattle.placed_laws.specs.PlacedEvents.{expired_by, is_over_by};
 ghost use Rattle.placed_laws.specs.PlacedSteps.{placed_first_free, placed_rested_order, with_placed_order};
 ghost use Rattle.kernel_state.specs.Stores.{world_of_store, objects_of};
-ghost use Rattle.kernel_steps.specs.Orders.{blocker_of, entry_of, order_of, are_processes, patience_of};
+ghost use Rattle.kernel_model.specs.World.{World};
+ghost use Rattle.kernel_steps.specs.Orders.{blocker_of, entry_of, order_of, are_processes, counts_within, patience_of};
 ghost use Rattle.kernel_steps.specs.Views.{placed_of, IsRunning, Stood, Goes};
 
 use crate::order::{Blocking, Order, Waiting};
@@ -15,12 +18,33 @@ use crate::running::Running;
 use call_pieces::Calls;
 use kernel_model::Object;
 
-/// Whether two blockers, or none, are the same.
+/// Whether two objects are one.
+#[tactic(auto, unfolding(kernel_model::specs::Objects::same_object))]
+fn is_same_object(a: Object, b: Object) -> bool
+    ensures { result ≡ same_object a b }
+{
+    a == b
+}
+
+/// Whether two calls, or none, are one.
+fn is_same_call(a: Option<u32>, b: Option<u32>) -> bool
+    ensures { result ≡ same_call a b }
+{
+    match (a, b) {
+        (Some(a), Some(b)) => a == b,
+        (None, None) => true,
+        _ => false,
+    }
+}
+
+/// Whether two blockers, or none, are one.
 fn is_same_blocker(a: Option<Blocking>, b: Option<Blocking>) -> bool
     ensures { result ≡ same_blocker (option_map blocker_of a) (option_map blocker_of b) }
 {
     match (a, b) {
-        (Some(a), Some(b)) => a.object == b.object && a.holder == b.holder && a.call == b.call,
+        (Some(a), Some(b)) => {
+            is_same_object(a.object, b.object) && a.holder == b.holder && is_same_call(a.call, b.call)
+        }
         (None, None) => true,
         _ => false,
     }
@@ -28,7 +52,9 @@ fn is_same_blocker(a: Option<Blocking>, b: Option<Blocking>) -> bool
 
 /// An entry with its blocker: it stays as it is where the blocker is the kept one, and else counts from 0.
 fn with_blocker(waiting: Waiting, blocker: Option<Blocking>) -> Waiting
-    ensures { entry_of result ≡ entry_with (entry_of waiting) (option_map blocker_of blocker) }
+    ensures value { entry_of result ≡ entry_with (entry_of waiting) (option_map blocker_of blocker) }
+    ensures process { result.process ≡ waiting.process }
+    ensures count { result.count ≤ waiting.count }
 {
     if is_same_blocker(waiting.blocker, blocker) {
         return waiting;
@@ -37,5 +63,109 @@ fn with_blocker(waiting: Waiting, blocker: Option<Blocking>) -> Waiting
         process: waiting.process,
         blocker,
         count: 0,
+    }
+}
+
+/// The number of an object's kind.
+fn kind_of(object: Object) -> u8
+    ensures value { result ≡ object_kind object }
+    ensures below { result < 8 }
+{
+    match object {
+        Object::Graft(..) => 0,
+        Object::Acct(_) => 1,
+        Object::Cell(..) => 2,
+        Object::OpenFile(..) => 3,
+        Object::Queue => 4,
+        Object::Cache => 5,
+        Object::Lock(_) => 6,
+        Object::Pol(_) => 7,
+    }
+}
+
+/// Whether an entry's count has reached the patience of its blocker's kind.
+fn is_over(patience: &[u32; 8], waiting: Waiting) -> bool
+    ensures { (v : World) → v.patience ≡ patience_of patience.now → result ≡ is_over_by v (entry_of waiting) (entry_of waiting).blocker }
+{
+    match waiting.blocker {
+        Some(blocking) => patience[kind_of(blocking.object) as usize] <= waiting.count,
+        None => false,
+    }
+}
+
+/// The first entry whose count has reached the patience.
+fn first_over(patience: &[u32; 8], entries: &[Waiting]) -> Option<Waiting>
+    ensures { (v : World) → v.patience ≡ patience_of patience.now → option_map entry_of result ≡ expired_by v (order_of entries.now) }
+{
+    let Some((first, rest)) = entries.split_first() else {
+        return None;
+    };
+    if is_over(patience, *first) {
+        return Some(*first);
+    }
+    first_over(patience, rest)
+}
+
+impl<C: Calls> Running<C> {
+    /// The first of these entries that nothing blocks.
+    fn first_free_of(&self, entries: &[Waiting]) -> Option<u8>
+        requires processes { are_processes entries.now ≡ true }
+        requires running { IsRunning (λ b. seen (b.vtable, b.value)) (λ w. C.caller w) self.now }
+        requires stood { Stood C.Meaning.meaning (placed_of (λ b. seen (b.vtable, b.value)) (λ w. C.stage w) self.now) }
+        ensures { result ≡ placed_first_free C.Meaning.meaning (placed_of (λ b. seen (b.vtable, b.value)) (λ w. C.stage w) self.now) (order_of entries.now) }
+    {
+        let Some((first, rest)) = entries.split_first() else {
+            return None;
+        };
+        match self.blocker(first.process) {
+            None => Some(first.process),
+            Some(_) => self.first_free_of(rest),
+        }
+    }
+
+    /// These entries, each with its blocker, behind those of an order.
+    fn rested_from(&self, entries: &[Waiting], done: Order) -> Order
+        requires processes { are_processes entries.now ≡ true }
+        requires room { length done + length entries.now ≤ 16 }
+        requires running { IsRunning (λ b. seen (b.vtable, b.value)) (λ w. C.caller w) self.now }
+        requires stood { Stood C.Meaning.meaning (placed_of (λ b. seen (b.vtable, b.value)) (λ w. C.stage w) self.now) }
+        ensures value { order_of result ≡ order_of done ++ placed_rested_order C.Meaning.meaning (placed_of (λ b. seen (b.vtable, b.value)) (λ w. C.stage w) self.now) (order_of entries.now) }
+        ensures counts { counts_within self.now.clock done ≡ true → counts_within self.now.clock entries.now ≡ true → counts_within self.now.clock result ≡ true }
+        ensures processes { are_processes done ≡ true → are_processes result ≡ true }
+    {
+        let Some((first, rest)) = entries.split_first() else {
+            return done;
+        };
+        let mut done = done;
+        done.push(with_blocker(*first, self.blocker(first.process)));
+        self.rested_from(rest, done)
+    }
+
+    /// The process of the first call in the order that nothing blocks.
+    pub fn first_free(&self) -> Option<u8>
+        requires running { IsRunning (λ b. seen (b.vtable, b.value)) (λ w. C.caller w) self.now }
+        requires stood { Stood C.Meaning.meaning (placed_of (λ b. seen (b.vtable, b.value)) (λ w. C.stage w) self.now) }
+        ensures { let x = placed_of (λ b. seen (b.vtable, b.value)) (λ w. C.stage w) self.now in result ≡ placed_first_free C.Meaning.meaning x x.order }
+    {
+        self.first_free_of(self.order.entries())
+    }
+
+    /// The order is told its blockers.
+    pub fn rest(&mut self)
+        requires running { IsRunning (λ b. seen (b.vtable, b.value)) (λ w. C.caller w) self.old }
+        requires stood { Stood C.Meaning.meaning (placed_of (λ b. seen (b.vtable, b.value)) (λ w. C.stage w) self.old) }
+        ensures value { let x = placed_of (λ b. seen (b.vtable, b.value)) (λ w. C.stage w) self.old in
+            Goes (with_placed_order (placed_rested_order C.Meaning.meaning x x.order)) x (placed_of (λ b. seen (b.vtable, b.value)) (λ w. C.stage w) self.new) }
+        ensures running { IsRunning (λ b. seen (b.vtable, b.value)) (λ w. C.caller w) self.new }
+    {
+        let rested = self.rested_from(self.order.entries(), Order::new());
+        self.order = rested;
+    }
+
+    /// The first entry of the order whose count has reached the patience with its blocker's kind of object.
+    pub fn expired(&self) -> Option<Waiting>
+        ensures { let x = placed_of (λ b. seen (b.vtable, b.value)) (λ w. C.stage w) self.now in option_map entry_of result ≡ expired_by x.world x.order }
+    {
+        first_over(&self.store.setup.patience, self.order.entries())
     }
 }

@@ -5,7 +5,7 @@ use Rattle.graft_calls.specs.Calls.{IsPlaced, AreInside}
 use Rattle.kernel_state.specs.Stores.{objects_of}
 use Rattle.kernel_steps.specs.Orders.{counts_within}
 use Rattle.kernel_steps.specs.declared.running.InFlight.{InFlight}
-use Rattle.kernel_steps.proofs.OrderLemmas.{counts_joined}
+use Rattle.kernel_steps.proofs.OrderLemmas.{processes_joined, counts_joined}
 use Rattle.kernel_steps.proofs.CallLemmas.{with_call, still_sixteen, chains_stay, callers_set}
 use Rattle.kernel_steps.proofs.RunningLemmas.{call_begun, within_flights}
 use Rattle.kernel_steps.proofs.running.Running.begin.Goals as goal
@@ -30,4 +30,5 @@ returns-clause-running g c =
       placed = λ q h. subst (λ (chain : Chain). IsPlaced (λ b. (goal.Policy-dyn g (b.vtable, b.value)).seen b.value) x.store x.locks q chain.levels chain.undo) (sym (same q)) (r.placed q h);
       inside = λ q h. subst (λ (chain : Chain). AreInside (table_of x.images) (objects_of (λ b. (goal.Policy-dyn g (b.vtable, b.value)).seen b.value) x.store).accounts q chain.levels) (sym (same q)) (r.inside q h);
       counts = counts_joined x.clock c.args.p x.order c.joined.result c.push.new.self c.joined.ensures c.push.ensures r.counts;
+      order = processes_joined c.args.p x.order c.joined.result c.push.new.self c.joined.ensures c.push.ensures c.requires.process r.order;
     }

@@ -3,8 +3,8 @@ use Rattle.graft_calls.specs.declared.Chain.{Chain}
 use Rattle.graft_loader.specs.Slots.{table_of}
 use Rattle.graft_calls.specs.Calls.{IsPlaced, AreInside}
 use Rattle.kernel_state.specs.Stores.{objects_of}
-use Rattle.kernel_steps.specs.Orders.{counts_within}
-use Rattle.kernel_steps.proofs.OrderLemmas.{counts_less}
+use Rattle.kernel_steps.specs.Orders.{counts_within, are_processes}
+use Rattle.kernel_steps.proofs.OrderLemmas.{processes_less, counts_less}
 use Rattle.kernel_steps.proofs.CallLemmas.{with_call, still_sixteen, chains_stay, callers_set}
 use Rattle.kernel_steps.proofs.RunningLemmas.{call_ended, within_flights}
 use Rattle.kernel_steps.proofs.running.Running.end.Goals as goal
@@ -28,4 +28,5 @@ returns-clause-running g c =
       placed = λ q h. subst (λ (chain : Chain). IsPlaced (λ b. (goal.Policy-dyn g (b.vtable, b.value)).seen b.value) x.store x.locks q chain.levels chain.undo) (sym (same q)) (r.placed q h);
       inside = λ q h. subst (λ (chain : Chain). AreInside (table_of x.images) (objects_of (λ b. (goal.Policy-dyn g (b.vtable, b.value)).seen b.value) x.store).accounts q chain.levels) (sym (same q)) (r.inside q h);
       counts = ap (counts_within x.clock) c.leave.ensures ∙ counts_less x.clock c.args.p x.order r.counts;
+      order = ap are_processes c.leave.ensures ∙ processes_less c.args.p x.order r.order;
     }

@@ -1,7 +1,7 @@
 use Rattle.std.proofs.Common.{◌≡◌, ap, sym, subst, ◌∙◌, ◌+◌, arith, refl, List}
 use Rattle.std.specs.Prelude.{suc}
-use Rattle.kernel_steps.specs.Orders.{counts_within}
-use Rattle.kernel_steps.proofs.OrderLemmas.{rises}
+use Rattle.kernel_steps.specs.Orders.{counts_within, are_processes}
+use Rattle.kernel_steps.proofs.OrderLemmas.{processes_later, rises}
 use Rattle.kernel_steps.proofs.RunningLemmas.{ticked_on}
 use Rattle.kernel_steps.proofs.running.Running.tick.Goals as goal
 
@@ -22,4 +22,5 @@ returns-clause-running g c =
       placed = r.placed;
       inside = r.inside;
       counts = rises x.clock x.order c.count_up.new.self c.count_up.ensures r.counts;
+      order = ap are_processes c.count_up.ensures ∙ processes_later x.order r.order;
     }
