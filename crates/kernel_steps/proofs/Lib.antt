@@ -4,3 +4,4 @@ pub mod CallLemmas
 pub mod RunningLemmas
 pub mod StartLemmas
 pub mod HinderLemmas
+pub mod MoveLemmas

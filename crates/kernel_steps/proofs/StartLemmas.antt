@@ -4,6 +4,7 @@ use Rattle.std.specs.Prelude.{replicate, slice_index_or}
 use Rattle.std.proofs.lemmas.Grind.{common_steps}
 use Rattle.kernel_model.specs.declared.Object.{Object}
 use Rattle.kernel_model.specs.declared.Held.{Held}
+use Rattle.kernel_model.specs.Sound.{ImagesAreLoaded}
 use Rattle.kernel_model.specs.Locks.{no_locks}
 use Rattle.lock_table.specs.Masks.{held}
 use Rattle.kernel_state.specs.Stores.{Seeing, objects_of, IsStore}
@@ -21,8 +22,8 @@ pub none_of_sixteen : {W : Type 0} (fs : List (Flight W)) (n p : ℕ) → fs ≡
 none_of_sixteen fs n p is = grind (arith, common_steps, is)
 
 pub just_begun : {C M W X : Type 0} {F : X → Type 0} (view : Seeing X F) (caller : W → ℕ) (x : Running C M W X F) →
-    IsStore view x.store → x.calls.items ≡ replicate 16 no_flight → held x.locks ≡ no_locks → x.order ≡ [] → IsRunning view caller x
-just_begun {W = W} view caller x sound calls free order =
+    IsStore view x.store → x.calls.items ≡ replicate 16 no_flight → held x.locks ≡ no_locks → x.order ≡ [] → ImagesAreLoaded (table_of x.images) (objects_of view x.store).accounts → IsRunning view caller x
+just_begun {W = W} view caller x sound calls free order loaded =
     let none : (p : ℕ) → chain_of x p ≡ record { levels = []; undo = [] } = λ p. ap (λ (f : Flight W). f.chain) (none_of_sixteen x.calls.items 16 p calls) in
     record {
       store = sound;
@@ -33,4 +34,5 @@ just_begun {W = W} view caller x sound calls free order =
       inside = λ p h. subst (λ (chain : Chain). AreInside (table_of x.images) (objects_of view x.store).accounts p chain.levels) (sym (none p)) tt;
       counts = ap (counts_within x.clock) order;
       order = ap are_processes order;
+      loaded = loaded;
     }

@@ -3,6 +3,7 @@ use Rattle.std.specs.Prelude.{◌≡◌, ℕ, ◌<◌, ◌≤◌, true, Bool, Li
 use Rattle.kernel_model.specs.declared.Note.{Note}
 use Rattle.kernel_model.specs.World.{Blocks}
 use Rattle.kernel_model.specs.Kernel.{Kernel}
+use Rattle.kernel_model.specs.Sound.{ImagesAreLoaded}
 use Rattle.kernel_model.specs.Meaning.{Meaning, Stage}
 use Rattle.lock_table.specs.Masks.{held}
 use Rattle.kernel_state.specs.declared.Store.{Store}
@@ -68,6 +69,7 @@ pub record IsRunning {C M W X : Type 0} {F : X → Type 0} (view : Seeing X F) (
   pub inside : (p : ℕ) → p < 16 → AreInside (table_of x.images) (objects_of view x.store).accounts p (chain_of x p).levels
   pub counts : counts_within x.clock x.order ≡ true
   pub order : are_processes x.order ≡ true
+  pub loaded : ImagesAreLoaded (table_of x.images) (objects_of view x.store).accounts
 
 -- a kernel in place stands for some abstract kernel
 pub record Stood (m : Meaning) (x : Placed) : Type 0 where

@@ -4,6 +4,7 @@
 #![tactic(auto)]
 
 mod blocking;
+mod moves;
 mod notes;
 mod order;
 mod running;

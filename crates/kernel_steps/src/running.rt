@@ -1,6 +1,7 @@
 //! The running kernel: how it begins, and how calls begin and end.
 
 ghost use Rattle.std.specs.Prelude.{◌≡◌, ◌<◌, ◌≤◌, ◌-◌, ◌^◌, None, Some, [], ◌++◌, ◌∷◌, length, IfOk, replicate, slice_set, ℕ};
+ghost use Rattle.kernel_model.specs.Sound.{ImagesAreLoaded};
 ghost use Rattle.kernel_state.specs.Stores.{world_of_store, objects_of, IsStore};
 ghost use Rattle.graft_loader.specs.Slots.{table_of};
 ghost use Rattle.placed_laws.specs.Keeping.{first_placed};
@@ -86,6 +87,7 @@ impl<C: Calls> Running<C> {
     /// A kernel over this store with these images, in which no call is in flight. Takes all the memory that it ever does.
     pub fn new(alloc: Global, store: Store, images: Images) -> Result<Running<C>, NoMemory>
         requires sound { IsStore (λ b. seen (b.vtable, b.value)) store }
+        requires loaded { ImagesAreLoaded (table_of images) (objects_of (λ b. seen (b.vtable, b.value)) store).accounts }
         ensures store { IfOk result (λ x. x.store ≡ store) }
         ensures images { IfOk result (λ x. x.images ≡ images) }
         ensures clock { IfOk result (λ x. x.clock ≡ 0) }

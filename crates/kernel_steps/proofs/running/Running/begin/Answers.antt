@@ -31,4 +31,5 @@ returns-clause-running g c =
       inside = λ q h. subst (λ (chain : Chain). AreInside (table_of x.images) (objects_of (λ b. (goal.Policy-dyn g (b.vtable, b.value)).seen b.value) x.store).accounts q chain.levels) (sym (same q)) (r.inside q h);
       counts = counts_joined x.clock c.args.p x.order c.joined.result c.push.new.self c.joined.ensures c.push.ensures r.counts;
       order = processes_joined c.args.p x.order c.joined.result c.push.new.self c.joined.ensures c.push.ensures c.requires.process r.order;
+      loaded = r.loaded;
     }

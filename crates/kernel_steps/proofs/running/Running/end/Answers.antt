@@ -29,4 +29,5 @@ returns-clause-running g c =
       inside = λ q h. subst (λ (chain : Chain). AreInside (table_of x.images) (objects_of (λ b. (goal.Policy-dyn g (b.vtable, b.value)).seen b.value) x.store).accounts q chain.levels) (sym (same q)) (r.inside q h);
       counts = ap (counts_within x.clock) c.leave.ensures ∙ counts_less x.clock c.args.p x.order r.counts;
       order = ap are_processes c.leave.ensures ∙ processes_less c.args.p x.order r.order;
+      loaded = r.loaded;
     }

@@ -23,4 +23,5 @@ returns-clause-running g c =
       inside = r.inside;
       counts = rises x.clock x.order c.count_up.new.self c.count_up.ensures r.counts;
       order = ap are_processes c.count_up.ensures ∙ processes_later x.order r.order;
+      loaded = r.loaded;
     }

@@ -1,0 +1,29 @@
+-- What a move of one call's levels makes of a running kernel: a level begins, an instruction, or the drop of a level.
+use Rattle.std.specs.Prelude.{◌≡◌, ◌≢◌, ℕ, List, map, length}
+use Rattle.kernel_model.specs.Objects.{at}
+use Rattle.kernel_model.specs.Levels.{Config}
+use Rattle.kernel_model.specs.Sound.{ImagesAreLoaded}
+use Rattle.kernel_state.specs.Stores.{Seeing, objects_of}
+use Rattle.graft_loader.specs.Slots.{table_of}
+use Rattle.graft_calls.specs.Calls.{IsPlaced, AreInside, IsElsewhereSame}
+use Rattle.placed_laws.specs.Placed.{Placed, bare}
+use Rattle.kernel_steps.specs.declared.running.Running.{Running}
+use Rattle.kernel_steps.specs.Views.{flight_of, chain_of}
+
+-- a kernel in place in which the call of p has come to this config
+abbrev pub come_to : ℕ → Config → Placed → Placed
+come_to p c x = record x { objects = c.now; levels = at p (map bare c.levels) x.levels }
+
+-- The levels of p's call moved. They are in place again, and of all else the store has the same but for its objects: the calls,
+-- the other chains and what they hold, the memory of other processes' levels, who lives, images, clock and order.
+pub record Moved {C M W X : Type 0} {F : X → Type 0} (view : Seeing X F) (x y : Running C M W X F) (p : ℕ) : Type 0 where
+  pub elsewhere : IsElsewhereSame x.store y.store x.locks y.locks p
+  pub placed : IsPlaced view y.store y.locks p (chain_of y p).levels (chain_of y p).undo
+  pub inside : AreInside (table_of y.images) (objects_of view y.store).accounts p (chain_of y p).levels
+  pub loaded : ImagesAreLoaded (table_of y.images) (objects_of view y.store).accounts
+  pub calls : (q : ℕ) → (flight_of y.calls.items q).call ≡ (flight_of x.calls.items q).call
+  pub chains : (q : ℕ) → q ≢ p → chain_of y q ≡ chain_of x q
+  pub sixteen : length y.calls.items ≡ length x.calls.items
+  pub images : y.images ≡ x.images
+  pub clock : y.clock ≡ x.clock
+  pub order : y.order ≡ x.order

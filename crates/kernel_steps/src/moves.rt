@@ -1,0 +1,43 @@
+//! The levels of one call move: a level begins, an instruction, the drop of a level.
+
+ghost use Rattle.std.specs.Prelude.{◌≡◌, ◌<◌, length};
+ghost use Rattle.kernel_model.specs.GraftStep.{micro};
+ghost use Rattle.kernel_model.specs.Levels.{drop_level as level_dropped};
+ghost use Rattle.placed_laws.specs.Placed.{placed_config, placed_levels};
+ghost use Rattle.kernel_steps.specs.Views.{placed_of, chain_of, IsRunning};
+ghost use Rattle.kernel_steps.specs.Moves.{come_to, Moved};
+
+use crate::running::Running;
+use call_pieces::Calls;
+use kernel_model::{Cause, Micro};
+
+impl<C: Calls> Running<C> {
+    /// Level d of process p's call is dropped, counted from the outermost: those further inward end with it.
+    pub(crate) fn fall(&mut self, p: u8, d: u8, cause: Cause) -> Micro
+        requires process { p < 16 }
+        requires level { d < length (chain_of self.old p).levels }
+        requires running { IsRunning (λ b. seen (b.vtable, b.value)) (λ w. C.caller w) self.old }
+        ensures said { let x = placed_of (λ b. seen (b.vtable, b.value)) (λ w. C.stage w) self.old in
+            result ≡ (level_dropped x.world x.objects (placed_levels x p) d cause).said }
+        ensures config { let x = placed_of (λ b. seen (b.vtable, b.value)) (λ w. C.stage w) self.old in
+            placed_of (λ b. seen (b.vtable, b.value)) (λ w. C.stage w) self.new ≡ come_to p (level_dropped x.world x.objects (placed_levels x p) d cause).config x }
+        ensures moved { Moved (λ b. seen (b.vtable, b.value)) self.old self.new p }
+    {
+        let flight = &mut self.calls[p as usize];
+        flight.chain.drop_level(p, &mut self.store, &mut self.locks, d, cause)
+    }
+
+    /// One instruction of the innermost level of process p's call, whatever another call holds.
+    pub(crate) fn instruct(&mut self, p: u8) -> Micro
+        requires process { p < 16 }
+        requires running { IsRunning (λ b. seen (b.vtable, b.value)) (λ w. C.caller w) self.old }
+        ensures said { let x = placed_of (λ b. seen (b.vtable, b.value)) (λ w. C.stage w) self.old in
+            result ≡ (micro x.world x.images p (placed_config x p)).said }
+        ensures config { let x = placed_of (λ b. seen (b.vtable, b.value)) (λ w. C.stage w) self.old in
+            placed_of (λ b. seen (b.vtable, b.value)) (λ w. C.stage w) self.new ≡ come_to p (micro x.world x.images p (placed_config x p)).config x }
+        ensures moved { Moved (λ b. seen (b.vtable, b.value)) self.old self.new p }
+    {
+        let flight = &mut self.calls[p as usize];
+        flight.chain.instruction(p, &mut self.store, &mut self.locks, &self.images)
+    }
+}
