@@ -5,3 +5,4 @@ pub mod RunningLemmas
 pub mod StartLemmas
 pub mod HinderLemmas
 pub mod MoveLemmas
+pub mod StayLemmas

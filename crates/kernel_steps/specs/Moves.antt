@@ -1,11 +1,14 @@
 -- What a move of one call's levels makes of a running kernel: a level begins, an instruction, or the drop of a level.
 use Rattle.std.specs.Prelude.{◌≡◌, ◌≢◌, ℕ, List, map, length}
-use Rattle.kernel_model.specs.Objects.{at}
+use Rattle.kernel_model.specs.declared.Held.{Held}
+use Rattle.kernel_model.specs.declared.Object.{Object}
+use Rattle.lock_table.specs.Masks.{held}
+use Rattle.kernel_model.specs.Objects.{at, SameAt}
 use Rattle.kernel_model.specs.Levels.{Config}
 use Rattle.kernel_model.specs.Sound.{ImagesAreLoaded}
 use Rattle.kernel_state.specs.Stores.{Seeing, objects_of}
 use Rattle.graft_loader.specs.Slots.{table_of}
-use Rattle.graft_calls.specs.Calls.{IsPlaced, AreInside, IsElsewhereSame}
+use Rattle.graft_calls.specs.Calls.{IsPlaced, AreInside, AllUndoable, IsElsewhereSame}
 use Rattle.placed_laws.specs.Placed.{Placed, bare}
 use Rattle.kernel_steps.specs.declared.running.Running.{Running}
 use Rattle.kernel_steps.specs.Views.{flight_of, chain_of}
@@ -27,3 +30,13 @@ pub record Moved {C M W X : Type 0} {F : X → Type 0} (view : Seeing X F) (x y 
   pub images : y.images ≡ x.images
   pub clock : y.clock ≡ x.clock
   pub order : y.order ≡ x.order
+
+-- The levels of another call q stay in place, though the store changed: its records can still be undone, and its grafts stand as
+-- they did.
+pub record StaysInPlace {C M W X : Type 0} {F : X → Type 0} (view : Seeing X F) (y : Running C M W X F) (q : ℕ) : Type 0 where
+  pub undoable : AllUndoable (chain_of y q).undo (objects_of view y.store).things
+  pub inside : AreInside (table_of y.images) (objects_of view y.store).accounts q (chain_of y q).levels
+
+-- what a call q holds exclusively has the same values after a change
+abbrev pub HeldStays : {C M W X : Type 0} {F : X → Type 0} → Seeing X F → Running C M W X F → Running C M W X F → ℕ → Type 0
+HeldStays view x y q = (d : ℕ) (o : Object) → held x.locks q d o ≡ Held.Exclusive → SameAt o (objects_of view y.store) (objects_of view x.store)

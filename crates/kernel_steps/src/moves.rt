@@ -1,6 +1,11 @@
 //! The levels of one call move: a level begins, an instruction, the drop of a level.
 
-ghost use Rattle.std.specs.Prelude.{◌≡◌, ◌<◌, length};
+ghost use Rattle.std.specs.Prelude.{◌≡◌, ◌<◌, [], true, is_some, length, All};
+ghost use Rattle.kernel_model.specs.declared.Need.{Need as Needed};
+ghost use Rattle.kernel_model.specs.History.{begin_at};
+ghost use Rattle.kernel_model.specs.Laws.{IsInRange};
+ghost use Rattle.kernel_model.specs.Policies.{lives};
+ghost use Rattle.kernel_state.specs.Stores.{objects_of, queue_of};
 ghost use Rattle.kernel_model.specs.GraftStep.{micro};
 ghost use Rattle.kernel_model.specs.Levels.{drop_level as level_dropped};
 ghost use Rattle.placed_laws.specs.Placed.{placed_config, placed_levels};
@@ -9,7 +14,7 @@ ghost use Rattle.kernel_steps.specs.Moves.{come_to, Moved};
 
 use crate::running::Running;
 use call_pieces::Calls;
-use kernel_model::{Cause, Micro};
+use kernel_model::{Cause, Micro, Need, Point};
 
 impl<C: Calls> Running<C> {
     /// Level d of process p's call is dropped, counted from the outermost: those further inward end with it.
@@ -39,5 +44,23 @@ impl<C: Calls> Running<C> {
     {
         let flight = &mut self.calls[p as usize];
         flight.chain.instruction(p, &mut self.store, &mut self.locks, &self.images)
+    }
+
+    /// The call of process p enters a graft, where its piece asks a point at which one stands: level 0 holds what the piece needs.
+    pub(crate) fn enter(&mut self, p: u8, needs: &[Need], at: &Point)
+        requires process { p < 16 }
+        requires none { (chain_of self.old p).levels ≡ [] }
+        requires owner { at.now.installer < 16 }
+        requires point { at.now.point < 16 }
+        requires lives { lives (queue_of self.old.store) at.now.installer ≡ true }
+        requires stands { is_some ((objects_of (λ b. seen (b.vtable, b.value)) self.old.store).accounts.graft at.now.installer at.now.point) ≡ true }
+        requires range { All (λ (n : Needed). IsInRange n.object) needs.now }
+        requires running { IsRunning (λ b. seen (b.vtable, b.value)) (λ w. C.caller w) self.old }
+        ensures config { let x = placed_of (λ b. seen (b.vtable, b.value)) (λ w. C.stage w) self.old in
+            placed_of (λ b. seen (b.vtable, b.value)) (λ w. C.stage w) self.new ≡ come_to p (begin_at x.images x.objects p needs.now at.now) x }
+        ensures moved { Moved (λ b. seen (b.vtable, b.value)) self.old self.new p }
+    {
+        let flight = &mut self.calls[p as usize];
+        flight.chain.begin(p, &mut self.store, &mut self.locks, &self.images, needs, at);
     }
 }

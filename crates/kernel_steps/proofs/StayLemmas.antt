@@ -1,0 +1,82 @@
+-- A running kernel in which one call's levels moved is one again, where what the others hold exclusively stays.
+use Rattle.std.proofs.Common.{◌≡◌, ◌≢◌, ℕ, suc, zero, ◌+◌, ◌*◌, ◌≤◌, ◌<◌, ◌==◌, Bool, true, false, nat_lt, List, [], ◌∷◌, map, length, refl, ap, sym, subst, ◌∙◌, arith, Option, Some, None}
+use Rattle.std.specs.Prelude.{Contains, is_some, slice_index_or}
+use Rattle.kernel_model.specs.declared.Held.{Held}
+use Rattle.kernel_model.specs.declared.Inverse.{Inverse}
+use Rattle.kernel_model.specs.declared.Inverse.TheVariants.{Cell, Nice, Window, Mark, Tune}
+use Rattle.kernel_model.specs.declared.Object.{Object}
+use Rattle.kernel_model.specs.declared.Object.TheVariants.{Graft}
+use Rattle.kernel_model.specs.declared.QueueRow.{QueueRow}
+use Rattle.kernel_model.specs.World.{ImageTable}
+use Rattle.kernel_model.specs.Objects.{Objects, Accounts, GraftValue, CacheValue, PolValue, Things, SameAt}
+use Rattle.kernel_model.specs.Policies.{lives}
+use Rattle.kernel_model.specs.Access.{changed_by, in_range, param_top}
+use Rattle.kernel_model.specs.Boxed.{IsInside}
+use Rattle.kernel_model.specs.Locks.{LockTable}
+use Rattle.kernel_model.specs.Levels.{Level, base_of, code_in, image_of, limit_in}
+use Rattle.kernel_model.specs.UndoLog.{undo_all}
+use Rattle.undo_calls.specs.UndoLevels.{innermost}
+use Rattle.graft_machine.specs.Cpu.{machine_of}
+use Rattle.kernel_state.specs.Accesses.{CanBeUndone}
+use Rattle.graft_calls.specs.declared.GraftLevel.{GraftLevel}
+use Rattle.graft_calls.specs.Chains.{level_in, levels_in, outer}
+use Rattle.graft_calls.specs.Calls.{AreSound, AreInside, AreUndoable, AllUndoable, RunsInside, IsSoundLevel}
+
+-- ---- elements
+
+first : {A : Type 0} (x : A) (xs : List A) → Contains (x ∷ xs) x
+first x xs = (0, omega arith, refl)
+
+later : {A : Type 0} (x y : A) (xs : List A) → Contains xs y → Contains (x ∷ xs) y
+later x y xs c = (suc c.0, omega (arith, c.1), c.2)
+
+-- ---- one record
+
+-- a record can still be undone where its object stays, and who lives
+can_still : (i : Inverse) (s u : Objects) → SameAt (changed_by i) u s → ((q : ℕ) → lives u.things.queue q ≡ lives s.things.queue q) → CanBeUndone i s.things → CanBeUndone i u.things
+can_still (Cell q k v) s u same live can = (live q ∙ can.0, can.1)
+can_still (Nice q v) s u same live can = (live q ∙ can.0, can.1)
+can_still (Window q fd v) s u same live can = (live q ∙ can.0, can.1, ap is_some same ∙ can.2, can.3)
+can_still (Mark f v) s u same live can = ap (λ (c : CacheValue). is_some (c.frame f)) same ∙ can
+can_still (Tune kind k v) s u same live can = (can.0, ap (λ (p : PolValue). in_range (param_top kind p.chosen) k v) same ∙ can.1)
+
+-- so can some
+are_still : (is : List Inverse) (s u : Objects) → ((i : Inverse) → Contains is i → SameAt (changed_by i) u s) → ((q : ℕ) → lives u.things.queue q ≡ lives s.things.queue q) →
+    AreUndoable is s.things → AreUndoable is u.things
+are_still [] s u same live can = tt
+are_still (i ∷ is) s u same live can =
+    (can_still i s u (same i (first i is)) live can.0, are_still is s u (λ j has. same j (later i j is has)) live can.1)
+
+-- and all
+pub all_still : (q : ℕ) (ram : List ℕ) (t : LockTable) (gs : List GraftLevel) (log : List (List Inverse)) (w : Things) (s u : Objects) → length log ≡ length gs →
+    ((l : Level) (i : Inverse) → Contains (levels_in q ram t gs log w) l → Contains l.records i → SameAt (changed_by i) u s) →
+    ((p : ℕ) → lives u.things.queue p ≡ lives s.things.queue p) → AllUndoable log s.things → AllUndoable log u.things
+all_still q ram t gs [] w s u n same live can = tt
+all_still q ram t [] (is ∷ log) w s u n same live can = absurd (omega (arith, n))
+all_still q ram t (g ∷ gs) (is ∷ log) w s u n same live can =
+    (are_still is s u (λ i has. same (level_in q (length gs) ram t g is (undo_all is w)) i (first (level_in q (length gs) ram t g is (undo_all is w)) (levels_in q ram t gs log (undo_all is w))) has) live can.0,
+     all_still q ram t gs log (undo_all is w) s u (omega (arith, n)) (λ l i has own. same l i (later (level_in q (length gs) ram t g is (undo_all is w)) l (levels_in q ram t gs log (undo_all is w)) has) own) live can.1)
+
+-- ---- grafts that stay
+
+runs_still : (images : ImageTable) (a b : Accounts) (p d : ℕ) (g : GraftLevel) → b.graft g.owner g.point ≡ a.graft g.owner g.point → RunsInside images a p d g → RunsInside images b p d g
+runs_still images a b p d g same h =
+    record {
+      count = subst (λ (v : Option GraftValue). g.count ≤ limit_in v) (sym same) h.count;
+      inside = λ ram. subst (λ (v : Option GraftValue). IsInside (code_in (image_of images v)) (4 * p + d) (machine_of g.machine ram)) (sym same) (h.inside ram);
+    }
+
+pub inside_still : (images : ImageTable) (a b : Accounts) (q : ℕ) (ram : List ℕ) (t : LockTable) (gs : List GraftLevel) (log : List (List Inverse)) (w : Things) →
+    ((l : Level) → Contains (levels_in q ram t gs log w) l → b.graft l.owner l.point ≡ a.graft l.owner l.point) → AreInside images a q gs → AreInside images b q gs
+inside_still images a b q ram t [] log w same h = tt
+inside_still images a b q ram t (g ∷ gs) log w same h =
+    let l : Level = level_in q (length gs) ram t g (innermost log) (undo_all (innermost log) w) in
+    let ls = levels_in q ram t gs (outer log) (undo_all (innermost log) w) in
+    (runs_still images a b q (length gs) g (same l (first l ls)) h.0,
+     inside_still images a b q ram t gs (outer log) (undo_all (innermost log) w) (λ k has. same k (later l k ls has)) h.1)
+
+-- levels stay sound where the same live
+pub sound_still : (queue rows : List QueueRow) (gs : List GraftLevel) → ((q : ℕ) → lives rows q ≡ lives queue q) → AreSound queue gs → AreSound rows gs
+sound_still queue rows [] live h = tt
+sound_still queue rows (g ∷ gs) live h =
+    (record { owner = h.0.owner; point = h.0.point; lives = live g.owner ∙ h.0.lives }, h.1, sound_still queue rows gs live h.2)

@@ -1,0 +1,38 @@
+use Rattle.std.proofs.Common.{rules, ◌≡◌, ◌∙◌, ap, sym, subst, refl, ℕ, List}
+use Rattle.std.specs.Vec.{with_item}
+use Rattle.kernel_model.specs.History.{begin_at}
+use Rattle.graft_calls.specs.declared.Chain.{Chain}
+use Rattle.graft_calls.specs.Chains.{call_of}
+use Rattle.kernel_state.specs.Stores.{world_of_store, objects_of}
+use Rattle.graft_loader.specs.Slots.{table_of}
+use Rattle.graft_calls.specs.Calls.{AreInside}
+use Rattle.placed_laws.specs.Placed.{placed_config}
+use Rattle.kernel_steps.specs.declared.running.Flight.{Flight}
+use Rattle.kernel_steps.specs.declared.running.Running.{Running}
+use Rattle.kernel_steps.specs.Views.{placed_of, flight_of}
+use Rattle.kernel_steps.proofs.MoveLemmas.{fetched, in_place_of, moved_by, chain_by, placed_moved}
+use Rattle.kernel_steps.proofs.running.Running.enter.Goals as goal
+
+pub returns-clause-config : goal.returns-clause-config
+returns-clause-config g c =
+    let x = c.args.self.now in
+    let y : Running g.row.C.Denot g.row.C-Meaning.Denot g.row.C-Work.Denot _ _ = record { store = c.begin.new.store; clock = x.clock; images = x.images; locks = c.begin.new.locks; calls = with_item x.calls c.args.p (record { call = c.index_mut-flight.result.now.call; chain = c.begin.new.self }); order = x.order } in
+    let r = c.requires.running in
+    let fl : c.index_mut-flight.result.now ≡ flight_of x.calls.items c.args.p = fetched x.calls.items c.args.p c.index_mut-flight.result.now r.sixteen c.requires.process c.index_mut-flight.ensures.value in
+    placed_moved (λ b. (goal.Policy-dyn g (b.vtable, b.value)).seen b.value) (λ w. g.C.Calls.stage w) (λ w. g.C.Calls.caller w) x y c.args.p (begin_at (table_of x.images) (objects_of (λ b. (goal.Policy-dyn g (b.vtable, b.value)).seen b.value) x.store) c.args.p c.args.needs.now c.args.at.now) r
+    (moved_by (λ b. (goal.Policy-dyn g (b.vtable, b.value)).seen b.value) x y c.args.p c.index_mut-flight.result.now c.begin.new.self r.sixteen c.requires.process fl refl c.begin.ensures.elsewhere c.begin.ensures.in_place.placed c.begin.ensures.in_place.inside c.begin.ensures.in_place.loaded refl refl refl)
+    (ap (λ (chain : Chain). call_of (λ b. (goal.Policy-dyn g (b.vtable, b.value)).seen b.value) y.store y.locks chain c.args.p) (chain_by x y c.args.p c.index_mut-flight.result.now c.begin.new.self r.sixteen c.requires.process fl refl) ∙ c.begin.ensures.value)
+
+pub returns-clause-moved : goal.returns-clause-moved
+returns-clause-moved g c =
+    let x = c.args.self.now in
+    let y : Running g.row.C.Denot g.row.C-Meaning.Denot g.row.C-Work.Denot _ _ = record { store = c.begin.new.store; clock = x.clock; images = x.images; locks = c.begin.new.locks; calls = with_item x.calls c.args.p (record { call = c.index_mut-flight.result.now.call; chain = c.begin.new.self }); order = x.order } in
+    let r = c.requires.running in
+    let fl : c.index_mut-flight.result.now ≡ flight_of x.calls.items c.args.p = fetched x.calls.items c.args.p c.index_mut-flight.result.now r.sixteen c.requires.process c.index_mut-flight.ensures.value in
+    moved_by (λ b. (goal.Policy-dyn g (b.vtable, b.value)).seen b.value) x y c.args.p c.index_mut-flight.result.now c.begin.new.self r.sixteen c.requires.process fl refl c.begin.ensures.elsewhere c.begin.ensures.in_place.placed c.begin.ensures.in_place.inside c.begin.ensures.in_place.loaded refl refl refl
+
+pub begin-requires-clause-none : goal.begin-requires-clause-none
+begin-requires-clause-none g c =
+    let x = c.args.self.now in
+    let r = c.requires.running in
+    ap (λ (f : Flight g.row.C-Work.Denot). f.chain.levels) (fetched x.calls.items c.args.p c.index_mut-flight.result.now r.sixteen c.requires.process c.index_mut-flight.ensures.value) ∙ c.requires.none
