@@ -53,7 +53,7 @@ no_levels : (p : ℕ) (ram : List ℕ) (t : LockTable) (gs : List GraftLevel) (l
 no_levels p ram t [] log w h = refl
 no_levels p ram t (g ∷ gs) log w h = absurd (omega (arith, h))
 
-some_levels : (p : ℕ) (ram : List ℕ) (t : LockTable) (gs : List GraftLevel) (log : List (List Inverse)) (w : Things) → 0 < length gs → has_some (map bare (levels_in p ram t gs log w)) ≡ true
+pub some_levels : (p : ℕ) (ram : List ℕ) (t : LockTable) (gs : List GraftLevel) (log : List (List Inverse)) (w : Things) → 0 < length gs → has_some (map bare (levels_in p ram t gs log w)) ≡ true
 some_levels p ram t [] log w h = absurd (omega (arith, h))
 some_levels p ram t (g ∷ gs) log w h = refl
 

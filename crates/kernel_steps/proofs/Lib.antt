@@ -6,3 +6,4 @@ pub mod StartLemmas
 pub mod HinderLemmas
 pub mod MoveLemmas
 pub mod StayLemmas
+pub mod AgainLemmas
