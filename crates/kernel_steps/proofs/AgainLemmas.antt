@@ -1,6 +1,6 @@
 -- A running kernel is one again after a move, where what the other calls hold exclusively stays.
-use Rattle.std.proofs.Common.{◌≡◌, ◌≢◌, ℕ, suc, zero, ◌+◌, ◌≤◌, ◌<◌, ◌==◌, Bool, true, false, nat_lt, List, [], ◌∷◌, map, length, refl, ap, sym, subst, ◌∙◌, arith, Option, Some, None, inl, inr, ◌⊎◌}
-use Rattle.std.specs.Prelude.{Contains, slice_index_or}
+use Rattle.std.proofs.Common.{◌≡◌, ◌≢◌, ℕ, suc, zero, ◌≤◌, ◌<◌, ◌==◌, Bool, true, false, nat_lt, List, [], ◌∷◌, length, refl, ap, sym, subst, ◌∙◌, arith, inl, inr, ◌⊎◌}
+use Rattle.std.specs.Prelude.{Contains}
 use Rattle.std.proofs.lemmas.Bool.{eqb-true}
 use Rattle.std.proofs.lemmas.Bool.Decides.{nat_tests}
 use Rattle.kernel_model.specs.declared.Held.{Held}
@@ -12,7 +12,7 @@ use Rattle.kernel_model.specs.Objects.{Accounts, Things}
 use Rattle.kernel_model.specs.Meaning.{Meaning, Stage}
 use Rattle.kernel_model.specs.Access.{changed_by}
 use Rattle.kernel_model.specs.Locks.{LockTable}
-use Rattle.kernel_model.specs.Levels.{Level, Config, outermost_touched}
+use Rattle.kernel_model.specs.Levels.{Level, outermost_touched}
 use Rattle.kernel_model.specs.Sound.{IsSoundConfig}
 use Rattle.kernel_model.specs.UndoLog.{undo_all}
 use Rattle.undo_calls.specs.UndoLevels.{innermost}
@@ -102,13 +102,13 @@ stays_with m sound view stage x y p q caller r stood moved other small stays som
     let config = config_of m sound view stage x q stood some in
     record {
       undoable = subst (λ (c : Chain). AllUndoable c.undo u.things) (sym chain)
-        (all_still q x.store.ram t gs log s.things s u (r.placed q small).as_many
-        (λ l i has own. let e = touch_at q x.store.ram t gs log s.things l (changed_by i) has (config.recorded l i has own) in stays e.0 (changed_by i) e.1)
-        moved.elsewhere.living (r.placed q small).undoable);
+          (all_still q x.store.ram t gs log s.things s u (r.placed q small).as_many
+          (λ l i has own. let e = touch_at q x.store.ram t gs log s.things l (changed_by i) has (config.recorded l i has own) in stays e.0 (changed_by i) e.1)
+          moved.elsewhere.living (r.placed q small).undoable);
       inside = subst (λ (c : Chain). AreInside (table_of y.images) u.accounts q c.levels) (sym chain)
-        (subst (λ i. AreInside (table_of i) u.accounts q gs) (sym moved.images)
-        (inside_still (table_of x.images) s.accounts u.accounts q x.store.ram t gs log s.things
-        (λ l has. stays 0 (Graft l.owner l.point) (sym (ap (λ f. f (Graft l.owner l.point)) (outermost_is q x.store.ram t gs log s.things some)) ∙ (config.paid l has).0)) (r.inside q small)));
+          (subst (λ i. AreInside (table_of i) u.accounts q gs) (sym moved.images)
+          (inside_still (table_of x.images) s.accounts u.accounts q x.store.ram t gs log s.things
+          (λ l has. stays 0 (Graft l.owner l.point) (sym (ap (λ f. f (Graft l.owner l.point)) (outermost_is q x.store.ram t gs log s.things some)) ∙ (config.paid l has).0)) (r.inside q small)));
     }
 
 pub stays_in_place : {C M W X : Type 0} {F : X → Type 0} (m : Meaning) → SoundInPlace m → (view : Seeing X F) (stage : W → Stage) (x y : Running C M W X F) (p q : ℕ) (caller : W → ℕ) → IsRunning view caller x →

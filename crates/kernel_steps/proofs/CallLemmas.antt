@@ -1,6 +1,6 @@
 -- A process's call changes, and nothing else that it has in flight.
-use Rattle.std.proofs.Common.{◌≡◌, ℕ, suc, zero, ◌+◌, ◌≤◌, ◌<◌, ◌==◌, Bool, true, false, not, cond, List, [], ◌∷◌, ◌++◌, map, length, refl, ap, sym, ◌∙◌, arith, Option, Some, None, append-nil}
-use Rattle.std.specs.Prelude.{slice_index_or, slice_set, option_map}
+use Rattle.std.proofs.Common.{◌≡◌, ℕ, ◌<◌, ◌==◌, true, false, cond, List, length, refl, ap, sym, ◌∙◌, arith, Option, Some}
+use Rattle.std.specs.Prelude.{slice_set, option_map}
 use Rattle.std.proofs.Math.Path.{fun_ext}
 use Rattle.std.proofs.lemmas.Grind.{common_steps}
 use Rattle.std.proofs.lemmas.Bool.Decides.{nat_tests}
@@ -8,7 +8,7 @@ use Rattle.kernel_model.specs.Objects.{at}
 use Rattle.kernel_model.specs.Meaning.{Stage}
 use Rattle.kernel_steps.specs.declared.running.InFlight.{InFlight}
 use Rattle.kernel_steps.specs.declared.running.Flight.{Flight}
-use Rattle.kernel_steps.specs.Views.{flight_of, no_flight, call_in_place}
+use Rattle.kernel_steps.specs.Views.{flight_of, call_in_place}
 
 -- the calls of a process with this call
 abbrev pub with_call : {W : Type 0} → List (Flight W) → ℕ → Option (InFlight W) → List (Flight W)

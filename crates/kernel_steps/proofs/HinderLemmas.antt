@@ -1,5 +1,5 @@
 -- What hinders the step of a call, by its needs, is what hinders it in place.
-use Rattle.std.proofs.Common.{◌≡◌, ℕ, suc, zero, ◌+◌, ◌≤◌, ◌<◌, Bool, true, false, cond, List, [], ◌∷◌, map, length, refl, ap, sym, subst, ◌∙◌, arith, Option, Some, None}
+use Rattle.std.proofs.Common.{◌≡◌, ℕ, ◌<◌, true, cond, List, [], ◌∷◌, map, length, refl, ap, sym, subst, ◌∙◌, arith, Option, Some, None}
 use Rattle.std.specs.Prelude.{option_map, slice_index_or, Contains, All}
 use Rattle.std.proofs.lemmas.List.Elements.{All-contains_itself}
 use Rattle.kernel_model.specs.declared.Inverse.{Inverse}
@@ -11,7 +11,6 @@ use Rattle.kernel_model.specs.Laws.{Laws, IsStanding, IsInRange}
 use Rattle.kernel_model.specs.Locks.{LockTable, first_hindrance}
 use Rattle.kernel_model.specs.Levels.{Level}
 use Rattle.kernel_model.specs.GraftStep.{next_needs, lock_user}
-use Rattle.kernel_model.specs.Kernel.{Blocker}
 use Rattle.lock_table.specs.Masks.{held}
 use Rattle.kernel_state.specs.Stores.{Seeing, world_of_store, objects_of}
 use Rattle.call_pieces.specs.Works.{MayCome}
@@ -22,7 +21,6 @@ use Rattle.placed_laws.specs.Placed.{PlacedCall, PlacedLevel, Placed, bare, has_
 use Rattle.placed_laws.specs.Soundness.{SoundInPlace}
 use Rattle.kernel_steps.specs.declared.blocking.Hindrance.{Hindrance}
 use Rattle.kernel_steps.specs.declared.running.InFlight.{InFlight}
-use Rattle.kernel_steps.specs.declared.running.Flight.{Flight}
 use Rattle.kernel_steps.specs.declared.running.Running.{Running}
 use Rattle.kernel_steps.specs.Hindered.{hindrance_of, blocking_by}
 use Rattle.kernel_steps.specs.Views.{placed_of, flight_of, chain_of, call_in_place, IsRunning, Stood}
@@ -98,7 +96,7 @@ graft_hindered m view stage caller x p f r is some =
     let ls = levels_of view x.store x.locks (chain_of x p) p in
     let has : has_some (y.levels p) ≡ true = some_levels p x.store.ram (held x.locks) (chain_of x p).levels (chain_of x p).undo s.things some in
     let needs_are : placed_needs m y p ≡ next_needs v (table_of x.images) s.accounts (placed_levels y p) =
-      ap (placed_needs_in m y p) (ap (option_map (call_in_place stage)) is) ∙ graft_needs m y p (call_in_place stage f) (y.levels p) has in
+    ap (placed_needs_in m y p) (ap (option_map (call_in_place stage)) is) ∙ graft_needs m y p (call_in_place stage f) (y.levels p) has in
     ap (λ (table : LockTable). first_hindrance table users p (lock_user p ls) (next_needs v (table_of x.images) s.accounts ls)) (sym (holds_in_place view stage caller x r))
     ∙ ap (λ (ks : List Level). first_hindrance h users p (lock_user p ks) (next_needs v (table_of x.images) s.accounts ks)) (sym (levels_in_place view stage x p))
     ∙ ap (first_hindrance h users p (lock_user p (placed_levels y p))) (sym needs_are)

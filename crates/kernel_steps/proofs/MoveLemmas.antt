@@ -1,5 +1,5 @@
 -- A kernel in place in which one call's levels moved.
-use Rattle.std.proofs.Common.{◌≡◌, ◌≢◌, ℕ, suc, zero, ◌+◌, ◌*◌, ◌≤◌, ◌<◌, ◌==◌, Bool, true, false, cond, nat_lt, List, [], ◌∷◌, map, length, slice_index, refl, ap, sym, subst, ◌∙◌, arith, Option, Some, None, inl, inr}
+use Rattle.std.proofs.Common.{◌≡◌, ◌≢◌, ℕ, suc, zero, ◌+◌, ◌≤◌, ◌<◌, ◌==◌, Bool, true, false, cond, nat_lt, List, [], ◌∷◌, map, length, slice_index, refl, ap, sym, subst, ◌∙◌, arith, Option, inl, inr}
 use Rattle.std.specs.Prelude.{option_map, slice_set, slice_index_or}
 use Rattle.std.proofs.Math.Path.{fun_ext}
 use Rattle.std.proofs.lemmas.Bool.{eqb-true}
@@ -11,27 +11,25 @@ use Rattle.kernel_model.specs.Objects.{Objects, Things, at}
 use Rattle.kernel_model.specs.Sound.{ImagesAreLoaded}
 use Rattle.kernel_model.specs.Meaning.{Stage}
 use Rattle.kernel_model.specs.Locks.{LockTable, Touched}
-use Rattle.kernel_model.specs.Machine.{Machine}
-use Rattle.kernel_model.specs.Levels.{Level, Config, Outcome, base_of}
+use Rattle.kernel_model.specs.Levels.{Config, Outcome, base_of}
 use Rattle.kernel_model.specs.Kernel.{Entry}
-use Rattle.kernel_model.specs.Runs.{segment_of, on_segment}
+use Rattle.kernel_model.specs.Runs.{segment_of}
 use Rattle.kernel_model.specs.UndoLog.{undo_all}
 use Rattle.undo_calls.specs.UndoLevels.{innermost}
 use Rattle.lock_table.specs.Masks.{held}
-use Rattle.graft_machine.specs.Cpu.{by_place, machine_of}
-use Rattle.kernel_state.specs.Stores.{Seeing, world_of_store, objects_of}
+use Rattle.graft_machine.specs.Cpu.{by_place}
+use Rattle.kernel_state.specs.Stores.{Seeing, objects_of}
 use Rattle.graft_loader.specs.Slots.{table_of}
 use Rattle.graft_calls.specs.declared.GraftLevel.{GraftLevel}
 use Rattle.graft_calls.specs.declared.Chain.{Chain}
 use Rattle.kernel_model.specs.declared.Micro.{Micro}
-use Rattle.graft_calls.specs.Chains.{came, levels_in, level_in, outer, levels_of, call_of}
+use Rattle.graft_calls.specs.Chains.{came, levels_in, outer, levels_of, call_of}
 use Rattle.graft_calls.specs.Calls.{IsBeyond, IsPlaced, AreInside, IsInPlace, IsElsewhereSame}
-use Rattle.placed_laws.specs.Placed.{PlacedCall, PlacedLevel, Placed, bare, placed_config}
-use Rattle.kernel_steps.specs.declared.running.InFlight.{InFlight}
+use Rattle.placed_laws.specs.Placed.{PlacedCall, PlacedLevel, bare, placed_config}
 use Rattle.kernel_steps.specs.declared.running.Flight.{Flight}
 use Rattle.kernel_steps.specs.declared.running.Running.{Running}
 use Rattle.kernel_steps.specs.Orders.{order_of}
-use Rattle.kernel_steps.specs.Views.{placed_of, flight_of, no_flight, chain_of, call_at, levels_at, call_in_place, IsRunning}
+use Rattle.kernel_steps.specs.Views.{placed_of, flight_of, no_flight, chain_of, levels_at, call_in_place, IsRunning}
 use Rattle.kernel_steps.specs.Moves.{come_to, Moved}
 use Rattle.kernel_steps.proofs.ViewLemmas.{config_in_place}
 
@@ -79,9 +77,9 @@ others_same p q s u t r [] log w z other few holds memory = refl
 others_same p q s u t r (g ∷ gs) log w z other few holds memory =
     ap (λ (touched : Touched). bare_in touched (segment_of (base_of q (length gs)) (by_place u)) g (innermost log) ∷ map bare (levels_in q u r gs (outer log) (undo_all (innermost log) z))) (holds (length gs))
     ∙ ap (λ (memory : ℕ → ℕ). bare_in (t q (length gs)) memory g (innermost log) ∷ map bare (levels_in q u r gs (outer log) (undo_all (innermost log) z)))
-      (segment_same p q (length gs) s u other (omega (arith, few)) memory)
+    (segment_same p q (length gs) s u other (omega (arith, few)) memory)
     ∙ ap (λ (ls : List PlacedLevel). bare_in (t q (length gs)) (segment_of (base_of q (length gs)) (by_place s)) g (innermost log) ∷ ls)
-      (others_same p q s u t r gs (outer log) (undo_all (innermost log) w) (undo_all (innermost log) z) other (omega (arith, few)) holds memory)
+    (others_same p q s u t r gs (outer log) (undo_all (innermost log) w) (undo_all (innermost log) z) other (omega (arith, few)) holds memory)
 
 -- ---- the whole
 
@@ -105,7 +103,7 @@ levels_moved view caller x y p c r moved is q false h =
     let other : q ≢ p = grind (arith, nat_tests, h) in
     ap (λ (chain : Chain). map bare (levels_of view y.store y.locks chain q)) (moved.chains q other)
     ∙ others_same p q x.store.ram y.store.ram (held x.locks) (held y.locks) (chain_of x q).levels (chain_of x q).undo (objects_of view x.store).things (objects_of view y.store).things
-      other (few_levels view caller x r q (nat_lt q 16) refl) (λ d. moved.elsewhere.others q d other) moved.elsewhere.memory
+    other (few_levels view caller x r q (nat_lt q 16) refl) (λ d. moved.elsewhere.others q d other) moved.elsewhere.memory
     ∙ sym (ap (λ b. cond b (map bare c.levels) (levels_at view x q)) h)
 
 -- the kernel in place after a move
@@ -119,9 +117,9 @@ placed_moved {W = W} view stage caller x y p c r moved is =
     ∙ ap (λ (s : Objects). record z { world = o.world; images = o.images; objects = s }) (ap (λ (f : Config). f.now) is)
     ∙ ap (λ (n : ℕ). record z { world = o.world; images = o.images; objects = c.now; clock = n }) moved.clock
     ∙ ap (λ (calls : ℕ → Option PlacedCall). record z { world = o.world; images = o.images; objects = c.now; clock = o.clock; call = calls })
-      (fun_ext (λ q. ap (option_map (call_in_place stage)) (moved.calls q)))
+    (fun_ext (λ q. ap (option_map (call_in_place stage)) (moved.calls q)))
     ∙ ap (λ (levels : ℕ → List PlacedLevel). record z { world = o.world; images = o.images; objects = c.now; clock = o.clock; call = o.call; levels = levels })
-      (fun_ext (λ q. levels_moved view caller x y p c r moved is q (q == p) refl))
+    (fun_ext (λ q. levels_moved view caller x y p c r moved is q (q == p) refl))
     ∙ ap (λ (es : List Entry). record z { world = o.world; images = o.images; objects = c.now; clock = o.clock; call = o.call; levels = at p (map bare c.levels) o.levels; order = es }) (ap order_of moved.order)
 
 -- ---- a list of flights in which one chain changed
@@ -158,7 +156,7 @@ pub moved_by : {C M W X : Type 0} {F : X → Type 0} (view : Seeing X F) (x y : 
 moved_by {W = W} view x y p fl ch n small fl_is is elsewhere placed inside loaded images clock order =
     let within : p < length x.calls.items = omega (arith, n, small) in
     let whole : y.calls.items ≡ slice_set x.calls.items p (record (flight_of x.calls.items p) { chain = ch }) =
-      is ∙ ap (λ (f : Flight W). slice_set x.calls.items p (record { call = f.call; chain = ch })) fl_is in
+    is ∙ ap (λ (f : Flight W). slice_set x.calls.items p (record { call = f.call; chain = ch })) fl_is in
     let own : chain_of y p ≡ ch = chain_by x y p fl ch n small fl_is is in
     record {
       elsewhere = elsewhere;

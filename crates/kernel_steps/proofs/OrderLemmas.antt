@@ -1,11 +1,11 @@
 -- The order of waiting as lists of entries.
-use Rattle.std.proofs.Common.{◌≡◌, ℕ, suc, zero, ◌+◌, ◌≤◌, ◌<◌, ◌-◌, ◌==◌, Bool, true, false, not, cond, List, [], ◌∷◌, ◌++◌, map, filter, take, drop, length, refl, ap, sym, append_assoc, ◌∙◌, arith, Option, Some, None}
-use Rattle.std.specs.Prelude.{nat_le, nat_lt, min, ◌^◌, ◌&&◌, ◌||◌, option_map}
-use Rattle.std.specs.List.{list_all, list_any}
+use Rattle.std.proofs.Common.{◌≡◌, ℕ, suc, ◌+◌, ◌≤◌, ◌<◌, ◌-◌, ◌==◌, true, not, List, [], ◌∷◌, ◌++◌, map, filter, refl, ap, append_assoc, ◌∙◌, arith}
+use Rattle.std.specs.Prelude.{nat_le, nat_lt, ◌^◌, ◌||◌}
+use Rattle.std.specs.List.{list_any}
 use Rattle.kernel_model.specs.Kernel.{Entry, less_entry}
 use Rattle.kernel_model.specs.Events.{counted, in_order}
 use Rattle.kernel_steps.specs.declared.order.Waiting.{Waiting}
-use Rattle.kernel_steps.specs.Orders.{entry_of, order_of, counts_within, are_processes, joined, later, blocker_of}
+use Rattle.kernel_steps.specs.Orders.{entry_of, order_of, counts_within, are_processes, joined, later}
 use Rattle.std.proofs.lemmas.Bool.Decides.{nat_tests}
 
 -- who is in the order
@@ -63,6 +63,7 @@ processes_joined p ws w new w_is new_is small h = ap are_processes new_is ∙ go
   where
     own : nat_lt w.process 16 ≡ true
     own = ap (λ (u : Waiting). nat_lt u.process 16) w_is ∙ grind (arith, nat_tests, small)
+
     go : (vs : List Waiting) → are_processes vs ≡ true → are_processes (vs ++ w ∷ []) ≡ true
     go [] k = grind (arith, own)
     go (v ∷ vs) k = grind (arith, own, go vs)
@@ -93,6 +94,7 @@ counts_rested n done d rest w new d_is less h k = ap (counts_within n) d_is ∙ 
   where
     head_within : (n : ℕ) (w : Waiting) (rest : List Waiting) → counts_within n (w ∷ rest) ≡ true → nat_le w.count n ≡ true
     head_within n w rest k = grind (arith, k)
+
     within : (n : ℕ) (w new : Waiting) → new.count ≤ w.count → nat_le w.count n ≡ true → nat_le new.count n ≡ true
     within n w new less k = grind (arith, nat_tests, less, k)
 
@@ -107,6 +109,7 @@ processes_rested done d rest w new d_is same h k = ap are_processes d_is ∙ go 
   where
     own : nat_lt new.process 16 ≡ true
     own = ap (λ p. nat_lt p 16) same ∙ grind (arith, k)
+
     go : (vs : List Waiting) → are_processes vs ≡ true → are_processes (vs ++ new ∷ []) ≡ true
     go [] j = grind (arith, own)
     go (v ∷ vs) j = grind (arith, own, go vs)

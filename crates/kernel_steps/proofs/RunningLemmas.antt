@@ -1,6 +1,6 @@
 -- What becomes of a running kernel where a call begins or ends, and with a tick.
-use Rattle.std.proofs.Common.{◌≡◌, ℕ, suc, zero, ◌+◌, ◌≤◌, ◌<◌, ◌-◌, ◌==◌, Bool, true, false, not, cond, List, [], ◌∷◌, ◌++◌, map, filter, length, refl, ap, sym, subst, ◌∙◌, arith, Option, Some, None, append-nil}
-use Rattle.std.specs.Prelude.{slice_index_or, slice_set, option_map, ◌^◌}
+use Rattle.std.proofs.Common.{◌≡◌, ℕ, suc, ◌<◌, ◌-◌, ◌==◌, Bool, true, not, cond, List, [], ◌∷◌, ◌++◌, map, filter, length, ap, sym, ◌∙◌, arith, Option, Some, None, append-nil}
+use Rattle.std.specs.Prelude.{option_map, ◌^◌}
 use Rattle.std.proofs.Math.Path.{fun_ext}
 use Rattle.std.proofs.lemmas.Bool.Decides.{nat_tests}
 use Rattle.kernel_model.specs.declared.Note.{Note}
@@ -10,18 +10,18 @@ use Rattle.kernel_model.specs.Objects.{at}
 use Rattle.kernel_model.specs.Meaning.{Stage}
 use Rattle.kernel_model.specs.Kernel.{Entry, new_entry, less_entry}
 use Rattle.kernel_model.specs.Events.{counted}
-use Rattle.kernel_state.specs.Stores.{Seeing, objects_of}
+use Rattle.kernel_state.specs.Stores.{Seeing}
 use Rattle.graft_calls.specs.declared.Chain.{Chain}
 use Rattle.graft_calls.specs.Chains.{levels_of}
-use Rattle.placed_laws.specs.Placed.{PlacedCall, PlacedLevel, PlacedRun, Placed, bare}
+use Rattle.placed_laws.specs.Placed.{Placed, bare}
 use Rattle.placed_laws.specs.PlacedSteps.{is_placed_at_piece, placed_joins, placed_noted, placed_requeue, placed_ticked, with_placed_call}
 use Rattle.kernel_steps.specs.declared.order.Waiting.{Waiting}
 use Rattle.kernel_steps.specs.declared.running.InFlight.{InFlight}
 use Rattle.kernel_steps.specs.declared.running.Flight.{Flight}
 use Rattle.kernel_steps.specs.declared.running.Running.{Running}
 use Rattle.kernel_steps.specs.Orders.{entry_of, order_of, counts_within, joined, later}
-use Rattle.kernel_steps.specs.Views.{placed_of, flight_of, chain_of, call_in_place, run_of, IsRunning}
-use Rattle.kernel_steps.proofs.OrderLemmas.{order_joined, less_entries, counted_is, counts_rise}
+use Rattle.kernel_steps.specs.Views.{placed_of, flight_of, call_in_place, run_of}
+use Rattle.kernel_steps.proofs.OrderLemmas.{order_joined, less_entries, counted_is}
 use Rattle.kernel_steps.proofs.CallLemmas.{with_call, calls_changed, chain_of_changed}
 
 -- the kernel in place with these calls and this order
@@ -40,7 +40,7 @@ flying_changed : {C M W X : Type 0} {F : X → Type 0} (view : Seeing X F) (stag
 flying_changed view stage x p v es h =
     ap (λ call. record (placed_of view stage x) { call = call; order = es }) (sym (calls_changed stage x.calls.items p v h))
     ∙ ap (λ levels. record (placed_of view stage x) { call = λ q. option_map (call_in_place stage) (flight_of (with_call x.calls.items p v) q).call; levels = levels; order = es })
-      (fun_ext (λ q. ap (λ (chain : Chain). map bare (levels_of view x.store x.locks chain q)) (sym (chain_of_changed x.calls.items p v h q))))
+    (fun_ext (λ q. ap (λ (chain : Chain). map bare (levels_of view x.store x.locks chain q)) (sym (chain_of_changed x.calls.items p v h q))))
 
 -- a call began
 pub call_begun : {C M W X : Type 0} {F : X → Type 0} (view : Seeing X F) (stage : W → Stage) (x : Running C M W X F) (p : ℕ) (f : InFlight W) (fs : List (Flight W)) (w : Waiting) (ws : List Waiting) →
@@ -66,8 +66,8 @@ call_ended view stage x p n fs ws notes notes_new h fs_is ws_is notes_is blocks 
     let y = placed_of view stage x in
     let es : List Entry = less_entry p y.order ++ cond (is_placed_at_piece (at p None y.call p) (y.levels p)) (new_entry p ∷ []) [] in
     let es_is : es ≡ order_of ws =
-      ap (λ b. less_entry p y.order ++ cond (is_placed_at_piece (cond b None (y.call p)) (y.levels p)) (new_entry p ∷ []) []) (self p)
-      ∙ append-nil (less_entry p y.order) ∙ sym (less_entries p x.order) ∙ ap order_of (sym ws_is) in
+    ap (λ b. less_entry p y.order ++ cond (is_placed_at_piece (cond b None (y.call p)) (y.levels p)) (new_entry p ∷ []) []) (self p)
+    ∙ append-nil (less_entry p y.order) ∙ sym (less_entries p x.order) ∙ ap order_of (sym ws_is) in
     ap (λ z. run_of z blocks (notes ++ n ∷ []) io)
     (flying_changed view stage x p None es h ∙ ap (λ gs. flying view stage x gs es) (sym fs_is) ∙ ap (flying view stage x fs) es_is)
     ∙ ap (λ ns. run_of (flying view stage x fs (order_of ws)) blocks ns io) (sym notes_is)

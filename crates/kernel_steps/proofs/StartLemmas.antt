@@ -1,9 +1,7 @@
 -- A kernel in which no call is in flight.
-use Rattle.std.proofs.Common.{◌≡◌, ℕ, ◌≤◌, ◌<◌, true, false, List, [], length, refl, ap, sym, ◌∙◌, arith, Some, None, subst}
-use Rattle.std.specs.Prelude.{replicate, slice_index_or}
+use Rattle.std.proofs.Common.{◌≡◌, ℕ, List, [], refl, ap, sym, arith, subst}
+use Rattle.std.specs.Prelude.{replicate}
 use Rattle.std.proofs.lemmas.Grind.{common_steps}
-use Rattle.kernel_model.specs.declared.Object.{Object}
-use Rattle.kernel_model.specs.declared.Held.{Held}
 use Rattle.kernel_model.specs.Sound.{ImagesAreLoaded}
 use Rattle.kernel_model.specs.Locks.{no_locks}
 use Rattle.lock_table.specs.Masks.{held}
@@ -11,7 +9,6 @@ use Rattle.kernel_state.specs.Stores.{Seeing, objects_of, IsStore}
 use Rattle.graft_calls.specs.declared.Chain.{Chain}
 use Rattle.graft_loader.specs.Slots.{table_of}
 use Rattle.graft_calls.specs.Calls.{IsPlaced, AreInside}
-use Rattle.kernel_steps.specs.declared.running.InFlight.{InFlight}
 use Rattle.kernel_steps.specs.declared.running.Flight.{Flight}
 use Rattle.kernel_steps.specs.declared.running.Running.{Running}
 use Rattle.kernel_steps.specs.Views.{flight_of, no_flight, chain_of, IsRunning}
@@ -30,7 +27,7 @@ just_begun {W = W} view caller x sound calls free order loaded =
       sixteen = grind (arith, common_steps, calls);
       callers = λ p f is. grind (arith, is, none_of_sixteen x.calls.items 16 p calls);
       placed = λ p h. subst (λ (chain : Chain). IsPlaced view x.store x.locks p chain.levels chain.undo) (sym (none p))
-        (record { store = sound; process = h; few = omega arith; as_many = refl; unheld = λ d o le. ap (λ t. t p d o) free; levels = tt; undoable = tt });
+          (record { store = sound; process = h; few = omega arith; as_many = refl; unheld = λ d o le. ap (λ t. t p d o) free; levels = tt; undoable = tt });
       inside = λ p h. subst (λ (chain : Chain). AreInside (table_of x.images) (objects_of view x.store).accounts p chain.levels) (sym (none p)) tt;
       counts = ap (counts_within x.clock) order;
       order = ap are_processes order;

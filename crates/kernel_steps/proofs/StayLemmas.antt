@@ -1,11 +1,8 @@
 -- A running kernel in which one call's levels moved is one again, where what the others hold exclusively stays.
-use Rattle.std.proofs.Common.{◌≡◌, ◌≢◌, ℕ, suc, zero, ◌+◌, ◌*◌, ◌≤◌, ◌<◌, ◌==◌, Bool, true, false, nat_lt, List, [], ◌∷◌, map, length, refl, ap, sym, subst, ◌∙◌, arith, Option, Some, None}
-use Rattle.std.specs.Prelude.{Contains, is_some, slice_index_or}
-use Rattle.kernel_model.specs.declared.Held.{Held}
+use Rattle.std.proofs.Common.{◌≡◌, ℕ, suc, ◌+◌, ◌*◌, ◌≤◌, List, [], ◌∷◌, length, refl, ap, sym, subst, ◌∙◌, arith, Option}
+use Rattle.std.specs.Prelude.{Contains, is_some}
 use Rattle.kernel_model.specs.declared.Inverse.{Inverse}
 use Rattle.kernel_model.specs.declared.Inverse.TheVariants.{Cell, Nice, Window, Mark, Tune}
-use Rattle.kernel_model.specs.declared.Object.{Object}
-use Rattle.kernel_model.specs.declared.Object.TheVariants.{Graft}
 use Rattle.kernel_model.specs.declared.QueueRow.{QueueRow}
 use Rattle.kernel_model.specs.World.{ImageTable}
 use Rattle.kernel_model.specs.Objects.{Objects, Accounts, GraftValue, CacheValue, PolValue, Things, SameAt}
@@ -13,14 +10,14 @@ use Rattle.kernel_model.specs.Policies.{lives}
 use Rattle.kernel_model.specs.Access.{changed_by, in_range, param_top}
 use Rattle.kernel_model.specs.Boxed.{IsInside}
 use Rattle.kernel_model.specs.Locks.{LockTable}
-use Rattle.kernel_model.specs.Levels.{Level, base_of, code_in, image_of, limit_in}
+use Rattle.kernel_model.specs.Levels.{Level, code_in, image_of, limit_in}
 use Rattle.kernel_model.specs.UndoLog.{undo_all}
 use Rattle.undo_calls.specs.UndoLevels.{innermost}
 use Rattle.graft_machine.specs.Cpu.{machine_of}
 use Rattle.kernel_state.specs.Accesses.{CanBeUndone}
 use Rattle.graft_calls.specs.declared.GraftLevel.{GraftLevel}
 use Rattle.graft_calls.specs.Chains.{level_in, levels_in, outer}
-use Rattle.graft_calls.specs.Calls.{AreSound, AreInside, AreUndoable, AllUndoable, RunsInside, IsSoundLevel}
+use Rattle.graft_calls.specs.Calls.{AreSound, AreInside, AreUndoable, AllUndoable, RunsInside}
 
 -- ---- elements
 
@@ -53,9 +50,10 @@ pub all_still : (q : ℕ) (ram : List ℕ) (t : LockTable) (gs : List GraftLevel
     ((p : ℕ) → lives u.things.queue p ≡ lives s.things.queue p) → AllUndoable log s.things → AllUndoable log u.things
 all_still q ram t gs [] w s u n same live can = tt
 all_still q ram t [] (is ∷ log) w s u n same live can = absurd (omega (arith, n))
-all_still q ram t (g ∷ gs) (is ∷ log) w s u n same live can =
-    (are_still is s u (λ i has. same (level_in q (length gs) ram t g is (undo_all is w)) i (first (level_in q (length gs) ram t g is (undo_all is w)) (levels_in q ram t gs log (undo_all is w))) has) live can.0,
-     all_still q ram t gs log (undo_all is w) s u (omega (arith, n)) (λ l i has own. same l i (later (level_in q (length gs) ram t g is (undo_all is w)) l (levels_in q ram t gs log (undo_all is w)) has) own) live can.1)
+all_still q ram t (g ∷ gs) (is ∷ log) w s u n same live can = (
+  are_still is s u (λ i has. same (level_in q (length gs) ram t g is (undo_all is w)) i (first (level_in q (length gs) ram t g is (undo_all is w)) (levels_in q ram t gs log (undo_all is w))) has) live can.0,
+  all_still q ram t gs log (undo_all is w) s u (omega (arith, n)) (λ l i has own. same l i (later (level_in q (length gs) ram t g is (undo_all is w)) l (levels_in q ram t gs log (undo_all is w)) has) own) live can.1,
+)
 
 -- ---- grafts that stay
 
@@ -71,9 +69,10 @@ pub inside_still : (images : ImageTable) (a b : Accounts) (q : ℕ) (ram : List 
 inside_still images a b q ram t [] log w same h = tt
 inside_still images a b q ram t (g ∷ gs) log w same h =
     let l : Level = level_in q (length gs) ram t g (innermost log) (undo_all (innermost log) w) in
-    let ls = levels_in q ram t gs (outer log) (undo_all (innermost log) w) in
-    (runs_still images a b q (length gs) g (same l (first l ls)) h.0,
-     inside_still images a b q ram t gs (outer log) (undo_all (innermost log) w) (λ k has. same k (later l k ls has)) h.1)
+    let ls = levels_in q ram t gs (outer log) (undo_all (innermost log) w) in (
+      runs_still images a b q (length gs) g (same l (first l ls)) h.0,
+      inside_still images a b q ram t gs (outer log) (undo_all (innermost log) w) (λ k has. same k (later l k ls has)) h.1,
+    )
 
 -- levels stay sound where the same live
 pub sound_still : (queue rows : List QueueRow) (gs : List GraftLevel) → ((q : ℕ) → lives rows q ≡ lives queue q) → AreSound queue gs → AreSound rows gs

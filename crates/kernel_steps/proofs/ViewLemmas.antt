@@ -1,5 +1,5 @@
 -- The levels of a chain in place are those of the kernel in place, and so are the holds of the lock table.
-use Rattle.std.proofs.Common.{◌≡◌, ℕ, suc, zero, ◌+◌, ◌≤◌, ◌<◌, ◌==◌, Bool, true, false, not, cond, List, [], ◌∷◌, ◌++◌, map, length, refl, ap, sym, ◌∙◌, arith, Option, Some, None}
+use Rattle.std.proofs.Common.{◌≡◌, ℕ, suc, ◌≤◌, ◌<◌, Bool, true, false, cond, List, [], ◌∷◌, map, length, refl, ap, sym, ◌∙◌, arith}
 use Rattle.std.specs.Prelude.{nat_lt, slice_index_or, ◌&&◌}
 use Rattle.std.proofs.Math.Path.{fun_ext}
 use Rattle.std.proofs.lemmas.List.FromFn.{get_or-map-range_with_len}
@@ -10,7 +10,7 @@ use Rattle.kernel_model.specs.declared.Object.{Object}
 use Rattle.kernel_model.specs.Objects.{Things}
 use Rattle.kernel_model.specs.World.{processes}
 use Rattle.kernel_model.specs.Locks.{LockTable, untouched}
-use Rattle.kernel_model.specs.Levels.{Level, level_at, touched_in, touched_at}
+use Rattle.kernel_model.specs.Levels.{Level, touched_at}
 use Rattle.kernel_model.specs.Blocking.{locks_from}
 use Rattle.kernel_model.specs.UndoLog.{undo_all}
 use Rattle.undo_calls.specs.UndoLevels.{innermost}
@@ -24,7 +24,7 @@ use Rattle.kernel_model.specs.Meaning.{Stage}
 use Rattle.kernel_steps.specs.declared.running.Running.{Running}
 use Rattle.kernel_steps.specs.Views.{placed_of, chain_of, IsRunning}
 use Rattle.std.proofs.lemmas.Bool.Decides.{nat_tests}
-use Rattle.placed_laws.specs.Placed.{bare, levels_with, level_with, placed_config, placed_levels, placed_holds}
+use Rattle.placed_laws.specs.Placed.{bare, levels_with, placed_config, placed_levels, placed_holds}
 
 -- levels without what they found have found it again
 pub levels_again : (p : ℕ) (ram : List ℕ) (t : LockTable) (gs : List GraftLevel) (log : List (List Inverse)) (w : Things) →
@@ -97,5 +97,5 @@ pub holds_in_place : {C M W X : Type 0} {F : X → Type 0} (view : Seeing X F) (
 holds_in_place view stage caller x r = fun_ext (λ p. fun_ext (λ d.
     holds_at (held x.locks) (placed_levels (placed_of view stage x)) p d
     (λ small. ap (λ ls. touched_at ls d) (levels_in_place view stage x p)
-      ∙ chain_holds p d x.store.ram (held x.locks) (chain_of x p).levels (chain_of x p).undo (objects_of view x.store).things (r.placed p small).unheld (nat_lt d (length (chain_of x p).levels)) refl)
+    ∙ chain_holds p d x.store.ram (held x.locks) (chain_of x p).levels (chain_of x p).undo (objects_of view x.store).things (r.placed p small).unheld (nat_lt d (length (chain_of x p).levels)) refl)
     (λ large. none_held x.locks p d large) (nat_lt p 16) refl))

@@ -1,5 +1,5 @@
 -- What a move of one call's levels makes of a running kernel: a level begins, an instruction, or the drop of a level.
-use Rattle.std.specs.Prelude.{◌≡◌, ◌≢◌, ℕ, List, map, length}
+use Rattle.std.specs.Prelude.{◌≡◌, ◌≢◌, ℕ, map, length}
 use Rattle.kernel_model.specs.declared.Held.{Held}
 use Rattle.kernel_model.specs.declared.Object.{Object}
 use Rattle.lock_table.specs.Masks.{held}

@@ -1,5 +1,5 @@
 -- The order of waiting as the code keeps it.
-use Rattle.std.specs.Prelude.{◌≡◌, ℕ, suc, ◌==◌, Bool, true, List, [], ◌∷◌, Option, Some, None, map, option_map, nat_le, nat_lt, slice_index_or, ◌+◌, ◌-◌, ◌^◌, min}
+use Rattle.std.specs.Prelude.{ℕ, Bool, List, None, map, option_map, nat_le, nat_lt, slice_index_or, ◌+◌, ◌-◌, ◌^◌, min}
 use Rattle.std.specs.List.{list_all}
 use Rattle.kernel_model.specs.Kernel.{Blocker, Entry}
 use Rattle.kernel_steps.specs.declared.order.Blocking.{Blocking}

@@ -60,7 +60,13 @@ fn other_user(store: &Store, q: u8, object: Object) -> Option<Hindrance>
 }
 
 /// What hinders one need of process p; user locks of q don't.
-fn hindrance_by_need(locks: &LockTable, store: &Store, p: u8, q: u8, need: Need) -> Option<Hindrance>
+fn hindrance_by_need(
+    locks: &LockTable,
+    store: &Store,
+    p: u8,
+    q: u8,
+    need: Need,
+) -> Option<Hindrance>
     requires range { IsInRange need.object }
     ensures { option_map hindrance_of result ≡ hindrance_by (objects_of (λ b. seen (b.vtable, b.value)) store.now).things.lock q need (lowest_holder (held locks.now) p need.object need.mode) }
 {
@@ -77,7 +83,13 @@ fn hindrance_by_need(locks: &LockTable, store: &Store, p: u8, q: u8, need: Need)
 
 /// The first hindrance of a step of process p over its needs in order; user locks of q don't hinder it. Looks at one pair of masks
 /// of each process for each need.
-pub(crate) fn first_hindrance(locks: &LockTable, store: &Store, p: u8, q: u8, needs: &[Need]) -> Option<Hindrance>
+pub(crate) fn first_hindrance(
+    locks: &LockTable,
+    store: &Store,
+    p: u8,
+    q: u8,
+    needs: &[Need],
+) -> Option<Hindrance>
     requires range { All (λ (n : Needed). IsInRange n.object) needs.now }
     ensures { option_map hindrance_of result ≡ first_of (held locks.now) (objects_of (λ b. seen (b.vtable, b.value)) store.now).things.lock p q needs.now }
 {
@@ -91,7 +103,12 @@ pub(crate) fn first_hindrance(locks: &LockTable, store: &Store, p: u8, q: u8, ne
 }
 
 /// What hinders the next piece of a call of process p.
-fn piece_hindrance<C: Calls>(locks: &LockTable, store: &Store, p: u8, work: &C::Work) -> Option<Hindrance>
+fn piece_hindrance<C: Calls>(
+    locks: &LockTable,
+    store: &Store,
+    p: u8,
+    work: &C::Work,
+) -> Option<Hindrance>
     requires sound { IsStore (λ b. seen (b.vtable, b.value)) store.now }
     requires ready { MayCome C.Meaning.meaning (world_of_store store.now) (objects_of (λ b. seen (b.vtable, b.value)) store.now) (C.caller work.now) (C.stage work.now) }
     requires range { (n : Needed) → Contains (C.Meaning.meaning.need (world_of_store store.now) (objects_of (λ b. seen (b.vtable, b.value)) store.now) (C.caller work.now) (C.stage work.now)) n → IsInRange n.object }
@@ -103,7 +120,13 @@ fn piece_hindrance<C: Calls>(locks: &LockTable, store: &Store, p: u8, work: &C::
 }
 
 /// What hinders the next instruction of a graft call of process p.
-fn graft_hindrance(locks: &LockTable, store: &Store, images: &Images, p: u8, chain: &Chain) -> Option<Hindrance>
+fn graft_hindrance(
+    locks: &LockTable,
+    store: &Store,
+    images: &Images,
+    p: u8,
+    chain: &Chain,
+) -> Option<Hindrance>
     requires { AreSound (queue_of store.now) chain.now.levels }
     ensures { (ram : List ℕ) (t : Table) (log : List (List Undoing)) (w : Things) → let ls = levels_in p ram t chain.now.levels log w in
         option_map hindrance_of result ≡ first_of (held locks.now) (objects_of (λ b. seen (b.vtable, b.value)) store.now).things.lock p (lock_user p ls) (next_needs (world_of_store store.now) (table_of images.now) (objects_of (λ b. seen (b.vtable, b.value)) store.now).accounts ls) }

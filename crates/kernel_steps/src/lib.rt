@@ -8,6 +8,8 @@ mod moves;
 mod notes;
 mod order;
 mod running;
+#[cfg(test)]
+mod tests;
 mod waits;
 
 pub use blocking::Hindrance;

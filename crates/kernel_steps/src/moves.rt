@@ -29,7 +29,9 @@ impl<C: Calls> Running<C> {
         ensures moved { Moved (λ b. seen (b.vtable, b.value)) self.old self.new p }
     {
         let flight = &mut self.calls[p as usize];
-        flight.chain.drop_level(p, &mut self.store, &mut self.locks, d, cause)
+        flight
+            .chain
+            .drop_level(p, &mut self.store, &mut self.locks, d, cause)
     }
 
     /// One instruction of the innermost level of process p's call, whatever another call holds.
@@ -43,7 +45,9 @@ impl<C: Calls> Running<C> {
         ensures moved { Moved (λ b. seen (b.vtable, b.value)) self.old self.new p }
     {
         let flight = &mut self.calls[p as usize];
-        flight.chain.instruction(p, &mut self.store, &mut self.locks, &self.images)
+        flight
+            .chain
+            .instruction(p, &mut self.store, &mut self.locks, &self.images)
     }
 
     /// The call of process p enters a graft, where its piece asks a point at which one stands: level 0 holds what the piece needs.

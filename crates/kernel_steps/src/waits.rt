@@ -43,7 +43,9 @@ fn is_same_blocker(a: Option<Blocking>, b: Option<Blocking>) -> bool
 {
     match (a, b) {
         (Some(a), Some(b)) => {
-            is_same_object(a.object, b.object) && a.holder == b.holder && is_same_call(a.call, b.call)
+            is_same_object(a.object, b.object)
+                && a.holder == b.holder
+                && is_same_call(a.call, b.call)
         }
         (None, None) => true,
         _ => false,
@@ -51,7 +53,7 @@ fn is_same_blocker(a: Option<Blocking>, b: Option<Blocking>) -> bool
 }
 
 /// An entry with its blocker: it stays as it is where the blocker is the kept one, and else counts from 0.
-fn with_blocker(waiting: Waiting, blocker: Option<Blocking>) -> Waiting
+pub(crate) fn with_blocker(waiting: Waiting, blocker: Option<Blocking>) -> Waiting
     ensures value { entry_of result ≡ entry_with (entry_of waiting) (option_map blocker_of blocker) }
     ensures process { result.process ≡ waiting.process }
     ensures count { result.count ≤ waiting.count }
@@ -94,7 +96,7 @@ fn is_over(patience: &[u32; 8], waiting: Waiting) -> bool
 }
 
 /// The first entry whose count has reached the patience.
-fn first_over(patience: &[u32; 8], entries: &[Waiting]) -> Option<Waiting>
+pub(crate) fn first_over(patience: &[u32; 8], entries: &[Waiting]) -> Option<Waiting>
     ensures { (v : World) → v.patience ≡ patience_of patience.now → option_map entry_of result ≡ expired_by v (order_of entries.now) }
 {
     let Some((first, rest)) = entries.split_first() else {

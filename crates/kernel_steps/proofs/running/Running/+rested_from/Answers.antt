@@ -1,6 +1,4 @@
-use Rattle.std.proofs.Common.{rules, ◌≡◌, ◌∷◌, ◌∙◌, ap, sym, arith, Bool, true, false, List}
-use Rattle.std.proofs.lemmas.Bool.Decides.{nat_tests}
-use Rattle.kernel_steps.specs.declared.order.Waiting.{Waiting}
+use Rattle.std.proofs.Common.{rules, ◌≡◌, ◌∷◌, ◌∙◌, ap, sym, true}
 use Rattle.kernel_steps.specs.Orders.{counts_within, are_processes}
 use Rattle.kernel_steps.proofs.OrderLemmas.{counts_rested, counts_tail, processes_rested}
 use Rattle.kernel_steps.proofs.running.Running.+rested_from.Goals as goal

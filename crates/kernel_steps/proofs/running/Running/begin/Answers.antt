@@ -1,12 +1,11 @@
-use Rattle.std.proofs.Common.{◌≡◌, ap, sym, subst, ◌∙◌, arith, refl, Some, None, length, List}
+use Rattle.std.proofs.Common.{sym, subst, ◌∙◌, arith, Some}
 use Rattle.graft_calls.specs.declared.Chain.{Chain}
 use Rattle.graft_loader.specs.Slots.{table_of}
 use Rattle.graft_calls.specs.Calls.{IsPlaced, AreInside}
 use Rattle.kernel_state.specs.Stores.{objects_of}
-use Rattle.kernel_steps.specs.Orders.{counts_within}
 use Rattle.kernel_steps.specs.declared.running.InFlight.{InFlight}
 use Rattle.kernel_steps.proofs.OrderLemmas.{processes_joined, counts_joined}
-use Rattle.kernel_steps.proofs.CallLemmas.{with_call, still_sixteen, chains_stay, callers_set}
+use Rattle.kernel_steps.proofs.CallLemmas.{still_sixteen, chains_stay, callers_set}
 use Rattle.kernel_steps.proofs.RunningLemmas.{call_begun, within_flights}
 use Rattle.kernel_steps.proofs.running.Running.begin.Goals as goal
 

@@ -1,11 +1,11 @@
-use Rattle.std.proofs.Common.{◌≡◌, ap, sym, subst, ◌∙◌, arith, refl, Some, None, length, List}
+use Rattle.std.proofs.Common.{ap, sym, subst, ◌∙◌, arith, None}
 use Rattle.graft_calls.specs.declared.Chain.{Chain}
 use Rattle.graft_loader.specs.Slots.{table_of}
 use Rattle.graft_calls.specs.Calls.{IsPlaced, AreInside}
 use Rattle.kernel_state.specs.Stores.{objects_of}
 use Rattle.kernel_steps.specs.Orders.{counts_within, are_processes}
 use Rattle.kernel_steps.proofs.OrderLemmas.{processes_less, counts_less}
-use Rattle.kernel_steps.proofs.CallLemmas.{with_call, still_sixteen, chains_stay, callers_set}
+use Rattle.kernel_steps.proofs.CallLemmas.{still_sixteen, chains_stay, callers_set}
 use Rattle.kernel_steps.proofs.RunningLemmas.{call_ended, within_flights}
 use Rattle.kernel_steps.proofs.running.Running.end.Goals as goal
 

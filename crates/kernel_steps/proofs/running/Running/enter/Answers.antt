@@ -1,16 +1,14 @@
-use Rattle.std.proofs.Common.{rules, ◌≡◌, ◌∙◌, ap, sym, subst, refl, ℕ, List}
+use Rattle.std.proofs.Common.{◌≡◌, ◌∙◌, ap, refl}
 use Rattle.std.specs.Vec.{with_item}
 use Rattle.kernel_model.specs.History.{begin_at}
 use Rattle.graft_calls.specs.declared.Chain.{Chain}
 use Rattle.graft_calls.specs.Chains.{call_of}
-use Rattle.kernel_state.specs.Stores.{world_of_store, objects_of}
+use Rattle.kernel_state.specs.Stores.{objects_of}
 use Rattle.graft_loader.specs.Slots.{table_of}
-use Rattle.graft_calls.specs.Calls.{AreInside}
-use Rattle.placed_laws.specs.Placed.{placed_config}
 use Rattle.kernel_steps.specs.declared.running.Flight.{Flight}
 use Rattle.kernel_steps.specs.declared.running.Running.{Running}
-use Rattle.kernel_steps.specs.Views.{placed_of, flight_of}
-use Rattle.kernel_steps.proofs.MoveLemmas.{fetched, in_place_of, moved_by, chain_by, placed_moved}
+use Rattle.kernel_steps.specs.Views.{flight_of}
+use Rattle.kernel_steps.proofs.MoveLemmas.{fetched, moved_by, chain_by, placed_moved}
 use Rattle.kernel_steps.proofs.running.Running.enter.Goals as goal
 
 pub returns-clause-config : goal.returns-clause-config

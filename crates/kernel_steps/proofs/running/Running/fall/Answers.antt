@@ -1,6 +1,5 @@
-use Rattle.std.proofs.Common.{rules, ◌≡◌, ◌∙◌, ap, sym, subst, refl, ℕ, List}
+use Rattle.std.proofs.Common.{◌≡◌, sym, subst, refl}
 use Rattle.std.specs.Vec.{with_item}
-use Rattle.kernel_model.specs.GraftStep.{micro}
 use Rattle.kernel_model.specs.Levels.{Config, Outcome, drop_level}
 use Rattle.kernel_state.specs.Stores.{world_of_store, objects_of}
 use Rattle.graft_loader.specs.Slots.{table_of}
@@ -9,7 +8,7 @@ use Rattle.placed_laws.specs.Placed.{placed_config}
 use Rattle.kernel_steps.specs.declared.running.Flight.{Flight}
 use Rattle.kernel_steps.specs.declared.running.Running.{Running}
 use Rattle.kernel_steps.specs.Views.{placed_of, flight_of}
-use Rattle.kernel_steps.proofs.MoveLemmas.{fetched, in_place_of, moved_by, chain_by, came_by, said_by, config_by}
+use Rattle.kernel_steps.proofs.MoveLemmas.{fetched, moved_by, chain_by, came_by, said_by, config_by}
 use Rattle.kernel_steps.proofs.running.Running.fall.Goals as goal
 
 pub returns-clause-said : goal.returns-clause-said

@@ -1,7 +1,6 @@
-use Rattle.std.proofs.Common.{◌≡◌, ◌<◌, ℕ, List, Some, length, arith, refl, ap, sym, ◌∙◌}
+use Rattle.std.proofs.Common.{◌≡◌, ◌<◌, length, arith, ap, sym, ◌∙◌}
 use Rattle.std.proofs.lemmas.Bool.Decides.{nat_tests}
 use Rattle.kernel_model.specs.GraftStep.{next_needs, lock_user}
-use Rattle.kernel_model.specs.Laws.{IsStanding}
 use Rattle.kernel_model.specs.Locks.{first_hindrance}
 use Rattle.lock_table.specs.Masks.{held}
 use Rattle.graft_loader.specs.Slots.{table_of}
@@ -37,8 +36,8 @@ returns-then-count-eq0 g c =
     let fl : c.flight-flight.result.now ≡ flight_of x.calls.items c.args.p = c.flight-flight.ensures ∙ ap (λ fs. flight_of fs c.args.p) c.deref.ensures.value in
     c.piece_hindrance.ensures
     ∙ piece_hindered m (λ b. (goal.Policy-dyn g (b.vtable, b.value)).seen b.value) (λ w. g.C.Calls.stage w) (λ w. g.C.Calls.caller w) x c.args.p c.in-Some.call c.requires.running
-      (sym (ap (λ (f : Flight g.row.C-Work.Denot). f.call) fl) ∙ c.in-Some.is)
-      (sym (ap (λ (f : Flight g.row.C-Work.Denot). length f.chain.levels) fl) ∙ sym c.count.ensures.value ∙ c.if-count-eq0.true)
+    (sym (ap (λ (f : Flight g.row.C-Work.Denot). f.call) fl) ∙ c.in-Some.is)
+    (sym (ap (λ (f : Flight g.row.C-Work.Denot). length f.chain.levels) fl) ∙ sym c.count.ensures.value ∙ c.if-count-eq0.true)
 
 pub returns : goal.returns
 returns g c =
@@ -50,6 +49,6 @@ returns g c =
     let some : 0 < length (flight_of x.calls.items c.args.p).chain.levels = grind (arith, nat_tests, many, c.count.ensures.value, c.if-count-eq0.false) in
     c.graft_hindrance.ensures x.store.ram (held x.locks) c.flight-flight.result.now.chain.undo s.things
     ∙ ap (λ (f : Flight g.row.C-Work.Denot). let ls = levels_in c.args.p x.store.ram (held x.locks) f.chain.levels f.chain.undo s.things in
-        first_hindrance (held x.locks) s.things.lock c.args.p (lock_user c.args.p ls) (next_needs (world_of_store x.store) (table_of x.images) s.accounts ls)) fl
+    first_hindrance (held x.locks) s.things.lock c.args.p (lock_user c.args.p ls) (next_needs (world_of_store x.store) (table_of x.images) s.accounts ls)) fl
     ∙ graft_hindered m (λ b. (goal.Policy-dyn g (b.vtable, b.value)).seen b.value) (λ w. g.C.Calls.stage w) (λ w. g.C.Calls.caller w) x c.args.p c.in-Some.call c.requires.running
-      (sym (ap (λ (f : Flight g.row.C-Work.Denot). f.call) fl) ∙ c.in-Some.is) some
+    (sym (ap (λ (f : Flight g.row.C-Work.Denot). f.call) fl) ∙ c.in-Some.is) some

@@ -1,12 +1,10 @@
-use Rattle.std.proofs.Common.{rules, ◌≡◌, ◌∙◌, ap, sym, subst, refl, ℕ, List}
+use Rattle.std.proofs.Common.{◌≡◌, refl}
 use Rattle.std.specs.Vec.{with_item}
 use Rattle.kernel_model.specs.GraftStep.{micro}
-use Rattle.kernel_model.specs.Levels.{Config, Outcome, drop_level}
-use Rattle.kernel_state.specs.Stores.{world_of_store, objects_of}
+use Rattle.kernel_model.specs.Levels.{Config, Outcome}
+use Rattle.kernel_state.specs.Stores.{world_of_store}
 use Rattle.graft_loader.specs.Slots.{table_of}
-use Rattle.graft_calls.specs.Calls.{AreInside}
 use Rattle.placed_laws.specs.Placed.{placed_config}
-use Rattle.kernel_steps.specs.declared.running.Flight.{Flight}
 use Rattle.kernel_steps.specs.declared.running.Running.{Running}
 use Rattle.kernel_steps.specs.Views.{placed_of, flight_of}
 use Rattle.kernel_steps.proofs.MoveLemmas.{fetched, in_place_of, moved_by, chain_by, came_by, said_by, config_by}
@@ -51,5 +49,5 @@ instruction-requires g c =
     let r = c.requires.running in
     record {
       in_place = in_place_of (λ b. (goal.Policy-dyn g (b.vtable, b.value)).seen b.value) (λ w. g.C.Calls.caller w) x c.args.p c.index_mut-flight.result.now r c.requires.process
-        (fetched x.calls.items c.args.p c.index_mut-flight.result.now r.sixteen c.requires.process c.index_mut-flight.ensures.value);
+          (fetched x.calls.items c.args.p c.index_mut-flight.result.now r.sixteen c.requires.process c.index_mut-flight.ensures.value);
     }

@@ -1,4 +1,3 @@
-use Rattle.std.proofs.Common.{◌≡◌, ap, sym, subst, ◌∙◌, arith, refl, List}
 use Rattle.kernel_steps.proofs.StartLemmas.{just_begun}
 use Rattle.kernel_steps.proofs.running.Running.new.Goals as goal
 

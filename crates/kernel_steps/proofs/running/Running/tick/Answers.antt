@@ -1,6 +1,5 @@
-use Rattle.std.proofs.Common.{◌≡◌, ap, sym, subst, ◌∙◌, ◌+◌, arith, refl, List}
-use Rattle.std.specs.Prelude.{suc}
-use Rattle.kernel_steps.specs.Orders.{counts_within, are_processes}
+use Rattle.std.proofs.Common.{ap, ◌∙◌, ◌+◌, arith}
+use Rattle.kernel_steps.specs.Orders.{are_processes}
 use Rattle.kernel_steps.proofs.OrderLemmas.{processes_later, rises}
 use Rattle.kernel_steps.proofs.RunningLemmas.{ticked_on}
 use Rattle.kernel_steps.proofs.running.Running.tick.Goals as goal
