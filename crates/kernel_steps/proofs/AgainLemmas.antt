@@ -25,7 +25,7 @@ use Rattle.graft_calls.specs.Chains.{level_in, levels_in, outer, call_of}
 use Rattle.graft_calls.specs.Calls.{AreSound, IsPlaced, AreInside, AllUndoable}
 use Rattle.placed_laws.specs.Soundness.{SoundInPlace}
 use Rattle.kernel_steps.specs.declared.running.Running.{Running}
-use Rattle.kernel_steps.specs.Orders.{counts_within, are_processes}
+use Rattle.kernel_steps.specs.Orders.{counts_within, are_processes, are_once, numbers_of}
 use Rattle.kernel_steps.specs.Views.{placed_of, chain_of, IsRunning, Stood}
 use Rattle.kernel_steps.specs.Moves.{Moved, StaysInPlace, HeldStays}
 use Rattle.kernel_steps.proofs.ViewLemmas.{config_in_place}
@@ -152,5 +152,6 @@ runs_again view caller x y p r moved stay =
       inside = λ q small. inside_again view x y p q moved (λ other. stay q other small) (q == p) refl;
       counts = ap (λ n. counts_within n y.order) moved.clock ∙ ap (counts_within x.clock) moved.order ∙ r.counts;
       order = ap are_processes moved.order ∙ r.order;
+      once = ap (λ ws. are_once (numbers_of ws)) moved.order ∙ r.once;
       loaded = moved.loaded;
     }

@@ -7,3 +7,4 @@ pub mod HinderLemmas
 pub mod MoveLemmas
 pub mod StayLemmas
 pub mod AgainLemmas
+pub mod OnceLemmas

@@ -1,20 +1,23 @@
 -- What becomes of a running kernel where a call begins or ends, and with a tick.
-use Rattle.std.proofs.Common.{◌≡◌, ℕ, suc, ◌<◌, ◌-◌, ◌==◌, Bool, true, not, cond, List, [], ◌∷◌, ◌++◌, map, filter, length, ap, sym, ◌∙◌, arith, Option, Some, None, append-nil}
-use Rattle.std.specs.Prelude.{option_map, ◌^◌}
+use Rattle.std.proofs.Common.{◌≡◌, ℕ, suc, ◌<◌, ◌-◌, ◌==◌, Bool, true, not, cond, List, [], ◌∷◌, ◌++◌, map, filter, length, ap, sym, ◌∙◌, arith, Option, Some, None, append-nil, false, refl}
+use Rattle.std.specs.Prelude.{option_map, ◌^◌, is_some, ◌&&◌}
 use Rattle.std.proofs.Math.Path.{fun_ext}
 use Rattle.std.proofs.lemmas.Bool.Decides.{nat_tests}
 use Rattle.kernel_model.specs.declared.Note.{Note}
 use Rattle.kernel_model.specs.declared.Note.TheVariants.{Ticked}
 use Rattle.kernel_model.specs.World.{Blocks}
-use Rattle.kernel_model.specs.Objects.{at}
+use Rattle.kernel_model.specs.Objects.{at, Things}
 use Rattle.kernel_model.specs.Meaning.{Stage}
 use Rattle.kernel_model.specs.Kernel.{Entry, new_entry, less_entry}
 use Rattle.kernel_model.specs.Events.{counted}
 use Rattle.kernel_state.specs.Stores.{Seeing}
 use Rattle.graft_calls.specs.declared.Chain.{Chain}
-use Rattle.graft_calls.specs.Chains.{levels_of}
+use Rattle.graft_calls.specs.Chains.{levels_of, levels_in}
 use Rattle.placed_laws.specs.Placed.{Placed, bare}
 use Rattle.placed_laws.specs.PlacedSteps.{is_placed_at_piece, placed_joins, placed_noted, placed_requeue, placed_ticked, with_placed_call}
+use Rattle.kernel_model.specs.Locks.{LockTable}
+use Rattle.kernel_model.specs.declared.Inverse.{Inverse}
+use Rattle.graft_calls.specs.declared.GraftLevel.{GraftLevel}
 use Rattle.kernel_steps.specs.declared.order.Waiting.{Waiting}
 use Rattle.kernel_steps.specs.declared.running.InFlight.{InFlight}
 use Rattle.kernel_steps.specs.declared.running.Flight.{Flight}
@@ -85,3 +88,31 @@ ticked_on view stage x number clock ws notes notes_new clock_is within small ws_
 -- each process has a place
 pub within_flights : {W : Type 0} (fs : List (Flight W)) (p : ℕ) → length fs ≡ 16 → p < 16 → p < length fs
 within_flights fs p n h = omega (arith, n, h)
+
+-- ---- after a step
+
+-- whether the next step is a piece
+pub at_piece_is : {W : Type 0} (stage : W → Stage) (o : Option (InFlight W)) (p : ℕ) (ram : List ℕ) (t : LockTable) (gs : List GraftLevel) (log : List (List Inverse)) (w : Things) → (b : Bool) → (length gs == 0) ≡ b →
+    is_placed_at_piece (option_map (call_in_place stage) o) (map bare (levels_in p ram t gs log w)) ≡ (is_some o && b)
+at_piece_is stage None p ram t gs log w b h = refl
+at_piece_is stage (Some f) p ram t [] log w b h = h
+at_piece_is stage (Some f) p ram t (g ∷ gs) log w b h = grind (arith, nat_tests, h)
+
+-- the call takes its place
+pub requeued : {C M W X : Type 0} {F : X → Type 0} (view : Seeing X F) (stage : W → Stage) (x : Running C M W X F) (p : ℕ) (b : Bool) (ws : List Waiting) →
+    b ≡ is_placed_at_piece ((placed_of view stage x).call p) ((placed_of view stage x).levels p) → order_of ws ≡ less_entry p (order_of x.order) ++ cond b (new_entry p ∷ []) [] →
+    (notes : List Note) (blocks : Blocks) (io : List Bool) →
+    placed_requeue p (run_of (placed_of view stage x) blocks notes io) ≡ run_of (record (placed_of view stage x) { order = order_of ws }) blocks notes io
+requeued view stage x p b ws b_is ws_is notes blocks io =
+    ap (λ es. run_of (record (placed_of view stage x) { order = es }) blocks notes io)
+    (ap (λ c. less_entry p (order_of x.order) ++ cond c (new_entry p ∷ []) []) (sym b_is) ∙ sym ws_is)
+
+pub left_order : (p : ℕ) (ws new : List Waiting) (b : Bool) → b ≡ false → new ≡ filter (λ (w : Waiting). not (w.process == p)) ws → order_of new ≡ less_entry p (order_of ws) ++ cond b (new_entry p ∷ []) []
+left_order p ws new b b_is new_is =
+    ap order_of new_is ∙ less_entries p ws ∙ sym (append-nil (less_entry p (order_of ws))) ∙ ap (λ c. less_entry p (order_of ws) ++ cond c (new_entry p ∷ []) []) (sym b_is)
+
+pub joined_order : (p : ℕ) (ws left new : List Waiting) (w : Waiting) (b : Bool) → b ≡ true → left ≡ filter (λ (w : Waiting). not (w.process == p)) ws → w ≡ joined p → new ≡ left ++ w ∷ [] →
+    order_of new ≡ less_entry p (order_of ws) ++ cond b (new_entry p ∷ []) []
+joined_order p ws left new w b b_is left_is w_is new_is =
+    ap order_of new_is ∙ order_joined left w ∙ ap (λ (u : Waiting). order_of left ++ entry_of u ∷ []) w_is
+    ∙ ap (λ es. es ++ new_entry p ∷ []) (ap order_of left_is ∙ less_entries p ws) ∙ ap (λ c. less_entry p (order_of ws) ++ cond c (new_entry p ∷ []) []) (sym b_is)

@@ -12,7 +12,7 @@ use Rattle.graft_calls.specs.Calls.{IsPlaced, AreInside}
 use Rattle.kernel_steps.specs.declared.running.Flight.{Flight}
 use Rattle.kernel_steps.specs.declared.running.Running.{Running}
 use Rattle.kernel_steps.specs.Views.{flight_of, no_flight, chain_of, IsRunning}
-use Rattle.kernel_steps.specs.Orders.{counts_within, are_processes}
+use Rattle.kernel_steps.specs.Orders.{counts_within, are_processes, are_once, numbers_of}
 
 -- each process has nothing in flight
 pub none_of_sixteen : {W : Type 0} (fs : List (Flight W)) (n p : ℕ) → fs ≡ replicate n no_flight → flight_of fs p ≡ no_flight
@@ -31,5 +31,6 @@ just_begun {W = W} view caller x sound calls free order loaded =
       inside = λ p h. subst (λ (chain : Chain). AreInside (table_of x.images) (objects_of view x.store).accounts p chain.levels) (sym (none p)) tt;
       counts = ap (counts_within x.clock) order;
       order = ap are_processes order;
+      once = ap (λ ws. are_once (numbers_of ws)) order;
       loaded = loaded;
     }

@@ -1,6 +1,6 @@
 -- The order of waiting as the code keeps it.
-use Rattle.std.specs.Prelude.{ℕ, Bool, List, None, map, option_map, nat_le, nat_lt, slice_index_or, ◌+◌, ◌-◌, ◌^◌, min}
-use Rattle.std.specs.List.{list_all}
+use Rattle.std.specs.Prelude.{Bool, List, None, [], map, min, nat_le, nat_lt, not, option_map, slice_index_or, true, ℕ, ◌&&◌, ◌+◌, ◌-◌, ◌==◌, ◌^◌, ◌∷◌}
+use Rattle.std.specs.List.{list_all, list_any}
 use Rattle.kernel_model.specs.Kernel.{Blocker, Entry}
 use Rattle.kernel_steps.specs.declared.order.Blocking.{Blocking}
 use Rattle.kernel_steps.specs.declared.order.Waiting.{Waiting}
@@ -36,3 +36,16 @@ later w = record w { count = min (w.count + 1) (2 ^ 32 - 1) }
 -- each entry is of a process that can be
 abbrev pub are_processes : List Waiting → Bool
 are_processes ws = list_all (λ (w : Waiting). nat_lt w.process 16) ws
+
+-- the processes of entries
+abbrev pub numbers_of : List Waiting → List ℕ
+numbers_of ws = map (λ (w : Waiting). w.process) ws
+
+-- a number stands in a list
+abbrev pub has_number : ℕ → List ℕ → Bool
+has_number p ns = list_any (λ n. n == p) ns
+
+-- each number stands there once
+abbrev pub are_once : List ℕ → Bool
+are_once [] = true
+are_once (n ∷ ns) = not (has_number n ns) && are_once ns

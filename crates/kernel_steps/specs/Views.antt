@@ -15,7 +15,7 @@ use Rattle.placed_laws.specs.Stands.{StandsFor}
 use Rattle.kernel_steps.specs.declared.running.InFlight.{InFlight}
 use Rattle.kernel_steps.specs.declared.running.Flight.{Flight}
 use Rattle.kernel_steps.specs.declared.running.Running.{Running}
-use Rattle.kernel_steps.specs.Orders.{order_of, counts_within, are_processes}
+use Rattle.kernel_steps.specs.Orders.{order_of, counts_within, are_processes, are_once, numbers_of}
 
 -- ---- a kernel in place
 
@@ -67,6 +67,7 @@ pub record IsRunning {C M W X : Type 0} {F : X → Type 0} (view : Seeing X F) (
   pub inside : (p : ℕ) → p < 16 → AreInside (table_of x.images) (objects_of view x.store).accounts p (chain_of x p).levels
   pub counts : counts_within x.clock x.order ≡ true
   pub order : are_processes x.order ≡ true
+  pub once : are_once (numbers_of x.order) ≡ true
   pub loaded : ImagesAreLoaded (table_of x.images) (objects_of view x.store).accounts
 
 -- a kernel in place stands for some abstract kernel

@@ -1,13 +1,15 @@
 //! The running kernel: how it begins, and how calls begin and end.
 
-ghost use Rattle.std.specs.Prelude.{◌≡◌, ◌<◌, ◌≤◌, ◌-◌, ◌^◌, None, Some, [], ◌++◌, ◌∷◌, length, IfOk, replicate, slice_set, ℕ};
+ghost use Rattle.std.specs.Prelude.{false, ◌≡◌, ◌<◌, ◌≤◌, ◌-◌, ◌^◌, None, Some, [], ◌++◌, ◌∷◌, length, IfOk, replicate, slice_set, ℕ};
 ghost use Rattle.kernel_model.specs.Sound.{ImagesAreLoaded};
 ghost use Rattle.kernel_state.specs.Stores.{world_of_store, objects_of, IsStore};
 ghost use Rattle.graft_loader.specs.Slots.{table_of};
 ghost use Rattle.placed_laws.specs.Keeping.{first_placed};
-ghost use Rattle.placed_laws.specs.PlacedSteps.{placed_joins, placed_noted, placed_requeue, placed_ticked, with_placed_call};
+ghost use Rattle.placed_laws.specs.PlacedSteps.{is_placed_at_piece, placed_joins, placed_noted, placed_requeue, placed_ticked, with_placed_call};
+ghost use Rattle.kernel_steps.specs.Orders.{has_number, numbers_of};
 ghost use Rattle.kernel_steps.specs.Views.{placed_of, flight_of, chain_of, no_flight, IsRunning, Stood, Goes, Says};
 
+use crate::blocking::flight;
 use crate::notes::Notes;
 use crate::order::{Order, Waiting};
 use call_pieces::Calls;
@@ -111,11 +113,11 @@ impl<C: Calls> Running<C> {
         }
     }
 
-    /// A call of process p begins, which has none: it joins the order.
+    /// A call of process p begins, which has none and doesn't wait: it joins the order.
     pub fn begin(&mut self, p: u8, number: u32, work: C::Work)
         requires process { p < 16 }
         requires caller { C.caller work ≡ p }
-        requires room { length self.old.order < 16 }
+        requires new { has_number p (numbers_of self.old.order) ≡ false }
         requires running { IsRunning (λ b. seen (b.vtable, b.value)) (λ w. C.caller w) self.old }
         ensures value { Goes (λ r. placed_joins p (with_placed_call p (Some (first_placed number (C.stage work))) r)) (placed_of (λ b. seen (b.vtable, b.value)) (λ w. C.stage w) self.old) (placed_of (λ b. seen (b.vtable, b.value)) (λ w. C.stage w) self.new) }
         ensures running { IsRunning (λ b. seen (b.vtable, b.value)) (λ w. C.caller w) self.new }
@@ -135,6 +137,34 @@ impl<C: Calls> Running<C> {
         set_call(&mut self.calls, p, None);
         self.order.leave(p);
         notes.push(note);
+    }
+
+    /// Whether the next step of process p's call is a piece.
+    pub fn is_at_piece(&self, p: u8) -> bool
+        requires process { p < 16 }
+        requires running { IsRunning (λ b. seen (b.vtable, b.value)) (λ w. C.caller w) self.now }
+        ensures { let x = placed_of (λ b. seen (b.vtable, b.value)) (λ w. C.stage w) self.now in result ≡ is_placed_at_piece (x.call p) (x.levels p) }
+    {
+        let flight = flight(&self.calls, p);
+        match &flight.call {
+            Some(_) => flight.chain.levels.count() == 0,
+            None => false,
+        }
+    }
+
+    /// After a step of process p: it stands in the order, at its end, exactly where its next step is a piece.
+    pub fn requeue(&mut self, p: u8)
+        requires process { p < 16 }
+        requires running { IsRunning (λ b. seen (b.vtable, b.value)) (λ w. C.caller w) self.old }
+        ensures value { Goes (placed_requeue p) (placed_of (λ b. seen (b.vtable, b.value)) (λ w. C.stage w) self.old) (placed_of (λ b. seen (b.vtable, b.value)) (λ w. C.stage w) self.new) }
+        ensures running { IsRunning (λ b. seen (b.vtable, b.value)) (λ w. C.caller w) self.new }
+    {
+        let waits = self.is_at_piece(p);
+        self.order.leave(p);
+        if !waits {
+            return;
+        }
+        self.order.push(Waiting::joined(p));
     }
 
     /// The clock and the count of each entry rise by one.

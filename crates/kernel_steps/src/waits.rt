@@ -10,7 +10,7 @@ ghost use Rattle.placed_laws.specs.PlacedEvents.{expired_by, is_over_by};
 ghost use Rattle.placed_laws.specs.PlacedSteps.{placed_first_free, placed_rested_order, with_placed_order};
 ghost use Rattle.kernel_state.specs.Stores.{world_of_store, objects_of};
 ghost use Rattle.kernel_model.specs.World.{World};
-ghost use Rattle.kernel_steps.specs.Orders.{blocker_of, entry_of, order_of, are_processes, counts_within, patience_of};
+ghost use Rattle.kernel_steps.specs.Orders.{blocker_of, entry_of, order_of, are_processes, counts_within, patience_of, numbers_of};
 ghost use Rattle.kernel_steps.specs.Views.{placed_of, IsRunning, Stood, Goes};
 
 use crate::order::{Blocking, Order, Waiting};
@@ -134,6 +134,7 @@ impl<C: Calls> Running<C> {
         ensures value { order_of result ≡ order_of done ++ placed_rested_order C.Meaning.meaning (placed_of (λ b. seen (b.vtable, b.value)) (λ w. C.stage w) self.now) (order_of entries.now) }
         ensures counts { counts_within self.now.clock done ≡ true → counts_within self.now.clock entries.now ≡ true → counts_within self.now.clock result ≡ true }
         ensures processes { are_processes done ≡ true → are_processes result ≡ true }
+        ensures numbers { numbers_of result ≡ numbers_of done ++ numbers_of entries.now }
     {
         let Some((first, rest)) = entries.split_first() else {
             return done;

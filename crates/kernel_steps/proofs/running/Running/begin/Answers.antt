@@ -4,6 +4,7 @@ use Rattle.graft_loader.specs.Slots.{table_of}
 use Rattle.graft_calls.specs.Calls.{IsPlaced, AreInside}
 use Rattle.kernel_state.specs.Stores.{objects_of}
 use Rattle.kernel_steps.specs.declared.running.InFlight.{InFlight}
+use Rattle.kernel_steps.proofs.OnceLemmas.{once_joined, room_for}
 use Rattle.kernel_steps.proofs.OrderLemmas.{processes_joined, counts_joined}
 use Rattle.kernel_steps.proofs.CallLemmas.{still_sixteen, chains_stay, callers_set}
 use Rattle.kernel_steps.proofs.RunningLemmas.{call_begun, within_flights}
@@ -30,5 +31,9 @@ returns-clause-running g c =
       inside = λ q h. subst (λ (chain : Chain). AreInside (table_of x.images) (objects_of (λ b. (goal.Policy-dyn g (b.vtable, b.value)).seen b.value) x.store).accounts q chain.levels) (sym (same q)) (r.inside q h);
       counts = counts_joined x.clock c.args.p x.order c.joined.result c.push.new.self c.joined.ensures c.push.ensures r.counts;
       order = processes_joined c.args.p x.order c.joined.result c.push.new.self c.joined.ensures c.push.ensures c.requires.process r.order;
+      once = once_joined c.args.p x.order c.joined.result c.push.new.self c.joined.ensures c.push.ensures r.once c.requires.new;
       loaded = r.loaded;
     }
+
+pub push-requires : goal.push-requires
+push-requires g c = room_for c.args.p c.args.self.now.order c.requires.process c.requires.running.order c.requires.running.once c.requires.new

@@ -4,6 +4,8 @@ use Rattle.graft_loader.specs.Slots.{table_of}
 use Rattle.graft_calls.specs.Calls.{IsPlaced, AreInside}
 use Rattle.kernel_state.specs.Stores.{objects_of}
 use Rattle.kernel_steps.specs.Orders.{counts_within, are_processes}
+use Rattle.kernel_steps.specs.Orders.{are_once, numbers_of}
+use Rattle.kernel_steps.proofs.OnceLemmas.{once_less}
 use Rattle.kernel_steps.proofs.OrderLemmas.{processes_less, counts_less}
 use Rattle.kernel_steps.proofs.CallLemmas.{still_sixteen, chains_stay, callers_set}
 use Rattle.kernel_steps.proofs.RunningLemmas.{call_ended, within_flights}
@@ -29,5 +31,6 @@ returns-clause-running g c =
       inside = λ q h. subst (λ (chain : Chain). AreInside (table_of x.images) (objects_of (λ b. (goal.Policy-dyn g (b.vtable, b.value)).seen b.value) x.store).accounts q chain.levels) (sym (same q)) (r.inside q h);
       counts = ap (counts_within x.clock) c.leave.ensures ∙ counts_less x.clock c.args.p x.order r.counts;
       order = ap are_processes c.leave.ensures ∙ processes_less c.args.p x.order r.order;
+      once = ap (λ ws. are_once (numbers_of ws)) c.leave.ensures ∙ once_less c.args.p x.order r.once;
       loaded = r.loaded;
     }

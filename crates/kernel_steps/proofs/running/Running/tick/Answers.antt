@@ -1,5 +1,7 @@
 use Rattle.std.proofs.Common.{ap, ◌∙◌, ◌+◌, arith}
 use Rattle.kernel_steps.specs.Orders.{are_processes}
+use Rattle.kernel_steps.specs.Orders.{are_once, numbers_of}
+use Rattle.kernel_steps.proofs.OnceLemmas.{same_later}
 use Rattle.kernel_steps.proofs.OrderLemmas.{processes_later, rises}
 use Rattle.kernel_steps.proofs.RunningLemmas.{ticked_on}
 use Rattle.kernel_steps.proofs.running.Running.tick.Goals as goal
@@ -22,5 +24,6 @@ returns-clause-running g c =
       inside = r.inside;
       counts = rises x.clock x.order c.count_up.new.self c.count_up.ensures r.counts;
       order = ap are_processes c.count_up.ensures ∙ processes_later x.order r.order;
+      once = ap (λ ws. are_once (numbers_of ws)) c.count_up.ensures ∙ ap are_once (same_later x.order) ∙ r.once;
       loaded = r.loaded;
     }
