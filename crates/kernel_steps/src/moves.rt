@@ -18,7 +18,7 @@ use kernel_model::{Cause, Micro, Need, Point};
 
 impl<C: Calls> Running<C> {
     /// Level d of process p's call is dropped, counted from the outermost: those further inward end with it.
-    pub(crate) fn fall(&mut self, p: u8, d: u8, cause: Cause) -> Micro
+    pub fn fall(&mut self, p: u8, d: u8, cause: Cause) -> Micro
         requires process { p < 16 }
         requires level { d < length (chain_of self.old p).levels }
         requires running { IsRunning (λ b. seen (b.vtable, b.value)) (λ w. C.caller w) self.old }
@@ -35,7 +35,7 @@ impl<C: Calls> Running<C> {
     }
 
     /// One instruction of the innermost level of process p's call, whatever another call holds.
-    pub(crate) fn instruct(&mut self, p: u8) -> Micro
+    pub fn instruct(&mut self, p: u8) -> Micro
         requires process { p < 16 }
         requires running { IsRunning (λ b. seen (b.vtable, b.value)) (λ w. C.caller w) self.old }
         ensures said { let x = placed_of (λ b. seen (b.vtable, b.value)) (λ w. C.stage w) self.old in
@@ -51,7 +51,7 @@ impl<C: Calls> Running<C> {
     }
 
     /// The call of process p enters a graft, where its piece asks a point at which one stands: level 0 holds what the piece needs.
-    pub(crate) fn enter(&mut self, p: u8, needs: &[Need], at: &Point)
+    pub fn enter(&mut self, p: u8, needs: &[Need], at: &Point)
         requires process { p < 16 }
         requires none { (chain_of self.old p).levels ≡ [] }
         requires owner { at.now.installer < 16 }
