@@ -377,8 +377,11 @@ mod tests {
     }
 
     // `ret` with two data bytes, and `mov r1 r2` and `ret`, both sealed under the key by another program.
-    const TWO_BYTES: &str = "564752310100000001000000020000001a0000000000000061626d26a8a29ad77261f92c69fa097842640cfb9da68ed1d930b55b9cb95e123d44";
-    const TWO_STEPS: &str = "5647523101000000020000000000000002010200000000001a0000000000000072da673877a58cb2d07b39764585ea2fd900d26d4378259f1ceab7b350443667";
+    const TWO_BYTES: &str =
+        "564752310100000001000000020000001a0000000000000061626d26a8a29ad77261f92c69fa097842640cfb9da68ed1d930b55b9cb95e123d44";
+
+    const TWO_STEPS: &str =
+        "5647523101000000020000000000000002010200000000001a0000000000000072da673877a58cb2d07b39764585ea2fd900d26d4378259f1ceab7b350443667";
 
     #[test]
     fn a_refused_image_leaves_its_slot_free(rt: HostRuntime) -> Result<(), Fail> {
@@ -386,10 +389,7 @@ mod tests {
         // Another program computed the seals.
         let cases = [
             // fewer than 48 bytes
-            (
-                "00",
-                "L1",
-            ),
+            ("00", "L1"),
             // zeros
             (
                 "000000000000000000000000000000000000000000000000000000000000000000000000000000000000000000000000",
@@ -442,9 +442,12 @@ mod tests {
             ),
         ];
         for (bytes, answer) in cases {
-            let script =
-                format!(in alloc; "boot\nimage 7 {bytes}\nimage 7 {TWO_BYTES}\nimage 7 {TWO_STEPS}\nimage 8 {TWO_STEPS}\n")?;
-            let lines = format!(in alloc; "0 boot 8 64 3\n1 {answer}\n2 ok 1 2\n3 E10\n4 ok 2 0\n")?;
+            let script = format!(in alloc;
+                "boot\nimage 7 {bytes}\nimage 7 {TWO_BYTES}\nimage 7 {TWO_STEPS}\nimage 8 {TWO_STEPS}\n"
+            )?;
+            let lines = format!(in alloc;
+                "0 boot 8 64 3\n1 {answer}\n2 ok 1 2\n3 E10\n4 ok 2 0\n"
+            )?;
             let ran = run_words(alloc, &["run", KEY], script.as_str(), 0, 0)?;
             assert_eq!(rt; ran.status, 0, "on {answer}");
             assert!(rt; ran.written.bytes() == lines.as_bytes(), "on {answer}");
@@ -457,8 +460,9 @@ mod tests {
         let alloc = rt.alloc();
         let capital = "000102030405060708090A0B0C0D0E0F101112131415161718191A1B1C1D1E1F";
         let last = "000102030405060708090a0b0c0d0e0f101112131415161718191a1b1c1d1e1e";
-        let script =
-            format!(in alloc; "boot\nimage 31 {TWO_BYTES}\nimage 31 00\nimage 32 {TWO_BYTES}\nimage 4294967295 00\nimage 0 {TWO_STEPS}\n")?;
+        let script = format!(in alloc;
+            "boot\nimage 31 {TWO_BYTES}\nimage 31 00\nimage 32 {TWO_BYTES}\nimage 4294967295 00\nimage 0 {TWO_STEPS}\n"
+        )?;
         let loaded = "0 boot 8 64 3\n1 ok 1 2\n2 E10\n3 E8\n4 E8\n5 ok 2 0\n";
         let refused = "0 boot 8 64 3\n1 L5\n2 L1\n3 E8\n4 E8\n5 L5\n";
         for (key, lines) in [(KEY, loaded), (capital, loaded), (last, refused)] {
