@@ -4,6 +4,7 @@ use Rattle.std.proofs.Math.ListN.{set, length-set}
 use Rattle.std.specs.List.{between}
 use Rattle.std.proofs.lemmas.Bool.{cases_lt}
 use Rattle.std.proofs.lemmas.List.{length-take, length-drop, get_or-set_same, get_or-set_other, take-append-le, get_or_append_left, drop_at, get_or_at, take_all}
+use Rattle.std.proofs.lemmas.List.Edits.{length-between}
 use Rattle.std.proofs.lemmas.List.FromFn.{length-map-range_with_len, get_or-map-range_with_len, fill_by_all}
 use Rattle.std.proofs.lemmas.Option.{slice_get-get_or}
 use Rattle.std.proofs.lemmas.Slice.{between_is, between-put_mid, take-put_mid_below, drop-put_mid}
@@ -129,3 +130,13 @@ blocks_of-put bytes block b below whole =
     let inside : b < length bytes / 512 = omega (arith, length-blocks_in bytes (length bytes / 512)) in
     ap (λ n. blocks_in (put_mid (512 * b) 512 bytes block) (n / 512)) (length-put_mid (512 * b) bytes block (omega arith) whole)
     ∙ blocks_in-put bytes block (length bytes / 512) b inside (omega arith) whole
+
+-- a block has 512 bytes
+length-block_in : (bytes : List ℕ) (b : ℕ) → b < length bytes / 512 → length (block_in bytes b) ≡ 512
+length-block_in bytes b below = length-between bytes (512 * b) (512 * b + 512) (omega (arith, below)) ∙ omega arith
+
+-- each block has 512 bytes
+pub length-each_block : (bytes : List ℕ) (b : ℕ) → b < length (blocks_of bytes) → length (get_or (blocks_of bytes) b []) ≡ 512
+length-each_block bytes b below =
+    let few : b < length bytes / 512 = subst (λ n. b < n) (length-blocks_of bytes) below in
+    ap length (get_or-blocks_of bytes b [] below) ∙ length-block_in bytes b few

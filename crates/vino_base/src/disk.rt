@@ -1,6 +1,6 @@
 //! Disks of blocks of 512 bytes.
 
-ghost use Rattle.std.specs.Prelude.{◌≡◌, ℕ, ◌<◌, ◌≤◌, List, Option, Some, None, length, IfOk, slice_get, slice_set, is_ok, if◌then◌else◌};
+ghost use Rattle.std.specs.Prelude.{◌≡◌, ℕ, ◌<◌, ◌≤◌, List, Option, Some, None, length, IfOk, slice_get, slice_set, slice_index_or, [], is_ok, if◌then◌else◌};
 ghost use Rattle.std.specs.Option.{IfSome};
 ghost use Rattle.std.specs.Result.{is_err, OnErr, OnOk};
 ghost use Rattle.vino_base.specs.Faults.{HasCause};
@@ -27,7 +27,8 @@ pub trait Disk {
         ensures count { result ≡ block_count self.now }
         ensures least { 1 ≤ result }
         ensures most { result ≤ 4096 }
-        ensures told { IfSome (blocks self.now) (λ bs. length bs ≡ result) };
+        ensures told { IfSome (blocks self.now) (λ bs. length bs ≡ result) }
+        ensures whole { (bs : List (List ℕ)) → blocks self.now ≡ Some bs → (b : ℕ) → b < result → length (slice_index_or bs b []) ≡ 512 };
 
     /// Gives block b. A failed read leaves the blocks as they are.
     fn read_block(&mut self, b: u32, to: &mut [u8; 512]) -> Result<(), Failed>

@@ -1,5 +1,5 @@
 use Rattle.std.proofs.Common.{rules}
-use Rattle.mem_disk.proofs.Blocks.{length-blocks_of}
+use Rattle.mem_disk.proofs.Blocks.{length-blocks_of, length-each_block}
 use Rattle.mem_disk.proofs.disk.MemDiskDisk.size.Goals as goal
 
 pub returns-clause-count : goal.returns-clause-count
@@ -7,3 +7,6 @@ returns-clause-count c = search (rules, length-blocks_of)
 
 pub returns-clause-told : goal.returns-clause-told
 returns-clause-told c = search (rules, length-blocks_of)
+
+pub returns-clause-whole : goal.returns-clause-whole
+returns-clause-whole c = search (rules, length-blocks_of, length-each_block)
