@@ -11,6 +11,7 @@ use Rattle.kernel_model.specs.declared.OpenRow.{OpenRow}
 use Rattle.kernel_model.specs.World.{World, Blocks, file_named}
 use Rattle.kernel_model.specs.Objects.{Objects, Accounts, Things, GraftValue, AcctValue, FrameValue, at, at2, at_kind, with_accounts, with_things}
 use Rattle.kernel_model.specs.Policies.{lives, next_process, or_zero}
+use Rattle.kernel_model.specs.Queue.{one_more_slice}
 use Rattle.kernel_model.specs.Access.{set_cell, set_param, param_top, in_range}
 use Rattle.kernel_model.specs.Charges.{removed}
 use Rattle.kernel_model.specs.Meaning.{Meaning, Piece, Continues, EndsWith, stage}
@@ -81,7 +82,7 @@ to_back p rows = filter (λ (r : QueueRow). not (r.process == p)) rows ++ filter
 
 -- the queue with one slice more for a process
 abbrev pub add_slice : ℕ → List QueueRow → List QueueRow
-add_slice p rows = map (λ (r : QueueRow). cond (r.process == p) (record r { slices = r.slices + 1 }) r) rows
+add_slice p rows = map (λ (r : QueueRow). cond (r.process == p) (record r { slices = one_more_slice r.slices }) r) rows
 
 -- p goes to the back; then the process of the answer gets a slice
 abbrev pub yield_piece : ℕ → Objects → ℕ → Option (List ℕ) → Blocks → Piece

@@ -1,5 +1,5 @@
 -- Words on the living processes: the rows of the queue, the holders of user locks, and the handlers of the event points.
-use Rattle.std.specs.Prelude.{◌≡◌, ◌<◌, ℕ, zero, suc, ◌+◌, Bool, true, false, cond, not, ◌&&◌, ◌||◌, ◌==◌, nat_lt, List, [], ◌∷◌, ◌++◌, map, filter, length, Option, Some, None}
+use Rattle.std.specs.Prelude.{◌≡◌, ◌<◌, ℕ, zero, suc, ◌+◌, ◌-◌, ◌^◌, min, Bool, true, false, cond, not, ◌&&◌, ◌||◌, ◌==◌, nat_lt, List, [], ◌∷◌, ◌++◌, map, filter, length, Option, Some, None}
 use Rattle.std.specs.List.{list_any}
 use Rattle.kernel_model.specs.declared.QueueRow.{QueueRow}
 
@@ -36,9 +36,13 @@ queue_to_back p rows = queue_without p rows ++ filter (λ (r : QueueRow). r.proc
 abbrev pub with_nice : ℕ → ℕ → List QueueRow → List QueueRow
 with_nice p v rows = map (λ (r : QueueRow). cond (r.process == p) (record r { nice = v }) r) rows
 
+-- one slice more, up to the end of the count
+abbrev pub one_more_slice : ℕ → ℕ
+one_more_slice n = min (n + 1) (2 ^ 32 - 1)
+
 -- the queue with one slice more for a process
 abbrev pub with_slice : ℕ → List QueueRow → List QueueRow
-with_slice p rows = map (λ (r : QueueRow). cond (r.process == p) (record r { slices = r.slices + 1 }) r) rows
+with_slice p rows = map (λ (r : QueueRow). cond (r.process == p) (record r { slices = one_more_slice r.slices }) r) rows
 
 -- the slices of a process, 0 where it isn't living
 abbrev pub slices_of : ℕ → List QueueRow → ℕ

@@ -3,10 +3,10 @@ use Rattle.std.proofs.Common.{◌≡◌, ℕ, ◌+◌, ◌==◌, ◌||◌, Bool,
 use Rattle.std.specs.List.{list_any}
 use Rattle.kernel_model.specs.declared.QueueRow.{QueueRow}
 use Rattle.kernel_model.specs.Policies.{lives}
-use Rattle.kernel_model.specs.Queue.{queue_to_back, with_slice}
+use Rattle.kernel_model.specs.Queue.{queue_to_back, one_more_slice, with_slice}
 
 -- a row with one slice more is of its process
-same_process : (b : Bool) (r : QueueRow) (q : ℕ) → ((cond b (record r { slices = r.slices + 1 }) r).process == q) ≡ (r.process == q)
+same_process : (b : Bool) (r : QueueRow) (q : ℕ) → ((cond b (record r { slices = one_more_slice r.slices }) r).process == q) ≡ (r.process == q)
 same_process true r q = refl
 same_process false r q = refl
 

@@ -2,7 +2,7 @@
 
 ghost use Rattle.std.specs.Prelude.{◌≡◌, ℕ, ◌<◌, ◌==◌, ◌&&◌, not, true, Some, None, IfSome};
 ghost use Rattle.kernel_model.specs.Needs.{free_process};
-ghost use Rattle.kernel_model.specs.Queue.{slices_of, queue_without};
+ghost use Rattle.kernel_model.specs.Queue.{queue_without};
 ghost use Rattle.kernel_model.specs.Policies.{lives, next_process};
 ghost use Rattle.kernel_model.specs.Pieces.{with_queue, to_back as queue_to_back, add_slice as queue_with_slice, with_holder, things_without, account_closed, without_grafts};
 ghost use Rattle.kernel_model.specs.Objects.{with_things};
@@ -82,11 +82,10 @@ impl Store {
         next(self.shelf.as_slice(), &self.choice, self.procs.rows())
     }
 
-    /// Raises the slices of process p by one.
+    /// Raises the slices of process p by one, up to the end of their count.
     pub fn add_slice(&mut self, p: u8)
         requires sound { IsStore (λ b. seen b) self.old }
         requires lives { lives (queue_of self.old) p ≡ true }
-        requires room { slices_of p (queue_of self.old) < 4294967295 }
         ensures objects { objects_of (λ b. seen b) self.new ≡ with_queue (queue_with_slice p (queue_of self.old)) (objects_of (λ b. seen b) self.old) }
         ensures living { (q : ℕ) → lives (queue_of self.new) q ≡ lives (queue_of self.old) q }
         ensures world { world_of_store self.new ≡ world_of_store self.old }

@@ -8,6 +8,7 @@ use Rattle.std.proofs.lemmas.List.Elements.{All-contains, All-weaker, All-contai
 use Rattle.kernel_model.specs.declared.QueueRow.{QueueRow}
 use Rattle.kernel_model.specs.Policies.{lives}
 use Rattle.kernel_model.specs.Pieces.{to_back, add_slice}
+use Rattle.kernel_model.specs.Queue.{one_more_slice}
 use Rattle.kernel_model.specs.Sound.{count_of, in_queue}
 use Rattle.kernel_model.specs.Laws.{slices_in}
 
@@ -94,8 +95,8 @@ total_parts : (p : ℕ) (rows : List QueueRow) → total (of_others p rows) + to
 total_parts p [] = grind arith
 total_parts p (r ∷ rows) = grind (arith, nat_tests, total_parts p rows)
 
--- after a slice was given
-total_add : (c : ℕ) (rows : List QueueRow) → total (add_slice c rows) ≡ total rows + count_of c (in_queue rows)
+-- after a slice was given: no row has more than one slice more
+total_add : (c : ℕ) (rows : List QueueRow) → total (add_slice c rows) ≤ total rows + count_of c (in_queue rows)
 total_add c [] = grind arith
 total_add c (r ∷ rows) = grind (arith, nat_tests, total_add c rows)
 
@@ -112,7 +113,7 @@ pub slices_to_back : (p : ℕ) (rows : List QueueRow) → slices_in (to_back p r
 slices_to_back p rows = slices_total (to_back p rows) ∙ total_append (of_others p rows) (of_process p rows) ∙ total_parts p rows ∙ sym (slices_total rows)
 
 -- after a slice was given
-pub slices_add : (c : ℕ) (rows : List QueueRow) → slices_in (add_slice c rows) ≡ slices_in rows + count_of c (in_queue rows)
+pub slices_add : (c : ℕ) (rows : List QueueRow) → slices_in (add_slice c rows) ≤ slices_in rows + count_of c (in_queue rows)
 slices_add c rows = omega (arith, slices_total (add_slice c rows), slices_total rows, total_add c rows)
 
 -- ---- nices
@@ -144,13 +145,13 @@ nices_to_back p rows h x c =
     (All-filter (λ (r : QueueRow). r.process == p) (λ (y : QueueRow). y.nice ≤ 39) rows (nices_all rows h))) c
 
 -- a row with a slice more
-nice_of_slice : (c : ℕ) (r : QueueRow) → r.nice ≤ 39 → (cond (r.process == c) (record r { slices = r.slices + 1 }) r).nice ≤ 39
+nice_of_slice : (c : ℕ) (r : QueueRow) → r.nice ≤ 39 → (cond (r.process == c) (record r { slices = one_more_slice r.slices }) r).nice ≤ 39
 nice_of_slice c r h = grind (arith, nat_tests)
 
 -- after a slice was given
 pub nices_add_slice : (c : ℕ) (rows : List QueueRow) → NicesFit rows → NicesFit (add_slice c rows)
 nices_add_slice c rows h x k =
     All-contains (λ (y : QueueRow). y.nice ≤ 39) (add_slice c rows) x
-    (All-map (λ (y : QueueRow). y.nice ≤ 39) (λ (r : QueueRow). cond (r.process == c) (record r { slices = r.slices + 1 }) r) rows
-    (All-weaker (λ (r : QueueRow). r.nice ≤ 39) (λ (r : QueueRow). (cond (r.process == c) (record r { slices = r.slices + 1 }) r).nice ≤ 39)
+    (All-map (λ (y : QueueRow). y.nice ≤ 39) (λ (r : QueueRow). cond (r.process == c) (record r { slices = one_more_slice r.slices }) r) rows
+    (All-weaker (λ (r : QueueRow). r.nice ≤ 39) (λ (r : QueueRow). (cond (r.process == c) (record r { slices = one_more_slice r.slices }) r).nice ≤ 39)
     (nice_of_slice c) rows (nices_all rows h))) k

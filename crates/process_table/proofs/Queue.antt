@@ -1,11 +1,11 @@
 -- Lemmas on the rows of the queue.
-use Rattle.std.proofs.Common.{◌≡◌, ℕ, zero, suc, ◌+◌, ◌<◌, ◌≤◌, Bool, true, false, Some, None, List, [], ◌∷◌, ◌++◌, length, filter, not, ◌&&◌, ◌==◌, nat_le, refl, arith, subst, sym, ◌∙◌, add-one, length-append, get_or, All}
+use Rattle.std.proofs.Common.{◌≡◌, ℕ, zero, suc, ◌+◌, ◌<◌, ◌≤◌, Bool, true, false, Some, None, List, [], ◌∷◌, ◌++◌, length, filter, not, ◌&&◌, ◌==◌, nat_le, refl, arith, subst, sym, ◌∙◌, add-one, length-append}
 use Rattle.std.specs.List.{list_all}
 use Rattle.std.proofs.lemmas.Bool.Decides.{nat_tests}
 use Rattle.std.proofs.lemmas.List.Elements.{filter-append}
 use Rattle.std.proofs.lemmas.List.Folds.{list_any-append, list_all-append}
 use Rattle.kernel_model.specs.declared.QueueRow.{QueueRow}
-use Rattle.kernel_model.specs.Queue.{is_living, free_number, IsLeastFree, new_row, queue_without, queue_to_back, with_nice, with_slice, slices_of}
+use Rattle.kernel_model.specs.Queue.{is_living, free_number, IsLeastFree, new_row, queue_without, queue_to_back, with_nice, with_slice}
 use Rattle.process_table.specs.Processes.{IsQueue}
 use Rattle.process_table.proofs.Lists.{length-below}
 
@@ -164,21 +164,3 @@ slice-queue p rows h = record {
   nices = nices-slice p rows h.nices;
   root = living-slice 0 p rows ∙ h.root;
 }
-
--- ---- the slices of a process
-
--- a process without rows has no slices to count
-below-none : (p n : ℕ) (rows : List QueueRow) → length (rows_of p rows) < 1 → All (λ (r : QueueRow). r.process ≡ p → r.slices < n) rows
-below-none p n [] none k d lt = absurd (omega arith)
-below-none p n (r ∷ rows) none zero d lt = λ is. grind (arith, nat_tests)
-below-none p n (r ∷ rows) none (suc k) d lt = below-none p n rows (grind (arith, nat_tests)) k d (omega arith)
-
--- the slices of a process that has one row are those of each of its rows
-pub below-slices : (p n : ℕ) (rows : List QueueRow) → length (rows_of p rows) ≤ 1 → slices_of p rows < n → All (λ (r : QueueRow). r.process ≡ p → r.slices < n) rows
-below-slices p n [] once few k d lt = absurd (omega arith)
-below-slices p n (r ∷ rows) once few zero d lt = λ is. grind (arith, nat_tests)
-below-slices p n (r ∷ rows) once few (suc k) d lt =
-    elim (r.process == p) as (λ b. (r.process == p) ≡ b → (get_or rows k d).process ≡ p → (get_or rows k d).slices < n) [
-      | true ↦ λ e. below-none p n rows (grind (arith, nat_tests)) k d (omega arith)
-      | false ↦ λ e. below-slices p n rows (grind (arith, nat_tests)) (grind (arith, nat_tests)) k d (omega arith)
-    ] refl

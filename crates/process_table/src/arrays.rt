@@ -1,9 +1,9 @@
 //! The work on each array, as functions over plain lists.
 
-ghost use Rattle.std.specs.Prelude.{◌≡◌, ℕ, ◌+◌, ◌*◌, ◌<◌, ◌≤◌, ◌==◌, true, cond, not, length, map, filter, All, IfSome, IfNone, slice_index, slice_index_or, None, [], ◌∷◌, ◌++◌};
+ghost use Rattle.std.specs.Prelude.{◌≡◌, ℕ, ◌+◌, ◌*◌, ◌<◌, ◌≤◌, ◌==◌, true, cond, not, length, map, filter, IfSome, IfNone, slice_index, slice_index_or, None, [], ◌∷◌, ◌++◌};
 ghost use Rattle.std.specs.List.{list_any};
 ghost use Rattle.kernel_model.specs.declared.QueueRow.{QueueRow as Row};
-ghost use Rattle.kernel_model.specs.Queue.{is_living, free_number, IsLeastFree, new_row, queue_without, queue_to_back, with_nice, with_slice, freed_by, is_handler, handlers_at, handlers_without, has_room};
+ghost use Rattle.kernel_model.specs.Queue.{is_living, free_number, IsLeastFree, new_row, queue_without, queue_to_back, with_nice, with_slice, one_more_slice, freed_by, is_handler, handlers_at, handlers_without, has_room};
 ghost use Rattle.process_table.specs.Processes.{is_of};
 
 use arrayvec::ArrayVec;
@@ -157,12 +157,11 @@ pub(crate) fn change_nice(rows: &mut ArrayVec<QueueRow, PROCESSES>, p: u8, v: u8
 
 /// A row with one slice more, if it is that of the process.
 fn row_with_slice(row: QueueRow, p: u8) -> QueueRow
-    requires { row.process ≡ p → row.slices < 4294967295 }
-    ensures { result ≡ cond (row.process == p) (record row { slices = row.slices + 1 }) row }
+    ensures { result ≡ cond (row.process == p) (record row { slices = one_more_slice row.slices }) row }
 {
     if row.process == p {
         QueueRow {
-            slices: row.slices + 1,
+            slices: row.slices.saturating_add(1),
             ..row
         }
     } else {
@@ -172,7 +171,6 @@ fn row_with_slice(row: QueueRow, p: u8) -> QueueRow
 
 /// Gives a process one slice more.
 fn count_slice(rows: &mut [QueueRow], p: u8)
-    requires { All (λ (r : Row). r.process ≡ p → r.slices < 4294967295) rows.old }
     ensures { rows.new ≡ with_slice p rows.old }
 {
     for row in rows.iter_mut() {
@@ -182,7 +180,6 @@ fn count_slice(rows: &mut [QueueRow], p: u8)
 
 /// Gives a process of the queue one slice more.
 pub(crate) fn raise_slices(rows: &mut ArrayVec<QueueRow, PROCESSES>, p: u8)
-    requires { All (λ (r : Row). r.process ≡ p → r.slices < 4294967295) rows.old.items }
     ensures { rows.new.items ≡ with_slice p rows.old.items }
 {
     count_slice(rows.as_mut_slice(), p);

@@ -1,7 +1,7 @@
 //! `Procs`.
 
 ghost use Rattle.std.specs.Prelude.{◌≡◌, ◌+◌, ◌*◌, ◌<◌, ◌≤◌, ℕ, true, length, IfSome, IfNone, IsTrue};
-ghost use Rattle.kernel_model.specs.Queue.{is_living, free_number, IsLeastFree, queue_to_back, with_nice, with_slice, slices_of, has_room, handlers_with, handlers_without};
+ghost use Rattle.kernel_model.specs.Queue.{is_living, free_number, IsLeastFree, queue_to_back, with_nice, with_slice, has_room, handlers_with, handlers_without};
 ghost use Rattle.kernel_model.specs.Objects.{at, at2};
 
 use crate::arrays::{
@@ -125,10 +125,9 @@ impl Procs {
         change_nice(&mut self.rows, p, v);
     }
 
-    /// Raises the slices of process p, which are below 4,294,967,295, by one.
+    /// Raises the slices of process p by one, up to 4,294,967,295.
     pub fn add_slice(&mut self, p: u8)
         requires lives { IsTrue (is_living p self.old.queue) }
-        requires room { slices_of p self.old.queue < 4294967295 }
         ensures { processes_of self.new ≡ record (processes_of self.old) { queue = with_slice p self.old.queue } }
     {
         raise_slices(&mut self.rows, p);

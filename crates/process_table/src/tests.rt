@@ -1,9 +1,8 @@
 //! Each call once, with the values that the rules give.
 
-ghost use Rattle.std.specs.Prelude.{◌≡◌};
-ghost use Rattle.kernel_model.specs.Queue.{slices_of};
-
 use super::*;
+use crate::arrays::raise_slices;
+use arrayvec::ArrayVec;
 use kernel_model::{OpenRow, QueueRow};
 
 const FILE: OpenRow = OpenRow {
@@ -14,17 +13,6 @@ const FILE: OpenRow = OpenRow {
     start: 3,
     count: 2,
 };
-
-fn slices(rows: &[QueueRow], p: u8) -> u32
-    ensures { result ≡ slices_of p rows.now }
-{
-    for r in rows {
-        if r.process == p {
-            return r.slices;
-        }
-    }
-    0
-}
 
 fn rows_are(procs: &Procs, want: &[(u8, u8, u32)]) -> bool {
     let rows = procs.rows();
@@ -67,11 +55,26 @@ fn queues_processes(rt: HostRuntime) {
 }
 
 #[test]
+fn slices_stop_at_the_end_of_their_count(rt: HostRuntime) {
+    let mut rows = ArrayVec::new();
+    rows.push(QueueRow {
+        process: 1,
+        nice: 20,
+        slices: 4294967294,
+    });
+    raise_slices(&mut rows, 1);
+    raise_slices(&mut rows, 1);
+    match rows.as_slice().first() {
+        Some(row) => assert_eq!(rt; row.slices, 4294967295),
+        None => assert!(rt; false),
+    }
+}
+
+#[test]
 fn counts_slices(rt: HostRuntime) {
     let mut procs = Procs::new();
     assert_eq!(rt; procs.spawn(), Some(1));
     assert!(rt; procs.living(1));
-    assert!(rt; slices(procs.rows(), 1) < 4294967295);
     procs.add_slice(1);
     assert!(rt; procs.living(1));
     procs.to_back(1);

@@ -1,10 +1,7 @@
 use Rattle.std.proofs.Common.{◌∙◌}
-use Rattle.process_table.proofs.Queue.{slice-queue, living-slice, below-slices}
+use Rattle.process_table.proofs.Queue.{slice-queue, living-slice}
 use Rattle.process_table.proofs.Tables.{requeued}
 use Rattle.process_table.proofs.table.Procs.add_slice.Goals as goal
-
-pub raise_slices-requires : goal.raise_slices-requires
-raise_slices-requires c = below-slices c.args.p _ _ (c.self.invariant.sound.queue.once c.args.p) (rw (← c.self.view_is) at c.requires.room)
 
 pub invariant_of-self : goal.invariant_of-self
 invariant_of-self c =
