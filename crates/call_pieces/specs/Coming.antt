@@ -1,5 +1,5 @@
 -- What came of a piece, in the code's terms, beside what the definitions say.
-use Rattle.std.specs.Prelude.{◌≡◌, ℕ, ◌<◌, Bool, true, false, List, Option, Result, Ok, Err, nat_le}
+use Rattle.std.specs.Prelude.{◌≡◌, ℕ, ◌<◌, Bool, true, false, List, ◌++◌, length, Option, Result, Ok, Err, nat_le}
 use Rattle.std.specs.List.{list_any}
 use Rattle.kernel_model.specs.declared.Refusal.TheVariants.{DiskFault}
 use Rattle.kernel_model.specs.declared.OpenRow.{OpenRow}
@@ -9,6 +9,7 @@ use Rattle.kernel_model.specs.Meaning.{Meaning, Stage, Piece, After}
 use Rattle.kernel_model.specs.Fetch.{Fetched, Got, Failed}
 use Rattle.kernel_model.specs.Policies.{lives}
 use Rattle.kernel_model.specs.Pieces.{piece_fits, pieces_left, read_fits, read_left}
+use Rattle.kernel_model.specs.Sound.{HasWholeBlocks}
 use Rattle.vino_base.specs.declared.streams.Failed.{Failed as DiskFailed}
 use Rattle.disk_log.specs.Calls.{Tells}
 use Rattle.call_pieces.specs.declared.Work.{Work}
@@ -24,6 +25,21 @@ pub record CameTo (q : Piece) (s : Objects) (told : Option (List (List ℕ))) (g
   pub next : after ≡ q.after
   pub calls_made : calls ≡ q.calls
 
+-- The same without what the disk tells: a piece left these objects, these bytes were given, this comes next, and so many
+-- calls of the disk were made, all as the definitions' piece has it.
+pub record LeftBy (q : Piece) (s : Objects) (gave : Option (List ℕ)) (after : After) (calls : ℕ) : Type 0 where
+  pub objects : s ≡ q.objects
+  pub bytes : gave ≡ q.gave
+  pub next : after ≡ q.after
+  pub calls_made : calls ≡ q.calls
+
+-- So it is for some whole blocks, whether the disk tells its blocks or not, where these calls of it were made, whatever the
+-- calls after them do.
+pub record LeftBySome (v : World) (piece : Blocks → List Bool → Piece) (s : Objects) (gave : Option (List ℕ)) (after : After) (io : List Bool) : Type 0 where
+  pub blocks : Blocks
+  pub whole : HasWholeBlocks v blocks
+  pub left : (rest : List Bool) → LeftBy (piece blocks (io ++ rest)) s gave after (length io)
+
 -- the blocks after a fetch, where they were these
 abbrev pub blocks_after : Fetched → Blocks → Blocks
 blocks_after (Got cache after frame calls) blocks = after
@@ -38,6 +54,12 @@ fetched_so (Err e) cache blocks calls = Failed calls
 pub record FetchCameTo (q : Fetched) (blocks : Blocks) (result : Result ℕ DiskFailed) (cache : CacheValue) (told : Option (List (List ℕ))) (calls : ℕ) : Type 0 where
   pub outcome : fetched_so result cache (blocks_after q blocks) calls ≡ q
   pub tells : Tells told (blocks_after q blocks)
+
+-- a fetch left this cache, for some whole blocks, where these calls of the disk were made: as the definitions' fetch has it
+pub record FetchLeftBySome (v : World) (fetch : Blocks → List Bool → Fetched) (result : Result ℕ DiskFailed) (cache : CacheValue) (io : List Bool) : Type 0 where
+  pub blocks : Blocks
+  pub whole : HasWholeBlocks v blocks
+  pub outcome : (rest : List Bool) → fetched_so result cache (blocks_after (fetch blocks (io ++ rest)) blocks) (length io) ≡ fetch blocks (io ++ rest)
 
 -- one of these calls of the disk failed
 abbrev pub has_failed : List Bool → Bool

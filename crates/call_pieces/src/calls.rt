@@ -19,7 +19,7 @@ pub trait Calls {
     ghost use Rattle.kernel_state.specs.Stores.{world_of_store, objects_of, queue_of, IsStore};
     ghost use Rattle.kernel_model.specs.ImageMask.{TellsImages};
     ghost use Rattle.call_pieces.specs.Works.{MayCome, SlicesStay, SlicesRise, stage_granted, comes_after};
-    ghost use Rattle.call_pieces.specs.Coming.{CameTo, GoesOnFrom, has_failed, is_fault, goes_on};
+    ghost use Rattle.call_pieces.specs.Coming.{CameTo, LeftBySome, GoesOnFrom, has_failed, is_fault, goes_on};
 
     /// What the calls mean.
     type Meaning: Rules;
@@ -73,6 +73,9 @@ pub trait Calls {
         ensures does { (images : ImageTable) (blocks : Blocks) (rest : List Bool) → Tells (D.blocks disk.old) blocks →
             CameTo (Self.Meaning.meaning.piece (world_of_store store.old) images (objects_of (λ b. seen (b.vtable, b.value)) store.old) blocks (caller work.old) (stage work.old) answer (log.new ++ rest))
             (objects_of (λ b. seen (b.vtable, b.value)) store.new) (D.blocks disk.new) result.gave (comes_after result.next (stage work.new)) (length log.new) }
+        ensures some { (images : ImageTable) →
+            LeftBySome (world_of_store store.old) (λ blocks io. Self.Meaning.meaning.piece (world_of_store store.old) images (objects_of (λ b. seen (b.vtable, b.value)) store.old) blocks (caller work.old) (stage work.old) answer io)
+            (objects_of (λ b. seen (b.vtable, b.value)) store.new) result.gave (comes_after result.next (stage work.new)) log.new }
         ensures gone { goes_on result.next ≡ true → GoesOnFrom Self.Meaning.meaning (world_of_store store.old) (objects_of (λ b. seen (b.vtable, b.value)) store.old) (objects_of (λ b. seen (b.vtable, b.value)) store.new)
             (caller work.old) (caller work.new) (stage work.old) (stage work.new) }
         ensures stay { goes_on result.next ≡ true → SlicesStay (queue_of store.old) (queue_of store.new) }

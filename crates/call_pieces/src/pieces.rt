@@ -9,7 +9,7 @@ ghost use Rattle.kernel_model.specs.Laws.{IsRightAnswer};
 ghost use Rattle.disk_log.specs.Calls.{Tells, GoesOn};
 ghost use Rattle.kernel_state.specs.Stores.{world_of_store, objects_of, queue_of, policies_of, IsStore};
 ghost use Rattle.call_pieces.specs.Works.{stage_of, comes_after, queue_after, MayCome};
-ghost use Rattle.call_pieces.specs.Coming.{CameTo, HasGone, has_failed, is_fault, goes_on};
+ghost use Rattle.call_pieces.specs.Coming.{CameTo, LeftBySome, HasGone, has_failed, is_fault, goes_on};
 
 use crate::amounts::{bill, fund, give, install, remove};
 use crate::locks::{free_lock, take_lock};
@@ -43,6 +43,9 @@ pub fn piece<D: Disk>(
     ensures does { (images : ImageTable) (blocks : Blocks) (rest : List Bool) → Tells (D.blocks disk.old) blocks →
         CameTo (plain.piece (world_of_store store.old) images (objects_of (λ b. seen (b.vtable, b.value)) store.old) blocks work.old.caller (stage_of work.old) answer (log.new ++ rest))
         (objects_of (λ b. seen (b.vtable, b.value)) store.new) (D.blocks disk.new) result.gave (comes_after result.next (stage_of work.new)) (length log.new) }
+    ensures some { (images : ImageTable) →
+        LeftBySome (world_of_store store.old) (λ blocks io. plain.piece (world_of_store store.old) images (objects_of (λ b. seen (b.vtable, b.value)) store.old) blocks work.old.caller (stage_of work.old) answer io)
+        (objects_of (λ b. seen (b.vtable, b.value)) store.new) result.gave (comes_after result.next (stage_of work.new)) log.new }
     ensures queue { queue_of store.new ≡ queue_after (policies_of (λ b. seen (b.vtable, b.value)) store.old 2) answer work.old.call work.old.piece work.old.caller (queue_of store.old) }
     ensures gone { goes_on result.next ≡ true → HasGone work.old work.new (objects_of (λ b. seen (b.vtable, b.value)) store.old) (objects_of (λ b. seen (b.vtable, b.value)) store.new) }
     ensures failed { is_fault result.next ≡ true → has_failed log.new ≡ true }
