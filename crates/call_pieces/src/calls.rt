@@ -14,11 +14,10 @@ pub trait Calls {
     ghost use Rattle.kernel_model.specs.Meaning.{Stage};
     ghost use Rattle.kernel_model.specs.Laws.{IsRightAnswer};
     ghost use Rattle.kernel_model.specs.Policies.{lives};
-    ghost use Rattle.kernel_model.specs.Queue.{slices_of};
     ghost use Rattle.disk_log.specs.Calls.{Tells, GoesOn};
     ghost use Rattle.kernel_state.specs.Stores.{world_of_store, objects_of, queue_of, IsStore};
     ghost use Rattle.kernel_model.specs.ImageMask.{TellsImages};
-    ghost use Rattle.call_pieces.specs.Works.{MayCome, SlicesStay, SlicesRise, stage_granted, comes_after};
+    ghost use Rattle.call_pieces.specs.Works.{MayCome, stage_granted, comes_after};
     ghost use Rattle.call_pieces.specs.Coming.{CameTo, LeftBySome, GoesOnFrom, has_failed, is_fault, goes_on};
 
     /// What the calls mean.
@@ -67,7 +66,6 @@ pub trait Calls {
         requires sound { IsStore (λ b. seen (b.vtable, b.value)) store.old }
         requires ready { MayCome Self.Meaning.meaning (world_of_store store.old) (objects_of (λ b. seen (b.vtable, b.value)) store.old) (caller work.old) (stage work.old) }
         requires right { IsRightAnswer (objects_of (λ b. seen (b.vtable, b.value)) store.old) (Self.Meaning.meaning.asks (world_of_store store.old) (objects_of (λ b. seen (b.vtable, b.value)) store.old) (caller work.old) (stage work.old)) answer }
-        requires room { (q : ℕ) → slices_of q (queue_of store.old) < 4294967295 }
         requires disk { store.old.size ≡ D.block_count disk.old }
         requires fresh { log.old ≡ [] }
         ensures does { (images : ImageTable) (blocks : Blocks) (rest : List Bool) → Tells (D.blocks disk.old) blocks →
@@ -78,8 +76,6 @@ pub trait Calls {
             (objects_of (λ b. seen (b.vtable, b.value)) store.new) result.gave (comes_after result.next (stage work.new)) log.new }
         ensures gone { goes_on result.next ≡ true → GoesOnFrom Self.Meaning.meaning (world_of_store store.old) (objects_of (λ b. seen (b.vtable, b.value)) store.old) (objects_of (λ b. seen (b.vtable, b.value)) store.new)
             (caller work.old) (caller work.new) (stage work.old) (stage work.new) }
-        ensures stay { goes_on result.next ≡ true → SlicesStay (queue_of store.old) (queue_of store.new) }
-        ensures rise { SlicesRise (queue_of store.old) (queue_of store.new) }
         ensures failed { is_fault result.next ≡ true → has_failed log.new ≡ true }
         ensures world { world_of_store store.new ≡ world_of_store store.old }
         ensures sound { IsStore (λ b. seen (b.vtable, b.value)) store.new }

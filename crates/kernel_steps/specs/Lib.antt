@@ -2,3 +2,4 @@ pub mod Views
 pub mod Orders
 pub mod Hindered
 pub mod Moves
+pub mod Did

@@ -7,6 +7,7 @@ mod blocking;
 mod moves;
 mod notes;
 mod order;
+mod pieces;
 mod running;
 #[cfg(test)]
 mod tests;

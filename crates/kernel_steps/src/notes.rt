@@ -1,12 +1,15 @@
 //! The notes of an event.
 
-ghost use Rattle.std.specs.Prelude.{◌≡◌, ◌≤◌, ◌<◌, ◌++◌, [], ◌∷◌, length, IfOk};
+ghost use Rattle.std.specs.Prelude.{◌≡◌, ◌≤◌, ◌++◌, [], ◌∷◌, length, IfOk};
+ghost use Rattle.kernel_model.specs.declared.Note.{Note as Told};
+ghost use Rattle.kernel_model.specs.Kernel.{gave_note};
+ghost use Rattle.kernel_steps.specs.Did.{first_notes};
 
-use kernel_model::{NoMemory, Note};
+use kernel_model::{Bytes, NoMemory, Note};
 use std::alloc::Global;
 use std::marker::Model;
 
-/// The most notes of one event (`history_laws::notes`).
+/// The most notes of one event of a sound kernel (`history_laws::notes`).
 const NOTES: usize = 530;
 
 /// The notes of an event, in order. Contracts see their list. Memory is taken once.
@@ -52,11 +55,21 @@ impl Notes {
         self.list.as_slice()
     }
 
-    /// One more note.
+    /// One more note. No event of a sound kernel has more than 530; of more the first are kept.
     pub fn push(&mut self, note: Note)
-        requires { length self.old < 530 }
-        ensures { self.new ≡ self.old ++ note ∷ [] }
+        ensures { (all : List Told) → self.old ≡ first_notes all → self.new ≡ first_notes (all ++ note ∷ []) }
     {
-        let _ = self.list.push(note);
+        if self.list.len() < NOTES {
+            let _ = self.list.push(note);
+        }
+    }
+
+    /// The note of bytes that a piece gave, if it gave some.
+    pub fn push_bytes(&mut self, number: u32, gave: Option<Bytes>)
+        ensures { (all : List Told) → self.old ≡ first_notes all → self.new ≡ first_notes (all ++ gave_note number gave) }
+    {
+        if let Some(bytes) = gave {
+            self.push(Note::Gave(number, bytes));
+        }
     }
 }

@@ -1,0 +1,70 @@
+-- What a change of an event under way did, beside what the definitions say.
+use Rattle.std.specs.Prelude.{◌≡◌, ℕ, Bool, List, [], ◌++◌, Option, take, length}
+use Rattle.disk_log.specs.Calls.{Tells, Made}
+use Rattle.disk_log.specs.Seen.{DiskSeen}
+use Rattle.kernel_model.specs.declared.Note.{Note}
+use Rattle.kernel_model.specs.World.{World, ImageTable, Blocks}
+use Rattle.kernel_model.specs.Objects.{Objects}
+use Rattle.kernel_model.specs.Sound.{HasWholeBlocks}
+use Rattle.kernel_model.specs.Meaning.{Meaning, Piece}
+use Rattle.kernel_model.specs.Kernel.{gave_note, after_note}
+use Rattle.placed_laws.specs.Placed.{Placed, PlacedCall, PlacedRun}
+use Rattle.placed_laws.specs.PlacedSteps.{placed_after}
+use Rattle.kernel_steps.specs.Views.{run_of}
+
+-- the notes that are kept of those of an event: no event of a sound kernel has more
+unfoldable pub first_notes : List Note → List Note
+first_notes notes = take 530 notes
+
+-- ---- a change of an event under way
+
+-- an event under way has come to this kernel in place, of its notes these are kept, the disk tells its blocks, and its next calls
+-- will do this
+pub record CameAs (r : PlacedRun) (y : Placed) (kept : List Note) (told : Option (List (List ℕ))) (rest : List Bool) : Type 0 where
+  pub placed : r.placed ≡ y
+  pub notes : kept ≡ first_notes r.notes
+  pub blocks : Tells told r.blocks
+  pub io : r.io ≡ rest
+
+-- A change of an event under way took one kernel in place to another, the notes that are kept of it to these, and the disk from
+-- the one to the other. Where the disk tells its blocks, all is as the definitions have it.
+pub record Did (f : PlacedRun → PlacedRun) (x y : Placed) (kept kept_new : List Note) (d e : DiskSeen) : Type 0 where
+  -- which of its calls of the disk failed
+  pub io : List Bool
+  pub made : Made d.faults e.faults d.plan e.plan io
+  pub goes : (blocks : Blocks) (notes : List Note) (rest : List Bool) → Tells d.told blocks → kept ≡ first_notes notes →
+      CameAs (f (run_of x blocks notes (io ++ rest))) y kept_new e.told rest
+
+-- Whether the disk tells its blocks or not: over some whole ones the change takes the one kernel in place to the other.
+pub record Reaches (f : PlacedRun → PlacedRun) (x y : Placed) : Type 0 where
+  pub blocks : Blocks
+  pub whole : HasWholeBlocks x.world blocks
+  pub io : List Bool
+  pub goes : (notes : List Note) → (f (run_of x blocks notes io)).placed ≡ y
+
+-- ---- a piece
+
+-- what is left of a piece of a call: the objects, the call, the notes that are kept of it, what the disk tells, and how many calls
+-- of the disk were made
+pub record PieceLeft (c : PlacedCall) (q : Piece) (u : Objects) (call : Option PlacedCall) (notes kept : List Note) (told : Option (List (List ℕ))) (calls : ℕ) : Type 0 where
+  pub objects : u ≡ q.objects
+  pub call_is : call ≡ placed_after c q.after
+  pub kept_are : kept ≡ first_notes (notes ++ gave_note c.number q.gave ++ after_note c.number q.after)
+  pub blocks : Tells told q.blocks
+  pub all_made : calls ≡ q.calls
+
+-- the same for some whole blocks, for a disk that doesn't tell its own
+pub record PieceMayLeave (v : World) (piece : Blocks → List Bool → Piece) (c : PlacedCall) (u : Objects) (call : Option PlacedCall) : Type 0 where
+  pub blocks : Blocks
+  pub whole : HasWholeBlocks v blocks
+  pub io : List Bool
+  pub objects : u ≡ (piece blocks io).objects
+  pub call_is : call ≡ placed_after c (piece blocks io).after
+
+-- a piece of the call c of process p over the objects s, with an answer or by default, was done
+pub record PieceDone (m : Meaning) (v : World) (s u : Objects) (p : ℕ) (c : PlacedCall) (call : Option PlacedCall) (answer : Option (List ℕ)) (kept kept_new : List Note) (d e : DiskSeen) : Type 0 where
+  pub io : List Bool
+  pub made : Made d.faults e.faults d.plan e.plan io
+  pub goes : (images : ImageTable) (blocks : Blocks) (notes : List Note) (rest : List Bool) → Tells d.told blocks → kept ≡ first_notes notes →
+      PieceLeft c (m.piece v images s blocks p c.stage answer (io ++ rest)) u call notes kept_new e.told (length io)
+  pub some : (images : ImageTable) → PieceMayLeave v (λ blocks io. m.piece v images s blocks p c.stage answer io) c u call
