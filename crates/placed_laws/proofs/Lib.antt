@@ -1,5 +1,6 @@
 mod NeededPremises
 pub mod LevelLemmas
+pub mod OwnerLemmas
 pub mod NeedLemmas
 pub mod GraftedLemmas
 pub mod MixedLemmas

@@ -2,6 +2,7 @@
 use Rattle.std.specs.Prelude.{◌≡◌, ℕ, ◌==◌, ◌&&◌, true, false, cond, [], ◌∷◌, Some, None}
 use Rattle.std.proofs.Common.{refl}
 use Rattle.kernel_model.specs.declared.Cause.{Cause}
+use Rattle.kernel_model.specs.declared.Inverse.{Inverse}
 use Rattle.kernel_model.specs.declared.Note.TheVariants.{Ended}
 use Rattle.kernel_model.specs.declared.Op.TheVariants.{Call, Ret}
 use Rattle.kernel_model.specs.declared.QueueRow.{QueueRow}
@@ -10,7 +11,10 @@ use Rattle.kernel_model.specs.declared.SysCall.TheVariants.{Yield, Peek}
 use Rattle.kernel_model.specs.World.{World, ImageTable}
 use Rattle.kernel_model.specs.Objects.{Objects, same_object}
 use Rattle.kernel_model.specs.Meaning.{stage}
-use Rattle.kernel_model.specs.History.{Stepped}
+use Rattle.kernel_model.specs.UndoLog.{undo_log}
+use Rattle.kernel_model.specs.Levels.{Config}
+use Rattle.kernel_model.specs.GraftStep.{micro}
+use Rattle.kernel_model.specs.History.{Stepped, begin_at}
 use Rattle.kernel_model.specs.Kernel.{Run, has_level}
 use Rattle.kernel_model.specs.Settle.{step}
 use Rattle.kernel_model.specs.Events.{drop_call}
@@ -20,6 +24,7 @@ use Rattle.kernel_model.specs.Pieces.{plain}
 use Rattle.kernel_model.specs.Given.{ins}
 use Rattle.placed_laws.specs.Placed.{PlacedRun, has_some}
 use Rattle.placed_laws.specs.PlacedSteps.{placed_step, placed_drop}
+use Rattle.placed_laws.specs.Owners.{AreOfOwner}
 use Rattle.placed_laws.proofs.AlignLemmas.{run_over}
 
 -- a world of the least size
@@ -43,6 +48,25 @@ one_graft =
       };
       things = record opening_things { queue = row 1 ∷ row 0 ∷ [] };
     }
+
+-- a graft call of process 0 that asked process 1's graft
+abbrev asked_beside : Config
+asked_beside = begin_at setting one_graft 0 [] (record { installer = 1; point = 5; args = [] })
+
+-- what it records is the installer's, and not the caller's: the cell that process 1 had
+records_are_owners :
+    AreOfOwner 1 (micro small_world setting 0 asked_beside).config.levels
+    × (undo_log (micro small_world setting 0 asked_beside).config.levels ≡ (Inverse.Cell 1 0 0 ∷ []) ∷ [])
+unfolding same_object
+records_are_owners = ((refl, (refl, tt), tt), refl)
+
+-- so the levels of another owner are not of this one after an instruction
+others_levels_stay : AreOfOwner 0 (micro small_world setting 0 asked_beside).config.levels → ⊥
+unfolding same_object
+others_levels_stay h = one_not_zero h.0
+  where
+    one_not_zero : ◌≡◌ {A = ℕ} 1 0 → ⊥
+    one_not_zero e = cc
 
 -- the slice that process 0 yields is asked of process 1's graft, which has set a cell; process 1 is about to read it
 abbrev reads_beside : Run

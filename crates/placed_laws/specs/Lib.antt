@@ -1,5 +1,6 @@
 pub mod Agreeing
 pub mod Keeping
+pub mod Owners
 pub mod Placed
 pub mod PlacedEvents
 pub mod PlacedRows

@@ -3,6 +3,7 @@
 
 pub mod agreeing;
 pub mod keeping;
+pub mod owners;
 pub mod soundness;
 #[cfg(test)]
 mod tests;

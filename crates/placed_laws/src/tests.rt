@@ -1,6 +1,6 @@
 //! Each law over every table of calls, at the table of the system calls.
 
-use crate::{agreeing, keeping, soundness};
+use crate::{agreeing, keeping, owners, soundness};
 use plain_rules::PlainRules;
 
 #[test]
@@ -15,4 +15,5 @@ fn the_system_calls_have_the_laws(_rt: HostRuntime) {
     keeping::events_stand::<PlainRules>();
     soundness::sound_in_place::<PlainRules>();
     soundness::ready_in_place::<PlainRules>();
+    owners::owners_stay();
 }

@@ -1,0 +1,5 @@
+use Rattle.placed_laws.proofs.OwnerLemmas.{owners_stay}
+use Rattle.placed_laws.proofs.owners.owners_stay.Goals as goal
+
+pub returns : goal.returns
+returns c = owners_stay
