@@ -15,7 +15,7 @@ pub trait Calls {
     ghost use Rattle.kernel_model.specs.Laws.{IsRightAnswer};
     ghost use Rattle.kernel_model.specs.Policies.{lives};
     ghost use Rattle.disk_log.specs.Calls.{Tells, GoesOn};
-    ghost use Rattle.kernel_state.specs.Stores.{world_of_store, objects_of, queue_of, IsStore};
+    ghost use Rattle.kernel_state.specs.Stores.{world_of_store, objects_of, queue_of, IsStore, SegmentsStay};
     ghost use Rattle.kernel_model.specs.ImageMask.{TellsImages};
     ghost use Rattle.call_pieces.specs.Works.{MayCome, stage_granted, comes_after};
     ghost use Rattle.call_pieces.specs.Coming.{CameTo, LeftBySome, GoesOnFrom, has_failed, is_fault, goes_on};
@@ -79,6 +79,7 @@ pub trait Calls {
         ensures failed { is_fault result.next ≡ true → has_failed log.new ≡ true }
         ensures world { world_of_store store.new ≡ world_of_store store.old }
         ensures sound { IsStore (λ b. seen (b.vtable, b.value)) store.new }
+        ensures memory { SegmentsStay store.old.ram store.new.ram }
         ensures same_size { D.block_count disk.new ≡ D.block_count disk.old }
         ensures calls { GoesOn (D.faults disk.old) (D.faults disk.new) (D.plan disk.old) (D.plan disk.new) log.old log.new }
         ensures few { length log.new ≤ 256 };

@@ -1,5 +1,5 @@
 -- Which objects and which world a store stands for, and what always holds of a store.
-use Rattle.std.specs.Prelude.{◌≡◌, ℕ, ◌<◌, ◌≤◌, true, List, [], ◌∷◌, ◌++◌, Option, Some, None, map, slice_index_or}
+use Rattle.std.specs.Prelude.{◌≡◌, ℕ, ◌<◌, ◌≤◌, true, List, [], ◌∷◌, ◌++◌, Option, Some, None, map, slice_index, slice_index_or}
 use Rattle.std.specs.declared.dyn_box.DynBox.{DynBox}
 use Rattle.std.specs.declared.alloc.Global.{Global}
 use Rattle.kernel_model.specs.declared.FileRow.{FileRow}
@@ -85,3 +85,9 @@ objects_of view s = objects_with (accounts_of s.accounts) (processes_of s.procs)
 pub record IsStore {X : Type 0} {F : X → Type 0} (view : Seeing X F) (s : Store X F) : Type 0 where
   pub fits : StoreFits s.cache.count (world_of_store s) (objects_of view s).things
   pub shelf : IsShelf (views_of view s)
+
+-- ---- memory
+
+-- memory beyond the frames stays, where the segments of grafts are
+abbrev pub SegmentsStay : (old new : List ℕ) → Type 0
+SegmentsStay old new = (a : ℕ) → 262144 ≤ a → slice_index new a ≡ slice_index old a

@@ -23,6 +23,7 @@ impl Store {
         ensures queue { queue_of self.new ≡ queue_of self.old }
         ensures world { world_of_store self.new ≡ world_of_store self.old }
         ensures sound { IsStore (λ b. seen b) self.new }
+        ensures memory { self.new.ram ≡ self.old.ram }
     {
         self.procs.rows();
         self.accounts.give(p, q, k, n)
@@ -50,6 +51,7 @@ impl Store {
         ensures queue { queue_of self.new ≡ queue_of self.old }
         ensures world { world_of_store self.new ≡ world_of_store self.old }
         ensures sound { IsStore (λ b. seen b) self.new }
+        ensures memory { self.new.ram ≡ self.old.ram }
     {
         self.procs.rows();
         self.accounts.install(p, pt, image, limit);
@@ -65,6 +67,7 @@ impl Store {
         ensures queue { queue_of self.new ≡ queue_of self.old }
         ensures world { world_of_store self.new ≡ world_of_store self.old }
         ensures sound { IsStore (λ b. seen b) self.new }
+        ensures memory { self.new.ram ≡ self.old.ram }
     {
         self.procs.rows();
         self.accounts.remove(p, pt);
@@ -83,6 +86,7 @@ impl Store {
         ensures queue { queue_of self.new ≡ queue_of self.old }
         ensures world { world_of_store self.new ≡ world_of_store self.old }
         ensures sound { IsStore (λ b. seen b) self.new }
+        ensures memory { self.new.ram ≡ self.old.ram }
     {
         self.procs.rows();
         self.accounts.fund(p, pt, k, n)
@@ -99,6 +103,7 @@ impl Store {
         ensures queue { queue_of self.new ≡ queue_of self.old }
         ensures world { world_of_store self.new ≡ world_of_store self.old }
         ensures sound { IsStore (λ b. seen b) self.new }
+        ensures memory { self.new.ram ≡ self.old.ram }
     {
         self.procs.rows();
         self.accounts.bill(p, pt);

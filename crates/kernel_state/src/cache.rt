@@ -9,7 +9,7 @@ ghost use Rattle.kernel_model.specs.FilePieces.{with_cache};
 ghost use Rattle.kernel_model.specs.RawRows.{frame_row_of};
 ghost use Rattle.kernel_model.specs.declared.FrameRow.{FrameRow as Row};
 ghost use Rattle.buffer_cache.specs.Frames.{in_use, row_at};
-ghost use Rattle.kernel_state.specs.Stores.{world_of_store, objects_of, cache_of, queue_of, policies_of, IsStore};
+ghost use Rattle.kernel_state.specs.Stores.{world_of_store, objects_of, cache_of, queue_of, policies_of, IsStore, SegmentsStay};
 
 use crate::Store;
 use graft_points::victim;
@@ -89,6 +89,7 @@ impl Store {
         ensures world { world_of_store self.new ≡ world_of_store self.old }
         ensures sound { IsStore (λ b. seen b) self.new }
         ensures kept { (g : ℕ) → in_use g self.new.cache ≡ in_use g self.old.cache }
+        ensures memory { self.new.ram ≡ self.old.ram }
     {
         self.cache.touch(f);
     }
@@ -104,6 +105,7 @@ impl Store {
         ensures world { world_of_store self.new ≡ world_of_store self.old }
         ensures sound { IsStore (λ b. seen b) self.new }
         ensures in_cache { in_use f self.new.cache ≡ true }
+        ensures memory { SegmentsStay self.old.ram self.new.ram }
     {
         self.procs.rows();
         self.cache.lru();
@@ -124,6 +126,7 @@ impl Store {
         ensures world { world_of_store self.new ≡ world_of_store self.old }
         ensures sound { IsStore (λ b. seen b) self.new }
         ensures in_cache { in_use f self.new.cache ≡ true }
+        ensures memory { SegmentsStay self.old.ram self.new.ram }
     {
         self.procs.rows();
         self.cache.lru();
@@ -141,6 +144,7 @@ impl Store {
         ensures objects { objects_of (λ b. seen b) self.new ≡ with_cache (with_patch f off bytes.now (cache_of self.old)) (objects_of (λ b. seen b) self.old) }
         ensures world { world_of_store self.new ≡ world_of_store self.old }
         ensures sound { IsStore (λ b. seen b) self.new }
+        ensures memory { SegmentsStay self.old.ram self.new.ram }
     {
         self.cache.lru();
         whole(&self.ram);
@@ -169,6 +173,7 @@ impl Store {
         ensures processes { self.new.procs ≡ self.old.procs }
         ensures world { world_of_store self.new ≡ world_of_store self.old }
         ensures sound { IsStore (λ b. seen b) self.new }
+        ensures memory { self.new.ram ≡ self.old.ram }
     {
         self.cache.lru();
         self.cache.clean(f);

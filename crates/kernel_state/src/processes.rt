@@ -38,6 +38,7 @@ impl Store {
         ensures living { (q : ℕ) → lives (queue_of self.old) q ≡ true → lives (queue_of self.new) q ≡ true }
         ensures world { world_of_store self.new ≡ world_of_store self.old }
         ensures sound { IsStore (λ b. seen b) self.new }
+        ensures memory { self.new.ram ≡ self.old.ram }
     {
         self.procs.spawn()
     }
@@ -50,6 +51,7 @@ impl Store {
         ensures living { (q : ℕ) → lives (queue_of self.new) q ≡ lives (queue_of self.old) q }
         ensures world { world_of_store self.new ≡ world_of_store self.old }
         ensures sound { IsStore (λ b. seen b) self.new }
+        ensures memory { self.new.ram ≡ self.old.ram }
     {
         self.procs.to_back(p);
     }
@@ -66,6 +68,7 @@ impl Store {
         ensures queue { queue_of self.new ≡ queue_without p (queue_of self.old) }
         ensures world { world_of_store self.new ≡ world_of_store self.old }
         ensures sound { IsStore (λ b. seen b) self.new }
+        ensures memory { self.new.ram ≡ self.old.ram }
     {
         self.procs.rows();
         self.procs.leave(p);
@@ -90,6 +93,7 @@ impl Store {
         ensures living { (q : ℕ) → lives (queue_of self.new) q ≡ lives (queue_of self.old) q }
         ensures world { world_of_store self.new ≡ world_of_store self.old }
         ensures sound { IsStore (λ b. seen b) self.new }
+        ensures memory { self.new.ram ≡ self.old.ram }
     {
         self.procs.add_slice(p);
     }
@@ -134,6 +138,7 @@ impl Store {
         ensures queue { queue_of self.new ≡ queue_of self.old }
         ensures world { world_of_store self.new ≡ world_of_store self.old }
         ensures sound { IsStore (λ b. seen b) self.new }
+        ensures memory { self.new.ram ≡ self.old.ram }
     {
         self.procs.set_holder(u, holder);
     }

@@ -4,7 +4,7 @@ ghost use Rattle.std.specs.Prelude.{◌≡◌, Some, option_map};
 ghost use Rattle.disk_log.specs.Seen.{disk_seen};
 ghost use Rattle.kernel_model.specs.Laws.{IsReady};
 ghost use Rattle.kernel_model.specs.World.{ImageTable};
-ghost use Rattle.kernel_state.specs.Stores.{world_of_store, objects_of, IsStore};
+ghost use Rattle.kernel_state.specs.Stores.{world_of_store, objects_of, IsStore, SegmentsStay};
 ghost use Rattle.kernel_steps.specs.declared.running.InFlight.{InFlight as Flying};
 ghost use Rattle.kernel_steps.specs.Did.{PieceDone};
 ghost use Rattle.kernel_steps.specs.Views.{call_in_place};
@@ -38,6 +38,7 @@ pub(crate) fn do_piece<C: Calls, D: Disk>(
     ensures world { world_of_store store.new ≡ world_of_store store.old }
     ensures size { store.new.size ≡ store.old.size }
     ensures sound { IsStore (λ b. seen (b.vtable, b.value)) store.new }
+    ensures memory { SegmentsStay store.old.ram store.new.ram }
     ensures same_size { D.block_count disk.new ≡ D.block_count disk.old }
 {
     let Some(mut call) = slot.take() else {
