@@ -8,3 +8,6 @@ pub mod MoveLemmas
 pub mod StayLemmas
 pub mod AgainLemmas
 pub mod OnceLemmas
+pub mod PieceLemmas
+pub mod DidLemmas
+pub mod FinishLemmas

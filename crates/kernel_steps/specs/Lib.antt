@@ -3,3 +3,4 @@ pub mod Orders
 pub mod Hindered
 pub mod Moves
 pub mod Did
+pub mod Steps

@@ -19,9 +19,13 @@ use Rattle.kernel_steps.specs.Orders.{order_of, counts_within, are_processes, ar
 
 -- ---- a kernel in place
 
+-- no level
+abbrev pub no_chain : Chain
+no_chain = record { levels = []; undo = [] }
+
 -- no call, and no level
 abbrev pub no_flight : {W : Type 0} → Flight W
-no_flight = record { call = None; chain = record { levels = []; undo = [] } }
+no_flight = record { call = None; chain = no_chain }
 
 -- what a process has in flight
 abbrev pub flight_of : {W : Type 0} → List (Flight W) → ℕ → Flight W

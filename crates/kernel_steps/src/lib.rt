@@ -9,6 +9,7 @@ mod notes;
 mod order;
 mod pieces;
 mod running;
+mod steps;
 #[cfg(test)]
 mod tests;
 mod waits;

@@ -1,0 +1,50 @@
+-- What a piece of a call in flight comes to.
+use Rattle.std.proofs.Common.{◌≡◌, ℕ, Bool, List, [], ◌∷◌, ◌++◌, Option, Some, None, length, ap, sym, subst, ◌∙◌, refl}
+use Rattle.kernel_model.specs.declared.Note.{Note}
+use Rattle.kernel_model.specs.World.{World, ImageTable, Blocks}
+use Rattle.kernel_model.specs.Objects.{Objects}
+use Rattle.kernel_model.specs.Meaning.{Meaning, Stage, After, Piece}
+use Rattle.kernel_model.specs.Kernel.{gave_note, after_note}
+use Rattle.vino_base.specs.Calls.{Plan}
+use Rattle.disk_log.specs.Calls.{Tells, GoesOn}
+use Rattle.disk_log.specs.Seen.{disk_seen}
+use Rattle.disk_log.proofs.Joined.{made_none}
+use Rattle.call_pieces.specs.Coming.{CameTo, LeftBySome}
+use Rattle.placed_laws.specs.Placed.{PlacedCall}
+use Rattle.placed_laws.specs.PlacedSteps.{placed_after}
+use Rattle.kernel_steps.specs.Did.{first_notes, PieceLeft, PieceMayLeave, PieceDone}
+
+pub piece_done : (m : Meaning) (v : World) (s u : Objects) (p : ℕ) (c : PlacedCall) (call : Option PlacedCall) (answer : Option (List ℕ)) (kept mid kept_new : List Note) (told told_new : Option (List (List ℕ)))
+    (plan plan_new : Option Plan) (faults faults_new : ℕ) (io : List Bool) (gave : Option (List ℕ)) (after : After) →
+    ((images : ImageTable) (blocks : Blocks) (rest : List Bool) → Tells told blocks → CameTo (m.piece v images s blocks p c.stage answer (io ++ rest)) u told_new gave after (length io)) →
+    ((images : ImageTable) → LeftBySome v (λ blocks io. m.piece v images s blocks p c.stage answer io) u gave after io) →
+    GoesOn faults faults_new plan plan_new [] io → call ≡ placed_after c after →
+    ((all : List Note) → kept ≡ first_notes all → mid ≡ first_notes (all ++ gave_note c.number gave)) →
+    ((all : List Note) → mid ≡ first_notes all → kept_new ≡ first_notes (all ++ after_note c.number after)) →
+    PieceDone m v s u p c call answer kept kept_new (disk_seen told plan faults) (disk_seen told_new plan_new faults_new)
+piece_done m v s u p c call answer kept mid kept_new told told_new plan plan_new faults faults_new io gave after does some made call_is first second =
+    record {
+      io = io;
+      made = made faults plan (made_none faults plan);
+      goes = λ images blocks notes rest tells k.
+          let q : Piece = m.piece v images s blocks p c.stage answer (io ++ rest) in
+          let came = does images blocks rest tells in
+          record {
+            objects = came.objects;
+            call_is = call_is ∙ ap (placed_after c) came.next;
+            kept_are = second (notes ++ gave_note c.number gave) (first notes k)
+            ∙ ap (λ g. first_notes (notes ++ gave_note c.number g ++ after_note c.number after)) came.bytes
+            ∙ ap (λ a. first_notes (notes ++ gave_note c.number q.gave ++ after_note c.number a)) came.next;
+            blocks = came.blocks;
+            all_made = came.calls_made;
+          };
+      some = λ images.
+          let l = some images in
+          record {
+            blocks = l.blocks;
+            whole = l.whole;
+            io = io ++ [];
+            objects = (l.left []).objects;
+            call_is = call_is ∙ ap (placed_after c) (l.left []).next;
+          };
+    }

@@ -1,0 +1,52 @@
+-- One step of a call, as the code takes it: a move of its levels, and what that leaves to do.
+use Rattle.std.specs.Prelude.{◌≡◌, ◌≢◌, ℕ, zero, suc, List, Option, Some, None, length}
+use Rattle.kernel_model.specs.declared.Cause.{Cause}
+use Rattle.kernel_model.specs.declared.Micro.{Micro}
+use Rattle.kernel_model.specs.declared.Note.TheVariants.{Dropped}
+use Rattle.kernel_model.specs.Meaning.{Meaning}
+use Rattle.lock_table.specs.Masks.{held}
+use Rattle.kernel_state.specs.Stores.{Seeing, world_of_store, objects_of, IsStore, SegmentsStay}
+use Rattle.graft_loader.specs.Slots.{table_of}
+use Rattle.graft_calls.specs.Calls.{IsPlaced, AreInside}
+use Rattle.placed_laws.specs.Placed.{PlacedCall, PlacedRun}
+use Rattle.placed_laws.specs.PlacedSteps.{placed_noted, placed_finish_on}
+use Rattle.kernel_steps.specs.declared.running.InFlight.{InFlight}
+use Rattle.kernel_steps.specs.declared.running.Running.{Running}
+use Rattle.kernel_steps.specs.Views.{flight_of, chain_of}
+
+-- ---- what a move leaves to do
+
+module _ (m : Meaning) where
+  -- the piece of a call is done on the store as it is, with an answer or by default
+  abbrev pub finishes : ℕ → PlacedCall → Option (List ℕ) → PlacedRun → PlacedRun
+  finishes p c answer r = placed_finish_on m p c r.placed.objects answer r
+
+  -- level d of a call was dropped: with level 0 the default finishes the piece
+  abbrev pub after_drop : ℕ → PlacedCall → (d : ℕ) → PlacedRun → PlacedRun
+  after_drop p c zero r = finishes p c None r
+  after_drop p c (suc d) r = r
+
+  -- an instruction, or the drop of a level, said this
+  abbrev pub after_said : ℕ → PlacedCall → Micro → PlacedRun → PlacedRun
+  after_said p c Micro.Went r = r
+  after_said p c (Micro.Blocked object holder by_user) r = r
+  after_said p c (Micro.Completed answer) r = finishes p c (Some answer) r
+  after_said p c (Micro.Dropped d q pt cause) r = after_drop p c d (placed_noted (Dropped c.number q pt cause) r)
+
+-- ---- what a step changes
+
+-- A step of the call of p. Of all that is in flight p's alone has changed, the memory of grafts but for p's own, what the others
+-- hold, images, clock and order stay; and p's levels are in place again.
+pub record Stepped {C M W X : Type 0} {F : X → Type 0} (view : Seeing X F) (caller : W → ℕ) (x y : Running C M W X F) (p : ℕ) : Type 0 where
+  pub store : IsStore view y.store
+  pub world : world_of_store y.store ≡ world_of_store x.store
+  pub sixteen : length y.calls.items ≡ length x.calls.items
+  pub caller_is : (f : InFlight W) → (flight_of y.calls.items p).call ≡ Some f → caller f.work ≡ p
+  pub calls : (q : ℕ) → q ≢ p → (flight_of y.calls.items q).call ≡ (flight_of x.calls.items q).call
+  pub chains : (q : ℕ) → q ≢ p → chain_of y q ≡ chain_of x q
+  pub locks : (q d : ℕ) → q ≢ p → held y.locks q d ≡ held x.locks q d
+  pub placed : IsPlaced view y.store y.locks p (chain_of y p).levels (chain_of y p).undo
+  pub inside : AreInside (table_of y.images) (objects_of view y.store).accounts p (chain_of y p).levels
+  pub images : y.images ≡ x.images
+  pub clock : y.clock ≡ x.clock
+  pub order : y.order ≡ x.order
