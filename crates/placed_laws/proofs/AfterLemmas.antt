@@ -61,6 +61,17 @@ other_changer m k sound p o = elim (changer m k sound o) [
     by_number q changed (inr ne) = inl (q, ne, changed)
     by_number q changed (inl e) = inr (λ i ne. others_apart m k sound p i o ne (subst (λ j. is_changed_in (levels_of m k j) o ≡ true) e changed))
 
+-- what a call that is the same in another kernel holds exclusively stands in place there as before
+pub stable_placed : (m : Meaning) (k l : Kernel) → IsSoundKernel m k → IsSoundKernel m l → (q : ℕ) (o : Object) → IsStable m k l q → is_changed_in (levels_of m k q) o ≡ true →
+    SameAt o (in_place m k) (in_place m l)
+stable_placed m k l before after q o stable changed =
+    let f = changer_config m k before q o changed in
+    let d = stable f.0 f.1 in
+    let now = d.2.now o (changed_held f.0.levels o f.2) in
+    let still = sym (changed_alike f.0.levels d.0.levels o d.2.levels) ∙ f.2 in
+    same_then o (in_place m k) f.0.now (in_place m l) ((in_place_reads m).own k q f.0 o before f.1 f.2)
+    (same_then o f.0.now d.0.now (in_place m l) now (same_back o (in_place m l) d.0.now ((in_place_reads m).own l q d.0 o after d.1 still)))
+
 module _ (m : Meaning) (laws : Laws m) (k : Kernel) (w : Objects) (here : IsPlaced m k w) (l : Kernel) (after : IsSoundKernel m l) (p : ℕ)
     (calls : (q : ℕ) → q ≢ p → l.call q ≡ k.call q) (stable : (q : ℕ) → q ≢ p → IsStable m k l q) where
   -- the levels of the others are the same
@@ -97,13 +108,7 @@ module _ (m : Meaning) (laws : Laws m) (k : Kernel) (w : Objects) (here : IsPlac
 
   -- and it stands in place as before
   others_placed : (q : ℕ) (o : Object) → q ≢ p → is_changed_in (levels_of m k q) o ≡ true → SameAt o (in_place m k) (in_place m l)
-  others_placed q o ne changed =
-      let f = changer_config m k here.kernel q o changed in
-      let d = stable q ne f.0 f.1 in
-      let now = d.2.now o (changed_held f.0.levels o f.2) in
-      let still = sym (changed_alike f.0.levels d.0.levels o d.2.levels) ∙ f.2 in
-      same_then o (in_place m k) f.0.now (in_place m l) ((in_place_reads m).own k q f.0 o here.kernel f.1 f.2)
-      (same_then o f.0.now d.0.now (in_place m l) now (same_back o (in_place m l) d.0.now ((in_place_reads m).own l q d.0 o after d.1 still)))
+  others_placed q o ne changed = stable_placed m k l here.kernel after q o (stable q ne) changed
 
   pub placed_after : (y : Objects) → OwnPart m k w p y l → (o : Object) → HasRange o → SameAt o y (in_place m l)
   placed_after y part o range = elim (other_changer m k here.kernel p o) [

@@ -23,6 +23,7 @@ pub mod OutcomeStandLemmas
 pub mod KnownLemmas
 pub mod PieceStandLemmas
 pub mod StandLemmas
+pub mod HeldLemmas
 pub mod RowLemmas
 pub mod OtherLemmas
 pub mod SettleLemmas

@@ -2,12 +2,14 @@
 use Rattle.std.specs.Prelude.{◌≡◌, ℕ, ◌==◌, ◌&&◌, true, false, cond, [], ◌∷◌, Some, None}
 use Rattle.std.proofs.Common.{refl}
 use Rattle.kernel_model.specs.declared.Cause.{Cause}
+use Rattle.kernel_model.specs.declared.Held.{Held}
 use Rattle.kernel_model.specs.declared.Inverse.{Inverse}
 use Rattle.kernel_model.specs.declared.Note.TheVariants.{Ended}
+use Rattle.kernel_model.specs.declared.Object.TheVariants.{Cell}
 use Rattle.kernel_model.specs.declared.Op.TheVariants.{Call, Ret}
 use Rattle.kernel_model.specs.declared.QueueRow.{QueueRow}
 use Rattle.kernel_model.specs.declared.Reply.{Reply}
-use Rattle.kernel_model.specs.declared.SysCall.TheVariants.{Yield, Peek}
+use Rattle.kernel_model.specs.declared.SysCall.TheVariants.{Yield, Peek, Poke}
 use Rattle.kernel_model.specs.World.{World, ImageTable}
 use Rattle.kernel_model.specs.Objects.{Objects, same_object}
 use Rattle.kernel_model.specs.Meaning.{stage}
@@ -22,7 +24,7 @@ use Rattle.kernel_model.specs.InPlace.{in_place}
 use Rattle.kernel_model.specs.Opening.{opening_accounts, opening_things}
 use Rattle.kernel_model.specs.Pieces.{plain}
 use Rattle.kernel_model.specs.Given.{ins}
-use Rattle.placed_laws.specs.Placed.{PlacedRun, has_some}
+use Rattle.placed_laws.specs.Placed.{PlacedRun, has_some, placed_holds}
 use Rattle.placed_laws.specs.PlacedSteps.{placed_step, placed_drop}
 use Rattle.placed_laws.specs.Owners.{AreOfOwner}
 use Rattle.placed_laws.proofs.AlignLemmas.{run_over}
@@ -96,6 +98,23 @@ blocked_reader_differs :
     × ((placed_step plain 1 (in_one_store reads_beside)).notes ≡ Ended 2 (Reply.One 20) ∷ [])
 unfolding same_object
 blocked_reader_differs = (refl, refl)
+
+-- process 1 is about to write that cell instead
+abbrev writes_beside : Run
+writes_beside =
+    record reads_beside {
+      kernel = record (reads_beside.kernel) {
+        call = λ p. cond (p == 1) (Some (record { number = 2; stage = stage (Poke 1 7) 0; marks = None })) (reads_beside.kernel.call p);
+      };
+    }
+
+-- the writer is blocked; a step of it would change in the store what the other call holds exclusively
+blocked_writer_takes :
+    (placed_holds (in_one_store writes_beside).placed 0 0 (Cell 1 1) ≡ Held.Exclusive)
+    × ((in_one_store writes_beside).placed.objects.things.cell 1 1 ≡ 20)
+    × ((placed_step plain 1 (in_one_store writes_beside)).placed.objects.things.cell 1 1 ≡ 7)
+unfolding same_object
+blocked_writer_takes = (refl, refl, refl)
 
 -- the drop of a level that isn't there would take all levels from the kernel in place, and none from the abstract one
 absent_drop_differs :

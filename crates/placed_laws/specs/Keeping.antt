@@ -1,10 +1,13 @@
 -- That a kernel in place goes on to stand for the abstract kernel, whatever both do.
-use Rattle.std.specs.Prelude.{◌≡◌, ◌<◌, ℕ, true, false, [], Some, None, length, Ok}
+use Rattle.std.specs.Prelude.{◌≡◌, ◌≢◌, ◌<◌, ℕ, true, false, [], Some, None, length, Ok}
 use Rattle.kernel_model.specs.declared.Cause.{Cause}
 use Rattle.kernel_model.specs.declared.Event.{Event}
+use Rattle.kernel_model.specs.declared.Held.{Held}
 use Rattle.kernel_model.specs.declared.Note.{Note}
+use Rattle.kernel_model.specs.declared.Object.{Object}
 use Rattle.kernel_model.specs.declared.SysCall.{SysCall}
 use Rattle.kernel_model.specs.World.{ImageTable}
+use Rattle.kernel_model.specs.Objects.{SameAt}
 use Rattle.kernel_model.specs.Policies.{lives}
 use Rattle.kernel_model.specs.Meaning.{Meaning, Stage}
 use Rattle.kernel_model.specs.Kernel.{Call, Blocker, Kernel, Run, with_call, noted, joins, requeue}
@@ -13,7 +16,7 @@ use Rattle.kernel_model.specs.Events.{drop_call, in_order, ticked, event_on}
 use Rattle.kernel_model.specs.Sound.{IsSoundKernel, IsAtRest}
 use Rattle.kernel_model.specs.Alike.{Extends}
 use Rattle.graft_laws.specs.Kernels.{with_images}
-use Rattle.placed_laws.specs.Placed.{has_some, PlacedCall, Placed, PlacedRun, placed_blocker}
+use Rattle.placed_laws.specs.Placed.{has_some, PlacedCall, Placed, PlacedRun, placed_holds, placed_blocker}
 use Rattle.placed_laws.specs.PlacedSteps.{with_placed_call, placed_noted, placed_joins, placed_requeue, placed_ticked, placed_rested_order, with_placed_order, with_placed_images, placed_step, placed_drop}
 use Rattle.placed_laws.specs.PlacedEvents.{placed_event_on}
 use Rattle.placed_laws.specs.Stands.{StandsFor, RunStandsFor}
@@ -42,6 +45,16 @@ abbrev pub DropsStand : Meaning → Type 0
 DropsStand m =
     (x : PlacedRun) (r : Run) (p d : ℕ) (cause : Cause) → RunStandsFor m x r → d < length (x.placed.levels p) →
     RunStandsFor m (placed_drop m p d cause x) (drop_call m p (r.kernel.call p) (Some d) cause r)
+
+-- What the call of another process q holds exclusively, at any of its levels, stays in the store whatever p's call does or loses.
+pub record HeldStays (m : Meaning) : Type 0 where
+  -- a step of a call that nothing blocks
+  pub steps : (x : PlacedRun) (r : Run) (p q d : ℕ) (c : PlacedCall) (o : Object) → RunStandsFor m x r → x.placed.call p ≡ Some c →
+      placed_blocker m x.placed p ≡ None → q ≢ p → placed_holds x.placed q d o ≡ Held.Exclusive →
+      SameAt o (placed_step m p x).placed.objects x.placed.objects
+  -- the drop of one of a call's levels
+  pub drops : (x : PlacedRun) (r : Run) (p q d n : ℕ) (cause : Cause) (o : Object) → RunStandsFor m x r → n < length (x.placed.levels p) →
+      q ≢ p → placed_holds x.placed q d o ≡ Held.Exclusive → SameAt o (placed_drop m p n cause x).placed.objects x.placed.objects
 
 -- ---- calls and the order of waiting
 

@@ -1,6 +1,6 @@
 //! Laws that a kernel in place goes on to stand for the abstract kernel. A call of one brings its statement into a proof.
 
-ghost use Rattle.placed_laws.specs.Keeping.{QuietKernelsStand, StepsStand, DropsStand, OthersStand, EventsStand};
+ghost use Rattle.placed_laws.specs.Keeping.{QuietKernelsStand, StepsStand, DropsStand, OthersStand, EventsStand, HeldStays};
 
 use kernel_model::Rules;
 
@@ -28,4 +28,9 @@ pub fn others_stand<R: Rules>()
 /// So does a whole event from a kernel at rest, which leaves one at rest: the same notes, blocks and disk calls.
 pub fn events_stand<R: Rules>()
     ensures { EventsStand R.meaning }
+{}
+
+/// What another call holds exclusively stays in the store through a step or a drop of one call.
+pub fn held_stays<R: Rules>()
+    ensures { HeldStays R.meaning }
 {}

@@ -1,0 +1,5 @@
+use Rattle.placed_laws.proofs.HeldLemmas.{held_stays}
+use Rattle.placed_laws.proofs.keeping.held_stays.Goals as goal
+
+pub returns : goal.returns
+returns g c = held_stays g.R.Rules.meaning g.R.Rules.laws
