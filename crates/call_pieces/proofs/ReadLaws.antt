@@ -10,7 +10,8 @@ use Rattle.kernel_model.specs.Objects.{Objects, CacheValue, at2}
 use Rattle.kernel_model.specs.Meaning.{Stage, After, Continues, stage}
 use Rattle.kernel_model.specs.Needs.{file_block, ahead_block}
 use Rattle.kernel_model.specs.Fetch.{Fetched, Got, bytes_of, fetch, fetch_ahead}
-use Rattle.kernel_model.specs.FilePieces.{with_cache, with_file, with_ahead, well, unless_zero, read_on, read_first, read_third, read_first_at, read_third_at, read_piece}
+use Rattle.kernel_model.specs.FilePieces.{with_cache, with_file, with_ahead, well, unless_zero, read_on, read_first, read_third, read_second, ahead_by, read_first_at, read_third_at, read_piece}
+use Rattle.kernel_model.specs.Policies.{ahead_default}
 use Rattle.kernel_model.specs.Pieces.{read_fits}
 use Rattle.call_pieces.specs.Coming.{CameTo, FetchCameTo, ReadGoes, blocks_after}
 
@@ -96,6 +97,10 @@ third_block x b v s new blocks p fd i off len n o answer io told gave after is c
 pub read_zero : (n : ℕ) (v : World) (s : Objects) (blocks : Blocks) (p fd i off len : ℕ) (x : Option OpenRow) (o : OpenRow) (answer : Option (List ℕ)) (io : List Bool) → n ≡ 0 → x ≡ Some o →
     read_piece n v s blocks p fd i off len x answer io ≡ read_first_at (file_block v (Some o) i off len) v s blocks p fd i off len o answer io
 read_zero n v s blocks p fd i off len x o answer io number file = ap (λ k. read_piece k v s blocks p fd i off len x answer io) number ∙ ap (λ (y : Option OpenRow). read_piece 0 v s blocks p fd i off len y answer io) file
+
+pub read_one : (n : ℕ) (v : World) (s : Objects) (blocks : Blocks) (p fd i off len : ℕ) (x : Option OpenRow) (o : OpenRow) (answer : Option (List ℕ)) (io : List Bool) → n ≡ 1 → x ≡ Some o →
+    read_piece n v s blocks p fd i off len x answer io ≡ read_second s blocks p fd i off len o (ahead_by answer (ahead_default v (s.things.pol 0) (Some o)))
+read_one n v s blocks p fd i off len x o answer io number file = ap (λ k. read_piece k v s blocks p fd i off len x answer io) number ∙ ap (λ (y : Option OpenRow). read_piece 1 v s blocks p fd i off len y answer io) file
 
 pub read_later : (n : ℕ) (v : World) (s : Objects) (blocks : Blocks) (p fd i off len : ℕ) (x : Option OpenRow) (o : OpenRow) (answer : Option (List ℕ)) (io : List Bool) → n ≡ 2 → x ≡ Some o →
     read_piece n v s blocks p fd i off len x answer io ≡ read_third_at (ahead_block v (Some o)) v s blocks p fd i off len o answer io

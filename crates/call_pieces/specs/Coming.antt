@@ -50,16 +50,20 @@ abbrev pub fetched_so : Result ℕ DiskFailed → CacheValue → Blocks → ℕ 
 fetched_so (Ok f) cache blocks calls = Got cache blocks f calls
 fetched_so (Err e) cache blocks calls = Failed calls
 
+-- a fetch left this cache, and so many calls of the disk were made: as the definitions' fetch has it
+abbrev pub FetchLeft : Fetched → Blocks → Result ℕ DiskFailed → CacheValue → ℕ → Type 0
+FetchLeft q blocks result cache calls = fetched_so result cache (blocks_after q blocks) calls ≡ q
+
 -- a fetch left this cache, the disk tells this, and so many calls were made: all as the definitions' fetch has it
 pub record FetchCameTo (q : Fetched) (blocks : Blocks) (result : Result ℕ DiskFailed) (cache : CacheValue) (told : Option (List (List ℕ))) (calls : ℕ) : Type 0 where
-  pub outcome : fetched_so result cache (blocks_after q blocks) calls ≡ q
+  pub outcome : FetchLeft q blocks result cache calls
   pub tells : Tells told (blocks_after q blocks)
 
--- a fetch left this cache, for some whole blocks, where these calls of the disk were made: as the definitions' fetch has it
+-- so it is with a fetch for some whole blocks, where these calls of the disk were made
 pub record FetchLeftBySome (v : World) (fetch : Blocks → List Bool → Fetched) (result : Result ℕ DiskFailed) (cache : CacheValue) (io : List Bool) : Type 0 where
   pub blocks : Blocks
   pub whole : HasWholeBlocks v blocks
-  pub outcome : (rest : List Bool) → fetched_so result cache (blocks_after (fetch blocks (io ++ rest)) blocks) (length io) ≡ fetch blocks (io ++ rest)
+  pub outcome : (rest : List Bool) → FetchLeft (fetch blocks (io ++ rest)) blocks result cache (length io)
 
 -- one of these calls of the disk failed
 abbrev pub has_failed : List Bool → Bool

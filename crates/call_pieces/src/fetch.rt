@@ -12,7 +12,7 @@ ghost use Rattle.kernel_model.specs.FilePieces.{with_cache};
 ghost use Rattle.buffer_cache.specs.Frames.{in_use};
 ghost use Rattle.disk_log.specs.Calls.{Tells, GoesOn};
 ghost use Rattle.kernel_state.specs.Stores.{world_of_store, objects_of, cache_of, queue_of, policies_of, IsStore};
-ghost use Rattle.call_pieces.specs.Coming.{FetchCameTo, has_failed};
+ghost use Rattle.call_pieces.specs.Coming.{FetchCameTo, FetchLeft, FetchLeftBySome, blocks_after, has_failed};
 
 use disk_log::DiskLog;
 use kernel_model::BLOCK_BYTES;
@@ -38,6 +38,8 @@ pub(crate) fn fetch<D: Disk>(
     ensures does { (blocks : Blocks) (rest : List Bool) → Tells (D.blocks disk.old) blocks →
         FetchCameTo (fetches.fetch (world_of_store store.old) (policies_of (λ b. seen (b.vtable, b.value)) store.old 1) p b answer (cache_of store.old) blocks (log.new ++ rest)) blocks
         result (cache_of store.new) (D.blocks disk.new) (length log.new) }
+    ensures some { FetchLeftBySome (world_of_store store.old) (λ blocks io. fetches.fetch (world_of_store store.old) (policies_of (λ b. seen (b.vtable, b.value)) store.old 1) p b answer (cache_of store.old) blocks io)
+        result (cache_of store.new) log.new }
     ensures objects { objects_of (λ b. seen (b.vtable, b.value)) store.new ≡ with_cache (cache_of store.new) (objects_of (λ b. seen (b.vtable, b.value)) store.old) }
     ensures in_cache { IfOk result (λ f. in_use f store.new.cache ≡ true) }
     ensures kept { IfErr result (λ _. objects_of (λ b. seen (b.vtable, b.value)) store.new ≡ objects_of (λ b. seen (b.vtable, b.value)) store.old) }
@@ -75,6 +77,8 @@ pub(crate) fn fetch_ahead<D: Disk>(
     ensures does { (blocks : Blocks) (rest : List Bool) → Tells (D.blocks disk.old) blocks →
         FetchCameTo (fetches.fetch_ahead (world_of_store store.old) (policies_of (λ b. seen (b.vtable, b.value)) store.old 1) p b answer (cache_of store.old) blocks (log.new ++ rest)) blocks
         result (cache_of store.new) (D.blocks disk.new) (length log.new) }
+    ensures some { FetchLeftBySome (world_of_store store.old) (λ blocks io. fetches.fetch_ahead (world_of_store store.old) (policies_of (λ b. seen (b.vtable, b.value)) store.old 1) p b answer (cache_of store.old) blocks io)
+        result (cache_of store.new) log.new }
     ensures objects { objects_of (λ b. seen (b.vtable, b.value)) store.new ≡ with_cache (cache_of store.new) (objects_of (λ b. seen (b.vtable, b.value)) store.old) }
     ensures in_cache { IfOk result (λ f. in_use f store.new.cache ≡ true) }
     ensures kept { IfErr result (λ _. objects_of (λ b. seen (b.vtable, b.value)) store.new ≡ objects_of (λ b. seen (b.vtable, b.value)) store.old) }
@@ -110,6 +114,8 @@ fn load<D: Disk>(
     ensures does { (blocks : Blocks) (rest : List Bool) → Tells (D.blocks disk.old) blocks →
         FetchCameTo (read_block (world_of_store store.old) (policies_of (λ b. seen (b.vtable, b.value)) store.old 1) p b answer (cache_of store.old) blocks (log.new ++ rest)) blocks
         result (cache_of store.new) (D.blocks disk.new) (length log.new) }
+    ensures some { FetchLeftBySome (world_of_store store.old) (λ blocks io. read_block (world_of_store store.old) (policies_of (λ b. seen (b.vtable, b.value)) store.old 1) p b answer (cache_of store.old) blocks io)
+        result (cache_of store.new) log.new }
     ensures objects { objects_of (λ b. seen (b.vtable, b.value)) store.new ≡ with_cache (cache_of store.new) (objects_of (λ b. seen (b.vtable, b.value)) store.old) }
     ensures in_cache { IfOk result (λ f. in_use f store.new.cache ≡ true) }
     ensures kept { IfErr result (λ _. objects_of (λ b. seen (b.vtable, b.value)) store.new ≡ objects_of (λ b. seen (b.vtable, b.value)) store.old) }
@@ -145,10 +151,13 @@ fn place<D: Disk>(
     requires disk { store.old.size ≡ D.block_count disk.old }
     requires read { log.old ≡ false ∷ [] }
     requires missing { frame_of_block (cache_of store.old) b ≡ None }
-    ensures does { (blocks : Blocks) (rest : List Bool) → Tells (D.blocks disk.old) blocks → blocks b ≡ bytes.now →
+    ensures outcome { (blocks : Blocks) (rest : List Bool) → blocks b ≡ bytes.now →
         let candidate = or_zero (victim_among (policies_of (λ b. seen (b.vtable, b.value)) store.old 1) (cache_of store.old) (cache_of store.old).lru) in
-        FetchCameTo (place_block (free_frame (cache_of store.old) (world_of_store store.old).frames 0) p b (chosen_by answer candidate) candidate (cache_of store.old) blocks (log.new ++ rest)) blocks
-        result (cache_of store.new) (D.blocks disk.new) (length log.new) }
+        FetchLeft (place_block (free_frame (cache_of store.old) (world_of_store store.old).frames 0) p b (chosen_by answer candidate) candidate (cache_of store.old) blocks (log.new ++ rest)) blocks
+        result (cache_of store.new) (length log.new) }
+    ensures tells { (blocks : Blocks) (rest : List Bool) → blocks b ≡ bytes.now → Tells (D.blocks disk.old) blocks →
+        let candidate = or_zero (victim_among (policies_of (λ b. seen (b.vtable, b.value)) store.old 1) (cache_of store.old) (cache_of store.old).lru) in
+        Tells (D.blocks disk.new) (blocks_after (place_block (free_frame (cache_of store.old) (world_of_store store.old).frames 0) p b (chosen_by answer candidate) candidate (cache_of store.old) blocks (log.new ++ rest)) blocks) }
     ensures first { (rest : List Bool) → disk_fails (log.new ++ rest) 0 ≡ false }
     ensures objects { objects_of (λ b. seen (b.vtable, b.value)) store.new ≡ with_cache (cache_of store.new) (objects_of (λ b. seen (b.vtable, b.value)) store.old) }
     ensures in_cache { IfOk result (λ f. in_use f store.new.cache ≡ true) }
@@ -205,9 +214,11 @@ fn evict<D: Disk>(
     requires missing { frame_of_block (cache_of store.old) b ≡ None }
     requires frame { in_use f store.old.cache ≡ true }
     requires candidate { in_use candidate store.old.cache ≡ true }
-    ensures does { (blocks : Blocks) (rest : List Bool) → Tells (D.blocks disk.old) blocks →
-        FetchCameTo (evicted ((cache_of store.old).frame f) f (replaced f candidate (new_frame p b bytes.now) (cache_of store.old)) blocks (log.new ++ rest)) blocks
-        result (cache_of store.new) (D.blocks disk.new) (length log.new) }
+    ensures outcome { (blocks : Blocks) (rest : List Bool) →
+        FetchLeft (evicted ((cache_of store.old).frame f) f (replaced f candidate (new_frame p b bytes.now) (cache_of store.old)) blocks (log.new ++ rest)) blocks
+        result (cache_of store.new) (length log.new) }
+    ensures tells { (blocks : Blocks) (rest : List Bool) → Tells (D.blocks disk.old) blocks →
+        Tells (D.blocks disk.new) (blocks_after (evicted ((cache_of store.old).frame f) f (replaced f candidate (new_frame p b bytes.now) (cache_of store.old)) blocks (log.new ++ rest)) blocks) }
     ensures first { (rest : List Bool) → disk_fails (log.new ++ rest) 0 ≡ false }
     ensures objects { objects_of (λ b. seen (b.vtable, b.value)) store.new ≡ with_cache (cache_of store.new) (objects_of (λ b. seen (b.vtable, b.value)) store.old) }
     ensures in_cache { IfOk result (λ g. in_use g store.new.cache ≡ true) }
@@ -250,9 +261,11 @@ fn evict_dirty<D: Disk>(
     requires candidate { in_use candidate store.old.cache ≡ true }
     requires dirty { option_map (λ (x : FrameValue). x.block) (dirty_value ((cache_of store.old).frame f)) ≡ Some old }
     requires evicted { old < store.old.size }
-    ensures does { (blocks : Blocks) (rest : List Bool) → Tells (D.blocks disk.old) blocks →
-        FetchCameTo (evicted ((cache_of store.old).frame f) f (replaced f candidate (new_frame p b bytes.now) (cache_of store.old)) blocks (log.new ++ rest)) blocks
-        result (cache_of store.new) (D.blocks disk.new) (length log.new) }
+    ensures outcome { (blocks : Blocks) (rest : List Bool) →
+        FetchLeft (evicted ((cache_of store.old).frame f) f (replaced f candidate (new_frame p b bytes.now) (cache_of store.old)) blocks (log.new ++ rest)) blocks
+        result (cache_of store.new) (length log.new) }
+    ensures tells { (blocks : Blocks) (rest : List Bool) → Tells (D.blocks disk.old) blocks →
+        Tells (D.blocks disk.new) (blocks_after (evicted ((cache_of store.old).frame f) f (replaced f candidate (new_frame p b bytes.now) (cache_of store.old)) blocks (log.new ++ rest)) blocks) }
     ensures first { (rest : List Bool) → disk_fails (log.new ++ rest) 0 ≡ false }
     ensures objects { objects_of (λ b. seen (b.vtable, b.value)) store.new ≡ with_cache (cache_of store.new) (objects_of (λ b. seen (b.vtable, b.value)) store.old) }
     ensures in_cache { IfOk result (λ g. in_use g store.new.cache ≡ true) }

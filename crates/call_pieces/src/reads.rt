@@ -14,7 +14,7 @@ ghost use Rattle.kernel_model.specs.Sound.{IsSoundFile};
 ghost use Rattle.disk_log.specs.Calls.{Tells, GoesOn};
 ghost use Rattle.kernel_state.specs.Stores.{world_of_store, objects_of, cache_of, queue_of, policies_of, IsStore};
 ghost use Rattle.call_pieces.specs.Works.{comes_after};
-ghost use Rattle.call_pieces.specs.Coming.{CameTo, ReadGoes, has_failed, is_fault, goes_on};
+ghost use Rattle.call_pieces.specs.Coming.{CameTo, LeftBySome, ReadGoes, has_failed, is_fault, goes_on};
 
 use crate::fetch::{fetch, fetch_ahead};
 use crate::{After, Next, came};
@@ -53,6 +53,8 @@ pub(crate) fn read<D: Disk>(
     ensures does { (blocks : Blocks) (rest : List Bool) → Tells (D.blocks disk.old) blocks →
         CameTo (read_piece piece.old (world_of_store store.old) (objects_of (λ b. seen (b.vtable, b.value)) store.old) blocks p r.fd r.i r.off r.len ((objects_of (λ b. seen (b.vtable, b.value)) store.old).things.file p r.fd) answer (log.new ++ rest))
         (objects_of (λ b. seen (b.vtable, b.value)) store.new) (D.blocks disk.new) result.gave (comes_after result.next (stage (Read r.fd r.i r.off r.len) piece.new)) (length log.new) }
+    ensures some { LeftBySome (world_of_store store.old) (λ blocks io. read_piece piece.old (world_of_store store.old) (objects_of (λ b. seen (b.vtable, b.value)) store.old) blocks p r.fd r.i r.off r.len ((objects_of (λ b. seen (b.vtable, b.value)) store.old).things.file p r.fd) answer io)
+        (objects_of (λ b. seen (b.vtable, b.value)) store.new) result.gave (comes_after result.next (stage (Read r.fd r.i r.off r.len) piece.new)) log.new }
     ensures queue { queue_of store.new ≡ queue_of store.old }
     ensures next { goes_on result.next ≡ true → ReadGoes piece.old piece.new ((objects_of (λ b. seen (b.vtable, b.value)) store.old).things.file p r.fd) ((objects_of (λ b. seen (b.vtable, b.value)) store.new).things.file p r.fd) }
     ensures failed { is_fault result.next ≡ true → has_failed log.new ≡ true }
@@ -95,6 +97,8 @@ fn first<D: Disk>(
     ensures does { (blocks : Blocks) (rest : List Bool) → Tells (D.blocks disk.old) blocks →
         CameTo (read_first_at (file_block (world_of_store store.old) (Some opened) r.i r.off r.len) (world_of_store store.old) (objects_of (λ b. seen (b.vtable, b.value)) store.old) blocks p r.fd r.i r.off r.len opened answer (log.new ++ rest))
         (objects_of (λ b. seen (b.vtable, b.value)) store.new) (D.blocks disk.new) result.gave (comes_after result.next (stage (Read r.fd r.i r.off r.len) piece.new)) (length log.new) }
+    ensures some { LeftBySome (world_of_store store.old) (λ blocks io. read_first_at (file_block (world_of_store store.old) (Some opened) r.i r.off r.len) (world_of_store store.old) (objects_of (λ b. seen (b.vtable, b.value)) store.old) blocks p r.fd r.i r.off r.len opened answer io)
+        (objects_of (λ b. seen (b.vtable, b.value)) store.new) result.gave (comes_after result.next (stage (Read r.fd r.i r.off r.len) piece.new)) log.new }
     ensures queue { queue_of store.new ≡ queue_of store.old }
     ensures next { goes_on result.next ≡ true → ReadGoes 0 piece.new (Some opened) ((objects_of (λ b. seen (b.vtable, b.value)) store.new).things.file p r.fd) }
     ensures failed { is_fault result.next ≡ true → has_failed log.new ≡ true }
@@ -136,6 +140,8 @@ fn first_at<D: Disk>(
     ensures does { (blocks : Blocks) (rest : List Bool) → Tells (D.blocks disk.old) blocks →
         CameTo (read_first (objects_of (λ b. seen (b.vtable, b.value)) store.old) blocks p r.fd r.i r.off r.len opened (fetches.fetch (world_of_store store.old) (policies_of (λ b. seen (b.vtable, b.value)) store.old 1) p b answer (cache_of store.old) blocks (log.new ++ rest)))
         (objects_of (λ b. seen (b.vtable, b.value)) store.new) (D.blocks disk.new) result.gave (comes_after result.next (stage (Read r.fd r.i r.off r.len) piece.new)) (length log.new) }
+    ensures some { LeftBySome (world_of_store store.old) (λ blocks io. read_first (objects_of (λ b. seen (b.vtable, b.value)) store.old) blocks p r.fd r.i r.off r.len opened (fetches.fetch (world_of_store store.old) (policies_of (λ b. seen (b.vtable, b.value)) store.old 1) p b answer (cache_of store.old) blocks io))
+        (objects_of (λ b. seen (b.vtable, b.value)) store.new) result.gave (comes_after result.next (stage (Read r.fd r.i r.off r.len) piece.new)) log.new }
     ensures queue { queue_of store.new ≡ queue_of store.old }
     ensures next { goes_on result.next ≡ true → ReadGoes 0 piece.new (Some opened) ((objects_of (λ b. seen (b.vtable, b.value)) store.new).things.file p r.fd) }
     ensures failed { is_fault result.next ≡ true → has_failed log.new ≡ true }
@@ -237,6 +243,8 @@ fn later<D: Disk>(
     ensures does { (blocks : Blocks) (rest : List Bool) → Tells (D.blocks disk.old) blocks →
         CameTo (read_third_at (ahead_block (world_of_store store.old) (Some opened)) (world_of_store store.old) (objects_of (λ b. seen (b.vtable, b.value)) store.old) blocks p r.fd r.i r.off r.len opened answer (log.new ++ rest))
         (objects_of (λ b. seen (b.vtable, b.value)) store.new) (D.blocks disk.new) result.gave (comes_after result.next (stage (Read r.fd r.i r.off r.len) 2)) (length log.new) }
+    ensures some { LeftBySome (world_of_store store.old) (λ blocks io. read_third_at (ahead_block (world_of_store store.old) (Some opened)) (world_of_store store.old) (objects_of (λ b. seen (b.vtable, b.value)) store.old) blocks p r.fd r.i r.off r.len opened answer io)
+        (objects_of (λ b. seen (b.vtable, b.value)) store.new) result.gave (comes_after result.next (stage (Read r.fd r.i r.off r.len) 2)) log.new }
     ensures queue { queue_of store.new ≡ queue_of store.old }
     ensures next { goes_on result.next ≡ true → ReadGoes 2 2 (Some opened) ((objects_of (λ b. seen (b.vtable, b.value)) store.new).things.file p r.fd) }
     ensures failed { is_fault result.next ≡ true → has_failed log.new ≡ true }

@@ -11,7 +11,7 @@ ghost use Rattle.buffer_cache.specs.Frames.{in_use};
 ghost use Rattle.disk_log.specs.Calls.{Tells, GoesOn};
 ghost use Rattle.kernel_state.specs.Stores.{world_of_store, objects_of, cache_of, queue_of, IsStore};
 ghost use Rattle.call_pieces.specs.Works.{comes_after};
-ghost use Rattle.call_pieces.specs.Coming.{CameTo, has_failed, is_fault, goes_on};
+ghost use Rattle.call_pieces.specs.Coming.{CameTo, LeftBy, has_failed, is_fault, goes_on};
 
 use crate::{After, Next, came};
 use disk_log::DiskLog;
@@ -28,6 +28,9 @@ pub(crate) fn sync<D: Disk>(store: &mut Store, disk: &mut D, log: &mut DiskLog) 
     ensures does { (blocks : Blocks) (rest : List Bool) (t : Stage) → Tells (D.blocks disk.old) blocks →
         CameTo (sync_from (world_of_store store.old).frames 0 0 (objects_of (λ b. seen (b.vtable, b.value)) store.old) blocks (log.new ++ rest))
         (objects_of (λ b. seen (b.vtable, b.value)) store.new) (D.blocks disk.new) result.gave (comes_after result.next t) (length log.new) }
+    ensures left { (blocks : Blocks) (rest : List Bool) (t : Stage) →
+        LeftBy (sync_from (world_of_store store.old).frames 0 0 (objects_of (λ b. seen (b.vtable, b.value)) store.old) blocks (log.new ++ rest))
+        (objects_of (λ b. seen (b.vtable, b.value)) store.new) result.gave (comes_after result.next t) (length log.new) }
     ensures queue { queue_of store.new ≡ queue_of store.old }
     ensures ends { goes_on result.next ≡ false }
     ensures failed { is_fault result.next ≡ true → has_failed log.new ≡ true }

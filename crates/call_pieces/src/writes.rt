@@ -10,7 +10,7 @@ ghost use Rattle.kernel_model.specs.FilePieces.{write_piece};
 ghost use Rattle.disk_log.specs.Calls.{Tells, GoesOn};
 ghost use Rattle.kernel_state.specs.Stores.{world_of_store, objects_of, queue_of, IsStore};
 ghost use Rattle.call_pieces.specs.Works.{comes_after};
-ghost use Rattle.call_pieces.specs.Coming.{CameTo, has_failed, is_fault, goes_on};
+ghost use Rattle.call_pieces.specs.Coming.{CameTo, LeftBySome, has_failed, is_fault, goes_on};
 
 use crate::fetch::fetch;
 use crate::{After, Next, came};
@@ -41,6 +41,8 @@ pub(crate) fn write<D: Disk>(
     ensures does { (blocks : Blocks) (rest : List Bool) (t : Stage) → Tells (D.blocks disk.old) blocks →
         CameTo (write_piece (file_block (world_of_store store.old) ((objects_of (λ b. seen (b.vtable, b.value)) store.old).things.file p fd) i off (length bytes.now)) (world_of_store store.old) (objects_of (λ b. seen (b.vtable, b.value)) store.old) blocks p off bytes.now answer (log.new ++ rest))
         (objects_of (λ b. seen (b.vtable, b.value)) store.new) (D.blocks disk.new) result.gave (comes_after result.next t) (length log.new) }
+    ensures some { (t : Stage) → LeftBySome (world_of_store store.old) (λ blocks io. write_piece (file_block (world_of_store store.old) ((objects_of (λ b. seen (b.vtable, b.value)) store.old).things.file p fd) i off (length bytes.now)) (world_of_store store.old) (objects_of (λ b. seen (b.vtable, b.value)) store.old) blocks p off bytes.now answer io)
+        (objects_of (λ b. seen (b.vtable, b.value)) store.new) result.gave (comes_after result.next t) log.new }
     ensures queue { queue_of store.new ≡ queue_of store.old }
     ensures ends { goes_on result.next ≡ false }
     ensures failed { is_fault result.next ≡ true → has_failed log.new ≡ true }

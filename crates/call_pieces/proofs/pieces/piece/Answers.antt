@@ -4,12 +4,13 @@ use Rattle.kernel_model.specs.declared.SysCall.TheVariants.{Spawn, Exit, OpenNam
 use Rattle.kernel_model.specs.World.{file_named}
 use Rattle.kernel_model.specs.Meaning.{stage}
 use Rattle.kernel_model.specs.Needs.{file_block}
-use Rattle.kernel_model.specs.FilePieces.{open_piece, free_descriptor, write_piece}
-use Rattle.kernel_model.specs.Pieces.{piece_of}
+use Rattle.kernel_model.specs.FilePieces.{open_piece, free_descriptor, write_piece, sync_from}
+use Rattle.kernel_model.specs.Pieces.{piece_of, yield_piece}
 use Rattle.kernel_state.specs.Stores.{world_of_store, objects_of}
 use Rattle.call_pieces.specs.Works.{comes_after}
-use Rattle.call_pieces.specs.Coming.{CameTo}
+use Rattle.call_pieces.specs.Coming.{CameTo, LeftBySome}
 use Rattle.call_pieces.proofs.Grants.{exit_granted, close_granted, take_granted, free_granted, poke_granted, peek_granted, tune_granted, choose_granted, give_granted, install_granted, remove_granted, fund_granted, bill_granted, read_granted, write_granted, came_named}
+use Rattle.call_pieces.proofs.LeftLaws.{some_of_all, some_quick, some_named}
 use Rattle.call_pieces.proofs.pieces.piece.Goals as goal
 
 pub exit-requires-clause-granted : goal.exit-requires-clause-granted
@@ -224,3 +225,179 @@ returns-in-Bill-clause-does g c =
     let w = c.args.work.now in
     came_named (λ (k : SysCall). piece_of k w.piece (world_of_store c.args.store.now) s blocks w.caller c.args.answer (c.args.log.now ++ rest)) w.call (Bill c.in-Bill.pt) (objects_of (λ b. (goal.Policy-dyn g (b.vtable, b.value)).seen b.value) c.bill.new.store)
     (g.D.Disk.blocks c.args.disk.now) _ _ (length c.args.log.now) 0 c.in-Bill.is (ap length c.requires.fresh) (c.bill.ensures.does blocks _ (stage w.call w.piece) tells)
+
+pub returns-in-Spawn-clause-some : goal.returns-in-Spawn-clause-some
+returns-in-Spawn-clause-some g c =
+    λ images.
+    let v = world_of_store c.args.store.now in
+    let s = objects_of (λ b. (goal.Policy-dyn g (b.vtable, b.value)).seen b.value) c.args.store.now in
+    let w = c.args.work.now in
+    some_named v (λ k blocks io. piece_of k w.piece v s blocks w.caller c.args.answer io) w.call Spawn (objects_of (λ b. (goal.Policy-dyn g (b.vtable, b.value)).seen b.value) c.spawn.new.store) _ _ c.args.log.now c.in-Spawn.is c.requires.fresh
+    (λ blocks told io tells. c.spawn.ensures.does blocks told (stage w.call w.piece) tells)
+
+pub returns-in-Exit-clause-some : goal.returns-in-Exit-clause-some
+returns-in-Exit-clause-some g c =
+    λ images.
+    let v = world_of_store c.args.store.now in
+    let s = objects_of (λ b. (goal.Policy-dyn g (b.vtable, b.value)).seen b.value) c.args.store.now in
+    let w = c.args.work.now in
+    some_named v (λ k blocks io. piece_of k w.piece v s blocks w.caller c.args.answer io) w.call Exit (objects_of (λ b. (goal.Policy-dyn g (b.vtable, b.value)).seen b.value) c.exit.new.store) _ _ c.args.log.now c.in-Exit.is c.requires.fresh
+    (λ blocks told io tells. c.exit.ensures.does blocks told (stage w.call w.piece) tells)
+
+pub returns-in-CloseFd-clause-some : goal.returns-in-CloseFd-clause-some
+returns-in-CloseFd-clause-some g c =
+    λ images.
+    let v = world_of_store c.args.store.now in
+    let s = objects_of (λ b. (goal.Policy-dyn g (b.vtable, b.value)).seen b.value) c.args.store.now in
+    let w = c.args.work.now in
+    some_named v (λ k blocks io. piece_of k w.piece v s blocks w.caller c.args.answer io) w.call (CloseFd c.in-CloseFd.fd) (objects_of (λ b. (goal.Policy-dyn g (b.vtable, b.value)).seen b.value) c.close.new.store) _ _ c.args.log.now c.in-CloseFd.is c.requires.fresh
+    (λ blocks told io tells. c.close.ensures.does blocks told (stage w.call w.piece) tells)
+
+pub returns-in-TakeLock-clause-some : goal.returns-in-TakeLock-clause-some
+returns-in-TakeLock-clause-some g c =
+    λ images.
+    let v = world_of_store c.args.store.now in
+    let s = objects_of (λ b. (goal.Policy-dyn g (b.vtable, b.value)).seen b.value) c.args.store.now in
+    let w = c.args.work.now in
+    some_named v (λ k blocks io. piece_of k w.piece v s blocks w.caller c.args.answer io) w.call (TakeLock c.in-TakeLock.u) (objects_of (λ b. (goal.Policy-dyn g (b.vtable, b.value)).seen b.value) c.take_lock.new.store) _ _ c.args.log.now c.in-TakeLock.is c.requires.fresh
+    (λ blocks told io tells. c.take_lock.ensures.does blocks told (stage w.call w.piece) tells)
+
+pub returns-in-FreeLock-clause-some : goal.returns-in-FreeLock-clause-some
+returns-in-FreeLock-clause-some g c =
+    λ images.
+    let v = world_of_store c.args.store.now in
+    let s = objects_of (λ b. (goal.Policy-dyn g (b.vtable, b.value)).seen b.value) c.args.store.now in
+    let w = c.args.work.now in
+    some_named v (λ k blocks io. piece_of k w.piece v s blocks w.caller c.args.answer io) w.call (FreeLock c.in-FreeLock.u) (objects_of (λ b. (goal.Policy-dyn g (b.vtable, b.value)).seen b.value) c.free_lock.new.store) _ _ c.args.log.now c.in-FreeLock.is c.requires.fresh
+    (λ blocks told io tells. c.free_lock.ensures.does blocks told (stage w.call w.piece) tells)
+
+pub returns-in-Poke-clause-some : goal.returns-in-Poke-clause-some
+returns-in-Poke-clause-some g c =
+    λ images.
+    let v = world_of_store c.args.store.now in
+    let s = objects_of (λ b. (goal.Policy-dyn g (b.vtable, b.value)).seen b.value) c.args.store.now in
+    let w = c.args.work.now in
+    some_named v (λ k blocks io. piece_of k w.piece v s blocks w.caller c.args.answer io) w.call (Poke c.in-Poke.k c.in-Poke.v) (objects_of (λ b. (goal.Policy-dyn g (b.vtable, b.value)).seen b.value) c.poke.new.store) _ _ c.args.log.now c.in-Poke.is c.requires.fresh
+    (λ blocks told io tells. c.poke.ensures.does blocks told (stage w.call w.piece) tells)
+
+pub returns-in-Peek-clause-some : goal.returns-in-Peek-clause-some
+returns-in-Peek-clause-some g c =
+    λ images.
+    let v = world_of_store c.args.store.now in
+    let s = objects_of (λ b. (goal.Policy-dyn g (b.vtable, b.value)).seen b.value) c.args.store.now in
+    let w = c.args.work.now in
+    some_named v (λ k blocks io. piece_of k w.piece v s blocks w.caller c.args.answer io) w.call (Peek c.in-Peek.k) (objects_of (λ b. (goal.Policy-dyn g (b.vtable, b.value)).seen b.value) c.args.store.now) _ _ c.args.log.now c.in-Peek.is c.requires.fresh
+    (λ blocks told io tells. c.peek.ensures.does blocks told (stage w.call w.piece) tells)
+
+pub returns-in-Tune-clause-some : goal.returns-in-Tune-clause-some
+returns-in-Tune-clause-some g c =
+    λ images.
+    let v = world_of_store c.args.store.now in
+    let s = objects_of (λ b. (goal.Policy-dyn g (b.vtable, b.value)).seen b.value) c.args.store.now in
+    let w = c.args.work.now in
+    some_named v (λ k blocks io. piece_of k w.piece v s blocks w.caller c.args.answer io) w.call (Tune c.in-Tune.kind c.in-Tune.k c.in-Tune.v) (objects_of (λ b. (goal.Policy-dyn g (b.vtable, b.value)).seen b.value) c.tune.new.store) _ _ c.args.log.now c.in-Tune.is c.requires.fresh
+    (λ blocks told io tells. c.tune.ensures.does blocks told (stage w.call w.piece) tells)
+
+pub returns-in-Choose-clause-some : goal.returns-in-Choose-clause-some
+returns-in-Choose-clause-some g c =
+    λ images.
+    let v = world_of_store c.args.store.now in
+    let s = objects_of (λ b. (goal.Policy-dyn g (b.vtable, b.value)).seen b.value) c.args.store.now in
+    let w = c.args.work.now in
+    some_named v (λ k blocks io. piece_of k w.piece v s blocks w.caller c.args.answer io) w.call (Choose c.in-Choose.kind c.in-Choose.j) (objects_of (λ b. (goal.Policy-dyn g (b.vtable, b.value)).seen b.value) c.choose.new.store) _ _ c.args.log.now c.in-Choose.is c.requires.fresh
+    (λ blocks told io tells. c.choose.ensures.does blocks told (stage w.call w.piece) tells)
+
+pub returns-in-Give-clause-some : goal.returns-in-Give-clause-some
+returns-in-Give-clause-some g c =
+    λ images.
+    let v = world_of_store c.args.store.now in
+    let s = objects_of (λ b. (goal.Policy-dyn g (b.vtable, b.value)).seen b.value) c.args.store.now in
+    let w = c.args.work.now in
+    some_named v (λ k blocks io. piece_of k w.piece v s blocks w.caller c.args.answer io) w.call (Give c.in-Give.q c.in-Give.kind c.in-Give.n) (objects_of (λ b. (goal.Policy-dyn g (b.vtable, b.value)).seen b.value) c.give.new.store) _ _ c.args.log.now c.in-Give.is c.requires.fresh
+    (λ blocks told io tells. c.give.ensures.does blocks told (stage w.call w.piece) tells)
+
+pub returns-in-Install-clause-some : goal.returns-in-Install-clause-some
+returns-in-Install-clause-some g c =
+    λ images.
+    let v = world_of_store c.args.store.now in
+    let s = objects_of (λ b. (goal.Policy-dyn g (b.vtable, b.value)).seen b.value) c.args.store.now in
+    let w = c.args.work.now in
+    some_named v (λ k blocks io. piece_of k w.piece v s blocks w.caller c.args.answer io) w.call (Install c.in-Install.pt c.in-Install.image c.in-Install.limit) (objects_of (λ b. (goal.Policy-dyn g (b.vtable, b.value)).seen b.value) c.install.new.store) _ _ c.args.log.now c.in-Install.is c.requires.fresh
+    (λ blocks told io tells. c.install.ensures.does blocks told (stage w.call w.piece) tells)
+
+pub returns-in-Remove-clause-some : goal.returns-in-Remove-clause-some
+returns-in-Remove-clause-some g c =
+    λ images.
+    let v = world_of_store c.args.store.now in
+    let s = objects_of (λ b. (goal.Policy-dyn g (b.vtable, b.value)).seen b.value) c.args.store.now in
+    let w = c.args.work.now in
+    some_named v (λ k blocks io. piece_of k w.piece v s blocks w.caller c.args.answer io) w.call (Remove c.in-Remove.pt) (objects_of (λ b. (goal.Policy-dyn g (b.vtable, b.value)).seen b.value) c.remove.new.store) _ _ c.args.log.now c.in-Remove.is c.requires.fresh
+    (λ blocks told io tells. c.remove.ensures.does blocks told (stage w.call w.piece) tells)
+
+pub returns-in-Fund-clause-some : goal.returns-in-Fund-clause-some
+returns-in-Fund-clause-some g c =
+    λ images.
+    let v = world_of_store c.args.store.now in
+    let s = objects_of (λ b. (goal.Policy-dyn g (b.vtable, b.value)).seen b.value) c.args.store.now in
+    let w = c.args.work.now in
+    some_named v (λ k blocks io. piece_of k w.piece v s blocks w.caller c.args.answer io) w.call (Fund c.in-Fund.pt c.in-Fund.kind c.in-Fund.n) (objects_of (λ b. (goal.Policy-dyn g (b.vtable, b.value)).seen b.value) c.fund.new.store) _ _ c.args.log.now c.in-Fund.is c.requires.fresh
+    (λ blocks told io tells. c.fund.ensures.does blocks told (stage w.call w.piece) tells)
+
+pub returns-in-Bill-clause-some : goal.returns-in-Bill-clause-some
+returns-in-Bill-clause-some g c =
+    λ images.
+    let v = world_of_store c.args.store.now in
+    let s = objects_of (λ b. (goal.Policy-dyn g (b.vtable, b.value)).seen b.value) c.args.store.now in
+    let w = c.args.work.now in
+    some_named v (λ k blocks io. piece_of k w.piece v s blocks w.caller c.args.answer io) w.call (Bill c.in-Bill.pt) (objects_of (λ b. (goal.Policy-dyn g (b.vtable, b.value)).seen b.value) c.bill.new.store) _ _ c.args.log.now c.in-Bill.is c.requires.fresh
+    (λ blocks told io tells. c.bill.ensures.does blocks told (stage w.call w.piece) tells)
+
+pub returns-in-Yield-clause-some : goal.returns-in-Yield-clause-some
+returns-in-Yield-clause-some g c =
+    λ images.
+    let v = world_of_store c.args.store.now in
+    let s = objects_of (λ b. (goal.Policy-dyn g (b.vtable, b.value)).seen b.value) c.args.store.now in
+    let w = c.args.work.now in
+    subst (λ (k : SysCall). LeftBySome v (λ blocks io. piece_of k w.piece v s blocks w.caller c.args.answer io) (objects_of (λ b. (goal.Policy-dyn g (b.vtable, b.value)).seen b.value) c.yield_turn.new.store) c.yield_turn.result.gave (comes_after c.yield_turn.result.next (stage k c.yield_turn.new.piece)) c.args.log.now) (sym c.in-Yield.is)
+    (some_quick v (λ blocks io. yield_piece w.piece s w.caller c.args.answer blocks) (objects_of (λ b. (goal.Policy-dyn g (b.vtable, b.value)).seen b.value) c.yield_turn.new.store) _ _ c.args.log.now c.requires.fresh (λ blocks told io tells. c.yield_turn.ensures.does blocks told tells))
+
+pub returns-in-OpenName-clause-some : goal.returns-in-OpenName-clause-some
+returns-in-OpenName-clause-some g c =
+    λ images.
+    let v = world_of_store c.args.store.now in
+    let s = objects_of (λ b. (goal.Policy-dyn g (b.vtable, b.value)).seen b.value) c.args.store.now in
+    let w = c.args.work.now in
+    let after = objects_of (λ b. (goal.Policy-dyn g (b.vtable, b.value)).seen b.value) c.open.new.store in
+    some_named v (λ k blocks io. piece_of k w.piece v s blocks w.caller c.args.answer io) w.call (OpenName c.in-OpenName.name) after _ _ c.args.log.now c.in-OpenName.is c.requires.fresh
+    (λ blocks told io tells.
+    subst (λ (name : List ℕ). CameTo (open_piece s w.caller (file_named v name) (free_descriptor s.things w.caller 4 0) blocks) after told c.open.result.gave (comes_after c.open.result.next (stage w.call w.piece)) 0) c.as_slice.ensures.value
+    (c.open.ensures.does blocks told (stage w.call w.piece) tells))
+
+pub returns-in-Read-clause-some : goal.returns-in-Read-clause-some
+returns-in-Read-clause-some g c =
+    λ images.
+    let v = world_of_store c.args.store.now in
+    let s = objects_of (λ b. (goal.Policy-dyn g (b.vtable, b.value)).seen b.value) c.args.store.now in
+    let w = c.args.work.now in
+    subst (λ (k : SysCall). LeftBySome v (λ blocks io. piece_of k w.piece v s blocks w.caller c.args.answer io) (objects_of (λ b. (goal.Policy-dyn g (b.vtable, b.value)).seen b.value) c.read.new.store) c.read.result.gave (comes_after c.read.result.next (stage k c.read.new.piece)) c.read.new.log) (sym c.in-Read.is)
+    c.read.ensures.some
+
+pub returns-in-Write-clause-some : goal.returns-in-Write-clause-some
+returns-in-Write-clause-some g c =
+    λ images.
+    let v = world_of_store c.args.store.now in
+    let s = objects_of (λ b. (goal.Policy-dyn g (b.vtable, b.value)).seen b.value) c.args.store.now in
+    let w = c.args.work.now in
+    let x = c.in-Write in
+    subst (λ (k : SysCall). LeftBySome v (λ blocks io. piece_of k w.piece v s blocks w.caller c.args.answer io) (objects_of (λ b. (goal.Policy-dyn g (b.vtable, b.value)).seen b.value) c.write.new.store) c.write.result.gave (comes_after c.write.result.next (stage w.call w.piece)) c.write.new.log) (sym x.is)
+    (subst (λ (bytes : List ℕ). LeftBySome v (λ blocks io. write_piece (file_block v (s.things.file w.caller x.fd) x.i x.off (length bytes)) v s blocks w.caller x.off bytes c.args.answer io) (objects_of (λ b. (goal.Policy-dyn g (b.vtable, b.value)).seen b.value) c.write.new.store) c.write.result.gave (comes_after c.write.result.next (stage w.call w.piece)) c.write.new.log)
+    c.as_slice-in-Write.ensures.value (c.write.ensures.some (stage w.call w.piece)))
+
+pub returns-in-Sync-clause-some : goal.returns-in-Sync-clause-some
+returns-in-Sync-clause-some g c =
+    λ images.
+    let v = world_of_store c.args.store.now in
+    let s = objects_of (λ b. (goal.Policy-dyn g (b.vtable, b.value)).seen b.value) c.args.store.now in
+    let w = c.args.work.now in
+    subst (λ (k : SysCall). LeftBySome v (λ blocks io. piece_of k w.piece v s blocks w.caller c.args.answer io) (objects_of (λ b. (goal.Policy-dyn g (b.vtable, b.value)).seen b.value) c.sync.new.store) c.sync.result.gave (comes_after c.sync.result.next (stage w.call w.piece)) c.sync.new.log) (sym c.in-Sync.is)
+    (some_of_all v (λ blocks io. sync_from v.frames 0 0 s blocks io) (objects_of (λ b. (goal.Policy-dyn g (b.vtable, b.value)).seen b.value) c.sync.new.store) _ _ c.sync.new.log (λ blocks rest. c.sync.ensures.left blocks rest (stage w.call w.piece)))

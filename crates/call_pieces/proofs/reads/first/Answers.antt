@@ -1,7 +1,10 @@
-use Rattle.std.proofs.Common.{◌++◌, length, ap, Option, Some, ◌∙◌}
+use Rattle.std.proofs.Common.{◌≡◌, ℕ, ◌++◌, length, ap, sym, Option, Some, Result, Err, ◌∙◌}
 use Rattle.kernel_model.specs.declared.OpenRow.{OpenRow}
+use Rattle.kernel_model.specs.declared.Refusal.{Refusal}
+use Rattle.kernel_model.specs.FilePieces.{read_first_at}
 use Rattle.kernel_model.specs.Needs.{file_block}
 use Rattle.kernel_state.specs.Stores.{world_of_store, objects_of}
+use Rattle.call_pieces.proofs.LeftLaws.{some_came, some_refused}
 use Rattle.call_pieces.proofs.ReadLaws.{first_block}
 use Rattle.call_pieces.proofs.reads.first.Goals as goal
 
@@ -16,3 +19,14 @@ returns-in-Ok-clause-does g c =
     first_block (file_block (world_of_store s) (Some c.args.opened) r.i r.off r.len) c.in-Ok.b (world_of_store s) (objects_of (λ b. (goal.Policy-dyn g (b.vtable, b.value)).seen b.value) s) (objects_of (λ b. (goal.Policy-dyn g (b.vtable, b.value)).seen b.value) c.first_at.new.store) blocks c.args.p r.fd r.i r.off r.len
     (length c.first_at.new.log) c.args.opened c.args.answer (c.first_at.new.log ++ rest) (g.D.Disk.blocks c.first_at.new.disk) _ _
     (c.in-Ok.ensures.value ∙ ap (λ (x : Option OpenRow). file_block (world_of_store s) x r.i r.off r.len) c.requires.file) (c.first_at.ensures.does blocks rest tells)
+
+pub returns-in-Err-clause-some : goal.returns-in-Err-clause-some
+returns-in-Err-clause-some g c =
+    let s = c.args.store.now in
+    let r = c.args.r in
+    let v = world_of_store s in
+    let o = objects_of (λ b. (goal.Policy-dyn g (b.vtable, b.value)).seen b.value) s in
+    let block : Err c.in-Err.refusal ≡ file_block v (Some c.args.opened) r.i r.off r.len = c.in-Err.ensures.value ∙ ap (λ (x : Option OpenRow). file_block v x r.i r.off r.len) c.requires.file in
+    some_came v (λ blocks w. read_first_at (file_block v (Some c.args.opened) r.i r.off r.len) v o blocks c.args.p r.fd r.i r.off r.len c.args.opened c.args.answer w) c.came.result _ o _ c.args.log.now c.came.ensures
+    (some_refused v (λ blocks w. read_first_at (file_block v (Some c.args.opened) r.i r.off r.len) v o blocks c.args.p r.fd r.i r.off r.len c.args.opened c.args.answer w) o c.in-Err.refusal c.args.log.now c.requires.fresh
+    (λ blocks w. ap (λ (x : Result ℕ Refusal). read_first_at x v o blocks c.args.p r.fd r.i r.off r.len c.args.opened c.args.answer w) (sym block)))

@@ -1,4 +1,4 @@
-use Rattle.std.proofs.Common.{◌≡◌, ◌∙◌, Some, cond, sym, ap, subst, arith}
+use Rattle.std.proofs.Common.{◌≡◌, List, Bool, ◌∙◌, Some, cond, refl, sym, ap, subst, arith}
 use Rattle.kernel_model.specs.World.{World}
 use Rattle.kernel_model.specs.Objects.{FrameValue, at}
 use Rattle.kernel_model.specs.Fetch.{bytes_of, cleaned}
@@ -6,8 +6,23 @@ use Rattle.kernel_model.specs.FilePieces.{with_cache}
 use Rattle.disk_log.specs.Calls.{Tells}
 use Rattle.std.specs.Result.{is_err}
 use Rattle.kernel_state.specs.Stores.{objects_of, cache_of}
-use Rattle.call_pieces.proofs.SyncLaws.{past_clean, past_written, ends_failed, ends_well, came_of, of_err, of_ok}
+use Rattle.call_pieces.proofs.SyncLaws.{Midway, begins, past_clean, past_written, ends_failed, ends_well, left_failed, left_well, came_of, left_of, of_err, of_ok}
 use Rattle.call_pieces.proofs.syncs.sync.Goals as goal
+
+pub loop-f-init : goal.loop-f-init
+loop-f-init g c =
+    let n = c.args.store.now.setup.frames in
+    let s = objects_of (λ b. (goal.Policy-dyn g (b.vtable, b.value)).seen b.value) c.args.store.now in
+    let told = g.D.Disk.blocks c.args.disk.now in
+    record {
+      so_far = subst (λ (io : List Bool). Midway n 0 0 s s told told io) (sym c.requires.fresh) (begins n s told);
+      calls = λ f p made. made;
+      queue = refl;
+      world = refl;
+      sound = c.requires.sound;
+      disk = c.requires.disk;
+      same_size = refl;
+    }
 
 pub loop-f-preserved-in_default : goal.loop-f-preserved-in_default
 loop-f-preserved-in_default g c =
@@ -66,3 +81,23 @@ returns-clause-does g c =
     came_of _ c.came-2.result _ (objects_of (λ b. (goal.Policy-dyn g (b.vtable, b.value)).seen b.value) c.loop-f.store) (g.D.Disk.blocks c.loop-f.disk) t _ c.came-2.ensures
     (ends_well c.args.store.now.setup.frames c.loop-f.f c.loop-f.written (objects_of (λ b. (goal.Policy-dyn g (b.vtable, b.value)).seen b.value) c.args.store.now) (objects_of (λ b. (goal.Policy-dyn g (b.vtable, b.value)).seen b.value) c.loop-f.store) (g.D.Disk.blocks c.args.disk.now) (g.D.Disk.blocks c.loop-f.disk)
     c.loop-f.log (omega arith) c.loop-f.invariant.so_far blocks rest tells)
+
+pub returns-then-is_err-clause-left : goal.returns-then-is_err-clause-left
+returns-then-is_err-clause-left g c =
+    λ blocks rest t.
+    let l = c.loop-f.invariant in
+    let w = c.write_back.ensures in
+    let cache = cache_of c.loop-f.store in
+    left_of _ c.came.result _ (objects_of (λ b. (goal.Policy-dyn g (b.vtable, b.value)).seen b.value) c.write_back.new.store) t _ c.came.ensures
+    (left_failed c.args.store.now.setup.frames c.loop-f.f c.in-Some.b c.loop-f.written (objects_of (λ b. (goal.Policy-dyn g (b.vtable, b.value)).seen b.value) c.args.store.now) (objects_of (λ b. (goal.Policy-dyn g (b.vtable, b.value)).seen b.value) c.loop-f.store) (objects_of (λ b. (goal.Policy-dyn g (b.vtable, b.value)).seen b.value) c.write_back.new.store)
+    (g.D.Disk.blocks c.args.disk.now) (g.D.Disk.blocks c.loop-f.disk) c.loop-f.log c.write_back.new.log (is_err c.write_back.result) c.loop-f-test.true l.so_far
+    (sym c.in-Some.ensures.value) w.noted (sym c.if-is_err.ensures.value)
+    (of_err c.write_back.result (objects_of (λ b. (goal.Policy-dyn g (b.vtable, b.value)).seen b.value) c.write_back.new.store ≡ objects_of (λ b. (goal.Policy-dyn g (b.vtable, b.value)).seen b.value) c.loop-f.store) (sym c.if-is_err.ensures.value) w.kept)
+    blocks rest)
+
+pub returns-clause-left : goal.returns-clause-left
+returns-clause-left g c =
+    λ blocks rest t.
+    left_of _ c.came-2.result _ (objects_of (λ b. (goal.Policy-dyn g (b.vtable, b.value)).seen b.value) c.loop-f.store) t _ c.came-2.ensures
+    (left_well c.args.store.now.setup.frames c.loop-f.f c.loop-f.written (objects_of (λ b. (goal.Policy-dyn g (b.vtable, b.value)).seen b.value) c.args.store.now) (objects_of (λ b. (goal.Policy-dyn g (b.vtable, b.value)).seen b.value) c.loop-f.store) (g.D.Disk.blocks c.args.disk.now) (g.D.Disk.blocks c.loop-f.disk)
+    c.loop-f.log (omega arith) c.loop-f.invariant.so_far blocks rest)

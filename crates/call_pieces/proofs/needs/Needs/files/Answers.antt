@@ -1,4 +1,3 @@
-use Rattle.std.proofs.Common.{◌≡◌, ◌+◌, ◌≤◌, ◌<◌, length}
 use Rattle.kernel_model.specs.declared.Object.TheVariants.{OpenFile}
 use Rattle.kernel_model.specs.Needs.{exclusive}
 use Rattle.call_pieces.proofs.NeedLists.{grown, has_room}

@@ -1,0 +1,114 @@
+-- What a piece left for some whole blocks of the disk.
+use Rattle.std.proofs.Common.{◌≡◌, ℕ, Bool, true, false, List, [], ◌∷◌, ◌++◌, replicate, length, Option, Some, None, Result, Ok, Err, refl, sym, ◌∙◌, ap, subst}
+use Rattle.std.proofs.lemmas.List.{length-replicate, get_or-replicate}
+use Rattle.kernel_model.specs.declared.SysCall.{SysCall}
+use Rattle.kernel_model.specs.declared.Refusal.{Refusal}
+use Rattle.kernel_model.specs.World.{World, Blocks}
+use Rattle.kernel_model.specs.Objects.{Objects, CacheValue, PolValue}
+use Rattle.kernel_model.specs.Policies.{or_zero, victim_among}
+use Rattle.kernel_model.specs.Needs.{free_frame}
+use Rattle.kernel_model.specs.Meaning.{Piece, Stage, After, Fails, disk_fails}
+use Rattle.kernel_model.specs.Fetch.{Fetched, Got, Failed, chosen_by, place_block, read_block}
+use Rattle.kernel_model.specs.FilePieces.{refuses}
+use Rattle.kernel_model.specs.Sound.{HasWholeBlocks}
+use Rattle.vino_base.specs.declared.streams.Failed.{Failed as DiskFailed}
+use Rattle.disk_log.specs.Calls.{Tells, blocks_in}
+use Rattle.call_pieces.specs.declared.After.{After as Came}
+use Rattle.call_pieces.specs.Works.{comes_after}
+use Rattle.call_pieces.specs.Coming.{CameTo, LeftBy, LeftBySome, FetchLeft, FetchLeftBySome}
+
+-- a list of so many bytes
+some_bytes : (n : ℕ) → (bytes : List ℕ) × (length bytes ≡ n)
+some_bytes n = (replicate n 0, length-replicate n 0)
+
+-- what a disk of whole blocks could tell
+some_told : (v : World) → (bs : List (List ℕ)) × HasWholeBlocks v (blocks_in bs)
+some_told v =
+    let block = some_bytes 512 in (
+      replicate v.disk_size block.0,
+      λ b below. ap (λ (x : List ℕ). length x) (get_or-replicate v.disk_size b block.0 [] below) ∙ block.1,
+    )
+
+-- a piece for all blocks
+pub some_of_all : (v : World) (q : Blocks → List Bool → Piece) (s : Objects) (gave : Option (List ℕ)) (after : After) (io : List Bool)
+    → ((blocks : Blocks) (rest : List Bool) → LeftBy (q blocks (io ++ rest)) s gave after (length io)) → LeftBySome v q s gave after io
+some_of_all v q s gave after io all =
+    let there = some_told v in record { blocks = blocks_in there.0; whole = there.1; left = λ rest. all (blocks_in there.0) rest }
+
+-- a piece without a call of the disk, whatever a disk tells
+pub some_quick : (v : World) (q : Blocks → List Bool → Piece) (s : Objects) (gave : Option (List ℕ)) (after : After) (io : List Bool) → io ≡ []
+    → ((blocks : Blocks) (told : Option (List (List ℕ))) (w : List Bool) → Tells told blocks → CameTo (q blocks w) s told gave after 0) → LeftBySome v q s gave after io
+some_quick v q s gave after io none came =
+    let there = some_told v in
+    record {
+      blocks = blocks_in there.0;
+      whole = there.1;
+      left = λ rest. let so = came (blocks_in there.0) (Some there.0) (io ++ rest) refl in
+          record { objects = so.objects; bytes = so.bytes; next = so.next; calls_made = ap (λ (w : List Bool). length w) none ∙ so.calls_made };
+    }
+
+-- the same of a call by its name
+pub some_named : (v : World) (f : SysCall → Blocks → List Bool → Piece) (c k : SysCall) (s : Objects) (gave : Option (List ℕ)) (after : After) (io : List Bool) → c ≡ k → io ≡ []
+    → ((blocks : Blocks) (told : Option (List (List ℕ))) (w : List Bool) → Tells told blocks → CameTo (f k blocks w) s told gave after 0) → LeftBySome v (f c) s gave after io
+some_named v f c k s gave after io named none came =
+    subst (λ (x : SysCall). LeftBySome v (f x) s gave after io) (sym named) (some_quick v (f k) s gave after io none came)
+
+-- a piece in other words
+pub some_as : (v : World) (q r : Blocks → List Bool → Piece) (s : Objects) (gave : Option (List ℕ)) (after : After) (io : List Bool)
+    → ((blocks : Blocks) (w : List Bool) → q blocks w ≡ r blocks w) → LeftBySome v r s gave after io → LeftBySome v q s gave after io
+some_as v q r s gave after io is some =
+    record {
+      blocks = some.blocks;
+      whole = some.whole;
+      left = λ rest. subst (λ (x : Piece). LeftBy x s gave after (length io)) (sym (is some.blocks (io ++ rest))) (some.left rest);
+    }
+
+-- what was left, by what the piece returned
+pub some_came : (v : World) (q : Blocks → List Bool → Piece) (r k : Came) (s : Objects) (t : Stage) (io : List Bool) → r ≡ k → LeftBySome v q s k.gave (comes_after k.next t) io
+    → LeftBySome v q s r.gave (comes_after r.next t) io
+some_came v q r k s t io is some = subst (λ (x : Came). LeftBySome v q s x.gave (comes_after x.next t) io) (sym is) some
+
+-- a fetch for all blocks
+pub fetch_some : (v : World) (q : Blocks → List Bool → Fetched) (result : Result ℕ DiskFailed) (cache : CacheValue) (io : List Bool)
+    → ((blocks : Blocks) (rest : List Bool) → FetchLeft (q blocks (io ++ rest)) blocks result cache (length io)) → FetchLeftBySome v q result cache io
+fetch_some v q result cache io all =
+    let there = some_told v in record { blocks = blocks_in there.0; whole = there.1; outcome = λ rest. all (blocks_in there.0) rest }
+
+-- a fetch for blocks that are all the one that was read
+pub fetch_alike : (v : World) (q : Blocks → List Bool → Fetched) (result : Result ℕ DiskFailed) (cache : CacheValue) (io : List Bool) (bytes : List ℕ) → length bytes ≡ 512
+    → ((rest : List Bool) → FetchLeft (q (λ b. bytes) (io ++ rest)) (λ b. bytes) result cache (length io)) → FetchLeftBySome v q result cache io
+fetch_alike v q result cache io bytes whole all = record { blocks = λ b. bytes; whole = λ b below. whole; outcome = all }
+
+-- ---- a fetch, and the block that it reads
+
+-- a fetch of a block that a frame holds
+pub fetch_held : (v : World) (q : Blocks → List Bool → Fetched) (cache : CacheValue) (f : ℕ) (io : List Bool) → io ≡ [] → ((blocks : Blocks) (w : List Bool) → q blocks w ≡ Got cache blocks f 0)
+    → FetchLeftBySome v q (Ok f) cache io
+fetch_held v q cache f io none is =
+    fetch_some v q (Ok f) cache io (λ blocks rest.
+    subst (λ (x : Fetched). FetchLeft x blocks (Ok f) cache (length io)) (sym (is blocks (io ++ rest)))
+    (subst (λ (w : List Bool). FetchLeft (Got cache blocks f 0) blocks (Ok f) cache (length w)) (sym none) refl))
+
+-- a block that was read is put into a frame
+pub read_is : (v : World) (pol : PolValue) (p b : ℕ) (answer : Option (List ℕ)) (c : CacheValue) (blocks : Blocks) (io : List Bool) → disk_fails io 0 ≡ false
+    → read_block v pol p b answer c blocks io
+    ≡ place_block (free_frame c v.frames 0) p b (chosen_by answer (or_zero (victim_among pol c c.lru))) (or_zero (victim_among pol c c.lru)) c blocks io
+read_is v pol p b answer c blocks io well =
+    ap (λ t. elim t as (λ _. Fetched) [
+      | true ↦ Failed 1
+      | false ↦ place_block (free_frame c v.frames 0) p b (chosen_by answer (or_zero (victim_among pol c c.lru))) (or_zero (victim_among pol c c.lru)) c blocks io
+    ]) well
+
+-- a block whose read failed
+pub read_failed : (v : World) (pol : PolValue) (p b : ℕ) (answer : Option (List ℕ)) (c : CacheValue) (blocks : Blocks) (e : DiskFailed) (io rest : List Bool) → io ≡ true ∷ []
+    → FetchLeft (read_block v pol p b answer c blocks (io ++ rest)) blocks (Err e) c (length io)
+read_failed v pol p b answer c blocks e io rest is =
+    subst (λ (w : List Bool). FetchLeft (read_block v pol p b answer c blocks (w ++ rest)) blocks (Err e) c (length w)) (sym is) refl
+
+-- a piece that is refused, and leaves all as it was
+pub some_refused : (v : World) (q : Blocks → List Bool → Piece) (s : Objects) (why : Refusal) (io : List Bool) → io ≡ [] → ((blocks : Blocks) (w : List Bool) → q blocks w ≡ refuses s blocks why)
+    → LeftBySome v q s None (Fails why) io
+some_refused v q s why io none is =
+    some_as v q (λ blocks w. refuses s blocks why) s None (Fails why) io is
+    (some_of_all v (λ blocks w. refuses s blocks why) s None (Fails why) io
+    (λ blocks rest. record { objects = refl; bytes = refl; next = refl; calls_made = ap (λ (w : List Bool). length w) none }))
