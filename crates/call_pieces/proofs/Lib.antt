@@ -4,6 +4,5 @@ pub mod SyncLaws
 pub mod ReadLaws
 pub mod Grants
 pub mod Granting
-pub mod Slices
 pub mod WriteLaws
 pub mod LeftLaws

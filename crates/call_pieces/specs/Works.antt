@@ -46,18 +46,6 @@ pub record MayCome (m : Meaning) (v : World) (s : Objects) (p : ℕ) (t : Stage)
 
 -- ---- the queue
 
--- each process has had at most so many slices
-abbrev pub slices_within : ℕ → List QueueRow → Bool
-slices_within most rows = list_all (λ (r : QueueRow). nat_le r.slices most) rows
-
--- no process has more slices after than the most before
-abbrev pub SlicesStay : (rows after : List QueueRow) → Type 0
-SlicesStay rows after = (most : ℕ) → slices_within most rows ≡ true → slices_within most after ≡ true
-
--- no process has more slices after than one more than the most before
-abbrev pub SlicesRise : (rows after : List QueueRow) → Type 0
-SlicesRise rows after = (most : ℕ) → slices_within most rows ≡ true → slices_within (suc most) after ≡ true
-
 -- the process that is next by default
 abbrev pub next_of : PolValue → List QueueRow → ℕ
 next_of pol queue = or_zero (next_process pol queue)

@@ -6,7 +6,7 @@ ghost use Rattle.kernel_model.specs.Meaning.{Stage};
 ghost use Rattle.kernel_model.specs.Policies.{lives};
 ghost use Rattle.kernel_model.specs.Pieces.{give_piece, install_piece, remove_piece, fund_piece, bill_piece, new_graft};
 ghost use Rattle.disk_log.specs.Calls.{Tells};
-ghost use Rattle.kernel_state.specs.Stores.{world_of_store, objects_of, queue_of, IsStore};
+ghost use Rattle.kernel_state.specs.Stores.{world_of_store, objects_of, queue_of, IsStore, SegmentsStay};
 ghost use Rattle.call_pieces.specs.Works.{comes_after};
 ghost use Rattle.call_pieces.specs.Coming.{CameTo, is_fault, goes_on};
 
@@ -26,6 +26,7 @@ pub(crate) fn give(store: &mut Store, p: u8, q: u32, k: Kind, n: u32) -> After
     ensures sound { IsStore (λ b. seen (b.vtable, b.value)) store.new }
     ensures ends { goes_on result.next ≡ false }
     ensures no_fault { is_fault result.next ≡ false }
+    ensures memory { SegmentsStay store.old.ram store.new.ram }
 {
     if !store.living(q) {
         return came(Next::Fails(Refusal::NoProcess));
@@ -51,6 +52,7 @@ pub(crate) fn install(store: &mut Store, p: u8, pt: u32, image: u32, limit: u32)
     ensures sound { IsStore (λ b. seen (b.vtable, b.value)) store.new }
     ensures ends { goes_on result.next ≡ false }
     ensures no_fault { is_fault result.next ≡ false }
+    ensures memory { SegmentsStay store.old.ram store.new.ram }
 {
     if store.has_graft(p, pt as u8) {
         return came(Next::Fails(Refusal::Taken));
@@ -71,6 +73,7 @@ pub(crate) fn remove(store: &mut Store, p: u8, pt: u32) -> After
     ensures sound { IsStore (λ b. seen (b.vtable, b.value)) store.new }
     ensures ends { goes_on result.next ≡ false }
     ensures no_fault { is_fault result.next ≡ false }
+    ensures memory { SegmentsStay store.old.ram store.new.ram }
 {
     if !store.has_graft(p, pt as u8) {
         return came(Next::Fails(Refusal::NoGraft));
@@ -91,6 +94,7 @@ pub(crate) fn fund(store: &mut Store, p: u8, pt: u32, k: Kind, n: u32) -> After
     ensures sound { IsStore (λ b. seen (b.vtable, b.value)) store.new }
     ensures ends { goes_on result.next ≡ false }
     ensures no_fault { is_fault result.next ≡ false }
+    ensures memory { SegmentsStay store.old.ram store.new.ram }
 {
     if !store.has_graft(p, pt as u8) {
         return came(Next::Fails(Refusal::NoGraft));
@@ -113,6 +117,7 @@ pub(crate) fn bill(store: &mut Store, p: u8, pt: u32) -> After
     ensures sound { IsStore (λ b. seen (b.vtable, b.value)) store.new }
     ensures ends { goes_on result.next ≡ false }
     ensures no_fault { is_fault result.next ≡ false }
+    ensures memory { SegmentsStay store.old.ram store.new.ram }
 {
     if !store.has_graft(p, pt as u8) {
         return came(Next::Fails(Refusal::NoGraft));

@@ -11,7 +11,7 @@ ghost use Rattle.kernel_model.specs.Meaning.{disk_fails};
 ghost use Rattle.kernel_model.specs.FilePieces.{with_cache};
 ghost use Rattle.buffer_cache.specs.Frames.{in_use};
 ghost use Rattle.disk_log.specs.Calls.{Tells, GoesOn};
-ghost use Rattle.kernel_state.specs.Stores.{world_of_store, objects_of, cache_of, queue_of, policies_of, IsStore};
+ghost use Rattle.kernel_state.specs.Stores.{world_of_store, objects_of, cache_of, queue_of, policies_of, IsStore, SegmentsStay};
 ghost use Rattle.call_pieces.specs.Coming.{FetchCameTo, FetchLeft, FetchLeftBySome, blocks_after, has_failed};
 
 use disk_log::DiskLog;
@@ -49,6 +49,7 @@ pub(crate) fn fetch<D: Disk>(
     ensures same_size { D.block_count disk.new ≡ D.block_count disk.old }
     ensures calls { GoesOn (D.faults disk.old) (D.faults disk.new) (D.plan disk.old) (D.plan disk.new) log.old log.new }
     ensures few { length log.new ≤ 256 }
+    ensures memory { SegmentsStay store.old.ram store.new.ram }
 {
     match store.find(b) {
         Some(f) => {
@@ -88,6 +89,7 @@ pub(crate) fn fetch_ahead<D: Disk>(
     ensures same_size { D.block_count disk.new ≡ D.block_count disk.old }
     ensures calls { GoesOn (D.faults disk.old) (D.faults disk.new) (D.plan disk.old) (D.plan disk.new) log.old log.new }
     ensures few { length log.new ≤ 256 }
+    ensures memory { SegmentsStay store.old.ram store.new.ram }
 {
     match store.find(b) {
         Some(f) => Ok(f),
@@ -125,6 +127,7 @@ fn load<D: Disk>(
     ensures same_size { D.block_count disk.new ≡ D.block_count disk.old }
     ensures calls { GoesOn (D.faults disk.old) (D.faults disk.new) (D.plan disk.old) (D.plan disk.new) log.old log.new }
     ensures few { length log.new ≤ 256 }
+    ensures memory { SegmentsStay store.old.ram store.new.ram }
 {
     let mut bytes = [0; BLOCK_BYTES];
     match log.read(disk, b, &mut bytes) {
@@ -168,6 +171,7 @@ fn place<D: Disk>(
     ensures same_size { D.block_count disk.new ≡ D.block_count disk.old }
     ensures calls { GoesOn (D.faults disk.old) (D.faults disk.new) (D.plan disk.old) (D.plan disk.new) log.old log.new }
     ensures few { length log.new ≤ 256 }
+    ensures memory { SegmentsStay store.old.ram store.new.ram }
 {
     if let Some(f) = store.free() {
         store.fill(f, p, b, bytes);
@@ -229,6 +233,7 @@ fn evict<D: Disk>(
     ensures same_size { D.block_count disk.new ≡ D.block_count disk.old }
     ensures calls { GoesOn (D.faults disk.old) (D.faults disk.new) (D.plan disk.old) (D.plan disk.new) log.old log.new }
     ensures few { length log.new ≤ 256 }
+    ensures memory { SegmentsStay store.old.ram store.new.ram }
 {
     match store.dirty_block(f) {
         Some(old) => evict_dirty(store, disk, log, p, b, f, candidate, bytes, old),
@@ -276,6 +281,7 @@ fn evict_dirty<D: Disk>(
     ensures same_size { D.block_count disk.new ≡ D.block_count disk.old }
     ensures calls { GoesOn (D.faults disk.old) (D.faults disk.new) (D.plan disk.old) (D.plan disk.new) log.old log.new }
     ensures few { length log.new ≤ 256 }
+    ensures memory { SegmentsStay store.old.ram store.new.ram }
 {
     let mut evicted = [0; BLOCK_BYTES];
     store.copy_frame(f, &mut evicted);

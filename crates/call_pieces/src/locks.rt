@@ -6,7 +6,7 @@ ghost use Rattle.kernel_model.specs.Meaning.{Stage};
 ghost use Rattle.kernel_model.specs.Policies.{lives};
 ghost use Rattle.kernel_model.specs.Pieces.{lock_piece, unlock_piece};
 ghost use Rattle.disk_log.specs.Calls.{Tells};
-ghost use Rattle.kernel_state.specs.Stores.{world_of_store, objects_of, queue_of, IsStore};
+ghost use Rattle.kernel_state.specs.Stores.{world_of_store, objects_of, queue_of, IsStore, SegmentsStay};
 ghost use Rattle.call_pieces.specs.Works.{comes_after};
 ghost use Rattle.call_pieces.specs.Coming.{CameTo, is_fault, goes_on};
 
@@ -26,6 +26,7 @@ pub(crate) fn take_lock(store: &mut Store, p: u8, u: u32) -> After
     ensures sound { IsStore (λ b. seen (b.vtable, b.value)) store.new }
     ensures ends { goes_on result.next ≡ false }
     ensures no_fault { is_fault result.next ≡ false }
+    ensures memory { SegmentsStay store.old.ram store.new.ram }
 {
     if store.holder(u as u8).is_some() {
         return came(Next::Fails(Refusal::Held));
@@ -45,6 +46,7 @@ pub(crate) fn free_lock(store: &mut Store, p: u8, u: u32) -> After
     ensures sound { IsStore (λ b. seen (b.vtable, b.value)) store.new }
     ensures ends { goes_on result.next ≡ false }
     ensures no_fault { is_fault result.next ≡ false }
+    ensures memory { SegmentsStay store.old.ram store.new.ram }
 {
     match store.holder(u as u8) {
         Some(q) if q == p => {

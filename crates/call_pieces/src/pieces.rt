@@ -2,12 +2,11 @@
 
 ghost use Rattle.std.specs.Prelude.{◌≡◌, ℕ, ◌<◌, true, false, List, Bool, [], ◌++◌, Some, None, length, ◌≤◌};
 ghost use Rattle.kernel_model.specs.World.{Blocks, ImageTable};
-ghost use Rattle.kernel_model.specs.Queue.{slices_of};
 ghost use Rattle.kernel_model.specs.Pieces.{plain};
 ghost use Rattle.kernel_model.specs.Needs.{piece_ask};
 ghost use Rattle.kernel_model.specs.Laws.{IsRightAnswer};
 ghost use Rattle.disk_log.specs.Calls.{Tells, GoesOn};
-ghost use Rattle.kernel_state.specs.Stores.{world_of_store, objects_of, queue_of, policies_of, IsStore};
+ghost use Rattle.kernel_state.specs.Stores.{world_of_store, objects_of, queue_of, policies_of, IsStore, SegmentsStay};
 ghost use Rattle.call_pieces.specs.Works.{stage_of, comes_after, queue_after, MayCome};
 ghost use Rattle.call_pieces.specs.Coming.{CameTo, LeftBySome, HasGone, has_failed, is_fault, goes_on};
 
@@ -37,7 +36,6 @@ pub fn piece<D: Disk>(
     requires sound { IsStore (λ b. seen (b.vtable, b.value)) store.old }
     requires ready { MayCome plain (world_of_store store.old) (objects_of (λ b. seen (b.vtable, b.value)) store.old) work.old.caller (stage_of work.old) }
     requires right { IsRightAnswer (objects_of (λ b. seen (b.vtable, b.value)) store.old) (piece_ask work.old.call work.old.piece (world_of_store store.old) (objects_of (λ b. seen (b.vtable, b.value)) store.old).things work.old.caller) answer }
-    requires room { (q : ℕ) → slices_of q (queue_of store.old) < 4294967295 }
     requires disk { store.old.size ≡ D.block_count disk.old }
     requires fresh { log.old ≡ [] }
     ensures does { (images : ImageTable) (blocks : Blocks) (rest : List Bool) → Tells (D.blocks disk.old) blocks →
@@ -54,6 +52,7 @@ pub fn piece<D: Disk>(
     ensures same_size { D.block_count disk.new ≡ D.block_count disk.old }
     ensures calls { GoesOn (D.faults disk.old) (D.faults disk.new) (D.plan disk.old) (D.plan disk.new) log.old log.new }
     ensures few { length log.new ≤ 256 }
+    ensures memory { SegmentsStay store.old.ram store.new.ram }
 {
     let p = work.caller;
     match &work.call {

@@ -6,7 +6,7 @@ ghost use Rattle.kernel_model.specs.Meaning.{Stage};
 ghost use Rattle.kernel_model.specs.Early.{policy_count};
 ghost use Rattle.kernel_model.specs.Pieces.{tune_piece, choose_piece};
 ghost use Rattle.disk_log.specs.Calls.{Tells};
-ghost use Rattle.kernel_state.specs.Stores.{world_of_store, objects_of, queue_of, IsStore};
+ghost use Rattle.kernel_state.specs.Stores.{world_of_store, objects_of, queue_of, IsStore, SegmentsStay};
 ghost use Rattle.call_pieces.specs.Works.{comes_after};
 ghost use Rattle.call_pieces.specs.Coming.{CameTo, is_fault, goes_on};
 
@@ -25,6 +25,7 @@ pub(crate) fn tune(store: &mut Store, kind: u32, k: u32, v: u32) -> After
     ensures sound { IsStore (λ b. seen (b.vtable, b.value)) store.new }
     ensures ends { goes_on result.next ≡ false }
     ensures no_fault { is_fault result.next ≡ false }
+    ensures memory { SegmentsStay store.old.ram store.new.ram }
 {
     if !store.takes(kind as u8, k, v) {
         return came(Next::Fails(Refusal::BadIndex));
@@ -45,6 +46,7 @@ pub(crate) fn choose(store: &mut Store, kind: u32, j: u32) -> After
     ensures sound { IsStore (λ b. seen (b.vtable, b.value)) store.new }
     ensures ends { goes_on result.next ≡ false }
     ensures no_fault { is_fault result.next ≡ false }
+    ensures memory { SegmentsStay store.old.ram store.new.ram }
 {
     store.choose(kind as u8, j as u8);
     came(Next::Ends(Reply::Plain))

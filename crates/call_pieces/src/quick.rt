@@ -3,7 +3,7 @@
 ghost use Rattle.std.specs.Prelude.{◌≡◌, ℕ, ◌+◌, ◌<◌, ◌≤◌, true, false, List, Option, Some, slice_index, IfSome};
 ghost use Rattle.kernel_model.specs.World.{Blocks, file_named};
 ghost use Rattle.kernel_model.specs.Meaning.{Stage, stage, EndsWith};
-ghost use Rattle.kernel_model.specs.Queue.{slices_of, queue_without};
+ghost use Rattle.kernel_model.specs.Queue.{queue_without};
 ghost use Rattle.kernel_model.specs.declared.SysCall.TheVariants.{Yield};
 ghost use Rattle.kernel_model.specs.declared.Reply.TheVariants.{One};
 ghost use Rattle.kernel_model.specs.Policies.{lives};
@@ -13,7 +13,7 @@ ghost use Rattle.kernel_model.specs.FilePieces.{leaves, open_piece, close_piece,
 ghost use Rattle.kernel_model.specs.Pieces.{spawn_piece, exit_piece, yield_piece, poke_piece};
 ghost use Rattle.kernel_model.specs.Sound.{IsSoundFile};
 ghost use Rattle.disk_log.specs.Calls.{Tells};
-ghost use Rattle.kernel_state.specs.Stores.{world_of_store, objects_of, queue_of, queue_joined, policies_of, IsStore};
+ghost use Rattle.kernel_state.specs.Stores.{world_of_store, objects_of, queue_of, queue_joined, policies_of, IsStore, SegmentsStay};
 ghost use Rattle.call_pieces.specs.Works.{queue_yielded, next_of, comes_after};
 ghost use Rattle.call_pieces.specs.Coming.{CameTo, is_fault, goes_on};
 
@@ -32,6 +32,7 @@ pub(crate) fn spawn(store: &mut Store) -> After
     ensures sound { IsStore (λ b. seen (b.vtable, b.value)) store.new }
     ensures ends { goes_on result.next ≡ false }
     ensures no_fault { is_fault result.next ≡ false }
+    ensures memory { SegmentsStay store.old.ram store.new.ram }
 {
     match store.spawn() {
         Some(c) => came(Next::Ends(Reply::One(u32::from(c)))),
@@ -51,6 +52,7 @@ pub(crate) fn exit(store: &mut Store, p: u8) -> After
     ensures sound { IsStore (λ b. seen (b.vtable, b.value)) store.new }
     ensures ends { goes_on result.next ≡ false }
     ensures no_fault { is_fault result.next ≡ false }
+    ensures memory { SegmentsStay store.old.ram store.new.ram }
 {
     store.leave(p);
     came(Next::Ends(Reply::Plain))
@@ -81,7 +83,6 @@ pub(crate) fn yield_turn(
     requires alive { lives (queue_of store.old) p ≡ true }
     requires fits { piece.old ≤ 1 }
     requires right { IfSome answer (λ a. lives (queue_of store.old) (slice_index a 0) ≡ true) }
-    requires room { (q : ℕ) → slices_of q (queue_of store.old) < 4294967295 }
     ensures does { (blocks : Blocks) (told : Option (List (List ℕ))) → Tells told blocks →
         CameTo (yield_piece piece.old (objects_of (λ b. seen (b.vtable, b.value)) store.old) p answer blocks) (objects_of (λ b. seen (b.vtable, b.value)) store.new) told result.gave (comes_after result.next (stage Yield piece.new)) 0 }
     ensures queue { queue_of store.new ≡ queue_yielded (policies_of (λ b. seen (b.vtable, b.value)) store.old 2) answer piece.old p (queue_of store.old) }
@@ -90,6 +91,7 @@ pub(crate) fn yield_turn(
     ensures sound { IsStore (λ b. seen (b.vtable, b.value)) store.new }
     ensures next { goes_on result.next ≡ true → (piece.old ≡ 0) × (piece.new ≡ 1) }
     ensures no_fault { is_fault result.next ≡ false }
+    ensures memory { SegmentsStay store.old.ram store.new.ram }
 {
     if *piece == 0 {
         *piece = 1;
@@ -113,6 +115,7 @@ pub(crate) fn poke(store: &mut Store, p: u8, k: u32, v: u32) -> After
     ensures sound { IsStore (λ b. seen (b.vtable, b.value)) store.new }
     ensures ends { goes_on result.next ≡ false }
     ensures no_fault { is_fault result.next ≡ false }
+    ensures memory { SegmentsStay store.old.ram store.new.ram }
 {
     store.set_cell(p, k as u8, v);
     came(Next::Ends(Reply::Plain))
@@ -142,6 +145,7 @@ pub(crate) fn open(store: &mut Store, p: u8, name: &[u8]) -> After
     ensures sound { IsStore (λ b. seen (b.vtable, b.value)) store.new }
     ensures ends { goes_on result.next ≡ false }
     ensures no_fault { is_fault result.next ≡ false }
+    ensures memory { SegmentsStay store.old.ram store.new.ram }
 {
     let Some(file) = store.named(name) else {
         return came(Next::Fails(Refusal::NoFile));
@@ -165,6 +169,7 @@ fn open_at(store: &mut Store, p: u8, fd: u8, file: u8) -> After
     ensures sound { IsStore (λ b. seen (b.vtable, b.value)) store.new }
     ensures ends { goes_on result.next ≡ false }
     ensures no_fault { is_fault result.next ≡ false }
+    ensures memory { SegmentsStay store.old.ram store.new.ram }
 {
     let row = OpenRow {
         file,
@@ -190,6 +195,7 @@ pub(crate) fn close(store: &mut Store, p: u8, fd: u32) -> After
     ensures sound { IsStore (λ b. seen (b.vtable, b.value)) store.new }
     ensures ends { goes_on result.next ≡ false }
     ensures no_fault { is_fault result.next ≡ false }
+    ensures memory { SegmentsStay store.old.ram store.new.ram }
 {
     if store.file(p, fd as u8).is_none() {
         return came(Next::Fails(Refusal::BadFd));

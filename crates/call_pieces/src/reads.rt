@@ -12,7 +12,7 @@ ghost use Rattle.kernel_model.specs.Needs.{file_block, ahead_block, read_ask};
 ghost use Rattle.kernel_model.specs.Fetch as fetches;
 ghost use Rattle.kernel_model.specs.Sound.{IsSoundFile};
 ghost use Rattle.disk_log.specs.Calls.{Tells, GoesOn};
-ghost use Rattle.kernel_state.specs.Stores.{world_of_store, objects_of, cache_of, queue_of, policies_of, IsStore};
+ghost use Rattle.kernel_state.specs.Stores.{world_of_store, objects_of, cache_of, queue_of, policies_of, IsStore, SegmentsStay};
 ghost use Rattle.call_pieces.specs.Works.{comes_after};
 ghost use Rattle.call_pieces.specs.Coming.{CameTo, LeftBySome, ReadGoes, has_failed, is_fault, goes_on};
 
@@ -63,6 +63,7 @@ pub(crate) fn read<D: Disk>(
     ensures same_size { D.block_count disk.new ≡ D.block_count disk.old }
     ensures calls { GoesOn (D.faults disk.old) (D.faults disk.new) (D.plan disk.old) (D.plan disk.new) log.old log.new }
     ensures few { length log.new ≤ 256 }
+    ensures memory { SegmentsStay store.old.ram store.new.ram }
 {
     let Some(opened) = store.file(p, r.fd as u8) else {
         return came(Next::Fails(Refusal::BadFd));
@@ -107,6 +108,7 @@ fn first<D: Disk>(
     ensures same_size { D.block_count disk.new ≡ D.block_count disk.old }
     ensures calls { GoesOn (D.faults disk.old) (D.faults disk.new) (D.plan disk.old) (D.plan disk.new) log.old log.new }
     ensures few { length log.new ≤ 256 }
+    ensures memory { SegmentsStay store.old.ram store.new.ram }
 {
     match store.block_of(p, r.fd as u8, r.i, r.off, r.len) {
         Ok(b) => first_at(piece, store, disk, log, p, r, answer, opened, b),
@@ -150,6 +152,7 @@ fn first_at<D: Disk>(
     ensures same_size { D.block_count disk.new ≡ D.block_count disk.old }
     ensures calls { GoesOn (D.faults disk.old) (D.faults disk.new) (D.plan disk.old) (D.plan disk.new) log.old log.new }
     ensures few { length log.new ≤ 256 }
+    ensures memory { SegmentsStay store.old.ram store.new.ram }
 {
     let Ok(f) = fetch(store, disk, log, p, b, answer) else {
         return came(Next::Fails(Refusal::DiskFault));
@@ -207,6 +210,7 @@ fn second(
     ensures no_fault { is_fault result.next ≡ false }
     ensures world { world_of_store store.new ≡ world_of_store store.old }
     ensures sound { IsStore (λ b. seen (b.vtable, b.value)) store.new }
+    ensures memory { SegmentsStay store.old.ram store.new.ram }
 {
     let ahead = reach(store, answer, &opened);
     let row = OpenRow {
@@ -253,6 +257,7 @@ fn later<D: Disk>(
     ensures same_size { D.block_count disk.new ≡ D.block_count disk.old }
     ensures calls { GoesOn (D.faults disk.old) (D.faults disk.new) (D.plan disk.old) (D.plan disk.new) log.old log.new }
     ensures few { length log.new ≤ 256 }
+    ensures memory { SegmentsStay store.old.ram store.new.ram }
 {
     let b = store.block_ahead(&opened);
     let Ok(_) = fetch_ahead(store, disk, log, p, b, answer) else {

@@ -39,6 +39,7 @@ pub(crate) fn sync<D: Disk>(store: &mut Store, disk: &mut D, log: &mut DiskLog) 
     ensures same_size { D.block_count disk.new ≡ D.block_count disk.old }
     ensures calls { GoesOn (D.faults disk.old) (D.faults disk.new) (D.plan disk.old) (D.plan disk.new) log.old log.new }
     ensures few { length log.new ≤ 256 }
+    ensures memory { store.new.ram ≡ store.old.ram }
 {
     let mut written = 0;
     for f in 0..store.setup.frames {
@@ -78,6 +79,7 @@ fn write_back<D: Disk>(
     ensures same_size { D.block_count disk.new ≡ D.block_count disk.old }
     ensures calls { GoesOn (D.faults disk.old) (D.faults disk.new) (D.plan disk.old) (D.plan disk.new) log.old log.new }
     ensures few { length log.new ≤ 256 }
+    ensures memory { store.new.ram ≡ store.old.ram }
 {
     let mut bytes = [0; BLOCK_BYTES];
     store.copy_frame(f, &mut bytes);

@@ -2,10 +2,8 @@
 
 ghost use Rattle.std.specs.Prelude.{◌≡◌, ℕ, ◌<◌, true, length, map, IfOk};
 ghost use Rattle.kernel_model.specs.Opening.{opening_policy};
-ghost use Rattle.kernel_model.specs.Queue.{slices_of};
 ghost use Rattle.graft_points.specs.Shelf.{IsShelf, pol_of, first_choice};
 ghost use Rattle.kernel_state.specs.Stores.{queue_of, IsStore};
-ghost use Rattle.call_pieces.specs.Works.{slices_within};
 
 use crate::{After, Calls, Needs, Next, Plain};
 use disk_log::DiskLog;
@@ -107,20 +105,6 @@ fn name_of(from: &[u8]) -> Name {
     name
 }
 
-/// Whether each process of the queue may have one slice more.
-fn may_rise(rows: &[QueueRow]) -> bool
-    ensures { result ≡ slices_within 4294967294 rows.now }
-{
-    rows.iter().all(|row| row.slices <= 4294967294)
-}
-
-/// Whether each process of a store may have one slice more.
-fn has_room(store: &Store) -> bool
-    ensures { result ≡ true → (q : ℕ) → slices_of q (queue_of store.now) < 4294967295 }
-{
-    may_rise(store.procs.rows())
-}
-
 /// Runs a call of process p to its end, over a disk that isn't of another size.
 fn run<C: Calls>(store: &mut Store, disk: &mut MemDisk, p: u8, call: &SysCall) -> After
     requires { IsStore (λ b. seen (b.vtable, b.value)) store.old }
@@ -140,7 +124,7 @@ fn run<C: Calls>(store: &mut Store, disk: &mut MemDisk, p: u8, call: &SysCall) -
     };
     let mut log = DiskLog::new();
     'turns: for _ in 0..11u8 {
-        if !has_room(store) || store.size != disk.size() {
+        if store.size != disk.size() {
             break 'turns;
         }
         log.clear();

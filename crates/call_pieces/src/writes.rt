@@ -8,7 +8,7 @@ ghost use Rattle.kernel_model.specs.Needs.{file_block, fetch_ask};
 ghost use Rattle.kernel_model.specs.Laws.{IsRightAnswer};
 ghost use Rattle.kernel_model.specs.FilePieces.{write_piece};
 ghost use Rattle.disk_log.specs.Calls.{Tells, GoesOn};
-ghost use Rattle.kernel_state.specs.Stores.{world_of_store, objects_of, queue_of, IsStore};
+ghost use Rattle.kernel_state.specs.Stores.{world_of_store, objects_of, queue_of, IsStore, SegmentsStay};
 ghost use Rattle.call_pieces.specs.Works.{comes_after};
 ghost use Rattle.call_pieces.specs.Coming.{CameTo, LeftBySome, has_failed, is_fault, goes_on};
 
@@ -51,6 +51,7 @@ pub(crate) fn write<D: Disk>(
     ensures same_size { D.block_count disk.new ≡ D.block_count disk.old }
     ensures calls { GoesOn (D.faults disk.old) (D.faults disk.new) (D.plan disk.old) (D.plan disk.new) log.old log.new }
     ensures few { length log.new ≤ 256 }
+    ensures memory { SegmentsStay store.old.ram store.new.ram }
 {
     let b = match store.block_of(p, fd as u8, i, off, bytes.len() as u32) {
         Ok(b) => b,

@@ -21,6 +21,7 @@ loop-f-init g c =
       world = refl;
       sound = c.requires.sound;
       disk = c.requires.disk;
+      memory = refl;
       same_size = refl;
     }
 
@@ -35,6 +36,7 @@ loop-f-preserved-in_default g c =
       world = l.world;
       sound = l.sound;
       disk = l.disk;
+      memory = l.memory;
       same_size = l.same_size;
     }
 
@@ -55,6 +57,7 @@ loop-f-preserved g c =
       world = w.world ∙ l.world;
       sound = w.sound;
       disk = ap (λ (v : World). v.disk_size) w.world ∙ l.disk ∙ sym w.same_size;
+      memory = w.memory ∙ l.memory;
       same_size = w.same_size ∙ l.same_size;
     }
 

@@ -12,5 +12,6 @@ invariant-loop-f g l = record {
   world : world_of_store l.store ≡ world_of_store l.initial.store;
   sound : IsStore (λ b. (goal.Policy-dyn g (b.vtable, b.value)).seen b.value) l.store;
   disk : l.store.size ≡ g.D.Disk.block_count l.disk;
+  memory : l.store.ram ≡ l.initial.store.ram;
   same_size : g.D.Disk.block_count l.disk ≡ g.D.Disk.block_count l.initial.disk;
 }
