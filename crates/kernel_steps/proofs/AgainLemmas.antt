@@ -1,19 +1,22 @@
--- A running kernel is one again after a move, where what the other calls hold exclusively stays.
+-- A running kernel is one again after a step, where what the other calls hold exclusively stays.
 use Rattle.std.proofs.Common.{◌≡◌, ◌≢◌, ℕ, suc, zero, ◌≤◌, ◌<◌, ◌==◌, Bool, true, false, nat_lt, List, [], ◌∷◌, length, refl, ap, sym, subst, ◌∙◌, arith, inl, inr, ◌⊎◌}
-use Rattle.std.specs.Prelude.{Contains}
+use Rattle.std.specs.Prelude.{Contains, Option, Some, None, is_some, cond}
 use Rattle.std.proofs.lemmas.Bool.{eqb-true}
 use Rattle.std.proofs.lemmas.Bool.Decides.{nat_tests}
 use Rattle.kernel_model.specs.declared.Held.{Held}
 use Rattle.kernel_model.specs.declared.Inverse.{Inverse}
 use Rattle.kernel_model.specs.declared.Object.{Object}
 use Rattle.kernel_model.specs.declared.Object.TheVariants.{Graft}
-use Rattle.kernel_model.specs.World.{ImageTable}
-use Rattle.kernel_model.specs.Objects.{Accounts, Things}
+use Rattle.kernel_model.specs.declared.QueueRow.{QueueRow}
+use Rattle.kernel_model.specs.World.{World, ImageTable}
+use Rattle.kernel_model.specs.Objects.{Objects, Accounts, Things, GraftValue}
+use Rattle.kernel_model.specs.Policies.{lives}
 use Rattle.kernel_model.specs.Meaning.{Meaning, Stage}
 use Rattle.kernel_model.specs.Access.{changed_by}
 use Rattle.kernel_model.specs.Locks.{LockTable}
-use Rattle.kernel_model.specs.Levels.{Level, outermost_touched}
-use Rattle.kernel_model.specs.Sound.{IsSoundConfig}
+use Rattle.kernel_model.specs.Levels.{Level, Config, outermost_touched}
+use Rattle.kernel_model.specs.Kernel.{Entry}
+use Rattle.kernel_model.specs.Sound.{IsSoundConfig, ImagesAreLoaded}
 use Rattle.kernel_model.specs.UndoLog.{undo_all}
 use Rattle.undo_calls.specs.UndoLevels.{innermost}
 use Rattle.lock_table.specs.Masks.{held}
@@ -23,11 +26,16 @@ use Rattle.graft_calls.specs.declared.GraftLevel.{GraftLevel}
 use Rattle.graft_calls.specs.declared.Chain.{Chain}
 use Rattle.graft_calls.specs.Chains.{level_in, levels_in, outer, call_of}
 use Rattle.graft_calls.specs.Calls.{AreSound, IsPlaced, AreInside, AllUndoable}
+use Rattle.placed_laws.specs.Placed.{Placed}
 use Rattle.placed_laws.specs.Soundness.{SoundInPlace}
+use Rattle.kernel_steps.specs.declared.running.InFlight.{InFlight}
 use Rattle.kernel_steps.specs.declared.running.Running.{Running}
-use Rattle.kernel_steps.specs.Orders.{counts_within, are_processes, are_once, numbers_of}
-use Rattle.kernel_steps.specs.Views.{placed_of, chain_of, IsRunning, Stood}
-use Rattle.kernel_steps.specs.Moves.{Moved, StaysInPlace, HeldStays}
+use Rattle.kernel_steps.specs.Orders.{order_of, counts_within, are_processes, are_once, numbers_of}
+use Rattle.kernel_steps.specs.Views.{placed_of, flight_of, chain_of, run_of, IsRunning, Stood}
+use Rattle.kernel_steps.proofs.BlockLemmas.{some_blocks, blocks_are_whole}
+use Rattle.kernel_steps.specs.Moves.{StaysInPlace, HeldStays}
+use Rattle.kernel_steps.specs.Owned.{AreOwned}
+use Rattle.kernel_steps.specs.Steps.{Stepped}
 use Rattle.kernel_steps.proofs.ViewLemmas.{config_in_place}
 use Rattle.kernel_steps.proofs.HinderLemmas.{some_levels}
 use Rattle.kernel_steps.proofs.StayLemmas.{all_still, inside_still, sound_still}
@@ -71,87 +79,126 @@ none_inside : (images : ImageTable) (a : Accounts) (q : ℕ) (gs : List GraftLev
 none_inside images a q [] h = tt
 none_inside images a q (g ∷ gs) h = absurd (omega (arith, h))
 
--- its graft call is sound
-config_of : {C M W X : Type 0} {F : X → Type 0} (m : Meaning) → SoundInPlace m → (view : Seeing X F) (stage : W → Stage) (x : Running C M W X F) (q : ℕ) → Stood m (placed_of view stage x) →
+none_sound : (queue : List QueueRow) (gs : List GraftLevel) → length gs ≡ 0 → AreSound queue gs
+none_sound queue [] h = tt
+none_sound queue (g ∷ gs) h = absurd (omega (arith, h))
+
+-- a graft call is sound on what stands for a kernel, whatever the order of waiting
+config_of : {C M W X : Type 0} {F : X → Type 0} (m : Meaning) → SoundInPlace m → (view : Seeing X F) (stage : W → Stage) (x : Running C M W X F) (es : List Entry) (q : ℕ) → Stood m (record (placed_of view stage x) { order = es }) →
     0 < length (chain_of x q).levels → IsSoundConfig (world_of_store x.store) (call_of view x.store x.locks (chain_of x q) q)
-config_of m sound view stage x q stood some =
+config_of m sound view stage x es q stood some =
     subst (IsSoundConfig (world_of_store x.store)) (config_in_place view stage x q)
-    (sound.configs (placed_of view stage x) stood.kernel q stood.stands
+    (sound.configs (record (placed_of view stage x) { order = es }) stood.kernel q stood.stands
     (some_levels q x.store.ram (held x.locks) (chain_of x q).levels (chain_of x q).undo (objects_of view x.store).things some))
 
+-- the graft of a level stands, so its installer lives
+installer_lives : (v : World) (c : Config) (l : Level) → IsSoundConfig v c → Contains c.levels l → lives c.now.things.queue l.owner ≡ true
+installer_lives v c l h has = by_value (c.now.accounts.graft l.owner l.point) refl (h.grafts l has)
+  where
+    by_value : (g : Option GraftValue) → c.now.accounts.graft l.owner l.point ≡ g → is_some (c.now.accounts.graft l.owner l.point) ≡ true → lives c.now.things.queue l.owner ≡ true
+    by_value None e some = grind (arith, e, some)
+    by_value (Some g) e some = (h.now.grafts l.owner l.point g e).1
+
+-- the owner of levels lives
+owner_lives : (v : World) (s : Objects) (o q : ℕ) (ram : List ℕ) (t : LockTable) (gs : List GraftLevel) (log : List (List Inverse)) → IsSoundConfig v (record { now = s; levels = levels_in q ram t gs log s.things }) → AreOwned o gs log → 0 < length gs →
+    lives s.things.queue o ≡ true
+owner_lives v s o q ram t [] log h own some = absurd (omega (arith, some))
+owner_lives v s o q ram t (g ∷ gs) log h own some =
+    let l : Level = level_in q (length gs) ram t g (innermost log) (undo_all (innermost log) s.things) in
+    ap (lives s.things.queue) (sym own.0)
+    ∙ installer_lives v (record { now = s; levels = levels_in q ram t (g ∷ gs) log s.things }) l h (0, omega arith, refl)
+
 -- with no level there is nothing to keep
-stays_without : {C M W X : Type 0} {F : X → Type 0} (view : Seeing X F) (x y : Running C M W X F) (p q : ℕ) (caller : W → ℕ) → IsRunning view caller x → Moved view x y p → q ≢ p → q < 16 →
+stays_without : {C M W X : Type 0} {F : X → Type 0} (view : Seeing X F) (x y : Running C M W X F) (q : ℕ) (caller : W → ℕ) → IsRunning view caller x → chain_of y q ≡ chain_of x q → q < 16 →
     length (chain_of x q).levels ≡ 0 → StaysInPlace view y q
-stays_without view x y p q caller r moved other small none =
-    let chain : chain_of y q ≡ chain_of x q = moved.chains q other in
+stays_without view x y q caller r chain small none =
+    let few : length (chain_of y q).levels ≡ 0 = ap (λ (c : Chain). length c.levels) chain ∙ none in
     record {
+      levels = none_sound (queue_of y.store) (chain_of y q).levels few;
       undoable = none_undoable (chain_of y q).undo (objects_of view y.store).things (ap (λ (c : Chain). length c.undo) chain ∙ (r.placed q small).as_many ∙ none);
-      inside = none_inside (table_of y.images) (objects_of view y.store).accounts q (chain_of y q).levels (ap (λ (c : Chain). length c.levels) chain ∙ none);
+      inside = none_inside (table_of y.images) (objects_of view y.store).accounts q (chain_of y q).levels few;
     }
 
 -- with levels, what it holds exclusively stays
-stays_with : {C M W X : Type 0} {F : X → Type 0} (m : Meaning) → SoundInPlace m → (view : Seeing X F) (stage : W → Stage) (x y : Running C M W X F) (p q : ℕ) (caller : W → ℕ) → IsRunning view caller x →
-    Stood m (placed_of view stage x) → Moved view x y p → q ≢ p → q < 16 → HeldStays view x y q → 0 < length (chain_of x q).levels → StaysInPlace view y q
-stays_with m sound view stage x y p q caller r stood moved other small stays some =
-    let chain : chain_of y q ≡ chain_of x q = moved.chains q other in
+stays_with : {C M W X : Type 0} {F : X → Type 0} (m : Meaning) → SoundInPlace m → (view : Seeing X F) (stage : W → Stage) (x y : Running C M W X F) (es : List Entry) (q : ℕ) (caller : W → ℕ) → IsRunning view caller x →
+    Stood m (placed_of view stage x) → Stood m (record (placed_of view stage y) { order = es }) → chain_of y q ≡ chain_of x q → y.images ≡ x.images → q < 16 → HeldStays view x y q → 0 < length (chain_of x q).levels → StaysInPlace view y q
+stays_with m sound view stage x y es q caller r stood after chain images small stays some =
     let gs = (chain_of x q).levels in
     let log = (chain_of x q).undo in
     let s = objects_of view x.store in
     let u = objects_of view y.store in
     let t = held x.locks in
-    let config = config_of m sound view stage x q stood some in
+    let old = r.placed q small in
+    let config = config_of m sound view stage x (order_of x.order) q stood some in
+    let later = subst (λ (c : Chain). IsSoundConfig (world_of_store y.store) (call_of view y.store y.locks c q)) chain
+    (config_of m sound view stage y es q after (subst (λ (c : Chain). 0 < length c.levels) (sym chain) some)) in
+    let live = owner_lives (world_of_store y.store) u (r.owner q) q y.store.ram (held y.locks) gs log later (r.own q small) some in
     record {
+      levels = subst (λ (c : Chain). AreSound (queue_of y.store) c.levels) (sym chain) (sound_still (r.owner q) (queue_of x.store) (queue_of y.store) gs log (r.own q small) live old.levels);
       undoable = subst (λ (c : Chain). AllUndoable c.undo u.things) (sym chain)
-          (all_still q x.store.ram t gs log s.things s u (r.placed q small).as_many
-          (λ l i has own. let e = touch_at q x.store.ram t gs log s.things l (changed_by i) has (config.recorded l i has own) in stays e.0 (changed_by i) e.1)
-          moved.elsewhere.living (r.placed q small).undoable);
+          (all_still (r.owner q) q x.store.ram t gs log s.things s u old.as_many (r.own q small) live
+          (λ l i has own. let e = touch_at q x.store.ram t gs log s.things l (changed_by i) has (config.recorded l i has own) in stays e.0 (changed_by i) e.1) old.undoable);
       inside = subst (λ (c : Chain). AreInside (table_of y.images) u.accounts q c.levels) (sym chain)
-          (subst (λ i. AreInside (table_of i) u.accounts q gs) (sym moved.images)
+          (subst (λ i. AreInside (table_of i) u.accounts q gs) (sym images)
           (inside_still (table_of x.images) s.accounts u.accounts q x.store.ram t gs log s.things
           (λ l has. stays 0 (Graft l.owner l.point) (sym (ap (λ f. f (Graft l.owner l.point)) (outermost_is q x.store.ram t gs log s.things some)) ∙ (config.paid l has).0)) (r.inside q small)));
     }
 
-pub stays_in_place : {C M W X : Type 0} {F : X → Type 0} (m : Meaning) → SoundInPlace m → (view : Seeing X F) (stage : W → Stage) (x y : Running C M W X F) (p q : ℕ) (caller : W → ℕ) → IsRunning view caller x →
-    Stood m (placed_of view stage x) → Moved view x y p → q ≢ p → q < 16 → HeldStays view x y q → (b : Bool) → nat_lt 0 (length (chain_of x q).levels) ≡ b → StaysInPlace view y q
-stays_in_place m sound view stage x y p q caller r stood moved other small stays true h = stays_with m sound view stage x y p q caller r stood moved other small stays (grind (arith, nat_tests, h))
-stays_in_place m sound view stage x y p q caller r stood moved other small stays false h = stays_without view x y p q caller r moved other small (grind (arith, nat_tests, h))
+stays_in_place : {C M W X : Type 0} {F : X → Type 0} (m : Meaning) → SoundInPlace m → (view : Seeing X F) (stage : W → Stage) (x y : Running C M W X F) (es : List Entry) (q : ℕ) (caller : W → ℕ) → IsRunning view caller x →
+    Stood m (placed_of view stage x) → Stood m (record (placed_of view stage y) { order = es }) → chain_of y q ≡ chain_of x q → y.images ≡ x.images → q < 16 → HeldStays view x y q → (b : Bool) → nat_lt 0 (length (chain_of x q).levels) ≡ b → StaysInPlace view y q
+stays_in_place m sound view stage x y es q caller r stood after chain images small stays true h =
+    stays_with m sound view stage x y es q caller r stood after chain images small stays (grind (arith, nat_tests, h))
+stays_in_place m sound view stage x y es q caller r stood after chain images small stays false h = stays_without view x y q caller r chain small (grind (arith, nat_tests, h))
 
 -- ---- the kernel runs again
 
-placed_again : {C M W X : Type 0} {F : X → Type 0} (view : Seeing X F) (x y : Running C M W X F) (p q : ℕ) (caller : W → ℕ) → IsRunning view caller x → Moved view x y p → q < 16 →
-    (q ≢ p → StaysInPlace view y q) → (b : Bool) → (q == p) ≡ b → IsPlaced view y.store y.locks q (chain_of y q).levels (chain_of y q).undo
-placed_again view x y p q caller r moved small stay true h =
-    subst (λ k. IsPlaced view y.store y.locks k (chain_of y k).levels (chain_of y k).undo) (sym (eqb-true q p h)) moved.placed
-placed_again view x y p q caller r moved small stay false h =
-    let other : q ≢ p = grind (arith, nat_tests, h) in
-    let chain : chain_of y q ≡ chain_of x q = moved.chains q other in
+-- what holds of p and of every other holds of all
+all_hold : (p : ℕ) (P : ℕ → Type 0) → P p → ((q : ℕ) → q ≢ p → P q) → (q : ℕ) (b : Bool) → (q == p) ≡ b → P q
+all_hold p P own others q true h = subst P (sym (eqb-true q p h)) own
+all_hold p P own others q false h = others q (grind (arith, nat_tests, h))
+
+-- whose the levels are
+owners_at : (p o : ℕ) (f : ℕ → ℕ) (P : ℕ → ℕ → Type 0) → P o p → ((q : ℕ) → q ≢ p → P (f q) q) → (q : ℕ) (b : Bool) → (q == p) ≡ b → P (cond b o (f q)) q
+owners_at p o f P own others q true h = subst (P o) (sym (eqb-true q p h)) own
+owners_at p o f P own others q false h = others q (grind (arith, nat_tests, h))
+
+placed_again : {C M W X : Type 0} {F : X → Type 0} (view : Seeing X F) (x y : Running C M W X F) (p q : ℕ) (caller : W → ℕ) → IsRunning view caller x → Stepped view caller x y p → q < 16 → q ≢ p → StaysInPlace view y q →
+    IsPlaced view y.store y.locks q (chain_of y q).levels (chain_of y q).undo
+placed_again view x y p q caller r step small other stay =
+    let chain : chain_of y q ≡ chain_of x q = step.chains q other in
     let old = r.placed q small in
     record {
-      store = moved.placed.store;
+      store = step.store;
       process = small;
       few = subst (λ (c : Chain). length c.levels ≤ 4) (sym chain) old.few;
       as_many = subst (λ (c : Chain). length c.undo ≡ length c.levels) (sym chain) old.as_many;
-      unheld = λ d o le. ap (λ f. f o) (moved.elsewhere.others q d other) ∙ old.unheld d o (subst (λ (c : Chain). length c.levels ≤ d) chain le);
-      levels = subst (λ (c : Chain). AreSound (queue_of y.store) c.levels) (sym chain) (sound_still (queue_of x.store) (queue_of y.store) (chain_of x q).levels moved.elsewhere.living old.levels);
-      undoable = (stay other).undoable;
+      unheld = λ d o le. ap (λ f. f o) (step.locks q d other) ∙ old.unheld d o (subst (λ (c : Chain). length c.levels ≤ d) chain le);
+      levels = stay.levels;
+      undoable = stay.undoable;
     }
 
-inside_again : {C M W X : Type 0} {F : X → Type 0} (view : Seeing X F) (x y : Running C M W X F) (p q : ℕ) → Moved view x y p → (q ≢ p → StaysInPlace view y q) → (b : Bool) → (q == p) ≡ b →
-    AreInside (table_of y.images) (objects_of view y.store).accounts q (chain_of y q).levels
-inside_again view x y p q moved stay true h = subst (λ k. AreInside (table_of y.images) (objects_of view y.store).accounts k (chain_of y k).levels) (sym (eqb-true q p h)) moved.inside
-inside_again view x y p q moved stay false h = (stay (grind (arith, nat_tests, h))).inside
+-- the images of what stands for a kernel are loaded, whatever the order of waiting
+loaded_of : (m : Meaning) → SoundInPlace m → (x : Placed) (es : List Entry) → Stood m (record x { order = es }) → ImagesAreLoaded x.images x.objects.accounts
+loaded_of m sound x es stood =
+    sound.images_loaded (run_of (record x { order = es }) some_blocks [] []) (record { kernel = stood.kernel; blocks = some_blocks; notes = []; io = [] })
+    (record { kernel = stood.stands; blocks = refl; notes = refl; io = refl; whole = blocks_are_whole stood.kernel.world })
 
-pub runs_again : {C M W X : Type 0} {F : X → Type 0} (view : Seeing X F) (caller : W → ℕ) (x y : Running C M W X F) (p : ℕ) → IsRunning view caller x → Moved view x y p →
-    ((q : ℕ) → q ≢ p → q < 16 → StaysInPlace view y q) → IsRunning view caller y
-runs_again view caller x y p r moved stay =
+pub runs_again : {C M W X : Type 0} {F : X → Type 0} (m : Meaning) → SoundInPlace m → (view : Seeing X F) (stage : W → Stage) (caller : W → ℕ) (x y : Running C M W X F) (es : List Entry) (p o : ℕ) → IsRunning view caller x → p < 16 →
+    Stood m (placed_of view stage x) → Stood m (record (placed_of view stage y) { order = es }) → Stepped view caller x y p → AreOwned o (chain_of y p).levels (chain_of y p).undo → ((q : ℕ) → q ≢ p → HeldStays view x y q) → IsRunning view caller y
+runs_again {W = W} m sound view stage caller x y es p o r low stood after step own held =
+    let stay : (q : ℕ) → q ≢ p → q < 16 → StaysInPlace view y q =
+    λ q other small. stays_in_place m sound view stage x y es q caller r stood after (step.chains q other) step.images small (held q other) (nat_lt 0 (length (chain_of x q).levels)) refl in
     record {
-      store = moved.placed.store;
-      sixteen = moved.sixteen ∙ r.sixteen;
-      callers = λ q f is. r.callers q f (sym (moved.calls q) ∙ is);
-      placed = λ q small. placed_again view x y p q caller r moved small (λ other. stay q other small) (q == p) refl;
-      inside = λ q small. inside_again view x y p q moved (λ other. stay q other small) (q == p) refl;
-      counts = ap (λ n. counts_within n y.order) moved.clock ∙ ap (counts_within x.clock) moved.order ∙ r.counts;
-      order = ap are_processes moved.order ∙ r.order;
-      once = ap (λ ws. are_once (numbers_of ws)) moved.order ∙ r.once;
-      loaded = moved.loaded;
+      store = step.store;
+      sixteen = step.sixteen ∙ r.sixteen;
+      callers = λ q f is. all_hold p (λ q. (f : InFlight W) → (flight_of y.calls.items q).call ≡ Some f → caller f.work ≡ q) step.caller_is (λ q other f is. r.callers q f (sym (step.calls q other) ∙ is)) q (q == p) refl f is;
+      placed = λ q small. all_hold p (λ q. q < 16 → IsPlaced view y.store y.locks q (chain_of y q).levels (chain_of y q).undo) (λ small. step.placed) (λ q other small. placed_again view x y p q caller r step small other (stay q other small)) q (q == p) refl small;
+      inside = λ q small. all_hold p (λ q. q < 16 → AreInside (table_of y.images) (objects_of view y.store).accounts q (chain_of y q).levels) (λ small. step.inside) (λ q other small. (stay q other small).inside) q (q == p) refl small;
+      counts = ap (λ n. counts_within n y.order) step.clock ∙ ap (counts_within x.clock) step.order ∙ r.counts;
+      order = ap are_processes step.order ∙ r.order;
+      once = ap (λ ws. are_once (numbers_of ws)) step.order ∙ r.once;
+      loaded = loaded_of m sound (placed_of view stage y) es after;
+      owner = λ q. cond (q == p) o (r.owner q);
+      own = λ q small. owners_at p o r.owner (λ n q. q < 16 → AreOwned n (chain_of y q).levels (chain_of y q).undo) (λ small. own)
+          (λ q other small. subst (λ (c : Chain). AreOwned (r.owner q) c.levels c.undo) (sym (step.chains q other)) (r.own q small)) q (q == p) refl small;
     }

@@ -14,6 +14,10 @@ use Rattle.kernel_steps.specs.Views.{flight_of, call_in_place}
 abbrev pub with_call : {W : Type 0} → List (Flight W) → ℕ → Option (InFlight W) → List (Flight W)
 with_call fs p v = slice_set fs p (record (flight_of fs p) { call = v })
 
+-- the same by the flight that stood there
+abbrev pub with_call_of : {W : Type 0} → List (Flight W) → ℕ → Option (InFlight W) → Flight W → List (Flight W)
+with_call_of fs p v l = slice_set fs p (record { call = v; chain = l.chain })
+
 -- its call is this, and the others stay
 pub call_of_changed : {W : Type 0} (fs : List (Flight W)) (p : ℕ) (v : Option (InFlight W)) → p < length fs → (q : ℕ) →
     (flight_of (with_call fs p v) q).call ≡ at p v (λ r. (flight_of fs r).call) q

@@ -6,7 +6,7 @@ use Rattle.kernel_model.specs.World.{World, Blocks}
 use Rattle.kernel_model.specs.Sound.{HasWholeBlocks}
 use Rattle.disk_log.specs.Calls.{Tells}
 use Rattle.disk_log.specs.Seen.{DiskSeen}
-use Rattle.disk_log.proofs.Joined.{made_none, made_joined}
+use Rattle.disk_log.specs.Joined.{made_none, made_joined}
 use Rattle.placed_laws.specs.Placed.{Placed, PlacedRun}
 use Rattle.kernel_steps.specs.Did.{first_notes, CameAs, Did, Reaches}
 use Rattle.kernel_steps.specs.Views.{run_of}

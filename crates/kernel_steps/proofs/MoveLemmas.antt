@@ -88,7 +88,7 @@ no_chain : {W : Type 0} (fs : List (Flight W)) (q : ℕ) → length fs ≡ 16 �
 no_chain fs q n h = grind (arith, common_steps, n, h)
 
 -- so each has few
-few_levels : {C M W X : Type 0} {F : X → Type 0} (view : Seeing X F) (caller : W → ℕ) (x : Running C M W X F) → IsRunning view caller x → (q : ℕ) → (b : Bool) → nat_lt q 16 ≡ b → length (chain_of x q).levels ≤ 4
+pub few_levels : {C M W X : Type 0} {F : X → Type 0} (view : Seeing X F) (caller : W → ℕ) (x : Running C M W X F) → IsRunning view caller x → (q : ℕ) → (b : Bool) → nat_lt q 16 ≡ b → length (chain_of x q).levels ≤ 4
 few_levels view caller x r q true h = (r.placed q (grind (arith, nat_tests, h))).few
 few_levels view caller x r q false h = omega (arith, no_chain x.calls.items q r.sixteen (grind (arith, nat_tests, h)))
 

@@ -12,6 +12,7 @@ use Rattle.graft_calls.specs.Calls.{IsPlaced, AreInside}
 use Rattle.kernel_steps.specs.declared.running.Flight.{Flight}
 use Rattle.kernel_steps.specs.declared.running.Running.{Running}
 use Rattle.kernel_steps.specs.Views.{flight_of, no_flight, chain_of, IsRunning}
+use Rattle.kernel_steps.specs.Owned.{AreOwned}
 use Rattle.kernel_steps.specs.Orders.{counts_within, are_processes, are_once, numbers_of}
 
 -- each process has nothing in flight
@@ -33,4 +34,6 @@ just_begun {W = W} view caller x sound calls free order loaded =
       order = ap are_processes order;
       once = ap (λ ws. are_once (numbers_of ws)) order;
       loaded = loaded;
+      owner = λ p. 0;
+      own = λ p h. subst (λ (chain : Chain). AreOwned 0 chain.levels chain.undo) (sym (none p)) tt;
     }

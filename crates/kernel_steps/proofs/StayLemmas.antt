@@ -1,5 +1,5 @@
--- A running kernel in which one call's levels moved is one again, where what the others hold exclusively stays.
-use Rattle.std.proofs.Common.{◌≡◌, ℕ, suc, ◌+◌, ◌*◌, ◌≤◌, List, [], ◌∷◌, length, refl, ap, sym, subst, ◌∙◌, arith, Option}
+-- The levels of a call stay in place where their owner lives and what they hold exclusively stays.
+use Rattle.std.proofs.Common.{◌≡◌, ℕ, suc, ◌+◌, ◌*◌, ◌≤◌, true, List, [], ◌∷◌, length, refl, ap, sym, subst, ◌∙◌, arith, Option}
 use Rattle.std.specs.Prelude.{Contains, is_some}
 use Rattle.kernel_model.specs.declared.Inverse.{Inverse}
 use Rattle.kernel_model.specs.declared.Inverse.TheVariants.{Cell, Nice, Window, Mark, Tune}
@@ -17,6 +17,8 @@ use Rattle.graft_machine.specs.Cpu.{machine_of}
 use Rattle.kernel_state.specs.Accesses.{CanBeUndone}
 use Rattle.graft_calls.specs.declared.GraftLevel.{GraftLevel}
 use Rattle.graft_calls.specs.Chains.{level_in, levels_in, outer}
+use Rattle.placed_laws.specs.Owners.{IsOwn, AreOwn}
+use Rattle.kernel_steps.specs.Owned.{AreOwned}
 use Rattle.graft_calls.specs.Calls.{AreSound, AreInside, AreUndoable, AllUndoable, RunsInside}
 
 -- ---- elements
@@ -29,30 +31,29 @@ later x y xs c = (suc c.0, omega (arith, c.1), c.2)
 
 -- ---- one record
 
--- a record can still be undone where its object stays, and who lives
-can_still : (i : Inverse) (s u : Objects) → SameAt (changed_by i) u s → ((q : ℕ) → lives u.things.queue q ≡ lives s.things.queue q) → CanBeUndone i s.things → CanBeUndone i u.things
-can_still (Cell q k v) s u same live can = (live q ∙ can.0, can.1)
-can_still (Nice q v) s u same live can = (live q ∙ can.0, can.1)
-can_still (Window q fd v) s u same live can = (live q ∙ can.0, can.1, ap is_some same ∙ can.2, can.3)
-can_still (Mark f v) s u same live can = ap (λ (c : CacheValue). is_some (c.frame f)) same ∙ can
-can_still (Tune kind k v) s u same live can = (can.0, ap (λ (p : PolValue). in_range (param_top kind p.chosen) k v) same ∙ can.1)
+-- a record of a process that lives can still be undone where its object stays
+can_still : (o : ℕ) (i : Inverse) (s u : Objects) → IsOwn o i → lives u.things.queue o ≡ true → SameAt (changed_by i) u s → CanBeUndone i s.things → CanBeUndone i u.things
+can_still o (Cell q k v) s u own live same can = (ap (lives u.things.queue) own ∙ live, can.1)
+can_still o (Nice q v) s u own live same can = (ap (lives u.things.queue) own ∙ live, can.1)
+can_still o (Window q fd v) s u own live same can = (ap (lives u.things.queue) own ∙ live, can.1, ap is_some same ∙ can.2, can.3)
+can_still o (Mark f v) s u own live same can = ap (λ (c : CacheValue). is_some (c.frame f)) same ∙ can
+can_still o (Tune kind k v) s u own live same can = (can.0, ap (λ (p : PolValue). in_range (param_top kind p.chosen) k v) same ∙ can.1)
 
 -- so can some
-are_still : (is : List Inverse) (s u : Objects) → ((i : Inverse) → Contains is i → SameAt (changed_by i) u s) → ((q : ℕ) → lives u.things.queue q ≡ lives s.things.queue q) →
+are_still : (o : ℕ) (is : List Inverse) (s u : Objects) → AreOwn o is → lives u.things.queue o ≡ true → ((i : Inverse) → Contains is i → SameAt (changed_by i) u s) →
     AreUndoable is s.things → AreUndoable is u.things
-are_still [] s u same live can = tt
-are_still (i ∷ is) s u same live can =
-    (can_still i s u (same i (first i is)) live can.0, are_still is s u (λ j has. same j (later i j is has)) live can.1)
+are_still o [] s u own live same can = tt
+are_still o (i ∷ is) s u own live same can =
+    (can_still o i s u own.0 live (same i (first i is)) can.0, are_still o is s u own.1 live (λ j has. same j (later i j is has)) can.1)
 
 -- and all
-pub all_still : (q : ℕ) (ram : List ℕ) (t : LockTable) (gs : List GraftLevel) (log : List (List Inverse)) (w : Things) (s u : Objects) → length log ≡ length gs →
-    ((l : Level) (i : Inverse) → Contains (levels_in q ram t gs log w) l → Contains l.records i → SameAt (changed_by i) u s) →
-    ((p : ℕ) → lives u.things.queue p ≡ lives s.things.queue p) → AllUndoable log s.things → AllUndoable log u.things
-all_still q ram t gs [] w s u n same live can = tt
-all_still q ram t [] (is ∷ log) w s u n same live can = absurd (omega (arith, n))
-all_still q ram t (g ∷ gs) (is ∷ log) w s u n same live can = (
-  are_still is s u (λ i has. same (level_in q (length gs) ram t g is (undo_all is w)) i (first (level_in q (length gs) ram t g is (undo_all is w)) (levels_in q ram t gs log (undo_all is w))) has) live can.0,
-  all_still q ram t gs log (undo_all is w) s u (omega (arith, n)) (λ l i has own. same l i (later (level_in q (length gs) ram t g is (undo_all is w)) l (levels_in q ram t gs log (undo_all is w)) has) own) live can.1,
+pub all_still : (o q : ℕ) (ram : List ℕ) (t : LockTable) (gs : List GraftLevel) (log : List (List Inverse)) (w : Things) (s u : Objects) → length log ≡ length gs → AreOwned o gs log → lives u.things.queue o ≡ true →
+    ((l : Level) (i : Inverse) → Contains (levels_in q ram t gs log w) l → Contains l.records i → SameAt (changed_by i) u s) → AllUndoable log s.things → AllUndoable log u.things
+all_still o q ram t gs [] w s u n own live same can = tt
+all_still o q ram t [] (is ∷ log) w s u n own live same can = absurd (omega (arith, n))
+all_still o q ram t (g ∷ gs) (is ∷ log) w s u n own live same can = (
+  are_still o is s u own.1 live (λ i has. same (level_in q (length gs) ram t g is (undo_all is w)) i (first (level_in q (length gs) ram t g is (undo_all is w)) (levels_in q ram t gs log (undo_all is w))) has) can.0,
+  all_still o q ram t gs log (undo_all is w) s u (omega (arith, n)) own.2 live (λ l i has own. same l i (later (level_in q (length gs) ram t g is (undo_all is w)) l (levels_in q ram t gs log (undo_all is w)) has) own) can.1,
 )
 
 -- ---- grafts that stay
@@ -74,8 +75,8 @@ inside_still images a b q ram t (g ∷ gs) log w same h =
       inside_still images a b q ram t gs (outer log) (undo_all (innermost log) w) (λ k has. same k (later l k ls has)) h.1,
     )
 
--- levels stay sound where the same live
-pub sound_still : (queue rows : List QueueRow) (gs : List GraftLevel) → ((q : ℕ) → lives rows q ≡ lives queue q) → AreSound queue gs → AreSound rows gs
-sound_still queue rows [] live h = tt
-sound_still queue rows (g ∷ gs) live h =
-    (record { owner = h.0.owner; point = h.0.point; lives = live g.owner ∙ h.0.lives }, h.1, sound_still queue rows gs live h.2)
+-- levels stay sound where their owner lives
+pub sound_still : (o : ℕ) (queue rows : List QueueRow) (gs : List GraftLevel) (log : List (List Inverse)) → AreOwned o gs log → lives rows o ≡ true → AreSound queue gs → AreSound rows gs
+sound_still o queue rows [] log own live h = tt
+sound_still o queue rows (g ∷ gs) log own live h =
+    (record { owner = h.0.owner; point = h.0.point; lives = ap (lives rows) own.0 ∙ live }, h.1, sound_still o queue rows gs (outer log) own.2 live h.2)

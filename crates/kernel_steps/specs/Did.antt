@@ -18,6 +18,13 @@ first_notes notes = take 530 notes
 
 -- ---- a change of an event under way
 
+-- a change that makes no call of the disk took one kernel in place to another and added these notes, and the notes that are kept to
+-- those
+abbrev pub Says : (PlacedRun → PlacedRun) → Placed → Placed → (more kept kept_new : List Note) → Type 0
+Says f x y more kept kept_new =
+    ((notes : List Note) (blocks : Blocks) (io : List Bool) → f (run_of x blocks notes io) ≡ run_of y blocks (notes ++ more) io)
+    × ((notes : List Note) → kept ≡ first_notes notes → kept_new ≡ first_notes (notes ++ more))
+
 -- an event under way has come to this kernel in place, of its notes these are kept, the disk tells its blocks, and its next calls
 -- will do this
 pub record CameAs (r : PlacedRun) (y : Placed) (kept : List Note) (told : Option (List (List ℕ))) (rest : List Bool) : Type 0 where

@@ -1,3 +1,4 @@
+pub mod Owned
 pub mod Views
 pub mod Orders
 pub mod Hindered

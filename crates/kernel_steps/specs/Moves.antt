@@ -6,9 +6,9 @@ use Rattle.lock_table.specs.Masks.{held}
 use Rattle.kernel_model.specs.Objects.{at, SameAt}
 use Rattle.kernel_model.specs.Levels.{Config}
 use Rattle.kernel_model.specs.Sound.{ImagesAreLoaded}
-use Rattle.kernel_state.specs.Stores.{Seeing, objects_of}
+use Rattle.kernel_state.specs.Stores.{Seeing, objects_of, queue_of}
 use Rattle.graft_loader.specs.Slots.{table_of}
-use Rattle.graft_calls.specs.Calls.{IsPlaced, AreInside, AllUndoable, IsElsewhereSame}
+use Rattle.graft_calls.specs.Calls.{IsPlaced, AreSound, AreInside, AllUndoable, IsElsewhereSame}
 use Rattle.placed_laws.specs.Placed.{Placed, bare}
 use Rattle.kernel_steps.specs.declared.running.Running.{Running}
 use Rattle.kernel_steps.specs.Views.{flight_of, chain_of}
@@ -31,9 +31,10 @@ pub record Moved {C M W X : Type 0} {F : X → Type 0} (view : Seeing X F) (x y 
   pub clock : y.clock ≡ x.clock
   pub order : y.order ≡ x.order
 
--- The levels of another call q stay in place, though the store changed: its records can still be undone, and its grafts stand as
--- they did.
+-- The levels of another call q stay in place, though the store changed: their owner lives, their records can still be undone, and
+-- their grafts stand as they did.
 pub record StaysInPlace {C M W X : Type 0} {F : X → Type 0} (view : Seeing X F) (y : Running C M W X F) (q : ℕ) : Type 0 where
+  pub levels : AreSound (queue_of y.store) (chain_of y q).levels
   pub undoable : AllUndoable (chain_of y q).undo (objects_of view y.store).things
   pub inside : AreInside (table_of y.images) (objects_of view y.store).accounts q (chain_of y q).levels
 

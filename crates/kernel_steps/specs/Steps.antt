@@ -1,18 +1,23 @@
 -- One step of a call, as the code takes it: a move of its levels, and what that leaves to do.
-use Rattle.std.specs.Prelude.{◌≡◌, ◌≢◌, ℕ, zero, suc, List, Option, Some, None, length}
+use Rattle.std.specs.Prelude.{◌≡◌, ◌≢◌, ℕ, zero, suc, ◌≤◌, List, Option, Some, None, length}
+use Rattle.kernel_model.specs.declared.Note.{Note}
 use Rattle.kernel_model.specs.declared.Cause.{Cause}
 use Rattle.kernel_model.specs.declared.Micro.{Micro}
 use Rattle.kernel_model.specs.declared.Note.TheVariants.{Dropped}
-use Rattle.kernel_model.specs.Meaning.{Meaning}
+use Rattle.kernel_model.specs.Meaning.{Meaning, Stage}
+use Rattle.disk_log.specs.Seen.{DiskSeen}
 use Rattle.lock_table.specs.Masks.{held}
 use Rattle.kernel_state.specs.Stores.{Seeing, world_of_store, objects_of, IsStore, SegmentsStay}
 use Rattle.graft_loader.specs.Slots.{table_of}
+use Rattle.graft_calls.specs.declared.Chain.{Chain}
 use Rattle.graft_calls.specs.Calls.{IsPlaced, AreInside}
 use Rattle.placed_laws.specs.Placed.{PlacedCall, PlacedRun}
 use Rattle.placed_laws.specs.PlacedSteps.{placed_noted, placed_finish_on}
 use Rattle.kernel_steps.specs.declared.running.InFlight.{InFlight}
 use Rattle.kernel_steps.specs.declared.running.Running.{Running}
-use Rattle.kernel_steps.specs.Views.{flight_of, chain_of}
+use Rattle.kernel_steps.specs.Did.{Did, Reaches}
+use Rattle.kernel_steps.specs.Owned.{AreOwned}
+use Rattle.kernel_steps.specs.Views.{placed_of, flight_of, chain_of}
 
 -- ---- what a move leaves to do
 
@@ -33,7 +38,33 @@ module _ (m : Meaning) where
   after_said p c (Micro.Completed answer) r = finishes p c (Some answer) r
   after_said p c (Micro.Dropped d q pt cause) r = after_drop p c d (placed_noted (Dropped c.number q pt cause) r)
 
+-- the answer with which what was said finishes the piece of a call, if it does
+abbrev pub answer_of_drop : (d : ℕ) → Option (Option (List ℕ))
+answer_of_drop zero = Some None
+answer_of_drop (suc d) = None
+
+abbrev pub answer_said : Micro → Option (Option (List ℕ))
+answer_said Micro.Went = None
+answer_said (Micro.Blocked object holder by_user) = None
+answer_said (Micro.Completed answer) = Some (Some answer)
+answer_said (Micro.Dropped d q pt cause) = answer_of_drop d
+
 -- ---- what a step changes
+
+-- the levels of a chain are of one owner
+pub record IsOfOne (c : Chain) : Type 0 where
+  pub owner : ℕ
+  pub own : AreOwned owner c.levels c.undo
+
+-- What must hold of p's call for a step of it, of whatever else is in flight: its levels are in place.
+pub record StepsAlone {C M W X : Type 0} {F : X → Type 0} (view : Seeing X F) (caller : W → ℕ) (x : Running C M W X F) (p : ℕ) : Type 0 where
+  pub store : IsStore view x.store
+  pub sixteen : length x.calls.items ≡ 16
+  pub few : (q : ℕ) → length (chain_of x q).levels ≤ 4
+  pub caller_is : (f : InFlight W) → (flight_of x.calls.items p).call ≡ Some f → caller f.work ≡ p
+  pub placed : IsPlaced view x.store x.locks p (chain_of x p).levels (chain_of x p).undo
+  pub inside : AreInside (table_of x.images) (objects_of view x.store).accounts p (chain_of x p).levels
+  pub own : IsOfOne (chain_of x p)
 
 -- A step of the call of p. Of all that is in flight p's alone has changed, the memory of grafts but for p's own, what the others
 -- hold, images, clock and order stay; and p's levels are in place again.
@@ -50,3 +81,10 @@ pub record Stepped {C M W X : Type 0} {F : X → Type 0} (view : Seeing X F) (ca
   pub images : y.images ≡ x.images
   pub clock : y.clock ≡ x.clock
   pub order : y.order ≡ x.order
+
+-- A step of the call of p, or a part of one, did what the definitions say; and p's levels are of one owner again.
+pub record StepDone {C M W X : Type 0} {F : X → Type 0} (view : Seeing X F) (stage : W → Stage) (caller : W → ℕ) (f : PlacedRun → PlacedRun) (x y : Running C M W X F) (p : ℕ) (kept kept_new : List Note) (d e : DiskSeen) : Type 0 where
+  pub did : Did f (placed_of view stage x) (placed_of view stage y) kept kept_new d e
+  pub reaches : Reaches f (placed_of view stage x) (placed_of view stage y)
+  pub stepped : Stepped view caller x y p
+  pub own : IsOfOne (chain_of y p)

@@ -15,6 +15,7 @@ use Rattle.placed_laws.specs.Stands.{StandsFor}
 use Rattle.kernel_steps.specs.declared.running.InFlight.{InFlight}
 use Rattle.kernel_steps.specs.declared.running.Flight.{Flight}
 use Rattle.kernel_steps.specs.declared.running.Running.{Running}
+use Rattle.kernel_steps.specs.Owned.{AreOwned}
 use Rattle.kernel_steps.specs.Orders.{order_of, counts_within, are_processes, are_once, numbers_of}
 
 -- ---- a kernel in place
@@ -73,6 +74,9 @@ pub record IsRunning {C M W X : Type 0} {F : X → Type 0} (view : Seeing X F) (
   pub order : are_processes x.order ≡ true
   pub once : are_once (numbers_of x.order) ≡ true
   pub loaded : ImagesAreLoaded (table_of x.images) (objects_of view x.store).accounts
+  -- the levels of each call are of one owner
+  pub owner : ℕ → ℕ
+  pub own : (p : ℕ) → p < 16 → AreOwned (owner p) (chain_of x p).levels (chain_of x p).undo
 
 -- a kernel in place stands for some abstract kernel
 pub record Stood (m : Meaning) (x : Placed) : Type 0 where
@@ -85,10 +89,6 @@ pub record Stood (m : Meaning) (x : Placed) : Type 0 where
 abbrev pub run_of : Placed → Blocks → List Note → List Bool → PlacedRun
 run_of x blocks notes io = record { placed = x; blocks = blocks; notes = notes; io = io }
 
--- a change that makes no call of the disk took one kernel in place to another, and these notes to those
-abbrev pub Says : (PlacedRun → PlacedRun) → Placed → Placed → List Note → List Note → Type 0
-Says f x y notes notes_new = (blocks : Blocks) (io : List Bool) → f (run_of x blocks notes io) ≡ run_of y blocks notes_new io
-
--- a change that says nothing either
+-- a change that makes no call of the disk, and says nothing, took one kernel in place to another
 abbrev pub Goes : (PlacedRun → PlacedRun) → Placed → Placed → Type 0
-Goes f x y = (notes : List Note) → Says f x y notes notes
+Goes f x y = (notes : List Note) (blocks : Blocks) (io : List Bool) → f (run_of x blocks notes io) ≡ run_of y blocks notes io

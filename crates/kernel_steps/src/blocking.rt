@@ -136,7 +136,7 @@ fn graft_hindrance(
 }
 
 /// The number of a process's call, if it has one.
-fn number_of<W: Drop>(flights: &[Flight<W>], p: u8) -> Option<u32>
+pub(crate) fn number_of<W: Drop>(flights: &[Flight<W>], p: u8) -> Option<u32>
     ensures { result ≡ option_map (λ f. f.number) (flight_of flights.now p).call }
 {
     match flights.get(p as usize) {

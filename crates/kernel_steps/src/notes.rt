@@ -1,6 +1,6 @@
 //! The notes of an event.
 
-ghost use Rattle.std.specs.Prelude.{◌≡◌, ◌≤◌, ◌++◌, [], ◌∷◌, length, IfOk};
+ghost use Rattle.std.specs.Prelude.{◌≡◌, ◌≤◌, ◌++◌, List, [], ◌∷◌, length, IfOk};
 ghost use Rattle.kernel_model.specs.declared.Note.{Note as Told};
 ghost use Rattle.kernel_model.specs.Kernel.{gave_note};
 ghost use Rattle.kernel_steps.specs.Did.{first_notes};
@@ -59,7 +59,7 @@ impl Notes {
     pub fn push(&mut self, note: Note)
         ensures { (all : List Told) → self.old ≡ first_notes all → self.new ≡ first_notes (all ++ note ∷ []) }
     {
-        if self.list.len() < NOTES {
+        if self.list().len() < NOTES {
             let _ = self.list.push(note);
         }
     }

@@ -1,13 +1,15 @@
 //! The running kernel: how it begins, and how calls begin and end.
 
-ghost use Rattle.std.specs.Prelude.{false, ◌≡◌, ◌<◌, ◌≤◌, ◌-◌, ◌^◌, None, Some, [], ◌++◌, ◌∷◌, length, IfOk, replicate, slice_set, ℕ};
+ghost use Rattle.std.specs.Prelude.{suc, false, ◌≡◌, ◌<◌, ◌≤◌, ◌-◌, ◌^◌, None, Some, [], ◌++◌, ◌∷◌, length, IfOk, replicate, slice_set, ℕ};
 ghost use Rattle.kernel_model.specs.Sound.{ImagesAreLoaded};
 ghost use Rattle.kernel_state.specs.Stores.{world_of_store, objects_of, IsStore};
 ghost use Rattle.graft_loader.specs.Slots.{table_of};
 ghost use Rattle.placed_laws.specs.Keeping.{first_placed};
 ghost use Rattle.placed_laws.specs.PlacedSteps.{is_placed_at_piece, placed_joins, placed_noted, placed_requeue, placed_ticked, with_placed_call};
 ghost use Rattle.kernel_steps.specs.Orders.{has_number, numbers_of};
-ghost use Rattle.kernel_steps.specs.Views.{placed_of, flight_of, chain_of, no_flight, IsRunning, Stood, Goes, Says};
+ghost use Rattle.kernel_steps.specs.Views.{placed_of, flight_of, chain_of, no_flight, IsRunning, Stood, Goes};
+ghost use Rattle.kernel_steps.specs.Did.{Says};
+ghost use Rattle.kernel_model.specs.declared.Note.TheVariants.{Ticked};
 
 use crate::blocking::flight;
 use crate::notes::Notes;
@@ -129,9 +131,8 @@ impl<C: Calls> Running<C> {
     /// The call of process p ends with this note; it has no level.
     pub fn end(&mut self, p: u8, note: Note, notes: &mut Notes)
         requires process { p < 16 }
-        requires room { length notes.old < 530 }
         requires running { IsRunning (λ b. seen (b.vtable, b.value)) (λ w. C.caller w) self.old }
-        ensures value { Says (λ r. placed_requeue p (placed_noted note (with_placed_call p None r))) (placed_of (λ b. seen (b.vtable, b.value)) (λ w. C.stage w) self.old) (placed_of (λ b. seen (b.vtable, b.value)) (λ w. C.stage w) self.new) notes.old notes.new }
+        ensures value { Says (λ r. placed_requeue p (placed_noted note (with_placed_call p None r))) (placed_of (λ b. seen (b.vtable, b.value)) (λ w. C.stage w) self.old) (placed_of (λ b. seen (b.vtable, b.value)) (λ w. C.stage w) self.new) (note ∷ []) notes.old notes.new }
         ensures running { IsRunning (λ b. seen (b.vtable, b.value)) (λ w. C.caller w) self.new }
     {
         set_call(&mut self.calls, p, None);
@@ -170,9 +171,8 @@ impl<C: Calls> Running<C> {
     /// The clock and the count of each entry rise by one.
     pub fn tick(&mut self, number: u32, notes: &mut Notes)
         requires clock { self.old.clock < 2 ^ 32 - 1 }
-        requires room { length notes.old < 530 }
         requires running { IsRunning (λ b. seen (b.vtable, b.value)) (λ w. C.caller w) self.old }
-        ensures value { Says (placed_ticked number) (placed_of (λ b. seen (b.vtable, b.value)) (λ w. C.stage w) self.old) (placed_of (λ b. seen (b.vtable, b.value)) (λ w. C.stage w) self.new) notes.old notes.new }
+        ensures value { Says (placed_ticked number) (placed_of (λ b. seen (b.vtable, b.value)) (λ w. C.stage w) self.old) (placed_of (λ b. seen (b.vtable, b.value)) (λ w. C.stage w) self.new) (Ticked number (suc self.old.clock) ∷ []) notes.old notes.new }
         ensures running { IsRunning (λ b. seen (b.vtable, b.value)) (λ w. C.caller w) self.new }
     {
         self.clock += 1;

@@ -1,25 +1,28 @@
 //! One step of a call, and the drop of one of its levels.
 
-ghost use Rattle.std.specs.Prelude.{◌≡◌, ◌<◌, ℕ, [], Some, None, length, List};
+ghost use Rattle.std.specs.Prelude.{◌≡◌, ◌<◌, ℕ, true, [], Some, None, is_some, length, List, Option};
 ghost use Rattle.disk_log.specs.Seen.{disk_seen};
+ghost use Rattle.kernel_model.specs.GraftStep.{micro};
 ghost use Rattle.kernel_model.specs.Laws.{IsReady};
-ghost use Rattle.kernel_state.specs.Stores.{world_of_store, objects_of, IsStore};
+ghost use Rattle.kernel_model.specs.Levels.{drop_level as level_dropped};
+ghost use Rattle.kernel_state.specs.Stores.{world_of_store, objects_of};
 ghost use Rattle.graft_loader.specs.Slots.{table_of};
-ghost use Rattle.placed_laws.specs.Placed.{PlacedCall, placed_blocker};
-ghost use Rattle.placed_laws.specs.PlacedSteps.{placed_step, placed_drop};
+ghost use Rattle.placed_laws.specs.Placed.{PlacedCall, placed_blocker, placed_config};
+ghost use Rattle.placed_laws.specs.PlacedSteps.{placed_call_step, placed_drop, placed_noted, placed_outcome, placed_step};
+ghost use Rattle.kernel_model.specs.declared.Note.TheVariants.{Dropped};
 ghost use Rattle.kernel_steps.specs.declared.running.InFlight.{InFlight as Flying};
-ghost use Rattle.kernel_steps.specs.Did.{Did, Reaches};
-ghost use Rattle.kernel_steps.specs.Steps.{finishes, after_said, Stepped};
-ghost use Rattle.graft_calls.specs.Calls.{IsPlaced};
-ghost use Rattle.kernel_steps.specs.Views.{placed_of, flight_of, chain_of, no_chain, call_at, IsRunning, Stood};
+ghost use Rattle.kernel_steps.specs.Did.{Did};
+ghost use Rattle.kernel_steps.specs.Steps.{answer_said, answer_of_drop, after_drop, after_said, finishes, StepDone, StepsAlone};
+ghost use Rattle.kernel_steps.specs.Views.{placed_of, flight_of, chain_of, call_at, IsRunning, Stood};
 
-use crate::blocking::flight;
+use crate::blocking::{flight, number_of};
 use crate::notes::Notes;
 use crate::pieces::do_piece;
 use crate::running::Running;
 use call_pieces::{Calls, Needs};
 use disk_log::DiskLog;
 use kernel_model::{Cause, Micro, Note};
+use placed_laws::{agreeing, keeping, owners, soundness};
 use vino_base::Disk;
 
 impl<C: Calls> Running<C> {
@@ -33,22 +36,249 @@ impl<C: Calls> Running<C> {
         notes: &mut Notes,
     )
         requires process { p < 16 }
-        requires store { IsStore (λ b. seen (b.vtable, b.value)) self.old.store }
-        requires sixteen { length self.old.calls.items ≡ 16 }
-        requires placed { IsPlaced (λ b. seen (b.vtable, b.value)) self.old.store self.old.locks p [] [] }
-        requires none { chain_of self.old p ≡ no_chain }
+        requires alone { StepsAlone (λ b. seen (b.vtable, b.value)) (λ w. C.caller w) self.old p }
+        requires none { (chain_of self.old p).levels ≡ [] }
         requires ready { (f : Flying C.Work) → (flight_of self.old.calls.items p).call ≡ Some f →
-            (C.caller f.work ≡ p) × IsReady C.Meaning.meaning (world_of_store self.old.store) (table_of self.old.images) (objects_of (λ b. seen (b.vtable, b.value)) self.old.store) p (C.stage f.work) answer }
+            IsReady C.Meaning.meaning (world_of_store self.old.store) (table_of self.old.images) (objects_of (λ b. seen (b.vtable, b.value)) self.old.store) p (C.stage f.work) answer }
         requires disk { self.old.store.size ≡ D.block_count disk.old }
-        ensures did { (c : PlacedCall) → call_at (λ w. C.stage w) self.old p ≡ Some c →
-            Did (finishes C.Meaning.meaning p c answer) (placed_of (λ b. seen (b.vtable, b.value)) (λ w. C.stage w) self.old) (placed_of (λ b. seen (b.vtable, b.value)) (λ w. C.stage w) self.new) notes.old notes.new
+        ensures done { (c : PlacedCall) → call_at (λ w. C.stage w) self.old p ≡ Some c →
+            StepDone (λ b. seen (b.vtable, b.value)) (λ w. C.stage w) (λ w. C.caller w) (finishes C.Meaning.meaning p c answer) self.old self.new p notes.old notes.new
             (disk_seen (D.blocks disk.old) (D.plan disk.old) (D.faults disk.old)) (disk_seen (D.blocks disk.new) (D.plan disk.new) (D.faults disk.new)) }
-        ensures reaches { (c : PlacedCall) → call_at (λ w. C.stage w) self.old p ≡ Some c →
-            Reaches (finishes C.Meaning.meaning p c answer) (placed_of (λ b. seen (b.vtable, b.value)) (λ w. C.stage w) self.old) (placed_of (λ b. seen (b.vtable, b.value)) (λ w. C.stage w) self.new) }
-        ensures stepped { (c : PlacedCall) → call_at (λ w. C.stage w) self.old p ≡ Some c → Stepped (λ b. seen (b.vtable, b.value)) (λ w. C.caller w) self.old self.new p }
         ensures same_size { D.block_count disk.new ≡ D.block_count disk.old }
     {
         let flight = &mut self.calls[p as usize];
         do_piece::<C, D>(&mut flight.call, &mut self.store, answer, disk, log, notes);
+    }
+
+    /// Level d of process p's call was dropped, which is noted. With level 0 the default finishes the piece.
+    fn follow_drop<D: Disk>(
+        &mut self,
+        p: u8,
+        d: u8,
+        note: Note,
+        disk: &mut D,
+        log: &mut DiskLog,
+        notes: &mut Notes,
+    )
+        requires process { p < 16 }
+        requires alone { StepsAlone (λ b. seen (b.vtable, b.value)) (λ w. C.caller w) self.old p }
+        requires none { (answer : Option (List ℕ)) → answer_of_drop d ≡ Some answer → (chain_of self.old p).levels ≡ [] }
+        requires ready { (answer : Option (List ℕ)) (f : Flying C.Work) → answer_of_drop d ≡ Some answer → (flight_of self.old.calls.items p).call ≡ Some f →
+            IsReady C.Meaning.meaning (world_of_store self.old.store) (table_of self.old.images) (objects_of (λ b. seen (b.vtable, b.value)) self.old.store) p (C.stage f.work) answer }
+        requires disk { self.old.store.size ≡ D.block_count disk.old }
+        ensures done { (c : PlacedCall) → call_at (λ w. C.stage w) self.old p ≡ Some c →
+            StepDone (λ b. seen (b.vtable, b.value)) (λ w. C.stage w) (λ w. C.caller w) (λ r. after_drop C.Meaning.meaning p c d (placed_noted note r)) self.old self.new p notes.old notes.new
+            (disk_seen (D.blocks disk.old) (D.plan disk.old) (D.faults disk.old)) (disk_seen (D.blocks disk.new) (D.plan disk.new) (D.faults disk.new)) }
+        ensures same_size { D.block_count disk.new ≡ D.block_count disk.old }
+    {
+        notes.push(note);
+        if d > 0 {
+            return;
+        }
+        self.finish(p, None, disk, log, notes);
+    }
+
+    /// What is left to do of a step of process p's call, once an instruction or the drop of a level said this.
+    fn follow<D: Disk>(
+        &mut self,
+        p: u8,
+        said: Micro,
+        disk: &mut D,
+        log: &mut DiskLog,
+        notes: &mut Notes,
+    )
+        requires process { p < 16 }
+        requires alone { StepsAlone (λ b. seen (b.vtable, b.value)) (λ w. C.caller w) self.old p }
+        requires none { (answer : Option (List ℕ)) → answer_said said ≡ Some answer → (chain_of self.old p).levels ≡ [] }
+        requires ready { (answer : Option (List ℕ)) (f : Flying C.Work) → answer_said said ≡ Some answer → (flight_of self.old.calls.items p).call ≡ Some f →
+            IsReady C.Meaning.meaning (world_of_store self.old.store) (table_of self.old.images) (objects_of (λ b. seen (b.vtable, b.value)) self.old.store) p (C.stage f.work) answer }
+        requires disk { self.old.store.size ≡ D.block_count disk.old }
+        ensures done { (c : PlacedCall) → call_at (λ w. C.stage w) self.old p ≡ Some c →
+            StepDone (λ b. seen (b.vtable, b.value)) (λ w. C.stage w) (λ w. C.caller w) (after_said C.Meaning.meaning p c said) self.old self.new p notes.old notes.new
+            (disk_seen (D.blocks disk.old) (D.plan disk.old) (D.faults disk.old)) (disk_seen (D.blocks disk.new) (D.plan disk.new) (D.faults disk.new)) }
+        ensures same_size { D.block_count disk.new ≡ D.block_count disk.old }
+    {
+        match said {
+            Micro::Went | Micro::Blocked(..) => {}
+            Micro::Completed(answer) => self.finish(p, Some(answer), disk, log, notes),
+            Micro::Dropped(d, q, pt, cause) => {
+                let Some(number) = number_of(&self.calls, p) else {
+                    return;
+                };
+                self.follow_drop(p, d, Note::Dropped(number, q, pt, cause), disk, log, notes)
+            }
+        }
+    }
+
+    /// One instruction of process p's call, which is in a graft, and what follows from it.
+    fn graft_step<D: Disk>(
+        &mut self,
+        p: u8,
+        disk: &mut D,
+        log: &mut DiskLog,
+        notes: &mut Notes,
+    )
+        requires process { p < 16 }
+        requires level { 0 < length (chain_of self.old p).levels }
+        requires running { IsRunning (λ b. seen (b.vtable, b.value)) (λ w. C.caller w) self.old }
+        requires stood { Stood C.Meaning.meaning (placed_of (λ b. seen (b.vtable, b.value)) (λ w. C.stage w) self.old) }
+        requires disk { self.old.store.size ≡ D.block_count disk.old }
+        ensures done { (c : PlacedCall) → call_at (λ w. C.stage w) self.old p ≡ Some c →
+            StepDone (λ b. seen (b.vtable, b.value)) (λ w. C.stage w) (λ w. C.caller w) (λ r. placed_outcome C.Meaning.meaning p c (micro r.placed.world r.placed.images p (placed_config r.placed p)) r) self.old self.new p notes.old notes.new
+            (disk_seen (D.blocks disk.old) (D.plan disk.old) (D.faults disk.old)) (disk_seen (D.blocks disk.new) (D.plan disk.new) (D.faults disk.new)) }
+        ensures same_size { D.block_count disk.new ≡ D.block_count disk.old }
+    {
+        soundness::ready_in_place::<C::Meaning>();
+        owners::owners_stay();
+        let said = self.instruct(p);
+        self.follow(p, said, disk, log, notes);
+    }
+
+    /// The next piece of process p's call, which is in no graft: where it asks a point at which a graft stands, the call enters that
+    /// graft; else the piece is done by default.
+    fn piece_step<D: Disk>(
+        &mut self,
+        p: u8,
+        disk: &mut D,
+        log: &mut DiskLog,
+        notes: &mut Notes,
+    )
+        requires process { p < 16 }
+        requires none { (chain_of self.old p).levels ≡ [] }
+        requires running { IsRunning (λ b. seen (b.vtable, b.value)) (λ w. C.caller w) self.old }
+        requires stood { Stood C.Meaning.meaning (placed_of (λ b. seen (b.vtable, b.value)) (λ w. C.stage w) self.old) }
+        requires disk { self.old.store.size ≡ D.block_count disk.old }
+        ensures done { (c : PlacedCall) → call_at (λ w. C.stage w) self.old p ≡ Some c →
+            StepDone (λ b. seen (b.vtable, b.value)) (λ w. C.stage w) (λ w. C.caller w) (λ r. placed_call_step C.Meaning.meaning p (Some c) r) self.old self.new p notes.old notes.new
+            (disk_seen (D.blocks disk.old) (D.plan disk.old) (D.faults disk.old)) (disk_seen (D.blocks disk.new) (D.plan disk.new) (D.faults disk.new)) }
+        ensures same_size { D.block_count disk.new ≡ D.block_count disk.old }
+    {
+        soundness::sound_in_place::<C::Meaning>();
+        soundness::ready_in_place::<C::Meaning>();
+        owners::owners_stay();
+        let flight = flight(&self.calls, p);
+        let Some(call) = &flight.call else {
+            return;
+        };
+        match C::asks(&call.work, &self.store) {
+            Some(point) if self.store.has_graft(point.installer, point.point) => {
+                let mut needs = Needs::new();
+                C::need(&call.work, &self.store, &mut needs);
+                self.enter(p, needs.as_slice(), &point);
+            }
+            _ => self.finish(p, None, disk, log, notes),
+        }
+    }
+
+    /// A step of process p's call, but for its place in the order.
+    fn step_call<D: Disk>(
+        &mut self,
+        p: u8,
+        disk: &mut D,
+        log: &mut DiskLog,
+        notes: &mut Notes,
+    )
+        requires process { p < 16 }
+        requires call { is_some (call_at (λ w. C.stage w) self.old p) ≡ true }
+        requires running { IsRunning (λ b. seen (b.vtable, b.value)) (λ w. C.caller w) self.old }
+        requires stood { Stood C.Meaning.meaning (placed_of (λ b. seen (b.vtable, b.value)) (λ w. C.stage w) self.old) }
+        requires disk { self.old.store.size ≡ D.block_count disk.old }
+        ensures done { StepDone (λ b. seen (b.vtable, b.value)) (λ w. C.stage w) (λ w. C.caller w) (placed_call_step C.Meaning.meaning p (call_at (λ w. C.stage w) self.old p)) self.old self.new p notes.old notes.new
+            (disk_seen (D.blocks disk.old) (D.plan disk.old) (D.faults disk.old)) (disk_seen (D.blocks disk.new) (D.plan disk.new) (D.faults disk.new)) }
+        ensures same_size { D.block_count disk.new ≡ D.block_count disk.old }
+    {
+        if flight(&self.calls, p).chain.levels.count() == 0 {
+            return self.piece_step(p, disk, log, notes);
+        }
+        self.graft_step(p, disk, log, notes);
+    }
+
+    /// One step of process p's call, which nothing blocks: its next piece, or an instruction of its innermost level, with all that
+    /// this ends. The call stands in the order, at its end, exactly where its next step is a piece. The log is for the calls of the
+    /// disk of one piece.
+    pub fn step<D: Disk>(
+        &mut self,
+        p: u8,
+        disk: &mut D,
+        log: &mut DiskLog,
+        notes: &mut Notes,
+    )
+        requires process { p < 16 }
+        requires call { is_some (call_at (λ w. C.stage w) self.old p) ≡ true }
+        requires free { placed_blocker C.Meaning.meaning (placed_of (λ b. seen (b.vtable, b.value)) (λ w. C.stage w) self.old) p ≡ None }
+        requires running { IsRunning (λ b. seen (b.vtable, b.value)) (λ w. C.caller w) self.old }
+        requires stood { Stood C.Meaning.meaning (placed_of (λ b. seen (b.vtable, b.value)) (λ w. C.stage w) self.old) }
+        requires disk { self.old.store.size ≡ D.block_count disk.old }
+        ensures did { Did (placed_step C.Meaning.meaning p) (placed_of (λ b. seen (b.vtable, b.value)) (λ w. C.stage w) self.old) (placed_of (λ b. seen (b.vtable, b.value)) (λ w. C.stage w) self.new) notes.old notes.new
+            (disk_seen (D.blocks disk.old) (D.plan disk.old) (D.faults disk.old)) (disk_seen (D.blocks disk.new) (D.plan disk.new) (D.faults disk.new)) }
+        ensures running { IsRunning (λ b. seen (b.vtable, b.value)) (λ w. C.caller w) self.new }
+        ensures stood { Stood C.Meaning.meaning (placed_of (λ b. seen (b.vtable, b.value)) (λ w. C.stage w) self.new) }
+        ensures world { world_of_store self.new.store ≡ world_of_store self.old.store }
+        ensures clock { self.new.clock ≡ self.old.clock }
+        ensures same_size { D.block_count disk.new ≡ D.block_count disk.old }
+    {
+        soundness::sound_in_place::<C::Meaning>();
+        keeping::steps_stand::<C::Meaning>();
+        keeping::held_stays::<C::Meaning>();
+        self.step_call(p, disk, log, notes);
+        self.requeue(p);
+    }
+
+    /// The drop of level d of process p's call, but for the call's place in the order.
+    fn drop_call<D: Disk>(
+        &mut self,
+        p: u8,
+        d: u8,
+        cause: Cause,
+        disk: &mut D,
+        log: &mut DiskLog,
+        notes: &mut Notes,
+    )
+        requires process { p < 16 }
+        requires level { d < length (chain_of self.old p).levels }
+        requires running { IsRunning (λ b. seen (b.vtable, b.value)) (λ w. C.caller w) self.old }
+        requires stood { Stood C.Meaning.meaning (placed_of (λ b. seen (b.vtable, b.value)) (λ w. C.stage w) self.old) }
+        requires disk { self.old.store.size ≡ D.block_count disk.old }
+        ensures done { (c : PlacedCall) → call_at (λ w. C.stage w) self.old p ≡ Some c →
+            StepDone (λ b. seen (b.vtable, b.value)) (λ w. C.stage w) (λ w. C.caller w) (λ r. placed_outcome C.Meaning.meaning p c (level_dropped r.placed.world r.placed.objects (placed_config r.placed p).levels d cause) r) self.old self.new p notes.old notes.new
+            (disk_seen (D.blocks disk.old) (D.plan disk.old) (D.faults disk.old)) (disk_seen (D.blocks disk.new) (D.plan disk.new) (D.faults disk.new)) }
+        ensures same_size { D.block_count disk.new ≡ D.block_count disk.old }
+    {
+        soundness::ready_in_place::<C::Meaning>();
+        owners::owners_stay();
+        let said = self.fall(p, d, cause);
+        self.follow(p, said, disk, log, notes);
+    }
+
+    /// Level d of process p's call is dropped, counted from the outermost, with all that this ends: with level 0 the default
+    /// finishes the piece, and else the asking level gets the default answer. The call takes its place in the order.
+    pub fn drop_level<D: Disk>(
+        &mut self,
+        p: u8,
+        d: u8,
+        cause: Cause,
+        disk: &mut D,
+        log: &mut DiskLog,
+        notes: &mut Notes,
+    )
+        requires process { p < 16 }
+        requires level { d < length (chain_of self.old p).levels }
+        requires running { IsRunning (λ b. seen (b.vtable, b.value)) (λ w. C.caller w) self.old }
+        requires stood { Stood C.Meaning.meaning (placed_of (λ b. seen (b.vtable, b.value)) (λ w. C.stage w) self.old) }
+        requires disk { self.old.store.size ≡ D.block_count disk.old }
+        ensures did { Did (placed_drop C.Meaning.meaning p d cause) (placed_of (λ b. seen (b.vtable, b.value)) (λ w. C.stage w) self.old) (placed_of (λ b. seen (b.vtable, b.value)) (λ w. C.stage w) self.new) notes.old notes.new
+            (disk_seen (D.blocks disk.old) (D.plan disk.old) (D.faults disk.old)) (disk_seen (D.blocks disk.new) (D.plan disk.new) (D.faults disk.new)) }
+        ensures running { IsRunning (λ b. seen (b.vtable, b.value)) (λ w. C.caller w) self.new }
+        ensures stood { Stood C.Meaning.meaning (placed_of (λ b. seen (b.vtable, b.value)) (λ w. C.stage w) self.new) }
+        ensures world { world_of_store self.new.store ≡ world_of_store self.old.store }
+        ensures clock { self.new.clock ≡ self.old.clock }
+        ensures same_size { D.block_count disk.new ≡ D.block_count disk.old }
+    {
+        agreeing::same_shown::<C::Meaning>();
+        soundness::sound_in_place::<C::Meaning>();
+        keeping::drops_stand::<C::Meaning>();
+        keeping::held_stays::<C::Meaning>();
+        self.drop_call(p, d, cause, disk, log, notes);
+        self.requeue(p);
     }
 }

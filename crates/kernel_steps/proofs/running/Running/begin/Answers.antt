@@ -4,6 +4,7 @@ use Rattle.graft_loader.specs.Slots.{table_of}
 use Rattle.graft_calls.specs.Calls.{IsPlaced, AreInside}
 use Rattle.kernel_state.specs.Stores.{objects_of}
 use Rattle.kernel_steps.specs.declared.running.InFlight.{InFlight}
+use Rattle.kernel_steps.specs.Owned.{AreOwned}
 use Rattle.kernel_steps.proofs.OnceLemmas.{once_joined, room_for}
 use Rattle.kernel_steps.proofs.OrderLemmas.{processes_joined, counts_joined}
 use Rattle.kernel_steps.proofs.CallLemmas.{still_sixteen, chains_stay, callers_set}
@@ -33,6 +34,8 @@ returns-clause-running g c =
       order = processes_joined c.args.p x.order c.joined.result c.push.new.self c.joined.ensures c.push.ensures c.requires.process r.order;
       once = once_joined c.args.p x.order c.joined.result c.push.new.self c.joined.ensures c.push.ensures r.once c.requires.new;
       loaded = r.loaded;
+      owner = r.owner;
+      own = λ q h. subst (λ (chain : Chain). AreOwned (r.owner q) chain.levels chain.undo) (sym (same q)) (r.own q h);
     }
 
 pub push-requires : goal.push-requires

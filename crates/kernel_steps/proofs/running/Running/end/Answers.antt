@@ -1,8 +1,9 @@
-use Rattle.std.proofs.Common.{ap, sym, subst, ◌∙◌, arith, None}
+use Rattle.std.proofs.Common.{ap, sym, subst, ◌∙◌, ◌++◌, ◌∷◌, [], refl, arith, None}
 use Rattle.graft_calls.specs.declared.Chain.{Chain}
 use Rattle.graft_loader.specs.Slots.{table_of}
 use Rattle.graft_calls.specs.Calls.{IsPlaced, AreInside}
 use Rattle.kernel_state.specs.Stores.{objects_of}
+use Rattle.kernel_steps.specs.Owned.{AreOwned}
 use Rattle.kernel_steps.specs.Orders.{counts_within, are_processes}
 use Rattle.kernel_steps.specs.Orders.{are_once, numbers_of}
 use Rattle.kernel_steps.proofs.OnceLemmas.{once_less}
@@ -12,10 +13,10 @@ use Rattle.kernel_steps.proofs.RunningLemmas.{call_ended, within_flights}
 use Rattle.kernel_steps.proofs.running.Running.end.Goals as goal
 
 pub returns-clause-value : goal.returns-clause-value
-returns-clause-value g c = λ blocks io.
+returns-clause-value g c =
     let x = c.args.self.now in
-    call_ended (λ b. (goal.Policy-dyn g (b.vtable, b.value)).seen b.value) (λ w. g.C.Calls.stage w) x c.args.p c.args.note c.set_call.new.flights.items c.leave.new.self c.args.notes.now c.push.new.self
-    (within_flights x.calls.items c.args.p c.requires.running.sixteen c.requires.process) c.set_call.ensures c.leave.ensures c.push.ensures blocks io
+    (λ notes blocks io. call_ended (λ b. (goal.Policy-dyn g (b.vtable, b.value)).seen b.value) (λ w. g.C.Calls.stage w) x c.args.p c.args.note c.set_call.new.flights.items c.leave.new.self notes (notes ++ c.args.note ∷ [])
+    (within_flights x.calls.items c.args.p c.requires.running.sixteen c.requires.process) c.set_call.ensures c.leave.ensures refl blocks io, c.push.ensures)
 
 pub returns-clause-running : goal.returns-clause-running
 returns-clause-running g c =
@@ -33,4 +34,6 @@ returns-clause-running g c =
       order = ap are_processes c.leave.ensures ∙ processes_less c.args.p x.order r.order;
       once = ap (λ ws. are_once (numbers_of ws)) c.leave.ensures ∙ once_less c.args.p x.order r.once;
       loaded = r.loaded;
+      owner = r.owner;
+      own = λ q h. subst (λ (chain : Chain). AreOwned (r.owner q) chain.levels chain.undo) (sym (same q)) (r.own q h);
     }

@@ -35,6 +35,8 @@ returns-clause-running g c =
           (ap (λ ws. are_once (numbers_of ws)) c.leave.ensures ∙ once_less c.args.p x.order r.once)
           (ap (λ ws. has_number c.args.p (numbers_of ws)) c.leave.ensures ∙ has_left c.args.p x.order);
       loaded = r.loaded;
+      owner = r.owner;
+      own = r.own;
     }
 
 pub returns-then-not-waits-clause-value : goal.returns-then-not-waits-clause-value
@@ -57,4 +59,6 @@ returns-then-not-waits-clause-running g c =
       order = ap are_processes c.leave.ensures ∙ processes_less c.args.p x.order r.order;
       once = ap (λ ws. are_once (numbers_of ws)) c.leave.ensures ∙ once_less c.args.p x.order r.once;
       loaded = r.loaded;
+      owner = r.owner;
+      own = r.own;
     }

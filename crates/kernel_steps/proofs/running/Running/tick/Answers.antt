@@ -1,4 +1,6 @@
-use Rattle.std.proofs.Common.{ap, ◌∙◌, ◌+◌, arith}
+use Rattle.std.proofs.Common.{ap, sym, ◌≡◌, ◌∙◌, ◌+◌, suc, ◌++◌, ◌∷◌, [], refl, arith}
+use Rattle.kernel_model.specs.declared.Note.TheVariants.{Ticked}
+use Rattle.kernel_steps.specs.Did.{first_notes}
 use Rattle.kernel_steps.specs.Orders.{are_processes}
 use Rattle.kernel_steps.specs.Orders.{are_once, numbers_of}
 use Rattle.kernel_steps.proofs.OnceLemmas.{same_later}
@@ -7,10 +9,12 @@ use Rattle.kernel_steps.proofs.RunningLemmas.{ticked_on}
 use Rattle.kernel_steps.proofs.running.Running.tick.Goals as goal
 
 pub returns-clause-value : goal.returns-clause-value
-returns-clause-value g c = λ blocks io.
+returns-clause-value g c =
     let x = c.args.self.now in
-    ticked_on (λ b. (goal.Policy-dyn g (b.vtable, b.value)).seen b.value) (λ w. g.C.Calls.stage w) x c.args.number (x.clock + 1) c.count_up.new.self c.args.notes.now c.push.new.self
-    (omega arith) c.requires.running.counts c.requires.clock c.count_up.ensures c.push.ensures blocks io
+    let next : x.clock + 1 ≡ suc x.clock = omega arith in
+    (λ notes blocks io. ticked_on (λ b. (goal.Policy-dyn g (b.vtable, b.value)).seen b.value) (λ w. g.C.Calls.stage w) x c.args.number (x.clock + 1) c.count_up.new.self notes (notes ++ Ticked c.args.number (suc x.clock) ∷ [])
+    next c.requires.running.counts c.requires.clock c.count_up.ensures (ap (λ n. notes ++ Ticked c.args.number n ∷ []) (sym next)) blocks io,
+    λ all is. c.push.ensures all is ∙ ap (λ n. first_notes (all ++ Ticked c.args.number n ∷ [])) next)
 
 pub returns-clause-running : goal.returns-clause-running
 returns-clause-running g c =
@@ -26,4 +30,6 @@ returns-clause-running g c =
       order = ap are_processes c.count_up.ensures ∙ processes_later x.order r.order;
       once = ap (λ ws. are_once (numbers_of ws)) c.count_up.ensures ∙ ap are_once (same_later x.order) ∙ r.once;
       loaded = r.loaded;
+      owner = r.owner;
+      own = r.own;
     }

@@ -1,0 +1,339 @@
+-- What a step of a call, and each of its parts, came to.
+use Rattle.std.proofs.Common.{append-nil, ◌≡◌, ◌≢◌, ℕ, zero, suc, ◌≤◌, ◌<◌, ◌==◌, Bool, true, false, cond, nat_lt, List, [], ◌∷◌, ◌++◌, map, length, refl, ap, sym, subst, ◌∙◌, arith, Option, Some, None}
+use Rattle.std.specs.Prelude.{option_map, ⊤}
+use Rattle.std.proofs.lemmas.Bool.{eqb-true}
+use Rattle.std.proofs.lemmas.Bool.Decides.{nat_tests}
+use Rattle.std.proofs.Math.Path.{fun_ext}
+use Rattle.kernel_model.specs.declared.Cause.{Cause}
+use Rattle.kernel_model.specs.declared.Held.{Held}
+use Rattle.kernel_model.specs.declared.Inverse.{Inverse}
+use Rattle.kernel_model.specs.declared.Micro.{Micro}
+use Rattle.kernel_model.specs.declared.Note.{Note}
+use Rattle.kernel_model.specs.declared.Note.TheVariants.{Dropped}
+use Rattle.kernel_model.specs.declared.Object.{Object}
+use Rattle.kernel_model.specs.World.{World, ImageTable, Blocks}
+use Rattle.kernel_model.specs.Objects.{Objects, Things, at}
+use Rattle.kernel_model.specs.Meaning.{Meaning, Stage, Piece}
+use Rattle.kernel_model.specs.Levels.{Level, Config, Outcome}
+use Rattle.kernel_model.specs.Laws.{IsReady}
+use Rattle.kernel_model.specs.Locks.{LockTable}
+use Rattle.kernel_model.specs.UndoLog.{undo_all}
+use Rattle.undo_calls.specs.UndoLevels.{innermost}
+use Rattle.lock_table.specs.Masks.{held}
+use Rattle.disk_log.specs.Seen.{DiskSeen}
+use Rattle.kernel_state.specs.Stores.{Seeing, world_of_store, objects_of, IsStore, SegmentsStay}
+use Rattle.graft_loader.specs.Slots.{table_of}
+use Rattle.graft_calls.specs.declared.GraftLevel.{GraftLevel}
+use Rattle.graft_calls.specs.declared.Chain.{Chain}
+use Rattle.graft_calls.specs.Calls.{IsPlaced, AreInside}
+use Rattle.graft_calls.specs.Chains.{levels_in, outer}
+use Rattle.placed_laws.specs.Owners.{AreOwn, AreOfOwner}
+use Rattle.placed_laws.specs.Placed.{Placed, PlacedCall, PlacedLevel, PlacedRun, bare}
+use Rattle.placed_laws.specs.PlacedSteps.{placed_finish, placed_finish_on, placed_noted, placed_after_outcome, placed_outcome, with_config}
+use Rattle.kernel_steps.specs.declared.running.InFlight.{InFlight}
+use Rattle.kernel_steps.specs.declared.running.Running.{Running}
+use Rattle.kernel_steps.specs.Did.{first_notes, Did, Reaches, PieceDone}
+use Rattle.kernel_steps.specs.Moves.{come_to, Moved}
+use Rattle.kernel_steps.specs.Owned.{AreOwned}
+use Rattle.kernel_steps.specs.Steps.{finishes, after_drop, after_said, answer_of_drop, answer_said, IsOfOne, StepsAlone, Stepped, StepDone}
+use Rattle.kernel_steps.specs.Views.{placed_of, flight_of, chain_of, no_chain, levels_at, call_at, call_in_place, run_of, IsRunning}
+use Rattle.kernel_steps.proofs.CallLemmas.{with_call, call_of_changed, chain_of_changed, still_sixteen}
+use Rattle.kernel_steps.proofs.DidLemmas.{did_nothing, did_as, did_purely, did_then, reaches_as, reaches_behind, reaches_purely}
+use Rattle.kernel_steps.proofs.BlockLemmas.{some_blocks, blocks_are_whole}
+use Rattle.kernel_steps.proofs.FinishLemmas.{placed_finished, finish_did, finish_reaches}
+use Rattle.kernel_steps.proofs.MoveLemmas.{few_levels}
+
+-- ---- a piece
+
+no_records : (log : List (List Inverse)) → length log ≡ 0 → log ≡ []
+no_records [] h = refl
+no_records (is ∷ log) h = absurd (omega (arith, h))
+
+-- a chain without levels has no records
+pub none_in : {X C M W : Type 0} {F : X → Type 0} (view : Seeing X F) (x : Running C M W X F) (p : ℕ) → IsPlaced view x.store x.locks p (chain_of x p).levels (chain_of x p).undo → (chain_of x p).levels ≡ [] → chain_of x p ≡ no_chain
+none_in view x p placed none =
+    ap (λ gs. record { levels = gs; undo = (chain_of x p).undo }) none
+    ∙ ap (λ log. record { levels = []; undo = log }) (no_records (chain_of x p).undo (placed.as_many ∙ ap length none))
+
+-- the call of another process
+other_call : {W : Type 0} (v w : Option (InFlight W)) (p q : ℕ) → q ≢ p → cond (q == p) v w ≡ w
+other_call v w p q other = grind (arith, nat_tests, other)
+
+own_call : {W : Type 0} (v w : Option (InFlight W)) (p : ℕ) → cond (p == p) v w ≡ v
+own_call v w p = grind (arith, nat_tests)
+
+pub finish_done : {C M W X : Type 0} {F : X → Type 0} (m : Meaning) (view : Seeing X F) (stage : W → Stage) (caller : W → ℕ) (x y : Running C M W X F) (p : ℕ) (c : PlacedCall) (f : InFlight W) (v : Option (InFlight W)) (answer : Option (List ℕ)) (kept kept_new : List Note) (d e : DiskSeen) →
+    StepsAlone view caller x p → (chain_of x p).levels ≡ [] → p < 16 → (flight_of x.calls.items p).call ≡ Some f → call_in_place stage f ≡ c →
+    y.calls.items ≡ with_call x.calls.items p v → y.locks ≡ x.locks → y.images ≡ x.images → y.clock ≡ x.clock → y.order ≡ x.order →
+    world_of_store y.store ≡ world_of_store x.store → IsStore view y.store → SegmentsStay x.store.ram y.store.ram → ((g : InFlight W) → v ≡ Some g → caller g.work ≡ caller f.work) →
+    PieceDone m (world_of_store x.store) (objects_of view x.store) (objects_of view y.store) (caller f.work) (call_in_place stage f) (option_map (call_in_place stage) v) answer kept kept_new d e →
+    StepDone view stage caller (finishes m p c answer) x y p kept kept_new d e
+finish_done {W = W} m view stage caller x y p c f v answer kept kept_new d e alone none small is c_is calls locks images clock order world store memory caller_is done =
+    let within : p < length x.calls.items = omega (arith, alone.sixteen, small) in
+    let nothing = none_in view x p alone.placed none in
+    let here = placed_finished view stage x y p v within nothing calls locks memory world images clock order in
+    let whole : PieceDone m (world_of_store x.store) (objects_of view x.store) (objects_of view y.store) p c (option_map (call_in_place stage) v) answer kept kept_new d e =
+    subst (λ b. PieceDone m (world_of_store x.store) (objects_of view x.store) (objects_of view y.store) p b (option_map (call_in_place stage) v) answer kept kept_new d e) c_is
+    (subst (λ q. PieceDone m (world_of_store x.store) (objects_of view x.store) (objects_of view y.store) q (call_in_place stage f) (option_map (call_in_place stage) v) answer kept kept_new d e) (alone.caller_is f is) done) in
+    let chains : (q : ℕ) → chain_of y q ≡ chain_of x q = λ q. ap (λ fs. (flight_of fs q).chain) calls ∙ chain_of_changed x.calls.items p v within q in
+    let own : chain_of y p ≡ no_chain = chains p ∙ nothing in
+    let call_then : (q : ℕ) → (flight_of y.calls.items q).call ≡ at p v (λ r. (flight_of x.calls.items r).call) q = λ q. ap (λ fs. (flight_of fs q).call) calls ∙ call_of_changed x.calls.items p v within q in
+    record {
+      did = finish_did m (placed_of view stage x) (placed_of view stage y) p c (objects_of view y.store) (option_map (call_in_place stage) v) answer kept kept_new d e here whole;
+      reaches = finish_reaches m (placed_of view stage x) (placed_of view stage y) p c (objects_of view y.store) (option_map (call_in_place stage) v) answer kept kept_new d e here whole;
+      stepped = record {
+        store = store;
+        world = world;
+        sixteen = still_sixteen x.calls.items p v y.calls.items calls;
+        caller_is = λ g there. caller_is g (sym (call_then p ∙ own_call v (flight_of x.calls.items p).call p) ∙ there) ∙ alone.caller_is f is;
+        calls = λ q other. call_then q ∙ other_call v (flight_of x.calls.items q).call p q other;
+        chains = λ q other. chains q;
+        locks = λ q d other. ap (λ t. held t q d) locks;
+        placed = subst (λ (chain : Chain). IsPlaced view y.store y.locks p chain.levels chain.undo) (sym own)
+            (record {
+              store = store;
+              process = small;
+              few = omega arith;
+              as_many = refl;
+              unheld = λ d o le. ap (λ t. held t p d o) locks ∙ alone.placed.unheld d o (subst (λ n. n ≤ d) (sym (ap length none)) (omega arith));
+              levels = tt;
+              undoable = tt;
+            });
+        inside = subst (λ (chain : Chain). AreInside (table_of y.images) (objects_of view y.store).accounts p chain.levels) (sym own) tt;
+        images = images;
+        clock = clock;
+        order = order;
+      };
+      own = subst IsOfOne (sym own) (record { owner = 0; own = tt });
+    }
+
+-- ---- what was said
+
+-- nothing is left to do
+stepped_same : {C M W X : Type 0} {F : X → Type 0} (view : Seeing X F) (caller : W → ℕ) (x : Running C M W X F) (p : ℕ) → StepsAlone view caller x p → Stepped view caller x x p
+stepped_same view caller x p alone =
+    record {
+      store = alone.store;
+      world = refl;
+      sixteen = refl;
+      caller_is = alone.caller_is;
+      calls = λ q other. refl;
+      chains = λ q other. refl;
+      locks = λ q d other. refl;
+      placed = alone.placed;
+      inside = alone.inside;
+      images = refl;
+      clock = refl;
+      order = refl;
+    }
+
+pub nothing_done : {C M W X : Type 0} {F : X → Type 0} (view : Seeing X F) (stage : W → Stage) (caller : W → ℕ) (x : Running C M W X F) (p : ℕ) (kept : List Note) (d : DiskSeen) → StepsAlone view caller x p →
+    StepDone view stage caller (λ r. r) x x p kept kept d d
+nothing_done view stage caller x p kept d alone =
+    record {
+      did = did_nothing (placed_of view stage x) kept d;
+      reaches = reaches_purely (λ r. r) (placed_of view stage x) (placed_of view stage x) [] some_blocks (blocks_are_whole (world_of_store x.store)) (λ blocks notes io. nil_right blocks notes io);
+      stepped = stepped_same view caller x p alone;
+      own = alone.own;
+    }
+  where
+    nil_right : (blocks : Blocks) (notes : List Note) (io : List Bool) → run_of (placed_of view stage x) blocks notes io ≡ run_of (placed_of view stage x) blocks (notes ++ []) io
+    nil_right blocks notes io = ap (λ ns. run_of (placed_of view stage x) blocks ns io) (sym (append-nil notes))
+
+-- a note, and then this
+pub noted_done : {C M W X : Type 0} {F : X → Type 0} (view : Seeing X F) (stage : W → Stage) (caller : W → ℕ) (g : PlacedRun → PlacedRun) (x y : Running C M W X F) (p : ℕ) (note : Note) (kept mid kept_new : List Note) (d e : DiskSeen) →
+    ((all : List Note) → kept ≡ first_notes all → mid ≡ first_notes (all ++ note ∷ [])) → StepDone view stage caller g x y p mid kept_new d e → StepDone view stage caller (λ r. g (placed_noted note r)) x y p kept kept_new d e
+noted_done view stage caller g x y p note kept mid kept_new d e adds h =
+    let o = placed_of view stage x in
+    record {
+      did = did_then (placed_noted note) g o o (placed_of view stage y) kept mid kept_new d d e (did_purely (placed_noted note) o o kept mid (note ∷ []) d (λ blocks notes io. refl) adds) h.did;
+      reaches = reaches_behind (placed_noted note) g o o (placed_of view stage y) (note ∷ []) refl (λ blocks notes io. refl) h.reaches;
+      stepped = h.stepped;
+      own = h.own;
+    }
+
+-- ---- a move, and what it leaves to do
+
+-- what an instruction, or the drop of a level, can say
+abbrev pub EndsAs : Micro → List Level → Type 0
+EndsAs Micro.Went ls = ⊤
+EndsAs (Micro.Blocked object holder by_user) ls = ⊥
+EndsAs (Micro.Completed answer) ls = ls ≡ []
+EndsAs (Micro.Dropped d q pt cause) ls = length ls ≡ d
+
+-- the place of p changed twice
+twice : {A : Type 0} (p : ℕ) (a b : A) (f : ℕ → A) → at p a (at p b f) ≡ at p a f
+twice p a b f = fun_ext (λ q. elim (q == p) as (λ t. cond t a (cond t b (f q)) ≡ cond t a (f q)) [ true ↦ refl | false ↦ refl ])
+
+-- the piece finishes on the config as it does behind it
+finish_behind : (m : Meaning) (p : ℕ) (c : PlacedCall) (f : Config) (answer : Option (List ℕ)) (r : PlacedRun) → placed_finish_on m p c f.now answer r ≡ finishes m p c answer (with_config p f r)
+finish_behind m p c f answer r =
+    let q : Piece = m.piece r.placed.world r.placed.images f.now r.blocks p c.stage answer r.io in
+    ap (λ ls. record (placed_finish p c q r) { placed = record ((placed_finish p c q r).placed) { levels = ls } }) (sym (twice p [] (map bare f.levels) r.placed.levels))
+
+outcome_by : (m : Meaning) (p : ℕ) (c : PlacedCall) (f : Config) (r : PlacedRun) (s : Micro) → EndsAs s f.levels → placed_after_outcome m p c f s r ≡ after_said m p c s (with_config p f r)
+outcome_by m p c f r Micro.Went ends = refl
+outcome_by m p c f r (Micro.Blocked object holder by_user) ends = absurd ends
+outcome_by m p c f r (Micro.Completed answer) ends = finish_behind m p c f (Some answer) r
+outcome_by m p c f r (Micro.Dropped zero q pt cause) ends = finish_behind m p c f None (placed_noted (Dropped c.number q pt cause) r)
+outcome_by m p c f r (Micro.Dropped (suc d) q pt cause) ends = refl
+
+pub outcome_behind : (m : Meaning) (p : ℕ) (c : PlacedCall) (o : Outcome) (r : PlacedRun) → EndsAs o.said o.config.levels → placed_outcome m p c o r ≡ after_said m p c o.said (with_config p o.config r)
+outcome_behind m p c o r ends = outcome_by m p c o.config r o.said ends
+
+-- with an answer the call has no level
+pub ends_bare : (s : Micro) (ls : List Level) (answer : Option (List ℕ)) → EndsAs s ls → answer_said s ≡ Some answer → ls ≡ []
+ends_bare Micro.Went ls answer ends h = grind (arith, h)
+ends_bare (Micro.Blocked object holder by_user) ls answer ends h = absurd ends
+ends_bare (Micro.Completed a) ls answer ends h = ends
+ends_bare (Micro.Dropped zero q pt cause) ls answer ends h = no_level ls ends
+  where
+    no_level : (ls : List Level) → length ls ≡ 0 → ls ≡ []
+    no_level [] e = refl
+    no_level (l ∷ ls) e = absurd (omega (arith, e))
+ends_bare (Micro.Dropped (suc d) q pt cause) ls answer ends h = grind (arith, h)
+
+-- ---- the levels of a chain
+
+no_levels : (p : ℕ) (ram : List ℕ) (t : LockTable) (gs : List GraftLevel) (log : List (List Inverse)) (w : Things) → map bare (levels_in p ram t gs log w) ≡ [] → gs ≡ []
+no_levels p ram t [] log w h = refl
+no_levels p ram t (g ∷ gs) log w h = grind (arith, h)
+
+-- a chain whose levels are none has none
+pub none_of_bare : {C M W X : Type 0} {F : X → Type 0} (view : Seeing X F) (x : Running C M W X F) (p : ℕ) → levels_at view x p ≡ [] → (chain_of x p).levels ≡ []
+none_of_bare view x p h = no_levels p x.store.ram (held x.locks) (chain_of x p).levels (chain_of x p).undo (objects_of view x.store).things h
+
+-- what two equal lists begin with
+same_first : {A : Type 0} (a b : A) (xs ys : List A) → a ∷ xs ≡ b ∷ ys → (a ≡ b) × (xs ≡ ys)
+same_first a b xs ys h = (grind (arith, h), grind (arith, h))
+
+-- whose levels they are by those without what they found
+owned_by : (q p : ℕ) (ram : List ℕ) (t : LockTable) (gs : List GraftLevel) (log : List (List Inverse)) (w : Things) (ls : List Level) → map bare (levels_in p ram t gs log w) ≡ map bare ls → AreOfOwner q ls → AreOwned q gs log
+owned_by q p ram t [] log w ls h own = tt
+owned_by q p ram t (g ∷ gs) log w [] h own = grind (arith, h)
+owned_by q p ram t (g ∷ gs) log w (l ∷ ls) h own =
+    let both = same_first _ _ _ _ h in (
+      ap (λ (b : PlacedLevel). b.owner) both.0 ∙ own.0,
+      subst (AreOwn q) (sym (ap (λ (b : PlacedLevel). b.records) both.0)) own.1,
+      owned_by q p ram t gs (outer log) (undo_all (innermost log) w) ls both.1 own.2,
+    )
+
+pub of_one : {C M W X : Type 0} {F : X → Type 0} (view : Seeing X F) (x : Running C M W X F) (p q : ℕ) (ls : List Level) → levels_at view x p ≡ map bare ls → AreOfOwner q ls → IsOfOne (chain_of x p)
+of_one view x p q ls h own =
+    record { owner = q; own = owned_by q p x.store.ram (held x.locks) (chain_of x p).levels (chain_of x p).undo (objects_of view x.store).things ls h own }
+
+-- and the other way round
+pub owner_of : (q p : ℕ) (ram : List ℕ) (t : LockTable) (gs : List GraftLevel) (log : List (List Inverse)) (w : Things) → AreOwned q gs log → AreOfOwner q (levels_in p ram t gs log w)
+owner_of q p ram t [] log w own = tt
+owner_of q p ram t (g ∷ gs) log w own = (own.0, own.1, owner_of q p ram t gs (outer log) (undo_all (innermost log) w) own.2)
+
+-- ---- a move
+
+-- what must hold of p's call for the rest of its step
+pub alone_at : {C M W X : Type 0} {F : X → Type 0} (view : Seeing X F) (caller : W → ℕ) (x : Running C M W X F) (p : ℕ) → IsRunning view caller x → p < 16 → StepsAlone view caller x p
+alone_at view caller x p r small =
+    record {
+      store = r.store;
+      sixteen = r.sixteen;
+      few = λ q. few_levels view caller x r q (nat_lt q 16) refl;
+      caller_is = λ f is. r.callers p f is;
+      placed = r.placed p small;
+      inside = r.inside p small;
+      own = record { owner = r.owner p; own = r.own p small };
+    }
+
+few_moved : {C M W X : Type 0} {F : X → Type 0} (view : Seeing X F) (caller : W → ℕ) (x y : Running C M W X F) (p : ℕ) → IsRunning view caller x → Moved view x y p → (q : ℕ) (b : Bool) → (q == p) ≡ b → length (chain_of y q).levels ≤ 4
+few_moved view caller x y p r moved q true h = subst (λ k. length (chain_of y k).levels ≤ 4) (sym (eqb-true q p h)) moved.placed.few
+few_moved view caller x y p r moved q false h =
+    subst (λ (c : Chain). length c.levels ≤ 4) (sym (moved.chains q (grind (arith, nat_tests, h)))) (few_levels view caller x r q (nat_lt q 16) refl)
+
+pub alone_moved : {C M W X : Type 0} {F : X → Type 0} (view : Seeing X F) (caller : W → ℕ) (x y : Running C M W X F) (p : ℕ) → IsRunning view caller x → p < 16 → Moved view x y p → IsOfOne (chain_of y p) → StepsAlone view caller y p
+alone_moved view caller x y p r small moved own =
+    record {
+      store = moved.placed.store;
+      sixteen = moved.sixteen ∙ r.sixteen;
+      few = λ q. few_moved view caller x y p r moved q (q == p) refl;
+      caller_is = λ f is. r.callers p f (sym (moved.calls p) ∙ is);
+      placed = moved.placed;
+      inside = moved.inside;
+      own = own;
+    }
+
+stepped_moved : {C M W X : Type 0} {F : X → Type 0} (view : Seeing X F) (caller : W → ℕ) (x y z : Running C M W X F) (p : ℕ) → Moved view x y p → Stepped view caller y z p → Stepped view caller x z p
+stepped_moved view caller x y z p moved step =
+    record {
+      store = step.store;
+      world = step.world ∙ moved.elsewhere.world;
+      sixteen = step.sixteen ∙ moved.sixteen;
+      caller_is = step.caller_is;
+      calls = λ q other. step.calls q other ∙ moved.calls q;
+      chains = λ q other. step.chains q other ∙ moved.chains q other;
+      locks = λ q d other. step.locks q d other ∙ moved.elsewhere.others q d other;
+      placed = step.placed;
+      inside = step.inside;
+      images = step.images ∙ moved.images;
+      clock = step.clock ∙ moved.clock;
+      order = step.order ∙ moved.order;
+    }
+
+-- a move to a config, and then this
+pub moved_done : {C M W X : Type 0} {F : X → Type 0} (view : Seeing X F) (stage : W → Stage) (caller : W → ℕ) (f : Config) (g : PlacedRun → PlacedRun) (x y z : Running C M W X F) (p : ℕ) (kept kept_new : List Note) (d e : DiskSeen) →
+    Moved view x y p → placed_of view stage y ≡ come_to p f (placed_of view stage x) → StepDone view stage caller g y z p kept kept_new d e → StepDone view stage caller (λ r. g (with_config p f r)) x z p kept kept_new d e
+moved_done view stage caller f g x y z p kept kept_new d e moved come h =
+    let o = placed_of view stage x in
+    let same : (blocks : Blocks) (notes : List Note) (io : List Bool) → with_config p f (run_of o blocks notes io) ≡ run_of (placed_of view stage y) blocks (notes ++ []) io =
+    λ blocks notes io. ap (λ w. run_of w blocks notes io) (sym come) ∙ ap (λ ns. run_of (placed_of view stage y) blocks ns io) (sym (append-nil notes)) in
+    record {
+      did = did_then (with_config p f) g o (placed_of view stage y) (placed_of view stage z) kept kept kept_new d d e
+          (did_purely (with_config p f) o (placed_of view stage y) kept kept [] d same (λ notes k. k ∙ ap first_notes (sym (append-nil notes)))) h.did;
+      reaches = reaches_behind (with_config p f) g o (placed_of view stage y) (placed_of view stage z) [] moved.elsewhere.world same h.reaches;
+      stepped = stepped_moved view caller x y z p moved h.stepped;
+      own = h.own;
+    }
+
+-- another change that comes to the same from here
+pub done_as : {C M W X : Type 0} {F : X → Type 0} (view : Seeing X F) (stage : W → Stage) (caller : W → ℕ) (f g : PlacedRun → PlacedRun) (x y : Running C M W X F) (p : ℕ) (kept kept_new : List Note) (d e : DiskSeen) →
+    ((blocks : Blocks) (notes : List Note) (io : List Bool) → f (run_of (placed_of view stage x) blocks notes io) ≡ g (run_of (placed_of view stage x) blocks notes io)) → StepDone view stage caller g x y p kept kept_new d e → StepDone view stage caller f x y p kept kept_new d e
+done_as view stage caller f g x y p kept kept_new d e same h =
+    record {
+      did = did_as f g (placed_of view stage x) (placed_of view stage y) kept kept_new d e same h.did;
+      reaches = reaches_as f g (placed_of view stage x) (placed_of view stage y) same h.reaches;
+      stepped = h.stepped;
+      own = h.own;
+    }
+
+-- the call that stands in place is one in flight
+pub record CallThere {W : Type 0} (stage : W → Stage) (o : Option (InFlight W)) (c : PlacedCall) : Type 0 where
+  pub flight : InFlight W
+  pub is : o ≡ Some flight
+  pub stands : call_in_place stage flight ≡ c
+
+pub call_there : {W : Type 0} (stage : W → Stage) (o : Option (InFlight W)) (c : PlacedCall) → option_map (call_in_place stage) o ≡ Some c → CallThere stage o c
+call_there stage None c h = grind (arith, h)
+call_there stage (Some f) c h = record { flight = f; is = refl; stands = same_one (call_in_place stage f) c h }
+  where
+    same_one : (a b : PlacedCall) → Some a ≡ Some b → a ≡ b
+    same_one a b h = cc
+
+-- no call, or one
+pub no_call : {W : Type 0} (stage : W → Stage) (o : Option (InFlight W)) (c : PlacedCall) → o ≡ None → option_map (call_in_place stage) o ≡ Some c → ⊥
+no_call stage None c e h = grind (arith, h)
+no_call stage (Some f) c e h = grind (arith, e)
+
+-- ---- the drop of a level
+
+pub drop_noted : {C M W X : Type 0} {F : X → Type 0} (m : Meaning) (view : Seeing X F) (stage : W → Stage) (caller : W → ℕ) (x : Running C M W X F) (p d : ℕ) (c : PlacedCall) (note : Note) (kept mid : List Note) (e : DiskSeen) → 0 < d →
+    ((all : List Note) → kept ≡ first_notes all → mid ≡ first_notes (all ++ note ∷ [])) → StepsAlone view caller x p → StepDone view stage caller (λ r. after_drop m p c d (placed_noted note r)) x x p kept mid e e
+drop_noted m view stage caller x p zero c note kept mid e h adds alone = absurd (omega (arith, h))
+drop_noted m view stage caller x p (suc d) c note kept mid e h adds alone =
+    noted_done view stage caller (λ r. r) x x p note kept mid mid e e adds (nothing_done view stage caller x p mid e alone)
+
+pub drop_finished : {C M W X : Type 0} {F : X → Type 0} (m : Meaning) (view : Seeing X F) (stage : W → Stage) (caller : W → ℕ) (x y : Running C M W X F) (p d : ℕ) (c : PlacedCall) (note : Note) (kept mid kept_new : List Note) (e l : DiskSeen) → d ≤ 0 →
+    ((all : List Note) → kept ≡ first_notes all → mid ≡ first_notes (all ++ note ∷ [])) → StepDone view stage caller (finishes m p c None) x y p mid kept_new e l → StepDone view stage caller (λ r. after_drop m p c d (placed_noted note r)) x y p kept kept_new e l
+drop_finished m view stage caller x y p zero c note kept mid kept_new e l h adds done = noted_done view stage caller (finishes m p c None) x y p note kept mid kept_new e l adds done
+drop_finished m view stage caller x y p (suc d) c note kept mid kept_new e l h adds done = absurd (omega (arith, h))
+
+-- with level 0 the piece finishes by default
+pub answer_zero : (d : ℕ) → d ≤ 0 → answer_of_drop d ≡ Some None
+answer_zero zero h = refl
+answer_zero (suc d) h = absurd (omega (arith, h))

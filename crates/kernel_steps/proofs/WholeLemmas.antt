@@ -1,0 +1,181 @@
+-- A whole step of a call, and the drop of one of its levels.
+use Rattle.std.proofs.Common.{append-nil, ◌≡◌, ◌≢◌, ℕ, ◌<◌, Bool, true, false, cond, List, [], ◌∷◌, ◌++◌, map, length, refl, ap, sym, subst, ◌∙◌, arith, Option, Some, None}
+use Rattle.std.specs.Prelude.{option_map, is_some}
+use Rattle.kernel_model.specs.declared.Cause.{Cause}
+use Rattle.kernel_model.specs.declared.Held.{Held}
+use Rattle.kernel_model.specs.declared.Note.{Note}
+use Rattle.kernel_model.specs.declared.Object.{Object}
+use Rattle.kernel_model.specs.World.{World, Blocks}
+use Rattle.kernel_model.specs.Objects.{Objects, SameAt}
+use Rattle.kernel_model.specs.Meaning.{Meaning, Stage}
+use Rattle.kernel_model.specs.Kernel.{Call, Entry, Kernel, Run, new_entry, less_entry, has_level}
+use Rattle.kernel_model.specs.Settle.{step}
+use Rattle.kernel_model.specs.Events.{drop_call}
+use Rattle.kernel_model.specs.Levels.{Config, Outcome, drop_level}
+use Rattle.kernel_model.specs.Sound.{HasWholeBlocks}
+use Rattle.disk_log.specs.Seen.{DiskSeen}
+use Rattle.kernel_state.specs.Stores.{Seeing, objects_of}
+use Rattle.graft_calls.specs.Chains.{levels_in}
+use Rattle.placed_laws.specs.Agreeing.{SameShown}
+use Rattle.placed_laws.specs.Keeping.{StepsStand, DropsStand, HeldStays as HeldStaysInPlace}
+use Rattle.placed_laws.specs.Placed.{Placed, PlacedCall, PlacedLevel, PlacedRun, bare, has_some, placed_blocker, placed_config, placed_holds}
+use Rattle.placed_laws.specs.PlacedSteps.{is_placed_at_piece, placed_call_step, placed_drop, placed_drop_by, placed_outcome, placed_requeue, placed_step}
+use Rattle.placed_laws.specs.Soundness.{SoundInPlace}
+use Rattle.placed_laws.specs.Stands.{StandsFor, RunStandsFor, without_history}
+use Rattle.kernel_steps.specs.declared.running.InFlight.{InFlight}
+use Rattle.kernel_steps.specs.declared.running.Running.{Running}
+use Rattle.kernel_steps.specs.Did.{first_notes, Did, Reaches}
+use Rattle.kernel_steps.specs.Moves.{HeldStays}
+use Rattle.kernel_steps.specs.Steps.{StepDone}
+use Rattle.kernel_steps.specs.Views.{placed_of, chain_of, levels_at, call_at, run_of, IsRunning, Stood, Goes}
+use Rattle.kernel_steps.proofs.AgainLemmas.{runs_again}
+use Rattle.kernel_steps.proofs.DidLemmas.{did_as, did_purely, did_then, reaches_as, reaches_before}
+use Rattle.kernel_steps.proofs.ViewLemmas.{holds_in_place, as_many}
+use Rattle.kernel_steps.proofs.HinderLemmas.{some_levels}
+
+-- ---- what stands for a kernel goes on to
+
+-- an event under way from what stands for a kernel, over some whole blocks
+run_stands : (m : Meaning) (x : Placed) (s : Stood m x) (blocks : Blocks) (io : List Bool) → HasWholeBlocks x.world blocks →
+    RunStandsFor m (run_of x blocks [] io) (record { kernel = s.kernel; blocks = blocks; notes = []; io = io })
+run_stands m x s blocks io whole =
+    record { kernel = s.stands; blocks = refl; notes = refl; io = refl; whole = subst (λ v. HasWholeBlocks v blocks) s.stands.world whole }
+
+-- after a step
+stood_stepped : (m : Meaning) → StepsStand m → (x y : Placed) (p : ℕ) (c : PlacedCall) → Stood m x → x.call p ≡ Some c → placed_blocker m x p ≡ None → Reaches (placed_step m p) x y → Stood m y
+stood_stepped m law x y p c s is free reach =
+    let r : Run = record { kernel = s.kernel; blocks = reach.blocks; notes = []; io = reach.io } in
+    let after = law (run_of x reach.blocks [] reach.io) r p c (run_stands m x s reach.blocks reach.io reach.whole) is free in
+    record { kernel = (step m p r).kernel; stands = subst (λ z. StandsFor m z (step m p r).kernel) (reach.goes []) after.kernel }
+
+-- after the drop of a level
+stood_dropped : (m : Meaning) → DropsStand m → (x y : Placed) (p d : ℕ) (cause : Cause) → Stood m x → d < length (x.levels p) → Reaches (placed_drop m p d cause) x y → Stood m y
+stood_dropped m law x y p d cause s low reach =
+    let r : Run = record { kernel = s.kernel; blocks = reach.blocks; notes = []; io = reach.io } in
+    let after = law (run_of x reach.blocks [] reach.io) r p d cause (run_stands m x s reach.blocks reach.io reach.whole) low in
+    let k = drop_call m p (r.kernel.call p) (Some d) cause r in
+    record { kernel = k.kernel; stands = subst (λ z. StandsFor m z k.kernel) (reach.goes []) after.kernel }
+
+-- ---- what others hold
+
+held_stepped : {C M W X : Type 0} {F : X → Type 0} (m : Meaning) → HeldStaysInPlace m → (view : Seeing X F) (stage : W → Stage) (caller : W → ℕ) (x y : Running C M W X F) (es : List Entry) (p q : ℕ) (c : PlacedCall) → IsRunning view caller x →
+    Stood m (placed_of view stage x) → call_at stage x p ≡ Some c → placed_blocker m (placed_of view stage x) p ≡ None → q ≢ p →
+    Reaches (placed_step m p) (placed_of view stage x) (record (placed_of view stage y) { order = es }) → HeldStays view x y q
+held_stepped m law view stage caller x y es p q c r s is free other reach d o own =
+    let z = placed_of view stage x in
+    subst (λ (w : Placed). SameAt o w.objects z.objects) (reach.goes [])
+    (law.steps (run_of z reach.blocks [] reach.io) (record { kernel = s.kernel; blocks = reach.blocks; notes = []; io = reach.io }) p q d c o (run_stands m z s reach.blocks reach.io reach.whole) is free other
+    (ap (λ t. t q d o) (holds_in_place view stage caller x r) ∙ own))
+
+held_dropped : {C M W X : Type 0} {F : X → Type 0} (m : Meaning) → HeldStaysInPlace m → (view : Seeing X F) (stage : W → Stage) (caller : W → ℕ) (x y : Running C M W X F) (es : List Entry) (p q n : ℕ) (cause : Cause) → IsRunning view caller x →
+    Stood m (placed_of view stage x) → n < length (levels_at view x p) → q ≢ p →
+    Reaches (placed_drop m p n cause) (placed_of view stage x) (record (placed_of view stage y) { order = es }) → HeldStays view x y q
+held_dropped m law view stage caller x y es p q n cause r s low other reach d o own =
+    let z = placed_of view stage x in
+    subst (λ (w : Placed). SameAt o w.objects z.objects) (reach.goes [])
+    (law.drops (run_of z reach.blocks [] reach.io) (record { kernel = s.kernel; blocks = reach.blocks; notes = []; io = reach.io }) p q d n cause o (run_stands m z s reach.blocks reach.io reach.whole) low other
+    (ap (λ t. t q d o) (holds_in_place view stage caller x r) ∙ own))
+
+-- ---- the order
+
+-- the order once p has taken its place in it
+abbrev pub requeued_order : ℕ → Placed → List Entry
+requeued_order p y = less_entry p y.order ++ cond (is_placed_at_piece (y.call p) (y.levels p)) (new_entry p ∷ []) []
+
+requeue_same : (p : ℕ) (r : PlacedRun) (y : Placed) → r.placed ≡ y → (placed_requeue p r).placed ≡ record y { order = requeued_order p y }
+requeue_same p r y h = ap (λ (x : Placed). record x { order = requeued_order p x }) h
+
+-- ---- a whole step
+
+-- the change of a step but for the order
+abbrev pub call_step : Meaning → ℕ → Option PlacedCall → PlacedRun → PlacedRun
+call_step m p call r = placed_call_step m p call r
+
+step_reaches : (m : Meaning) (x y : Placed) (p : ℕ) → Reaches (placed_call_step m p (x.call p)) x y → Reaches (placed_step m p) x (record y { order = requeued_order p y })
+step_reaches m x y p h =
+    reaches_as (placed_step m p) (λ r. placed_requeue p (placed_call_step m p (x.call p) r)) x (record y { order = requeued_order p y }) (λ blocks notes io. refl)
+    (reaches_before (placed_call_step m p (x.call p)) (placed_requeue p) x y (record y { order = requeued_order p y }) (λ r is. requeue_same p r y is) h)
+
+pub stood_after_step : {C M W X : Type 0} {F : X → Type 0} (m : Meaning) → StepsStand m → (view : Seeing X F) (stage : W → Stage) (caller : W → ℕ) (x y : Running C M W X F) (p : ℕ) (c : PlacedCall) (kept kept_new : List Note) (d e : DiskSeen) →
+    Stood m (placed_of view stage x) → call_at stage x p ≡ Some c → placed_blocker m (placed_of view stage x) p ≡ None →
+    StepDone view stage caller (placed_call_step m p (call_at stage x p)) x y p kept kept_new d e → Stood m (record (placed_of view stage y) { order = requeued_order p (placed_of view stage y) })
+stood_after_step m law view stage caller x y p c kept kept_new d e s is free h =
+    let o = placed_of view stage x in
+    let z = placed_of view stage y in
+    stood_stepped m law o (record z { order = requeued_order p z }) p c s is free (step_reaches m o z p h.reaches)
+
+pub running_after_step : {C M W X : Type 0} {F : X → Type 0} (m : Meaning) → SoundInPlace m → StepsStand m → HeldStaysInPlace m → (view : Seeing X F) (stage : W → Stage) (caller : W → ℕ) (x y : Running C M W X F) (p : ℕ) (c : PlacedCall) (kept kept_new : List Note) (d e : DiskSeen) →
+    IsRunning view caller x → p < 16 → Stood m (placed_of view stage x) → call_at stage x p ≡ Some c → placed_blocker m (placed_of view stage x) p ≡ None →
+    StepDone view stage caller (placed_call_step m p (call_at stage x p)) x y p kept kept_new d e → IsRunning view caller y
+running_after_step m sound law held view stage caller x y p c kept kept_new d e r small s is free h =
+    let z = placed_of view stage y in
+    runs_again m sound view stage caller x y (requeued_order p z) p h.own.owner r small s (stood_after_step m law view stage caller x y p c kept kept_new d e s is free h) h.stepped h.own.own
+    (λ q other. held_stepped m held view stage caller x y (requeued_order p z) p q c r s is free other (step_reaches m (placed_of view stage x) z p h.reaches))
+
+-- once the call took its place
+pub stood_requeued : (m : Meaning) (p : ℕ) (y z : Placed) → Goes (placed_requeue p) y z → Stood m (record y { order = requeued_order p y }) → Stood m z
+stood_requeued m p y z goes s = subst (Stood m) (ap (λ (r : PlacedRun). r.placed) (goes [] (λ b. []) [])) s
+
+-- a change, and then its place in the order
+pub did_requeued : (f : PlacedRun → PlacedRun) (x y z : Placed) (p : ℕ) (kept kept_new : List Note) (d e : DiskSeen) → Did f x y kept kept_new d e → Goes (placed_requeue p) y z →
+    Did (λ r. placed_requeue p (f r)) x z kept kept_new d e
+did_requeued f x y z p kept kept_new d e h goes =
+    did_then f (placed_requeue p) x y z kept kept_new kept_new d e e h
+    (did_purely (placed_requeue p) y z kept_new kept_new [] e (λ blocks notes io. goes notes blocks io ∙ ap (λ ns. run_of z blocks ns io) (sym (append-nil notes)))
+    (λ notes k. k ∙ ap first_notes (sym (append-nil notes))))
+
+pub did_step : (m : Meaning) (x z : Placed) (p : ℕ) (kept kept_new : List Note) (d e : DiskSeen) → Did (λ r. placed_requeue p (placed_call_step m p (x.call p) r)) x z kept kept_new d e → Did (placed_step m p) x z kept kept_new d e
+did_step m x z p kept kept_new d e h = did_as (placed_step m p) (λ r. placed_requeue p (placed_call_step m p (x.call p) r)) x z kept kept_new d e (λ blocks notes io. refl) h
+
+-- ---- the drop of a level
+
+-- a call with levels has a drop
+drop_is : (m : Meaning) (p n : ℕ) (c : PlacedCall) (cause : Cause) (ls : List PlacedLevel) (r : PlacedRun) → has_some ls ≡ true →
+    placed_drop_by m p (Some c) ls n cause r ≡ placed_requeue p (placed_outcome m p c (drop_level r.placed.world r.placed.objects (placed_config r.placed p).levels n cause) r)
+drop_is m p n c cause [] r some = grind (arith, some)
+drop_is m p n c cause (l ∷ ls) r some = refl
+
+-- the change of a drop but for the order
+abbrev pub drop_change : Meaning → ℕ → ℕ → PlacedCall → Cause → PlacedRun → PlacedRun
+drop_change m p n c cause r = placed_outcome m p c (drop_level r.placed.world r.placed.objects (placed_config r.placed p).levels n cause) r
+
+drop_as : (m : Meaning) (x : Placed) (p n : ℕ) (c : PlacedCall) (cause : Cause) → x.call p ≡ Some c → has_some (x.levels p) ≡ true → (blocks : Blocks) (notes : List Note) (io : List Bool) →
+    placed_drop m p n cause (run_of x blocks notes io) ≡ placed_requeue p (drop_change m p n c cause (run_of x blocks notes io))
+drop_as m x p n c cause is some blocks notes io =
+    ap (λ call. placed_drop_by m p call (x.levels p) n cause (run_of x blocks notes io)) is ∙ drop_is m p n c cause (x.levels p) (run_of x blocks notes io) some
+
+drop_reaches : (m : Meaning) (x y : Placed) (p n : ℕ) (c : PlacedCall) (cause : Cause) → x.call p ≡ Some c → has_some (x.levels p) ≡ true → Reaches (drop_change m p n c cause) x y →
+    Reaches (placed_drop m p n cause) x (record y { order = requeued_order p y })
+drop_reaches m x y p n c cause is some h =
+    reaches_as (placed_drop m p n cause) (λ r. placed_requeue p (drop_change m p n c cause r)) x (record y { order = requeued_order p y }) (drop_as m x p n c cause is some)
+    (reaches_before (drop_change m p n c cause) (placed_requeue p) x y (record y { order = requeued_order p y }) (λ r is. requeue_same p r y is) h)
+
+pub stood_after_drop : {C M W X : Type 0} {F : X → Type 0} (m : Meaning) → DropsStand m → (view : Seeing X F) (stage : W → Stage) (caller : W → ℕ) (x y : Running C M W X F) (p n : ℕ) (c : PlacedCall) (cause : Cause) (kept kept_new : List Note) (d e : DiskSeen) →
+    Stood m (placed_of view stage x) → call_at stage x p ≡ Some c → n < length (levels_at view x p) → has_some (levels_at view x p) ≡ true →
+    StepDone view stage caller (drop_change m p n c cause) x y p kept kept_new d e → Stood m (record (placed_of view stage y) { order = requeued_order p (placed_of view stage y) })
+stood_after_drop m law view stage caller x y p n c cause kept kept_new d e s is low some h =
+    let o = placed_of view stage x in
+    let z = placed_of view stage y in
+    stood_dropped m law o (record z { order = requeued_order p z }) p n cause s low (drop_reaches m o z p n c cause is some h.reaches)
+
+pub running_after_drop : {C M W X : Type 0} {F : X → Type 0} (m : Meaning) → SoundInPlace m → DropsStand m → HeldStaysInPlace m → (view : Seeing X F) (stage : W → Stage) (caller : W → ℕ) (x y : Running C M W X F) (p n : ℕ) (c : PlacedCall) (cause : Cause) (kept kept_new : List Note) (d e : DiskSeen) →
+    IsRunning view caller x → p < 16 → Stood m (placed_of view stage x) → call_at stage x p ≡ Some c → n < length (levels_at view x p) → has_some (levels_at view x p) ≡ true →
+    StepDone view stage caller (drop_change m p n c cause) x y p kept kept_new d e → IsRunning view caller y
+running_after_drop m sound law held view stage caller x y p n c cause kept kept_new d e r small s is low some h =
+    let z = placed_of view stage y in
+    runs_again m sound view stage caller x y (requeued_order p z) p h.own.owner r small s (stood_after_drop m law view stage caller x y p n c cause kept kept_new d e s is low some h) h.stepped h.own.own
+    (λ q other. held_dropped m held view stage caller x y (requeued_order p z) p q n cause r s low other (drop_reaches m (placed_of view stage x) z p n c cause is some h.reaches))
+
+pub did_drop : (m : Meaning) (x z : Placed) (p n : ℕ) (c : PlacedCall) (cause : Cause) (kept kept_new : List Note) (d e : DiskSeen) → x.call p ≡ Some c → has_some (x.levels p) ≡ true →
+    Did (λ r. placed_requeue p (drop_change m p n c cause r)) x z kept kept_new d e → Did (placed_drop m p n cause) x z kept kept_new d e
+did_drop m x z p n c cause kept kept_new d e is some h =
+    did_as (placed_drop m p n cause) (λ r. placed_requeue p (drop_change m p n c cause r)) x z kept kept_new d e (drop_as m x p n c cause is some) h
+
+-- a call in a graft is there
+pub has_call : (m : Meaning) → SameShown m → (x : Placed) (p : ℕ) → Stood m x → has_some (x.levels p) ≡ true → is_some (x.call p) ≡ true
+has_call m shown x p s some =
+    by_call (s.kernel.call p) (shown.level x s.kernel p s.stands ∙ some) (s.stands.calls p)
+  where
+    by_call : (c : Option Call) → has_level c ≡ true → x.call p ≡ without_history c → is_some (x.call p) ≡ true
+    by_call None h is = grind (arith, h)
+    by_call (Some c) h is = ap is_some is
