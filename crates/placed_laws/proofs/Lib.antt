@@ -26,6 +26,7 @@ pub mod StandLemmas
 pub mod HeldLemmas
 pub mod RowLemmas
 pub mod OtherLemmas
+pub mod RestLemmas
 pub mod SettleLemmas
 pub mod EventLemmas
 pub mod SoundLemmas

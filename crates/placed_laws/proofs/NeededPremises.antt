@@ -5,7 +5,7 @@ use Rattle.kernel_model.specs.declared.Cause.{Cause}
 use Rattle.kernel_model.specs.declared.Held.{Held}
 use Rattle.kernel_model.specs.declared.Inverse.{Inverse}
 use Rattle.kernel_model.specs.declared.Note.TheVariants.{Ended}
-use Rattle.kernel_model.specs.declared.Object.TheVariants.{Cell}
+use Rattle.kernel_model.specs.declared.Object.TheVariants.{Cell, Lock}
 use Rattle.kernel_model.specs.declared.Op.TheVariants.{Call, Ret}
 use Rattle.kernel_model.specs.declared.QueueRow.{QueueRow}
 use Rattle.kernel_model.specs.declared.Reply.{Reply}
@@ -17,7 +17,8 @@ use Rattle.kernel_model.specs.UndoLog.{undo_log}
 use Rattle.kernel_model.specs.Levels.{Config}
 use Rattle.kernel_model.specs.GraftStep.{micro}
 use Rattle.kernel_model.specs.History.{Stepped, begin_at}
-use Rattle.kernel_model.specs.Kernel.{Run, has_level}
+use Rattle.kernel_model.specs.Kernel.{Blocker, Kernel, Run, has_level}
+use Rattle.kernel_model.specs.Blocking.{blocker}
 use Rattle.kernel_model.specs.Settle.{step}
 use Rattle.kernel_model.specs.Events.{drop_call}
 use Rattle.kernel_model.specs.InPlace.{in_place}
@@ -122,3 +123,28 @@ absent_drop_differs :
     × (has_some ((placed_drop plain 0 3 Cause.DivideByZero (in_one_store reads_beside)).placed.levels 0) ≡ false)
 unfolding same_object
 absent_drop_differs = (refl, refl)
+
+-- a graft that takes lock 1
+abbrev locking : ImageTable
+locking slot = cond (slot == 0) (Some (record { code = ins Call 0 0 0 12 ∷ ins Ret 0 0 0 0 ∷ []; body = [] })) None
+
+-- process 0's user lock 1
+abbrev user_lock : Blocker
+user_lock = record { object = Lock 1; holder = 0; call = None }
+
+-- process 0 yields, and process 1's graft that it asks waits for the lock, which process 0 has as a user lock
+abbrev waits_in_graft : Kernel
+waits_in_graft =
+    record {
+      world = small_world;
+      images = locking;
+      objects = record one_graft { things = record (one_graft.things) { lock = λ u. cond (u == 1) (Some 0) None } };
+      clock = 0;
+      call = λ p. cond (p == 0) (Some (record { number = 1; stage = stage Yield 1; marks = Some [] })) None;
+      order = record { process = 0; blocker = Some user_lock; count = 0 } ∷ [];
+    }
+
+-- it rests; with a table that lacks the image, not with more images, the graft would wait for nothing
+lost_image_wakes : (blocker plain waits_in_graft 0 ≡ Some user_lock) × (blocker plain (record waits_in_graft { images = λ slot. None }) 0 ≡ None)
+unfolding same_object
+lost_image_wakes = (refl, refl)

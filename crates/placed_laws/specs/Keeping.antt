@@ -89,6 +89,11 @@ pub record OthersStand (m : Meaning) : Type 0 where
   pub images : (x : PlacedRun) (r : Run) (more : ImageTable) → RunStandsFor m x r → Extends x.placed.images more →
       RunStandsFor m (with_placed_images more x) (with_images more r)
 
+-- a kernel that rests still rests with more images
+abbrev pub ImagesKeepRest : Meaning → Type 0
+ImagesKeepRest m =
+    (k : Kernel) (more : ImageTable) → IsSoundKernel m k → Extends k.images more → IsAtRest m k → IsAtRest m (record k { images = more })
+
 -- ---- events
 
 -- An event from a kernel at rest: the same notes, blocks and disk calls, and a kernel that rests again.

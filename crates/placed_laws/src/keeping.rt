@@ -1,6 +1,6 @@
 //! Laws that a kernel in place goes on to stand for the abstract kernel. A call of one brings its statement into a proof.
 
-ghost use Rattle.placed_laws.specs.Keeping.{QuietKernelsStand, StepsStand, DropsStand, OthersStand, EventsStand, HeldStays};
+ghost use Rattle.placed_laws.specs.Keeping.{QuietKernelsStand, StepsStand, DropsStand, OthersStand, EventsStand, HeldStays, ImagesKeepRest};
 
 use kernel_model::Rules;
 
@@ -33,4 +33,9 @@ pub fn events_stand<R: Rules>()
 /// What another call holds exclusively stays in the store through a step or a drop of one call.
 pub fn held_stays<R: Rules>()
     ensures { HeldStays R.meaning }
+{}
+
+/// A kernel that rests goes on to rest where more images are loaded: the same calls are blocked, by the same blockers.
+pub fn images_keep_rest<R: Rules>()
+    ensures { ImagesKeepRest R.meaning }
 {}

@@ -14,6 +14,7 @@ fn the_system_calls_have_the_laws(_rt: HostRuntime) {
     keeping::others_stand::<PlainRules>();
     keeping::events_stand::<PlainRules>();
     keeping::held_stays::<PlainRules>();
+    keeping::images_keep_rest::<PlainRules>();
     soundness::sound_in_place::<PlainRules>();
     soundness::ready_in_place::<PlainRules>();
     owners::owners_stay();
