@@ -1,16 +1,19 @@
 -- What an instruction, and the drop of a level, can say.
-use Rattle.std.proofs.Common.{◌≡◌, ℕ, zero, suc, ◌==◌, Bool, true, false, cond, List, [], ◌∷◌, length, refl, ap, sym, subst, ◌∙◌, arith, Option, Some, None}
+use Rattle.std.proofs.Common.{◌≡◌, ℕ, zero, suc, ◌+◌, ◌==◌, Bool, true, false, cond, List, [], ◌∷◌, length, refl, ap, sym, subst, ◌∙◌, arith, Option, Some, None}
 use Rattle.std.proofs.lemmas.Bool.Decides.{nat_tests}
 use Rattle.kernel_model.specs.declared.Cause.{Cause}
+use Rattle.kernel_model.specs.declared.Cause.TheVariants.{DivideByZero, Trap, SpentSteps, SpentRecords, SpentLocks, RefusedAnswer}
 use Rattle.kernel_model.specs.declared.Inverse.{Inverse}
 use Rattle.kernel_model.specs.declared.Kind.TheVariants.{Steps, Records, Locks}
 use Rattle.kernel_model.specs.declared.Micro.{Micro}
 use Rattle.kernel_model.specs.World.{World, ImageTable}
 use Rattle.kernel_model.specs.Objects.{Objects, Things, GraftValue, with_accounts}
 use Rattle.kernel_model.specs.Access.{Access, Gives, Changes, Refuses}
-use Rattle.kernel_model.specs.Machine.{Machine, Done, Called, Returned, Trapped, Outside, PastEnd}
-use Rattle.kernel_model.specs.Levels.{Level, Config, Outcome, answer_innermost, drop_innermost, drop_level}
+use Rattle.kernel_model.specs.Charges.{charge}
+use Rattle.kernel_model.specs.Machine.{seg_step, Machine, Done, Called, Returned, Trapped, Outside, PastEnd}
+use Rattle.kernel_model.specs.Levels.{code_of, Level, Config, Outcome, answer_innermost, drop_innermost, drop_level}
 use Rattle.kernel_model.specs.GraftStep.{after_accessor, after_ask, after_call, after_change, after_machine, after_result, after_return, ask_answered, charged_step, completed, granted_call, lock_paid, micro_on, micro}
+use Rattle.kernel_steps.specs.Steps.{answer_of_drop, answer_said}
 use Rattle.kernel_steps.proofs.StepLemmas.{EndsAs}
 
 -- an outcome ends as it can
@@ -26,7 +29,7 @@ dropped : (v : World) (w : Objects) (l : Level) (ls : List Level) (cause : Cause
 dropped v w l ls cause = answered_many l.point _ _ ls
 
 paid : (v : World) (w : Objects) (l : Level) (ls : List Level) (m : Machine) (id result : ℕ) (b : Bool) → Ends (lock_paid v w l ls m id result b)
-paid v w l ls m id result true = dropped v w l ls _
+paid v w l ls m id result true = dropped v w l ls SpentLocks
 paid v w l ls m id result false = tt
 
 resulted : (v : World) (w : Objects) (l : Level) (ls : List Level) (m : Machine) (id result : ℕ) (b : Bool) → Ends (after_result v w l ls m id result b)
@@ -34,7 +37,7 @@ resulted v w l ls m id result true = paid v w l ls m id result _
 resulted v w l ls m id result false = tt
 
 changed : (v : World) (w : Objects) (l : Level) (ls : List Level) (m : Machine) (id result : ℕ) (i : Inverse) (things : Things) (b : Bool) → Ends (after_change v w l ls m id result i things b)
-changed v w l ls m id result i things true = dropped v w l ls _
+changed v w l ls m id result i things true = dropped v w l ls SpentRecords
 changed v w l ls m id result i things false = tt
 
 accessed : (v : World) (w : Objects) (l : Level) (ls : List Level) (m : Machine) (id : ℕ) (a : Access) → Ends (after_accessor v w l ls m id a)
@@ -64,20 +67,21 @@ complete w l (asker ∷ rest) = tt
 
 returned : (v : World) (w : Objects) (l : Level) (ls : List Level) (b : Bool) → Ends (after_return v w l ls b)
 returned v w l ls true = complete w l ls
-returned v w l ls false = dropped v w l ls _
+returned v w l ls false = dropped v w l ls (RefusedAnswer (l.machine.regs 0) (l.machine.regs 1))
 
 machine_did : (v : World) (images : ImageTable) (p : ℕ) (w : Objects) (l : Level) (ls : List Level) (d : Done) → Ends (after_machine v images p w l ls d)
 machine_did v images p w l ls (Done.Went m) = tt
 machine_did v images p w l ls (Called id m) = called v images w p l ls m id _
 machine_did v images p w l ls Returned = returned v w l ls _
-machine_did v images p w l ls Done.DividedByZero = dropped v w l ls _
-machine_did v images p w l ls (Trapped code) = dropped v w l ls _
-machine_did v images p w l ls Outside = dropped v w l ls _
-machine_did v images p w l ls PastEnd = dropped v w l ls _
+machine_did v images p w l ls Done.DividedByZero = dropped v w l ls DivideByZero
+machine_did v images p w l ls (Trapped code) = dropped v w l ls (Trap code)
+machine_did v images p w l ls Outside = dropped v w l ls DivideByZero
+machine_did v images p w l ls PastEnd = dropped v w l ls DivideByZero
 
 charged : (v : World) (images : ImageTable) (p : ℕ) (w : Objects) (l : Level) (ls : List Level) (b : Bool) → Ends (charged_step v images p w l ls b)
-charged v images p w l ls true = dropped v w l ls _
-charged v images p w l ls false = machine_did v images p _ _ ls _
+charged v images p w l ls true = dropped v w l ls SpentSteps
+charged v images p w l ls false =
+    machine_did v images p (with_accounts (charge Steps l.owner l.point w.accounts) w) (record l { count = l.count + 1 }) ls (seg_step (code_of images w.accounts l.owner l.point) l.machine)
 
 pub micro_ends : (v : World) (images : ImageTable) (p : ℕ) (w : Objects) (ls : List Level) → EndsAs (micro_on v images p w ls).said (micro_on v images p w ls).config.levels
 micro_ends v images p w [] = tt
@@ -88,3 +92,18 @@ drop_ends v w [] d cause = tt
 drop_ends v w (l ∷ ls) d cause =
     elim (length ls == d) as (λ b. Ends (elim b as (λ _. Outcome) [ true ↦ drop_innermost v w l ls cause | false ↦ drop_level v w ls d cause ]))
     [ true ↦ dropped v w l ls cause | false ↦ drop_ends v w ls d cause ]
+
+-- what some are equal by
+pub same_inner : (a b : Option (List ℕ)) → Some a ≡ Some b → a ≡ b
+same_inner a b e = cc
+
+-- a dropped level gives no answer
+pub drop_answer : (v : World) (w : Objects) (ls : List Level) (d : ℕ) (cause : Cause) (answer : Option (List ℕ)) → answer_said (drop_level v w ls d cause).said ≡ Some answer → None ≡ answer
+drop_answer v w [] d cause answer h = grind (arith, h)
+drop_answer v w (l ∷ ls) d cause answer h =
+    elim (length ls == d) as (λ b. answer_said (elim b as (λ _. Outcome) [ true ↦ drop_innermost v w l ls cause | false ↦ drop_level v w ls d cause ]).said ≡ Some answer → None ≡ answer)
+    [ true ↦ λ e. by_number (length ls) e | false ↦ λ e. drop_answer v w ls d cause answer e ] h
+  where
+    by_number : (n : ℕ) → answer_of_drop n ≡ Some answer → None ≡ answer
+    by_number zero e = same_inner None answer e
+    by_number (suc n) e = grind (arith, e)

@@ -16,3 +16,5 @@ pub mod StepLemmas
 pub mod EndLemmas
 pub mod WholeLemmas
 pub mod NoteLemmas
+pub mod PartLemmas
+pub mod AskLemmas

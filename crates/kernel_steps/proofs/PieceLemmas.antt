@@ -38,8 +38,8 @@ piece_done m v s u p c call answer kept mid kept_new told told_new plan plan_new
             objects = came.objects;
             call_is = call_is ∙ ap (placed_after c) came.next;
             kept_are = second (notes ++ gave_note c.number gave) (first notes k)
-            ∙ ap (λ g. first_notes (notes ++ gave_note c.number g ++ after_note c.number after)) came.bytes
-            ∙ ap (λ a. first_notes (notes ++ gave_note c.number q.gave ++ after_note c.number a)) came.next;
+                ∙ ap (λ g. first_notes (notes ++ gave_note c.number g ++ after_note c.number after)) came.bytes
+                ∙ ap (λ a. first_notes (notes ++ gave_note c.number q.gave ++ after_note c.number a)) came.next;
             blocks = came.blocks;
             all_made = came.calls_made;
           };

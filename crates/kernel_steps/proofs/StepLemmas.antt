@@ -165,6 +165,10 @@ EndsAs (Micro.Dropped d q pt cause) ls = length ls ≡ d
 twice : {A : Type 0} (p : ℕ) (a b : A) (f : ℕ → A) → at p a (at p b f) ≡ at p a f
 twice p a b f = fun_ext (λ q. elim (q == p) as (λ t. cond t a (cond t b (f q)) ≡ cond t a (f q)) [ true ↦ refl | false ↦ refl ])
 
+-- the place of p
+pub same_place : {A : Type 0} (p : ℕ) (a : A) (f : ℕ → A) → at p a f p ≡ a
+same_place p a f = elim (p == p) as (λ b. b ≡ true → cond b a (f p) ≡ a) [ true ↦ λ h. refl | false ↦ λ h. grind (arith, h) ] (grind (arith, nat_tests))
+
 -- the piece finishes on the config as it does behind it
 finish_behind : (m : Meaning) (p : ℕ) (c : PlacedCall) (f : Config) (answer : Option (List ℕ)) (r : PlacedRun) → placed_finish_on m p c f.now answer r ≡ finishes m p c answer (with_config p f r)
 finish_behind m p c f answer r =
@@ -337,3 +341,28 @@ drop_finished m view stage caller x y p (suc d) c note kept mid kept_new e l h a
 pub answer_zero : (d : ℕ) → d ≤ 0 → answer_of_drop d ≡ Some None
 answer_zero zero h = refl
 answer_zero (suc d) h = absurd (omega (arith, h))
+
+-- by what was said
+pub said_done : {C M W X : Type 0} {F : X → Type 0} (m : Meaning) (view : Seeing X F) (stage : W → Stage) (caller : W → ℕ) (x y : Running C M W X F) (p : ℕ) (c : PlacedCall) (s t : Micro) (kept kept_new : List Note) (d e : DiskSeen) → s ≡ t →
+    StepDone view stage caller (after_said m p c t) x y p kept kept_new d e → StepDone view stage caller (after_said m p c s) x y p kept kept_new d e
+said_done m view stage caller x y p c s t kept kept_new d e is h = subst (λ u. StepDone view stage caller (after_said m p c u) x y p kept kept_new d e) (sym is) h
+
+-- the number of a call that stands in place
+pub number_is : {W : Type 0} (stage : W → Stage) (o : Option (InFlight W)) (c : PlacedCall) (n : ℕ) → Some n ≡ option_map (λ (f : InFlight W). f.number) o → option_map (call_in_place stage) o ≡ Some c → n ≡ c.number
+number_is stage None c n h is = grind (arith, h)
+number_is stage (Some f) c n h is = same_one n f.number h ∙ ap number_or (is)
+  where
+    same_one : (a b : ℕ) → Some a ≡ Some b → a ≡ b
+    same_one a b e = cc
+
+    number_or : Option PlacedCall → ℕ
+    number_or None = 0
+    number_or (Some b) = b.number
+
+-- what two calls in place are equal by
+same_placed : (a b : PlacedCall) → Some a ≡ Some b → a ≡ b
+same_placed a b h = cc
+
+-- the call in place is that of the one in flight
+pub same_call : {W : Type 0} (stage : W → Stage) (f : InFlight W) (c : PlacedCall) → option_map (call_in_place stage) (Some f) ≡ Some c → call_in_place stage f ≡ c
+same_call stage f c h = same_placed (call_in_place stage f) c h

@@ -179,3 +179,17 @@ has_call m shown x p s some =
     by_call : (c : Option Call) → has_level c ≡ true → x.call p ≡ without_history c → is_some (x.call p) ≡ true
     by_call None h is = grind (arith, h)
     by_call (Some c) h is = ap is_some is
+
+-- a call that there is
+pub call_is : (o : Option PlacedCall) → is_some o ≡ true → (c : PlacedCall) × (o ≡ Some c)
+call_is None h = grind (arith, h)
+call_is (Some c) h = (c, refl)
+
+-- there is a level where one has a number
+pub some_by_more : (ls : List PlacedLevel) (n : ℕ) → n < length ls → has_some ls ≡ true
+some_by_more [] n h = absurd (omega (arith, h))
+some_by_more (l ∷ ls) n h = refl
+
+-- what a place in the order leaves
+pub requeue_keeps : (p : ℕ) (y z : Placed) → Goes (placed_requeue p) y z → z ≡ record y { order = requeued_order p y }
+requeue_keeps p y z goes = sym (ap (λ (r : PlacedRun). r.placed) (goes [] (λ b. []) []))

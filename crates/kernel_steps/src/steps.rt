@@ -111,13 +111,7 @@ impl<C: Calls> Running<C> {
     }
 
     /// One instruction of process p's call, which is in a graft, and what follows from it.
-    fn graft_step<D: Disk>(
-        &mut self,
-        p: u8,
-        disk: &mut D,
-        log: &mut DiskLog,
-        notes: &mut Notes,
-    )
+    fn graft_step<D: Disk>(&mut self, p: u8, disk: &mut D, log: &mut DiskLog, notes: &mut Notes)
         requires process { p < 16 }
         requires level { 0 < length (chain_of self.old p).levels }
         requires running { IsRunning (λ b. seen (b.vtable, b.value)) (λ w. C.caller w) self.old }
@@ -136,13 +130,7 @@ impl<C: Calls> Running<C> {
 
     /// The next piece of process p's call, which is in no graft: where it asks a point at which a graft stands, the call enters that
     /// graft; else the piece is done by default.
-    fn piece_step<D: Disk>(
-        &mut self,
-        p: u8,
-        disk: &mut D,
-        log: &mut DiskLog,
-        notes: &mut Notes,
-    )
+    fn piece_step<D: Disk>(&mut self, p: u8, disk: &mut D, log: &mut DiskLog, notes: &mut Notes)
         requires process { p < 16 }
         requires none { (chain_of self.old p).levels ≡ [] }
         requires running { IsRunning (λ b. seen (b.vtable, b.value)) (λ w. C.caller w) self.old }
@@ -160,24 +148,19 @@ impl<C: Calls> Running<C> {
         let Some(call) = &flight.call else {
             return;
         };
-        match C::asks(&call.work, &self.store) {
-            Some(point) if self.store.has_graft(point.installer, point.point) => {
-                let mut needs = Needs::new();
-                C::need(&call.work, &self.store, &mut needs);
-                self.enter(p, needs.as_slice(), &point);
-            }
-            _ => self.finish(p, None, disk, log, notes),
+        let Some(point) = C::asks(&call.work, &self.store) else {
+            return self.finish(p, None, disk, log, notes);
+        };
+        if !self.store.has_graft(point.installer, point.point) {
+            return self.finish(p, None, disk, log, notes);
         }
+        let mut needs = Needs::new();
+        C::need(&call.work, &self.store, &mut needs);
+        self.enter(p, needs.as_slice(), &point);
     }
 
     /// A step of process p's call, but for its place in the order.
-    fn step_call<D: Disk>(
-        &mut self,
-        p: u8,
-        disk: &mut D,
-        log: &mut DiskLog,
-        notes: &mut Notes,
-    )
+    fn step_call<D: Disk>(&mut self, p: u8, disk: &mut D, log: &mut DiskLog, notes: &mut Notes)
         requires process { p < 16 }
         requires call { is_some (call_at (λ w. C.stage w) self.old p) ≡ true }
         requires running { IsRunning (λ b. seen (b.vtable, b.value)) (λ w. C.caller w) self.old }
@@ -196,13 +179,7 @@ impl<C: Calls> Running<C> {
     /// One step of process p's call, which nothing blocks: its next piece, or an instruction of its innermost level, with all that
     /// this ends. The call stands in the order, at its end, exactly where its next step is a piece. The log is for the calls of the
     /// disk of one piece.
-    pub fn step<D: Disk>(
-        &mut self,
-        p: u8,
-        disk: &mut D,
-        log: &mut DiskLog,
-        notes: &mut Notes,
-    )
+    pub fn step<D: Disk>(&mut self, p: u8, disk: &mut D, log: &mut DiskLog, notes: &mut Notes)
         requires process { p < 16 }
         requires call { is_some (call_at (λ w. C.stage w) self.old p) ≡ true }
         requires free { placed_blocker C.Meaning.meaning (placed_of (λ b. seen (b.vtable, b.value)) (λ w. C.stage w) self.old) p ≡ None }

@@ -14,9 +14,11 @@ use Rattle.kernel_steps.proofs.running.Running.end.Goals as goal
 
 pub returns-clause-value : goal.returns-clause-value
 returns-clause-value g c =
-    let x = c.args.self.now in
-    (λ notes blocks io. call_ended (λ b. (goal.Policy-dyn g (b.vtable, b.value)).seen b.value) (λ w. g.C.Calls.stage w) x c.args.p c.args.note c.set_call.new.flights.items c.leave.new.self notes (notes ++ c.args.note ∷ [])
-    (within_flights x.calls.items c.args.p c.requires.running.sixteen c.requires.process) c.set_call.ensures c.leave.ensures refl blocks io, c.push.ensures)
+    let x = c.args.self.now in (
+      λ notes blocks io. call_ended (λ b. (goal.Policy-dyn g (b.vtable, b.value)).seen b.value) (λ w. g.C.Calls.stage w) x c.args.p c.args.note c.set_call.new.flights.items c.leave.new.self notes (notes ++ c.args.note ∷ [])
+          (within_flights x.calls.items c.args.p c.requires.running.sixteen c.requires.process) c.set_call.ensures c.leave.ensures refl blocks io,
+      c.push.ensures,
+    )
 
 pub returns-clause-running : goal.returns-clause-running
 returns-clause-running g c =

@@ -1,39 +1,56 @@
-use Rattle.std.proofs.Common.{rules, ◌≡◌, ◌<◌, ℕ, true, [], Some, None, is_some, length, List, Option, ◌+◌, ◌-◌, ◌*◌, ◌≤◌, ◌/◌, ◌%◌, Bool, false, nat_eq, nat_lt, ◌∷◌, ◌++◌, slice_index_or, slice_set, bit_and, bit_or, Fits, w8, w32, w64, Bor, MutBor}
-use Rattle.disk_log.specs.Seen.{disk_seen}
-use Rattle.kernel_model.specs.GraftStep.{micro}
-use Rattle.kernel_model.specs.Laws.{IsReady}
-use Rattle.kernel_model.specs.Levels.{drop_level as level_dropped}
-use Rattle.kernel_state.specs.Stores.{world_of_store, objects_of}
-use Rattle.graft_loader.specs.Slots.{table_of}
-use Rattle.placed_laws.specs.Placed.{PlacedCall, placed_blocker, placed_config}
-use Rattle.placed_laws.specs.PlacedSteps.{placed_call_step, placed_drop, placed_noted, placed_outcome, placed_step}
+use Rattle.std.proofs.Common.{◌≡◌, ℕ, ◌∙◌, ap, sym, subst, List, Some, None, inl, inr}
+use Rattle.std.specs.Prelude.{option_map}
+use Rattle.kernel_model.specs.declared.Micro.{Micro}
 use Rattle.kernel_model.specs.declared.Note.TheVariants.{Dropped}
-use Rattle.kernel_steps.specs.declared.running.InFlight.{InFlight as Flying}
-use Rattle.kernel_steps.specs.Did.{Did}
-use Rattle.kernel_steps.specs.Steps.{answer_said, answer_of_drop, after_drop, after_said, finishes, StepDone, StepsAlone}
-use Rattle.kernel_steps.specs.Views.{placed_of, flight_of, chain_of, call_at, IsRunning, Stood}
+use Rattle.placed_laws.specs.PlacedSteps.{placed_noted}
+use Rattle.disk_log.specs.Seen.{disk_seen}
+use Rattle.kernel_steps.specs.declared.running.InFlight.{InFlight}
+use Rattle.kernel_steps.specs.Steps.{after_drop, answer_said, StepDone}
+use Rattle.kernel_steps.specs.Views.{flight_of}
+use Rattle.kernel_steps.proofs.StepLemmas.{nothing_done, number_is, said_done}
 use Rattle.kernel_steps.proofs.running.Running.follow.Goals as goal
 
--- src/steps.rt:103:41
 pub finish-requires-clause-none : goal.finish-requires-clause-none
-finish-requires-clause-none g c = ?
+finish-requires-clause-none g c = c.requires.none (Some c.in-Completed.answer) (ap answer_said c.in-Completed.is)
 
--- src/steps.rt:103:41
 pub finish-requires-clause-ready : goal.finish-requires-clause-ready
-finish-requires-clause-ready g c = ?
+finish-requires-clause-ready g c = λ f is. c.requires.ready (Some c.in-Completed.answer) f (ap answer_said c.in-Completed.is) is
 
--- src/steps.rt:108:17
+pub follow_drop-requires-clause-none : goal.follow_drop-requires-clause-none
+follow_drop-requires-clause-none g c = λ answer h. c.requires.none answer (ap answer_said c.in-Dropped.is ∙ h)
+
 pub follow_drop-requires-clause-ready : goal.follow_drop-requires-clause-ready
-follow_drop-requires-clause-ready g c = ?
+follow_drop-requires-clause-ready g c = λ answer f h is. c.requires.ready answer f (ap answer_said c.in-Dropped.is ∙ h) is
 
--- src/steps.rt:82:5
 pub returns-in-Went-clause-done : goal.returns-in-Went-clause-done
-returns-in-Went-clause-done g c = ?
+returns-in-Went-clause-done g c =
+    λ pc is.
+    let a = c.args in
+    let d = disk_seen (g.D.Disk.blocks a.disk.now) (g.D.Disk.plan a.disk.now) (g.D.Disk.faults a.disk.now) in
+    let same = nothing_done (λ b. (goal.Policy-dyn g (b.vtable, b.value)).seen b.value) (λ w. g.C.Calls.stage w) (λ w. g.C.Calls.caller w) a.self.now a.p a.notes.now d c.requires.alone in
+    elim c.in-Went.is [
+      | inl went ↦ said_done g.C.Meaning.Rules.meaning (λ b. (goal.Policy-dyn g (b.vtable, b.value)).seen b.value) (λ w. g.C.Calls.stage w) (λ w. g.C.Calls.caller w) a.self.now a.self.now a.p pc a.said Micro.Went a.notes.now a.notes.now d d went same
+      | inr b ↦ said_done g.C.Meaning.Rules.meaning (λ b. (goal.Policy-dyn g (b.vtable, b.value)).seen b.value) (λ w. g.C.Calls.stage w) (λ w. g.C.Calls.caller w) a.self.now a.self.now a.p pc a.said (Micro.Blocked b.0 b.1 b.2) a.notes.now a.notes.now d d b.3 same
+    ]
 
--- src/steps.rt:82:5
 pub returns-in-Completed-clause-done : goal.returns-in-Completed-clause-done
-returns-in-Completed-clause-done g c = ?
+returns-in-Completed-clause-done g c =
+    λ pc is.
+    let a = c.args in
+    said_done g.C.Meaning.Rules.meaning (λ b. (goal.Policy-dyn g (b.vtable, b.value)).seen b.value) (λ w. g.C.Calls.stage w) (λ w. g.C.Calls.caller w) a.self.now c.finish.new.self a.p pc a.said (Micro.Completed c.in-Completed.answer) a.notes.now c.finish.new.notes
+    (disk_seen (g.D.Disk.blocks a.disk.now) (g.D.Disk.plan a.disk.now) (g.D.Disk.faults a.disk.now)) (disk_seen (g.D.Disk.blocks c.finish.new.disk) (g.D.Disk.plan c.finish.new.disk) (g.D.Disk.faults c.finish.new.disk))
+    c.in-Completed.is (c.finish.ensures.done pc is)
 
--- src/steps.rt:82:5
 pub returns-in-Some-clause-done : goal.returns-in-Some-clause-done
-returns-in-Some-clause-done g c = ?
+returns-in-Some-clause-done g c =
+    λ pc is.
+    let a = c.args in
+    let dr = c.in-Dropped in
+    let d = disk_seen (g.D.Disk.blocks a.disk.now) (g.D.Disk.plan a.disk.now) (g.D.Disk.faults a.disk.now) in
+    let e = disk_seen (g.D.Disk.blocks c.follow_drop.new.disk) (g.D.Disk.plan c.follow_drop.new.disk) (g.D.Disk.faults c.follow_drop.new.disk) in
+    let n : c.in-Some.number ≡ pc.number = number_is (λ w. g.C.Calls.stage w) (flight_of a.self.now.calls.items a.p).call pc c.in-Some.number
+    (sym c.in-Some.is ∙ c.number_of.ensures ∙ ap (λ fs. option_map (λ (f : InFlight g.row.C-Work.Denot). f.number) (flight_of fs a.p).call) c.deref.ensures.value) is in
+    said_done g.C.Meaning.Rules.meaning (λ b. (goal.Policy-dyn g (b.vtable, b.value)).seen b.value) (λ w. g.C.Calls.stage w) (λ w. g.C.Calls.caller w) a.self.now c.follow_drop.new.self a.p pc a.said (Micro.Dropped dr.d dr.q dr.pt dr.cause) a.notes.now c.follow_drop.new.notes d e
+    dr.is
+    (subst (λ k. StepDone (λ b. (goal.Policy-dyn g (b.vtable, b.value)).seen b.value) (λ w. g.C.Calls.stage w) (λ w. g.C.Calls.caller w) (λ r. after_drop g.C.Meaning.Rules.meaning a.p pc dr.d (placed_noted (Dropped k dr.q dr.pt dr.cause) r)) a.self.now c.follow_drop.new.self a.p a.notes.now c.follow_drop.new.notes d e) n
+    (c.follow_drop.ensures.done pc is))

@@ -1,0 +1,104 @@
+-- The piece of a call that is in no graft: it asks a point at which a graft stands, or it is done by default.
+use Rattle.std.proofs.Common.{◌≡◌, ◌≢◌, ℕ, ◌<◌, Bool, true, false, List, [], ◌∷◌, map, length, refl, ap, sym, subst, ◌∙◌, arith, Option, Some, None}
+use Rattle.std.specs.Prelude.{option_map, is_some}
+use Rattle.kernel_model.specs.declared.Need.{Need}
+use Rattle.kernel_model.specs.declared.Note.{Note}
+use Rattle.kernel_model.specs.declared.Point.{Point}
+use Rattle.kernel_model.specs.World.{World, ImageTable, Blocks}
+use Rattle.kernel_model.specs.Objects.{Objects, GraftValue}
+use Rattle.kernel_model.specs.Policies.{lives}
+use Rattle.kernel_model.specs.Meaning.{Meaning, Stage}
+use Rattle.kernel_model.specs.Laws.{Laws, IsReady, IsStanding}
+use Rattle.kernel_model.specs.Levels.{Config}
+use Rattle.kernel_model.specs.History.{begin_at}
+use Rattle.kernel_model.specs.Sound.{IsSoundStore}
+use Rattle.disk_log.specs.Seen.{DiskSeen}
+use Rattle.kernel_state.specs.Stores.{Seeing, world_of_store, objects_of}
+use Rattle.graft_loader.specs.Slots.{table_of}
+use Rattle.placed_laws.specs.Owners.{OwnersStay}
+use Rattle.placed_laws.specs.Placed.{Placed, PlacedCall, PlacedLevel, PlacedRun, bare}
+use Rattle.placed_laws.specs.PlacedSteps.{placed_call_step, placed_piece_at, placed_piece_step, placed_step_by, with_config}
+use Rattle.placed_laws.specs.Soundness.{ReadyInPlace}
+use Rattle.kernel_steps.specs.declared.running.InFlight.{InFlight}
+use Rattle.kernel_steps.specs.declared.running.Running.{Running}
+use Rattle.kernel_steps.specs.Moves.{come_to, Moved}
+use Rattle.kernel_steps.specs.Steps.{finishes, StepDone}
+use Rattle.kernel_steps.specs.Views.{placed_of, flight_of, chain_of, levels_at, call_at, call_in_place, run_of, IsRunning, Stood}
+use Rattle.kernel_steps.proofs.PartLemmas.{levels_come, none_at}
+use Rattle.kernel_steps.proofs.StepLemmas.{alone_moved, done_as, moved_done, nothing_done, of_one}
+
+-- ---- what the definitions say
+
+module _ {C M W X : Type 0} {F : X → Type 0} (m : Meaning) (view : Seeing X F) (stage : W → Stage) (x : Running C M W X F) (p : ℕ) (c : PlacedCall) (none : (chain_of x p).levels ≡ []) where
+  -- the step of a call without levels is a piece
+  piece_is : (blocks : Blocks) (notes : List Note) (io : List Bool) → let r = run_of (placed_of view stage x) blocks notes io in
+      placed_call_step m p (Some c) r ≡ placed_piece_step m p c (m.asks (world_of_store x.store) (objects_of view x.store) p c.stage) r
+  piece_is blocks notes io = ap (λ ls. placed_step_by m p c ls (run_of (placed_of view stage x) blocks notes io)) (none_at view x p none)
+
+  -- it asks no point
+  pub asks_none : m.asks (world_of_store x.store) (objects_of view x.store) p c.stage ≡ None → (blocks : Blocks) (notes : List Note) (io : List Bool) → let r = run_of (placed_of view stage x) blocks notes io in
+      placed_call_step m p (Some c) r ≡ finishes m p c None r
+  asks_none asks blocks notes io = piece_is blocks notes io ∙ ap (λ o. placed_piece_step m p c o (run_of (placed_of view stage x) blocks notes io)) asks
+
+  -- it asks one where this stands
+  asks_there : (a : Point) (g : Option GraftValue) → m.asks (world_of_store x.store) (objects_of view x.store) p c.stage ≡ Some a → (objects_of view x.store).accounts.graft a.installer a.point ≡ g →
+      (blocks : Blocks) (notes : List Note) (io : List Bool) → let r = run_of (placed_of view stage x) blocks notes io in placed_call_step m p (Some c) r ≡ placed_piece_at m p c a g r
+  asks_there a g asks stands blocks notes io =
+      piece_is blocks notes io ∙ ap (λ o. placed_piece_step m p c o (run_of (placed_of view stage x) blocks notes io)) asks
+      ∙ ap (λ o. placed_piece_at m p c a o (run_of (placed_of view stage x) blocks notes io)) stands
+
+  -- no graft stands there
+  pub asks_empty : (a : Point) → m.asks (world_of_store x.store) (objects_of view x.store) p c.stage ≡ Some a → is_some ((objects_of view x.store).accounts.graft a.installer a.point) ≡ false →
+      (blocks : Blocks) (notes : List Note) (io : List Bool) → let r = run_of (placed_of view stage x) blocks notes io in placed_call_step m p (Some c) r ≡ finishes m p c None r
+  asks_empty a asks empty blocks notes io = asks_there a None asks (none_is ((objects_of view x.store).accounts.graft a.installer a.point) empty) blocks notes io
+    where
+      none_is : (g : Option GraftValue) → is_some g ≡ false → g ≡ None
+      none_is None h = refl
+      none_is (Some g) h = grind (arith, h)
+
+  -- a graft stands there
+  pub asks_graft : (a : Point) → m.asks (world_of_store x.store) (objects_of view x.store) p c.stage ≡ Some a → is_some ((objects_of view x.store).accounts.graft a.installer a.point) ≡ true →
+      (blocks : Blocks) (notes : List Note) (io : List Bool) → let r = run_of (placed_of view stage x) blocks notes io in
+      placed_call_step m p (Some c) r ≡ with_config p (begin_at (table_of x.images) (objects_of view x.store) p (m.need (world_of_store x.store) (objects_of view x.store) p c.stage) a) r
+  asks_graft a asks there blocks notes io = by_value ((objects_of view x.store).accounts.graft a.installer a.point) there (λ g stands. asks_there a g asks stands blocks notes io) refl
+    where
+      by_value : (g : Option GraftValue) → is_some g ≡ true → ((h : Option GraftValue) → (objects_of view x.store).accounts.graft a.installer a.point ≡ h → let r = run_of (placed_of view stage x) blocks notes io in placed_call_step m p (Some c) r ≡ placed_piece_at m p c a h r) →
+          g ≡ (objects_of view x.store).accounts.graft a.installer a.point → let r = run_of (placed_of view stage x) blocks notes io in
+          placed_call_step m p (Some c) r ≡ with_config p (begin_at (table_of x.images) (objects_of view x.store) p (m.need (world_of_store x.store) (objects_of view x.store) p c.stage) a) r
+      by_value None h then is = grind (arith, h)
+      by_value (Some g) h then is = then (Some g) (sym is)
+
+-- ---- what was done
+
+-- the graft of a point that is asked, where it stands, has an installer that lives
+pub asked_lives : (v : World) (s : Objects) (q pt : ℕ) → IsSoundStore v s → is_some (s.accounts.graft q pt) ≡ true → lives s.things.queue q ≡ true
+asked_lives v s q pt sound there = by_value (s.accounts.graft q pt) refl there
+  where
+    by_value : (g : Option GraftValue) → s.accounts.graft q pt ≡ g → is_some (s.accounts.graft q pt) ≡ true → lives s.things.queue q ≡ true
+    by_value None e h = grind (arith, e, h)
+    by_value (Some g) e h = (sound.grafts q pt g e).1
+
+-- a piece is ready by default
+pub ready_at_once : {C M W X : Type 0} {F : X → Type 0} (m : Meaning) → ReadyInPlace m → (view : Seeing X F) (stage : W → Stage) (x : Running C M W X F) (p : ℕ) (f : InFlight W) → Stood m (placed_of view stage x) → (flight_of x.calls.items p).call ≡ Some f →
+    IsReady m (world_of_store x.store) (table_of x.images) (objects_of view x.store) p (stage f.work) None
+ready_at_once m ready view stage x p f stood is =
+    ready.at_once (placed_of view stage x) stood.kernel p (call_in_place stage f) stood.stands (ap (option_map (call_in_place stage)) is)
+
+-- the call entered a graft
+pub entered_done : {C M W X : Type 0} {F : X → Type 0} (m : Meaning) → OwnersStay → (view : Seeing X F) (stage : W → Stage) (caller : W → ℕ) (x y : Running C M W X F) (p : ℕ) (c : PlacedCall) (a : Point) (kept : List Note) (d : DiskSeen) → IsRunning view caller x → p < 16 →
+    (chain_of x p).levels ≡ [] → m.asks (world_of_store x.store) (objects_of view x.store) p c.stage ≡ Some a → is_some ((objects_of view x.store).accounts.graft a.installer a.point) ≡ true → Moved view x y p →
+    placed_of view stage y ≡ come_to p (begin_at (table_of x.images) (objects_of view x.store) p (m.need (world_of_store x.store) (objects_of view x.store) p c.stage) a) (placed_of view stage x) →
+    StepDone view stage caller (λ r. placed_call_step m p (Some c) r) x y p kept kept d d
+entered_done m law view stage caller x y p c a kept d r small none asks there moved come =
+    let ns = m.need (world_of_store x.store) (objects_of view x.store) p c.stage in
+    let f : Config = begin_at (table_of x.images) (objects_of view x.store) p ns a in
+    let own = of_one view y p a.installer f.levels (levels_come view stage x y p f come) (law.begins (table_of x.images) (objects_of view x.store) p ns a) in
+    done_as view stage caller (λ r. placed_call_step m p (Some c) r) (λ r. with_config p f r) x y p kept kept d d (asks_graft m view stage x p c none a asks there)
+    (moved_done view stage caller f (λ r. r) x y y p kept kept d d moved come (nothing_done view stage caller y p kept d (alone_moved view caller x y p r small moved own)))
+
+-- what is told of a graft by a test
+pub there_is : {A : Type 0} (b : Bool) (g : Option A) → b ≡ is_some g → b ≡ true → is_some g ≡ true
+there_is b g is h = sym is ∙ h
+
+pub not_there : {A : Type 0} (b : Bool) (g : Option A) → b ≡ is_some g → b ≡ false → is_some g ≡ false
+not_there b g is h = sym is ∙ h

@@ -1,0 +1,40 @@
+use Rattle.std.proofs.Common.{◌≡◌, ◌∙◌, ap, sym, subst, List, Option, Some, None}
+use Rattle.std.specs.Prelude.{option_map}
+use Rattle.disk_log.specs.Seen.{disk_seen}
+use Rattle.kernel_model.specs.GraftStep.{micro}
+use Rattle.kernel_model.specs.Levels.{Config, Outcome}
+use Rattle.kernel_state.specs.Stores.{world_of_store, objects_of}
+use Rattle.graft_loader.specs.Slots.{table_of}
+use Rattle.placed_laws.specs.Placed.{placed_config}
+use Rattle.kernel_steps.specs.Views.{placed_of, call_in_place}
+use Rattle.kernel_steps.proofs.EndLemmas.{micro_ends}
+use Rattle.kernel_steps.proofs.PartLemmas.{micro_alone, micro_done, micro_ready, move_ends}
+use Rattle.kernel_steps.proofs.running.Running.graft_step.Goals as goal
+
+pub follow-requires-clause-alone : goal.follow-requires-clause-alone
+follow-requires-clause-alone g c =
+    let x = c.args.self.now in
+    micro_alone c.owners_stay.ensures (λ b. (goal.Policy-dyn g (b.vtable, b.value)).seen b.value) (λ w. g.C.Calls.stage w) (λ w. g.C.Calls.caller w) x c.instruct-said.new.self c.args.p c.requires.running c.requires.process c.instruct-said.ensures.moved c.instruct-said.ensures.config
+
+pub follow-requires-clause-none : goal.follow-requires-clause-none
+follow-requires-clause-none g c =
+    λ answer h.
+    let x = c.args.self.now in
+    let o : Outcome = micro (world_of_store x.store) (table_of x.images) c.args.p (placed_config (placed_of (λ b. (goal.Policy-dyn g (b.vtable, b.value)).seen b.value) (λ w. g.C.Calls.stage w) x) c.args.p) in
+    move_ends (λ b. (goal.Policy-dyn g (b.vtable, b.value)).seen b.value) (λ w. g.C.Calls.stage w) x c.instruct-said.new.self c.args.p o c.instruct-said.result answer c.instruct-said.ensures.config c.instruct-said.ensures.said (micro_ends (world_of_store x.store) (table_of x.images) c.args.p (objects_of (λ b. (goal.Policy-dyn g (b.vtable, b.value)).seen b.value) x.store) (placed_config (placed_of (λ b. (goal.Policy-dyn g (b.vtable, b.value)).seen b.value) (λ w. g.C.Calls.stage w) x) c.args.p).levels) h
+
+pub follow-requires-clause-ready : goal.follow-requires-clause-ready
+follow-requires-clause-ready g c =
+    λ answer f h is.
+    let x = c.args.self.now in
+    micro_ready g.C.Meaning.Rules.meaning c.ready_in_place.ensures (λ b. (goal.Policy-dyn g (b.vtable, b.value)).seen b.value) (λ w. g.C.Calls.stage w) x c.instruct-said.new.self c.args.p f c.instruct-said.result answer c.requires.stood c.requires.level c.instruct-said.ensures.moved c.instruct-said.ensures.config c.instruct-said.ensures.said h is
+
+pub returns-clause-done : goal.returns-clause-done
+returns-clause-done g c =
+    λ pc is.
+    let a = c.args in
+    let x = a.self.now in
+    micro_done g.C.Meaning.Rules.meaning (λ b. (goal.Policy-dyn g (b.vtable, b.value)).seen b.value) (λ w. g.C.Calls.stage w) (λ w. g.C.Calls.caller w) x c.instruct-said.new.self c.follow.new.self a.p pc c.instruct-said.result a.notes.now c.follow.new.notes
+    (disk_seen (g.D.Disk.blocks a.disk.now) (g.D.Disk.plan a.disk.now) (g.D.Disk.faults a.disk.now)) (disk_seen (g.D.Disk.blocks c.follow.new.disk) (g.D.Disk.plan c.follow.new.disk) (g.D.Disk.faults c.follow.new.disk))
+    c.instruct-said.ensures.moved c.instruct-said.ensures.config c.instruct-said.ensures.said
+    (c.follow.ensures.done pc (ap (option_map (call_in_place (λ w. g.C.Calls.stage w))) (c.instruct-said.ensures.moved.calls a.p) ∙ is))
