@@ -32,7 +32,7 @@ use Rattle.kernel_steps.specs.declared.running.InFlight.{InFlight}
 use Rattle.kernel_steps.specs.declared.running.Running.{Running}
 use Rattle.kernel_steps.specs.Orders.{order_of, counts_within, are_processes, are_once, numbers_of}
 use Rattle.kernel_steps.specs.Views.{placed_of, flight_of, chain_of, run_of, IsRunning, Stood}
-use Rattle.kernel_steps.proofs.BlockLemmas.{some_blocks, blocks_are_whole}
+use Rattle.kernel_steps.specs.WholeBlocks.{some_blocks, blocks_are_whole}
 use Rattle.kernel_steps.specs.Moves.{StaysInPlace, HeldStays}
 use Rattle.kernel_steps.specs.Owned.{AreOwned}
 use Rattle.kernel_steps.specs.Steps.{Stepped}

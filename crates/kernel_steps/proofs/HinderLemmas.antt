@@ -61,6 +61,27 @@ graft_needs : (m : Meaning) (x : Placed) (p : ℕ) (c : PlacedCall) (ls : List P
 graft_needs m x p c [] h = grind (arith, h)
 graft_needs m x p c (l ∷ ls) h = refl
 
+-- ---- what the next step needs
+
+pub piece_needs : {C M W X : Type 0} {F : X → Type 0} (m : Meaning) (view : Seeing X F) (stage : W → Stage) (caller : W → ℕ) (x : Running C M W X F) (p : ℕ) (f : InFlight W) →
+    IsRunning view caller x → (flight_of x.calls.items p).call ≡ Some f → length (chain_of x p).levels ≡ 0 →
+    m.need (world_of_store x.store) (objects_of view x.store) (caller f.work) (stage f.work) ≡ placed_needs m (placed_of view stage x) p
+piece_needs m view stage caller x p f r is none =
+    let y = placed_of view stage x in
+    let bare_none : y.levels p ≡ [] = no_levels p x.store.ram (held x.locks) (chain_of x p).levels (chain_of x p).undo (objects_of view x.store).things none in
+    ap (λ q. m.need (world_of_store x.store) (objects_of view x.store) q (stage f.work)) (r.callers p f is)
+    ∙ sym (ap (placed_needs_in m y p) (ap (option_map (call_in_place stage)) is) ∙ ap (placed_needs_at m y p (call_in_place stage f)) bare_none)
+
+pub graft_needs_are : {C M W X : Type 0} {F : X → Type 0} (m : Meaning) (view : Seeing X F) (stage : W → Stage) (x : Running C M W X F) (p : ℕ) (f : InFlight W) →
+    (flight_of x.calls.items p).call ≡ Some f → 0 < length (chain_of x p).levels →
+    next_needs (world_of_store x.store) (table_of x.images) (objects_of view x.store).accounts (levels_of view x.store x.locks (chain_of x p) p) ≡ placed_needs m (placed_of view stage x) p
+graft_needs_are m view stage x p f is some =
+    let y = placed_of view stage x in
+    let s = objects_of view x.store in
+    let has : has_some (y.levels p) ≡ true = some_levels p x.store.ram (held x.locks) (chain_of x p).levels (chain_of x p).undo s.things some in
+    ap (λ (ks : List Level). next_needs (world_of_store x.store) (table_of x.images) s.accounts ks) (sym (levels_in_place view stage x p))
+    ∙ sym (ap (placed_needs_in m y p) (ap (option_map (call_in_place stage)) is) ∙ graft_needs m y p (call_in_place stage f) (y.levels p) has)
+
 -- ---- what hinders
 
 pub piece_hindered : {C M W X : Type 0} {F : X → Type 0} (m : Meaning) (view : Seeing X F) (stage : W → Stage) (caller : W → ℕ) (x : Running C M W X F) (p : ℕ) (f : InFlight W) →

@@ -6,15 +6,13 @@ pub mod StartLemmas
 pub mod HinderLemmas
 pub mod MoveLemmas
 pub mod StayLemmas
-pub mod BlockLemmas
 pub mod AgainLemmas
 pub mod OnceLemmas
 pub mod PieceLemmas
-pub mod DidLemmas
 pub mod FinishLemmas
 pub mod StepLemmas
 pub mod EndLemmas
 pub mod WholeLemmas
-pub mod NoteLemmas
 pub mod PartLemmas
 pub mod AskLemmas
+pub mod QueryLemmas

@@ -38,8 +38,8 @@ use Rattle.kernel_steps.specs.Owned.{AreOwned}
 use Rattle.kernel_steps.specs.Steps.{finishes, after_drop, after_said, answer_of_drop, answer_said, IsOfOne, StepsAlone, Stepped, StepDone}
 use Rattle.kernel_steps.specs.Views.{placed_of, flight_of, chain_of, no_chain, levels_at, call_at, call_in_place, run_of, IsRunning}
 use Rattle.kernel_steps.proofs.CallLemmas.{with_call, call_of_changed, chain_of_changed, still_sixteen}
-use Rattle.kernel_steps.proofs.DidLemmas.{did_nothing, did_as, did_purely, did_then, reaches_as, reaches_behind, reaches_purely}
-use Rattle.kernel_steps.proofs.BlockLemmas.{some_blocks, blocks_are_whole}
+use Rattle.kernel_steps.specs.Composing.{did_nothing, did_as, did_purely, did_then, reaches_as, reaches_behind, reaches_purely}
+use Rattle.kernel_steps.specs.WholeBlocks.{some_blocks, blocks_are_whole}
 use Rattle.kernel_steps.proofs.FinishLemmas.{placed_finished, finish_did, finish_reaches}
 use Rattle.kernel_steps.proofs.MoveLemmas.{few_levels}
 

@@ -75,7 +75,7 @@ chain_holds p d ram t gs log w unheld false h =
     holds_beyond p d ram t gs log w large ∙ fun_ext (λ o. sym (unheld d o large))
 
 -- nothing is held by processes that there aren't
-none_held : (t : List (List Holds)) (p d : ℕ) → 16 ≤ p → held t p d ≡ untouched
+pub none_held : (t : List (List Holds)) (p d : ℕ) → 16 ≤ p → held t p d ≡ untouched
 none_held t p d h = let no : nat_lt p 16 ≡ false = grind (arith, nat_tests) in fun_ext (λ o. ap (λ b. cond (b && is_in_range o) (levels_at (masks_of t p) (number_of o) d) Held.Free) no)
 
 -- ---- a running kernel

@@ -29,7 +29,7 @@ use Rattle.kernel_steps.specs.Moves.{HeldStays}
 use Rattle.kernel_steps.specs.Steps.{StepDone}
 use Rattle.kernel_steps.specs.Views.{placed_of, chain_of, levels_at, call_at, run_of, IsRunning, Stood, Goes}
 use Rattle.kernel_steps.proofs.AgainLemmas.{runs_again}
-use Rattle.kernel_steps.proofs.DidLemmas.{did_as, did_purely, did_then, reaches_as, reaches_before}
+use Rattle.kernel_steps.specs.Composing.{did_as, did_purely, did_then, reaches_as, reaches_before}
 use Rattle.kernel_steps.proofs.ViewLemmas.{holds_in_place, as_many}
 use Rattle.kernel_steps.proofs.HinderLemmas.{some_levels}
 

@@ -5,3 +5,7 @@ pub mod Hindered
 pub mod Moves
 pub mod Did
 pub mod Steps
+pub mod Queries
+pub mod Composing
+pub mod Kept
+pub mod WholeBlocks

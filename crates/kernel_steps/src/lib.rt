@@ -8,6 +8,7 @@ mod moves;
 mod notes;
 mod order;
 mod pieces;
+mod queries;
 mod running;
 mod steps;
 #[cfg(test)]

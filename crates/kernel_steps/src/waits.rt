@@ -20,7 +20,7 @@ use kernel_model::Object;
 
 /// Whether two objects are one.
 #[tactic(auto, unfolding(kernel_model::specs::Objects::same_object))]
-fn is_same_object(a: Object, b: Object) -> bool
+pub(crate) fn is_same_object(a: Object, b: Object) -> bool
     ensures { result ≡ same_object a b }
 {
     a == b

@@ -1,5 +1,5 @@
 use Rattle.std.proofs.Common.{rules, ◌≡◌, ◌++◌, [], ◌∷◌, ◌∙◌, ◌<◌, ◌≤◌, length, ap, subst}
-use Rattle.kernel_steps.proofs.NoteLemmas.{kept_more, kept_full}
+use Rattle.kernel_steps.specs.Kept.{kept_more, kept_full}
 use Rattle.kernel_steps.proofs.notes.Notes.push.Goals as goal
 
 pub returns-then-list-lt-NOTES : goal.returns-then-list-lt-NOTES

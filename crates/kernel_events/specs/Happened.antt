@@ -1,0 +1,39 @@
+-- What an event makes of a running kernel, and what always holds of one.
+use Rattle.std.specs.Prelude.{◌≡◌, ℕ, ◌≤◌, Bool, List, [], Option}
+use Rattle.disk_log.specs.Calls.{Tells, Made}
+use Rattle.disk_log.specs.Seen.{DiskSeen}
+use Rattle.kernel_model.specs.declared.Event.{Event}
+use Rattle.kernel_model.specs.declared.Note.{Note}
+use Rattle.kernel_model.specs.World.{Blocks}
+use Rattle.kernel_model.specs.Meaning.{Meaning, Stage}
+use Rattle.kernel_model.specs.Kernel.{Kernel, Run}
+use Rattle.kernel_model.specs.Events.{event}
+use Rattle.kernel_model.specs.Sound.{IsAtRest}
+use Rattle.kernel_state.specs.Stores.{Seeing}
+use Rattle.placed_laws.specs.Placed.{Placed}
+use Rattle.placed_laws.specs.Stands.{StandsFor}
+use Rattle.kernel_steps.specs.declared.running.Running.{Running}
+use Rattle.kernel_steps.specs.Views.{placed_of, IsRunning, Stood}
+
+-- A kernel runs, stands for some abstract kernel, and had at most so many ticks.
+pub record IsKernel {C M W X : Type 0} {F : X → Type 0} (m : Meaning) (view : Seeing X F) (stage : W → Stage) (caller : W → ℕ) (most : ℕ) (x : Running C M W X F) : Type 0 where
+  pub running : IsRunning view caller x
+  pub stood : Stood m (placed_of view stage x)
+  pub clock : x.clock ≤ most
+
+-- what is left of the definitions' event is what the code left: the kernel stands for the abstract one, which rests, the disk tells
+-- its blocks, the notes are the same, and all calls of the disk were made
+pub record EventIs (m : Meaning) (r : Run) (y : Placed) (notes : List Note) (told : Option (List (List ℕ))) : Type 0 where
+  pub stands : StandsFor m y r.kernel
+  pub rests : IsAtRest m r.kernel
+  pub blocks : Tells told r.blocks
+  pub notes_are : notes ≡ r.notes
+  pub all_made : r.io ≡ []
+
+-- An event of this number took one kernel in place to another, left these notes, and took the disk from the one to the other: for
+-- every abstract kernel that the one stands for, and that rests, the other stands for what the definitions' event makes of it.
+pub record Happened (m : Meaning) (x y : Placed) (number : ℕ) (what : Event) (notes : List Note) (d e : DiskSeen) : Type 0 where
+  -- which of its calls of the disk failed
+  pub io : List Bool
+  pub made : Made d.faults e.faults d.plan e.plan io
+  pub is : (k : Kernel) (blocks : Blocks) → StandsFor m x k → IsAtRest m k → Tells d.told blocks → EventIs m (event m k blocks number what io) y notes e.told

@@ -1,0 +1,71 @@
+-- What is asked of a running kernel is what the kernel in place has.
+use Rattle.std.proofs.Common.{◌≡◌, ℕ, suc, ◌≤◌, ◌==◌, Bool, true, false, cond, not, List, [], ◌∷◌, map, length, refl, ap, sym, ◌∙◌, arith, Option, Some, None}
+use Rattle.std.specs.Prelude.{◌||◌}
+use Rattle.std.specs.List.{list_any}
+use Rattle.std.proofs.lemmas.Bool.Decides.{nat_tests}
+use Rattle.kernel_model.specs.declared.Inverse.{Inverse}
+use Rattle.kernel_model.specs.declared.Mode.{Mode}
+use Rattle.kernel_model.specs.declared.Note.{Note}
+use Rattle.kernel_model.specs.declared.Note.TheVariants.{InGraft}
+use Rattle.kernel_model.specs.declared.Object.{Object}
+use Rattle.kernel_model.specs.Events.{in_order}
+use Rattle.kernel_model.specs.declared.Held.{Held}
+use Rattle.kernel_model.specs.Locks.{LockTable, Touched, outermost_holding}
+use Rattle.kernel_model.specs.Objects.{Things}
+use Rattle.kernel_model.specs.UndoLog.{undo_all}
+use Rattle.undo_calls.specs.UndoLevels.{innermost}
+use Rattle.lock_table.specs.declared.Holds.{Holds}
+use Rattle.lock_table.specs.Masks.{held, levels_at, masks_of}
+use Rattle.lock_table.specs.Numbers.{number_of, is_in_range}
+use Rattle.graft_calls.specs.declared.GraftLevel.{GraftLevel}
+use Rattle.graft_calls.specs.Chains.{first_level, levels_in, outer}
+use Rattle.placed_laws.specs.Placed.{PlacedLevel, bare, has_some}
+use Rattle.kernel_steps.specs.declared.order.Waiting.{Waiting}
+use Rattle.kernel_steps.specs.Orders.{order_of, numbers_of, has_number}
+use Rattle.kernel_steps.specs.Queries.{note_in_graft}
+use Rattle.kernel_steps.proofs.ViewLemmas.{none_held}
+
+-- who stands in the order
+pub order_has : (p : ℕ) (ws : List Waiting) → in_order p (order_of ws) ≡ list_any (λ (w : Waiting). w.process == p) ws
+order_has p [] = refl
+order_has p (w ∷ ws) = ap (λ b. (w.process == p) || b) (order_has p ws)
+
+pub order_numbers : (p : ℕ) (ws : List Waiting) → in_order p (order_of ws) ≡ has_number p (numbers_of ws)
+order_numbers p [] = refl
+order_numbers p (w ∷ ws) = ap (λ b. (w.process == p) || b) (order_numbers p ws)
+
+-- there are levels in place where there are some in the chain
+pub some_in_place : (p : ℕ) (ram : List ℕ) (t : LockTable) (gs : List GraftLevel) (log : List (List Inverse)) (w : Things) → not (length gs == 0) ≡ has_some (map bare (levels_in p ram t gs log w))
+some_in_place p ram t [] log w = refl
+some_in_place p ram t (g ∷ gs) log w = grind (arith, nat_tests)
+
+-- how many there are
+pub many_bare : (p : ℕ) (ram : List ℕ) (t : LockTable) (gs : List GraftLevel) (log : List (List Inverse)) (w : Things) → length (map bare (levels_in p ram t gs log w)) ≡ length gs
+many_bare p ram t [] log w = refl
+many_bare p ram t (g ∷ gs) log w = ap suc (many_bare p ram t gs (outer log) (undo_all (innermost log) w))
+
+-- the note of a call whose innermost level is this
+pub note_of_first : (n p : ℕ) (ram : List ℕ) (t : LockTable) (g : GraftLevel) (gs : List GraftLevel) (log : List (List Inverse)) (w : Things) → Some g ≡ first_level gs →
+    Some (InGraft n g.owner g.point (length gs)) ≡ note_in_graft n (map bare (levels_in p ram t gs log w))
+note_of_first n p ram t g [] log w is = grind (arith, is)
+note_of_first n p ram t g (h ∷ gs) log w is =
+    ap (λ (k : GraftLevel). Some (InGraft n k.owner k.point (suc (length gs)))) (same_level g h is)
+    ∙ ap (λ k. Some (InGraft n h.owner h.point (suc k))) (sym (many_bare p ram t gs (outer log) (undo_all (innermost log) w)))
+  where
+    same_level : (a b : GraftLevel) → Some a ≡ Some b → a ≡ b
+    same_level a b e = cc
+
+-- what isn't in its range nobody holds
+none_held_there : (t : List (List Holds)) (q d : ℕ) (o : Object) → is_in_range o ≡ false → held t q d o ≡ Held.Free
+none_held_there t q d o h = grind (arith, nat_tests, h)
+
+-- where nothing is held, nothing conflicts
+free_of : (f : ℕ → Touched) (o : Object) (mode : Mode) → ((d : ℕ) → f d o ≡ Held.Free) → outermost_holding o mode f ≡ None
+free_of f o mode free = rw (free 0, free 1, free 2, free 3) refl
+
+pub none_in_the_way : (t : List (List Holds)) (q : ℕ) (o : Object) (mode : Mode) → is_in_range o ≡ false → outermost_holding o mode (held t q) ≡ None
+none_in_the_way t q o mode h = free_of (held t q) o mode (λ d. none_held_there t q d o h)
+
+-- and processes that can't be hold nothing
+pub nobody_in_the_way : (t : List (List Holds)) (q : ℕ) (o : Object) (mode : Mode) → 16 ≤ q → outermost_holding o mode (held t q) ≡ None
+nobody_in_the_way t q o mode h = free_of (held t q) o mode (λ d. ap (λ f. f o) (none_held t q d h))

@@ -1,0 +1,15 @@
+use Rattle.std.proofs.Common.{◌≡◌, ◌∙◌, length, ap, sym}
+use Rattle.lock_table.specs.Masks.{held}
+use Rattle.kernel_state.specs.Stores.{objects_of}
+use Rattle.kernel_steps.specs.declared.running.Flight.{Flight}
+use Rattle.kernel_steps.specs.Views.{flight_of}
+use Rattle.kernel_steps.proofs.QueryLemmas.{many_bare}
+use Rattle.kernel_steps.proofs.running.Running.level_count.Goals as goal
+
+pub returns : goal.returns
+returns g c =
+    let x = c.args.self.now in
+    let fl : c.flight.result.now ≡ flight_of x.calls.items c.args.p = c.flight.ensures ∙ ap (λ fs. flight_of fs c.args.p) c.deref.ensures.value in
+    let ch = (flight_of x.calls.items c.args.p).chain in
+    c.count.ensures.value ∙ ap (λ (f : Flight g.row.C-Work.Denot). length f.chain.levels) fl
+    ∙ sym (many_bare c.args.p x.store.ram (held x.locks) ch.levels ch.undo (objects_of (λ b. (goal.Policy-dyn g (b.vtable, b.value)).seen b.value) x.store).things)

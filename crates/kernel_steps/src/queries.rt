@@ -1,0 +1,155 @@
+//! What an event asks of a running kernel, and how a call joins the order.
+
+ghost use Rattle.std.specs.Prelude.{◌≡◌, ◌<◌, false, length, option_map};
+ghost use Rattle.kernel_model.specs.declared.Note.TheVariants.{InGraft};
+ghost use Rattle.kernel_model.specs.Events.{in_order, wanted};
+ghost use Rattle.kernel_model.specs.Locks.{outermost_holding};
+ghost use Rattle.lock_table.specs.Numbers.{is_in_range};
+ghost use Rattle.placed_laws.specs.Placed.{has_some, placed_holds, placed_needs};
+ghost use Rattle.placed_laws.specs.PlacedSteps.{placed_joins};
+ghost use Rattle.kernel_steps.specs.Queries.{note_in_graft};
+ghost use Rattle.kernel_steps.specs.Views.{placed_of, IsRunning, Stood, Goes};
+
+use crate::blocking::{flight, number_of};
+use crate::order::Waiting;
+use crate::running::Running;
+use crate::waits::is_same_object;
+use call_pieces::{Calls, Needs};
+use graft_calls::GraftLevel;
+use lock_table::laws;
+use kernel_model::{Mode, Need, Note, Object};
+use placed_laws::soundness;
+
+/// Whether an object's numbers are in their ranges.
+#[tactic(auto, unfolding(lock_table::specs::Numbers::is_in_range))]
+fn is_in_range(object: Object) -> bool
+    ensures { result ≡ is_in_range object }
+{
+    match object {
+        Object::Graft(q, pt) => q < 16 && pt < 16,
+        Object::Acct(q) => q < 16,
+        Object::Cell(q, k) => q < 16 && k < 4,
+        Object::OpenFile(q, fd) => q < 16 && fd < 4,
+        Object::Queue | Object::Cache => true,
+        Object::Lock(u) => u < 16,
+        Object::Pol(kind) => kind < 3,
+    }
+}
+
+/// The mode in which an object is needed: shared, where it isn't.
+fn wanted_in(needs: &[Need], object: Object) -> Mode
+    ensures { result ≡ wanted object needs.now }
+{
+    let Some((first, rest)) = needs.split_first() else {
+        return Mode::Shared;
+    };
+    if is_same_object(first.object, object) {
+        return first.mode;
+    }
+    wanted_in(rest, object)
+}
+
+/// The note that a call of this number is in a graft, with so many levels.
+fn note_of(innermost: &GraftLevel, number: u32, count: u8) -> Note
+    ensures { result ≡ InGraft number innermost.now.owner innermost.now.point count }
+{
+    Note::InGraft(number, innermost.owner, innermost.point, count)
+}
+
+impl<C: Calls> Running<C> {
+    /// Whether process p stands in the order.
+    pub fn waits(&self, p: u8) -> bool
+        ensures { result ≡ in_order p (placed_of (λ b. seen (b.vtable, b.value)) (λ w. C.stage w) self.now).order }
+    {
+        self.order.has(p)
+    }
+
+    /// Process p, which isn't in the order, joins it at its end.
+    pub fn join(&mut self, p: u8)
+        requires process { p < 16 }
+        requires new { in_order p (placed_of (λ b. seen (b.vtable, b.value)) (λ w. C.stage w) self.old).order ≡ false }
+        requires running { IsRunning (λ b. seen (b.vtable, b.value)) (λ w. C.caller w) self.old }
+        ensures value { Goes (placed_joins p) (placed_of (λ b. seen (b.vtable, b.value)) (λ w. C.stage w) self.old) (placed_of (λ b. seen (b.vtable, b.value)) (λ w. C.stage w) self.new) }
+        ensures running { IsRunning (λ b. seen (b.vtable, b.value)) (λ w. C.caller w) self.new }
+    {
+        self.order.push(Waiting::joined(p));
+    }
+
+    /// The number of the call that process p has in flight.
+    pub fn call_number(&self, p: u8) -> Option<u32>
+        ensures { result ≡ option_map (λ c. c.number) ((placed_of (λ b. seen (b.vtable, b.value)) (λ w. C.stage w) self.now).call p) }
+    {
+        number_of(&self.calls, p)
+    }
+
+    /// How many levels process p's call has.
+    pub fn level_count(&self, p: u8) -> u8
+        requires process { p < 16 }
+        requires running { IsRunning (λ b. seen (b.vtable, b.value)) (λ w. C.caller w) self.now }
+        ensures { result ≡ length ((placed_of (λ b. seen (b.vtable, b.value)) (λ w. C.stage w) self.now).levels p) }
+    {
+        flight(&self.calls, p).chain.levels.count()
+    }
+
+    /// Whether process p's call is in a graft.
+    pub fn in_graft(&self, p: u8) -> bool
+        requires process { p < 16 }
+        requires running { IsRunning (λ b. seen (b.vtable, b.value)) (λ w. C.caller w) self.now }
+        ensures { result ≡ has_some ((placed_of (λ b. seen (b.vtable, b.value)) (λ w. C.stage w) self.now).levels p) }
+    {
+        flight(&self.calls, p).chain.levels.count() != 0
+    }
+
+    /// The note that process p's call, of this number, is in a graft, if it is.
+    pub fn graft_note(&self, p: u8, number: u32) -> Option<Note>
+        requires process { p < 16 }
+        requires running { IsRunning (λ b. seen (b.vtable, b.value)) (λ w. C.caller w) self.now }
+        ensures { result ≡ note_in_graft number ((placed_of (λ b. seen (b.vtable, b.value)) (λ w. C.stage w) self.now).levels p) }
+    {
+        let chain = &flight(&self.calls, p).chain;
+        match chain.levels.innermost() {
+            Some(level) => Some(note_of(level, number, chain.levels.count())),
+            None => None,
+        }
+    }
+
+    /// The mode in which the next step of process p's call needs an object: shared, where it doesn't.
+    fn wanted(&self, p: u8, object: Object) -> Mode
+        requires process { p < 16 }
+        requires running { IsRunning (λ b. seen (b.vtable, b.value)) (λ w. C.caller w) self.now }
+        requires stood { Stood C.Meaning.meaning (placed_of (λ b. seen (b.vtable, b.value)) (λ w. C.stage w) self.now) }
+        ensures { result ≡ wanted object (placed_needs C.Meaning.meaning (placed_of (λ b. seen (b.vtable, b.value)) (λ w. C.stage w) self.now) p) }
+    {
+        soundness::sound_in_place::<C::Meaning>();
+        let flight = flight(&self.calls, p);
+        let Some(call) = &flight.call else {
+            return Mode::Shared;
+        };
+        if flight.chain.levels.count() == 0 {
+            let mut needs = Needs::new();
+            C::need(&call.work, &self.store, &mut needs);
+            return wanted_in(needs.as_slice(), object);
+        }
+        let needs = flight.chain.needs(&self.store, &self.images);
+        wanted_in(needs.as_slice(), object)
+    }
+
+    /// The outermost level of a holder's call whose hold on an object conflicts with the mode in which process p needs it.
+    pub fn level_in_the_way(&self, p: u8, object: Object, holder: u8) -> Option<u8>
+        requires process { p < 16 }
+        requires running { IsRunning (λ b. seen (b.vtable, b.value)) (λ w. C.caller w) self.now }
+        requires stood { Stood C.Meaning.meaning (placed_of (λ b. seen (b.vtable, b.value)) (λ w. C.stage w) self.now) }
+        ensures { let x = placed_of (λ b. seen (b.vtable, b.value)) (λ w. C.stage w) self.now in
+            result ≡ outermost_holding object (wanted object (placed_needs C.Meaning.meaning x p)) (placed_holds x holder) }
+    {
+        laws::test_is_range();
+        let mode = self.wanted(p, object);
+        if holder >= 16 {
+            return None;
+        }
+        if !is_in_range(object) {
+            return None;
+        }
+        self.locks.level_of(holder, object, mode)
+    }
+}
