@@ -1,0 +1,3 @@
+pub mod WentLemmas
+pub mod SettleLemmas
+pub mod LastLemmas

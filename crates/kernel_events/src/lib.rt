@@ -4,5 +4,7 @@
 #![tactic(auto)]
 
 mod events;
+mod last;
+mod settle;
 
 pub use events::event;

@@ -1,0 +1,57 @@
+-- A part of an event of a running kernel.
+use Rattle.std.specs.Prelude.{◌≡◌, ℕ, suc, Bool, true, false, not, ◌&&◌, cond, is_some, List, ◌++◌, Option, Some, None}
+use Rattle.disk_log.specs.Calls.{Tells, Made}
+use Rattle.disk_log.specs.Seen.{DiskSeen}
+use Rattle.kernel_model.specs.declared.Note.{Note}
+use Rattle.kernel_model.specs.declared.Note.TheVariants.{Ran}
+use Rattle.kernel_model.specs.World.{Blocks}
+use Rattle.kernel_model.specs.Meaning.{Meaning, Stage}
+use Rattle.kernel_model.specs.Events.{in_order}
+use Rattle.kernel_state.specs.Stores.{Seeing, world_of_store}
+use Rattle.placed_laws.specs.Placed.{Placed, PlacedRun, has_some, placed_blocker}
+use Rattle.placed_laws.specs.PlacedSteps.{placed_joins, placed_noted, placed_step}
+use Rattle.placed_laws.specs.PlacedEvents.{placed_settled, placed_steps}
+use Rattle.kernel_steps.specs.declared.running.Running.{Running}
+use Rattle.kernel_steps.specs.Did.{first_notes, CameAs, Did}
+use Rattle.kernel_steps.specs.Views.{placed_of, run_of, IsRunning, Stood}
+
+-- A change of an event under way was made: the kernel runs on, and stands for some abstract kernel again. The set-up and the clock
+-- stay.
+pub record Went {C M W X : Type 0} {F : X → Type 0} (m : Meaning) (view : Seeing X F) (stage : W → Stage) (caller : W → ℕ) (f : PlacedRun → PlacedRun) (x y : Running C M W X F) (kept kept_new : List Note) (d e : DiskSeen) : Type 0 where
+  pub did : Did f (placed_of view stage x) (placed_of view stage y) kept kept_new d e
+  pub running : IsRunning view caller y
+  pub stood : Stood m (placed_of view stage y)
+  pub world : world_of_store y.store ≡ world_of_store x.store
+  pub clock : y.clock ≡ x.clock
+
+-- ---- instructions
+
+module _ (m : Meaning) where
+  -- the call of p takes up an instruction
+  abbrev pub takes_up : Placed → ℕ → Bool
+  takes_up x p = has_some (x.levels p) && not (in_order p x.order) && not (is_some (placed_blocker m x p))
+
+  -- what the attempt makes of the kernel: a call that can't go on joins the order, where it has a level and isn't in it yet
+  abbrev pub taken_up : ℕ → PlacedRun → PlacedRun
+  taken_up p r =
+      elim (has_some (r.placed.levels p) && not (in_order p r.placed.order)) [
+        | false ↦ r
+        | true ↦ elim (placed_blocker m r.placed p) [ Some b ↦ placed_settled m (placed_joins p r) | None ↦ placed_settled m (placed_step m p r) ]
+      ]
+
+  -- at most so many instructions, so many having been taken, and the note of how many
+  abbrev pub steps_said : (number p left taken : ℕ) → PlacedRun → PlacedRun
+  steps_said number p left taken r = let s = placed_steps m p left taken r in placed_noted (Ran number s.0) s.1
+
+  -- the same where the call goes on, and else the note
+  abbrev pub steps_left : (number p left taken : ℕ) → (going : Bool) → PlacedRun → PlacedRun
+  steps_left number p left taken true r = steps_said number p left taken r
+  steps_left number p left taken false r = placed_noted (Ran number taken) r
+
+-- A change of an event under way has come to a point from which this is left of it.
+pub record HasCome (f left : PlacedRun → PlacedRun) (x y : Placed) (kept kept_new : List Note) (d e : DiskSeen) : Type 0 where
+  pub io : List Bool
+  pub made : Made d.faults e.faults d.plan e.plan io
+  pub now : Blocks → List Note → List Bool → PlacedRun
+  pub came : (blocks : Blocks) (notes : List Note) (rest : List Bool) → Tells d.told blocks → kept ≡ first_notes notes → CameAs (now blocks notes rest) y kept_new e.told rest
+  pub goes : (blocks : Blocks) (notes : List Note) (rest : List Bool) → Tells d.told blocks → kept ≡ first_notes notes → f (run_of x blocks notes (io ++ rest)) ≡ left (now blocks notes rest)

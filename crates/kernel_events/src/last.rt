@@ -1,0 +1,44 @@
+//! Where a call stands at the end of an event.
+
+ghost use Rattle.std.specs.Prelude.{◌≡◌, ◌<◌};
+ghost use Rattle.disk_log.specs.Seen.{DiskSeen};
+ghost use Rattle.placed_laws.specs.PlacedEvents.{placed_last, placed_waits_note};
+ghost use Rattle.placed_laws.specs.Placed.{placed_blocker};
+ghost use Rattle.kernel_steps.specs.Did.{Did};
+ghost use Rattle.kernel_steps.specs.Views.{placed_of, IsRunning, Stood};
+
+use call_pieces::Calls;
+use kernel_model::Note;
+use kernel_steps::{Notes, Running};
+
+/// Says for what process p's call of this number waits, if something blocks it.
+fn say_wait<C: Calls>(running: &Running<C>, p: u8, number: u32, notes: &mut Notes)
+    requires process { p < 16 }
+    requires running { IsRunning (λ b. seen (b.vtable, b.value)) (λ w. C.caller w) running.now }
+    requires stood { Stood C.Meaning.meaning (placed_of (λ b. seen (b.vtable, b.value)) (λ w. C.stage w) running.now) }
+    ensures said { (d : DiskSeen) → let x = placed_of (λ b. seen (b.vtable, b.value)) (λ w. C.stage w) running.now in
+        Did (placed_waits_note number (placed_blocker C.Meaning.meaning x p)) x x notes.old notes.new d d }
+{
+    if let Some(found) = running.blocker(p) {
+        notes.push(Note::Waits(number, found.object, found.holder));
+    }
+}
+
+/// Says where process p's call stands, if it is still in flight: it waits, or it is in a graft.
+pub(crate) fn say_last<C: Calls>(running: &Running<C>, p: u8, notes: &mut Notes)
+    requires process { p < 16 }
+    requires running { IsRunning (λ b. seen (b.vtable, b.value)) (λ w. C.caller w) running.now }
+    requires stood { Stood C.Meaning.meaning (placed_of (λ b. seen (b.vtable, b.value)) (λ w. C.stage w) running.now) }
+    ensures said { (d : DiskSeen) → let x = placed_of (λ b. seen (b.vtable, b.value)) (λ w. C.stage w) running.now in
+        Did (placed_last C.Meaning.meaning p) x x notes.old notes.new d d }
+{
+    let Some(number) = running.call_number(p) else {
+        return;
+    };
+    if running.waits(p) {
+        return say_wait(running, p, number, notes);
+    }
+    if let Some(note) = running.graft_note(p, number) {
+        notes.push(note);
+    }
+}
