@@ -1,3 +1,4 @@
 pub mod KernelLemmas
 pub mod BoundsLemmas
 pub mod SectionLemmas
+pub mod PlacedSectionLemmas

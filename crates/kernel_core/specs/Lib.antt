@@ -1,3 +1,4 @@
 pub mod Standing
 pub mod Bounds
 pub mod Sections
+pub mod PlacedSections

@@ -5,8 +5,10 @@
 
 mod kernel;
 mod notes;
+mod placed_rows;
 mod rows;
 
 pub use kernel::{BootNote, Kernel, Logs};
 pub use kernel_state::Setup;
 pub use notes::Notes;
+pub use placed_rows::raw;

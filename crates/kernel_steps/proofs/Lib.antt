@@ -16,3 +16,4 @@ pub mod WholeLemmas
 pub mod PartLemmas
 pub mod AskLemmas
 pub mod QueryLemmas
+pub mod ShownLemmas

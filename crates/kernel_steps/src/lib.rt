@@ -11,6 +11,7 @@ mod pieces;
 mod queries;
 mod running;
 mod steps;
+mod shown;
 #[cfg(test)]
 mod tests;
 mod waits;
