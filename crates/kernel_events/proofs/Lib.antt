@@ -1,3 +1,4 @@
 pub mod WentLemmas
 pub mod SettleLemmas
 pub mod LastLemmas
+pub mod StepLemmas

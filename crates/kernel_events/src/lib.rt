@@ -6,5 +6,6 @@
 mod events;
 mod last;
 mod settle;
+mod stepping;
 
 pub use events::event;

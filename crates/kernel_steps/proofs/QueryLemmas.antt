@@ -1,6 +1,6 @@
 -- What is asked of a running kernel is what the kernel in place has.
-use Rattle.std.proofs.Common.{◌≡◌, ℕ, suc, ◌≤◌, ◌==◌, Bool, true, false, cond, not, List, [], ◌∷◌, map, length, refl, ap, sym, ◌∙◌, arith, Option, Some, None}
-use Rattle.std.specs.Prelude.{◌||◌}
+use Rattle.std.proofs.Common.{◌≡◌, ℕ, suc, ◌≤◌, ◌<◌, ◌==◌, nat_lt, Bool, true, false, cond, not, List, [], ◌∷◌, map, length, refl, ap, sym, ◌∙◌, arith, Option, Some, None}
+use Rattle.std.specs.Prelude.{◌||◌, find, IfSome}
 use Rattle.std.specs.List.{list_any}
 use Rattle.std.proofs.lemmas.Bool.Decides.{nat_tests}
 use Rattle.kernel_model.specs.declared.Inverse.{Inverse}
@@ -10,7 +10,7 @@ use Rattle.kernel_model.specs.declared.Note.TheVariants.{InGraft}
 use Rattle.kernel_model.specs.declared.Object.{Object}
 use Rattle.kernel_model.specs.Events.{in_order}
 use Rattle.kernel_model.specs.declared.Held.{Held}
-use Rattle.kernel_model.specs.Locks.{LockTable, Touched, outermost_holding}
+use Rattle.kernel_model.specs.Locks.{LockTable, Touched, conflicts, outermost_holding}
 use Rattle.kernel_model.specs.Objects.{Things}
 use Rattle.kernel_model.specs.UndoLog.{undo_all}
 use Rattle.undo_calls.specs.UndoLevels.{innermost}
@@ -69,3 +69,30 @@ none_in_the_way t q o mode h = free_of (held t q) o mode (λ d. none_held_there 
 -- and processes that can't be hold nothing
 pub nobody_in_the_way : (t : List (List Holds)) (q : ℕ) (o : Object) (mode : Mode) → 16 ≤ q → outermost_holding o mode (held t q) ≡ None
 nobody_in_the_way t q o mode h = free_of (held t q) o mode (λ d. ap (λ f. f o) (none_held t q d h))
+
+-- a level that is in the way is there
+in_the_way : (f : ℕ → Touched) (o : Object) (mode : Mode) (d : ℕ) → outermost_holding o mode f ≡ Some d → conflicts (f d o) mode ≡ true
+in_the_way f o mode d h = found_by (λ e. conflicts (f e o) mode) (0 ∷ 1 ∷ 2 ∷ 3 ∷ []) d h
+  where
+    found_by : (test : ℕ → Bool) (ns : List ℕ) (n : ℕ) → find test ns ≡ Some n → test n ≡ true
+    found_by test [] n h = grind (arith, h)
+    found_by test (k ∷ ns) n h = by_test (test k) refl (found_by test ns n)
+      where
+        same : (a b : ℕ) → Some a ≡ Some b → a ≡ b
+        same a b e = cc
+
+        by_test : (b : Bool) → test k ≡ b → (find test ns ≡ Some n → test n ≡ true) → test n ≡ true
+        by_test true is further = ap test (sym (same k n (sym (ap (λ t. cond t (Some k) (find test ns)) is) ∙ h))) ∙ is
+        by_test false is further = further (sym (ap (λ t. cond t (Some k) (find test ns)) is) ∙ h)
+
+pub level_there : (t : List (List Holds)) (q many : ℕ) (o : Object) (mode : Mode) (d : ℕ) → ((e : ℕ) (b : Object) → many ≤ e → held t q e b ≡ Held.Free) → outermost_holding o mode (held t q) ≡ Some d → (b : Bool) → nat_lt d many ≡ b → d < many
+level_there t q many o mode d unheld h true is = grind (arith, nat_tests, is)
+level_there t q many o mode d unheld h false is = absurd (contrary (sym (in_the_way (held t q) o mode d h) ∙ ap (λ k. conflicts k mode) (unheld d o (grind (arith, nat_tests, is)))))
+  where
+    contrary : true ≡ conflicts Held.Free mode → ⊥
+    contrary e = grind (arith, e)
+
+-- what holds of a level, if there is one
+pub level_is : {A : Type 0} (result : Option ℕ) (q : ℕ) (gs : List A) → q < 16 → ((d : ℕ) → result ≡ Some d → d < length gs) → IfSome result (λ d. (q < 16) × (d < length gs))
+level_is None q gs small h = tt
+level_is (Some d) q gs small h = (small, h d refl)

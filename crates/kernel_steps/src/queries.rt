@@ -1,6 +1,6 @@
 //! What an event asks of a running kernel, and how a call joins the order.
 
-ghost use Rattle.std.specs.Prelude.{◌≡◌, ◌<◌, false, length, option_map};
+ghost use Rattle.std.specs.Prelude.{◌≡◌, ◌<◌, false, length, option_map, IfSome};
 ghost use Rattle.kernel_model.specs.declared.Note.TheVariants.{InGraft};
 ghost use Rattle.kernel_model.specs.Events.{in_order, wanted};
 ghost use Rattle.kernel_model.specs.Locks.{outermost_holding};
@@ -8,7 +8,7 @@ ghost use Rattle.lock_table.specs.Numbers.{is_in_range};
 ghost use Rattle.placed_laws.specs.Placed.{has_some, placed_holds, placed_needs};
 ghost use Rattle.placed_laws.specs.PlacedSteps.{placed_joins};
 ghost use Rattle.kernel_steps.specs.Queries.{note_in_graft};
-ghost use Rattle.kernel_steps.specs.Views.{placed_of, IsRunning, Stood, Goes};
+ghost use Rattle.kernel_steps.specs.Views.{placed_of, chain_of, IsRunning, Stood, Goes};
 
 use crate::blocking::{flight, number_of};
 use crate::order::Waiting;
@@ -86,7 +86,8 @@ impl<C: Calls> Running<C> {
     pub fn level_count(&self, p: u8) -> u8
         requires process { p < 16 }
         requires running { IsRunning (λ b. seen (b.vtable, b.value)) (λ w. C.caller w) self.now }
-        ensures { result ≡ length ((placed_of (λ b. seen (b.vtable, b.value)) (λ w. C.stage w) self.now).levels p) }
+        ensures value { result ≡ length ((placed_of (λ b. seen (b.vtable, b.value)) (λ w. C.stage w) self.now).levels p) }
+        ensures chain { result ≡ length (chain_of self.now p).levels }
     {
         flight(&self.calls, p).chain.levels.count()
     }
@@ -139,8 +140,9 @@ impl<C: Calls> Running<C> {
         requires process { p < 16 }
         requires running { IsRunning (λ b. seen (b.vtable, b.value)) (λ w. C.caller w) self.now }
         requires stood { Stood C.Meaning.meaning (placed_of (λ b. seen (b.vtable, b.value)) (λ w. C.stage w) self.now) }
-        ensures { let x = placed_of (λ b. seen (b.vtable, b.value)) (λ w. C.stage w) self.now in
+        ensures value { let x = placed_of (λ b. seen (b.vtable, b.value)) (λ w. C.stage w) self.now in
             result ≡ outermost_holding object (wanted object (placed_needs C.Meaning.meaning x p)) (placed_holds x holder) }
+        ensures there { IfSome result (λ d. (holder < 16) × (d < length (chain_of self.now holder).levels)) }
     {
         laws::test_is_range();
         let mode = self.wanted(p, object);

@@ -1,22 +1,22 @@
-use Rattle.std.proofs.Common.{◌≡◌, ◌∙◌, ap, sym}
+use Rattle.std.proofs.Common.{◌≡◌, ◌∙◌, ap, sym, refl, length, nat_lt}
 use Rattle.kernel_model.specs.Locks.{outermost_holding}
 use Rattle.kernel_model.specs.Events.{wanted}
 use Rattle.lock_table.specs.Masks.{held}
 use Rattle.placed_laws.specs.Placed.{placed_needs}
-use Rattle.kernel_steps.specs.Views.{placed_of}
+use Rattle.kernel_steps.specs.Views.{placed_of, chain_of}
 use Rattle.kernel_steps.proofs.ViewLemmas.{holds_in_place}
-use Rattle.kernel_steps.proofs.QueryLemmas.{none_in_the_way, nobody_in_the_way}
+use Rattle.kernel_steps.proofs.QueryLemmas.{level_is, level_there, none_in_the_way, nobody_in_the_way}
 use Rattle.kernel_steps.proofs.running.Running.level_in_the_way.Goals as goal
 
-pub returns-then-holder-ge16 : goal.returns-then-holder-ge16
-returns-then-holder-ge16 g c =
+pub returns-then-holder-ge16-clause-value : goal.returns-then-holder-ge16-clause-value
+returns-then-holder-ge16-clause-value g c =
     let x = c.args.self.now in
     let mode = wanted c.args.object (placed_needs g.C.Meaning.Rules.meaning (placed_of (λ b. (goal.Policy-dyn g (b.vtable, b.value)).seen b.value) (λ w. g.C.Calls.stage w) x) c.args.p) in
     sym (ap (λ t. outermost_holding c.args.object mode (t c.args.holder)) (holds_in_place (λ b. (goal.Policy-dyn g (b.vtable, b.value)).seen b.value) (λ w. g.C.Calls.stage w) (λ w. g.C.Calls.caller w) x c.requires.running)
     ∙ nobody_in_the_way x.locks c.args.holder c.args.object mode c.if-holder-ge16.true)
 
-pub returns-then-not-is_in_range : goal.returns-then-not-is_in_range
-returns-then-not-is_in_range g c =
+pub returns-then-not-is_in_range-clause-value : goal.returns-then-not-is_in_range-clause-value
+returns-then-not-is_in_range-clause-value g c =
     let x = c.args.self.now in
     let mode = wanted c.args.object (placed_needs g.C.Meaning.Rules.meaning (placed_of (λ b. (goal.Policy-dyn g (b.vtable, b.value)).seen b.value) (λ w. g.C.Calls.stage w) x) c.args.p) in
     sym (ap (λ t. outermost_holding c.args.object mode (t c.args.holder)) (holds_in_place (λ b. (goal.Policy-dyn g (b.vtable, b.value)).seen b.value) (λ w. g.C.Calls.stage w) (λ w. g.C.Calls.caller w) x c.requires.running)
@@ -25,8 +25,12 @@ returns-then-not-is_in_range g c =
 pub level_of-requires-clause-range : goal.level_of-requires-clause-range
 level_of-requires-clause-range g c = (c.test_is_range.ensures c.args.object).0 (sym c.is_in_range.ensures ∙ c.if-not-is_in_range.false)
 
-pub returns : goal.returns
-returns g c =
+pub returns-clause-value : goal.returns-clause-value
+returns-clause-value g c =
     let x = c.args.self.now in
     c.level_of.ensures ∙ ap (λ m. outermost_holding c.args.object m (held x.locks c.args.holder)) c.wanted-mode.ensures
     ∙ sym (ap (λ t. outermost_holding c.args.object (wanted c.args.object (placed_needs g.C.Meaning.Rules.meaning (placed_of (λ b. (goal.Policy-dyn g (b.vtable, b.value)).seen b.value) (λ w. g.C.Calls.stage w) x) c.args.p)) (t c.args.holder)) (holds_in_place (λ b. (goal.Policy-dyn g (b.vtable, b.value)).seen b.value) (λ w. g.C.Calls.stage w) (λ w. g.C.Calls.caller w) x c.requires.running))
+
+pub returns-clause-there : goal.returns-clause-there
+returns-clause-there g c = level_is c.level_of.result c.args.holder (chain_of c.args.self.now c.args.holder).levels c.if-holder-ge16.false
+    (λ d is. level_there c.args.self.now.locks c.args.holder (length (chain_of c.args.self.now c.args.holder).levels) c.args.object c.wanted-mode.result d (c.requires.running.placed c.args.holder c.if-holder-ge16.false).unheld (sym c.level_of.ensures ∙ is) (nat_lt d (length (chain_of c.args.self.now c.args.holder).levels)) refl)

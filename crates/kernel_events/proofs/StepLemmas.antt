@@ -1,0 +1,199 @@
+-- Instructions of a call, one after the other.
+use Rattle.std.proofs.Common.{append_assoc, append-nil, ◌≡◌, ℕ, zero, suc, ◌+◌, ◌-◌, ◌≤◌, ◌<◌, ◌&&◌, Bool, true, false, cond, not, nat_lt, List, [], ◌∷◌, ◌++◌, length, Option, Some, None, arith, refl, ap, sym, subst, ◌∙◌}
+use Rattle.std.specs.Prelude.{is_some, option_map}
+use Rattle.kernel_steps.specs.declared.order.Blocking.{Blocking}
+use Rattle.kernel_steps.specs.Orders.{blocker_of}
+use Rattle.std.proofs.lemmas.Bool.Decides.{nat_tests}
+use Rattle.kernel_model.specs.declared.Note.{Note}
+use Rattle.kernel_model.specs.declared.Note.TheVariants.{Ran}
+use Rattle.kernel_model.specs.World.{Blocks}
+use Rattle.kernel_model.specs.Meaning.{Meaning}
+use Rattle.kernel_model.specs.Kernel.{Blocker}
+use Rattle.kernel_model.specs.Events.{in_order}
+use Rattle.disk_log.specs.Joined.{made_none, made_joined}
+use Rattle.disk_log.specs.Seen.{DiskSeen}
+use Rattle.placed_laws.specs.Placed.{Placed, PlacedRun, has_some, placed_blocker}
+use Rattle.placed_laws.specs.PlacedSteps.{placed_joins, placed_noted, placed_step}
+use Rattle.placed_laws.specs.PlacedEvents.{placed_settled, placed_steps}
+use Rattle.kernel_steps.specs.Did.{first_notes, CameAs, Did}
+use Rattle.kernel_steps.specs.Views.{run_of}
+use Rattle.kernel_events.specs.Went.{takes_up, taken_up, steps_said, steps_left, HasCome}
+
+-- ---- what is left of a change
+
+-- an event under way that came as said is this one
+run_is : (r : PlacedRun) (y : Placed) (kept : List Note) (told : Option (List (List ℕ))) (rest : List Bool) → CameAs r y kept told rest → r ≡ run_of y r.blocks r.notes rest
+run_is r y kept told rest h =
+    ap (λ z. record { placed = z; blocks = r.blocks; notes = r.notes; io = r.io }) h.placed
+    ∙ ap (λ io. record { placed = y; blocks = r.blocks; notes = r.notes; io = io }) h.io
+
+-- at the beginning all is left
+pub come_first : (f : PlacedRun → PlacedRun) (x : Placed) (kept : List Note) (d : DiskSeen) → HasCome f f x x kept kept d d
+come_first f x kept d =
+    record {
+      io = [];
+      made = made_none d.faults d.plan;
+      now = λ blocks notes rest. run_of x blocks notes rest;
+      came = λ blocks notes rest tells k. record { placed = refl; notes = k; blocks = tells; io = refl };
+      goes = λ blocks notes rest tells k. refl;
+    }
+
+-- what is left goes on with a part of it
+pub come_on : (f left later g : PlacedRun → PlacedRun) (x y z : Placed) (a b c : List Note) (d e l : DiskSeen) → HasCome f left x y a b d e → Did g y z b c e l →
+    ((blocks : Blocks) (notes : List Note) (io : List Bool) → left (run_of y blocks notes io) ≡ later (g (run_of y blocks notes io))) → HasCome f later x z a c d l
+come_on f left later g x y z a b c d e l h did same =
+    record {
+      io = h.io ++ did.io;
+      made = made_joined d.faults e.faults l.faults d.plan e.plan l.plan h.io did.io h.made did.made;
+      now = λ blocks notes rest. g (h.now blocks notes (did.io ++ rest));
+      came = λ blocks notes rest tells k.
+          let one = h.came blocks notes (did.io ++ rest) tells k in
+          let r = h.now blocks notes (did.io ++ rest) in
+          subst (λ s. CameAs (g s) z c l.told rest) (sym (run_is r y b e.told (did.io ++ rest) one)) (did.goes r.blocks r.notes rest one.blocks one.notes);
+      goes = λ blocks notes rest tells k.
+          let one = h.came blocks notes (did.io ++ rest) tells k in
+          let r = h.now blocks notes (did.io ++ rest) in
+          let is = run_is r y b e.told (did.io ++ rest) one in
+          ap (λ io. f (run_of x blocks notes io)) (append_assoc h.io did.io rest) ∙ h.goes blocks notes (did.io ++ rest) tells k
+          ∙ ap left is ∙ same r.blocks r.notes (did.io ++ rest) ∙ ap (λ s. later (g s)) (sym is);
+    }
+
+-- what is left is done
+pub come_last : (f left : PlacedRun → PlacedRun) (x y z : Placed) (a b c : List Note) (d e l : DiskSeen) → HasCome f left x y a b d e → Did left y z b c e l → Did f x z a c d l
+come_last f left x y z a b c d e l h did =
+    record {
+      io = h.io ++ did.io;
+      made = made_joined d.faults e.faults l.faults d.plan e.plan l.plan h.io did.io h.made did.made;
+      goes = λ blocks notes rest tells k.
+          let one = h.came blocks notes (did.io ++ rest) tells k in
+          let r = h.now blocks notes (did.io ++ rest) in
+          let is = run_is r y b e.told (did.io ++ rest) one in
+          subst (λ s. CameAs s z c l.told rest) (sym (ap (λ io. f (run_of x blocks notes io)) (append_assoc h.io did.io rest) ∙ h.goes blocks notes (did.io ++ rest) tells k ∙ ap left is))
+          (did.goes r.blocks r.notes rest one.blocks one.notes);
+    }
+
+-- ---- one instruction
+
+module _ (m : Meaning) (x : Placed) (p : ℕ) where
+  -- the call can't: it has no level, or stands in the order
+  pub taken_none : (has_some (x.levels p) && not (in_order p x.order)) ≡ false → (takes_up m x p ≡ false) × ((blocks : Blocks) (notes : List Note) (io : List Bool) → taken_up m p (run_of x blocks notes io) ≡ run_of x blocks notes io)
+  taken_none h = (
+    ap (λ b. b && not (is_some (placed_blocker m x p))) h,
+    λ blocks notes io. ap (λ b. elim b as (λ _. PlacedRun) [
+      | false ↦ run_of x blocks notes io
+      | true ↦ elim (placed_blocker m x p) [ Some b ↦ placed_settled m (placed_joins p (run_of x blocks notes io)) | None ↦ placed_settled m (placed_step m p (run_of x blocks notes io)) ]
+    ]) h,
+  )
+
+
+  pub taken_by : (o : Option Blocker) → (has_some (x.levels p) && not (in_order p x.order)) ≡ true → placed_blocker m x p ≡ o →
+      (takes_up m x p ≡ not (is_some o)) × ((blocks : Blocks) (notes : List Note) (io : List Bool) → taken_up m p (run_of x blocks notes io) ≡ elim o as (λ _. PlacedRun) [ Some b ↦ placed_settled m (placed_joins p (run_of x blocks notes io)) | None ↦ placed_settled m (placed_step m p (run_of x blocks notes io)) ])
+  taken_by o h is = (
+    ap (λ b. b && not (is_some (placed_blocker m x p))) h ∙ ap (λ q. not (is_some q)) is,
+    λ blocks notes io. ap (λ b. elim b as (λ _. PlacedRun) [
+      | false ↦ run_of x blocks notes io
+      | true ↦ elim (placed_blocker m x p) [ Some b ↦ placed_settled m (placed_joins p (run_of x blocks notes io)) | None ↦ placed_settled m (placed_step m p (run_of x blocks notes io)) ]
+    ]) h
+    ∙ ap (λ q. elim q as (λ _. PlacedRun) [ Some b ↦ placed_settled m (placed_joins p (run_of x blocks notes io)) | None ↦ placed_settled m (placed_step m p (run_of x blocks notes io)) ]) is,
+  )
+
+  -- the instructions after one that was taken up or not
+  pub steps_one : (number k taken : ℕ) (a : Bool) (o : Option Blocker) → (has_some (x.levels p) && not (in_order p x.order)) ≡ a → placed_blocker m x p ≡ o → (blocks : Blocks) (notes : List Note) (io : List Bool) →
+      steps_said m number p (suc k) taken (run_of x blocks notes io) ≡ steps_left m number p k (cond (a && not (is_some o)) (taken + 1) taken) (a && not (is_some o)) (taken_up m p (run_of x blocks notes io))
+  steps_one number k taken false o h is blocks notes io =
+      let r = run_of x blocks notes io in
+      ap (λ b. let s = elim b as (λ _. ℕ × PlacedRun) [
+        | false ↦ (taken, r)
+        | true ↦ elim (placed_blocker m x p) [ Some b ↦ (taken, placed_settled m (placed_joins p r)) | None ↦ placed_steps m p k (suc taken) (placed_settled m (placed_step m p r)) ]
+      ] in placed_noted (Ran number s.0) s.1) h
+      ∙ ap (placed_noted (Ran number taken)) (sym ((taken_none h).1 blocks notes io))
+  steps_one number k taken true None h is blocks notes io =
+      let r = run_of x blocks notes io in
+      ap (λ b. let s = elim b as (λ _. ℕ × PlacedRun) [
+        | false ↦ (taken, r)
+        | true ↦ elim (placed_blocker m x p) [ Some b ↦ (taken, placed_settled m (placed_joins p r)) | None ↦ placed_steps m p k (suc taken) (placed_settled m (placed_step m p r)) ]
+      ] in placed_noted (Ran number s.0) s.1) h
+      ∙ ap (λ q. let s = elim q as (λ _. ℕ × PlacedRun) [ Some b ↦ (taken, placed_settled m (placed_joins p r)) | None ↦ placed_steps m p k (suc taken) (placed_settled m (placed_step m p r)) ] in placed_noted (Ran number s.0) s.1) is
+      ∙ ap (λ t. steps_said m number p k t (placed_settled m (placed_step m p r))) one_more
+      ∙ ap (steps_said m number p k (taken + 1)) (sym ((taken_by None h is).1 blocks notes io))
+    where
+      one_more : suc taken ≡ taken + 1
+      one_more = omega arith
+  steps_one number k taken true (Some b) h is blocks notes io =
+      let r = run_of x blocks notes io in
+      ap (λ t. let s = elim t as (λ _. ℕ × PlacedRun) [
+        | false ↦ (taken, r)
+        | true ↦ elim (placed_blocker m x p) [ Some b ↦ (taken, placed_settled m (placed_joins p r)) | None ↦ placed_steps m p k (suc taken) (placed_settled m (placed_step m p r)) ]
+      ] in placed_noted (Ran number s.0) s.1) h
+      ∙ ap (λ q. let s = elim q as (λ _. ℕ × PlacedRun) [ Some b ↦ (taken, placed_settled m (placed_joins p r)) | None ↦ placed_steps m p k (suc taken) (placed_settled m (placed_step m p r)) ] in placed_noted (Ran number s.0) s.1) is
+      ∙ ap (placed_noted (Ran number taken)) (sym ((taken_by (Some b) h is).1 blocks notes io))
+
+  -- the same by whether it was taken up
+  pub steps_next : (number left k taken next : ℕ) (went : Bool) → left ≡ suc k → went ≡ takes_up m x p → next ≡ cond went (taken + 1) taken → (blocks : Blocks) (notes : List Note) (io : List Bool) →
+      steps_left m number p left taken true (run_of x blocks notes io) ≡ steps_left m number p k next went (taken_up m p (run_of x blocks notes io))
+  steps_next number left k taken next went left_is went_is next_is blocks notes io =
+      ap (λ n. steps_said m number p n taken (run_of x blocks notes io)) left_is
+      ∙ steps_one number k taken (has_some (x.levels p) && not (in_order p x.order)) (placed_blocker m x p) refl refl blocks notes io
+      ∙ ap (λ b. steps_left m number p k (cond b (taken + 1) taken) b (taken_up m p (run_of x blocks notes io))) (sym went_is)
+      ∙ ap (λ t. steps_left m number p k t went (taken_up m p (run_of x blocks notes io))) (sym next_is)
+
+-- with no instruction left, or where the call can't go on, the note is left
+pub steps_over : (m : Meaning) (number p left taken : ℕ) (going : Bool) (r : PlacedRun) → (going && nat_lt 0 left) ≡ false → steps_left m number p left taken going r ≡ placed_noted (Ran number taken) r
+steps_over m number p left taken false r h = refl
+steps_over m number p zero taken true r h = refl
+steps_over m number p (suc k) taken true r h = absurd (grind (arith, nat_tests, h))
+
+-- a call that doesn't go on has the note left, however many instructions are
+pub steps_stopped : (m : Meaning) (number p left other taken : ℕ) (r : PlacedRun) → steps_left m number p left taken false r ≡ steps_left m number p other taken false r
+steps_stopped m number p left other taken r = refl
+
+-- ---- what tests tell
+
+-- one of both doesn't hold
+pub not_first : (a b : Bool) → a ≡ false → (a && not b) ≡ false
+not_first a b h = ap (λ c. c && not b) h
+
+pub not_second : (a b : Bool) → b ≡ true → (a && not b) ≡ false
+not_second true b h = ap not h
+not_second false b h = refl
+
+-- both do
+pub can_step : (a b : Bool) → a ≡ true → b ≡ false → (a && not b) ≡ true
+can_step a b h k = ap (λ c. c && not b) h ∙ ap not k
+
+-- a blocker that there is
+pub some_is : (o : Option Blocker) → is_some o ≡ true → (b : Blocker) × (o ≡ Some b)
+some_is None h = grind (arith, h)
+some_is (Some b) h = (b, refl)
+
+-- what the code found is what there is
+pub blocker_told : (f : Option Blocking) (o : Option Blocker) → option_map blocker_of f ≡ o → is_some f ≡ true → is_some o ≡ true
+blocker_told None o is h = grind (arith, h)
+blocker_told (Some f) o is h = ap is_some (sym is)
+
+pub no_blocker_told : (f : Option Blocking) (o : Option Blocker) → option_map blocker_of f ≡ o → is_some f ≡ false → o ≡ None
+no_blocker_told None o is h = sym is
+no_blocker_told (Some f) o is h = grind (arith, h)
+
+-- the instructions that are left, by what was left before
+pub steps_again : (m : Meaning) (number p k left next : ℕ) (went : Bool) (r : PlacedRun) → (went ≡ true → k ≡ left) → steps_left m number p k next went r ≡ steps_left m number p left next went r
+steps_again m number p k left next true r same = ap (λ n. steps_left m number p n next true r) (same refl)
+steps_again m number p k left next false r same = refl
+
+-- what is left after one
+pub one_less : (n taken next : ℕ) (went : Bool) → next ≡ cond went (taken + 1) taken → went ≡ true → n - taken - 1 ≡ n - next
+one_less n taken next true is h = let e : next ≡ taken + 1 = is in omega (arith, e)
+one_less n taken next false is h = grind (arith, h)
+
+-- no more than were to be taken
+pub still_few : (n taken next : ℕ) (went : Bool) → taken < n → next ≡ cond went (taken + 1) taken → next ≤ n
+still_few n taken next true few is = let e : next ≡ taken + 1 = is in omega (arith, e, few)
+still_few n taken next false few is = let e : next ≡ taken = is in omega (arith, e, few)
+
+-- nothing is left: the call can't go on, or all were taken
+pub all_taken : (n taken : ℕ) (going : Bool) → n ≤ taken → (going && nat_lt 0 (n - taken)) ≡ false
+all_taken n taken true h = grind (arith, nat_tests, h)
+all_taken n taken false h = refl
+
+pub not_going : (n taken : ℕ) (going : Bool) → going ≡ false → (going && nat_lt 0 (n - taken)) ≡ false
+not_going n taken going h = ap (λ b. b && nat_lt 0 (n - taken)) h
