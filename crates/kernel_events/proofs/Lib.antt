@@ -2,3 +2,4 @@ pub mod WentLemmas
 pub mod SettleLemmas
 pub mod LastLemmas
 pub mod StepLemmas
+pub mod TickLemmas

@@ -24,6 +24,14 @@ pub record Went {C M W X : Type 0} {F : X → Type 0} (m : Meaning) (view : Seei
   pub world : world_of_store y.store ≡ world_of_store x.store
   pub clock : y.clock ≡ x.clock
 
+-- the same of a change with which the clock rises by one
+pub record Ticked {C M W X : Type 0} {F : X → Type 0} (m : Meaning) (view : Seeing X F) (stage : W → Stage) (caller : W → ℕ) (f : PlacedRun → PlacedRun) (x y : Running C M W X F) (kept kept_new : List Note) (d e : DiskSeen) : Type 0 where
+  pub did : Did f (placed_of view stage x) (placed_of view stage y) kept kept_new d e
+  pub running : IsRunning view caller y
+  pub stood : Stood m (placed_of view stage y)
+  pub world : world_of_store y.store ≡ world_of_store x.store
+  pub clock : y.clock ≡ suc x.clock
+
 -- ---- instructions
 
 module _ (m : Meaning) where

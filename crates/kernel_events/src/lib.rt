@@ -7,5 +7,6 @@ mod events;
 mod last;
 mod settle;
 mod stepping;
+mod ticks;
 
 pub use events::event;
