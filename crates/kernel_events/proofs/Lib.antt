@@ -3,3 +3,4 @@ pub mod SettleLemmas
 pub mod LastLemmas
 pub mod StepLemmas
 pub mod TickLemmas
+pub mod EventLemmas

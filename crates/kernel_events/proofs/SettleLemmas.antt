@@ -54,7 +54,6 @@ free_small m shown x p s h = called_small m x p s (free_called m shown x p s h)
 
 -- ---- what settling is
 
-
 -- no turn is left
 pub settle_none : (m : Meaning) (n : ℕ) (r : PlacedRun) → n ≡ 0 → placed_settle m n r ≡ placed_rested m r
 settle_none m n r h = ap (λ k. placed_settle m k r) h

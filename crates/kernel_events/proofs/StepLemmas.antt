@@ -85,7 +85,6 @@ module _ (m : Meaning) (x : Placed) (p : ℕ) where
     ]) h,
   )
 
-
   pub taken_by : (o : Option Blocker) → (has_some (x.levels p) && not (in_order p x.order)) ≡ true → placed_blocker m x p ≡ o →
       (takes_up m x p ≡ not (is_some o)) × ((blocks : Blocks) (notes : List Note) (io : List Bool) → taken_up m p (run_of x blocks notes io) ≡ elim o as (λ _. PlacedRun) [ Some b ↦ placed_settled m (placed_joins p (run_of x blocks notes io)) | None ↦ placed_settled m (placed_step m p (run_of x blocks notes io)) ])
   taken_by o h is = (
@@ -94,7 +93,7 @@ module _ (m : Meaning) (x : Placed) (p : ℕ) where
       | false ↦ run_of x blocks notes io
       | true ↦ elim (placed_blocker m x p) [ Some b ↦ placed_settled m (placed_joins p (run_of x blocks notes io)) | None ↦ placed_settled m (placed_step m p (run_of x blocks notes io)) ]
     ]) h
-    ∙ ap (λ q. elim q as (λ _. PlacedRun) [ Some b ↦ placed_settled m (placed_joins p (run_of x blocks notes io)) | None ↦ placed_settled m (placed_step m p (run_of x blocks notes io)) ]) is,
+        ∙ ap (λ q. elim q as (λ _. PlacedRun) [ Some b ↦ placed_settled m (placed_joins p (run_of x blocks notes io)) | None ↦ placed_settled m (placed_step m p (run_of x blocks notes io)) ]) is,
   )
 
   -- the instructions after one that was taken up or not
