@@ -1,14 +1,13 @@
 -- The piece of a call that is in no graft: it asks a point at which a graft stands, or it is done by default.
-use Rattle.std.proofs.Common.{◌≡◌, ◌≢◌, ℕ, ◌<◌, Bool, true, false, List, [], ◌∷◌, map, length, refl, ap, sym, subst, ◌∙◌, arith, Option, Some, None}
+use Rattle.std.proofs.Common.{◌≡◌, ℕ, ◌<◌, Bool, true, false, List, [], refl, ap, sym, ◌∙◌, arith, Option, Some, None}
 use Rattle.std.specs.Prelude.{option_map, is_some}
-use Rattle.kernel_model.specs.declared.Need.{Need}
 use Rattle.kernel_model.specs.declared.Note.{Note}
 use Rattle.kernel_model.specs.declared.Point.{Point}
-use Rattle.kernel_model.specs.World.{World, ImageTable, Blocks}
+use Rattle.kernel_model.specs.World.{World, Blocks}
 use Rattle.kernel_model.specs.Objects.{Objects, GraftValue}
 use Rattle.kernel_model.specs.Policies.{lives}
 use Rattle.kernel_model.specs.Meaning.{Meaning, Stage}
-use Rattle.kernel_model.specs.Laws.{Laws, IsReady, IsStanding}
+use Rattle.kernel_model.specs.Laws.{IsReady}
 use Rattle.kernel_model.specs.Levels.{Config}
 use Rattle.kernel_model.specs.History.{begin_at}
 use Rattle.kernel_model.specs.Sound.{IsSoundStore}
@@ -16,14 +15,14 @@ use Rattle.disk_log.specs.Seen.{DiskSeen}
 use Rattle.kernel_state.specs.Stores.{Seeing, world_of_store, objects_of}
 use Rattle.graft_loader.specs.Slots.{table_of}
 use Rattle.placed_laws.specs.Owners.{OwnersStay}
-use Rattle.placed_laws.specs.Placed.{Placed, PlacedCall, PlacedLevel, PlacedRun, bare}
+use Rattle.placed_laws.specs.Placed.{PlacedCall}
 use Rattle.placed_laws.specs.PlacedSteps.{placed_call_step, placed_piece_at, placed_piece_step, placed_step_by, with_config}
 use Rattle.placed_laws.specs.Soundness.{ReadyInPlace}
 use Rattle.kernel_steps.specs.declared.running.InFlight.{InFlight}
 use Rattle.kernel_steps.specs.declared.running.Running.{Running}
 use Rattle.kernel_steps.specs.Moves.{come_to, Moved}
 use Rattle.kernel_steps.specs.Steps.{finishes, StepDone}
-use Rattle.kernel_steps.specs.Views.{placed_of, flight_of, chain_of, levels_at, call_at, call_in_place, run_of, IsRunning, Stood}
+use Rattle.kernel_steps.specs.Views.{placed_of, flight_of, chain_of, call_in_place, run_of, IsRunning, Stood}
 use Rattle.kernel_steps.proofs.PartLemmas.{levels_come, none_at}
 use Rattle.kernel_steps.proofs.StepLemmas.{alone_moved, done_as, moved_done, nothing_done, of_one}
 

@@ -1,18 +1,16 @@
 -- What an instruction, and the drop of a level, can say.
-use Rattle.std.proofs.Common.{◌≡◌, ℕ, zero, suc, ◌+◌, ◌==◌, Bool, true, false, cond, List, [], ◌∷◌, length, refl, ap, sym, subst, ◌∙◌, arith, Option, Some, None}
-use Rattle.std.proofs.lemmas.Bool.Decides.{nat_tests}
+use Rattle.std.proofs.Common.{◌≡◌, ℕ, zero, suc, ◌+◌, ◌==◌, Bool, true, false, List, [], ◌∷◌, length, refl, arith, Option, Some, None}
 use Rattle.kernel_model.specs.declared.Cause.{Cause}
 use Rattle.kernel_model.specs.declared.Cause.TheVariants.{DivideByZero, Trap, SpentSteps, SpentRecords, SpentLocks, RefusedAnswer}
 use Rattle.kernel_model.specs.declared.Inverse.{Inverse}
-use Rattle.kernel_model.specs.declared.Kind.TheVariants.{Steps, Records, Locks}
-use Rattle.kernel_model.specs.declared.Micro.{Micro}
+use Rattle.kernel_model.specs.declared.Kind.TheVariants.{Steps}
 use Rattle.kernel_model.specs.World.{World, ImageTable}
 use Rattle.kernel_model.specs.Objects.{Objects, Things, GraftValue, with_accounts}
 use Rattle.kernel_model.specs.Access.{Access, Gives, Changes, Refuses}
 use Rattle.kernel_model.specs.Charges.{charge}
 use Rattle.kernel_model.specs.Machine.{seg_step, Machine, Done, Called, Returned, Trapped, Outside, PastEnd}
-use Rattle.kernel_model.specs.Levels.{code_of, Level, Config, Outcome, answer_innermost, drop_innermost, drop_level}
-use Rattle.kernel_model.specs.GraftStep.{after_accessor, after_ask, after_call, after_change, after_machine, after_result, after_return, ask_answered, charged_step, completed, granted_call, lock_paid, micro_on, micro}
+use Rattle.kernel_model.specs.Levels.{code_of, Level, Outcome, answer_innermost, drop_innermost, drop_level}
+use Rattle.kernel_model.specs.GraftStep.{after_accessor, after_ask, after_call, after_change, after_machine, after_result, after_return, ask_answered, charged_step, completed, granted_call, lock_paid, micro_on}
 use Rattle.kernel_steps.specs.Steps.{answer_of_drop, answer_said}
 use Rattle.kernel_steps.proofs.StepLemmas.{EndsAs}
 

@@ -1,9 +1,8 @@
 -- A kernel in place in which a piece of one call was done.
-use Rattle.std.proofs.Common.{◌≡◌, ◌≢◌, ℕ, suc, ◌+◌, ◌*◌, ◌≤◌, ◌<◌, ◌==◌, Bool, true, false, cond, nat_lt, List, [], ◌∷◌, ◌++◌, drop, map, length, slice_index, refl, ap, sym, subst, ◌∙◌, arith, Option, Some, None}
+use Rattle.std.proofs.Common.{◌≡◌, ℕ, ◌+◌, ◌<◌, ◌==◌, Bool, true, false, cond, nat_lt, List, [], ◌∷◌, ◌++◌, drop, map, length, refl, ap, sym, subst, ◌∙◌, arith, Option}
 use Rattle.std.specs.Prelude.{option_map}
 use Rattle.std.proofs.Math.Path.{fun_ext}
 use Rattle.std.proofs.lemmas.Bool.{eqb-true}
-use Rattle.std.proofs.lemmas.Bool.Decides.{nat_tests}
 use Rattle.kernel_model.specs.declared.Inverse.{Inverse}
 use Rattle.kernel_model.specs.declared.Note.{Note}
 use Rattle.kernel_model.specs.World.{World, ImageTable, Blocks}
@@ -22,17 +21,15 @@ use Rattle.graft_loader.specs.Slots.{table_of}
 use Rattle.graft_calls.specs.declared.GraftLevel.{GraftLevel}
 use Rattle.graft_calls.specs.declared.Chain.{Chain}
 use Rattle.graft_calls.specs.Chains.{levels_in, levels_of, outer}
-use Rattle.disk_log.specs.Calls.{Tells}
 use Rattle.disk_log.specs.Seen.{DiskSeen}
-use Rattle.placed_laws.specs.Placed.{Placed, PlacedCall, PlacedLevel, PlacedRun, bare}
+use Rattle.placed_laws.specs.Placed.{Placed, PlacedCall, PlacedLevel, bare}
 use Rattle.placed_laws.specs.PlacedSteps.{placed_after, placed_finish}
 use Rattle.kernel_steps.specs.declared.running.InFlight.{InFlight}
-use Rattle.kernel_steps.specs.declared.running.Flight.{Flight}
 use Rattle.kernel_steps.specs.declared.running.Running.{Running}
 use Rattle.kernel_steps.specs.Orders.{order_of}
-use Rattle.kernel_steps.specs.Did.{first_notes, CameAs, Did, Reaches, PieceLeft, PieceDone}
+use Rattle.kernel_steps.specs.Did.{CameAs, Did, Reaches, PieceLeft, PieceDone}
 use Rattle.kernel_steps.specs.Steps.{finishes}
-use Rattle.kernel_steps.specs.Views.{placed_of, flight_of, chain_of, no_chain, levels_at, call_at, call_in_place, run_of}
+use Rattle.kernel_steps.specs.Views.{placed_of, flight_of, chain_of, no_chain, levels_at, call_in_place, run_of}
 use Rattle.kernel_steps.proofs.CallLemmas.{with_call, calls_changed, chain_of_changed}
 use Rattle.kernel_steps.proofs.MoveLemmas.{bare_in}
 

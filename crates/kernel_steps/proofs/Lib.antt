@@ -17,3 +17,4 @@ pub mod PartLemmas
 pub mod AskLemmas
 pub mod QueryLemmas
 pub mod ShownLemmas
+pub mod OpeningLemmas

@@ -1,12 +1,10 @@
 -- The parts of a step: an instruction, the drop of a level, and a piece.
-use Rattle.std.proofs.Common.{◌≡◌, ◌≢◌, ℕ, zero, suc, ◌≤◌, ◌<◌, Bool, true, false, List, [], ◌∷◌, map, length, refl, ap, sym, subst, ◌∙◌, arith, Option, Some, None}
+use Rattle.std.proofs.Common.{◌≡◌, ℕ, zero, suc, ◌<◌, true, List, [], ◌∷◌, map, length, refl, ap, sym, subst, ◌∙◌, arith, Option, Some, None}
 use Rattle.std.specs.Prelude.{option_map}
 use Rattle.kernel_model.specs.declared.Cause.{Cause}
 use Rattle.kernel_model.specs.declared.Micro.{Micro}
 use Rattle.kernel_model.specs.declared.Note.{Note}
 use Rattle.kernel_model.specs.GraftStep.{micro}
-use Rattle.kernel_model.specs.World.{World, ImageTable, Blocks}
-use Rattle.kernel_model.specs.Objects.{Objects, at}
 use Rattle.kernel_model.specs.Meaning.{Meaning, Stage}
 use Rattle.kernel_model.specs.Laws.{IsReady}
 use Rattle.kernel_model.specs.Levels.{Level, Config, Outcome, drop_level}
@@ -14,7 +12,7 @@ use Rattle.lock_table.specs.Masks.{held}
 use Rattle.disk_log.specs.Seen.{DiskSeen}
 use Rattle.kernel_state.specs.Stores.{Seeing, world_of_store, objects_of}
 use Rattle.graft_loader.specs.Slots.{table_of}
-use Rattle.graft_calls.specs.Chains.{call_of, levels_of}
+use Rattle.graft_calls.specs.Chains.{levels_of}
 use Rattle.placed_laws.specs.Owners.{AreOfOwner, OwnersStay}
 use Rattle.placed_laws.specs.Placed.{Placed, PlacedCall, PlacedLevel, PlacedRun, bare, has_some, placed_config, placed_levels}
 use Rattle.placed_laws.specs.PlacedSteps.{placed_call_step, placed_outcome, placed_step_by, with_config}

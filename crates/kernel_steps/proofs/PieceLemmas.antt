@@ -1,5 +1,5 @@
 -- What a piece of a call in flight comes to.
-use Rattle.std.proofs.Common.{append-nil, ◌≡◌, ℕ, Bool, List, [], ◌∷◌, ◌++◌, Option, Some, None, length, ap, sym, subst, ◌∙◌, refl}
+use Rattle.std.proofs.Common.{append-nil, ◌≡◌, ℕ, Bool, List, [], ◌++◌, Option, Some, length, ap, sym, subst, ◌∙◌}
 use Rattle.kernel_model.specs.declared.Note.{Note}
 use Rattle.kernel_model.specs.World.{World, ImageTable, Blocks}
 use Rattle.kernel_model.specs.Objects.{Objects}
@@ -17,7 +17,7 @@ use Rattle.call_pieces.specs.declared.Next.{Next}
 use Rattle.call_pieces.specs.Works.{comes_after}
 use Rattle.kernel_steps.specs.declared.running.InFlight.{InFlight}
 use Rattle.kernel_steps.specs.Views.{call_in_place}
-use Rattle.kernel_steps.specs.Did.{first_notes, PieceLeft, PieceMayLeave, PieceDone}
+use Rattle.kernel_steps.specs.Did.{first_notes, PieceDone}
 
 pub piece_done : (m : Meaning) (v : World) (s u : Objects) (p : ℕ) (c : PlacedCall) (call : Option PlacedCall) (answer : Option (List ℕ)) (kept mid kept_new : List Note) (told told_new : Option (List (List ℕ)))
     (plan plan_new : Option Plan) (faults faults_new : ℕ) (io : List Bool) (gave : Option (List ℕ)) (after : After) →

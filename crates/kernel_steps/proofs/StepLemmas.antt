@@ -4,18 +4,14 @@ use Rattle.std.specs.Prelude.{option_map, ⊤}
 use Rattle.std.proofs.lemmas.Bool.{eqb-true}
 use Rattle.std.proofs.lemmas.Bool.Decides.{nat_tests}
 use Rattle.std.proofs.Math.Path.{fun_ext}
-use Rattle.kernel_model.specs.declared.Cause.{Cause}
-use Rattle.kernel_model.specs.declared.Held.{Held}
 use Rattle.kernel_model.specs.declared.Inverse.{Inverse}
 use Rattle.kernel_model.specs.declared.Micro.{Micro}
 use Rattle.kernel_model.specs.declared.Note.{Note}
 use Rattle.kernel_model.specs.declared.Note.TheVariants.{Dropped}
-use Rattle.kernel_model.specs.declared.Object.{Object}
-use Rattle.kernel_model.specs.World.{World, ImageTable, Blocks}
-use Rattle.kernel_model.specs.Objects.{Objects, Things, at}
+use Rattle.kernel_model.specs.World.{Blocks}
+use Rattle.kernel_model.specs.Objects.{Things, at}
 use Rattle.kernel_model.specs.Meaning.{Meaning, Stage, Piece}
 use Rattle.kernel_model.specs.Levels.{Level, Config, Outcome}
-use Rattle.kernel_model.specs.Laws.{IsReady}
 use Rattle.kernel_model.specs.Locks.{LockTable}
 use Rattle.kernel_model.specs.UndoLog.{undo_all}
 use Rattle.undo_calls.specs.UndoLevels.{innermost}
@@ -28,15 +24,15 @@ use Rattle.graft_calls.specs.declared.Chain.{Chain}
 use Rattle.graft_calls.specs.Calls.{IsPlaced, AreInside}
 use Rattle.graft_calls.specs.Chains.{levels_in, outer}
 use Rattle.placed_laws.specs.Owners.{AreOwn, AreOfOwner}
-use Rattle.placed_laws.specs.Placed.{Placed, PlacedCall, PlacedLevel, PlacedRun, bare}
+use Rattle.placed_laws.specs.Placed.{PlacedCall, PlacedLevel, PlacedRun, bare}
 use Rattle.placed_laws.specs.PlacedSteps.{placed_finish, placed_finish_on, placed_noted, placed_after_outcome, placed_outcome, with_config}
 use Rattle.kernel_steps.specs.declared.running.InFlight.{InFlight}
 use Rattle.kernel_steps.specs.declared.running.Running.{Running}
-use Rattle.kernel_steps.specs.Did.{first_notes, Did, Reaches, PieceDone}
+use Rattle.kernel_steps.specs.Did.{first_notes, PieceDone}
 use Rattle.kernel_steps.specs.Moves.{come_to, Moved}
 use Rattle.kernel_steps.specs.Owned.{AreOwned}
 use Rattle.kernel_steps.specs.Steps.{finishes, after_drop, after_said, answer_of_drop, answer_said, IsOfOne, StepsAlone, Stepped, StepDone}
-use Rattle.kernel_steps.specs.Views.{placed_of, flight_of, chain_of, no_chain, levels_at, call_at, call_in_place, run_of, IsRunning}
+use Rattle.kernel_steps.specs.Views.{placed_of, flight_of, chain_of, no_chain, levels_at, call_in_place, run_of, IsRunning}
 use Rattle.kernel_steps.proofs.CallLemmas.{with_call, call_of_changed, chain_of_changed, still_sixteen}
 use Rattle.kernel_steps.specs.Composing.{did_nothing, did_as, did_purely, did_then, reaches_as, reaches_behind, reaches_purely}
 use Rattle.kernel_steps.specs.WholeBlocks.{some_blocks, blocks_are_whole}

@@ -1,37 +1,32 @@
 -- A whole step of a call, and the drop of one of its levels.
-use Rattle.std.proofs.Common.{append-nil, ◌≡◌, ◌≢◌, ℕ, ◌<◌, Bool, true, false, cond, List, [], ◌∷◌, ◌++◌, map, length, refl, ap, sym, subst, ◌∙◌, arith, Option, Some, None}
-use Rattle.std.specs.Prelude.{option_map, is_some}
+use Rattle.std.proofs.Common.{append-nil, ◌≡◌, ◌≢◌, ℕ, ◌<◌, Bool, true, cond, List, [], ◌∷◌, ◌++◌, length, refl, ap, sym, subst, ◌∙◌, arith, Option, Some, None}
+use Rattle.std.specs.Prelude.{is_some}
 use Rattle.kernel_model.specs.declared.Cause.{Cause}
-use Rattle.kernel_model.specs.declared.Held.{Held}
 use Rattle.kernel_model.specs.declared.Note.{Note}
-use Rattle.kernel_model.specs.declared.Object.{Object}
-use Rattle.kernel_model.specs.World.{World, Blocks}
-use Rattle.kernel_model.specs.Objects.{Objects, SameAt}
+use Rattle.kernel_model.specs.World.{Blocks}
+use Rattle.kernel_model.specs.Objects.{SameAt}
 use Rattle.kernel_model.specs.Meaning.{Meaning, Stage}
-use Rattle.kernel_model.specs.Kernel.{Call, Entry, Kernel, Run, new_entry, less_entry, has_level}
+use Rattle.kernel_model.specs.Kernel.{Call, Entry, Run, new_entry, less_entry, has_level}
 use Rattle.kernel_model.specs.Settle.{step}
 use Rattle.kernel_model.specs.Events.{drop_call}
-use Rattle.kernel_model.specs.Levels.{Config, Outcome, drop_level}
+use Rattle.kernel_model.specs.Levels.{drop_level}
 use Rattle.kernel_model.specs.Sound.{HasWholeBlocks}
 use Rattle.disk_log.specs.Seen.{DiskSeen}
-use Rattle.kernel_state.specs.Stores.{Seeing, objects_of}
-use Rattle.graft_calls.specs.Chains.{levels_in}
+use Rattle.kernel_state.specs.Stores.{Seeing}
 use Rattle.placed_laws.specs.Agreeing.{SameShown}
 use Rattle.placed_laws.specs.Keeping.{StepsStand, DropsStand, HeldStays as HeldStaysInPlace}
-use Rattle.placed_laws.specs.Placed.{Placed, PlacedCall, PlacedLevel, PlacedRun, bare, has_some, placed_blocker, placed_config, placed_holds}
+use Rattle.placed_laws.specs.Placed.{Placed, PlacedCall, PlacedLevel, PlacedRun, has_some, placed_blocker, placed_config}
 use Rattle.placed_laws.specs.PlacedSteps.{is_placed_at_piece, placed_call_step, placed_drop, placed_drop_by, placed_outcome, placed_requeue, placed_step}
 use Rattle.placed_laws.specs.Soundness.{SoundInPlace}
 use Rattle.placed_laws.specs.Stands.{StandsFor, RunStandsFor, without_history}
-use Rattle.kernel_steps.specs.declared.running.InFlight.{InFlight}
 use Rattle.kernel_steps.specs.declared.running.Running.{Running}
 use Rattle.kernel_steps.specs.Did.{first_notes, Did, Reaches}
 use Rattle.kernel_steps.specs.Moves.{HeldStays}
 use Rattle.kernel_steps.specs.Steps.{StepDone}
-use Rattle.kernel_steps.specs.Views.{placed_of, chain_of, levels_at, call_at, run_of, IsRunning, Stood, Goes}
+use Rattle.kernel_steps.specs.Views.{placed_of, levels_at, call_at, run_of, IsRunning, Stood, Goes}
 use Rattle.kernel_steps.proofs.AgainLemmas.{runs_again}
 use Rattle.kernel_steps.specs.Composing.{did_as, did_purely, did_then, reaches_as, reaches_before}
-use Rattle.kernel_steps.proofs.ViewLemmas.{holds_in_place, as_many}
-use Rattle.kernel_steps.proofs.HinderLemmas.{some_levels}
+use Rattle.kernel_steps.proofs.ViewLemmas.{holds_in_place}
 
 -- ---- what stands for a kernel goes on to
 

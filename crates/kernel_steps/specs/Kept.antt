@@ -1,6 +1,5 @@
 -- The notes that are kept.
 use Rattle.std.proofs.Common.{◌≡◌, ℕ, zero, suc, ◌≤◌, ◌<◌, List, [], ◌∷◌, ◌++◌, take, length, refl, ap, sym, subst, ◌∙◌, arith}
-use Rattle.std.proofs.lemmas.List.{take_all, take-append-le, length-take}
 use Rattle.kernel_model.specs.declared.Note.{Note}
 use Rattle.kernel_steps.specs.Did.{first_notes}
 

@@ -1,13 +1,12 @@
 -- One step of a call, as the code takes it: a move of its levels, and what that leaves to do.
 use Rattle.std.specs.Prelude.{◌≡◌, ◌≢◌, ℕ, zero, suc, ◌≤◌, List, Option, Some, None, length}
 use Rattle.kernel_model.specs.declared.Note.{Note}
-use Rattle.kernel_model.specs.declared.Cause.{Cause}
 use Rattle.kernel_model.specs.declared.Micro.{Micro}
 use Rattle.kernel_model.specs.declared.Note.TheVariants.{Dropped}
 use Rattle.kernel_model.specs.Meaning.{Meaning, Stage}
 use Rattle.disk_log.specs.Seen.{DiskSeen}
 use Rattle.lock_table.specs.Masks.{held}
-use Rattle.kernel_state.specs.Stores.{Seeing, world_of_store, objects_of, IsStore, SegmentsStay}
+use Rattle.kernel_state.specs.Stores.{Seeing, world_of_store, objects_of, IsStore}
 use Rattle.graft_loader.specs.Slots.{table_of}
 use Rattle.graft_calls.specs.declared.Chain.{Chain}
 use Rattle.graft_calls.specs.Calls.{IsPlaced, AreInside}

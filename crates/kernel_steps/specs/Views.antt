@@ -78,6 +78,11 @@ pub record IsRunning {C M W X : Type 0} {F : X → Type 0} (view : Seeing X F) (
   pub owner : ℕ → ℕ
   pub own : (p : ℕ) → p < 16 → AreOwned (owner p) (chain_of x p).levels (chain_of x p).undo
 
+-- No call is in flight, and none waits.
+pub record IsQuiet {C M W X : Type 0} {F : X → Type 0} (x : Running C M W X F) : Type 0 where
+  pub calls : (p : ℕ) → flight_of x.calls.items p ≡ no_flight
+  pub order : x.order ≡ []
+
 -- a kernel in place stands for some abstract kernel
 pub record Stood (m : Meaning) (x : Placed) : Type 0 where
   pub kernel : Kernel

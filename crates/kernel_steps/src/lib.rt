@@ -6,6 +6,7 @@
 mod blocking;
 mod moves;
 mod notes;
+mod opening;
 mod order;
 mod pieces;
 mod queries;

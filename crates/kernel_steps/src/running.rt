@@ -7,7 +7,7 @@ ghost use Rattle.graft_loader.specs.Slots.{table_of};
 ghost use Rattle.placed_laws.specs.Keeping.{first_placed};
 ghost use Rattle.placed_laws.specs.PlacedSteps.{is_placed_at_piece, placed_joins, placed_noted, placed_requeue, placed_ticked, with_placed_call};
 ghost use Rattle.kernel_steps.specs.Orders.{has_number, numbers_of};
-ghost use Rattle.kernel_steps.specs.Views.{placed_of, flight_of, chain_of, no_flight, IsRunning, Stood, Goes};
+ghost use Rattle.kernel_steps.specs.Views.{placed_of, flight_of, chain_of, no_flight, IsRunning, IsQuiet, Stood, Goes};
 ghost use Rattle.kernel_steps.specs.Did.{Says};
 ghost use Rattle.kernel_model.specs.declared.Note.TheVariants.{Ticked};
 
@@ -97,6 +97,7 @@ impl<C: Calls> Running<C> {
         ensures clock { IfOk result (λ x. x.clock ≡ 0) }
         ensures order { IfOk result (λ x. x.order ≡ []) }
         ensures calls { IfOk result (λ x. (p : ℕ) → flight_of x.calls.items p ≡ no_flight) }
+        ensures quiet { IfOk result (λ x. IsQuiet x) }
         ensures running { IfOk result (λ x. IsRunning (λ b. seen (b.vtable, b.value)) (λ w. C.caller w) x) }
     {
         let Ok(locks) = LockTable::new(alloc) else {

@@ -1,11 +1,7 @@
-use Rattle.std.proofs.Common.{◌≡◌, ◌<◌, ◌∙◌, length, ap, sym, subst, arith}
+use Rattle.std.proofs.Common.{◌<◌, ◌∙◌, ap, sym, subst}
 use Rattle.disk_log.specs.Seen.{disk_seen}
-use Rattle.kernel_model.specs.World.{World}
-use Rattle.placed_laws.specs.Placed.{Placed, PlacedRun}
-use Rattle.kernel_steps.specs.Views.{placed_of, chain_of, levels_at, call_at}
-use Rattle.kernel_steps.proofs.HinderLemmas.{some_levels}
-use Rattle.lock_table.specs.Masks.{held}
-use Rattle.kernel_state.specs.Stores.{objects_of}
+use Rattle.placed_laws.specs.Placed.{Placed}
+use Rattle.kernel_steps.specs.Views.{placed_of, levels_at, call_at}
 use Rattle.kernel_steps.proofs.PartLemmas.{levels_many}
 use Rattle.kernel_steps.proofs.WholeLemmas.{call_is, did_drop, did_requeued, drop_change, has_call, running_after_drop, some_by_more, stood_after_drop, stood_requeued, requeue_keeps}
 use Rattle.kernel_steps.proofs.running.Running.drop_level.Goals as goal

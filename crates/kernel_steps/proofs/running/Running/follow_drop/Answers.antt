@@ -1,6 +1,5 @@
 use Rattle.std.proofs.Common.{None}
 use Rattle.disk_log.specs.Seen.{disk_seen}
-use Rattle.kernel_steps.specs.declared.running.Running.{Running}
 use Rattle.kernel_steps.proofs.StepLemmas.{answer_zero, drop_finished, drop_noted}
 use Rattle.kernel_steps.proofs.running.Running.follow_drop.Goals as goal
 

@@ -1,5 +1,5 @@
-use Rattle.std.proofs.Common.{◌≡◌, ℕ, ◌∙◌, ap, sym, subst, true, false, List, Option, Some, None, arith}
-use Rattle.std.specs.Prelude.{option_map, is_some, not}
+use Rattle.std.proofs.Common.{◌≡◌, ◌∙◌, ap, sym, List, Some, None}
+use Rattle.std.specs.Prelude.{option_map}
 use Rattle.disk_log.specs.Seen.{disk_seen}
 use Rattle.kernel_model.specs.declared.Need.{Need}
 use Rattle.kernel_model.specs.History.{begin_at}
@@ -8,7 +8,7 @@ use Rattle.graft_loader.specs.Slots.{table_of}
 use Rattle.placed_laws.specs.Placed.{PlacedCall}
 use Rattle.kernel_steps.specs.declared.running.Flight.{Flight}
 use Rattle.kernel_steps.specs.Moves.{come_to}
-use Rattle.kernel_steps.specs.Steps.{finishes, StepDone}
+use Rattle.kernel_steps.specs.Steps.{finishes}
 use Rattle.placed_laws.specs.PlacedSteps.{placed_call_step}
 use Rattle.kernel_steps.specs.Views.{placed_of, flight_of, call_in_place}
 use Rattle.kernel_steps.proofs.HinderLemmas.{all_of, may_come, stands}

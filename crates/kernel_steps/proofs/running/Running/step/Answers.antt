@@ -1,7 +1,6 @@
-use Rattle.std.proofs.Common.{◌≡◌, ◌∙◌, ap, sym}
+use Rattle.std.proofs.Common.{◌∙◌, ap}
 use Rattle.disk_log.specs.Seen.{disk_seen}
-use Rattle.kernel_model.specs.World.{World}
-use Rattle.placed_laws.specs.Placed.{Placed, PlacedRun}
+use Rattle.placed_laws.specs.Placed.{Placed}
 use Rattle.kernel_steps.specs.Views.{placed_of, call_at}
 use Rattle.kernel_steps.proofs.WholeLemmas.{call_is, did_requeued, did_step, running_after_step, stood_after_step, stood_requeued, requeue_keeps}
 use Rattle.placed_laws.specs.PlacedSteps.{placed_call_step}

@@ -1,4 +1,4 @@
-use Rattle.std.proofs.Common.{ap, sym, ◌≡◌, ◌∙◌, ◌+◌, suc, ◌++◌, ◌∷◌, [], refl, arith}
+use Rattle.std.proofs.Common.{ap, sym, ◌≡◌, ◌∙◌, ◌+◌, suc, ◌++◌, ◌∷◌, [], arith}
 use Rattle.kernel_model.specs.declared.Note.TheVariants.{Ticked}
 use Rattle.kernel_steps.specs.Did.{first_notes}
 use Rattle.kernel_steps.specs.Orders.{are_processes}
