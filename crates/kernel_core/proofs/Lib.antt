@@ -1,4 +1,2 @@
-pub mod KernelLemmas
-pub mod BoundsLemmas
-pub mod SectionLemmas
+pub mod BootLemmas
 pub mod PlacedSectionLemmas

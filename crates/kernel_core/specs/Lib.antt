@@ -1,4 +1,2 @@
 pub mod Standing
-pub mod Bounds
-pub mod Sections
 pub mod PlacedSections

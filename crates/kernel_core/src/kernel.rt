@@ -1,55 +1,40 @@
-//! The kernel: a store, the loaded images and the clock. Each call runs to its end at its own event.
+//! The kernel: a running kernel over a disk. It is booted, takes events one after another, and shows what it is.
 
-ghost use Rattle.std.specs.Prelude.{◌≡◌, ℕ, ◌+◌, ◌*◌, ◌<◌, ◌≤◌, ◌^◌, ◌-◌, ◌++◌, true, false, [], ◌∷◌, length, drop, map, Some, None, slice_index_or, is_some, option_map};
-ghost use Rattle.kernel_model.specs.declared.FileRow.{FileRow as Row};
-ghost use Rattle.kernel_model.specs.declared.Event.TheVariants.{Sys};
-ghost use Rattle.kernel_model.specs.declared.Note.TheVariants.{Ticked};
-ghost use Rattle.kernel_model.specs.Opening.{opening_kernel, opening_policy};
-ghost use Rattle.kernel_model.specs.Directory.{lies_on_disk};
-ghost use Rattle.kernel_model.specs.Kernel.{Call, gave_note};
+ghost use Rattle.std.specs.Prelude.{◌≡◌, ℕ, ◌<◌, ◌≤◌, ◌-◌, ◌^◌, [], map, None, is_some, option_map, slice_get, IfOk};
+ghost use Rattle.disk_log.specs.Seen.{disk_seen};
+ghost use Rattle.kernel_model.specs.Kernel.{Kernel as Abstract};
+ghost use Rattle.kernel_model.specs.Opening.{opening_policy};
 ghost use Rattle.kernel_model.specs.Session as session;
-ghost use Rattle.kernel_model.specs.World.{Blocks};
-ghost use Rattle.kernel_model.specs.Quiet.{HasNoGraft};
+ghost use Rattle.kernel_model.specs.Sound.{IsAtRest};
 ghost use Rattle.graft_points.specs.Shelf.{IsShelf, pol_of, first_choice};
-ghost use Rattle.disk_log.specs.Calls.{Tells, GoesOn};
-ghost use Rattle.kernel_state.specs.Stores.{world_for, world_of_store, objects_of, queue_of, views_of, IsStore};
-ghost use Rattle.call_pieces.specs.Works.{MayCome};
-ghost use Rattle.graft_loader.specs.Slots.{table_of};
-ghost use Rattle.kernel_core.specs.Standing.{kernel_of, Happened, CallRan, RunsAlone, MayRun, directory_read, boot_note};
-ghost use Rattle.kernel_core.specs.Bounds.{IsKernelWithin};
+ghost use Rattle.kernel_state.specs.Stores.{world_of_store};
+ghost use Rattle.placed_laws.specs.Placed.{PlacedCall};
+ghost use Rattle.placed_laws.specs.PlacedRows.{placed_rows};
+ghost use Rattle.placed_laws.specs.Stands.{StandsFor};
+ghost use Rattle.kernel_steps.specs.Views.{placed_of, IsRunning, Stood};
+ghost use Rattle.kernel_events.specs.Happened.{Happened, IsKernel};
+ghost use Rattle.kernel_core.specs.Standing.{IsBlank, Booted};
 
-use crate::notes::Notes;
-use call_pieces::{Calls, Next};
+use crate::placed_rows;
+use call_pieces::Calls;
 use disk_log::DiskLog;
 use graft_loader::{Images, Loaded};
 use graft_points::Policy;
-use kernel_model::{Bytes, Event, Note, Refusal, SysCall};
+use kernel_model::{Event, NoMemory, RawRow};
 use kernel_state::{Setup, Store};
+use kernel_steps::{Notes, Running};
 use mem_disk::{Directory, read_directory};
 use ram_space::Ram;
-use std::marker::PhantomData;
+use std::alloc::Global;
 use vino_base::Disk;
 
-/// The most pieces of one call.
-const PIECES: u32 = 15;
-
-/// The kernel over a table of calls: the store, the loaded images and the clock. Between events no call is in flight.
+/// The kernel over a table of calls.
 #[derive(Drop)]
 pub struct Kernel<C: Calls> {
-    /// One value for each object.
-    pub store: Store,
-    /// The loaded images by slot.
-    pub images: Images,
-    /// How many ticks there were.
-    pub clock: u32,
-    calls: PhantomData<C>,
-}
-
-/// The calls of the disk: those of an event, and those of the piece that runs.
-#[derive(Drop)]
-pub struct Logs {
-    pub event: DiskLog,
-    pub piece: DiskLog,
+    /// The store, the clock and all that is in flight.
+    pub running: Running<C>,
+    /// The calls of the disk of one piece, or of a boot.
+    log: DiskLog,
 }
 
 /// What a kernel says when it was booted.
@@ -62,230 +47,116 @@ pub enum BootNote {
 }
 
 impl<C: Calls> Kernel<C> {
-    /// A kernel before boot, with its memory, the table of images and the stock policies.
-    pub fn new(setup: Setup, ram: Ram, images: Images, shelf: Vec<Box<dyn Policy>>) -> Kernel<C>
+    /// A kernel before boot, with its memory, the table of images and the stock policies. Takes all the memory that it ever does.
+    pub fn new(
+        alloc: Global,
+        setup: Setup,
+        ram: Ram,
+        images: Images,
+        shelf: Vec<Box<dyn Policy>>,
+    ) -> Result<Kernel<C>, NoMemory>
         requires frames_least { 2 ≤ setup.frames }
         requires frames_most { setup.frames ≤ 64 }
         requires shelf { IsShelf (map (λ b. seen b) shelf.items) }
         requires stock { pol_of (map (λ b. seen b) shelf.items) first_choice ≡ opening_policy }
-        ensures within { (most : ℕ) → IsKernelWithin (λ b. seen b) most result.store result.clock }
-        ensures views { views_of (λ b. seen b) result.store ≡ map (λ b. seen b) shelf.items }
+        ensures blank { IfOk result (λ k. IsBlank (λ b. seen b) (λ w. C.caller w) k.running) }
     {
-        Kernel {
-            store: Store::new(setup, 1, Directory::empty(), ram, shelf),
-            images,
-            clock: 0,
-            calls: PhantomData,
+        let store = Store::new(setup, 1, Directory::empty(), ram, shelf);
+        match Running::new(alloc, store, images) {
+            Ok(running) => Ok(Kernel {
+                running,
+                log: DiskLog::new(),
+            }),
+            Err(lacks) => Err(lacks),
         }
     }
 
-    /// The kernel begins, or begins again: block 0 of the disk has the directory. Where it can't be read there are no files.
-    pub fn boot<D: Disk>(&mut self, setup: Setup, disk: &mut D, logs: &mut Logs) -> BootNote
+    /// The kernel begins: block 0 of the disk has the directory. Where it can't be read there are no files. All slots of images are
+    /// free.
+    pub fn boot<D: Disk>(&mut self, setup: Setup, disk: &mut D) -> BootNote
         requires frames_least { 2 ≤ setup.frames }
         requires frames_most { setup.frames ≤ 64 }
-        requires within { IsKernelWithin (λ b. seen (b.vtable, b.value)) 0 self.old.store self.old.clock }
-        requires stock { pol_of (views_of (λ b. seen (b.vtable, b.value)) self.old.store) first_choice ≡ opening_policy }
-        requires no_calls { logs.old.event ≡ [] }
-        ensures value { (blocks : Blocks) → Tells (D.blocks disk.old) blocks →
-            kernel_of (λ b. seen (b.vtable, b.value)) self.new.store (table_of self.new.images) self.new.clock ≡ opening_kernel (world_for setup (D.block_count disk.old) (directory_read (D.block_count disk.old) (blocks 0) logs.new.event)) }
-        ensures note { (blocks : Blocks) → Tells (D.blocks disk.old) blocks → result ≡ boot_note setup.frames (D.block_count disk.old) (blocks 0) logs.new.event }
-        ensures within { (most : ℕ) → IsKernelWithin (λ b. seen (b.vtable, b.value)) most self.new.store self.new.clock }
-        ensures size { self.new.store.size ≡ D.block_count disk.old }
-        ensures one { length logs.new.event ≡ 1 }
-        ensures tells { (blocks : Blocks) → Tells (D.blocks disk.old) blocks → Tells (D.blocks disk.new) blocks }
-        ensures calls { GoesOn (D.faults disk.old) (D.faults disk.new) (D.plan disk.old) (D.plan disk.new) logs.old.event logs.new.event }
+        requires blank { IsBlank (λ b. seen (b.vtable, b.value)) (λ w. C.caller w) self.old.running }
+        ensures booted { Booted C.Meaning.meaning setup (D.block_count disk.old) (placed_of (λ b. seen (b.vtable, b.value)) (λ w. C.stage w) self.new.running) result
+            (disk_seen (D.blocks disk.old) (D.plan disk.old) (D.faults disk.old)) (disk_seen (D.blocks disk.new) (D.plan disk.new) (D.faults disk.new)) }
+        ensures kernel { IsKernel C.Meaning.meaning (λ b. seen (b.vtable, b.value)) (λ w. C.stage w) (λ w. C.caller w) 0 self.new.running }
+        ensures size { self.new.running.store.size ≡ D.block_count disk.old }
         ensures same_size { D.block_count disk.new ≡ D.block_count disk.old }
     {
         let size = disk.size();
         let mut block = [0; 512];
-        match logs.event.read(disk, 0, &mut block) {
+        self.log.clear();
+        match self.log.read(disk, 0, &mut block) {
             Ok(()) => {
                 let directory = read_directory(&block, size);
                 let files = directory.count();
-                self.restart(setup, size, directory);
+                self.running.restart(setup, size, directory);
                 BootNote::Up(setup.frames, size, files)
             }
             Err(_) => {
-                self.restart(setup, size, Directory::empty());
+                self.running.restart(setup, size, Directory::empty());
                 BootNote::Fault
             }
         }
     }
 
-    /// Begins again on a disk of this size with this directory.
-    fn restart(&mut self, setup: Setup, size: u32, dir: Directory)
-        requires frames_least { 2 ≤ setup.frames }
-        requires frames_most { setup.frames ≤ 64 }
-        requires size_least { 1 ≤ size }
-        requires size_most { size ≤ 4096 }
-        requires files { (n : ℕ) (r : Row) → slice_index_or dir n None ≡ Some r → lies_on_disk size r ≡ true }
-        requires within { IsKernelWithin (λ b. seen (b.vtable, b.value)) 0 self.old.store self.old.clock }
-        requires stock { pol_of (views_of (λ b. seen (b.vtable, b.value)) self.old.store) first_choice ≡ opening_policy }
-        ensures value { kernel_of (λ b. seen (b.vtable, b.value)) self.new.store (table_of self.new.images) self.new.clock ≡ opening_kernel (world_for setup size dir) }
-        ensures within { (most : ℕ) → IsKernelWithin (λ b. seen (b.vtable, b.value)) most self.new.store self.new.clock }
-        ensures size { self.new.store.size ≡ size }
-    {
-        self.store.restart(setup, size, dir);
-        self.images.clear();
-        self.clock = 0;
-    }
-
     /// Whether a slot has an image.
     pub fn has_image(&self, slot: u32) -> bool
         requires { slot < 32 }
-        ensures { result ≡ is_some ((kernel_of (λ b. seen (b.vtable, b.value)) self.now.store (table_of self.now.images) self.now.clock).images slot) }
+        ensures { result ≡ is_some ((placed_of (λ b. seen (b.vtable, b.value)) (λ w. C.stage w) self.now.running).images slot) }
     {
-        !self.images.is_free(slot)
+        self.running.has_image(slot)
     }
 
-    /// A slot has this image from now on. No memory is taken.
+    /// A slot that is free has this image from now on. No memory is taken.
     pub fn add_image(&mut self, slot: u32, image: Loaded)
-        requires { slot < 32 }
-        ensures value { kernel_of (λ b. seen (b.vtable, b.value)) self.new.store (table_of self.new.images) self.new.clock
-            ≡ session.add_image slot image (kernel_of (λ b. seen (b.vtable, b.value)) self.old.store (table_of self.old.images) self.old.clock) }
-        ensures store { self.new.store ≡ self.old.store }
-        ensures clock { self.new.clock ≡ self.old.clock }
+        requires slot { slot < 32 }
+        requires free { (placed_of (λ b. seen (b.vtable, b.value)) (λ w. C.stage w) self.old.running).images slot ≡ None }
+        requires running { IsRunning (λ b. seen (b.vtable, b.value)) (λ w. C.caller w) self.old.running }
+        requires stood { Stood C.Meaning.meaning (placed_of (λ b. seen (b.vtable, b.value)) (λ w. C.stage w) self.old.running) }
+        ensures stands { (k : Abstract) → StandsFor C.Meaning.meaning (placed_of (λ b. seen (b.vtable, b.value)) (λ w. C.stage w) self.old.running) k →
+            StandsFor C.Meaning.meaning (placed_of (λ b. seen (b.vtable, b.value)) (λ w. C.stage w) self.new.running) (session.add_image slot image k) }
+        ensures rests { (k : Abstract) → StandsFor C.Meaning.meaning (placed_of (λ b. seen (b.vtable, b.value)) (λ w. C.stage w) self.old.running) k → IsAtRest C.Meaning.meaning k →
+            IsAtRest C.Meaning.meaning (session.add_image slot image k) }
+        ensures running { IsRunning (λ b. seen (b.vtable, b.value)) (λ w. C.caller w) self.new.running }
+        ensures stood { Stood C.Meaning.meaning (placed_of (λ b. seen (b.vtable, b.value)) (λ w. C.stage w) self.new.running) }
+        ensures store { self.new.running.store ≡ self.old.running.store }
+        ensures clock { self.new.running.clock ≡ self.old.running.clock }
     {
-        self.images.add(slot, image);
+        self.running.add_image(slot, image);
     }
 
-    /// The number of the call that process p has in flight: none, since each runs to its end at its own event.
+    /// The number of the call that process p has in flight.
     pub fn left(&self, p: u8) -> Option<u32>
-        ensures { result ≡ option_map (λ (c : Call). c.number) ((kernel_of (λ b. seen (b.vtable, b.value)) self.now.store (table_of self.now.images) self.now.clock).call p) }
+        requires process { p < 16 }
+        requires running { IsRunning (λ b. seen (b.vtable, b.value)) (λ w. C.caller w) self.now.running }
+        ensures { result ≡ option_map (λ (c : PlacedCall). c.number) ((placed_of (λ b. seen (b.vtable, b.value)) (λ w. C.stage w) self.now.running).call p) }
     {
-        None
+        self.running.left(p)
     }
 
-    /// One event, which has this number. Its notes and its calls of the disk are left behind. No memory is taken.
-    pub fn event<D: Disk>(
-        &mut self,
-        number: u32,
-        what: &Event,
-        disk: &mut D,
-        logs: &mut Logs,
-        notes: &mut Notes,
-    )
-        requires may_run { MayRun C.Meaning.meaning what.now }
+    /// One event, which has this number. Its notes are left behind. No memory is taken.
+    pub fn event<D: Disk>(&mut self, number: u32, what: &Event, disk: &mut D, notes: &mut Notes)
         requires first { 0 < number }
         requires room { number < 2 ^ 32 - 1 }
-        requires within { IsKernelWithin (λ b. seen (b.vtable, b.value)) (number - 1) self.old.store self.old.clock }
-        requires disk { self.old.store.size ≡ D.block_count disk.old }
-        requires no_calls { logs.old.event ≡ [] }
+        requires kernel { IsKernel C.Meaning.meaning (λ b. seen (b.vtable, b.value)) (λ w. C.stage w) (λ w. C.caller w) (number - 1) self.old.running }
+        requires disk { self.old.running.store.size ≡ D.block_count disk.old }
         requires no_notes { notes.old ≡ [] }
-        ensures happened { HasNoGraft (objects_of (λ b. seen (b.vtable, b.value)) self.old.store) →
-            Happened C.Meaning.meaning (kernel_of (λ b. seen (b.vtable, b.value)) self.old.store (table_of self.old.images) self.old.clock) (kernel_of (λ b. seen (b.vtable, b.value)) self.new.store (table_of self.new.images) self.new.clock)
-            (D.blocks disk.old) (D.blocks disk.new) number what.now logs.new.event notes.new }
-        ensures within { IsKernelWithin (λ b. seen (b.vtable, b.value)) number self.new.store self.new.clock }
-        ensures size { self.new.store.size ≡ self.old.store.size }
-        ensures calls { GoesOn (D.faults disk.old) (D.faults disk.new) (D.plan disk.old) (D.plan disk.new) logs.old.event logs.new.event }
+        ensures happened { Happened C.Meaning.meaning (placed_of (λ b. seen (b.vtable, b.value)) (λ w. C.stage w) self.old.running) (placed_of (λ b. seen (b.vtable, b.value)) (λ w. C.stage w) self.new.running) number what.now notes.new
+            (disk_seen (D.blocks disk.old) (D.plan disk.old) (D.faults disk.old)) (disk_seen (D.blocks disk.new) (D.plan disk.new) (D.faults disk.new)) }
+        ensures kernel { IsKernel C.Meaning.meaning (λ b. seen (b.vtable, b.value)) (λ w. C.stage w) (λ w. C.caller w) number self.new.running }
+        ensures world { world_of_store self.new.running.store ≡ world_of_store self.old.running.store }
         ensures same_size { D.block_count disk.new ≡ D.block_count disk.old }
     {
-        match what {
-            Event::Tick => self.tick(number, notes),
-            Event::Sys(p, call) => self.system(number, *p, call, disk, logs, notes),
-            Event::Step(..) => unreachable!(),
-        }
+        kernel_events::event(&mut self.running, number, what, disk, &mut self.log, notes);
     }
 
-    /// The clock rises by one.
-    fn tick(&mut self, number: u32, notes: &mut Notes)
-        requires first { 0 < number }
-        requires room { number < 2 ^ 32 - 1 }
-        requires within { IsKernelWithin (λ b. seen (b.vtable, b.value)) (number - 1) self.old.store self.old.clock }
-        requires no_notes { notes.old ≡ [] }
-        ensures store { self.new.store ≡ self.old.store }
-        ensures images { self.new.images ≡ self.old.images }
-        ensures clock { self.new.clock ≡ self.old.clock + 1 }
-        ensures notes { notes.new ≡ Ticked number (self.old.clock + 1) ∷ [] }
-        ensures within { IsKernelWithin (λ b. seen (b.vtable, b.value)) number self.new.store self.new.clock }
+    /// The i-th of the rows that show the whole state. None past the last.
+    pub fn raw(&self, i: u32) -> Option<RawRow>
+        requires running { IsRunning (λ b. seen (b.vtable, b.value)) (λ w. C.caller w) self.now.running }
+        ensures value { result ≡ slice_get (placed_rows (placed_of (λ b. seen (b.vtable, b.value)) (λ w. C.stage w) self.now.running)) i }
+        ensures few { 1600 ≤ i → result ≡ None }
     {
-        self.clock += 1;
-        notes.push(Note::Ticked(number, self.clock));
-    }
-
-    /// A call of process p is refused, or run to its end.
-    fn system<D: Disk>(
-        &mut self,
-        number: u32,
-        p: u32,
-        call: &SysCall,
-        disk: &mut D,
-        logs: &mut Logs,
-        notes: &mut Notes,
-    )
-        requires may_run { RunsAlone C.Meaning.meaning call.now }
-        requires first { 0 < number }
-        requires room { number < 2 ^ 32 - 1 }
-        requires within { IsKernelWithin (λ b. seen (b.vtable, b.value)) (number - 1) self.old.store self.old.clock }
-        requires disk { self.old.store.size ≡ D.block_count disk.old }
-        requires no_calls { logs.old.event ≡ [] }
-        requires no_notes { notes.old ≡ [] }
-        ensures happened { HasNoGraft (objects_of (λ b. seen (b.vtable, b.value)) self.old.store) →
-            Happened C.Meaning.meaning (kernel_of (λ b. seen (b.vtable, b.value)) self.old.store (table_of self.old.images) self.old.clock) (kernel_of (λ b. seen (b.vtable, b.value)) self.new.store (table_of self.new.images) self.new.clock)
-            (D.blocks disk.old) (D.blocks disk.new) number (Sys p call.now) logs.new.event notes.new }
-        ensures within { IsKernelWithin (λ b. seen (b.vtable, b.value)) number self.new.store self.new.clock }
-        ensures size { self.new.store.size ≡ self.old.store.size }
-        ensures calls { GoesOn (D.faults disk.old) (D.faults disk.new) (D.plan disk.old) (D.plan disk.new) logs.old.event logs.new.event }
-        ensures same_size { D.block_count disk.new ≡ D.block_count disk.old }
-    {
-        if !self.store.living(p) {
-            return notes.push(Note::Refused(number, Refusal::NoProcess));
-        }
-        match C::early(&self.store, self.images.mask(), p as u8, call) {
-            Err(refusal) => notes.push(Note::Refused(number, refusal)),
-            Ok(mut work) => self.run(number, &mut work, PIECES, disk, logs, notes),
-        }
-    }
-
-    /// At most so many pieces of a call, to its end.
-    fn run<D: Disk>(
-        &mut self,
-        number: u32,
-        work: &mut C::Work,
-        turns: u32,
-        disk: &mut D,
-        logs: &mut Logs,
-        notes: &mut Notes,
-    )
-        requires first { 0 < number }
-        requires room { number < 2 ^ 32 - 1 }
-        requires within { IsKernelWithin (λ b. seen (b.vtable, b.value)) (number - 1) self.old.store self.old.clock }
-        requires ready { MayCome C.Meaning.meaning (world_of_store self.old.store) (objects_of (λ b. seen (b.vtable, b.value)) self.old.store) (C.caller work.old) (C.stage work.old) }
-        requires alone { RunsAlone C.Meaning.meaning (C.stage work.old).call }
-        requires left { C.Meaning.meaning.left (world_of_store self.old.store) (objects_of (λ b. seen (b.vtable, b.value)) self.old.store) (C.caller work.old) (C.stage work.old) ≤ turns }
-        requires few { turns ≤ PIECES }
-        requires log_room { length logs.old.event + 256 * turns ≤ 16384 }
-        requires notes_room { length notes.old + turns < 16 }
-        requires disk { self.old.store.size ≡ D.block_count disk.old }
-        ensures ran { CallRan C.Meaning.meaning turns (C.caller work.old) number (C.stage work.old) (world_of_store self.old.store) (objects_of (λ b. seen (b.vtable, b.value)) self.old.store) (objects_of (λ b. seen (b.vtable, b.value)) self.new.store)
-            self.old.clock notes.old notes.new (D.blocks disk.old) (D.blocks disk.new) (drop (length logs.old.event) logs.new.event) }
-        ensures grown { logs.new.event ≡ logs.old.event ++ drop (length logs.old.event) logs.new.event }
-        ensures within { IsKernelWithin (λ b. seen (b.vtable, b.value)) number self.new.store self.new.clock }
-        ensures world { world_of_store self.new.store ≡ world_of_store self.old.store }
-        ensures images { self.new.images ≡ self.old.images }
-        ensures clock { self.new.clock ≡ self.old.clock }
-        ensures calls { GoesOn (D.faults disk.old) (D.faults disk.new) (D.plan disk.old) (D.plan disk.new) logs.old.event logs.new.event }
-        ensures same_size { D.block_count disk.new ≡ D.block_count disk.old }
-    {
-        logs.piece.clear();
-        let after = C::piece(work, &mut self.store, None, disk, &mut logs.piece);
-        logs.event.append(&logs.piece);
-        note_bytes(number, after.gave, notes);
-        match after.next {
-            Next::Goes => self.run(number, work, turns - 1, disk, logs, notes),
-            Next::Ends(reply) => notes.push(Note::Ended(number, reply)),
-            Next::Fails(refusal) => notes.push(Note::Refused(number, refusal)),
-        }
-    }
-}
-
-/// The note of bytes that a piece gave, if it gave some.
-fn note_bytes(number: u32, gave: Option<Bytes>, notes: &mut Notes)
-    requires { length notes.old < 16 }
-    ensures value { notes.new ≡ notes.old ++ gave_note number gave }
-    ensures room { length notes.new ≤ length notes.old + 1 }
-{
-    if let Some(bytes) = gave {
-        notes.push(Note::Gave(number, bytes));
+        placed_rows::raw(&self.running, i)
     }
 }

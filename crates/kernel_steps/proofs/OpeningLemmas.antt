@@ -32,7 +32,7 @@ use Rattle.kernel_steps.specs.declared.running.Running.{Running}
 use Rattle.kernel_steps.specs.Orders.{order_of, counts_within, are_processes, are_once, numbers_of}
 use Rattle.kernel_steps.specs.Owned.{AreOwned}
 use Rattle.kernel_steps.specs.Views.{placed_of, call_at, levels_at, call_in_place, flight_of, no_flight, chain_of, run_of, IsRunning}
-use Rattle.kernel_steps.proofs.BlockLemmas.{some_blocks, blocks_are_whole}
+use Rattle.kernel_steps.specs.WholeBlocks.{some_blocks, blocks_are_whole}
 
 -- ---- the beginning
 
