@@ -155,7 +155,7 @@ impl<C: Calls> Kernel<C> {
     pub fn raw(&self, i: u32) -> Option<RawRow>
         requires running { IsRunning (λ b. seen (b.vtable, b.value)) (λ w. C.caller w) self.now.running }
         ensures value { result ≡ slice_get (placed_rows (placed_of (λ b. seen (b.vtable, b.value)) (λ w. C.stage w) self.now.running)) i }
-        ensures few { 1600 ≤ i → result ≡ None }
+        ensures few { 1478 ≤ i → result ≡ None }
     {
         placed_rows::raw(&self.running, i)
     }
