@@ -11,8 +11,8 @@ mod order;
 mod pieces;
 mod queries;
 mod running;
-mod steps;
 mod shown;
+mod steps;
 #[cfg(test)]
 mod tests;
 mod waits;

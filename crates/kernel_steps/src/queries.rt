@@ -16,8 +16,8 @@ use crate::running::Running;
 use crate::waits::is_same_object;
 use call_pieces::{Calls, Needs};
 use graft_calls::GraftLevel;
-use lock_table::laws;
 use kernel_model::{Mode, Need, Note, Object};
+use lock_table::laws;
 use placed_laws::soundness;
 
 /// Whether an object's numbers are in their ranges.

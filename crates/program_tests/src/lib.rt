@@ -220,33 +220,25 @@ mod tests {
     }
 
     #[test]
-    fn refuses_what_is_not_built(rt: HostRuntime) -> Result<(), Fail> {
-        for line in ["patience lock 5"] {
-            let script = format!(in rt.alloc(); "{line}\nboot\n")?;
-            let ran = run_words(rt.alloc(), &["run", KEY], script.as_str(), 0, 0)?;
-            assert_eq!(rt; ran.status, 2, "on {line}");
-            assert!(rt;
-                ran.written.bytes() == b"script 1 S5\n".as_slice(),
-                "on {line}"
-            );
-        }
-        for line in [
-            "step 0 1",
-            "lock 0 0",
-            "unlock 0 0",
-            "install 0 0 0 0",
-            "remove 0 0",
-            "fund 0 0 locks 1",
-            "bill 0 0",
-        ] {
-            let script = format!(in rt.alloc(); "boot\n{line}\ntick\n")?;
-            let ran = run_words(rt.alloc(), &["run", KEY], script.as_str(), 0, 0)?;
-            assert_eq!(rt; ran.status, 2, "on {line}");
-            assert!(rt;
-                ran.written.bytes() == b"0 boot 8 64 3\nscript 2 S5\n".as_slice(),
-                "on {line}"
-            );
-        }
+    fn waits_as_long_as_the_patience_lasts(rt: HostRuntime) -> Result<(), Fail> {
+        let script =
+            "patience lock 2\npatience cache 1000\nboot\nspawn 0\nlock 0 0\nlock 1 0\ntick\ntick\n";
+        let lines =
+            "0 boot 8 64 3\n1 ok 1\n2 ok\n3 waits Lock(0) 0\n4 tick 1\n5 tick 2\n3 E17 Lock(0) 0\n";
+        let ran = run_words(rt.alloc(), &["run", KEY], script, 0, 0)?;
+        assert_eq!(rt; ran.status, 0);
+        assert!(rt; ran.written.bytes() == lines.as_bytes());
+        Ok(())
+    }
+
+    #[test]
+    fn says_which_calls_are_left(rt: HostRuntime) -> Result<(), Fail> {
+        let script = "boot\nspawn 0\nspawn 0\nlock 0 3\nlock 2 3\nlock 1 3\n";
+        let lines =
+            "0 boot 8 64 3\n1 ok 1\n2 ok 2\n3 ok\n4 waits Lock(3) 0\n5 waits Lock(3) 0\nleft 1 5\nleft 2 4\n";
+        let ran = run_words(rt.alloc(), &["run", KEY], script, 0, 0)?;
+        assert_eq!(rt; ran.status, 0);
+        assert!(rt; ran.written.bytes() == lines.as_bytes());
         Ok(())
     }
 

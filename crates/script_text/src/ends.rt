@@ -1,7 +1,7 @@
 //! The lines of a run that have no note: of `boot`, of images, of refused lines.
 
 ghost use Rattle.std.specs.Prelude.{◌≡◌, ◌≤◌, ◌++◌, [], ◌∷◌, length, codes, decimal};
-ghost use Rattle.kernel_model.specs.Text.{line, spaced, boot_text, usage_text};
+ghost use Rattle.kernel_model.specs.Text.{line, spaced, boot_text, left_text, usage_text};
 
 use crate::append::{add, number_u8, number_u32, spaced_u8, spaced_u32};
 use crate::text::Text;
@@ -27,6 +27,17 @@ pub fn print_fault(n: u32, code: u8, out: &mut Text)
     spaced_u32(&mut out.bytes, n);
     add(&mut out.bytes, b" S".as_slice());
     number_u8(&mut out.bytes, code);
+    add(&mut out.bytes, b"\n".as_slice());
+}
+
+/// The line of a call that is left in flight: its process and its number.
+pub fn print_left(p: u8, number: u32, out: &mut Text)
+    ensures { out.new ≡ line (left_text p number) }
+{
+    out.bytes.clear();
+    add(&mut out.bytes, b"left".as_slice());
+    spaced_u8(&mut out.bytes, p);
+    spaced_u32(&mut out.bytes, number);
     add(&mut out.bytes, b"\n".as_slice());
 }
 

@@ -18,7 +18,9 @@ mod tests;
 mod text;
 mod words;
 
-pub use ends::{print_boot, print_fault, print_loaded, print_unloaded, print_unloaded_at, usage};
+pub use ends::{
+    print_boot, print_fault, print_left, print_loaded, print_unloaded, print_unloaded_at, usage,
+};
 pub use image_bytes::ImageBytes;
 pub use line_buf::{Fed, LineBuf};
 pub use parse::{Entry, ScriptFault, parse_line};

@@ -5,37 +5,41 @@ use Rattle.std.proofs.lemmas.List.Folds.{concat-append}
 use Rattle.std.specs.Io.KnownBytes.{Appends, Consumes, Keeps, IsAtEnd}
 use Rattle.std.proofs.KnownBytes.{Appends-nil, Appends-trans, Consumes-nil, Consumes-trans, Consumes-kept}
 use Rattle.vino_base.specs.Faults.{Rose}
-use Rattle.kernel_model.specs.World.{Blocks}
+use Rattle.std.specs.Prelude.{flat_map, cond}
+use Rattle.std.proofs.Math.Path.{fun_ext}
+use Rattle.kernel_model.specs.World.{processes}
+use Rattle.kernel_model.specs.Pieces.{plain}
 use Rattle.kernel_model.specs.Script.{LINE_BYTES, Unfinished}
 use Rattle.kernel_model.specs.Session.{Session, fault_text}
-use Rattle.kernel_model.specs.Kernel as abstract
-use Rattle.kernel_model.specs.Outcome.{SCRIPT_BYTES, Ending, End, Fault, Over, Outcome, lines_after, rest_after, left_lines, at_end, at_ending, outcome_of, ends_as, ends_with, written}
+use Rattle.kernel_model.specs.Kernel.{Kernel, Call}
+use Rattle.placed_laws.specs.Placed.{Placed}
+use Rattle.placed_laws.specs.Stands as kernels
+use Rattle.placed_laws.specs.Stands.{without_history}
+use Rattle.disk_log.specs.Seen.{DiskSeen}
+use Rattle.kernel_model.specs.Outcome.{SCRIPT_BYTES, Ending, End, Fault, Over, Outcome, lines_after, rest_after, left_line, left_lines, at_end, at_ending, outcome_of, ends_as, ends_with, written}
 use Rattle.kernel_model.specs.Text.{line}
-use Rattle.vino_top.specs.Standing.{Seen, kernel_seen, session_of, kernel_in}
-use Rattle.vino_top.specs.Run.{Place, first_on, script_lines, lines_run, pieces_run, outcome_at, DiskSeen, AppendsPart, StandsFor, IsFirst, HasEnded, Feeds, StopsAt, stop_status, Reached, Ran, CutsLast, Broke, Lacked}
+use Rattle.vino_top.specs.Standing.{Seen, StandsFor, IsBegun, placed_left_line, placed_left_lines, last_bytes, last_status}
+use Rattle.vino_top.specs.Run.{Place, first_on, script_lines, lines_run, pieces_run, outcome_at, AppendsPart, IsFirst, HasEnded, Feeds, StopsAt, stop_status, Reached, Ran, CutsLast, Broke, Lacked}
 use Rattle.vino_top.specs.declared.run.Stop.{Stop}
 use Rattle.vino_top.specs.declared.run.Stop.TheVariants.{SinkFailed, NoMemory}
 use Rattle.vino_top.proofs.LineLemmas.{script_more}
+use Rattle.vino_top.proofs.SessionLemmas.{up_is_down}
 use Rattle.vino_top.proofs.RunLemmas.{fed_none, fed_more, fed_short, stops_fed, stops_from}
 
 -- ---- where a run stands
 
--- a session of the code that stands for every first one
-abbrev pub IsBegun : (size : ℕ) → Seen → Type 0
-IsBegun size s = (blocks : Blocks) → session_of blocks s ≡ first_on size blocks
-
 -- it stands for a first session
-begun_stands : (size : ℕ) (s : Seen) (told : Option (List (List ℕ))) (a : Session) → IsBegun size s → IsFirst size told a → StandsFor s told a
+begun_stands : (size : ℕ) (s : Seen) (told : Option (List (List ℕ))) (a : Session) → IsBegun s → IsFirst size told a → StandsFor s told a
 begun_stands size s told a begun first =
     record {
-      session = begun a.blocks ∙ sym first.session;
+      setup = ap (λ (x : Session). x.setup) first.session ∙ sym begun.setup;
+      lines = ap (λ (x : Session). x.lines) first.session ∙ sym begun.lines;
+      events = ap (λ (x : Session). x.events) first.session ∙ sym begun.events;
+      refused = ap (λ (x : Session). x.refused) first.session ∙ sym begun.refused;
+      unbooted = λ down. ap (λ (x : Session). x.kernel) first.session;
+      booted = λ up. up_is_down (sym up ∙ begun.booted);
       blocks = first.blocks;
-      graftless = λ up. absurd (unbooted s.booted (kernel_seen s) up (ap (λ (x : Session). x.kernel) (begun a.blocks)));
     }
-  where
-    unbooted : (booted : Bool) (k : abstract.Kernel) → booted ≡ true → kernel_in booted k ≡ None → ⊥
-    unbooted false k up none = cc
-    unbooted true k up none = cc
 
 -- before the first read
 pub reached_first : (c : Place) (s : Seen) (r g : Option (List ℕ)) (d : DiskSeen) (l : List ℕ) → l ≡ [] → Reached c s s r r g g d d l (SCRIPT_BYTES + 1)
@@ -100,7 +104,7 @@ ends_last status a pieces last =
 
 -- How a run ends, by how its outcome does.
 ran_by : (c : Place) (s t : Seen) (r r2 r3 : Option (List ℕ)) (f f2 : ℕ) (g g2 g3 : Option (List ℕ)) (d e : DiskSeen) (l : List ℕ) (left status : ℕ) (ending : Ending) (last : List ℕ) →
-    IsBegun c.size s → (p : Reached c s t r r2 g g2 d e l left) → Consumes r2 r3 [] → Appends g2 g3 last →
+    IsBegun s → (p : Reached c s t r r2 g g2 d e l left) → Consumes r2 r3 [] → Appends g2 g3 last →
     (t.refused ≡ true) ⊎ HasEnded ending p.taken r3 f f2 →
     ((a : Session) (pieces : List (List ℕ)) → StandsFor t e.told a → EndsSo (outcome_of ending a pieces l) a pieces status last) →
     Ran c r r3 f f2 g g3 d e status
@@ -121,7 +125,7 @@ ran_by c s t r r2 r3 f f2 g g2 g3 d e l left status ending last begun p kept mor
       one_each = p.fed.one_each;
       calls = p.fed.calls;
       ended = elim ended [
-        | inl refused ↦ inl (λ a first. sym (ap (λ (x : Session). x.refused) (p.fed.stands a (from a first)).session) ∙ refused)
+        | inl refused ↦ inl (λ a first. (p.fed.stands a (from a first)).refused ∙ refused)
         | inr so ↦ inr so
       ];
       used = λ a first. p.fed.used a (from a first);
@@ -132,19 +136,28 @@ ran_by c s t r r2 r3 f f2 g g2 g3 d e l left status ending last begun p kept mor
 
 -- what a session of the code says of the abstract one
 refused_as : (t : Seen) (told : Option (List (List ℕ))) (a : Session) (b : Bool) → StandsFor t told a → t.refused ≡ b → a.refused ≡ b
-refused_as t told a b stands h = sym (ap (λ (x : Session). x.refused) stands.session) ∙ h
+refused_as t told a b stands h = stands.refused ∙ h
 
--- no call is left in flight
-none_in : (booted : Bool) (s : Seen) → left_lines (kernel_in booted (kernel_seen s)) ≡ []
-none_in false s = refl
-none_in true s = refl
+-- the line of a call that is left, in place
+left_line_is : (p : ℕ) (o : Option Call) → placed_left_line p (without_history o) ≡ left_line p o
+left_line_is p None = refl
+left_line_is p (Some c) = refl
 
-none_left : (t : Seen) (told : Option (List (List ℕ))) (a : Session) → StandsFor t told a → left_lines a.kernel ≡ []
-none_left t told a stands = ap (λ (x : Session). left_lines x.kernel) (sym stands.session) ∙ none_in t.booted t
+-- the lines of all that are left
+left_is : (x : Placed) (k : Kernel) → kernels.StandsFor plain x k → placed_left_lines x ≡ flat_map (λ p. left_line p (k.call p)) processes
+left_is x k stands =
+    ap (λ (f : ℕ → List ℕ). flat_map f processes)
+    (fun_ext (λ p. ap (placed_left_line p) (stands.calls p) ∙ left_line_is p (k.call p)))
+
+-- the same by whether `boot` was run
+left_by : (t : Seen) (told : Option (List (List ℕ))) (a : Session) (b : Bool) → StandsFor t told a → t.booted ≡ b → cond b (placed_left_lines t.placed) [] ≡ left_lines a.kernel
+left_by t told a false stands h = ap left_lines (sym (stands.unbooted h))
+left_by t told a true stands h =
+    let has = stands.booted h in left_is t.placed has.kernel has.stands ∙ ap left_lines (sym has.is)
 
 -- a failed read
 pub ran_fault : (c : Place) (s t : Seen) (r r2 r3 : Option (List ℕ)) (f f2 f3 : ℕ) (g g2 : Option (List ℕ)) (d e : DiskSeen) (l : List ℕ) (left : ℕ) →
-    IsBegun c.size s → Reached c s t r r2 g g2 d e l left → t.refused ≡ false → 0 < left → Keeps r2 r3 → f ≤ f2 → Rose f2 f3 → Ran c r r3 f f3 g g2 d e 3
+    IsBegun s → Reached c s t r r2 g g2 d e l left → t.refused ≡ false → 0 < left → Keeps r2 r3 → f ≤ f2 → Rose f2 f3 → Ran c r r3 f f3 g g2 d e 3
 ran_fault c s t r r2 r3 f f2 f3 g g2 d e l left begun p going some kept before rose =
     ran_by c s t r r2 r3 f f3 g g2 g2 d e l left 3 Fault [] begun p (keeps_consumes r2 r3 kept) (Appends-nil g2) (inr (omega (arith, p.count), omega arith))
     (λ a pieces stands. rw (going_outcome Fault a pieces l (refused_as t e.told a false stands going)) (ends_plain 3 a pieces))
@@ -154,48 +167,40 @@ ran_fault c s t r r2 r3 f f2 f3 g g2 d e l left begun p going some kept before r
 
 -- more than a script may have
 pub ran_over : (c : Place) (s t : Seen) (r r2 : Option (List ℕ)) (f f2 : ℕ) (g g2 : Option (List ℕ)) (d e : DiskSeen) (l : List ℕ) (left : ℕ) →
-    IsBegun c.size s → Reached c s t r r2 g g2 d e l left → left ≡ 0 → t.refused ≡ false → Ran c r r2 f f2 g g2 d e 7
+    IsBegun s → Reached c s t r r2 g g2 d e l left → left ≡ 0 → t.refused ≡ false → Ran c r r2 f f2 g g2 d e 7
 ran_over c s t r r2 f f2 g g2 d e l left begun p none going =
     ran_by c s t r r2 r2 f f2 g g2 g2 d e l left 7 Over [] begun p (Consumes-nil r2) (Appends-nil g2) (inr (omega (arith, p.count, none)))
     (λ a pieces stands. rw (going_outcome Over a pieces l (refused_as t e.told a false stands going)) (ends_plain 7 a pieces))
 
 -- a refused line
 pub ran_stopped : (c : Place) (s t : Seen) (r r2 : Option (List ℕ)) (f f2 : ℕ) (g g2 : Option (List ℕ)) (d e : DiskSeen) (l : List ℕ) (left : ℕ) →
-    IsBegun c.size s → Reached c s t r r2 g g2 d e l left → t.refused ≡ true → Ran c r r2 f f2 g g2 d e 2
+    IsBegun s → Reached c s t r r2 g g2 d e l left → t.refused ≡ true → Ran c r r2 f f2 g g2 d e 2
 ran_stopped c s t r r2 f f2 g g2 d e l left begun p refused =
     ran_by c s t r r2 r2 f f2 g g2 g2 d e l left 2 Fault [] begun p (Consumes-nil r2) (Appends-nil g2) (inl refused)
     (λ a pieces stands. rw (refused_outcome Fault a pieces l (refused_as t e.told a true stands refused)) (ends_plain 2 a pieces))
 
--- the end of the input behind a newline
-end_plain : (a : Session) (pieces : List (List ℕ)) (l : List ℕ) → l ≡ [] → left_lines a.kernel ≡ [] → EndsSo (at_end a pieces l) a pieces 0 []
-end_plain a pieces l empty none = rw (empty, none) (ends_last 0 a pieces [])
+-- the end of the input: behind a newline, or behind other bytes
+end_so : (t : Seen) (told : Option (List (List ℕ))) (a : Session) (pieces : List (List ℕ)) (l : List ℕ) → StandsFor t told a → EndsSo (at_end a pieces l) a pieces (last_status l) (last_bytes t l)
+end_so t told a pieces [] stands =
+    subst (λ (bytes : List ℕ). EndsSo (at_end a pieces []) a pieces 0 bytes) (sym (left_by t told a t.booted stands refl)) (ends_last 0 a pieces (left_lines a.kernel))
+end_so t told a pieces (x ∷ l) stands =
+    subst (λ (n : ℕ). EndsSo (at_end a pieces (x ∷ l)) a pieces 2 (line (fault_text (suc n) Unfinished))) stands.lines (ends_last 2 a pieces (line (fault_text (suc a.lines) Unfinished)))
 
--- the end of the input behind other bytes
-end_unfinished : (a : Session) (pieces : List (List ℕ)) (l : List ℕ) (n : ℕ) → l ≢ [] → a.lines ≡ n → EndsSo (at_end a pieces l) a pieces 2 (line (fault_text (suc n) Unfinished))
-end_unfinished a pieces [] n other is = absurd (other refl)
-end_unfinished a pieces (x ∷ l) n other is = rw (← is) (ends_last 2 a pieces (line (fault_text (suc a.lines) Unfinished)))
-
--- how the last line of a script ends a run: as it stands, or refused
+-- how the last lines end a run
 pub ran_finish : (c : Place) (s t : Seen) (r r2 r3 : Option (List ℕ)) (f f2 : ℕ) (g g2 g3 : Option (List ℕ)) (d e : DiskSeen) (l : List ℕ) (left status : ℕ) →
-    IsBegun c.size s → Reached c s t r r2 g g2 d e l left → t.refused ≡ false → 0 < left → Consumes r2 r3 [] → IsAtEnd r3 →
-    (l ≡ [] → g3 ≡ g2) → (status ≡ 2 → Appends g2 g3 (line (fault_text (t.lines + 1) Unfinished))) →
-    (status ≡ 0) × (l ≡ []) ⊎ (status ≡ 2) × (l ≢ []) ⊎ (status ≡ 4) × (l ≢ []) → status ≢ 4 → Ran c r r3 f f2 g g3 d e status
-ran_finish c s t r r2 r3 f f2 g g2 g3 d e l left status begun p going some kept end whole refused cases other =
-    elim cases [
-      | inl w ↦ rw (w.0, whole w.1) (ran_by c s t r r2 r3 f f2 g g2 g2 d e l left 0 End [] begun p kept (Appends-nil g2) (inr (omega (arith, p.count), end))
-          (λ a pieces stands. rw (going_outcome End a pieces l (refused_as t e.told a false stands going)) (end_plain a pieces l w.1 (none_left t e.told a stands))))
-      | inr w ↦ elim w [
-        | inl x ↦ rw x.0 (ran_by c s t r r2 r3 f f2 g g2 g3 d e l left 2 End (line (fault_text (suc t.lines) Unfinished)) begun p kept ((rw add-one at refused) x.0) (inr (omega (arith, p.count), end))
-            (λ a pieces stands. rw (going_outcome End a pieces l (refused_as t e.told a false stands going)) (end_unfinished a pieces l t.lines x.1 (sym (ap (λ (x : Session). x.lines) stands.session)))))
-        | inr x ↦ absurd (other x.0)
-      ]
-    ]
+    IsBegun s → Reached c s t r r2 g g2 d e l left → t.refused ≡ false → 0 < left → Consumes r2 r3 [] → IsAtEnd r3 →
+    (status ≢ 4 → (status ≡ last_status l) × Appends g2 g3 (last_bytes t l)) → status ≢ 4 → Ran c r r3 f f2 g g3 d e status
+ran_finish c s t r r2 r3 f f2 g g2 g3 d e l left status begun p going some kept end done other =
+    let last = done other in
+    rw last.0
+    (ran_by c s t r r2 r3 f f2 g g2 g3 d e l left (last_status l) End (last_bytes t l) begun p kept last.1 (inr (omega (arith, p.count), end))
+    (λ a pieces stands. rw (going_outcome End a pieces l (refused_as t e.told a false stands going)) (end_so t e.told a pieces l stands)))
 
 -- ---- runs that stop
 
 -- why the run stopped at a line, among those of the script
 stopped : (c : Place) (s t : Seen) (r r2 r3 g g2 g3 : Option (List ℕ)) (d e f : DiskSeen) (l : List ℕ) (left n : ℕ) (given : List ℕ) (stop : Stop) →
-    IsBegun c.size s → (p : Reached c s t r r2 g g2 d e l left) → 0 < left →
+    IsBegun s → (p : Reached c s t r r2 g g2 d e l left) → 0 < left →
     StopsAt c (StandsFor t e.told) (lines_after l (take (left - 1) given)) g2 g3 e f stop → StopsAt c (IsFirst c.size d.told) (script_lines (p.taken ++ given)) g g3 d f stop
 stopped c s t r r2 r3 g g2 g3 d e f l left n given stop begun p some q =
     let script = script_more p.taken given left p.count some in
@@ -206,7 +211,7 @@ stopped c s t r r2 r3 g g2 g3 d e f l left n given stop begun p some q =
 
 -- the sink failed at a line
 pub broke_fed : (c : Place) (s t : Seen) (r r2 r3 g g2 g3 : Option (List ℕ)) (d e f : DiskSeen) (l : List ℕ) (left n : ℕ) (given script : List ℕ) (stop : Stop) →
-    IsBegun c.size s → Reached c s t r r2 g g2 d e l left → 0 < left → length given ≡ n → n ≤ left → Consumes r2 r3 given →
+    IsBegun s → Reached c s t r r2 g g2 d e l left → 0 < left → length given ≡ n → n ≤ left → Consumes r2 r3 given →
     script ≡ take (left - 1) given → stop_status stop ≡ 4 → StopsAt c (StandsFor t e.told) (lines_after l script) g2 g3 e f stop → Broke c r r3 g g3 d f
 broke_fed c s t r r2 r3 g g2 g3 d e f l left n given script SinkFailed begun p some count most consumed is four q =
     record {
@@ -219,7 +224,7 @@ broke_fed c s t r r2 r3 g g2 g3 d e f l left n given script NoMemory begun p som
 
 -- there was no memory for a line
 pub lacked_fed : (c : Place) (s t : Seen) (r r2 r3 g g2 g3 : Option (List ℕ)) (d e f : DiskSeen) (l : List ℕ) (left n : ℕ) (given script : List ℕ) (stop : Stop) →
-    IsBegun c.size s → Reached c s t r r2 g g2 d e l left → 0 < left → length given ≡ n → n ≤ left → Consumes r2 r3 given →
+    IsBegun s → Reached c s t r r2 g g2 d e l left → 0 < left → length given ≡ n → n ≤ left → Consumes r2 r3 given →
     script ≡ take (left - 1) given → stop_status stop ≡ 5 → StopsAt c (StandsFor t e.told) (lines_after l script) g2 g3 e f stop → Lacked c r r3 g g3 d f
 lacked_fed c s t r r2 r3 g g2 g3 d e f l left n given script SinkFailed begun p some count most consumed is five q = absurd (omega (arith, five))
 lacked_fed c s t r r2 r3 g g2 g3 d e f l left n given script NoMemory begun p some count most consumed is five q =
@@ -230,53 +235,40 @@ lacked_fed c s t r r2 r3 g g2 g3 d e f l left n given script NoMemory begun p so
       lacks = stopped c s t r r2 r3 g g2 g3 d e f l left n given NoMemory begun p some (rw is at q);
     }
 
--- the sink failed at the last line
-pub broke_finish : (c : Place) (s t : Seen) (r r2 r3 g g2 g3 : Option (List ℕ)) (d e : DiskSeen) (l : List ℕ) (left status : ℕ) →
-    IsBegun c.size s → Reached c s t r r2 g g2 d e l left → t.refused ≡ false → 0 < left → Consumes r2 r3 [] → IsAtEnd r3 →
-    (status ≡ 4 → AppendsPart g2 g3 (line (fault_text (t.lines + 1) Unfinished))) →
-    (status ≡ 0) × (l ≡ []) ⊎ (status ≡ 2) × (l ≢ []) ⊎ (status ≡ 4) × (l ≢ []) → status ≡ 4 → Broke c r r3 g g3 d e
-broke_finish c s t r r2 r3 g g2 g3 d e l left status begun p going some kept end broken cases is =
-    elim cases [
-      | inl w ↦ absurd (omega (arith, w.0))
-      | inr w ↦ elim w [
-        | inl x ↦ absurd (omega (arith, x.0))
-        | inr x ↦ record {
-          taken = p.taken;
-          within = omega (arith, p.count);
-          consumed = rw (← append-nil p.taken) (Consumes-trans _ _ _ _ _ p.consumed kept);
-          short = inr (cuts_last c s t r r2 r3 g g2 g3 d e l left begun p going some end x.1 ((rw add-one at broken) is));
-        }
-      ]
-    ]
-  where
-    cuts_last : (c : Place) (s t : Seen) (r r2 r3 g g2 g3 : Option (List ℕ)) (d e : DiskSeen) (l : List ℕ) (left : ℕ) →
-        IsBegun c.size s → (p : Reached c s t r r2 g g2 d e l left) → t.refused ≡ false → 0 < left → IsAtEnd r3 → l ≢ [] →
-        AppendsPart g2 g3 (line (fault_text (suc t.lines) Unfinished)) → CutsLast c p.taken r3 g g3 d e
-    cuts_last c s t r r2 r3 g g2 g3 d e l left begun p going some end other cut =
-        let lines = script_lines p.taken in
-        let from = λ (a : Session) (first : IsFirst c.size d.told a). begun_stands c.size s d.told a begun first in
-        let so = λ (a : Session) (first : IsFirst c.size d.told a).
-        let b = lines_run c a lines p.fed.ios in
-        let stands = p.fed.stands a (from a first) in
-        subst (λ o. EndsSo o b (pieces_run c a lines p.fed.ios) 2 (line (fault_text (suc t.lines) Unfinished)))
-        (sym (going_outcome End b (pieces_run c a lines p.fed.ios) l (refused_as t e.told b false stands going)))
-        (end_unfinished b (pieces_run c a lines p.fed.ios) l t.lines other (sym (ap (λ (x : Session). x.lines) stands.session))) in
-        let is = λ (a : Session) (first : IsFirst c.size d.told a).
-        outcome_is c a p.taken End p.fed.ios first.session
-        ∙ ap (outcome_of End (lines_run c a lines p.fed.ios) (pieces_run c a lines p.fed.ios)) (sym p.fed.line_is) in
-        record {
-          ended = (omega (arith, p.count), end);
-          ios = p.fed.ios;
-          one_each = p.fed.one_each;
-          calls = p.fed.calls;
-          part = cut.part;
-          more = cut.more;
-          lacks = cut.lacks;
-          used = λ a first. p.fed.used a (from a first);
-          bytes = λ a first. ap written (is a first) ∙ (so a first).bytes ∙ ap (λ x. concat (pieces_run c a lines p.fed.ios) ++ x) cut.whole ∙ sym (append_assoc (concat (pieces_run c a lines p.fed.ios)) cut.part cut.more);
-          appended = λ a first. Appends-trans _ _ _ _ _ (p.fed.appended a (from a first)) cut.appended;
-          blocks = λ a first. rw (is a first, (so a first).blocks) (p.fed.stands a (from a first)).blocks;
-        }
+-- the sink failed at the last lines
+pub broke_finish : (c : Place) (s t : Seen) (r r2 r3 g g2 g3 : Option (List ℕ)) (d e : DiskSeen) (l : List ℕ) (left : ℕ) →
+    IsBegun s → (p : Reached c s t r r2 g g2 d e l left) → t.refused ≡ false → 0 < left → Consumes r2 r3 [] → IsAtEnd r3 →
+    AppendsPart g2 g3 (last_bytes t l) → Broke c r r3 g g3 d e
+broke_finish c s t r r2 r3 g g2 g3 d e l left begun p going some kept end cut =
+    let lines = script_lines p.taken in
+    let from = λ (a : Session) (first : IsFirst c.size d.told a). begun_stands c.size s d.told a begun first in
+    let so = λ (a : Session) (first : IsFirst c.size d.told a).
+    let b = lines_run c a lines p.fed.ios in
+    let stands = p.fed.stands a (from a first) in
+    subst (λ o. EndsSo o b (pieces_run c a lines p.fed.ios) (last_status l) (last_bytes t l))
+    (sym (going_outcome End b (pieces_run c a lines p.fed.ios) l (refused_as t e.told b false stands going)))
+    (end_so t e.told b (pieces_run c a lines p.fed.ios) l stands) in
+    let is = λ (a : Session) (first : IsFirst c.size d.told a).
+    outcome_is c a p.taken End p.fed.ios first.session
+    ∙ ap (outcome_of End (lines_run c a lines p.fed.ios) (pieces_run c a lines p.fed.ios)) (sym p.fed.line_is) in
+    record {
+      taken = p.taken;
+      within = omega (arith, p.count);
+      consumed = rw (← append-nil p.taken) (Consumes-trans _ _ _ _ _ p.consumed kept);
+      short = inr (record {
+        ended = (omega (arith, p.count), end);
+        ios = p.fed.ios;
+        one_each = p.fed.one_each;
+        calls = p.fed.calls;
+        part = cut.part;
+        more = cut.more;
+        lacks = cut.lacks;
+        used = λ a first. p.fed.used a (from a first);
+        bytes = λ a first. ap written (is a first) ∙ (so a first).bytes ∙ ap (λ x. concat (pieces_run c a lines p.fed.ios) ++ x) cut.whole ∙ sym (append_assoc (concat (pieces_run c a lines p.fed.ios)) cut.part cut.more);
+        appended = λ a first. Appends-trans _ _ _ _ _ (p.fed.appended a (from a first)) cut.appended;
+        blocks = λ a first. rw (is a first, (so a first).blocks) (p.fed.stands a (from a first)).blocks;
+      });
+    }
 
 -- ---- other words
 

@@ -2,23 +2,27 @@
 use Rattle.std.proofs.Common.{codes, decimal, is_some, Result, Ok, Err, ◌≡◌, ◌<◌, ℕ, suc, ◌+◌, ◌++◌, ◌∙◌, true, false, Bool, List, [], ◌∷◌, Some, None, Option, arith, refl, sym, ap, subst, add-one}
 use Rattle.std.specs.Prelude.{nat_lt}
 use Rattle.std.proofs.lemmas.Bool.Decides.{nat_tests}
-use Rattle.kernel_model.specs.World.{World, Image, ImageTable}
-use Rattle.kernel_model.specs.Objects.{Objects}
+use Rattle.kernel_model.specs.World.{Image, ImageTable}
+use Rattle.kernel_model.specs.Pieces.{plain}
+use Rattle.kernel_model.specs.Sound.{IsAtRest}
+use Rattle.disk_log.specs.Seen.{DiskSeen}
+use Rattle.call_pieces.specs.Works.{stage_of}
+use Rattle.kernel_events.specs.Happened.{IsKernel}
+use Rattle.placed_laws.specs.Placed.{Placed}
+use Rattle.placed_laws.specs.Stands as kernels
 use Rattle.kernel_model.specs.Images.{LoadFault, load}
 use Rattle.kernel_model.specs.Kernel as abstract
-use Rattle.kernel_model.specs.Quiet.{quiet}
 use Rattle.kernel_model.specs.Script.{Loads}
-use Rattle.kernel_model.specs.Session.{add_image, image_added, image_answer, after_image, after_built, running_in, silent}
+use Rattle.kernel_model.specs.Session.{add_image, image_added, image_answer, after_image, after_entry, running_in}
 use Rattle.kernel_model.specs.Text.{line}
 use Rattle.vino_top.specs.Built.{present_build}
 use Rattle.vino_top.specs.Loading.{image_of, load_text}
-use Rattle.vino_top.specs.Standing.{Seen, kernel_seen, kernel_in, session_of}
-use Rattle.vino_top.specs.Run.{Place, RunsEntry}
+use Rattle.vino_top.specs.Standing.{Seen, caller_of}
+use Rattle.vino_top.specs.Run.{Place, Comes, RunsEntry}
 use Rattle.vino_top.specs.Bounds.{IsSessionWithin}
 use Rattle.vino_top.specs.declared.session.Session.{Session as CodeSession}
 use Rattle.kernel_state.specs.Stores.{Seeing}
-use Rattle.vino_top.proofs.RowLemmas.{kernel_later}
-use Rattle.vino_top.proofs.SessionLemmas.{ComesAlone, alone, up_is_down, down_is_up}
+use Rattle.vino_top.proofs.SessionLemmas.{alone, up_is_down, down_is_up}
 
 -- the answer to an image line, by the two tests
 abbrev answer_by : (high : Bool) → Option Image → ℕ → Result Image LoadFault → abstract.Kernel → abstract.Kernel × List ℕ
@@ -75,52 +79,74 @@ pub answers_refused : (slot : ℕ) (r : Result Image LoadFault) (k : abstract.Ke
     image_answer slot r k ≡ (k, load_text r)
 answers_refused slot r k below free h = answers_free slot r k below free ∙ added_none slot r k h
 
--- an image that is loaded, which makes this kernel
-pub answers_loaded : (slot : ℕ) (r : Result Image LoadFault) (i : Image) (k new : abstract.Kernel) → slot < 32 → is_some (k.images slot) ≡ false → Some i ≡ image_of r → new ≡ add_image slot i k →
-    image_answer slot r k ≡ (new, load_text r)
-answers_loaded slot r i k new below free h kept =
-    answers_free slot r k below free ∙ added_some slot r i k h ∙ ap (λ (x : abstract.Kernel). (x, load_text r)) (sym kept)
+-- an image that is loaded
+pub answers_loaded : (slot : ℕ) (r : Result Image LoadFault) (i : Image) (k : abstract.Kernel) → slot < 32 → is_some (k.images slot) ≡ false → Some i ≡ image_of r →
+    image_answer slot r k ≡ (add_image slot i k, load_text r)
+answers_loaded slot r i k below free h = answers_free slot r k below free ∙ added_some slot r i k h
 
--- a session goes on by an image line, which leaves the kernel with these images and answers so
-pub image_runs : (c : Place) (s t : Seen) (told : Option (List (List ℕ))) (slot : ℕ) (bytes : List ℕ) (v : World) (w : Objects) (table : ImageTable) (clock : ℕ) (answer out : List ℕ) →
-    s.booted ≡ true → t ≡ record s { world = v; objects = w; images = table; clock = clock; events = s.events + 1 } → w ≡ s.objects →
-    image_answer slot (load c.key bytes) (kernel_seen s) ≡ (quiet v table w clock, answer) → out ≡ line (decimal (s.events + 1) ++ 32 ∷ answer) →
-    RunsEntry c (Loads slot bytes) s t told told [] out
-image_runs c s t told slot bytes v w table clock answer out booted state same said text =
-    let u = record s { world = v; objects = w; images = table; clock = clock; events = s.events + 1 } in
-    subst (λ (x : Seen). RunsEntry c (Loads slot bytes) s x told told [] out) (sym state) (alone c (Loads slot bytes) s u told out (λ blocks.
-    let a = session_of blocks s in
-    let n = suc s.events in
-    let run : after_built present_build c.key c.size a (Loads slot bytes) [] true ≡ after_image a n (quiet v table w clock, answer) [] =
-    ap (λ b. running_in present_build c.key c.size a (Loads slot bytes) (kernel_in b (kernel_seen s)) []) booted
-    ∙ ap (λ (r : abstract.Kernel × List ℕ). after_image a n r []) said in
-    subst (λ x. ComesAlone blocks s u out x) (sym run) (record {
-      up = refl;
-      objects = same;
-      session = ap (λ (m : ℕ). session_of blocks (record u { events = m })) (add-one s.events) ∙ ap (λ b. record a { kernel = kernel_in b (kernel_seen u); events = n }) booted;
+-- What an image line makes of a kernel: it answers so, and leaves a kernel that rests, for which this one in place stands.
+pub record ImageAnswers (slot : ℕ) (r : Result Image LoadFault) (k : abstract.Kernel) (y : Placed) (answer : List ℕ) : Type 0 where
+  pub kernel : abstract.Kernel
+  pub is : image_answer slot r k ≡ (kernel, answer)
+  pub stands : kernels.StandsFor plain y kernel
+  pub rests : IsAtRest plain kernel
+
+-- a slot of a kernel in place has an image where that of the abstract one has
+pub same_slot : (x : Placed) (k : abstract.Kernel) (slot : ℕ) (b : Bool) → kernels.StandsFor plain x k → is_some (x.images slot) ≡ b → is_some (k.images slot) ≡ b
+same_slot x k slot b stands h = ap (λ (t : ImageTable). is_some (t slot)) (sym stands.images) ∙ h
+
+-- a session goes on by an image line
+pub image_runs : (c : Place) (s t : Seen) (slot : ℕ) (bytes : List ℕ) (y : Placed) (answer out : List ℕ) (d : DiskSeen) →
+    s.booted ≡ true → t ≡ record s { placed = y; events = s.events + 1 } →
+    ((k : abstract.Kernel) → kernels.StandsFor plain s.placed k → IsAtRest plain k → ImageAnswers slot (load c.key bytes) k y answer) →
+    out ≡ line (decimal (s.events + 1) ++ 32 ∷ answer) → RunsEntry c (Loads slot bytes) s t d d out
+image_runs c s t slot bytes y answer out d booted state said text =
+    let u = record s { placed = y; events = s.events + 1 } in
+    subst (λ (x : Seen). RunsEntry c (Loads slot bytes) s x d d out) (sym state) (alone c (Loads slot bytes) s u out d (λ a stands.
+    let has = stands.booted booted in
+    let n = suc a.events in
+    let number : s.events + 1 ≡ n = add-one s.events ∙ ap suc (sym stands.events) in
+    let new = said has.kernel has.stands has.rests in
+    let run : after_entry present_build c.key c.size a (Loads slot bytes) [] ≡ after_image a n (new.kernel, answer) [] =
+    ap (λ (o : Option abstract.Kernel). running_in present_build c.key c.size a (Loads slot bytes) o []) has.is
+    ∙ ap (λ (r : abstract.Kernel × List ℕ). after_image a n r []) new.is in
+    subst (λ w. Comes u d.told out w) (sym run) (record {
+      stands = record {
+        setup = stands.setup;
+        lines = stands.lines;
+        events = sym number;
+        refused = stands.refused;
+        unbooted = λ down. up_is_down (sym booted ∙ down);
+        booted = λ up. record { kernel = new.kernel; is = refl; stands = new.stands; rests = new.rests };
+        blocks = stands.blocks;
+      };
       used = refl;
-      bytes = text ∙ ap (λ (m : ℕ). line (decimal m ++ 32 ∷ answer)) (add-one s.events);
+      bytes = text ∙ ap (λ (m : ℕ). line (decimal m ++ 32 ∷ answer)) number;
     })))
 
--- the same before `boot`
-pub unbooted_image : (c : Place) (s : Seen) (told : Option (List (List ℕ))) (slot : ℕ) (bytes : List ℕ) → s.booted ≡ false → RunsEntry c (Loads slot bytes) s s told told [] []
-unbooted_image c s told slot bytes booted =
-    alone c (Loads slot bytes) s s told [] (λ blocks.
-    let a = session_of blocks s in
-    let run : after_built present_build c.key c.size a (Loads slot bytes) [] true ≡ silent a [] =
-    ap (λ b. running_in present_build c.key c.size a (Loads slot bytes) (kernel_in b (kernel_seen s)) []) booted in
-    subst (λ w. ComesAlone blocks s s [] w) (sym run) (record { up = refl; objects = refl; session = refl; used = refl; bytes = refl }))
-
--- one event more, in a session whose kernel has the same store and clock
+-- one event more, in a session whose kernel runs and has the same store
 pub one_later : {X : Type 0} {F : X → Type 0} (view : Seeing X F) (size : ℕ) (s t u : CodeSession X F) → s.booted ≡ true → s.events < s.lines →
-    t ≡ record s { kernel = u.kernel; events = s.events + 1 } → u.kernel.store ≡ s.kernel.store → u.kernel.clock ≡ s.kernel.clock →
+    t ≡ record s { kernel = u.kernel; events = s.events + 1 } → u.kernel.running.store ≡ s.kernel.running.store → IsKernel plain view stage_of caller_of s.events u.kernel.running →
     IsSessionWithin view size s → IsSessionWithin view size t
-one_later view size s t u up fresh state store clock within =
+one_later view size s t u up fresh state store kernel within =
     subst (λ (x : CodeSession _ _). IsSessionWithin view size x) (sym state) (record {
       frames_least = within.frames_least;
       frames_most = within.frames_most;
       events = omega (arith, fresh);
-      kernel = rw (store, clock) (kernel_later view s.events s.kernel.store s.kernel.clock within.kernel);
+      kernel = λ b. record { running = kernel.running; stood = kernel.stood; clock = omega (arith, kernel.clock) };
       size_is = λ b. rw store (within.size_is b);
       unbooted = λ down. up_is_down (sym up ∙ down);
+    })
+
+-- a session whose line was counted and refused
+pub refused_later : {X : Type 0} {F : X → Type 0} (view : Seeing X F) (size : ℕ) (s t : CodeSession X F) → t ≡ record s { lines = s.lines + 1; refused = true } →
+    IsSessionWithin view size s → IsSessionWithin view size t
+refused_later view size s t state within =
+    subst (λ (x : CodeSession _ _). IsSessionWithin view size x) (sym state) (record {
+      frames_least = within.frames_least;
+      frames_most = within.frames_most;
+      events = omega (arith, within.events);
+      kernel = within.kernel;
+      size_is = within.size_is;
+      unbooted = within.unbooted;
     })

@@ -1,5 +1,4 @@
 pub mod PlaceLemmas
-pub mod AloneLemmas
 pub mod RowLemmas
 pub mod SessionLemmas
 pub mod LineLemmas

@@ -1,16 +1,16 @@
--- The lines of rows, one after another; and numbers that stay within larger ones.
+-- The lines of rows, and of calls that are left, one after another.
 use Rattle.std.proofs.Common.{◌≡◌, ◌≤◌, ℕ, zero, suc, ◌+◌, Bool, true, false, ◌&&◌, List, [], ◌∷◌, ◌++◌, Option, Some, None, length, take, codes, decimal, arith, refl, sym, ap, ◌∙◌, append-nil, append_assoc, add-one, inl, inr}
-use Rattle.std.specs.Prelude.{slice_get, nat_le}
+use Rattle.std.specs.Prelude.{slice_get, map, option_map}
+use Rattle.std.specs.List.{concat, range_with_len}
+use Rattle.std.proofs.lemmas.List.Folds.{concat-append}
+use Rattle.std.proofs.lemmas.List.FromFn.{map-range_with_len_more}
 use Rattle.std.proofs.lemmas.Bool.Decides.{nat_tests}
 use Rattle.std.proofs.lemmas.Bool.{cases_lt}
 use Rattle.std.proofs.lemmas.List.{take_all}
-use Rattle.kernel_model.specs.declared.QueueRow.{QueueRow}
 use Rattle.kernel_model.specs.declared.RawRow.{RawRow}
-use Rattle.kernel_model.specs.Text.{line, row_lines, row_text}
-use Rattle.kernel_state.specs.declared.Store.{Store}
-use Rattle.kernel_state.specs.Stores.{Seeing, queue_of}
-use Rattle.call_pieces.specs.Works.{slices_within}
-use Rattle.kernel_core.specs.Bounds.{IsKernelWithin}
+use Rattle.kernel_model.specs.Text.{line, left_text, row_lines, row_text}
+use Rattle.placed_laws.specs.Placed.{Placed, PlacedCall}
+use Rattle.vino_top.specs.Standing.{placed_left_line, placed_left_lines}
 
 -- the rows before a place and the row at it
 take_row : (rows : List RawRow) (i : ℕ) (r : RawRow) → slice_get rows i ≡ Some r → take (suc i) rows ≡ take i rows ++ r ∷ []
@@ -43,35 +43,37 @@ pub lines_all : (n : ℕ) (rows : List RawRow) (i : ℕ) (old : List ℕ) → ol
 lines_all n rows i old before past = before ∙ ap (row_lines n) (take_all i rows (none_past rows i past))
 
 -- a row that is there isn't past the last place
-pub some_below : (i : ℕ) (o : Option RawRow) (r : RawRow) → o ≡ Some r → (374 ≤ i → o ≡ None) → i ≤ 374 → i + 1 ≤ 374
+pub some_below : (i : ℕ) (o : Option RawRow) (r : RawRow) → o ≡ Some r → (1478 ≤ i → o ≡ None) → i ≤ 1600 → i + 1 ≤ 1600
 some_below i o r is none most =
-    elim (cases_lt i 374) [
+    elim (cases_lt i 1600) [
       | inl below ↦ omega (arith, below)
-      | inr past ↦ absurd (differ (sym is ∙ none past))
+      | inr past ↦ absurd (differ (sym is ∙ none (omega (arith, past))))
     ]
   where
     differ : Some r ≡ None → ⊥
     differ h = cc
 
--- ---- what stays within a larger number
+-- ---- calls that are left
 
-both_hold : (a b : Bool) → (a && b) ≡ true → (a ≡ true) × (b ≡ true)
-both_hold true b h = (refl, h)
-both_hold false b h = absurd cc
+-- one process more: its call is left, or it has none
+pub left_more : (x : Placed) (p : ℕ) (old new : List ℕ) → old ≡ concat (map (λ q. placed_left_line q (x.call q)) (range_with_len 0 p)) → new ≡ old ++ placed_left_line p (x.call p) →
+    new ≡ concat (map (λ q. placed_left_line q (x.call q)) (range_with_len 0 (p + 1)))
+left_more x p old new before more =
+    let f : ℕ → List ℕ = λ q. placed_left_line q (x.call q) in
+    let next : 0 + p ≡ p = omega arith in
+    more ∙ ap (λ ys. ys ++ f p) before ∙ ap (λ ys. concat (map f (range_with_len 0 p)) ++ ys) (sym (append-nil (f p)))
+    ∙ sym (concat-append (map f (range_with_len 0 p)) (f p ∷ [])) ∙ ap concat (sym (map-range_with_len_more f 0 p p next))
 
-hold_both : (a b : Bool) → a ≡ true → b ≡ true → (a && b) ≡ true
-hold_both a b g h = rw (g, h) refl
+-- what is written of one process
+pub left_some : (p : ℕ) (o : Option PlacedCall) (number : ℕ) → Some number ≡ option_map (λ (c : PlacedCall). c.number) o → placed_left_line p o ≡ line (left_text p number)
+left_some p None number h = absurd cc
+left_some p (Some c) number h = let same : number ≡ c.number = cc in ap (λ n. line (left_text p n)) (sym same)
 
-row_later : (n a : ℕ) → nat_le a n ≡ true → nat_le a (n + 1) ≡ true
-row_later n a h = grind (arith, nat_tests)
+pub left_none : (p : ℕ) (o : Option PlacedCall) → None ≡ option_map (λ (c : PlacedCall). c.number) o → placed_left_line p o ≡ []
+left_none p None h = refl
+left_none p (Some c) h = absurd cc
 
-slices_later : (n : ℕ) (rows : List QueueRow) → slices_within n rows ≡ true → slices_within (n + 1) rows ≡ true
-slices_later n [] h = refl
-slices_later n (r ∷ rows) h =
-    let both = both_hold (nat_le r.slices n) (slices_within n rows) h in
-    hold_both (nat_le r.slices (n + 1)) (slices_within (n + 1) rows) (row_later n r.slices both.0) (slices_later n rows both.1)
-
--- a kernel that stays
-pub kernel_later : {X : Type 0} {F : X → Type 0} (view : Seeing X F) (n : ℕ) (s : Store X F) (clock : ℕ) → IsKernelWithin view n s clock → IsKernelWithin view (n + 1) s clock
-kernel_later view n s clock h =
-    record { store = h.store; clock = omega (arith, h.clock); slices = slices_later n (queue_of s) h.slices }
+-- all processes
+pub left_all : (x : Placed) (p : ℕ) (old : List ℕ) → 16 ≤ p → p ≤ 16 → old ≡ concat (map (λ q. placed_left_line q (x.call q)) (range_with_len 0 p)) → old ≡ placed_left_lines x
+left_all x p old least most before =
+    let all : p ≡ 16 = omega (arith, least, most) in before ∙ ap (λ n. concat (map (λ q. placed_left_line q (x.call q)) (range_with_len 0 n))) all

@@ -11,8 +11,9 @@ use Rattle.disk_log.specs.Joined.{made_none, made_joined}
 use Rattle.kernel_model.specs.Script.{LINE_BYTES}
 use Rattle.kernel_model.specs.Session.{Session}
 use Rattle.kernel_model.specs.Outcome.{lines_after, rest_after, ends_line, ended_line}
-use Rattle.vino_top.specs.Run.{Place, line_run, lines_run, pieces_run, UsesAll, DiskSeen, MadeAll, AppendsPart, StandsFor, RunsLine, IsImageLine, Feeds, StopsAt, TakesLine}
-use Rattle.vino_top.specs.Standing.{Seen}
+use Rattle.disk_log.specs.Seen.{DiskSeen}
+use Rattle.vino_top.specs.Run.{Place, line_run, lines_run, pieces_run, UsesAll, MadeAll, AppendsPart, RunsLine, IsImageLine, Feeds, StopsAt, TakesLine}
+use Rattle.vino_top.specs.Standing.{Seen, StandsFor}
 use Rattle.vino_top.specs.declared.run.Stop.{Stop}
 use Rattle.vino_top.specs.declared.run.Stop.TheVariants.{SinkFailed, NoMemory}
 use Rattle.vino_top.proofs.LineLemmas.{lines-append, rest-append, lines_ended, lines_gone, rest_ended, rest_gone, rest_short}
@@ -131,15 +132,16 @@ pub fed_line : (c : Place) (s t : Seen) (l m n : List ℕ) (byte : ℕ) (g h : O
     n ≡ [] → TakesLine c m s t g h d e → Feeds c s t l n (byte ∷ []) g h d e
 fed_line c s t l m n byte g h d e ends is empty p =
     let ended = lines_ended l byte [] ends in
+    let r = p.runs in
     record {
-      ios = p.io ∷ [];
+      ios = r.io ∷ [];
       one_each = rw ended refl;
-      calls = p.calls;
+      calls = all_made_one d e r.io r.made;
       line_is = rw (rest_ended l byte [] ends) empty;
       lines = omega (arith, p.lines);
-      stands = λ a from. rw (ended, is) (p.runs a from).stands;
-      used = λ a from. rw (ended, is) ((p.runs a from).used, tt);
-      appended = λ a from. rw (ended, is, append-nil (line_run c a m p.io).bytes, ← (p.runs a from).bytes) p.appended;
+      stands = λ a from. rw (ended, is) (r.comes a from).stands;
+      used = λ a from. rw (ended, is) ((r.comes a from).used, tt);
+      appended = λ a from. rw (ended, is, append-nil (line_run c a m r.io).bytes, ← (r.comes a from).bytes) p.appended;
     }
 
 -- the byte at a place is fed
@@ -278,29 +280,29 @@ stops_from c from less lines g h d e NoMemory into p =
 -- ---- one line
 
 -- what a line writes was written, or a part of it
-pub line_written : {T : Type 0} → (c : Place) (text : List ℕ) (s t : Seen) (io : List Bool) (out : List ℕ) (g h : Option (List ℕ)) (d e : DiskSeen) (r : Result T Stop) →
-    RunsLine c text s t d.told e.told io out → Made d.faults e.faults d.plan e.plan io → t.lines ≤ s.lines + 1 →
+pub line_written : {T : Type 0} → (c : Place) (text : List ℕ) (s t : Seen) (out : List ℕ) (g h : Option (List ℕ)) (d e : DiskSeen) (r : Result T Stop) →
+    RunsLine c text s t d e out → t.lines ≤ s.lines + 1 →
     MatchResult r (λ _. Appends g h out) (λ stop. (stop ≡ SinkFailed) × AppendsPart g h out) →
     MatchResult r (λ _. TakesLine c text s t g h d e) (StopsAt c (StandsFor s d.told) (text ∷ []) g h d e)
-line_written c text s t io out g h d e (Ok x) runs calls lines p =
-    record { io = io; calls = all_made_one d e io calls; lines = lines; out = out; appended = p; runs = runs }
-line_written c text s t io out g h d e (Err stop) runs calls lines p =
+line_written c text s t out g h d e (Ok x) runs lines p =
+    record { lines = lines; out = out; appended = p; runs = runs }
+line_written c text s t out g h d e (Err stop) runs lines p =
     rw p.0 (record {
       done = [];
       next = text;
       later = [];
       order = refl;
       ios = [];
-      io = io;
+      io = runs.io;
       one_each = refl;
-      calls = all_made_one d e io calls;
+      calls = all_made_one d e runs.io runs.made;
       part = p.1.part;
       more = p.1.more;
       lacks = p.1.lacks;
-      used = λ a from. (tt, (runs a from).used);
-      bytes = λ a from. sym (runs a from).bytes ∙ p.1.whole;
+      used = λ a from. (tt, (runs.comes a from).used);
+      bytes = λ a from. sym (runs.comes a from).bytes ∙ p.1.whole;
       appended = λ a from. p.1.appended;
-      blocks = λ a from. (runs a from).stands.blocks;
+      blocks = λ a from. (runs.comes a from).stands.blocks;
     })
 
 -- there was no memory for a line
@@ -317,7 +319,7 @@ line_lacks c text s g d e same image going =
       one_each = refl;
       calls = all_made_none d;
       used = λ a from. tt;
-      going = λ a from. sym (ap (λ (x : Session). x.refused) from.session) ∙ going;
+      going = λ a from. from.refused ∙ going;
       appended = λ a from. Appends-nil g;
       blocks = λ a from. from.blocks;
     })

@@ -1,207 +1,254 @@
 -- What the lines and the entries of a session make of it.
 use Rattle.std.proofs.Common.{length, codes, decimal, is_some, Result, Ok, Err, ◌≡◌, ℕ, suc, ◌+◌, ◌++◌, ◌∙◌, true, false, Bool, List, [], ◌∷◌, Some, None, Option, arith, refl, sym, ap, subst, add-one}
+use Rattle.std.specs.Prelude.{OnOk, slice_index_or, replicate, zero, nat_lt, ◌<◌}
+use Rattle.std.proofs.lemmas.Bool.Decides.{nat_tests}
+use Rattle.std.proofs.Math.Path.{fun_ext}
 use Rattle.kernel_model.specs.declared.Event.{Event}
 use Rattle.kernel_model.specs.declared.Note.{Note}
 use Rattle.disk_log.specs.Calls.{Tells}
-use Rattle.kernel_model.specs.Directory.{directory_of}
+use Rattle.disk_log.specs.Joined.{made_none}
+use Rattle.disk_log.specs.Seen.{DiskSeen}
+use Rattle.kernel_model.specs.Directory.{directory_of, usable_count}
+use Rattle.kernel_model.specs.Objects.{at}
 use Rattle.kernel_model.specs.Script as script_is
-use Rattle.kernel_model.specs.Script.{Entry, Blank, Frames, Grant, Boot, Happens, Raw, ScriptFault, fault_number, parsed_line}
+use Rattle.kernel_model.specs.Script.{Entry, Blank, Frames, Patience, Grant, Boot, Happens, Raw, ScriptFault, LINE_BYTES, is_blank, entry_at, other_words, words_of, command_named, first_word, fault_number, parsed_line}
 use Rattle.script_text.specs.declared.parse.ScriptFault.{ScriptFault as TextFault}
 use Rattle.script_text.specs.declared.parse.ScriptFault.TheVariants as text
 use Rattle.script_text.specs.Answers.{Refuses}
 use Rattle.kernel_model.specs.Kernel as abstract
-use Rattle.kernel_model.specs.Session as script
-use Rattle.kernel_model.specs.Session.{Written, after_parse, after_built, after_entry, after_event, running_in, refuses_line, says, silent}
+use Rattle.kernel_model.specs.Session.{Session, Setup, first_setup, Written, world_of, with_patience, after_parse, after_entry, after_event, running_in, refuses_line, says, silent}
 use Rattle.kernel_model.specs.Events.{event}
 use Rattle.kernel_model.specs.RawRows.{raw_rows}
 use Rattle.kernel_model.specs.Pieces.{plain}
 use Rattle.std.proofs.lemmas.Fmt.{decimal_digit}
 use Rattle.kernel_model.specs.declared.Note.TheVariants.{Refused}
 use Rattle.kernel_model.specs.declared.Refusal.TheVariants.{DiskFault}
-use Rattle.kernel_model.specs.Text.{line, spaced, note_text, note_lines, row_lines}
+use Rattle.kernel_model.specs.Text.{line, spaced, boot_text, note_text, note_lines, row_lines}
 use Rattle.kernel_model.specs.Opening.{opening_kernel}
-use Rattle.vino_top.specs.Built.{present_build, is_built, is_built_event}
-use Rattle.kernel_model.specs.World.{World, ImageTable, Blocks}
-use Rattle.kernel_model.specs.Objects.{Objects}
-use Rattle.kernel_model.specs.Quiet.{quiet, HasNoGraft}
-use Rattle.kernel_core.specs.declared.kernel.BootNote.{BootNote}
-use Rattle.kernel_core.specs.Standing.{Happened, directory_read, boot_note}
-use Rattle.vino_top.specs.Standing.{Seen, kernel_seen, kernel_in, session_of, code_seen}
+use Rattle.kernel_model.specs.World.{Blocks}
 use Rattle.kernel_state.specs.Stores.{world_for}
-use Rattle.vino_top.specs.Run.{Place, line_run, StandsFor, Comes, RunsLine, RunsEntry, boot_line}
+use Rattle.placed_laws.specs.Agreeing.{SameShown}
+use Rattle.placed_laws.specs.Placed.{Placed}
+use Rattle.placed_laws.specs.PlacedRows.{placed_rows}
+use Rattle.kernel_events.specs.Happened.{Happened, EventIs}
+use Rattle.kernel_core.specs.declared.kernel.BootNote.{BootNote}
+use Rattle.kernel_core.specs.Standing.{Booted, BootIs}
+use Rattle.vino_top.specs.Built.{present_build}
+use Rattle.vino_top.specs.Standing.{Seen, StandsFor, setup_of, code_seen}
+use Rattle.vino_top.specs.Run.{Place, line_run, Comes, RunsLine, RunsEntry, boot_line}
+
+-- what is booted isn't not booted
+pub up_is_down : {A : Type 0} → true ≡ false → A
+up_is_down h = absurd (contrary h)
+  where
+    contrary : true ≡ false → ⊥
+    contrary k = cc
+
+pub down_is_up : {A : Type 0} → false ≡ true → A
+down_is_up h = absurd (contrary h)
+  where
+    contrary : false ≡ true → ⊥
+    contrary k = cc
+
+-- what holds of a success in one form holds in another
+pub on_ok : {T E P Q : Type 0} → (r : Result T E) → (P → Q) → OnOk r P → OnOk r Q
+on_ok (Ok x) f h = f h
+on_ok (Err e) f h = h
+
+-- patience where no line sets it
+pub first_patience : setup_of (record { frames = 8; patience = replicate 8 10; grant = 1000000 }) ≡ first_setup
+first_patience = ap (λ (f : ℕ → ℕ). record first_setup { patience = f }) (fun_ext (λ k. ten_each 8 k))
+  where
+    ten_each : (n k : ℕ) → ◌≡◌ {A = ℕ} (slice_index_or (replicate n 10) k 10) 10
+    ten_each zero k = refl
+    ten_each (suc n) zero = refl
+    ten_each (suc n) (suc k) = ten_each n k
 
 -- ---- entries
 
--- what comes of the session that the code's stands for comes of the abstract one
-comes_of : (t : Seen) (told_new : Option (List (List ℕ))) (out : List ℕ) (s : Seen) (told : Option (List (List ℕ))) (a : script.Session) (run : script.Session → Written) →
-    StandsFor s told a → Comes t told_new out (run (session_of a.blocks s)) → Comes t told_new out (run a)
-comes_of t told_new out s told a run stands comes = subst (λ x. Comes t told_new out (run x)) stands.session comes
-
--- no graft is installed after boot
-opening_graftless : (k : abstract.Kernel) (v : World) → k ≡ opening_kernel v → HasNoGraft k.objects
-opening_graftless k v is = λ q pt. ap (λ (x : abstract.Kernel). x.objects.accounts.graft q pt) is
+-- the next number of an event
+next_number : (s : Seen) (told : Option (List (List ℕ))) (a : Session) → StandsFor s told a → s.events + 1 ≡ suc a.events
+next_number s told a stands = add-one s.events ∙ ap suc (sym stands.events)
 
 -- a session goes on by an event, and writes the lines of its notes
-pub event_runs : (c : Place) (s : Seen) (v : World) (table : ImageTable) (w : Objects) (clock : ℕ) (told told_new : Option (List (List ℕ))) (what : Event) (io : List Bool) (notes : List Note) (out : List ℕ) →
-    s.booted ≡ true → is_built_event what ≡ true → (HasNoGraft s.objects → Happened plain (kernel_seen s) (quiet v table w clock) told told_new (s.events + 1) what io notes) → out ≡ note_lines notes →
-    RunsEntry c (Happens what) s (record s { world = v; images = table; objects = w; clock = clock; events = s.events + 1 }) told told_new io out
-event_runs c s v table w clock told told_new what io notes out booted built h text = λ a stands.
-    let n = suc s.events in
-    let t = session_of a.blocks s in
-    let u = record s { world = v; images = table; objects = w; clock = clock; events = s.events + 1 } in
-    let r = event plain (kernel_seen s) a.blocks n what io in
-    let happened = rw add-one at (h (stands.graftless booted)) in
-    let run : after_built present_build c.key c.size t (Happens what) io (is_built_event what) ≡ after_event t n r =
-    ap (after_built present_build c.key c.size t (Happens what) io) built
-    ∙ ap (λ b. running_in present_build c.key c.size t (Happens what) (kernel_in b (kernel_seen s)) io) booted in
-    comes_of _ told_new out s told a (λ x. after_built present_build c.key c.size x (Happens what) io (is_built_event what)) stands
-    (subst (λ x. Comes u told_new out x) (sym run) (record {
-      stands = record {
-        session =
-            ap (λ (m : ℕ). session_of r.blocks (record u { events = m })) (add-one s.events)
-            ∙ ap (λ (o : Option abstract.Kernel). record t { kernel = o; blocks = r.blocks; events = n }) (ap (λ b. kernel_in b (kernel_seen u)) booted ∙ ap (λ x. Some x) (sym (happened.kernel_is a.blocks stands.blocks)));
-        blocks = happened.blocks_are a.blocks stands.blocks;
-        graftless = λ up. happened.graftless a.blocks stands.blocks;
-      };
-      used = happened.used_all a.blocks stands.blocks;
-      bytes = text ∙ ap note_lines (sym (happened.notes_are a.blocks stands.blocks));
-    }))
+pub event_runs : (c : Place) (s : Seen) (x : Placed) (what : Event) (notes : List Note) (out : List ℕ) (d e : DiskSeen) →
+    s.booted ≡ true → Happened plain s.placed x (s.events + 1) what notes d e → out ≡ note_lines notes →
+    RunsEntry c (Happens what) s (record s { placed = x; events = s.events + 1 }) d e out
+event_runs c s x what notes out d e booted h text =
+    record {
+      io = h.io;
+      made = h.made;
+      comes = λ a stands.
+          let has = stands.booted booted in
+          let n = suc a.events in
+          let number = next_number s d.told a stands in
+          let r = event plain has.kernel a.blocks n what h.io in
+          let is : EventIs plain r x notes e.told =
+          subst (λ (m : ℕ). EventIs plain (event plain has.kernel a.blocks m what h.io) x notes e.told) number (h.is has.kernel a.blocks has.stands has.rests stands.blocks) in
+          let run : after_entry present_build c.key c.size a (Happens what) h.io ≡ after_event a n r =
+          ap (λ (o : Option abstract.Kernel). running_in present_build c.key c.size a (Happens what) o h.io) has.is in
+          subst (λ w. Comes (record s { placed = x; events = s.events + 1 }) e.told out w) (sym run) (record {
+            stands = record {
+              setup = stands.setup;
+              lines = stands.lines;
+              events = sym number;
+              refused = stands.refused;
+              unbooted = λ down. up_is_down (sym booted ∙ down);
+              booted = λ up. record { kernel = r.kernel; is = refl; stands = is.stands; rests = is.rests };
+              blocks = is.blocks;
+            };
+            used = is.all_made;
+            bytes = text ∙ ap note_lines is.notes_are;
+          });
+    }
 
--- a session once the kernel began: block 0 was read, or that failed
-pub boot_runs : (c : Place) (s : Seen) (v : World) (table : ImageTable) (w : Objects) (clock : ℕ) (told told_new : Option (List (List ℕ))) (io : List Bool) (note : BootNote) (out : List ℕ) →
-    length io ≡ 1 → ((blocks : Blocks) → Tells told blocks → Tells told_new blocks) →
-    ((blocks : Blocks) → Tells told blocks → quiet v table w clock ≡ opening_kernel (world_for s.setup c.size (directory_read c.size (blocks 0) io))) →
-    ((blocks : Blocks) → Tells told blocks → note ≡ boot_note s.setup.frames c.size (blocks 0) io) → out ≡ line (boot_line note) →
-    RunsEntry c Boot s (record s { world = v; images = table; objects = w; clock = clock; booted = true }) told told_new io out
-boot_runs c s v table w clock told told_new (true ∷ []) note out one keeps kernel said text = λ a stands.
-    let u = record s { world = v; images = table; objects = w; clock = clock; booted = true } in
-    comes_of u told_new out s told a (λ x. after_built present_build c.key c.size x Boot (true ∷ []) true) stands (record {
+-- what comes of a boot: block 0 was read, or that failed
+boot_comes : (c : Place) (s : Seen) (x : Placed) (io : List Bool) (note : BootNote) (out : List ℕ) (told told_new : Option (List (List ℕ))) (a : Session) →
+    length io ≡ 1 → StandsFor s told a → BootIs plain s.setup c.size a.blocks io x note told_new → out ≡ line (boot_line note) →
+    Comes (record s { placed = x; booted = true }) told_new out (after_entry present_build c.key c.size a Boot io)
+boot_comes c s x (true ∷ []) note out told told_new a one stands is text =
+    record {
       stands = record {
-        session = ap (λ (k : abstract.Kernel). record (session_of a.blocks s) { kernel = Some k }) (kernel a.blocks stands.blocks);
-        blocks = keeps a.blocks stands.blocks;
-        graftless = λ up. opening_graftless (quiet v table w clock) (world_for s.setup c.size []) (kernel a.blocks stands.blocks);
+        setup = stands.setup;
+        lines = stands.lines;
+        events = stands.events;
+        refused = stands.refused;
+        unbooted = λ down. up_is_down down;
+        booted = λ up. record {
+          kernel = opening_kernel (world_for s.setup c.size []);
+          is = ap (λ (u : Setup). Some (opening_kernel (world_of u c.size 11 []))) stands.setup;
+          stands = is.stands;
+          rests = is.rests;
+        };
+        blocks = is.blocks_are;
       };
       used = refl;
-      bytes = text ∙ ap (λ (x : BootNote). line (boot_line x)) (said a.blocks stands.blocks);
-    })
-boot_runs c s v table w clock told told_new (false ∷ []) note out one keeps kernel said text = λ a stands.
-    let u = record s { world = v; images = table; objects = w; clock = clock; booted = true } in
-    comes_of u told_new out s told a (λ x. after_built present_build c.key c.size x Boot (false ∷ []) true) stands (record {
+      bytes = text ∙ ap (λ (y : BootNote). line (boot_line y)) is.note_is;
+    }
+boot_comes c s x (false ∷ []) note out told told_new a one stands is text =
+    let rows = directory_of c.size (a.blocks 0) in
+    record {
       stands = record {
-        session = ap (λ (k : abstract.Kernel). record (session_of a.blocks s) { kernel = Some k }) (kernel a.blocks stands.blocks);
-        blocks = keeps a.blocks stands.blocks;
-        graftless = λ up. opening_graftless (quiet v table w clock) (world_for s.setup c.size (directory_of c.size (a.blocks 0))) (kernel a.blocks stands.blocks);
+        setup = stands.setup;
+        lines = stands.lines;
+        events = stands.events;
+        refused = stands.refused;
+        unbooted = λ down. up_is_down down;
+        booted = λ up. record {
+          kernel = opening_kernel (world_for s.setup c.size rows);
+          is = ap (λ (u : Setup). Some (opening_kernel (world_of u c.size 11 rows))) stands.setup;
+          stands = is.stands;
+          rests = is.rests;
+        };
+        blocks = is.blocks_are;
       };
       used = refl;
-      bytes = text ∙ ap (λ (x : BootNote). line (boot_line x)) (said a.blocks stands.blocks);
-    })
-boot_runs c s v table w clock told told_new [] note out one keeps kernel said text = absurd (omega (arith, one))
-boot_runs c s v table w clock told told_new (x ∷ y ∷ io) note out one keeps kernel said text = absurd (omega (arith, one))
+      bytes = text ∙ ap (λ (y : BootNote). line (boot_line y)) is.note_is ∙ ap (λ (u : Setup). line (boot_text u.frames c.size (usable_count rows))) (sym stands.setup);
+    }
+boot_comes c s x [] note out told told_new a one stands is text = absurd (omega (arith, one))
+boot_comes c s x (y ∷ z ∷ io) note out told told_new a one stands is text = absurd (omega (arith, one))
 
--- an entry that leaves the disk alone
-pub record ComesAlone (blocks : Blocks) (s t : Seen) (out : List ℕ) (w : Written) : Type 0 where
-  pub up : t.booted ≡ s.booted
-  pub objects : t.objects ≡ s.objects
-  pub session : session_of blocks t ≡ w.session
-  pub used : w.io ≡ []
-  pub bytes : out ≡ w.bytes
+-- a session once the kernel began
+pub boot_runs : (c : Place) (s : Seen) (x : Placed) (note : BootNote) (out : List ℕ) (d e : DiskSeen) →
+    Booted plain s.setup c.size x note d e → out ≡ line (boot_line note) → RunsEntry c Boot s (record s { placed = x; booted = true }) d e out
+boot_runs c s x note out d e h text =
+    record { io = h.io; made = h.made; comes = λ a stands. boot_comes c s x h.io note out d.told e.told a h.one stands (h.is a.blocks stands.blocks) text }
 
--- a session went on by such an entry
-pub alone : (c : Place) (e : Entry) (s t : Seen) (told : Option (List (List ℕ))) (out : List ℕ) →
-    ((blocks : Blocks) → ComesAlone blocks s t out (after_built present_build c.key c.size (session_of blocks s) e [] (is_built e))) → RunsEntry c e s t told told [] out
-alone c e s t told out comes = λ a stands.
-    let came = comes a.blocks in
-    let same = ap (λ (x : script.Session). x.blocks) came.session in
-    comes_of t told out s told a (λ x. after_built present_build c.key c.size x e [] (is_built e)) stands (record {
-      stands = record {
-        session = ap (λ b. session_of b t) (sym same) ∙ came.session;
-        blocks = subst (λ b. Tells told b) same stands.blocks;
-        graftless = λ up. subst (λ (x : Objects). HasNoGraft x) (sym came.objects) (stands.graftless (sym came.up ∙ up));
-      };
-      used = came.used;
-      bytes = came.bytes;
-    })
+-- a session went on by an entry that leaves the disk alone
+pub alone : (c : Place) (entry : Entry) (s t : Seen) (out : List ℕ) (d : DiskSeen) →
+    ((a : Session) → StandsFor s d.told a → Comes t d.told out (after_entry present_build c.key c.size a entry [])) → RunsEntry c entry s t d d out
+alone c entry s t out d comes = record { io = []; made = made_none d.faults d.plan; comes = comes }
 
 -- a blank line
-pub blank_runs : (c : Place) (s : Seen) (told : Option (List (List ℕ))) → RunsEntry c Blank s s told told [] []
-blank_runs c s told = alone c Blank s s told [] (λ blocks. record { up = refl; objects = refl; session = refl; used = refl; bytes = refl })
+pub blank_runs : (c : Place) (s : Seen) (d : DiskSeen) → RunsEntry c Blank s s d d []
+blank_runs c s d = alone c Blank s s [] d (λ a stands. record { stands = stands; used = refl; bytes = refl })
+
+-- a session with another set-up
+set_up : (s : Seen) (u : _) (told : Option (List (List ℕ))) (a : Session) (v : Setup) → v ≡ setup_of u → StandsFor s told a → StandsFor (record s { setup = u }) told (record a { setup = v })
+set_up s u told a v is stands =
+    record { setup = is; lines = stands.lines; events = stands.events; refused = stands.refused; unbooted = stands.unbooted; booted = stands.booted; blocks = stands.blocks }
 
 -- a line that sets the frames
-pub frames_runs : (c : Place) (s : Seen) (told : Option (List (List ℕ))) (n : ℕ) →
-    RunsEntry c (Frames n) s (record s { setup = record (s.setup) { frames = n } }) told told [] []
-frames_runs c s told n =
-    alone c (Frames n) s (record s { setup = record (s.setup) { frames = n } }) told [] (λ blocks. record { up = refl; objects = refl; session = refl; used = refl; bytes = refl })
+pub frames_runs : (c : Place) (s : Seen) (n : ℕ) (d : DiskSeen) → RunsEntry c (Frames n) s (record s { setup = record (s.setup) { frames = n } }) d d []
+frames_runs c s n d =
+    alone c (Frames n) s (record s { setup = record (s.setup) { frames = n } }) [] d (λ a stands.
+    record { stands = set_up s (record (s.setup) { frames = n }) d.told a (record (a.setup) { frames = n }) (ap (λ (u : Setup). record u { frames = n }) stands.setup) stands; used = refl; bytes = refl })
 
 -- a line that sets the grant
-pub grant_runs : (c : Place) (s : Seen) (told : Option (List (List ℕ))) (n : ℕ) →
-    RunsEntry c (Grant n) s (record s { setup = record (s.setup) { grant = n } }) told told [] []
-grant_runs c s told n =
-    alone c (Grant n) s (record s { setup = record (s.setup) { grant = n } }) told [] (λ blocks. record { up = refl; objects = refl; session = refl; used = refl; bytes = refl })
+pub grant_runs : (c : Place) (s : Seen) (n : ℕ) (d : DiskSeen) → RunsEntry c (Grant n) s (record s { setup = record (s.setup) { grant = n } }) d d []
+grant_runs c s n d =
+    alone c (Grant n) s (record s { setup = record (s.setup) { grant = n } }) [] d (λ a stands.
+    record { stands = set_up s (record (s.setup) { grant = n }) d.told a (record (a.setup) { grant = n }) (ap (λ (u : Setup). record u { grant = n }) stands.setup) stands; used = refl; bytes = refl })
 
--- an event before `boot`
-pub unbooted_runs : (c : Place) (s : Seen) (told : Option (List (List ℕ))) (what : Event) → s.booted ≡ false → is_built_event what ≡ true →
-    RunsEntry c (Happens what) s s told told [] []
-unbooted_runs c s told what booted built =
-    alone c (Happens what) s s told [] (λ blocks.
-    let t = session_of blocks s in
-    let run : after_built present_build c.key c.size t (Happens what) [] (is_built_event what) ≡ silent t [] =
-    ap (after_built present_build c.key c.size t (Happens what) []) built
-    ∙ ap (λ b. running_in present_build c.key c.size t (Happens what) (kernel_in b (kernel_seen s)) []) booted in
-    subst (λ w. ComesAlone blocks s s [] w) (sym run) (record { up = refl; objects = refl; session = refl; used = refl; bytes = refl }))
+-- a line that sets the patience with a kind of object
+pub patience_runs : (c : Place) (s : Seen) (kind ticks : ℕ) (patience : List ℕ) (d : DiskSeen) → (λ k. slice_index_or patience k 10) ≡ at kind ticks (λ k. slice_index_or s.setup.patience k 10) →
+    RunsEntry c (Patience kind ticks) s (record s { setup = record (s.setup) { patience = patience } }) d d []
+patience_runs c s kind ticks patience d is =
+    alone c (Patience kind ticks) s (record s { setup = record (s.setup) { patience = patience } }) [] d (λ a stands.
+    record {
+      stands = set_up s (record (s.setup) { patience = patience }) d.told a (with_patience kind ticks a.setup)
+          (ap (with_patience kind ticks) stands.setup ∙ ap (λ (f : ℕ → ℕ). record (setup_of s.setup) { patience = f }) (sym is)) stands;
+      used = refl;
+      bytes = refl;
+    })
+
+-- an entry after `boot` that stands before it
+pub unbooted_runs : (c : Place) (entry : Entry) (s : Seen) (d : DiskSeen) → ((a : Session) → after_entry present_build c.key c.size a entry [] ≡ running_in present_build c.key c.size a entry a.kernel []) →
+    s.booted ≡ false → RunsEntry c entry s s d d []
+unbooted_runs c entry s d runs booted =
+    alone c entry s s [] d (λ a stands.
+    let run : after_entry present_build c.key c.size a entry [] ≡ silent a [] =
+    runs a ∙ ap (λ (o : Option abstract.Kernel). running_in present_build c.key c.size a entry o []) (stands.unbooted booted) in
+    subst (λ w. Comes s d.told [] w) (sym run) (record { stands = stands; used = refl; bytes = refl }))
 
 -- the rows of the kernel's whole state
-pub raw_runs : (c : Place) (s : Seen) (told : Option (List (List ℕ))) (out : List ℕ) → s.booted ≡ true → out ≡ row_lines (s.events + 1) (raw_rows plain (kernel_seen s)) →
-    RunsEntry c Raw s (record s { events = s.events + 1 }) told told [] out
-raw_runs c s told out booted text =
-    alone c Raw s (record s { events = s.events + 1 }) told out (λ blocks.
-    let t = session_of blocks s in
-    let n = suc s.events in
-    let run : after_built present_build c.key c.size t Raw [] true ≡ says (record t { kernel = Some (kernel_seen s); events = n }) (row_lines n (raw_rows plain (kernel_seen s))) [] =
-    ap (λ b. running_in present_build c.key c.size (record t { kernel = kernel_in b (kernel_seen s) }) Raw (kernel_in b (kernel_seen s)) []) booted in
-    subst (λ w. ComesAlone blocks s (record s { events = s.events + 1 }) out w) (sym run) (record {
-      up = refl;
-      objects = refl;
-      session = ap (λ (m : ℕ). session_of blocks (record s { events = m })) (add-one s.events) ∙ ap (λ b. record t { kernel = kernel_in b (kernel_seen s); events = n }) booted;
+pub raw_runs : SameShown plain → (c : Place) (s : Seen) (out : List ℕ) (d : DiskSeen) → s.booted ≡ true → out ≡ row_lines (s.events + 1) (placed_rows s.placed) →
+    RunsEntry c Raw s (record s { events = s.events + 1 }) d d out
+raw_runs shown c s out d booted text =
+    alone c Raw s (record s { events = s.events + 1 }) out d (λ a stands.
+    let has = stands.booted booted in
+    let n = suc a.events in
+    let number = next_number s d.told a stands in
+    let run : after_entry present_build c.key c.size a Raw [] ≡ says (record a { events = n }) (row_lines n (raw_rows plain has.kernel)) [] =
+    ap (λ (o : Option abstract.Kernel). running_in present_build c.key c.size a Raw o []) has.is in
+    subst (λ w. Comes (record s { events = s.events + 1 }) d.told out w) (sym run) (record {
+      stands = record {
+        setup = stands.setup;
+        lines = stands.lines;
+        events = sym number;
+        refused = stands.refused;
+        unbooted = stands.unbooted;
+        booted = stands.booted;
+        blocks = stands.blocks;
+      };
       used = refl;
-      bytes = text ∙ ap (λ (m : ℕ). row_lines m (raw_rows plain (kernel_seen s))) (add-one s.events);
+      bytes = text ∙ ap (λ (m : ℕ). row_lines m (placed_rows s.placed)) number ∙ ap (row_lines n) (shown.rows s.placed has.kernel has.stands);
     }))
-
--- the same before `boot`
-pub unbooted_raw : (c : Place) (s : Seen) (told : Option (List (List ℕ))) → s.booted ≡ false → RunsEntry c Raw s s told told [] []
-unbooted_raw c s told booted =
-    alone c Raw s s told [] (λ blocks.
-    let t = session_of blocks s in
-    let run : after_built present_build c.key c.size t Raw [] true ≡ silent t [] =
-    ap (λ b. running_in present_build c.key c.size t Raw (kernel_in b (kernel_seen s)) []) booted in
-    subst (λ w. ComesAlone blocks s s [] w) (sym run) (record { up = refl; objects = refl; session = refl; used = refl; bytes = refl }))
-
--- a line that isn't built
-pub unbuilt_runs : (c : Place) (e : Entry) (s t : Seen) (told : Option (List (List ℕ))) (out : List ℕ) → is_built e ≡ false →
-    t ≡ record s { refused = true } → out ≡ line (codes "script" ++ spaced s.lines ++ codes " S" ++ decimal 5) → RunsEntry c e s t told told [] out
-unbuilt_runs c e s t told out unbuilt state text =
-    alone c e s t told out (λ blocks.
-    subst (λ b. ComesAlone blocks s t out (after_built present_build c.key c.size (session_of blocks s) e [] b)) (sym unbuilt)
-    (record { up = ap (λ (x : Seen). x.booted) state; objects = ap (λ (x : Seen). x.objects) state; session = ap (session_of blocks) state; used = refl; bytes = text }))
 
 -- ---- lines
 
--- a kernel of the code is there where the abstract one is
-kernel_is_some : (booted : Bool) (k : abstract.Kernel) → is_some (kernel_in booted k) ≡ booted
-kernel_is_some false k = refl
-kernel_is_some true k = refl
+-- a kernel of the abstract session is there where the code's is booted
+kernel_is_some : (s : Seen) (told : Option (List (List ℕ))) (a : Session) (b : Bool) → StandsFor s told a → s.booted ≡ b → is_some a.kernel ≡ b
+kernel_is_some s told a false stands h = ap is_some (stands.unbooted h)
+kernel_is_some s told a true stands h = ap is_some (stands.booted h).is
 
 -- a session after a refused line
-pub line_after_refusal : (c : Place) (s : Seen) (told : Option (List (List ℕ))) (text : List ℕ) → s.refused ≡ true → RunsLine c text s s told told [] []
-line_after_refusal c s told text refused = λ a stands.
-    let is : line_run c a text [] ≡ silent a [] =
-    ap (λ (b : Bool). elim b as (λ _. Written) [
-      | true ↦ silent a []
-      | false ↦ after_parse present_build c.key c.size (record a { lines = suc a.lines }) (parsed_line (is_some a.kernel) text) []
-    ]) (ap (λ (x : script.Session). x.refused) (sym stands.session) ∙ refused) in
-    subst (λ w. Comes s told [] w) (sym is) (record { stands = stands; used = refl; bytes = refl })
+pub line_after_refusal : (c : Place) (s : Seen) (text : List ℕ) (d : DiskSeen) → s.refused ≡ true → RunsLine c text s s d d []
+line_after_refusal c s text d refused =
+    record {
+      io = [];
+      made = made_none d.faults d.plan;
+      comes = λ a stands.
+          let is : line_run c a text [] ≡ silent a [] =
+          ap (λ (b : Bool). elim b as (λ _. Written) [
+            | true ↦ silent a []
+            | false ↦ after_parse present_build c.key c.size (record a { lines = suc a.lines }) (parsed_line (is_some a.kernel) text) []
+          ]) (stands.refused ∙ refused) in
+          subst (λ w. Comes s d.told [] w) (sym is) (record { stands = stands; used = refl; bytes = refl });
+    }
 
 -- a line of a session that goes on is what its words say
-line_parsed : (c : Place) (s : Seen) (told : Option (List (List ℕ))) (a : script.Session) (text : List ℕ) (said : Result Entry ScriptFault) (io : List Bool) →
+line_parsed : (c : Place) (s : Seen) (told : Option (List (List ℕ))) (a : Session) (text : List ℕ) (said : Result Entry ScriptFault) (io : List Bool) →
     StandsFor s told a → s.refused ≡ false → parsed_line s.booted text ≡ said →
     line_run c a text io ≡ after_parse present_build c.key c.size (record a { lines = suc a.lines }) said io
 line_parsed c s told a text said io stands going is =
@@ -209,44 +256,75 @@ line_parsed c s told a text said io stands going is =
     ap (λ (refused : Bool). elim refused as (λ _. Written) [
       | true ↦ silent a io
       | false ↦ after_parse present_build c.key c.size u (parsed_line (is_some a.kernel) text) io
-    ]) (ap (λ (x : script.Session). x.refused) (sym stands.session) ∙ going)
-    ∙ ap (λ (b : Bool). after_parse present_build c.key c.size u (parsed_line b text) io) (ap (λ (x : script.Session). is_some x.kernel) (sym stands.session) ∙ kernel_is_some s.booted (kernel_seen s))
+    ]) (stands.refused ∙ going)
+    ∙ ap (λ (b : Bool). after_parse present_build c.key c.size u (parsed_line b text) io) (kernel_is_some s told a s.booted stands refl)
     ∙ ap (λ (r : Result Entry ScriptFault). after_parse present_build c.key c.size u r io) is
 
 -- a session whose next line was counted
-counted : (s : Seen) (told : Option (List (List ℕ))) (a : script.Session) → StandsFor s told a → StandsFor (record s { lines = s.lines + 1 }) told (record a { lines = suc a.lines })
+counted : (s : Seen) (told : Option (List (List ℕ))) (a : Session) → StandsFor s told a → StandsFor (record s { lines = s.lines + 1 }) told (record a { lines = suc a.lines })
 counted s told a stands =
     record {
-      session =
-          ap (λ (n : ℕ). session_of a.blocks (record s { lines = n })) (add-one s.lines)
-          ∙ ap (λ (x : script.Session). record x { lines = suc x.lines }) stands.session;
+      setup = stands.setup;
+      lines = ap suc stands.lines ∙ sym (add-one s.lines);
+      events = stands.events;
+      refused = stands.refused;
+      unbooted = stands.unbooted;
+      booted = stands.booted;
       blocks = stands.blocks;
-      graftless = stands.graftless;
     }
 
 -- a line is run for what it says
-pub line_entered : (c : Place) (s t : Seen) (told told_new : Option (List (List ℕ))) (io : List Bool) (text out : List ℕ) (e : Entry) → s.refused ≡ false →
-    parsed_line s.booted text ≡ Ok e → RunsEntry c e (record s { lines = s.lines + 1 }) t told told_new io out → RunsLine c text s t told told_new io out
-line_entered c s t told told_new io text out e going is runs = λ a stands.
-    subst (λ w. Comes t told_new out w) (sym (line_parsed c s told a text (Ok e) io stands going is))
-    (runs (record a { lines = suc a.lines }) (counted s told a stands))
+pub line_entered : (c : Place) (s t : Seen) (text out : List ℕ) (entry : Entry) (d e : DiskSeen) → s.refused ≡ false →
+    parsed_line s.booted text ≡ Ok entry → RunsEntry c entry (record s { lines = s.lines + 1 }) t d e out → RunsLine c text s t d e out
+line_entered c s t text out entry d e going is runs =
+    record {
+      io = runs.io;
+      made = runs.made;
+      comes = λ a stands.
+          subst (λ w. Comes t e.told out w) (sym (line_parsed c s d.told a text (Ok entry) runs.io stands going is))
+          (runs.comes (record a { lines = suc a.lines }) (counted s d.told a stands));
+    }
+
+-- a session that refused its line
+refused_now : (s : Seen) (told : Option (List (List ℕ))) (a : Session) → StandsFor s told a → StandsFor (record s { refused = true }) told (record a { refused = true })
+refused_now s told a stands =
+    record { setup = stands.setup; lines = stands.lines; events = stands.events; refused = refl; unbooted = stands.unbooted; booted = stands.booted; blocks = stands.blocks }
 
 -- a line is refused for this fault
-pub line_refused : (c : Place) (s t : Seen) (told : Option (List (List ℕ))) (text out : List ℕ) (fault : ScriptFault) → s.refused ≡ false →
+pub line_refused : (c : Place) (s t : Seen) (text out : List ℕ) (fault : ScriptFault) (d : DiskSeen) → s.refused ≡ false →
     parsed_line s.booted text ≡ Err fault → t ≡ record s { lines = s.lines + 1; refused = true } →
-    out ≡ line (codes "script" ++ spaced (s.lines + 1) ++ codes " S" ++ decimal (fault_number fault)) → RunsLine c text s t told told [] out
-line_refused c s t told text out fault going is state written = λ a stands.
-    let u = counted s told a stands in
-    let lines : s.lines + 1 ≡ suc a.lines = ap (λ (x : script.Session). x.lines) u.session in
-    subst (λ w. Comes t told out w) (sym (line_parsed c s told a text (Err fault) [] stands going is)) (record {
-      stands = record {
-        session = ap (session_of a.blocks) state ∙ ap (λ (x : script.Session). record x { refused = true }) u.session;
-        blocks = stands.blocks;
-        graftless = λ up. subst (λ (x : Objects). HasNoGraft x) (sym (ap (λ (x : Seen). x.objects) state)) (stands.graftless (sym (ap (λ (x : Seen). x.booted) state) ∙ up));
-      };
-      used = refl;
-      bytes = written ∙ ap (λ n. line (codes "script" ++ spaced n ++ codes " S" ++ decimal (fault_number fault))) lines;
-    })
+    out ≡ line (codes "script" ++ spaced (s.lines + 1) ++ codes " S" ++ decimal (fault_number fault)) → RunsLine c text s t d d out
+line_refused c s t text out fault d going is state written =
+    record {
+      io = [];
+      made = made_none d.faults d.plan;
+      comes = λ a stands.
+          let u = counted s d.told a stands in
+          subst (λ w. Comes t d.told out w) (sym (line_parsed c s d.told a text (Err fault) [] stands going is)) (record {
+            stands = subst (λ (x : Seen). StandsFor x d.told (record a { lines = suc a.lines; refused = true })) (sym state)
+                (refused_now (record s { lines = s.lines + 1 }) d.told (record a { lines = suc a.lines }) u);
+            used = refl;
+            bytes = written ∙ ap (λ n. line (codes "script" ++ spaced n ++ codes " S" ++ decimal (fault_number fault))) (sym u.lines);
+          });
+    }
+
+-- a line that is longer than a line may be
+long_said : (long booted : Bool) (text : List ℕ) → long ≡ true →
+    elim long as (λ _. Result Entry ScriptFault) [
+      | true ↦ Err script_is.TooLong
+      | false ↦ elim (is_blank text) as (λ _. Result Entry ScriptFault) [
+        | true ↦ Ok Blank
+        | false ↦ entry_at booted (other_words (words_of text)) (command_named (first_word (words_of text)))
+      ]
+    ] ≡ Err script_is.TooLong
+long_said true booted text h = refl
+long_said false booted text h = down_is_up h
+
+pub line_too_long : (c : Place) (s t : Seen) (text out : List ℕ) (d : DiskSeen) → s.refused ≡ false → 65536 < length text → t ≡ record s { lines = s.lines + 1; refused = true } →
+    out ≡ line (codes "script" ++ spaced (s.lines + 1) ++ codes " S" ++ decimal 3) → RunsLine c text s t d d out
+line_too_long c s t text out d going long state written =
+    let is : nat_lt LINE_BYTES (length text) ≡ true = grind (arith, nat_tests, long) in
+    line_refused c s t text out script_is.TooLong d going (long_said (nat_lt LINE_BYTES (length text)) s.booted text is) state written
 
 -- which fault a code stands for
 record RefusedAs (code : ℕ) (said : Result Entry ScriptFault) : Type 0 where
@@ -273,26 +351,13 @@ refused_as text.NoMemory code said h r =
     let none : ℕ = 0 in let one : ℕ = 1 in let there : none ≡ one = ap count_of h in absurd (omega (arith, there))
 
 -- a line is refused with this code
-pub line_refused_as : (c : Place) (s t : Seen) (told : Option (List (List ℕ))) (text out : List ℕ) (fault : TextFault) (code : ℕ) → s.refused ≡ false →
+pub line_refused_as : (c : Place) (s t : Seen) (text out : List ℕ) (fault : TextFault) (code : ℕ) (d : DiskSeen) → s.refused ≡ false →
     code_seen fault ≡ Some code → Refuses fault (parsed_line s.booted text) → t ≡ record s { lines = s.lines + 1; refused = true } →
-    out ≡ line (codes "script" ++ spaced (s.lines + 1) ++ codes " S" ++ decimal code) → RunsLine c text s t told told [] out
-line_refused_as c s t told text out fault code going seen refuses state written =
+    out ≡ line (codes "script" ++ spaced (s.lines + 1) ++ codes " S" ++ decimal code) → RunsLine c text s t d d out
+line_refused_as c s t text out fault code d going seen refuses state written =
     let r = refused_as fault code (parsed_line s.booted text) seen refuses in
-    line_refused c s t told text out r.fault going r.is state (rw r.number written)
+    line_refused c s t text out r.fault d going r.is state (rw r.number written)
 
 -- what is written of a boot whose read failed
 pub fault_line : line (note_text (Refused 0 DiskFault)) ≡ line (codes "0 E16")
 fault_line = ap (λ x. line (x ++ 32 ∷ codes "E16")) (decimal_digit 0 (omega arith))
-
--- what is booted isn't not booted
-pub up_is_down : {A : Type 0} → true ≡ false → A
-up_is_down h = absurd (contrary h)
-  where
-    contrary : true ≡ false → ⊥
-    contrary k = cc
-
-pub down_is_up : {A : Type 0} → false ≡ true → A
-down_is_up h = absurd (contrary h)
-  where
-    contrary : false ≡ true → ⊥
-    contrary k = cc

@@ -3,11 +3,11 @@ use Rattle.std.specs.Prelude.{◌≡◌, ◌≢◌, ℕ, ◌+◌, ◌<◌, ◌�
 use Rattle.std.specs.List.{concat}
 use Rattle.std.specs.Io.KnownBytes.{Appends, Consumes, IsAtEnd, Keeps}
 use Rattle.vino_base.specs.Faults.{Rose}
-use Rattle.vino_base.specs.Calls.{Plan}
 use Rattle.disk_log.specs.Calls.{Tells, Made}
+use Rattle.disk_log.specs.Seen.{DiskSeen}
 use Rattle.kernel_model.specs.World.{Blocks}
 use Rattle.kernel_model.specs.Script.{words_of, first_word}
-use Rattle.kernel_model.specs.Session.{Session, Written, first_session, after_line, after_built, session_after, pieces_of, first_io, later_io}
+use Rattle.kernel_model.specs.Session.{Session, Written, first_session, after_line, after_entry, session_after, pieces_of, first_io, later_io}
 use Rattle.kernel_model.specs.Script.{Entry}
 use Rattle.kernel_model.specs.Outcome.{SCRIPT_BYTES, Ending, End, Fault, Over, Outcome, outcome, written, lines_after, rest_after}
 use Rattle.kernel_model.specs.Text.{line, usage_text, boot_text}
@@ -19,9 +19,8 @@ use Rattle.kernel_model.specs.Filters as filter
 use Rattle.filters.specs.Filtered as filtered
 use Rattle.vino_top.specs.declared.words.Asked.{Asked}
 use Rattle.vino_top.specs.declared.words.Asked.TheVariants.{Run, Box, Check, Asm, Dis, Nothing}
-use Rattle.vino_top.specs.Built.{present_build, is_built}
-use Rattle.kernel_model.specs.Quiet.{HasNoGraft}
-use Rattle.vino_top.specs.Standing.{Seen, session_of}
+use Rattle.vino_top.specs.Built.{present_build}
+use Rattle.vino_top.specs.Standing.{Seen, StandsFor}
 use Rattle.vino_top.specs.declared.run.Stop.{Stop}
 use Rattle.vino_top.specs.declared.run.Stop.TheVariants.{SinkFailed, NoMemory}
 
@@ -64,16 +63,6 @@ outcome_at c blocks taken e ios = outcome present_build c.key taken e (record { 
 
 -- ---- the disk and the sink
 
--- what is seen of a disk: its blocks and its plan, where it tells them, and its count of faults
-pub record DiskSeen : Type 0 where
-  pub told : Option (List (List ℕ))
-  pub plan : Option Plan
-  pub faults : ℕ
-
--- these blocks, this plan, this count
-abbrev pub disk_seen : Option (List (List ℕ)) → Option Plan → ℕ → DiskSeen
-disk_seen told plan faults = record { told = told; plan = plan; faults = faults }
-
 -- from one moment to another the disk had the calls of these lists
 abbrev pub MadeAll : DiskSeen → DiskSeen → List (List Bool) → Type 0
 MadeAll d e ios = Made d.faults e.faults d.plan e.plan (flat_map (λ (io : List Bool). io) ios)
@@ -88,12 +77,6 @@ pub record AppendsPart (old new : Option (List ℕ)) (bytes : List ℕ) : Type 0
 
 -- ---- a session of the code beside the abstract one
 
--- what is seen of the session stands for the abstract one, whose blocks the disk tells; no graft is installed
-pub record StandsFor (s : Seen) (told : Option (List (List ℕ))) (a : Session) : Type 0 where
-  pub session : session_of a.blocks s ≡ a
-  pub blocks : Tells told a.blocks
-  pub graftless : s.booted ≡ true → HasNoGraft s.objects
-
 -- what came of a line or an entry: the session and the disk stand for what is written of them, all calls of the list were made,
 -- and the bytes are these
 pub record Comes (t : Seen) (told : Option (List (List ℕ))) (out : List ℕ) (w : Written) : Type 0 where
@@ -101,14 +84,19 @@ pub record Comes (t : Seen) (told : Option (List (List ℕ))) (out : List ℕ) (
   pub used : w.io ≡ []
   pub bytes : out ≡ w.bytes
 
--- the session went on by this line, which made these calls and writes `out`
-abbrev pub RunsLine : Place → List ℕ → (s t : Seen) → (told told_new : Option (List (List ℕ))) → List Bool → List ℕ → Type 0
-RunsLine c text s t told told_new io out = (a : Session) → StandsFor s told a → Comes t told_new out (line_run c a text io)
+-- The session went on by this line, which took the disk from the one to the other and writes `out`.
+pub record RunsLine (c : Place) (text : List ℕ) (s t : Seen) (d e : DiskSeen) (out : List ℕ) : Type 0 where
+  -- which of its calls of the disk failed
+  pub io : List Bool
+  pub made : Made d.faults e.faults d.plan e.plan io
+  pub comes : (a : Session) → StandsFor s d.told a → Comes t e.told out (line_run c a text io)
 
--- the session went on by this entry, which made these calls and writes `out`
-abbrev pub RunsEntry : Place → Entry → (s t : Seen) → (told told_new : Option (List (List ℕ))) → List Bool → List ℕ → Type 0
-RunsEntry c e s t told told_new io out =
-    (a : Session) → StandsFor s told a → Comes t told_new out (after_built present_build c.key c.size a e io (is_built e))
+-- The session went on by this entry, which took the disk from the one to the other and writes `out`.
+pub record RunsEntry (c : Place) (entry : Entry) (s t : Seen) (d e : DiskSeen) (out : List ℕ) : Type 0 where
+  -- which of its calls of the disk failed
+  pub io : List Bool
+  pub made : Made d.faults e.faults d.plan e.plan io
+  pub comes : (a : Session) → StandsFor s d.told a → Comes t e.told out (after_entry present_build c.key c.size a entry io)
 
 -- what is written of a boot
 abbrev pub boot_line : BootNote → List ℕ
@@ -180,12 +168,10 @@ StopsAt c from lines got got_new d e NoMemory = Lacks c from lines got got_new d
 
 -- the session went on by this line, and the sink took what the line writes
 pub record TakesLine (c : Place) (text : List ℕ) (s t : Seen) (got got_new : Option (List ℕ)) (d e : DiskSeen) : Type 0 where
-  pub io : List Bool
-  pub calls : MadeAll d e (io ∷ [])
   pub lines : t.lines ≤ s.lines + 1
   pub out : List ℕ
   pub appended : Appends got got_new out
-  pub runs : RunsLine c text s t d.told e.told io out
+  pub runs : RunsLine c text s t d e out
 
 -- ---- a whole run
 

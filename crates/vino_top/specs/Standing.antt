@@ -1,28 +1,38 @@
--- Which abstract session a session of the code stands for.
-use Rattle.std.specs.Prelude.{ℕ, Bool, true, false, Option, Some, None, slice_index_or}
-use Rattle.kernel_model.specs.World.{World, ImageTable, Blocks}
-use Rattle.kernel_model.specs.Objects.{Objects}
-use Rattle.kernel_model.specs.Quiet.{quiet}
+-- Which abstract sessions a session of the code stands for.
+use Rattle.std.specs.Prelude.{◌≡◌, ℕ, suc, Bool, true, false, cond, List, [], ◌∷◌, Option, Some, None, slice_index_or, flat_map}
+use Rattle.disk_log.specs.Calls.{Tells}
+use Rattle.kernel_model.specs.World.{processes}
+use Rattle.kernel_model.specs.Pieces.{plain}
 use Rattle.kernel_model.specs.Kernel as abstract
+use Rattle.kernel_model.specs.Script.{Unfinished}
 use Rattle.kernel_model.specs.Session as script
+use Rattle.kernel_model.specs.Sound.{IsAtRest}
+use Rattle.kernel_model.specs.Text.{line, left_text}
 use Rattle.script_text.specs.declared.parse.ScriptFault.{ScriptFault}
 use Rattle.script_text.specs.declared.parse.ScriptFault.TheVariants.{BadWord, BadNumber, WrongPlace, UnknownCommand, NoMemory}
+use Rattle.call_pieces.specs.declared.Work.{Work}
+use Rattle.call_pieces.specs.Works.{stage_of}
 use Rattle.kernel_state.specs.declared.Setup.{Setup}
-use Rattle.kernel_state.specs.Stores.{Seeing, world_of_store, objects_of}
-use Rattle.graft_loader.specs.Slots.{table_of}
+use Rattle.kernel_state.specs.Stores.{Seeing}
+use Rattle.placed_laws.specs.Placed.{Placed, PlacedCall}
+use Rattle.placed_laws.specs.Stands as kernels
+use Rattle.kernel_steps.specs.Views.{placed_of}
 use Rattle.vino_top.specs.declared.session.Session.{Session}
 
--- What is seen of a session: its set-up, its kernel and its counts.
+-- ---- what is seen
+
+-- What is seen of a session: its set-up, its kernel in place and its counts.
 pub record Seen : Type 0 where
   pub setup : Setup
   pub booted : Bool
-  pub world : World
-  pub objects : Objects
-  pub images : ImageTable
-  pub clock : ℕ
+  pub placed : Placed
   pub lines : ℕ
   pub events : ℕ
   pub refused : Bool
+
+-- who calls, in the table of the system calls
+abbrev pub caller_of : Work → ℕ
+caller_of w = w.caller
 
 -- the same of a session of the code, by what is seen of a policy
 abbrev pub seen_of : {X : Type 0} {F : X → Type 0} → Seeing X F → Session X F → Seen
@@ -30,10 +40,7 @@ seen_of view s =
     record {
       setup = s.setup;
       booted = s.booted;
-      world = world_of_store s.kernel.store;
-      objects = objects_of view s.kernel.store;
-      images = table_of s.kernel.images;
-      clock = s.kernel.clock;
+      placed = placed_of view stage_of s.kernel.running;
       lines = s.lines;
       events = s.events;
       refused = s.refused;
@@ -43,26 +50,54 @@ seen_of view s =
 abbrev pub setup_of : Setup → script.Setup
 setup_of u = record { frames = u.frames; patience = λ kind. slice_index_or u.patience kind 10; grant = u.grant }
 
--- the abstract kernel, in which no call is in flight
-abbrev pub kernel_seen : Seen → abstract.Kernel
-kernel_seen s = quiet s.world s.images s.objects s.clock
+-- ---- what that stands for
 
--- the abstract kernel, once there is one
-abbrev pub kernel_in : (booted : Bool) → abstract.Kernel → Option abstract.Kernel
-kernel_in false k = None
-kernel_in true k = Some k
+-- An abstract kernel that rests, for which a kernel in place stands.
+pub record HasKernel (x : Placed) (o : Option abstract.Kernel) : Type 0 where
+  pub kernel : abstract.Kernel
+  pub is : o ≡ Some kernel
+  pub stands : kernels.StandsFor plain x kernel
+  pub rests : IsAtRest plain kernel
 
--- the session, over a disk with these blocks
-abbrev pub session_of : Blocks → Seen → script.Session
-session_of blocks s =
-    record {
-      setup = setup_of s.setup;
-      kernel = kernel_in s.booted (kernel_seen s);
-      blocks = blocks;
-      lines = s.lines;
-      events = s.events;
-      refused = s.refused;
-    }
+-- What is seen of a session stands for an abstract one, whose blocks the disk tells: that has no kernel before `boot`, and after it
+-- one that rests, for which the kernel in place stands.
+pub record StandsFor (s : Seen) (told : Option (List (List ℕ))) (a : script.Session) : Type 0 where
+  pub setup : a.setup ≡ setup_of s.setup
+  pub lines : a.lines ≡ s.lines
+  pub events : a.events ≡ s.events
+  pub refused : a.refused ≡ s.refused
+  pub unbooted : s.booted ≡ false → a.kernel ≡ None
+  pub booted : s.booted ≡ true → HasKernel s.placed a.kernel
+  pub blocks : Tells told a.blocks
+
+-- What is seen of a session before its first line.
+pub record IsBegun (s : Seen) : Type 0 where
+  pub setup : setup_of s.setup ≡ script.first_setup
+  pub booted : s.booted ≡ false
+  pub lines : s.lines ≡ 0
+  pub events : s.events ≡ 0
+  pub refused : s.refused ≡ false
+
+-- ---- what is written
+
+-- the line of a call that is left in flight
+abbrev pub placed_left_line : ℕ → Option PlacedCall → List ℕ
+placed_left_line p None = []
+placed_left_line p (Some c) = line (left_text p c.number)
+
+-- the lines of the calls that are left in flight
+abbrev pub placed_left_lines : Placed → List ℕ
+placed_left_lines x = flat_map (λ p. placed_left_line p (x.call p)) processes
+
+-- what is written at the end of the input, where these bytes stand behind the last line
+abbrev pub last_bytes : Seen → List ℕ → List ℕ
+last_bytes s [] = cond s.booted (placed_left_lines s.placed) []
+last_bytes s (byte ∷ bytes) = line (script.fault_text (suc s.lines) Unfinished)
+
+-- and how the run ends then
+abbrev pub last_status : List ℕ → ℕ
+last_status [] = 0
+last_status (byte ∷ bytes) = 2
 
 -- the S code of a refusal, or nothing where memory was wanted
 abbrev pub code_seen : ScriptFault → Option ℕ

@@ -6,15 +6,14 @@
 ghost use Rattle.std.specs.Prelude.{◌≡◌, ◌≢◌, ◌⊎◌, ◌≤◌, true, false, List, [], ℕ, String, Vec, map, string_bytes};
 ghost use Rattle.std.specs.Io.KnownBytes.{Appends, Keeps};
 ghost use Rattle.vino_base.specs.Faults.{Rose};
-ghost use Rattle.kernel_model.specs.World.{Blocks};
-ghost use Rattle.kernel_model.specs.Session.{first_session};
 ghost use Rattle.kernel_model.specs.Text.{line, usage_text};
 ghost use Rattle.kernel_model.specs.Opening.{opening_policy};
 ghost use Rattle.graft_points.specs.Shelf.{IsShelf, pol_of, first_choice};
-ghost use Rattle.vino_top.specs.Standing.{seen_of, session_of};
+ghost use Rattle.vino_top.specs.Standing.{seen_of, IsBegun};
 ghost use Rattle.vino_top.specs.Bounds.{IsSessionWithin};
 ghost use Rattle.vino_top.specs.Words.{asked_by};
-ghost use Rattle.vino_top.specs.Run.{place, AppendsPart, Ran, Broke, Lacked, Does, disk_seen};
+ghost use Rattle.vino_top.specs.Run.{place, AppendsPart, Ran, Broke, Lacked, Does};
+ghost use Rattle.disk_log.specs.Seen.{disk_seen};
 
 mod lines;
 mod loading;
@@ -123,8 +122,7 @@ fn start<S: Source, K: Sink, D: Disk>(
     out: &mut K,
     disk: &mut D,
 ) -> u8
-    requires session { (size : ℕ) (blocks : Blocks) → session_of blocks (seen_of (λ b. seen (b.vtable, b.value)) reader.session) ≡ first_session (record { size = size; block = blocks }) }
-    requires first { (reader.session.lines ≡ 0) × (reader.session.refused ≡ false) }
+    requires begun { IsBegun (seen_of (λ b. seen (b.vtable, b.value)) reader.session) }
     requires within { (size : ℕ) → IsSessionWithin (λ b. seen (b.vtable, b.value)) size reader.session }
     requires line { reader.line ≡ [] }
     ensures ran { result ≢ 4 → result ≢ 5 → Ran (place key.now (D.block_count disk.old)) (S.rest src.old) (S.rest src.new) (S.faults src.old) (S.faults src.new) (K.got out.old) (K.got out.new)

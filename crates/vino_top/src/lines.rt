@@ -1,25 +1,24 @@
 //! The lines that are written of an event.
 
-ghost use Rattle.std.specs.Prelude.{◌≡◌, ◌+◌, ◌*◌, ◌≤◌, ◌++◌, [], length, IfOk};
-ghost use Rattle.kernel_model.specs.Pieces.{plain};
-ghost use Rattle.kernel_model.specs.RawRows.{raw_rows};
+ghost use Rattle.std.specs.Prelude.{◌≡◌, ◌+◌, ◌*◌, ◌<◌, ◌≤◌, ◌++◌, [], length, IfOk};
 ghost use Rattle.kernel_model.specs.Text.{note_lines, row_lines};
-ghost use Rattle.kernel_state.specs.Stores.{IsStore};
-ghost use Rattle.graft_loader.specs.Slots.{table_of};
-ghost use Rattle.kernel_core.specs.Standing.{kernel_of};
+ghost use Rattle.call_pieces.specs.Works.{stage_of};
+ghost use Rattle.placed_laws.specs.PlacedRows.{placed_rows};
+ghost use Rattle.kernel_steps.specs.Views.{placed_of, IsRunning};
+ghost use Rattle.vino_top.specs.Standing.{caller_of, placed_left_line, placed_left_lines};
 
 use call_pieces::Plain;
 use kernel_core::{Kernel, Notes};
-use kernel_model::NoMemory;
-use script_text::{Text, print_note, print_row};
+use kernel_model::{NoMemory, PROCESSES};
+use script_text::{Text, print_left, print_note, print_row};
 use std::alloc::Global;
 use std::marker::Model;
 
-/// The most rows that show a kernel's whole state.
-const ROWS: u32 = 374;
+/// Not fewer than the rows that show a kernel's whole state.
+const ROWS: u32 = 1_600;
 
 /// Room for a line of at most 2,048 bytes for each row, and one more.
-const LINES_BYTES: usize = 768_000;
+const LINES_BYTES: usize = 3_278_848;
 
 /// The bytes that are written at once. Contracts see their list. Memory is taken once.
 #[derive(Drop)]
@@ -34,7 +33,7 @@ impl Model for Lines {
 
     ghost view = { λ l. l.bytes.items };
 
-    ghost invariant = { λ l. 768000 ≤ vec_capacity l.bytes };
+    ghost invariant = { λ l. 3278848 ≤ vec_capacity l.bytes };
 }
 
 impl Lines {
@@ -64,7 +63,7 @@ impl Lines {
 
     /// A line more.
     pub fn add(&mut self, text: &Text)
-        requires { length self.old + 2048 ≤ 768000 }
+        requires { length self.old + 2048 ≤ 3278848 }
         ensures value { self.new ≡ self.old ++ text.now }
         ensures fits { length self.new ≤ length self.old + 2048 }
     {
@@ -82,11 +81,36 @@ impl Lines {
         }
     }
 
+    /// The line of process p's call, if it has one in flight.
+    fn add_left_of(&mut self, kernel: &Kernel<Plain>, p: u8, text: &mut Text)
+        requires process { p < 16 }
+        requires room { length self.old + 2048 ≤ 3278848 }
+        requires running { IsRunning (λ b. seen (b.vtable, b.value)) caller_of kernel.now.running }
+        ensures value { self.new ≡ self.old ++ placed_left_line p ((placed_of (λ b. seen (b.vtable, b.value)) stage_of kernel.now.running).call p) }
+        ensures fits { length self.new ≤ length self.old + 2048 }
+    {
+        if let Some(number) = kernel.left(p) {
+            print_left(p, number, text);
+            self.add(text);
+        }
+    }
+
+    /// The lines of the calls that a kernel has left in flight, one for each.
+    pub fn add_left(&mut self, kernel: &Kernel<Plain>, text: &mut Text)
+        requires empty { self.old ≡ [] }
+        requires running { IsRunning (λ b. seen (b.vtable, b.value)) caller_of kernel.now.running }
+        ensures { self.new ≡ placed_left_lines (placed_of (λ b. seen (b.vtable, b.value)) stage_of kernel.now.running) }
+    {
+        for p in 0..PROCESSES as u8 {
+            self.add_left_of(kernel, p, text);
+        }
+    }
+
     /// The lines of the rows that show a kernel's whole state, for event n.
     pub fn add_rows(&mut self, kernel: &Kernel<Plain>, n: u32, text: &mut Text)
         requires empty { self.old ≡ [] }
-        requires sound { IsStore (λ b. seen (b.vtable, b.value)) kernel.now.store }
-        ensures { self.new ≡ row_lines n (raw_rows plain (kernel_of (λ b. seen (b.vtable, b.value)) kernel.now.store (table_of kernel.now.images) kernel.now.clock)) }
+        requires running { IsRunning (λ b. seen (b.vtable, b.value)) caller_of kernel.now.running }
+        ensures { self.new ≡ row_lines n (placed_rows (placed_of (λ b. seen (b.vtable, b.value)) stage_of kernel.now.running)) }
     {
         for i in 0..ROWS + 1 {
             match kernel.raw(i) {

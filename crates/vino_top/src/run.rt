@@ -3,23 +3,21 @@
 ghost use Rattle.std.specs.Prelude.{◌≡◌, ◌≢◌, ◌+◌, ◌-◌, ◌<◌, ◌≤◌, ◌^◌, ℕ, List, [], ◌∷◌, ◌++◌, length, false, Err, OnOk, IfOk, MatchResult, map, vec_len, ◌⊎◌};
 ghost use Rattle.std.specs.Io.KnownBytes.{Appends, Consumes, IsAtEnd};
 ghost use Rattle.vino_base.specs.Faults.{HasCause, Rose};
-ghost use Rattle.kernel_model.specs.Text.{line};
-ghost use Rattle.kernel_model.specs.Script.{Unfinished, LINE_BYTES};
-ghost use Rattle.kernel_model.specs.Session.{fault_text, first_session};
+ghost use Rattle.kernel_model.specs.Script.{LINE_BYTES};
 ghost use Rattle.kernel_model.specs.Outcome.{lines_after};
 ghost use Rattle.vino_top.specs.Bounds.{IsSessionWithin};
 ghost use Rattle.vino_top.specs.declared.run.Stop.TheVariants.{SinkFailed};
-ghost use Rattle.vino_top.specs.Run.{Place, place, AppendsPart, DiskSeen, disk_seen, StandsFor, IsFirst, TakesLine, Feeds, StopsAt, Ran, Broke, Lacked, stop_status};
-ghost use Rattle.vino_top.specs.Standing.{seen_of, session_of};
+ghost use Rattle.vino_top.specs.Run.{Place, place, AppendsPart, TakesLine, Feeds, StopsAt, Ran, Broke, Lacked, stop_status};
+ghost use Rattle.vino_top.specs.Standing.{seen_of, StandsFor, IsBegun, last_bytes, last_status};
+ghost use Rattle.disk_log.specs.Seen.{DiskSeen, disk_seen};
 ghost use Rattle.kernel_model.specs.Opening.{opening_policy};
 ghost use Rattle.graft_points.specs.Shelf.{IsShelf, pol_of, first_choice};
-ghost use Rattle.kernel_model.specs.World.{Blocks};
 
 use crate::output::write_all;
 use crate::session::{Buffers, Session};
 use graft_points::Policy;
 use kernel_model::NoMemory;
-use script_text::{Fed, LineBuf, print_fault};
+use script_text::{Fed, LineBuf};
 use std::alloc::Global;
 use vino_base::{Disk, Sink, Source};
 
@@ -49,8 +47,7 @@ impl Reader {
         requires shelf { IsShelf (map (λ b. seen b) shelf.items) }
         requires stock { pol_of (map (λ b. seen b) shelf.items) first_choice ≡ opening_policy }
         ensures within { IfOk result (λ r. (size : ℕ) → IsSessionWithin (λ b. seen b) size r.session) }
-        ensures first { IfOk result (λ r. (r.session.lines ≡ 0) × (r.session.refused ≡ false)) }
-        ensures session { IfOk result (λ r. (size : ℕ) (blocks : Blocks) → session_of blocks (seen_of (λ b. seen b) r.session) ≡ first_session (record { size = size; block = blocks })) }
+        ensures begun { IfOk result (λ r. IsBegun (seen_of (λ b. seen b) r.session)) }
         ensures line { IfOk result (λ r. r.line ≡ []) }
     {
         Ok(Reader {
@@ -202,24 +199,37 @@ fn feed<K: Sink, D: Disk>(
     Ok(())
 }
 
-/// The input has ended: bytes behind the last newline are refused.
+/// Writes the last lines of a run, which ends with this status.
+fn write_last<K: Sink>(reader: &Reader, status: u8, out: &mut K) -> u8
+    requires { (status ≡ 0) ⊎ (status ≡ 2) }
+    ensures done { result ≢ 4 → (result ≡ status) × Appends (K.got out.old) (K.got out.new) reader.now.out.lines }
+    ensures broken { result ≡ 4 → AppendsPart (K.got out.old) (K.got out.new) reader.now.out.lines }
+    ensures statuses { (result ≡ 0) ⊎ (result ≡ 2) ⊎ (result ≡ 4) }
+    ensures later { K.faults out.old ≤ K.faults out.new }
+    ensures sink_failed { result ≡ 4 → Rose (K.faults out.old) (K.faults out.new) }
+{
+    match write_all(out, reader.out.lines.as_slice()) {
+        Ok(()) => status,
+        Err(_) => 4,
+    }
+}
+
+/// The input has ended: bytes behind the last newline are refused, and else a line is written for each call that is left.
 fn finish<K: Sink>(reader: &mut Reader, out: &mut K) -> u8
-    requires { reader.old.session.lines < 2 ^ 32 - 2 }
-    ensures whole { reader.old.line ≡ [] → (result ≡ 0) × (K.got out.new ≡ K.got out.old) }
-    ensures refused { result ≡ 2 → Appends (K.got out.old) (K.got out.new) (line (fault_text (reader.old.session.lines + 1) Unfinished)) }
-    ensures broken { result ≡ 4 → AppendsPart (K.got out.old) (K.got out.new) (line (fault_text (reader.old.session.lines + 1) Unfinished)) }
-    ensures statuses { (result ≡ 0) × (reader.old.line ≡ []) ⊎ (result ≡ 2) × (reader.old.line ≢ []) ⊎ (result ≡ 4) × (reader.old.line ≢ []) }
+    requires lines { reader.old.session.lines < 2 ^ 32 - 2 }
+    requires within { (size : ℕ) × IsSessionWithin (λ b. seen (b.vtable, b.value)) size reader.old.session }
+    ensures done { result ≢ 4 → (result ≡ last_status reader.old.line) × Appends (K.got out.old) (K.got out.new) (last_bytes (seen_of (λ b. seen (b.vtable, b.value)) reader.old.session) reader.old.line) }
+    ensures broken { result ≡ 4 → AppendsPart (K.got out.old) (K.got out.new) (last_bytes (seen_of (λ b. seen (b.vtable, b.value)) reader.old.session) reader.old.line) }
+    ensures statuses { (result ≡ 0) ⊎ (result ≡ 2) ⊎ (result ≡ 4) }
     ensures later { K.faults out.old ≤ K.faults out.new }
     ensures sink_failed { result ≡ 4 → Rose (K.faults out.old) (K.faults out.new) }
 {
     if reader.line.line().is_empty() {
-        return 0;
+        reader.session.left(&mut reader.out);
+        return write_last(reader, 0, out);
     }
-    print_fault(reader.session.lines + 1, 6, &mut reader.out.text);
-    match write_all(out, reader.out.text.as_slice()) {
-        Ok(()) => 2,
-        Err(_) => 4,
-    }
+    reader.session.say_unfinished(&mut reader.out);
+    write_last(reader, 2, out)
 }
 
 /// The status of a run that stopped.
@@ -242,8 +252,7 @@ pub fn run<S: Source, K: Sink, D: Disk>(
     out: &mut K,
     disk: &mut D,
 ) -> u8
-    requires session { (blocks : Blocks) → session_of blocks (seen_of (λ b. seen (b.vtable, b.value)) reader.old.session) ≡ first_session (record { size = D.block_count disk.old; block = blocks }) }
-    requires first { (reader.old.session.lines ≡ 0) × (reader.old.session.refused ≡ false) }
+    requires begun { IsBegun (seen_of (λ b. seen (b.vtable, b.value)) reader.old.session) }
     requires within { IsSessionWithin (λ b. seen (b.vtable, b.value)) (D.block_count disk.old) reader.old.session }
     requires line { reader.old.line ≡ [] }
     requires room { 0 < length buf.old }

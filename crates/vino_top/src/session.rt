@@ -1,28 +1,28 @@
 //! How a script runs, line by line.
 
-ghost use Rattle.std.specs.Prelude.{◌≡◌, ℕ, ◌+◌, ◌<◌, ◌≤◌, ◌-◌, ◌++◌, ◌^◌, true, false, List, [], length, map, codes, decimal, Option, Some, Ok, IfOk, OnOk, OnErr};
+ghost use Rattle.std.specs.Prelude.{◌≡◌, ℕ, ◌+◌, ◌<◌, ◌≤◌, ◌-◌, ◌++◌, ◌^◌, true, false, List, [], length, map, codes, decimal, slice_index_or, Ok, IfOk, OnOk, OnErr};
+ghost use Rattle.disk_log.specs.Seen.{DiskSeen, disk_seen};
+ghost use Rattle.kernel_model.specs.Objects.{at};
 ghost use Rattle.kernel_model.specs.Text.{line, spaced};
 ghost use Rattle.kernel_model.specs.Opening.{opening_policy};
-ghost use Rattle.kernel_model.specs.Script.{Happens, Boot, Loads, Raw};
-ghost use Rattle.kernel_state.specs.Stores.{IsStore};
-ghost use Rattle.kernel_model.specs.World.{Blocks};
-ghost use Rattle.kernel_model.specs.Session.{first_session};
-ghost use Rattle.disk_log.specs.Calls.{GoesOn, Made};
+ghost use Rattle.kernel_model.specs.Script.{Happens, Boot, Loads, Raw, Unfinished};
+ghost use Rattle.kernel_model.specs.Session.{fault_text};
 ghost use Rattle.script_text.specs.Answers.{entry_seen, SetsWithin};
 ghost use Rattle.vino_top.specs.Bounds.{IsSessionWithin};
-ghost use Rattle.vino_top.specs.Built.{is_built_event, is_built_call as built_call, is_load};
+ghost use Rattle.vino_top.specs.Built.{is_load};
 ghost use Rattle.graft_points.specs.Shelf.{IsShelf, pol_of, first_choice};
-ghost use Rattle.vino_top.specs.Standing.{seen_of, session_of, code_seen};
-ghost use Rattle.vino_top.specs.Run.{Place, place, IsImageLine, RunsLine, RunsEntry, disk_seen, boot_line};
+ghost use Rattle.vino_top.specs.Standing.{seen_of, IsBegun, last_bytes, code_seen};
+ghost use Rattle.vino_top.specs.Run.{Place, place, IsImageLine, RunsLine, RunsEntry, boot_line};
 
 use crate::lines::Lines;
 use crate::loading::load_image;
 use call_pieces::Plain;
-use disk_log::DiskLog;
 use graft_loader::Images;
 use graft_points::Policy;
-use kernel_core::{BootNote, Kernel, Logs, Notes, Setup};
-use kernel_model::{Event, NoMemory, Note, Refusal, SysCall};
+use kernel_core::{BootNote, Kernel, Notes, Setup};
+use kernel_model::{Event, NoMemory, Note, Refusal};
+use placed_laws::agreeing;
+use plain_rules::PlainRules;
 use ram_space::Ram;
 use script_text::{Entry, ScriptFault, Text, parse_line, print_boot, print_fault, print_note};
 use std::alloc::Global;
@@ -31,11 +31,9 @@ use vino_base::Disk;
 /// The last slot of images.
 const LAST_SLOT: u32 = 31;
 
-/// What a line leaves behind: the calls of the disk, the notes of its event, and the bytes that are written. Memory is
-/// taken once, before the first line.
+/// What a line leaves behind: the notes of its event, and the bytes that are written. Memory is taken once, before the first line.
 #[derive(Drop)]
 pub struct Buffers {
-    pub logs: Logs,
     pub notes: Notes,
     pub text: Text,
     pub lines: Lines,
@@ -45,10 +43,6 @@ impl Buffers {
     /// Empty ones.
     pub fn new(alloc: Global) -> Result<Buffers, NoMemory> {
         Ok(Buffers {
-            logs: Logs {
-                event: DiskLog::new(),
-                piece: DiskLog::new(),
-            },
             notes: Notes::new(alloc)?,
             text: Text::new(),
             lines: Lines::new(alloc)?,
@@ -57,11 +51,9 @@ impl Buffers {
 
     /// Forgets what the last line left.
     fn clear(&mut self)
-        ensures log { self.new.logs.event ≡ [] }
         ensures notes { self.new.notes ≡ [] }
         ensures lines { self.new.lines ≡ [] }
     {
-        self.logs.event.clear();
         self.notes.clear();
         self.lines.clear();
     }
@@ -90,8 +82,7 @@ impl Session {
         requires shelf { IsShelf (map (λ b. seen b) shelf.items) }
         requires stock { pol_of (map (λ b. seen b) shelf.items) first_choice ≡ opening_policy }
         ensures within { IfOk result (λ s. (size : ℕ) → IsSessionWithin (λ b. seen b) size s) }
-        ensures first { IfOk result (λ s. (s.lines ≡ 0) × (s.refused ≡ false)) }
-        ensures value { IfOk result (λ s. (size : ℕ) (blocks : Blocks) → session_of blocks (seen_of (λ b. seen b) s) ≡ first_session (record { size = size; block = blocks })) }
+        ensures begun { IfOk result (λ s. IsBegun (seen_of (λ b. seen b) s)) }
     {
         let setup = Setup {
             frames: 8,
@@ -99,12 +90,15 @@ impl Session {
             grant: 1_000_000,
         };
         let images = Images::new(alloc)?;
-        match Ram::new(alloc) {
-            Err(_) => Err(NoMemory),
-            Ok(ram) => Ok(Session {
+        let Ok(ram) = Ram::new(alloc) else {
+            return Err(NoMemory);
+        };
+        match Kernel::new(alloc, setup, ram, images, shelf) {
+            Err(lacks) => Err(lacks),
+            Ok(kernel) => Ok(Session {
                 setup,
                 booted: false,
-                kernel: Kernel::new(setup, ram, images, shelf),
+                kernel,
                 lines: 0,
                 events: 0,
                 refused: false,
@@ -132,8 +126,7 @@ impl Session {
         ensures within { IsSessionWithin (λ b. seen (b.vtable, b.value)) size self.new }
         ensures counted { self.new.lines ≤ self.old.lines + 1 }
         ensures same_size { D.block_count disk.new ≡ size }
-        ensures ok { OnOk result (RunsLine (place key.now size) text.now (seen_of (λ b. seen (b.vtable, b.value)) self.old) (seen_of (λ b. seen (b.vtable, b.value)) self.new) (D.blocks disk.old) (D.blocks disk.new) out.new.logs.event out.new.lines) }
-        ensures calls { OnOk result (Made (D.faults disk.old) (D.faults disk.new) (D.plan disk.old) (D.plan disk.new) out.new.logs.event) }
+        ensures ok { OnOk result (RunsLine (place key.now size) text.now (seen_of (λ b. seen (b.vtable, b.value)) self.old) (seen_of (λ b. seen (b.vtable, b.value)) self.new) (disk_seen (D.blocks disk.old) (D.plan disk.old) (D.faults disk.old)) (disk_seen (D.blocks disk.new) (D.plan disk.new) (D.faults disk.new)) out.new.lines) }
         ensures err { OnErr result ((self.new ≡ self.old) × IsImageLine text.now × (self.old.refused ≡ false)) }
         ensures same_disk { OnErr result (disk_seen (D.blocks disk.new) (D.plan disk.new) (D.faults disk.new) ≡ disk_seen (D.blocks disk.old) (D.plan disk.old) (D.faults disk.old)) }
     {
@@ -166,9 +159,7 @@ impl Session {
         requires room { self.old.lines < 2 ^ 32 - 2 }
         ensures within { (size : ℕ) → IsSessionWithin (λ b. seen (b.vtable, b.value)) size self.old → IsSessionWithin (λ b. seen (b.vtable, b.value)) size self.new }
         ensures counted { self.new.lines ≤ self.old.lines + 1 }
-        ensures no_calls { out.new.logs.event ≡ [] }
-        ensures runs { (c : Place) (text : List ℕ) (told : Option (List (List ℕ))) → 65536 < length text →
-            RunsLine c text (seen_of (λ b. seen (b.vtable, b.value)) self.old) (seen_of (λ b. seen (b.vtable, b.value)) self.new) told told [] out.new.lines }
+        ensures runs { (c : Place) (text : List ℕ) (d : DiskSeen) → 65536 < length text → RunsLine c text (seen_of (λ b. seen (b.vtable, b.value)) self.old) (seen_of (λ b. seen (b.vtable, b.value)) self.new) d d out.new.lines }
     {
         out.clear();
         if self.refused {
@@ -183,7 +174,6 @@ impl Session {
         requires empty { out.old.lines ≡ [] }
         ensures state { self.new ≡ record self.old { refused = true } }
         ensures text { out.new.lines ≡ line (codes "script" ++ spaced self.old.lines ++ codes " S" ++ decimal code) }
-        ensures no_calls { out.new.logs.event ≡ out.old.logs.event }
     {
         self.refused = true;
         print_fault(self.lines, code, &mut out.text);
@@ -206,14 +196,12 @@ impl Session {
         requires disk { D.block_count disk.old ≡ size }
         requires limits { SetsWithin (Ok entry.now) }
         requires place { entry_seen entry.now ≡ Boot → self.old.booted ≡ false }
-        requires no_calls { out.old.logs.event ≡ [] }
         requires no_notes { out.old.notes ≡ [] }
         requires empty { out.old.lines ≡ [] }
         ensures within { IsSessionWithin (λ b. seen (b.vtable, b.value)) size self.new }
         ensures counted { self.new.lines ≡ self.old.lines }
         ensures same_size { D.block_count disk.new ≡ size }
-        ensures runs { OnOk result (RunsEntry (place key.now size) (entry_seen entry.now) (seen_of (λ b. seen (b.vtable, b.value)) self.old) (seen_of (λ b. seen (b.vtable, b.value)) self.new) (D.blocks disk.old) (D.blocks disk.new) out.new.logs.event out.new.lines) }
-        ensures calls { GoesOn (D.faults disk.old) (D.faults disk.new) (D.plan disk.old) (D.plan disk.new) out.old.logs.event out.new.logs.event }
+        ensures runs { OnOk result (RunsEntry (place key.now size) (entry_seen entry.now) (seen_of (λ b. seen (b.vtable, b.value)) self.old) (seen_of (λ b. seen (b.vtable, b.value)) self.new) (disk_seen (D.blocks disk.old) (D.plan disk.old) (D.faults disk.old)) (disk_seen (D.blocks disk.new) (D.plan disk.new) (D.faults disk.new)) out.new.lines) }
         ensures err { OnErr result ((self.new ≡ self.old) × (is_load (entry_seen entry.now) ≡ true)) }
         ensures same_disk { OnErr result (disk_seen (D.blocks disk.new) (D.plan disk.new) (D.faults disk.new) ≡ disk_seen (D.blocks disk.old) (D.plan disk.old) (D.faults disk.old)) }
     {
@@ -221,6 +209,10 @@ impl Session {
             Entry::Blank => Ok(()),
             Entry::Frames(n) => {
                 self.setup.frames = *n;
+                Ok(())
+            }
+            Entry::Patience(kind, ticks) => {
+                set_patience(&mut self.setup.patience, *kind, *ticks);
                 Ok(())
             }
             Entry::Grant(n) => {
@@ -240,10 +232,6 @@ impl Session {
                 self.raw(out);
                 Ok(())
             }
-            Entry::Patience(..) => {
-                self.refuse(5, out);
-                Ok(())
-            }
         }
     }
 
@@ -252,15 +240,13 @@ impl Session {
         requires first { self.old.booted ≡ false }
         requires within { IsSessionWithin (λ b. seen (b.vtable, b.value)) size self.old }
         requires disk { D.block_count disk.old ≡ size }
-        requires no_calls { out.old.logs.event ≡ [] }
         requires empty { out.old.lines ≡ [] }
         ensures within { IsSessionWithin (λ b. seen (b.vtable, b.value)) size self.new }
         ensures counted { self.new.lines ≡ self.old.lines }
         ensures same_size { D.block_count disk.new ≡ size }
-        ensures runs { (key : List ℕ) → RunsEntry (place key size) Boot (seen_of (λ b. seen (b.vtable, b.value)) self.old) (seen_of (λ b. seen (b.vtable, b.value)) self.new) (D.blocks disk.old) (D.blocks disk.new) out.new.logs.event out.new.lines }
-        ensures calls { GoesOn (D.faults disk.old) (D.faults disk.new) (D.plan disk.old) (D.plan disk.new) out.old.logs.event out.new.logs.event }
+        ensures runs { (key : List ℕ) → RunsEntry (place key size) Boot (seen_of (λ b. seen (b.vtable, b.value)) self.old) (seen_of (λ b. seen (b.vtable, b.value)) self.new) (disk_seen (D.blocks disk.old) (D.plan disk.old) (D.faults disk.old)) (disk_seen (D.blocks disk.new) (D.plan disk.new) (D.faults disk.new)) out.new.lines }
     {
-        let note = self.kernel.boot(self.setup, disk, &mut out.logs);
+        let note = self.kernel.boot(self.setup, disk);
         self.booted = true;
         say_boot(note, &mut out.text);
         out.lines.add(&out.text);
@@ -278,11 +264,11 @@ impl Session {
     ) -> Result<(), NoMemory>
         requires room { self.old.lines < 2 ^ 32 - 1 }
         requires fresh { self.old.events < self.old.lines }
+        requires within { (size : ℕ) × IsSessionWithin (λ b. seen (b.vtable, b.value)) size self.old }
         requires empty { out.old.lines ≡ [] }
         ensures within { (size : ℕ) → IsSessionWithin (λ b. seen (b.vtable, b.value)) size self.old → IsSessionWithin (λ b. seen (b.vtable, b.value)) size self.new }
         ensures counted { self.new.lines ≡ self.old.lines }
-        ensures no_calls { out.new.logs.event ≡ out.old.logs.event }
-        ensures runs { OnOk result ((size : ℕ) (told : Option (List (List ℕ))) → RunsEntry (place key.now size) (Loads slot bytes.now) (seen_of (λ b. seen (b.vtable, b.value)) self.old) (seen_of (λ b. seen (b.vtable, b.value)) self.new) told told [] out.new.lines) }
+        ensures runs { OnOk result ((size : ℕ) (d : DiskSeen) → RunsEntry (place key.now size) (Loads slot bytes.now) (seen_of (λ b. seen (b.vtable, b.value)) self.old) (seen_of (λ b. seen (b.vtable, b.value)) self.new) d d out.new.lines) }
         ensures err { OnErr result (self.new ≡ self.old) }
     {
         if !self.booted {
@@ -312,13 +298,33 @@ impl Session {
         }
     }
 
+    /// The lines of the calls that are left in flight, at the end of the input.
+    pub fn left(&self, out: &mut Buffers)
+        requires within { (size : ℕ) × IsSessionWithin (λ b. seen (b.vtable, b.value)) size self.now }
+        ensures { out.new.lines ≡ last_bytes (seen_of (λ b. seen (b.vtable, b.value)) self.now) [] }
+    {
+        out.clear();
+        if self.booted {
+            out.lines.add_left(&self.kernel, &mut out.text);
+        }
+    }
+
+    /// The line of a last line that has no newline.
+    pub fn say_unfinished(&self, out: &mut Buffers)
+        requires { self.now.lines < 2 ^ 32 - 2 }
+        ensures { out.new.lines ≡ line (fault_text (self.now.lines + 1) Unfinished) }
+    {
+        out.clear();
+        print_fault(self.lines + 1, 6, &mut out.text);
+        out.lines.add(&out.text);
+    }
+
     /// An image line is counted as an event, and its answer is written.
     fn answer_image(&mut self, out: &mut Buffers)
         requires room { self.old.events < 2 ^ 32 - 1 }
         requires empty { out.old.lines ≡ [] }
         ensures state { self.new ≡ record self.old { events = self.old.events + 1 } }
         ensures text { out.new.lines ≡ out.old.text }
-        ensures no_calls { out.new.logs.event ≡ out.old.logs.event }
     {
         self.events += 1;
         out.lines.add(&out.text);
@@ -329,40 +335,34 @@ impl Session {
         requires room { self.old.lines < 2 ^ 32 - 1 }
         requires fresh { self.old.events < self.old.lines }
         requires empty { out.old.lines ≡ [] }
-        requires sound { IsStore (λ b. seen (b.vtable, b.value)) self.old.kernel.store }
+        requires within { (size : ℕ) × IsSessionWithin (λ b. seen (b.vtable, b.value)) size self.old }
         ensures within { (size : ℕ) → IsSessionWithin (λ b. seen (b.vtable, b.value)) size self.old → IsSessionWithin (λ b. seen (b.vtable, b.value)) size self.new }
         ensures counted { self.new.lines ≡ self.old.lines }
-        ensures no_calls { out.new.logs.event ≡ out.old.logs.event }
-        ensures runs { (c : Place) (told : Option (List (List ℕ))) → RunsEntry c Raw (seen_of (λ b. seen (b.vtable, b.value)) self.old) (seen_of (λ b. seen (b.vtable, b.value)) self.new) told told [] out.new.lines }
+        ensures runs { (c : Place) (d : DiskSeen) → RunsEntry c Raw (seen_of (λ b. seen (b.vtable, b.value)) self.old) (seen_of (λ b. seen (b.vtable, b.value)) self.new) d d out.new.lines }
     {
+        agreeing::same_shown::<PlainRules>();
         if self.booted {
             self.events += 1;
             out.lines.add_rows(&self.kernel, self.events, &mut out.text);
         }
     }
 
-    /// An event of the kernel, or the refusal of one that isn't built.
+    /// An event of the kernel.
     fn happen<D: Disk>(&mut self, event: &Event, size: u32, disk: &mut D, out: &mut Buffers)
         requires room { self.old.lines < 2 ^ 32 - 1 }
         requires fresh { self.old.events < self.old.lines }
         requires within { IsSessionWithin (λ b. seen (b.vtable, b.value)) size self.old }
         requires disk { D.block_count disk.old ≡ size }
-        requires no_calls { out.old.logs.event ≡ [] }
         requires no_notes { out.old.notes ≡ [] }
         requires empty { out.old.lines ≡ [] }
         ensures within { IsSessionWithin (λ b. seen (b.vtable, b.value)) size self.new }
         ensures counted { self.new.lines ≡ self.old.lines }
         ensures same_size { D.block_count disk.new ≡ size }
-        ensures runs { (key : List ℕ) → RunsEntry (place key size) (Happens event.now) (seen_of (λ b. seen (b.vtable, b.value)) self.old) (seen_of (λ b. seen (b.vtable, b.value)) self.new) (D.blocks disk.old) (D.blocks disk.new) out.new.logs.event out.new.lines }
-        ensures calls { GoesOn (D.faults disk.old) (D.faults disk.new) (D.plan disk.old) (D.plan disk.new) out.old.logs.event out.new.logs.event }
+        ensures runs { (key : List ℕ) → RunsEntry (place key size) (Happens event.now) (seen_of (λ b. seen (b.vtable, b.value)) self.old) (seen_of (λ b. seen (b.vtable, b.value)) self.new) (disk_seen (D.blocks disk.old) (D.plan disk.old) (D.faults disk.old)) (disk_seen (D.blocks disk.new) (D.plan disk.new) (D.faults disk.new)) out.new.lines }
     {
-        if !is_built(event) {
-            return self.refuse(5, out);
-        }
         if self.booted {
             self.events += 1;
-            self.kernel
-                .event(self.events, event, disk, &mut out.logs, &mut out.notes);
+            self.kernel.event(self.events, event, disk, &mut out.notes);
             out.lines.add_notes(&out.notes, &mut out.text);
         }
     }
@@ -377,30 +377,12 @@ fn say_boot(note: BootNote, text: &mut Text)
     }
 }
 
-/// Whether an event is built.
-fn is_built(event: &Event) -> bool
-    ensures { result ≡ is_built_event event.now }
+/// A call waits for a kind of object for so many ticks.
+fn set_patience(patience: &mut [u32], kind: u8, ticks: u32)
+    requires { kind < length patience.old }
+    ensures value { (λ k. slice_index_or patience.new k 10) ≡ at kind ticks (λ k. slice_index_or patience.old k 10) }
 {
-    match event {
-        Event::Tick => true,
-        Event::Step(..) => false,
-        Event::Sys(_, call) => is_built_call(call),
-    }
-}
-
-/// Whether a system call is built.
-fn is_built_call(call: &SysCall) -> bool
-    ensures { result ≡ built_call call.now }
-{
-    !matches!(
-        call,
-        SysCall::TakeLock(_)
-            | SysCall::FreeLock(_)
-            | SysCall::Install(..)
-            | SysCall::Remove(_)
-            | SysCall::Fund(..)
-            | SysCall::Bill(_)
-    )
+    patience[kind as usize] = ticks;
 }
 
 /// The S code of a refusal, or nothing where memory was wanted.

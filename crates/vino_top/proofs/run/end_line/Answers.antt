@@ -10,5 +10,5 @@ returns-in-Err-clause-contents g c =
 
 pub returns-clause-contents : goal.returns-clause-contents
 returns-clause-contents g c =
-    line_written (place c.args.key.now c.args.size) c.args.reader.now.line (seen_of (λ b. (goal.Policy-dyn g (b.vtable, b.value)).seen b.value) c.args.reader.now.session) (seen_of (λ b. (goal.Policy-dyn g (b.vtable, b.value)).seen b.value) c.run_line.new.self) c.run_line.new.out.logs.event c.run_line.new.out.lines _ _ _ _ c.write_lines.result
-    (rw c.line.ensures.value at c.in_default.ensures.ok) c.in_default.ensures.calls c.run_line.ensures.counted c.write_lines.ensures.contents
+    line_written (place c.args.key.now c.args.size) c.args.reader.now.line (seen_of (λ b. (goal.Policy-dyn g (b.vtable, b.value)).seen b.value) c.args.reader.now.session) (seen_of (λ b. (goal.Policy-dyn g (b.vtable, b.value)).seen b.value) c.run_line.new.self) c.run_line.new.out.lines _ _ _ _ c.write_lines.result
+    (rw c.line.ensures.value at c.in_default.ensures.ok) c.run_line.ensures.counted c.write_lines.ensures.contents

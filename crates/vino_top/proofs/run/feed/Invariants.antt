@@ -1,7 +1,8 @@
 -- The bytes before the place were fed.
 use Rattle.vino_top.specs.Standing.{seen_of}
 use Rattle.std.proofs.Common.{◌≡◌, ◌≤◌, take}
-use Rattle.vino_top.specs.Run.{place, Feeds, disk_seen}
+use Rattle.disk_log.specs.Seen.{disk_seen}
+use Rattle.vino_top.specs.Run.{place, Feeds}
 use Rattle.vino_top.specs.Bounds.{IsSessionWithin}
 use Rattle.vino_top.proofs.run.feed.Given as goal
 

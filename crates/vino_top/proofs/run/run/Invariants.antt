@@ -1,7 +1,8 @@
 -- What was taken so far was fed, and no line was refused.
 use Rattle.vino_top.specs.Standing.{seen_of}
 use Rattle.std.proofs.Common.{◌≡◌, ◌<◌, ◌≤◌, length, false}
-use Rattle.vino_top.specs.Run.{place, Reached, disk_seen}
+use Rattle.disk_log.specs.Seen.{disk_seen}
+use Rattle.vino_top.specs.Run.{place, Reached}
 use Rattle.vino_top.specs.Bounds.{IsSessionWithin}
 use Rattle.vino_top.proofs.run.run.Given as goal
 

@@ -2,7 +2,8 @@
 use Rattle.vino_top.specs.Standing.{seen_of}
 use Rattle.std.proofs.Common.{sym, ◌∙◌}
 use Rattle.vino_top.proofs.LineLemmas.{byte_goes, newline_ends, longest_ends}
-use Rattle.vino_top.specs.Run.{place, disk_seen}
+use Rattle.disk_log.specs.Seen.{disk_seen}
+use Rattle.vino_top.specs.Run.{place}
 use Rattle.vino_top.proofs.RunLemmas.{fed_byte, line_ended}
 use Rattle.vino_top.proofs.run.take_byte.Goals as goal
 

@@ -1,15 +1,7 @@
 -- Nothing was counted.
-use Rattle.std.proofs.Common.{arith}
-use Rattle.vino_top.proofs.SessionLemmas.{down_is_up}
+use Rattle.std.proofs.Common.{refl, ap}
+use Rattle.vino_top.proofs.SessionLemmas.{first_patience}
 use Rattle.vino_top.proofs.session.Session.new.Goals as goal
 
-pub returns-in-Ok-clause-within : goal.returns-in-Ok-clause-within
-returns-in-Ok-clause-within g c = λ size.
-    record {
-      frames_least = omega arith;
-      frames_most = omega arith;
-      events = omega arith;
-      kernel = c.new-in-Ok.ensures.within 0;
-      size_is = λ up. down_is_up up;
-      unbooted = λ down. (c.new-in-Ok.ensures.within 0, rw c.new-in-Ok.ensures.views c.requires.stock);
-    }
+pub returns-in-Ok-new-clause-begun : goal.returns-in-Ok-new-clause-begun
+returns-in-Ok-new-clause-begun g c = record { setup = first_patience; booted = refl; lines = refl; events = refl; refused = refl }

@@ -1,21 +1,26 @@
 -- Nothing changes but the count of events.
-use Rattle.std.proofs.Common.{arith, sym, ◌∙◌}
+use Rattle.std.proofs.Common.{arith, refl, sym, ◌∙◌}
+use Rattle.kernel_model.specs.Script.{Raw}
 use Rattle.vino_top.specs.Standing.{seen_of}
-use Rattle.vino_top.proofs.RowLemmas.{kernel_later}
-use Rattle.vino_top.proofs.SessionLemmas.{raw_runs, up_is_down}
+use Rattle.vino_top.proofs.SessionLemmas.{raw_runs, unbooted_runs, up_is_down}
 use Rattle.vino_top.proofs.session.Session.raw.Goals as goal
 
 pub returns-then-self-clause-runs : goal.returns-then-self-clause-runs
-returns-then-self-clause-runs g c = λ place told.
-    raw_runs place (seen_of (λ b. (goal.Policy-dyn g (b.vtable, b.value)).seen b.value) c.args.self.now) told c.add_rows.new.self c.if-self.true c.add_rows.ensures
+returns-then-self-clause-runs g c = λ place d.
+    raw_runs c.same_shown.ensures place (seen_of (λ b. (goal.Policy-dyn g (b.vtable, b.value)).seen b.value) c.args.self.now) c.add_rows.new.self d c.if-self.true c.add_rows.ensures
+
+pub returns-else-self-clause-runs : goal.returns-else-self-clause-runs
+returns-else-self-clause-runs g c = λ place d.
+    rw c.requires.empty (unbooted_runs place Raw (seen_of (λ b. (goal.Policy-dyn g (b.vtable, b.value)).seen b.value) c.args.self.now) d (λ a. refl) c.if-self.false)
 
 pub returns-then-self-clause-within : goal.returns-then-self-clause-within
 returns-then-self-clause-within g c = λ size within.
+    let kernel = within.kernel c.if-self.true in
     record {
       frames_least = within.frames_least;
       frames_most = within.frames_most;
       events = omega (arith, c.requires.fresh);
-      kernel = kernel_later (λ b. (goal.Policy-dyn g (b.vtable, b.value)).seen b.value) c.args.self.now.events c.args.self.now.kernel.store c.args.self.now.kernel.clock within.kernel;
+      kernel = λ up. record { running = kernel.running; stood = kernel.stood; clock = omega (arith, kernel.clock) };
       size_is = within.size_is;
       unbooted = λ down. up_is_down (sym c.if-self.true ∙ down);
     }

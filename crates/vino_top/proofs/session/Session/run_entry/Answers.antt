@@ -1,20 +1,41 @@
--- A boot and the rows have functions of their own.
+-- Each entry has its law; a boot, events, images and the rows have functions of their own.
 use Rattle.std.proofs.Common.{refl, ◌∙◌}
+use Rattle.disk_log.specs.Seen.{disk_seen}
 use Rattle.vino_top.specs.Run.{place}
+use Rattle.vino_top.specs.Standing.{seen_of}
+use Rattle.vino_top.proofs.SessionLemmas.{on_ok, blank_runs, frames_runs, grant_runs, patience_runs}
 use Rattle.vino_top.proofs.session.Session.run_entry.Goals as goal
 
 pub boot-requires-clause-first : goal.boot-requires-clause-first
 boot-requires-clause-first g c = c.requires.place (rw c.in-Boot.is refl)
 
+pub returns-in-Blank-clause-runs : goal.returns-in-Blank-clause-runs
+returns-in-Blank-clause-runs g c = rw (c.in-Blank.is, c.requires.empty) (blank_runs (place c.args.key.now c.args.size) (seen_of (λ b. (goal.Policy-dyn g (b.vtable, b.value)).seen b.value) c.args.self.now) (disk_seen (g.D.Disk.blocks c.args.disk.now) (g.D.Disk.plan c.args.disk.now) (g.D.Disk.faults c.args.disk.now)))
+
+pub returns-in-Frames-clause-runs : goal.returns-in-Frames-clause-runs
+returns-in-Frames-clause-runs g c = rw (c.in-Frames.is, c.requires.empty) (frames_runs (place c.args.key.now c.args.size) (seen_of (λ b. (goal.Policy-dyn g (b.vtable, b.value)).seen b.value) c.args.self.now) c.in-Frames.n (disk_seen (g.D.Disk.blocks c.args.disk.now) (g.D.Disk.plan c.args.disk.now) (g.D.Disk.faults c.args.disk.now)))
+
+pub returns-in-Patience-clause-runs : goal.returns-in-Patience-clause-runs
+returns-in-Patience-clause-runs g c =
+    rw (c.in-Patience.is, c.requires.empty) (patience_runs (place c.args.key.now c.args.size) (seen_of (λ b. (goal.Policy-dyn g (b.vtable, b.value)).seen b.value) c.args.self.now) c.in-Patience.kind c.in-Patience.ticks c.set_patience.new.patience (disk_seen (g.D.Disk.blocks c.args.disk.now) (g.D.Disk.plan c.args.disk.now) (g.D.Disk.faults c.args.disk.now)) c.set_patience.ensures.value)
+
+pub returns-in-Grant-clause-runs : goal.returns-in-Grant-clause-runs
+returns-in-Grant-clause-runs g c = rw (c.in-Grant.is, c.requires.empty) (grant_runs (place c.args.key.now c.args.size) (seen_of (λ b. (goal.Policy-dyn g (b.vtable, b.value)).seen b.value) c.args.self.now) c.in-Grant.n (disk_seen (g.D.Disk.blocks c.args.disk.now) (g.D.Disk.plan c.args.disk.now) (g.D.Disk.faults c.args.disk.now)))
+
 pub returns-in-Boot-clause-runs : goal.returns-in-Boot-clause-runs
-returns-in-Boot-clause-runs g c = λ a stands. rw c.in-Boot.is (c.boot.ensures.runs c.args.key.now a stands)
+returns-in-Boot-clause-runs g c = rw c.in-Boot.is (c.boot.ensures.runs c.args.key.now)
+
+pub returns-in-Happens-clause-runs : goal.returns-in-Happens-clause-runs
+returns-in-Happens-clause-runs g c = rw c.in-Happens.is (c.happen.ensures.runs c.args.key.now)
+
+pub returns-in-Image-clause-within : goal.returns-in-Image-clause-within
+returns-in-Image-clause-within g c = c.image.ensures.within c.args.size c.requires.within
+
+pub returns-in-Image-clause-runs : goal.returns-in-Image-clause-runs
+returns-in-Image-clause-runs g c = rw c.in-Image.is (on_ok c.image.result (λ runs. rw c.as_slice.ensures at (runs c.args.size (disk_seen (g.D.Disk.blocks c.args.disk.now) (g.D.Disk.plan c.args.disk.now) (g.D.Disk.faults c.args.disk.now)))) c.image.ensures.runs)
 
 pub returns-in-Raw-clause-within : goal.returns-in-Raw-clause-within
 returns-in-Raw-clause-within g c = c.raw.ensures.within c.args.size c.requires.within
 
 pub returns-in-Raw-clause-runs : goal.returns-in-Raw-clause-runs
-returns-in-Raw-clause-runs g c = λ a stands.
-    rw (c.in-Raw.is, c.raw.ensures.no_calls ∙ c.requires.no_calls) (c.raw.ensures.runs (place c.args.key.now c.args.size) (g.D.Disk.blocks c.args.disk.now) a stands)
-
-pub returns-in-Image-clause-within : goal.returns-in-Image-clause-within
-returns-in-Image-clause-within g c = c.image.ensures.within c.args.size c.requires.within
+returns-in-Raw-clause-runs g c = rw c.in-Raw.is (c.raw.ensures.runs (place c.args.key.now c.args.size) (disk_seen (g.D.Disk.blocks c.args.disk.now) (g.D.Disk.plan c.args.disk.now) (g.D.Disk.faults c.args.disk.now)))
