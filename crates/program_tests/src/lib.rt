@@ -231,6 +231,27 @@ mod tests {
         Ok(())
     }
 
+    /// Changes a cell twice, then divides by zero; boxed, and sealed under the key of the tests.
+    const TWICE: &str =
+        "5647523101000000090000000000000001000000000000000101000007000000170000000100000001000000000000000101000009000000170000000100000001020000000000000b030002000000001a000000000000007cc09fd4418f2ec982e4accce5dd196e5c8deaa99481a0e27948923ba2384b25";
+
+    #[test]
+    fn a_dropped_graft_leaves_its_charges(rt: HostRuntime) -> Result<(), Fail> {
+        let script = format!(in rt.alloc();
+            "boot\nimage 0 {TWICE}\nspawn 0\ngive 0 1 steps 100\ngive 0 1 records 10\npoke 1 0 3\ninstall 1 5 0 100\n\
+            bill 1 5\nyield 0\nstep 0 6\npeek 0 0\nstep 0 6\npeek 1 0\nremove 1 5\nraw\n"
+        )?;
+        let lines =
+            "0 boot 8 64 3\n1 ok 9 0\n2 ok 1\n3 ok\n4 ok\n5 ok\n6 ok\n7 ok\n8 graft 1 5 1\n9 ran 6\n8 graft 1 5 1\n\
+            10 E2 8\n8 drop 1 5 C1\n8 ok 1\n11 ran 2\n12 ok 3\n13 E11\n14 raw clock 0\n14 raw queue 1:20:1 0:20:0\n\
+            14 raw acct 0 999900 999990 1000000 0 0 0\n14 raw acct 1 92 8 0 8 2 0\n14 raw cells 0 0 0 0 0\n\
+            14 raw cells 1 3 0 0 0\n14 raw pol 0 1 2\n14 raw pol 1 0\n14 raw pol 2 0\n14 raw lru\n";
+        let ran = run_words(rt.alloc(), &["run", KEY], script.as_str(), 0, 0)?;
+        assert_eq!(rt; ran.status, 0);
+        assert!(rt; ran.written.bytes() == lines.as_bytes());
+        Ok(())
+    }
+
     #[test]
     fn says_which_calls_are_left(rt: HostRuntime) -> Result<(), Fail> {
         let script = "boot\nspawn 0\nspawn 0\nlock 0 3\nlock 2 3\nlock 1 3\n";
