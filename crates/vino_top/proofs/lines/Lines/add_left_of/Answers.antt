@@ -1,5 +1,5 @@
 -- A call is left, or none.
-use Rattle.std.proofs.Common.{◌≡◌, ◌∙◌, ◌++◌, ap, sym, append-nil}
+use Rattle.std.proofs.Common.{◌∙◌, ◌++◌, ap, sym, append-nil}
 use Rattle.call_pieces.specs.Works.{stage_of}
 use Rattle.kernel_steps.specs.Views.{placed_of}
 use Rattle.vino_top.proofs.RowLemmas.{left_some, left_none}

@@ -1,5 +1,5 @@
 -- Nothing was counted.
-use Rattle.std.proofs.Common.{refl, ap}
+use Rattle.std.proofs.Common.{refl}
 use Rattle.vino_top.proofs.SessionLemmas.{first_patience}
 use Rattle.vino_top.proofs.session.Session.new.Goals as goal
 
