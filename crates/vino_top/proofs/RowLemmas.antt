@@ -43,11 +43,11 @@ pub lines_all : (n : ℕ) (rows : List RawRow) (i : ℕ) (old : List ℕ) → ol
 lines_all n rows i old before past = before ∙ ap (row_lines n) (take_all i rows (none_past rows i past))
 
 -- a row that is there isn't past the last place
-pub some_below : (i : ℕ) (o : Option RawRow) (r : RawRow) → o ≡ Some r → (1478 ≤ i → o ≡ None) → i ≤ 1600 → i + 1 ≤ 1600
+pub some_below : (i : ℕ) (o : Option RawRow) (r : RawRow) → o ≡ Some r → (1478 ≤ i → o ≡ None) → i ≤ 1478 → i + 1 ≤ 1478
 some_below i o r is none most =
-    elim (cases_lt i 1600) [
+    elim (cases_lt i 1478) [
       | inl below ↦ omega (arith, below)
-      | inr past ↦ absurd (differ (sym is ∙ none (omega (arith, past))))
+      | inr past ↦ absurd (differ (sym is ∙ none past))
     ]
   where
     differ : Some r ≡ None → ⊥

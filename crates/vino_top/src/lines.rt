@@ -14,11 +14,11 @@ use script_text::{Text, print_left, print_note, print_row};
 use std::alloc::Global;
 use std::marker::Model;
 
-/// Not fewer than the rows that show a kernel's whole state.
-const ROWS: u32 = 1_600;
+/// The most rows that show a kernel's whole state.
+const ROWS: u32 = 1_478;
 
 /// Room for a line of at most 2,048 bytes for each row, and one more.
-const LINES_BYTES: usize = 3_278_848;
+const LINES_BYTES: usize = 3_028_992;
 
 /// The bytes that are written at once. Contracts see their list. Memory is taken once.
 #[derive(Drop)]
@@ -33,7 +33,7 @@ impl Model for Lines {
 
     ghost view = { λ l. l.bytes.items };
 
-    ghost invariant = { λ l. 3278848 ≤ vec_capacity l.bytes };
+    ghost invariant = { λ l. 3028992 ≤ vec_capacity l.bytes };
 }
 
 impl Lines {
@@ -63,7 +63,7 @@ impl Lines {
 
     /// A line more.
     pub fn add(&mut self, text: &Text)
-        requires { length self.old + 2048 ≤ 3278848 }
+        requires { length self.old + 2048 ≤ 3028992 }
         ensures value { self.new ≡ self.old ++ text.now }
         ensures fits { length self.new ≤ length self.old + 2048 }
     {
@@ -84,7 +84,7 @@ impl Lines {
     /// The line of process p's call, if it has one in flight.
     fn add_left_of(&mut self, kernel: &Kernel<Plain>, p: u8, text: &mut Text)
         requires process { p < 16 }
-        requires room { length self.old + 2048 ≤ 3278848 }
+        requires room { length self.old + 2048 ≤ 3028992 }
         requires running { IsRunning (λ b. seen (b.vtable, b.value)) caller_of kernel.now.running }
         ensures value { self.new ≡ self.old ++ placed_left_line p ((placed_of (λ b. seen (b.vtable, b.value)) stage_of kernel.now.running).call p) }
         ensures fits { length self.new ≤ length self.old + 2048 }

@@ -11,5 +11,5 @@ invariant-loop-i g l =
     record {
       lines : l.self ≡ row_lines l.n (take l.i (placed_rows (placed_of (λ b. (goal.Policy-dyn g (b.vtable, b.value)).seen b.value) stage_of l.kernel.running)));
       room : length l.self ≤ 2048 * l.i;
-      few : l.i ≤ 1600;
+      few : l.i ≤ 1478;
     }
