@@ -35,7 +35,7 @@ use Rattle.kernel_steps.specs.Kept.{kept_whole}
 use Rattle.kernel_steps.specs.Orders.{has_number, numbers_of, order_of}
 use Rattle.kernel_steps.specs.Views.{placed_of, run_of, IsRunning, Stood}
 use Rattle.kernel_events.specs.Happened.{EventIs, Happened}
-use Rattle.kernel_events.specs.Went.{Went}
+use Rattle.kernel_events.specs.Went.{DidFromRest, Went}
 use Rattle.kernel_events.proofs.LastLemmas.{did_note}
 use Rattle.kernel_events.proofs.WentLemmas.{ordered_called}
 
@@ -166,7 +166,7 @@ whole_of (Some bs) blocks size v is whole tells =
 
 pub happened_by : (m : Meaning) → EventsStand m → EventsLeaveFewNotes m → (x y : Placed) (number size : ℕ) (what : Event) (kept kept_new : List Note) (d e : DiskSeen) → x.world.disk_size ≡ size → kept ≡ [] →
     ((bs : List (List ℕ)) → d.told ≡ Some bs → (b : ℕ) → b < size → length (slice_index_or bs b []) ≡ 512) →
-    Did (placed_event_on m number what) x y kept kept_new d e → Happened m x y number what kept_new d e
+    DidFromRest m (placed_event_on m number what) x y kept kept_new d e → Happened m x y number what kept_new d e
 happened_by m law few x y number size what kept kept_new d e size_is none whole did =
     record {
       io = did.io;
@@ -175,7 +175,7 @@ happened_by m law few x y number size what kept kept_new d e size_is none whole 
           let r : Run = record { kernel = k; blocks = blocks; notes = []; io = did.io } in
           let all : HasWholeBlocks k.world blocks = subst (λ v. HasWholeBlocks v blocks) stands.world (whole_of d.told blocks size x.world size_is whole tells) in
           let after = law (run_of x blocks [] did.io) r number what (record { kernel = stands; blocks = refl; notes = refl; io = refl; whole = all }) rests in
-          let came = subst (λ io. CameAs (placed_event_on m number what (run_of x blocks [] io)) y kept_new e.told []) (append-nil did.io) (did.goes blocks [] [] tells (none ∙ sym (kept_whole [] (omega arith)))) in
+          let came = subst (λ io. CameAs (placed_event_on m number what (run_of x blocks [] io)) y kept_new e.told []) (append-nil did.io) (did.goes blocks [] [] (record { kernel = k; stands = stands; rests = rests; whole = all }) tells (none ∙ sym (kept_whole [] (omega arith)))) in
           record {
             stands = subst (λ z. StandsFor m z (event m k blocks number what did.io).kernel) came.placed after.0.kernel;
             rests = after.1;

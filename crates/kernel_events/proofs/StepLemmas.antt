@@ -17,7 +17,7 @@ use Rattle.placed_laws.specs.PlacedSteps.{placed_joins, placed_noted, placed_ste
 use Rattle.placed_laws.specs.PlacedEvents.{placed_settled, placed_steps}
 use Rattle.kernel_steps.specs.Did.{first_notes, CameAs, Did}
 use Rattle.kernel_steps.specs.Views.{run_of}
-use Rattle.kernel_events.specs.Went.{takes_up, taken_up, steps_said, steps_left, HasCome}
+use Rattle.kernel_events.specs.Went.{takes_up, taken_up, steps_said, steps_left, DidFromRest, DidToRest, HasCome, Rests}
 
 -- ---- what is left of a change
 
@@ -28,48 +28,52 @@ run_is r y kept told rest h =
     ∙ ap (λ io. record { placed = y; blocks = r.blocks; notes = r.notes; io = io }) h.io
 
 -- at the beginning all is left
-pub come_first : (f : PlacedRun → PlacedRun) (x : Placed) (kept : List Note) (d : DiskSeen) → HasCome f f x x kept kept d d
-come_first f x kept d =
+pub come_first : (m : Meaning) (f : PlacedRun → PlacedRun) (x : Placed) (kept : List Note) (d : DiskSeen) → HasCome m f f x x kept kept d d
+come_first m f x kept d =
     record {
       io = [];
       made = made_none d.faults d.plan;
       now = λ blocks notes rest. run_of x blocks notes rest;
-      came = λ blocks notes rest tells k. record { placed = refl; notes = k; blocks = tells; io = refl };
-      goes = λ blocks notes rest tells k. refl;
+      came = λ blocks notes rest s tells k. (record { placed = refl; notes = k; blocks = tells; io = refl }, s);
+      goes = λ blocks notes rest s tells k. refl;
     }
 
 -- what is left goes on with a part of it
-pub come_on : (f left later g : PlacedRun → PlacedRun) (x y z : Placed) (a b c : List Note) (d e l : DiskSeen) → HasCome f left x y a b d e → Did g y z b c e l →
-    ((blocks : Blocks) (notes : List Note) (io : List Bool) → left (run_of y blocks notes io) ≡ later (g (run_of y blocks notes io))) → HasCome f later x z a c d l
-come_on f left later g x y z a b c d e l h did same =
+pub come_on : (m : Meaning) (f left later g : PlacedRun → PlacedRun) (x y z : Placed) (a b c : List Note) (d e l : DiskSeen) → HasCome m f left x y a b d e → DidToRest m g y z b c e l →
+    ((blocks : Blocks) (notes : List Note) (io : List Bool) → left (run_of y blocks notes io) ≡ later (g (run_of y blocks notes io))) → HasCome m f later x z a c d l
+come_on m f left later g x y z a b c d e l h part same =
+    let did = part.did in
     record {
       io = h.io ++ did.io;
       made = made_joined d.faults e.faults l.faults d.plan e.plan l.plan h.io did.io h.made did.made;
       now = λ blocks notes rest. g (h.now blocks notes (did.io ++ rest));
-      came = λ blocks notes rest tells k.
-          let one = h.came blocks notes (did.io ++ rest) tells k in
+      came = λ blocks notes rest s tells k.
+          let one = h.came blocks notes (did.io ++ rest) s tells k in
           let r = h.now blocks notes (did.io ++ rest) in
-          subst (λ s. CameAs (g s) z c l.told rest) (sym (run_is r y b e.told (did.io ++ rest) one)) (did.goes r.blocks r.notes rest one.blocks one.notes);
-      goes = λ blocks notes rest tells k.
-          let one = h.came blocks notes (did.io ++ rest) tells k in
+          let is = run_is r y b e.told (did.io ++ rest) one.0 in (
+            subst (λ q. CameAs (g q) z c l.told rest) (sym is) (did.goes r.blocks r.notes rest one.1 one.0.blocks one.0.notes),
+            subst (λ q. Rests m z (g q).blocks) (sym is) (part.rests r.blocks r.notes rest one.1 one.0.blocks one.0.notes),
+          );
+      goes = λ blocks notes rest s tells k.
+          let one = h.came blocks notes (did.io ++ rest) s tells k in
           let r = h.now blocks notes (did.io ++ rest) in
-          let is = run_is r y b e.told (did.io ++ rest) one in
-          ap (λ io. f (run_of x blocks notes io)) (append_assoc h.io did.io rest) ∙ h.goes blocks notes (did.io ++ rest) tells k
-          ∙ ap left is ∙ same r.blocks r.notes (did.io ++ rest) ∙ ap (λ s. later (g s)) (sym is);
+          let is = run_is r y b e.told (did.io ++ rest) one.0 in
+          ap (λ io. f (run_of x blocks notes io)) (append_assoc h.io did.io rest) ∙ h.goes blocks notes (did.io ++ rest) s tells k
+          ∙ ap left is ∙ same r.blocks r.notes (did.io ++ rest) ∙ ap (λ q. later (g q)) (sym is);
     }
 
 -- what is left is done
-pub come_last : (f left : PlacedRun → PlacedRun) (x y z : Placed) (a b c : List Note) (d e l : DiskSeen) → HasCome f left x y a b d e → Did left y z b c e l → Did f x z a c d l
-come_last f left x y z a b c d e l h did =
+pub come_last : (m : Meaning) (f left : PlacedRun → PlacedRun) (x y z : Placed) (a b c : List Note) (d e l : DiskSeen) → HasCome m f left x y a b d e → Did left y z b c e l → DidFromRest m f x z a c d l
+come_last m f left x y z a b c d e l h did =
     record {
       io = h.io ++ did.io;
       made = made_joined d.faults e.faults l.faults d.plan e.plan l.plan h.io did.io h.made did.made;
-      goes = λ blocks notes rest tells k.
-          let one = h.came blocks notes (did.io ++ rest) tells k in
+      goes = λ blocks notes rest s tells k.
+          let one = h.came blocks notes (did.io ++ rest) s tells k in
           let r = h.now blocks notes (did.io ++ rest) in
-          let is = run_is r y b e.told (did.io ++ rest) one in
-          subst (λ s. CameAs s z c l.told rest) (sym (ap (λ io. f (run_of x blocks notes io)) (append_assoc h.io did.io rest) ∙ h.goes blocks notes (did.io ++ rest) tells k ∙ ap left is))
-          (did.goes r.blocks r.notes rest one.blocks one.notes);
+          let is = run_is r y b e.told (did.io ++ rest) one.0 in
+          subst (λ q. CameAs q z c l.told rest) (sym (ap (λ io. f (run_of x blocks notes io)) (append_assoc h.io did.io rest) ∙ h.goes blocks notes (did.io ++ rest) s tells k ∙ ap left is))
+          (did.goes r.blocks r.notes rest one.0.blocks one.0.notes);
     }
 
 -- ---- one instruction

@@ -7,8 +7,11 @@ use Rattle.kernel_model.specs.declared.Note.TheVariants.{Ran}
 use Rattle.kernel_model.specs.World.{Blocks}
 use Rattle.kernel_model.specs.Meaning.{Meaning, Stage}
 use Rattle.kernel_model.specs.Events.{in_order}
+use Rattle.kernel_model.specs.Kernel.{Kernel}
+use Rattle.kernel_model.specs.Sound.{HasWholeBlocks, IsAtRest}
 use Rattle.kernel_state.specs.Stores.{Seeing, world_of_store}
 use Rattle.placed_laws.specs.Placed.{Placed, PlacedRun, has_some, placed_blocker}
+use Rattle.placed_laws.specs.Stands.{StandsFor}
 use Rattle.placed_laws.specs.PlacedSteps.{placed_joins, placed_noted, placed_step}
 use Rattle.placed_laws.specs.PlacedEvents.{placed_settled, placed_steps}
 use Rattle.kernel_steps.specs.declared.running.Running.{Running}
@@ -31,6 +34,36 @@ pub record Ticked {C M W X : Type 0} {F : X → Type 0} (m : Meaning) (view : Se
   pub stood : Stood m (placed_of view stage y)
   pub world : world_of_store y.store ≡ world_of_store x.store
   pub clock : y.clock ≡ suc x.clock
+
+-- ---- from rest
+
+-- A kernel in place stands for an abstract kernel that rests, over whole blocks.
+pub record Rests (m : Meaning) (x : Placed) (blocks : Blocks) : Type 0 where
+  pub kernel : Kernel
+  pub stands : StandsFor m x kernel
+  pub rests : IsAtRest m kernel
+  pub whole : HasWholeBlocks kernel.world blocks
+
+-- A change of an event under way did what is said of it wherever it began at rest, and left the disk and the notes as `Did` says.
+pub record DidFromRest (m : Meaning) (f : PlacedRun → PlacedRun) (x y : Placed) (kept kept_new : List Note) (d e : DiskSeen) : Type 0 where
+  -- which of its calls of the disk failed
+  pub io : List Bool
+  pub made : Made d.faults e.faults d.plan e.plan io
+  pub goes : (blocks : Blocks) (notes : List Note) (rest : List Bool) → Rests m x blocks → Tells d.told blocks → kept ≡ first_notes notes →
+      CameAs (f (run_of x blocks notes (io ++ rest))) y kept_new e.told rest
+
+-- the same of one that leaves rest
+pub record DidToRest (m : Meaning) (f : PlacedRun → PlacedRun) (x y : Placed) (kept kept_new : List Note) (d e : DiskSeen) : Type 0 where
+  pub did : DidFromRest m f x y kept kept_new d e
+  pub rests : (blocks : Blocks) (notes : List Note) (rest : List Bool) → Rests m x blocks → Tells d.told blocks → kept ≡ first_notes notes →
+      Rests m y (f (run_of x blocks notes (did.io ++ rest))).blocks
+
+-- What always holds after a change: the kernel runs on, and stands for some abstract kernel. The set-up and the clock stay.
+pub record GoesOn {C M W X : Type 0} {F : X → Type 0} (m : Meaning) (view : Seeing X F) (stage : W → Stage) (caller : W → ℕ) (x y : Running C M W X F) : Type 0 where
+  pub running : IsRunning view caller y
+  pub stood : Stood m (placed_of view stage y)
+  pub world : world_of_store y.store ≡ world_of_store x.store
+  pub clock : y.clock ≡ x.clock
 
 -- ---- instructions
 
@@ -56,10 +89,12 @@ module _ (m : Meaning) where
   steps_left number p left taken true r = steps_said number p left taken r
   steps_left number p left taken false r = placed_noted (Ran number taken) r
 
--- A change of an event under way has come to a point from which this is left of it.
-pub record HasCome (f left : PlacedRun → PlacedRun) (x y : Placed) (kept kept_new : List Note) (d e : DiskSeen) : Type 0 where
+-- A change of an event under way has come, from rest, to a point of rest from which this is left of it.
+pub record HasCome (m : Meaning) (f left : PlacedRun → PlacedRun) (x y : Placed) (kept kept_new : List Note) (d e : DiskSeen) : Type 0 where
   pub io : List Bool
   pub made : Made d.faults e.faults d.plan e.plan io
   pub now : Blocks → List Note → List Bool → PlacedRun
-  pub came : (blocks : Blocks) (notes : List Note) (rest : List Bool) → Tells d.told blocks → kept ≡ first_notes notes → CameAs (now blocks notes rest) y kept_new e.told rest
-  pub goes : (blocks : Blocks) (notes : List Note) (rest : List Bool) → Tells d.told blocks → kept ≡ first_notes notes → f (run_of x blocks notes (io ++ rest)) ≡ left (now blocks notes rest)
+  pub came : (blocks : Blocks) (notes : List Note) (rest : List Bool) → Rests m x blocks → Tells d.told blocks → kept ≡ first_notes notes →
+      CameAs (now blocks notes rest) y kept_new e.told rest × Rests m y (now blocks notes rest).blocks
+  pub goes : (blocks : Blocks) (notes : List Note) (rest : List Bool) → Rests m x blocks → Tells d.told blocks → kept ≡ first_notes notes →
+      f (run_of x blocks notes (io ++ rest)) ≡ left (now blocks notes rest)

@@ -13,7 +13,7 @@ ghost use Rattle.placed_laws.specs.PlacedSteps.{placed_joins, with_placed_call};
 ghost use Rattle.placed_laws.specs.PlacedEvents.{placed_event_on, placed_last, placed_settled};
 ghost use Rattle.kernel_steps.specs.Views.{placed_of, IsRunning, Stood};
 ghost use Rattle.kernel_events.specs.Happened.{Happened, IsKernel};
-ghost use Rattle.kernel_events.specs.Went.{Went};
+ghost use Rattle.kernel_events.specs.Went.{DidFromRest, GoesOn, Went};
 
 use crate::last::say_last;
 use crate::settle::settle_all;
@@ -117,8 +117,9 @@ fn stepped<C: Calls, D: Disk>(
     requires running { IsRunning (λ b. seen (b.vtable, b.value)) (λ w. C.caller w) running.old }
     requires stood { Stood C.Meaning.meaning (placed_of (λ b. seen (b.vtable, b.value)) (λ w. C.stage w) running.old) }
     requires disk { running.old.store.size ≡ D.block_count disk.old }
-    ensures went { Went C.Meaning.meaning (λ b. seen (b.vtable, b.value)) (λ w. C.stage w) (λ w. C.caller w) (placed_event_on C.Meaning.meaning number (Step p n)) running.old running.new notes.old notes.new
+    ensures did { DidFromRest C.Meaning.meaning (placed_event_on C.Meaning.meaning number (Step p n)) (placed_of (λ b. seen (b.vtable, b.value)) (λ w. C.stage w) running.old) (placed_of (λ b. seen (b.vtable, b.value)) (λ w. C.stage w) running.new) notes.old notes.new
         (disk_seen (D.blocks disk.old) (D.plan disk.old) (D.faults disk.old)) (disk_seen (D.blocks disk.new) (D.plan disk.new) (D.faults disk.new)) }
+    ensures on { GoesOn C.Meaning.meaning (λ b. seen (b.vtable, b.value)) (λ w. C.stage w) (λ w. C.caller w) running.old running.new }
     ensures same_size { D.block_count disk.new ≡ D.block_count disk.old }
 {
     if !running.store.living(p) {

@@ -9,7 +9,7 @@ ghost use Rattle.placed_laws.specs.Placed.{has_some, placed_blocker};
 ghost use Rattle.placed_laws.specs.PlacedSteps.{placed_joins};
 ghost use Rattle.placed_laws.specs.PlacedEvents.{placed_step_event};
 ghost use Rattle.kernel_steps.specs.Views.{placed_of, IsRunning, Stood};
-ghost use Rattle.kernel_events.specs.Went.{Went, takes_up, taken_up, steps_said};
+ghost use Rattle.kernel_events.specs.Went.{DidFromRest, DidToRest, GoesOn, Went, takes_up, taken_up, steps_said};
 
 use crate::last::say_last;
 use crate::settle::settle_all;
@@ -17,7 +17,7 @@ use call_pieces::Calls;
 use disk_log::DiskLog;
 use kernel_model::Note;
 use kernel_steps::{Notes, Running};
-use placed_laws::{agreeing, keeping};
+use placed_laws::{agreeing, keeping, resting};
 use vino_base::Disk;
 
 /// Process p's call, which is in a graft, blocked, and not in the order, joins it.
@@ -35,8 +35,8 @@ fn join<C: Calls>(running: &mut Running<C>, p: u8)
     running.join(p);
 }
 
-/// Takes up an instruction of process p's call, and all steps that can be taken then. Whether it could: a call that is blocked in a
-/// graft joins the order.
+/// Takes up an instruction of process p's call, and all steps that can be taken then: none where the kernel rested, and the call
+/// keeps its levels and what they hold. Whether it could: a call that is blocked in a graft joins the order.
 fn take_up<C: Calls, D: Disk>(
     running: &mut Running<C>,
     p: u8,
@@ -49,11 +49,15 @@ fn take_up<C: Calls, D: Disk>(
     requires stood { Stood C.Meaning.meaning (placed_of (λ b. seen (b.vtable, b.value)) (λ w. C.stage w) running.old) }
     requires disk { running.old.store.size ≡ D.block_count disk.old }
     ensures took { result ≡ takes_up C.Meaning.meaning (placed_of (λ b. seen (b.vtable, b.value)) (λ w. C.stage w) running.old) p }
-    ensures went { Went C.Meaning.meaning (λ b. seen (b.vtable, b.value)) (λ w. C.stage w) (λ w. C.caller w) (taken_up C.Meaning.meaning p) running.old running.new notes.old notes.new
+    ensures did { DidToRest C.Meaning.meaning (taken_up C.Meaning.meaning p) (placed_of (λ b. seen (b.vtable, b.value)) (λ w. C.stage w) running.old) (placed_of (λ b. seen (b.vtable, b.value)) (λ w. C.stage w) running.new) notes.old notes.new
         (disk_seen (D.blocks disk.old) (D.plan disk.old) (D.faults disk.old)) (disk_seen (D.blocks disk.new) (D.plan disk.new) (D.faults disk.new)) }
+    ensures on { GoesOn C.Meaning.meaning (λ b. seen (b.vtable, b.value)) (λ w. C.stage w) (λ w. C.caller w) running.old running.new }
     ensures same_size { D.block_count disk.new ≡ D.block_count disk.old }
 {
     agreeing::same_shown::<C::Meaning>();
+    keeping::steps_stand::<C::Meaning>();
+    keeping::others_stand::<C::Meaning>();
+    resting::resting::<C::Meaning>();
     if !running.in_graft(p) {
         return false;
     }
@@ -65,7 +69,9 @@ fn take_up<C: Calls, D: Disk>(
         settle_all(running, disk, log, notes);
         return false;
     }
-    running.step(p, disk, log, notes);
+    if running.step_in_graft(p, disk, log, notes) {
+        return true;
+    }
     settle_all(running, disk, log, notes);
     true
 }
@@ -93,8 +99,9 @@ fn steps<C: Calls, D: Disk>(
     requires running { IsRunning (λ b. seen (b.vtable, b.value)) (λ w. C.caller w) running.old }
     requires stood { Stood C.Meaning.meaning (placed_of (λ b. seen (b.vtable, b.value)) (λ w. C.stage w) running.old) }
     requires disk { running.old.store.size ≡ D.block_count disk.old }
-    ensures went { Went C.Meaning.meaning (λ b. seen (b.vtable, b.value)) (λ w. C.stage w) (λ w. C.caller w) (steps_said C.Meaning.meaning number p n 0) running.old running.new notes.old notes.new
+    ensures did { DidFromRest C.Meaning.meaning (steps_said C.Meaning.meaning number p n 0) (placed_of (λ b. seen (b.vtable, b.value)) (λ w. C.stage w) running.old) (placed_of (λ b. seen (b.vtable, b.value)) (λ w. C.stage w) running.new) notes.old notes.new
         (disk_seen (D.blocks disk.old) (D.plan disk.old) (D.faults disk.old)) (disk_seen (D.blocks disk.new) (D.plan disk.new) (D.faults disk.new)) }
+    ensures on { GoesOn C.Meaning.meaning (λ b. seen (b.vtable, b.value)) (λ w. C.stage w) (λ w. C.caller w) running.old running.new }
     ensures same_size { D.block_count disk.new ≡ D.block_count disk.old }
 {
     let mut taken = 0;
@@ -121,8 +128,9 @@ pub(crate) fn step_event<C: Calls, D: Disk>(
     requires running { IsRunning (λ b. seen (b.vtable, b.value)) (λ w. C.caller w) running.old }
     requires stood { Stood C.Meaning.meaning (placed_of (λ b. seen (b.vtable, b.value)) (λ w. C.stage w) running.old) }
     requires disk { running.old.store.size ≡ D.block_count disk.old }
-    ensures went { Went C.Meaning.meaning (λ b. seen (b.vtable, b.value)) (λ w. C.stage w) (λ w. C.caller w) (placed_step_event C.Meaning.meaning number p n) running.old running.new notes.old notes.new
+    ensures did { DidFromRest C.Meaning.meaning (placed_step_event C.Meaning.meaning number p n) (placed_of (λ b. seen (b.vtable, b.value)) (λ w. C.stage w) running.old) (placed_of (λ b. seen (b.vtable, b.value)) (λ w. C.stage w) running.new) notes.old notes.new
         (disk_seen (D.blocks disk.old) (D.plan disk.old) (D.faults disk.old)) (disk_seen (D.blocks disk.new) (D.plan disk.new) (D.faults disk.new)) }
+    ensures on { GoesOn C.Meaning.meaning (λ b. seen (b.vtable, b.value)) (λ w. C.stage w) (λ w. C.caller w) running.old running.new }
     ensures same_size { D.block_count disk.new ≡ D.block_count disk.old }
 {
     steps(running, number, p, n, disk, log, notes);

@@ -18,3 +18,4 @@ pub mod AskLemmas
 pub mod QueryLemmas
 pub mod ShownLemmas
 pub mod OpeningLemmas
+pub mod StillLemmas

@@ -5,7 +5,6 @@ use Rattle.std.specs.List.{list_any}
 use Rattle.std.proofs.lemmas.Bool.Decides.{nat_tests}
 use Rattle.kernel_model.specs.declared.Inverse.{Inverse}
 use Rattle.kernel_model.specs.declared.Mode.{Mode}
-use Rattle.kernel_model.specs.declared.Note.{Note}
 use Rattle.kernel_model.specs.declared.Note.TheVariants.{InGraft}
 use Rattle.kernel_model.specs.declared.Object.{Object}
 use Rattle.kernel_model.specs.Events.{in_order}
@@ -15,11 +14,11 @@ use Rattle.kernel_model.specs.Objects.{Things}
 use Rattle.kernel_model.specs.UndoLog.{undo_all}
 use Rattle.undo_calls.specs.UndoLevels.{innermost}
 use Rattle.lock_table.specs.declared.Holds.{Holds}
-use Rattle.lock_table.specs.Masks.{held, levels_at, masks_of}
-use Rattle.lock_table.specs.Numbers.{number_of, is_in_range}
+use Rattle.lock_table.specs.Masks.{held}
+use Rattle.lock_table.specs.Numbers.{is_in_range}
 use Rattle.graft_calls.specs.declared.GraftLevel.{GraftLevel}
 use Rattle.graft_calls.specs.Chains.{first_level, levels_in, outer}
-use Rattle.placed_laws.specs.Placed.{PlacedLevel, bare, has_some}
+use Rattle.placed_laws.specs.Placed.{bare, has_some}
 use Rattle.kernel_steps.specs.declared.order.Waiting.{Waiting}
 use Rattle.kernel_steps.specs.Orders.{order_of, numbers_of, has_number}
 use Rattle.kernel_steps.specs.Queries.{note_in_graft}

@@ -1,6 +1,7 @@
 pub mod Owned
 pub mod Views
 pub mod Orders
+pub mod Grips
 pub mod Hindered
 pub mod Moves
 pub mod Did

@@ -13,6 +13,7 @@ mod queries;
 mod running;
 mod shown;
 mod steps;
+mod still;
 #[cfg(test)]
 mod tests;
 mod waits;

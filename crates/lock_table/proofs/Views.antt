@@ -97,6 +97,12 @@ touch_view calls masks p d o mode lt size ho h = fun_ext (λ q. fun_ext (λ e. f
     said q e a = go q e a (q == p) refl (is_in_range a) refl
 
 -- what hinders by the masks hinders by the view
+-- how one level holds an object
+pub holding_view : (calls : List (List Holds)) (p d : ℕ) (o : Object) → p < 16 → IsInRange o → levels_at (masks_of calls p) (number_of o) d ≡ held calls p d o
+holding_view calls p d o lt ho =
+    let on : (nat_lt p 16 && is_in_range o) ≡ true = rw (in_range o ho) (grind (arith, nat_tests)) in
+    rw on refl
+
 pub level_view : (calls : List (List Holds)) (p : ℕ) (o : Object) (mode : Mode) → p < 16 → IsInRange o
     → conflicting_level (masks_of calls p) (number_of o) mode ≡ outermost_holding o mode (held calls p)
 level_view calls p o mode lt ho =

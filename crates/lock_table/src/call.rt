@@ -6,7 +6,8 @@ ghost use Rattle.kernel_model.specs.declared.Held.TheVariants.{Free};
 
 use crate::Holds;
 use crate::rows::{
-    OBJECTS, conflicting_at, forget_unused, merge_all, note, nothing_held, release_all, touch_at,
+    OBJECTS, conflicting_at, forget_unused, holding_at, merge_all, note, nothing_held, release_all,
+    touch_at,
 };
 use arrayvec::ArrayVec;
 use kernel_model::Mode;
@@ -36,7 +37,7 @@ impl Model for CallHolds {
 }
 
 impl CallHolds {
-    ghost use Rattle.lock_table.specs.Masks.{conflicting_level, levels_at, merged, released};
+    ghost use Rattle.lock_table.specs.Masks.{conflicting_level, holds_at, levels_at, merged, released};
 
     /// Nothing is held.
     pub(crate) fn new(alloc: Global) -> Result<CallHolds, AllocError>
@@ -47,6 +48,14 @@ impl CallHolds {
             masks,
             numbers: ArrayVec::new(),
         })
+    }
+
+    /// The levels that hold an object.
+    pub(crate) fn holds(&self, number: u16) -> Holds
+        requires { number < 421 }
+        ensures { result ≡ holds_at self.now number }
+    {
+        holding_at(&self.masks, number)
     }
 
     /// The outermost level whose hold on an object conflicts with a mode.

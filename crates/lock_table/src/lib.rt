@@ -17,8 +17,8 @@ pub use numbers::object_number;
 pub use table::LockTable;
 
 /// The levels of one process that hold one object: a mask of four bits for each mode, the outermost level's lowest.
-#[derive(Clone, Copy)]
-struct Holds {
+#[derive(Clone, Copy, PartialEq, Eq)]
+pub struct Holds {
     shared: u8,
     exclusive: u8,
 }

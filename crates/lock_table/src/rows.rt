@@ -23,6 +23,14 @@ pub(crate) fn nothing_held(alloc: Global, count: usize) -> Result<Vec<Holds>, Al
     vec![in alloc; NO_HOLDS; count]
 }
 
+/// The levels that hold an object.
+pub(crate) fn holding_at(masks: &[Holds], number: u16) -> Holds
+    requires { number < length masks.now }
+    ensures { result ≡ holds_at masks.now number }
+{
+    masks[number as usize]
+}
+
 /// The outermost level whose hold on an object conflicts with a mode.
 pub(crate) fn conflicting_at(masks: &[Holds], number: u16, mode: Mode) -> Option<u8>
     requires { number < length masks.now }

@@ -5,8 +5,9 @@ ghost use Rattle.kernel_model.specs.World.{processes};
 ghost use Rattle.kernel_model.specs.Laws.{IsInRange};
 ghost use Rattle.kernel_model.specs.Locks.{no_locks, lowest_holder, outermost_holding, with_touch, merge_level as level_merged, release_from as released_inward};
 ghost use Rattle.kernel_model.specs.declared.Held.TheVariants.{Free};
-ghost use Rattle.lock_table.specs.Masks.{conflicting_level, is_other_hindering, levels_at, masks_of};
+ghost use Rattle.lock_table.specs.Masks.{conflicting_level, held_by, is_other_hindering, levels_at, masks_of};
 
+use crate::Holds;
 use crate::call::CallHolds;
 use crate::numbers::object_number;
 use kernel_model::{Mode, NoMemory, Object, PROCESSES};
@@ -96,6 +97,16 @@ impl LockTable {
     {
         let call = &self.calls[p as usize];
         call.level_of(object_number(&o), wanted)
+    }
+
+    /// The levels of process p that hold an object, and how. Looks at one pair of masks.
+    pub fn holds(&self, p: u8, o: Object) -> Holds
+        requires process { p < 16 }
+        requires range { IsInRange o }
+        ensures { (d : ℕ) → held_by result d ≡ held self.now p d o }
+    {
+        let call = &self.calls[p as usize];
+        call.holds(object_number(&o))
     }
 
     /// A level of process p holds an object in a mode. Where it holds the object already, the stronger way stays.

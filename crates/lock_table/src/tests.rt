@@ -184,6 +184,24 @@ fn does_what_a_list_of_rows_does(rt: HostRuntime) {
 }
 
 #[test]
+fn what_is_held_changes_with_new_holds_alone(rt: HostRuntime) {
+    let mut table = LockTable::new(rt.alloc()).expect(&rt, "memory");
+    let cell = Object::Cell(3, 1);
+    let none = table.holds(3, cell);
+    table.touch(3, 1, cell, Mode::Shared);
+    let shared = table.holds(3, cell);
+    assert!(rt; shared != none);
+    table.touch(3, 1, cell, Mode::Shared);
+    table.touch(4, 1, cell, Mode::Exclusive);
+    table.touch(3, 1, Object::Queue, Mode::Exclusive);
+    assert!(rt; table.holds(3, cell) == shared);
+    table.touch(3, 1, cell, Mode::Exclusive);
+    assert!(rt; table.holds(3, cell) != shared);
+    table.release_from(3, 1);
+    assert!(rt; table.holds(3, cell) == none);
+}
+
+#[test]
 fn kinds_begin_and_end_at_their_numbers(rt: HostRuntime) {
     let wanted = [
         (Object::Graft(0, 0), 0),

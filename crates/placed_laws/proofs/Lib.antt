@@ -23,10 +23,12 @@ pub mod OutcomeStandLemmas
 pub mod KnownLemmas
 pub mod PieceStandLemmas
 pub mod StandLemmas
+pub mod TouchLemmas
 pub mod HeldLemmas
 pub mod RowLemmas
 pub mod OtherLemmas
 pub mod RestLemmas
 pub mod SettleLemmas
+pub mod RestingLemmas
 pub mod EventLemmas
 pub mod SoundLemmas

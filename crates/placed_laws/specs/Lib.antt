@@ -5,5 +5,6 @@ pub mod Placed
 pub mod PlacedEvents
 pub mod PlacedRows
 pub mod PlacedSteps
+pub mod Resting
 pub mod Soundness
 pub mod Stands

@@ -4,6 +4,7 @@
 pub mod agreeing;
 pub mod keeping;
 pub mod owners;
+pub mod resting;
 pub mod soundness;
 #[cfg(test)]
 mod tests;

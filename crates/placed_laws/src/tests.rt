@@ -1,6 +1,6 @@
 //! Each law over every table of calls, at the table of the system calls.
 
-use crate::{agreeing, keeping, owners, soundness};
+use crate::{agreeing, keeping, owners, resting, soundness};
 use plain_rules::PlainRules;
 
 #[test]
@@ -18,4 +18,5 @@ fn the_system_calls_have_the_laws(_rt: HostRuntime) {
     soundness::sound_in_place::<PlainRules>();
     soundness::ready_in_place::<PlainRules>();
     owners::owners_stay();
+    resting::resting::<PlainRules>();
 }

@@ -15,7 +15,7 @@ loop-going-init g c =
     let a = c.args in
     let all : a.n ≡ a.n - 0 = omega arith in
     record {
-      come = subst (λ k. HasCome (steps_said g.C.Meaning.Rules.meaning a.number a.p a.n 0) (steps_left g.C.Meaning.Rules.meaning a.number a.p k 0 true) (placed_of (λ b. (goal.Policy-dyn g (b.vtable, b.value)).seen b.value) (λ w. g.C.Calls.stage w) a.running.now) (placed_of (λ b. (goal.Policy-dyn g (b.vtable, b.value)).seen b.value) (λ w. g.C.Calls.stage w) a.running.now) a.notes.now a.notes.now (disk_seen (g.D.Disk.blocks a.disk.now) (g.D.Disk.plan a.disk.now) (g.D.Disk.faults a.disk.now)) (disk_seen (g.D.Disk.blocks a.disk.now) (g.D.Disk.plan a.disk.now) (g.D.Disk.faults a.disk.now))) all (come_first (steps_said g.C.Meaning.Rules.meaning a.number a.p a.n 0) (placed_of (λ b. (goal.Policy-dyn g (b.vtable, b.value)).seen b.value) (λ w. g.C.Calls.stage w) a.running.now) a.notes.now (disk_seen (g.D.Disk.blocks a.disk.now) (g.D.Disk.plan a.disk.now) (g.D.Disk.faults a.disk.now)));
+      come = subst (λ k. HasCome g.C.Meaning.Rules.meaning (steps_said g.C.Meaning.Rules.meaning a.number a.p a.n 0) (steps_left g.C.Meaning.Rules.meaning a.number a.p k 0 true) (placed_of (λ b. (goal.Policy-dyn g (b.vtable, b.value)).seen b.value) (λ w. g.C.Calls.stage w) a.running.now) (placed_of (λ b. (goal.Policy-dyn g (b.vtable, b.value)).seen b.value) (λ w. g.C.Calls.stage w) a.running.now) a.notes.now a.notes.now (disk_seen (g.D.Disk.blocks a.disk.now) (g.D.Disk.plan a.disk.now) (g.D.Disk.faults a.disk.now)) (disk_seen (g.D.Disk.blocks a.disk.now) (g.D.Disk.plan a.disk.now) (g.D.Disk.faults a.disk.now))) all (come_first g.C.Meaning.Rules.meaning (steps_said g.C.Meaning.Rules.meaning a.number a.p a.n 0) (placed_of (λ b. (goal.Policy-dyn g (b.vtable, b.value)).seen b.value) (λ w. g.C.Calls.stage w) a.running.now) a.notes.now (disk_seen (g.D.Disk.blocks a.disk.now) (g.D.Disk.plan a.disk.now) (g.D.Disk.faults a.disk.now)));
       running = c.requires.running;
       stood = c.requires.stood;
       world = refl;
@@ -31,28 +31,28 @@ loop-going-preserved g c =
     let l = c.loop-going in
     let i = l.invariant in
     let t = c.take_up-going in
-    let went = t.ensures.went in
+    let on = t.ensures.on in
     let next = c.more-taken.result in
     let k = a.n - l.taken - 1 in
     let left : a.n - l.taken ≡ suc k = omega (arith, c.if-taken-n.true) in
     record {
-      come = come_on (steps_said g.C.Meaning.Rules.meaning a.number a.p a.n 0) (steps_left g.C.Meaning.Rules.meaning a.number a.p (a.n - l.taken) l.taken true) (steps_left g.C.Meaning.Rules.meaning a.number a.p (a.n - next) next t.result) (taken_up g.C.Meaning.Rules.meaning a.p)
+      come = come_on g.C.Meaning.Rules.meaning (steps_said g.C.Meaning.Rules.meaning a.number a.p a.n 0) (steps_left g.C.Meaning.Rules.meaning a.number a.p (a.n - l.taken) l.taken true) (steps_left g.C.Meaning.Rules.meaning a.number a.p (a.n - next) next t.result) (taken_up g.C.Meaning.Rules.meaning a.p)
           (placed_of (λ b. (goal.Policy-dyn g (b.vtable, b.value)).seen b.value) (λ w. g.C.Calls.stage w) a.running.now) (placed_of (λ b. (goal.Policy-dyn g (b.vtable, b.value)).seen b.value) (λ w. g.C.Calls.stage w) l.running) (placed_of (λ b. (goal.Policy-dyn g (b.vtable, b.value)).seen b.value) (λ w. g.C.Calls.stage w) t.new.running) a.notes.now l.notes t.new.notes (disk_seen (g.D.Disk.blocks a.disk.now) (g.D.Disk.plan a.disk.now) (g.D.Disk.faults a.disk.now)) (disk_seen (g.D.Disk.blocks l.disk) (g.D.Disk.plan l.disk) (g.D.Disk.faults l.disk)) (disk_seen (g.D.Disk.blocks c.take_up-going.new.disk) (g.D.Disk.plan c.take_up-going.new.disk) (g.D.Disk.faults c.take_up-going.new.disk))
-          (subst (λ b. HasCome (steps_said g.C.Meaning.Rules.meaning a.number a.p a.n 0) (steps_left g.C.Meaning.Rules.meaning a.number a.p (a.n - l.taken) l.taken b) (placed_of (λ b. (goal.Policy-dyn g (b.vtable, b.value)).seen b.value) (λ w. g.C.Calls.stage w) a.running.now) (placed_of (λ b. (goal.Policy-dyn g (b.vtable, b.value)).seen b.value) (λ w. g.C.Calls.stage w) l.running) a.notes.now l.notes (disk_seen (g.D.Disk.blocks a.disk.now) (g.D.Disk.plan a.disk.now) (g.D.Disk.faults a.disk.now)) (disk_seen (g.D.Disk.blocks l.disk) (g.D.Disk.plan l.disk) (g.D.Disk.faults l.disk))) c.loop-going-test.true i.come)
-          went.did
+          (subst (λ b. HasCome g.C.Meaning.Rules.meaning (steps_said g.C.Meaning.Rules.meaning a.number a.p a.n 0) (steps_left g.C.Meaning.Rules.meaning a.number a.p (a.n - l.taken) l.taken b) (placed_of (λ b. (goal.Policy-dyn g (b.vtable, b.value)).seen b.value) (λ w. g.C.Calls.stage w) a.running.now) (placed_of (λ b. (goal.Policy-dyn g (b.vtable, b.value)).seen b.value) (λ w. g.C.Calls.stage w) l.running) a.notes.now l.notes (disk_seen (g.D.Disk.blocks a.disk.now) (g.D.Disk.plan a.disk.now) (g.D.Disk.faults a.disk.now)) (disk_seen (g.D.Disk.blocks l.disk) (g.D.Disk.plan l.disk) (g.D.Disk.faults l.disk))) c.loop-going-test.true i.come)
+          t.ensures.did
           (λ blocks notes io. steps_next g.C.Meaning.Rules.meaning (placed_of (λ b. (goal.Policy-dyn g (b.vtable, b.value)).seen b.value) (λ w. g.C.Calls.stage w) l.running) a.p a.number (a.n - l.taken) k l.taken next t.result left t.ensures.took c.more-taken.ensures blocks notes io
           ∙ steps_again g.C.Meaning.Rules.meaning a.number a.p k (a.n - next) next t.result (taken_up g.C.Meaning.Rules.meaning a.p (run_of (placed_of (λ b. (goal.Policy-dyn g (b.vtable, b.value)).seen b.value) (λ w. g.C.Calls.stage w) l.running) blocks notes io)) (one_less a.n l.taken next t.result c.more-taken.ensures));
-      running = went.running;
-      stood = went.stood;
-      world = went.world ∙ i.world;
-      clock = went.clock ∙ i.clock;
-      disk = ap (λ (v : World). v.disk_size) went.world ∙ i.disk ∙ sym t.ensures.same_size;
+      running = on.running;
+      stood = on.stood;
+      world = on.world ∙ i.world;
+      clock = on.clock ∙ i.clock;
+      disk = ap (λ (v : World). v.disk_size) on.world ∙ i.disk ∙ sym t.ensures.same_size;
       same_size = t.ensures.same_size ∙ i.same_size;
       few = still_few a.n l.taken next t.result c.if-taken-n.true c.more-taken.ensures;
     }
 
-pub returns-clause-went : goal.returns-clause-went
-returns-clause-went g c =
+pub returns-clause-did : goal.returns-clause-did
+returns-clause-did g c =
     let a = c.args in
     let l = c.loop-going in
     let i = l.invariant in
@@ -60,12 +60,9 @@ returns-clause-went g c =
       | goal.then-loop-going-test+else-taken-n w ↦ all_taken a.n l.taken l.going w.if-taken-n.false
       | goal.else-loop-going-test w ↦ not_going a.n l.taken l.going w.loop-going-test.false
     ] in
-    record {
-      did = come_last (steps_said g.C.Meaning.Rules.meaning a.number a.p a.n 0) (steps_left g.C.Meaning.Rules.meaning a.number a.p (a.n - l.taken) l.taken l.going) (placed_of (λ b. (goal.Policy-dyn g (b.vtable, b.value)).seen b.value) (λ w. g.C.Calls.stage w) a.running.now) (placed_of (λ b. (goal.Policy-dyn g (b.vtable, b.value)).seen b.value) (λ w. g.C.Calls.stage w) l.running) (placed_of (λ b. (goal.Policy-dyn g (b.vtable, b.value)).seen b.value) (λ w. g.C.Calls.stage w) l.running) a.notes.now l.notes c.push.new.self (disk_seen (g.D.Disk.blocks a.disk.now) (g.D.Disk.plan a.disk.now) (g.D.Disk.faults a.disk.now)) (disk_seen (g.D.Disk.blocks l.disk) (g.D.Disk.plan l.disk) (g.D.Disk.faults l.disk)) (disk_seen (g.D.Disk.blocks l.disk) (g.D.Disk.plan l.disk) (g.D.Disk.faults l.disk)) i.come
-          (did_as (steps_left g.C.Meaning.Rules.meaning a.number a.p (a.n - l.taken) l.taken l.going) (placed_noted (Ran a.number l.taken)) (placed_of (λ b. (goal.Policy-dyn g (b.vtable, b.value)).seen b.value) (λ w. g.C.Calls.stage w) l.running) (placed_of (λ b. (goal.Policy-dyn g (b.vtable, b.value)).seen b.value) (λ w. g.C.Calls.stage w) l.running) l.notes c.push.new.self (disk_seen (g.D.Disk.blocks l.disk) (g.D.Disk.plan l.disk) (g.D.Disk.faults l.disk)) (disk_seen (g.D.Disk.blocks l.disk) (g.D.Disk.plan l.disk) (g.D.Disk.faults l.disk))
-          (λ blocks notes io. steps_over g.C.Meaning.Rules.meaning a.number a.p (a.n - l.taken) l.taken l.going (run_of (placed_of (λ b. (goal.Policy-dyn g (b.vtable, b.value)).seen b.value) (λ w. g.C.Calls.stage w) l.running) blocks notes io) over) (did_note (placed_of (λ b. (goal.Policy-dyn g (b.vtable, b.value)).seen b.value) (λ w. g.C.Calls.stage w) l.running) (Ran a.number l.taken) l.notes c.push.new.self (disk_seen (g.D.Disk.blocks l.disk) (g.D.Disk.plan l.disk) (g.D.Disk.faults l.disk)) c.push.ensures));
-      running = i.running;
-      stood = i.stood;
-      world = i.world;
-      clock = i.clock;
-    }
+    come_last g.C.Meaning.Rules.meaning (steps_said g.C.Meaning.Rules.meaning a.number a.p a.n 0) (steps_left g.C.Meaning.Rules.meaning a.number a.p (a.n - l.taken) l.taken l.going) (placed_of (λ b. (goal.Policy-dyn g (b.vtable, b.value)).seen b.value) (λ w. g.C.Calls.stage w) a.running.now) (placed_of (λ b. (goal.Policy-dyn g (b.vtable, b.value)).seen b.value) (λ w. g.C.Calls.stage w) l.running) (placed_of (λ b. (goal.Policy-dyn g (b.vtable, b.value)).seen b.value) (λ w. g.C.Calls.stage w) l.running) a.notes.now l.notes c.push.new.self (disk_seen (g.D.Disk.blocks a.disk.now) (g.D.Disk.plan a.disk.now) (g.D.Disk.faults a.disk.now)) (disk_seen (g.D.Disk.blocks l.disk) (g.D.Disk.plan l.disk) (g.D.Disk.faults l.disk)) (disk_seen (g.D.Disk.blocks l.disk) (g.D.Disk.plan l.disk) (g.D.Disk.faults l.disk)) i.come
+    (did_as (steps_left g.C.Meaning.Rules.meaning a.number a.p (a.n - l.taken) l.taken l.going) (placed_noted (Ran a.number l.taken)) (placed_of (λ b. (goal.Policy-dyn g (b.vtable, b.value)).seen b.value) (λ w. g.C.Calls.stage w) l.running) (placed_of (λ b. (goal.Policy-dyn g (b.vtable, b.value)).seen b.value) (λ w. g.C.Calls.stage w) l.running) l.notes c.push.new.self (disk_seen (g.D.Disk.blocks l.disk) (g.D.Disk.plan l.disk) (g.D.Disk.faults l.disk)) (disk_seen (g.D.Disk.blocks l.disk) (g.D.Disk.plan l.disk) (g.D.Disk.faults l.disk))
+    (λ blocks notes io. steps_over g.C.Meaning.Rules.meaning a.number a.p (a.n - l.taken) l.taken l.going (run_of (placed_of (λ b. (goal.Policy-dyn g (b.vtable, b.value)).seen b.value) (λ w. g.C.Calls.stage w) l.running) blocks notes io) over) (did_note (placed_of (λ b. (goal.Policy-dyn g (b.vtable, b.value)).seen b.value) (λ w. g.C.Calls.stage w) l.running) (Ran a.number l.taken) l.notes c.push.new.self (disk_seen (g.D.Disk.blocks l.disk) (g.D.Disk.plan l.disk) (g.D.Disk.faults l.disk)) c.push.ensures))
+
+pub returns-clause-on : goal.returns-clause-on
+returns-clause-on g c = let i = c.loop-going.invariant in record { running = i.running; stood = i.stood; world = i.world; clock = i.clock }

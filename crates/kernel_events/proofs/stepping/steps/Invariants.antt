@@ -8,7 +8,7 @@ use Rattle.kernel_events.proofs.stepping.steps.Given as goal
 
 abbrev pub invariant-loop-going : goal.invariant-loop-going
 invariant-loop-going g l = record {
-  come : HasCome (steps_said g.C.Meaning.Rules.meaning l.initial.number l.initial.p l.initial.n 0) (steps_left g.C.Meaning.Rules.meaning l.initial.number l.initial.p (l.initial.n - l.taken) l.taken l.going)
+  come : HasCome g.C.Meaning.Rules.meaning (steps_said g.C.Meaning.Rules.meaning l.initial.number l.initial.p l.initial.n 0) (steps_left g.C.Meaning.Rules.meaning l.initial.number l.initial.p (l.initial.n - l.taken) l.taken l.going)
       (placed_of (λ b. (goal.Policy-dyn g (b.vtable, b.value)).seen b.value) (λ w. g.C.Calls.stage w) l.initial.running) (placed_of (λ b. (goal.Policy-dyn g (b.vtable, b.value)).seen b.value) (λ w. g.C.Calls.stage w) l.running) l.initial.notes l.notes
       (disk_seen (g.D.Disk.blocks l.initial.disk) (g.D.Disk.plan l.initial.disk) (g.D.Disk.faults l.initial.disk)) (disk_seen (g.D.Disk.blocks l.disk) (g.D.Disk.plan l.disk) (g.D.Disk.faults l.disk));
   running : IsRunning (λ b. (goal.Policy-dyn g (b.vtable, b.value)).seen b.value) (λ w. g.C.Calls.caller w) l.running;

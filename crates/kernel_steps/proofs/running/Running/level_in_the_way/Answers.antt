@@ -1,4 +1,4 @@
-use Rattle.std.proofs.Common.{◌≡◌, ◌∙◌, ap, sym, refl, length, nat_lt}
+use Rattle.std.proofs.Common.{◌∙◌, ap, sym, refl, length, nat_lt}
 use Rattle.kernel_model.specs.Locks.{outermost_holding}
 use Rattle.kernel_model.specs.Events.{wanted}
 use Rattle.lock_table.specs.Masks.{held}

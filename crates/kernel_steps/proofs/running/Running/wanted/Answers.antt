@@ -8,7 +8,7 @@ use Rattle.graft_calls.specs.Chains.{levels_in}
 use Rattle.kernel_state.specs.Stores.{world_of_store, objects_of}
 use Rattle.kernel_steps.specs.declared.running.Flight.{Flight}
 use Rattle.kernel_steps.specs.Views.{flight_of}
-use Rattle.kernel_steps.proofs.HinderLemmas.{stands, may_come, piece_needs, graft_needs_are, none_hindered}
+use Rattle.kernel_steps.proofs.HinderLemmas.{stands, may_come, piece_needs, graft_needs_are}
 use Rattle.kernel_steps.proofs.running.Running.wanted.Goals as goal
 
 pub need-requires-clause-ready : goal.need-requires-clause-ready

@@ -1,0 +1,90 @@
+-- Where the grips on what an instruction needed are the same, that is held as before.
+use Rattle.std.proofs.Common.{◌≡◌, ℕ, suc, ◌≤◌, ◌<◌, ◌||◌, Bool, true, false, List, [], ◌∷◌, map, length, Option, Some, None, refl, ap, sym, subst, ◌∙◌, arith, inl, inr}
+use Rattle.std.specs.Prelude.{is_some, option_map}
+use Rattle.std.proofs.lemmas.Bool.{cases_Bool}
+use Rattle.kernel_model.specs.declared.Inverse.{Inverse}
+use Rattle.kernel_model.specs.declared.Need.{Need}
+use Rattle.kernel_model.specs.declared.Object.{Object}
+use Rattle.kernel_model.specs.Objects.{Things, same_object}
+use Rattle.kernel_model.specs.SameObject.{same_object_is}
+use Rattle.kernel_model.specs.Alike.{is_needed}
+use Rattle.kernel_model.specs.GraftStep.{next_needs}
+use Rattle.kernel_model.specs.Locks.{LockTable, Touched}
+use Rattle.kernel_model.specs.Meaning.{Meaning, Stage}
+use Rattle.lock_table.specs.declared.Holds.{Holds}
+use Rattle.lock_table.specs.Masks.{held}
+use Rattle.kernel_state.specs.Stores.{Seeing, world_of_store, objects_of}
+use Rattle.graft_loader.specs.Slots.{table_of}
+use Rattle.graft_calls.specs.declared.GraftLevel.{GraftLevel}
+use Rattle.graft_calls.specs.Chains.{levels_in, levels_of}
+use Rattle.placed_laws.specs.Placed.{bare, has_some, placed_needs}
+use Rattle.placed_laws.specs.Resting.{KeepsHolds}
+use Rattle.kernel_steps.specs.declared.running.InFlight.{InFlight}
+use Rattle.kernel_steps.specs.declared.running.Running.{Running}
+use Rattle.kernel_steps.specs.declared.still.Grip.{Grip}
+use Rattle.kernel_steps.specs.Grips.{IsHold, IsGrip}
+use Rattle.kernel_steps.specs.Views.{placed_of, call_at, call_in_place, chain_of, flight_of, levels_at, IsRunning}
+use Rattle.kernel_steps.proofs.HinderLemmas.{graft_needs_are}
+use Rattle.kernel_steps.proofs.ViewLemmas.{holds_in_place}
+
+module _ (t u : ℕ → Touched) (d : ℕ) (o : Object) where
+  -- one hold is a hold before and after
+  hold_same : (n : Need) (x : Option Holds) → IsHold t (Some n) x → IsHold u (Some n) x → same_object o n.object ≡ true → u d o ≡ t d o
+  hold_same n None before after same = absurd before
+  hold_same n (Some h) before after same =
+      subst (λ a. u d a ≡ t d a) (sym (same_object_is o n.object same)) (sym (after d) ∙ before d)
+
+  -- the first of needs, or one of the others
+  first_or : (n : Need) (x : Option Holds) (rest : Bool) → IsHold t (Some n) x → IsHold u (Some n) x → (same_object o n.object || rest) ≡ true → (rest ≡ true → u d o ≡ t d o) → u d o ≡ t d o
+  first_or n x rest before after needed others =
+      elim (cases_Bool (same_object o n.object)) [
+        | inl here ↦ hold_same n x before after here
+        | inr away ↦ others (sym (ap (λ b. b || rest) away) ∙ needed)
+      ]
+
+  contrary : false ≡ true → u d o ≡ t d o
+  contrary h = cc
+
+  same_grip : (ns : List Need) (g : Grip) → length ns ≤ 3 → IsGrip t ns g → IsGrip u ns g → is_needed o ns ≡ true → u d o ≡ t d o
+  same_grip [] g few before after needed = contrary needed
+  same_grip (a ∷ []) g few before after needed = first_or a g.first false before.first after.first needed contrary
+  same_grip (a ∷ b ∷ []) g few before after needed =
+      first_or a g.first (same_object o b.object || false) before.first after.first needed (λ later. first_or b g.second false before.second after.second later contrary)
+  same_grip (a ∷ b ∷ c ∷ []) g few before after needed =
+      first_or a g.first (same_object o b.object || (same_object o c.object || false)) before.first after.first needed (λ later.
+      first_or b g.second (same_object o c.object || false) before.second after.second later (λ last. first_or c g.third false before.third after.third last contrary))
+  same_grip (a ∷ b ∷ c ∷ e ∷ ns) g few before after needed = absurd (too_many (length ns) few)
+    where
+      too_many : (n : ℕ) → suc (suc (suc (suc n))) ≤ 3 → ⊥
+      too_many n h = omega (arith, h)
+
+-- a running kernel after a step of which the grips before and after are one
+pub keeps_holds : {C M W X : Type 0} {F : X → Type 0} (m : Meaning) (view : Seeing X F) (stage : W → Stage) (caller : W → ℕ) (x y : Running C M W X F) (p : ℕ) (ns : List Need) (before after : Grip) →
+    IsRunning view caller x → IsRunning view caller y → ns ≡ placed_needs m (placed_of view stage x) p → length ns ≤ 3 → IsGrip (held x.locks p) ns before → IsGrip (held y.locks p) ns after → before ≡ after →
+    length ((placed_of view stage y).levels p) ≡ length ((placed_of view stage x).levels p) → KeepsHolds m (placed_of view stage x) (placed_of view stage y) p
+keeps_holds m view stage caller x y p ns before after rx ry is few gx gy same many =
+    record {
+      levels = many;
+      holds = λ d o needed.
+          ap (λ t. t p d o) (holds_in_place view stage caller y ry)
+          ∙ same_grip (held x.locks p) (held y.locks p) d o ns before few gx (subst (IsGrip (held y.locks p) ns) (sym same) gy) (ap (is_needed o) is ∙ needed)
+          ∙ sym (ap (λ t. t p d o) (holds_in_place view stage caller x rx));
+    }
+
+-- ---- what the next instruction needs
+
+-- a call in flight that there is
+flying : {W : Type 0} (stage : W → Stage) (o : Option (InFlight W)) → is_some (option_map (call_in_place stage) o) ≡ true → (f : InFlight W) × (o ≡ Some f)
+flying stage None h = absurd cc
+flying stage (Some f) h = (f, refl)
+
+-- levels in place are levels of the chain
+some_levels_there : (p : ℕ) (ram : List ℕ) (t : LockTable) (gs : List GraftLevel) (log : List (List Inverse)) (w : Things) → has_some (map bare (levels_in p ram t gs log w)) ≡ true → 0 < length gs
+some_levels_there p ram t [] log w h = absurd cc
+some_levels_there p ram t (g ∷ gs) log w h = omega arith
+
+pub needs_there : {C M W X : Type 0} {F : X → Type 0} (m : Meaning) (view : Seeing X F) (stage : W → Stage) (x : Running C M W X F) (p : ℕ) → is_some (call_at stage x p) ≡ true → has_some (levels_at view x p) ≡ true →
+    next_needs (world_of_store x.store) (table_of x.images) (objects_of view x.store).accounts (levels_of view x.store x.locks (chain_of x p) p) ≡ placed_needs m (placed_of view stage x) p
+needs_there m view stage x p call some =
+    let f = flying stage (flight_of x.calls.items p).call call in
+    graft_needs_are m view stage x p f.0 f.1 (some_levels_there p x.store.ram (held x.locks) (chain_of x p).levels (chain_of x p).undo (objects_of view x.store).things some)

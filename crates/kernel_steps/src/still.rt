@@ -1,0 +1,113 @@
+//! An instruction that leaves what its call holds.
+
+ghost use Rattle.std.specs.Prelude.{◌≡◌, ◌<◌, true, None, is_some, slice_get, All};
+ghost use Rattle.disk_log.specs.Seen.{disk_seen};
+ghost use Rattle.kernel_model.specs.declared.Need.{Need as Needed};
+ghost use Rattle.kernel_model.specs.Laws.{IsInRange};
+ghost use Rattle.kernel_state.specs.Stores.{world_of_store};
+ghost use Rattle.lock_table.specs.Masks.{held};
+ghost use Rattle.placed_laws.specs.Placed.{has_some, placed_blocker, placed_needs};
+ghost use Rattle.placed_laws.specs.PlacedSteps.{placed_step};
+ghost use Rattle.placed_laws.specs.Resting.{KeepsHolds};
+ghost use Rattle.kernel_steps.specs.Did.{Did};
+ghost use Rattle.kernel_steps.specs.Grips.{IsHold, IsGrip};
+ghost use Rattle.kernel_steps.specs.Views.{placed_of, call_at, IsRunning, Stood};
+
+use crate::blocking::flight;
+use crate::notes::Notes;
+use crate::running::Running;
+use call_pieces::Calls;
+use disk_log::DiskLog;
+use graft_calls::Needs;
+use kernel_model::Need;
+use lock_table::{Holds, LockTable};
+use vino_base::Disk;
+
+/// How the levels of a call hold up to three objects.
+#[derive(Clone, Copy, PartialEq, Eq)]
+struct Grip {
+    first: Option<Holds>,
+    second: Option<Holds>,
+    third: Option<Holds>,
+}
+
+/// How the levels of process p's call hold the object of need i, if there is this need.
+fn hold_at(locks: &LockTable, p: u8, needs: &[Need], i: usize) -> Option<Holds>
+    requires process { p < 16 }
+    requires range { All (λ (n : Needed). IsInRange n.object) needs.now }
+    ensures { IsHold (held locks.now p) (slice_get needs.now i) result }
+{
+    match needs.get(i) {
+        Some(need) => Some(locks.holds(p, need.object)),
+        None => None,
+    }
+}
+
+/// How the levels of process p's call hold the objects of the first three needs.
+fn grip_of(locks: &LockTable, p: u8, needs: &[Need]) -> Grip
+    requires process { p < 16 }
+    requires range { All (λ (n : Needed). IsInRange n.object) needs.now }
+    ensures { IsGrip (held locks.now p) needs.now result }
+{
+    Grip {
+        first: hold_at(locks, p, needs, 0),
+        second: hold_at(locks, p, needs, 1),
+        third: hold_at(locks, p, needs, 2),
+    }
+}
+
+/// Whether two grips are one.
+fn is_same_grip(a: Grip, b: Grip) -> bool
+    ensures { result ≡ true → a ≡ b }
+{
+    a == b
+}
+
+impl<C: Calls> Running<C> {
+    /// What the next instruction of process p's call needs, which is in a graft.
+    fn instruction_needs(&self, p: u8) -> Needs
+        requires process { p < 16 }
+        requires call { is_some (call_at (λ w. C.stage w) self.now p) ≡ true }
+        requires level { has_some ((placed_of (λ b. seen (b.vtable, b.value)) (λ w. C.stage w) self.now).levels p) ≡ true }
+        requires running { IsRunning (λ b. seen (b.vtable, b.value)) (λ w. C.caller w) self.now }
+        ensures value { result ≡ placed_needs C.Meaning.meaning (placed_of (λ b. seen (b.vtable, b.value)) (λ w. C.stage w) self.now) p }
+        ensures range { All (λ (n : Needed). IsInRange n.object) result }
+    {
+        flight(&self.calls, p)
+            .chain
+            .needs(&self.store, &self.images)
+    }
+
+    /// One step of process p's call, which is in a graft and which nothing blocks. Whether it left the call's levels, and how these
+    /// hold what it needed.
+    pub fn step_in_graft<D: Disk>(
+        &mut self,
+        p: u8,
+        disk: &mut D,
+        log: &mut DiskLog,
+        notes: &mut Notes,
+    ) -> bool
+        requires process { p < 16 }
+        requires call { is_some (call_at (λ w. C.stage w) self.old p) ≡ true }
+        requires level { has_some ((placed_of (λ b. seen (b.vtable, b.value)) (λ w. C.stage w) self.old).levels p) ≡ true }
+        requires free { placed_blocker C.Meaning.meaning (placed_of (λ b. seen (b.vtable, b.value)) (λ w. C.stage w) self.old) p ≡ None }
+        requires running { IsRunning (λ b. seen (b.vtable, b.value)) (λ w. C.caller w) self.old }
+        requires stood { Stood C.Meaning.meaning (placed_of (λ b. seen (b.vtable, b.value)) (λ w. C.stage w) self.old) }
+        requires disk { self.old.store.size ≡ D.block_count disk.old }
+        ensures kept { result ≡ true → KeepsHolds C.Meaning.meaning (placed_of (λ b. seen (b.vtable, b.value)) (λ w. C.stage w) self.old) (placed_of (λ b. seen (b.vtable, b.value)) (λ w. C.stage w) self.new) p }
+        ensures did { Did (placed_step C.Meaning.meaning p) (placed_of (λ b. seen (b.vtable, b.value)) (λ w. C.stage w) self.old) (placed_of (λ b. seen (b.vtable, b.value)) (λ w. C.stage w) self.new) notes.old notes.new
+            (disk_seen (D.blocks disk.old) (D.plan disk.old) (D.faults disk.old)) (disk_seen (D.blocks disk.new) (D.plan disk.new) (D.faults disk.new)) }
+        ensures running { IsRunning (λ b. seen (b.vtable, b.value)) (λ w. C.caller w) self.new }
+        ensures stood { Stood C.Meaning.meaning (placed_of (λ b. seen (b.vtable, b.value)) (λ w. C.stage w) self.new) }
+        ensures world { world_of_store self.new.store ≡ world_of_store self.old.store }
+        ensures clock { self.new.clock ≡ self.old.clock }
+        ensures same_size { D.block_count disk.new ≡ D.block_count disk.old }
+    {
+        let count = self.level_count(p);
+        let needs = self.instruction_needs(p);
+        let before = grip_of(&self.locks, p, needs.as_slice());
+        self.step(p, disk, log, notes);
+        let after = grip_of(&self.locks, p, needs.as_slice());
+        self.level_count(p) == count && is_same_grip(before, after)
+    }
+}
