@@ -16,8 +16,6 @@ use std::marker::Model;
 use thiserror::Error;
 
 pub mod laws;
-#[cfg(test)]
-mod tests;
 
 pub use gm_isa::{Instr, Op};
 

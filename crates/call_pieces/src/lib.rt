@@ -19,8 +19,6 @@ mod policies;
 mod quick;
 mod reads;
 mod syncs;
-#[cfg(test)]
-mod tests;
 mod writes;
 
 pub use begin::early;

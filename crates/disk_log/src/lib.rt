@@ -11,8 +11,8 @@ use arrayvec::ArrayVec;
 use std::marker::Model;
 use vino_base::{Disk, Failed};
 
-/// The most calls that one log notes: 64 for each of 256 pieces of system calls.
-pub const CALLS: usize = 16_384;
+/// The most calls that one log notes. A piece of a system call makes fewer.
+pub const CALLS: usize = 256;
 
 /// Which calls of a disk failed, in order.
 #[derive(Drop)]
@@ -50,14 +50,6 @@ impl DiskLog {
         ensures { result.now ≡ self.now }
     {
         self.failed.as_slice()
-    }
-
-    /// Notes the calls of another list behind these.
-    pub fn append(&mut self, later: &DiskLog)
-        requires room { length self.old + length later.now ≤ CALLS }
-        ensures { self.new ≡ self.old ++ later.now }
-    {
-        note_all(&mut self.failed, later.failed.as_slice());
     }
 
     /// Reads block b.
@@ -99,14 +91,6 @@ fn note(failed: &mut ArrayVec<bool, CALLS>, fails: bool)
     failed.push(fails);
 }
 
-/// Notes calls in order.
-fn note_all(failed: &mut ArrayVec<bool, CALLS>, later: &[bool])
-    requires { length failed.old.items + length later.now ≤ CALLS }
-    ensures { failed.new.items ≡ failed.old.items ++ later.now }
-{
-    let _ = failed.try_extend_from_slice(later);
-}
-
 #[cfg(test)]
 mod tests {
     use super::*;
@@ -118,7 +102,6 @@ mod tests {
         let alloc = rt.alloc();
         let mut disk = MemDisk::sample(alloc, Vec::from_slice(alloc, &[1, 3])?)?;
         let mut log = DiskLog::new();
-        let mut whole = DiskLog::new();
         let mut block = [0u8; 512];
         assert!(rt; log.read(&mut disk, 2, &mut block).is_err());
         assert!(rt; log.read(&mut disk, 2, &mut block).is_ok());
@@ -130,11 +113,8 @@ mod tests {
         assert!(rt; log.read(&mut disk, 2, &mut block).is_ok());
         assert_eq!(rt; block[0], 7);
         assert!(rt; log.calls() == [true, false, true, false, false].as_slice());
-        whole.append(&log);
-        whole.append(&log);
-        assert_eq!(rt; whole.calls().len(), 10);
-        whole.clear();
-        assert!(rt; whole.calls().is_empty());
+        log.clear();
+        assert!(rt; log.calls().is_empty());
         Ok(())
     }
 }

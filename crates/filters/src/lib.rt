@@ -20,8 +20,6 @@ mod key;
 mod output;
 mod raw_to_sealed;
 mod sealed_to_sizes;
-#[cfg(test)]
-mod tests;
 mod text;
 mod text_to_image;
 

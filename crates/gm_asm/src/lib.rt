@@ -12,8 +12,6 @@ mod link;
 mod parts;
 mod print;
 mod statement;
-#[cfg(test)]
-mod tests;
 mod words;
 
 use crate::assembly::read_lines;

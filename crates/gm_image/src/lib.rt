@@ -15,8 +15,6 @@ use thiserror::Error;
 
 pub mod laws;
 mod sealed;
-#[cfg(test)]
-mod tests;
 
 pub use gm_isa::{Instr, Op};
 pub use kernel_model::NoMemory;

@@ -8,8 +8,6 @@ ghost use Rattle.kernel_model.specs.Instructions.{row_of, is_register_field, is_
 
 mod classes;
 pub mod laws;
-#[cfg(test)]
-mod tests;
 
 pub use classes::{access_mask, ends_well, is_end, is_jump, names_register};
 pub use kernel_model::{Fields, Instr, IsaFault, Op};

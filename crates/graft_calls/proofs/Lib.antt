@@ -17,4 +17,3 @@ mod Needing
 mod Asking
 mod Stepping
 mod NextNeeds
-mod Standing

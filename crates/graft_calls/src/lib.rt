@@ -17,8 +17,6 @@ mod needs;
 mod points;
 mod returns;
 mod segments;
-#[cfg(test)]
-mod tests;
 
 use graft_machine::Machine;
 pub use levels::{Levels, MOST_LEVELS};

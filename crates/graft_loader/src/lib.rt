@@ -21,8 +21,6 @@ use thiserror::Error;
 mod images;
 mod mac;
 mod sealing;
-#[cfg(test)]
-mod tests;
 
 pub use gm_isa::{Instr, Op};
 pub use images::Images;

@@ -126,13 +126,11 @@ impl<C: Calls> Kernel<C> {
         self.running.add_image(slot, image);
     }
 
-    /// The number of the call that process p has in flight.
+    /// The number of the call that process p has in flight. None past the last process.
     pub fn left(&self, p: u8) -> Option<u32>
-        requires process { p < 16 }
-        requires running { IsRunning (λ b. seen (b.vtable, b.value)) (λ w. C.caller w) self.now.running }
         ensures { result ≡ option_map (λ (c : PlacedCall). c.number) ((placed_of (λ b. seen (b.vtable, b.value)) (λ w. C.stage w) self.now.running).call p) }
     {
-        self.running.left(p)
+        self.running.call_number(p)
     }
 
     /// One event, which has this number. Its notes are left behind. No memory is taken.

@@ -12,8 +12,6 @@ mod graft_values;
 mod policies;
 mod processes;
 mod shown;
-#[cfg(test)]
-mod tests;
 
 use buffer_cache::Cache;
 use graft_accounts::Accounts;

@@ -14,8 +14,6 @@ mod running;
 mod shown;
 mod steps;
 mod still;
-#[cfg(test)]
-mod tests;
 mod waits;
 
 pub use blocking::Hindrance;

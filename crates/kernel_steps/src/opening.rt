@@ -1,6 +1,6 @@
-//! How a kernel begins again, how images are added, and which calls are left.
+//! How a kernel begins again, and how images are added.
 
-ghost use Rattle.std.specs.Prelude.{◌≡◌, ℕ, ◌<◌, ◌≤◌, true, None, Some, is_some, length, option_map, slice_index_or};
+ghost use Rattle.std.specs.Prelude.{◌≡◌, ℕ, ◌<◌, ◌≤◌, true, None, Some, is_some, length, slice_index_or};
 ghost use Rattle.kernel_model.specs.declared.FileRow.{FileRow as Row};
 ghost use Rattle.kernel_model.specs.Directory.{lies_on_disk};
 ghost use Rattle.kernel_model.specs.Kernel.{Kernel};
@@ -10,11 +10,9 @@ ghost use Rattle.kernel_model.specs.Sound.{IsAtRest};
 ghost use Rattle.graft_points.specs.Shelf.{pol_of, first_choice};
 ghost use Rattle.kernel_state.specs.Stores.{world_for, world_of_store, objects_of, views_of, IsStore};
 ghost use Rattle.graft_loader.specs.Slots.{table_of};
-ghost use Rattle.placed_laws.specs.Placed.{PlacedCall};
 ghost use Rattle.placed_laws.specs.Stands.{StandsFor};
 ghost use Rattle.kernel_steps.specs.Views.{placed_of, IsRunning, IsQuiet, Stood};
 
-use crate::blocking::flight;
 use crate::running::Running;
 use call_pieces::Calls;
 use graft_loader::Loaded;
@@ -76,14 +74,5 @@ impl<C: Calls> Running<C> {
         keeping::others_stand::<C::Meaning>();
         keeping::images_keep_rest::<C::Meaning>();
         self.images.add(slot, image);
-    }
-
-    /// The number of the call that process p has in flight.
-    pub fn left(&self, p: u8) -> Option<u32>
-        requires process { p < 16 }
-        requires running { IsRunning (λ b. seen (b.vtable, b.value)) (λ w. C.caller w) self.now }
-        ensures { result ≡ option_map (λ (c : PlacedCall). c.number) ((placed_of (λ b. seen (b.vtable, b.value)) (λ w. C.stage w) self.now).call p) }
-    {
-        flight(&self.calls, p).call.as_ref().map(|call| call.number)
     }
 }

@@ -221,13 +221,31 @@ mod tests {
 
     #[test]
     fn waits_as_long_as_the_patience_lasts(rt: HostRuntime) -> Result<(), Fail> {
-        let script =
-            "patience lock 2\npatience cache 1000\nboot\nspawn 0\nlock 0 0\nlock 1 0\ntick\ntick\n";
-        let lines =
-            "0 boot 8 64 3\n1 ok 1\n2 ok\n3 waits Lock(0) 0\n4 tick 1\n5 tick 2\n3 E17 Lock(0) 0\n";
-        let ran = run_words(rt.alloc(), &["run", KEY], script, 0, 0)?;
-        assert_eq!(rt; ran.status, 0);
-        assert!(rt; ran.written.bytes() == lines.as_bytes());
+        let cases = [
+            (
+                "patience lock 2\npatience cache 1000\nboot\nspawn 0\nlock 0 0\nlock 1 0\ntick\ntick\n",
+                "0 boot 8 64 3\n1 ok 1\n2 ok\n3 waits Lock(0) 0\n4 tick 1\n5 tick 2\n3 E17 Lock(0) 0\n",
+            ),
+            // Who came first is served first. The other has another blocker then, and counts from 0 again.
+            (
+                "patience lock 3\nboot\nspawn 0\nspawn 0\nspawn 0\nlock 1 5\nlock 3 5\nlock 2 5\ntick\ntick\n\
+                unlock 1 5\ntick\ntick\ntick\n",
+                "0 boot 8 64 3\n1 ok 1\n2 ok 2\n3 ok 3\n4 ok\n5 waits Lock(5) 1\n6 waits Lock(5) 1\n7 tick 1\n8 tick 2\n\
+                9 ok\n5 ok\n10 tick 3\n11 tick 4\n12 tick 5\n6 E17 Lock(5) 3\n",
+            ),
+            // Two time out at one tick, the first first; who came a tick later doesn't.
+            (
+                "patience lock 3\nboot\nspawn 0\nspawn 0\nspawn 0\nlock 1 5\nlock 3 5\nlock 2 5\ntick\nlock 0 5\ntick\n\
+                tick\nunlock 1 5\n",
+                "0 boot 8 64 3\n1 ok 1\n2 ok 2\n3 ok 3\n4 ok\n5 waits Lock(5) 1\n6 waits Lock(5) 1\n7 tick 1\n\
+                8 waits Lock(5) 1\n9 tick 2\n10 tick 3\n5 E17 Lock(5) 1\n6 E17 Lock(5) 1\n11 ok\n8 ok\n",
+            ),
+        ];
+        for (script, lines) in cases {
+            let ran = run_words(rt.alloc(), &["run", KEY], script, 0, 0)?;
+            assert_eq!(rt; ran.status, 0, "on {script:?}");
+            assert!(rt; ran.written.bytes() == lines.as_bytes(), "on {script:?}");
+        }
         Ok(())
     }
 

@@ -4,8 +4,8 @@ use Rattle.std.specs.Prelude.{codes, is_ok}
 use Rattle.std.specs.Result.{result_ok}
 use Rattle.std.proofs.lemmas.Bool.Decides.{nat_tests}
 use Rattle.hex.specs.declared.error.FromHexError.{FromHexError}
-use Rattle.hex.specs.Hex.{hex_digit_value, digit_or_error, decode_pairs, decode_of, decode_sized, encode_with, ◌>>=◌}
-use Rattle.kernel_model.specs.Bytes.{hex_digit, hex_text, hex_value, byte_before, hex_bytes}
+use Rattle.hex.specs.Hex.{hex_digit_value, digit_or_error, decode_pairs, decode_of, decode_sized, ◌>>=◌}
+use Rattle.kernel_model.specs.Bytes.{hex_value, byte_before, hex_bytes}
 use Rattle.script_text.specs.Words.{decoded}
 
 -- a digit has one value
@@ -52,9 +52,3 @@ pub decoded-sized : (r : Result (List ℕ) FromHexError) (result : Result (Unit 
     → MatchResult r (λ bytes. (result ≡ Ok tt) × (out ≡ bytes)) (λ e. result ≡ Err e) → decoded (is_ok result) out ≡ result_ok r
 decoded-sized (Ok bytes) result out h = rw (h.0, h.1) refl
 decoded-sized (Err e) result out h = rw h refl
-
--- bytes as digits of lower case
-pub encode_with-lower : (bytes : List ℕ) → encode_with (codes "0123456789abcdef") bytes ≡ hex_text bytes
-unfolding encode_with
-encode_with-lower [] = refl
-encode_with-lower (b ∷ bytes) = ap (λ text. hex_digit (b / 16) ∷ hex_digit (b % 16) ∷ text) (encode_with-lower bytes)

@@ -87,7 +87,7 @@ outcome_is : (c : Place) (a : Session) (taken : List ℕ) (e : Ending) (ios : Li
 outcome_is c a taken e ios first =
     ap (λ (x : Session). outcome_of e (lines_run c x (script_lines taken) ios) (pieces_run c x (script_lines taken) ios) (rest_after [] (take SCRIPT_BYTES taken))) (sym first)
 
--- an outcome of this status, which writes these bytes behind the pieces, and has the blocks of this session
+-- an outcome of this status, which writes these bytes behind the pieces, and has the blocks of that session
 record EndsSo (o : Outcome) (a : Session) (pieces : List (List ℕ)) (status : ℕ) (last : List ℕ) : Type 0 where
   status_is : status ≡ o.status
   bytes : written o ≡ concat pieces ++ last

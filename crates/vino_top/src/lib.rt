@@ -107,7 +107,7 @@ fn write_usage<K: Sink>(out: &mut K) -> u8
     ensures sink_failed { result ≡ 4 → Rose (K.faults out.old) (K.faults out.new) }
     ensures sink_later { K.faults out.old ≤ K.faults out.new }
 {
-    match output::write_all(out, script_text::usage()) {
+    match output::write_all(out, line_text::usage()) {
         Ok(()) => 1,
         Err(_) => 4,
     }

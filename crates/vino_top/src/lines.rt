@@ -10,7 +10,7 @@ ghost use Rattle.vino_top.specs.Standing.{caller_of, placed_left_line, placed_le
 use call_pieces::Plain;
 use kernel_core::{Kernel, Notes};
 use kernel_model::{NoMemory, PROCESSES};
-use script_text::{Text, print_left, print_note, print_row};
+use line_text::{Text, print_left, print_note, print_row};
 use std::alloc::Global;
 use std::marker::Model;
 
@@ -83,9 +83,7 @@ impl Lines {
 
     /// The line of process p's call, if it has one in flight.
     fn add_left_of(&mut self, kernel: &Kernel<Plain>, p: u8, text: &mut Text)
-        requires process { p < 16 }
         requires room { length self.old + 2048 ≤ 3028992 }
-        requires running { IsRunning (λ b. seen (b.vtable, b.value)) caller_of kernel.now.running }
         ensures value { self.new ≡ self.old ++ placed_left_line p ((placed_of (λ b. seen (b.vtable, b.value)) stage_of kernel.now.running).call p) }
         ensures fits { length self.new ≤ length self.old + 2048 }
     {
@@ -97,8 +95,7 @@ impl Lines {
 
     /// The lines of the calls that a kernel has left in flight, one for each.
     pub fn add_left(&mut self, kernel: &Kernel<Plain>, text: &mut Text)
-        requires empty { self.old ≡ [] }
-        requires running { IsRunning (λ b. seen (b.vtable, b.value)) caller_of kernel.now.running }
+        requires { self.old ≡ [] }
         ensures { self.new ≡ placed_left_lines (placed_of (λ b. seen (b.vtable, b.value)) stage_of kernel.now.running) }
     {
         for p in 0..PROCESSES as u8 {

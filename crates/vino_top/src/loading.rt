@@ -7,7 +7,7 @@ ghost use Rattle.vino_top.specs.Loading.{image_of, load_text};
 
 use graft_loader::{LoadFault, Loaded, load};
 use kernel_model::NoMemory;
-use script_text::{Text, print_loaded, print_unloaded, print_unloaded_at};
+use line_text::{Text, print_loaded, print_unloaded, print_unloaded_at};
 use std::alloc::Global;
 
 /// The line of event n that an image isn't loaded, by its L code.

@@ -21,10 +21,11 @@ use graft_loader::Images;
 use graft_points::Policy;
 use kernel_core::{BootNote, Kernel, Notes, Setup};
 use kernel_model::{Event, NoMemory, Note, Refusal};
+use line_text::{Text, print_boot, print_fault, print_note};
 use placed_laws::agreeing;
 use plain_rules::PlainRules;
 use ram_space::Ram;
-use script_text::{Entry, ScriptFault, Text, parse_line, print_boot, print_fault, print_note};
+use script_text::{Entry, ScriptFault, parse_line};
 use std::alloc::Global;
 use vino_base::Disk;
 
@@ -300,7 +301,6 @@ impl Session {
 
     /// The lines of the calls that are left in flight, at the end of the input.
     pub fn left(&self, out: &mut Buffers)
-        requires within { (size : ℕ) × IsSessionWithin (λ b. seen (b.vtable, b.value)) size self.now }
         ensures { out.new.lines ≡ last_bytes (seen_of (λ b. seen (b.vtable, b.value)) self.now) [] }
     {
         out.clear();

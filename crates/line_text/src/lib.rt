@@ -1,0 +1,17 @@
+//! The lines that the kernel writes: of notes, of raw rows, and the few others.
+//!
+//! Their formats stand in `docs/FORMATS.md`.
+#![tactic(auto)]
+
+mod append;
+mod ends;
+mod print;
+mod rows;
+mod text;
+
+pub use ends::{
+    print_boot, print_fault, print_left, print_loaded, print_unloaded, print_unloaded_at, usage,
+};
+pub use print::print_note;
+pub use rows::print_row;
+pub use text::Text;

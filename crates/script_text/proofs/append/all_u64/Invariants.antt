@@ -1,9 +1,0 @@
-use Rattle.std.proofs.Common.{◌≡◌, ◌≤◌, ◌+◌, ◌*◌, ◌++◌, length, take}
-use Rattle.kernel_model.specs.Text.{all_spaced}
-use Rattle.script_text.proofs.append.all_u64.Given as goal
-
-abbrev pub invariant-loop-n : goal.invariant-loop-n
-invariant-loop-n l = record {
-  text : l.out.items ≡ l.initial.out.items ++ all_spaced (take l.n-index l.ns);
-  len : length l.out.items ≤ length l.initial.out.items + 21 * l.n-index;
-}

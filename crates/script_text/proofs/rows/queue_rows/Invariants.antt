@@ -1,9 +1,0 @@
-use Rattle.std.proofs.Common.{◌≡◌, ◌≤◌, ◌+◌, ◌*◌, ◌++◌, length, take, flat_map}
-use Rattle.kernel_model.specs.Text.{queue_text}
-use Rattle.script_text.proofs.rows.queue_rows.Given as goal
-
-abbrev pub invariant-loop-r : goal.invariant-loop-r
-invariant-loop-r l = record {
-  text : l.out.items ≡ l.initial.out.items ++ flat_map queue_text (take l.r-index l.rows);
-  len : length l.out.items ≤ length l.initial.out.items + 19 * l.r-index;
-}
