@@ -49,9 +49,9 @@ fn booted(alloc: Global, shelf: Vec<Box<dyn Policy>>) -> Result<Store, Fail>
 
 /// Process 0 gives 300 records to process 1, which hasn't one more to give back.
 fn gives_records(store: &mut Store) -> bool
-    requires sound { IsStore (λ b. seen b) store.old }
+    requires sound { IsStore (λ b. seen (b.vtable, b.value)) store.old }
     requires root { lives (queue_of store.old) 0 ≡ true }
-    ensures sound { IsStore (λ b. seen b) store.new }
+    ensures sound { IsStore (λ b. seen (b.vtable, b.value)) store.new }
     ensures root { lives (queue_of store.new) 0 ≡ true }
     ensures size { store.new.size ≡ store.old.size }
 {
@@ -64,8 +64,8 @@ fn gives_records(store: &mut Store) -> bool
 
 /// Process 1 leaves.
 fn leaves(store: &mut Store) -> bool
-    requires sound { IsStore (λ b. seen b) store.old }
-    ensures sound { IsStore (λ b. seen b) store.new }
+    requires sound { IsStore (λ b. seen (b.vtable, b.value)) store.old }
+    ensures sound { IsStore (λ b. seen (b.vtable, b.value)) store.new }
 {
     if !store.living(1) {
         return false;
@@ -76,10 +76,10 @@ fn leaves(store: &mut Store) -> bool
 
 /// Uses a block: touches its frame, or puts it into a free one, or into that of the candidate.
 fn bring(store: &mut Store, block: u32, bytes: &[u8; 512])
-    requires sound { IsStore (λ b. seen b) store.old }
+    requires sound { IsStore (λ b. seen (b.vtable, b.value)) store.old }
     requires root { lives (queue_of store.old) 0 ≡ true }
     requires block { block < store.old.size }
-    ensures sound { IsStore (λ b. seen b) store.new }
+    ensures sound { IsStore (λ b. seen (b.vtable, b.value)) store.new }
     ensures root { lives (queue_of store.new) 0 ≡ true }
     ensures size { store.new.size ≡ store.old.size }
 {
@@ -98,10 +98,10 @@ fn bring(store: &mut Store, block: u32, bytes: &[u8; 512])
 
 /// Changes four bytes of a block that is in a frame.
 fn change(store: &mut Store, block: u32, off: u32, bytes: &[u8; 4])
-    requires sound { IsStore (λ b. seen b) store.old }
+    requires sound { IsStore (λ b. seen (b.vtable, b.value)) store.old }
     requires root { lives (queue_of store.old) 0 ≡ true }
     requires inside { off + 4 ≤ 512 }
-    ensures sound { IsStore (λ b. seen b) store.new }
+    ensures sound { IsStore (λ b. seen (b.vtable, b.value)) store.new }
     ensures root { lives (queue_of store.new) 0 ≡ true }
     ensures size { store.new.size ≡ store.old.size }
 {
@@ -112,9 +112,9 @@ fn change(store: &mut Store, block: u32, off: u32, bytes: &[u8; 4])
 
 /// The frame of a block is clean.
 fn wash(store: &mut Store, block: u32)
-    requires sound { IsStore (λ b. seen b) store.old }
+    requires sound { IsStore (λ b. seen (b.vtable, b.value)) store.old }
     requires root { lives (queue_of store.old) 0 ≡ true }
-    ensures sound { IsStore (λ b. seen b) store.new }
+    ensures sound { IsStore (λ b. seen (b.vtable, b.value)) store.new }
     ensures root { lives (queue_of store.new) 0 ≡ true }
     ensures size { store.new.size ≡ store.old.size }
 {
@@ -240,11 +240,11 @@ fn the_chosen_policy_answers_with_its_parameter(rt: HostRuntime) -> Result<(), F
 
 /// The result of an accessor for a graft of root. None where it is refused.
 fn call(store: &mut Store, id: u32, args: [u32; 3]) -> Option<u32>
-    requires sound { IsStore (λ b. seen b) store.old }
+    requires sound { IsStore (λ b. seen (b.vtable, b.value)) store.old }
     requires root { lives (queue_of store.old) 0 ≡ true }
     requires plain { id ≤ 12 }
     requires early { early_refusal 15 id (slice_index args 0) (slice_index args 1) 0 ≡ None }
-    ensures sound { IsStore (λ b. seen b) store.new }
+    ensures sound { IsStore (λ b. seen (b.vtable, b.value)) store.new }
     ensures root { lives (queue_of store.new) 0 ≡ true }
 {
     match store.access(id, args, 0) {
@@ -299,12 +299,12 @@ fn records_put_values_back(rt: HostRuntime) -> Result<(), Fail> {
 
 /// An accessor of a graft of root tunes reading ahead.
 fn tunes(store: &mut Store, blocks: u32) -> Option<Inverse>
-    requires sound { IsStore (λ b. seen b) store.old }
+    requires sound { IsStore (λ b. seen (b.vtable, b.value)) store.old }
     requires root { lives (queue_of store.old) 0 ≡ true }
-    ensures sound { IsStore (λ b. seen b) store.new }
+    ensures sound { IsStore (λ b. seen (b.vtable, b.value)) store.new }
     ensures root { lives (queue_of store.new) 0 ≡ true }
-    ensures undoable { IfSome result (λ i. CanBeUndone i (objects_of (λ b. seen b) store.new).things) }
-    ensures kept { (i : Inverses) → CanBeUndone i (objects_of (λ b. seen b) store.old).things → CanBeUndone i (objects_of (λ b. seen b) store.new).things }
+    ensures undoable { IfSome result (λ i. CanBeUndone i (objects_of (λ b. seen (b.vtable, b.value)) store.new).things) }
+    ensures kept { (i : Inverses) → CanBeUndone i (objects_of (λ b. seen (b.vtable, b.value)) store.old).things → CanBeUndone i (objects_of (λ b. seen (b.vtable, b.value)) store.new).things }
 {
     match store.access(ids::TUNE_SET, [0, 0, blocks], 0) {
         Ok(access) => access.inverse,
@@ -314,10 +314,10 @@ fn tunes(store: &mut Store, blocks: u32) -> Option<Inverse>
 
 /// Puts back what a record names, if there is one.
 fn puts_back(store: &mut Store, found: Option<Inverse>)
-    requires sound { IsStore (λ b. seen b) store.old }
-    requires undoable { IfSome found (λ i. CanBeUndone i (objects_of (λ b. seen b) store.old).things) }
-    ensures sound { IsStore (λ b. seen b) store.new }
-    ensures kept { (i : Inverses) → CanBeUndone i (objects_of (λ b. seen b) store.old).things → CanBeUndone i (objects_of (λ b. seen b) store.new).things }
+    requires sound { IsStore (λ b. seen (b.vtable, b.value)) store.old }
+    requires undoable { IfSome found (λ i. CanBeUndone i (objects_of (λ b. seen (b.vtable, b.value)) store.old).things) }
+    ensures sound { IsStore (λ b. seen (b.vtable, b.value)) store.new }
+    ensures kept { (i : Inverses) → CanBeUndone i (objects_of (λ b. seen (b.vtable, b.value)) store.old).things → CanBeUndone i (objects_of (λ b. seen (b.vtable, b.value)) store.new).things }
 {
     if let Some(inverse) = found {
         store.undo(inverse);
@@ -326,7 +326,7 @@ fn puts_back(store: &mut Store, found: Option<Inverse>)
 
 /// A policy from outside is tuned to 5 and to 6, and put back to 5 and to 2.
 fn tunes_and_puts_back(store: &mut Store)
-    requires sound { IsStore (λ b. seen b) store.old }
+    requires sound { IsStore (λ b. seen (b.vtable, b.value)) store.old }
     requires root { lives (queue_of store.old) 0 ≡ true }
 {
     let first = tunes(store, 5);
