@@ -15,6 +15,7 @@ use kernel_state::{Setup, Store};
 use mem_disk::{MemDisk, read_directory};
 use ram_space::Ram;
 use std::alloc::Global;
+use std::process::Abort;
 use std::test::Fail;
 use vino_base::Disk;
 
@@ -211,30 +212,19 @@ fn tally(tests: &[bool; 7]) -> (u8, u8) {
     (first, count)
 }
 
-#[test]
-fn a_read_gives_the_bytes_of_its_block(rt: HostRuntime) -> Result<(), Fail> {
-    let alloc = rt.alloc();
-    let shelf = shelf_with!(alloc, RaSeq::new());
-    assert!(rt; is_stock(&shelf));
-    let mut disk = MemDisk::sample(alloc, Vec::new(alloc))?;
-    let mut store = booted(alloc, shelf, &mut disk)?;
+fn a_read_gives_the_bytes_of_its_block(rt: &impl Abort, store: &mut Store, disk: &mut MemDisk)
+    requires { IsStore (λ b. seen (b.vtable, b.value)) store.old }
+{
     let unknown = SysCall::OpenName(name_of(b"a"));
-    assert_eq!(rt; call(&mut store, &mut disk, 0, unknown), Came::NoFile);
+    assert_eq!(rt; call(store, disk, 0, unknown), Came::NoFile);
     let closed = SysCall::Read(0, 0, 0, 1);
-    assert_eq!(rt; call(&mut store, &mut disk, 0, closed), Came::BadFd);
-    assert_eq!(rt; seven(&mut store, &mut disk), (0, 0));
-    assert!(rt; gives(&mut store, &mut disk, 0, 510, b"\x1d\x1e"));
-    assert!(rt; gives(&mut store, &mut disk, 1, 0, b"xy\x40"));
-    assert_eq!(rt; call(&mut store, &mut disk, 0, SysCall::Sync), Came::One(0));
-    assert_eq!(rt;
-        call(&mut store, &mut disk, 0, SysCall::CloseFd(0)),
-        Came::Plain
-    );
-    assert_eq!(rt;
-        call(&mut store, &mut disk, 0, SysCall::CloseFd(0)),
-        Came::BadFd
-    );
-    Ok(())
+    assert_eq!(rt; call(store, disk, 0, closed), Came::BadFd);
+    assert_eq!(rt; seven(store, disk), (0, 0));
+    assert!(rt; gives(store, disk, 0, 510, b"\x1d\x1e"));
+    assert!(rt; gives(store, disk, 1, 0, b"xy\x40"));
+    assert_eq!(rt; call(store, disk, 0, SysCall::Sync), Came::One(0));
+    assert_eq!(rt; call(store, disk, 0, SysCall::CloseFd(0)), Came::Plain);
+    assert_eq!(rt; call(store, disk, 0, SysCall::CloseFd(0)), Came::BadFd);
 }
 
 #[test]
@@ -257,236 +247,136 @@ fn each_call_of_the_disk_fails_in_turn(rt: HostRuntime) -> Result<(), Fail> {
     Ok(())
 }
 
-#[test]
-fn cells_keep_what_was_put(rt: HostRuntime) -> Result<(), Fail> {
-    let alloc = rt.alloc();
-    let shelf = shelf_with!(alloc, RaSeq::new());
-    assert!(rt; is_stock(&shelf));
-    let mut disk = MemDisk::sample(alloc, Vec::new(alloc))?;
-    let mut store = booted(alloc, shelf, &mut disk)?;
-    assert_eq!(rt;
-        call(&mut store, &mut disk, 0, SysCall::Poke(3, 77)),
-        Came::Plain
-    );
-    assert_eq!(rt;
-        call(&mut store, &mut disk, 0, SysCall::Peek(3)),
-        Came::One(77)
-    );
-    assert_eq!(rt;
-        call(&mut store, &mut disk, 0, SysCall::Peek(4)),
-        Came::BadIndex
-    );
-    Ok(())
+fn cells_keep_what_was_put(rt: &impl Abort, store: &mut Store, disk: &mut MemDisk)
+    requires { IsStore (λ b. seen (b.vtable, b.value)) store.old }
+{
+    assert_eq!(rt; call(store, disk, 0, SysCall::Poke(3, 77)), Came::Plain);
+    assert_eq!(rt; call(store, disk, 0, SysCall::Peek(3)), Came::One(77));
+    assert_eq!(rt; call(store, disk, 0, SysCall::Peek(4)), Came::BadIndex);
 }
 
-#[test]
-fn a_parameter_is_set_within_its_range_and_kept(rt: HostRuntime) -> Result<(), Fail> {
-    let alloc = rt.alloc();
-    let shelf = shelf_with!(alloc, RaSeq::new());
-    assert!(rt; is_stock(&shelf));
-    let mut disk = MemDisk::sample(alloc, Vec::new(alloc))?;
-    let mut store = booted(alloc, shelf, &mut disk)?;
+fn a_parameter_is_set_within_its_range_and_kept(
+    rt: &impl Abort,
+    store: &mut Store,
+    disk: &mut MemDisk,
+)
+    requires { IsStore (λ b. seen (b.vtable, b.value)) store.old }
+{
+    assert_eq!(rt; call(store, disk, 0, SysCall::Tune(0, 0, 8)), Came::Plain);
     assert_eq!(rt;
-        call(&mut store, &mut disk, 0, SysCall::Tune(0, 0, 8)),
-        Came::Plain
-    );
-    assert_eq!(rt;
-        call(&mut store, &mut disk, 0, SysCall::Tune(0, 0, 9)),
+        call(store, disk, 0, SysCall::Tune(0, 0, 9)),
         Came::BadIndex
     );
     assert_eq!(rt;
-        call(&mut store, &mut disk, 0, SysCall::Tune(0, 1, 2)),
+        call(store, disk, 0, SysCall::Tune(0, 1, 2)),
         Came::BadIndex
     );
     assert_eq!(rt;
-        call(&mut store, &mut disk, 0, SysCall::Tune(1, 0, 0)),
+        call(store, disk, 0, SysCall::Tune(1, 0, 0)),
         Came::BadIndex
     );
     assert_eq!(rt;
-        call(&mut store, &mut disk, 0, SysCall::Tune(3, 0, 0)),
+        call(store, disk, 0, SysCall::Tune(3, 0, 0)),
         Came::BadPoint
     );
     assert_eq!(rt; store.param(0), Some(8));
-    assert_eq!(rt;
-        call(&mut store, &mut disk, 0, SysCall::Choose(0, 3)),
-        Came::BadPoint
-    );
-    assert_eq!(rt;
-        call(&mut store, &mut disk, 0, SysCall::Choose(0, 2)),
-        Came::Plain
-    );
+    assert_eq!(rt; call(store, disk, 0, SysCall::Choose(0, 3)), Came::BadPoint);
+    assert_eq!(rt; call(store, disk, 0, SysCall::Choose(0, 2)), Came::Plain);
     assert_eq!(rt; store.param(0), Some(1));
-    assert_eq!(rt;
-        call(&mut store, &mut disk, 0, SysCall::Choose(0, 1)),
-        Came::Plain
-    );
+    assert_eq!(rt; call(store, disk, 0, SysCall::Choose(0, 1)), Came::Plain);
     assert_eq!(rt; store.param(0), Some(8));
-    Ok(())
 }
 
-#[test]
-fn more_than_there_is_is_not_given(rt: HostRuntime) -> Result<(), Fail> {
-    let alloc = rt.alloc();
-    let shelf = shelf_with!(alloc, RaSeq::new());
-    assert!(rt; is_stock(&shelf));
-    let mut disk = MemDisk::sample(alloc, Vec::new(alloc))?;
-    let mut store = booted(alloc, shelf, &mut disk)?;
+fn more_than_there_is_is_not_given(rt: &impl Abort, store: &mut Store, disk: &mut MemDisk)
+    requires { IsStore (λ b. seen (b.vtable, b.value)) store.old }
+{
     let records = SysCall::Give(1, Kind::Records, 300);
-    assert_eq!(rt; call(&mut store, &mut disk, 0, records), Came::NoProcess);
-    assert_eq!(rt;
-        call(&mut store, &mut disk, 0, SysCall::Spawn),
-        Came::One(1)
-    );
+    assert_eq!(rt; call(store, disk, 0, records), Came::NoProcess);
+    assert_eq!(rt; call(store, disk, 0, SysCall::Spawn), Came::One(1));
     let records = SysCall::Give(1, Kind::Records, 300);
-    assert_eq!(rt; call(&mut store, &mut disk, 0, records), Came::Plain);
+    assert_eq!(rt; call(store, disk, 0, records), Came::Plain);
     let more = SysCall::Give(1, Kind::Records, 701);
-    assert_eq!(rt; call(&mut store, &mut disk, 0, more), Came::Short(700));
+    assert_eq!(rt; call(store, disk, 0, more), Came::Short(700));
     let back = SysCall::Give(0, Kind::Records, 301);
-    assert_eq!(rt; call(&mut store, &mut disk, 1, back), Came::Short(300));
-    assert_eq!(rt;
-        call(&mut store, &mut disk, 1, SysCall::Tune(3, 0, 0)),
-        Came::Denied
-    );
-    Ok(())
+    assert_eq!(rt; call(store, disk, 1, back), Came::Short(300));
+    assert_eq!(rt; call(store, disk, 1, SysCall::Tune(3, 0, 0)), Came::Denied);
 }
 
-#[test]
-fn what_a_process_leaves_is_roots(rt: HostRuntime) -> Result<(), Fail> {
-    let alloc = rt.alloc();
-    let shelf = shelf_with!(alloc, RaSeq::new());
-    assert!(rt; is_stock(&shelf));
-    let mut disk = MemDisk::sample(alloc, Vec::new(alloc))?;
-    let mut store = booted(alloc, shelf, &mut disk)?;
-    assert_eq!(rt;
-        call(&mut store, &mut disk, 0, SysCall::Spawn),
-        Came::One(1)
-    );
+fn what_a_process_leaves_is_roots(rt: &impl Abort, store: &mut Store, disk: &mut MemDisk)
+    requires { IsStore (λ b. seen (b.vtable, b.value)) store.old }
+{
+    assert_eq!(rt; call(store, disk, 0, SysCall::Spawn), Came::One(1));
     let locks = SysCall::Give(1, Kind::Locks, 1000);
-    assert_eq!(rt; call(&mut store, &mut disk, 0, locks), Came::Plain);
+    assert_eq!(rt; call(store, disk, 0, locks), Came::Plain);
     let open = SysCall::OpenName(name_of(b"gamma"));
-    assert_eq!(rt; call(&mut store, &mut disk, 1, open), Came::One(0));
+    assert_eq!(rt; call(store, disk, 1, open), Came::One(0));
     let write = SysCall::Write(0, 2, 75, list_of(b"q"));
-    assert_eq!(rt; call(&mut store, &mut disk, 1, write), Came::Plain);
-    assert_eq!(rt;
-        call(&mut store, &mut disk, 1, SysCall::TakeLock(4)),
-        Came::Plain
-    );
+    assert_eq!(rt; call(store, disk, 1, write), Came::Plain);
+    assert_eq!(rt; call(store, disk, 1, SysCall::TakeLock(4)), Came::Plain);
     assert_eq!(rt; store.candidate_of(1), Some(0));
-    assert_eq!(rt; call(&mut store, &mut disk, 1, SysCall::Exit), Came::Plain);
-    assert_eq!(rt;
-        call(&mut store, &mut disk, 1, SysCall::Exit),
-        Came::NoProcess
-    );
-    assert_eq!(rt; call(&mut store, &mut disk, 0, SysCall::Exit), Came::Denied);
+    assert_eq!(rt; call(store, disk, 1, SysCall::Exit), Came::Plain);
+    assert_eq!(rt; call(store, disk, 1, SysCall::Exit), Came::NoProcess);
+    assert_eq!(rt; call(store, disk, 0, SysCall::Exit), Came::Denied);
     assert_eq!(rt; store.candidate_of(0), Some(0));
     assert_eq!(rt; store.candidate_of(1), None);
     let all = SysCall::Give(0, Kind::Locks, 1001);
-    assert_eq!(rt; call(&mut store, &mut disk, 0, all), Came::Short(1000));
-    assert_eq!(rt;
-        call(&mut store, &mut disk, 0, SysCall::TakeLock(4)),
-        Came::Plain
-    );
-    Ok(())
+    assert_eq!(rt; call(store, disk, 0, all), Came::Short(1000));
+    assert_eq!(rt; call(store, disk, 0, SysCall::TakeLock(4)), Came::Plain);
 }
 
-#[test]
-fn a_graft_stands_once_and_gives_back_what_it_has(rt: HostRuntime) -> Result<(), Fail> {
-    let alloc = rt.alloc();
-    let shelf = shelf_with!(alloc, RaSeq::new());
-    assert!(rt; is_stock(&shelf));
-    let mut disk = MemDisk::sample(alloc, Vec::new(alloc))?;
-    let mut store = booted(alloc, shelf, &mut disk)?;
+fn a_graft_stands_once_and_gives_back_what_it_has(
+    rt: &impl Abort,
+    store: &mut Store,
+    disk: &mut MemDisk,
+)
+    requires { IsStore (λ b. seen (b.vtable, b.value)) store.old }
+{
     assert_eq!(rt;
-        call(&mut store, &mut disk, 0, SysCall::Install(6, 1, 0)),
+        call(store, disk, 0, SysCall::Install(6, 1, 0)),
         Came::BadPoint
     );
     assert_eq!(rt;
-        call(&mut store, &mut disk, 0, SysCall::Install(5, 1, 0)),
+        call(store, disk, 0, SysCall::Install(5, 1, 0)),
         Came::BadIndex
     );
     assert_eq!(rt;
-        call(&mut store, &mut disk, 0, SysCall::Install(5, 1, 9)),
+        call(store, disk, 0, SysCall::Install(5, 1, 9)),
         Came::NoImage
     );
     assert_eq!(rt;
-        call(&mut store, &mut disk, 0, SysCall::Install(5, 2, 9)),
+        call(store, disk, 0, SysCall::Install(5, 2, 9)),
         Came::Plain
     );
     assert_eq!(rt;
-        call(&mut store, &mut disk, 0, SysCall::Install(5, 2, 9)),
+        call(store, disk, 0, SysCall::Install(5, 2, 9)),
         Came::Taken
     );
     let fund = SysCall::Fund(5, Kind::Steps, 400);
-    assert_eq!(rt; call(&mut store, &mut disk, 0, fund), Came::Plain);
+    assert_eq!(rt; call(store, disk, 0, fund), Came::Plain);
     let more = SysCall::Fund(5, Kind::Steps, 601);
-    assert_eq!(rt; call(&mut store, &mut disk, 0, more), Came::Short(600));
-    assert_eq!(rt;
-        call(&mut store, &mut disk, 0, SysCall::Bill(4)),
-        Came::NoGraft
-    );
-    assert_eq!(rt;
-        call(&mut store, &mut disk, 0, SysCall::Bill(5)),
-        Came::Plain
-    );
-    assert_eq!(rt;
-        call(&mut store, &mut disk, 0, SysCall::Remove(5)),
-        Came::Plain
-    );
-    assert_eq!(rt;
-        call(&mut store, &mut disk, 0, SysCall::Remove(5)),
-        Came::NoGraft
-    );
+    assert_eq!(rt; call(store, disk, 0, more), Came::Short(600));
+    assert_eq!(rt; call(store, disk, 0, SysCall::Bill(4)), Came::NoGraft);
+    assert_eq!(rt; call(store, disk, 0, SysCall::Bill(5)), Came::Plain);
+    assert_eq!(rt; call(store, disk, 0, SysCall::Remove(5)), Came::Plain);
+    assert_eq!(rt; call(store, disk, 0, SysCall::Remove(5)), Came::NoGraft);
     let gone = SysCall::Fund(5, Kind::Steps, 1001);
-    assert_eq!(rt; call(&mut store, &mut disk, 0, gone), Came::NoGraft);
+    assert_eq!(rt; call(store, disk, 0, gone), Came::NoGraft);
     let all = SysCall::Give(0, Kind::Steps, 1001);
-    assert_eq!(rt; call(&mut store, &mut disk, 0, all), Came::Short(1000));
-    Ok(())
+    assert_eq!(rt; call(store, disk, 0, all), Came::Short(1000));
 }
 
-#[test]
-fn only_its_holder_frees_a_lock(rt: HostRuntime) -> Result<(), Fail> {
-    let alloc = rt.alloc();
-    let shelf = shelf_with!(alloc, RaSeq::new());
-    assert!(rt; is_stock(&shelf));
-    let mut disk = MemDisk::sample(alloc, Vec::new(alloc))?;
-    let mut store = booted(alloc, shelf, &mut disk)?;
-    assert_eq!(rt;
-        call(&mut store, &mut disk, 0, SysCall::Spawn),
-        Came::One(1)
-    );
-    assert_eq!(rt;
-        call(&mut store, &mut disk, 0, SysCall::TakeLock(15)),
-        Came::Plain
-    );
-    assert_eq!(rt;
-        call(&mut store, &mut disk, 1, SysCall::TakeLock(15)),
-        Came::Held
-    );
-    assert_eq!(rt;
-        call(&mut store, &mut disk, 1, SysCall::FreeLock(15)),
-        Came::NotHeld
-    );
-    assert_eq!(rt;
-        call(&mut store, &mut disk, 0, SysCall::FreeLock(15)),
-        Came::Plain
-    );
-    assert_eq!(rt;
-        call(&mut store, &mut disk, 0, SysCall::FreeLock(15)),
-        Came::NotHeld
-    );
-    assert_eq!(rt;
-        call(&mut store, &mut disk, 0, SysCall::TakeLock(16)),
-        Came::BadIndex
-    );
-    assert_eq!(rt;
-        call(&mut store, &mut disk, 0, SysCall::Yield),
-        Came::One(1)
-    );
-    assert_eq!(rt;
-        call(&mut store, &mut disk, 1, SysCall::Yield),
-        Came::One(0)
-    );
-    Ok(())
+fn only_its_holder_frees_a_lock(rt: &impl Abort, store: &mut Store, disk: &mut MemDisk)
+    requires { IsStore (λ b. seen (b.vtable, b.value)) store.old }
+{
+    assert_eq!(rt; call(store, disk, 0, SysCall::Spawn), Came::One(1));
+    assert_eq!(rt; call(store, disk, 0, SysCall::TakeLock(15)), Came::Plain);
+    assert_eq!(rt; call(store, disk, 1, SysCall::TakeLock(15)), Came::Held);
+    assert_eq!(rt; call(store, disk, 1, SysCall::FreeLock(15)), Came::NotHeld);
+    assert_eq!(rt; call(store, disk, 0, SysCall::FreeLock(15)), Came::Plain);
+    assert_eq!(rt; call(store, disk, 0, SysCall::FreeLock(15)), Came::NotHeld);
+    assert_eq!(rt; call(store, disk, 0, SysCall::TakeLock(16)), Came::BadIndex);
+    assert_eq!(rt; call(store, disk, 0, SysCall::Yield), Came::One(1));
+    assert_eq!(rt; call(store, disk, 1, SysCall::Yield), Came::One(0));
 }
 
 /// What the first piece of a call of process p needs. Nothing where the call is refused at once.
@@ -528,14 +418,10 @@ fn are(needs: &Needs, expected: &[(Object, Mode)]) -> bool {
     true
 }
 
-#[test]
-fn pieces_need_their_objects_in_order(rt: HostRuntime) -> Result<(), Fail> {
-    let alloc = rt.alloc();
-    let shelf = shelf_with!(alloc, RaSeq::new());
-    assert!(rt; is_stock(&shelf));
-    let mut disk = MemDisk::sample(alloc, Vec::new(alloc))?;
-    let store = booted(alloc, shelf, &mut disk)?;
-    let spawn = needs_of(&store, 0, &SysCall::Spawn);
+fn pieces_need_their_objects_in_order(rt: &impl Abort, store: &mut Store)
+    requires { IsStore (λ b. seen (b.vtable, b.value)) store.old }
+{
+    let spawn = needs_of(store, 0, &SysCall::Spawn);
     assert!(rt;
         are(
             &spawn,
@@ -545,18 +431,17 @@ fn pieces_need_their_objects_in_order(rt: HostRuntime) -> Result<(), Fail> {
             ]
         )
     );
-    let peek = needs_of(&store, 0, &SysCall::Peek(3));
+    let peek = needs_of(store, 0, &SysCall::Peek(3));
     assert!(rt; are(&peek, &[(Object::Cell(0, 3), Mode::Shared)]));
-    let gives = needs_of(&store, 0, &SysCall::Give(0, Kind::Steps, 1000));
+    let gives = needs_of(store, 0, &SysCall::Give(0, Kind::Steps, 1000));
     let account = (Object::Acct(0), Mode::Exclusive);
     assert!(rt; are(&gives, &[(Object::Queue, Mode::Shared), account, account]));
-    let short = needs_of(&store, 0, &SysCall::Give(0, Kind::Steps, 1001));
+    let short = needs_of(store, 0, &SysCall::Give(0, Kind::Steps, 1001));
     assert!(rt; are(&short, &[(Object::Queue, Mode::Shared), account]));
-    let remove = needs_of(&store, 0, &SysCall::Remove(4));
+    let remove = needs_of(store, 0, &SysCall::Remove(4));
     assert!(rt; are(&remove, &[(Object::Graft(0, 4), Mode::Exclusive)]));
-    let lock = needs_of(&store, 0, &SysCall::TakeLock(2));
+    let lock = needs_of(store, 0, &SysCall::TakeLock(2));
     assert!(rt; lock.as_slice().len() == 1 && !are(&lock, &[(Object::Lock(2), Mode::Exclusive)]));
-    Ok(())
 }
 
 /// Fills both frames: process 0 reads two blocks of a file.
@@ -570,22 +455,40 @@ fn fills(store: &mut Store, disk: &mut MemDisk) -> bool
     open == Came::One(0) && first == Came::Plain && second == Came::Plain
 }
 
-#[test]
-fn a_fetch_asks_the_owner_of_the_candidate(rt: HostRuntime) -> Result<(), Fail> {
-    let alloc = rt.alloc();
-    let shelf = shelf_with!(alloc, RaSeq::new());
-    assert!(rt; is_stock(&shelf));
-    let mut disk = MemDisk::sample(alloc, Vec::new(alloc))?;
-    let mut store = booted(alloc, shelf, &mut disk)?;
+fn a_fetch_asks_the_owner_of_the_candidate(rt: &impl Abort, store: &mut Store, disk: &mut MemDisk)
+    requires { IsStore (λ b. seen (b.vtable, b.value)) store.old }
+{
     let read = SysCall::Read(0, 0, 0, 1);
-    assert!(rt; point_of(&store, 0, &read).is_none());
-    assert!(rt; fills(&mut store, &mut disk));
-    assert!(rt; point_of(&store, 0, &SysCall::Read(0, 5, 0, 1)).is_none());
-    if let Some(point) = point_of(&store, 0, &read) {
+    assert!(rt; point_of(store, 0, &read).is_none());
+    assert!(rt; fills(store, disk));
+    assert!(rt; point_of(store, 0, &SysCall::Read(0, 5, 0, 1)).is_none());
+    if let Some(point) = point_of(store, 0, &read) {
         assert!(rt; point.installer == 0 && point.point == 4);
         assert!(rt; point.args == [0, 1, 2, 0]);
-        return Ok(());
+        return;
     }
     assert!(rt; false);
+}
+
+#[test]
+fn each_call_comes_to_what_it_says(rt: HostRuntime) -> Result<(), Fail> {
+    let alloc = rt.alloc();
+    for case in 0..9u8 {
+        let shelf = shelf_with!(alloc, RaSeq::new());
+        assert!(rt; is_stock(&shelf));
+        let mut disk = MemDisk::sample(alloc, Vec::new(alloc))?;
+        let mut store = booted(alloc, shelf, &mut disk)?;
+        match case {
+            0 => a_read_gives_the_bytes_of_its_block(&rt, &mut store, &mut disk),
+            1 => cells_keep_what_was_put(&rt, &mut store, &mut disk),
+            2 => a_parameter_is_set_within_its_range_and_kept(&rt, &mut store, &mut disk),
+            3 => more_than_there_is_is_not_given(&rt, &mut store, &mut disk),
+            4 => what_a_process_leaves_is_roots(&rt, &mut store, &mut disk),
+            5 => a_graft_stands_once_and_gives_back_what_it_has(&rt, &mut store, &mut disk),
+            6 => only_its_holder_frees_a_lock(&rt, &mut store, &mut disk),
+            7 => pieces_need_their_objects_in_order(&rt, &mut store),
+            _ => a_fetch_asks_the_owner_of_the_candidate(&rt, &mut store, &mut disk),
+        }
+    }
     Ok(())
 }

@@ -21,6 +21,7 @@ use mem_disk::read_directory;
 use ram_space::Ram;
 use std::alloc::Global;
 use std::cell::Cell;
+use std::process::Abort;
 use std::rc::Rc;
 use std::test::Fail;
 
@@ -145,11 +146,11 @@ fn opened(file: u8) -> OpenRow
     }
 }
 
-#[test]
-fn only_root_lives_after_boot(rt: HostRuntime) -> Result<(), Fail> {
-    let shelf = shelf_with!(rt.alloc(), RaSeq::new());
-    assert!(rt; is_stock(&shelf));
-    let mut store = booted(rt.alloc(), shelf)?;
+fn only_root_lives_after_boot(rt: &impl Abort, store: &mut Store)
+    requires sound { IsStore (λ b. seen (b.vtable, b.value)) store.old }
+    requires root { lives (queue_of store.old) 0 ≡ true }
+    requires size { store.old.size ≡ 64 }
+{
     assert!(rt; store.living(0) && !store.living(1));
     assert_eq!(rt; store.next(), 0);
     assert_eq!(rt; store.cell(0, 3), 0);
@@ -159,53 +160,50 @@ fn only_root_lives_after_boot(rt: HostRuntime) -> Result<(), Fail> {
     assert!(rt; store.living(1));
     store.set_cell(0, 3, 77);
     assert_eq!(rt; store.cell(0, 3), 77);
-    Ok(())
 }
 
-#[test]
-fn what_a_process_has_goes_to_root_when_it_leaves(rt: HostRuntime) -> Result<(), Fail> {
-    let shelf = shelf_with!(rt.alloc(), RaSeq::new());
-    assert!(rt; is_stock(&shelf));
-    let mut store = booted(rt.alloc(), shelf)?;
+fn what_a_process_has_goes_to_root_when_it_leaves(rt: &impl Abort, store: &mut Store)
+    requires sound { IsStore (λ b. seen (b.vtable, b.value)) store.old }
+    requires root { lives (queue_of store.old) 0 ≡ true }
+    requires size { store.old.size ≡ 64 }
+{
     assert_eq!(rt; store.spawn(), Some(1));
-    assert!(rt; gives_records(&mut store));
-    bring(&mut store, 5, &[7; 512]);
+    assert!(rt; gives_records(store));
+    bring(store, 5, &[7; 512]);
     store.set_holder(2, Some(0));
     assert_eq!(rt; store.holder(2), Some(0));
-    assert!(rt; leaves(&mut store));
+    assert!(rt; leaves(store));
     assert_eq!(rt; store.accounts.balance(0, Kind::Records), 1000);
     assert_eq!(rt; store.accounts.balance(1, Kind::Records), 0);
-    Ok(())
 }
 
-#[test]
-fn frames_are_filled_changed_and_evicted(rt: HostRuntime) -> Result<(), Fail> {
-    let shelf = shelf_with!(rt.alloc(), RaSeq::new());
-    assert!(rt; is_stock(&shelf));
-    let mut store = booted(rt.alloc(), shelf)?;
-    bring(&mut store, 5, &[7; 512]);
-    bring(&mut store, 6, &[8; 512]);
+fn frames_are_filled_changed_and_evicted(rt: &impl Abort, store: &mut Store)
+    requires sound { IsStore (λ b. seen (b.vtable, b.value)) store.old }
+    requires root { lives (queue_of store.old) 0 ≡ true }
+    requires size { store.old.size ≡ 64 }
+{
+    bring(store, 5, &[7; 512]);
+    bring(store, 6, &[8; 512]);
     assert!(rt; store.free().is_none());
     assert_eq!(rt; store.candidate(), Some(0));
-    bring(&mut store, 5, &[9; 512]);
-    change(&mut store, 5, 506, b"abcd");
+    bring(store, 5, &[9; 512]);
+    change(store, 5, 506, b"abcd");
     assert_eq!(rt; store.dirty_block(0), Some(5));
     assert!(rt; store.dirty_block(1).is_none());
-    assert!(rt; end_of(&store, 5).as_slice() == b"\x07\x07abcd\x07\x07".as_slice());
-    wash(&mut store, 5);
+    assert!(rt; end_of(store, 5).as_slice() == b"\x07\x07abcd\x07\x07".as_slice());
+    wash(store, 5);
     assert!(rt; store.dirty_block(0).is_none());
-    bring(&mut store, 7, &[9; 512]);
+    bring(store, 7, &[9; 512]);
     assert!(rt; store.find(6).is_none());
     assert_eq!(rt; store.find(7), Some(1));
     assert_eq!(rt; store.candidate(), Some(0));
-    Ok(())
 }
 
-#[test]
-fn blocks_of_files_end_with_their_bytes(rt: HostRuntime) -> Result<(), Fail> {
-    let shelf = shelf_with!(rt.alloc(), RaSeq::new());
-    assert!(rt; is_stock(&shelf));
-    let mut store = booted(rt.alloc(), shelf)?;
+fn blocks_of_files_end_with_their_bytes(rt: &impl Abort, store: &mut Store)
+    requires sound { IsStore (λ b. seen (b.vtable, b.value)) store.old }
+    requires root { lives (queue_of store.old) 0 ≡ true }
+    requires size { store.old.size ≡ 64 }
+{
     assert_eq!(rt; store.named(b"alpha"), Some(0));
     assert!(rt; store.named(b"zeta").is_none());
     if let Some(file) = store.named(b"gamma") {
@@ -216,14 +214,13 @@ fn blocks_of_files_end_with_their_bytes(rt: HostRuntime) -> Result<(), Fail> {
         assert!(rt; store.block_of(0, 1, 3, 0, 0).is_err());
         assert!(rt; store.block_of(0, 0, 0, 0, 1).is_err());
     }
-    Ok(())
 }
 
-#[test]
-fn the_chosen_policy_answers_with_its_parameter(rt: HostRuntime) -> Result<(), Fail> {
-    let shelf = shelf_with!(rt.alloc(), RaSeq::new());
-    assert!(rt; is_stock(&shelf));
-    let mut store = booted(rt.alloc(), shelf)?;
+fn the_chosen_policy_answers_with_its_parameter(rt: &impl Abort, store: &mut Store)
+    requires sound { IsStore (λ b. seen (b.vtable, b.value)) store.old }
+    requires root { lives (queue_of store.old) 0 ≡ true }
+    requires size { store.old.size ≡ 64 }
+{
     assert_eq!(rt; store.chosen(0), 1);
     assert_eq!(rt; store.param(0), Some(2));
     assert_eq!(rt; store.param(1), None);
@@ -235,7 +232,6 @@ fn the_chosen_policy_answers_with_its_parameter(rt: HostRuntime) -> Result<(), F
     assert_eq!(rt; store.param(0), Some(2));
     store.choose(2, 1);
     assert_eq!(rt; store.next(), 0);
-    Ok(())
 }
 
 /// The result of an accessor for a graft of root. None where it is refused.
@@ -253,48 +249,46 @@ fn call(store: &mut Store, id: u32, args: [u32; 3]) -> Option<u32>
     }
 }
 
-#[test]
-fn accessors_give_the_value_from_before(rt: HostRuntime) -> Result<(), Fail> {
-    let shelf = shelf_with!(rt.alloc(), RaSeq::new());
-    assert!(rt; is_stock(&shelf));
-    let mut store = booted(rt.alloc(), shelf)?;
-    bring(&mut store, 5, &[7; 512]);
-    assert_eq!(rt; call(&mut store, ids::CELL_SET, [2, 7, 0]), Some(0));
-    assert_eq!(rt; call(&mut store, ids::CELL_GET, [2, 0, 0]), Some(7));
-    assert_eq!(rt; call(&mut store, ids::NICE_SET, [5, 0, 0]), Some(20));
-    assert_eq!(rt; call(&mut store, ids::NICE_GET, [0; 3]), Some(5));
-    assert_eq!(rt; call(&mut store, ids::WINDOW_GET, [1, 0, 0]), None);
-    assert_eq!(rt; call(&mut store, ids::FRAMES_MINE, [0; 3]), Some(1));
-    assert_eq!(rt; call(&mut store, ids::FRAME_AT, [0; 3]), Some(0));
-    assert_eq!(rt; call(&mut store, ids::FRAME_AT, [1, 0, 0]), None);
-    assert_eq!(rt; call(&mut store, ids::FRAME_BLOCK, [0; 3]), Some(5));
-    assert_eq!(rt; call(&mut store, ids::FRAME_BLOCK, [256, 0, 0]), None);
-    assert_eq!(rt; call(&mut store, ids::FRAME_MARK, [0, 9, 0]), Some(0));
-    assert_eq!(rt; call(&mut store, ids::FRAME_MARK, [0, 1, 0]), Some(9));
-    assert_eq!(rt; call(&mut store, ids::TUNE_GET, [0; 3]), Some(2));
-    assert_eq!(rt; call(&mut store, ids::TUNE_GET, [1, 0, 0]), None);
-    assert_eq!(rt; call(&mut store, ids::TUNE_SET, [0, 0, 9]), None);
-    assert_eq!(rt; call(&mut store, ids::TUNE_SET, [0, 0, 5]), Some(2));
+fn accessors_give_the_value_from_before(rt: &impl Abort, store: &mut Store)
+    requires sound { IsStore (λ b. seen (b.vtable, b.value)) store.old }
+    requires root { lives (queue_of store.old) 0 ≡ true }
+    requires size { store.old.size ≡ 64 }
+{
+    bring(store, 5, &[7; 512]);
+    assert_eq!(rt; call(store, ids::CELL_SET, [2, 7, 0]), Some(0));
+    assert_eq!(rt; call(store, ids::CELL_GET, [2, 0, 0]), Some(7));
+    assert_eq!(rt; call(store, ids::NICE_SET, [5, 0, 0]), Some(20));
+    assert_eq!(rt; call(store, ids::NICE_GET, [0; 3]), Some(5));
+    assert_eq!(rt; call(store, ids::WINDOW_GET, [1, 0, 0]), None);
+    assert_eq!(rt; call(store, ids::FRAMES_MINE, [0; 3]), Some(1));
+    assert_eq!(rt; call(store, ids::FRAME_AT, [0; 3]), Some(0));
+    assert_eq!(rt; call(store, ids::FRAME_AT, [1, 0, 0]), None);
+    assert_eq!(rt; call(store, ids::FRAME_BLOCK, [0; 3]), Some(5));
+    assert_eq!(rt; call(store, ids::FRAME_BLOCK, [256, 0, 0]), None);
+    assert_eq!(rt; call(store, ids::FRAME_MARK, [0, 9, 0]), Some(0));
+    assert_eq!(rt; call(store, ids::FRAME_MARK, [0, 1, 0]), Some(9));
+    assert_eq!(rt; call(store, ids::TUNE_GET, [0; 3]), Some(2));
+    assert_eq!(rt; call(store, ids::TUNE_GET, [1, 0, 0]), None);
+    assert_eq!(rt; call(store, ids::TUNE_SET, [0, 0, 9]), None);
+    assert_eq!(rt; call(store, ids::TUNE_SET, [0, 0, 5]), Some(2));
     assert_eq!(rt; store.param(0), Some(5));
-    assert_eq!(rt; call(&mut store, ids::TAKE_LOCK, [4, 0, 0]), Some(4));
+    assert_eq!(rt; call(store, ids::TAKE_LOCK, [4, 0, 0]), Some(4));
     assert_eq!(rt; store.candidate_of(0), Some(0));
     assert_eq!(rt; store.candidate_of(1), None);
-    Ok(())
 }
 
-#[test]
-fn records_put_values_back(rt: HostRuntime) -> Result<(), Fail> {
-    let shelf = shelf_with!(rt.alloc(), RaSeq::new());
-    assert!(rt; is_stock(&shelf));
-    let mut store = booted(rt.alloc(), shelf)?;
+fn records_put_values_back(rt: &impl Abort, store: &mut Store)
+    requires sound { IsStore (λ b. seen (b.vtable, b.value)) store.old }
+    requires root { lives (queue_of store.old) 0 ≡ true }
+    requires size { store.old.size ≡ 64 }
+{
     store.undo(Inverse::Cell(0, 2, 7));
     assert_eq!(rt; store.cell(0, 2), 7);
     store.undo(Inverse::Nice(0, 39));
-    assert_eq!(rt; call(&mut store, ids::NICE_GET, [0; 3]), Some(39));
+    assert_eq!(rt; call(store, ids::NICE_GET, [0; 3]), Some(39));
     assert!(rt; store.takes(0, 0, 8));
     store.undo(Inverse::Tune(0, 0, 8));
     assert_eq!(rt; store.param(0), Some(8));
-    Ok(())
 }
 
 /// An accessor of a graft of root tunes reading ahead.
@@ -347,5 +341,24 @@ fn a_policy_is_told_of_each_value_that_is_put_back(rt: HostRuntime) -> Result<()
     let mut store = booted(rt.alloc(), shelf)?;
     tunes_and_puts_back(&mut store);
     assert!(rt; told.get().count == 4 && told.get().values[..4] == [5, 6, 5, 2]);
+    Ok(())
+}
+
+#[test]
+fn each_call_of_a_store_does_what_it_says(rt: HostRuntime) -> Result<(), Fail> {
+    for case in 0..7u8 {
+        let shelf = shelf_with!(rt.alloc(), RaSeq::new());
+        assert!(rt; is_stock(&shelf));
+        let mut store = booted(rt.alloc(), shelf)?;
+        match case {
+            0 => only_root_lives_after_boot(&rt, &mut store),
+            1 => what_a_process_has_goes_to_root_when_it_leaves(&rt, &mut store),
+            2 => frames_are_filled_changed_and_evicted(&rt, &mut store),
+            3 => blocks_of_files_end_with_their_bytes(&rt, &mut store),
+            4 => the_chosen_policy_answers_with_its_parameter(&rt, &mut store),
+            5 => accessors_give_the_value_from_before(&rt, &mut store),
+            _ => records_put_values_back(&rt, &mut store),
+        }
+    }
     Ok(())
 }
