@@ -11,7 +11,7 @@ use arrayvec::ArrayVec;
 use std::marker::Model;
 use vino_base::{Disk, Failed};
 
-/// The most calls that one log notes. A piece of a system call makes fewer.
+/// The most calls that one log notes. A piece of a system call makes at most so many.
 pub const CALLS: usize = 256;
 
 /// Which calls of a disk failed, in order.
