@@ -1,6 +1,9 @@
 -- What the next instruction of the innermost level needs.
-use Rattle.std.proofs.Common.{◌≡◌, ℕ, false, cond, List, [], ◌∷◌, length, Option, Some, None, refl, sym, ◌∙◌, ap}
+use Rattle.std.proofs.Common.{◌≡◌, ◌≤◌, ◌==◌, ◌++◌, true, arith, ℕ, false, cond, List, [], ◌∷◌, length, Option, Some, None, refl, sym, ◌∙◌, ap}
 use Rattle.kernel_model.specs.declared.Inverse.{Inverse}
+use Rattle.std.proofs.lemmas.Bool.Decides.{nat_tests}
+use Rattle.kernel_model.specs.declared.Object.{Object}
+use Rattle.kernel_model.specs.declared.Mode.{Mode}
 use Rattle.kernel_model.specs.declared.Need.{Need}
 use Rattle.std.proofs.Common.{slice_get}
 use Rattle.kernel_model.specs.declared.Instr.{Instr}
@@ -10,7 +13,7 @@ use Rattle.kernel_model.specs.Runs.{on_segment}
 use Rattle.kernel_model.specs.Machine.{Machine, next_call, called_id}
 use Rattle.kernel_model.specs.Objects.{Accounts, Things}
 use Rattle.kernel_model.specs.World.{World, ImageTable}
-use Rattle.kernel_model.specs.Access.{early_refusal}
+use Rattle.kernel_model.specs.Access.{early_refusal, is_ask, accessed, asked_objects, asked_graft}
 use Rattle.kernel_model.specs.Locks.{LockTable}
 use Rattle.kernel_model.specs.Levels.{Level, code_of}
 use Rattle.kernel_model.specs.GraftStep.{is_spent, call_needs, instruction_needs, next_needs}
@@ -54,3 +57,23 @@ by_instr (Some x) base m = id_on x.op x.a x.imm base m
 
 pub call_on : (code : List Instr) (base : ℕ) (m : Machine) → next_call code (on_segment base m) ≡ next_call code m
 call_on code base m = by_instr (slice_get code m.pc) base m
+
+-- the holder of a user lock is a blocker of `take_lock` alone
+user_is : (id r0 q : ℕ) → id ≤ 15 → is_ask id ≡ false → (accessed id r0 q).by_user ≡ (id == 12)
+user_is id r0 q most plain = grind (arith, nat_tests, most, plain)
+
+-- what a plain accessor needs
+pub one_needed : (v : World) (l : Level) (id : ℕ) (needs : List Need) (o : Object) (mode : Mode) → v.callable ≡ 15 → id ≤ 15 →
+    None ≡ early_refusal 15 id (l.machine.regs 0) (l.machine.regs 1) l.owner → false ≡ is_ask id →
+    o ≡ (accessed id (l.machine.regs 0) l.owner).object → mode ≡ (accessed id (l.machine.regs 0) l.owner).mode →
+    needs ≡ record { object = o; mode = mode; by_user = id == 12 } ∷ [] →
+    needs ≡ call_needs v l id (early_refusal v.callable id (l.machine.regs 0) (l.machine.regs 1) l.owner)
+one_needed v l id needs o mode callable most early other object_is mode_is is =
+    let n = accessed id (l.machine.regs 0) l.owner in
+    let need : record { object = o; mode = mode; by_user = id == 12 } ≡ n = needed_is n object_is mode_is (user_is id (l.machine.regs 0) l.owner most (sym other)) in
+    is ∙ ap (λ (x : Need). let ns : List Need = x ∷ [] in ns) need
+    ∙ ap (λ b. cond b (asked_objects id (l.machine.regs 0) l.owner ++ asked_graft id (l.machine.regs 0) l.owner ∷ []) (n ∷ [])) other
+    ∙ ap (call_needs v l id) (early ∙ sym (ap (λ h. early_refusal h id (l.machine.regs 0) (l.machine.regs 1) l.owner) callable))
+  where
+    needed_is : (n : Need) → o ≡ n.object → mode ≡ n.mode → n.by_user ≡ (id == 12) → record { object = o; mode = mode; by_user = id == 12 } ≡ n
+    needed_is n object_is mode_is user = grind (arith, object_is, mode_is, user)

@@ -16,11 +16,11 @@ use crate::charges::charge_step;
 use crate::code::code_of;
 use crate::drops::drop_innermost;
 use crate::returns::offer;
-use crate::{CALLABLE, Chain, GraftLevel};
+use crate::{Chain, GraftLevel};
 use accessor_list::early;
 use graft_loader::Images;
 use graft_machine::{Outcome, laws};
-use kernel_model::{Cause, Micro};
+use kernel_model::{Cause, LAST_CALLABLE, Micro};
 use kernel_state::Store;
 use lock_table::LockTable;
 
@@ -42,7 +42,7 @@ fn call(
     ensures in_place { IsInPlace (λ b. seen (b.vtable, b.value)) store.new locks.new (table_of images.now) p chain.new.levels chain.new.undo }
     ensures elsewhere { IsElsewhereSame store.old store.new locks.old locks.new p }
 {
-    if id > CALLABLE {
+    if id > LAST_CALLABLE {
         return drop_innermost(level, chain, p, store, locks, Cause::NotCallable(id));
     }
     match early(id, arguments(&level.machine), level.owner) {

@@ -23,9 +23,6 @@ pub use levels::{Levels, MOST_LEVELS};
 pub use needs::Needs;
 use undo_calls::UndoStack;
 
-/// The highest id of the callable list that grafts may call.
-pub const CALLABLE: u32 = 11;
-
 /// A level of a graft call: one run of the graft that `owner` installed at `point`.
 #[derive(Drop)]
 pub struct GraftLevel {

@@ -24,11 +24,11 @@ ghost use Rattle.graft_calls.specs.Calls.{AreSound};
 use crate::answers::arguments;
 use crate::asks::{asked_needs, asked_point};
 use crate::code::find_image;
-use crate::{CALLABLE, Chain, GraftLevel};
+use crate::{Chain, GraftLevel};
 use accessor_list::{early, ids};
 use graft_accounts::Accounts;
 use graft_loader::Images;
-use kernel_model::{Kind, Mode, Need, Object};
+use kernel_model::{Kind, LAST_CALLABLE, Mode, Need, Object};
 use kernel_state::Store;
 use std::marker::Model;
 
@@ -103,13 +103,13 @@ impl Needs {
 /// What a call of an id needs: nothing where it is refused by its arguments.
 fn call_needs(id: u32, level: &GraftLevel) -> Needs
     requires { level.now.owner < 16 }
-    ensures value { (v : World) (p d : ℕ) (ram : List ℕ) (t : Table) (is : List Undoing) (w : Things) → v.callable ≡ CALLABLE →
+    ensures value { (v : World) (p d : ℕ) (ram : List ℕ) (t : Table) (is : List Undoing) (w : Things) → v.callable ≡ LAST_CALLABLE →
         let l = level_in p d ram t level.now is w in
         result ≡ needs_of_call v l id (early_refusal v.callable id (l.machine.regs 0) (l.machine.regs 1) l.owner) }
     ensures range { All (λ (n : Needed). IsInRange n.object) result }
 {
     let args = arguments(&level.machine);
-    if id > CALLABLE {
+    if id > LAST_CALLABLE {
         return Needs::none();
     }
     match early(id, args, level.owner) {
@@ -171,7 +171,7 @@ fn next_call(level: &GraftLevel, accounts: &Accounts, images: &Images) -> Option
 fn level_needs(level: &GraftLevel, accounts: &Accounts, images: &Images) -> Needs
     requires owner { level.now.owner < 16 }
     requires point { level.now.point < 16 }
-    ensures value { (v : World) (p d : ℕ) (ram : List ℕ) (t : Table) (is : List Undoing) (w : Things) (ls : List Level) → v.callable ≡ CALLABLE →
+    ensures value { (v : World) (p d : ℕ) (ram : List ℕ) (t : Table) (is : List Undoing) (w : Things) (ls : List Level) → v.callable ≡ LAST_CALLABLE →
         result ≡ next_needs v (table_of images.now) (accounts_of accounts.now) (level_in p d ram t level.now is w ∷ ls) }
     ensures range { All (λ (n : Needed). IsInRange n.object) result }
 {

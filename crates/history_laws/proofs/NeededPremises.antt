@@ -1,6 +1,7 @@
 -- Premises of the laws that can't be left out: for each the smallest example in which the law would be false.
 use Rattle.std.specs.Prelude.{◌≡◌, ℕ, ◌==◌, ◌&&◌, Bool, true, false, cond, nat_lt, ◌||◌, List, [], ◌∷◌, reverse, Option, Some, None, option_map, is_some}
 use Rattle.std.proofs.Common.{refl}
+use Rattle.kernel_model.specs.Boxed.{instr}
 use Rattle.kernel_model.specs.declared.Kind.TheVariants.{Steps}
 use Rattle.kernel_model.specs.declared.Cause.TheVariants.{Reentered, SpentSteps}
 use Rattle.kernel_model.specs.declared.Micro.{Micro}
@@ -24,7 +25,6 @@ use Rattle.kernel_model.specs.Blocking.{config_in, levels_of}
 use Rattle.kernel_model.specs.InPlace.{Cut, in_place, undone, store_below}
 use Rattle.kernel_model.specs.Opening.{opening_accounts, opening_things}
 use Rattle.kernel_model.specs.Pieces.{plain}
-use Rattle.kernel_model.specs.Given.{ins}
 
 -- ---- fallen levels
 
@@ -42,7 +42,7 @@ one_file =
 
 -- an image that asks to read ahead in the file of the descriptor in r0
 abbrev asking : ImageTable
-asking slot = cond (slot == 0) (Some (record { code = ins Call 0 0 0 13 ∷ []; body = [] })) None
+asking slot = cond (slot == 0) (Some (record { code = instr Call 0 0 0 13 ∷ []; body = [] })) None
 
 -- grafts of process 0 at its slice and at two open files, which are read to their ends
 abbrev three_grafts : Objects
@@ -109,7 +109,7 @@ newest_first_leads_nowhere = refl
 
 -- an image that sets cell 0 to 20, and then to 9
 abbrev setting_twice : ImageTable
-setting_twice slot = cond (slot == 0) (Some (record { code = ins Call 0 0 0 1 ∷ ins Li 0 0 0 0 ∷ ins Li 1 0 0 9 ∷ ins Call 0 0 0 1 ∷ []; body = [] })) None
+setting_twice slot = cond (slot == 0) (Some (record { code = instr Call 0 0 0 1 ∷ instr Li 0 0 0 0 ∷ instr Li 1 0 0 9 ∷ instr Call 0 0 0 1 ∷ []; body = [] })) None
 
 -- the calls of processes 0 and 1 that have taken so many instructions, in the slice's graft of process 0
 abbrev in_flight : (ks : ℕ → Option (List Mark)) → Kernel
@@ -168,7 +168,7 @@ row p = record { process = p; nice = 20; slices = 0 }
 
 -- an image that reads cell 0
 abbrev reading : ImageTable
-reading slot = cond (slot == 0) (Some (record { code = ins Call 0 0 0 0 ∷ []; body = [] })) None
+reading slot = cond (slot == 0) (Some (record { code = instr Call 0 0 0 0 ∷ []; body = [] })) None
 
 -- a call of process 1 that needs a cell which the graft of process 0 read
 abbrev needing : List Need → Meaning

@@ -1,6 +1,7 @@
 -- Who pays for what a graft takes, and what becomes of its balances.
-use Rattle.std.specs.Prelude.{ℕ, ◌+◌, ◌-◌, true, false, cond, Option, Some, None}
+use Rattle.std.specs.Prelude.{ℕ, zero, suc, ◌+◌, ◌-◌, true, false, cond, Option, Some, None}
 use Rattle.kernel_model.specs.declared.Kind.{Kind}
+use Rattle.kernel_model.specs.declared.Kind.TheVariants.{Steps}
 use Rattle.kernel_model.specs.Objects.{Accounts, GraftValue, AcctValue, at, at2, at_kind}
 
 -- the payer's balance: the graft's own, or the installer's where the graft is billed
@@ -41,6 +42,11 @@ charge_by k q pt (Some g) w = elim g.billed [ true ↦ charge_account k q w | fa
 -- one of a kind is taken from the payer and added to what the installer has spent
 abbrev pub charge : Kind → (q pt : ℕ) → Accounts → Accounts
 charge k q pt w = charge_by k q pt (w.graft q pt) w
+
+-- so many steps are charged, one after another
+abbrev pub charged_steps : ℕ → (q pt : ℕ) → Accounts → Accounts
+charged_steps zero q pt w = w
+charged_steps (suc n) q pt w = charge Steps q pt (charged_steps n q pt w)
 
 -- an account that gets a graft's balances back
 abbrev pub returned : GraftValue → AcctValue → AcctValue

@@ -44,7 +44,3 @@ pub mod Alike
 pub mod Laws
 pub mod Alone
 pub mod Claims
-pub mod Given
-pub mod GraftExamples
-pub mod WaitingExamples
-pub mod RunExamples

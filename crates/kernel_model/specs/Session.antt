@@ -1,5 +1,6 @@
 -- How a script runs, line by line: what each line makes of the session, and what it writes.
 use Rattle.std.specs.Prelude.{ℕ, suc, Bool, true, false, nat_lt, List, [], ◌∷◌, ◌++◌, drop, is_some, Option, None, Some, Result, Ok, Err, codes, decimal}
+use Rattle.kernel_model.specs.declared.TheConstants.{LAST_CALLABLE}
 use Rattle.kernel_model.specs.declared.FileRow.{FileRow}
 use Rattle.kernel_model.specs.declared.Note.{Note}
 use Rattle.kernel_model.specs.Objects.{at}
@@ -27,7 +28,7 @@ pub record Build : Type 0 where
 
 -- all calls, all of the callable list, all lines
 abbrev pub whole : Build
-whole = record { meaning = plain; callable = 15; built = λ e. true; reads_directory = true }
+whole = record { meaning = plain; callable = LAST_CALLABLE; built = λ e. true; reads_directory = true }
 
 -- what set-up lines set
 pub record Setup : Type 0 where

@@ -23,6 +23,9 @@ pub const PROCESSES: usize = 16;
 /// The most frames of the cache.
 pub const FRAMES: usize = 64;
 
+/// The highest id of the callable list: grafts may call the ids up to it.
+pub const LAST_CALLABLE: u32 = 15;
+
 /// There was no memory left.
 #[derive(Clone, Copy, PartialEq, Eq, Debug)]
 pub struct NoMemory;

@@ -2,6 +2,7 @@
 use Rattle.std.specs.Prelude.{◌≡◌, ℕ, ◌<◌, ◌≤◌, true, List, [], ◌∷◌, ◌++◌, Option, Some, None, map, slice_index, slice_index_or}
 use Rattle.std.specs.declared.dyn_box.DynBox.{DynBox}
 use Rattle.std.specs.declared.alloc.Global.{Global}
+use Rattle.kernel_model.specs.declared.TheConstants.{LAST_CALLABLE}
 use Rattle.kernel_model.specs.declared.FileRow.{FileRow}
 use Rattle.kernel_model.specs.declared.OpenRow.{OpenRow}
 use Rattle.kernel_model.specs.declared.QueueRow.{QueueRow}
@@ -22,7 +23,7 @@ use Rattle.kernel_state.specs.declared.Store.{Store}
 abbrev pub Seeing : (X : Type 0) → (X → Type 0) → Type 0
 Seeing X F = DynBox X Global F → PolicyView
 
--- what no call changes, on a disk of this size with this directory: grafts may call up to id 11
+-- what no call changes, on a disk of this size with this directory: grafts may call each id of the list
 abbrev pub world_for : Setup → (size : ℕ) → (directory : List (Option FileRow)) → World
 world_for u size directory =
     record {
@@ -31,7 +32,7 @@ world_for u size directory =
       grant = u.grant;
       disk_size = size;
       directory = directory;
-      callable = 11;
+      callable = LAST_CALLABLE;
     }
 
 -- the objects of these accounts, processes, cache and policies

@@ -59,7 +59,7 @@ ends_on size r h = grind (arith, nat_tests, h)
 
 -- the kernel after boot stands
 pub opened : {C M W X : Type 0} {F : X → Type 0} (m : Meaning) → OpeningKernelIsSound m → QuietKernelsStand m → (view : Seeing X F) (stage : W → Stage) (x : Running C M W X F) (v : World) →
-    2 ≤ v.frames → v.frames ≤ 64 → length v.directory ≤ 16 → 1 ≤ v.disk_size → v.disk_size ≤ 4096 → v.callable ≡ 11 → ((n : ℕ) (r : FileRow) → file_row v n ≡ Some r → lies_on_disk v.disk_size r ≡ true) →
+    2 ≤ v.frames → v.frames ≤ 64 → length v.directory ≤ 16 → 1 ≤ v.disk_size → v.disk_size ≤ 4096 → v.callable ≡ 15 → ((n : ℕ) (r : FileRow) → file_row v n ≡ Some r → lies_on_disk v.disk_size r ≡ true) →
     world_of_store x.store ≡ v → (table_of x.images ≡ λ slot. None) → objects_of view x.store ≡ opening_objects v.grant → x.clock ≡ 0 →
     ((p : ℕ) → flight_of x.calls.items p ≡ no_flight) → x.order ≡ [] → StandsFor m (placed_of view stage x) (opening_kernel v)
 opened m sound stand view stage x v least most rows some size callable files v_is images_are s_is n_is none order =

@@ -1,6 +1,7 @@
 -- Premises of the laws that can't be left out: for each the smallest example in which the law would be false.
 use Rattle.std.specs.Prelude.{◌≡◌, ℕ, ◌==◌, ◌&&◌, true, false, cond, [], ◌∷◌, Some, None}
 use Rattle.std.proofs.Common.{refl}
+use Rattle.kernel_model.specs.Boxed.{instr}
 use Rattle.kernel_model.specs.declared.Cause.{Cause}
 use Rattle.kernel_model.specs.declared.Held.{Held}
 use Rattle.kernel_model.specs.declared.Inverse.{Inverse}
@@ -24,7 +25,6 @@ use Rattle.kernel_model.specs.Events.{drop_call}
 use Rattle.kernel_model.specs.InPlace.{in_place}
 use Rattle.kernel_model.specs.Opening.{opening_accounts, opening_things}
 use Rattle.kernel_model.specs.Pieces.{plain}
-use Rattle.kernel_model.specs.Given.{ins}
 use Rattle.placed_laws.specs.Placed.{PlacedRun, has_some, placed_holds}
 use Rattle.placed_laws.specs.PlacedSteps.{placed_step, placed_drop}
 use Rattle.placed_laws.specs.Owners.{AreOfOwner}
@@ -36,7 +36,7 @@ small_world = record { frames = 2; patience = λ kind. 10; grant = 0; disk_size 
 
 -- an image that sets a cell
 abbrev setting : ImageTable
-setting slot = cond (slot == 0) (Some (record { code = ins Call 0 0 0 1 ∷ ins Ret 0 0 0 0 ∷ []; body = [] })) None
+setting slot = cond (slot == 0) (Some (record { code = instr Call 0 0 0 1 ∷ instr Ret 0 0 0 0 ∷ []; body = [] })) None
 
 -- a row of the queue
 abbrev row : ℕ → QueueRow
@@ -126,7 +126,7 @@ absent_drop_differs = (refl, refl)
 
 -- a graft that takes lock 1
 abbrev locking : ImageTable
-locking slot = cond (slot == 0) (Some (record { code = ins Call 0 0 0 12 ∷ ins Ret 0 0 0 0 ∷ []; body = [] })) None
+locking slot = cond (slot == 0) (Some (record { code = instr Call 0 0 0 12 ∷ instr Ret 0 0 0 0 ∷ []; body = [] })) None
 
 -- process 0's user lock 1
 abbrev user_lock : Blocker

@@ -116,7 +116,7 @@ boot_comes c s x (true ∷ []) note out told told_new a one stands is text =
         unbooted = λ down. up_is_down down;
         booted = λ up. record {
           kernel = opening_kernel (world_for s.setup c.size []);
-          is = ap (λ (u : Setup). Some (opening_kernel (world_of u c.size 11 []))) stands.setup;
+          is = ap (λ (u : Setup). Some (opening_kernel (world_of u c.size 15 []))) stands.setup;
           stands = is.stands;
           rests = is.rests;
         };
@@ -136,7 +136,7 @@ boot_comes c s x (false ∷ []) note out told told_new a one stands is text =
         unbooted = λ down. up_is_down down;
         booted = λ up. record {
           kernel = opening_kernel (world_for s.setup c.size rows);
-          is = ap (λ (u : Setup). Some (opening_kernel (world_of u c.size 11 rows))) stands.setup;
+          is = ap (λ (u : Setup). Some (opening_kernel (world_of u c.size 15 rows))) stands.setup;
           stands = is.stands;
           rests = is.rests;
         };

@@ -1,8 +1,8 @@
 use Rattle.graft_loader.specs.Slots.{table_of}
 use Rattle.graft_calls.proofs.instruction.call.Goals as goal
 
-pub returns-then-id-gt-CALLABLE-clause-in_place : goal.returns-then-id-gt-CALLABLE-clause-in_place
-returns-then-id-gt-CALLABLE-clause-in_place g c =
+pub returns-then-id-gt-LAST_CALLABLE-clause-in_place : goal.returns-then-id-gt-LAST_CALLABLE-clause-in_place
+returns-then-id-gt-LAST_CALLABLE-clause-in_place g c =
     let h = c.requires.in_place in
     record {
       placed = c.drop_innermost.ensures.placed;

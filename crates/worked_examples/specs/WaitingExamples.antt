@@ -8,7 +8,8 @@ use Rattle.kernel_model.specs.Images.{LoadFault}
 use Rattle.kernel_model.specs.Directory.{entries, entry_row, is_usable, sample_directory, sample_block}
 use Rattle.kernel_model.specs.Script.{Entry, Raw}
 use Rattle.kernel_model.specs.Session.{whole}
-use Rattle.kernel_model.specs.Given.{Lines, ImageLine, ins, image, given_run, run_of}
+use Rattle.kernel_model.specs.Boxed.{instr}
+use Rattle.worked_examples.specs.Given.{Lines, ImageLine, image, given_run, run_of}
 
 -- every line but `raw` is built
 abbrev pub built_but_raw : Entry → Bool
@@ -17,27 +18,27 @@ built_but_raw _ = true
 
 -- takes lock 3 and spins
 abbrev pub spinner : Result Image LoadFault
-spinner = image (ins Li 0 0 0 3 ∷ ins Call 0 0 0 12 ∷ ins Jmp 0 0 0 2 ∷ []) []
+spinner = image (instr Li 0 0 0 3 ∷ instr Call 0 0 0 12 ∷ instr Jmp 0 0 0 2 ∷ []) []
 
 -- asks its scheduling point, and divides by zero
 abbrev pub scheduler : Result Image LoadFault
-scheduler = image (ins Mov 8 0 0 0 ∷ ins Mov 9 1 0 0 ∷ ins Call 0 0 0 15 ∷ ins Mov 0 8 0 0 ∷ ins Mov 1 9 0 0 ∷ ins Li 7 0 0 0 ∷ ins Divu 7 7 7 0 ∷ ins Ret 0 0 0 0 ∷ []) []
+scheduler = image (instr Mov 8 0 0 0 ∷ instr Mov 9 1 0 0 ∷ instr Call 0 0 0 15 ∷ instr Mov 0 8 0 0 ∷ instr Mov 1 9 0 0 ∷ instr Li 7 0 0 0 ∷ instr Divu 7 7 7 0 ∷ instr Ret 0 0 0 0 ∷ []) []
 
 -- takes lock 3, and asks its reading ahead of descriptor 0
 abbrev pub holder : Result Image LoadFault
-holder = image (ins Li 0 0 0 3 ∷ ins Call 0 0 0 12 ∷ ins Li 0 0 0 0 ∷ ins Call 0 0 0 13 ∷ ins Ret 0 0 0 0 ∷ []) []
+holder = image (instr Li 0 0 0 3 ∷ instr Call 0 0 0 12 ∷ instr Li 0 0 0 0 ∷ instr Call 0 0 0 13 ∷ instr Ret 0 0 0 0 ∷ []) []
 
 -- spins
 abbrev pub spin : Result Image LoadFault
-spin = image (ins Jmp 0 0 0 0 ∷ []) []
+spin = image (instr Jmp 0 0 0 0 ∷ []) []
 
 -- reads its nice, and then sets it to 5
 abbrev pub sharer : Result Image LoadFault
-sharer = image (ins Mov 8 0 0 0 ∷ ins Call 0 0 0 2 ∷ ins Li 0 0 0 5 ∷ ins Call 0 0 0 3 ∷ ins Mov 0 8 0 0 ∷ ins Ret 0 0 0 0 ∷ []) []
+sharer = image (instr Mov 8 0 0 0 ∷ instr Call 0 0 0 2 ∷ instr Li 0 0 0 5 ∷ instr Call 0 0 0 3 ∷ instr Mov 0 8 0 0 ∷ instr Ret 0 0 0 0 ∷ []) []
 
 -- answers at once what it was given
 abbrev pub at_once : Result Image LoadFault
-at_once = image (ins Ret 0 0 0 0 ∷ []) []
+at_once = image (instr Ret 0 0 0 0 ∷ []) []
 
 -- A nested level that holds a lock for too long is dropped alone; its asker goes on with the default.
 pub nested_times_out_alone :

@@ -13,59 +13,60 @@ use Rattle.kernel_model.specs.Kernel.{Kernel}
 use Rattle.kernel_model.specs.Pieces.{plain}
 use Rattle.kernel_model.specs.InPlace.{Cut, in_place, undone, store_below}
 use Rattle.kernel_model.specs.Session.{whole, first_session}
-use Rattle.kernel_model.specs.Given.{Given, Lines, ImageLine, ins, image, run_all, given_run, run_of}
+use Rattle.kernel_model.specs.Boxed.{instr}
+use Rattle.worked_examples.specs.Given.{Given, Lines, ImageLine, image, run_all, given_run, run_of}
 
 -- sets cell 0 to 7, then to 9, and divides by zero
 abbrev pub twice : Result Image LoadFault
-twice = image (ins Li 0 0 0 0 ∷ ins Li 1 0 0 7 ∷ ins Call 0 0 0 1 ∷ ins Li 0 0 0 0 ∷ ins Li 1 0 0 9 ∷ ins Call 0 0 0 1 ∷ ins Li 2 0 0 0 ∷ ins Divu 3 0 2 0 ∷ ins Ret 0 0 0 0 ∷ []) []
+twice = image (instr Li 0 0 0 0 ∷ instr Li 1 0 0 7 ∷ instr Call 0 0 0 1 ∷ instr Li 0 0 0 0 ∷ instr Li 1 0 0 9 ∷ instr Call 0 0 0 1 ∷ instr Li 2 0 0 0 ∷ instr Divu 3 0 2 0 ∷ instr Ret 0 0 0 0 ∷ []) []
 
 -- sets the parameter of reading ahead to 5, and divides by zero
 abbrev pub tuner : Result Image LoadFault
-tuner = image (ins Mov 8 0 0 0 ∷ ins Mov 9 1 0 0 ∷ ins Li 0 0 0 0 ∷ ins Li 1 0 0 0 ∷ ins Li 2 0 0 5 ∷ ins Call 0 0 0 11 ∷ ins Li 7 0 0 0 ∷ ins Divu 7 7 7 0 ∷ ins Ret 0 0 0 0 ∷ []) []
+tuner = image (instr Mov 8 0 0 0 ∷ instr Mov 9 1 0 0 ∷ instr Li 0 0 0 0 ∷ instr Li 1 0 0 0 ∷ instr Li 2 0 0 5 ∷ instr Call 0 0 0 11 ∷ instr Li 7 0 0 0 ∷ instr Divu 7 7 7 0 ∷ instr Ret 0 0 0 0 ∷ []) []
 
 -- answers at once what it was given
 abbrev pub at_once : Result Image LoadFault
-at_once = image (ins Ret 0 0 0 0 ∷ []) []
+at_once = image (instr Ret 0 0 0 0 ∷ []) []
 
 -- sets cell 0 to 8, and answers what it was given
 abbrev pub child : Result Image LoadFault
-child = image (ins Mov 8 0 0 0 ∷ ins Mov 9 1 0 0 ∷ ins Li 0 0 0 0 ∷ ins Li 1 0 0 8 ∷ ins Call 0 0 0 1 ∷ ins Mov 0 8 0 0 ∷ ins Mov 1 9 0 0 ∷ ins Ret 0 0 0 0 ∷ []) []
+child = image (instr Mov 8 0 0 0 ∷ instr Mov 9 1 0 0 ∷ instr Li 0 0 0 0 ∷ instr Li 1 0 0 8 ∷ instr Call 0 0 0 1 ∷ instr Mov 0 8 0 0 ∷ instr Mov 1 9 0 0 ∷ instr Ret 0 0 0 0 ∷ []) []
 
 -- asks its reading ahead of descriptor 0, and traps
 abbrev pub parent : Result Image LoadFault
-parent = image (ins Li 0 0 0 0 ∷ ins Call 0 0 0 13 ∷ ins Trap 0 0 0 77 ∷ []) []
+parent = image (instr Li 0 0 0 0 ∷ instr Call 0 0 0 13 ∷ instr Trap 0 0 0 77 ∷ []) []
 
 -- sets cell 0 to 8, and traps
 abbrev pub trapping_child : Result Image LoadFault
-trapping_child = image (ins Li 0 0 0 0 ∷ ins Li 1 0 0 8 ∷ ins Call 0 0 0 1 ∷ ins Trap 0 0 0 9 ∷ []) []
+trapping_child = image (instr Li 0 0 0 0 ∷ instr Li 1 0 0 8 ∷ instr Call 0 0 0 1 ∷ instr Trap 0 0 0 9 ∷ []) []
 
 -- sets cell 0 to 5, asks its reading ahead of descriptor 0, and answers what it was given
 abbrev pub setter : Result Image LoadFault
-setter = image (ins Mov 8 0 0 0 ∷ ins Li 0 0 0 0 ∷ ins Li 1 0 0 5 ∷ ins Call 0 0 0 1 ∷ ins Li 0 0 0 0 ∷ ins Call 0 0 0 13 ∷ ins Mov 0 8 0 0 ∷ ins Ret 0 0 0 0 ∷ []) []
+setter = image (instr Mov 8 0 0 0 ∷ instr Li 0 0 0 0 ∷ instr Li 1 0 0 5 ∷ instr Call 0 0 0 1 ∷ instr Li 0 0 0 0 ∷ instr Call 0 0 0 13 ∷ instr Mov 0 8 0 0 ∷ instr Ret 0 0 0 0 ∷ []) []
 
 -- reads cell 0, and divides by zero where that is 0
 abbrev pub reader : Result Image LoadFault
-reader = image (ins Li 0 0 0 0 ∷ ins Call 0 0 0 0 ∷ ins Jnz 0 0 0 4 ∷ ins Divu 0 0 0 0 ∷ ins Li 0 0 0 0 ∷ ins Li 1 0 0 0 ∷ ins Ret 0 0 0 0 ∷ []) []
+reader = image (instr Li 0 0 0 0 ∷ instr Call 0 0 0 0 ∷ instr Jnz 0 0 0 4 ∷ instr Divu 0 0 0 0 ∷ instr Li 0 0 0 0 ∷ instr Li 1 0 0 0 ∷ instr Ret 0 0 0 0 ∷ []) []
 
 -- asks its reading ahead of descriptor 0, and answers what it was given
 abbrev pub asker : Result Image LoadFault
-asker = image (ins Mov 8 0 0 0 ∷ ins Li 0 0 0 0 ∷ ins Call 0 0 0 13 ∷ ins Mov 0 8 0 0 ∷ ins Ret 0 0 0 0 ∷ []) []
+asker = image (instr Mov 8 0 0 0 ∷ instr Li 0 0 0 0 ∷ instr Call 0 0 0 13 ∷ instr Mov 0 8 0 0 ∷ instr Ret 0 0 0 0 ∷ []) []
 
 -- asks its reading ahead, and sets cell 0 to the count
 abbrev pub counter : Result Image LoadFault
-counter = image (ins Mov 8 0 0 0 ∷ ins Li 0 0 0 0 ∷ ins Call 0 0 0 13 ∷ ins Li 0 0 0 0 ∷ ins Call 0 0 0 1 ∷ ins Mov 0 8 0 0 ∷ ins Ret 0 0 0 0 ∷ []) []
+counter = image (instr Mov 8 0 0 0 ∷ instr Li 0 0 0 0 ∷ instr Call 0 0 0 13 ∷ instr Li 0 0 0 0 ∷ instr Call 0 0 0 1 ∷ instr Mov 0 8 0 0 ∷ instr Ret 0 0 0 0 ∷ []) []
 
 -- answers 2
 abbrev pub frame_2 : Result Image LoadFault
-frame_2 = image (ins Li 0 0 0 2 ∷ ins Ret 0 0 0 0 ∷ []) []
+frame_2 = image (instr Li 0 0 0 2 ∷ instr Ret 0 0 0 0 ∷ []) []
 
 -- answers 3
 abbrev pub frame_3 : Result Image LoadFault
-frame_3 = image (ins Li 0 0 0 3 ∷ ins Ret 0 0 0 0 ∷ []) []
+frame_3 = image (instr Li 0 0 0 3 ∷ instr Ret 0 0 0 0 ∷ []) []
 
 -- takes lock 3 and spins
 abbrev pub spinner : Result Image LoadFault
-spinner = image (ins Li 0 0 0 3 ∷ ins Call 0 0 0 12 ∷ ins Jmp 0 0 0 2 ∷ []) []
+spinner = image (instr Li 0 0 0 3 ∷ instr Call 0 0 0 12 ∷ instr Jmp 0 0 0 2 ∷ []) []
 
 -- A cell that was changed twice is again what it was first; what the dropped graft was charged stays spent.
 pub oldest_value_comes_back :

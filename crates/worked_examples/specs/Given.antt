@@ -1,7 +1,6 @@
 -- Runs of scripts for worked examples: an image line may be given by what its bytes load to, so that no seal is computed.
 use Rattle.std.specs.Prelude.{ℕ, suc, Bool, List, [], ◌∷◌, Option, None, Some, Result, Ok}
 use Rattle.kernel_model.specs.declared.Instr.{Instr}
-use Rattle.kernel_model.specs.declared.Op.{Op}
 use Rattle.kernel_model.specs.World.{Image}
 use Rattle.kernel_model.specs.Directory.{sample_disk}
 use Rattle.kernel_model.specs.Images.{LoadFault}
@@ -13,10 +12,6 @@ use Rattle.kernel_model.specs.Outcome.{End, lines_after, outcome_of, written}
 pub data Given : Type 0 where
   Lines : List ℕ → Given
   ImageLine : (slot : ℕ) → Result Image LoadFault → Given
-
--- an instruction: its operation, a, b, c and imm
-abbrev pub ins : Op → (a b c imm : ℕ) → Instr
-ins op a b c imm = record { op = op; a = a; b = b; c = c; imm = imm }
 
 -- an image that loads
 abbrev pub image : List Instr → List ℕ → Result Image LoadFault

@@ -1,0 +1,4 @@
+pub mod Given
+pub mod GraftExamples
+pub mod WaitingExamples
+pub mod RunExamples
