@@ -1,4 +1,5 @@
 pub mod Given
 pub mod GraftExamples
+pub mod AskExamples
 pub mod WaitingExamples
 pub mod RunExamples
