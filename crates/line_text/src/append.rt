@@ -127,7 +127,7 @@ pub(crate) fn all_u64(out: &mut Buffer, ns: &[u64])
 }
 
 /// Bytes as hex digits of lower case.
-fn hex_digits(out: &mut Buffer, bytes: &[u8])
+pub(crate) fn hex_digits(out: &mut Buffer, bytes: &[u8])
     requires room { length out.old.items + 2 * length bytes.now ≤ 2048 }
     requires block { length bytes.now ≤ 512 }
     ensures text { out.new.items ≡ out.old.items ++ hex_text bytes.now }

@@ -1,8 +1,10 @@
 //! `Text`: a line that is written.
 
-ghost use Rattle.std.specs.Prelude.{◌≡◌, ◌≤◌, [], ◌∷◌, ◌++◌, length, nat_lt, if◌then◌else◌};
+ghost use Rattle.std.specs.Prelude.{◌≡◌, ◌≤◌, ◌+◌, ◌*◌, [], ◌∷◌, ◌++◌, length, nat_lt, if◌then◌else◌};
+ghost use Rattle.kernel_model.specs.Bytes.{hex_text};
+ghost use Rattle.kernel_model.specs.Text.{spaced};
 
-use crate::append::{Buffer, TEXT_BYTES};
+use crate::append::{Buffer, TEXT_BYTES, add, hex_digits, spaced_u64};
 use arrayvec::ArrayVec;
 use std::marker::Model;
 
@@ -36,6 +38,34 @@ impl Text {
         ensures value { self.new ≡ (if result then self.old ++ v ∷ [] else self.old) }
     {
         self.bytes.try_push(v).is_ok()
+    }
+
+    /// Appends bytes.
+    pub fn add(&mut self, bytes: &[u8])
+        requires { length self.old + length bytes.now ≤ 2048 }
+        ensures text { self.new ≡ self.old ++ bytes.now }
+        ensures len { length self.new ≡ length self.old + length bytes.now }
+    {
+        add(&mut self.bytes, bytes);
+    }
+
+    /// Appends a space and a number, of at most 20 digits.
+    pub fn add_spaced(&mut self, n: u64)
+        requires { length self.old + 21 ≤ 2048 }
+        ensures text { self.new ≡ self.old ++ spaced n }
+        ensures len { length self.new ≤ length self.old + 21 }
+    {
+        spaced_u64(&mut self.bytes, n);
+    }
+
+    /// Appends at most 512 bytes as hex digits of lower case.
+    pub fn add_hex(&mut self, bytes: &[u8])
+        requires room { length self.old + 2 * length bytes.now ≤ 2048 }
+        requires block { length bytes.now ≤ 512 }
+        ensures text { self.new ≡ self.old ++ hex_text bytes.now }
+        ensures len { length self.new ≡ length self.old + 2 * length bytes.now }
+    {
+        hex_digits(&mut self.bytes, bytes);
     }
 
     /// The bytes, first to last.

@@ -11,6 +11,7 @@ mod line_buf;
 mod parse;
 mod words;
 
+pub use digits::read_number;
 pub use image_bytes::ImageBytes;
 pub use line_buf::{Fed, LineBuf};
 pub use parse::{Entry, ScriptFault, parse_line};

@@ -6,7 +6,7 @@ ghost use Rattle.kernel_model.specs.World.{same_bytes};
 ghost use Rattle.kernel_model.specs.Script.{object_kinds, amounts, number_said, is_unlisted, is_bad_word, is_well_formed, words_said};
 ghost use Rattle.script_text.specs.Words.{word_length, words_left, said, failed};
 
-use crate::digits::number;
+use crate::digits::read_number;
 use arrayvec::ArrayVec;
 use kernel_model::Form;
 
@@ -89,7 +89,7 @@ fn number_in(form: Form, word: &[u8]) -> Option<u32>
     ensures { result ≡ number_said form word.now }
 {
     match form {
-        Form::Number => number(word),
+        Form::Number => read_number(word),
         Form::ObjectKind => object_kind(word),
         Form::Amount => amount(word),
         Form::Text => Some(0),

@@ -29,7 +29,7 @@ use Rattle.vino_top.proofs.RunLemmas.{fed_none, fed_more, fed_short, stops_fed, 
 -- ---- where a run stands
 
 -- it stands for a first session
-begun_stands : (size : ℕ) (s : Seen) (told : Option (List (List ℕ))) (a : Session) → IsBegun s → IsFirst size told a → StandsFor s told a
+pub begun_stands : (size : ℕ) (s : Seen) (told : Option (List (List ℕ))) (a : Session) → IsBegun s → IsFirst size told a → StandsFor s told a
 begun_stands size s told a begun first =
     record {
       setup = ap (λ (x : Session). x.setup) first.session ∙ sym begun.setup;
@@ -150,7 +150,7 @@ left_is x k stands =
     (fun_ext (λ p. ap (placed_left_line p) (stands.calls p) ∙ left_line_is p (k.call p)))
 
 -- the same by whether `boot` was run
-left_by : (t : Seen) (told : Option (List (List ℕ))) (a : Session) (b : Bool) → StandsFor t told a → t.booted ≡ b → cond b (placed_left_lines t.placed) [] ≡ left_lines a.kernel
+pub left_by : (t : Seen) (told : Option (List (List ℕ))) (a : Session) (b : Bool) → StandsFor t told a → t.booted ≡ b → cond b (placed_left_lines t.placed) [] ≡ left_lines a.kernel
 left_by t told a false stands h = ap left_lines (sym (stands.unbooted h))
 left_by t told a true stands h =
     let has = stands.booted h in left_is t.placed has.kernel has.stands ∙ ap left_lines (sym has.is)

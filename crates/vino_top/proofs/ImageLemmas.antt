@@ -18,7 +18,7 @@ use Rattle.kernel_model.specs.Text.{line}
 use Rattle.vino_top.specs.Built.{present_build}
 use Rattle.vino_top.specs.Loading.{image_of, load_text}
 use Rattle.vino_top.specs.Standing.{Seen, caller_of}
-use Rattle.vino_top.specs.Run.{Place, Comes, RunsEntry}
+use Rattle.vino_top.specs.Run.{Place, Left, Says, Comes, RunsEntry}
 use Rattle.vino_top.specs.Bounds.{IsSessionWithin}
 use Rattle.vino_top.specs.declared.session.Session.{Session as CodeSession}
 use Rattle.kernel_state.specs.Stores.{Seeing}
@@ -96,11 +96,11 @@ pub same_slot : (x : Placed) (k : abstract.Kernel) (slot : ℕ) (b : Bool) → k
 same_slot x k slot b stands h = ap (λ (t : ImageTable). is_some (t slot)) (sym stands.images) ∙ h
 
 -- a session goes on by an image line
-pub image_runs : (c : Place) (s t : Seen) (slot : ℕ) (bytes : List ℕ) (y : Placed) (answer out : List ℕ) (d : DiskSeen) →
+pub image_runs : (c : Place) (s t : Seen) (slot : ℕ) (bytes : List ℕ) (y : Placed) (answer : List ℕ) (out : Left) (d : DiskSeen) →
     s.booted ≡ true → t ≡ record s { placed = y; events = s.events + 1 } →
     ((k : abstract.Kernel) → kernels.StandsFor plain s.placed k → IsAtRest plain k → ImageAnswers slot (load c.key bytes) k y answer) →
-    out ≡ line (decimal (s.events + 1) ++ 32 ∷ answer) → RunsEntry c (Loads slot bytes) s t d d out
-image_runs c s t slot bytes y answer out d booted state said text =
+    Says out (line (decimal (s.events + 1) ++ 32 ∷ answer)) → RunsEntry c (Loads slot bytes) s t d d out
+image_runs c s t slot bytes y answer out d booted state said written =
     let u = record s { placed = y; events = s.events + 1 } in
     subst (λ (x : Seen). RunsEntry c (Loads slot bytes) s x d d out) (sym state) (alone c (Loads slot bytes) s u out d (λ a stands.
     let has = stands.booted booted in
@@ -121,7 +121,8 @@ image_runs c s t slot bytes y answer out d booted state said text =
         blocks = stands.blocks;
       };
       used = refl;
-      bytes = text ∙ ap (λ (m : ℕ). line (decimal m ++ 32 ∷ answer)) number;
+      notes = written.no_notes;
+      bytes = written.bytes_are ∙ ap (λ (m : ℕ). line (decimal m ++ 32 ∷ answer)) number;
     })))
 
 -- one event more, in a session whose kernel runs and has the same store

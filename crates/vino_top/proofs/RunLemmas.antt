@@ -12,7 +12,7 @@ use Rattle.kernel_model.specs.Script.{LINE_BYTES}
 use Rattle.kernel_model.specs.Session.{Session}
 use Rattle.kernel_model.specs.Outcome.{lines_after, rest_after, ends_line, ended_line}
 use Rattle.disk_log.specs.Seen.{DiskSeen}
-use Rattle.vino_top.specs.Run.{Place, line_run, lines_run, pieces_run, UsesAll, MadeAll, AppendsPart, RunsLine, IsImageLine, Feeds, StopsAt, TakesLine}
+use Rattle.vino_top.specs.Run.{Place, line_run, lines_run, pieces_run, UsesAll, MadeAll, AppendsPart, Left, RunsLine, IsImageLine, Feeds, StopsAt, TakesLine}
 use Rattle.vino_top.specs.Standing.{Seen, StandsFor}
 use Rattle.vino_top.specs.declared.run.Stop.{Stop}
 use Rattle.vino_top.specs.declared.run.Stop.TheVariants.{SinkFailed, NoMemory}
@@ -40,14 +40,14 @@ pub all_made_one : (d e : DiskSeen) (io : List Bool) → Made d.faults e.faults 
 all_made_one d e io made = rw (append-nil io) made
 
 -- the calls of some lines, and of more
-all_made_joined : (d e f : DiskSeen) (is js : List (List Bool)) → MadeAll d e is → MadeAll e f js → MadeAll d f (is ++ js)
+pub all_made_joined : (d e f : DiskSeen) (is js : List (List Bool)) → MadeAll d e is → MadeAll e f js → MadeAll d f (is ++ js)
 all_made_joined d e f is js first second =
     rw (calls-append is js) (made_joined d.faults e.faults f.faults d.plan e.plan f.plan (flat_map (λ (io : List Bool). io) is) (flat_map (λ (io : List Bool). io) js) first second)
 
 -- ---- lines in two parts
 
 -- a session after lines that come in two parts
-after-append : (c : Place) (a : Session) (xs ys : List (List ℕ)) (is js : List (List Bool)) → length is ≡ length xs →
+pub after-append : (c : Place) (a : Session) (xs ys : List (List ℕ)) (is js : List (List Bool)) → length is ≡ length xs →
     lines_run c a (xs ++ ys) (is ++ js) ≡ lines_run c (lines_run c a xs is) ys js
 after-append c a [] ys [] js h = refl
 after-append c a [] ys (io ∷ is) js h = absurd (omega (arith, h))
@@ -64,7 +64,7 @@ pieces-append c a (x ∷ xs) ys (io ∷ is) js h =
     ap (λ ps. (line_run c a x io).bytes ∷ ps) (pieces-append c (line_run c a x io).session xs ys is js (omega (arith, h)))
 
 -- and their calls
-uses-append : (c : Place) (a : Session) (xs ys : List (List ℕ)) (is js : List (List Bool)) → length is ≡ length xs →
+pub uses-append : (c : Place) (a : Session) (xs ys : List (List ℕ)) (is js : List (List Bool)) → length is ≡ length xs →
     UsesAll c a xs is → UsesAll c (lines_run c a xs is) ys js → UsesAll c a (xs ++ ys) (is ++ js)
 uses-append c a [] ys [] js h p q = q
 uses-append c a [] ys (io ∷ is) js h p q = absurd (omega (arith, h))
@@ -280,9 +280,9 @@ stops_from c from less lines g h d e NoMemory into p =
 -- ---- one line
 
 -- what a line writes was written, or a part of it
-pub line_written : {T : Type 0} → (c : Place) (text : List ℕ) (s t : Seen) (out : List ℕ) (g h : Option (List ℕ)) (d e : DiskSeen) (r : Result T Stop) →
+pub line_written : {T : Type 0} → (c : Place) (text : List ℕ) (s t : Seen) (out : Left) (g h : Option (List ℕ)) (d e : DiskSeen) (r : Result T Stop) →
     RunsLine c text s t d e out → t.lines ≤ s.lines + 1 →
-    MatchResult r (λ _. Appends g h out) (λ stop. (stop ≡ SinkFailed) × AppendsPart g h out) →
+    MatchResult r (λ _. Appends g h out.bytes) (λ stop. (stop ≡ SinkFailed) × AppendsPart g h out.bytes) →
     MatchResult r (λ _. TakesLine c text s t g h d e) (StopsAt c (StandsFor s d.told) (text ∷ []) g h d e)
 line_written c text s t out g h d e (Ok x) runs lines p =
     record { lines = lines; out = out; appended = p; runs = runs }

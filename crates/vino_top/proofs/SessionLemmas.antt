@@ -3,6 +3,7 @@ use Rattle.std.proofs.Common.{length, codes, decimal, is_some, Result, Ok, Err, 
 use Rattle.std.specs.Prelude.{OnOk, slice_index_or, replicate, zero, nat_lt, ◌<◌}
 use Rattle.std.proofs.lemmas.Bool.Decides.{nat_tests}
 use Rattle.std.proofs.Math.Path.{fun_ext}
+use Rattle.kernel_model.specs.declared.TheConstants.{LAST_CALLABLE}
 use Rattle.kernel_model.specs.declared.Event.{Event}
 use Rattle.kernel_model.specs.declared.Note.{Note}
 use Rattle.disk_log.specs.Calls.{Tells}
@@ -35,7 +36,7 @@ use Rattle.kernel_core.specs.declared.kernel.BootNote.{BootNote}
 use Rattle.kernel_core.specs.Standing.{Booted, BootIs}
 use Rattle.vino_top.specs.Built.{present_build}
 use Rattle.vino_top.specs.Standing.{Seen, StandsFor, setup_of, code_seen}
-use Rattle.vino_top.specs.Run.{Place, line_run, Comes, RunsLine, RunsEntry, boot_line}
+use Rattle.vino_top.specs.Run.{Place, line_run, Left, Says, Comes, RunsLine, RunsEntry, boot_line}
 
 -- what is booted isn't not booted
 pub up_is_down : {A : Type 0} → true ≡ false → A
@@ -71,10 +72,10 @@ next_number : (s : Seen) (told : Option (List (List ℕ))) (a : Session) → Sta
 next_number s told a stands = add-one s.events ∙ ap suc (sym stands.events)
 
 -- a session goes on by an event, and writes the lines of its notes
-pub event_runs : (c : Place) (s : Seen) (x : Placed) (what : Event) (notes : List Note) (out : List ℕ) (d e : DiskSeen) →
-    s.booted ≡ true → Happened plain s.placed x (s.events + 1) what notes d e → out ≡ note_lines notes →
+pub event_runs : (c : Place) (s : Seen) (x : Placed) (what : Event) (notes : List Note) (out : Left) (d e : DiskSeen) →
+    s.booted ≡ true → Happened plain s.placed x (s.events + 1) what notes d e → out.bytes ≡ note_lines notes → out.notes ≡ notes →
     RunsEntry c (Happens what) s (record s { placed = x; events = s.events + 1 }) d e out
-event_runs c s x what notes out d e booted h text =
+event_runs c s x what notes out d e booted h text kept =
     record {
       io = h.io;
       made = h.made;
@@ -99,14 +100,15 @@ event_runs c s x what notes out d e booted h text =
             };
             used = is.all_made;
             bytes = text ∙ ap note_lines is.notes_are;
+            notes = kept ∙ is.notes_are;
           });
     }
 
 -- what comes of a boot: block 0 was read, or that failed
-boot_comes : (c : Place) (s : Seen) (x : Placed) (io : List Bool) (note : BootNote) (out : List ℕ) (told told_new : Option (List (List ℕ))) (a : Session) →
-    length io ≡ 1 → StandsFor s told a → BootIs plain s.setup c.size a.blocks io x note told_new → out ≡ line (boot_line note) →
+boot_comes : (c : Place) (s : Seen) (x : Placed) (io : List Bool) (note : BootNote) (out : Left) (told told_new : Option (List (List ℕ))) (a : Session) →
+    length io ≡ 1 → StandsFor s told a → BootIs plain s.setup c.size a.blocks io x note told_new → Says out (line (boot_line note)) →
     Comes (record s { placed = x; booted = true }) told_new out (after_entry present_build c.key c.size a Boot io)
-boot_comes c s x (true ∷ []) note out told told_new a one stands is text =
+boot_comes c s x (true ∷ []) note out told told_new a one stands is said =
     record {
       stands = record {
         setup = stands.setup;
@@ -116,16 +118,17 @@ boot_comes c s x (true ∷ []) note out told told_new a one stands is text =
         unbooted = λ down. up_is_down down;
         booted = λ up. record {
           kernel = opening_kernel (world_for s.setup c.size []);
-          is = ap (λ (u : Setup). Some (opening_kernel (world_of u c.size 15 []))) stands.setup;
+          is = ap (λ (u : Setup). Some (opening_kernel (world_of u c.size LAST_CALLABLE []))) stands.setup;
           stands = is.stands;
           rests = is.rests;
         };
         blocks = is.blocks_are;
       };
       used = refl;
-      bytes = text ∙ ap (λ (y : BootNote). line (boot_line y)) is.note_is;
+      bytes = said.bytes_are ∙ ap (λ (y : BootNote). line (boot_line y)) is.note_is;
+      notes = said.no_notes;
     }
-boot_comes c s x (false ∷ []) note out told told_new a one stands is text =
+boot_comes c s x (false ∷ []) note out told told_new a one stands is said =
     let rows = directory_of c.size (a.blocks 0) in
     record {
       stands = record {
@@ -136,32 +139,33 @@ boot_comes c s x (false ∷ []) note out told told_new a one stands is text =
         unbooted = λ down. up_is_down down;
         booted = λ up. record {
           kernel = opening_kernel (world_for s.setup c.size rows);
-          is = ap (λ (u : Setup). Some (opening_kernel (world_of u c.size 15 rows))) stands.setup;
+          is = ap (λ (u : Setup). Some (opening_kernel (world_of u c.size LAST_CALLABLE rows))) stands.setup;
           stands = is.stands;
           rests = is.rests;
         };
         blocks = is.blocks_are;
       };
       used = refl;
-      bytes = text ∙ ap (λ (y : BootNote). line (boot_line y)) is.note_is ∙ ap (λ (u : Setup). line (boot_text u.frames c.size (usable_count rows))) (sym stands.setup);
+      notes = said.no_notes;
+      bytes = said.bytes_are ∙ ap (λ (y : BootNote). line (boot_line y)) is.note_is ∙ ap (λ (u : Setup). line (boot_text u.frames c.size (usable_count rows))) (sym stands.setup);
     }
-boot_comes c s x [] note out told told_new a one stands is text = absurd (omega (arith, one))
-boot_comes c s x (y ∷ z ∷ io) note out told told_new a one stands is text = absurd (omega (arith, one))
+boot_comes c s x [] note out told told_new a one stands is said = absurd (omega (arith, one))
+boot_comes c s x (y ∷ z ∷ io) note out told told_new a one stands is said = absurd (omega (arith, one))
 
 -- a session once the kernel began
-pub boot_runs : (c : Place) (s : Seen) (x : Placed) (note : BootNote) (out : List ℕ) (d e : DiskSeen) →
-    Booted plain s.setup c.size x note d e → out ≡ line (boot_line note) → RunsEntry c Boot s (record s { placed = x; booted = true }) d e out
-boot_runs c s x note out d e h text =
-    record { io = h.io; made = h.made; comes = λ a stands. boot_comes c s x h.io note out d.told e.told a h.one stands (h.is a.blocks stands.blocks) text }
+pub boot_runs : (c : Place) (s : Seen) (x : Placed) (note : BootNote) (out : Left) (d e : DiskSeen) →
+    Booted plain s.setup c.size x note d e → Says out (line (boot_line note)) → RunsEntry c Boot s (record s { placed = x; booted = true }) d e out
+boot_runs c s x note out d e h said =
+    record { io = h.io; made = h.made; comes = λ a stands. boot_comes c s x h.io note out d.told e.told a h.one stands (h.is a.blocks stands.blocks) said }
 
 -- a session went on by an entry that leaves the disk alone
-pub alone : (c : Place) (entry : Entry) (s t : Seen) (out : List ℕ) (d : DiskSeen) →
+pub alone : (c : Place) (entry : Entry) (s t : Seen) (out : Left) (d : DiskSeen) →
     ((a : Session) → StandsFor s d.told a → Comes t d.told out (after_entry present_build c.key c.size a entry [])) → RunsEntry c entry s t d d out
 alone c entry s t out d comes = record { io = []; made = made_none d.faults d.plan; comes = comes }
 
 -- a blank line
-pub blank_runs : (c : Place) (s : Seen) (d : DiskSeen) → RunsEntry c Blank s s d d []
-blank_runs c s d = alone c Blank s s [] d (λ a stands. record { stands = stands; used = refl; bytes = refl })
+pub blank_runs : (c : Place) (s : Seen) (out : Left) (d : DiskSeen) → Says out [] → RunsEntry c Blank s s d d out
+blank_runs c s out d silent = alone c Blank s s out d (λ a stands. record { stands = stands; used = refl; bytes = silent.bytes_are; notes = silent.no_notes })
 
 -- a session with another set-up
 set_up : (s : Seen) (u : _) (told : Option (List (List ℕ))) (a : Session) (v : Setup) → v ≡ setup_of u → StandsFor s told a → StandsFor (record s { setup = u }) told (record a { setup = v })
@@ -169,42 +173,47 @@ set_up s u told a v is stands =
     record { setup = is; lines = stands.lines; events = stands.events; refused = stands.refused; unbooted = stands.unbooted; booted = stands.booted; blocks = stands.blocks }
 
 -- a line that sets the frames
-pub frames_runs : (c : Place) (s : Seen) (n : ℕ) (d : DiskSeen) → RunsEntry c (Frames n) s (record s { setup = record (s.setup) { frames = n } }) d d []
-frames_runs c s n d =
-    alone c (Frames n) s (record s { setup = record (s.setup) { frames = n } }) [] d (λ a stands.
-    record { stands = set_up s (record (s.setup) { frames = n }) d.told a (record (a.setup) { frames = n }) (ap (λ (u : Setup). record u { frames = n }) stands.setup) stands; used = refl; bytes = refl })
+pub frames_runs : (c : Place) (s : Seen) (n : ℕ) (out : Left) (d : DiskSeen) → Says out [] →
+    RunsEntry c (Frames n) s (record s { setup = record (s.setup) { frames = n } }) d d out
+frames_runs c s n out d silent =
+    alone c (Frames n) s (record s { setup = record (s.setup) { frames = n } }) out d (λ a stands.
+    record { stands = set_up s (record (s.setup) { frames = n }) d.told a (record (a.setup) { frames = n }) (ap (λ (u : Setup). record u { frames = n }) stands.setup) stands; used = refl; bytes = silent.bytes_are; notes = silent.no_notes })
 
 -- a line that sets the grant
-pub grant_runs : (c : Place) (s : Seen) (n : ℕ) (d : DiskSeen) → RunsEntry c (Grant n) s (record s { setup = record (s.setup) { grant = n } }) d d []
-grant_runs c s n d =
-    alone c (Grant n) s (record s { setup = record (s.setup) { grant = n } }) [] d (λ a stands.
-    record { stands = set_up s (record (s.setup) { grant = n }) d.told a (record (a.setup) { grant = n }) (ap (λ (u : Setup). record u { grant = n }) stands.setup) stands; used = refl; bytes = refl })
+pub grant_runs : (c : Place) (s : Seen) (n : ℕ) (out : Left) (d : DiskSeen) → Says out [] →
+    RunsEntry c (Grant n) s (record s { setup = record (s.setup) { grant = n } }) d d out
+grant_runs c s n out d silent =
+    alone c (Grant n) s (record s { setup = record (s.setup) { grant = n } }) out d (λ a stands.
+    record { stands = set_up s (record (s.setup) { grant = n }) d.told a (record (a.setup) { grant = n }) (ap (λ (u : Setup). record u { grant = n }) stands.setup) stands; used = refl; bytes = silent.bytes_are; notes = silent.no_notes })
 
 -- a line that sets the patience with a kind of object
-pub patience_runs : (c : Place) (s : Seen) (kind ticks : ℕ) (patience : List ℕ) (d : DiskSeen) → (λ k. slice_index_or patience k 10) ≡ at kind ticks (λ k. slice_index_or s.setup.patience k 10) →
-    RunsEntry c (Patience kind ticks) s (record s { setup = record (s.setup) { patience = patience } }) d d []
-patience_runs c s kind ticks patience d is =
-    alone c (Patience kind ticks) s (record s { setup = record (s.setup) { patience = patience } }) [] d (λ a stands.
+pub patience_runs : (c : Place) (s : Seen) (kind ticks : ℕ) (patience : List ℕ) (out : Left) (d : DiskSeen) →
+    (λ k. slice_index_or patience k 10) ≡ at kind ticks (λ k. slice_index_or s.setup.patience k 10) → Says out [] →
+    RunsEntry c (Patience kind ticks) s (record s { setup = record (s.setup) { patience = patience } }) d d out
+patience_runs c s kind ticks patience out d is silent =
+    alone c (Patience kind ticks) s (record s { setup = record (s.setup) { patience = patience } }) out d (λ a stands.
     record {
       stands = set_up s (record (s.setup) { patience = patience }) d.told a (with_patience kind ticks a.setup)
           (ap (with_patience kind ticks) stands.setup ∙ ap (λ (f : ℕ → ℕ). record (setup_of s.setup) { patience = f }) (sym is)) stands;
       used = refl;
-      bytes = refl;
+      bytes = silent.bytes_are;
+      notes = silent.no_notes;
     })
 
 -- an entry after `boot` that stands before it
-pub unbooted_runs : (c : Place) (entry : Entry) (s : Seen) (d : DiskSeen) → ((a : Session) → after_entry present_build c.key c.size a entry [] ≡ running_in present_build c.key c.size a entry a.kernel []) →
-    s.booted ≡ false → RunsEntry c entry s s d d []
-unbooted_runs c entry s d runs booted =
-    alone c entry s s [] d (λ a stands.
+pub unbooted_runs : (c : Place) (entry : Entry) (s : Seen) (out : Left) (d : DiskSeen) → ((a : Session) → after_entry present_build c.key c.size a entry [] ≡ running_in present_build c.key c.size a entry a.kernel []) →
+    s.booted ≡ false → Says out [] → RunsEntry c entry s s d d out
+unbooted_runs c entry s out d runs booted said =
+    alone c entry s s out d (λ a stands.
     let run : after_entry present_build c.key c.size a entry [] ≡ silent a [] =
     runs a ∙ ap (λ (o : Option abstract.Kernel). running_in present_build c.key c.size a entry o []) (stands.unbooted booted) in
-    subst (λ w. Comes s d.told [] w) (sym run) (record { stands = stands; used = refl; bytes = refl }))
+    subst (λ w. Comes s d.told out w) (sym run) (record { stands = stands; used = refl; bytes = said.bytes_are; notes = said.no_notes }))
 
 -- the rows of the kernel's whole state
-pub raw_runs : SameShown plain → (c : Place) (s : Seen) (out : List ℕ) (d : DiskSeen) → s.booted ≡ true → out ≡ row_lines (s.events + 1) (placed_rows s.placed) →
+pub raw_runs : SameShown plain → (c : Place) (s : Seen) (out : Left) (d : DiskSeen) → s.booted ≡ true →
+    Says out (row_lines (s.events + 1) (placed_rows s.placed)) →
     RunsEntry c Raw s (record s { events = s.events + 1 }) d d out
-raw_runs shown c s out d booted text =
+raw_runs shown c s out d booted said =
     alone c Raw s (record s { events = s.events + 1 }) out d (λ a stands.
     let has = stands.booted booted in
     let n = suc a.events in
@@ -222,7 +231,8 @@ raw_runs shown c s out d booted text =
         blocks = stands.blocks;
       };
       used = refl;
-      bytes = text ∙ ap (λ (m : ℕ). row_lines m (placed_rows s.placed)) number ∙ ap (row_lines n) (shown.rows s.placed has.kernel has.stands);
+      notes = said.no_notes;
+      bytes = said.bytes_are ∙ ap (λ (m : ℕ). row_lines m (placed_rows s.placed)) number ∙ ap (row_lines n) (shown.rows s.placed has.kernel has.stands);
     }))
 
 -- ---- lines
@@ -233,8 +243,8 @@ kernel_is_some s told a false stands h = ap is_some (stands.unbooted h)
 kernel_is_some s told a true stands h = ap is_some (stands.booted h).is
 
 -- a session after a refused line
-pub line_after_refusal : (c : Place) (s : Seen) (text : List ℕ) (d : DiskSeen) → s.refused ≡ true → RunsLine c text s s d d []
-line_after_refusal c s text d refused =
+pub line_after_refusal : (c : Place) (s : Seen) (text : List ℕ) (out : Left) (d : DiskSeen) → s.refused ≡ true → Says out [] → RunsLine c text s s d d out
+line_after_refusal c s text out d refused said =
     record {
       io = [];
       made = made_none d.faults d.plan;
@@ -244,7 +254,7 @@ line_after_refusal c s text d refused =
             | true ↦ silent a []
             | false ↦ after_parse present_build c.key c.size (record a { lines = suc a.lines }) (parsed_line (is_some a.kernel) text) []
           ]) (stands.refused ∙ refused) in
-          subst (λ w. Comes s d.told [] w) (sym is) (record { stands = stands; used = refl; bytes = refl });
+          subst (λ w. Comes s d.told out w) (sym is) (record { stands = stands; used = refl; bytes = said.bytes_are; notes = said.no_notes });
     }
 
 -- a line of a session that goes on is what its words say
@@ -274,7 +284,7 @@ counted s told a stands =
     }
 
 -- a line is run for what it says
-pub line_entered : (c : Place) (s t : Seen) (text out : List ℕ) (entry : Entry) (d e : DiskSeen) → s.refused ≡ false →
+pub line_entered : (c : Place) (s t : Seen) (text : List ℕ) (out : Left) (entry : Entry) (d e : DiskSeen) → s.refused ≡ false →
     parsed_line s.booted text ≡ Ok entry → RunsEntry c entry (record s { lines = s.lines + 1 }) t d e out → RunsLine c text s t d e out
 line_entered c s t text out entry d e going is runs =
     record {
@@ -291,10 +301,10 @@ refused_now s told a stands =
     record { setup = stands.setup; lines = stands.lines; events = stands.events; refused = refl; unbooted = stands.unbooted; booted = stands.booted; blocks = stands.blocks }
 
 -- a line is refused for this fault
-pub line_refused : (c : Place) (s t : Seen) (text out : List ℕ) (fault : ScriptFault) (d : DiskSeen) → s.refused ≡ false →
+pub line_refused : (c : Place) (s t : Seen) (text : List ℕ) (out : Left) (fault : ScriptFault) (d : DiskSeen) → s.refused ≡ false →
     parsed_line s.booted text ≡ Err fault → t ≡ record s { lines = s.lines + 1; refused = true } →
-    out ≡ line (codes "script" ++ spaced (s.lines + 1) ++ codes " S" ++ decimal (fault_number fault)) → RunsLine c text s t d d out
-line_refused c s t text out fault d going is state written =
+    Says out (line (codes "script" ++ spaced (s.lines + 1) ++ codes " S" ++ decimal (fault_number fault))) → RunsLine c text s t d d out
+line_refused c s t text out fault d going is state said =
     record {
       io = [];
       made = made_none d.faults d.plan;
@@ -304,7 +314,8 @@ line_refused c s t text out fault d going is state written =
             stands = subst (λ (x : Seen). StandsFor x d.told (record a { lines = suc a.lines; refused = true })) (sym state)
                 (refused_now (record s { lines = s.lines + 1 }) d.told (record a { lines = suc a.lines }) u);
             used = refl;
-            bytes = written ∙ ap (λ n. line (codes "script" ++ spaced n ++ codes " S" ++ decimal (fault_number fault))) (sym u.lines);
+            notes = said.no_notes;
+            bytes = said.bytes_are ∙ ap (λ n. line (codes "script" ++ spaced n ++ codes " S" ++ decimal (fault_number fault))) (sym u.lines);
           });
     }
 
@@ -320,8 +331,8 @@ long_said : (long booted : Bool) (text : List ℕ) → long ≡ true →
 long_said true booted text h = refl
 long_said false booted text h = down_is_up h
 
-pub line_too_long : (c : Place) (s t : Seen) (text out : List ℕ) (d : DiskSeen) → s.refused ≡ false → 65536 < length text → t ≡ record s { lines = s.lines + 1; refused = true } →
-    out ≡ line (codes "script" ++ spaced (s.lines + 1) ++ codes " S" ++ decimal 3) → RunsLine c text s t d d out
+pub line_too_long : (c : Place) (s t : Seen) (text : List ℕ) (out : Left) (d : DiskSeen) → s.refused ≡ false → 65536 < length text → t ≡ record s { lines = s.lines + 1; refused = true } →
+    Says out (line (codes "script" ++ spaced (s.lines + 1) ++ codes " S" ++ decimal 3)) → RunsLine c text s t d d out
 line_too_long c s t text out d going long state written =
     let is : nat_lt LINE_BYTES (length text) ≡ true = grind (arith, nat_tests, long) in
     line_refused c s t text out script_is.TooLong d going (long_said (nat_lt LINE_BYTES (length text)) s.booted text is) state written
@@ -351,9 +362,9 @@ refused_as text.NoMemory code said h r =
     let none : ℕ = 0 in let one : ℕ = 1 in let there : none ≡ one = ap count_of h in absurd (omega (arith, there))
 
 -- a line is refused with this code
-pub line_refused_as : (c : Place) (s t : Seen) (text out : List ℕ) (fault : TextFault) (code : ℕ) (d : DiskSeen) → s.refused ≡ false →
+pub line_refused_as : (c : Place) (s t : Seen) (text : List ℕ) (out : Left) (fault : TextFault) (code : ℕ) (d : DiskSeen) → s.refused ≡ false →
     code_seen fault ≡ Some code → Refuses fault (parsed_line s.booted text) → t ≡ record s { lines = s.lines + 1; refused = true } →
-    out ≡ line (codes "script" ++ spaced (s.lines + 1) ++ codes " S" ++ decimal code) → RunsLine c text s t d d out
+    Says out (line (codes "script" ++ spaced (s.lines + 1) ++ codes " S" ++ decimal code)) → RunsLine c text s t d d out
 line_refused_as c s t text out fault code d going seen refuses state written =
     let r = refused_as fault code (parsed_line s.booted text) seen refuses in
     line_refused c s t text out r.fault d going r.is state (rw r.number written)

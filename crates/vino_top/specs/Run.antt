@@ -5,6 +5,7 @@ use Rattle.std.specs.Io.KnownBytes.{Appends, Consumes, IsAtEnd, Keeps}
 use Rattle.vino_base.specs.Faults.{Rose}
 use Rattle.disk_log.specs.Calls.{Tells, Made}
 use Rattle.disk_log.specs.Seen.{DiskSeen}
+use Rattle.kernel_model.specs.declared.Note.{Note}
 use Rattle.kernel_model.specs.World.{Blocks}
 use Rattle.kernel_model.specs.Script.{words_of, first_word}
 use Rattle.kernel_model.specs.Session.{Session, Written, first_session, after_line, after_entry, session_after, pieces_of, first_io, later_io}
@@ -21,6 +22,7 @@ use Rattle.vino_top.specs.declared.words.Asked.{Asked}
 use Rattle.vino_top.specs.declared.words.Asked.TheVariants.{Run, Box, Check, Asm, Dis, Nothing}
 use Rattle.vino_top.specs.Built.{present_build}
 use Rattle.vino_top.specs.Standing.{Seen, StandsFor}
+use Rattle.vino_top.specs.declared.session.Buffers.{Buffers}
 use Rattle.vino_top.specs.declared.run.Stop.{Stop}
 use Rattle.vino_top.specs.declared.run.Stop.TheVariants.{SinkFailed, NoMemory}
 
@@ -77,22 +79,37 @@ pub record AppendsPart (old new : Option (List ℕ)) (bytes : List ℕ) : Type 0
 
 -- ---- a session of the code beside the abstract one
 
+-- what a line leaves behind: the bytes that it writes, and the notes of its event
+pub record Left : Type 0 where
+  pub bytes : List ℕ
+  pub notes : List Note
+
+-- what stands in the buffers
+abbrev pub left_in : Buffers → Left
+left_in b = record { bytes = b.lines; notes = b.notes }
+
+-- these bytes are left behind, and no note
+pub record Says (out : Left) (bytes : List ℕ) : Type 0 where
+  pub bytes_are : out.bytes ≡ bytes
+  pub no_notes : out.notes ≡ []
+
 -- what came of a line or an entry: the session and the disk stand for what is written of them, all calls of the list were made,
--- and the bytes are these
-pub record Comes (t : Seen) (told : Option (List (List ℕ))) (out : List ℕ) (w : Written) : Type 0 where
+-- and the bytes and notes are those that are left behind
+pub record Comes (t : Seen) (told : Option (List (List ℕ))) (out : Left) (w : Written) : Type 0 where
   pub stands : StandsFor t told w.session
   pub used : w.io ≡ []
-  pub bytes : out ≡ w.bytes
+  pub bytes : out.bytes ≡ w.bytes
+  pub notes : out.notes ≡ w.notes
 
--- The session went on by this line, which took the disk from the one to the other and writes `out`.
-pub record RunsLine (c : Place) (text : List ℕ) (s t : Seen) (d e : DiskSeen) (out : List ℕ) : Type 0 where
+-- The session went on by this line, which took the disk from the one to the other and left `out` behind.
+pub record RunsLine (c : Place) (text : List ℕ) (s t : Seen) (d e : DiskSeen) (out : Left) : Type 0 where
   -- which of its calls of the disk failed
   pub io : List Bool
   pub made : Made d.faults e.faults d.plan e.plan io
   pub comes : (a : Session) → StandsFor s d.told a → Comes t e.told out (line_run c a text io)
 
--- The session went on by this entry, which took the disk from the one to the other and writes `out`.
-pub record RunsEntry (c : Place) (entry : Entry) (s t : Seen) (d e : DiskSeen) (out : List ℕ) : Type 0 where
+-- The session went on by this entry, which took the disk from the one to the other and left `out` behind.
+pub record RunsEntry (c : Place) (entry : Entry) (s t : Seen) (d e : DiskSeen) (out : Left) : Type 0 where
   -- which of its calls of the disk failed
   pub io : List Bool
   pub made : Made d.faults e.faults d.plan e.plan io
@@ -169,8 +186,8 @@ StopsAt c from lines got got_new d e NoMemory = Lacks c from lines got got_new d
 -- the session went on by this line, and the sink took what the line writes
 pub record TakesLine (c : Place) (text : List ℕ) (s t : Seen) (got got_new : Option (List ℕ)) (d e : DiskSeen) : Type 0 where
   pub lines : t.lines ≤ s.lines + 1
-  pub out : List ℕ
-  pub appended : Appends got got_new out
+  pub out : Left
+  pub appended : Appends got got_new out.bytes
   pub runs : RunsLine c text s t d e out
 
 -- ---- a whole run
@@ -234,44 +251,6 @@ pub record Lacked (c : Place) (rest rest_new got got_new : Option (List ℕ)) (d
   pub within : length taken ≤ SCRIPT_BYTES + 1
   pub consumed : Consumes rest rest_new taken
   pub lacks : Lacks c (IsFirst c.size d.told) (script_lines taken) got got_new d e
-
--- ---- the words of the command line
-
--- a script was run under this key, over a disk of this size
-pub record RunDoes (c : Place) (rest rest_new : Option (List ℕ)) (before now : ℕ) (got got_new : Option (List ℕ)) (d e : DiskSeen) (status : ℕ) : Type 0 where
-  pub known : status ≢ 1
-  -- the status, the lines and the disk's blocks are those of the outcome
-  pub ran : status ≢ 4 → status ≢ 5 → Ran c rest rest_new before now got got_new d e status
-  -- the sink failed: it took what some lines write, and of what comes next a part, not whole
-  pub broke : status ≡ 4 → Broke c rest rest_new got got_new d e
-  -- want of memory stopped the run before its first byte, or at an `image` line: the lines before it are written
-  pub memory : status ≡ 5 → Keeps rest rest_new × Keeps got got_new × (e ≡ d) ⊎ Lacked c rest rest_new got got_new d e
-
--- a filter read its input, and answered under this key; the disk stays
-pub record FilterDoes (f : Filter) (key : List ℕ) (rest rest_new : Option (List ℕ)) (before now : ℕ) (got got_new : Option (List ℕ)) (d e : DiskSeen) (status : ℕ) : Type 0 where
-  pub known : status ≢ 1
-  -- the status and the bytes are those of the filter's answer
-  pub ran : status ≢ 4 → status ≢ 5 → filtered.Ran f key rest rest_new before now got got_new status
-  -- the sink failed: it took a part of the answer, not whole
-  pub broke : status ≡ 4 → filtered.Broke f key rest rest_new before now got got_new
-  -- with no memory nothing is written
-  pub memory : status ≡ 5 → filtered.Gave rest rest_new × Keeps got got_new
-  pub disk : e ≡ d
-
--- the usage line was written, nothing was read, and the disk stays
-abbrev pub UsageDoes : (rest rest_new got got_new : Option (List ℕ)) → (d e : DiskSeen) → (status : ℕ) → Type 0
-UsageDoes rest rest_new got got_new d e status =
-    Keeps rest rest_new × (e ≡ d)
-    × ((status ≡ 1) × Appends got got_new (line usage_text) ⊎ (status ≡ 4) × AppendsPart got got_new (line usage_text))
-
--- what is done for what the words ask, over a disk of this size
-abbrev pub Does : Asked → (size : ℕ) → (rest rest_new : Option (List ℕ)) → (before now : ℕ) → (got got_new : Option (List ℕ)) → (d e : DiskSeen) → (status : ℕ) → Type 0
-Does (Run key) size rest rest_new before now got got_new d e status = RunDoes (place key size) rest rest_new before now got got_new d e status
-Does (Box key) size rest rest_new before now got got_new d e status = FilterDoes filter.Box key rest rest_new before now got got_new d e status
-Does (Check key) size rest rest_new before now got got_new d e status = FilterDoes filter.Check key rest rest_new before now got got_new d e status
-Does Asm size rest rest_new before now got got_new d e status = FilterDoes filter.Asm [] rest rest_new before now got got_new d e status
-Does Dis size rest rest_new before now got got_new d e status = FilterDoes filter.Dis [] rest rest_new before now got got_new d e status
-Does Nothing size rest rest_new before now got got_new d e status = UsageDoes rest rest_new got got_new d e status
 
 -- ---- the steps of a run
 

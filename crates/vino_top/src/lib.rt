@@ -12,9 +12,11 @@ ghost use Rattle.graft_points.specs.Shelf.{IsShelf, pol_of, first_choice};
 ghost use Rattle.vino_top.specs.Standing.{seen_of, IsBegun};
 ghost use Rattle.vino_top.specs.Bounds.{IsSessionWithin};
 ghost use Rattle.vino_top.specs.Words.{asked_by};
-ghost use Rattle.vino_top.specs.Run.{place, AppendsPart, Ran, Broke, Lacked, Does};
+ghost use Rattle.vino_top.specs.Run.{place, AppendsPart, Ran, Broke, Lacked};
+ghost use Rattle.vino_top.specs.Does.{Does};
 ghost use Rattle.disk_log.specs.Seen.{disk_seen};
 
+mod demo;
 mod lines;
 mod loading;
 mod output;
@@ -23,6 +25,7 @@ mod session;
 mod words;
 
 use crate::words::Asked;
+pub use demo_text::demo_script;
 use graft_points::Policy;
 use std::alloc::Global;
 use vino_base::{Disk, Sink, Source};
@@ -31,8 +34,9 @@ use vino_base::{Disk, Sink, Source};
 const READ_BYTES: usize = 65_536;
 
 /// Does what the words ask: `run KEY` runs the script that the source gives, whose images are sealed under the key, `box KEY` boxes and seals the raw image that it
-/// gives, `check KEY` says whether a sealed image can be used, `asm` and `dis` assemble and disassemble what it gives, and
-/// for other words the usage line is written.
+/// gives, `check KEY` says whether a sealed image can be used, `asm` and `dis` assemble and disassemble what it gives,
+/// `demo N` runs the script that `demo_script` gives for N and tells of it in one line, and for other words the usage line
+/// is written.
 ///
 /// The words are those after the program's own name. The answer is the exit status: 0 for an input that
 /// was done to its end, 1 for words that aren't in the grammar, 2 for a refused line, 3 for a source and 4
@@ -66,6 +70,7 @@ pub fn vino<S: Source, K: Sink, D: Disk>(
         Asked::Check(key) => filters::check_image(alloc, &key, src, out),
         Asked::Asm => filters::asm(alloc, src, out),
         Asked::Dis => filters::dis(alloc, src, out),
+        Asked::Demo(n) => demo::demo(alloc, n, out, disk, shelf),
         Asked::Nothing => write_usage(out),
     }
 }

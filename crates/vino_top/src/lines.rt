@@ -27,13 +27,13 @@ pub struct Lines {
 }
 
 impl Model for Lines {
-    ghost use Rattle.std.specs.Prelude.{List, ℕ, ◌≤◌, vec_capacity};
+    ghost use Rattle.std.specs.Prelude.{List, ℕ, ◌≤◌, length, vec_capacity};
 
     ghost Value = { List ℕ };
 
     ghost view = { λ l. l.bytes.items };
 
-    ghost invariant = { λ l. 3028992 ≤ vec_capacity l.bytes };
+    ghost invariant = { λ l. (length l.bytes.items ≤ 3028992) × (3028992 ≤ vec_capacity l.bytes) };
 }
 
 impl Lines {
@@ -56,7 +56,8 @@ impl Lines {
 
     /// The bytes, in order.
     pub fn as_slice(&self) -> &[u8]
-        ensures { result.now ≡ self.now }
+        ensures value { result.now ≡ self.now }
+        ensures few { length result.now ≤ 3028992 }
     {
         self.bytes.as_slice()
     }

@@ -12,7 +12,7 @@ ghost use Rattle.vino_top.specs.Bounds.{IsSessionWithin};
 ghost use Rattle.vino_top.specs.Built.{is_load};
 ghost use Rattle.graft_points.specs.Shelf.{IsShelf, pol_of, first_choice};
 ghost use Rattle.vino_top.specs.Standing.{seen_of, IsBegun, last_bytes, code_seen};
-ghost use Rattle.vino_top.specs.Run.{Place, place, IsImageLine, RunsLine, RunsEntry, boot_line};
+ghost use Rattle.vino_top.specs.Run.{Place, place, IsImageLine, RunsLine, RunsEntry, boot_line, left_in};
 
 use crate::lines::Lines;
 use crate::loading::load_image;
@@ -127,7 +127,7 @@ impl Session {
         ensures within { IsSessionWithin (λ b. seen (b.vtable, b.value)) size self.new }
         ensures counted { self.new.lines ≤ self.old.lines + 1 }
         ensures same_size { D.block_count disk.new ≡ size }
-        ensures ok { OnOk result (RunsLine (place key.now size) text.now (seen_of (λ b. seen (b.vtable, b.value)) self.old) (seen_of (λ b. seen (b.vtable, b.value)) self.new) (disk_seen (D.blocks disk.old) (D.plan disk.old) (D.faults disk.old)) (disk_seen (D.blocks disk.new) (D.plan disk.new) (D.faults disk.new)) out.new.lines) }
+        ensures ok { OnOk result (RunsLine (place key.now size) text.now (seen_of (λ b. seen (b.vtable, b.value)) self.old) (seen_of (λ b. seen (b.vtable, b.value)) self.new) (disk_seen (D.blocks disk.old) (D.plan disk.old) (D.faults disk.old)) (disk_seen (D.blocks disk.new) (D.plan disk.new) (D.faults disk.new)) (left_in out.new)) }
         ensures err { OnErr result ((self.new ≡ self.old) × IsImageLine text.now × (self.old.refused ≡ false)) }
         ensures same_disk { OnErr result (disk_seen (D.blocks disk.new) (D.plan disk.new) (D.faults disk.new) ≡ disk_seen (D.blocks disk.old) (D.plan disk.old) (D.faults disk.old)) }
     {
@@ -160,7 +160,7 @@ impl Session {
         requires room { self.old.lines < 2 ^ 32 - 2 }
         ensures within { (size : ℕ) → IsSessionWithin (λ b. seen (b.vtable, b.value)) size self.old → IsSessionWithin (λ b. seen (b.vtable, b.value)) size self.new }
         ensures counted { self.new.lines ≤ self.old.lines + 1 }
-        ensures runs { (c : Place) (text : List ℕ) (d : DiskSeen) → 65536 < length text → RunsLine c text (seen_of (λ b. seen (b.vtable, b.value)) self.old) (seen_of (λ b. seen (b.vtable, b.value)) self.new) d d out.new.lines }
+        ensures runs { (c : Place) (text : List ℕ) (d : DiskSeen) → 65536 < length text → RunsLine c text (seen_of (λ b. seen (b.vtable, b.value)) self.old) (seen_of (λ b. seen (b.vtable, b.value)) self.new) d d (left_in out.new) }
     {
         out.clear();
         if self.refused {
@@ -174,6 +174,7 @@ impl Session {
     fn refuse(&mut self, code: u8, out: &mut Buffers)
         requires empty { out.old.lines ≡ [] }
         ensures state { self.new ≡ record self.old { refused = true } }
+        ensures notes { out.new.notes ≡ out.old.notes }
         ensures text { out.new.lines ≡ line (codes "script" ++ spaced self.old.lines ++ codes " S" ++ decimal code) }
     {
         self.refused = true;
@@ -202,7 +203,7 @@ impl Session {
         ensures within { IsSessionWithin (λ b. seen (b.vtable, b.value)) size self.new }
         ensures counted { self.new.lines ≡ self.old.lines }
         ensures same_size { D.block_count disk.new ≡ size }
-        ensures runs { OnOk result (RunsEntry (place key.now size) (entry_seen entry.now) (seen_of (λ b. seen (b.vtable, b.value)) self.old) (seen_of (λ b. seen (b.vtable, b.value)) self.new) (disk_seen (D.blocks disk.old) (D.plan disk.old) (D.faults disk.old)) (disk_seen (D.blocks disk.new) (D.plan disk.new) (D.faults disk.new)) out.new.lines) }
+        ensures runs { OnOk result (RunsEntry (place key.now size) (entry_seen entry.now) (seen_of (λ b. seen (b.vtable, b.value)) self.old) (seen_of (λ b. seen (b.vtable, b.value)) self.new) (disk_seen (D.blocks disk.old) (D.plan disk.old) (D.faults disk.old)) (disk_seen (D.blocks disk.new) (D.plan disk.new) (D.faults disk.new)) (left_in out.new)) }
         ensures err { OnErr result ((self.new ≡ self.old) × (is_load (entry_seen entry.now) ≡ true)) }
         ensures same_disk { OnErr result (disk_seen (D.blocks disk.new) (D.plan disk.new) (D.faults disk.new) ≡ disk_seen (D.blocks disk.old) (D.plan disk.old) (D.faults disk.old)) }
     {
@@ -241,11 +242,12 @@ impl Session {
         requires first { self.old.booted ≡ false }
         requires within { IsSessionWithin (λ b. seen (b.vtable, b.value)) size self.old }
         requires disk { D.block_count disk.old ≡ size }
+        requires no_notes { out.old.notes ≡ [] }
         requires empty { out.old.lines ≡ [] }
         ensures within { IsSessionWithin (λ b. seen (b.vtable, b.value)) size self.new }
         ensures counted { self.new.lines ≡ self.old.lines }
         ensures same_size { D.block_count disk.new ≡ size }
-        ensures runs { (key : List ℕ) → RunsEntry (place key size) Boot (seen_of (λ b. seen (b.vtable, b.value)) self.old) (seen_of (λ b. seen (b.vtable, b.value)) self.new) (disk_seen (D.blocks disk.old) (D.plan disk.old) (D.faults disk.old)) (disk_seen (D.blocks disk.new) (D.plan disk.new) (D.faults disk.new)) out.new.lines }
+        ensures runs { (key : List ℕ) → RunsEntry (place key size) Boot (seen_of (λ b. seen (b.vtable, b.value)) self.old) (seen_of (λ b. seen (b.vtable, b.value)) self.new) (disk_seen (D.blocks disk.old) (D.plan disk.old) (D.faults disk.old)) (disk_seen (D.blocks disk.new) (D.plan disk.new) (D.faults disk.new)) (left_in out.new) }
     {
         let note = self.kernel.boot(self.setup, disk);
         self.booted = true;
@@ -266,10 +268,11 @@ impl Session {
         requires room { self.old.lines < 2 ^ 32 - 1 }
         requires fresh { self.old.events < self.old.lines }
         requires within { (size : ℕ) × IsSessionWithin (λ b. seen (b.vtable, b.value)) size self.old }
+        requires no_notes { out.old.notes ≡ [] }
         requires empty { out.old.lines ≡ [] }
         ensures within { (size : ℕ) → IsSessionWithin (λ b. seen (b.vtable, b.value)) size self.old → IsSessionWithin (λ b. seen (b.vtable, b.value)) size self.new }
         ensures counted { self.new.lines ≡ self.old.lines }
-        ensures runs { OnOk result ((size : ℕ) (d : DiskSeen) → RunsEntry (place key.now size) (Loads slot bytes.now) (seen_of (λ b. seen (b.vtable, b.value)) self.old) (seen_of (λ b. seen (b.vtable, b.value)) self.new) d d out.new.lines) }
+        ensures runs { OnOk result ((size : ℕ) (d : DiskSeen) → RunsEntry (place key.now size) (Loads slot bytes.now) (seen_of (λ b. seen (b.vtable, b.value)) self.old) (seen_of (λ b. seen (b.vtable, b.value)) self.new) d d (left_in out.new)) }
         ensures err { OnErr result (self.new ≡ self.old) }
     {
         if !self.booted {
@@ -324,6 +327,7 @@ impl Session {
         requires room { self.old.events < 2 ^ 32 - 1 }
         requires empty { out.old.lines ≡ [] }
         ensures state { self.new ≡ record self.old { events = self.old.events + 1 } }
+        ensures notes { out.new.notes ≡ out.old.notes }
         ensures text { out.new.lines ≡ out.old.text }
     {
         self.events += 1;
@@ -334,11 +338,12 @@ impl Session {
     fn raw(&mut self, out: &mut Buffers)
         requires room { self.old.lines < 2 ^ 32 - 1 }
         requires fresh { self.old.events < self.old.lines }
+        requires no_notes { out.old.notes ≡ [] }
         requires empty { out.old.lines ≡ [] }
         requires within { (size : ℕ) × IsSessionWithin (λ b. seen (b.vtable, b.value)) size self.old }
         ensures within { (size : ℕ) → IsSessionWithin (λ b. seen (b.vtable, b.value)) size self.old → IsSessionWithin (λ b. seen (b.vtable, b.value)) size self.new }
         ensures counted { self.new.lines ≡ self.old.lines }
-        ensures runs { (c : Place) (d : DiskSeen) → RunsEntry c Raw (seen_of (λ b. seen (b.vtable, b.value)) self.old) (seen_of (λ b. seen (b.vtable, b.value)) self.new) d d out.new.lines }
+        ensures runs { (c : Place) (d : DiskSeen) → RunsEntry c Raw (seen_of (λ b. seen (b.vtable, b.value)) self.old) (seen_of (λ b. seen (b.vtable, b.value)) self.new) d d (left_in out.new) }
     {
         agreeing::same_shown::<PlainRules>();
         if self.booted {
@@ -358,7 +363,7 @@ impl Session {
         ensures within { IsSessionWithin (λ b. seen (b.vtable, b.value)) size self.new }
         ensures counted { self.new.lines ≡ self.old.lines }
         ensures same_size { D.block_count disk.new ≡ size }
-        ensures runs { (key : List ℕ) → RunsEntry (place key size) (Happens event.now) (seen_of (λ b. seen (b.vtable, b.value)) self.old) (seen_of (λ b. seen (b.vtable, b.value)) self.new) (disk_seen (D.blocks disk.old) (D.plan disk.old) (D.faults disk.old)) (disk_seen (D.blocks disk.new) (D.plan disk.new) (D.faults disk.new)) out.new.lines }
+        ensures runs { (key : List ℕ) → RunsEntry (place key size) (Happens event.now) (seen_of (λ b. seen (b.vtable, b.value)) self.old) (seen_of (λ b. seen (b.vtable, b.value)) self.new) (disk_seen (D.blocks disk.old) (D.plan disk.old) (D.faults disk.old)) (disk_seen (D.blocks disk.new) (D.plan disk.new) (D.faults disk.new)) (left_in out.new) }
     {
         if self.booted {
             self.events += 1;

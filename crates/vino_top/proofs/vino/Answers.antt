@@ -1,5 +1,5 @@
 -- What is done for what the words ask.
-use Rattle.std.proofs.Common.{◌≡◌, ◌≢◌, ◌⊎◌, ℕ, sym, ◌∙◌, refl, arith}
+use Rattle.std.proofs.Common.{◌≡◌, ◌≢◌, ◌⊎◌, ℕ, sym, ◌∙◌, refl, arith, inl, inr}
 use Rattle.vino_top.proofs.EndLemmas.{kept, known_run}
 use Rattle.vino_top.proofs.vino.Goals as goal
 
@@ -55,6 +55,20 @@ returns-in-Check-clause-does g c =
       memory = c.check_image.ensures.memory;
       disk = refl;
     })
+
+pub returns-in-Demo-clause-does : goal.returns-in-Demo-clause-does
+returns-in-Demo-clause-does g c =
+    let demo = c.demo.ensures in
+    rw (sym c.read_words.ensures ∙ c.in-Demo.is) (
+      kept (g.S.Source.rest c.args.src.now),
+      elim demo.statuses [
+        | inl done ↦ inl (done, demo.ran done)
+        | inr others ↦ inr (elim others [
+          | inl broken ↦ inl (broken, demo.broke broken)
+          | inr lacking ↦ inr (lacking, (demo.memory lacking).0, (demo.memory lacking).1)
+        ])
+      ],
+    )
 
 pub returns-in-Nothing-clause-does : goal.returns-in-Nothing-clause-does
 returns-in-Nothing-clause-does g c =

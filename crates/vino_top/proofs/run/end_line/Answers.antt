@@ -1,5 +1,5 @@
 -- What the line writes was written, or a part of it; or there was no memory for it.
-use Rattle.vino_top.specs.Run.{place}
+use Rattle.vino_top.specs.Run.{place, left_in}
 use Rattle.vino_top.specs.Standing.{seen_of}
 use Rattle.vino_top.proofs.RunLemmas.{line_written, line_lacks}
 use Rattle.vino_top.proofs.run.end_line.Goals as goal
@@ -10,5 +10,5 @@ returns-in-Err-clause-contents g c =
 
 pub returns-clause-contents : goal.returns-clause-contents
 returns-clause-contents g c =
-    line_written (place c.args.key.now c.args.size) c.args.reader.now.line (seen_of (λ b. (goal.Policy-dyn g (b.vtable, b.value)).seen b.value) c.args.reader.now.session) (seen_of (λ b. (goal.Policy-dyn g (b.vtable, b.value)).seen b.value) c.run_line.new.self) c.run_line.new.out.lines _ _ _ _ c.write_lines.result
+    line_written (place c.args.key.now c.args.size) c.args.reader.now.line (seen_of (λ b. (goal.Policy-dyn g (b.vtable, b.value)).seen b.value) c.args.reader.now.session) (seen_of (λ b. (goal.Policy-dyn g (b.vtable, b.value)).seen b.value) c.run_line.new.self) (left_in c.run_line.new.out) _ _ _ _ c.write_lines.result
     (rw c.line.ensures.value at c.in_default.ensures.ok) c.run_line.ensures.counted c.write_lines.ensures.contents

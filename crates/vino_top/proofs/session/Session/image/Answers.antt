@@ -20,12 +20,13 @@ add_image-requires-clause-stood g c = (c.requires.within.1.kernel c.if-not-self.
 
 pub returns-then-not-self-clause-runs : goal.returns-then-not-self-clause-runs
 returns-then-not-self-clause-runs g c = λ size d.
-    rw c.requires.empty (unbooted_runs (place c.args.key.now size) (Loads c.args.slot c.args.bytes.now) (seen_of (λ b. (goal.Policy-dyn g (b.vtable, b.value)).seen b.value) c.args.self.now) d (λ a. refl) c.if-not-self.true)
+    unbooted_runs (place c.args.key.now size) (Loads c.args.slot c.args.bytes.now) (seen_of (λ b. (goal.Policy-dyn g (b.vtable, b.value)).seen b.value) c.args.self.now) _ d (λ a. refl) c.if-not-self.true
+    (record { bytes_are = c.requires.empty; no_notes = c.requires.no_notes })
 
 pub returns-then-slot-gt-LAST_SLOT-clause-runs : goal.returns-then-slot-gt-LAST_SLOT-clause-runs
 returns-then-slot-gt-LAST_SLOT-clause-runs g c = λ size d.
     let x = placed_of (λ b. (goal.Policy-dyn g (b.vtable, b.value)).seen b.value) stage_of c.args.self.now.kernel.running in
-    image_runs (place c.args.key.now size) (seen_of (λ b. (goal.Policy-dyn g (b.vtable, b.value)).seen b.value) c.args.self.now) (seen_of (λ b. (goal.Policy-dyn g (b.vtable, b.value)).seen b.value) c.answer_image.new.self) c.args.slot c.args.bytes.now x (codes "E8") c.answer_image.new.out.lines d
+    image_runs (place c.args.key.now size) (seen_of (λ b. (goal.Policy-dyn g (b.vtable, b.value)).seen b.value) c.args.self.now) (seen_of (λ b. (goal.Policy-dyn g (b.vtable, b.value)).seen b.value) c.answer_image.new.self) c.args.slot c.args.bytes.now x (codes "E8") _ d
     c.if-not-self.false (ap (λ s. seen_of (λ b. (goal.Policy-dyn g (b.vtable, b.value)).seen b.value) s) c.answer_image.ensures.state)
     (λ k stands rests. record {
       kernel = k;
@@ -33,12 +34,12 @@ returns-then-slot-gt-LAST_SLOT-clause-runs g c = λ size d.
       stands = stands;
       rests = rests;
     })
-    (c.answer_image.ensures.text ∙ c.print_note.ensures)
+    (record { bytes_are = c.answer_image.ensures.text ∙ c.print_note.ensures; no_notes = c.answer_image.ensures.notes ∙ c.requires.no_notes })
 
 pub returns-then-has_image-clause-runs : goal.returns-then-has_image-clause-runs
 returns-then-has_image-clause-runs g c = λ size d.
     let x = placed_of (λ b. (goal.Policy-dyn g (b.vtable, b.value)).seen b.value) stage_of c.args.self.now.kernel.running in
-    image_runs (place c.args.key.now size) (seen_of (λ b. (goal.Policy-dyn g (b.vtable, b.value)).seen b.value) c.args.self.now) (seen_of (λ b. (goal.Policy-dyn g (b.vtable, b.value)).seen b.value) c.answer_image-then-has_image.new.self) c.args.slot c.args.bytes.now x (codes "E10") c.answer_image-then-has_image.new.out.lines d
+    image_runs (place c.args.key.now size) (seen_of (λ b. (goal.Policy-dyn g (b.vtable, b.value)).seen b.value) c.args.self.now) (seen_of (λ b. (goal.Policy-dyn g (b.vtable, b.value)).seen b.value) c.answer_image-then-has_image.new.self) c.args.slot c.args.bytes.now x (codes "E10") _ d
     c.if-not-self.false (ap (λ s. seen_of (λ b. (goal.Policy-dyn g (b.vtable, b.value)).seen b.value) s) c.answer_image-then-has_image.ensures.state)
     (λ k stands rests. record {
       kernel = k;
@@ -46,12 +47,12 @@ returns-then-has_image-clause-runs g c = λ size d.
       stands = stands;
       rests = rests;
     })
-    (c.answer_image-then-has_image.ensures.text ∙ c.print_note-then-has_image.ensures)
+    (record { bytes_are = c.answer_image-then-has_image.ensures.text ∙ c.print_note-then-has_image.ensures; no_notes = c.answer_image-then-has_image.ensures.notes ∙ c.requires.no_notes })
 
 pub returns-in-None-clause-runs : goal.returns-in-None-clause-runs
 returns-in-None-clause-runs g c = λ size d.
     let x = placed_of (λ b. (goal.Policy-dyn g (b.vtable, b.value)).seen b.value) stage_of c.args.self.now.kernel.running in
-    image_runs (place c.args.key.now size) (seen_of (λ b. (goal.Policy-dyn g (b.vtable, b.value)).seen b.value) c.args.self.now) (seen_of (λ b. (goal.Policy-dyn g (b.vtable, b.value)).seen b.value) c.answer_image-in-None.new.self) c.args.slot c.args.bytes.now x (load_text (load c.args.key.now c.args.bytes.now)) c.answer_image-in-None.new.out.lines d
+    image_runs (place c.args.key.now size) (seen_of (λ b. (goal.Policy-dyn g (b.vtable, b.value)).seen b.value) c.args.self.now) (seen_of (λ b. (goal.Policy-dyn g (b.vtable, b.value)).seen b.value) c.answer_image-in-None.new.self) c.args.slot c.args.bytes.now x (load_text (load c.args.key.now c.args.bytes.now)) _ d
     c.if-not-self.false (ap (λ s. seen_of (λ b. (goal.Policy-dyn g (b.vtable, b.value)).seen b.value) s) c.answer_image-in-None.ensures.state)
     (λ k stands rests. record {
       kernel = k;
@@ -59,12 +60,12 @@ returns-in-None-clause-runs g c = λ size d.
       stands = stands;
       rests = rests;
     })
-    (c.answer_image-in-None.ensures.text ∙ c.in_ok-load_image.ensures.text)
+    (record { bytes_are = c.answer_image-in-None.ensures.text ∙ c.in_ok-load_image.ensures.text; no_notes = c.answer_image-in-None.ensures.notes ∙ c.requires.no_notes })
 
 pub returns-in-Some-clause-runs : goal.returns-in-Some-clause-runs
 returns-in-Some-clause-runs g c = λ size d.
     let x = placed_of (λ b. (goal.Policy-dyn g (b.vtable, b.value)).seen b.value) stage_of c.args.self.now.kernel.running in
-    image_runs (place c.args.key.now size) (seen_of (λ b. (goal.Policy-dyn g (b.vtable, b.value)).seen b.value) c.args.self.now) (seen_of (λ b. (goal.Policy-dyn g (b.vtable, b.value)).seen b.value) c.answer_image-in-Some.new.self) c.args.slot c.args.bytes.now (placed_of (λ b. (goal.Policy-dyn g (b.vtable, b.value)).seen b.value) stage_of c.add_image.new.self.running) (load_text (load c.args.key.now c.args.bytes.now)) c.answer_image-in-Some.new.out.lines d
+    image_runs (place c.args.key.now size) (seen_of (λ b. (goal.Policy-dyn g (b.vtable, b.value)).seen b.value) c.args.self.now) (seen_of (λ b. (goal.Policy-dyn g (b.vtable, b.value)).seen b.value) c.answer_image-in-Some.new.self) c.args.slot c.args.bytes.now (placed_of (λ b. (goal.Policy-dyn g (b.vtable, b.value)).seen b.value) stage_of c.add_image.new.self.running) (load_text (load c.args.key.now c.args.bytes.now)) _ d
     c.if-not-self.false (ap (λ s. seen_of (λ b. (goal.Policy-dyn g (b.vtable, b.value)).seen b.value) s) c.answer_image-in-Some.ensures.state)
     (λ k stands rests. record {
       kernel = add_image c.args.slot c.in-Some.image k;
@@ -72,7 +73,7 @@ returns-in-Some-clause-runs g c = λ size d.
       stands = c.add_image.ensures.stands k stands;
       rests = c.add_image.ensures.rests k stands rests;
     })
-    (c.answer_image-in-Some.ensures.text ∙ c.in_ok-load_image.ensures.text)
+    (record { bytes_are = c.answer_image-in-Some.ensures.text ∙ c.in_ok-load_image.ensures.text; no_notes = c.answer_image-in-Some.ensures.notes ∙ c.requires.no_notes })
 
 pub returns-in-Some-clause-within : goal.returns-in-Some-clause-within
 returns-in-Some-clause-within g c = λ size within.

@@ -7,11 +7,13 @@ use Rattle.vino_top.proofs.session.Session.raw.Goals as goal
 
 pub returns-then-self-clause-runs : goal.returns-then-self-clause-runs
 returns-then-self-clause-runs g c = λ place d.
-    raw_runs c.same_shown.ensures place (seen_of (λ b. (goal.Policy-dyn g (b.vtable, b.value)).seen b.value) c.args.self.now) c.add_rows.new.self d c.if-self.true c.add_rows.ensures
+    raw_runs c.same_shown.ensures place (seen_of (λ b. (goal.Policy-dyn g (b.vtable, b.value)).seen b.value) c.args.self.now) _ d c.if-self.true
+    (record { bytes_are = c.add_rows.ensures; no_notes = c.requires.no_notes })
 
 pub returns-else-self-clause-runs : goal.returns-else-self-clause-runs
 returns-else-self-clause-runs g c = λ place d.
-    rw c.requires.empty (unbooted_runs place Raw (seen_of (λ b. (goal.Policy-dyn g (b.vtable, b.value)).seen b.value) c.args.self.now) d (λ a. refl) c.if-self.false)
+    unbooted_runs place Raw (seen_of (λ b. (goal.Policy-dyn g (b.vtable, b.value)).seen b.value) c.args.self.now) _ d (λ a. refl) c.if-self.false
+    (record { bytes_are = c.requires.empty; no_notes = c.requires.no_notes })
 
 pub returns-then-self-clause-within : goal.returns-then-self-clause-within
 returns-then-self-clause-within g c = λ size within.

@@ -1,0 +1,15 @@
+-- The line went on, and what it left behind is tallied.
+use Rattle.disk_log.specs.Seen.{disk_seen}
+use Rattle.vino_top.specs.Run.{left_in}
+use Rattle.vino_top.specs.Standing.{seen_of}
+use Rattle.vino_top.specs.Demos.{demo_place}
+use Rattle.vino_top.proofs.DemoLemmas.{demo_takes}
+use Rattle.vino_top.proofs.demo.run_one.Goals as goal
+
+pub returns-clause-ok : goal.returns-clause-ok
+returns-clause-ok g c =
+    demo_takes (demo_place c.args.size) c.args.text.now (seen_of (λ b. (goal.Policy-dyn g (b.vtable, b.value)).seen b.value) c.args.run.now.session)
+    (seen_of (λ b. (goal.Policy-dyn g (b.vtable, b.value)).seen b.value) c.run_line.new.self)
+    _ _ (left_in c.run_line.new.out) c.as_slice.result.now c.list.result.now _ _
+    c.run_line.ensures.counted c.in_ok-run_line.ensures.ok c.as_slice.ensures.value c.list.ensures.value c.as_slice.ensures.few c.list.ensures.few
+    c.add.ensures

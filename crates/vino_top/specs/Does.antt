@@ -1,0 +1,57 @@
+-- What a call of `vino` does, by what the words of the command line ask.
+use Rattle.std.specs.Prelude.{◌≡◌, ◌≢◌, ℕ, ◌⊎◌, List, [], Option}
+use Rattle.std.specs.Io.KnownBytes.{Appends, Keeps}
+use Rattle.disk_log.specs.Seen.{DiskSeen}
+use Rattle.kernel_model.specs.Text.{line, usage_text}
+use Rattle.kernel_model.specs.Filters.{Filter}
+use Rattle.kernel_model.specs.Filters as filter
+use Rattle.filters.specs.Filtered as filtered
+use Rattle.vino_top.specs.declared.words.Asked.{Asked}
+use Rattle.vino_top.specs.declared.words.Asked.TheVariants.{Run, Box, Check, Asm, Dis, Demo, Nothing}
+use Rattle.vino_top.specs.Run.{Place, place, AppendsPart, Ran, Broke, Lacked}
+use Rattle.vino_top.specs.Demos.{DemoRan, DemoLacked}
+
+-- a script was run under this key, over a disk of this size
+pub record RunDoes (c : Place) (rest rest_new : Option (List ℕ)) (before now : ℕ) (got got_new : Option (List ℕ)) (d e : DiskSeen) (status : ℕ) : Type 0 where
+  pub known : status ≢ 1
+  -- the status, the lines and the disk's blocks are those of the outcome
+  pub ran : status ≢ 4 → status ≢ 5 → Ran c rest rest_new before now got got_new d e status
+  -- the sink failed: it took what some lines write, and of what comes next a part, not whole
+  pub broke : status ≡ 4 → Broke c rest rest_new got got_new d e
+  -- want of memory stopped the run before its first byte, or at an `image` line: the lines before it are written
+  pub memory : status ≡ 5 → Keeps rest rest_new × Keeps got got_new × (e ≡ d) ⊎ Lacked c rest rest_new got got_new d e
+
+-- a filter read its input, and answered under this key; the disk stays
+pub record FilterDoes (f : Filter) (key : List ℕ) (rest rest_new : Option (List ℕ)) (before now : ℕ) (got got_new : Option (List ℕ)) (d e : DiskSeen) (status : ℕ) : Type 0 where
+  pub known : status ≢ 1
+  -- the status and the bytes are those of the filter's answer
+  pub ran : status ≢ 4 → status ≢ 5 → filtered.Ran f key rest rest_new before now got got_new status
+  -- the sink failed: it took a part of the answer, not whole
+  pub broke : status ≡ 4 → filtered.Broke f key rest rest_new before now got got_new
+  -- with no memory nothing is written
+  pub memory : status ≡ 5 → filtered.Gave rest rest_new × Keeps got got_new
+  pub disk : e ≡ d
+
+-- the usage line was written, nothing was read, and the disk stays
+abbrev pub UsageDoes : (rest rest_new got got_new : Option (List ℕ)) → (d e : DiskSeen) → (status : ℕ) → Type 0
+UsageDoes rest rest_new got got_new d e status =
+    Keeps rest rest_new × (e ≡ d)
+    × ((status ≡ 1) × Appends got got_new (line usage_text) ⊎ (status ≡ 4) × AppendsPart got got_new (line usage_text))
+
+-- the generated script was run, nothing was read, and the line that tells of it was written
+abbrev pub DemoDoes : (n size : ℕ) → (rest rest_new got got_new : Option (List ℕ)) → (d e : DiskSeen) → (status : ℕ) → Type 0
+DemoDoes n size rest rest_new got got_new d e status =
+    Keeps rest rest_new
+    × ((status ≡ 0) × DemoRan n size d e (λ told. Appends got got_new told)
+    ⊎ (status ≡ 4) × DemoRan n size d e (λ told. AppendsPart got got_new told)
+    ⊎ (status ≡ 5) × Keeps got got_new × ((e ≡ d) ⊎ DemoLacked n size d e))
+
+-- what is done for what the words ask, over a disk of this size
+abbrev pub Does : Asked → (size : ℕ) → (rest rest_new : Option (List ℕ)) → (before now : ℕ) → (got got_new : Option (List ℕ)) → (d e : DiskSeen) → (status : ℕ) → Type 0
+Does (Run key) size rest rest_new before now got got_new d e status = RunDoes (place key size) rest rest_new before now got got_new d e status
+Does (Box key) size rest rest_new before now got got_new d e status = FilterDoes filter.Box key rest rest_new before now got got_new d e status
+Does (Check key) size rest rest_new before now got got_new d e status = FilterDoes filter.Check key rest rest_new before now got got_new d e status
+Does Asm size rest rest_new before now got got_new d e status = FilterDoes filter.Asm [] rest rest_new before now got got_new d e status
+Does Dis size rest rest_new before now got got_new d e status = FilterDoes filter.Dis [] rest rest_new before now got got_new d e status
+Does (Demo n) size rest rest_new before now got got_new d e status = DemoDoes n size rest rest_new got got_new d e status
+Does Nothing size rest rest_new before now got got_new d e status = UsageDoes rest rest_new got got_new d e status

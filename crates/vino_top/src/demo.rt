@@ -1,0 +1,188 @@
+//! The word `demo`: the generated script is run, and one line tells of it.
+
+ghost use Rattle.std.specs.Prelude.{◌≡◌, ◌⊎◌, ◌≤◌, ◌<◌, ◌+◌, ◌-◌, ◌^◌, ◌++◌, ℕ, [], length, map, OnOk, OnErr, IfOk};
+ghost use Rattle.std.specs.Io.KnownBytes.{Appends, Keeps};
+ghost use Rattle.vino_base.specs.Faults.{Rose};
+ghost use Rattle.disk_log.specs.Seen.{disk_seen};
+ghost use Rattle.kernel_model.specs.Demo.{demo_lines, summary_of};
+ghost use Rattle.kernel_model.specs.Opening.{opening_policy};
+ghost use Rattle.demo_text.specs.Tallies.{IsTally};
+ghost use Rattle.graft_points.specs.Shelf.{IsShelf, pol_of, first_choice};
+ghost use Rattle.vino_top.specs.Bounds.{IsSessionWithin};
+ghost use Rattle.vino_top.specs.Standing.{seen_of, IsBegun, last_bytes};
+ghost use Rattle.vino_top.specs.Run.{AppendsPart, IsImageLine, Left};
+ghost use Rattle.vino_top.specs.Demos.{demo_place, HasRoom, DemoRan, DemoLacked, DemoTakes, DemoReached, DemoStops};
+
+use crate::output::write_all;
+use crate::session::{Buffers, Session};
+use demo_text::{DemoLines, Tally};
+use graft_points::Policy;
+use kernel_model::NoMemory;
+use line_text::Text;
+use std::alloc::Global;
+use vino_base::{Disk, Sink};
+
+/// The key of the script's images.
+const KEY: [u8; 32] = [0; 32];
+
+/// A run of the generated script: its session, what a line leaves behind, and what all lines came to.
+#[derive(Drop)]
+struct DemoRun {
+    session: Session,
+    out: Buffers,
+    tally: Tally,
+}
+
+/// Before the first line, with the stock policies.
+fn begin(alloc: Global, shelf: Vec<Box<dyn Policy>>) -> Result<DemoRun, NoMemory>
+    requires shelf { IsShelf (map (λ b. seen b) shelf.items) }
+    requires stock { pol_of (map (λ b. seen b) shelf.items) first_choice ≡ opening_policy }
+    ensures within { IfOk result (λ r. (size : ℕ) → IsSessionWithin (λ b. seen b) size r.session) }
+    ensures begun { IfOk result (λ r. IsBegun (seen_of (λ b. seen b) r.session)) }
+    ensures tally { IfOk result (λ r. IsTally r.tally [] []) }
+{
+    Ok(DemoRun {
+        session: Session::new(alloc, shelf)?,
+        out: Buffers::new(alloc)?,
+        tally: Tally::new(),
+    })
+}
+
+/// Runs a line, and tallies what it leaves behind.
+fn run_one<D: Disk>(
+    alloc: Global,
+    run: &mut DemoRun,
+    text: &[u8],
+    size: u32,
+    disk: &mut D,
+) -> Result<(), NoMemory>
+    requires room { run.old.session.lines < 2 ^ 32 - 2 }
+    requires within { IsSessionWithin (λ b. seen (b.vtable, b.value)) size run.old.session }
+    requires short { length text.now ≤ 2048 }
+    requires disk { D.block_count disk.old ≡ size }
+    requires tally { HasRoom run.old.tally }
+    ensures within { IsSessionWithin (λ b. seen (b.vtable, b.value)) size run.new.session }
+    ensures same_size { D.block_count disk.new ≡ size }
+    ensures ok { OnOk result (DemoTakes (demo_place size) text.now (seen_of (λ b. seen (b.vtable, b.value)) run.old.session)
+        (seen_of (λ b. seen (b.vtable, b.value)) run.new.session) (disk_seen (D.blocks disk.old) (D.plan disk.old) (D.faults disk.old))
+        (disk_seen (D.blocks disk.new) (D.plan disk.new) (D.faults disk.new)) run.old.tally run.new.tally) }
+    ensures err { OnErr result (IsImageLine text.now) }
+    ensures same_disk { OnErr result (disk_seen (D.blocks disk.new) (D.plan disk.new) (D.faults disk.new) ≡ disk_seen (D.blocks disk.old) (D.plan disk.old) (D.faults disk.old)) }
+{
+    run.session
+        .run_line(alloc, &KEY, text, size, disk, &mut run.out)?;
+    run.tally
+        .add(run.out.lines.as_slice(), run.out.notes.list());
+    Ok(())
+}
+
+/// Runs all lines that are to come.
+fn run_all<D: Disk>(
+    alloc: Global,
+    run: &mut DemoRun,
+    lines: &mut DemoLines,
+    size: u32,
+    disk: &mut D,
+) -> Result<(), NoMemory>
+    requires few { length lines.old ≤ 5026 }
+    requires begun { IsBegun (seen_of (λ b. seen (b.vtable, b.value)) run.old.session) }
+    requires within { IsSessionWithin (λ b. seen (b.vtable, b.value)) size run.old.session }
+    requires disk { D.block_count disk.old ≡ size }
+    requires tally { IsTally run.old.tally [] [] }
+    ensures ok { OnOk result (DemoReached (demo_place size) lines.old [] (seen_of (λ b. seen (b.vtable, b.value)) run.old.session)
+        (seen_of (λ b. seen (b.vtable, b.value)) run.new.session) (disk_seen (D.blocks disk.old) (D.plan disk.old) (D.faults disk.old))
+        (disk_seen (D.blocks disk.new) (D.plan disk.new) (D.faults disk.new)) run.new.tally) }
+    ensures err { OnErr result (DemoStops (demo_place size) lines.old (seen_of (λ b. seen (b.vtable, b.value)) run.old.session)
+        (disk_seen (D.blocks disk.old) (D.plan disk.old) (D.faults disk.old))
+        (disk_seen (D.blocks disk.new) (D.plan disk.new) (D.faults disk.new))) }
+{
+    let mut text = Text::new();
+    'lines: while lines.next(&mut text) {
+        if let Err(lacks) = run_one(alloc, run, text.as_slice(), size, disk) {
+            return Err(lacks);
+        }
+    }
+    Ok(())
+}
+
+/// The line that tells of a run, once the lines of the calls that are left are tallied too.
+fn tell(run: DemoRun, n: u32, text: &mut Text)
+    requires tally { HasRoom run.tally }
+    ensures { (so_far : Left) → IsTally run.tally so_far.bytes so_far.notes →
+        text.new ≡ summary_of n (so_far.bytes ++ last_bytes (seen_of (λ b. seen (b.vtable, b.value)) run.session) []) so_far.notes }
+{
+    let DemoRun {
+        session,
+        mut out,
+        mut tally,
+    } = run;
+    session.left(&mut out);
+    tally.add(out.lines.as_slice(), &[]);
+    tally.print(n, text);
+}
+
+/// Runs the script from its beginning, and tells of it.
+fn run_demo<K: Sink, D: Disk>(
+    alloc: Global,
+    n: u32,
+    mut run: DemoRun,
+    mut lines: DemoLines,
+    sink: &mut K,
+    disk: &mut D,
+) -> u8
+    requires script { lines ≡ demo_lines n }
+    requires begun { IsBegun (seen_of (λ b. seen (b.vtable, b.value)) run.session) }
+    requires within { (size : ℕ) → IsSessionWithin (λ b. seen (b.vtable, b.value)) size run.session }
+    requires tally { IsTally run.tally [] [] }
+    ensures ran { result ≡ 0 → DemoRan n (D.block_count disk.old) (disk_seen (D.blocks disk.old) (D.plan disk.old) (D.faults disk.old))
+        (disk_seen (D.blocks disk.new) (D.plan disk.new) (D.faults disk.new)) (λ told. Appends (K.got sink.old) (K.got sink.new) told) }
+    ensures broke { result ≡ 4 → DemoRan n (D.block_count disk.old) (disk_seen (D.blocks disk.old) (D.plan disk.old) (D.faults disk.old))
+        (disk_seen (D.blocks disk.new) (D.plan disk.new) (D.faults disk.new)) (λ told. AppendsPart (K.got sink.old) (K.got sink.new) told) }
+    ensures memory { result ≡ 5 → Keeps (K.got sink.old) (K.got sink.new) × DemoLacked n (D.block_count disk.old) (disk_seen (D.blocks disk.old) (D.plan disk.old) (D.faults disk.old))
+        (disk_seen (D.blocks disk.new) (D.plan disk.new) (D.faults disk.new)) }
+    ensures statuses { (result ≡ 0) ⊎ (result ≡ 4) ⊎ (result ≡ 5) }
+    ensures sink_failed { result ≡ 4 → Rose (K.faults sink.old) (K.faults sink.new) }
+    ensures sink_later { K.faults sink.old ≤ K.faults sink.new }
+{
+    let size = disk.size();
+    if let Err(_) = run_all(alloc, &mut run, &mut lines, size, disk) {
+        return 5;
+    }
+    let mut text = Text::new();
+    tell(run, n, &mut text);
+    match write_all(sink, text.as_slice()) {
+        Ok(()) => 0,
+        Err(_) => 4,
+    }
+}
+
+/// Runs the script of a number, over a new kernel with the stock policies, and tells of it in one line. The status: 0, 4 where
+/// the sink failed, 5 for want of memory.
+pub fn demo<K: Sink, D: Disk>(
+    alloc: Global,
+    n: u32,
+    sink: &mut K,
+    disk: &mut D,
+    shelf: Vec<Box<dyn Policy>>,
+) -> u8
+    requires shelf { IsShelf (map (λ b. seen b) shelf.items) }
+    requires stock { pol_of (map (λ b. seen b) shelf.items) first_choice ≡ opening_policy }
+    ensures ran { result ≡ 0 → DemoRan n (D.block_count disk.old) (disk_seen (D.blocks disk.old) (D.plan disk.old) (D.faults disk.old))
+        (disk_seen (D.blocks disk.new) (D.plan disk.new) (D.faults disk.new)) (λ told. Appends (K.got sink.old) (K.got sink.new) told) }
+    ensures broke { result ≡ 4 → DemoRan n (D.block_count disk.old) (disk_seen (D.blocks disk.old) (D.plan disk.old) (D.faults disk.old))
+        (disk_seen (D.blocks disk.new) (D.plan disk.new) (D.faults disk.new)) (λ told. AppendsPart (K.got sink.old) (K.got sink.new) told) }
+    ensures memory { result ≡ 5 → Keeps (K.got sink.old) (K.got sink.new) × ((disk_seen (D.blocks disk.new) (D.plan disk.new) (D.faults disk.new)
+        ≡ disk_seen (D.blocks disk.old) (D.plan disk.old) (D.faults disk.old)) ⊎ DemoLacked n (D.block_count disk.old) (disk_seen (D.blocks disk.old) (D.plan disk.old) (D.faults disk.old))
+        (disk_seen (D.blocks disk.new) (D.plan disk.new) (D.faults disk.new))) }
+    ensures statuses { (result ≡ 0) ⊎ (result ≡ 4) ⊎ (result ≡ 5) }
+    ensures sink_failed { result ≡ 4 → Rose (K.faults sink.old) (K.faults sink.new) }
+    ensures sink_later { K.faults sink.old ≤ K.faults sink.new }
+{
+    let Ok(lines) = DemoLines::new(alloc, n) else {
+        return 5;
+    };
+    match begin(alloc, shelf) {
+        Err(_) => 5,
+        Ok(run) => run_demo(alloc, n, run, lines, sink, disk),
+    }
+}
