@@ -1,9 +1,5 @@
-//! Tests of the lines of scripts, and of the lines that are written, against the tables of `docs/FORMATS.md`, written out by hand.
+//! Tests of lines with the greatest numbers, which no run comes to.
 #![tactic(auto)]
 
 #[cfg(test)]
-mod lines;
-#[cfg(test)]
-mod notes;
-#[cfg(test)]
-mod rows;
+mod greatest;

@@ -1,0 +1,3 @@
+# Answers 1.
+li r0 1
+ret

@@ -1,0 +1,3 @@
+# Names a process that there can never be.
+li r0 16
+ret

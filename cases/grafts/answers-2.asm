@@ -1,0 +1,3 @@
+# Answers 2.
+li r0 2
+ret

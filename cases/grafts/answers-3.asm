@@ -1,0 +1,3 @@
+# Answers 3.
+li r0 3
+ret

@@ -1,0 +1,4 @@
+# Asks what to read ahead of descriptor 1.
+li r0 1
+call ask_ra
+ret

@@ -1,0 +1,4 @@
+# Asks what to read ahead of descriptor 3.
+li r0 3
+call ask_ra
+ret

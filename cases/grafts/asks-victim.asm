@@ -1,0 +1,3 @@
+# Asks which frame to evict.
+call ask_victim
+ret

@@ -1,0 +1,3 @@
+# A call of the last id.
+call 15
+ret

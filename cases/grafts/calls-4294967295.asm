@@ -1,0 +1,3 @@
+# A call of the greatest id.
+call 4294967295
+ret

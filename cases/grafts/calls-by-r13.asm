@@ -1,0 +1,3 @@
+# A call by the last register that code may name.
+callr r13
+ret

@@ -1,0 +1,3 @@
+# Ends with a call.
+ret
+call 2

@@ -1,0 +1,6 @@
+# Five instructions.
+mov r5 r5
+mov r5 r5
+mov r5 r5
+mov r5 r5
+ret

@@ -1,0 +1,2 @@
+# A target past the last instruction.
+jmp @1

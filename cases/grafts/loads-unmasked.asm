@@ -1,0 +1,3 @@
+# An access whose address isn't masked, behind a ret.
+ret
+ldw r1 r2

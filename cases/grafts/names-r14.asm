@@ -1,0 +1,3 @@
+# Names r14 outside of an access.
+mov r14 r0
+ret

@@ -1,0 +1,2 @@
+# Answers as it was asked.
+ret

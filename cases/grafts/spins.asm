@@ -1,0 +1,3 @@
+# Never ends.
+again:
+jmp again

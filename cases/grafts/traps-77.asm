@@ -1,0 +1,2 @@
+# Traps with a code.
+trap 77

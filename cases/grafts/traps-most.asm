@@ -1,0 +1,2 @@
+# Traps with the greatest code.
+trap 4294967295

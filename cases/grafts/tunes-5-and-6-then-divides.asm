@@ -1,0 +1,12 @@
+# The parameter of reading ahead becomes 5, then 6, then a division by zero.
+li r0 0
+li r1 0
+li r2 5
+call tune_set
+li r0 0
+li r1 0
+li r2 6
+call tune_set
+li r7 0
+divu r7 r7 r7
+ret

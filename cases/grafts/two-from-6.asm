@@ -1,0 +1,4 @@
+# Reads two blocks ahead, from block 6 on.
+li r0 6
+li r1 2
+ret
