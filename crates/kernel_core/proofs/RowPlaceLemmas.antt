@@ -1,6 +1,6 @@
 -- The rows from a place on: a row at the place is the first of them, and where there is none they are those from the next place on.
 use Rattle.std.proofs.Common.{◌≡◌, ◌<◌, ◌≤◌, ℕ, zero, suc, ◌+◌, ◌-◌, ◌*◌, List, [], ◌∷◌, ◌++◌, Option, Some, None, add-one, arith, refl, sym, ap, ◌∙◌, drop, length}
-use Rattle.std.specs.Prelude.{flat_map, slice_get}
+use Rattle.std.specs.Prelude.{IfSome, flat_map, slice_get}
 use Rattle.std.specs.List.{range_with_len}
 use Rattle.std.proofs.lemmas.List.FromFn.{length-range_with_len, get_or-range_with_len}
 use Rattle.std.proofs.lemmas.Option.{slice_get-get_or, slice_get_past}
@@ -107,9 +107,9 @@ pub record IsAlike (x : Placed) (from at : RowPlace) : Type 0 where
   pub most : most_left at ≤ most_left from
 
 -- on to the next place
-pub place_passed : (x : Placed) (from at new : RowPlace) (s : Section) (found : Option RawRow) → IsAlike x from at → slice_get sections at.section ≡ Some s → at.place < places s →
-    found ≡ slice_get (rows_at x s at.place) at.index → found ≡ None → new ≡ record { section = at.section; place = at.place + 1; index = 0 } → IsAlike x from new
-place_passed x from at new s found h here below is none next =
+pub place_passed : (x : Placed) (from at new : RowPlace) (s : Section) → IsAlike x from at → slice_get sections at.section ≡ Some s → at.place < places s →
+    length (rows_at x s at.place) ≤ at.index → new ≡ record { section = at.section; place = at.place + 1; index = 0 } → IsAlike x from new
+place_passed x from at new s h here below none next =
     let to : RowPlace = record { section = at.section; place = at.place + 1; index = 0 } in
     let ns = places_from s (at.place + 1) in
     let behind = rows_of x (drop (at.section + 1) sections) in
@@ -118,7 +118,7 @@ place_passed x from at new s found h here below is none next =
     let after = ap most_left next ∙ most_in_left to s here ∙ ap (λ c. c + many) (most_all (most_at s) ns) in
     record {
       same = ap (rows_left x) next ∙ left_in x to s here ∙ ap (λ xs. xs ++ behind) (all_at (rows_at x s) ns)
-          ∙ sym (left_in x at s here ∙ ap (λ xs. rows_past (rows_at x s) at.index xs ++ behind) (places_here s at.place below) ∙ ap (λ xs. (xs ++ flat_map (rows_at x s) ns) ++ behind) (none_from (rows_at x s at.place) at.index (sym is ∙ none)))
+          ∙ sym (left_in x at s here ∙ ap (λ xs. rows_past (rows_at x s) at.index xs ++ behind) (places_here s at.place below) ∙ ap (λ xs. (xs ++ flat_map (rows_at x s) ns) ++ behind) (drop_of_length-le (rows_at x s at.place) none))
           ∙ h.same;
       most = less (most_left at) (most_left new) (most_left from) (most_at s) at.index (length ns * most_at s) many before after h.most;
     }
@@ -190,19 +190,32 @@ first_row : (x : Placed) (from at new : RowPlace) (s : Section) (row : RawRow) �
     Some row ≡ slice_get (rows_at x s at.place) at.index → new ≡ record at { index = at.index + 1 } → rows_left x from ≡ row ∷ rows_left x new
 first_row x from at new s row h here below is next = sym h.same ∙ row_here x at new s row here below is next
 
-pub row_first : (x : Placed) (from at new : RowPlace) (s : Section) (row : RawRow) → IsAlike x from at → slice_get sections at.section ≡ Some s → at.place < places s →
-    Some row ≡ slice_get (rows_at x s at.place) at.index → new ≡ record at { index = at.index + 1 } → Some row ≡ slice_get (rows_left x from) 0
-row_first x from at new s row h here below is next = ap (λ (ys : List RawRow). slice_get ys 0) (sym (first_row x from at new s row h here below is next))
+-- it is there where there are so many
+some_within : {T : Type 0} (xs : List T) (i : ℕ) (found : Option T) → found ≡ slice_get xs i → i < length xs → (x : T) × (found ≡ Some x)
+some_within xs i (Some x) is within = (x, refl)
+some_within xs i None is within = absurd (omega (arith, far xs i (sym is), within))
+  where
+    far : {T : Type 0} (ys : List T) (k : ℕ) → slice_get ys k ≡ None → length ys ≤ k
+    far [] k h = omega arith
+    far (y ∷ ys) zero h = absurd (cc)
+    far (y ∷ ys) (suc k) h = omega (arith, far ys k h)
 
--- those behind it are left
-pub rest_left : (x : Placed) (from at new : RowPlace) (s : Section) (row : RawRow) → IsAlike x from at → slice_get sections at.section ≡ Some s → at.place < places s →
-    Some row ≡ slice_get (rows_at x s at.place) at.index → new ≡ record at { index = at.index + 1 } → rows_left x new ≡ drop 1 (rows_left x from)
-rest_left x from at new s row h here below is next = sym (ap (λ (ys : List RawRow). drop 1 ys) (first_row x from at new s row h here below is next))
+pub row_first : (x : Placed) (from at new : RowPlace) (s : Section) (found : Option RawRow) → IsAlike x from at → slice_get sections at.section ≡ Some s → at.place < places s →
+    at.index < length (rows_at x s at.place) → found ≡ slice_get (rows_at x s at.place) at.index → new ≡ record at { index = at.index + 1 } →
+    (found ≡ slice_get (rows_left x from) 0) × (rows_left x new ≡ drop 1 (rows_left x from))
+row_first x from at new s found h here below within is next =
+    let (row, some) = some_within (rows_at x s at.place) at.index found is within in
+    let all = first_row x from at new s row h here below (sym some ∙ is) next in
+    (some ∙ ap (λ (ys : List RawRow). slice_get ys 0) (sym all), sym (ap (λ (ys : List RawRow). drop 1 ys) all))
 
--- and that is a row less
-pub fewer_left : (x : Placed) (from at new : RowPlace) (s : Section) → IsAlike x from at → slice_get sections at.section ≡ Some s → at.place < places s → at.index < most_at s →
-    new ≡ record at { index = at.index + 1 } → most_left new < most_left from
-fewer_left x from at new s h here below few next = omega (arith, h.most, most_here at new s here below few next)
+-- and behind it is a row less
+pub fewer_left : (x : Placed) (from at new : RowPlace) (s : Section) (found : Option RawRow) → IsAlike x from at → slice_get sections at.section ≡ Some s → at.place < places s →
+    at.index < most_at s → new ≡ record at { index = at.index + 1 } → IfSome found (λ row. most_left new < most_left from)
+fewer_left x from at new s found h here below few next = whichever found (omega (arith, h.most, most_here at new s here below few next))
+  where
+    whichever : (o : Option RawRow) → most_left new < most_left from → IfSome o (λ row. most_left new < most_left from)
+    whichever None less = tt
+    whichever (Some row) less = less
 
 -- The rows behind n of them are left, among so many.
 pub record IsBehind (x : Placed) (n : ℕ) (at : RowPlace) : Type 0 where

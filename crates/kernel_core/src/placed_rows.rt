@@ -1,8 +1,8 @@
 //! The rows that show a running kernel's whole state, with the calls in flight.
 
-ghost use Rattle.std.specs.Prelude.{◌≡◌, ◌-◌, ◌^◌, ◌<◌, ◌≤◌, ◌+◌, None, IfSome, drop, length, slice_get};
+ghost use Rattle.std.specs.Prelude.{◌≡◌, ◌-◌, ◌^◌, ◌<◌, ◌≤◌, ◌+◌, None, IfSome, cond, drop, length, slice_get};
 ghost use Rattle.placed_laws.specs.Placed.{Placed};
-ghost use Rattle.placed_laws.specs.PlacedRows.{placed_level_rows, placed_rows, placed_undo_rows};
+ghost use Rattle.placed_laws.specs.PlacedRows.{placed_rows};
 ghost use Rattle.kernel_steps.specs.Views.{placed_of, IsRunning};
 ghost use Rattle.kernel_core.specs.PlacedSections.{most_at, most_left, places, rows_at, rows_left};
 
@@ -140,78 +140,64 @@ pub fn next_row<C: Calls>(running: &Running<C>, at: &mut RowPlace) -> Option<Raw
             at.pass_section();
             continue;
         }
-        if let Some(row) = row_at(running, section, at.place, at.index) {
+        if at.index < count_at(running, section, at.place) {
+            let i = at.index;
             at.index += 1;
-            return Some(row);
+            return row_at(running, section, at.place, i);
         }
         at.pass_place();
     }
     None
 }
 
-/// The i-th row at a place of a section. None past the last.
-fn row_at<C: Calls>(running: &Running<C>, section: Section, n: u16, i: u32) -> Option<RawRow>
+/// How many rows there are at a place of a section.
+fn count_at<C: Calls>(running: &Running<C>, section: Section, n: u16) -> u32
     requires running { IsRunning (λ b. seen (b.vtable, b.value)) (λ w. C.caller w) running.now }
     requires place { n < places section }
-    ensures value { result ≡ slice_get (rows_at (placed_of (λ b. seen (b.vtable, b.value)) (λ w. C.stage w) running.now) section n) i }
-    ensures few { IfSome result (λ row. i < most_at section) }
+    ensures value { result ≡ length (rows_at (placed_of (λ b. seen (b.vtable, b.value)) (λ w. C.stage w) running.now) section n) }
+    ensures few { result ≤ most_at section }
 {
-    if i == 0 {
-        return first_row(running, section, n);
-    }
+    let store = &running.store;
     match section {
-        Section::Levels => level_row(running, n as u8, i),
-        Section::Undo => undo_row(running, n as u8, i),
-        _ => None,
+        Section::Clock | Section::Queue | Section::Policies | Section::Frames => 1,
+        Section::Accounts | Section::Cells => one_if(store.living(n.into())),
+        Section::Files => one_if(store.procs.file((n / 4) as u8, (n % 4) as u8).is_some()),
+        Section::Grafts => one_if(store.has_graft((n / 16) as u8, (n % 16) as u8)),
+        Section::Locks => one_if(store.holder(n as u8).is_some()),
+        Section::Calls => one_if(running.call_number(n as u8).is_some()),
+        Section::Levels => running.shown_levels(n as u8).into(),
+        Section::Undo => running.shown_records(n as u8).into(),
     }
 }
 
-/// The first row at a place of a section.
-fn first_row<C: Calls>(running: &Running<C>, section: Section, n: u16) -> Option<RawRow>
+/// One row, where there is one.
+fn one_if(there: bool) -> u32
+    ensures { result ≡ cond there 1 0 }
+{
+    if there { 1 } else { 0 }
+}
+
+/// The i-th row at a place of a section, which has so many.
+fn row_at<C: Calls>(running: &Running<C>, section: Section, n: u16, i: u32) -> Option<RawRow>
     requires running { IsRunning (λ b. seen (b.vtable, b.value)) (λ w. C.caller w) running.now }
     requires place { n < places section }
-    ensures { result ≡ slice_get (rows_at (placed_of (λ b. seen (b.vtable, b.value)) (λ w. C.stage w) running.now) section n) 0 }
+    requires row { i < length (rows_at (placed_of (λ b. seen (b.vtable, b.value)) (λ w. C.stage w) running.now) section n) }
+    requires few { i < most_at section }
+    ensures { result ≡ slice_get (rows_at (placed_of (λ b. seen (b.vtable, b.value)) (λ w. C.stage w) running.now) section n) i }
 {
     let store = &running.store;
     match section {
         Section::Clock => Some(RawRow::Clock(running.clock)),
         Section::Queue => Some(store.shown_queue()),
-        Section::Accounts if store.living(n.into()) => Some(store.shown_account(n as u8)),
-        Section::Cells if store.living(n.into()) => Some(store.shown_cells(n as u8)),
-        Section::Accounts | Section::Cells => None,
+        Section::Accounts => Some(store.shown_account(n as u8)),
+        Section::Cells => Some(store.shown_cells(n as u8)),
         Section::Files => store.shown_file((n / 4) as u8, (n % 4) as u8),
         Section::Grafts => store.shown_graft((n / 16) as u8, (n % 16) as u8),
         Section::Policies => Some(store.shown_policy(n as u8)),
         Section::Frames => Some(RawRow::Lru(store.frame_rows())),
         Section::Locks => store.shown_lock(n as u8),
         Section::Calls => running.call_row(n as u8),
-        Section::Levels => level_row(running, n as u8, 0),
-        Section::Undo => undo_row(running, n as u8, 0),
+        Section::Levels => Some(running.level_row(n as u8, i as u8)),
+        Section::Undo => Some(running.undo_row(n as u8, i as u8)),
     }
-}
-
-/// The i-th level of process p's call. None past the last.
-fn level_row<C: Calls>(running: &Running<C>, p: u8, i: u32) -> Option<RawRow>
-    requires process { p < 16 }
-    requires running { IsRunning (λ b. seen (b.vtable, b.value)) (λ w. C.caller w) running.now }
-    ensures value { result ≡ slice_get (placed_level_rows (placed_of (λ b. seen (b.vtable, b.value)) (λ w. C.stage w) running.now) p) i }
-    ensures few { IfSome result (λ row. i < 4) }
-{
-    if i < u32::from(running.shown_levels(p)) {
-        return Some(running.level_row(p, i as u8));
-    }
-    None
-}
-
-/// The i-th record of process p's call. None past the last.
-fn undo_row<C: Calls>(running: &Running<C>, p: u8, i: u32) -> Option<RawRow>
-    requires process { p < 16 }
-    requires running { IsRunning (λ b. seen (b.vtable, b.value)) (λ w. C.caller w) running.now }
-    ensures value { result ≡ slice_get (placed_undo_rows (placed_of (λ b. seen (b.vtable, b.value)) (λ w. C.stage w) running.now) p) i }
-    ensures few { IfSome result (λ row. i < 64) }
-{
-    if i < u32::from(running.shown_records(p)) {
-        return Some(running.undo_row(p, i as u8));
-    }
-    None
 }
