@@ -10,7 +10,7 @@ use Rattle.placed_laws.specs.Placed.{Placed}
 use Rattle.placed_laws.specs.PlacedRows.{placed_rows}
 use Rattle.kernel_core.specs.declared.placed_rows.RowPlace.{RowPlace}
 use Rattle.kernel_core.specs.declared.placed_rows.Section.{Section}
-use Rattle.kernel_core.specs.PlacedSections.{sections, places, places_from, most_at, most_past, most_of, most_left, rows_at, rows_of, rows_past, rows_left}
+use Rattle.kernel_core.specs.PlacedSections.{sections, places, places_from, most_at, most_past, most_of, most_left, rows_at, rows_of, rows_past, rows_left, TakesRow}
 use Rattle.kernel_core.proofs.PlacedSectionLemmas.{rows_are}
 
 -- ---- lists
@@ -168,13 +168,15 @@ section_passed x from at new s h here past next =
     }
 
 -- past the last section no row is left
-pub none_first : (x : Placed) (from at : RowPlace) → IsAlike x from at → length sections ≤ at.section → None ≡ slice_get (rows_left x from) 0
-none_first x from at h past = ap (λ (ys : List RawRow). slice_get ys 0) (sym (sym h.same ∙ left_end x at (slice_get_past sections at.section past)))
-
-pub none_rest : (x : Placed) (from at : RowPlace) → IsAlike x from at → length sections ≤ at.section → rows_left x at ≡ drop 1 (rows_left x from)
-none_rest x from at h past =
+pub none_taken : (x : Placed) (from at : RowPlace) → IsAlike x from at → length sections ≤ at.section → TakesRow x from at None
+none_taken x from at h past =
     let none = left_end x at (slice_get_past sections at.section past) in
-    none ∙ sym (ap (λ (ys : List RawRow). drop 1 ys) (sym h.same ∙ none))
+    let before = sym h.same ∙ none in
+    record {
+      first = ap (λ (ys : List RawRow). slice_get ys 0) (sym before);
+      rest = none ∙ sym (ap (λ (ys : List RawRow). drop 1 ys) before);
+      fewer = tt;
+    }
 
 -- before the first row
 pub from_first : (x : Placed) → rows_left x (record { section = 0; place = 0; index = 0 }) ≡ placed_rows x
@@ -200,20 +202,18 @@ some_within xs i None is within = absurd (omega (arith, far xs i (sym is), withi
     far (y ∷ ys) zero h = absurd (cc)
     far (y ∷ ys) (suc k) h = omega (arith, far ys k h)
 
-pub row_first : (x : Placed) (from at new : RowPlace) (s : Section) (found : Option RawRow) → IsAlike x from at → slice_get sections at.section ≡ Some s → at.place < places s →
-    at.index < length (rows_at x s at.place) → found ≡ slice_get (rows_at x s at.place) at.index → new ≡ record at { index = at.index + 1 } →
-    (found ≡ slice_get (rows_left x from) 0) × (rows_left x new ≡ drop 1 (rows_left x from))
-row_first x from at new s found h here below within is next =
+pub row_taken : (x : Placed) (from at new : RowPlace) (s : Section) (found : Option RawRow) → IsAlike x from at → slice_get sections at.section ≡ Some s → at.place < places s →
+    at.index < length (rows_at x s at.place) → at.index < most_at s → found ≡ slice_get (rows_at x s at.place) at.index → new ≡ record at { index = at.index + 1 } → TakesRow x from new found
+row_taken x from at new s found h here below within few is next =
     let (row, some) = some_within (rows_at x s at.place) at.index found is within in
     let all = first_row x from at new s row h here below (sym some ∙ is) next in
-    (some ∙ ap (λ (ys : List RawRow). slice_get ys 0) (sym all), sym (ap (λ (ys : List RawRow). drop 1 ys) all))
-
--- and behind it is a row less
-pub fewer_left : (x : Placed) (from at new : RowPlace) (s : Section) (found : Option RawRow) → IsAlike x from at → slice_get sections at.section ≡ Some s → at.place < places s →
-    at.index < most_at s → new ≡ record at { index = at.index + 1 } → IfSome found (λ row. most_left new < most_left from)
-fewer_left x from at new s found h here below few next = whichever found (omega (arith, h.most, most_here at new s here below few next))
+    record {
+      first = some ∙ ap (λ (ys : List RawRow). slice_get ys 0) (sym all);
+      rest = sym (ap (λ (ys : List RawRow). drop 1 ys) all);
+      fewer = whichever found (omega (arith, h.most, most_here at new s here below few next));
+    }
   where
-    whichever : (o : Option RawRow) → most_left new < most_left from → IfSome o (λ row. most_left new < most_left from)
+    whichever : (o : Option RawRow) → most_left new < most_left from → IfSome o (λ _. most_left new < most_left from)
     whichever None less = tt
     whichever (Some row) less = less
 

@@ -1,6 +1,6 @@
 //! The kernel: a running kernel over a disk. It is booted, takes events one after another, and shows what it is.
 
-ghost use Rattle.std.specs.Prelude.{◌≡◌, ℕ, ◌<◌, ◌≤◌, ◌-◌, ◌^◌, [], map, None, drop, is_some, option_map, slice_get, IfOk, IfSome};
+ghost use Rattle.std.specs.Prelude.{◌≡◌, ℕ, ◌<◌, ◌≤◌, ◌-◌, ◌^◌, [], map, None, is_some, option_map, slice_get, IfOk};
 ghost use Rattle.disk_log.specs.Seen.{disk_seen};
 ghost use Rattle.kernel_model.specs.Kernel.{Kernel as Abstract};
 ghost use Rattle.kernel_model.specs.Opening.{opening_policy};
@@ -13,7 +13,7 @@ ghost use Rattle.placed_laws.specs.PlacedRows.{placed_rows};
 ghost use Rattle.placed_laws.specs.Stands.{StandsFor};
 ghost use Rattle.kernel_steps.specs.Views.{placed_of, IsRunning, Stood};
 ghost use Rattle.kernel_events.specs.Happened.{Happened, IsKernel};
-ghost use Rattle.kernel_core.specs.PlacedSections.{most_left, rows_left};
+ghost use Rattle.kernel_core.specs.PlacedSections.{TakesRow};
 ghost use Rattle.kernel_core.specs.Standing.{IsBlank, Booted};
 
 use crate::placed_rows::{self, RowPlace};
@@ -158,13 +158,10 @@ impl<C: Calls> Kernel<C> {
     {
         placed_rows::raw(&self.running, i)
     }
-    /// The next row from a place on, which then is behind the row. None where no row is left.
+    /// The next row from a place on, which then is behind that row. None where no row is left.
     pub fn next_row(&self, at: &mut RowPlace) -> Option<RawRow>
         requires running { IsRunning (λ b. seen (b.vtable, b.value)) (λ w. C.caller w) self.now.running }
-        ensures row { result ≡ slice_get (rows_left (placed_of (λ b. seen (b.vtable, b.value)) (λ w. C.stage w) self.now.running) at.old) 0 }
-        ensures rest { rows_left (placed_of (λ b. seen (b.vtable, b.value)) (λ w. C.stage w) self.now.running) at.new ≡
-            drop 1 (rows_left (placed_of (λ b. seen (b.vtable, b.value)) (λ w. C.stage w) self.now.running) at.old) }
-        ensures fewer { IfSome result (λ row. most_left at.new < most_left at.old) }
+        ensures { TakesRow (placed_of (λ b. seen (b.vtable, b.value)) (λ w. C.stage w) self.now.running) at.old at.new result }
     {
         placed_rows::next_row(&self.running, at)
     }

@@ -1,10 +1,10 @@
 //! The rows that show a running kernel's whole state, with the calls in flight.
 
-ghost use Rattle.std.specs.Prelude.{◌≡◌, ◌-◌, ◌^◌, ◌<◌, ◌≤◌, ◌+◌, None, IfSome, cond, drop, length, slice_get};
+ghost use Rattle.std.specs.Prelude.{◌≡◌, ◌-◌, ◌^◌, ◌<◌, ◌≤◌, ◌+◌, None, length, slice_get};
 ghost use Rattle.placed_laws.specs.Placed.{Placed};
 ghost use Rattle.placed_laws.specs.PlacedRows.{placed_rows};
 ghost use Rattle.kernel_steps.specs.Views.{placed_of, IsRunning};
-ghost use Rattle.kernel_core.specs.PlacedSections.{most_at, most_left, places, rows_at, rows_left};
+ghost use Rattle.kernel_core.specs.PlacedSections.{most_at, most_left, places, rows_at, rows_left, TakesRow};
 
 use call_pieces::Calls;
 use kernel_model::RawRow;
@@ -126,13 +126,10 @@ pub fn raw<C: Calls>(running: &Running<C>, i: u32) -> Option<RawRow>
     next_row(running, &mut at)
 }
 
-/// The next row from a place on, which then is behind the row. None where no row is left.
+/// The next row from a place on, which then is behind that row. None where no row is left.
 pub fn next_row<C: Calls>(running: &Running<C>, at: &mut RowPlace) -> Option<RawRow>
     requires running { IsRunning (λ b. seen (b.vtable, b.value)) (λ w. C.caller w) running.now }
-    ensures row { result ≡ slice_get (rows_left (placed_of (λ b. seen (b.vtable, b.value)) (λ w. C.stage w) running.now) at.old) 0 }
-    ensures rest { rows_left (placed_of (λ b. seen (b.vtable, b.value)) (λ w. C.stage w) running.now) at.new ≡
-        drop 1 (rows_left (placed_of (λ b. seen (b.vtable, b.value)) (λ w. C.stage w) running.now) at.old) }
-    ensures fewer { IfSome result (λ row. most_left at.new < most_left at.old) }
+    ensures { TakesRow (placed_of (λ b. seen (b.vtable, b.value)) (λ w. C.stage w) running.now) at.old at.new result }
 {
     while at.section < SECTIONS.len() {
         let section = SECTIONS[at.section];
@@ -154,36 +151,36 @@ pub fn next_row<C: Calls>(running: &Running<C>, at: &mut RowPlace) -> Option<Raw
 fn count_at<C: Calls>(running: &Running<C>, section: Section, n: u16) -> u32
     requires running { IsRunning (λ b. seen (b.vtable, b.value)) (λ w. C.caller w) running.now }
     requires place { n < places section }
-    ensures value { result ≡ length (rows_at (placed_of (λ b. seen (b.vtable, b.value)) (λ w. C.stage w) running.now) section n) }
+    ensures value { result ≡
+        length (rows_at (placed_of (λ b. seen (b.vtable, b.value)) (λ w. C.stage w) running.now) section n) }
     ensures few { result ≤ most_at section }
 {
     let store = &running.store;
     match section {
         Section::Clock | Section::Queue | Section::Policies | Section::Frames => 1,
-        Section::Accounts | Section::Cells => one_if(store.living(n.into())),
-        Section::Files => one_if(store.procs.file((n / 4) as u8, (n % 4) as u8).is_some()),
-        Section::Grafts => one_if(store.has_graft((n / 16) as u8, (n % 16) as u8)),
-        Section::Locks => one_if(store.holder(n as u8).is_some()),
-        Section::Calls => one_if(running.call_number(n as u8).is_some()),
+        Section::Accounts | Section::Cells => store.living(n.into()).into(),
+        Section::Files => store
+            .procs
+            .file((n / 4) as u8, (n % 4) as u8)
+            .is_some()
+            .into(),
+        Section::Grafts => store.has_graft((n / 16) as u8, (n % 16) as u8).into(),
+        Section::Locks => store.holder(n as u8).is_some().into(),
+        Section::Calls => running.call_number(n as u8).is_some().into(),
         Section::Levels => running.shown_levels(n as u8).into(),
         Section::Undo => running.shown_records(n as u8).into(),
     }
 }
 
-/// One row, where there is one.
-fn one_if(there: bool) -> u32
-    ensures { result ≡ cond there 1 0 }
-{
-    if there { 1 } else { 0 }
-}
-
-/// The i-th row at a place of a section, which has so many.
+/// The i-th row at a place of a section, which has more than i.
 fn row_at<C: Calls>(running: &Running<C>, section: Section, n: u16, i: u32) -> Option<RawRow>
     requires running { IsRunning (λ b. seen (b.vtable, b.value)) (λ w. C.caller w) running.now }
     requires place { n < places section }
-    requires row { i < length (rows_at (placed_of (λ b. seen (b.vtable, b.value)) (λ w. C.stage w) running.now) section n) }
+    requires row { i <
+        length (rows_at (placed_of (λ b. seen (b.vtable, b.value)) (λ w. C.stage w) running.now) section n) }
     requires few { i < most_at section }
-    ensures { result ≡ slice_get (rows_at (placed_of (λ b. seen (b.vtable, b.value)) (λ w. C.stage w) running.now) section n) i }
+    ensures { result ≡
+        slice_get (rows_at (placed_of (λ b. seen (b.vtable, b.value)) (λ w. C.stage w) running.now) section n) i }
 {
     let store = &running.store;
     match section {

@@ -4,7 +4,7 @@ use Rattle.std.proofs.lemmas.Option.{slice_get-get_or}
 use Rattle.kernel_steps.specs.Views.{placed_of}
 use Rattle.kernel_core.specs.declared.placed_rows.Section.TheVariants.{Clock}
 use Rattle.kernel_core.specs.PlacedSections.{sections}
-use Rattle.kernel_core.proofs.RowPlaceLemmas.{section_passed, place_passed, row_first, fewer_left, none_first, none_rest}
+use Rattle.kernel_core.proofs.RowPlaceLemmas.{none_taken, place_passed, row_taken, section_passed}
 use Rattle.kernel_core.proofs.placed_rows.next_row.Goals as goal
 
 pub loop-at-preserved-then-at-places_of : goal.loop-at-preserved-then-at-places_of
@@ -14,26 +14,13 @@ loop-at-preserved-then-at-places_of g c =
     let here = slice_get-get_or sections at.section Clock c.loop-at-test.true in
     section_passed (placed_of (λ b. (goal.Policy-dyn g (b.vtable, b.value)).seen b.value) (λ w. g.C.Calls.stage w) c.args.running.now) c.args.at.now at c.pass_section.new.self s c.loop-at.invariant here (omega (arith, c.if-at-places_of.true, c.places_of.ensures)) c.pass_section.ensures
 
-pub returns-then-at-count_at-clause-row : goal.returns-then-at-count_at-clause-row
-returns-then-at-count_at-clause-row g c =
+pub returns-then-at-count_at : goal.returns-then-at-count_at
+returns-then-at-count_at g c =
     let at = c.loop-at.at in
     let s = get_or sections at.section Clock in
     let here = slice_get-get_or sections at.section Clock c.loop-at-test.true in
-    (row_first (placed_of (λ b. (goal.Policy-dyn g (b.vtable, b.value)).seen b.value) (λ w. g.C.Calls.stage w) c.args.running.now) c.args.at.now at (record at { index = at.index + 1 }) s c.row_at.result c.loop-at.invariant here (omega (arith, c.if-at-places_of.false, c.places_of.ensures)) (omega (arith, c.if-at-count_at.true, c.count_at.ensures.value)) c.row_at.ensures refl).0
-
-pub returns-then-at-count_at-clause-rest : goal.returns-then-at-count_at-clause-rest
-returns-then-at-count_at-clause-rest g c =
-    let at = c.loop-at.at in
-    let s = get_or sections at.section Clock in
-    let here = slice_get-get_or sections at.section Clock c.loop-at-test.true in
-    (row_first (placed_of (λ b. (goal.Policy-dyn g (b.vtable, b.value)).seen b.value) (λ w. g.C.Calls.stage w) c.args.running.now) c.args.at.now at (record at { index = at.index + 1 }) s c.row_at.result c.loop-at.invariant here (omega (arith, c.if-at-places_of.false, c.places_of.ensures)) (omega (arith, c.if-at-count_at.true, c.count_at.ensures.value)) c.row_at.ensures refl).1
-
-pub returns-then-at-count_at-clause-fewer : goal.returns-then-at-count_at-clause-fewer
-returns-then-at-count_at-clause-fewer g c =
-    let at = c.loop-at.at in
-    let s = get_or sections at.section Clock in
-    let here = slice_get-get_or sections at.section Clock c.loop-at-test.true in
-    fewer_left (placed_of (λ b. (goal.Policy-dyn g (b.vtable, b.value)).seen b.value) (λ w. g.C.Calls.stage w) c.args.running.now) c.args.at.now at (record at { index = at.index + 1 }) s c.row_at.result c.loop-at.invariant here (omega (arith, c.if-at-places_of.false, c.places_of.ensures)) (omega (arith, c.if-at-count_at.true, c.count_at.ensures.few)) refl
+    row_taken (placed_of (λ b. (goal.Policy-dyn g (b.vtable, b.value)).seen b.value) (λ w. g.C.Calls.stage w) c.args.running.now) c.args.at.now at (record at { index = at.index + 1 }) s c.row_at.result c.loop-at.invariant here (omega (arith, c.if-at-places_of.false, c.places_of.ensures))
+    (omega (arith, c.if-at-count_at.true, c.count_at.ensures.value)) (omega (arith, c.if-at-count_at.true, c.count_at.ensures.few)) c.row_at.ensures refl
 
 pub loop-at-preserved : goal.loop-at-preserved
 loop-at-preserved g c =
@@ -42,10 +29,5 @@ loop-at-preserved g c =
     let here = slice_get-get_or sections at.section Clock c.loop-at-test.true in
     place_passed (placed_of (λ b. (goal.Policy-dyn g (b.vtable, b.value)).seen b.value) (λ w. g.C.Calls.stage w) c.args.running.now) c.args.at.now at c.pass_place.new.self s c.loop-at.invariant here (omega (arith, c.if-at-places_of.false, c.places_of.ensures)) (omega (arith, c.if-at-count_at.false, c.count_at.ensures.value)) c.pass_place.ensures
 
-pub returns-clause-row : goal.returns-clause-row
-returns-clause-row g c =
-    none_first (placed_of (λ b. (goal.Policy-dyn g (b.vtable, b.value)).seen b.value) (λ w. g.C.Calls.stage w) c.args.running.now) c.args.at.now c.loop-at.at c.loop-at.invariant c.loop-at-test.false
-
-pub returns-clause-rest : goal.returns-clause-rest
-returns-clause-rest g c =
-    none_rest (placed_of (λ b. (goal.Policy-dyn g (b.vtable, b.value)).seen b.value) (λ w. g.C.Calls.stage w) c.args.running.now) c.args.at.now c.loop-at.at c.loop-at.invariant c.loop-at-test.false
+pub returns : goal.returns
+returns g c = none_taken (placed_of (λ b. (goal.Policy-dyn g (b.vtable, b.value)).seen b.value) (λ w. g.C.Calls.stage w) c.args.running.now) c.args.at.now c.loop-at.at c.loop-at.invariant c.loop-at-test.false

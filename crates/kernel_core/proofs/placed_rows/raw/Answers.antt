@@ -17,9 +17,9 @@ loop-before-preserved g c =
 pub returns-in_err-next_row-clause-value : goal.returns-in_err-next_row-clause-value
 returns-in_err-next_row-clause-value g c =
     let x = placed_of (λ b. (goal.Policy-dyn g (b.vtable, b.value)).seen b.value) (λ w. g.C.Calls.stage w) c.args.running.now in
-    c.from_residual.ensures ∙ row_past x c.loop-before.before c.args.i c.loop-before.at c.next_row.result c.loop-before.invariant c.next_row.ensures.row c.in_err-next_row.was (omega arith)
+    c.from_residual.ensures ∙ row_past x c.loop-before.before c.args.i c.loop-before.at c.next_row.result c.loop-before.invariant c.next_row.ensures.first c.in_err-next_row.was (omega arith)
 
 pub returns-clause-value : goal.returns-clause-value
 returns-clause-value g c =
     let x = placed_of (λ b. (goal.Policy-dyn g (b.vtable, b.value)).seen b.value) (λ w. g.C.Calls.stage w) c.args.running.now in
-    row_behind x c.loop-before.before c.args.i c.loop-before.at c.next_row-2.result c.loop-before.invariant c.next_row-2.ensures.row (omega (arith, c.loop-before-test.false))
+    row_behind x c.loop-before.before c.args.i c.loop-before.at c.next_row-2.result c.loop-before.invariant c.next_row-2.ensures.first (omega (arith, c.loop-before-test.false))

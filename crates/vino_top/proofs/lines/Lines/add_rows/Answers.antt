@@ -20,11 +20,11 @@ pub loop-row-preserved : goal.loop-row-preserved
 loop-row-preserved g c =
     let x = placed_of (λ b. (goal.Policy-dyn g (b.vtable, b.value)).seen b.value) stage_of c.args.kernel.now.running in
     record {
-      lines = row_more c.args.n (rows_left x c.loop-row.at) (rows_left x c.next_row.new.at) c.in-Some.row c.loop-row.self c.add.new.self c.print_row.new.out (row_lines c.args.n (placed_rows x)) c.loop-row.invariant.lines c.in-Some.ensures.row c.next_row.ensures.rest c.print_row.ensures c.add.ensures.value;
+      lines = row_more c.args.n (rows_left x c.loop-row.at) (rows_left x c.next_row.new.at) c.in-Some.row c.loop-row.self c.add.new.self c.print_row.new.out (row_lines c.args.n (placed_rows x)) c.loop-row.invariant.lines c.in-Some.ensures.first c.next_row.ensures.rest c.print_row.ensures c.add.ensures.value;
       room = omega (arith, c.loop-row.invariant.room, c.add.ensures.fits, c.in-Some.ensures.fewer);
     }
 
 pub returns : goal.returns
 returns g c =
     let x = placed_of (λ b. (goal.Policy-dyn g (b.vtable, b.value)).seen b.value) stage_of c.args.kernel.now.running in
-    row_end c.args.n (rows_left x c.loop-row.at) c.next_row.result c.loop-row.self (row_lines c.args.n (placed_rows x)) c.loop-row.invariant.lines c.next_row.ensures.row c.in_default.is
+    row_end c.args.n (rows_left x c.loop-row.at) c.next_row.result c.loop-row.self (row_lines c.args.n (placed_rows x)) c.loop-row.invariant.lines c.next_row.ensures.first c.in_default.is
