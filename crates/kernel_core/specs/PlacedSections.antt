@@ -1,4 +1,5 @@
--- The rows of a kernel in place, by sections: each has so many places, with some rows at each. And those that are left from a place on.
+-- The rows of a kernel in place, by sections: each has so many places, with some rows at each. And the rows that are
+-- left from a place on.
 use Rattle.std.specs.Prelude.{◌≡◌, ◌<◌, ℕ, ◌+◌, ◌-◌, ◌*◌, ◌/◌, ◌%◌, cond, List, [], ◌∷◌, ◌++◌, Option, Some, None, IfSome, drop, filter_map, flat_map, length, slice_get}
 use Rattle.std.specs.List.{range_with_len}
 use Rattle.kernel_model.specs.declared.RawRow.{RawRow}
@@ -116,7 +117,8 @@ most_left at =
       | Some s ↦ most_past (most_at s) at.index (places_from s at.place) + most_of (drop (at.section + 1) sections)
     ]
 
--- The next row was asked for at a place: it is the first of those that were left, if there was one, and from the new place on the rest is left.
+-- The next row was asked for at a place: it is the first of those that were left, if there was one, and from the new
+-- place on the rest is left.
 pub record TakesRow (x : Placed) (old new : RowPlace) (row : Option RawRow) : Type 0 where
   pub first : row ≡ slice_get (rows_left x old) 0
   pub rest : rows_left x new ≡ drop 1 (rows_left x old)

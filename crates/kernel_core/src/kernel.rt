@@ -161,7 +161,8 @@ impl<C: Calls> Kernel<C> {
     /// The next row from a place on, which then is behind that row. None where no row is left.
     pub fn next_row(&self, at: &mut RowPlace) -> Option<RawRow>
         requires running { IsRunning (λ b. seen (b.vtable, b.value)) (λ w. C.caller w) self.now.running }
-        ensures { TakesRow (placed_of (λ b. seen (b.vtable, b.value)) (λ w. C.stage w) self.now.running) at.old at.new result }
+        ensures { TakesRow (placed_of (λ b. seen (b.vtable, b.value)) (λ w. C.stage w) self.now.running)
+            at.old at.new result }
     {
         placed_rows::next_row(&self.running, at)
     }
