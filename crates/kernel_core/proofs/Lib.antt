@@ -1,2 +1,3 @@
 pub mod BootLemmas
 pub mod PlacedSectionLemmas
+pub mod RowPlaceLemmas

@@ -1,5 +1,6 @@
--- The rows of a kernel in place, by sections: each has so many places, with some rows at each.
-use Rattle.std.specs.Prelude.{ℕ, zero, suc, ◌*◌, ◌/◌, ◌%◌, cond, List, [], ◌∷◌, Option, Some, None, Result, Ok, Err, filter_map, flat_map}
+-- The rows of a kernel in place, by sections: each has so many places, with some rows at each. And the rows that are
+-- left from a place on.
+use Rattle.std.specs.Prelude.{◌≡◌, ◌<◌, ℕ, ◌+◌, ◌-◌, ◌*◌, ◌/◌, ◌%◌, cond, List, [], ◌∷◌, ◌++◌, Option, Some, None, IfSome, drop, filter_map, flat_map, length, slice_get}
 use Rattle.std.specs.List.{range_with_len}
 use Rattle.kernel_model.specs.declared.RawRow.{RawRow}
 use Rattle.kernel_model.specs.Objects.{Objects}
@@ -7,14 +8,9 @@ use Rattle.kernel_model.specs.Policies.{lives}
 use Rattle.kernel_model.specs.RawRows.{acct_row, cells_row, open_row, graft_row, pol_row, frame_row_of, lock_row}
 use Rattle.placed_laws.specs.Placed.{Placed}
 use Rattle.placed_laws.specs.PlacedRows.{placed_call_row, placed_level_rows, placed_undo_rows}
+use Rattle.kernel_core.specs.declared.placed_rows.RowPlace.{RowPlace}
 use Rattle.kernel_core.specs.declared.placed_rows.Section.{Section}
 use Rattle.kernel_core.specs.declared.placed_rows.Section.TheVariants.{Clock, Queue, Accounts, Cells, Files, Grafts, Policies, Frames, Locks, Calls, Levels, Undo}
-
--- the i-th element, or by how much i is past the last
-abbrev pub pick : {A : Type 0} → List A → ℕ → Result A ℕ
-pick [] i = Err i
-pick (x ∷ xs) zero = Ok x
-pick (x ∷ xs) (suc i) = pick xs i
 
 -- one row, or none
 abbrev pub as_list : {A : Type 0} → Option A → List A
@@ -85,3 +81,46 @@ rows_in x s = flat_map (rows_at x s) (range_with_len 0 (places s))
 -- the rows of these sections
 abbrev pub rows_of : Placed → List Section → List RawRow
 rows_of x ss = flat_map (rows_in x) ss
+
+-- the places of a section from the n-th on
+abbrev pub places_from : Section → (n : ℕ) → List ℕ
+places_from s n = drop n (range_with_len 0 (places s))
+
+-- the rows at these places, but for the first i at the first of them
+abbrev pub rows_past : (ℕ → List RawRow) → (i : ℕ) → List ℕ → List RawRow
+rows_past rows i [] = []
+rows_past rows i (n ∷ ns) = drop i (rows n) ++ flat_map rows ns
+
+-- how many these are, where there are at most m at each place
+abbrev pub most_past : (m i : ℕ) → List ℕ → ℕ
+most_past m i [] = 0
+most_past m i (n ∷ ns) = (m - i) + length ns * m
+
+-- how many rows these sections have at most
+abbrev pub most_of : List Section → ℕ
+most_of [] = 0
+most_of (s ∷ ss) = most_in s + most_of ss
+
+-- the rows from a place on: those of its section, without the ones that came before, and those of the sections behind
+unfoldable pub rows_left : Placed → RowPlace → List RawRow
+rows_left x at =
+    elim (slice_get sections at.section) [
+      | None ↦ []
+      | Some s ↦ rows_past (rows_at x s) at.index (places_from s at.place) ++ rows_of x (drop (at.section + 1) sections)
+    ]
+
+-- how many they are at most
+unfoldable pub most_left : RowPlace → ℕ
+most_left at =
+    elim (slice_get sections at.section) [
+      | None ↦ 0
+      | Some s ↦ most_past (most_at s) at.index (places_from s at.place) + most_of (drop (at.section + 1) sections)
+    ]
+
+-- The next row was asked for at a place: it is the first of those that were left, if there was one, and from the new
+-- place on the rest is left.
+pub record TakesRow (x : Placed) (old new : RowPlace) (row : Option RawRow) : Type 0 where
+  pub first : row ≡ slice_get (rows_left x old) 0
+  pub rest : rows_left x new ≡ drop 1 (rows_left x old)
+  -- with a row, fewer can be left than before
+  pub fewer : IfSome row (λ _. most_left new < most_left old)

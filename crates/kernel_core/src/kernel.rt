@@ -13,9 +13,10 @@ ghost use Rattle.placed_laws.specs.PlacedRows.{placed_rows};
 ghost use Rattle.placed_laws.specs.Stands.{StandsFor};
 ghost use Rattle.kernel_steps.specs.Views.{placed_of, IsRunning, Stood};
 ghost use Rattle.kernel_events.specs.Happened.{Happened, IsKernel};
+ghost use Rattle.kernel_core.specs.PlacedSections.{TakesRow};
 ghost use Rattle.kernel_core.specs.Standing.{IsBlank, Booted};
 
-use crate::placed_rows;
+use crate::placed_rows::{self, RowPlace};
 use call_pieces::Calls;
 use disk_log::DiskLog;
 use graft_loader::{Images, Loaded};
@@ -156,5 +157,13 @@ impl<C: Calls> Kernel<C> {
         ensures few { 1478 ≤ i → result ≡ None }
     {
         placed_rows::raw(&self.running, i)
+    }
+    /// The next row from a place on, which then is behind that row. None where no row is left.
+    pub fn next_row(&self, at: &mut RowPlace) -> Option<RawRow>
+        requires running { IsRunning (λ b. seen (b.vtable, b.value)) (λ w. C.caller w) self.now.running }
+        ensures { TakesRow (placed_of (λ b. seen (b.vtable, b.value)) (λ w. C.stage w) self.now.running)
+            at.old at.new result }
+    {
+        placed_rows::next_row(&self.running, at)
     }
 }

@@ -9,3 +9,4 @@ mod placed_rows;
 pub use kernel::{BootNote, Kernel};
 pub use kernel_state::Setup;
 pub use kernel_steps::Notes;
+pub use placed_rows::RowPlace;

@@ -1,10 +1,10 @@
 //! The rows that show a running kernel's whole state, with the calls in flight.
 
-ghost use Rattle.std.specs.Prelude.{◌≡◌, ◌<◌, ◌≤◌, ◌+◌, None, IfErr, IfOk, length, slice_get};
-ghost use Rattle.kernel_model.specs.declared.RawRow.{RawRow as Row};
-ghost use Rattle.placed_laws.specs.PlacedRows.{placed_level_rows, placed_rows, placed_undo_rows};
+ghost use Rattle.std.specs.Prelude.{◌≡◌, ◌-◌, ◌^◌, ◌<◌, ◌≤◌, ◌+◌, None, length, slice_get};
+ghost use Rattle.placed_laws.specs.Placed.{Placed};
+ghost use Rattle.placed_laws.specs.PlacedRows.{placed_rows};
 ghost use Rattle.kernel_steps.specs.Views.{placed_of, IsRunning};
-ghost use Rattle.kernel_core.specs.PlacedSections.{as_list, most_at, most_in, pick, places, rows_at, rows_in};
+ghost use Rattle.kernel_core.specs.PlacedSections.{most_at, most_left, places, rows_at, rows_left, TakesRow};
 
 use call_pieces::Calls;
 use kernel_model::RawRow;
@@ -69,104 +69,132 @@ fn places_of(section: Section) -> u16
     }
 }
 
+/// Where the next of the rows that show the whole state is looked for.
+#[derive(Clone, Copy)]
+pub struct RowPlace {
+    /// The number of its section.
+    section: usize,
+    /// The place in that section.
+    place: u16,
+    /// How many rows at that place came before.
+    index: u32,
+}
+
+impl RowPlace {
+    /// Before the first row.
+    pub fn first() -> RowPlace
+        ensures rows { (x : Placed) → rows_left x result ≡ placed_rows x }
+        ensures most { most_left result ≡ 1478 }
+    {
+        RowPlace {
+            section: 0,
+            place: 0,
+            index: 0,
+        }
+    }
+
+    /// On to the next place of the section.
+    fn pass_place(&mut self)
+        requires { self.old.place < 2 ^ 16 - 1 }
+        ensures { self.new ≡ record { section = self.old.section; place = self.old.place + 1; index = 0 } }
+    {
+        self.place += 1;
+        self.index = 0;
+    }
+
+    /// On to the next section.
+    fn pass_section(&mut self)
+        requires { self.old.section < 12 }
+        ensures { self.new ≡ record { section = self.old.section + 1; place = 0; index = 0 } }
+    {
+        self.section += 1;
+        self.place = 0;
+        self.index = 0;
+    }
+}
+
 /// The i-th of the rows that show the whole state. None past the last.
 pub fn raw<C: Calls>(running: &Running<C>, i: u32) -> Option<RawRow>
     requires running { IsRunning (λ b. seen (b.vtable, b.value)) (λ w. C.caller w) running.now }
     ensures value { result ≡ slice_get (placed_rows (placed_of (λ b. seen (b.vtable, b.value)) (λ w. C.stage w) running.now)) i }
     ensures few { 1478 ≤ i → result ≡ None }
 {
-    let mut left = i;
-    for section in SECTIONS {
-        match row_in(running, section, left) {
-            Ok(row) => return Some(row),
-            Err(past) => left = past,
+    let mut at = RowPlace::first();
+    for before in 0..i {
+        next_row(running, &mut at)?;
+    }
+    next_row(running, &mut at)
+}
+
+/// The next row from a place on, which then is behind that row. None where no row is left.
+pub fn next_row<C: Calls>(running: &Running<C>, at: &mut RowPlace) -> Option<RawRow>
+    requires running { IsRunning (λ b. seen (b.vtable, b.value)) (λ w. C.caller w) running.now }
+    ensures { TakesRow (placed_of (λ b. seen (b.vtable, b.value)) (λ w. C.stage w) running.now) at.old at.new result }
+{
+    while at.section < SECTIONS.len() {
+        let section = SECTIONS[at.section];
+        if at.place >= places_of(section) {
+            at.pass_section();
+            continue;
         }
+        if at.index < count_at(running, section, at.place) {
+            let i = at.index;
+            at.index += 1;
+            return row_at(running, section, at.place, i);
+        }
+        at.pass_place();
     }
     None
 }
 
-/// The i-th row of a section. Err has by how much i is past the last.
-fn row_in<C: Calls>(running: &Running<C>, section: Section, i: u32) -> Result<RawRow, u32>
-    requires running { IsRunning (λ b. seen (b.vtable, b.value)) (λ w. C.caller w) running.now }
-    ensures value { result ≡ pick (rows_in (placed_of (λ b. seen (b.vtable, b.value)) (λ w. C.stage w) running.now) section) i }
-    ensures few { IfOk result (λ row. i < most_in section) }
-    ensures past { IfErr result (λ past. i ≤ past + most_in section) }
-{
-    let mut left = i;
-    for n in 0..places_of(section) {
-        match row_at(running, section, n, left) {
-            Ok(row) => return Ok(row),
-            Err(past) => left = past,
-        }
-    }
-    Err(left)
-}
-
-/// The i-th row at a place of a section. Err has by how much i is past the last.
-fn row_at<C: Calls>(running: &Running<C>, section: Section, n: u16, i: u32) -> Result<RawRow, u32>
+/// How many rows there are at a place of a section.
+fn count_at<C: Calls>(running: &Running<C>, section: Section, n: u16) -> u32
     requires running { IsRunning (λ b. seen (b.vtable, b.value)) (λ w. C.caller w) running.now }
     requires place { n < places section }
-    ensures value { result ≡ pick (rows_at (placed_of (λ b. seen (b.vtable, b.value)) (λ w. C.stage w) running.now) section n) i }
-    ensures few { IfOk result (λ row. i < most_at section) }
-    ensures past { IfErr result (λ past. i ≤ past + most_at section) }
+    ensures value { result ≡
+        length (rows_at (placed_of (λ b. seen (b.vtable, b.value)) (λ w. C.stage w) running.now) section n) }
+    ensures few { result ≤ most_at section }
 {
     let store = &running.store;
     match section {
-        Section::Clock => one(Some(RawRow::Clock(running.clock)), i),
-        Section::Queue => one(Some(store.shown_queue()), i),
-        Section::Accounts if store.living(n.into()) => one(Some(store.shown_account(n as u8)), i),
-        Section::Cells if store.living(n.into()) => one(Some(store.shown_cells(n as u8)), i),
-        Section::Accounts | Section::Cells => Err(i),
-        Section::Files => one(store.shown_file((n / 4) as u8, (n % 4) as u8), i),
-        Section::Grafts => one(store.shown_graft((n / 16) as u8, (n % 16) as u8), i),
-        Section::Policies => one(Some(store.shown_policy(n as u8)), i),
-        Section::Frames => one(Some(RawRow::Lru(store.frame_rows())), i),
-        Section::Locks => one(store.shown_lock(n as u8), i),
-        Section::Calls => one(running.call_row(n as u8), i),
-        Section::Levels => level_row(running, n as u8, i),
-        Section::Undo => undo_row(running, n as u8, i),
+        Section::Clock | Section::Queue | Section::Policies | Section::Frames => 1,
+        Section::Accounts | Section::Cells => store.living(n.into()).into(),
+        Section::Files => store
+            .procs
+            .file((n / 4) as u8, (n % 4) as u8)
+            .is_some()
+            .into(),
+        Section::Grafts => store.has_graft((n / 16) as u8, (n % 16) as u8).into(),
+        Section::Locks => store.holder(n as u8).is_some().into(),
+        Section::Calls => running.call_number(n as u8).is_some().into(),
+        Section::Levels => running.shown_levels(n as u8).into(),
+        Section::Undo => running.shown_records(n as u8).into(),
     }
 }
 
-/// The i-th of one row, or of none.
-fn one(row: Option<RawRow>, i: u32) -> Result<RawRow, u32>
-    ensures value { result ≡ pick (as_list row) i }
-    ensures few { IfOk result (λ row. i < 1) }
-    ensures past { IfErr result (λ past. i ≤ past + 1) }
-{
-    match row {
-        Some(row) if i == 0 => Ok(row),
-        Some(_) => Err(i - 1),
-        None => Err(i),
-    }
-}
-
-/// The i-th level of process p's call. Err has by how much i is past the last.
-fn level_row<C: Calls>(running: &Running<C>, p: u8, i: u32) -> Result<RawRow, u32>
-    requires process { p < 16 }
+/// The i-th row at a place of a section, which has more than i.
+fn row_at<C: Calls>(running: &Running<C>, section: Section, n: u16, i: u32) -> Option<RawRow>
     requires running { IsRunning (λ b. seen (b.vtable, b.value)) (λ w. C.caller w) running.now }
-    ensures value { result ≡ pick (placed_level_rows (placed_of (λ b. seen (b.vtable, b.value)) (λ w. C.stage w) running.now) p) i }
-    ensures few { IfOk result (λ row. i < 4) }
-    ensures past { IfErr result (λ past. i ≤ past + 4) }
+    requires place { n < places section }
+    requires row { i <
+        length (rows_at (placed_of (λ b. seen (b.vtable, b.value)) (λ w. C.stage w) running.now) section n) }
+    requires few { i < most_at section }
+    ensures { result ≡
+        slice_get (rows_at (placed_of (λ b. seen (b.vtable, b.value)) (λ w. C.stage w) running.now) section n) i }
 {
-    let count = u32::from(running.shown_levels(p));
-    if i < count {
-        return Ok(running.level_row(p, i as u8));
+    let store = &running.store;
+    match section {
+        Section::Clock => Some(RawRow::Clock(running.clock)),
+        Section::Queue => Some(store.shown_queue()),
+        Section::Accounts => Some(store.shown_account(n as u8)),
+        Section::Cells => Some(store.shown_cells(n as u8)),
+        Section::Files => store.shown_file((n / 4) as u8, (n % 4) as u8),
+        Section::Grafts => store.shown_graft((n / 16) as u8, (n % 16) as u8),
+        Section::Policies => Some(store.shown_policy(n as u8)),
+        Section::Frames => Some(RawRow::Lru(store.frame_rows())),
+        Section::Locks => store.shown_lock(n as u8),
+        Section::Calls => running.call_row(n as u8),
+        Section::Levels => Some(running.level_row(n as u8, i as u8)),
+        Section::Undo => Some(running.undo_row(n as u8, i as u8)),
     }
-    Err(i - count)
-}
-
-/// The i-th record of process p's call. Err has by how much i is past the last.
-fn undo_row<C: Calls>(running: &Running<C>, p: u8, i: u32) -> Result<RawRow, u32>
-    requires process { p < 16 }
-    requires running { IsRunning (λ b. seen (b.vtable, b.value)) (λ w. C.caller w) running.now }
-    ensures value { result ≡ pick (placed_undo_rows (placed_of (λ b. seen (b.vtable, b.value)) (λ w. C.stage w) running.now) p) i }
-    ensures few { IfOk result (λ row. i < 64) }
-    ensures past { IfErr result (λ past. i ≤ past + 64) }
-{
-    let count = u32::from(running.shown_records(p));
-    if i < count {
-        return Ok(running.undo_row(p, i as u8));
-    }
-    Err(i - count)
 }

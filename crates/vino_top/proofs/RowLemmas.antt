@@ -1,5 +1,5 @@
 -- The lines of rows, and of calls that are left, one after another.
-use Rattle.std.proofs.Common.{◌≡◌, ◌≤◌, ℕ, zero, suc, ◌+◌, Bool, true, false, ◌&&◌, List, [], ◌∷◌, ◌++◌, Option, Some, None, length, take, codes, decimal, arith, refl, sym, ap, ◌∙◌, append-nil, append_assoc, add-one, inl, inr}
+use Rattle.std.proofs.Common.{◌≡◌, ◌≤◌, ℕ, zero, suc, ◌+◌, ◌*◌, Bool, true, false, ◌&&◌, List, [], ◌∷◌, ◌++◌, Option, Some, None, drop, length, codes, decimal, arith, refl, sym, ap, ◌∙◌, append-nil, append_assoc, add-one, inl, inr}
 use Rattle.std.specs.Prelude.{slice_get, map, option_map}
 use Rattle.std.specs.List.{concat, range_with_len}
 use Rattle.std.proofs.lemmas.List.Folds.{concat-append}
@@ -12,45 +12,30 @@ use Rattle.kernel_model.specs.Text.{line, left_text, row_lines, row_text}
 use Rattle.placed_laws.specs.Placed.{Placed, PlacedCall}
 use Rattle.vino_top.specs.Standing.{placed_left_line, placed_left_lines}
 
--- the rows before a place and the row at it
-take_row : (rows : List RawRow) (i : ℕ) (r : RawRow) → slice_get rows i ≡ Some r → take (suc i) rows ≡ take i rows ++ r ∷ []
-take_row [] i r h = absurd cc
-take_row (x ∷ rows) zero r h = let same : x ≡ r = cc in ap (λ y. y ∷ []) same
-take_row (x ∷ rows) (suc i) r h = ap (λ ys. x ∷ ys) (take_row rows i r h)
+-- before the first row
+pub row_first : (n : ℕ) (rows all : List RawRow) (old : List ℕ) → old ≡ [] → rows ≡ all → old ++ row_lines n rows ≡ row_lines n all
+row_first n rows all old none same = ap (λ ys. ys ++ row_lines n rows) none ∙ ap (row_lines n) same
 
--- past the last row there is none
-none_past : (rows : List RawRow) (i : ℕ) → slice_get rows i ≡ None → length rows ≤ i
-none_past [] i h = omega arith
-none_past (x ∷ rows) zero h = absurd cc
-none_past (x ∷ rows) (suc i) h = omega (arith, none_past rows i h)
+pub no_bytes : (old : List ℕ) → old ≡ [] → (most : ℕ) → most ≡ 1478 → length old + 2048 * most ≤ 3026944
+no_bytes old none most all = omega (arith, ap length none)
 
--- the lines of one row more
-lines_joined : (n : ℕ) (rows : List RawRow) (r : RawRow) → row_lines n (rows ++ r ∷ []) ≡ row_lines n rows ++ line (decimal n ++ codes " raw " ++ row_text r)
-lines_joined n [] r = append-nil (line (decimal n ++ codes " raw " ++ row_text r))
-lines_joined n (x ∷ rows) r =
-    ap (λ ys. line (decimal n ++ codes " raw " ++ row_text x) ++ ys) (lines_joined n rows r)
-    ∙ sym (append_assoc (line (decimal n ++ codes " raw " ++ row_text x)) (row_lines n rows) (line (decimal n ++ codes " raw " ++ row_text r)))
+-- a row more, and the lines of the rest
+pub row_more : (n : ℕ) (rows rest : List RawRow) (r : RawRow) (old new text all : List ℕ) → old ++ row_lines n rows ≡ all → Some r ≡ slice_get rows 0 → rest ≡ drop 1 rows →
+    text ≡ line (decimal n ++ codes " raw " ++ row_text r) → new ≡ old ++ text → new ++ row_lines n rest ≡ all
+row_more n [] rest r old new text all before is behind said more = absurd cc
+row_more n (x ∷ rows) rest r old new text all before is behind said more =
+    let same : r ≡ x = cc in
+    ap (λ t. t ++ row_lines n rest) (more ∙ ap (λ t. old ++ t) (said ∙ ap (λ y. line (decimal n ++ codes " raw " ++ row_text y)) same))
+    ∙ append_assoc old (line (decimal n ++ codes " raw " ++ row_text x)) (row_lines n rest)
+    ∙ ap (λ ys. old ++ (line (decimal n ++ codes " raw " ++ row_text x) ++ row_lines n ys)) behind
+    ∙ before
 
-pub lines_more : (n : ℕ) (rows : List RawRow) (i : ℕ) (r : RawRow) (old new text : List ℕ) → old ≡ row_lines n (take i rows) → slice_get rows i ≡ Some r →
-    text ≡ line (decimal n ++ codes " raw " ++ row_text r) → new ≡ old ++ text → new ≡ row_lines n (take (i + 1) rows)
-lines_more n rows i r old new text before is said more =
-    more ∙ ap (λ x. x ++ text) before ∙ ap (λ x. row_lines n (take i rows) ++ x) said
-    ∙ sym (lines_joined n (take i rows) r)
-    ∙ ap (row_lines n) (sym (take_row rows i r is) ∙ ap (λ m. take m rows) (sym (add-one i)))
-
--- the lines of all rows
-pub lines_all : (n : ℕ) (rows : List RawRow) (i : ℕ) (old : List ℕ) → old ≡ row_lines n (take i rows) → slice_get rows i ≡ None → old ≡ row_lines n rows
-lines_all n rows i old before past = before ∙ ap (row_lines n) (take_all i rows (none_past rows i past))
-
--- a row that is there isn't past the last place
-pub some_below : (i : ℕ) (o : Option RawRow) (r : RawRow) → o ≡ Some r → (1478 ≤ i → o ≡ None) → i ≤ 1478 → i + 1 ≤ 1478
-some_below i o r is none most =
-    elim (cases_lt i 1478) [
-      | inl below ↦ omega (arith, below)
-      | inr past ↦ absurd (differ (sym is ∙ none past))
-    ]
+-- no row is left
+pub row_end : (n : ℕ) (rows : List RawRow) (found : Option RawRow) (old all : List ℕ) → old ++ row_lines n rows ≡ all → found ≡ slice_get rows 0 → found ≡ None → old ≡ all
+row_end n [] found old all before is none = sym (append-nil old) ∙ before
+row_end n (x ∷ rows) found old all before is none = absurd (differ (sym is ∙ none))
   where
-    differ : Some r ≡ None → ⊥
+    differ : Some x ≡ None → ⊥
     differ h = cc
 
 -- ---- calls that are left

@@ -8,16 +8,13 @@ ghost use Rattle.kernel_steps.specs.Views.{placed_of, IsRunning};
 ghost use Rattle.vino_top.specs.Standing.{caller_of, placed_left_line, placed_left_lines};
 
 use call_pieces::Plain;
-use kernel_core::{Kernel, Notes};
+use kernel_core::{Kernel, Notes, RowPlace};
 use kernel_model::{NoMemory, PROCESSES};
 use line_text::{Text, print_left, print_note, print_row};
 use std::alloc::Global;
 use std::marker::Model;
 
-/// The most rows that show a kernel's whole state.
-const ROWS: u32 = 1_478;
-
-/// Room for a line of at most 2,048 bytes for each row, and one more.
+/// Room for a line of at most 2,048 bytes for each of the 1,478 rows that there are at most, and one more.
 const LINES_BYTES: usize = 3_028_992;
 
 /// The bytes that are written at once. Contracts see their list. Memory is taken once.
@@ -110,14 +107,10 @@ impl Lines {
         requires running { IsRunning (λ b. seen (b.vtable, b.value)) caller_of kernel.now.running }
         ensures { self.new ≡ row_lines n (placed_rows (placed_of (λ b. seen (b.vtable, b.value)) stage_of kernel.now.running)) }
     {
-        for i in 0..ROWS + 1 {
-            match kernel.raw(i) {
-                Some(row) => {
-                    print_row(n, &row, text);
-                    self.add(text);
-                }
-                None => return,
-            }
+        let mut at = RowPlace::first();
+        while let Some(row) = kernel.next_row(&mut at) {
+            print_row(n, &row, text);
+            self.add(text);
         }
     }
 }

@@ -1,22 +1,30 @@
--- One row more, or all of them.
-use Rattle.std.proofs.Common.{arith, sym, ◌∙◌}
+-- Before the first row, a row more, or all of them.
+use Rattle.std.proofs.Common.{arith}
+use Rattle.kernel_model.specs.Text.{row_lines}
 use Rattle.call_pieces.specs.Works.{stage_of}
 use Rattle.placed_laws.specs.PlacedRows.{placed_rows}
 use Rattle.kernel_steps.specs.Views.{placed_of}
-use Rattle.vino_top.proofs.RowLemmas.{lines_more, lines_all, some_below}
+use Rattle.kernel_core.specs.PlacedSections.{most_left, rows_left}
+use Rattle.vino_top.proofs.RowLemmas.{no_bytes, row_end, row_first, row_more}
 use Rattle.vino_top.proofs.lines.Lines.add_rows.Goals as goal
 
-pub loop-i-preserved : goal.loop-i-preserved
-loop-i-preserved g c =
+pub loop-row-init : goal.loop-row-init
+loop-row-init g c =
+    let x = placed_of (λ b. (goal.Policy-dyn g (b.vtable, b.value)).seen b.value) stage_of c.args.kernel.now.running in
     record {
-      lines = lines_more c.args.n (placed_rows (placed_of (λ b. (goal.Policy-dyn g (b.vtable, b.value)).seen b.value) stage_of c.args.kernel.now.running)) c.loop-i.i c.in-Some.row c.loop-i.self c.add.new.self c.print_row.new.out c.loop-i.invariant.lines (sym c.raw.ensures.value ∙ c.in-Some.is) c.print_row.ensures c.add.ensures.value;
-      room = omega (arith, c.loop-i.invariant.room, c.add.ensures.fits);
-      few = some_below c.loop-i.i c.raw.result c.in-Some.row c.in-Some.is c.raw.ensures.few c.loop-i.invariant.few;
+      lines = row_first c.args.n (rows_left x c.first-at.result) (placed_rows x) c.args.self.now c.requires.empty (c.first-at.ensures.rows x);
+      room = no_bytes c.args.self.now c.requires.empty (most_left c.first-at.result) c.first-at.ensures.most;
     }
 
-pub returns-in-None : goal.returns-in-None
-returns-in-None g c =
-    lines_all c.args.n (placed_rows (placed_of (λ b. (goal.Policy-dyn g (b.vtable, b.value)).seen b.value) stage_of c.args.kernel.now.running)) c.loop-i.i c.loop-i.self c.loop-i.invariant.lines (sym c.raw.ensures.value ∙ c.in-None.is)
+pub loop-row-preserved : goal.loop-row-preserved
+loop-row-preserved g c =
+    let x = placed_of (λ b. (goal.Policy-dyn g (b.vtable, b.value)).seen b.value) stage_of c.args.kernel.now.running in
+    record {
+      lines = row_more c.args.n (rows_left x c.loop-row.at) (rows_left x c.next_row.new.at) c.in-Some.row c.loop-row.self c.add.new.self c.print_row.new.out (row_lines c.args.n (placed_rows x)) c.loop-row.invariant.lines c.in-Some.ensures.first c.next_row.ensures.rest c.print_row.ensures c.add.ensures.value;
+      room = omega (arith, c.loop-row.invariant.room, c.add.ensures.fits, c.in-Some.ensures.fewer);
+    }
 
 pub returns : goal.returns
-returns g c = absurd (omega (arith, c.loop-i.invariant.few, c.loop-i-test.false))
+returns g c =
+    let x = placed_of (λ b. (goal.Policy-dyn g (b.vtable, b.value)).seen b.value) stage_of c.args.kernel.now.running in
+    row_end c.args.n (rows_left x c.loop-row.at) c.next_row.result c.loop-row.self (row_lines c.args.n (placed_rows x)) c.loop-row.invariant.lines c.next_row.ensures.first c.in_default.is

@@ -1,15 +1,20 @@
--- The lines of the rows before the place.
-use Rattle.std.proofs.Common.{◌≡◌, ◌≤◌, ◌*◌, length, take}
+-- The lines so far, and those of the rows that are left.
+use Rattle.std.proofs.Common.{◌≡◌, ◌≤◌, ◌+◌, ◌*◌, ◌++◌, length}
 use Rattle.kernel_model.specs.Text.{row_lines}
 use Rattle.call_pieces.specs.Works.{stage_of}
 use Rattle.placed_laws.specs.PlacedRows.{placed_rows}
 use Rattle.kernel_steps.specs.Views.{placed_of}
+use Rattle.kernel_core.specs.PlacedSections.{most_left, rows_left}
 use Rattle.vino_top.proofs.lines.Lines.add_rows.Given as goal
 
-abbrev pub invariant-loop-i : goal.invariant-loop-i
-invariant-loop-i g l =
+abbrev pub invariant-loop-row : goal.invariant-loop-row
+invariant-loop-row g l =
     record {
-      lines : l.self ≡ row_lines l.n (take l.i (placed_rows (placed_of (λ b. (goal.Policy-dyn g (b.vtable, b.value)).seen b.value) stage_of l.kernel.running)));
-      room : length l.self ≤ 2048 * l.i;
-      few : l.i ≤ 1478;
+      lines :
+          l.self ++ row_lines l.n (rows_left (placed_of (λ b. (goal.Policy-dyn g (b.vtable, b.value)).seen b.value) stage_of l.kernel.running) l.at)
+          ≡ row_lines l.n (placed_rows (placed_of (λ b. (goal.Policy-dyn g (b.vtable, b.value)).seen b.value) stage_of l.kernel.running));
+      room : length l.self + 2048 * most_left l.at ≤ 3026944;
     }
+
+abbrev pub decreases-loop-row : goal.decreases-loop-row
+decreases-loop-row g l = most_left l.at
