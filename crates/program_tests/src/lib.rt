@@ -36,8 +36,12 @@ mod tests {
     use std::cell::Cell;
     use std::rc::Rc;
     use std::test::Fail;
-    use vino_base::{Disk, MemSink, MemSource};
-    use vino_top::vino;
+    use sha2::{Digest, Sha256};
+    use vino_base::{Disk, Failed, MemSink, MemSource, Source};
+    use vino_top::{demo_script, vino};
+
+    /// The key of the generated script.
+    const ZEROS: &str = "0000000000000000000000000000000000000000000000000000000000000000";
 
     const KEY: &str = "000102030405060708090a0b0c0d0e0f101112131415161718191a1b1c1d1e1f";
 
@@ -58,8 +62,31 @@ mod tests {
         Ok(all)
     }
 
-    /// Runs the program on this script, over the sample disk and these policies. The read, the write and the call of the
-    /// disk with these numbers fail; 0 is none.
+    /// Runs the program over this source, the sample disk and these policies. The write and the call of the disk with these
+    /// numbers fail; 0 is none.
+    fn run_over<S: Source>(
+        alloc: Global,
+        words: &[&str],
+        source: &mut S,
+        failing: [u64; 2],
+        shelf: Vec<Box<dyn Policy>>,
+    ) -> Result<Ran, Fail>
+        requires shelf { IsShelf (map (λ b. seen b) shelf.items) }
+        requires stock { pol_of (map (λ b. seen b) shelf.items) first_choice ≡ opening_policy }
+    {
+        let [failing_write, failing_call] = failing;
+        let words = words_of(alloc, words)?;
+        let mut written = MemSink::new(alloc, Vec::from_slice(alloc, &[failing_write])?);
+        let mut disk = MemDisk::sample(alloc, Vec::from_slice(alloc, &[failing_call])?)?;
+        let status = vino(alloc, &words, source, &mut written, &mut disk, shelf);
+        Ok(Ran {
+            status,
+            written,
+            disk,
+        })
+    }
+
+    /// The same over a source that gives this script, whose read with that number fails.
     fn run_with(
         alloc: Global,
         words: &[&str],
@@ -71,17 +98,9 @@ mod tests {
         requires stock { pol_of (map (λ b. seen b) shelf.items) first_choice ≡ opening_policy }
     {
         let [failing_read, failing_write, failing_call] = failing;
-        let words = words_of(alloc, words)?;
         let script = Vec::from_slice(alloc, script.as_bytes())?;
         let mut source = MemSource::new(script, Vec::from_slice(alloc, &[failing_read])?);
-        let mut written = MemSink::new(alloc, Vec::from_slice(alloc, &[failing_write])?);
-        let mut disk = MemDisk::sample(alloc, Vec::from_slice(alloc, &[failing_call])?)?;
-        let status = vino(alloc, &words, &mut source, &mut written, &mut disk, shelf);
-        Ok(Ran {
-            status,
-            written,
-            disk,
-        })
+        run_over(alloc, words, &mut source, [failing_write, failing_call], shelf)
     }
 
     /// The same, over the stock policies.
@@ -102,6 +121,36 @@ mod tests {
     fn begins(disk: &mut MemDisk, b: u32, bytes: &[u8; 2]) -> bool {
         let mut block = [0; 512];
         b < disk.size() && disk.read_block(b, &mut block).is_ok() && &block[..2] == bytes.as_slice()
+    }
+
+    /// Gives what another source gives, at most 40 bytes at a time.
+    #[derive(Drop)]
+    struct Trickle {
+        inner: MemSource,
+    }
+
+    impl Source for Trickle {
+        ghost use Rattle.std.specs.Prelude.{None};
+
+        ghost faults = { λ s. s.inner.faults };
+
+        ghost rest = { λ s. None };
+
+        fn read(&mut self, buf: &mut [u8]) -> Result<usize, Failed> {
+            let room = buf.len().min(40);
+            self.inner.read(&mut buf[..room])
+        }
+    }
+
+    /// Runs the script of the long session, over a source that gives few bytes at a time, whose read with this number fails.
+    fn run_trickling(alloc: Global, failing_read: u64) -> Result<Ran, Fail> {
+        let shelf = shelf_with!(alloc, RaSeq::new());
+        if !is_stock(&shelf) {
+            return Err(AllocError.into());
+        }
+        let script = Vec::from_slice(alloc, SESSION.as_bytes())?;
+        let inner = MemSource::new(script, Vec::from_slice(alloc, &[failing_read])?);
+        run_over(alloc, &["run", KEY], &mut Trickle { inner }, [0, 0], shelf)
     }
 
     const STEPS: &str = "boot\nspawn 0\nyield 0\nyield 1\ntick\n";
@@ -188,6 +237,103 @@ mod tests {
         Ok(())
     }
 
+    /// A sequential reader with a graft that reads ahead and one that evicts, beside a plain reader: with a wait, a write, a
+    /// yield and a sync. Another program computed the seals.
+    const SESSION: &str = "boot\n\
+        image 0 56475231010000000800000000000000040402000000000001050000030000000d06040500000000160600000600000002010500000000001a0000000000000002010400000000001a0000000000000085a9380c0c8a998c1b2a759a5fb62bd2e24ceae40e8342b555bf816dec78f679\n\
+        image 1 5647523101000000040000000000000017000000060000000e000000ffffffff17000000070000001a000000000000007c7d7443096be342b6733039e33c1cdc0f6c2e1bf6b6684595e4d96240eca2b7\n\
+        spawn 0\nspawn 0\ngive 0 1 steps 1000\nopen 1 beta\nopen 2 alpha\ninstall 1 0 0 16\nbill 1 0\ninstall 1 4 1 16\nbill 1 4\n\
+        read 1 0 0 0 2\nstep 1 100\nread 2 0 0 0 2\nread 1 0 1 0 2\nstep 1 100\nread 1 0 2 0 2\nstep 1 100\nread 2 0 1 0 2\n\
+        read 1 0 3 0 2\ntick\nstep 2 100\nstep 1 100\nwrite 2 0 2 0 c0ffee\nstep 2 100\nyield 0\nsync 0\n";
+
+    const SESSION_LINES: &str = "0 boot 8 64 3\n1 ok 8 0\n2 ok 4 0\n3 ok 1\n4 ok 2\n5 ok\n6 ok 0\n7 ok 0\n8 ok\n9 ok\n10 ok\n11 ok\n\
+        12 data 1718\n12 graft 1 0 1\n12 ok\n13 ran 6\n14 data 1f20\n14 ok\n15 data 3637\n15 graft 1 0 1\n15 ok\n16 ran 6\n\
+        17 data 5556\n17 graft 1 0 1\n17 ok\n18 ran 10\n19 data 3e3f\n19 graft 1 4 1\n20 waits Cache 2\n21 tick 1\n19 ok\n20 data 7475\n\
+        22 ran 4\n20 ok\n23 ran 6\n24 graft 1 4 1\n24 ok\n25 ran 4\n26 ok 1\n27 ok 1\n";
+
+    /// How many lines are refusals for the disk.
+    fn disk_faults(lines: &[u8]) -> usize {
+        lines.windows(5).filter(|end| *end == b" E16\n".as_slice()).count()
+    }
+
+    #[test]
+    fn one_failed_call_of_the_disk_is_one_line(rt: HostRuntime) -> Result<(), Fail> {
+        for call in 1..200u64 {
+            let ran = run_failing(rt.alloc(), &["run", KEY], SESSION, [0, 0, call])?;
+            assert_eq!(rt; ran.status, 0, "at call {call}");
+            if ran.written.bytes() == SESSION_LINES.as_bytes() {
+                // The run makes fewer calls than this.
+                assert!(rt; call > 15, "at call {call}");
+                return Ok(());
+            }
+            assert_eq!(rt; disk_faults(ran.written.bytes()), 1, "at call {call}");
+        }
+        Err(AllocError.into())
+    }
+
+    #[test]
+    fn a_failed_read_leaves_the_first_lines(rt: HostRuntime) -> Result<(), Fail> {
+        let lines = SESSION_LINES.as_bytes();
+        for read in 1..200u64 {
+            let ran = run_trickling(rt.alloc(), read)?;
+            if ran.status == 0 {
+                assert!(rt; ran.written.bytes() == lines, "at read {read}");
+                // One read for each 40 bytes, and one that finds the end.
+                assert_eq!(rt; read as usize, SESSION.len().div_ceil(40) + 2);
+                return Ok(());
+            }
+            assert_eq!(rt; ran.status, 3, "at read {read}");
+            assert!(rt; lines.starts_with(ran.written.bytes()), "at read {read}");
+        }
+        Err(AllocError.into())
+    }
+
+    #[test]
+    fn a_failed_write_leaves_the_first_lines(rt: HostRuntime) -> Result<(), Fail> {
+        let lines = SESSION_LINES.as_bytes();
+        for write in 1..200u64 {
+            let ran = run_failing(rt.alloc(), &["run", KEY], SESSION, [0, write, 0])?;
+            if ran.status == 0 {
+                assert!(rt; ran.written.bytes() == lines, "at write {write}");
+                // Each line of this script is one write.
+                assert_eq!(rt; write as usize, SESSION.lines().count() + 1);
+                return Ok(());
+            }
+            assert_eq!(rt; ran.status, 4, "at write {write}");
+            assert!(rt; ran.written.bytes().len() < lines.len(), "at write {write}");
+            assert!(rt; lines.starts_with(ran.written.bytes()), "at write {write}");
+        }
+        Err(AllocError.into())
+    }
+
+    #[test]
+    fn demo_tells_of_its_own_script(rt: HostRuntime) -> Result<(), Fail> {
+        let alloc = rt.alloc();
+        let told = run_failing(alloc, &["demo", "0"], "", [0; 3])?;
+        assert_eq!(rt; told.status, 0);
+        let Ok(script) = demo_script(alloc, 0) else {
+            return Err(AllocError.into());
+        };
+        let shelf = shelf_with!(alloc, RaSeq::new());
+        if !is_stock(&shelf) {
+            return Err(AllocError.into());
+        }
+        let mut source = MemSource::new(script, Vec::new(alloc));
+        let ran = run_over(alloc, &["run", ZEROS], &mut source, [0, 0], shelf)?;
+        assert_eq!(rt; ran.status, 0);
+        let lines = ran.written.bytes().iter().filter(|byte| **byte == b'\n').count();
+        let mut digits = [0; 64];
+        let digest = Sha256::digest(ran.written.bytes());
+        let _ = hex::encode_to_slice(digest.as_slice(), &mut digits);
+        let begins = format!(in alloc; "demo 0 lines {lines} ok ")?;
+        assert!(rt; told.written.bytes().starts_with(begins.as_bytes()));
+        let Some(line) = told.written.bytes().strip_suffix(b"\n".as_slice()) else {
+            return Err(AllocError.into());
+        };
+        assert!(rt; line.ends_with(&digits));
+        Ok(())
+    }
+
     #[test]
     fn a_drop_undoes_the_newest_change_first(rt: HostRuntime) -> Result<(), Fail> {
         let alloc = rt.alloc();
@@ -201,19 +347,19 @@ mod tests {
             return Err(AllocError.into());
         }
         let script = format!(in alloc;
-            "boot\nimage 0 {TUNES}\ninstall 0 5 0 50\nbill 0 5\nyield 0\nstep 0 50\n"
+            "boot\nimage 0 {TUNES}\nopen 0 alpha\ninstall 0 0 0 50\nbill 0 0\nread 0 0 0 0 1\nstep 0 11\n"
         )?;
-        let lines =
-            "0 boot 8 64 3\n1 ok 14 0\n2 ok\n3 ok\n4 graft 0 5 1\n4 drop 0 5 C2 1\n4 ok 0\n5 ran 14\n";
+        let lines = "0 boot 8 64 3\n1 ok 11 0\n2 ok 0\n3 ok\n4 ok\n5 data 1f\n5 graft 0 0 1\n5 drop 0 0 C1\n5 ok\n6 ran 10\n";
         let ran = run_with(alloc, &["run", KEY], script.as_str(), [0; 3], shelf)?;
         assert!(rt; ran.written.bytes() == lines.as_bytes());
-        assert!(rt; told.get().values == [5, 6, 5, 7, 5, 6, 5, 2]);
+        assert_eq!(rt; told.get().count, 4);
+        assert!(rt; told.get().values[..4] == [5, 6, 5, 2]);
         Ok(())
     }
 
-    /// Sets the parameter of reading ahead to 5, 6, 5 and 7, then traps. Another program computed the seal.
+    /// Sets the parameter of reading ahead to 5 and to 6, then divides by zero. Another program computed the seal.
     const TUNES: &str =
-        "56475231010000000e00000000000000010000000000000001010000000000000102000005000000170000000b00000001000000000000000102000006000000170000000b00000001000000000000000102000005000000170000000b00000001000000000000000102000007000000170000000b000000190000000100000024c9f831cc664ee541ac8cf86039fb28c4ef8ca8955334ceacd97da017ba467e";
+        "56475231010000000b00000000000000010000000000000001010000000000000102000005000000170000000b000000010000000000000001010000000000000102000006000000170000000b00000001070000000000000b070707000000001a000000000000008211e4388f02474685ac91110290a570ee60e9a820be0de1033cf879e02262ce";
 
     #[test]
     fn a_failing_sink_or_source_gives_its_status(rt: HostRuntime) -> Result<(), Fail> {
