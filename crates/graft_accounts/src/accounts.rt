@@ -3,6 +3,7 @@
 ghost use Rattle.std.specs.Prelude.{◌≡◌, ◌+◌, ◌*◌, ◌<◌, ◌≤◌, ℕ, None, true, replicate, is_some, option_map, nat_le, cond, slice_index, slice_set};
 ghost use Rattle.kernel_model.specs.declared.Kind.{Kind};
 ghost use Rattle.kernel_model.specs.Charges.{charge, charged_steps, removed, funds};
+ghost use Rattle.kernel_model.specs.Levels.{limit_in};
 ghost use Rattle.kernel_model.specs.Opening.{opening_accounts};
 ghost use Rattle.kernel_model.specs.Pieces.{with_graft, new_graft, without_grafts, account_closed};
 ghost use Rattle.kernel_model.specs.Sound.{ledger};
@@ -280,6 +281,42 @@ impl Accounts {
             records: self.funds_at(i, Kind::Records),
             locks: self.funds_at(i, Kind::Locks),
         })
+    }
+
+    /// The image of the graft that stands at point pt of process p.
+    pub fn image(&self, p: u8, pt: u8) -> Option<u8>
+        requires process { p < 16 }
+        requires point { pt < 16 }
+        ensures { result ≡ option_map (λ g. g.image) ((accounts_of self.now).graft p pt) }
+    {
+        let standing = self.standing(place(p, pt))?;
+        Some(standing.image)
+    }
+
+    /// The limit of the graft that stands at point pt of process p: 0 where none does.
+    pub fn limit(&self, p: u8, pt: u8) -> u32
+        requires process { p < 16 }
+        requires point { pt < 16 }
+        ensures { result ≡ limit_in ((accounts_of self.now).graft p pt) }
+    {
+        match self.standing(place(p, pt)) {
+            None => 0,
+            Some(standing) => standing.limit,
+        }
+    }
+
+    /// What whoever pays for the graft at point pt of process p has: nothing where none stands.
+    pub fn funds(&self, p: u8, pt: u8, k: Kind) -> u64
+        requires process { p < 16 }
+        requires point { pt < 16 }
+        ensures { result ≡ funds (accounts_of self.now) p pt k }
+    {
+        let i = place(p, pt);
+        match self.standing(i) {
+            None => 0,
+            Some(standing) if standing.billed => self.balance(p, k),
+            Some(_) => self.funds_at(i, k),
+        }
     }
 
     /// Whether a graft stands at point pt of process p: none does where p is no process.
