@@ -9,15 +9,16 @@ ghost use Rattle.placed_laws.specs.Placed.{has_some, placed_blocker};
 ghost use Rattle.placed_laws.specs.PlacedSteps.{placed_joins};
 ghost use Rattle.placed_laws.specs.PlacedEvents.{placed_step_event};
 ghost use Rattle.kernel_steps.specs.Views.{placed_of, IsRunning, Stood};
-ghost use Rattle.kernel_events.specs.Went.{DidFromRest, DidToRest, GoesOn, Leads, Went, takes_up, taken_up, steps_said};
+ghost use Rattle.kernel_events.specs.Went.{DidFromRest, DidToRest, GoesOn, Went, takes_up, taken_up, steps_said};
 
 use crate::last::say_last;
 use crate::settle::settle_all;
+use crate::stretch::stretch;
 use call_pieces::Calls;
 use disk_log::DiskLog;
 use kernel_model::Note;
 use kernel_steps::{Notes, Running};
-use placed_laws::{agreeing, keeping, resting, stretching};
+use placed_laws::{agreeing, keeping, resting};
 use vino_base::Disk;
 
 /// Process p's call, which is in a graft, blocked, and not in the order, joins it.
@@ -64,12 +65,13 @@ fn take_up<C: Calls, D: Disk>(
     if running.waits(p) {
         return false;
     }
-    if running.blocker(p).is_some() {
+    let needs = running.instruction_needs(p);
+    if running.blocked_by(p, needs.as_slice()).is_some() {
         join(running, p);
         settle_all(running, disk, log, notes);
         return false;
     }
-    if running.step_in_graft(p, disk, log, notes) {
+    if running.step_in_graft(p, needs.as_slice(), disk, log, notes) {
         return true;
     }
     settle_all(running, disk, log, notes);
@@ -82,29 +84,6 @@ fn more(taken: u32, went: bool) -> u32
     ensures { result ≡ cond went (taken + 1) taken }
 {
     if went { taken + 1 } else { taken }
-}
-
-/// A stretch of process p's call, where it is in a graft and doesn't wait: at most n instructions that each go on and call
-/// nothing. How many there were. They leave no step to take.
-fn stretch<C: Calls>(running: &mut Running<C>, p: u8, n: u32) -> u32
-    requires process { p < 16 }
-    requires running { IsRunning (λ b. seen (b.vtable, b.value)) (λ w. C.caller w) running.old }
-    requires stood { Stood C.Meaning.meaning (placed_of (λ b. seen (b.vtable, b.value)) (λ w. C.stage w) running.old) }
-    ensures most { result ≤ n }
-    ensures leads { let x = placed_of (λ b. seen (b.vtable, b.value)) (λ w. C.stage w) running.old in
-        Leads C.Meaning.meaning p result x (placed_of (λ b. seen (b.vtable, b.value)) (λ w. C.stage w) running.new) }
-    ensures on { GoesOn C.Meaning.meaning (λ b. seen (b.vtable, b.value)) (λ w. C.stage w) (λ w. C.caller w)
-        running.old running.new }
-{
-    agreeing::same_shown::<C::Meaning>();
-    stretching::stretches::<C::Meaning>();
-    if !running.in_graft(p) {
-        return 0;
-    }
-    if running.waits(p) {
-        return 0;
-    }
-    running.stretch(p, n)
 }
 
 /// At most n instructions of process p's call, and the note of how many were taken up.

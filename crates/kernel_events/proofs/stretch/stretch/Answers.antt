@@ -3,7 +3,7 @@ use Rattle.kernel_steps.specs.Views.{placed_of}
 use Rattle.kernel_events.proofs.WentLemmas.{levels_called}
 use Rattle.kernel_events.proofs.RestLemmas.{called}
 use Rattle.kernel_events.proofs.StepLemmas.{leads_far, leads_none}
-use Rattle.kernel_events.proofs.stepping.stretch.Goals as goal
+use Rattle.kernel_events.proofs.stretch.stretch.Goals as goal
 
 pub returns-then-not-in_graft-clause-leads : goal.returns-then-not-in_graft-clause-leads
 returns-then-not-in_graft-clause-leads g c = leads_none g.C.Meaning.Rules.meaning c.args.p (placed_of (λ b. (goal.Policy-dyn g (b.vtable, b.value)).seen b.value) (λ w. g.C.Calls.stage w) c.args.running.now)
