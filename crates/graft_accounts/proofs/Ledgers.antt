@@ -41,9 +41,9 @@ ledger_seen t j r h =
 
 -- a process pays one
 paid_ledger : (a : Amounts) (p : ℕ) → p < length a.balances → p < length a.spent → 1 ≤ slice_index a.balances p →
-    (r : ℕ) → ledger_in r (paid p a) ≡ ledger_in r a
+    (r : ℕ) → ledger_in r (paid p 1 a) ≡ ledger_in r a
 paid_ledger a p h i enough =
-    let P : ℕ → Type 0 = λ r. ledger_in r (paid p a) ≡ ledger_in r a in
+    let P : ℕ → Type 0 = λ r. ledger_in r (paid p 1 a) ≡ ledger_in r a in
     each_place P p
     (let b = set_here a.balances p (slice_index a.balances p - 1) h in
     let s = set_here a.spent p (slice_index a.spent p + 1) i in omega arith)
@@ -69,9 +69,9 @@ row_same fs p pt r low apart =
 
 -- a graft pays one
 paid_at_ledger : (a : Amounts) (p pt : ℕ) → pt < 16 → p < length a.spent → 16 * p + pt < length a.funds → 1 ≤ slice_index a.funds (16 * p + pt) →
-    (r : ℕ) → ledger_in r (paid_at p (16 * p + pt) a) ≡ ledger_in r a
+    (r : ℕ) → ledger_in r (paid_at p (16 * p + pt) 1 a) ≡ ledger_in r a
 paid_at_ledger a p pt low h i enough =
-    let P : ℕ → Type 0 = λ r. ledger_in r (paid_at p (16 * p + pt) a) ≡ ledger_in r a in
+    let P : ℕ → Type 0 = λ r. ledger_in r (paid_at p (16 * p + pt) 1 a) ≡ ledger_in r a in
     each_place P p
     (let s = set_here a.spent p (slice_index a.spent p + 1) h in
     let f = row_less a.funds p pt low i enough in omega arith)
@@ -89,22 +89,22 @@ moved_ledgers t u k s h i e is j r =
     ∙ sym (ledger_seen t j r h)
 
 pub account_charge_ledgers : (t u : Table) (k : Kind) (p : ℕ) (b : Bool) → IsTable t → IsTable u → p < 16 → b ≡ nat_le 1 (slice_index (sums_of t k).balances p) →
-    u ≡ cond b (with_sums k (paid p (sums_of t k)) t) t → (j : Kind) (r : ℕ) → ledger (accounts_of u) j r ≡ ledger (accounts_of t) j r
+    u ≡ cond b (with_sums k (paid p 1 (sums_of t k)) t) t → (j : Kind) (r : ℕ) → ledger (accounts_of u) j r ≡ ledger (accounts_of t) j r
 account_charge_ledgers t u k p true h i low enough e =
     let long = (kept_of t k h).sums in
     let some : 1 ≤ slice_index (sums_of t k).balances p = grind (arith, nat_tests) in
     let b = long.balances in let s = long.spent in
-    moved_ledgers t u k (paid p (sums_of t k)) h i (paid_ledger (sums_of t k) p (omega arith) (omega arith) some) e
+    moved_ledgers t u k (paid p 1 (sums_of t k)) h i (paid_ledger (sums_of t k) p (omega arith) (omega arith) some) e
 account_charge_ledgers t u k p false h i low enough e = λ j r. ap (λ v. ledger (accounts_of v) j r) e
 
 pub graft_charge_ledgers : (t u : Table) (k : Kind) (p pt : ℕ) (b : Bool) → IsTable t → IsTable u → p < 16 → pt < 16 →
     b ≡ nat_le 1 (slice_index (sums_of t k).funds (16 * p + pt)) →
-    u ≡ cond b (with_sums k (paid_at p (16 * p + pt) (sums_of t k)) t) t → (j : Kind) (r : ℕ) → ledger (accounts_of u) j r ≡ ledger (accounts_of t) j r
+    u ≡ cond b (with_sums k (paid_at p (16 * p + pt) 1 (sums_of t k)) t) t → (j : Kind) (r : ℕ) → ledger (accounts_of u) j r ≡ ledger (accounts_of t) j r
 graft_charge_ledgers t u k p pt true h i low less enough e =
     let long = (kept_of t k h).sums in
     let some : 1 ≤ slice_index (sums_of t k).funds (16 * p + pt) = grind (arith, nat_tests) in
     let s = long.spent in let f = long.funds in
-    moved_ledgers t u k (paid_at p (16 * p + pt) (sums_of t k)) h i (paid_at_ledger (sums_of t k) p pt less (omega arith) (omega arith) some) e
+    moved_ledgers t u k (paid_at p (16 * p + pt) 1 (sums_of t k)) h i (paid_at_ledger (sums_of t k) p pt less (omega arith) (omega arith) some) e
 graft_charge_ledgers t u k p pt false h i low less enough e = λ j r. ap (λ v. ledger (accounts_of v) j r) e
 
 -- the same ledgers are the same in all

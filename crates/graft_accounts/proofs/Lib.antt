@@ -4,3 +4,4 @@ pub mod Totals
 pub mod Moves
 pub mod Boot
 pub mod Ledgers
+pub mod Stepping

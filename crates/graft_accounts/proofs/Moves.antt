@@ -141,11 +141,21 @@ fund_seen t u k p pt n g table h low stands enough e =
 
 -- ---- charges
 
+-- as many places as there are processes, and points
+pub record IsLong (s : Amounts) : Type 0 where
+  pub balances : length s.balances ≡ 16
+  pub spent : length s.spent ≡ 16
+  pub funds : length s.funds ≡ 256
+
+pub long_of : (t : Table) (k : Kind) → IsTable t → IsLong (sums_of t k)
+long_of t k table =
+    let sums = (kept_of t k table).sums in record { balances = sums.balances; spent = sums.spent; funds = sums.funds }
+
 pay_accounts : (t : Table) (k : Kind) (p : ℕ) → p < length (sums_of t k).balances → p < length (sums_of t k).spent →
-    account_at (with_sums k (paid p (sums_of t k)) t) ≡ at p (pay k (account_at t p)) (account_at t)
+    account_at (with_sums k (paid p 1 (sums_of t k)) t) ≡ at p (pay k (account_at t p)) (account_at t)
 pay_accounts t k p h i =
     let a = sums_of t k in
-    let s = paid p a in
+    let s = paid p 1 a in
     at_by (account_at (with_sums k s t)) (account_at t) p (pay k (account_at t p))
     (account_both k s t p (slice_index a.balances p - 1) (slice_index a.spent p + 1)
     (set_here a.balances p (slice_index a.balances p - 1) h) (set_here a.spent p (slice_index a.spent p + 1) i))
@@ -153,22 +163,22 @@ pay_accounts t k p h i =
     (set_other a.spent p j (slice_index a.spent p + 1) apart))
 
 spend_accounts : (t : Table) (k : Kind) (p i : ℕ) → p < length (sums_of t k).spent →
-    account_at (with_sums k (paid_at p i (sums_of t k)) t) ≡ at p (spend k (account_at t p)) (account_at t)
+    account_at (with_sums k (paid_at p i 1 (sums_of t k)) t) ≡ at p (spend k (account_at t p)) (account_at t)
 spend_accounts t k p i h =
     let a = sums_of t k in
-    let s = paid_at p i a in
+    let s = paid_at p i 1 a in
     at_by (account_at (with_sums k s t)) (account_at t) p (spend k (account_at t p))
     (account_spent k s t p (slice_index a.spent p + 1) refl (set_here a.spent p (slice_index a.spent p + 1) h))
     (λ j apart. account_same k s t j refl (set_other a.spent p j (slice_index a.spent p + 1) apart))
 
-spend_grafts : (t : Table) (k : Kind) (p pt : ℕ) (g : Standing) → IsTable t → p < 16 → pt < 16 → standing_at t (16 * p + pt) ≡ Some g →
-    (accounts_of (with_sums k (paid_at p (16 * p + pt) (sums_of t k)) t)).graft
+spend_grafts : (t : Table) (k : Kind) (p pt : ℕ) (g : Standing) → IsLong (sums_of t k) → p < 16 → pt < 16 → standing_at t (16 * p + pt) ≡ Some g →
+    (accounts_of (with_sums k (paid_at p (16 * p + pt) 1 (sums_of t k)) t)).graft
     ≡ at2 p pt (Some (taken_from k (graft_seen t (16 * p + pt) g))) (accounts_of t).graft
-spend_grafts t k p pt g table h low e =
+spend_grafts t k p pt g long_sums h low e =
     let a = sums_of t k in
     let i = 16 * p + pt in
-    let long = (kept_of t k table).sums.funds in
-    let s = paid_at p i a in
+    let long = long_sums.funds in
+    let s = paid_at p i 1 a in
     let inside : i < length a.funds = omega arith in
     grafts_but (with_sums k s t) t p pt (Some (taken_from k (graft_seen t i g))) low
     (graft_touched k s t i (slice_index a.funds i - 1) g e (set_here a.funds i (slice_index a.funds i - 1) inside))
@@ -185,40 +195,40 @@ graft_pays : (k : Kind) (q pt : ℕ) (g : GraftValue) (w : Accounts) → g.bille
 graft_pays k q pt g w e = unbilled g.billed (charge_account k q w) (charge_graft k q pt g w) e
 
 -- what the account paid
-account_charged : (t : Table) (k : Kind) (p pt : ℕ) (g : Standing) → IsTable t → p < 16 → pt < 16 → standing_at t (16 * p + pt) ≡ Some g →
-    g.billed ≡ true → accounts_of (with_sums k (paid p (sums_of t k)) t) ≡ charge k p pt (accounts_of t)
-account_charged t k p pt g table h low stands billed =
-    let b = (kept_of t k table).sums.balances in
-    let s = (kept_of t k table).sums.spent in
-    accounts_by (with_sums k (paid p (sums_of t k)) t) (accounts_of t).graft (at p (pay k (account_at t p)) (account_at t))
-    (grafts_untouched k (paid p (sums_of t k)) t refl)
+pub account_charged : (t : Table) (k : Kind) (p pt : ℕ) (g : Standing) → IsLong (sums_of t k) → p < 16 → pt < 16 → standing_at t (16 * p + pt) ≡ Some g →
+    g.billed ≡ true → accounts_of (with_sums k (paid p 1 (sums_of t k)) t) ≡ charge k p pt (accounts_of t)
+account_charged t k p pt g long_sums h low stands billed =
+    let b = long_sums.balances in
+    let s = long_sums.spent in
+    accounts_by (with_sums k (paid p 1 (sums_of t k)) t) (accounts_of t).graft (at p (pay k (account_at t p)) (account_at t))
+    (grafts_untouched k (paid p 1 (sums_of t k)) t refl)
     (pay_accounts t k p (omega arith) (omega arith))
     ∙ sym (billed_pays k p pt (graft_seen t (16 * p + pt) g) (accounts_of t) billed)
     ∙ ap (λ o. charge_by k p pt o (accounts_of t)) (sym (graft_standing t p pt g low stands))
 
 -- what the graft paid
-graft_charged : (t : Table) (k : Kind) (p pt : ℕ) (g : Standing) → IsTable t → p < 16 → pt < 16 → standing_at t (16 * p + pt) ≡ Some g →
-    g.billed ≡ false → accounts_of (with_sums k (paid_at p (16 * p + pt) (sums_of t k)) t) ≡ charge k p pt (accounts_of t)
-graft_charged t k p pt g table h low stands billed =
-    let s = (kept_of t k table).sums.spent in
+pub graft_charged : (t : Table) (k : Kind) (p pt : ℕ) (g : Standing) → IsLong (sums_of t k) → p < 16 → pt < 16 → standing_at t (16 * p + pt) ≡ Some g →
+    g.billed ≡ false → accounts_of (with_sums k (paid_at p (16 * p + pt) 1 (sums_of t k)) t) ≡ charge k p pt (accounts_of t)
+graft_charged t k p pt g long_sums h low stands billed =
+    let s = long_sums.spent in
     let i = 16 * p + pt in
-    accounts_by (with_sums k (paid_at p i (sums_of t k)) t) (at2 p pt (Some (taken_from k (graft_seen t i g))) (accounts_of t).graft)
+    accounts_by (with_sums k (paid_at p i 1 (sums_of t k)) t) (at2 p pt (Some (taken_from k (graft_seen t i g))) (accounts_of t).graft)
     (at p (spend k (account_at t p)) (account_at t))
-    (spend_grafts t k p pt g table h low stands)
+    (spend_grafts t k p pt g long_sums h low stands)
     (spend_accounts t k p i (omega arith))
     ∙ sym (graft_pays k p pt (graft_seen t i g) (accounts_of t) billed)
     ∙ ap (λ o. charge_by k p pt o (accounts_of t)) (sym (graft_standing t p pt g low stands))
 
 pub account_charge_seen : (t u : Table) (k : Kind) (p pt : ℕ) (g : Standing) (b : Bool) → IsTable t → p < 16 → pt < 16 →
-    standing_at t (16 * p + pt) ≡ Some g → g.billed ≡ true → u ≡ cond b (with_sums k (paid p (sums_of t k)) t) t →
+    standing_at t (16 * p + pt) ≡ Some g → g.billed ≡ true → u ≡ cond b (with_sums k (paid p 1 (sums_of t k)) t) t →
     accounts_of u ≡ cond b (charge k p pt (accounts_of t)) (accounts_of t)
-account_charge_seen t u k p pt g true table h low stands billed e = ap accounts_of e ∙ account_charged t k p pt g table h low stands billed
+account_charge_seen t u k p pt g true table h low stands billed e = ap accounts_of e ∙ account_charged t k p pt g (long_of t k table) h low stands billed
 account_charge_seen t u k p pt g false table h low stands billed e = ap accounts_of e
 
 pub graft_charge_seen : (t u : Table) (k : Kind) (p pt : ℕ) (g : Standing) (b : Bool) → IsTable t → p < 16 → pt < 16 →
-    standing_at t (16 * p + pt) ≡ Some g → g.billed ≡ false → u ≡ cond b (with_sums k (paid_at p (16 * p + pt) (sums_of t k)) t) t →
+    standing_at t (16 * p + pt) ≡ Some g → g.billed ≡ false → u ≡ cond b (with_sums k (paid_at p (16 * p + pt) 1 (sums_of t k)) t) t →
     accounts_of u ≡ cond b (charge k p pt (accounts_of t)) (accounts_of t)
-graft_charge_seen t u k p pt g true table h low stands billed e = ap accounts_of e ∙ graft_charged t k p pt g table h low stands billed
+graft_charge_seen t u k p pt g true table h low stands billed e = ap accounts_of e ∙ graft_charged t k p pt g (long_of t k table) h low stands billed
 graft_charge_seen t u k p pt g false table h low stands billed e = ap accounts_of e
 
 -- ---- grafts put in place and taken out

@@ -39,13 +39,13 @@ given p q n s = record s { balances = more_at q n (less_at p n s.balances) }
 abbrev pub funded_at : (p i n : ℕ) → Amounts → Amounts
 funded_at p i n s = record s { balances = less_at p n s.balances; funds = more_at i n s.funds }
 
--- one, from a process to what it has spent
-abbrev pub paid : (p : ℕ) → Amounts → Amounts
-paid p s = record s { balances = less_at p 1 s.balances; spent = more_at p 1 s.spent }
+-- from a process to what it has spent
+abbrev pub paid : (p n : ℕ) → Amounts → Amounts
+paid p n s = record s { balances = less_at p n s.balances; spent = more_at p n s.spent }
 
--- one, from a graft to what a process has spent
-abbrev pub paid_at : (p i : ℕ) → Amounts → Amounts
-paid_at p i s = record s { funds = less_at i 1 s.funds; spent = more_at p 1 s.spent }
+-- from a graft to what a process has spent
+abbrev pub paid_at : (p i n : ℕ) → Amounts → Amounts
+paid_at p i n s = record s { funds = less_at i n s.funds; spent = more_at p n s.spent }
 
 -- all that a graft has, to a process
 abbrev pub given_back : (p i : ℕ) → Amounts → Amounts

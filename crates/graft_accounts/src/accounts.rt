@@ -2,7 +2,8 @@
 
 ghost use Rattle.std.specs.Prelude.{◌≡◌, ◌+◌, ◌*◌, ◌<◌, ◌≤◌, ℕ, None, true, replicate, is_some, option_map, nat_le, cond, slice_index, slice_set};
 ghost use Rattle.kernel_model.specs.declared.Kind.{Kind};
-ghost use Rattle.kernel_model.specs.Charges.{charge, removed, funds};
+ghost use Rattle.kernel_model.specs.Charges.{charge, charged_steps, removed, funds};
+ghost use Rattle.kernel_model.specs.Levels.{limit_in};
 ghost use Rattle.kernel_model.specs.Opening.{opening_accounts};
 ghost use Rattle.kernel_model.specs.Pieces.{with_graft, new_graft, without_grafts, account_closed};
 ghost use Rattle.kernel_model.specs.Sound.{ledger};
@@ -51,6 +52,7 @@ fn no_grafts() -> [Option<Standing>; POINTS]
 }
 
 impl Accounts {
+    ghost use Rattle.kernel_model.specs.declared.Kind.TheVariants.{Steps};
     ghost use Rattle.graft_accounts.specs.Sums.{given, funded_at, paid, paid_at};
     ghost use Rattle.graft_accounts.specs.Table.{IsTable, sums_of, with_sums, standing_at, put_at, taken_out, closed_all, accounts_of, total, row_of, short_of, after_give, after_fund, after_bill};
 
@@ -138,34 +140,34 @@ impl Accounts {
         }
     }
 
-    /// Process p pays one.
-    fn pay(&mut self, p: u8, k: Kind)
+    /// Process p pays n.
+    fn pay(&mut self, p: u8, k: Kind, n: u64)
         requires process { p < 16 }
-        requires enough { 1 ≤ slice_index (sums_of self.old k).balances p }
-        ensures value { self.new ≡ with_sums k (paid p (sums_of self.old k)) self.old }
+        requires enough { n ≤ slice_index (sums_of self.old k).balances p }
+        ensures value { self.new ≡ with_sums k (paid p n (sums_of self.old k)) self.old }
         ensures was { IsTable self.old }
         ensures table { IsTable self.new }
     {
         match k {
-            Kind::Steps => self.steps.pay(p),
-            Kind::Records => self.records.pay(p),
-            Kind::Locks => self.locks.pay(p),
+            Kind::Steps => self.steps.pay(p, n),
+            Kind::Records => self.records.pay(p, n),
+            Kind::Locks => self.locks.pay(p, n),
         }
     }
 
-    /// The graft at a place, which process p installed, pays one.
-    fn pay_at(&mut self, p: u8, i: usize, k: Kind)
+    /// The graft at a place, which process p installed, pays n.
+    fn pay_at(&mut self, p: u8, i: usize, k: Kind, n: u64)
         requires process { p < 16 }
         requires place { i < 256 }
-        requires enough { 1 ≤ slice_index (sums_of self.old k).funds i }
-        ensures value { self.new ≡ with_sums k (paid_at p i (sums_of self.old k)) self.old }
+        requires enough { n ≤ slice_index (sums_of self.old k).funds i }
+        ensures value { self.new ≡ with_sums k (paid_at p i n (sums_of self.old k)) self.old }
         ensures was { IsTable self.old }
         ensures table { IsTable self.new }
     {
         match k {
-            Kind::Steps => self.steps.pay_at(p, i),
-            Kind::Records => self.records.pay_at(p, i),
-            Kind::Locks => self.locks.pay_at(p, i),
+            Kind::Steps => self.steps.pay_at(p, i, n),
+            Kind::Records => self.records.pay_at(p, i, n),
+            Kind::Locks => self.locks.pay_at(p, i, n),
         }
     }
 
@@ -173,14 +175,14 @@ impl Accounts {
     fn charge_account(&mut self, p: u8, k: Kind) -> bool
         requires { p < 16 }
         ensures answer { result ≡ nat_le 1 (slice_index (sums_of self.old k).balances p) }
-        ensures value { self.new ≡ cond result (with_sums k (paid p (sums_of self.old k)) self.old) self.old }
+        ensures value { self.new ≡ cond result (with_sums k (paid p 1 (sums_of self.old k)) self.old) self.old }
         ensures was { IsTable self.old }
         ensures table { IsTable self.new }
     {
         if self.balance(p, k) == 0 {
             return false;
         }
-        self.pay(p, k);
+        self.pay(p, k, 1);
         true
     }
 
@@ -189,14 +191,14 @@ impl Accounts {
         requires process { p < 16 }
         requires place { i < 256 }
         ensures answer { result ≡ nat_le 1 (slice_index (sums_of self.old k).funds i) }
-        ensures value { self.new ≡ cond result (with_sums k (paid_at p i (sums_of self.old k)) self.old) self.old }
+        ensures value { self.new ≡ cond result (with_sums k (paid_at p i 1 (sums_of self.old k)) self.old) self.old }
         ensures was { IsTable self.old }
         ensures table { IsTable self.new }
     {
         if self.funds_at(i, k) == 0 {
             return false;
         }
-        self.pay_at(p, i, k);
+        self.pay_at(p, i, k, 1);
         true
     }
 
@@ -281,6 +283,42 @@ impl Accounts {
         })
     }
 
+    /// The image of the graft that stands at point pt of process p.
+    pub fn image(&self, p: u8, pt: u8) -> Option<u8>
+        requires process { p < 16 }
+        requires point { pt < 16 }
+        ensures { result ≡ option_map (λ g. g.image) ((accounts_of self.now).graft p pt) }
+    {
+        let standing = self.standing(place(p, pt))?;
+        Some(standing.image)
+    }
+
+    /// The limit of the graft that stands at point pt of process p: 0 where none does.
+    pub fn limit(&self, p: u8, pt: u8) -> u32
+        requires process { p < 16 }
+        requires point { pt < 16 }
+        ensures { result ≡ limit_in ((accounts_of self.now).graft p pt) }
+    {
+        match self.standing(place(p, pt)) {
+            None => 0,
+            Some(standing) => standing.limit,
+        }
+    }
+
+    /// What whoever pays for the graft at point pt of process p has: nothing where none stands.
+    pub fn funds(&self, p: u8, pt: u8, k: Kind) -> u64
+        requires process { p < 16 }
+        requires point { pt < 16 }
+        ensures { result ≡ funds (accounts_of self.now) p pt k }
+    {
+        let i = place(p, pt);
+        match self.standing(i) {
+            None => 0,
+            Some(standing) if standing.billed => self.balance(p, k),
+            Some(_) => self.funds_at(i, k),
+        }
+    }
+
     /// Whether a graft stands at point pt of process p: none does where p is no process.
     pub fn stands(&self, p: u8, pt: u8) -> bool
         requires { pt < 16 }
@@ -359,6 +397,23 @@ impl Accounts {
             None => false,
             Some(standing) if standing.billed => self.charge_account(p, k),
             Some(_) => self.charge_graft(p, i, k),
+        }
+    }
+
+    /// Moves n steps at once from whoever pays for the graft at point pt of process p to what p has spent: the books are
+    /// as if the steps had been charged one after another.
+    pub fn charge_steps(&mut self, p: u8, pt: u8, n: u32)
+        requires process { p < 16 }
+        requires point { pt < 16 }
+        requires enough { n ≤ funds (accounts_of self.old) p pt Steps }
+        ensures value { accounts_of self.new ≡ charged_steps n p pt (accounts_of self.old) }
+        ensures sums { (j : Kind) → total (accounts_of self.new) j ≡ total (accounts_of self.old) j }
+    {
+        let i = place(p, pt);
+        match self.standing(i) {
+            None => {}
+            Some(standing) if standing.billed => self.pay(p, Kind::Steps, u64::from(n)),
+            Some(_) => self.pay_at(p, i, Kind::Steps, u64::from(n)),
         }
     }
 

@@ -120,30 +120,30 @@ impl Amounts {
         add_to(&mut self.funds, i, n);
     }
 
-    /// Process p pays one.
-    pub(crate) fn pay(&mut self, p: u8)
+    /// Process p pays n.
+    pub(crate) fn pay(&mut self, p: u8, n: u64)
         requires process { p < 16 }
-        requires enough { 1 ≤ slice_index self.old.balances p }
+        requires enough { n ≤ slice_index self.old.balances p }
         requires sound { IsSums self.old }
-        ensures value { self.new ≡ paid p self.old }
+        ensures value { self.new ≡ paid p n self.old }
         ensures sound { IsSums self.new }
         ensures funds { self.new.funds ≡ self.old.funds }
     {
-        take_from(&mut self.balances, p as usize, 1);
-        add_to(&mut self.spent, p as usize, 1);
+        take_from(&mut self.balances, p as usize, n);
+        add_to(&mut self.spent, p as usize, n);
     }
 
-    /// The graft at a place, which process p installed, pays one.
-    pub(crate) fn pay_at(&mut self, p: u8, i: usize)
+    /// The graft at a place, which process p installed, pays n.
+    pub(crate) fn pay_at(&mut self, p: u8, i: usize, n: u64)
         requires process { p < 16 }
         requires place { i < 256 }
-        requires enough { 1 ≤ slice_index self.old.funds i }
+        requires enough { n ≤ slice_index self.old.funds i }
         requires sound { IsSums self.old }
-        ensures value { self.new ≡ paid_at p i self.old }
+        ensures value { self.new ≡ paid_at p i n self.old }
         ensures sound { IsSums self.new }
     {
-        take_from(&mut self.funds, i, 1);
-        add_to(&mut self.spent, p as usize, 1);
+        take_from(&mut self.funds, i, n);
+        add_to(&mut self.spent, p as usize, n);
     }
 
     /// Process p gets all that the graft at a place has.

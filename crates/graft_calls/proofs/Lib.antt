@@ -17,3 +17,4 @@ mod Needing
 mod Asking
 mod Stepping
 mod NextNeeds
+mod Stretching

@@ -1,8 +1,8 @@
 -- Bytes of memory that stay, and what is seen of them.
-use Rattle.std.proofs.Common.{◌≡◌, ◌≢◌, ℕ, zero, suc, ◌+◌, ◌-◌, ◌*◌, ◌<◌, ◌≤◌, ◌==◌, ◌&&◌, Bool, true, false, cond, nat_le, nat_lt, List, [], ◌∷◌, ◌++◌, length, take, drop, slice_index, slice_set, Option, Some, None, arith, refl, sym, ◌∙◌, ap, inl, inr, ◌⊎◌, length-append, length-drop}
+use Rattle.std.proofs.Common.{◌≡◌, ◌≢◌, ℕ, zero, suc, ◌+◌, ◌-◌, ◌*◌, ◌<◌, ◌≤◌, ◌==◌, ◌&&◌, Bool, true, false, cond, nat_le, nat_lt, List, [], ◌∷◌, ◌++◌, length, replicate, take, drop, slice_index, Option, Some, None, arith, refl, sym, ◌∙◌, ap, inl, inr, ◌⊎◌, length-append, length-drop}
 use Rattle.std.proofs.Math.Path.{fun_ext}
 use Rattle.std.proofs.lemmas.Bool.Decides.{nat_tests}
-use Rattle.std.proofs.lemmas.List.{get_or-drop, get_or-set_same, get_or-set_other, get_or_append_left, get_or-append_right, length-take-le, get_or_past}
+use Rattle.std.proofs.lemmas.List.{get_or-drop, get_or_append_left, get_or-append_right, get_or-replicate, length-replicate, length-take-le, get_or_past}
 use Rattle.kernel_model.specs.Machine.{Machine}
 use Rattle.kernel_model.specs.Levels.{base_of}
 use Rattle.kernel_model.specs.Runs.{on_segment}
@@ -12,28 +12,6 @@ use Rattle.buffer_cache.specs.Frames.{Frames, IsFrames, row_at}
 use Rattle.kernel_state.specs.CacheViews.{frame_bytes, frame_value, cache_value}
 use Rattle.graft_machine.specs.Cpu.{Cpu, machine_of, by_place}
 use Rattle.graft_machine.specs.Contained.{IsOutside}
-
--- ---- zeros
-
--- there are zeros from an address to another
-pub record Cleared (from to : ℕ) (before now : List ℕ) : Type 0 where
-  pub look : (b : ℕ) → slice_index now b ≡ cond (nat_le from b && nat_lt b to) 0 (slice_index before b)
-
-pub cleared_none : (from : ℕ) (ram : List ℕ) → Cleared from from ram ram
-cleared_none from ram = record { look = λ b. let apart : (nat_le from b && nat_lt b from) ≡ false = grind (arith, nat_tests) in ap (λ t. cond t 0 (slice_index ram b)) (sym apart) }
-
-pub cleared_more : (from a : ℕ) (before now next : List ℕ) → from ≤ a → a < length now → next ≡ slice_set now a 0 → Cleared from a before now → Cleared from (suc a) before next
-cleared_more from a before now next le within is h = record { look = λ b. ap (λ xs. slice_index xs b) is ∙ by_place b (b == a) refl }
-  where
-    by_place : (b : ℕ) (t : Bool) → (b == a) ≡ t → slice_index (slice_set now a 0) b ≡ cond (nat_le from b && nat_lt b (suc a)) 0 (slice_index before b)
-    by_place b true e =
-        let same : b ≡ a = grind (arith, nat_tests, e) in
-        let among : (nat_le from b && nat_lt b (suc a)) ≡ true = grind (arith, nat_tests, same, le) in
-        ap (λ n. slice_index (slice_set now a 0) n) same ∙ get_or-set_same now a 0 0 within ∙ ap (λ t. cond t 0 (slice_index before b)) (sym among)
-    by_place b false e =
-        let other : b ≢ a = grind (arith, nat_tests, e) in
-        let same : (nat_le from b && nat_lt b a) ≡ (nat_le from b && nat_lt b (suc a)) = grind (arith, nat_tests, other) in
-        get_or-set_other now a b 0 0 other ∙ h.look b ∙ ap (λ t. cond t 0 (slice_index before b)) same
 
 -- ---- bytes copied in
 
@@ -63,6 +41,42 @@ copied_apart ram from at a le (inr above) =
     let both : length (take at ram ++ from) ≡ at + length from = length-append (take at ram) from ∙ ap (λ n. n + length from) front in
     get_or-append_right (take at ram ++ from) (drop (at + length from) ram) (at + length from) a 0 both above
     ∙ get_or-drop (at + length from) ram (a - (at + length from)) 0 ∙ ap (λ n. slice_index ram n) (omega (arith, above))
+
+-- ---- zeros
+
+-- so many bytes in place of others
+put_over : (before bytes : List ℕ) (from to : ℕ) → from ≤ to → to ≤ length before → length bytes ≡ to - from → ((i : ℕ) → i < to - from → slice_index bytes i ≡ 0) →
+    (a : ℕ) → slice_index (take from before ++ bytes ++ drop (from + length bytes) before) a ≡ cond (nat_le from a && nat_lt a to) 0 (slice_index before a)
+put_over before bytes from to order le many zero_at a = by_place (nat_lt a from) (nat_lt a to) refl refl
+  where
+    by_place : (low high : Bool) → nat_lt a from ≡ low → nat_lt a to ≡ high →
+        slice_index (take from before ++ bytes ++ drop (from + length bytes) before) a ≡ cond (nat_le from a && nat_lt a to) 0 (slice_index before a)
+    by_place true high l h =
+        let below : a < from = grind (arith, nat_tests, l) in
+        let apart : (nat_le from a && nat_lt a to) ≡ false = grind (arith, nat_tests, below) in
+        copied_apart before bytes from a (omega (arith, many, order, le)) (inl below) ∙ ap (λ b. cond b 0 (slice_index before a)) (sym apart)
+    by_place false true l h =
+        let above : from ≤ a = grind (arith, nat_tests, l) in
+        let less : a < to = grind (arith, nat_tests, h) in
+        let among : (nat_le from a && nat_lt a to) ≡ true = grind (arith, nat_tests, above, less) in
+        let back : a ≡ from + (a - from) = omega (arith, above) in
+        let small : a - from < to - from = omega (arith, above, less) in
+        ap (λ n. slice_index (take from before ++ bytes ++ drop (from + length bytes) before) n) back
+        ∙ copied_within before bytes from (a - from) (omega (arith, order, le)) (omega (arith, small, many))
+        ∙ zero_at (a - from) small ∙ ap (λ b. cond b 0 (slice_index before a)) (sym among)
+    by_place false false l h =
+        let past : to ≤ a = grind (arith, nat_tests, h) in
+        let apart : (nat_le from a && nat_lt a to) ≡ false = grind (arith, nat_tests, past) in
+        copied_apart before bytes from a (omega (arith, many, order, le)) (inr (omega (arith, many, order, past))) ∙ ap (λ b. cond b 0 (slice_index before a)) (sym apart)
+
+-- zeros from an address to another
+pub cleared : (before next zeros : List ℕ) (from to : ℕ) → from ≤ to → to ≤ length before → zeros ≡ replicate (to - from) 0 → next ≡ take from before ++ zeros ++ drop to before →
+    (a : ℕ) → slice_index next a ≡ cond (nat_le from a && nat_lt a to) 0 (slice_index before a)
+cleared before next zeros from to order le zeros_are is a =
+    let many : length zeros ≡ to - from = ap length zeros_are ∙ length-replicate (to - from) 0 in
+    let end : to ≡ from + length zeros = omega (arith, many, order) in
+    ap (λ xs. slice_index xs a) is ∙ ap (λ n. slice_index (take from before ++ zeros ++ drop n before) a) end
+    ∙ put_over before zeros from to order le many (λ i small. ap (λ xs. slice_index xs i) zeros_are ∙ get_or-replicate (to - from) i 0 0 small) a
 
 -- ---- frames
 

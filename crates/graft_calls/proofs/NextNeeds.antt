@@ -1,5 +1,5 @@
 -- What the next instruction of the innermost level needs.
-use Rattle.std.proofs.Common.{◌≡◌, ◌≤◌, ◌==◌, ◌++◌, true, arith, ℕ, false, cond, List, [], ◌∷◌, length, Option, Some, None, refl, sym, ◌∙◌, ap}
+use Rattle.std.proofs.Common.{◌≡◌, ◌≤◌, ◌==◌, ◌++◌, arith, ℕ, false, cond, List, [], ◌∷◌, length, Option, Some, None, refl, sym, ◌∙◌, ap}
 use Rattle.kernel_model.specs.declared.Inverse.{Inverse}
 use Rattle.std.proofs.lemmas.Bool.Decides.{nat_tests}
 use Rattle.kernel_model.specs.declared.Object.{Object}

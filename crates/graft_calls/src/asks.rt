@@ -98,7 +98,7 @@ fn is_too_deep(levels: &Levels, accounts: &Accounts, q: u8, pt: u8) -> bool
     requires point { pt < 16 }
     ensures { result ≡ (is_some ((accounts_of accounts.now).graft q pt) && length levels.now == 3) }
 {
-    accounts.graft(q, pt).is_some() && levels.count() == 3
+    accounts.stands(q, pt) && levels.count() == 3
 }
 
 /// Why an ask of point pt is refused by the values, if it is; the asking level was taken from the others.

@@ -23,10 +23,10 @@ pub(crate) fn charge_step(level: &mut GraftLevel, accounts: &mut Accounts) -> bo
     ensures level { level.new ≡ cond result (record level.old { count = level.old.count + 1 }) level.old }
     ensures accounts { accounts_of accounts.new ≡ cond result (charge Steps level.old.owner level.old.point (accounts_of accounts.old)) (accounts_of accounts.old) }
 {
-    let Some(row) = accounts.graft(level.owner, level.point) else {
+    if level.count == accounts.limit(level.owner, level.point) {
         return false;
-    };
-    if level.count == row.limit || !accounts.charge(level.owner, level.point, Kind::Steps) {
+    }
+    if !accounts.charge(level.owner, level.point, Kind::Steps) {
         return false;
     }
     level.count += 1;

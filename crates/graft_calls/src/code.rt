@@ -21,8 +21,8 @@ pub(crate) fn find_image<'a>(
     ensures some { IfSome result (λ l. model.image_of (table_of images.now) ((accounts_of accounts.now).graft q pt) ≡ Some l.now) }
     ensures none { IfNone result (model.image_of (table_of images.now) ((accounts_of accounts.now).graft q pt) ≡ None) }
 {
-    match accounts.graft(q, pt) {
-        Some(row) => images.get(u32::from(row.image)),
+    match accounts.image(q, pt) {
+        Some(slot) => images.get(u32::from(slot)),
         None => None,
     }
 }

@@ -17,6 +17,7 @@ mod needs;
 mod points;
 mod returns;
 mod segments;
+mod stretch;
 
 use graft_machine::Machine;
 pub use levels::{Levels, MOST_LEVELS};

@@ -146,13 +146,8 @@ fn is_spent(level: &GraftLevel, accounts: &Accounts) -> bool
     ensures { result ≡ (level.now.count == model.limit_in ((accounts_of accounts.now).graft level.now.owner level.now.point)
         || funds (accounts_of accounts.now) level.now.owner level.now.point Steps == 0) }
 {
-    match accounts.graft(level.owner, level.point) {
-        None => true,
-        Some(row) if row.billed => {
-            level.count == row.limit || accounts.balance(level.owner, Kind::Steps) == 0
-        }
-        Some(row) => level.count == row.limit || row.steps == 0,
-    }
+    level.count == accounts.limit(level.owner, level.point)
+        || accounts.funds(level.owner, level.point, Kind::Steps) == 0
 }
 
 /// The id that the next instruction of a level calls, if it is a call.

@@ -24,9 +24,8 @@ fn clear(ram: &mut Ram, from: u32, to: u32)
     requires inside { to ≤ 524288 }
     ensures { (a : ℕ) → slice_index ram.new a ≡ cond (nat_le from a && nat_lt a to) 0 (slice_index ram.old a) }
 {
-    for a in from..to {
-        ram.put_byte(a, 0);
-    }
+    whole(ram);
+    ram.clear(from, to);
 }
 
 /// The memory has all its bytes.

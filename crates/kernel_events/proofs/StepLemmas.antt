@@ -10,14 +10,16 @@ use Rattle.kernel_model.specs.World.{Blocks}
 use Rattle.kernel_model.specs.Meaning.{Meaning}
 use Rattle.kernel_model.specs.Kernel.{Blocker}
 use Rattle.kernel_model.specs.Events.{in_order}
+use Rattle.kernel_model.specs.Sound.{HasWholeBlocks}
 use Rattle.disk_log.specs.Joined.{made_none, made_joined}
 use Rattle.disk_log.specs.Seen.{DiskSeen}
-use Rattle.placed_laws.specs.Placed.{Placed, PlacedRun, has_some, placed_blocker}
+use Rattle.placed_laws.specs.Placed.{Placed, PlacedCall, PlacedRun, has_some, placed_blocker}
+use Rattle.placed_laws.specs.Stretch.{IsStretched, Stretched, Stretches}
 use Rattle.placed_laws.specs.PlacedSteps.{placed_joins, placed_noted, placed_step}
 use Rattle.placed_laws.specs.PlacedEvents.{placed_settled, placed_steps}
 use Rattle.kernel_steps.specs.Did.{first_notes, CameAs, Did}
 use Rattle.kernel_steps.specs.Views.{run_of}
-use Rattle.kernel_events.specs.Went.{takes_up, taken_up, steps_said, steps_left, DidFromRest, DidToRest, HasCome, Rests}
+use Rattle.kernel_events.specs.Went.{takes_up, taken_up, steps_said, steps_left, DidFromRest, DidToRest, HasCome, Leads, Rests}
 
 -- ---- what is left of a change
 
@@ -61,6 +63,71 @@ come_on m f left later g x y z a b c d e l h part same =
           ap (λ io. f (run_of x blocks notes io)) (append_assoc h.io did.io rest) ∙ h.goes blocks notes (did.io ++ rest) s tells k
           ∙ ap left is ∙ same r.blocks r.notes (did.io ++ rest) ∙ ap (λ q. later (g q)) (sym is);
     }
+
+-- ---- a stretch
+
+-- what is left goes on behind a stretch
+pub come_far : (m : Meaning) (number p d left taken : ℕ) (f : PlacedRun → PlacedRun) (x y z : Placed) (a b : List Note) (k e : DiskSeen) → HasCome m f (steps_said m number p (d + left) taken) x y a b k e → Leads m p d y z →
+    HasCome m f (steps_said m number p left (taken + d)) x z a b k e
+come_far m number p d left taken f x y z a b k e h leads =
+    record {
+      io = h.io;
+      made = h.made;
+      now = λ blocks notes rest. record (h.now blocks notes rest) { placed = z };
+      came = λ blocks notes rest s tells kept.
+          let one = h.came blocks notes rest s tells kept in
+          (record { placed = refl; notes = one.0.notes; blocks = one.0.blocks; io = one.0.io }, leads.rests (h.now blocks notes rest).blocks one.1);
+      goes = λ blocks notes rest s tells kept.
+          let one = h.came blocks notes rest s tells kept in
+          let r = h.now blocks notes rest in
+          h.goes blocks notes rest s tells kept
+          ∙ ap (steps_said m number p (d + left) taken) (run_is r y b e.told rest one.0)
+          ∙ ap (λ (q : ℕ × PlacedRun). placed_noted (Ran number q.0) q.1) (leads.steps left taken r.blocks r.notes rest one.1)
+          ∙ ap (λ io. steps_said m number p left (taken + d) (run_of z r.blocks r.notes io)) (sym one.0.io);
+    }
+
+-- so it does with n in all, of which so many were taken before
+pub come_stretched : (m : Meaning) (number p n d taken : ℕ) (going : Bool) (f : PlacedRun → PlacedRun) (x y z : Placed) (a b : List Note) (k e : DiskSeen) → going ≡ true → taken < n → d ≤ n - taken →
+    HasCome m f (steps_left m number p (n - taken) taken going) x y a b k e → Leads m p d y z → HasCome m f (steps_left m number p (n - (taken + d)) (taken + d) true) x z a b k e
+come_stretched m number p n d taken going f x y z a b k e goes less most h leads =
+    let parts : n - taken ≡ d + (n - (taken + d)) = omega (arith, less, most) in
+    come_far m number p d (n - (taken + d)) taken f x y z a b k e
+    (subst (λ j. HasCome m f (steps_said m number p j taken) x y a b k e) parts
+    (subst (λ t. HasCome m f (steps_left m number p (n - taken) taken t) x y a b k e) goes h)) leads
+
+-- no instruction leads nowhere
+pub leads_none : (m : Meaning) (p : ℕ) (x : Placed) → Leads m p 0 x x
+leads_none m p x =
+    record {
+      steps = λ left taken blocks notes io s. ap (λ n. placed_steps m p n taken (run_of x blocks notes io)) (first left) ∙ ap (λ n. placed_steps m p left n (run_of x blocks notes io)) (second taken);
+      rests = λ blocks s. s;
+    }
+  where
+    first : (n : ℕ) → 0 + n ≡ n
+    first n = omega arith
+
+    second : (n : ℕ) → n ≡ n + 0
+    second n = omega arith
+
+-- a stretch leads on
+pub leads_far : (m : Meaning) → Stretches m → (x y : Placed) (c : PlacedCall) (p n : ℕ) → x.call p ≡ Some c → in_order p x.order ≡ false → IsStretched x y p n → Leads m p n x y
+leads_far m law x y c p n call away h =
+    record {
+      steps = λ left taken blocks notes io s. (from blocks notes io s).steps s.rests left taken;
+      rests = λ blocks s.
+          let after = from blocks [] [] s in
+          record {
+            kernel = after.run.kernel;
+            stands = after.stands.kernel;
+            rests = after.rests s.rests;
+            whole = subst (HasWholeBlocks after.run.kernel.world) (sym after.stands.blocks) after.stands.whole;
+          };
+    }
+  where
+    from : (blocks : Blocks) (notes : List Note) (io : List Bool) (s : Rests m x blocks) → Stretched m (run_of x blocks notes io) y (record { kernel = s.kernel; blocks = blocks; notes = notes; io = io }) p n
+    from blocks notes io s =
+        law (run_of x blocks notes io) y (record { kernel = s.kernel; blocks = blocks; notes = notes; io = io }) c p n
+        (record { kernel = s.stands; blocks = refl; notes = refl; io = refl; whole = s.whole }) call away h
 
 -- what is left is done
 pub come_last : (m : Meaning) (f left : PlacedRun → PlacedRun) (x y z : Placed) (a b c : List Note) (d e l : DiskSeen) → HasCome m f left x y a b d e → Did left y z b c e l → DidFromRest m f x z a c d l

@@ -1,5 +1,5 @@
 -- A part of an event of a running kernel.
-use Rattle.std.specs.Prelude.{◌≡◌, ℕ, suc, Bool, true, false, not, ◌&&◌, cond, is_some, List, ◌++◌, Option, Some, None}
+use Rattle.std.specs.Prelude.{◌≡◌, ℕ, suc, ◌+◌, Bool, true, false, not, ◌&&◌, cond, is_some, List, ◌++◌, Option, Some, None}
 use Rattle.disk_log.specs.Calls.{Tells, Made}
 use Rattle.disk_log.specs.Seen.{DiskSeen}
 use Rattle.kernel_model.specs.declared.Note.{Note}
@@ -88,6 +88,12 @@ module _ (m : Meaning) where
   abbrev pub steps_left : (number p left taken : ℕ) → (going : Bool) → PlacedRun → PlacedRun
   steps_left number p left taken true r = steps_said number p left taken r
   steps_left number p left taken false r = placed_noted (Ran number taken) r
+
+-- From rest, so many instructions of the call of p lead from x to y: what follows them begins there, at rest.
+pub record Leads (m : Meaning) (p n : ℕ) (x y : Placed) : Type 0 where
+  pub steps : (left taken : ℕ) (blocks : Blocks) (notes : List Note) (io : List Bool) → Rests m x blocks →
+      placed_steps m p (n + left) taken (run_of x blocks notes io) ≡ placed_steps m p left (taken + n) (run_of y blocks notes io)
+  pub rests : (blocks : Blocks) → Rests m x blocks → Rests m y blocks
 
 -- A change of an event under way has come, from rest, to a point of rest from which this is left of it.
 pub record HasCome (m : Meaning) (f left : PlacedRun → PlacedRun) (x y : Placed) (kept kept_new : List Note) (d e : DiskSeen) : Type 0 where

@@ -7,6 +7,7 @@ mod events;
 mod last;
 mod settle;
 mod stepping;
+mod stretch;
 mod ticks;
 
 pub use events::event;

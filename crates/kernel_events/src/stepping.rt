@@ -13,6 +13,7 @@ ghost use Rattle.kernel_events.specs.Went.{DidFromRest, DidToRest, GoesOn, Went,
 
 use crate::last::say_last;
 use crate::settle::settle_all;
+use crate::stretch::stretch;
 use call_pieces::Calls;
 use disk_log::DiskLog;
 use kernel_model::Note;
@@ -64,12 +65,13 @@ fn take_up<C: Calls, D: Disk>(
     if running.waits(p) {
         return false;
     }
-    if running.blocker(p).is_some() {
+    let needs = running.instruction_needs(p);
+    if running.blocked_by(p, needs.as_slice()).is_some() {
         join(running, p);
         settle_all(running, disk, log, notes);
         return false;
     }
-    if running.step_in_graft(p, disk, log, notes) {
+    if running.step_in_graft(p, needs.as_slice(), disk, log, notes) {
         return true;
     }
     settle_all(running, disk, log, notes);
@@ -107,6 +109,10 @@ fn steps<C: Calls, D: Disk>(
     let mut taken = 0;
     let mut going = true;
     while going && taken < n {
+        taken += stretch(running, p, n - taken);
+        if taken == n {
+            continue;
+        }
         going = take_up(running, p, disk, log, notes);
         taken = more(taken, going);
     }

@@ -153,12 +153,12 @@ stays_in_place m sound view stage x y es q caller r stood after chain images sma
 -- ---- the kernel runs again
 
 -- what holds of p and of every other holds of all
-all_hold : (p : ℕ) (P : ℕ → Type 0) → P p → ((q : ℕ) → q ≢ p → P q) → (q : ℕ) (b : Bool) → (q == p) ≡ b → P q
+pub all_hold : (p : ℕ) (P : ℕ → Type 0) → P p → ((q : ℕ) → q ≢ p → P q) → (q : ℕ) (b : Bool) → (q == p) ≡ b → P q
 all_hold p P own others q true h = subst P (sym (eqb-true q p h)) own
 all_hold p P own others q false h = others q (grind (arith, nat_tests, h))
 
 -- whose the levels are
-owners_at : (p o : ℕ) (f : ℕ → ℕ) (P : ℕ → ℕ → Type 0) → P o p → ((q : ℕ) → q ≢ p → P (f q) q) → (q : ℕ) (b : Bool) → (q == p) ≡ b → P (cond b o (f q)) q
+pub owners_at : (p o : ℕ) (f : ℕ → ℕ) (P : ℕ → ℕ → Type 0) → P o p → ((q : ℕ) → q ≢ p → P (f q) q) → (q : ℕ) (b : Bool) → (q == p) ≡ b → P (cond b o (f q)) q
 owners_at p o f P own others q true h = subst (P o) (sym (eqb-true q p h)) own
 owners_at p o f P own others q false h = others q (grind (arith, nat_tests, h))
 

@@ -21,6 +21,7 @@ use Rattle.placed_laws.specs.Placed.{PlacedCall, PlacedLevel, Placed, bare, has_
 use Rattle.placed_laws.specs.Soundness.{SoundInPlace}
 use Rattle.kernel_steps.specs.declared.blocking.Hindrance.{Hindrance}
 use Rattle.kernel_steps.specs.declared.running.InFlight.{InFlight}
+use Rattle.kernel_steps.specs.declared.running.Flight.{Flight}
 use Rattle.kernel_steps.specs.declared.running.Running.{Running}
 use Rattle.kernel_steps.specs.Hindered.{hindrance_of, blocking_by}
 use Rattle.kernel_steps.specs.Views.{placed_of, flight_of, chain_of, call_in_place, IsRunning, Stood}
@@ -121,6 +122,20 @@ graft_hindered m view stage caller x p f r is some =
     ap (λ (table : LockTable). first_hindrance table users p (lock_user p ls) (next_needs v (table_of x.images) s.accounts ls)) (sym (holds_in_place view stage caller x r))
     ∙ ap (λ (ks : List Level). first_hindrance h users p (lock_user p ks) (next_needs v (table_of x.images) s.accounts ks)) (sym (levels_in_place view stage x p))
     ∙ ap (first_hindrance h users p (lock_user p (placed_levels y p))) (sym needs_are)
+
+-- what hinders an instruction, by what it needs and whose user locks don't hinder it
+pub needs_hinder : {C M W X : Type 0} {F : X → Type 0} (m : Meaning) (view : Seeing X F) (stage : W → Stage) (caller : W → ℕ) (x : Running C M W X F) (p user : ℕ) (needs : List Need) (f : Flight W) →
+    IsRunning view caller x → f ≡ flight_of x.calls.items p → user ≡ lock_user p (levels_of view x.store x.locks f.chain p) → needs ≡ placed_needs m (placed_of view stage x) p →
+    first_hindrance (held x.locks) (objects_of view x.store).things.lock p user needs
+    ≡ first_hindrance (placed_holds (placed_of view stage x)) (objects_of view x.store).things.lock p (lock_user p (placed_levels (placed_of view stage x) p)) (placed_needs m (placed_of view stage x) p)
+needs_hinder {W = W} m view stage caller x p user needs f r is user_is needs_are =
+    let y = placed_of view stage x in
+    let users = (objects_of view x.store).things.lock in
+    let chain = ap (λ (l : Flight W). lock_user p (levels_of view x.store x.locks l.chain p)) is in
+    let levels = ap (λ (ls : List Level). lock_user p ls) (sym (levels_in_place view stage x p)) in
+    ap (λ (table : LockTable). first_hindrance table users p user needs) (sym (holds_in_place view stage caller x r))
+    ∙ ap (λ q. first_hindrance (placed_holds y) users p q needs) (user_is ∙ chain ∙ levels)
+    ∙ ap (first_hindrance (placed_holds y) users p (lock_user p (placed_levels y p))) needs_are
 
 -- nothing hinders where there is no call
 pub none_hindered : {C M W X : Type 0} {F : X → Type 0} (m : Meaning) (view : Seeing X F) (stage : W → Stage) (x : Running C M W X F) (p : ℕ) → (flight_of x.calls.items p).call ≡ None →

@@ -19,3 +19,4 @@ pub mod QueryLemmas
 pub mod ShownLemmas
 pub mod OpeningLemmas
 pub mod StillLemmas
+pub mod StretchLemmas

@@ -191,6 +191,37 @@ impl<C: Calls> Running<C> {
         graft_hindrance(&self.locks, &self.store, &self.images, p, &flight.chain)
     }
 
+    /// What hinders the next instruction of process p's call, which is in a graft and needs this.
+    fn hindered_by(&self, p: u8, needs: &[Need]) -> Option<Hindrance>
+        requires process { p < 16 }
+        requires running { IsRunning (λ b. seen (b.vtable, b.value)) (λ w. C.caller w) self.now }
+        requires needs { let x = placed_of (λ b. seen (b.vtable, b.value)) (λ w. C.stage w) self.now in
+            needs.now ≡ placed_needs C.Meaning.meaning x p }
+        requires range { All (λ (n : Needed). IsInRange n.object) needs.now }
+        ensures { let x = placed_of (λ b. seen (b.vtable, b.value)) (λ w. C.stage w) self.now in
+            option_map hindrance_of result
+            ≡ first_of (placed_holds x) x.objects.things.lock p (lock_user p (placed_levels x p)) (placed_needs C.Meaning.meaning x p) }
+    {
+        let user = flight(&self.calls, p).chain.lock_user(p);
+        first_hindrance(&self.locks, &self.store, p, user, needs)
+    }
+
+    /// What blocks the next instruction of process p's call, which is in a graft and needs this, if something does.
+    pub fn blocked_by(&self, p: u8, needs: &[Need]) -> Option<Blocking>
+        requires process { p < 16 }
+        requires running { IsRunning (λ b. seen (b.vtable, b.value)) (λ w. C.caller w) self.now }
+        requires needs { let x = placed_of (λ b. seen (b.vtable, b.value)) (λ w. C.stage w) self.now in
+            needs.now ≡ placed_needs C.Meaning.meaning x p }
+        requires range { All (λ (n : Needed). IsInRange n.object) needs.now }
+        ensures { let x = placed_of (λ b. seen (b.vtable, b.value)) (λ w. C.stage w) self.now in
+            option_map blocker_of result ≡ placed_blocker C.Meaning.meaning x p }
+    {
+        match self.hindered_by(p, needs) {
+            Some(found) => Some(blocking_of(&self.calls, found)),
+            None => None,
+        }
+    }
+
     /// What blocks the next step of process p's call, if something does. The time that this takes doesn't grow with what is held.
     pub fn blocker(&self, p: u8) -> Option<Blocking>
         requires process { p < 16 }

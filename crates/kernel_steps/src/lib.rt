@@ -14,6 +14,7 @@ mod running;
 mod shown;
 mod steps;
 mod still;
+mod stretch;
 mod waits;
 
 pub use blocking::Hindrance;

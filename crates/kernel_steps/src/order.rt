@@ -138,6 +138,13 @@ impl Order {
         drop_entries(&mut self.list, p);
     }
 
+    /// Whether there is no entry.
+    pub fn is_empty(&self) -> bool
+        ensures { result ≡ (length self.now == 0) }
+    {
+        self.list.is_empty()
+    }
+
     /// Whether process p has an entry.
     pub fn has(&self, p: u8) -> bool
         ensures { result ≡ list_any (λ w. w.process == p) self.now }

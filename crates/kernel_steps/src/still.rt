@@ -1,6 +1,6 @@
 //! An instruction that leaves what its call holds.
 
-ghost use Rattle.std.specs.Prelude.{◌≡◌, ◌<◌, true, None, is_some, slice_get, All};
+ghost use Rattle.std.specs.Prelude.{◌≡◌, ◌<◌, ◌≤◌, true, None, is_some, length, slice_get, All};
 ghost use Rattle.disk_log.specs.Seen.{disk_seen};
 ghost use Rattle.kernel_model.specs.declared.Need.{Need as Needed};
 ghost use Rattle.kernel_model.specs.Laws.{IsInRange};
@@ -65,7 +65,7 @@ fn is_same_grip(a: Grip, b: Grip) -> bool
 
 impl<C: Calls> Running<C> {
     /// What the next instruction of process p's call needs, which is in a graft.
-    fn instruction_needs(&self, p: u8) -> Needs
+    pub fn instruction_needs(&self, p: u8) -> Needs
         requires process { p < 16 }
         requires call { is_some (call_at (λ w. C.stage w) self.now p) ≡ true }
         requires level { has_some ((placed_of (λ b. seen (b.vtable, b.value)) (λ w. C.stage w) self.now).levels p) ≡ true }
@@ -78,11 +78,12 @@ impl<C: Calls> Running<C> {
             .needs(&self.store, &self.images)
     }
 
-    /// One step of process p's call, which is in a graft and which nothing blocks. Whether it left the call's levels, and how these
-    /// hold what it needed.
+    /// One step of process p's call, which is in a graft, needs this, and which nothing blocks. Whether it left the call's levels,
+    /// and how these hold what it needed.
     pub fn step_in_graft<D: Disk>(
         &mut self,
         p: u8,
+        needs: &[Need],
         disk: &mut D,
         log: &mut DiskLog,
         notes: &mut Notes,
@@ -94,6 +95,10 @@ impl<C: Calls> Running<C> {
         requires running { IsRunning (λ b. seen (b.vtable, b.value)) (λ w. C.caller w) self.old }
         requires stood { Stood C.Meaning.meaning (placed_of (λ b. seen (b.vtable, b.value)) (λ w. C.stage w) self.old) }
         requires disk { self.old.store.size ≡ D.block_count disk.old }
+        requires needs { let x = placed_of (λ b. seen (b.vtable, b.value)) (λ w. C.stage w) self.old in
+            needs.now ≡ placed_needs C.Meaning.meaning x p }
+        requires range { All (λ (n : Needed). IsInRange n.object) needs.now }
+        requires few { length needs.now ≤ 3 }
         ensures kept { result ≡ true → KeepsHolds C.Meaning.meaning (placed_of (λ b. seen (b.vtable, b.value)) (λ w. C.stage w) self.old) (placed_of (λ b. seen (b.vtable, b.value)) (λ w. C.stage w) self.new) p }
         ensures did { Did (placed_step C.Meaning.meaning p) (placed_of (λ b. seen (b.vtable, b.value)) (λ w. C.stage w) self.old) (placed_of (λ b. seen (b.vtable, b.value)) (λ w. C.stage w) self.new) notes.old notes.new
             (disk_seen (D.blocks disk.old) (D.plan disk.old) (D.faults disk.old)) (disk_seen (D.blocks disk.new) (D.plan disk.new) (D.faults disk.new)) }
@@ -104,10 +109,9 @@ impl<C: Calls> Running<C> {
         ensures same_size { D.block_count disk.new ≡ D.block_count disk.old }
     {
         let count = self.level_count(p);
-        let needs = self.instruction_needs(p);
-        let before = grip_of(&self.locks, p, needs.as_slice());
+        let before = grip_of(&self.locks, p, needs);
         self.step(p, disk, log, notes);
-        let after = grip_of(&self.locks, p, needs.as_slice());
+        let after = grip_of(&self.locks, p, needs);
         self.level_count(p) == count && is_same_grip(before, after)
     }
 }

@@ -161,6 +161,9 @@ impl<C: Calls> Running<C> {
             Goes (with_placed_order (placed_rested_order C.Meaning.meaning x x.order)) x (placed_of (λ b. seen (b.vtable, b.value)) (λ w. C.stage w) self.new) }
         ensures running { IsRunning (λ b. seen (b.vtable, b.value)) (λ w. C.caller w) self.new }
     {
+        if self.order.is_empty() {
+            return;
+        }
         let rested = self.rested_from(self.order.entries(), Order::new());
         self.order = rested;
     }

@@ -32,3 +32,6 @@ pub mod SettleLemmas
 pub mod RestingLemmas
 pub mod EventLemmas
 pub mod SoundLemmas
+pub mod StretchCharging
+pub mod StretchInstructions
+pub mod StretchIterating

@@ -8,3 +8,4 @@ pub mod PlacedSteps
 pub mod Resting
 pub mod Soundness
 pub mod Stands
+pub mod Stretch

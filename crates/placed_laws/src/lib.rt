@@ -6,5 +6,6 @@ pub mod keeping;
 pub mod owners;
 pub mod resting;
 pub mod soundness;
+pub mod stretching;
 #[cfg(test)]
 mod tests;

@@ -1,7 +1,7 @@
 //! The memory of the kernel: 524,288 bytes, read and written by byte, by word and by piece.
 #![tactic(auto)]
 
-ghost use Rattle.std.specs.Prelude.{◌≡◌, ℕ, ◌+◌, ◌*◌, ◌≤◌, ◌<◌, ◌%◌, ◌++◌, IfOk, length, take, drop, slice_index, slice_range, slice_set};
+ghost use Rattle.std.specs.Prelude.{◌≡◌, ℕ, ◌+◌, ◌*◌, ◌≤◌, ◌<◌, ◌%◌, ◌++◌, ◌-◌, IfOk, length, replicate, take, drop, slice_index, slice_range, slice_set};
 ghost use Rattle.std.specs.Int.{w32, from_le_bytes, to_le_bytes};
 
 use std::alloc::{AllocError, Global};
@@ -89,6 +89,16 @@ impl Ram {
         set_piece(&mut self.bytes, a as usize, from);
     }
 
+    /// Zeros from an address to another.
+    pub fn clear(&mut self, from: u32, to: u32)
+        requires order { from ≤ to }
+        requires inside { to ≤ RAM_BYTES }
+        ensures value { self.new ≡ take from self.old ++ replicate (to - from) 0 ++ drop to self.old }
+        ensures size { length self.new ≡ RAM_BYTES }
+    {
+        clear_piece(&mut self.bytes, from as usize, to as usize);
+    }
+
     /// Copies bytes out, the first from an address, as many as there is room for.
     pub fn copy_out(&self, a: u32, to: &mut [u8])
         requires { a + length to.old ≤ RAM_BYTES }
@@ -129,6 +139,15 @@ fn set_piece(bytes: &mut [u8], at: usize, from: &[u8])
     ensures { bytes.new ≡ take at bytes.old ++ from.now ++ drop (at + length from.now) bytes.old }
 {
     bytes[at..at + from.len()].copy_from_slice(from);
+}
+
+/// Puts zeros in place of the bytes from a place to another.
+fn clear_piece(bytes: &mut [u8], from: usize, to: usize)
+    requires order { from ≤ to }
+    requires inside { to ≤ length bytes.old }
+    ensures { bytes.new ≡ take from bytes.old ++ replicate (to - from) 0 ++ drop to bytes.old }
+{
+    bytes[from..to].fill(0);
 }
 
 /// Copies the bytes from a place on, as many as there is room for.

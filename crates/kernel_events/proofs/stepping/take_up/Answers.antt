@@ -46,7 +46,7 @@ pub returns-then-is_some-clause-did : goal.returns-then-is_some-clause-did
 returns-then-is_some-clause-did g c =
     let a = c.args in
     let can = can_step (has_some ((placed_of (λ b. (goal.Policy-dyn g (b.vtable, b.value)).seen b.value) (λ w. g.C.Calls.stage w) a.running.now).levels a.p)) (in_order a.p (placed_of (λ b. (goal.Policy-dyn g (b.vtable, b.value)).seen b.value) (λ w. g.C.Calls.stage w) a.running.now).order) (sym c.in_graft.ensures ∙ c.if-not-in_graft.false) (sym c.waits.ensures ∙ c.if-waits.false) in
-    let b = some_is (placed_blocker g.C.Meaning.Rules.meaning (placed_of (λ b. (goal.Policy-dyn g (b.vtable, b.value)).seen b.value) (λ w. g.C.Calls.stage w) a.running.now) a.p) (blocker_told c.blocker.result (placed_blocker g.C.Meaning.Rules.meaning (placed_of (λ b. (goal.Policy-dyn g (b.vtable, b.value)).seen b.value) (λ w. g.C.Calls.stage w) a.running.now) a.p) c.blocker.ensures (sym c.is_some.ensures ∙ c.if-is_some.true)) in
+    let b = some_is (placed_blocker g.C.Meaning.Rules.meaning (placed_of (λ b. (goal.Policy-dyn g (b.vtable, b.value)).seen b.value) (λ w. g.C.Calls.stage w) a.running.now) a.p) (blocker_told c.blocked_by.result (placed_blocker g.C.Meaning.Rules.meaning (placed_of (λ b. (goal.Policy-dyn g (b.vtable, b.value)).seen b.value) (λ w. g.C.Calls.stage w) a.running.now) a.p) c.blocked_by.ensures (sym c.is_some.ensures ∙ c.if-is_some.true)) in
     did_to_rest g.C.Meaning.Rules.meaning (taken_up g.C.Meaning.Rules.meaning a.p) (λ r. placed_settled g.C.Meaning.Rules.meaning (placed_joins a.p r)) (placed_of (λ b. (goal.Policy-dyn g (b.vtable, b.value)).seen b.value) (λ w. g.C.Calls.stage w) a.running.now) (placed_of (λ b. (goal.Policy-dyn g (b.vtable, b.value)).seen b.value) (λ w. g.C.Calls.stage w) c.settle_all.new.running) a.notes.now c.settle_all.new.notes (disk_seen (g.D.Disk.blocks a.disk.now) (g.D.Disk.plan a.disk.now) (g.D.Disk.faults a.disk.now)) (disk_seen (g.D.Disk.blocks c.settle_all.new.disk) (g.D.Disk.plan c.settle_all.new.disk) (g.D.Disk.faults c.settle_all.new.disk))
     (did_then (placed_joins a.p) (placed_settled g.C.Meaning.Rules.meaning) (placed_of (λ b. (goal.Policy-dyn g (b.vtable, b.value)).seen b.value) (λ w. g.C.Calls.stage w) a.running.now) (placed_of (λ b. (goal.Policy-dyn g (b.vtable, b.value)).seen b.value) (λ w. g.C.Calls.stage w) c.join.new.running) (placed_of (λ b. (goal.Policy-dyn g (b.vtable, b.value)).seen b.value) (λ w. g.C.Calls.stage w) c.settle_all.new.running) a.notes.now a.notes.now c.settle_all.new.notes (disk_seen (g.D.Disk.blocks a.disk.now) (g.D.Disk.plan a.disk.now) (g.D.Disk.faults a.disk.now)) (disk_seen (g.D.Disk.blocks a.disk.now) (g.D.Disk.plan a.disk.now) (g.D.Disk.faults a.disk.now)) (disk_seen (g.D.Disk.blocks c.settle_all.new.disk) (g.D.Disk.plan c.settle_all.new.disk) (g.D.Disk.faults c.settle_all.new.disk)) (c.join.ensures.went a.notes.now (disk_seen (g.D.Disk.blocks a.disk.now) (g.D.Disk.plan a.disk.now) (g.D.Disk.faults a.disk.now))).did c.settle_all.ensures.went.did)
     (λ blocks notes io s is. rested_joined g.C.Meaning.Rules.meaning (placed_of (λ b. (goal.Policy-dyn g (b.vtable, b.value)).seen b.value) (λ w. g.C.Calls.stage w) a.running.now) c.others_stand.ensures c.resting.ensures a.p b.0 (sym c.in_graft.ensures ∙ c.if-not-in_graft.false) (sym c.waits.ensures ∙ c.if-waits.false) b.1
@@ -63,7 +63,7 @@ pub returns-then-step_in_graft-clause-did : goal.returns-then-step_in_graft-clau
 returns-then-step_in_graft-clause-did g c =
     let a = c.args in
     let can = can_step (has_some ((placed_of (λ b. (goal.Policy-dyn g (b.vtable, b.value)).seen b.value) (λ w. g.C.Calls.stage w) a.running.now).levels a.p)) (in_order a.p (placed_of (λ b. (goal.Policy-dyn g (b.vtable, b.value)).seen b.value) (λ w. g.C.Calls.stage w) a.running.now).order) (sym c.in_graft.ensures ∙ c.if-not-in_graft.false) (sym c.waits.ensures ∙ c.if-waits.false) in
-    let none = no_blocker_told c.blocker.result (placed_blocker g.C.Meaning.Rules.meaning (placed_of (λ b. (goal.Policy-dyn g (b.vtable, b.value)).seen b.value) (λ w. g.C.Calls.stage w) a.running.now) a.p) c.blocker.ensures (sym c.is_some.ensures ∙ c.if-is_some.false) in
+    let none = no_blocker_told c.blocked_by.result (placed_blocker g.C.Meaning.Rules.meaning (placed_of (λ b. (goal.Policy-dyn g (b.vtable, b.value)).seen b.value) (λ w. g.C.Calls.stage w) a.running.now) a.p) c.blocked_by.ensures (sym c.is_some.ensures ∙ c.if-is_some.false) in
     let call = called ((placed_of (λ b. (goal.Policy-dyn g (b.vtable, b.value)).seen b.value) (λ w. g.C.Calls.stage w) a.running.now).call a.p) (levels_called g.C.Meaning.Rules.meaning c.same_shown.ensures (placed_of (λ b. (goal.Policy-dyn g (b.vtable, b.value)).seen b.value) (λ w. g.C.Calls.stage w) a.running.now) a.p c.requires.stood (sym c.in_graft.ensures ∙ c.if-not-in_graft.false)) in
     did_to_rest g.C.Meaning.Rules.meaning (taken_up g.C.Meaning.Rules.meaning a.p) (placed_step g.C.Meaning.Rules.meaning a.p) (placed_of (λ b. (goal.Policy-dyn g (b.vtable, b.value)).seen b.value) (λ w. g.C.Calls.stage w) a.running.now) (placed_of (λ b. (goal.Policy-dyn g (b.vtable, b.value)).seen b.value) (λ w. g.C.Calls.stage w) c.step_in_graft.new.self) a.notes.now c.step_in_graft.new.notes (disk_seen (g.D.Disk.blocks a.disk.now) (g.D.Disk.plan a.disk.now) (g.D.Disk.faults a.disk.now)) (disk_seen (g.D.Disk.blocks c.step_in_graft.new.disk) (g.D.Disk.plan c.step_in_graft.new.disk) (g.D.Disk.faults c.step_in_graft.new.disk)) c.step_in_graft.ensures.did
     (rested_still g.C.Meaning.Rules.meaning (placed_of (λ b. (goal.Policy-dyn g (b.vtable, b.value)).seen b.value) (λ w. g.C.Calls.stage w) a.running.now) c.steps_stand.ensures c.resting.ensures a.p call.0 (placed_of (λ b. (goal.Policy-dyn g (b.vtable, b.value)).seen b.value) (λ w. g.C.Calls.stage w) c.step_in_graft.new.self) call.1 none (sym c.in_graft.ensures ∙ c.if-not-in_graft.false) (sym c.waits.ensures ∙ c.if-waits.false) (c.step_in_graft.ensures.kept c.if-step_in_graft.true)
@@ -76,7 +76,7 @@ pub returns-clause-did : goal.returns-clause-did
 returns-clause-did g c =
     let a = c.args in
     let can = can_step (has_some ((placed_of (λ b. (goal.Policy-dyn g (b.vtable, b.value)).seen b.value) (λ w. g.C.Calls.stage w) a.running.now).levels a.p)) (in_order a.p (placed_of (λ b. (goal.Policy-dyn g (b.vtable, b.value)).seen b.value) (λ w. g.C.Calls.stage w) a.running.now).order) (sym c.in_graft.ensures ∙ c.if-not-in_graft.false) (sym c.waits.ensures ∙ c.if-waits.false) in
-    let none = no_blocker_told c.blocker.result (placed_blocker g.C.Meaning.Rules.meaning (placed_of (λ b. (goal.Policy-dyn g (b.vtable, b.value)).seen b.value) (λ w. g.C.Calls.stage w) a.running.now) a.p) c.blocker.ensures (sym c.is_some.ensures ∙ c.if-is_some.false) in
+    let none = no_blocker_told c.blocked_by.result (placed_blocker g.C.Meaning.Rules.meaning (placed_of (λ b. (goal.Policy-dyn g (b.vtable, b.value)).seen b.value) (λ w. g.C.Calls.stage w) a.running.now) a.p) c.blocked_by.ensures (sym c.is_some.ensures ∙ c.if-is_some.false) in
     let call = called ((placed_of (λ b. (goal.Policy-dyn g (b.vtable, b.value)).seen b.value) (λ w. g.C.Calls.stage w) a.running.now).call a.p) (levels_called g.C.Meaning.Rules.meaning c.same_shown.ensures (placed_of (λ b. (goal.Policy-dyn g (b.vtable, b.value)).seen b.value) (λ w. g.C.Calls.stage w) a.running.now) a.p c.requires.stood (sym c.in_graft.ensures ∙ c.if-not-in_graft.false)) in
     did_to_rest g.C.Meaning.Rules.meaning (taken_up g.C.Meaning.Rules.meaning a.p) (λ r. placed_settled g.C.Meaning.Rules.meaning (placed_step g.C.Meaning.Rules.meaning a.p r)) (placed_of (λ b. (goal.Policy-dyn g (b.vtable, b.value)).seen b.value) (λ w. g.C.Calls.stage w) a.running.now) (placed_of (λ b. (goal.Policy-dyn g (b.vtable, b.value)).seen b.value) (λ w. g.C.Calls.stage w) c.settle_all-2.new.running) a.notes.now c.settle_all-2.new.notes (disk_seen (g.D.Disk.blocks a.disk.now) (g.D.Disk.plan a.disk.now) (g.D.Disk.faults a.disk.now)) (disk_seen (g.D.Disk.blocks c.settle_all-2.new.disk) (g.D.Disk.plan c.settle_all-2.new.disk) (g.D.Disk.faults c.settle_all-2.new.disk))
     (did_then (placed_step g.C.Meaning.Rules.meaning a.p) (placed_settled g.C.Meaning.Rules.meaning) (placed_of (λ b. (goal.Policy-dyn g (b.vtable, b.value)).seen b.value) (λ w. g.C.Calls.stage w) a.running.now) (placed_of (λ b. (goal.Policy-dyn g (b.vtable, b.value)).seen b.value) (λ w. g.C.Calls.stage w) c.step_in_graft.new.self) (placed_of (λ b. (goal.Policy-dyn g (b.vtable, b.value)).seen b.value) (λ w. g.C.Calls.stage w) c.settle_all-2.new.running) a.notes.now c.step_in_graft.new.notes c.settle_all-2.new.notes (disk_seen (g.D.Disk.blocks a.disk.now) (g.D.Disk.plan a.disk.now) (g.D.Disk.faults a.disk.now)) (disk_seen (g.D.Disk.blocks c.step_in_graft.new.disk) (g.D.Disk.plan c.step_in_graft.new.disk) (g.D.Disk.faults c.step_in_graft.new.disk)) (disk_seen (g.D.Disk.blocks c.settle_all-2.new.disk) (g.D.Disk.plan c.settle_all-2.new.disk) (g.D.Disk.faults c.settle_all-2.new.disk)) c.step_in_graft.ensures.did c.settle_all-2.ensures.went.did)
@@ -87,3 +87,7 @@ returns-clause-on g c =
     let s = c.step_in_graft.ensures in
     let w = c.settle_all-2.ensures.went in
     record { running = w.running; stood = w.stood; world = w.world ∙ s.world; clock = w.clock ∙ s.clock }
+
+pub instruction_needs-needs-requires-clause-call : goal.instruction_needs-needs-requires-clause-call
+instruction_needs-needs-requires-clause-call g c =
+    levels_called g.C.Meaning.Rules.meaning c.same_shown.ensures (placed_of (λ b. (goal.Policy-dyn g (b.vtable, b.value)).seen b.value) (λ w. g.C.Calls.stage w) c.args.running.now) c.args.p c.requires.stood (sym c.in_graft.ensures ∙ c.if-not-in_graft.false)

@@ -1,0 +1,38 @@
+//! Stretches: plain instructions of a call in a graft, one after another.
+
+ghost use Rattle.std.specs.Prelude.{◌≡◌, ◌<◌, ◌≤◌, true, false};
+ghost use Rattle.kernel_model.specs.Events.{in_order};
+ghost use Rattle.kernel_state.specs.Stores.{world_of_store};
+ghost use Rattle.placed_laws.specs.Placed.{has_some};
+ghost use Rattle.placed_laws.specs.Stretch.{IsStretched};
+ghost use Rattle.kernel_steps.specs.Views.{placed_of, IsRunning, Stood};
+
+use crate::running::Running;
+use call_pieces::Calls;
+use placed_laws::{agreeing, stretching};
+
+impl<C: Calls> Running<C> {
+    /// A stretch of process p's call, which is in a graft and doesn't wait: at most n instructions that each go on and call
+    /// nothing. How many there were. It may stop early, even at none.
+    pub fn stretch(&mut self, p: u8, n: u32) -> u32
+        requires process { p < 16 }
+        requires level { has_some ((placed_of (λ b. seen (b.vtable, b.value)) (λ w. C.stage w) self.old).levels p) ≡ true }
+        requires away { in_order p (placed_of (λ b. seen (b.vtable, b.value)) (λ w. C.stage w) self.old).order ≡ false }
+        requires running { IsRunning (λ b. seen (b.vtable, b.value)) (λ w. C.caller w) self.old }
+        requires stood { Stood C.Meaning.meaning (placed_of (λ b. seen (b.vtable, b.value)) (λ w. C.stage w) self.old) }
+        ensures most { result ≤ n }
+        ensures is { let x = placed_of (λ b. seen (b.vtable, b.value)) (λ w. C.stage w) self.old in
+            IsStretched x (placed_of (λ b. seen (b.vtable, b.value)) (λ w. C.stage w) self.new) p result }
+        ensures running { IsRunning (λ b. seen (b.vtable, b.value)) (λ w. C.caller w) self.new }
+        ensures stood { Stood C.Meaning.meaning (placed_of (λ b. seen (b.vtable, b.value)) (λ w. C.stage w) self.new) }
+        ensures world { world_of_store self.new.store ≡ world_of_store self.old.store }
+        ensures clock { self.new.clock ≡ self.old.clock }
+    {
+        agreeing::same_shown::<C::Meaning>();
+        stretching::stretches::<C::Meaning>();
+        let flight = &mut self.calls[p as usize];
+        flight
+            .chain
+            .stretch(p, &mut self.store, &self.locks, &self.images, n)
+    }
+}
