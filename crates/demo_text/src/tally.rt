@@ -73,7 +73,8 @@ impl Tally {
     /// More bytes, and the notes of which they tell.
     pub fn add(&mut self, bytes: &[u8], notes: &[Note])
         requires { TakesMore self.old bytes.now notes.now }
-        ensures { (written : List ℕ) (told : List Told) → IsTally self.old written told → IsTally self.new (written ++ bytes.now) (told ++ notes.now) }
+        ensures { (written : List ℕ) (told : List Told) → IsTally self.old written told →
+            IsTally self.new (written ++ bytes.now) (told ++ notes.now) }
     {
         self.counts.lines += count_lines(bytes);
         self.counts.ended += count_ended(notes);
@@ -84,7 +85,8 @@ impl Tally {
 
     /// The line that tells of the run of the script of this number.
     pub fn print(self, n: u32, out: &mut Text)
-        ensures { (written : List ℕ) (told : List Told) → IsTally self written told → out.new ≡ demo.summary_of n written told }
+        ensures { (written : List ℕ) (told : List Told) → IsTally self written told →
+            out.new ≡ demo.summary_of n written told }
     {
         let digest = self.hash.finalize();
         print_summary(n, &self.counts, &digest, out);

@@ -63,11 +63,14 @@ fn run_one<D: Disk>(
     requires tally { HasRoom run.old.tally }
     ensures within { IsSessionWithin (λ b. seen (b.vtable, b.value)) size run.new.session }
     ensures same_size { D.block_count disk.new ≡ size }
-    ensures ok { OnOk result (DemoTakes (demo_place size) text.now (seen_of (λ b. seen (b.vtable, b.value)) run.old.session)
-        (seen_of (λ b. seen (b.vtable, b.value)) run.new.session) (disk_seen (D.blocks disk.old) (D.plan disk.old) (D.faults disk.old))
+    ensures ok { OnOk result (DemoTakes (demo_place size) text.now
+        (seen_of (λ b. seen (b.vtable, b.value)) run.old.session)
+        (seen_of (λ b. seen (b.vtable, b.value)) run.new.session)
+        (disk_seen (D.blocks disk.old) (D.plan disk.old) (D.faults disk.old))
         (disk_seen (D.blocks disk.new) (D.plan disk.new) (D.faults disk.new)) run.old.tally run.new.tally) }
     ensures err { OnErr result (IsImageLine text.now) }
-    ensures same_disk { OnErr result (disk_seen (D.blocks disk.new) (D.plan disk.new) (D.faults disk.new) ≡ disk_seen (D.blocks disk.old) (D.plan disk.old) (D.faults disk.old)) }
+    ensures same_disk { OnErr result (disk_seen (D.blocks disk.new) (D.plan disk.new) (D.faults disk.new)
+        ≡ disk_seen (D.blocks disk.old) (D.plan disk.old) (D.faults disk.old)) }
 {
     run.session
         .run_line(alloc, &KEY, text, size, disk, &mut run.out)?;
@@ -89,10 +92,13 @@ fn run_all<D: Disk>(
     requires within { IsSessionWithin (λ b. seen (b.vtable, b.value)) size run.old.session }
     requires disk { D.block_count disk.old ≡ size }
     requires tally { IsTally run.old.tally [] [] }
-    ensures ok { OnOk result (DemoReached (demo_place size) lines.old [] (seen_of (λ b. seen (b.vtable, b.value)) run.old.session)
-        (seen_of (λ b. seen (b.vtable, b.value)) run.new.session) (disk_seen (D.blocks disk.old) (D.plan disk.old) (D.faults disk.old))
+    ensures ok { OnOk result (DemoReached (demo_place size) lines.old []
+        (seen_of (λ b. seen (b.vtable, b.value)) run.old.session)
+        (seen_of (λ b. seen (b.vtable, b.value)) run.new.session)
+        (disk_seen (D.blocks disk.old) (D.plan disk.old) (D.faults disk.old))
         (disk_seen (D.blocks disk.new) (D.plan disk.new) (D.faults disk.new)) run.new.tally) }
-    ensures err { OnErr result (DemoStops (demo_place size) lines.old (seen_of (λ b. seen (b.vtable, b.value)) run.old.session)
+    ensures err { OnErr result (DemoStops (demo_place size) lines.old
+        (seen_of (λ b. seen (b.vtable, b.value)) run.old.session)
         (disk_seen (D.blocks disk.old) (D.plan disk.old) (D.faults disk.old))
         (disk_seen (D.blocks disk.new) (D.plan disk.new) (D.faults disk.new))) }
 {
@@ -109,7 +115,8 @@ fn run_all<D: Disk>(
 fn tell(run: DemoRun, n: u32, text: &mut Text)
     requires tally { HasRoom run.tally }
     ensures { (so_far : Left) → IsTally run.tally so_far.bytes so_far.notes →
-        text.new ≡ summary_of n (so_far.bytes ++ last_bytes (seen_of (λ b. seen (b.vtable, b.value)) run.session) []) so_far.notes }
+        text.new ≡ summary_of n
+        (so_far.bytes ++ last_bytes (seen_of (λ b. seen (b.vtable, b.value)) run.session) []) so_far.notes }
 {
     let DemoRun {
         session,
@@ -134,11 +141,16 @@ fn run_demo<K: Sink, D: Disk>(
     requires begun { IsBegun (seen_of (λ b. seen (b.vtable, b.value)) run.session) }
     requires within { (size : ℕ) → IsSessionWithin (λ b. seen (b.vtable, b.value)) size run.session }
     requires tally { IsTally run.tally [] [] }
-    ensures ran { result ≡ 0 → DemoRan n (D.block_count disk.old) (disk_seen (D.blocks disk.old) (D.plan disk.old) (D.faults disk.old))
-        (disk_seen (D.blocks disk.new) (D.plan disk.new) (D.faults disk.new)) (λ told. Appends (K.got sink.old) (K.got sink.new) told) }
-    ensures broke { result ≡ 4 → DemoRan n (D.block_count disk.old) (disk_seen (D.blocks disk.old) (D.plan disk.old) (D.faults disk.old))
-        (disk_seen (D.blocks disk.new) (D.plan disk.new) (D.faults disk.new)) (λ told. AppendsPart (K.got sink.old) (K.got sink.new) told) }
-    ensures memory { result ≡ 5 → Keeps (K.got sink.old) (K.got sink.new) × DemoLacked n (D.block_count disk.old) (disk_seen (D.blocks disk.old) (D.plan disk.old) (D.faults disk.old))
+    ensures ran { result ≡ 0 → DemoRan n (D.block_count disk.old)
+        (disk_seen (D.blocks disk.old) (D.plan disk.old) (D.faults disk.old))
+        (disk_seen (D.blocks disk.new) (D.plan disk.new) (D.faults disk.new))
+        (λ told. Appends (K.got sink.old) (K.got sink.new) told) }
+    ensures broke { result ≡ 4 → DemoRan n (D.block_count disk.old)
+        (disk_seen (D.blocks disk.old) (D.plan disk.old) (D.faults disk.old))
+        (disk_seen (D.blocks disk.new) (D.plan disk.new) (D.faults disk.new))
+        (λ told. AppendsPart (K.got sink.old) (K.got sink.new) told) }
+    ensures memory { result ≡ 5 → Keeps (K.got sink.old) (K.got sink.new) × DemoLacked n (D.block_count disk.old)
+        (disk_seen (D.blocks disk.old) (D.plan disk.old) (D.faults disk.old))
         (disk_seen (D.blocks disk.new) (D.plan disk.new) (D.faults disk.new)) }
     ensures statuses { (result ≡ 0) ⊎ (result ≡ 4) ⊎ (result ≡ 5) }
     ensures sink_failed { result ≡ 4 → Rose (K.faults sink.old) (K.faults sink.new) }
@@ -167,12 +179,19 @@ pub fn demo<K: Sink, D: Disk>(
 ) -> u8
     requires shelf { IsShelf (map (λ b. seen b) shelf.items) }
     requires stock { pol_of (map (λ b. seen b) shelf.items) first_choice ≡ opening_policy }
-    ensures ran { result ≡ 0 → DemoRan n (D.block_count disk.old) (disk_seen (D.blocks disk.old) (D.plan disk.old) (D.faults disk.old))
-        (disk_seen (D.blocks disk.new) (D.plan disk.new) (D.faults disk.new)) (λ told. Appends (K.got sink.old) (K.got sink.new) told) }
-    ensures broke { result ≡ 4 → DemoRan n (D.block_count disk.old) (disk_seen (D.blocks disk.old) (D.plan disk.old) (D.faults disk.old))
-        (disk_seen (D.blocks disk.new) (D.plan disk.new) (D.faults disk.new)) (λ told. AppendsPart (K.got sink.old) (K.got sink.new) told) }
-    ensures memory { result ≡ 5 → Keeps (K.got sink.old) (K.got sink.new) × ((disk_seen (D.blocks disk.new) (D.plan disk.new) (D.faults disk.new)
-        ≡ disk_seen (D.blocks disk.old) (D.plan disk.old) (D.faults disk.old)) ⊎ DemoLacked n (D.block_count disk.old) (disk_seen (D.blocks disk.old) (D.plan disk.old) (D.faults disk.old))
+    ensures ran { result ≡ 0 → DemoRan n (D.block_count disk.old)
+        (disk_seen (D.blocks disk.old) (D.plan disk.old) (D.faults disk.old))
+        (disk_seen (D.blocks disk.new) (D.plan disk.new) (D.faults disk.new))
+        (λ told. Appends (K.got sink.old) (K.got sink.new) told) }
+    ensures broke { result ≡ 4 → DemoRan n (D.block_count disk.old)
+        (disk_seen (D.blocks disk.old) (D.plan disk.old) (D.faults disk.old))
+        (disk_seen (D.blocks disk.new) (D.plan disk.new) (D.faults disk.new))
+        (λ told. AppendsPart (K.got sink.old) (K.got sink.new) told) }
+    ensures memory { result ≡ 5 → Keeps (K.got sink.old) (K.got sink.new)
+        × ((disk_seen (D.blocks disk.new) (D.plan disk.new) (D.faults disk.new)
+            ≡ disk_seen (D.blocks disk.old) (D.plan disk.old) (D.faults disk.old))
+        ⊎ DemoLacked n (D.block_count disk.old)
+        (disk_seen (D.blocks disk.old) (D.plan disk.old) (D.faults disk.old))
         (disk_seen (D.blocks disk.new) (D.plan disk.new) (D.faults disk.new))) }
     ensures statuses { (result ≡ 0) ⊎ (result ≡ 4) ⊎ (result ≡ 5) }
     ensures sink_failed { result ≡ 4 → Rose (K.faults sink.old) (K.faults sink.new) }
