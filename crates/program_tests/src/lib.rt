@@ -32,11 +32,11 @@ mod tests {
         put_last,
     };
     use mem_disk::MemDisk;
+    use sha2::{Digest, Sha256};
     use std::alloc::{AllocError, Global};
     use std::cell::Cell;
     use std::rc::Rc;
     use std::test::Fail;
-    use sha2::{Digest, Sha256};
     use vino_base::{Disk, Failed, MemSink, MemSource, Source};
     use vino_top::{demo_script, vino};
 
@@ -100,7 +100,13 @@ mod tests {
         let [failing_read, failing_write, failing_call] = failing;
         let script = Vec::from_slice(alloc, script.as_bytes())?;
         let mut source = MemSource::new(script, Vec::from_slice(alloc, &[failing_read])?);
-        run_over(alloc, words, &mut source, [failing_write, failing_call], shelf)
+        run_over(
+            alloc,
+            words,
+            &mut source,
+            [failing_write, failing_call],
+            shelf,
+        )
     }
 
     /// The same, over the stock policies.
@@ -142,15 +148,42 @@ mod tests {
         }
     }
 
-    /// Runs the script of the long session, over a source that gives few bytes at a time, whose read with this number fails.
-    fn run_trickling(alloc: Global, failing_read: u64) -> Result<Ran, Fail> {
+    /// Runs the program over this source, and over the stock policies.
+    fn run_source<S: Source>(alloc: Global, words: &[&str], source: &mut S) -> Result<Ran, Fail> {
         let shelf = shelf_with!(alloc, RaSeq::new());
         if !is_stock(&shelf) {
             return Err(AllocError.into());
         }
+        run_over(alloc, words, source, [0, 0], shelf)
+    }
+
+    /// Runs the script of the long session, over a source that gives few bytes at a time, whose read with this number fails.
+    fn run_trickling(alloc: Global, failing_read: u64) -> Result<Ran, Fail> {
         let script = Vec::from_slice(alloc, SESSION.as_bytes())?;
         let inner = MemSource::new(script, Vec::from_slice(alloc, &[failing_read])?);
-        run_over(alloc, &["run", KEY], &mut Trickle { inner }, [0, 0], shelf)
+        run_source(alloc, &["run", KEY], &mut Trickle { inner })
+    }
+
+    /// Runs the script that `demo 0` generates.
+    fn run_generated(alloc: Global) -> Result<Ran, Fail> {
+        let Ok(script) = demo_script(alloc, 0) else {
+            return Err(AllocError.into());
+        };
+        let mut source = MemSource::new(script, Vec::new(alloc));
+        run_source(alloc, &["run", ZEROS], &mut source)
+    }
+
+    /// How many lines these bytes are.
+    fn count_lines(bytes: &[u8]) -> usize {
+        bytes.iter().filter(|byte| **byte == b'\n').count()
+    }
+
+    /// The digest of these bytes in hex digits, and a newline.
+    fn digest_line(bytes: &[u8]) -> [u8; 65] {
+        let mut line = [b'\n'; 65];
+        let digest = Sha256::digest(bytes);
+        let _ = hex::encode_to_slice(digest.as_slice(), &mut line[..64]);
+        line
     }
 
     const STEPS: &str = "boot\nspawn 0\nyield 0\nyield 1\ntick\n";
@@ -246,14 +279,18 @@ mod tests {
         read 1 0 0 0 2\nstep 1 100\nread 2 0 0 0 2\nread 1 0 1 0 2\nstep 1 100\nread 1 0 2 0 2\nstep 1 100\nread 2 0 1 0 2\n\
         read 1 0 3 0 2\ntick\nstep 2 100\nstep 1 100\nwrite 2 0 2 0 c0ffee\nstep 2 100\nyield 0\nsync 0\n";
 
-    const SESSION_LINES: &str = "0 boot 8 64 3\n1 ok 8 0\n2 ok 4 0\n3 ok 1\n4 ok 2\n5 ok\n6 ok 0\n7 ok 0\n8 ok\n9 ok\n10 ok\n11 ok\n\
+    const SESSION_LINES: &str =
+        "0 boot 8 64 3\n1 ok 8 0\n2 ok 4 0\n3 ok 1\n4 ok 2\n5 ok\n6 ok 0\n7 ok 0\n8 ok\n9 ok\n10 ok\n11 ok\n\
         12 data 1718\n12 graft 1 0 1\n12 ok\n13 ran 6\n14 data 1f20\n14 ok\n15 data 3637\n15 graft 1 0 1\n15 ok\n16 ran 6\n\
         17 data 5556\n17 graft 1 0 1\n17 ok\n18 ran 10\n19 data 3e3f\n19 graft 1 4 1\n20 waits Cache 2\n21 tick 1\n19 ok\n20 data 7475\n\
         22 ran 4\n20 ok\n23 ran 6\n24 graft 1 4 1\n24 ok\n25 ran 4\n26 ok 1\n27 ok 1\n";
 
     /// How many lines are refusals for the disk.
     fn disk_faults(lines: &[u8]) -> usize {
-        lines.windows(5).filter(|end| *end == b" E16\n".as_slice()).count()
+        lines
+            .windows(5)
+            .filter(|end| *end == b" E16\n".as_slice())
+            .count()
     }
 
     #[test]
@@ -296,7 +333,7 @@ mod tests {
             if ran.status == 0 {
                 assert!(rt; ran.written.bytes() == lines, "at write {write}");
                 // Each line of this script is one write.
-                assert_eq!(rt; write as usize, SESSION.lines().count() + 1);
+                assert_eq!(rt; write as usize, count_lines(SESSION.as_bytes()) + 1);
                 return Ok(());
             }
             assert_eq!(rt; ran.status, 4, "at write {write}");
@@ -308,29 +345,18 @@ mod tests {
 
     #[test]
     fn demo_tells_of_its_own_script(rt: HostRuntime) -> Result<(), Fail> {
-        let alloc = rt.alloc();
-        let told = run_failing(alloc, &["demo", "0"], "", [0; 3])?;
+        let told = run_failing(rt.alloc(), &["demo", "0"], "", [0; 3])?;
+        let ran = run_generated(rt.alloc())?;
         assert_eq!(rt; told.status, 0);
-        let Ok(script) = demo_script(alloc, 0) else {
-            return Err(AllocError.into());
-        };
-        let shelf = shelf_with!(alloc, RaSeq::new());
-        if !is_stock(&shelf) {
-            return Err(AllocError.into());
-        }
-        let mut source = MemSource::new(script, Vec::new(alloc));
-        let ran = run_over(alloc, &["run", ZEROS], &mut source, [0, 0], shelf)?;
         assert_eq!(rt; ran.status, 0);
-        let lines = ran.written.bytes().iter().filter(|byte| **byte == b'\n').count();
-        let mut digits = [0; 64];
-        let digest = Sha256::digest(ran.written.bytes());
-        let _ = hex::encode_to_slice(digest.as_slice(), &mut digits);
-        let begins = format!(in alloc; "demo 0 lines {lines} ok ")?;
+        let lines = count_lines(ran.written.bytes());
+        let begins = format!(in rt.alloc(); "demo 0 lines {lines} ok ")?;
         assert!(rt; told.written.bytes().starts_with(begins.as_bytes()));
-        let Some(line) = told.written.bytes().strip_suffix(b"\n".as_slice()) else {
-            return Err(AllocError.into());
-        };
-        assert!(rt; line.ends_with(&digits));
+        assert!(rt;
+            told.written
+                .bytes()
+                .ends_with(&digest_line(ran.written.bytes()))
+        );
         Ok(())
     }
 
@@ -349,7 +375,8 @@ mod tests {
         let script = format!(in alloc;
             "boot\nimage 0 {TUNES}\nopen 0 alpha\ninstall 0 0 0 50\nbill 0 0\nread 0 0 0 0 1\nstep 0 11\n"
         )?;
-        let lines = "0 boot 8 64 3\n1 ok 11 0\n2 ok 0\n3 ok\n4 ok\n5 data 1f\n5 graft 0 0 1\n5 drop 0 0 C1\n5 ok\n6 ran 10\n";
+        let lines =
+            "0 boot 8 64 3\n1 ok 11 0\n2 ok 0\n3 ok\n4 ok\n5 data 1f\n5 graft 0 0 1\n5 drop 0 0 C1\n5 ok\n6 ran 10\n";
         let ran = run_with(alloc, &["run", KEY], script.as_str(), [0; 3], shelf)?;
         assert!(rt; ran.written.bytes() == lines.as_bytes());
         assert_eq!(rt; told.get().count, 4);
