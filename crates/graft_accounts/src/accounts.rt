@@ -400,8 +400,8 @@ impl Accounts {
         }
     }
 
-    /// Moves n steps at once from whoever pays for the graft at point pt of process p to what p has spent: the books are
-    /// as if the steps had been charged one after another.
+    /// Moves n steps at once from whoever pays for the graft at point pt of process p to what p has spent: the books
+    /// are as if the steps had been charged one after another.
     pub fn charge_steps(&mut self, p: u8, pt: u8, n: u32)
         requires process { p < 16 }
         requires point { pt < 16 }

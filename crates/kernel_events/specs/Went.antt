@@ -92,7 +92,8 @@ module _ (m : Meaning) where
 -- From rest, so many instructions of the call of p lead from x to y: what follows them begins there, at rest.
 pub record Leads (m : Meaning) (p n : ℕ) (x y : Placed) : Type 0 where
   pub steps : (left taken : ℕ) (blocks : Blocks) (notes : List Note) (io : List Bool) → Rests m x blocks →
-      placed_steps m p (n + left) taken (run_of x blocks notes io) ≡ placed_steps m p left (taken + n) (run_of y blocks notes io)
+      placed_steps m p (n + left) taken (run_of x blocks notes io)
+      ≡ placed_steps m p left (taken + n) (run_of y blocks notes io)
   pub rests : (blocks : Blocks) → Rests m x blocks → Rests m y blocks
 
 -- A change of an event under way has come, from rest, to a point of rest from which this is left of it.

@@ -8,8 +8,8 @@ use call_pieces::Calls;
 use kernel_steps::Running;
 use placed_laws::{agreeing, stretching};
 
-/// A stretch of process p's call, where it is in a graft and doesn't wait: at most n instructions that each go on and call
-/// nothing. How many there were. They leave no step to take.
+/// A stretch of process p's call, where it is in a graft and doesn't wait: at most n instructions that each go on and
+/// call nothing. How many there were. They leave no step to take.
 pub(crate) fn stretch<C: Calls>(running: &mut Running<C>, p: u8, n: u32) -> u32
     requires process { p < 16 }
     requires running { IsRunning (λ b. seen (b.vtable, b.value)) (λ w. C.caller w) running.old }

@@ -199,8 +199,9 @@ impl<C: Calls> Running<C> {
             needs.now ≡ placed_needs C.Meaning.meaning x p }
         requires range { All (λ (n : Needed). IsInRange n.object) needs.now }
         ensures { let x = placed_of (λ b. seen (b.vtable, b.value)) (λ w. C.stage w) self.now in
+            let user = lock_user p (placed_levels x p) in
             option_map hindrance_of result
-            ≡ first_of (placed_holds x) x.objects.things.lock p (lock_user p (placed_levels x p)) (placed_needs C.Meaning.meaning x p) }
+            ≡ first_of (placed_holds x) x.objects.things.lock p user (placed_needs C.Meaning.meaning x p) }
     {
         let user = flight(&self.calls, p).chain.lock_user(p);
         first_hindrance(&self.locks, &self.store, p, user, needs)

@@ -12,11 +12,12 @@ use call_pieces::Calls;
 use placed_laws::{agreeing, stretching};
 
 impl<C: Calls> Running<C> {
-    /// A stretch of process p's call, which is in a graft and doesn't wait: at most n instructions that each go on and call
-    /// nothing. How many there were. It may stop early, even at none.
+    /// A stretch of process p's call, which is in a graft and doesn't wait: at most n instructions that each go on and
+    /// call nothing. How many there were. It may stop early, even at none.
     pub fn stretch(&mut self, p: u8, n: u32) -> u32
         requires process { p < 16 }
-        requires level { has_some ((placed_of (λ b. seen (b.vtable, b.value)) (λ w. C.stage w) self.old).levels p) ≡ true }
+        requires level { let x = placed_of (λ b. seen (b.vtable, b.value)) (λ w. C.stage w) self.old in
+            has_some (x.levels p) ≡ true }
         requires away { in_order p (placed_of (λ b. seen (b.vtable, b.value)) (λ w. C.stage w) self.old).order ≡ false }
         requires running { IsRunning (λ b. seen (b.vtable, b.value)) (λ w. C.caller w) self.old }
         requires stood { Stood C.Meaning.meaning (placed_of (λ b. seen (b.vtable, b.value)) (λ w. C.stage w) self.old) }
