@@ -333,7 +333,7 @@ mod tests {
             if ran.status == 0 {
                 assert!(rt; ran.written.bytes() == lines, "at write {write}");
                 // Each line of this script is one write.
-                assert_eq!(rt; write as usize, count_lines(SESSION.as_bytes()) + 1);
+                assert_eq!(rt; write as usize - 1, count_lines(SESSION.as_bytes()));
                 return Ok(());
             }
             assert_eq!(rt; ran.status, 4, "at write {write}");

@@ -189,7 +189,7 @@ pub fn demo<K: Sink, D: Disk>(
         (λ told. AppendsPart (K.got sink.old) (K.got sink.new) told) }
     ensures memory { result ≡ 5 → Keeps (K.got sink.old) (K.got sink.new)
         × ((disk_seen (D.blocks disk.new) (D.plan disk.new) (D.faults disk.new)
-            ≡ disk_seen (D.blocks disk.old) (D.plan disk.old) (D.faults disk.old))
+        ≡ disk_seen (D.blocks disk.old) (D.plan disk.old) (D.faults disk.old))
         ⊎ DemoLacked n (D.block_count disk.old)
         (disk_seen (D.blocks disk.old) (D.plan disk.old) (D.faults disk.old))
         (disk_seen (D.blocks disk.new) (D.plan disk.new) (D.faults disk.new))) }
