@@ -17,4 +17,6 @@ mod Needing
 mod Asking
 mod Stepping
 mod NextNeeds
+pub mod Reading
 mod Stretching
+mod Seating

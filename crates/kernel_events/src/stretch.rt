@@ -1,4 +1,4 @@
-//! Stretches: instructions of a call that leave no step to take, in one loop of the machine.
+//! Stretches: instructions of a call that leave no step to take, one after another.
 
 ghost use Rattle.std.specs.Prelude.{◌≡◌, ◌<◌, ◌≤◌};
 ghost use Rattle.kernel_steps.specs.Views.{placed_of, IsRunning, Stood};
@@ -8,8 +8,9 @@ use call_pieces::Calls;
 use kernel_steps::Running;
 use placed_laws::{agreeing, stretching};
 
-/// A stretch of process p's call, where it is in a graft and doesn't wait: at most n instructions that each go on and
-/// call nothing. How many there were. They leave no step to take.
+/// A stretch of process p's call, where it is in a graft and doesn't wait: at most n quiet instructions, which each go
+/// on and call nothing, or only read an object that their level holds already. How many there were. They leave no step
+/// to take.
 pub(crate) fn stretch<C: Calls>(running: &mut Running<C>, p: u8, n: u32) -> u32
     requires process { p < 16 }
     requires running { IsRunning (λ b. seen (b.vtable, b.value)) (λ w. C.caller w) running.old }

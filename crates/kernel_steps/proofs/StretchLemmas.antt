@@ -11,7 +11,7 @@ use Rattle.kernel_model.specs.Meaning.{Meaning, Stage}
 use Rattle.kernel_model.specs.Levels.{Config}
 use Rattle.kernel_model.specs.Locks.{LockTable}
 use Rattle.lock_table.specs.Masks.{held}
-use Rattle.kernel_state.specs.Stores.{Seeing, objects_of, queue_of}
+use Rattle.kernel_state.specs.Stores.{Seeing, world_of_store, objects_of, queue_of}
 use Rattle.graft_loader.specs.Slots.{table_of}
 use Rattle.graft_calls.specs.declared.GraftLevel.{GraftLevel}
 use Rattle.graft_calls.specs.declared.Chain.{Chain}
@@ -53,13 +53,13 @@ some_chain view x p h = some_in p x.store.ram (held x.locks) (chain_of x p).leve
 
 -- the graft call of p went on, where the chain before was that of p, and so is the one after
 pub gone_by : {C M W X : Type 0} {F : X → Type 0} (view : Seeing X F) (x y : Running C M W X F) (p n : ℕ) (fl : Flight W) (ch : Chain) → fl ≡ flight_of x.calls.items p → chain_of y p ≡ ch →
-    HasGoneOn (table_of x.images) n (call_of view x.store x.locks fl.chain p) (call_of view y.store y.locks ch p) → HasGoneOn (table_of x.images) n (call_of view x.store x.locks (chain_of x p) p) (call_of view y.store y.locks (chain_of y p) p)
+    HasGoneOn (world_of_store x.store) (table_of x.images) n (call_of view x.store x.locks fl.chain p) (call_of view y.store y.locks ch p) → HasGoneOn (world_of_store x.store) (table_of x.images) n (call_of view x.store x.locks (chain_of x p) p) (call_of view y.store y.locks (chain_of y p) p)
 gone_by {W = W} view x y p n fl ch fl_is own h =
-    subst (λ (l : Flight W). HasGoneOn (table_of x.images) n (call_of view x.store x.locks l.chain p) (call_of view y.store y.locks (chain_of y p) p)) fl_is
-    (subst (λ (c : Chain). HasGoneOn (table_of x.images) n (call_of view x.store x.locks fl.chain p) (call_of view y.store y.locks c p)) (sym own) h)
+    subst (λ (l : Flight W). HasGoneOn (world_of_store x.store) (table_of x.images) n (call_of view x.store x.locks l.chain p) (call_of view y.store y.locks (chain_of y p) p)) fl_is
+    (subst (λ (c : Chain). HasGoneOn (world_of_store x.store) (table_of x.images) n (call_of view x.store x.locks fl.chain p) (call_of view y.store y.locks c p)) (sym own) h)
 
 module _ {C M W X : Type 0} {F : X → Type 0} (view : Seeing X F) (stage : W → Stage) (caller : W → ℕ) (x y : Running C M W X F) (p n : ℕ) (r : IsRunning view caller x) (small : p < 16)
-    (moved : Moved view x y p) (gone : HasGoneOn (table_of x.images) n (call_of view x.store x.locks (chain_of x p) p) (call_of view y.store y.locks (chain_of y p) p))
+    (moved : Moved view x y p) (gone : HasGoneOn (world_of_store x.store) (table_of x.images) n (call_of view x.store x.locks (chain_of x p) p) (call_of view y.store y.locks (chain_of y p) p))
     (locks : y.locks ≡ x.locks) (still : StillRun (table_of x.images) (objects_of view x.store).accounts (objects_of view y.store).accounts) where
   abbrev far : Config
   far = gone_on n gone.machine gone.level gone.outer (call_of view x.store x.locks (chain_of x p) p)
@@ -71,6 +71,7 @@ module _ {C M W X : Type 0} {F : X → Type 0} (view : Seeing X F) (stage : W �
   pub is_stretched : IsStretched (placed_of view stage x) (placed_of view stage y) p n
   is_stretched =
       record {
+        process = small;
         level = bare gone.level;
         outer = map bare gone.outer;
         machine = gone.machine;

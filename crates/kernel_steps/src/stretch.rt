@@ -1,4 +1,4 @@
-//! Stretches: plain instructions of a call in a graft, one after another.
+//! Stretches: quiet instructions of a call in a graft, one after another.
 
 ghost use Rattle.std.specs.Prelude.{◌≡◌, ◌<◌, ◌≤◌, true, false};
 ghost use Rattle.kernel_model.specs.Events.{in_order};
@@ -12,8 +12,9 @@ use call_pieces::Calls;
 use placed_laws::{agreeing, stretching};
 
 impl<C: Calls> Running<C> {
-    /// A stretch of process p's call, which is in a graft and doesn't wait: at most n instructions that each go on and
-    /// call nothing. How many there were. It may stop early, even at none.
+    /// A stretch of process p's call, which is in a graft and doesn't wait: at most n quiet instructions, which each go
+    /// on and call nothing, or only read an object that their level holds already. How many there were. It may stop
+    /// early, even at none.
     pub fn stretch(&mut self, p: u8, n: u32) -> u32
         requires process { p < 16 }
         requires level { let x = placed_of (λ b. seen (b.vtable, b.value)) (λ w. C.stage w) self.old in

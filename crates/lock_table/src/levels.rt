@@ -2,7 +2,7 @@
 
 ghost use Rattle.std.specs.Prelude.{◌≡◌, ℕ, ◌-◌, ◌<◌, ◌==◌, ◌&&◌, not, find, [], ◌∷◌};
 ghost use Rattle.std.specs.Prelude.{◌||◌};
-ghost use Rattle.kernel_model.specs.Locks.{conflicts, held_as, stronger};
+ghost use Rattle.kernel_model.specs.Locks.{conflicts, held_as, is_held, stronger};
 ghost use Rattle.kernel_model.specs.Objects.{at};
 ghost use Rattle.lock_table.specs.Masks.{has_level, held_by, is_used, merged, released};
 
@@ -21,6 +21,14 @@ pub(crate) fn any_holds(holds: Holds) -> bool
     ensures { result ≡ is_used holds }
 {
     outermost(union(holds.shared, holds.exclusive)).is_some()
+}
+
+/// Whether a level holds.
+pub(crate) fn is_holding(holds: Holds, level: u8) -> bool
+    requires depth { level < 4 }
+    ensures { result ≡ is_held (held_by holds level) }
+{
+    has(holds.exclusive, level) || has(holds.shared, level)
 }
 
 /// The outermost level whose hold conflicts with a mode.

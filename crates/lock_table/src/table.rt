@@ -3,12 +3,13 @@
 ghost use Rattle.std.specs.Prelude.{◌≡◌, ℕ, ◌<◌, length, find, is_some, IfOk};
 ghost use Rattle.kernel_model.specs.World.{processes};
 ghost use Rattle.kernel_model.specs.Laws.{IsInRange};
-ghost use Rattle.kernel_model.specs.Locks.{no_locks, lowest_holder, outermost_holding, with_touch, merge_level as level_merged, release_from as released_inward};
+ghost use Rattle.kernel_model.specs.Locks.{is_held, no_locks, lowest_holder, outermost_holding, with_touch, merge_level as level_merged, release_from as released_inward};
 ghost use Rattle.kernel_model.specs.declared.Held.TheVariants.{Free};
 ghost use Rattle.lock_table.specs.Masks.{conflicting_level, held_by, is_other_hindering, levels_at, masks_of};
 
 use crate::Holds;
 use crate::call::CallHolds;
+use crate::levels::is_holding;
 use crate::numbers::object_number;
 use kernel_model::{Mode, NoMemory, Object, PROCESSES};
 use std::alloc::{AllocError, Global};
@@ -107,6 +108,16 @@ impl LockTable {
     {
         let call = &self.calls[p as usize];
         call.holds(object_number(&o))
+    }
+
+    /// Whether a level of process p holds an object, in either mode.
+    pub fn is_held(&self, p: u8, level: u8, o: Object) -> bool
+        requires process { p < 16 }
+        requires depth { level < 4 }
+        requires range { IsInRange o }
+        ensures { result ≡ is_held (held self.now p level o) }
+    {
+        is_holding(self.holds(p, o), level)
     }
 
     /// A level of process p holds an object in a mode. Where it holds the object already, the stronger way stays.

@@ -33,5 +33,7 @@ pub mod RestingLemmas
 pub mod EventLemmas
 pub mod SoundLemmas
 pub mod StretchCharging
+pub mod StretchQuiet
+pub mod StretchReading
 pub mod StretchInstructions
 pub mod StretchIterating

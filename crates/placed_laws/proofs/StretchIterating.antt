@@ -1,5 +1,5 @@
 -- A stretch is so many instructions.
-use Rattle.std.proofs.Common.{◌≡◌, ℕ, zero, suc, ◌+◌, ◌-◌, ◌≤◌, ◌==◌, ◌&&◌, ◌||◌, not, Bool, true, false, cond, List, [], ◌∷◌, length, Option, Some, None, arith, refl, sym, ◌∙◌, ap, subst}
+use Rattle.std.proofs.Common.{◌≡◌, ℕ, zero, suc, ◌+◌, ◌-◌, ◌<◌, ◌≤◌, ◌==◌, ◌&&◌, ◌||◌, not, Bool, true, false, cond, List, [], ◌∷◌, length, Option, Some, None, arith, refl, sym, ◌∙◌, ap, subst}
 use Rattle.std.proofs.lemmas.Bool.Decides.{nat_tests}
 use mathlib.Core.Path.{fun_ext}
 use Rattle.kernel_model.specs.declared.Kind.TheVariants.{Steps}
@@ -22,12 +22,13 @@ use Rattle.placed_laws.specs.Placed.{has_some, PlacedCall, PlacedLevel, Placed, 
 use Rattle.placed_laws.specs.PlacedSteps.{placed_joins, placed_step}
 use Rattle.placed_laws.specs.PlacedEvents.{placed_settled, placed_steps}
 use Rattle.placed_laws.specs.Stands.{RunStandsFor}
-use Rattle.placed_laws.specs.Resting.{IsStill}
+use Rattle.placed_laws.specs.Resting.{KeepsHolds, IsStill}
 use Rattle.placed_laws.proofs.RestingLemmas.{resting}
 use Rattle.placed_laws.proofs.StandLemmas.{steps_stand}
-use Rattle.placed_laws.specs.Stretch.{seg_went_on, stretched_level, stretched, IsStretched, Stretched}
+use Rattle.placed_laws.specs.Stretch.{Setting, setting, quiet, quiet_on, stretched_level, stretched, IsStretched, Stretched}
 use Rattle.placed_laws.proofs.StretchCharging.{code_same, limit_same, funds_less}
-use Rattle.placed_laws.proofs.StretchInstructions.{last, needs_none, free, stepped}
+use Rattle.placed_laws.proofs.StretchInstructions.{OneMore, one_more}
+use Rattle.placed_laws.proofs.StretchQuiet.{last}
 
 -- ---- functions changed at a place
 
@@ -50,40 +51,26 @@ at_itself {A} i v f h = fun_ext (λ j. by_test j (j == i) refl)
 
 -- ---- one more instruction
 
-no_need : (o : Object) (ns : List Need) → ns ≡ [] → is_needed o ns ≡ true → ⊥
-no_need o ns e h = differ (sym (ap (is_needed o) e) ∙ h)
-  where
-    differ : false ≡ true → ⊥
-    differ e = cc
-
 more_left : (count limit payer n : ℕ) → count + suc n ≤ limit → suc n ≤ payer → (count + n == limit || payer - n == 0) ≡ false
 more_left count limit payer n a b = grind (arith, nat_tests, a, b)
 
 module _ (m : Meaning) (laws : Laws m) (x : PlacedRun) (y : Placed) (r : Run) (c : PlacedCall) (p : ℕ) (l : PlacedLevel) (ls : List PlacedLevel)
     (stands : RunStandsFor m x r) (here : x.placed.levels p ≡ l ∷ ls) (call : x.placed.call p ≡ Some c) (away : in_order p x.placed.order ≡ false)
-    (is_free : placed_blocker m x.placed p ≡ None) (needs : placed_needs m x.placed p ≡ []) (k : PlacedLevel) (goes : placed_step m p x ≡ record x { placed = y }) (there : y.levels p ≡ k ∷ ls) where
+    (more : OneMore m x p y) where
   still : IsStill m x.placed (placed_step m p x).placed p
-  still =
-      record {
-        level = ap has_some here;
-        away = away;
-        keeps = record {
-          levels = ap (λ (z : PlacedRun). length (z.placed.levels p)) goes ∙ ap length there ∙ sym (ap length here);
-          holds = λ d o h. absurd (no_need o (placed_needs m x.placed p) needs h);
-        };
-      }
+  still = record { level = ap has_some here; away = away; keeps = subst (λ (z : PlacedRun). KeepsHolds m x.placed z.placed p) (sym more.goes) more.keeps }
 
   next_stands : RunStandsFor m (record x { placed = y }) (step m p r)
-  next_stands = subst (λ (z : PlacedRun). RunStandsFor m z (step m p r)) goes (steps_stand m laws x r p c stands call is_free)
+  next_stands = subst (λ (z : PlacedRun). RunStandsFor m z (step m p r)) more.goes (steps_stand m laws x r p c stands call more.free)
 
   next_rests : IsAtRest m r.kernel → IsAtRest m (step m p r).kernel
-  next_rests rests = (resting m laws).still x r p c stands rests call is_free still
+  next_rests rests = (resting m laws).still x r p c stands rests call more.free still
 
   next_steps : IsAtRest m r.kernel → (left taken : ℕ) → placed_steps m p (suc left) taken x ≡ placed_steps m p left (suc taken) (record x { placed = y })
   next_steps rests left taken =
       ap (λ b. elim b as (λ _. ℕ × PlacedRun) [ false ↦ (taken, x) | true ↦ on (placed_blocker m x.placed p) ]) both
-      ∙ ap on is_free
-      ∙ ap (λ z. placed_steps m p left (suc taken) (placed_settled m z)) goes
+      ∙ ap on more.free
+      ∙ ap (λ z. placed_steps m p left (suc taken) (placed_settled m z)) more.goes
       ∙ ap (placed_steps m p left (suc taken)) ((resting m laws).rested (record x { placed = y }) (step m p r) next_stands (next_rests rests))
     where
       on : Option Blocker → ℕ × PlacedRun
@@ -96,9 +83,9 @@ module _ (m : Meaning) (laws : Laws m) (x : PlacedRun) (y : Placed) (r : Run) (c
 -- ---- all of them
 
 module _ (m : Meaning) (laws : Laws m) (x : PlacedRun) (r : Run) (c : PlacedCall) (p : ℕ) (l : PlacedLevel) (ls : List PlacedLevel)
-    (stands : RunStandsFor m x r) (here : x.placed.levels p ≡ l ∷ ls) (call : x.placed.call p ≡ Some c) (away : in_order p x.placed.order ≡ false) where
-  abbrev code : List Instr
-  code = code_of x.placed.images x.placed.objects.accounts l.owner l.point
+    (stands : RunStandsFor m x r) (small : p < 16) (here : x.placed.levels p ≡ l ∷ ls) (call : x.placed.call p ≡ Some c) (away : in_order p x.placed.order ≡ false) where
+  abbrev around : Setting
+  around = setting x.placed.world x.placed.images x.placed.objects l.owner l.point l.touched
 
   abbrev far : ℕ → Machine → PlacedRun
   far n k = record x { placed = stretched p n k l ls x.placed }
@@ -111,7 +98,7 @@ module _ (m : Meaning) (laws : Laws m) (x : PlacedRun) (r : Run) (c : PlacedCall
       zero_more : l.count + 0 ≡ l.count
       zero_more = omega arith
 
-  all : (n : ℕ) (k : Machine) → seg_went_on code n l.machine ≡ Some k → l.count + n ≤ limit_in (x.placed.objects.accounts.graft l.owner l.point)
+  all : (n : ℕ) (k : Machine) → quiet_on around n l.machine ≡ Some k → l.count + n ≤ limit_in (x.placed.objects.accounts.graft l.owner l.point)
       → n ≤ funds x.placed.objects.accounts l.owner l.point Steps → Stretched m x (stretched p n k l ls x.placed) r p n
   all zero k went limit paid =
       subst (λ (z : Placed). Stretched m x z r p 0) (sym (none_yet k (sym (some_is l.machine k went))))
@@ -126,36 +113,31 @@ module _ (m : Meaning) (laws : Laws m) (x : PlacedRun) (r : Run) (c : PlacedCall
       none : (left : ℕ) → 0 + left ≡ left
       none left = omega arith
   all (suc n) k went limit paid =
-      let b = last code n l.machine k went in
+      let b = last around n l.machine k went in
       let before = all n b.k b.before (omega (arith, limit)) (omega (arith, paid)) in
       let z = far n b.k in
       let g = stretched_level n b.k l in
       let a = x.placed.objects.accounts in
       let levels : z.placed.levels p ≡ g ∷ ls = at_here p (g ∷ ls) x.placed.levels in
-      let goes = subst (λ f. seg_step_is f b.k k) (sym (code_same n x.placed.images l.owner l.point a)) b.step in
+      let quietly = ap (λ (f : List Instr). quiet (record around { code = f }) b.k) (code_same n x.placed.images l.owner l.point a) ∙ b.step in
       let unspent = unspent_after n limit paid in
       let is : record (z.placed) {
         objects = with_accounts (charged_steps (suc n) l.owner l.point a) x.placed.objects;
         levels = at p (record g { machine = k; count = g.count + 1 } ∷ ls) z.placed.levels;
       } ≡ stretched p (suc n) k l ls x.placed = far_is n b.k k in
-      let one_step = stepped m z c p g ls k levels call away goes unspent ∙ ap (λ (y : Placed). record x { placed = y }) is in
-      let there = at_here p (stretched_level (suc n) k l ∷ ls) x.placed.levels in
-      let next_is = free m z c p g ls k levels call away goes unspent in
-      let needs_are = needs_none m z c p g ls k levels call away goes unspent in
+      let one = one_more m laws z before.run c p g ls k before.stands small levels call away unspent quietly in
+      let more = subst (OneMore m z p) is one in
       record {
         steps = λ rests left taken.
             ap (λ j. placed_steps m p j taken x) (shift n left)
             ∙ before.steps rests (suc left) taken
-            ∙ next_steps m laws z (stretched p (suc n) k l ls x.placed) before.run c p g ls before.stands levels call away next_is needs_are (stretched_level (suc n) k l) one_step there (before.rests rests) left (taken + n)
+            ∙ next_steps m laws z (stretched p (suc n) k l ls x.placed) before.run c p g ls before.stands levels call away more (before.rests rests) left (taken + n)
             ∙ ap (λ j. placed_steps m p left j (far (suc n) k)) (shift_taken taken n);
         run = step m p before.run;
-        stands = next_stands m laws z (stretched p (suc n) k l ls x.placed) before.run c p g ls before.stands levels call away next_is needs_are (stretched_level (suc n) k l) one_step there;
-        rests = λ rests. next_rests m laws z (stretched p (suc n) k l ls x.placed) before.run c p g ls before.stands levels call away next_is needs_are (stretched_level (suc n) k l) one_step there (before.rests rests);
+        stands = next_stands m laws z (stretched p (suc n) k l ls x.placed) before.run c p g ls before.stands levels call away more;
+        rests = λ rests. next_rests m laws z (stretched p (suc n) k l ls x.placed) before.run c p g ls before.stands levels call away more (before.rests rests);
       }
     where
-      seg_step_is : List Instr → Machine → Machine → Type 0
-      seg_step_is f a b = seg_step f a ≡ Done.Went b
-
       shift : (n left : ℕ) → suc n + left ≡ n + suc left
       shift n left = omega arith
 
@@ -184,4 +166,4 @@ module _ (m : Meaning) (laws : Laws m) (x : PlacedRun) (r : Run) (c : PlacedCall
 pub stretches : (m : Meaning) (laws : Laws m) (x : PlacedRun) (y : Placed) (r : Run) (c : PlacedCall) (p n : ℕ) → RunStandsFor m x r → x.placed.call p ≡ Some c
     → in_order p x.placed.order ≡ false → IsStretched x.placed y p n → Stretched m x y r p n
 stretches m laws x y r c p n stands call away h =
-    subst (λ (z : Placed). Stretched m x z r p n) (sym h.is) (all m laws x r c p h.level h.outer stands h.levels call away n h.machine h.went h.limit h.paid)
+    subst (λ (z : Placed). Stretched m x z r p n) (sym h.is) (all m laws x r c p h.level h.outer stands h.process h.levels call away n h.machine h.went h.limit h.paid)
