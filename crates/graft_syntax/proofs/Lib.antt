@@ -1,0 +1,5 @@
+pub mod Splits
+pub mod Digits
+pub mod Names
+pub mod Words
+pub mod Filling

@@ -1,0 +1,38 @@
+-- The names of the map, and the goals of the stack.
+use Rattle.std.proofs.Common.{◌≡◌, ℕ, Bool, true, false, cond, ◌||◌, List, [], ◌∷◌, Option, Some, refl, ap}
+use Rattle.std.specs.Borrow.{Bor}
+use Rattle.std.specs.Option.{is_some}
+use Rattle.std.specs.Map.{lookup}
+use Rattle.indexmap.specs.IndexMap.{insert_entry}
+use Rattle.kernel_model.specs.World.{same_bytes}
+use Rattle.graft_syntax.specs.Reading.{is_known, with_name}
+use Rattle.graft_syntax.specs.Views.{names_of}
+
+-- a key and its value
+abbrev pub Entry : Type 0
+Entry = Bor (List ℕ) × Unit {0}
+
+-- two keys are one
+abbrev pub same_key : Bor (List ℕ) → Bor (List ℕ) → Bool
+same_key x y = same_bytes x.now y.now
+
+-- a name is known where the map has it
+pub is_known-lookup : (name : List ℕ) (es : List Entry)
+    → is_known name (names_of es) ≡ is_some (lookup (λ (k : Bor (List ℕ)). same_bytes name k.now) es)
+is_known-lookup name [] = refl
+is_known-lookup name (e ∷ es) = by (same_bytes name e.0.now) _ _ (is_known-lookup name es)
+  where
+    by : (b rest : Bool) (found : Option (Unit {0})) → rest ≡ is_some found → (b || rest) ≡ is_some (cond b (Some e.1) found)
+    by true rest found h = refl
+    by false rest found h = h
+
+-- a name is put into the map
+pub with_name-insert : (k : Bor (List ℕ)) (es : List Entry)
+    → names_of (insert_entry same_key es k tt) ≡ with_name k.now (names_of es)
+with_name-insert k [] = refl
+with_name-insert k (e ∷ es) = by (same_key k e.0) (insert_entry same_key es k tt) _ (with_name-insert k es)
+  where
+    by : (b : Bool) (more : List Entry) (names : List (List ℕ)) → names_of more ≡ names
+        → names_of (cond b ((e.0, tt) ∷ es) (e ∷ more)) ≡ cond b (e.0.now ∷ names_of es) (e.0.now ∷ names)
+    by true more names h = refl
+    by false more names h = ap (λ (ns : List (List ℕ)). e.0.now ∷ ns) h

@@ -1,0 +1,18 @@
+-- What the faults of the reader stand for.
+use Rattle.std.specs.Prelude.{◌≡◌, Result, Err}
+use Rattle.graft_syntax.specs.declared.LangKind.{LangKind}
+use Rattle.graft_syntax.specs.declared.LangFault.{LangFault}
+use Rattle.graft_syntax.specs.declared.LangFault.TheVariants as fault
+use Rattle.graft_syntax.specs.declared.grammar.Refusal.{Refusal}
+use Rattle.graft_syntax.specs.declared.grammar.Refusal.TheVariants as refusal
+use Rattle.graft_syntax.specs.Reading.{LineFault}
+
+-- a fault is the refusal that is said; want of memory stands for none
+abbrev pub Refuses : {A : Type 0} → LangFault → Result A LineFault → Type 0
+Refuses (fault.At line kind) said = said ≡ Err (record { line = line; kind = kind })
+Refuses fault.NoMemory said = Unit {0}
+
+-- the same of one token, whose line isn't looked at
+abbrev pub Stops : {A : Type 0} → Refusal → Result A LangKind → Type 0
+Stops (refusal.Of kind) said = said ≡ Err kind
+Stops refusal.NoMemory said = Unit {0}

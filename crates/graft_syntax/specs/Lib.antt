@@ -1,0 +1,9 @@
+pub mod Parts
+pub mod Tokens
+pub mod Words
+pub mod Grammar
+pub mod Reading
+pub mod Faults
+pub mod Views
+pub mod Laws
+pub mod Examples

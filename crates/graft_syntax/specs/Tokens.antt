@@ -1,0 +1,101 @@
+-- The tokens of the graft language, and the words that spell them.
+use Rattle.std.specs.Prelude.{ℕ, ◌==◌, Bool, cond, List, [], ◌∷◌, codes, position, slice_get, slice_index, Option, None, Some}
+use Rattle.kernel_model.specs.World.{same_bytes}
+use Rattle.kernel_model.specs.Bytes.{number_of}
+use Rattle.kernel_model.specs.Assembler.{callable_id, is_label}
+use Rattle.graft_syntax.specs.declared.Operator.{Operator}
+use Rattle.graft_syntax.specs.declared.Operator.TheVariants.{Plus, Minus, Times, Over, Rest, And, Or, Xor, ShiftLeft, ShiftRight, Less, Equal}
+use Rattle.graft_syntax.specs.declared.Symbol.{Symbol}
+use Rattle.graft_syntax.specs.declared.Symbol.TheVariants.{If, Else, While, Trap, Answer, Assign, Semicolon, OpenBrace, CloseBrace, OpenParenthesis, CloseParenthesis, Comma}
+
+-- a token; a callable is named by its id
+pub data Token : Type 0 where
+  Number : (n : ℕ) → Token
+  Variable : (name : List ℕ) → Token
+  Callable : (id : ℕ) → Token
+  Infix : Operator → Token
+  Mark : Symbol → Token
+
+-- every symbol, and what spells it
+abbrev pub symbols : List Symbol
+symbols =
+    If ∷ Else ∷ While ∷ Trap ∷ Answer ∷ Assign ∷ Semicolon ∷ OpenBrace ∷ CloseBrace ∷ OpenParenthesis ∷ CloseParenthesis ∷ Comma
+    ∷ []
+
+abbrev pub symbol_names : List (List ℕ)
+symbol_names =
+    codes "if" ∷ codes "else" ∷ codes "while" ∷ codes "trap" ∷ codes "answer" ∷ codes "=" ∷ codes ";" ∷ codes "{" ∷ codes "}"
+    ∷ codes "(" ∷ codes ")" ∷ codes "," ∷ []
+
+-- every operator, and what spells it
+abbrev pub operators : List Operator
+operators =
+    Plus ∷ Minus ∷ Times ∷ Over ∷ Rest ∷ And ∷ Or ∷ Xor ∷ ShiftLeft ∷ ShiftRight ∷ Less ∷ Equal ∷ []
+
+abbrev pub operator_names : List (List ℕ)
+operator_names =
+    codes "+" ∷ codes "-" ∷ codes "*" ∷ codes "/" ∷ codes "%" ∷ codes "&" ∷ codes "|" ∷ codes "^" ∷ codes "<<" ∷ codes ">>"
+    ∷ codes "<" ∷ codes "==" ∷ []
+
+-- the entry at a place that was found
+abbrev pub at_place : {A : Type 0} → Option ℕ → List A → Option A
+at_place None entries = None
+at_place (Some i) entries = slice_get entries i
+
+-- the symbol and the operator that a word spells
+abbrev pub symbol_of : List ℕ → Option Symbol
+symbol_of word = at_place (position (same_bytes word) symbol_names) symbols
+
+abbrev pub operator_of : List ℕ → Option Operator
+operator_of word = at_place (position (same_bytes word) operator_names) operators
+
+-- a name that is no keyword and no callable: a letter a to z, then letters, digits and `_`, up to 16 bytes
+abbrev pub variable_of : List ℕ → Option Token
+variable_of word = cond (is_label word) (Some (Variable word)) None
+
+-- a number below 2^32 in up to 10 digits, or else a variable
+abbrev pub by_number : Option ℕ → List ℕ → Option Token
+by_number (Some n) word = Some (Number n)
+by_number None word = variable_of word
+
+abbrev pub by_callable : Option ℕ → List ℕ → Option Token
+by_callable (Some id) word = Some (Callable id)
+by_callable None word = by_number (number_of word) word
+
+abbrev pub by_operator : Option Operator → List ℕ → Option Token
+by_operator (Some op) word = Some (Infix op)
+by_operator None word = by_callable (callable_id word) word
+
+abbrev pub by_symbol : Option Symbol → List ℕ → Option Token
+by_symbol (Some s) word = Some (Mark s)
+by_symbol None word = by_operator (operator_of word) word
+
+-- the token that a word is, if it is one
+abbrev pub token_of : List ℕ → Option Token
+token_of word = by_symbol (symbol_of word) word
+
+-- how many arguments the callables have, in the order of their ids
+abbrev pub arities : List ℕ
+arities = 1 ∷ 2 ∷ 0 ∷ 1 ∷ 1 ∷ 2 ∷ 0 ∷ 1 ∷ 1 ∷ 2 ∷ 2 ∷ 3 ∷ 1 ∷ 1 ∷ 0 ∷ 0 ∷ []
+
+-- how many arguments a callable has
+abbrev pub arguments_of : ℕ → ℕ
+arguments_of id = slice_index arities id
+
+-- the number of a symbol, by which two are compared
+abbrev pub symbol_number : Symbol → ℕ
+symbol_number If = 0
+symbol_number Else = 1
+symbol_number While = 2
+symbol_number Trap = 3
+symbol_number Answer = 4
+symbol_number Assign = 5
+symbol_number Semicolon = 6
+symbol_number OpenBrace = 7
+symbol_number CloseBrace = 8
+symbol_number OpenParenthesis = 9
+symbol_number CloseParenthesis = 10
+symbol_number Comma = 11
+
+abbrev pub same_symbol : Symbol → Symbol → Bool
+same_symbol s t = symbol_number s == symbol_number t

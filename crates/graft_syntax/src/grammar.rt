@@ -1,0 +1,294 @@
+//! Which tokens may come next: the goals of the grammar that are still to be met.
+
+ghost use Rattle.std.specs.Prelude.{◌≡◌, ◌-◌, ◌<◌, ◌∷◌, ◌++◌, [], length, reverse, count_by, true, false, Ok, Err, IsTrue, IfErr, OnOk, MatchOption};
+ghost use Rattle.graft_syntax.specs.Faults.{Stops};
+ghost use Rattle.graft_syntax.specs.Views.{token_view};
+ghost use Rattle.graft_syntax.specs.Grammar as spec;
+ghost use Rattle.graft_syntax.specs.Reading.{is_level};
+
+use crate::tokens::{arguments_of, same_symbol};
+use crate::{LangKind, Symbol, Token};
+use std::alloc::Global;
+use std::marker::Model;
+
+/// What must come next.
+#[derive(Clone, Copy)]
+pub enum Goal {
+    /// More statements, or the end: of a block, or of the text. The first is whether they stand in
+    /// a block, the second whether an `if` has just ended.
+    Statements(bool, bool),
+    /// Statements in braces.
+    Braces,
+    /// An expression.
+    Operand,
+    InfixOperator,
+    /// An expression, or a call.
+    RightSide,
+    /// An argument, or the end of the call; so many arguments are left.
+    FirstArgument(u32),
+    NextArgument(u32),
+    /// A comma, or the end of the call.
+    AfterArgument(u32),
+    EndOfAssignment,
+    Constant,
+    Awaits(Symbol),
+}
+
+/// Why a token is refused.
+#[derive(Clone, Copy)]
+pub enum Refusal {
+    Of(LangKind),
+    NoMemory,
+}
+
+/// The goals, the next one last.
+#[derive(Drop)]
+pub struct Goals {
+    stack: Vec<Goal>,
+}
+
+impl Model for Goals {
+    ghost use Rattle.std.specs.Prelude.{List, reverse};
+    ghost use Rattle.graft_syntax.specs.declared.grammar.Goal.{Goal};
+
+    ghost Value = { List Goal };
+
+    ghost view = { λ g. reverse g.stack.items };
+}
+
+fn refused() -> Result<(), Refusal>
+    ensures { result ≡ Err (Refusal.Of LangKind.NoProgram) }
+{
+    Err(Refusal::Of(LangKind::NoProgram))
+}
+
+/// Whether a goal is the end of a level.
+fn is_level(goal: Goal) -> bool
+    ensures { result ≡ is_level goal }
+{
+    match goal {
+        Goal::Statements(in_block, _) => in_block,
+        Goal::Awaits(s) => same_symbol(s, Symbol::CloseParenthesis),
+        _ => false,
+    }
+}
+
+fn levels_of(goals: &[Goal]) -> usize
+    ensures { result ≡ count_by is_level (reverse goals.now) }
+{
+    goals.iter().rev().filter(|goal| is_level(**goal)).count()
+}
+
+impl Goals {
+    /// No goals.
+    pub fn new(alloc: Global) -> Goals
+        ensures { result ≡ [] }
+    {
+        Goals {
+            stack: Vec::new(alloc),
+        }
+    }
+
+    /// Puts goals before the others, the last one given first.
+    pub fn push(&mut self, goals: &[Goal]) -> Result<(), Refusal>
+        ensures ok { OnOk result (self.new ≡ reverse goals.now ++ self.old) }
+        ensures err { IfErr result (λ e. e ≡ Refusal.NoMemory) }
+    {
+        match self.stack.extend_from_slice(goals) {
+            Ok(()) => Ok(()),
+            Err(_) => Err(Refusal::NoMemory),
+        }
+    }
+
+    /// Takes the next goal.
+    pub fn pop(&mut self) -> Option<Goal>
+        ensures { MatchOption result ((self.old ≡ []) × (self.new ≡ [])) (λ goal. self.old ≡ goal ∷ self.new) }
+    {
+        self.stack.pop()
+    }
+
+    /// How many levels are open.
+    pub fn levels(&self) -> usize
+        ensures { result ≡ count_by is_level self.now }
+    {
+        levels_of(self.stack.as_slice())
+    }
+
+    /// Whether a program may end here.
+    pub fn is_met(&self) -> bool
+        ensures { result ≡ spec.is_met self.now }
+    {
+        match self.stack.last() {
+            None => true,
+            Some(Goal::Statements(in_block, _)) => !*in_block,
+            Some(_) => false,
+        }
+    }
+
+    fn follow_mark(&mut self, in_block: bool, after_if: bool, s: Symbol) -> Result<(), Refusal>
+        ensures ok { OnOk result (spec.follow_mark in_block after_if self.old s ≡ Ok self.new) }
+        ensures err { IfErr result (λ e. Stops e (spec.follow_mark in_block after_if self.old s)) }
+    {
+        let next = Goal::Statements(in_block, false);
+        let end = Goal::Awaits(Symbol::Semicolon);
+        match s {
+            Symbol::If => self.push(&[
+                Goal::Statements(in_block, true),
+                Goal::Braces,
+                Goal::Operand,
+            ]),
+            Symbol::Else if after_if => self.push(&[next, Goal::Braces]),
+            Symbol::While => self.push(&[next, Goal::Braces, Goal::Operand]),
+            Symbol::Trap => self.push(&[next, end, Goal::Constant]),
+            Symbol::Answer => {
+                let comma = Goal::Awaits(Symbol::Comma);
+                self.push(&[next, end, Goal::Operand, comma, Goal::Operand])
+            }
+            Symbol::CloseBrace if in_block => Ok(()),
+            _ => refused(),
+        }
+    }
+
+    fn follow_statement(
+        &mut self,
+        in_block: bool,
+        after_if: bool,
+        token: Token,
+    ) -> Result<(), Refusal>
+        ensures ok { OnOk result (spec.follow_statement in_block after_if self.old (token_view token.entry) ≡ Ok self.new) }
+        ensures err { IfErr result (λ e. Stops e (spec.follow_statement in_block after_if self.old (token_view token.entry))) }
+    {
+        match token {
+            Token::Variable(_) => self.push(&[
+                Goal::Statements(in_block, false),
+                Goal::EndOfAssignment,
+                Goal::RightSide,
+                Goal::Awaits(Symbol::Assign),
+            ]),
+            Token::Mark(s) => self.follow_mark(in_block, after_if, s),
+            _ => refused(),
+        }
+    }
+
+    fn follow_operand(&mut self, token: Token) -> Result<(), Refusal>
+        ensures ok { OnOk result (spec.follow_operand self.old (token_view token.entry) ≡ Ok self.new) }
+        ensures err { IfErr result (λ e. Stops e (spec.follow_operand self.old (token_view token.entry))) }
+    {
+        match token {
+            Token::Number(_) | Token::Variable(_) => Ok(()),
+            Token::Mark(Symbol::OpenParenthesis) => self.push(&[
+                Goal::Awaits(Symbol::CloseParenthesis),
+                Goal::Operand,
+                Goal::InfixOperator,
+                Goal::Operand,
+            ]),
+            _ => refused(),
+        }
+    }
+
+    fn follow_right_side(&mut self, token: Token) -> Result<(), Refusal>
+        ensures ok { OnOk result (spec.follow_right_side self.old (token_view token.entry) ≡ Ok self.new) }
+        ensures err { IfErr result (λ e. Stops e (spec.follow_right_side self.old (token_view token.entry))) }
+    {
+        match token {
+            Token::Callable(id) => self.push(&[
+                Goal::FirstArgument(arguments_of(id)),
+                Goal::Awaits(Symbol::OpenParenthesis),
+            ]),
+            _ => self.follow_operand(token),
+        }
+    }
+
+    /// An argument, behind which one argument less is left.
+    fn follow_next(&mut self, left: u32, token: Token) -> Result<(), Refusal>
+        ensures ok { OnOk result (spec.follow_goal (Goal.NextArgument left) self.old (token_view token.entry) ≡ Ok self.new) }
+        ensures err { IfErr result (λ e. Stops e (spec.follow_goal (Goal.NextArgument left) self.old (token_view token.entry))) }
+    {
+        self.push(&[Goal::AfterArgument(left.saturating_sub(1))])?;
+        self.follow_operand(token)
+    }
+
+    fn follow_first(&mut self, left: u32, token: Token) -> Result<(), Refusal>
+        ensures ok { OnOk result (spec.follow_first left self.old (token_view token.entry) ≡ Ok self.new) }
+        ensures err { IfErr result (λ e. Stops e (spec.follow_first left self.old (token_view token.entry))) }
+    {
+        match token {
+            Token::Mark(Symbol::CloseParenthesis) => Ok(()),
+            _ => self.follow_next(left, token),
+        }
+    }
+
+    fn follow_argument(&mut self, left: u32, token: Token) -> Result<(), Refusal>
+        ensures ok { OnOk result (spec.follow_argument left self.old (token_view token.entry) ≡ Ok self.new) }
+        ensures err { IfErr result (λ e. Stops e (spec.follow_argument left self.old (token_view token.entry))) }
+    {
+        match token {
+            Token::Mark(Symbol::Comma) => self.push(&[Goal::NextArgument(left)]),
+            Token::Mark(Symbol::CloseParenthesis) => Ok(()),
+            _ => refused(),
+        }
+    }
+
+    /// This symbol and no other.
+    fn follow_awaited(&mut self, awaited: Symbol, token: Token) -> Result<(), Refusal>
+        ensures ok { OnOk result (spec.follow_awaited awaited self.old (token_view token.entry) ≡ Ok self.new) }
+        ensures err { IfErr result (λ e. Stops e (spec.follow_awaited awaited self.old (token_view token.entry))) }
+    {
+        match token {
+            Token::Mark(s) if same_symbol(awaited, s) => Ok(()),
+            _ => refused(),
+        }
+    }
+
+    fn follow_braces(&mut self, token: Token) -> Result<(), Refusal>
+        ensures ok { OnOk result (spec.follow_goal Goal.Braces self.old (token_view token.entry) ≡ Ok self.new) }
+        ensures err { IfErr result (λ e. Stops e (spec.follow_goal Goal.Braces self.old (token_view token.entry))) }
+    {
+        match token {
+            Token::Mark(Symbol::OpenBrace) => self.push(&[Goal::Statements(true, false)]),
+            _ => refused(),
+        }
+    }
+
+    fn follow_constant(&mut self, token: Token) -> Result<(), Refusal>
+        ensures ok { OnOk result (spec.follow_constant self.old (token_view token.entry) ≡ Ok self.new) }
+        ensures err { IfErr result (λ e. Stops e (spec.follow_constant self.old (token_view token.entry))) }
+    {
+        match token {
+            Token::Number(_) => Ok(()),
+            _ => refused(),
+        }
+    }
+
+    fn follow_infix(&mut self, token: Token) -> Result<(), Refusal>
+        ensures ok { OnOk result (spec.follow_infix self.old (token_view token.entry) ≡ Ok self.new) }
+        ensures err { IfErr result (λ e. Stops e (spec.follow_infix self.old (token_view token.entry))) }
+    {
+        match token {
+            Token::Infix(_) => Ok(()),
+            _ => refused(),
+        }
+    }
+
+    /// Meets a goal, which was taken, by what begins with a token.
+    pub fn follow(&mut self, goal: Goal, token: Token) -> Result<(), Refusal>
+        ensures ok { OnOk result (spec.follow_goal goal self.old (token_view token.entry) ≡ Ok self.new) }
+        ensures err { IfErr result (λ e. Stops e (spec.follow_goal goal self.old (token_view token.entry))) }
+    {
+        match goal {
+            Goal::Statements(in_block, after_if) => {
+                self.follow_statement(in_block, after_if, token)
+            }
+            Goal::Braces => self.follow_braces(token),
+            Goal::Operand => self.follow_operand(token),
+            Goal::InfixOperator => self.follow_infix(token),
+            Goal::RightSide => self.follow_right_side(token),
+            Goal::FirstArgument(left) => self.follow_first(left, token),
+            Goal::NextArgument(left) => self.follow_next(left, token),
+            Goal::AfterArgument(left) => self.follow_argument(left, token),
+            Goal::EndOfAssignment => self.follow_awaited(Symbol::Semicolon, token),
+            Goal::Constant => self.follow_constant(token),
+            Goal::Awaits(s) => self.follow_awaited(s, token),
+        }
+    }
+}

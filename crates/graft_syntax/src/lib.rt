@@ -1,0 +1,93 @@
+//! The graft language: from a text to the tokens of a program (docs/LANGUAGE.md).
+#![tactic(auto)]
+
+ghost use Rattle.std.specs.Prelude.{◌≡◌, ◌≤◌, length, map, Ok, IfOk, IfErr};
+ghost use Rattle.graft_syntax.specs.Faults.{Refuses};
+ghost use Rattle.graft_syntax.specs.Views.{token_view};
+ghost use Rattle.graft_syntax.specs.Reading as spec;
+
+mod grammar;
+pub mod laws;
+mod parts;
+mod reader;
+mod tokens;
+
+use crate::reader::read_text;
+pub use crate::tokens::arguments_of;
+pub use kernel_model::NoMemory;
+use std::alloc::Global;
+use thiserror::Error;
+
+/// An operator between two values.
+#[derive(Clone, Copy, PartialEq, Eq, Debug)]
+pub enum Operator {
+    Plus,
+    Minus,
+    Times,
+    Over,
+    Rest,
+    And,
+    Or,
+    Xor,
+    ShiftLeft,
+    ShiftRight,
+    Less,
+    Equal,
+}
+
+/// A word that stands for itself: a keyword or a sign.
+#[derive(Clone, Copy, PartialEq, Eq, Debug)]
+pub enum Symbol {
+    If,
+    Else,
+    While,
+    Trap,
+    Answer,
+    Assign,
+    Semicolon,
+    OpenBrace,
+    CloseBrace,
+    OpenParenthesis,
+    CloseParenthesis,
+    Comma,
+}
+
+/// A token. A callable is named by its id.
+#[derive(Clone, Copy)]
+pub enum Token<'a> {
+    Number(u32),
+    Variable(&'a [u8]),
+    Callable(u32),
+    Infix(Operator),
+    Mark(Symbol),
+}
+
+/// Why a text is refused, in the order of the codes G1 to G6 (docs/LANGUAGE.md).
+#[derive(Clone, Copy, PartialEq, Eq, Debug)]
+pub enum LangKind {
+    NoToken,
+    NoProgram,
+    UnknownVariable,
+    WrongArguments,
+    TooDeep,
+    TooManyTokens,
+}
+
+/// Why a text is refused: the number of the line from 1 and what is wrong with it, or no memory.
+#[derive(Clone, Copy, PartialEq, Eq, Debug, Error)]
+pub enum LangFault {
+    #[error("line {0}: {1:?}")]
+    At(u32, LangKind),
+    #[error("out of memory")]
+    NoMemory,
+}
+
+/// The tokens of the program that a text of at most 16 MiB writes, or the line that is refused and
+/// why.
+pub fn read(alloc: Global, text: &[u8]) -> Result<Vec<Token<'_>>, LangFault>
+    requires { length text.now ≤ 16_777_216 }
+    ensures ok { IfOk result (λ tokens. spec.read text.now ≡ Ok (map token_view tokens.items)) }
+    ensures err { IfErr result (λ fault. Refuses fault (spec.read text.now)) }
+{
+    read_text(alloc, text)
+}
