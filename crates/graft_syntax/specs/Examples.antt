@@ -4,9 +4,9 @@ use Rattle.graft_syntax.specs.declared.LangKind.TheVariants.{NoToken, NoProgram,
 use Rattle.graft_syntax.specs.declared.Operator.TheVariants.{Plus}
 use Rattle.graft_syntax.specs.declared.Symbol.TheVariants.{Assign, Semicolon, OpenParenthesis, CloseParenthesis}
 use Rattle.graft_syntax.specs.Tokens.{Number, Variable, Infix, Mark}
-use Rattle.graft_syntax.specs.Reading.{read}
+use Rattle.graft_syntax.specs.Reading.{read, arguments}
 
-nothing : read (codes "") ≡ Ok []
+nothing : read (codes "") ≡ Ok (record { tokens = []; names = arguments })
 nothing = refl
 
 unknown : read (codes "x = y ;") ≡ Err (record { line = 1; kind = UnknownVariable })
@@ -36,7 +36,11 @@ no_token = refl
 glued : read (codes "x=1;") ≡ Err (record { line = 1; kind = NoToken })
 glued = refl
 
-sum : read (codes "a0 = ( a1 + 2 ) ;")
-    ≡ Ok (Variable (codes "a0") ∷ Mark Assign ∷ Mark OpenParenthesis ∷ Variable (codes "a1") ∷ Infix Plus ∷ Number 2
-    ∷ Mark CloseParenthesis ∷ Mark Semicolon ∷ [])
+sum : read (codes "b = ( a1 + 2 ) ;")
+    ≡ Ok (record {
+      tokens =
+          Variable (codes "b") ∷ Mark Assign ∷ Mark OpenParenthesis ∷ Variable (codes "a1") ∷ Infix Plus ∷ Number 2
+          ∷ Mark CloseParenthesis ∷ Mark Semicolon ∷ [];
+      names = codes "a0" ∷ codes "a1" ∷ codes "a2" ∷ codes "a3" ∷ codes "b" ∷ [];
+    })
 sum = refl

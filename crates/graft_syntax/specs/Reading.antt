@@ -1,5 +1,5 @@
 -- Reading a text of the graft language: the first refusal, or the tokens of the program.
-use Rattle.std.specs.Prelude.{ℕ, ◌==◌, Bool, true, false, cond, nat_lt, nat_le, List, [], ◌∷◌, ◌++◌, length, codes, count_by, Option, None, Some, Result, Ok, Err}
+use Rattle.std.specs.Prelude.{ℕ, ◌==◌, Bool, true, false, cond, nat_lt, nat_le, List, [], ◌∷◌, ◌++◌, length, codes, count_by, position, Option, None, Some, Result, Ok, Err}
 use Rattle.std.specs.List.{list_any}
 use Rattle.kernel_model.specs.World.{same_bytes}
 use Rattle.graft_syntax.specs.declared.LangKind.{LangKind}
@@ -146,19 +146,38 @@ abbrev pub read_words : Reading → List Word → Result Reading LineFault
 read_words r [] = Ok r
 read_words r (w ∷ ws) = elim (read_word r w.bytes) [ Err kind ↦ Err (record { line = w.line; kind = kind }) | Ok s ↦ read_words s ws ]
 
--- tokens are refused here
-abbrev pub refused : ℕ → LangKind → Result (List Token) LineFault
+-- what is read of a text: the tokens of its program, and the variables that are known at its end
+pub record Syntax : Type 0 where
+  pub tokens : List Token
+  pub names : List (List ℕ)
+
+-- the text is refused here
+abbrev pub refused : ℕ → LangKind → Result Syntax LineFault
 refused line kind = Err (record { line = line; kind = kind })
 
--- at the end of the text the program must be whole, and have at most 120 tokens
-abbrev pub read_end : (line : ℕ) → Reading → Result (List Token) LineFault
-read_end line r =
-    cond (is_met r.goals) (cond (nat_lt 120 (length r.tokens)) (refused line TooManyTokens) (Ok r.tokens)) (refused line NoProgram)
+-- tokens are too many, or are those of a program
+abbrev pub read_whole : (line : ℕ) → Reading → Result Syntax LineFault
+read_whole line r = cond (nat_lt 120 (length r.tokens)) (refused line TooManyTokens) (Ok (record { tokens = r.tokens; names = r.names }))
 
-abbrev pub ended : (line : ℕ) → Result Reading LineFault → Result (List Token) LineFault
+-- at the end of the text the program must be whole, and have at most 120 tokens
+abbrev pub read_end : (line : ℕ) → Reading → Result Syntax LineFault
+read_end line r = cond (is_met r.goals) (read_whole line r) (refused line NoProgram)
+
+abbrev pub ended : (line : ℕ) → Result Reading LineFault → Result Syntax LineFault
 ended line (Err fault) = Err fault
 ended line (Ok r) = read_end line r
 
--- the tokens of the program that a text writes, or the line that is refused and why
-abbrev pub read : List ℕ → Result (List Token) LineFault
+-- what is read of a text, or the line that is refused and why
+abbrev pub read : List ℕ → Result Syntax LineFault
 read text = ended (last_line text) (read_words first_reading (words text))
+
+-- ---- the numbers of variables
+
+-- a place that was found; a text with a name that isn't found is refused
+abbrev pub or_first : Option ℕ → ℕ
+or_first None = 0
+or_first (Some i) = i
+
+-- the number of a variable: its place among those that are known at the end of the text
+abbrev pub number_of : (names : List (List ℕ)) → List ℕ → ℕ
+number_of names name = or_first (position (same_bytes name) names)

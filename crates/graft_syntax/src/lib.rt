@@ -1,9 +1,8 @@
 //! The graft language: from a text to the tokens of a program (docs/LANGUAGE.md).
 #![tactic(auto)]
 
-ghost use Rattle.std.specs.Prelude.{◌≡◌, ◌≤◌, length, map, Ok, IfOk, IfErr};
+ghost use Rattle.std.specs.Prelude.{◌≡◌, ◌≤◌, length, Ok, IfOk, IfErr};
 ghost use Rattle.graft_syntax.specs.Faults.{Refuses};
-ghost use Rattle.graft_syntax.specs.Views.{token_view};
 ghost use Rattle.graft_syntax.specs.Reading as spec;
 
 mod grammar;
@@ -12,6 +11,7 @@ mod parts;
 mod reader;
 mod tokens;
 
+pub use crate::reader::Syntax;
 use crate::reader::read_text;
 pub use crate::tokens::arguments_of;
 pub use kernel_model::NoMemory;
@@ -82,11 +82,11 @@ pub enum LangFault {
     NoMemory,
 }
 
-/// The tokens of the program that a text of at most 16 MiB writes, or the line that is refused and
-/// why.
-pub fn read(alloc: Global, text: &[u8]) -> Result<Vec<Token<'_>>, LangFault>
+/// What a text of at most 16 MiB says: the tokens of its program and its variables, or the line that
+/// is refused and why.
+pub fn read(alloc: Global, text: &[u8]) -> Result<Syntax<'_>, LangFault>
     requires { length text.now ≤ 16_777_216 }
-    ensures ok { IfOk result (λ tokens. spec.read text.now ≡ Ok (map token_view tokens.items)) }
+    ensures ok { IfOk result (λ s. spec.read text.now ≡ Ok s) }
     ensures err { IfErr result (λ fault. Refuses fault (spec.read text.now)) }
 {
     read_text(alloc, text)

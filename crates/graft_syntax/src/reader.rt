@@ -1,6 +1,7 @@
 //! Reading a text: word by word, as far as the first one that is refused.
 
-ghost use Rattle.std.specs.Prelude.{◌≡◌, ◌≤◌, ◌<◌, ◌+◌, ◌-◌, ◌==◌, ◌∷◌, ◌++◌, [], length, take, map, count_by, cond, nat_lt, Ok, Err, IfOk, IfErr, OnOk, Option};
+ghost use Rattle.std.specs.Prelude.{◌≡◌, ◌≤◌, ◌<◌, ◌+◌, ◌-◌, ◌==◌, ◌∷◌, ◌++◌, [], length, take, map, count_by, cond, nat_lt, Ok, Err, IfOk, IfErr, OnOk, Option, position};
+ghost use Rattle.kernel_model.specs.World.{same_bytes};
 ghost use Rattle.graft_syntax.specs.Faults.{Refuses, Stops};
 ghost use Rattle.graft_syntax.specs.Views.{token_view, names_of};
 ghost use Rattle.graft_syntax.specs.Grammar.{follow_goal};
@@ -43,6 +44,46 @@ impl<'a> Model for Reader<'a> {
     } };
 }
 
+/// What is read of a text: the tokens of its program, and the variables that are known at its end.
+#[derive(Drop)]
+pub struct Syntax<'a> {
+    tokens: Vec<Token<'a>>,
+    names: Names<'a>,
+}
+
+impl<'a> Model for Syntax<'a> {
+    ghost use Rattle.std.specs.Prelude.{map};
+    ghost use Rattle.graft_syntax.specs.Reading as spec;
+    ghost use Rattle.graft_syntax.specs.Views.{token_view, names_of};
+
+    ghost Value = { spec.Syntax };
+
+    ghost view = { λ s. record { tokens = map token_view s.tokens.items; names = names_of s.names.entries } };
+}
+
+impl<'a> Syntax<'a> {
+    /// The tokens.
+    pub fn tokens(&self) -> &[Token<'a>]
+        ensures { map token_view result.now ≡ self.now.tokens }
+    {
+        self.tokens.as_slice()
+    }
+
+    /// How many variables are known, the four arguments among them.
+    pub fn variables(&self) -> usize
+        ensures { result ≡ length self.now.names }
+    {
+        self.names.len()
+    }
+
+    /// The number of a variable: its place in the order of the first assignments, the arguments first.
+    pub fn number_of(&self, name: &[u8]) -> usize
+        ensures { result ≡ spec.number_of self.now.names name.now }
+    {
+        place_of(&self.names, name).unwrap_or(0)
+    }
+}
+
 /// The most tokens of a program.
 const MAX_TOKENS: usize = 120;
 
@@ -53,6 +94,13 @@ fn is_known(names: &Names, name: &[u8]) -> bool
     ensures { result ≡ spec.is_known name.now (names_of names.now.entries) }
 {
     names.contains_key(name)
+}
+
+/// The place of a variable that is known.
+fn place_of(names: &Names, name: &[u8]) -> Option<usize>
+    ensures { result ≡ position (same_bytes name.now) (names_of names.now.entries) }
+{
+    names.get_index_of(name)
 }
 
 fn learn<'a>(names: &mut Names<'a>, name: &'a [u8]) -> Result<(), Refusal>
@@ -281,19 +329,24 @@ impl<'a> Reader<'a> {
         Ok(())
     }
 
-    /// The tokens, at the end of the text.
-    fn end(self, line: u32) -> Result<Vec<Token<'a>>, LangFault>
-        ensures ok { IfOk result (λ tokens. spec.read_end line self.entry ≡ Ok (map token_view tokens.items)) }
+    /// What was read, at the end of the text.
+    fn end(self, line: u32) -> Result<Syntax<'a>, LangFault>
+        ensures ok { IfOk result (λ s. spec.read_end line self.entry ≡ Ok s) }
         ensures err { IfErr result (λ e. Refuses e (spec.read_end line self.entry)) }
     {
-        let Reader { goals, tokens, .. } = self;
+        let Reader {
+            goals,
+            names,
+            tokens,
+            ..
+        } = self;
         if !goals.is_met() {
             return Err(LangFault::At(line, LangKind::NoProgram));
         }
         if tokens.len() > MAX_TOKENS {
             return Err(LangFault::At(line, LangKind::TooManyTokens));
         }
-        Ok(tokens)
+        Ok(Syntax { tokens, names })
     }
 }
 
@@ -332,10 +385,10 @@ fn read_lines(alloc: Global, text: &[u8]) -> Result<Reader<'_>, LangFault>
     Ok(reader)
 }
 
-/// The tokens of the program that a text writes, or the line that is refused and why.
-pub fn read_text(alloc: Global, text: &[u8]) -> Result<Vec<Token<'_>>, LangFault>
+/// What a text says, or the line that is refused and why.
+pub fn read_text(alloc: Global, text: &[u8]) -> Result<Syntax<'_>, LangFault>
     requires { length text.now ≤ 16_777_216 }
-    ensures ok { IfOk result (λ tokens. spec.read text.now ≡ Ok (map token_view tokens.items)) }
+    ensures ok { IfOk result (λ s. spec.read text.now ≡ Ok s) }
     ensures err { IfErr result (λ e. Refuses e (spec.read text.now)) }
 {
     match read_lines(alloc, text) {

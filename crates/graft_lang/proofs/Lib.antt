@@ -1,0 +1,5 @@
+pub mod Running
+pub mod Slots
+pub mod CallCode
+pub mod Statements
+pub mod Whole

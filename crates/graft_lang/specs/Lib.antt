@@ -1,0 +1,5 @@
+pub mod Meaning
+pub mod Code
+pub mod Placing
+pub mod Going
+pub mod Behaves
