@@ -3,3 +3,6 @@ pub mod Slots
 pub mod CallCode
 pub mod Statements
 pub mod Whole
+pub mod Sizes
+pub mod Boxing
+pub mod Accepted

@@ -75,7 +75,8 @@ statements_code top place (Loops e body p) =
     test ++ (instr Jz 4 0 0 behind ∷ (inner ++ (instr Jmp 0 0 0 place ∷ statements_code top behind p)))
 statements_code top place (Traps code p) = instr Trap 0 0 0 code ∷ statements_code top (place + 1) p
 statements_code top place (Answers e f p) =
-    let first = expression_code top e ++ (puts 4 top ++ (expression_code (suc top) f ++ (instr Mov 1 4 0 0 ∷ (fetches 0 top ++ (instr Ret 0 0 0 0 ∷ []))))) in
+    let first = expression_code top e ++ (puts 4 top ++ (expression_code (suc top) f
+    ++ (instr Mov 1 4 0 0 ∷ (fetches 0 top ++ (instr Ret 0 0 0 0 ∷ []))))) in
     first ++ statements_code top (place + length first) p
 
 -- zeros for this many variables from this one on, r4 being 0

@@ -13,7 +13,8 @@ run code n r = run_by masked_place code n r
 
 -- a state that hasn't ended
 abbrev pub going : (cells : ℕ → ℕ) → List MadeCall → (answers : List (ℕ × ℕ)) → (turns : ℕ) → State
-going cells calls answers turns = record { cells = cells; calls = calls; answers = answers; turns = turns; ended = None }
+going cells calls answers turns =
+    record { cells = cells; calls = calls; answers = answers; turns = turns; ended = None }
 
 -- answers that are words
 abbrev pub AreWords : List (ℕ × ℕ) → Type 0
@@ -31,11 +32,12 @@ HasEnd (Answered x y) r = (r.ended ≡ Some AtReturn) × (r.machine.regs 0 ≡ x
 HasEnd (Trapped code) r = r.ended ≡ Some (AtTrap code)
 HasEnd DividedByZero r = r.ended ≡ Some AtDivision
 HasEnd (Asks call) r =
-    (r.ended ≡ Some (Unanswered call.id)) × (r.machine.regs 0 ≡ call.r0) × (r.machine.regs 1 ≡ call.r1) × (r.machine.regs 2 ≡ call.r2)
+    (r.ended ≡ Some (Unanswered call.id)) × (r.machine.regs 0 ≡ call.r0) × (r.machine.regs 1 ≡ call.r1)
+    × (r.machine.regs 2 ≡ call.r2)
 HasEnd Going r = r.ended ≡ None
 
--- The code of so many instructions is run to its end, with so many turns of loops, while s becomes t; no turn takes more
--- than `most` instructions.
+-- The code of so many instructions is run to its end, with so many turns of loops, while s becomes t; no
+-- turn takes more than `most` instructions.
 pub record GoesOn (code : List Instr) (most top c len : ℕ) (r : CodeRun) (s t : State) : Type 0 where
   pub steps : ℕ
   pub used : ℕ
@@ -90,7 +92,8 @@ FitsProgram v (Answers e f p) = (v < 1023) × Fits v v e × Fits v (suc v) f × 
 -- the code of statements does what the statements do
 abbrev pub StatementsRun : Type 0
 StatementsRun =
-    (p : Program) (code : List Instr) (most v c : ℕ) (cells : ℕ → ℕ) (calls : List MadeCall) (answers : List (ℕ × ℕ)) (turns : ℕ) (r : CodeRun)
+    (p : Program) (code : List Instr) (most v c : ℕ) (cells : ℕ → ℕ)
+    (calls : List MadeCall) (answers : List (ℕ × ℕ)) (turns : ℕ) (r : CodeRun)
     → IsSmall (going cells calls answers turns) → FitsProgram v p → Stands code c (statements_code v c p)
     → length (statements_code v c p) ≤ most → IsAt cells v c calls answers r
     → Goes code most v c (length (statements_code v c p)) r (going cells calls answers turns) (does p (going cells calls answers turns))

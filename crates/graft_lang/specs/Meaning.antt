@@ -28,19 +28,23 @@ pub data Program : Type 0 where
 abbrev pub numbered_expression : (names : List (List ℕ)) → spelled.Expression → Expression
 numbered_expression names (spelled.Literal n) = Number n
 numbered_expression names (spelled.Named name) = Variable (number_of names name)
-numbered_expression names (spelled.Binary a op b) = Binary (numbered_expression names a) op (numbered_expression names b)
+numbered_expression names (spelled.Binary a op b) =
+    Binary (numbered_expression names a) op (numbered_expression names b)
 
 abbrev pub numbered : (names : List (List ℕ)) → spelled.Program → Program
 numbered names spelled.Done = Done
-numbered names (spelled.Assigns name e p) = Assigns (number_of names name) (numbered_expression names e) (numbered names p)
+numbered names (spelled.Assigns name e p) =
+    Assigns (number_of names name) (numbered_expression names e) (numbered names p)
 numbered names (spelled.Calls name id es p) =
     Calls (number_of names name) id (map (numbered_expression names) es) (numbered names p)
 numbered names (spelled.When e body p) = When (numbered_expression names e) (numbered names body) (numbered names p)
 numbered names (spelled.Either e body other p) =
     Either (numbered_expression names e) (numbered names body) (numbered names other) (numbered names p)
-numbered names (spelled.Loops e body p) = Loops (numbered_expression names e) (numbered names body) (numbered names p)
+numbered names (spelled.Loops e body p) =
+    Loops (numbered_expression names e) (numbered names body) (numbered names p)
 numbered names (spelled.Traps code p) = Traps code (numbered names p)
-numbered names (spelled.Answers e f p) = Answers (numbered_expression names e) (numbered_expression names f) (numbered names p)
+numbered names (spelled.Answers e f p) =
+    Answers (numbered_expression names e) (numbered_expression names f) (numbered names p)
 
 -- ---- values
 
@@ -148,7 +152,8 @@ takes_turn turn s (suc n) = turn (record s { turns = n })
 
 -- a loop of at most so many turns; a state that has ended stays as it is
 abbrev pub loops : (condition : (ℕ → ℕ) → Option ℕ) → (body : State → State) → (most : ℕ) → State → State
-loops condition body zero s = elim s.ended [ Some end ↦ s | None ↦ chooses (λ t. ends t Going) (λ t. t) s (condition s.cells) ]
+loops condition body zero s =
+    elim s.ended [ Some end ↦ s | None ↦ chooses (λ t. ends t Going) (λ t. t) s (condition s.cells) ]
 loops condition body (suc n) s =
     elim s.ended [
       | Some end ↦ s
@@ -160,10 +165,12 @@ abbrev pub does : Program → State → State
 does Done s = s
 does (Assigns i e p) s = elim s.ended [ Some end ↦ s | None ↦ does p (assigns i s (value s.cells e)) ]
 does (Calls i id es p) s = elim s.ended [ Some end ↦ s | None ↦ does p (calls i id s (values s.cells es)) ]
-does (When e body p) s = elim s.ended [ Some end ↦ s | None ↦ does p (chooses (does body) (λ t. t) s (value s.cells e)) ]
+does (When e body p) s =
+    elim s.ended [ Some end ↦ s | None ↦ does p (chooses (does body) (λ t. t) s (value s.cells e)) ]
 does (Either e body other p) s =
     elim s.ended [ Some end ↦ s | None ↦ does p (chooses (does body) (does other) s (value s.cells e)) ]
-does (Loops e body p) s = elim s.ended [ Some end ↦ s | None ↦ does p (loops (λ cells. value cells e) (does body) s.turns s) ]
+does (Loops e body p) s =
+    elim s.ended [ Some end ↦ s | None ↦ does p (loops (λ cells. value cells e) (does body) s.turns s) ]
 does (Traps code p) s = elim s.ended [ Some end ↦ s | None ↦ ends s (Trapped code) ]
 does (Answers e f p) s = elim s.ended [ Some end ↦ s | None ↦ answers s (value s.cells e) (value s.cells f) ]
 

@@ -10,7 +10,8 @@ use Rattle.graft_lang.specs.Code.{expression_code}
 abbrev pub Fits : (variables top : ℕ) → Expression → Type 0
 Fits variables top (Number n) = n < 2 ^ 32
 Fits variables top (Variable i) = (i < variables) × (variables ≤ top) × (i < 1024)
-Fits variables top (Binary a op b) = (top < 1024) × (variables ≤ top) × Fits variables top a × Fits variables (suc top) b
+Fits variables top (Binary a op b) =
+    (top < 1024) × (variables ≤ top) × Fits variables top a × Fits variables (suc top) b
 
 -- these instructions stand at this place
 abbrev pub Stands : List Instr → ℕ → List Instr → Type 0
@@ -22,23 +23,29 @@ abbrev pub slot_of : (ℕ → ℕ) → ℕ → ℕ
 slot_of memory i = load Word memory (4 * i)
 
 -- a run stands at a place, with these words in the slots below `top`, these calls made and these answers left
-pub record IsAt (cells : ℕ → ℕ) (top c : ℕ) (calls : List MadeCall) (answers : List (ℕ × ℕ)) (r : CodeRun) : Type 0 where
+pub record IsAt (cells : ℕ → ℕ) (top c : ℕ) (calls : List MadeCall) (answers : List (ℕ × ℕ))
+    (r : CodeRun) : Type 0 where
   pub place : r.machine.pc ≡ c
   pub going : r.ended ≡ None
   pub slots : (i : ℕ) → i < top → slot_of r.machine.memory i ≡ cells i
   pub calls_are : r.calls ≡ calls
   pub answers_are : r.answers ≡ answers
 
--- where the value of an expression is this, its code comes to its end with it in r4; or it divides by zero on the way
-abbrev pub ComesTo : (cells : ℕ → ℕ) (top c len : ℕ) → List MadeCall → List (ℕ × ℕ) → List Instr → CodeRun → Option ℕ → Type 0
+-- where the value of an expression is this, its code comes to its end with it in r4; or it divides by zero on
+-- the way
+abbrev pub ComesTo : (cells : ℕ → ℕ) (top c len : ℕ) → List MadeCall → List (ℕ × ℕ) → List Instr
+    → CodeRun → Option ℕ → Type 0
 ComesTo cells top c len calls answers code r (Some x) =
     let u = run_by masked_place code len r in IsAt cells top (c + len) calls answers u × (u.machine.regs 4 ≡ x)
 ComesTo cells top c len calls answers code r None =
-    (n : ℕ) × (n ≤ len) × ((run_by masked_place code n r).ended ≡ Some AtDivision) × ((run_by masked_place code n r).calls ≡ calls)
+    (n : ℕ) × (n ≤ len) × ((run_by masked_place code n r).ended ≡ Some AtDivision)
+    × ((run_by masked_place code n r).calls ≡ calls)
 
 -- the code of an expression comes to its value
 abbrev pub ExpressionsRun : Type 0
 ExpressionsRun =
-    (e : Expression) (code : List Instr) (cells : ℕ → ℕ) (variables top c : ℕ) (calls : List MadeCall) (answers : List (ℕ × ℕ)) (r : CodeRun) →
-    ((i : ℕ) → cells i < 2 ^ 32) → Fits variables top e → Stands code c (expression_code top e) → IsAt cells top c calls answers r →
+    (e : Expression) (code : List Instr) (cells : ℕ → ℕ)
+    (variables top c : ℕ) (calls : List MadeCall) (answers : List (ℕ × ℕ)) (r : CodeRun) →
+    ((i : ℕ) → cells i < 2 ^ 32) → Fits variables top e → Stands code c (expression_code top e)
+    → IsAt cells top c calls answers r →
     ComesTo cells top c (length (expression_code top e)) calls answers code r (value cells e)

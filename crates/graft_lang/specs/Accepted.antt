@@ -1,0 +1,15 @@
+-- What is known of texts that are accepted.
+use Rattle.std.specs.Prelude.{◌≡◌, ℕ, List, length, Ok}
+use Rattle.kernel_model.specs.Boxed.{boxed_code, rewrite}
+use Rattle.graft_syntax.specs.Grammar as grammar
+use Rattle.graft_syntax.specs.Reading.{Syntax, read}
+use Rattle.graft_lang.specs.Meaning.{numbered}
+use Rattle.graft_lang.specs.Code.{program_code}
+use Rattle.graft_lang.specs.Behaves.{Behaves}
+
+-- The code of the program that an accepted text spells does what the program says, and the rewriter takes it.
+abbrev pub AcceptedProgramsRun : Type 0
+AcceptedProgramsRun =
+    (text : List ℕ) (s : Syntax) (p : grammar.Program) → read text ≡ Ok s → grammar.spelled p ≡ s.tokens
+    → let code = program_code (length s.names) (numbered s.names p) in
+    Behaves (numbered s.names p) code × (rewrite code ≡ Ok (boxed_code code))
