@@ -73,7 +73,7 @@ module _ (P : Object → Type 0) (q : ℕ) (payer : P (Acct q)) where
       is_it x y e = cc
   effect_alike (Charged pt k) c f d levels same held h =
       let s = charged_split q pt k c d h in
-      let graft = same (Graft q pt) (held (Graft q pt) (found_held pt c s.0)) in
+      let graft = (same (Graft q pt) (held (Graft q pt) (found_held pt c s.0))).0 in
       let acct = same (Acct q) payer in
       let enough = subst (λ n. 1 ≤ n) (funds_same c.now.accounts f.now.accounts q pt k graft acct) s.1 in
       subst (LeadsAlike P (effect q (Charged pt k) f)) s.2
@@ -92,7 +92,7 @@ module _ (P : Object → Type 0) (q : ℕ) (payer : P (Acct q)) where
       some_funds n e = grind (arith, nat_tests)
   effect_alike (Removed pt) c f d levels same held h =
       let s = removed_split q pt c d h in
-      let graft = same (Graft q pt) (held (Graft q pt) (found_held pt c s.0)) in
+      let graft = (same (Graft q pt) (held (Graft q pt) (found_held pt c s.0))).0 in
       subst (LeadsAlike P (effect q (Removed pt) f)) s.1
       (record {
         config = with_accounts_of (removed q pt f.now.accounts) f;

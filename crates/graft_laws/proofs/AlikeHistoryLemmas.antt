@@ -225,7 +225,7 @@ begin_alike m laws owns v images s u p t a first second asks replayed same =
     let after = begin_at images u p base a in
     let is : begin m v images u p t ≡ Some after =
     ap (λ ns. begin_with images u p ns (m.asks v u p t)) (sym needs) ∙ ap (begin_with images u p base) asked in
-    let graft = same (Graft a.installer a.point) (outermost_held before.levels (Graft a.installer a.point) (replayed.sound.paid (only before.levels) (0, below_suc 0, refl)).0) in
+    let graft = (same (Graft a.installer a.point) (outermost_held before.levels (Graft a.installer a.point) (replayed.sound.paid (only before.levels) (0, below_suc 0, refl)).0)).0 in
     let levels : LevelsAlike before.levels after.levels = (begun_same images s u p a.installer a.point a.args (touch_all base untouched) graft, tt) in
     let two = beginnings_stand m laws owns v images u p t after second is (stand_other v s u before after replayed levels same) in
     (after, is, alike_from v s u before after replayed two levels same, two)

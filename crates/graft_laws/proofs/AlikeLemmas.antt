@@ -59,6 +59,7 @@ DefaultsAlike v kept x q pt (l ∷ ls) = default_of v kept q pt ≡ default_of v
 pub record IsAlike (v : World) (w u : Objects) (l : Level) (x : Things) (ls ks : List Level) : Type 0 where
   pub levels : LevelsAlike ls ks
   pub graft : w.accounts.graft l.owner l.point ≡ u.accounts.graft l.owner l.point
+  pub seg : w.things.seg l.owner l.point ≡ u.things.seg l.owner l.point
   pub acct : w.accounts.acct l.owner ≡ u.accounts.acct l.owner
   pub kept : (o : Object) → SameThing o w.things u.things → SameThing o l.kept x
   pub default : DefaultsAlike v l.kept x l.owner l.point ls
@@ -105,7 +106,7 @@ module _ (v : World) where
       IsAlike v (with_accounts (charge k l.owner l.point w.accounts) w) (with_accounts (charge k l.owner l.point u.accounts) u) l x ls ks
   charged_still k w u l x ls ks h =
       let keeps = charged_alike k w u l x ls ks h in
-      record { levels = h.levels; graft = keeps (Graft l.owner l.point) h.graft; acct = keeps (Acct l.owner) h.acct; kept = h.kept; default = h.default }
+      record { levels = h.levels; graft = (keeps (Graft l.owner l.point) (h.graft, h.seg)).0; seg = h.seg; acct = keeps (Acct l.owner) h.acct; kept = h.kept; default = h.default }
 
   -- ---- accessors
 
@@ -236,7 +237,7 @@ module _ (v : World) where
         let g = asked_graft id r0 l.owner in
         let objects = asked_objects id r0 l.owner in
         let same = asked_each (λ o. SameThing o w.things u.things) v.callable id r0 (l.machine.regs 1) l.owner early (λ o k. same_thing o w u (agree o (needed_before o objects g k))) in
-        let graft = agree g.object (needed_last objects g) in
+        let graft = (agree g.object (needed_last objects g)).0 in
         subst (λ c. AreSameOutcomes w u (granted_call v images w p l ls m id true) (after_ask v images u p (record l { kept = x }) ks m id pt c)) (refusal_same w u l x ls ks pt id h.levels same graft)
         (ask_same w u l x ls ks m id pt (ask_refusal w l.owner pt id (l ∷ ls)) h same graft)
     granted_same w u l x ls ks m id false e h early agree =
@@ -310,7 +311,7 @@ module _ (v : World) where
         (ap (λ (g : Option GraftValue). code_in (image_of images g)) h.graft)
         (effect_same (Charged l.point Steps) w u (after_machine v images p y n ls d) (after_machine v images p z k ks d)
         (since_same w u y z (after_machine v images p y n ls d) (after_machine v images p z k ks d) keeps
-        (machine_same y z n x ls ks d (record { levels = still.levels; graft = still.graft; acct = still.acct; kept = still.kept; default = still.default })
+        (machine_same y z n x ls ks d (record { levels = still.levels; graft = still.graft; seg = still.seg; acct = still.acct; kept = still.kept; default = still.default })
         (subst (λ c. AgreeOn (instruction_needs v n c) y z) (sym (step_calls code l.machine)) (λ o e. keeps o (agree o e))) (answered_still d answer))))
       where
         answered_still : (d : Done) → IsAnsweredAlike d w u l →

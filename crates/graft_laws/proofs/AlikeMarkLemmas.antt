@@ -67,7 +67,7 @@ module _ (v : World) (s u : Objects) where
       stand_alike c.now.accounts d.now.accounts c.levels d.levels levels
       (each_from (λ (l : Level). is_some (c.now.accounts.graft l.owner l.point) ≡ true) c.levels first.sound.grafts)
       (each_from (λ (l : Level). c.now.accounts.graft l.owner l.point ≡ d.now.accounts.graft l.owner l.point) c.levels
-      (λ l k. now (Graft l.owner l.point) (outermost_held c.levels (Graft l.owner l.point) (first.sound.paid l k).0)))
+      (λ l k. (now (Graft l.owner l.point) (outermost_held c.levels (Graft l.owner l.point) (first.sound.paid l k).0)).0))
 
 -- ---- an instruction that goes on
 

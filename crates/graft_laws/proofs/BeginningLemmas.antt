@@ -119,7 +119,7 @@ begin_replays m laws owns v images s p t a standing asks stands =
     needed_of ns o (inr h) = h
 
     thing_self : (o : Object) (w : Things) → SameThing o w w
-    thing_self (Graft q pt) w = tt
+    thing_self (Graft q pt) w = refl
     thing_self (Acct q) w = tt
     thing_self (Cell q k) w = refl
     thing_self (OpenFile q fd) w = refl

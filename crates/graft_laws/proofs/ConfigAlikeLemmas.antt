@@ -100,7 +100,8 @@ innermost_alike v w u x y l k ls ks h =
     let found = found_alike w u x y l k ls ks h in
     record {
       levels = h.levels.1;
-      graft = h.held (Graft l.owner l.point) (outermost_held (l ∷ ls) (Graft l.owner l.point) h.first.each.0.graft);
+      graft = (h.held (Graft l.owner l.point) (outermost_held (l ∷ ls) (Graft l.owner l.point) h.first.each.0.graft)).0;
+      seg = (h.held (Graft l.owner l.point) (outermost_held (l ∷ ls) (Graft l.owner l.point) h.first.each.0.graft)).1;
       acct = h.held (Acct l.owner) (outermost_held (l ∷ ls) (Acct l.owner) h.first.each.0.acct);
       kept = found;
       default = default_by ls h.held h.asks found;

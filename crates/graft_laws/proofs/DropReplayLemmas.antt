@@ -123,7 +123,7 @@ IsAccount o = ⊥
 
 -- accounts as in a state, and things too
 pub both_parts : (o : Object) (a : Accounts) (x : Things) (w s : Objects) → a ≡ w.accounts → (IsAccount o → SameAt o w s) → SameThing o x s.things → SameAt o (record { accounts = a; things = x }) s
-both_parts (Graft q pt) a x w s e h k = ap (λ (b : Accounts). b.graft q pt) e ∙ h tt
+both_parts (Graft q pt) a x w s e h k = (ap (λ (b : Accounts). b.graft q pt) e ∙ (h tt).0, k)
 both_parts (Acct q) a x w s e h k = ap (λ (b : Accounts). b.acct q) e ∙ h tt
 both_parts (Cell q i) a x w s e h k = k
 both_parts (OpenFile q fd) a x w s e h k = k

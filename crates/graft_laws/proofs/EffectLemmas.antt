@@ -28,7 +28,7 @@ use Rattle.graft_laws.proofs.MarkLemmas.{effects_split, charged_split, removed_s
 -- ---- the same value
 
 pub same_self : (o : Object) (w : Objects) → SameAt o w w
-same_self (Graft q pt) w = refl
+same_self (Graft q pt) w = (refl, refl)
 same_self (Acct q) w = refl
 same_self (Cell q k) w = refl
 same_self (OpenFile q fd) w = refl
@@ -38,7 +38,7 @@ same_self (Lock u) w = refl
 same_self (Pol k) w = refl
 
 pub same_then : (o : Object) (x y z : Objects) → SameAt o x y → SameAt o y z → SameAt o x z
-same_then (Graft q pt) x y z h k = h ∙ k
+same_then (Graft q pt) x y z h k = (h.0 ∙ k.0, h.1 ∙ k.1)
 same_then (Acct q) x y z h k = h ∙ k
 same_then (Cell q i) x y z h k = h ∙ k
 same_then (OpenFile q fd) x y z h k = h ∙ k
@@ -48,7 +48,7 @@ same_then (Lock u) x y z h k = h ∙ k
 same_then (Pol i) x y z h k = h ∙ k
 
 pub same_back : (o : Object) (x y : Objects) → SameAt o x y → SameAt o y x
-same_back (Graft q pt) x y h = sym h
+same_back (Graft q pt) x y h = (sym h.0, sym h.1)
 same_back (Acct q) x y h = sym h
 same_back (Cell q i) x y h = sym h
 same_back (OpenFile q fd) x y h = sym h
@@ -65,7 +65,7 @@ pub record DifferAt (q pt : ℕ) (a b : Accounts) : Type 0 where
 
 pub differ_frame : (q pt : ℕ) (a b : Accounts) (x : Things) (o : Object) → DifferAt q pt a b → o ≢ Graft q pt → o ≢ Acct q →
     SameAt o (record { accounts = a; things = x }) (record { accounts = b; things = x })
-differ_frame q pt a b x (Graft r pu) h g k = h.graft r pu g
+differ_frame q pt a b x (Graft r pu) h g k = (h.graft r pu g, refl)
 differ_frame q pt a b x (Acct r) h g k = h.acct r (λ e. k (ap Acct e))
 differ_frame q pt a b x (Cell r i) h g k = refl
 differ_frame q pt a b x (OpenFile r fd) h g k = refl

@@ -156,7 +156,7 @@ module _ (m : Meaning) (laws : Laws m) (owns : NeedsGraftsExclusively m) where
   -- ---- how it ends
 
   pub thing_self : (o : Object) (w : Things) → SameThing o w w
-  thing_self (Graft q pt) w = tt
+  thing_self (Graft q pt) w = refl
   thing_self (Acct q) w = tt
   thing_self (Cell q k) w = refl
   thing_self (OpenFile q fd) w = refl

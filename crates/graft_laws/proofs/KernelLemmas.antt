@@ -43,7 +43,7 @@ needs_alike v images s c d h alike = by_levels c.levels d.levels h.sound.paid al
     by_levels [] [] paid levels now = refl
     by_levels (l ∷ ls) (k ∷ ks) paid levels now =
         let own = paid l (0, below_suc (length ls), refl) in
-        let graft = now (Graft l.owner l.point) (outermost_held (l ∷ ls) (Graft l.owner l.point) own.0) in
+        let graft = (now (Graft l.owner l.point) (outermost_held (l ∷ ls) (Graft l.owner l.point) own.0)).0 in
         let acct = now (Acct l.owner) (outermost_held (l ∷ ls) (Acct l.owner) own.1) in
         let spent : is_spent c.now.accounts l ≡ is_spent d.now.accounts l =
         ap (λ (g : Option GraftValue). l.count == limit_in g || payer_balance Steps (c.now.accounts.acct l.owner) g == 0) graft

@@ -56,7 +56,7 @@ acct_charged k q pt r a b e payer h = ap (λ g. (charge_by k q pt g a).acct r) e
 -- states that agree on a graft and its installer's account agree after a charge of it where they did before
 pub charge_keeps : (k : Kind) (q pt : ℕ) (w u : Objects) (o : Object) → w.accounts.graft q pt ≡ u.accounts.graft q pt → w.accounts.acct q ≡ u.accounts.acct q →
     SameAt o w u → SameAt o (with_accounts (charge k q pt w.accounts) w) (with_accounts (charge k q pt u.accounts) u)
-charge_keeps k q pt w u (Graft r pu) graft payer h = graft_charged k q pt r pu w.accounts u.accounts graft h
+charge_keeps k q pt w u (Graft r pu) graft payer h = (graft_charged k q pt r pu w.accounts u.accounts graft h.0, h.1)
 charge_keeps k q pt w u (Acct r) graft payer h = acct_charged k q pt r w.accounts u.accounts graft payer h
 charge_keeps k q pt w u (Cell r i) graft payer h = h
 charge_keeps k q pt w u (OpenFile r fd) graft payer h = h
@@ -84,7 +84,7 @@ acct_removed q pt r a b e payer h = ap (λ g. (removed_by q pt g a).acct r) e �
 pub remove_keeps : (q pt : ℕ) (a b : Accounts) (w u x y : Things) (o : Object) → a.graft q pt ≡ b.graft q pt → a.acct q ≡ b.acct q →
     SameAt o (record { accounts = a; things = w }) (record { accounts = b; things = u }) → SameThing o x y →
     SameAt o (record { accounts = removed q pt a; things = x }) (record { accounts = removed q pt b; things = y })
-remove_keeps q pt a b w u x y (Graft r pu) graft payer h k = graft_removed q pt r pu a b graft h
+remove_keeps q pt a b w u x y (Graft r pu) graft payer h k = (graft_removed q pt r pu a b graft h.0, k)
 remove_keeps q pt a b w u x y (Acct r) graft payer h k = acct_removed q pt r a b graft payer h
 remove_keeps q pt a b w u x y (Cell r i) graft payer h k = k
 remove_keeps q pt a b w u x y (OpenFile r fd) graft payer h k = k
@@ -97,7 +97,7 @@ remove_keeps q pt a b w u x y (Pol i) graft payer h k = k
 
 -- the same value of an object, accounts and grafts left out
 pub same_thing : (o : Object) (w u : Objects) → SameAt o w u → SameThing o w.things u.things
-same_thing (Graft q pt) w u h = tt
+same_thing (Graft q pt) w u h = h.1
 same_thing (Acct q) w u h = tt
 same_thing (Cell q i) w u h = h
 same_thing (OpenFile q fd) w u h = h
@@ -109,7 +109,7 @@ same_thing (Pol i) w u h = h
 -- of accounts one part, of things the other
 pub same_parts : (o : Object) (a b : Accounts) (w u x y : Things) → SameAt o (record { accounts = a; things = w }) (record { accounts = b; things = u }) → SameThing o x y →
     SameAt o (record { accounts = a; things = x }) (record { accounts = b; things = y })
-same_parts (Graft q pt) a b w u x y h k = h
+same_parts (Graft q pt) a b w u x y h k = (h.0, k)
 same_parts (Acct q) a b w u x y h k = h
 same_parts (Cell q i) a b w u x y h k = k
 same_parts (OpenFile q fd) a b w u x y h k = k
@@ -127,7 +127,7 @@ param_both q v r f g h = grind (arith, nat_tests)
 
 -- things that agree on an object do so after an inverse on both
 pub undo_keeps : (i : Inverse) (o : Object) (w u : Things) → SameThing o w u → SameThing o (undo i w) (undo i u)
-undo_keeps i (Graft q pt) w u h = tt
+undo_keeps i (Graft q pt) w u h = grind arith
 undo_keeps i (Acct q) w u h = tt
 undo_keeps (Inverse.Cell q k v) (Cell r l) w u h = at2_both q k r l v v w.cell u.cell refl h
 undo_keeps (Nice q v) Queue w u h = ap (with_nice q v) h

@@ -242,7 +242,7 @@ module _ (m : Meaning) (laws : Laws m) (histories : HistoriesWork m) (r : Run) (
               let come = call_has_come m laws histories r.kernel sound i f e g (call_comes m laws histories r.kernel sound i f e g) in
               elim (come.before q pt) [
                 | inl same ↦ same ∙ committed
-                | inr held ↦ ap is_some (d.2.now (Graft q pt) (outermost_in f.levels (Graft q pt) held))
+                | inr held ↦ ap is_some (d.2.now (Graft q pt) (outermost_in f.levels (Graft q pt) held)).0
                     ∙ sym (ap (λ x. stands_in x q pt) d.1) ∙ stands_call m (Placed Done) q pt i (caller_low m r.kernel sound i f e) h
               ]
 

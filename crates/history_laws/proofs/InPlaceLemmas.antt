@@ -138,7 +138,7 @@ low_stands p low = in_from 0 processes p processes_from (at_least p) (within p l
 -- ---- mixed states
 
 mix_here : (o : Object) (test : Object → Bool) (w s : Objects) → test o ≡ true → SameAt o (mix test w s) w
-mix_here (Graft q pt) test w s h = ap (λ b. cond b (w.accounts.graft q pt) (s.accounts.graft q pt)) h
+mix_here (Graft q pt) test w s h = (ap (λ b. cond b (w.accounts.graft q pt) (s.accounts.graft q pt)) h, ap (λ b. cond b (w.things.seg q pt) (s.things.seg q pt)) h)
 mix_here (Acct q) test w s h = ap (λ b. cond b (w.accounts.acct q) (s.accounts.acct q)) h
 mix_here (Cell q k) test w s h = ap (λ b. cond b (w.things.cell q k) (s.things.cell q k)) h
 mix_here (OpenFile q fd) test w s h = ap (λ b. cond b (w.things.file q fd) (s.things.file q fd)) h
@@ -148,7 +148,7 @@ mix_here (Lock u) test w s h = ap (λ b. cond b (w.things.lock u) (s.things.lock
 mix_here (Pol k) test w s h = ap (λ b. cond b (w.things.pol k) (s.things.pol k)) h
 
 mix_other : (o : Object) (test : Object → Bool) (w s : Objects) → test o ≡ false → SameAt o (mix test w s) s
-mix_other (Graft q pt) test w s h = ap (λ b. cond b (w.accounts.graft q pt) (s.accounts.graft q pt)) h
+mix_other (Graft q pt) test w s h = (ap (λ b. cond b (w.accounts.graft q pt) (s.accounts.graft q pt)) h, ap (λ b. cond b (w.things.seg q pt) (s.things.seg q pt)) h)
 mix_other (Acct q) test w s h = ap (λ b. cond b (w.accounts.acct q) (s.accounts.acct q)) h
 mix_other (Cell q k) test w s h = ap (λ b. cond b (w.things.cell q k) (s.things.cell q k)) h
 mix_other (OpenFile q fd) test w s h = ap (λ b. cond b (w.things.file q fd) (s.things.file q fd)) h

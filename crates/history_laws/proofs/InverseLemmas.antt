@@ -1,6 +1,6 @@
 -- Inverses change objects one by one.
 use Rattle.std.specs.Prelude.{◌≡◌, ℕ, ◌==◌, ◌&&◌, Bool, true, false, cond, List, [], ◌∷◌, ◌++◌, ⊤}
-use Rattle.std.proofs.Common.{refl, sym, ap, ◌∙◌, inl, inr}
+use Rattle.std.proofs.Common.{arith, refl, sym, ap, ◌∙◌, inl, inr}
 use Rattle.std.proofs.lemmas.Bool.{cases_Bool, and_parts, eqb-true}
 use Rattle.kernel_model.specs.declared.Inverse.{Inverse}
 use Rattle.kernel_model.specs.declared.Inverse.TheVariants.{Nice, Window, Mark, Tune}
@@ -14,7 +14,7 @@ use Rattle.kernel_laws.specs.Undoing.{InversesChangeOneObject}
 -- ---- the same value
 
 pub thing_self : (o : Object) (w : Things) → SameThing o w w
-thing_self (Graft q pt) w = tt
+thing_self (Graft q pt) w = refl
 thing_self (Acct q) w = tt
 thing_self (Cell q k) w = refl
 thing_self (OpenFile q fd) w = refl
@@ -24,7 +24,7 @@ thing_self (Lock u) w = refl
 thing_self (Pol k) w = refl
 
 pub thing_then : (o : Object) (x y z : Things) → SameThing o x y → SameThing o y z → SameThing o x z
-thing_then (Graft q pt) x y z h k = tt
+thing_then (Graft q pt) x y z h k = h ∙ k
 thing_then (Acct q) x y z h k = tt
 thing_then (Cell q i) x y z h k = h ∙ k
 thing_then (OpenFile q fd) x y z h k = h ∙ k
@@ -34,7 +34,7 @@ thing_then (Lock u) x y z h k = h ∙ k
 thing_then (Pol i) x y z h k = h ∙ k
 
 pub thing_back : (o : Object) (x y : Things) → SameThing o x y → SameThing o y x
-thing_back (Graft q pt) x y h = tt
+thing_back (Graft q pt) x y h = sym h
 thing_back (Acct q) x y h = tt
 thing_back (Cell q i) x y h = sym h
 thing_back (OpenFile q fd) x y h = sym h
@@ -44,7 +44,7 @@ thing_back (Lock u) x y h = sym h
 thing_back (Pol i) x y h = sym h
 
 pub at_self : (o : Object) (s : Objects) → SameAt o s s
-at_self (Graft q pt) s = refl
+at_self (Graft q pt) s = (refl, refl)
 at_self (Acct q) s = refl
 at_self (Cell q k) s = refl
 at_self (OpenFile q fd) s = refl
@@ -54,7 +54,7 @@ at_self (Lock u) s = refl
 at_self (Pol k) s = refl
 
 pub at_then : (o : Object) (x y z : Objects) → SameAt o x y → SameAt o y z → SameAt o x z
-at_then (Graft q pt) x y z h k = h ∙ k
+at_then (Graft q pt) x y z h k = (h.0 ∙ k.0, h.1 ∙ k.1)
 at_then (Acct q) x y z h k = h ∙ k
 at_then (Cell q i) x y z h k = h ∙ k
 at_then (OpenFile q fd) x y z h k = h ∙ k
@@ -65,7 +65,7 @@ at_then (Pol i) x y z h k = h ∙ k
 
 -- of two states with the same value the things have it
 pub thing_of : (o : Object) (s t : Objects) → SameAt o s t → SameThing o s.things t.things
-thing_of (Graft q pt) s t h = tt
+thing_of (Graft q pt) s t h = h.1
 thing_of (Acct q) s t h = tt
 thing_of (Cell q i) s t h = h
 thing_of (OpenFile q fd) s t h = h
@@ -76,7 +76,7 @@ thing_of (Pol i) s t h = h
 
 -- states with the same accounts have the same value where their things have it
 pub at_of : (o : Object) (s t : Objects) → s.accounts ≡ t.accounts → SameThing o s.things t.things → SameAt o s t
-at_of (Graft q pt) s t e h = ap (λ (a : Accounts). a.graft q pt) e
+at_of (Graft q pt) s t e h = (ap (λ (a : Accounts). a.graft q pt) e, h)
 at_of (Acct q) s t e h = ap (λ (a : Accounts). a.acct q) e
 at_of (Cell q i) s t e h = h
 at_of (OpenFile q fd) s t e h = h
@@ -107,7 +107,7 @@ own_place q r f g change h = elim (cases_Bool (r == q)) [
 
 -- an inverse gives the same value of an object where it had the same
 undo_same : (i : Inverse) (o : Object) (w u : Things) → SameThing o w u → SameThing o (undo i w) (undo i u)
-undo_same i (Graft q pt) w u h = tt
+undo_same i (Graft q pt) w u h = grind arith
 undo_same i (Acct q) w u h = tt
 undo_same (Inverse.Cell q k v) (Cell r l) w u h = ap (λ x. cond (r == q && l == k) v x) h
 undo_same (Nice q v) Queue w u h = ap (with_nice q v) h

@@ -159,7 +159,7 @@ module _ (m : Meaning) (laws : Laws m) (histories : HistoriesWork m) (k : Kernel
       let come = call_has_come m laws histories k sound q c is i x in
       let held = each_contains (λ (l : Level). (outermost_touched c.levels (Graft l.owner l.point) ≡ Held.Exclusive) × (outermost_touched c.levels (Acct l.owner) ≡ Held.Exclusive))
       c.levels l (paid x.point.installer (outermost_touched c.levels) c.levels come.shape.grafts come.shape.acct) contained in
-      (alike.now (Graft l.owner l.point) (outermost_in c.levels (Graft l.owner l.point) (ap is_held held.0)), alike.now (Acct l.owner) (outermost_in c.levels (Acct l.owner) (ap is_held held.1)))
+      ((alike.now (Graft l.owner l.point) (outermost_in c.levels (Graft l.owner l.point) (ap is_held held.0))).0, alike.now (Acct l.owner) (outermost_in c.levels (Acct l.owner) (ap is_held held.1)))
     where
       paid : (q : ℕ) (t : Touched) (ls : List Level) → AreGrafts q t ls → t (Acct q) ≡ Held.Exclusive →
           Each (λ (l : Level). (t (Graft l.owner l.point) ≡ Held.Exclusive) × (t (Acct l.owner) ≡ Held.Exclusive)) ls

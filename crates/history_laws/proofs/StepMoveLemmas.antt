@@ -40,7 +40,7 @@ holds_all =
       args = [];
       records = [];
       kept =
-          record { cell = λ q k. 0; file = λ q k. None; queue = []; cache = record { frame = λ f. None; lru = [] }; lock = λ u. None; pol = λ k. record { chosen = 0; param = λ j. 0 } };
+          record { cell = λ q k. 0; file = λ q k. None; queue = []; cache = record { frame = λ f. None; lru = [] }; lock = λ u. None; pol = λ k. record { chosen = 0; param = λ j. 0 }; seg = λ q pt i. 0 };
     }
 
 -- a store without a graft is sound

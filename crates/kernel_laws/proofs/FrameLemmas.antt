@@ -36,7 +36,7 @@ use Rattle.kernel_laws.proofs.SoundConfigLemmas.{sound_held}
 -- ---- the same value
 
 same_self : (o : Object) (w : Objects) → SameAt o w w
-same_self (Graft q pt) w = refl
+same_self (Graft q pt) w = (refl, refl)
 same_self (Acct q) w = refl
 same_self (Cell q k) w = refl
 same_self (OpenFile q fd) w = refl
@@ -46,7 +46,7 @@ same_self (Lock u) w = refl
 same_self (Pol k) w = refl
 
 same_then : (o : Object) (x y z : Objects) → SameAt o x y → SameAt o y z → SameAt o x z
-same_then (Graft q pt) x y z h k = h ∙ k
+same_then (Graft q pt) x y z h k = (h.0 ∙ k.0, h.1 ∙ k.1)
 same_then (Acct q) x y z h k = h ∙ k
 same_then (Cell q i) x y z h k = h ∙ k
 same_then (OpenFile q fd) x y z h k = h ∙ k
@@ -57,7 +57,7 @@ same_then (Pol i) x y z h k = h ∙ k
 
 -- things alone
 thing_self : (o : Object) (w : Things) → SameThing o w w
-thing_self (Graft q pt) w = tt
+thing_self (Graft q pt) w = refl
 thing_self (Acct q) w = tt
 thing_self (Cell q k) w = refl
 thing_self (OpenFile q fd) w = refl
@@ -67,7 +67,7 @@ thing_self (Lock u) w = refl
 thing_self (Pol k) w = refl
 
 thing_then : (o : Object) (x y z : Things) → SameThing o x y → SameThing o y z → SameThing o x z
-thing_then (Graft q pt) x y z h k = tt
+thing_then (Graft q pt) x y z h k = h ∙ k
 thing_then (Acct q) x y z h k = tt
 thing_then (Cell q i) x y z h k = h ∙ k
 thing_then (OpenFile q fd) x y z h k = h ∙ k
@@ -79,7 +79,7 @@ thing_then (Pol i) x y z h k = h ∙ k
 -- of accounts one part, of things the other
 same_parts : (o : Object) (a b : Accounts) (x y : Things) → SameAt o (record { accounts = a; things = x }) (record { accounts = b; things = x }) → SameThing o x y →
     SameAt o (record { accounts = a; things = x }) (record { accounts = b; things = y })
-same_parts (Graft q pt) a b x y h k = h
+same_parts (Graft q pt) a b x y h k = (h.0, k)
 same_parts (Acct q) a b x y h k = h
 same_parts (Cell q i) a b x y h k = k
 same_parts (OpenFile q fd) a b x y h k = k
@@ -97,7 +97,7 @@ record DifferAt (q pt : ℕ) (a b : Accounts) : Type 0 where
 
 differ_frame : (q pt : ℕ) (a b : Accounts) (x : Things) (o : Object) → DifferAt q pt a b → o ≢ Graft q pt → o ≢ Acct q →
     SameAt o (record { accounts = a; things = x }) (record { accounts = b; things = x })
-differ_frame q pt a b x (Graft r pu) h g k = h.graft r pu g
+differ_frame q pt a b x (Graft r pu) h g k = (h.graft r pu g, refl)
 differ_frame q pt a b x (Acct r) h g k = h.acct r (λ e. k (ap Acct e))
 differ_frame q pt a b x (Cell r i) h g k = refl
 differ_frame q pt a b x (OpenFile r fd) h g k = refl

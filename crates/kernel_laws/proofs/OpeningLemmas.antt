@@ -87,6 +87,7 @@ opening_is_sound v images world disk =
         gone = λ p e. record { cells = λ k. refl; files = λ fd. refl; balances = λ k. ap (λ b. cond b v.grant 0) (not_root p e); spent = λ k. refl };
         files = λ p fd o e. absurd (none_some o e);
         policies = first_policies;
+        segs = λ q pt out. refl;
         ledgers = first_ledgers v.grant;
       };
       images_loaded = λ q pt g e. absurd (none_some g e);

@@ -112,7 +112,7 @@ inverses_commute _ _ w h = refl
 
 -- of things alone the inverse of a cell changes that cell, and so on
 pub inverses_change_one_object : InversesChangeOneObject
-inverses_change_one_object i (Graft q pt) w h = tt
+inverses_change_one_object i (Graft q pt) w h = grind arith
 inverses_change_one_object i (Acct q) w h = tt
 inverses_change_one_object (Inverse.Cell q k v) (Cell r l) w h = other2 q k r l v w.cell (cells_apart r l q k h)
 inverses_change_one_object (Nice q v) Queue w h = absurd (h refl)

@@ -11,7 +11,7 @@ use Rattle.kernel_model.specs.declared.Inverse.{Inverse}
 use Rattle.kernel_model.specs.declared.Inverse.TheVariants.{Nice, Window, Mark, Tune}
 use Rattle.kernel_model.specs.declared.QueueRow.{QueueRow}
 use Rattle.kernel_model.specs.declared.OpenRow.{OpenRow}
-use Rattle.kernel_model.specs.Objects.{Things, FrameValue, PolValue, at, at2}
+use Rattle.kernel_model.specs.Objects.{Things, FrameValue, PolValue, at, at2, nothing_kept}
 use Rattle.kernel_model.specs.Policies.{frames_of, nice_of}
 
 -- ---- refusals and objects
@@ -176,18 +176,35 @@ access id r0 r1 r2 q w = access_by (callable id) id r0 r1 r2 q w
 
 -- ---- undoing
 
--- puts the value back that a record names
-abbrev pub undo : Inverse → Things → Things
-undo (Inverse.Cell q k v) w = set_cell q k v w
-undo (Nice q v) w = set_nice q v w
-undo (Window q fd v) w = set_window q fd v w
-undo (Mark f v) w = set_mark f v w
-undo (Tune kind k v) w = set_param kind v w
+-- what a change found: its inverse, and the bytes that the inverse puts back, if it is one that has any
+pub record Found : Type 0 where
+  pub inverse : Inverse
+  pub bytes : ℕ → ℕ
 
--- the object that a record's change is of
-abbrev pub changed_by : Inverse → Object
-changed_by (Inverse.Cell q k v) = Object.Cell q k
-changed_by (Nice q v) = Queue
-changed_by (Window q fd v) = OpenFile q fd
-changed_by (Mark f v) = Cache
-changed_by (Tune kind k v) = Pol kind
+-- what a change found whose inverse has no bytes
+abbrev pub found_by : Inverse → Found
+found_by i = record { inverse = i; bytes = nothing_kept }
+
+-- puts the value back that an inverse names
+abbrev pub undo_by : Inverse → (bytes : ℕ → ℕ) → Things → Things
+undo_by (Inverse.Cell q k v) bytes w = set_cell q k v w
+undo_by (Nice q v) bytes w = set_nice q v w
+undo_by (Window q fd v) bytes w = set_window q fd v w
+undo_by (Mark f v) bytes w = set_mark f v w
+undo_by (Tune kind k v) bytes w = set_param kind v w
+
+-- puts back what a change found
+abbrev pub undo : Found → Things → Things
+undo f w = undo_by f.inverse f.bytes w
+
+-- the object that an inverse puts back
+abbrev pub object_of_inverse : Inverse → Object
+object_of_inverse (Inverse.Cell q k v) = Object.Cell q k
+object_of_inverse (Nice q v) = Queue
+object_of_inverse (Window q fd v) = OpenFile q fd
+object_of_inverse (Mark f v) = Cache
+object_of_inverse (Tune kind k v) = Pol kind
+
+-- the object of a change
+abbrev pub changed_by : Found → Object
+changed_by f = object_of_inverse f.inverse

@@ -63,6 +63,7 @@ SameFiles p s u = (fd : ℕ) → windowless (s.things.file p fd) ≡ windowless 
 pub record AreAlike (s u : Objects) : Type 0 where
   pub files : (p : ℕ) → SameFiles p s u
   pub queue : niceless s.things.queue ≡ niceless u.things.queue
+  pub handlers : s.things.handlers ≡ u.things.handlers
   pub lru : s.things.cache.lru ≡ u.things.cache.lru
   pub frames : (f : ℕ) → markless (s.things.cache.frame f) ≡ markless (u.things.cache.frame f)
   pub locks : (l : ℕ) → s.things.lock l ≡ u.things.lock l

@@ -13,7 +13,7 @@ use Rattle.kernel_model.specs.Machine.{Machine, Done, Went, Called, Outside, Pas
 use Rattle.kernel_model.specs.Boxed.{IsBoxed, IsInside, boxed_place, rewrite}
 use Rattle.kernel_model.specs.Runs.{CodeRun, first_run, raw_run, boxed_run, on_segment, done_on_segment}
 use Rattle.kernel_model.specs.Charges.{funds, charge, removed}
-use Rattle.kernel_model.specs.Meaning.{Meaning, Stage, Fails}
+use Rattle.kernel_model.specs.Meaning.{Meaning, Stage, Answer, Fails}
 use Rattle.kernel_model.specs.Levels.{Config, Effect, Outcome, drop_level}
 use Rattle.kernel_model.specs.GraftStep.{micro}
 use Rattle.kernel_model.specs.History.{Mark, Trace, effect, replay, fallen}
@@ -69,7 +69,7 @@ Rewriting =
 -- after a refusal the state and the disk are as before; a `sync` of which a call of the disk failed keeps what it wrote
 abbrev pub RefusalsChangeNothing : Type 0
 RefusalsChangeNothing =
-    (v : World) (images : ImageTable) (s : Objects) (blocks : Blocks) (p : ℕ) (t : Stage) (answer : Option (List ℕ)) (io : List Bool) (why : Refusal) →
+    (v : World) (images : ImageTable) (s : Objects) (blocks : Blocks) (p : ℕ) (t : Stage) (answer : Option Answer) (io : List Bool) (why : Refusal) →
     t.call ≢ Sync → (plain.piece v images s blocks p t answer io).after ≡ Fails why →
     ((plain.piece v images s blocks p t answer io).objects ≡ s) × ((plain.piece v images s blocks p t answer io).blocks ≡ blocks)
 

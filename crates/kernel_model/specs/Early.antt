@@ -7,7 +7,7 @@ use Rattle.kernel_model.specs.declared.Refusal.TheVariants.{NoProcess, Denied, B
 use Rattle.kernel_model.specs.World.{World, ImageTable, file_named}
 use Rattle.kernel_model.specs.Meaning.{Stage, stage}
 
--- the highest point; further kinds of points come above it
+-- the highest point of the calls that are built
 abbrev pub TOP_POINT : ℕ
 TOP_POINT = 5
 
@@ -19,29 +19,29 @@ policy_count kind = cond (kind == 0) 3 2
 abbrev pub refused : Bool → Refusal → Option Refusal → Option Refusal
 refused holds refusal next = cond holds (Some refusal) next
 
--- the refusal of least number of a call of process p that needs no object
-abbrev pub call_refusal : World → ImageTable → ℕ → SysCall → Option Refusal
-call_refusal v images p Exit = refused (p == 0) Denied None
-call_refusal v images p (OpenName name) = refused (not (is_some (file_named v name))) NoFile None
-call_refusal v images p (CloseFd fd) = refused (nat_lt 3 fd) BadFd None
-call_refusal v images p (Read fd i off len) = refused (nat_lt 3 fd) BadFd (refused (nat_lt 512 (off + len)) BadIndex None)
-call_refusal v images p (Write fd i off bytes) =
+-- the refusal of least number of a call of process p that needs no object, where points go up to this one
+abbrev pub call_refusal : (top : ℕ) → World → ImageTable → ℕ → SysCall → Option Refusal
+call_refusal top v images p Exit = refused (p == 0) Denied None
+call_refusal top v images p (OpenName name) = refused (not (is_some (file_named v name))) NoFile None
+call_refusal top v images p (CloseFd fd) = refused (nat_lt 3 fd) BadFd None
+call_refusal top v images p (Read fd i off len) = refused (nat_lt 3 fd) BadFd (refused (nat_lt 512 (off + len)) BadIndex None)
+call_refusal top v images p (Write fd i off bytes) =
     refused (nat_lt 3 fd) BadFd (refused (nat_lt 512 (off + length bytes)) BadIndex None)
-call_refusal v images p (TakeLock u) = refused (nat_lt 15 u) BadIndex None
-call_refusal v images p (FreeLock u) = refused (nat_lt 15 u) BadIndex None
-call_refusal v images p (Poke k x) = refused (nat_lt 3 k) BadIndex None
-call_refusal v images p (Peek k) = refused (nat_lt 3 k) BadIndex None
-call_refusal v images p (Tune kind k x) = refused (not (p == 0)) Denied (refused (nat_lt 2 kind) BadPoint None)
-call_refusal v images p (Choose kind j) =
+call_refusal top v images p (TakeLock u) = refused (nat_lt 15 u) BadIndex None
+call_refusal top v images p (FreeLock u) = refused (nat_lt 15 u) BadIndex None
+call_refusal top v images p (Poke k x) = refused (nat_lt 3 k) BadIndex None
+call_refusal top v images p (Peek k) = refused (nat_lt 3 k) BadIndex None
+call_refusal top v images p (Tune kind k x) = refused (not (p == 0)) Denied (refused (nat_lt 2 kind) BadPoint None)
+call_refusal top v images p (Choose kind j) =
     refused (not (p == 0)) Denied (refused (nat_lt 2 kind || nat_le (policy_count kind) j) BadPoint None)
-call_refusal v images p (Give q kind n) = refused (nat_lt 15 q) NoProcess None
-call_refusal v images p (Install pt i limit) =
-    refused (nat_lt TOP_POINT pt) BadPoint
+call_refusal top v images p (Give q kind n) = refused (nat_lt 15 q) NoProcess None
+call_refusal top v images p (Install pt i limit) =
+    refused (nat_lt top pt) BadPoint
     (refused (limit == 0 || nat_lt 65536 limit) BadIndex (refused (nat_lt 31 i || not (is_some (images i))) NoImage None))
-call_refusal v images p (Remove pt) = refused (nat_lt TOP_POINT pt) BadPoint None
-call_refusal v images p (Fund pt kind n) = refused (nat_lt TOP_POINT pt) BadPoint None
-call_refusal v images p (Bill pt) = refused (nat_lt TOP_POINT pt) BadPoint None
-call_refusal v images p c = None
+call_refusal top v images p (Remove pt) = refused (nat_lt top pt) BadPoint None
+call_refusal top v images p (Fund pt kind n) = refused (nat_lt top pt) BadPoint None
+call_refusal top v images p (Bill pt) = refused (nat_lt top pt) BadPoint None
+call_refusal top v images p c = None
 
 -- a call begins before its first piece, or is refused
 abbrev pub begins_unless : SysCall → Option Refusal → Result Stage Refusal
@@ -49,5 +49,5 @@ begins_unless c None = Ok (stage c 0)
 begins_unless c (Some refusal) = Err refusal
 
 -- the stage at which a call of process p begins, or its refusal
-abbrev pub plain_early : World → ImageTable → ℕ → SysCall → Result Stage Refusal
-plain_early v images p c = begins_unless c (call_refusal v images p c)
+abbrev pub plain_early : (top : ℕ) → World → ImageTable → ℕ → SysCall → Result Stage Refusal
+plain_early top v images p c = begins_unless c (call_refusal top v images p c)

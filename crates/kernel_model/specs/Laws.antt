@@ -1,5 +1,5 @@
 -- What has to hold of the meaning of every kernel's calls.
-use Rattle.std.specs.Prelude.{◌≡◌, ℕ, suc, ◌+◌, ◌-◌, ◌<◌, ◌≤◌, ◌^◌, Bool, true, false, not, ◌&&◌, List, [], ◌∷◌, ◌++◌, length, take, map, sum, nat_le, ◌≢◌, Contains, Option, Some, None, is_some, Ok, slice_index, ⊤}
+use Rattle.std.specs.Prelude.{◌≡◌, ℕ, suc, ◌+◌, ◌-◌, ◌<◌, ◌≤◌, ◌^◌, Bool, true, false, not, ◌&&◌, ◌==◌, List, [], ◌∷◌, ◌++◌, length, take, map, sum, nat_le, ◌≢◌, Contains, Option, Some, None, is_some, Ok, slice_index, ⊤}
 use Rattle.std.specs.List.{list_any, AllByRecursion}
 use Rattle.std.specs.Result.{is_ok}
 use Rattle.kernel_model.specs.declared.Need.{Need}
@@ -12,8 +12,8 @@ use Rattle.kernel_model.specs.declared.Refusal.TheVariants.{DiskFault}
 use Rattle.kernel_model.specs.declared.QueueRow.{QueueRow}
 use Rattle.kernel_model.specs.World.{World, ImageTable, Blocks}
 use Rattle.kernel_model.specs.Objects.{Objects, SameAt}
-use Rattle.kernel_model.specs.Policies.{PointKind, Ahead, Victim, Next, kind_of, lives}
-use Rattle.kernel_model.specs.Meaning.{Meaning, Stage, Piece, After, Continues, Fails}
+use Rattle.kernel_model.specs.Policies.{PointKind, Ahead, Victim, Next, Serve, Stream, kind_of, lives}
+use Rattle.kernel_model.specs.Meaning.{Meaning, Stage, Answer, registers_of, Piece, After, Continues, Fails}
 use Rattle.kernel_model.specs.Needs.{point_needs}
 use Rattle.kernel_model.specs.Sound.{IsSoundStore, ImagesAreLoaded, FitsDisk, HasWholeBlocks}
 use Rattle.kernel_model.specs.Events.{wanted}
@@ -62,11 +62,13 @@ SameKindOfPoint None None = ⊤
 SameKindOfPoint (Some a) (Some b) = kind_of a.point ≡ kind_of b.point
 SameKindOfPoint _ _ = ⊥
 
--- two asks to read ahead are the same, but for the count
+-- two asks to read ahead are the same, but for the count; those to serve, and to change a stream, are the same
 abbrev pub SameAheadAsk : PointKind → Point → Point → Type 0
 SameAheadAsk Ahead a b =
     (a.installer ≡ b.installer) × (a.point ≡ b.point) × (slice_index a.args 0 ≡ slice_index b.args 0)
     × (slice_index a.args 2 ≡ slice_index b.args 2) × (slice_index a.args 3 ≡ slice_index b.args 3)
+SameAheadAsk Serve a b = a ≡ b
+SameAheadAsk Stream a b = a ≡ b
 SameAheadAsk _ a b = ⊤
 
 -- An answer that the kind of point accepts. For eviction any frame in use will do: the candidate of the state in which the
@@ -75,6 +77,8 @@ abbrev pub accepted_by : PointKind → Objects → List ℕ → List ℕ → Boo
 accepted_by Ahead s args answer = nat_le (slice_index answer 1) 8 && nat_le (slice_index answer 0 + slice_index answer 1) (slice_index args 2)
 accepted_by Victim s args answer = is_some (s.things.cache.frame (slice_index answer 0))
 accepted_by Next s args answer = lives s.things.queue (slice_index answer 0)
+accepted_by Serve s args answer = nat_le (slice_index answer 0) 512
+accepted_by Stream s args answer = slice_index answer 0 == slice_index args 0
 
 -- an answer is given only where a point is asked, and is one that it accepts
 abbrev pub IsRightAnswer : Objects → Option Point → Option (List ℕ) → Type 0
@@ -111,16 +115,18 @@ pub record IsStanding (m : Meaning) (v : World) (images : ImageTable) (s : Objec
   pub fits : m.fits v s p t ≡ true
 
 -- the conditions of a piece: its call stands there, the cache fits the disk, and the answer is a right one
-pub record IsReady (m : Meaning) (v : World) (images : ImageTable) (s : Objects) (p : ℕ) (t : Stage) (answer : Option (List ℕ)) : Type 0 where
+pub record IsReady (m : Meaning) (v : World) (images : ImageTable) (s : Objects) (p : ℕ) (t : Stage) (answer : Option Answer) : Type 0 where
   pub standing : IsStanding m v images s p t
   pub disk : FitsDisk v s.things.cache
-  pub right : IsRightAnswer s (m.asks v s p t) answer
+  pub right : IsRightAnswer s (m.asks v s p t) (registers_of answer)
 
 -- the objects that tell whether an answer of a point is valid
 abbrev pub answer_objects : PointKind → List Object
 answer_objects Ahead = []
 answer_objects Victim = Cache ∷ []
 answer_objects Next = Queue ∷ []
+answer_objects Serve = []
+answer_objects Stream = []
 
 -- ---- the laws
 
@@ -187,71 +193,71 @@ module _ (m : Meaning) where
   -- What a piece looks at and changes.
   pub record FootprintLaws : Type 0 where
     -- on states that agree on what it needs, and on who lives, a piece does the same
-    pub looks : (v : World) (images : ImageTable) (s u : Objects) (blocks : Blocks) (p : ℕ) (t : Stage) (answer : Option (List ℕ)) (io : List Bool) →
+    pub looks : (v : World) (images : ImageTable) (s u : Objects) (blocks : Blocks) (p : ℕ) (t : Stage) (answer : Option Answer) (io : List Bool) →
         IsReady m v images s p t answer → IsReady m v images u p t answer → AgreeOn (m.need v s p t) s u → SameLiving s u →
         PieceAlike (m.need v s p t) (m.piece v images s blocks p t answer io) (m.piece v images u blocks p t answer io)
     -- a piece changes no object but those that it needs exclusively
-    pub changes : (v : World) (images : ImageTable) (s : Objects) (blocks : Blocks) (p : ℕ) (t : Stage) (answer : Option (List ℕ)) (io : List Bool) (o : Object) →
+    pub changes : (v : World) (images : ImageTable) (s : Objects) (blocks : Blocks) (p : ℕ) (t : Stage) (answer : Option Answer) (io : List Bool) (o : Object) →
         IsReady m v images s p t answer → IsInRange o → is_needed_exclusively o (m.need v s p t) ≡ false →
         SameAt o (m.piece v images s blocks p t answer io).objects s
     -- a piece that asks looks at the objects before the point alone
-    pub asking_looks : (v : World) (images : ImageTable) (s u : Objects) (blocks : Blocks) (p : ℕ) (t : Stage) (answer : Option (List ℕ)) (io : List Bool) (a : Point) →
+    pub asking_looks : (v : World) (images : ImageTable) (s u : Objects) (blocks : Blocks) (p : ℕ) (t : Stage) (answer : Option Answer) (io : List Bool) (a : Point) →
         IsReady m v images s p t answer → IsReady m v images u p t answer → m.asks v s p t ≡ Some a →
         AgreeOn (before_point s a (m.need v s p t)) s u → SameLiving s u →
         PieceAlike (before_point s a (m.need v s p t)) (m.piece v images s blocks p t answer io) (m.piece v images u blocks p t answer io)
     -- and changes none but those before the point
-    pub asking_changes : (v : World) (images : ImageTable) (s : Objects) (blocks : Blocks) (p : ℕ) (t : Stage) (answer : Option (List ℕ)) (io : List Bool) (a : Point) (o : Object) →
+    pub asking_changes : (v : World) (images : ImageTable) (s : Objects) (blocks : Blocks) (p : ℕ) (t : Stage) (answer : Option Answer) (io : List Bool) (a : Point) (o : Object) →
         IsReady m v images s p t answer → IsInRange o → m.asks v s p t ≡ Some a →
         is_needed_exclusively o (before_point s a (m.need v s p t)) ≡ false → SameAt o (m.piece v images s blocks p t answer io).objects s
 
   -- What a piece keeps, and what it may do but once.
   pub record PieceLaws : Type 0 where
     -- a sound store stays sound
-    pub store : (v : World) (images : ImageTable) (s : Objects) (blocks : Blocks) (p : ℕ) (t : Stage) (answer : Option (List ℕ)) (io : List Bool) →
+    pub store : (v : World) (images : ImageTable) (s : Objects) (blocks : Blocks) (p : ℕ) (t : Stage) (answer : Option Answer) (io : List Bool) →
         IsReady m v images s p t answer → HasWholeBlocks v blocks → IsSoundStore v (m.piece v images s blocks p t answer io).objects
     -- the images of grafts stay loaded
-    pub images_loaded : (v : World) (images : ImageTable) (s : Objects) (blocks : Blocks) (p : ℕ) (t : Stage) (answer : Option (List ℕ)) (io : List Bool) →
+    pub images_loaded : (v : World) (images : ImageTable) (s : Objects) (blocks : Blocks) (p : ℕ) (t : Stage) (answer : Option Answer) (io : List Bool) →
         IsReady m v images s p t answer → ImagesAreLoaded images s.accounts → ImagesAreLoaded images (m.piece v images s blocks p t answer io).objects.accounts
     -- what fits the disk still fits
-    pub disk : (v : World) (images : ImageTable) (s : Objects) (blocks : Blocks) (p : ℕ) (t : Stage) (answer : Option (List ℕ)) (io : List Bool) →
+    pub disk : (v : World) (images : ImageTable) (s : Objects) (blocks : Blocks) (p : ℕ) (t : Stage) (answer : Option Answer) (io : List Bool) →
         IsReady m v images s p t answer → FitsDisk v (m.piece v images s blocks p t answer io).objects.things.cache
     -- blocks stay whole
-    pub whole_blocks : (v : World) (images : ImageTable) (s : Objects) (blocks : Blocks) (p : ℕ) (t : Stage) (answer : Option (List ℕ)) (io : List Bool) →
+    pub whole_blocks : (v : World) (images : ImageTable) (s : Objects) (blocks : Blocks) (p : ℕ) (t : Stage) (answer : Option Answer) (io : List Bool) →
         IsReady m v images s p t answer → HasWholeBlocks v blocks → HasWholeBlocks v (m.piece v images s blocks p t answer io).blocks
     -- no piece ends another process than the caller
-    pub others_live : (v : World) (images : ImageTable) (s : Objects) (blocks : Blocks) (p q : ℕ) (t : Stage) (answer : Option (List ℕ)) (io : List Bool) →
+    pub others_live : (v : World) (images : ImageTable) (s : Objects) (blocks : Blocks) (p q : ℕ) (t : Stage) (answer : Option Answer) (io : List Bool) →
         IsReady m v images s p t answer → q ≢ p → lives s.things.queue q ≡ true → lives (m.piece v images s blocks p t answer io).objects.things.queue q ≡ true
     -- a piece that ends the caller ends its call
-    pub caller_lives : (v : World) (images : ImageTable) (s : Objects) (blocks : Blocks) (p : ℕ) (t : Stage) (answer : Option (List ℕ)) (io : List Bool) →
+    pub caller_lives : (v : World) (images : ImageTable) (s : Objects) (blocks : Blocks) (p : ℕ) (t : Stage) (answer : Option Answer) (io : List Bool) →
         IsReady m v images s p t answer → continues (m.piece v images s blocks p t answer io).after ≡ true →
         lives (m.piece v images s blocks p t answer io).objects.things.queue p ≡ true
     -- a piece puts at most one graft in place
-    pub one_graft : (v : World) (images : ImageTable) (s : Objects) (blocks : Blocks) (p : ℕ) (t : Stage) (answer : Option (List ℕ)) (io : List Bool) (q pt r pu : ℕ) →
+    pub one_graft : (v : World) (images : ImageTable) (s : Objects) (blocks : Blocks) (p : ℕ) (t : Stage) (answer : Option Answer) (io : List Bool) (q pt r pu : ℕ) →
         IsReady m v images s p t answer → is_new_graft s (m.piece v images s blocks p t answer io).objects q pt ≡ true →
         is_new_graft s (m.piece v images s blocks p t answer io).objects r pu ≡ true → (q ≡ r) × (pt ≡ pu)
     -- and then ends its call
-    pub graft_ends : (v : World) (images : ImageTable) (s : Objects) (blocks : Blocks) (p : ℕ) (t : Stage) (answer : Option (List ℕ)) (io : List Bool) (q pt : ℕ) →
+    pub graft_ends : (v : World) (images : ImageTable) (s : Objects) (blocks : Blocks) (p : ℕ) (t : Stage) (answer : Option Answer) (io : List Bool) (q pt : ℕ) →
         IsReady m v images s p t answer → is_new_graft s (m.piece v images s blocks p t answer io).objects q pt ≡ true →
         continues (m.piece v images s blocks p t answer io).after ≡ false
     -- a piece gives at most one slice
-    pub one_slice : (v : World) (images : ImageTable) (s : Objects) (blocks : Blocks) (p : ℕ) (t : Stage) (answer : Option (List ℕ)) (io : List Bool) →
+    pub one_slice : (v : World) (images : ImageTable) (s : Objects) (blocks : Blocks) (p : ℕ) (t : Stage) (answer : Option Answer) (io : List Bool) →
         IsReady m v images s p t answer → slices_in (m.piece v images s blocks p t answer io).objects.things.queue ≤ slices_in s.things.queue + 1
     -- and then ends its call
-    pub slice_ends : (v : World) (images : ImageTable) (s : Objects) (blocks : Blocks) (p : ℕ) (t : Stage) (answer : Option (List ℕ)) (io : List Bool) →
+    pub slice_ends : (v : World) (images : ImageTable) (s : Objects) (blocks : Blocks) (p : ℕ) (t : Stage) (answer : Option Answer) (io : List Bool) →
         IsReady m v images s p t answer → slices_in s.things.queue < slices_in (m.piece v images s blocks p t answer io).objects.things.queue →
         continues (m.piece v images s blocks p t answer io).after ≡ false
 
   -- A piece and the calls of the disk that it makes.
   pub record DiskLaws : Type 0 where
     -- what a piece does looks at what the disk calls that it makes do, and at nothing of later ones
-    pub own_calls : (v : World) (images : ImageTable) (s : Objects) (blocks : Blocks) (p : ℕ) (t : Stage) (answer : Option (List ℕ)) (io rest : List Bool) →
+    pub own_calls : (v : World) (images : ImageTable) (s : Objects) (blocks : Blocks) (p : ℕ) (t : Stage) (answer : Option Answer) (io rest : List Bool) →
         (m.piece v images s blocks p t answer io).calls ≤ length io →
         m.piece v images s blocks p t answer (io ++ rest) ≡ m.piece v images s blocks p t answer io
     -- it makes at most one for each frame
-    pub few_calls : (v : World) (images : ImageTable) (s : Objects) (blocks : Blocks) (p : ℕ) (t : Stage) (answer : Option (List ℕ)) (io : List Bool) →
+    pub few_calls : (v : World) (images : ImageTable) (s : Objects) (blocks : Blocks) (p : ℕ) (t : Stage) (answer : Option Answer) (io : List Bool) →
         IsReady m v images s p t answer → (m.piece v images s blocks p t answer io).calls ≤ v.frames
     -- it answers a disk fault only where one of them failed
-    pub fault : (v : World) (images : ImageTable) (s : Objects) (blocks : Blocks) (p : ℕ) (t : Stage) (answer : Option (List ℕ)) (io : List Bool) →
+    pub fault : (v : World) (images : ImageTable) (s : Objects) (blocks : Blocks) (p : ℕ) (t : Stage) (answer : Option Answer) (io : List Bool) →
         (m.piece v images s blocks p t answer io).after ≡ Fails DiskFault →
         list_any (λ failed. failed) (take (m.piece v images s blocks p t answer io).calls io) ≡ true
 
@@ -262,11 +268,11 @@ module _ (m : Meaning) where
     -- that is a stage of the call itself
     pub same_call : (v : World) (images : ImageTable) (p : ℕ) (c : SysCall) (t : Stage) → m.early v images p c ≡ Ok t → t.call ≡ c
     -- a piece goes on to a stage that fits
-    pub next : (v : World) (images : ImageTable) (s : Objects) (blocks : Blocks) (p : ℕ) (t u : Stage) (answer : Option (List ℕ)) (io : List Bool) →
+    pub next : (v : World) (images : ImageTable) (s : Objects) (blocks : Blocks) (p : ℕ) (t u : Stage) (answer : Option Answer) (io : List Bool) →
         IsReady m v images s p t answer → (m.piece v images s blocks p t answer io).after ≡ Continues u →
         m.fits v (m.piece v images s blocks p t answer io).objects p u ≡ true
     -- and to one of the same call
-    pub same_call_next : (v : World) (images : ImageTable) (s : Objects) (blocks : Blocks) (p : ℕ) (t u : Stage) (answer : Option (List ℕ)) (io : List Bool) →
+    pub same_call_next : (v : World) (images : ImageTable) (s : Objects) (blocks : Blocks) (p : ℕ) (t u : Stage) (answer : Option Answer) (io : List Bool) →
         IsReady m v images s p t answer → (m.piece v images s blocks p t answer io).after ≡ Continues u → u.call ≡ t.call
     -- whether a stage fits looks at the caller's open files alone, windows apart
     pub fits_same : (v : World) (s u : Objects) (p : ℕ) (t : Stage) → SameFiles p s u → m.fits v s p t ≡ m.fits v u p t
@@ -277,7 +283,7 @@ module _ (m : Meaning) where
     pub some_left : (v : World) (images : ImageTable) (s : Objects) (p : ℕ) (t : Stage) → IsStanding m v images s p t →
         (1 ≤ m.left v s p t) × (m.left v s p t ≤ 15)
     -- and fewer after each
-    pub left_falls : (v : World) (images : ImageTable) (s : Objects) (blocks : Blocks) (p : ℕ) (t u : Stage) (answer : Option (List ℕ)) (io : List Bool) →
+    pub left_falls : (v : World) (images : ImageTable) (s : Objects) (blocks : Blocks) (p : ℕ) (t u : Stage) (answer : Option Answer) (io : List Bool) →
         IsReady m v images s p t answer → (m.piece v images s blocks p t answer io).after ≡ Continues u →
         m.left v (m.piece v images s blocks p t answer io).objects p u < m.left v s p t
     -- how many looks at the caller's open files alone, windows apart

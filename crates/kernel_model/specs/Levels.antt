@@ -6,13 +6,13 @@ use Rattle.kernel_model.specs.declared.Kind.{Kind}
 use Rattle.kernel_model.specs.declared.Need.{Need}
 use Rattle.kernel_model.specs.declared.Cause.{Cause}
 use Rattle.kernel_model.specs.declared.Micro.{Micro}
-use Rattle.kernel_model.specs.declared.Inverse.{Inverse}
 use Rattle.kernel_model.specs.declared.Instr.{Instr}
 use Rattle.kernel_model.specs.Objects.{Objects, Things, Accounts, GraftValue, at}
 use Rattle.kernel_model.specs.World.{World, Image, ImageTable}
 use Rattle.kernel_model.specs.Machine.{Machine, first_machine, segment_base}
-use Rattle.kernel_model.specs.Policies.{PointKind, Ahead, Victim, Next, kind_of, default_of, or_zero}
+use Rattle.kernel_model.specs.Policies.{PointKind, Ahead, Victim, Next, Serve, Stream, kind_of, default_of, or_zero}
 use Rattle.kernel_model.specs.Locks.{Touched, touch, touch_all, untouched}
+use Rattle.kernel_model.specs.Access.{Found}
 use Rattle.kernel_model.specs.Charges.{removed}
 
 -- ---- levels, configs, outcomes
@@ -30,7 +30,7 @@ pub record Level : Type 0 where
   -- the arguments that it was given
   pub args : List ℕ
   -- what its changing accessors found, newest first
-  pub records : List Inverse
+  pub records : List Found
   -- the objects as it found them when it began, accounts and grafts apart
   pub kept : Things
 
@@ -154,6 +154,8 @@ abbrev pub answered : PointKind → (r0 r1 : ℕ) → Machine → Machine
 answered Ahead r0 r1 m = record { regs = at 1 r1 (at 0 r0 m.regs); pc = m.pc; memory = m.memory }
 answered Victim r0 r1 m = record { regs = at 0 r0 m.regs; pc = m.pc; memory = m.memory }
 answered Next r0 r1 m = record { regs = at 0 r0 m.regs; pc = m.pc; memory = m.memory }
+answered Serve r0 r1 m = record { regs = at 0 r0 m.regs; pc = m.pc; memory = m.memory }
+answered Stream r0 r1 m = record { regs = at 0 r0 m.regs; pc = m.pc; memory = m.memory }
 
 -- the innermost level gets the answer of the point that it asked
 abbrev pub answer_innermost : (pt r0 r1 : ℕ) → List Level → List Level

@@ -1,5 +1,5 @@
 -- What the system calls of a kernel mean: their pieces, as functions over the state.
-use Rattle.std.specs.Prelude.{ℕ, Bool, false, List, Option, Result, slice_index_or}
+use Rattle.std.specs.Prelude.{ℕ, Bool, false, List, [], Option, option_map, Result, slice_index_or}
 use Rattle.kernel_model.specs.declared.Need.{Need}
 use Rattle.kernel_model.specs.declared.Point.{Point}
 use Rattle.kernel_model.specs.declared.SysCall.{SysCall}
@@ -8,14 +8,34 @@ use Rattle.kernel_model.specs.declared.Reply.{Reply}
 use Rattle.kernel_model.specs.Objects.{Objects}
 use Rattle.kernel_model.specs.World.{World, ImageTable, Blocks}
 
--- Where a call stands: the number of its next piece, from 0. What a later call carries from piece to piece becomes a field here.
+-- where a call stands, and what it carries from piece to piece
 pub record Stage : Type 0 where
   pub call : SysCall
+  -- the number of its next piece, from 0
   pub piece : ℕ
+  -- the handlers whose pieces are to come, each a process and a point
+  pub handlers : List (ℕ × ℕ)
+  -- how many of those before them completed
+  pub answers : ℕ
+  -- bytes that were read, or are to be written
+  pub bytes : List ℕ
 
--- the stage of a call before the piece of this number
+-- the stage of a call before the piece of this number, which carries nothing
 abbrev pub stage : SysCall → ℕ → Stage
-stage c n = record { call = c; piece = n }
+stage c n = record { call = c; piece = n; handlers = []; answers = 0; bytes = [] }
+
+-- the answer of a graft call that completed: its first registers, and the bytes that it gives
+pub record Answer : Type 0 where
+  pub registers : List ℕ
+  pub body : List ℕ
+
+-- the answer of these registers that gives no bytes
+abbrev pub bare_answer : List ℕ → Answer
+bare_answer registers = record { registers = registers; body = [] }
+
+-- the registers of an answer, if there is one
+abbrev pub registers_of : Option Answer → Option (List ℕ)
+registers_of answer = option_map (λ (a : Answer). a.registers) answer
 
 -- what comes after a piece: the next one, the call's end, or a refusal
 pub data After : Type 0 where
@@ -45,7 +65,7 @@ pub record Meaning : Type 0 where
   -- the point that the next piece asks
   pub asks : World → Objects → ℕ → Stage → Option Point
   -- the next piece in one step, with an answer or by default, and with what the calls of the disk from here on will do
-  pub piece : World → ImageTable → Objects → Blocks → ℕ → Stage → Option (List ℕ) → List Bool → Piece
+  pub piece : World → ImageTable → Objects → Blocks → ℕ → Stage → Option Answer → List Bool → Piece
   -- a call may stand at this stage
   pub fits : World → Objects → ℕ → Stage → Bool
   -- how many pieces a call may still take

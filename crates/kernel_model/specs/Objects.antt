@@ -54,6 +54,14 @@ pub record Things : Type 0 where
   pub cache : CacheValue
   pub lock : ℕ → Option ℕ
   pub pol : ℕ → PolValue
+  -- what is kept for the graft at each point, by place: it counts where a graft stands whose image keeps its segment
+  pub seg : ℕ → ℕ → ℕ → ℕ
+  -- the handlers of the event points, each a process and a point, in the order in which they were put last
+  pub handlers : List (ℕ × ℕ)
+
+-- what is kept where nothing is
+abbrev pub nothing_kept : ℕ → ℕ
+nothing_kept i = 0
 
 -- a state: one value for each object
 pub record Objects : Type 0 where
@@ -105,22 +113,22 @@ same_object _ _ = false
 
 -- two states have the same value of an object
 abbrev pub SameAt : Object → Objects → Objects → Type 0
-SameAt (Graft q pt) s t = s.accounts.graft q pt ≡ t.accounts.graft q pt
+SameAt (Graft q pt) s t = (s.accounts.graft q pt ≡ t.accounts.graft q pt) × (s.things.seg q pt ≡ t.things.seg q pt)
 SameAt (Acct q) s t = s.accounts.acct q ≡ t.accounts.acct q
 SameAt (Cell q k) s t = s.things.cell q k ≡ t.things.cell q k
 SameAt (OpenFile q fd) s t = s.things.file q fd ≡ t.things.file q fd
-SameAt Queue s t = s.things.queue ≡ t.things.queue
+SameAt Queue s t = (s.things.queue ≡ t.things.queue) × (s.things.handlers ≡ t.things.handlers)
 SameAt Cache s t = s.things.cache ≡ t.things.cache
 SameAt (Lock u) s t = s.things.lock u ≡ t.things.lock u
 SameAt (Pol k) s t = s.things.pol k ≡ t.things.pol k
 
 -- the same where accounts and grafts are left out
 abbrev pub SameThing : Object → Things → Things → Type 0
-SameThing (Graft q pt) s t = ⊤
+SameThing (Graft q pt) s t = s.seg q pt ≡ t.seg q pt
 SameThing (Acct q) s t = ⊤
 SameThing (Cell q k) s t = s.cell q k ≡ t.cell q k
 SameThing (OpenFile q fd) s t = s.file q fd ≡ t.file q fd
-SameThing Queue s t = s.queue ≡ t.queue
+SameThing Queue s t = (s.queue ≡ t.queue) × (s.handlers ≡ t.handlers)
 SameThing Cache s t = s.cache ≡ t.cache
 SameThing (Lock u) s t = s.lock u ≡ t.lock u
 SameThing (Pol k) s t = s.pol k ≡ t.pol k
@@ -143,6 +151,8 @@ mix_things test w s =
       cache = cond (test Cache) w.cache s.cache;
       lock = λ u. cond (test (Lock u)) (w.lock u) (s.lock u);
       pol = λ k. cond (test (Pol k)) (w.pol k) (s.pol k);
+      seg = λ q pt. cond (test (Graft q pt)) (w.seg q pt) (s.seg q pt);
+      handlers = cond (test Queue) w.handlers s.handlers;
     }
 
 -- the objects of w where the test holds, and else those of s

@@ -11,11 +11,11 @@ use Rattle.kernel_model.specs.declared.OpenRow.{OpenRow}
 use Rattle.kernel_model.specs.World.{World, Blocks, file_named}
 use Rattle.kernel_model.specs.Objects.{Objects, Accounts, Things, GraftValue, AcctValue, FrameValue, at, at2, at_kind, with_accounts, with_things}
 use Rattle.kernel_model.specs.Policies.{lives, next_process, or_zero}
-use Rattle.kernel_model.specs.Queue.{one_more_slice}
+use Rattle.kernel_model.specs.Queue.{one_more_slice, handlers_without_process}
 use Rattle.kernel_model.specs.Access.{set_cell, set_param, param_top, in_range}
 use Rattle.kernel_model.specs.Charges.{removed}
-use Rattle.kernel_model.specs.Meaning.{Meaning, Piece, Continues, EndsWith, stage}
-use Rattle.kernel_model.specs.Early.{plain_early}
+use Rattle.kernel_model.specs.Meaning.{Meaning, Piece, Continues, EndsWith, stage, registers_of}
+use Rattle.kernel_model.specs.Early.{TOP_POINT, plain_early}
 use Rattle.kernel_model.specs.Needs.{piece_needs, piece_ask, free_process, file_block}
 use Rattle.kernel_model.specs.Fetch.{chosen_by}
 use Rattle.kernel_model.specs.FilePieces.{leaves, refuses, well, free_descriptor, open_piece, close_piece, read_piece, write_piece, sync_from}
@@ -59,7 +59,7 @@ abbrev pub freed_by : ℕ → Option ℕ → Option ℕ
 freed_by p None = None
 freed_by p (Some q) = cond (q == p) None (Some q)
 
--- p's cells are 0, its files closed, its locks free, it isn't in the queue, and its frames are process 0's
+-- p's cells are 0, its files closed, its locks free, it isn't in the queue, its handlers are gone, and its frames are process 0's
 abbrev pub things_without : ℕ → Things → Things
 things_without p w =
     record {
@@ -69,6 +69,8 @@ things_without p w =
       cache = record (w.cache) { frame = λ f. handed_over p 0 (w.cache.frame f) };
       lock = λ u. freed_by p (w.lock u);
       pol = w.pol;
+      seg = w.seg;
+      handlers = handlers_without_process p w.handlers;
     }
 
 -- a process leaves
@@ -221,10 +223,11 @@ read_fits (suc n) None = false
 read_fits (suc zero) (Some o) = true
 read_fits (suc (suc n)) (Some o) = nat_le 1 o.count
 
--- a call may stand before the piece of this number: a read may not before another than its three, nor any other call past its last
+-- A call may stand before the piece of this number: a read, of one of the four descriptors, before each of its three, and
+-- another call not past its last.
 abbrev pub piece_fits : SysCall → ℕ → Things → ℕ → Bool
 piece_fits Yield n w p = nat_le n 1
-piece_fits (Read fd i off len) n w p = nat_le n 2 && read_fits n (w.file p fd)
+piece_fits (Read fd i off len) n w p = nat_lt fd 4 && (nat_le n 2 && read_fits n (w.file p fd))
 piece_fits c n w p = n == 0
 
 -- how many pieces are left of a read: at most ten
@@ -240,14 +243,18 @@ pieces_left Yield n w p = 2 - n
 pieces_left (Read fd i off len) n w p = read_left n (w.file p fd)
 pieces_left c n w p = 1
 
--- the meaning of the calls of the table
-abbrev pub plain : Meaning
-plain =
+-- the meaning of the calls of the table, where points go up to this one
+abbrev pub plain_upto : (top : ℕ) → Meaning
+plain_upto top =
     record {
-      early = plain_early;
+      early = plain_early top;
       need = λ v s p t. piece_needs t.call t.piece v s p;
       asks = λ v s p t. piece_ask t.call t.piece v s.things p;
-      piece = λ v images s blocks p t answer io. piece_of t.call t.piece v s blocks p answer io;
+      piece = λ v images s blocks p t answer io. piece_of t.call t.piece v s blocks p (registers_of answer) io;
       fits = λ v s p t. piece_fits t.call t.piece s.things p;
       left = λ v s p t. pieces_left t.call t.piece s.things p;
     }
+
+-- the meaning of the calls that are built
+abbrev pub plain : Meaning
+plain = plain_upto TOP_POINT

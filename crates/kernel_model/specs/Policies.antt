@@ -94,21 +94,26 @@ ahead_default v pol (Some o) = ahead_in pol o (blocks_of v o.file)
 
 -- ---- points
 
--- what kind of point a number names; further kinds of points become cases here
+-- what kind of point a number names
 pub data PointKind : Type 0 where
   Ahead : PointKind
   Victim : PointKind
   Next : PointKind
+  Serve : PointKind
+  Stream : PointKind
 
--- points 0 to 3 read ahead, 4 evicts, 5 chooses a process
+-- points 0 to 3 read ahead, 4 evicts, 5 chooses a process, 6 to 13 serve events, and those above change streams
 abbrev pub kind_of : ℕ → PointKind
-kind_of pt = cond (nat_lt pt 4) Ahead (cond (pt == 4) Victim Next)
+kind_of pt =
+    cond (nat_lt pt 4) Ahead (cond (pt == 4) Victim (cond (pt == 5) Next (cond (nat_lt pt 14) Serve Stream)))
 
 -- the default answer of each kind of point
 abbrev pub default_by : PointKind → World → Things → ℕ → ℕ → ℕ × ℕ
 default_by Ahead v w q pt = ahead_default v (w.pol 0) (w.file q pt)
 default_by Victim v w q pt = (or_zero (victim_among (w.pol 1) w.cache (frames_of w.cache q)), 0)
 default_by Next v w q pt = (q, 0)
+default_by Serve v w q pt = (0, 0)
+default_by Stream v w q pt = (0, 0)
 
 -- the default answer of a point of q that a graft of q asks: to its own scheduling point it is q itself
 abbrev pub default_of : World → Things → ℕ → ℕ → ℕ × ℕ
@@ -121,12 +126,16 @@ args_by Ahead v w q pt =
 args_by Victim v w q pt =
     or_zero (victim_among (w.pol 1) w.cache (frames_of w.cache q)) ∷ 0 ∷ length (frames_of w.cache q) ∷ 0 ∷ []
 args_by Next v w q pt = q ∷ nice_of w.queue q ∷ length w.queue ∷ 0 ∷ []
+args_by Serve v w q pt = 0 ∷ 0 ∷ 0 ∷ 0 ∷ []
+args_by Stream v w q pt = 0 ∷ 0 ∷ 0 ∷ 0 ∷ []
 
 -- the answer r0, r1 is one that the kind of point accepts
 abbrev pub valid_by : PointKind → Things → ℕ → List ℕ → ℕ → ℕ → Bool
 valid_by Ahead w q args r0 r1 = nat_le r1 8 && nat_le (r0 + r1) (slice_index args 2)
 valid_by Victim w q args r0 r1 = is_owned w.cache q r0
 valid_by Next w q args r0 r1 = lives w.queue r0
+valid_by Serve w q args r0 r1 = nat_le r0 512
+valid_by Stream w q args r0 r1 = r0 == slice_index args 0
 
 -- the answer r0, r1 is one that the point of q accepts, which was asked with these arguments
 abbrev pub valid : Things → ℕ → ℕ → List ℕ → ℕ → ℕ → Bool

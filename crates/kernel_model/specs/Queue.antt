@@ -1,6 +1,6 @@
 -- Words on the living processes: the rows of the queue, the holders of user locks, and the handlers of the event points.
-use Rattle.std.specs.Prelude.{◌≡◌, ◌<◌, ℕ, zero, suc, ◌+◌, ◌-◌, ◌^◌, min, Bool, true, false, cond, not, ◌&&◌, ◌||◌, ◌==◌, nat_lt, List, [], ◌∷◌, ◌++◌, map, filter, length, Option, Some, None}
-use Rattle.std.specs.List.{list_any}
+use Rattle.std.specs.Prelude.{◌≡◌, ◌<◌, ◌≤◌, ℕ, zero, suc, ◌+◌, ◌-◌, ◌^◌, min, Bool, true, false, cond, not, ◌&&◌, ◌||◌, ◌==◌, nat_le, nat_lt, List, [], ◌∷◌, ◌++◌, map, filter, length, Option, Some, None}
+use Rattle.std.specs.List.{list_all, list_any}
 use Rattle.kernel_model.specs.declared.QueueRow.{QueueRow}
 
 -- ---- the queue
@@ -66,9 +66,19 @@ is_handler q pt h = h.0 == q && h.1 == pt
 abbrev pub handlers_without : ℕ → ℕ → List (ℕ × ℕ) → List (ℕ × ℕ)
 handlers_without q pt handlers = filter (λ h. not (is_handler q pt h)) handlers
 
+-- the handlers but those of a process
+abbrev pub handlers_without_process : ℕ → List (ℕ × ℕ) → List (ℕ × ℕ)
+handlers_without_process p handlers = filter (λ (h : ℕ × ℕ). not (h.0 == p)) handlers
+
 -- the handlers at a point
 abbrev pub handlers_at : ℕ → List (ℕ × ℕ) → List (ℕ × ℕ)
 handlers_at pt handlers = filter (λ (h : ℕ × ℕ). h.1 == pt) handlers
+
+-- the handlers: each once, at points 6 to 13, at most 8 at each
+pub record AreHandlers (handlers : List (ℕ × ℕ)) : Type 0 where
+  pub once : (q pt : ℕ) → length (filter (is_handler q pt) handlers) ≤ 1
+  pub points : list_all (λ (h : ℕ × ℕ). nat_le 6 h.1 && nat_le h.1 13) handlers ≡ true
+  pub most : (pt : ℕ) → length (handlers_at pt handlers) ≤ 8
 
 -- a handler that stands may be put last; another one joins where fewer than 8 stand at its point
 abbrev pub has_room : ℕ → ℕ → List (ℕ × ℕ) → Bool

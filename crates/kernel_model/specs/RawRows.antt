@@ -7,7 +7,7 @@ use Rattle.kernel_model.specs.declared.TopRow.{TopRow}
 use Rattle.kernel_model.specs.declared.FrameRow.{FrameRow}
 use Rattle.kernel_model.specs.declared.OpenRow.{OpenRow}
 use Rattle.kernel_model.specs.declared.FileRow.{FileRow}
-use Rattle.kernel_model.specs.declared.Inverse.{Inverse}
+use Rattle.kernel_model.specs.Access.{Found}
 use Rattle.kernel_model.specs.declared.Kind.TheVariants.{Steps, Records, Locks}
 use Rattle.kernel_model.specs.World.{World, processes, file_row}
 use Rattle.kernel_model.specs.Objects.{Objects, GraftValue, FrameValue, PolValue}
@@ -104,8 +104,8 @@ rows_of_levels p [] = []
 rows_of_levels p (l ∷ ls) = RawRow.Level p (length ls) l.owner l.point l.count ∷ rows_of_levels p ls
 
 -- a record, with the level that owns it
-abbrev pub undo_row : ℕ → ℕ × Inverse → RawRow
-undo_row p r = RawRow.Undo p r.0 r.1
+abbrev pub undo_row : ℕ → ℕ × Found → RawRow
+undo_row p r = RawRow.Undo p r.0 r.1.inverse
 
 module _ (m : Meaning) where
   -- a call in flight

@@ -14,21 +14,18 @@ use Rattle.kernel_model.specs.Pieces.{plain}
 use Rattle.kernel_model.specs.Opening.{opening_kernel}
 use Rattle.kernel_model.specs.RawRows.{raw_rows}
 use Rattle.kernel_model.specs.Text.{spaced, line, note_lines, row_lines, load_fault_text, image_text, boot_text}
-use Rattle.kernel_model.specs.Script.{Entry, Blank, Frames, Patience, Grant, Boot, Happens, Loads, Raw, ScriptFault, UnknownCommand, fault_number, parsed_line}
+use Rattle.kernel_model.specs.Script.{Entry, Blank, Frames, Patience, Grant, Boot, Happens, Loads, Raw, ScriptFault, fault_number, parsed_line}
 
 -- ---- what is run
 
--- What of the product is built: the meaning of its system calls, the highest id that grafts may call, which entries
--- of a script are run, and whether `boot` reads the directory.
+-- what of the product is built: the meaning of its system calls, and the highest id that grafts may call
 pub record Build : Type 0 where
   pub meaning : Meaning
   pub callable : ℕ
-  pub built : Entry → Bool
-  pub reads_directory : Bool
 
--- all calls, all of the callable list, all lines
+-- all calls, and all of the callable list
 abbrev pub whole : Build
-whole = record { meaning = plain; callable = LAST_CALLABLE; built = λ e. true; reads_directory = true }
+whole = record { meaning = plain; callable = LAST_CALLABLE }
 
 -- what set-up lines set
 pub record Setup : Type 0 where
@@ -102,19 +99,14 @@ world_of u size callable rows =
 abbrev pub booted : Session → World → List ℕ → List Bool → Written
 booted s v text io = says (record s { kernel = Some (opening_kernel v) }) (line text) io
 
--- block 0 is read; where that fails, the directory is empty
-abbrev pub boots_reading : (size callable : ℕ) → Session → List Bool → Written
-boots_reading size callable s io =
+-- a boot reads block 0; where that fails, the directory is empty
+abbrev pub boots : (size callable : ℕ) → Session → List Bool → Written
+boots size callable s io =
     let rows = directory_of size (s.blocks 0) in
     elim (disk_fails io 0) [
       | true ↦ booted s (world_of s.setup size callable []) (codes "0 E16") (drop 1 io)
       | false ↦ booted s (world_of s.setup size callable rows) (boot_text s.setup.frames size (usable_count rows)) (drop 1 io)
     ]
-
--- a boot that reads the directory, or one that takes it for empty and calls no disk
-abbrev pub boots : (size callable : ℕ) → (reads : Bool) → Session → List Bool → Written
-boots size callable true s io = boots_reading size callable s io
-boots size callable false s io = booted s (world_of s.setup size callable []) (boot_text s.setup.frames size 0) io
 
 -- a kernel with one more image
 abbrev pub add_image : ℕ → Image → Kernel → Kernel
@@ -186,18 +178,13 @@ module _ (b : Build) (key : List ℕ) (size : ℕ) where
   after_entry s (Frames n) io = silent (record s { setup = record (s.setup) { frames = n } }) io
   after_entry s (Patience kind ticks) io = silent (record s { setup = with_patience kind ticks s.setup }) io
   after_entry s (Grant n) io = silent (record s { setup = record (s.setup) { grant = n } }) io
-  after_entry s Boot io = boots size b.callable b.reads_directory s io
+  after_entry s Boot io = boots size b.callable s io
   after_entry s e io = running_in s e s.kernel io
-
-  -- an entry that is built, or else a line that is refused as an unknown command
-  abbrev pub after_built : Session → Entry → List Bool → (built : Bool) → Written
-  after_built s e io true = after_entry s e io
-  after_built s e io false = refuses_line s UnknownCommand io
 
   -- what a parsed line makes of a session
   abbrev pub after_parse : Session → Result Entry ScriptFault → List Bool → Written
   after_parse s (Err fault) io = refuses_line s fault io
-  after_parse s (Ok e) io = after_built s e io (b.built e)
+  after_parse s (Ok e) io = after_entry s e io
 
   -- what a line makes of a session, with what its calls of the disk will do; after a refused line there is no other
   abbrev pub after_line : Session → List ℕ → List Bool → Written

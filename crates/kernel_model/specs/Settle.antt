@@ -4,7 +4,7 @@ use Rattle.kernel_model.specs.declared.Point.{Point}
 use Rattle.kernel_model.specs.declared.Micro.{Micro}
 use Rattle.kernel_model.specs.declared.Note.TheVariants.{Dropped}
 use Rattle.kernel_model.specs.Objects.{Objects, GraftValue}
-use Rattle.kernel_model.specs.Meaning.{Meaning}
+use Rattle.kernel_model.specs.Meaning.{Meaning, Answer, bare_answer}
 use Rattle.kernel_model.specs.Locks.{LockTable}
 use Rattle.kernel_model.specs.Levels.{Outcome}
 use Rattle.kernel_model.specs.GraftStep.{micro}
@@ -24,7 +24,7 @@ module _ (m : Meaning) where
   -- ---- one step
 
   -- the piece of a call on a state, with an answer or by default
-  abbrev pub finish_on : ℕ → Call → Objects → Option (List ℕ) → Run → Run
+  abbrev pub finish_on : ℕ → Call → Objects → Option Answer → Run → Run
   finish_on p c s answer r = finish p c (m.piece r.kernel.world r.kernel.images s r.blocks p c.stage answer r.io) r
 
   -- a piece: a history begins where a graft stands at its point, else the default finishes the piece
@@ -46,7 +46,7 @@ module _ (m : Meaning) where
   abbrev pub after_outcome : ℕ → Call → Trace → List Mark → Outcome → Micro → Run → Run
   after_outcome p c t ks o Micro.Went r = with_marks p c (ks ++ Stepped ∷ []) r
   after_outcome p c t ks o (Micro.Blocked object holder by_user) r = r
-  after_outcome p c t ks o (Micro.Completed answer) r = finish_on p c o.config.now (Some answer) r
+  after_outcome p c t ks o (Micro.Completed answer) r = finish_on p c o.config.now (Some (bare_answer answer)) r
   after_outcome p c t ks o (Micro.Dropped d q pt cause) r = after_drop p c t ks o d (noted (Dropped c.number q pt cause) r)
 
   -- the same by what is said of the outcome

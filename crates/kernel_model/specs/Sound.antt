@@ -1,18 +1,18 @@
 -- Which states, graft calls and abstract kernels are sound, and which kernels rest.
-use Rattle.std.specs.Prelude.{◌≡◌, ◌≢◌, ℕ, zero, suc, ◌+◌, ◌<◌, ◌≤◌, Bool, true, false, cond, ◌==◌, List, [], ◌∷◌, Option, Some, None, is_some, map, length, Contains, ⊤}
+use Rattle.std.specs.Prelude.{◌≡◌, ◌≢◌, ℕ, zero, suc, ◌+◌, ◌<◌, ◌≤◌, Bool, true, false, cond, ◌==◌, ◌&&◌, nat_lt, List, [], ◌∷◌, Option, Some, None, is_some, map, length, Contains, ⊤}
 use Rattle.std.specs.Result.{is_ok}
 use Rattle.kernel_model.specs.declared.Object.{Object}
 use Rattle.kernel_model.specs.declared.Object.TheVariants.{Graft, Acct}
 use Rattle.kernel_model.specs.declared.Held.{Held}
-use Rattle.kernel_model.specs.declared.Inverse.{Inverse}
 use Rattle.kernel_model.specs.declared.Kind.{Kind}
 use Rattle.kernel_model.specs.declared.QueueRow.{QueueRow}
 use Rattle.kernel_model.specs.declared.OpenRow.{OpenRow}
 use Rattle.kernel_model.specs.declared.FileRow.{FileRow}
 use Rattle.kernel_model.specs.World.{World, ImageTable, Blocks, file_row, blocks_of}
-use Rattle.kernel_model.specs.Objects.{Objects, Accounts, GraftValue, FrameValue, CacheValue, PolValue}
+use Rattle.kernel_model.specs.Objects.{nothing_kept, Objects, Accounts, GraftValue, FrameValue, CacheValue, PolValue}
 use Rattle.kernel_model.specs.Policies.{lives}
-use Rattle.kernel_model.specs.Access.{param_top, changed_by}
+use Rattle.kernel_model.specs.Queue.{AreHandlers}
+use Rattle.kernel_model.specs.Access.{Found, param_top, changed_by}
 use Rattle.kernel_model.specs.Early.{policy_count}
 use Rattle.kernel_model.specs.Meaning.{Meaning}
 use Rattle.kernel_model.specs.Levels.{Level, Config, level_at, outermost_touched}
@@ -111,6 +111,11 @@ pub record IsSoundStore (v : World) (s : Objects) : Type 0 where
   pub gone : (p : ℕ) → lives s.things.queue p ≡ false → IsGone s p
   pub files : (p fd : ℕ) (o : OpenRow) → s.things.file p fd ≡ Some o → (fd < 4) × IsSoundFile v o
   pub policies : (kind : ℕ) → kind < 3 → IsSoundPolicy kind (s.things.pol kind)
+  -- handlers are those of event points, and of processes that live
+  pub handlers : AreHandlers s.things.handlers
+  pub handlers_live : (h : ℕ × ℕ) → Contains s.things.handlers h → lives s.things.queue h.0 ≡ true
+  -- nothing is kept at points that there aren't
+  pub segs : (q pt : ℕ) → (nat_lt q 16 && nat_lt pt 16) ≡ false → s.things.seg q pt ≡ nothing_kept
   -- nothing of any kind is made or lost
   pub ledgers : (k : Kind) → sum_below 16 (ledger s.accounts k) ≡ v.grant
 
@@ -149,7 +154,7 @@ pub record IsSoundConfig (v : World) (c : Config) : Type 0 where
       l.owner ≡ n.owner → l.point ≡ n.point → d ≡ e
   pub paid : (l : Level) → Contains c.levels l →
       (outermost_touched c.levels (Graft l.owner l.point) ≡ Held.Exclusive) × (outermost_touched c.levels (Acct l.owner) ≡ Held.Exclusive)
-  pub recorded : (l : Level) (i : Inverse) → Contains c.levels l → Contains l.records i → l.touched (changed_by i) ≡ Held.Exclusive
+  pub recorded : (l : Level) (i : Found) → Contains c.levels l → Contains l.records i → l.touched (changed_by i) ≡ Held.Exclusive
   pub few : record_count c.levels ≤ 64
   pub found : (l : Level) → Contains c.levels l → IsSoundStore v (record (c.now) { things = l.kept })
   pub kept : map (λ (l : Level). l.kept) c.levels ≡ kept_by_log c.now.things (undo_log c.levels)

@@ -1,34 +1,33 @@
 -- The undo log of a call: its records by level, and what undoing them gives.
 use Rattle.std.specs.Prelude.{ℕ, List, [], ◌∷◌, ◌++◌, true, false, nat_le, length, map}
-use Rattle.kernel_model.specs.declared.Inverse.{Inverse}
 use Rattle.kernel_model.specs.Objects.{Objects, Things}
-use Rattle.kernel_model.specs.Access.{undo}
+use Rattle.kernel_model.specs.Access.{Found, undo}
 use Rattle.kernel_model.specs.Levels.{Level}
 
 -- the undo log: the records of each level, innermost level first, newest first within a level
-abbrev pub undo_log : List Level → List (List Inverse)
+abbrev pub undo_log : List Level → List (List Found)
 undo_log ls = map (λ (l : Level). l.records) ls
 
 -- applies inverses, the first one first
-abbrev pub undo_all : List Inverse → Things → Things
+abbrev pub undo_all : List Found → Things → Things
 undo_all [] w = w
 undo_all (i ∷ is) w = undo_all is (undo i w)
 
 -- the same on a whole state
-abbrev pub undo_on : List Inverse → Objects → Objects
+abbrev pub undo_on : List Found → Objects → Objects
 undo_on is s = record s { things = undo_all is s.things }
 
 -- what each level found when it began, as the log tells it: the log is undone on the way outwards
-abbrev pub kept_by_log : Things → List (List Inverse) → List Things
+abbrev pub kept_by_log : Things → List (List Found) → List Things
 kept_by_log w [] = []
 kept_by_log w (is ∷ log) = let kept = undo_all is w in kept ∷ kept_by_log kept log
 
 -- the records with the number of the level that owns each, newest first
-abbrev pub numbered_log : List (List Inverse) → List (ℕ × Inverse)
+abbrev pub numbered_log : List (List Found) → List (ℕ × Found)
 numbered_log [] = []
 numbered_log (is ∷ log) = map (λ i. (length log, i)) is ++ numbered_log log
 
 -- the records of level d and of those further inward, newest first
-abbrev pub records_from : ℕ → List (List Inverse) → List Inverse
+abbrev pub records_from : ℕ → List (List Found) → List Found
 records_from d [] = []
 records_from d (is ∷ log) = elim (nat_le d (length log)) [ true ↦ is ++ records_from d log | false ↦ [] ]

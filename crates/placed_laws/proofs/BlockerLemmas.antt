@@ -211,7 +211,7 @@ module _ (m : Meaning) (laws : Laws m) (k : Kernel) (x : Objects) (here : IsPlac
           let paid = g.replayed.sound.paid l (subst (λ ks. Contains ks l) (sym e) (contains_first l ls)) in
           let same = λ (o : Object) (h : is_changed_in f.levels o ≡ true). same_back o f.now x (held_same m laws k x here p f o is (changed_held f.levels o h)) in
           next_same k.world k.images x.accounts f.now.accounts l (undo_all l.records x.things) ls (relaid (undo_all l.records x.things) ls)
-          (same (Graft l.owner l.point) (outermost_changed f.levels (Graft l.owner l.point) paid.0)) (same (Acct l.owner) (outermost_changed f.levels (Acct l.owner) paid.1))
+          ((same (Graft l.owner l.point) (outermost_changed f.levels (Graft l.owner l.point) paid.0)).0) (same (Acct l.owner) (outermost_changed f.levels (Acct l.owner) paid.1))
 
   -- levels that are there
   placed_next : (y : Placed) (p : ℕ) (c : PlacedCall) (bs : List PlacedLevel) → 1 ≤ length bs → placed_needs_at m y p c bs ≡ next_needs y.world y.images y.objects.accounts (placed_levels y p)

@@ -76,7 +76,7 @@ module _ (m : Meaning) (laws : Laws m) (k : Kernel) (x : Objects) (here : IsPlac
   -- a level's graft stands in the store
   stands : (l : Level) → Contains c.levels l → is_some (x.accounts.graft l.owner l.point) ≡ true
   stands l among =
-      ap is_some (sym (held_same m laws k x here p c (Graft l.owner l.point) is (changed_held c.levels (Graft l.owner l.point) (outermost_changed c.levels (Graft l.owner l.point) (g.replayed.sound.paid l among).0))))
+      ap is_some (sym (held_same m laws k x here p c (Graft l.owner l.point) is (changed_held c.levels (Graft l.owner l.point) (outermost_changed c.levels (Graft l.owner l.point) (g.replayed.sound.paid l among).0))).0)
       ∙ g.replayed.sound.grafts l among
 
   -- what a level found over the store is sound with the store's accounts

@@ -113,7 +113,7 @@ module _ (m : Meaning) (laws : Laws m) (k : Kernel) (w : Objects) (here : IsPlac
 
   -- level 0 was lost: all but accounts and grafts is as committed
   pub lost_agrees : (a d : Objects) (o : Object) → SameAt o a d → SameThing o a.things k.objects.things → SameAt o (lost_objects a k.objects) d
-  lost_agrees a d (Graft q pt) same thing = same
+  lost_agrees a d (Graft q pt) same thing = (same.0, sym thing ∙ same.1)
   lost_agrees a d (Acct q) same thing = same
   lost_agrees a d (Cell q i) same thing = sym thing ∙ same
   lost_agrees a d (OpenFile q fd) same thing = sym thing ∙ same

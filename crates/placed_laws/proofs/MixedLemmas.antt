@@ -2,7 +2,7 @@
 use Rattle.std.specs.Prelude.{◌≡◌, ℕ, is_some, Contains}
 use Rattle.std.proofs.Common.{subst, sym, ap, ◌∙◌}
 use Rattle.kernel_model.specs.declared.Object.{Object}
-use Rattle.kernel_model.specs.declared.Object.TheVariants.{Cell, OpenFile, Queue, Cache, Lock, Pol}
+use Rattle.kernel_model.specs.declared.Object.TheVariants.{Graft, Cell, OpenFile, Queue, Cache, Lock, Pol}
 use Rattle.kernel_model.specs.World.{World}
 use Rattle.kernel_model.specs.Objects.{Objects, Things, CacheValue, SameThing}
 use Rattle.kernel_model.specs.Policies.{lives}
@@ -42,5 +42,6 @@ mixed_sound v s t sound living source =
       };
       files = λ p fd o e. (source (OpenFile p fd)).store.files p fd o ((source (OpenFile p fd)).same ∙ e);
       policies = λ kind low. subst (IsSoundPolicy kind) (source (Pol kind)).same ((source (Pol kind)).store.policies kind low);
+      segs = λ q pt out. sym (source (Graft q pt)).same ∙ (source (Graft q pt)).store.segs q pt out;
       ledgers = sound.ledgers;
     }

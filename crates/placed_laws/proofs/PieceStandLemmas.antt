@@ -92,8 +92,8 @@ module _ (m : Meaning) (laws : Laws m) (k : Kernel) (w : Objects) (here : IsPlac
   -- the graft of the point that is asked
   pub graft_is : (a : Point) → m.asks k.world k.objects p c.stage ≡ Some a → w.accounts.graft a.installer a.point ≡ k.objects.accounts.graft a.installer a.point
   graft_is a asks =
-      sym (agrees (Graft a.installer a.point) (subst (λ ns. is_needed (Graft a.installer a.point) ns ≡ true) (sym (laws.need.point k.world k.objects p c.stage a (here.kernel.fit p c e) asks))
-      (later_needed (before_point k.objects a (m.need k.world k.objects p c.stage)) (needs_of_point k.objects a) (Graft a.installer a.point) (first_of_point a))))
+      sym ((agrees (Graft a.installer a.point) (subst (λ ns. is_needed (Graft a.installer a.point) ns ≡ true) (sym (laws.need.point k.world k.objects p c.stage a (here.kernel.fit p c e) asks))
+      (later_needed (before_point k.objects a (m.need k.world k.objects p c.stage)) (needs_of_point k.objects a) (Graft a.installer a.point) (first_of_point a)))).0)
     where
       first_of_point : (a : Point) → is_needed (Graft a.installer a.point) (needs_of_point k.objects a) ≡ true
       first_of_point a = needed_here (exclusive (Graft a.installer a.point)) (payer_needs a.installer (k.objects.accounts.graft a.installer a.point))

@@ -31,7 +31,7 @@ same_needs m laws v s u p t fits other agree =
 -- ---- policies out of range
 
 pub shown_same : (s y : Objects) (o : Object) → HasRange o → SameAt o (shown s y) y
-shown_same s y (Graft q pt) range = refl
+shown_same s y (Graft q pt) range = (refl, refl)
 shown_same s y (Acct q) range = refl
 shown_same s y (Cell q k) range = refl
 shown_same s y (OpenFile q fd) range = refl
@@ -60,6 +60,7 @@ shown_sound v s y h =
       gone = λ p dead. let none = h.gone p dead in record { cells = none.cells; files = none.files; balances = none.balances; spent = none.spent };
       files = h.files;
       policies = λ kind low. subst (IsSoundPolicy kind) (same_back (Pol kind) (shown s y) y (shown_same s y (Pol kind) low)) (h.policies kind low);
+      segs = h.segs;
       ledgers = h.ledgers;
     }
 

@@ -189,7 +189,7 @@ module _ (m : Meaning) (laws : Laws m) (k : Kernel) (w : Objects) (here : IsPlac
   grafts =
       ap (λ (graft : ℕ → ℕ → Option GraftValue).
       flat_map (λ q. filter_map (λ pt. option_map (λ (g : GraftValue). RawRow.Graft q pt g.image g.limit g.billed (g.balance Steps ∷ g.balance Records ∷ g.balance Locks ∷ [])) (graft q pt)) points) processes)
-      (fun_ext (λ q. fun_ext (λ pt. here.objects (Graft q pt) tt)))
+      (fun_ext (λ q. fun_ext (λ pt. (here.objects (Graft q pt) tt).0)))
 
   pols : map (pol_row w) (0 ∷ 1 ∷ 2 ∷ []) ≡ map (pol_row (in_place m k)) (0 ∷ 1 ∷ 2 ∷ [])
   pols =

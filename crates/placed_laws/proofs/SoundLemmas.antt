@@ -113,8 +113,8 @@ images_there m laws r w here whole q pt g e = elim (changer m r.kernel here.kern
       let h = has_graft m k found.0 f.0 f.1 in
       let come = history_come m laws laws.need.grafts r found.0 h.call h.marks h.trace here.kernel whole h.is h.marked h.leads in
       let loaded = images_from k.images k.objects.accounts h.trace.config.now.accounts come here.kernel.state.images_loaded in
-      loaded q pt g (ap (λ (c : Config). c.now.accounts.graft q pt) h.config ∙ sym ((in_place_reads m).own k found.0 f.0 (Graft q pt) here.kernel f.1 f.2) ∙ sym (here.objects (Graft q pt) tt) ∙ e)
-  | inr none ↦ here.kernel.state.images_loaded q pt g (sym ((in_place_reads m).committed r.kernel (Graft q pt) none) ∙ sym (here.objects (Graft q pt) tt) ∙ e)
+      loaded q pt g (ap (λ (c : Config). c.now.accounts.graft q pt) h.config ∙ sym ((in_place_reads m).own k found.0 f.0 (Graft q pt) here.kernel f.1 f.2).0 ∙ sym (here.objects (Graft q pt) tt).0 ∙ e)
+  | inr none ↦ here.kernel.state.images_loaded q pt g (sym ((in_place_reads m).committed r.kernel (Graft q pt) none).0 ∙ sym (here.objects (Graft q pt) tt).0 ∙ e)
 ]
 
 -- a call in place

@@ -132,7 +132,7 @@ exit_account_changes s p q h =
 -- exit
 exit_changes : (s : Objects) (p : ℕ) (blocks : Blocks) (o : Object) → IsInRange o → is_needed_exclusively o (exit_needs p) ≡ false → SameAt o (exit_piece s p blocks).objects s
 unfolding same_object
-exit_changes s p blocks (Graft q pt) r h = exit_graft_changes s p q pt r.1 h
+exit_changes s p blocks (Graft q pt) r h = (exit_graft_changes s p q pt r.1 h, refl)
 exit_changes s p blocks (Acct q) r h = exit_account_changes s p q h
 exit_changes s p blocks (Cell q k) r h = elim (cases_Bool (q == p)) [
   | inl e ↦ absurd (false≢true (sym h ∙ ap (λ i. is_needed_exclusively (Cell i k) (exit_needs p)) (eqb-true q p e) ∙ needs_cell p k r.1))

@@ -23,7 +23,7 @@ use Rattle.kernel_model.specs.Alike.{is_needed_exclusively}
 
 -- a state has its own values
 pub same_self : (o : Object) (s : Objects) → SameAt o s s
-same_self (Graft q pt) s = refl
+same_self (Graft q pt) s = (refl, refl)
 same_self (Acct q) s = refl
 same_self (Cell q k) s = refl
 same_self (OpenFile q fd) s = refl

@@ -186,7 +186,7 @@ looks_by Spawn n v s u blocks p answer io h =
     let e = spawn_agrees (free_process s.things.queue 16 0) s u h in
     spawn_same s u (free_process s.things.queue 16 0) (free_process u.things.queue 16 0) blocks (ap (λ q. free_process q 16 0) e) e
 looks_by Exit n v s u blocks p answer io h =
-    exit_same s u p blocks (λ i low. h.on (Graft p i) (needed_from_exclusively (Graft p i) (exit_needs p) (needs_graft p i low)))
+    exit_same s u p blocks (λ i low. (h.on (Graft p i) (needed_from_exclusively (Graft p i) (exit_needs p) (needs_graft p i low))).0)
     (first_agrees (rest_agrees (rest_agrees h))) (first_agrees (rest_agrees (rest_agrees (rest_agrees h))))
 looks_by Yield n v s u blocks p answer io h = let a = yield_agrees n s u h in yield_same n s u p answer blocks a.0 a.1
 looks_by (OpenName name) n v s u blocks p answer io h =
@@ -210,12 +210,12 @@ looks_by (Choose kind j) n v s u blocks p answer io h = choose_same s u kind j b
 looks_by (Give q kind x) n v s u blocks p answer io h =
     let a = gift_agrees (lives s.things.queue q) s u p q kind x (rest_agrees h) in
     give_same s u p q kind x blocks _ _ (ap (λ rows. lives rows q) (first_agrees h)) a.0 a.1
-looks_by (Install pt i limit) n v s u blocks p answer io h = install_same s u p pt (new_graft i limit) _ _ blocks (first_agrees h)
+looks_by (Install pt i limit) n v s u blocks p answer io h = install_same s u p pt (new_graft i limit) _ _ blocks ((first_agrees h).0)
 looks_by (Remove pt) n v s u blocks p answer io h =
-    remove_same s u p pt blocks (first_agrees h) (payer_agrees p (s.accounts.graft p pt) s u (rest_agrees h))
+    remove_same s u p pt blocks ((first_agrees h).0) (payer_agrees p (s.accounts.graft p pt) s u (rest_agrees h))
 looks_by (Fund pt kind x) n v s u blocks p answer io h =
-    fund_same s u p pt kind x blocks _ _ (first_agrees h) (payer_agrees p (s.accounts.graft p pt) s u (rest_agrees h))
-looks_by (Bill pt) n v s u blocks p answer io h = bill_same s u p pt _ _ blocks (first_agrees h)
+    fund_same s u p pt kind x blocks _ _ ((first_agrees h).0) (payer_agrees p (s.accounts.graft p pt) s u (rest_agrees h))
+looks_by (Bill pt) n v s u blocks p answer io h = bill_same s u p pt _ _ blocks ((first_agrees h).0)
 
 -- a piece does the same on states that agree on what it needs
 pub piece_looks : (c : SysCall) (n : ℕ) (v : World) (s u : Objects) (blocks : Blocks) (p : ℕ) (answer : Option (List ℕ)) (io : List Bool) →

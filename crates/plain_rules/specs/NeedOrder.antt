@@ -46,7 +46,7 @@ follows_same s u xs ys e = subst (λ (zs : List Need). Follows s u xs zs) e (fol
 
 -- the objects of a point
 follows_at_point : (s u : Objects) (q pt : ℕ) → Follows s u (point_needs s.accounts q pt) (point_needs u.accounts q pt)
-follows_at_point s u q pt = (refl, λ h. follows_same s u (payer_needs q (s.accounts.graft q pt)) (payer_needs q (u.accounts.graft q pt)) (ap (payer_needs q) h))
+follows_at_point s u q pt = (refl, λ h. follows_same s u (payer_needs q (s.accounts.graft q pt)) (payer_needs q (u.accounts.graft q pt)) (ap (payer_needs q) h.0))
 
 -- the objects of a point, for the same process
 follows_point : (s u : Objects) (q r pt : ℕ) → q ≡ r → Follows s u (point_needs s.accounts q pt) (point_needs u.accounts r pt)

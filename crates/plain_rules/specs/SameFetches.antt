@@ -229,7 +229,7 @@ closed_same p q a b own root same = grind (arith, nat_tests)
 -- an exit keeps what is the same in two states
 exit_keeps : (s u : Objects) (p : ℕ) → ((i : ℕ) → i < 16 → s.accounts.graft p i ≡ u.accounts.graft p i) → s.accounts.acct p ≡ u.accounts.acct p →
     s.accounts.acct 0 ≡ u.accounts.acct 0 → (blocks : Blocks) → Keeps s u (exit_piece s p blocks).objects (exit_piece u p blocks).objects
-exit_keeps s u p grafts own root blocks (Graft q pt) h = without_graft_same p 16 q pt s.accounts u.accounts grafts h
+exit_keeps s u p grafts own root blocks (Graft q pt) h = (without_graft_same p 16 q pt s.accounts u.accounts grafts h.0, h.1)
 exit_keeps s u p grafts own root blocks (Acct q) h =
     closed_same p q (without_grafts p 16 s.accounts) (without_grafts p 16 u.accounts) (without_account_same p 16 p s.accounts u.accounts grafts own own)
     (without_account_same p 16 0 s.accounts u.accounts grafts own root) (without_account_same p 16 q s.accounts u.accounts grafts own h)

@@ -76,6 +76,7 @@ store_with_new v s c h free = record {
   gone = λ p e. let g = h.gone p (not_before s.things.queue c p e) in record { cells = g.cells; files = g.files; balances = g.balances; spent = g.spent };
   files = h.files;
   policies = h.policies;
+  segs = h.segs;
   ledgers = h.ledgers;
 }
 
@@ -219,5 +220,6 @@ exit_store v s p blocks h alive ne =
         | inr other ↦ h.files q fd o (sym (cond-false (q == p) None (s.things.file q fd) other) ∙ e)
       ];
       policies = h.policies;
+      segs = h.segs;
       ledgers = λ k. exit_ledger p s.accounts k (h.numbers p alive) ne ∙ h.ledgers k;
     }

@@ -39,6 +39,7 @@ store_with_cache v s c h k = record {
   gone = λ p e. record { cells = (h.gone p e).cells; files = (h.gone p e).files; balances = (h.gone p e).balances; spent = (h.gone p e).spent };
   files = h.files;
   policies = h.policies;
+  segs = h.segs;
   ledgers = h.ledgers;
 }
 
@@ -80,6 +81,7 @@ store_with_file v s p fd row h alive low sound = record {
     | inr a ↦ h.files q l o (sym a ∙ e)
   ];
   policies = h.policies;
+  segs = h.segs;
   ledgers = h.ledgers;
 }
 
@@ -107,6 +109,7 @@ store_with_cell v s p k x h alive = record {
   };
   files = h.files;
   policies = h.policies;
+  segs = h.segs;
   ledgers = h.ledgers;
 }
   where
@@ -137,6 +140,7 @@ store_with_holder v s u holder h low alive = record {
   gone = λ p e. record { cells = (h.gone p e).cells; files = (h.gone p e).files; balances = (h.gone p e).balances; spent = (h.gone p e).spent };
   files = h.files;
   policies = h.policies;
+  segs = h.segs;
   ledgers = h.ledgers;
 }
 
@@ -163,6 +167,7 @@ store_with_policy v s kind pol h sound = record {
     | inl same ↦ subst (λ q. IsSoundPolicy k q) (sym (cond-true (k == kind) pol (s.things.pol k) (eq-eqb k kind same))) (subst (λ i. IsSoundPolicy i pol) (sym same) sound)
     | inr ne ↦ subst (λ q. IsSoundPolicy k q) (sym (cond-false (k == kind) pol (s.things.pol k) (ne_eqb k kind ne))) (h.policies k low)
   ];
+  segs = h.segs;
   ledgers = h.ledgers;
 }
 
@@ -191,6 +196,7 @@ store_with_queue v s queue h k = record {
   gone = λ p e. let g = h.gone p (sym (k.living p) ∙ e) in record { cells = g.cells; files = g.files; balances = g.balances; spent = g.spent };
   files = h.files;
   policies = h.policies;
+  segs = h.segs;
   ledgers = h.ledgers;
 }
 
@@ -224,5 +230,6 @@ store_with_accounts v s a h k = record {
   };
   files = h.files;
   policies = h.policies;
+  segs = h.segs;
   ledgers = λ j. k.ledgers j ∙ h.ledgers j;
 }
