@@ -23,6 +23,7 @@ pub mod Locks
 pub mod Levels
 pub mod GraftStep
 pub mod UndoLog
+pub mod Handlers
 pub mod History
 pub mod Kernel
 pub mod Blocking

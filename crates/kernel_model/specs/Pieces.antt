@@ -11,7 +11,8 @@ use Rattle.kernel_model.specs.declared.OpenRow.{OpenRow}
 use Rattle.kernel_model.specs.World.{World, Blocks, file_named}
 use Rattle.kernel_model.specs.Objects.{Objects, Accounts, Things, GraftValue, AcctValue, FrameValue, at, at2, at_kind, with_accounts, with_things}
 use Rattle.kernel_model.specs.Policies.{lives, next_process, or_zero}
-use Rattle.kernel_model.specs.Queue.{one_more_slice, handlers_without_process}
+use Rattle.kernel_model.specs.Queue.{one_more_slice}
+use Rattle.kernel_model.specs.Handlers.{handlers_without_process}
 use Rattle.kernel_model.specs.Access.{set_cell, set_param, param_top, in_range}
 use Rattle.kernel_model.specs.Charges.{removed}
 use Rattle.kernel_model.specs.Meaning.{Meaning, Piece, Continues, EndsWith, stage, registers_of}

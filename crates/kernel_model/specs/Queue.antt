@@ -55,35 +55,3 @@ slices_of p (r ∷ rows) = cond (r.process == p) r.slices (slices_of p rows)
 abbrev pub freed_by : ℕ → Option ℕ → Option ℕ
 freed_by p None = None
 freed_by p (Some q) = cond (q == p) None (Some q)
-
--- ---- handlers
-
--- a handler is that of process q at point pt
-abbrev pub is_handler : ℕ → ℕ → ℕ × ℕ → Bool
-is_handler q pt h = h.0 == q && h.1 == pt
-
--- the handlers but that of process q at point pt
-abbrev pub handlers_without : ℕ → ℕ → List (ℕ × ℕ) → List (ℕ × ℕ)
-handlers_without q pt handlers = filter (λ h. not (is_handler q pt h)) handlers
-
--- the handlers but those of a process
-abbrev pub handlers_without_process : ℕ → List (ℕ × ℕ) → List (ℕ × ℕ)
-handlers_without_process p handlers = filter (λ (h : ℕ × ℕ). not (h.0 == p)) handlers
-
--- the handlers at a point
-abbrev pub handlers_at : ℕ → List (ℕ × ℕ) → List (ℕ × ℕ)
-handlers_at pt handlers = filter (λ (h : ℕ × ℕ). h.1 == pt) handlers
-
--- the handlers: each once, at points 6 to 13, at most 8 at each
-pub record AreHandlers (handlers : List (ℕ × ℕ)) : Type 0 where
-  pub once : (q pt : ℕ) → length (filter (is_handler q pt) handlers) ≤ 1
-  pub points : list_all (λ (h : ℕ × ℕ). nat_le 6 h.1 && nat_le h.1 13) handlers ≡ true
-  pub most : (pt : ℕ) → length (handlers_at pt handlers) ≤ 8
-
--- a handler that stands may be put last; another one joins where fewer than 8 stand at its point
-abbrev pub has_room : ℕ → ℕ → List (ℕ × ℕ) → Bool
-has_room q pt handlers = list_any (is_handler q pt) handlers || nat_lt (length (handlers_at pt handlers)) 8
-
--- a handler is put last, if it has room
-abbrev pub handlers_with : ℕ → ℕ → List (ℕ × ℕ) → List (ℕ × ℕ)
-handlers_with q pt handlers = cond (has_room q pt handlers) (handlers_without q pt handlers ++ (q, pt) ∷ []) handlers

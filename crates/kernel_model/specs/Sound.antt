@@ -1,5 +1,6 @@
 -- Which states, graft calls and abstract kernels are sound, and which kernels rest.
 use Rattle.std.specs.Prelude.{◌≡◌, ◌≢◌, ℕ, zero, suc, ◌+◌, ◌<◌, ◌≤◌, Bool, true, false, cond, ◌==◌, ◌&&◌, nat_lt, List, [], ◌∷◌, Option, Some, None, is_some, map, length, Contains, ⊤}
+use Rattle.std.specs.List.{list_any}
 use Rattle.std.specs.Result.{is_ok}
 use Rattle.kernel_model.specs.declared.Object.{Object}
 use Rattle.kernel_model.specs.declared.Object.TheVariants.{Graft, Acct}
@@ -11,7 +12,7 @@ use Rattle.kernel_model.specs.declared.FileRow.{FileRow}
 use Rattle.kernel_model.specs.World.{World, ImageTable, Blocks, file_row, blocks_of}
 use Rattle.kernel_model.specs.Objects.{nothing_kept, Objects, Accounts, GraftValue, FrameValue, CacheValue, PolValue}
 use Rattle.kernel_model.specs.Policies.{lives}
-use Rattle.kernel_model.specs.Queue.{AreHandlers}
+use Rattle.kernel_model.specs.Handlers.{is_handler, AreHandlers}
 use Rattle.kernel_model.specs.Access.{Found, param_top, changed_by}
 use Rattle.kernel_model.specs.Early.{policy_count}
 use Rattle.kernel_model.specs.Meaning.{Meaning}
@@ -113,7 +114,7 @@ pub record IsSoundStore (v : World) (s : Objects) : Type 0 where
   pub policies : (kind : ℕ) → kind < 3 → IsSoundPolicy kind (s.things.pol kind)
   -- handlers are those of event points, and of processes that live
   pub handlers : AreHandlers s.things.handlers
-  pub handlers_live : (h : ℕ × ℕ) → Contains s.things.handlers h → lives s.things.queue h.0 ≡ true
+  pub handlers_live : (q pt : ℕ) → list_any (is_handler q pt) s.things.handlers ≡ true → lives s.things.queue q ≡ true
   -- nothing is kept at points that there aren't
   pub segs : (q pt : ℕ) → (nat_lt q 16 && nat_lt pt 16) ≡ false → s.things.seg q pt ≡ nothing_kept
   -- nothing of any kind is made or lost

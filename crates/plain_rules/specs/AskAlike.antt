@@ -1,6 +1,7 @@
 -- On states that differ only in what grafts may change, pieces ask points of the same kind.
-use Rattle.std.specs.Prelude.{◌≡◌, ℕ, zero, suc, ◌==◌, true, false, min, List, [], ◌∷◌, length, Option, Some, None, is_some, Result, Ok, Err}
+use Rattle.std.specs.Prelude.{◌≡◌, ℕ, zero, suc, ◌==◌, true, false, ◌&&◌, nat_lt, nat_le, min, List, [], ◌∷◌, length, Option, Some, None, is_some, Result, Ok, Err}
 use Rattle.std.proofs.Common.{refl, ap, sym, subst, ◌∙◌}
+use Rattle.std.proofs.lemmas.Bool.{and_parts, cond-true}
 use Rattle.kernel_model.specs.declared.Point.{Point}
 use Rattle.kernel_model.specs.declared.OpenRow.{OpenRow}
 use Rattle.kernel_model.specs.declared.QueueRow.{QueueRow}
@@ -11,6 +12,7 @@ use Rattle.kernel_model.specs.World.{World, blocks_of}
 use Rattle.kernel_model.specs.Objects.{Objects, CacheValue, FrameValue, PolValue}
 use Rattle.kernel_model.specs.Policies.{PointKind, Ahead, Victim, Next, kind_of, next_process, victim_among, victim_key, ahead_default, open_blocks}
 use Rattle.kernel_model.specs.Needs.{victim_ask, fetch_ask, candidate_by, candidate_for, frame_with, frame_of_block, free_frame, file_block, ahead_block, slice_ask, yield_ask, read_ask, piece_ask}
+use Rattle.kernel_model.specs.Pieces.{piece_fits, read_fits}
 use Rattle.kernel_model.specs.Alike.{AreAlike, windowless, markless, niceless}
 use Rattle.kernel_model.specs.Laws.{SameKindOfPoint, SameAheadAsk}
 use Rattle.plain_rules.specs.Candidates.{has_first, least_stands, next_stands, candidate_by_same}
@@ -171,7 +173,7 @@ piece_kind c n v s u p h = tt
 
 -- ---- asks to read ahead
 
--- of other kinds of points nothing is said
+-- what is said by the kind of a point, said of the kind itself
 other_kind : (k l : PointKind) (a b : Point) → k ≡ l → SameAheadAsk l a b → SameAheadAsk k a b
 other_kind k l a b e h = subst (λ (j : PointKind). SameAheadAsk j a b) (sym e) h
 
@@ -202,42 +204,47 @@ yield_ahead_alike zero v s a b e = cc
 yield_ahead_alike (suc n) v s a b e =
     other_kind (kind_of a.point) Next a b (ap kind_of (slice_point v s (next_process (s.things.pol 2) s.things.queue) a e)) tt
 
--- asks of which all but the count are the same
-same_ahead : (k : PointKind) (a b : Point) → SameAheadAsk Ahead a b → SameAheadAsk k a b
-same_ahead Ahead a b h = h
-same_ahead Victim a b h = tt
-same_ahead Next a b h = tt
-
 -- the point of reading ahead of p's descriptor fd
 abbrev point_for : (p fd start count blocks : ℕ) → Point
 point_for p fd start count blocks = record { installer = p; point = fd; args = start ∷ count ∷ blocks ∷ fd ∷ [] }
 
 -- points of one descriptor with the same start and the same blocks
-same_points : (k : PointKind) (p fd start other count more blocks left : ℕ) (a b : Point) → Some (point_for p fd start count blocks) ≡ Some a →
-    Some (point_for p fd other more left) ≡ Some b → start ≡ other → blocks ≡ left → SameAheadAsk k a b
-same_points k p fd start other count more blocks left a b e f h l =
+same_points : (p fd start other count more blocks left : ℕ) (a b : Point) → Some (point_for p fd start count blocks) ≡ Some a →
+    Some (point_for p fd other more left) ≡ Some b → start ≡ other → blocks ≡ left → SameAheadAsk Ahead a b
+same_points p fd start other count more blocks left a b e f h l =
     let here : point_for p fd start count blocks ≡ a = cc in
     let there : point_for p fd other more left ≡ b = cc in
-    same_ahead k a b
-    (subst (λ (x : Point). SameAheadAsk Ahead x b) here
-    (subst (λ (y : Point). SameAheadAsk Ahead (point_for p fd start count blocks) y) there (refl, refl, h, l, refl)))
+    subst (λ (x : Point). SameAheadAsk Ahead x b) here
+    (subst (λ (y : Point). SameAheadAsk Ahead (point_for p fd start count blocks) y) there (refl, refl, h, l, refl))
+
+-- the points of descriptors are those of reading ahead
+descriptor_kind : (fd : ℕ) → nat_lt fd 4 ≡ true → kind_of fd ≡ Ahead
+descriptor_kind fd low = cond-true (nat_lt fd 4) Ahead _ low
+
+-- so is the point that the second piece of a read asks
+ahead_kind : (p fd start count blocks : ℕ) (a : Point) → nat_lt fd 4 ≡ true → Some (point_for p fd start count blocks) ≡ Some a → kind_of a.point ≡ Ahead
+ahead_kind p fd start count blocks a low e = ap kind_of (sym (ap point_or_zero e)) ∙ descriptor_kind fd low
 
 -- the second piece of a read asks the same reading ahead, and the others none
-read_ahead_alike : (n : ℕ) (v : World) (s u : Objects) (p fd i off len : ℕ) (a b : Point) → AreAlike s u →
+read_ahead_alike : (n : ℕ) (v : World) (s u : Objects) (p fd i off len : ℕ) (a b : Point) → nat_lt fd 4 ≡ true → AreAlike s u →
     read_ask n v s.things p fd i off len ≡ Some a → read_ask n v u.things p fd i off len ≡ Some b → SameAheadAsk (kind_of a.point) a b
-read_ahead_alike zero v s u p fd i off len a b h e f = fetch_ahead_alike v s u (file_block v (s.things.file p fd) i off len) a b e
-read_ahead_alike (suc zero) v s u p fd i off len a b h e f =
+read_ahead_alike zero v s u p fd i off len a b low h e f = fetch_ahead_alike v s u (file_block v (s.things.file p fd) i off len) a b e
+read_ahead_alike (suc zero) v s u p fd i off len a b low h e f =
     let o = s.things.file p fd in let r = u.things.file p fd in
-    same_points (kind_of a.point) p fd (ahead_default v (s.things.pol 0) o).0 (ahead_default v (u.things.pol 0) r).0
+    other_kind (kind_of a.point) Ahead a b
+    (ahead_kind p fd (ahead_default v (s.things.pol 0) o).0 (ahead_default v (s.things.pol 0) o).1 (open_blocks v o) a low e)
+    (same_points p fd (ahead_default v (s.things.pol 0) o).0 (ahead_default v (u.things.pol 0) r).0
     (ahead_default v (s.things.pol 0) o).1 (ahead_default v (u.things.pol 0) r).1 (open_blocks v o) (open_blocks v r) a b e f
     (default_start v (s.things.pol 0) o ∙ same_windowless (start_of v) (start_windowless v) o r (h.files p fd) ∙ sym (default_start v (u.things.pol 0) r))
-    (same_windowless (open_blocks v) (open_blocks_windowless v) o r (h.files p fd))
-read_ahead_alike (suc (suc n)) v s u p fd i off len a b h e f = fetch_ahead_alike v s u (ahead_block v (s.things.file p fd)) a b e
+    (same_windowless (open_blocks v) (open_blocks_windowless v) o r (h.files p fd)))
+read_ahead_alike (suc (suc n)) v s u p fd i off len a b low h e f = fetch_ahead_alike v s u (ahead_block v (s.things.file p fd)) a b e
 
 -- on alike states a piece asks the same reading ahead, but for the count
-pub piece_ahead_alike : (c : SysCall) (n : ℕ) (v : World) (s u : Objects) (p : ℕ) (a b : Point) → AreAlike s u →
+pub piece_ahead_alike : (c : SysCall) (n : ℕ) (v : World) (s u : Objects) (p : ℕ) (a b : Point) →
+    piece_fits c n s.things p ≡ true → AreAlike s u →
     piece_ask c n v s.things p ≡ Some a → piece_ask c n v u.things p ≡ Some b → SameAheadAsk (kind_of a.point) a b
-piece_ahead_alike Yield n v s u p a b h e f = yield_ahead_alike n v s a b e
-piece_ahead_alike (Read fd i off len) n v s u p a b h e f = read_ahead_alike n v s u p fd i off len a b h e f
-piece_ahead_alike (Write fd i off bytes) n v s u p a b h e f = fetch_ahead_alike v s u (file_block v (s.things.file p fd) i off (length bytes)) a b e
-piece_ahead_alike c n v s u p a b h e f = cc
+piece_ahead_alike Yield n v s u p a b fits h e f = yield_ahead_alike n v s a b e
+piece_ahead_alike (Read fd i off len) n v s u p a b fits h e f =
+    read_ahead_alike n v s u p fd i off len a b (and_parts (nat_lt fd 4) (nat_le n 2 && read_fits n (s.things.file p fd)) fits).0 h e f
+piece_ahead_alike (Write fd i off bytes) n v s u p a b fits h e f = fetch_ahead_alike v s u (file_block v (s.things.file p fd) i off (length bytes)) a b e
+piece_ahead_alike c n v s u p a b fits h e f = cc

@@ -70,7 +70,7 @@ slice_by_queue v w (Some c) = refl
 yield_same : (n : ℕ) (v : World) (s u : Objects) → Each (SameNeed s u) (yield_needs n s) → yield_ask n v s.things ≡ yield_ask n v u.things
 yield_same zero v s u each = refl
 yield_same (suc n) v s u each =
-    let queue : s.things.queue ≡ u.things.queue = each.0 in
+    let queue : s.things.queue ≡ u.things.queue = each.0.0 in
     let pol : s.things.pol 2 ≡ u.things.pol 2 = each.1.0 in
     slice_by_queue v s.things (next_process (s.things.pol 2) s.things.queue)
     ∙ ap (λ (l : PolValue). slice_point s.things.queue (next_process l s.things.queue)) pol

@@ -16,12 +16,12 @@ use Rattle.kernel_model.specs.declared.SysCall.TheVariants.{Yield, Read, Write}
 use Rattle.kernel_model.specs.World.{World, ImageTable, file_row, blocks_of, block_of}
 use Rattle.kernel_model.specs.Objects.{Objects, PolValue}
 use Rattle.kernel_model.specs.Policies.{lives, victim_key, victim_among, next_process, first_nice, nice_of, frames_of, is_owned, ahead_default, open_blocks}
-use Rattle.kernel_model.specs.Meaning.{stage}
 use Rattle.kernel_model.specs.Early.{refused}
 use Rattle.kernel_model.specs.Needs.{owner_asked, victim_ask, fetch_ask, candidate_by, candidate_for, frame_of_block, free_frame, file_block, file_block_in, is_within, ahead_block, slice_ask, yield_ask, read_ask, piece_ask}
 use Rattle.kernel_model.specs.Pieces.{plain}
 use Rattle.kernel_model.specs.Sound.{IsSoundStore, IsSoundFile, once_if, in_queue}
-use Rattle.kernel_model.specs.Laws.{IsRightPoint, IsStanding}
+use Rattle.kernel_model.specs.Laws.{IsRightPoint}
+use Rattle.plain_rules.specs.GrantedCalls.{PieceStands}
 use Rattle.plain_rules.specs.Counts.{each_counted, counted_few}
 use Rattle.plain_rules.specs.Granted.{granted_below}
 use Rattle.plain_rules.specs.Numbers.{least_holds, rows_below, next_below, owner_below}
@@ -259,12 +259,12 @@ read_right (suc (suc n)) v s p fd i off len a sound l m e =
     (λ b h. ahead_block_below v s (s.things.file p fd) b sound (λ r k. (sound.files p fd r k).1) h) e
 
 -- the point that a piece asks is a right one
-pub piece_asks_right : (v : World) (images : ImageTable) (s : Objects) (p : ℕ) (c : SysCall) (n : ℕ) (a : Point) → IsStanding plain v images s p (stage c n) →
+pub piece_asks_right : (v : World) (images : ImageTable) (s : Objects) (p : ℕ) (c : SysCall) (n : ℕ) (a : Point) → PieceStands c n v images s p →
     piece_ask c n v s.things p ≡ Some a → IsRightPoint a
 piece_asks_right v images s p Yield n a c e = yield_right n v s a c.store e
 piece_asks_right v images s p (Read fd i off len) n a c e =
     read_right n v s p fd i off len a c.store (c.store.numbers p c.caller)
-    (granted_below (Read fd i off len) 3 fd BadFd (refused (nat_lt 512 (off + len)) BadIndex None) c.granted) e
+    (granted_below (Read fd i off len) 3 fd BadFd (refused (nat_lt 512 (off + len)) BadIndex None) c.granted.granted) e
 piece_asks_right v images s p (Write fd i off bytes) n a c e =
     fetch_right v s (file_block v (s.things.file p fd) i off (length bytes)) a c.store
     (λ b h. file_block_below v s (s.things.file p fd) i off (length bytes) b c.store h) e

@@ -13,11 +13,11 @@ use Rattle.kernel_model.specs.declared.FileRow.{FileRow}
 use Rattle.kernel_model.specs.World.{World, Blocks, file_row}
 use Rattle.kernel_model.specs.Objects.{Objects, PolValue, CacheValue, FrameValue, at}
 use Rattle.kernel_model.specs.Policies.{or_zero, victim_among, ahead_default}
-use Rattle.kernel_model.specs.Meaning.{Stage, stage, Piece, disk_fails}
+use Rattle.kernel_model.specs.Meaning.{Stage, stage, registers_of, Piece, disk_fails}
 use Rattle.kernel_model.specs.Needs.{file_block, file_block_in, ahead_block, is_within, frame_of_block, free_frame}
 use Rattle.kernel_model.specs.Fetch.{cleaned, Fetched, Got, Failed, fetch, fetch_by, fetch_ahead, fetch_ahead_by, read_block, place_block, evict, chosen_by, replaced, new_frame, dirty_value}
 use Rattle.kernel_model.specs.FilePieces.{disk_failed, with_cache, unless_zero, read_first, read_third, ahead_by, read_first_at, read_third_at, read_piece, write_fetched, write_piece, sync_from}
-use Rattle.kernel_model.specs.Pieces.{plain, piece_of, yield_piece}
+use Rattle.kernel_model.specs.Pieces.{plain_upto, piece_of, yield_piece}
 use Rattle.kernel_model.specs.Laws.{DiskLaws}
 use Rattle.plain_rules.specs.QuickPieces.{is_disk_fault, is_faulty, quick_piece}
 use Rattle.plain_rules.specs.SyncSteps.{sync_steps}
@@ -393,12 +393,12 @@ most_calls_frames Sync frames l = omega arith
 most_calls_frames c frames l = l
 
 -- The laws of disk calls hold of the system calls.
-pub disk_calls_of_plain : DiskLaws plain
-disk_calls_of_plain =
+pub disk_calls_of_plain : (top : ℕ) → DiskLaws (plain_upto top)
+disk_calls_of_plain top =
     record {
-      own_calls = λ v images s blocks p t answer io rest l. (piece_calls_disk t.call t.piece v s blocks p answer).own io rest l;
+      own_calls = λ v images s blocks p t answer io rest l. (piece_calls_disk t.call t.piece v s blocks p (registers_of answer)).own io rest l;
       few_calls = λ v images s blocks p t answer io c.
-          (fewer (most_calls t.call v.frames) v.frames (λ others. piece_of t.call t.piece v s blocks p answer others)
-          (most_calls_frames t.call v.frames c.standing.store.world.frames_some) (piece_calls_disk t.call t.piece v s blocks p answer)).few io;
-      fault = λ v images s blocks p t answer io h. (piece_calls_disk t.call t.piece v s blocks p answer).fault io (ap is_faulty h);
+          (fewer (most_calls t.call v.frames) v.frames (λ others. piece_of t.call t.piece v s blocks p (registers_of answer) others)
+          (most_calls_frames t.call v.frames c.standing.store.world.frames_some) (piece_calls_disk t.call t.piece v s blocks p (registers_of answer))).few io;
+      fault = λ v images s blocks p t answer io h. (piece_calls_disk t.call t.piece v s blocks p (registers_of answer)).fault io (ap is_faulty h);
     }

@@ -15,72 +15,108 @@ use Rattle.kernel_model.specs.Policies.{PointKind, Ahead, kind_of, lives, args_b
 use Rattle.kernel_model.specs.Early.{plain_early, policy_count}
 use Rattle.kernel_model.specs.Needs.{piece_ask, file_block, ahead_block, fetch_ask, read_ask}
 use Rattle.kernel_model.specs.Fetch.{fetch, fetch_ahead}
-use Rattle.kernel_model.specs.Pieces.{piece_fits, read_fits}
+use Rattle.kernel_model.specs.Pieces.{plain_upto, piece_fits, read_fits}
 use Rattle.kernel_model.specs.Sound.{IsSoundStore, FitsDisk, HasWholeBlocks}
-use Rattle.kernel_model.specs.Laws.{IsRightAnswer, accepted_by}
+use Rattle.kernel_model.specs.Meaning.{Stage, Answer, registers_of}
+use Rattle.kernel_model.specs.Laws.{IsStanding, IsReady, IsRightAnswer, accepted_by}
 use Rattle.plain_rules.specs.SoundCaches.{IsSoundCache}
 use Rattle.plain_rules.specs.FetchCases.{AllGot}
 use Rattle.plain_rules.specs.SoundFetches.{fetch_sound, ahead_sound}
 use Rattle.plain_rules.specs.SoundFiles.{IsFileBlock, file_block_is, ahead_block_is, fetch_ready, ReadReady}
 
+-- a call that no early refusal holds of, where points go up to 15 at most
+pub record IsGranted (v : World) (images : ImageTable) (p : ℕ) (c : SysCall) : Type 0 where
+  pub top : ℕ
+  pub most : top ≤ 15
+  pub granted : is_ok (plain_early top v images p c) ≡ true
+
+-- a call stands before the piece of this number
+pub record PieceStands (c : SysCall) (n : ℕ) (v : World) (images : ImageTable) (s : Objects) (p : ℕ) : Type 0 where
+  pub store : IsSoundStore v s
+  pub caller : lives s.things.queue p ≡ true
+  pub granted : IsGranted v images p c
+  pub fits : piece_fits c n s.things p ≡ true
+
 -- a piece whose call stands there, with a right answer
 pub record PieceReady (c : SysCall) (n : ℕ) (v : World) (images : ImageTable) (s : Objects) (p : ℕ) (answer : Option (List ℕ)) : Type 0 where
   pub store : IsSoundStore v s
   pub caller : lives s.things.queue p ≡ true
-  pub granted : is_ok (plain_early v images p c) ≡ true
+  pub granted : IsGranted v images p c
   pub fits : piece_fits c n s.things p ≡ true
   pub disk : FitsDisk v s.things.cache
   pub right : IsRightAnswer s (piece_ask c n v s.things p) answer
 
+-- what is known of a call that stands at a stage, call and number apart
+pub piece_stands : (top : ℕ) (v : World) (images : ImageTable) (s : Objects) (p : ℕ) (t : Stage) → top ≤ 15 →
+    IsStanding (plain_upto top) v images s p t → PieceStands t.call t.piece v images s p
+piece_stands top v images s p t most h = record {
+  store = h.store;
+  caller = h.caller;
+  granted = record { top = top; most = most; granted = h.granted };
+  fits = h.fits;
+}
+
+-- and of a piece that is ready
+pub piece_ready : (top : ℕ) (v : World) (images : ImageTable) (s : Objects) (p : ℕ) (t : Stage) (answer : Option Answer) → top ≤ 15 →
+    IsReady (plain_upto top) v images s p t answer → PieceReady t.call t.piece v images s p (registers_of answer)
+piece_ready top v images s p t answer most h = record {
+  store = h.standing.store;
+  caller = h.standing.caller;
+  granted = record { top = top; most = most; granted = h.standing.granted };
+  fits = h.standing.fits;
+  disk = h.disk;
+  right = h.right;
+}
+
 -- ---- ranges
 
 -- process 0 doesn't exit
-pub exit_granted : (v : World) (images : ImageTable) (p : ℕ) → is_ok (plain_early v images p Exit) ≡ true → p ≢ 0
-exit_granted v images p h = grind (arith, nat_tests)
+pub exit_granted : (v : World) (images : ImageTable) (p : ℕ) → IsGranted v images p Exit → p ≢ 0
+exit_granted v images p h = let g = h.granted in let most = h.most in grind (arith, nat_tests)
 
 -- the descriptor of a close is below 4
-pub close_granted : (v : World) (images : ImageTable) (p fd : ℕ) → is_ok (plain_early v images p (CloseFd fd)) ≡ true → fd < 4
-close_granted v images p fd h = grind (arith, nat_tests)
+pub close_granted : (v : World) (images : ImageTable) (p fd : ℕ) → IsGranted v images p (CloseFd fd) → fd < 4
+close_granted v images p fd h = let g = h.granted in let most = h.most in grind (arith, nat_tests)
 
 -- so is that of a read
-pub read_granted : (v : World) (images : ImageTable) (p fd i off len : ℕ) → is_ok (plain_early v images p (Read fd i off len)) ≡ true → fd < 4
-read_granted v images p fd i off len h = grind (arith, nat_tests)
+pub read_granted : (v : World) (images : ImageTable) (p fd i off len : ℕ) → IsGranted v images p (Read fd i off len) → fd < 4
+read_granted v images p fd i off len h = let g = h.granted in let most = h.most in grind (arith, nat_tests)
 
 -- what is written lies within a block
-pub write_granted : (v : World) (images : ImageTable) (p fd i off : ℕ) (bytes : List ℕ) → is_ok (plain_early v images p (Write fd i off bytes)) ≡ true → off + length bytes ≤ 512
-write_granted v images p fd i off bytes h = grind (arith, nat_tests)
+pub write_granted : (v : World) (images : ImageTable) (p fd i off : ℕ) (bytes : List ℕ) → IsGranted v images p (Write fd i off bytes) → off + length bytes ≤ 512
+write_granted v images p fd i off bytes h = let g = h.granted in let most = h.most in grind (arith, nat_tests)
 
 -- a user lock that is taken is below 16
-pub take_granted : (v : World) (images : ImageTable) (p u : ℕ) → is_ok (plain_early v images p (TakeLock u)) ≡ true → u < 16
-take_granted v images p u h = grind (arith, nat_tests)
+pub take_granted : (v : World) (images : ImageTable) (p u : ℕ) → IsGranted v images p (TakeLock u) → u < 16
+take_granted v images p u h = let g = h.granted in let most = h.most in grind (arith, nat_tests)
 
 -- so is one that is let go
-pub free_granted : (v : World) (images : ImageTable) (p u : ℕ) → is_ok (plain_early v images p (FreeLock u)) ≡ true → u < 16
-free_granted v images p u h = grind (arith, nat_tests)
+pub free_granted : (v : World) (images : ImageTable) (p u : ℕ) → IsGranted v images p (FreeLock u) → u < 16
+free_granted v images p u h = let g = h.granted in let most = h.most in grind (arith, nat_tests)
 
 -- a policy that is tuned is of one of the three kinds
-pub tune_granted : (v : World) (images : ImageTable) (p kind k x : ℕ) → is_ok (plain_early v images p (Tune kind k x)) ≡ true → kind < 3
-tune_granted v images p kind k x h = grind (arith, nat_tests)
+pub tune_granted : (v : World) (images : ImageTable) (p kind k x : ℕ) → IsGranted v images p (Tune kind k x) → kind < 3
+tune_granted v images p kind k x h = let g = h.granted in let most = h.most in grind (arith, nat_tests)
 
 -- a chosen policy is one of its kind
-pub choose_granted : (v : World) (images : ImageTable) (p kind j : ℕ) → is_ok (plain_early v images p (Choose kind j)) ≡ true → (kind < 3) × (j < policy_count kind)
-choose_granted v images p kind j h = grind (arith, nat_tests)
+pub choose_granted : (v : World) (images : ImageTable) (p kind j : ℕ) → IsGranted v images p (Choose kind j) → (kind < 3) × (j < policy_count kind)
+choose_granted v images p kind j h = let g = h.granted in let most = h.most in grind (arith, nat_tests)
 
 -- the point of a new graft is below 16
-pub install_granted : (v : World) (images : ImageTable) (p pt i limit : ℕ) → is_ok (plain_early v images p (Install pt i limit)) ≡ true → pt < 16
-install_granted v images p pt i limit h = grind (arith, nat_tests)
+pub install_granted : (v : World) (images : ImageTable) (p pt i limit : ℕ) → IsGranted v images p (Install pt i limit) → pt < 16
+install_granted v images p pt i limit h = let g = h.granted in let most = h.most in grind (arith, nat_tests)
 
 -- so is that of a graft to be taken out
-pub remove_granted : (v : World) (images : ImageTable) (p pt : ℕ) → is_ok (plain_early v images p (Remove pt)) ≡ true → pt < 16
-remove_granted v images p pt h = grind (arith, nat_tests)
+pub remove_granted : (v : World) (images : ImageTable) (p pt : ℕ) → IsGranted v images p (Remove pt) → pt < 16
+remove_granted v images p pt h = let g = h.granted in let most = h.most in grind (arith, nat_tests)
 
 -- of one to be funded
-pub fund_granted : (v : World) (images : ImageTable) (p pt : ℕ) (k : Kind) (x : ℕ) → is_ok (plain_early v images p (Fund pt k x)) ≡ true → pt < 16
-fund_granted v images p pt k x h = grind (arith, nat_tests)
+pub fund_granted : (v : World) (images : ImageTable) (p pt : ℕ) (k : Kind) (x : ℕ) → IsGranted v images p (Fund pt k x) → pt < 16
+fund_granted v images p pt k x h = let g = h.granted in let most = h.most in grind (arith, nat_tests)
 
 -- and of one to be billed
-pub bill_granted : (v : World) (images : ImageTable) (p pt : ℕ) → is_ok (plain_early v images p (Bill pt)) ≡ true → pt < 16
-bill_granted v images p pt h = grind (arith, nat_tests)
+pub bill_granted : (v : World) (images : ImageTable) (p pt : ℕ) → IsGranted v images p (Bill pt) → pt < 16
+bill_granted v images p pt h = let g = h.granted in let most = h.most in grind (arith, nat_tests)
 
 -- ---- reads and writes
 
@@ -145,7 +181,8 @@ read_ready (suc zero) v images s blocks p fd i off len o answer io h whole e = r
   some = λ z. absurd (omega arith);
 }
 read_ready (suc (suc n)) v images s blocks p fd i off len o answer io h whole e =
-    let some = some_ahead (suc (suc n)) (s.things.file p fd) o h.fits e (omega arith) in record {
+    let some = some_ahead (suc (suc n)) (s.things.file p fd) o
+    (and_parts (nat_lt fd 4) (nat_le (suc (suc n)) 2 && read_fits (suc (suc n)) (s.things.file p fd)) h.fits).1 e (omega arith) in record {
       first = λ b z k. absurd (omega arith);
       second = λ a z k. absurd (omega arith);
       third = λ b z k. fetched_ahead v s blocks p b answer io h.store h.caller whole

@@ -1,5 +1,5 @@
 -- Pieces and the disk: frames stay on it, and blocks stay whole.
-use Rattle.std.specs.Prelude.{◌≡◌, ℕ, zero, suc, ◌<◌, ◌≤◌, Bool, length, List, Option, None, Some, Result, Ok, Err}
+use Rattle.std.specs.Prelude.{◌≡◌, ℕ, zero, suc, ◌<◌, ◌≤◌, Bool, ◌&&◌, nat_lt, nat_le, length, List, Option, None, Some, Result, Ok, Err}
 use Rattle.std.proofs.Common.{arith, refl, subst, sym}
 use Rattle.std.proofs.lemmas.Bool.Decides.{nat_tests}
 use Rattle.kernel_model.specs.declared.Kind.{Kind}
@@ -14,7 +14,8 @@ use Rattle.kernel_model.specs.Meaning.{Piece}
 use Rattle.kernel_model.specs.Needs.{file_block, ahead_block, free_process}
 use Rattle.kernel_model.specs.Fetch.{Fetched, Got, Failed, fetch, fetch_ahead, with_patch, patched}
 use Rattle.kernel_model.specs.FilePieces.{free_descriptor, open_piece, close_piece, read_piece, read_first, read_third, read_first_at, read_third_at, write_fetched, write_piece}
-use Rattle.kernel_model.specs.Pieces.{piece_of, spawn_piece, exit_piece, yield_piece, lock_piece, unlock_piece, tune_piece, give_piece, install_piece, remove_piece, fund_piece, bill_piece, new_graft, handed_over}
+use Rattle.std.proofs.lemmas.Bool.{and_parts}
+use Rattle.kernel_model.specs.Pieces.{read_fits, piece_of, spawn_piece, exit_piece, yield_piece, lock_piece, unlock_piece, tune_piece, give_piece, install_piece, remove_piece, fund_piece, bill_piece, new_graft, handed_over}
 use Rattle.kernel_model.specs.Sound.{IsSoundStore, HasWholeBlocks}
 use Rattle.plain_rules.specs.SoundCaches.{cache_of_store}
 use Rattle.plain_rules.specs.FetchCases.{AllGot}
@@ -176,7 +177,7 @@ ahead_on_disk : (n : ℕ) (v : World) (images : ImageTable) (s : Objects) (p fd 
     PieceReady (Read fd i off len) n v images s p answer → s.things.file p fd ≡ row → 2 ≤ n → ahead_block v row ≡ Ok b → b < v.disk_size
 ahead_on_disk n v images s p fd i off len b None answer h e low k = cc
 ahead_on_disk n v images s p fd i off len b (Some o) answer h e low k =
-    (ahead_block_is v o b s.things.cache h.store.world h.disk (h.store.files p fd o e).1 (some_ahead n (s.things.file p fd) o h.fits e low) k).on_disk
+    (ahead_block_is v o b s.things.cache h.store.world h.disk (h.store.files p fd o e).1 (some_ahead n (s.things.file p fd) o (and_parts (nat_lt fd 4) (nat_le n 2 && read_fits n (s.things.file p fd)) h.fits).1 e low) k).on_disk
 
 -- a piece keeps the disk
 pub disk_by : (c : SysCall) (n : ℕ) (v : World) (images : ImageTable) (s : Objects) (blocks : Blocks) (p : ℕ) (answer : Option (List ℕ)) (io : List Bool) →

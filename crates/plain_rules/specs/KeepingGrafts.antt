@@ -10,7 +10,7 @@ use Rattle.kernel_model.specs.declared.Kind.{Kind}
 use Rattle.kernel_model.specs.World.{World, Blocks, ImageTable, file_named}
 use Rattle.kernel_model.specs.Objects.{Objects, Accounts, GraftValue}
 use Rattle.kernel_model.specs.Charges.{removed, removed_by}
-use Rattle.kernel_model.specs.Early.{plain_early}
+use Rattle.plain_rules.specs.GrantedCalls.{IsGranted}
 use Rattle.kernel_model.specs.Needs.{file_block, free_process}
 use Rattle.kernel_model.specs.FilePieces.{free_descriptor}
 use Rattle.kernel_model.specs.Policies.{lives}
@@ -137,8 +137,8 @@ kept_loaded images s q pt (Some old) g h e k =
     let same = k.same refl in let eq : g.image ≡ old.image = cc in subst (λ x. is_some (images x) ≡ true) (sym eq) (h q pt old e)
 
 -- an install whose image is loaded
-granted_image : (v : World) (images : ImageTable) (p pt i limit : ℕ) → is_ok (plain_early v images p (Install pt i limit)) ≡ true → is_some (images i) ≡ true
-granted_image v images p pt i limit h = grind (arith, nat_tests)
+granted_image : (v : World) (images : ImageTable) (p pt i limit : ℕ) → IsGranted v images p (Install pt i limit) → is_some (images i) ≡ true
+granted_image v images p pt i limit h = let g = h.granted in grind (arith, nat_tests)
 
 -- the graft of an install
 install_image : (images : ImageTable) (s : Objects) (p pt : ℕ) (new : GraftValue) (old : Option GraftValue) (blocks : Blocks) (q pu : ℕ) (g : GraftValue) →
@@ -154,7 +154,7 @@ install_image images s p pt new None blocks q pu g loaded here e = elim (cases_B
 
 -- the images of grafts stay loaded
 pub images_loaded_by : (c : SysCall) (n : ℕ) (v : World) (images : ImageTable) (s : Objects) (blocks : Blocks) (p : ℕ) (answer : Option (List ℕ)) (io : List Bool) →
-    is_ok (plain_early v images p c) ≡ true → ImagesAreLoaded images s.accounts → ImagesAreLoaded images (piece_of c n v s blocks p answer io).objects.accounts
+    IsGranted v images p c → ImagesAreLoaded images s.accounts → ImagesAreLoaded images (piece_of c n v s blocks p answer io).objects.accounts
 images_loaded_by (Install pw i limit) n v images s blocks p answer io granted h q pt g e =
     install_image images s p pw (new_graft i limit) (s.accounts.graft p pw) blocks q pt g h (granted_image v images p pw i limit granted) e
 images_loaded_by c n v images s blocks p answer io granted h q pt g e =

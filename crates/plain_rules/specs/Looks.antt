@@ -154,8 +154,8 @@ gift_agrees false s u p q k n h = (λ e. cc, λ e short. cc)
 
 -- the queue of a spawn
 spawn_agrees : (c : Option ℕ) (s u : Objects) → Agree (spawn_needs c) s u → s.things.queue ≡ u.things.queue
-spawn_agrees None s u h = first_agrees h
-spawn_agrees (Some c) s u h = first_agrees h
+spawn_agrees None s u h = (first_agrees h).0
+spawn_agrees (Some c) s u h = (first_agrees h).0
 
 -- the least free descriptor
 descriptor_agrees : (w x : Things) (p n k : ℕ) → ((i : ℕ) → k ≤ i → i < k + n → w.file p i ≡ x.file p i) → free_descriptor w p n k ≡ free_descriptor x p n k
@@ -167,15 +167,16 @@ descriptor_agrees w x p (suc n) k h =
 
 -- the queue and the policy of a yield
 yield_agrees : (n : ℕ) (s u : Objects) → Agree (yield_needs n s) s u → (s.things.queue ≡ u.things.queue) × (1 ≤ n → s.things.pol 2 ≡ u.things.pol 2)
-yield_agrees zero s u h = (first_agrees h, λ e. absurd (omega arith))
-yield_agrees (suc n) s u h = (first_agrees h, λ e. first_agrees (rest_agrees h))
+yield_agrees zero s u h = ((first_agrees h).0, λ e. absurd (omega arith))
+yield_agrees (suc n) s u h = ((first_agrees h).0, λ e. first_agrees (rest_agrees h))
 
 -- the queue and the policy of a yield, before its point
 yield_agrees_before : (n : ℕ) (v : World) (s u : Objects) (a : Point) → yield_ask n v s.things ≡ Some a → Agree (before_point s a (yield_needs n s)) s u →
     (s.things.queue ≡ u.things.queue) × (1 ≤ n → s.things.pol 2 ≡ u.things.pol 2)
 yield_agrees_before zero v s u a e h = cc
 yield_agrees_before (suc n) v s u a e h =
-    let k = subst (λ ns. Agree ns s u) (slice_before v s a (next_process (s.things.pol 2) s.things.queue) e) h in (first_agrees k, λ i. first_agrees (rest_agrees k))
+    let k = subst (λ ns. Agree ns s u) (slice_before v s a (next_process (s.things.pol 2) s.things.queue) e) h in
+    ((first_agrees k).0, λ i. first_agrees (rest_agrees k))
 
 -- ---- each call
 
@@ -209,7 +210,7 @@ looks_by (Tune kind k x) n v s u blocks p answer io h = tune_same s u kind k x b
 looks_by (Choose kind j) n v s u blocks p answer io h = choose_same s u kind j blocks (first_agrees h)
 looks_by (Give q kind x) n v s u blocks p answer io h =
     let a = gift_agrees (lives s.things.queue q) s u p q kind x (rest_agrees h) in
-    give_same s u p q kind x blocks _ _ (ap (λ rows. lives rows q) (first_agrees h)) a.0 a.1
+    give_same s u p q kind x blocks _ _ (ap (λ rows. lives rows q) (first_agrees h).0) a.0 a.1
 looks_by (Install pt i limit) n v s u blocks p answer io h = install_same s u p pt (new_graft i limit) _ _ blocks ((first_agrees h).0)
 looks_by (Remove pt) n v s u blocks p answer io h =
     remove_same s u p pt blocks ((first_agrees h).0) (payer_agrees p (s.accounts.graft p pt) s u (rest_agrees h))

@@ -15,11 +15,11 @@ use Rattle.kernel_model.specs.declared.SysCall.{SysCall}
 use Rattle.kernel_model.specs.declared.SysCall.TheVariants.{Spawn, Exit, Yield, OpenName, CloseFd, Read, Write, Sync, TakeLock, FreeLock, Poke, Peek, Tune, Choose, Give, Install, Remove, Fund, Bill}
 use Rattle.kernel_model.specs.World.{World, ImageTable}
 use Rattle.kernel_model.specs.Objects.{Objects, same_object}
-use Rattle.kernel_model.specs.Policies.{Ahead, Victim, Next, kind_of, next_process}
-use Rattle.kernel_model.specs.Early.{refused, begins_unless}
+use Rattle.kernel_model.specs.Policies.{Ahead, Victim, Next, Serve, Stream, kind_of, next_process}
+use Rattle.kernel_model.specs.Early.{plain_early, refused, begins_unless}
 use Rattle.kernel_model.specs.Needs.{shared, exclusive, fetch_needs, fetch_ask, victim_ask, candidate_for, file_block, ahead_block, yield_needs, yield_ask, slice_ask, read_needs, read_ask, piece_needs, piece_ask}
 use Rattle.kernel_model.specs.Alike.{is_needed}
-use Rattle.kernel_model.specs.Pieces.{plain}
+use Rattle.kernel_model.specs.Pieces.{plain_upto}
 use Rattle.kernel_model.specs.Laws.{NeedsAnswers, answer_objects}
 
 -- these objects are needed
@@ -68,7 +68,7 @@ file_low fd c rest h = by_test (nat_lt 3 fd) refl h
 
     by_test : (b : Bool) → nat_lt 3 fd ≡ b → is_ok (begins_unless c (refused b BadFd rest)) ≡ true → kind_of fd ≡ Ahead
     by_test true e h = absurd cc
-    by_test false e h = ap (λ b. cond b Ahead (cond (fd == 4) Victim Next)) (low fd e)
+    by_test false e h = ap (λ b. cond b Ahead (cond (fd == 4) Victim (cond (fd == 5) Next (cond (nat_lt fd 14) Serve Stream)))) (low fd e)
 
 read_needed : (n : ℕ) (v : World) (s : Objects) (p fd i off len : ℕ) (a : Point) → kind_of fd ≡ Ahead → read_ask n v s.things p fd i off len ≡ Some a → AreNeeded (read_needs n v s p fd i off len) a.point
 read_needed zero v s p fd i off len a low e = fetch_needed v s (exclusive (OpenFile p fd)) (file_block v (s.things.file p fd) i off len) a e
@@ -79,28 +79,28 @@ read_needed (suc zero) v s p fd i off len a low e =
     file_point e = cc
 read_needed (suc (suc n)) v s p fd i off len a low e = fetch_needed v s (exclusive (OpenFile p fd)) (ahead_block v (s.things.file p fd)) a e
 
-piece_needed : (c : SysCall) (n : ℕ) (v : World) (images : ImageTable) (s : Objects) (p : ℕ) (a : Point) → is_ok (plain.early v images p c) ≡ true → piece_ask c n v s.things p ≡ Some a →
+piece_needed : (top : ℕ) (c : SysCall) (n : ℕ) (v : World) (images : ImageTable) (s : Objects) (p : ℕ) (a : Point) → is_ok (plain_early top v images p c) ≡ true → piece_ask c n v s.things p ≡ Some a →
     AreNeeded (piece_needs c n v s p) a.point
-piece_needed Spawn n v images s p a granted e = absurd_none a (AreNeeded (piece_needs Spawn n v s p) a.point) e
-piece_needed Exit n v images s p a granted e = absurd_none a (AreNeeded (piece_needs Exit n v s p) a.point) e
-piece_needed Yield n v images s p a granted e = yield_needed n v s a e
-piece_needed (OpenName name) n v images s p a granted e = absurd_none a (AreNeeded (piece_needs (OpenName name) n v s p) a.point) e
-piece_needed (CloseFd fd) n v images s p a granted e = absurd_none a (AreNeeded (piece_needs (CloseFd fd) n v s p) a.point) e
-piece_needed (Read fd i off len) n v images s p a granted e =
+piece_needed top Spawn n v images s p a granted e = absurd_none a (AreNeeded (piece_needs Spawn n v s p) a.point) e
+piece_needed top Exit n v images s p a granted e = absurd_none a (AreNeeded (piece_needs Exit n v s p) a.point) e
+piece_needed top Yield n v images s p a granted e = yield_needed n v s a e
+piece_needed top (OpenName name) n v images s p a granted e = absurd_none a (AreNeeded (piece_needs (OpenName name) n v s p) a.point) e
+piece_needed top (CloseFd fd) n v images s p a granted e = absurd_none a (AreNeeded (piece_needs (CloseFd fd) n v s p) a.point) e
+piece_needed top (Read fd i off len) n v images s p a granted e =
     read_needed n v s p fd i off len a (file_low fd (Read fd i off len) (refused (nat_lt 512 (off + len)) BadIndex None) granted) e
-piece_needed (Write fd i off bytes) n v images s p a granted e = fetch_needed v s (shared (OpenFile p fd)) (file_block v (s.things.file p fd) i off (length bytes)) a e
-piece_needed Sync n v images s p a granted e = absurd_none a (AreNeeded (piece_needs Sync n v s p) a.point) e
-piece_needed (TakeLock u) n v images s p a granted e = absurd_none a (AreNeeded (piece_needs (TakeLock u) n v s p) a.point) e
-piece_needed (FreeLock u) n v images s p a granted e = absurd_none a (AreNeeded (piece_needs (FreeLock u) n v s p) a.point) e
-piece_needed (Poke k x) n v images s p a granted e = absurd_none a (AreNeeded (piece_needs (Poke k x) n v s p) a.point) e
-piece_needed (Peek k) n v images s p a granted e = absurd_none a (AreNeeded (piece_needs (Peek k) n v s p) a.point) e
-piece_needed (Tune kind k x) n v images s p a granted e = absurd_none a (AreNeeded (piece_needs (Tune kind k x) n v s p) a.point) e
-piece_needed (Choose kind j) n v images s p a granted e = absurd_none a (AreNeeded (piece_needs (Choose kind j) n v s p) a.point) e
-piece_needed (Give q kind x) n v images s p a granted e = absurd_none a (AreNeeded (piece_needs (Give q kind x) n v s p) a.point) e
-piece_needed (Install pt i limit) n v images s p a granted e = absurd_none a (AreNeeded (piece_needs (Install pt i limit) n v s p) a.point) e
-piece_needed (Remove pt) n v images s p a granted e = absurd_none a (AreNeeded (piece_needs (Remove pt) n v s p) a.point) e
-piece_needed (Fund pt kind x) n v images s p a granted e = absurd_none a (AreNeeded (piece_needs (Fund pt kind x) n v s p) a.point) e
-piece_needed (Bill pt) n v images s p a granted e = absurd_none a (AreNeeded (piece_needs (Bill pt) n v s p) a.point) e
+piece_needed top (Write fd i off bytes) n v images s p a granted e = fetch_needed v s (shared (OpenFile p fd)) (file_block v (s.things.file p fd) i off (length bytes)) a e
+piece_needed top Sync n v images s p a granted e = absurd_none a (AreNeeded (piece_needs Sync n v s p) a.point) e
+piece_needed top (TakeLock u) n v images s p a granted e = absurd_none a (AreNeeded (piece_needs (TakeLock u) n v s p) a.point) e
+piece_needed top (FreeLock u) n v images s p a granted e = absurd_none a (AreNeeded (piece_needs (FreeLock u) n v s p) a.point) e
+piece_needed top (Poke k x) n v images s p a granted e = absurd_none a (AreNeeded (piece_needs (Poke k x) n v s p) a.point) e
+piece_needed top (Peek k) n v images s p a granted e = absurd_none a (AreNeeded (piece_needs (Peek k) n v s p) a.point) e
+piece_needed top (Tune kind k x) n v images s p a granted e = absurd_none a (AreNeeded (piece_needs (Tune kind k x) n v s p) a.point) e
+piece_needed top (Choose kind j) n v images s p a granted e = absurd_none a (AreNeeded (piece_needs (Choose kind j) n v s p) a.point) e
+piece_needed top (Give q kind x) n v images s p a granted e = absurd_none a (AreNeeded (piece_needs (Give q kind x) n v s p) a.point) e
+piece_needed top (Install pt i limit) n v images s p a granted e = absurd_none a (AreNeeded (piece_needs (Install pt i limit) n v s p) a.point) e
+piece_needed top (Remove pt) n v images s p a granted e = absurd_none a (AreNeeded (piece_needs (Remove pt) n v s p) a.point) e
+piece_needed top (Fund pt kind x) n v images s p a granted e = absurd_none a (AreNeeded (piece_needs (Fund pt kind x) n v s p) a.point) e
+piece_needed top (Bill pt) n v images s p a granted e = absurd_none a (AreNeeded (piece_needs (Bill pt) n v s p) a.point) e
 
-pub calls_need_answers : NeedsAnswers plain
-calls_need_answers v images s p t a standing e = piece_needed t.call t.piece v images s p a standing.granted e
+pub calls_need_answers : (top : ℕ) → NeedsAnswers (plain_upto top)
+calls_need_answers top v images s p t a standing e = piece_needed top t.call t.piece v images s p a standing.granted e

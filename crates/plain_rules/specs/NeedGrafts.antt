@@ -17,7 +17,7 @@ use Rattle.kernel_model.specs.SameObject.{same_object_is}
 use Rattle.kernel_model.specs.Policies.{lives, next_process}
 use Rattle.kernel_model.specs.Needs.{exclusive, free_process, fetch_needs, file_block, ahead_block, spawn_needs, yield_needs, read_needs, payment_needs, give_needs, piece_needs}
 use Rattle.kernel_model.specs.Alike.{is_exclusive, is_needed, is_needed_exclusively}
-use Rattle.kernel_model.specs.Pieces.{plain}
+use Rattle.kernel_model.specs.Pieces.{plain_upto}
 use Rattle.kernel_model.specs.Laws.{NeedsGraftsExclusively}
 use Rattle.plain_rules.specs.NeedParts.{each_map, each_either, each_of_point, each_of_slice, each_of_fetch, each_of_exit}
 
@@ -94,5 +94,5 @@ graft_taken q pt (n ∷ ns) each h = elim (or_cases (same_object (Graft q pt) n.
   | inr later ↦ or_right (is_exclusive n.mode && same_object (Graft q pt) n.object) (is_needed_exclusively (Graft q pt) ns) (graft_taken q pt ns each.1 later)
 ]
 
-pub calls_take_grafts : NeedsGraftsExclusively plain
-calls_take_grafts v s p t q pt fits h = graft_taken q pt (piece_needs t.call t.piece v s p) (taken_piece t.call t.piece v s p) h
+pub calls_take_grafts : (top : ℕ) → NeedsGraftsExclusively (plain_upto top)
+calls_take_grafts top v s p t q pt fits h = graft_taken q pt (piece_needs t.call t.piece v s p) (taken_piece t.call t.piece v s p) h

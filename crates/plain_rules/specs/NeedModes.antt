@@ -18,7 +18,7 @@ use Rattle.kernel_model.specs.SameObject.{same_object_is, same_object_self}
 use Rattle.kernel_model.specs.Policies.{next_process, lives}
 use Rattle.kernel_model.specs.Needs.{shared, exclusive, payer_needs, point_needs, free_process, file_block, ahead_block, candidate_for, owner_asked, victim_needs, fetch_needs, spawn_needs, exit_needs, slice_needs, yield_needs, read_needs, payment_needs, give_needs, piece_needs}
 use Rattle.kernel_model.specs.Events.{object_kind, wanted}
-use Rattle.kernel_model.specs.Pieces.{plain}
+use Rattle.kernel_model.specs.Pieces.{plain_upto}
 use Rattle.kernel_model.specs.Laws.{NeedsHaveOneMode}
 use Rattle.plain_rules.specs.NeedParts.{each_contains}
 
@@ -184,6 +184,6 @@ call_modes (Fund pt kind x) n v s p = kind_modes all_exclusive (piece_needs (Fun
 call_modes (Bill pt) n v s p = (first_wanted (exclusive (Graft p pt)) [], tt)
 
 -- the system calls need each object in one mode
-pub plain_needs_have_one_mode : NeedsHaveOneMode plain
-plain_needs_have_one_mode v s p t n fits contained =
+pub plain_needs_have_one_mode : (top : ℕ) → NeedsHaveOneMode (plain_upto top)
+plain_needs_have_one_mode top v s p t n fits contained =
     each_contains (λ (x : Need). wanted x.object (piece_needs t.call t.piece v s p) ≡ x.mode) (piece_needs t.call t.piece v s p) n (call_modes t.call t.piece v s p) contained

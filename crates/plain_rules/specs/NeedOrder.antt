@@ -106,6 +106,7 @@ follows_yield (suc n) s u = (
   λ queue. (
     refl,
     λ pol.
+        let rows : s.things.queue ≡ u.things.queue = queue.0 in
         let same : next_process (s.things.pol 2) s.things.queue ≡ next_process (u.things.pol 2) u.things.queue = cc in
         follows_slice s u (next_process (s.things.pol 2) s.things.queue) (next_process (u.things.pol 2) u.things.queue) same,
   ),
@@ -143,13 +144,13 @@ follows_give : (s u : Objects) (p q : ℕ) (k : Kind) (n : ℕ) → Follows s u 
 follows_give s u p q k n = (
   refl,
   λ queue. follows_either s u (lives s.things.queue q) (lives u.things.queue q) (payment_needs s.accounts p q k n) (payment_needs u.accounts p q k n)
-      (ap (λ rows. lives rows q) queue) (follows_payment s u p q k n),
+      (ap (λ rows. lives rows q) queue.0) (follows_payment s u p q k n),
 )
 
 -- the objects of each piece
 pub follows_piece : (c : SysCall) (n : ℕ) (v : World) (s u : Objects) (p : ℕ) → Follows s u (piece_needs c n v s p) (piece_needs c n v u p)
 follows_piece Spawn n v s u p =
-    follows_spawn s u (free_process s.things.queue 16 0) (free_process u.things.queue 16 0) (λ queue. ap (λ rows. free_process rows 16 0) queue)
+    follows_spawn s u (free_process s.things.queue 16 0) (free_process u.things.queue 16 0) (λ queue. ap (λ rows. free_process rows 16 0) queue.0)
 follows_piece Yield n v s u p = follows_yield n s u
 follows_piece (Read fd i off len) n v s u p = follows_read n v s u p fd i off len
 follows_piece (Write fd i off bytes) n v s u p = (

@@ -13,12 +13,12 @@ use Rattle.kernel_model.specs.declared.SysCall.TheVariants.{Spawn, Exit, Yield, 
 use Rattle.kernel_model.specs.World.{World, ImageTable}
 use Rattle.kernel_model.specs.Objects.{Objects}
 use Rattle.kernel_model.specs.Policies.{lives, next_process}
-use Rattle.kernel_model.specs.Meaning.{stage}
 use Rattle.kernel_model.specs.Early.{policy_count, refused}
 use Rattle.kernel_model.specs.Needs.{exclusive, free_process, fetch_needs, file_block, ahead_block, spawn_needs, exit_needs, yield_needs, read_needs, payment_needs, give_needs, piece_needs}
 use Rattle.kernel_model.specs.Pieces.{plain}
 use Rattle.kernel_model.specs.Sound.{IsSoundStore}
-use Rattle.kernel_model.specs.Laws.{IsInRange, IsStanding}
+use Rattle.kernel_model.specs.Laws.{IsInRange}
+use Rattle.plain_rules.specs.GrantedCalls.{PieceStands}
 use Rattle.plain_rules.specs.Granted.{granted_unless, granted_next, granted_below, below_next}
 use Rattle.plain_rules.specs.NeedParts.{each_map, each_either, each_of_point, each_of_slice, each_of_fetch, each_of_exit}
 use Rattle.plain_rules.specs.Numbers.{free_process_below, next_below, owner_below}
@@ -68,7 +68,7 @@ give_ranges s p q k n l m = (
 )
 
 -- the numbers of each object of each piece
-pub piece_ranges : (v : World) (images : ImageTable) (s : Objects) (p : ℕ) (c : SysCall) (n : ℕ) → IsStanding plain v images s p (stage c n) →
+pub piece_ranges : (v : World) (images : ImageTable) (s : Objects) (p : ℕ) (c : SysCall) (n : ℕ) → PieceStands c n v images s p →
     Each NeedIsInRange (piece_needs c n v s p)
 piece_ranges v images s p Spawn n c =
     spawn_ranges (free_process s.things.queue 16 0) (λ q e. let l = free_process_below s.things.queue 16 0 q e in omega (arith, l))
@@ -78,43 +78,43 @@ piece_ranges v images s p (OpenName name) n c =
     let l = c.store.numbers p c.caller in
     each_map NeedIsInRange (λ fd. exclusive (OpenFile p fd)) (range_with_len 0 4) (omega (arith, l))
 piece_ranges v images s p (CloseFd fd) n c =
-    ((c.store.numbers p c.caller, granted_below (CloseFd fd) 3 fd BadFd None c.granted), tt)
+    ((c.store.numbers p c.caller, granted_below (CloseFd fd) 3 fd BadFd None c.granted.granted), tt)
 piece_ranges v images s p (Read fd i off len) n c =
     read_ranges n v s p fd i off len c.store (c.store.numbers p c.caller)
-    (granted_below (Read fd i off len) 3 fd BadFd (refused (nat_lt 512 (off + len)) BadIndex None) c.granted)
+    (granted_below (Read fd i off len) 3 fd BadFd (refused (nat_lt 512 (off + len)) BadIndex None) c.granted.granted)
 piece_ranges v images s p (Write fd i off bytes) n c = (
-  (c.store.numbers p c.caller, granted_below (Write fd i off bytes) 3 fd BadFd (refused (nat_lt 512 (off + length bytes)) BadIndex None) c.granted),
+  (c.store.numbers p c.caller, granted_below (Write fd i off bytes) 3 fd BadFd (refused (nat_lt 512 (off + length bytes)) BadIndex None) c.granted.granted),
   fetch_ranges v s (file_block v (s.things.file p fd) i off (length bytes)) c.store,
 )
 piece_ranges v images s p Sync n c = (tt, tt)
-piece_ranges v images s p (TakeLock u) n c = (granted_below (TakeLock u) 15 u BadIndex None c.granted, tt)
-piece_ranges v images s p (FreeLock u) n c = (granted_below (FreeLock u) 15 u BadIndex None c.granted, tt)
-piece_ranges v images s p (Poke k x) n c = ((c.store.numbers p c.caller, granted_below (Poke k x) 3 k BadIndex None c.granted), tt)
-piece_ranges v images s p (Peek k) n c = ((c.store.numbers p c.caller, granted_below (Peek k) 3 k BadIndex None c.granted), tt)
+piece_ranges v images s p (TakeLock u) n c = (granted_below (TakeLock u) 15 u BadIndex None c.granted.granted, tt)
+piece_ranges v images s p (FreeLock u) n c = (granted_below (FreeLock u) 15 u BadIndex None c.granted.granted, tt)
+piece_ranges v images s p (Poke k x) n c = ((c.store.numbers p c.caller, granted_below (Poke k x) 3 k BadIndex None c.granted.granted), tt)
+piece_ranges v images s p (Peek k) n c = ((c.store.numbers p c.caller, granted_below (Peek k) 3 k BadIndex None c.granted.granted), tt)
 piece_ranges v images s p (Tune kind k x) n c = (
   granted_below (Tune kind k x) 2 kind BadPoint None
-      (granted_next (Tune kind k x) (not (p == 0)) Denied (refused (nat_lt 2 kind) BadPoint None) c.granted),
+      (granted_next (Tune kind k x) (not (p == 0)) Denied (refused (nat_lt 2 kind) BadPoint None) c.granted.granted),
   tt,
 )
 piece_ranges v images s p (Choose kind j) n c = (
   below_next 2 kind (or_parts (nat_lt 2 kind) (nat_le (policy_count kind) j)
       (granted_unless (Choose kind j) (nat_lt 2 kind || nat_le (policy_count kind) j) BadPoint None
-      (granted_next (Choose kind j) (not (p == 0)) Denied (refused (nat_lt 2 kind || nat_le (policy_count kind) j) BadPoint None) c.granted))).0,
+      (granted_next (Choose kind j) (not (p == 0)) Denied (refused (nat_lt 2 kind || nat_le (policy_count kind) j) BadPoint None) c.granted.granted))).0,
   tt,
 )
 piece_ranges v images s p (Give q kind x) n c =
-    give_ranges s p q kind x (c.store.numbers p c.caller) (granted_below (Give q kind x) 15 q NoProcess None c.granted)
+    give_ranges s p q kind x (c.store.numbers p c.caller) (granted_below (Give q kind x) 15 q NoProcess None c.granted.granted)
 piece_ranges v images s p (Install pt i limit) n c =
     let l = c.store.numbers p c.caller in
-    let m = granted_below (Install pt i limit) 5 pt BadPoint
-    (refused (limit == 0 || nat_lt 65536 limit) BadIndex (refused (nat_lt 31 i || not (is_some (images i))) NoImage None)) c.granted in
-    (omega (arith, l, m), tt)
+    let m = granted_below (Install pt i limit) c.granted.top pt BadPoint
+    (refused (limit == 0 || nat_lt 65536 limit) BadIndex (refused (nat_lt 31 i || not (is_some (images i))) NoImage None)) c.granted.granted in
+    (let most = c.granted.most in omega (arith, l, m, most), tt)
 piece_ranges v images s p (Remove pt) n c =
-    let l = c.store.numbers p c.caller in let m = granted_below (Remove pt) 5 pt BadPoint None c.granted in
-    each_of_point NeedIsInRange s.accounts p pt (omega (arith, l, m)) l
+    let l = c.store.numbers p c.caller in let m = granted_below (Remove pt) c.granted.top pt BadPoint None c.granted.granted in
+    each_of_point NeedIsInRange s.accounts p pt (let most = c.granted.most in omega (arith, l, m, most)) l
 piece_ranges v images s p (Fund pt kind x) n c =
-    let l = c.store.numbers p c.caller in let m = granted_below (Fund pt kind x) 5 pt BadPoint None c.granted in
-    each_of_point NeedIsInRange s.accounts p pt (omega (arith, l, m)) l
+    let l = c.store.numbers p c.caller in let m = granted_below (Fund pt kind x) c.granted.top pt BadPoint None c.granted.granted in
+    each_of_point NeedIsInRange s.accounts p pt (let most = c.granted.most in omega (arith, l, m, most)) l
 piece_ranges v images s p (Bill pt) n c =
-    let l = c.store.numbers p c.caller in let m = granted_below (Bill pt) 5 pt BadPoint None c.granted in
-    (omega (arith, l, m), tt)
+    let l = c.store.numbers p c.caller in let m = granted_below (Bill pt) c.granted.top pt BadPoint None c.granted.granted in
+    (let most = c.granted.most in omega (arith, l, m, most), tt)

@@ -1,9 +1,10 @@
 -- The system calls meet the laws of the objects that pieces need.
-use Rattle.std.specs.Prelude.{◌++◌}
+use Rattle.std.specs.Prelude.{ℕ, ◌≤◌, ◌++◌}
 use Rattle.std.proofs.Common.{ap, sym, ◌∙◌}
 use Rattle.kernel_model.specs.Needs.{piece_needs}
-use Rattle.kernel_model.specs.Pieces.{plain}
+use Rattle.kernel_model.specs.Pieces.{plain_upto}
 use Rattle.kernel_model.specs.Laws.{NeedLaws, needs_of_point}
+use Rattle.plain_rules.specs.GrantedCalls.{piece_stands}
 use Rattle.plain_rules.specs.NeedParts.{each_contains}
 use Rattle.plain_rules.specs.NeedOrder.{follows_next, follows_piece}
 use Rattle.plain_rules.specs.NeedKinds.{IsOwnNeed, own_piece, piece_few}
@@ -14,8 +15,8 @@ use Rattle.plain_rules.specs.NeedModes.{plain_needs_have_one_mode}
 use Rattle.plain_rules.specs.NeedAnswers.{calls_need_answers}
 
 -- the laws of needed objects hold of the system calls
-pub needs_of_plain : NeedLaws plain
-needs_of_plain =
+pub needs_of_plain : (top : ℕ) → top ≤ 15 → NeedLaws (plain_upto top)
+needs_of_plain top most =
     record {
       prefix = λ v s u p t i h k a.
           follows_next s u (piece_needs t.call t.piece v s p) (piece_needs t.call t.piece v u p) i (follows_piece t.call t.piece v s u p) a;
@@ -25,11 +26,11 @@ needs_of_plain =
           (each_contains (IsOwnNeed t.call p) (piece_needs t.call t.piece v s p) n (own_piece t.call t.piece v s p) c).user;
       most = λ v s p t h. piece_few t.call t.piece v s p;
       ranges = λ v images s p t n h c.
-          each_contains NeedIsInRange (piece_needs t.call t.piece v s p) n (piece_ranges v images s p t.call t.piece h) c;
+          each_contains NeedIsInRange (piece_needs t.call t.piece v s p) n (piece_ranges v images s p t.call t.piece (piece_stands top v images s p t most h)) c;
       point = λ v s p t a h e.
           piece_ends t.call t.piece v s p a e
           ∙ sym (ap (λ ns. ns ++ needs_of_point s a) (piece_before_point t.call t.piece v s p a e));
-      grafts = calls_take_grafts;
-      modes = plain_needs_have_one_mode;
-      answers = calls_need_answers;
+      grafts = calls_take_grafts top;
+      modes = plain_needs_have_one_mode top;
+      answers = calls_need_answers top;
     }

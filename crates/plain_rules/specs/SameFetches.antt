@@ -1,5 +1,5 @@
 -- Fetches, reads, writes, syncs and exits do the same on two states that agree on what they need.
-use Rattle.std.specs.Prelude.{◌≡◌, ℕ, zero, suc, ◌<◌, Bool, true, false, List, [], ◌∷◌, Option, None, Some, is_some, Result, Ok, Err}
+use Rattle.std.specs.Prelude.{◌≡◌, ℕ, zero, suc, ◌<◌, Bool, true, false, List, [], ◌∷◌, Option, None, Some, is_some, Result, Ok, Err, filter, not, ◌==◌}
 use Rattle.std.proofs.Common.{arith, refl, subst, ap, ◌∙◌}
 use Rattle.std.proofs.lemmas.Bool.Decides.{nat_tests}
 use Rattle.kernel_model.specs.declared.Object.{Object}
@@ -14,6 +14,8 @@ use Rattle.kernel_model.specs.Charges.{removed, removed_by}
 use Rattle.kernel_model.specs.Needs.{candidate_by, candidate_for, frame_of_block, free_frame, file_block, ahead_block}
 use Rattle.kernel_model.specs.Fetch.{Fetched, Failed, fetch, fetch_by, fetch_ahead, fetch_ahead_by, read_block, place_block, chosen_by, cleaned, dirty_value}
 use Rattle.kernel_model.specs.FilePieces.{with_cache, read_piece, ahead_by, disk_failed, read_first, read_third, read_first_at, read_third_at, write_piece, write_fetched, sync_from}
+use Rattle.kernel_model.specs.declared.QueueRow.{QueueRow}
+use Rattle.kernel_model.specs.Handlers.{handlers_without_process}
 use Rattle.kernel_model.specs.Pieces.{without_grafts, account_closed, exit_piece, things_without}
 use Rattle.kernel_model.specs.Alike.{Keeps}
 use Rattle.plain_rules.specs.SamePieces.{SamePiece, same_refusal, read_first_same, read_second_same, read_third_same, write_same}
@@ -235,7 +237,8 @@ exit_keeps s u p grafts own root blocks (Acct q) h =
     (without_account_same p 16 0 s.accounts u.accounts grafts own root) (without_account_same p 16 q s.accounts u.accounts grafts own h)
 exit_keeps s u p grafts own root blocks (Cell q k) h = cc
 exit_keeps s u p grafts own root blocks (OpenFile q k) h = cc
-exit_keeps s u p grafts own root blocks Queue h = cc
+exit_keeps s u p grafts own root blocks Queue h =
+    (ap (λ rows. filter (λ (r : QueueRow). not (r.process == p)) rows) h.0, ap (λ pairs. handlers_without_process p pairs) h.1)
 exit_keeps s u p grafts own root blocks Cache h = ap (λ (c : CacheValue). (things_without p (record (s.things) { cache = c })).cache) h
 exit_keeps s u p grafts own root blocks (Lock l) h = cc
 exit_keeps s u p grafts own root blocks (Pol k) h = h

@@ -1,11 +1,14 @@
 -- A store stays sound when a process comes, leaves or yields.
-use Rattle.std.specs.Prelude.{◌≡◌, ◌≢◌, ℕ, zero, suc, ◌<◌, ◌==◌, true, false, cond, List, [], ◌∷◌, ◌++◌, Option, None, Some}
+use Rattle.std.specs.Prelude.{◌≡◌, ◌≢◌, ℕ, zero, suc, ◌<◌, ◌==◌, true, false, cond, not, List, [], ◌∷◌, ◌++◌, Option, None, Some}
+use Rattle.std.specs.List.{list_any}
 use Rattle.std.proofs.Common.{◌⊎◌, arith, refl, subst, sym, ap, ◌∙◌, inl, inr}
-use Rattle.std.proofs.lemmas.Bool.{cases_Bool, cases_eq, cases_lt, cond-true, cond-false, eqb-false, eq-eqb, ne_eqb, true≢false, false≢true, or_left, or_parts}
+use Rattle.std.proofs.lemmas.Bool.{cases_Bool, cases_eq, cases_lt, cond-true, cond-false, eqb-false, eq-eqb, ne_eqb, true≢false, false≢true, or_left, or_parts, and_parts}
+use Rattle.std.proofs.lemmas.Map.Views.{any-filter_same}
 use Rattle.std.proofs.lemmas.Bool.Decides.{nat_tests}
 use Rattle.kernel_model.specs.declared.QueueRow.{QueueRow}
 use Rattle.kernel_model.specs.World.{World, Blocks}
 use Rattle.kernel_model.specs.Objects.{Objects, GraftValue, AcctValue, FrameValue}
+use Rattle.kernel_model.specs.Handlers.{is_handler, handlers_without_process, handlers_pass}
 use Rattle.kernel_model.specs.Policies.{lives, next_process, or_zero}
 use Rattle.kernel_model.specs.Needs.{free_process}
 use Rattle.kernel_model.specs.Fetch.{chosen_by}
@@ -76,6 +79,8 @@ store_with_new v s c h free = record {
   gone = λ p e. let g = h.gone p (not_before s.things.queue c p e) in record { cells = g.cells; files = g.files; balances = g.balances; spent = g.spent };
   files = h.files;
   policies = h.policies;
+  handlers = h.handlers;
+  handlers_live = λ q pt e. still_lives s.things.queue c q (h.handlers_live q pt e);
   segs = h.segs;
   ledgers = h.ledgers;
 }
@@ -194,6 +199,17 @@ others_gone s p q blocks ne other h = record {
   spent = λ k. ap (λ (x : AcctValue). x.spent k) (account_gone s p q ne other) ∙ h.spent k;
 }
 
+-- a handler that is left is one from before, and of another process
+handler_left : (p q pt : ℕ) (hs : List (ℕ × ℕ)) → list_any (is_handler q pt) (handlers_without_process p hs) ≡ true →
+    (list_any (is_handler q pt) hs ≡ true) × (q ≢ p)
+handler_left p q pt hs h =
+    let both = and_parts (not (q == p)) (list_any (is_handler q pt) hs)
+    (sym (any-filter_same (is_handler q pt) (λ (x : ℕ × ℕ). not (x.0 == p)) (not (q == p)) (of_one p q pt) hs) ∙ h) in
+    (both.1, let own = both.0 in grind (arith, nat_tests))
+  where
+    of_one : (p q pt : ℕ) (x : ℕ × ℕ) → is_handler q pt x ≡ true → not (x.0 == p) ≡ not (q == p)
+    of_one p q pt x e = grind (arith, nat_tests)
+
 -- an exit of another process than 0
 pub exit_store : (v : World) (s : Objects) (p : ℕ) (blocks : Blocks) → IsSoundStore v s → lives s.things.queue p ≡ true → p ≢ 0 → IsSoundStore v (exit_piece s p blocks).objects
 exit_store v s p blocks h alive ne =
@@ -220,6 +236,8 @@ exit_store v s p blocks h alive ne =
         | inr other ↦ h.files q fd o (sym (cond-false (q == p) None (s.things.file q fd) other) ∙ e)
       ];
       policies = h.policies;
+      handlers = handlers_pass (λ (x : ℕ × ℕ). not (x.0 == p)) s.things.handlers h.handlers;
+      handlers_live = λ q pt e. let k = handler_left p q pt s.things.handlers e in lives_on p s.things.queue q k.1 (h.handlers_live q pt k.0);
       segs = h.segs;
       ledgers = λ k. exit_ledger p s.accounts k (h.numbers p alive) ne ∙ h.ledgers k;
     }

@@ -39,6 +39,8 @@ store_with_cache v s c h k = record {
   gone = λ p e. record { cells = (h.gone p e).cells; files = (h.gone p e).files; balances = (h.gone p e).balances; spent = (h.gone p e).spent };
   files = h.files;
   policies = h.policies;
+  handlers = h.handlers;
+  handlers_live = h.handlers_live;
   segs = h.segs;
   ledgers = h.ledgers;
 }
@@ -81,6 +83,8 @@ store_with_file v s p fd row h alive low sound = record {
     | inr a ↦ h.files q l o (sym a ∙ e)
   ];
   policies = h.policies;
+  handlers = h.handlers;
+  handlers_live = h.handlers_live;
   segs = h.segs;
   ledgers = h.ledgers;
 }
@@ -109,6 +113,8 @@ store_with_cell v s p k x h alive = record {
   };
   files = h.files;
   policies = h.policies;
+  handlers = h.handlers;
+  handlers_live = h.handlers_live;
   segs = h.segs;
   ledgers = h.ledgers;
 }
@@ -140,6 +146,8 @@ store_with_holder v s u holder h low alive = record {
   gone = λ p e. record { cells = (h.gone p e).cells; files = (h.gone p e).files; balances = (h.gone p e).balances; spent = (h.gone p e).spent };
   files = h.files;
   policies = h.policies;
+  handlers = h.handlers;
+  handlers_live = h.handlers_live;
   segs = h.segs;
   ledgers = h.ledgers;
 }
@@ -167,6 +175,8 @@ store_with_policy v s kind pol h sound = record {
     | inl same ↦ subst (λ q. IsSoundPolicy k q) (sym (cond-true (k == kind) pol (s.things.pol k) (eq-eqb k kind same))) (subst (λ i. IsSoundPolicy i pol) (sym same) sound)
     | inr ne ↦ subst (λ q. IsSoundPolicy k q) (sym (cond-false (k == kind) pol (s.things.pol k) (ne_eqb k kind ne))) (h.policies k low)
   ];
+  handlers = h.handlers;
+  handlers_live = h.handlers_live;
   segs = h.segs;
   ledgers = h.ledgers;
 }
@@ -196,6 +206,8 @@ store_with_queue v s queue h k = record {
   gone = λ p e. let g = h.gone p (sym (k.living p) ∙ e) in record { cells = g.cells; files = g.files; balances = g.balances; spent = g.spent };
   files = h.files;
   policies = h.policies;
+  handlers = h.handlers;
+  handlers_live = λ q pt e. k.living q ∙ h.handlers_live q pt e;
   segs = h.segs;
   ledgers = h.ledgers;
 }
@@ -230,6 +242,8 @@ store_with_accounts v s a h k = record {
   };
   files = h.files;
   policies = h.policies;
+  handlers = h.handlers;
+  handlers_live = h.handlers_live;
   segs = h.segs;
   ledgers = λ j. k.ledgers j ∙ h.ledgers j;
 }

@@ -10,15 +10,16 @@ use Rattle.kernel_model.specs.declared.Refusal.TheVariants.{BadPoint, BadIndex, 
 use Rattle.kernel_model.specs.declared.OpenRow.{OpenRow}
 use Rattle.kernel_model.specs.World.{World, Image, ImageTable, Blocks, blocks_of}
 use Rattle.kernel_model.specs.Objects.{Objects, Things, PolValue, at2}
-use Rattle.kernel_model.specs.Policies.{PointKind, Ahead, Victim, Next, kind_of, args_by, ahead_default, ahead_count}
-use Rattle.kernel_model.specs.Meaning.{Stage, stage, After, Continues}
+use Rattle.kernel_model.specs.Policies.{PointKind, Ahead, Victim, Next, Serve, Stream, kind_of, args_by, ahead_default, ahead_count}
+use Rattle.kernel_model.specs.Meaning.{Stage, stage, registers_of, After, Continues}
 use Rattle.kernel_model.specs.Early.{begins_unless, call_refusal, refused, plain_early}
 use Rattle.kernel_model.specs.Needs.{file_block, ahead_block}
 use Rattle.kernel_model.specs.Fetch.{Fetched, Got, Failed, fetch, fetch_ahead}
 use Rattle.kernel_model.specs.FilePieces.{unless_zero, read_on, with_ahead, read_first, read_second, read_third, ahead_by, read_first_at, read_third_at, read_piece, write_fetched, write_piece, sync_from}
-use Rattle.kernel_model.specs.Pieces.{plain, piece_of, yield_piece, piece_fits, pieces_left, read_fits, read_left}
+use Rattle.kernel_model.specs.Pieces.{plain_upto, piece_of, yield_piece, piece_fits, pieces_left, read_fits, read_left}
 use Rattle.kernel_model.specs.Alike.{SameFiles, Extends, windowless}
-use Rattle.kernel_model.specs.Laws.{StageLaws, IsReady, IsStanding, IsRightAnswer, accepted_by, continues}
+use Rattle.kernel_model.specs.Laws.{StageLaws, IsRightAnswer, accepted_by, continues}
+use Rattle.plain_rules.specs.GrantedCalls.{PieceReady, PieceStands, piece_ready, piece_stands, read_granted}
 use Rattle.plain_rules.specs.QuickPieces.{quick_piece}
 use Rattle.plain_rules.specs.SyncSteps.{sync_steps}
 
@@ -28,19 +29,21 @@ begins_at_first c None t h = cc
 begins_at_first c (Some refusal) t h = cc
 
 -- before its first piece a call may stand
-first_fits : (c : SysCall) (w : Things) (p : ℕ) → piece_fits c 0 w p ≡ true
-first_fits (Read fd i off len) w p = refl
-first_fits c w p = refl
+first_fits : (top : ℕ) (v : World) (images : ImageTable) (c : SysCall) (w : Things) (p : ℕ) (t : Stage) →
+    plain_early top v images p c ≡ Ok t → piece_fits c 0 w p ≡ true
+first_fits top v images (Read fd i off len) w p t h = grind (arith, nat_tests)
+first_fits top v images c w p t h = refl
 
 -- a call begins at a stage that fits
-begins_fitting : (v : World) (images : ImageTable) (s : Objects) (p : ℕ) (c : SysCall) (t : Stage) → plain_early v images p c ≡ Ok t →
-    piece_fits t.call t.piece s.things p ≡ true
-begins_fitting v images s p c t h =
-    subst (λ (u : Stage). piece_fits u.call u.piece s.things p ≡ true) (sym (begins_at_first c (call_refusal v images p c) t h)) (first_fits c s.things p)
+begins_fitting : (top : ℕ) (v : World) (images : ImageTable) (s : Objects) (p : ℕ) (c : SysCall) (t : Stage) →
+    plain_early top v images p c ≡ Ok t → piece_fits t.call t.piece s.things p ≡ true
+begins_fitting top v images s p c t h =
+    subst (λ (u : Stage). piece_fits u.call u.piece s.things p ≡ true) (sym (begins_at_first c (call_refusal top v images p c) t h))
+    (first_fits top v images c s.things p t h)
 
 -- and of the call itself
-begins_itself : (v : World) (images : ImageTable) (p : ℕ) (c : SysCall) (t : Stage) → plain_early v images p c ≡ Ok t → t.call ≡ c
-begins_itself v images p c t h = ap (λ (u : Stage). u.call) (begins_at_first c (call_refusal v images p c) t h)
+begins_itself : (top : ℕ) (v : World) (images : ImageTable) (p : ℕ) (c : SysCall) (t : Stage) → plain_early top v images p c ≡ Ok t → t.call ≡ c
+begins_itself top v images p c t h = ap (λ (u : Stage). u.call) (begins_at_first c (call_refusal top v images p c) t h)
 
 -- whether a read fits doesn't look at the window
 read_fits_windowless : (n : ℕ) (o : Option OpenRow) → read_fits n (windowless o) ≡ read_fits n o
@@ -64,7 +67,7 @@ same_windowless f blind a b h = sym (blind a) ∙ (ap f h ∙ blind b)
 -- whether a stage fits looks at the caller's open files alone, windows apart
 fits_by_files : (s u : Objects) (p : ℕ) (c : SysCall) (n : ℕ) → SameFiles p s u → piece_fits c n s.things p ≡ piece_fits c n u.things p
 fits_by_files s u p (Read fd i off len) n h =
-    ap (λ b. nat_le n 2 && b) (same_windowless (read_fits n) (read_fits_windowless n) (s.things.file p fd) (u.things.file p fd) (h fd))
+    ap (λ b. nat_lt fd 4 && (nat_le n 2 && b)) (same_windowless (read_fits n) (read_fits_windowless n) (s.things.file p fd) (u.things.file p fd) (h fd))
 fits_by_files s u p c n h = refl
 
 -- how many pieces are left looks at the caller's open files alone, windows apart
@@ -89,12 +92,12 @@ loaded_more images more slot None ext e h = cc
 loaded_more images more slot (Some i) ext e h = ap is_some (ext slot i e)
 
 -- a call that begins also begins with more images loaded
-begins_more : (v : World) (images more : ImageTable) (p : ℕ) (c : SysCall) (t : Stage) → Extends images more →
-    plain_early v images p c ≡ Ok t → plain_early v more p c ≡ Ok t
-begins_more v images more p (Install pt i limit) t ext h =
-    more_granted (Install pt i limit) t (nat_lt 5 pt) (limit == 0 || nat_lt 65536 limit) (nat_lt 31 i) (is_some (images i)) (is_some (more i))
+begins_more : (top : ℕ) (v : World) (images more : ImageTable) (p : ℕ) (c : SysCall) (t : Stage) → Extends images more →
+    plain_early top v images p c ≡ Ok t → plain_early top v more p c ≡ Ok t
+begins_more top v images more p (Install pt i limit) t ext h =
+    more_granted (Install pt i limit) t (nat_lt top pt) (limit == 0 || nat_lt 65536 limit) (nat_lt 31 i) (is_some (images i)) (is_some (more i))
     (loaded_more images more i (images i) ext refl) h
-begins_more v images more p c t ext h = h
+begins_more top v images more p c t ext h = h
 
 -- ---- pieces after which the call goes on
 
@@ -130,38 +133,40 @@ yield_goes_on (suc n) p s blocks answer u e = cc
 -- ---- read
 
 -- where the file stands open, a read before its second piece fits
-second_fits : (x : Option OpenRow) (o : OpenRow) → x ≡ Some o → (nat_le 1 2 && read_fits 1 x) ≡ true
-second_fits x o e = rw e refl
+second_fits : (fd : ℕ) (x : Option OpenRow) (o : OpenRow) → fd < 4 → x ≡ Some o → (nat_lt fd 4 && (nat_le 1 2 && read_fits 1 x)) ≡ true
+second_fits fd x o low e = rw e (grind (arith, nat_tests))
 
 -- and 9 pieces are left
 second_left : (x : Option OpenRow) (o : OpenRow) → x ≡ Some o → read_left 1 x < 10
 second_left x o e = rw e (omega arith)
 
 -- where there is something to read ahead, a read before a later piece fits
-later_fits : (x : Option OpenRow) (o : OpenRow) (k : ℕ) → x ≡ Some o → o.count ≡ suc k → (nat_le 2 2 && read_fits 2 x) ≡ true
-later_fits x o k e h = rw (e, h) (grind (arith, nat_tests))
+later_fits : (fd : ℕ) (x : Option OpenRow) (o : OpenRow) (k : ℕ) → fd < 4 → x ≡ Some o → o.count ≡ suc k →
+    (nat_lt fd 4 && (nat_le 2 2 && read_fits 2 x)) ≡ true
+later_fits fd x o k low e h = rw (e, h) (grind (arith, nat_tests))
 
 -- and as many pieces are left as there are blocks to read ahead
 later_left : (x : Option OpenRow) (o : OpenRow) (k : ℕ) → x ≡ Some o → o.count ≡ suc k → read_left 2 x ≡ suc k
 later_left x o k e h = rw e h
 
 -- a read goes on from its first piece to its second, for what it fetched
-first_goes_on : (s : Objects) (blocks : Blocks) (p fd i off len : ℕ) (o : OpenRow) (x : Fetched) (u : Stage) →
+first_goes_on : (s : Objects) (blocks : Blocks) (p fd i off len : ℕ) (o : OpenRow) (x : Fetched) (u : Stage) → fd < 4 →
     (read_first s blocks p fd i off len o x).after ≡ Continues u →
     GoesOn (Read fd i off len) 0 p s.things (read_first s blocks p fd i off len o x).objects.things u
-first_goes_on s blocks p fd i off len o (Failed calls) u e = cc
-first_goes_on s blocks p fd i off len o (Got cache after frame calls) u e =
+first_goes_on s blocks p fd i off len o (Failed calls) u low e = cc
+first_goes_on s blocks p fd i off len o (Got cache after frame calls) u low e =
     let w = (read_first s blocks p fd i off len o (Got cache after frame calls)).objects.things in
     let here : w.file p fd ≡ Some (read_on i o) = at2_here p fd (Some (read_on i o)) s.things.file in
-    goes_to (Read fd i off len) 0 1 p s.things w u (second_fits (w.file p fd) (read_on i o) here) (second_left (w.file p fd) (read_on i o) here) e
+    goes_to (Read fd i off len) 0 1 p s.things w u (second_fits fd (w.file p fd) (read_on i o) low here) (second_left (w.file p fd) (read_on i o) here) e
 
 -- after a piece that left so much to read ahead
-ahead_goes_on : (n p fd i off len : ℕ) (before after : Things) (o : OpenRow) (count : ℕ) (u : Stage) → after.file p fd ≡ Some o → o.count ≡ count →
+ahead_goes_on : (n p fd i off len : ℕ) (before after : Things) (o : OpenRow) (count : ℕ) (u : Stage) → fd < 4 →
+    after.file p fd ≡ Some o → o.count ≡ count →
     count < pieces_left (Read fd i off len) n before p → unless_zero (stage (Read fd i off len) 2) count ≡ Continues u →
     GoesOn (Read fd i off len) n p before after u
-ahead_goes_on n p fd i off len before after o zero u here h l e = cc
-ahead_goes_on n p fd i off len before after o (suc k) u here h l e =
-    goes_to (Read fd i off len) n 2 p before after u (later_fits (after.file p fd) o k here h)
+ahead_goes_on n p fd i off len before after o zero u low here h l e = cc
+ahead_goes_on n p fd i off len before after o (suc k) u low here h l e =
+    goes_to (Read fd i off len) n 2 p before after u (later_fits fd (after.file p fd) o k low here h)
     (rw (later_left (after.file p fd) o k here h) l) e
 
 -- a reading ahead by the policy is at most the window
@@ -173,6 +178,8 @@ accepted_few : (k : PointKind) (s : Objects) (args a : List ℕ) → k ≡ Ahead
 accepted_few Ahead s args a e h = grind (arith, nat_tests)
 accepted_few Victim s args a e h = cc
 accepted_few Next s args a e h = cc
+accepted_few Serve s args a e h = cc
+accepted_few Stream s args a e h = cc
 
 -- the points of descriptors are those of reading ahead
 ahead_point : (fd : ℕ) → fd < 4 → kind_of fd ≡ Ahead
@@ -188,32 +195,32 @@ ahead_most v s p fd o (Some a) low wide right = accepted_few (kind_of fd) s (arg
 
 -- the first piece, for its block
 first_at_goes_on : (r : Result ℕ Refusal) (v : World) (s : Objects) (blocks : Blocks) (p fd i off len : ℕ) (o : OpenRow)
-    (answer : Option (List ℕ)) (io : List Bool) (u : Stage) →
+    (answer : Option (List ℕ)) (io : List Bool) (u : Stage) → fd < 4 →
     (read_first_at r v s blocks p fd i off len o answer io).after ≡ Continues u →
     GoesOn (Read fd i off len) 0 p s.things (read_first_at r v s blocks p fd i off len o answer io).objects.things u
-first_at_goes_on (Err why) v s blocks p fd i off len o answer io u e = cc
-first_at_goes_on (Ok b) v s blocks p fd i off len o answer io u e =
-    first_goes_on s blocks p fd i off len o (fetch v (s.things.pol 1) p b answer s.things.cache blocks io) u e
+first_at_goes_on (Err why) v s blocks p fd i off len o answer io u low e = cc
+first_at_goes_on (Ok b) v s blocks p fd i off len o answer io u low e =
+    first_goes_on s blocks p fd i off len o (fetch v (s.things.pol 1) p b answer s.things.cache blocks io) u low e
 
 -- a later piece, for what it fetched
-third_goes_on : (s : Objects) (blocks : Blocks) (p fd i off len n : ℕ) (o : OpenRow) (x : Fetched) (u : Stage) → s.things.file p fd ≡ Some o → 1 ≤ o.count →
+third_goes_on : (s : Objects) (blocks : Blocks) (p fd i off len n : ℕ) (o : OpenRow) (x : Fetched) (u : Stage) → fd < 4 → s.things.file p fd ≡ Some o → 1 ≤ o.count →
     (read_third s blocks p fd i off len o x).after ≡ Continues u →
     GoesOn (Read fd i off len) (suc (suc n)) p s.things (read_third s blocks p fd i off len o x).objects.things u
-third_goes_on s blocks p fd i off len n o (Failed calls) u is some e = cc
-third_goes_on s blocks p fd i off len n o (Got cache after frame calls) u is some e =
+third_goes_on s blocks p fd i off len n o (Failed calls) u low is some e = cc
+third_goes_on s blocks p fd i off len n o (Got cache after frame calls) u low is some e =
     let left : read_left (suc (suc n)) (s.things.file p fd) ≡ o.count = rw is refl in
     ahead_goes_on (suc (suc n)) p fd i off len s.things (read_third s blocks p fd i off len o (Got cache after frame calls)).objects.things
-    (with_ahead (o.start + 1) (o.count - 1) o) (o.count - 1) u
+    (with_ahead (o.start + 1) (o.count - 1) o) (o.count - 1) u low
     (at2_here p fd (Some (with_ahead (o.start + 1) (o.count - 1) o)) s.things.file) refl (omega (arith, some, left)) e
 
 -- a later piece, for its block
 third_at_goes_on : (r : Result ℕ Refusal) (v : World) (s : Objects) (blocks : Blocks) (p fd i off len n : ℕ) (o : OpenRow)
     (answer : Option (List ℕ)) (io : List Bool) (u : Stage) →
-    s.things.file p fd ≡ Some o → 1 ≤ o.count → (read_third_at r v s blocks p fd i off len o answer io).after ≡ Continues u →
+    fd < 4 → s.things.file p fd ≡ Some o → 1 ≤ o.count → (read_third_at r v s blocks p fd i off len o answer io).after ≡ Continues u →
     GoesOn (Read fd i off len) (suc (suc n)) p s.things (read_third_at r v s blocks p fd i off len o answer io).objects.things u
-third_at_goes_on (Err why) v s blocks p fd i off len n o answer io u is some e = cc
-third_at_goes_on (Ok b) v s blocks p fd i off len n o answer io u is some e =
-    third_goes_on s blocks p fd i off len n o (fetch_ahead v (s.things.pol 1) p b answer s.things.cache blocks io) u is some e
+third_at_goes_on (Err why) v s blocks p fd i off len n o answer io u low is some e = cc
+third_at_goes_on (Ok b) v s blocks p fd i off len n o answer io u low is some e =
+    third_goes_on s blocks p fd i off len n o (fetch_ahead v (s.things.pol 1) p b answer s.things.cache blocks io) u low is some e
 
 -- before a later piece there is something to read ahead
 some_ahead : (n : ℕ) (x : Option OpenRow) (o : OpenRow) → (nat_le (suc (suc n)) 2 && read_fits (suc (suc n)) x) ≡ true → x ≡ Some o → 1 ≤ o.count
@@ -223,22 +230,23 @@ some_ahead n (Some r) o h e = let same : r ≡ o = cc in leb-true 1 o.count (rw 
 -- the pieces of a read, for the value of its descriptor
 read_goes_on : (v : World) (images : ImageTable) (s : Objects) (blocks : Blocks) (p fd i off len n : ℕ) (o : Option OpenRow)
     (answer : Option (List ℕ)) (io : List Bool) (u : Stage) →
-    IsReady plain v images s p (stage (Read fd i off len) n) answer → s.things.file p fd ≡ o →
+    PieceReady (Read fd i off len) n v images s p answer → s.things.file p fd ≡ o →
     (read_piece n v s blocks p fd i off len o answer io).after ≡ Continues u →
     GoesOn (Read fd i off len) n p s.things (read_piece n v s blocks p fd i off len o answer io).objects.things u
 read_goes_on v images s blocks p fd i off len n None answer io u c is e = cc
 read_goes_on v images s blocks p fd i off len zero (Some o) answer io u c is e =
-    first_at_goes_on (file_block v (Some o) i off len) v s blocks p fd i off len o answer io u e
+    first_at_goes_on (file_block v (Some o) i off len) v s blocks p fd i off len o answer io u (read_granted v images p fd i off len c.granted) e
 read_goes_on v images s blocks p fd i off len (suc zero) (Some o) answer io u c is e =
-    let sound = (c.standing.store.files p fd o is).1 in
-    let low : fd < 4 = (c.standing.store.files p fd o is).0 in
+    let sound = (c.store.files p fd o is).1 in
+    let low : fd < 4 = (c.store.files p fd o is).0 in
     let ahead = ahead_by answer (ahead_default v (s.things.pol 0) (Some o)) in
     let most : ahead.1 ≤ 8 = ahead_most v s p fd o answer low sound.window c.right in
     let left : read_left 1 (s.things.file p fd) ≡ 9 = rw is refl in
-    ahead_goes_on 1 p fd i off len s.things (read_second s blocks p fd i off len o ahead).objects.things (with_ahead ahead.0 ahead.1 o) ahead.1 u
+    ahead_goes_on 1 p fd i off len s.things (read_second s blocks p fd i off len o ahead).objects.things (with_ahead ahead.0 ahead.1 o) ahead.1 u low
     (at2_here p fd (Some (with_ahead ahead.0 ahead.1 o)) s.things.file) refl (omega (arith, most, left)) e
 read_goes_on v images s blocks p fd i off len (suc (suc n)) (Some o) answer io u c is e =
-    third_at_goes_on (ahead_block v (Some o)) v s blocks p fd i off len n o answer io u is (some_ahead n (s.things.file p fd) o c.standing.fits is) e
+    third_at_goes_on (ahead_block v (Some o)) v s blocks p fd i off len n o answer io u (read_granted v images p fd i off len c.granted) is
+    (some_ahead n (s.things.file p fd) o (and_parts (nat_lt fd 4) (nat_le (suc (suc n)) 2 && read_fits (suc (suc n)) (s.things.file p fd)) c.fits).1 is) e
 
 -- ---- all calls
 
@@ -261,7 +269,7 @@ sync_stops n f written s blocks io =
 
 -- a piece that goes on goes on to a stage of its call that fits and has fewer pieces left
 goes_on : (v : World) (images : ImageTable) (s : Objects) (blocks : Blocks) (p : ℕ) (c : SysCall) (n : ℕ) (u : Stage) (answer : Option (List ℕ)) (io : List Bool) →
-    IsReady plain v images s p (stage c n) answer → (piece_of c n v s blocks p answer io).after ≡ Continues u →
+    PieceReady c n v images s p answer → (piece_of c n v s blocks p answer io).after ≡ Continues u →
     GoesOn c n p s.things (piece_of c n v s blocks p answer io).objects.things u
 goes_on v images s blocks p Yield n u answer io c e = yield_goes_on n p s blocks answer u e
 goes_on v images s blocks p (Read fd i off len) n u answer io c e =
@@ -286,24 +294,25 @@ read_left_some v (suc zero) (Some o) h few = omega arith
 read_left_some v (suc (suc n)) (Some o) h few = (some_ahead n (Some o) o h refl, let l = few o refl in omega arith)
 
 -- 1 to 15 pieces are left
-left_some : (v : World) (images : ImageTable) (s : Objects) (p : ℕ) (c : SysCall) (n : ℕ) → IsStanding plain v images s p (stage c n) →
+left_some : (v : World) (images : ImageTable) (s : Objects) (p : ℕ) (c : SysCall) (n : ℕ) → PieceStands c n v images s p →
     (1 ≤ pieces_left c n s.things p) × (pieces_left c n s.things p ≤ 15)
 left_some v images s p Yield n c = let l = leb-true n 1 c.fits in omega arith
 left_some v images s p (Read fd i off len) n c =
-    read_left_some v n (s.things.file p fd) c.fits (λ o e. (c.store.files p fd o e).1.count)
+    read_left_some v n (s.things.file p fd) (and_parts (nat_lt fd 4) (nat_le n 2 && read_fits n (s.things.file p fd)) c.fits).1
+    (λ o e. (c.store.files p fd o e).1.count)
 left_some v images s p call n c = omega arith
 
 -- The laws of stages hold of the system calls.
-pub stages_of_plain : StageLaws plain
-stages_of_plain =
+pub stages_of_plain : (top : ℕ) → top ≤ 15 → StageLaws (plain_upto top)
+stages_of_plain top most =
     record {
-      first = λ v images s p c t h. begins_fitting v images s p c t h;
-      same_call = λ v images p c t h. begins_itself v images p c t h;
-      next = λ v images s blocks p t u answer io c e. (goes_on v images s blocks p t.call t.piece u answer io c e).fits;
-      same_call_next = λ v images s blocks p t u answer io c e. (goes_on v images s blocks p t.call t.piece u answer io c e).same;
+      first = λ v images s p c t h. begins_fitting top v images s p c t h;
+      same_call = λ v images p c t h. begins_itself top v images p c t h;
+      next = λ v images s blocks p t u answer io c e. (goes_on v images s blocks p t.call t.piece u (registers_of answer) io (piece_ready top v images s p t answer most c) e).fits;
+      same_call_next = λ v images s blocks p t u answer io c e. (goes_on v images s blocks p t.call t.piece u (registers_of answer) io (piece_ready top v images s p t answer most c) e).same;
       fits_same = λ v s u p t h. fits_by_files s u p t.call t.piece h;
-      more_images = λ v images more p c t h e. begins_more v images more p c t h e;
-      some_left = λ v images s p t c. left_some v images s p t.call t.piece c;
-      left_falls = λ v images s blocks p t u answer io c e. (goes_on v images s blocks p t.call t.piece u answer io c e).fewer;
+      more_images = λ v images more p c t h e. begins_more top v images more p c t h e;
+      some_left = λ v images s p t c. left_some v images s p t.call t.piece (piece_stands top v images s p t most c);
+      left_falls = λ v images s blocks p t u answer io c e. (goes_on v images s blocks p t.call t.piece u (registers_of answer) io (piece_ready top v images s p t answer most c) e).fewer;
       left_same = λ v s u p t h. left_by_files s u p t.call t.piece h;
     }
