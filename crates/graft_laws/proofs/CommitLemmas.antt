@@ -12,7 +12,7 @@ use Rattle.kernel_model.specs.declared.Point.{Point}
 use Rattle.kernel_model.specs.World.{World, ImageTable, Blocks}
 use Rattle.kernel_model.specs.Objects.{Objects, GraftValue, SameAt}
 use Rattle.kernel_model.specs.Policies.{lives, valid}
-use Rattle.kernel_model.specs.Meaning.{Meaning, Stage}
+use Rattle.kernel_model.specs.Meaning.{Meaning, Stage, Answer}
 use Rattle.kernel_model.specs.Levels.{Outcome}
 use Rattle.kernel_model.specs.History.{Mark, Stepped, Trace, fallen}
 use Rattle.kernel_model.specs.Kernel.{Call, Run, call_after, noted, with_marks}
@@ -28,7 +28,7 @@ use Rattle.graft_laws.proofs.EffectLemmas.{same_self, same_then, same_back}
 
 -- a state is alike to itself
 pub alike_self : (s : Objects) → AreAlike s s
-alike_self s = record { files = λ p fd. refl; queue = refl; lru = refl; frames = λ f. refl; locks = λ l. refl; policies = λ kind. refl }
+alike_self s = record { files = λ p fd. refl; queue = refl; handlers = refl; lru = refl; frames = λ f. refl; locks = λ l. refl; policies = λ kind. refl }
 
 -- what a step or a drop of p's call leaves, which may change all but what is free
 pub record Commits (p : ℕ) (free : Object → Type 0) (r u : Run) : Type 0 where
@@ -126,7 +126,7 @@ module _ (m : Meaning) (laws : Laws m) where
       }
 
   -- a piece is done on a state that is alike to the committed one
-  pub finish_commits : (p : ℕ) (c : Call) (w : Objects) (answer : Option (List ℕ)) (free : Object → Type 0) (r : Run) → Stands m p c r →
+  pub finish_commits : (p : ℕ) (c : Call) (w : Objects) (answer : Option Answer) (free : Object → Type 0) (r : Run) → Stands m p c r →
       IsReady m r.kernel.world r.kernel.images w p c.stage answer → AreAlike r.kernel.objects w → ((o : Object) → free o → SameAt o r.kernel.objects w) →
       ((o : Object) → IsInRange o → free o → SameAt o (m.piece r.kernel.world r.kernel.images w r.blocks p c.stage answer r.io).objects w) →
       Commits p free r (finish_on m p c w answer r)
@@ -171,7 +171,7 @@ module _ (m : Meaning) (laws : Laws m) where
   -- ---- a graft call ends
 
   -- what a piece that asks changes, on a state that is alike
-  asked_changes : (v : World) (images : ImageTable) (s w : Objects) (blocks : Blocks) (p : ℕ) (t : Stage) (answer : Option (List ℕ)) (io : List Bool) (a : Point) (x : Option Point) (o : Object) →
+  asked_changes : (v : World) (images : ImageTable) (s w : Objects) (blocks : Blocks) (p : ℕ) (t : Stage) (answer : Option Answer) (io : List Bool) (a : Point) (x : Option Point) (o : Object) →
       IsReady m v images w p t answer → m.fits v s p t ≡ true → AreAlike s w → m.asks v s p t ≡ Some a → m.asks v w p t ≡ x → SameKindOfPoint (Some a) x → IsInRange o →
       is_needed_exclusively o (before_point s a (m.need v s p t)) ≡ false → SameAt o (m.piece v images w blocks p t answer io).objects w
   asked_changes v images s w blocks p t answer io a None o ready fits alike asks e kind range free = absurd kind

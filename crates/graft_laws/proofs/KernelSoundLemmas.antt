@@ -12,7 +12,7 @@ use Rattle.kernel_model.specs.declared.Object.{Object}
 use Rattle.kernel_model.specs.declared.Point.{Point}
 use Rattle.kernel_model.specs.World.{World, ImageTable}
 use Rattle.kernel_model.specs.Objects.{Objects, GraftValue}
-use Rattle.kernel_model.specs.Meaning.{Meaning, Stage}
+use Rattle.kernel_model.specs.Meaning.{Meaning, Stage, Answer, bare_answer}
 use Rattle.kernel_model.specs.Locks.{is_held, is_held_exclusively, touch_all, untouched}
 use Rattle.kernel_model.specs.Levels.{Level, Config, Outcome, is_going_on}
 use Rattle.kernel_model.specs.GraftStep.{micro, micro_on, next_needs}
@@ -47,7 +47,7 @@ module _ (m : Meaning) (laws : Laws m) (owns : NeedsGraftsExclusively m) where
   -- ---- the ends of a step
 
   -- a piece is done, on a state whose grafts come from the committed one
-  finish_kept : (q : ℕ) (c : Call) (w : Objects) (answer : Option (List ℕ)) (ns : List Need) (r : Run) → IsSoundKernel m r.kernel →
+  finish_kept : (q : ℕ) (c : Call) (w : Objects) (answer : Option Answer) (ns : List Need) (r : Run) → IsSoundKernel m r.kernel →
       IsReady m r.kernel.world r.kernel.images w q c.stage answer → ComeFrom r.kernel.objects.accounts w.accounts → Kept m q ns r (finish_on m q c w answer r)
   finish_kept q c w answer ns r h ready come =
       let k = r.kernel in
@@ -176,12 +176,12 @@ module _ (m : Meaning) (laws : Laws m) (owns : NeedsGraftsExclusively m) where
   -- level 0 ended
   pub ended_kept : (q : ℕ) (c : Call) (t : Trace) (ks : List Mark) (a : Point) (o : Outcome) (ns : List Need) (free : Object → Type 0) (r : Run) → IsSoundKernel m r.kernel →
       Stands m q c r → m.asks r.kernel.world r.kernel.objects q c.stage ≡ Some a → ComeFrom r.kernel.objects.accounts o.config.now.accounts →
-      ((answer : List ℕ) → EndsWell m laws r.kernel.world r.kernel.objects a free o (Micro.Completed answer) → Kept m q ns r (finish_on m q c o.config.now (Some answer) r))
+      ((answer : List ℕ) → EndsWell m laws r.kernel.world r.kernel.objects a free o (Micro.Completed answer) → Kept m q ns r (finish_on m q c o.config.now (Some (bare_answer answer)) r))
       × ((g pt : ℕ) (cause : Cause) → EndsWell m laws r.kernel.world r.kernel.objects a free o (Micro.Dropped zero g pt cause) →
       Kept m q ns r (finish_on m q c (lost_objects o.config.now r.kernel.objects) None (noted (Dropped c.number g pt cause) r)))
   ended_kept q c t ks a o ns free r h stands asks come =
       let k = r.kernel in (
-        λ answer ends. finish_kept q c o.config.now (Some answer) ns r h (record {
+        λ answer ends. finish_kept q c o.config.now (Some (bare_answer answer)) ns r h (record {
           standing = stands_on m laws k.world k.images k.objects o.config.now q c.stage stands.standing ends.0.store ends.0.alike;
           disk = alike_disk k.world k.objects o.config.now ends.0.alike stands.disk;
           right = right_answer m laws k.world k.objects o.config.now q c.stage a answer stands.standing.fits ends.0.alike asks ends.1;

@@ -9,7 +9,7 @@ use Rattle.kernel_model.specs.declared.Object.{Object}
 use Rattle.kernel_model.specs.declared.Object.TheVariants.{Graft}
 use Rattle.kernel_model.specs.World.{processes}
 use Rattle.kernel_model.specs.Objects.{Objects}
-use Rattle.kernel_model.specs.Meaning.{Meaning, After, Continues, EndsWith, Fails}
+use Rattle.kernel_model.specs.Meaning.{Meaning, After, Continues, EndsWith, Fails, Answer}
 use Rattle.kernel_model.specs.Levels.{Level, Config, level_at, touched_in, touched_at, outermost_touched}
 use Rattle.kernel_model.specs.History.{Mark, replay}
 use Rattle.kernel_model.specs.Kernel.{Call, Kernel, Run, gave_note, after_note, call_after, with_marks, requeue}
@@ -214,7 +214,7 @@ module _ (m : Meaning) (laws : Laws m) (histories : HistoriesWork m) (r : Run) (
 
   -- ---- a piece is done
 
-  module _ (w : Objects) (answer : Option (List ℕ)) (ready : IsReady m r.kernel.world r.kernel.images w p c.stage answer) (from : GraftsFrom r.kernel.objects.accounts w.accounts)
+  module _ (w : Objects) (answer : Option Answer) (ready : IsReady m r.kernel.world r.kernel.images w p c.stage answer) (from : GraftsFrom r.kernel.objects.accounts w.accounts)
       (own : (q pt : ℕ) → is_some (w.accounts.graft q pt) ≡ true → stands_in (config_of m r.kernel p) q pt ≡ true) (ns : List Note) where
     -- the run after the piece
     abbrev Done : Run

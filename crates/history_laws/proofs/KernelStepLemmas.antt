@@ -8,7 +8,7 @@ use Rattle.kernel_model.specs.declared.Object.{Object}
 use Rattle.kernel_model.specs.declared.Point.{Point}
 use Rattle.kernel_model.specs.World.{World, ImageTable}
 use Rattle.kernel_model.specs.Objects.{Objects, Accounts, GraftValue}
-use Rattle.kernel_model.specs.Meaning.{Meaning, Stage, After, Continues, EndsWith, Fails}
+use Rattle.kernel_model.specs.Meaning.{Meaning, Stage, After, Continues, EndsWith, Fails, Answer}
 use Rattle.kernel_model.specs.Levels.{Level, Config}
 use Rattle.kernel_model.specs.History.{Mark, Trace, begin_at, begin_with, first_trace, marks_on, replay}
 use Rattle.kernel_model.specs.Kernel.{Call, Kernel, Run, is_at_piece, has_level, call_after, with_marks, requeue}
@@ -105,7 +105,7 @@ module _ (m : Meaning) (know : Known m) (r : Run) (sound : IsSoundKernel m r.ker
   -- ---- the three ends of a step
 
   -- a piece is done
-  pub finish_sound : (c : Call) (w : Objects) (answer : Option (List ℕ)) (ns : List Note) → IsReady m r.kernel.world r.kernel.images w p c.stage answer →
+  pub finish_sound : (c : Call) (w : Objects) (answer : Option Answer) (ns : List Note) → IsReady m r.kernel.world r.kernel.images w p c.stage answer →
       ImagesAreLoaded r.kernel.images w.accounts → StaysSound (finish_on m p c w answer (record r { notes = ns }))
   finish_sound c w answer ns ready loaded stands steady =
       let v = r.kernel.world in

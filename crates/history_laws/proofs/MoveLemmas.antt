@@ -7,7 +7,7 @@ use Rattle.kernel_model.specs.declared.Note.{Note}
 use Rattle.kernel_model.specs.World.{World, ImageTable, Blocks}
 use Rattle.kernel_model.specs.Objects.{Objects}
 use Rattle.kernel_model.specs.Policies.{lives}
-use Rattle.kernel_model.specs.Meaning.{Meaning, After, Continues, EndsWith, Fails}
+use Rattle.kernel_model.specs.Meaning.{Meaning, After, Continues, EndsWith, Fails, Answer}
 use Rattle.kernel_model.specs.History.{Mark}
 use Rattle.kernel_model.specs.Kernel.{Call, Run, has_level, gave_note, after_note, call_after, with_marks}
 use Rattle.kernel_model.specs.Settle.{finish_on}
@@ -96,7 +96,7 @@ pub record OwnMoves (m : Meaning) (v : World) (images : ImageTable) (p left : �
 
 -- a state is alike to itself
 pub alike_self : (s : Objects) → AreAlike s s
-alike_self s = record { files = λ p fd. refl; queue = refl; lru = refl; frames = λ f. refl; locks = λ l. refl; policies = λ kind. refl }
+alike_self s = record { files = λ p fd. refl; queue = refl; handlers = refl; lru = refl; frames = λ f. refl; locks = λ l. refl; policies = λ kind. refl }
 
 -- a note of bytes, at most, and no other
 pub gave_counts : (n : ℕ) (gave : Option (List ℕ)) → let ns = gave_note n gave in
@@ -185,7 +185,7 @@ module _ (m : Meaning) (laws : Laws m) where
       itself n = omega arith
 
   -- the call after a piece
-  own_after : (v : World) (images : ImageTable) (s w : Objects) (blocks : Blocks) (p : ℕ) (c : Call) (answer : Option (List ℕ)) (io : List Bool) (pre : List Note) (b : ℕ) (a : After) →
+  own_after : (v : World) (images : ImageTable) (s w : Objects) (blocks : Blocks) (p : ℕ) (c : Call) (answer : Option Answer) (io : List Bool) (pre : List Note) (b : ℕ) (a : After) →
       IsReady m v images w p c.stage answer → AreAlike s w → ArePartOf b pre → let q = m.piece v images w blocks p c.stage answer io in q.after ≡ a →
       OwnMoves m v images p (m.left v s p c.stage) q.objects (call_after c a) (pre ++ (gave_note c.number q.gave ++ after_note c.number a))
   own_after v images s w blocks p c answer io pre b a ready alike part e = own_by a e
@@ -243,7 +243,7 @@ module _ (m : Meaning) (laws : Laws m) where
           }
 
   -- a piece is done, on a state that is alike to the committed one, after these notes
-  pub finish_moves : (p : ℕ) (c : Call) (w : Objects) (answer : Option (List ℕ)) (r : Run) (pre : List Note) → StandsAt m r → r.kernel.call p ≡ Some c →
+  pub finish_moves : (p : ℕ) (c : Call) (w : Objects) (answer : Option Answer) (r : Run) (pre : List Note) → StandsAt m r → r.kernel.call p ≡ Some c →
       ArePartOf (once_if (has_level (r.kernel.call p))) pre → IsReady m r.kernel.world r.kernel.images w p c.stage answer → AreAlike r.kernel.objects w →
       Moves m p r (finish_on m p c w answer (record r { notes = r.notes ++ pre }))
   finish_moves p c w answer r pre h e part ready alike =

@@ -10,7 +10,7 @@ use Rattle.kernel_model.specs.declared.Object.{Object}
 use Rattle.kernel_model.specs.declared.Point.{Point}
 use Rattle.kernel_model.specs.World.{World, ImageTable}
 use Rattle.kernel_model.specs.Objects.{Objects, GraftValue}
-use Rattle.kernel_model.specs.Meaning.{Meaning, After, Continues, EndsWith, Fails}
+use Rattle.kernel_model.specs.Meaning.{Meaning, After, Continues, EndsWith, Fails, Answer}
 use Rattle.kernel_model.specs.Levels.{Level, Config, Outcome, drop_level}
 use Rattle.kernel_model.specs.GraftStep.{micro, micro_on}
 use Rattle.kernel_model.specs.History.{Mark, Stepped, Trace, begin_at, begin_with, first_trace, replay, fallen}
@@ -104,7 +104,7 @@ module _ (m : Meaning) (know : Known m) (r : Run) (sound : IsSoundKernel m r.ker
       (record { store = here.store; caller = here.callers p c is; granted = here.granted p c is; fits = here.fit p c is })).0
 
   -- a piece is done
-  finish_share : (w : Objects) (answer : Option (List ℕ)) (ns : List Note) → IsReady m r.kernel.world r.kernel.images w p c.stage answer → AreAlike r.kernel.objects w →
+  finish_share : (w : Objects) (answer : Option Answer) (ns : List Note) → IsReady m r.kernel.world r.kernel.images w p c.stage answer → AreAlike r.kernel.objects w →
       suc (own_share m p (finish_on m p c w answer (record r { notes = ns }))) ≤ left_now
   finish_share w answer ns ready alike =
       let v = r.kernel.world in

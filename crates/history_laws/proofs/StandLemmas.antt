@@ -13,7 +13,7 @@ use Rattle.kernel_model.specs.World.{World, ImageTable, Blocks}
 use Rattle.kernel_model.specs.Objects.{Objects, Things, FrameValue, same_object}
 use Rattle.kernel_model.specs.SameObject.{same_object_is}
 use Rattle.kernel_model.specs.Policies.{PointKind, Ahead, Victim, Next, kind_of, lives, valid, valid_by, is_owned}
-use Rattle.kernel_model.specs.Meaning.{Meaning, Stage}
+use Rattle.kernel_model.specs.Meaning.{Meaning, Stage, Answer}
 use Rattle.kernel_model.specs.Sound.{IsSoundStore, FitsDisk, HasWholeBlocks}
 use Rattle.kernel_model.specs.Alike.{AreAlike, markless, niceless, is_needed_exclusively, is_exclusive}
 use Rattle.kernel_model.specs.Laws.{Laws, IsReady, IsRightAnswer, IsOwnFile, SameKindOfPoint, SameAheadAsk, accepted_by}
@@ -136,7 +136,7 @@ no_file_beyond v s q fd true h e high = absurd (contrary q (h.numbers q e) high)
 no_file_beyond v s q fd false h e high = (h.gone q e).files fd
 
 -- a piece changes no file of another process
-pub others_files : (m : Meaning) (laws : Laws m) (v : World) (images : ImageTable) (w : Objects) (blocks : Blocks) (p q : ℕ) (t : Stage) (answer : Option (List ℕ)) (io : List Bool) →
+pub others_files : (m : Meaning) (laws : Laws m) (v : World) (images : ImageTable) (w : Objects) (blocks : Blocks) (p q : ℕ) (t : Stage) (answer : Option Answer) (io : List Bool) →
     IsReady m v images w p t answer → HasWholeBlocks v blocks → q ≢ p →
     (fd : ℕ) → w.things.file q fd ≡ (m.piece v images w blocks p t answer io).objects.things.file q fd
 others_files m laws v images w blocks p q t answer io ready whole ne fd =

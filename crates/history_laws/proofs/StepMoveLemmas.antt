@@ -57,7 +57,7 @@ remove_sound effects v w q pt h = removed_if (w.accounts.graft q pt) refl
 
 -- what a lost level 0 leaves is alike to the state
 pub alike_lost : (w s : Objects) → AreAlike s (lost_objects w s)
-alike_lost w s = record { files = λ p fd. refl; queue = refl; lru = refl; frames = λ f. refl; locks = λ l. refl; policies = λ kind. refl }
+alike_lost w s = record { files = λ p fd. refl; queue = refl; handlers = refl; lru = refl; frames = λ f. refl; locks = λ l. refl; policies = λ kind. refl }
 
 -- where a call completed, its working state is sound and alike, and its answer a right one
 abbrev pub WhereCompleted : (m : Meaning) (v : World) (s : Objects) (p : ℕ) (c : Call) (w : Objects) → Micro → Type 0

@@ -157,7 +157,7 @@ module _ (v : World) (s : Objects) (a : Accounts) where
       let l = h.alike in
       record {
         store = store_with_cell v (record { accounts = a; things = w }) q k x h.store alive;
-        alike = record { files = l.files; queue = l.queue; lru = l.lru; frames = l.frames; locks = l.locks; policies = l.policies };
+        alike = record { files = l.files; queue = l.queue; handlers = l.handlers; lru = l.lru; frames = l.frames; locks = l.locks; policies = l.policies };
       }
 
   nice_work : (q n : ℕ) (w : Things) → IsGraftsWork v s a w → n ≤ 39 → IsGraftsWork v s a (set_nice q n w)
@@ -166,7 +166,7 @@ module _ (v : World) (s : Objects) (a : Accounts) where
       record {
         store = store_with_queue v (record { accounts = a; things = w }) (with_nice q n w.queue) h.store
             (record { living = nice_lives q n w.queue; count = nice_count q n w.queue; nices = nice_fits q n w.queue low h.store.nices });
-        alike = record { files = l.files; queue = l.queue ∙ sym (nice_alike q n w.queue); lru = l.lru; frames = l.frames; locks = l.locks; policies = l.policies };
+        alike = record { files = l.files; queue = l.queue ∙ sym (nice_alike q n w.queue); handlers = l.handlers; lru = l.lru; frames = l.frames; locks = l.locks; policies = l.policies };
       }
 
   window_work : (q fd n : ℕ) (o : OpenRow) (w : Things) → IsGraftsWork v s a w → lives w.queue q ≡ true → fd < 4 → n ≤ 8 → w.file q fd ≡ Some o →
@@ -179,6 +179,7 @@ module _ (v : World) (s : Objects) (a : Accounts) where
         alike = record {
           files = λ p i. l.files p i ∙ sym (window_alike q fd n p i w.file);
           queue = l.queue;
+          handlers = l.handlers;
           lru = l.lru;
           frames = l.frames;
           locks = l.locks;
@@ -196,6 +197,7 @@ module _ (v : World) (s : Objects) (a : Accounts) where
         alike = record {
           files = l.files;
           queue = l.queue;
+          handlers = l.handlers;
           lru = l.lru;
           frames = λ g. l.frames g ∙ sym (mark_alike f n g w.cache.frame);
           locks = l.locks;
@@ -213,6 +215,7 @@ module _ (v : World) (s : Objects) (a : Accounts) where
         alike = record {
           files = l.files;
           queue = l.queue;
+          handlers = l.handlers;
           lru = l.lru;
           frames = l.frames;
           locks = l.locks;

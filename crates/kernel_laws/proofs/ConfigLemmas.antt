@@ -21,7 +21,7 @@ use Rattle.kernel_model.specs.Objects.{Objects, Accounts, Things, GraftValue, wi
 use Rattle.kernel_model.specs.Machine.{Machine, Done, Called, Returned, Trapped, Outside, PastEnd, seg_step}
 use Rattle.kernel_model.specs.Policies.{valid, kind_of, default_of, args_by}
 use Rattle.kernel_model.specs.Charges.{funds, charge, charge_by, charge_account, charge_graft, taken_from, removed, removed_by}
-use Rattle.kernel_model.specs.Access.{Access, Gives, Changes, Refuses, access, early_refusal, is_ask, accessed, needed, asked_point, asked_objects, changed_by, undo}
+use Rattle.kernel_model.specs.Access.{Found, bare_found, object_of_inverse, Access, Gives, Changes, Refuses, access, early_refusal, is_ask, accessed, needed, asked_point, asked_objects, changed_by, undo}
 use Rattle.kernel_model.specs.UndoLog.{undo_all, undo_log, kept_by_log}
 use Rattle.kernel_model.specs.Locks.{Touched, touch, joined, untouched}
 use Rattle.kernel_model.specs.Levels.{Level, Outcome, code_of, new_level, with_machine, with_touched, touch_outermost, outermost_touched, answered, answer_innermost, state_without, drop_innermost}
@@ -111,7 +111,7 @@ outermost_touch o (l ∷ k ∷ ls) some = touched_inside o l (touch_outermost o 
     touched_inside o l xs some h = ap (λ (t : Touched). t o) (outermost_inside l xs some) ∙ h
 
 -- other records of the innermost level leave level 0
-outermost_records : (l : Level) (is : List Inverse) (ls : List Level) → outermost_touched (record l { records = is } ∷ ls) ≡ outermost_touched (l ∷ ls)
+outermost_records : (l : Level) (is : List Found) (ls : List Level) → outermost_touched (record l { records = is } ∷ ls) ≡ outermost_touched (l ∷ ls)
 outermost_records l is [] = refl
 outermost_records l is (k ∷ ls) = refl
 
@@ -123,7 +123,7 @@ rest_of_found : (x y : Things) (xs ys : List Things) → x ∷ xs ≡ y ∷ ys �
 rest_of_found x y xs ys e = ap (λ (ws : List Things). elim ws as (λ _. List Things) [ [] ↦ xs | w ∷ rest ↦ rest ]) e
 
 -- records of two levels, undone one after the other
-undo_both : (is js : List Inverse) (w : Things) → undo_all (is ++ js) w ≡ undo_all js (undo_all is w)
+undo_both : (is js : List Found) (w : Things) → undo_all (is ++ js) w ≡ undo_all js (undo_all is w)
 undo_both [] js w = refl
 undo_both (i ∷ is) js w = undo_both is js (undo i w)
 
@@ -188,7 +188,7 @@ machine_keeps l ls m = (record { owner = refl; point = refl; records = refl; kep
 -- ---- accessors
 
 -- a record more of the innermost level
-recorded_held : (a : Accounts) (w u : Things) (l : Level) (ls : List Level) (i : Inverse) → AreHeld (record { accounts = a; things = w }) (l ∷ ls) → undo i u ≡ w →
+recorded_held : (a : Accounts) (w u : Things) (l : Level) (ls : List Level) (i : Found) → AreHeld (record { accounts = a; things = w }) (l ∷ ls) → undo i u ≡ w →
     l.touched (changed_by i) ≡ Held.Exclusive → (record_count (l ∷ ls) == 64) ≡ false → AreHeld (record { accounts = a; things = u }) (record l { records = i ∷ l.records } ∷ ls)
 recorded_held a w u l ls i h leads held room =
     record {
@@ -210,7 +210,7 @@ recorded_held a w u l ls i h leads held room =
       kept = h.kept ∙ ap (λ x. kept_by_log x (l.records ∷ undo_log ls)) (sym leads);
     }
   where
-    only_one : (i j : Inverse) → Contains (i ∷ []) j → i ≡ j
+    only_one : (i j : Found) → Contains (i ∷ []) j → i ≡ j
     only_one i j c = each_contains (λ x. i ≡ x) (i ∷ []) j (refl, tt) c
 
     one_more : (a b : ℕ) → a + b ≤ 64 → (a + b == 64) ≡ false → suc a + b ≤ 64
@@ -228,15 +228,16 @@ module _ (v : World) where
   result_held w l ls m id result false h = held_on w (after_access l m id result ∷ ls) (l ∷ ls) (access_keeps l ls m id result) h
 
   change_held : (w : Objects) (l : Level) (ls : List Level) (m : Machine) (id result : ℕ) (i : Inverse) (u : Things) (spent : Bool) →
-      is_record_spent w.accounts l ls ≡ spent → AreHeld w (l ∷ ls) → undo i u ≡ w.things → accessed id (l.machine.regs 0) l.owner ≡ needed (changed_by i) Mode.Exclusive →
+      is_record_spent w.accounts l ls ≡ spent → AreHeld w (l ∷ ls) → undo (bare_found i) u ≡ w.things →
+      accessed id (l.machine.regs 0) l.owner ≡ needed (object_of_inverse i) Mode.Exclusive →
       HeldAfter (after_change v w l ls m id result i u spent)
   change_held w l ls m id result i u true e h leads needs = drop_held v w l ls SpentRecords h
   change_held w l ls m id result i u false e h leads needs =
       let n = after_access l m id result in
       let a = charge Records l.owner l.point w.accounts in
       let k = held_on (record { accounts = a; things = w.things }) (n ∷ ls) (l ∷ ls) (access_keeps l ls m id result) (charged_held w (l ∷ ls) l.owner l.point Records h) in
-      recorded_held a w.things u n ls i k leads
-      (subst (λ (x : Need). touch x.object x.mode l.touched (changed_by i) ≡ Held.Exclusive) (sym needs) (touch_here (changed_by i) l.touched))
+      recorded_held a w.things u n ls (bare_found i) k leads
+      (subst (λ (x : Need). touch x.object x.mode l.touched (object_of_inverse i) ≡ Held.Exclusive) (sym needs) (touch_here (object_of_inverse i) l.touched))
       (neither (funds w.accounts l.owner l.point Records == 0) (record_count (l ∷ ls) == 64) e).1
 
   accessor_held : (w : Objects) (l : Level) (ls : List Level) (m : Machine) (id : ℕ) (x : Access) → AreHeld w (l ∷ ls) → LeadsBack w.things x →
@@ -256,12 +257,12 @@ new_held w n ks some h none found stands graft acct other room =
       each = subst (λ t. Each (IsHeld t w.accounts) (n ∷ ks)) (sym (outermost_inside n ks some))
           (record { stands = stands; graft = graft; acct = acct; recorded = λ i c. absurd (nothing i (subst (λ is. Contains is i) none c)) }, h.each);
       apart = (other, h.apart);
-      few = subst (λ (is : List Inverse). length is + record_count ks ≤ 64) (sym none) (same_count (record_count ks) h.few);
+      few = subst (λ (is : List Found). length is + record_count ks ≤ 64) (sym none) (same_count (record_count ks) h.few);
       most = room;
       kept = ap (λ x. x ∷ found_by ks) found ∙ ap (λ ws. w.things ∷ ws) h.kept ∙ ap (λ is. kept_by_log w.things (is ∷ undo_log ks)) (sym none);
     }
   where
-    nothing : (i : Inverse) → Contains [] i → ⊥
+    nothing : (i : Found) → Contains [] i → ⊥
     nothing i c = none_below c.0 c.1
       where
         none_below : (k : ℕ) → k < 0 → ⊥

@@ -17,7 +17,7 @@ use Rattle.kernel_model.specs.Objects.{Objects, Accounts, Things, GraftValue, Sa
 use Rattle.kernel_model.specs.Machine.{Machine, Done, Called, Returned, Trapped, Outside, PastEnd, seg_step}
 use Rattle.kernel_model.specs.Policies.{valid}
 use Rattle.kernel_model.specs.Charges.{funds, pay, spend, taken_from, returned, charge, charge_by, charge_account, charge_graft, removed, removed_by}
-use Rattle.kernel_model.specs.Access.{Access, Gives, Changes, Refuses, access, early_refusal, is_ask, accessed, needed, asked_point, asked_objects, asked_graft, changed_by, undo}
+use Rattle.kernel_model.specs.Access.{Found, bare_found, object_of_inverse, Access, Gives, Changes, Refuses, access, early_refusal, is_ask, accessed, needed, asked_point, asked_objects, asked_graft, changed_by, undo}
 use Rattle.kernel_model.specs.UndoLog.{undo_all, undo_log, kept_by_log}
 use Rattle.kernel_model.specs.Locks.{touch, is_held_exclusively}
 use Rattle.kernel_model.specs.Levels.{Level, Outcome, code_of, with_machine, with_touched, touch_outermost, outermost_touched, drop_innermost}
@@ -40,7 +40,7 @@ same_self (Graft q pt) w = (refl, refl)
 same_self (Acct q) w = refl
 same_self (Cell q k) w = refl
 same_self (OpenFile q fd) w = refl
-same_self Queue w = refl
+same_self Queue w = (refl, refl)
 same_self Cache w = refl
 same_self (Lock u) w = refl
 same_self (Pol k) w = refl
@@ -50,7 +50,7 @@ same_then (Graft q pt) x y z h k = (h.0 ∙ k.0, h.1 ∙ k.1)
 same_then (Acct q) x y z h k = h ∙ k
 same_then (Cell q i) x y z h k = h ∙ k
 same_then (OpenFile q fd) x y z h k = h ∙ k
-same_then Queue x y z h k = h ∙ k
+same_then Queue x y z h k = (h.0 ∙ k.0, h.1 ∙ k.1)
 same_then Cache x y z h k = h ∙ k
 same_then (Lock u) x y z h k = h ∙ k
 same_then (Pol i) x y z h k = h ∙ k
@@ -61,7 +61,7 @@ thing_self (Graft q pt) w = refl
 thing_self (Acct q) w = tt
 thing_self (Cell q k) w = refl
 thing_self (OpenFile q fd) w = refl
-thing_self Queue w = refl
+thing_self Queue w = (refl, refl)
 thing_self Cache w = refl
 thing_self (Lock u) w = refl
 thing_self (Pol k) w = refl
@@ -71,7 +71,7 @@ thing_then (Graft q pt) x y z h k = h ∙ k
 thing_then (Acct q) x y z h k = tt
 thing_then (Cell q i) x y z h k = h ∙ k
 thing_then (OpenFile q fd) x y z h k = h ∙ k
-thing_then Queue x y z h k = h ∙ k
+thing_then Queue x y z h k = (h.0 ∙ k.0, h.1 ∙ k.1)
 thing_then Cache x y z h k = h ∙ k
 thing_then (Lock u) x y z h k = h ∙ k
 thing_then (Pol i) x y z h k = h ∙ k
@@ -101,7 +101,7 @@ differ_frame q pt a b x (Graft r pu) h g k = (h.graft r pu g, refl)
 differ_frame q pt a b x (Acct r) h g k = h.acct r (λ e. k (ap Acct e))
 differ_frame q pt a b x (Cell r i) h g k = refl
 differ_frame q pt a b x (OpenFile r fd) h g k = refl
-differ_frame q pt a b x Queue h g k = refl
+differ_frame q pt a b x Queue h g k = (refl, refl)
 differ_frame q pt a b x Cache h g k = refl
 differ_frame q pt a b x (Lock u) h g k = refl
 differ_frame q pt a b x (Pol i) h g k = refl
@@ -158,7 +158,7 @@ other_than : (ls : List Level) (o x : Object) → is_changed_in ls o ≡ false �
 other_than ls o x none some e = contrary (sym some ∙ ap (is_changed_in ls) (sym e) ∙ none)
 
 -- records of other objects leave an object
-undo_frame : (is : List Inverse) (w : Things) (o : Object) → ((i : Inverse) → Contains is i → o ≢ changed_by i) → SameThing o (undo_all is w) w
+undo_frame : (is : List Found) (w : Things) (o : Object) → ((i : Found) → Contains is i → o ≢ changed_by i) → SameThing o (undo_all is w) w
 undo_frame [] w o h = thing_self o w
 undo_frame (i ∷ is) w o h =
     thing_then o (undo_all is (undo i w)) (undo i w) w (undo_frame is (undo i w) o (λ j c. h j (Contains-append_right (i ∷ []) is j c)))
@@ -204,17 +204,17 @@ module _ (v : World) (o : Object) where
   result_leaves w l ls m id result false h none = λ after. same_self o w
 
   change_leaves : (w : Objects) (l : Level) (ls : List Level) (m : Machine) (id result : ℕ) (i : Inverse) (u : Things) (spent : Bool) → AreHeld w (l ∷ ls) →
-      is_changed_in (l ∷ ls) o ≡ false → accessed id (l.machine.regs 0) l.owner ≡ needed (changed_by i) Mode.Exclusive →
-      ((x : Object) → x ≢ changed_by i → SameThing x u w.things) → Leaves o w (after_change v w l ls m id result i u spent)
+      is_changed_in (l ∷ ls) o ≡ false → accessed id (l.machine.regs 0) l.owner ≡ needed (object_of_inverse i) Mode.Exclusive →
+      ((x : Object) → x ≢ object_of_inverse i → SameThing x u w.things) → Leaves o w (after_change v w l ls m id result i u spent)
   change_leaves w l ls m id result i u true h none needs own = drop_leaves w l ls SpentRecords h none
   change_leaves w l ls m id result i u false h none needs own = λ after.
-      let n = record (after_access l m id result) { records = i ∷ l.records } in
-      let held = subst (λ (x : Need). touch x.object x.mode l.touched (changed_by i) ≡ Held.Exclusive) (sym needs) (touch_here (changed_by i) l.touched) in
+      let n = record (after_access l m id result) { records = bare_found i ∷ l.records } in
+      let held = subst (λ (x : Need). touch x.object x.mode l.touched (object_of_inverse i) ≡ Held.Exclusive) (sym needs) (touch_here (object_of_inverse i) l.touched) in
       same_parts o (charge Records l.owner l.point w.accounts) w.accounts u w.things
       (differ_frame l.owner l.point (charge Records l.owner l.point w.accounts) w.accounts u o (charge_differs Records l.owner l.point w.accounts)
       (other_than (l ∷ ls) o (Graft l.owner l.point) none (outer_changed (l ∷ ls) (Graft l.owner l.point) h.each.0.graft))
       (other_than (l ∷ ls) o (Acct l.owner) none (outer_changed (l ∷ ls) (Acct l.owner) h.each.0.acct)))
-      (own o (other_than (n ∷ ls) o (changed_by i) after (inner_changed n ls (changed_by i) held)))
+      (own o (other_than (n ∷ ls) o (object_of_inverse i) after (inner_changed n ls (object_of_inverse i) held)))
 
   accessor_leaves : (w : Objects) (l : Level) (ls : List Level) (m : Machine) (id : ℕ) (x : Access) → AreHeld w (l ∷ ls) → is_changed_in (l ∷ ls) o ≡ false →
       ChangesItsObject id (l.machine.regs 0) l.owner w.things x → Leaves o w (after_accessor v w l ls m id x)

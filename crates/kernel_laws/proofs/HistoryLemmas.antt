@@ -130,7 +130,7 @@ pub own_work : (v : World) (s : Objects) → IsSoundStore v s → IsGraftsWork v
 own_work v s h =
     record {
       store = h;
-      alike = record { files = λ p fd. refl; queue = refl; lru = refl; frames = λ f. refl; locks = λ l. refl; policies = λ kind. refl };
+      alike = record { files = λ p fd. refl; queue = refl; handlers = refl; lru = refl; frames = λ f. refl; locks = λ l. refl; policies = λ kind. refl };
     }
 
 -- by the point that is asked

@@ -14,7 +14,7 @@ use Rattle.kernel_model.specs.Objects.{Objects, Things, GraftValue, with_account
 use Rattle.kernel_model.specs.Machine.{Machine, Done, Called, Returned, Trapped, Outside, PastEnd, seg_step}
 use Rattle.kernel_model.specs.Policies.{lives, valid, kind_of, default_of, args_by}
 use Rattle.kernel_model.specs.Charges.{payer_balance, funds, charge, removed}
-use Rattle.kernel_model.specs.Access.{Access, Gives, Changes, Refuses, access, callable, early_refusal, is_ask, asked_point, asked_objects, asked_graft}
+use Rattle.kernel_model.specs.Access.{bare_found, Access, Gives, Changes, Refuses, access, callable, early_refusal, is_ask, asked_point, asked_objects, asked_graft}
 use Rattle.kernel_model.specs.Locks.{joined, untouched}
 use Rattle.kernel_model.specs.Levels.{Level, Outcome, goes_on, code_of, limit_in, new_level, with_machine, with_touched, touch_outermost, answered, answer_innermost, drop_innermost}
 use Rattle.kernel_model.specs.GraftStep.{after_access, is_lock_due, lock_paid, after_result, record_count, is_record_spent, after_change, after_accessor, ask_refusal, ask_answered, after_ask, granted_call, after_call, completed, after_return, after_machine, is_spent, charged_step, micro_on}
@@ -165,8 +165,8 @@ module _ (v : World) (s : Objects) (a : Point) where
       record { works = (h.works.0, (new, h.works.1.1)); asked = h.asked } in
       let k = charged_work (record { accounts = w.accounts; things = things }) (l ∷ ls) l.owner l.point Records (neither (funds w.accounts l.owner l.point Records == 0) (record_count (l ∷ ls) == 64) e).0 changed in
       on_same (record { accounts = charge Records l.owner l.point w.accounts; things = things })
-      (record (after_access l m id result) { records = i ∷ l.records } ∷ ls) (l ∷ ls)
-      (same_level (record (after_access l m id result) { records = i ∷ l.records }) l ls refl refl refl refl) k
+      (record (after_access l m id result) { records = bare_found i ∷ l.records } ∷ ls) (l ∷ ls)
+      (same_level (record (after_access l m id result) { records = bare_found i ∷ l.records }) l ls refl refl refl refl) k
 
   -- what a plain accessor comes to
   accessor_work : (w : Objects) (l : Level) (ls : List Level) (m : Machine) (id : ℕ) (x : Access) → WorksOn v s a (record { now = w; levels = l ∷ ls }) →

@@ -4,7 +4,7 @@ use Rattle.std.specs.List.{AllByRecursion as Each}
 use Rattle.std.proofs.Common.{arith, refl, subst, sym, ap, ◌∙◌}
 use Rattle.std.proofs.lemmas.List.Elements.{Contains-append_right, All-contains, All-from_recursion}
 use Rattle.kernel_model.specs.declared.Held.{Held}
-use Rattle.kernel_model.specs.declared.Inverse.{Inverse}
+use Rattle.kernel_model.specs.Access.{Found}
 use Rattle.kernel_model.specs.declared.Mode.{Mode}
 use Rattle.kernel_model.specs.declared.Object.{Object}
 use Rattle.kernel_model.specs.declared.Object.TheVariants.{Graft, Acct}
@@ -129,7 +129,7 @@ pub record IsHeld (t : Touched) (a : Accounts) (l : Level) : Type 0 where
   pub stands : is_some (a.graft l.owner l.point) ≡ true
   pub graft : t (Graft l.owner l.point) ≡ Held.Exclusive
   pub acct : t (Acct l.owner) ≡ Held.Exclusive
-  pub recorded : (i : Inverse) → Contains l.records i → l.touched (changed_by i) ≡ Held.Exclusive
+  pub recorded : (i : Found) → Contains l.records i → l.touched (changed_by i) ≡ Held.Exclusive
 
 -- the grafts of levels are different ones
 abbrev pub AreApart : List Level → Type 0
@@ -182,7 +182,7 @@ apart_on (l ∷ ls) [] h apart = absurd h
 -- as many records and levels, with the same logs
 count_on : (ls ks : List Level) → KeepOn ls ks → record_count ls ≡ record_count ks
 count_on [] [] h = refl
-count_on (l ∷ ls) (k ∷ ks) h = ap (λ (is : List Inverse). length is + record_count ls) h.0.records ∙ ap (λ n. length k.records + n) (count_on ls ks h.1)
+count_on (l ∷ ls) (k ∷ ks) h = ap (λ (is : List Found). length is + record_count ls) h.0.records ∙ ap (λ n. length k.records + n) (count_on ls ks h.1)
 count_on [] (k ∷ ks) h = absurd h
 count_on (l ∷ ls) [] h = absurd h
 

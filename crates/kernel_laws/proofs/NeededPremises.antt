@@ -13,7 +13,7 @@ use Rattle.kernel_model.specs.declared.Refusal.TheVariants.{Held}
 use Rattle.kernel_model.specs.declared.QueueRow.{QueueRow}
 use Rattle.kernel_model.specs.World.{World, Blocks}
 use Rattle.kernel_model.specs.Objects.{Objects, Accounts, Things, GraftValue, at, at2}
-use Rattle.kernel_model.specs.Access.{access, undo, set_cell}
+use Rattle.kernel_model.specs.Access.{bare_found, access, undo, set_cell}
 use Rattle.kernel_model.specs.UndoLog.{undo_all}
 use Rattle.kernel_model.specs.Charges.{charge, returned}
 use Rattle.kernel_model.specs.Meaning.{Meaning, stage}
@@ -52,15 +52,15 @@ twice_is_too_often : LeadsBack twice_queued (access 3 7 0 0 0 twice_queued) → 
 twice_is_too_often h = one_two (ap (λ (w : Things). second_nice w.queue) h)
 
 -- two inverses of one cell don't commute
-one_cell_is_not_two : undo (Inverse.Cell 0 0 1) (undo (Inverse.Cell 0 0 2) opening_things) ≡ undo (Inverse.Cell 0 0 2) (undo (Inverse.Cell 0 0 1) opening_things) → ⊥
+one_cell_is_not_two : undo (bare_found (Inverse.Cell 0 0 1)) (undo (bare_found (Inverse.Cell 0 0 2)) opening_things) ≡ undo (bare_found (Inverse.Cell 0 0 2)) (undo (bare_found (Inverse.Cell 0 0 1)) opening_things) → ⊥
 one_cell_is_not_two h = one_two (ap (λ (w : Things). w.cell 0 0) h)
 
 -- a cell that was 0, is set to 1 and then to 2: its records, oldest first, lead to 1
-oldest_first_leads_elsewhere : (undo_all (Inverse.Cell 0 0 0 ∷ Inverse.Cell 0 0 1 ∷ []) (set_cell 0 0 2 (set_cell 0 0 1 opening_things))).cell 0 0 ≡ 1
+oldest_first_leads_elsewhere : (undo_all (bare_found (Inverse.Cell 0 0 0) ∷ bare_found (Inverse.Cell 0 0 1) ∷ []) (set_cell 0 0 2 (set_cell 0 0 1 opening_things))).cell 0 0 ≡ 1
 oldest_first_leads_elsewhere = refl
 
 -- newest first they lead to 0
-newest_first_leads_back : (undo_all (Inverse.Cell 0 0 1 ∷ Inverse.Cell 0 0 0 ∷ []) (set_cell 0 0 2 (set_cell 0 0 1 opening_things))).cell 0 0 ≡ 0
+newest_first_leads_back : (undo_all (bare_found (Inverse.Cell 0 0 1) ∷ bare_found (Inverse.Cell 0 0 0) ∷ []) (set_cell 0 0 2 (set_cell 0 0 1 opening_things))).cell 0 0 ≡ 0
 newest_first_leads_back = refl
 
 -- ---- amounts

@@ -87,6 +87,8 @@ opening_is_sound v images world disk =
         gone = λ p e. record { cells = λ k. refl; files = λ fd. refl; balances = λ k. ap (λ b. cond b v.grant 0) (not_root p e); spent = λ k. refl };
         files = λ p fd o e. absurd (none_some o e);
         policies = first_policies;
+        handlers = record { once = λ q pt. omega arith; points = refl; most = λ pt. omega arith };
+        handlers_live = λ q pt e. absurd (not_some e);
         segs = λ q pt out. refl;
         ledgers = first_ledgers v.grant;
       };

@@ -15,7 +15,7 @@ use Rattle.kernel_model.specs.Objects.{Objects, GraftValue}
 use Rattle.kernel_model.specs.SameObject.{same_object_is}
 use Rattle.kernel_model.specs.Objects.{same_object}
 use Rattle.kernel_model.specs.Policies.{lives}
-use Rattle.kernel_model.specs.Meaning.{Meaning, After, Continues, EndsWith, Fails}
+use Rattle.kernel_model.specs.Meaning.{Meaning, After, Continues, EndsWith, Fails, Answer, bare_answer}
 use Rattle.kernel_model.specs.Levels.{Outcome}
 use Rattle.kernel_model.specs.Locks.{LockTable}
 use Rattle.kernel_model.specs.GraftStep.{micro}
@@ -81,7 +81,7 @@ contrary h = cc
 
 -- a state is alike to itself
 alike_self : (s : Objects) → AreAlike s s
-alike_self s = record { files = λ p fd. refl; queue = refl; lru = refl; frames = λ f. refl; locks = λ l. refl; policies = λ kind. refl }
+alike_self s = record { files = λ p fd. refl; queue = refl; handlers = refl; lru = refl; frames = λ f. refl; locks = λ l. refl; policies = λ kind. refl }
 
 module _ (m : Meaning) (laws : Laws m) where
   -- ---- the ends of a step
@@ -122,7 +122,7 @@ module _ (m : Meaning) (laws : Laws m) where
       }
 
   -- the call after a piece
-  own_after : (v : World) (images : ImageTable) (s w : Objects) (blocks : Blocks) (p : ℕ) (c : Call) (answer : Option (List ℕ)) (io : List Bool) (a : After) →
+  own_after : (v : World) (images : ImageTable) (s w : Objects) (blocks : Blocks) (p : ℕ) (c : Call) (answer : Option Answer) (io : List Bool) (a : After) →
       IsReady m v images w p c.stage answer → AreAlike s w → (m.piece v images w blocks p c.stage answer io).after ≡ a →
       OwnAfter m v images p (m.left v s p c.stage) (m.piece v images w blocks p c.stage answer io).objects (call_after c a)
   own_after v images s w blocks p c answer io (EndsWith reply) ready alike e = tt
@@ -137,7 +137,7 @@ module _ (m : Meaning) (laws : Laws m) where
       }
 
   -- a piece is done, on a state that is alike to the committed one
-  finish_after : (p : ℕ) (c : Call) (w : Objects) (answer : Option (List ℕ)) (r : Run) → GoesOn m r →
+  finish_after : (p : ℕ) (c : Call) (w : Objects) (answer : Option Answer) (r : Run) → GoesOn m r →
       IsReady m r.kernel.world r.kernel.images w p c.stage answer → AreAlike r.kernel.objects w →
       HasStepped m p (m.left r.kernel.world r.kernel.objects p c.stage) r (finish_on m p c w answer r)
   finish_after p c w answer r h ready alike =
@@ -215,7 +215,7 @@ module _ (m : Meaning) (laws : Laws m) where
       stays p (m.left r.kernel.world r.kernel.objects p c.stage) c r h e (ap (λ (x : Option (List Mark)). elim x as (λ _. Bool) [ None ↦ true | Some y ↦ false ]) marked)
   outcome_after p c a t ks o (Micro.Completed answer) r h e marked asked works right =
       let now = works.works.1.0 in
-      finish_after p c o.config.now (Some answer) r h
+      finish_after p c o.config.now (Some (bare_answer answer)) r h
       (record {
         standing = stands_on p c o.config.now r h e now.store now.alike;
         disk = alike_disk r.kernel.world r.kernel.objects o.config.now now.alike h.disk;

@@ -9,7 +9,7 @@ use Rattle.kernel_model.specs.declared.Inverse.TheVariants.{Nice, Window, Mark, 
 use Rattle.kernel_model.specs.declared.Point.{Point}
 use Rattle.kernel_model.specs.World.{World}
 use Rattle.kernel_model.specs.Objects.{Objects, Accounts, Things}
-use Rattle.kernel_model.specs.Access.{undo}
+use Rattle.kernel_model.specs.Access.{Found, undo_by, undo}
 use Rattle.kernel_model.specs.UndoLog.{undo_all, undo_log, kept_by_log}
 use Rattle.kernel_model.specs.Levels.{Level, Config, Effect, Asked, Charged, Removed, Outcome, level_at, outermost_touched, drop_innermost, drop_level}
 use Rattle.kernel_model.specs.GraftStep.{is_running, micro}
@@ -155,22 +155,26 @@ different_from (k ∷ ks) h d e l n hd he o p = elim (cases_Bool (length ks == d
 -- ---- a state and what its records lead to
 
 -- what an inverse changes grafts may change
-undo_alike : (s : Objects) (a : Accounts) (i : Inverse) (w : Things) → AreAlike s (record { accounts = a; things = w }) → AreAlike s (record { accounts = a; things = undo i w })
-undo_alike s a (Inverse.Cell q k v) w l = record { files = l.files; queue = l.queue; lru = l.lru; frames = l.frames; locks = l.locks; policies = l.policies }
-undo_alike s a (Nice q v) w l =
-    record { files = l.files; queue = l.queue ∙ sym (nice_alike q v w.queue); lru = l.lru; frames = l.frames; locks = l.locks; policies = l.policies }
-undo_alike s a (Window q fd v) w l =
-    record { files = λ p i. l.files p i ∙ sym (window_alike q fd v p i w.file); queue = l.queue; lru = l.lru; frames = l.frames; locks = l.locks; policies = l.policies }
-undo_alike s a (Mark f v) w l =
-    record { files = l.files; queue = l.queue; lru = l.lru; frames = λ g. l.frames g ∙ sym (mark_alike f v g w.cache.frame); locks = l.locks; policies = l.policies }
-undo_alike s a (Tune kind k v) w l =
-    record { files = l.files; queue = l.queue; lru = l.lru; frames = l.frames; locks = l.locks; policies = λ i. l.policies i ∙ sym (param_alike kind v i w.pol) }
+alike_by : (s : Objects) (a : Accounts) (i : Inverse) (b : ℕ → ℕ) (w : Things) → AreAlike s (record { accounts = a; things = w }) → AreAlike s (record { accounts = a; things = undo_by i b w })
+alike_by s a (Inverse.Cell q k v) b w l = record { files = l.files; queue = l.queue; handlers = l.handlers; lru = l.lru; frames = l.frames; locks = l.locks; policies = l.policies }
+alike_by s a (Nice q v) b w l =
+    record { files = l.files; queue = l.queue ∙ sym (nice_alike q v w.queue); handlers = l.handlers; lru = l.lru; frames = l.frames; locks = l.locks; policies = l.policies }
+alike_by s a (Window q fd v) b w l =
+    record { files = λ p i. l.files p i ∙ sym (window_alike q fd v p i w.file); queue = l.queue; handlers = l.handlers; lru = l.lru; frames = l.frames; locks = l.locks; policies = l.policies }
+alike_by s a (Mark f v) b w l =
+    record { files = l.files; queue = l.queue; handlers = l.handlers; lru = l.lru; frames = λ g. l.frames g ∙ sym (mark_alike f v g w.cache.frame); locks = l.locks; policies = l.policies }
+alike_by s a (Tune kind k v) b w l =
+    record { files = l.files; queue = l.queue; handlers = l.handlers; lru = l.lru; frames = l.frames; locks = l.locks; policies = λ i. l.policies i ∙ sym (param_alike kind v i w.pol) }
 
-all_alike : (s : Objects) (a : Accounts) (is : List Inverse) (w : Things) → AreAlike s (record { accounts = a; things = w }) → AreAlike s (record { accounts = a; things = undo_all is w })
+undo_alike : (s : Objects) (a : Accounts) (i : Found) (w : Things) → AreAlike s (record { accounts = a; things = w }) →
+    AreAlike s (record { accounts = a; things = undo i w })
+undo_alike s a i w l = alike_by s a i.inverse i.bytes w l
+
+all_alike : (s : Objects) (a : Accounts) (is : List Found) (w : Things) → AreAlike s (record { accounts = a; things = w }) → AreAlike s (record { accounts = a; things = undo_all is w })
 all_alike s a [] w h = h
 all_alike s a (i ∷ is) w h = all_alike s a is (undo i w) (undo_alike s a i w h)
 
-log_alike : (s : Objects) (a : Accounts) (log : List (List Inverse)) (w : Things) → AreAlike s (record { accounts = a; things = w }) →
+log_alike : (s : Objects) (a : Accounts) (log : List (List Found)) (w : Things) → AreAlike s (record { accounts = a; things = w }) →
     Each (λ (x : Things). AreAlike s (record { accounts = a; things = x })) (kept_by_log w log)
 log_alike s a [] w h = tt
 log_alike s a (is ∷ log) w h = (all_alike s a is w h, log_alike s a log (undo_all is w) (all_alike s a is w h))

@@ -12,8 +12,8 @@ use Rattle.kernel_model.specs.declared.OpenRow.{OpenRow}
 use Rattle.kernel_model.specs.World.{World, ImageTable, Blocks}
 use Rattle.kernel_model.specs.Objects.{Objects, Things, FrameValue, same_object}
 use Rattle.kernel_model.specs.SameObject.{same_object_is}
-use Rattle.kernel_model.specs.Policies.{PointKind, Ahead, Victim, Next, kind_of, lives, valid, valid_by, is_owned}
-use Rattle.kernel_model.specs.Meaning.{Meaning, Stage}
+use Rattle.kernel_model.specs.Policies.{PointKind, Ahead, Victim, Next, Serve, Stream, kind_of, lives, valid, valid_by, is_owned}
+use Rattle.kernel_model.specs.Meaning.{Meaning, Stage, Answer}
 use Rattle.kernel_model.specs.Sound.{IsSoundStore, FitsDisk, HasWholeBlocks}
 use Rattle.kernel_model.specs.Alike.{AreAlike, markless, niceless, is_needed_exclusively, is_exclusive}
 use Rattle.kernel_model.specs.Laws.{Laws, IsReady, IsRightAnswer, IsOwnFile, SameKindOfPoint, SameAheadAsk, accepted_by}
@@ -72,17 +72,29 @@ owned_used w q f h = owned_by (w.cache.frame f) q h
 
 -- an answer that is valid for the point that was asked is accepted at a point of the same kind, with the same length of the file
 right_by : (k : PointKind) (w : Objects) (q : ℕ) (args more answer : List ℕ) → valid_by k w.things q args (slice_index answer 0) (slice_index answer 1) ≡ true →
-    (k ≡ Ahead → slice_index args 2 ≡ slice_index more 2) → accepted_by k w more answer ≡ true
-right_by Ahead w q args more answer h same =
+    (k ≡ Ahead → slice_index args 2 ≡ slice_index more 2) → (k ≡ Stream → slice_index args 0 ≡ slice_index more 0) → accepted_by k w more answer ≡ true
+right_by Ahead w q args more answer h same first =
     ap (λ n. nat_le (slice_index answer 1) 8 && nat_le (slice_index answer 0 + slice_index answer 1) n) (sym (same refl)) ∙ h
-right_by Victim w q args more answer h same = owned_used w.things q (slice_index answer 0) h
-right_by Next w q args more answer h same = h
+right_by Victim w q args more answer h same first = owned_used w.things q (slice_index answer 0) h
+right_by Next w q args more answer h same first = h
+right_by Serve w q args more answer h same first = h
+right_by Stream w q args more answer h same first = ap (λ n. slice_index answer 0 == n) (sym (first refl)) ∙ h
 
 -- the same length, where the kinds are the same
 same_length : (k : PointKind) (a b : Point) → SameAheadAsk k a b → k ≡ Ahead → slice_index a.args 2 ≡ slice_index b.args 2
 same_length Ahead a b h e = h.3
 same_length Victim a b h e = absurd cc
 same_length Next a b h e = absurd cc
+same_length Serve a b h e = absurd cc
+same_length Stream a b h e = absurd cc
+
+-- the same first argument, where a stream is changed
+same_first : (k : PointKind) (a b : Point) → SameAheadAsk k a b → k ≡ Stream → slice_index a.args 0 ≡ slice_index b.args 0
+same_first Ahead a b h e = absurd cc
+same_first Victim a b h e = absurd cc
+same_first Next a b h e = absurd cc
+same_first Serve a b h e = absurd cc
+same_first Stream a b h e = ap (λ (x : Point). slice_index x.args 0) h
 
 -- by what is asked on the working state
 right_answer_by : (w : Objects) (a : Point) (ask : Option Point) (answer : List ℕ) → SameKindOfPoint (Some a) ask →
@@ -91,7 +103,8 @@ right_answer_by : (w : Objects) (a : Point) (ask : Option Point) (answer : List 
 right_answer_by w a None answer kind ahead h = absurd kind
 right_answer_by w a (Some b) answer kind ahead h =
     subst (λ k. accepted_by k w b.args answer ≡ true) kind
-    (right_by (kind_of a.point) w a.installer a.args b.args answer h (same_length (kind_of a.point) a b (ahead b refl)))
+    (right_by (kind_of a.point) w a.installer a.args b.args answer h (same_length (kind_of a.point) a b (ahead b refl))
+    (same_first (kind_of a.point) a b (ahead b refl)))
 
 pub right_answer : (m : Meaning) (laws : Laws m) (v : World) (s w : Objects) (p : ℕ) (t : Stage) (a : Point) (answer : List ℕ) → m.fits v s p t ≡ true → AreAlike s w →
     m.asks v s p t ≡ Some a → valid w.things a.installer a.point a.args (slice_index answer 0) (slice_index answer 1) ≡ true →
@@ -136,7 +149,7 @@ no_file_beyond v s q fd true h e high = absurd (contrary q (h.numbers q e) high)
 no_file_beyond v s q fd false h e high = (h.gone q e).files fd
 
 -- a piece changes no file of another process
-pub others_files : (m : Meaning) (laws : Laws m) (v : World) (images : ImageTable) (w : Objects) (blocks : Blocks) (p q : ℕ) (t : Stage) (answer : Option (List ℕ)) (io : List Bool) →
+pub others_files : (m : Meaning) (laws : Laws m) (v : World) (images : ImageTable) (w : Objects) (blocks : Blocks) (p q : ℕ) (t : Stage) (answer : Option Answer) (io : List Bool) →
     IsReady m v images w p t answer → HasWholeBlocks v blocks → q ≢ p →
     (fd : ℕ) → w.things.file q fd ≡ (m.piece v images w blocks p t answer io).objects.things.file q fd
 others_files m laws v images w blocks p q t answer io ready whole ne fd =

@@ -77,7 +77,7 @@ each_kept v s a b (w ∷ ws) h work =
     let k = work.0.alike in (
       record {
         store = h w work.0.store;
-        alike = record { files = k.files; queue = k.queue; lru = k.lru; frames = k.frames; locks = k.locks; policies = k.policies };
+        alike = record { files = k.files; queue = k.queue; handlers = k.handlers; lru = k.lru; frames = k.frames; locks = k.locks; policies = k.policies };
       },
       each_kept v s a b ws h work.1,
     )

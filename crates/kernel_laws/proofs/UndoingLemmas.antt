@@ -4,6 +4,7 @@ use Rattle.std.proofs.Common.{arith, refl, subst, sym, ap, ◌∙◌, inl, inr}
 use Rattle.std.proofs.lemmas.Bool.{cases_Bool, and_parts, eqb-true}
 use Rattle.std.proofs.lemmas.Bool.Decides.{nat_tests}
 use mathlib.Core.Path.{fun_ext}
+use Rattle.kernel_model.specs.declared.Object.{Object}
 use Rattle.kernel_model.specs.declared.Object.TheVariants.{Graft, Acct, Cell, OpenFile, Queue, Cache, Lock, Pol}
 use Rattle.kernel_model.specs.declared.Mode.TheVariants.{Exclusive}
 use Rattle.kernel_model.specs.declared.Cause.TheVariants.{BadArgument, NotYours}
@@ -11,9 +12,9 @@ use Rattle.kernel_model.specs.declared.Inverse.{Inverse}
 use Rattle.kernel_model.specs.declared.Inverse.TheVariants.{Nice, Window, Mark, Tune}
 use Rattle.kernel_model.specs.declared.QueueRow.{QueueRow}
 use Rattle.kernel_model.specs.declared.OpenRow.{OpenRow}
-use Rattle.kernel_model.specs.Objects.{Things, FrameValue, PolValue, at, at2}
+use Rattle.kernel_model.specs.Objects.{Things, SameThing, FrameValue, PolValue, at, at2}
 use Rattle.kernel_model.specs.Policies.{nice_of, frames_of}
-use Rattle.kernel_model.specs.Access.{Access, Gives, Changes, Refuses, Callable, CellGet, CellSet, NiceGet, NiceSet, WindowGet, WindowSet, FramesMine, FrameAt, FrameBlock, FrameMark, TuneGet, TuneSet, TakeLock, callable, access, access_by, accessed, needed, undo, with_nice, with_window, with_mark, with_param, set_window, set_mark, set_param, own_frame, window_change, tune_change, param_top, in_range, chosen_param}
+use Rattle.kernel_model.specs.Access.{Access, Gives, Changes, Refuses, Callable, CellGet, CellSet, NiceGet, NiceSet, WindowGet, WindowSet, FramesMine, FrameAt, FrameBlock, FrameMark, TuneGet, TuneSet, TakeLock, callable, access, access_by, accessed, needed, Found, bare_found, object_of_inverse, undo_by, undo, with_nice, with_window, with_mark, with_param, set_window, set_mark, set_param, own_frame, window_change, tune_change, param_top, in_range, chosen_param}
 use Rattle.kernel_model.specs.Sound.{count_of, in_queue}
 use Rattle.kernel_model.specs.UndoLog.{undo_all}
 use Rattle.kernel_laws.specs.Undoing.{AccessorCall, recorded, after_calls, RecordsLeadBack, IsOnceIn, LeadsBack, ChangesItsObject, InversesCommute, InversesUndo, InversesChangeOneObject, ChangesAreOfOneObject}
@@ -96,35 +97,44 @@ params_commute q v r x f e d =
     ∙ swap1 q r (with_param v (f q)) (with_param x (f r)) f e
     ∙ ap (λ o. at r (with_param x o) h) (sym (other1 q r (with_param v (f q)) f d))
 
+-- inverses of distinct objects commute, whatever bytes they have
+commute_by : (i j : Inverse) (b d : ℕ → ℕ) (w : Things) → object_of_inverse i ≢ object_of_inverse j →
+    undo_by i b (undo_by j d w) ≡ undo_by j d (undo_by i b w)
+commute_by (Inverse.Cell q k v) (Inverse.Cell r l x) b d w h =
+    ap (λ c. record w { cell = c }) (swap2 q k r l v x w.cell (cells_apart q k r l h))
+commute_by (Nice q v) (Nice r x) b d w h = absurd (h refl)
+commute_by (Window q k v) (Window r l x) b d w h =
+    ap (λ c. record w { file = c }) (windows_commute q k v r l x w.file (files_apart q k r l h) (files_apart r l q k (λ e. h (sym e))))
+commute_by (Mark f v) (Mark g x) b d w h = absurd (h refl)
+commute_by (Tune q k v) (Tune r l x) b d w h =
+    ap (λ c. record w { pol = c }) (params_commute q v r x w.pol (policies_apart q r h) (policies_apart r q (λ e. h (sym e))))
+commute_by _ _ b d w h = refl
+
 -- inverses of distinct objects commute
 pub inverses_commute : InversesCommute
-inverses_commute (Inverse.Cell q k v) (Inverse.Cell r l x) w h =
-    ap (λ c. record w { cell = c }) (swap2 q k r l v x w.cell (cells_apart q k r l h))
-inverses_commute (Nice q v) (Nice r x) w h = absurd (h refl)
-inverses_commute (Window q k v) (Window r l x) w h =
-    ap (λ c. record w { file = c }) (windows_commute q k v r l x w.file (files_apart q k r l h) (files_apart r l q k (λ e. h (sym e))))
-inverses_commute (Mark f v) (Mark g x) w h = absurd (h refl)
-inverses_commute (Tune q k v) (Tune r l x) w h =
-    ap (λ c. record w { pol = c }) (params_commute q v r x w.pol (policies_apart q r h) (policies_apart r q (λ e. h (sym e))))
-inverses_commute _ _ w h = refl
+inverses_commute i j w h = commute_by i.inverse j.inverse i.bytes j.bytes w h
 
 -- ---- an inverse changes its object alone
 
 -- of things alone the inverse of a cell changes that cell, and so on
+changes_one_by : (i : Inverse) (b : ℕ → ℕ) (o : Object) (w : Things) → o ≢ object_of_inverse i → SameThing o (undo_by i b w) w
+changes_one_by i b (Graft q pt) w h = grind arith
+changes_one_by i b (Acct q) w h = tt
+changes_one_by (Inverse.Cell q k v) b (Cell r l) w h = other2 q k r l v w.cell (cells_apart r l q k h)
+changes_one_by (Nice q v) b Queue w h = absurd (h refl)
+changes_one_by (Window q k v) b (OpenFile r l) w h = other2 q k r l (with_window v (w.file q k)) w.file (files_apart r l q k h)
+changes_one_by (Mark f v) b Cache w h = absurd (h refl)
+changes_one_by (Tune q k v) b (Pol r) w h = other1 q r (with_param v (w.pol q)) w.pol (policies_apart r q h)
+changes_one_by i b (Cell r l) w h = grind arith
+changes_one_by i b (OpenFile r l) w h = grind arith
+changes_one_by i b Queue w h = (grind arith, grind arith)
+changes_one_by i b Cache w h = grind arith
+changes_one_by i b (Lock u) w h = grind arith
+changes_one_by i b (Pol r) w h = grind arith
+
+-- an inverse changes its object alone
 pub inverses_change_one_object : InversesChangeOneObject
-inverses_change_one_object i (Graft q pt) w h = grind arith
-inverses_change_one_object i (Acct q) w h = tt
-inverses_change_one_object (Inverse.Cell q k v) (Cell r l) w h = other2 q k r l v w.cell (cells_apart r l q k h)
-inverses_change_one_object (Nice q v) Queue w h = absurd (h refl)
-inverses_change_one_object (Window q k v) (OpenFile r l) w h = other2 q k r l (with_window v (w.file q k)) w.file (files_apart r l q k h)
-inverses_change_one_object (Mark f v) Cache w h = absurd (h refl)
-inverses_change_one_object (Tune q k v) (Pol r) w h = other1 q r (with_param v (w.pol q)) w.pol (policies_apart r q h)
-inverses_change_one_object i (Cell r l) w h = grind arith
-inverses_change_one_object i (OpenFile r l) w h = grind arith
-inverses_change_one_object i Queue w h = grind arith
-inverses_change_one_object i Cache w h = grind arith
-inverses_change_one_object i (Lock u) w h = grind arith
-inverses_change_one_object i (Pol r) w h = grind arith
+inverses_change_one_object i o w h = changes_one_by i.inverse i.bytes o w h
 
 -- ---- an inverse undoes its change
 
@@ -183,7 +193,7 @@ nice_back q v (r ∷ rows) h = elim (cases_Bool (r.process == q)) [
 ]
 
 -- a window changed back
-window_back : (q fd v : ℕ) (o : OpenRow) (w : Things) → w.file q fd ≡ Some o → undo (Window q fd o.window) (set_window q fd v w) ≡ w
+window_back : (q fd v : ℕ) (o : OpenRow) (w : Things) → w.file q fd ≡ Some o → undo (bare_found (Window q fd o.window)) (set_window q fd v w) ≡ w
 window_back q fd v o w e =
     let x = with_window v (w.file q fd) in
     let same : with_window o.window (at2 q fd x w.file q fd) ≡ w.file q fd =
@@ -191,7 +201,7 @@ window_back q fd v o w e =
     ap (λ f. record w { file = f }) (back2 q fd (with_window o.window (at2 q fd x w.file q fd)) x w.file same)
 
 -- a mark changed back
-mark_back : (f v : ℕ) (o : FrameValue) (w : Things) → w.cache.frame f ≡ Some o → undo (Mark f o.mark) (set_mark f v w) ≡ w
+mark_back : (f v : ℕ) (o : FrameValue) (w : Things) → w.cache.frame f ≡ Some o → undo (bare_found (Mark f o.mark)) (set_mark f v w) ≡ w
 mark_back f v o w e =
     let x = with_mark v (w.cache.frame f) in
     let same : with_mark o.mark (at f x w.cache.frame f) ≡ w.cache.frame f =
@@ -199,7 +209,7 @@ mark_back f v o w e =
     ap (λ c. record w { cache = record (w.cache) { frame = c } }) (back1 f (with_mark o.mark (at f x w.cache.frame f)) x w.cache.frame same)
 
 -- a parameter changed back
-param_back : (kind k v : ℕ) (w : Things) → undo (Tune kind k (chosen_param (w.pol kind))) (set_param kind v w) ≡ w
+param_back : (kind k v : ℕ) (w : Things) → undo (bare_found (Tune kind k (chosen_param (w.pol kind)))) (set_param kind v w) ≡ w
 param_back kind k v w =
     let x = with_param v (w.pol kind) in
     let p = w.pol kind in
@@ -299,26 +309,29 @@ nice_count p n [] q = refl
 nice_count p n (r ∷ rows) q = grind (arith, nat_tests, nice_count p n rows q)
 
 -- an inverse leaves that as it is
-undo_count : (i : Inverse) (q : ℕ) (w : Things) → count_of q (in_queue (undo i w).queue) ≡ count_of q (in_queue w.queue)
-undo_count (Inverse.Cell p k v) q w = refl
-undo_count (Nice p v) q w = nice_count p v w.queue q
-undo_count (Window p fd v) q w = refl
-undo_count (Mark f v) q w = refl
-undo_count (Tune kind k v) q w = refl
+count_by : (i : Inverse) (b : ℕ → ℕ) (q : ℕ) (w : Things) → count_of q (in_queue (undo_by i b w).queue) ≡ count_of q (in_queue w.queue)
+count_by (Inverse.Cell p k v) b q w = refl
+count_by (Nice p v) b q w = nice_count p v w.queue q
+count_by (Window p fd v) b q w = refl
+count_by (Mark f v) b q w = refl
+count_by (Tune kind k v) b q w = refl
+
+undo_count : (i : Found) (q : ℕ) (w : Things) → count_of q (in_queue (undo i w).queue) ≡ count_of q (in_queue w.queue)
+undo_count i q w = count_by i.inverse i.bytes q w
 
 -- records lead back, and each process stands in the queue at most once
-abbrev LeadBack : Things → Things × List Inverse → Type 0
+abbrev LeadBack : Things → Things × List Found → Type 0
 LeadBack w e = (undo_all e.1 e.0 ≡ w) × ((q : ℕ) → IsOnceIn q e.0.queue)
 
 -- after one more accessor
-one_more_back : (w : Things) (e : Things × List Inverse) (x : Access) → LeadBack w e → LeadsBack e.0 x → LeadBack w (recorded x e)
+one_more_back : (w : Things) (e : Things × List Found) (x : Access) → LeadBack w e → LeadsBack e.0 x → LeadBack w (recorded x e)
 one_more_back w e (Gives result) h leads = h
 one_more_back w e (Changes result i u) h leads =
-    (ap (undo_all e.1) leads ∙ h.0, λ q. subst (λ n. n ≤ 1) (sym (ap (λ (x : Things). count_of q (in_queue x.queue)) leads) ∙ undo_count i q u) (h.1 q))
+    (ap (undo_all e.1) leads ∙ h.0, λ q. subst (λ n. n ≤ 1) (sym (ap (λ (x : Things). count_of q (in_queue x.queue)) leads) ∙ undo_count (bare_found i) q u) (h.1 q))
 one_more_back w e (Refuses cause) h leads = h
 
 -- after several
-more_back : (cs : List AccessorCall) (w : Things) (e : Things × List Inverse) → LeadBack w e → LeadBack w (after_calls cs e)
+more_back : (cs : List AccessorCall) (w : Things) (e : Things × List Found) → LeadBack w e → LeadBack w (after_calls cs e)
 more_back [] w e h = h
 more_back (c ∷ cs) w e h =
     let x = access c.id c.r0 c.r1 c.r2 c.process e.0 in
@@ -356,12 +369,12 @@ tells_own false id r0 q x w = tt
 -- a window
 window_own : (o : Option OpenRow) (id r0 r1 q : ℕ) (w : Things) → callable id ≡ WindowSet → ChangesItsObject id r0 q w (window_change id r0 r1 q o w)
 window_own None id r0 r1 q w e = tt
-window_own (Some o) id r0 r1 q w e = (window_needed id r0 q e, λ x h. inverses_change_one_object (Window q r0 r1) x w h)
+window_own (Some o) id r0 r1 q w e = (window_needed id r0 q e, λ x h. inverses_change_one_object (bare_found (Window q r0 r1)) x w h)
 
 -- a mark
 mark_own_by : (b : Bool) (id r0 r1 q : ℕ) (f : FrameValue) (w : Things) → callable id ≡ FrameMark →
     ChangesItsObject id r0 q w (cond b (Changes f.mark (Mark r0 f.mark) (set_mark r0 r1 w)) (Refuses (NotYours id)))
-mark_own_by true id r0 r1 q f w e = (mark_needed id r0 q e, λ x h. inverses_change_one_object (Mark r0 r1) x w h)
+mark_own_by true id r0 r1 q f w e = (mark_needed id r0 q e, λ x h. inverses_change_one_object (bare_found (Mark r0 r1)) x w h)
 mark_own_by false id r0 r1 q f w e = tt
 
 mark_own : (o : Option FrameValue) (id r0 r1 q : ℕ) (w : Things) → callable id ≡ FrameMark →
@@ -372,15 +385,15 @@ mark_own (Some f) id r0 r1 q w e = mark_own_by (f.owner == q) id r0 r1 q f w e
 -- a parameter
 param_own : (b : Bool) (id r0 r1 r2 q : ℕ) (w : Things) → callable id ≡ TuneSet →
     ChangesItsObject id r0 q w (cond b (tune_change r0 r1 r2 (chosen_param (w.pol r0)) w) (Refuses (BadArgument id)))
-param_own true id r0 r1 r2 q w e = (param_needed id r0 q e, λ x h. inverses_change_one_object (Tune r0 r1 r2) x w h)
+param_own true id r0 r1 r2 q w e = (param_needed id r0 q e, λ x h. inverses_change_one_object (bare_found (Tune r0 r1 r2)) x w h)
 param_own false id r0 r1 r2 q w e = tt
 
 -- by accessors
 changes_own : (c : Callable) (id r0 r1 r2 q : ℕ) (w : Things) → callable id ≡ c → ChangesItsObject id r0 q w (access_by c id r0 r1 r2 q w)
 changes_own CellGet id r0 r1 r2 q w e = tt
-changes_own CellSet id r0 r1 r2 q w e = (cell_needed id r0 q e, λ x h. inverses_change_one_object (Inverse.Cell q r0 r1) x w h)
+changes_own CellSet id r0 r1 r2 q w e = (cell_needed id r0 q e, λ x h. inverses_change_one_object (bare_found (Inverse.Cell q r0 r1)) x w h)
 changes_own NiceGet id r0 r1 r2 q w e = tt
-changes_own NiceSet id r0 r1 r2 q w e = (nice_needed id r0 q e, λ x h. inverses_change_one_object (Nice q r0) x w h)
+changes_own NiceSet id r0 r1 r2 q w e = (nice_needed id r0 q e, λ x h. inverses_change_one_object (bare_found (Nice q r0)) x w h)
 changes_own WindowGet id r0 r1 r2 q w e = gives_own (w.file q r0) id r0 q w
 changes_own WindowSet id r0 r1 r2 q w e = window_own (w.file q r0) id r0 r1 q w e
 changes_own FramesMine id r0 r1 r2 q w e = tt

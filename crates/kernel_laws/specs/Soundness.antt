@@ -5,7 +5,7 @@ use Rattle.kernel_model.specs.declared.Micro.{Micro}
 use Rattle.kernel_model.specs.World.{World, ImageTable, Blocks}
 use Rattle.kernel_model.specs.Objects.{Objects, Accounts, Things}
 use Rattle.kernel_model.specs.Policies.{valid}
-use Rattle.kernel_model.specs.Meaning.{Meaning, Stage}
+use Rattle.kernel_model.specs.Meaning.{Meaning, Stage, Answer}
 use Rattle.kernel_model.specs.Levels.{Level, Config, drop_level}
 use Rattle.kernel_model.specs.declared.Cause.{Cause}
 use Rattle.kernel_model.specs.GraftStep.{micro}
@@ -28,7 +28,7 @@ OpeningKernelIsSound m =
 -- a piece of a sound state, over whole blocks, leaves a sound state and whole blocks
 abbrev pub PiecesStaySound : Meaning → Type 0
 PiecesStaySound m =
-    (v : World) (images : ImageTable) (s : Objects) (blocks : Blocks) (p : ℕ) (t : Stage) (answer : Option (List ℕ)) (io : List Bool) →
+    (v : World) (images : ImageTable) (s : Objects) (blocks : Blocks) (p : ℕ) (t : Stage) (answer : Option Answer) (io : List Bool) →
     IsReady m v images s p t answer → ImagesAreLoaded images s.accounts → HasWholeBlocks v blocks →
     let q = m.piece v images s blocks p t answer io in
     IsSoundState v images q.objects × HasWholeBlocks v q.blocks

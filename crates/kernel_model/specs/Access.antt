@@ -182,8 +182,8 @@ pub record Found : Type 0 where
   pub bytes : ℕ → ℕ
 
 -- what a change found whose inverse has no bytes
-abbrev pub found_by : Inverse → Found
-found_by i = record { inverse = i; bytes = nothing_kept }
+abbrev pub bare_found : Inverse → Found
+bare_found i = record { inverse = i; bytes = nothing_kept }
 
 -- puts the value back that an inverse names
 abbrev pub undo_by : Inverse → (bytes : ℕ → ℕ) → Things → Things

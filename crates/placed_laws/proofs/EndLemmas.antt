@@ -6,7 +6,7 @@ use Rattle.kernel_model.specs.declared.Need.{Need}
 use Rattle.kernel_model.specs.declared.Object.{Object}
 use Rattle.kernel_model.specs.World.{Blocks}
 use Rattle.kernel_model.specs.Objects.{Objects, SameAt, at}
-use Rattle.kernel_model.specs.Meaning.{Meaning, Stage, After, Continues, EndsWith, Fails}
+use Rattle.kernel_model.specs.Meaning.{Meaning, Stage, After, Continues, EndsWith, Fails, Answer}
 use Rattle.kernel_model.specs.Levels.{Config}
 use Rattle.kernel_model.specs.Kernel.{Call, Kernel, Run, call_after, gave_note, after_note, requeue}
 use Rattle.kernel_model.specs.Blocking.{config_in, levels_in, trace_of, config_of, levels_of}
@@ -32,7 +32,7 @@ use Rattle.placed_laws.proofs.GoLemmas.{history_at}
 use Rattle.placed_laws.proofs.NeedLemmas.{unneeded_free}
 
 -- a piece of p's call does the same from state s and from state d, as far as these needs go; others keep what they hold
-pub record EndsAlike (m : Meaning) (k : Kernel) (w : Objects) (p : ℕ) (t : Stage) (answer : Option (List ℕ)) (s d : Objects) (ns : List Need) : Type 0 where
+pub record EndsAlike (m : Meaning) (k : Kernel) (w : Objects) (p : ℕ) (t : Stage) (answer : Option Answer) (s d : Objects) (ns : List Need) : Type 0 where
   pub first : IsReady m k.world k.images s p t answer
   pub second : IsReady m k.world k.images d p t answer
   pub pieces : (blocks : Blocks) (io : List Bool) → PieceAlike ns (m.piece k.world k.images s blocks p t answer io) (m.piece k.world k.images d blocks p t answer io)
@@ -56,7 +56,7 @@ no_config_after m l p c (Continues t) = refl
 no_config_after m l p c (EndsWith reply) = refl
 no_config_after m l p c (Fails refusal) = refl
 
-pub finish_stands : (m : Meaning) (laws : Laws m) (u : Run) (w : Objects) → (here : IsPlaced m u.kernel w) → HasWholeBlocks u.kernel.world u.blocks → (p : ℕ) (c : Call) (answer : Option (List ℕ))
+pub finish_stands : (m : Meaning) (laws : Laws m) (u : Run) (w : Objects) → (here : IsPlaced m u.kernel w) → HasWholeBlocks u.kernel.world u.blocks → (p : ℕ) (c : Call) (answer : Option Answer)
     (s d : Objects) (ns : List Need) → EndsAlike m u.kernel w p c.stage answer s d ns → IsSoundRun m (requeue p (finish_on m p c s answer u)) →
     ((q : ℕ) → q ≢ p → IsStable m u.kernel (requeue p (finish_on m p c s answer u)).kernel q) →
     RunStandsFor m (placed_requeue p (placed_finish_on m p (record { number = c.number; stage = c.stage }) d answer (run_over m w u))) (requeue p (finish_on m p c s answer u))

@@ -6,7 +6,7 @@ use Rattle.kernel_model.specs.declared.Need.{Need}
 use Rattle.kernel_model.specs.declared.Object.{Object}
 use Rattle.kernel_model.specs.declared.Object.TheVariants.{Graft, Acct, Cell, OpenFile, Queue, Cache, Lock, Pol}
 use Rattle.kernel_model.specs.Objects.{Objects, SameAt, SameThing}
-use Rattle.kernel_model.specs.Meaning.{Meaning}
+use Rattle.kernel_model.specs.Meaning.{Meaning, Answer}
 use Rattle.kernel_model.specs.History.{Mark, Trace}
 use Rattle.kernel_model.specs.Kernel.{Call, Kernel}
 use Rattle.kernel_model.specs.Blocking.{levels_in, config_of, levels_of, trace_of}
@@ -84,7 +84,7 @@ module _ (m : Meaning) (laws : Laws m) (k : Kernel) (w : Objects) (here : IsPlac
       unchanged : is_held_in t.config.levels o ≡ false → is_changed_in t.config.levels o ≡ false
       unchanged away = elim (cases_Bool (is_changed_in t.config.levels o)) [ inr none ↦ none | inl some ↦ contrary (sym (changed_held t.config.levels o some) ∙ away) ]
 
-  pub graft_ends : (answer : Option (List ℕ)) (s d : Objects) → AreAlike k.objects (shown k.objects s) → IsReady m k.world k.images s p c.stage answer →
+  pub graft_ends : (answer : Option Answer) (s d : Objects) → AreAlike k.objects (shown k.objects s) → IsReady m k.world k.images s p c.stage answer →
       AreAlike k.objects (shown k.objects d) → IsReady m k.world k.images d p c.stage answer →
       ((o : Object) → HasRange o → ((q : ℕ) → q ≢ p → is_changed_in (levels_of m k q) o ≡ false) → SameAt o s d) →
       ((o : Object) → is_changed_in t.config.levels o ≡ false → SameAt o d w) → EndsAlike m k w p c.stage answer s d base_needs

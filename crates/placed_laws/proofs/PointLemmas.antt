@@ -70,6 +70,7 @@ near_alike s y h =
     record {
       files = h.files;
       queue = h.queue;
+      handlers = h.handlers;
       lru = h.lru;
       frames = h.frames;
       locks = h.locks;
