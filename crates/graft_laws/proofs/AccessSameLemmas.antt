@@ -10,7 +10,7 @@ use Rattle.kernel_model.specs.declared.Object.{Object}
 use Rattle.kernel_model.specs.declared.Object.TheVariants.{Cell, OpenFile, Queue, Cache, Lock, Pol}
 use Rattle.kernel_model.specs.Objects.{Things, FrameValue, PolValue, CacheValue, SameThing}
 use Rattle.kernel_model.specs.Policies.{nice_of, frames_of}
-use Rattle.kernel_model.specs.Access.{Access, Gives, Changes, Refuses, Callable, CellGet, CellSet, NiceGet, NiceSet, WindowGet, WindowSet, FramesMine, FrameAt, FrameBlock, FrameMark, TuneGet, TuneSet, TakeLock, callable, access_by, accessed, own_frame, window_change, tune_change, set_mark, param_top, in_range, chosen_param}
+use Rattle.kernel_model.specs.Access.{bare_found, Access, Gives, Changes, Refuses, Callable, CellGet, CellSet, NiceGet, NiceSet, WindowGet, WindowSet, FramesMine, FrameAt, FrameBlock, FrameMark, TuneGet, TuneSet, TakeLock, callable, access_by, accessed, own_frame, window_change, tune_change, set_mark, param_top, in_range, chosen_param}
 use Rattle.graft_laws.proofs.ObjectLemmas.{undo_keeps}
 
 -- the object of an accessor
@@ -48,7 +48,7 @@ module _ (w u : Things) where
 
   window_set : (id fd v q : ℕ) (o : Option OpenRow) → DoSame w u (window_change id fd v q o w) (window_change id fd v q o u)
   window_set id fd v q None = refl
-  window_set id fd v q (Some r) = (refl, refl, λ o h. undo_keeps (Window q fd v) o w u h)
+  window_set id fd v q (Some r) = (refl, refl, λ o h. undo_keeps (bare_found (Window q fd v)) o w u h)
 
   frame_got : (id : ℕ) (f : Option ℕ) →
       DoSame w u (elim f as (λ _. Access) [ None ↦ Refuses (BadArgument id) | Some x ↦ Gives x ])
@@ -66,7 +66,7 @@ module _ (w u : Things) where
 
   mark_by : (b : Bool) (id f n : ℕ) (x : FrameValue) →
       DoSame w u (cond b (Changes x.mark (Mark f x.mark) (set_mark f n w)) (Refuses (NotYours id))) (cond b (Changes x.mark (Mark f x.mark) (set_mark f n u)) (Refuses (NotYours id)))
-  mark_by true id f n x = (refl, refl, λ o h. undo_keeps (Mark f n) o w u h)
+  mark_by true id f n x = (refl, refl, λ o h. undo_keeps (bare_found (Mark f n)) o w u h)
   mark_by false id f n x = refl
 
   mark_set : (id q f n : ℕ) (o : Option FrameValue) →
@@ -80,15 +80,15 @@ module _ (w u : Things) where
 
   param_set : (b : Bool) (id kind k n : ℕ) (p : PolValue) →
       DoSame w u (cond b (tune_change kind k n (chosen_param p) w) (Refuses (BadArgument id))) (cond b (tune_change kind k n (chosen_param p) u) (Refuses (BadArgument id)))
-  param_set true id kind k n p = (refl, refl, λ o h. undo_keeps (Tune kind k n) o w u h)
+  param_set true id kind k n p = (refl, refl, λ o h. undo_keeps (bare_found (Tune kind k n)) o w u h)
   param_set false id kind k n p = refl
 
   -- by accessors
   pub access_same : (c : Callable) (id r0 r1 r2 q : ℕ) → SameThing (object_of c r0 q) w u → DoSame w u (access_by c id r0 r1 r2 q w) (access_by c id r0 r1 r2 q u)
   access_same CellGet id r0 r1 r2 q h = h
-  access_same CellSet id r0 r1 r2 q h = (h, ap (Inverse.Cell q r0) h, λ o k. undo_keeps (Inverse.Cell q r0 r1) o w u k)
-  access_same NiceGet id r0 r1 r2 q h = ap (λ rows. nice_of rows q) h
-  access_same NiceSet id r0 r1 r2 q h = (ap (λ rows. nice_of rows q) h, ap (λ rows. Nice q (nice_of rows q)) h, λ o k. undo_keeps (Nice q r0) o w u k)
+  access_same CellSet id r0 r1 r2 q h = (h, ap (Inverse.Cell q r0) h, λ o k. undo_keeps (bare_found (Inverse.Cell q r0 r1)) o w u k)
+  access_same NiceGet id r0 r1 r2 q h = ap (λ rows. nice_of rows q) h.0
+  access_same NiceSet id r0 r1 r2 q h = (ap (λ rows. nice_of rows q) h.0, ap (λ rows. Nice q (nice_of rows q)) h.0, λ o k. undo_keeps (bare_found (Nice q r0)) o w u k)
   access_same WindowGet id r0 r1 r2 q h =
       subst (λ (y : Option OpenRow). DoSame w u (access_by WindowGet id r0 r1 r2 q w) (elim y as (λ _. Access) [ None ↦ Refuses (BadArgument id) | Some r ↦ Gives r.window ])) h
       (window_got id (w.file q r0))

@@ -1,8 +1,8 @@
 -- Where a graft call begins, and where whole histories lead.
 use Rattle.std.specs.Prelude.{◌≡◌, ◌≢◌, ℕ, ◌<◌, ◌&&◌, ◌||◌, true, false, List, [], ◌∷◌, ◌++◌, Contains, Option, Some, None, is_some}
 use Rattle.std.proofs.Common.{◌⊎◌, arith, refl, subst, sym, ap, inl, inr}
+use Rattle.kernel_model.specs.Access.{Found}
 use Rattle.kernel_model.specs.declared.Held.{Held}
-use Rattle.kernel_model.specs.declared.Inverse.{Inverse}
 use Rattle.kernel_model.specs.declared.Need.{Need}
 use Rattle.kernel_model.specs.declared.Point.{Point}
 use Rattle.kernel_model.specs.declared.Object.{Object}
@@ -92,7 +92,7 @@ begin_replays m laws owns v images s p t a standing asks stands =
     some_not_none : (l : Level) → l ∷ [] ≢ []
     some_not_none l h = cc
 
-    nothing : (i : Inverse) → Contains [] i → ⊥
+    nothing : (i : Found) → Contains [] i → ⊥
     nothing i c = none_below c.0 c.1
       where
         none_below : (k : ℕ) → k < 0 → ⊥
@@ -123,7 +123,7 @@ begin_replays m laws owns v images s p t a standing asks stands =
     thing_self (Acct q) w = tt
     thing_self (Cell q k) w = refl
     thing_self (OpenFile q fd) w = refl
-    thing_self Queue w = refl
+    thing_self Queue w = (refl, refl)
     thing_self Cache w = refl
     thing_self (Lock u) w = refl
     thing_self (Pol k) w = refl

@@ -12,7 +12,7 @@ use Rattle.kernel_model.specs.declared.Point.{Point}
 use Rattle.kernel_model.specs.World.{World, ImageTable, Blocks}
 use Rattle.kernel_model.specs.Objects.{Objects, GraftValue, SameAt}
 use Rattle.kernel_model.specs.Policies.{lives, valid}
-use Rattle.kernel_model.specs.Meaning.{Meaning, Stage, Answer}
+use Rattle.kernel_model.specs.Meaning.{Meaning, Stage, Answer, bare_answer}
 use Rattle.kernel_model.specs.Levels.{Outcome}
 use Rattle.kernel_model.specs.History.{Mark, Stepped, Trace, fallen}
 use Rattle.kernel_model.specs.Kernel.{Call, Run, call_after, noted, with_marks}
@@ -198,14 +198,14 @@ module _ (m : Meaning) (laws : Laws m) where
       let v = r.kernel.world in
       let s = r.kernel.objects in
       let w = o.config.now in
-      let ready : IsReady m v r.kernel.images w p c.stage (Some answer) =
+      let ready : IsReady m v r.kernel.images w p c.stage (Some (bare_answer answer)) =
       record {
         standing = stands_on v r.kernel.images s w p c.stage h.standing ends.0.store ends.0.alike;
         disk = alike_disk v s w ends.0.alike h.disk;
         right = right_answer m laws v s w p c.stage a answer h.standing.fits ends.0.alike asks ends.1;
       } in
-      finish_commits p c w (Some answer) free r h ready ends.0.alike ends.2
-      (λ b within e. asked_changes v r.kernel.images s w r.blocks p c.stage (Some answer) r.io a (m.asks v w p c.stage) b ready h.standing.fits ends.0.alike asks refl
+      finish_commits p c w (Some (bare_answer answer)) free r h ready ends.0.alike ends.2
+      (λ b within e. asked_changes v r.kernel.images s w r.blocks p c.stage (Some (bare_answer answer)) r.io a (m.asks v w p c.stage) b ready h.standing.fits ends.0.alike asks refl
       (subst (λ x. SameKindOfPoint x (m.asks v w p c.stage)) asks (laws.ask.alike v s w p c.stage h.standing.fits ends.0.alike)) within (base b e))
   outcome_commits p c t ks a o (Micro.Dropped zero q pt cause) free r h asks base ends =
       let v = r.kernel.world in

@@ -160,7 +160,7 @@ module _ (m : Meaning) (laws : Laws m) (owns : NeedsGraftsExclusively m) where
   thing_self (Acct q) w = tt
   thing_self (Cell q k) w = refl
   thing_self (OpenFile q fd) w = refl
-  thing_self Queue w = refl
+  thing_self Queue w = (refl, refl)
   thing_self Cache w = refl
   thing_self (Lock u) w = refl
   thing_self (Pol k) w = refl

@@ -9,7 +9,7 @@ use Rattle.kernel_model.specs.declared.OpenRow.{OpenRow}
 use Rattle.kernel_model.specs.declared.Object.{Object}
 use Rattle.kernel_model.specs.declared.Object.TheVariants.{Graft, Acct, Cell, OpenFile, Queue, Cache, Lock, Pol}
 use Rattle.kernel_model.specs.Objects.{Objects, Accounts, Things, GraftValue, CacheValue, PolValue, SameAt, SameThing, with_accounts, at, at2}
-use Rattle.kernel_model.specs.Access.{undo, with_nice, with_window, with_mark, with_param}
+use Rattle.kernel_model.specs.Access.{Found, undo_by, undo, with_nice, with_window, with_mark, with_param}
 use Rattle.kernel_model.specs.Charges.{pay, spend, taken_from, returned, charge, charge_by, charge_account, charge_graft, removed, removed_by}
 use Rattle.kernel_model.specs.UndoLog.{undo_all}
 
@@ -126,22 +126,25 @@ param_both : (q v r : ℕ) (f g : ℕ → PolValue) → f r ≡ g r → at q (wi
 param_both q v r f g h = grind (arith, nat_tests)
 
 -- things that agree on an object do so after an inverse on both
-pub undo_keeps : (i : Inverse) (o : Object) (w u : Things) → SameThing o w u → SameThing o (undo i w) (undo i u)
-undo_keeps i (Graft q pt) w u h = grind arith
-undo_keeps i (Acct q) w u h = tt
-undo_keeps (Inverse.Cell q k v) (Cell r l) w u h = at2_both q k r l v v w.cell u.cell refl h
-undo_keeps (Nice q v) Queue w u h = ap (with_nice q v) h
-undo_keeps (Window q fd v) (OpenFile r l) w u h = window_both q fd v r l w.file u.file h
-undo_keeps (Mark f v) Cache w u h = ap (λ (c : CacheValue). record c { frame = at f (with_mark v (c.frame f)) c.frame }) h
-undo_keeps (Tune kind k v) (Pol l) w u h = param_both kind v l w.pol u.pol h
-undo_keeps (Inverse.Cell q k v) (Lock j) w u h = h
-undo_keeps (Nice q v) (Lock j) w u h = h
-undo_keeps (Window q fd v) (Lock j) w u h = h
-undo_keeps (Mark f v) (Lock j) w u h = h
-undo_keeps (Tune kind k v) (Lock j) w u h = h
-undo_keeps _ _ w u h = h
+keeps_by : (i : Inverse) (b : ℕ → ℕ) (o : Object) (w u : Things) → SameThing o w u → SameThing o (undo_by i b w) (undo_by i b u)
+keeps_by i b (Graft q pt) w u h = grind arith
+keeps_by i b (Acct q) w u h = tt
+keeps_by (Inverse.Cell q k v) b (Cell r l) w u h = at2_both q k r l v v w.cell u.cell refl h
+keeps_by (Nice q v) b Queue w u h = (ap (with_nice q v) h.0, h.1)
+keeps_by (Window q fd v) b (OpenFile r l) w u h = window_both q fd v r l w.file u.file h
+keeps_by (Mark f v) b Cache w u h = ap (λ (c : CacheValue). record c { frame = at f (with_mark v (c.frame f)) c.frame }) h
+keeps_by (Tune kind k v) b (Pol l) w u h = param_both kind v l w.pol u.pol h
+keeps_by (Inverse.Cell q k v) b (Lock j) w u h = h
+keeps_by (Nice q v) b (Lock j) w u h = h
+keeps_by (Window q fd v) b (Lock j) w u h = h
+keeps_by (Mark f v) b (Lock j) w u h = h
+keeps_by (Tune kind k v) b (Lock j) w u h = h
+keeps_by _ b _ w u h = h
+
+pub undo_keeps : (i : Found) (o : Object) (w u : Things) → SameThing o w u → SameThing o (undo i w) (undo i u)
+undo_keeps i o w u h = keeps_by i.inverse i.bytes o w u h
 
 -- and after several
-pub undo_all_keeps : (is : List Inverse) (o : Object) (w u : Things) → SameThing o w u → SameThing o (undo_all is w) (undo_all is u)
+pub undo_all_keeps : (is : List Found) (o : Object) (w u : Things) → SameThing o w u → SameThing o (undo_all is w) (undo_all is u)
 undo_all_keeps [] o w u h = h
 undo_all_keeps (i ∷ is) o w u h = undo_all_keeps is o (undo i w) (undo i u) (undo_keeps i o w u h)

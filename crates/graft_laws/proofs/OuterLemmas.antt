@@ -15,7 +15,7 @@ use Rattle.kernel_model.specs.Objects.{Objects, Accounts, Things, GraftValue, wi
 use Rattle.kernel_model.specs.Machine.{Machine, Done, Called, Returned, Trapped, Outside, PastEnd, seg_step}
 use Rattle.kernel_model.specs.Policies.{valid, kind_of, default_of, args_by}
 use Rattle.kernel_model.specs.Charges.{funds, taken_from, charge, charge_by, charge_account, charge_graft, removed}
-use Rattle.kernel_model.specs.Access.{Access, Gives, Changes, Refuses, access, early_refusal, is_ask, asked_point, asked_objects, asked_graft}
+use Rattle.kernel_model.specs.Access.{bare_found, Access, Gives, Changes, Refuses, access, early_refusal, is_ask, asked_point, asked_objects, asked_graft}
 use Rattle.kernel_model.specs.declared.Mode.{Mode}
 use Rattle.kernel_model.specs.Locks.{touch, is_held, joined, untouched}
 use Rattle.kernel_model.specs.Levels.{Level, Config, Effect, Asked, Charged, Removed, Outcome, code_of, limit_in, goes_on, with_effect, new_level, with_machine, with_touched, touch_outermost, outermost_touched, answered, answer_innermost, drop_innermost}
@@ -160,7 +160,7 @@ module _ (v : World) where
   change_replays w l ls m id result i y false e stands =
       let x = with_accounts (charge Records l.owner l.point w.accounts) w in
       let z : Objects = record { accounts = charge Records l.owner l.point w.accounts; things = y } in
-      let n = record (after_access l m id result) { records = i ∷ l.records } in
+      let n = record (after_access l m id result) { records = bare_found i ∷ l.records } in
       charged_replays v w l ls Records (goes_on z (n ∷ ls)) stands (first_fails (funds w.accounts l.owner l.point Records == 0) (record_count (l ∷ ls) == 64) e)
       (stays_replay v x z l n ls refl (record { owner = refl; point = refl; kept = refl }))
     where

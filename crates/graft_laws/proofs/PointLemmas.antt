@@ -10,7 +10,7 @@ use Rattle.kernel_model.specs.declared.Object.TheVariants.{OpenFile, Queue, Cach
 use Rattle.kernel_model.specs.World.{World}
 use Rattle.kernel_model.specs.Objects.{Things, SameThing, same_object}
 use Rattle.kernel_model.specs.SameObject.{same_object_self}
-use Rattle.kernel_model.specs.Policies.{PointKind, Ahead, Victim, Next, kind_of, ahead_default, victim_among, frames_of, is_owned, lives, nice_of, open_blocks, or_zero, default_by, args_by, valid_by}
+use Rattle.kernel_model.specs.Policies.{PointKind, Ahead, Victim, Next, Serve, Stream, kind_of, ahead_default, victim_among, frames_of, is_owned, lives, nice_of, open_blocks, or_zero, default_by, args_by, valid_by}
 use Rattle.kernel_model.specs.Access.{early_refusal, needed, asked_point, asked_objects}
 use Rattle.kernel_model.specs.Levels.{Level}
 use Rattle.kernel_model.specs.GraftStep.{is_vain_ask}
@@ -34,6 +34,8 @@ default_same Ahead v q pt w u h = ap (λ o. ahead_default v (w.pol 0) o) h.0 ∙
 default_same Victim v q pt w u h =
     ap (λ c. (or_zero (victim_among (w.pol 1) c (frames_of c q)), 0)) h.0 ∙ ap (λ y. (or_zero (victim_among y u.cache (frames_of u.cache q)), 0)) h.1.0
 default_same Next v q pt w u h = refl
+default_same Serve v q pt w u h = refl
+default_same Stream v q pt w u h = refl
 
 pub args_same : (k : PointKind) (v : World) (q pt : ℕ) (w u : Things) → AreSame (point_objects k q pt) w u → args_by k v w q pt ≡ args_by k v u q pt
 args_same Ahead v q pt w u h =
@@ -42,23 +44,31 @@ args_same Ahead v q pt w u h =
 args_same Victim v q pt w u h =
     ap (λ c. or_zero (victim_among (w.pol 1) c (frames_of c q)) ∷ 0 ∷ length (frames_of c q) ∷ 0 ∷ []) h.0
     ∙ ap (λ y. or_zero (victim_among y u.cache (frames_of u.cache q)) ∷ 0 ∷ length (frames_of u.cache q) ∷ 0 ∷ []) h.1.0
-args_same Next v q pt w u h = ap (λ rows. q ∷ nice_of rows q ∷ length rows ∷ 0 ∷ []) h.0
+args_same Next v q pt w u h = ap (λ rows. q ∷ nice_of rows q ∷ length rows ∷ 0 ∷ []) h.0.0
+args_same Serve v q pt w u h = refl
+args_same Stream v q pt w u h = refl
 
 pub vain_same : (k : PointKind) (q pt : ℕ) (w u : Things) → AreSame (point_objects k q pt) w u → is_vain_ask k w q pt ≡ is_vain_ask k u q pt
 vain_same Ahead q pt w u h = ap (λ o. not (is_some o)) h.0
 vain_same Victim q pt w u h = ap (λ c. length (frames_of c q) == 0) h.0
 vain_same Next q pt w u h = refl
+vain_same Serve q pt w u h = refl
+vain_same Stream q pt w u h = refl
 
 pub valid_same : (k : PointKind) (q : ℕ) (args : List ℕ) (r0 r1 : ℕ) (w u : Things) → AreSame (answer_objects k) w u → valid_by k w q args r0 r1 ≡ valid_by k u q args r0 r1
 valid_same Ahead q args r0 r1 w u h = refl
 valid_same Victim q args r0 r1 w u h = ap (λ c. is_owned c q r0) h.0
-valid_same Next q args r0 r1 w u h = ap (λ rows. lives rows r0) h.0
+valid_same Next q args r0 r1 w u h = ap (λ rows. lives rows r0) h.0.0
+valid_same Serve q args r0 r1 w u h = refl
+valid_same Stream q args r0 r1 w u h = refl
 
 -- what a point looks at tells whether an answer of it is valid
 pub answer_of_point : (k : PointKind) (q pt : ℕ) (w u : Things) → AreSame (point_objects k q pt) w u → AreSame (answer_objects k) w u
 answer_of_point Ahead q pt w u h = tt
 answer_of_point Victim q pt w u h = (h.0, tt)
 answer_of_point Next q pt w u h = (h.0, tt)
+answer_of_point Serve q pt w u h = tt
+answer_of_point Stream q pt w u h = tt
 
 -- ---- what an ask needs
 
@@ -99,7 +109,7 @@ asked_each P highest id r0 r1 q early h = each_by (id == 13) (id == 14) (λ e. a
         (cond b (needed Cache Shared ∷ needed (Pol 1) Shared ∷ []) (needed Queue Shared ∷ needed (Pol 2) Shared ∷ []))) ≡ true → P o) →
         let pt = cond a r0 (cond b 4 5) in Each P (point_objects (kind_of pt) q pt)
     each_by true b low h =
-        subst (λ c. Each P (point_objects (cond c Ahead (cond (r0 == 4) Victim Next)) q r0)) (sym (low refl)) (
+        subst (λ c. Each P (point_objects (cond c Ahead (cond (r0 == 4) Victim (cond (r0 == 5) Next (cond (nat_lt r0 14) Serve Stream)))) q r0)) (sym (low refl)) (
           h (OpenFile q r0) (needed_here (needed (OpenFile q r0) Shared) (needed (Pol 0) Shared ∷ [])),
           (h (Pol 0) (needed_later (Pol 0) (needed (OpenFile q r0) Shared) (needed (Pol 0) Shared ∷ []) (needed_here (needed (Pol 0) Shared) [])), tt),
         )

@@ -14,7 +14,7 @@ use Rattle.kernel_model.specs.Sound.{IsSoundKernel, HasWholeBlocks}
 use Rattle.kernel_model.specs.Alike.{Extends}
 use Rattle.kernel_model.specs.Laws.{Laws}
 use Rattle.kernel_model.specs.Script.{Entry, Blank, Frames, Patience, Grant, Boot, Happens, Loads, Raw, ScriptFault, LINE_BYTES, IMAGE_DIGITS, is_blank, is_setup, same_bool, call_of, words_of, first_word, other_words, command_named, words_said, forms_of, happens_by, loads_by, entry_of, entry_by, entry_at, parsed_line}
-use Rattle.kernel_model.specs.Session.{Build, Session, Written, silent, image_added, image_answer, running_in, after_entry, after_built, after_parse, after_line, first_io, later_io, session_after}
+use Rattle.kernel_model.specs.Session.{Build, Session, Written, silent, image_added, image_answer, running_in, after_entry, after_parse, after_line, first_io, later_io, session_after}
 use Rattle.plain_rules.specs.Ledgers.{at_other}
 use Rattle.graft_laws.specs.Sessions.{IsSoundSession, LinesStaySound}
 use Rattle.graft_laws.proofs.EventLemmas.{events_stay_sound}
@@ -146,11 +146,7 @@ module _ (b : Build) (key : List ℕ) (size : ℕ) (laws : Laws b.meaning) where
 
   parse_sound : (s : Session) (x : Result Entry ScriptFault) (io : List Bool) → SaysNoBoot x → IsSoundSession b.meaning s → IsSoundSession b.meaning (after_parse b key size s x io).session
   parse_sound s (Err fault) io named h = record { kernel = h.kernel; is = h.is; sound = h.sound; blocks = h.blocks }
-  parse_sound s (Ok e) io named h = by_built (b.built e)
-    where
-      by_built : (built : Bool) → IsSoundSession b.meaning (after_built b key size s e io built).session
-      by_built true = entry_sound s e io named h
-      by_built false = record { kernel = h.kernel; is = h.is; sound = h.sound; blocks = h.blocks }
+  parse_sound s (Ok e) io named h = entry_sound s e io named h
 
   line_sound : (s : Session) (text : List ℕ) (io : List Bool) → IsSoundSession b.meaning s → IsSoundSession b.meaning (after_line b key size s text io).session
   line_sound s text io h = by_refused s.refused

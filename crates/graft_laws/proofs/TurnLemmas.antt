@@ -15,7 +15,7 @@ use Rattle.kernel_model.specs.SameObject.{same_object_is}
 use Rattle.kernel_model.specs.Machine.{Machine, Done, Called, Returned, Trapped, Outside, PastEnd, seg_step, next_call}
 use Rattle.kernel_model.specs.Policies.{valid, kind_of, default_of, args_by}
 use Rattle.kernel_model.specs.Charges.{funds, charge}
-use Rattle.kernel_model.specs.Access.{Access, Gives, Changes, Refuses, access, early_refusal, is_ask, accessed, asked_point, asked_objects, asked_graft}
+use Rattle.kernel_model.specs.Access.{Found, bare_found, Access, Gives, Changes, Refuses, access, early_refusal, is_ask, accessed, asked_point, asked_objects, asked_graft}
 use Rattle.kernel_model.specs.Locks.{is_held_exclusively, Touched, is_held, joined, untouched}
 use Rattle.kernel_model.specs.Levels.{Level, Asked, Charged, is_going_on, code_of, goes_on, new_level, with_machine, with_touched, touch_outermost, outermost_touched, answered, answer_innermost, drop_innermost}
 use Rattle.kernel_model.specs.GraftStep.{after_access, is_lock_due, lock_paid, after_result, is_record_spent, after_change, after_accessor, ask_refusal, ask_answered, after_ask, granted_call, after_call, completed, after_return, after_machine, is_spent, charged_step, micro_on, call_needs, instruction_needs, next_needs}
@@ -55,7 +55,7 @@ module _ (v : World) where
   -- ---- accessors
 
   -- the level after an accessor, with these records
-  access_turn : (w x : Objects) (l : Level) (ls : List Level) (m : Machine) (id result : ℕ) (is : List Inverse) → StandsFrom w.accounts x.accounts →
+  access_turn : (w x : Objects) (l : Level) (ls : List Level) (m : Machine) (id result : ℕ) (is : List Found) → StandsFrom w.accounts x.accounts →
       Turn w l ls (accessed id (l.machine.regs 0) l.owner ∷ []) (goes_on x (record (after_access l m id result) { records = is } ∷ ls))
   access_turn w x l ls m id result is stands =
       let ns = accessed id (l.machine.regs 0) l.owner ∷ [] in
@@ -81,8 +81,8 @@ module _ (v : World) where
   change_turn w l ls m id result i y true = drop_turn w l ls (accessed id (l.machine.regs 0) l.owner ∷ []) SpentRecords
   change_turn w l ls m id result i y false =
       let x : Objects = record { accounts = charge Records l.owner l.point w.accounts; things = y } in
-      effect_turn (Charged l.point Records) w l ls (accessed id (l.machine.regs 0) l.owner ∷ []) (goes_on x (record (after_access l m id result) { records = i ∷ l.records } ∷ ls))
-      (access_turn w x l ls m id result (i ∷ l.records) (charged_stood Records l.owner l.point w.accounts))
+      effect_turn (Charged l.point Records) w l ls (accessed id (l.machine.regs 0) l.owner ∷ []) (goes_on x (record (after_access l m id result) { records = bare_found i ∷ l.records } ∷ ls))
+      (access_turn w x l ls m id result (bare_found i ∷ l.records) (charged_stood Records l.owner l.point w.accounts))
 
   accessor_turn : (w : Objects) (l : Level) (ls : List Level) (m : Machine) (id : ℕ) (a : Access) →
       Turn w l ls (accessed id (l.machine.regs 0) l.owner ∷ []) (after_accessor v w l ls m id a)

@@ -5,7 +5,7 @@ use Rattle.kernel_model.specs.declared.Cause.{Cause}
 use Rattle.kernel_model.specs.declared.Object.{Object}
 use Rattle.kernel_model.specs.declared.Object.TheVariants.{OpenFile, Queue, Cache, Pol}
 use Rattle.kernel_model.specs.World.{World, ImageTable}
-use Rattle.kernel_model.specs.Policies.{PointKind, Ahead, Victim, Next, kind_of}
+use Rattle.kernel_model.specs.Policies.{PointKind, Ahead, Victim, Next, Serve, Stream, kind_of}
 use Rattle.kernel_model.specs.Levels.{Level, Config, Outcome, drop_level}
 use Rattle.kernel_model.specs.GraftStep.{micro, next_needs}
 use Rattle.kernel_model.specs.Sound.{IsSoundConfig}
@@ -19,6 +19,8 @@ abbrev pub point_objects : PointKind → (q pt : ℕ) → List Object
 point_objects Ahead q pt = OpenFile q pt ∷ Pol 0 ∷ []
 point_objects Victim q pt = Cache ∷ Pol 1 ∷ []
 point_objects Next q pt = Queue ∷ []
+point_objects Serve q pt = []
+point_objects Stream q pt = []
 
 -- each of these objects is held by one of the levels
 abbrev pub AreHeldBy : List Level → List Object → Type 0

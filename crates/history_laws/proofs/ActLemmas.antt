@@ -14,7 +14,7 @@ use Rattle.kernel_model.specs.World.{World, ImageTable}
 use Rattle.kernel_model.specs.Objects.{Objects, Accounts, Things, GraftValue, with_accounts}
 use Rattle.kernel_model.specs.Machine.{Machine, Done, Called, Returned, Trapped, Outside, PastEnd, seg_step}
 use Rattle.kernel_model.specs.Policies.{valid, kind_of, default_of, args_by}
-use Rattle.kernel_model.specs.Access.{Access, Gives, Changes, Refuses, access, early_refusal, is_ask, accessed, asked_point, asked_objects}
+use Rattle.kernel_model.specs.Access.{Access, Gives, Changes, Refuses, access, early_refusal, is_ask, accessed, asked_point, asked_objects, bare_found}
 use Rattle.kernel_model.specs.Charges.{payer_balance, funds, charge, charge_by, charge_account, charge_graft, taken_from, removed, removed_by}
 use Rattle.kernel_model.specs.Locks.{Touched, untouched, is_held}
 use Rattle.kernel_model.specs.Levels.{Level, Config, Effect, Asked, Charged, Removed, Outcome, with_effect, code_of, new_level, with_machine, with_touched, touch_outermost, outermost_touched, answered, answer_innermost, drop_innermost}
@@ -219,7 +219,7 @@ module _ (v : World) (t : Touched) where
   change_acts w l ls m id result i u true e held = drop_acts w l ls SpentRecords held
   change_acts w l ls m id result i u false e held =
       let x : Objects = record { accounts = charge Records l.owner l.point w.accounts; things = u } in
-      let n = record (after_access l m id result) { records = i ∷ l.records } in
+      let n = record (after_access l m id result) { records = bare_found i ∷ l.records } in
       charged_acts v t l.owner l.point l.kept l.touched w.accounts ls Records (record { said = Micro.Went; config = record { now = x; levels = n ∷ ls }; effects = [] }) held
       (neither (funds w.accounts l.owner l.point Records == 0) _ e).0 (stays_acts x l n ls refl refl refl (access_more l m id result))
 

@@ -7,7 +7,7 @@ use Rattle.kernel_model.specs.declared.Inverse.TheVariants.{Nice, Window, Mark, 
 use Rattle.kernel_model.specs.declared.Object.{Object}
 use Rattle.kernel_model.specs.declared.Object.TheVariants.{Graft, Acct, Cell, OpenFile, Queue, Cache, Lock, Pol}
 use Rattle.kernel_model.specs.Objects.{Objects, Accounts, Things, CacheValue, SameAt, SameThing, at, at2}
-use Rattle.kernel_model.specs.Access.{undo, changed_by, with_nice, with_window, with_mark, with_param}
+use Rattle.kernel_model.specs.Access.{undo, changed_by, with_nice, with_window, with_mark, with_param, Found}
 use Rattle.kernel_model.specs.UndoLog.{undo_all}
 use Rattle.kernel_laws.specs.Undoing.{InversesChangeOneObject}
 
@@ -18,7 +18,7 @@ thing_self (Graft q pt) w = refl
 thing_self (Acct q) w = tt
 thing_self (Cell q k) w = refl
 thing_self (OpenFile q fd) w = refl
-thing_self Queue w = refl
+thing_self Queue w = (refl, refl)
 thing_self Cache w = refl
 thing_self (Lock u) w = refl
 thing_self (Pol k) w = refl
@@ -28,7 +28,7 @@ thing_then (Graft q pt) x y z h k = h ∙ k
 thing_then (Acct q) x y z h k = tt
 thing_then (Cell q i) x y z h k = h ∙ k
 thing_then (OpenFile q fd) x y z h k = h ∙ k
-thing_then Queue x y z h k = h ∙ k
+thing_then Queue x y z h k = (h.0 ∙ k.0, h.1 ∙ k.1)
 thing_then Cache x y z h k = h ∙ k
 thing_then (Lock u) x y z h k = h ∙ k
 thing_then (Pol i) x y z h k = h ∙ k
@@ -38,7 +38,7 @@ thing_back (Graft q pt) x y h = sym h
 thing_back (Acct q) x y h = tt
 thing_back (Cell q i) x y h = sym h
 thing_back (OpenFile q fd) x y h = sym h
-thing_back Queue x y h = sym h
+thing_back Queue x y h = (sym h.0, sym h.1)
 thing_back Cache x y h = sym h
 thing_back (Lock u) x y h = sym h
 thing_back (Pol i) x y h = sym h
@@ -48,7 +48,7 @@ at_self (Graft q pt) s = (refl, refl)
 at_self (Acct q) s = refl
 at_self (Cell q k) s = refl
 at_self (OpenFile q fd) s = refl
-at_self Queue s = refl
+at_self Queue s = (refl, refl)
 at_self Cache s = refl
 at_self (Lock u) s = refl
 at_self (Pol k) s = refl
@@ -124,21 +124,21 @@ undo_same i o w u h = h
 -- ---- several
 
 -- the objects of inverses pass a test
-abbrev pub AllPass : (Object → Bool) → List Inverse → Type 0
+abbrev pub AllPass : (Object → Bool) → List Found → Type 0
 AllPass test [] = ⊤
 AllPass test (i ∷ is) = (test (changed_by i) ≡ true) × AllPass test is
 
-pub pass_both : (test : Object → Bool) (is js : List Inverse) → AllPass test is → AllPass test js → AllPass test (is ++ js)
+pub pass_both : (test : Object → Bool) (is js : List Found) → AllPass test is → AllPass test js → AllPass test (is ++ js)
 pass_both test [] js h k = k
 pass_both test (i ∷ is) js h k = (h.0, pass_both test is js h.1 k)
 
 -- inverses give the same value of an object where it had the same
-pub undo_all_same : (is : List Inverse) (o : Object) (w u : Things) → SameThing o w u → SameThing o (undo_all is w) (undo_all is u)
+pub undo_all_same : (is : List Found) (o : Object) (w u : Things) → SameThing o w u → SameThing o (undo_all is w) (undo_all is u)
 undo_all_same [] o w u h = h
 undo_all_same (i ∷ is) o w u h = undo_all_same is o (undo i w) (undo i u) (undo_same i o w u h)
 
 -- inverses of other objects leave an object
-pub undo_all_other : InversesChangeOneObject → (test : Object → Bool) (is : List Inverse) (o : Object) (w : Things) → AllPass test is → test o ≡ false →
+pub undo_all_other : InversesChangeOneObject → (test : Object → Bool) (is : List Found) (o : Object) (w : Things) → AllPass test is → test o ≡ false →
     SameThing o (undo_all is w) w
 undo_all_other one test [] o w h none = thing_self o w
 undo_all_other one test (i ∷ is) o w h none =

@@ -18,7 +18,7 @@ use Rattle.kernel_model.specs.Objects.{Objects, Things, GraftValue, same_object,
 use Rattle.kernel_model.specs.SameObject.{same_object_self}
 use Rattle.kernel_model.specs.Machine.{Machine, Done, Called, Returned, Trapped, Outside, PastEnd, seg_step}
 use Rattle.kernel_model.specs.Policies.{valid, default_of}
-use Rattle.kernel_model.specs.Access.{Access, Gives, Changes, Refuses, access, early_refusal, is_ask, accessed, needed, asked_point, asked_objects, changed_by, undo, with_nice}
+use Rattle.kernel_model.specs.Access.{Access, Gives, Changes, Refuses, access, early_refusal, is_ask, accessed, needed, asked_point, asked_objects, changed_by, undo, with_nice, Found}
 use Rattle.kernel_model.specs.Charges.{funds, charge}
 use Rattle.kernel_model.specs.Locks.{Touched, touch, touch_all, held_as, stronger, joined}
 use Rattle.kernel_model.specs.Levels.{Level, Config, Effect, Asked, Charged, Removed, Outcome, code_of, with_machine, with_touched, touch_outermost, answer_innermost}
@@ -60,15 +60,15 @@ touch_here o t = ap (λ b. cond b (stronger (t o) Held.Exclusive) (t o)) (same_o
 -- ---- what undoing tells
 
 -- the objects of inverses are held exclusively
-abbrev pub AreHeldBy : Touched → List Inverse → Type 0
+abbrev pub AreHeldBy : Touched → List Found → Type 0
 AreHeldBy t [] = ⊤
 AreHeldBy t (i ∷ is) = (t (changed_by i) ≡ Held.Exclusive) × AreHeldBy t is
 
-held_on : (t u : Touched) (is : List Inverse) → HoldsOn t u → AreHeldBy u is → AreHeldBy t is
+held_on : (t u : Touched) (is : List Found) → HoldsOn t u → AreHeldBy u is → AreHeldBy t is
 held_on t u [] more h = tt
 held_on t u (i ∷ is) more h = (more (changed_by i) h.0, held_on t u is more h.1)
 
-held_both : (t : Touched) (is js : List Inverse) → AreHeldBy t is → AreHeldBy t js → AreHeldBy t (is ++ js)
+held_both : (t : Touched) (is js : List Found) → AreHeldBy t is → AreHeldBy t js → AreHeldBy t (is ++ js)
 held_both t [] js h k = k
 held_both t (i ∷ is) js h k = (h.0, held_both t is js h.1 k)
 
@@ -124,7 +124,7 @@ answer_many pt r0 r1 [] = refl
 answer_many pt r0 r1 (l ∷ ls) = refl
 
 -- records of two levels, undone one after the other
-pub undo_both : (is js : List Inverse) (w : Things) → undo_all (is ++ js) w ≡ undo_all js (undo_all is w)
+pub undo_both : (is js : List Found) (w : Things) → undo_all (is ++ js) w ≡ undo_all js (undo_all is w)
 undo_both [] js w = refl
 undo_both (i ∷ is) js w = undo_both is js (undo i w)
 

@@ -16,7 +16,7 @@ use Rattle.kernel_model.specs.World.{World, ImageTable}
 use Rattle.kernel_model.specs.Objects.{Objects, Things, GraftValue, with_accounts}
 use Rattle.kernel_model.specs.Machine.{Machine, Done, Called, Returned, Trapped, Outside, PastEnd, seg_step}
 use Rattle.kernel_model.specs.Policies.{valid, kind_of, default_of, args_by}
-use Rattle.kernel_model.specs.Access.{Access, Gives, Changes, Refuses, access, early_refusal, is_ask, accessed, asked_point, asked_objects}
+use Rattle.kernel_model.specs.Access.{Access, Gives, Changes, Refuses, access, early_refusal, is_ask, accessed, asked_point, asked_objects, Found, bare_found}
 use Rattle.kernel_model.specs.Charges.{funds, charge}
 use Rattle.kernel_model.specs.Locks.{Touched, joined, untouched}
 use Rattle.kernel_model.specs.Levels.{Level, Config, Effect, Asked, Charged, Removed, Outcome, code_of, new_level, with_machine, with_touched, touch_outermost, outermost_touched, answered, answer_innermost}
@@ -132,7 +132,7 @@ grafts_on q t u (l ∷ ls) [] more keep h = absurd keep
 
 count_on : (ls ks : List Level) → KeepOn ls ks → record_count ls ≡ record_count ks
 count_on [] [] h = refl
-count_on (l ∷ ls) (k ∷ ks) h = ap (λ (is : List Inverse). length is + record_count ls) h.0.records ∙ ap (λ n. length k.records + n) (count_on ls ks h.1)
+count_on (l ∷ ls) (k ∷ ks) h = ap (λ (is : List Found). length is + record_count ls) h.0.records ∙ ap (λ n. length k.records + n) (count_on ls ks h.1)
 count_on [] (k ∷ ks) h = absurd h
 count_on (l ∷ ls) [] h = absurd h
 
@@ -173,7 +173,7 @@ new_shape q n k ks h owner none held other room =
     record {
       grafts = (owner, held, other, h.grafts);
       acct = h.acct;
-      few = subst (λ (is : List Inverse). length is + record_count (k ∷ ks) ≤ 64) (sym none) (same_count (record_count (k ∷ ks)) h.few);
+      few = subst (λ (is : List Found). length is + record_count (k ∷ ks) ≤ 64) (sym none) (same_count (record_count (k ∷ ks)) h.few);
       most = room;
       some = some_more (length (k ∷ ks));
     }
@@ -211,13 +211,13 @@ module _ (v : World) where
   result_shape w l ls m id result false h = access_shape w l ls m id result h
 
   -- a record more
-  recorded_shape : (q : ℕ) (l : Level) (ls : List Level) (i : Inverse) → HasShape q (l ∷ ls) → (record_count (l ∷ ls) == 64) ≡ false → HasShape q (record l { records = i ∷ l.records } ∷ ls)
+  recorded_shape : (q : ℕ) (l : Level) (ls : List Level) (i : Inverse) → HasShape q (l ∷ ls) → (record_count (l ∷ ls) == 64) ≡ false → HasShape q (record l { records = bare_found i ∷ l.records } ∷ ls)
   recorded_shape q l ls i h room = by_levels ls h room
     where
       one_more : (a b : ℕ) → a + b ≤ 64 → (a + b == 64) ≡ false → suc a + b ≤ 64
       one_more a b h room = grind (arith, nat_tests)
 
-      by_levels : (ls : List Level) → HasShape q (l ∷ ls) → (record_count (l ∷ ls) == 64) ≡ false → HasShape q (record l { records = i ∷ l.records } ∷ ls)
+      by_levels : (ls : List Level) → HasShape q (l ∷ ls) → (record_count (l ∷ ls) == 64) ≡ false → HasShape q (record l { records = bare_found i ∷ l.records } ∷ ls)
       by_levels [] h room =
           record { grafts = h.grafts; acct = h.acct; few = one_more (length l.records) (record_count []) h.few room; most = h.most; some = h.some }
       by_levels (k ∷ ls) h room =
@@ -294,7 +294,7 @@ module _ (v : World) where
         both_few : (a b c d : ℕ) → c ≡ a + b → a + (b + d) ≤ 64 → c + d ≤ 64
         both_few a b c d e h = omega arith
 
-        with_records : (n : Level) (ks : List Level) (is : List Inverse) → HasShape l.owner (n ∷ ks) → length is + record_count ks ≤ 64 → HasShape l.owner (record n { records = is } ∷ ks)
+        with_records : (n : Level) (ks : List Level) (is : List Found) → HasShape l.owner (n ∷ ks) → length is + record_count ks ≤ 64 → HasShape l.owner (record n { records = is } ∷ ks)
         with_records n [] is h few = record { grafts = h.grafts; acct = h.acct; few = few; most = h.most; some = h.some }
         with_records n (k ∷ ks) is h few = record { grafts = h.grafts; acct = h.acct; few = few; most = h.most; some = h.some }
 

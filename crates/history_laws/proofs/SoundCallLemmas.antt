@@ -6,12 +6,11 @@ use Rattle.std.proofs.lemmas.Bool.{cases_Bool}
 use Rattle.std.proofs.lemmas.Bool.Decides.{nat_tests}
 use Rattle.std.proofs.lemmas.List.Elements.{Contains-append_right, All-contains, All-from_recursion}
 use Rattle.kernel_model.specs.declared.Held.{Held}
-use Rattle.kernel_model.specs.declared.Inverse.{Inverse}
 use Rattle.kernel_model.specs.declared.Object.TheVariants.{Graft, Acct}
 use Rattle.kernel_model.specs.declared.Point.{Point}
 use Rattle.kernel_model.specs.World.{World}
 use Rattle.kernel_model.specs.Objects.{Objects, Accounts, Things, GraftValue}
-use Rattle.kernel_model.specs.Access.{changed_by}
+use Rattle.kernel_model.specs.Access.{changed_by, Found}
 use Rattle.kernel_model.specs.Locks.{Touched}
 use Rattle.kernel_model.specs.Meaning.{Meaning}
 use Rattle.kernel_model.specs.Levels.{Level, Config, level_at, outermost_touched}
@@ -121,7 +120,7 @@ paid_each q t (l ∷ ls) h acct = (
   paid_each q t ls h.3 acct,
 )
 
-held_each : (t : Touched) (is : List Inverse) → AreHeldBy t is → Each (λ i. t (changed_by i) ≡ Held.Exclusive) is
+held_each : (t : Touched) (is : List Found) → AreHeldBy t is → Each (λ i. t (changed_by i) ≡ Held.Exclusive) is
 held_each t [] h = tt
 held_each t (i ∷ is) h = (h.0, held_each t is h.1)
 

@@ -7,11 +7,10 @@ use Rattle.std.proofs.lemmas.Bool.Decides.{nat_tests}
 use Rattle.std.proofs.lemmas.List.{append-nil}
 use Rattle.std.proofs.lemmas.List.Elements.{All-contains, All-from_recursion}
 use Rattle.kernel_model.specs.declared.Held.{Held}
-use Rattle.kernel_model.specs.declared.Inverse.{Inverse}
 use Rattle.kernel_model.specs.declared.Object.{Object}
 use Rattle.kernel_model.specs.World.{processes}
 use Rattle.kernel_model.specs.Objects.{Objects, Things, SameThing, mix_accounts}
-use Rattle.kernel_model.specs.Access.{changed_by}
+use Rattle.kernel_model.specs.Access.{changed_by, Found}
 use Rattle.kernel_model.specs.Locks.{is_held_exclusively}
 use Rattle.kernel_model.specs.Meaning.{Meaning}
 use Rattle.kernel_model.specs.Levels.{Level, Config, level_at}
@@ -37,7 +36,7 @@ log_many (l ∷ ls) = ap suc (log_many ls)
 -- no records are of levels further inward than all
 records_none : (d : ℕ) (ls : List Level) → length ls ≤ d → records_from d (undo_log ls) ≡ []
 records_none d [] h = refl
-records_none d (l ∷ ls) h = ap (λ b. elim b as (λ _. List Inverse) [ true ↦ l.records ++ records_from d (undo_log ls) | false ↦ [] ]) (too_far d (length (undo_log ls)) (length ls) (log_many ls) h)
+records_none d (l ∷ ls) h = ap (λ b. elim b as (λ _. List Found) [ true ↦ l.records ++ records_from d (undo_log ls) | false ↦ [] ]) (too_far d (length (undo_log ls)) (length ls) (log_many ls) h)
   where
     too_far : (d n k : ℕ) → n ≡ k → suc k ≤ d → nat_le d n ≡ false
     too_far d n k e h = grind (arith, nat_tests)
@@ -45,7 +44,7 @@ records_none d (l ∷ ls) h = ap (λ b. elim b as (λ _. List Inverse) [ true �
 -- records of a level that isn't the innermost
 records_more : (d : ℕ) (l : Level) (ls : List Level) → d ≤ length ls → records_from d (undo_log (l ∷ ls)) ≡ l.records ++ records_from d (undo_log ls)
 records_more d l ls h =
-    ap (λ b. elim b as (λ _. List Inverse) [ true ↦ l.records ++ records_from d (undo_log ls) | false ↦ [] ]) (within d (length (undo_log ls)) (length ls) (log_many ls) h)
+    ap (λ b. elim b as (λ _. List Found) [ true ↦ l.records ++ records_from d (undo_log ls) | false ↦ [] ]) (within d (length (undo_log ls)) (length ls) (log_many ls) h)
   where
     within : (d n k : ℕ) → n ≡ k → d ≤ k → nat_le d n ≡ true
     within d n k e h = grind (arith, nat_tests)
@@ -117,11 +116,11 @@ cut_undone (Some d) c h = elim (cases_Bool (nat_le (length c.levels) d)) [
 -- ---- records change what is held exclusively
 
 -- inverses whose objects pass one test pass another
-pass_more : (f g : Object → Bool) (is : List Inverse) → ((o : Object) → f o ≡ true → g o ≡ true) → AllPass f is → AllPass g is
+pass_more : (f g : Object → Bool) (is : List Found) → ((o : Object) → f o ≡ true → g o ≡ true) → AllPass f is → AllPass g is
 pass_more f g [] more h = tt
 pass_more f g (i ∷ is) more h = (more (changed_by i) h.0, pass_more f g is more h.1)
 
-own_pass : (l : Level) (ls : List Level) (is : List Inverse) → AreHeldBy l.touched is → AllPass (is_changed_in (l ∷ ls)) is
+own_pass : (l : Level) (ls : List Level) (is : List Found) → AreHeldBy l.touched is → AllPass (is_changed_in (l ∷ ls)) is
 own_pass l ls [] h = tt
 own_pass l ls (i ∷ is) h = (held_changed (l.touched (changed_by i)) (is_changed_in ls (changed_by i)) h.0, own_pass l ls is h.1)
   where
@@ -139,7 +138,7 @@ records_pass d (l ∷ ls) w h = pass_by (nat_le d (length (undo_log ls)))
     or_passes false b e = e
 
     pass_by : (b : Bool) → AllPass (is_changed_in (l ∷ ls)) (l.records ++ records_from d (undo_log ls)) →
-        AllPass (is_changed_in (l ∷ ls)) (elim b as (λ _. List Inverse) [ true ↦ l.records ++ records_from d (undo_log ls) | false ↦ [] ])
+        AllPass (is_changed_in (l ∷ ls)) (elim b as (λ _. List Found) [ true ↦ l.records ++ records_from d (undo_log ls) | false ↦ [] ])
     pass_by true h = h
     pass_by false h = tt
 

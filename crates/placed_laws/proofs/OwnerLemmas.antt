@@ -13,7 +13,7 @@ use Rattle.kernel_model.specs.Objects.{Objects, Things, FrameValue, GraftValue, 
 use Rattle.kernel_model.specs.Machine.{Machine, Done, Called, Returned, Trapped, Outside, PastEnd, seg_step}
 use Rattle.kernel_model.specs.Policies.{valid, default_of, frames_of}
 use Rattle.kernel_model.specs.Charges.{funds, charge}
-use Rattle.kernel_model.specs.Access.{Access, Gives, Changes, Refuses, Callable, CellGet, CellSet, NiceGet, NiceSet, WindowGet, WindowSet, FramesMine, FrameAt, FrameBlock, FrameMark, TuneGet, TuneSet, TakeLock, callable, access, access_by, early_refusal, is_ask, asked_point, asked_objects, set_mark, own_frame, window_change, tune_change, param_top, in_range, chosen_param}
+use Rattle.kernel_model.specs.Access.{Access, Gives, Changes, Refuses, Callable, CellGet, CellSet, NiceGet, NiceSet, WindowGet, WindowSet, FramesMine, FrameAt, FrameBlock, FrameMark, TuneGet, TuneSet, TakeLock, callable, access, access_by, early_refusal, is_ask, asked_point, asked_objects, set_mark, own_frame, window_change, tune_change, param_top, in_range, chosen_param, Found}
 use Rattle.kernel_model.specs.Levels.{Level, Outcome, code_of, with_machine, with_touched, touch_outermost, answer_innermost, drop_innermost, drop_level}
 use Rattle.kernel_model.specs.GraftStep.{is_lock_due, lock_paid, after_result, is_record_spent, after_change, after_accessor, ask_refusal, ask_answered, after_ask, granted_call, after_call, completed, after_return, after_machine, is_spent, charged_step, micro_on}
 use Rattle.kernel_laws.proofs.LevelLemmas.{KeepOn, keep_touch, keep_answer}
@@ -22,7 +22,7 @@ use Rattle.placed_laws.specs.Owners.{IsOwn, AreOwn, AreOfOwner, OwnersStay}
 -- ---- records and levels
 
 -- records of two levels
-both_own : (q : ℕ) (is js : List Inverse) → AreOwn q is → AreOwn q js → AreOwn q (is ++ js)
+both_own : (q : ℕ) (is js : List Found) → AreOwn q is → AreOwn q js → AreOwn q (is ++ js)
 both_own q [] js h k = k
 both_own q (i ∷ is) js h k = (h.0, both_own q is js h.1 k)
 

@@ -3,9 +3,8 @@ use Rattle.std.specs.Prelude.{◌≡◌, ℕ, ◌==◌, Bool, true, false, List,
 use Rattle.std.specs.List.{AllByRecursion as Each}
 use Rattle.std.proofs.Common.{refl, subst, sym, ap}
 use Rattle.kernel_model.specs.declared.Held.{Held}
-use Rattle.kernel_model.specs.declared.Inverse.{Inverse}
 use Rattle.kernel_model.specs.declared.Object.{Object}
-use Rattle.kernel_model.specs.Access.{changed_by}
+use Rattle.kernel_model.specs.Access.{changed_by, Found}
 use Rattle.kernel_model.specs.Objects.{Things, SameThing}
 use Rattle.kernel_model.specs.Locks.{Touched, is_held_exclusively}
 use Rattle.kernel_model.specs.Levels.{Level, level_at, outermost_touched}
@@ -81,7 +80,7 @@ pub record FoundAs (test : Object → Bool) (x : Things) (l n : Level) : Type 0 
   pub own : (o : Object) → test o ≡ true → SameThing o l.kept n.kept
   pub other : (o : Object) → test o ≡ false → SameThing o n.kept x
 
-records_pass : (test : Object → Bool) (t : Touched) (is : List Inverse) → ((o : Object) → t o ≡ Held.Exclusive → test o ≡ true) → AreHeldBy t is → AllPass test is
+records_pass : (test : Object → Bool) (t : Touched) (is : List Found) → ((o : Object) → t o ≡ Held.Exclusive → test o ≡ true) → AreHeldBy t is → AllPass test is
 records_pass test t [] into h = tt
 records_pass test t (i ∷ is) into h = (into (changed_by i) h.0, records_pass test t is into h.1)
 

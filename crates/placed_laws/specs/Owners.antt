@@ -1,5 +1,6 @@
 -- Whose the levels of a graft call are, and whose objects their records name.
 use Rattle.std.specs.Prelude.{◌≡◌, ℕ, List, [], ◌∷◌, ⊤}
+use Rattle.kernel_model.specs.Access.{Found}
 use Rattle.kernel_model.specs.declared.Cause.{Cause}
 use Rattle.kernel_model.specs.declared.Inverse.{Inverse}
 use Rattle.kernel_model.specs.declared.Inverse.TheVariants.{Nice, Window, Mark, Tune}
@@ -22,7 +23,7 @@ IsOwn q (Mark f v) = ⊤
 IsOwn q (Tune kind k v) = ⊤
 
 -- the same of each of some records (by recursion, so that it computes)
-abbrev pub AreOwn : ℕ → List Inverse → Type 0
+abbrev pub AreOwn : ℕ → List Found → Type 0
 AreOwn q [] = ⊤
 AreOwn q (i ∷ is) = IsOwn q i × AreOwn q is
 

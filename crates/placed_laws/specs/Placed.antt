@@ -1,7 +1,7 @@
 -- The kernel in place: one store that is changed in place, and of each call in flight its levels, without a history and without a
 -- committed copy.
 use Rattle.std.specs.Prelude.{ℕ, Bool, true, false, cond, List, [], ◌∷◌, Option, Some, None, map, option_map}
-use Rattle.kernel_model.specs.declared.Inverse.{Inverse}
+use Rattle.kernel_model.specs.Access.{Found}
 use Rattle.kernel_model.specs.declared.Need.{Need}
 use Rattle.kernel_model.specs.declared.Note.{Note}
 use Rattle.kernel_model.specs.World.{World, ImageTable, Blocks, processes}
@@ -30,7 +30,7 @@ pub record PlacedLevel : Type 0 where
   -- the arguments that it was given
   pub args : List ℕ
   -- what its changing accessors found, newest first
-  pub records : List Inverse
+  pub records : List Found
 
 -- a call in flight
 pub record PlacedCall : Type 0 where
