@@ -58,7 +58,7 @@ at_then (Graft q pt) x y z h k = (h.0 ∙ k.0, h.1 ∙ k.1)
 at_then (Acct q) x y z h k = h ∙ k
 at_then (Cell q i) x y z h k = h ∙ k
 at_then (OpenFile q fd) x y z h k = h ∙ k
-at_then Queue x y z h k = h ∙ k
+at_then Queue x y z h k = (h.0 ∙ k.0, h.1 ∙ k.1)
 at_then Cache x y z h k = h ∙ k
 at_then (Lock u) x y z h k = h ∙ k
 at_then (Pol i) x y z h k = h ∙ k
@@ -85,42 +85,6 @@ at_of Cache s t e h = h
 at_of (Lock u) s t e h = h
 at_of (Pol i) s t e h = h
 
--- ---- one inverse
-
--- a place that is changed by its own value
-own_place2 : {A : Type 0} (q k r l : ℕ) (f g : ℕ → ℕ → A) (change : A → A) → f r l ≡ g r l → at2 q k (change (f q k)) f r l ≡ at2 q k (change (g q k)) g r l
-own_place2 q k r l f g change h = elim (cases_Bool (r == q && l == k)) [
-  | inl here ↦
-      let b = and_parts (r == q) (l == k) here in
-      let same = sym (ap (λ i. f i k) (eqb-true r q b.0)) ∙ sym (ap (λ i. f r i) (eqb-true l k b.1)) ∙ h ∙ ap (λ i. g r i) (eqb-true l k b.1) ∙ ap (λ i. g i k) (eqb-true r q b.0) in
-      ap (λ x. cond x (change (f q k)) (f r l)) here ∙ ap change same ∙ ap (λ x. cond x (change (g q k)) (g r l)) (sym here)
-  | inr other ↦ ap (λ x. cond x (change (f q k)) (f r l)) other ∙ h ∙ ap (λ x. cond x (change (g q k)) (g r l)) (sym other)
-]
-
-own_place : {A : Type 0} (q r : ℕ) (f g : ℕ → A) (change : A → A) → f r ≡ g r → at q (change (f q)) f r ≡ at q (change (g q)) g r
-own_place q r f g change h = elim (cases_Bool (r == q)) [
-  | inl here ↦
-      let same = sym (ap f (eqb-true r q here)) ∙ h ∙ ap g (eqb-true r q here) in
-      ap (λ x. cond x (change (f q)) (f r)) here ∙ ap change same ∙ ap (λ x. cond x (change (g q)) (g r)) (sym here)
-  | inr other ↦ ap (λ x. cond x (change (f q)) (f r)) other ∙ h ∙ ap (λ x. cond x (change (g q)) (g r)) (sym other)
-]
-
--- an inverse gives the same value of an object where it had the same
-undo_same : (i : Inverse) (o : Object) (w u : Things) → SameThing o w u → SameThing o (undo i w) (undo i u)
-undo_same i (Graft q pt) w u h = grind arith
-undo_same i (Acct q) w u h = tt
-undo_same (Inverse.Cell q k v) (Cell r l) w u h = ap (λ x. cond (r == q && l == k) v x) h
-undo_same (Nice q v) Queue w u h = ap (with_nice q v) h
-undo_same (Window q k v) (OpenFile r l) w u h = own_place2 q k r l w.file u.file (with_window v) h
-undo_same (Mark f v) Cache w u h = ap (λ (c : CacheValue). record c { frame = at f (with_mark v (c.frame f)) c.frame }) h
-undo_same (Tune q k v) (Pol r) w u h = own_place q r w.pol u.pol (with_param v) h
-undo_same (Inverse.Cell q k v) (Lock x) w u h = h
-undo_same (Nice q v) (Lock x) w u h = h
-undo_same (Window q k v) (Lock x) w u h = h
-undo_same (Mark f v) (Lock x) w u h = h
-undo_same (Tune q k v) (Lock x) w u h = h
-undo_same i o w u h = h
-
 -- ---- several
 
 -- the objects of inverses pass a test
@@ -131,11 +95,6 @@ AllPass test (i ∷ is) = (test (changed_by i) ≡ true) × AllPass test is
 pub pass_both : (test : Object → Bool) (is js : List Found) → AllPass test is → AllPass test js → AllPass test (is ++ js)
 pass_both test [] js h k = k
 pass_both test (i ∷ is) js h k = (h.0, pass_both test is js h.1 k)
-
--- inverses give the same value of an object where it had the same
-pub undo_all_same : (is : List Found) (o : Object) (w u : Things) → SameThing o w u → SameThing o (undo_all is w) (undo_all is u)
-undo_all_same [] o w u h = h
-undo_all_same (i ∷ is) o w u h = undo_all_same is o (undo i w) (undo i u) (undo_same i o w u h)
 
 -- inverses of other objects leave an object
 pub undo_all_other : InversesChangeOneObject → (test : Object → Bool) (is : List Found) (o : Object) (w : Things) → AllPass test is → test o ≡ false →

@@ -29,7 +29,6 @@ pub mod ShareLemmas
 pub mod SoundCallLemmas
 pub mod SoundRunLemmas
 pub mod SoundStepLemmas
-pub mod StandLemmas
 pub mod SteadyLemmas
 pub mod StepMoveLemmas
 pub mod SumLemmas

@@ -16,7 +16,7 @@ use Rattle.kernel_model.specs.Alike.{AreAlike, SameFiles, windowless}
 use Rattle.kernel_model.specs.Laws.{Laws, IsReady, continues}
 use Rattle.plain_rules.specs.Ledgers.{at_here, at_other}
 use Rattle.history_laws.specs.Notes.{is_drop, is_end, is_data, is_line, note_count}
-use Rattle.history_laws.proofs.StandLemmas.{niceless_lives, others_files}
+use Rattle.kernel_laws.proofs.StepLemmas.{niceless_lives, others_files}
 
 -- ---- notes
 

@@ -12,7 +12,7 @@ use Rattle.kernel_model.specs.World.{World, ImageTable}
 use Rattle.kernel_model.specs.Objects.{Objects}
 use Rattle.kernel_model.specs.Policies.{default_of}
 use Rattle.kernel_model.specs.Charges.{removed}
-use Rattle.kernel_model.specs.Meaning.{Meaning}
+use Rattle.kernel_model.specs.Meaning.{Meaning, bare_answer}
 use Rattle.kernel_model.specs.Levels.{Level, Config, Outcome, is_going_on, drop_innermost, drop_level}
 use Rattle.kernel_model.specs.GraftStep.{micro, micro_on, next_needs}
 use Rattle.kernel_model.specs.History.{Mark, Stepped, Trace, trace_after, stepped, replay, fallen}
@@ -28,7 +28,7 @@ use Rattle.history_laws.proofs.HoldLemmas.{AllOk, NeedsOk, level_drop_ok, instru
 use Rattle.history_laws.proofs.FallenLemmas.{one_mark}
 use Rattle.history_laws.proofs.DropLemmas.{falls_replay}
 use Rattle.history_laws.proofs.MoveLemmas.{StandsAt}
-use Rattle.history_laws.proofs.StandLemmas.{alike_disk}
+use Rattle.kernel_laws.proofs.StepLemmas.{alike_disk}
 use Rattle.history_laws.proofs.StepMoveLemmas.{WhereCompleted, alike_lost, stands_on, completes, dropped_base, none_completes}
 use Rattle.history_laws.proofs.ComeLemmas.{went_accounts}
 use Rattle.history_laws.proofs.GraftLemmas.{GraftsFrom, removed_from}
@@ -138,7 +138,7 @@ module _ (m : Meaning) (know : Known m) (r : Run) (sound : IsSoundKernel m r.ker
   outcome_sound o (Micro.Completed answer) e h =
       let w = o.config.now in
       let done = subst (WhereCompleted m r.kernel.world r.kernel.objects p c w) e h.completed in
-      finish_sound m know r sound p c w (Some answer) r.notes
+      finish_sound m know r sound p c w (Some (bare_answer answer)) r.notes
       (record { standing = stands_on m know.laws p c w r stands is done.0 done.1; disk = alike_disk r.kernel.world r.kernel.objects w done.1 stands.disk; right = done.2 })
       (loaded_from r.kernel.images r.kernel.objects.accounts w.accounts h.grafts_from sound.state.images_loaded)
   outcome_sound o (Micro.Dropped zero q pt cause) e h =

@@ -10,7 +10,7 @@ use Rattle.kernel_model.specs.declared.Object.TheVariants.{Graft}
 use Rattle.kernel_model.specs.declared.Point.{Point}
 use Rattle.kernel_model.specs.Objects.{GraftValue}
 use Rattle.kernel_model.specs.Locks.{is_held}
-use Rattle.kernel_model.specs.Meaning.{Meaning}
+use Rattle.kernel_model.specs.Meaning.{Meaning, bare_answer}
 use Rattle.kernel_model.specs.Levels.{Level, Config, Outcome, touched_at, drop_level}
 use Rattle.kernel_model.specs.GraftStep.{micro}
 use Rattle.kernel_model.specs.History.{Mark, Stepped, Trace, begin_at, begin_with, first_trace, replay, fallen}
@@ -22,7 +22,7 @@ use Rattle.kernel_model.specs.Claims.{IsStable}
 use Rattle.history_laws.specs.Notes.{is_drop, note_count}
 use Rattle.history_laws.proofs.ActLemmas.{removed_gone}
 use Rattle.history_laws.proofs.InPlaceLemmas.{row_low, caller_low}
-use Rattle.history_laws.proofs.StandLemmas.{alike_disk}
+use Rattle.kernel_laws.proofs.StepLemmas.{alike_disk}
 use Rattle.history_laws.proofs.MoveLemmas.{count_more, StandsAt, alike_self}
 use Rattle.history_laws.proofs.StepMoveLemmas.{WhereCompleted, alike_lost, stands_on}
 use Rattle.history_laws.proofs.ComeLemmas.{went_accounts}
@@ -121,7 +121,7 @@ module _ (m : Meaning) (know : Known m) (r : Run) (sound : IsSoundKernel m r.ker
     outcome_pays o (Micro.Completed answer) e h paid steady =
         let w = o.config.now in
         let done = subst (WhereCompleted m r.kernel.world r.kernel.objects p c w) e h.completed in
-        finish_pays m know.laws know.histories r sound p c is w (Some answer)
+        finish_pays m know.laws know.histories r sound p c is w (Some (bare_answer answer))
         (record { standing = stands_on m know.laws p c w r here is done.0 done.1; disk = alike_disk r.kernel.world r.kernel.objects w done.1 here.disk; right = done.2 })
         h.grafts_from (own_from o paid) r.notes steady refl
     outcome_pays o (Micro.Dropped zero q pt cause) e h paid steady =

@@ -18,7 +18,7 @@ use Rattle.kernel_model.specs.Objects.{Objects, Things, GraftValue, same_object,
 use Rattle.kernel_model.specs.SameObject.{same_object_self}
 use Rattle.kernel_model.specs.Machine.{Machine, Done, Called, Returned, Trapped, Outside, PastEnd, seg_step}
 use Rattle.kernel_model.specs.Policies.{valid, default_of}
-use Rattle.kernel_model.specs.Access.{Access, Gives, Changes, Refuses, access, early_refusal, is_ask, accessed, needed, asked_point, asked_objects, changed_by, undo, with_nice, Found}
+use Rattle.kernel_model.specs.Access.{Access, Gives, Changes, Refuses, access, early_refusal, is_ask, accessed, needed, asked_point, asked_objects, changed_by, undo, with_nice, Found, bare_found, object_of_inverse}
 use Rattle.kernel_model.specs.Charges.{funds, charge}
 use Rattle.kernel_model.specs.Locks.{Touched, touch, touch_all, held_as, stronger, joined}
 use Rattle.kernel_model.specs.Levels.{Level, Config, Effect, Asked, Charged, Removed, Outcome, code_of, with_machine, with_touched, touch_outermost, answer_innermost}
@@ -26,6 +26,7 @@ use Rattle.kernel_model.specs.GraftStep.{after_access, is_lock_due, lock_paid, a
 use Rattle.kernel_model.specs.UndoLog.{undo_all}
 use Rattle.kernel_model.specs.Sound.{count_of, in_queue}
 use Rattle.kernel_laws.specs.Undoing.{IsOnceIn, LeadsBack, InversesUndo, ChangesItsObject, ChangesAreOfOneObject}
+use Rattle.kernel_laws.proofs.UndoingLemmas.{undo_count}
 use Rattle.history_laws.proofs.EffectLemmas.{levels_by}
 
 -- ---- holds
@@ -130,18 +131,6 @@ undo_both (i ∷ is) js w = undo_both is js (undo i w)
 
 -- ---- the queue
 
--- how often a process stands in the queue once a nice changed
-nice_count : (p n : ℕ) (rows : List QueueRow) (q : ℕ) → count_of q (in_queue (with_nice p n rows)) ≡ count_of q (in_queue rows)
-nice_count p n [] q = refl
-nice_count p n (r ∷ rows) q = grind (arith, nat_tests, nice_count p n rows q)
-
-undo_count : (i : Inverse) (q : ℕ) (w : Things) → count_of q (in_queue (undo i w).queue) ≡ count_of q (in_queue w.queue)
-undo_count (Inverse.Cell p k v) q w = refl
-undo_count (Nice p v) q w = nice_count p v w.queue q
-undo_count (Window p fd v) q w = refl
-undo_count (Mark f v) q w = refl
-undo_count (Tune kind k v) q w = refl
-
 -- ---- one instruction
 
 -- another number
@@ -185,7 +174,7 @@ module _ (undoes : InversesUndo) (own : ChangesAreOfOneObject) (v : World) where
   result_well w l ls m id result false h = access_well w l ls m id result h
 
   change_well : (w : Objects) (l : Level) (ls : List Level) (m : Machine) (id result : ℕ) (i : Inverse) (u : Things) (spent : Bool) → CanBeUndone w.things (l ∷ ls) →
-      undo i u ≡ w.things → accessed id (l.machine.regs 0) l.owner ≡ needed (changed_by i) Mode.Exclusive →
+      undo (bare_found i) u ≡ w.things → accessed id (l.machine.regs 0) l.owner ≡ needed (object_of_inverse i) Mode.Exclusive →
       IsWell (suc (length ls)) (after_change v w l ls m id result i u spent)
   change_well w l ls m id result i u true h leads needs = tt
   change_well w l ls m id result i u false h leads needs =
@@ -195,12 +184,12 @@ module _ (undoes : InversesUndo) (own : ChangesAreOfOneObject) (v : World) where
           found = (
             h.found.0 ∙ ap (undo_all l.records) (sym leads),
             (
-              subst (λ (x : Need). touch x.object x.mode l.touched (changed_by i) ≡ Held.Exclusive) (sym needs) (touch_here (changed_by i) l.touched),
+              subst (λ (x : Need). touch x.object x.mode l.touched (object_of_inverse i) ≡ Held.Exclusive) (sym needs) (touch_here (object_of_inverse i) l.touched),
               held_on n.touched l.touched l.records (touch_all_holds (accessed id (l.machine.regs 0) l.owner ∷ []) l.touched) h.found.1,
             ),
             h.found.2,
           );
-          once = λ q. subst (λ k. k ≤ 1) (ap (λ (x : Things). count_of q (in_queue x.queue)) (sym leads) ∙ undo_count i q u) (h.once q);
+          once = λ q. subst (λ k. k ≤ 1) (ap (λ (x : Things). count_of q (in_queue x.queue)) (sym leads) ∙ undo_count (bare_found i) q u) (h.once q);
         };
         begins = λ e. absurd (not_one_more (suc (length ls)) (suc (length ls)) refl e);
       }

@@ -10,7 +10,7 @@ use Rattle.kernel_model.specs.declared.Object.{Object}
 use Rattle.kernel_model.specs.declared.Point.{Point}
 use Rattle.kernel_model.specs.World.{World, ImageTable}
 use Rattle.kernel_model.specs.Objects.{Objects, GraftValue}
-use Rattle.kernel_model.specs.Meaning.{Meaning, After, Continues, EndsWith, Fails, Answer}
+use Rattle.kernel_model.specs.Meaning.{Meaning, After, Continues, EndsWith, Fails, Answer, bare_answer}
 use Rattle.kernel_model.specs.Levels.{Level, Config, Outcome, drop_level}
 use Rattle.kernel_model.specs.GraftStep.{micro, micro_on}
 use Rattle.kernel_model.specs.History.{Mark, Stepped, Trace, begin_at, begin_with, first_trace, replay, fallen}
@@ -24,7 +24,7 @@ use Rattle.plain_rules.specs.Ledgers.{at_here}
 use Rattle.history_laws.proofs.EffectLemmas.{levels_by, levels_length}
 use Rattle.history_laws.proofs.ActLemmas.{StaysIn, GoesDeeper, ComesBack, Next, instruction_acts}
 use Rattle.history_laws.proofs.ShapeLemmas.{ShapeWhereWent, instruction_shape}
-use Rattle.history_laws.proofs.StandLemmas.{alike_disk}
+use Rattle.kernel_laws.proofs.StepLemmas.{alike_disk}
 use Rattle.history_laws.proofs.MoveLemmas.{left_of, StandsAt, alike_self}
 use Rattle.history_laws.proofs.StepMoveLemmas.{WhereCompleted, alike_lost, stands_on}
 use Rattle.history_laws.proofs.SoundCallLemmas.{call_comes, call_has_come}
@@ -177,8 +177,8 @@ module _ (m : Meaning) (know : Known m) (r : Run) (sound : IsSoundKernel m r.ker
     outcome_share o (Micro.Completed answer) most e h went fell stay =
         let w = o.config.now in
         let done = subst (WhereCompleted m r.kernel.world r.kernel.objects p c w) e h.completed in
-        more (suc (own_share m p (finish_on m p c w (Some answer) r))) left_now most
-        (finish_share w (Some answer) r.notes
+        more (suc (own_share m p (finish_on m p c w (Some (bare_answer answer)) r))) left_now most
+        (finish_share w (Some (bare_answer answer)) r.notes
         (record { standing = stands_on m know.laws p c w r here is done.0 done.1; disk = alike_disk r.kernel.world r.kernel.objects w done.1 here.disk; right = done.2 }) done.1)
       where
         more : (x a n : ℕ) → x ≤ a → x ≤ a + n

@@ -11,7 +11,7 @@ use Rattle.kernel_model.specs.World.{World}
 use Rattle.kernel_model.specs.Objects.{Objects, Things, GraftValue, with_accounts}
 use Rattle.kernel_model.specs.Machine.{first_machine}
 use Rattle.kernel_model.specs.Charges.{removed, removed_by}
-use Rattle.kernel_model.specs.Meaning.{Meaning}
+use Rattle.kernel_model.specs.Meaning.{Meaning, bare_answer}
 use Rattle.kernel_model.specs.Levels.{Level, Config, Removed, Outcome, drop_innermost, drop_level}
 use Rattle.kernel_model.specs.GraftStep.{micro}
 use Rattle.kernel_model.specs.History.{Mark, Stepped, Trace, config_if, effect, fallen, replay}
@@ -23,7 +23,7 @@ use Rattle.kernel_model.specs.Alike.{AreAlike}
 use Rattle.kernel_model.specs.Laws.{Laws, IsStanding, IsRightAnswer}
 use Rattle.kernel_model.specs.Claims.{EffectsStaySound}
 use Rattle.kernel_laws.specs.Soundness.{WorksOn, AnswersRightly, ReplayWorks, InstructionsWork, HistoriesWork}
-use Rattle.history_laws.proofs.StandLemmas.{niceless_lives, alike_disk, right_answer}
+use Rattle.kernel_laws.proofs.StepLemmas.{niceless_lives, alike_disk, right_answer}
 use Rattle.history_laws.proofs.MoveLemmas.{ArePartOf, no_part, StandsAt, Moves, alike_self, marks_move, stays, finish_moves}
 
 -- ---- grafts taken out
@@ -40,7 +40,7 @@ holds_all =
       args = [];
       records = [];
       kept =
-          record { cell = λ q k. 0; file = λ q k. None; queue = []; cache = record { frame = λ f. None; lru = [] }; lock = λ u. None; pol = λ k. record { chosen = 0; param = λ j. 0 }; seg = λ q pt i. 0 };
+          record { cell = λ q k. 0; file = λ q k. None; queue = []; cache = record { frame = λ f. None; lru = [] }; lock = λ u. None; pol = λ k. record { chosen = 0; param = λ j. 0 }; seg = λ q pt i. 0; handlers = [] };
     }
 
 -- a store without a graft is sound
@@ -123,8 +123,8 @@ module _ (m : Meaning) (laws : Laws m) where
   outcome_moves p c t ks o (Micro.Blocked object holder by_user) r h e marked base completed = stays m laws p c r h e
   outcome_moves p c t ks o (Micro.Completed answer) r h e marked base completed =
       let w = o.config.now in
-      plain_run p r (finish_on m p c w (Some answer))
-      (finish_moves m laws p c w (Some answer) r [] h e (no_part (once_if (has_level (r.kernel.call p))))
+      plain_run p r (finish_on m p c w (Some (bare_answer answer)))
+      (finish_moves m laws p c w (Some (bare_answer answer)) r [] h e (no_part (once_if (has_level (r.kernel.call p))))
       (record {
         standing = stands_on p c w r h e completed.0 completed.1;
         disk = alike_disk r.kernel.world r.kernel.objects w completed.1 h.disk;

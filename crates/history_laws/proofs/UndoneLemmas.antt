@@ -21,7 +21,8 @@ use Rattle.kernel_model.specs.InPlace.{Cut, no_cut, is_changed_in, kept_of, cut_
 use Rattle.kernel_model.specs.Sound.{IsSoundKernel, count_of}
 use Rattle.kernel_model.specs.Claims.{UndoneIsBelow}
 use Rattle.kernel_laws.specs.Undoing.{InversesUndo, InversesChangeOneObject, ChangesAreOfOneObject}
-use Rattle.history_laws.proofs.InverseLemmas.{thing_self, thing_then, thing_back, thing_of, at_of, AllPass, pass_both, undo_all_same, undo_all_other}
+use Rattle.graft_laws.proofs.ObjectLemmas.{undo_all_keeps}
+use Rattle.history_laws.proofs.InverseLemmas.{thing_self, thing_then, thing_back, thing_of, at_of, AllPass, pass_both, undo_all_other}
 use Rattle.history_laws.proofs.RecordLemmas.{AreHeldBy, FoundByUndoing, undo_both}
 use Rattle.history_laws.proofs.UndoableLemmas.{Undoable}
 use Rattle.history_laws.proofs.InPlaceLemmas.{store_other, store_own, caller_stands, call_undoable, changer_config, others_apart, changer}
@@ -152,7 +153,7 @@ cut_accounts (Some d) ls s = refl
 -- a call's records give the same value where there was the same
 cut_same : (x : Option ℕ) (ls : List Level) (o : Object) (s t : Objects) → SameThing o s.things t.things → SameThing o (undo_cut x ls s).things (undo_cut x ls t).things
 cut_same None ls o s t h = h
-cut_same (Some d) ls o s t h = undo_all_same (records_from d (undo_log ls)) o s.things t.things h
+cut_same (Some d) ls o s t h = undo_all_keeps (records_from d (undo_log ls)) o s.things t.things h
 
 -- and leave what the call didn't change
 cut_other : InversesChangeOneObject → (x : Option ℕ) (ls : List Level) (w : Things) (o : Object) (s : Objects) → FoundByUndoing w ls → is_changed_in ls o ≡ false →

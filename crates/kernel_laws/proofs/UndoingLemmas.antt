@@ -308,7 +308,7 @@ pub nice_count : (p n : ℕ) (rows : List QueueRow) (q : ℕ) → count_of q (in
 nice_count p n [] q = refl
 nice_count p n (r ∷ rows) q = grind (arith, nat_tests, nice_count p n rows q)
 
--- an inverse leaves that as it is
+-- the same by the inverse
 count_by : (i : Inverse) (b : ℕ → ℕ) (q : ℕ) (w : Things) → count_of q (in_queue (undo_by i b w).queue) ≡ count_of q (in_queue w.queue)
 count_by (Inverse.Cell p k v) b q w = refl
 count_by (Nice p v) b q w = nice_count p v w.queue q
@@ -316,7 +316,8 @@ count_by (Window p fd v) b q w = refl
 count_by (Mark f v) b q w = refl
 count_by (Tune kind k v) b q w = refl
 
-undo_count : (i : Found) (q : ℕ) (w : Things) → count_of q (in_queue (undo i w).queue) ≡ count_of q (in_queue w.queue)
+-- an inverse leaves that as it is
+pub undo_count : (i : Found) (q : ℕ) (w : Things) → count_of q (in_queue (undo i w).queue) ≡ count_of q (in_queue w.queue)
 undo_count i q w = count_by i.inverse i.bytes q w
 
 -- records lead back, and each process stands in the queue at most once

@@ -14,7 +14,8 @@ use Rattle.kernel_model.specs.Alike.{LevelsAlike}
 use Rattle.kernel_laws.proofs.UndoingLemmas.{inverses_change_one_object}
 use Rattle.graft_laws.proofs.PointLemmas.{or_left, or_right}
 use Rattle.graft_laws.proofs.LevelsAlikeLemmas.{length_alike}
-use Rattle.history_laws.proofs.InverseLemmas.{AllPass, undo_all_same, undo_all_other, thing_then}
+use Rattle.graft_laws.proofs.ObjectLemmas.{undo_all_keeps}
+use Rattle.history_laws.proofs.InverseLemmas.{AllPass, undo_all_other, thing_then}
 use Rattle.history_laws.proofs.RecordLemmas.{AreHeldBy, FoundByUndoing}
 use Rattle.history_laws.proofs.SoundCallLemmas.{contains_first, contains_later}
 use Rattle.placed_laws.proofs.LevelLemmas.{relaid}
@@ -97,7 +98,7 @@ laid_found test x w u (l ∷ ls) found into own other = (
     pass = records_pass test l.touched l.records (λ o e. into o (or_left (is_held_exclusively (l.touched o)) (is_changed_in ls o) (ap is_held_exclusively e))) found.1
 
     inner : (o : Object) → test o ≡ true → SameThing o l.kept (undo_all l.records u)
-    inner o h = subst (λ y. SameThing o y (undo_all l.records u)) (sym found.0) (undo_all_same l.records o w u (own o h))
+    inner o h = subst (λ y. SameThing o y (undo_all l.records u)) (sym found.0) (undo_all_keeps l.records o w u (own o h))
 
     beyond : (o : Object) → test o ≡ false → SameThing o (undo_all l.records u) x
     beyond o h = thing_then o (undo_all l.records u) u x (undo_all_other inverses_change_one_object test l.records o u pass h) (other o h)
