@@ -98,8 +98,8 @@ module _ (m : Meaning) (laws : Laws m) (k : Kernel) (x : Objects) (here : IsPlac
     where
       living_by : (l n : Level) → Found l n → AreAlike k.objects (record { accounts = c.now.accounts; things = l.kept }) → (q : ℕ) → lives x.things.queue q ≡ lives n.kept.queue q
       living_by l n f work q = elim (cases_Bool (is_changed_in c.levels Queue)) [
-        | inl changed ↦ living m laws k x here q ∙ niceless_lives k.objects.things.queue l.kept.queue q work.queue ∙ ap (λ queue. lives queue q) (f.own Queue changed)
-        | inr free ↦ ap (λ queue. lives queue q) (sym (f.other Queue free))
+        | inl changed ↦ living m laws k x here q ∙ niceless_lives k.objects.things.queue l.kept.queue q work.queue ∙ ap (λ queue. lives queue q) (f.own Queue changed).0
+        | inr free ↦ ap (λ queue. lives queue q) (sym (f.other Queue free).0)
       ]
 
   pub laid_config_sound : IsSoundConfig k.world (laid_over x c)

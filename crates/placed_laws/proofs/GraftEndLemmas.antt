@@ -117,7 +117,7 @@ module _ (m : Meaning) (laws : Laws m) (k : Kernel) (w : Objects) (here : IsPlac
   lost_agrees a d (Acct q) same thing = same
   lost_agrees a d (Cell q i) same thing = sym thing ∙ same
   lost_agrees a d (OpenFile q fd) same thing = sym thing ∙ same
-  lost_agrees a d Queue same thing = sym thing ∙ same
+  lost_agrees a d Queue same thing = (sym thing.0 ∙ same.0, sym thing.1 ∙ same.1)
   lost_agrees a d Cache same thing = sym thing ∙ same
   lost_agrees a d (Lock u) same thing = sym thing ∙ same
   lost_agrees a d (Pol i) same thing = sym thing ∙ same

@@ -1,6 +1,8 @@
 -- A state each thing of which is one of a sound state is sound.
 use Rattle.std.specs.Prelude.{◌≡◌, ℕ, is_some, Contains}
 use Rattle.std.proofs.Common.{subst, sym, ap, ◌∙◌}
+use Rattle.std.specs.List.{list_any}
+use Rattle.kernel_model.specs.Handlers.{is_handler, AreHandlers}
 use Rattle.kernel_model.specs.declared.Object.{Object}
 use Rattle.kernel_model.specs.declared.Object.TheVariants.{Graft, Cell, OpenFile, Queue, Cache, Lock, Pol}
 use Rattle.kernel_model.specs.World.{World}
@@ -21,9 +23,9 @@ mixed_sound v s t sound living source =
     record {
       world = sound.world;
       root = sym (living 0) ∙ sound.root;
-      once = λ p. subst (λ queue. count_of p (in_queue queue) ≡ once_if (lives queue p)) (source Queue).same ((source Queue).store.once p);
+      once = λ p. subst (λ queue. count_of p (in_queue queue) ≡ once_if (lives queue p)) (source Queue).same.0 ((source Queue).store.once p);
       numbers = λ p alive. sound.numbers p (living p ∙ alive);
-      nices = λ r among. (source Queue).store.nices r (subst (λ queue. Contains queue r) (sym (source Queue).same) among);
+      nices = λ r among. (source Queue).store.nices r (subst (λ queue. Contains queue r) (sym (source Queue).same.0) among);
       in_use = λ f. subst (λ (c : CacheValue). count_of f c.lru ≡ once_if (is_some (c.frame f))) (source Cache).same ((source Cache).store.in_use f);
       frame_numbers = λ f e. (source Cache).store.frame_numbers f (ap (λ (c : CacheValue). is_some (c.frame f)) (source Cache).same ∙ e);
       one_frame = λ f g x y e h b. (source Cache).store.one_frame f g x y (ap (λ (c : CacheValue). c.frame f) (source Cache).same ∙ e) (ap (λ (c : CacheValue). c.frame g) (source Cache).same ∙ h) b;
@@ -42,6 +44,9 @@ mixed_sound v s t sound living source =
       };
       files = λ p fd o e. (source (OpenFile p fd)).store.files p fd o ((source (OpenFile p fd)).same ∙ e);
       policies = λ kind low. subst (IsSoundPolicy kind) (source (Pol kind)).same ((source (Pol kind)).store.policies kind low);
+      handlers = subst AreHandlers (source Queue).same.1 (source Queue).store.handlers;
+      handlers_live = λ q pt e.
+          sym ((source Queue).living q) ∙ (source Queue).store.handlers_live q pt (ap (λ hs. list_any (is_handler q pt) hs) (source Queue).same.1 ∙ e);
       segs = λ q pt out. sym (source (Graft q pt)).same ∙ (source (Graft q pt)).store.segs q pt out;
       ledgers = sound.ledgers;
     }

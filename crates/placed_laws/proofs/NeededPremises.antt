@@ -1,6 +1,7 @@
 -- Premises of the laws that can't be left out: for each the smallest example in which the law would be false.
 use Rattle.std.specs.Prelude.{◌≡◌, ℕ, ◌==◌, ◌&&◌, true, false, cond, [], ◌∷◌, Some, None}
 use Rattle.std.proofs.Common.{refl}
+use Rattle.kernel_model.specs.Access.{bare_found}
 use Rattle.kernel_model.specs.Boxed.{instr}
 use Rattle.kernel_model.specs.declared.Cause.{Cause}
 use Rattle.kernel_model.specs.declared.Held.{Held}
@@ -59,7 +60,7 @@ asked_beside = begin_at setting one_graft 0 [] (record { installer = 1; point = 
 -- what it records is the installer's, and not the caller's: the cell that process 1 had
 records_are_owners :
     AreOfOwner 1 (micro small_world setting 0 asked_beside).config.levels
-    × (undo_log (micro small_world setting 0 asked_beside).config.levels ≡ (Inverse.Cell 1 0 0 ∷ []) ∷ [])
+    × (undo_log (micro small_world setting 0 asked_beside).config.levels ≡ (bare_found (Inverse.Cell 1 0 0) ∷ []) ∷ [])
 unfolding same_object
 records_are_owners = ((refl, (refl, tt), tt), refl)
 

@@ -7,7 +7,7 @@ use Rattle.kernel_model.specs.declared.Note.TheVariants.{Dropped}
 use Rattle.kernel_model.specs.declared.Object.{Object}
 use Rattle.kernel_model.specs.Objects.{Objects, SameAt, SameThing}
 use Rattle.kernel_model.specs.Policies.{valid}
-use Rattle.kernel_model.specs.Meaning.{Meaning}
+use Rattle.kernel_model.specs.Meaning.{Meaning, bare_answer}
 use Rattle.kernel_model.specs.Levels.{Level, Outcome}
 use Rattle.kernel_model.specs.History.{Mark, Stepped, Trace, fallen, replay}
 use Rattle.kernel_model.specs.Kernel.{Call, Kernel, Run, noted, requeue, with_marks}
@@ -89,7 +89,7 @@ module _ (m : Meaning) (laws : Laws m) (u : Run) (w : Objects) (here : IsPlaced 
       let well = subst (EndsWell m laws v k.objects g.point (λ b. is_changed_in t.config.levels b ≡ false) o) f known.well in
       let fits = here.kernel.fit p c e in
       let standing = call_stands m k p c here.kernel e in
-      let first : IsReady m v k.images s p c.stage (Some answer) =
+      let first : IsReady m v k.images s p c.stage (Some (bare_answer answer)) =
       record {
         standing = stands_on m laws v k.images k.objects s p c.stage standing well.0.store well.0.alike;
         disk = alike_disk v k.objects s well.0.alike here.kernel.state.disk;
@@ -98,10 +98,10 @@ module _ (m : Meaning) (laws : Laws m) (u : Run) (w : Objects) (here : IsPlaced 
       let near = near_after m laws k w here d outcome.near in
       let stands = alike_stands m laws k w here p c e d outcome.store outcome.near in
       let point = point_on m laws v k.images k.objects d p c.stage g.point fits g.asks near stands in
-      let second : IsReady m v k.images d p c.stage (Some answer) =
+      let second : IsReady m v k.images d p c.stage (Some (bare_answer answer)) =
       record { standing = stands; disk = alike_disk v w d outcome.near (fits_disk m laws k w here); right = point.right answer (rightly answer (sym outcome.alike.said ∙ f)) } in
-      finish_stands m laws u w here whole p c (Some answer) s d (base_needs m laws k w here p c e ks marked t leads g)
-      (graft_ends m laws k w here p c e ks marked t leads g (Some answer) s d (near_alike k.objects s well.0.alike) first near second
+      finish_stands m laws u w here whole p c (Some (bare_answer answer)) s d (base_needs m laws k w here p c e ks marked t leads g)
+      (graft_ends m laws k w here p c e ks marked t leads g (Some (bare_answer answer)) s d (near_alike k.objects s well.0.alike) first near second
       (λ b range none. outcome.alike.keeps b (call_same m laws k w here p c e ks marked t leads g b range none)) (frame_ends (known.completes answer f))) sound stable
   said_stands (Micro.Dropped zero q pt cause) f sound stable =
       let k = u.kernel in

@@ -7,7 +7,7 @@ use Rattle.kernel_model.specs.declared.Object.TheVariants.{Graft, Acct, Cell, Op
 use Rattle.kernel_model.specs.declared.Point.{Point}
 use Rattle.kernel_model.specs.World.{World, ImageTable}
 use Rattle.kernel_model.specs.Objects.{Objects, SameAt}
-use Rattle.kernel_model.specs.Policies.{PointKind, Ahead, Victim, Next, kind_of, valid, valid_by}
+use Rattle.kernel_model.specs.Policies.{PointKind, Ahead, Victim, Next, Serve, Stream, kind_of, valid, valid_by}
 use Rattle.kernel_model.specs.Meaning.{Meaning, Stage}
 use Rattle.kernel_model.specs.Sound.{IsSoundStore, IsSoundPolicy}
 use Rattle.kernel_model.specs.Alike.{AgreeOn, AreAlike}
@@ -35,7 +35,7 @@ shown_same s y (Graft q pt) range = (refl, refl)
 shown_same s y (Acct q) range = refl
 shown_same s y (Cell q k) range = refl
 shown_same s y (OpenFile q fd) range = refl
-shown_same s y Queue range = refl
+shown_same s y Queue range = (refl, refl)
 shown_same s y Cache range = refl
 shown_same s y (Lock u) range = refl
 shown_same s y (Pol kind) range = ap (λ b. cond b (y.things.pol kind) (s.things.pol kind)) (low kind range)
@@ -60,6 +60,8 @@ shown_sound v s y h =
       gone = λ p dead. let none = h.gone p dead in record { cells = none.cells; files = none.files; balances = none.balances; spent = none.spent };
       files = h.files;
       policies = λ kind low. subst (IsSoundPolicy kind) (same_back (Pol kind) (shown s y) y (shown_same s y (Pol kind) low)) (h.policies kind low);
+      handlers = h.handlers;
+      handlers_live = h.handlers_live;
       segs = h.segs;
       ledgers = h.ledgers;
     }
@@ -94,6 +96,8 @@ accepted_shown : (k : PointKind) (s y : Objects) (args answer : List ℕ) → ac
 accepted_shown Ahead s y args answer = refl
 accepted_shown Victim s y args answer = refl
 accepted_shown Next s y args answer = refl
+accepted_shown Serve s y args answer = refl
+accepted_shown Stream s y args answer = refl
 
 right_shown : (s y : Objects) (ask : Option Point) (answer : List ℕ) → IsRightAnswer (shown s y) ask (Some answer) → IsRightAnswer y ask (Some answer)
 right_shown s y None answer h = h
@@ -140,3 +144,5 @@ module _ (m : Meaning) (laws : Laws m) (v : World) (images : ImageTable) (s y : 
               valid_by_kind Ahead = refl
               valid_by_kind Victim = refl
               valid_by_kind Next = refl
+              valid_by_kind Serve = refl
+              valid_by_kind Stream = refl

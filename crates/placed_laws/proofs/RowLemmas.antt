@@ -164,7 +164,7 @@ module _ (m : Meaning) (laws : Laws m) (k : Kernel) (w : Objects) (here : IsPlac
   pol_is kind low = ap (λ (y : PolValue). RawRow.Pol kind y.chosen (shown_param kind y)) (here.objects (Pol kind) low)
 
   queue_is : w.things.queue ≡ (in_place m k).things.queue
-  queue_is = here.objects Queue tt
+  queue_is = (here.objects Queue tt).0
 
   cache_is : w.things.cache ≡ (in_place m k).things.cache
   cache_is = here.objects Cache tt

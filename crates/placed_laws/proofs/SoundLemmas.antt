@@ -5,7 +5,7 @@ use Rattle.kernel_model.specs.declared.Cause.{Cause}
 use Rattle.kernel_model.specs.declared.Micro.{Micro}
 use Rattle.kernel_model.specs.declared.Object.TheVariants.{Graft}
 use Rattle.kernel_model.specs.Objects.{Objects, Things}
-use Rattle.kernel_model.specs.Meaning.{Meaning, Stage}
+use Rattle.kernel_model.specs.Meaning.{Meaning, Stage, bare_answer}
 use Rattle.kernel_model.specs.Levels.{Level, Config, drop_level}
 use Rattle.kernel_model.specs.GraftStep.{micro}
 use Rattle.kernel_model.specs.UndoLog.{undo_all}
@@ -68,7 +68,7 @@ module _ (m : Meaning) (laws : Laws m) (k : Kernel) (w : Objects) (here : IsPlac
       alike_ready p c e (micro k.world k.images p (laid_over w f)).config.now work.store work.alike
 
   completed : (p : ℕ) (c : Call) → k.call p ≡ Some c → (f : Config) → config_of m k p ≡ Some f → (answer : List ℕ) → (micro k.world k.images p (laid_over w f)).said ≡ Micro.Completed answer →
-      IsReady m k.world k.images (micro k.world k.images p (laid_over w f)).config.now p c.stage (Some answer)
+      IsReady m k.world k.images (micro k.world k.images p (laid_over w f)).config.now p c.stage (Some (bare_answer answer))
   completed p c e f is answer said =
       let g = grafted m laws k here.kernel p f is in
       let works = instructions_work k.world k.images p w g.point (laid_over w f) (laid_works m laws k w here p f is) in
@@ -153,9 +153,9 @@ ready_in_place m laws =
           let f = config_there m laws k x.objects here p (ap has_some (sym (h.levels p)) ∙ some) in
           let there = placed_is m laws k x.objects here p f.0 f.1 in
           let same = aligned m x k h in
-          subst (λ (y : Placed). IsReady m y.world y.images (micro y.world y.images p (placed_config y p)).config.now p c.stage (Some answer)) (sym same)
-          (subst (λ (z : Config). IsReady m k.world k.images (micro k.world k.images p z).config.now p c.stage (Some answer)) (sym there)
-          (subst (λ t. IsReady m k.world k.images (micro k.world k.images p (laid_over x.objects f.0)).config.now p t (Some answer)) d.2
+          subst (λ (y : Placed). IsReady m y.world y.images (micro y.world y.images p (placed_config y p)).config.now p c.stage (Some (bare_answer answer))) (sym same)
+          (subst (λ (z : Config). IsReady m k.world k.images (micro k.world k.images p z).config.now p c.stage (Some (bare_answer answer))) (sym there)
+          (subst (λ t. IsReady m k.world k.images (micro k.world k.images p (laid_over x.objects f.0)).config.now p t (Some (bare_answer answer))) d.2
           (completed m laws k x.objects here p d.0 d.1 f.0 f.1 answer
           (ap (λ (z : Config). (micro k.world k.images p z).said) (sym there) ∙ ap (λ (y : Placed). (micro y.world y.images p (placed_config y p)).said) (sym same) ∙ said))));
       lost = λ x k p c h e some.

@@ -103,7 +103,7 @@ module _ (m : Meaning) (laws : Laws m) (k : Kernel) (x : Objects) (here : IsPlac
   -- ---- the whole store
 
   pub living : (q : ℕ) → lives x.things.queue q ≡ lives k.objects.things.queue q
-  living q = let f = from Queue tt in ap (λ queue. lives queue q) f.same ∙ sym (niceless_lives k.objects.things.queue f.state.things.queue q f.alike.queue)
+  living q = let f = from Queue tt in ap (λ queue. lives queue q) f.same.0 ∙ sym (niceless_lives k.objects.things.queue f.state.things.queue q f.alike.queue)
 
   pub files : (p : ℕ) → SameFiles p k.objects x
   files p fd = elim (cases_Bool (nat_lt p 16)) [
@@ -132,7 +132,10 @@ module _ (m : Meaning) (laws : Laws m) (k : Kernel) (x : Objects) (here : IsPlac
   chosen kind low = let f = from (Pol kind) low in f.alike.policies kind ∙ ap (λ (y : PolValue). y.chosen) (sym f.same)
 
   pub queue : niceless k.objects.things.queue ≡ niceless x.things.queue
-  queue = let f = from Queue tt in f.alike.queue ∙ ap niceless (sym f.same)
+  queue = let f = from Queue tt in f.alike.queue ∙ ap niceless (sym f.same.0)
+
+  pub handlers : k.objects.things.handlers ≡ x.things.handlers
+  handlers = let f = from Queue tt in f.alike.handlers ∙ sym f.same.1
 
   pub lru : k.objects.things.cache.lru ≡ x.things.cache.lru
   lru = let f = from Cache tt in f.alike.lru ∙ ap (λ (c : CacheValue). c.lru) (sym f.same)
@@ -146,6 +149,7 @@ module _ (m : Meaning) (laws : Laws m) (k : Kernel) (x : Objects) (here : IsPlac
       record {
         files = files;
         queue = queue;
+        handlers = handlers;
         lru = lru;
         frames = frames;
         locks = locks;

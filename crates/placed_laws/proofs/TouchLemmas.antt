@@ -11,7 +11,7 @@ use Rattle.kernel_model.specs.declared.Object.{Object}
 use Rattle.kernel_model.specs.World.{World, ImageTable}
 use Rattle.kernel_model.specs.Objects.{Objects, GraftValue, same_object, with_accounts}
 use Rattle.kernel_model.specs.Machine.{Machine, Done, Called, Returned, Trapped, Outside, PastEnd, seg_step, next_call}
-use Rattle.kernel_model.specs.Access.{Access, Gives, Changes, Refuses, access, early_refusal, is_ask, accessed, asked_point, asked_objects, asked_graft}
+use Rattle.kernel_model.specs.Access.{Access, Gives, Changes, Refuses, access, early_refusal, is_ask, accessed, asked_point, asked_objects, asked_graft, bare_found}
 use Rattle.kernel_model.specs.Policies.{kind_of, default_of, valid}
 use Rattle.kernel_model.specs.Locks.{Touched, stronger, held_as, touch, touch_all}
 use Rattle.kernel_model.specs.Charges.{charge, funds}
@@ -108,7 +108,7 @@ module _ (v : World) (images : ImageTable) (p : ℕ) (o : Object) where
     where
       by_spent : (b : Bool) → HoldAlike o (after_change v w l ls m id result inv things b).config.levels (l ∷ ls)
       by_spent true = fewer v w l l ls SpentRecords o
-      by_spent false = λ e. first_same (record (after_access l m id result) { records = inv ∷ l.records }) l ls o (touch_all_other (accessed id (l.machine.regs 0) l.owner ∷ []) l.touched o h)
+      by_spent false = λ e. first_same (record (after_access l m id result) { records = bare_found inv ∷ l.records }) l ls o (touch_all_other (accessed id (l.machine.regs 0) l.owner ∷ []) l.touched o h)
 
   -- an ask, whose asker touches some objects and level 0 another
   module _ (w : Objects) (l : Level) (ls : List Level) (m : Machine) (pt : ℕ) (ns : List Need) (graft : Need) (apart : (is_needed o ns ≡ false) × (same_object o graft.object ≡ false)) where

@@ -20,7 +20,7 @@ use Rattle.history_laws.proofs.SoundCallLemmas.{each_contains, contains_first, c
 use Rattle.placed_laws.proofs.LevelLemmas.{relaid, relaid_alike}
 use Rattle.placed_laws.proofs.GraftedLemmas.{Grafted, grafted}
 use Rattle.placed_laws.proofs.PairLemmas.{FoundAs}
-use Rattle.placed_laws.proofs.SourceLemmas.{IsPlaced, shown, files, queue, lru, frames, locks, chosen}
+use Rattle.placed_laws.proofs.SourceLemmas.{IsPlaced, shown, files, queue, lru, frames, locks, chosen, handlers}
 use Rattle.placed_laws.proofs.ConfigLemmas.{laid_over, laid_config_sound, of_found, found_works}
 
 -- the same level is asked
@@ -48,6 +48,7 @@ module _ (m : Meaning) (laws : Laws m) (k : Kernel) (x : Objects) (here : IsPlac
       record {
         files = λ p fd. files m laws k x here p fd ∙ alike.files p fd;
         queue = queue m laws k x here ∙ alike.queue;
+        handlers = handlers m laws k x here ∙ alike.handlers;
         lru = lru m laws k x here ∙ alike.lru;
         frames = λ i. frames m laws k x here i ∙ alike.frames i;
         locks = λ u. locks m laws k x here u ∙ alike.locks u;
@@ -81,8 +82,12 @@ module _ (m : Meaning) (laws : Laws m) (k : Kernel) (x : Objects) (here : IsPlac
                 | inr free ↦ ap windowless (sym (f.other (OpenFile q fd) free))
               ];
               queue = elim (cases_Bool (is_changed_in c.levels Queue)) [
-                | inl changed ↦ sym (queue m laws k x here) ∙ work.queue ∙ ap niceless (f.own Queue changed)
-                | inr free ↦ ap niceless (sym (f.other Queue free))
+                | inl changed ↦ sym (queue m laws k x here) ∙ work.queue ∙ ap niceless (f.own Queue changed).0
+                | inr free ↦ ap niceless (sym (f.other Queue free).0)
+              ];
+              handlers = elim (cases_Bool (is_changed_in c.levels Queue)) [
+                | inl changed ↦ sym (handlers m laws k x here) ∙ work.handlers ∙ (f.own Queue changed).1
+                | inr free ↦ sym (f.other Queue free).1
               ];
               lru = elim (cases_Bool (is_changed_in c.levels Cache)) [
                 | inl changed ↦ sym (lru m laws k x here) ∙ work.lru ∙ ap (λ (y : CacheValue). y.lru) (f.own Cache changed)

@@ -25,7 +25,7 @@ IsOwn q (Tune kind k v) = ⊤
 -- the same of each of some records (by recursion, so that it computes)
 abbrev pub AreOwn : ℕ → List Found → Type 0
 AreOwn q [] = ⊤
-AreOwn q (i ∷ is) = IsOwn q i × AreOwn q is
+AreOwn q (i ∷ is) = IsOwn q i.inverse × AreOwn q is
 
 -- levels and their records are all of this owner (by recursion, so that it computes)
 abbrev pub AreOfOwner : ℕ → List Level → Type 0

@@ -7,7 +7,7 @@ use Rattle.kernel_model.specs.declared.Note.TheVariants.{Dropped, Ticked}
 use Rattle.kernel_model.specs.declared.Point.{Point}
 use Rattle.kernel_model.specs.World.{ImageTable}
 use Rattle.kernel_model.specs.Objects.{Objects, GraftValue, at}
-use Rattle.kernel_model.specs.Meaning.{Meaning, Piece, After, Continues, EndsWith, Fails}
+use Rattle.kernel_model.specs.Meaning.{Meaning, Piece, After, Continues, EndsWith, Fails, Answer, bare_answer}
 use Rattle.kernel_model.specs.Levels.{Config, Outcome, drop_level}
 use Rattle.kernel_model.specs.GraftStep.{micro}
 use Rattle.kernel_model.specs.History.{begin_at}
@@ -86,7 +86,7 @@ module _ (m : Meaning) where
   -- ---- one step
 
   -- the piece of a call on a state, with an answer or by default
-  abbrev pub placed_finish_on : ℕ → PlacedCall → Objects → Option (List ℕ) → PlacedRun → PlacedRun
+  abbrev pub placed_finish_on : ℕ → PlacedCall → Objects → Option Answer → PlacedRun → PlacedRun
   placed_finish_on p c s answer r = placed_finish p c (m.piece r.placed.world r.placed.images s r.blocks p c.stage answer r.io) r
 
   -- a piece that asks a point: a level begins where a graft stands there, else the default finishes the piece
@@ -109,7 +109,7 @@ module _ (m : Meaning) where
   abbrev pub placed_after_outcome : ℕ → PlacedCall → Config → Micro → PlacedRun → PlacedRun
   placed_after_outcome p c f Micro.Went r = with_config p f r
   placed_after_outcome p c f (Micro.Blocked object holder by_user) r = r
-  placed_after_outcome p c f (Micro.Completed answer) r = placed_finish_on p c f.now (Some answer) r
+  placed_after_outcome p c f (Micro.Completed answer) r = placed_finish_on p c f.now (Some (bare_answer answer)) r
   placed_after_outcome p c f (Micro.Dropped d q pt cause) r =
       placed_after_drop p c f d (placed_noted (Dropped c.number q pt cause) r)
 

@@ -2,7 +2,7 @@
 use Rattle.std.specs.Prelude.{◌≡◌, ◌<◌, ℕ, true, List, length, Some, None}
 use Rattle.kernel_model.specs.declared.Cause.{Cause}
 use Rattle.kernel_model.specs.declared.Micro.{Micro}
-use Rattle.kernel_model.specs.Meaning.{Meaning}
+use Rattle.kernel_model.specs.Meaning.{Meaning, bare_answer}
 use Rattle.kernel_model.specs.Levels.{drop_level}
 use Rattle.kernel_model.specs.GraftStep.{micro}
 use Rattle.kernel_model.specs.Kernel.{Kernel, Run}
@@ -27,7 +27,7 @@ pub record ReadyInPlace (m : Meaning) : Type 0 where
   pub at_once : (x : Placed) (k : Kernel) (p : ℕ) (c : PlacedCall) → StandsFor m x k → x.call p ≡ Some c → IsReady m x.world x.images x.objects p c.stage None
   pub completed : (x : Placed) (k : Kernel) (p : ℕ) (c : PlacedCall) (answer : List ℕ) → StandsFor m x k → x.call p ≡ Some c → has_some (x.levels p) ≡ true →
       (micro x.world x.images p (placed_config x p)).said ≡ Micro.Completed answer →
-      IsReady m x.world x.images (micro x.world x.images p (placed_config x p)).config.now p c.stage (Some answer)
+      IsReady m x.world x.images (micro x.world x.images p (placed_config x p)).config.now p c.stage (Some (bare_answer answer))
   pub lost : (x : Placed) (k : Kernel) (p : ℕ) (c : PlacedCall) → StandsFor m x k → x.call p ≡ Some c → has_some (x.levels p) ≡ true →
       IsReady m x.world x.images (micro x.world x.images p (placed_config x p)).config.now p c.stage None
   pub dropped : (x : Placed) (k : Kernel) (p : ℕ) (c : PlacedCall) (d : ℕ) (cause : Cause) → StandsFor m x k → x.call p ≡ Some c → d < length (x.levels p) →
