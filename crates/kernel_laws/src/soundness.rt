@@ -1,6 +1,7 @@
 //! Laws of what keeps states sound. A call of one brings its statement into a proof.
 
 ghost use Rattle.kernel_model.specs.Claims.{ChangesWhatIsHeld, ConfigsStaySound, EffectsStaySound, MoreImages};
+ghost use Rattle.kernel_model.specs.Laws.{RefusalsChangeNothing};
 ghost use Rattle.kernel_laws.specs.Soundness.{OpeningIsSound, OpeningKernelIsSound, PiecesStaySound, InstructionsWork, HistoriesWork, DropsStaySound};
 
 use kernel_model::Rules;
@@ -18,6 +19,12 @@ pub fn opening_kernel_is_sound<R: Rules>()
 /// A piece of a sound state, over whole blocks, leaves a sound state and whole blocks.
 pub fn pieces_stay_sound<R: Rules>()
     ensures { PiecesStaySound R.meaning }
+{}
+
+/// A piece that is refused changes neither the state nor the disk's blocks, but for a `sync`, which
+/// keeps what it wrote.
+pub fn refusals_change_nothing<R: Rules>()
+    ensures { RefusalsChangeNothing R.meaning }
 {}
 
 /// An instruction of a graft call keeps sound what the call works on, the working state and what each level found, changes

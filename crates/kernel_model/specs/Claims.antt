@@ -2,18 +2,16 @@
 use Rattle.std.specs.Prelude.{◌≡◌, ◌≢◌, ℕ, suc, ◌+◌, ◌*◌, ◌<◌, ◌≤◌, Bool, true, false, List, [], Contains, Option, Some, None, is_some, Ok, ⊤, ◌⊎◌}
 use Rattle.kernel_model.specs.declared.Instr.{Instr}
 use Rattle.kernel_model.specs.declared.Object.{Object}
-use Rattle.kernel_model.specs.declared.SysCall.TheVariants.{Sync}
-use Rattle.kernel_model.specs.declared.Refusal.{Refusal}
 use Rattle.kernel_model.specs.declared.Cause.{Cause}
 use Rattle.kernel_model.specs.declared.Kind.{Kind}
 use Rattle.kernel_model.specs.declared.Micro.{Micro}
-use Rattle.kernel_model.specs.World.{World, ImageTable, Blocks}
+use Rattle.kernel_model.specs.World.{World, ImageTable}
 use Rattle.kernel_model.specs.Objects.{Objects, Accounts, SameAt}
 use Rattle.kernel_model.specs.Machine.{Machine, Done, Went, Called, Outside, PastEnd, segment_base, seg_step, flat_step}
 use Rattle.kernel_model.specs.Boxed.{IsBoxed, IsInside, boxed_place, rewrite}
 use Rattle.kernel_model.specs.Runs.{CodeRun, first_run, raw_run, boxed_run, on_segment, done_on_segment}
 use Rattle.kernel_model.specs.Charges.{funds, charge, removed}
-use Rattle.kernel_model.specs.Meaning.{Meaning, Stage, Answer, Fails}
+use Rattle.kernel_model.specs.Meaning.{Meaning, Stage}
 use Rattle.kernel_model.specs.Levels.{Config, Effect, Outcome, drop_level}
 use Rattle.kernel_model.specs.GraftStep.{micro}
 use Rattle.kernel_model.specs.History.{Mark, Trace, effect, replay, fallen}
@@ -21,7 +19,6 @@ use Rattle.kernel_model.specs.Kernel.{Call, Kernel, Run}
 use Rattle.kernel_model.specs.Blocking.{config_in, config_of, levels_of, blocker}
 use Rattle.kernel_model.specs.Settle.{step, settled}
 use Rattle.kernel_model.specs.Events.{expired, tick_event, drop_call}
-use Rattle.kernel_model.specs.Pieces.{plain}
 use Rattle.kernel_model.specs.InPlace.{Cut, is_changed_in, in_place, undone, store_below}
 use Rattle.kernel_model.specs.Sound.{ledger, ImagesAreLoaded, IsSoundStore, IsSoundConfig, IsSoundKernel, IsAtRest, HasWholeBlocks, count_of}
 use Rattle.kernel_model.specs.Alike.{ConfigsAlike, Extends}
@@ -63,15 +60,6 @@ Rewriting =
     let first = first_run (segment_base slot) segment args answers in
     let raw = raw_run code n first in
     HasComeAsFar code raw (boxed_run boxed (n + 2 * raw.accesses) first)
-
--- ---- the calls of the table
-
--- after a refusal the state and the disk are as before; a `sync` of which a call of the disk failed keeps what it wrote
-abbrev pub RefusalsChangeNothing : Type 0
-RefusalsChangeNothing =
-    (v : World) (images : ImageTable) (s : Objects) (blocks : Blocks) (p : ℕ) (t : Stage) (answer : Option Answer) (io : List Bool) (why : Refusal) →
-    t.call ≢ Sync → (plain.piece v images s blocks p t answer io).after ≡ Fails why →
-    ((plain.piece v images s blocks p t answer io).objects ≡ s) × ((plain.piece v images s blocks p t answer io).blocks ≡ blocks)
 
 -- ---- amounts
 

@@ -7,7 +7,8 @@ use Rattle.kernel_model.specs.declared.Point.{Point}
 use Rattle.kernel_model.specs.declared.Object.{Object}
 use Rattle.kernel_model.specs.declared.Object.TheVariants.{Graft, Acct, Cell, OpenFile, Queue, Cache, Lock, Pol}
 use Rattle.kernel_model.specs.declared.SysCall.{SysCall}
-use Rattle.kernel_model.specs.declared.SysCall.TheVariants.{TakeLock}
+use Rattle.kernel_model.specs.declared.SysCall.TheVariants.{Sync, TakeLock}
+use Rattle.kernel_model.specs.declared.Refusal.{Refusal}
 use Rattle.kernel_model.specs.declared.Refusal.TheVariants.{DiskFault}
 use Rattle.kernel_model.specs.declared.QueueRow.{QueueRow}
 use Rattle.kernel_model.specs.World.{World, ImageTable, Blocks}
@@ -210,6 +211,13 @@ module _ (m : Meaning) where
         IsReady m v images s p t answer → IsInRange o → m.asks v s p t ≡ Some a →
         is_needed_exclusively o (before_point s a (m.need v s p t)) ≡ false → SameAt o (m.piece v images s blocks p t answer io).objects s
 
+  -- A piece that is refused changes neither the state nor the disk's blocks, but for a `sync`, which keeps what it wrote.
+  abbrev pub RefusalsChangeNothing : Type 0
+  RefusalsChangeNothing =
+      (v : World) (images : ImageTable) (s : Objects) (blocks : Blocks) (p : ℕ) (t : Stage) (answer : Option Answer) (io : List Bool) (why : Refusal) →
+      t.call ≢ Sync → (m.piece v images s blocks p t answer io).after ≡ Fails why →
+      ((m.piece v images s blocks p t answer io).objects ≡ s) × ((m.piece v images s blocks p t answer io).blocks ≡ blocks)
+
   -- What a piece keeps, and what it may do but once.
   pub record PieceLaws : Type 0 where
     -- a sound store stays sound
@@ -221,6 +229,8 @@ module _ (m : Meaning) where
     -- what fits the disk still fits
     pub disk : (v : World) (images : ImageTable) (s : Objects) (blocks : Blocks) (p : ℕ) (t : Stage) (answer : Option Answer) (io : List Bool) →
         IsReady m v images s p t answer → FitsDisk v (m.piece v images s blocks p t answer io).objects.things.cache
+    -- a refusal changes nothing
+    pub refused : RefusalsChangeNothing
     -- blocks stay whole
     pub whole_blocks : (v : World) (images : ImageTable) (s : Objects) (blocks : Blocks) (p : ℕ) (t : Stage) (answer : Option Answer) (io : List Bool) →
         IsReady m v images s p t answer → HasWholeBlocks v blocks → HasWholeBlocks v (m.piece v images s blocks p t answer io).blocks

@@ -7,6 +7,7 @@ use Rattle.plain_rules.specs.GrantedCalls.{piece_ready}
 use Rattle.plain_rules.specs.KeepingGrafts.{one_graft_by, graft_ends_by, images_loaded_by}
 use Rattle.plain_rules.specs.KeepingQueue.{keeps_living, keeps_slices}
 use Rattle.plain_rules.specs.KeepingDisk.{disk_by}
+use Rattle.plain_rules.specs.Refusals.{refused_by}
 use Rattle.plain_rules.specs.KeepingStore.{store_by}
 
 -- the laws of what pieces keep
@@ -20,6 +21,7 @@ pieces_of_plain top most = record {
     files = ready.disk.files;
     frames = (disk_by t.call t.piece v images s blocks p (registers_of answer) io (piece_ready top v images s p t answer most ready)).fits ready.disk.frames;
   };
+  refused = λ v images s blocks p t answer io why ne e. refused_by t.call t.piece v s blocks p (registers_of answer) io why ne e;
   whole_blocks = λ v images s blocks p t answer io ready whole. (disk_by t.call t.piece v images s blocks p (registers_of answer) io (piece_ready top v images s p t answer most ready)).whole whole;
   others_live = λ v images s blocks p q t answer io ready other alive. (keeps_living t.call t.piece v s blocks p (registers_of answer) io).others q other alive;
   caller_lives = λ v images s blocks p t answer io ready goes. (keeps_living t.call t.piece v s blocks p (registers_of answer) io).caller goes ready.standing.caller;

@@ -43,5 +43,6 @@ pub mod Syncs
 pub mod KeepingDisk
 pub mod GrantedCalls
 pub mod KeepingStore
+pub mod Refusals
 pub mod Keeping
 pub mod PlainLaws
