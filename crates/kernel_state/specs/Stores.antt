@@ -7,7 +7,7 @@ use Rattle.kernel_model.specs.declared.FileRow.{FileRow}
 use Rattle.kernel_model.specs.declared.OpenRow.{OpenRow}
 use Rattle.kernel_model.specs.declared.QueueRow.{QueueRow}
 use Rattle.kernel_model.specs.World.{World, file_row}
-use Rattle.kernel_model.specs.Objects.{Objects, Accounts, Things, CacheValue, FrameValue, PolValue}
+use Rattle.kernel_model.specs.Objects.{Objects, Accounts, Things, CacheValue, FrameValue, PolValue, nothing_kept}
 use Rattle.kernel_model.specs.Directory.{lies_on_disk}
 use Rattle.kernel_model.specs.Sound.{IsSoundFile}
 use Rattle.process_table.specs.Processes.{Processes, processes_of}
@@ -35,12 +35,21 @@ world_for u size directory =
       callable = LAST_CALLABLE;
     }
 
--- the objects of these accounts, processes, cache and policies
+-- the objects of these accounts, processes, cache and policies: nothing is kept for any graft
 abbrev pub objects_with : Accounts → Processes → CacheValue → (ℕ → PolValue) → Objects
 objects_with accounts s cache pol =
     record {
       accounts = accounts;
-      things = record { cell = s.cell; file = s.file; queue = s.queue; cache = cache; lock = s.lock; pol = pol };
+      things = record {
+        cell = s.cell;
+        file = s.file;
+        queue = s.queue;
+        cache = cache;
+        lock = s.lock;
+        pol = pol;
+        seg = λ q pt. nothing_kept;
+        handlers = s.handlers;
+      };
     }
 
 -- the queue with a process that has just joined, if one has

@@ -4,8 +4,7 @@ use Rattle.std.specs.List.{list_any, list_all}
 use Rattle.std.proofs.lemmas.Bool.Decides.{nat_tests}
 use Rattle.std.proofs.lemmas.List.Elements.{filter-append}
 use Rattle.std.proofs.lemmas.List.Folds.{list_all-append}
-use Rattle.kernel_model.specs.Queue.{is_handler, handlers_at, handlers_without, has_room}
-use Rattle.process_table.specs.Processes.{AreHandlers}
+use Rattle.kernel_model.specs.Handlers.{is_handler, handlers_at, handlers_without, has_room, AreHandlers, handlers_pass}
 use Rattle.process_table.proofs.Lists.{length-below}
 
 -- a point of a handler
@@ -16,18 +15,6 @@ is_point h = nat_le 6 h.1 && nat_le h.1 13
 length-twice : (p q : ℕ × ℕ → Bool) (hs : List (ℕ × ℕ)) → length (filter p (filter q hs)) ≤ length (filter p hs)
 length-twice p q [] = omega arith
 length-twice p q (h ∷ hs) = grind (arith, length-twice p q hs)
-
-points-filter : (p : ℕ × ℕ → Bool) (hs : List (ℕ × ℕ)) → list_all is_point hs ≡ true → list_all is_point (filter p hs) ≡ true
-points-filter p [] h = refl
-points-filter p (x ∷ hs) h = grind (arith, nat_tests, points-filter p hs)
-
--- handlers are taken out
-pub filtered : (p : ℕ × ℕ → Bool) (hs : List (ℕ × ℕ)) → AreHandlers hs → AreHandlers (filter p hs)
-filtered p hs h = record {
-  once = λ q pt. omega (arith, length-twice (is_handler q pt) p hs, h.once q pt);
-  points = points-filter p hs h.points;
-  most = λ pt. omega (arith, length-twice (λ (x : ℕ × ℕ). x.1 == pt) p hs, h.most pt);
-}
 
 -- a handler that was taken out doesn't stand
 gone : (q pt : ℕ) (hs : List (ℕ × ℕ)) → length (filter (is_handler q pt) (handlers_without q pt hs)) ≡ 0
@@ -51,14 +38,14 @@ within (h ∷ hs) k all some = grind (arith, nat_tests, within hs k)
 -- where a handler has room, fewer than 64 others stand
 pub room : (q pt : ℕ) (hs : List (ℕ × ℕ)) → 6 ≤ pt → pt ≤ 13 → has_room q pt hs ≡ true → AreHandlers hs → length (handlers_without q pt hs) < 64
 room q pt hs low high has h =
-    let kept = filtered (λ x. not (is_handler q pt x)) hs h in
+    let kept = handlers_pass (λ x. not (is_handler q pt x)) hs h in
     length-below (λ (x : ℕ × ℕ). x.1) (handlers_without q pt hs) 6 8 8 pt (λ k some. within (handlers_without q pt hs) k kept.points some) kept.most low (omega arith)
     (room-at q pt hs has h)
 
 -- a handler is put last
 pub added : (q pt : ℕ) (hs : List (ℕ × ℕ)) → 6 ≤ pt → pt ≤ 13 → has_room q pt hs ≡ true → AreHandlers hs → AreHandlers (handlers_without q pt hs ++ (q, pt) ∷ [])
 added q pt hs low high has h =
-    let kept = filtered (λ x. not (is_handler q pt x)) hs h in
+    let kept = handlers_pass (λ x. not (is_handler q pt x)) hs h in
     record {
       once = λ r pu. rw filter-append (rw length-append (grind (arith, nat_tests, gone q pt hs, kept.once r pu)));
       points = rw list_all-append (grind (arith, nat_tests, kept.points));

@@ -1,5 +1,5 @@
 -- Lemmas on the arrays: what always holds of them stays.
-use Rattle.std.proofs.Common.{◌≡◌, ◌≢◌, ℕ, ◌+◌, ◌*◌, ◌<◌, true, cond, Option, None, List, [], ◌∷◌, length, filter, map, not, ◌==◌, get_or, set, refl, arith, ◌∙◌, IfSome}
+use Rattle.std.proofs.Common.{◌≡◌, ◌≢◌, ℕ, ◌+◌, ◌*◌, ◌<◌, true, cond, Option, None, List, [], ◌∷◌, length, map, not, ◌==◌, get_or, set, refl, arith, ◌∙◌, IfSome}
 use Rattle.std.proofs.lemmas.Bool.Decides.{nat_tests}
 use Rattle.std.proofs.lemmas.Grind.{common_steps}
 use Rattle.std.proofs.lemmas.List.{get_or-set_same, get_or-set_other}
@@ -7,9 +7,9 @@ use Rattle.std.proofs.Math.ListN.{length-set, get_or-map}
 use Rattle.kernel_model.specs.declared.QueueRow.{QueueRow}
 use Rattle.kernel_model.specs.declared.OpenRow.{OpenRow}
 use Rattle.kernel_model.specs.Queue.{is_living, new_row, queue_without, freed_by}
-use Rattle.process_table.specs.Processes.{Table, IsTable, IsQueue, AreHandlers, is_of}
+use Rattle.kernel_model.specs.Handlers.{AreHandlers, handlers_without_process, handlers_pass}
+use Rattle.process_table.specs.Processes.{Table, IsTable, IsQueue, is_of}
 use Rattle.process_table.proofs.Queue.{opening-queue, without-queue, living-without}
-use Rattle.process_table.proofs.Handlers.{filtered}
 
 -- the queue changes, and whoever lived lives
 pub requeued : (t : Table) (rows : List QueueRow) → IsTable t → IsQueue rows → ((q : ℕ) → is_living q t.queue ≡ true → is_living q rows ≡ true)
@@ -105,7 +105,7 @@ pub left : (t : Table) (p : ℕ) (cells : List ℕ) (files : List (Option OpenRo
       cells = cells;
       files = files;
       holders = map (freed_by p) t.holders;
-      handlers = filter (λ (h : ℕ × ℕ). not (h.0 == p)) t.handlers;
+      handlers = handlers_without_process p t.handlers;
     })
 left t p cells files pos long wide cleared closed h = record {
   cells = long;
@@ -118,7 +118,7 @@ left t p cells files pos long wide cleared closed h = record {
     locks = λ u q held.
         let freed = get_or-map (freed_by p) t.holders u None in
         grind (arith, nat_tests, h.sound.locks u q, living-without q p t.queue);
-    handlers = filtered (λ (x : ℕ × ℕ). not (x.0 == p)) t.handlers h.sound.handlers;
+    handlers = handlers_pass (λ (x : ℕ × ℕ). not (x.0 == p)) t.handlers h.sound.handlers;
   };
 }
 

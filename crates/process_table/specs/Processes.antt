@@ -1,9 +1,10 @@
 -- The living processes with their cells, files, user locks and handlers: as arrays, and as the kernel's state sees them.
-use Rattle.std.specs.Prelude.{◌≡◌, ℕ, ◌+◌, ◌*◌, ◌<◌, ◌≤◌, Bool, true, false, cond, not, ◌&&◌, ◌==◌, nat_lt, nat_le, List, [], ◌∷◌, ◌++◌, length, filter, slice_index, slice_index_or, Option, Some, None}
+use Rattle.std.specs.Prelude.{◌≡◌, ℕ, ◌+◌, ◌*◌, ◌<◌, ◌≤◌, Bool, true, false, cond, ◌&&◌, ◌==◌, nat_lt, nat_le, List, [], ◌∷◌, ◌++◌, length, filter, slice_index, slice_index_or, Option, Some, None}
 use Rattle.std.specs.List.{list_all}
 use Rattle.kernel_model.specs.declared.QueueRow.{QueueRow}
 use Rattle.kernel_model.specs.declared.OpenRow.{OpenRow}
-use Rattle.kernel_model.specs.Queue.{is_living, new_row, queue_without, freed_by, is_handler, handlers_at}
+use Rattle.kernel_model.specs.Queue.{is_living, new_row, queue_without, freed_by}
+use Rattle.kernel_model.specs.Handlers.{AreHandlers, handlers_without_process}
 
 -- the arrays
 pub record Table : Type 0 where
@@ -77,7 +78,7 @@ without p s =
       cell = λ q k. cond (q == p) 0 (s.cell q k);
       file = λ q fd. cond (q == p) None (s.file q fd);
       lock = λ u. freed_by p (s.lock u);
-      handlers = filter (λ (h : ℕ × ℕ). not (h.0 == p)) s.handlers;
+      handlers = handlers_without_process p s.handlers;
     }
 
 -- ---- what always holds
@@ -88,12 +89,6 @@ pub record IsQueue (rows : List QueueRow) : Type 0 where
   pub below : (p : ℕ) → is_living p rows ≡ true → p < 16
   pub nices : list_all (λ (r : QueueRow). nat_le r.nice 39) rows ≡ true
   pub root : is_living 0 rows ≡ true
-
--- the handlers: each once, at points 6 to 13, at most 8 at each
-pub record AreHandlers (handlers : List (ℕ × ℕ)) : Type 0 where
-  pub once : (q pt : ℕ) → length (filter (is_handler q pt) handlers) ≤ 1
-  pub points : list_all (λ (h : ℕ × ℕ). nat_le 6 h.1 && nat_le h.1 13) handlers ≡ true
-  pub most : (pt : ℕ) → length (handlers_at pt handlers) ≤ 8
 
 -- what always holds of the processes: what isn't living has nothing
 pub record IsSound (s : Processes) : Type 0 where

@@ -3,7 +3,8 @@
 ghost use Rattle.std.specs.Prelude.{◌≡◌, ℕ, ◌+◌, ◌*◌, ◌<◌, ◌≤◌, ◌==◌, true, cond, not, length, map, filter, IfSome, IfNone, slice_index, slice_index_or, None, [], ◌∷◌, ◌++◌};
 ghost use Rattle.std.specs.List.{list_any};
 ghost use Rattle.kernel_model.specs.declared.QueueRow.{QueueRow as Row};
-ghost use Rattle.kernel_model.specs.Queue.{is_living, free_number, IsLeastFree, new_row, queue_without, queue_to_back, with_nice, with_slice, one_more_slice, freed_by, is_handler, handlers_at, handlers_without, has_room};
+ghost use Rattle.kernel_model.specs.Queue.{is_living, free_number, IsLeastFree, new_row, queue_without, queue_to_back, with_nice, with_slice, one_more_slice, freed_by};
+ghost use Rattle.kernel_model.specs.Handlers.{is_handler, handlers_at, handlers_without, handlers_without_process, has_room};
 ghost use Rattle.process_table.specs.Processes.{is_of};
 
 use arrayvec::ArrayVec;
@@ -254,7 +255,7 @@ pub(crate) fn remove_handler(handlers: &mut ArrayVec<(u8, u8), HANDLERS>, q: u8,
 
 /// Takes out the handlers of a process.
 pub(crate) fn remove_handlers(handlers: &mut ArrayVec<(u8, u8), HANDLERS>, p: u8)
-    ensures { handlers.new.items ≡ filter (λ (h : ℕ × ℕ). not (h.0 == p)) handlers.old.items }
+    ensures { handlers.new.items ≡ handlers_without_process p handlers.old.items }
 {
     handlers.retain(|h| h.0 != p);
 }

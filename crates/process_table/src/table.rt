@@ -1,7 +1,8 @@
 //! `Procs`.
 
 ghost use Rattle.std.specs.Prelude.{◌≡◌, ◌+◌, ◌*◌, ◌<◌, ◌≤◌, ℕ, true, length, IfSome, IfNone, IsTrue};
-ghost use Rattle.kernel_model.specs.Queue.{is_living, free_number, IsLeastFree, queue_to_back, with_nice, with_slice, has_room, handlers_with, handlers_without};
+ghost use Rattle.kernel_model.specs.Queue.{is_living, free_number, IsLeastFree, queue_to_back, with_nice, with_slice};
+ghost use Rattle.kernel_model.specs.Handlers.{has_room, handlers_with, handlers_without};
 ghost use Rattle.kernel_model.specs.Objects.{at, at2};
 
 use crate::arrays::{

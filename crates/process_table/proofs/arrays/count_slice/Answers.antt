@@ -1,4 +1,4 @@
-use Rattle.std.proofs.Common.{arith, cond, ◌==◌, ◌+◌}
+use Rattle.std.proofs.Common.{arith, cond, ◌==◌}
 use Rattle.kernel_model.specs.declared.QueueRow.{QueueRow}
 use Rattle.kernel_model.specs.Queue.{one_more_slice}
 use Rattle.process_table.proofs.Lists.{map_step}

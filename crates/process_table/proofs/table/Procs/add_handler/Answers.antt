@@ -1,5 +1,5 @@
 use Rattle.std.proofs.Common.{◌≡◌, true, sym, ◌∙◌}
-use Rattle.kernel_model.specs.Queue.{has_room}
+use Rattle.kernel_model.specs.Handlers.{has_room}
 use Rattle.process_table.proofs.Handlers.{added, room}
 use Rattle.process_table.proofs.Tables.{handled}
 use Rattle.process_table.proofs.table.Procs.add_handler.Goals as goal

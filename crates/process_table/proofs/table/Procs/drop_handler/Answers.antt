@@ -1,6 +1,6 @@
-use Rattle.process_table.proofs.Handlers.{filtered}
+use Rattle.kernel_model.specs.Handlers.{handlers_pass}
 use Rattle.process_table.proofs.Tables.{handled}
 use Rattle.process_table.proofs.table.Procs.drop_handler.Goals as goal
 
 pub invariant_of-self : goal.invariant_of-self
-invariant_of-self c = rw c.remove_handler.ensures (handled _ _ c.self.invariant (filtered _ _ c.self.invariant.sound.handlers))
+invariant_of-self c = rw c.remove_handler.ensures (handled _ _ c.self.invariant (handlers_pass _ _ c.self.invariant.sound.handlers))
