@@ -1,7 +1,8 @@
 -- The undo log of a call: its records by level, and what undoing them gives.
 use Rattle.std.specs.Prelude.{ℕ, List, [], ◌∷◌, ◌++◌, true, false, nat_le, length, map}
+use Rattle.kernel_model.specs.declared.Inverse.{Inverse}
 use Rattle.kernel_model.specs.Objects.{Objects, Things}
-use Rattle.kernel_model.specs.Access.{Found, undo}
+use Rattle.kernel_model.specs.Access.{Found, bare_found, undo}
 use Rattle.kernel_model.specs.Levels.{Level}
 
 -- the undo log: the records of each level, innermost level first, newest first within a level
@@ -22,12 +23,16 @@ abbrev pub kept_by_log : Things → List (List Found) → List Things
 kept_by_log w [] = []
 kept_by_log w (is ∷ log) = let kept = undo_all is w in kept ∷ kept_by_log kept log
 
+-- the log of records that are inverses alone
+abbrev pub found_log : List (List Inverse) → List (List Found)
+found_log log = map (map bare_found) log
+
 -- the records with the number of the level that owns each, newest first
-abbrev pub numbered_log : List (List Found) → List (ℕ × Found)
+abbrev pub numbered_log : {A : Type 0} → List (List A) → List (ℕ × A)
 numbered_log [] = []
 numbered_log (is ∷ log) = map (λ i. (length log, i)) is ++ numbered_log log
 
 -- the records of level d and of those further inward, newest first
-abbrev pub records_from : ℕ → List (List Found) → List Found
+abbrev pub records_from : {A : Type 0} → ℕ → List (List A) → List A
 records_from d [] = []
 records_from d (is ∷ log) = elim (nat_le d (length log)) [ true ↦ is ++ records_from d log | false ↦ [] ]

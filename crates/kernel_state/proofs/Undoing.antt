@@ -7,7 +7,7 @@ use Rattle.kernel_model.specs.declared.Inverse.{Inverse}
 use Rattle.kernel_model.specs.declared.Inverse.TheVariants.{Cell, Nice, Window, Mark, Tune}
 use Rattle.kernel_model.specs.declared.Cause.{Cause}
 use Rattle.kernel_model.specs.declared.OpenRow.{OpenRow}
-use Rattle.kernel_model.specs.Access.{Callable, CellGet, CellSet, NiceGet, NiceSet, WindowGet, WindowSet, FramesMine, FrameAt, FrameBlock, FrameMark, TuneGet, TuneSet, TakeLock, access, access_by, callable, own_frame, window_change, with_window, with_mark, with_param, set_cell, set_nice, set_window, set_mark, set_param, in_range, param_top, tune_change, chosen_param, found_by, undo, Access as Accessed, Gives, Changes, Refuses}
+use Rattle.kernel_model.specs.Access.{Callable, CellGet, CellSet, NiceGet, NiceSet, WindowGet, WindowSet, FramesMine, FrameAt, FrameBlock, FrameMark, TuneGet, TuneSet, TakeLock, access, access_by, callable, own_frame, window_change, with_window, with_mark, with_param, set_cell, set_nice, set_window, set_mark, set_param, in_range, param_top, tune_change, chosen_param, bare_found, undo, Access as Accessed, Gives, Changes, Refuses}
 use Rattle.kernel_model.specs.Objects.{Things, FrameValue, PolValue}
 use Rattle.kernel_model.specs.Policies.{frames_of}
 use Rattle.kernel_state.specs.declared.Access.{Access}
@@ -77,7 +77,7 @@ keeps_param n x (Tune kind k v) w h =
     (h.0, ap (λ j. in_range (param_top kind j) k v) (same_chosen (kind == n) x (w.pol n) (w.pol kind) (λ is. let one : kind ≡ n = grind (arith, nat_tests, is) in ap (λ m. w.pol m) (sym one))) ∙ h.1)
 
 -- another record is undone
-pub kept_by_undo : (j i : Inverse) (w : Things) → CanBeUndone i w → CanBeUndone i (undo (found_by j) w)
+pub kept_by_undo : (j i : Inverse) (w : Things) → CanBeUndone i w → CanBeUndone i (undo (bare_found j) w)
 kept_by_undo (Cell q k v) i w h = keeps_cell q k v i w h
 kept_by_undo (Nice q v) i w h = keeps_nice q v i w h
 kept_by_undo (Window q fd v) i w h = keeps_window q fd v i w h

@@ -4,7 +4,7 @@ ghost use Rattle.std.specs.Prelude.{◌≡◌, ℕ, ◌<◌, ◌≤◌, true, No
 ghost use Rattle.std.specs.Result.{is_ok};
 ghost use Rattle.kernel_model.specs.declared.FrameRow.{FrameRow as Row};
 ghost use Rattle.kernel_model.specs.declared.Inverse.{Inverse as Inverses};
-ghost use Rattle.kernel_model.specs.Access.{access as accessed, early_refusal, found_by, undo as undone};
+ghost use Rattle.kernel_model.specs.Access.{access as accessed, early_refusal, bare_found, undo as undone};
 ghost use Rattle.kernel_model.specs.Objects.{with_things};
 ghost use Rattle.kernel_model.specs.Policies.{lives};
 ghost use Rattle.kernel_state.specs.Accesses.{answer_of, things_after, CanBeUndone};
@@ -44,7 +44,7 @@ impl Store {
     pub fn undo(&mut self, inverse: Inverse)
         requires sound { IsStore (λ b. seen b) self.old }
         requires fits { CanBeUndone inverse (objects_of (λ b. seen b) self.old).things }
-        ensures objects { let s = objects_of (λ b. seen b) self.old in objects_of (λ b. seen b) self.new ≡ with_things (undone (found_by inverse) s.things) s }
+        ensures objects { let s = objects_of (λ b. seen b) self.old in objects_of (λ b. seen b) self.new ≡ with_things (undone (bare_found inverse) s.things) s }
         ensures living { (p : ℕ) → lives (queue_of self.new) p ≡ lives (queue_of self.old) p }
         ensures world { world_of_store self.new ≡ world_of_store self.old }
         ensures sound { IsStore (λ b. seen b) self.new }
