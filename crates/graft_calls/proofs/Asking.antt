@@ -18,10 +18,9 @@ use Rattle.kernel_model.specs.Policies.{kind_of, args_by}
 use Rattle.kernel_model.specs.Locks.{LockTable, touch_all, with_touch, touch, untouched}
 use Rattle.kernel_model.specs.Levels.{Level, with_touched, touch_outermost, goes_on, new_level, drop_innermost}
 use Rattle.kernel_model.specs.GraftStep.{ask_refusal, is_vain_ask, is_running, after_ask, ask_answered}
-use Rattle.kernel_model.specs.UndoLog.{undo_all}
 use Rattle.undo_calls.specs.UndoLevels.{innermost}
 use Rattle.graft_calls.specs.declared.GraftLevel.{GraftLevel}
-use Rattle.graft_calls.specs.Chains.{level_in, levels_in, outer, is_running_in, came}
+use Rattle.graft_calls.specs.Chains.{level_in, levels_in, outer, is_running_in, came, put_back}
 use Rattle.graft_calls.specs.Calls.{needs_touched}
 use Rattle.graft_calls.proofs.Holding.{touched_here, touched_apart}
 use Rattle.graft_calls.proofs.Needing.{needs_here, needs_apart}
@@ -31,7 +30,7 @@ use Rattle.graft_calls.proofs.Views.{level_count, levels_alike, glued}
 
 running_is : (p : ℕ) (ram : List ℕ) (t : LockTable) (gs : List GraftLevel) (log : List (List Inverse)) (w : Things) (q pt : ℕ) → is_running (levels_in p ram t gs log w) q pt ≡ is_running_in gs q pt
 running_is p ram t [] log w q pt = refl
-running_is p ram t (g ∷ gs) log w q pt = ap (λ b. (g.owner == q && g.point == pt) || b) (running_is p ram t gs (outer log) (undo_all (innermost log) w) q pt)
+running_is p ram t (g ∷ gs) log w q pt = ap (λ b. (g.owner == q && g.point == pt) || b) (running_is p ram t gs (outer log) (put_back (innermost log) w) q pt)
 
 -- whether an ask is refused, by what the code looks at
 pub refused_is : (s : Objects) (q pt id p : ℕ) (ram : List ℕ) (t : LockTable) (g : GraftLevel) (gs : List GraftLevel) (log : List (List Inverse)) (w : Things) (vain running deep : Bool) →
@@ -53,27 +52,27 @@ asks_file id r0 r1 q granted is = grind (arith, nat_tests, granted, is)
 
 needs_levels : (p : ℕ) (ram : List ℕ) (t : LockTable) (ns : List Need) (g : GraftLevel) (gs : List GraftLevel) (log : List (List Inverse)) (w : Things) →
     levels_in p ram (needs_touched p (length gs) ns t) (g ∷ gs) log w
-    ≡ with_touched ns (level_in p (length gs) ram t g (innermost log) (undo_all (innermost log) w)) ∷ levels_in p ram t gs (outer log) (undo_all (innermost log) w)
+    ≡ with_touched ns (level_in p (length gs) ram t g (innermost log) (put_back (innermost log) w)) ∷ levels_in p ram t gs (outer log) (put_back (innermost log) w)
 needs_levels p ram t ns g gs log w =
-    glued (level_in p (length gs) ram (needs_touched p (length gs) ns t) g (innermost log) (undo_all (innermost log) w)) _ (touch_all ns (t p (length gs))) _ _ refl (needs_here p (length gs) ns t)
-    (levels_alike p ram ram (needs_touched p (length gs) ns t) t gs (outer log) (undo_all (innermost log) w) (λ e lt. needs_apart p (length gs) p e ns t (grind (arith, nat_tests, lt))) (λ e cpu lt. refl))
+    glued (level_in p (length gs) ram (needs_touched p (length gs) ns t) g (innermost log) (put_back (innermost log) w)) _ (touch_all ns (t p (length gs))) _ _ refl (needs_here p (length gs) ns t)
+    (levels_alike p ram ram (needs_touched p (length gs) ns t) t gs (outer log) (put_back (innermost log) w) (λ e lt. needs_apart p (length gs) p e ns t (grind (arith, nat_tests, lt))) (λ e cpu lt. refl))
 
 outermost_levels : (p : ℕ) (ram : List ℕ) (t : LockTable) (o : Object) (g : GraftLevel) (gs : List GraftLevel) (log : List (List Inverse)) (w : Things) →
     levels_in p ram (with_touch p 0 o Mode.Exclusive t) (g ∷ gs) log w ≡ touch_outermost o (levels_in p ram t (g ∷ gs) log w)
 outermost_levels p ram t o g [] log w =
-    let l = level_in p 0 ram (with_touch p 0 o Mode.Exclusive t) g (innermost log) (undo_all (innermost log) w) in
+    let l = level_in p 0 ram (with_touch p 0 o Mode.Exclusive t) g (innermost log) (put_back (innermost log) w) in
     glued l _ (touch o Mode.Exclusive (t p 0)) _ _ refl (touched_here p 0 o Mode.Exclusive t) refl
 outermost_levels p ram t o g (k ∷ ks) log w =
-    let l = level_in p (suc (length ks)) ram (with_touch p 0 o Mode.Exclusive t) g (innermost log) (undo_all (innermost log) w) in
+    let l = level_in p (suc (length ks)) ram (with_touch p 0 o Mode.Exclusive t) g (innermost log) (put_back (innermost log) w) in
     glued l _ (t p (suc (length ks))) _ _ refl (touched_apart p 0 p (suc (length ks)) o Mode.Exclusive t (grind (arith, nat_tests)))
-    (outermost_levels p ram t o k ks (outer log) (undo_all (innermost log) w))
+    (outermost_levels p ram t o k ks (outer log) (put_back (innermost log) w))
 
 -- the levels once an ask touched what it needs
 pub asked_levels : (id r0 p n : ℕ) (ram : List ℕ) (t r : LockTable) (g : GraftLevel) (gs hs : List GraftLevel) (log : List (List Inverse)) (w : Things) → hs ≡ g ∷ gs → n ≡ length gs →
     r ≡ with_touch p 0 (asked_graft id r0 g.owner).object Mode.Exclusive (needs_touched p n (asked_objects id r0 g.owner) t) →
     levels_in p ram r hs log w
     ≡ touch_outermost (asked_graft id r0 g.owner).object
-    (with_touched (asked_objects id r0 g.owner) (level_in p (length gs) ram t g (innermost log) (undo_all (innermost log) w)) ∷ levels_in p ram t gs (outer log) (undo_all (innermost log) w))
+    (with_touched (asked_objects id r0 g.owner) (level_in p (length gs) ram t g (innermost log) (put_back (innermost log) w)) ∷ levels_in p ram t gs (outer log) (put_back (innermost log) w))
 asked_levels id r0 p n ram t r g gs hs log w all count held =
     let o = (asked_graft id r0 g.owner).object in
     let ns = asked_objects id r0 g.owner in

@@ -1,5 +1,6 @@
 -- What is charged, and what follows where it can't be.
 use Rattle.std.proofs.Common.{◌≡◌, ℕ, ◌==◌, ◌&&◌, Bool, true, false, not, cond, List, ◌∷◌, refl, sym, ◌∙◌, ap}
+use Rattle.kernel_model.specs.Access.{bare_found}
 use Rattle.kernel_model.specs.declared.Inverse.{Inverse}
 use Rattle.kernel_model.specs.declared.Kind.TheVariants.{Records, Locks}
 use Rattle.kernel_model.specs.declared.Cause.TheVariants.{SpentLocks, SpentRecords}
@@ -56,14 +57,14 @@ not_recorded v w l ls m id x i u spent same h = ap (after_change v w l ls m id x
 
 some_record : (spent : Bool) (v : World) (w : Objects) (l : Level) (ls : List Level) (m : Machine) (id x : ℕ) (i : Inverse) (u : Things) → true ≡ not spent →
     came (after_change v w l ls m id x i u spent)
-    ≡ came (goes_on (record { accounts = charge Records l.owner l.point w.accounts; things = u }) (record (after_access l m id x) { records = i ∷ l.records } ∷ ls))
+    ≡ came (goes_on (record { accounts = charge Records l.owner l.point w.accounts; things = u }) (record (after_access l m id x) { records = bare_found i ∷ l.records } ∷ ls))
 some_record true v w l ls m id x i u h = absurd (cc)
 some_record false v w l ls m id x i u h = refl
 
 -- a record is made
 pub is_recorded : (v : World) (w : Objects) (l : Level) (ls : List Level) (m : Machine) (id x : ℕ) (i : Inverse) (u : Things) (spent : Bool) → is_record_spent w.accounts l ls ≡ spent → true ≡ not spent →
     came (after_change v w l ls m id x i u (is_record_spent w.accounts l ls))
-    ≡ came (goes_on (record { accounts = charge Records l.owner l.point w.accounts; things = u }) (record (after_access l m id x) { records = i ∷ l.records } ∷ ls))
+    ≡ came (goes_on (record { accounts = charge Records l.owner l.point w.accounts; things = u }) (record (after_access l m id x) { records = bare_found i ∷ l.records } ∷ ls))
 is_recorded v w l ls m id x i u spent same h = ap (λ b. came (after_change v w l ls m id x i u b)) same ∙ some_record spent v w l ls m id x i u h
 
 -- where nothing was charged the accounts are the same

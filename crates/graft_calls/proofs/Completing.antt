@@ -1,6 +1,8 @@
 -- A level that ends with an answer of its own.
-use Rattle.std.proofs.Common.{◌≡◌, ◌≢◌, ℕ, suc, ◌-◌, ◌≤◌, ◌==◌, ◌&&◌, Bool, true, false, cond, List, [], ◌∷◌, ◌++◌, length, arith, refl, sym, ◌∙◌, ap, subst, slice_index}
+use Rattle.std.proofs.Common.{◌≡◌, ◌≢◌, ℕ, suc, ◌-◌, ◌≤◌, ◌==◌, ◌&&◌, Bool, true, false, cond, List, [], ◌∷◌, ◌++◌, length, arith, refl, sym, ◌∙◌, ap, subst, slice_index, map}
 use Rattle.std.proofs.lemmas.Bool.Decides.{nat_tests}
+use Rattle.std.proofs.lemmas.List.{map-append}
+use Rattle.kernel_model.specs.Access.{bare_found}
 use Rattle.kernel_model.specs.declared.Held.{Held}
 use Rattle.kernel_model.specs.declared.Inverse.{Inverse}
 use Rattle.kernel_model.specs.declared.Object.{Object}
@@ -11,12 +13,11 @@ use Rattle.kernel_model.specs.Policies.{kind_of}
 use Rattle.kernel_model.specs.Locks.{LockTable, merge_level, joined, untouched}
 use Rattle.kernel_model.specs.Levels.{answered, with_machine, base_of, goes_on}
 use Rattle.kernel_model.specs.GraftStep.{completed, first_registers}
-use Rattle.kernel_model.specs.UndoLog.{undo_all}
 use Rattle.kernel_model.specs.Runs.{on_segment}
 use Rattle.undo_calls.specs.UndoLevels.{innermost, merged}
 use Rattle.graft_machine.specs.Cpu.{Cpu, machine_of}
 use Rattle.graft_calls.specs.declared.GraftLevel.{GraftLevel}
-use Rattle.graft_calls.specs.Chains.{level_in, levels_in, outer, came}
+use Rattle.graft_calls.specs.Chains.{level_in, levels_in, outer, came, put_back}
 use Rattle.graft_calls.specs.Calls.{AreUndoable, AllUndoable}
 use Rattle.graft_calls.proofs.Answering.{answered_on}
 use Rattle.graft_calls.proofs.Dropping.{pair, configs}
@@ -27,13 +28,13 @@ use Rattle.graft_calls.proofs.Views.{levels_alike, glued}
 pub joined_levels : (pt r0 r1 : ℕ) (g : GraftLevel) (cpu : Cpu) (rest after : List GraftLevel) → after ≡ record g { machine = cpu } ∷ rest →
     ((ram : List ℕ) → machine_of cpu ram ≡ answered (kind_of pt) r0 r1 (machine_of g.machine ram)) →
     (p : ℕ) (ram : List ℕ) (t : LockTable) (log : List (List Inverse)) (w : Things) →
-    let k = level_in p (length rest) ram t g (innermost log) (undo_all (innermost log) w) in
-    levels_in p ram t after log w ≡ record k { machine = answered (kind_of pt) r0 r1 k.machine } ∷ levels_in p ram t rest (outer log) (undo_all (innermost log) w)
+    let k = level_in p (length rest) ram t g (innermost log) (put_back (innermost log) w) in
+    levels_in p ram t after log w ≡ record k { machine = answered (kind_of pt) r0 r1 k.machine } ∷ levels_in p ram t rest (outer log) (put_back (innermost log) w)
 joined_levels pt r0 r1 g cpu rest after is machine p ram t log w =
-    let k = level_in p (length rest) ram t g (innermost log) (undo_all (innermost log) w) in
+    let k = level_in p (length rest) ram t g (innermost log) (put_back (innermost log) w) in
     let base = base_of p (length rest) in
     ap (λ gs. levels_in p ram t gs log w) is
-    ∙ ap (λ (m : Machine). with_machine m k ∷ levels_in p ram t rest (outer log) (undo_all (innermost log) w)) (ap (on_segment base) (machine ram) ∙ answered_on (kind_of pt) base r0 r1 (machine_of g.machine ram))
+    ∙ ap (λ (m : Machine). with_machine m k ∷ levels_in p ram t rest (outer log) (put_back (innermost log) w)) (ap (on_segment base) (machine ram) ∙ answered_on (kind_of pt) base r0 r1 (machine_of g.machine ram))
 
 -- ---- locks that go outwards
 
@@ -94,39 +95,41 @@ merged_length (is ∷ js ∷ log) rest n merged_is h = ap length merged_is ∙ o
 pub joined_call : (pt r0 r1 p : ℕ) (ram : List ℕ) (t r : LockTable) (g asker : GraftLevel) (gs rest hs : List GraftLevel) (log less : List (List Inverse)) (w : Objects) →
     g.point ≡ pt → slice_index g.machine.regs 0 ≡ r0 → slice_index g.machine.regs 1 ≡ r1 → gs ≡ asker ∷ rest → length log ≡ suc (length gs) → less ≡ merged log → r ≡ merge_level p (suc (length rest)) t →
     (levels_in p ram r hs less w.things ≡
-    let k = level_in p (length rest) ram r asker (innermost less) (undo_all (innermost less) w.things) in
-    record k { machine = answered (kind_of pt) r0 r1 k.machine } ∷ levels_in p ram r rest (outer less) (undo_all (innermost less) w.things)) →
-    let kept = undo_all (innermost log) w.things in
+    let k = level_in p (length rest) ram r asker (innermost less) (put_back (innermost less) w.things) in
+    record k { machine = answered (kind_of pt) r0 r1 k.machine } ∷ levels_in p ram r rest (outer less) (put_back (innermost less) w.things)) →
+    let kept = put_back (innermost log) w.things in
     came (completed w (level_in p (length gs) ram t g (innermost log) kept) (levels_in p ram t gs (outer log) kept))
     ≡ (Micro.Went, record { now = w; levels = levels_in p ram r hs less w.things })
 joined_call pt r0 r1 p ram t r g asker gs rest hs log less w point first second all many is_less held view =
-    let kept = undo_all (innermost log) w.things in
+    let kept = put_back (innermost log) w.things in
     let both = merged_log log (let e = ap length all in omega (arith, many, e)) in
-    let k = level_in p (length rest) ram t asker (innermost (outer log)) (undo_all (innermost (outer log)) kept) in
+    let k = level_in p (length rest) ram t asker (innermost (outer log)) (put_back (innermost (outer log)) kept) in
     let ls = levels_in p ram t rest (outer (outer log)) k.kept in
     let m = answered (kind_of pt) r0 r1 k.machine in
     ap (λ xs. came (completed w (level_in p (length xs) ram t g (innermost log) kept) (levels_in p ram t xs (outer log) kept))) all
-    ∙ ap (λ x. came (goes_on w (record k { machine = answered (kind_of x) (slice_index g.machine.regs 0) (slice_index g.machine.regs 1) k.machine; touched = joined (t p (suc (length rest))) k.touched; records = innermost log ++ k.records } ∷ ls))) point
-    ∙ ap (λ x. came (goes_on w (record k { machine = answered (kind_of pt) x (slice_index g.machine.regs 1) k.machine; touched = joined (t p (suc (length rest))) k.touched; records = innermost log ++ k.records } ∷ ls))) first
-    ∙ ap (λ x. came (goes_on w (record k { machine = answered (kind_of pt) r0 x k.machine; touched = joined (t p (suc (length rest))) k.touched; records = innermost log ++ k.records } ∷ ls))) second
+    ∙ ap (λ x. came (goes_on w (record k { machine = answered (kind_of x) (slice_index g.machine.regs 0) (slice_index g.machine.regs 1) k.machine; touched = joined (t p (suc (length rest))) k.touched; records = map bare_found (innermost log) ++ k.records } ∷ ls))) point
+    ∙ ap (λ x. came (goes_on w (record k { machine = answered (kind_of pt) x (slice_index g.machine.regs 1) k.machine; touched = joined (t p (suc (length rest))) k.touched; records = map bare_found (innermost log) ++ k.records } ∷ ls))) first
+    ∙ ap (λ x. came (goes_on w (record k { machine = answered (kind_of pt) r0 x k.machine; touched = joined (t p (suc (length rest))) k.touched; records = map bare_found (innermost log) ++ k.records } ∷ ls))) second
     ∙ pair _ _ _ _ refl (configs w w _ _ refl (sym
     (view
-    ∙ ap (λ x. record (level_in p (length rest) ram r asker (innermost x) (undo_all (innermost x) w.things)) { machine = m } ∷ levels_in p ram r rest (outer x) (undo_all (innermost x) w.things)) is_less
-    ∙ ap (λ x. record (level_in p (length rest) ram r asker x (undo_all x w.things)) { machine = m } ∷ levels_in p ram r rest (outer (merged log)) (undo_all x w.things)) both.first
+    ∙ ap (λ x. record (level_in p (length rest) ram r asker (innermost x) (put_back (innermost x) w.things)) { machine = m } ∷ levels_in p ram r rest (outer x) (put_back (innermost x) w.things)) is_less
+    ∙ ap (λ x. record (level_in p (length rest) ram r asker x (put_back x w.things)) { machine = m } ∷ levels_in p ram r rest (outer (merged log)) (put_back x w.things)) both.first
     ∙ ap (λ x. record (level_in p (length rest) ram r asker (innermost log ++ innermost (outer log)) x) { machine = m } ∷ levels_in p ram r rest (outer (merged log)) x) (undo_both (innermost log) (innermost (outer log)) w.things)
     ∙ ap (λ x. record (level_in p (length rest) ram r asker (innermost log ++ innermost (outer log)) k.kept) { machine = m } ∷ levels_in p ram r rest x k.kept) both.rest
     ∙ glued (record (level_in p (length rest) ram r asker (innermost log ++ innermost (outer log)) k.kept) { machine = m }) m (joined (t p (suc (length rest))) (t p (length rest))) _ ls refl
     (ap (λ (x : LockTable). x p (length rest)) held ∙ merged_here p (length rest) t)
     (levels_alike p ram ram r t rest (outer (outer log)) k.kept
-    (λ e lt. ap (λ (x : LockTable). x p e) held ∙ merged_apart p (length rest) p e t (grind (arith, nat_tests, lt)) (grind (arith, nat_tests, lt))) (λ e cpu lt. refl)))))
+    (λ e lt. ap (λ (x : LockTable). x p e) held ∙ merged_apart p (length rest) p e t (grind (arith, nat_tests, lt)) (grind (arith, nat_tests, lt))) (λ e cpu lt. refl))
+    ∙ ap (λ x. record k { machine = m; touched = joined (t p (suc (length rest))) k.touched; records = x } ∷ ls)
+    (map-append bare_found (innermost log) (innermost (outer log))))))
 
 -- level 0 ends: the call is complete
 pub completed_call : (p : ℕ) (ram : List ℕ) (t r : LockTable) (g : GraftLevel) (gs hs : List GraftLevel) (log less : List (List Inverse)) (w : Objects) (answer : List ℕ) →
     gs ≡ [] → hs ≡ [] → ((mem : List ℕ) → answer ≡ first_registers (machine_of g.machine mem)) →
-    let kept = undo_all (innermost log) w.things in
+    let kept = put_back (innermost log) w.things in
     came (completed w (level_in p (length gs) ram t g (innermost log) kept) (levels_in p ram t gs (outer log) kept))
     ≡ (Micro.Completed answer, record { now = w; levels = levels_in p ram r hs less w.things })
 completed_call p ram t r g gs hs log less w answer before after is =
-    let kept = undo_all (innermost log) w.things in
+    let kept = put_back (innermost log) w.things in
     ap (λ xs. came (completed w (level_in p (length gs) ram t g (innermost log) kept) (levels_in p ram t xs (outer log) kept))) before
     ∙ pair _ _ _ _ (ap Micro.Completed (sym (is ram))) (configs w w _ _ refl (ap (λ xs. levels_in p ram r xs less w.things) (sym after)))

@@ -10,10 +10,9 @@ use Rattle.kernel_model.specs.Charges.{removed}
 use Rattle.kernel_model.specs.Policies.{default_of}
 use Rattle.kernel_model.specs.Locks.{LockTable, release_from}
 use Rattle.kernel_model.specs.Levels.{Level, Config, answer_innermost, drop_innermost, drop_level, Outcome}
-use Rattle.kernel_model.specs.UndoLog.{undo_all, undo_on}
 use Rattle.undo_calls.specs.UndoLevels.{innermost}
 use Rattle.graft_calls.specs.declared.GraftLevel.{GraftLevel}
-use Rattle.graft_calls.specs.Chains.{level_in, levels_in, outer, came}
+use Rattle.graft_calls.specs.Chains.{level_in, levels_in, outer, came, put_back, put_back_on}
 use Rattle.graft_calls.proofs.Views.{level_count, levels_released}
 
 -- two pairs
@@ -27,13 +26,13 @@ configs w u ls ks now levels =
 
 -- a level is dropped: u is the state then, with levels hs and their log
 pub dropped : (v : World) (w u : Objects) (p n : ℕ) (ram mem : List ℕ) (t r : LockTable) (g : GraftLevel) (gs hs : List GraftLevel) (log rest : List (List Inverse)) (cause : Cause) (d : ℕ × ℕ) →
-    u ≡ with_accounts (removed g.owner g.point w.accounts) (undo_on (innermost log) w) → d ≡ default_of v (undo_all (innermost log) w.things) g.owner g.point →
+    u ≡ with_accounts (removed g.owner g.point w.accounts) (put_back_on (innermost log) w) → d ≡ default_of v (put_back (innermost log) w.things) g.owner g.point →
     mem ≡ ram → r ≡ release_from p (length gs) t → rest ≡ outer log → n ≡ length gs →
     levels_in p mem r hs rest u.things ≡ answer_innermost g.point d.0 d.1 (levels_in p mem r gs rest u.things) →
-    came (drop_innermost v w (level_in p (length gs) ram t g (innermost log) (undo_all (innermost log) w.things)) (levels_in p ram t gs (outer log) (undo_all (innermost log) w.things)) cause)
+    came (drop_innermost v w (level_in p (length gs) ram t g (innermost log) (put_back (innermost log) w.things)) (levels_in p ram t gs (outer log) (put_back (innermost log) w.things)) cause)
     ≡ (Micro.Dropped n g.owner g.point cause, record { now = u; levels = levels_in p mem r hs rest u.things })
 dropped v w u p n ram mem t r g gs hs log rest cause d state default memory locks left count levels =
-    let kept = undo_all (innermost log) w.things in
+    let kept = put_back (innermost log) w.things in
     let ls = levels_in p ram t gs (outer log) kept in
     let outside : levels_in p mem r gs rest u.things ≡ ls =
     ap (λ m. levels_in p m r gs rest u.things) memory ∙ ap (λ x. levels_in p ram x gs rest u.things) locks
@@ -45,8 +44,8 @@ dropped v w u p n ram mem t r g gs hs log rest cause d state default memory lock
     (ap (λ (e : ℕ × ℕ). answer_innermost g.point e.0 e.1 ls) (sym default) ∙ ap (answer_innermost g.point d.0 d.1) (sym outside) ∙ sym levels))
 
 -- a graft is taken out once records were undone
-pub removed_after : (q pt : ℕ) (is : List Inverse) (w one : Objects) (a : Accounts) → one ≡ undo_on is w → a ≡ removed q pt one.accounts →
-    with_accounts a one ≡ with_accounts (removed q pt w.accounts) (undo_on is w)
+pub removed_after : (q pt : ℕ) (is : List Inverse) (w one : Objects) (a : Accounts) → one ≡ put_back_on is w → a ≡ removed q pt one.accounts →
+    with_accounts a one ≡ with_accounts (removed q pt w.accounts) (put_back_on is w)
 removed_after q pt is w one a undone is_removed = ap (λ x. with_accounts x one) is_removed ∙ ap (λ (x : Objects). with_accounts (removed q pt x.accounts) x) undone
 
 -- the drop of a level goes by accounts and levels alone
@@ -64,10 +63,10 @@ same_drop v w u (l ∷ ls) d cause same lt =
 
 -- a level inside the one that is dropped ends: the drop goes on with those that are left
 pub dropped_further : (v next : World) (w one : Objects) (p d n : ℕ) (ram mem : List ℕ) (t r : LockTable) (g : GraftLevel) (gs hs : List GraftLevel) (log rest : List (List Inverse)) (cause : Cause) →
-    next ≡ v → hs ≡ g ∷ gs → n ≡ length gs → n ≢ d → d < length hs → one ≡ undo_on (innermost log) w → mem ≡ ram → r ≡ release_from p n t → rest ≡ outer log →
+    next ≡ v → hs ≡ g ∷ gs → n ≡ length gs → n ≢ d → d < length hs → one ≡ put_back_on (innermost log) w → mem ≡ ram → r ≡ release_from p n t → rest ≡ outer log →
     drop_level v w (levels_in p ram t hs log w.things) d cause ≡ drop_level next one (levels_in p mem r gs rest one.things) d cause
 dropped_further v next w one p d n ram mem t r g gs hs log rest cause world all count other within state memory locks left =
-    let kept = undo_all (innermost log) w.things in
+    let kept = put_back (innermost log) w.things in
     let ls = levels_in p ram t gs (outer log) kept in
     let many : length ls ≡ length gs = level_count p ram t gs (outer log) kept in
     let no : (length ls == d) ≡ false = grind (arith, nat_tests, many, count, other) in
@@ -87,9 +86,9 @@ dropped_further v next w one p d n ram mem t r g gs hs log rest cause world all 
 pub dropped_here : (v : World) (w : Objects) (p d n : ℕ) (ram : List ℕ) (t : LockTable) (g : GraftLevel) (gs hs : List GraftLevel) (log : List (List Inverse)) (cause : Cause) →
     hs ≡ g ∷ gs → n ≡ length gs → n ≡ d →
     drop_level v w (levels_in p ram t hs log w.things) d cause
-    ≡ drop_innermost v w (level_in p (length gs) ram t g (innermost log) (undo_all (innermost log) w.things)) (levels_in p ram t gs (outer log) (undo_all (innermost log) w.things)) cause
+    ≡ drop_innermost v w (level_in p (length gs) ram t g (innermost log) (put_back (innermost log) w.things)) (levels_in p ram t gs (outer log) (put_back (innermost log) w.things)) cause
 dropped_here v w p d n ram t g gs hs log cause all count this =
-    let kept = undo_all (innermost log) w.things in
+    let kept = put_back (innermost log) w.things in
     let ls = levels_in p ram t gs (outer log) kept in
     let many : length ls ≡ length gs = level_count p ram t gs (outer log) kept in
     let yes : (length ls == d) ≡ true = grind (arith, nat_tests, many, count, this) in

@@ -7,11 +7,10 @@ use Rattle.kernel_model.specs.declared.Mode.{Mode}
 use Rattle.kernel_model.specs.Machine.{Machine}
 use Rattle.kernel_model.specs.Objects.{Things}
 use Rattle.kernel_model.specs.Policies.{Victim}
-use Rattle.kernel_model.specs.Access.{accessed}
+use Rattle.kernel_model.specs.Access.{accessed, bare_found}
 use Rattle.kernel_model.specs.Locks.{LockTable, touch, with_touch}
 use Rattle.kernel_model.specs.Levels.{answered, with_machine}
 use Rattle.kernel_model.specs.GraftStep.{after_access}
-use Rattle.kernel_model.specs.UndoLog.{undo_all}
 use Rattle.kernel_model.specs.Access.{undo}
 use Rattle.kernel_model.specs.Levels.{base_of}
 use Rattle.kernel_model.specs.Runs.{on_segment}
@@ -19,7 +18,7 @@ use Rattle.graft_machine.specs.Cpu.{machine_of}
 use Rattle.graft_calls.proofs.Recording.{record_more, record_outer}
 use Rattle.undo_calls.specs.UndoLevels.{innermost, recorded}
 use Rattle.graft_calls.specs.declared.GraftLevel.{GraftLevel}
-use Rattle.graft_calls.specs.Chains.{level_in, levels_in, outer}
+use Rattle.graft_calls.specs.Chains.{level_in, levels_in, outer, put_back}
 use Rattle.graft_calls.proofs.Views.{levels_alike, glued}
 use Rattle.graft_calls.proofs.Holding.{touched_here, touched_apart}
 
@@ -48,17 +47,17 @@ gone_on id x p n o mode ram t r g gs is log w count held object mode_is =
 
 -- the levels after an accessor that made a change, which i undoes
 pub recorded_on : (id x p n : ℕ) (o : Object) (mode : Mode) (ram mem : List ℕ) (t r : LockTable) (g : GraftLevel) (gs hs : List GraftLevel) (log rest : List (List Inverse)) (i : Inverse) (w u : Things) →
-    let l = level_in p (length gs) ram t g (innermost log) (undo_all (innermost log) w) in
+    let l = level_in p (length gs) ram t g (innermost log) (put_back (innermost log) w) in
     ((q : ℕ) (bytes : List ℕ) (table : LockTable) (records : List (List Inverse)) (things : Things) →
-    let k = level_in q (length gs) bytes table g (innermost records) (undo_all (innermost records) things) in
-    levels_in q bytes table hs records things ≡ with_machine (answered Victim x 0 k.machine) k ∷ levels_in q bytes table gs (outer records) (undo_all (innermost records) things)) →
-    mem ≡ ram → 0 < length log → rest ≡ recorded i log → undo i u ≡ w → n ≡ length gs → r ≡ with_touch p n o mode t →
+    let k = level_in q (length gs) bytes table g (innermost records) (put_back (innermost records) things) in
+    levels_in q bytes table hs records things ≡ with_machine (answered Victim x 0 k.machine) k ∷ levels_in q bytes table gs (outer records) (put_back (innermost records) things)) →
+    mem ≡ ram → 0 < length log → rest ≡ recorded i log → undo (bare_found i) u ≡ w → n ≡ length gs → r ≡ with_touch p n o mode t →
     o ≡ (accessed id (l.machine.regs 0) g.owner).object → mode ≡ (accessed id (l.machine.regs 0) g.owner).mode →
-    levels_in p mem r hs rest u ≡ record (after_access l l.machine id x) { records = i ∷ l.records } ∷ levels_in p ram t gs (outer log) (undo_all (innermost log) w)
+    levels_in p mem r hs rest u ≡ record (after_access l l.machine id x) { records = bare_found i ∷ l.records } ∷ levels_in p ram t gs (outer log) (put_back (innermost log) w)
 recorded_on id x p n o mode ram mem t r g gs hs log rest i w u view memory some more back count held object mode_is =
     let m = on_segment (base_of p (length gs)) (machine_of g.machine ram) in
     ap (λ y. levels_in p y r hs rest u) memory ∙ ap (λ y. levels_in p ram r hs y u) more ∙ view p ram r (recorded i log) u
-    ∙ ap (λ y. with_machine (answered Victim x 0 m) (level_in p (length gs) ram r g y (undo_all y u)) ∷ levels_in p ram r gs (outer (recorded i log)) (undo_all y u)) (record_more i log some)
-    ∙ ap (λ y. with_machine (answered Victim x 0 m) (level_in p (length gs) ram r g (i ∷ innermost log) (undo_all (i ∷ innermost log) u)) ∷ levels_in p ram r gs y (undo_all (i ∷ innermost log) u)) (record_outer i log)
-    ∙ ap (λ y. with_machine (answered Victim x 0 m) (level_in p (length gs) ram r g (i ∷ innermost log) (undo_all (innermost log) y)) ∷ levels_in p ram r gs (outer log) (undo_all (innermost log) y)) back
-    ∙ gone_on id x p n o mode ram t r g gs (i ∷ innermost log) (outer log) (undo_all (innermost log) w) count held object mode_is
+    ∙ ap (λ y. with_machine (answered Victim x 0 m) (level_in p (length gs) ram r g y (put_back y u)) ∷ levels_in p ram r gs (outer (recorded i log)) (put_back y u)) (record_more i log some)
+    ∙ ap (λ y. with_machine (answered Victim x 0 m) (level_in p (length gs) ram r g (i ∷ innermost log) (put_back (i ∷ innermost log) u)) ∷ levels_in p ram r gs y (put_back (i ∷ innermost log) u)) (record_outer i log)
+    ∙ ap (λ y. with_machine (answered Victim x 0 m) (level_in p (length gs) ram r g (i ∷ innermost log) (put_back (innermost log) y)) ∷ levels_in p ram r gs (outer log) (put_back (innermost log) y)) back
+    ∙ gone_on id x p n o mode ram t r g gs (i ∷ innermost log) (outer log) (put_back (innermost log) w) count held object mode_is

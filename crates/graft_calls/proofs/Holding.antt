@@ -12,10 +12,9 @@ use Rattle.kernel_model.specs.Objects.{Things}
 use Rattle.kernel_model.specs.Locks.{LockTable, Touched, touch, with_touch, is_held, conflicts, outermost_holding}
 use Rattle.kernel_model.specs.Levels.{Level}
 use Rattle.kernel_model.specs.GraftStep.{is_lock_due}
-use Rattle.kernel_model.specs.UndoLog.{undo_all}
 use Rattle.undo_calls.specs.UndoLevels.{innermost}
 use Rattle.graft_calls.specs.declared.GraftLevel.{GraftLevel}
-use Rattle.graft_calls.specs.Chains.{levels_in, outer}
+use Rattle.graft_calls.specs.Chains.{levels_in, outer, put_back}
 
 -- ---- a touch
 
@@ -35,7 +34,7 @@ any_below (suc n) f = f n || any_below n f
 any_level : (p : ℕ) (ram : List ℕ) (t : LockTable) (gs : List GraftLevel) (log : List (List Inverse)) (w : Things) (o : Object) →
     list_any (λ (l : Level). is_held (l.touched o)) (levels_in p ram t gs log w) ≡ any_below (length gs) (λ d. is_held (t p d o))
 any_level p ram t [] log w o = refl
-any_level p ram t (g ∷ gs) log w o = ap (λ b. is_held (t p (length gs) o) || b) (any_level p ram t gs (outer log) (undo_all (innermost log) w) o)
+any_level p ram t (g ∷ gs) log w o = ap (λ b. is_held (t p (length gs) o) || b) (any_level p ram t gs (outer log) (put_back (innermost log) w) o)
 
 conflict_is : (h : Held) → conflicts h Mode.Exclusive ≡ is_held h
 conflict_is Held.Free = refl

@@ -3,7 +3,7 @@ use Rattle.std.proofs.Common.{◌≡◌, ℕ, suc, ◌≤◌, ◌==◌, Bool, tr
 use Rattle.kernel_model.specs.declared.Inverse.{Inverse}
 use Rattle.kernel_model.specs.declared.Cause.{Cause}
 use Rattle.kernel_model.specs.declared.QueueRow.{QueueRow}
-use Rattle.kernel_model.specs.Access.{Access as Accessed, Gives, Changes, Refuses, undo}
+use Rattle.kernel_model.specs.Access.{Access as Accessed, Gives, Changes, Refuses, undo, bare_found}
 use Rattle.kernel_model.specs.Machine.{Machine}
 use Rattle.kernel_model.specs.Objects.{Objects, Things}
 use Rattle.kernel_model.specs.World.{World}
@@ -17,9 +17,9 @@ use Rattle.undo_calls.specs.UndoLevels.{recorded}
 use Rattle.graft_calls.specs.Calls.{AllUndoable}
 
 -- its inverse leads back
-pub leads_back : (a : Accessed) (x : ℕ) (i : Inverse) (w : Things) → answer_of a ≡ Ok (record { result = x; inverse = Some i }) → LeadsBack w a → undo i (things_after a w) ≡ w
+pub leads_back : (a : Accessed) (x : ℕ) (i : Inverse) (w : Things) → answer_of a ≡ Ok (record { result = x; inverse = Some i }) → LeadsBack w a → undo (bare_found i) (things_after a w) ≡ w
 leads_back (Gives result) x i w is back = absurd (grind (arith, is))
-leads_back (Changes result j u) x i w is back = let same : i ≡ j = grind (arith, is) in ap (λ k. undo k u) same ∙ back
+leads_back (Changes result j u) x i w is back = let same : i ≡ j = grind (arith, is) in ap (λ k. undo (bare_found k) u) same ∙ back
 leads_back (Refuses cause) x i w is back = absurd (cc)
 
 -- it is refused

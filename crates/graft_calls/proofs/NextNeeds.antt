@@ -17,10 +17,9 @@ use Rattle.kernel_model.specs.Access.{early_refusal, is_ask, accessed, asked_obj
 use Rattle.kernel_model.specs.Locks.{LockTable}
 use Rattle.kernel_model.specs.Levels.{Level, code_of}
 use Rattle.kernel_model.specs.GraftStep.{is_spent, call_needs, instruction_needs, next_needs}
-use Rattle.kernel_model.specs.UndoLog.{undo_all}
 use Rattle.undo_calls.specs.UndoLevels.{innermost}
 use Rattle.graft_calls.specs.declared.GraftLevel.{GraftLevel}
-use Rattle.graft_calls.specs.Chains.{level_in, levels_in, outer, first_level}
+use Rattle.graft_calls.specs.Chains.{level_in, levels_in, outer, first_level, put_back}
 
 -- a call
 pub calling : (v : World) (images : ImageTable) (a : Accounts) (l : Level) (ls : List Level) (id : ℕ) (needs : List Need) → false ≡ is_spent a l → next_call (code_of images a l.owner l.point) l.machine ≡ Some id →
@@ -41,8 +40,8 @@ pub of_first : (v : World) (images : ImageTable) (a : Accounts) (g : GraftLevel)
 of_first v images a g [] needs is each p ram t log w = absurd (cc)
 of_first v images a g (x ∷ gs) needs is each p ram t log w =
     let same : g ≡ x = cc in
-    each p (length gs) ram t (innermost log) (undo_all (innermost log) w) (levels_in p ram t gs (outer log) (undo_all (innermost log) w))
-    ∙ ap (λ (y : GraftLevel). next_needs v images a (level_in p (length gs) ram t y (innermost log) (undo_all (innermost log) w) ∷ levels_in p ram t gs (outer log) (undo_all (innermost log) w))) same
+    each p (length gs) ram t (innermost log) (put_back (innermost log) w) (levels_in p ram t gs (outer log) (put_back (innermost log) w))
+    ∙ ap (λ (y : GraftLevel). next_needs v images a (level_in p (length gs) ram t y (innermost log) (put_back (innermost log) w) ∷ levels_in p ram t gs (outer log) (put_back (innermost log) w))) same
 
 -- a machine, and the same on its segment, call the same
 id_on : (op : Op) (a imm base : ℕ) (m : Machine) → called_id op a imm (on_segment base m) ≡ called_id op a imm m

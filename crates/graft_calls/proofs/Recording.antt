@@ -1,14 +1,15 @@
 -- How many records there are, and a log with one more.
 use Rattle.std.proofs.Common.{◌≡◌, ℕ, ◌+◌, ◌<◌, List, [], ◌∷◌, length, map, arith, refl, sym, ◌∙◌, ap}
 use Rattle.std.proofs.lemmas.List.{length-map, length-append, length-reverse}
+use Rattle.kernel_model.specs.Access.{bare_found}
 use Rattle.kernel_model.specs.declared.Inverse.{Inverse}
 use Rattle.kernel_model.specs.Objects.{Things}
 use Rattle.kernel_model.specs.Locks.{LockTable}
 use Rattle.kernel_model.specs.GraftStep.{record_count}
-use Rattle.kernel_model.specs.UndoLog.{undo_all, numbered_log}
+use Rattle.kernel_model.specs.UndoLog.{numbered_log}
 use Rattle.undo_calls.specs.UndoLevels.{innermost, recorded, records_of, by_age}
 use Rattle.graft_calls.specs.declared.GraftLevel.{GraftLevel}
-use Rattle.graft_calls.specs.Chains.{levels_in, outer}
+use Rattle.graft_calls.specs.Chains.{levels_in, outer, put_back}
 
 numbered : (log : List (List Inverse)) → length (records_of log) ≡ length (numbered_log log)
 numbered log = length-map (by_age log) (λ (r : ℕ × Inverse). r.1) ∙ length-reverse (numbered_log log)
@@ -19,7 +20,8 @@ counted p ram t [] [] w same = refl
 counted p ram t [] (is ∷ log) w same = absurd (omega arith)
 counted p ram t (g ∷ gs) [] w same = absurd (omega arith)
 counted p ram t (g ∷ gs) (is ∷ log) w same =
-    ap (λ n. length is + n) (counted p ram t gs log (undo_all is w) (omega arith))
+    ap (λ n. n + record_count (levels_in p ram t gs log (put_back is w))) (length-map is bare_found)
+    ∙ ap (λ n. length is + n) (counted p ram t gs log (put_back is w) (omega arith))
     ∙ ap (λ n. n + length (numbered_log log)) (sym (length-map is (λ i. let r : ℕ × Inverse = (length log, i) in r)))
     ∙ sym (length-append (map (λ i. let r : ℕ × Inverse = (length log, i) in r) is) (numbered_log log))
 

@@ -2,11 +2,10 @@
 use Rattle.std.proofs.Common.{◌≡◌, ℕ, suc, ◌<◌, List, [], ◌∷◌, ◌++◌, Some, None, length, arith, refl, sym, ◌∙◌, ap, subst}
 use Rattle.kernel_model.specs.declared.Inverse.{Inverse}
 use Rattle.kernel_model.specs.Objects.{Objects, Things, with_things}
-use Rattle.kernel_model.specs.Access.{undo}
-use Rattle.kernel_model.specs.UndoLog.{undo_all, undo_on}
+use Rattle.kernel_model.specs.Access.{undo, bare_found}
 use Rattle.kernel_state.specs.Accesses.{CanBeUndone}
 use Rattle.undo_calls.specs.UndoLevels.{innermost, newest, without_newest}
-use Rattle.graft_calls.specs.Chains.{outer}
+use Rattle.graft_calls.specs.Chains.{outer, put_back, put_back_on}
 use Rattle.graft_calls.specs.Calls.{AreUndoable, AllUndoable}
 
 -- a log without its newest record, which is i
@@ -57,13 +56,13 @@ of_outer [] w h = tt
 of_outer (is ∷ log) w h = h.1
 
 -- the newest of some records is undone, and then the others
-pub undone_first : (i : Inverse) (is js : List Inverse) (s t u : Objects) → is ≡ i ∷ js → t ≡ with_things (undo i s.things) s → u ≡ undo_on js t → u ≡ undo_on is s
-undone_first i is js s t u all first rest = rest ∙ ap (undo_on js) first ∙ ap (λ rs. undo_on rs s) (sym all)
+pub undone_first : (i : Inverse) (is js : List Inverse) (s t u : Objects) → is ≡ i ∷ js → t ≡ with_things (undo (bare_found i) s.things) s → u ≡ put_back_on js t → u ≡ put_back_on is s
+undone_first i is js s t u all first rest = rest ∙ ap (put_back_on js) first ∙ ap (λ rs. put_back_on rs s) (sym all)
 
 -- records of two levels
-pub undo_both : (is js : List Inverse) (w : Things) → undo_all (is ++ js) w ≡ undo_all js (undo_all is w)
+pub undo_both : (is js : List Inverse) (w : Things) → put_back (is ++ js) w ≡ put_back js (put_back is w)
 undo_both [] js w = refl
-undo_both (i ∷ is) js w = undo_both is js (undo i w)
+undo_both (i ∷ is) js w = undo_both is js (undo (bare_found i) w)
 
 -- how many levels a log has without the innermost one
 pub outer_length : (log : List (List Inverse)) (n : ℕ) → length log ≡ suc n → length (outer log) ≡ n

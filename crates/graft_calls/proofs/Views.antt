@@ -8,17 +8,16 @@ use Rattle.kernel_model.specs.Machine.{Machine}
 use Rattle.kernel_model.specs.Objects.{Things}
 use Rattle.kernel_model.specs.Locks.{LockTable, Touched, release_from, untouched}
 use Rattle.kernel_model.specs.Levels.{Level, base_of}
-use Rattle.kernel_model.specs.UndoLog.{undo_all}
 use Rattle.kernel_model.specs.Runs.{on_segment}
 use Rattle.undo_calls.specs.UndoLevels.{innermost}
 use Rattle.graft_machine.specs.Cpu.{Cpu, machine_of}
 use Rattle.graft_calls.specs.declared.GraftLevel.{GraftLevel}
-use Rattle.graft_calls.specs.Chains.{level_in, levels_in, outer}
+use Rattle.graft_calls.specs.Chains.{level_in, levels_in, outer, put_back}
 
 -- there are as many levels as the chain has
 pub level_count : (p : ℕ) (ram : List ℕ) (t : LockTable) (gs : List GraftLevel) (log : List (List Inverse)) (w : Things) → length (levels_in p ram t gs log w) ≡ length gs
 level_count p ram t [] log w = refl
-level_count p ram t (g ∷ gs) log w = ap suc (level_count p ram t gs (outer log) (undo_all (innermost log) w))
+level_count p ram t (g ∷ gs) log w = ap suc (level_count p ram t gs (outer log) (put_back (innermost log) w))
 
 -- two levels, and the levels outside them
 pub glued : (l : Level) (m : Machine) (x : Touched) (ls ks : List Level) → l.machine ≡ m → l.touched ≡ x → ls ≡ ks → l ∷ ls ≡ record l { machine = m; touched = x } ∷ ks
@@ -32,9 +31,9 @@ pub levels_alike : (p : ℕ) (ram mem : List ℕ) (t u : LockTable) (gs : List G
     levels_in p ram t gs log w ≡ levels_in p mem u gs log w
 levels_alike p ram mem t u [] log w holds segments = refl
 levels_alike p ram mem t u (g ∷ gs) log w holds segments =
-    glued (level_in p (length gs) ram t g (innermost log) (undo_all (innermost log) w)) _ _ _ _
+    glued (level_in p (length gs) ram t g (innermost log) (put_back (innermost log) w)) _ _ _ _
     (segments (length gs) g.machine (omega arith)) (holds (length gs) (omega arith))
-    (levels_alike p ram mem t u gs (outer log) (undo_all (innermost log) w) (λ e lt. holds e (omega arith)) (λ e cpu lt. segments e cpu (omega arith)))
+    (levels_alike p ram mem t u gs (outer log) (put_back (innermost log) w) (λ e lt. holds e (omega arith)) (λ e cpu lt. segments e cpu (omega arith)))
 
 -- what is let go of further inward is nothing to them
 pub released_apart : (p n e : ℕ) (t : LockTable) → e < n → release_from p n t p e ≡ t p e

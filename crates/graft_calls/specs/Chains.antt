@@ -1,12 +1,13 @@
 -- Which graft call a chain of levels is in place: on a store, with the lock table and an undo log.
-use Rattle.std.specs.Prelude.{ℕ, Bool, ◌&&◌, ◌==◌, List, [], ◌∷◌, length, Option, Some, None}
+use Rattle.std.specs.Prelude.{ℕ, Bool, ◌&&◌, ◌==◌, List, [], ◌∷◌, length, map, Option, Some, None}
 use Rattle.std.specs.List.{list_any}
 use Rattle.kernel_model.specs.declared.Inverse.{Inverse}
 use Rattle.kernel_model.specs.declared.Micro.{Micro}
-use Rattle.kernel_model.specs.Objects.{Things}
+use Rattle.kernel_model.specs.Objects.{Objects, Things}
 use Rattle.kernel_model.specs.Locks.{LockTable}
-use Rattle.kernel_model.specs.Levels.{Level, Config, Outcome, base_of}
+use Rattle.kernel_model.specs.Access.{bare_found}
 use Rattle.kernel_model.specs.UndoLog.{undo_all}
+use Rattle.kernel_model.specs.Levels.{Level, Config, Outcome, base_of}
 use Rattle.kernel_model.specs.Runs.{on_segment}
 use Rattle.lock_table.specs.declared.Holds.{Holds}
 use Rattle.lock_table.specs.Masks.{held}
@@ -18,6 +19,14 @@ use Rattle.graft_calls.specs.declared.GraftLevel.{GraftLevel}
 use Rattle.graft_calls.specs.declared.Chain.{Chain}
 
 -- ---- levels
+
+-- what inverses put back, the first one first
+abbrev pub put_back : List Inverse → Things → Things
+put_back is w = undo_all (map bare_found is) w
+
+-- the same on a whole state
+abbrev pub put_back_on : List Inverse → Objects → Objects
+put_back_on is s = record s { things = put_back is s.things }
 
 -- the log without the records of the innermost level
 abbrev pub outer : List (List Inverse) → List (List Inverse)
@@ -35,7 +44,7 @@ level_in p d ram t g is kept =
       count = g.count;
       touched = t p d;
       args = g.args;
-      records = is;
+      records = map bare_found is;
       kept = kept;
     }
 
@@ -44,7 +53,7 @@ level_in p d ram t g is kept =
 abbrev pub levels_in : ℕ → List ℕ → LockTable → List GraftLevel → List (List Inverse) → Things → List Level
 levels_in p ram t [] log w = []
 levels_in p ram t (g ∷ gs) log w =
-    level_in p (length gs) ram t g (innermost log) (undo_all (innermost log) w) ∷ levels_in p ram t gs (outer log) (undo_all (innermost log) w)
+    level_in p (length gs) ram t g (innermost log) (put_back (innermost log) w) ∷ levels_in p ram t gs (outer log) (put_back (innermost log) w)
 
 -- the innermost level, if there is one
 abbrev pub first_level : List GraftLevel → Option GraftLevel
@@ -68,11 +77,11 @@ call_of view s t c p = record { now = objects_of view s; levels = levels_of view
 -- a level that was taken from the inner end of a chain, whose records are still in the log
 abbrev pub level_of : {X : Type 0} {F : X → Type 0} → Seeing X F → Store X F → List (List Holds) → Chain → ℕ → GraftLevel → Level
 level_of view s t c p g =
-    level_in p (length c.levels) s.ram (held t) g (innermost c.undo) (undo_all (innermost c.undo) (objects_of view s).things)
+    level_in p (length c.levels) s.ram (held t) g (innermost c.undo) (put_back (innermost c.undo) (objects_of view s).things)
 
 -- the levels outside it
 abbrev pub outer_of : {X : Type 0} {F : X → Type 0} → Seeing X F → Store X F → List (List Holds) → Chain → ℕ → List Level
-outer_of view s t c p = levels_in p s.ram (held t) c.levels (outer c.undo) (undo_all (innermost c.undo) (objects_of view s).things)
+outer_of view s t c p = levels_in p s.ram (held t) c.levels (outer c.undo) (put_back (innermost c.undo) (objects_of view s).things)
 
 -- ---- outcomes
 

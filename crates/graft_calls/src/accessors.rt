@@ -11,14 +11,13 @@ ghost use Rattle.kernel_model.specs.Levels.{answered, with_machine};
 ghost use Rattle.kernel_model.specs.Locks.{LockTable as Table, outermost_holding, with_touch};
 ghost use Rattle.kernel_model.specs.Objects.{Accounts as Funds, Things};
 ghost use Rattle.kernel_model.specs.Policies as spec;
-ghost use Rattle.kernel_model.specs.UndoLog.{undo_all};
 ghost use Rattle.kernel_model.specs.Sound.{ImagesAreLoaded};
 ghost use Rattle.kernel_model.specs.World.{ImageTable};
 ghost use Rattle.kernel_state.specs.Accesses.{answer_of, things_after, CanBeUndone};
 ghost use Rattle.kernel_state.specs.Stores.{world_of_store, objects_of};
 ghost use Rattle.lock_table.specs.Masks.{held};
 ghost use Rattle.undo_calls.specs.UndoLevels.{innermost, recorded, records_of};
-ghost use Rattle.graft_calls.specs.Chains.{came, call_of, level_of, outer_of, level_in, levels_in, outer};
+ghost use Rattle.graft_calls.specs.Chains.{came, call_of, level_of, outer_of, level_in, levels_in, outer, put_back};
 ghost use Rattle.graft_calls.specs.Calls.{AreSound, AreInside, IsPlaced, IsElsewhereSame};
 
 use crate::answers::arguments;
@@ -43,8 +42,8 @@ pub(crate) struct Accessed {
 fn go_on(level: GraftLevel, r0: u32, levels: &mut Levels)
     requires { length levels.old < 4 }
     ensures levels { (p : ℕ) (ram : List ℕ) (t : Table) (log : List (List Undoing)) (w : Things) →
-        let l = level_in p (length levels.old) ram t level (innermost log) (undo_all (innermost log) w) in
-        levels_in p ram t levels.new log w ≡ with_machine (answered spec.Victim r0 0 l.machine) l ∷ levels_in p ram t levels.old (outer log) (undo_all (innermost log) w) }
+        let l = level_in p (length levels.old) ram t level (innermost log) (put_back (innermost log) w) in
+        levels_in p ram t levels.new log w ≡ with_machine (answered spec.Victim r0 0 l.machine) l ∷ levels_in p ram t levels.old (outer log) (put_back (innermost log) w) }
     ensures count { length levels.new ≡ suc (length levels.old) }
     ensures sound { (queue : List Waiting) → AreSound queue (level ∷ levels.old) → AreSound queue levels.new }
     ensures inside { (images : ImageTable) (a : Funds) (p : ℕ) → AreInside images a p (level ∷ levels.old) → AreInside images a p levels.new }

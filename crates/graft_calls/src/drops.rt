@@ -5,14 +5,13 @@ ghost use Rattle.kernel_model.specs.declared.Inverse.{Inverse as Undoing};
 ghost use Rattle.kernel_model.specs.Levels.{drop_innermost as innermost_dropped, drop_level as level_dropped};
 ghost use Rattle.kernel_model.specs.Locks.{release_from};
 ghost use Rattle.kernel_model.specs.Policies.{lives};
-ghost use Rattle.kernel_model.specs.UndoLog.{undo_on};
 ghost use Rattle.kernel_model.specs.Sound.{ImagesAreLoaded};
 ghost use Rattle.kernel_model.specs.World.{ImageTable};
 ghost use Rattle.kernel_state.specs.Accesses.{CanBeUndone};
 ghost use Rattle.kernel_state.specs.Stores.{world_of_store, objects_of, queue_of, IsStore};
 ghost use Rattle.lock_table.specs.Masks.{held};
 ghost use Rattle.undo_calls.specs.UndoLevels.{innermost};
-ghost use Rattle.graft_calls.specs.Chains.{came, call_of, level_of, outer_of, levels_of, outer};
+ghost use Rattle.graft_calls.specs.Chains.{came, call_of, level_of, outer_of, levels_of, outer, put_back_on};
 ghost use Rattle.graft_calls.specs.Calls.{AreSound, AreInside, AreUndoable, AllUndoable, IsPlaced, IsElsewhereSame};
 
 use crate::answers::give_answer;
@@ -31,7 +30,7 @@ pub(crate) fn undo_records(undo: &mut UndoStack, store: &mut Store)
     ensures none { innermost undo.new ≡ [] }
     ensures outer { outer undo.new ≡ outer undo.old }
     ensures level { 0 < length undo.new }
-    ensures objects { objects_of (λ b. seen (b.vtable, b.value)) store.new ≡ undo_on (innermost undo.old) (objects_of (λ b. seen (b.vtable, b.value)) store.old) }
+    ensures objects { objects_of (λ b. seen (b.vtable, b.value)) store.new ≡ put_back_on (innermost undo.old) (objects_of (λ b. seen (b.vtable, b.value)) store.old) }
     ensures memory { store.new.ram ≡ store.old.ram }
     ensures world { world_of_store store.new ≡ world_of_store store.old }
     ensures living { (q : ℕ) → lives (queue_of store.new) q ≡ lives (queue_of store.old) q }
@@ -50,7 +49,7 @@ pub(crate) fn undo_level(undo: &mut UndoStack, store: &mut Store)
     requires sound { IsStore (λ b. seen (b.vtable, b.value)) store.old }
     requires undoable { AreUndoable (innermost undo.old) (objects_of (λ b. seen (b.vtable, b.value)) store.old).things }
     ensures log { undo.new ≡ outer undo.old }
-    ensures objects { objects_of (λ b. seen (b.vtable, b.value)) store.new ≡ undo_on (innermost undo.old) (objects_of (λ b. seen (b.vtable, b.value)) store.old) }
+    ensures objects { objects_of (λ b. seen (b.vtable, b.value)) store.new ≡ put_back_on (innermost undo.old) (objects_of (λ b. seen (b.vtable, b.value)) store.old) }
     ensures memory { store.new.ram ≡ store.old.ram }
     ensures world { world_of_store store.new ≡ world_of_store store.old }
     ensures living { (q : ℕ) → lives (queue_of store.new) q ≡ lives (queue_of store.old) q }
@@ -71,7 +70,7 @@ pub(crate) fn end_level(chain: &mut Chain, p: u8, store: &mut Store, locks: &mut
     requires sound { AreSound (queue_of store.old) chain.old.levels }
     ensures levels { chain.new.levels ≡ chain.old.levels }
     ensures log { chain.new.undo ≡ outer chain.old.undo }
-    ensures objects { objects_of (λ b. seen (b.vtable, b.value)) store.new ≡ undo_on (innermost chain.old.undo) (objects_of (λ b. seen (b.vtable, b.value)) store.old) }
+    ensures objects { objects_of (λ b. seen (b.vtable, b.value)) store.new ≡ put_back_on (innermost chain.old.undo) (objects_of (λ b. seen (b.vtable, b.value)) store.old) }
     ensures locks { held locks.new ≡ release_from p (length chain.old.levels) (held locks.old) }
     ensures memory { store.new.ram ≡ store.old.ram }
     ensures placed { IsPlaced (λ b. seen (b.vtable, b.value)) store.new locks.new p chain.new.levels chain.new.undo }

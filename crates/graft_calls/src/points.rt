@@ -55,7 +55,8 @@ pub(crate) fn default_of(store: &Store, q: u8, pt: u8) -> (u32, u32)
             (start, count)
         }
         4 => (victim(store, q), 0),
-        _ => (u32::from(q), 0),
+        5 => (u32::from(q), 0),
+        _ => (0, 0),
     }
 }
 
@@ -74,10 +75,11 @@ pub(crate) fn args_of(store: &Store, q: u8, pt: u8) -> [u32; 4]
             let frames = store.owned_rows(q).as_slice().len() as u32;
             [victim(store, q), 0, frames, 0]
         }
-        _ => {
+        5 => {
             let living = store.procs.rows().len() as u32;
             [u32::from(q), u32::from(store.nice(q)), living, 0]
         }
+        _ => [0; 4],
     }
 }
 
@@ -90,6 +92,8 @@ pub(crate) fn is_valid(store: &Store, level: &GraftLevel) -> bool
     match level.point {
         0..=3 => valid_ahead(level.args[2], r0, level.machine.reg(1)),
         4 => store.is_owner(level.owner, r0),
-        _ => store.living(r0),
+        5 => store.living(r0),
+        6..=13 => r0 <= 512,
+        _ => r0 == level.args[0],
     }
 }

@@ -10,14 +10,13 @@ ghost use Rattle.kernel_model.specs.Levels.{answered};
 ghost use Rattle.kernel_model.specs.Locks.{LockTable as Table, merge_level, release_from};
 ghost use Rattle.kernel_model.specs.Objects.{Objects as State, Accounts as Funds, Things};
 ghost use Rattle.kernel_model.specs.Policies.{kind_of, valid};
-ghost use Rattle.kernel_model.specs.UndoLog.{undo_all};
 ghost use Rattle.kernel_model.specs.Sound.{ImagesAreLoaded};
 ghost use Rattle.kernel_model.specs.World.{ImageTable};
 ghost use Rattle.kernel_state.specs.Stores.{world_of_store, objects_of};
 ghost use Rattle.lock_table.specs.Masks.{held};
 ghost use Rattle.undo_calls.specs.UndoLevels.{innermost, merged};
 ghost use Rattle.graft_machine.specs.Cpu.{machine_of};
-ghost use Rattle.graft_calls.specs.Chains.{came, call_of, level_of, outer_of, level_in, levels_in, outer};
+ghost use Rattle.graft_calls.specs.Chains.{came, call_of, level_of, outer_of, level_in, levels_in, outer, put_back};
 ghost use Rattle.graft_calls.specs.Calls.{AreSound, AreInside, IsPlaced, IsElsewhereSame};
 
 use crate::answers::answer;
@@ -46,9 +45,9 @@ fn join(level: GraftLevel, asker: GraftLevel, levels: &mut Levels, p: u8, locks:
     requires few { length levels.old < 3 }
     requires process { p < 16 }
     ensures levels { (q : ℕ) (ram : List ℕ) (t : Table) (log : List (List Undoing)) (w : Things) →
-        let k = level_in q (length levels.old) ram t asker (innermost log) (undo_all (innermost log) w) in
+        let k = level_in q (length levels.old) ram t asker (innermost log) (put_back (innermost log) w) in
         levels_in q ram t levels.new log w ≡ record k { machine = answered (kind_of level.point) (slice_index level.machine.regs 0) (slice_index level.machine.regs 1) k.machine }
-        ∷ levels_in q ram t levels.old (outer log) (undo_all (innermost log) w) }
+        ∷ levels_in q ram t levels.old (outer log) (put_back (innermost log) w) }
     ensures locks { held locks.new ≡ merge_level p (suc (length levels.old)) (held locks.old) }
     ensures count { length levels.new ≡ suc (length levels.old) }
     ensures sound { (queue : List Waiting) → AreSound queue (asker ∷ levels.old) → AreSound queue levels.new }
@@ -71,7 +70,7 @@ fn complete(level: GraftLevel, chain: &mut Chain, p: u8, locks: &mut LockTable) 
     requires few { length chain.old.levels < 4 }
     requires as_many { length chain.old.undo ≡ suc (length chain.old.levels) }
     requires process { p < 16 }
-    ensures step { (w : State) (ram : List ℕ) → let kept = undo_all (innermost chain.old.undo) w.things in
+    ensures step { (w : State) (ram : List ℕ) → let kept = put_back (innermost chain.old.undo) w.things in
         came (completed w (level_in p (length chain.old.levels) ram (held locks.old) level (innermost chain.old.undo) kept)
         (levels_in p ram (held locks.old) chain.old.levels (outer chain.old.undo) kept))
         ≡ (result, record { now = w; levels = levels_in p ram (held locks.new) chain.new.levels chain.new.undo w.things }) }

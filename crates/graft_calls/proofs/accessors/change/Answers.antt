@@ -1,7 +1,7 @@
 use Rattle.std.proofs.Common.{◌≡◌, ◌==◌, ◌||◌, ◌∷◌, ℕ, false, List, length, slice_index, ap, sym, refl, subst, arith, ◌∙◌}
 use Rattle.kernel_model.specs.declared.Kind.TheVariants.{Records}
 use Rattle.kernel_model.specs.declared.Cause.TheVariants.{SpentRecords}
-use Rattle.kernel_model.specs.Access.{access, undo}
+use Rattle.kernel_model.specs.Access.{access, undo, bare_found}
 use Rattle.kernel_model.specs.Charges.{charge, funds}
 use Rattle.kernel_model.specs.GraftStep.{is_record_spent}
 use Rattle.kernel_model.specs.Levels.{drop_innermost}
@@ -67,7 +67,8 @@ returns-clause-step g c =
     ∙ ap (λ (xs : List ℕ). with_things (things_after (access c.args.id (slice_index xs 0) (slice_index xs 1) (slice_index xs 2) q w.things) w.things) (with_accounts (accounts_of c.charge_record.new.accounts) w)) c.arguments.ensures in
     let charged : accounts_of c.charge_record.new.accounts ≡ charge Records l.owner l.point w.accounts = c.if-not-charge_record.ensures.accounts in
     let law = c.inverses_undo.ensures c.args.id (l.machine.regs 0) (l.machine.regs 1) (l.machine.regs 2) q w.things (stands_once q w.things.queue (c.rows.ensures.sound.queue.once q)) in
-    let back : undo c.args.inverse_is u.things ≡ w.things = ap (λ (x : Objects). undo c.args.inverse_is x.things) state ∙ leads_back a c.args.result_is c.args.inverse_is w.things c.requires.answer law in
+    let back : undo (bare_found c.args.inverse_is) u.things ≡ w.things =
+    ap (λ (x : Objects). undo (bare_found c.args.inverse_is) x.things) state ∙ leads_back a c.args.result_is c.args.inverse_is w.things c.requires.answer law in
     is_recorded v w l ls l.machine c.args.id c.args.result_is c.args.inverse_is after spent same c.if-not-charge_record.ensures.answer
     ∙ pair _ _ _ _ refl (configs _ u _ _ (sym (state ∙ ap (λ (x : Accounts). with_things after (with_accounts x w)) charged))
     (sym (recorded_on c.args.id c.args.result_is c.args.p c.count.result c.args.need.object c.args.need.mode s.ram c.apply.new.self.ram (held c.args.locks.now) (held c.touch.new.self) c.args.level

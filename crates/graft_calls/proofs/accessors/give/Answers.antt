@@ -5,12 +5,11 @@ use Rattle.kernel_model.specs.Access.{accessed}
 use Rattle.kernel_model.specs.GraftStep.{after_result}
 use Rattle.kernel_model.specs.Levels.{drop_innermost}
 use Rattle.kernel_model.specs.Objects.{with_accounts}
-use Rattle.kernel_model.specs.UndoLog.{undo_all}
 use Rattle.lock_table.specs.Masks.{held}
 use Rattle.undo_calls.specs.UndoLevels.{innermost}
 use Rattle.graft_accounts.specs.Table.{accounts_of}
 use Rattle.kernel_state.specs.Stores.{world_of_store, objects_of}
-use Rattle.graft_calls.specs.Chains.{came, level_of, outer_of, outer}
+use Rattle.graft_calls.specs.Chains.{came, level_of, outer_of, outer, put_back}
 use Rattle.graft_calls.proofs.Charging.{not_paid, is_paid, unpaid}
 use Rattle.graft_calls.proofs.Conditions.{inside_if, loaded_if}
 use Rattle.graft_calls.proofs.Dropping.{pair, configs}
@@ -57,7 +56,7 @@ returns-clause-step g c =
     ∙ pair _ _ _ _ refl (configs u u _ _ refl
     (sym (c.go_on.ensures.levels c.args.p s.ram (held c.touch.new.self) log w.things
     ∙ gone_on c.args.id c.args.result_is c.args.p c.count.result c.args.need.object c.args.need.mode s.ram (held c.args.locks.now) (held c.touch.new.self) c.args.level c.args.chain.now.levels
-    (innermost log) (outer log) (undo_all (innermost log) w.things) c.count.ensures.value c.touch.ensures c.requires.object c.requires.mode)))
+    (innermost log) (outer log) (put_back (innermost log) w.things) c.count.ensures.value c.touch.ensures c.requires.object c.requires.mode)))
 
 pub returns-clause-placed : goal.returns-clause-placed
 returns-clause-placed g c =

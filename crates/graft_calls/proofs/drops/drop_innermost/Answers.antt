@@ -1,10 +1,9 @@
 use Rattle.std.proofs.Common.{◌≡◌, ap, subst, sym, ◌∙◌, length}
 use Rattle.kernel_model.specs.Policies.{default_of}
 use Rattle.kernel_model.specs.Levels.{answer_innermost}
-use Rattle.graft_calls.specs.Chains.{levels_in}
+use Rattle.graft_calls.specs.Chains.{levels_in, put_back_on}
 use Rattle.kernel_model.specs.Objects.{Objects, with_accounts}
 use Rattle.kernel_model.specs.Charges.{removed}
-use Rattle.kernel_model.specs.UndoLog.{undo_on}
 use Rattle.kernel_model.specs.Sound.{ImagesAreLoaded}
 use Rattle.lock_table.specs.Masks.{held}
 use Rattle.undo_calls.specs.UndoLevels.{innermost}
@@ -23,7 +22,7 @@ returns-clause-step g c =
     let u = objects_of (λ b. (goal.Policy-dyn g (b.vtable, b.value)).seen b.value) (record (c.end_level.new.store) { accounts = c.remove.new.self }) in
     let v = world_of_store c.args.store.now in
     let g1 = c.args.level in
-    let state : u ≡ with_accounts (removed g1.owner g1.point w.accounts) (undo_on (innermost c.args.chain.now.undo) w) =
+    let state : u ≡ with_accounts (removed g1.owner g1.point w.accounts) (put_back_on (innermost c.args.chain.now.undo) w) =
     removed_after g1.owner g1.point (innermost c.args.chain.now.undo) w one (accounts_of c.remove.new.self) c.end_level.ensures.objects c.remove.ensures.value in
     dropped v w u c.args.p c.count.result c.args.store.now.ram c.end_level.new.store.ram (held c.args.locks.now) (held c.end_level.new.locks) g1
     c.args.chain.now.levels c.give_answer.new.levels c.args.chain.now.undo c.end_level.new.chain.undo c.args.cause c.default_of-r0.result

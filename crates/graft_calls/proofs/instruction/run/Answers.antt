@@ -10,7 +10,6 @@ use Rattle.kernel_model.specs.Machine.{Done, seg_step}
 use Rattle.kernel_model.specs.Objects.{Objects, Accounts, with_accounts}
 use Rattle.kernel_model.specs.Runs.{on_segment}
 use Rattle.kernel_model.specs.Sound.{ImagesAreLoaded}
-use Rattle.kernel_model.specs.UndoLog.{undo_all}
 use Rattle.lock_table.specs.Masks.{held}
 use Rattle.undo_calls.specs.UndoLevels.{innermost}
 use Rattle.graft_accounts.specs.Table.{accounts_of}
@@ -18,7 +17,7 @@ use Rattle.graft_machine.specs.Cpu.{Cpu, machine_of, done_of, by_place}
 use Rattle.kernel_state.specs.Stores.{world_of_store, objects_of, queue_of}
 use Rattle.graft_loader.specs.Slots.{table_of}
 use Rattle.graft_calls.specs.declared.GraftLevel.{GraftLevel}
-use Rattle.graft_calls.specs.Chains.{came, level_of, outer_of, level_in, levels_in, outer}
+use Rattle.graft_calls.specs.Chains.{came, level_of, outer_of, level_in, levels_in, outer, put_back}
 use Rattle.graft_calls.specs.Calls.{AreInside}
 use Rattle.graft_calls.proofs.Beginning.{same_objects}
 use Rattle.graft_calls.proofs.Conditions.{loaded_charged}
@@ -121,7 +120,7 @@ returns-clause-step g c =
     let t = held c.args.locks.now in
     let log = c.args.chain.now.undo in
     let is = innermost log in
-    let kept = undo_all is w.things in
+    let kept = put_back is w.things in
     let base = base_of p n in
     let l = level_of (λ b. (goal.Policy-dyn g (b.vtable, b.value)).seen b.value) s c.args.locks.now c.args.chain.now p c.args.level in
     let ls = outer_of (λ b. (goal.Policy-dyn g (b.vtable, b.value)).seen b.value) s c.args.locks.now c.args.chain.now p in
@@ -143,7 +142,7 @@ returns-clause-step g c =
     ∙ ap came (after_done v images p u one ls base k done (λ id called. ap by_place (c.step-done.ensures.called id called))
     (λ ended. ap (λ (x : Cpu). on_segment base (machine_of x mem)) (c.step-done.ensures.ended ended) ∙ ap (λ (x : List ℕ). on_segment base (machine_of now.machine x)) (c.step-done.ensures.memory ended)))
     ∙ ap (λ (x : List Level). came (after_machine v images p u two x (done_of done (on_segment base k)))) outside
-    ∙ ap (λ (x : Objects). came (after_machine v images p x (level_in p n mem t (record now { machine = cpu }) is (undo_all is x.things)) (levels_in p mem t gs (outer log) (undo_all is x.things)) (done_of done (on_segment base k)))) (sym state)
+    ∙ ap (λ (x : Objects). came (after_machine v images p x (level_in p n mem t (record now { machine = cpu }) is (put_back is x.things)) (levels_in p mem t gs (outer log) (put_back is x.things)) (done_of done (on_segment base k)))) (sym state)
     ∙ c.after_machine.ensures.step
 
 pub returns-clause-elsewhere : goal.returns-clause-elsewhere
