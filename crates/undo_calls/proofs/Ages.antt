@@ -5,8 +5,9 @@ use Rattle.std.proofs.lemmas.Bool.Decides.{nat_tests}
 use Rattle.std.proofs.lemmas.Grind.{reverse_onto}
 use Rattle.std.proofs.lemmas.List.{reverse-reverse, length-reverse, length-replicate, length-take, length-take-le, length-drop, map-append, take-append-drop, take_more, get_or-reverse, get_or_append_left, get_or-append_right, get_or-replicate, length-map, reverse-append}
 use Rattle.kernel_model.specs.declared.Inverse.{Inverse}
+use Rattle.kernel_model.specs.Access.{Found, found_by}
 use Rattle.kernel_model.specs.UndoLog.{numbered_log}
-use Rattle.undo_calls.specs.UndoLevels.{cut, are_marks, levels_of, records_of, owners_of, owner_by, IsStack}
+use Rattle.undo_calls.specs.UndoLevels.{cut, are_marks, found_log, levels_of, records_of, owners_of, owner_by, IsStack}
 use Rattle.undo_calls.proofs.Cuts.{within, outside, length-cut, length-log}
 
 map-reverse : {X Y : Type 0} (f : X → Y) (xs : List X) → map f (reverse xs) ≡ reverse (map f xs)
@@ -16,11 +17,11 @@ map-reverse f (x ∷ xs) =
     ∙ sym (reverse_onto (map f xs) (f x) [])
 
 -- records with their level: the records, and the level
-numbered-records : (d : ℕ) (is : List Inverse) → map (λ (r : ℕ × Inverse). r.1) (map (λ i. (d, i)) is) ≡ is
+numbered-records : (d : ℕ) (is : List Found) → map (λ (r : ℕ × Found). r.1) (map (λ i. (d, i)) is) ≡ is
 numbered-records d [] = refl
 numbered-records d (i ∷ is) = ap (λ js. i ∷ js) (numbered-records d is)
 
-numbered-levels : (d : ℕ) (is : List Inverse) → map (λ (r : ℕ × Inverse). r.0) (map (λ i. (d, i)) is) ≡ replicate (length is) d
+numbered-levels : (d : ℕ) (is : List Found) → map (λ (r : ℕ × Found). r.0) (map (λ i. (d, i)) is) ≡ replicate (length is) d
 numbered-levels d [] = refl
 numbered-levels d (i ∷ is) = ap (λ ds. d ∷ ds) (numbered-levels d is)
 
@@ -36,35 +37,42 @@ none-left : (rs : List Inverse) → are_marks [] (length rs) ≡ true → rs ≡
 none-left [] h = refl
 none-left (i ∷ rs) h = absurd (let never : ⊥ = grind (arith, nat_tests) in never)
 
-records-cut : (ms : List ℕ) (rs : List Inverse) → are_marks ms (length rs) ≡ true → map (λ (r : ℕ × Inverse). r.1) (numbered_log (cut ms rs)) ≡ rs
-records-cut [] rs h = sym (none-left rs h)
+records-cut : (ms : List ℕ) (rs : List Inverse) → are_marks ms (length rs) ≡ true → map (λ (r : ℕ × Found). r.1) (numbered_log (found_log (cut ms rs))) ≡ map found_by rs
+records-cut [] rs h = ap (map found_by) (sym (none-left rs h))
 records-cut (m ∷ ms) rs h =
     let k = length rs - m in
     let rest = cut ms (drop k rs) in
-    map-append (λ (r : ℕ × Inverse). r.1) (map (λ i. (length rest, i)) (take k rs)) (numbered_log rest)
-    ∙ ap (λ (is : List Inverse). is ++ map (λ (r : ℕ × Inverse). r.1) (numbered_log rest)) (numbered-records (length rest) (take k rs))
-    ∙ ap (λ (is : List Inverse). take k rs ++ is) (records-cut ms (drop k rs) (marks-outside m ms rs h))
-    ∙ take-append-drop k rs
+    let found = map found_by (take k rs) in
+    let log = found_log rest in
+    map-append (λ (r : ℕ × Found). r.1) (map (λ i. (length log, i)) found) (numbered_log log)
+    ∙ ap (λ (is : List Found). is ++ map (λ (r : ℕ × Found). r.1) (numbered_log log)) (numbered-records (length log) found)
+    ∙ ap (λ (is : List Found). found ++ is) (records-cut ms (drop k rs) (marks-outside m ms rs h))
+    ∙ sym (map-append found_by (take k rs) (drop k rs))
+    ∙ ap (map found_by) (take-append-drop k rs)
 
 -- the records of the levels are those of the stack
-pub records-levels : (marks : List ℕ) (records : List Inverse) → IsStack marks records → records_of (levels_of marks records) ≡ records
+pub records-levels : (marks : List ℕ) (records : List Inverse) → IsStack marks records → records_of (levels_of marks records) ≡ map found_by records
 records-levels marks records h =
-    map-reverse (λ (r : ℕ × Inverse). r.1) (numbered_log (levels_of marks records))
+    map-reverse (λ (r : ℕ × Found). r.1) (numbered_log (found_log (levels_of marks records)))
     ∙ ap reverse
     (records-cut (reverse marks) (reverse records) (subst (λ n. are_marks (reverse marks) n ≡ true) (sym (length-reverse records)) h.in_order))
-    ∙ reverse-reverse records
+    ∙ ap reverse (map-reverse found_by records)
+    ∙ reverse-reverse (map found_by records)
 
 -- the levels of the records, newest first
 abbrev owners : List (List Inverse) → List ℕ
-owners log = map (λ (r : ℕ × Inverse). r.0) (numbered_log log)
+owners log = map (λ (r : ℕ × Found). r.0) (numbered_log (found_log log))
 
 owners-cut : (m : ℕ) (ms : List ℕ) (rs : List Inverse) → owners (cut (m ∷ ms) rs) ≡ replicate (length (take (length rs - m) rs)) (length ms) ++ owners (cut ms (drop (length rs - m) rs))
 owners-cut m ms rs =
     let k = length rs - m in
     let rest = cut ms (drop k rs) in
-    map-append (λ (r : ℕ × Inverse). r.0) (map (λ i. (length rest, i)) (take k rs)) (numbered_log rest)
-    ∙ ap (λ (ds : List ℕ). ds ++ owners rest) (numbered-levels (length rest) (take k rs))
-    ∙ ap (λ (d : ℕ). replicate (length (take k rs)) d ++ owners rest) (length-cut ms (drop k rs))
+    let found = map found_by (take k rs) in
+    let log = found_log rest in
+    map-append (λ (r : ℕ × Found). r.0) (map (λ i. (length log, i)) found) (numbered_log log)
+    ∙ ap (λ (ds : List ℕ). ds ++ owners rest) (numbered-levels (length log) found)
+    ∙ ap (λ (n : ℕ). replicate n (length log) ++ owners rest) (length-map (take k rs) found_by)
+    ∙ ap (λ (d : ℕ). replicate (length (take k rs)) d ++ owners rest) (length-map rest (map found_by) ∙ length-cut ms (drop k rs))
 
 -- a level's own records are at most all
 least : (n m : ℕ) → min (n - m) n ≡ n - m
@@ -105,9 +113,10 @@ owner-cut (m ∷ ms) rs i h inside =
 
 length-owners : (ms : List ℕ) (rs : List Inverse) → are_marks ms (length rs) ≡ true → length (owners (cut ms rs)) ≡ length rs
 length-owners ms rs h =
-    length-map (numbered_log (cut ms rs)) (λ (r : ℕ × Inverse). r.0)
-    ∙ sym (length-map (numbered_log (cut ms rs)) (λ (r : ℕ × Inverse). r.1))
+    length-map (numbered_log (found_log (cut ms rs))) (λ (r : ℕ × Found). r.0)
+    ∙ sym (length-map (numbered_log (found_log (cut ms rs))) (λ (r : ℕ × Found). r.1))
     ∙ ap length (records-cut ms rs h)
+    ∙ length-map rs found_by
 
 -- the owner of a record
 pub owner-levels : (marks : List ℕ) (records : List Inverse) (i : ℕ) → IsStack marks records → i < length records → get_or (owners_of (levels_of marks records)) i 0 ≡ owner_by (reverse marks) i
@@ -117,7 +126,7 @@ owner-levels marks records i h inside =
     let order : are_marks (reverse marks) (length rs) ≡ true = subst (λ n. are_marks (reverse marks) n ≡ true) (sym len) h.in_order in
     let all = owners (cut (reverse marks) rs) in
     let size = length-owners (reverse marks) rs order in
-    ap (λ ds. get_or ds i 0) (map-reverse (λ (r : ℕ × Inverse). r.0) (numbered_log (cut (reverse marks) rs)))
+    ap (λ ds. get_or ds i 0) (map-reverse (λ (r : ℕ × Found). r.0) (numbered_log (found_log (cut (reverse marks) rs))))
     ∙ get_or-reverse all i 0 (omega arith)
     ∙ ap (λ n. get_or all (n - 1 - i) 0) size
     ∙ owner-cut (reverse marks) rs i order (omega arith)
@@ -143,11 +152,11 @@ level-some marks records h some = marks-some (reverse marks) (length records) h.
 
 -- ---- the same for what a stack is seen as
 
-pub records-log : (marks : List ℕ) (records : List Inverse) (log : List (List Inverse)) → IsStack marks records → levels_of marks records ≡ log → records_of log ≡ records
+pub records-log : (marks : List ℕ) (records : List Inverse) (log : List (List Inverse)) → IsStack marks records → levels_of marks records ≡ log → records_of log ≡ map found_by records
 records-log marks records log h view = ap records_of (sym view) ∙ records-levels marks records h
 
 pub length-records : (marks : List ℕ) (records : List Inverse) (log : List (List Inverse)) → IsStack marks records → levels_of marks records ≡ log → length (records_of log) ≡ length records
-length-records marks records log h view = ap length (records-log marks records log h view)
+length-records marks records log h view = ap length (records-log marks records log h view) ∙ length-map records found_by
 
 pub owner-log : (marks : List ℕ) (records : List Inverse) (log : List (List Inverse)) (i : ℕ) → IsStack marks records → levels_of marks records ≡ log → i < length (records_of log) → get_or (owners_of log) i 0 ≡ owner_by (reverse marks) i
 owner-log marks records log i h view inside =

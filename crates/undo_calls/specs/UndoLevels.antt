@@ -1,6 +1,7 @@
 -- What each call makes of the levels of an undo log, and the records of all levels in order of age.
 use Rattle.std.specs.Prelude.{◌≡◌, ℕ, ◌-◌, ◌≤◌, ◌==◌, ◌&&◌, Bool, true, cond, nat_le, List, [], ◌∷◌, ◌++◌, Option, Some, None, length, map, reverse, take, drop}
 use Rattle.kernel_model.specs.declared.Inverse.{Inverse}
+use Rattle.kernel_model.specs.Access.{Found, found_by}
 use Rattle.kernel_model.specs.UndoLog.{numbered_log}
 
 -- ---- the levels: innermost level first, newest record first within a level
@@ -35,12 +36,16 @@ abbrev pub without_newest : List (List Inverse) → List (List Inverse)
 without_newest [] = []
 without_newest (is ∷ log) = drop 1 is ∷ log
 
--- the records of all levels with the number of the level that owns each, oldest first
-abbrev pub by_age : List (List Inverse) → List (ℕ × Inverse)
-by_age log = reverse (numbered_log log)
+-- what the records of each level found: inverses that put no bytes back
+abbrev pub found_log : List (List Inverse) → List (List Found)
+found_log log = map (map found_by) log
 
--- the records of all levels, oldest first
-abbrev pub records_of : List (List Inverse) → List Inverse
+-- what the records of all levels found, with the number of the level that owns each, oldest first
+abbrev pub by_age : List (List Inverse) → List (ℕ × Found)
+by_age log = reverse (numbered_log (found_log log))
+
+-- what the records of all levels found, oldest first
+abbrev pub records_of : List (List Inverse) → List Found
 records_of log = map (λ r. r.1) (by_age log)
 
 -- the levels that own them, in the same order

@@ -1,7 +1,8 @@
 //! The undo log of a call: what its changing accessors found, by level.
 #![tactic(auto)]
 
-ghost use Rattle.std.specs.Prelude.{◌≡◌, ◌-◌, ◌<◌, ◌≤◌, ◌↔◌, [], ◌∷◌, ◌++◌, length, reverse, take, slice_index, OnOk, OnErr, IsErr, IfErr};
+ghost use Rattle.std.specs.Prelude.{◌≡◌, ◌-◌, ◌<◌, ◌≤◌, ◌↔◌, [], ◌∷◌, ◌++◌, length, map, reverse, take, slice_index, OnOk, OnErr, IsErr, IfErr};
+ghost use Rattle.kernel_model.specs.Access.{found_by};
 ghost use Rattle.undo_calls.specs.UndoLevels.{owner_by};
 
 use arrayvec::ArrayVec;
@@ -131,7 +132,7 @@ impl UndoStack {
 
     /// The records of all levels, oldest first.
     pub fn list(&self) -> &[Inverse]
-        ensures value { result.now ≡ records_of self.now }
+        ensures value { map found_by result.now ≡ records_of self.now }
         ensures few { length result.now ≤ 64 }
         ensures levels { length self.now ≤ 4 }
     {
