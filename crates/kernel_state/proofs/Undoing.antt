@@ -77,7 +77,8 @@ keeps_param n x (Tune kind k v) w h =
     (h.0, ap (λ j. in_range (param_top kind j) k v) (same_chosen (kind == n) x (w.pol n) (w.pol kind) (λ is. let one : kind ≡ n = grind (arith, nat_tests, is) in ap (λ m. w.pol m) (sym one))) ∙ h.1)
 
 -- another record is undone
-pub kept_by_undo : (j i : Inverse) (w : Things) → CanBeUndone i w → CanBeUndone i (undo (found_by j) w)
+pub kept_by_undo : (j i : Inverse) (w : Things) → CanBeUndone i w →
+    CanBeUndone i (undo (found_by j) w)
 kept_by_undo (Cell q k v) i w h = keeps_cell q k v i w h
 kept_by_undo (Nice q v) i w h = keeps_nice q v i w h
 kept_by_undo (Window q fd v) i w h = keeps_window q fd v i w h

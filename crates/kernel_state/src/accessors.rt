@@ -44,7 +44,8 @@ impl Store {
     pub fn undo(&mut self, inverse: Inverse)
         requires sound { IsStore (λ b. seen b) self.old }
         requires fits { CanBeUndone inverse (objects_of (λ b. seen b) self.old).things }
-        ensures objects { let s = objects_of (λ b. seen b) self.old in objects_of (λ b. seen b) self.new ≡ with_things (undone (found_by inverse) s.things) s }
+        ensures objects { let s = objects_of (λ b. seen b) self.old in objects_of (λ b. seen b) self.new ≡
+            with_things (undone (found_by inverse) s.things) s }
         ensures living { (p : ℕ) → lives (queue_of self.new) p ≡ lives (queue_of self.old) p }
         ensures world { world_of_store self.new ≡ world_of_store self.old }
         ensures sound { IsStore (λ b. seen b) self.new }

@@ -17,11 +17,13 @@ map-reverse f (x ∷ xs) =
     ∙ sym (reverse_onto (map f xs) (f x) [])
 
 -- records with their level: the records, and the level
-numbered-records : (d : ℕ) (is : List Found) → map (λ (r : ℕ × Found). r.1) (map (λ i. (d, i)) is) ≡ is
+numbered-records : (d : ℕ) (is : List Found) →
+    map (λ (r : ℕ × Found). r.1) (map (λ i. (d, i)) is) ≡ is
 numbered-records d [] = refl
 numbered-records d (i ∷ is) = ap (λ js. i ∷ js) (numbered-records d is)
 
-numbered-levels : (d : ℕ) (is : List Found) → map (λ (r : ℕ × Found). r.0) (map (λ i. (d, i)) is) ≡ replicate (length is) d
+numbered-levels : (d : ℕ) (is : List Found) →
+    map (λ (r : ℕ × Found). r.0) (map (λ i. (d, i)) is) ≡ replicate (length is) d
 numbered-levels d [] = refl
 numbered-levels d (i ∷ is) = ap (λ ds. d ∷ ds) (numbered-levels d is)
 
@@ -37,7 +39,8 @@ none-left : (rs : List Inverse) → are_marks [] (length rs) ≡ true → rs ≡
 none-left [] h = refl
 none-left (i ∷ rs) h = absurd (let never : ⊥ = grind (arith, nat_tests) in never)
 
-records-cut : (ms : List ℕ) (rs : List Inverse) → are_marks ms (length rs) ≡ true → map (λ (r : ℕ × Found). r.1) (numbered_log (found_log (cut ms rs))) ≡ map found_by rs
+records-cut : (ms : List ℕ) (rs : List Inverse) → are_marks ms (length rs) ≡ true →
+    map (λ (r : ℕ × Found). r.1) (numbered_log (found_log (cut ms rs))) ≡ map found_by rs
 records-cut [] rs h = ap (map found_by) (sym (none-left rs h))
 records-cut (m ∷ ms) rs h =
     let k = length rs - m in
@@ -45,13 +48,15 @@ records-cut (m ∷ ms) rs h =
     let found = map found_by (take k rs) in
     let log = found_log rest in
     map-append (λ (r : ℕ × Found). r.1) (map (λ i. (length log, i)) found) (numbered_log log)
-    ∙ ap (λ (is : List Found). is ++ map (λ (r : ℕ × Found). r.1) (numbered_log log)) (numbered-records (length log) found)
+    ∙ ap (λ (is : List Found). is ++ map (λ (r : ℕ × Found). r.1) (numbered_log log))
+    (numbered-records (length log) found)
     ∙ ap (λ (is : List Found). found ++ is) (records-cut ms (drop k rs) (marks-outside m ms rs h))
     ∙ sym (map-append found_by (take k rs) (drop k rs))
     ∙ ap (map found_by) (take-append-drop k rs)
 
 -- the records of the levels are those of the stack
-pub records-levels : (marks : List ℕ) (records : List Inverse) → IsStack marks records → records_of (levels_of marks records) ≡ map found_by records
+pub records-levels : (marks : List ℕ) (records : List Inverse) → IsStack marks records →
+    records_of (levels_of marks records) ≡ map found_by records
 records-levels marks records h =
     map-reverse (λ (r : ℕ × Found). r.1) (numbered_log (found_log (levels_of marks records)))
     ∙ ap reverse
@@ -72,7 +77,8 @@ owners-cut m ms rs =
     map-append (λ (r : ℕ × Found). r.0) (map (λ i. (length log, i)) found) (numbered_log log)
     ∙ ap (λ (ds : List ℕ). ds ++ owners rest) (numbered-levels (length log) found)
     ∙ ap (λ (n : ℕ). replicate n (length log) ++ owners rest) (length-map (take k rs) found_by)
-    ∙ ap (λ (d : ℕ). replicate (length (take k rs)) d ++ owners rest) (length-map rest (map found_by) ∙ length-cut ms (drop k rs))
+    ∙ ap (λ (d : ℕ). replicate (length (take k rs)) d ++ owners rest)
+    (length-map rest (map found_by) ∙ length-cut ms (drop k rs))
 
 -- a level's own records are at most all
 least : (n m : ℕ) → min (n - m) n ≡ n - m
@@ -126,7 +132,8 @@ owner-levels marks records i h inside =
     let order : are_marks (reverse marks) (length rs) ≡ true = subst (λ n. are_marks (reverse marks) n ≡ true) (sym len) h.in_order in
     let all = owners (cut (reverse marks) rs) in
     let size = length-owners (reverse marks) rs order in
-    ap (λ ds. get_or ds i 0) (map-reverse (λ (r : ℕ × Found). r.0) (numbered_log (found_log (cut (reverse marks) rs))))
+    ap (λ ds. get_or ds i 0)
+    (map-reverse (λ (r : ℕ × Found). r.0) (numbered_log (found_log (cut (reverse marks) rs))))
     ∙ get_or-reverse all i 0 (omega arith)
     ∙ ap (λ n. get_or all (n - 1 - i) 0) size
     ∙ owner-cut (reverse marks) rs i order (omega arith)
@@ -152,11 +159,13 @@ level-some marks records h some = marks-some (reverse marks) (length records) h.
 
 -- ---- the same for what a stack is seen as
 
-pub records-log : (marks : List ℕ) (records : List Inverse) (log : List (List Inverse)) → IsStack marks records → levels_of marks records ≡ log → records_of log ≡ map found_by records
+pub records-log : (marks : List ℕ) (records : List Inverse) (log : List (List Inverse)) → IsStack marks records →
+    levels_of marks records ≡ log → records_of log ≡ map found_by records
 records-log marks records log h view = ap records_of (sym view) ∙ records-levels marks records h
 
 pub length-records : (marks : List ℕ) (records : List Inverse) (log : List (List Inverse)) → IsStack marks records → levels_of marks records ≡ log → length (records_of log) ≡ length records
-length-records marks records log h view = ap length (records-log marks records log h view) ∙ length-map records found_by
+length-records marks records log h view =
+    ap length (records-log marks records log h view) ∙ length-map records found_by
 
 pub owner-log : (marks : List ℕ) (records : List Inverse) (log : List (List Inverse)) (i : ℕ) → IsStack marks records → levels_of marks records ≡ log → i < length (records_of log) → get_or (owners_of log) i 0 ≡ owner_by (reverse marks) i
 owner-log marks records log i h view inside =
