@@ -20,17 +20,19 @@ not_refused true r next is = absurd (cc)
 not_refused false r next is = (refl, is)
 
 -- a call that was granted, with some images loaded
-abbrev Granted : World → ℕ → SysCall → Type 0
-Granted v p c = (images : ImageTable) × (is_ok (plain_early v images p c) ≡ true)
+abbrev pub Granted : World → ℕ → SysCall → Type 0
+Granted v p c = (images : ImageTable) × (is_ok (plain_early TOP_POINT v images p c) ≡ true)
 
 granted_none : (c : SysCall) (x : Option Refusal) → is_ok (begins_unless c x) ≡ true → x ≡ None
 granted_none c None is = refl
 granted_none c (Some r) is = absurd (cc)
 
 -- no refusal of the call by its name
-granted_as : (v : World) (p : ℕ) (c k : SysCall) (h : Granted v p c) → c ≡ k → call_refusal v h.0 p k ≡ None
+granted_as : (v : World) (p : ℕ) (c k : SysCall) (h : Granted v p c) → c ≡ k →
+    call_refusal TOP_POINT v h.0 p k ≡ None
 granted_as v p c k h is =
-    let none = granted_none c (call_refusal v h.0 p c) h.1 in subst (λ (x : SysCall). call_refusal v h.0 p x ≡ None) is none
+    let none = granted_none c (call_refusal TOP_POINT v h.0 p c) h.1 in
+    subst (λ (x : SysCall). call_refusal TOP_POINT v h.0 p x ≡ None) is none
 
 pub exit_granted : (v : World) (p : ℕ) (c : SysCall) → Granted v p c → c ≡ Exit → 0 < p
 exit_granted v p c h is = let other = (not_refused (p == 0) Denied None (granted_as v p c Exit h is)).0 in grind (arith, nat_tests, other)

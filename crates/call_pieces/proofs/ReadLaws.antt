@@ -1,5 +1,5 @@
 -- The pieces of a read.
-use Rattle.std.proofs.Common.{◌≡◌, ℕ, zero, suc, ◌+◌, ◌-◌, ◌≤◌, ◌&&◌, nat_le, Bool, true, List, Option, Some, None, Result, Ok, slice_range, refl, arith, sym, ◌∙◌, ap, subst}
+use Rattle.std.proofs.Common.{◌≡◌, ℕ, zero, suc, ◌+◌, ◌-◌, ◌≤◌, ◌&&◌, nat_le, nat_lt, Bool, true, List, Option, Some, None, Result, Ok, slice_range, refl, arith, sym, ◌∙◌, ap, subst}
 use Rattle.std.proofs.lemmas.Bool.{and_parts}
 use Rattle.std.proofs.lemmas.Bool.Decides.{nat_tests}
 use Rattle.kernel_model.specs.declared.OpenRow.{OpenRow}
@@ -107,5 +107,8 @@ pub read_later : (n : ℕ) (v : World) (s : Objects) (blocks : Blocks) (p fd i o
 read_later n v s blocks p fd i off len x o answer io number file = ap (λ k. read_piece k v s blocks p fd i off len x answer io) number ∙ ap (λ (y : Option OpenRow). read_piece 2 v s blocks p fd i off len y answer io) file
 
 -- a read stands before one of three kinds of pieces
-pub few_kinds : (n : ℕ) (x : Option OpenRow) → (nat_le n 2 && read_fits n x) ≡ true → n ≤ 2
-few_kinds n x fits = let few = (and_parts (nat_le n 2) (read_fits n x) fits).0 in grind (arith, nat_tests, few)
+pub few_kinds : (fd n : ℕ) (x : Option OpenRow) →
+    (nat_lt fd 4 && (nat_le n 2 && read_fits n x)) ≡ true → n ≤ 2
+few_kinds fd n x fits =
+    let kind = (and_parts (nat_lt fd 4) (nat_le n 2 && read_fits n x) fits).1 in
+    let few = (and_parts (nat_le n 2) (read_fits n x) kind).0 in grind (arith, nat_tests, few)

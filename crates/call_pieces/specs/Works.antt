@@ -1,7 +1,7 @@
 -- A call in flight: where it stands, and when its next piece may come.
-use Rattle.std.specs.Prelude.{◌≡◌, ℕ, zero, suc, ◌≤◌, Bool, true, false, List, Option, Result, Ok, Err, nat_le}
-use Rattle.std.specs.List.{list_all}
+use Rattle.std.specs.Prelude.{◌≡◌, ℕ, zero, suc, ◌≤◌, Bool, true, false, List, Option, Some, None, option_map, Result, Ok, Err}
 use Rattle.std.specs.Result.{is_ok}
+use Rattle.std.proofs.Common.{refl}
 use Rattle.kernel_model.specs.declared.SysCall.{SysCall}
 use Rattle.kernel_model.specs.declared.SysCall.TheVariants.{Spawn, Exit, Yield, Install}
 use Rattle.kernel_model.specs.declared.Refusal.{Refusal}
@@ -9,7 +9,7 @@ use Rattle.kernel_model.specs.declared.QueueRow.{QueueRow}
 use Rattle.kernel_model.specs.World.{World, ImageTable}
 use Rattle.kernel_model.specs.Objects.{Objects, PolValue}
 use Rattle.kernel_model.specs.Queue.{queue_without}
-use Rattle.kernel_model.specs.Meaning.{Meaning, Stage, After, Continues, EndsWith, Fails, stage}
+use Rattle.kernel_model.specs.Meaning.{Meaning, Stage, Answer, After, Continues, EndsWith, Fails, stage, bare_answer, registers_of}
 use Rattle.kernel_model.specs.Needs.{free_process}
 use Rattle.kernel_model.specs.Fetch.{chosen_by}
 use Rattle.kernel_model.specs.Policies.{lives, next_process, or_zero}
@@ -34,6 +34,19 @@ abbrev pub comes_after : Next → Stage → After
 comes_after Next.Goes t = Continues t
 comes_after (Next.Ends reply) t = EndsWith reply
 comes_after (Next.Fails refusal) t = Fails refusal
+
+-- ---- answers
+
+-- the answer that a piece gets, by its registers: it gives no bytes
+abbrev pub answer_seen : Option (List ℕ) → Option Answer
+answer_seen registers = option_map bare_answer registers
+
+-- its registers are these
+pub registers_seen : (registers : Option (List ℕ)) → registers_of (answer_seen registers) ≡ registers
+registers_seen None = refl
+registers_seen (Some r) = refl
+
+-- ---- pieces
 
 -- The next piece of a call may come: its caller lives, no early refusal of it holds with some images loaded, and it stands
 -- before one of its pieces.

@@ -24,7 +24,8 @@ pub fn early(store: &Store, images: u32, p: u8, call: &SysCall) -> Result<Work, 
     requires sound { IsStore (λ b. seen (b.vtable, b.value)) store.now }
     requires alive { lives (queue_of store.now) p ≡ true }
     ensures value { (table : ImageTable) → TellsImages images table →
-        stage_granted stage_of result ≡ plain_early (world_of_store store.now) table p call.now }
+        stage_granted stage_of result
+        ≡ plain_early TOP_POINT (world_of_store store.now) table p call.now }
     ensures ready { IfOk result (λ w. MayCome plain (world_of_store store.now) (objects_of (λ b. seen (b.vtable, b.value)) store.now) w.caller (stage_of w)) }
     ensures call { IfOk result (λ w. w ≡ record { caller = p; call = call.now; piece = 0 }) }
 {
@@ -40,7 +41,8 @@ pub fn early(store: &Store, images: u32, p: u8, call: &SysCall) -> Result<Work, 
 
 /// The refusal of least number of a call that needs no object.
 fn refusal(store: &Store, images: u32, p: u8, call: &SysCall) -> Option<Refusal>
-    ensures { (table : ImageTable) → TellsImages images table → result ≡ call_refusal (world_of_store store.now) table p call.now }
+    ensures { (table : ImageTable) → TellsImages images table →
+        result ≡ call_refusal TOP_POINT (world_of_store store.now) table p call.now }
 {
     match call {
         SysCall::Exit => unless(p != 0, Refusal::Denied),

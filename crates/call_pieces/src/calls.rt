@@ -17,7 +17,7 @@ pub trait Calls {
     ghost use Rattle.disk_log.specs.Calls.{Tells, GoesOn};
     ghost use Rattle.kernel_state.specs.Stores.{world_of_store, objects_of, queue_of, IsStore, SegmentsStay};
     ghost use Rattle.kernel_model.specs.ImageMask.{TellsImages};
-    ghost use Rattle.call_pieces.specs.Works.{MayCome, stage_granted, comes_after};
+    ghost use Rattle.call_pieces.specs.Works.{MayCome, stage_granted, answer_seen, comes_after};
     ghost use Rattle.call_pieces.specs.Coming.{CameTo, LeftBySome, GoesOnFrom, has_failed, is_fault, goes_on};
 
     /// What the calls mean.
@@ -69,11 +69,18 @@ pub trait Calls {
         requires disk { store.old.size ≡ D.block_count disk.old }
         requires fresh { log.old ≡ [] }
         ensures does { (images : ImageTable) (blocks : Blocks) (rest : List Bool) → Tells (D.blocks disk.old) blocks →
-            CameTo (Self.Meaning.meaning.piece (world_of_store store.old) images (objects_of (λ b. seen (b.vtable, b.value)) store.old) blocks (caller work.old) (stage work.old) answer (log.new ++ rest))
-            (objects_of (λ b. seen (b.vtable, b.value)) store.new) (D.blocks disk.new) result.gave (comes_after result.next (stage work.new)) (length log.new) }
+            CameTo (Self.Meaning.meaning.piece (world_of_store store.old) images
+            (objects_of (λ b. seen (b.vtable, b.value)) store.old) blocks
+            (caller work.old) (stage work.old) (answer_seen answer) (log.new ++ rest))
+            (objects_of (λ b. seen (b.vtable, b.value)) store.new) (D.blocks disk.new) result.gave
+            (comes_after result.next (stage work.new)) (length log.new) }
         ensures some { (images : ImageTable) →
-            LeftBySome (world_of_store store.old) (λ blocks io. Self.Meaning.meaning.piece (world_of_store store.old) images (objects_of (λ b. seen (b.vtable, b.value)) store.old) blocks (caller work.old) (stage work.old) answer io)
-            (objects_of (λ b. seen (b.vtable, b.value)) store.new) result.gave (comes_after result.next (stage work.new)) log.new }
+            LeftBySome (world_of_store store.old) (λ blocks io.
+            Self.Meaning.meaning.piece (world_of_store store.old) images
+            (objects_of (λ b. seen (b.vtable, b.value)) store.old) blocks
+            (caller work.old) (stage work.old) (answer_seen answer) io)
+            (objects_of (λ b. seen (b.vtable, b.value)) store.new) result.gave
+            (comes_after result.next (stage work.new)) log.new }
         ensures gone { goes_on result.next ≡ true → GoesOnFrom Self.Meaning.meaning (world_of_store store.old) (objects_of (λ b. seen (b.vtable, b.value)) store.old) (objects_of (λ b. seen (b.vtable, b.value)) store.new)
             (caller work.old) (caller work.new) (stage work.old) (stage work.new) }
         ensures failed { is_fault result.next ≡ true → has_failed log.new ≡ true }

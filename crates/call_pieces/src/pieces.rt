@@ -1,8 +1,8 @@
 //! `piece`.
 
 ghost use Rattle.std.specs.Prelude.{◌≡◌, ℕ, ◌<◌, true, false, List, Bool, [], ◌++◌, Some, None, length, ◌≤◌};
-ghost use Rattle.kernel_model.specs.World.{Blocks, ImageTable};
-ghost use Rattle.kernel_model.specs.Pieces.{plain};
+ghost use Rattle.kernel_model.specs.World.{Blocks};
+ghost use Rattle.kernel_model.specs.Pieces.{plain, piece_of};
 ghost use Rattle.kernel_model.specs.Needs.{piece_ask};
 ghost use Rattle.kernel_model.specs.Laws.{IsRightAnswer};
 ghost use Rattle.disk_log.specs.Calls.{Tells, GoesOn};
@@ -38,12 +38,17 @@ pub fn piece<D: Disk>(
     requires right { IsRightAnswer (objects_of (λ b. seen (b.vtable, b.value)) store.old) (piece_ask work.old.call work.old.piece (world_of_store store.old) (objects_of (λ b. seen (b.vtable, b.value)) store.old).things work.old.caller) answer }
     requires disk { store.old.size ≡ D.block_count disk.old }
     requires fresh { log.old ≡ [] }
-    ensures does { (images : ImageTable) (blocks : Blocks) (rest : List Bool) → Tells (D.blocks disk.old) blocks →
-        CameTo (plain.piece (world_of_store store.old) images (objects_of (λ b. seen (b.vtable, b.value)) store.old) blocks work.old.caller (stage_of work.old) answer (log.new ++ rest))
-        (objects_of (λ b. seen (b.vtable, b.value)) store.new) (D.blocks disk.new) result.gave (comes_after result.next (stage_of work.new)) (length log.new) }
-    ensures some { (images : ImageTable) →
-        LeftBySome (world_of_store store.old) (λ blocks io. plain.piece (world_of_store store.old) images (objects_of (λ b. seen (b.vtable, b.value)) store.old) blocks work.old.caller (stage_of work.old) answer io)
-        (objects_of (λ b. seen (b.vtable, b.value)) store.new) result.gave (comes_after result.next (stage_of work.new)) log.new }
+    ensures does { (blocks : Blocks) (rest : List Bool) → Tells (D.blocks disk.old) blocks →
+        CameTo (piece_of work.old.call work.old.piece (world_of_store store.old)
+        (objects_of (λ b. seen (b.vtable, b.value)) store.old) blocks work.old.caller answer
+        (log.new ++ rest))
+        (objects_of (λ b. seen (b.vtable, b.value)) store.new) (D.blocks disk.new) result.gave
+        (comes_after result.next (stage_of work.new)) (length log.new) }
+    ensures some { LeftBySome (world_of_store store.old) (λ blocks io. piece_of work.old.call work.old.piece
+        (world_of_store store.old) (objects_of (λ b. seen (b.vtable, b.value)) store.old) blocks
+        work.old.caller answer io)
+        (objects_of (λ b. seen (b.vtable, b.value)) store.new) result.gave
+        (comes_after result.next (stage_of work.new)) log.new }
     ensures queue { queue_of store.new ≡ queue_after (policies_of (λ b. seen (b.vtable, b.value)) store.old 2) answer work.old.call work.old.piece work.old.caller (queue_of store.old) }
     ensures gone { goes_on result.next ≡ true → HasGone work.old work.new (objects_of (λ b. seen (b.vtable, b.value)) store.old) (objects_of (λ b. seen (b.vtable, b.value)) store.new) }
     ensures failed { is_fault result.next ≡ true → has_failed log.new ≡ true }

@@ -1,20 +1,13 @@
 -- Worked examples of waiting, time-outs and failed calls of the disk.
-use Rattle.std.specs.Prelude.{◌≡◌, Bool, true, false, [], ◌∷◌, Result, codes, refl}
+use Rattle.std.specs.Prelude.{◌≡◌, true, false, [], ◌∷◌, Result, codes, refl}
 use Rattle.std.specs.Fmt.{digits}
 use Rattle.kernel_model.specs.declared.Op.TheVariants.{Li, Mov, Divu, Jmp, Call, Ret}
 use Rattle.kernel_model.specs.World.{Image}
 use Rattle.kernel_model.specs.Objects.{same_object}
 use Rattle.kernel_model.specs.Images.{LoadFault}
 use Rattle.kernel_model.specs.Directory.{entries, entry_row, is_usable, sample_directory, sample_block}
-use Rattle.kernel_model.specs.Script.{Entry, Raw}
-use Rattle.kernel_model.specs.Session.{whole}
 use Rattle.kernel_model.specs.Boxed.{instr}
-use Rattle.worked_examples.specs.Given.{Lines, ImageLine, image, given_run, run_of}
-
--- every line but `raw` is built
-abbrev pub built_but_raw : Entry → Bool
-built_but_raw Raw = false
-built_but_raw _ = true
+use Rattle.worked_examples.specs.Given.{Lines, ImageLine, image, given_run}
 
 -- takes lock 3 and spins
 abbrev pub spinner : Result Image LoadFault
@@ -113,11 +106,11 @@ pub failed_sync_keeps_what_it_wrote :
 unfolding digits same_object entries entry_row is_usable sample_directory sample_block
 failed_sync_keeps_what_it_wrote = refl
 
--- A line whose command isn't built ends the run as an unknown command does.
-pub lines_that_are_not_built_are_refused :
-    run_of (record whole { built = built_but_raw }) [] ([]) (
-    Lines (codes "boot\ntick\nraw\ntick\n")
+-- A line with an unknown command ends the run, and the lines after it aren't read.
+pub unknown_commands_are_refused :
+    given_run ([]) (
+    Lines (codes "boot\ntick\nrow\ntick\n")
     ∷ [])
     ≡ (2, codes "0 boot 8 64 3\n1 tick 1\nscript 3 S5\n")
 unfolding digits same_object entries entry_row is_usable sample_directory sample_block
-lines_that_are_not_built_are_refused = refl
+unknown_commands_are_refused = refl

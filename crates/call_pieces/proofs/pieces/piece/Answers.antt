@@ -78,7 +78,7 @@ bill-requires-clause-point g c = bill_granted (world_of_store c.args.store.now) 
 
 pub returns-in-Spawn-clause-does : goal.returns-in-Spawn-clause-does
 returns-in-Spawn-clause-does g c =
-    λ images blocks rest tells.
+    λ blocks rest tells.
     let s = objects_of (λ b. (goal.Policy-dyn g (b.vtable, b.value)).seen b.value) c.args.store.now in
     let w = c.args.work.now in
     came_named (λ (k : SysCall). piece_of k w.piece (world_of_store c.args.store.now) s blocks w.caller c.args.answer (c.args.log.now ++ rest)) w.call Spawn (objects_of (λ b. (goal.Policy-dyn g (b.vtable, b.value)).seen b.value) c.spawn.new.store)
@@ -86,7 +86,7 @@ returns-in-Spawn-clause-does g c =
 
 pub returns-in-Exit-clause-does : goal.returns-in-Exit-clause-does
 returns-in-Exit-clause-does g c =
-    λ images blocks rest tells.
+    λ blocks rest tells.
     let s = objects_of (λ b. (goal.Policy-dyn g (b.vtable, b.value)).seen b.value) c.args.store.now in
     let w = c.args.work.now in
     came_named (λ (k : SysCall). piece_of k w.piece (world_of_store c.args.store.now) s blocks w.caller c.args.answer (c.args.log.now ++ rest)) w.call Exit (objects_of (λ b. (goal.Policy-dyn g (b.vtable, b.value)).seen b.value) c.exit.new.store)
@@ -94,7 +94,7 @@ returns-in-Exit-clause-does g c =
 
 pub returns-in-OpenName-clause-does : goal.returns-in-OpenName-clause-does
 returns-in-OpenName-clause-does g c =
-    λ images blocks rest tells.
+    λ blocks rest tells.
     let s = objects_of (λ b. (goal.Policy-dyn g (b.vtable, b.value)).seen b.value) c.args.store.now in
     let w = c.args.work.now in
     came_named (λ (k : SysCall). piece_of k w.piece (world_of_store c.args.store.now) s blocks w.caller c.args.answer (c.args.log.now ++ rest)) w.call (OpenName c.in-OpenName.name) (objects_of (λ b. (goal.Policy-dyn g (b.vtable, b.value)).seen b.value) c.open.new.store) (g.D.Disk.blocks c.args.disk.now)
@@ -104,7 +104,7 @@ returns-in-OpenName-clause-does g c =
 
 pub returns-in-CloseFd-clause-does : goal.returns-in-CloseFd-clause-does
 returns-in-CloseFd-clause-does g c =
-    λ images blocks rest tells.
+    λ blocks rest tells.
     let s = objects_of (λ b. (goal.Policy-dyn g (b.vtable, b.value)).seen b.value) c.args.store.now in
     let w = c.args.work.now in
     came_named (λ (k : SysCall). piece_of k w.piece (world_of_store c.args.store.now) s blocks w.caller c.args.answer (c.args.log.now ++ rest)) w.call (CloseFd c.in-CloseFd.fd) (objects_of (λ b. (goal.Policy-dyn g (b.vtable, b.value)).seen b.value) c.close.new.store)
@@ -112,7 +112,7 @@ returns-in-CloseFd-clause-does g c =
 
 pub returns-in-Read-clause-does : goal.returns-in-Read-clause-does
 returns-in-Read-clause-does g c =
-    λ images blocks rest tells.
+    λ blocks rest tells.
     let s = objects_of (λ b. (goal.Policy-dyn g (b.vtable, b.value)).seen b.value) c.args.store.now in
     let w = c.args.work.now in
     subst (λ (k : SysCall). CameTo (piece_of k w.piece (world_of_store c.args.store.now) s blocks w.caller c.args.answer (c.read.new.log ++ rest)) (objects_of (λ b. (goal.Policy-dyn g (b.vtable, b.value)).seen b.value) c.read.new.store) (g.D.Disk.blocks c.read.new.disk)
@@ -120,7 +120,7 @@ returns-in-Read-clause-does g c =
 
 pub returns-in-Write-clause-does : goal.returns-in-Write-clause-does
 returns-in-Write-clause-does g c =
-    λ images blocks rest tells.
+    λ blocks rest tells.
     let s = objects_of (λ b. (goal.Policy-dyn g (b.vtable, b.value)).seen b.value) c.args.store.now in
     let v = world_of_store c.args.store.now in
     let w = c.args.work.now in
@@ -132,7 +132,7 @@ returns-in-Write-clause-does g c =
 
 pub returns-in-Sync-clause-does : goal.returns-in-Sync-clause-does
 returns-in-Sync-clause-does g c =
-    λ images blocks rest tells.
+    λ blocks rest tells.
     let s = objects_of (λ b. (goal.Policy-dyn g (b.vtable, b.value)).seen b.value) c.args.store.now in
     let w = c.args.work.now in
     came_named (λ (k : SysCall). piece_of k w.piece (world_of_store c.args.store.now) s blocks w.caller c.args.answer (c.sync.new.log ++ rest)) w.call Sync (objects_of (λ b. (goal.Policy-dyn g (b.vtable, b.value)).seen b.value) c.sync.new.store)
@@ -140,7 +140,7 @@ returns-in-Sync-clause-does g c =
 
 pub returns-in-TakeLock-clause-does : goal.returns-in-TakeLock-clause-does
 returns-in-TakeLock-clause-does g c =
-    λ images blocks rest tells.
+    λ blocks rest tells.
     let s = objects_of (λ b. (goal.Policy-dyn g (b.vtable, b.value)).seen b.value) c.args.store.now in
     let w = c.args.work.now in
     came_named (λ (k : SysCall). piece_of k w.piece (world_of_store c.args.store.now) s blocks w.caller c.args.answer (c.args.log.now ++ rest)) w.call (TakeLock c.in-TakeLock.u) (objects_of (λ b. (goal.Policy-dyn g (b.vtable, b.value)).seen b.value) c.take_lock.new.store)
@@ -148,7 +148,7 @@ returns-in-TakeLock-clause-does g c =
 
 pub returns-in-FreeLock-clause-does : goal.returns-in-FreeLock-clause-does
 returns-in-FreeLock-clause-does g c =
-    λ images blocks rest tells.
+    λ blocks rest tells.
     let s = objects_of (λ b. (goal.Policy-dyn g (b.vtable, b.value)).seen b.value) c.args.store.now in
     let w = c.args.work.now in
     came_named (λ (k : SysCall). piece_of k w.piece (world_of_store c.args.store.now) s blocks w.caller c.args.answer (c.args.log.now ++ rest)) w.call (FreeLock c.in-FreeLock.u) (objects_of (λ b. (goal.Policy-dyn g (b.vtable, b.value)).seen b.value) c.free_lock.new.store)
@@ -156,7 +156,7 @@ returns-in-FreeLock-clause-does g c =
 
 pub returns-in-Poke-clause-does : goal.returns-in-Poke-clause-does
 returns-in-Poke-clause-does g c =
-    λ images blocks rest tells.
+    λ blocks rest tells.
     let s = objects_of (λ b. (goal.Policy-dyn g (b.vtable, b.value)).seen b.value) c.args.store.now in
     let w = c.args.work.now in
     came_named (λ (k : SysCall). piece_of k w.piece (world_of_store c.args.store.now) s blocks w.caller c.args.answer (c.args.log.now ++ rest)) w.call (Poke c.in-Poke.k c.in-Poke.v) (objects_of (λ b. (goal.Policy-dyn g (b.vtable, b.value)).seen b.value) c.poke.new.store)
@@ -164,7 +164,7 @@ returns-in-Poke-clause-does g c =
 
 pub returns-in-Peek-clause-does : goal.returns-in-Peek-clause-does
 returns-in-Peek-clause-does g c =
-    λ images blocks rest tells.
+    λ blocks rest tells.
     let s = objects_of (λ b. (goal.Policy-dyn g (b.vtable, b.value)).seen b.value) c.args.store.now in
     let w = c.args.work.now in
     came_named (λ (k : SysCall). piece_of k w.piece (world_of_store c.args.store.now) s blocks w.caller c.args.answer (c.args.log.now ++ rest)) w.call (Peek c.in-Peek.k) (objects_of (λ b. (goal.Policy-dyn g (b.vtable, b.value)).seen b.value) c.args.store.now)
@@ -172,7 +172,7 @@ returns-in-Peek-clause-does g c =
 
 pub returns-in-Tune-clause-does : goal.returns-in-Tune-clause-does
 returns-in-Tune-clause-does g c =
-    λ images blocks rest tells.
+    λ blocks rest tells.
     let s = objects_of (λ b. (goal.Policy-dyn g (b.vtable, b.value)).seen b.value) c.args.store.now in
     let w = c.args.work.now in
     came_named (λ (k : SysCall). piece_of k w.piece (world_of_store c.args.store.now) s blocks w.caller c.args.answer (c.args.log.now ++ rest)) w.call (Tune c.in-Tune.kind c.in-Tune.k c.in-Tune.v) (objects_of (λ b. (goal.Policy-dyn g (b.vtable, b.value)).seen b.value) c.tune.new.store)
@@ -180,7 +180,7 @@ returns-in-Tune-clause-does g c =
 
 pub returns-in-Choose-clause-does : goal.returns-in-Choose-clause-does
 returns-in-Choose-clause-does g c =
-    λ images blocks rest tells.
+    λ blocks rest tells.
     let s = objects_of (λ b. (goal.Policy-dyn g (b.vtable, b.value)).seen b.value) c.args.store.now in
     let w = c.args.work.now in
     came_named (λ (k : SysCall). piece_of k w.piece (world_of_store c.args.store.now) s blocks w.caller c.args.answer (c.args.log.now ++ rest)) w.call (Choose c.in-Choose.kind c.in-Choose.j) (objects_of (λ b. (goal.Policy-dyn g (b.vtable, b.value)).seen b.value) c.choose.new.store)
@@ -188,7 +188,7 @@ returns-in-Choose-clause-does g c =
 
 pub returns-in-Give-clause-does : goal.returns-in-Give-clause-does
 returns-in-Give-clause-does g c =
-    λ images blocks rest tells.
+    λ blocks rest tells.
     let s = objects_of (λ b. (goal.Policy-dyn g (b.vtable, b.value)).seen b.value) c.args.store.now in
     let w = c.args.work.now in
     came_named (λ (k : SysCall). piece_of k w.piece (world_of_store c.args.store.now) s blocks w.caller c.args.answer (c.args.log.now ++ rest)) w.call (Give c.in-Give.q c.in-Give.kind c.in-Give.n) (objects_of (λ b. (goal.Policy-dyn g (b.vtable, b.value)).seen b.value) c.give.new.store)
@@ -196,7 +196,7 @@ returns-in-Give-clause-does g c =
 
 pub returns-in-Install-clause-does : goal.returns-in-Install-clause-does
 returns-in-Install-clause-does g c =
-    λ images blocks rest tells.
+    λ blocks rest tells.
     let s = objects_of (λ b. (goal.Policy-dyn g (b.vtable, b.value)).seen b.value) c.args.store.now in
     let w = c.args.work.now in
     came_named (λ (k : SysCall). piece_of k w.piece (world_of_store c.args.store.now) s blocks w.caller c.args.answer (c.args.log.now ++ rest)) w.call (Install c.in-Install.pt c.in-Install.image c.in-Install.limit) (objects_of (λ b. (goal.Policy-dyn g (b.vtable, b.value)).seen b.value) c.install.new.store)
@@ -204,7 +204,7 @@ returns-in-Install-clause-does g c =
 
 pub returns-in-Remove-clause-does : goal.returns-in-Remove-clause-does
 returns-in-Remove-clause-does g c =
-    λ images blocks rest tells.
+    λ blocks rest tells.
     let s = objects_of (λ b. (goal.Policy-dyn g (b.vtable, b.value)).seen b.value) c.args.store.now in
     let w = c.args.work.now in
     came_named (λ (k : SysCall). piece_of k w.piece (world_of_store c.args.store.now) s blocks w.caller c.args.answer (c.args.log.now ++ rest)) w.call (Remove c.in-Remove.pt) (objects_of (λ b. (goal.Policy-dyn g (b.vtable, b.value)).seen b.value) c.remove.new.store)
@@ -212,7 +212,7 @@ returns-in-Remove-clause-does g c =
 
 pub returns-in-Fund-clause-does : goal.returns-in-Fund-clause-does
 returns-in-Fund-clause-does g c =
-    λ images blocks rest tells.
+    λ blocks rest tells.
     let s = objects_of (λ b. (goal.Policy-dyn g (b.vtable, b.value)).seen b.value) c.args.store.now in
     let w = c.args.work.now in
     came_named (λ (k : SysCall). piece_of k w.piece (world_of_store c.args.store.now) s blocks w.caller c.args.answer (c.args.log.now ++ rest)) w.call (Fund c.in-Fund.pt c.in-Fund.kind c.in-Fund.n) (objects_of (λ b. (goal.Policy-dyn g (b.vtable, b.value)).seen b.value) c.fund.new.store)
@@ -220,7 +220,7 @@ returns-in-Fund-clause-does g c =
 
 pub returns-in-Bill-clause-does : goal.returns-in-Bill-clause-does
 returns-in-Bill-clause-does g c =
-    λ images blocks rest tells.
+    λ blocks rest tells.
     let s = objects_of (λ b. (goal.Policy-dyn g (b.vtable, b.value)).seen b.value) c.args.store.now in
     let w = c.args.work.now in
     came_named (λ (k : SysCall). piece_of k w.piece (world_of_store c.args.store.now) s blocks w.caller c.args.answer (c.args.log.now ++ rest)) w.call (Bill c.in-Bill.pt) (objects_of (λ b. (goal.Policy-dyn g (b.vtable, b.value)).seen b.value) c.bill.new.store)
@@ -228,7 +228,6 @@ returns-in-Bill-clause-does g c =
 
 pub returns-in-Spawn-clause-some : goal.returns-in-Spawn-clause-some
 returns-in-Spawn-clause-some g c =
-    λ images.
     let v = world_of_store c.args.store.now in
     let s = objects_of (λ b. (goal.Policy-dyn g (b.vtable, b.value)).seen b.value) c.args.store.now in
     let w = c.args.work.now in
@@ -237,7 +236,6 @@ returns-in-Spawn-clause-some g c =
 
 pub returns-in-Exit-clause-some : goal.returns-in-Exit-clause-some
 returns-in-Exit-clause-some g c =
-    λ images.
     let v = world_of_store c.args.store.now in
     let s = objects_of (λ b. (goal.Policy-dyn g (b.vtable, b.value)).seen b.value) c.args.store.now in
     let w = c.args.work.now in
@@ -246,7 +244,6 @@ returns-in-Exit-clause-some g c =
 
 pub returns-in-CloseFd-clause-some : goal.returns-in-CloseFd-clause-some
 returns-in-CloseFd-clause-some g c =
-    λ images.
     let v = world_of_store c.args.store.now in
     let s = objects_of (λ b. (goal.Policy-dyn g (b.vtable, b.value)).seen b.value) c.args.store.now in
     let w = c.args.work.now in
@@ -255,7 +252,6 @@ returns-in-CloseFd-clause-some g c =
 
 pub returns-in-TakeLock-clause-some : goal.returns-in-TakeLock-clause-some
 returns-in-TakeLock-clause-some g c =
-    λ images.
     let v = world_of_store c.args.store.now in
     let s = objects_of (λ b. (goal.Policy-dyn g (b.vtable, b.value)).seen b.value) c.args.store.now in
     let w = c.args.work.now in
@@ -264,7 +260,6 @@ returns-in-TakeLock-clause-some g c =
 
 pub returns-in-FreeLock-clause-some : goal.returns-in-FreeLock-clause-some
 returns-in-FreeLock-clause-some g c =
-    λ images.
     let v = world_of_store c.args.store.now in
     let s = objects_of (λ b. (goal.Policy-dyn g (b.vtable, b.value)).seen b.value) c.args.store.now in
     let w = c.args.work.now in
@@ -273,7 +268,6 @@ returns-in-FreeLock-clause-some g c =
 
 pub returns-in-Poke-clause-some : goal.returns-in-Poke-clause-some
 returns-in-Poke-clause-some g c =
-    λ images.
     let v = world_of_store c.args.store.now in
     let s = objects_of (λ b. (goal.Policy-dyn g (b.vtable, b.value)).seen b.value) c.args.store.now in
     let w = c.args.work.now in
@@ -282,7 +276,6 @@ returns-in-Poke-clause-some g c =
 
 pub returns-in-Peek-clause-some : goal.returns-in-Peek-clause-some
 returns-in-Peek-clause-some g c =
-    λ images.
     let v = world_of_store c.args.store.now in
     let s = objects_of (λ b. (goal.Policy-dyn g (b.vtable, b.value)).seen b.value) c.args.store.now in
     let w = c.args.work.now in
@@ -291,7 +284,6 @@ returns-in-Peek-clause-some g c =
 
 pub returns-in-Tune-clause-some : goal.returns-in-Tune-clause-some
 returns-in-Tune-clause-some g c =
-    λ images.
     let v = world_of_store c.args.store.now in
     let s = objects_of (λ b. (goal.Policy-dyn g (b.vtable, b.value)).seen b.value) c.args.store.now in
     let w = c.args.work.now in
@@ -300,7 +292,6 @@ returns-in-Tune-clause-some g c =
 
 pub returns-in-Choose-clause-some : goal.returns-in-Choose-clause-some
 returns-in-Choose-clause-some g c =
-    λ images.
     let v = world_of_store c.args.store.now in
     let s = objects_of (λ b. (goal.Policy-dyn g (b.vtable, b.value)).seen b.value) c.args.store.now in
     let w = c.args.work.now in
@@ -309,7 +300,6 @@ returns-in-Choose-clause-some g c =
 
 pub returns-in-Give-clause-some : goal.returns-in-Give-clause-some
 returns-in-Give-clause-some g c =
-    λ images.
     let v = world_of_store c.args.store.now in
     let s = objects_of (λ b. (goal.Policy-dyn g (b.vtable, b.value)).seen b.value) c.args.store.now in
     let w = c.args.work.now in
@@ -318,7 +308,6 @@ returns-in-Give-clause-some g c =
 
 pub returns-in-Install-clause-some : goal.returns-in-Install-clause-some
 returns-in-Install-clause-some g c =
-    λ images.
     let v = world_of_store c.args.store.now in
     let s = objects_of (λ b. (goal.Policy-dyn g (b.vtable, b.value)).seen b.value) c.args.store.now in
     let w = c.args.work.now in
@@ -327,7 +316,6 @@ returns-in-Install-clause-some g c =
 
 pub returns-in-Remove-clause-some : goal.returns-in-Remove-clause-some
 returns-in-Remove-clause-some g c =
-    λ images.
     let v = world_of_store c.args.store.now in
     let s = objects_of (λ b. (goal.Policy-dyn g (b.vtable, b.value)).seen b.value) c.args.store.now in
     let w = c.args.work.now in
@@ -336,7 +324,6 @@ returns-in-Remove-clause-some g c =
 
 pub returns-in-Fund-clause-some : goal.returns-in-Fund-clause-some
 returns-in-Fund-clause-some g c =
-    λ images.
     let v = world_of_store c.args.store.now in
     let s = objects_of (λ b. (goal.Policy-dyn g (b.vtable, b.value)).seen b.value) c.args.store.now in
     let w = c.args.work.now in
@@ -345,7 +332,6 @@ returns-in-Fund-clause-some g c =
 
 pub returns-in-Bill-clause-some : goal.returns-in-Bill-clause-some
 returns-in-Bill-clause-some g c =
-    λ images.
     let v = world_of_store c.args.store.now in
     let s = objects_of (λ b. (goal.Policy-dyn g (b.vtable, b.value)).seen b.value) c.args.store.now in
     let w = c.args.work.now in
@@ -354,7 +340,6 @@ returns-in-Bill-clause-some g c =
 
 pub returns-in-Yield-clause-some : goal.returns-in-Yield-clause-some
 returns-in-Yield-clause-some g c =
-    λ images.
     let v = world_of_store c.args.store.now in
     let s = objects_of (λ b. (goal.Policy-dyn g (b.vtable, b.value)).seen b.value) c.args.store.now in
     let w = c.args.work.now in
@@ -363,7 +348,6 @@ returns-in-Yield-clause-some g c =
 
 pub returns-in-OpenName-clause-some : goal.returns-in-OpenName-clause-some
 returns-in-OpenName-clause-some g c =
-    λ images.
     let v = world_of_store c.args.store.now in
     let s = objects_of (λ b. (goal.Policy-dyn g (b.vtable, b.value)).seen b.value) c.args.store.now in
     let w = c.args.work.now in
@@ -375,7 +359,6 @@ returns-in-OpenName-clause-some g c =
 
 pub returns-in-Read-clause-some : goal.returns-in-Read-clause-some
 returns-in-Read-clause-some g c =
-    λ images.
     let v = world_of_store c.args.store.now in
     let s = objects_of (λ b. (goal.Policy-dyn g (b.vtable, b.value)).seen b.value) c.args.store.now in
     let w = c.args.work.now in
@@ -384,7 +367,6 @@ returns-in-Read-clause-some g c =
 
 pub returns-in-Write-clause-some : goal.returns-in-Write-clause-some
 returns-in-Write-clause-some g c =
-    λ images.
     let v = world_of_store c.args.store.now in
     let s = objects_of (λ b. (goal.Policy-dyn g (b.vtable, b.value)).seen b.value) c.args.store.now in
     let w = c.args.work.now in
@@ -395,7 +377,6 @@ returns-in-Write-clause-some g c =
 
 pub returns-in-Sync-clause-some : goal.returns-in-Sync-clause-some
 returns-in-Sync-clause-some g c =
-    λ images.
     let v = world_of_store c.args.store.now in
     let s = objects_of (λ b. (goal.Policy-dyn g (b.vtable, b.value)).seen b.value) c.args.store.now in
     let w = c.args.work.now in

@@ -31,7 +31,7 @@ returns-in_default-piece-clause-does g c =
     let o = objects_of (λ b. (goal.Policy-dyn g (b.vtable, b.value)).seen b.value) s in
     let v = world_of_store s in
     let opened = c.in-Some.opened in
-    let few = few_kinds c.args.piece.now _ c.requires.fits in
+    let few = few_kinds c.args.r.fd c.args.piece.now _ c.requires.fits in
     let third : c.args.piece.now ≡ 2 = omega arith in
     came_as _ _ (objects_of (λ b. (goal.Policy-dyn g (b.vtable, b.value)).seen b.value) c.later.new.store) (g.D.Disk.blocks c.later.new.disk) _ _ (length c.later.new.log)
     (read_later c.args.piece.now v o blocks c.args.p r.fd r.i r.off r.len _ opened c.args.answer (c.later.new.log ++ rest) third (sym c.file.ensures.value ∙ c.in-Some.is))

@@ -1,0 +1,5 @@
+use Rattle.call_pieces.specs.Works.{registers_seen}
+use Rattle.call_pieces.proofs.calls.PlainCalls.piece.Goals as goal
+
+pub returns-clause-does : goal.returns-clause-does
+returns-clause-does g c = λ images blocks rest tells. rw (registers_seen c.args.answer) (c.piece.ensures.does blocks rest tells)
