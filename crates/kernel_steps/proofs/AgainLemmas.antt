@@ -17,14 +17,13 @@ use Rattle.kernel_model.specs.Locks.{LockTable}
 use Rattle.kernel_model.specs.Levels.{Level, Config, outermost_touched}
 use Rattle.kernel_model.specs.Kernel.{Entry}
 use Rattle.kernel_model.specs.Sound.{IsSoundConfig, ImagesAreLoaded}
-use Rattle.kernel_model.specs.UndoLog.{undo_all}
 use Rattle.undo_calls.specs.UndoLevels.{innermost}
 use Rattle.lock_table.specs.Masks.{held}
 use Rattle.kernel_state.specs.Stores.{Seeing, world_of_store, objects_of, queue_of}
 use Rattle.graft_loader.specs.Slots.{table_of}
 use Rattle.graft_calls.specs.declared.GraftLevel.{GraftLevel}
 use Rattle.graft_calls.specs.declared.Chain.{Chain}
-use Rattle.graft_calls.specs.Chains.{level_in, levels_in, outer, call_of}
+use Rattle.graft_calls.specs.Chains.{level_in, levels_in, outer, call_of, put_back}
 use Rattle.graft_calls.specs.Calls.{AreSound, IsPlaced, AreInside, AllUndoable}
 use Rattle.placed_laws.specs.Placed.{Placed}
 use Rattle.placed_laws.specs.Soundness.{SoundInPlace}
@@ -49,8 +48,8 @@ found_in x y xs (suc k, less, is) = inr (k, omega (arith, less), is)
 
 -- the innermost level, or one outside it
 touch_of : (q : ℕ) (ram : List ℕ) (t : LockTable) (g : GraftLevel) (gs : List GraftLevel) (log : List (List Inverse)) (w : Things) (l : Level) (o : Object) → l.touched o ≡ Held.Exclusive →
-    (Contains (levels_in q ram t gs (outer log) (undo_all (innermost log) w)) l → (d : ℕ) × (t q d o ≡ Held.Exclusive)) →
-    (level_in q (length gs) ram t g (innermost log) (undo_all (innermost log) w) ≡ l) ⊎ Contains (levels_in q ram t gs (outer log) (undo_all (innermost log) w)) l → (d : ℕ) × (t q d o ≡ Held.Exclusive)
+    (Contains (levels_in q ram t gs (outer log) (put_back (innermost log) w)) l → (d : ℕ) × (t q d o ≡ Held.Exclusive)) →
+    (level_in q (length gs) ram t g (innermost log) (put_back (innermost log) w) ≡ l) ⊎ Contains (levels_in q ram t gs (outer log) (put_back (innermost log) w)) l → (d : ℕ) × (t q d o ≡ Held.Exclusive)
 touch_of q ram t g gs log w l o h further (inl is) = (length gs, ap (λ (k : Level). k.touched o) is ∙ h)
 touch_of q ram t g gs log w l o h further (inr rest) = further rest
 
@@ -59,15 +58,15 @@ touch_at : (q : ℕ) (ram : List ℕ) (t : LockTable) (gs : List GraftLevel) (lo
     Contains (levels_in q ram t gs log w) l → l.touched o ≡ Held.Exclusive → (d : ℕ) × (t q d o ≡ Held.Exclusive)
 touch_at q ram t [] log w l o has h = absurd (omega (arith, has.1))
 touch_at q ram t (g ∷ gs) log w l o has h =
-    touch_of q ram t g gs log w l o h (λ rest. touch_at q ram t gs (outer log) (undo_all (innermost log) w) l o rest h)
-    (found_in (level_in q (length gs) ram t g (innermost log) (undo_all (innermost log) w)) l (levels_in q ram t gs (outer log) (undo_all (innermost log) w)) has)
+    touch_of q ram t g gs log w l o h (λ rest. touch_at q ram t gs (outer log) (put_back (innermost log) w) l o rest h)
+    (found_in (level_in q (length gs) ram t g (innermost log) (put_back (innermost log) w)) l (levels_in q ram t gs (outer log) (put_back (innermost log) w)) has)
 
 -- level 0 holds what the table says
 outermost_is : (q : ℕ) (ram : List ℕ) (t : LockTable) (gs : List GraftLevel) (log : List (List Inverse)) (w : Things) → 0 < length gs →
     outermost_touched (levels_in q ram t gs log w) ≡ t q 0
 outermost_is q ram t [] log w h = absurd (omega (arith, h))
 outermost_is q ram t (g ∷ []) log w h = refl
-outermost_is q ram t (g ∷ k ∷ gs) log w h = outermost_is q ram t (k ∷ gs) (outer log) (undo_all (innermost log) w) (omega arith)
+outermost_is q ram t (g ∷ k ∷ gs) log w h = outermost_is q ram t (k ∷ gs) (outer log) (put_back (innermost log) w) (omega arith)
 
 -- ---- another call stays in place
 
@@ -104,7 +103,7 @@ owner_lives : (v : World) (s : Objects) (o q : ℕ) (ram : List ℕ) (t : LockTa
     lives s.things.queue o ≡ true
 owner_lives v s o q ram t [] log h own some = absurd (omega (arith, some))
 owner_lives v s o q ram t (g ∷ gs) log h own some =
-    let l : Level = level_in q (length gs) ram t g (innermost log) (undo_all (innermost log) s.things) in
+    let l : Level = level_in q (length gs) ram t g (innermost log) (put_back (innermost log) s.things) in
     ap (lives s.things.queue) (sym own.0)
     ∙ installer_lives v (record { now = s; levels = levels_in q ram t (g ∷ gs) log s.things }) l h (0, omega arith, refl)
 
@@ -141,7 +140,7 @@ stays_with m sound view stage x y es q caller r stood after chain images small s
       inside = subst (λ (c : Chain). AreInside (table_of y.images) u.accounts q c.levels) (sym chain)
           (subst (λ i. AreInside (table_of i) u.accounts q gs) (sym images)
           (inside_still (table_of x.images) s.accounts u.accounts q x.store.ram t gs log s.things
-          (λ l has. stays 0 (Graft l.owner l.point) (sym (ap (λ f. f (Graft l.owner l.point)) (outermost_is q x.store.ram t gs log s.things some)) ∙ (config.paid l has).0)) (r.inside q small)));
+          (λ l has. (stays 0 (Graft l.owner l.point) (sym (ap (λ f. f (Graft l.owner l.point)) (outermost_is q x.store.ram t gs log s.things some)) ∙ (config.paid l has).0)).0) (r.inside q small)));
     }
 
 stays_in_place : {C M W X : Type 0} {F : X → Type 0} (m : Meaning) → SoundInPlace m → (view : Seeing X F) (stage : W → Stage) (x y : Running C M W X F) (es : List Entry) (q : ℕ) (caller : W → ℕ) → IsRunning view caller x →

@@ -11,8 +11,8 @@ use Rattle.kernel_model.specs.Meaning.{Meaning, Stage, Piece}
 use Rattle.kernel_model.specs.Locks.{LockTable}
 use Rattle.kernel_model.specs.Levels.{base_of}
 use Rattle.kernel_model.specs.Runs.{segment_of}
-use Rattle.kernel_model.specs.UndoLog.{undo_all}
 use Rattle.kernel_model.specs.Kernel.{Entry}
+use Rattle.call_pieces.specs.Works.{answer_seen}
 use Rattle.undo_calls.specs.UndoLevels.{innermost}
 use Rattle.lock_table.specs.Masks.{held}
 use Rattle.graft_machine.specs.Cpu.{by_place}
@@ -20,7 +20,7 @@ use Rattle.kernel_state.specs.Stores.{Seeing, world_of_store, objects_of, Segmen
 use Rattle.graft_loader.specs.Slots.{table_of}
 use Rattle.graft_calls.specs.declared.GraftLevel.{GraftLevel}
 use Rattle.graft_calls.specs.declared.Chain.{Chain}
-use Rattle.graft_calls.specs.Chains.{levels_in, levels_of, outer}
+use Rattle.graft_calls.specs.Chains.{levels_in, levels_of, outer, put_back}
 use Rattle.disk_log.specs.Seen.{DiskSeen}
 use Rattle.placed_laws.specs.Placed.{Placed, PlacedCall, PlacedLevel, bare}
 use Rattle.placed_laws.specs.PlacedSteps.{placed_after, placed_finish}
@@ -50,9 +50,9 @@ levels_stay : (q : ℕ) (s u : List ℕ) (t : LockTable) (gs : List GraftLevel) 
     map bare (levels_in q u t gs log z) ≡ map bare (levels_in q s t gs log w)
 levels_stay q s u t [] log w z same = refl
 levels_stay q s u t (g ∷ gs) log w z same =
-    ap (λ (memory : ℕ → ℕ). bare_in (t q (length gs)) memory g (innermost log) ∷ map bare (levels_in q u t gs (outer log) (undo_all (innermost log) z))) (segment_stays q (length gs) s u same)
+    ap (λ (memory : ℕ → ℕ). bare_in (t q (length gs)) memory g (innermost log) ∷ map bare (levels_in q u t gs (outer log) (put_back (innermost log) z))) (segment_stays q (length gs) s u same)
     ∙ ap (λ (ls : List PlacedLevel). bare_in (t q (length gs)) (segment_of (base_of q (length gs)) (by_place s)) g (innermost log) ∷ ls)
-    (levels_stay q s u t gs (outer log) (undo_all (innermost log) w) (undo_all (innermost log) z) same)
+    (levels_stay q s u t gs (outer log) (put_back (innermost log) w) (put_back (innermost log) z) same)
 
 -- ---- the kernel in place
 
@@ -121,14 +121,14 @@ finish_did m x y p c u call answer kept kept_new d e is h =
       made = h.made;
       goes = λ blocks notes rest tells k.
           subst (λ z. CameAs (finishes m p c answer (run_of x blocks notes (h.io ++ rest))) z kept_new e.told rest) (sym is)
-          (piece_came m x p c (m.piece x.world x.images x.objects blocks p c.stage answer (h.io ++ rest)) blocks notes kept_new h.io rest u call e.told (h.goes x.images blocks notes rest tells k));
+          (piece_came m x p c (m.piece x.world x.images x.objects blocks p c.stage (answer_seen answer) (h.io ++ rest)) blocks notes kept_new h.io rest u call e.told (h.goes x.images blocks notes rest tells k));
     }
 
 pub finish_reaches : (m : Meaning) (x y : Placed) (p : ℕ) (c : PlacedCall) (u : Objects) (call : Option PlacedCall) (answer : Option (List ℕ)) (kept kept_new : List Note) (d e : DiskSeen) → y ≡ finished p call u x →
     PieceDone m x.world x.objects u p c call answer kept kept_new d e → Reaches (finishes m p c answer) x y
 finish_reaches m x y p c u call answer kept kept_new d e is h =
     let l = h.some x.images in
-    let q : Piece = m.piece x.world x.images x.objects l.blocks p c.stage answer l.io in
+    let q : Piece = m.piece x.world x.images x.objects l.blocks p c.stage (answer_seen answer) l.io in
     record {
       blocks = l.blocks;
       whole = l.whole;

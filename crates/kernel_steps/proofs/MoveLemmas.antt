@@ -14,7 +14,6 @@ use Rattle.kernel_model.specs.Locks.{LockTable, Touched}
 use Rattle.kernel_model.specs.Levels.{Config, Outcome, base_of}
 use Rattle.kernel_model.specs.Kernel.{Entry}
 use Rattle.kernel_model.specs.Runs.{segment_of}
-use Rattle.kernel_model.specs.UndoLog.{undo_all}
 use Rattle.undo_calls.specs.UndoLevels.{innermost}
 use Rattle.lock_table.specs.Masks.{held}
 use Rattle.graft_machine.specs.Cpu.{by_place}
@@ -23,7 +22,8 @@ use Rattle.graft_loader.specs.Slots.{table_of}
 use Rattle.graft_calls.specs.declared.GraftLevel.{GraftLevel}
 use Rattle.graft_calls.specs.declared.Chain.{Chain}
 use Rattle.kernel_model.specs.declared.Micro.{Micro}
-use Rattle.graft_calls.specs.Chains.{came, levels_in, outer, levels_of, call_of}
+use Rattle.kernel_model.specs.Access.{bare_found}
+use Rattle.graft_calls.specs.Chains.{came, levels_in, outer, levels_of, call_of, put_back}
 use Rattle.graft_calls.specs.Calls.{IsBeyond, IsPlaced, AreInside, IsInPlace, IsElsewhereSame}
 use Rattle.placed_laws.specs.Placed.{PlacedCall, PlacedLevel, bare, placed_config}
 use Rattle.kernel_steps.specs.declared.running.Flight.{Flight}
@@ -66,7 +66,7 @@ bare_in t memory g is =
       count = g.count;
       touched = t;
       args = g.args;
-      records = is;
+      records = map bare_found is;
     }
 
 -- where they hold the same and memory elsewhere is the same, the levels are the same
@@ -75,11 +75,11 @@ pub others_same : (p q : ℕ) (s u : List ℕ) (t r : LockTable) (gs : List Graf
     map bare (levels_in q u r gs log z) ≡ map bare (levels_in q s t gs log w)
 others_same p q s u t r [] log w z other few holds memory = refl
 others_same p q s u t r (g ∷ gs) log w z other few holds memory =
-    ap (λ (touched : Touched). bare_in touched (segment_of (base_of q (length gs)) (by_place u)) g (innermost log) ∷ map bare (levels_in q u r gs (outer log) (undo_all (innermost log) z))) (holds (length gs))
-    ∙ ap (λ (memory : ℕ → ℕ). bare_in (t q (length gs)) memory g (innermost log) ∷ map bare (levels_in q u r gs (outer log) (undo_all (innermost log) z)))
+    ap (λ (touched : Touched). bare_in touched (segment_of (base_of q (length gs)) (by_place u)) g (innermost log) ∷ map bare (levels_in q u r gs (outer log) (put_back (innermost log) z))) (holds (length gs))
+    ∙ ap (λ (memory : ℕ → ℕ). bare_in (t q (length gs)) memory g (innermost log) ∷ map bare (levels_in q u r gs (outer log) (put_back (innermost log) z)))
     (segment_same p q (length gs) s u other (omega (arith, few)) memory)
     ∙ ap (λ (ls : List PlacedLevel). bare_in (t q (length gs)) (segment_of (base_of q (length gs)) (by_place s)) g (innermost log) ∷ ls)
-    (others_same p q s u t r gs (outer log) (undo_all (innermost log) w) (undo_all (innermost log) z) other (omega (arith, few)) holds memory)
+    (others_same p q s u t r gs (outer log) (put_back (innermost log) w) (put_back (innermost log) z) other (omega (arith, few)) holds memory)
 
 -- ---- the whole
 

@@ -5,9 +5,10 @@ use Rattle.kernel_model.specs.declared.Cause.{Cause}
 use Rattle.kernel_model.specs.declared.Micro.{Micro}
 use Rattle.kernel_model.specs.declared.Note.{Note}
 use Rattle.kernel_model.specs.GraftStep.{micro}
-use Rattle.kernel_model.specs.Meaning.{Meaning, Stage}
+use Rattle.kernel_model.specs.Meaning.{Meaning, Stage, bare_answer}
 use Rattle.kernel_model.specs.Laws.{IsReady}
 use Rattle.kernel_model.specs.Levels.{Level, Config, Outcome, drop_level}
+use Rattle.call_pieces.specs.Works.{answer_seen}
 use Rattle.lock_table.specs.Masks.{held}
 use Rattle.disk_log.specs.Seen.{DiskSeen}
 use Rattle.kernel_state.specs.Stores.{Seeing, world_of_store, objects_of}
@@ -55,9 +56,9 @@ config_owned view stage caller x p r small =
 
 -- the piece is ready on what the move left
 ready_come : {C M W X : Type 0} {F : X → Type 0} (m : Meaning) (view : Seeing X F) (stage : W → Stage) (x y : Running C M W X F) (p : ℕ) (t : Stage) (f : Config) (answer : Option (List ℕ)) → Moved view x y p → placed_of view stage y ≡ come_to p f (placed_of view stage x) →
-    IsReady m (world_of_store x.store) (table_of x.images) f.now p t answer → IsReady m (world_of_store y.store) (table_of y.images) (objects_of view y.store) p t answer
+    IsReady m (world_of_store x.store) (table_of x.images) f.now p t (answer_seen answer) → IsReady m (world_of_store y.store) (table_of y.images) (objects_of view y.store) p t (answer_seen answer)
 ready_come m view stage x y p t f answer moved come h =
-    subst (λ (z : Placed). IsReady m z.world z.images z.objects p t answer) (sym come) h
+    subst (λ (z : Placed). IsReady m z.world z.images z.objects p t (answer_seen answer)) (sym come) h
 
 -- ---- an instruction
 
@@ -71,7 +72,7 @@ micro_alone law view stage caller x y p r small moved come =
 pub micro_ready : {C M W X : Type 0} {F : X → Type 0} (m : Meaning) → ReadyInPlace m → (view : Seeing X F) (stage : W → Stage) (x y : Running C M W X F) (p : ℕ) (f : InFlight W) (said : Micro) (answer : Option (List ℕ)) → Stood m (placed_of view stage x) →
     0 < length (chain_of x p).levels → Moved view x y p → placed_of view stage y ≡ come_to p (micro (world_of_store x.store) (table_of x.images) p (placed_config (placed_of view stage x) p)).config (placed_of view stage x) →
     said ≡ (micro (world_of_store x.store) (table_of x.images) p (placed_config (placed_of view stage x) p)).said → answer_said said ≡ Some answer → (flight_of y.calls.items p).call ≡ Some f →
-    IsReady m (world_of_store y.store) (table_of y.images) (objects_of view y.store) p (stage f.work) answer
+    IsReady m (world_of_store y.store) (table_of y.images) (objects_of view y.store) p (stage f.work) (answer_seen answer)
 micro_ready {W = W} m ready view stage x y p f said answer stood some moved come is h there =
     let z = placed_of view stage x in
     let o : Outcome = micro (world_of_store x.store) (table_of x.images) p (placed_config z p) in
@@ -84,15 +85,15 @@ micro_ready {W = W} m ready view stage x y p f said answer stood some moved come
   where
     by_answer : (s : Micro) (answer : Option (List ℕ)) → answer_said s ≡ Some answer → (micro (world_of_store x.store) (table_of x.images) p (placed_config (placed_of view stage x) p)).said ≡ s →
         ((a : List ℕ) → (micro (world_of_store x.store) (table_of x.images) p (placed_config (placed_of view stage x) p)).said ≡ Micro.Completed a →
-        IsReady m (world_of_store x.store) (table_of x.images) (micro (world_of_store x.store) (table_of x.images) p (placed_config (placed_of view stage x) p)).config.now p (stage f.work) (Some a)) →
+        IsReady m (world_of_store x.store) (table_of x.images) (micro (world_of_store x.store) (table_of x.images) p (placed_config (placed_of view stage x) p)).config.now p (stage f.work) (Some (bare_answer a))) →
         IsReady m (world_of_store x.store) (table_of x.images) (micro (world_of_store x.store) (table_of x.images) p (placed_config (placed_of view stage x) p)).config.now p (stage f.work) None →
-        IsReady m (world_of_store x.store) (table_of x.images) (micro (world_of_store x.store) (table_of x.images) p (placed_config (placed_of view stage x) p)).config.now p (stage f.work) answer
+        IsReady m (world_of_store x.store) (table_of x.images) (micro (world_of_store x.store) (table_of x.images) p (placed_config (placed_of view stage x) p)).config.now p (stage f.work) (answer_seen answer)
     by_answer Micro.Went answer e s done lost = grind (arith, e)
     by_answer (Micro.Blocked object holder by_user) answer e s done lost = grind (arith, e)
     by_answer (Micro.Completed a) answer e s done lost =
-        subst (λ b. IsReady m (world_of_store x.store) (table_of x.images) (micro (world_of_store x.store) (table_of x.images) p (placed_config (placed_of view stage x) p)).config.now p (stage f.work) b) (same_inner (Some a) answer e) (done a s)
+        subst (λ b. IsReady m (world_of_store x.store) (table_of x.images) (micro (world_of_store x.store) (table_of x.images) p (placed_config (placed_of view stage x) p)).config.now p (stage f.work) (answer_seen b)) (same_inner (Some a) answer e) (done a s)
     by_answer (Micro.Dropped zero q pt cause) answer e s done lost =
-        subst (λ b. IsReady m (world_of_store x.store) (table_of x.images) (micro (world_of_store x.store) (table_of x.images) p (placed_config (placed_of view stage x) p)).config.now p (stage f.work) b) (same_inner None answer e) lost
+        subst (λ b. IsReady m (world_of_store x.store) (table_of x.images) (micro (world_of_store x.store) (table_of x.images) p (placed_config (placed_of view stage x) p)).config.now p (stage f.work) (answer_seen b)) (same_inner None answer e) lost
     by_answer (Micro.Dropped (suc d) q pt cause) answer e s done lost = grind (arith, e)
 
 pub micro_done : {C M W X : Type 0} {F : X → Type 0} (m : Meaning) (view : Seeing X F) (stage : W → Stage) (caller : W → ℕ) (x y z : Running C M W X F) (p : ℕ) (c : PlacedCall) (said : Micro) (kept kept_new : List Note) (d e : DiskSeen) → Moved view x y p →
@@ -119,12 +120,12 @@ drop_alone law view stage caller x y p n cause r small moved come =
 pub drop_ready : {C M W X : Type 0} {F : X → Type 0} (m : Meaning) → ReadyInPlace m → (view : Seeing X F) (stage : W → Stage) (x y : Running C M W X F) (p n : ℕ) (cause : Cause) (f : InFlight W) (said : Micro) (answer : Option (List ℕ)) → Stood m (placed_of view stage x) →
     n < length (levels_at view x p) → Moved view x y p → placed_of view stage y ≡ come_to p (drop_level (world_of_store x.store) (objects_of view x.store) (placed_levels (placed_of view stage x) p) n cause).config (placed_of view stage x) →
     said ≡ (drop_level (world_of_store x.store) (objects_of view x.store) (placed_levels (placed_of view stage x) p) n cause).said → answer_said said ≡ Some answer → (flight_of y.calls.items p).call ≡ Some f →
-    IsReady m (world_of_store y.store) (table_of y.images) (objects_of view y.store) p (stage f.work) answer
+    IsReady m (world_of_store y.store) (table_of y.images) (objects_of view y.store) p (stage f.work) (answer_seen answer)
 drop_ready m ready view stage x y p n cause f said answer stood low moved come is h there =
     let z = placed_of view stage x in
     let o : Outcome = drop_level (world_of_store x.store) (objects_of view x.store) (placed_levels z p) n cause in
     ready_come m view stage x y p (stage f.work) o.config answer moved come
-    (subst (λ b. IsReady m (world_of_store x.store) (table_of x.images) o.config.now p (stage f.work) b) (drop_answer (world_of_store x.store) (objects_of view x.store) (placed_levels z p) n cause answer (answer_same said o.said answer is h))
+    (subst (λ b. IsReady m (world_of_store x.store) (table_of x.images) o.config.now p (stage f.work) (answer_seen b)) (drop_answer (world_of_store x.store) (objects_of view x.store) (placed_levels z p) n cause answer (answer_same said o.said answer is h))
     (ready.dropped z stood.kernel p (call_in_place stage f) n cause stood.stands (ap (option_map (call_in_place stage)) (sym (moved.calls p) ∙ there)) low))
 
 pub drop_done : {C M W X : Type 0} {F : X → Type 0} (m : Meaning) (view : Seeing X F) (stage : W → Stage) (caller : W → ℕ) (x y z : Running C M W X F) (p n : ℕ) (cause : Cause) (c : PlacedCall) (said : Micro) (kept kept_new : List Note) (d e : DiskSeen) → Moved view x y p →

@@ -11,13 +11,12 @@ use Rattle.kernel_model.specs.Events.{in_order}
 use Rattle.kernel_model.specs.declared.Held.{Held}
 use Rattle.kernel_model.specs.Locks.{LockTable, Touched, conflicts, outermost_holding}
 use Rattle.kernel_model.specs.Objects.{Things}
-use Rattle.kernel_model.specs.UndoLog.{undo_all}
 use Rattle.undo_calls.specs.UndoLevels.{innermost}
 use Rattle.lock_table.specs.declared.Holds.{Holds}
 use Rattle.lock_table.specs.Masks.{held}
 use Rattle.lock_table.specs.Numbers.{is_in_range}
 use Rattle.graft_calls.specs.declared.GraftLevel.{GraftLevel}
-use Rattle.graft_calls.specs.Chains.{first_level, levels_in, outer}
+use Rattle.graft_calls.specs.Chains.{first_level, levels_in, outer, put_back}
 use Rattle.placed_laws.specs.Placed.{bare, has_some}
 use Rattle.kernel_steps.specs.declared.order.Waiting.{Waiting}
 use Rattle.kernel_steps.specs.Orders.{order_of, numbers_of, has_number}
@@ -41,7 +40,7 @@ some_in_place p ram t (g ∷ gs) log w = grind (arith, nat_tests)
 -- how many there are
 pub many_bare : (p : ℕ) (ram : List ℕ) (t : LockTable) (gs : List GraftLevel) (log : List (List Inverse)) (w : Things) → length (map bare (levels_in p ram t gs log w)) ≡ length gs
 many_bare p ram t [] log w = refl
-many_bare p ram t (g ∷ gs) log w = ap suc (many_bare p ram t gs (outer log) (undo_all (innermost log) w))
+many_bare p ram t (g ∷ gs) log w = ap suc (many_bare p ram t gs (outer log) (put_back (innermost log) w))
 
 -- the note of a call whose innermost level is this
 pub note_of_first : (n p : ℕ) (ram : List ℕ) (t : LockTable) (g : GraftLevel) (gs : List GraftLevel) (log : List (List Inverse)) (w : Things) → Some g ≡ first_level gs →
@@ -49,7 +48,7 @@ pub note_of_first : (n p : ℕ) (ram : List ℕ) (t : LockTable) (g : GraftLevel
 note_of_first n p ram t g [] log w is = grind (arith, is)
 note_of_first n p ram t g (h ∷ gs) log w is =
     ap (λ (k : GraftLevel). Some (InGraft n k.owner k.point (suc (length gs)))) (same_level g h is)
-    ∙ ap (λ k. Some (InGraft n h.owner h.point (suc k))) (sym (many_bare p ram t gs (outer log) (undo_all (innermost log) w)))
+    ∙ ap (λ k. Some (InGraft n h.owner h.point (suc k))) (sym (many_bare p ram t gs (outer log) (put_back (innermost log) w)))
   where
     same_level : (a b : GraftLevel) → Some a ≡ Some b → a ≡ b
     same_level a b e = cc

@@ -1,7 +1,7 @@
 -- The rows of a call in flight, as its chain of levels has them.
 use Rattle.std.proofs.Common.{◌≡◌, ℕ, zero, suc, ◌<◌, ◌-◌, ◌+◌, List, [], ◌∷◌, ◌++◌, Option, Some, map, length, refl, ap, sym, ◌∙◌, arith}
 use Rattle.std.specs.Prelude.{option_map, reverse, slice_get, slice_index, slice_index_or}
-use Rattle.std.proofs.lemmas.List.{length-reverse, length-map, get_or-map}
+use Rattle.std.proofs.lemmas.List.{length-reverse, length-map, get_or-map, map-append}
 use Rattle.std.proofs.lemmas.Grind.{reverse_onto}
 use Rattle.std.proofs.lemmas.Option.{slice_get-map, slice_get-get_or}
 use Rattle.kernel_model.specs.declared.Inverse.{Inverse}
@@ -12,13 +12,14 @@ use Rattle.kernel_model.specs.Objects.{Things}
 use Rattle.kernel_model.specs.Locks.{LockTable}
 use Rattle.kernel_model.specs.Levels.{Level}
 use Rattle.kernel_model.specs.Meaning.{Stage}
-use Rattle.kernel_model.specs.UndoLog.{undo_all, undo_log, numbered_log}
+use Rattle.kernel_model.specs.UndoLog.{undo_log, numbered_log, found_log}
 use Rattle.kernel_model.specs.RawRows.{top_of, rows_of_levels, undo_row}
+use Rattle.kernel_model.specs.Access.{bare_found}
 use Rattle.undo_calls.specs.UndoLevels.{innermost, records_of, owners_of}
 use Rattle.kernel_state.specs.Stores.{Seeing, objects_of}
 use Rattle.lock_table.specs.Masks.{held}
 use Rattle.graft_calls.specs.declared.GraftLevel.{GraftLevel}
-use Rattle.graft_calls.specs.Chains.{first_level, levels_in, levels_of, outer}
+use Rattle.graft_calls.specs.Chains.{first_level, levels_in, levels_of, outer, put_back}
 use Rattle.placed_laws.specs.Placed.{PlacedCall, placed_levels}
 use Rattle.placed_laws.specs.PlacedRows.{placed_call_row, placed_level_rows, placed_undo_rows, placed_wait_row}
 use Rattle.kernel_steps.specs.declared.running.InFlight.{InFlight}
@@ -58,7 +59,7 @@ pub top_is : (p : ℕ) (ram : List ℕ) (t : LockTable) (gs : List GraftLevel) (
     top_of (levels_in p ram t gs log w) ≡ option_map (top_row_of (length gs)) (first_level gs)
 top_is p ram t [] log w = refl
 top_is p ram t (g ∷ gs) log w =
-    ap (λ n. Some (top_row_of (suc n) g)) (as_many p ram t gs (outer log) (undo_all (innermost log) w))
+    ap (λ n. Some (top_row_of (suc n) g)) (as_many p ram t gs (outer log) (put_back (innermost log) w))
 
 -- there are as many rows
 pub level_rows_many : (p : ℕ) (ls : List Level) → length (rows_of_levels p ls) ≡ length ls
@@ -71,9 +72,9 @@ row_inwards : (p : ℕ) (ram : List ℕ) (t : LockTable) (gs : List GraftLevel) 
 row_inwards p ram t [] log w i d g h n = absurd (cc)
 row_inwards p ram t (f ∷ gs) log w zero d g h n =
     let same : f ≡ g = cc in
-    let depth : length (levels_in p ram t gs (outer log) (undo_all (innermost log) w)) ≡ d = as_many p ram t gs (outer log) (undo_all (innermost log) w) ∙ omega (arith, n) in
+    let depth : length (levels_in p ram t gs (outer log) (put_back (innermost log) w)) ≡ d = as_many p ram t gs (outer log) (put_back (innermost log) w) ∙ omega (arith, n) in
     ap (λ k. Some (RawRow.Level p k f.owner f.point f.count)) depth ∙ ap (λ (e : GraftLevel). Some (RawRow.Level p d e.owner e.point e.count)) same
-row_inwards p ram t (f ∷ gs) log w (suc i) d g h n = row_inwards p ram t gs (outer log) (undo_all (innermost log) w) i d g h (omega (arith, n))
+row_inwards p ram t (f ∷ gs) log w (suc i) d g h n = row_inwards p ram t gs (outer log) (put_back (innermost log) w) i d g h (omega (arith, n))
 
 -- the row of level d, of levels outermost first
 pub level_row_is : (p : ℕ) (ram : List ℕ) (t : LockTable) (out gs : List GraftLevel) (log : List (List Inverse)) (w : Things) (d : ℕ) (g : GraftLevel) → reverse out ≡ gs → d < length out → slice_get out d ≡ Some g →
@@ -89,15 +90,32 @@ level_row_is p ram t out gs log w d g out_is small here =
 -- ---- records
 
 -- the log of the levels of a chain, where it has as many
-pub log_is : (p : ℕ) (ram : List ℕ) (t : LockTable) (gs : List GraftLevel) (log : List (List Inverse)) (w : Things) → length log ≡ length gs → undo_log (levels_in p ram t gs log w) ≡ log
+pub log_is : (p : ℕ) (ram : List ℕ) (t : LockTable) (gs : List GraftLevel) (log : List (List Inverse)) (w : Things) → length log ≡ length gs → undo_log (levels_in p ram t gs log w) ≡ found_log log
 log_is p ram t [] [] w h = refl
 log_is p ram t [] (is ∷ log) w h = absurd (omega (arith, h))
 log_is p ram t (g ∷ gs) [] w h = absurd (omega (arith, h))
-log_is p ram t (g ∷ gs) (is ∷ log) w h = ap (λ l. is ∷ l) (log_is p ram t gs log (undo_all is w) (omega (arith, h)))
+log_is p ram t (g ∷ gs) (is ∷ log) w h = ap (λ l. map bare_found is ∷ l) (log_is p ram t gs log (put_back is w) (omega (arith, h)))
+
+-- a record that is an inverse alone, with the level that owns it
+abbrev inverse_row : ℕ → ℕ × Inverse → RawRow
+inverse_row p r = RawRow.Undo p r.0 r.1
+
+-- the rows of a log are those of its inverses
+rows_of_inverses : (p : ℕ) (log : List (List Inverse)) → map (undo_row p) (numbered_log (found_log log)) ≡ map (inverse_row p) (numbered_log log)
+rows_of_inverses p [] = refl
+rows_of_inverses p (is ∷ log) =
+    map-append (undo_row p) (map (λ f. (length (found_log log), f)) (map bare_found is)) (numbered_log (found_log log))
+    ∙ ap (λ rows. rows ++ map (undo_row p) (numbered_log (found_log log))) (of_level (length (found_log log)) (length log) is (length-map log (map bare_found)))
+    ∙ ap (λ rows. map (inverse_row p) (map (λ i. (length log, i)) is) ++ rows) (rows_of_inverses p log)
+    ∙ sym (map-append (inverse_row p) (map (λ i. (length log, i)) is) (numbered_log log))
+  where
+    of_level : (d e : ℕ) (is : List Inverse) → d ≡ e → map (undo_row p) (map (λ f. (d, f)) (map bare_found is)) ≡ map (inverse_row p) (map (λ i. (e, i)) is)
+    of_level d e [] same = refl
+    of_level d e (i ∷ is) same = ap (λ n. RawRow.Undo p n i ∷ map (undo_row p) (map (λ f. (d, f)) (map bare_found is))) same ∙ ap (λ rows. RawRow.Undo p e i ∷ rows) (of_level d e is same)
 
 -- the row of the record at a place from the newest on, of owners and records from the oldest on
 pub record_row_is : (p : ℕ) (log : List (List Inverse)) (rs : List Inverse) (i owner : ℕ) (d : Inverse) → rs ≡ records_of log → i < length (numbered_log log) →
-    owner ≡ slice_index (owners_of log) (length rs - 1 - i) → slice_get (map (undo_row p) (numbered_log log)) i ≡ Some (RawRow.Undo p owner (slice_index_or rs (length rs - 1 - i) d))
+    owner ≡ slice_index (owners_of log) (length rs - 1 - i) → slice_get (map (undo_row p) (numbered_log (found_log log))) i ≡ Some (RawRow.Undo p owner (slice_index_or rs (length rs - 1 - i) d))
 record_row_is p log rs i owner d rs_is small owner_is =
     let nl = numbered_log log in
     let many : length (reverse nl) ≡ length nl = length-reverse nl in
@@ -107,7 +125,8 @@ record_row_is p log rs i owner d rs_is small owner_is =
     sym (get_reversed nl i k (omega (arith, small, as_many_records))) ∙ slice_get-get_or (reverse nl) k (0, d) (omega (arith, small, many, as_many_records)) in
     let owner_here : (slice_index_or (reverse nl) k (0, d)).0 ≡ owner = sym (owner_is ∙ get_or-map (λ (r : ℕ × Inverse). r.0) (reverse nl) k (0, d) 0 (omega (arith, small, many, as_many_records))) in
     let record_here : (slice_index_or (reverse nl) k (0, d)).1 ≡ slice_index_or rs k d = sym (ap (λ xs. slice_index_or xs k d) rs_is ∙ get_or-map (λ (r : ℕ × Inverse). r.1) (reverse nl) k (0, d) d (omega (arith, small, many, as_many_records))) in
-    slice_get-map (undo_row p) nl i ∙ ap (option_map (undo_row p)) here
+    ap (λ rows. slice_get rows i) (rows_of_inverses p log)
+    ∙ slice_get-map (inverse_row p) nl i ∙ ap (option_map (inverse_row p)) here
     ∙ ap (λ n. Some (RawRow.Undo p n (slice_index_or (reverse nl) k (0, d)).1)) owner_here
     ∙ ap (λ e. Some (RawRow.Undo p owner e)) record_here
 
@@ -123,7 +142,7 @@ levels_many view stage x p =
 
 -- the rows of its records
 pub records_in_place : {C M W X : Type 0} {F : X → Type 0} (view : Seeing X F) (stage : W → Stage) (caller : W → ℕ) (x : Running C M W X F) (p : ℕ) → p < 16 → IsRunning view caller x →
-    placed_undo_rows (placed_of view stage x) p ≡ map (undo_row p) (numbered_log (chain_of x p).undo)
+    placed_undo_rows (placed_of view stage x) p ≡ map (undo_row p) (numbered_log (found_log (chain_of x p).undo))
 records_in_place view stage caller x p small r =
     ap (λ ks. map (undo_row p) (numbered_log (undo_log ks))) (levels_in_place view stage x p)
     ∙ ap (λ l. map (undo_row p) (numbered_log l)) (log_is p x.store.ram (held x.locks) (chain_of x p).levels (chain_of x p).undo (objects_of view x.store).things (r.placed p small).as_many)
@@ -136,7 +155,7 @@ level_rows_in_place view stage x p = ap (λ ks. reverse (rows_of_levels p ks)) (
 -- how many records are shown
 pub records_many : {C M W X : Type 0} {F : X → Type 0} (view : Seeing X F) (stage : W → Stage) (caller : W → ℕ) (x : Running C M W X F) (p : ℕ) → p < 16 → IsRunning view caller x →
     length (placed_undo_rows (placed_of view stage x) p) ≡ length (numbered_log (chain_of x p).undo)
-records_many view stage caller x p small r = ap length (records_in_place view stage caller x p small r) ∙ length-map (numbered_log (chain_of x p).undo) (undo_row p)
+records_many view stage caller x p small r = ap length (records_in_place view stage caller x p small r) ∙ ap length (rows_of_inverses p (chain_of x p).undo) ∙ length-map (numbered_log (chain_of x p).undo) (inverse_row p)
 
 -- as many as there are records
 pub as_many_records : (log : List (List Inverse)) → length (records_of log) ≡ length (numbered_log log)

@@ -13,7 +13,7 @@ use Rattle.kernel_model.specs.Objects.{Things, at}
 use Rattle.kernel_model.specs.Meaning.{Meaning, Stage, Piece}
 use Rattle.kernel_model.specs.Levels.{Level, Config, Outcome}
 use Rattle.kernel_model.specs.Locks.{LockTable}
-use Rattle.kernel_model.specs.UndoLog.{undo_all}
+use Rattle.call_pieces.specs.Works.{answer_seen}
 use Rattle.undo_calls.specs.UndoLevels.{innermost}
 use Rattle.lock_table.specs.Masks.{held}
 use Rattle.disk_log.specs.Seen.{DiskSeen}
@@ -22,7 +22,7 @@ use Rattle.graft_loader.specs.Slots.{table_of}
 use Rattle.graft_calls.specs.declared.GraftLevel.{GraftLevel}
 use Rattle.graft_calls.specs.declared.Chain.{Chain}
 use Rattle.graft_calls.specs.Calls.{IsPlaced, AreInside}
-use Rattle.graft_calls.specs.Chains.{levels_in, outer}
+use Rattle.graft_calls.specs.Chains.{levels_in, outer, put_back}
 use Rattle.placed_laws.specs.Owners.{AreOwn, AreOfOwner}
 use Rattle.placed_laws.specs.Placed.{PlacedCall, PlacedLevel, PlacedRun, bare}
 use Rattle.placed_laws.specs.PlacedSteps.{placed_finish, placed_finish_on, placed_noted, placed_after_outcome, placed_outcome, with_config}
@@ -166,9 +166,9 @@ pub same_place : {A : Type 0} (p : ℕ) (a : A) (f : ℕ → A) → at p a f p �
 same_place p a f = elim (p == p) as (λ b. b ≡ true → cond b a (f p) ≡ a) [ true ↦ λ h. refl | false ↦ λ h. grind (arith, h) ] (grind (arith, nat_tests))
 
 -- the piece finishes on the config as it does behind it
-finish_behind : (m : Meaning) (p : ℕ) (c : PlacedCall) (f : Config) (answer : Option (List ℕ)) (r : PlacedRun) → placed_finish_on m p c f.now answer r ≡ finishes m p c answer (with_config p f r)
+finish_behind : (m : Meaning) (p : ℕ) (c : PlacedCall) (f : Config) (answer : Option (List ℕ)) (r : PlacedRun) → placed_finish_on m p c f.now (answer_seen answer) r ≡ finishes m p c answer (with_config p f r)
 finish_behind m p c f answer r =
-    let q : Piece = m.piece r.placed.world r.placed.images f.now r.blocks p c.stage answer r.io in
+    let q : Piece = m.piece r.placed.world r.placed.images f.now r.blocks p c.stage (answer_seen answer) r.io in
     ap (λ ls. record (placed_finish p c q r) { placed = record ((placed_finish p c q r).placed) { levels = ls } }) (sym (twice p [] (map bare f.levels) r.placed.levels))
 
 outcome_by : (m : Meaning) (p : ℕ) (c : PlacedCall) (f : Config) (r : PlacedRun) (s : Micro) → EndsAs s f.levels → placed_after_outcome m p c f s r ≡ after_said m p c s (with_config p f r)
@@ -215,7 +215,7 @@ owned_by q p ram t (g ∷ gs) log w (l ∷ ls) h own =
     let both = same_first _ _ _ _ h in (
       ap (λ (b : PlacedLevel). b.owner) both.0 ∙ own.0,
       subst (AreOwn q) (sym (ap (λ (b : PlacedLevel). b.records) both.0)) own.1,
-      owned_by q p ram t gs (outer log) (undo_all (innermost log) w) ls both.1 own.2,
+      owned_by q p ram t gs (outer log) (put_back (innermost log) w) ls both.1 own.2,
     )
 
 pub of_one : {C M W X : Type 0} {F : X → Type 0} (view : Seeing X F) (x : Running C M W X F) (p q : ℕ) (ls : List Level) → levels_at view x p ≡ map bare ls → AreOfOwner q ls → IsOfOne (chain_of x p)
@@ -225,7 +225,7 @@ of_one view x p q ls h own =
 -- and the other way round
 pub owner_of : (q p : ℕ) (ram : List ℕ) (t : LockTable) (gs : List GraftLevel) (log : List (List Inverse)) (w : Things) → AreOwned q gs log → AreOfOwner q (levels_in p ram t gs log w)
 owner_of q p ram t [] log w own = tt
-owner_of q p ram t (g ∷ gs) log w own = (own.0, own.1, owner_of q p ram t gs (outer log) (undo_all (innermost log) w) own.2)
+owner_of q p ram t (g ∷ gs) log w own = (own.0, own.1, owner_of q p ram t gs (outer log) (put_back (innermost log) w) own.2)
 
 -- ---- a move
 

@@ -12,10 +12,9 @@ use Rattle.kernel_model.specs.World.{processes}
 use Rattle.kernel_model.specs.Locks.{LockTable, untouched}
 use Rattle.kernel_model.specs.Levels.{Level, touched_at}
 use Rattle.kernel_model.specs.Blocking.{locks_from}
-use Rattle.kernel_model.specs.UndoLog.{undo_all}
 use Rattle.undo_calls.specs.UndoLevels.{innermost}
 use Rattle.graft_calls.specs.declared.GraftLevel.{GraftLevel}
-use Rattle.graft_calls.specs.Chains.{levels_in, level_in, outer, levels_of, call_of}
+use Rattle.graft_calls.specs.Chains.{levels_in, level_in, outer, levels_of, call_of, put_back}
 use Rattle.lock_table.specs.declared.Holds.{Holds}
 use Rattle.lock_table.specs.Masks.{held, levels_at, masks_of}
 use Rattle.lock_table.specs.Numbers.{number_of, is_in_range}
@@ -31,24 +30,24 @@ pub levels_again : (p : ℕ) (ram : List ℕ) (t : LockTable) (gs : List GraftLe
     levels_with w (map bare (levels_in p ram t gs log w)) ≡ levels_in p ram t gs log w
 levels_again p ram t [] log w = refl
 levels_again p ram t (g ∷ gs) log w =
-    ap (λ ls. level_in p (length gs) ram t g (innermost log) (undo_all (innermost log) w) ∷ ls) (levels_again p ram t gs (outer log) (undo_all (innermost log) w))
+    ap (λ ls. level_in p (length gs) ram t g (innermost log) (put_back (innermost log) w) ∷ ls) (levels_again p ram t gs (outer log) (put_back (innermost log) w))
 
 -- there are as many
 pub as_many : (p : ℕ) (ram : List ℕ) (t : LockTable) (gs : List GraftLevel) (log : List (List Inverse)) (w : Things) → length (levels_in p ram t gs log w) ≡ length gs
 as_many p ram t [] log w = refl
-as_many p ram t (g ∷ gs) log w = ap suc (as_many p ram t gs (outer log) (undo_all (innermost log) w))
+as_many p ram t (g ∷ gs) log w = ap suc (as_many p ram t gs (outer log) (put_back (innermost log) w))
 
 -- a level holds what the table says
 holds_below : (p d : ℕ) (ram : List ℕ) (t : LockTable) (gs : List GraftLevel) (log : List (List Inverse)) (w : Things) → d < length gs →
     touched_at (levels_in p ram t gs log w) d ≡ t p d
 holds_below p d ram t [] log w h = absurd (omega (arith, h))
-holds_below p d ram t (g ∷ gs) log w h = grind (arith, nat_tests, as_many p ram t gs (outer log) (undo_all (innermost log) w), holds_below p d ram t gs (outer log) (undo_all (innermost log) w))
+holds_below p d ram t (g ∷ gs) log w h = grind (arith, nat_tests, as_many p ram t gs (outer log) (put_back (innermost log) w), holds_below p d ram t gs (outer log) (put_back (innermost log) w))
 
 -- and beyond the levels nothing is held
 holds_beyond : (p d : ℕ) (ram : List ℕ) (t : LockTable) (gs : List GraftLevel) (log : List (List Inverse)) (w : Things) → length gs ≤ d →
     touched_at (levels_in p ram t gs log w) d ≡ untouched
 holds_beyond p d ram t [] log w h = refl
-holds_beyond p d ram t (g ∷ gs) log w h = grind (arith, nat_tests, as_many p ram t gs (outer log) (undo_all (innermost log) w), holds_beyond p d ram t gs (outer log) (undo_all (innermost log) w))
+holds_beyond p d ram t (g ∷ gs) log w h = grind (arith, nat_tests, as_many p ram t gs (outer log) (put_back (innermost log) w), holds_beyond p d ram t gs (outer log) (put_back (innermost log) w))
 
 -- ---- the table of all calls
 

@@ -8,6 +8,7 @@ use Rattle.kernel_model.specs.Objects.{Objects}
 use Rattle.kernel_model.specs.Sound.{HasWholeBlocks}
 use Rattle.kernel_model.specs.Meaning.{Meaning, Piece}
 use Rattle.kernel_model.specs.Kernel.{gave_note, after_note}
+use Rattle.call_pieces.specs.Works.{answer_seen}
 use Rattle.placed_laws.specs.Placed.{Placed, PlacedCall, PlacedRun}
 use Rattle.placed_laws.specs.PlacedSteps.{placed_after}
 use Rattle.kernel_steps.specs.Views.{run_of}
@@ -73,5 +74,5 @@ pub record PieceDone (m : Meaning) (v : World) (s u : Objects) (p : ℕ) (c : Pl
   pub io : List Bool
   pub made : Made d.faults e.faults d.plan e.plan io
   pub goes : (images : ImageTable) (blocks : Blocks) (notes : List Note) (rest : List Bool) → Tells d.told blocks → kept ≡ first_notes notes →
-      PieceLeft c (m.piece v images s blocks p c.stage answer (io ++ rest)) u call notes kept_new e.told (length io)
-  pub some : (images : ImageTable) → PieceMayLeave v (λ blocks io. m.piece v images s blocks p c.stage answer io) c u call
+      PieceLeft c (m.piece v images s blocks p c.stage (answer_seen answer) (io ++ rest)) u call notes kept_new e.told (length io)
+  pub some : (images : ImageTable) → PieceMayLeave v (λ blocks io. m.piece v images s blocks p c.stage (answer_seen answer) io) c u call

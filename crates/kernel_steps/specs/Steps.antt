@@ -4,6 +4,7 @@ use Rattle.kernel_model.specs.declared.Note.{Note}
 use Rattle.kernel_model.specs.declared.Micro.{Micro}
 use Rattle.kernel_model.specs.declared.Note.TheVariants.{Dropped}
 use Rattle.kernel_model.specs.Meaning.{Meaning, Stage}
+use Rattle.call_pieces.specs.Works.{answer_seen}
 use Rattle.disk_log.specs.Seen.{DiskSeen}
 use Rattle.lock_table.specs.Masks.{held}
 use Rattle.kernel_state.specs.Stores.{Seeing, world_of_store, objects_of, IsStore}
@@ -23,7 +24,7 @@ use Rattle.kernel_steps.specs.Views.{placed_of, flight_of, chain_of}
 module _ (m : Meaning) where
   -- the piece of a call is done on the store as it is, with an answer or by default
   abbrev pub finishes : ℕ → PlacedCall → Option (List ℕ) → PlacedRun → PlacedRun
-  finishes p c answer r = placed_finish_on m p c r.placed.objects answer r
+  finishes p c answer r = placed_finish_on m p c r.placed.objects (answer_seen answer) r
 
   -- level d of a call was dropped: with level 0 the default finishes the piece
   abbrev pub after_drop : ℕ → PlacedCall → (d : ℕ) → PlacedRun → PlacedRun

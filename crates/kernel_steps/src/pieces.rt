@@ -4,6 +4,7 @@ ghost use Rattle.std.specs.Prelude.{◌≡◌, Some, option_map};
 ghost use Rattle.disk_log.specs.Seen.{disk_seen};
 ghost use Rattle.kernel_model.specs.Laws.{IsReady};
 ghost use Rattle.kernel_model.specs.World.{ImageTable};
+ghost use Rattle.call_pieces.specs.Works.{answer_seen};
 ghost use Rattle.kernel_state.specs.Stores.{world_of_store, objects_of, IsStore, SegmentsStay};
 ghost use Rattle.kernel_steps.specs.declared.running.InFlight.{InFlight as Flying};
 ghost use Rattle.kernel_steps.specs.Did.{PieceDone};
@@ -28,7 +29,7 @@ pub(crate) fn do_piece<C: Calls, D: Disk>(
     notes: &mut Notes,
 )
     requires sound { IsStore (λ b. seen (b.vtable, b.value)) store.old }
-    requires ready { (f : Flying C.Work) → slot.old ≡ Some f → (images : ImageTable) × IsReady C.Meaning.meaning (world_of_store store.old) images (objects_of (λ b. seen (b.vtable, b.value)) store.old) (C.caller f.work) (C.stage f.work) answer }
+    requires ready { (f : Flying C.Work) → slot.old ≡ Some f → (images : ImageTable) × IsReady C.Meaning.meaning (world_of_store store.old) images (objects_of (λ b. seen (b.vtable, b.value)) store.old) (C.caller f.work) (C.stage f.work) (answer_seen answer) }
     requires disk { store.old.size ≡ D.block_count disk.old }
     ensures done { (f : Flying C.Work) → slot.old ≡ Some f →
         PieceDone C.Meaning.meaning (world_of_store store.old) (objects_of (λ b. seen (b.vtable, b.value)) store.old) (objects_of (λ b. seen (b.vtable, b.value)) store.new) (C.caller f.work)

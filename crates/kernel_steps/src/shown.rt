@@ -6,7 +6,7 @@ ghost use Rattle.kernel_model.specs.Kernel.{Entry};
 ghost use Rattle.kernel_model.specs.Locks.{LockTable as Table};
 ghost use Rattle.kernel_model.specs.Objects.{Things};
 ghost use Rattle.kernel_model.specs.RawRows.{rows_of_levels, top_of, undo_row, wait_by};
-ghost use Rattle.kernel_model.specs.UndoLog.{numbered_log};
+ghost use Rattle.kernel_model.specs.UndoLog.{numbered_log, found_log};
 ghost use Rattle.graft_calls.specs.Chains.{levels_in};
 ghost use Rattle.placed_laws.specs.PlacedRows.{placed_call_row, placed_level_rows, placed_undo_rows};
 ghost use Rattle.kernel_steps.specs.Orders.{entry_of, order_of};
@@ -67,7 +67,7 @@ fn row_of_level(levels: &Levels, p: u8, d: u8) -> RawRow
 /// Record i of process p, 0 being the newest.
 fn row_of_record(log: &UndoStack, p: u8, i: u8) -> RawRow
     requires { i < length (numbered_log log.now) }
-    ensures { slice_get (map (undo_row p) (numbered_log log.now)) i ≡ Some result }
+    ensures { slice_get (map (undo_row p) (numbered_log (found_log log.now))) i ≡ Some result }
 {
     let records = log.list();
     let place = records.len() - 1 - i as usize;

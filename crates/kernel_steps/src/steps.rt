@@ -10,6 +10,7 @@ ghost use Rattle.graft_loader.specs.Slots.{table_of};
 ghost use Rattle.placed_laws.specs.Placed.{PlacedCall, placed_blocker, placed_config};
 ghost use Rattle.placed_laws.specs.PlacedSteps.{placed_call_step, placed_drop, placed_noted, placed_outcome, placed_step};
 ghost use Rattle.kernel_model.specs.declared.Note.TheVariants.{Dropped};
+ghost use Rattle.call_pieces.specs.Works.{answer_seen};
 ghost use Rattle.kernel_steps.specs.declared.running.InFlight.{InFlight as Flying};
 ghost use Rattle.kernel_steps.specs.Did.{Did};
 ghost use Rattle.kernel_steps.specs.Steps.{answer_said, answer_of_drop, after_drop, after_said, finishes, StepDone, StepsAlone};
@@ -39,7 +40,7 @@ impl<C: Calls> Running<C> {
         requires alone { StepsAlone (λ b. seen (b.vtable, b.value)) (λ w. C.caller w) self.old p }
         requires none { (chain_of self.old p).levels ≡ [] }
         requires ready { (f : Flying C.Work) → (flight_of self.old.calls.items p).call ≡ Some f →
-            IsReady C.Meaning.meaning (world_of_store self.old.store) (table_of self.old.images) (objects_of (λ b. seen (b.vtable, b.value)) self.old.store) p (C.stage f.work) answer }
+            IsReady C.Meaning.meaning (world_of_store self.old.store) (table_of self.old.images) (objects_of (λ b. seen (b.vtable, b.value)) self.old.store) p (C.stage f.work) (answer_seen answer) }
         requires disk { self.old.store.size ≡ D.block_count disk.old }
         ensures done { (c : PlacedCall) → call_at (λ w. C.stage w) self.old p ≡ Some c →
             StepDone (λ b. seen (b.vtable, b.value)) (λ w. C.stage w) (λ w. C.caller w) (finishes C.Meaning.meaning p c answer) self.old self.new p notes.old notes.new
@@ -64,7 +65,7 @@ impl<C: Calls> Running<C> {
         requires alone { StepsAlone (λ b. seen (b.vtable, b.value)) (λ w. C.caller w) self.old p }
         requires none { (answer : Option (List ℕ)) → answer_of_drop d ≡ Some answer → (chain_of self.old p).levels ≡ [] }
         requires ready { (answer : Option (List ℕ)) (f : Flying C.Work) → answer_of_drop d ≡ Some answer → (flight_of self.old.calls.items p).call ≡ Some f →
-            IsReady C.Meaning.meaning (world_of_store self.old.store) (table_of self.old.images) (objects_of (λ b. seen (b.vtable, b.value)) self.old.store) p (C.stage f.work) answer }
+            IsReady C.Meaning.meaning (world_of_store self.old.store) (table_of self.old.images) (objects_of (λ b. seen (b.vtable, b.value)) self.old.store) p (C.stage f.work) (answer_seen answer) }
         requires disk { self.old.store.size ≡ D.block_count disk.old }
         ensures done { (c : PlacedCall) → call_at (λ w. C.stage w) self.old p ≡ Some c →
             StepDone (λ b. seen (b.vtable, b.value)) (λ w. C.stage w) (λ w. C.caller w) (λ r. after_drop C.Meaning.meaning p c d (placed_noted note r)) self.old self.new p notes.old notes.new
@@ -91,7 +92,7 @@ impl<C: Calls> Running<C> {
         requires alone { StepsAlone (λ b. seen (b.vtable, b.value)) (λ w. C.caller w) self.old p }
         requires none { (answer : Option (List ℕ)) → answer_said said ≡ Some answer → (chain_of self.old p).levels ≡ [] }
         requires ready { (answer : Option (List ℕ)) (f : Flying C.Work) → answer_said said ≡ Some answer → (flight_of self.old.calls.items p).call ≡ Some f →
-            IsReady C.Meaning.meaning (world_of_store self.old.store) (table_of self.old.images) (objects_of (λ b. seen (b.vtable, b.value)) self.old.store) p (C.stage f.work) answer }
+            IsReady C.Meaning.meaning (world_of_store self.old.store) (table_of self.old.images) (objects_of (λ b. seen (b.vtable, b.value)) self.old.store) p (C.stage f.work) (answer_seen answer) }
         requires disk { self.old.store.size ≡ D.block_count disk.old }
         ensures done { (c : PlacedCall) → call_at (λ w. C.stage w) self.old p ≡ Some c →
             StepDone (λ b. seen (b.vtable, b.value)) (λ w. C.stage w) (λ w. C.caller w) (after_said C.Meaning.meaning p c said) self.old self.new p notes.old notes.new

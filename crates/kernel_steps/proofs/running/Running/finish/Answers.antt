@@ -4,6 +4,7 @@ use Rattle.kernel_model.specs.Laws.{IsReady}
 use Rattle.kernel_state.specs.Stores.{world_of_store, objects_of}
 use Rattle.disk_log.specs.Seen.{disk_seen}
 use Rattle.graft_loader.specs.Slots.{table_of}
+use Rattle.call_pieces.specs.Works.{answer_seen}
 use Rattle.kernel_steps.specs.declared.running.Flight.{Flight}
 use Rattle.kernel_steps.specs.declared.running.Running.{Running}
 use Rattle.kernel_steps.specs.Views.{flight_of}
@@ -20,7 +21,7 @@ do_piece-requires-clause-ready g c =
     let fl : c.index_mut-flight.result.now ≡ flight_of x.calls.items c.args.p = fetched x.calls.items c.args.p c.index_mut-flight.result.now alone.sixteen c.requires.process c.index_mut-flight.ensures.value in
     let there = sym (ap (λ (l : Flight g.row.C-Work.Denot). l.call) fl) ∙ is in (
       table_of x.images,
-      subst (λ q. IsReady g.C.Meaning.Rules.meaning (world_of_store x.store) (table_of x.images) (objects_of (λ b. (goal.Policy-dyn g (b.vtable, b.value)).seen b.value) x.store) q (g.C.Calls.stage f.work) c.args.answer) (sym (alone.caller_is f there)) (c.requires.ready f there),
+      subst (λ q. IsReady g.C.Meaning.Rules.meaning (world_of_store x.store) (table_of x.images) (objects_of (λ b. (goal.Policy-dyn g (b.vtable, b.value)).seen b.value) x.store) q (g.C.Calls.stage f.work) (answer_seen c.args.answer)) (sym (alone.caller_is f there)) (c.requires.ready f there),
     )
 
 pub returns-clause-done : goal.returns-clause-done

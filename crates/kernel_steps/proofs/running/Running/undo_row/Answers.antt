@@ -3,7 +3,7 @@ use Rattle.std.proofs.Common.{◌≡◌, ◌∙◌, ap, sym, length, arith, List
 use Rattle.std.specs.Prelude.{slice_get}
 use Rattle.kernel_model.specs.declared.RawRow.{RawRow}
 use Rattle.kernel_model.specs.RawRows.{undo_row}
-use Rattle.kernel_model.specs.UndoLog.{numbered_log}
+use Rattle.kernel_model.specs.UndoLog.{numbered_log, found_log}
 use Rattle.kernel_steps.specs.declared.running.Flight.{Flight}
 use Rattle.kernel_steps.specs.Views.{flight_of}
 use Rattle.kernel_steps.proofs.ShownLemmas.{records_in_place, records_many}
@@ -22,5 +22,5 @@ returns g c =
     let x = c.args.self.now in
     let fl : c.flight.result.now ≡ flight_of x.calls.items c.args.p = c.flight.ensures ∙ ap (λ fs. flight_of fs c.args.p) c.deref.ensures.value in
     ap (λ (rows : List RawRow). slice_get rows c.args.i) (records_in_place (λ b. (goal.Policy-dyn g (b.vtable, b.value)).seen b.value) (λ w. g.C.Calls.stage w) (λ w. g.C.Calls.caller w) x c.args.p c.requires.process c.requires.running
-    ∙ sym (ap (λ (f : Flight g.row.C-Work.Denot). map (undo_row c.args.p) (numbered_log f.chain.undo)) fl))
+    ∙ sym (ap (λ (f : Flight g.row.C-Work.Denot). map (undo_row c.args.p) (numbered_log (found_log f.chain.undo))) fl))
     ∙ c.row_of_record.ensures
