@@ -11,7 +11,7 @@ use Rattle.kernel_model.specs.declared.QueueRow.{QueueRow}
 use Rattle.kernel_model.specs.Access.{Access as Accessed, Gives, Changes, Refuses}
 use Rattle.kernel_model.specs.Objects.{Objects, Things, CacheValue, with_things}
 use Rattle.kernel_model.specs.Policies.{lives, nice_of, first_nice, is_owned, frames_of}
-use Rattle.kernel_model.specs.Queue.{with_nice}
+use Rattle.kernel_model.specs.Access.{with_nice}
 use Rattle.buffer_cache.specs.Frames.{Frames, row_at, in_use, IsFrames}
 use Rattle.kernel_state.specs.Accesses.{answer_of, things_after}
 

@@ -6,11 +6,10 @@ use Rattle.std.proofs.lemmas.Bool.Decides.{nat_tests}
 use Rattle.kernel_model.specs.declared.FrameRow.{FrameRow}
 use Rattle.kernel_model.specs.declared.OpenRow.{OpenRow}
 use Rattle.kernel_model.specs.declared.QueueRow.{QueueRow}
-use Rattle.kernel_model.specs.Objects.{Objects, Accounts, Things, CacheValue, FrameValue, PolValue}
+use Rattle.kernel_model.specs.Objects.{Accounts, Things, CacheValue, FrameValue, PolValue}
 use Rattle.kernel_model.specs.Policies.{lives}
-use Rattle.kernel_model.specs.Queue as table
 use Rattle.kernel_model.specs.Queue.{queue_without}
-use Rattle.kernel_model.specs.Pieces.{handed_over, freed_by, things_without, account_closed, without_grafts}
+use Rattle.kernel_model.specs.Pieces.{handed_over, things_without, account_closed, without_grafts}
 use Rattle.kernel_model.specs.World.{World}
 use Rattle.buffer_cache.specs.Frames as frames
 use Rattle.buffer_cache.specs.Frames.{Frames, handed, row_at}
@@ -39,10 +38,6 @@ cache_handed c d m p q is =
 
 -- ---- objects
 
-freed_same : (p : ℕ) (h : Option ℕ) → table.freed_by p h ≡ freed_by p h
-freed_same p None = refl
-freed_same p (Some q) = refl
-
 -- the objects once a process left
 pub objects_left : (p : ℕ) (a b : Accounts) (s t : Processes) (c d : CacheValue) (pol : ℕ → PolValue) → b ≡ account_closed p (without_grafts p 16 a) → t ≡ without p s →
     d ≡ record c { frame = λ f. handed_over p 0 (c.frame f) } →
@@ -51,10 +46,6 @@ objects_left p a b s t c d pol accounts procs cache =
     ap (λ (x : Accounts). objects_with x t d pol) accounts
     ∙ ap (λ (x : Processes). objects_with (account_closed p (without_grafts p 16 a)) x d pol) procs
     ∙ ap (λ (x : CacheValue). objects_with (account_closed p (without_grafts p 16 a)) (without p s) x pol) cache
-    ∙ ap (λ (g : ℕ → Option ℕ). let x : Objects = record {
-      accounts = account_closed p (without_grafts p 16 a);
-      things = record (things_without p (objects_with a s c pol).things) { lock = g };
-    } in x) (fun_ext (λ u. freed_same p (s.lock u)))
 
 -- ---- who lives
 

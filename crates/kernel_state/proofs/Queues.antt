@@ -3,16 +3,19 @@ use Rattle.std.proofs.Common.{◌≡◌, ℕ, ◌==◌, ◌||◌, Bool, true, fa
 use Rattle.std.specs.List.{list_any}
 use Rattle.kernel_model.specs.declared.QueueRow.{QueueRow}
 use Rattle.kernel_model.specs.Policies.{lives}
-use Rattle.kernel_model.specs.Queue.{queue_to_back, one_more_slice, with_slice}
+use Rattle.kernel_model.specs.Queue.{one_more_slice}
+use Rattle.kernel_model.specs.Pieces.{to_back, add_slice}
 
 -- a row with one slice more is of its process
 same_process : (b : Bool) (r : QueueRow) (q : ℕ) → ((cond b (record r { slices = one_more_slice r.slices }) r).process == q) ≡ (r.process == q)
 same_process true r q = refl
 same_process false r q = refl
 
-pub lives_slice : (p q : ℕ) (rows : List QueueRow) → lives (with_slice p rows) q ≡ lives rows q
+pub lives_slice : (p q : ℕ) (rows : List QueueRow) → lives (add_slice p rows) q ≡ lives rows q
 lives_slice p q [] = refl
-lives_slice p q (r ∷ rows) = ap (λ b. b || lives (with_slice p rows) q) (same_process (r.process == p) r q) ∙ ap (λ b. (r.process == q) || b) (lives_slice p q rows)
+lives_slice p q (r ∷ rows) =
+    ap (λ b. b || lives (add_slice p rows) q) (same_process (r.process == p) r q)
+    ∙ ap (λ b. (r.process == q) || b) (lives_slice p q rows)
 
 or_assoc : (a b c : Bool) → (a || b || c) ≡ (a || (b || c))
 or_assoc true b c = refl
@@ -38,7 +41,7 @@ any_split t s (r ∷ rows) =
       | false ↦ or_assoc (t r) (list_any t f) (list_any t g) ∙ ap (λ b. t r || b) rest
     ]
 
-pub lives_back : (p q : ℕ) (rows : List QueueRow) → lives (queue_to_back p rows) q ≡ lives rows q
+pub lives_back : (p q : ℕ) (rows : List QueueRow) → lives (to_back p rows) q ≡ lives rows q
 lives_back p q rows =
     any_append (λ (r : QueueRow). r.process == q) (filter (λ (r : QueueRow). not (r.process == p)) rows) (filter (λ (r : QueueRow). r.process == p) rows)
     ∙ any_split (λ (r : QueueRow). r.process == q) (λ (r : QueueRow). r.process == p) rows

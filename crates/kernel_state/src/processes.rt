@@ -23,7 +23,6 @@ impl Store {
     }
 
     /// The least number that isn't living. None where 16 processes live.
-    #[tactic(auto, unfolding(kernel_model::specs::Queue::free_number))]
     pub fn free_process(&self) -> Option<u8>
         ensures { result ≡ free_process (queue_of self.now) 16 0 }
     {

@@ -5,29 +5,33 @@ use Rattle.std.proofs.lemmas.Bool.Decides.{nat_tests}
 use Rattle.std.proofs.lemmas.List.Elements.{filter-append}
 use Rattle.std.proofs.lemmas.List.Folds.{list_any-append, list_all-append}
 use Rattle.kernel_model.specs.declared.QueueRow.{QueueRow}
-use Rattle.kernel_model.specs.Queue.{is_living, free_number, IsLeastFree, new_row, queue_without, queue_to_back, with_nice, with_slice}
+use Rattle.kernel_model.specs.Queue.{IsLeastFree, new_row, queue_without}
+use Rattle.kernel_model.specs.Policies.{lives}
+use Rattle.kernel_model.specs.Needs.{free_process}
+use Rattle.kernel_model.specs.Pieces.{to_back, add_slice}
+use Rattle.kernel_model.specs.Access.{with_nice}
 use Rattle.process_table.specs.Processes.{IsQueue}
 use Rattle.process_table.proofs.Lists.{length-below}
 
 -- ---- the least number that isn't living
 
 -- a living number is passed over
-pub free_number-living : (rows : List QueueRow) (n m p q : ℕ) → n ≡ suc m → q ≡ p + 1 → is_living p rows ≡ true → free_number rows n p ≡ free_number rows m q
-unfolding free_number
-free_number-living rows n m p q e f h =
-    rw (e, f, add-one) (subst (λ (b : Bool). elim b [ true ↦ free_number rows m (suc p) | false ↦ Some p ] ≡ free_number rows m (suc p)) (sym h) refl)
+pub free_process-living : (rows : List QueueRow) (n m p q : ℕ) → n ≡ suc m → q ≡ p + 1 →
+    lives rows p ≡ true → free_process rows n p ≡ free_process rows m q
+free_process-living rows n m p q e f h =
+    rw (e, f, add-one)
+    (subst (λ (b : Bool). elim b [ true ↦ free_process rows m (suc p) | false ↦ Some p ]
+    ≡ free_process rows m (suc p)) (sym h) refl)
 
 -- a number that isn't living is the answer
-pub free_number-free : (rows : List QueueRow) (n p : ℕ) → 0 < n → is_living p rows ≡ false → free_number rows n p ≡ Some p
-unfolding free_number
-free_number-free rows zero p some h = absurd (omega arith)
-free_number-free rows (suc m) p some h =
-    subst (λ (b : Bool). elim b [ true ↦ free_number rows m (suc p) | false ↦ Some p ] ≡ Some p) (sym h) refl
+pub free_process-free : (rows : List QueueRow) (n p : ℕ) → 0 < n → lives rows p ≡ false → free_process rows n p ≡ Some p
+free_process-free rows zero p some h = absurd (omega arith)
+free_process-free rows (suc m) p some h =
+    subst (λ (b : Bool). elim b [ true ↦ free_process rows m (suc p) | false ↦ Some p ] ≡ Some p) (sym h) refl
 
 -- no number is left
-pub free_number-none : (rows : List QueueRow) (n p : ℕ) → n ≡ 0 → free_number rows n p ≡ None
-unfolding free_number
-free_number-none rows n p e = rw e refl
+pub free_process-none : (rows : List QueueRow) (n p : ℕ) → n ≡ 0 → free_process rows n p ≡ None
+free_process-none rows n p e = rw e refl
 
 -- ---- the rows of one process
 
@@ -36,7 +40,7 @@ abbrev pub rows_of : ℕ → List QueueRow → List QueueRow
 rows_of p rows = filter (λ (r : QueueRow). r.process == p) rows
 
 -- a process that isn't living has no row
-pub rows_of-gone : (p : ℕ) (rows : List QueueRow) → is_living p rows ≡ false → length (rows_of p rows) ≡ 0
+pub rows_of-gone : (p : ℕ) (rows : List QueueRow) → lives rows p ≡ false → length (rows_of p rows) ≡ 0
 rows_of-gone p [] h = refl
 rows_of-gone p (r ∷ rows) h = grind (arith, nat_tests, rows_of-gone p rows)
 
@@ -55,7 +59,7 @@ length-free rows c h free =
 
 -- ---- without a process
 
-pub living-without : (q p : ℕ) (rows : List QueueRow) → is_living q (queue_without p rows) ≡ (not (q == p) && is_living q rows)
+pub living-without : (q p : ℕ) (rows : List QueueRow) → lives (queue_without p rows) q ≡ (not (q == p) && lives rows q)
 living-without q p [] = grind (arith, nat_tests)
 living-without q p (r ∷ rows) = grind (arith, nat_tests, living-without q p rows)
 
@@ -69,11 +73,11 @@ nices-filter test (r ∷ rows) h = grind (arith, nat_tests, nices-filter test ro
 
 -- ---- to the back
 
-pub living-of : (q p : ℕ) (rows : List QueueRow) → is_living q (rows_of p rows) ≡ (q == p && is_living q rows)
+pub living-of : (q p : ℕ) (rows : List QueueRow) → lives (rows_of p rows) q ≡ (q == p && lives rows q)
 living-of q p [] = grind (arith, nat_tests)
 living-of q p (r ∷ rows) = grind (arith, nat_tests, living-of q p rows)
 
-pub living-to_back : (q p : ℕ) (rows : List QueueRow) → is_living q (queue_to_back p rows) ≡ is_living q rows
+pub living-to_back : (q p : ℕ) (rows : List QueueRow) → lives (to_back p rows) q ≡ lives rows q
 living-to_back q p rows =
     grind (arith, nat_tests, list_any-append (λ (r : QueueRow). r.process == q) (queue_without p rows) (rows_of p rows), living-without q p rows, living-of q p rows)
 
@@ -86,7 +90,7 @@ rows_of-append q xs ys = rw filter-append (length-append (rows_of q xs) (rows_of
 
 -- ---- with changed rows
 
-pub living-nice : (q p v : ℕ) (rows : List QueueRow) → is_living q (with_nice p v rows) ≡ is_living q rows
+pub living-nice : (q p v : ℕ) (rows : List QueueRow) → lives (with_nice p v rows) q ≡ lives rows q
 living-nice q p v [] = refl
 living-nice q p v (r ∷ rows) = grind (arith, nat_tests, living-nice q p v rows)
 
@@ -98,15 +102,17 @@ pub nices-nice : (p v : ℕ) (rows : List QueueRow) → v ≤ 39 → list_all (�
 nices-nice p v [] le h = refl
 nices-nice p v (r ∷ rows) le h = grind (arith, nat_tests, nices-nice p v rows)
 
-pub living-slice : (q p : ℕ) (rows : List QueueRow) → is_living q (with_slice p rows) ≡ is_living q rows
+pub living-slice : (q p : ℕ) (rows : List QueueRow) → lives (add_slice p rows) q ≡ lives rows q
 living-slice q p [] = refl
 living-slice q p (r ∷ rows) = grind (arith, nat_tests, living-slice q p rows)
 
-pub rows_of-slice : (q p : ℕ) (rows : List QueueRow) → length (rows_of q (with_slice p rows)) ≡ length (rows_of q rows)
+pub rows_of-slice : (q p : ℕ) (rows : List QueueRow) → length (rows_of q (add_slice p rows)) ≡ length (rows_of q rows)
 rows_of-slice q p [] = refl
 rows_of-slice q p (r ∷ rows) = grind (arith, nat_tests, rows_of-slice q p rows)
 
-pub nices-slice : (p : ℕ) (rows : List QueueRow) → list_all (λ (r : QueueRow). nat_le r.nice 39) rows ≡ true → list_all (λ (r : QueueRow). nat_le r.nice 39) (with_slice p rows) ≡ true
+pub nices-slice : (p : ℕ) (rows : List QueueRow) →
+    list_all (λ (r : QueueRow). nat_le r.nice 39) rows ≡ true →
+    list_all (λ (r : QueueRow). nat_le r.nice 39) (add_slice p rows) ≡ true
 nices-slice p [] h = refl
 nices-slice p (r ∷ rows) h = grind (arith, nat_tests, nices-slice p rows)
 
@@ -120,7 +126,8 @@ opening-queue = record {
   root = refl;
 }
 
-pub spawned-queue : (c : ℕ) (rows : List QueueRow) → c < 16 → is_living c rows ≡ false → IsQueue rows → IsQueue (rows ++ new_row c ∷ [])
+pub spawned-queue : (c : ℕ) (rows : List QueueRow) → c < 16 → lives rows c ≡ false →
+    IsQueue rows → IsQueue (rows ++ new_row c ∷ [])
 spawned-queue c rows lt free h = record {
   once = λ p. grind (arith, nat_tests, rows_of-append p rows (new_row c ∷ []), rows_of-gone c rows free, h.once p);
   below = λ p living. grind (arith, nat_tests, list_any-append (λ (r : QueueRow). r.process == p) rows (new_row c ∷ []), h.below p);
@@ -129,7 +136,7 @@ spawned-queue c rows lt free h = record {
 }
 
 -- whoever lived before a process joined lives
-pub living-spawned : (q c : ℕ) (rows : List QueueRow) → is_living q rows ≡ true → is_living q (rows ++ new_row c ∷ []) ≡ true
+pub living-spawned : (q c : ℕ) (rows : List QueueRow) → lives rows q ≡ true → lives (rows ++ new_row c ∷ []) q ≡ true
 living-spawned q c rows h = grind (arith, nat_tests, list_any-append (λ (r : QueueRow). r.process == q) rows (new_row c ∷ []))
 
 pub without-queue : (p : ℕ) (rows : List QueueRow) → 0 < p → IsQueue rows → IsQueue (queue_without p rows)
@@ -140,7 +147,7 @@ without-queue p rows pos h = record {
   root = grind (arith, nat_tests, living-without 0 p rows, h.root);
 }
 
-pub to_back-queue : (p : ℕ) (rows : List QueueRow) → IsQueue rows → IsQueue (queue_to_back p rows)
+pub to_back-queue : (p : ℕ) (rows : List QueueRow) → IsQueue rows → IsQueue (to_back p rows)
 to_back-queue p rows h = record {
   once = λ q. grind (arith, rows_of-append q (queue_without p rows) (rows_of p rows), rows_of-parted q p rows, h.once q);
   below = λ q living. h.below q (sym (living-to_back q p rows) ∙ living);
@@ -157,7 +164,7 @@ nice-queue p v rows le h = record {
   root = living-nice 0 p v rows ∙ h.root;
 }
 
-pub slice-queue : (p : ℕ) (rows : List QueueRow) → IsQueue rows → IsQueue (with_slice p rows)
+pub slice-queue : (p : ℕ) (rows : List QueueRow) → IsQueue rows → IsQueue (add_slice p rows)
 slice-queue p rows h = record {
   once = λ q. grind (arith, rows_of-slice q p rows, h.once q);
   below = λ q living. h.below q (sym (living-slice q p rows) ∙ living);

@@ -6,13 +6,16 @@ use Rattle.std.proofs.lemmas.List.{get_or-set_same, get_or-set_other}
 use Rattle.std.proofs.Math.ListN.{length-set, get_or-map}
 use Rattle.kernel_model.specs.declared.QueueRow.{QueueRow}
 use Rattle.kernel_model.specs.declared.OpenRow.{OpenRow}
-use Rattle.kernel_model.specs.Queue.{is_living, new_row, queue_without, freed_by}
+use Rattle.kernel_model.specs.Queue.{new_row, queue_without}
+use Rattle.kernel_model.specs.Policies.{lives}
+use Rattle.kernel_model.specs.Pieces.{freed_by}
 use Rattle.kernel_model.specs.Handlers.{AreHandlers, handlers_without_process, handlers_pass}
 use Rattle.process_table.specs.Processes.{Table, IsTable, IsQueue, is_of}
 use Rattle.process_table.proofs.Queue.{opening-queue, without-queue, living-without}
 
 -- the queue changes, and whoever lived lives
-pub requeued : (t : Table) (rows : List QueueRow) → IsTable t → IsQueue rows → ((q : ℕ) → is_living q t.queue ≡ true → is_living q rows ≡ true)
+pub requeued : (t : Table) (rows : List QueueRow) → IsTable t → IsQueue rows →
+    ((q : ℕ) → lives t.queue q ≡ true → lives rows q ≡ true)
     → IsTable (record t { queue = rows })
 requeued t rows h queue lives = record {
   cells = h.cells;
@@ -37,7 +40,8 @@ handled t hs h are = record {
 }
 
 -- a cell of a living process changes
-pub with_cell : (t : Table) (p k v : ℕ) → k < 4 → is_living p t.queue ≡ true → IsTable t → IsTable (record t { cells = set t.cells (4 * p + k) v })
+pub with_cell : (t : Table) (p k v : ℕ) → k < 4 → lives t.queue p ≡ true →
+    IsTable t → IsTable (record t { cells = set t.cells (4 * p + k) v })
 with_cell t p k v lt lives h = record {
   cells = length-set t.cells (4 * p + k) v ∙ h.cells;
   files = h.files;
@@ -54,7 +58,8 @@ with_cell t p k v lt lives h = record {
 }
 
 -- a descriptor changes, and an open file is that of a living process
-pub with_file : (t : Table) (p fd : ℕ) (row : Option OpenRow) → p < 16 → fd < 4 → IfSome row (λ _. is_living p t.queue ≡ true) → IsTable t
+pub with_file : (t : Table) (p fd : ℕ) (row : Option OpenRow) → p < 16 → fd < 4 →
+    IfSome row (λ _. lives t.queue p ≡ true) → IsTable t
     → IsTable (record t { files = set t.files (4 * p + fd) row })
 with_file t p fd row le lt lives h = record {
   cells = h.cells;
@@ -80,7 +85,7 @@ with_file t p fd row le lt lives h = record {
 }
 
 -- a lock changes, and a holder lives
-pub with_holder : (t : Table) (u : ℕ) (p : Option ℕ) → u < 16 → IfSome p (λ q. is_living q t.queue ≡ true) → IsTable t
+pub with_holder : (t : Table) (u : ℕ) (p : Option ℕ) → u < 16 → IfSome p (λ q. lives t.queue q ≡ true) → IsTable t
     → IsTable (record t { holders = set t.holders u p })
 with_holder t u p lt lives h = record {
   cells = h.cells;

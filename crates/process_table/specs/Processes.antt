@@ -3,7 +3,9 @@ use Rattle.std.specs.Prelude.{◌≡◌, ℕ, ◌+◌, ◌*◌, ◌<◌, ◌≤�
 use Rattle.std.specs.List.{list_all}
 use Rattle.kernel_model.specs.declared.QueueRow.{QueueRow}
 use Rattle.kernel_model.specs.declared.OpenRow.{OpenRow}
-use Rattle.kernel_model.specs.Queue.{is_living, new_row, queue_without, freed_by}
+use Rattle.kernel_model.specs.Queue.{new_row, queue_without}
+use Rattle.kernel_model.specs.Policies.{lives}
+use Rattle.kernel_model.specs.Pieces.{freed_by}
 use Rattle.kernel_model.specs.Handlers.{AreHandlers, handlers_without_process}
 
 -- the arrays
@@ -86,16 +88,16 @@ without p s =
 -- the rows of the queue: each process once, below 16, with a nice of at most 39; process 0 among them
 pub record IsQueue (rows : List QueueRow) : Type 0 where
   pub once : (p : ℕ) → length (filter (λ (r : QueueRow). r.process == p) rows) ≤ 1
-  pub below : (p : ℕ) → is_living p rows ≡ true → p < 16
+  pub below : (p : ℕ) → lives rows p ≡ true → p < 16
   pub nices : list_all (λ (r : QueueRow). nat_le r.nice 39) rows ≡ true
-  pub root : is_living 0 rows ≡ true
+  pub root : lives rows 0 ≡ true
 
 -- what always holds of the processes: what isn't living has nothing
 pub record IsSound (s : Processes) : Type 0 where
   pub queue : IsQueue s.queue
-  pub cells : (p k : ℕ) → is_living p s.queue ≡ false → s.cell p k ≡ 0
-  pub files : (p fd : ℕ) → is_living p s.queue ≡ false → s.file p fd ≡ None
-  pub locks : (u p : ℕ) → s.lock u ≡ Some p → is_living p s.queue ≡ true
+  pub cells : (p k : ℕ) → lives s.queue p ≡ false → s.cell p k ≡ 0
+  pub files : (p fd : ℕ) → lives s.queue p ≡ false → s.file p fd ≡ None
+  pub locks : (u p : ℕ) → s.lock u ≡ Some p → lives s.queue p ≡ true
   pub handlers : AreHandlers s.handlers
 
 -- what always holds of the arrays

@@ -3,7 +3,11 @@
 ghost use Rattle.std.specs.Prelude.{◌≡◌, ℕ, ◌+◌, ◌*◌, ◌<◌, ◌≤◌, ◌==◌, true, cond, not, length, map, filter, IfSome, IfNone, slice_index, slice_index_or, None, [], ◌∷◌, ◌++◌};
 ghost use Rattle.std.specs.List.{list_any};
 ghost use Rattle.kernel_model.specs.declared.QueueRow.{QueueRow as Row};
-ghost use Rattle.kernel_model.specs.Queue.{is_living, free_number, IsLeastFree, new_row, queue_without, queue_to_back, with_nice, with_slice, one_more_slice, freed_by};
+ghost use Rattle.kernel_model.specs.Queue.{IsLeastFree, new_row, queue_without, one_more_slice};
+ghost use Rattle.kernel_model.specs.Policies.{lives};
+ghost use Rattle.kernel_model.specs.Needs.{free_process};
+ghost use Rattle.kernel_model.specs.Pieces.{to_back as queue_to_back, add_slice as queue_with_slice, freed_by};
+ghost use Rattle.kernel_model.specs.Access.{with_nice};
 ghost use Rattle.kernel_model.specs.Handlers.{is_handler, handlers_at, handlers_without, handlers_without_process, has_room};
 ghost use Rattle.process_table.specs.Processes.{is_of};
 
@@ -34,16 +38,16 @@ const HANDLERS_AT_POINT: usize = 8;
 
 /// Whether a process stands in the queue.
 pub(crate) fn is_listed(rows: &[QueueRow], p: u8) -> bool
-    ensures { result ≡ is_living p rows.now }
+    ensures { result ≡ lives rows.now p }
 {
     rows.iter().any(|r| r.process == p)
 }
 
 /// The least number that isn't living.
 pub(crate) fn least_free(rows: &[QueueRow]) -> Option<u8>
-    ensures number { result ≡ free_number rows.now 16 0 }
+    ensures number { result ≡ free_process rows.now 16 0 }
     ensures least { IfSome result (λ c. IsLeastFree rows.now c) }
-    ensures full { IfNone result ((q : ℕ) → q < 16 → is_living q rows.now ≡ true) }
+    ensures full { IfNone result ((q : ℕ) → q < 16 → lives rows.now q ≡ true) }
 {
     for p in 0..PROCESSES as u8 {
         if !is_listed(rows, p) {
@@ -172,7 +176,7 @@ fn row_with_slice(row: QueueRow, p: u8) -> QueueRow
 
 /// Gives a process one slice more.
 fn count_slice(rows: &mut [QueueRow], p: u8)
-    ensures { rows.new ≡ with_slice p rows.old }
+    ensures { rows.new ≡ queue_with_slice p rows.old }
 {
     for row in rows.iter_mut() {
         *row = row_with_slice(*row, p);
@@ -181,7 +185,7 @@ fn count_slice(rows: &mut [QueueRow], p: u8)
 
 /// Gives a process of the queue one slice more.
 pub(crate) fn raise_slices(rows: &mut ArrayVec<QueueRow, PROCESSES>, p: u8)
-    ensures { rows.new.items ≡ with_slice p rows.old.items }
+    ensures { rows.new.items ≡ queue_with_slice p rows.old.items }
 {
     count_slice(rows.as_mut_slice(), p);
 }

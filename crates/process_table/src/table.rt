@@ -1,7 +1,11 @@
 //! `Procs`.
 
 ghost use Rattle.std.specs.Prelude.{◌≡◌, ◌+◌, ◌*◌, ◌<◌, ◌≤◌, ℕ, true, length, IfSome, IfNone, IsTrue};
-ghost use Rattle.kernel_model.specs.Queue.{is_living, free_number, IsLeastFree, queue_to_back, with_nice, with_slice};
+ghost use Rattle.kernel_model.specs.Queue.{IsLeastFree};
+ghost use Rattle.kernel_model.specs.Policies.{lives};
+ghost use Rattle.kernel_model.specs.Needs.{free_process};
+ghost use Rattle.kernel_model.specs.Pieces.{to_back as queue_to_back, add_slice as queue_with_slice};
+ghost use Rattle.kernel_model.specs.Access.{with_nice};
 ghost use Rattle.kernel_model.specs.Handlers.{has_room, handlers_with, handlers_without};
 ghost use Rattle.kernel_model.specs.Objects.{at, at2};
 
@@ -62,14 +66,14 @@ impl Procs {
 
     /// Whether process p lives.
     pub fn living(&self, p: u8) -> bool
-        ensures { result ≡ is_living p self.now.queue }
+        ensures { result ≡ lives self.now.queue p }
     {
         is_listed(self.rows.as_slice(), p)
     }
 
     /// The least number that isn't living. None where 16 processes live.
     pub fn free(&self) -> Option<u8>
-        ensures { result ≡ free_number self.now.queue 16 0 }
+        ensures { result ≡ free_process self.now.queue 16 0 }
     {
         least_free(self.rows.as_slice())
     }
@@ -77,9 +81,9 @@ impl Procs {
     /// The least number that isn't living joins at the back, with nice 20 and slices 0. None, with nothing changed,
     /// exactly where 16 processes live.
     pub fn spawn(&mut self) -> Option<u8>
-        ensures number { result ≡ free_number self.old.queue 16 0 }
+        ensures number { result ≡ free_process self.old.queue 16 0 }
         ensures least { IfSome result (λ c. IsLeastFree self.old.queue c) }
-        ensures full { IfNone result ((q : ℕ) → q < 16 → is_living q self.old.queue ≡ true) }
+        ensures full { IfNone result ((q : ℕ) → q < 16 → lives self.old.queue q ≡ true) }
         ensures value { processes_of self.new ≡ spawned result (processes_of self.old) }
     {
         let process = least_free(self.rows.as_slice())?;
@@ -89,7 +93,7 @@ impl Procs {
 
     /// Process p leaves: its cells become 0, its files close, its locks are freed, its handlers go.
     pub fn leave(&mut self, p: u8)
-        requires lives { IsTrue (is_living p self.old.queue) }
+        requires lives { IsTrue (lives self.old.queue p) }
         requires not_root { 0 < p }
         ensures { processes_of self.new ≡ without p (processes_of self.old) }
     {
@@ -102,7 +106,7 @@ impl Procs {
 
     /// Process p goes to the back of the queue.
     pub fn to_back(&mut self, p: u8)
-        requires { IsTrue (is_living p self.old.queue) }
+        requires { IsTrue (lives self.old.queue p) }
         ensures { processes_of self.new ≡ record (processes_of self.old) { queue = queue_to_back p self.old.queue } }
     {
         move_back(&mut self.rows, p);
@@ -119,7 +123,7 @@ impl Procs {
 
     /// Gives process p another nice, 0 to 39.
     pub fn set_nice(&mut self, p: u8, v: u8)
-        requires lives { IsTrue (is_living p self.old.queue) }
+        requires lives { IsTrue (lives self.old.queue p) }
         requires range { v ≤ 39 }
         ensures { processes_of self.new ≡ record (processes_of self.old) { queue = with_nice p v self.old.queue } }
     {
@@ -128,8 +132,8 @@ impl Procs {
 
     /// Raises the slices of process p by one, up to 4,294,967,295.
     pub fn add_slice(&mut self, p: u8)
-        requires lives { IsTrue (is_living p self.old.queue) }
-        ensures { processes_of self.new ≡ record (processes_of self.old) { queue = with_slice p self.old.queue } }
+        requires lives { IsTrue (lives self.old.queue p) }
+        ensures { processes_of self.new ≡ record (processes_of self.old) { queue = queue_with_slice p self.old.queue } }
     {
         raise_slices(&mut self.rows, p);
     }
@@ -145,7 +149,7 @@ impl Procs {
 
     /// Changes cell k of process p.
     pub fn set_cell(&mut self, p: u8, k: u8, v: u32)
-        requires lives { IsTrue (is_living p self.old.queue) }
+        requires lives { IsTrue (lives self.old.queue p) }
         requires number { k < 4 }
         ensures { processes_of self.new ≡ record (processes_of self.old) { cell = at2 p k v (processes_of self.old).cell } }
     {
@@ -165,7 +169,7 @@ impl Procs {
     pub fn put_file(&mut self, p: u8, fd: u8, row: Option<OpenRow>)
         requires process { p < 16 }
         requires number { fd < 4 }
-        requires lives { IfSome row (λ _. is_living p self.old.queue ≡ true) }
+        requires lives { IfSome row (λ _. lives self.old.queue p ≡ true) }
         ensures { processes_of self.new ≡ record (processes_of self.old) { file = at2 p fd row (processes_of self.old).file } }
     {
         self.files[place(p, fd)] = row;
@@ -182,7 +186,7 @@ impl Procs {
     /// Gives user lock u to a process, or frees it.
     pub fn set_holder(&mut self, u: u8, p: Option<u8>)
         requires number { u < 16 }
-        requires lives { IfSome p (λ q. is_living q self.old.queue ≡ true) }
+        requires lives { IfSome p (λ q. lives self.old.queue q ≡ true) }
         ensures { processes_of self.new ≡ record (processes_of self.old) { lock = at u p (processes_of self.old).lock } }
     {
         self.holders[u as usize] = p;

@@ -1,5 +1,5 @@
 use Rattle.std.proofs.Common.{◌≡◌, map, take, drop, ◌++◌}
-use Rattle.kernel_model.specs.Queue.{freed_by}
+use Rattle.kernel_model.specs.Pieces.{freed_by}
 use Rattle.process_table.proofs.arrays.free_locks.Given as goal
 
 abbrev pub invariant-loop-holder : goal.invariant-loop-holder

@@ -1,5 +1,5 @@
 use Rattle.std.proofs.Common.{◌≡◌, take, drop, ◌++◌}
-use Rattle.kernel_model.specs.Queue.{with_nice}
+use Rattle.kernel_model.specs.Access.{with_nice}
 use Rattle.process_table.proofs.arrays.put_nice.Given as goal
 
 abbrev pub invariant-loop-row : goal.invariant-loop-row
