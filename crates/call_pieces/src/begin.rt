@@ -29,14 +29,14 @@ pub fn early(store: &Store, images: u32, p: u8, call: &SysCall) -> Result<Work, 
     ensures ready { IfOk result (λ w. MayCome plain (world_of_store store.now) (objects_of (λ b. seen (b.vtable, b.value)) store.now) w.caller (stage_of w)) }
     ensures call { IfOk result (λ w. w ≡ record { caller = p; call = call.now; piece = 0 }) }
 {
-    match refusal(store, images, p, call) {
-        Some(refusal) => Err(refusal),
-        None => Ok(Work {
-            caller: p,
-            call: copy_call(call),
-            piece: 0,
-        }),
+    if let Some(refusal) = refusal(store, images, p, call) {
+        return Err(refusal);
     }
+    Ok(Work {
+        caller: p,
+        call: copy_call(call),
+        piece: 0,
+    })
 }
 
 /// The refusal of least number of a call that needs no object.

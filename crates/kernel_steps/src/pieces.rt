@@ -42,15 +42,22 @@ pub(crate) fn do_piece<C: Calls, D: Disk>(
     ensures memory { SegmentsStay store.old.ram store.new.ram }
     ensures same_size { D.block_count disk.new ≡ D.block_count disk.old }
 {
-    let Some(mut call) = slot.take() else {
+    let Some(call) = slot else {
         return;
     };
     log.clear();
     let after = C::piece(&mut call.work, store, answer, disk, log);
-    notes.push_bytes(call.number, after.gave);
+    let number = call.number;
+    notes.push_bytes(number, after.gave);
     match after.next {
-        Next::Goes => *slot = Some(call),
-        Next::Ends(reply) => notes.push(Note::Ended(call.number, reply)),
-        Next::Fails(refusal) => notes.push(Note::Refused(call.number, refusal)),
+        Next::Goes => {}
+        Next::Ends(reply) => {
+            *slot = None;
+            notes.push(Note::Ended(number, reply));
+        }
+        Next::Fails(refusal) => {
+            *slot = None;
+            notes.push(Note::Refused(number, refusal));
+        }
     }
 }

@@ -1,6 +1,6 @@
 -- Lemmas on hex digits: the crate `hex` decodes them as the definitions do.
-use Rattle.std.proofs.Common.{◌≡◌, ℕ, ◌+◌, ◌*◌, ◌%◌, ◌/◌, Option, Some, None, Result, Ok, Err, MatchResult, List, [], ◌∷◌, length, refl, arith, ap}
-use Rattle.std.specs.Prelude.{codes, is_ok}
+use Rattle.std.proofs.Common.{◌≡◌, ℕ, ◌+◌, ◌*◌, ◌%◌, Option, Some, None, Result, Ok, Err, MatchResult, List, [], ◌∷◌, length, refl, arith, ap}
+use Rattle.std.specs.Prelude.{is_ok}
 use Rattle.std.specs.Result.{result_ok}
 use Rattle.std.proofs.lemmas.Bool.Decides.{nat_tests}
 use Rattle.hex.specs.declared.error.FromHexError.{FromHexError}

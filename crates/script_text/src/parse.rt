@@ -1,12 +1,11 @@
 //! `parse_line`: what a line of a script says.
 
-ghost use Rattle.std.specs.Prelude.{◌≡◌, ◌≤◌, ◌<◌, [], ◌∷◌, length, slice_index, Some, Err, codes};
+ghost use Rattle.std.specs.Prelude.{◌≡◌, ◌≤◌, ◌<◌, [], ◌∷◌, length, slice_index, Err, codes};
 ghost use Rattle.kernel_model.specs.declared.Command.TheVariants as command_is;
 ghost use Rattle.kernel_model.specs.Bytes.{hex_word};
-ghost use Rattle.kernel_model.specs.Script.{WRITE_DIGITS, IMAGE_DIGITS, amount_at, name_word, open_by, write_by, call_of, happens_by, loads_by, entry_of, entry_at, command_named, first_word, other_words, words_of, is_blank, parsed_line};
+ghost use Rattle.kernel_model.specs.Script.{WRITE_DIGITS, IMAGE_DIGITS, amount_at, name_word, open_by, write_by, call_of, happens_by, loads_by, entry_of, first_word, words_of, is_blank, parsed_line};
 ghost use Rattle.script_text.specs.declared.parse.ScriptFault.TheVariants.{NoMemory as no_memory};
 ghost use Rattle.script_text.specs.Answers.{Answers, SetsWithin};
-ghost use Rattle.script_text.specs.Words.{words_left};
 
 use crate::commands::{forms, named, sets_up};
 use crate::digits::name;
@@ -153,15 +152,15 @@ fn patience(kind: u32, n: u32) -> Result<Entry, ScriptFault>
 }
 
 /// A system call as an event.
-fn happens(p: u32, call: Option<SysCall>) -> Result<Entry, ScriptFault>
-    ensures answer { Answers result (happens_by p call) }
+fn happens(verb: CallName, n: &[u32], last: &[u8]) -> Result<Entry, ScriptFault>
+    ensures answer { Answers result (happens_by (slice_index n.now 0) (call_of verb n.now last.now)) }
     ensures memory { result ≡ Err no_memory → ⊥ }
     ensures limits { SetsWithin result }
 {
-    match call {
-        Some(call) => Ok(Entry::Happens(Event::Sys(p, call))),
-        None => Err(ScriptFault::BadNumber),
-    }
+    let Some(call) = call(verb, n, last) else {
+        return Err(ScriptFault::BadNumber);
+    };
+    Ok(Entry::Happens(Event::Sys(at(n, 0), call)))
 }
 
 /// `image k HEX`.
@@ -192,42 +191,7 @@ fn entry_said(alloc: Global, command: Command, n: &[u32], last: &[u8]) -> Result
         Command::Step => Ok(Entry::Happens(Event::Step(at(n, 0), at(n, 1)))),
         Command::Raw => Ok(Entry::Raw),
         Command::Image => image(alloc, at(n, 0), last),
-        Command::Call(name) => happens(at(n, 0), call(name, n, last)),
-    }
-}
-
-/// A command by what follows its word.
-fn command_line(
-    alloc: Global,
-    command: Command,
-    rest: &[u8],
-    booted: bool,
-) -> Result<Entry, ScriptFault>
-    ensures answer { Answers result (entry_at booted (words_left rest.now) (Some command)) }
-    ensures memory { result ≡ Err no_memory → command ≡ command_is.Image }
-    ensures limits { SetsWithin result }
-{
-    if sets_up(command) == booted {
-        return Err(ScriptFault::WrongPlace);
-    }
-    let mut numbers = ArrayVec::new();
-    match read_words(forms(command), rest, &rest[..0], &mut numbers) {
-        Reading::BadWord => Err(ScriptFault::BadWord),
-        Reading::BadNumber => Err(ScriptFault::BadNumber),
-        Reading::Said(last) => entry_said(alloc, command, numbers.as_slice(), last),
-    }
-}
-
-/// A line that isn't blank.
-fn words_line(alloc: Global, line: &[u8], booted: bool) -> Result<Entry, ScriptFault>
-    ensures answer { Answers result (entry_at booted (other_words (words_of line.now)) (command_named (first_word (words_of line.now)))) }
-    ensures memory { result ≡ Err no_memory → first_word (words_of line.now) ≡ codes "image" }
-    ensures limits { SetsWithin result }
-{
-    let end = word_end(line);
-    match named(&line[..end]) {
-        None => Err(ScriptFault::UnknownCommand),
-        Some(command) => command_line(alloc, command, skip(line, end), booted),
+        Command::Call(name) => happens(name, n, last),
     }
 }
 
@@ -243,5 +207,17 @@ pub fn parse_line(alloc: Global, line: &[u8], booted: bool) -> Result<Entry, Scr
     if is_blank_line(line) {
         return Ok(Entry::Blank);
     }
-    words_line(alloc, line, booted)
+    let end = word_end(line);
+    let Some(command) = named(&line[..end]) else {
+        return Err(ScriptFault::UnknownCommand);
+    };
+    if sets_up(command) == booted {
+        return Err(ScriptFault::WrongPlace);
+    }
+    let mut numbers = ArrayVec::new();
+    match read_words(forms(command), skip(line, end), &line[..0], &mut numbers) {
+        Reading::BadWord => Err(ScriptFault::BadWord),
+        Reading::BadNumber => Err(ScriptFault::BadNumber),
+        Reading::Said(last) => entry_said(alloc, command, numbers.as_slice(), last),
+    }
 }

@@ -3,7 +3,7 @@ use Rattle.kernel_state.specs.Stores.{world_of_store, objects_of}
 use Rattle.call_pieces.proofs.Granting.{may_come}
 use Rattle.call_pieces.proofs.begin.early.Goals as goal
 
-pub returns-in-None-clause-ready : goal.returns-in-None-clause-ready
-returns-in-None-clause-ready g c =
+pub returns-clause-ready : goal.returns-clause-ready
+returns-clause-ready g c =
     may_come (world_of_store c.args.store.now) (objects_of (λ b. (goal.Policy-dyn g (b.vtable, b.value)).seen b.value) c.args.store.now) c.args.images c.args.p c.args.call.now c.copy_call.result c.copy_call.ensures c.requires.alive
-    (λ table tells. sym c.in-None.is ∙ c.refusal.ensures table tells)
+    (λ table tells. sym c.in_default.is ∙ c.refusal.ensures table tells)

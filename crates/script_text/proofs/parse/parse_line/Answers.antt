@@ -1,0 +1,37 @@
+use Rattle.std.proofs.Common.{◌∙◌, sym, ap, Some, arith, subst}
+use Rattle.std.proofs.lemmas.Bool.Decides.{nat_tests}
+use Rattle.script_text.specs.Answers.{Answers}
+use Rattle.script_text.proofs.Lines.{parsed-first, first_word-of, named-image}
+use Rattle.script_text.proofs.parse.parse_line.Goals as goal
+
+pub returns-in_default-clause-answer : goal.returns-in_default-clause-answer
+returns-in_default-clause-answer c =
+    parsed-first _ _ _ _ c.requires (sym c.is_blank_line.ensures ∙ c.if-is_blank_line.false)
+    c.word_end-end.ensures.value (sym c.named.ensures ∙ c.in_default.is)
+
+pub returns-then-sets_up-booted-clause-answer : goal.returns-then-sets_up-booted-clause-answer
+returns-then-sets_up-booted-clause-answer c =
+    parsed-first _ _ _ _ c.requires (sym c.is_blank_line.ensures ∙ c.if-is_blank_line.false)
+    c.word_end-end.ensures.value (sym c.named.ensures ∙ c.in-Some.is) ∙ grind (arith, nat_tests)
+
+pub returns-in-BadWord-clause-answer : goal.returns-in-BadWord-clause-answer
+returns-in-BadWord-clause-answer c =
+    parsed-first _ _ _ _ c.requires (sym c.is_blank_line.ensures ∙ c.if-is_blank_line.false)
+    c.word_end-end.ensures.value (sym c.named.ensures ∙ c.in-Some.is) ∙ grind (arith, nat_tests)
+
+pub returns-in-BadNumber-clause-answer : goal.returns-in-BadNumber-clause-answer
+returns-in-BadNumber-clause-answer c =
+    parsed-first _ _ _ _ c.requires (sym c.is_blank_line.ensures ∙ c.if-is_blank_line.false)
+    c.word_end-end.ensures.value (sym c.named.ensures ∙ c.in-Some.is) ∙ grind (arith, nat_tests)
+
+pub returns-in-Said-clause-answer : goal.returns-in-Said-clause-answer
+returns-in-Said-clause-answer c =
+    let said =
+    parsed-first c.args.booted _ _ _ c.requires (sym c.is_blank_line.ensures ∙ c.if-is_blank_line.false)
+    c.word_end-end.ensures.value (sym c.named.ensures ∙ c.in-Some.is) in
+    subst (Answers c.entry_said.result) (sym said) (grind (arith, nat_tests, c.entry_said.ensures.answer))
+
+pub returns-in-Said-clause-memory : goal.returns-in-Said-clause-memory
+returns-in-Said-clause-memory c = λ want.
+    first_word-of _ _ c.word_end-end.ensures.value
+    ∙ named-image _ (sym c.named.ensures ∙ c.in-Some.is ∙ ap (λ x. Some x) (c.entry_said.ensures.memory want))
