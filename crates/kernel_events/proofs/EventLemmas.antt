@@ -1,5 +1,5 @@
 -- A whole event.
-use Rattle.std.proofs.Common.{append-nil, ◌≡◌, ℕ, zero, suc, ◌-◌, ◌≤◌, ◌<◌, ◌==◌, ◌&&◌, Bool, true, false, nat_le, List, [], ◌∷◌, ◌++◌, length, Option, Some, None, Result, Ok, Err, arith, refl, ap, sym, subst, ◌∙◌}
+use Rattle.std.proofs.Common.{◌≡◌, ℕ, zero, suc, ◌-◌, ◌≤◌, ◌<◌, ◌==◌, ◌&&◌, Bool, true, false, nat_le, List, [], ◌∷◌, ◌++◌, length, Option, Some, None, Result, Ok, Err, arith, refl, ap, sym, subst, ◌∙◌}
 use Rattle.std.specs.Prelude.{Contains, is_some, option_map, slice_index_or, ◌||◌}
 use Rattle.std.specs.List.{list_any}
 use Rattle.std.proofs.lemmas.Bool.{eqb-true}
@@ -30,7 +30,7 @@ use Rattle.placed_laws.specs.Stands.{StandsFor, RunStandsFor}
 use Rattle.kernel_steps.specs.declared.order.Waiting.{Waiting}
 use Rattle.kernel_steps.specs.declared.running.Running.{Running}
 use Rattle.kernel_steps.specs.Composing.{did_as}
-use Rattle.kernel_steps.specs.Did.{first_notes, CameAs, Did}
+use Rattle.kernel_steps.specs.Did.{first_notes, Did}
 use Rattle.kernel_steps.specs.Kept.{kept_whole}
 use Rattle.kernel_steps.specs.Orders.{has_number, numbers_of, order_of}
 use Rattle.kernel_steps.specs.Views.{placed_of, run_of, IsRunning, Stood}
@@ -171,17 +171,18 @@ happened_by m law few x y number size what kept kept_new d e size_is none whole 
     record {
       io = did.io;
       made = did.made;
-      is = λ k blocks stands rests tells.
-          let r : Run = record { kernel = k; blocks = blocks; notes = []; io = did.io } in
+      is = λ k blocks rest stands rests tells.
+          let io = did.io ++ rest in
+          let r : Run = record { kernel = k; blocks = blocks; notes = []; io = io } in
           let all : HasWholeBlocks k.world blocks = subst (λ v. HasWholeBlocks v blocks) stands.world (whole_of d.told blocks size x.world size_is whole tells) in
-          let after = law (run_of x blocks [] did.io) r number what (record { kernel = stands; blocks = refl; notes = refl; io = refl; whole = all }) rests in
-          let came = subst (λ io. CameAs (placed_event_on m number what (run_of x blocks [] io)) y kept_new e.told []) (append-nil did.io) (did.goes blocks [] [] (record { kernel = k; stands = stands; rests = rests; whole = all }) tells (none ∙ sym (kept_whole [] (omega arith)))) in
+          let after = law (run_of x blocks [] io) r number what (record { kernel = stands; blocks = refl; notes = refl; io = refl; whole = all }) rests in
+          let came = did.goes blocks [] rest (record { kernel = k; stands = stands; rests = rests; whole = all }) tells (none ∙ sym (kept_whole [] (omega arith))) in
           record {
-            stands = subst (λ z. StandsFor m z (event m k blocks number what did.io).kernel) came.placed after.0.kernel;
+            stands = subst (λ z. StandsFor m z (event m k blocks number what io).kernel) came.placed after.0.kernel;
             rests = after.1;
             blocks = subst (Tells e.told) after.0.blocks came.blocks;
-            notes_are = came.notes ∙ ap first_notes after.0.notes ∙ kept_whole (event m k blocks number what did.io).notes (few k blocks number what did.io stands.kernel all).all;
-            all_made = sym after.0.io ∙ came.io;
+            notes_are = came.notes ∙ ap first_notes after.0.notes ∙ kept_whole (event m k blocks number what io).notes (few k blocks number what io stands.kernel all).all;
+            left = sym after.0.io ∙ came.io;
           };
     }
 

@@ -1,5 +1,5 @@
 -- What an image line makes of a session, and of its bounds.
-use Rattle.std.proofs.Common.{codes, decimal, is_some, Result, Ok, Err, ◌≡◌, ◌<◌, ℕ, suc, ◌+◌, ◌++◌, ◌∙◌, true, false, Bool, List, [], ◌∷◌, Some, None, Option, arith, refl, sym, ap, subst, add-one}
+use Rattle.std.proofs.Common.{codes, decimal, is_some, Result, Ok, Err, ◌≡◌, ◌<◌, ℕ, suc, ◌+◌, ◌++◌, ◌∙◌, true, false, Bool, List, ◌∷◌, Some, None, Option, arith, refl, sym, ap, subst, add-one}
 use Rattle.std.specs.Prelude.{nat_lt}
 use Rattle.std.proofs.lemmas.Bool.Decides.{nat_tests}
 use Rattle.kernel_model.specs.World.{Image, ImageTable}
@@ -102,15 +102,15 @@ pub image_runs : (c : Place) (s t : Seen) (slot : ℕ) (bytes : List ℕ) (y : P
     Says out (line (decimal (s.events + 1) ++ 32 ∷ answer)) → RunsEntry c (Loads slot bytes) s t d d out
 image_runs c s t slot bytes y answer out d booted state said written =
     let u = record s { placed = y; events = s.events + 1 } in
-    subst (λ (x : Seen). RunsEntry c (Loads slot bytes) s x d d out) (sym state) (alone c (Loads slot bytes) s u out d (λ a stands.
+    subst (λ (x : Seen). RunsEntry c (Loads slot bytes) s x d d out) (sym state) (alone c (Loads slot bytes) s u out d (λ a rest stands.
     let has = stands.booted booted in
     let n = suc a.events in
     let number : s.events + 1 ≡ n = add-one s.events ∙ ap suc (sym stands.events) in
     let new = said has.kernel has.stands has.rests in
-    let run : after_entry present_build c.key c.size a (Loads slot bytes) [] ≡ after_image a n (new.kernel, answer) [] =
-    ap (λ (o : Option abstract.Kernel). running_in present_build c.key c.size a (Loads slot bytes) o []) has.is
-    ∙ ap (λ (r : abstract.Kernel × List ℕ). after_image a n r []) new.is in
-    subst (λ w. Comes u d.told out w) (sym run) (record {
+    let run : after_entry present_build c.key c.size a (Loads slot bytes) rest ≡ after_image a n (new.kernel, answer) rest =
+    ap (λ (o : Option abstract.Kernel). running_in present_build c.key c.size a (Loads slot bytes) o rest) has.is
+    ∙ ap (λ (r : abstract.Kernel × List ℕ). after_image a n r rest) new.is in
+    subst (λ w. Comes u d.told out w rest) (sym run) (record {
       stands = record {
         setup = stands.setup;
         lines = stands.lines;
@@ -120,7 +120,7 @@ image_runs c s t slot bytes y answer out d booted state said written =
         booted = λ up. record { kernel = new.kernel; is = refl; stands = new.stands; rests = new.rests };
         blocks = stands.blocks;
       };
-      used = refl;
+      left = refl;
       notes = written.no_notes;
       bytes = written.bytes_are ∙ ap (λ (m : ℕ). line (decimal m ++ 32 ∷ answer)) number;
     })))

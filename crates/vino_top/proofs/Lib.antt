@@ -6,3 +6,4 @@ pub mod RunLemmas
 pub mod DemoLemmas
 pub mod EndLemmas
 pub mod ImageLemmas
+pub mod ShortLists

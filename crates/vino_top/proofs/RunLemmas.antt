@@ -1,18 +1,19 @@
 -- How the run of a script goes on, line after line, and why it stops.
-use Rattle.std.proofs.Common.{subst, MatchResult, OnOk, get_or, take, drop, Result, Ok, Err, ◌<◌, ◌≡◌, ℕ, suc, ◌+◌, ◌≤◌, Bool, true, false, List, [], ◌∷◌, ◌++◌, Option, arith, length, refl, sym, ap, ◌∙◌, length-append, append_assoc, append-nil}
+use Rattle.std.proofs.Common.{subst, MatchResult, OnOk, get_or, take, drop, Result, Ok, Err, ◌<◌, ◌≡◌, ℕ, suc, ◌+◌, ◌≤◌, Bool, true, false, List, [], ◌∷◌, ◌++◌, Option, Some, arith, length, refl, sym, ap, ◌∙◌, length-append, append_assoc, append-nil}
 use Rattle.std.specs.List.{concat}
 use Rattle.std.specs.Prelude.{flat_map}
 use Rattle.std.proofs.lemmas.List.Folds.{concat-append}
 use Rattle.std.specs.Io.KnownBytes.{Appends}
 use Rattle.std.proofs.lemmas.List.{take_more, take-append-drop, take_all}
 use Rattle.std.proofs.KnownBytes.{Appends-nil, Appends-trans}
-use Rattle.disk_log.specs.Calls.{Made}
+use Rattle.disk_log.specs.Calls.{Tells, Made}
 use Rattle.disk_log.specs.Joined.{made_none, made_joined}
 use Rattle.kernel_model.specs.Script.{LINE_BYTES}
+use Rattle.kernel_model.specs.World.{Blocks}
 use Rattle.kernel_model.specs.Session.{Session}
 use Rattle.kernel_model.specs.Outcome.{lines_after, rest_after, ends_line, ended_line}
 use Rattle.disk_log.specs.Seen.{DiskSeen}
-use Rattle.vino_top.specs.Run.{Place, line_run, lines_run, pieces_run, UsesAll, MadeAll, AppendsPart, Left, RunsLine, IsImageLine, Feeds, StopsAt, TakesLine}
+use Rattle.vino_top.specs.Run.{Place, line_run, lines_run, pieces_run, Uses, UsesAll, MadeAll, AppendsPart, Left, Comes, RunsLine, IsImageLine, Feeds, StopsAt, TakesLine}
 use Rattle.vino_top.specs.Standing.{Seen, StandsFor}
 use Rattle.vino_top.specs.declared.run.Stop.{Stop}
 use Rattle.vino_top.specs.declared.run.Stop.TheVariants.{SinkFailed, NoMemory}
@@ -71,6 +72,32 @@ uses-append c a [] ys (io ∷ is) js h p q = absurd (omega (arith, h))
 uses-append c a (x ∷ xs) ys [] js h p q = absurd (omega (arith, h))
 uses-append c a (x ∷ xs) ys (io ∷ is) js h p q =
     (p.0, uses-append c (line_run c a x io).session xs ys is js (omega (arith, h)) p.1 q)
+
+-- ---- the calls of one line
+
+-- a disk tells its blocks, and no others
+same_told : (told : Option (List (List ℕ))) (x y : Blocks) → Tells told x → Tells told y → x ≡ y
+same_told told x y p q = same_some x y (sym p ∙ q)
+  where
+    same_some : (f g : Blocks) → Some f ≡ Some g → f ≡ g
+    same_some f g h = cc
+
+-- what comes of a line with its own calls alone
+comes_alone : (c : Place) (text : List ℕ) (s t : Seen) (d e : DiskSeen) (out : List ℕ) (r : RunsLine c text s t d e out) (a : Session) → StandsFor s d.told a →
+    Comes t e.told out (line_run c a text r.io) []
+comes_alone c text s t d e out r a from = subst (λ io. Comes t e.told out (line_run c a text io) []) (append-nil r.io) (r.comes a [] from)
+
+-- a line makes its calls, no fewer and no more
+line_uses : (c : Place) (text : List ℕ) (s t : Seen) (d e : DiskSeen) (out : List ℕ) (r : RunsLine c text s t d e out) (a : Session) → StandsFor s d.told a →
+    Uses c a text r.io
+line_uses c text s t d e out r a from =
+    let now = comes_alone c text s t d e out r a from in
+    record {
+      left = λ rest. (r.comes a rest from).left;
+      bytes = λ rest. sym (r.comes a rest from).bytes ∙ now.bytes;
+      blocks = λ rest.
+          same_told e.told (line_run c a text (r.io ++ rest)).session.blocks (line_run c a text r.io).session.blocks (r.comes a rest from).stands.blocks now.stands.blocks;
+    }
 
 -- ---- bytes that are fed
 
@@ -133,15 +160,16 @@ pub fed_line : (c : Place) (s t : Seen) (l m n : List ℕ) (byte : ℕ) (g h : O
 fed_line c s t l m n byte g h d e ends is empty p =
     let ended = lines_ended l byte [] ends in
     let r = p.runs in
+    let comes = λ (a : Session) (from : StandsFor s d.told a). comes_alone c m s t d e p.out r a from in
     record {
       ios = r.io ∷ [];
       one_each = rw ended refl;
       calls = all_made_one d e r.io r.made;
       line_is = rw (rest_ended l byte [] ends) empty;
       lines = omega (arith, p.lines);
-      stands = λ a from. rw (ended, is) (r.comes a from).stands;
-      used = λ a from. rw (ended, is) ((r.comes a from).used, tt);
-      appended = λ a from. rw (ended, is, append-nil (line_run c a m r.io).bytes, ← (r.comes a from).bytes) p.appended;
+      stands = λ a from. rw (ended, is) (comes a from).stands;
+      used = λ a from. rw (ended, is) (line_uses c m s t d e p.out r a from, tt);
+      appended = λ a from. rw (ended, is, append-nil (line_run c a m r.io).bytes, ← (comes a from).bytes) p.appended;
     }
 
 -- the byte at a place is fed
@@ -299,10 +327,10 @@ line_written c text s t out g h d e (Err stop) runs lines p =
       part = p.1.part;
       more = p.1.more;
       lacks = p.1.lacks;
-      used = λ a from. (tt, (runs.comes a from).used);
-      bytes = λ a from. sym (runs.comes a from).bytes ∙ p.1.whole;
+      used = λ a from. (tt, line_uses c text s t d e out runs a from);
+      bytes = λ a from. sym (comes_alone c text s t d e out runs a from).bytes ∙ p.1.whole;
       appended = λ a from. p.1.appended;
-      blocks = λ a from. (runs.comes a from).stands.blocks;
+      blocks = λ a from. (comes_alone c text s t d e out runs a from).stands.blocks;
     })
 
 -- there was no memory for a line

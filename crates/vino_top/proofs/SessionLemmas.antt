@@ -79,16 +79,17 @@ event_runs c s x what notes out d e booted h text kept =
     record {
       io = h.io;
       made = h.made;
-      comes = λ a stands.
+      comes = λ a rest stands.
           let has = stands.booted booted in
+          let io = h.io ++ rest in
           let n = suc a.events in
           let number = next_number s d.told a stands in
-          let r = event plain has.kernel a.blocks n what h.io in
-          let is : EventIs plain r x notes e.told =
-          subst (λ (m : ℕ). EventIs plain (event plain has.kernel a.blocks m what h.io) x notes e.told) number (h.is has.kernel a.blocks has.stands has.rests stands.blocks) in
-          let run : after_entry present_build c.key c.size a (Happens what) h.io ≡ after_event a n r =
-          ap (λ (o : Option abstract.Kernel). running_in present_build c.key c.size a (Happens what) o h.io) has.is in
-          subst (λ w. Comes (record s { placed = x; events = s.events + 1 }) e.told out w) (sym run) (record {
+          let r = event plain has.kernel a.blocks n what io in
+          let is : EventIs plain r x notes e.told rest =
+          subst (λ (m : ℕ). EventIs plain (event plain has.kernel a.blocks m what io) x notes e.told rest) number (h.is has.kernel a.blocks rest has.stands has.rests stands.blocks) in
+          let run : after_entry present_build c.key c.size a (Happens what) io ≡ after_event a n r =
+          ap (λ (o : Option abstract.Kernel). running_in present_build c.key c.size a (Happens what) o io) has.is in
+          subst (λ w. Comes (record s { placed = x; events = s.events + 1 }) e.told out w rest) (sym run) (record {
             stands = record {
               setup = stands.setup;
               lines = stands.lines;
@@ -98,17 +99,17 @@ event_runs c s x what notes out d e booted h text kept =
               booted = λ up. record { kernel = r.kernel; is = refl; stands = is.stands; rests = is.rests };
               blocks = is.blocks;
             };
-            used = is.all_made;
+            left = is.left;
             bytes = text ∙ ap note_lines is.notes_are;
             notes = kept ∙ is.notes_are;
           });
     }
 
 -- what comes of a boot: block 0 was read, or that failed
-boot_comes : (c : Place) (s : Seen) (x : Placed) (io : List Bool) (note : BootNote) (out : Left) (told told_new : Option (List (List ℕ))) (a : Session) →
+boot_comes : (c : Place) (s : Seen) (x : Placed) (io : List Bool) (note : BootNote) (out : Left) (told told_new : Option (List (List ℕ))) (a : Session) (rest : List Bool) →
     length io ≡ 1 → StandsFor s told a → BootIs plain s.setup c.size a.blocks io x note told_new → Says out (line (boot_line note)) →
-    Comes (record s { placed = x; booted = true }) told_new out (after_entry present_build c.key c.size a Boot io)
-boot_comes c s x (true ∷ []) note out told told_new a one stands is said =
+    Comes (record s { placed = x; booted = true }) told_new out (after_entry present_build c.key c.size a Boot (io ++ rest)) rest
+boot_comes c s x (true ∷ []) note out told told_new a rest one stands is said =
     record {
       stands = record {
         setup = stands.setup;
@@ -124,11 +125,11 @@ boot_comes c s x (true ∷ []) note out told told_new a one stands is said =
         };
         blocks = is.blocks_are;
       };
-      used = refl;
+      left = refl;
       bytes = said.bytes_are ∙ ap (λ (y : BootNote). line (boot_line y)) is.note_is;
       notes = said.no_notes;
     }
-boot_comes c s x (false ∷ []) note out told told_new a one stands is said =
+boot_comes c s x (false ∷ []) note out told told_new a rest one stands is said =
     let rows = directory_of c.size (a.blocks 0) in
     record {
       stands = record {
@@ -145,27 +146,28 @@ boot_comes c s x (false ∷ []) note out told told_new a one stands is said =
         };
         blocks = is.blocks_are;
       };
-      used = refl;
+      left = refl;
       notes = said.no_notes;
       bytes = said.bytes_are ∙ ap (λ (y : BootNote). line (boot_line y)) is.note_is ∙ ap (λ (u : Setup). line (boot_text u.frames c.size (usable_count rows))) (sym stands.setup);
     }
-boot_comes c s x [] note out told told_new a one stands is said = absurd (omega (arith, one))
-boot_comes c s x (y ∷ z ∷ io) note out told told_new a one stands is said = absurd (omega (arith, one))
+boot_comes c s x [] note out told told_new a rest one stands is said = absurd (omega (arith, one))
+boot_comes c s x (y ∷ z ∷ io) note out told told_new a rest one stands is said = absurd (omega (arith, one))
 
 -- a session once the kernel began
 pub boot_runs : (c : Place) (s : Seen) (x : Placed) (note : BootNote) (out : Left) (d e : DiskSeen) →
     Booted plain s.setup c.size x note d e → Says out (line (boot_line note)) → RunsEntry c Boot s (record s { placed = x; booted = true }) d e out
 boot_runs c s x note out d e h said =
-    record { io = h.io; made = h.made; comes = λ a stands. boot_comes c s x h.io note out d.told e.told a h.one stands (h.is a.blocks stands.blocks) said }
+    record { io = h.io; made = h.made; comes = λ a rest stands. boot_comes c s x h.io note out d.told e.told a rest h.one stands (h.is a.blocks stands.blocks) said }
 
 -- a session went on by an entry that leaves the disk alone
 pub alone : (c : Place) (entry : Entry) (s t : Seen) (out : Left) (d : DiskSeen) →
-    ((a : Session) → StandsFor s d.told a → Comes t d.told out (after_entry present_build c.key c.size a entry [])) → RunsEntry c entry s t d d out
+    ((a : Session) (rest : List Bool) → StandsFor s d.told a →
+    Comes t d.told out (after_entry present_build c.key c.size a entry rest) rest) → RunsEntry c entry s t d d out
 alone c entry s t out d comes = record { io = []; made = made_none d.faults d.plan; comes = comes }
 
 -- a blank line
 pub blank_runs : (c : Place) (s : Seen) (out : Left) (d : DiskSeen) → Says out [] → RunsEntry c Blank s s d d out
-blank_runs c s out d silent = alone c Blank s s out d (λ a stands. record { stands = stands; used = refl; bytes = silent.bytes_are; notes = silent.no_notes })
+blank_runs c s out d silent = alone c Blank s s out d (λ a rest stands. record { stands = stands; left = refl; bytes = silent.bytes_are; notes = silent.no_notes })
 
 -- a session with another set-up
 set_up : (s : Seen) (u : _) (told : Option (List (List ℕ))) (a : Session) (v : Setup) → v ≡ setup_of u → StandsFor s told a → StandsFor (record s { setup = u }) told (record a { setup = v })
@@ -176,51 +178,52 @@ set_up s u told a v is stands =
 pub frames_runs : (c : Place) (s : Seen) (n : ℕ) (out : Left) (d : DiskSeen) → Says out [] →
     RunsEntry c (Frames n) s (record s { setup = record (s.setup) { frames = n } }) d d out
 frames_runs c s n out d silent =
-    alone c (Frames n) s (record s { setup = record (s.setup) { frames = n } }) out d (λ a stands.
-    record { stands = set_up s (record (s.setup) { frames = n }) d.told a (record (a.setup) { frames = n }) (ap (λ (u : Setup). record u { frames = n }) stands.setup) stands; used = refl; bytes = silent.bytes_are; notes = silent.no_notes })
+    alone c (Frames n) s (record s { setup = record (s.setup) { frames = n } }) out d (λ a rest stands.
+    record { stands = set_up s (record (s.setup) { frames = n }) d.told a (record (a.setup) { frames = n }) (ap (λ (u : Setup). record u { frames = n }) stands.setup) stands; left = refl; bytes = silent.bytes_are; notes = silent.no_notes })
 
 -- a line that sets the grant
 pub grant_runs : (c : Place) (s : Seen) (n : ℕ) (out : Left) (d : DiskSeen) → Says out [] →
     RunsEntry c (Grant n) s (record s { setup = record (s.setup) { grant = n } }) d d out
 grant_runs c s n out d silent =
-    alone c (Grant n) s (record s { setup = record (s.setup) { grant = n } }) out d (λ a stands.
-    record { stands = set_up s (record (s.setup) { grant = n }) d.told a (record (a.setup) { grant = n }) (ap (λ (u : Setup). record u { grant = n }) stands.setup) stands; used = refl; bytes = silent.bytes_are; notes = silent.no_notes })
+    alone c (Grant n) s (record s { setup = record (s.setup) { grant = n } }) out d (λ a rest stands.
+    record { stands = set_up s (record (s.setup) { grant = n }) d.told a (record (a.setup) { grant = n }) (ap (λ (u : Setup). record u { grant = n }) stands.setup) stands; left = refl; bytes = silent.bytes_are; notes = silent.no_notes })
 
 -- a line that sets the patience with a kind of object
 pub patience_runs : (c : Place) (s : Seen) (kind ticks : ℕ) (patience : List ℕ) (out : Left) (d : DiskSeen) →
     (λ k. slice_index_or patience k 10) ≡ at kind ticks (λ k. slice_index_or s.setup.patience k 10) → Says out [] →
     RunsEntry c (Patience kind ticks) s (record s { setup = record (s.setup) { patience = patience } }) d d out
 patience_runs c s kind ticks patience out d is silent =
-    alone c (Patience kind ticks) s (record s { setup = record (s.setup) { patience = patience } }) out d (λ a stands.
+    alone c (Patience kind ticks) s (record s { setup = record (s.setup) { patience = patience } }) out d (λ a rest stands.
     record {
       stands = set_up s (record (s.setup) { patience = patience }) d.told a (with_patience kind ticks a.setup)
           (ap (with_patience kind ticks) stands.setup ∙ ap (λ (f : ℕ → ℕ). record (setup_of s.setup) { patience = f }) (sym is)) stands;
-      used = refl;
+      left = refl;
       bytes = silent.bytes_are;
       notes = silent.no_notes;
     })
 
 -- an entry after `boot` that stands before it
-pub unbooted_runs : (c : Place) (entry : Entry) (s : Seen) (out : Left) (d : DiskSeen) → ((a : Session) → after_entry present_build c.key c.size a entry [] ≡ running_in present_build c.key c.size a entry a.kernel []) →
+pub unbooted_runs : (c : Place) (entry : Entry) (s : Seen) (out : Left) (d : DiskSeen) → ((a : Session) (rest : List Bool) →
+    after_entry present_build c.key c.size a entry rest ≡ running_in present_build c.key c.size a entry a.kernel rest) →
     s.booted ≡ false → Says out [] → RunsEntry c entry s s d d out
 unbooted_runs c entry s out d runs booted said =
-    alone c entry s s out d (λ a stands.
-    let run : after_entry present_build c.key c.size a entry [] ≡ silent a [] =
-    runs a ∙ ap (λ (o : Option abstract.Kernel). running_in present_build c.key c.size a entry o []) (stands.unbooted booted) in
-    subst (λ w. Comes s d.told out w) (sym run) (record { stands = stands; used = refl; bytes = said.bytes_are; notes = said.no_notes }))
+    alone c entry s s out d (λ a rest stands.
+    let run : after_entry present_build c.key c.size a entry rest ≡ silent a rest =
+    runs a rest ∙ ap (λ (o : Option abstract.Kernel). running_in present_build c.key c.size a entry o rest) (stands.unbooted booted) in
+    subst (λ w. Comes s d.told out w rest) (sym run) (record { stands = stands; left = refl; bytes = said.bytes_are; notes = said.no_notes }))
 
 -- the rows of the kernel's whole state
 pub raw_runs : SameShown plain → (c : Place) (s : Seen) (out : Left) (d : DiskSeen) → s.booted ≡ true →
     Says out (row_lines (s.events + 1) (placed_rows s.placed)) →
     RunsEntry c Raw s (record s { events = s.events + 1 }) d d out
 raw_runs shown c s out d booted said =
-    alone c Raw s (record s { events = s.events + 1 }) out d (λ a stands.
+    alone c Raw s (record s { events = s.events + 1 }) out d (λ a rest stands.
     let has = stands.booted booted in
     let n = suc a.events in
     let number = next_number s d.told a stands in
-    let run : after_entry present_build c.key c.size a Raw [] ≡ says (record a { events = n }) (row_lines n (raw_rows plain has.kernel)) [] =
-    ap (λ (o : Option abstract.Kernel). running_in present_build c.key c.size a Raw o []) has.is in
-    subst (λ w. Comes (record s { events = s.events + 1 }) d.told out w) (sym run) (record {
+    let run : after_entry present_build c.key c.size a Raw rest ≡ says (record a { events = n }) (row_lines n (raw_rows plain has.kernel)) rest =
+    ap (λ (o : Option abstract.Kernel). running_in present_build c.key c.size a Raw o rest) has.is in
+    subst (λ w. Comes (record s { events = s.events + 1 }) d.told out w rest) (sym run) (record {
       stands = record {
         setup = stands.setup;
         lines = stands.lines;
@@ -230,7 +233,7 @@ raw_runs shown c s out d booted said =
         booted = stands.booted;
         blocks = stands.blocks;
       };
-      used = refl;
+      left = refl;
       notes = said.no_notes;
       bytes = said.bytes_are ∙ ap (λ (m : ℕ). row_lines m (placed_rows s.placed)) number ∙ ap (row_lines n) (shown.rows s.placed has.kernel has.stands);
     }))
@@ -248,13 +251,13 @@ line_after_refusal c s text out d refused said =
     record {
       io = [];
       made = made_none d.faults d.plan;
-      comes = λ a stands.
-          let is : line_run c a text [] ≡ silent a [] =
+      comes = λ a rest stands.
+          let is : line_run c a text rest ≡ silent a rest =
           ap (λ (b : Bool). elim b as (λ _. Written) [
-            | true ↦ silent a []
-            | false ↦ after_parse present_build c.key c.size (record a { lines = suc a.lines }) (parsed_line (is_some a.kernel) text) []
+            | true ↦ silent a rest
+            | false ↦ after_parse present_build c.key c.size (record a { lines = suc a.lines }) (parsed_line (is_some a.kernel) text) rest
           ]) (stands.refused ∙ refused) in
-          subst (λ w. Comes s d.told out w) (sym is) (record { stands = stands; used = refl; bytes = said.bytes_are; notes = said.no_notes });
+          subst (λ w. Comes s d.told out w rest) (sym is) (record { stands = stands; left = refl; bytes = said.bytes_are; notes = said.no_notes });
     }
 
 -- a line of a session that goes on is what its words say
@@ -290,15 +293,15 @@ line_entered c s t text out entry d e going is runs =
     record {
       io = runs.io;
       made = runs.made;
-      comes = λ a stands.
-          subst (λ w. Comes t e.told out w) (sym (line_parsed c s d.told a text (Ok entry) runs.io stands going is))
-          (runs.comes (record a { lines = suc a.lines }) (counted s d.told a stands));
+      comes = λ a rest stands.
+          subst (λ w. Comes t e.told out w rest) (sym (line_parsed c s d.told a text (Ok entry) (runs.io ++ rest) stands going is))
+          (runs.comes (record a { lines = suc a.lines }) rest (counted s d.told a stands));
     }
 
 -- a session that refused its line
 refused_now : (s : Seen) (told : Option (List (List ℕ))) (a : Session) → StandsFor s told a → StandsFor (record s { refused = true }) told (record a { refused = true })
 refused_now s told a stands =
-    record { setup = stands.setup; lines = stands.lines; events = stands.events; refused = refl; unbooted = stands.unbooted; booted = stands.booted; blocks = stands.blocks }
+    record { setup = stands.setup; lines = stands.lines; events = stands.events; refleft = refl; unbooted = stands.unbooted; booted = stands.booted; blocks = stands.blocks }
 
 -- a line is refused for this fault
 pub line_refused : (c : Place) (s t : Seen) (text : List ℕ) (out : Left) (fault : ScriptFault) (d : DiskSeen) → s.refused ≡ false →
@@ -308,12 +311,12 @@ line_refused c s t text out fault d going is state said =
     record {
       io = [];
       made = made_none d.faults d.plan;
-      comes = λ a stands.
+      comes = λ a rest stands.
           let u = counted s d.told a stands in
-          subst (λ w. Comes t d.told out w) (sym (line_parsed c s d.told a text (Err fault) [] stands going is)) (record {
+          subst (λ w. Comes t d.told out w rest) (sym (line_parsed c s d.told a text (Err fault) rest stands going is)) (record {
             stands = subst (λ (x : Seen). StandsFor x d.told (record a { lines = suc a.lines; refused = true })) (sym state)
                 (refused_now (record s { lines = s.lines + 1 }) d.told (record a { lines = suc a.lines }) u);
-            used = refl;
+            left = refl;
             notes = said.no_notes;
             bytes = said.bytes_are ∙ ap (λ n. line (codes "script" ++ spaced n ++ codes " S" ++ decimal (fault_number fault))) (sym u.lines);
           });

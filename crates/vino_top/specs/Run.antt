@@ -49,11 +49,18 @@ lines_run c a texts ios = session_after present_build c.key c.size a texts ios
 abbrev pub pieces_run : Place → Session → List (List ℕ) → List (List Bool) → List (List ℕ)
 pieces_run c a texts ios = pieces_of present_build c.key c.size a texts ios
 
--- each of these lines made all calls of its list
+-- The line makes these calls of the disk, no fewer and no more: whatever the calls behind them would do, it leaves those, writes
+-- the same bytes and comes to the same blocks.
+pub record Uses (c : Place) (a : Session) (text : List ℕ) (io : List Bool) : Type 0 where
+  pub left : (rest : List Bool) → (line_run c a text (io ++ rest)).io ≡ rest
+  pub bytes : (rest : List Bool) → (line_run c a text (io ++ rest)).bytes ≡ (line_run c a text io).bytes
+  pub blocks : (rest : List Bool) → (line_run c a text (io ++ rest)).session.blocks ≡ (line_run c a text io).session.blocks
+
+-- each of these lines makes the calls of its list, no fewer and no more
 abbrev pub UsesAll : Place → Session → List (List ℕ) → List (List Bool) → Type 0
 UsesAll c a [] ios = ⊤
 UsesAll c a (text ∷ texts) ios =
-    ((line_run c a text (first_io ios)).io ≡ []) × UsesAll c (line_run c a text (first_io ios)).session texts (later_io ios)
+    Uses c a text (first_io ios) × UsesAll c (line_run c a text (first_io ios)).session texts (later_io ios)
 
 -- the session before the first line, over a disk with these blocks
 abbrev pub first_on : (size : ℕ) → Blocks → Session
@@ -93,27 +100,30 @@ pub record Says (out : Left) (bytes : List ℕ) : Type 0 where
   pub bytes_are : out.bytes ≡ bytes
   pub no_notes : out.notes ≡ []
 
--- what came of a line or an entry: the session and the disk stand for what is written of them, all calls of the list were made,
--- and the bytes and notes are those that are left behind
-pub record Comes (t : Seen) (told : Option (List (List ℕ))) (out : Left) (w : Written) : Type 0 where
+-- what came of a line or an entry: the session and the disk stand for what is written of them, of the calls that were told
+-- these are left, and the bytes and notes are those that are left behind
+pub record Comes (t : Seen) (told : Option (List (List ℕ))) (out : Left) (w : Written) (rest : List Bool) : Type 0 where
   pub stands : StandsFor t told w.session
-  pub used : w.io ≡ []
+  pub left : w.io ≡ rest
   pub bytes : out.bytes ≡ w.bytes
   pub notes : out.notes ≡ w.notes
 
--- The session went on by this line, which took the disk from the one to the other and left `out` behind.
+-- The session went on by this line, which took the disk from the one to the other and left `out` behind. Whatever calls
+-- behind its own would do, the line comes to this, and leaves those.
 pub record RunsLine (c : Place) (text : List ℕ) (s t : Seen) (d e : DiskSeen) (out : Left) : Type 0 where
   -- which of its calls of the disk failed
   pub io : List Bool
   pub made : Made d.faults e.faults d.plan e.plan io
-  pub comes : (a : Session) → StandsFor s d.told a → Comes t e.told out (line_run c a text io)
+  pub comes : (a : Session) (rest : List Bool) → StandsFor s d.told a → Comes t e.told out (line_run c a text (io ++ rest)) rest
 
--- The session went on by this entry, which took the disk from the one to the other and left `out` behind.
+-- The session went on by this entry, which took the disk from the one to the other and left `out` behind. Whatever calls
+-- behind its own would do, the entry comes to this, and leaves those.
 pub record RunsEntry (c : Place) (entry : Entry) (s t : Seen) (d e : DiskSeen) (out : Left) : Type 0 where
   -- which of its calls of the disk failed
   pub io : List Bool
   pub made : Made d.faults e.faults d.plan e.plan io
-  pub comes : (a : Session) → StandsFor s d.told a → Comes t e.told out (after_entry present_build c.key c.size a entry io)
+  pub comes : (a : Session) (rest : List Bool) → StandsFor s d.told a →
+      Comes t e.told out (after_entry present_build c.key c.size a entry (io ++ rest)) rest
 
 -- what is written of a boot
 abbrev pub boot_line : BootNote → List ℕ
@@ -153,7 +163,7 @@ pub record CutsShort (c : Place) (from : Session → Type 0) (lines : List (List
   pub part : List ℕ
   pub more : List ℕ
   pub lacks : 0 < length more
-  pub used : Whenever c from (λ c a. UsesAll c a done ios × ((line_run c (lines_run c a done ios) next io).io ≡ []))
+  pub used : Whenever c from (λ c a. UsesAll c a done ios × Uses c (lines_run c a done ios) next io)
   pub bytes : Whenever c from (λ c a. (line_run c (lines_run c a done ios) next io).bytes ≡ part ++ more)
   pub appended : Whenever c from (λ c a. Appends got got_new (concat (pieces_run c a done ios) ++ part))
   pub blocks : Whenever c from (λ c a. Tells e.told (line_run c (lines_run c a done ios) next io).session.blocks)
@@ -208,7 +218,7 @@ HasEnded Fault taken rest_new before now = (length taken ≤ SCRIPT_BYTES) × Ro
 HasEnded Over taken rest_new before now = length taken ≡ SCRIPT_BYTES + 1
 
 -- The source gave some bytes, at most one more than a script may have, and reading ended somehow, or stopped behind a
--- refused line. Over the blocks that the disk told: each line made the calls of its list, the status
+-- refused line. Over the blocks that the disk told: each line makes the calls of its list, the status
 -- is that of the outcome, the sink took its bytes, and the disk tells its blocks.
 pub record Ran (c : Place) (rest rest_new : Option (List ℕ)) (before now : ℕ) (got got_new : Option (List ℕ)) (d e : DiskSeen) (status : ℕ) : Type 0 where
   pub taken : List ℕ

@@ -17,5 +17,5 @@ returns-then-self-clause-runs g c = λ key.
 
 pub returns-else-self-clause-runs : goal.returns-else-self-clause-runs
 returns-else-self-clause-runs g c = λ key.
-    unbooted_runs (place key c.args.size) (Happens c.args.event.now) (seen_of (λ b. (goal.Policy-dyn g (b.vtable, b.value)).seen b.value) c.args.self.now) _ (disk_seen (g.D.Disk.blocks c.args.disk.now) (g.D.Disk.plan c.args.disk.now) (g.D.Disk.faults c.args.disk.now)) (λ a. refl) c.if-self.false
+    unbooted_runs (place key c.args.size) (Happens c.args.event.now) (seen_of (λ b. (goal.Policy-dyn g (b.vtable, b.value)).seen b.value) c.args.self.now) _ (disk_seen (g.D.Disk.blocks c.args.disk.now) (g.D.Disk.plan c.args.disk.now) (g.D.Disk.faults c.args.disk.now)) (λ a rest. refl) c.if-self.false
     (record { bytes_are = c.requires.empty; no_notes = c.requires.no_notes })

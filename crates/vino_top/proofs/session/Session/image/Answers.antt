@@ -20,7 +20,7 @@ add_image-requires-clause-stood g c = (c.requires.within.1.kernel c.if-not-self.
 
 pub returns-then-not-self-clause-runs : goal.returns-then-not-self-clause-runs
 returns-then-not-self-clause-runs g c = λ size d.
-    unbooted_runs (place c.args.key.now size) (Loads c.args.slot c.args.bytes.now) (seen_of (λ b. (goal.Policy-dyn g (b.vtable, b.value)).seen b.value) c.args.self.now) _ d (λ a. refl) c.if-not-self.true
+    unbooted_runs (place c.args.key.now size) (Loads c.args.slot c.args.bytes.now) (seen_of (λ b. (goal.Policy-dyn g (b.vtable, b.value)).seen b.value) c.args.self.now) _ d (λ a rest. refl) c.if-not-self.true
     (record { bytes_are = c.requires.empty; no_notes = c.requires.no_notes })
 
 pub returns-then-slot-gt-LAST_SLOT-clause-runs : goal.returns-then-slot-gt-LAST_SLOT-clause-runs
