@@ -11,7 +11,7 @@ use Rattle.vino_top.specs.Standing.{Seen, StandsFor, IsBegun, last_bytes}
 use Rattle.vino_top.specs.Run.{Place, first_on, line_run, lines_run, UsesAll, IsImageLine, Left, Comes, RunsLine}
 use Rattle.vino_top.specs.Demos.{all_run, RanLines, joined, nothing_left, IsFew, HasRoom, demo_place, DemoRan, DemoLacked, DemoReached, DemoTakes, DemoStops}
 use Rattle.vino_top.proofs.EndLemmas.{begun_stands, left_by}
-use Rattle.vino_top.proofs.RunLemmas.{all_made_none, all_made_one, all_made_joined, after-append, uses-append}
+use Rattle.vino_top.proofs.RunLemmas.{all_made_none, all_made_one, all_made_joined, after-append, line_uses, uses-append}
 
 -- ---- what lines write in all
 
@@ -48,7 +48,7 @@ ran_none c s d =
       one_each = refl;
       calls = all_made_none d;
       used = λ a from. tt;
-      comes = λ a from. record { stands = from; used = refl; bytes = refl; notes = refl };
+      comes = λ a from. record { stands = from; left = refl; bytes = refl; notes = refl };
     }
 
 -- one
@@ -58,12 +58,12 @@ ran_one c text s t d e out r =
       ios = r.io ∷ [];
       one_each = refl;
       calls = all_made_one d e r.io r.made;
-      used = λ a from. ((r.comes a from).used, tt);
+      used = λ a from. (line_uses c text s t d e out r a from, tt);
       comes = λ a from.
-          let came = r.comes a from in
+          let came = subst (λ io. Comes t e.told out (line_run c a text io) []) (append-nil r.io) (r.comes a [] from) in
           record {
             stands = came.stands;
-            used = refl;
+            left = refl;
             bytes = came.bytes ∙ sym (append-nil (line_run c a text r.io).bytes);
             notes = came.notes ∙ sym (append-nil (line_run c a text r.io).notes);
           };
@@ -83,10 +83,10 @@ ran_more c xs ys s t u d e f out more p q =
       comes = λ a from.
           let first = p.comes a from in
           let second = q.comes (all_run c a xs p.ios).session first.stands in
-          subst (λ (w : Written). Comes u f.told (joined out more) w) (sym (all-append c a xs ys p.ios q.ios p.one_each))
+          subst (λ (w : Written). Comes u f.told (joined out more) w []) (sym (all-append c a xs ys p.ios q.ios p.one_each))
           (record {
             stands = second.stands;
-            used = second.used;
+            left = second.left;
             bytes = ap (λ (bytes : List ℕ). bytes ++ more.bytes) first.bytes ∙ ap (λ (bytes : List ℕ). (all_run c a xs p.ios).bytes ++ bytes) second.bytes;
             notes = ap (λ (notes : List Note). notes ++ more.notes) first.notes ∙ ap (λ (notes : List Note). (all_run c a xs p.ios).notes ++ notes) second.notes;
           });
@@ -192,7 +192,7 @@ tells n bytes last lines text notes is last_are =
 
 -- what is told of lines, whose last lines are the code's
 told_is : (c : Place) (n : ℕ) (a : Session) (texts : List (List ℕ)) (ios : List (List Bool)) (t : Seen) (told : Option (List (List ℕ))) (out : Left) (text : List ℕ) →
-    Comes t told out (all_run c a texts ios) → text ≡ summary_of n (out.bytes ++ last_bytes t []) out.notes → text ≡ summary_by n (all_run c a texts ios)
+    Comes t told out (all_run c a texts ios) [] → text ≡ summary_of n (out.bytes ++ last_bytes t []) out.notes → text ≡ summary_by n (all_run c a texts ios)
 told_is c n a texts ios t told out text came is =
     let w = all_run c a texts ios in
     is ∙ ap (λ (bytes : List ℕ). summary_of n (bytes ++ last_bytes t []) out.notes) came.bytes

@@ -88,7 +88,7 @@ comes_alone : (c : Place) (text : List ℕ) (s t : Seen) (d e : DiskSeen) (out :
 comes_alone c text s t d e out r a from = subst (λ io. Comes t e.told out (line_run c a text io) []) (append-nil r.io) (r.comes a [] from)
 
 -- a line makes its calls, no fewer and no more
-line_uses : (c : Place) (text : List ℕ) (s t : Seen) (d e : DiskSeen) (out : List ℕ) (r : RunsLine c text s t d e out) (a : Session) → StandsFor s d.told a →
+pub line_uses : (c : Place) (text : List ℕ) (s t : Seen) (d e : DiskSeen) (out : Left) (r : RunsLine c text s t d e out) (a : Session) → StandsFor s d.told a →
     Uses c a text r.io
 line_uses c text s t d e out r a from =
     let now = comes_alone c text s t d e out r a from in

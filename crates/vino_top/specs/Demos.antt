@@ -21,7 +21,7 @@ pub record RanLines (c : Place) (texts : List (List ℕ)) (s t : Seen) (d e : Di
   pub one_each : length ios ≡ length texts
   pub calls : MadeAll d e ios
   pub used : Whenever c (StandsFor s d.told) (λ c a. UsesAll c a texts ios)
-  pub comes : Whenever c (StandsFor s d.told) (λ c a. Comes t e.told out (all_run c a texts ios))
+  pub comes : Whenever c (StandsFor s d.told) (λ c a. Comes t e.told out (all_run c a texts ios) [])
 
 -- both of these, in order
 abbrev pub joined : Left → Left → Left
