@@ -11,7 +11,7 @@ use Rattle.vino_top.specs.Standing.{Seen, StandsFor, IsBegun, last_bytes}
 use Rattle.vino_top.specs.Run.{Place, first_on, line_run, lines_run, UsesAll, IsImageLine, Left, Comes, RunsLine}
 use Rattle.vino_top.specs.Demos.{all_run, RanLines, joined, nothing_left, IsFew, HasRoom, demo_place, DemoRan, DemoLacked, DemoReached, DemoTakes, DemoStops}
 use Rattle.vino_top.proofs.EndLemmas.{begun_stands, left_by}
-use Rattle.vino_top.proofs.RunLemmas.{all_made_none, all_made_one, all_made_joined, after-append, line_uses, uses-append}
+use Rattle.vino_top.proofs.RunLemmas.{all_made_none, all_made_one, all_made_joined, after-append, comes_alone, line_uses, uses-append}
 
 -- ---- what lines write in all
 
@@ -60,7 +60,7 @@ ran_one c text s t d e out r =
       calls = all_made_one d e r.io r.made;
       used = λ a from. (line_uses c text s t d e out r a from, tt);
       comes = λ a from.
-          let came = subst (λ io. Comes t e.told out (line_run c a text io) []) (append-nil r.io) (r.comes a [] from) in
+          let came = comes_alone c text s t d e out r a from in
           record {
             stands = came.stands;
             left = refl;

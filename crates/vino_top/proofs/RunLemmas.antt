@@ -83,7 +83,7 @@ same_told told x y p q = same_some x y (sym p ∙ q)
     same_some f g h = cc
 
 -- what comes of a line with its own calls alone
-comes_alone : (c : Place) (text : List ℕ) (s t : Seen) (d e : DiskSeen) (out : List ℕ) (r : RunsLine c text s t d e out) (a : Session) → StandsFor s d.told a →
+pub comes_alone : (c : Place) (text : List ℕ) (s t : Seen) (d e : DiskSeen) (out : Left) (r : RunsLine c text s t d e out) (a : Session) → StandsFor s d.told a →
     Comes t e.told out (line_run c a text r.io) []
 comes_alone c text s t d e out r a from = subst (λ io. Comes t e.told out (line_run c a text io) []) (append-nil r.io) (r.comes a [] from)
 
