@@ -1,22 +1,22 @@
 -- Premises of the laws that can't be left out: for each the smallest example in which the law would be false.
-use Rattle.std.specs.Prelude.{◌≡◌, ℕ, suc, ◌==◌, false, cond, List, [], ◌∷◌, Option, Some, None}
+use Rattle.std.specs.Prelude.{◌≡◌, ℕ, suc, ◌==◌, false, true, cond, List, [], ◌∷◌, Option, Some, None}
 use Rattle.std.proofs.Common.{arith, refl, sym, ap, ◌∙◌}
 use Rattle.kernel_model.specs.declared.Object.TheVariants.{Lock}
 use Rattle.kernel_model.specs.declared.Kind.TheVariants.{Steps}
 use Rattle.kernel_model.specs.declared.Inverse.{Inverse}
 use Rattle.kernel_model.specs.declared.Event.{Event}
 use Rattle.kernel_model.specs.declared.Event.TheVariants.{Tick, Sys}
-use Rattle.kernel_model.specs.declared.SysCall.TheVariants.{TakeLock, Yield}
+use Rattle.kernel_model.specs.declared.SysCall.TheVariants.{TakeLock, Yield, Sync}
 use Rattle.kernel_model.specs.declared.Note.{Note}
 use Rattle.kernel_model.specs.declared.Note.TheVariants.{Refused, Waits, InGraft}
-use Rattle.kernel_model.specs.declared.Refusal.TheVariants.{Held}
+use Rattle.kernel_model.specs.declared.Refusal.TheVariants.{Held, DiskFault}
 use Rattle.kernel_model.specs.declared.QueueRow.{QueueRow}
 use Rattle.kernel_model.specs.World.{World, Blocks}
-use Rattle.kernel_model.specs.Objects.{Objects, Accounts, Things, GraftValue, at, at2}
+use Rattle.kernel_model.specs.Objects.{Objects, Accounts, Things, GraftValue, FrameValue, at, at2}
 use Rattle.kernel_model.specs.Access.{bare_found, access, undo, set_cell}
 use Rattle.kernel_model.specs.UndoLog.{undo_all}
 use Rattle.kernel_model.specs.Charges.{charge, returned}
-use Rattle.kernel_model.specs.Meaning.{Meaning, stage}
+use Rattle.kernel_model.specs.Meaning.{Meaning, Piece, Fails, stage}
 use Rattle.kernel_model.specs.Kernel.{Kernel}
 use Rattle.kernel_model.specs.Events.{event}
 use Rattle.kernel_model.specs.Quiet.{quiet, at_rest}
@@ -127,3 +127,27 @@ graft_stands = record { accounts = record (opening_accounts 0) { graft = λ q pt
 -- where a graft stands the call is in it at the end of the event
 graft_is_asked : (event plain (quiet small_world (λ slot. None) graft_stands 0) (λ b. []) 1 (Sys 0 Yield) []).notes ≡ InGraft 1 0 5 1 ∷ []
 graft_is_asked = refl
+
+-- ---- refusals
+
+-- a dirty frame of process 0 that holds a block, with one byte to tell it by
+abbrev dirty_frame : (block byte : ℕ) → Option FrameValue
+dirty_frame block byte = Some (record { owner = 0; block = block; dirty = true; mark = 0; bytes = byte ∷ [] })
+
+-- two dirty frames
+abbrev two_dirty : Objects
+two_dirty =
+    record {
+      accounts = opening_accounts 0;
+      things = record opening_things {
+        cache = record { frame = λ f. cond (f == 0) (dirty_frame 3 7) (cond (f == 1) (dirty_frame 4 8) None); lru = 0 ∷ 1 ∷ [] };
+      };
+    }
+
+-- a sync of which the second call of the disk fails
+abbrev failed_sync : Piece
+failed_sync = plain.piece small_world (λ slot. None) two_dirty (λ b. []) 0 (stage Sync 0) None (false ∷ true ∷ [])
+
+-- it is refused, and yet the first frame's block was written: so `sync` is left out where refusals change nothing
+failed_sync_wrote : (failed_sync.after ≡ Fails DiskFault) × (failed_sync.blocks 3 ≡ 7 ∷ [])
+failed_sync_wrote = (refl, refl)
