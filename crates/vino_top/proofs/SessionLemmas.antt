@@ -301,7 +301,7 @@ line_entered c s t text out entry d e going is runs =
 -- a session that refused its line
 refused_now : (s : Seen) (told : Option (List (List ℕ))) (a : Session) → StandsFor s told a → StandsFor (record s { refused = true }) told (record a { refused = true })
 refused_now s told a stands =
-    record { setup = stands.setup; lines = stands.lines; events = stands.events; refleft = refl; unbooted = stands.unbooted; booted = stands.booted; blocks = stands.blocks }
+    record { setup = stands.setup; lines = stands.lines; events = stands.events; refused = refl; unbooted = stands.unbooted; booted = stands.booted; blocks = stands.blocks }
 
 -- a line is refused for this fault
 pub line_refused : (c : Place) (s t : Seen) (text : List ℕ) (out : Left) (fault : ScriptFault) (d : DiskSeen) → s.refused ≡ false →
