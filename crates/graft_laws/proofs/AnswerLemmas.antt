@@ -1,33 +1,23 @@
 -- Level 0 of a graft call holds what tells whether the answer of its point is valid.
-use Rattle.std.specs.Prelude.{◌≡◌, ℕ, zero, suc, ◌+◌, ◌==◌, cond, nat_lt, Bool, true, false, List, [], ◌∷◌, length, Option, Some, None, Result, Ok, Err}
+use Rattle.std.specs.Prelude.{◌≡◌, ℕ, true, false, List, [], ◌∷◌, Option, Some, None}
 use Rattle.std.specs.List.{AllByRecursion as Each}
-use Rattle.std.specs.Result.{is_ok}
-use Rattle.std.proofs.Common.{arith, refl, subst, sym, ap}
-use Rattle.std.proofs.lemmas.Bool.Decides.{nat_tests}
+use Rattle.std.proofs.Common.{refl, subst, sym}
 use Rattle.kernel_model.specs.declared.Need.{Need}
 use Rattle.kernel_model.specs.declared.Object.{Object}
-use Rattle.kernel_model.specs.declared.Object.TheVariants.{OpenFile, Queue, Cache}
 use Rattle.kernel_model.specs.declared.Point.{Point}
-use Rattle.kernel_model.specs.declared.Refusal.{Refusal}
-use Rattle.kernel_model.specs.declared.Refusal.TheVariants.{BadFd, BadIndex}
-use Rattle.kernel_model.specs.declared.SysCall.{SysCall}
-use Rattle.kernel_model.specs.declared.SysCall.TheVariants.{Spawn, Exit, Yield, OpenName, CloseFd, Read, Write, Sync, TakeLock, FreeLock, Poke, Peek, Tune, Choose, Give, Install, Remove, Fund, Bill}
 use Rattle.kernel_model.specs.World.{World, ImageTable}
-use Rattle.kernel_model.specs.Objects.{Objects, same_object}
-use Rattle.kernel_model.specs.Policies.{Ahead, Victim, Next, kind_of, default_of, next_process}
-use Rattle.kernel_model.specs.Early.{refused, begins_unless}
+use Rattle.kernel_model.specs.Objects.{Objects}
+use Rattle.kernel_model.specs.Policies.{kind_of, default_of}
 use Rattle.kernel_model.specs.Locks.{touch_all, untouched, is_held}
 use Rattle.kernel_model.specs.Meaning.{Meaning, Stage}
-use Rattle.kernel_model.specs.Needs.{shared, exclusive, fetch_needs, fetch_ask, victim_ask, candidate_for, file_block, ahead_block, yield_needs, yield_ask, slice_ask, read_needs, read_ask, piece_needs, piece_ask}
 use Rattle.kernel_model.specs.Levels.{Level, Config, answer_innermost, new_level}
 use Rattle.kernel_model.specs.GraftStep.{micro}
 use Rattle.kernel_model.specs.History.{Mark, Stepped, Fell, Trace, begin_at, begin_with, first_trace, level_ends, owner_among, mark_on, marks_on}
 use Rattle.kernel_model.specs.Alike.{is_needed, is_held_in}
-use Rattle.kernel_model.specs.Pieces.{plain}
 use Rattle.kernel_model.specs.Laws.{IsStanding, answer_objects, NeedsAnswers}
 use Rattle.graft_laws.specs.Alike.{AreHeldBy, AnswerIsHeld}
 use Rattle.graft_laws.specs.Points.{HistoriesHoldAnswers}
-use Rattle.graft_laws.proofs.PointLemmas.{or_left, or_right}
+use Rattle.graft_laws.proofs.PointLemmas.{or_left}
 use Rattle.graft_laws.proofs.HoldLemmas.{touch_all_gives}
 use Rattle.graft_laws.proofs.GrownLemmas.{grown_answer, grown_answer_held}
 use Rattle.graft_laws.proofs.ConfigAlikeLemmas.{answer_of_rest, points_stay_held}

@@ -1,13 +1,10 @@
 -- Inverses change objects one by one.
-use Rattle.std.specs.Prelude.{◌≡◌, ℕ, ◌==◌, ◌&&◌, Bool, true, false, cond, List, [], ◌∷◌, ◌++◌, ⊤}
-use Rattle.std.proofs.Common.{arith, refl, sym, ap, ◌∙◌, inl, inr}
-use Rattle.std.proofs.lemmas.Bool.{cases_Bool, and_parts, eqb-true}
-use Rattle.kernel_model.specs.declared.Inverse.{Inverse}
-use Rattle.kernel_model.specs.declared.Inverse.TheVariants.{Nice, Window, Mark, Tune}
+use Rattle.std.specs.Prelude.{◌≡◌, Bool, true, false, List, [], ◌∷◌, ◌++◌, ⊤}
+use Rattle.std.proofs.Common.{refl, sym, ap, ◌∙◌}
 use Rattle.kernel_model.specs.declared.Object.{Object}
 use Rattle.kernel_model.specs.declared.Object.TheVariants.{Graft, Acct, Cell, OpenFile, Queue, Cache, Lock, Pol}
-use Rattle.kernel_model.specs.Objects.{Objects, Accounts, Things, CacheValue, SameAt, SameThing, at, at2}
-use Rattle.kernel_model.specs.Access.{undo, changed_by, with_nice, with_window, with_mark, with_param, Found}
+use Rattle.kernel_model.specs.Objects.{Objects, Accounts, Things, SameAt, SameThing}
+use Rattle.kernel_model.specs.Access.{undo, changed_by, Found}
 use Rattle.kernel_model.specs.UndoLog.{undo_all}
 use Rattle.kernel_laws.specs.Undoing.{InversesChangeOneObject}
 

@@ -1,24 +1,21 @@
 -- What a level found is what undoing its records gives, and it holds exclusively what they changed.
 use Rattle.std.specs.Prelude.{◌≡◌, ℕ, suc, ◌+◌, ◌≤◌, ◌==◌, Bool, true, false, cond, List, [], ◌∷◌, ◌++◌, length, Option, Some, None, ⊤}
 use Rattle.std.proofs.Common.{arith, refl, subst, sym, ap, ◌∙◌}
-use Rattle.std.proofs.lemmas.Bool.Decides.{nat_tests}
 use Rattle.kernel_model.specs.declared.Cause.{Cause}
 use Rattle.kernel_model.specs.declared.Held.{Held}
 use Rattle.kernel_model.specs.declared.Inverse.{Inverse}
-use Rattle.kernel_model.specs.declared.Inverse.TheVariants.{Nice, Window, Mark, Tune}
 use Rattle.kernel_model.specs.declared.Kind.TheVariants.{Steps, Locks}
 use Rattle.kernel_model.specs.declared.Micro.{Micro}
 use Rattle.kernel_model.specs.declared.Mode.{Mode}
 use Rattle.kernel_model.specs.declared.Need.{Need}
 use Rattle.kernel_model.specs.declared.Object.{Object}
 use Rattle.kernel_model.specs.declared.Object.TheVariants.{Graft}
-use Rattle.kernel_model.specs.declared.QueueRow.{QueueRow}
 use Rattle.kernel_model.specs.World.{World, ImageTable}
 use Rattle.kernel_model.specs.Objects.{Objects, Things, GraftValue, same_object, with_accounts}
 use Rattle.kernel_model.specs.SameObject.{same_object_self}
 use Rattle.kernel_model.specs.Machine.{Machine, Done, Called, Returned, Trapped, Outside, PastEnd, seg_step}
 use Rattle.kernel_model.specs.Policies.{valid, default_of}
-use Rattle.kernel_model.specs.Access.{Access, Gives, Changes, Refuses, access, early_refusal, is_ask, accessed, needed, asked_point, asked_objects, changed_by, undo, with_nice, Found, bare_found, object_of_inverse}
+use Rattle.kernel_model.specs.Access.{Access, Gives, Changes, Refuses, access, early_refusal, is_ask, accessed, needed, asked_point, asked_objects, changed_by, undo, Found, bare_found, object_of_inverse}
 use Rattle.kernel_model.specs.Charges.{funds, charge}
 use Rattle.kernel_model.specs.Locks.{Touched, touch, touch_all, held_as, stronger, joined}
 use Rattle.kernel_model.specs.Levels.{Level, Config, Effect, Asked, Charged, Removed, Outcome, code_of, with_machine, with_touched, touch_outermost, answer_innermost}

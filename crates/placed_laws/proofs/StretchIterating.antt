@@ -1,16 +1,13 @@
 -- A stretch is so many instructions.
-use Rattle.std.proofs.Common.{◌≡◌, ℕ, zero, suc, ◌+◌, ◌-◌, ◌<◌, ◌≤◌, ◌==◌, ◌&&◌, ◌||◌, not, Bool, true, false, cond, List, [], ◌∷◌, length, Option, Some, None, arith, refl, sym, ◌∙◌, ap, subst}
+use Rattle.std.proofs.Common.{◌≡◌, ℕ, zero, suc, ◌+◌, ◌-◌, ◌<◌, ◌≤◌, ◌==◌, ◌&&◌, ◌||◌, not, Bool, true, false, cond, List, ◌∷◌, Option, Some, None, arith, refl, sym, ◌∙◌, ap, subst}
 use Rattle.std.proofs.lemmas.Bool.Decides.{nat_tests}
 use mathlib.Core.Path.{fun_ext}
 use Rattle.kernel_model.specs.declared.Kind.TheVariants.{Steps}
-use Rattle.kernel_model.specs.declared.Object.{Object}
-use Rattle.kernel_model.specs.declared.Need.{Need}
 use Rattle.kernel_model.specs.Objects.{at, with_accounts}
 use Rattle.kernel_model.specs.declared.Instr.{Instr}
-use Rattle.kernel_model.specs.Machine.{Machine, Done, seg_step}
+use Rattle.kernel_model.specs.Machine.{Machine}
 use Rattle.kernel_model.specs.Charges.{charged_steps, funds}
-use Rattle.kernel_model.specs.Levels.{code_of, limit_in}
-use Rattle.kernel_model.specs.Alike.{is_needed}
+use Rattle.kernel_model.specs.Levels.{limit_in}
 use Rattle.kernel_model.specs.Laws.{Laws}
 use Rattle.kernel_model.specs.Meaning.{Meaning}
 use Rattle.kernel_model.specs.Kernel.{Run, Blocker}
@@ -18,7 +15,7 @@ use Rattle.kernel_model.specs.Settle.{step}
 use Rattle.kernel_model.specs.Events.{in_order}
 use Rattle.kernel_model.specs.Sound.{IsAtRest}
 use Rattle.plain_rules.specs.Ledgers.{at_here}
-use Rattle.placed_laws.specs.Placed.{has_some, PlacedCall, PlacedLevel, Placed, PlacedRun, placed_needs, placed_blocker}
+use Rattle.placed_laws.specs.Placed.{has_some, PlacedCall, PlacedLevel, Placed, PlacedRun, placed_blocker}
 use Rattle.placed_laws.specs.PlacedSteps.{placed_joins, placed_step}
 use Rattle.placed_laws.specs.PlacedEvents.{placed_settled, placed_steps}
 use Rattle.placed_laws.specs.Stands.{RunStandsFor}

@@ -1,5 +1,5 @@
 -- What a quiet instruction is: it goes on and calls nothing, or it only reads.
-use Rattle.std.proofs.Common.{◌≡◌, ◌⊎◌, ℕ, suc, ◌==◌, ◌&&◌, not, Bool, true, false, cond, List, Option, Some, None, arith, refl, inl, inr}
+use Rattle.std.proofs.Common.{◌≡◌, ◌⊎◌, ℕ, suc, ◌==◌, ◌&&◌, not, Bool, true, false, cond, Option, Some, None, arith, refl, inl, inr}
 use Rattle.std.specs.Prelude.{is_none, option_map}
 use Rattle.std.proofs.lemmas.Bool.Decides.{nat_tests}
 use Rattle.kernel_model.specs.declared.Cause.{Cause}
@@ -10,7 +10,7 @@ use Rattle.kernel_model.specs.Policies.{Victim}
 use Rattle.kernel_model.specs.Access.{Access, Gives, Changes, Refuses, access, accessed, early_refusal, is_ask}
 use Rattle.kernel_model.specs.Locks.{is_held}
 use Rattle.kernel_model.specs.Levels.{answered}
-use Rattle.placed_laws.specs.Stretch.{Setting, given, shares_held, is_read, after_read, after_quiet, quiet, quiet_on}
+use Rattle.placed_laws.specs.Stretch.{Setting, given, shares_held, is_read, after_quiet, quiet, quiet_on}
 
 -- a call from m that only reads, with the machine after it
 pub record Reads (s : Setting) (m j : Machine) : Type 0 where

@@ -1,5 +1,5 @@
 -- What a call holds already, nobody else keeps from it, and a touch leaves as it was.
-use Rattle.std.proofs.Common.{◌≡◌, ◌≢◌, ℕ, ◌==◌, ◌&&◌, ◌<◌, Bool, true, false, cond, not, List, [], ◌∷◌, length, Option, Some, None, arith, refl, sym, ◌∙◌, ap}
+use Rattle.std.proofs.Common.{◌≡◌, ◌≢◌, ℕ, ◌==◌, ◌&&◌, ◌<◌, Bool, true, false, cond, not, List, [], ◌∷◌, length, Option, Some, None, arith, refl, ◌∙◌, ap}
 use Rattle.std.specs.Prelude.{find, is_some, option_map}
 use Rattle.std.proofs.lemmas.Bool.Decides.{nat_tests}
 use mathlib.Core.Path.{fun_ext}
@@ -15,7 +15,7 @@ use Rattle.kernel_model.specs.Kernel.{Kernel}
 use Rattle.kernel_model.specs.GraftStep.{lock_user}
 use Rattle.kernel_model.specs.Blocking.{holds}
 use Rattle.kernel_model.specs.Levels.{Level, level_at, touched_in, touched_at}
-use Rattle.kernel_model.specs.Locks.{LockTable, Touched, Hindrance, conflicts, is_held, stronger, held_as, touch, user_hindrance, user_of, hinders, lowest_holder, hindrance_by, first_hindrance}
+use Rattle.kernel_model.specs.Locks.{LockTable, Touched, Hindrance, conflicts, is_held, stronger, touch, user_hindrance, user_of, hinders, lowest_holder, hindrance_by, first_hindrance}
 use Rattle.kernel_model.specs.Sound.{clash}
 use Rattle.history_laws.proofs.InPlaceLemmas.{row_low}
 use Rattle.placed_laws.specs.Placed.{Placed, placed_levels, placed_holds, placed_needs, placed_blocker, placed_blocker_from}

@@ -18,7 +18,6 @@ use Rattle.kernel_model.specs.Objects.{Objects, PolValue}
 use Rattle.kernel_model.specs.Policies.{lives, victim_key, victim_among, next_process, first_nice, nice_of, frames_of, is_owned, ahead_default, open_blocks}
 use Rattle.kernel_model.specs.Early.{refused}
 use Rattle.kernel_model.specs.Needs.{owner_asked, victim_ask, fetch_ask, candidate_by, candidate_for, frame_of_block, free_frame, file_block, file_block_in, is_within, ahead_block, slice_ask, yield_ask, read_ask, piece_ask}
-use Rattle.kernel_model.specs.Pieces.{plain}
 use Rattle.kernel_model.specs.Sound.{IsSoundStore, IsSoundFile, once_if, in_queue}
 use Rattle.kernel_model.specs.Laws.{IsRightPoint}
 use Rattle.plain_rules.specs.GrantedCalls.{PieceStands}

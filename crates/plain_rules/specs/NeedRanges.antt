@@ -15,7 +15,6 @@ use Rattle.kernel_model.specs.Objects.{Objects}
 use Rattle.kernel_model.specs.Policies.{lives, next_process}
 use Rattle.kernel_model.specs.Early.{policy_count, refused}
 use Rattle.kernel_model.specs.Needs.{exclusive, free_process, fetch_needs, file_block, ahead_block, spawn_needs, exit_needs, yield_needs, read_needs, payment_needs, give_needs, piece_needs}
-use Rattle.kernel_model.specs.Pieces.{plain}
 use Rattle.kernel_model.specs.Sound.{IsSoundStore}
 use Rattle.kernel_model.specs.Laws.{IsInRange}
 use Rattle.plain_rules.specs.GrantedCalls.{PieceStands}

@@ -1,6 +1,6 @@
 -- A piece that is refused leaves the state and the disk as they were, but for a `sync`.
 use Rattle.std.specs.Prelude.{◌≡◌, ◌≢◌, ℕ, zero, suc, ◌-◌, Bool, true, false, nat_lt, ◌==◌, List, length, Option, Some, None, Result, Ok, Err}
-use Rattle.std.proofs.Common.{refl, subst, sym, ◌∙◌}
+use Rattle.std.proofs.Common.{refl, subst, sym}
 use Rattle.kernel_model.specs.declared.Kind.{Kind}
 use Rattle.kernel_model.specs.declared.Refusal.{Refusal}
 use Rattle.kernel_model.specs.declared.Refusal.TheVariants.{BadIndex, NotHeld, Short}
@@ -11,7 +11,7 @@ use Rattle.kernel_model.specs.World.{World, Blocks, file_named}
 use Rattle.kernel_model.specs.Objects.{Objects, GraftValue, with_accounts, with_things}
 use Rattle.kernel_model.specs.Policies.{ahead_default, lives}
 use Rattle.kernel_model.specs.Access.{param_top, in_range, set_param}
-use Rattle.kernel_model.specs.Meaning.{Stage, stage, Piece, After, EndsWith, Fails, Continues}
+use Rattle.kernel_model.specs.Meaning.{Stage, stage, Piece, After, Fails}
 use Rattle.kernel_model.specs.Needs.{free_process, file_block, ahead_block}
 use Rattle.kernel_model.specs.Fetch.{Fetched, Got, Failed, fetch, fetch_ahead}
 use Rattle.kernel_model.specs.FilePieces.{leaves, refuses, well, unless_zero, free_descriptor, open_piece, close_piece, read_first, read_second, read_third, ahead_by, read_first_at, read_third_at, read_piece, write_fetched, write_piece}
