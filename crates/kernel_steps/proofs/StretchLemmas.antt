@@ -1,7 +1,5 @@
 -- A running kernel after a stretch of one of its calls.
-use Rattle.std.proofs.Common.{◌≡◌, ◌≢◌, ℕ, ◌+◌, ◌<◌, ◌≤◌, ◌==◌, Bool, true, false, cond, nat_lt, List, [], ◌∷◌, map, length, refl, ap, sym, subst, ◌∙◌, arith, Option, Some, None}
-use Rattle.std.specs.Prelude.{is_some}
-use Rattle.std.proofs.lemmas.Bool.Decides.{nat_tests}
+use Rattle.std.proofs.Common.{◌≡◌, ◌≢◌, ℕ, ◌<◌, ◌==◌, true, false, cond, List, [], ◌∷◌, map, length, refl, ap, sym, subst, ◌∙◌, arith}
 use Rattle.kernel_model.specs.declared.Inverse.{Inverse}
 use Rattle.kernel_model.specs.declared.QueueRow.{QueueRow}
 use Rattle.kernel_model.specs.Events.{in_order}
@@ -20,9 +18,8 @@ use Rattle.graft_calls.specs.Calls.{AreSound, IsPlaced, AreInside, AllUndoable}
 use Rattle.graft_calls.specs.Stretch.{gone_on, HasGoneOn, StillRun}
 use Rattle.placed_laws.specs.Agreeing.{SameShown}
 use Rattle.placed_laws.specs.Owners.{AreOfOwner}
-use Rattle.placed_laws.specs.Placed.{Placed, PlacedCall, bare, has_some}
+use Rattle.placed_laws.specs.Placed.{Placed, bare, has_some}
 use Rattle.placed_laws.specs.Stretch.{IsStretched, Stretches}
-use Rattle.kernel_steps.specs.declared.running.InFlight.{InFlight}
 use Rattle.kernel_steps.specs.declared.running.Flight.{Flight}
 use Rattle.kernel_steps.specs.declared.running.Running.{Running}
 use Rattle.kernel_steps.specs.Moves.{come_to, Moved}

@@ -16,10 +16,12 @@ entry_at-first booted line e is =
     rw is (ap (λ words. entry_at booted (other_words words) (command_named (first_word words))) (words_of-first line))
 
 -- a line that isn't blank, by the command of its first word and by what follows it
-pub parsed-first : (booted : Bool) (line : List ℕ) (e : ℕ) (named : Option Command) → length line ≤ 65536 → is_blank line ≡ false → e ≡ word_length line
-    → command_named (take e line) ≡ named → parsed_line booted line ≡ entry_at booted (words_left (drop e line)) named
+pub parsed-first : (booted : Bool) (line : List ℕ) (e : ℕ) (named : Option Command)
+    → length line ≤ 65536 → is_blank line ≡ false → e ≡ word_length line → command_named (take e line) ≡ named
+    → parsed_line booted line ≡ entry_at booted (words_left (drop e line)) named
 parsed-first booted line e named short some is names =
-    let here = entry_at-first booted line e is ∙ ap (entry_at booted (words_left (drop e line))) names in grind (arith, nat_tests, here)
+    let here = entry_at-first booted line e is ∙ ap (entry_at booted (words_left (drop e line))) names in
+    grind (arith, nat_tests, here)
 
 pub first_word-of : (line : List ℕ) (e : ℕ) → e ≡ word_length line → first_word (words_of line) ≡ take e line
 first_word-of line e is = rw is (ap first_word (words_of-first line))

@@ -153,7 +153,8 @@ fn patience(kind: u32, n: u32) -> Result<Entry, ScriptFault>
 
 /// A system call as an event.
 fn happens(verb: CallName, n: &[u32], last: &[u8]) -> Result<Entry, ScriptFault>
-    ensures answer { Answers result (happens_by (slice_index n.now 0) (call_of verb n.now last.now)) }
+    ensures answer { Answers result
+        (happens_by (slice_index n.now 0) (call_of verb n.now last.now)) }
     ensures memory { result ≡ Err no_memory → ⊥ }
     ensures limits { SetsWithin result }
 {

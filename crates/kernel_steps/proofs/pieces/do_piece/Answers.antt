@@ -1,6 +1,4 @@
-use Rattle.std.proofs.Common.{◌∙◌, ap, sym, subst, refl, List, Bool, None, Some}
-use Rattle.std.specs.Prelude.{option_map}
-use Rattle.kernel_steps.specs.Views.{call_in_place}
+use Rattle.std.proofs.Common.{◌∙◌, sym, subst, refl, List, Bool, None, Some}
 use Rattle.disk_log.specs.Calls.{GoesOn}
 use Rattle.call_pieces.specs.declared.Next.{Next}
 use Rattle.kernel_state.specs.Stores.{world_of_store, objects_of}

@@ -1,12 +1,8 @@
-use Rattle.std.proofs.Common.{◌≡◌, ◌<◌, length, refl, ap, sym, subst, ◌∙◌}
+use Rattle.std.proofs.Common.{◌≡◌, ◌<◌, length, refl, sym, subst}
 use Rattle.std.specs.Vec.{with_item}
-use Rattle.graft_calls.specs.Chains.{call_of}
-use Rattle.graft_calls.specs.declared.Chain.{Chain}
-use Rattle.graft_calls.specs.Stretch.{HasGoneOn}
-use Rattle.graft_loader.specs.Slots.{table_of}
 use Rattle.kernel_steps.specs.declared.running.Flight.{Flight}
 use Rattle.kernel_steps.specs.declared.running.Running.{Running}
-use Rattle.kernel_steps.specs.Views.{placed_of, flight_of, chain_of}
+use Rattle.kernel_steps.specs.Views.{placed_of, flight_of}
 use Rattle.kernel_steps.proofs.MoveLemmas.{fetched, in_place_of, moved_by, chain_by}
 use Rattle.kernel_steps.proofs.StretchLemmas.{gone_by, some_chain, is_stretched, runs_stretched, stood_stretched}
 use Rattle.kernel_steps.proofs.running.Running.stretch.Goals as goal
