@@ -7,8 +7,8 @@ use Rattle.graft_syntax.specs.Reading.{Syntax, read}
 use Rattle.graft_lang.specs.Meaning.{numbered}
 use Rattle.graft_lang.specs.Behaves.{Behaves}
 
--- The text is accepted. A program is spelled so; the code does what it says, as what each program says that is
--- spelled so. The rewriter takes the code, and there is no data.
+-- The text is accepted, and spells a program. The code does what each program says that is spelled so. The
+-- rewriter takes the code, and there is no data.
 pub record IsCompiled (text : List ℕ) (image : Image) : Type 0 where
   pub syntax : Syntax
   pub is_read : read text ≡ Ok syntax

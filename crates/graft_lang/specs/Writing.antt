@@ -63,8 +63,7 @@ WritesExpression names top old new =
     (e : Expression) (behind : List Token) → old.tokens ≡ spelled_expression e behind
     → new ≡ record {
       tokens = behind;
-      code = old.code
-          ++ expression_code top (numbered_expression names e);
+      code = old.code ++ expression_code top (numbered_expression names e);
     }
 
 -- the same of two operands with an operator between them, behind their parenthesis
@@ -75,8 +74,7 @@ WritesOperation names top old new =
     ∷ spelled_expression b (Mark CloseParenthesis ∷ behind))
     → new ≡ record {
       tokens = behind;
-      code = old.code
-          ++ expression_code top (numbered_expression names (Binary a op b));
+      code = old.code ++ expression_code top (numbered_expression names (Binary a op b));
     }
 
 -- ---- what comes next
@@ -88,8 +86,7 @@ callable_next _ = None
 
 abbrev pub behind_callable : Writing → Writing
 behind_callable w = record {
-  tokens = cond (is_some (callable_next w.tokens)) (drop 1 w.tokens)
-      w.tokens;
+  tokens = cond (is_some (callable_next w.tokens)) (drop 1 w.tokens) w.tokens;
   code = w.code;
 }
 
@@ -123,8 +120,8 @@ is_block_end (t ∷ tokens) = closes_block t
 
 -- a call whose answer goes to a variable
 abbrev pub call_code : (top i id : ℕ) → List l.Expression → List Instr
-call_code top i id es = arguments_code top es
-    ++ (registers_code 0 top 3 es ++ (instr Call 0 0 0 id ∷ puts 0 i))
+call_code top i id es =
+    arguments_code top es ++ (registers_code 0 top 3 es ++ (instr Call 0 0 0 id ∷ puts 0 i))
 
 abbrev pub answer_code : (top : ℕ) → (e f : l.Expression) → List Instr
 answer_code top e f =
@@ -140,8 +137,8 @@ when_code top place e p =
 -- from the jump before `else` on, which stands at this place
 abbrev pub else_code : (top place : ℕ) → l.Program → List Instr
 else_code top place p =
-    let outer = statements_code top (place + 1) p in instr Jmp 0 0 0 (place + 1 + length outer)
-    ∷ outer
+    let outer = statements_code top (place + 1) p in
+    instr Jmp 0 0 0 (place + 1 + length outer) ∷ outer
 
 abbrev pub either_code : (top place : ℕ) → l.Expression → (p q : l.Program) → List Instr
 either_code top place e p q =
@@ -161,8 +158,8 @@ loop_code top place e p =
 
 -- the register of an argument gets what waits in its slot, or zero where there are fewer arguments
 abbrev pub register_code : (reg top count : ℕ) → List Instr
-register_code reg top count = cond (nat_lt reg count) (fetches reg (top + reg))
-    (instr Li reg 0 0 0 ∷ [])
+register_code reg top count =
+    cond (nat_lt reg count) (fetches reg (top + reg)) (instr Li reg 0 0 0 ∷ [])
 
 -- where arguments of a call are next, they and its end are taken and their code appended
 abbrev pub WritesArguments : (names : List (List ℕ)) → (top : ℕ) → (old new : Writing) → (count : ℕ)
@@ -171,8 +168,7 @@ WritesArguments names top old new count =
     (es : List Expression) (behind : List Token) → old.tokens ≡ spelled_arguments es behind
     → (new ≡ record {
       tokens = behind;
-      code = old.code
-          ++ arguments_code top (map (numbered_expression names) es);
+      code = old.code ++ arguments_code top (map (numbered_expression names) es);
     })
     × (count ≡ length es)
 
@@ -183,8 +179,7 @@ WritesCall names top i id old new =
     → old.tokens ≡ Mark OpenParenthesis ∷ spelled_arguments es (Mark Semicolon ∷ behind)
     → new ≡ record {
       tokens = behind;
-      code = old.code
-          ++ call_code top i id (map (numbered_expression names) es);
+      code = old.code ++ call_code top i id (map (numbered_expression names) es);
     }
 
 -- ---- statements
@@ -192,12 +187,11 @@ WritesCall names top i id old new =
 -- the same of a value that goes to a variable
 abbrev pub WritesValue : (names : List (List ℕ)) → (top i : ℕ) → (old new : Writing) → Type 0
 WritesValue names top i old new =
-    (e : Expression) (behind : List Token) → old.tokens
-    ≡ spelled_expression e (Mark Semicolon ∷ behind)
+    (e : Expression) (behind : List Token)
+    → old.tokens ≡ spelled_expression e (Mark Semicolon ∷ behind)
     → new ≡ record {
       tokens = behind;
-      code = old.code
-          ++ (expression_code top (numbered_expression names e) ++ puts 4 i);
+      code = old.code ++ (expression_code top (numbered_expression names e) ++ puts 4 i);
     }
 
 -- what is behind `trap`
@@ -225,8 +219,7 @@ WritesStatements names top old new =
     → old.tokens ≡ spelled_statements p behind
     → new ≡ record {
       tokens = behind;
-      code = old.code
-          ++ statements_code top (length old.code) (numbered names p);
+      code = old.code ++ statements_code top (length old.code) (numbered names p);
     }
 
 -- statements in braces
@@ -236,8 +229,7 @@ WritesBlock names top old new =
     → old.tokens ≡ Mark OpenBrace ∷ spelled_statements p (Mark CloseBrace ∷ behind)
     → new ≡ record {
       tokens = behind;
-      code = old.code
-          ++ statements_code top (length old.code) (numbered names p);
+      code = old.code ++ statements_code top (length old.code) (numbered names p);
     }
 
 -- what is behind `else`, where the jump of the test is at this place
@@ -284,8 +276,8 @@ WritesWhile names top old new =
 
 -- a statement is taken and its code appended: whatever writes those behind it writes it with them
 abbrev pub LeadsOn : (names : List (List ℕ)) → (top : ℕ) → (old new : Writing) → Type 0
-LeadsOn names top old new = (w : Writing) → WritesStatements names top new w
-    → WritesStatements names top old w
+LeadsOn names top old new =
+    (w : Writing) → WritesStatements names top new w → WritesStatements names top old w
 
 -- ---- programs
 

@@ -1,16 +1,14 @@
 //! The writer of code: the tokens that are left, and the instructions so far.
 
-ghost use Rattle.std.specs.Prelude.{◌≡◌, ◌+◌, ◌*◌, ◌<◌, ◌≤◌, [], ◌∷◌, length, map, drop, true};
-ghost use Rattle.std.specs.Prelude.{false, ◌↔◌};
-ghost use Rattle.std.specs.Prelude.{IsTrue, IfOk, OnOk, MatchOption};
+ghost use Rattle.std.specs.Prelude.{◌≡◌, ◌+◌, ◌*◌, ◌<◌, ◌≤◌, ◌↔◌, [], ◌∷◌, length, map, drop};
+ghost use Rattle.std.specs.Prelude.{true, false, IsTrue, IfOk, OnOk, MatchOption};
 ghost use Rattle.std.specs.List.{list_all};
 ghost use Rattle.kernel_model.specs.Boxed.{instr};
 ghost use Rattle.kernel_model.specs.Instructions.{fits};
 ghost use Rattle.graft_syntax.specs.Views.{token_view};
 ghost use Rattle.graft_lang.specs.Writing.{skipped, appended, patched, with_first, symbol_next};
 ghost use Rattle.graft_lang.specs.Writing.{behind_symbol, callable_next, behind_callable};
-ghost use Rattle.graft_lang.specs.Writing.{number_next};
-ghost use Rattle.graft_lang.specs.Writing.{is_block_end, closes_block};
+ghost use Rattle.graft_lang.specs.Writing.{number_next, is_block_end, closes_block};
 ghost use Rattle.graft_lang.specs.Code.{fetches, puts, operator_code};
 
 use gm_isa::{Instr, Op};
