@@ -335,9 +335,9 @@ program_fits names (g.Answers e f p) behind least room h =
 -- ---- counting
 
 -- a list of tokens has so many tokens and semicolons more than another one
-record Counts (n k : ℕ) (ts us : List Token) : Type 0 where
-  tokens_are : n + length us ≤ length ts
-  ends_are : ends_in ts ≡ k + ends_in us
+pub record Counts (n k : ℕ) (ts us : List Token) : Type 0 where
+  pub tokens_are : n + length us ≤ length ts
+  pub ends_are : ends_in ts ≡ k + ends_in us
 
 expression_counts : (names : List (List ℕ)) (e : g.Expression) (us : List Token)
     → Counts (expression_tokens (l.numbered_expression names e)) 0 (g.spelled_expression e us) us
@@ -364,7 +364,7 @@ arguments_count names (e ∷ es) us =
     let first = expression_counts names e (g.spelled_more es us) in
     record { tokens_are = omega (arith, first.tokens_are, rest.tokens_are); ends_are = omega (arith, first.ends_are, rest.ends_are) }
 
-program_counts : (names : List (List ℕ)) (p : g.Program) (us : List Token)
+pub program_counts : (names : List (List ℕ)) (p : g.Program) (us : List Token)
     → Counts (program_tokens (l.numbered names p)) (semicolons (l.numbered names p)) (g.spelled_statements p us) us
 program_counts names g.Done us = record { tokens_are = omega arith; ends_are = omega arith }
 program_counts names (g.Assigns name e p) us =
@@ -413,7 +413,7 @@ program_counts names (g.Answers e f p) us =
       ends_are = omega (arith, first.ends_are, second.ends_are, rest.ends_are);
     }
 
-few_ends : (p : l.Program) → semicolons p ≤ program_tokens p
+pub few_ends : (p : l.Program) → semicolons p ≤ program_tokens p
 few_ends l.Done = omega arith
 few_ends (l.Assigns i e p) = omega (arith, few_ends p)
 few_ends (l.Calls i id es p) = omega (arith, few_ends p)

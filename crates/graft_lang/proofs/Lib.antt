@@ -6,3 +6,5 @@ pub mod Whole
 pub mod Sizes
 pub mod Boxing
 pub mod Accepted
+pub mod Writing
+pub mod Spelled

@@ -15,7 +15,7 @@ abbrev pub total : List Instr → ℕ
 total [] = 0
 total (i ∷ is) = boxed_length i + total is
 
-boxed_place-total : (is : List Instr) → boxed_place is (length is) ≡ total is
+pub boxed_place-total : (is : List Instr) → boxed_place is (length is) ≡ total is
 boxed_place-total [] = refl
 boxed_place-total (i ∷ is) = ap (λ n. boxed_length i + n) (boxed_place-total is)
 
@@ -142,7 +142,7 @@ zeros_short i (suc n) =
     let h = zeros_short (suc i) n in
     let e = total-append (puts 4 i) (zeros_code (suc i) n) in omega (arith, h, e)
 
-prologue_short : (v : ℕ) → total (prologue v) ≡ 17 + 4 * (v - 4)
+pub prologue_short : (v : ℕ) → total (prologue v) ≡ 17 + 4 * (v - 4)
 prologue_short v =
     let z = zeros_short 4 (v - 4) in
     let last = instr Li 4 0 0 0 ∷ zeros_code 4 (v - 4) in

@@ -1,7 +1,8 @@
 -- Code that does what a program says, in both directions.
 use Rattle.std.specs.Prelude.{◌≡◌, ◌≢◌, ℕ, ◌+◌, ◌*◌, ◌^◌, ◌<◌, ◌≤◌, List, length, slice_index, Option, Some, None}
 use Rattle.kernel_model.specs.declared.Instr.{Instr}
-use Rattle.kernel_model.specs.Runs.{CodeRun, Halt, Unanswered, AtReturn, AtDivision, AtTrap, Astray, first_run, raw_run}
+use Rattle.kernel_model.specs.Runs.{CodeRun, Halt, Unanswered, AtReturn, AtDivision, AtTrap, Astray, first_run}
+use Rattle.kernel_model.specs.Runs.{raw_run}
 use Rattle.graft_lang.specs.Meaning.{Program, End, Answered, Trapped, DividedByZero, Asks, Going, State, says}
 use Rattle.graft_lang.specs.Code.{program_code}
 use Rattle.graft_lang.specs.Going.{AreWords, FitsProgram}
@@ -39,7 +40,8 @@ pub record Behaves (p : Program) (code : List Instr) : Type 0 where
   pub forth : (segment : ℕ → ℕ) (arguments : List ℕ) (answers : List (ℕ × ℕ)) (n : ℕ) (end : End)
       → AreArguments arguments → AreWords answers → end ≢ Going → (said p arguments answers n).ended ≡ Some end
       → (end_of (fed code segment arguments answers ((n + 1) * length code)) ≡ Some end)
-      × ((fed code segment arguments answers ((n + 1) * length code)).calls ≡ (said p arguments answers n).calls)
+      × ((fed code segment arguments answers ((n + 1) * length code)).calls
+      ≡ (said p arguments answers n).calls)
   pub back : (segment : ℕ → ℕ) (arguments : List ℕ) (answers : List (ℕ × ℕ)) (n : ℕ) (end : End)
       → AreArguments arguments → AreWords answers → end ≢ Going
       → end_of (fed code segment arguments answers n) ≡ Some end

@@ -2,11 +2,13 @@
 -- r4 has values, r5 addresses, r6 left operands; r14 and r15 are never named.
 use Rattle.std.specs.Prelude.{ℕ, zero, suc, ◌+◌, ◌-◌, ◌*◌, List, [], ◌∷◌, ◌++◌, length}
 use Rattle.kernel_model.specs.declared.Instr.{Instr}
-use Rattle.kernel_model.specs.declared.Op.TheVariants.{Li, Mov, Ldw, Stw, Add, Sub, Mul, And, Or, Xor, Shl, Shr, Divu, Remu, Sltu, Jmp, Jz, Call, Trap, Ret}
+use Rattle.kernel_model.specs.declared.Op.TheVariants.{Li, Mov, Ldw, Stw, Add, Sub, Mul, And, Or, Xor, Shl, Shr}
+use Rattle.kernel_model.specs.declared.Op.TheVariants.{Divu, Remu, Sltu, Jmp, Jz, Call, Trap, Ret}
 use Rattle.kernel_model.specs.Boxed.{instr}
 use Rattle.graft_syntax.specs.declared.Operator.{Operator}
 use Rattle.graft_syntax.specs.declared.Operator.TheVariants as operator
-use Rattle.graft_lang.specs.Meaning.{Expression, Number, Variable, Binary, Program, Done, Assigns, Calls, When, Either, Loops, Traps, Answers}
+use Rattle.graft_lang.specs.Meaning.{Expression, Number, Variable, Binary, Program, Done, Assigns, Calls, When}
+use Rattle.graft_lang.specs.Meaning.{Either, Loops, Traps, Answers}
 
 -- the word of a slot of the segment, to and from a register: r5 has its address
 abbrev pub fetches : (reg slot : ℕ) → List Instr
@@ -35,7 +37,8 @@ abbrev pub expression_code : (top : ℕ) → Expression → List Instr
 expression_code top (Number n) = instr Li 4 0 0 n ∷ []
 expression_code top (Variable i) = fetches 4 i
 expression_code top (Binary a op b) =
-    expression_code top a ++ (puts 4 top ++ (expression_code (suc top) b ++ (fetches 6 top ++ operator_code op)))
+    expression_code top a ++ (puts 4 top ++ (expression_code (suc top) b
+    ++ (fetches 6 top ++ operator_code op)))
 
 -- the arguments of a call come to the slots from `top` on
 abbrev pub arguments_code : (top : ℕ) → List Expression → List Instr
@@ -67,7 +70,8 @@ statements_code top place (Either e body other p) =
     let middle = place + length test + 1 + length inner + 1 in
     let outer = statements_code top middle other in
     let behind = middle + length outer in
-    test ++ (instr Jz 4 0 0 middle ∷ (inner ++ (instr Jmp 0 0 0 behind ∷ (outer ++ statements_code top behind p))))
+    test ++ (instr Jz 4 0 0 middle ∷ (inner ++
+    (instr Jmp 0 0 0 behind ∷ (outer ++ statements_code top behind p))))
 statements_code top place (Loops e body p) =
     let test = expression_code top e in
     let inner = statements_code top (place + length test + 1) body in

@@ -3,7 +3,8 @@ use Rattle.std.specs.Prelude.{◌≡◌, ℕ, suc, ◌+◌, ◌*◌, ◌^◌, �
 use Rattle.kernel_model.specs.declared.Instr.{Instr}
 use Rattle.kernel_model.specs.Machine.{masked_place}
 use Rattle.kernel_model.specs.Runs.{CodeRun, MadeCall, Unanswered, AtReturn, AtDivision, AtTrap, run_by}
-use Rattle.graft_lang.specs.Meaning.{Expression, Program, Done, Assigns, Calls, When, Either, Loops, Traps, Answers, End, Answered, Trapped, DividedByZero, Asks, Going, State, does}
+use Rattle.graft_lang.specs.Meaning.{Expression, Program, Done, Assigns, Calls, When, Either, Loops, Traps}
+use Rattle.graft_lang.specs.Meaning.{Answers, End, Answered, Trapped, DividedByZero, Asks, Going, State, does}
 use Rattle.graft_lang.specs.Code.{statements_code}
 use Rattle.graft_lang.specs.Placing.{Fits, Stands, IsAt}
 
@@ -96,4 +97,5 @@ StatementsRun =
     (calls : List MadeCall) (answers : List (ℕ × ℕ)) (turns : ℕ) (r : CodeRun)
     → IsSmall (going cells calls answers turns) → FitsProgram v p → Stands code c (statements_code v c p)
     → length (statements_code v c p) ≤ most → IsAt cells v c calls answers r
-    → Goes code most v c (length (statements_code v c p)) r (going cells calls answers turns) (does p (going cells calls answers turns))
+    → Goes code most v c (length (statements_code v c p)) r (going cells calls answers turns)
+    (does p (going cells calls answers turns))

@@ -5,3 +5,5 @@ pub mod Going
 pub mod Behaves
 pub mod Sizes
 pub mod Accepted
+pub mod Writing
+pub mod Compiled

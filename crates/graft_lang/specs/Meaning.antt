@@ -1,10 +1,12 @@
 -- What a program of the graft language says: its values, its calls, and how it ends.
-use Rattle.std.specs.Prelude.{ℕ, zero, suc, ◌+◌, ◌-◌, ◌*◌, ◌/◌, ◌%◌, ◌^◌, ◌==◌, cond, nat_lt, List, [], ◌∷◌, ◌++◌, map, bit_and, bit_or, bit_xor, Option, None, Some}
+use Rattle.std.specs.Prelude.{ℕ, zero, suc, ◌+◌, ◌-◌, ◌*◌, ◌/◌, ◌%◌, ◌^◌, ◌==◌, cond, nat_lt, List, [], ◌∷◌, ◌++◌}
+use Rattle.std.specs.Prelude.{map, bit_and, bit_or, bit_xor, Option, None, Some}
 use Rattle.kernel_model.specs.Objects.{at}
 use Rattle.kernel_model.specs.Machine.{word}
 use Rattle.kernel_model.specs.Runs.{MadeCall}
 use Rattle.graft_syntax.specs.declared.Operator.{Operator}
-use Rattle.graft_syntax.specs.declared.Operator.TheVariants.{Plus, Minus, Times, Over, Rest, And, Or, Xor, ShiftLeft, ShiftRight, Less, Equal}
+use Rattle.graft_syntax.specs.declared.Operator.TheVariants.{Plus, Minus, Times, Over, Rest, And, Or, Xor}
+use Rattle.graft_syntax.specs.declared.Operator.TheVariants.{ShiftLeft, ShiftRight, Less, Equal}
 use Rattle.graft_syntax.specs.Grammar as spelled
 use Rattle.graft_syntax.specs.Reading.{number_of}
 
@@ -37,7 +39,8 @@ numbered names (spelled.Assigns name e p) =
     Assigns (number_of names name) (numbered_expression names e) (numbered names p)
 numbered names (spelled.Calls name id es p) =
     Calls (number_of names name) id (map (numbered_expression names) es) (numbered names p)
-numbered names (spelled.When e body p) = When (numbered_expression names e) (numbered names body) (numbered names p)
+numbered names (spelled.When e body p) =
+    When (numbered_expression names e) (numbered names body) (numbered names p)
 numbered names (spelled.Either e body other p) =
     Either (numbered_expression names e) (numbered names body) (numbered names other) (numbered names p)
 numbered names (spelled.Loops e body p) =
@@ -157,7 +160,8 @@ loops condition body zero s =
 loops condition body (suc n) s =
     elim s.ended [
       | Some end ↦ s
-      | None ↦ chooses (λ t. takes_turn (λ u. loops condition body n (body u)) t t.turns) (λ t. t) s (condition s.cells)
+      | None ↦ chooses (λ t. takes_turn (λ u. loops condition body n (body u)) t t.turns) (λ t. t) s
+          (condition s.cells)
     ]
 
 -- what a program does; a state that has ended stays as it is
@@ -181,7 +185,13 @@ at_end s = elim s.ended [ Some end ↦ s | None ↦ ends s (Answered (s.cells 0)
 -- variables begin at 0, but for the arguments
 abbrev pub first_state : (arguments : ℕ → ℕ) → List (ℕ × ℕ) → (turns : ℕ) → State
 first_state arguments pairs turns =
-    record { cells = λ i. cond (nat_lt i 4) (arguments i) 0; calls = []; answers = pairs; turns = turns; ended = None }
+    record {
+      cells = λ i. cond (nat_lt i 4) (arguments i) 0;
+      calls = [];
+      answers = pairs;
+      turns = turns;
+      ended = None;
+    }
 
 -- what a program says of these arguments and answers with so many turns of loops
 abbrev pub says : Program → (arguments : ℕ → ℕ) → List (ℕ × ℕ) → (turns : ℕ) → State

@@ -16,7 +16,8 @@ unknown = refl
 unknown_itself : read (codes "\nx = ( x + 1 ) ;\n") ≡ Err (record { line = 2; kind = UnknownVariable })
 unknown_itself = refl
 
-an_argument_too_many : read (codes "x = cell_get ( 0 , 1 ) ;") ≡ Err (record { line = 1; kind = WrongArguments })
+an_argument_too_many : read (codes "x = cell_get ( 0 , 1 ) ;")
+    ≡ Err (record { line = 1; kind = WrongArguments })
 an_argument_too_many = refl
 
 an_argument_too_few : read (codes "x = cell_set ( 0\n) ;") ≡ Err (record { line = 2; kind = WrongArguments })
@@ -39,7 +40,8 @@ glued = refl
 sum : read (codes "b = ( a1 + 2 ) ;")
     ≡ Ok (record {
       tokens =
-          Variable (codes "b") ∷ Mark Assign ∷ Mark OpenParenthesis ∷ Variable (codes "a1") ∷ Infix Plus ∷ Number 2
+          Variable (codes "b") ∷ Mark Assign ∷ Mark OpenParenthesis ∷ Variable (codes "a1")
+          ∷ Infix Plus ∷ Number 2
           ∷ Mark CloseParenthesis ∷ Mark Semicolon ∷ [];
       names = codes "a0" ∷ codes "a1" ∷ codes "a2" ∷ codes "a3" ∷ codes "b" ∷ [];
     })

@@ -4,9 +4,13 @@ use Rattle.graft_syntax.specs.declared.LangKind.{LangKind}
 use Rattle.graft_syntax.specs.declared.LangKind.TheVariants.{NoProgram}
 use Rattle.graft_syntax.specs.declared.Operator.{Operator}
 use Rattle.graft_syntax.specs.declared.Symbol.{Symbol}
-use Rattle.graft_syntax.specs.declared.Symbol.TheVariants.{If, Else, While, Trap, Answer, Assign, Semicolon, OpenBrace, CloseBrace, OpenParenthesis, CloseParenthesis, Comma}
+use Rattle.graft_syntax.specs.declared.Symbol.TheVariants.{If, Else, While, Trap, Answer, Assign, Semicolon}
+use Rattle.graft_syntax.specs.declared.Symbol.TheVariants.{OpenBrace, CloseBrace, OpenParenthesis}
+use Rattle.graft_syntax.specs.declared.Symbol.TheVariants.{CloseParenthesis, Comma}
 use Rattle.graft_syntax.specs.declared.grammar.Goal.{Goal}
-use Rattle.graft_syntax.specs.declared.grammar.Goal.TheVariants.{Statements, Braces, Operand, InfixOperator, RightSide, FirstArgument, NextArgument, AfterArgument, EndOfAssignment, Constant, Awaits}
+use Rattle.graft_syntax.specs.declared.grammar.Goal.TheVariants.{Statements, Braces, Operand, InfixOperator}
+use Rattle.graft_syntax.specs.declared.grammar.Goal.TheVariants.{RightSide, FirstArgument, NextArgument}
+use Rattle.graft_syntax.specs.declared.grammar.Goal.TheVariants.{AfterArgument, EndOfAssignment, Constant, Awaits}
 use Rattle.graft_syntax.specs.Tokens.{Token, Number, Variable, Callable, Infix, Mark, arguments_of, same_symbol}
 
 -- ---- programs
@@ -37,7 +41,8 @@ abbrev pub spelled_expression : Expression → List Token → List Token
 spelled_expression (Literal n) behind = Number n ∷ behind
 spelled_expression (Named name) behind = Variable name ∷ behind
 spelled_expression (Binary a op b) behind =
-    Mark OpenParenthesis ∷ spelled_expression a (Infix op ∷ spelled_expression b (Mark CloseParenthesis ∷ behind))
+    Mark OpenParenthesis ∷ spelled_expression a
+    (Infix op ∷ spelled_expression b (Mark CloseParenthesis ∷ behind))
 
 -- more arguments of a call, each behind a comma, and its end
 abbrev pub spelled_more : List Expression → List Token → List Token
@@ -57,16 +62,20 @@ spelled_statements (Calls name id arguments p) behind =
     Variable name ∷ Mark Assign ∷ Callable id ∷ Mark OpenParenthesis
     ∷ spelled_arguments arguments (Mark Semicolon ∷ spelled_statements p behind)
 spelled_statements (When e body p) behind =
-    Mark If ∷ spelled_expression e (Mark OpenBrace ∷ spelled_statements body (Mark CloseBrace ∷ spelled_statements p behind))
+    Mark If ∷ spelled_expression e (Mark OpenBrace
+    ∷ spelled_statements body (Mark CloseBrace ∷ spelled_statements p behind))
 spelled_statements (Either e body other p) behind =
     Mark If
     ∷ spelled_expression e (Mark OpenBrace ∷ spelled_statements body (Mark CloseBrace
     ∷ Mark Else ∷ Mark OpenBrace ∷ spelled_statements other (Mark CloseBrace ∷ spelled_statements p behind)))
 spelled_statements (Loops e body p) behind =
-    Mark While ∷ spelled_expression e (Mark OpenBrace ∷ spelled_statements body (Mark CloseBrace ∷ spelled_statements p behind))
-spelled_statements (Traps code p) behind = Mark Trap ∷ Number code ∷ Mark Semicolon ∷ spelled_statements p behind
+    Mark While ∷ spelled_expression e (Mark OpenBrace
+    ∷ spelled_statements body (Mark CloseBrace ∷ spelled_statements p behind))
+spelled_statements (Traps code p) behind = Mark Trap ∷ Number code ∷ Mark Semicolon
+    ∷ spelled_statements p behind
 spelled_statements (Answers e f p) behind =
-    Mark Answer ∷ spelled_expression e (Mark Comma ∷ spelled_expression f (Mark Semicolon ∷ spelled_statements p behind))
+    Mark Answer ∷ spelled_expression e (Mark Comma
+    ∷ spelled_expression f (Mark Semicolon ∷ spelled_statements p behind))
 
 -- the tokens of a program
 abbrev pub spelled : Program → List Token
@@ -77,7 +86,8 @@ spelled p = spelled_statements p []
 -- a statement that begins with a symbol, or the end of a block
 abbrev pub follow_mark : (in_block after_if : Bool) → List Goal → Symbol → Result (List Goal) LangKind
 follow_mark in_block after_if below If = Ok (Operand ∷ Braces ∷ Statements in_block true ∷ below)
-follow_mark in_block after_if below Else = cond after_if (Ok (Braces ∷ Statements in_block false ∷ below)) (Err NoProgram)
+follow_mark in_block after_if below Else =
+    cond after_if (Ok (Braces ∷ Statements in_block false ∷ below)) (Err NoProgram)
 follow_mark in_block after_if below While = Ok (Operand ∷ Braces ∷ Statements in_block false ∷ below)
 follow_mark in_block after_if below Trap = Ok (Constant ∷ Awaits Semicolon ∷ Statements in_block false ∷ below)
 follow_mark in_block after_if below Answer =
@@ -94,7 +104,8 @@ follow_statement in_block after_if below _ = Err NoProgram
 abbrev pub follow_operand : List Goal → Token → Result (List Goal) LangKind
 follow_operand below (Number n) = Ok below
 follow_operand below (Variable name) = Ok below
-follow_operand below (Mark OpenParenthesis) = Ok (Operand ∷ InfixOperator ∷ Operand ∷ Awaits CloseParenthesis ∷ below)
+follow_operand below (Mark OpenParenthesis) =
+    Ok (Operand ∷ InfixOperator ∷ Operand ∷ Awaits CloseParenthesis ∷ below)
 follow_operand below _ = Err NoProgram
 
 abbrev pub follow_right_side : List Goal → Token → Result (List Goal) LangKind
@@ -145,7 +156,8 @@ follow (goal ∷ below) token = follow_goal goal below token
 -- the goals behind tokens
 abbrev pub follow_all : List Goal → List Token → Result (List Goal) LangKind
 follow_all goals [] = Ok goals
-follow_all goals (token ∷ tokens) = elim (follow goals token) [ Err kind ↦ Err kind | Ok next ↦ follow_all next tokens ]
+follow_all goals (token ∷ tokens) = elim (follow goals token)
+    [ Err kind ↦ Err kind | Ok next ↦ follow_all next tokens ]
 
 -- a whole program is wanted
 abbrev pub first_goals : List Goal

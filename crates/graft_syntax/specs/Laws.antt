@@ -16,7 +16,8 @@ SpellingsAreRead = (p : Program) → IsMet (follow_all first_goals (spelled p))
 
 -- what is read is the spelling of a program
 abbrev pub ReadTokensAreSpelled : Type 0
-ReadTokensAreSpelled = (tokens : List Token) → IsMet (follow_all first_goals tokens) → (p : Program) × (spelled p ≡ tokens)
+ReadTokensAreSpelled = (tokens : List Token) → IsMet (follow_all first_goals tokens)
+    → (p : Program) × (spelled p ≡ tokens)
 
 -- tokens that are read begin the spelling of a program
 abbrev pub ReadTokensGoOn : Type 0
@@ -27,5 +28,6 @@ ReadTokensGoOn =
 -- with a token that is refused no program goes on
 abbrev pub RefusedTokensDontGoOn : Type 0
 RefusedTokensDontGoOn =
-    (tokens : List Token) (goals : List Goal) (token : Token) (kind : LangKind) → follow_all first_goals tokens ≡ Ok goals
+    (tokens : List Token) (goals : List Goal) (token : Token) (kind : LangKind)
+    → follow_all first_goals tokens ≡ Ok goals
     → follow goals token ≡ Err kind → (p : Program) (more : List Token) → spelled p ≢ tokens ++ (token ∷ more)

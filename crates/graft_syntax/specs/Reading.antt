@@ -1,12 +1,16 @@
 -- Reading a text of the graft language: the first refusal, or the tokens of the program.
-use Rattle.std.specs.Prelude.{ℕ, ◌==◌, Bool, true, false, cond, nat_lt, nat_le, List, [], ◌∷◌, ◌++◌, length, codes, count_by, position, Option, None, Some, Result, Ok, Err}
+use Rattle.std.specs.Prelude.{ℕ, ◌==◌, Bool, true, false, cond, nat_lt, nat_le, List, [], ◌∷◌, ◌++◌, length}
+use Rattle.std.specs.Prelude.{codes, count_by, position, Option, None, Some, Result, Ok, Err}
 use Rattle.std.specs.List.{list_any}
 use Rattle.kernel_model.specs.World.{same_bytes}
 use Rattle.graft_syntax.specs.declared.LangKind.{LangKind}
-use Rattle.graft_syntax.specs.declared.LangKind.TheVariants.{NoToken, NoProgram, UnknownVariable, WrongArguments, TooDeep, TooManyTokens}
+use Rattle.graft_syntax.specs.declared.LangKind.TheVariants.{NoToken, NoProgram, UnknownVariable, WrongArguments}
+use Rattle.graft_syntax.specs.declared.LangKind.TheVariants.{TooDeep, TooManyTokens}
 use Rattle.graft_syntax.specs.declared.Symbol.TheVariants.{CloseParenthesis}
 use Rattle.graft_syntax.specs.declared.grammar.Goal.{Goal}
-use Rattle.graft_syntax.specs.declared.grammar.Goal.TheVariants.{Statements, Braces, Operand, RightSide, FirstArgument, NextArgument, AfterArgument, EndOfAssignment, Awaits}
+use Rattle.graft_syntax.specs.declared.grammar.Goal.TheVariants.{Statements, Braces, Operand, RightSide}
+use Rattle.graft_syntax.specs.declared.grammar.Goal.TheVariants.{FirstArgument, NextArgument, AfterArgument}
+use Rattle.graft_syntax.specs.declared.grammar.Goal.TheVariants.{EndOfAssignment, Awaits}
 use Rattle.graft_syntax.specs.Tokens.{Token, Number, Variable, Mark, token_of, same_symbol}
 use Rattle.graft_syntax.specs.Words.{Word, words, last_line}
 use Rattle.graft_syntax.specs.Grammar.{follow, first_goals, is_met}
@@ -51,7 +55,8 @@ room_fault room = cond room None (Some WrongArguments)
 -- what is wrong with an operand that begins with this token
 abbrev pub operand_fault : (room : Bool) → List Goal → (names : List (List ℕ)) → Token → Option LangKind
 operand_fault room below names (Number n) = room_fault room
-operand_fault room below names (Variable name) = cond (is_known name names) (room_fault room) (Some UnknownVariable)
+operand_fault room below names (Variable name) =
+    cond (is_known name names) (room_fault room) (Some UnknownVariable)
 operand_fault room below names (Mark s) = cond room (depth_fault below) (Some WrongArguments)
 operand_fault room below names _ = None
 
@@ -68,7 +73,8 @@ abbrev pub argument_fault : (left : ℕ) → Token → Option LangKind
 argument_fault left (Mark CloseParenthesis) = end_fault left
 argument_fault left _ = None
 
--- what is wrong with a token that the grammar takes: the variable, the number of arguments, the depth, in this order
+-- what is wrong with a token that the grammar takes: the variable, the number of arguments, the depth, in
+-- this order
 abbrev pub fault_at : Goal → List Goal → (names : List (List ℕ)) → Token → Option LangKind
 fault_at Operand below names token = operand_fault true below names token
 fault_at RightSide below names token = operand_fault true below names token
@@ -144,7 +150,8 @@ read_word r word = read_by r (token_of word)
 -- the reading behind words; the first one that is refused decides
 abbrev pub read_words : Reading → List Word → Result Reading LineFault
 read_words r [] = Ok r
-read_words r (w ∷ ws) = elim (read_word r w.bytes) [ Err kind ↦ Err (record { line = w.line; kind = kind }) | Ok s ↦ read_words s ws ]
+read_words r (w ∷ ws) = elim (read_word r w.bytes)
+    [ Err kind ↦ Err (record { line = w.line; kind = kind }) | Ok s ↦ read_words s ws ]
 
 -- what is read of a text: the tokens of its program, and the variables that are known at its end
 pub record Syntax : Type 0 where
@@ -157,7 +164,8 @@ refused line kind = Err (record { line = line; kind = kind })
 
 -- tokens are too many, or are those of a program
 abbrev pub read_whole : (line : ℕ) → Reading → Result Syntax LineFault
-read_whole line r = cond (nat_lt 120 (length r.tokens)) (refused line TooManyTokens) (Ok (record { tokens = r.tokens; names = r.names }))
+read_whole line r = cond (nat_lt 120 (length r.tokens)) (refused line TooManyTokens)
+    (Ok (record { tokens = r.tokens; names = r.names }))
 
 -- at the end of the text the program must be whole, and have at most 120 tokens
 abbrev pub read_end : (line : ℕ) → Reading → Result Syntax LineFault

@@ -1,12 +1,16 @@
 -- The tokens of the graft language, and the words that spell them.
-use Rattle.std.specs.Prelude.{ℕ, ◌==◌, Bool, cond, List, [], ◌∷◌, codes, position, slice_get, slice_index, Option, None, Some}
+use Rattle.std.specs.Prelude.{ℕ, ◌==◌, Bool, cond, List, [], ◌∷◌, codes, position, slice_get, slice_index, Option}
+use Rattle.std.specs.Prelude.{None, Some}
 use Rattle.kernel_model.specs.World.{same_bytes}
 use Rattle.kernel_model.specs.Bytes.{number_of}
 use Rattle.kernel_model.specs.Assembler.{callable_id, is_label}
 use Rattle.graft_syntax.specs.declared.Operator.{Operator}
-use Rattle.graft_syntax.specs.declared.Operator.TheVariants.{Plus, Minus, Times, Over, Rest, And, Or, Xor, ShiftLeft, ShiftRight, Less, Equal}
+use Rattle.graft_syntax.specs.declared.Operator.TheVariants.{Plus, Minus, Times, Over, Rest, And, Or, Xor}
+use Rattle.graft_syntax.specs.declared.Operator.TheVariants.{ShiftLeft, ShiftRight, Less, Equal}
 use Rattle.graft_syntax.specs.declared.Symbol.{Symbol}
-use Rattle.graft_syntax.specs.declared.Symbol.TheVariants.{If, Else, While, Trap, Answer, Assign, Semicolon, OpenBrace, CloseBrace, OpenParenthesis, CloseParenthesis, Comma}
+use Rattle.graft_syntax.specs.declared.Symbol.TheVariants.{If, Else, While, Trap, Answer, Assign, Semicolon}
+use Rattle.graft_syntax.specs.declared.Symbol.TheVariants.{OpenBrace, CloseBrace, OpenParenthesis}
+use Rattle.graft_syntax.specs.declared.Symbol.TheVariants.{CloseParenthesis, Comma}
 
 -- a token; a callable is named by its id
 pub data Token : Type 0 where
@@ -19,12 +23,14 @@ pub data Token : Type 0 where
 -- every symbol, and what spells it
 abbrev pub symbols : List Symbol
 symbols =
-    If ∷ Else ∷ While ∷ Trap ∷ Answer ∷ Assign ∷ Semicolon ∷ OpenBrace ∷ CloseBrace ∷ OpenParenthesis ∷ CloseParenthesis ∷ Comma
+    If ∷ Else ∷ While ∷ Trap ∷ Answer ∷ Assign ∷ Semicolon ∷ OpenBrace ∷ CloseBrace
+    ∷ OpenParenthesis ∷ CloseParenthesis ∷ Comma
     ∷ []
 
 abbrev pub symbol_names : List (List ℕ)
 symbol_names =
-    codes "if" ∷ codes "else" ∷ codes "while" ∷ codes "trap" ∷ codes "answer" ∷ codes "=" ∷ codes ";" ∷ codes "{" ∷ codes "}"
+    codes "if" ∷ codes "else" ∷ codes "while" ∷ codes "trap" ∷ codes "answer" ∷ codes "="
+    ∷ codes ";" ∷ codes "{" ∷ codes "}"
     ∷ codes "(" ∷ codes ")" ∷ codes "," ∷ []
 
 -- every operator, and what spells it
@@ -34,7 +40,8 @@ operators =
 
 abbrev pub operator_names : List (List ℕ)
 operator_names =
-    codes "+" ∷ codes "-" ∷ codes "*" ∷ codes "/" ∷ codes "%" ∷ codes "&" ∷ codes "|" ∷ codes "^" ∷ codes "<<" ∷ codes ">>"
+    codes "+" ∷ codes "-" ∷ codes "*" ∷ codes "/" ∷ codes "%" ∷ codes "&" ∷ codes "|" ∷ codes "^"
+    ∷ codes "<<" ∷ codes ">>"
     ∷ codes "<" ∷ codes "==" ∷ []
 
 -- the entry at a place that was found

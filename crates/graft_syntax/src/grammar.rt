@@ -1,6 +1,7 @@
 //! Which tokens may come next: the goals of the grammar that are still to be met.
 
-ghost use Rattle.std.specs.Prelude.{◌≡◌, ◌-◌, ◌<◌, ◌∷◌, ◌++◌, [], length, reverse, count_by, true, false, Ok, Err, IsTrue, IfErr, OnOk, MatchOption};
+ghost use Rattle.std.specs.Prelude.{◌≡◌, ◌-◌, ◌<◌, ◌∷◌, ◌++◌, [], length, reverse, count_by, true, false};
+ghost use Rattle.std.specs.Prelude.{Ok, Err, IsTrue, IfErr, OnOk, MatchOption};
 ghost use Rattle.graft_syntax.specs.Faults.{Stops};
 ghost use Rattle.graft_syntax.specs.Views.{token_view};
 ghost use Rattle.graft_syntax.specs.Grammar as spec;
@@ -102,7 +103,8 @@ impl Goals {
 
     /// Takes the next goal.
     pub fn pop(&mut self) -> Option<Goal>
-        ensures { MatchOption result ((self.old ≡ []) × (self.new ≡ [])) (λ goal. self.old ≡ goal ∷ self.new) }
+        ensures { MatchOption result ((self.old ≡ []) × (self.new ≡ []))
+            (λ goal. self.old ≡ goal ∷ self.new) }
     {
         self.stack.pop()
     }
@@ -155,8 +157,10 @@ impl Goals {
         after_if: bool,
         token: Token,
     ) -> Result<(), Refusal>
-        ensures ok { OnOk result (spec.follow_statement in_block after_if self.old (token_view token.entry) ≡ Ok self.new) }
-        ensures err { IfErr result (λ e. Stops e (spec.follow_statement in_block after_if self.old (token_view token.entry))) }
+        ensures ok { OnOk result (spec.follow_statement in_block after_if self.old (token_view token.entry)
+            ≡ Ok self.new) }
+        ensures err { IfErr result
+            (λ e. Stops e (spec.follow_statement in_block after_if self.old (token_view token.entry))) }
     {
         match token {
             Token::Variable(_) => self.push(&[
@@ -201,8 +205,10 @@ impl Goals {
 
     /// An argument, behind which one argument less is left.
     fn follow_next(&mut self, left: u32, token: Token) -> Result<(), Refusal>
-        ensures ok { OnOk result (spec.follow_goal (Goal.NextArgument left) self.old (token_view token.entry) ≡ Ok self.new) }
-        ensures err { IfErr result (λ e. Stops e (spec.follow_goal (Goal.NextArgument left) self.old (token_view token.entry))) }
+        ensures ok { OnOk result (spec.follow_goal (Goal.NextArgument left) self.old (token_view token.entry)
+            ≡ Ok self.new) }
+        ensures err { IfErr result
+            (λ e. Stops e (spec.follow_goal (Goal.NextArgument left) self.old (token_view token.entry))) }
     {
         self.push(&[Goal::AfterArgument(left.saturating_sub(1))])?;
         self.follow_operand(token)
@@ -242,7 +248,8 @@ impl Goals {
 
     fn follow_braces(&mut self, token: Token) -> Result<(), Refusal>
         ensures ok { OnOk result (spec.follow_goal Goal.Braces self.old (token_view token.entry) ≡ Ok self.new) }
-        ensures err { IfErr result (λ e. Stops e (spec.follow_goal Goal.Braces self.old (token_view token.entry))) }
+        ensures err { IfErr result
+            (λ e. Stops e (spec.follow_goal Goal.Braces self.old (token_view token.entry))) }
     {
         match token {
             Token::Mark(Symbol::OpenBrace) => self.push(&[Goal::Statements(true, false)]),

@@ -1,7 +1,8 @@
 //! The laws of the grammar. By them a token is refused exactly where it is the first with which no
 //! program can go on.
 
-ghost use Rattle.graft_syntax.specs.Laws.{SpellingsAreRead, ReadTokensAreSpelled, ReadTokensGoOn, RefusedTokensDontGoOn};
+ghost use Rattle.graft_syntax.specs.Laws.{SpellingsAreRead, ReadTokensAreSpelled, ReadTokensGoOn};
+ghost use Rattle.graft_syntax.specs.Laws.{RefusedTokensDontGoOn};
 
 /// The spelling of a program is read.
 pub fn spellings_are_read()

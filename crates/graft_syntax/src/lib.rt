@@ -13,7 +13,7 @@ mod tokens;
 
 pub use crate::reader::Syntax;
 use crate::reader::read_text;
-pub use crate::tokens::arguments_of;
+pub use crate::tokens::{arguments_of, same_symbol};
 pub use kernel_model::NoMemory;
 use std::alloc::Global;
 use thiserror::Error;

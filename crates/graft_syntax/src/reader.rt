@@ -1,6 +1,8 @@
 //! Reading a text: word by word, as far as the first one that is refused.
 
-ghost use Rattle.std.specs.Prelude.{◌≡◌, ◌≤◌, ◌<◌, ◌+◌, ◌-◌, ◌==◌, ◌∷◌, ◌++◌, [], length, take, map, count_by, cond, nat_lt, Ok, Err, IfOk, IfErr, OnOk, Option, position};
+ghost use Rattle.std.specs.Prelude.{◌≡◌, ◌≤◌, ◌<◌, ◌+◌, ◌-◌, ◌==◌, ◌∷◌, ◌++◌, [], length, take, map};
+ghost use Rattle.std.specs.Prelude.{count_by, cond, nat_lt, Ok, Err, IfSome, IfOk, IfErr, OnOk, Option};
+ghost use Rattle.std.specs.Prelude.{position};
 ghost use Rattle.kernel_model.specs.World.{same_bytes};
 ghost use Rattle.graft_syntax.specs.Faults.{Refuses, Stops};
 ghost use Rattle.graft_syntax.specs.Views.{token_view, names_of};
@@ -78,7 +80,8 @@ impl<'a> Syntax<'a> {
 
     /// The number of a variable: its place in the order of the first assignments, the arguments first.
     pub fn number_of(&self, name: &[u8]) -> usize
-        ensures { result ≡ spec.number_of self.now.names name.now }
+        ensures number { result ≡ spec.number_of self.now.names name.now }
+        ensures within { result ≤ length self.now.names }
     {
         place_of(&self.names, name).unwrap_or(0)
     }
@@ -98,7 +101,8 @@ fn is_known(names: &Names, name: &[u8]) -> bool
 
 /// The place of a variable that is known.
 fn place_of(names: &Names, name: &[u8]) -> Option<usize>
-    ensures { result ≡ position (same_bytes name.now) (names_of names.now.entries) }
+    ensures place { result ≡ position (same_bytes name.now) (names_of names.now.entries) }
+    ensures within { IfSome result (λ i. i < length (names_of names.now.entries)) }
 {
     names.get_index_of(name)
 }
@@ -264,8 +268,10 @@ impl<'a> Reader<'a> {
 
     /// Reads a token for a goal, which was taken.
     fn read_for(&mut self, goal: Goal, token: Token<'a>) -> Result<(), Refusal>
-        ensures ok { OnOk result (spec.read_token (record self.old { goals = goal ∷ self.old.goals }) (token_view token.entry) ≡ Ok self.new) }
-        ensures err { IfErr result (λ e. Stops e (spec.read_token (record self.old { goals = goal ∷ self.old.goals }) (token_view token.entry))) }
+        ensures ok { let before = record self.old { goals = goal ∷ self.old.goals } in
+            OnOk result (spec.read_token before (token_view token.entry) ≡ Ok self.new) }
+        ensures err { let before = record self.old { goals = goal ∷ self.old.goals } in
+            IfErr result (λ e. Stops e (spec.read_token before (token_view token.entry))) }
     {
         let fault = fault_at(goal, &self.goals, &self.names, token);
         self.goals.follow(goal, token)?;
@@ -302,7 +308,8 @@ impl<'a> Reader<'a> {
     /// Reads a part between spaces, which is a word unless it has no bytes.
     fn read_part(&mut self, line: u32, part: &'a [u8]) -> Result<(), LangFault>
         ensures ok { OnOk result (spec.read_words self.old (line_words line (part.now ∷ [])) ≡ Ok self.new) }
-        ensures err { IfErr result (λ e. Refuses e (spec.read_words self.old (line_words line (part.now ∷ [])))) }
+        ensures err { IfErr result
+            (λ e. Refuses e (spec.read_words self.old (line_words line (part.now ∷ [])))) }
     {
         if part.is_empty() {
             return Ok(());
@@ -317,7 +324,8 @@ impl<'a> Reader<'a> {
     /// Reads the words of a line.
     fn read_line(&mut self, line: u32, text: &'a [u8]) -> Result<(), LangFault>
         ensures ok { OnOk result (spec.read_words self.old (line_words line (words_of text.now)) ≡ Ok self.new) }
-        ensures err { IfErr result (λ e. Refuses e (spec.read_words self.old (line_words line (words_of text.now)))) }
+        ensures err { IfErr result
+            (λ e. Refuses e (spec.read_words self.old (line_words line (words_of text.now)))) }
     {
         let mut parts = Parts::new(text, b' ');
         while let Some(part) = parts.next() {

@@ -43,11 +43,10 @@ are_still : (o : ℕ) (is : List Inverse) (s u : Objects) → AreOwn o (map bare
     ((i : Found) → Contains (map bare_found is) i → SameAt (changed_by i) u s) →
     AreUndoable is s.things → AreUndoable is u.things
 are_still o [] s u own live same can = tt
-are_still o (i ∷ is) s u own live same can =
-    (
-      can_still o i s u own.0 live (same (bare_found i) (first (bare_found i) (map bare_found is))) can.0,
-      are_still o is s u own.1 live (λ j has. same j (later (bare_found i) j (map bare_found is) has)) can.1,
-    )
+are_still o (i ∷ is) s u own live same can = (
+  can_still o i s u own.0 live (same (bare_found i) (first (bare_found i) (map bare_found is))) can.0,
+  are_still o is s u own.1 live (λ j has. same j (later (bare_found i) j (map bare_found is) has)) can.1,
+)
 
 -- and all
 pub all_still : (o q : ℕ) (ram : List ℕ) (t : LockTable) (gs : List GraftLevel) (log : List (List Inverse)) (w : Things) (s u : Objects) → length log ≡ length gs → AreOwned o gs log → lives u.things.queue o ≡ true →

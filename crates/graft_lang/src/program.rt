@@ -1,0 +1,270 @@
+//! The code of statements.
+
+ghost use Rattle.std.specs.Prelude.{◌≡◌, ◌+◌, ◌*◌, ◌<◌, ◌≤◌, ◌-◌, length, true, false, IfOk, OnOk};
+ghost use Rattle.kernel_model.specs.Boxed.{instr};
+ghost use Rattle.kernel_model.specs.Instructions.{fits};
+ghost use Rattle.graft_syntax.specs.Views.{token_view};
+ghost use Rattle.graft_syntax.specs.Tokens as token;
+ghost use Rattle.graft_lang.specs.Writing.{Uses, with_first, closes_block, WritesValue, WritesTrap};
+ghost use Rattle.graft_lang.specs.Writing.{WritesAnswer, WritesStatements, WritesBlock, WritesElse};
+ghost use Rattle.graft_lang.specs.Writing.{WritesIf, WritesWhile, LeadsOn, appended, IsWritten};
+ghost use Rattle.graft_lang.specs.Code.{zeros_code, prologue, epilogue};
+ghost use Rattle.std.specs.List.{list_all};
+
+use crate::writer::{VALUE, Writer, instr, load_number};
+use gm_isa::{Instr, Op};
+use graft_syntax::{NoMemory, Symbol, Syntax, Token};
+use std::alloc::Global;
+
+/// A jump to a place where the value is 0.
+fn jump_unless(to: u32) -> Instr
+    ensures jump { result ≡ instr Op.Jz 4 0 0 to }
+    ensures fits { fits result ≡ true }
+{
+    instr(Op::Jz, VALUE, 0, 0, to)
+}
+
+/// A jump to a place.
+fn jump(to: u32) -> Instr
+    ensures jump { result ≡ instr Op.Jmp 0 0 0 to }
+    ensures fits { fits result ≡ true }
+{
+    instr(Op::Jmp, 0, 0, 0, to)
+}
+
+impl<'t, 'a> Writer<'t, 'a> {
+    /// Takes a value and the semicolon behind it. The value goes to the slot `to`.
+    fn assign(&mut self, syntax: &Syntax, top: u32, to: u32) -> Result<(), NoMemory>
+        requires few { length syntax.now.names ≤ 1024 }
+        requires room { top + length self.old.tokens ≤ 1020 }
+        requires to { to ≤ 1024 }
+        ensures writes { OnOk result (WritesValue syntax.now.names top to self.old self.new) }
+        ensures uses { OnOk result (Uses 16 2 self.old self.new) }
+    {
+        self.expression(syntax, top)?;
+        self.put(VALUE, to)?;
+        self.skip();
+        Ok(())
+    }
+
+    /// Takes what is behind the variable of an assignment.
+    fn assignment(&mut self, syntax: &Syntax, top: u32, name: &[u8]) -> Result<(), NoMemory>
+        requires few { length syntax.now.names ≤ 1024 }
+        requires room { top + length self.old.tokens ≤ 1020 }
+        ensures leads { let begun = with_first (token.Variable name.now) self.old in
+            OnOk result (LeadsOn syntax.now.names top begun self.new) }
+        ensures uses { OnOk result (Uses 16 9 self.old self.new) }
+    {
+        let to = syntax.number_of(name) as u32;
+        self.skip();
+        match self.takes_callable() {
+            Some(id) => self.call(syntax, top, to, id),
+            None => self.assign(syntax, top, to),
+        }
+    }
+
+    /// Takes what is behind `trap`.
+    fn trap(&mut self) -> Result<(), NoMemory>
+        ensures writes { OnOk result (WritesTrap self.old self.new) }
+        ensures uses { OnOk result (Uses 16 1 self.old self.new) }
+    {
+        let code = self.number();
+        self.append(&[instr(Op::Trap, 0, 0, 0, code)])?;
+        self.skip();
+        Ok(())
+    }
+
+    /// Takes what is behind `answer`. The first value waits in the slot `top`.
+    fn answer(&mut self, syntax: &Syntax, top: u32) -> Result<(), NoMemory>
+        requires few { length syntax.now.names ≤ 1024 }
+        requires room { top + length self.old.tokens ≤ 1020 }
+        ensures writes { OnOk result (WritesAnswer syntax.now.names top self.old self.new) }
+        ensures uses { OnOk result (Uses 16 6 self.old self.new) }
+    {
+        self.expression(syntax, top)?;
+        self.put(VALUE, top)?;
+        self.skip();
+        self.expression(syntax, top + 1)?;
+        self.append(&[instr(Op::Mov, 1, VALUE, 0, 0)])?;
+        self.fetch(0, top)?;
+        self.append(&[instr(Op::Ret, 0, 0, 0, 0)])?;
+        self.skip();
+        Ok(())
+    }
+
+    /// Takes statements in braces.
+    #[cycle(statements)]
+    fn block(&mut self, syntax: &Syntax, top: u32) -> Result<(), NoMemory>
+        requires few { length syntax.now.names ≤ 1024 }
+        requires room { top + length self.old.tokens ≤ 1020 }
+        requires short { length self.old.code + 16 * length self.old.tokens ≤ 4096 }
+        ensures writes { OnOk result (WritesBlock syntax.now.names top self.old self.new) }
+        ensures uses { OnOk result (Uses 16 0 self.old self.new) }
+    {
+        self.skip();
+        self.statements(syntax, top)?;
+        self.skip();
+        Ok(())
+    }
+
+    /// Takes what is behind `else`. The jump of the test stands at `test`.
+    #[cycle(statements)]
+    fn alternative(&mut self, syntax: &Syntax, top: u32, test: u32) -> Result<(), NoMemory>
+        requires few { length syntax.now.names ≤ 1024 }
+        requires room { top + length self.old.tokens ≤ 1020 }
+        requires short { length self.old.code + 16 * length self.old.tokens ≤ 4095 }
+        requires test { test < length self.old.code }
+        ensures writes { OnOk result (WritesElse syntax.now.names top test self.old self.new) }
+        ensures uses { OnOk result (Uses 16 1 self.old self.new) }
+    {
+        let end = self.hole()?;
+        let begin = self.place();
+        self.patch(test, jump_unless(begin));
+        self.block(syntax, top)?;
+        let behind = self.place();
+        self.patch(end, jump(behind));
+        Ok(())
+    }
+
+    /// Takes what is behind `if`.
+    #[cycle(statements)]
+    fn conditional(&mut self, syntax: &Syntax, top: u32) -> Result<(), NoMemory>
+        requires few { length syntax.now.names ≤ 1024 }
+        requires room { top + length self.old.tokens ≤ 1020 }
+        requires short { length self.old.code + 16 * length self.old.tokens ≤ 4080 }
+        ensures writes { OnOk result (WritesIf syntax.now.names top self.old self.new) }
+        ensures uses { OnOk result (Uses 16 2 self.old self.new) }
+    {
+        self.expression(syntax, top)?;
+        let test = self.hole()?;
+        self.block(syntax, top)?;
+        if self.takes(Symbol::Else) {
+            return self.alternative(syntax, top, test);
+        }
+        let behind = self.place();
+        self.patch(test, jump_unless(behind));
+        Ok(())
+    }
+
+    /// Takes what is behind `while`.
+    #[cycle(statements)]
+    fn repetition(&mut self, syntax: &Syntax, top: u32) -> Result<(), NoMemory>
+        requires few { length syntax.now.names ≤ 1024 }
+        requires room { top + length self.old.tokens ≤ 1020 }
+        requires short { length self.old.code + 16 * length self.old.tokens ≤ 4080 }
+        ensures writes { OnOk result (WritesWhile syntax.now.names top self.old self.new) }
+        ensures uses { OnOk result (Uses 16 2 self.old self.new) }
+    {
+        let begin = self.place();
+        self.expression(syntax, top)?;
+        let test = self.hole()?;
+        self.block(syntax, top)?;
+        self.append(&[jump(begin)])?;
+        let behind = self.place();
+        self.patch(test, jump_unless(behind));
+        Ok(())
+    }
+
+    /// Takes what is behind the keyword of a statement.
+    #[cycle(statements)]
+    fn command(&mut self, syntax: &Syntax, top: u32, keyword: Symbol) -> Result<(), NoMemory>
+        requires few { length syntax.now.names ≤ 1024 }
+        requires room { top + length self.old.tokens ≤ 1020 }
+        requires short { length self.old.code + 16 * length self.old.tokens ≤ 4080 }
+        requires begins { closes_block (token.Mark keyword) ≡ false }
+        ensures leads { let begun = with_first (token.Mark keyword) self.old in
+            OnOk result (LeadsOn syntax.now.names top begun self.new) }
+        ensures uses { OnOk result (Uses 16 9 self.old self.new) }
+    {
+        match keyword {
+            Symbol::If => self.conditional(syntax, top),
+            Symbol::While => self.repetition(syntax, top),
+            Symbol::Trap => self.trap(),
+            Symbol::Answer => self.answer(syntax, top),
+            _ => Ok(()),
+        }
+    }
+
+    /// Takes what is behind the first token of a statement.
+    #[cycle(statements)]
+    fn statement(&mut self, syntax: &Syntax, top: u32, first: Token) -> Result<(), NoMemory>
+        requires few { length syntax.now.names ≤ 1024 }
+        requires room { top + length self.old.tokens ≤ 1020 }
+        requires short { length self.old.code + 16 * length self.old.tokens ≤ 4080 }
+        requires begins { closes_block (token_view first) ≡ false }
+        ensures leads { let begun = with_first (token_view first.entry) self.old in
+            OnOk result (LeadsOn syntax.now.names top begun self.new) }
+        ensures uses { OnOk result (Uses 16 9 self.old self.new) }
+    {
+        match first {
+            Token::Variable(name) => self.assignment(syntax, top, name),
+            Token::Mark(s) => self.command(syntax, top, s),
+            _ => Ok(()),
+        }
+    }
+
+    /// Takes statements as far as the end of their block. The slots from `top` on are free.
+    #[cycle(statements)]
+    pub fn statements(&mut self, syntax: &Syntax, top: u32) -> Result<(), NoMemory>
+        requires few { length syntax.now.names ≤ 1024 }
+        requires room { top + length self.old.tokens ≤ 1020 }
+        requires short { length self.old.code + 16 * length self.old.tokens ≤ 4096 }
+        ensures writes { OnOk result (WritesStatements syntax.now.names top self.old self.new) }
+        ensures uses { OnOk result (Uses 16 0 self.old self.new) }
+    {
+        while let Some(first) = self.next_statement() {
+            self.statement(syntax, top, first)?;
+        }
+        Ok(())
+    }
+}
+
+impl<'t, 'a> Writer<'t, 'a> {
+    /// Stores zeros, which the register of values has, to the variables behind the arguments.
+    fn zeros(&mut self, variables: u32) -> Result<(), NoMemory>
+        requires { variables ≤ 1024 }
+        ensures { OnOk result (self.new ≡ appended (zeros_code 4 (variables - 4)) self.old) }
+    {
+        for i in 4..variables {
+            self.put(VALUE, i)?;
+        }
+        Ok(())
+    }
+
+    /// Stores the arguments, and zeros to the other variables.
+    fn prologue(&mut self, variables: u32) -> Result<(), NoMemory>
+        requires { variables ≤ 1024 }
+        ensures { OnOk result (self.new ≡ appended (prologue variables) self.old) }
+    {
+        self.put(0, 0)?;
+        self.put(1, 1)?;
+        self.put(2, 2)?;
+        self.put(3, 3)?;
+        self.append(&[load_number(VALUE, 0)])?;
+        self.zeros(variables)
+    }
+
+    /// Answers the first two arguments.
+    fn epilogue(&mut self) -> Result<(), NoMemory>
+        ensures { OnOk result (self.new ≡ appended epilogue self.old) }
+    {
+        self.fetch(0, 0)?;
+        self.fetch(1, 1)?;
+        self.append(&[instr(Op::Ret, 0, 0, 0, 0)])
+    }
+}
+
+/// The code of the program that is spelled by what was read.
+pub fn write_program(alloc: Global, syntax: &Syntax) -> Result<Vec<Instr>, NoMemory>
+    requires tokens { length syntax.now.tokens ≤ 120 }
+    requires names { length syntax.now.names ≤ 124 }
+    ensures written { IfOk result (λ code. IsWritten syntax.now code.items) }
+    ensures fits { IfOk result (λ code. list_all fits code.items ≡ true) }
+{
+    let variables = syntax.variables() as u32;
+    let mut writer = Writer::new(alloc, syntax.tokens());
+    writer.prologue(variables)?;
+    writer.statements(syntax, variables)?;
+    writer.epilogue()?;
+    Ok(writer.into_code())
+}
