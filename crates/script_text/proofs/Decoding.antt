@@ -1,12 +1,13 @@
 -- Lemmas on hex digits: the crate `hex` decodes them as the definitions do.
-use Rattle.std.proofs.Common.{◌≡◌, ℕ, ◌+◌, ◌*◌, ◌%◌, Option, Some, None, Result, Ok, Err, MatchResult, List, [], ◌∷◌, length, refl, arith, ap}
+use Rattle.std.proofs.Common.{◌≡◌, ◌∙◌, ◌&&◌, true, false, is_some, ℕ, ◌+◌, ◌*◌, ◌%◌, Option, Some, None, Result, Ok, Err, MatchResult, List, [], ◌∷◌, length, refl, arith, ap}
 use Rattle.std.specs.Prelude.{is_ok}
 use Rattle.std.specs.Result.{result_ok}
 use Rattle.std.proofs.lemmas.Bool.Decides.{nat_tests}
 use Rattle.hex.specs.declared.error.FromHexError.{FromHexError}
 use Rattle.hex.specs.Hex.{hex_digit_value, digit_or_error, decode_pairs, decode_of, decode_sized, ◌>>=◌}
 use Rattle.kernel_model.specs.Bytes.{hex_value, byte_before, hex_bytes}
-use Rattle.script_text.specs.Words.{decoded}
+use Rattle.std.specs.List.{list_all}
+use Rattle.script_text.specs.Words.{decoded, is_hex_digit, bytes_or_none}
 
 -- a digit has one value
 same_value : (c : ℕ) → hex_digit_value c ≡ hex_value c
@@ -39,6 +40,30 @@ hex_bytes-odd [] odd = absurd (omega (arith, odd))
 hex_bytes-odd (c ∷ []) odd = refl
 hex_bytes-odd (c ∷ d ∷ text) odd = rw (hex_bytes-odd text (omega (arith, odd))) (byte_before-none (hex_value c) (hex_value d))
 
+-- a byte of two digits before others is one where all are digits, and only there
+byte_before-is : (h l : Option ℕ) (rest : Option (List ℕ)) →
+    is_some (byte_before h l rest) ≡ (is_some h && (is_some l && is_some rest))
+byte_before-is None l rest = refl
+byte_before-is (Some h) None rest = refl
+byte_before-is (Some h) (Some l) None = refl
+byte_before-is (Some h) (Some l) (Some rest) = refl
+
+-- an even number of digits writes bytes where all are digits, and only there
+pub hex_bytes-all : (text : List ℕ) → length text % 2 ≡ 0 → is_some (hex_bytes text) ≡ list_all is_hex_digit text
+hex_bytes-all [] even = refl
+hex_bytes-all (c ∷ []) even = absurd (omega (arith, even))
+hex_bytes-all (c ∷ d ∷ text) even =
+    byte_before-is (hex_value c) (hex_value d) (hex_bytes text)
+    ∙ ap (λ b. is_hex_digit c && (is_hex_digit d && b)) (hex_bytes-all text (omega (arith, even)))
+
+some_is : (bytes : Option (List ℕ)) → is_some bytes ≡ true → Some (bytes_or_none bytes) ≡ bytes
+some_is (Some bytes) h = refl
+some_is None h = cc
+
+none_is : (bytes : Option (List ℕ)) → is_some bytes ≡ false → bytes ≡ None
+none_is None h = refl
+none_is (Some bytes) h = cc
+
 -- digits into new bytes
 pub decode_of-ok : (text : List ℕ) → result_ok (decode_of text) ≡ hex_bytes text
 decode_of-ok text = grind (arith, nat_tests, decode_pairs-ok 0 text, hex_bytes-odd text)
@@ -52,3 +77,12 @@ pub decoded-sized : (r : Result (List ℕ) FromHexError) (result : Result (Unit 
     → MatchResult r (λ bytes. (result ≡ Ok tt) × (out ≡ bytes)) (λ e. result ≡ Err e) → decoded (is_ok result) out ≡ result_ok r
 decoded-sized (Ok bytes) result out h = rw (h.0, h.1) refl
 decoded-sized (Err e) result out h = rw h refl
+
+-- an even number of digits, of which none is another byte, writes these bytes
+pub hex_bytes-some : (text : List ℕ) → length text % 2 ≡ 0 → list_all is_hex_digit text ≡ true →
+    Some (bytes_or_none (hex_bytes text)) ≡ hex_bytes text
+hex_bytes-some text even all = some_is (hex_bytes text) (hex_bytes-all text even ∙ all)
+
+-- and where one is another byte, none
+pub hex_bytes-none : (text : List ℕ) → length text % 2 ≡ 0 → list_all is_hex_digit text ≡ false → hex_bytes text ≡ None
+hex_bytes-none text even not_all = none_is (hex_bytes text) (hex_bytes-all text even ∙ not_all)

@@ -4,7 +4,7 @@ use Rattle.kernel_model.specs.Script as script
 use Rattle.script_text.specs.declared.parse.Entry.{Entry}
 use Rattle.script_text.specs.declared.parse.Entry.TheVariants.{Blank, Frames, Patience, Grant, Boot, Happens, Image, Raw}
 use Rattle.script_text.specs.declared.parse.ScriptFault.{ScriptFault}
-use Rattle.script_text.specs.declared.parse.ScriptFault.TheVariants.{BadWord, BadNumber, WrongPlace, UnknownCommand, NoMemory}
+use Rattle.script_text.specs.declared.parse.ScriptFault.TheVariants.{BadWord, BadNumber, WrongPlace, UnknownCommand}
 
 -- an entry, as the definitions have it
 abbrev pub entry_seen : Entry → script.Entry
@@ -17,15 +17,14 @@ entry_seen (Happens event) = script.Happens event
 entry_seen (Image slot bytes) = script.Loads slot bytes
 entry_seen Raw = script.Raw
 
--- a refusal is what the definitions say; want of memory is tied to nothing
+-- a refusal is what the definitions say
 abbrev pub Refuses : ScriptFault → Result script.Entry script.ScriptFault → Type 0
 Refuses BadWord said = said ≡ Err script.BadWord
 Refuses BadNumber said = said ≡ Err script.BadNumber
 Refuses WrongPlace said = said ≡ Err script.WrongPlace
 Refuses UnknownCommand said = said ≡ Err script.UnknownCommand
-Refuses NoMemory said = ⊤
 
--- an answer is what the definitions say, but for want of memory
+-- an answer is what the definitions say
 abbrev pub Answers : Result Entry ScriptFault → Result script.Entry script.ScriptFault → Type 0
 Answers (Ok entry) said = said ≡ Ok (entry_seen entry)
 Answers (Err fault) said = Refuses fault said

@@ -1,6 +1,7 @@
 -- Where words begin and end in a line, and what becomes of a byte of a line.
-use Rattle.std.specs.Prelude.{ℕ, Bool, true, false, cond, ◌==◌, nat_lt, List, [], ◌∷◌, ◌++◌, length, Option, Some, None, Result, Ok, Err}
+use Rattle.std.specs.Prelude.{ℕ, Bool, true, false, cond, ◌==◌, nat_lt, List, [], ◌∷◌, ◌++◌, length, is_some, Option, Some, None, Result, Ok, Err}
 use Rattle.std.specs.List.{position_or_len}
+use Rattle.kernel_model.specs.Bytes.{hex_value}
 use Rattle.kernel_model.specs.Script.{ScriptFault, BadWord, BadNumber, words_of, LINE_BYTES}
 use Rattle.script_text.specs.declared.line_buf.Fed.{Fed}
 use Rattle.script_text.specs.declared.line_buf.Fed.TheVariants.{More, Line, TooLong}
@@ -26,6 +27,15 @@ said reading.BadWord numbers = Err BadWord
 abbrev pub failed : Bool → Result (List ℕ × List ℕ) ScriptFault
 failed true = Err BadNumber
 failed false = Err BadWord
+
+-- a hex digit of either case
+abbrev pub is_hex_digit : ℕ → Bool
+is_hex_digit byte = is_some (hex_value byte)
+
+-- bytes, none where there are none
+abbrev pub bytes_or_none : Option (List ℕ) → List ℕ
+bytes_or_none None = []
+bytes_or_none (Some bytes) = bytes
 
 -- bytes that were decoded, if they were
 abbrev pub decoded : Bool → List ℕ → Option (List ℕ)

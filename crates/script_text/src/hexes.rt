@@ -1,15 +1,13 @@
 //! Hex digits of either case in words.
 
-ghost use Rattle.std.specs.Prelude.{◌≡◌, ◌≤◌, ◌*◌, length, IfOk, None};
-ghost use Rattle.hex.specs.declared.error.FromHexError.TheVariants.{OutOfMemory};
+ghost use Rattle.std.specs.Prelude.{◌≡◌, ◌≤◌, ◌*◌, length};
+ghost use Rattle.std.specs.List.{list_all};
 ghost use Rattle.kernel_model.specs.Bytes.{hex_bytes, hex_word};
 ghost use Rattle.kernel_model.specs.Script.{WRITE_DIGITS, IMAGE_DIGITS};
-ghost use Rattle.script_text.specs.Words.{decoded};
+ghost use Rattle.script_text.specs.Words.{decoded, is_hex_digit};
 
 use crate::ImageBytes;
-use hex::FromHexError;
-use kernel_model::{BLOCK_BYTES, Bytes, NoMemory};
-use std::alloc::Global;
+use kernel_model::{BLOCK_BYTES, Bytes};
 
 /// The most hex digits of a `write`.
 const MOST_WRITTEN: usize = 2 * BLOCK_BYTES;
@@ -53,27 +51,26 @@ pub(crate) fn written(word: &[u8]) -> Option<Bytes>
     }
 }
 
-/// No bytes, but for want of memory.
-fn without_bytes(fault: FromHexError) -> Result<Option<ImageBytes>, NoMemory>
-    ensures { IfOk result (λ bytes. (bytes ≡ None) × (fault ≡ OutOfMemory → ⊥)) }
+/// Whether a byte is a hex digit of either case.
+fn is_digit(byte: u8) -> bool
+    ensures { result ≡ is_hex_digit byte }
 {
-    match fault {
-        FromHexError::OutOfMemory => Err(NoMemory),
-        FromHexError::InvalidHexCharacter { .. }
-        | FromHexError::OddLength
-        | FromHexError::InvalidStringLength => Ok(None),
-    }
+    byte.is_ascii_hexdigit()
 }
 
-/// The bytes of an image: 2 to 65,534 hex digits, an even number.
-pub(crate) fn loaded(alloc: Global, word: &[u8]) -> Result<Option<ImageBytes>, NoMemory>
-    ensures { IfOk result (λ bytes. bytes ≡ hex_word IMAGE_DIGITS word.now) }
+/// Whether all bytes of a word are hex digits.
+fn all_digits(word: &[u8]) -> bool
+    ensures { result ≡ list_all is_hex_digit word.now }
 {
-    if word.len() < 2 || word.len() > MOST_LOADED {
-        return Ok(None);
+    word.iter().all(|byte| is_digit(*byte))
+}
+
+/// The bytes of an image: 2 to 65,534 hex digits, an even number. They are decoded later.
+pub(crate) fn loaded<'a>(word: &'a [u8]) -> Option<ImageBytes<'a>>
+    ensures { result ≡ hex_word IMAGE_DIGITS word.now }
+{
+    if word.len() < 2 || word.len() > MOST_LOADED || word.len() % 2 == 1 || !all_digits(word) {
+        return None;
     }
-    match hex::decode(alloc, word) {
-        Ok(bytes) => Ok(Some(ImageBytes::new(bytes))),
-        Err(fault) => without_bytes(fault),
-    }
+    Some(ImageBytes::new(word))
 }

@@ -1,10 +1,9 @@
 //! `parse_line`: what a line of a script says.
 
-ghost use Rattle.std.specs.Prelude.{◌≡◌, ◌≤◌, ◌<◌, [], ◌∷◌, length, slice_index, Err, codes};
+ghost use Rattle.std.specs.Prelude.{◌≡◌, ◌≤◌, ◌<◌, [], ◌∷◌, length, slice_index};
 ghost use Rattle.kernel_model.specs.declared.Command.TheVariants as command_is;
 ghost use Rattle.kernel_model.specs.Bytes.{hex_word};
-ghost use Rattle.kernel_model.specs.Script.{WRITE_DIGITS, IMAGE_DIGITS, amount_at, name_word, open_by, write_by, call_of, happens_by, loads_by, entry_of, first_word, words_of, is_blank, parsed_line};
-ghost use Rattle.script_text.specs.declared.parse.ScriptFault.TheVariants.{NoMemory as no_memory};
+ghost use Rattle.kernel_model.specs.Script.{WRITE_DIGITS, IMAGE_DIGITS, amount_at, name_word, open_by, write_by, call_of, happens_by, loads_by, entry_of, is_blank, parsed_line};
 ghost use Rattle.script_text.specs.Answers.{Answers, SetsWithin};
 
 use crate::commands::{forms, named, sets_up};
@@ -13,12 +12,11 @@ use crate::hexes::{loaded, written};
 use crate::image_bytes::ImageBytes;
 use crate::words::{Reading, read_words, skip, word_end};
 use arrayvec::ArrayVec;
-use kernel_model::{CallName, Command, Event, Kind, NoMemory, SysCall};
-use std::alloc::Global;
+use kernel_model::{CallName, Command, Event, Kind, SysCall};
 
 /// What a line says.
 #[derive(Drop)]
-pub enum Entry {
+pub enum Entry<'a> {
     /// An empty line, or one that begins with `#`.
     Blank,
     /// How many frames the cache has, 2 to 64.
@@ -32,7 +30,7 @@ pub enum Entry {
     /// An event of the kernel.
     Happens(Event),
     /// A slot, and the bytes of a sealed image for it.
-    Image(u32, ImageBytes),
+    Image(u32, ImageBytes<'a>),
     /// All rows of the kernel's state are asked for.
     Raw,
 }
@@ -48,8 +46,6 @@ pub enum ScriptFault {
     WrongPlace,
     /// S5: the first word is no command.
     UnknownCommand,
-    /// There was no memory for the bytes of an image.
-    NoMemory,
 }
 
 /// An empty line, or one that begins with `#`.
@@ -125,9 +121,8 @@ fn call(verb: CallName, n: &[u32], last: &[u8]) -> Option<SysCall>
 }
 
 /// `frames n`.
-fn frames(n: u32) -> Result<Entry, ScriptFault>
+fn frames(n: u32) -> Result<Entry<'static>, ScriptFault>
     ensures answer { Answers result (entry_of command_is.Frames (n ∷ []) []) }
-    ensures memory { result ≡ Err no_memory → ⊥ }
     ensures limits { SetsWithin result }
 {
     if n >= 2 && n <= 64 {
@@ -138,10 +133,9 @@ fn frames(n: u32) -> Result<Entry, ScriptFault>
 }
 
 /// `patience K n`.
-fn patience(kind: u32, n: u32) -> Result<Entry, ScriptFault>
+fn patience(kind: u32, n: u32) -> Result<Entry<'static>, ScriptFault>
     requires { kind < 8 }
     ensures answer { Answers result (entry_of command_is.Patience (kind ∷ n ∷ []) []) }
-    ensures memory { result ≡ Err no_memory → ⊥ }
     ensures limits { SetsWithin result }
 {
     if n >= 1 && n <= 1000 {
@@ -152,10 +146,9 @@ fn patience(kind: u32, n: u32) -> Result<Entry, ScriptFault>
 }
 
 /// A system call as an event.
-fn happens(verb: CallName, n: &[u32], last: &[u8]) -> Result<Entry, ScriptFault>
+fn happens(verb: CallName, n: &[u32], last: &[u8]) -> Result<Entry<'static>, ScriptFault>
     ensures answer { Answers result
         (happens_by (slice_index n.now 0) (call_of verb n.now last.now)) }
-    ensures memory { result ≡ Err no_memory → ⊥ }
     ensures limits { SetsWithin result }
 {
     let Some(call) = call(verb, n, last) else {
@@ -165,22 +158,20 @@ fn happens(verb: CallName, n: &[u32], last: &[u8]) -> Result<Entry, ScriptFault>
 }
 
 /// `image k HEX`.
-fn image(alloc: Global, slot: u32, last: &[u8]) -> Result<Entry, ScriptFault>
+fn image<'a>(slot: u32, last: &'a [u8]) -> Result<Entry<'a>, ScriptFault>
     ensures answer { Answers result (loads_by slot (hex_word IMAGE_DIGITS last.now)) }
     ensures limits { SetsWithin result }
 {
-    match loaded(alloc, last) {
-        Ok(Some(bytes)) => Ok(Entry::Image(slot, bytes)),
-        Ok(None) => Err(ScriptFault::BadNumber),
-        Err(NoMemory) => Err(ScriptFault::NoMemory),
+    match loaded(last) {
+        Some(bytes) => Ok(Entry::Image(slot, bytes)),
+        None => Err(ScriptFault::BadNumber),
     }
 }
 
 /// A command by its numbers and its last word.
-fn entry_said(alloc: Global, command: Command, n: &[u32], last: &[u8]) -> Result<Entry, ScriptFault>
+fn entry_said<'a>(command: Command, n: &[u32], last: &'a [u8]) -> Result<Entry<'a>, ScriptFault>
     requires { command ≡ command_is.Patience → slice_index n.now 0 < 8 }
     ensures answer { Answers result (entry_of command n.now last.now) }
-    ensures memory { result ≡ Err no_memory → command ≡ command_is.Image }
     ensures limits { SetsWithin result }
 {
     match command {
@@ -191,18 +182,17 @@ fn entry_said(alloc: Global, command: Command, n: &[u32], last: &[u8]) -> Result
         Command::Tick => Ok(Entry::Happens(Event::Tick)),
         Command::Step => Ok(Entry::Happens(Event::Step(at(n, 0), at(n, 1)))),
         Command::Raw => Ok(Entry::Raw),
-        Command::Image => image(alloc, at(n, 0), last),
+        Command::Image => image(at(n, 0), last),
         Command::Call(name) => happens(name, n, last),
     }
 }
 
 /// What a line says, before or after `boot`, or why it is refused. The line stands without its newline.
 ///
-/// Memory is taken for the bytes of an image alone.
-pub fn parse_line(alloc: Global, line: &[u8], booted: bool) -> Result<Entry, ScriptFault>
+/// No memory is taken: the bytes of an image are decoded later.
+pub fn parse_line<'a>(line: &'a [u8], booted: bool) -> Result<Entry<'a>, ScriptFault>
     requires { length line.now ≤ 65536 }
     ensures answer { Answers result (parsed_line booted line.now) }
-    ensures memory { result ≡ Err no_memory → first_word (words_of line.now) ≡ codes "image" }
     ensures limits { SetsWithin result }
 {
     if is_blank_line(line) {
@@ -219,6 +209,6 @@ pub fn parse_line(alloc: Global, line: &[u8], booted: bool) -> Result<Entry, Scr
     match read_words(forms(command), skip(line, end), &line[..0], &mut numbers) {
         Reading::BadWord => Err(ScriptFault::BadWord),
         Reading::BadNumber => Err(ScriptFault::BadNumber),
-        Reading::Said(last) => entry_said(alloc, command, numbers.as_slice(), last),
+        Reading::Said(last) => entry_said(command, numbers.as_slice(), last),
     }
 }

@@ -1,17 +1,17 @@
 -- Lines run one after another, and the script that `demo` generates.
-use Rattle.std.proofs.Common.{◌≡◌, ◌≤◌, ◌<◌, ◌+◌, ◌-◌, ◌*◌, ◌%◌, ◌^◌, ◌++◌, ◌∙◌, ℕ, zero, suc, Bool, List, [], ◌∷◌, Option, length, refl, sym, ap, subst, arith, append_assoc, append-nil, length-append}
+use Rattle.std.proofs.Common.{◌≡◌, ◌≤◌, ◌<◌, ◌+◌, ◌-◌, ◌%◌, ◌^◌, ◌++◌, ◌∙◌, ℕ, zero, suc, Bool, List, [], ◌∷◌, Option, length, refl, sym, ap, subst, arith, append_assoc, append-nil, length-append}
 use Rattle.disk_log.specs.Calls.{Tells}
 use Rattle.disk_log.specs.Seen.{DiskSeen}
 use Rattle.kernel_model.specs.declared.Note.{Note}
-use Rattle.kernel_model.specs.Session.{Session, Written, silent, and_then}
+use Rattle.kernel_model.specs.Session.{Session, Written, and_then}
 use Rattle.kernel_model.specs.Demo.{demo_lines, drawn_lines, next_draw, head_lines, summary_of, summary_by}
 use Rattle.demo_text.specs.declared.tally.Tally.{Tally}
 use Rattle.demo_text.specs.Tallies.{IsTally}
-use Rattle.vino_top.specs.Standing.{Seen, StandsFor, IsBegun, last_bytes}
-use Rattle.vino_top.specs.Run.{Place, first_on, line_run, lines_run, UsesAll, IsImageLine, Left, Comes, RunsLine}
-use Rattle.vino_top.specs.Demos.{all_run, RanLines, joined, nothing_left, IsFew, HasRoom, demo_place, DemoRan, DemoLacked, DemoReached, DemoTakes, DemoStops}
+use Rattle.vino_top.specs.Standing.{Seen, IsBegun, last_bytes}
+use Rattle.vino_top.specs.Run.{Place, first_on, line_run, lines_run, UsesAll, WantsMemory, WantsAt, Left, Comes, RunsLine}
+use Rattle.vino_top.specs.Demos.{all_run, RanLines, joined, nothing_left, HasRoom, demo_place, DemoRan, DemoLacked, DemoReached, DemoTakes, DemoStops}
 use Rattle.vino_top.proofs.EndLemmas.{begun_stands, left_by}
-use Rattle.vino_top.proofs.RunLemmas.{all_made_none, all_made_one, all_made_joined, after-append, comes_alone, line_uses, uses-append}
+use Rattle.vino_top.proofs.RunLemmas.{all_made_none, all_made_one, all_made_joined, comes_alone, line_uses, uses-append}
 
 -- ---- what lines write in all
 
@@ -126,16 +126,16 @@ demo_goes_on c all texts later text s t u d e f old new next p q =
     }
 
 -- there was no memory for the next one
-pub demo_stops : (c : Place) (all texts later : List (List ℕ)) (text : List ℕ) (s t : Seen) (d e f : DiskSeen) (old : Tally) → texts ≡ text ∷ later → IsImageLine text → f ≡ e →
+pub demo_stops : (c : Place) (all texts later : List (List ℕ)) (text : List ℕ) (s t : Seen) (d e f : DiskSeen) (old : Tally) → texts ≡ text ∷ later → WantsAt t text → f ≡ e →
     DemoReached c all texts s t d e old → DemoStops c all s d f
-demo_stops c all texts later text s t d e f old next image same p =
+demo_stops c all texts later text s t d e f old next wants same p =
     record {
       done = p.done;
       next = text;
       later = later;
       order = p.order ∙ ap (λ (xs : List (List ℕ)). p.done ++ xs) next;
-      image = image;
       t = t;
+      wants = wants;
       out = p.out;
       ran = subst (λ (x : DiskSeen). RanLines c p.done s t d x p.out) (sym same) p.ran;
     }
@@ -232,10 +232,12 @@ demo_lacked n size s d e begun p =
       next = p.next;
       later = p.later;
       order = p.order;
-      image = p.image;
       ios = p.ran.ios;
       one_each = p.ran.one_each;
       calls = p.ran.calls;
+      wants = λ a first.
+          subst (λ (b : Session). WantsMemory b p.next) (session_of_all c a p.done p.ran.ios)
+          (p.wants e.told (all_run c a p.done p.ran.ios).session (p.ran.comes a (begun_stands size s d.told a begun first)).stands);
       used = λ a first. p.ran.used a (begun_stands size s d.told a begun first);
       blocks = λ a first.
           subst (λ (b : Session). Tells e.told b.blocks) (session_of_all c a p.done p.ran.ios)

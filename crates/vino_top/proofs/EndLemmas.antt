@@ -1,5 +1,5 @@
 -- How the run of a script ends.
-use Rattle.std.proofs.Common.{refl, sym, ap, ◌∙◌, ◌≡◌, ◌≢◌, ◌<◌, ◌≤◌, ◌+◌, ◌-◌, ℕ, suc, Bool, false, true, List, [], ◌∷◌, ◌++◌, length, take, Option, Some, None, arith, ◌⊎◌, inl, inr, length-append, length-take, append-nil, append_assoc, add-one, subst}
+use Rattle.std.proofs.Common.{refl, sym, ap, ◌∙◌, ◌≡◌, ◌≢◌, ◌<◌, ◌≤◌, ◌+◌, ◌-◌, ℕ, suc, Bool, false, true, List, [], ◌∷◌, ◌++◌, length, take, Option, Some, None, arith, ◌⊎◌, inl, inr, length-append, length-take, append-nil, append_assoc, subst}
 use Rattle.std.specs.List.{concat}
 use Rattle.std.proofs.lemmas.List.Folds.{concat-append}
 use Rattle.std.specs.Io.KnownBytes.{Appends, Consumes, Keeps, IsAtEnd}
@@ -19,7 +19,7 @@ use Rattle.disk_log.specs.Seen.{DiskSeen}
 use Rattle.kernel_model.specs.Outcome.{SCRIPT_BYTES, Ending, End, Fault, Over, Outcome, lines_after, rest_after, left_line, left_lines, at_end, at_ending, outcome_of, ends_as, ends_with, written}
 use Rattle.kernel_model.specs.Text.{line}
 use Rattle.vino_top.specs.Standing.{Seen, StandsFor, IsBegun, placed_left_line, placed_left_lines, last_bytes, last_status}
-use Rattle.vino_top.specs.Run.{Place, first_on, script_lines, lines_run, pieces_run, outcome_at, AppendsPart, IsFirst, HasEnded, Feeds, StopsAt, stop_status, Reached, Ran, CutsLast, Broke, Lacked}
+use Rattle.vino_top.specs.Run.{Place, first_on, script_lines, lines_run, pieces_run, outcome_at, AppendsPart, IsFirst, HasEnded, Feeds, StopsAt, stop_status, Reached, Ran, Broke, Lacked}
 use Rattle.vino_top.specs.declared.run.Stop.{Stop}
 use Rattle.vino_top.specs.declared.run.Stop.TheVariants.{SinkFailed, NoMemory}
 use Rattle.vino_top.proofs.LineLemmas.{script_more}

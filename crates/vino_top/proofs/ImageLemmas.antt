@@ -12,13 +12,13 @@ use Rattle.placed_laws.specs.Placed.{Placed}
 use Rattle.placed_laws.specs.Stands as kernels
 use Rattle.kernel_model.specs.Images.{LoadFault, load}
 use Rattle.kernel_model.specs.Kernel as abstract
-use Rattle.kernel_model.specs.Script.{Loads}
+use Rattle.kernel_model.specs.Script.{Entry, Loads, parsed_line}
 use Rattle.kernel_model.specs.Session.{add_image, image_added, image_answer, after_image, after_entry, running_in}
 use Rattle.kernel_model.specs.Text.{line}
 use Rattle.vino_top.specs.Built.{present_build}
 use Rattle.vino_top.specs.Loading.{image_of, load_text}
 use Rattle.vino_top.specs.Standing.{Seen, caller_of}
-use Rattle.vino_top.specs.Run.{Place, Left, Says, Comes, RunsEntry}
+use Rattle.vino_top.specs.Run.{Place, Left, Says, Comes, LoadsFree, WantsAt, RunsEntry}
 use Rattle.vino_top.specs.Bounds.{IsSessionWithin}
 use Rattle.vino_top.specs.declared.session.Session.{Session as CodeSession}
 use Rattle.kernel_state.specs.Stores.{Seeing}
@@ -94,6 +94,27 @@ pub record ImageAnswers (slot : ℕ) (r : Result Image LoadFault) (k : abstract.
 -- a slot of a kernel in place has an image where that of the abstract one has
 pub same_slot : (x : Placed) (k : abstract.Kernel) (slot : ℕ) (b : Bool) → kernels.StandsFor plain x k → is_some (x.images slot) ≡ b → is_some (k.images slot) ≡ b
 same_slot x k slot b stands h = ap (λ (t : ImageTable). is_some (t slot)) (sym stands.images) ∙ h
+
+-- a slot that is free has no image
+no_image : (old : Option Image) → is_some old ≡ false → old ≡ None
+no_image None h = refl
+no_image (Some i) h = up_is_down h
+
+-- a line that loads an image into a slot that is free, once it is counted, wants memory
+pub wants_free : (s : Seen) (text : List ℕ) (e : Entry) → s.refused ≡ false → parsed_line s.booted text ≡ Ok e →
+    LoadsFree (record s { lines = s.lines + 1 }) e → WantsAt s text
+wants_free s text e going is loads = λ told a stands.
+    let has = stands.booted loads.booted in
+    record {
+      going = stands.refused ∙ going;
+      kernel = has.kernel;
+      runs = has.is;
+      slot = loads.slot;
+      bytes = loads.bytes;
+      says = ap (λ b. parsed_line b text) (sym loads.booted) ∙ is ∙ ap (λ (x : Entry). Ok x) loads.is;
+      in_range = loads.in_range;
+      free = no_image (has.kernel.images loads.slot) (same_slot s.placed has.kernel loads.slot false has.stands loads.free);
+    }
 
 -- a session goes on by an image line
 pub image_runs : (c : Place) (s t : Seen) (slot : ℕ) (bytes : List ℕ) (y : Placed) (answer : List ℕ) (out : Left) (d : DiskSeen) →

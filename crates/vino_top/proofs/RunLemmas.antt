@@ -13,7 +13,7 @@ use Rattle.kernel_model.specs.World.{Blocks}
 use Rattle.kernel_model.specs.Session.{Session}
 use Rattle.kernel_model.specs.Outcome.{lines_after, rest_after, ends_line, ended_line}
 use Rattle.disk_log.specs.Seen.{DiskSeen}
-use Rattle.vino_top.specs.Run.{Place, line_run, lines_run, pieces_run, Uses, UsesAll, MadeAll, AppendsPart, Left, Comes, RunsLine, IsImageLine, Feeds, StopsAt, TakesLine}
+use Rattle.vino_top.specs.Run.{Place, line_run, lines_run, pieces_run, Uses, UsesAll, MadeAll, AppendsPart, Left, Comes, RunsLine, WantsAt, Feeds, StopsAt, TakesLine}
 use Rattle.vino_top.specs.Standing.{Seen, StandsFor}
 use Rattle.vino_top.specs.declared.run.Stop.{Stop}
 use Rattle.vino_top.specs.declared.run.Stop.TheVariants.{SinkFailed, NoMemory}
@@ -232,14 +232,13 @@ stops_later c s t l m xs second third g h k d e f NoMemory p q =
       next = q.next;
       later = q.later ++ third;
       order = order_later first q.done q.later third q.next second q.order;
-      image = q.image;
       ios = p.ios ++ q.ios;
       one_each = omega (arith, length-append p.ios q.ios, length-append first q.done, p.one_each, q.one_each);
       calls = all_made_joined d e f p.ios q.ios p.calls q.calls;
       used = λ a from.
           uses-append c a first q.done p.ios q.ios p.one_each (p.used a from) (q.used (lines_run c a first p.ios) (p.stands a from));
-      going = λ a from.
-          rw (after-append c a first q.done p.ios q.ios p.one_each) (q.going (lines_run c a first p.ios) (p.stands a from));
+      wants = λ a from.
+          rw (after-append c a first q.done p.ios q.ios p.one_each) (q.wants (lines_run c a first p.ios) (p.stands a from));
       appended = λ a from.
           let b = lines_run c a first p.ios in
           rw (pieces-append c a first q.done p.ios q.ios p.one_each, concat-append (pieces_run c a first p.ios) (pieces_run c b q.done q.ios))
@@ -295,12 +294,11 @@ stops_from c from less lines g h d e NoMemory into p =
       next = p.next;
       later = p.later;
       order = p.order;
-      image = p.image;
       ios = p.ios;
       one_each = p.one_each;
       calls = p.calls;
       used = λ a h. p.used a (into a h);
-      going = λ a h. p.going a (into a h);
+      wants = λ a h. p.wants a (into a h);
       appended = λ a h. p.appended a (into a h);
       blocks = λ a h. p.blocks a (into a h);
     }
@@ -334,20 +332,19 @@ line_written c text s t out g h d e (Err stop) runs lines p =
     })
 
 -- there was no memory for a line
-pub line_lacks : (c : Place) (text : List ℕ) (s : Seen) (g : Option (List ℕ)) (d e : DiskSeen) → e ≡ d → IsImageLine text → s.refused ≡ false →
+pub line_lacks : (c : Place) (text : List ℕ) (s : Seen) (g : Option (List ℕ)) (d e : DiskSeen) → e ≡ d → WantsAt s text →
     StopsAt c (StandsFor s d.told) (text ∷ []) g g d e NoMemory
-line_lacks c text s g d e same image going =
+line_lacks c text s g d e same wants =
     rw same (record {
       done = [];
       next = text;
       later = [];
       order = refl;
-      image = image;
       ios = [];
       one_each = refl;
       calls = all_made_none d;
       used = λ a from. tt;
-      going = λ a from. from.refused ∙ going;
+      wants = λ a from. wants d.told a from;
       appended = λ a from. Appends-nil g;
       blocks = λ a from. from.blocks;
     })

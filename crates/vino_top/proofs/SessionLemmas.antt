@@ -1,12 +1,11 @@
 -- What the lines and the entries of a session make of it.
-use Rattle.std.proofs.Common.{length, codes, decimal, is_some, Result, Ok, Err, ◌≡◌, ℕ, suc, ◌+◌, ◌++◌, ◌∙◌, true, false, Bool, List, [], ◌∷◌, Some, None, Option, arith, refl, sym, ap, subst, add-one}
+use Rattle.std.proofs.Common.{length, codes, decimal, is_some, Result, Ok, Err, ◌≡◌, ℕ, suc, ◌+◌, ◌++◌, ◌∙◌, true, false, Bool, List, [], ◌∷◌, Some, Option, arith, refl, sym, ap, subst, add-one}
 use Rattle.std.specs.Prelude.{OnOk, slice_index_or, replicate, zero, nat_lt, ◌<◌}
 use Rattle.std.proofs.lemmas.Bool.Decides.{nat_tests}
 use Rattle.std.proofs.Math.Path.{fun_ext}
 use Rattle.kernel_model.specs.declared.TheConstants.{LAST_CALLABLE}
 use Rattle.kernel_model.specs.declared.Event.{Event}
 use Rattle.kernel_model.specs.declared.Note.{Note}
-use Rattle.disk_log.specs.Calls.{Tells}
 use Rattle.disk_log.specs.Joined.{made_none}
 use Rattle.disk_log.specs.Seen.{DiskSeen}
 use Rattle.kernel_model.specs.Directory.{directory_of, usable_count}
@@ -17,7 +16,7 @@ use Rattle.script_text.specs.declared.parse.ScriptFault.{ScriptFault as TextFaul
 use Rattle.script_text.specs.declared.parse.ScriptFault.TheVariants as text
 use Rattle.script_text.specs.Answers.{Refuses}
 use Rattle.kernel_model.specs.Kernel as abstract
-use Rattle.kernel_model.specs.Session.{Session, Setup, first_setup, Written, world_of, with_patience, after_parse, after_entry, after_event, running_in, refuses_line, says, silent}
+use Rattle.kernel_model.specs.Session.{Session, Setup, first_setup, Written, world_of, with_patience, after_parse, after_entry, after_event, running_in, says, silent}
 use Rattle.kernel_model.specs.Events.{event}
 use Rattle.kernel_model.specs.RawRows.{raw_rows}
 use Rattle.kernel_model.specs.Pieces.{plain}
@@ -26,7 +25,6 @@ use Rattle.kernel_model.specs.declared.Note.TheVariants.{Refused}
 use Rattle.kernel_model.specs.declared.Refusal.TheVariants.{DiskFault}
 use Rattle.kernel_model.specs.Text.{line, spaced, boot_text, note_text, note_lines, row_lines}
 use Rattle.kernel_model.specs.Opening.{opening_kernel}
-use Rattle.kernel_model.specs.World.{Blocks}
 use Rattle.kernel_state.specs.Stores.{world_for}
 use Rattle.placed_laws.specs.Agreeing.{SameShown}
 use Rattle.placed_laws.specs.Placed.{Placed}
@@ -346,31 +344,19 @@ record RefusedAs (code : ℕ) (said : Result Entry ScriptFault) : Type 0 where
   is : said ≡ Err fault
   number : fault_number fault ≡ code
 
--- a code, or 0
-abbrev code_or : Option ℕ → ℕ
-code_or None = 0
-code_or (Some code) = code
-
--- how many codes there are
-abbrev count_of : Option ℕ → ℕ
-count_of None = 0
-count_of (Some code) = 1
-
-refused_as : (fault : TextFault) (code : ℕ) (said : Result Entry ScriptFault) → code_seen fault ≡ Some code → Refuses fault said → RefusedAs code said
-refused_as text.BadWord code said h r = record { fault = script_is.BadWord; is = r; number = ap code_or h }
-refused_as text.BadNumber code said h r = record { fault = script_is.BadNumber; is = r; number = ap code_or h }
-refused_as text.WrongPlace code said h r = record { fault = script_is.WrongPlace; is = r; number = ap code_or h }
-refused_as text.UnknownCommand code said h r = record { fault = script_is.UnknownCommand; is = r; number = ap code_or h }
-refused_as text.NoMemory code said h r =
-    let none : ℕ = 0 in let one : ℕ = 1 in let there : none ≡ one = ap count_of h in absurd (omega (arith, there))
+refused_as : (fault : TextFault) (said : Result Entry ScriptFault) → Refuses fault said → RefusedAs (code_seen fault) said
+refused_as text.BadWord said r = record { fault = script_is.BadWord; is = r; number = refl }
+refused_as text.BadNumber said r = record { fault = script_is.BadNumber; is = r; number = refl }
+refused_as text.WrongPlace said r = record { fault = script_is.WrongPlace; is = r; number = refl }
+refused_as text.UnknownCommand said r = record { fault = script_is.UnknownCommand; is = r; number = refl }
 
 -- a line is refused with this code
 pub line_refused_as : (c : Place) (s t : Seen) (text : List ℕ) (out : Left) (fault : TextFault) (code : ℕ) (d : DiskSeen) → s.refused ≡ false →
-    code_seen fault ≡ Some code → Refuses fault (parsed_line s.booted text) → t ≡ record s { lines = s.lines + 1; refused = true } →
+    code ≡ code_seen fault → Refuses fault (parsed_line s.booted text) → t ≡ record s { lines = s.lines + 1; refused = true } →
     Says out (line (codes "script" ++ spaced (s.lines + 1) ++ codes " S" ++ decimal code)) → RunsLine c text s t d d out
 line_refused_as c s t text out fault code d going seen refuses state written =
-    let r = refused_as fault code (parsed_line s.booted text) seen refuses in
-    line_refused c s t text out r.fault d going r.is state (rw r.number written)
+    let r = refused_as fault (parsed_line s.booted text) refuses in
+    line_refused c s t text out r.fault d going r.is state (rw (r.number, ← seen) written)
 
 -- what is written of a boot whose read failed
 pub fault_line : line (note_text (Refused 0 DiskFault)) ≡ line (codes "0 E16")

@@ -9,7 +9,7 @@ use Rattle.demo_text.specs.declared.tally.Tally.{Tally}
 use Rattle.demo_text.specs.Tallies.{IsTally}
 use Rattle.vino_top.specs.Built.{present_build}
 use Rattle.vino_top.specs.Standing.{Seen, StandsFor}
-use Rattle.vino_top.specs.Run.{Place, place, lines_run, UsesAll, MadeAll, Whenever, IsFirst, IsImageLine, Left, Comes}
+use Rattle.vino_top.specs.Run.{Place, place, lines_run, UsesAll, MadeAll, Whenever, IsFirst, WantsMemory, WantsAt, Left, Comes}
 
 -- what all these lines make of a session, and what they write
 abbrev pub all_run : Place → Session → List (List ℕ) → List (List Bool) → Written
@@ -62,10 +62,10 @@ pub record DemoLacked (n size : ℕ) (d e : DiskSeen) : Type 0 where
   pub next : List ℕ
   pub later : List (List ℕ)
   pub order : demo_lines n ≡ done ++ next ∷ later
-  pub image : IsImageLine next
   pub ios : List (List Bool)
   pub one_each : length ios ≡ length done
   pub calls : MadeAll d e ios
+  pub wants : Whenever (demo_place size) (IsFirst size d.told) (λ c a. WantsMemory (lines_run c a done ios) next)
   pub used : Whenever (demo_place size) (IsFirst size d.told) (λ c a. UsesAll c a done ios)
   pub blocks : Whenever (demo_place size) (IsFirst size d.told) (λ c a. Tells e.told (lines_run c a done ios).blocks)
 
@@ -101,7 +101,7 @@ pub record DemoStops (c : Place) (all : List (List ℕ)) (s : Seen) (d e : DiskS
   pub next : List ℕ
   pub later : List (List ℕ)
   pub order : all ≡ done ++ next ∷ later
-  pub image : IsImageLine next
   pub t : Seen
+  pub wants : WantsAt t next
   pub out : Left
   pub ran : RanLines c done s t d e out

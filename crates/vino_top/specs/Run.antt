@@ -1,25 +1,20 @@
 -- What a call of `vino` does to its source, its sink and its disk.
-use Rattle.std.specs.Prelude.{◌≡◌, ◌≢◌, ℕ, ◌+◌, ◌<◌, ◌≤◌, ◌⊎◌, ⊤, Bool, true, false, List, [], ◌∷◌, ◌++◌, length, take, flat_map, Option, codes}
+use Rattle.std.specs.Prelude.{◌≡◌, ℕ, ◌+◌, ◌<◌, ◌≤◌, ◌⊎◌, ⊤, Bool, true, false, List, [], ◌∷◌, ◌++◌, length, take, flat_map, Option, Some, None, is_some, Ok, codes}
 use Rattle.std.specs.List.{concat}
-use Rattle.std.specs.Io.KnownBytes.{Appends, Consumes, IsAtEnd, Keeps}
+use Rattle.std.specs.Io.KnownBytes.{Appends, Consumes, IsAtEnd}
 use Rattle.vino_base.specs.Faults.{Rose}
 use Rattle.disk_log.specs.Calls.{Tells, Made}
 use Rattle.disk_log.specs.Seen.{DiskSeen}
 use Rattle.kernel_model.specs.declared.Note.{Note}
 use Rattle.kernel_model.specs.World.{Blocks}
-use Rattle.kernel_model.specs.Script.{words_of, first_word}
 use Rattle.kernel_model.specs.Session.{Session, Written, first_session, after_line, after_entry, session_after, pieces_of, first_io, later_io}
-use Rattle.kernel_model.specs.Script.{Entry}
+use Rattle.kernel_model.specs.Kernel.{Kernel}
+use Rattle.kernel_model.specs.Script.{Entry, Loads, parsed_line}
 use Rattle.kernel_model.specs.Outcome.{SCRIPT_BYTES, Ending, End, Fault, Over, Outcome, outcome, written, lines_after, rest_after}
-use Rattle.kernel_model.specs.Text.{line, usage_text, boot_text}
+use Rattle.kernel_model.specs.Text.{boot_text}
 use Rattle.kernel_core.specs.declared.kernel.BootNote.{BootNote}
 use Rattle.kernel_core.specs.declared.kernel.BootNote.TheVariants.{Up}
 use Rattle.kernel_core.specs.declared.kernel.BootNote.TheVariants as boot_is
-use Rattle.kernel_model.specs.Filters.{Filter}
-use Rattle.kernel_model.specs.Filters as filter
-use Rattle.filters.specs.Filtered as filtered
-use Rattle.vino_top.specs.declared.words.Asked.{Asked}
-use Rattle.vino_top.specs.declared.words.Asked.TheVariants.{Run, Box, Check, Asm, Dis, Nothing}
 use Rattle.vino_top.specs.Built.{present_build}
 use Rattle.vino_top.specs.Standing.{Seen, StandsFor}
 use Rattle.vino_top.specs.declared.session.Buffers.{Buffers}
@@ -130,9 +125,30 @@ abbrev pub boot_line : BootNote → List ℕ
 boot_line (Up frames size files) = boot_text frames size files
 boot_line boot_is.Fault = codes "0 E16"
 
--- a line is an `image` line, which alone wants memory
-abbrev pub IsImageLine : List ℕ → Type 0
-IsImageLine text = first_word (words_of text) ≡ codes "image"
+-- The entry loads an image into a slot that is in range and free. Only such an entry wants memory.
+pub record LoadsFree (s : Seen) (e : Entry) : Type 0 where
+  pub booted : s.booted ≡ true
+  pub slot : ℕ
+  pub bytes : List ℕ
+  pub is : e ≡ Loads slot bytes
+  pub in_range : slot < 32
+  pub free : is_some (s.placed.images slot) ≡ false
+
+-- The line is run, its words are right, and its image goes to a slot that is in range and free. Only such a line wants
+-- memory.
+pub record WantsMemory (a : Session) (text : List ℕ) : Type 0 where
+  pub going : a.refused ≡ false
+  pub kernel : Kernel
+  pub runs : a.kernel ≡ Some kernel
+  pub slot : ℕ
+  pub bytes : List ℕ
+  pub says : parsed_line true text ≡ Ok (Loads slot bytes)
+  pub in_range : slot < 32
+  pub free : kernel.images slot ≡ None
+
+-- so it is in whichever session this one stands for
+abbrev pub WantsAt : Seen → List ℕ → Type 0
+WantsAt s text = (told : Option (List (List ℕ))) (a : Session) → StandsFor s told a → WantsMemory a text
 
 -- from whichever of these sessions
 abbrev pub Whenever : Place → (Session → Type 0) → (Place → Session → Type 0) → Type 0
@@ -168,18 +184,17 @@ pub record CutsShort (c : Place) (from : Session → Type 0) (lines : List (List
   pub appended : Whenever c from (λ c a. Appends got got_new (concat (pieces_run c a done ios) ++ part))
   pub blocks : Whenever c from (λ c a. Tells e.told (line_run c (lines_run c a done ios) next io).session.blocks)
 
--- Of these lines some were run. For the bytes of the next one, an `image` line, there was no memory.
+-- Of these lines some were run. For the image of the next one there was no memory.
 pub record Lacks (c : Place) (from : Session → Type 0) (lines : List (List ℕ)) (got got_new : Option (List ℕ)) (d e : DiskSeen) : Type 0 where
   pub done : List (List ℕ)
   pub next : List ℕ
   pub later : List (List ℕ)
   pub order : lines ≡ done ++ next ∷ later
-  pub image : IsImageLine next
   pub ios : List (List Bool)
   pub one_each : length ios ≡ length done
   pub calls : MadeAll d e ios
   pub used : Whenever c from (λ c a. UsesAll c a done ios)
-  pub going : Whenever c from (λ c a. (lines_run c a done ios).refused ≡ false)
+  pub wants : Whenever c from (λ c a. WantsMemory (lines_run c a done ios) next)
   pub appended : Whenever c from (λ c a. Appends got got_new (concat (pieces_run c a done ios)))
   pub blocks : Whenever c from (λ c a. Tells e.told (lines_run c a done ios).blocks)
 

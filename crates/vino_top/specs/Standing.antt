@@ -9,7 +9,7 @@ use Rattle.kernel_model.specs.Session as script
 use Rattle.kernel_model.specs.Sound.{IsAtRest}
 use Rattle.kernel_model.specs.Text.{line, left_text}
 use Rattle.script_text.specs.declared.parse.ScriptFault.{ScriptFault}
-use Rattle.script_text.specs.declared.parse.ScriptFault.TheVariants.{BadWord, BadNumber, WrongPlace, UnknownCommand, NoMemory}
+use Rattle.script_text.specs.declared.parse.ScriptFault.TheVariants.{BadWord, BadNumber, WrongPlace, UnknownCommand}
 use Rattle.call_pieces.specs.declared.Work.{Work}
 use Rattle.call_pieces.specs.Works.{stage_of}
 use Rattle.kernel_state.specs.declared.Setup.{Setup}
@@ -99,10 +99,9 @@ abbrev pub last_status : List ℕ → ℕ
 last_status [] = 0
 last_status (byte ∷ bytes) = 2
 
--- the S code of a refusal, or nothing where memory was wanted
-abbrev pub code_seen : ScriptFault → Option ℕ
-code_seen BadWord = Some 1
-code_seen BadNumber = Some 2
-code_seen WrongPlace = Some 4
-code_seen UnknownCommand = Some 5
-code_seen NoMemory = None
+-- the S code of a refusal
+abbrev pub code_seen : ScriptFault → ℕ
+code_seen BadWord = 1
+code_seen BadNumber = 2
+code_seen WrongPlace = 4
+code_seen UnknownCommand = 5

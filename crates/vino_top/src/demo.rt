@@ -10,7 +10,7 @@ ghost use Rattle.demo_text.specs.Tallies.{IsTally};
 ghost use Rattle.graft_points.specs.Shelf.{IsShelf, pol_of, first_choice};
 ghost use Rattle.vino_top.specs.Bounds.{IsSessionWithin};
 ghost use Rattle.vino_top.specs.Standing.{seen_of, IsBegun, last_bytes};
-ghost use Rattle.vino_top.specs.Run.{AppendsPart, IsImageLine, Left};
+ghost use Rattle.vino_top.specs.Run.{AppendsPart, WantsAt, Left};
 ghost use Rattle.vino_top.specs.Demos.{demo_place, HasRoom, DemoRan, DemoLacked, DemoTakes, DemoReached, DemoStops};
 
 use crate::output::write_all;
@@ -68,7 +68,7 @@ fn run_one<D: Disk>(
         (seen_of (λ b. seen (b.vtable, b.value)) run.new.session)
         (disk_seen (D.blocks disk.old) (D.plan disk.old) (D.faults disk.old))
         (disk_seen (D.blocks disk.new) (D.plan disk.new) (D.faults disk.new)) run.old.tally run.new.tally) }
-    ensures err { OnErr result (IsImageLine text.now) }
+    ensures err { OnErr result (WantsAt (seen_of (λ b. seen (b.vtable, b.value)) run.old.session) text.now) }
     ensures same_disk { OnErr result (disk_seen (D.blocks disk.new) (D.plan disk.new) (D.faults disk.new)
         ≡ disk_seen (D.blocks disk.old) (D.plan disk.old) (D.faults disk.old)) }
 {

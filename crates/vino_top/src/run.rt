@@ -29,7 +29,7 @@ const SCRIPT_BYTES: usize = 16_777_216;
 pub enum Stop {
     /// The sink failed.
     SinkFailed,
-    /// There was no memory for an `image` line.
+    /// There was no memory for the image of a line.
     NoMemory,
 }
 

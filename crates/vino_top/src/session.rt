@@ -9,10 +9,9 @@ ghost use Rattle.kernel_model.specs.Script.{Happens, Boot, Loads, Raw, Unfinishe
 ghost use Rattle.kernel_model.specs.Session.{fault_text};
 ghost use Rattle.script_text.specs.Answers.{entry_seen, SetsWithin};
 ghost use Rattle.vino_top.specs.Bounds.{IsSessionWithin};
-ghost use Rattle.vino_top.specs.Built.{is_load};
 ghost use Rattle.graft_points.specs.Shelf.{IsShelf, pol_of, first_choice};
 ghost use Rattle.vino_top.specs.Standing.{seen_of, IsBegun, last_bytes, code_seen};
-ghost use Rattle.vino_top.specs.Run.{Place, place, IsImageLine, RunsLine, RunsEntry, boot_line, left_in};
+ghost use Rattle.vino_top.specs.Run.{Place, place, LoadsFree, WantsAt, RunsLine, RunsEntry, boot_line, left_in};
 
 use crate::lines::Lines;
 use crate::loading::load_image;
@@ -25,7 +24,7 @@ use line_text::{Text, print_boot, print_fault, print_note};
 use placed_laws::agreeing;
 use plain_rules::PlainRules;
 use ram_space::Ram;
-use script_text::{Entry, ScriptFault, parse_line};
+use script_text::{Entry, ImageBytes, ScriptFault, parse_line};
 use std::alloc::Global;
 use vino_base::Disk;
 
@@ -110,7 +109,7 @@ impl Session {
     /// Runs the next line, under the key of the images and over a disk of so many blocks. What it writes stands in the
     /// buffers.
     ///
-    /// Memory is wanted for the image of an `image` line alone; where there is none, nothing changes.
+    /// Memory is wanted for an image whose slot is in range and free, and for nothing else; where there is none, nothing changes.
     pub fn run_line<D: Disk>(
         &mut self,
         alloc: Global,
@@ -128,20 +127,17 @@ impl Session {
         ensures counted { self.new.lines ≤ self.old.lines + 1 }
         ensures same_size { D.block_count disk.new ≡ size }
         ensures ok { OnOk result (RunsLine (place key.now size) text.now (seen_of (λ b. seen (b.vtable, b.value)) self.old) (seen_of (λ b. seen (b.vtable, b.value)) self.new) (disk_seen (D.blocks disk.old) (D.plan disk.old) (D.faults disk.old)) (disk_seen (D.blocks disk.new) (D.plan disk.new) (D.faults disk.new)) (left_in out.new)) }
-        ensures err { OnErr result ((self.new ≡ self.old) × IsImageLine text.now × (self.old.refused ≡ false)) }
+        ensures err { OnErr result ((self.new ≡ self.old) × WantsAt (seen_of (λ b. seen (b.vtable, b.value)) self.old) text.now) }
         ensures same_disk { OnErr result (disk_seen (D.blocks disk.new) (D.plan disk.new) (D.faults disk.new) ≡ disk_seen (D.blocks disk.old) (D.plan disk.old) (D.faults disk.old)) }
     {
         out.clear();
         if self.refused {
             return Ok(());
         }
-        match parse_line(alloc, text, self.booted) {
+        match parse_line(text, self.booted) {
             Err(fault) => {
-                let Some(code) = fault_code(fault) else {
-                    return Err(NoMemory);
-                };
                 self.lines += 1;
-                self.refuse(code, out);
+                self.refuse(fault_code(fault), out);
             }
             Ok(entry) => {
                 self.lines += 1;
@@ -204,7 +200,7 @@ impl Session {
         ensures counted { self.new.lines ≡ self.old.lines }
         ensures same_size { D.block_count disk.new ≡ size }
         ensures runs { OnOk result (RunsEntry (place key.now size) (entry_seen entry.now) (seen_of (λ b. seen (b.vtable, b.value)) self.old) (seen_of (λ b. seen (b.vtable, b.value)) self.new) (disk_seen (D.blocks disk.old) (D.plan disk.old) (D.faults disk.old)) (disk_seen (D.blocks disk.new) (D.plan disk.new) (D.faults disk.new)) (left_in out.new)) }
-        ensures err { OnErr result ((self.new ≡ self.old) × (is_load (entry_seen entry.now) ≡ true)) }
+        ensures err { OnErr result ((self.new ≡ self.old) × LoadsFree (seen_of (λ b. seen (b.vtable, b.value)) self.old) (entry_seen entry.now)) }
         ensures same_disk { OnErr result (disk_seen (D.blocks disk.new) (D.plan disk.new) (D.faults disk.new) ≡ disk_seen (D.blocks disk.old) (D.plan disk.old) (D.faults disk.old)) }
     {
         match entry {
@@ -229,7 +225,7 @@ impl Session {
                 self.happen(event, size, disk, out);
                 Ok(())
             }
-            Entry::Image(slot, bytes) => self.image(alloc, key, *slot, bytes.as_slice(), out),
+            Entry::Image(slot, bytes) => self.image(alloc, key, *slot, bytes, out),
             Entry::Raw => {
                 self.raw(out);
                 Ok(())
@@ -256,13 +252,13 @@ impl Session {
     }
 
     /// The line of an image, as an event: the bytes are loaded under the key into a slot that is free. Where there is no
-    /// memory for the image, nothing changes.
+    /// memory for them or for the image, nothing changes.
     fn image(
         &mut self,
         alloc: Global,
         key: &[u8; 32],
         slot: u32,
-        bytes: &[u8],
+        bytes: &ImageBytes,
         out: &mut Buffers,
     ) -> Result<(), NoMemory>
         requires room { self.old.lines < 2 ^ 32 - 1 }
@@ -273,7 +269,7 @@ impl Session {
         ensures within { (size : ℕ) → IsSessionWithin (λ b. seen (b.vtable, b.value)) size self.old → IsSessionWithin (λ b. seen (b.vtable, b.value)) size self.new }
         ensures counted { self.new.lines ≡ self.old.lines }
         ensures runs { OnOk result ((size : ℕ) (d : DiskSeen) → RunsEntry (place key.now size) (Loads slot bytes.now) (seen_of (λ b. seen (b.vtable, b.value)) self.old) (seen_of (λ b. seen (b.vtable, b.value)) self.new) d d (left_in out.new)) }
-        ensures err { OnErr result (self.new ≡ self.old) }
+        ensures err { OnErr result ((self.new ≡ self.old) × LoadsFree (seen_of (λ b. seen (b.vtable, b.value)) self.old) (Loads slot bytes.now)) }
     {
         if !self.booted {
             return Ok(());
@@ -289,7 +285,8 @@ impl Session {
             self.answer_image(out);
             return Ok(());
         }
-        match load_image(alloc, key, bytes, n, &mut out.text)? {
+        let sealed = bytes.decode(alloc)?;
+        match load_image(alloc, key, sealed.as_slice(), n, &mut out.text)? {
             None => {
                 self.answer_image(out);
                 Ok(())
@@ -390,15 +387,14 @@ fn set_patience(patience: &mut [u32], kind: u8, ticks: u32)
     patience[kind as usize] = ticks;
 }
 
-/// The S code of a refusal, or nothing where memory was wanted.
-fn fault_code(fault: ScriptFault) -> Option<u8>
+/// The S code of a refusal.
+fn fault_code(fault: ScriptFault) -> u8
     ensures { result ≡ code_seen fault }
 {
     match fault {
-        ScriptFault::BadWord => Some(1),
-        ScriptFault::BadNumber => Some(2),
-        ScriptFault::WrongPlace => Some(4),
-        ScriptFault::UnknownCommand => Some(5),
-        ScriptFault::NoMemory => None,
+        ScriptFault::BadWord => 1,
+        ScriptFault::BadNumber => 2,
+        ScriptFault::WrongPlace => 4,
+        ScriptFault::UnknownCommand => 5,
     }
 }

@@ -1,7 +1,7 @@
-use Rattle.std.proofs.Common.{◌∙◌, sym, ap, Some, arith, subst}
+use Rattle.std.proofs.Common.{◌∙◌, sym, arith, subst}
 use Rattle.std.proofs.lemmas.Bool.Decides.{nat_tests}
 use Rattle.script_text.specs.Answers.{Answers}
-use Rattle.script_text.proofs.Lines.{parsed-first, first_word-of, named-image}
+use Rattle.script_text.proofs.Lines.{parsed-first}
 use Rattle.script_text.proofs.parse.parse_line.Goals as goal
 
 pub returns-in_default-clause-answer : goal.returns-in_default-clause-answer
@@ -30,8 +30,3 @@ returns-in-Said-clause-answer c =
     parsed-first c.args.booted _ _ _ c.requires (sym c.is_blank_line.ensures ∙ c.if-is_blank_line.false)
     c.word_end-end.ensures.value (sym c.named.ensures ∙ c.in-Some.is) in
     subst (Answers c.entry_said.result) (sym said) (grind (arith, nat_tests, c.entry_said.ensures.answer))
-
-pub returns-in-Said-clause-memory : goal.returns-in-Said-clause-memory
-returns-in-Said-clause-memory c = λ want.
-    first_word-of _ _ c.word_end-end.ensures.value
-    ∙ named-image _ (sym c.named.ensures ∙ c.in-Some.is ∙ ap (λ x. Some x) (c.entry_said.ensures.memory want))

@@ -1,5 +1,4 @@
 -- Line after line goes on, until there is no memory for one, or none is left.
-use Rattle.std.proofs.Common.{arith}
 use Rattle.vino_top.proofs.DemoLemmas.{demo_begins, demo_goes_on, demo_stops, has_room, one_of_few}
 use Rattle.vino_top.proofs.demo.run_all.Goals as goal
 

@@ -1,5 +1,4 @@
 -- The line went on, and what it left behind is tallied.
-use Rattle.disk_log.specs.Seen.{disk_seen}
 use Rattle.vino_top.specs.Run.{left_in}
 use Rattle.vino_top.specs.Standing.{seen_of}
 use Rattle.vino_top.specs.Demos.{demo_place}

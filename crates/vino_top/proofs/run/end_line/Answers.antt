@@ -6,7 +6,7 @@ use Rattle.vino_top.proofs.run.end_line.Goals as goal
 
 pub returns-in-Err-clause-contents : goal.returns-in-Err-clause-contents
 returns-in-Err-clause-contents g c =
-    line_lacks (place c.args.key.now c.args.size) c.args.reader.now.line (seen_of (λ b. (goal.Policy-dyn g (b.vtable, b.value)).seen b.value) c.args.reader.now.session) _ _ _ c.in-Err.ensures.same_disk (rw c.line.ensures.value at c.in-Err.ensures.err.1) c.in-Err.ensures.err.2
+    line_lacks (place c.args.key.now c.args.size) c.args.reader.now.line (seen_of (λ b. (goal.Policy-dyn g (b.vtable, b.value)).seen b.value) c.args.reader.now.session) _ _ _ c.in-Err.ensures.same_disk (rw c.line.ensures.value at c.in-Err.ensures.err.1)
 
 pub returns-clause-contents : goal.returns-clause-contents
 returns-clause-contents g c =

@@ -1,5 +1,5 @@
 -- The line of an image: before `boot`; a slot above the last; one that has an image; bytes that are refused; and an image.
-use Rattle.std.proofs.Common.{arith, refl, sym, ap, codes, true, false, ◌∙◌}
+use Rattle.std.proofs.Common.{◌≡◌, arith, refl, sym, ap, codes, true, false, ◌∙◌}
 use Rattle.kernel_model.specs.Images.{load}
 use Rattle.kernel_model.specs.Script.{Loads}
 use Rattle.kernel_model.specs.Session.{add_image}
@@ -51,31 +51,33 @@ returns-then-has_image-clause-runs g c = λ size d.
 
 pub returns-in-None-clause-runs : goal.returns-in-None-clause-runs
 returns-in-None-clause-runs g c = λ size d.
+    let same : c.as_slice.result.now ≡ c.args.bytes.now = c.as_slice.ensures.value ∙ c.in_ok-sealed.ensures in
     let x = placed_of (λ b. (goal.Policy-dyn g (b.vtable, b.value)).seen b.value) stage_of c.args.self.now.kernel.running in
     image_runs (place c.args.key.now size) (seen_of (λ b. (goal.Policy-dyn g (b.vtable, b.value)).seen b.value) c.args.self.now) (seen_of (λ b. (goal.Policy-dyn g (b.vtable, b.value)).seen b.value) c.answer_image-in-None.new.self) c.args.slot c.args.bytes.now x (load_text (load c.args.key.now c.args.bytes.now)) _ d
     c.if-not-self.false (ap (λ s. seen_of (λ b. (goal.Policy-dyn g (b.vtable, b.value)).seen b.value) s) c.answer_image-in-None.ensures.state)
     (λ k stands rests. record {
       kernel = k;
-      is = answers_refused c.args.slot (load c.args.key.now c.args.bytes.now) k (omega (arith, c.if-slot-gt-LAST_SLOT.false)) (same_slot x k c.args.slot false stands (sym c.has_image.ensures ∙ c.if-has_image.false)) (sym c.in-None.is ∙ c.in_ok-load_image.ensures.image);
+      is = answers_refused c.args.slot (load c.args.key.now c.args.bytes.now) k (omega (arith, c.if-slot-gt-LAST_SLOT.false)) (same_slot x k c.args.slot false stands (sym c.has_image.ensures ∙ c.if-has_image.false)) (sym c.in-None.is ∙ (rw same at c.in_ok-load_image.ensures.image));
       stands = stands;
       rests = rests;
     })
-    (record { bytes_are = c.answer_image-in-None.ensures.text ∙ c.in_ok-load_image.ensures.text; no_notes = c.answer_image-in-None.ensures.notes ∙ c.requires.no_notes })
+    (record { bytes_are = c.answer_image-in-None.ensures.text ∙ (rw same at c.in_ok-load_image.ensures.text); no_notes = c.answer_image-in-None.ensures.notes ∙ c.requires.no_notes })
 
-pub returns-in-Some-clause-runs : goal.returns-in-Some-clause-runs
-returns-in-Some-clause-runs g c = λ size d.
+pub returns-clause-runs : goal.returns-clause-runs
+returns-clause-runs g c = λ size d.
+    let same : c.as_slice.result.now ≡ c.args.bytes.now = c.as_slice.ensures.value ∙ c.in_ok-sealed.ensures in
     let x = placed_of (λ b. (goal.Policy-dyn g (b.vtable, b.value)).seen b.value) stage_of c.args.self.now.kernel.running in
     image_runs (place c.args.key.now size) (seen_of (λ b. (goal.Policy-dyn g (b.vtable, b.value)).seen b.value) c.args.self.now) (seen_of (λ b. (goal.Policy-dyn g (b.vtable, b.value)).seen b.value) c.answer_image-in-Some.new.self) c.args.slot c.args.bytes.now (placed_of (λ b. (goal.Policy-dyn g (b.vtable, b.value)).seen b.value) stage_of c.add_image.new.self.running) (load_text (load c.args.key.now c.args.bytes.now)) _ d
     c.if-not-self.false (ap (λ s. seen_of (λ b. (goal.Policy-dyn g (b.vtable, b.value)).seen b.value) s) c.answer_image-in-Some.ensures.state)
     (λ k stands rests. record {
       kernel = add_image c.args.slot c.in-Some.image k;
-      is = answers_loaded c.args.slot (load c.args.key.now c.args.bytes.now) c.in-Some.image k (omega (arith, c.if-slot-gt-LAST_SLOT.false)) (same_slot x k c.args.slot false stands (sym c.has_image.ensures ∙ c.if-has_image.false)) (sym c.in-Some.is ∙ c.in_ok-load_image.ensures.image);
+      is = answers_loaded c.args.slot (load c.args.key.now c.args.bytes.now) c.in-Some.image k (omega (arith, c.if-slot-gt-LAST_SLOT.false)) (same_slot x k c.args.slot false stands (sym c.has_image.ensures ∙ c.if-has_image.false)) (sym c.in-Some.is ∙ (rw same at c.in_ok-load_image.ensures.image));
       stands = c.add_image.ensures.stands k stands;
       rests = c.add_image.ensures.rests k stands rests;
     })
-    (record { bytes_are = c.answer_image-in-Some.ensures.text ∙ c.in_ok-load_image.ensures.text; no_notes = c.answer_image-in-Some.ensures.notes ∙ c.requires.no_notes })
+    (record { bytes_are = c.answer_image-in-Some.ensures.text ∙ (rw same at c.in_ok-load_image.ensures.text); no_notes = c.answer_image-in-Some.ensures.notes ∙ c.requires.no_notes })
 
-pub returns-in-Some-clause-within : goal.returns-in-Some-clause-within
-returns-in-Some-clause-within g c = λ size within.
+pub returns-clause-within : goal.returns-clause-within
+returns-clause-within g c = λ size within.
     one_later (λ b. (goal.Policy-dyn g (b.vtable, b.value)).seen b.value) size c.args.self.now c.answer_image-in-Some.new.self (record c.args.self.now { kernel = c.add_image.new.self }) c.if-not-self.false (omega (arith, c.requires.fresh)) c.answer_image-in-Some.ensures.state c.add_image.ensures.store
     (record { running = c.add_image.ensures.running; stood = c.add_image.ensures.stood; clock = omega (arith, c.add_image.ensures.clock, (within.kernel c.if-not-self.false).clock) }) within

@@ -1,5 +1,5 @@
 -- Each entry has its law; a boot, events, images and the rows have functions of their own.
-use Rattle.std.proofs.Common.{refl, ◌∙◌}
+use Rattle.std.proofs.Common.{refl}
 use Rattle.disk_log.specs.Seen.{disk_seen}
 use Rattle.vino_top.specs.Run.{place}
 use Rattle.vino_top.specs.Standing.{seen_of}
@@ -32,7 +32,7 @@ pub returns-in-Image-clause-within : goal.returns-in-Image-clause-within
 returns-in-Image-clause-within g c = c.image.ensures.within c.args.size c.requires.within
 
 pub returns-in-Image-clause-runs : goal.returns-in-Image-clause-runs
-returns-in-Image-clause-runs g c = rw c.in-Image.is (on_ok c.image.result (λ runs. rw c.as_slice.ensures at (runs c.args.size (disk_seen (g.D.Disk.blocks c.args.disk.now) (g.D.Disk.plan c.args.disk.now) (g.D.Disk.faults c.args.disk.now)))) c.image.ensures.runs)
+returns-in-Image-clause-runs g c = rw c.in-Image.is (on_ok c.image.result (λ runs. (runs c.args.size (disk_seen (g.D.Disk.blocks c.args.disk.now) (g.D.Disk.plan c.args.disk.now) (g.D.Disk.faults c.args.disk.now)))) c.image.ensures.runs)
 
 pub returns-in-Raw-clause-within : goal.returns-in-Raw-clause-within
 returns-in-Raw-clause-within g c = c.raw.ensures.within c.args.size c.requires.within
