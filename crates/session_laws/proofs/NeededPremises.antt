@@ -1,12 +1,14 @@
 -- Premises of the laws that can't be left out: for each the smallest example in which the law would be false.
-use Rattle.std.specs.Prelude.{◌≡◌, ℕ, ◌==◌, cond, List, [], ◌∷◌, Some, None, false}
-use Rattle.std.proofs.Common.{refl}
+use Rattle.std.specs.Prelude.{◌≡◌, ℕ, ◌≤◌, ◌==◌, cond, List, [], ◌∷◌, Option, Some, None, false}
+use Rattle.std.proofs.Common.{arith, refl}
 use Rattle.kernel_model.specs.World.{World}
 use Rattle.kernel_model.specs.Objects.{Accounts}
 use Rattle.kernel_model.specs.Locks.{untouched}
 use Rattle.kernel_model.specs.Levels.{Level, Config}
 use Rattle.kernel_model.specs.GraftStep.{micro}
-use Rattle.kernel_model.specs.Opening.{opening_things}
+use Rattle.kernel_model.specs.Kernel.{Kernel}
+use Rattle.kernel_model.specs.Opening.{opening_things, opening_kernel}
+use Rattle.kernel_model.specs.Session.{Session, first_setup, session_after, whole}
 
 -- a world of the least size
 abbrev small_world : World
@@ -48,3 +50,30 @@ innermost_count (l ∷ ls) = l.count
 -- a level that is beyond its limit stays so
 beyond_stays : innermost_count (micro small_world (λ slot. None) 0 beyond_limit).config.levels ≡ 2
 beyond_stays = refl
+
+-- ---- the clock
+
+-- a session that begins with a kernel whose clock isn't 0
+abbrev late_session : Session
+late_session =
+    record {
+      setup = first_setup;
+      kernel = Some (record (opening_kernel small_world) { clock = 1 });
+      blocks = λ b. [];
+      lines = 0;
+      events = 0;
+      refused = false;
+    }
+
+-- the clock of a kernel, if there is one
+abbrev clock_in : Option Kernel → ℕ
+clock_in None = 0
+clock_in (Some k) = k.clock
+
+-- one is not within none
+not_within : 1 ≤ 0 → ⊥
+not_within h = omega arith
+
+-- from another session than the first the clock may be beyond the events
+late_is_beyond : clock_in (session_after whole [] 1 late_session [] []).kernel ≤ (session_after whole [] 1 late_session [] []).events → ⊥
+late_is_beyond h = not_within h
