@@ -34,19 +34,24 @@ left : (x c n : ℕ) → x ≡ c → c ≤ n → x ≤ suc n
 left x c n e h = omega arith
 
 -- an event raises the clock by at most one
-event_clock : (m : Meaning) (k : Kernel) (blocks : Blocks) (number n : ℕ) (e : Event) (io : List Bool) → k.clock ≤ n →
+event_clock : (m : Meaning) (k : Kernel) (blocks : Blocks) (number n : ℕ) (e : Event) (io : List Bool) →
+    k.clock ≤ n →
     (event m k blocks number e io).kernel.clock ≤ suc n
-event_clock m k blocks number n Tick io h = raised (event m k blocks number Tick io).kernel.clock k.clock n (ticks_raise_the_clock m k blocks number io) h
+event_clock m k blocks number n Tick io h =
+    raised (event m k blocks number Tick io).kernel.clock k.clock n (ticks_raise_the_clock m k blocks number io) h
   where
     raised : (x c n : ℕ) → x ≡ suc c → c ≤ n → x ≤ suc n
     raised x c n e h = omega arith
 event_clock m k blocks number n (Step p count) io h =
-    left (event m k blocks number (Step p count) io).kernel.clock k.clock n (others_leave_the_clock m k blocks number (Step p count) io refl) h
+    left (event m k blocks number (Step p count) io).kernel.clock k.clock n
+    (others_leave_the_clock m k blocks number (Step p count) io refl) h
 event_clock m k blocks number n (Sys p call) io h =
-    left (event m k blocks number (Sys p call) io).kernel.clock k.clock n (others_leave_the_clock m k blocks number (Sys p call) io refl) h
+    left (event m k blocks number (Sys p call) io).kernel.clock k.clock n
+    (others_leave_the_clock m k blocks number (Sys p call) io refl) h
 
 -- an image line leaves the clock
-pub image_clock : (slot : ℕ) (x : Result Image LoadFault) (k : Kernel) → (image_answer slot x k).0.clock ≡ k.clock
+pub image_clock : (slot : ℕ) (x : Result Image LoadFault) (k : Kernel) →
+    (image_answer slot x k).0.clock ≡ k.clock
 image_clock slot x k = by_slot (nat_lt 31 slot)
   where
     by_image : (x : Result Image LoadFault) → (image_added slot x k).0.clock ≡ k.clock
@@ -61,17 +66,20 @@ image_clock slot x k = by_slot (nat_lt 31 slot)
     by_slot : (high : Bool) →
         (elim high as (λ _. Kernel × List ℕ) [
           | true ↦ (k, codes "E8")
-          | false ↦ elim (k.images slot) as (λ _. Kernel × List ℕ) [ Some i ↦ (k, codes "E10") | None ↦ image_added slot x k ]
+          | false ↦ elim (k.images slot) as
+              (λ _. Kernel × List ℕ) [ Some i ↦ (k, codes "E10") | None ↦ image_added slot x k ]
         ]).0.clock ≡ k.clock
     by_slot true = refl
     by_slot false = by_free (k.images slot)
 
 module _ (b : Build) (key : List ℕ) (size : ℕ) where
   -- a kernel after an entry that isn't set-up
-  running_within : (s : Session) (e : Entry) (x : Option Kernel) (io : List Bool) → IsWithin s → WithinEvents s.events x →
+  running_within : (s : Session) (e : Entry) (x : Option Kernel) (io : List Bool) → IsWithin s →
+      WithinEvents s.events x →
       IsWithin (running_in b key size s e x io).session
   running_within s e None io h within = h
-  running_within s (Happens e) (Some k) io h within = event_clock b.meaning k s.blocks (suc s.events) s.events e io within
+  running_within s (Happens e) (Some k) io h within =
+      event_clock b.meaning k s.blocks (suc s.events) s.events e io within
   running_within s (Loads slot bytes) (Some k) io h within =
       subst (λ n. n ≤ suc s.events) (sym (image_clock slot (load key bytes) k)) (one_more s.events (Some k) within)
   running_within s Raw (Some k) io h within = one_more s.events s.kernel h
@@ -92,12 +100,14 @@ module _ (b : Build) (key : List ℕ) (size : ℕ) where
 
       by_fault : (failed : Bool) → IsWithin (elim failed as (λ _. Written) [
         | true ↦ booted s (world_of s.setup size b.callable []) (codes "0 E16") (drop 1 io)
-        | false ↦ booted s (world_of s.setup size b.callable rows) (boot_text s.setup.frames size (usable_count rows)) (drop 1 io)
+        | false ↦ booted s (world_of s.setup size b.callable rows)
+            (boot_text s.setup.frames size (usable_count rows)) (drop 1 io)
       ]).session
       by_fault true = at_zero
       by_fault false = at_zero
 
-  entry_within : (s : Session) (e : Entry) (io : List Bool) → IsWithin s → IsWithin (after_entry b key size s e io).session
+  entry_within : (s : Session) (e : Entry) (io : List Bool) → IsWithin s →
+      IsWithin (after_entry b key size s e io).session
   entry_within s Blank io h = h
   entry_within s (Frames n) io h = h
   entry_within s (Patience kind ticks) io h = h
@@ -107,11 +117,13 @@ module _ (b : Build) (key : List ℕ) (size : ℕ) where
   entry_within s (Loads slot bytes) io h = running_within s (Loads slot bytes) s.kernel io h h
   entry_within s Raw io h = running_within s Raw s.kernel io h h
 
-  parse_within : (s : Session) (x : Result Entry ScriptFault) (io : List Bool) → IsWithin s → IsWithin (after_parse b key size s x io).session
+  parse_within : (s : Session) (x : Result Entry ScriptFault) (io : List Bool) → IsWithin s →
+      IsWithin (after_parse b key size s x io).session
   parse_within s (Err fault) io h = h
   parse_within s (Ok e) io h = entry_within s e io h
 
-  line_within : (s : Session) (text : List ℕ) (io : List Bool) → IsWithin s → IsWithin (after_line b key size s text io).session
+  line_within : (s : Session) (text : List ℕ) (io : List Bool) → IsWithin s →
+      IsWithin (after_line b key size s text io).session
   line_within s text io h = by_refused s.refused
     where
       next : Session
@@ -124,10 +136,12 @@ module _ (b : Build) (key : List ℕ) (size : ℕ) where
       by_refused true = h
       by_refused false = parse_within next (parsed_line (is_some s.kernel) text) io h
 
-  lines_within : (s : Session) (texts : List (List ℕ)) (ios : List (List Bool)) → IsWithin s → IsWithin (session_after b key size s texts ios)
+  lines_within : (s : Session) (texts : List (List ℕ)) (ios : List (List Bool)) → IsWithin s →
+      IsWithin (session_after b key size s texts ios)
   lines_within s [] ios h = h
   lines_within s (text ∷ texts) ios h =
-      lines_within (after_line b key size s text (first_io ios)).session texts (later_io ios) (line_within s text (first_io ios) h)
+      lines_within (after_line b key size s text (first_io ios)).session texts (later_io ios)
+      (line_within s text (first_io ios) h)
 
 pub clock_within_events : ClockWithinEvents
 clock_within_events b key d texts ios k is =

@@ -82,7 +82,8 @@ touch_fits o a [] h = tt
 touch_fits o a (l ∷ []) h = h
 touch_fits o a (l ∷ k ∷ ls) h = (h.0, touch_fits o a (k ∷ ls) h.1)
 
-pub answer_fits : (pt r0 r1 : ℕ) (a : Accounts) (ls : List Level) → AllFit a ls → AllFit a (answer_innermost pt r0 r1 ls)
+pub answer_fits : (pt r0 r1 : ℕ) (a : Accounts) (ls : List Level) → AllFit a ls →
+    AllFit a (answer_innermost pt r0 r1 ls)
 answer_fits pt r0 r1 a [] h = tt
 answer_fits pt r0 r1 a (l ∷ ls) h = h
 
@@ -93,77 +94,97 @@ abbrev OutcomeFits : Outcome → Type 0
 OutcomeFits o = AllFit o.config.now.accounts o.config.levels
 
 module _ (v : World) (images : ImageTable) (p : ℕ) where
-  drop_fits : (w : Objects) (l : Level) (ls : List Level) (cause : Cause) → AllFit w.accounts (l ∷ ls) → OutcomeFits (drop_innermost v w l ls cause)
+  drop_fits : (w : Objects) (l : Level) (ls : List Level) (cause : Cause) → AllFit w.accounts (l ∷ ls) →
+      OutcomeFits (drop_innermost v w l ls cause)
   drop_fits w l ls cause h =
       let d = default_of v l.kept l.owner l.point in
       answer_fits l.point d.0 d.1 (removed l.owner l.point w.accounts) ls
       (all_stay w.accounts (removed l.owner l.point w.accounts) ls (remove_stays l.owner l.point w.accounts) h.1)
 
   -- a level and those outside it, where so many of a kind were charged
-  charged_fits : (k : Kind) (w : Objects) (l : Level) (ls : List Level) → AllFit w.accounts (l ∷ ls) → AllFit (charge k l.owner l.point w.accounts) (l ∷ ls)
-  charged_fits k w l ls h = all_stay w.accounts (charge k l.owner l.point w.accounts) (l ∷ ls) (charge_stays k l.owner l.point w.accounts) h
+  charged_fits : (k : Kind) (w : Objects) (l : Level) (ls : List Level) → AllFit w.accounts (l ∷ ls) →
+      AllFit (charge k l.owner l.point w.accounts) (l ∷ ls)
+  charged_fits k w l ls h =
+      all_stay w.accounts (charge k l.owner l.point w.accounts) (l ∷ ls) (charge_stays k l.owner l.point w.accounts) h
 
-  lock_fits : (w : Objects) (l : Level) (ls : List Level) (m : Machine) (id result : ℕ) (spent : Bool) → AllFit w.accounts (l ∷ ls) → OutcomeFits (lock_paid v w l ls m id result spent)
+  lock_fits : (w : Objects) (l : Level) (ls : List Level) (m : Machine) (id result : ℕ) (spent : Bool) →
+      AllFit w.accounts (l ∷ ls) → OutcomeFits (lock_paid v w l ls m id result spent)
   lock_fits w l ls m id result true h = drop_fits w l ls SpentLocks h
   lock_fits w l ls m id result false h = charged_fits Locks w l ls h
 
-  result_fits : (w : Objects) (l : Level) (ls : List Level) (m : Machine) (id result : ℕ) (due : Bool) → AllFit w.accounts (l ∷ ls) → OutcomeFits (after_result v w l ls m id result due)
+  result_fits : (w : Objects) (l : Level) (ls : List Level) (m : Machine) (id result : ℕ) (due : Bool) →
+      AllFit w.accounts (l ∷ ls) → OutcomeFits (after_result v w l ls m id result due)
   result_fits w l ls m id result true h = lock_fits w l ls m id result (funds w.accounts l.owner l.point Locks == 0) h
   result_fits w l ls m id result false h = h
 
-  change_fits : (w : Objects) (l : Level) (ls : List Level) (m : Machine) (id result : ℕ) (i : Inverse) (things : Things) (spent : Bool) → AllFit w.accounts (l ∷ ls) →
+  change_fits : (w : Objects) (l : Level) (ls : List Level) (m : Machine) (id result : ℕ) (i : Inverse)
+      (things : Things) (spent : Bool) → AllFit w.accounts (l ∷ ls) →
       OutcomeFits (after_change v w l ls m id result i things spent)
   change_fits w l ls m id result i things true h = drop_fits w l ls SpentRecords h
   change_fits w l ls m id result i things false h = charged_fits Records w l ls h
 
-  accessor_fits : (w : Objects) (l : Level) (ls : List Level) (m : Machine) (id : ℕ) (x : Access) → AllFit w.accounts (l ∷ ls) → OutcomeFits (after_accessor v w l ls m id x)
+  accessor_fits : (w : Objects) (l : Level) (ls : List Level) (m : Machine) (id : ℕ) (x : Access) →
+      AllFit w.accounts (l ∷ ls) → OutcomeFits (after_accessor v w l ls m id x)
   accessor_fits w l ls m id (Refuses cause) h = drop_fits w l ls cause h
-  accessor_fits w l ls m id (Gives result) h = result_fits w l ls m id result (is_lock_due id (l.machine.regs 0) (l ∷ ls)) h
-  accessor_fits w l ls m id (Changes result i things) h = change_fits w l ls m id result i things (is_record_spent w.accounts l ls) h
+  accessor_fits w l ls m id (Gives result) h =
+      result_fits w l ls m id result (is_lock_due id (l.machine.regs 0) (l ∷ ls)) h
+  accessor_fits w l ls m id (Changes result i things) h =
+      change_fits w l ls m id result i things (is_record_spent w.accounts l ls) h
 
-  asked_fits : (w : Objects) (q pt : ℕ) (ls : List Level) (g : Option GraftValue) → AllFit w.accounts ls → OutcomeFits (ask_answered v images w p q pt ls g)
+  asked_fits : (w : Objects) (q pt : ℕ) (ls : List Level) (g : Option GraftValue) → AllFit w.accounts ls →
+      OutcomeFits (ask_answered v images w p q pt ls g)
   asked_fits w q pt ls None h = let d = default_of v w.things q pt in answer_fits pt d.0 d.1 w.accounts ls h
   asked_fits w q pt ls (Some g) h = (none_fits (w.accounts.graft q pt), h)
 
-  ask_fits : (w : Objects) (l : Level) (ls : List Level) (m : Machine) (id pt : ℕ) (refusal : Option Cause) → AllFit w.accounts (l ∷ ls) →
+  ask_fits : (w : Objects) (l : Level) (ls : List Level) (m : Machine) (id pt : ℕ) (refusal : Option Cause) →
+      AllFit w.accounts (l ∷ ls) →
       OutcomeFits (after_ask v images w p l ls m id pt refusal)
   ask_fits w l ls m id pt (Some cause) h = drop_fits w l ls cause h
   ask_fits w l ls m id pt None h =
       let asker = with_touched (asked_objects id (l.machine.regs 0) l.owner) (with_machine m l) in
       let o = (asked_graft id (l.machine.regs 0) l.owner).object in
-      asked_fits w l.owner pt (touch_outermost o (asker ∷ ls)) (w.accounts.graft l.owner pt) (touch_fits o w.accounts (asker ∷ ls) h)
+      asked_fits w l.owner pt (touch_outermost o (asker ∷ ls)) (w.accounts.graft l.owner pt)
+      (touch_fits o w.accounts (asker ∷ ls) h)
 
-  granted_fits : (w : Objects) (l : Level) (ls : List Level) (m : Machine) (id : ℕ) (ask : Bool) → AllFit w.accounts (l ∷ ls) →
+  granted_fits : (w : Objects) (l : Level) (ls : List Level) (m : Machine) (id : ℕ) (ask : Bool) →
+      AllFit w.accounts (l ∷ ls) →
       OutcomeFits (granted_call v images w p l ls m id ask)
   granted_fits w l ls m id true h =
       let pt = asked_point id (l.machine.regs 0) in ask_fits w l ls m id pt (ask_refusal w l.owner pt id (l ∷ ls)) h
   granted_fits w l ls m id false h =
       accessor_fits w l ls m id (access id (l.machine.regs 0) (l.machine.regs 1) (l.machine.regs 2) l.owner w.things) h
 
-  call_fits : (w : Objects) (l : Level) (ls : List Level) (m : Machine) (id : ℕ) (refusal : Option Cause) → AllFit w.accounts (l ∷ ls) →
+  call_fits : (w : Objects) (l : Level) (ls : List Level) (m : Machine) (id : ℕ) (refusal : Option Cause) →
+      AllFit w.accounts (l ∷ ls) →
       OutcomeFits (after_call v images w p l ls m id refusal)
   call_fits w l ls m id (Some cause) h = drop_fits w l ls cause h
   call_fits w l ls m id None h = granted_fits w l ls m id (is_ask id) h
 
-  completed_fits : (w : Objects) (l : Level) (ls : List Level) → AllFit w.accounts (l ∷ ls) → OutcomeFits (completed w l ls)
+  completed_fits : (w : Objects) (l : Level) (ls : List Level) → AllFit w.accounts (l ∷ ls) →
+      OutcomeFits (completed w l ls)
   completed_fits w l [] h = tt
   completed_fits w l (k ∷ ls) h = h.1
 
-  return_fits : (w : Objects) (l : Level) (ls : List Level) (is_valid : Bool) → AllFit w.accounts (l ∷ ls) → OutcomeFits (after_return v w l ls is_valid)
+  return_fits : (w : Objects) (l : Level) (ls : List Level) (is_valid : Bool) → AllFit w.accounts (l ∷ ls) →
+      OutcomeFits (after_return v w l ls is_valid)
   return_fits w l ls true h = completed_fits w l ls h
   return_fits w l ls false h = drop_fits w l ls (RefusedAnswer (l.machine.regs 0) (l.machine.regs 1)) h
 
-  machine_fits : (w : Objects) (l : Level) (ls : List Level) (d : Done) → AllFit w.accounts (l ∷ ls) → OutcomeFits (after_machine v images p w l ls d)
+  machine_fits : (w : Objects) (l : Level) (ls : List Level) (d : Done) → AllFit w.accounts (l ∷ ls) →
+      OutcomeFits (after_machine v images p w l ls d)
   machine_fits w l ls (Done.Went m) h = h
-  machine_fits w l ls (Called id m) h = call_fits w l ls m id (early_refusal v.callable id (l.machine.regs 0) (l.machine.regs 1) l.owner) h
-  machine_fits w l ls Returned h = return_fits w l ls (valid w.things l.owner l.point l.args (l.machine.regs 0) (l.machine.regs 1)) h
+  machine_fits w l ls (Called id m) h =
+      call_fits w l ls m id (early_refusal v.callable id (l.machine.regs 0) (l.machine.regs 1) l.owner) h
+  machine_fits w l ls Returned h =
+      return_fits w l ls (valid w.things l.owner l.point l.args (l.machine.regs 0) (l.machine.regs 1)) h
   machine_fits w l ls Done.DividedByZero h = drop_fits w l ls Cause.DivideByZero h
   machine_fits w l ls (Trapped code) h = drop_fits w l ls (Cause.Trap code) h
   machine_fits w l ls Outside h = drop_fits w l ls Cause.DivideByZero h
   machine_fits w l ls PastEnd h = drop_fits w l ls Cause.DivideByZero h
 
   -- one more is within the limit where the count isn't at it
-  one_more : (n : ℕ) (g : Option GraftValue) (b : Bool) → (n == limit_in g || b) ≡ false → Fits n g → Fits (n + 1) g
+  one_more : (n : ℕ) (g : Option GraftValue) (b : Bool) → (n == limit_in g || b) ≡ false → Fits n g →
+      Fits (n + 1) g
   one_more n None b e h = tt
   one_more n (Some g) b e h = below (n == g.limit) b n g.limit refl e h
     where
@@ -171,7 +192,8 @@ module _ (v : World) (images : ImageTable) (p : ℕ) where
       below true b n m e f h = absurd cc
       below false b n m e f h = grind (arith, nat_tests)
 
-  step_fits : (w : Objects) (l : Level) (ls : List Level) (spent : Bool) → is_spent w.accounts l ≡ spent → AllFit w.accounts (l ∷ ls) →
+  step_fits : (w : Objects) (l : Level) (ls : List Level) (spent : Bool) → is_spent w.accounts l ≡ spent →
+      AllFit w.accounts (l ∷ ls) →
       OutcomeFits (charged_step v images p w l ls spent)
   step_fits w l ls true e h = drop_fits w l ls SpentSteps h
   step_fits w l ls false e h =
@@ -183,7 +205,8 @@ module _ (v : World) (images : ImageTable) (p : ℕ) where
       machine_fits (with_accounts (charge Steps l.owner l.point w.accounts) w) n ls
       (seg_step (code_of images w.accounts l.owner l.point) l.machine) (charged_fits Steps w n ls more)
 
-  pub micro_fits : (w : Objects) (ls : List Level) → AllFit w.accounts ls → OutcomeFits (micro_on v images p w ls)
+  pub micro_fits : (w : Objects) (ls : List Level) → AllFit w.accounts ls →
+      OutcomeFits (micro_on v images p w ls)
   micro_fits w [] h = tt
   micro_fits w (l ∷ ls) h = step_fits w l ls (is_spent w.accounts l) refl h
 
@@ -195,14 +218,18 @@ fits_graft n x g e h = subst (Fits n) e h
 
 pub counts_fit : (c : Config) → AllFit c.now.accounts c.levels → CountsFit c
 counts_fit c h l g there stands =
-    fits_graft l.count (c.now.accounts.graft l.owner l.point) g stands (each_contains (LevelFits c.now.accounts) c.levels l h there)
+    fits_graft l.count (c.now.accounts.graft l.owner l.point) g stands
+    (each_contains (LevelFits c.now.accounts) c.levels l h there)
 
 all_fit : (c : Config) → CountsFit c → AllFit c.now.accounts c.levels
-all_fit c h = each_from (LevelFits c.now.accounts) c.levels (λ l there. fits_by l.count (c.now.accounts.graft l.owner l.point) (λ g stands. h l g there stands))
+all_fit c h =
+    each_from (LevelFits c.now.accounts) c.levels
+    (λ l there. fits_by l.count (c.now.accounts.graft l.owner l.point) (λ g stands. h l g there stands))
   where
     fits_by : (n : ℕ) (x : Option GraftValue) → ((g : GraftValue) → x ≡ Some g → n ≤ g.limit) → Fits n x
     fits_by n None h = tt
     fits_by n (Some g) h = h g refl
 
 pub instructions_keep_counts : InstructionsKeepCounts
-instructions_keep_counts v images p c h = counts_fit (micro v images p c).config (micro_fits v images p c.now c.levels (all_fit c h))
+instructions_keep_counts v images p c h =
+    counts_fit (micro v images p c).config (micro_fits v images p c.now c.levels (all_fit c h))

@@ -13,7 +13,8 @@ no_entry size block = refl
 
 -- one entry more
 one_entry : (size : ℕ) (block : List ℕ) (n : ℕ) →
-    entries size block (suc n) ≡ with_entry size (entry_bytes block n) (entry_row (entry_bytes block n)) (entries size block n)
+    entries size block (suc n) ≡ with_entry size (entry_bytes block n) (entry_row (entry_bytes block n))
+    (entries size block n)
 unfolding entries
 one_entry size block n = refl
 
@@ -22,13 +23,17 @@ pub row_count : (size : ℕ) (block : List ℕ) (n : ℕ) → length (entries si
 row_count size block zero = ap length (no_entry size block)
 row_count size block (suc n) =
     let entry = entry_bytes block n in
-    let x : Option FileRow = cond (is_usable size entry (entry_row entry) (entries size block n)) (Some (entry_row entry)) None in
-    ap length (one_entry size block n) ∙ length-append (entries size block n) (x ∷ []) ∙ omega (arith, row_count size block n)
+    let x : Option FileRow = cond (is_usable size entry (entry_row entry) (entries size block n))
+    (Some (entry_row entry)) None in
+    ap length (one_entry size block n) ∙ length-append (entries size block n) (x ∷ [])
+    ∙ omega (arith, row_count size block n)
 
 -- a usable entry's file lies on the disk
-usable_lies : (size : ℕ) (entry : List ℕ) (r : FileRow) (earlier : List (Option FileRow)) → is_usable size entry r earlier ≡ true → lies_on_disk size r ≡ true
+usable_lies : (size : ℕ) (entry : List ℕ) (r : FileRow) (earlier : List (Option FileRow)) →
+    is_usable size entry r earlier ≡ true → lies_on_disk size r ≡ true
 unfolding is_usable
-usable_lies size entry r earlier h = middle (is_padded entry r) (lies_on_disk size r) (not (list_any (has_name r.name) earlier)) h
+usable_lies size entry r earlier h =
+    middle (is_padded entry r) (lies_on_disk size r) (not (list_any (has_name r.name) earlier)) h
   where
     middle : (a b c : Bool) → (a && b && c) ≡ true → b ≡ true
     middle a true c h = refl
@@ -45,9 +50,11 @@ last_row P (y ∷ xs) x old new zero r e = old zero r e
 last_row P (y ∷ xs) x old new (suc k) r e = last_row P xs x (λ j q f. old (suc j) q f) new k r e
 
 -- the files of the rows lie on the disk
-pub rows_lie : (size : ℕ) (block : List ℕ) (n k : ℕ) (r : FileRow) → slice_index_or (entries size block n) k None ≡ Some r → lies_on_disk size r ≡ true
+pub rows_lie : (size : ℕ) (block : List ℕ) (n k : ℕ) (r : FileRow) →
+    slice_index_or (entries size block n) k None ≡ Some r → lies_on_disk size r ≡ true
 rows_lie size block zero k r e =
-    absurd (none_some k r (subst (λ (rows : List (Option FileRow)). slice_index_or rows k None ≡ Some r) (no_entry size block) e))
+    absurd (none_some k r
+    (subst (λ (rows : List (Option FileRow)). slice_index_or rows k None ≡ Some r) (no_entry size block) e))
   where
     none_some : (k : ℕ) (r : FileRow) → slice_index_or [] k None ≡ Some r → ⊥
     none_some k r e = cc
@@ -55,11 +62,13 @@ rows_lie size block (suc n) k r e =
     let entry = entry_bytes block n in
     let row = entry_row entry in
     let earlier = entries size block n in
-    last_row (λ (q : FileRow). lies_on_disk size q ≡ true) earlier (cond (is_usable size entry row earlier) (Some row) None) (rows_lie size block n)
+    last_row (λ (q : FileRow). lies_on_disk size q ≡ true) earlier
+    (cond (is_usable size entry row earlier) (Some row) None) (rows_lie size block n)
     (λ q f. by_use (is_usable size entry row earlier) row q (λ used. usable_lies size entry row earlier used) f) k r
     (subst (λ (rows : List (Option FileRow)). slice_index_or rows k None ≡ Some r) (one_entry size block n) e)
   where
-    by_use : (used : Bool) (x q : FileRow) → (used ≡ true → lies_on_disk size x ≡ true) → cond used (Some x) None ≡ Some q → lies_on_disk size q ≡ true
+    by_use : (used : Bool) (x q : FileRow) → (used ≡ true → lies_on_disk size x ≡ true) →
+        cond used (Some x) None ≡ Some q → lies_on_disk size q ≡ true
     by_use true x q h f = subst (λ (y : FileRow). lies_on_disk size y ≡ true) (is_it x q f) (h refl)
       where
         is_it : (x q : FileRow) → Some x ≡ Some q → x ≡ q

@@ -40,7 +40,11 @@ counted_level pt n =
 
 -- a level at its limit, asked by one beyond its own
 abbrev beyond_limit : Config
-beyond_limit = record { now = record { accounts = limited; things = opening_things }; levels = counted_level 5 1 ∷ counted_level 6 2 ∷ [] }
+beyond_limit =
+    record {
+      now = record { accounts = limited; things = opening_things };
+      levels = counted_level 5 1 ∷ counted_level 6 2 ∷ [];
+    }
 
 -- the count of the innermost level
 abbrev innermost_count : List Level → ℕ
@@ -75,5 +79,6 @@ not_within : 1 ≤ 0 → ⊥
 not_within h = omega arith
 
 -- from another session than the first the clock may be beyond the events
-late_is_beyond : clock_in (session_after whole [] 1 late_session [] []).kernel ≤ (session_after whole [] 1 late_session [] []).events → ⊥
+late_is_beyond : clock_in (session_after whole [] 1 late_session [] []).kernel ≤
+    (session_after whole [] 1 late_session [] []).events → ⊥
 late_is_beyond h = not_within h

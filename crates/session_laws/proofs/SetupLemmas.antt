@@ -19,7 +19,8 @@ abbrev pub SaysRight : (booted : Bool) → Result Entry ScriptFault → Type 0
 SaysRight booted (Err fault) = ⊤
 SaysRight booted (Ok e) = IsRight booted e
 
-frames_right : (booted : Bool) (n : ℕ) (b : Bool) → (nat_le 2 n && nat_le n 64) ≡ b → SaysRight booted (cond b (Ok (Frames n)) (Err BadNumber))
+frames_right : (booted : Bool) (n : ℕ) (b : Bool) → (nat_le 2 n && nat_le n 64) ≡ b →
+    SaysRight booted (cond b (Ok (Frames n)) (Err BadNumber))
 frames_right booted n true e = (least n e, most n e)
   where
     least : (n : ℕ) → (nat_le 2 n && nat_le n 64) ≡ true → 2 ≤ n
@@ -29,7 +30,8 @@ frames_right booted n true e = (least n e, most n e)
     most n e = grind (arith, nat_tests)
 frames_right booted n false e = tt
 
-patience_right : (booted : Bool) (kind ticks : ℕ) (b : Bool) → SaysRight booted (cond b (Ok (Patience kind ticks)) (Err BadNumber))
+patience_right : (booted : Bool) (kind ticks : ℕ) (b : Bool) →
+    SaysRight booted (cond b (Ok (Patience kind ticks)) (Err BadNumber))
 patience_right booted kind ticks true = tt
 patience_right booted kind ticks false = tt
 
@@ -45,10 +47,13 @@ boot_right : (booted : Bool) → same_bool true booted ≡ false → booted ≡ 
 boot_right true e = absurd cc
 boot_right false e = refl
 
-said_right : (booted : Bool) (c : Command) (said : List ℕ × List ℕ) → same_bool (is_setup c) booted ≡ false → SaysRight booted (entry_of c said.0 said.1)
-said_right booted Command.Frames said e = let n = slice_index said.0 0 in frames_right booted n (nat_le 2 n && nat_le n 64) refl
+said_right : (booted : Bool) (c : Command) (said : List ℕ × List ℕ) → same_bool (is_setup c) booted ≡ false →
+    SaysRight booted (entry_of c said.0 said.1)
+said_right booted Command.Frames said e =
+    let n = slice_index said.0 0 in frames_right booted n (nat_le 2 n && nat_le n 64) refl
 said_right booted Command.Patience said e =
-    let ticks = slice_index said.0 1 in patience_right booted (slice_index said.0 0) ticks (nat_le 1 ticks && nat_le ticks 1000)
+    let ticks = slice_index said.0 1 in patience_right booted (slice_index said.0 0) ticks
+    (nat_le 1 ticks && nat_le ticks 1000)
 said_right booted Command.Grant said e = tt
 said_right booted Command.Boot said e = boot_right booted e
 said_right booted Command.Tick said e = tt
@@ -57,16 +62,22 @@ said_right booted Command.Raw said e = tt
 said_right booted Command.Image said e = loads_right booted (slice_index said.0 0) (hex_word IMAGE_DIGITS said.1)
 said_right booted (Call name) said e = happens_right booted (slice_index said.0 0) (call_of name said.0 said.1)
 
-entry_right : (booted : Bool) (c : Command) (x : Result (List ℕ × List ℕ) ScriptFault) → same_bool (is_setup c) booted ≡ false → SaysRight booted (entry_by c x)
+entry_right : (booted : Bool) (c : Command) (x : Result (List ℕ × List ℕ) ScriptFault) →
+    same_bool (is_setup c) booted ≡ false → SaysRight booted (entry_by c x)
 entry_right booted c (Err fault) e = tt
 entry_right booted c (Ok said) e = said_right booted c said e
 
-words_right : (booted : Bool) (words : List (List ℕ)) (c : Option Command) → SaysRight booted (entry_at booted words c)
+words_right : (booted : Bool) (words : List (List ℕ)) (c : Option Command) →
+    SaysRight booted (entry_at booted words c)
 words_right booted words None = tt
 words_right booted words (Some c) = by_place (same_bool (is_setup c) booted) refl
   where
     by_place : (b : Bool) → same_bool (is_setup c) booted ≡ b →
-        SaysRight booted (elim b as (λ _. Result Entry ScriptFault) [ true ↦ Err ScriptFault.WrongPlace | false ↦ entry_by c (words_said [] [] (forms_of c) words) ])
+        SaysRight booted
+        (elim b as (λ _. Result Entry ScriptFault) [
+          | true ↦ Err ScriptFault.WrongPlace
+          | false ↦ entry_by c (words_said [] [] (forms_of c) words)
+        ])
     by_place true e = tt
     by_place false e = entry_right booted c (words_said [] [] (forms_of c) words) e
 
@@ -76,13 +87,21 @@ line_right booted text = by_length (nat_lt LINE_BYTES (length text))
     words : List (List ℕ)
     words = words_of text
 
-    by_words : (b : Bool) → SaysRight booted (elim b as (λ _. Result Entry ScriptFault) [ true ↦ Ok Blank | false ↦ entry_at booted (other_words words) (command_named (first_word words)) ])
+    by_words : (b : Bool) →
+        SaysRight booted
+        (elim b as (λ _. Result Entry ScriptFault) [
+          | true ↦ Ok Blank
+          | false ↦ entry_at booted (other_words words) (command_named (first_word words))
+        ])
     by_words true = tt
     by_words false = words_right booted (other_words words) (command_named (first_word words))
 
     by_length : (b : Bool) → SaysRight booted (elim b as (λ _. Result Entry ScriptFault) [
       | true ↦ Err ScriptFault.TooLong
-      | false ↦ elim (is_blank text) as (λ _. Result Entry ScriptFault) [ true ↦ Ok Blank | false ↦ entry_at booted (other_words words) (command_named (first_word words)) ]
+      | false ↦ elim (is_blank text) as (λ _. Result Entry ScriptFault) [
+        | true ↦ Ok Blank
+        | false ↦ entry_at booted (other_words words) (command_named (first_word words))
+      ]
     ])
     by_length true = tt
     by_length false = by_words (is_blank text)

@@ -35,8 +35,10 @@ event_counts m k blocks number Tick io = ticks_raise_the_clock m k blocks number
   where
     one_and : (n : ℕ) → suc n ≡ 1 + n
     one_and n = omega arith
-event_counts m k blocks number (Step p count) io = others_leave_the_clock m k blocks number (Step p count) io refl ∙ none_more k.clock
-event_counts m k blocks number (Sys p call) io = others_leave_the_clock m k blocks number (Sys p call) io refl ∙ none_more k.clock
+event_counts m k blocks number (Step p count) io =
+    others_leave_the_clock m k blocks number (Step p count) io refl ∙ none_more k.clock
+event_counts m k blocks number (Sys p call) io =
+    others_leave_the_clock m k blocks number (Sys p call) io refl ∙ none_more k.clock
 
 -- an event that doesn't happen raises nothing
 none_counts : (e : Event) → 0 ≡ once_if (is_tick e && false) + 0
@@ -55,7 +57,8 @@ module _ (b : Build) (key : List ℕ) (size : ℕ) where
   happens_counts s e None io is = ap clock_in is ∙ none_counts e
   happens_counts s e (Some k) io is = event_counts b.meaning k s.blocks (suc s.events) e io
 
-  loads_counts : (s : Session) (slot : ℕ) (bytes : List ℕ) (x : Option Kernel) (io : List Bool) → s.kernel ≡ x →
+  loads_counts : (s : Session) (slot : ℕ) (bytes : List ℕ) (x : Option Kernel) (io : List Bool) →
+      s.kernel ≡ x →
       clock_in (running_in b key size s (Loads slot bytes) x io).session.kernel ≡ clock_in x
   loads_counts s slot bytes None io is = ap clock_in is
   loads_counts s slot bytes (Some k) io is = image_clock slot (load key bytes) k
@@ -76,7 +79,8 @@ module _ (b : Build) (key : List ℕ) (size : ℕ) where
 
       by_fault : (failed : Bool) → clock_in (elim failed as (λ _. Written) [
         | true ↦ booted s (world_of s.setup size b.callable []) (codes "0 E16") (drop 1 io)
-        | false ↦ booted s (world_of s.setup size b.callable rows) (boot_text s.setup.frames size (usable_count rows)) (drop 1 io)
+        | false ↦ booted s (world_of s.setup size b.callable rows)
+            (boot_text s.setup.frames size (usable_count rows)) (drop 1 io)
       ]).session.kernel ≡ 0
       by_fault true = refl
       by_fault false = refl
@@ -89,15 +93,18 @@ module _ (b : Build) (key : List ℕ) (size : ℕ) where
   entry_counts s (Grant n) io right = none_more (clock_in s.kernel)
   entry_counts s Boot io right = boot_counts s s.kernel io refl right ∙ none_more (clock_in s.kernel)
   entry_counts s (Happens e) io right = happens_counts s e s.kernel io refl
-  entry_counts s (Loads slot bytes) io right = loads_counts s slot bytes s.kernel io refl ∙ none_more (clock_in s.kernel)
+  entry_counts s (Loads slot bytes) io right =
+      loads_counts s slot bytes s.kernel io refl ∙ none_more (clock_in s.kernel)
   entry_counts s Raw io right = raw_counts s s.kernel io refl ∙ none_more (clock_in s.kernel)
 
-  parse_counts : (s : Session) (x : Result Entry ScriptFault) (io : List Bool) → SaysRight (is_some s.kernel) x →
+  parse_counts : (s : Session) (x : Result Entry ScriptFault) (io : List Bool) →
+      SaysRight (is_some s.kernel) x →
       Counts s (after_parse b key size s x io).session (says_tick x && is_some s.kernel)
   parse_counts s (Err fault) io right = none_more (clock_in s.kernel)
   parse_counts s (Ok e) io right = entry_counts s e io right
 
-  line_counts : (s : Session) (text : List ℕ) (io : List Bool) → Counts s (after_line b key size s text io).session (is_tick_line s text)
+  line_counts : (s : Session) (text : List ℕ) (io : List Bool) →
+      Counts s (after_line b key size s text io).session (is_tick_line s text)
   line_counts s text io = by_refused s.refused
     where
       next : Session
@@ -108,7 +115,11 @@ module _ (b : Build) (key : List ℕ) (size : ℕ) where
             | true ↦ silent s io
             | false ↦ after_parse b key size next (parsed_line (is_some s.kernel) text) io
           ]).session
-          (elim refused as (λ _. Bool) [ true ↦ false | false ↦ says_tick (parsed_line (is_some s.kernel) text) && is_some s.kernel ])
+          (elim refused as
+          (λ _. Bool) [
+            | true ↦ false
+            | false ↦ says_tick (parsed_line (is_some s.kernel) text) && is_some s.kernel
+          ])
       by_refused true = none_more (clock_in s.kernel)
       by_refused false = parse_counts next (parsed_line (is_some s.kernel) text) io (line_right (is_some s.kernel) text)
 
@@ -117,16 +128,19 @@ module _ (b : Build) (key : List ℕ) (size : ℕ) where
   lines_count s [] ios = none_more (clock_in s.kernel)
   lines_count s (text ∷ texts) ios =
       let u = (after_line b key size s text (first_io ios)).session in
-      added (once_if (is_tick_line s text)) (tick_lines b key size u texts (later_io ios)) (clock_in s.kernel) (clock_in u.kernel)
+      added (once_if (is_tick_line s text)) (tick_lines b key size u texts (later_io ios)) (clock_in s.kernel)
+      (clock_in u.kernel)
       (clock_in (session_after b key size u texts (later_io ios)).kernel)
       (line_counts s text (first_io ios)) (lines_count u texts (later_io ios))
     where
-      added : (tick ticks before after last : ℕ) → after ≡ tick + before → last ≡ ticks + after → last ≡ tick + ticks + before
+      added : (tick ticks before after last : ℕ) → after ≡ tick + before → last ≡ ticks + after →
+          last ≡ tick + ticks + before
       added tick ticks before after last e f = omega arith
 
 pub clock_counts_ticks : ClockCountsTicks
 clock_counts_ticks b key d texts ios k is =
-    from_zero k.clock (tick_lines b key d.size (first_session d) texts ios) (sym (ap clock_in is) ∙ lines_count b key d.size (first_session d) texts ios)
+    from_zero k.clock (tick_lines b key d.size (first_session d) texts ios)
+    (sym (ap clock_in is) ∙ lines_count b key d.size (first_session d) texts ios)
   where
     from_zero : (n ticks : ℕ) → n ≡ ticks + 0 → n ≡ ticks
     from_zero n ticks e = omega arith

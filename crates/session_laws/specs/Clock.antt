@@ -20,7 +20,8 @@ says_tick (Ok e) = is_tick_entry e
 
 -- a line is run as a tick: it says one, after boot, and no line before it was refused
 abbrev pub is_tick_line : Session → List ℕ → Bool
-is_tick_line s text = elim s.refused [ true ↦ false | false ↦ says_tick (parsed_line (is_some s.kernel) text) && is_some s.kernel ]
+is_tick_line s text =
+    elim s.refused [ true ↦ false | false ↦ says_tick (parsed_line (is_some s.kernel) text) && is_some s.kernel ]
 
 -- how many of these lines are
 abbrev pub tick_lines : Build → (key : List ℕ) → (size : ℕ) → Session → List (List ℕ) → List (List Bool) → ℕ

@@ -16,7 +16,8 @@ use Rattle.session_laws.specs.Sessions.{run_of, IsRunnable}
 -- each level whose graft stands has taken at most as many instructions as that graft's limit
 abbrev pub CountsFit : Config → Type 0
 CountsFit c =
-    (l : Level) (g : GraftValue) → Contains c.levels l → c.now.accounts.graft l.owner l.point ≡ Some g → l.count ≤ g.limit
+    (l : Level) (g : GraftValue) → Contains c.levels l → c.now.accounts.graft l.owner l.point ≡ Some g →
+    l.count ≤ g.limit
 
 -- an instruction leaves it so
 abbrev pub InstructionsKeepCounts : Type 0
@@ -42,6 +43,8 @@ CallsFit m =
 -- so it is in each kernel of a run over a disk of whole blocks
 abbrev pub RunsFit : Type 0
 RunsFit =
-    (b : Build) (key : List ℕ) (d : Disk) (texts : List (List ℕ)) (ios : List (List Bool)) (k : Kernel) (p : ℕ) (c : Config) (l : Level) →
-    IsRunnable b d → (run_of b key d texts ios).kernel ≡ Some k → config_of b.meaning k p ≡ Some c → Contains c.levels l →
+    (b : Build) (key : List ℕ) (d : Disk) (texts : List (List ℕ)) (ios : List (List Bool)) (k : Kernel) (p : ℕ)
+    (c : Config) (l : Level) →
+    IsRunnable b d → (run_of b key d texts ios).kernel ≡ Some k → config_of b.meaning k p ≡ Some c →
+    Contains c.levels l →
     l.count ≤ limit_in (c.now.accounts.graft l.owner l.point)

@@ -21,6 +21,7 @@ pub record IsRunnable (b : Build) (d : Disk) : Type 0 where
 -- where a run has a kernel, that is sound, and the disk's blocks are whole
 abbrev pub RunsAreSound : Type 0
 RunsAreSound =
-    (b : Build) (key : List ℕ) (d : Disk) (texts : List (List ℕ)) (ios : List (List Bool)) (k : Kernel) → IsRunnable b d →
+    (b : Build) (key : List ℕ) (d : Disk) (texts : List (List ℕ)) (ios : List (List Bool)) (k : Kernel) →
+    IsRunnable b d →
     (run_of b key d texts ios).kernel ≡ Some k →
     IsSoundKernel b.meaning k × HasWholeBlocks k.world (run_of b key d texts ios).blocks

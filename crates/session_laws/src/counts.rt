@@ -1,6 +1,7 @@
 //! Laws of how many instructions a level takes. A call of one brings its statement into a proof.
 
-ghost use Rattle.session_laws.specs.Counts.{InstructionsKeepCounts, HistoriesKeepCounts, CallsKeepCounts, CallsFit, RunsFit};
+ghost use Rattle.session_laws.specs.Counts.{InstructionsKeepCounts, HistoriesKeepCounts, CallsKeepCounts};
+ghost use Rattle.session_laws.specs.Counts.{CallsFit, RunsFit};
 
 use kernel_model::Rules;
 
