@@ -1,0 +1,27 @@
+-- Whole runs: sessions over a disk, from the first on.
+use Rattle.std.specs.Prelude.{◌≡◌, ℕ, ◌<◌, ◌≤◌, Bool, List, length, Some}
+use Rattle.kernel_model.specs.Directory.{Disk}
+use Rattle.kernel_model.specs.Kernel.{Kernel}
+use Rattle.kernel_model.specs.Laws.{Laws}
+use Rattle.kernel_model.specs.Session.{Build, Session, first_session, session_after}
+use Rattle.kernel_model.specs.Sound.{IsSoundKernel, HasWholeBlocks}
+
+-- the session over a disk after these lines, with one list for each line's calls of the disk
+abbrev pub run_of : Build → (key : List ℕ) → Disk → List (List ℕ) → List (List Bool) → Session
+run_of b key d texts ios = session_after b key d.size (first_session d) texts ios
+
+-- calls that meet the laws, ids up to 15, and a disk of 1 to 4,096 blocks of 512 bytes
+pub record IsRunnable (b : Build) (d : Disk) : Type 0 where
+  pub laws : Laws b.meaning
+  pub callable : b.callable ≤ 15
+  pub some : 1 ≤ d.size
+  pub most : d.size ≤ 4096
+  pub blocks : (i : ℕ) → i < d.size → length (d.block i) ≡ 512
+
+-- where a run has a kernel, that is sound, and the disk's blocks are whole
+abbrev pub RunsAreSound : Type 0
+RunsAreSound =
+    (b : Build) (key : List ℕ) (d : Disk) (texts : List (List ℕ)) (ios : List (List Bool)) (k : Kernel) →
+    IsRunnable b d →
+    (run_of b key d texts ios).kernel ≡ Some k →
+    IsSoundKernel b.meaning k × HasWholeBlocks k.world (run_of b key d texts ios).blocks

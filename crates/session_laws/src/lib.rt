@@ -1,0 +1,8 @@
+//! Laws of whole runs: what holds of every kernel that a script leads to, from its first line on.
+#![tactic(auto)]
+
+pub mod clock;
+pub mod counts;
+pub mod sessions;
+#[cfg(test)]
+mod tests;
