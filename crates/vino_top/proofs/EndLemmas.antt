@@ -19,7 +19,8 @@ use Rattle.disk_log.specs.Seen.{DiskSeen}
 use Rattle.kernel_model.specs.Outcome.{SCRIPT_BYTES, Ending, End, Fault, Over, Outcome, lines_after, rest_after, left_line, left_lines, at_end, at_ending, outcome_of, ends_as, ends_with, written}
 use Rattle.kernel_model.specs.Text.{line}
 use Rattle.vino_top.specs.Standing.{Seen, StandsFor, IsBegun, placed_left_line, placed_left_lines, last_bytes, last_status}
-use Rattle.vino_top.specs.Run.{Place, first_on, script_lines, lines_run, pieces_run, outcome_at, AppendsPart, IsFirst, HasEnded, Feeds, StopsAt, stop_status, Reached, Ran, Broke, Lacked}
+use Rattle.filters.specs.Filtered.{AppendsPart, HasEnded}
+use Rattle.vino_top.specs.Run.{Place, first_on, script_lines, lines_run, pieces_run, outcome_at, IsFirst, Feeds, StopsAt, stop_status, Reached, Ran, Broke, Lacked}
 use Rattle.vino_top.specs.declared.run.Stop.{Stop}
 use Rattle.vino_top.specs.declared.run.Stop.TheVariants.{SinkFailed, NoMemory}
 use Rattle.vino_top.proofs.LineLemmas.{script_more}

@@ -13,7 +13,8 @@ use Rattle.kernel_model.specs.World.{Blocks}
 use Rattle.kernel_model.specs.Session.{Session}
 use Rattle.kernel_model.specs.Outcome.{lines_after, rest_after, ends_line, ended_line}
 use Rattle.disk_log.specs.Seen.{DiskSeen}
-use Rattle.vino_top.specs.Run.{Place, line_run, lines_run, pieces_run, Uses, UsesAll, MadeAll, AppendsPart, Left, Comes, RunsLine, WantsAt, Feeds, StopsAt, TakesLine}
+use Rattle.filters.specs.Filtered.{AppendsPart}
+use Rattle.vino_top.specs.Run.{Place, line_run, lines_run, pieces_run, Uses, UsesAll, MadeAll, Left, Comes, RunsLine, WantsAt, Feeds, StopsAt, TakesLine}
 use Rattle.vino_top.specs.Standing.{Seen, StandsFor}
 use Rattle.vino_top.specs.declared.run.Stop.{Stop}
 use Rattle.vino_top.specs.declared.run.Stop.TheVariants.{SinkFailed, NoMemory}

@@ -5,10 +5,11 @@ use Rattle.disk_log.specs.Seen.{DiskSeen}
 use Rattle.kernel_model.specs.Text.{line, usage_text}
 use Rattle.kernel_model.specs.Filters.{Filter}
 use Rattle.kernel_model.specs.Filters as filter
+use Rattle.filters.specs.Filtered.{AppendsPart}
 use Rattle.filters.specs.Filtered as filtered
 use Rattle.vino_top.specs.declared.words.Asked.{Asked}
 use Rattle.vino_top.specs.declared.words.Asked.TheVariants.{Run, Box, Check, Asm, Dis, Demo, Nothing}
-use Rattle.vino_top.specs.Run.{Place, place, AppendsPart, Ran, Broke, Lacked}
+use Rattle.vino_top.specs.Run.{Place, place, Ran, Broke, Lacked}
 use Rattle.vino_top.specs.Demos.{DemoRan, DemoLacked}
 
 -- a script was run under this key, over a disk of this size

@@ -2,7 +2,7 @@
 use Rattle.std.specs.Prelude.{◌≡◌, ℕ, ◌+◌, ◌<◌, ◌≤◌, ◌⊎◌, ⊤, Bool, true, false, List, [], ◌∷◌, ◌++◌, length, take, flat_map, Option, Some, None, is_some, Ok, codes}
 use Rattle.std.specs.List.{concat}
 use Rattle.std.specs.Io.KnownBytes.{Appends, Consumes, IsAtEnd}
-use Rattle.vino_base.specs.Faults.{Rose}
+use Rattle.filters.specs.Filtered.{HasEnded}
 use Rattle.disk_log.specs.Calls.{Tells, Made}
 use Rattle.disk_log.specs.Seen.{DiskSeen}
 use Rattle.kernel_model.specs.declared.Note.{Note}
@@ -65,19 +65,11 @@ first_on size blocks = first_session (record { size = size; block = blocks })
 abbrev pub outcome_at : Place → Blocks → (taken : List ℕ) → Ending → List (List Bool) → Outcome
 outcome_at c blocks taken e ios = outcome present_build c.key taken e (record { size = c.size; block = blocks }) ios
 
--- ---- the disk and the sink
+-- ---- the disk
 
 -- from one moment to another the disk had the calls of these lists
 abbrev pub MadeAll : DiskSeen → DiskSeen → List (List Bool) → Type 0
 MadeAll d e ios = Made d.faults e.faults d.plan e.plan (flat_map (λ (io : List Bool). io) ios)
-
--- the sink took a part of these bytes, not whole
-pub record AppendsPart (old new : Option (List ℕ)) (bytes : List ℕ) : Type 0 where
-  pub part : List ℕ
-  pub more : List ℕ
-  pub whole : bytes ≡ part ++ more
-  pub lacks : 0 < length more
-  pub appended : Appends old new part
 
 -- ---- a session of the code beside the abstract one
 
@@ -225,12 +217,6 @@ pub record IsFirst (size : ℕ) (told : Option (List (List ℕ))) (a : Session) 
 -- the lines of a script, of which these bytes were taken
 abbrev pub script_lines : List ℕ → List (List ℕ)
 script_lines taken = lines_after [] (take SCRIPT_BYTES taken)
-
--- what the source did where reading ended so
-abbrev pub HasEnded : Ending → (taken : List ℕ) → Option (List ℕ) → (before now : ℕ) → Type 0
-HasEnded End taken rest_new before now = (length taken ≤ SCRIPT_BYTES) × IsAtEnd rest_new
-HasEnded Fault taken rest_new before now = (length taken ≤ SCRIPT_BYTES) × Rose before now
-HasEnded Over taken rest_new before now = length taken ≡ SCRIPT_BYTES + 1
 
 -- The source gave some bytes, at most one more than a script may have, and reading ended somehow, or stopped behind a
 -- refused line. Over the blocks that the disk told: each line makes the calls of its list, the status

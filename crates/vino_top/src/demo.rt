@@ -8,14 +8,15 @@ ghost use Rattle.kernel_model.specs.Demo.{demo_lines, summary_of};
 ghost use Rattle.kernel_model.specs.Opening.{opening_policy};
 ghost use Rattle.demo_text.specs.Tallies.{IsTally};
 ghost use Rattle.graft_points.specs.Shelf.{IsShelf, pol_of, first_choice};
+ghost use Rattle.filters.specs.Filtered.{AppendsPart};
 ghost use Rattle.vino_top.specs.Bounds.{IsSessionWithin};
 ghost use Rattle.vino_top.specs.Standing.{seen_of, IsBegun, last_bytes};
-ghost use Rattle.vino_top.specs.Run.{AppendsPart, WantsAt, Left};
+ghost use Rattle.vino_top.specs.Run.{WantsAt, Left};
 ghost use Rattle.vino_top.specs.Demos.{demo_place, HasRoom, DemoRan, DemoLacked, DemoTakes, DemoReached, DemoStops};
 
-use crate::output::write_all;
 use crate::session::{Buffers, Session};
 use demo_text::{DemoLines, Tally};
+use filters::write_all;
 use graft_points::Policy;
 use kernel_model::NoMemory;
 use line_text::Text;

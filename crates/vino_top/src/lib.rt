@@ -12,20 +12,21 @@ ghost use Rattle.graft_points.specs.Shelf.{IsShelf, pol_of, first_choice};
 ghost use Rattle.vino_top.specs.Standing.{seen_of, IsBegun};
 ghost use Rattle.vino_top.specs.Bounds.{IsSessionWithin};
 ghost use Rattle.vino_top.specs.Words.{asked_by};
-ghost use Rattle.vino_top.specs.Run.{place, AppendsPart, Ran, Broke, Lacked};
+ghost use Rattle.filters.specs.Filtered.{AppendsPart};
+ghost use Rattle.vino_top.specs.Run.{place, Ran, Broke, Lacked};
 ghost use Rattle.vino_top.specs.Does.{Does};
 ghost use Rattle.disk_log.specs.Seen.{disk_seen};
 
 mod demo;
 mod lines;
 mod loading;
-mod output;
 mod run;
 mod session;
 mod words;
 
 use crate::words::Asked;
 pub use demo_text::demo_script;
+use filters::write_all;
 use graft_points::Policy;
 use std::alloc::Global;
 use vino_base::{Disk, Sink, Source};
@@ -112,7 +113,7 @@ fn write_usage<K: Sink>(out: &mut K) -> u8
     ensures sink_failed { result ≡ 4 → Rose (K.faults out.old) (K.faults out.new) }
     ensures sink_later { K.faults out.old ≤ K.faults out.new }
 {
-    match output::write_all(out, line_text::usage()) {
+    match write_all(out, line_text::usage()) {
         Ok(()) => 1,
         Err(_) => 4,
     }
