@@ -22,7 +22,7 @@ use Rattle.kernel_model.specs.declared.Cause.TheVariants.{TimeOut}
 use Rattle.kernel_model.specs.Kernel.{joins}
 use Rattle.kernel_model.specs.Sound.{once_if, sum_below}
 use Rattle.kernel_model.specs.Alike.{SameFiles}
-use Rattle.kernel_model.specs.Laws.{Laws}
+use Rattle.kernel_model.specs.Laws.{Laws, slices_in}
 use Rattle.kernel_model.specs.Claims.{EffectsStaySound}
 use Rattle.plain_rules.specs.Ledgers.{at_here, at_other, sum_one}
 use Rattle.kernel_laws.specs.Soundness.{InstructionsWork, HistoriesWork}
@@ -40,7 +40,11 @@ pieces_left m v s call = sum_below 16 (λ p. left_of m v s p (call p))
 abbrev pub calls_left : (ℕ → Option Call) → ℕ
 calls_left call = sum_below 16 (λ p. once_if (is_some (call p)))
 
--- what a run goes on to: each call in flight still stands, and notes are paid for by pieces and calls
+-- all slices, where each call in flight counts as one
+abbrev pub slices_due : Run → ℕ
+slices_due r = slices_in r.kernel.objects.things.queue + calls_left r.kernel.call
+
+-- what a run goes on to: each call in flight still stands, pieces and calls pay for notes, and calls for slices
 pub record Goes (m : Meaning) (r u : Run) : Type 0 where
   pub stands : StandsAt m u
   pub new : List Note
@@ -48,6 +52,7 @@ pub record Goes (m : Meaning) (r u : Run) : Type 0 where
   pub data_notes : note_count is_data new + pieces_left m u.kernel.world u.kernel.objects u.kernel.call ≤ pieces_left m r.kernel.world r.kernel.objects r.kernel.call
   pub ends : note_count is_end new + calls_left u.kernel.call ≤ calls_left r.kernel.call
   pub lines : note_count is_line new ≡ 0
+  pub slices : slices_due u ≤ slices_due r
 
 -- a run goes on to itself, and on from where it went
 pub goes_self : (m : Meaning) (r : Run) → StandsAt m r → Goes m r r
@@ -59,10 +64,14 @@ goes_self m r h =
       data_notes = itself (pieces_left m r.kernel.world r.kernel.objects r.kernel.call);
       ends = itself (calls_left r.kernel.call);
       lines = refl;
+      slices = no_more (slices_due r);
     }
   where
     itself : (n : ℕ) → 0 + n ≤ n
     itself n = omega arith
+
+    no_more : (n : ℕ) → n ≤ n
+    no_more n = omega arith
 
 pub goes_then : (m : Meaning) (r u x : Run) → Goes m r u → Goes m u x → Goes m r x
 goes_then m r u x h k =
@@ -76,8 +85,12 @@ goes_then m r u x h k =
       ends = together (note_count is_end (h.new ++ k.new)) (note_count is_end h.new) (note_count is_end k.new) (calls_left x.kernel.call) (calls_left u.kernel.call)
           (calls_left r.kernel.call) (count_more is_end h.new k.new) k.ends h.ends;
       lines = none (note_count is_line (h.new ++ k.new)) (note_count is_line h.new) (note_count is_line k.new) (count_more is_line h.new k.new) h.lines k.lines;
+      slices = at_most (slices_due x) (slices_due u) (slices_due r) k.slices h.slices;
     }
   where
+    at_most : (a b c : ℕ) → a ≤ b → b ≤ c → a ≤ c
+    at_most a b c e f = omega arith
+
     together : (n a b x y z : ℕ) → n ≡ a + b → b + x ≤ y → a + y ≤ z → n + x ≤ z
     together n a b x y z e f g = omega arith
 
@@ -86,7 +99,16 @@ goes_then m r u x h k =
 
 -- the order doesn't matter
 pub goes_order : (m : Meaning) (r u : Run) (es : List Entry) → Goes m r u → Goes m r (record u { kernel = record (u.kernel) { order = es } })
-goes_order m r u es h = record { stands = h.stands; new = h.new; notes = h.notes; data_notes = h.data_notes; ends = h.ends; lines = h.lines }
+goes_order m r u es h =
+    record {
+      stands = h.stands;
+      new = h.new;
+      notes = h.notes;
+      data_notes = h.data_notes;
+      ends = h.ends;
+      lines = h.lines;
+      slices = h.slices;
+    }
 
 module _ (m : Meaning) (laws : Laws m) where
   -- ---- one move
@@ -142,8 +164,14 @@ module _ (m : Meaning) (laws : Laws m) where
             (left_of m v u.kernel.objects p (u.kernel.call p)) (left_of m v r.kernel.objects p (r.kernel.call p)) pieces k.data_notes);
         ends = paid (note_count is_end k.new) (calls_left u.kernel.call) (calls_left r.kernel.call) (once_if (is_some (u.kernel.call p))) (once_if (is_some (r.kernel.call p))) calls k.ends;
         lines = k.lines;
+        slices = fewer (slices_in u.kernel.objects.things.queue) (slices_in r.kernel.objects.things.queue)
+            (calls_left u.kernel.call) (calls_left r.kernel.call) (once_if (is_some (u.kernel.call p)))
+            (once_if (is_some (r.kernel.call p))) calls k.slices;
       }
     where
+      fewer : (s t x y a b : ℕ) → x + b ≡ y + a → s + a ≤ t + b → s + x ≤ t + y
+      fewer s t x y a b e h = omega arith
+
       paid : (n x y a b : ℕ) → x + b ≡ y + a → n + a ≤ b → n + x ≤ y
       paid n x y a b e h = omega arith
 
@@ -225,8 +253,13 @@ module _ (m : Meaning) (laws : Laws m) where
             data_notes = none_left (left_of m r.kernel.world r.kernel.objects p _) (left_of m r.kernel.world r.kernel.objects p (r.kernel.call p)) (ap (left_of m r.kernel.world r.kernel.objects p) here);
             ends = one_end (once_if (is_some _)) (once_if (is_some (r.kernel.call p))) (ap (λ x. once_if (is_some x)) here) (ap (λ x. once_if (is_some x)) e);
             lines = refl;
+            slices = ended (slices_in r.kernel.objects.things.queue) (once_if (is_some _))
+                (once_if (is_some (r.kernel.call p))) (ap (λ x. once_if (is_some x)) here);
           }
         where
+          ended : (s x n : ℕ) → x ≡ 0 → s + x ≤ s + n
+          ended s x n e = omega arith
+
           none_most : (n : ℕ) → 0 ≤ n
           none_most n = omega arith
 

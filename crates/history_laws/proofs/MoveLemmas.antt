@@ -1,9 +1,10 @@
 -- What one step of a call leaves to the others, and what notes it writes.
-use Rattle.std.specs.Prelude.{◌≡◌, ◌≢◌, ℕ, suc, ◌+◌, ◌<◌, ◌≤◌, Bool, true, false, cond, List, [], ◌∷◌, ◌++◌, Option, Some, None, is_some, ⊤}
+use Rattle.std.specs.Prelude.{◌≡◌, ◌≢◌, ℕ, suc, ◌+◌, ◌<◌, ◌≤◌, Bool, true, false, cond, map, sum, List, [], ◌∷◌, ◌++◌, Option, Some, None, is_some, ⊤}
 use Rattle.std.specs.Result.{is_ok}
 use Rattle.std.proofs.Common.{arith, refl, subst, sym, ap, ◌∙◌}
 use Rattle.std.proofs.lemmas.List.{append_assoc, append-nil}
 use Rattle.kernel_model.specs.declared.Note.{Note}
+use Rattle.kernel_model.specs.declared.QueueRow.{QueueRow}
 use Rattle.kernel_model.specs.World.{World, ImageTable, Blocks}
 use Rattle.kernel_model.specs.Objects.{Objects}
 use Rattle.kernel_model.specs.Policies.{lives}
@@ -12,8 +13,8 @@ use Rattle.kernel_model.specs.History.{Mark}
 use Rattle.kernel_model.specs.Kernel.{Call, Run, has_level, gave_note, after_note, call_after, with_marks}
 use Rattle.kernel_model.specs.Settle.{finish_on}
 use Rattle.kernel_model.specs.Sound.{IsSoundStore, FitsDisk, HasWholeBlocks, once_if}
-use Rattle.kernel_model.specs.Alike.{AreAlike, SameFiles, windowless}
-use Rattle.kernel_model.specs.Laws.{Laws, IsReady, continues}
+use Rattle.kernel_model.specs.Alike.{AreAlike, SameFiles, niceless, windowless}
+use Rattle.kernel_model.specs.Laws.{Laws, IsReady, continues, slices_in}
 use Rattle.plain_rules.specs.Ledgers.{at_here, at_other}
 use Rattle.history_laws.specs.Notes.{is_drop, is_end, is_data, is_line, note_count}
 use Rattle.kernel_laws.proofs.StepLemmas.{niceless_lives, others_files}
@@ -87,12 +88,26 @@ pub record Moves (m : Meaning) (p : ℕ) (r u : Run) : Type 0 where
   pub data_notes : note_count is_data new + left_of m r.kernel.world u.kernel.objects p (u.kernel.call p) ≤ left_of m r.kernel.world r.kernel.objects p (r.kernel.call p)
   pub ends : note_count is_end new + once_if (is_some (u.kernel.call p)) ≤ once_if (is_some (r.kernel.call p))
   pub lines : note_count is_line new ≡ 0
+  pub slices : slices_in u.kernel.objects.things.queue + once_if (is_some (u.kernel.call p))
+      ≤ slices_in r.kernel.objects.things.queue + once_if (is_some (r.kernel.call p))
 
 -- the rest of it, for a call of which so much is left
 pub record OwnMoves (m : Meaning) (v : World) (images : ImageTable) (p left : ℕ) (u : Objects) (x : Option Call) (new : List Note) : Type 0 where
   pub own : OwnAfter m v images p u x
   pub data_notes : note_count is_data new + left_of m v u p x ≤ left
   pub ends : note_count is_end new + once_if (is_some x) ≤ 1
+
+-- rows that differ in nices alone have as many slices
+niceless_slices : (xs ys : List QueueRow) → niceless xs ≡ niceless ys → slices_in xs ≡ slices_in ys
+niceless_slices xs ys e = sym (slices_niceless xs) ∙ ap slices_in e ∙ slices_niceless ys
+  where
+    same_slices : (rows : List QueueRow) →
+        map (λ (r : QueueRow). r.slices) (niceless rows) ≡ map (λ (r : QueueRow). r.slices) rows
+    same_slices [] = refl
+    same_slices (r ∷ rows) = ap (λ ns. r.slices ∷ ns) (same_slices rows)
+
+    slices_niceless : (rows : List QueueRow) → slices_in (niceless rows) ≡ slices_in rows
+    slices_niceless rows = ap sum (same_slices rows)
 
 -- a state is alike to itself
 pub alike_self : (s : Objects) → AreAlike s s
@@ -148,6 +163,8 @@ module _ (m : Meaning) (laws : Laws m) where
             (ap (left_of m v r.kernel.objects p) e) (ap (left_of m v r.kernel.objects p) here);
         ends = same_end (note_count is_end pre) (once_if (is_some (r.kernel.call p))) (once_if (is_some _)) part.ends (ap (λ x. once_if (is_some x)) e) (ap (λ x. once_if (is_some x)) here);
         lines = part.lines;
+        slices = same_slices (slices_in r.kernel.objects.things.queue) (once_if (is_some (r.kernel.call p)))
+            (once_if (is_some _)) (ap (λ x. once_if (is_some x)) e) (ap (λ x. once_if (is_some x)) here);
       }
     where
       same_left : (a n k : ℕ) → a ≡ 0 → n ≡ m.left r.kernel.world r.kernel.objects p c.stage → k ≡ m.left r.kernel.world r.kernel.objects p c.stage → a + k ≤ n
@@ -155,6 +172,9 @@ module _ (m : Meaning) (laws : Laws m) where
 
       same_end : (a n k : ℕ) → a ≡ 0 → n ≡ 1 → k ≡ 1 → a + k ≤ n
       same_end a n k z e f = omega arith
+
+      same_slices : (x n k : ℕ) → n ≡ 1 → k ≡ 1 → x + k ≤ x + n
+      same_slices x n k e f = omega arith
 
   pub stays : (p : ℕ) (c : Call) (r : Run) → StandsAt m r → r.kernel.call p ≡ Some c → Moves m p r r
   stays p c r h e =
@@ -176,8 +196,12 @@ module _ (m : Meaning) (laws : Laws m) where
         data_notes = itself (left_of m r.kernel.world r.kernel.objects p (r.kernel.call p));
         ends = itself (once_if (is_some (r.kernel.call p)));
         lines = refl;
+        slices = no_more (slices_in r.kernel.objects.things.queue + once_if (is_some (r.kernel.call p)));
       }
     where
+      no_more : (n : ℕ) → n ≤ n
+      no_more n = omega arith
+
       none_most : (n : ℕ) → 0 ≤ n
       none_most n = omega arith
 
@@ -242,6 +266,42 @@ module _ (m : Meaning) (laws : Laws m) where
                 (three_parts is_end pre (gave_note c.number q.gave) last) part.ends gave.1 refl;
           }
 
+  -- what a piece leaves of slices, where a call in flight counts as one
+  slices_after : (v : World) (images : ImageTable) (s w : Objects) (blocks : Blocks) (p : ℕ) (c : Call)
+      (answer : Option Answer) (io : List Bool) (a : After) →
+      IsReady m v images w p c.stage answer → AreAlike s w →
+      let q = m.piece v images w blocks p c.stage answer io in
+      q.after ≡ a →
+      slices_in q.objects.things.queue + once_if (is_some (call_after c a)) ≤ slices_in s.things.queue + 1
+  slices_after v images s w blocks p c answer io a ready alike e = by_after a e
+    where
+      new : ℕ
+      new = slices_in (m.piece v images w blocks p c.stage answer io).objects.things.queue
+
+      one : new ≤ slices_in w.things.queue + 1
+      one = laws.piece.one_slice v images w blocks p c.stage answer io ready
+
+      same : slices_in w.things.queue ≡ slices_in s.things.queue
+      same = sym (niceless_slices s.things.queue w.things.queue alike.queue)
+
+      ended : (x y z : ℕ) → x ≤ y + 1 → y ≡ z → x + 0 ≤ z + 1
+      ended x y z h e = omega arith
+
+      contrary : true ≡ false → ⊥
+      contrary h = cc
+
+      goes : (x y z : ℕ) → (y < x → ⊥) → y ≡ z → x + 1 ≤ z + 1
+      goes x y z never e = grind (arith, never)
+
+      by_after : (a : After) → (m.piece v images w blocks p c.stage answer io).after ≡ a →
+          new + once_if (is_some (call_after c a)) ≤ slices_in s.things.queue + 1
+      by_after (Continues t) e =
+          goes new (slices_in w.things.queue) (slices_in s.things.queue)
+          (λ more. contrary (sym (ap continues e)
+          ∙ laws.piece.slice_ends v images w blocks p c.stage answer io ready more)) same
+      by_after (EndsWith reply) e = ended new (slices_in w.things.queue) (slices_in s.things.queue) one same
+      by_after (Fails refusal) e = ended new (slices_in w.things.queue) (slices_in s.things.queue) one same
+
   -- a piece is done, on a state that is alike to the committed one, after these notes
   pub finish_moves : (p : ℕ) (c : Call) (w : Objects) (answer : Option Answer) (r : Run) (pre : List Note) → StandsAt m r → r.kernel.call p ≡ Some c →
       ArePartOf (once_if (has_level (r.kernel.call p))) pre → IsReady m r.kernel.world r.kernel.images w p c.stage answer → AreAlike r.kernel.objects w →
@@ -278,8 +338,15 @@ module _ (m : Meaning) (laws : Laws m) where
             (subst (λ n. note_count is_end new + once_if (is_some (call_after c q.after)) ≤ n) (ap (λ x. once_if (is_some x)) (sym e)) mine.ends);
         lines = three_parts is_line pre (gave_note c.number q.gave) (after_note c.number q.after)
             ∙ all_none (note_count is_line pre) (note_count is_line (gave_note c.number q.gave)) (note_count is_line (after_note c.number q.after)) part.lines gave.3 last.2;
+        slices = same_slices (slices_in q.objects.things.queue) (slices_in s.things.queue)
+            (once_if (is_some (call_after c q.after))) (once_if (is_some _)) (once_if (is_some (r.kernel.call p)))
+            (slices_after v r.kernel.images s w r.blocks p c answer r.io q.after ready alike refl)
+            (ap (λ x. once_if (is_some x)) here) (ap (λ x. once_if (is_some x)) e);
       }
     where
+      same_slices : (x y a b n : ℕ) → x + a ≤ y + 1 → b ≡ a → n ≡ 1 → x + b ≤ y + n
+      same_slices x y a b n h e f = omega arith
+
       as_many : (a b c n : ℕ) → a ≤ n → b ≡ 0 → c ≡ 0 → a + (b + c) ≤ n
       as_many a b c n h e f = omega arith
 

@@ -1,18 +1,40 @@
 -- Premises of the laws that can't be left out: for each the smallest example in which the law would be false.
-use Rattle.std.specs.Prelude.{◌≡◌, ℕ, ◌≤◌, ◌==◌, cond, List, [], ◌∷◌, Option, Some, None, false}
+use Rattle.std.specs.Prelude.{◌≡◌, ℕ, ◌≤◌, ◌==◌, cond, List, [], ◌∷◌, codes, Option, Some, None, false}
 use Rattle.std.proofs.Common.{arith, refl}
 use Rattle.kernel_model.specs.World.{World}
 use Rattle.kernel_model.specs.Objects.{Accounts}
 use Rattle.kernel_model.specs.Locks.{untouched}
+use Rattle.kernel_model.specs.Directory.{Disk, directory_of}
 use Rattle.kernel_model.specs.Levels.{Level, Config}
 use Rattle.kernel_model.specs.GraftStep.{micro}
 use Rattle.kernel_model.specs.Kernel.{Kernel}
 use Rattle.kernel_model.specs.Opening.{opening_things, opening_kernel}
-use Rattle.kernel_model.specs.Session.{Session, first_setup, session_after, whole}
+use Rattle.kernel_model.specs.Session.{Session, first_setup, world_of, session_after, whole}
+use Rattle.kernel_model.specs.Sound.{IsSoundKernel}
+use Rattle.session_laws.specs.Sessions.{run_of}
 
 -- a world of the least size
 abbrev small_world : World
 small_world = record { frames = 2; patience = λ kind. 10; grant = 0; disk_size = 1; directory = []; callable = 15 }
+
+-- one is not within none
+not_within : 1 ≤ 0 → ⊥
+not_within h = omega arith
+
+-- ---- sound kernels
+
+-- a disk without blocks
+abbrev no_blocks : Disk
+no_blocks = record { size = 0; block = λ i. [] }
+
+-- over it the kernel after boot isn't sound
+boots_unsound :
+    ((k : Kernel) → (run_of whole [] no_blocks (codes "boot" ∷ []) []).kernel ≡ Some k →
+    IsSoundKernel whole.meaning k) →
+    ⊥
+boots_unsound h =
+    let k = opening_kernel (world_of first_setup 0 whole.callable (directory_of 0 (no_blocks.block 0))) in
+    not_within (h k refl).state.disk.some
 
 -- ---- counts
 
@@ -73,10 +95,6 @@ late_session =
 abbrev clock_in : Option Kernel → ℕ
 clock_in None = 0
 clock_in (Some k) = k.clock
-
--- one is not within none
-not_within : 1 ≤ 0 → ⊥
-not_within h = omega arith
 
 -- from another session than the first the clock may be beyond the events
 late_is_beyond : clock_in (session_after whole [] 1 late_session [] []).kernel ≤

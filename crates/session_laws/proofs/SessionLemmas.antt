@@ -2,7 +2,7 @@
 use Rattle.std.specs.Prelude.{◌≡◌, ℕ, suc, ◌<◌, ◌≤◌, Bool, true, false, List, [], ◌∷◌, drop, length, is_some, codes, slice_index_or, Option, Some, None, Result, Ok, Err}
 use Rattle.std.proofs.Common.{arith, refl, subst, sym}
 use Rattle.kernel_model.specs.declared.FileRow.{FileRow}
-use Rattle.kernel_model.specs.Directory.{directory_of, usable_count, lies_on_disk}
+use Rattle.kernel_model.specs.Directory.{Disk, directory_of, usable_count, lies_on_disk}
 use Rattle.kernel_model.specs.Kernel.{Kernel}
 use Rattle.kernel_model.specs.Meaning.{disk_fails}
 use Rattle.kernel_model.specs.Laws.{Laws}
@@ -13,23 +13,23 @@ use Rattle.kernel_model.specs.Sound.{IsSoundKernel, HasWholeBlocks}
 use Rattle.kernel_model.specs.Text.{boot_text}
 use Rattle.kernel_laws.proofs.OpeningLemmas.{opening_kernel_is_sound}
 use Rattle.graft_laws.proofs.SessionLemmas.{lines_stay_sound}
-use Rattle.session_laws.specs.Sessions.{RunsAreSound}
+use Rattle.session_laws.specs.Sessions.{IsRunnable, RunsAreSound}
 use Rattle.session_laws.proofs.DirectoryLemmas.{row_count, rows_lie, ends_on}
 use Rattle.session_laws.proofs.SetupLemmas.{IsRight, SaysRight, line_right}
 
 module _ (b : Build) (key : List ℕ) (size : ℕ) where
   -- a set-up with which a kernel can begin, over whole blocks
-  record IsSetUp (s : Session) : Type 0 where
-    least : 2 ≤ s.setup.frames
-    most : s.setup.frames ≤ 64
-    blocks : (i : ℕ) → i < size → length (s.blocks i) ≡ 512
+  pub record IsSetUp (s : Session) : Type 0 where
+    pub least : 2 ≤ s.setup.frames
+    pub most : s.setup.frames ≤ 64
+    pub blocks : (i : ℕ) → i < size → length (s.blocks i) ≡ 512
 
   -- before boot a kernel can begin, and after it is sound
-  abbrev StandsWith : Session → Option Kernel → Type 0
+  abbrev pub StandsWith : Session → Option Kernel → Type 0
   StandsWith s None = IsSetUp s
   StandsWith s (Some k) = IsSoundKernel b.meaning k × HasWholeBlocks k.world s.blocks
 
-  abbrev Stands : Session → Type 0
+  abbrev pub Stands : Session → Type 0
   Stands s = StandsWith s s.kernel
 
   module _ (laws : Laws b.meaning) (callable : b.callable ≤ 15) (some : 1 ≤ size) (high : size ≤ 4096) where
@@ -137,7 +137,7 @@ module _ (b : Build) (key : List ℕ) (size : ℕ) where
 
     -- ---- all lines
 
-    line_stands : (s : Session) (text : List ℕ) (io : List Bool) → Stands s →
+    pub line_stands : (s : Session) (text : List ℕ) (io : List Bool) → Stands s →
         Stands (after_line b key size s text io).session
     line_stands s text io h = by_kernel s.kernel refl h
       where
@@ -156,15 +156,20 @@ module _ (b : Build) (key : List ℕ) (size : ℕ) where
         lines_stand (after_line b key size s text (first_io ios)).session texts (later_io ios)
         (line_stands s text (first_io ios) h)
 
-pub runs_are_sound : RunsAreSound
-runs_are_sound b key d texts ios k h is =
-    let s = session_after b key d.size (first_session d) texts ios in
-    subst (StandsWith b key d.size s) is
-    (lines_stand b key d.size h.laws h.callable h.some h.most (first_session d) texts ios
-    (record { least = few; most = many; blocks = h.blocks }))
+-- the first session stands
+pub first_session_stands : (b : Build) (key : List ℕ) (d : Disk) → IsRunnable b d →
+    Stands b key d.size (first_session d)
+first_session_stands b key d h = record { least = few; most = many; blocks = h.blocks }
   where
     few : 2 ≤ 8
     few = omega arith
 
     many : 8 ≤ 64
     many = omega arith
+
+pub runs_are_sound : RunsAreSound
+runs_are_sound b key d texts ios k h is =
+    let s = session_after b key d.size (first_session d) texts ios in
+    subst (StandsWith b key d.size s) is
+    (lines_stand b key d.size h.laws h.callable h.some h.most (first_session d) texts ios
+    (first_session_stands b key d h))

@@ -4,5 +4,6 @@
 pub mod clock;
 pub mod counts;
 pub mod sessions;
+pub mod slices;
 #[cfg(test)]
 mod tests;
