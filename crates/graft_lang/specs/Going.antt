@@ -3,8 +3,9 @@ use Rattle.std.specs.Prelude.{◌≡◌, ℕ, suc, ◌+◌, ◌*◌, ◌^◌, �
 use Rattle.kernel_model.specs.declared.Instr.{Instr}
 use Rattle.kernel_model.specs.Machine.{masked_place}
 use Rattle.kernel_model.specs.Runs.{CodeRun, MadeCall, Unanswered, AtReturn, AtDivision, AtTrap, run_by}
-use Rattle.graft_lang.specs.Meaning.{Expression, Program, Done, Assigns, Calls, When, Either, Loops, Traps}
-use Rattle.graft_lang.specs.Meaning.{Answers, End, Answered, Trapped, DividedByZero, Asks, Going, State, does}
+use Rattle.kernel_model.specs.LanguageMeaning.{Expression, Program, Done, Assigns, Calls, When, Either, Loops, Traps}
+use Rattle.kernel_model.specs.LanguageMeaning.{Answers, End, Answered, Trapped, DividedByZero, Asks, Going, State, does}
+use Rattle.kernel_model.specs.LanguageImages.{AreWords}
 use Rattle.graft_lang.specs.Code.{statements_code}
 use Rattle.graft_lang.specs.Placing.{Fits, Stands, IsAt}
 
@@ -16,11 +17,6 @@ run code n r = run_by masked_place code n r
 abbrev pub going : (cells : ℕ → ℕ) → List MadeCall → (answers : List (ℕ × ℕ)) → (turns : ℕ) → State
 going cells calls answers turns =
     record { cells = cells; calls = calls; answers = answers; turns = turns; ended = None }
-
--- answers that are words
-abbrev pub AreWords : List (ℕ × ℕ) → Type 0
-AreWords [] = ⊤
-AreWords (pair ∷ pairs) = (pair.0 < 2 ^ 32) × (pair.1 < 2 ^ 32) × AreWords pairs
 
 -- the variables and the answers of a state are words
 pub record IsSmall (s : State) : Type 0 where
