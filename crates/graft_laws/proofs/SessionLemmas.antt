@@ -7,7 +7,8 @@ use Rattle.kernel_model.specs.declared.SysCall.{SysCall}
 use Rattle.kernel_model.specs.Bytes.{hex_word}
 use Rattle.kernel_model.specs.World.{Image, ImageTable, Blocks}
 use Rattle.kernel_model.specs.Objects.{at}
-use Rattle.kernel_model.specs.Images.{Keys, LoadFault, load}
+use Rattle.kernel_model.specs.declared.Keys.{Keys}
+use Rattle.kernel_model.specs.Images.{LoadFault, load}
 use Rattle.kernel_model.specs.Kernel.{Kernel}
 use Rattle.kernel_model.specs.Events.{event}
 use Rattle.kernel_model.specs.Sound.{IsSoundKernel, HasWholeBlocks}

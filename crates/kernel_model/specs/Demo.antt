@@ -7,7 +7,8 @@ use Rattle.kernel_model.specs.declared.Note.{Note}
 use Rattle.kernel_model.specs.declared.Note.TheVariants.{Ended, Refused, Dropped}
 use Rattle.kernel_model.specs.Bytes.{hex_text}
 use Rattle.kernel_model.specs.Boxed.{instr}
-use Rattle.kernel_model.specs.Images.{Keys, sealed_under}
+use Rattle.kernel_model.specs.declared.Keys.{Keys}
+use Rattle.kernel_model.specs.Images.{sealed_under}
 use Rattle.kernel_model.specs.Directory.{Disk}
 use Rattle.kernel_model.specs.Text.{spaced, line}
 use Rattle.kernel_model.specs.Session.{Build, Written, after_lines, first_session}

@@ -4,7 +4,8 @@ use Rattle.kernel_model.specs.declared.Instr.{Instr}
 use Rattle.kernel_model.specs.Bytes.{hex_text, hex_word}
 use Rattle.kernel_model.specs.World.{Image}
 use Rattle.kernel_model.specs.Boxed.{RewriteFault, NamesReserved, JumpsOut, CallsUnknown, NoEnd, TooLong, rewrite}
-use Rattle.kernel_model.specs.Images.{Keys, LoadFault, raw_image, sealed_under, read_raw, load, reseal}
+use Rattle.kernel_model.specs.declared.Keys.{Keys}
+use Rattle.kernel_model.specs.Images.{LoadFault, raw_image, sealed_under, read_raw, load, reseal}
 use Rattle.kernel_model.specs.declared.AsmKind.{AsmKind}
 use Rattle.kernel_model.specs.declared.AsmKind.TheVariants.{UnknownMnemonic, BadOperands, LabelNotSet, LabelSetTwice, TooManyInstructions, BadData}
 use Rattle.kernel_model.specs.Assembler.{LineFault, assemble, disassemble}

@@ -3,6 +3,7 @@ use Rattle.std.specs.Prelude.{◌≡◌, ◌≤◌, ℕ, zero, suc, ◌+◌, ◌
 use Rattle.std.specs.List.{list_all}
 use Rattle.sha2.specs.Sha256.{sha256}
 use Rattle.kernel_model.specs.declared.Instr.{Instr}
+use Rattle.kernel_model.specs.declared.Keys.{Keys}
 use Rattle.kernel_model.specs.Bytes.{word_at, word_bytes}
 use Rattle.kernel_model.specs.World.{Image, same_bytes}
 use Rattle.kernel_model.specs.declared.IsaFault.{IsaFault}
@@ -24,11 +25,6 @@ code_bytes code = flat_map encode code
 -- the bytes of a raw image
 abbrev pub raw_image : List Instr → List ℕ → List ℕ
 raw_image code body = codes "VGR0" ++ word_bytes (length code) ++ word_bytes (length body) ++ code_bytes code ++ body
-
--- the keys of a run: the first, and the second if one was given
-pub record Keys : Type 0 where
-  pub first : List ℕ
-  pub second : Option (List ℕ)
 
 -- the key of a number, if there is one
 abbrev pub key_of : Keys → ℕ → Option (List ℕ)

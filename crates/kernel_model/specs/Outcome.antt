@@ -3,7 +3,7 @@ use Rattle.std.specs.Prelude.{◌≡◌, ℕ, suc, ◌<◌, Bool, true, false, c
 use Rattle.std.specs.List.{concat}
 use Rattle.kernel_model.specs.World.{Blocks, processes}
 use Rattle.kernel_model.specs.Directory.{Disk}
-use Rattle.kernel_model.specs.Images.{Keys}
+use Rattle.kernel_model.specs.declared.Keys.{Keys}
 use Rattle.kernel_model.specs.Kernel.{Kernel, Call}
 use Rattle.kernel_model.specs.Text.{line, left_text}
 use Rattle.kernel_model.specs.Script.{Unfinished, LINE_BYTES}

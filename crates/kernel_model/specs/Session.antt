@@ -6,7 +6,8 @@ use Rattle.kernel_model.specs.declared.Note.{Note}
 use Rattle.kernel_model.specs.Objects.{at}
 use Rattle.kernel_model.specs.World.{World, Image, Blocks}
 use Rattle.kernel_model.specs.Directory.{Disk, directory_of, usable_count}
-use Rattle.kernel_model.specs.Images.{Keys, LoadFault, load}
+use Rattle.kernel_model.specs.declared.Keys.{Keys}
+use Rattle.kernel_model.specs.Images.{LoadFault, load}
 use Rattle.kernel_model.specs.Meaning.{Meaning, disk_fails}
 use Rattle.kernel_model.specs.Kernel.{Kernel, Run}
 use Rattle.kernel_model.specs.Events.{event}

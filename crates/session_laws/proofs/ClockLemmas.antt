@@ -4,7 +4,8 @@ use Rattle.std.proofs.Common.{arith, refl, subst}
 use Rattle.kernel_model.specs.declared.Event.{Event}
 use Rattle.kernel_model.specs.declared.Event.TheVariants.{Tick, Step, Sys}
 use Rattle.kernel_model.specs.World.{Image, Blocks}
-use Rattle.kernel_model.specs.Images.{Keys, LoadFault}
+use Rattle.kernel_model.specs.declared.Keys.{Keys}
+use Rattle.kernel_model.specs.Images.{LoadFault}
 use Rattle.kernel_model.specs.Kernel.{Kernel}
 use Rattle.kernel_model.specs.Events.{event}
 use Rattle.kernel_model.specs.Meaning.{Meaning}

@@ -5,7 +5,7 @@ use Rattle.kernel_model.specs.World.{World}
 use Rattle.kernel_model.specs.Objects.{Accounts}
 use Rattle.kernel_model.specs.Locks.{untouched}
 use Rattle.kernel_model.specs.Directory.{Disk, directory_of}
-use Rattle.kernel_model.specs.Images.{Keys}
+use Rattle.kernel_model.specs.declared.Keys.{Keys}
 use Rattle.kernel_model.specs.Levels.{Level, Config}
 use Rattle.kernel_model.specs.GraftStep.{micro}
 use Rattle.kernel_model.specs.Kernel.{Kernel}

@@ -1,7 +1,7 @@
 -- The kernels of runs are sound.
 use Rattle.std.specs.Prelude.{◌≡◌, ℕ, suc, ◌<◌, ◌≤◌, Bool, true, false, List, [], ◌∷◌, drop, length, is_some, codes, slice_index_or, Option, Some, None, Result, Ok, Err}
 use Rattle.std.proofs.Common.{arith, refl, subst, sym}
-use Rattle.kernel_model.specs.Images.{Keys}
+use Rattle.kernel_model.specs.declared.Keys.{Keys}
 use Rattle.kernel_model.specs.declared.FileRow.{FileRow}
 use Rattle.kernel_model.specs.Directory.{Disk, directory_of, usable_count, lies_on_disk}
 use Rattle.kernel_model.specs.Kernel.{Kernel}

@@ -1,7 +1,7 @@
 -- The slices of all processes, and the calls in flight, are together at most a run's events.
 use Rattle.std.specs.Prelude.{◌≡◌, ℕ, suc, ◌+◌, ◌≤◌, nat_le, ◌&&◌, Bool, true, false, List, [], ◌∷◌, Option, Some, None, is_some, Result, Ok, Err}
 use Rattle.std.proofs.Common.{arith, refl, subst, sym, ap}
-use Rattle.kernel_model.specs.Images.{Keys}
+use Rattle.kernel_model.specs.declared.Keys.{Keys}
 use Rattle.kernel_model.specs.declared.Event.{Event}
 use Rattle.kernel_model.specs.declared.Event.TheVariants.{Tick, Step, Sys}
 use Rattle.kernel_model.specs.declared.Note.TheVariants.{Refused, Ran}

@@ -6,7 +6,8 @@ use Rattle.kernel_model.specs.declared.Event.TheVariants.{Tick, Step, Sys}
 use Rattle.kernel_model.specs.declared.FileRow.{FileRow}
 use Rattle.kernel_model.specs.World.{Blocks}
 use Rattle.kernel_model.specs.Directory.{directory_of, usable_count}
-use Rattle.kernel_model.specs.Images.{Keys, load}
+use Rattle.kernel_model.specs.declared.Keys.{Keys}
+use Rattle.kernel_model.specs.Images.{load}
 use Rattle.kernel_model.specs.Kernel.{Kernel}
 use Rattle.kernel_model.specs.Events.{event}
 use Rattle.kernel_model.specs.Meaning.{Meaning, disk_fails}

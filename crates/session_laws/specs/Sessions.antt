@@ -1,6 +1,6 @@
 -- Whole runs: sessions over a disk, from the first on.
 use Rattle.std.specs.Prelude.{◌≡◌, ℕ, ◌<◌, ◌≤◌, Bool, List, length, Some}
-use Rattle.kernel_model.specs.Images.{Keys}
+use Rattle.kernel_model.specs.declared.Keys.{Keys}
 use Rattle.kernel_model.specs.Directory.{Disk}
 use Rattle.kernel_model.specs.Kernel.{Kernel}
 use Rattle.kernel_model.specs.Laws.{Laws}
