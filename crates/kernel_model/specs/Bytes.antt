@@ -1,4 +1,5 @@
--- Bytes as numbers, as hex digits, and as names.
+-- Numbers, hexadecimal digits and names as bytes. Everything that is read or written stands on
+-- these.
 use Rattle.std.specs.Prelude.{ℕ, ◌+◌, ◌-◌, ◌*◌, ◌/◌, ◌%◌, ◌^◌, ◌==◌, Bool, cond, ◌&&◌, ◌||◌, nat_lt, nat_le, List, [], ◌∷◌, length, flat_map, fold, slice_index, Option, None, Some, codes}
 use Rattle.std.specs.List.{list_all}
 
