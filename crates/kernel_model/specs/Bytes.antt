@@ -45,7 +45,7 @@ hex_word most text = cond (nat_le 2 (length text) && nat_le (length text) most) 
 abbrev pub is_digit : ℕ → Bool
 is_digit byte = nat_le 48 byte && nat_lt byte 58
 
--- a to z
+-- a small letter: a to z
 abbrev pub is_letter : ℕ → Bool
 is_letter byte = nat_le 97 byte && nat_lt byte 123
 
