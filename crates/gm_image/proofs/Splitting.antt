@@ -1,12 +1,10 @@
--- Reading words of eight bytes, and the head of a sealed image.
-use Rattle.std.proofs.Common.{◌≡◌, ℕ, zero, suc, ◌+◌, ◌-◌, ◌*◌, ◌<◌, ◌≤◌, false, not, List, [], ◌∷◌, ◌++◌, length, take, drop, Ok, refl, sym, ap, ◌∙◌, append_assoc, arith, length-append, length-drop, codes}
+-- Reading words of eight bytes, and what refuses a sealed image.
+use Rattle.std.proofs.Common.{◌≡◌, ℕ, zero, suc, ◌+◌, ◌-◌, ◌*◌, ◌<◌, ◌≤◌, List, [], ◌∷◌, ◌++◌, length, take, drop, Some, refl, sym, ap, ◌∙◌, append_assoc, arith, length-append, length-drop}
 use Rattle.std.proofs.lemmas.List.{append-nil, drop-take}
-use Rattle.std.proofs.lemmas.Bool.{eq-eqb}
-use Rattle.kernel_model.specs.Bytes.{word_at}
-use Rattle.kernel_model.specs.World.{same_bytes}
-use Rattle.kernel_model.specs.Images.{is_too_large}
-use Rattle.gm_image.specs.Sealed.{words_of, parts_of, read_sealed}
-use Rattle.gm_image.proofs.Reading.{not_below, few, not_false}
+use Rattle.kernel_model.specs.Images.{head_fault}
+use Rattle.gm_image.specs.declared.ImageFault.{ImageFault}
+use Rattle.gm_image.specs.Faults.{Refuses, refusal_of}
+use Rattle.gm_image.specs.Sealed.{words_of, read_sealed}
 
 -- the first bytes of the first bytes
 take_fewer : (n k : ℕ) (xs : List ℕ) → n ≤ k → take n (take k xs) ≡ take n xs
@@ -51,11 +49,12 @@ Splits-all n bytes words rest h short =
     let none : n - length words ≡ 0 = omega (arith, h.left) in
     (sym (append-nil words) ∙ rw none at h.said, omega (arith, h.left))
 
--- a sealed image whose head, sizes and length are right is its parts
-pub read_sealed-parts : (bytes magic : List ℕ) (n d version : ℕ) → 48 ≤ length bytes → false ≡ not (same_bytes (take 4 bytes) magic)
-    → magic ≡ codes "VGR1" → version ≡ word_at bytes 4 → version ≡ 1 → n ≡ word_at bytes 8 → d ≡ word_at bytes 12 → n ≤ 1024 → d ≤ 4096
-    → length bytes ≡ 48 + 8 * n + d → read_sealed bytes ≡ Ok (parts_of n bytes)
-read_sealed-parts bytes magic n d version head same magic_is version_is one n_is d_is h g len =
-    let sized : length bytes ≡ 48 + 8 * word_at bytes 8 + word_at bytes 12 = omega (arith, len, n_is, d_is) in
-    let small : is_too_large (word_at bytes 8) (word_at bytes 12) ≡ false = few (word_at bytes 8) (word_at bytes 12) (omega (arith, h, n_is)) (omega (arith, g, d_is)) in
-    rw (not_below (length bytes) 48 head, read_sealed) (rw (rw magic_is at (not_false (same_bytes (take 4 bytes) magic) same)) (rw (eq-eqb (word_at bytes 4) 1 (sym version_is ∙ one)) (rw small (rw (eq-eqb (length bytes) (48 + 8 * word_at bytes 8 + word_at bytes 12) sized) (ap (λ (m : ℕ). Ok (parts_of m bytes)) (sym n_is))))))
+-- a fault that is the refusal of the head is that of the bytes
+pub refused : (fault : ImageFault) (bytes : List ℕ) → refusal_of (Some fault) ≡ head_fault bytes
+    → Refuses fault (read_sealed bytes)
+refused ImageFault.Length bytes h = rw (sym h) refl
+refused ImageFault.Magic bytes h = rw (sym h) refl
+refused ImageFault.Version bytes h = rw (sym h) refl
+refused ImageFault.TooLarge bytes h = rw (sym h) refl
+refused (ImageFault.BadOp pc) bytes h = rw (sym h) refl
+refused ImageFault.NoMemory bytes h = tt

@@ -1,27 +1,32 @@
-//! Sealed images: their parts, read. Whether the seal is right is not looked at here.
+//! Sealed images: their parts, read. Whether flags, key and seal are right is not looked at here.
 
-ghost use Rattle.std.specs.Prelude.{◌≡◌, ◌≤◌, ◌+◌, ◌-◌, ◌*◌, ◌++◌, [], ◌∷◌, length, take, drop, Ok, IfOk, IfErr, OnOk};
-ghost use Rattle.gm_image.specs.Faults.{Refuses};
+ghost use Rattle.std.specs.Prelude.{◌≡◌, ◌≤◌, ◌+◌, ◌-◌, ◌*◌, ◌++◌, ◌==◌, ◌||◌, [], ◌∷◌, cond, length, take, drop, Ok, IfOk, IfErr, IfNone, OnOk};
+ghost use Rattle.kernel_model.specs.Bytes as model;
+ghost use Rattle.kernel_model.specs.Images as images;
+ghost use Rattle.gm_image.specs.Faults.{Refuses, refusal_of};
 ghost use Rattle.gm_image.specs.Sealed as spec;
 
 use crate::{ImageFault, MAX_BODY, MAX_CODE, word_at};
 use std::alloc::Global;
 use std::marker::Model;
 
-/// The bytes before the code of a sealed image: magic, version, and two sizes.
-const SEALED_HEAD: usize = 16;
+/// The bytes before the code of a sealed image of version 1: magic, version, and two sizes.
+const FIRST_HEAD: usize = 16;
+
+/// Those of version 2: flags and the number of the key besides.
+const SECOND_HEAD: usize = 24;
 
 /// The bytes of a seal.
 const SEAL: usize = 32;
 
 const SEALED_MAGIC: &[u8; 4] = b"VGR1";
 
-/// The one version of sealed images.
-const VERSION: u32 = 1;
-
 /// The parts of a sealed image within the limits. The words need not decode.
 #[derive(Drop)]
 pub struct SealedImage {
+    version: u32,
+    flags: u32,
+    number: u32,
     words: Vec<[u8; 8]>,
     body: Vec<u8>,
     seal: [u8; 32],
@@ -32,12 +37,47 @@ impl Model for SealedImage {
 
     ghost Value = { Parts };
 
-    ghost view = { λ i. record { words = i.words.items; body = i.body.items; seal = i.seal } };
+    ghost view = { λ i. record {
+      version = i.version;
+      flags = i.flags;
+      number = i.number;
+      words = i.words.items;
+      body = i.body.items;
+      seal = i.seal;
+    } };
 
-    ghost invariant = { λ i. AreFew (record { words = i.words.items; body = i.body.items; seal = i.seal }) };
+    ghost invariant = { λ i. AreFew (record {
+      version = i.version;
+      flags = i.flags;
+      number = i.number;
+      words = i.words.items;
+      body = i.body.items;
+      seal = i.seal;
+    }) };
 }
 
 impl SealedImage {
+    /// The version, 1 or 2.
+    pub fn version(&self) -> u32
+        ensures { result ≡ self.now.version }
+    {
+        self.version
+    }
+
+    /// The flags; none in version 1.
+    pub fn flags(&self) -> u32
+        ensures { result ≡ self.now.flags }
+    {
+        self.flags
+    }
+
+    /// The number of the key of the seal; 0 in version 1.
+    pub fn number(&self) -> u32
+        ensures { result ≡ self.now.number }
+    {
+        self.number
+    }
+
     /// The eight bytes of each instruction.
     pub fn words(&self) -> &[[u8; 8]]
         ensures words { result.now ≡ self.now.words }
@@ -100,49 +140,103 @@ fn split_seal(bytes: &[u8]) -> (&[u8], &[u8; 32])
     }
 }
 
-/// The parts of sealed bytes of so many instructions.
-fn read_parts(alloc: Global, n: u32, bytes: &[u8]) -> Result<SealedImage, ImageFault>
-    requires few { n ≤ 1024 }
-    requires code { 48 + 8 * n ≤ length bytes.now }
-    requires body { length bytes.now ≤ 48 + 8 * n + 4096 }
-    ensures ok { IfOk result (λ i. i ≡ spec.parts_of n bytes.now) }
+/// A version that can be read.
+fn is_version(version: u32) -> bool
+    ensures { result ≡ images.is_version version }
+{
+    version == 1 || version == 2
+}
+
+/// How many bytes stand before the code of this version.
+fn head_length(version: u32) -> usize
+    ensures value { result ≡ images.head_length version }
+    ensures least { 16 ≤ result }
+    ensures most { result ≤ 24 }
+{
+    if version == 2 { SECOND_HEAD } else { FIRST_HEAD }
+}
+
+/// The word of the head of version 2 at a place, 0 in version 1.
+fn second_word(version: u32, bytes: &[u8], at: usize) -> u32
+    requires { at + 4 ≤ length bytes.now }
+    ensures { result ≡ cond (version == 2) (model.word_at bytes.now at) 0 }
+{
+    if version == 2 { word_at(bytes, at) } else { 0 }
+}
+
+/// What is wrong with the sizes of an image with so many bytes before its code.
+fn size_fault(head: usize, bytes: &[u8]) -> Option<ImageFault>
+    requires room { 48 ≤ length bytes.now }
+    requires head { head ≡ images.head_of bytes.now }
+    requires few { head ≤ 24 }
+    ensures value { refusal_of result ≡ images.size_fault head bytes.now }
+    ensures whole { IfNone result (spec.IsWhole bytes.now) }
+{
+    if bytes.len() < head + SEAL {
+        return Some(ImageFault::Length);
+    }
+    let n = word_at(bytes, 8);
+    let d = word_at(bytes, 12);
+    if n > MAX_CODE || d > MAX_BODY {
+        return Some(ImageFault::TooLarge);
+    }
+    if bytes.len() != head + SEAL + 8 * n as usize + d as usize {
+        return Some(ImageFault::Length);
+    }
+    None
+}
+
+/// What is wrong with sealed bytes before flags, key and seal are looked at.
+fn head_fault(bytes: &[u8]) -> Option<ImageFault>
+    ensures value { refusal_of result ≡ images.head_fault bytes.now }
+    ensures whole { IfNone result (spec.IsWhole bytes.now) }
+    ensures len { IfNone result (48 ≤ length bytes.now) }
+{
+    if bytes.len() < FIRST_HEAD + SEAL {
+        return Some(ImageFault::Length);
+    }
+    if &bytes[..4] != SEALED_MAGIC.as_slice() {
+        return Some(ImageFault::Magic);
+    }
+    let version = word_at(bytes, 4);
+    if !is_version(version) {
+        return Some(ImageFault::Version);
+    }
+    size_fault(head_length(version), bytes)
+}
+
+/// The parts of sealed bytes whose head is right.
+fn read_parts(alloc: Global, bytes: &[u8]) -> Result<SealedImage, ImageFault>
+    requires whole { spec.IsWhole bytes.now }
+    requires len { 48 ≤ length bytes.now }
+    ensures ok { IfOk result (λ i. i ≡ spec.parts_of bytes.now) }
     ensures err { IfErr result (λ e. e ≡ ImageFault.NoMemory) }
 {
+    let version = word_at(bytes, 4);
+    let n = word_at(bytes, 8);
     let (text, seal) = split_seal(bytes);
-    let (_, parts) = text.split_at(SEALED_HEAD);
+    let (_, parts) = text.split_at(head_length(version));
     let (code, body) = parts.split_at(8 * n as usize);
-    let words = read_words(alloc, n, code)?;
-    let body = Vec::from_slice(alloc, body)?;
     Ok(SealedImage {
-        words,
-        body,
+        version,
+        flags: second_word(version, bytes, 16),
+        number: second_word(version, bytes, 20),
+        words: read_words(alloc, n, code)?,
+        body: Vec::from_slice(alloc, body)?,
         seal: *seal,
     })
 }
 
 /// The parts of the bytes of a sealed image, or the first refusal: `Length` below 48 bytes, `Magic`,
-/// `Version`, `TooLarge`, `Length` where it isn't that of the two sizes.
+/// `Version` above 2 or 0, `Length` below 56 bytes in version 2, `TooLarge`, `Length` where it isn't that
+/// of the two sizes.
 pub fn read_sealed(alloc: Global, bytes: &[u8]) -> Result<SealedImage, ImageFault>
     ensures ok { IfOk result (λ i. spec.read_sealed bytes.now ≡ Ok i) }
     ensures err { IfErr result (λ e. Refuses e (spec.read_sealed bytes.now)) }
     ensures len { OnOk result (48 ≤ length bytes.now) }
 {
-    if bytes.len() < SEALED_HEAD + SEAL {
-        return Err(ImageFault::Length);
+    match head_fault(bytes) {
+        Some(fault) => Err(fault),
+        None => read_parts(alloc, bytes),
     }
-    if &bytes[..4] != SEALED_MAGIC.as_slice() {
-        return Err(ImageFault::Magic);
-    }
-    if word_at(bytes, 4) != VERSION {
-        return Err(ImageFault::Version);
-    }
-    let n = word_at(bytes, 8);
-    let d = word_at(bytes, 12);
-    if n > MAX_CODE || d > MAX_BODY {
-        return Err(ImageFault::TooLarge);
-    }
-    if bytes.len() != SEALED_HEAD + 8 * n as usize + d as usize + SEAL {
-        return Err(ImageFault::Length);
-    }
-    read_parts(alloc, n, bytes)
 }

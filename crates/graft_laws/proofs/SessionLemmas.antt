@@ -7,6 +7,7 @@ use Rattle.kernel_model.specs.declared.SysCall.{SysCall}
 use Rattle.kernel_model.specs.Bytes.{hex_word}
 use Rattle.kernel_model.specs.World.{Image, ImageTable, Blocks}
 use Rattle.kernel_model.specs.Objects.{at}
+use Rattle.kernel_model.specs.declared.Keys.{Keys}
 use Rattle.kernel_model.specs.Images.{LoadFault, load}
 use Rattle.kernel_model.specs.Kernel.{Kernel}
 use Rattle.kernel_model.specs.Events.{event}
@@ -89,7 +90,7 @@ extends_at slot i images free = λ j x e. at_other slot j (Some i) images (λ sa
     taken : (j : ℕ) (x : Image) → images j ≡ Some x → images j ≡ None → ⊥
     taken j x e f = cc
 
-module _ (b : Build) (key : List ℕ) (size : ℕ) (laws : Laws b.meaning) where
+module _ (b : Build) (keys : Keys) (size : ℕ) (laws : Laws b.meaning) where
   -- a kernel after an image line
   image_kept : (slot : ℕ) (x : Result Image LoadFault) (k : Kernel) (blocks : Blocks) → IsSoundKernel b.meaning k → HasWholeBlocks k.world blocks →
       IsSoundKernel b.meaning (image_answer slot x k).0 × HasWholeBlocks (image_answer slot x k).0.world blocks
@@ -118,12 +119,12 @@ module _ (b : Build) (key : List ℕ) (size : ℕ) (laws : Laws b.meaning) where
 
   -- an entry after boot
   running_sound : (s : Session) (e : Entry) (k : Kernel) (io : List Bool) → s.kernel ≡ Some k → IsSoundKernel b.meaning k → HasWholeBlocks k.world s.blocks →
-      IsSoundSession b.meaning (running_in b key size s e (Some k) io).session
+      IsSoundSession b.meaning (running_in b keys size s e (Some k) io).session
   running_sound s (Happens e) k io is h whole =
       let r = events_stay_sound b.meaning k s.blocks (suc s.events) e io laws h whole in
       record { kernel = (event b.meaning k s.blocks (suc s.events) e io).kernel; is = refl; sound = r.kernel; blocks = r.blocks }
   running_sound s (Loads slot bytes) k io is h whole =
-      let r = image_kept slot (load key bytes) k s.blocks h whole in record { kernel = (image_answer slot (load key bytes) k).0; is = refl; sound = r.0; blocks = r.1 }
+      let r = image_kept slot (load keys bytes) k s.blocks h whole in record { kernel = (image_answer slot (load keys bytes) k).0; is = refl; sound = r.0; blocks = r.1 }
   running_sound s Raw k io is h whole = record { kernel = k; is = is; sound = h; blocks = whole }
   running_sound s Blank k io is h whole = record { kernel = k; is = is; sound = h; blocks = whole }
   running_sound s (Frames n) k io is h whole = record { kernel = k; is = is; sound = h; blocks = whole }
@@ -131,10 +132,10 @@ module _ (b : Build) (key : List ℕ) (size : ℕ) (laws : Laws b.meaning) where
   running_sound s (Grant n) k io is h whole = record { kernel = k; is = is; sound = h; blocks = whole }
   running_sound s Boot k io is h whole = record { kernel = k; is = is; sound = h; blocks = whole }
 
-  running_in_sound : (s : Session) (e : Entry) (io : List Bool) → IsSoundSession b.meaning s → IsSoundSession b.meaning (running_in b key size s e s.kernel io).session
-  running_in_sound s e io h = subst (λ x. IsSoundSession b.meaning (running_in b key size s e x io).session) (sym h.is) (running_sound s e h.kernel io h.is h.sound h.blocks)
+  running_in_sound : (s : Session) (e : Entry) (io : List Bool) → IsSoundSession b.meaning s → IsSoundSession b.meaning (running_in b keys size s e s.kernel io).session
+  running_in_sound s e io h = subst (λ x. IsSoundSession b.meaning (running_in b keys size s e x io).session) (sym h.is) (running_sound s e h.kernel io h.is h.sound h.blocks)
 
-  entry_sound : (s : Session) (e : Entry) (io : List Bool) → IsNoBoot e → IsSoundSession b.meaning s → IsSoundSession b.meaning (after_entry b key size s e io).session
+  entry_sound : (s : Session) (e : Entry) (io : List Bool) → IsNoBoot e → IsSoundSession b.meaning s → IsSoundSession b.meaning (after_entry b keys size s e io).session
   entry_sound s Blank io named h = h
   entry_sound s (Frames n) io named h = record { kernel = h.kernel; is = h.is; sound = h.sound; blocks = h.blocks }
   entry_sound s (Patience kind ticks) io named h = record { kernel = h.kernel; is = h.is; sound = h.sound; blocks = h.blocks }
@@ -144,11 +145,11 @@ module _ (b : Build) (key : List ℕ) (size : ℕ) (laws : Laws b.meaning) where
   entry_sound s (Loads slot bytes) io named h = running_in_sound s (Loads slot bytes) io h
   entry_sound s Raw io named h = running_in_sound s Raw io h
 
-  parse_sound : (s : Session) (x : Result Entry ScriptFault) (io : List Bool) → SaysNoBoot x → IsSoundSession b.meaning s → IsSoundSession b.meaning (after_parse b key size s x io).session
+  parse_sound : (s : Session) (x : Result Entry ScriptFault) (io : List Bool) → SaysNoBoot x → IsSoundSession b.meaning s → IsSoundSession b.meaning (after_parse b keys size s x io).session
   parse_sound s (Err fault) io named h = record { kernel = h.kernel; is = h.is; sound = h.sound; blocks = h.blocks }
   parse_sound s (Ok e) io named h = entry_sound s e io named h
 
-  line_sound : (s : Session) (text : List ℕ) (io : List Bool) → IsSoundSession b.meaning s → IsSoundSession b.meaning (after_line b key size s text io).session
+  line_sound : (s : Session) (text : List ℕ) (io : List Bool) → IsSoundSession b.meaning s → IsSoundSession b.meaning (after_line b keys size s text io).session
   line_sound s text io h = by_refused s.refused
     where
       next : Session
@@ -159,15 +160,15 @@ module _ (b : Build) (key : List ℕ) (size : ℕ) (laws : Laws b.meaning) where
 
       by_refused : (refused : Bool) → IsSoundSession b.meaning (elim refused as (λ _. Written) [
         | true ↦ silent s io
-        | false ↦ after_parse b key size next (parsed_line (is_some s.kernel) text) io
+        | false ↦ after_parse b keys size next (parsed_line (is_some s.kernel) text) io
       ]).session
       by_refused true = h
       by_refused false =
           parse_sound next (parsed_line (is_some s.kernel) text) io (subst (λ booted. SaysNoBoot (parsed_line booted text)) (sym (ap is_some h.is)) (line_no_boot text)) after_next
 
-  lines_sound : (s : Session) (texts : List (List ℕ)) (ios : List (List Bool)) → IsSoundSession b.meaning s → IsSoundSession b.meaning (session_after b key size s texts ios)
+  lines_sound : (s : Session) (texts : List (List ℕ)) (ios : List (List Bool)) → IsSoundSession b.meaning s → IsSoundSession b.meaning (session_after b keys size s texts ios)
   lines_sound s [] ios h = h
-  lines_sound s (text ∷ texts) ios h = lines_sound (after_line b key size s text (first_io ios)).session texts (later_io ios) (line_sound s text (first_io ios) h)
+  lines_sound s (text ∷ texts) ios h = lines_sound (after_line b keys size s text (first_io ios)).session texts (later_io ios) (line_sound s text (first_io ios) h)
 
 pub lines_stay_sound : LinesStaySound
-lines_stay_sound b key size s texts ios laws h = lines_sound b key size laws s texts ios h
+lines_stay_sound b keys size s texts ios laws h = lines_sound b keys size laws s texts ios h

@@ -1,5 +1,6 @@
 -- Sessions whose kernels are sound.
 use Rattle.std.specs.Prelude.{◌≡◌, ℕ, Bool, List, Some}
+use Rattle.kernel_model.specs.declared.Keys.{Keys}
 use Rattle.kernel_model.specs.Meaning.{Meaning}
 use Rattle.kernel_model.specs.Kernel.{Kernel}
 use Rattle.kernel_model.specs.Sound.{IsSoundKernel, HasWholeBlocks}
@@ -16,5 +17,5 @@ pub record IsSoundSession (m : Meaning) (s : Session) : Type 0 where
 -- lines keep it so, whatever they say
 abbrev pub LinesStaySound : Type 0
 LinesStaySound =
-    (b : Build) (key : List ℕ) (size : ℕ) (s : Session) (texts : List (List ℕ)) (ios : List (List Bool)) → Laws b.meaning →
-    IsSoundSession b.meaning s → IsSoundSession b.meaning (session_after b key size s texts ios)
+    (b : Build) (keys : Keys) (size : ℕ) (s : Session) (texts : List (List ℕ)) (ios : List (List Bool)) → Laws b.meaning →
+    IsSoundSession b.meaning s → IsSoundSession b.meaning (session_after b keys size s texts ios)

@@ -1,5 +1,5 @@
 -- The script that `demo` generates, and the one line that it writes.
-use Rattle.std.specs.Prelude.{ℕ, zero, suc, ◌+◌, ◌*◌, ◌/◌, ◌%◌, ◌^◌, ◌==◌, Bool, true, false, cond, nat_le, List, [], ◌∷◌, ◌++◌, length, filter, map, codes, replicate}
+use Rattle.std.specs.Prelude.{ℕ, zero, suc, ◌+◌, ◌*◌, ◌/◌, ◌%◌, ◌^◌, ◌==◌, Bool, true, false, cond, nat_le, List, [], ◌∷◌, ◌++◌, length, filter, map, codes, replicate, None}
 use Rattle.sha2.specs.Sha256.{sha256}
 use Rattle.kernel_model.specs.declared.Instr.{Instr}
 use Rattle.kernel_model.specs.declared.Op.TheVariants.{Li, Mov, Sub, Sltu, Addi, Jnz, Call, Ret}
@@ -7,15 +7,16 @@ use Rattle.kernel_model.specs.declared.Note.{Note}
 use Rattle.kernel_model.specs.declared.Note.TheVariants.{Ended, Refused, Dropped}
 use Rattle.kernel_model.specs.Bytes.{hex_text}
 use Rattle.kernel_model.specs.Boxed.{instr}
-use Rattle.kernel_model.specs.Images.{sealed_image}
+use Rattle.kernel_model.specs.declared.Keys.{Keys}
+use Rattle.kernel_model.specs.Images.{sealed_under}
 use Rattle.kernel_model.specs.Directory.{Disk}
 use Rattle.kernel_model.specs.Text.{spaced, line}
 use Rattle.kernel_model.specs.Session.{Build, Written, after_lines, first_session}
 use Rattle.kernel_model.specs.Outcome.{left_lines}
 
--- the key of the script
-abbrev pub demo_key : List ℕ
-demo_key = replicate 32 0
+-- the keys of the script: the first is zeros, and there is no second
+abbrev pub demo_keys : Keys
+demo_keys = record { first = replicate 32 0; second = None }
 
 -- reads ahead what is left of three blocks, or three
 abbrev pub three : List Instr
@@ -29,7 +30,7 @@ newest_frame = instr Call 0 0 0 6 ∷ instr Addi 0 0 0 4294967295 ∷ instr Call
 
 -- a line that loads code
 abbrev pub image_line : ℕ → List Instr → List ℕ
-image_line slot code = codes "image" ++ spaced slot ++ 32 ∷ hex_text (sealed_image demo_key code [])
+image_line slot code = codes "image" ++ spaced slot ++ 32 ∷ hex_text (sealed_under demo_keys code [])
 
 -- both grafts of a process
 abbrev pub graft_lines : ℕ → List (List ℕ)
@@ -110,4 +111,4 @@ summary_by n w = summary_of n (w.bytes ++ left_lines w.session.kernel) w.notes
 
 -- the line that `demo n` writes over a disk, of which `ios` says, line for line, which of its calls fail
 abbrev pub summary : Build → ℕ → Disk → List (List Bool) → List ℕ
-summary b n d ios = summary_by n (after_lines b demo_key d.size (first_session d) (demo_lines n) ios)
+summary b n d ios = summary_by n (after_lines b demo_keys d.size (first_session d) (demo_lines n) ios)

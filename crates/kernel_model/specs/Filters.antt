@@ -1,20 +1,22 @@
--- What `box`, `check`, `asm` and `dis` write about their input, and with which status they end.
+-- What `box`, `check`, `reseal`, `asm` and `dis` write about their input, and with which status they end.
 use Rattle.std.specs.Prelude.{ℕ, ◌==◌, true, false, List, [], ◌∷◌, ◌++◌, codes, Option, None, Some, Result, Ok, Err}
 use Rattle.kernel_model.specs.declared.Instr.{Instr}
 use Rattle.kernel_model.specs.Bytes.{hex_text, hex_word}
 use Rattle.kernel_model.specs.World.{Image}
 use Rattle.kernel_model.specs.Boxed.{RewriteFault, NamesReserved, JumpsOut, CallsUnknown, NoEnd, TooLong, rewrite}
-use Rattle.kernel_model.specs.Images.{LoadFault, raw_image, sealed_image, read_raw, load}
+use Rattle.kernel_model.specs.declared.Keys.{Keys}
+use Rattle.kernel_model.specs.Images.{LoadFault, raw_image, sealed_under, read_raw, load, reseal}
 use Rattle.kernel_model.specs.declared.AsmKind.{AsmKind}
 use Rattle.kernel_model.specs.declared.AsmKind.TheVariants.{UnknownMnemonic, BadOperands, LabelNotSet, LabelSetTwice, TooManyInstructions, BadData}
 use Rattle.kernel_model.specs.Assembler.{LineFault, assemble, disassemble}
 use Rattle.kernel_model.specs.Text.{spaced, line, load_fault_text, image_text}
 use Rattle.kernel_model.specs.Outcome.{Ending, End, Fault, Over}
 
--- what is asked of the input
+-- what is asked of the input, under which keys
 pub data Filter : Type 0 where
-  Box : Filter
-  Check : Filter
+  Box : Keys → Filter
+  Check : Keys → Filter
+  Reseal : Keys → Filter
   Asm : Filter
   Dis : Filter
 
@@ -51,20 +53,25 @@ rewrite_fault_text (CallsUnknown pc) = codes "Call" ++ spaced pc
 rewrite_fault_text NoEnd = codes "End"
 rewrite_fault_text TooLong = codes "TooLarge"
 
--- a sealed image as hex, or why the code can't be boxed
-abbrev pub boxed_answer : List ℕ → List ℕ → Result (List Instr) RewriteFault → Answer
-boxed_answer key body (Err fault) = answer 6 (line (rewrite_fault_text fault))
-boxed_answer key body (Ok code) = answer 0 (line (hex_text (sealed_image key code body)))
+-- an image sealed under the last key as hex, or why the code can't be boxed
+abbrev pub boxed_answer : Keys → List ℕ → Result (List Instr) RewriteFault → Answer
+boxed_answer keys body (Err fault) = answer 6 (line (rewrite_fault_text fault))
+boxed_answer keys body (Ok code) = answer 0 (line (hex_text (sealed_under keys code body)))
 
 -- what `box` answers to a raw image
-abbrev pub box_answer : List ℕ → Result Image LoadFault → Answer
-box_answer key (Err fault) = answer 6 (line (load_fault_text fault))
-box_answer key (Ok i) = boxed_answer key i.body (rewrite i.code)
+abbrev pub box_answer : Keys → Result Image LoadFault → Answer
+box_answer keys (Err fault) = answer 6 (line (load_fault_text fault))
+box_answer keys (Ok i) = boxed_answer keys i.body (rewrite i.code)
 
 -- the sizes of an image, or the refusal
 abbrev pub check_answer : Result Image LoadFault → Answer
 check_answer (Err fault) = answer 6 (line (load_fault_text fault))
 check_answer (Ok i) = answer 0 (line (image_text i))
+
+-- the image sealed anew as hex, or the refusal
+abbrev pub reseal_answer : Result (List ℕ) LoadFault → Answer
+reseal_answer (Err fault) = answer 6 (line (load_fault_text fault))
+reseal_answer (Ok bytes) = answer 0 (line (hex_text bytes))
 
 -- the text of an image, or the refusal
 abbrev pub dis_answer : Result Image LoadFault → Answer
@@ -90,24 +97,25 @@ asm_answer (Err fault) = answer 2 (line (line_fault_text fault))
 asm_answer (Ok i) = answer 0 (line (hex_text (raw_image i.code i.body)))
 
 -- the answer to the bytes of the input
-abbrev pub bytes_answer : Filter → List ℕ → List ℕ → Answer
-bytes_answer Box key bytes = box_answer key (read_raw bytes)
-bytes_answer Check key bytes = check_answer (load key bytes)
-bytes_answer Dis key bytes = dis_answer (read_raw bytes)
-bytes_answer Asm key bytes = answer 0 []
+abbrev pub bytes_answer : Filter → List ℕ → Answer
+bytes_answer (Box keys) bytes = box_answer keys (read_raw bytes)
+bytes_answer (Check keys) bytes = check_answer (load keys bytes)
+bytes_answer (Reseal keys) bytes = reseal_answer (reseal keys bytes)
+bytes_answer Dis bytes = dis_answer (read_raw bytes)
+bytes_answer Asm bytes = answer 0 []
 
 -- the answer to a line of hex
-abbrev pub hex_answer : Filter → List ℕ → Result (List ℕ) (List ℕ) → Answer
-hex_answer f key (Err text) = answer 2 (line text)
-hex_answer f key (Ok bytes) = bytes_answer f key bytes
+abbrev pub hex_answer : Filter → Result (List ℕ) (List ℕ) → Answer
+hex_answer f (Err text) = answer 2 (line text)
+hex_answer f (Ok bytes) = bytes_answer f bytes
 
 -- the answer to a whole input
-abbrev pub input_answer : Filter → List ℕ → List ℕ → Answer
-input_answer Asm key input = asm_answer (assemble input)
-input_answer f key input = hex_answer f key (hex_line input)
+abbrev pub input_answer : Filter → List ℕ → Answer
+input_answer Asm input = asm_answer (assemble input)
+input_answer f input = hex_answer f (hex_line input)
 
 -- the answer to an input that was taken so far and ended so
-abbrev pub filter_answer : Filter → List ℕ → List ℕ → Ending → Answer
-filter_answer f key taken End = input_answer f key taken
-filter_answer f key taken Fault = answer 3 []
-filter_answer f key taken Over = answer 7 []
+abbrev pub filter_answer : Filter → List ℕ → Ending → Answer
+filter_answer f taken End = input_answer f taken
+filter_answer f taken Fault = answer 3 []
+filter_answer f taken Over = answer 7 []

@@ -1,8 +1,9 @@
--- Raw and sealed images, the seal, and what the loader makes of bytes.
-use Rattle.std.specs.Prelude.{◌≡◌, ◌≤◌, ℕ, zero, suc, ◌+◌, ◌-◌, ◌*◌, ◌==◌, Bool, true, false, ◌||◌, nat_lt, List, [], ◌∷◌, ◌++◌, length, take, drop, map, replicate, flat_map, bit_xor, codes, Option, None, Some, Result, Ok, Err}
+-- Raw and sealed images, the keys, the seal, and what the loader makes of bytes.
+use Rattle.std.specs.Prelude.{◌≡◌, ◌≤◌, ℕ, zero, suc, ◌+◌, ◌-◌, ◌*◌, ◌==◌, cond, Bool, true, false, ◌||◌, nat_lt, List, [], ◌∷◌, ◌++◌, length, take, drop, map, replicate, flat_map, bit_xor, codes, Option, None, Some, Result, Ok, Err}
 use Rattle.std.specs.List.{list_all}
 use Rattle.sha2.specs.Sha256.{sha256}
 use Rattle.kernel_model.specs.declared.Instr.{Instr}
+use Rattle.kernel_model.specs.declared.Keys.{Keys}
 use Rattle.kernel_model.specs.Bytes.{word_at, word_bytes}
 use Rattle.kernel_model.specs.World.{Image, same_bytes}
 use Rattle.kernel_model.specs.declared.IsaFault.{IsaFault}
@@ -26,14 +27,43 @@ code_bytes code = flat_map encode code
 abbrev pub raw_image : List Instr → List ℕ → List ℕ
 raw_image code body = codes "VGR0" ++ word_bytes (length code) ++ word_bytes (length body) ++ code_bytes code ++ body
 
--- what a seal is over
-abbrev pub sealed_text : List Instr → List ℕ → List ℕ
-sealed_text code body =
-    codes "VGR1" ++ word_bytes 1 ++ word_bytes (length code) ++ word_bytes (length body) ++ code_bytes code ++ body
+-- the key of a number, if there is one
+abbrev pub key_of : Keys → ℕ → Option (List ℕ)
+key_of keys number = cond (number == 0) (Some keys.first) (cond (number == 1) keys.second None)
+
+-- the number of the last key, and the key
+abbrev pub last_key : Keys → ℕ × List ℕ
+last_key keys = elim keys.second [ None ↦ (0, keys.first) | Some key ↦ (1, key) ]
+
+-- what stands before the code of a sealed image of version 1
+abbrev pub first_head : List Instr → List ℕ → List ℕ
+first_head code body = codes "VGR1" ++ word_bytes 1 ++ word_bytes (length code) ++ word_bytes (length body)
+
+-- what stands before the code of a sealed image of version 2: flags and the number of the key besides
+abbrev pub second_head : (number flags : ℕ) → List Instr → List ℕ → List ℕ
+second_head number flags code body =
+    codes "VGR1" ++ word_bytes 2 ++ word_bytes (length code) ++ word_bytes (length body)
+    ++ word_bytes flags ++ word_bytes number
+
+-- bytes with their seal behind them
+abbrev pub with_seal : List ℕ → List ℕ → List ℕ
+with_seal key text = text ++ hmac key text
+
+-- what the seal of version 2 is over
+abbrev pub sealed_text : (number flags : ℕ) → List Instr → List ℕ → List ℕ
+sealed_text number flags code body = second_head number flags code body ++ code_bytes code ++ body
+
+-- the bytes of a sealed image of version 1, which is read and no longer written
+abbrev pub first_sealed_image : List ℕ → List Instr → List ℕ → List ℕ
+first_sealed_image key code body = with_seal key (first_head code body ++ code_bytes code ++ body)
 
 -- the bytes of a sealed image
-abbrev pub sealed_image : List ℕ → List Instr → List ℕ → List ℕ
-sealed_image key code body = let text = sealed_text code body in text ++ hmac key text
+abbrev pub sealed_image : (key : List ℕ) → (number flags : ℕ) → List Instr → List ℕ → List ℕ
+sealed_image key number flags code body = with_seal key (sealed_text number flags code body)
+
+-- the bytes of an image sealed under the last key, with no flag
+abbrev pub sealed_under : Keys → List Instr → List ℕ → List ℕ
+sealed_under keys code body = let last = last_key keys in sealed_image last.1 last.0 0 code body
 
 -- what an image may be: at most 1,024 instructions whose fields fit, and at most 4,096 data bytes
 pub record IsRawImage (i : Image) : Type 0 where
@@ -47,6 +77,8 @@ pub data LoadFault : Type 0 where
   Magic : LoadFault
   Version : LoadFault
   TooLarge : LoadFault
+  BadFlags : LoadFault
+  NoKey : LoadFault
   Seal : LoadFault
   BadOp : (pc : ℕ) → LoadFault
   Register : (pc : ℕ) → LoadFault
@@ -117,36 +149,93 @@ abbrev pub verified : Result Image LoadFault → Result Image LoadFault
 verified (Err fault) = Err fault
 verified (Ok i) = boxed_image i (box_fault i.code)
 
--- the image of n instructions that stands before a right seal
-abbrev pub unsealed : ℕ → List ℕ → Result Image LoadFault
-unsealed n text = verified (image_with (drop (16 + 8 * n) text) (decoded n 0 (drop 16 text)))
+-- ---- sealed images, read
 
--- the image of sealed bytes whose length is right
-abbrev pub load_by_seal : List ℕ → List ℕ → ℕ → Result Image LoadFault
-load_by_seal key bytes n =
-    let text = take (length bytes - 32) bytes in
-    elim (same_bytes (hmac key text) (drop (length bytes - 32) bytes)) [ false ↦ Err Seal | true ↦ unsealed n text ]
+-- a version that can be read
+abbrev pub is_version : ℕ → Bool
+is_version version = version == 1 || version == 2
 
--- Loading bytes under a key gives an image, or the first refusal: length, magic, version, sizes,
--- length again, seal, the first instruction that doesn't decode, and then the first fault of boxed
--- code.
-abbrev pub load : List ℕ → List ℕ → Result Image LoadFault
-load key bytes =
+-- how many bytes stand before the code of this version
+abbrev pub head_length : (version : ℕ) → ℕ
+head_length version = cond (version == 2) 24 16
+
+-- the bytes before the code of a sealed image
+abbrev pub head_of : List ℕ → ℕ
+head_of bytes = head_length (word_at bytes 4)
+
+-- the flags of a sealed image: version 1 has none
+abbrev pub flags_of : List ℕ → ℕ
+flags_of bytes = cond (word_at bytes 4 == 2) (word_at bytes 16) 0
+
+-- the number of the key of a sealed image: that of version 1 is the first
+abbrev pub number_of : List ℕ → ℕ
+number_of bytes = cond (word_at bytes 4 == 2) (word_at bytes 20) 0
+
+-- what is wrong with the sizes of an image with so many bytes before its code
+abbrev pub size_fault : (head : ℕ) → List ℕ → Option LoadFault
+size_fault head bytes =
     let n = word_at bytes 8 in
     let d = word_at bytes 12 in
+    elim (nat_lt (length bytes) (head + 32)) [
+      | true ↦ Some Length
+      | false ↦ elim (is_too_large n d) [
+        | true ↦ Some TooLarge
+        | false ↦ elim (length bytes == head + 32 + 8 * n + d) [ false ↦ Some Length | true ↦ None ]
+      ]
+    ]
+
+-- what is wrong with sealed bytes before their flags, their key and their seal are looked at
+abbrev pub head_fault : List ℕ → Option LoadFault
+head_fault bytes =
     elim (nat_lt (length bytes) 48) [
-      | true ↦ Err Length
+      | true ↦ Some Length
       | false ↦ elim (same_bytes (take 4 bytes) (codes "VGR1")) [
-        | false ↦ Err Magic
-        | true ↦ elim (word_at bytes 4 == 1) [
-          | false ↦ Err Version
-          | true ↦ elim (is_too_large n d) [
-            | true ↦ Err TooLarge
-            | false ↦ elim (length bytes == 48 + 8 * n + d) [
-              | false ↦ Err Length
-              | true ↦ load_by_seal key bytes n
-            ]
-          ]
+        | false ↦ Some Magic
+        | true ↦ elim (is_version (word_at bytes 4)) [
+          | false ↦ Some Version
+          | true ↦ size_fault (head_of bytes) bytes
         ]
       ]
     ]
+
+-- the image of n instructions behind a head of so many bytes, where the seal is right
+abbrev pub unsealed : (head n : ℕ) → List ℕ → Result Image LoadFault
+unsealed head n text = verified (image_with (drop (head + 8 * n) text) (decoded n 0 (drop head text)))
+
+-- the image of sealed bytes whose head is right, under a key
+abbrev pub load_by_seal : List ℕ → List ℕ → Result Image LoadFault
+load_by_seal key bytes =
+    let text = take (length bytes - 32) bytes in
+    elim (same_bytes (hmac key text) (drop (length bytes - 32) bytes)) [
+      | false ↦ Err Seal
+      | true ↦ unsealed (head_of bytes) (word_at bytes 8) text
+    ]
+
+-- the same, if there is the key
+abbrev pub load_by_key : Option (List ℕ) → List ℕ → Result Image LoadFault
+load_by_key None bytes = Err NoKey
+load_by_key (Some key) bytes = load_by_seal key bytes
+
+-- the image of sealed bytes, unless their head is refused
+abbrev pub load_by_head : Keys → List ℕ → Option LoadFault → Result Image LoadFault
+load_by_head keys bytes (Some fault) = Err fault
+load_by_head keys bytes None =
+    elim (flags_of bytes == 0) [
+      | false ↦ Err BadFlags
+      | true ↦ load_by_key (key_of keys (number_of bytes)) bytes
+    ]
+
+-- Loading bytes under keys gives an image, or the first refusal: length, magic, version, sizes,
+-- length again, flags, key, seal, the first instruction that doesn't decode, and then the first
+-- fault of boxed code.
+abbrev pub load : Keys → List ℕ → Result Image LoadFault
+load keys bytes = load_by_head keys bytes (head_fault bytes)
+
+-- the bytes of what was loaded, sealed anew, or why it wasn't
+abbrev pub resealed : Keys → Result Image LoadFault → Result (List ℕ) LoadFault
+resealed keys (Err fault) = Err fault
+resealed keys (Ok i) = Ok (sealed_under keys i.code i.body)
+
+-- the bytes of a sealed image as one of version 2 under the last key, or why they don't load
+abbrev pub reseal : Keys → List ℕ → Result (List ℕ) LoadFault
+reseal keys bytes = resealed keys (load keys bytes)

@@ -3,6 +3,7 @@ use Rattle.std.specs.Prelude.{◌≡◌, ℕ, suc, ◌<◌, Bool, true, false, c
 use Rattle.std.specs.List.{concat}
 use Rattle.kernel_model.specs.World.{Blocks, processes}
 use Rattle.kernel_model.specs.Directory.{Disk}
+use Rattle.kernel_model.specs.declared.Keys.{Keys}
 use Rattle.kernel_model.specs.Kernel.{Kernel, Call}
 use Rattle.kernel_model.specs.Text.{line, left_text}
 use Rattle.kernel_model.specs.Script.{Unfinished, LINE_BYTES}
@@ -96,12 +97,12 @@ outcome_of e s pieces rest = elim s.refused [ true ↦ ends_as 2 s pieces | fals
 -- line is refused, else 3 after a failed read, 7 past the most bytes, 2 for an unfinished line, and
 -- 0 with the lines of calls left in flight. `ios` says, line for line, which calls of the disk
 -- fail.
-abbrev pub outcome : Build → (key taken : List ℕ) → Ending → Disk → List (List Bool) → Outcome
-outcome b key taken e d ios =
+abbrev pub outcome : Build → Keys → (taken : List ℕ) → Ending → Disk → List (List Bool) → Outcome
+outcome b keys taken e d ios =
     let script = take SCRIPT_BYTES taken in
     let lines = lines_after [] script in
     let s = first_session d in
-    outcome_of e (session_after b key d.size s lines ios) (pieces_of b key d.size s lines ios) (rest_after [] script)
+    outcome_of e (session_after b keys d.size s lines ios) (pieces_of b keys d.size s lines ios) (rest_after [] script)
 
 -- bytes that stop within a piece: some pieces whole, and not all of the next
 pub record IsCutShort (pieces : List (List ℕ)) (bytes : List ℕ) : Type 0 where

@@ -6,6 +6,7 @@ use Rattle.kernel_model.specs.declared.Note.{Note}
 use Rattle.kernel_model.specs.Objects.{at}
 use Rattle.kernel_model.specs.World.{World, Image, Blocks}
 use Rattle.kernel_model.specs.Directory.{Disk, directory_of, usable_count}
+use Rattle.kernel_model.specs.declared.Keys.{Keys}
 use Rattle.kernel_model.specs.Images.{LoadFault, load}
 use Rattle.kernel_model.specs.Meaning.{Meaning, disk_fails}
 use Rattle.kernel_model.specs.Kernel.{Kernel, Run}
@@ -159,11 +160,11 @@ abbrev pub later_io : List (List Bool) → List (List Bool)
 later_io [] = []
 later_io (io ∷ rest) = rest
 
-module _ (b : Build) (key : List ℕ) (size : ℕ) where
+module _ (b : Build) (keys : Keys) (size : ℕ) where
   -- an entry after `boot`
   abbrev pub running : Session → Entry → Kernel → List Bool → Written
   running s (Happens e) k io = after_event s (suc s.events) (event b.meaning k s.blocks (suc s.events) e io)
-  running s (Loads slot bytes) k io = image_line_run s slot (load key bytes) k io
+  running s (Loads slot bytes) k io = image_line_run s slot (load keys bytes) k io
   running s Raw k io = says (record s { events = suc s.events }) (row_lines (suc s.events) (raw_rows b.meaning k)) io
   running s _ k io = silent s io
 

@@ -237,6 +237,13 @@ pub struct Instr {
     pub imm: u32,
 }
 
+/// The keys under which images are sealed: the first, whose number is 0, and the second, number 1, if one was given.
+#[derive(Clone, Copy)]
+pub struct Keys {
+    pub first: [u8; 32],
+    pub second: Option<[u8; 32]>,
+}
+
 /// A frame of the cache that is in use.
 #[derive(Clone, Copy, Default)]
 pub struct FrameRow {

@@ -4,6 +4,7 @@ use Rattle.std.proofs.Common.{arith, refl, subst}
 use Rattle.kernel_model.specs.declared.Event.{Event}
 use Rattle.kernel_model.specs.declared.Event.TheVariants.{Tick, Step, Sys}
 use Rattle.kernel_model.specs.World.{Image, Blocks}
+use Rattle.kernel_model.specs.declared.Keys.{Keys}
 use Rattle.kernel_model.specs.Images.{LoadFault}
 use Rattle.kernel_model.specs.Kernel.{Kernel}
 use Rattle.kernel_model.specs.Events.{event}
@@ -53,16 +54,16 @@ events_raise : (m : Meaning) (n : ℕ) (blocks : Blocks) (x : Option Kernel) →
 events_raise m n blocks None = tt
 events_raise m n blocks (Some k) = λ e io. event_clock m k blocks (suc n) e io
 
-module _ (b : Build) (key : List ℕ) (size : ℕ) where
+module _ (b : Build) (keys : Keys) (size : ℕ) where
   lines_within : (s : Session) (texts : List (List ℕ)) (ios : List (List Bool)) → IsWithin clock_of s →
-      IsWithin clock_of (session_after b key size s texts ios)
+      IsWithin clock_of (session_after b keys size s texts ios)
   lines_within s [] ios h = h
   lines_within s (text ∷ texts) ios h =
-      lines_within (after_line b key size s text (first_io ios)).session texts (later_io ios)
-      (line_within clock_of clock_counts b key size s text (first_io ios)
+      lines_within (after_line b keys size s text (first_io ios)).session texts (later_io ios)
+      (line_within clock_of clock_counts b keys size s text (first_io ios)
       (events_raise b.meaning s.events s.blocks s.kernel) h)
 
 pub clock_within_events : ClockWithinEvents
-clock_within_events b key d texts ios k is =
-    let s = session_after b key d.size (first_session d) texts ios in
-    subst (WithinEvents clock_of s.events) is (lines_within b key d.size (first_session d) texts ios tt)
+clock_within_events b keys d texts ios k is =
+    let s = session_after b keys d.size (first_session d) texts ios in
+    subst (WithinEvents clock_of s.events) is (lines_within b keys d.size (first_session d) texts ios tt)

@@ -5,6 +5,7 @@ use Rattle.kernel_model.specs.declared.Event.{Event}
 use Rattle.kernel_model.specs.declared.FileRow.{FileRow}
 use Rattle.kernel_model.specs.World.{World, Image, Blocks}
 use Rattle.kernel_model.specs.Directory.{directory_of, usable_count}
+use Rattle.kernel_model.specs.declared.Keys.{Keys}
 use Rattle.kernel_model.specs.Images.{LoadFault, load}
 use Rattle.kernel_model.specs.Kernel.{Kernel}
 use Rattle.kernel_model.specs.Events.{event}
@@ -68,17 +69,17 @@ module _ (f : Kernel → ℕ) where
         by_slot true = refl
         by_slot false = by_free (k.images slot)
 
-    module _ (b : Build) (key : List ℕ) (size : ℕ) where
+    module _ (b : Build) (keys : Keys) (size : ℕ) where
       -- a kernel after an entry that isn't set-up
       running_within : (s : Session) (e : Entry) (x : Option Kernel) (io : List Bool) → IsWithin s →
           RaisesByOne b.meaning s.events s.blocks x → WithinEvents s.events x →
-          IsWithin (running_in b key size s e x io).session
+          IsWithin (running_in b keys size s e x io).session
       running_within s e None io h raises within = h
       running_within s (Happens e) (Some k) io h raises within =
           raised (f (event b.meaning k s.blocks (suc s.events) e io).kernel) (f k) s.events
           (raises e io) within
       running_within s (Loads slot bytes) (Some k) io h raises within =
-          subst (λ n. n ≤ suc s.events) (sym (image_leaves slot (load key bytes) k))
+          subst (λ n. n ≤ suc s.events) (sym (image_leaves slot (load keys bytes) k))
           (one_more s.events (Some k) within)
       running_within s Raw (Some k) io h raises within = one_more s.events s.kernel h
       running_within s Blank (Some k) io h raises within = h
@@ -109,7 +110,7 @@ module _ (f : Kernel → ℕ) where
 
       entry_within : (s : Session) (e : Entry) (io : List Bool) →
           RaisesByOne b.meaning s.events s.blocks s.kernel → IsWithin s →
-          IsWithin (after_entry b key size s e io).session
+          IsWithin (after_entry b keys size s e io).session
       entry_within s Blank io raises h = h
       entry_within s (Frames n) io raises h = h
       entry_within s (Patience kind ticks) io raises h = h
@@ -122,14 +123,14 @@ module _ (f : Kernel → ℕ) where
 
       parse_within : (s : Session) (x : Result Entry ScriptFault) (io : List Bool) →
           RaisesByOne b.meaning s.events s.blocks s.kernel → IsWithin s →
-          IsWithin (after_parse b key size s x io).session
+          IsWithin (after_parse b keys size s x io).session
       parse_within s (Err fault) io raises h = h
       parse_within s (Ok e) io raises h = entry_within s e io raises h
 
       -- a line of a session whose next event raises the count by at most one
       pub line_within : (s : Session) (text : List ℕ) (io : List Bool) →
           RaisesByOne b.meaning s.events s.blocks s.kernel → IsWithin s →
-          IsWithin (after_line b key size s text io).session
+          IsWithin (after_line b keys size s text io).session
       line_within s text io raises h = by_refused s.refused
         where
           next : Session
@@ -137,7 +138,7 @@ module _ (f : Kernel → ℕ) where
 
           by_refused : (refused : Bool) → IsWithin (elim refused as (λ _. Written) [
             | true ↦ silent s io
-            | false ↦ after_parse b key size next (parsed_line (is_some s.kernel) text) io
+            | false ↦ after_parse b keys size next (parsed_line (is_some s.kernel) text) io
           ]).session
           by_refused true = h
           by_refused false = parse_within next (parsed_line (is_some s.kernel) text) io raises h

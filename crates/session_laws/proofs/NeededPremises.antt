@@ -5,6 +5,7 @@ use Rattle.kernel_model.specs.World.{World}
 use Rattle.kernel_model.specs.Objects.{Accounts}
 use Rattle.kernel_model.specs.Locks.{untouched}
 use Rattle.kernel_model.specs.Directory.{Disk, directory_of}
+use Rattle.kernel_model.specs.declared.Keys.{Keys}
 use Rattle.kernel_model.specs.Levels.{Level, Config}
 use Rattle.kernel_model.specs.GraftStep.{micro}
 use Rattle.kernel_model.specs.Kernel.{Kernel}
@@ -16,6 +17,10 @@ use Rattle.session_laws.specs.Sessions.{run_of}
 -- a world of the least size
 abbrev small_world : World
 small_world = record { frames = 2; patience = λ kind. 10; grant = 0; disk_size = 1; directory = []; callable = 15 }
+
+-- keys under which nothing is loaded here
+abbrev some_keys : Keys
+some_keys = record { first = []; second = None }
 
 -- one is not within none
 not_within : 1 ≤ 0 → ⊥
@@ -29,7 +34,7 @@ no_blocks = record { size = 0; block = λ i. [] }
 
 -- over it the kernel after boot isn't sound
 boots_unsound :
-    ((k : Kernel) → (run_of whole [] no_blocks (codes "boot" ∷ []) []).kernel ≡ Some k →
+    ((k : Kernel) → (run_of whole some_keys no_blocks (codes "boot" ∷ []) []).kernel ≡ Some k →
     IsSoundKernel whole.meaning k) →
     ⊥
 boots_unsound h =
@@ -97,6 +102,6 @@ clock_in None = 0
 clock_in (Some k) = k.clock
 
 -- from another session than the first the clock may be beyond the events
-late_is_beyond : clock_in (session_after whole [] 1 late_session [] []).kernel ≤
-    (session_after whole [] 1 late_session [] []).events → ⊥
+late_is_beyond : clock_in (session_after whole some_keys 1 late_session [] []).kernel ≤
+    (session_after whole some_keys 1 late_session [] []).events → ⊥
 late_is_beyond h = not_within h

@@ -1,6 +1,7 @@
 -- The kernels of runs are sound.
 use Rattle.std.specs.Prelude.{◌≡◌, ℕ, suc, ◌<◌, ◌≤◌, Bool, true, false, List, [], ◌∷◌, drop, length, is_some, codes, slice_index_or, Option, Some, None, Result, Ok, Err}
 use Rattle.std.proofs.Common.{arith, refl, subst, sym}
+use Rattle.kernel_model.specs.declared.Keys.{Keys}
 use Rattle.kernel_model.specs.declared.FileRow.{FileRow}
 use Rattle.kernel_model.specs.Directory.{Disk, directory_of, usable_count, lies_on_disk}
 use Rattle.kernel_model.specs.Kernel.{Kernel}
@@ -17,7 +18,7 @@ use Rattle.session_laws.specs.Sessions.{IsRunnable, RunsAreSound}
 use Rattle.session_laws.proofs.DirectoryLemmas.{row_count, rows_lie, ends_on}
 use Rattle.session_laws.proofs.SetupLemmas.{IsRight, SaysRight, line_right}
 
-module _ (b : Build) (key : List ℕ) (size : ℕ) where
+module _ (b : Build) (keys : Keys) (size : ℕ) where
   -- a set-up with which a kernel can begin, over whole blocks
   pub record IsSetUp (s : Session) : Type 0 where
     pub least : 2 ≤ s.setup.frames
@@ -90,22 +91,22 @@ module _ (b : Build) (key : List ℕ) (size : ℕ) where
 
     -- an entry that needs a kernel does nothing
     idle_stands : (s : Session) (e : Entry) (io : List Bool) → s.kernel ≡ None → Stands s →
-        Stands (running_in b key size s e s.kernel io).session
-    idle_stands s e io none h = subst (λ x. Stands (running_in b key size s e x io).session) (sym none) h
+        Stands (running_in b keys size s e s.kernel io).session
+    idle_stands s e io none h = subst (λ x. Stands (running_in b keys size s e x io).session) (sym none) h
 
     entry_stands : (s : Session) (e : Entry) (io : List Bool) → s.kernel ≡ None →
-        IsRight (is_some s.kernel) e → Stands s → Stands (after_entry b key size s e io).session
+        IsRight (is_some s.kernel) e → Stands s → Stands (after_entry b keys size s e io).session
     entry_stands s Blank io none right h = h
     entry_stands s (Frames n) io none right h =
         stands_up (record s { setup = record (s.setup) { frames = n } }) none
         (record { least = right.0; most = right.1; blocks = (set_up s none h).blocks })
     entry_stands s (Patience kind ticks) io none right h =
         let u = set_up s none h in
-        stands_up (after_entry b key size s (Patience kind ticks) io).session none
+        stands_up (after_entry b keys size s (Patience kind ticks) io).session none
         (record { least = u.least; most = u.most; blocks = u.blocks })
     entry_stands s (Grant n) io none right h =
         let u = set_up s none h in
-        stands_up (after_entry b key size s (Grant n) io).session none
+        stands_up (after_entry b keys size s (Grant n) io).session none
         (record { least = u.least; most = u.most; blocks = u.blocks })
     entry_stands s Boot io none right h = boot_stands s io (set_up s none h)
     entry_stands s (Happens e) io none right h = idle_stands s (Happens e) io none h
@@ -113,14 +114,14 @@ module _ (b : Build) (key : List ℕ) (size : ℕ) where
     entry_stands s Raw io none right h = idle_stands s Raw io none h
 
     parse_stands : (s : Session) (x : Result Entry ScriptFault) (io : List Bool) → s.kernel ≡ None →
-        SaysRight (is_some s.kernel) x → Stands s → Stands (after_parse b key size s x io).session
+        SaysRight (is_some s.kernel) x → Stands s → Stands (after_parse b keys size s x io).session
     parse_stands s (Err fault) io none right h =
         let u = set_up s none h in
         stands_up (record s { refused = true }) none (record { least = u.least; most = u.most; blocks = u.blocks })
     parse_stands s (Ok e) io none right h = entry_stands s e io none right h
 
     first_stands : (s : Session) (text : List ℕ) (io : List Bool) → s.kernel ≡ None → IsSetUp s →
-        Stands (after_line b key size s text io).session
+        Stands (after_line b keys size s text io).session
     first_stands s text io none h = by_refused s.refused
       where
         next : Session
@@ -128,7 +129,7 @@ module _ (b : Build) (key : List ℕ) (size : ℕ) where
 
         by_refused : (refused : Bool) → Stands (elim refused as (λ _. Written) [
           | true ↦ silent s io
-          | false ↦ after_parse b key size next (parsed_line (is_some s.kernel) text) io
+          | false ↦ after_parse b keys size next (parsed_line (is_some s.kernel) text) io
         ]).session
         by_refused true = stands_up s none h
         by_refused false =
@@ -138,28 +139,28 @@ module _ (b : Build) (key : List ℕ) (size : ℕ) where
     -- ---- all lines
 
     pub line_stands : (s : Session) (text : List ℕ) (io : List Bool) → Stands s →
-        Stands (after_line b key size s text io).session
+        Stands (after_line b keys size s text io).session
     line_stands s text io h = by_kernel s.kernel refl h
       where
         by_kernel : (x : Option Kernel) → s.kernel ≡ x → StandsWith s x →
-            Stands (after_line b key size s text io).session
+            Stands (after_line b keys size s text io).session
         by_kernel None is stands = first_stands s text io is stands
         by_kernel (Some k) is stands =
-            let after = lines_stay_sound b key size s (text ∷ []) (io ∷ []) laws
+            let after = lines_stay_sound b keys size s (text ∷ []) (io ∷ []) laws
             (record { kernel = k; is = is; sound = stands.0; blocks = stands.1 }) in
-            subst (StandsWith (after_line b key size s text io).session) (sym after.is) (after.sound, after.blocks)
+            subst (StandsWith (after_line b keys size s text io).session) (sym after.is) (after.sound, after.blocks)
 
     lines_stand : (s : Session) (texts : List (List ℕ)) (ios : List (List Bool)) → Stands s →
-        Stands (session_after b key size s texts ios)
+        Stands (session_after b keys size s texts ios)
     lines_stand s [] ios h = h
     lines_stand s (text ∷ texts) ios h =
-        lines_stand (after_line b key size s text (first_io ios)).session texts (later_io ios)
+        lines_stand (after_line b keys size s text (first_io ios)).session texts (later_io ios)
         (line_stands s text (first_io ios) h)
 
 -- the first session stands
-pub first_session_stands : (b : Build) (key : List ℕ) (d : Disk) → IsRunnable b d →
-    Stands b key d.size (first_session d)
-first_session_stands b key d h = record { least = few; most = many; blocks = h.blocks }
+pub first_session_stands : (b : Build) (keys : Keys) (d : Disk) → IsRunnable b d →
+    Stands b keys d.size (first_session d)
+first_session_stands b keys d h = record { least = few; most = many; blocks = h.blocks }
   where
     few : 2 ≤ 8
     few = omega arith
@@ -168,8 +169,8 @@ first_session_stands b key d h = record { least = few; most = many; blocks = h.b
     many = omega arith
 
 pub runs_are_sound : RunsAreSound
-runs_are_sound b key d texts ios k h is =
-    let s = session_after b key d.size (first_session d) texts ios in
-    subst (StandsWith b key d.size s) is
-    (lines_stand b key d.size h.laws h.callable h.some h.most (first_session d) texts ios
-    (first_session_stands b key d h))
+runs_are_sound b keys d texts ios k h is =
+    let s = session_after b keys d.size (first_session d) texts ios in
+    subst (StandsWith b keys d.size s) is
+    (lines_stand b keys d.size h.laws h.callable h.some h.most (first_session d) texts ios
+    (first_session_stands b keys d h))

@@ -1,6 +1,7 @@
 -- The slices of all processes, and the calls in flight, are together at most a run's events.
 use Rattle.std.specs.Prelude.{◌≡◌, ℕ, suc, ◌+◌, ◌≤◌, nat_le, ◌&&◌, Bool, true, false, List, [], ◌∷◌, Option, Some, None, is_some, Result, Ok, Err}
 use Rattle.std.proofs.Common.{arith, refl, subst, sym, ap}
+use Rattle.kernel_model.specs.declared.Keys.{Keys}
 use Rattle.kernel_model.specs.declared.Event.{Event}
 use Rattle.kernel_model.specs.declared.Event.TheVariants.{Tick, Step, Sys}
 use Rattle.kernel_model.specs.declared.Note.TheVariants.{Refused, Ran}
@@ -167,9 +168,9 @@ module _ (m : Meaning) (laws : Laws m) where
 
 -- ---- lines
 
-module _ (b : Build) (key : List ℕ) (size : ℕ) where
+module _ (b : Build) (keys : Keys) (size : ℕ) where
   -- an event of a session that stands
-  events_raise : Laws b.meaning → (s : Session) (x : Option Kernel) → StandsWith b key size s x →
+  events_raise : Laws b.meaning → (s : Session) (x : Option Kernel) → StandsWith b keys size s x →
       RaisesByOne slices_due b.meaning s.events s.blocks x
   events_raise laws s None h = tt
   events_raise laws s (Some k) h =
@@ -178,18 +179,18 @@ module _ (b : Build) (key : List ℕ) (size : ℕ) where
       (sound_stands b.meaning k s.blocks h.0 h.1)
 
   module _ (laws : Laws b.meaning) (callable : b.callable ≤ 15) (some : 1 ≤ size) (high : size ≤ 4096) where
-    lines_within : (s : Session) (texts : List (List ℕ)) (ios : List (List Bool)) → Stands b key size s →
-        IsWithin slices_due s → IsWithin slices_due (session_after b key size s texts ios)
+    lines_within : (s : Session) (texts : List (List ℕ)) (ios : List (List Bool)) → Stands b keys size s →
+        IsWithin slices_due s → IsWithin slices_due (session_after b keys size s texts ios)
     lines_within s [] ios stands h = h
     lines_within s (text ∷ texts) ios stands h =
-        lines_within (after_line b key size s text (first_io ios)).session texts (later_io ios)
-        (line_stands b key size laws callable some high s text (first_io ios) stands)
-        (line_within slices_due slices_count b key size s text (first_io ios)
+        lines_within (after_line b keys size s text (first_io ios)).session texts (later_io ios)
+        (line_stands b keys size laws callable some high s text (first_io ios) stands)
+        (line_within slices_due slices_count b keys size s text (first_io ios)
         (events_raise laws s s.kernel stands) h)
 
 pub slices_within_events : SlicesWithinEvents
-slices_within_events b key d texts ios k h is =
-    let s = session_after b key d.size (first_session d) texts ios in
+slices_within_events b keys d texts ios k h is =
+    let s = session_after b keys d.size (first_session d) texts ios in
     subst (WithinEvents slices_due s.events) is
-    (lines_within b key d.size h.laws h.callable h.some h.most (first_session d) texts ios
-    (first_session_stands b key d h) tt)
+    (lines_within b keys d.size h.laws h.callable h.some h.most (first_session d) texts ios
+    (first_session_stands b keys d h) tt)

@@ -6,6 +6,7 @@ use Rattle.kernel_model.specs.declared.Event.TheVariants.{Tick, Step, Sys}
 use Rattle.kernel_model.specs.declared.FileRow.{FileRow}
 use Rattle.kernel_model.specs.World.{Blocks}
 use Rattle.kernel_model.specs.Directory.{directory_of, usable_count}
+use Rattle.kernel_model.specs.declared.Keys.{Keys}
 use Rattle.kernel_model.specs.Images.{load}
 use Rattle.kernel_model.specs.Kernel.{Kernel}
 use Rattle.kernel_model.specs.Events.{event}
@@ -46,25 +47,25 @@ none_counts Tick = refl
 none_counts (Step p count) = refl
 none_counts (Sys p call) = refl
 
-module _ (b : Build) (key : List ℕ) (size : ℕ) where
+module _ (b : Build) (keys : Keys) (size : ℕ) where
   -- what an entry makes of the clock
   abbrev Counts : Session → Session → Bool → Type 0
   Counts s u tick = clock_in u.kernel ≡ once_if tick + clock_in s.kernel
 
   -- an event, by the kernel if there is one
   happens_counts : (s : Session) (e : Event) (x : Option Kernel) (io : List Bool) → s.kernel ≡ x →
-      clock_in (running_in b key size s (Happens e) x io).session.kernel ≡ once_if (is_tick e && is_some x) + clock_in x
+      clock_in (running_in b keys size s (Happens e) x io).session.kernel ≡ once_if (is_tick e && is_some x) + clock_in x
   happens_counts s e None io is = ap clock_in is ∙ none_counts e
   happens_counts s e (Some k) io is = event_counts b.meaning k s.blocks (suc s.events) e io
 
   loads_counts : (s : Session) (slot : ℕ) (bytes : List ℕ) (x : Option Kernel) (io : List Bool) →
       s.kernel ≡ x →
-      clock_in (running_in b key size s (Loads slot bytes) x io).session.kernel ≡ clock_in x
+      clock_in (running_in b keys size s (Loads slot bytes) x io).session.kernel ≡ clock_in x
   loads_counts s slot bytes None io is = ap clock_in is
-  loads_counts s slot bytes (Some k) io is = image_clock slot (load key bytes) k
+  loads_counts s slot bytes (Some k) io is = image_clock slot (load keys bytes) k
 
   raw_counts : (s : Session) (x : Option Kernel) (io : List Bool) → s.kernel ≡ x →
-      clock_in (running_in b key size s Raw x io).session.kernel ≡ clock_in x
+      clock_in (running_in b keys size s Raw x io).session.kernel ≡ clock_in x
   raw_counts s None io is = ap clock_in is
   raw_counts s (Some k) io is = ap clock_in is
 
@@ -86,7 +87,7 @@ module _ (b : Build) (key : List ℕ) (size : ℕ) where
       by_fault false = refl
 
   entry_counts : (s : Session) (e : Entry) (io : List Bool) → IsRight (is_some s.kernel) e →
-      Counts s (after_entry b key size s e io).session (is_tick_entry e && is_some s.kernel)
+      Counts s (after_entry b keys size s e io).session (is_tick_entry e && is_some s.kernel)
   entry_counts s Blank io right = none_more (clock_in s.kernel)
   entry_counts s (Frames n) io right = none_more (clock_in s.kernel)
   entry_counts s (Patience kind ticks) io right = none_more (clock_in s.kernel)
@@ -99,12 +100,12 @@ module _ (b : Build) (key : List ℕ) (size : ℕ) where
 
   parse_counts : (s : Session) (x : Result Entry ScriptFault) (io : List Bool) →
       SaysRight (is_some s.kernel) x →
-      Counts s (after_parse b key size s x io).session (says_tick x && is_some s.kernel)
+      Counts s (after_parse b keys size s x io).session (says_tick x && is_some s.kernel)
   parse_counts s (Err fault) io right = none_more (clock_in s.kernel)
   parse_counts s (Ok e) io right = entry_counts s e io right
 
   line_counts : (s : Session) (text : List ℕ) (io : List Bool) →
-      Counts s (after_line b key size s text io).session (is_tick_line s text)
+      Counts s (after_line b keys size s text io).session (is_tick_line s text)
   line_counts s text io = by_refused s.refused
     where
       next : Session
@@ -113,7 +114,7 @@ module _ (b : Build) (key : List ℕ) (size : ℕ) where
       by_refused : (refused : Bool) →
           Counts s (elim refused as (λ _. Written) [
             | true ↦ silent s io
-            | false ↦ after_parse b key size next (parsed_line (is_some s.kernel) text) io
+            | false ↦ after_parse b keys size next (parsed_line (is_some s.kernel) text) io
           ]).session
           (elim refused as
           (λ _. Bool) [
@@ -124,13 +125,13 @@ module _ (b : Build) (key : List ℕ) (size : ℕ) where
       by_refused false = parse_counts next (parsed_line (is_some s.kernel) text) io (line_right (is_some s.kernel) text)
 
   lines_count : (s : Session) (texts : List (List ℕ)) (ios : List (List Bool)) →
-      clock_in (session_after b key size s texts ios).kernel ≡ tick_lines b key size s texts ios + clock_in s.kernel
+      clock_in (session_after b keys size s texts ios).kernel ≡ tick_lines b keys size s texts ios + clock_in s.kernel
   lines_count s [] ios = none_more (clock_in s.kernel)
   lines_count s (text ∷ texts) ios =
-      let u = (after_line b key size s text (first_io ios)).session in
-      added (once_if (is_tick_line s text)) (tick_lines b key size u texts (later_io ios)) (clock_in s.kernel)
+      let u = (after_line b keys size s text (first_io ios)).session in
+      added (once_if (is_tick_line s text)) (tick_lines b keys size u texts (later_io ios)) (clock_in s.kernel)
       (clock_in u.kernel)
-      (clock_in (session_after b key size u texts (later_io ios)).kernel)
+      (clock_in (session_after b keys size u texts (later_io ios)).kernel)
       (line_counts s text (first_io ios)) (lines_count u texts (later_io ios))
     where
       added : (tick ticks before after last : ℕ) → after ≡ tick + before → last ≡ ticks + after →
@@ -138,9 +139,9 @@ module _ (b : Build) (key : List ℕ) (size : ℕ) where
       added tick ticks before after last e f = omega arith
 
 pub clock_counts_ticks : ClockCountsTicks
-clock_counts_ticks b key d texts ios k is =
-    from_zero k.clock (tick_lines b key d.size (first_session d) texts ios)
-    (sym (ap clock_in is) ∙ lines_count b key d.size (first_session d) texts ios)
+clock_counts_ticks b keys d texts ios k is =
+    from_zero k.clock (tick_lines b keys d.size (first_session d) texts ios)
+    (sym (ap clock_in is) ∙ lines_count b keys d.size (first_session d) texts ios)
   where
     from_zero : (n ticks : ℕ) → n ≡ ticks + 0 → n ≡ ticks
     from_zero n ticks e = omega arith

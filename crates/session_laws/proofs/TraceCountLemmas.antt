@@ -177,5 +177,5 @@ calls_fit m k p c l sound e there =
 -- ---- runs
 
 pub runs_keep_counts : RunsAreSound → RunsFit
-runs_keep_counts sound b key d texts ios k p c l h is e there =
-    calls_fit b.meaning k p c l (sound b key d texts ios k h is).0 e there
+runs_keep_counts sound b keys d texts ios k p c l h is e there =
+    calls_fit b.meaning k p c l (sound b keys d texts ios k h is).0 e there

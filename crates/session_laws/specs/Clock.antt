@@ -1,5 +1,6 @@
 -- What the clock of a run counts.
 use Rattle.std.specs.Prelude.{◌≡◌, ℕ, ◌+◌, ◌≤◌, Bool, true, false, ◌&&◌, List, [], ◌∷◌, is_some, Some, Result, Ok, Err}
+use Rattle.kernel_model.specs.declared.Keys.{Keys}
 use Rattle.kernel_model.specs.Directory.{Disk}
 use Rattle.kernel_model.specs.Kernel.{Kernel}
 use Rattle.kernel_model.specs.Script.{Entry, Happens, ScriptFault, parsed_line}
@@ -24,20 +25,20 @@ is_tick_line s text =
     elim s.refused [ true ↦ false | false ↦ says_tick (parsed_line (is_some s.kernel) text) && is_some s.kernel ]
 
 -- how many of these lines are
-abbrev pub tick_lines : Build → (key : List ℕ) → (size : ℕ) → Session → List (List ℕ) → List (List Bool) → ℕ
-tick_lines b key size s [] ios = 0
-tick_lines b key size s (text ∷ texts) ios =
+abbrev pub tick_lines : Build → Keys → (size : ℕ) → Session → List (List ℕ) → List (List Bool) → ℕ
+tick_lines b keys size s [] ios = 0
+tick_lines b keys size s (text ∷ texts) ios =
     once_if (is_tick_line s text)
-    + tick_lines b key size (after_line b key size s text (first_io ios)).session texts (later_io ios)
+    + tick_lines b keys size (after_line b keys size s text (first_io ios)).session texts (later_io ios)
 
 -- the clock of a run is the number of its lines that are run as ticks
 abbrev pub ClockCountsTicks : Type 0
 ClockCountsTicks =
-    (b : Build) (key : List ℕ) (d : Disk) (texts : List (List ℕ)) (ios : List (List Bool)) (k : Kernel) →
-    (run_of b key d texts ios).kernel ≡ Some k → k.clock ≡ tick_lines b key d.size (first_session d) texts ios
+    (b : Build) (keys : Keys) (d : Disk) (texts : List (List ℕ)) (ios : List (List Bool)) (k : Kernel) →
+    (run_of b keys d texts ios).kernel ≡ Some k → k.clock ≡ tick_lines b keys d.size (first_session d) texts ios
 
 -- the clock of a run is at most the number of its events
 abbrev pub ClockWithinEvents : Type 0
 ClockWithinEvents =
-    (b : Build) (key : List ℕ) (d : Disk) (texts : List (List ℕ)) (ios : List (List Bool)) (k : Kernel) →
-    (run_of b key d texts ios).kernel ≡ Some k → k.clock ≤ (run_of b key d texts ios).events
+    (b : Build) (keys : Keys) (d : Disk) (texts : List (List ℕ)) (ios : List (List Bool)) (k : Kernel) →
+    (run_of b keys d texts ios).kernel ≡ Some k → k.clock ≤ (run_of b keys d texts ios).events

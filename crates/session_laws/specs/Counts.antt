@@ -1,5 +1,6 @@
 -- How many instructions the levels of a graft call have taken.
 use Rattle.std.specs.Prelude.{◌≡◌, ℕ, ◌≤◌, Bool, List, Some, Contains}
+use Rattle.kernel_model.specs.declared.Keys.{Keys}
 use Rattle.kernel_model.specs.World.{World, ImageTable}
 use Rattle.kernel_model.specs.Objects.{Objects, GraftValue}
 use Rattle.kernel_model.specs.Directory.{Disk}
@@ -43,8 +44,8 @@ CallsFit m =
 -- so it is in each kernel of a run over a disk of whole blocks
 abbrev pub RunsFit : Type 0
 RunsFit =
-    (b : Build) (key : List ℕ) (d : Disk) (texts : List (List ℕ)) (ios : List (List Bool)) (k : Kernel) (p : ℕ)
+    (b : Build) (keys : Keys) (d : Disk) (texts : List (List ℕ)) (ios : List (List Bool)) (k : Kernel) (p : ℕ)
     (c : Config) (l : Level) →
-    IsRunnable b d → (run_of b key d texts ios).kernel ≡ Some k → config_of b.meaning k p ≡ Some c →
+    IsRunnable b d → (run_of b keys d texts ios).kernel ≡ Some k → config_of b.meaning k p ≡ Some c →
     Contains c.levels l →
     l.count ≤ limit_in (c.now.accounts.graft l.owner l.point)

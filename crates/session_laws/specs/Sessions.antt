@@ -1,5 +1,6 @@
 -- Whole runs: sessions over a disk, from the first on.
 use Rattle.std.specs.Prelude.{◌≡◌, ℕ, ◌<◌, ◌≤◌, Bool, List, length, Some}
+use Rattle.kernel_model.specs.declared.Keys.{Keys}
 use Rattle.kernel_model.specs.Directory.{Disk}
 use Rattle.kernel_model.specs.Kernel.{Kernel}
 use Rattle.kernel_model.specs.Laws.{Laws}
@@ -7,8 +8,8 @@ use Rattle.kernel_model.specs.Session.{Build, Session, first_session, session_af
 use Rattle.kernel_model.specs.Sound.{IsSoundKernel, HasWholeBlocks}
 
 -- the session over a disk after these lines, with one list for each line's calls of the disk
-abbrev pub run_of : Build → (key : List ℕ) → Disk → List (List ℕ) → List (List Bool) → Session
-run_of b key d texts ios = session_after b key d.size (first_session d) texts ios
+abbrev pub run_of : Build → Keys → Disk → List (List ℕ) → List (List Bool) → Session
+run_of b keys d texts ios = session_after b keys d.size (first_session d) texts ios
 
 -- calls that meet the laws, ids up to 15, and a disk of 1 to 4,096 blocks of 512 bytes
 pub record IsRunnable (b : Build) (d : Disk) : Type 0 where
@@ -21,7 +22,7 @@ pub record IsRunnable (b : Build) (d : Disk) : Type 0 where
 -- where a run has a kernel, that is sound, and the disk's blocks are whole
 abbrev pub RunsAreSound : Type 0
 RunsAreSound =
-    (b : Build) (key : List ℕ) (d : Disk) (texts : List (List ℕ)) (ios : List (List Bool)) (k : Kernel) →
+    (b : Build) (keys : Keys) (d : Disk) (texts : List (List ℕ)) (ios : List (List Bool)) (k : Kernel) →
     IsRunnable b d →
-    (run_of b key d texts ios).kernel ≡ Some k →
-    IsSoundKernel b.meaning k × HasWholeBlocks k.world (run_of b key d texts ios).blocks
+    (run_of b keys d texts ios).kernel ≡ Some k →
+    IsSoundKernel b.meaning k × HasWholeBlocks k.world (run_of b keys d texts ios).blocks

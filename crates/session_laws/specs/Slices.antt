@@ -1,5 +1,6 @@
 -- How many slices the processes of a run have.
 use Rattle.std.specs.Prelude.{◌≡◌, ℕ, ◌+◌, ◌≤◌, Bool, List, Some, is_some}
+use Rattle.kernel_model.specs.declared.Keys.{Keys}
 use Rattle.kernel_model.specs.Directory.{Disk}
 use Rattle.kernel_model.specs.Kernel.{Kernel}
 use Rattle.kernel_model.specs.Laws.{slices_in}
@@ -19,7 +20,7 @@ slices_due k = slices_in k.objects.things.queue + calls_in_flight k
 -- events
 abbrev pub SlicesWithinEvents : Type 0
 SlicesWithinEvents =
-    (b : Build) (key : List ℕ) (d : Disk) (texts : List (List ℕ)) (ios : List (List Bool))
+    (b : Build) (keys : Keys) (d : Disk) (texts : List (List ℕ)) (ios : List (List Bool))
     (k : Kernel) →
-    IsRunnable b d → (run_of b key d texts ios).kernel ≡ Some k →
-    slices_due k ≤ (run_of b key d texts ios).events
+    IsRunnable b d → (run_of b keys d texts ios).kernel ≡ Some k →
+    slices_due k ≤ (run_of b keys d texts ios).events
