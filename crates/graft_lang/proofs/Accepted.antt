@@ -1,5 +1,6 @@
 -- What is known of texts that are accepted.
-use Rattle.std.specs.Prelude.{◌≡◌, ℕ, suc, ◌+◌, ◌^◌, ◌<◌, ◌≤◌, Bool, true, false, cond, ◌&&◌, nat_lt, nat_le, List, [], ◌∷◌, ◌++◌, length, map, position, Option, None, Some, Result, Ok, Err, ⊤}
+use Rattle.std.specs.Prelude.{◌≡◌, ℕ, suc, ◌+◌, ◌^◌, ◌<◌, ◌≤◌, Bool, true, false, cond, ◌&&◌, nat_lt, nat_le, List, []}
+use Rattle.std.specs.Prelude.{◌∷◌, ◌++◌, length, map, position, Option, None, Some, Result, Ok, Err, ⊤}
 use Rattle.std.specs.List.{list_all}
 use Rattle.std.proofs.Common.{arith, refl, subst, sym, ap}
 use Rattle.std.proofs.lemmas.Bool.Decides.{nat_tests}
@@ -8,19 +9,23 @@ use Rattle.std.proofs.lemmas.List.Quantifiers.{position-Some}
 use Rattle.kernel_model.specs.World.{same_bytes}
 use Rattle.kernel_model.specs.Bytes as bytes
 use Rattle.kernel_model.specs.Assembler.{callables, callable_id, is_label}
-use Rattle.graft_syntax.specs.declared.LangKind.{LangKind}
-use Rattle.graft_syntax.specs.declared.LangKind.TheVariants.{NoProgram, TooManyTokens}
-use Rattle.graft_syntax.specs.declared.Operator.{Operator}
-use Rattle.graft_syntax.specs.declared.Symbol.{Symbol}
-use Rattle.graft_syntax.specs.declared.Symbol.TheVariants.{Else, Semicolon, OpenBrace, CloseBrace, CloseParenthesis, Comma}
-use Rattle.graft_syntax.specs.declared.grammar.Goal.{Goal}
-use Rattle.graft_syntax.specs.declared.grammar.Goal.TheVariants.{EndOfAssignment}
-use Rattle.graft_syntax.specs.Tokens.{Token, Number, Variable, Callable, Infix, Mark, token_of, by_symbol, by_operator, by_callable, by_number, symbol_of, operator_of, same_symbol}
-use Rattle.graft_syntax.specs.Words.{Word, words, last_line}
-use Rattle.graft_syntax.specs.Grammar as g
-use Rattle.graft_syntax.specs.Grammar.{follow, follow_awaited, is_met}
-use Rattle.graft_syntax.specs.Reading.{Reading, Syntax, LineFault, first_reading, with_name, names_after, with_token, read_on, checked, followed, fault_of, read_token, read_by, read_words, ended, read, refused, or_first, number_of}
-use Rattle.graft_lang.specs.Meaning as l
+use Rattle.kernel_model.specs.declared.language.LangKind.{LangKind}
+use Rattle.kernel_model.specs.declared.language.LangKind.TheVariants.{NoProgram, TooManyTokens}
+use Rattle.kernel_model.specs.declared.language.Operator.{Operator}
+use Rattle.kernel_model.specs.declared.language.Symbol.{Symbol}
+use Rattle.kernel_model.specs.declared.language.Symbol.TheVariants.{Else, Semicolon, OpenBrace, CloseBrace}
+use Rattle.kernel_model.specs.declared.language.Symbol.TheVariants.{CloseParenthesis, Comma}
+use Rattle.kernel_model.specs.declared.language.Goal.{Goal}
+use Rattle.kernel_model.specs.declared.language.Goal.TheVariants.{EndOfAssignment}
+use Rattle.kernel_model.specs.LanguageTokens.{Token, Number, Variable, Callable, Infix, Mark, token_of, by_symbol}
+use Rattle.kernel_model.specs.LanguageTokens.{by_operator, by_callable, by_number, symbol_of, operator_of, same_symbol}
+use Rattle.kernel_model.specs.LanguageWords.{Word, words, last_line}
+use Rattle.kernel_model.specs.LanguageGrammar as g
+use Rattle.kernel_model.specs.LanguageGrammar.{follow, follow_awaited, is_met}
+use Rattle.kernel_model.specs.LanguageReading.{Reading, Syntax, LineFault, first_reading, with_name, names_after}
+use Rattle.kernel_model.specs.LanguageReading.{with_token, read_on, checked, followed, fault_of, read_token, read_by}
+use Rattle.kernel_model.specs.LanguageReading.{read_words, ended, read, refused, or_first, number_of}
+use Rattle.kernel_model.specs.LanguageMeaning as l
 use Rattle.graft_lang.specs.Placing.{Fits}
 use Rattle.graft_lang.specs.Going.{AllFit, FitsProgram}
 use Rattle.graft_lang.specs.Sizes.{expression_tokens, argument_tokens, program_tokens, semicolons, CallsFit}

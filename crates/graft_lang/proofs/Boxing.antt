@@ -1,16 +1,21 @@
 -- The rewriter refuses no code of a program.
-use Rattle.std.specs.Prelude.{◌≡◌, ℕ, zero, suc, ◌+◌, ◌-◌, ◌*◌, ◌<◌, ◌≤◌, true, false, not, cond, ◌&&◌, ◌||◌, nat_lt, nat_le, List, [], ◌∷◌, ◌++◌, length, Option, None, Some, Result, Ok, Err, ⊤}
+use Rattle.std.specs.Prelude.{◌≡◌, ℕ, zero, suc, ◌+◌, ◌-◌, ◌*◌, ◌<◌, ◌≤◌, true, false, not, cond, ◌&&◌, ◌||◌, nat_lt}
+use Rattle.std.specs.Prelude.{nat_le, List, [], ◌∷◌, ◌++◌, length, Option, None, Some, Result, Ok, Err, ⊤}
 use Rattle.std.proofs.Common.{arith, refl, ap, ◌∙◌}
 use Rattle.std.proofs.lemmas.Bool.Decides.{nat_tests}
 use Rattle.std.proofs.lemmas.List.{length-append}
 use Rattle.kernel_model.specs.declared.Instr.{Instr}
 use Rattle.kernel_model.specs.declared.Op.TheVariants.{Li, Mov, Ldw, Stw, Jmp, Jz, Call, Ret}
 use Rattle.kernel_model.specs.Instructions.{names_register}
-use Rattle.kernel_model.specs.Boxed.{instr, is_jump, is_direct_call, ends_well, RewriteFault, NamesReserved, JumpsOut, CallsUnknown, NoEnd, TooLong, boxed_code, boxed_place, rewrite_fault_at, rewrite_fault_from}
-use Rattle.graft_syntax.specs.declared.Operator.{Operator}
-use Rattle.graft_syntax.specs.declared.Operator.TheVariants as o
-use Rattle.graft_lang.specs.Meaning.{Expression, Number, Variable, Binary, Program, Done, Assigns, Calls, When, Either, Loops, Traps, Answers}
-use Rattle.graft_lang.specs.Code.{fetches, puts, operator_code, expression_code, arguments_code, registers_code, statements_code, zeros_code, prologue, epilogue, program_code}
+use Rattle.kernel_model.specs.Boxed.{instr, is_jump, is_direct_call, ends_well, RewriteFault, NamesReserved, JumpsOut}
+use Rattle.kernel_model.specs.Boxed.{CallsUnknown, NoEnd, TooLong, boxed_code, boxed_place, rewrite_fault_at}
+use Rattle.kernel_model.specs.Boxed.{rewrite_fault_from}
+use Rattle.kernel_model.specs.declared.language.Operator.{Operator}
+use Rattle.kernel_model.specs.declared.language.Operator.TheVariants as o
+use Rattle.kernel_model.specs.LanguageMeaning.{Expression, Number, Variable, Binary, Program, Done, Assigns, Calls}
+use Rattle.kernel_model.specs.LanguageMeaning.{When, Either, Loops, Traps, Answers}
+use Rattle.graft_lang.specs.Code.{fetches, puts, operator_code, expression_code, arguments_code, registers_code}
+use Rattle.graft_lang.specs.Code.{statements_code, zeros_code, prologue, epilogue, program_code}
 use Rattle.graft_lang.specs.Sizes.{CallsFit, ProgramsAreBoxed}
 use Rattle.graft_lang.proofs.Sizes.{programs_are_short}
 

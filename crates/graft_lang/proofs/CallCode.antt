@@ -1,5 +1,6 @@
 -- The code of a call: its arguments come to the registers, and its answer to the variable.
-use Rattle.std.specs.Prelude.{◌≡◌, ℕ, zero, suc, ◌+◌, ◌^◌, ◌<◌, ◌≤◌, Bool, true, false, cond, ◌==◌, List, [], ◌∷◌, ◌++◌, length, slice_get, Option, Some, None}
+use Rattle.std.specs.Prelude.{◌≡◌, ℕ, zero, suc, ◌+◌, ◌^◌, ◌<◌, ◌≤◌, Bool, true, false, cond, ◌==◌, List, [], ◌∷◌, ◌++◌}
+use Rattle.std.specs.Prelude.{length, slice_get, Option, Some, None}
 use Rattle.std.proofs.Common.{arith, refl, subst, sym, ap, ◌∙◌}
 use Rattle.std.proofs.lemmas.Bool.Decides.{nat_tests}
 use Rattle.std.proofs.lemmas.List.{length-append}
@@ -9,12 +10,14 @@ use Rattle.kernel_model.specs.Boxed.{instr}
 use Rattle.kernel_model.specs.Objects.{at}
 use Rattle.kernel_model.specs.Machine.{Machine, word, calls}
 use Rattle.kernel_model.specs.Runs.{CodeRun, MadeCall, AtDivision, answered_call, counted_access}
-use Rattle.graft_lang.specs.Meaning as m
-use Rattle.graft_lang.specs.Meaning.{Expression, End, Asks, DividedByZero, State, value, values, value_before, made_call}
+use Rattle.kernel_model.specs.LanguageMeaning as m
+use Rattle.kernel_model.specs.LanguageMeaning.{Expression, End, Asks, DividedByZero, State, value, values, value_before}
+use Rattle.kernel_model.specs.LanguageMeaning.{made_call}
 use Rattle.graft_lang.specs.Code.{fetches, puts, expression_code, arguments_code, registers_code}
 use Rattle.graft_lang.specs.Placing.{Stands, IsAt, ComesTo}
 use Rattle.graft_lang.specs.Going.{run, going, IsSmall, HasEnd, Goes, AllFit}
-use Rattle.graft_lang.proofs.Running.{one_step, two_parts, stands_first, stands_second, put_runs, fetch_runs, expressions_run, value_small, value_same}
+use Rattle.graft_lang.proofs.Running.{one_step, two_parts, stands_first, stands_second, put_runs, fetch_runs}
+use Rattle.graft_lang.proofs.Running.{expressions_run, value_small, value_same}
 use Rattle.graft_lang.proofs.Slots.{put_slot, all_small}
 
 -- ---- lists of values

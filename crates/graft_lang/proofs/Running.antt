@@ -1,5 +1,7 @@
 -- The code of expressions runs to their values.
-use Rattle.std.specs.Prelude.{◌≡◌, ◌≢◌, ℕ, zero, suc, ◌+◌, ◌-◌, ◌*◌, ◌/◌, ◌%◌, ◌^◌, ◌<◌, ◌≤◌, Bool, true, false, cond, ◌==◌, nat_lt, List, [], ◌∷◌, ◌++◌, length, slice_get, Option, Some, None, bit_and, bit_or, bit_xor}
+use Rattle.std.specs.Prelude.{◌≡◌, ◌≢◌, ℕ, zero, suc, ◌+◌, ◌-◌, ◌*◌, ◌/◌, ◌%◌, ◌^◌, ◌<◌, ◌≤◌, Bool, true, false, cond}
+use Rattle.std.specs.Prelude.{◌==◌, nat_lt, List, [], ◌∷◌, ◌++◌, length, slice_get, Option, Some, None, bit_and, bit_or}
+use Rattle.std.specs.Prelude.{bit_xor}
 use Rattle.std.proofs.Common.{arith, refl, subst, sym, ap, ◌∙◌, ◌⊎◌, inl, inr}
 use Rattle.std.proofs.lemmas.Bool.Decides.{nat_tests}
 use Rattle.std.proofs.lemmas.Nat.Bits.{and_high_mask}
@@ -14,9 +16,10 @@ use Rattle.kernel_model.specs.Boxed.{instr}
 use Rattle.kernel_model.specs.Objects.{at}
 use Rattle.kernel_model.specs.Machine.{Machine, Word, Done, sets, exec, reads, writes, store, word, mask, masked_place}
 use Rattle.kernel_model.specs.Runs.{CodeRun, MadeCall, Halt, run_by, run_step, after_done, counted_access, is_access}
-use Rattle.graft_syntax.specs.declared.Operator.{Operator}
-use Rattle.graft_syntax.specs.declared.Operator.TheVariants.{Plus, Minus, Times, Over, Rest, And, Or, Xor, ShiftLeft, ShiftRight, Less, Equal}
-use Rattle.graft_lang.specs.Meaning.{Expression, Number, Variable, Binary, applied, both, value}
+use Rattle.kernel_model.specs.declared.language.Operator.{Operator}
+use Rattle.kernel_model.specs.declared.language.Operator.TheVariants.{Plus, Minus, Times, Over, Rest, And, Or, Xor}
+use Rattle.kernel_model.specs.declared.language.Operator.TheVariants.{ShiftLeft, ShiftRight, Less, Equal}
+use Rattle.kernel_model.specs.LanguageMeaning.{Expression, Number, Variable, Binary, applied, both, value}
 use Rattle.graft_lang.specs.Code.{fetches, puts, operator_code, expression_code}
 use Rattle.graft_lang.specs.Placing.{Fits, Stands, slot_of, IsAt, ComesTo, ExpressionsRun}
 

@@ -4,10 +4,12 @@ use Rattle.std.proofs.Common.{arith, refl, ap}
 use Rattle.kernel_model.specs.declared.Instr.{Instr}
 use Rattle.kernel_model.specs.declared.Op.TheVariants.{Li, Mov, Jmp, Jz, Call, Ret}
 use Rattle.kernel_model.specs.Boxed.{instr, boxed_length, boxed_place}
-use Rattle.graft_syntax.specs.declared.Operator.{Operator}
-use Rattle.graft_syntax.specs.declared.Operator.TheVariants as o
-use Rattle.graft_lang.specs.Meaning.{Expression, Number, Variable, Binary, Program, Done, Assigns, Calls, When, Either, Loops, Traps, Answers}
-use Rattle.graft_lang.specs.Code.{fetches, puts, operator_code, expression_code, arguments_code, registers_code, statements_code, zeros_code, prologue, epilogue, program_code}
+use Rattle.kernel_model.specs.declared.language.Operator.{Operator}
+use Rattle.kernel_model.specs.declared.language.Operator.TheVariants as o
+use Rattle.kernel_model.specs.LanguageMeaning.{Expression, Number, Variable, Binary, Program, Done, Assigns, Calls}
+use Rattle.kernel_model.specs.LanguageMeaning.{When, Either, Loops, Traps, Answers}
+use Rattle.graft_lang.specs.Code.{fetches, puts, operator_code, expression_code, arguments_code, registers_code}
+use Rattle.graft_lang.specs.Code.{statements_code, zeros_code, prologue, epilogue, program_code}
 use Rattle.graft_lang.specs.Sizes.{expression_tokens, argument_tokens, program_tokens, semicolons, ProgramsAreShort}
 
 -- the boxed length of all instructions

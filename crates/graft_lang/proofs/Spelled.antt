@@ -7,22 +7,22 @@ use Rattle.std.proofs.lemmas.List.{length-append, append_assoc}
 use Rattle.kernel_model.specs.declared.Instr.{Instr}
 use Rattle.kernel_model.specs.World.{Image}
 use Rattle.kernel_model.specs.Boxed.{boxed_length, boxed_code, rewrite}
-use Rattle.graft_syntax.specs.declared.LangKind.{LangKind}
-use Rattle.graft_syntax.specs.declared.LangKind.TheVariants.{NoProgram, TooManyTokens}
-use Rattle.graft_syntax.specs.declared.grammar.Goal.{Goal}
-use Rattle.graft_syntax.specs.Tokens.{Token, token_of}
-use Rattle.graft_syntax.specs.Words.{Word, words, last_line}
-use Rattle.graft_syntax.specs.Grammar as g
-use Rattle.graft_syntax.specs.Grammar.{follow, follow_all, first_goals, is_met}
+use Rattle.kernel_model.specs.declared.language.LangKind.{LangKind}
+use Rattle.kernel_model.specs.declared.language.LangKind.TheVariants.{NoProgram, TooManyTokens}
+use Rattle.kernel_model.specs.declared.language.Goal.{Goal}
+use Rattle.kernel_model.specs.LanguageTokens.{Token, token_of}
+use Rattle.kernel_model.specs.LanguageWords.{Word, words, last_line}
+use Rattle.kernel_model.specs.LanguageGrammar as g
+use Rattle.kernel_model.specs.LanguageGrammar.{follow, follow_all, first_goals, is_met}
+use Rattle.kernel_model.specs.LanguageReading.{Reading, Syntax, LineFault, first_reading, with_token, read_on, checked}
+use Rattle.kernel_model.specs.LanguageReading.{followed, fault_of, read_token, read_by, read_words, ended, read}
+use Rattle.kernel_model.specs.LanguageReading.{refused}
+use Rattle.kernel_model.specs.LanguageMeaning as l
+use Rattle.kernel_model.specs.LanguageImages.{Behaves, IsCompiled}
 use Rattle.graft_syntax.specs.Laws.{IsMet}
-use Rattle.graft_syntax.specs.Reading.{Reading, Syntax, LineFault, first_reading, with_token, read_on, checked}
-use Rattle.graft_syntax.specs.Reading.{followed, fault_of, read_token, read_by, read_words, ended, read, refused}
-use Rattle.graft_lang.specs.Meaning as l
 use Rattle.graft_lang.specs.Sizes.{program_tokens, semicolons}
 use Rattle.graft_lang.specs.Code.{puts, zeros_code, prologue, program_code}
-use Rattle.graft_lang.specs.Behaves.{Behaves}
 use Rattle.graft_lang.specs.Accepted.{AcceptedProgramsRun}
-use Rattle.graft_lang.specs.Compiled.{IsCompiled}
 use Rattle.graft_lang.specs.Writing.{Writing, appended, IsWritten}
 use Rattle.graft_lang.proofs.Sizes.{programs_are_short, prologue_short, total, boxed_place-total}
 use Rattle.graft_lang.proofs.Accepted.{accepted, ends_in, program_counts}

@@ -1,5 +1,6 @@
 -- The code of statements does what the statements do.
-use Rattle.std.specs.Prelude.{◌≡◌, ℕ, zero, suc, ◌+◌, ◌*◌, ◌^◌, ◌<◌, ◌≤◌, Bool, true, false, cond, ◌==◌, List, [], ◌∷◌, ◌++◌, length, slice_get, Option, Some, None}
+use Rattle.std.specs.Prelude.{◌≡◌, ℕ, zero, suc, ◌+◌, ◌*◌, ◌^◌, ◌<◌, ◌≤◌, Bool, true, false, cond, ◌==◌, List, [], ◌∷◌}
+use Rattle.std.specs.Prelude.{◌++◌, length, slice_get, Option, Some, None}
 use Rattle.std.proofs.Common.{arith, refl, subst, sym, ap, ◌∙◌}
 use Rattle.std.proofs.lemmas.Bool.Decides.{nat_tests}
 use Rattle.std.proofs.lemmas.List.{length-append}
@@ -9,14 +10,17 @@ use Rattle.kernel_model.specs.Boxed.{instr}
 use Rattle.kernel_model.specs.Objects.{at}
 use Rattle.kernel_model.specs.Machine.{Done, jumps, word}
 use Rattle.kernel_model.specs.Runs.{CodeRun, MadeCall, after_done, counted_access}
-use Rattle.graft_lang.specs.Meaning as m
-use Rattle.graft_lang.specs.Meaning.{Expression, Program, End, Answered, Trapped, DividedByZero, Asks, Going, State, value, does}
+use Rattle.kernel_model.specs.LanguageMeaning as m
+use Rattle.kernel_model.specs.LanguageMeaning.{Expression, Program, End, Answered, Trapped, DividedByZero, Asks, Going}
+use Rattle.kernel_model.specs.LanguageMeaning.{State, value, does}
 use Rattle.graft_lang.specs.Code.{fetches, puts, expression_code, arguments_code, registers_code, statements_code}
 use Rattle.graft_lang.specs.Placing.{Fits, Stands, IsAt, ComesTo}
-use Rattle.graft_lang.specs.Going.{run, going, IsSmall, HasEnd, GoesOn, EndsSo, GoesBy, Goes, FitsProgram, StatementsRun}
+use Rattle.graft_lang.specs.Going.{run, going, IsSmall, HasEnd, GoesOn, EndsSo, GoesBy, Goes, FitsProgram}
+use Rattle.graft_lang.specs.Going.{StatementsRun}
 use Rattle.graft_lang.proofs.Slots.{put_slot, all_small}
 use Rattle.graft_lang.proofs.CallCode.{call_goes}
-use Rattle.graft_lang.proofs.Running.{one_step, two_parts, stands_first, stands_second, put_runs, fetch_runs, expressions_run, value_small, value_same}
+use Rattle.graft_lang.proofs.Running.{one_step, two_parts, stands_first, stands_second, put_runs, fetch_runs}
+use Rattle.graft_lang.proofs.Running.{expressions_run, value_small, value_same}
 
 -- ---- parts in order
 

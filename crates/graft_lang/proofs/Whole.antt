@@ -1,5 +1,6 @@
 -- The code of a whole program does what it says.
-use Rattle.std.specs.Prelude.{◌≡◌, ◌≢◌, ℕ, zero, suc, ◌+◌, ◌-◌, ◌*◌, ◌^◌, ◌<◌, ◌≤◌, Bool, true, false, cond, nat_lt, List, [], ◌∷◌, ◌++◌, length, slice_get, slice_index, Option, Some, None}
+use Rattle.std.specs.Prelude.{◌≡◌, ◌≢◌, ℕ, zero, suc, ◌+◌, ◌-◌, ◌*◌, ◌^◌, ◌<◌, ◌≤◌, Bool, true, false, cond, nat_lt}
+use Rattle.std.specs.Prelude.{List, [], ◌∷◌, ◌++◌, length, slice_get, slice_index, Option, Some, None}
 use Rattle.std.proofs.Common.{arith, refl, subst, sym, ap, ◌∙◌, append_assoc}
 use Rattle.std.proofs.lemmas.Bool.Decides.{nat_tests}
 use Rattle.std.proofs.lemmas.List.{length-append}
@@ -9,12 +10,14 @@ use Rattle.kernel_model.specs.Boxed.{instr}
 use Rattle.kernel_model.specs.Objects.{at}
 use Rattle.kernel_model.specs.Machine.{word}
 use Rattle.kernel_model.specs.Runs.{CodeRun, MadeCall, Halt, Unanswered, AtReturn, AtDivision, AtTrap, first_run}
-use Rattle.graft_lang.specs.Meaning as m
-use Rattle.graft_lang.specs.Meaning.{Program, End, Answered, Trapped, DividedByZero, Asks, Going, State, does, at_end, first_state}
+use Rattle.kernel_model.specs.LanguageMeaning as m
+use Rattle.kernel_model.specs.LanguageMeaning.{Program, End, Answered, Trapped, DividedByZero, Asks, Going, State, does}
+use Rattle.kernel_model.specs.LanguageMeaning.{at_end, first_state}
 use Rattle.graft_lang.specs.Code.{fetches, puts, statements_code, zeros_code, prologue, epilogue, program_code}
 use Rattle.graft_lang.specs.Placing.{Stands, slot_of, IsAt}
-use Rattle.graft_lang.specs.Going.{run, going, AreWords, IsSmall, HasEnd, EndsSo, GoesBy, FitsProgram}
-use Rattle.graft_lang.specs.Behaves.{end_by, end_of, said, AreArguments, ProgramsRun}
+use Rattle.kernel_model.specs.LanguageImages.{end_by, end_of, said, AreArguments, AreWords}
+use Rattle.graft_lang.specs.Going.{run, going, IsSmall, HasEnd, EndsSo, GoesBy, FitsProgram}
+use Rattle.graft_lang.specs.Behaves.{ProgramsRun}
 use Rattle.graft_lang.proofs.Running.{one_step, run_over, two_parts, stands_first, stands_second, put_is, fetch_runs}
 use Rattle.graft_lang.proofs.Slots.{put_slot}
 use Rattle.graft_lang.proofs.Statements.{statements_run, returned, two_turns}

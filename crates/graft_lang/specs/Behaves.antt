@@ -1,52 +1,9 @@
--- Code that does what a program says, in both directions.
-use Rattle.std.specs.Prelude.{◌≡◌, ◌≢◌, ℕ, ◌+◌, ◌*◌, ◌^◌, ◌<◌, ◌≤◌, List, length, slice_index, Option, Some, None}
-use Rattle.kernel_model.specs.declared.Instr.{Instr}
-use Rattle.kernel_model.specs.Runs.{CodeRun, Halt, Unanswered, AtReturn, AtDivision, AtTrap, Astray, first_run}
-use Rattle.kernel_model.specs.Runs.{raw_run}
-use Rattle.graft_lang.specs.Meaning.{Program, End, Answered, Trapped, DividedByZero, Asks, Going, State, says}
+-- Programs whose code does what they say.
+use Rattle.std.specs.Prelude.{ℕ, ◌<◌, ◌≤◌}
+use Rattle.kernel_model.specs.LanguageMeaning.{Program}
+use Rattle.kernel_model.specs.LanguageImages.{Behaves}
 use Rattle.graft_lang.specs.Code.{program_code}
-use Rattle.graft_lang.specs.Going.{AreWords, FitsProgram}
-
--- raw code over a segment, with these arguments and answers, for so many instructions
-abbrev pub fed : List Instr → (segment : ℕ → ℕ) → (arguments : List ℕ) → (answers : List (ℕ × ℕ)) → ℕ → CodeRun
-fed code segment arguments answers n = raw_run code n (first_run 262144 segment arguments answers)
-
--- how such a run has ended, named as the end of a program; code that goes astray has no such end
-abbrev pub end_by : CodeRun → Option Halt → Option End
-end_by r None = Some Going
-end_by r (Some (Unanswered id)) =
-    Some (Asks (record { id = id; r0 = r.machine.regs 0; r1 = r.machine.regs 1; r2 = r.machine.regs 2 }))
-end_by r (Some AtReturn) = Some (Answered (r.machine.regs 0) (r.machine.regs 1))
-end_by r (Some AtDivision) = Some DividedByZero
-end_by r (Some (AtTrap code)) = Some (Trapped code)
-end_by r (Some Astray) = None
-
-abbrev pub end_of : CodeRun → Option End
-end_of r = end_by r r.ended
-
--- what a program says of these arguments
-abbrev pub said : Program → (arguments : List ℕ) → (answers : List (ℕ × ℕ)) → (turns : ℕ) → State
-said p arguments answers turns = says p (λ i. slice_index arguments i) answers turns
-
--- the arguments are words
-abbrev pub AreArguments : List ℕ → Type 0
-AreArguments arguments = (i : ℕ) → slice_index arguments i < 2 ^ 32
-
--- For each segment, arguments and answers: where the program ends within n turns of loops, the code ends
--- within (n + 1) * N instructions, N being its length, with the same calls and the same end; and where the
--- code ends within n instructions, the program ends within n turns, with the same calls and the same end. So
--- where either goes on for every n, both do.
-pub record Behaves (p : Program) (code : List Instr) : Type 0 where
-  pub forth : (segment : ℕ → ℕ) (arguments : List ℕ) (answers : List (ℕ × ℕ)) (n : ℕ) (end : End)
-      → AreArguments arguments → AreWords answers → end ≢ Going → (said p arguments answers n).ended ≡ Some end
-      → (end_of (fed code segment arguments answers ((n + 1) * length code)) ≡ Some end)
-      × ((fed code segment arguments answers ((n + 1) * length code)).calls
-      ≡ (said p arguments answers n).calls)
-  pub back : (segment : ℕ → ℕ) (arguments : List ℕ) (answers : List (ℕ × ℕ)) (n : ℕ) (end : End)
-      → AreArguments arguments → AreWords answers → end ≢ Going
-      → end_of (fed code segment arguments answers n) ≡ Some end
-      → ((said p arguments answers n).ended ≡ Some end)
-      × ((said p arguments answers n).calls ≡ (fed code segment arguments answers n).calls)
+use Rattle.graft_lang.specs.Going.{FitsProgram}
 
 -- the code of a program does what it says
 abbrev pub ProgramsRun : Type 0

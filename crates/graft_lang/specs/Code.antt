@@ -5,15 +5,17 @@ use Rattle.kernel_model.specs.declared.Instr.{Instr}
 use Rattle.kernel_model.specs.declared.Op.TheVariants.{Li, Mov, Ldw, Stw, Add, Sub, Mul, And, Or, Xor, Shl, Shr}
 use Rattle.kernel_model.specs.declared.Op.TheVariants.{Divu, Remu, Sltu, Jmp, Jz, Call, Trap, Ret}
 use Rattle.kernel_model.specs.Boxed.{instr}
-use Rattle.graft_syntax.specs.declared.Operator.{Operator}
-use Rattle.graft_syntax.specs.declared.Operator.TheVariants as operator
-use Rattle.graft_lang.specs.Meaning.{Expression, Number, Variable, Binary, Program, Done, Assigns, Calls, When}
-use Rattle.graft_lang.specs.Meaning.{Either, Loops, Traps, Answers}
+use Rattle.kernel_model.specs.declared.language.Operator.{Operator}
+use Rattle.kernel_model.specs.declared.language.Operator.TheVariants as operator
+use Rattle.kernel_model.specs.LanguageMeaning.{Expression, Number, Variable, Binary, Program, Done, Assigns, Calls}
+use Rattle.kernel_model.specs.LanguageMeaning.{When}
+use Rattle.kernel_model.specs.LanguageMeaning.{Either, Loops, Traps, Answers}
 
--- the word of a slot of the segment, to and from a register: r5 has its address
+-- the word of a slot of the segment to a register: r5 has its address
 abbrev pub fetches : (reg slot : ℕ) → List Instr
 fetches reg slot = instr Li 5 0 0 (4 * slot) ∷ instr Ldw reg 5 0 0 ∷ []
 
+-- a register to the word of a slot of the segment: r5 has its address
 abbrev pub puts : (reg slot : ℕ) → List Instr
 puts reg slot = instr Li 5 0 0 (4 * slot) ∷ instr Stw reg 5 0 0 ∷ []
 

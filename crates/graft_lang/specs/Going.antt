@@ -3,8 +3,9 @@ use Rattle.std.specs.Prelude.{◌≡◌, ℕ, suc, ◌+◌, ◌*◌, ◌^◌, �
 use Rattle.kernel_model.specs.declared.Instr.{Instr}
 use Rattle.kernel_model.specs.Machine.{masked_place}
 use Rattle.kernel_model.specs.Runs.{CodeRun, MadeCall, Unanswered, AtReturn, AtDivision, AtTrap, run_by}
-use Rattle.graft_lang.specs.Meaning.{Expression, Program, Done, Assigns, Calls, When, Either, Loops, Traps}
-use Rattle.graft_lang.specs.Meaning.{Answers, End, Answered, Trapped, DividedByZero, Asks, Going, State, does}
+use Rattle.kernel_model.specs.LanguageMeaning.{Expression, Program, Done, Assigns, Calls, When, Either, Loops, Traps}
+use Rattle.kernel_model.specs.LanguageMeaning.{Answers, End, Answered, Trapped, DividedByZero, Asks, Going, State, does}
+use Rattle.kernel_model.specs.LanguageImages.{AreWords}
 use Rattle.graft_lang.specs.Code.{statements_code}
 use Rattle.graft_lang.specs.Placing.{Fits, Stands, IsAt}
 
@@ -16,11 +17,6 @@ run code n r = run_by masked_place code n r
 abbrev pub going : (cells : ℕ → ℕ) → List MadeCall → (answers : List (ℕ × ℕ)) → (turns : ℕ) → State
 going cells calls answers turns =
     record { cells = cells; calls = calls; answers = answers; turns = turns; ended = None }
-
--- answers that are words
-abbrev pub AreWords : List (ℕ × ℕ) → Type 0
-AreWords [] = ⊤
-AreWords (pair ∷ pairs) = (pair.0 < 2 ^ 32) × (pair.1 < 2 ^ 32) × AreWords pairs
 
 -- the variables and the answers of a state are words
 pub record IsSmall (s : State) : Type 0 where
@@ -63,6 +59,7 @@ pub record Lasts (code : List Instr) (r : CodeRun) (s : State) : Type 0 where
   pub more : s.turns < steps
   pub lasts : (run code steps r).ended ≡ None
 
+-- the code does what made t of s, where t ended so, or goes on
 abbrev pub GoesBy : Option End → (code : List Instr) (most top c len : ℕ) (r : CodeRun) (s t : State) → Type 0
 GoesBy None code most top c len r s t = GoesOn code most top c len r s t
 GoesBy (Some Going) code most top c len r s t = Lasts code r s
@@ -80,6 +77,7 @@ abbrev pub AllFit : (variables top : ℕ) → List Expression → Type 0
 AllFit variables top [] = ⊤
 AllFit variables top (e ∷ es) = (top < 1024) × Fits variables top e × AllFit variables (suc top) es
 
+-- a program fits: each variable and each expression of it
 abbrev pub FitsProgram : (variables : ℕ) → Program → Type 0
 FitsProgram v Done = ⊤
 FitsProgram v (Assigns i e p) = (i < v) × (v < 1024) × Fits v v e × FitsProgram v p

@@ -1,4 +1,3 @@
-pub mod Meaning
 pub mod Code
 pub mod Placing
 pub mod Going
@@ -6,4 +5,3 @@ pub mod Behaves
 pub mod Sizes
 pub mod Accepted
 pub mod Writing
-pub mod Compiled

@@ -4,7 +4,7 @@ use Rattle.std.specs.Prelude.{Some, None, ⊤}
 use Rattle.kernel_model.specs.declared.Instr.{Instr}
 use Rattle.kernel_model.specs.Machine.{Word, load, masked_place}
 use Rattle.kernel_model.specs.Runs.{CodeRun, MadeCall, AtDivision, run_by}
-use Rattle.graft_lang.specs.Meaning.{Expression, Number, Variable, Binary, value}
+use Rattle.kernel_model.specs.LanguageMeaning.{Expression, Number, Variable, Binary, value}
 use Rattle.graft_lang.specs.Code.{expression_code}
 
 -- there are so many variables, numbers are words, and there is room for operands

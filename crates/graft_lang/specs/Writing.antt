@@ -4,17 +4,17 @@ use Rattle.std.specs.Prelude.{◌++◌, length, map, drop, set, Option, None, So
 use Rattle.kernel_model.specs.declared.Instr.{Instr}
 use Rattle.kernel_model.specs.declared.Op.TheVariants.{Li, Mov, Jmp, Jz, Call, Trap, Ret}
 use Rattle.kernel_model.specs.Boxed.{instr}
-use Rattle.graft_syntax.specs.declared.Operator.{Operator}
-use Rattle.graft_syntax.specs.declared.Operator.TheVariants.{Plus}
-use Rattle.graft_syntax.specs.declared.Symbol.{Symbol}
-use Rattle.graft_syntax.specs.declared.Symbol.TheVariants.{Else, Semicolon, OpenBrace, CloseBrace}
-use Rattle.graft_syntax.specs.declared.Symbol.TheVariants.{OpenParenthesis, CloseParenthesis, Comma}
-use Rattle.graft_syntax.specs.Tokens.{Token, Number, Callable, Infix, Mark, same_symbol}
-use Rattle.graft_syntax.specs.Grammar.{Expression, Binary, Program, spelled_expression, spelled_arguments}
-use Rattle.graft_syntax.specs.Grammar.{spelled_statements, spelled}
-use Rattle.graft_syntax.specs.Reading.{Syntax}
-use Rattle.graft_lang.specs.Meaning as l
-use Rattle.graft_lang.specs.Meaning.{numbered_expression, numbered}
+use Rattle.kernel_model.specs.declared.language.Operator.{Operator}
+use Rattle.kernel_model.specs.declared.language.Operator.TheVariants.{Plus}
+use Rattle.kernel_model.specs.declared.language.Symbol.{Symbol}
+use Rattle.kernel_model.specs.declared.language.Symbol.TheVariants.{Else, Semicolon, OpenBrace, CloseBrace}
+use Rattle.kernel_model.specs.declared.language.Symbol.TheVariants.{OpenParenthesis, CloseParenthesis, Comma}
+use Rattle.kernel_model.specs.LanguageTokens.{Token, Number, Callable, Infix, Mark, same_symbol}
+use Rattle.kernel_model.specs.LanguageGrammar.{Expression, Binary, Program, spelled_expression, spelled_arguments}
+use Rattle.kernel_model.specs.LanguageGrammar.{spelled_statements, spelled}
+use Rattle.kernel_model.specs.LanguageReading.{Syntax}
+use Rattle.kernel_model.specs.LanguageMeaning as l
+use Rattle.kernel_model.specs.LanguageMeaning.{numbered_expression, numbered}
 use Rattle.graft_lang.specs.Code.{fetches, puts, expression_code, arguments_code, registers_code, statements_code}
 use Rattle.graft_lang.specs.Code.{program_code}
 
@@ -79,11 +79,12 @@ WritesOperation names top old new =
 
 -- ---- what comes next
 
--- the callable that comes next, and what is behind it
+-- the callable that comes next
 abbrev pub callable_next : List Token → Option ℕ
 callable_next (Callable id ∷ tokens) = Some id
 callable_next _ = None
 
+-- without this callable, if one comes next
 abbrev pub behind_callable : Writing → Writing
 behind_callable w = record {
   tokens = cond (is_some (callable_next w.tokens)) (drop 1 w.tokens) w.tokens;
@@ -107,11 +108,12 @@ abbrev pub number_next : List Token → ℕ
 number_next (Number n ∷ tokens) = n
 number_next _ = 0
 
--- a token ends a block, and a block or the text ends here
+-- a token ends a block
 abbrev pub closes_block : Token → Bool
 closes_block (Mark s) = same_symbol CloseBrace s
 closes_block _ = false
 
+-- a block or the text ends here
 abbrev pub is_block_end : List Token → Bool
 is_block_end [] = true
 is_block_end (t ∷ tokens) = closes_block t
@@ -123,11 +125,13 @@ abbrev pub call_code : (top i id : ℕ) → List l.Expression → List Instr
 call_code top i id es =
     arguments_code top es ++ (registers_code 0 top 3 es ++ (instr Call 0 0 0 id ∷ puts 0 i))
 
+-- an answer
 abbrev pub answer_code : (top : ℕ) → (e f : l.Expression) → List Instr
 answer_code top e f =
     expression_code top e ++ (puts 4 top ++ (expression_code (suc top) f
     ++ (instr Mov 1 4 0 0 ∷ (fetches 0 top ++ (instr Ret 0 0 0 0 ∷ [])))))
 
+-- an `if` without `else`, which stands at this place
 abbrev pub when_code : (top place : ℕ) → l.Expression → l.Program → List Instr
 when_code top place e p =
     let test = expression_code top e in
@@ -140,6 +144,7 @@ else_code top place p =
     let outer = statements_code top (place + 1) p in
     instr Jmp 0 0 0 (place + 1 + length outer) ∷ outer
 
+-- an `if` with `else`, which stands at this place
 abbrev pub either_code : (top place : ℕ) → l.Expression → (p q : l.Program) → List Instr
 either_code top place e p q =
     let test = expression_code top e in
@@ -147,6 +152,7 @@ either_code top place e p q =
     let end = place + length test + 1 + length inner in
     test ++ (instr Jz 4 0 0 (end + 1) ∷ (inner ++ else_code top end q))
 
+-- a `while`, which stands at this place
 abbrev pub loop_code : (top place : ℕ) → l.Expression → l.Program → List Instr
 loop_code top place e p =
     let test = expression_code top e in

@@ -3,8 +3,8 @@
 
 ghost use Rattle.std.specs.Prelude.{◌≤◌, length, IfOk, IfErr};
 ghost use Rattle.graft_syntax.specs.Faults.{Refuses};
-ghost use Rattle.graft_syntax.specs.Reading as spec;
-ghost use Rattle.graft_lang.specs.Compiled.{IsCompiled};
+ghost use Rattle.kernel_model.specs.LanguageReading as spec;
+ghost use Rattle.kernel_model.specs.LanguageImages.{IsCompiled};
 
 mod calls;
 mod expressions;

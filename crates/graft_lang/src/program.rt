@@ -4,7 +4,7 @@ ghost use Rattle.std.specs.Prelude.{◌≡◌, ◌+◌, ◌*◌, ◌<◌, ◌≤
 ghost use Rattle.kernel_model.specs.Boxed.{instr};
 ghost use Rattle.kernel_model.specs.Instructions.{fits};
 ghost use Rattle.graft_syntax.specs.Views.{token_view};
-ghost use Rattle.graft_syntax.specs.Tokens as token;
+ghost use Rattle.kernel_model.specs.LanguageTokens as token;
 ghost use Rattle.graft_lang.specs.Writing.{Uses, with_first, closes_block, WritesValue, WritesTrap};
 ghost use Rattle.graft_lang.specs.Writing.{WritesAnswer, WritesStatements, WritesBlock, WritesElse};
 ghost use Rattle.graft_lang.specs.Writing.{WritesIf, WritesWhile, LeadsOn, appended, IsWritten};

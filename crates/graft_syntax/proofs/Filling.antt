@@ -1,19 +1,31 @@
 -- Which tokens fill goals, and that one token after another does.
-use Rattle.std.proofs.Common.{◌≡◌, ℕ, ◌-◌, ◌==◌, Bool, true, false, cond, ◌⊎◌, inl, inr, List, [], ◌∷◌, ◌++◌, Result, Ok, Err, Some, refl, ap, sym, subst, ◌∙◌, arith}
+use Rattle.std.proofs.Common.{◌≡◌, ℕ, ◌-◌, ◌==◌, Bool, true, false, cond, ◌⊎◌, inl, inr, List, [], ◌∷◌, ◌++◌, Result}
+use Rattle.std.proofs.Common.{Ok, Err, Some, refl, ap, sym, subst, ◌∙◌, arith}
 use Rattle.std.specs.Prelude.{slice_get}
 use Rattle.std.proofs.lemmas.List.{append-nil}
 use Rattle.std.proofs.lemmas.Bool.Decides.{nat_tests}
-use Rattle.graft_syntax.specs.declared.LangKind.{LangKind}
-use Rattle.graft_syntax.specs.declared.LangKind.TheVariants.{NoProgram}
-use Rattle.graft_syntax.specs.declared.Operator.{Operator}
-use Rattle.graft_syntax.specs.declared.Operator.TheVariants.{Plus}
-use Rattle.graft_syntax.specs.declared.Symbol.{Symbol}
-use Rattle.graft_syntax.specs.declared.Symbol.TheVariants.{If, Else, While, Trap, Answer, Assign, Semicolon, OpenBrace, CloseBrace, OpenParenthesis, CloseParenthesis, Comma}
-use Rattle.graft_syntax.specs.declared.grammar.Goal.{Goal}
-use Rattle.graft_syntax.specs.declared.grammar.Goal.TheVariants.{Statements, Braces, Operand, InfixOperator, RightSide, FirstArgument, NextArgument, AfterArgument, EndOfAssignment, Constant, Awaits}
-use Rattle.graft_syntax.specs.Tokens.{Token, Number, Variable, Callable, Infix, Mark, symbols, symbol_number, same_symbol}
-use Rattle.graft_syntax.specs.Grammar.{Expression, Literal, Named, Binary, Program, Done, Assigns, Calls, When, Either, Loops, Traps, Answers, spelled_expression, spelled_more, spelled_arguments, spelled_statements, spelled, follow_mark, follow_statement, follow_operand, follow_right_side, follow_first, follow_argument, follow_infix, follow_constant, follow_awaited, follow_goal, follow, follow_all, first_goals, is_met}
-use Rattle.graft_syntax.specs.Laws.{IsMet, SpellingsAreRead, ReadTokensAreSpelled, ReadTokensGoOn, RefusedTokensDontGoOn}
+use Rattle.kernel_model.specs.declared.language.LangKind.{LangKind}
+use Rattle.kernel_model.specs.declared.language.LangKind.TheVariants.{NoProgram}
+use Rattle.kernel_model.specs.declared.language.Operator.{Operator}
+use Rattle.kernel_model.specs.declared.language.Operator.TheVariants.{Plus}
+use Rattle.kernel_model.specs.declared.language.Symbol.{Symbol}
+use Rattle.kernel_model.specs.declared.language.Symbol.TheVariants.{If, Else, While, Trap, Answer, Assign, Semicolon}
+use Rattle.kernel_model.specs.declared.language.Symbol.TheVariants.{OpenBrace, CloseBrace, OpenParenthesis}
+use Rattle.kernel_model.specs.declared.language.Symbol.TheVariants.{CloseParenthesis, Comma}
+use Rattle.kernel_model.specs.declared.language.Goal.{Goal}
+use Rattle.kernel_model.specs.declared.language.Goal.TheVariants.{Statements, Braces, Operand, InfixOperator, RightSide}
+use Rattle.kernel_model.specs.declared.language.Goal.TheVariants.{FirstArgument, NextArgument, AfterArgument}
+use Rattle.kernel_model.specs.declared.language.Goal.TheVariants.{EndOfAssignment, Constant, Awaits}
+use Rattle.kernel_model.specs.LanguageTokens.{Token, Number, Variable, Callable, Infix, Mark, symbols, symbol_number}
+use Rattle.kernel_model.specs.LanguageTokens.{same_symbol}
+use Rattle.kernel_model.specs.LanguageGrammar.{Expression, Literal, Named, Binary, Program, Done, Assigns, Calls, When}
+use Rattle.kernel_model.specs.LanguageGrammar.{Either, Loops, Traps, Answers, spelled_expression, spelled_more}
+use Rattle.kernel_model.specs.LanguageGrammar.{spelled_arguments, spelled_statements, spelled, follow_mark}
+use Rattle.kernel_model.specs.LanguageGrammar.{follow_statement, follow_operand, follow_right_side, follow_first}
+use Rattle.kernel_model.specs.LanguageGrammar.{follow_argument, follow_infix, follow_constant, follow_awaited}
+use Rattle.kernel_model.specs.LanguageGrammar.{follow_goal, follow, follow_all, first_goals, is_met}
+use Rattle.graft_syntax.specs.Laws.{IsMet, SpellingsAreRead, ReadTokensAreSpelled, ReadTokensGoOn}
+use Rattle.graft_syntax.specs.Laws.{RefusedTokensDontGoOn}
 
 -- ---- symbols
 

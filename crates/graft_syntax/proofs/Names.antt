@@ -1,5 +1,6 @@
 -- The names of the map, and the goals of the stack.
-use Rattle.std.proofs.Common.{◌≡◌, ℕ, suc, ◌+◌, Bool, true, false, not, ltb, cond, ◌||◌, List, [], ◌∷◌, length, Option, None, Some, refl, ap, ◌∙◌}
+use Rattle.std.proofs.Common.{◌≡◌, ℕ, suc, ◌+◌, Bool, true, false, not, ltb, cond, ◌||◌, List, [], ◌∷◌, length, Option}
+use Rattle.std.proofs.Common.{None, Some, refl, ap, ◌∙◌}
 use Rattle.std.specs.Borrow.{Bor}
 use Rattle.std.specs.Option.{is_some}
 use Rattle.std.specs.List.{position_or_len}
@@ -7,7 +8,7 @@ use Rattle.std.specs.Map.{lookup, keys_of}
 use Rattle.std.specs.Prelude.{position}
 use Rattle.indexmap.specs.IndexMap.{insert_entry}
 use Rattle.kernel_model.specs.World.{same_bytes}
-use Rattle.graft_syntax.specs.Reading.{is_known, with_name}
+use Rattle.kernel_model.specs.LanguageReading.{is_known, with_name}
 use Rattle.graft_syntax.specs.Views.{names_of}
 
 -- a key and its value

@@ -1,12 +1,13 @@
 -- Words read one after another.
-use Rattle.std.proofs.Common.{◌≡◌, ℕ, suc, ◌+◌, List, [], ◌∷◌, ◌++◌, Result, Ok, Err, refl, ap, sym, subst, ◌∙◌, add-one}
+use Rattle.std.proofs.Common.{◌≡◌, ℕ, suc, ◌+◌, List, [], ◌∷◌, ◌++◌, Result, Ok, Err, refl, ap, sym, subst, ◌∙◌}
+use Rattle.std.proofs.Common.{add-one}
 use Rattle.kernel_model.specs.Assembler.{words_of}
 use Rattle.graft_syntax.specs.declared.LangFault.{LangFault}
 use Rattle.graft_syntax.specs.declared.LangFault.TheVariants.{At, NoMemory}
 use Rattle.graft_syntax.specs.Faults.{Refuses}
-use Rattle.graft_syntax.specs.declared.LangKind.{LangKind}
-use Rattle.graft_syntax.specs.Words.{Word, line_words, words_from}
-use Rattle.graft_syntax.specs.Reading.{Reading, LineFault, read_word, read_words}
+use Rattle.kernel_model.specs.declared.language.LangKind.{LangKind}
+use Rattle.kernel_model.specs.LanguageWords.{Word, line_words, words_from}
+use Rattle.kernel_model.specs.LanguageReading.{Reading, LineFault, read_word, read_words}
 
 -- what comes behind words that were read
 abbrev pub read_behind : Result Reading LineFault → List Word → Result Reading LineFault

@@ -1,8 +1,4 @@
 pub mod Parts
-pub mod Tokens
-pub mod Words
-pub mod Grammar
-pub mod Reading
 pub mod Faults
 pub mod Views
 pub mod Laws

@@ -4,36 +4,14 @@ ghost use Rattle.std.specs.Prelude.{◌≡◌, ◌-◌, ◌<◌, ◌∷◌, ◌+
 ghost use Rattle.std.specs.Prelude.{Ok, Err, IsTrue, IfErr, OnOk, MatchOption};
 ghost use Rattle.graft_syntax.specs.Faults.{Stops};
 ghost use Rattle.graft_syntax.specs.Views.{token_view};
-ghost use Rattle.graft_syntax.specs.Grammar as spec;
-ghost use Rattle.graft_syntax.specs.Reading.{is_level};
+ghost use Rattle.kernel_model.specs.LanguageGrammar as spec;
+ghost use Rattle.kernel_model.specs.LanguageReading.{is_level};
 
 use crate::tokens::{arguments_of, same_symbol};
 use crate::{LangKind, Symbol, Token};
+use kernel_model::Goal;
 use std::alloc::Global;
 use std::marker::Model;
-
-/// What must come next.
-#[derive(Clone, Copy)]
-pub enum Goal {
-    /// More statements, or the end: of a block, or of the text. The first is whether they stand in
-    /// a block, the second whether an `if` has just ended.
-    Statements(bool, bool),
-    /// Statements in braces.
-    Braces,
-    /// An expression.
-    Operand,
-    InfixOperator,
-    /// An expression, or a call.
-    RightSide,
-    /// An argument, or the end of the call; so many arguments are left.
-    FirstArgument(u32),
-    NextArgument(u32),
-    /// A comma, or the end of the call.
-    AfterArgument(u32),
-    EndOfAssignment,
-    Constant,
-    Awaits(Symbol),
-}
 
 /// Why a token is refused.
 #[derive(Clone, Copy)]
@@ -50,7 +28,7 @@ pub struct Goals {
 
 impl Model for Goals {
     ghost use Rattle.std.specs.Prelude.{List, reverse};
-    ghost use Rattle.graft_syntax.specs.declared.grammar.Goal.{Goal};
+    ghost use Rattle.kernel_model.specs.declared.language.Goal.{Goal};
 
     ghost Value = { List Goal };
 

@@ -3,7 +3,7 @@
 
 ghost use Rattle.std.specs.Prelude.{◌≡◌, ◌≤◌, length, Ok, IfOk, IfErr};
 ghost use Rattle.graft_syntax.specs.Faults.{Refuses};
-ghost use Rattle.graft_syntax.specs.Reading as spec;
+ghost use Rattle.kernel_model.specs.LanguageReading as spec;
 
 mod grammar;
 pub mod laws;
@@ -14,43 +14,9 @@ mod tokens;
 pub use crate::reader::Syntax;
 use crate::reader::read_text;
 pub use crate::tokens::{arguments_of, same_symbol};
-pub use kernel_model::NoMemory;
+pub use kernel_model::{LangKind, NoMemory, Operator, Symbol};
 use std::alloc::Global;
 use thiserror::Error;
-
-/// An operator between two values.
-#[derive(Clone, Copy, PartialEq, Eq, Debug)]
-pub enum Operator {
-    Plus,
-    Minus,
-    Times,
-    Over,
-    Rest,
-    And,
-    Or,
-    Xor,
-    ShiftLeft,
-    ShiftRight,
-    Less,
-    Equal,
-}
-
-/// A word that stands for itself: a keyword or a sign.
-#[derive(Clone, Copy, PartialEq, Eq, Debug)]
-pub enum Symbol {
-    If,
-    Else,
-    While,
-    Trap,
-    Answer,
-    Assign,
-    Semicolon,
-    OpenBrace,
-    CloseBrace,
-    OpenParenthesis,
-    CloseParenthesis,
-    Comma,
-}
 
 /// A token. A callable is named by its id.
 #[derive(Clone, Copy)]
@@ -60,17 +26,6 @@ pub enum Token<'a> {
     Callable(u32),
     Infix(Operator),
     Mark(Symbol),
-}
-
-/// Why a text is refused, in the order of the codes G1 to G6 (docs/LANGUAGE.md).
-#[derive(Clone, Copy, PartialEq, Eq, Debug)]
-pub enum LangKind {
-    NoToken,
-    NoProgram,
-    UnknownVariable,
-    WrongArguments,
-    TooDeep,
-    TooManyTokens,
 }
 
 /// Why a text is refused: the number of the line from 1 and what is wrong with it, or no memory.

@@ -6,16 +6,17 @@ ghost use Rattle.std.specs.Prelude.{position};
 ghost use Rattle.kernel_model.specs.World.{same_bytes};
 ghost use Rattle.graft_syntax.specs.Faults.{Refuses, Stops};
 ghost use Rattle.graft_syntax.specs.Views.{token_view, names_of};
-ghost use Rattle.graft_syntax.specs.Grammar.{follow_goal};
-ghost use Rattle.graft_syntax.specs.Words.{words, line_words, last_line};
+ghost use Rattle.kernel_model.specs.LanguageGrammar.{follow_goal};
+ghost use Rattle.kernel_model.specs.LanguageWords.{words, line_words, last_line};
 ghost use Rattle.kernel_model.specs.Assembler.{words_of};
-ghost use Rattle.graft_syntax.specs.Reading as spec;
+ghost use Rattle.kernel_model.specs.LanguageReading as spec;
 
-use crate::grammar::{Goal, Goals, Refusal};
+use crate::grammar::{Goals, Refusal};
 use crate::parts::Parts;
 use crate::tokens::token_of;
 use crate::{LangFault, LangKind, Symbol, Token};
 use indexmap::IndexMap;
+use kernel_model::Goal;
 use std::alloc::Global;
 use std::marker::Model;
 
@@ -33,7 +34,7 @@ struct Reader<'a> {
 
 impl<'a> Model for Reader<'a> {
     ghost use Rattle.std.specs.Prelude.{map};
-    ghost use Rattle.graft_syntax.specs.Reading.{Reading};
+    ghost use Rattle.kernel_model.specs.LanguageReading.{Reading};
     ghost use Rattle.graft_syntax.specs.Views.{token_view, names_of};
 
     ghost Value = { Reading };
@@ -55,7 +56,7 @@ pub struct Syntax<'a> {
 
 impl<'a> Model for Syntax<'a> {
     ghost use Rattle.std.specs.Prelude.{map};
-    ghost use Rattle.graft_syntax.specs.Reading as spec;
+    ghost use Rattle.kernel_model.specs.LanguageReading as spec;
     ghost use Rattle.graft_syntax.specs.Views.{token_view, names_of};
 
     ghost Value = { spec.Syntax };

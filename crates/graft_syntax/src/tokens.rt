@@ -3,7 +3,7 @@
 ghost use Rattle.std.specs.Prelude.{◌≡◌, ◌<◌, ◌≤◌, length, position, IfSome, option_map};
 ghost use Rattle.std.specs.List.{list_all};
 ghost use Rattle.graft_syntax.specs.Views.{token_view};
-ghost use Rattle.graft_syntax.specs.Tokens as spec;
+ghost use Rattle.kernel_model.specs.LanguageTokens as spec;
 ghost use Rattle.kernel_model.specs.World.{same_bytes};
 ghost use Rattle.kernel_model.specs.Bytes as model;
 ghost use Rattle.kernel_model.specs.Assembler.{is_label, is_label_byte};

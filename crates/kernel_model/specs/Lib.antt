@@ -38,6 +38,12 @@ pub mod Script
 pub mod Session
 pub mod Outcome
 pub mod Assembler
+pub mod LanguageTokens
+pub mod LanguageWords
+pub mod LanguageGrammar
+pub mod LanguageReading
+pub mod LanguageMeaning
+pub mod LanguageImages
 pub mod Filters
 pub mod Demo
 pub mod Sound

@@ -6,9 +6,11 @@ ghost use Rattle.std.specs.Prelude.{◌≡◌, ℕ, List};
 use arrayvec::ArrayVec;
 use std::marker::Model;
 
+mod language;
 mod lists;
 mod rules;
 
+pub use language::{Goal, LangKind, Operator, Symbol};
 pub use rules::Rules;
 
 /// The most bytes of a name.

@@ -1,6 +1,6 @@
 use Rattle.std.proofs.Common.{◌≡◌, ◌+◌, ◌≤◌, length}
-use Rattle.graft_syntax.specs.Words.{words, words_from}
-use Rattle.graft_syntax.specs.Reading.{read_words, first_reading}
+use Rattle.kernel_model.specs.LanguageWords.{words, words_from}
+use Rattle.kernel_model.specs.LanguageReading.{read_words, first_reading}
 use Rattle.graft_syntax.proofs.reader.read_lines.Given as goal
 
 abbrev pub invariant-loop-line : goal.invariant-loop-line

@@ -1,7 +1,7 @@
 use Rattle.std.proofs.Common.{◌≡◌, length}
 use Rattle.kernel_model.specs.Assembler.{words_of}
-use Rattle.graft_syntax.specs.Words.{line_words}
-use Rattle.graft_syntax.specs.Reading.{read_words}
+use Rattle.kernel_model.specs.LanguageWords.{line_words}
+use Rattle.kernel_model.specs.LanguageReading.{read_words}
 use Rattle.graft_syntax.proofs.reader.Reader.read_line.Given as goal
 
 abbrev pub invariant-loop-part : goal.invariant-loop-part

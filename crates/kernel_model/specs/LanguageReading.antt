@@ -3,17 +3,18 @@ use Rattle.std.specs.Prelude.{ℕ, ◌==◌, Bool, true, false, cond, nat_lt, na
 use Rattle.std.specs.Prelude.{codes, count_by, position, Option, None, Some, Result, Ok, Err}
 use Rattle.std.specs.List.{list_any}
 use Rattle.kernel_model.specs.World.{same_bytes}
-use Rattle.graft_syntax.specs.declared.LangKind.{LangKind}
-use Rattle.graft_syntax.specs.declared.LangKind.TheVariants.{NoToken, NoProgram, UnknownVariable, WrongArguments}
-use Rattle.graft_syntax.specs.declared.LangKind.TheVariants.{TooDeep, TooManyTokens}
-use Rattle.graft_syntax.specs.declared.Symbol.TheVariants.{CloseParenthesis}
-use Rattle.graft_syntax.specs.declared.grammar.Goal.{Goal}
-use Rattle.graft_syntax.specs.declared.grammar.Goal.TheVariants.{Statements, Braces, Operand, RightSide}
-use Rattle.graft_syntax.specs.declared.grammar.Goal.TheVariants.{FirstArgument, NextArgument, AfterArgument}
-use Rattle.graft_syntax.specs.declared.grammar.Goal.TheVariants.{EndOfAssignment, Awaits}
-use Rattle.graft_syntax.specs.Tokens.{Token, Number, Variable, Mark, token_of, same_symbol}
-use Rattle.graft_syntax.specs.Words.{Word, words, last_line}
-use Rattle.graft_syntax.specs.Grammar.{follow, first_goals, is_met}
+use Rattle.kernel_model.specs.declared.language.LangKind.{LangKind}
+use Rattle.kernel_model.specs.declared.language.LangKind.TheVariants.{NoToken, NoProgram, UnknownVariable}
+use Rattle.kernel_model.specs.declared.language.LangKind.TheVariants.{WrongArguments}
+use Rattle.kernel_model.specs.declared.language.LangKind.TheVariants.{TooDeep, TooManyTokens}
+use Rattle.kernel_model.specs.declared.language.Symbol.TheVariants.{CloseParenthesis}
+use Rattle.kernel_model.specs.declared.language.Goal.{Goal}
+use Rattle.kernel_model.specs.declared.language.Goal.TheVariants.{Statements, Braces, Operand, RightSide}
+use Rattle.kernel_model.specs.declared.language.Goal.TheVariants.{FirstArgument, NextArgument, AfterArgument}
+use Rattle.kernel_model.specs.declared.language.Goal.TheVariants.{EndOfAssignment, Awaits}
+use Rattle.kernel_model.specs.LanguageTokens.{Token, Number, Variable, Mark, token_of, same_symbol}
+use Rattle.kernel_model.specs.LanguageWords.{Word, words, last_line}
+use Rattle.kernel_model.specs.LanguageGrammar.{follow, first_goals, is_met}
 
 -- how far the reading has come
 pub record Reading : Type 0 where
@@ -29,6 +30,7 @@ pub record Reading : Type 0 where
 abbrev pub arguments : List (List ℕ)
 arguments = codes "a0" ∷ codes "a1" ∷ codes "a2" ∷ codes "a3" ∷ []
 
+-- nothing is read: a program is wanted, and the arguments are known
 abbrev pub first_reading : Reading
 first_reading = record { goals = first_goals; names = arguments; assigned = []; tokens = [] }
 
@@ -69,6 +71,7 @@ abbrev pub first_fault : (left : ℕ) → List Goal → (names : List (List ℕ)
 first_fault left below names (Mark CloseParenthesis) = end_fault left
 first_fault left below names token = operand_fault (nat_lt 0 left) below names token
 
+-- what is wrong with what is behind an argument
 abbrev pub argument_fault : (left : ℕ) → Token → Option LangKind
 argument_fault left (Mark CloseParenthesis) = end_fault left
 argument_fault left _ = None
@@ -84,6 +87,7 @@ fault_at (AfterArgument left) below names token = argument_fault left token
 fault_at Braces below names token = depth_fault below
 fault_at _ below names token = None
 
+-- what is wrong with a token that the grammar takes, by the goal that it meets
 abbrev pub fault_of : List Goal → (names : List (List ℕ)) → Token → Option LangKind
 fault_of [] names token = None
 fault_of (goal ∷ below) names token = fault_at goal below names token
@@ -124,6 +128,7 @@ abbrev pub checked : Reading → Token → Option LangKind → List Goal → Res
 checked r token (Some kind) goals = Err kind
 checked r token None goals = Ok (read_on r token goals)
 
+-- the reading behind a token, by what the grammar says of it
 abbrev pub followed : Reading → Token → Result (List Goal) LangKind → Result Reading LangKind
 followed r token (Err kind) = Err kind
 followed r token (Ok goals) = checked r token (fault_of r.goals r.names token) goals
@@ -139,11 +144,12 @@ pub record LineFault : Type 0 where
   pub line : ℕ
   pub kind : LangKind
 
--- the reading behind one more word
+-- the reading behind one more token, if there is one
 abbrev pub read_by : Reading → Option Token → Result Reading LangKind
 read_by r None = Err NoToken
 read_by r (Some token) = read_token r token
 
+-- the reading behind one more word, which must be a token
 abbrev pub read_word : Reading → List ℕ → Result Reading LangKind
 read_word r word = read_by r (token_of word)
 
@@ -171,6 +177,7 @@ read_whole line r = cond (nat_lt 120 (length r.tokens)) (refused line TooManyTok
 abbrev pub read_end : (line : ℕ) → Reading → Result Syntax LineFault
 read_end line r = cond (is_met r.goals) (read_whole line r) (refused line NoProgram)
 
+-- what is read, or the first refusal
 abbrev pub ended : (line : ℕ) → Result Reading LineFault → Result Syntax LineFault
 ended line (Err fault) = Err fault
 ended line (Ok r) = read_end line r

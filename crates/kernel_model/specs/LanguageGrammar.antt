@@ -1,17 +1,18 @@
 -- The grammar of the graft language: programs, how they are spelled, and which tokens may come next.
+-- docs/LANGUAGE.md says the rules.
 use Rattle.std.specs.Prelude.{ℕ, ◌-◌, Bool, true, false, cond, not, List, [], ◌∷◌, Result, Ok, Err}
-use Rattle.graft_syntax.specs.declared.LangKind.{LangKind}
-use Rattle.graft_syntax.specs.declared.LangKind.TheVariants.{NoProgram}
-use Rattle.graft_syntax.specs.declared.Operator.{Operator}
-use Rattle.graft_syntax.specs.declared.Symbol.{Symbol}
-use Rattle.graft_syntax.specs.declared.Symbol.TheVariants.{If, Else, While, Trap, Answer, Assign, Semicolon}
-use Rattle.graft_syntax.specs.declared.Symbol.TheVariants.{OpenBrace, CloseBrace, OpenParenthesis}
-use Rattle.graft_syntax.specs.declared.Symbol.TheVariants.{CloseParenthesis, Comma}
-use Rattle.graft_syntax.specs.declared.grammar.Goal.{Goal}
-use Rattle.graft_syntax.specs.declared.grammar.Goal.TheVariants.{Statements, Braces, Operand, InfixOperator}
-use Rattle.graft_syntax.specs.declared.grammar.Goal.TheVariants.{RightSide, FirstArgument, NextArgument}
-use Rattle.graft_syntax.specs.declared.grammar.Goal.TheVariants.{AfterArgument, EndOfAssignment, Constant, Awaits}
-use Rattle.graft_syntax.specs.Tokens.{Token, Number, Variable, Callable, Infix, Mark, arguments_of, same_symbol}
+use Rattle.kernel_model.specs.declared.language.LangKind.{LangKind}
+use Rattle.kernel_model.specs.declared.language.LangKind.TheVariants.{NoProgram}
+use Rattle.kernel_model.specs.declared.language.Operator.{Operator}
+use Rattle.kernel_model.specs.declared.language.Symbol.{Symbol}
+use Rattle.kernel_model.specs.declared.language.Symbol.TheVariants.{If, Else, While, Trap, Answer, Assign, Semicolon}
+use Rattle.kernel_model.specs.declared.language.Symbol.TheVariants.{OpenBrace, CloseBrace, OpenParenthesis}
+use Rattle.kernel_model.specs.declared.language.Symbol.TheVariants.{CloseParenthesis, Comma}
+use Rattle.kernel_model.specs.declared.language.Goal.{Goal}
+use Rattle.kernel_model.specs.declared.language.Goal.TheVariants.{Statements, Braces, Operand, InfixOperator}
+use Rattle.kernel_model.specs.declared.language.Goal.TheVariants.{RightSide, FirstArgument, NextArgument}
+use Rattle.kernel_model.specs.declared.language.Goal.TheVariants.{AfterArgument, EndOfAssignment, Constant, Awaits}
+use Rattle.kernel_model.specs.LanguageTokens.{Token, Number, Variable, Callable, Infix, Mark, arguments_of, same_symbol}
 
 -- ---- programs
 
@@ -37,6 +38,7 @@ pub data Program : Type 0 where
 
 -- ---- how they are spelled: their tokens, and then those that are behind
 
+-- the tokens of an expression
 abbrev pub spelled_expression : Expression → List Token → List Token
 spelled_expression (Literal n) behind = Number n ∷ behind
 spelled_expression (Named name) behind = Variable name ∷ behind
@@ -54,6 +56,7 @@ abbrev pub spelled_arguments : List Expression → List Token → List Token
 spelled_arguments [] behind = Mark CloseParenthesis ∷ behind
 spelled_arguments (e ∷ es) behind = spelled_expression e (spelled_more es behind)
 
+-- the tokens of statements, one after another
 abbrev pub spelled_statements : Program → List Token → List Token
 spelled_statements Done behind = behind
 spelled_statements (Assigns name e p) behind =
@@ -95,12 +98,14 @@ follow_mark in_block after_if below Answer =
 follow_mark in_block after_if below CloseBrace = cond in_block (Ok below) (Err NoProgram)
 follow_mark in_block after_if below _ = Err NoProgram
 
+-- a statement, or the end of a block
 abbrev pub follow_statement : (in_block after_if : Bool) → List Goal → Token → Result (List Goal) LangKind
 follow_statement in_block after_if below (Variable name) =
     Ok (Awaits Assign ∷ RightSide ∷ EndOfAssignment ∷ Statements in_block false ∷ below)
 follow_statement in_block after_if below (Mark s) = follow_mark in_block after_if below s
 follow_statement in_block after_if below _ = Err NoProgram
 
+-- an expression: a number, a variable, or an operation in parentheses
 abbrev pub follow_operand : List Goal → Token → Result (List Goal) LangKind
 follow_operand below (Number n) = Ok below
 follow_operand below (Variable name) = Ok below
@@ -108,23 +113,28 @@ follow_operand below (Mark OpenParenthesis) =
     Ok (Operand ∷ InfixOperator ∷ Operand ∷ Awaits CloseParenthesis ∷ below)
 follow_operand below _ = Err NoProgram
 
+-- what an assignment takes its value from: a call, or an expression
 abbrev pub follow_right_side : List Goal → Token → Result (List Goal) LangKind
 follow_right_side below (Callable id) = Ok (Awaits OpenParenthesis ∷ FirstArgument (arguments_of id) ∷ below)
 follow_right_side below token = follow_operand below token
 
+-- the first argument of a call, or its end
 abbrev pub follow_first : (left : ℕ) → List Goal → Token → Result (List Goal) LangKind
 follow_first left below (Mark CloseParenthesis) = Ok below
 follow_first left below token = follow_operand (AfterArgument (left - 1) ∷ below) token
 
+-- another argument of a call, or its end
 abbrev pub follow_argument : (left : ℕ) → List Goal → Token → Result (List Goal) LangKind
 follow_argument left below (Mark Comma) = Ok (NextArgument left ∷ below)
 follow_argument left below (Mark CloseParenthesis) = Ok below
 follow_argument left below _ = Err NoProgram
 
+-- an operator
 abbrev pub follow_infix : List Goal → Token → Result (List Goal) LangKind
 follow_infix below (Infix op) = Ok below
 follow_infix below _ = Err NoProgram
 
+-- the number of a trap
 abbrev pub follow_constant : List Goal → Token → Result (List Goal) LangKind
 follow_constant below (Number n) = Ok below
 follow_constant below _ = Err NoProgram

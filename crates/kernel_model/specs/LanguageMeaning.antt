@@ -4,19 +4,21 @@ use Rattle.std.specs.Prelude.{map, bit_and, bit_or, bit_xor, Option, None, Some}
 use Rattle.kernel_model.specs.Objects.{at}
 use Rattle.kernel_model.specs.Machine.{word}
 use Rattle.kernel_model.specs.Runs.{MadeCall}
-use Rattle.graft_syntax.specs.declared.Operator.{Operator}
-use Rattle.graft_syntax.specs.declared.Operator.TheVariants.{Plus, Minus, Times, Over, Rest, And, Or, Xor}
-use Rattle.graft_syntax.specs.declared.Operator.TheVariants.{ShiftLeft, ShiftRight, Less, Equal}
-use Rattle.graft_syntax.specs.Grammar as spelled
-use Rattle.graft_syntax.specs.Reading.{number_of}
+use Rattle.kernel_model.specs.declared.language.Operator.{Operator}
+use Rattle.kernel_model.specs.declared.language.Operator.TheVariants.{Plus, Minus, Times, Over, Rest, And, Or, Xor}
+use Rattle.kernel_model.specs.declared.language.Operator.TheVariants.{ShiftLeft, ShiftRight, Less, Equal}
+use Rattle.kernel_model.specs.LanguageGrammar as spelled
+use Rattle.kernel_model.specs.LanguageReading.{number_of}
 
 -- ---- programs whose variables are numbered, the arguments 0 to 3 first
 
+-- an expression
 pub data Expression : Type 0 where
   Number : (n : ℕ) → Expression
   Variable : (i : ℕ) → Expression
   Binary : Expression → Operator → Expression → Expression
 
+-- statements, as of the grammar: nothing more, or a statement and those behind it
 pub data Program : Type 0 where
   Done : Program
   Assigns : (i : ℕ) → Expression → Program → Program
@@ -27,12 +29,14 @@ pub data Program : Type 0 where
   Traps : (code : ℕ) → Program → Program
   Answers : Expression → Expression → Program → Program
 
+-- an expression of the grammar with the numbers of its variables
 abbrev pub numbered_expression : (names : List (List ℕ)) → spelled.Expression → Expression
 numbered_expression names (spelled.Literal n) = Number n
 numbered_expression names (spelled.Named name) = Variable (number_of names name)
 numbered_expression names (spelled.Binary a op b) =
     Binary (numbered_expression names a) op (numbered_expression names b)
 
+-- a program of the grammar with the numbers of its variables
 abbrev pub numbered : (names : List (List ℕ)) → spelled.Program → Program
 numbered names spelled.Done = Done
 numbered names (spelled.Assigns name e p) =
@@ -66,6 +70,7 @@ applied ShiftRight a b = Some (a / 2 ^ (b % 32))
 applied Less a b = Some (cond (nat_lt a b) 1 0)
 applied Equal a b = Some (cond (a == b) 1 0)
 
+-- what an operator makes of two values, if both are there
 abbrev pub both : Operator → Option ℕ → Option ℕ → Option ℕ
 both op None b = None
 both op (Some a) None = None
@@ -90,7 +95,8 @@ values cells (e ∷ es) = value_before (value cells e) (values cells es)
 
 -- ---- what a program does
 
--- how a program ends
+-- how a program ends: with an answer, a trap, a division by zero, at a call for which no answer is
+-- left, or not within the turns
 pub data End : Type 0 where
   Answered : (r0 r1 : ℕ) → End
   Trapped : (code : ℕ) → End
@@ -112,6 +118,7 @@ pub record State : Type 0 where
   -- what ended it, if it has ended
   pub ended : Option End
 
+-- a state that has this end
 abbrev pub ends : State → End → State
 ends s end = record s { ended = Some end }
 
@@ -133,10 +140,12 @@ answers_call i call s [] = ends s (Asks call)
 answers_call i call s (pair ∷ pairs) =
     record s { cells = at i pair.0 s.cells; calls = s.calls ++ call ∷ []; answers = pairs }
 
+-- a call with these arguments, if they have values
 abbrev pub calls : (i id : ℕ) → State → Option (List ℕ) → State
 calls i id s None = ends s DividedByZero
 calls i id s (Some xs) = answers_call i (made_call id xs) s s.answers
 
+-- the end with this answer, if both sides have values
 abbrev pub answers : State → Option ℕ → Option ℕ → State
 answers s None y = ends s DividedByZero
 answers s (Some x) None = ends s DividedByZero
