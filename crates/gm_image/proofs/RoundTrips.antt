@@ -19,17 +19,17 @@ use Rattle.gm_image.proofs.Reading.{read_raw-parts}
 -- ---- written, then read
 
 -- code has eight bytes for each instruction
-length-code_bytes : (code : List Instr) → length (code_bytes code) ≡ 8 * length code
+pub length-code_bytes : (code : List Instr) → length (code_bytes code) ≡ 8 * length code
 length-code_bytes [] = refl
 length-code_bytes (i ∷ is) = omega (arith, length-code_bytes is)
 
 -- the first of two tests
-first_true : (a b : Bool) → (a && b) ≡ true → a ≡ true
+pub first_true : (a b : Bool) → (a && b) ≡ true → a ≡ true
 first_true true b h = refl
 first_true false b h = cc
 
 -- the second of two tests
-second_true : (a b : Bool) → (a && b) ≡ true → b ≡ true
+pub second_true : (a b : Bool) → (a && b) ≡ true → b ≡ true
 second_true true b h = h
 second_true false b h = cc
 
@@ -42,7 +42,7 @@ decoded-code_bytes law (i ∷ is) pc h =
     (rw (decoded-code_bytes law is (suc pc) (second_true (fits i) (list_all fits is) h)) refl)
 
 -- the word that stands in bytes
-word_is : (n : ℕ) → n < 2 ^ 32 → n ≡ word_at (word_bytes n) 0
+pub word_is : (n : ℕ) → n < 2 ^ 32 → n ≡ word_at (word_bytes n) 0
 word_is n h = omega (arith, from_le_bytes-to_le_bytes_4 n h)
 
 -- code and data behind each other are the parts of an image

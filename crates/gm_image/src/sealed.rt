@@ -153,7 +153,11 @@ fn head_length(version: u32) -> usize
     ensures least { 16 ≤ result }
     ensures most { result ≤ 24 }
 {
-    if version == 2 { SECOND_HEAD } else { FIRST_HEAD }
+    if version == 2 {
+        SECOND_HEAD
+    } else {
+        FIRST_HEAD
+    }
 }
 
 /// The word of the head of version 2 at a place, 0 in version 1.

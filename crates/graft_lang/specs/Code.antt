@@ -11,10 +11,11 @@ use Rattle.kernel_model.specs.LanguageMeaning.{Expression, Number, Variable, Bin
 use Rattle.kernel_model.specs.LanguageMeaning.{When}
 use Rattle.kernel_model.specs.LanguageMeaning.{Either, Loops, Traps, Answers}
 
--- the word of a slot of the segment, to and from a register: r5 has its address
+-- the word of a slot of the segment to a register: r5 has its address
 abbrev pub fetches : (reg slot : ℕ) → List Instr
 fetches reg slot = instr Li 5 0 0 (4 * slot) ∷ instr Ldw reg 5 0 0 ∷ []
 
+-- a register to the word of a slot of the segment: r5 has its address
 abbrev pub puts : (reg slot : ℕ) → List Instr
 puts reg slot = instr Li 5 0 0 (4 * slot) ∷ instr Stw reg 5 0 0 ∷ []
 

@@ -59,6 +59,7 @@ pub record Lasts (code : List Instr) (r : CodeRun) (s : State) : Type 0 where
   pub more : s.turns < steps
   pub lasts : (run code steps r).ended ≡ None
 
+-- the code does what made t of s, where t ended so, or goes on
 abbrev pub GoesBy : Option End → (code : List Instr) (most top c len : ℕ) (r : CodeRun) (s t : State) → Type 0
 GoesBy None code most top c len r s t = GoesOn code most top c len r s t
 GoesBy (Some Going) code most top c len r s t = Lasts code r s
@@ -76,6 +77,7 @@ abbrev pub AllFit : (variables top : ℕ) → List Expression → Type 0
 AllFit variables top [] = ⊤
 AllFit variables top (e ∷ es) = (top < 1024) × Fits variables top e × AllFit variables (suc top) es
 
+-- a program fits: each variable and each expression of it
 abbrev pub FitsProgram : (variables : ℕ) → Program → Type 0
 FitsProgram v Done = ⊤
 FitsProgram v (Assigns i e p) = (i < v) × (v < 1024) × Fits v v e × FitsProgram v p

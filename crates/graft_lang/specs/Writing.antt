@@ -79,11 +79,12 @@ WritesOperation names top old new =
 
 -- ---- what comes next
 
--- the callable that comes next, and what is behind it
+-- the callable that comes next
 abbrev pub callable_next : List Token → Option ℕ
 callable_next (Callable id ∷ tokens) = Some id
 callable_next _ = None
 
+-- without this callable, if one comes next
 abbrev pub behind_callable : Writing → Writing
 behind_callable w = record {
   tokens = cond (is_some (callable_next w.tokens)) (drop 1 w.tokens) w.tokens;
@@ -107,11 +108,12 @@ abbrev pub number_next : List Token → ℕ
 number_next (Number n ∷ tokens) = n
 number_next _ = 0
 
--- a token ends a block, and a block or the text ends here
+-- a token ends a block
 abbrev pub closes_block : Token → Bool
 closes_block (Mark s) = same_symbol CloseBrace s
 closes_block _ = false
 
+-- a block or the text ends here
 abbrev pub is_block_end : List Token → Bool
 is_block_end [] = true
 is_block_end (t ∷ tokens) = closes_block t
@@ -123,11 +125,13 @@ abbrev pub call_code : (top i id : ℕ) → List l.Expression → List Instr
 call_code top i id es =
     arguments_code top es ++ (registers_code 0 top 3 es ++ (instr Call 0 0 0 id ∷ puts 0 i))
 
+-- an answer
 abbrev pub answer_code : (top : ℕ) → (e f : l.Expression) → List Instr
 answer_code top e f =
     expression_code top e ++ (puts 4 top ++ (expression_code (suc top) f
     ++ (instr Mov 1 4 0 0 ∷ (fetches 0 top ++ (instr Ret 0 0 0 0 ∷ [])))))
 
+-- an `if` without `else`, which stands at this place
 abbrev pub when_code : (top place : ℕ) → l.Expression → l.Program → List Instr
 when_code top place e p =
     let test = expression_code top e in
@@ -140,6 +144,7 @@ else_code top place p =
     let outer = statements_code top (place + 1) p in
     instr Jmp 0 0 0 (place + 1 + length outer) ∷ outer
 
+-- an `if` with `else`, which stands at this place
 abbrev pub either_code : (top place : ℕ) → l.Expression → (p q : l.Program) → List Instr
 either_code top place e p q =
     let test = expression_code top e in
@@ -147,6 +152,7 @@ either_code top place e p q =
     let end = place + length test + 1 + length inner in
     test ++ (instr Jz 4 0 0 (end + 1) ∷ (inner ++ else_code top end q))
 
+-- a `while`, which stands at this place
 abbrev pub loop_code : (top place : ℕ) → l.Expression → l.Program → List Instr
 loop_code top place e p =
     let test = expression_code top e in

@@ -1,5 +1,5 @@
 -- Decoding words one by one, and what is said of the parts of sealed bytes.
-use Rattle.std.proofs.Common.{◌≡◌, ℕ, zero, suc, ◌+◌, ◌-◌, ◌*◌, ◌==◌, Bool, true, false, List, [], ◌∷◌, ◌++◌, length, take, drop, Result, Ok, Err, refl, sym, ap, ◌∙◌, append_assoc, add-one, arith, length-append, get_or, ◌<◌, nat_lt, codes}
+use Rattle.std.proofs.Common.{◌≡◌, ℕ, zero, suc, ◌+◌, ◌-◌, ◌*◌, ◌==◌, true, false, List, [], ◌∷◌, ◌++◌, length, take, drop, Option, None, Some, Result, Ok, Err, refl, sym, ap, ◌∙◌, append_assoc, add-one, arith, length-append, get_or, ◌<◌}
 use Rattle.std.proofs.Math.Seq.{drop-cons}
 use Rattle.std.proofs.lemmas.List.Folds.{list_all-append}
 use Rattle.std.specs.List.{list_all}
@@ -7,12 +7,13 @@ use Rattle.kernel_model.specs.declared.Instr.{Instr}
 use Rattle.kernel_model.specs.Bytes.{word_at}
 use Rattle.kernel_model.specs.World.{Image, same_bytes}
 use Rattle.kernel_model.specs.Instructions.{decode, fits}
-use Rattle.kernel_model.specs.Images.{LoadFault, Length, Magic, Version, TooLarge, BadOp, with_first, Seal, hmac, decoded, image_with, is_too_large, verified, load_by_seal, load}
-use Rattle.gm_image.specs.Sealed.{Parts, words_of, sealed_part, parts_of, read_sealed}
+use Rattle.kernel_model.specs.declared.Keys.{Keys}
+use Rattle.kernel_model.specs.Images.{LoadFault, Length, Magic, Version, TooLarge, BadFlags, BadOp, Seal, with_first, hmac, key_of, head_of, flags_of, number_of, head_fault, decoded, image_with, verified, load_by_seal, load_by_key, load_by_head, load}
+use Rattle.gm_image.specs.Sealed.{Parts, words_of, sealed_part, parts_of, parts_unless, read_sealed}
 use Rattle.gm_image.specs.declared.ImageFault.{ImageFault}
 use Rattle.gm_image.specs.Faults as image
 use Rattle.graft_loader.specs.Faults.{Refuses, of_image}
-use Rattle.graft_loader.specs.Loading.{decoded_words, loaded}
+use Rattle.graft_loader.specs.Loading.{decoded_words, sealed_by, loaded}
 
 -- instructions before the others, unless one of these is refused
 abbrev pub behind : List Instr → Result (List Instr) LoadFault → Result (List Instr) LoadFault
@@ -36,78 +37,54 @@ decoded-words : (n pc : ℕ) (bytes : List ℕ) → decoded n pc bytes ≡ decod
 decoded-words zero pc bytes = refl
 decoded-words (suc n) pc bytes = ap (λ (r : Result (List Instr) LoadFault). with_first (decode (take 8 bytes)) pc r) (decoded-words n (suc pc) (drop 8 bytes))
 
--- what the tests of sealed bytes say, and what is said behind them
-by_tests : (key text : List ℕ) (short same version large sized : Bool) (p : Parts) (parts : Result Image LoadFault)
-    → parts ≡ loaded key text (Ok p)
-    → (elim short as (λ b. Result Image LoadFault) [
-      | true ↦ Err Length
-      | false ↦ elim same as (λ b. Result Image LoadFault) [
-        | false ↦ Err Magic
-        | true ↦ elim version as (λ b. Result Image LoadFault) [
-          | false ↦ Err Version
-          | true ↦ elim large as (λ b. Result Image LoadFault) [
-            | true ↦ Err TooLarge
-            | false ↦ elim sized as (λ b. Result Image LoadFault) [ false ↦ Err Length | true ↦ parts ]
-          ]
-        ]
-      ]
-    ])
-    ≡ loaded key text (elim short as (λ b. Result Parts LoadFault) [
-      | true ↦ Err Length
-      | false ↦ elim same as (λ b. Result Parts LoadFault) [
-        | false ↦ Err Magic
-        | true ↦ elim version as (λ b. Result Parts LoadFault) [
-          | false ↦ Err Version
-          | true ↦ elim large as (λ b. Result Parts LoadFault) [
-            | true ↦ Err TooLarge
-            | false ↦ elim sized as (λ b. Result Parts LoadFault) [ false ↦ Err Length | true ↦ Ok p ]
-          ]
-        ]
-      ]
-    ])
-by_tests key text true same version large sized p parts h = refl
-by_tests key text false false version large sized p parts h = refl
-by_tests key text false true false large sized p parts h = refl
-by_tests key text false true true true sized p parts h = refl
-by_tests key text false true true false false p parts h = refl
-by_tests key text false true true false true p parts h = h
-
 -- what is said of sealed bytes by their seal
-by_seal : (key bytes : List ℕ) (n : ℕ) → load_by_seal key bytes n ≡ loaded key (sealed_part bytes) (Ok (parts_of n bytes))
-by_seal key bytes n =
+by_seal : (key bytes : List ℕ) → load_by_seal key bytes ≡ sealed_by (Some key) (sealed_part bytes) (parts_of bytes)
+by_seal key bytes =
     ap (λ (code : Result (List Instr) LoadFault).
     elim (same_bytes (hmac key (sealed_part bytes)) (drop (length bytes - 32) bytes)) as (λ b. Result Image LoadFault) [
       | false ↦ Err Seal
-      | true ↦ verified (image_with (drop (16 + 8 * n) (sealed_part bytes)) code)
+      | true ↦ verified (image_with (drop (head_of bytes + 8 * word_at bytes 8) (sealed_part bytes)) code)
     ])
-    (decoded-words n 0 (drop 16 (sealed_part bytes)))
+    (decoded-words (word_at bytes 8) 0 (drop (head_of bytes) (sealed_part bytes)))
+
+-- the same, if there is the key
+by_key : (found : Option (List ℕ)) (bytes : List ℕ)
+    → load_by_key found bytes ≡ sealed_by found (sealed_part bytes) (parts_of bytes)
+by_key None bytes = refl
+by_key (Some key) bytes = by_seal key bytes
+
+-- what is said of sealed bytes by their head
+by_head : (keys : Keys) (bytes : List ℕ) (fault : Option LoadFault)
+    → load_by_head keys bytes fault ≡ loaded keys (sealed_part bytes) (parts_unless bytes fault)
+by_head keys bytes (Some fault) = refl
+by_head keys bytes None =
+    ap (λ (image : Result Image LoadFault).
+    elim (flags_of bytes == 0) as (λ b. Result Image LoadFault) [ false ↦ Err BadFlags | true ↦ image ])
+    (by_key (key_of keys (number_of bytes)) bytes)
 
 -- what the loader says is what is said of the parts
-load-loaded : (key bytes : List ℕ) → load key bytes ≡ loaded key (sealed_part bytes) (read_sealed bytes)
-load-loaded key bytes =
-    by_tests key (sealed_part bytes) (nat_lt (length bytes) 48) (same_bytes (take 4 bytes) (codes "VGR1")) (word_at bytes 4 == 1)
-    (is_too_large (word_at bytes 8) (word_at bytes 12)) (length bytes == 48 + 8 * word_at bytes 8 + word_at bytes 12)
-    (parts_of (word_at bytes 8) bytes) (load_by_seal key bytes (word_at bytes 8)) (by_seal key bytes (word_at bytes 8))
+load-loaded : (keys : Keys) (bytes : List ℕ) → load keys bytes ≡ loaded keys (sealed_part bytes) (read_sealed bytes)
+load-loaded keys bytes = by_head keys bytes (head_fault bytes)
 
 -- bytes that have parts
-pub load-parts : (key bytes text : List ℕ) (p : Parts) → text ≡ sealed_part bytes → read_sealed bytes ≡ Ok p
-    → load key bytes ≡ loaded key text (Ok p)
-load-parts key bytes text p t h =
-    load-loaded key bytes ∙ ap (λ (r : Result Parts LoadFault). loaded key (sealed_part bytes) r) h
-    ∙ ap (λ (xs : List ℕ). loaded key xs (Ok p)) (sym t)
+pub load-parts : (keys : Keys) (bytes text : List ℕ) (p : Parts) → text ≡ sealed_part bytes → read_sealed bytes ≡ Ok p
+    → load keys bytes ≡ loaded keys text (Ok p)
+load-parts keys bytes text p t h =
+    load-loaded keys bytes ∙ ap (λ (r : Result Parts LoadFault). loaded keys (sealed_part bytes) r) h
+    ∙ ap (λ (xs : List ℕ). loaded keys xs (Ok p)) (sym t)
 
 -- bytes that have none
-load-refused : (key bytes : List ℕ) (fault : LoadFault) → read_sealed bytes ≡ Err fault → load key bytes ≡ Err fault
-load-refused key bytes fault h = load-loaded key bytes ∙ ap (λ (r : Result Parts LoadFault). loaded key (sealed_part bytes) r) h
+load-refused : (keys : Keys) (bytes : List ℕ) (fault : LoadFault) → read_sealed bytes ≡ Err fault → load keys bytes ≡ Err fault
+load-refused keys bytes fault h = load-loaded keys bytes ∙ ap (λ (r : Result Parts LoadFault). loaded keys (sealed_part bytes) r) h
 
 -- what the head is refused for, the loader refuses the image for
-pub refused : (fault : ImageFault) (key bytes : List ℕ) → image.Refuses fault (read_sealed bytes) → Refuses (of_image fault) (load key bytes)
-refused ImageFault.Length key bytes h = load-refused key bytes Length h
-refused ImageFault.Magic key bytes h = load-refused key bytes Magic h
-refused ImageFault.Version key bytes h = load-refused key bytes Version h
-refused ImageFault.TooLarge key bytes h = load-refused key bytes TooLarge h
-refused (ImageFault.BadOp pc) key bytes h = load-refused key bytes (BadOp pc) h
-refused ImageFault.NoMemory key bytes h = tt
+pub refused : (fault : ImageFault) (keys : Keys) (bytes : List ℕ) → image.Refuses fault (read_sealed bytes) → Refuses (of_image fault) (load keys bytes)
+refused ImageFault.Length keys bytes h = load-refused keys bytes Length h
+refused ImageFault.Magic keys bytes h = load-refused keys bytes Magic h
+refused ImageFault.Version keys bytes h = load-refused keys bytes Version h
+refused ImageFault.TooLarge keys bytes h = load-refused keys bytes TooLarge h
+refused (ImageFault.BadOp pc) keys bytes h = load-refused keys bytes (BadOp pc) h
+refused ImageFault.NoMemory keys bytes h = tt
 
 -- one more word is an instruction
 pub Decodes-more : (words : List (List ℕ)) (pc : ℕ) (code : List Instr) (i : Instr) → Decodes words pc code → pc < length words

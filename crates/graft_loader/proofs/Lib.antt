@@ -2,3 +2,5 @@ pub mod Comparing
 pub mod Decoding
 pub mod Masking
 pub mod Slots
+mod Sealed
+mod Loadable

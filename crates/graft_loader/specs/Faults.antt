@@ -6,7 +6,7 @@ use Rattle.box_verify.specs.declared.VerifyFault.TheVariants as verify
 use Rattle.gm_image.specs.declared.ImageFault.{ImageFault}
 use Rattle.gm_image.specs.declared.ImageFault.TheVariants as image
 use Rattle.graft_loader.specs.declared.LoadFault.{LoadFault}
-use Rattle.graft_loader.specs.declared.LoadFault.TheVariants.{Length, Magic, Version, TooLarge, Seal, BadOp, Register, Jump, Memory, Call, End, NoMemory}
+use Rattle.graft_loader.specs.declared.LoadFault.TheVariants.{Length, Magic, Version, TooLarge, BadFlags, NoKey, Seal, BadOp, Register, Jump, Memory, Call, End, NoMemory}
 
 -- a fault is the refusal that is said; want of memory stands for none
 abbrev pub Refuses : {A : Type 0} → LoadFault → Result A model.LoadFault → Type 0
@@ -14,6 +14,8 @@ Refuses Length said = said ≡ Err model.Length
 Refuses Magic said = said ≡ Err model.Magic
 Refuses Version said = said ≡ Err model.Version
 Refuses TooLarge said = said ≡ Err model.TooLarge
+Refuses BadFlags said = said ≡ Err model.BadFlags
+Refuses NoKey said = said ≡ Err model.NoKey
 Refuses Seal said = said ≡ Err model.Seal
 Refuses (BadOp pc) said = said ≡ Err (model.BadOp pc)
 Refuses (Register pc) said = said ≡ Err (model.Register pc)

@@ -1,3 +1,4 @@
 pub mod Faults
 pub mod Loading
 pub mod Slots
+pub mod Laws

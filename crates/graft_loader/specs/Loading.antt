@@ -1,11 +1,12 @@
 -- Words of the loader's parts, and what a loaded image keeps.
-use Rattle.std.specs.Prelude.{◌≡◌, ◌≤◌, ℕ, suc, true, false, List, [], ◌∷◌, length, Result, Ok, Err}
+use Rattle.std.specs.Prelude.{◌≡◌, ◌≤◌, ℕ, suc, ◌==◌, true, false, List, [], ◌∷◌, length, Option, None, Some, Result, Ok, Err}
 use Rattle.std.specs.List.{list_all}
 use Rattle.kernel_model.specs.declared.Instr.{Instr}
 use Rattle.kernel_model.specs.Instructions.{decode, fits}
 use Rattle.kernel_model.specs.World.{Image, same_bytes}
 use Rattle.kernel_model.specs.Boxed.{IsBoxed}
-use Rattle.kernel_model.specs.Images.{LoadFault, Seal, hmac, with_first, image_with, verified}
+use Rattle.kernel_model.specs.declared.Keys.{Keys}
+use Rattle.kernel_model.specs.Images.{LoadFault, BadFlags, NoKey, Seal, hmac, key_of, with_first, image_with, verified}
 use Rattle.gm_image.specs.Sealed.{Parts}
 
 -- boxed code of at most 1,024 instructions, each of which can be encoded, and at most 4,096 data bytes
@@ -24,7 +25,13 @@ decoded_words pc (word ∷ words) = with_first (decode word) pc (decoded_words (
 abbrev pub unsealed : Parts → Result Image LoadFault
 unsealed p = verified (image_with p.body (decoded_words 0 p.words))
 
--- the image of parts, whose seal is over this text, or the first refusal
-abbrev pub loaded : List ℕ → List ℕ → Result Parts LoadFault → Result Image LoadFault
-loaded key text (Err fault) = Err fault
-loaded key text (Ok p) = elim (same_bytes (hmac key text) p.seal) [ false ↦ Err Seal | true ↦ unsealed p ]
+-- the image of parts, whose seal is over this text under this key, or the first refusal
+abbrev pub sealed_by : Option (List ℕ) → List ℕ → Parts → Result Image LoadFault
+sealed_by None text p = Err NoKey
+sealed_by (Some key) text p = elim (same_bytes (hmac key text) p.seal) [ false ↦ Err Seal | true ↦ unsealed p ]
+
+-- the image of parts, whose seal is over this text under one of these keys, or the first refusal
+abbrev pub loaded : Keys → List ℕ → Result Parts LoadFault → Result Image LoadFault
+loaded keys text (Err fault) = Err fault
+loaded keys text (Ok p) =
+    elim (p.flags == 0) [ false ↦ Err BadFlags | true ↦ sealed_by (key_of keys p.number) text p ]

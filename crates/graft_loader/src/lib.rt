@@ -2,14 +2,14 @@
 //! and whose code is boxed (docs/FORMATS.md).
 #![tactic(auto)]
 
-ghost use Rattle.std.specs.Prelude.{◌≡◌, ◌≤◌, ◌-◌, ◌++◌, [], ◌∷◌, length, true, take, Ok, IfOk, IfErr, OnOk};
+ghost use Rattle.std.specs.Prelude.{◌≡◌, ◌≤◌, ◌-◌, ◌++◌, [], ◌∷◌, length, true, take, Some, Ok, IfOk, IfErr, OnOk, option_copied};
 ghost use Rattle.std.specs.List.{list_all};
 ghost use Rattle.kernel_model.specs.Instructions.{fits};
 ghost use Rattle.kernel_model.specs.Boxed.{IsBoxed, box_fault};
 ghost use Rattle.kernel_model.specs.Images as spec;
 ghost use Rattle.graft_loader.specs.Faults.{Refuses, of_image, of_verifier};
 ghost use Rattle.gm_image.specs.Sealed as image;
-ghost use Rattle.graft_loader.specs.Loading.{IsLoaded, decoded_words, loaded, unsealed};
+ghost use Rattle.graft_loader.specs.Loading.{IsLoaded, decoded_words, loaded, sealed_by, unsealed};
 
 use box_verify::{Verified, VerifyFault, verify};
 use gm_image::{ImageFault, SealedImage, read_sealed};
@@ -19,15 +19,16 @@ use std::marker::Model;
 use thiserror::Error;
 
 mod images;
+pub mod laws;
 mod mac;
 mod sealing;
 
 pub use gm_isa::{Instr, Op};
 pub use images::Images;
-pub use kernel_model::NoMemory;
+pub use kernel_model::{Keys, NoMemory};
 pub use mac::hmac;
 use mac::is_same;
-pub use sealing::seal;
+pub use sealing::{seal, seal_under};
 
 /// The bytes of a seal.
 const SEAL: usize = 32;
@@ -44,6 +45,10 @@ pub enum LoadFault {
     Version,
     #[error("more instructions or data bytes than an image may have")]
     TooLarge,
+    #[error("a flag is set that is not known")]
+    BadFlags,
+    #[error("the seal is under a key that was not given")]
+    NoKey,
     #[error("the seal is not right")]
     Seal,
     #[error("instruction {0} does not decode")]
@@ -97,6 +102,13 @@ impl Loaded {
         ensures usable { IsLoaded self.now }
     {
         &self.code
+    }
+
+    /// The flags: an image with one isn't loaded, since none is known.
+    pub fn flags(&self) -> u32
+        ensures { result ≡ 0 }
+    {
+        0
     }
 
     /// The data bytes.
@@ -185,16 +197,27 @@ fn sealed_part(bytes: &[u8]) -> &[u8]
     &bytes[..bytes.len() - SEAL]
 }
 
-/// The image of parts whose seal is to be over this text.
+/// The key of a number, if there is one.
+fn key_of(keys: &Keys, number: u32) -> Option<&[u8; 32]>
+    ensures { option_copied result ≡ spec.key_of keys.now number }
+{
+    match number {
+        0 => Some(&keys.first),
+        1 => keys.second.as_ref(),
+        _ => None,
+    }
+}
+
+/// The image of parts whose seal is to be over this text, under this key.
 fn check_seal(
     alloc: Global,
     key: &[u8; 32],
     text: &[u8],
     image: &SealedImage,
 ) -> Result<Loaded, LoadFault>
-    ensures ok { IfOk result (λ l. loaded key.now text.now (Ok image.now) ≡ Ok l) }
+    ensures ok { IfOk result (λ l. sealed_by (Some key.now) text.now image.now ≡ Ok l) }
     ensures usable { IfOk result IsLoaded }
-    ensures err { IfErr result (λ e. Refuses e (loaded key.now text.now (Ok image.now))) }
+    ensures err { IfErr result (λ e. Refuses e (sealed_by (Some key.now) text.now image.now)) }
 {
     if is_same(&hmac(key, text), image.seal()) {
         unseal(alloc, image)
@@ -203,19 +226,62 @@ fn check_seal(
     }
 }
 
-/// The image of sealed bytes, or the first refusal: `Length` below 48 bytes, `Magic`, `Version`,
-/// `TooLarge`, `Length` where it isn't that of the two sizes, `Seal`, `BadOp` with the first instruction
-/// that doesn't decode; then the first place with `Register`, `Jump`, `Memory` or `Call`, in this order at
-/// one place; then `End`.
+/// The image of parts whose seal is to be over this text, under one of these keys.
+fn check_parts(
+    alloc: Global,
+    keys: &Keys,
+    text: &[u8],
+    image: &SealedImage,
+) -> Result<Loaded, LoadFault>
+    ensures ok { IfOk result (λ l. loaded keys.now text.now (Ok image.now) ≡ Ok l) }
+    ensures usable { IfOk result IsLoaded }
+    ensures err { IfErr result (λ e. Refuses e (loaded keys.now text.now (Ok image.now))) }
+{
+    if image.flags() != 0 {
+        return Err(LoadFault::BadFlags);
+    }
+    match key_of(keys, image.number()) {
+        None => Err(LoadFault::NoKey),
+        Some(key) => check_seal(alloc, key, text, image),
+    }
+}
+
+/// The image of sealed bytes of either version, or the first refusal: `Length` below 48 bytes, `Magic`,
+/// `Version`, `Length` below 56 bytes in version 2, `TooLarge`, `Length` where it isn't that of the two
+/// sizes, `BadFlags`, `NoKey`, `Seal`, `BadOp` with the first instruction that doesn't decode; then the
+/// first place with `Register`, `Jump`, `Memory` or `Call`, in this order at one place; then `End`.
 ///
 /// Comparing the seal takes the same steps whichever bytes differ.
-pub fn load(alloc: Global, key: &[u8; 32], bytes: &[u8]) -> Result<Loaded, LoadFault>
-    ensures ok { IfOk result (λ l. spec.load key.now bytes.now ≡ Ok l) }
+pub fn load(alloc: Global, keys: &Keys, bytes: &[u8]) -> Result<Loaded, LoadFault>
+    ensures ok { IfOk result (λ l. spec.load keys.now bytes.now ≡ Ok l) }
     ensures usable { IfOk result IsLoaded }
-    ensures err { IfErr result (λ e. Refuses e (spec.load key.now bytes.now)) }
+    ensures err { IfErr result (λ e. Refuses e (spec.load keys.now bytes.now)) }
 {
     match read_sealed(alloc, bytes) {
-        Ok(image) => check_seal(alloc, key, sealed_part(bytes), &image),
+        Ok(image) => check_parts(alloc, keys, sealed_part(bytes), &image),
         Err(fault) => Err(unread(fault)),
+    }
+}
+
+/// The bytes of an image that was loaded, sealed under the last key. `NoMemory` alone comes.
+fn sealed_again(alloc: Global, keys: &Keys, image: &Loaded) -> Result<Vec<u8>, LoadFault>
+    ensures ok { IfOk result (λ sealed. spec.resealed keys.now (Ok image.now) ≡ Ok sealed.items) }
+    ensures err { IfErr result (λ e. e ≡ LoadFault.NoMemory) }
+{
+    match seal_under(alloc, keys, image.code().code(), image.body()) {
+        Ok(bytes) => Ok(bytes),
+        Err(_) => Err(LoadFault::NoMemory),
+    }
+}
+
+/// The bytes of an image of version 2 with the code, data and flags of a sealed one, under the last key
+/// that was given. It refuses exactly as `load`.
+pub fn reseal(alloc: Global, keys: &Keys, bytes: &[u8]) -> Result<Vec<u8>, LoadFault>
+    ensures ok { IfOk result (λ sealed. spec.reseal keys.now bytes.now ≡ Ok sealed.items) }
+    ensures err { IfErr result (λ e. Refuses e (spec.reseal keys.now bytes.now)) }
+{
+    match load(alloc, keys, bytes) {
+        Ok(image) => sealed_again(alloc, keys, &image),
+        Err(fault) => Err(fault),
     }
 }

@@ -8,13 +8,13 @@ ghost use Rattle.kernel_model.specs.Images as spec;
 
 use crate::mac::hmac;
 use gm_isa::{Instr, encode};
-use kernel_model::NoMemory;
+use kernel_model::{Keys, NoMemory};
 use std::alloc::Global;
 
 const MAGIC: &[u8; 4] = b"VGR1";
 
-/// The one version of sealed images.
-const VERSION: u32 = 1;
+/// The version of the sealed images that are written.
+const VERSION: u32 = 2;
 
 fn append(out: &mut Vec<u8>, bytes: &[u8]) -> Result<(), NoMemory>
     ensures { OnOk result (out.new.items ≡ out.old.items ++ bytes.now) }
@@ -43,33 +43,68 @@ fn append_code(out: &mut Vec<u8>, code: &[Instr]) -> Result<(), NoMemory>
     Ok(())
 }
 
-/// What a seal is over.
-fn sealed_text(alloc: Global, code: &[Instr], body: &[u8]) -> Result<Vec<u8>, NoMemory>
+/// What a seal is over: magic, version, sizes, flags and the number of the key, then code and data.
+fn sealed_text(
+    alloc: Global,
+    number: u32,
+    flags: u32,
+    code: &[Instr],
+    body: &[u8],
+) -> Result<Vec<u8>, NoMemory>
     requires code_len { length code.now ≤ 1024 }
     requires code_fits { list_all fits code.now ≡ true }
     requires body_len { length body.now ≤ 4096 }
-    ensures { IfOk result (λ bytes. bytes.items ≡ spec.sealed_text code.now body.now) }
+    ensures { IfOk result (λ bytes. bytes.items ≡ spec.sealed_text number flags code.now body.now) }
 {
     let mut out = Vec::new(alloc);
     append(&mut out, MAGIC)?;
     append_word(&mut out, VERSION)?;
     append_word(&mut out, code.len() as u32)?;
     append_word(&mut out, body.len() as u32)?;
+    append_word(&mut out, flags)?;
+    append_word(&mut out, number)?;
     append_code(&mut out, code)?;
     append(&mut out, body)?;
     Ok(out)
 }
 
-/// The bytes of the image of this code and data, sealed under a key. Whether the code is boxed isn't
-/// looked at.
-pub fn seal(alloc: Global, key: &[u8; 32], code: &[Instr], body: &[u8]) -> Result<Vec<u8>, NoMemory>
+/// The bytes of the image of this code and data, sealed under a key with its number, 0 or 1. Whether the
+/// code is boxed isn't looked at. No flag is known, so there is none.
+pub fn seal(
+    alloc: Global,
+    key: &[u8; 32],
+    number: u32,
+    flags: u32,
+    code: &[Instr],
+    body: &[u8],
+) -> Result<Vec<u8>, NoMemory>
+    requires number { number ≤ 1 }
+    requires flags { flags ≡ 0 }
     requires code_len { length code.now ≤ 1024 }
     requires code_fits { list_all fits code.now ≡ true }
     requires body_len { length body.now ≤ 4096 }
-    ensures { IfOk result (λ bytes. bytes.items ≡ spec.sealed_image key.now code.now body.now) }
+    ensures { IfOk result (λ bytes. bytes.items ≡ spec.sealed_image key.now number flags code.now body.now) }
 {
-    let mut out = sealed_text(alloc, code, body)?;
+    let mut out = sealed_text(alloc, number, flags, code, body)?;
     let seal = hmac(key, out.as_slice());
     append(&mut out, &seal)?;
     Ok(out)
+}
+
+/// The bytes of the image of this code and data, sealed under the last key that was given.
+pub fn seal_under(
+    alloc: Global,
+    keys: &Keys,
+    code: &[Instr],
+    body: &[u8],
+) -> Result<Vec<u8>, NoMemory>
+    requires code_len { length code.now ≤ 1024 }
+    requires code_fits { list_all fits code.now ≡ true }
+    requires body_len { length body.now ≤ 4096 }
+    ensures { IfOk result (λ bytes. bytes.items ≡ spec.sealed_under keys.now code.now body.now) }
+{
+    match &keys.second {
+        Some(key) => seal(alloc, key, 1, 0, code, body),
+        None => seal(alloc, &keys.first, 0, 0, code, body),
+    }
 }

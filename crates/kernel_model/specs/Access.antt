@@ -1,4 +1,5 @@
--- The callable list: which object a call needs, when it is refused, what it does, and what undoes it.
+-- The callable list: the objects that a call needs, when it is refused, what it does, and what
+-- undoes it.
 use Rattle.std.specs.Prelude.{ℕ, Bool, true, false, cond, not, ◌&&◌, ◌||◌, ◌==◌, nat_lt, nat_le, List, [], ◌∷◌, Option, Some, None, length, slice_get, map, option_map}
 use Rattle.kernel_model.specs.declared.Object.{Object}
 use Rattle.kernel_model.specs.declared.Object.TheVariants.{Graft, Cell, OpenFile, Queue, Cache, Lock, Pol}
@@ -30,7 +31,8 @@ is_out_of_range id r0 r1 =
     nat_le id 1 && nat_lt 3 r0 || (id == 3 && nat_lt 39 r0) || ((id == 4 || id == 5 || id == 13) && nat_lt 3 r0)
     || (id == 5 && nat_lt 8 r1) || (id == 9 && nat_lt 255 r1) || (is_tuning id && nat_lt 2 r0) || (id == 12 && nat_lt 15 r0)
 
--- A refusal that needs no object: an id above the highest one, tuning by another than root, or an argument out of its range.
+-- A call is refused early where its id is above the highest one, where another than root's graft
+-- tunes, or where an argument is out of its range as the numbers alone show.
 abbrev pub early_refusal : (highest id r0 r1 q : ℕ) → Option Cause
 early_refusal highest id r0 r1 q =
     cond (nat_lt highest id) (Some (NotCallable id))
@@ -41,7 +43,8 @@ early_refusal highest id r0 r1 q =
 abbrev pub needed : Object → Mode → Need
 needed o mode = record { object = o; mode = mode; by_user = false }
 
--- the object of a plain accessor; for a user lock its holder is a blocker too
+-- the object that a plain accessor needs, and in which mode; for `take_lock` the holder of the user
+-- lock hinders too
 abbrev pub accessed : (id r0 q : ℕ) → Need
 accessed id r0 q =
     cond (id == 0) (needed (Cell q r0) Shared) (cond (id == 1) (needed (Cell q r0) Exclusive)
@@ -103,7 +106,8 @@ set_mark f v w = record w { cache = record (w.cache) { frame = at f (with_mark v
 abbrev pub set_param : ℕ → ℕ → Things → Things
 set_param kind v w = record w { pol = at kind (with_param v (w.pol kind)) w.pol }
 
--- the highest value of a policy's parameter, if it has one
+-- the highest value of a policy's parameter, if it has one: 8 for reading ahead, 255 for eviction,
+-- 39 for scheduling; policy 0 of each kind has none
 abbrev pub param_top : (kind policy : ℕ) → Option ℕ
 param_top kind j = cond (j == 0) None (cond (kind == 0) (Some 8) (cond (kind == 1) (Some 255) (Some 39)))
 
@@ -170,7 +174,8 @@ access_by TuneSet id r0 r1 r2 q w =
     (Refuses (BadArgument id))
 access_by TakeLock id r0 r1 r2 q w = Gives r0
 
--- what the plain accessor of an id does for process q
+-- A plain accessor of process q gives a result; or gives the value from before, changes its object
+-- and says what undoes that; or is refused by the values.
 abbrev pub access : (id r0 r1 r2 q : ℕ) → Things → Access
 access id r0 r1 r2 q w = access_by (callable id) id r0 r1 r2 q w
 
@@ -193,7 +198,7 @@ undo_by (Window q fd v) bytes w = set_window q fd v w
 undo_by (Mark f v) bytes w = set_mark f v w
 undo_by (Tune kind k v) bytes w = set_param kind v w
 
--- puts back what a change found
+-- undoing a record puts back what its change found
 abbrev pub undo : Found → Things → Things
 undo f w = undo_by f.inverse f.bytes w
 
@@ -205,6 +210,6 @@ object_of_inverse (Window q fd v) = OpenFile q fd
 object_of_inverse (Mark f v) = Cache
 object_of_inverse (Tune kind k v) = Pol kind
 
--- the object of a change
+-- the object that a record's change is of
 abbrev pub changed_by : Found → Object
 changed_by f = object_of_inverse f.inverse

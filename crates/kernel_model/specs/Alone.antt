@@ -1,4 +1,6 @@
--- A call that is alone in flight runs to its end at its own event, piece after piece.
+-- A call that is alone in flight runs to its end at its own event, by any number of pieces. These
+-- laws hold for every table of calls; the crate `kernel_laws` has a function for each of the three
+-- statements.
 use Rattle.std.specs.Prelude.{◌≡◌, ℕ, zero, suc, ◌≤◌, ◌==◌, Bool, true, false, not, ◌&&◌, List, [], ◌∷◌, ◌++◌, Option, Some, None, is_some, length, ◌<◌, Contains, Ok, ⊤, refl}
 use Rattle.std.specs.Result.{is_ok}
 use Rattle.std.specs.List.{list_all}
@@ -32,7 +34,8 @@ module _ (m : Meaning) where
   abbrev pub next_piece : ℕ → Stage → Run → Piece
   next_piece p t r = m.piece r.kernel.world r.kernel.images r.kernel.objects r.blocks p t None r.io
 
-  -- at most so many pieces of a call of p, one after another, with the default answers
+  -- At most so many pieces of a call of p, one after another, with the default answers. Each adds
+  -- its notes.
   abbrev pub pieces_from : ℕ → (p number : ℕ) → Stage → Run → Run
   pieces_from zero p number t r = r
   pieces_from (suc n) p number t r =
@@ -46,7 +49,7 @@ module _ (m : Meaning) where
   abbrev pub is_free : ℕ → Stage → Run → Bool
   is_free p t r = is_unhindered r.kernel.objects.things.lock p (m.need r.kernel.world r.kernel.objects p t)
 
-  -- nor from these pieces
+  -- nor from any of at most so many pieces
   abbrev pub are_free : ℕ → (p number : ℕ) → Stage → Run → Bool
   are_free zero p number t r = true
   are_free (suc n) p number t r =
@@ -56,7 +59,8 @@ module _ (m : Meaning) where
         | Fails refusal ↦ true
       ]
 
-  -- At most so many pieces bring the call to its end: before each no graft stands, and no user lock of another process keeps p from it.
+  -- At most so many pieces bring the call to its end, and before each of them no graft stands and
+  -- no user lock of another process keeps p from it.
   abbrev pub GoesToItsEnd : ℕ → (p number : ℕ) → Stage → Run → Type 0
   GoesToItsEnd zero p number t r = ⊥
   GoesToItsEnd (suc n) p number t r =
@@ -115,7 +119,8 @@ module _ (m : Meaning) where
   none_last : (p : ℕ) (r : Run) (k : Kernel) → r.kernel ≡ k → k.call p ≡ None → last m p r ≡ r
   none_last p r k e h = ap (λ c. last_note m p c r) (ap (λ (l : Kernel). l.call p) e ∙ h)
 
-  -- The event of a call that goes to its end by at most n pieces, where no call is in flight: it is these pieces.
+  -- The event of a call that goes to its end by at most n pieces, where no call is in flight, is
+  -- these pieces. It asks no law of the table.
   pub event_of_pieces : (n p number : ℕ) (c : SysCall) (t : Stage) (v : World) (images : ImageTable) (s : Objects) (clock : ℕ) (blocks : Blocks) (io : List Bool) →
       lives s.things.queue p ≡ true → m.early v images p c ≡ Ok t → n ≤ 256 →
       GoesToItsEnd n p number t (at_rest v images s clock blocks [] io) →
@@ -129,7 +134,8 @@ module _ (m : Meaning) where
 
   -- ---- where the laws hold
 
-  -- where a call of p may go on alone: its stage is one at which it stands, the state and the disk are sound, and no graft stands
+  -- where a call of p may go on alone: it stands at its stage, the state and the disk are sound,
+  -- and no graft stands
   pub record MayGoOn (v : World) (images : ImageTable) (s : Objects) (blocks : Blocks) (p : ℕ) (t : Stage) : Type 0 where
     pub ready : IsReady m v images s p t None
     pub whole : HasWholeBlocks v blocks
@@ -257,7 +263,8 @@ is_whole_call number [] = false
 is_whole_call number (a ∷ []) = is_end number a
 is_whole_call number (a ∷ b ∷ notes) = is_gift number a && is_whole_call number (b ∷ notes)
 
--- such a call leaves no call in flight and nothing in the order, and what is written is of this call alone, up to its end
+-- Such a call leaves no call in flight and nothing in the order, and what is written is of this
+-- call alone, up to its end: no `waits` and no `graft` line.
 abbrev pub NothingIsLeft : Meaning → Type 0
 NothingIsLeft m =
     (n p number : ℕ) (c : SysCall) (t : Stage) (v : World) (images : ImageTable) (s : Objects) (clock : ℕ) (blocks : Blocks) (io : List Bool) →

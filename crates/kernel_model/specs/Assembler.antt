@@ -1,4 +1,5 @@
--- The assembler: from text to a raw image, and back.
+-- The assembler: the text of graft code, in both directions. Why a line is refused (`AsmKind`) is
+-- declared in the crate's code.
 use Rattle.std.specs.Prelude.{ℕ, suc, ◌+◌, ◌-◌, ◌==◌, Bool, true, false, cond, ◌&&◌, ◌||◌, nat_lt, nat_le, List, [], ◌∷◌, ◌++◌, length, take, slice_get, slice_index, position, flat_map, codes, decimal, Option, None, Some, Result, Ok, Err}
 use Rattle.std.specs.List.{list_all, list_any, slice_split}
 use Rattle.kernel_model.specs.declared.AsmKind.{AsmKind}

@@ -1,4 +1,5 @@
--- Where the calls in flight stand, what they hold, what their next steps need, and who blocks whom.
+-- What follows from the histories: the levels of each call, what they hold, what each call's next
+-- step needs, and who blocks it.
 use Rattle.std.specs.Prelude.{ℕ, Bool, true, false, cond, ◌&&◌, ◌==◌, List, [], Option, Some, None, map, option_map, slice_index_or}
 use Rattle.kernel_model.specs.declared.Need.{Need}
 use Rattle.kernel_model.specs.Objects.{same_object}
@@ -59,7 +60,7 @@ module _ (m : Meaning) where
   abbrev pub levels_of : Kernel → ℕ → List Level
   levels_of k p = levels_in (config_of k p)
 
-  -- how each level of each process's call holds each object
+  -- what each level of each process's call holds, as the replay of its history tells
   abbrev pub holds : Kernel → LockTable
   holds k = locks_from (map (levels_of k) processes)
 
@@ -74,7 +75,8 @@ module _ (m : Meaning) where
   needs_in k p (Some c) =
       elim c.marks [ None ↦ m.need k.world k.objects p c.stage | Some ks ↦ needs_at k (config_of k p) ]
 
-  -- what the next step of a process's call needs
+  -- A call's next step needs the objects of its piece or, where it has a level, those of its next
+  -- instruction.
   abbrev pub needs : Kernel → ℕ → List Need
   needs k p = needs_in k p (k.call p)
 
@@ -84,6 +86,7 @@ module _ (m : Meaning) where
       option_map (blocker_from k)
       (first_hindrance locks k.objects.things.lock p (lock_user p (levels_of k p)) (needs k p))
 
-  -- who blocks the next step of a process's call
+  -- A call's blocker is the first hindrance of its next step: the object, the process, and the
+  -- holder's call number, or none for a user lock.
   abbrev pub blocker : Kernel → ℕ → Option Blocker
   blocker k p = blocker_in k (holds k) p

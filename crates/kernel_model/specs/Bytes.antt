@@ -1,4 +1,5 @@
--- Bytes as numbers, as hex digits, and as names.
+-- Numbers, hexadecimal digits and names as bytes. Everything that is read or written stands on
+-- these.
 use Rattle.std.specs.Prelude.{ℕ, ◌+◌, ◌-◌, ◌*◌, ◌/◌, ◌%◌, ◌^◌, ◌==◌, Bool, cond, ◌&&◌, ◌||◌, nat_lt, nat_le, List, [], ◌∷◌, length, flat_map, fold, slice_index, Option, None, Some, codes}
 use Rattle.std.specs.List.{list_all}
 
@@ -44,7 +45,7 @@ hex_word most text = cond (nat_le 2 (length text) && nat_le (length text) most) 
 abbrev pub is_digit : ℕ → Bool
 is_digit byte = nat_le 48 byte && nat_lt byte 58
 
--- a to z
+-- a small letter: a to z
 abbrev pub is_letter : ℕ → Bool
 is_letter byte = nat_le 97 byte && nat_lt byte 123
 

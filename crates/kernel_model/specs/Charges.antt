@@ -1,4 +1,5 @@
--- Who pays for what a graft takes, and what becomes of its balances.
+-- Who pays for what a graft takes, and what becomes of its balances. All of it is about accounts
+-- and grafts alone.
 use Rattle.std.specs.Prelude.{ℕ, zero, suc, ◌+◌, ◌-◌, true, false, cond, Option, Some, None}
 use Rattle.kernel_model.specs.declared.Kind.{Kind}
 use Rattle.kernel_model.specs.declared.Kind.TheVariants.{Steps}
@@ -39,7 +40,8 @@ abbrev pub charge_by : Kind → (q pt : ℕ) → Option GraftValue → Accounts 
 charge_by k q pt None w = w
 charge_by k q pt (Some g) w = elim g.billed [ true ↦ charge_account k q w | false ↦ charge_graft k q pt g w ]
 
--- one of a kind is taken from the payer and added to what the installer has spent
+-- Charging one of a kind takes it from the payer, which is the graft itself or, where it is billed,
+-- its installer's account, and adds it to what the installer has spent.
 abbrev pub charge : Kind → (q pt : ℕ) → Accounts → Accounts
 charge k q pt w = charge_by k q pt (w.graft q pt) w
 
@@ -57,6 +59,6 @@ abbrev pub removed_by : (q pt : ℕ) → Option GraftValue → Accounts → Acco
 removed_by q pt None w = w
 removed_by q pt (Some g) w = record { graft = at2 q pt None w.graft; acct = at q (returned g (w.acct q)) w.acct }
 
--- the graft at (q, pt) is taken out, and its balances go back
+-- removing the graft at (q, pt) takes it out and gives its balances back to its installer
 abbrev pub removed : (q pt : ℕ) → Accounts → Accounts
 removed q pt w = removed_by q pt (w.graft q pt) w

@@ -1,4 +1,5 @@
--- What is claimed of these definitions themselves: statements of laws, each of which says what a definition means.
+-- Statements of what these definitions mean, in the subject's own words. Each stands here as a
+-- statement; docs/PROMISES.md says which are proved, and where.
 use Rattle.std.specs.Prelude.{◌≡◌, ◌≢◌, ℕ, suc, ◌+◌, ◌*◌, ◌<◌, ◌≤◌, true, false, List, [], Contains, Option, Some, None, is_some, Ok, ⊤, ◌⊎◌}
 use Rattle.kernel_model.specs.declared.Instr.{Instr}
 use Rattle.kernel_model.specs.declared.Object.{Object}
@@ -39,7 +40,8 @@ pub record StaysInside (code : List Instr) (slot : ℕ) (m : Machine) : Type 0 w
   pub inside : IsInsideAfter code slot (flat_step code m)
   pub alone : seg_step code (on_segment (segment_base slot) m) ≡ done_on_segment (segment_base slot) (flat_step code m)
 
--- the law of the sandbox
+-- An inside machine on boxed code stays inside, never reaches out of its segment or past its code,
+-- and over flat memory does what it does on its segment alone.
 abbrev pub Sandbox : Type 0
 Sandbox = (code : List Instr) (slot : ℕ) (m : Machine) → IsBoxed code → IsInside code slot m → StaysInside code slot m
 
@@ -52,7 +54,9 @@ pub record HasComeAsFar (code : List Instr) (raw boxed : CodeRun) : Type 0 where
   pub answers : boxed.answers ≡ raw.answers
   pub ended : boxed.ended ≡ raw.ended
 
--- the law of the rewriter: n raw instructions with k accesses among them are n + 2k boxed ones
+-- After n raw instructions with k accesses among them, the boxed code has after n + 2k instructions
+-- the same registers, r14 apart, the same segment, the matching place, and the same calls, answers
+-- and end.
 abbrev pub Rewriting : Type 0
 Rewriting =
     (code boxed : List Instr) (slot n : ℕ) (segment : ℕ → ℕ) (args : List ℕ) (answers : List (ℕ × ℕ)) →
@@ -107,7 +111,8 @@ FallsReplay m =
 abbrev pub IsStable : Meaning → (k l : Kernel) → ℕ → Type 0
 IsStable m k l p = (c : Config) → config_of m k p ≡ Some c → (d : Config) × (config_of m l p ≡ Some d) × ConfigsAlike c d
 
--- Whatever another call does or loses, the replay of a call in a graft has the same levels and the same values of what they hold.
+-- While a call is in a graft, no step and no drop of another call changes its replay: the same
+-- levels, and the same values of all that they hold.
 pub record Stability (m : Meaning) : Type 0 where
   pub steps : (r : Run) (p q : ℕ) (c : Call) → Laws m → IsSoundKernel m r.kernel → HasWholeBlocks r.kernel.world r.blocks → p ≢ q →
       r.kernel.call q ≡ Some c → blocker m r.kernel q ≡ None → IsStable m r.kernel (step m q r).kernel p
@@ -116,7 +121,8 @@ pub record Stability (m : Meaning) : Type 0 where
 
 -- ---- rest
 
--- From a sound kernel, 256 steps are enough to rest, and a tick's 288 actions leave no count at its patience.
+-- Settling from a sound kernel rests after at most 256 steps, and after a tick's 288 actions no
+-- count has reached its patience.
 pub record Rests (m : Meaning) : Type 0 where
   pub settling : (r : Run) → Laws m → IsSoundKernel m r.kernel → HasWholeBlocks r.kernel.world r.blocks → IsAtRest m (settled m r).kernel
   pub ticking : (r : Run) (number : ℕ) → Laws m → IsSoundKernel m r.kernel → HasWholeBlocks r.kernel.world r.blocks → IsAtRest m r.kernel →
@@ -130,7 +136,8 @@ pub record InPlaceReads (m : Meaning) : Type 0 where
       is_changed_in c.levels o ≡ true → SameAt o (in_place m k) c.now
   pub committed : (k : Kernel) (o : Object) → ((p : ℕ) → is_changed_in (levels_of m k p) o ≡ false) → SameAt o (in_place m k) k.objects
 
--- Undoing the calls that are cut, newest records first, one call after another in any order, gives the store below the cut.
+-- Undoing the cut calls' records, newest first within each call and call after call in any order,
+-- turns the store in place into the store below the cut.
 abbrev pub UndoneIsBelow : Meaning → Type 0
 UndoneIsBelow m =
     (k : Kernel) (cut : Cut) (ps : List ℕ) (o : Object) → Laws m → IsSoundKernel m k → ((p : ℕ) → count_of p ps ≤ 1) →

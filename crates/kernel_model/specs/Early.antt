@@ -1,4 +1,5 @@
--- Which system calls are refused at once: refusals that need no object, the least number first.
+-- Which system calls are refused at once, before they join the order: refusals that need no object,
+-- the least number first.
 use Rattle.std.specs.Prelude.{ℕ, ◌+◌, ◌==◌, Bool, cond, not, ◌||◌, nat_le, nat_lt, length, is_some, Option, Some, None, Result, Ok, Err}
 use Rattle.kernel_model.specs.declared.SysCall.{SysCall}
 use Rattle.kernel_model.specs.declared.SysCall.TheVariants.{Exit, OpenName, CloseFd, Read, Write, TakeLock, FreeLock, Poke, Peek, Tune, Choose, Give, Install, Remove, Fund, Bill}
@@ -11,7 +12,7 @@ use Rattle.kernel_model.specs.Meaning.{Stage, stage}
 abbrev pub TOP_POINT : ℕ
 TOP_POINT = 5
 
--- how many policies a kind has
+-- how many policies a kind has: 3, 2 and 2
 abbrev pub policy_count : ℕ → ℕ
 policy_count kind = cond (kind == 0) 3 2
 
@@ -19,7 +20,8 @@ policy_count kind = cond (kind == 0) 3 2
 abbrev pub refused : Bool → Refusal → Option Refusal → Option Refusal
 refused holds refusal next = cond holds (Some refusal) next
 
--- the refusal of least number of a call of process p that needs no object, where points go up to this one
+-- the refusal of least number of a call of process p that needs no object, where points go up to
+-- this one; docs/CALLS.md lists them, call by call
 abbrev pub call_refusal : (top : ℕ) → World → ImageTable → ℕ → SysCall → Option Refusal
 call_refusal top v images p Exit = refused (p == 0) Denied None
 call_refusal top v images p (OpenName name) = refused (not (is_some (file_named v name))) NoFile None

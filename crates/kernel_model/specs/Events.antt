@@ -1,4 +1,5 @@
--- One event of the abstract kernel.
+-- One event of the abstract kernel: a tick, some instructions, or a system call; and its notes in
+-- their order.
 use Rattle.std.specs.Prelude.{ℕ, zero, suc, Bool, true, false, not, ◌&&◌, ◌==◌, nat_le, List, [], ◌∷◌, Option, Some, None, map, length, Result, Ok, Err}
 use Rattle.std.specs.List.{list_any}
 use Rattle.kernel_model.specs.declared.Need.{Need}
@@ -116,7 +117,9 @@ module _ (m : Meaning) where
 
   -- ---- steps
 
-  -- at most n instructions of the call of p, as long as it has a level and isn't in the order; how many were taken up
+  -- Up to n instructions of the call of p are taken while it has a level and isn't in the order;
+  -- one that is blocked joins the order, and no more are taken. The number tells how many were
+  -- taken.
   abbrev pub steps : ℕ → ℕ → ℕ → Run → ℕ × Run
   steps p zero taken r = (taken, r)
   steps p (suc n) taken r =
@@ -154,7 +157,7 @@ module _ (m : Meaning) where
   abbrev pub times_out : ℕ → Blocker → Call → Run → Run
   times_out p b c r = requeue p (noted (Refused c.number (TimedOut b.object b.holder)) (with_call p None r))
 
-  -- a waiter for a user lock: its innermost level is dropped, or it ends
+  -- who waits too long for a user lock loses the innermost level or, without a level, is refused
   abbrev pub waiter_action : ℕ → Blocker → Option Call → Run → Run
   waiter_action p b None r = r
   waiter_action p b (Some c) r =
@@ -163,7 +166,8 @@ module _ (m : Meaning) where
         | Some ks ↦ drop_call p (Some c) (innermost (levels_of m r.kernel p)) (TimeOut b.object b.holder) r
       ]
 
-  -- a call that blocks loses the outermost level whose hold on the object conflicts
+  -- a call that blocks for too long loses the outermost of its levels whose hold conflicts, with
+  -- those inside
   abbrev pub holder_action : ℕ → Blocker → Run → Run
   holder_action p b r =
       drop_call b.holder (r.kernel.call b.holder)
@@ -186,7 +190,9 @@ module _ (m : Meaning) where
       elim (expired r.kernel r.kernel.order)
       [ None ↦ r | Some e ↦ actions n (settled m (entry_action e e.blocker r)) ]
 
-  -- the clock, and the actions of calls that waited too long: 288 are always enough
+  -- A tick raises the clock and all counts by one; then, while an entry has waited as long as its
+  -- blocker's kind of object allows, the first such entry decides one action, and the kernel
+  -- settles. 288 actions are always enough.
   abbrev pub tick_event : ℕ → Run → Run
   tick_event number r = actions 288 (ticked number r)
 
@@ -205,6 +211,7 @@ module _ (m : Meaning) where
       elim (lives r.kernel.objects.things.queue p)
       [ false ↦ noted (Refused number NoProcess) r | true ↦ sys_event number p call (r.kernel.call p) r ]
 
-  -- one event of this number over these blocks; io says of each of its calls of the disk whether it fails
+  -- An event changes the kernel and the disk's blocks and leaves notes in order; io says of each of
+  -- its calls of the disk whether it fails.
   abbrev pub event : Kernel → Blocks → ℕ → Event → List Bool → Run
   event k blocks number e io = event_on number e (record { kernel = k; blocks = blocks; notes = []; io = io })

@@ -1,4 +1,5 @@
--- How a block comes into the cache, and what is done with its frame then.
+-- How a block comes into a frame of the cache, and what is done with its frame then. A fetch makes
+-- at most two calls of the disk: it reads the block, and writes what the evicted frame held.
 use Rattle.std.specs.Prelude.{ℕ, ◌+◌, ◌==◌, Bool, true, false, cond, not, List, [], ◌∷◌, ◌++◌, Option, Some, None, map, filter, length, slice_index, take, drop}
 use Rattle.kernel_model.specs.World.{World, Blocks}
 use Rattle.kernel_model.specs.Objects.{CacheValue, PolValue, FrameValue, at}
@@ -72,7 +73,9 @@ abbrev pub fetch_by : Option ℕ → World → PolValue → (p b : ℕ) → Opti
 fetch_by (Some f) v pol p b answer c blocks io = Got (used f c) blocks f 0
 fetch_by None v pol p b answer c blocks io = read_block v pol p b answer c blocks io
 
--- block b for process p: the frame that holds it, else the lowest free one, else the one that the answer chooses
+-- A block is fetched for process p into the frame that holds it, which becomes the newest; else
+-- into the lowest free frame; else into the frame that the answer chooses, which first changes
+-- places with the candidate in the order of use and is written to the disk where it is dirty.
 abbrev pub fetch : World → PolValue → (p b : ℕ) → Option (List ℕ) → CacheValue → Blocks → List Bool → Fetched
 fetch v pol p b answer c blocks io = fetch_by (frame_of_block c b) v pol p b answer c blocks io
 

@@ -46,7 +46,7 @@ abbrev pub free_descriptor : Things → (p n fd : ℕ) → Option ℕ
 free_descriptor w p zero fd = None
 free_descriptor w p (suc n) fd = elim (w.file p fd) [ None ↦ Some fd | Some o ↦ free_descriptor w p n (suc fd) ]
 
--- a file that was just opened
+-- a file that was just opened: next 0, window 8, not sequential, nothing ahead
 abbrev pub new_file : ℕ → OpenRow
 new_file n = record { file = n; next = 0; window = 8; seq = false; start = 0; count = 0 }
 
@@ -142,8 +142,9 @@ write_piece (Err refusal) v s blocks p off new answer io = refuses s blocks refu
 write_piece (Ok b) v s blocks p off new answer io =
     write_fetched s blocks off new (fetch v (s.things.pol 1) p b answer s.things.cache blocks io)
 
--- Writes the dirty frames among the n from f on, in order, of which so many were written before; each is clean then.
--- Where a call of the disk fails, what was written before stays written.
+-- Writes the dirty frames among the n from f on, in order, of which so many were written before;
+-- each is clean then, and the call answers how many were written in all. Where a call of the disk
+-- fails, what was written before stays written.
 abbrev pub sync_from : (n f written : ℕ) → Objects → Blocks → List Bool → Piece
 sync_from zero f written s blocks io = record (leaves s blocks (EndsWith (One written))) { calls = written }
 sync_from (suc n) f written s blocks io =

@@ -1,4 +1,6 @@
--- A call in flight as a history of marks, which is replayed from the committed state.
+-- A call in a graft is kept as a history of marks, and run again from the committed state whenever
+-- it is asked for. A level that was dropped on the way stands in the history as one mark, with what
+-- its levels did that outlives them. So nothing that read an object since let go is ever run again.
 use Rattle.std.specs.Prelude.{ℕ, suc, Bool, true, false, cond, ◌&&◌, ◌==◌, not, nat_le, List, [], ◌∷◌, ◌++◌, Option, Some, None, is_some, length, take, reverse}
 use Rattle.kernel_model.specs.declared.Need.{Need}
 use Rattle.kernel_model.specs.declared.Point.{Point}
@@ -42,7 +44,8 @@ abbrev pub begin_with : ImageTable → Objects → ℕ → List Need → Option 
 begin_with images s p base None = None
 begin_with images s p base (Some a) = Some (begin_at images s p base a)
 
--- the config that a graft call begins with: level 0 holds the objects of the piece
+-- A graft call begins on the committed state with level 0 at the asked point, which holds the
+-- objects of the piece.
 abbrev pub begin : Meaning → World → ImageTable → Objects → ℕ → Stage → Option Config
 begin m v images s p t = begin_with images s p (m.need v s p t) (m.asks v s p t)
 
@@ -96,7 +99,9 @@ abbrev pub config_if : Bool → Config → Option Config
 config_if true c = Some c
 config_if false c = None
 
--- an effect of a graft of q, made again; there is none where its graft, level 0's hold on it, or the amount isn't there
+-- An effect of a graft of q is made again: an ask touches its graft for level 0, a charge is taken
+-- from the payer, a removed graft is taken out. A charge or a removal can't be made again where the
+-- graft doesn't stand, level 0 doesn't hold it, or nothing is left to charge.
 abbrev pub effect : ℕ → Effect → Config → Option Config
 effect q (Asked pt) c = Some (record c { levels = touch_outermost (Graft q pt) c.levels })
 effect q (Charged pt k) c =
@@ -155,7 +160,8 @@ abbrev pub marks_on : World → ImageTable → ℕ → List Mark → Trace → O
 marks_on v images p [] t = Some t
 marks_on v images p (k ∷ ks) t = elim (mark_on v images p k t) [ None ↦ None | Some u ↦ marks_on v images p ks u ]
 
--- where a history leads, from the present committed state and knowing no other call
+-- Replaying a history runs its marks, in order, from the committed state of this moment. It knows
+-- no other call.
 abbrev pub replay : Meaning → World → ImageTable → Objects → ℕ → Stage → List Mark → Option Trace
 replay m v images s p t ks =
     elim (begin m v images s p t) [ None ↦ None | Some c ↦ marks_on v images p ks (first_trace c) ]
@@ -172,7 +178,8 @@ abbrev pub marks_before : ℕ → List Past → ℕ
 marks_before d [] = 0
 marks_before d (a ∷ outer) = elim (length outer == d) [ true ↦ a.began | false ↦ marks_before d outer ]
 
--- The history after the drop of level d above 0: from its ask on, one mark stands for all that came about.
--- `last` is what the drop itself added.
+-- When level d above 0 is dropped, the marks from its ask on are replaced by one, which holds what
+-- its levels and those inside asked, were charged and lost, in order, the drop's own, `last`,
+-- behind them.
 abbrev pub fallen : Trace → List Mark → (last : List Effect) → (d : ℕ) → List Mark
 fallen t ks last d = take (marks_before d t.pasts) ks ++ Fell (reverse (effects_since d t.pasts) ++ last) ∷ []

@@ -14,7 +14,8 @@ use Rattle.kernel_model.specs.Boxed.{BoxFault, box_fault}
 abbrev pub padded_key : ℕ → List ℕ → List ℕ
 padded_key with_byte key = map (λ b. bit_xor b with_byte) (key ++ replicate (64 - length key) 0)
 
--- HMAC with SHA-256 under a key of at most 64 bytes
+-- HMAC of a text under a key of at most 64 bytes is SHA-256 of the key xored with 0x5c bytes
+-- followed by SHA-256 of the key xored with 0x36 bytes followed by the text.
 abbrev pub hmac : List ℕ → List ℕ → List ℕ
 hmac key text = sha256 (padded_key 0x5c key ++ sha256 (padded_key 0x36 key ++ text))
 
@@ -118,7 +119,8 @@ parts_of n bytes = image_with (drop (8 * n) bytes) (decoded n 0 (take (8 * n) by
 abbrev pub is_too_large : ℕ → ℕ → Bool
 is_too_large n d = nat_lt 1024 n || nat_lt 4096 d
 
--- the image that the bytes of a raw image write
+-- Reading the bytes of a raw image gives the image, or the first refusal: fewer than 12 bytes,
+-- magic, sizes, length, the first instruction that doesn't decode.
 abbrev pub read_raw : List ℕ → Result Image LoadFault
 read_raw bytes =
     let n = word_at bytes 4 in
@@ -223,7 +225,9 @@ load_by_head keys bytes None =
       | true ↦ load_by_key (key_of keys (number_of bytes)) bytes
     ]
 
--- the image that the bytes of a sealed image give under these keys, or the first refusal
+-- Loading bytes under keys gives an image, or the first refusal: length, magic, version, sizes,
+-- length again, flags, key, seal, the first instruction that doesn't decode, and then the first
+-- fault of boxed code.
 abbrev pub load : Keys → List ℕ → Result Image LoadFault
 load keys bytes = load_by_head keys bytes (head_fault bytes)
 

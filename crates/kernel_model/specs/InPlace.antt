@@ -1,4 +1,5 @@
--- The one store that holds what all calls in flight have done, and that store below a cut.
+-- What a kernel that keeps one store holds in it: the committed state, with what each call holds
+-- exclusively as that call sees it. Below a cut, a call's objects are as the cut level found them.
 use Rattle.std.specs.Prelude.{ℕ, Bool, List, [], ◌∷◌, Option, Some, None}
 use Rattle.std.specs.List.{list_any}
 use Rattle.kernel_model.specs.declared.Object.{Object}
@@ -49,15 +50,18 @@ module _ (m : Meaning) where
   store_with k cut [] = k.objects
   store_with k cut (p ∷ ps) = over (config_of m k p) (cut p) (store_with k cut ps)
 
-  -- the store in place below a cut: each call that is cut has its objects as the cut level found them
+  -- The store below a cut is the store in place, but a call that is cut has its things as the cut
+  -- level found them.
   abbrev pub store_below : Kernel → Cut → Objects
   store_below k cut = store_with k cut processes
 
-  -- the store in place: the committed state, with what each call in flight holds exclusively as that call sees it
+  -- The store in place is the committed state, with each object that a call holds exclusively as
+  -- that call's replay has it.
   abbrev pub in_place : Kernel → Objects
   in_place k = store_below k no_cut
 
-  -- the store in place once the calls of these processes are undone above a cut, the last process first
+  -- Undoing above a cut applies, for each of these calls, the last one first, its records from the
+  -- cut level on inward, newest first, to the store in place.
   abbrev pub undone : Kernel → Cut → List ℕ → Objects
   undone k cut [] = in_place k
   undone k cut (p ∷ ps) = undo_cut (cut p) (levels_of m k p) (undone k cut ps)

@@ -1,4 +1,6 @@
--- The abstract kernel's state: the committed objects, a history for each call in flight, and the order of waiting.
+-- The abstract kernel's whole state: what is committed, for each process its call in flight, and
+-- the order of waiting. It has no lock table, no registers and no undo log: those follow from the
+-- histories.
 use Rattle.std.specs.Prelude.{ℕ, Bool, true, false, cond, not, ◌==◌, List, [], ◌∷◌, ◌++◌, Option, Some, None, filter, drop}
 use Rattle.kernel_model.specs.declared.Object.{Object}
 use Rattle.kernel_model.specs.declared.Note.{Note}
@@ -93,7 +95,8 @@ call_after c (Continues t) = Some (record { number = c.number; stage = t; marks 
 call_after c (EndsWith reply) = None
 call_after c (Fails refusal) = None
 
--- a piece of the call of p is done: what it leaves is committed, and the call goes on or ends
+-- A piece of the call of p that is done is committed: its objects and blocks become the kernel's,
+-- its notes are written, and the call goes on at its next stage or ends.
 abbrev pub finish : ℕ → Call → Piece → Run → Run
 finish p c q r =
     record {
@@ -117,7 +120,8 @@ less_entry p es = filter (λ (e : Entry). not (e.process == p)) es
 abbrev pub joins : ℕ → Run → Run
 joins p r = record r { kernel = record (r.kernel) { order = r.kernel.order ++ new_entry p ∷ [] } }
 
--- after a step of p: in the order, at its end, exactly where its next step is a piece
+-- after a step of p, p stands in the order exactly where its next step is a piece, and then at the
+-- end
 abbrev pub requeue : ℕ → Run → Run
 requeue p r =
     record r {

@@ -95,7 +95,8 @@ values cells (e ∷ es) = value_before (value cells e) (values cells es)
 
 -- ---- what a program does
 
--- how a program ends
+-- how a program ends: with an answer, a trap, a division by zero, at a call for which no answer is
+-- left, or not within the turns
 pub data End : Type 0 where
   Answered : (r0 r1 : ℕ) → End
   Trapped : (code : ℕ) → End

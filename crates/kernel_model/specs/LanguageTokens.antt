@@ -12,7 +12,8 @@ use Rattle.kernel_model.specs.declared.language.Symbol.TheVariants.{If, Else, Wh
 use Rattle.kernel_model.specs.declared.language.Symbol.TheVariants.{OpenBrace, CloseBrace, OpenParenthesis}
 use Rattle.kernel_model.specs.declared.language.Symbol.TheVariants.{CloseParenthesis, Comma}
 
--- a token; a callable is named by its id
+-- a token: a number, a variable, a callable by its id, an operator, or a word that stands for
+-- itself
 pub data Token : Type 0 where
   Number : (n : ℕ) → Token
   Variable : (name : List ℕ) → Token
@@ -83,7 +84,7 @@ abbrev pub by_symbol : Option Symbol → List ℕ → Option Token
 by_symbol (Some s) word = Some (Mark s)
 by_symbol None word = by_operator (operator_of word) word
 
--- the token that a word is, if it is one
+-- the token that a word is: a symbol, else an operator, a callable, a number, a variable, or none
 abbrev pub token_of : List ℕ → Option Token
 token_of word = by_symbol (symbol_of word) word
 

@@ -1,4 +1,6 @@
--- What has to hold of the meaning of every kernel's calls.
+-- What has to hold of the meaning of every kernel's calls. The trait `Rules` of the crate's code
+-- asks for a proof of these with each table of calls; whatever is proved of the kernel for every
+-- table may use nothing else of the table.
 use Rattle.std.specs.Prelude.{◌≡◌, ℕ, suc, ◌+◌, ◌-◌, ◌<◌, ◌≤◌, ◌^◌, Bool, true, false, not, ◌&&◌, ◌==◌, List, [], ◌∷◌, ◌++◌, length, take, map, sum, nat_le, ◌≢◌, Contains, Option, Some, None, is_some, Ok, slice_index, ⊤}
 use Rattle.std.specs.List.{list_any, AllByRecursion}
 use Rattle.std.specs.Result.{is_ok}
@@ -168,9 +170,11 @@ module _ (m : Meaning) where
     -- where the piece asks a point, the list ends with that point's objects
     pub point : (v : World) (s : Objects) (p : ℕ) (t : Stage) (a : Point) → m.fits v s p t ≡ true → m.asks v s p t ≡ Some a →
         m.need v s p t ≡ before_point s a (m.need v s p t) ++ needs_of_point s a
-    -- grafts are needed exclusively, each object in one mode, and what tells whether an answer is valid is needed
+    -- grafts are needed exclusively
     pub grafts : NeedsGraftsExclusively
+    -- each object is needed in one mode
     pub modes : NeedsHaveOneMode
+    -- what tells whether an answer is valid is needed
     pub answers : NeedsAnswers
 
   -- The points that pieces ask.
@@ -187,7 +191,8 @@ module _ (m : Meaning) where
     -- on alike states the objects before the point are the same
     pub alike_before : (v : World) (s u : Objects) (p : ℕ) (t : Stage) (a b : Point) → m.fits v s p t ≡ true → AreAlike s u →
         m.asks v s p t ≡ Some a → m.asks v u p t ≡ Some b → before_point s a (m.need v s p t) ≡ before_point u b (m.need v u p t)
-    -- on alike states the same reading ahead is asked, but for the count
+    -- on alike states the same reading ahead is asked, but for the count; and the same serving, and
+    -- the same change of a stream
     pub alike_ahead : (v : World) (s u : Objects) (p : ℕ) (t : Stage) (a b : Point) → m.fits v s p t ≡ true → AreAlike s u →
         m.asks v s p t ≡ Some a → m.asks v u p t ≡ Some b → SameAheadAsk (kind_of a.point) a b
 
@@ -229,7 +234,7 @@ module _ (m : Meaning) where
     -- what fits the disk still fits
     pub disk : (v : World) (images : ImageTable) (s : Objects) (blocks : Blocks) (p : ℕ) (t : Stage) (answer : Option Answer) (io : List Bool) →
         IsReady m v images s p t answer → FitsDisk v (m.piece v images s blocks p t answer io).objects.things.cache
-    -- a refusal changes nothing
+    -- a refusal changes nothing (`RefusalsChangeNothing`)
     pub refused : RefusalsChangeNothing
     -- blocks stay whole
     pub whole_blocks : (v : World) (images : ImageTable) (s : Objects) (blocks : Blocks) (p : ℕ) (t : Stage) (answer : Option Answer) (io : List Bool) →
@@ -299,7 +304,8 @@ module _ (m : Meaning) where
     -- how many looks at the caller's open files alone, windows apart
     pub left_same : (v : World) (s u : Objects) (p : ℕ) (t : Stage) → SameFiles p s u → m.left v s p t ≡ m.left v u p t
 
--- All of them.
+-- The laws of a table of calls: of its needs, its asks, its footprints, its pieces, its calls of
+-- the disk and its stages.
 pub record Laws (m : Meaning) : Type 0 where
   pub need : NeedLaws m
   pub ask : AskLaws m

@@ -1,4 +1,5 @@
--- The levels of a graft call: how one begins, how its answer goes to its asker, and how one is dropped.
+-- A graft call is a working state and one to four levels, innermost first. This says how a level
+-- begins, how its answer goes to its asker, and how it is dropped.
 use Rattle.std.specs.Prelude.{ℕ, ◌+◌, ◌*◌, Bool, true, false, ◌==◌, List, [], ◌∷◌, Option, Some, None, length, slice_get}
 use Rattle.kernel_model.specs.declared.Object.{Object}
 use Rattle.kernel_model.specs.declared.Mode.{Mode}
@@ -98,8 +99,10 @@ limit_in (Some g) = g.limit
 abbrev pub base_of : (p d : ℕ) → ℕ
 base_of p d = segment_base (4 * p + d)
 
--- A level of process p at this depth that has just begun, on a state, with the objects that it holds. A segment that is kept
--- between calls would begin with its kept bytes here.
+-- A level begins with its arguments in r0 to r3, its segment's base in r15 and zeros elsewhere, its
+-- image's data at the start of its segment and zeros behind, at instruction 0, with no instruction
+-- taken and no record, and keeps the things as it found them. A segment that is kept between calls
+-- would begin with its kept bytes here.
 abbrev pub new_level : ImageTable → Objects → (p d q pt : ℕ) → List ℕ → Touched → Level
 new_level images w p d q pt args touched =
     record {
@@ -164,7 +167,8 @@ answer_innermost pt r0 r1 (l ∷ ls) = with_machine (answered (kind_of pt) r0 r1
 
 -- ---- a drop
 
--- The state after the drop of a level: all is as the level found it, but for accounts and grafts, of which its own is taken out.
+-- After the drop of a level all things are as the level found them; accounts and grafts are as they
+-- were, but the level's graft is taken out and its balances go back.
 abbrev pub state_without : Level → Objects → Objects
 state_without l w = record { accounts = removed l.owner l.point w.accounts; things = l.kept }
 
@@ -172,7 +176,9 @@ state_without l w = record { accounts = removed l.owner l.point w.accounts; thin
 abbrev pub asker_of : World → Level → Things → List Level → List Level
 asker_of v l w ls = let d = default_of v w l.owner l.point in answer_innermost l.point d.0 d.1 ls
 
--- the drop of level l, those further inward being gone; ls are the levels outside it
+-- Dropping level l, those further inward being gone, leaves the state without it; its asker, the
+-- first of the levels ls outside it, gets the default answer on that state and goes on; the drop
+-- says level, graft and cause.
 abbrev pub drop_innermost : World → Objects → Level → List Level → Cause → Outcome
 drop_innermost v w l ls cause =
     record {
@@ -181,7 +187,7 @@ drop_innermost v w l ls cause =
       effects = Removed l.point ∷ [];
     }
 
--- the drop of level d, counted from the outermost: those further inward end with it
+-- dropping level d, counted from the outermost, ends it and all levels further inward
 abbrev pub drop_level : World → Objects → List Level → ℕ → Cause → Outcome
 drop_level v w [] d cause = goes_on w []
 drop_level v w (l ∷ ls) d cause =

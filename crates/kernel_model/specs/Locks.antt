@@ -1,4 +1,6 @@
--- How levels of calls hold objects, and the table of what each level of each call holds.
+-- How a level holds objects, and the table of what each level of each call holds. A hold is free,
+-- shared or exclusive; touching, merging and letting go change the table at one place. A step is
+-- hindered by another call's hold, or by a user lock.
 use Rattle.std.specs.Prelude.{ℕ, ◌-◌, ◌==◌, Bool, true, false, cond, not, ◌&&◌, nat_le, List, [], ◌∷◌, Option, Some, None, find, is_some}
 use Rattle.kernel_model.specs.declared.Object.{Object}
 use Rattle.kernel_model.specs.declared.Object.TheVariants.{Lock}
@@ -36,7 +38,7 @@ abbrev pub is_held_exclusively : Held → Bool
 is_held_exclusively Held.Exclusive = true
 is_held_exclusively h = false
 
--- an object that is held so can't be had in this mode: two modes conflict unless both are shared
+-- a hold conflicts with a mode unless both are shared; what is free conflicts with none
 abbrev pub conflicts : Held → Mode → Bool
 conflicts Held.Free mode = false
 conflicts Held.Shared Mode.Shared = false
@@ -47,7 +49,8 @@ conflicts Held.Exclusive mode = true
 abbrev pub untouched : Touched
 untouched o = Held.Free
 
--- one object is touched in a mode; where it was held, the stronger way stays
+-- touching an object in a mode holds it in the stronger of that way and the way in which it was
+-- held
 abbrev pub touch : Object → Mode → Touched → Touched
 touch o mode t a = cond (same_object a o) (stronger (t a) (held_as mode)) (t a)
 
@@ -82,7 +85,7 @@ merge_level p d t = at2 p d untouched (at2 p (d - 1) (joined (t p d) (t p (d - 1
 abbrev pub release_from : (p d : ℕ) → LockTable → LockTable
 release_from p d t q e = cond (q == p && nat_le d e) untouched (t q e)
 
--- the outermost level whose hold on an object conflicts with a mode
+-- the outermost level whose hold on the object conflicts with the mode
 abbrev pub outermost_holding : Object → Mode → (ℕ → Touched) → Option ℕ
 outermost_holding o mode levels = find (λ d. conflicts (levels d o) mode) (0 ∷ 1 ∷ 2 ∷ 3 ∷ [])
 
@@ -90,7 +93,7 @@ outermost_holding o mode levels = find (λ d. conflicts (levels d o) mode) (0 �
 abbrev pub hinders : Object → Mode → (ℕ → Touched) → Bool
 hinders o mode levels = is_some (outermost_holding o mode levels)
 
--- the lowest other process whose call's hold on an object conflicts with a mode
+-- the lowest process, other than p, one of whose levels holds the object in conflict with the mode
 abbrev pub lowest_holder : LockTable → ℕ → Object → Mode → Option ℕ
 lowest_holder t p o mode = find (λ q. not (q == p) && hinders o mode (t q)) processes
 
@@ -117,7 +120,8 @@ abbrev pub hindrance_by : (ℕ → Option ℕ) → ℕ → Need → Option ℕ �
 hindrance_by users q n (Some h) = Some (record { object = n.object; holder = h; by_user = false })
 hindrance_by users q n None = cond n.by_user (user_hindrance q n.object (user_of users n.object)) None
 
--- the first hindrance of a step of process p over its needs in order; q's user locks don't hinder it
+-- A step of p is hindered by the first of its needs, in order, that another call holds in conflict
+-- or that is another's user lock; q's user locks don't hinder it.
 abbrev pub first_hindrance : LockTable → (users : ℕ → Option ℕ) → (p q : ℕ) → List Need → Option Hindrance
 first_hindrance t users p q [] = None
 first_hindrance t users p q (n ∷ ns) =

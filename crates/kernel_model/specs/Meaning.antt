@@ -1,4 +1,5 @@
--- What the system calls of a kernel mean: their pieces, as functions over the state.
+-- What a table of system calls is to the kernel: six functions. The kernel is defined over any such
+-- table, so later calls are a new table and not a new kernel.
 use Rattle.std.specs.Prelude.{ℕ, Bool, false, List, [], Option, option_map, Result, slice_index_or}
 use Rattle.kernel_model.specs.declared.Need.{Need}
 use Rattle.kernel_model.specs.declared.Point.{Point}
@@ -8,7 +9,8 @@ use Rattle.kernel_model.specs.declared.Reply.{Reply}
 use Rattle.kernel_model.specs.Objects.{Objects}
 use Rattle.kernel_model.specs.World.{World, ImageTable, Blocks}
 
--- where a call stands, and what it carries from piece to piece
+-- where a call stands, and what it carries from piece to piece; the calls that are built carry
+-- nothing
 pub record Stage : Type 0 where
   pub call : SysCall
   -- the number of its next piece, from 0
@@ -56,7 +58,9 @@ pub record Piece : Type 0 where
 abbrev pub disk_fails : List Bool → ℕ → Bool
 disk_fails io n = slice_index_or io n false
 
--- The functions that give a table of calls its meaning.
+-- A table of calls says how a call begins or is refused at once, what its next piece needs, which
+-- point that asks, what it does in one step, at which stages a call may stand, and how many pieces
+-- it may still take.
 pub record Meaning : Type 0 where
   -- the stage at which a call of a process begins, or its refusal of least number that needs no object
   pub early : World → ImageTable → ℕ → SysCall → Result Stage Refusal

@@ -1,4 +1,6 @@
--- What each piece of each system call needs, in order, and the point that it asks.
+-- For each piece of each call the objects that it needs, in order, and the point that it asks.
+-- Which object comes next depends on the earlier ones alone; a list ends with the object that shows
+-- a refusal.
 use Rattle.std.specs.Prelude.{ℕ, zero, suc, ◌+◌, ◌*◌, ◌==◌, Bool, true, false, cond, ◌&&◌, nat_le, nat_lt, List, [], ◌∷◌, ◌++◌, Option, Some, None, map, length, Result, Ok, Err}
 use Rattle.std.specs.List.{range_with_len}
 use Rattle.kernel_model.specs.declared.Need.{Need}
@@ -34,7 +36,8 @@ abbrev pub payer_needs : ℕ → Option GraftValue → List Need
 payer_needs q None = []
 payer_needs q (Some g) = exclusive (Acct q) ∷ []
 
--- the objects of a point: its graft, and where one stands its installer's account, which may pay
+-- the objects of a point: its graft, exclusively, and where one stands its installer's account,
+-- which may pay, exclusively
 abbrev pub point_needs : Accounts → (q pt : ℕ) → List Need
 point_needs a q pt = exclusive (Graft q pt) ∷ payer_needs q (a.graft q pt)
 

@@ -1,4 +1,7 @@
--- The objects of the kernel's state, and what it is to change one.
+-- The objects of the kernel's state, and what it is to change one. A state is one value for each
+-- object. It has two parts by type: *accounts* (accounts and grafts), which a drop leaves as they
+-- are, and *things* (all else), which a drop puts back. Values that come by number are functions of
+-- the number, so that a change is a change at one place.
 use Rattle.std.specs.Prelude.{◌≡◌, ℕ, Bool, true, false, cond, ◌&&◌, ◌==◌, List, Option, ⊤}
 use Rattle.kernel_model.specs.declared.Object.{Object}
 use Rattle.kernel_model.specs.declared.Object.TheVariants.{Graft, Acct, Cell, OpenFile, Queue, Cache, Lock, Pol}
@@ -78,11 +81,11 @@ with_things w s = record s { things = w }
 
 -- ---- one changed place
 
--- a function changed at one number
+-- `at i v f` is the function f changed at i, where it is v now.
 abbrev pub at : {A : Type 0} → ℕ → A → (ℕ → A) → ℕ → A
 at i v f j = cond (j == i) v (f j)
 
--- a function changed at one pair of numbers
+-- `at2 i k v f` is f changed at the pair i, k, where it is v now.
 abbrev pub at2 : {A : Type 0} → ℕ → ℕ → A → (ℕ → ℕ → A) → ℕ → ℕ → A
 at2 i k v f j l = cond (j == i && l == k) v (f j l)
 
@@ -155,6 +158,6 @@ mix_things test w s =
       handlers = cond (test Queue) w.handlers s.handlers;
     }
 
--- the objects of w where the test holds, and else those of s
+-- `mix test w s` has the objects of w where the test holds, and those of s elsewhere.
 abbrev pub mix : (Object → Bool) → Objects → Objects → Objects
 mix test w s = record { accounts = mix_accounts test w.accounts s.accounts; things = mix_things test w.things s.things }

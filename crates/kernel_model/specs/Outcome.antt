@@ -19,7 +19,8 @@ ends_line text byte = byte == 10 || length text == LINE_BYTES
 abbrev pub ended_line : List ℕ → ℕ → List ℕ
 ended_line text byte = cond (byte == 10) text (text ++ byte ∷ [])
 
--- the lines that end among these bytes, where `text` came before them
+-- The lines that end among these bytes, where `text` came before them. A line ends with its
+-- newline, or with the byte that makes it too long.
 abbrev pub lines_after : List ℕ → List ℕ → List (List ℕ)
 lines_after text [] = []
 lines_after text (byte ∷ bytes) =
@@ -92,8 +93,10 @@ at_ending Over s pieces rest = ends_as 7 s pieces
 abbrev pub outcome_of : Ending → Session → List (List ℕ) → List ℕ → Outcome
 outcome_of e s pieces rest = elim s.refused [ true ↦ ends_as 2 s pieces | false ↦ at_ending e s pieces rest ]
 
--- The outcome of a run that took these bytes and ended so, over a disk of which `ios` says, line for line, which of its
--- calls fail.
+-- A run that took these bytes and ended so has a status, pieces and the disk's blocks: 2 where a
+-- line is refused, else 3 after a failed read, 7 past the most bytes, 2 for an unfinished line, and
+-- 0 with the lines of calls left in flight. `ios` says, line for line, which calls of the disk
+-- fail.
 abbrev pub outcome : Build → Keys → (taken : List ℕ) → Ending → Disk → List (List Bool) → Outcome
 outcome b keys taken e d ios =
     let script = take SCRIPT_BYTES taken in

@@ -1,4 +1,5 @@
--- What each piece of each system call does, in one step; the meaning of the whole table of calls.
+-- What each piece of each system call does, in one step (those of the calls on files stand in
+-- `FilePieces`); and the meaning of the whole table of calls.
 use Rattle.std.specs.Prelude.{ℕ, zero, suc, ◌+◌, ◌-◌, ◌==◌, Bool, true, false, cond, not, ◌&&◌, nat_le, nat_lt, List, [], ◌∷◌, ◌++◌, Option, Some, None, map, filter, length}
 use Rattle.kernel_model.specs.declared.Kind.{Kind}
 use Rattle.kernel_model.specs.declared.SysCall.{SysCall}
@@ -87,7 +88,7 @@ to_back p rows = filter (λ (r : QueueRow). not (r.process == p)) rows ++ filter
 abbrev pub add_slice : ℕ → List QueueRow → List QueueRow
 add_slice p rows = map (λ (r : QueueRow). cond (r.process == p) (record r { slices = one_more_slice r.slices }) r) rows
 
--- p goes to the back; then the process of the answer gets a slice
+-- p goes to the back; then the process of the answer gets a slice, and is what the call answers
 abbrev pub yield_piece : ℕ → Objects → ℕ → Option (List ℕ) → Blocks → Piece
 yield_piece zero s p answer blocks = leaves (with_queue (to_back p s.things.queue) s) blocks (Continues (stage Yield 1))
 yield_piece (suc n) s p answer blocks =
@@ -256,6 +257,6 @@ plain_upto top =
       left = λ v s p t. pieces_left t.call t.piece s.things p;
     }
 
--- the meaning of the calls that are built
+-- the meaning of the calls that are built: points up to `TOP_POINT`
 abbrev pub plain : Meaning
 plain = plain_upto TOP_POINT

@@ -1,4 +1,5 @@
--- The stock policies, the default functions of the points, and which answers are valid.
+-- The stock policies, the candidate and the default answer of each point, the arguments that a
+-- point is asked with, and which answers are valid.
 use Rattle.std.specs.Prelude.{ℕ, ◌+◌, ◌-◌, min, max, Bool, false, cond, ◌&&◌, ◌==◌, nat_lt, nat_le, List, [], ◌∷◌, Option, Some, None, filter, length, slice_index}
 use Rattle.std.specs.List.{list_any}
 use Rattle.kernel_model.specs.declared.QueueRow.{QueueRow}
@@ -40,7 +41,8 @@ abbrev pub process_in : Option QueueRow → Option ℕ
 process_in None = None
 process_in (Some r) = Some r.process
 
--- the candidate for the processor: the front of the queue, or the first with the least nice
+-- The candidate for the processor is the front of the queue by policy 0, and by policy 1 the first
+-- process with the least of its nice and the floor, whichever is more.
 abbrev pub next_process : PolValue → List QueueRow → Option ℕ
 next_process pol queue = process_in (least (turn_key pol) queue)
 
@@ -66,19 +68,22 @@ frames_of c q = filter (λ f. is_owned c q f) c.lru
 abbrev pub victim_key : PolValue → CacheValue → ℕ → ℕ
 victim_key pol c f = cond (pol.chosen == 0) 0 (max (mark_of c f) (pol.param 1))
 
--- the candidate for eviction among these frames: the oldest, or the oldest with the least mark
+-- The candidate for eviction is the oldest of these frames, or, by the other policy, the oldest
+-- with the least of its mark and the floor, whichever is more.
 abbrev pub victim_among : PolValue → CacheValue → List ℕ → Option ℕ
 victim_among pol c fs = least (victim_key pol c) fs
 
 -- ---- reading ahead
 
--- how many blocks the policy reads ahead: none, those of a sequential read, or those of any read
+-- Policy 0 of reading ahead says 0; policy 1, where the read was sequential, the least of its
+-- parameter, the window and what is left; policy 2 that for any read.
 abbrev pub ahead_count : PolValue → Bool → ℕ → ℕ → ℕ
 ahead_count pol seq window left =
     cond (pol.chosen == 0) 0
     (cond (pol.chosen == 1) (cond seq (min (pol.param 1) (min window left)) 0) (min (pol.param 2) (min window left)))
 
--- where reading ahead starts in a file of so many blocks, and by how many
+-- where reading ahead starts in a file of so many blocks, at `next` or at the file's end where that
+-- comes first, and by how many
 abbrev pub ahead_in : PolValue → OpenRow → ℕ → ℕ × ℕ
 ahead_in pol o blocks = let start = min o.next blocks in (start, ahead_count pol o.seq o.window (blocks - start))
 
@@ -102,7 +107,8 @@ pub data PointKind : Type 0 where
   Serve : PointKind
   Stream : PointKind
 
--- points 0 to 3 read ahead, 4 evicts, 5 chooses a process, 6 to 13 serve events, and those above change streams
+-- Points 0 to 3 read ahead, 4 evicts, 5 chooses a process, 6 to 13 serve events, and those above
+-- change streams. No call of those that are built asks a point above 5.
 abbrev pub kind_of : ℕ → PointKind
 kind_of pt =
     cond (nat_lt pt 4) Ahead (cond (pt == 4) Victim (cond (pt == 5) Next (cond (nat_lt pt 14) Serve Stream)))
@@ -115,7 +121,8 @@ default_by Next v w q pt = (q, 0)
 default_by Serve v w q pt = (0, 0)
 default_by Stream v w q pt = (0, 0)
 
--- the default answer of a point of q that a graft of q asks: to its own scheduling point it is q itself
+-- The default answer of a point: for reading ahead the start and the policy's count, for eviction
+-- the candidate among the installer's frames, for scheduling the installer itself.
 abbrev pub default_of : World → Things → ℕ → ℕ → ℕ × ℕ
 default_of v w q pt = default_by (kind_of pt) v w q pt
 
@@ -137,6 +144,9 @@ valid_by Next w q args r0 r1 = lives w.queue r0
 valid_by Serve w q args r0 r1 = nat_le r0 512
 valid_by Stream w q args r0 r1 = r0 == slice_index args 0
 
--- the answer r0, r1 is one that the point of q accepts, which was asked with these arguments
+-- An answer r0, r1 to a point of q that was asked with these arguments is valid where, for reading
+-- ahead, it is at most 8 blocks that end within the file; for eviction, a frame in use of q; for
+-- scheduling, a living process; for an event, at most 512 bytes; for a stream, as many bytes as
+-- were handed in.
 abbrev pub valid : Things → ℕ → ℕ → List ℕ → ℕ → ℕ → Bool
 valid w q pt args r0 r1 = valid_by (kind_of pt) w q args r0 r1

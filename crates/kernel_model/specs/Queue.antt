@@ -9,7 +9,7 @@ pub record IsLeastFree (rows : List QueueRow) (c : ℕ) : Type 0 where
   pub free : lives rows c ≡ false
   pub least : (q : ℕ) → q < c → lives rows q ≡ true
 
--- a process that has just joined
+-- a process that has just joined: nice 20, slices 0
 abbrev pub new_row : ℕ → QueueRow
 new_row p = record { process = p; nice = 20; slices = 0 }
 
@@ -17,7 +17,7 @@ new_row p = record { process = p; nice = 20; slices = 0 }
 abbrev pub queue_without : ℕ → List QueueRow → List QueueRow
 queue_without p rows = filter (λ (r : QueueRow). not (r.process == p)) rows
 
--- one slice more, up to the end of the count
+-- one slice more, up to the end of the count, 2^32 - 1
 abbrev pub one_more_slice : ℕ → ℕ
 one_more_slice n = min (n + 1) (2 ^ 32 - 1)
 

@@ -1,4 +1,8 @@
--- A kernel in which no call is in flight, and a call that is alone in it: nothing blocks its pieces.
+-- A kernel in which no call is in flight, and a call that is alone in it. The law, for every table
+-- of calls: where no call is in flight, no graft stands and no user lock counts for what its pieces
+-- need, a call runs at its own event, piece after piece, and afterwards no call is in flight again.
+-- It is proved here for calls that end with their first or their second piece, and in `Alone` for
+-- calls of any number of pieces.
 use Rattle.std.specs.Prelude.{◌≡◌, ℕ, zero, suc, ◌==◌, Bool, true, false, cond, not, ◌&&◌, List, [], ◌∷◌, ◌++◌, Option, Some, None, map, drop, find, slice_index_or, option_map, refl, Result, Ok, Err}
 use Rattle.std.specs.List.{list_all}
 use Rattle.std.proofs.Common.{sym, ap, ◌∙◌}
@@ -42,7 +46,7 @@ begins_alone p number t r =
       kernel = record (r.kernel) { call = at p (Some (call_at number t)) (λ q. None); order = new_entry p ∷ [] };
     }
 
--- what a piece leaves, and the notes that it adds
+-- what a piece leaves: its objects, blocks and notes, and the calls of the disk behind its own
 abbrev pub left_by : (number : ℕ) → Piece → Run → Run
 left_by number q r =
     record {
@@ -58,7 +62,7 @@ goes_alone p number (Continues t) r = begins_alone p number t r
 goes_alone p number (EndsWith reply) r = r
 goes_alone p number (Fails refusal) r = r
 
--- no user lock counts for these needs
+-- No user lock counts for these needs. It counts for the lock of a `lock` call, held or free.
 abbrev pub needs_no_user : List Need → Bool
 needs_no_user ns = list_all (λ (n : Need). not n.by_user) ns
 
@@ -67,7 +71,7 @@ abbrev pub is_others : ℕ → Option ℕ → Bool
 is_others p None = false
 is_others p (Some q) = not (q == p)
 
--- no user lock of another process keeps p from these needs
+-- No user lock of another process keeps p from these needs. A free lock and its own lock don't.
 abbrev pub is_unhindered : (users : ℕ → Option ℕ) → (p : ℕ) → List Need → Bool
 is_unhindered users p ns = list_all (λ (n : Need). not (n.by_user && is_others p (user_of users n.object))) ns
 
@@ -299,7 +303,7 @@ granted_alone m p number c t v images s clock blocks io alive granted =
     ap (λ (b : Bool). elim b as (λ _. Run) [ false ↦ noted (Refused number NoProcess) r | true ↦ sys_event m number p c None r ]) alive
     ∙ ap (λ (x : Result Stage Refusal). last m p (begun m number p x r)) granted
 
--- The event of a process that doesn't live is a refusal.
+-- The event of a process that doesn't live is a refusal, and nothing changes.
 pub event_of_none : (m : Meaning) (p number : ℕ) (c : SysCall) (v : World) (images : ImageTable) (s : Objects) (clock : ℕ) (blocks : Blocks) (io : List Bool) →
     lives s.things.queue p ≡ false →
     event m (quiet v images s clock) blocks number (Sys p c) io ≡ at_rest v images s clock blocks (Refused number NoProcess ∷ []) io
@@ -307,7 +311,7 @@ event_of_none m p number c v images s clock blocks io absent =
     let r = at_rest v images s clock blocks [] io in
     ap (λ (b : Bool). elim b as (λ _. Run) [ false ↦ noted (Refused number NoProcess) r | true ↦ sys_event m number p c None r ]) absent
 
--- The event of a call that is refused at once.
+-- The event of a call that is refused at once is that refusal, and nothing changes.
 pub event_refused : (m : Meaning) (p number : ℕ) (c : SysCall) (refusal : Refusal) (v : World) (images : ImageTable) (s : Objects) (clock : ℕ) (blocks : Blocks) (io : List Bool) →
     lives s.things.queue p ≡ true → m.early v images p c ≡ Err refusal →
     event m (quiet v images s clock) blocks number (Sys p c) io ≡ at_rest v images s clock blocks (Refused number refusal ∷ []) io
@@ -316,7 +320,8 @@ event_refused m p number c refusal v images s clock blocks io alive refused =
     ap (λ (b : Bool). elim b as (λ _. Run) [ false ↦ noted (Refused number NoProcess) r | true ↦ sys_event m number p c None r ]) alive
     ∙ ap (λ (x : Result Stage Refusal). last m p (begun m number p x r)) refused
 
--- The event of a call of one piece.
+-- Where no call is in flight and no graft stands, the event of a call that is granted, for whose
+-- needs no user lock counts, and that ends with its first piece, is that piece by default.
 pub event_of_one : (m : Meaning) (p number : ℕ) (c : SysCall) (t : Stage) (v : World) (images : ImageTable) (s : Objects) (clock : ℕ) (blocks : Blocks) (io : List Bool) →
     lives s.things.queue p ≡ true → m.early v images p c ≡ Ok t → HasNoGraft s → needs_no_user (m.need v s p t) ≡ true →
     let q = m.piece v images s blocks p t None io in
@@ -329,7 +334,8 @@ event_of_one m p number c t v images s clock blocks io alive granted none users 
     ∙ ap (last m p) (settle_alone m 255 p number t v images s clock blocks [] io none (free_of_users s.things.lock p (m.need v s p t) users))
     ∙ ap (λ (x : Run). last m p (settle m 255 x)) (ended_alone p number q.after l ended)
 
--- The event of a call of two pieces.
+-- The same for a call that ends with its second piece: the one piece and then the other, where the
+-- premises hold before each.
 pub event_of_two : (m : Meaning) (p number : ℕ) (c : SysCall) (t u : Stage) (v : World) (images : ImageTable) (s : Objects) (clock : ℕ) (blocks : Blocks) (io : List Bool) →
     lives s.things.queue p ≡ true → m.early v images p c ≡ Ok t → HasNoGraft s → needs_no_user (m.need v s p t) ≡ true →
     let q = m.piece v images s blocks p t None io in

@@ -1,4 +1,4 @@
--- The rows that show a kernel's whole state, changes in flight included.
+-- The rows that `raw` writes: they show a kernel's whole state, changes in flight included.
 use Rattle.std.specs.Prelude.{ℕ, suc, ◌==◌, List, [], ◌∷◌, ◌++◌, Option, None, Some, map, filter, filter_map, flat_map, length, reverse, find, option_map}
 use Rattle.std.specs.List.{range_with_len}
 use Rattle.kernel_model.specs.declared.RawRow.{RawRow}

@@ -1,4 +1,4 @@
--- The laws of comparing objects.
+-- Three laws of comparing objects, for proofs that don't want to look into the comparison.
 use Rattle.std.specs.Prelude.{◌≡◌, true, false}
 use Rattle.std.proofs.Common.{arith, refl}
 use Rattle.std.proofs.lemmas.Bool.Decides.{nat_tests}

@@ -1,4 +1,5 @@
--- What a line of a script says, or why it is refused.
+-- What a line of a script says, or why it is refused. Commands and the forms of their words
+-- (`Command`, `CallName`, `Form`) are declared in the crate's code.
 use Rattle.std.specs.Prelude.{ℕ, Bool, true, false, cond, not, ◌&&◌, ◌||◌, ◌==◌, nat_lt, nat_le, List, [], ◌∷◌, ◌++◌, length, slice_index, Option, None, Some, Result, Ok, Err, codes, find, position}
 use Rattle.std.specs.List.{list_all}
 use Rattle.kernel_model.specs.declared.Kind.{Kind}
@@ -281,7 +282,7 @@ abbrev pub loads_by : ℕ → Option (List ℕ) → Result Entry ScriptFault
 loads_by slot None = Err BadNumber
 loads_by slot (Some bytes) = Ok (Loads slot bytes)
 
--- an entry whose number is within bounds
+-- an entry whose number is within bounds, or a bad number
 abbrev pub within : (low high n : ℕ) → Entry → Result Entry ScriptFault
 within low high n entry = cond (nat_le low n && nat_le n high) (Ok entry) (Err BadNumber)
 

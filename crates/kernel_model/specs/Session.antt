@@ -146,7 +146,7 @@ after_event s n r =
       io = r.io;
     }
 
--- b came after a
+-- one `Written` after another: the later session, and both their bytes and notes
 abbrev pub and_then : Written → Written → Written
 and_then a b = record { session = b.session; bytes = a.bytes ++ b.bytes; notes = a.notes ++ b.notes; io = b.io }
 

@@ -1,4 +1,5 @@
--- One step of a call, and steps until each call in the order is blocked.
+-- One step of a call, and steps of the first call in the order that nothing blocks, until every
+-- call in the order is blocked.
 use Rattle.std.specs.Prelude.{ℕ, zero, suc, true, false, List, [], ◌∷◌, ◌++◌, Option, Some, None, map}
 use Rattle.kernel_model.specs.declared.Point.{Point}
 use Rattle.kernel_model.specs.declared.Micro.{Micro}
@@ -16,7 +17,8 @@ use Rattle.kernel_model.specs.Blocking.{blocker_in, holds, same_blocker, trace_o
 abbrev pub lost_objects : Objects → Objects → Objects
 lost_objects w s = record { accounts = w.accounts; things = s.things }
 
--- an entry with its blocker; it stays as it is where the blocker is the kept one, and else counts from 0
+-- An entry whose blocker is the kept one keeps its count; another keeps the new blocker with count
+-- 0.
 abbrev pub entry_with : Entry → Option Blocker → Entry
 entry_with e b = elim (same_blocker e.blocker b) [ true ↦ e | false ↦ record { process = e.process; blocker = b; count = 0 } ]
 
@@ -68,7 +70,11 @@ module _ (m : Meaning) where
   call_step p None r = r
   call_step p (Some c) r = marked_step p c c.marks r
 
-  -- one step of the call of p, which then stands in the order exactly where its next step is a piece
+  -- One step of the call of p is a piece, the beginning of a graft call, or an instruction. Where
+  -- the instruction ends level 0 with an answer, its changes are committed and the piece is
+  -- finished with the answer in this same step; where level 0 is dropped, only accounts and grafts
+  -- stay and the default finishes the piece. The call then stands in the order exactly where its
+  -- next step is a piece.
   abbrev pub step : ℕ → Run → Run
   step p r = requeue p (call_step p (r.kernel.call p) r)
 
@@ -98,7 +104,9 @@ module _ (m : Meaning) where
   abbrev pub rested : Run → Run
   rested r = record r { kernel = record (r.kernel) { order = rested_order r.kernel r.kernel.order } }
 
-  -- at most so many steps, each of the first call in the order that nothing blocks, and then rest
+  -- Settling takes at most so many steps, each of the first call in the order that nothing blocks;
+  -- then each entry keeps its blocker, with its count where that is the same as before and else
+  -- from 0.
   abbrev pub settle : ℕ → Run → Run
   settle zero r = rested r
   settle (suc n) r =

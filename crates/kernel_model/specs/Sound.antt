@@ -1,4 +1,5 @@
--- Which states, graft calls and abstract kernels are sound, and which kernels rest.
+-- Which states, graft calls and abstract kernels are sound, and which kernels rest. Soundness of a
+-- state is in three parts: the store by itself, the images of its grafts, and the disk below it.
 use Rattle.std.specs.Prelude.{◌≡◌, ◌≢◌, ℕ, zero, suc, ◌+◌, ◌<◌, ◌≤◌, Bool, true, false, cond, ◌==◌, ◌&&◌, nat_lt, List, [], ◌∷◌, Option, Some, None, is_some, map, length, Contains, ⊤}
 use Rattle.std.specs.List.{list_any}
 use Rattle.std.specs.Result.{is_ok}
@@ -35,7 +36,8 @@ abbrev pub graft_balance : Kind → Option GraftValue → ℕ
 graft_balance k None = 0
 graft_balance k (Some g) = g.balance k
 
--- what a process has, has spent, and has given to its grafts
+-- the ledger of a process in a kind is its balance, what it has spent, and the balances of its
+-- grafts
 abbrev pub ledger : Accounts → Kind → ℕ → ℕ
 ledger a k q = (a.acct q).balance k + (a.acct q).spent k + sum_below 16 (λ pt. graft_balance k (a.graft q pt))
 
@@ -93,31 +95,36 @@ pub record IsSoundWorld (v : World) : Type 0 where
   pub files : (n : ℕ) (r : FileRow) → file_row v n ≡ Some r → r.start + r.blocks ≤ 4096
   pub callable : v.callable ≤ 15
 
--- the objects are sound, images and disk left out
+-- a store is sound by itself, images and disk left out
 pub record IsSoundStore (v : World) (s : Objects) : Type 0 where
   pub world : IsSoundWorld v
   -- the queue lists the living processes once each, 0 among them
   pub root : lives s.things.queue 0 ≡ true
   pub once : (p : ℕ) → count_of p (in_queue s.things.queue) ≡ once_if (lives s.things.queue p)
   pub numbers : (p : ℕ) → lives s.things.queue p ≡ true → p < 16
+  -- nices are in their range
   pub nices : (r : QueueRow) → Contains s.things.queue r → r.nice ≤ 39
   -- the order of use lists the frames in use once each, and no block stands in two frames
   pub in_use : (f : ℕ) → count_of f s.things.cache.lru ≡ once_if (is_some (s.things.cache.frame f))
   pub frame_numbers : (f : ℕ) → is_some (s.things.cache.frame f) ≡ true → f < v.frames
   pub one_frame : (f g : ℕ) (x y : FrameValue) → s.things.cache.frame f ≡ Some x → s.things.cache.frame g ≡ Some y → x.block ≡ y.block → f ≡ g
+  -- a frame in use holds a whole block, and its owner lives
   pub frames : (f : ℕ) (x : FrameValue) → s.things.cache.frame f ≡ Some x → IsSoundFrame s.things.queue x
   -- holders of locks and installers of grafts live
   pub holders : (u p : ℕ) → s.things.lock u ≡ Some p → (u < 16) × (lives s.things.queue p ≡ true)
   pub grafts : (q pt : ℕ) (g : GraftValue) → s.accounts.graft q pt ≡ Some g → (pt < 16) × (lives s.things.queue q ≡ true)
+  -- nothing is left of a process that doesn't live
   pub gone : (p : ℕ) → lives s.things.queue p ≡ false → IsGone s p
+  -- open files are usable entries whose blocks ahead end within them
   pub files : (p fd : ℕ) (o : OpenRow) → s.things.file p fd ≡ Some o → (fd < 4) × IsSoundFile v o
+  -- policies and their parameters are in their ranges
   pub policies : (kind : ℕ) → kind < 3 → IsSoundPolicy kind (s.things.pol kind)
   -- handlers are those of event points, and of processes that live
   pub handlers : AreHandlers s.things.handlers
   pub handlers_live : (q pt : ℕ) → list_any (is_handler q pt) s.things.handlers ≡ true → lives s.things.queue q ≡ true
   -- nothing is kept at points that there aren't
   pub segs : (q pt : ℕ) → (nat_lt q 16 && nat_lt pt 16) ≡ false → s.things.seg q pt ≡ nothing_kept
-  -- nothing of any kind is made or lost
+  -- nothing of any kind is made or lost: the ledgers add up to the grant
   pub ledgers : (k : Kind) → sum_below 16 (ledger s.accounts k) ≡ v.grant
 
 -- the image of each graft that stands is loaded
@@ -131,7 +138,7 @@ pub record FitsDisk (v : World) (c : CacheValue) : Type 0 where
   pub files : (n : ℕ) (r : FileRow) → file_row v n ≡ Some r → r.start + r.blocks ≤ v.disk_size
   pub frames : (f : ℕ) (x : FrameValue) → c.frame f ≡ Some x → x.block < v.disk_size
 
--- a sound state
+-- a state is sound where its store is, the images of its grafts are loaded, and it fits the disk
 pub record IsSoundState (v : World) (images : ImageTable) (s : Objects) : Type 0 where
   pub store : IsSoundStore v s
   pub images_loaded : ImagesAreLoaded images s.accounts
@@ -174,7 +181,8 @@ clash Held.Exclusive h = true
 abbrev pub in_the_order : Kernel → List ℕ
 in_the_order k = map (λ (e : Entry). e.process) k.order
 
--- an abstract kernel whose histories can be replayed
+-- An abstract kernel is sound where its state is, its histories can be replayed, its calls stand at
+-- fitting stages, and the order has whom it must.
 pub record IsSoundKernel (m : Meaning) (k : Kernel) : Type 0 where
   pub state : IsSoundState k.world k.images k.objects
   -- each history leads to a config: no instruction on the way drops a level, and each effect finds what it needs
@@ -187,6 +195,7 @@ pub record IsSoundKernel (m : Meaning) (k : Kernel) : Type 0 where
   -- who has a call in flight lives, and no early refusal of it holds
   pub callers : (p : ℕ) (c : Call) → k.call p ≡ Some c → lives k.objects.things.queue p ≡ true
   pub granted : (p : ℕ) (c : Call) → k.call p ≡ Some c → is_ok (m.early k.world k.images p c.stage.call) ≡ true
+  -- each call stands at a stage that fits
   pub fit : (p : ℕ) (c : Call) → k.call p ≡ Some c → m.fits k.world k.objects p c.stage ≡ true
   -- each call whose next step is a piece stands in the order, once
   pub pieces : (p : ℕ) → is_at_piece (k.call p) ≡ true → count_of p (in_the_order k) ≡ 1
@@ -194,6 +203,6 @@ pub record IsSoundKernel (m : Meaning) (k : Kernel) : Type 0 where
   pub others : (e : Entry) → Contains k.order e → is_at_piece (k.call e.process) ≡ false →
       (count_of e.process (in_the_order k) ≡ 1) × (1 ≤ length (levels_of m k e.process)) × (1 ≤ length (needs m k e.process))
 
--- each entry of the order is blocked, by what it keeps as its blocker
+-- a kernel is at rest where each entry of the order is blocked by what it keeps as its blocker
 abbrev pub IsAtRest : Meaning → Kernel → Type 0
 IsAtRest m k = (e : Entry) → Contains k.order e → (is_some e.blocker ≡ true) × (blocker m k e.process ≡ e.blocker)

@@ -1,4 +1,6 @@
--- The undo log of a call: its records by level, and what undoing them gives.
+-- The undo log of a call: its records by level, and what undoing them gives. The records are a list
+-- of lists: innermost level first, newest first within a level. What a level found when it began is
+-- what is left when the log is undone on the way outwards.
 use Rattle.std.specs.Prelude.{ℕ, List, [], ◌∷◌, ◌++◌, true, false, nat_le, length, map}
 use Rattle.kernel_model.specs.declared.Inverse.{Inverse}
 use Rattle.kernel_model.specs.Objects.{Objects, Things}
@@ -9,7 +11,7 @@ use Rattle.kernel_model.specs.Levels.{Level}
 abbrev pub undo_log : List Level → List (List Found)
 undo_log ls = map (λ (l : Level). l.records) ls
 
--- applies inverses, the first one first
+-- undoing a list of records undoes the first one first
 abbrev pub undo_all : List Found → Things → Things
 undo_all [] w = w
 undo_all (i ∷ is) w = undo_all is (undo i w)
@@ -18,7 +20,8 @@ undo_all (i ∷ is) w = undo_all is (undo i w)
 abbrev pub undo_on : List Found → Objects → Objects
 undo_on is s = record s { things = undo_all is s.things }
 
--- what each level found when it began, as the log tells it: the log is undone on the way outwards
+-- What each level found when it began is the state once the records of that level, and of those
+-- inside it, are undone.
 abbrev pub kept_by_log : Things → List (List Found) → List Things
 kept_by_log w [] = []
 kept_by_log w (is ∷ log) = let kept = undo_all is w in kept ∷ kept_by_log kept log

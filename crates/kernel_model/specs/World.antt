@@ -1,4 +1,6 @@
--- What no call and no graft changes: the set-up, the disk's size and directory; and the table of loaded images.
+-- A *world* is what is fixed once a script has booted: the set-up lines, the disk's size, its
+-- directory, and the highest id that a graft may call. The table of images is apart from it, since
+-- `image` lines fill it while calls are in flight.
 use Rattle.std.specs.Prelude.{ℕ, suc, ◌+◌, Bool, true, false, nat_eq, List, [], ◌∷◌, Option, Some, None, slice_index_or}
 use Rattle.std.specs.Cmp.Lexicographic.{pointwise}
 use Rattle.kernel_model.specs.declared.FileRow.{FileRow}

@@ -24,6 +24,7 @@ pub record IsStill (m : Meaning) (x y : Placed) (p : ℕ) : Type 0 where
   pub away : in_order p x.order ≡ false
   pub keeps : KeepsHolds m x y p
 
+-- The law: settling leads to rest, and a kernel that rests goes on to rest.
 pub record Resting (m : Meaning) : Type 0 where
   -- once all steps that can be taken are taken, the kernel rests
   pub settling : (x : PlacedRun) (r : Run) → RunStandsFor m x r → RunStandsFor m (placed_settled m x) (settled m r) × IsAtRest m (settled m r).kernel

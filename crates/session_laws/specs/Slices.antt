@@ -16,7 +16,8 @@ calls_in_flight k = sum_below 16 (λ p. once_if (is_some (k.call p)))
 abbrev pub slices_due : Kernel → ℕ
 slices_due k = slices_in k.objects.things.queue + calls_in_flight k
 
--- in each kernel of a run over a disk of whole blocks they are at most the run's events
+-- in each kernel of a run as in `IsRunnable`, `slices_due` is at most the number of the run's
+-- events
 abbrev pub SlicesWithinEvents : Type 0
 SlicesWithinEvents =
     (b : Build) (keys : Keys) (d : Disk) (texts : List (List ℕ)) (ios : List (List Bool))

@@ -1,0 +1,24 @@
+//! The laws of sealed images. A call of one brings its statement into a proof.
+
+ghost use Rattle.graft_loader.specs.Laws.{SealedImagesLoad, FirstSealedImagesLoad, ResealedImagesLoad};
+
+/// A sealed image loads, as the code and data that it was made of.
+pub fn sealed_images_load()
+    ensures { SealedImagesLoad }
+{
+    gm_isa::laws::decode_undoes_encode();
+}
+
+/// So does one of version 1, under the first key.
+pub fn first_sealed_images_load()
+    ensures { FirstSealedImagesLoad }
+{
+    gm_isa::laws::decode_undoes_encode();
+}
+
+/// What is sealed anew loads under the same keys, as the same code and data.
+pub fn resealed_images_load()
+    ensures { ResealedImagesLoad }
+{
+    gm_isa::laws::decode_undoes_encode();
+}
