@@ -1,2 +1,3 @@
 mod Decoding
 mod FirstLine
+mod Statuses

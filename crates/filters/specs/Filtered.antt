@@ -32,20 +32,20 @@ pub record Gave (rest rest_new : Option (List ℕ)) : Type 0 where
 
 -- The source gave some bytes, at most one more than an input may have, and reading ended somehow. The
 -- status is that of the filter's answer, and the sink took its bytes.
-pub record Ran (f : Filter) (key : List ℕ) (rest rest_new : Option (List ℕ)) (before now : ℕ) (got got_new : Option (List ℕ)) (status : ℕ) : Type 0 where
+pub record Ran (f : Filter) (rest rest_new : Option (List ℕ)) (before now : ℕ) (got got_new : Option (List ℕ)) (status : ℕ) : Type 0 where
   pub taken : List ℕ
   pub ending : Ending
   pub within : length taken ≤ SCRIPT_BYTES + 1
   pub consumed : Consumes rest rest_new taken
   pub ended : HasEnded ending taken rest_new before now
-  pub status_is : status ≡ (filter_answer f key taken ending).status
-  pub appended : Appends got got_new (filter_answer f key taken ending).written
+  pub status_is : status ≡ (filter_answer f taken ending).status
+  pub appended : Appends got got_new (filter_answer f taken ending).written
 
 -- The same, but the sink took a part of the answer's bytes, not whole.
-pub record Broke (f : Filter) (key : List ℕ) (rest rest_new : Option (List ℕ)) (before now : ℕ) (got got_new : Option (List ℕ)) : Type 0 where
+pub record Broke (f : Filter) (rest rest_new : Option (List ℕ)) (before now : ℕ) (got got_new : Option (List ℕ)) : Type 0 where
   pub taken : List ℕ
   pub ending : Ending
   pub within : length taken ≤ SCRIPT_BYTES + 1
   pub consumed : Consumes rest rest_new taken
   pub ended : HasEnded ending taken rest_new before now
-  pub short : AppendsPart got got_new (filter_answer f key taken ending).written
+  pub short : AppendsPart got got_new (filter_answer f taken ending).written

@@ -1,11 +1,11 @@
 -- What the enums of this crate stand for.
-use Rattle.std.specs.Prelude.{ℕ, Bool, true, false, List, []}
+use Rattle.std.specs.Prelude.{Bool, true, false}
 use Rattle.kernel_model.specs.Filters as spec
 use Rattle.kernel_model.specs.Outcome as spec_outcome
 use Rattle.filters.specs.declared.input.Ending.{Ending}
 use Rattle.filters.specs.declared.input.Ending.TheVariants.{End, Fault, Over}
 use Rattle.filters.specs.declared.answer.Filter.{Filter}
-use Rattle.filters.specs.declared.answer.Filter.TheVariants.{Box, Check, Asm, Dis}
+use Rattle.filters.specs.declared.answer.Filter.TheVariants.{Box, Check, Reseal, Asm, Dis}
 
 -- how reading ended
 abbrev pub ending_of : Ending → spec_outcome.Ending
@@ -15,21 +15,16 @@ ending_of Over = spec_outcome.Over
 
 -- what is asked of the input
 abbrev pub filter_of : Filter → spec.Filter
-filter_of (Box key) = spec.Box
-filter_of (Check key) = spec.Check
+filter_of (Box keys) = spec.Box keys
+filter_of (Check keys) = spec.Check keys
+filter_of (Reseal keys) = spec.Reseal keys
 filter_of Asm = spec.Asm
 filter_of Dis = spec.Dis
 
--- the key that it goes by, if it does
-abbrev pub key_in : Filter → List ℕ
-key_in (Box key) = key
-key_in (Check key) = key
-key_in Asm = []
-key_in Dis = []
-
 -- the filter refuses images by a status of their own
 abbrev pub is_of_images : Filter → Bool
-is_of_images (Box key) = true
-is_of_images (Check key) = true
+is_of_images (Box keys) = true
+is_of_images (Check keys) = true
+is_of_images (Reseal keys) = true
 is_of_images Asm = false
 is_of_images Dis = false

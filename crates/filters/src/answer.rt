@@ -1,11 +1,13 @@
 //! What a filter answers: a status, and the bytes to write.
 
-ghost use Rattle.std.specs.Prelude.{◌≡◌, ◌≤◌, ◌++◌, length, IfOk};
+ghost use Rattle.std.specs.Prelude.{◌≡◌, ◌≤◌, ◌++◌, length, is_some, true, IfOk, OnOk};
 ghost use Rattle.kernel_model.specs.Outcome.{SCRIPT_BYTES};
 ghost use Rattle.kernel_model.specs.Filters as spec;
 ghost use Rattle.kernel_model.specs.Text.{line, spaced};
+ghost use Rattle.graft_loader.specs.Faults.{refusal_of, fault_text};
 
 use crate::text::{add, add_spaced};
+use graft_loader::{FaultCode, Keys, LoadFault};
 use kernel_model::NoMemory;
 use std::alloc::Global;
 use std::marker::Model;
@@ -13,10 +15,12 @@ use std::marker::Model;
 /// What is asked of the input.
 #[derive(Clone, Copy)]
 pub(crate) enum Filter {
-    /// A raw image is boxed and sealed under a key.
-    Box([u8; 32]),
-    /// A sealed image is loaded under a key.
-    Check([u8; 32]),
+    /// A raw image is boxed and sealed under the last key.
+    Box(Keys),
+    /// A sealed image is loaded under its key.
+    Check(Keys),
+    /// A sealed image is sealed anew under the last key.
+    Reseal(Keys),
     /// A text is assembled.
     Asm,
     /// A raw image is disassembled.
@@ -79,6 +83,18 @@ impl Answer {
         add(&mut line, text)?;
         add_spaced(&mut line, place)?;
         Answer::line(status, line)
+    }
+
+    /// The answer to a sealed image that is refused: the code of the fault, and its place.
+    pub(crate) fn unloaded(alloc: Global, fault: LoadFault) -> Result<Answer, NoMemory>
+        ensures value { IfOk result (λ a. a ≡ spec.answer 6 (line (fault_text fault))) }
+        ensures some { OnOk result (is_some (refusal_of fault) ≡ true) }
+    {
+        match fault.code() {
+            None => Err(NoMemory),
+            Some(FaultCode { text, place: None }) => Answer::refusal(alloc, 6, text),
+            Some(FaultCode { text, place: Some(pc) }) => Answer::refusal_at(alloc, 6, text, pc),
+        }
     }
 
     /// The status.

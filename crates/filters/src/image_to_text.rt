@@ -36,7 +36,7 @@ fn bytes_answer(alloc: Global, bytes: &[u8]) -> Result<Answer, NoMemory>
 
 /// The answer to an input: the text of the raw image that its one line says, or why it is refused.
 pub(crate) fn dis_answer(alloc: Global, input: &[u8]) -> Result<Answer, NoMemory>
-    ensures { IfOk result (λ a. a ≡ spec.input_answer spec.Dis [] input.now) }
+    ensures { IfOk result (λ a. a ≡ spec.input_answer spec.Dis input.now) }
 {
     match read_hex_line(alloc, input)? {
         HexLine::Bytes(bytes) => bytes_answer(alloc, bytes.as_slice()),

@@ -1,4 +1,4 @@
-//! The words `box`, `check`, `asm` and `dis` of the program: filters that read a whole input and write one
+//! The words `box`, `check`, `reseal`, `asm` and `dis` of the program: filters that read a whole input and write one
 //! answer.
 //!
 //! What they answer is said by the definitions of `kernel_model`; docs/FORMATS.md tells the formats.
@@ -9,16 +9,17 @@ ghost use Rattle.std.specs.Io.KnownBytes.{Appends, Keeps};
 ghost use Rattle.vino_base.specs.Faults.{Rose};
 ghost use Rattle.kernel_model.specs.Outcome as outcome;
 ghost use Rattle.kernel_model.specs.Filters as spec;
-ghost use Rattle.filters.specs.Views.{ending_of, filter_of, key_in, is_of_images};
+ghost use Rattle.filters.specs.Views.{ending_of, filter_of, is_of_images};
 ghost use Rattle.filters.specs.Filtered.{AppendsPart, Gave, Ran, Broke};
 
 mod answer;
 mod hex_line;
 mod image_to_text;
 mod input;
-mod key;
+mod keys;
 mod output;
 mod raw_to_sealed;
+mod sealed_to_sealed;
 mod sealed_to_sizes;
 mod text;
 mod text_to_image;
@@ -26,11 +27,13 @@ mod text_to_image;
 use crate::answer::{Answer, Filter};
 use crate::image_to_text::dis_answer;
 use crate::input::{Ending, read_all};
-pub use crate::key::read_key;
+pub use crate::keys::read_keys;
 pub use crate::output::write_all;
 use crate::raw_to_sealed::box_answer;
+use crate::sealed_to_sealed::reseal_answer;
 use crate::sealed_to_sizes::check_answer;
 use crate::text_to_image::asm_answer;
+use graft_loader::Keys;
 use kernel_model::NoMemory;
 use std::alloc::Global;
 use vino_base::{Sink, Source};
@@ -38,11 +41,12 @@ use vino_base::{Sink, Source};
 /// The answer to an input that was taken so far and ended so.
 fn answer_to(alloc: Global, word: Filter, taken: &[u8], ending: Ending) -> Result<Answer, NoMemory>
     requires { ending_of ending ≡ outcome.End → length taken.now ≤ outcome.SCRIPT_BYTES }
-    ensures { IfOk result (λ a. a ≡ spec.filter_answer (filter_of word) (key_in word) taken.now (ending_of ending)) }
+    ensures { IfOk result (λ a. a ≡ spec.filter_answer (filter_of word) taken.now (ending_of ending)) }
 {
     match (ending, word) {
-        (Ending::End, Filter::Box(key)) => box_answer(alloc, &key, taken),
-        (Ending::End, Filter::Check(key)) => check_answer(alloc, &key, taken),
+        (Ending::End, Filter::Box(keys)) => box_answer(alloc, &keys, taken),
+        (Ending::End, Filter::Check(keys)) => check_answer(alloc, &keys, taken),
+        (Ending::End, Filter::Reseal(keys)) => reseal_answer(alloc, &keys, taken),
         (Ending::End, Filter::Asm) => asm_answer(alloc, taken),
         (Ending::End, Filter::Dis) => dis_answer(alloc, taken),
         (Ending::Fault, _) => Ok(Answer::new(3, Vec::new(alloc))),
@@ -68,9 +72,9 @@ fn write_answer<K: Sink>(answer: &Answer, out: &mut K) -> u8
 fn filter<S: Source, K: Sink>(alloc: Global, word: Filter, src: &mut S, out: &mut K) -> u8
     ensures statuses { (result ≡ 0) ⊎ (result ≡ 2) ⊎ (result ≡ 3) ⊎ (result ≡ 4) ⊎ (result ≡ 5) ⊎ (result ≡ 6) × (is_of_images word ≡ true) ⊎ (result ≡ 7) }
     ensures ran { result ≢ 4 → result ≢ 5 →
-        Ran (filter_of word) (key_in word) (S.rest src.old) (S.rest src.new) (S.faults src.old) (S.faults src.new) (K.got out.old) (K.got out.new) result }
+        Ran (filter_of word) (S.rest src.old) (S.rest src.new) (S.faults src.old) (S.faults src.new) (K.got out.old) (K.got out.new) result }
     ensures broke { result ≡ 4 →
-        Broke (filter_of word) (key_in word) (S.rest src.old) (S.rest src.new) (S.faults src.old) (S.faults src.new) (K.got out.old) (K.got out.new) }
+        Broke (filter_of word) (S.rest src.old) (S.rest src.new) (S.faults src.old) (S.faults src.new) (K.got out.old) (K.got out.new) }
     ensures memory { result ≡ 5 → Gave (S.rest src.old) (S.rest src.new) × Keeps (K.got out.old) (K.got out.new) }
     ensures source_failed { result ≡ 3 → Rose (S.faults src.old) (S.faults src.new) }
     ensures sink_failed { result ≡ 4 → Rose (K.faults out.old) (K.faults out.new) }
@@ -98,10 +102,10 @@ pub fn asm<S: Source, K: Sink>(alloc: Global, src: &mut S, out: &mut K) -> u8
     ensures statuses { (result ≡ 0) ⊎ (result ≡ 2) ⊎ (result ≡ 3) ⊎ (result ≡ 4) ⊎ (result ≡ 5) ⊎ (result ≡ 7) }
     // The status and the bytes written are those of the answer to the bytes that were taken.
     ensures ran { result ≢ 4 → result ≢ 5 →
-        Ran spec.Asm [] (S.rest src.old) (S.rest src.new) (S.faults src.old) (S.faults src.new) (K.got out.old) (K.got out.new) result }
+        Ran spec.Asm (S.rest src.old) (S.rest src.new) (S.faults src.old) (S.faults src.new) (K.got out.old) (K.got out.new) result }
     // Where the sink fails it took a part of those bytes, not whole.
     ensures broke { result ≡ 4 →
-        Broke spec.Asm [] (S.rest src.old) (S.rest src.new) (S.faults src.old) (S.faults src.new) (K.got out.old) (K.got out.new) }
+        Broke spec.Asm (S.rest src.old) (S.rest src.new) (S.faults src.old) (S.faults src.new) (K.got out.old) (K.got out.new) }
     // With no memory nothing is written.
     ensures memory { result ≡ 5 → Gave (S.rest src.old) (S.rest src.new) × Keeps (K.got out.old) (K.got out.new) }
     // A source or a sink is blamed only where its count of faults rose.
@@ -124,10 +128,10 @@ pub fn dis<S: Source, K: Sink>(alloc: Global, src: &mut S, out: &mut K) -> u8
     ensures statuses { (result ≡ 0) ⊎ (result ≡ 2) ⊎ (result ≡ 3) ⊎ (result ≡ 4) ⊎ (result ≡ 5) ⊎ (result ≡ 7) }
     // The status and the bytes written are those of the answer to the bytes that were taken.
     ensures ran { result ≢ 4 → result ≢ 5 →
-        Ran spec.Dis [] (S.rest src.old) (S.rest src.new) (S.faults src.old) (S.faults src.new) (K.got out.old) (K.got out.new) result }
+        Ran spec.Dis (S.rest src.old) (S.rest src.new) (S.faults src.old) (S.faults src.new) (K.got out.old) (K.got out.new) result }
     // Where the sink fails it took a part of those bytes, not whole.
     ensures broke { result ≡ 4 →
-        Broke spec.Dis [] (S.rest src.old) (S.rest src.new) (S.faults src.old) (S.faults src.new) (K.got out.old) (K.got out.new) }
+        Broke spec.Dis (S.rest src.old) (S.rest src.new) (S.faults src.old) (S.faults src.new) (K.got out.old) (K.got out.new) }
     // With no memory nothing is written.
     ensures memory { result ≡ 5 → Gave (S.rest src.old) (S.rest src.new) × Keeps (K.got out.old) (K.got out.new) }
     // A source or a sink is blamed only where its count of faults rose.
@@ -140,22 +144,22 @@ pub fn dis<S: Source, K: Sink>(alloc: Global, src: &mut S, out: &mut K) -> u8
 }
 
 /// Reads one line of hex, the bytes of a raw image, boxes its code and writes the image sealed under the
-/// key as one line of lower-case hex; or why the line (`input S2`, `input S6` or `input S1`), the image
+/// last key as one line of lower-case hex; or why the line (`input S2`, `input S6` or `input S1`), the image
 /// (`L1`, `L2`, `L4` or `L6 PC`) or its code (`Register PC`, `Jump PC`, `Call PC`, `End` or `TooLarge`) is
 /// refused.
 ///
 /// The answer is the exit status: 0 for an image, 2 for a refused line, 3 for a source and 4 for a sink that
 /// failed, 5 for want of memory, 6 for an image or code that is refused, 7 for an input of more than
 /// 16,777,216 bytes. Nothing is written with 3, 5 and 7.
-pub fn box_image<S: Source, K: Sink>(alloc: Global, key: &[u8; 32], src: &mut S, out: &mut K) -> u8
+pub fn box_image<S: Source, K: Sink>(alloc: Global, keys: &Keys, src: &mut S, out: &mut K) -> u8
     // No other status comes.
     ensures statuses { (result ≡ 0) ⊎ (result ≡ 2) ⊎ (result ≡ 3) ⊎ (result ≡ 4) ⊎ (result ≡ 5) ⊎ (result ≡ 6) ⊎ (result ≡ 7) }
     // The status and the bytes written are those of the answer to the bytes that were taken.
     ensures ran { result ≢ 4 → result ≢ 5 →
-        Ran spec.Box key.now (S.rest src.old) (S.rest src.new) (S.faults src.old) (S.faults src.new) (K.got out.old) (K.got out.new) result }
+        Ran (spec.Box keys.now) (S.rest src.old) (S.rest src.new) (S.faults src.old) (S.faults src.new) (K.got out.old) (K.got out.new) result }
     // Where the sink fails it took a part of those bytes, not whole.
     ensures broke { result ≡ 4 →
-        Broke spec.Box key.now (S.rest src.old) (S.rest src.new) (S.faults src.old) (S.faults src.new) (K.got out.old) (K.got out.new) }
+        Broke (spec.Box keys.now) (S.rest src.old) (S.rest src.new) (S.faults src.old) (S.faults src.new) (K.got out.old) (K.got out.new) }
     // With no memory nothing is written.
     ensures memory { result ≡ 5 → Gave (S.rest src.old) (S.rest src.new) × Keeps (K.got out.old) (K.got out.new) }
     // A source or a sink is blamed only where its count of faults rose.
@@ -164,19 +168,19 @@ pub fn box_image<S: Source, K: Sink>(alloc: Global, key: &[u8; 32], src: &mut S,
     ensures source_later { S.faults src.old ≤ S.faults src.new }
     ensures sink_later { K.faults out.old ≤ K.faults out.new }
 {
-    filter(alloc, Filter::Box(*key), src, out)
+    filter(alloc, Filter::Box(*keys), src, out)
 }
 
-/// Reads one line of hex, the bytes of a sealed image, loads it under the key and writes how many
+/// Reads one line of hex, the bytes of a sealed image, loads it under its key and writes how many
 /// instructions and data bytes it has, as `ok N D`; or why the line (`input S2`, `input S6` or `input S1`)
-/// or the image (`L1` to `L11`, with the place) is refused.
+/// or the image (`L1` to `L13`, with the place) is refused.
 ///
 /// The answer is the exit status: 0 for an image, 2 for a refused line, 3 for a source and 4 for a sink that
 /// failed, 5 for want of memory, 6 for an image that is refused, 7 for an input of more than 16,777,216
 /// bytes. Nothing is written with 3, 5 and 7.
 pub fn check_image<S: Source, K: Sink>(
     alloc: Global,
-    key: &[u8; 32],
+    keys: &Keys,
     src: &mut S,
     out: &mut K,
 ) -> u8
@@ -184,10 +188,10 @@ pub fn check_image<S: Source, K: Sink>(
     ensures statuses { (result ≡ 0) ⊎ (result ≡ 2) ⊎ (result ≡ 3) ⊎ (result ≡ 4) ⊎ (result ≡ 5) ⊎ (result ≡ 6) ⊎ (result ≡ 7) }
     // The status and the bytes written are those of the answer to the bytes that were taken.
     ensures ran { result ≢ 4 → result ≢ 5 →
-        Ran spec.Check key.now (S.rest src.old) (S.rest src.new) (S.faults src.old) (S.faults src.new) (K.got out.old) (K.got out.new) result }
+        Ran (spec.Check keys.now) (S.rest src.old) (S.rest src.new) (S.faults src.old) (S.faults src.new) (K.got out.old) (K.got out.new) result }
     // Where the sink fails it took a part of those bytes, not whole.
     ensures broke { result ≡ 4 →
-        Broke spec.Check key.now (S.rest src.old) (S.rest src.new) (S.faults src.old) (S.faults src.new) (K.got out.old) (K.got out.new) }
+        Broke (spec.Check keys.now) (S.rest src.old) (S.rest src.new) (S.faults src.old) (S.faults src.new) (K.got out.old) (K.got out.new) }
     // With no memory nothing is written.
     ensures memory { result ≡ 5 → Gave (S.rest src.old) (S.rest src.new) × Keeps (K.got out.old) (K.got out.new) }
     // A source or a sink is blamed only where its count of faults rose.
@@ -196,5 +200,37 @@ pub fn check_image<S: Source, K: Sink>(
     ensures source_later { S.faults src.old ≤ S.faults src.new }
     ensures sink_later { K.faults out.old ≤ K.faults out.new }
 {
-    filter(alloc, Filter::Check(*key), src, out)
+    filter(alloc, Filter::Check(*keys), src, out)
+}
+
+/// Reads one line of hex, the bytes of a sealed image, loads it under its key and writes
+/// its code and data, sealed anew under the last key, as one line of lower-case hex; or why the line (`input
+/// S2`, `input S6` or `input S1`) or the image (`L1` to `L13`, with the place) is refused.
+///
+/// The answer is the exit status: 0 for an image, 2 for a refused line, 3 for a source and 4 for a sink that
+/// failed, 5 for want of memory, 6 for an image that is refused, 7 for an input of more than 16,777,216
+/// bytes. Nothing is written with 3, 5 and 7.
+pub fn reseal_image<S: Source, K: Sink>(
+    alloc: Global,
+    keys: &Keys,
+    src: &mut S,
+    out: &mut K,
+) -> u8
+    // No other status comes.
+    ensures statuses { (result ≡ 0) ⊎ (result ≡ 2) ⊎ (result ≡ 3) ⊎ (result ≡ 4) ⊎ (result ≡ 5) ⊎ (result ≡ 6) ⊎ (result ≡ 7) }
+    // The status and the bytes written are those of the answer to the bytes that were taken.
+    ensures ran { result ≢ 4 → result ≢ 5 →
+        Ran (spec.Reseal keys.now) (S.rest src.old) (S.rest src.new) (S.faults src.old) (S.faults src.new) (K.got out.old) (K.got out.new) result }
+    // Where the sink fails it took a part of those bytes, not whole.
+    ensures broke { result ≡ 4 →
+        Broke (spec.Reseal keys.now) (S.rest src.old) (S.rest src.new) (S.faults src.old) (S.faults src.new) (K.got out.old) (K.got out.new) }
+    // With no memory nothing is written.
+    ensures memory { result ≡ 5 → Gave (S.rest src.old) (S.rest src.new) × Keeps (K.got out.old) (K.got out.new) }
+    // A source or a sink is blamed only where its count of faults rose.
+    ensures source_failed { result ≡ 3 → Rose (S.faults src.old) (S.faults src.new) }
+    ensures sink_failed { result ≡ 4 → Rose (K.faults out.old) (K.faults out.new) }
+    ensures source_later { S.faults src.old ≤ S.faults src.new }
+    ensures sink_later { K.faults out.old ≤ K.faults out.new }
+{
+    filter(alloc, Filter::Reseal(*keys), src, out)
 }

@@ -12,40 +12,40 @@ use crate::text::hex_of;
 use box_rewriter::{BoxedCode, RewriteFault, rewrite};
 use gm_image::{ImageFault, RawImage, read_raw};
 use gm_isa::Instr;
-use graft_loader::seal;
+use graft_loader::{Keys, seal_under};
 use kernel_model::NoMemory;
 use std::alloc::Global;
 
 /// The answer to boxed code and data: the sealed image as hex.
 fn sealed_line(
     alloc: Global,
-    key: &[u8; 32],
+    keys: &Keys,
     code: &[Instr],
     body: &[u8],
 ) -> Result<Answer, NoMemory>
     requires code_len { length code.now ≤ 1024 }
     requires code_fits { list_all fits code.now ≡ true }
     requires body_len { length body.now ≤ 4096 }
-    ensures { IfOk result (λ a. a ≡ spec.boxed_answer key.now body.now (Ok code.now)) }
+    ensures { IfOk result (λ a. a ≡ spec.boxed_answer keys.now body.now (Ok code.now)) }
 {
-    let bytes = seal(alloc, key, code, body)?;
+    let bytes = seal_under(alloc, keys, code, body)?;
     let digits = hex_of(alloc, bytes.as_slice())?;
     Answer::line(0, digits)
 }
 
 /// The answer to boxed code: its sealed image as hex.
-fn boxed_line(alloc: Global, key: &[u8; 32], boxed: &BoxedCode) -> Result<Answer, NoMemory>
-    ensures { IfOk result (λ a. a ≡ spec.boxed_answer key.now boxed.now.body (Ok boxed.now.code)) }
+fn boxed_line(alloc: Global, keys: &Keys, boxed: &BoxedCode) -> Result<Answer, NoMemory>
+    ensures { IfOk result (λ a. a ≡ spec.boxed_answer keys.now boxed.now.body (Ok boxed.now.code)) }
 {
-    sealed_line(alloc, key, boxed.code(), boxed.body())
+    sealed_line(alloc, keys, boxed.code(), boxed.body())
 }
 
 /// The answer to a raw image: its boxed code, sealed, or why it can't be boxed.
-fn image_answer(alloc: Global, key: &[u8; 32], image: &RawImage) -> Result<Answer, NoMemory>
-    ensures { IfOk result (λ a. a ≡ spec.box_answer key.now (Ok image.now)) }
+fn image_answer(alloc: Global, keys: &Keys, image: &RawImage) -> Result<Answer, NoMemory>
+    ensures { IfOk result (λ a. a ≡ spec.box_answer keys.now (Ok image.now)) }
 {
     match rewrite(alloc, image) {
-        Ok(boxed) => boxed_line(alloc, key, &boxed),
+        Ok(boxed) => boxed_line(alloc, keys, &boxed),
         Err(RewriteFault::Register(pc)) => Answer::refusal_at(alloc, 6, b"Register", pc),
         Err(RewriteFault::Jump(pc)) => Answer::refusal_at(alloc, 6, b"Jump", pc),
         Err(RewriteFault::Call(pc)) => Answer::refusal_at(alloc, 6, b"Call", pc),
@@ -56,11 +56,11 @@ fn image_answer(alloc: Global, key: &[u8; 32], image: &RawImage) -> Result<Answe
 }
 
 /// The answer to the bytes of a raw image, or why they are none.
-fn bytes_answer(alloc: Global, key: &[u8; 32], bytes: &[u8]) -> Result<Answer, NoMemory>
-    ensures { IfOk result (λ a. a ≡ spec.box_answer key.now (images.read_raw bytes.now)) }
+fn bytes_answer(alloc: Global, keys: &Keys, bytes: &[u8]) -> Result<Answer, NoMemory>
+    ensures { IfOk result (λ a. a ≡ spec.box_answer keys.now (images.read_raw bytes.now)) }
 {
     match read_raw(alloc, bytes) {
-        Ok(image) => image_answer(alloc, key, &image),
+        Ok(image) => image_answer(alloc, keys, &image),
         Err(ImageFault::Length) => Answer::refusal(alloc, 6, b"L1"),
         Err(ImageFault::Magic) => Answer::refusal(alloc, 6, b"L2"),
         Err(ImageFault::Version) => Answer::refusal(alloc, 6, b"L3"),
@@ -71,11 +71,11 @@ fn bytes_answer(alloc: Global, key: &[u8; 32], bytes: &[u8]) -> Result<Answer, N
 }
 
 /// The answer to an input: the sealed image of the raw one that its one line says, or why there is none.
-pub(crate) fn box_answer(alloc: Global, key: &[u8; 32], input: &[u8]) -> Result<Answer, NoMemory>
-    ensures { IfOk result (λ a. a ≡ spec.input_answer spec.Box key.now input.now) }
+pub(crate) fn box_answer(alloc: Global, keys: &Keys, input: &[u8]) -> Result<Answer, NoMemory>
+    ensures { IfOk result (λ a. a ≡ spec.input_answer (spec.Box keys.now) input.now) }
 {
     match read_hex_line(alloc, input)? {
-        HexLine::Bytes(bytes) => bytes_answer(alloc, key, bytes.as_slice()),
+        HexLine::Bytes(bytes) => bytes_answer(alloc, keys, bytes.as_slice()),
         HexLine::NoHex => Answer::refusal(alloc, 2, b"input S2"),
         HexLine::Unfinished => Answer::refusal(alloc, 2, b"input S6"),
         HexLine::MoreBehind => Answer::refusal(alloc, 2, b"input S1"),

@@ -49,7 +49,7 @@ fn image_line(alloc: Global, image: &RawImage) -> Result<Answer, NoMemory>
 /// The answer to a text: the raw image as hex, or the line that is refused.
 pub(crate) fn asm_answer(alloc: Global, text: &[u8]) -> Result<Answer, NoMemory>
     requires { length text.now ≤ SCRIPT_BYTES }
-    ensures { IfOk result (λ a. a ≡ spec.input_answer spec.Asm [] text.now) }
+    ensures { IfOk result (λ a. a ≡ spec.input_answer spec.Asm text.now) }
 {
     match assemble(alloc, text) {
         Ok(image) => image_line(alloc, &image),

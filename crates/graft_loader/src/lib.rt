@@ -18,11 +18,13 @@ use std::alloc::{AllocError, Global};
 use std::marker::Model;
 use thiserror::Error;
 
+mod codes;
 mod images;
 pub mod laws;
 mod mac;
 mod sealing;
 
+pub use codes::FaultCode;
 pub use gm_isa::{Instr, Op};
 pub use images::Images;
 pub use kernel_model::{Keys, NoMemory};

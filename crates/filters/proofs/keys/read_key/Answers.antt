@@ -5,7 +5,7 @@ use Rattle.hex.specs.declared.error.FromHexError.{FromHexError}
 use Rattle.hex.specs.Hex.{decode_sized}
 use Rattle.filters.specs.Keys.{key_of}
 use Rattle.filters.proofs.Decoding.{decode_sized-ok}
-use Rattle.filters.proofs.key.read_key.Goals as goal
+use Rattle.filters.proofs.keys.read_key.Goals as goal
 
 -- what was said, after a success
 decoded : (text out : List ℕ) (said : Result (List ℕ) FromHexError) → decode_sized text 32 ≡ said
