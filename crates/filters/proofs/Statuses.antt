@@ -1,5 +1,5 @@
 -- The status of want of memory is no answer's.
-use Rattle.std.proofs.Common.{◌≡◌, ℕ, List, Result, Ok, Err}
+use Rattle.std.proofs.Common.{◌≡◌, ℕ, List, Result, Ok, Err, sym, ap, ◌∙◌}
 use Rattle.kernel_model.specs.declared.Instr.{Instr}
 use Rattle.kernel_model.specs.declared.Keys.{Keys}
 use Rattle.kernel_model.specs.World.{Image}
@@ -7,7 +7,9 @@ use Rattle.kernel_model.specs.Boxed.{RewriteFault, rewrite}
 use Rattle.kernel_model.specs.Images.{LoadFault, read_raw, load, reseal}
 use Rattle.kernel_model.specs.Assembler.{LineFault, assemble}
 use Rattle.kernel_model.specs.Outcome.{Ending, End, Fault, Over}
-use Rattle.kernel_model.specs.Filters.{Filter, Answer, Box, Check, Reseal, Asm, Dis, hex_line, boxed_answer, box_answer, check_answer, reseal_answer, dis_answer, asm_answer, hex_answer, filter_answer}
+use Rattle.kernel_model.specs.LanguageReading.{Syntax, read}
+use Rattle.kernel_model.specs.LanguageReading as language
+use Rattle.kernel_model.specs.Filters.{Filter, Answer, Box, Check, Reseal, Asm, Dis, Lang, hex_line, boxed_answer, box_answer, check_answer, reseal_answer, dis_answer, asm_answer, hex_answer, filter_answer, lang_refusal, raw_answer, AnswersText, Answers}
 
 -- the answer has another status than that of want of memory
 abbrev HasMemory : Answer → Type 0
@@ -44,13 +46,41 @@ hex_has (Check keys) (Ok bytes) h = check_has (load keys bytes) h
 hex_has (Reseal keys) (Ok bytes) h = reseal_has (reseal keys bytes) h
 hex_has Asm (Ok bytes) h = cc
 hex_has Dis (Ok bytes) h = dis_has (read_raw bytes) h
+hex_has Lang (Ok bytes) h = cc
+
+-- no answer of a filter that has one has the status of want of memory
+filter_has : (f : Filter) (taken : List ℕ) (e : Ending) → HasMemory (filter_answer f taken e)
+filter_has f taken Fault h = cc
+filter_has f taken Over h = cc
+filter_has Asm taken End h = asm_has (assemble taken) h
+filter_has (Box keys) taken End h = hex_has (Box keys) (hex_line taken) h
+filter_has (Check keys) taken End h = hex_has (Check keys) (hex_line taken) h
+filter_has (Reseal keys) taken End h = hex_has (Reseal keys) (hex_line taken) h
+filter_has Dis taken End h = hex_has Dis (hex_line taken) h
+filter_has Lang taken End h = hex_has Lang (hex_line taken) h
+
+refusal_has : (fault : language.LineFault) → HasMemory (lang_refusal fault)
+refusal_has fault h = cc
+
+image_has : (i : Image) → HasMemory (raw_answer i)
+image_has i h = cc
+
+text_has : (text : List ℕ) (r : Result Syntax language.LineFault) (a : Answer) → AnswersText text r a → HasMemory a
+text_has text (Err fault) a is h = refusal_has fault (ap (λ (b : Answer). b.status) (sym is) ∙ h)
+text_has text (Ok syntax) a w h = image_has w.image (ap (λ (b : Answer). b.status) (sym w.is_written) ∙ h)
+
+same_has : (a b : Answer) → a ≡ b → HasMemory b → HasMemory a
+same_has a b is has h = has (ap (λ (c : Answer). c.status) (sym is) ∙ h)
 
 -- no answer has the status of want of memory
-pub has_memory : (f : Filter) (taken : List ℕ) (e : Ending) → HasMemory (filter_answer f taken e)
-has_memory f taken Fault h = cc
-has_memory f taken Over h = cc
-has_memory Asm taken End h = asm_has (assemble taken) h
-has_memory (Box keys) taken End h = hex_has (Box keys) (hex_line taken) h
-has_memory (Check keys) taken End h = hex_has (Check keys) (hex_line taken) h
-has_memory (Reseal keys) taken End h = hex_has (Reseal keys) (hex_line taken) h
-has_memory Dis taken End h = hex_has Dis (hex_line taken) h
+pub has_memory : (f : Filter) (taken : List ℕ) (e : Ending) (a : Answer) → Answers f taken e a → HasMemory a
+has_memory Lang taken End a is h = text_has taken (read taken) a is h
+has_memory Lang taken Fault a is h = same_has a (filter_answer Lang taken Fault) is (filter_has Lang taken Fault) h
+has_memory Lang taken Over a is h = same_has a (filter_answer Lang taken Over) is (filter_has Lang taken Over) h
+has_memory (Box keys) taken e a is h = same_has a (filter_answer (Box keys) taken e) is (filter_has (Box keys) taken e) h
+has_memory (Check keys) taken e a is h =
+    same_has a (filter_answer (Check keys) taken e) is (filter_has (Check keys) taken e) h
+has_memory (Reseal keys) taken e a is h =
+    same_has a (filter_answer (Reseal keys) taken e) is (filter_has (Reseal keys) taken e) h
+has_memory Asm taken e a is h = same_has a (filter_answer Asm taken e) is (filter_has Asm taken e) h
+has_memory Dis taken e a is h = same_has a (filter_answer Dis taken e) is (filter_has Dis taken e) h

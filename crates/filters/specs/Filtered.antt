@@ -3,7 +3,7 @@ use Rattle.std.specs.Prelude.{◌≡◌, ℕ, ◌+◌, ◌<◌, ◌≤◌, List,
 use Rattle.std.specs.Io.KnownBytes.{Appends, Consumes, IsAtEnd}
 use Rattle.vino_base.specs.Faults.{Rose}
 use Rattle.kernel_model.specs.Outcome.{Ending, End, Fault, Over, SCRIPT_BYTES}
-use Rattle.kernel_model.specs.Filters.{Filter, filter_answer}
+use Rattle.kernel_model.specs.Filters.{Filter, Answer, Answers}
 
 -- the sink took a part of these bytes, not whole
 pub record AppendsPart (old new : Option (List ℕ)) (bytes : List ℕ) : Type 0 where
@@ -31,15 +31,18 @@ pub record Gave (rest rest_new : Option (List ℕ)) : Type 0 where
   pub consumed : Consumes rest rest_new taken
 
 -- The source gave some bytes, at most one more than an input may have, and reading ended somehow. The
--- status is that of the filter's answer, and the sink took its bytes.
+-- status is that of an answer of the filter, and the sink took its bytes. Each filter but `lang` has one
+-- answer to an input.
 pub record Ran (f : Filter) (rest rest_new : Option (List ℕ)) (before now : ℕ) (got got_new : Option (List ℕ)) (status : ℕ) : Type 0 where
   pub taken : List ℕ
   pub ending : Ending
   pub within : length taken ≤ SCRIPT_BYTES + 1
   pub consumed : Consumes rest rest_new taken
   pub ended : HasEnded ending taken rest_new before now
-  pub status_is : status ≡ (filter_answer f taken ending).status
-  pub appended : Appends got got_new (filter_answer f taken ending).written
+  pub answer : Answer
+  pub answers : Answers f taken ending answer
+  pub status_is : status ≡ answer.status
+  pub appended : Appends got got_new answer.written
 
 -- The same, but the sink took a part of the answer's bytes, not whole.
 pub record Broke (f : Filter) (rest rest_new : Option (List ℕ)) (before now : ℕ) (got got_new : Option (List ℕ)) : Type 0 where
@@ -48,4 +51,6 @@ pub record Broke (f : Filter) (rest rest_new : Option (List ℕ)) (before now : 
   pub within : length taken ≤ SCRIPT_BYTES + 1
   pub consumed : Consumes rest rest_new taken
   pub ended : HasEnded ending taken rest_new before now
-  pub short : AppendsPart got got_new (filter_answer f taken ending).written
+  pub answer : Answer
+  pub answers : Answers f taken ending answer
+  pub short : AppendsPart got got_new answer.written

@@ -5,7 +5,7 @@ use Rattle.kernel_model.specs.Outcome as spec_outcome
 use Rattle.filters.specs.declared.input.Ending.{Ending}
 use Rattle.filters.specs.declared.input.Ending.TheVariants.{End, Fault, Over}
 use Rattle.filters.specs.declared.answer.Filter.{Filter}
-use Rattle.filters.specs.declared.answer.Filter.TheVariants.{Box, Check, Reseal, Asm, Dis}
+use Rattle.filters.specs.declared.answer.Filter.TheVariants.{Box, Check, Reseal, Asm, Dis, Lang}
 
 -- how reading ended
 abbrev pub ending_of : Ending → spec_outcome.Ending
@@ -20,6 +20,7 @@ filter_of (Check keys) = spec.Check keys
 filter_of (Reseal keys) = spec.Reseal keys
 filter_of Asm = spec.Asm
 filter_of Dis = spec.Dis
+filter_of Lang = spec.Lang
 
 -- the filter refuses images by a status of their own
 abbrev pub is_of_images : Filter → Bool
@@ -28,3 +29,4 @@ is_of_images (Check keys) = true
 is_of_images (Reseal keys) = true
 is_of_images Asm = false
 is_of_images Dis = false
+is_of_images Lang = false

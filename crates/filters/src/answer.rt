@@ -1,6 +1,6 @@
 //! What a filter answers: a status, and the bytes to write.
 
-ghost use Rattle.std.specs.Prelude.{◌≡◌, ◌≤◌, ◌++◌, length, is_some, true, IfOk, OnOk};
+ghost use Rattle.std.specs.Prelude.{◌≡◌, ◌≤◌, ◌++◌, length, codes, is_some, true, IfOk, OnOk};
 ghost use Rattle.kernel_model.specs.Outcome.{SCRIPT_BYTES};
 ghost use Rattle.kernel_model.specs.Filters as spec;
 ghost use Rattle.kernel_model.specs.Text.{line, spaced};
@@ -25,6 +25,8 @@ pub(crate) enum Filter {
     Asm,
     /// A raw image is disassembled.
     Dis,
+    /// A text of the graft language is compiled.
+    Lang,
 }
 
 /// A status, and the bytes to write.
@@ -93,8 +95,31 @@ impl Answer {
         match fault.code() {
             None => Err(NoMemory),
             Some(FaultCode { text, place: None }) => Answer::refusal(alloc, 6, text),
-            Some(FaultCode { text, place: Some(pc) }) => Answer::refusal_at(alloc, 6, text, pc),
+            Some(
+                FaultCode {
+                    text,
+                    place: Some(pc),
+                },
+            ) => Answer::refusal_at(alloc, 6, text, pc),
         }
+    }
+
+    /// The answer to a text of which a line is refused: the word, the line and the code of the refusal.
+    pub(crate) fn refused_line(
+        alloc: Global,
+        word: &[u8],
+        number: u32,
+        code: &[u8],
+    ) -> Result<Answer, NoMemory>
+        ensures { IfOk result (λ a. a ≡ spec.answer 2
+            (line (word.now ++ spaced number ++ codes " " ++ code.now))) }
+    {
+        let mut text = Vec::new(alloc);
+        add(&mut text, word)?;
+        add_spaced(&mut text, number)?;
+        add(&mut text, b" ")?;
+        add(&mut text, code)?;
+        Answer::line(2, text)
     }
 
     /// The status.

@@ -1,5 +1,5 @@
-//! The words `box`, `check`, `reseal`, `asm` and `dis` of the program: filters that read a whole input and write one
-//! answer.
+//! The words `box`, `check`, `reseal`, `asm`, `dis` and `lang` of the program: filters that read a whole
+//! input and write one answer.
 //!
 //! What they answer is said by the definitions of `kernel_model`; docs/FORMATS.md tells the formats.
 #![tactic(auto)]
@@ -18,6 +18,7 @@ mod image_to_text;
 mod input;
 mod keys;
 mod output;
+mod program_to_image;
 mod raw_to_sealed;
 mod sealed_to_sealed;
 mod sealed_to_sizes;
@@ -29,6 +30,7 @@ use crate::image_to_text::dis_answer;
 use crate::input::{Ending, read_all};
 pub use crate::keys::read_keys;
 pub use crate::output::write_all;
+use crate::program_to_image::lang_answer;
 use crate::raw_to_sealed::box_answer;
 use crate::sealed_to_sealed::reseal_answer;
 use crate::sealed_to_sizes::check_answer;
@@ -41,7 +43,7 @@ use vino_base::{Sink, Source};
 /// The answer to an input that was taken so far and ended so.
 fn answer_to(alloc: Global, word: Filter, taken: &[u8], ending: Ending) -> Result<Answer, NoMemory>
     requires { ending_of ending ≡ outcome.End → length taken.now ≤ outcome.SCRIPT_BYTES }
-    ensures { IfOk result (λ a. a ≡ spec.filter_answer (filter_of word) taken.now (ending_of ending)) }
+    ensures { IfOk result (λ a. spec.Answers (filter_of word) taken.now (ending_of ending) a) }
 {
     match (ending, word) {
         (Ending::End, Filter::Box(keys)) => box_answer(alloc, &keys, taken),
@@ -49,6 +51,7 @@ fn answer_to(alloc: Global, word: Filter, taken: &[u8], ending: Ending) -> Resul
         (Ending::End, Filter::Reseal(keys)) => reseal_answer(alloc, &keys, taken),
         (Ending::End, Filter::Asm) => asm_answer(alloc, taken),
         (Ending::End, Filter::Dis) => dis_answer(alloc, taken),
+        (Ending::End, Filter::Lang) => lang_answer(alloc, taken),
         (Ending::Fault, _) => Ok(Answer::new(3, Vec::new(alloc))),
         (Ending::Over, _) => Ok(Answer::new(7, Vec::new(alloc))),
     }
@@ -117,6 +120,32 @@ pub fn asm<S: Source, K: Sink>(alloc: Global, src: &mut S, out: &mut K) -> u8
     filter(alloc, Filter::Asm, src, out)
 }
 
+/// Reads a text of the graft language and writes a raw image of its program as one line of lower-case
+/// hex, or the line that is refused and why, as `lang LINE CODE`.
+///
+/// The answer is the exit status: 0 for an image, 2 for a refusal, 3 for a source and 4 for a sink that
+/// failed, 5 for want of memory, 7 for a text of more than 16,777,216 bytes. Nothing is written with 3, 5
+/// and 7.
+pub fn lang<S: Source, K: Sink>(alloc: Global, src: &mut S, out: &mut K) -> u8
+    // No other status comes.
+    ensures statuses { (result ≡ 0) ⊎ (result ≡ 2) ⊎ (result ≡ 3) ⊎ (result ≡ 4) ⊎ (result ≡ 5) ⊎ (result ≡ 7) }
+    // The status and the bytes written are those of an answer to the bytes that were taken.
+    ensures ran { result ≢ 4 → result ≢ 5 →
+        Ran spec.Lang (S.rest src.old) (S.rest src.new) (S.faults src.old) (S.faults src.new) (K.got out.old) (K.got out.new) result }
+    // Where the sink fails it took a part of those bytes, not whole.
+    ensures broke { result ≡ 4 →
+        Broke spec.Lang (S.rest src.old) (S.rest src.new) (S.faults src.old) (S.faults src.new) (K.got out.old) (K.got out.new) }
+    // With no memory nothing is written.
+    ensures memory { result ≡ 5 → Gave (S.rest src.old) (S.rest src.new) × Keeps (K.got out.old) (K.got out.new) }
+    // A source or a sink is blamed only where its count of faults rose.
+    ensures source_failed { result ≡ 3 → Rose (S.faults src.old) (S.faults src.new) }
+    ensures sink_failed { result ≡ 4 → Rose (K.faults out.old) (K.faults out.new) }
+    ensures source_later { S.faults src.old ≤ S.faults src.new }
+    ensures sink_later { K.faults out.old ≤ K.faults out.new }
+{
+    filter(alloc, Filter::Lang, src, out)
+}
+
 /// Reads one line of hex, the bytes of a raw image, and writes the image's text, or why the line
 /// (`input S2`, `input S6` or `input S1`) or the image (`L1`, `L2`, `L4` or `L6 PC`) is refused.
 ///
@@ -178,12 +207,7 @@ pub fn box_image<S: Source, K: Sink>(alloc: Global, keys: &Keys, src: &mut S, ou
 /// The answer is the exit status: 0 for an image, 2 for a refused line, 3 for a source and 4 for a sink that
 /// failed, 5 for want of memory, 6 for an image that is refused, 7 for an input of more than 16,777,216
 /// bytes. Nothing is written with 3, 5 and 7.
-pub fn check_image<S: Source, K: Sink>(
-    alloc: Global,
-    keys: &Keys,
-    src: &mut S,
-    out: &mut K,
-) -> u8
+pub fn check_image<S: Source, K: Sink>(alloc: Global, keys: &Keys, src: &mut S, out: &mut K) -> u8
     // No other status comes.
     ensures statuses { (result ≡ 0) ⊎ (result ≡ 2) ⊎ (result ≡ 3) ⊎ (result ≡ 4) ⊎ (result ≡ 5) ⊎ (result ≡ 6) ⊎ (result ≡ 7) }
     // The status and the bytes written are those of the answer to the bytes that were taken.
@@ -210,12 +234,7 @@ pub fn check_image<S: Source, K: Sink>(
 /// The answer is the exit status: 0 for an image, 2 for a refused line, 3 for a source and 4 for a sink that
 /// failed, 5 for want of memory, 6 for an image that is refused, 7 for an input of more than 16,777,216
 /// bytes. Nothing is written with 3, 5 and 7.
-pub fn reseal_image<S: Source, K: Sink>(
-    alloc: Global,
-    keys: &Keys,
-    src: &mut S,
-    out: &mut K,
-) -> u8
+pub fn reseal_image<S: Source, K: Sink>(alloc: Global, keys: &Keys, src: &mut S, out: &mut K) -> u8
     // No other status comes.
     ensures statuses { (result ≡ 0) ⊎ (result ≡ 2) ⊎ (result ≡ 3) ⊎ (result ≡ 4) ⊎ (result ≡ 5) ⊎ (result ≡ 6) ⊎ (result ≡ 7) }
     // The status and the bytes written are those of the answer to the bytes that were taken.

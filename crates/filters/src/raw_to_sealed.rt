@@ -17,12 +17,7 @@ use kernel_model::NoMemory;
 use std::alloc::Global;
 
 /// The answer to boxed code and data: the sealed image as hex.
-fn sealed_line(
-    alloc: Global,
-    keys: &Keys,
-    code: &[Instr],
-    body: &[u8],
-) -> Result<Answer, NoMemory>
+fn sealed_line(alloc: Global, keys: &Keys, code: &[Instr], body: &[u8]) -> Result<Answer, NoMemory>
     requires code_len { length code.now ≤ 1024 }
     requires code_fits { list_all fits code.now ≡ true }
     requires body_len { length body.now ≤ 4096 }

@@ -1,11 +1,11 @@
 //! What `asm` answers to a text.
 
-ghost use Rattle.std.specs.Prelude.{◌≡◌, ◌≤◌, [], length, Ok, Err, IfOk};
+ghost use Rattle.std.specs.Prelude.{◌≡◌, ◌≤◌, [], length, Err, IfOk};
 ghost use Rattle.kernel_model.specs.Outcome.{SCRIPT_BYTES};
 ghost use Rattle.kernel_model.specs.Filters as spec;
 
 use crate::answer::Answer;
-use crate::text::{add, add_spaced, hex_of};
+use crate::text::hex_of;
 use gm_asm::{AsmFault, AsmKind, assemble};
 use gm_image::{RawImage, write_raw};
 use kernel_model::NoMemory;
@@ -29,17 +29,12 @@ fn kind_text(kind: AsmKind) -> &'static [u8]
 fn refused_line(alloc: Global, line: u32, kind: AsmKind) -> Result<Answer, NoMemory>
     ensures { IfOk result (λ a. a ≡ spec.asm_answer (Err (record { line = line; kind = kind }))) }
 {
-    let mut text = Vec::new(alloc);
-    add(&mut text, b"asm")?;
-    add_spaced(&mut text, line)?;
-    add(&mut text, b" ")?;
-    add(&mut text, kind_text(kind))?;
-    Answer::line(2, text)
+    Answer::refused_line(alloc, b"asm", line, kind_text(kind))
 }
 
 /// The answer to a text that writes this image.
-fn image_line(alloc: Global, image: &RawImage) -> Result<Answer, NoMemory>
-    ensures { IfOk result (λ a. a ≡ spec.asm_answer (Ok image.now)) }
+pub(crate) fn image_line(alloc: Global, image: &RawImage) -> Result<Answer, NoMemory>
+    ensures { IfOk result (λ a. a ≡ spec.raw_answer image.now) }
 {
     let bytes = write_raw(alloc, image)?;
     let digits = hex_of(alloc, bytes.as_slice())?;
