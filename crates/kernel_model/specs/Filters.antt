@@ -1,5 +1,5 @@
--- What `box`, `check`, `reseal`, `asm` and `dis` write about their input, and with which status they end.
-use Rattle.std.specs.Prelude.{ℕ, ◌==◌, true, false, List, [], ◌∷◌, ◌++◌, codes, Option, None, Some, Result, Ok, Err}
+-- What `box`, `check`, `reseal`, `asm`, `dis` and `lang` write about their input, and with which status they end.
+use Rattle.std.specs.Prelude.{◌≡◌, ℕ, ◌==◌, true, false, List, [], ◌∷◌, ◌++◌, codes, Option, None, Some, Result, Ok, Err}
 use Rattle.kernel_model.specs.declared.Instr.{Instr}
 use Rattle.kernel_model.specs.Bytes.{hex_text, hex_word}
 use Rattle.kernel_model.specs.World.{Image}
@@ -11,6 +11,11 @@ use Rattle.kernel_model.specs.declared.AsmKind.TheVariants.{UnknownMnemonic, Bad
 use Rattle.kernel_model.specs.Assembler.{LineFault, assemble, disassemble}
 use Rattle.kernel_model.specs.Text.{spaced, line, load_fault_text, image_text}
 use Rattle.kernel_model.specs.Outcome.{Ending, End, Fault, Over}
+use Rattle.kernel_model.specs.declared.language.LangKind.{LangKind}
+use Rattle.kernel_model.specs.declared.language.LangKind.TheVariants.{NoToken, NoProgram, UnknownVariable, WrongArguments, TooDeep, TooManyTokens}
+use Rattle.kernel_model.specs.LanguageReading.{Syntax, read}
+use Rattle.kernel_model.specs.LanguageReading as language
+use Rattle.kernel_model.specs.LanguageImages.{IsCompiled}
 
 -- what is asked of the input, under which keys
 pub data Filter : Type 0 where
@@ -19,6 +24,7 @@ pub data Filter : Type 0 where
   Reseal : Keys → Filter
   Asm : Filter
   Dis : Filter
+  Lang : Filter
 
 -- a status, and the bytes written
 pub record Answer : Type 0 where
@@ -91,10 +97,14 @@ asm_kind_text BadData = codes "A6"
 abbrev pub line_fault_text : LineFault → List ℕ
 line_fault_text fault = codes "asm" ++ spaced fault.line ++ codes " " ++ asm_kind_text fault.kind
 
+-- a raw image as hex
+abbrev pub raw_answer : Image → Answer
+raw_answer i = answer 0 (line (hex_text (raw_image i.code i.body)))
+
 -- a raw image as hex, or the refused line
 abbrev pub asm_answer : Result Image LineFault → Answer
 asm_answer (Err fault) = answer 2 (line (line_fault_text fault))
-asm_answer (Ok i) = answer 0 (line (hex_text (raw_image i.code i.body)))
+asm_answer (Ok i) = raw_answer i
 
 -- the answer to the bytes of the input
 abbrev pub bytes_answer : Filter → List ℕ → Answer
@@ -102,14 +112,14 @@ bytes_answer (Box keys) bytes = box_answer keys (read_raw bytes)
 bytes_answer (Check keys) bytes = check_answer (load keys bytes)
 bytes_answer (Reseal keys) bytes = reseal_answer (reseal keys bytes)
 bytes_answer Dis bytes = dis_answer (read_raw bytes)
-bytes_answer Asm bytes = answer 0 []
+bytes_answer _ bytes = answer 0 []
 
 -- the answer to a line of hex
 abbrev pub hex_answer : Filter → Result (List ℕ) (List ℕ) → Answer
 hex_answer f (Err text) = answer 2 (line text)
 hex_answer f (Ok bytes) = bytes_answer f bytes
 
--- the answer to a whole input
+-- the answer to a whole input, of every filter but `lang`
 abbrev pub input_answer : Filter → List ℕ → Answer
 input_answer Asm input = asm_answer (assemble input)
 input_answer f input = hex_answer f (hex_line input)
@@ -119,3 +129,38 @@ abbrev pub filter_answer : Filter → List ℕ → Ending → Answer
 filter_answer f taken End = input_answer f taken
 filter_answer f taken Fault = answer 3 []
 filter_answer f taken Over = answer 7 []
+
+-- ---- the compiler, which may choose among the images of a text
+
+-- the code of a refusal
+abbrev pub lang_kind_text : LangKind → List ℕ
+lang_kind_text NoToken = codes "G1"
+lang_kind_text NoProgram = codes "G2"
+lang_kind_text UnknownVariable = codes "G3"
+lang_kind_text WrongArguments = codes "G4"
+lang_kind_text TooDeep = codes "G5"
+lang_kind_text TooManyTokens = codes "G6"
+
+-- a line of the graft language that is refused
+abbrev pub lang_fault_text : language.LineFault → List ℕ
+lang_fault_text fault = codes "lang" ++ spaced fault.line ++ codes " " ++ lang_kind_text fault.kind
+
+-- the refusal of a line
+abbrev pub lang_refusal : language.LineFault → Answer
+lang_refusal fault = answer 2 (line (lang_fault_text fault))
+
+-- the hex of an image of this text
+pub record WritesImageOf (text : List ℕ) (a : Answer) : Type 0 where
+  pub image : Image
+  pub is_compiled : IsCompiled text image
+  pub is_written : a ≡ raw_answer image
+
+-- an answer of `lang` to a text of which this is read: the refusal, or an image of the text
+abbrev pub AnswersText : (text : List ℕ) → Result Syntax language.LineFault → Answer → Type 0
+AnswersText text (Err fault) a = a ≡ lang_refusal fault
+AnswersText text (Ok syntax) a = WritesImageOf text a
+
+-- an answer to an input that was taken so far and ended so
+abbrev pub Answers : Filter → List ℕ → Ending → Answer → Type 0
+Answers Lang taken End a = AnswersText taken (read taken) a
+Answers f taken ending a = a ≡ filter_answer f taken ending
