@@ -30,9 +30,9 @@ const NEWEST: [[u8; 8]; 4] = [
 
 /// A line that loads a sealed image of this code.
 fn image_line(slot: u32, code: &[[u8; 8]]) -> String {
-    let mut bytes = b"VGR1\x01\0\0\0".to_vec();
+    let mut bytes = b"VGR1\x02\0\0\0".to_vec();
     bytes.extend((code.len() as u32).to_le_bytes());
-    bytes.extend([0; 4]);
+    bytes.extend([0; 12]);
     bytes.extend(code.as_flattened());
     let seal = hmac(&KEY, &bytes);
     bytes.extend(seal);

@@ -3,7 +3,8 @@
 use crate::machine::{Instruction, Operation, ROOM};
 use crate::sha256::hmac;
 
-const HEAD: usize = 16;
+/// The bytes before the code, in versions 1 and 2.
+const HEADS: [usize; 2] = [16, 24];
 const SEAL: usize = 32;
 const MOST_DATA: usize = 4_096;
 
@@ -19,26 +20,36 @@ pub struct Image {
 /// Why an image is refused: the number of the code, and the place where it tells one.
 pub struct Fault(pub u8, pub Option<usize>);
 
-/// The image of sealed bytes.
+/// The image of sealed bytes. There is one key, number 0.
 pub fn load(key: &[u8; 32], bytes: &[u8]) -> Result<Box<Image>, Fault> {
     let word =
         |at: usize| u32::from_le_bytes([bytes[at], bytes[at + 1], bytes[at + 2], bytes[at + 3]]);
-    if bytes.len() < HEAD + SEAL {
+    if bytes.len() < HEADS[0] + SEAL {
         return Err(Fault(1, None));
     }
     if &bytes[..4] != b"VGR1" {
         return Err(Fault(2, None));
     }
-    if word(4) != 1 {
-        return Err(Fault(3, None));
+    let head = match word(4) {
+        version @ 1..=2 => HEADS[version as usize - 1],
+        _ => return Err(Fault(3, None)),
+    };
+    if bytes.len() < head + SEAL {
+        return Err(Fault(1, None));
     }
     let (count, length) = (word(8) as usize, word(12) as usize);
     if count > ROOM || length > MOST_DATA {
         return Err(Fault(4, None));
     }
-    let data = HEAD + 8 * count;
+    let data = head + 8 * count;
     if bytes.len() != data + length + SEAL {
         return Err(Fault(1, None));
+    }
+    if head > HEADS[0] && word(16) != 0 {
+        return Err(Fault(12, None));
+    }
+    if head > HEADS[0] && word(20) != 0 {
+        return Err(Fault(13, None));
     }
     let (text, seal) = bytes.split_at(data + length);
     let differs =
@@ -52,7 +63,7 @@ pub fn load(key: &[u8; 32], bytes: &[u8]) -> Result<Box<Image>, Fault> {
         data: text[data..].to_vec(),
         has_access: false,
     });
-    for (place, bytes) in text[HEAD..data].chunks_exact(8).enumerate() {
+    for (place, bytes) in text[head..data].chunks_exact(8).enumerate() {
         let bytes = bytes.try_into().expect("eight bytes");
         image.code[place] = Instruction::decode(bytes).ok_or(Fault(6, Some(place)))?;
     }

@@ -1,14 +1,14 @@
 //! The lines of the generated script, one after another.
 
 ghost use Rattle.std.specs.Prelude.{◌≡◌, ℕ, ◌∷◌, ◌++◌, [], List, length, ◌≤◌, ◌<◌, ◌^◌, true, false, IsTrue, IfOk, OnOk, flat_map};
-ghost use Rattle.kernel_model.specs.Demo.{demo_key, demo_lines};
-ghost use Rattle.kernel_model.specs.Images.{sealed_image};
+ghost use Rattle.kernel_model.specs.Demo.{demo_keys, demo_lines};
+ghost use Rattle.kernel_model.specs.Images.{sealed_under};
 ghost use Rattle.kernel_model.specs.Text as text;
 
 use crate::drawn::{next_draw, print_draw};
 use crate::grafts::{newest_frame, three};
 use crate::head::{HEAD_LINES, print_head};
-use graft_loader::seal;
+use graft_loader::{Keys, seal_under};
 use kernel_model::NoMemory;
 use line_text::Text;
 use std::alloc::Global;
@@ -17,8 +17,11 @@ use std::marker::Model;
 /// How many lines are drawn.
 const DRAWN_LINES: u16 = 5000;
 
-/// The key of the script's images.
-const KEY: [u8; 32] = [0; 32];
+/// The keys of the script's images.
+const KEYS: Keys = Keys {
+    first: [0; 32],
+    second: None,
+};
 
 /// The lines of the script of a number, one after another. Contracts see the lines that are to come.
 #[derive(Drop)]
@@ -51,8 +54,8 @@ impl DemoLines {
     pub fn new(alloc: Global, n: u32) -> Result<DemoLines, NoMemory>
         ensures { IfOk result (λ lines. lines ≡ demo_lines n) }
     {
-        let three = seal(alloc, &KEY, &three(), &[])?;
-        let newest = seal(alloc, &KEY, &newest_frame(), &[])?;
+        let three = seal_under(alloc, &KEYS, &three(), &[])?;
+        let newest = seal_under(alloc, &KEYS, &newest_frame(), &[])?;
         Ok(DemoLines {
             head: 0,
             draws: DRAWN_LINES,

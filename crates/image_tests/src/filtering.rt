@@ -4,7 +4,8 @@ ghost use Rattle.std.specs.Prelude.{◌≡◌, ◌<◌, ◌≤◌, None, length,
 ghost use Rattle.std.specs.Io.KnownBytes.{ReadConsumes, WriteAppends};
 ghost use Rattle.vino_base.specs.Faults.{HasCause};
 
-use filters::{asm, box_image, check_image, dis};
+use filters::{asm, box_image, check_image, dis, reseal_image};
+use graft_loader::Keys;
 use std::alloc::Global;
 use std::process::Abort;
 use std::test::Fail;
@@ -86,20 +87,24 @@ fn slow_sink(alloc: Global, failing: u64) -> SlowSink {
 
 fn run<S: Source, K: Sink>(alloc: Global, word: &str, src: &mut S, out: &mut K) -> u8 {
     match word {
-        "box" => box_image(alloc, &KEY, src, out),
-        "check" => check_image(alloc, &KEY, src, out),
+        "box" => box_image(alloc, &KEYS, src, out),
+        "check" => check_image(alloc, &KEYS, src, out),
+        "reseal" => reseal_image(alloc, &KEYS, src, out),
         "asm" => asm(alloc, src, out),
         _ => dis(alloc, src, out),
     }
 }
 
-const KEY: [u8; 32] = [7; 32];
+const KEYS: Keys = Keys {
+    first: [7; 32],
+    second: None,
+};
 
 const RET: &str = "5647523001000000000000001a00000000000000\n";
 
 /// The same, boxed. Another program computed the seal.
 const SEALED: &str =
-    "564752310100000001000000000000001a00000000000000a435165fc65864f50bb033e7718df742ade60f082ab2230e6f9b10e7fd02950c\n";
+    "5647523102000000010000000000000000000000000000001a00000000000000a6ced61cf85546b0e83d146af583bacfac81ca9c755132b003bd6017eada7f4e\n";
 
 #[test]
 fn a_failing_read_writes_nothing(rt: HostRuntime) -> Result<(), Fail> {
@@ -109,6 +114,7 @@ fn a_failing_read_writes_nothing(rt: HostRuntime) -> Result<(), Fail> {
         ("dis", RET, "ret\n"),
         ("box", RET, SEALED),
         ("check", SEALED, "ok 1 0\n"),
+        ("reseal", SEALED, SEALED),
     ] {
         // So many calls give bytes, and one more says that there are none left.
         let calls = (input.len() as u64 + 4) / 5 + 1;
@@ -136,6 +142,7 @@ fn a_failing_write_leaves_a_part(rt: HostRuntime) -> Result<(), Fail> {
         ("dis", RET, "ret\n"),
         ("dis", "00", "input S6\n"),
         ("check", SEALED, "ok 1 0\n"),
+        ("reseal", SEALED, SEALED),
     ] {
         let calls = (output.len() as u64 + 2) / 3;
         for failing in 1..calls + 1 {

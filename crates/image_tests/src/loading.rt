@@ -2,11 +2,14 @@
 
 ghost use Rattle.std.specs.Prelude.{◌≤◌, length};
 
-use graft_loader::{Images, Instr, Loaded, Op, hmac, load, seal};
+use graft_loader::{Images, Instr, Keys, Loaded, Op, hmac, load, seal_under};
 use std::alloc::Global;
 use std::process::Abort;
 
-const KEY: [u8; 32] = [7; 32];
+const KEYS: Keys = Keys {
+    first: [7; 32],
+    second: None,
+};
 
 #[test]
 fn hmac_has_the_value_of_the_standard(rt: HostRuntime) {
@@ -30,8 +33,8 @@ fn image_with(rt: &impl Abort, alloc: Global, body: &[u8]) -> Loaded
         c: 0,
         imm: 0,
     };
-    let bytes = seal(alloc, &KEY, &[ret], body).expect(rt, "memory");
-    load(alloc, &KEY, bytes.as_slice()).expect(rt, "an image")
+    let bytes = seal_under(alloc, &KEYS, &[ret], body).expect(rt, "memory");
+    load(alloc, &KEYS, bytes.as_slice()).expect(rt, "an image")
 }
 
 #[test]

@@ -119,7 +119,7 @@ wants_free s text e going is loads = λ told a stands.
 -- a session goes on by an image line
 pub image_runs : (c : Place) (s t : Seen) (slot : ℕ) (bytes : List ℕ) (y : Placed) (answer : List ℕ) (out : Left) (d : DiskSeen) →
     s.booted ≡ true → t ≡ record s { placed = y; events = s.events + 1 } →
-    ((k : abstract.Kernel) → kernels.StandsFor plain s.placed k → IsAtRest plain k → ImageAnswers slot (load c.key bytes) k y answer) →
+    ((k : abstract.Kernel) → kernels.StandsFor plain s.placed k → IsAtRest plain k → ImageAnswers slot (load c.keys bytes) k y answer) →
     Says out (line (decimal (s.events + 1) ++ 32 ∷ answer)) → RunsEntry c (Loads slot bytes) s t d d out
 image_runs c s t slot bytes y answer out d booted state said written =
     let u = record s { placed = y; events = s.events + 1 } in
@@ -128,8 +128,8 @@ image_runs c s t slot bytes y answer out d booted state said written =
     let n = suc a.events in
     let number : s.events + 1 ≡ n = add-one s.events ∙ ap suc (sym stands.events) in
     let new = said has.kernel has.stands has.rests in
-    let run : after_entry present_build c.key c.size a (Loads slot bytes) rest ≡ after_image a n (new.kernel, answer) rest =
-    ap (λ (o : Option abstract.Kernel). running_in present_build c.key c.size a (Loads slot bytes) o rest) has.is
+    let run : after_entry present_build c.keys c.size a (Loads slot bytes) rest ≡ after_image a n (new.kernel, answer) rest =
+    ap (λ (o : Option abstract.Kernel). running_in present_build c.keys c.size a (Loads slot bytes) o rest) has.is
     ∙ ap (λ (r : abstract.Kernel × List ℕ). after_image a n r rest) new.is in
     subst (λ w. Comes u d.told out w rest) (sym run) (record {
       stands = record {

@@ -85,8 +85,8 @@ event_runs c s x what notes out d e booted h text kept =
           let r = event plain has.kernel a.blocks n what io in
           let is : EventIs plain r x notes e.told rest =
           subst (λ (m : ℕ). EventIs plain (event plain has.kernel a.blocks m what io) x notes e.told rest) number (h.is has.kernel a.blocks rest has.stands has.rests stands.blocks) in
-          let run : after_entry present_build c.key c.size a (Happens what) io ≡ after_event a n r =
-          ap (λ (o : Option abstract.Kernel). running_in present_build c.key c.size a (Happens what) o io) has.is in
+          let run : after_entry present_build c.keys c.size a (Happens what) io ≡ after_event a n r =
+          ap (λ (o : Option abstract.Kernel). running_in present_build c.keys c.size a (Happens what) o io) has.is in
           subst (λ w. Comes (record s { placed = x; events = s.events + 1 }) e.told out w rest) (sym run) (record {
             stands = record {
               setup = stands.setup;
@@ -106,7 +106,7 @@ event_runs c s x what notes out d e booted h text kept =
 -- what comes of a boot: block 0 was read, or that failed
 boot_comes : (c : Place) (s : Seen) (x : Placed) (io : List Bool) (note : BootNote) (out : Left) (told told_new : Option (List (List ℕ))) (a : Session) (rest : List Bool) →
     length io ≡ 1 → StandsFor s told a → BootIs plain s.setup c.size a.blocks io x note told_new → Says out (line (boot_line note)) →
-    Comes (record s { placed = x; booted = true }) told_new out (after_entry present_build c.key c.size a Boot (io ++ rest)) rest
+    Comes (record s { placed = x; booted = true }) told_new out (after_entry present_build c.keys c.size a Boot (io ++ rest)) rest
 boot_comes c s x (true ∷ []) note out told told_new a rest one stands is said =
     record {
       stands = record {
@@ -160,7 +160,7 @@ boot_runs c s x note out d e h said =
 -- a session went on by an entry that leaves the disk alone
 pub alone : (c : Place) (entry : Entry) (s t : Seen) (out : Left) (d : DiskSeen) →
     ((a : Session) (rest : List Bool) → StandsFor s d.told a →
-    Comes t d.told out (after_entry present_build c.key c.size a entry rest) rest) → RunsEntry c entry s t d d out
+    Comes t d.told out (after_entry present_build c.keys c.size a entry rest) rest) → RunsEntry c entry s t d d out
 alone c entry s t out d comes = record { io = []; made = made_none d.faults d.plan; comes = comes }
 
 -- a blank line
@@ -202,12 +202,12 @@ patience_runs c s kind ticks patience out d is silent =
 
 -- an entry after `boot` that stands before it
 pub unbooted_runs : (c : Place) (entry : Entry) (s : Seen) (out : Left) (d : DiskSeen) → ((a : Session) (rest : List Bool) →
-    after_entry present_build c.key c.size a entry rest ≡ running_in present_build c.key c.size a entry a.kernel rest) →
+    after_entry present_build c.keys c.size a entry rest ≡ running_in present_build c.keys c.size a entry a.kernel rest) →
     s.booted ≡ false → Says out [] → RunsEntry c entry s s d d out
 unbooted_runs c entry s out d runs booted said =
     alone c entry s s out d (λ a rest stands.
-    let run : after_entry present_build c.key c.size a entry rest ≡ silent a rest =
-    runs a rest ∙ ap (λ (o : Option abstract.Kernel). running_in present_build c.key c.size a entry o rest) (stands.unbooted booted) in
+    let run : after_entry present_build c.keys c.size a entry rest ≡ silent a rest =
+    runs a rest ∙ ap (λ (o : Option abstract.Kernel). running_in present_build c.keys c.size a entry o rest) (stands.unbooted booted) in
     subst (λ w. Comes s d.told out w rest) (sym run) (record { stands = stands; left = refl; bytes = said.bytes_are; notes = said.no_notes }))
 
 -- the rows of the kernel's whole state
@@ -219,8 +219,8 @@ raw_runs shown c s out d booted said =
     let has = stands.booted booted in
     let n = suc a.events in
     let number = next_number s d.told a stands in
-    let run : after_entry present_build c.key c.size a Raw rest ≡ says (record a { events = n }) (row_lines n (raw_rows plain has.kernel)) rest =
-    ap (λ (o : Option abstract.Kernel). running_in present_build c.key c.size a Raw o rest) has.is in
+    let run : after_entry present_build c.keys c.size a Raw rest ≡ says (record a { events = n }) (row_lines n (raw_rows plain has.kernel)) rest =
+    ap (λ (o : Option abstract.Kernel). running_in present_build c.keys c.size a Raw o rest) has.is in
     subst (λ w. Comes (record s { events = s.events + 1 }) d.told out w rest) (sym run) (record {
       stands = record {
         setup = stands.setup;
@@ -253,7 +253,7 @@ line_after_refusal c s text out d refused said =
           let is : line_run c a text rest ≡ silent a rest =
           ap (λ (b : Bool). elim b as (λ _. Written) [
             | true ↦ silent a rest
-            | false ↦ after_parse present_build c.key c.size (record a { lines = suc a.lines }) (parsed_line (is_some a.kernel) text) rest
+            | false ↦ after_parse present_build c.keys c.size (record a { lines = suc a.lines }) (parsed_line (is_some a.kernel) text) rest
           ]) (stands.refused ∙ refused) in
           subst (λ w. Comes s d.told out w rest) (sym is) (record { stands = stands; left = refl; bytes = said.bytes_are; notes = said.no_notes });
     }
@@ -261,15 +261,15 @@ line_after_refusal c s text out d refused said =
 -- a line of a session that goes on is what its words say
 line_parsed : (c : Place) (s : Seen) (told : Option (List (List ℕ))) (a : Session) (text : List ℕ) (said : Result Entry ScriptFault) (io : List Bool) →
     StandsFor s told a → s.refused ≡ false → parsed_line s.booted text ≡ said →
-    line_run c a text io ≡ after_parse present_build c.key c.size (record a { lines = suc a.lines }) said io
+    line_run c a text io ≡ after_parse present_build c.keys c.size (record a { lines = suc a.lines }) said io
 line_parsed c s told a text said io stands going is =
     let u = record a { lines = suc a.lines } in
     ap (λ (refused : Bool). elim refused as (λ _. Written) [
       | true ↦ silent a io
-      | false ↦ after_parse present_build c.key c.size u (parsed_line (is_some a.kernel) text) io
+      | false ↦ after_parse present_build c.keys c.size u (parsed_line (is_some a.kernel) text) io
     ]) (stands.refused ∙ going)
-    ∙ ap (λ (b : Bool). after_parse present_build c.key c.size u (parsed_line b text) io) (kernel_is_some s told a s.booted stands refl)
-    ∙ ap (λ (r : Result Entry ScriptFault). after_parse present_build c.key c.size u r io) is
+    ∙ ap (λ (b : Bool). after_parse present_build c.keys c.size u (parsed_line b text) io) (kernel_is_some s told a s.booted stands refl)
+    ∙ ap (λ (r : Result Entry ScriptFault). after_parse present_build c.keys c.size u r io) is
 
 -- a session whose next line was counted
 counted : (s : Seen) (told : Option (List (List ℕ))) (a : Session) → StandsFor s told a → StandsFor (record s { lines = s.lines + 1 }) told (record a { lines = suc a.lines })

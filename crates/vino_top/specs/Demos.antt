@@ -4,7 +4,7 @@ use Rattle.disk_log.specs.Calls.{Tells}
 use Rattle.disk_log.specs.Seen.{DiskSeen}
 use Rattle.kernel_model.specs.World.{Blocks}
 use Rattle.kernel_model.specs.Session.{Session, Written, after_lines}
-use Rattle.kernel_model.specs.Demo.{demo_key, demo_lines, summary}
+use Rattle.kernel_model.specs.Demo.{demo_keys, demo_lines, summary}
 use Rattle.demo_text.specs.declared.tally.Tally.{Tally}
 use Rattle.demo_text.specs.Tallies.{IsTally}
 use Rattle.vino_top.specs.Built.{present_build}
@@ -13,7 +13,7 @@ use Rattle.vino_top.specs.Run.{Place, place, lines_run, UsesAll, MadeAll, Whenev
 
 -- what all these lines make of a session, and what they write
 abbrev pub all_run : Place → Session → List (List ℕ) → List (List Bool) → Written
-all_run c a texts ios = after_lines present_build c.key c.size a texts ios
+all_run c a texts ios = after_lines present_build c.keys c.size a texts ios
 
 -- The session went on by these lines, which took the disk from the one to the other and left `out` behind, in all.
 pub record RanLines (c : Place) (texts : List (List ℕ)) (s t : Seen) (d e : DiskSeen) (out : Left) : Type 0 where
@@ -38,9 +38,9 @@ pub record IsFew (out : Left) (lines : ℕ) : Type 0 where
 
 -- ---- the generated script
 
--- where it runs: its key is 32 zero bytes
+-- where it runs: its first key is 32 zero bytes, and there is no second
 abbrev pub demo_place : (size : ℕ) → Place
-demo_place size = place demo_key size
+demo_place size = place demo_keys size
 
 -- the line that tells of it, over these blocks
 abbrev pub demo_told : (n size : ℕ) → Blocks → List (List Bool) → List ℕ

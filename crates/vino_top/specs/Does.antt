@@ -8,11 +8,11 @@ use Rattle.kernel_model.specs.Filters as filter
 use Rattle.filters.specs.Filtered.{AppendsPart}
 use Rattle.filters.specs.Filtered as filtered
 use Rattle.vino_top.specs.declared.words.Asked.{Asked}
-use Rattle.vino_top.specs.declared.words.Asked.TheVariants.{Run, Box, Check, Asm, Dis, Demo, Nothing}
+use Rattle.vino_top.specs.declared.words.Asked.TheVariants.{Run, Box, Check, Reseal, Asm, Dis, Demo, Nothing}
 use Rattle.vino_top.specs.Run.{Place, place, Ran, Broke, Lacked}
 use Rattle.vino_top.specs.Demos.{DemoRan, DemoLacked}
 
--- a script was run under this key, over a disk of this size
+-- a script was run under these keys, over a disk of this size
 pub record RunDoes (c : Place) (rest rest_new : Option (List ℕ)) (before now : ℕ) (got got_new : Option (List ℕ)) (d e : DiskSeen) (status : ℕ) : Type 0 where
   pub known : status ≢ 1
   -- the status, the lines and the disk's blocks are those of the outcome
@@ -22,13 +22,13 @@ pub record RunDoes (c : Place) (rest rest_new : Option (List ℕ)) (before now :
   -- want of memory stopped the run before its first byte, or at an `image` line: the lines before it are written
   pub memory : status ≡ 5 → Keeps rest rest_new × Keeps got got_new × (e ≡ d) ⊎ Lacked c rest rest_new got got_new d e
 
--- a filter read its input, and answered under this key; the disk stays
-pub record FilterDoes (f : Filter) (key : List ℕ) (rest rest_new : Option (List ℕ)) (before now : ℕ) (got got_new : Option (List ℕ)) (d e : DiskSeen) (status : ℕ) : Type 0 where
+-- a filter read its input, and answered under its keys; the disk stays
+pub record FilterDoes (f : Filter) (rest rest_new : Option (List ℕ)) (before now : ℕ) (got got_new : Option (List ℕ)) (d e : DiskSeen) (status : ℕ) : Type 0 where
   pub known : status ≢ 1
   -- the status and the bytes are those of the filter's answer
-  pub ran : status ≢ 4 → status ≢ 5 → filtered.Ran f key rest rest_new before now got got_new status
+  pub ran : status ≢ 4 → status ≢ 5 → filtered.Ran f rest rest_new before now got got_new status
   -- the sink failed: it took a part of the answer, not whole
-  pub broke : status ≡ 4 → filtered.Broke f key rest rest_new before now got got_new
+  pub broke : status ≡ 4 → filtered.Broke f rest rest_new before now got got_new
   -- with no memory nothing is written
   pub memory : status ≡ 5 → filtered.Gave rest rest_new × Keeps got got_new
   pub disk : e ≡ d
@@ -49,10 +49,11 @@ DemoDoes n size rest rest_new got got_new d e status =
 
 -- what is done for what the words ask, over a disk of this size
 abbrev pub Does : Asked → (size : ℕ) → (rest rest_new : Option (List ℕ)) → (before now : ℕ) → (got got_new : Option (List ℕ)) → (d e : DiskSeen) → (status : ℕ) → Type 0
-Does (Run key) size rest rest_new before now got got_new d e status = RunDoes (place key size) rest rest_new before now got got_new d e status
-Does (Box key) size rest rest_new before now got got_new d e status = FilterDoes filter.Box key rest rest_new before now got got_new d e status
-Does (Check key) size rest rest_new before now got got_new d e status = FilterDoes filter.Check key rest rest_new before now got got_new d e status
-Does Asm size rest rest_new before now got got_new d e status = FilterDoes filter.Asm [] rest rest_new before now got got_new d e status
-Does Dis size rest rest_new before now got got_new d e status = FilterDoes filter.Dis [] rest rest_new before now got got_new d e status
+Does (Run keys) size rest rest_new before now got got_new d e status = RunDoes (place keys size) rest rest_new before now got got_new d e status
+Does (Box keys) size rest rest_new before now got got_new d e status = FilterDoes (filter.Box keys) rest rest_new before now got got_new d e status
+Does (Check keys) size rest rest_new before now got got_new d e status = FilterDoes (filter.Check keys) rest rest_new before now got got_new d e status
+Does (Reseal keys) size rest rest_new before now got got_new d e status = FilterDoes (filter.Reseal keys) rest rest_new before now got got_new d e status
+Does Asm size rest rest_new before now got got_new d e status = FilterDoes filter.Asm rest rest_new before now got got_new d e status
+Does Dis size rest rest_new before now got got_new d e status = FilterDoes filter.Dis rest rest_new before now got got_new d e status
 Does (Demo n) size rest rest_new before now got got_new d e status = DemoDoes n size rest rest_new got got_new d e status
 Does Nothing size rest rest_new before now got got_new d e status = UsageDoes rest rest_new got got_new d e status

@@ -5,6 +5,7 @@ use Rattle.std.specs.Io.KnownBytes.{Appends, Consumes, IsAtEnd}
 use Rattle.filters.specs.Filtered.{HasEnded}
 use Rattle.disk_log.specs.Calls.{Tells, Made}
 use Rattle.disk_log.specs.Seen.{DiskSeen}
+use Rattle.kernel_model.specs.declared.Keys.{Keys}
 use Rattle.kernel_model.specs.declared.Note.{Note}
 use Rattle.kernel_model.specs.World.{Blocks}
 use Rattle.kernel_model.specs.Session.{Session, Written, first_session, after_line, after_entry, session_after, pieces_of, first_io, later_io}
@@ -23,26 +24,26 @@ use Rattle.vino_top.specs.declared.run.Stop.TheVariants.{SinkFailed, NoMemory}
 
 -- ---- the abstract run
 
--- where a script runs: the key of its images, and how many blocks its disk has
+-- where a script runs: the keys of its images, and how many blocks its disk has
 pub record Place : Type 0 where
-  pub key : List ℕ
+  pub keys : Keys
   pub size : ℕ
 
--- with this key, over a disk of this size
-abbrev pub place : (key : List ℕ) (size : ℕ) → Place
-place key size = record { key = key; size = size }
+-- with these keys, over a disk of this size
+abbrev pub place : Keys → (size : ℕ) → Place
+place keys size = record { keys = keys; size = size }
 
 -- what a line makes of a session, where the list says of each of its calls of the disk whether it fails
 abbrev pub line_run : Place → Session → List ℕ → List Bool → Written
-line_run c a text io = after_line present_build c.key c.size a text io
+line_run c a text io = after_line present_build c.keys c.size a text io
 
 -- the session after lines, with one such list for each line
 abbrev pub lines_run : Place → Session → List (List ℕ) → List (List Bool) → Session
-lines_run c a texts ios = session_after present_build c.key c.size a texts ios
+lines_run c a texts ios = session_after present_build c.keys c.size a texts ios
 
 -- what each of these lines writes
 abbrev pub pieces_run : Place → Session → List (List ℕ) → List (List Bool) → List (List ℕ)
-pieces_run c a texts ios = pieces_of present_build c.key c.size a texts ios
+pieces_run c a texts ios = pieces_of present_build c.keys c.size a texts ios
 
 -- The line makes these calls of the disk, no fewer and no more: whatever the calls behind them would do, it leaves those, writes
 -- the same bytes and comes to the same blocks.
@@ -63,7 +64,7 @@ first_on size blocks = first_session (record { size = size; block = blocks })
 
 -- the outcome of a run that took these bytes and ended so
 abbrev pub outcome_at : Place → Blocks → (taken : List ℕ) → Ending → List (List Bool) → Outcome
-outcome_at c blocks taken e ios = outcome present_build c.key taken e (record { size = c.size; block = blocks }) ios
+outcome_at c blocks taken e ios = outcome present_build c.keys taken e (record { size = c.size; block = blocks }) ios
 
 -- ---- the disk
 
@@ -110,7 +111,7 @@ pub record RunsEntry (c : Place) (entry : Entry) (s t : Seen) (d e : DiskSeen) (
   pub io : List Bool
   pub made : Made d.faults e.faults d.plan e.plan io
   pub comes : (a : Session) (rest : List Bool) → StandsFor s d.told a →
-      Comes t e.told out (after_entry present_build c.key c.size a entry (io ++ rest)) rest
+      Comes t e.told out (after_entry present_build c.keys c.size a entry (io ++ rest)) rest
 
 -- what is written of a boot
 abbrev pub boot_line : BootNote → List ℕ

@@ -17,14 +17,18 @@ ghost use Rattle.vino_top.specs.Demos.{demo_place, HasRoom, DemoRan, DemoLacked,
 use crate::session::{Buffers, Session};
 use demo_text::{DemoLines, Tally};
 use filters::write_all;
+use graft_loader::Keys;
 use graft_points::Policy;
 use kernel_model::NoMemory;
 use line_text::Text;
 use std::alloc::Global;
 use vino_base::{Disk, Sink};
 
-/// The key of the script's images.
-const KEY: [u8; 32] = [0; 32];
+/// The keys of the script's images.
+const KEYS: Keys = Keys {
+    first: [0; 32],
+    second: None,
+};
 
 /// A run of the generated script: its session, what a line leaves behind, and what all lines came to.
 #[derive(Drop)]
@@ -74,7 +78,7 @@ fn run_one<D: Disk>(
         ≡ disk_seen (D.blocks disk.old) (D.plan disk.old) (D.faults disk.old)) }
 {
     run.session
-        .run_line(alloc, &KEY, text, size, disk, &mut run.out)?;
+        .run_line(alloc, &KEYS, text, size, disk, &mut run.out)?;
     run.tally
         .add(run.out.lines.as_slice(), run.out.notes.list());
     Ok(())

@@ -27,6 +27,7 @@ mod words;
 use crate::words::Asked;
 pub use demo_text::demo_script;
 use filters::write_all;
+use graft_loader::Keys;
 use graft_points::Policy;
 use std::alloc::Global;
 use vino_base::{Disk, Sink, Source};
@@ -34,10 +35,10 @@ use vino_base::{Disk, Sink, Source};
 /// How many bytes are read at once, at most.
 const READ_BYTES: usize = 65_536;
 
-/// Does what the words ask: `run KEY` runs the script that the source gives, whose images are sealed under the key, `box KEY` boxes and seals the raw image that it
-/// gives, `check KEY` says whether a sealed image can be used, `asm` and `dis` assemble and disassemble what it gives,
-/// `demo N` runs the script that `demo_script` gives for N and tells of it in one line, and for other words the usage line
-/// is written.
+/// Does what the words ask. `run KEYS` runs the script that the source gives, whose images are sealed under these
+/// keys; `box KEYS` boxes and seals the raw image that it gives, `check KEYS` says whether a sealed image can be used,
+/// and `reseal KEYS` seals one anew under the last key; `asm` and `dis` assemble and disassemble what it gives; `demo N`
+/// runs the script that `demo_script` gives for N and tells of it in one line. For other words the usage line is written.
 ///
 /// The words are those after the program's own name. The answer is the exit status: 0 for an input that
 /// was done to its end, 1 for words that aren't in the grammar, 2 for a refused line, 3 for a source and 4
@@ -66,9 +67,10 @@ pub fn vino<S: Source, K: Sink, D: Disk>(
     ensures sink_later { K.faults out.old ≤ K.faults out.new }
 {
     match words::read_words(words) {
-        Asked::Run(key) => run_script(alloc, &key, src, out, disk, shelf),
-        Asked::Box(key) => filters::box_image(alloc, &key, src, out),
-        Asked::Check(key) => filters::check_image(alloc, &key, src, out),
+        Asked::Run(keys) => run_script(alloc, &keys, src, out, disk, shelf),
+        Asked::Box(keys) => filters::box_image(alloc, &keys, src, out),
+        Asked::Check(keys) => filters::check_image(alloc, &keys, src, out),
+        Asked::Reseal(keys) => filters::reseal_image(alloc, &keys, src, out),
         Asked::Asm => filters::asm(alloc, src, out),
         Asked::Dis => filters::dis(alloc, src, out),
         Asked::Demo(n) => demo::demo(alloc, n, out, disk, shelf),
@@ -76,10 +78,10 @@ pub fn vino<S: Source, K: Sink, D: Disk>(
     }
 }
 
-/// Runs the script that the source gives, with this key for its images.
+/// Runs the script that the source gives, with these keys for its images.
 fn run_script<S: Source, K: Sink, D: Disk>(
     alloc: Global,
-    key: &[u8; 32],
+    keys: &Keys,
     src: &mut S,
     out: &mut K,
     disk: &mut D,
@@ -87,13 +89,13 @@ fn run_script<S: Source, K: Sink, D: Disk>(
 ) -> u8
     requires shelf { IsShelf (map (λ b. seen b) shelf.items) }
     requires stock { pol_of (map (λ b. seen b) shelf.items) first_choice ≡ opening_policy }
-    ensures ran { result ≢ 4 → result ≢ 5 → Ran (place key.now (D.block_count disk.old)) (S.rest src.old) (S.rest src.new) (S.faults src.old) (S.faults src.new) (K.got out.old) (K.got out.new)
+    ensures ran { result ≢ 4 → result ≢ 5 → Ran (place keys.now (D.block_count disk.old)) (S.rest src.old) (S.rest src.new) (S.faults src.old) (S.faults src.new) (K.got out.old) (K.got out.new)
         (disk_seen (D.blocks disk.old) (D.plan disk.old) (D.faults disk.old)) (disk_seen (D.blocks disk.new) (D.plan disk.new) (D.faults disk.new)) result }
-    ensures broke { result ≡ 4 → Broke (place key.now (D.block_count disk.old)) (S.rest src.old) (S.rest src.new) (K.got out.old) (K.got out.new)
+    ensures broke { result ≡ 4 → Broke (place keys.now (D.block_count disk.old)) (S.rest src.old) (S.rest src.new) (K.got out.old) (K.got out.new)
         (disk_seen (D.blocks disk.old) (D.plan disk.old) (D.faults disk.old)) (disk_seen (D.blocks disk.new) (D.plan disk.new) (D.faults disk.new)) }
     ensures memory { result ≡ 5 → Keeps (S.rest src.old) (S.rest src.new) × Keeps (K.got out.old) (K.got out.new)
         × (disk_seen (D.blocks disk.new) (D.plan disk.new) (D.faults disk.new) ≡ disk_seen (D.blocks disk.old) (D.plan disk.old) (D.faults disk.old))
-        ⊎ Lacked (place key.now (D.block_count disk.old)) (S.rest src.old) (S.rest src.new) (K.got out.old) (K.got out.new)
+        ⊎ Lacked (place keys.now (D.block_count disk.old)) (S.rest src.old) (S.rest src.new) (K.got out.old) (K.got out.new)
         (disk_seen (D.blocks disk.old) (D.plan disk.old) (D.faults disk.old)) (disk_seen (D.blocks disk.new) (D.plan disk.new) (D.faults disk.new)) }
     ensures statuses { (result ≡ 0) ⊎ (result ≡ 2) ⊎ (result ≡ 3) ⊎ (result ≡ 4) ⊎ (result ≡ 5) ⊎ (result ≡ 7) }
     ensures source_later { S.faults src.old ≤ S.faults src.new }
@@ -103,7 +105,7 @@ fn run_script<S: Source, K: Sink, D: Disk>(
 {
     match run::Reader::new(alloc, shelf) {
         Err(_) => 5,
-        Ok(reader) => start(alloc, key, reader, src, out, disk),
+        Ok(reader) => start(alloc, keys, reader, src, out, disk),
     }
 }
 
@@ -122,7 +124,7 @@ fn write_usage<K: Sink>(out: &mut K) -> u8
 /// Runs a script from its beginning.
 fn start<S: Source, K: Sink, D: Disk>(
     alloc: Global,
-    key: &[u8; 32],
+    keys: &Keys,
     mut reader: run::Reader,
     src: &mut S,
     out: &mut K,
@@ -131,13 +133,13 @@ fn start<S: Source, K: Sink, D: Disk>(
     requires begun { IsBegun (seen_of (λ b. seen (b.vtable, b.value)) reader.session) }
     requires within { (size : ℕ) → IsSessionWithin (λ b. seen (b.vtable, b.value)) size reader.session }
     requires line { reader.line ≡ [] }
-    ensures ran { result ≢ 4 → result ≢ 5 → Ran (place key.now (D.block_count disk.old)) (S.rest src.old) (S.rest src.new) (S.faults src.old) (S.faults src.new) (K.got out.old) (K.got out.new)
+    ensures ran { result ≢ 4 → result ≢ 5 → Ran (place keys.now (D.block_count disk.old)) (S.rest src.old) (S.rest src.new) (S.faults src.old) (S.faults src.new) (K.got out.old) (K.got out.new)
         (disk_seen (D.blocks disk.old) (D.plan disk.old) (D.faults disk.old)) (disk_seen (D.blocks disk.new) (D.plan disk.new) (D.faults disk.new)) result }
-    ensures broke { result ≡ 4 → Broke (place key.now (D.block_count disk.old)) (S.rest src.old) (S.rest src.new) (K.got out.old) (K.got out.new)
+    ensures broke { result ≡ 4 → Broke (place keys.now (D.block_count disk.old)) (S.rest src.old) (S.rest src.new) (K.got out.old) (K.got out.new)
         (disk_seen (D.blocks disk.old) (D.plan disk.old) (D.faults disk.old)) (disk_seen (D.blocks disk.new) (D.plan disk.new) (D.faults disk.new)) }
     ensures memory { result ≡ 5 → Keeps (S.rest src.old) (S.rest src.new) × Keeps (K.got out.old) (K.got out.new)
         × (disk_seen (D.blocks disk.new) (D.plan disk.new) (D.faults disk.new) ≡ disk_seen (D.blocks disk.old) (D.plan disk.old) (D.faults disk.old))
-        ⊎ Lacked (place key.now (D.block_count disk.old)) (S.rest src.old) (S.rest src.new) (K.got out.old) (K.got out.new)
+        ⊎ Lacked (place keys.now (D.block_count disk.old)) (S.rest src.old) (S.rest src.new) (K.got out.old) (K.got out.new)
         (disk_seen (D.blocks disk.old) (D.plan disk.old) (D.faults disk.old)) (disk_seen (D.blocks disk.new) (D.plan disk.new) (D.faults disk.new)) }
     ensures statuses { (result ≡ 0) ⊎ (result ≡ 2) ⊎ (result ≡ 3) ⊎ (result ≡ 4) ⊎ (result ≡ 5) ⊎ (result ≡ 7) }
     ensures source_later { S.faults src.old ≤ S.faults src.new }
@@ -147,6 +149,6 @@ fn start<S: Source, K: Sink, D: Disk>(
 {
     match run::zeros(alloc, READ_BYTES) {
         Err(_) => 5,
-        Ok(mut buf) => run::run(alloc, key, &mut reader, &mut buf, src, out, disk),
+        Ok(mut buf) => run::run(alloc, keys, &mut reader, &mut buf, src, out, disk),
     }
 }

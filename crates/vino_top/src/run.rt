@@ -16,6 +16,7 @@ ghost use Rattle.graft_points.specs.Shelf.{IsShelf, pol_of, first_choice};
 
 use crate::session::{Buffers, Session};
 use filters::write_all;
+use graft_loader::Keys;
 use graft_points::Policy;
 use kernel_model::NoMemory;
 use script_text::{Fed, LineBuf};
@@ -85,7 +86,7 @@ fn write_lines<K: Sink>(reader: &Reader, out: &mut K) -> Result<(), Stop>
 /// The line has ended: it is run, and what it writes is written.
 fn end_line<K: Sink, D: Disk>(
     alloc: Global,
-    key: &[u8; 32],
+    keys: &Keys,
     reader: &mut Reader,
     size: u32,
     out: &mut K,
@@ -98,9 +99,9 @@ fn end_line<K: Sink, D: Disk>(
     ensures within { IsSessionWithin (λ b. seen (b.vtable, b.value)) size reader.new.session }
     ensures line { OnOk result (reader.new.line ≡ []) }
     ensures contents { MatchResult result
-        (λ _. TakesLine (place key.now size) reader.old.line (seen_of (λ b. seen (b.vtable, b.value)) reader.old.session) (seen_of (λ b. seen (b.vtable, b.value)) reader.new.session) (K.got out.old) (K.got out.new)
+        (λ _. TakesLine (place keys.now size) reader.old.line (seen_of (λ b. seen (b.vtable, b.value)) reader.old.session) (seen_of (λ b. seen (b.vtable, b.value)) reader.new.session) (K.got out.old) (K.got out.new)
         (disk_seen (D.blocks disk.old) (D.plan disk.old) (D.faults disk.old)) (disk_seen (D.blocks disk.new) (D.plan disk.new) (D.faults disk.new)))
-        (StopsAt (place key.now size) (StandsFor (seen_of (λ b. seen (b.vtable, b.value)) reader.old.session) (D.blocks disk.old)) (reader.old.line ∷ []) (K.got out.old) (K.got out.new)
+        (StopsAt (place keys.now size) (StandsFor (seen_of (λ b. seen (b.vtable, b.value)) reader.old.session) (D.blocks disk.old)) (reader.old.line ∷ []) (K.got out.old) (K.got out.new)
         (disk_seen (D.blocks disk.old) (D.plan disk.old) (D.faults disk.old)) (disk_seen (D.blocks disk.new) (D.plan disk.new) (D.faults disk.new))) }
     ensures later { K.faults out.old ≤ K.faults out.new }
     ensures sink_failed { result ≡ Err SinkFailed → Rose (K.faults out.old) (K.faults out.new) }
@@ -108,7 +109,7 @@ fn end_line<K: Sink, D: Disk>(
 {
     if let Err(_) = reader.session.run_line(
         alloc,
-        key,
+        keys,
         reader.line.line(),
         size,
         disk,
@@ -140,7 +141,7 @@ fn end_long<K: Sink>(reader: &mut Reader, byte: u8, out: &mut K) -> Result<(), S
 /// One byte of the script.
 fn take_byte<K: Sink, D: Disk>(
     alloc: Global,
-    key: &[u8; 32],
+    keys: &Keys,
     reader: &mut Reader,
     byte: u8,
     size: u32,
@@ -153,9 +154,9 @@ fn take_byte<K: Sink, D: Disk>(
     requires disk { D.block_count disk.old ≡ size }
     ensures within { IsSessionWithin (λ b. seen (b.vtable, b.value)) size reader.new.session }
     ensures contents { MatchResult result
-        (λ _. Feeds (place key.now size) (seen_of (λ b. seen (b.vtable, b.value)) reader.old.session) (seen_of (λ b. seen (b.vtable, b.value)) reader.new.session) reader.old.line reader.new.line (byte ∷ []) (K.got out.old) (K.got out.new)
+        (λ _. Feeds (place keys.now size) (seen_of (λ b. seen (b.vtable, b.value)) reader.old.session) (seen_of (λ b. seen (b.vtable, b.value)) reader.new.session) reader.old.line reader.new.line (byte ∷ []) (K.got out.old) (K.got out.new)
         (disk_seen (D.blocks disk.old) (D.plan disk.old) (D.faults disk.old)) (disk_seen (D.blocks disk.new) (D.plan disk.new) (D.faults disk.new)))
-        (StopsAt (place key.now size) (StandsFor (seen_of (λ b. seen (b.vtable, b.value)) reader.old.session) (D.blocks disk.old)) (lines_after reader.old.line (byte ∷ [])) (K.got out.old) (K.got out.new)
+        (StopsAt (place keys.now size) (StandsFor (seen_of (λ b. seen (b.vtable, b.value)) reader.old.session) (D.blocks disk.old)) (lines_after reader.old.line (byte ∷ [])) (K.got out.old) (K.got out.new)
         (disk_seen (D.blocks disk.old) (D.plan disk.old) (D.faults disk.old)) (disk_seen (D.blocks disk.new) (D.plan disk.new) (D.faults disk.new))) }
     ensures later { K.faults out.old ≤ K.faults out.new }
     ensures sink_failed { result ≡ Err SinkFailed → Rose (K.faults out.old) (K.faults out.new) }
@@ -163,7 +164,7 @@ fn take_byte<K: Sink, D: Disk>(
 {
     match reader.line.push(byte) {
         Fed::More => Ok(()),
-        Fed::Line => end_line(alloc, key, reader, size, out, disk),
+        Fed::Line => end_line(alloc, keys, reader, size, out, disk),
         Fed::TooLong => end_long(reader, byte, out),
     }
 }
@@ -171,7 +172,7 @@ fn take_byte<K: Sink, D: Disk>(
 /// Some bytes of the script, one after another.
 fn feed<K: Sink, D: Disk>(
     alloc: Global,
-    key: &[u8; 32],
+    keys: &Keys,
     reader: &mut Reader,
     bytes: &[u8],
     size: u32,
@@ -184,16 +185,16 @@ fn feed<K: Sink, D: Disk>(
     requires disk { D.block_count disk.old ≡ size }
     ensures within { IsSessionWithin (λ b. seen (b.vtable, b.value)) size reader.new.session }
     ensures contents { MatchResult result
-        (λ _. Feeds (place key.now size) (seen_of (λ b. seen (b.vtable, b.value)) reader.old.session) (seen_of (λ b. seen (b.vtable, b.value)) reader.new.session) reader.old.line reader.new.line bytes.now (K.got out.old) (K.got out.new)
+        (λ _. Feeds (place keys.now size) (seen_of (λ b. seen (b.vtable, b.value)) reader.old.session) (seen_of (λ b. seen (b.vtable, b.value)) reader.new.session) reader.old.line reader.new.line bytes.now (K.got out.old) (K.got out.new)
         (disk_seen (D.blocks disk.old) (D.plan disk.old) (D.faults disk.old)) (disk_seen (D.blocks disk.new) (D.plan disk.new) (D.faults disk.new)))
-        (StopsAt (place key.now size) (StandsFor (seen_of (λ b. seen (b.vtable, b.value)) reader.old.session) (D.blocks disk.old)) (lines_after reader.old.line bytes.now) (K.got out.old) (K.got out.new)
+        (StopsAt (place keys.now size) (StandsFor (seen_of (λ b. seen (b.vtable, b.value)) reader.old.session) (D.blocks disk.old)) (lines_after reader.old.line bytes.now) (K.got out.old) (K.got out.new)
         (disk_seen (D.blocks disk.old) (D.plan disk.old) (D.faults disk.old)) (disk_seen (D.blocks disk.new) (D.plan disk.new) (D.faults disk.new))) }
     ensures later { K.faults out.old ≤ K.faults out.new }
     ensures sink_failed { result ≡ Err SinkFailed → Rose (K.faults out.old) (K.faults out.new) }
     ensures same_size { D.block_count disk.new ≡ size }
 {
     for byte in bytes {
-        if let Err(stop) = take_byte(alloc, key, reader, *byte, size, out, disk) {
+        if let Err(stop) = take_byte(alloc, keys, reader, *byte, size, out, disk) {
             return Err(stop);
         }
     }
@@ -246,7 +247,7 @@ fn status_of(stop: Stop) -> u8
 /// Runs the script that the source gives, to its end or to the first thing that stops it. The status.
 pub fn run<S: Source, K: Sink, D: Disk>(
     alloc: Global,
-    key: &[u8; 32],
+    keys: &Keys,
     reader: &mut Reader,
     buf: &mut [u8],
     src: &mut S,
@@ -257,11 +258,11 @@ pub fn run<S: Source, K: Sink, D: Disk>(
     requires within { IsSessionWithin (λ b. seen (b.vtable, b.value)) (D.block_count disk.old) reader.old.session }
     requires line { reader.old.line ≡ [] }
     requires room { 0 < length buf.old }
-    ensures ran { result ≢ 4 → result ≢ 5 → Ran (place key.now (D.block_count disk.old)) (S.rest src.old) (S.rest src.new) (S.faults src.old) (S.faults src.new) (K.got out.old) (K.got out.new)
+    ensures ran { result ≢ 4 → result ≢ 5 → Ran (place keys.now (D.block_count disk.old)) (S.rest src.old) (S.rest src.new) (S.faults src.old) (S.faults src.new) (K.got out.old) (K.got out.new)
         (disk_seen (D.blocks disk.old) (D.plan disk.old) (D.faults disk.old)) (disk_seen (D.blocks disk.new) (D.plan disk.new) (D.faults disk.new)) result }
-    ensures broke { result ≡ 4 → Broke (place key.now (D.block_count disk.old)) (S.rest src.old) (S.rest src.new) (K.got out.old) (K.got out.new)
+    ensures broke { result ≡ 4 → Broke (place keys.now (D.block_count disk.old)) (S.rest src.old) (S.rest src.new) (K.got out.old) (K.got out.new)
         (disk_seen (D.blocks disk.old) (D.plan disk.old) (D.faults disk.old)) (disk_seen (D.blocks disk.new) (D.plan disk.new) (D.faults disk.new)) }
-    ensures lacked { result ≡ 5 → Lacked (place key.now (D.block_count disk.old)) (S.rest src.old) (S.rest src.new) (K.got out.old) (K.got out.new)
+    ensures lacked { result ≡ 5 → Lacked (place keys.now (D.block_count disk.old)) (S.rest src.old) (S.rest src.new) (K.got out.old) (K.got out.new)
         (disk_seen (D.blocks disk.old) (D.plan disk.old) (D.faults disk.old)) (disk_seen (D.blocks disk.new) (D.plan disk.new) (D.faults disk.new)) }
     ensures statuses { (result ≡ 0) ⊎ (result ≡ 2) ⊎ (result ≡ 3) ⊎ (result ≡ 4) ⊎ (result ≡ 5) ⊎ (result ≡ 7) }
     ensures source_failed { result ≡ 3 → Rose (S.faults src.old) (S.faults src.new) }
@@ -279,7 +280,7 @@ pub fn run<S: Source, K: Sink, D: Disk>(
             Ok(n) => {
                 let script = n.min(left - 1);
                 left -= n;
-                if let Err(stop) = feed(alloc, key, reader, &buf[..script], size, out, disk) {
+                if let Err(stop) = feed(alloc, keys, reader, &buf[..script], size, out, disk) {
                     return status_of(stop);
                 }
                 if reader.session.refused {

@@ -2,6 +2,7 @@
 
 ghost use Rattle.std.specs.Prelude.{◌≡◌, ℕ, ◌+◌, ◌<◌, ◌≤◌, ◌-◌, ◌++◌, ◌^◌, true, false, List, [], length, map, codes, decimal, slice_index_or, Ok, IfOk, OnOk, OnErr};
 ghost use Rattle.disk_log.specs.Seen.{DiskSeen, disk_seen};
+ghost use Rattle.kernel_model.specs.declared.Keys.{Keys};
 ghost use Rattle.kernel_model.specs.Objects.{at};
 ghost use Rattle.kernel_model.specs.Text.{line, spaced};
 ghost use Rattle.kernel_model.specs.Opening.{opening_policy};
@@ -16,7 +17,7 @@ ghost use Rattle.vino_top.specs.Run.{Place, place, LoadsFree, WantsAt, RunsLine,
 use crate::lines::Lines;
 use crate::loading::load_image;
 use call_pieces::Plain;
-use graft_loader::Images;
+use graft_loader::{Images, Keys};
 use graft_points::Policy;
 use kernel_core::{BootNote, Kernel, Notes, Setup};
 use kernel_model::{Event, NoMemory, Note, Refusal};
@@ -106,14 +107,14 @@ impl Session {
         }
     }
 
-    /// Runs the next line, under the key of the images and over a disk of so many blocks. What it writes stands in the
+    /// Runs the next line, under the keys of the images and over a disk of so many blocks. What it writes stands in the
     /// buffers.
     ///
     /// Memory is wanted for an image whose slot is in range and free, and for nothing else; where there is none, nothing changes.
     pub fn run_line<D: Disk>(
         &mut self,
         alloc: Global,
-        key: &[u8; 32],
+        keys: &Keys,
         text: &[u8],
         size: u32,
         disk: &mut D,
@@ -126,7 +127,7 @@ impl Session {
         ensures within { IsSessionWithin (λ b. seen (b.vtable, b.value)) size self.new }
         ensures counted { self.new.lines ≤ self.old.lines + 1 }
         ensures same_size { D.block_count disk.new ≡ size }
-        ensures ok { OnOk result (RunsLine (place key.now size) text.now (seen_of (λ b. seen (b.vtable, b.value)) self.old) (seen_of (λ b. seen (b.vtable, b.value)) self.new) (disk_seen (D.blocks disk.old) (D.plan disk.old) (D.faults disk.old)) (disk_seen (D.blocks disk.new) (D.plan disk.new) (D.faults disk.new)) (left_in out.new)) }
+        ensures ok { OnOk result (RunsLine (place keys.now size) text.now (seen_of (λ b. seen (b.vtable, b.value)) self.old) (seen_of (λ b. seen (b.vtable, b.value)) self.new) (disk_seen (D.blocks disk.old) (D.plan disk.old) (D.faults disk.old)) (disk_seen (D.blocks disk.new) (D.plan disk.new) (D.faults disk.new)) (left_in out.new)) }
         ensures err { OnErr result ((self.new ≡ self.old) × WantsAt (seen_of (λ b. seen (b.vtable, b.value)) self.old) text.now) }
         ensures same_disk { OnErr result (disk_seen (D.blocks disk.new) (D.plan disk.new) (D.faults disk.new) ≡ disk_seen (D.blocks disk.old) (D.plan disk.old) (D.faults disk.old)) }
     {
@@ -141,7 +142,7 @@ impl Session {
             }
             Ok(entry) => {
                 self.lines += 1;
-                if let Err(lacks) = self.run_entry(alloc, key, &entry, size, disk, out) {
+                if let Err(lacks) = self.run_entry(alloc, keys, &entry, size, disk, out) {
                     // A line that wanted memory isn't counted.
                     self.lines -= 1;
                     return Err(lacks);
@@ -182,7 +183,7 @@ impl Session {
     fn run_entry<D: Disk>(
         &mut self,
         alloc: Global,
-        key: &[u8; 32],
+        keys: &Keys,
         entry: &Entry,
         size: u32,
         disk: &mut D,
@@ -199,7 +200,7 @@ impl Session {
         ensures within { IsSessionWithin (λ b. seen (b.vtable, b.value)) size self.new }
         ensures counted { self.new.lines ≡ self.old.lines }
         ensures same_size { D.block_count disk.new ≡ size }
-        ensures runs { OnOk result (RunsEntry (place key.now size) (entry_seen entry.now) (seen_of (λ b. seen (b.vtable, b.value)) self.old) (seen_of (λ b. seen (b.vtable, b.value)) self.new) (disk_seen (D.blocks disk.old) (D.plan disk.old) (D.faults disk.old)) (disk_seen (D.blocks disk.new) (D.plan disk.new) (D.faults disk.new)) (left_in out.new)) }
+        ensures runs { OnOk result (RunsEntry (place keys.now size) (entry_seen entry.now) (seen_of (λ b. seen (b.vtable, b.value)) self.old) (seen_of (λ b. seen (b.vtable, b.value)) self.new) (disk_seen (D.blocks disk.old) (D.plan disk.old) (D.faults disk.old)) (disk_seen (D.blocks disk.new) (D.plan disk.new) (D.faults disk.new)) (left_in out.new)) }
         ensures err { OnErr result ((self.new ≡ self.old) × LoadsFree (seen_of (λ b. seen (b.vtable, b.value)) self.old) (entry_seen entry.now)) }
         ensures same_disk { OnErr result (disk_seen (D.blocks disk.new) (D.plan disk.new) (D.faults disk.new) ≡ disk_seen (D.blocks disk.old) (D.plan disk.old) (D.faults disk.old)) }
     {
@@ -225,7 +226,7 @@ impl Session {
                 self.happen(event, size, disk, out);
                 Ok(())
             }
-            Entry::Image(slot, bytes) => self.image(alloc, key, *slot, bytes, out),
+            Entry::Image(slot, bytes) => self.image(alloc, keys, *slot, bytes, out),
             Entry::Raw => {
                 self.raw(out);
                 Ok(())
@@ -243,7 +244,7 @@ impl Session {
         ensures within { IsSessionWithin (λ b. seen (b.vtable, b.value)) size self.new }
         ensures counted { self.new.lines ≡ self.old.lines }
         ensures same_size { D.block_count disk.new ≡ size }
-        ensures runs { (key : List ℕ) → RunsEntry (place key size) Boot (seen_of (λ b. seen (b.vtable, b.value)) self.old) (seen_of (λ b. seen (b.vtable, b.value)) self.new) (disk_seen (D.blocks disk.old) (D.plan disk.old) (D.faults disk.old)) (disk_seen (D.blocks disk.new) (D.plan disk.new) (D.faults disk.new)) (left_in out.new) }
+        ensures runs { (keys : Keys) → RunsEntry (place keys size) Boot (seen_of (λ b. seen (b.vtable, b.value)) self.old) (seen_of (λ b. seen (b.vtable, b.value)) self.new) (disk_seen (D.blocks disk.old) (D.plan disk.old) (D.faults disk.old)) (disk_seen (D.blocks disk.new) (D.plan disk.new) (D.faults disk.new)) (left_in out.new) }
     {
         let note = self.kernel.boot(self.setup, disk);
         self.booted = true;
@@ -251,12 +252,12 @@ impl Session {
         out.lines.add(&out.text);
     }
 
-    /// The line of an image, as an event: the bytes are loaded under the key into a slot that is free. Where there is no
+    /// The line of an image, as an event: the bytes are loaded under the keys into a slot that is free. Where there is no
     /// memory for them or for the image, nothing changes.
     fn image(
         &mut self,
         alloc: Global,
-        key: &[u8; 32],
+        keys: &Keys,
         slot: u32,
         bytes: &ImageBytes,
         out: &mut Buffers,
@@ -268,7 +269,7 @@ impl Session {
         requires empty { out.old.lines ≡ [] }
         ensures within { (size : ℕ) → IsSessionWithin (λ b. seen (b.vtable, b.value)) size self.old → IsSessionWithin (λ b. seen (b.vtable, b.value)) size self.new }
         ensures counted { self.new.lines ≡ self.old.lines }
-        ensures runs { OnOk result ((size : ℕ) (d : DiskSeen) → RunsEntry (place key.now size) (Loads slot bytes.now) (seen_of (λ b. seen (b.vtable, b.value)) self.old) (seen_of (λ b. seen (b.vtable, b.value)) self.new) d d (left_in out.new)) }
+        ensures runs { OnOk result ((size : ℕ) (d : DiskSeen) → RunsEntry (place keys.now size) (Loads slot bytes.now) (seen_of (λ b. seen (b.vtable, b.value)) self.old) (seen_of (λ b. seen (b.vtable, b.value)) self.new) d d (left_in out.new)) }
         ensures err { OnErr result ((self.new ≡ self.old) × LoadsFree (seen_of (λ b. seen (b.vtable, b.value)) self.old) (Loads slot bytes.now)) }
     {
         if !self.booted {
@@ -286,7 +287,7 @@ impl Session {
             return Ok(());
         }
         let sealed = bytes.decode(alloc)?;
-        match load_image(alloc, key, sealed.as_slice(), n, &mut out.text)? {
+        match load_image(alloc, keys, sealed.as_slice(), n, &mut out.text)? {
             None => {
                 self.answer_image(out);
                 Ok(())
@@ -360,7 +361,7 @@ impl Session {
         ensures within { IsSessionWithin (λ b. seen (b.vtable, b.value)) size self.new }
         ensures counted { self.new.lines ≡ self.old.lines }
         ensures same_size { D.block_count disk.new ≡ size }
-        ensures runs { (key : List ℕ) → RunsEntry (place key size) (Happens event.now) (seen_of (λ b. seen (b.vtable, b.value)) self.old) (seen_of (λ b. seen (b.vtable, b.value)) self.new) (disk_seen (D.blocks disk.old) (D.plan disk.old) (D.faults disk.old)) (disk_seen (D.blocks disk.new) (D.plan disk.new) (D.faults disk.new)) (left_in out.new) }
+        ensures runs { (keys : Keys) → RunsEntry (place keys size) (Happens event.now) (seen_of (λ b. seen (b.vtable, b.value)) self.old) (seen_of (λ b. seen (b.vtable, b.value)) self.new) (disk_seen (D.blocks disk.old) (D.plan disk.old) (D.faults disk.old)) (disk_seen (D.blocks disk.new) (D.plan disk.new) (D.faults disk.new)) (left_in out.new) }
     {
         if self.booted {
             self.events += 1;

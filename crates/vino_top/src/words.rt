@@ -2,22 +2,25 @@
 
 ghost use Rattle.std.specs.Prelude.{◌≡◌, map, string_bytes};
 ghost use Rattle.kernel_model.specs.Bytes.{number_of};
-ghost use Rattle.filters.specs.Keys.{key_of};
+ghost use Rattle.filters.specs.Keys.{keys_of};
 ghost use Rattle.vino_top.specs.Words.{asked_by, asked_by_one, asked_by_two, asked_by_three, asked_with, asked_number};
 
-use filters::read_key;
+use filters::read_keys;
+use graft_loader::Keys;
 use script_text::read_number;
 use std::alloc::Global;
 
 /// What the words of the command line ask.
-#[derive(Clone, Copy, Debug, PartialEq, Eq)]
+#[derive(Clone, Copy)]
 pub enum Asked {
-    /// `run KEY` or `run KEY PATH`: a script is run.
-    Run([u8; 32]),
-    /// `box KEY`: a raw image is boxed and sealed.
-    Box([u8; 32]),
-    /// `check KEY`: a sealed image is loaded.
-    Check([u8; 32]),
+    /// `run KEYS` or `run KEYS PATH`: a script is run.
+    Run(Keys),
+    /// `box KEYS`: a raw image is boxed and sealed.
+    Box(Keys),
+    /// `check KEYS`: a sealed image is loaded.
+    Check(Keys),
+    /// `reseal KEYS`: a sealed image is sealed anew.
+    Reseal(Keys),
     /// `asm`: a text is assembled.
     Asm,
     /// `dis`: an image is disassembled.
@@ -35,7 +38,7 @@ pub fn read_words(words: &[String]) -> Asked
     match words {
         [word] => asked_one(word.as_bytes()),
         [word, other] => asked_two(word.as_bytes(), other.as_bytes()),
-        [word, key, _] => asked_three(word.as_bytes(), key.as_bytes()),
+        [word, keys, _] => asked_three(word.as_bytes(), keys.as_bytes()),
         _ => Asked::Nothing,
     }
 }
@@ -72,19 +75,21 @@ fn asked_demo(number: &[u8]) -> Asked
     }
 }
 
-/// What a word asks with another that is to be a key.
-fn asked_keyed(word: &[u8], key: &[u8]) -> Asked
-    ensures { result ≡ asked_with word.now (key_of key.now) }
+/// What a word asks with another that is to be keys.
+fn asked_keyed(word: &[u8], keys: &[u8]) -> Asked
+    ensures { result ≡ asked_with word.now (keys_of keys.now) }
 {
-    let Some(key) = read_key(key) else {
+    let Some(keys) = read_keys(keys) else {
         return Asked::Nothing;
     };
     if word == b"run".as_slice() {
-        Asked::Run(key)
+        Asked::Run(keys)
     } else if word == b"box".as_slice() {
-        Asked::Box(key)
+        Asked::Box(keys)
     } else if word == b"check".as_slice() {
-        Asked::Check(key)
+        Asked::Check(keys)
+    } else if word == b"reseal".as_slice() {
+        Asked::Reseal(keys)
     } else {
         Asked::Nothing
     }
@@ -92,11 +97,11 @@ fn asked_keyed(word: &[u8], key: &[u8]) -> Asked
 
 /// What two words and a path ask. The path isn't looked at.
 #[tactic(auto, unfolding(crate::specs::Words::asked_by_three))]
-fn asked_three(word: &[u8], key: &[u8]) -> Asked
-    ensures { result ≡ asked_by_three word.now key.now }
+fn asked_three(word: &[u8], keys: &[u8]) -> Asked
+    ensures { result ≡ asked_by_three word.now keys.now }
 {
-    match read_key(key) {
-        Some(key) if word == b"run".as_slice() => Asked::Run(key),
+    match read_keys(keys) {
+        Some(keys) if word == b"run".as_slice() => Asked::Run(keys),
         _ => Asked::Nothing,
     }
 }
