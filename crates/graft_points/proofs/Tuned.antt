@@ -1,5 +1,5 @@
 -- A shelf on which one parameter was set.
-use Rattle.std.proofs.Common.{◌≡◌, ◌≢◌, ℕ, zero, suc, ◌<◌, Bool, true, false, cond, ◌&&◌, ◌==◌, List, [], ◌∷◌, length, Option, Some, None, option_map, slice_index, slice_set, refl, sym, subst, ◌∙◌, ap, arith}
+use Rattle.std.proofs.Common.{◌≡◌, ◌≢◌, ℕ, zero, suc, ◌<◌, ◌≤◌, Bool, true, false, cond, ◌&&◌, ◌==◌, List, [], ◌∷◌, length, Option, Some, None, option_map, slice_index, slice_set, refl, sym, subst, ◌∙◌, ap, arith}
 use Rattle.std.proofs.Math.Path.{fun_ext}
 use Rattle.std.proofs.lemmas.Bool.Decides.{nat_tests}
 use Rattle.std.proofs.lemmas.List.{get_or-set_same, get_or-set_other, length-set}
@@ -39,6 +39,11 @@ fits_range : (top : Option ℕ) (x : ℕ) → in_range top 0 x ≡ true → Para
 fits_range None x h = tt
 fits_range (Some t) x h = grind (arith, nat_tests)
 
+-- below the highest value, if there is one
+within : (top : Option ℕ) (x : ℕ) → ParamFits top x → (t : ℕ) → top ≡ Some t → x ≤ t
+within None x h t e = absurd (cc)
+within (Some s) x h t e = let same : s ≡ t = cc in let P : ℕ → Type 0 = λ k. x ≤ k in subst P same h
+
 set_first : (x : ℕ) (ps : List ℕ) → 0 < length ps → slice_index (slice_set ps 0 x) 0 ≡ x
 set_first x [] h = absurd (omega arith)
 set_first x (p ∷ ps) h = refl
@@ -54,7 +59,7 @@ retuned_is_policy i x v p h =
       code = p.code;
       count = length_set_first x v.params ∙ p.count;
       range = let F : ℕ → Type 0 = λ n. ParamFits (top_of_code i) n in
-          subst F (sym (set_first x v.params (has_param i x v p h))) (fits_range (top_of_code i) x h);
+          within (top_of_code i) _ (subst F (sym (set_first x v.params (has_param i x v p h))) (fits_range (top_of_code i) x h));
     }
 
 -- a shelf stays one when a parameter is set
@@ -187,13 +192,13 @@ param_shown views choice kind s h i =
 -- ---- the shelf at boot
 
 stock_policy : (i : ℕ) → i < 7 → IsPolicy i (view_at stock_views i)
-stock_policy zero h = record { code = refl; count = refl; range = tt }
-stock_policy (suc zero) h = record { code = refl; count = refl; range = omega arith }
-stock_policy (suc (suc zero)) h = record { code = refl; count = refl; range = omega arith }
-stock_policy (suc (suc (suc zero))) h = record { code = refl; count = refl; range = tt }
-stock_policy (suc (suc (suc (suc zero)))) h = record { code = refl; count = refl; range = omega arith }
-stock_policy (suc (suc (suc (suc (suc zero))))) h = record { code = refl; count = refl; range = tt }
-stock_policy (suc (suc (suc (suc (suc (suc zero)))))) h = record { code = refl; count = refl; range = omega arith }
+stock_policy zero h = record { code = refl; count = refl; range = within (top_of_code 0) _ (tt) }
+stock_policy (suc zero) h = record { code = refl; count = refl; range = within (top_of_code 1) _ (omega arith) }
+stock_policy (suc (suc zero)) h = record { code = refl; count = refl; range = within (top_of_code 2) _ (omega arith) }
+stock_policy (suc (suc (suc zero))) h = record { code = refl; count = refl; range = within (top_of_code 3) _ (tt) }
+stock_policy (suc (suc (suc (suc zero)))) h = record { code = refl; count = refl; range = within (top_of_code 4) _ (omega arith) }
+stock_policy (suc (suc (suc (suc (suc zero))))) h = record { code = refl; count = refl; range = within (top_of_code 5) _ (tt) }
+stock_policy (suc (suc (suc (suc (suc (suc zero)))))) h = record { code = refl; count = refl; range = within (top_of_code 6) _ (omega arith) }
 stock_policy (suc (suc (suc (suc (suc (suc (suc i))))))) h = absurd (omega arith)
 
 stock_shelf : IsShelf stock_views

@@ -1,8 +1,7 @@
 -- What a shelf of policies is to the kernel: a value for each kind of policy.
-use Rattle.std.specs.Prelude.{◌≡◌, ℕ, ◌+◌, ◌<◌, Bool, cond, ◌&&◌, nat_lt, List, [], ◌∷◌, length, Option, Some, None, slice_index, slice_index_or, slice_set}
+use Rattle.std.specs.Prelude.{◌≡◌, ℕ, ◌+◌, ◌<◌, ◌≤◌, Bool, cond, ◌&&◌, nat_lt, List, [], ◌∷◌, length, Option, Some, None, slice_index, slice_index_or, slice_set}
 use Rattle.kernel_model.specs.Objects.{PolValue}
 use Rattle.kernel_model.specs.Early.{policy_count}
-use Rattle.kernel_model.specs.Sound.{ParamFits}
 use Rattle.graft_points.specs.Views.{PolicyView, first_code, top_of_code}
 
 -- ---- codes
@@ -33,7 +32,7 @@ view_at views i = slice_index_or views i no_policy
 pub record IsPolicy (i : ℕ) (v : PolicyView) : Type 0 where
   pub code : v.code ≡ i
   pub count : length v.params ≡ param_count i
-  pub range : ParamFits (top_of_code i) (slice_index v.params 0)
+  pub range : (top : ℕ) → top_of_code i ≡ Some top → slice_index v.params 0 ≤ top
 
 -- a shelf: the policies of codes 0 to 6, in order
 pub record IsShelf (views : List PolicyView) : Type 0 where

@@ -74,7 +74,8 @@ impl Choice {
         requires number { j < policy_count kind }
         ensures value { self.new ≡ slice_set self.old kind j }
         ensures policies { (views : List PolicyView) →
-            pol_of views self.new ≡ at kind (record (pol_of views self.old kind) { chosen = j }) (pol_of views self.old) }
+            pol_of views self.new ≡
+            at kind (record (pol_of views self.old kind) { chosen = j }) (pol_of views self.old) }
     {
         self.numbers[kind as usize] = j;
     }

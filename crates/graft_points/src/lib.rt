@@ -2,6 +2,7 @@
 #![tactic(auto)]
 
 mod ask;
+mod boxed;
 mod checks;
 mod choice;
 mod least;
@@ -15,5 +16,5 @@ pub use ask::Ask;
 pub use checks::{valid_ahead, valid_next, valid_victim};
 pub use choice::{Choice, KINDS};
 pub use policy::Policy;
-pub use shelf::{POLICIES, ahead, ask_chosen, is_stock, next, param, put_last, set_param, victim};
+pub use shelf::{POLICIES, Shelf, is_stock, put_last};
 pub use stock::{RaNext, RaNone, RaSeq, SchedNice, SchedRound, VictimLru, VictimMark};

@@ -187,31 +187,31 @@ fn choosing(kind: u8, j: u8) -> Choice
 }
 
 /// The parameter of policy j of a kind.
-fn shown(shelf: &[Box<dyn Policy>], kind: u8, j: u8) -> Option<u32>
-    requires shelf { IsShelf (map (λ b. seen b) shelf.now) }
+fn shown<B: Policy>(shelf: &Shelf<B>, kind: u8, j: u8) -> Option<u32>
+    requires shelf { IsShelf shelf.now }
     requires kind { kind < 3 }
     requires number { j < policy_count kind }
 {
-    param(shelf, &choosing(kind, j), kind)
+    shelf.param(&choosing(kind, j), kind)
 }
 
 /// Sets the parameter of policy j of a kind.
-fn tune(shelf: &mut [Box<dyn Policy>], kind: u8, j: u8, v: u32)
-    requires shelf { IsShelf (map (λ b. seen b) shelf.old) }
+fn tune<B: Policy>(shelf: &mut Shelf<B>, kind: u8, j: u8, v: u32)
+    requires shelf { IsShelf shelf.old }
     requires kind { kind < 3 }
     requires number { j < policy_count kind }
     requires range { in_range (param_top kind j) 0 v ≡ true }
-    ensures { IsShelf (map (λ b. seen b) shelf.new) }
+    ensures { IsShelf shelf.new }
 {
-    set_param(shelf, &choosing(kind, j), kind, v);
+    shelf.set_param(&choosing(kind, j), kind, v);
 }
 
 /// Reading ahead on a shelf whose second policy notes what it is tuned to.
-fn reads_ahead(rt: &impl Abort, shelf: &mut [Box<dyn Policy>], noted: &Cell<u64>)
-    requires { IsShelf (map (λ b. seen b) shelf.old) }
-    ensures { IsShelf (map (λ b. seen b) shelf.new) }
+fn reads_ahead<B: Policy>(rt: &impl Abort, shelf: &mut Shelf<B>, noted: &Cell<u64>)
+    requires { IsShelf shelf.old }
+    ensures { IsShelf shelf.new }
 {
-    assert_eq!(rt; ahead(shelf, &choosing(0, 1), &FILE, 10), (4, 2));
+    assert_eq!(rt; shelf.ahead(&choosing(0, 1), &FILE, 10), (4, 2));
     tune(shelf, 0, 1, 5);
     assert_eq!(rt; noted.get(), 5);
     tune(shelf, 0, 2, 8);
@@ -220,21 +220,21 @@ fn reads_ahead(rt: &impl Abort, shelf: &mut [Box<dyn Policy>], noted: &Cell<u64>
         (shown(shelf, 0, 0), shown(shelf, 0, 1), shown(shelf, 0, 2)),
         (None, Some(5), Some(8))
     );
-    assert_eq!(rt; ahead(shelf, &choosing(0, 1), &FILE, 10), (4, 5));
-    assert_eq!(rt; ahead(shelf, &choosing(0, 1), &FILE, 3), (3, 0));
-    assert_eq!(rt; ahead(shelf, &choosing(0, 0), &FILE, 10), (4, 0));
+    assert_eq!(rt; shelf.ahead(&choosing(0, 1), &FILE, 10), (4, 5));
+    assert_eq!(rt; shelf.ahead(&choosing(0, 1), &FILE, 3), (3, 0));
+    assert_eq!(rt; shelf.ahead(&choosing(0, 0), &FILE, 10), (4, 0));
 }
 
 /// Eviction and scheduling.
-fn chooses(rt: &impl Abort, shelf: &mut [Box<dyn Policy>])
-    requires { IsShelf (map (λ b. seen b) shelf.old) }
+fn chooses<B: Policy>(rt: &impl Abort, shelf: &mut Shelf<B>)
+    requires { IsShelf shelf.old }
 {
-    assert_eq!(rt; victim(shelf, &choosing(1, 0), &frames()), 3);
-    assert_eq!(rt; victim(shelf, &choosing(1, 1), &frames()), 0);
+    assert_eq!(rt; shelf.victim(&choosing(1, 0), &frames()), 3);
+    assert_eq!(rt; shelf.victim(&choosing(1, 1), &frames()), 0);
     tune(shelf, 1, 1, 255);
-    assert_eq!(rt; victim(shelf, &choosing(1, 1), &frames()), 3);
-    assert_eq!(rt; next(shelf, &choosing(2, 0), &queue()), 2);
-    assert_eq!(rt; next(shelf, &choosing(2, 1), &queue()), 0);
+    assert_eq!(rt; shelf.victim(&choosing(1, 1), &frames()), 3);
+    assert_eq!(rt; shelf.next(&choosing(2, 0), &queue()), 2);
+    assert_eq!(rt; shelf.next(&choosing(2, 1), &queue()), 0);
     assert_eq!(rt; shown(shelf, 2, 1), Some(0));
 }
 
@@ -257,8 +257,16 @@ fn tunes_the_chosen_policy_alone(rt: HostRuntime) -> Result<(), Fail> {
     put_last(&mut shelf, Box::new(alloc, SchedRound::new())?, 5, None)?;
     put_last(&mut shelf, Box::new(alloc, SchedNice::new())?, 6, Some(0))?;
     assert!(rt; is_stock(&shelf));
-    reads_ahead(&rt, &mut shelf, &noted);
-    chooses(&rt, &mut shelf);
-    assert!(rt; !is_stock(&shelf));
+    serves(&rt, shelf, &noted);
     Ok(())
+}
+
+/// The policies on a shelf.
+fn serves<B: Policy>(rt: &impl Abort, policies: Vec<B>, noted: &Cell<u64>)
+    requires { IsShelf (map B.seen policies.items) }
+{
+    let mut shelf = Shelf::of(policies);
+    reads_ahead(rt, &mut shelf, noted);
+    chooses(rt, &mut shelf);
+    assert!(rt; !is_stock(shelf.policies()));
 }

@@ -16,7 +16,8 @@ use Rattle.kernel_model.specs.Objects.{Objects, Things, CacheValue, FrameValue, 
 use Rattle.kernel_model.specs.FilePieces.{with_cache, with_file}
 use Rattle.kernel_model.specs.Sound.{IsSoundFile}
 use Rattle.graft_accounts.specs.Table.{accounts_of}
-use Rattle.kernel_state.specs.Stores.{Seeing, StoreFits, objects_of, objects_with, cache_of, policies_of}
+use Rattle.kernel_state.specs.Stores.{objects_of, objects_with, cache_of, policies_of}
+use Rattle.kernel_state.specs.Sound.{StoreFits}
 
 -- files and frames are the same
 pub fits_same : (count : ℕ) (v : World) (w u : Things) → StoreFits count v w → u.file ≡ w.file → u.cache ≡ w.cache → StoreFits count v u
@@ -132,18 +133,18 @@ row_fits c m size f r was is = was f (value_with (frame_bytes m f) r) (ap (λ (o
 
 -- ---- a store with another cache
 
-pub stands_so : {X : Type 0} {F : X → Type 0} (view : Seeing X F) (s : Store X F) (c : Frames) (m : List ℕ) (x : CacheValue) → cache_value c m ≡ x
-    → objects_of view (record s { cache = c; ram = m }) ≡ with_cache x (objects_of view s)
-stands_so view s c m x is = ap (λ (w : CacheValue). objects_with (accounts_of s.accounts) (processes_of s.procs) w (policies_of view s)) is
+pub stands_so : {B : Type 0} {P : _} (s : Store B P) (c : Frames) (m : List ℕ) (x : CacheValue) → cache_value c m ≡ x
+    → objects_with (accounts_of s.accounts) (processes_of s.procs) (cache_value c m) (policies_of s) ≡ with_cache x (objects_of s)
+stands_so s c m x is = ap (λ (w : CacheValue). objects_with (accounts_of s.accounts) (processes_of s.procs) w (policies_of s)) is
 
 -- a store with other processes
-pub stands_by : {X : Type 0} {F : X → Type 0} (view : Seeing X F) (s : Store X F) (t : Table) (x : Processes) → processes_of t ≡ x
-    → objects_of view (record s { procs = t }) ≡ objects_with (accounts_of s.accounts) x (cache_of s) (policies_of view s)
-stands_by view s t x is = ap (λ (w : Processes). objects_with (accounts_of s.accounts) w (cache_of s) (policies_of view s)) is
+pub stands_by : {B : Type 0} {P : _} (s : Store B P) (t : Table) (x : Processes) → processes_of t ≡ x
+    → objects_with (accounts_of s.accounts) (processes_of t) (cache_of s) (policies_of s) ≡ objects_with (accounts_of s.accounts) x (cache_of s) (policies_of s)
+stands_by s t x is = ap (λ (w : Processes). objects_with (accounts_of s.accounts) w (cache_of s) (policies_of s)) is
 
 -- ---- a store after boot
 
-none_used : (n f : ℕ) → row_at (replicate n (let o : Option FrameRow = None in o)) f ≡ None
+pub none_used : (n f : ℕ) → row_at (replicate n (let o : Option FrameRow = None in o)) f ≡ None
 none_used zero f = refl
 none_used (suc n) zero = refl
 none_used (suc n) (suc f) = none_used n f

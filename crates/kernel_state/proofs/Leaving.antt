@@ -15,7 +15,8 @@ use Rattle.buffer_cache.specs.Frames as frames
 use Rattle.buffer_cache.specs.Frames.{Frames, handed, row_at}
 use Rattle.process_table.specs.Processes.{Processes, without}
 use Rattle.kernel_state.specs.CacheViews.{frame_value, cache_value}
-use Rattle.kernel_state.specs.Stores.{StoreFits, objects_with}
+use Rattle.kernel_state.specs.Stores.{objects_with}
+use Rattle.kernel_state.specs.Sound.{StoreFits}
 
 -- ---- frames
 

@@ -2,6 +2,7 @@ pub mod Memory
 pub mod CacheLaws
 pub mod Search
 pub mod Fits
+pub mod Opening
 pub mod Blocks
 pub mod Queues
 pub mod Rows

@@ -1,12 +1,16 @@
 -- What the accessors of grafts do to a store, and which of their changes can be undone on it.
-use Rattle.std.specs.Prelude.{◌≡◌, ◌<◌, ◌≤◌, true, Some, None, Result, Ok, Err, is_some}
+use Rattle.std.specs.Prelude.{◌≡◌, ℕ, ◌<◌, ◌≤◌, true, List, Some, None, Result, Ok, Err, is_some, slice_index}
 use Rattle.kernel_model.specs.declared.Inverse.{Inverse}
 use Rattle.kernel_model.specs.declared.Inverse.TheVariants.{Cell, Nice, Window, Mark, Tune}
 use Rattle.kernel_model.specs.declared.Cause.{Cause}
-use Rattle.kernel_model.specs.Access.{Access as Accessed, Gives, Changes, Refuses, in_range, param_top}
+use Rattle.kernel_model.specs.Access.{Access as Accessed, access, Gives, Changes, Refuses, in_range, param_top}
 use Rattle.kernel_model.specs.Objects.{Things}
 use Rattle.kernel_model.specs.Policies.{lives}
 use Rattle.kernel_state.specs.declared.Access.{Access}
+
+-- what the accessor of an id does with its three arguments, for a graft of process q
+abbrev pub accessed_with : (id : ℕ) (args : List ℕ) (q : ℕ) → Things → Accessed
+accessed_with id args q w = access id (slice_index args 0) (slice_index args 1) (slice_index args 2) q w
 
 -- the answer of an accessor: the result and what undoes the change, or the refusal
 abbrev pub answer_of : Accessed → Result Access Cause
@@ -20,7 +24,8 @@ things_after (Gives result) w = w
 things_after (Changes result inverse u) w = u
 things_after (Refuses cause) w = w
 
--- a record can be undone: the process lives, the cell, open file, frame or parameter is there, and the value is in its range
+-- a record can be undone: the process lives, the cell, open file, frame or parameter is there, and
+-- the value is in its range
 abbrev pub CanBeUndone : Inverse → Things → Type 0
 CanBeUndone (Cell q k v) w = (lives w.queue q ≡ true) × (k < 4)
 CanBeUndone (Nice q v) w = (lives w.queue q ≡ true) × (v ≤ 39)

@@ -1,3 +1,4 @@
 pub mod CacheViews
 pub mod Stores
 pub mod Accesses
+pub mod Sound

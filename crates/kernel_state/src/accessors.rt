@@ -7,31 +7,32 @@ ghost use Rattle.kernel_model.specs.declared.Inverse.{Inverse as Inverses};
 ghost use Rattle.kernel_model.specs.Access.{access as accessed, early_refusal, bare_found, undo as undone};
 ghost use Rattle.kernel_model.specs.Objects.{with_things};
 ghost use Rattle.kernel_model.specs.Policies.{lives};
-ghost use Rattle.kernel_state.specs.Accesses.{answer_of, things_after, CanBeUndone};
-ghost use Rattle.kernel_state.specs.Stores.{world_of_store, objects_of, queue_of, IsStore};
+ghost use Rattle.kernel_state.specs.Accesses.{accessed_with, answer_of, things_after, CanBeUndone};
+ghost use Rattle.kernel_state.specs.Stores.{world_of_store, objects_of, queue_of};
 
 use crate::{Access, Store};
 use accessor_list::ids;
+use graft_points::Policy;
 use kernel_model::{Cause, FrameRow, Inverse};
 
-impl Store {
-    /// What the plain accessor of an id does for a graft of process q, which lives: the change in place. Nothing changes
-    /// where it is refused. The arguments aren't refused by themselves (`accessor_list::early`).
+impl<B: Policy> Store<B> {
+    /// What the plain accessor of an id does for a graft of process q, which lives: the change in
+    /// place. Nothing changes where it is refused. The arguments aren't refused by themselves
+    /// (`accessor_list::early`).
     pub fn access(&mut self, id: u32, args: [u32; 3], q: u8) -> Result<Access, Cause>
-        requires sound { IsStore (λ b. seen b) self.old }
         requires lives { lives (queue_of self.old) q ≡ true }
         requires plain { id ≤ 12 }
         requires early { early_refusal 15 id (slice_index args 0) (slice_index args 1) q ≡ None }
         ensures answer { result ≡
-            answer_of (accessed id (slice_index args 0) (slice_index args 1) (slice_index args 2) q (objects_of (λ b. seen b) self.old).things) }
-        ensures objects { let s = objects_of (λ b. seen b) self.old in objects_of (λ b. seen b) self.new ≡
-            with_things (things_after (accessed id (slice_index args 0) (slice_index args 1) (slice_index args 2) q s.things) s.things) s }
+            answer_of (accessed_with id args q (objects_of self.old).things) }
+        ensures objects { let s = objects_of self.old in objects_of self.new ≡
+            with_things (things_after (accessed_with id args q s.things) s.things) s }
         ensures living { (p : ℕ) → lives (queue_of self.new) p ≡ lives (queue_of self.old) p }
         ensures world { world_of_store self.new ≡ world_of_store self.old }
-        ensures sound { IsStore (λ b. seen b) self.new }
         ensures memory { self.new.ram ≡ self.old.ram }
-        ensures undoable { IfOk result (λ a. IfSome a.inverse (λ i. CanBeUndone i (objects_of (λ b. seen b) self.new).things)) }
-        ensures kept { (i : Inverses) → CanBeUndone i (objects_of (λ b. seen b) self.old).things → CanBeUndone i (objects_of (λ b. seen b) self.new).things }
+        ensures undoable { IfOk result (λ a. IfSome a.inverse (λ i. CanBeUndone i (objects_of self.new).things)) }
+        ensures kept { (i : Inverses) → CanBeUndone i (objects_of self.old).things →
+            CanBeUndone i (objects_of self.new).things }
     {
         let answer = self.answer(id, args, q);
         if answer.is_ok() {
@@ -42,14 +43,14 @@ impl Store {
 
     /// Puts the value back that a record names.
     pub fn undo(&mut self, inverse: Inverse)
-        requires sound { IsStore (λ b. seen b) self.old }
-        requires fits { CanBeUndone inverse (objects_of (λ b. seen b) self.old).things }
-        ensures objects { let s = objects_of (λ b. seen b) self.old in objects_of (λ b. seen b) self.new ≡ with_things (undone (bare_found inverse) s.things) s }
+        requires fits { CanBeUndone inverse (objects_of self.old).things }
+        ensures objects { let s = objects_of self.old in objects_of self.new ≡
+            with_things (undone (bare_found inverse) s.things) s }
         ensures living { (p : ℕ) → lives (queue_of self.new) p ≡ lives (queue_of self.old) p }
         ensures world { world_of_store self.new ≡ world_of_store self.old }
-        ensures sound { IsStore (λ b. seen b) self.new }
         ensures memory { self.new.ram ≡ self.old.ram }
-        ensures kept { (i : Inverses) → CanBeUndone i (objects_of (λ b. seen b) self.old).things → CanBeUndone i (objects_of (λ b. seen b) self.new).things }
+        ensures kept { (i : Inverses) → CanBeUndone i (objects_of self.old).things →
+            CanBeUndone i (objects_of self.new).things }
     {
         match inverse {
             Inverse::Cell(q, k, v) => self.set_cell(q, k, v),
@@ -62,13 +63,12 @@ impl Store {
 
     /// What an accessor answers, as `access` says. Nothing changes.
     pub fn answer(&self, id: u32, args: [u32; 3], q: u8) -> Result<Access, Cause>
-        requires sound { IsStore (λ b. seen b) self.now }
         requires lives { lives (queue_of self.now) q ≡ true }
         requires plain { id ≤ 12 }
         requires early { early_refusal 15 id (slice_index args 0) (slice_index args 1) q ≡ None }
         ensures answer { result ≡
-            answer_of (accessed id (slice_index args 0) (slice_index args 1) (slice_index args 2) q (objects_of (λ b. seen b) self.now).things) }
-        ensures undoable { IfOk result (λ a. IfSome a.inverse (λ i. CanBeUndone i (objects_of (λ b. seen b) self.now).things)) }
+            answer_of (accessed_with id args q (objects_of self.now).things) }
+        ensures undoable { IfOk result (λ a. IfSome a.inverse (λ i. CanBeUndone i (objects_of self.now).things)) }
     {
         let [first, second, third] = args;
         match id {
@@ -90,34 +90,31 @@ impl Store {
 
     /// Makes the change of an accessor whose answer isn't a refusal.
     pub fn apply(&mut self, id: u32, args: [u32; 3], q: u8)
-        requires sound { IsStore (λ b. seen b) self.old }
         requires lives { lives (queue_of self.old) q ≡ true }
         requires plain { id ≤ 12 }
         requires early { early_refusal 15 id (slice_index args 0) (slice_index args 1) q ≡ None }
-        requires accepted { is_ok (answer_of (accessed id (slice_index args 0) (slice_index args 1) (slice_index args 2) q (objects_of (λ b. seen b) self.old).things)) ≡ true }
-        ensures objects { let s = objects_of (λ b. seen b) self.old in objects_of (λ b. seen b) self.new ≡
-            with_things (things_after (accessed id (slice_index args 0) (slice_index args 1) (slice_index args 2) q s.things) s.things) s }
+        requires accepted { is_ok (answer_of (accessed_with id args q (objects_of self.old).things)) ≡ true }
+        ensures objects { let s = objects_of self.old in objects_of self.new ≡
+            with_things (things_after (accessed_with id args q s.things) s.things) s }
         ensures living { (p : ℕ) → lives (queue_of self.new) p ≡ lives (queue_of self.old) p }
         ensures world { world_of_store self.new ≡ world_of_store self.old }
-        ensures sound { IsStore (λ b. seen b) self.new }
         ensures memory { self.new.ram ≡ self.old.ram }
-        ensures kept { (i : Inverses) → CanBeUndone i (objects_of (λ b. seen b) self.old).things → CanBeUndone i (objects_of (λ b. seen b) self.new).things }
+        ensures kept { (i : Inverses) → CanBeUndone i (objects_of self.old).things →
+            CanBeUndone i (objects_of self.new).things }
     {
         self.change(id, args, q);
     }
 
     /// The change of an accessor that isn't refused.
     fn change(&mut self, id: u32, args: [u32; 3], q: u8)
-        requires sound { IsStore (λ b. seen b) self.old }
         requires lives { lives (queue_of self.old) q ≡ true }
         requires plain { id ≤ 12 }
         requires early { early_refusal 15 id (slice_index args 0) (slice_index args 1) q ≡ None }
-        requires accepted { is_ok (answer_of (accessed id (slice_index args 0) (slice_index args 1) (slice_index args 2) q (objects_of (λ b. seen b) self.old).things)) ≡ true }
-        ensures objects { let s = objects_of (λ b. seen b) self.old in objects_of (λ b. seen b) self.new ≡
-            with_things (things_after (accessed id (slice_index args 0) (slice_index args 1) (slice_index args 2) q s.things) s.things) s }
+        requires accepted { is_ok (answer_of (accessed_with id args q (objects_of self.old).things)) ≡ true }
+        ensures objects { let s = objects_of self.old in objects_of self.new ≡
+            with_things (things_after (accessed_with id args q s.things) s.things) s }
         ensures living { (p : ℕ) → lives (queue_of self.new) p ≡ lives (queue_of self.old) p }
         ensures world { world_of_store self.new ≡ world_of_store self.old }
-        ensures sound { IsStore (λ b. seen b) self.new }
         ensures memory { self.new.ram ≡ self.old.ram }
     {
         let [first, second, third] = args;
@@ -134,8 +131,8 @@ impl Store {
     fn cell_set(&self, q: u8, k: u8) -> Result<Access, Cause>
         requires lives { lives (queue_of self.now) q ≡ true }
         requires number { k < 4 }
-        ensures answer { result ≡ answer_of (accessed 1 k 0 0 q (objects_of (λ b. seen b) self.now).things) }
-        ensures undoable { IfOk result (λ a. IfSome a.inverse (λ i. CanBeUndone i (objects_of (λ b. seen b) self.now).things)) }
+        ensures answer { result ≡ answer_of (accessed 1 k 0 0 q (objects_of self.now).things) }
+        ensures undoable { IfOk result (λ a. IfSome a.inverse (λ i. CanBeUndone i (objects_of self.now).things)) }
     {
         let was = self.cell(q, k);
         changes(was, Inverse::Cell(q, k, was))
@@ -143,18 +140,17 @@ impl Store {
 
     fn nice_set(&self, q: u8) -> Result<Access, Cause>
         requires { lives (queue_of self.now) q ≡ true }
-        ensures answer { result ≡ answer_of (accessed 3 0 0 0 q (objects_of (λ b. seen b) self.now).things) }
-        ensures undoable { IfOk result (λ a. IfSome a.inverse (λ i. CanBeUndone i (objects_of (λ b. seen b) self.now).things)) }
+        ensures answer { result ≡ answer_of (accessed 3 0 0 0 q (objects_of self.now).things) }
+        ensures undoable { IfOk result (λ a. IfSome a.inverse (λ i. CanBeUndone i (objects_of self.now).things)) }
     {
         let was = self.nice(q);
         changes(u32::from(was), Inverse::Nice(q, was))
     }
 
     fn window_get(&self, q: u8, fd: u8) -> Result<Access, Cause>
-        requires sound { IsStore (λ b. seen b) self.now }
         requires lives { lives (queue_of self.now) q ≡ true }
         requires number { fd < 4 }
-        ensures { result ≡ answer_of (accessed 4 fd 0 0 q (objects_of (λ b. seen b) self.now).things) }
+        ensures { result ≡ answer_of (accessed 4 fd 0 0 q (objects_of self.now).things) }
     {
         match self.file(q, fd) {
             Some(row) => gives(u32::from(row.window)),
@@ -163,11 +159,10 @@ impl Store {
     }
 
     fn window_set(&self, q: u8, fd: u8) -> Result<Access, Cause>
-        requires sound { IsStore (λ b. seen b) self.now }
         requires lives { lives (queue_of self.now) q ≡ true }
         requires number { fd < 4 }
-        ensures answer { (v : ℕ) → result ≡ answer_of (accessed 5 fd v 0 q (objects_of (λ b. seen b) self.now).things) }
-        ensures undoable { IfOk result (λ a. IfSome a.inverse (λ i. CanBeUndone i (objects_of (λ b. seen b) self.now).things)) }
+        ensures answer { (v : ℕ) → result ≡ answer_of (accessed 5 fd v 0 q (objects_of self.now).things) }
+        ensures undoable { IfOk result (λ a. IfSome a.inverse (λ i. CanBeUndone i (objects_of self.now).things)) }
     {
         match self.file(q, fd) {
             Some(row) => changes(u32::from(row.window), Inverse::Window(q, fd, row.window)),
@@ -176,7 +171,7 @@ impl Store {
     }
 
     fn frame_at(&self, q: u8, n: u32) -> Result<Access, Cause>
-        ensures { result ≡ answer_of (accessed 7 n 0 0 q (objects_of (λ b. seen b) self.now).things) }
+        ensures { result ≡ answer_of (accessed 7 n 0 0 q (objects_of self.now).things) }
     {
         let rows = self.owned_rows(q);
         match nth_frame(rows.as_slice(), n) {
@@ -186,7 +181,7 @@ impl Store {
     }
 
     fn frame_block(&self, q: u8, f: u32) -> Result<Access, Cause>
-        ensures { result ≡ answer_of (accessed 8 f 0 0 q (objects_of (λ b. seen b) self.now).things) }
+        ensures { result ≡ answer_of (accessed 8 f 0 0 q (objects_of self.now).things) }
     {
         match self.row(f) {
             Some(row) if row.owner == q => gives(row.block),
@@ -196,8 +191,8 @@ impl Store {
     }
 
     fn frame_mark(&self, q: u8, f: u32) -> Result<Access, Cause>
-        ensures answer { (v : ℕ) → result ≡ answer_of (accessed 9 f v 0 q (objects_of (λ b. seen b) self.now).things) }
-        ensures undoable { IfOk result (λ a. IfSome a.inverse (λ i. CanBeUndone i (objects_of (λ b. seen b) self.now).things)) }
+        ensures answer { (v : ℕ) → result ≡ answer_of (accessed 9 f v 0 q (objects_of self.now).things) }
+        ensures undoable { IfOk result (λ a. IfSome a.inverse (λ i. CanBeUndone i (objects_of self.now).things)) }
     {
         match self.row(f) {
             Some(row) if row.owner == q => {
@@ -209,9 +204,8 @@ impl Store {
     }
 
     fn tune_get(&self, kind: u8, k: u32) -> Result<Access, Cause>
-        requires sound { IsStore (λ b. seen b) self.now }
         requires kind { kind < 3 }
-        ensures { result ≡ answer_of (accessed 10 kind k 0 0 (objects_of (λ b. seen b) self.now).things) }
+        ensures { result ≡ answer_of (accessed 10 kind k 0 0 (objects_of self.now).things) }
     {
         match self.param(kind) {
             Some(v) if k == 0 => gives(v),
@@ -220,10 +214,9 @@ impl Store {
     }
 
     fn tune_set(&self, kind: u8, k: u32, v: u32) -> Result<Access, Cause>
-        requires sound { IsStore (λ b. seen b) self.now }
         requires kind { kind < 3 }
-        ensures answer { result ≡ answer_of (accessed 11 kind k v 0 (objects_of (λ b. seen b) self.now).things) }
-        ensures undoable { IfOk result (λ a. IfSome a.inverse (λ i. CanBeUndone i (objects_of (λ b. seen b) self.now).things)) }
+        ensures answer { result ≡ answer_of (accessed 11 kind k v 0 (objects_of self.now).things) }
+        ensures undoable { IfOk result (λ a. IfSome a.inverse (λ i. CanBeUndone i (objects_of self.now).things)) }
     {
         match self.param(kind) {
             Some(was) if self.takes(kind, k, v) => changes(was, Inverse::Tune(kind, 0, was)),

@@ -6,23 +6,23 @@ ghost use Rattle.kernel_model.specs.Objects.{with_accounts};
 ghost use Rattle.kernel_model.specs.Policies.{lives};
 ghost use Rattle.kernel_model.specs.Pieces.{with_graft, new_graft};
 ghost use Rattle.graft_accounts.specs.Table.{short_of, after_give, after_fund, after_bill};
-ghost use Rattle.kernel_state.specs.Stores.{world_of_store, objects_of, queue_of, IsStore};
+ghost use Rattle.kernel_state.specs.Stores.{world_of_store, objects_of, queue_of};
 
 use crate::Store;
+use graft_points::Policy;
 use kernel_model::Kind;
 
-impl Store {
-    /// Moves n from process p to process q. Err has the balance of p, with nothing changed, exactly where it is smaller.
+impl<B: Policy> Store<B> {
+    /// Moves n from process p to process q. Err has the balance of p, with nothing changed, exactly
+    /// where it is smaller.
     pub fn give(&mut self, p: u8, q: u8, k: Kind, n: u32) -> Result<(), u64>
-        requires sound { IsStore (λ b. seen b) self.old }
         requires from { lives (queue_of self.old) p ≡ true }
         requires to { lives (queue_of self.old) q ≡ true }
-        ensures answer { result ≡ short_of (((objects_of (λ b. seen b) self.old).accounts.acct p).balance k) n }
-        ensures objects { objects_of (λ b. seen b) self.new ≡
-            with_accounts (after_give p q k n (objects_of (λ b. seen b) self.old).accounts) (objects_of (λ b. seen b) self.old) }
+        ensures answer { result ≡ short_of (((objects_of self.old).accounts.acct p).balance k) n }
+        ensures objects { objects_of self.new ≡
+            with_accounts (after_give p q k n (objects_of self.old).accounts) (objects_of self.old) }
         ensures queue { queue_of self.new ≡ queue_of self.old }
         ensures world { world_of_store self.new ≡ world_of_store self.old }
-        ensures sound { IsStore (λ b. seen b) self.new }
         ensures memory { self.new.ram ≡ self.old.ram }
     {
         self.procs.rows();
@@ -32,25 +32,24 @@ impl Store {
     /// Whether a graft stands at point pt of process p.
     pub fn has_graft(&self, p: u8, pt: u8) -> bool
         requires { pt < 16 }
-        ensures { result ≡ is_some ((objects_of (λ b. seen b) self.now).accounts.graft p pt) }
+        ensures { result ≡ is_some ((objects_of self.now).accounts.graft p pt) }
     {
         self.accounts.stands(p, pt)
     }
 
     /// Puts a graft at point pt of process p, where none stands. It has nothing, and isn't billed.
     pub fn install(&mut self, p: u8, pt: u8, image: u8, limit: u32)
-        requires sound { IsStore (λ b. seen b) self.old }
         requires lives { lives (queue_of self.old) p ≡ true }
         requires point { pt < 16 }
         requires image { image < 32 }
         requires some { 1 ≤ limit }
         requires most { limit ≤ 65536 }
-        requires free { (objects_of (λ b. seen b) self.old).accounts.graft p pt ≡ None }
-        ensures objects { objects_of (λ b. seen b) self.new ≡
-            with_accounts (with_graft p pt (new_graft image limit) (objects_of (λ b. seen b) self.old).accounts) (objects_of (λ b. seen b) self.old) }
+        requires free { (objects_of self.old).accounts.graft p pt ≡ None }
+        ensures objects { objects_of self.new ≡
+            with_accounts (with_graft p pt (new_graft image limit) (objects_of self.old).accounts)
+            (objects_of self.old) }
         ensures queue { queue_of self.new ≡ queue_of self.old }
         ensures world { world_of_store self.new ≡ world_of_store self.old }
-        ensures sound { IsStore (λ b. seen b) self.new }
         ensures memory { self.new.ram ≡ self.old.ram }
     {
         self.procs.rows();
@@ -59,33 +58,29 @@ impl Store {
 
     /// Takes out the graft at point pt of process p, if one stands, and gives what it has back to p.
     pub fn remove(&mut self, p: u8, pt: u8)
-        requires sound { IsStore (λ b. seen b) self.old }
         requires lives { lives (queue_of self.old) p ≡ true }
         requires point { pt < 16 }
-        ensures objects { objects_of (λ b. seen b) self.new ≡
-            with_accounts (removed p pt (objects_of (λ b. seen b) self.old).accounts) (objects_of (λ b. seen b) self.old) }
+        ensures objects { objects_of self.new ≡
+            with_accounts (removed p pt (objects_of self.old).accounts) (objects_of self.old) }
         ensures queue { queue_of self.new ≡ queue_of self.old }
         ensures world { world_of_store self.new ≡ world_of_store self.old }
-        ensures sound { IsStore (λ b. seen b) self.new }
         ensures memory { self.new.ram ≡ self.old.ram }
     {
         self.procs.rows();
         self.accounts.remove(p, pt);
     }
 
-    /// Moves n from process p to its graft at point pt, where one stands. Err has the balance of p, with nothing changed,
-    /// exactly where it is smaller.
+    /// Moves n from process p to its graft at point pt, where one stands. Err has the balance of p,
+    /// with nothing changed, exactly where it is smaller.
     pub fn fund(&mut self, p: u8, pt: u8, k: Kind, n: u32) -> Result<(), u64>
-        requires sound { IsStore (λ b. seen b) self.old }
         requires lives { lives (queue_of self.old) p ≡ true }
         requires point { pt < 16 }
-        requires stands { is_some ((objects_of (λ b. seen b) self.old).accounts.graft p pt) ≡ true }
-        ensures answer { result ≡ short_of (((objects_of (λ b. seen b) self.old).accounts.acct p).balance k) n }
-        ensures objects { let s = objects_of (λ b. seen b) self.old in
-            objects_of (λ b. seen b) self.new ≡ with_accounts (after_fund p pt k n (s.accounts.graft p pt) s.accounts) s }
+        requires stands { is_some ((objects_of self.old).accounts.graft p pt) ≡ true }
+        ensures answer { result ≡ short_of (((objects_of self.old).accounts.acct p).balance k) n }
+        ensures objects { let s = objects_of self.old in
+            objects_of self.new ≡ with_accounts (after_fund p pt k n (s.accounts.graft p pt) s.accounts) s }
         ensures queue { queue_of self.new ≡ queue_of self.old }
         ensures world { world_of_store self.new ≡ world_of_store self.old }
-        ensures sound { IsStore (λ b. seen b) self.new }
         ensures memory { self.new.ram ≡ self.old.ram }
     {
         self.procs.rows();
@@ -94,15 +89,13 @@ impl Store {
 
     /// From here on process p pays for its graft at point pt, where one stands.
     pub fn bill(&mut self, p: u8, pt: u8)
-        requires sound { IsStore (λ b. seen b) self.old }
         requires lives { lives (queue_of self.old) p ≡ true }
         requires point { pt < 16 }
-        requires stands { is_some ((objects_of (λ b. seen b) self.old).accounts.graft p pt) ≡ true }
-        ensures objects { let s = objects_of (λ b. seen b) self.old in
-            objects_of (λ b. seen b) self.new ≡ with_accounts (after_bill p pt (s.accounts.graft p pt) s.accounts) s }
+        requires stands { is_some ((objects_of self.old).accounts.graft p pt) ≡ true }
+        ensures objects { let s = objects_of self.old in
+            objects_of self.new ≡ with_accounts (after_bill p pt (s.accounts.graft p pt) s.accounts) s }
         ensures queue { queue_of self.new ≡ queue_of self.old }
         ensures world { world_of_store self.new ≡ world_of_store self.old }
-        ensures sound { IsStore (λ b. seen b) self.new }
         ensures memory { self.new.ram ≡ self.old.ram }
     {
         self.procs.rows();

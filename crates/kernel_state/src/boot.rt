@@ -1,41 +1,36 @@
 //! A store after boot.
 
-ghost use Rattle.std.specs.Prelude.{◌≡◌, ℕ, ◌≤◌, true, Some, None, map, slice_index_or};
+ghost use Rattle.std.specs.Prelude.{◌≡◌, ℕ, ◌≤◌, true, Some, None, slice_index_or};
 ghost use Rattle.kernel_model.specs.declared.FileRow.{FileRow as Row};
 ghost use Rattle.kernel_model.specs.Directory.{lies_on_disk};
 ghost use Rattle.kernel_model.specs.Opening.{opening_objects, opening_policy};
 ghost use Rattle.graft_points.specs.Shelf.{IsShelf, pol_of, first_choice};
-ghost use Rattle.kernel_state.specs.Stores.{world_for, world_of_store, objects_of, views_of, IsStore};
+ghost use Rattle.kernel_state.specs.Stores.{world_of_store, objects_of, views_of};
+ghost use Rattle.kernel_state.specs.Sound.{world_for};
 
 use crate::{Setup, Store};
 use buffer_cache::Cache;
 use graft_accounts::Accounts;
-use graft_points::{Choice, Policy};
+use graft_points::{Choice, Policy, Shelf};
 use mem_disk::Directory;
 use process_table::Procs;
 use ram_space::Ram;
 
-impl Store {
-    /// The store after boot, on a disk of 1 to 4,096 blocks with this directory: process 0 lives alone and has the whole
-    /// grant, and nothing is open, held, installed or in a frame. The shelf has the stock policies.
-    pub fn new(
-        setup: Setup,
-        size: u32,
-        dir: Directory,
-        ram: Ram,
-        shelf: Vec<Box<dyn Policy>>,
-    ) -> Store
+impl<B: Policy> Store<B> {
+    /// The store after boot, on a disk of 1 to 4,096 blocks with this directory: process 0 lives
+    /// alone and has the whole grant, and nothing is open, held, installed or in a frame. The shelf
+    /// has the stock policies.
+    pub fn new(setup: Setup, size: u32, dir: Directory, ram: Ram, shelf: Shelf<B>) -> Store<B>
         requires frames_least { 2 ≤ setup.frames }
         requires frames_most { setup.frames ≤ 64 }
         requires size_least { 1 ≤ size }
         requires size_most { size ≤ 4096 }
         requires files { (n : ℕ) (r : Row) → slice_index_or dir n None ≡ Some r → lies_on_disk size r ≡ true }
-        requires shelf { IsShelf (map (λ b. seen b) shelf.items) }
-        requires stock { pol_of (map (λ b. seen b) shelf.items) first_choice ≡ opening_policy }
-        ensures objects { objects_of (λ b. seen b) result ≡ opening_objects setup.grant }
+        requires shelf { IsShelf shelf }
+        requires stock { pol_of shelf first_choice ≡ opening_policy }
+        ensures objects { objects_of result ≡ opening_objects setup.grant }
         ensures world { world_of_store result ≡ world_for setup size dir }
-        ensures sound { IsStore (λ b. seen b) result }
-        ensures views { views_of (λ b. seen b) result ≡ map (λ b. seen b) shelf.items }
+        ensures views { views_of result ≡ shelf }
         ensures set { result.setup ≡ setup }
         ensures memory { result.ram ≡ ram }
     {
@@ -52,20 +47,18 @@ impl Store {
         }
     }
 
-    /// Makes it the store after boot again, with another set-up, disk and directory. The memory stays as it is, and so do
-    /// the policies, which have the parameters of boot.
+    /// Makes it the store after boot again, with another set-up, disk and directory. The memory
+    /// stays as it is, and so do the policies, which have the parameters of boot.
     pub fn restart(&mut self, setup: Setup, size: u32, dir: Directory)
         requires frames_least { 2 ≤ setup.frames }
         requires frames_most { setup.frames ≤ 64 }
         requires size_least { 1 ≤ size }
         requires size_most { size ≤ 4096 }
         requires files { (n : ℕ) (r : Row) → slice_index_or dir n None ≡ Some r → lies_on_disk size r ≡ true }
-        requires sound { IsStore (λ b. seen b) self.old }
-        requires stock { pol_of (views_of (λ b. seen b) self.old) first_choice ≡ opening_policy }
-        ensures objects { objects_of (λ b. seen b) self.new ≡ opening_objects setup.grant }
+        requires stock { pol_of (views_of self.old) first_choice ≡ opening_policy }
+        ensures objects { objects_of self.new ≡ opening_objects setup.grant }
         ensures world { world_of_store self.new ≡ world_for setup size dir }
-        ensures sound { IsStore (λ b. seen b) self.new }
-        ensures views { views_of (λ b. seen b) self.new ≡ views_of (λ b. seen b) self.old }
+        ensures views { views_of self.new ≡ views_of self.old }
         ensures set { self.new.setup ≡ setup }
         ensures memory { self.new.ram ≡ self.old.ram }
     {

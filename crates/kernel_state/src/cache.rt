@@ -9,14 +9,14 @@ ghost use Rattle.kernel_model.specs.FilePieces.{with_cache};
 ghost use Rattle.kernel_model.specs.RawRows.{frame_row_of};
 ghost use Rattle.kernel_model.specs.declared.FrameRow.{FrameRow as Row};
 ghost use Rattle.buffer_cache.specs.Frames.{in_use, row_at};
-ghost use Rattle.kernel_state.specs.Stores.{world_of_store, objects_of, cache_of, queue_of, policies_of, IsStore, SegmentsStay};
+ghost use Rattle.kernel_state.specs.Stores.{world_of_store, objects_of, cache_of, queue_of, policies_of, SegmentsStay};
 
 use crate::Store;
-use graft_points::victim;
+use graft_points::Policy;
 use kernel_model::{BLOCK_BYTES, Bytes, FrameRows};
 use ram_space::Ram;
 
-impl Store {
+impl<B: Policy> Store<B> {
     /// The frame that holds a block.
     pub fn find(&self, block: u32) -> Option<u8>
         ensures value { result ≡ frame_of_block (cache_of self.now) block }
@@ -28,7 +28,6 @@ impl Store {
 
     /// The lowest frame that isn't in use.
     pub fn free(&self) -> Option<u8>
-        requires { IsStore (λ b. seen b) self.now }
         ensures value { result ≡ free_frame (cache_of self.now) (world_of_store self.now).frames 0 }
         ensures some { 2 ≤ self.now.cache.count }
         ensures below { IfSome result (λ f. f < self.now.cache.count) }
@@ -41,7 +40,7 @@ impl Store {
     /// The frames in use, oldest first.
     pub fn frame_rows(&self) -> FrameRows
         ensures value { map (λ (r : Row). Some r) result ≡ map (row_at self.now.cache.rows) self.now.cache.order }
-        ensures shown { result ≡ filter_map (frame_row_of (objects_of (λ b. seen b) self.now)) (cache_of self.now).lru }
+        ensures shown { result ≡ filter_map (frame_row_of (objects_of self.now)) (cache_of self.now).lru }
     {
         let mut rows = FrameRows::new();
         for f in self.cache.lru() {
@@ -50,10 +49,10 @@ impl Store {
         rows
     }
 
-    /// The candidate for eviction by default: the frame that the chosen policy evicts of those in use, if there are some.
+    /// The candidate for eviction by default: the frame that the chosen policy evicts of those in
+    /// use, if there are some.
     pub fn candidate(&self) -> Option<u8>
-        requires { IsStore (λ b. seen b) self.now }
-        ensures value { result ≡ victim_among (policies_of (λ b. seen b) self.now 1) (cache_of self.now) (cache_of self.now).lru }
+        ensures value { result ≡ victim_among (policies_of self.now 1) (cache_of self.now) (cache_of self.now).lru }
         ensures in_cache { IfSome result (λ f. in_use f self.now.cache ≡ true) }
         ensures none { IfNone result ((f : ℕ) → in_use f self.now.cache ≡ false) }
     {
@@ -62,7 +61,7 @@ impl Store {
         if rows.as_slice().is_empty() {
             return None;
         }
-        Some(victim(self.shelf.as_slice(), &self.choice, rows.as_slice()))
+        Some(self.shelf.victim(&self.choice, rows.as_slice()))
     }
 
     /// Whether frame f is in use.
@@ -83,11 +82,9 @@ impl Store {
 
     /// Makes frame f, which is in use, the newest.
     pub fn touch(&mut self, f: u8)
-        requires sound { IsStore (λ b. seen b) self.old }
         requires in_cache { in_use f self.old.cache ≡ true }
-        ensures objects { objects_of (λ b. seen b) self.new ≡ with_cache (used f (cache_of self.old)) (objects_of (λ b. seen b) self.old) }
+        ensures objects { objects_of self.new ≡ with_cache (used f (cache_of self.old)) (objects_of self.old) }
         ensures world { world_of_store self.new ≡ world_of_store self.old }
-        ensures sound { IsStore (λ b. seen b) self.new }
         ensures kept { (g : ℕ) → in_use g self.new.cache ≡ in_use g self.old.cache }
         ensures memory { self.new.ram ≡ self.old.ram }
     {
@@ -96,14 +93,13 @@ impl Store {
 
     /// Fills frame f with a block that no frame holds: it is clean, has mark 0 and is the newest.
     pub fn fill(&mut self, f: u8, owner: u8, block: u32, bytes: &[u8; 512])
-        requires sound { IsStore (λ b. seen b) self.old }
         requires frame { f < self.old.cache.count }
         requires alive { lives (queue_of self.old) owner ≡ true }
         requires block { block < self.old.size }
         requires missing { frame_of_block (cache_of self.old) block ≡ None }
-        ensures objects { objects_of (λ b. seen b) self.new ≡ with_cache (filled f (new_frame owner block bytes.now) (cache_of self.old)) (objects_of (λ b. seen b) self.old) }
+        ensures objects { objects_of self.new ≡
+            with_cache (filled f (new_frame owner block bytes.now) (cache_of self.old)) (objects_of self.old) }
         ensures world { world_of_store self.new ≡ world_of_store self.old }
-        ensures sound { IsStore (λ b. seen b) self.new }
         ensures in_cache { in_use f self.new.cache ≡ true }
         ensures memory { SegmentsStay self.old.ram self.new.ram }
     {
@@ -115,16 +111,15 @@ impl Store {
 
     /// Fills frame f, which is in use, with a block that no frame holds, once it changed places with the candidate.
     pub fn replace(&mut self, f: u8, candidate: u8, owner: u8, block: u32, bytes: &[u8; 512])
-        requires sound { IsStore (λ b. seen b) self.old }
         requires frame { in_use f self.old.cache ≡ true }
         requires candidate { in_use candidate self.old.cache ≡ true }
         requires alive { lives (queue_of self.old) owner ≡ true }
         requires block { block < self.old.size }
         requires missing { frame_of_block (cache_of self.old) block ≡ None }
-        ensures objects { objects_of (λ b. seen b) self.new ≡
-            with_cache (replaced f candidate (new_frame owner block bytes.now) (cache_of self.old)) (objects_of (λ b. seen b) self.old) }
+        ensures objects { objects_of self.new ≡
+            with_cache (replaced f candidate (new_frame owner block bytes.now) (cache_of self.old))
+            (objects_of self.old) }
         ensures world { world_of_store self.new ≡ world_of_store self.old }
-        ensures sound { IsStore (λ b. seen b) self.new }
         ensures in_cache { in_use f self.new.cache ≡ true }
         ensures memory { SegmentsStay self.old.ram self.new.ram }
     {
@@ -138,12 +133,11 @@ impl Store {
 
     /// Puts bytes into frame f, which is in use, from a place in it on. It is dirty then.
     pub fn patch(&mut self, f: u8, off: u32, bytes: &[u8])
-        requires sound { IsStore (λ b. seen b) self.old }
         requires in_cache { in_use f self.old.cache ≡ true }
         requires inside { off + length bytes.now ≤ 512 }
-        ensures objects { objects_of (λ b. seen b) self.new ≡ with_cache (with_patch f off bytes.now (cache_of self.old)) (objects_of (λ b. seen b) self.old) }
+        ensures objects { objects_of self.new ≡
+            with_cache (with_patch f off bytes.now (cache_of self.old)) (objects_of self.old) }
         ensures world { world_of_store self.new ≡ world_of_store self.old }
-        ensures sound { IsStore (λ b. seen b) self.new }
         ensures memory { SegmentsStay self.old.ram self.new.ram }
     {
         self.cache.lru();
@@ -153,7 +147,6 @@ impl Store {
 
     /// The block of frame f, where it is in use and dirty.
     pub fn dirty_block(&self, f: u8) -> Option<u32>
-        requires { IsStore (λ b. seen b) self.now }
         ensures value { result ≡ option_map (λ (x : FrameValue). x.block) (dirty_value ((cache_of self.now).frame f)) }
         ensures in_cache { IfSome result (λ b. (b < self.now.size) × (in_use f self.now.cache ≡ true)) }
     {
@@ -166,13 +159,11 @@ impl Store {
 
     /// Frame f, which is in use, is clean.
     pub fn clean(&mut self, f: u8)
-        requires sound { IsStore (λ b. seen b) self.old }
         requires in_cache { in_use f self.old.cache ≡ true }
         ensures objects { (x : FrameValue) → (cache_of self.old).frame f ≡ Some x →
-            objects_of (λ b. seen b) self.new ≡ with_cache (cleaned f x (cache_of self.old)) (objects_of (λ b. seen b) self.old) }
+            objects_of self.new ≡ with_cache (cleaned f x (cache_of self.old)) (objects_of self.old) }
         ensures processes { self.new.procs ≡ self.old.procs }
         ensures world { world_of_store self.new ≡ world_of_store self.old }
-        ensures sound { IsStore (λ b. seen b) self.new }
         ensures memory { self.new.ram ≡ self.old.ram }
     {
         self.cache.lru();

@@ -7,13 +7,13 @@ ghost use Rattle.kernel_model.specs.Policies.{lives, ahead_default};
 ghost use Rattle.kernel_model.specs.Needs.{file_block, ahead_block, is_within};
 ghost use Rattle.kernel_model.specs.FilePieces.{with_file, free_descriptor as lowest_free, new_file};
 ghost use Rattle.kernel_model.specs.Sound.{IsSoundFile};
-ghost use Rattle.kernel_state.specs.Stores.{world_of_store, objects_of, queue_of, policies_of, IsStore};
+ghost use Rattle.kernel_state.specs.Stores.{world_of_store, objects_of, queue_of, policies_of};
 
 use crate::{Ahead, Store};
-use graft_points::ahead;
+use graft_points::Policy;
 use kernel_model::{BLOCK_BYTES, FileRow, OpenRow, Refusal};
 
-impl Store {
+impl<B: Policy> Store<B> {
     /// The usable file of this name, as it is when it was just opened.
     pub fn named(&self, name: &[u8]) -> Option<u8>
         ensures value { result ≡ file_named (world_of_store self.now) name.now }
@@ -24,10 +24,9 @@ impl Store {
 
     /// The file that is open at descriptor fd of process p, which lives.
     pub fn file(&self, p: u8, fd: u8) -> Option<OpenRow>
-        requires sound { IsStore (λ b. seen b) self.now }
         requires lives { lives (queue_of self.now) p ≡ true }
         requires number { fd < 4 }
-        ensures value { result ≡ (objects_of (λ b. seen b) self.now).things.file p fd }
+        ensures value { result ≡ (objects_of self.now).things.file p fd }
         ensures sound { IfSome result (λ o. IsSoundFile (world_of_store self.now) o) }
     {
         self.procs.rows();
@@ -37,7 +36,7 @@ impl Store {
     /// The lowest descriptor of process p at which no file is open.
     pub fn free_descriptor(&self, p: u8) -> Option<u8>
         requires { lives (queue_of self.now) p ≡ true }
-        ensures value { result ≡ lowest_free (objects_of (λ b. seen b) self.now).things p 4 0 }
+        ensures value { result ≡ lowest_free (objects_of self.now).things p 4 0 }
         ensures below { IfSome result (λ fd. fd < 4) }
     {
         self.procs.rows();
@@ -51,26 +50,25 @@ impl Store {
 
     /// Opens, changes or closes the file at descriptor fd of process p, which lives.
     pub fn put_file(&mut self, p: u8, fd: u8, row: Option<OpenRow>)
-        requires sound { IsStore (λ b. seen b) self.old }
         requires lives { lives (queue_of self.old) p ≡ true }
         requires number { fd < 4 }
         requires file { IfSome row (λ o. IsSoundFile (world_of_store self.old) o) }
-        ensures objects { objects_of (λ b. seen b) self.new ≡ with_file p fd row (objects_of (λ b. seen b) self.old) }
+        ensures objects { objects_of self.new ≡ with_file p fd row (objects_of self.old) }
         ensures world { world_of_store self.new ≡ world_of_store self.old }
-        ensures sound { IsStore (λ b. seen b) self.new }
         ensures memory { self.new.ram ≡ self.old.ram }
     {
         self.procs.rows();
         self.procs.put_file(p, fd, row);
     }
 
-    /// The disk's block that is block i of the file at descriptor fd of process p, which lives. Refused where no file is
-    /// open there, or bytes off to off + len of that block aren't all within the file.
+    /// The disk's block that is block i of the file at descriptor fd of process p, which lives.
+    /// Refused where no file is open there, or bytes off to off + len of that block aren't all
+    /// within the file.
     pub fn block_of(&self, p: u8, fd: u8, i: u32, off: u32, len: u32) -> Result<u32, Refusal>
-        requires sound { IsStore (λ b. seen b) self.now }
         requires lives { lives (queue_of self.now) p ≡ true }
         requires number { fd < 4 }
-        ensures value { result ≡ file_block (world_of_store self.now) ((objects_of (λ b. seen b) self.now).things.file p fd) i off len }
+        ensures value { result ≡
+            file_block (world_of_store self.now) ((objects_of self.now).things.file p fd) i off len }
         ensures on_disk { IfOk result (λ b. (b < self.now.size) × (i < 4096)) }
     {
         self.procs.rows();
@@ -86,7 +84,6 @@ impl Store {
 
     /// The disk's block that is to be read ahead next for an open file, which has one to be read ahead.
     pub fn block_ahead(&self, opened: &OpenRow) -> u32
-        requires sound { IsStore (λ b. seen b) self.now }
         requires file { IsSoundFile (world_of_store self.now) opened.now }
         requires some { 1 ≤ opened.now.count }
         ensures value { ahead_block (world_of_store self.now) (Some opened.now) ≡ Ok result }
@@ -105,13 +102,14 @@ impl Store {
 
     /// What is to be read ahead of an open file by default, as the chosen policy has it.
     pub fn ahead(&self, opened: &OpenRow) -> Ahead
-        requires sound { IsStore (λ b. seen b) self.now }
         requires file { IsSoundFile (world_of_store self.now) opened.now }
-        ensures value { ahead_default (world_of_store self.now) (policies_of (λ b. seen b) self.now 0) (Some opened.now) ≡ (result.start, result.count) }
-        ensures sound { IsSoundFile (world_of_store self.now) (record (opened.now) { start = result.start; count = result.count }) }
+        ensures value { ahead_default (world_of_store self.now) (policies_of self.now 0) (Some opened.now) ≡
+            (result.start, result.count) }
+        ensures sound { IsSoundFile (world_of_store self.now)
+            (record (opened.now) { start = result.start; count = result.count }) }
     {
         let blocks = self.dir.file(opened.file).blocks;
-        let (start, count) = ahead(self.shelf.as_slice(), &self.choice, opened, blocks);
+        let (start, count) = self.shelf.ahead(&self.choice, opened, blocks);
         Ahead {
             start,
             count: count as u8,

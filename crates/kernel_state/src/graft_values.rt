@@ -8,13 +8,13 @@ ghost use Rattle.kernel_model.specs.Access.{set_nice as nice_set, set_window as 
 ghost use Rattle.kernel_model.specs.Objects.{with_things};
 ghost use Rattle.kernel_model.specs.Policies.{lives, nice_of, is_owned, frames_of, victim_among};
 ghost use Rattle.buffer_cache.specs.Frames.{in_use, row_at};
-ghost use Rattle.kernel_state.specs.Stores.{world_of_store, objects_of, cache_of, queue_of, policies_of, IsStore};
+ghost use Rattle.kernel_state.specs.Stores.{world_of_store, objects_of, cache_of, queue_of, policies_of};
 
 use crate::Store;
-use graft_points::victim;
+use graft_points::Policy;
 use kernel_model::{FRAMES, FrameRow, FrameRows, OpenRow, QueueRow};
 
-impl Store {
+impl<B: Policy> Store<B> {
     /// The nice of process q. 0 where it doesn't live.
     pub fn nice(&self, q: u8) -> u8
         ensures value { result ≡ nice_of (queue_of self.now) q }
@@ -25,13 +25,12 @@ impl Store {
 
     /// Gives process q, which lives, another nice.
     pub(crate) fn set_nice(&mut self, q: u8, v: u8)
-        requires sound { IsStore (λ b. seen b) self.old }
         requires lives { lives (queue_of self.old) q ≡ true }
         requires range { v ≤ 39 }
-        ensures objects { objects_of (λ b. seen b) self.new ≡ with_things (nice_set q v (objects_of (λ b. seen b) self.old).things) (objects_of (λ b. seen b) self.old) }
+        ensures objects { objects_of self.new ≡
+            with_things (nice_set q v (objects_of self.old).things) (objects_of self.old) }
         ensures living { (p : ℕ) → lives (queue_of self.new) p ≡ lives (queue_of self.old) p }
         ensures world { world_of_store self.new ≡ world_of_store self.old }
-        ensures sound { IsStore (λ b. seen b) self.new }
         ensures memory { self.new.ram ≡ self.old.ram }
     {
         self.procs.set_nice(q, v);
@@ -39,15 +38,14 @@ impl Store {
 
     /// Gives the file that is open at descriptor fd of process q another window.
     pub(crate) fn set_window(&mut self, q: u8, fd: u8, v: u8)
-        requires sound { IsStore (λ b. seen b) self.old }
         requires lives { lives (queue_of self.old) q ≡ true }
         requires number { fd < 4 }
-        requires opened { is_some ((objects_of (λ b. seen b) self.old).things.file q fd) ≡ true }
+        requires opened { is_some ((objects_of self.old).things.file q fd) ≡ true }
         requires range { v ≤ 8 }
-        ensures objects { objects_of (λ b. seen b) self.new ≡ with_things (window_set q fd v (objects_of (λ b. seen b) self.old).things) (objects_of (λ b. seen b) self.old) }
+        ensures objects { objects_of self.new ≡
+            with_things (window_set q fd v (objects_of self.old).things) (objects_of self.old) }
         ensures queue { queue_of self.new ≡ queue_of self.old }
         ensures world { world_of_store self.new ≡ world_of_store self.old }
-        ensures sound { IsStore (λ b. seen b) self.new }
         ensures memory { self.new.ram ≡ self.old.ram }
     {
         if let Some(row) = self.file(q, fd) {
@@ -57,12 +55,11 @@ impl Store {
 
     /// Gives frame f, which is in use, another mark.
     pub(crate) fn set_mark(&mut self, f: u32, v: u8)
-        requires sound { IsStore (λ b. seen b) self.old }
         requires in_cache { in_use f self.old.cache ≡ true }
-        ensures objects { objects_of (λ b. seen b) self.new ≡ with_things (mark_set f v (objects_of (λ b. seen b) self.old).things) (objects_of (λ b. seen b) self.old) }
+        ensures objects { objects_of self.new ≡
+            with_things (mark_set f v (objects_of self.old).things) (objects_of self.old) }
         ensures queue { queue_of self.new ≡ queue_of self.old }
         ensures world { world_of_store self.new ≡ world_of_store self.old }
-        ensures sound { IsStore (λ b. seen b) self.new }
         ensures memory { self.new.ram ≡ self.old.ram }
     {
         self.cache.lru();
@@ -98,7 +95,8 @@ impl Store {
 
     /// The frames of process q, oldest first.
     pub fn owned_rows(&self, q: u8) -> FrameRows
-        ensures rows { map (λ (r : Row). Some r) result ≡ map (row_at self.now.cache.rows) (frames_of (cache_of self.now) q) }
+        ensures rows { map (λ (r : Row). Some r) result ≡
+            map (row_at self.now.cache.rows) (frames_of (cache_of self.now) q) }
         ensures frames { map (λ (r : Row). r.frame) result ≡ frames_of (cache_of self.now) q }
     {
         let mut rows = FrameRows::new();
@@ -123,8 +121,8 @@ impl Store {
 
     /// The candidate for eviction of process q: the frame that the chosen policy evicts of those of q, if it has some.
     pub fn candidate_of(&self, q: u8) -> Option<u8>
-        requires { IsStore (λ b. seen b) self.now }
-        ensures value { result ≡ victim_among (policies_of (λ b. seen b) self.now 1) (cache_of self.now) (frames_of (cache_of self.now) q) }
+        ensures value { result ≡
+            victim_among (policies_of self.now 1) (cache_of self.now) (frames_of (cache_of self.now) q) }
         ensures in_cache { IfSome result (λ f. in_use f self.now.cache ≡ true) }
         ensures owned { IfSome result (λ f. is_owned (cache_of self.now) q f ≡ true) }
         ensures none { IfNone result (frames_of (cache_of self.now) q ≡ []) }
@@ -134,7 +132,7 @@ impl Store {
         if rows.as_slice().is_empty() {
             return None;
         }
-        Some(victim(self.shelf.as_slice(), &self.choice, rows.as_slice()))
+        Some(self.shelf.victim(&self.choice, rows.as_slice()))
     }
 }
 

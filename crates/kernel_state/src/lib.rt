@@ -3,6 +3,11 @@
 //! Contracts see a store as the objects and the world of the definitions, and each change of it as a change of objects.
 #![tactic(auto)]
 
+ghost use Rattle.kernel_state.specs.Sound.{StoreFits, world_for, things_with};
+ghost use Rattle.process_table.specs.Processes.{processes_of};
+ghost use Rattle.graft_points.specs.Shelf.{IsShelf, pol_of};
+ghost use Rattle.kernel_state.specs.CacheViews.{cache_value};
+
 mod accessors;
 mod accounts;
 mod boot;
@@ -15,7 +20,7 @@ mod shown;
 
 use buffer_cache::Cache;
 use graft_accounts::Accounts;
-use graft_points::{Choice, Policy};
+use graft_points::{Choice, Policy, Shelf};
 use kernel_model::Inverse;
 use mem_disk::Directory;
 use process_table::Procs;
@@ -34,7 +39,7 @@ pub struct Setup {
 
 /// The kernel's state, but for the clock and the calls in flight: one value for each object.
 #[derive(Drop)]
-pub struct Store {
+pub struct Store<B: Policy> {
     /// What the set-up lines set.
     pub setup: Setup,
     /// How many blocks the disk has.
@@ -52,7 +57,10 @@ pub struct Store {
     /// Which policy of each kind is chosen.
     pub choice: Choice,
     /// The policies, in the order of their codes, with their parameters.
-    pub shelf: Vec<Box<dyn Policy>>,
+    pub shelf: Shelf<B>,
+    ghost fits: { StoreFits cache.count (world_for setup size dir)
+        (things_with (processes_of procs) (cache_value cache ram) (pol_of shelf choice)) },
+    ghost stock: { IsShelf shelf },
 }
 
 /// What a process is to read ahead: this many blocks of its file, from a block on.

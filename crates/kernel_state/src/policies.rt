@@ -5,35 +5,36 @@ ghost use Rattle.kernel_model.specs.Objects.{at, with_things};
 ghost use Rattle.kernel_model.specs.Access.{in_range, param_top, set_param as param_set};
 ghost use Rattle.kernel_model.specs.Early.{policy_count};
 ghost use Rattle.kernel_model.specs.RawRows.{shown_param};
-ghost use Rattle.kernel_state.specs.Stores.{world_of_store, objects_of, queue_of, IsStore};
+ghost use Rattle.kernel_state.specs.Stores.{world_of_store, objects_of, queue_of};
 
 use crate::Store;
-use graft_points::{param, set_param};
+use graft_points::Policy;
 
-impl Store {
+impl<B: Policy> Store<B> {
     /// Which policy of a kind is chosen.
     pub fn chosen(&self, kind: u8) -> u8
         requires { kind < 3 }
-        ensures { result ≡ ((objects_of (λ b. seen b) self.now).things.pol kind).chosen }
+        ensures { result ≡ ((objects_of self.now).things.pol kind).chosen }
     {
         self.choice.of(kind)
     }
 
     /// The parameter of the chosen policy of a kind. None where it has none.
     pub fn param(&self, kind: u8) -> Option<u32>
-        requires sound { IsStore (λ b. seen b) self.now }
         requires kind { kind < 3 }
-        ensures value { result ≡ shown_param kind ((objects_of (λ b. seen b) self.now).things.pol kind) }
-        ensures range { IfSome result (λ v. in_range (param_top kind ((objects_of (λ b. seen b) self.now).things.pol kind).chosen) 0 v ≡ true) }
+        ensures value { result ≡ shown_param kind ((objects_of self.now).things.pol kind) }
+        ensures range { IfSome result (λ v.
+            in_range (param_top kind ((objects_of self.now).things.pol kind).chosen) 0 v ≡ true) }
     {
         self.choice.of(kind);
-        param(self.shelf.as_slice(), &self.choice, kind)
+        self.shelf.param(&self.choice, kind)
     }
 
-    /// Whether parameter k of the chosen policy of a kind takes a value: there is parameter 0 at most, and it has a range.
+    /// Whether parameter k of the chosen policy of a kind takes a value: there is parameter 0 at
+    /// most, and it has a range.
     pub fn takes(&self, kind: u8, k: u32, v: u32) -> bool
         requires { kind < 3 }
-        ensures { result ≡ in_range (param_top kind ((objects_of (λ b. seen b) self.now).things.pol kind).chosen) k v }
+        ensures { result ≡ in_range (param_top kind ((objects_of self.now).things.pol kind).chosen) k v }
     {
         match top_of(kind, self.chosen(kind)) {
             Some(top) => k == 0 && v <= top,
@@ -43,33 +44,32 @@ impl Store {
 
     /// Chooses policy j of a kind. No parameter changes.
     pub fn choose(&mut self, kind: u8, j: u8)
-        requires sound { IsStore (λ b. seen b) self.old }
         requires kind { kind < 3 }
         requires number { j < policy_count kind }
-        ensures objects { let s = objects_of (λ b. seen b) self.old in
-            objects_of (λ b. seen b) self.new ≡ with_things (record (s.things) { pol = at kind (record (s.things.pol kind) { chosen = j }) s.things.pol }) s }
+        ensures objects { let s = objects_of self.old in
+            objects_of self.new ≡
+            with_things (record (s.things) {
+              pol = at kind (record (s.things.pol kind) { chosen = j }) s.things.pol;
+            }) s }
         ensures queue { queue_of self.new ≡ queue_of self.old }
         ensures world { world_of_store self.new ≡ world_of_store self.old }
-        ensures sound { IsStore (λ b. seen b) self.new }
         ensures memory { self.new.ram ≡ self.old.ram }
     {
         self.choice.choose(kind, j);
     }
 
-    /// Sets the parameter of the chosen policy of a kind, which has one, to a value in its range. The other policies stay
-    /// what they were.
+    /// Sets the parameter of the chosen policy of a kind, which has one, to a value in its range.
+    /// The other policies stay what they were.
     pub fn set_param(&mut self, kind: u8, v: u32)
-        requires sound { IsStore (λ b. seen b) self.old }
         requires kind { kind < 3 }
-        requires range { in_range (param_top kind ((objects_of (λ b. seen b) self.old).things.pol kind).chosen) 0 v ≡ true }
-        ensures objects { objects_of (λ b. seen b) self.new ≡
-            with_things (param_set kind v (objects_of (λ b. seen b) self.old).things) (objects_of (λ b. seen b) self.old) }
+        requires range { in_range (param_top kind ((objects_of self.old).things.pol kind).chosen) 0 v ≡ true }
+        ensures objects { objects_of self.new ≡
+            with_things (param_set kind v (objects_of self.old).things) (objects_of self.old) }
         ensures queue { queue_of self.new ≡ queue_of self.old }
         ensures world { world_of_store self.new ≡ world_of_store self.old }
-        ensures sound { IsStore (λ b. seen b) self.new }
         ensures memory { self.new.ram ≡ self.old.ram }
     {
-        set_param(self.shelf.as_mut_slice(), &self.choice, kind, v);
+        self.shelf.set_param(&self.choice, kind, v);
     }
 }
 

@@ -7,13 +7,13 @@ ghost use Rattle.kernel_model.specs.Policies.{lives, next_process};
 ghost use Rattle.kernel_model.specs.Pieces.{with_queue, to_back as queue_to_back, add_slice as queue_with_slice, with_holder, things_without, account_closed, without_grafts};
 ghost use Rattle.kernel_model.specs.Objects.{with_things};
 ghost use Rattle.kernel_model.specs.Access.{set_cell as cell_set};
-ghost use Rattle.kernel_state.specs.Stores.{world_of_store, objects_of, queue_of, queue_joined, policies_of, IsStore};
+ghost use Rattle.kernel_state.specs.Stores.{world_of_store, objects_of, queue_of, queue_joined, policies_of};
 
 use crate::Store;
-use graft_points::next;
+use graft_points::Policy;
 use kernel_model::QueueRow;
 
-impl Store {
+impl<B: Policy> Store<B> {
     /// Whether process p lives.
     pub fn living(&self, p: u32) -> bool
         ensures value { result ≡ lives (queue_of self.now) p }
@@ -31,12 +31,11 @@ impl Store {
 
     /// The least number that isn't living joins at the back. None, with nothing changed, where 16 processes live.
     pub fn spawn(&mut self) -> Option<u8>
-        requires { IsStore (λ b. seen b) self.old }
         ensures number { result ≡ free_process (queue_of self.old) 16 0 }
-        ensures objects { objects_of (λ b. seen b) self.new ≡ with_queue (queue_joined result (queue_of self.old)) (objects_of (λ b. seen b) self.old) }
+        ensures objects { objects_of self.new ≡
+            with_queue (queue_joined result (queue_of self.old)) (objects_of self.old) }
         ensures living { (q : ℕ) → lives (queue_of self.old) q ≡ true → lives (queue_of self.new) q ≡ true }
         ensures world { world_of_store self.new ≡ world_of_store self.old }
-        ensures sound { IsStore (λ b. seen b) self.new }
         ensures memory { self.new.ram ≡ self.old.ram }
     {
         self.procs.spawn()
@@ -44,29 +43,29 @@ impl Store {
 
     /// Process p goes to the back of the queue.
     pub fn to_back(&mut self, p: u8)
-        requires sound { IsStore (λ b. seen b) self.old }
         requires lives { lives (queue_of self.old) p ≡ true }
-        ensures objects { objects_of (λ b. seen b) self.new ≡ with_queue (queue_to_back p (queue_of self.old)) (objects_of (λ b. seen b) self.old) }
+        ensures objects { objects_of self.new ≡ with_queue (queue_to_back p (queue_of self.old)) (objects_of self.old) }
         ensures living { (q : ℕ) → lives (queue_of self.new) q ≡ lives (queue_of self.old) q }
         ensures world { world_of_store self.new ≡ world_of_store self.old }
-        ensures sound { IsStore (λ b. seen b) self.new }
         ensures memory { self.new.ram ≡ self.old.ram }
     {
         self.procs.to_back(p);
     }
 
-    /// Process p leaves, which isn't 0: its cells become 0, its files close, its locks are freed, its frames are process 0's,
-    /// its grafts go, and process 0 gets all that it has and has spent.
+    /// Process p leaves, which isn't 0: its cells become 0, its files close, its locks are freed,
+    /// its frames are process 0's, its grafts go, and process 0 gets all that it has and has spent.
     pub fn leave(&mut self, p: u8)
-        requires sound { IsStore (λ b. seen b) self.old }
         requires lives { lives (queue_of self.old) p ≡ true }
         requires not_root { 0 < p }
-        ensures objects { let s = objects_of (λ b. seen b) self.old in
-            objects_of (λ b. seen b) self.new ≡ record { accounts = account_closed p (without_grafts p 16 s.accounts); things = things_without p s.things } }
+        ensures objects { let s = objects_of self.old in
+            objects_of self.new ≡
+            record {
+              accounts = account_closed p (without_grafts p 16 s.accounts);
+              things = things_without p s.things;
+            } }
         ensures living { (q : ℕ) → lives (queue_of self.new) q ≡ (lives (queue_of self.old) q && not (q == p)) }
         ensures queue { queue_of self.new ≡ queue_without p (queue_of self.old) }
         ensures world { world_of_store self.new ≡ world_of_store self.old }
-        ensures sound { IsStore (λ b. seen b) self.new }
         ensures memory { self.new.ram ≡ self.old.ram }
     {
         self.procs.rows();
@@ -77,21 +76,19 @@ impl Store {
 
     /// The process that is next by default, as the chosen policy has it.
     pub fn next(&self) -> u8
-        requires { IsStore (λ b. seen b) self.now }
-        ensures value { next_process (policies_of (λ b. seen b) self.now 2) (queue_of self.now) ≡ Some result }
+        ensures value { next_process (policies_of self.now 2) (queue_of self.now) ≡ Some result }
         ensures lives { lives (queue_of self.now) result ≡ true }
     {
-        next(self.shelf.as_slice(), &self.choice, self.procs.rows())
+        self.shelf.next(&self.choice, self.procs.rows())
     }
 
     /// Raises the slices of process p by one, up to the end of their count.
     pub fn add_slice(&mut self, p: u8)
-        requires sound { IsStore (λ b. seen b) self.old }
         requires lives { lives (queue_of self.old) p ≡ true }
-        ensures objects { objects_of (λ b. seen b) self.new ≡ with_queue (queue_with_slice p (queue_of self.old)) (objects_of (λ b. seen b) self.old) }
+        ensures objects { objects_of self.new ≡
+            with_queue (queue_with_slice p (queue_of self.old)) (objects_of self.old) }
         ensures living { (q : ℕ) → lives (queue_of self.new) q ≡ lives (queue_of self.old) q }
         ensures world { world_of_store self.new ≡ world_of_store self.old }
-        ensures sound { IsStore (λ b. seen b) self.new }
         ensures memory { self.new.ram ≡ self.old.ram }
     {
         self.procs.add_slice(p);
@@ -101,7 +98,7 @@ impl Store {
     pub fn cell(&self, p: u8, k: u8) -> u32
         requires lives { lives (queue_of self.now) p ≡ true }
         requires number { k < 4 }
-        ensures { result ≡ (objects_of (λ b. seen b) self.now).things.cell p k }
+        ensures { result ≡ (objects_of self.now).things.cell p k }
     {
         self.procs.rows();
         self.procs.cell(p, k)
@@ -109,12 +106,11 @@ impl Store {
 
     /// Changes cell k of process p, which lives.
     pub fn set_cell(&mut self, p: u8, k: u8, v: u32)
-        requires sound { IsStore (λ b. seen b) self.old }
         requires lives { lives (queue_of self.old) p ≡ true }
         requires number { k < 4 }
-        ensures objects { objects_of (λ b. seen b) self.new ≡ with_things (cell_set p k v (objects_of (λ b. seen b) self.old).things) (objects_of (λ b. seen b) self.old) }
+        ensures objects { objects_of self.new ≡
+            with_things (cell_set p k v (objects_of self.old).things) (objects_of self.old) }
         ensures world { world_of_store self.new ≡ world_of_store self.old }
-        ensures sound { IsStore (λ b. seen b) self.new }
         ensures memory { self.new.ram ≡ self.old.ram }
     {
         self.procs.set_cell(p, k, v);
@@ -123,20 +119,18 @@ impl Store {
     /// The process that holds user lock u.
     pub fn holder(&self, u: u8) -> Option<u8>
         requires { u < 16 }
-        ensures { result ≡ (objects_of (λ b. seen b) self.now).things.lock u }
+        ensures { result ≡ (objects_of self.now).things.lock u }
     {
         self.procs.holder(u)
     }
 
     /// Gives user lock u to a process that lives, or frees it.
     pub fn set_holder(&mut self, u: u8, holder: Option<u8>)
-        requires sound { IsStore (λ b. seen b) self.old }
         requires number { u < 16 }
         requires lives { IfSome holder (λ q. lives (queue_of self.old) q ≡ true) }
-        ensures objects { objects_of (λ b. seen b) self.new ≡ with_holder u holder (objects_of (λ b. seen b) self.old) }
+        ensures objects { objects_of self.new ≡ with_holder u holder (objects_of self.old) }
         ensures queue { queue_of self.new ≡ queue_of self.old }
         ensures world { world_of_store self.new ≡ world_of_store self.old }
-        ensures sound { IsStore (λ b. seen b) self.new }
         ensures memory { self.new.ram ≡ self.old.ram }
     {
         self.procs.set_holder(u, holder);

@@ -3,12 +3,13 @@
 ghost use Rattle.std.specs.Prelude.{◌≡◌, ◌<◌, ◌≤◌, length};
 ghost use Rattle.kernel_model.specs.RawRows.{acct_row, cells_row, open_row, graft_row, pol_row, lock_row};
 ghost use Rattle.kernel_model.specs.declared.RawRow.TheVariants.{Queue};
-ghost use Rattle.kernel_state.specs.Stores.{world_of_store, objects_of, queue_of, IsStore};
+ghost use Rattle.kernel_state.specs.Stores.{world_of_store, objects_of, queue_of};
 
 use crate::Store;
+use graft_points::Policy;
 use kernel_model::{Kind, QueueRow, QueueRows, RawRow};
 
-impl Store {
+impl<B: Policy> Store<B> {
     /// The queue, front first.
     pub fn shown_queue(&self) -> RawRow
         ensures { result ≡ Queue (queue_of self.now) }
@@ -19,7 +20,7 @@ impl Store {
     /// What process p has and has spent of each kind.
     pub fn shown_account(&self, p: u8) -> RawRow
         requires { p < 16 }
-        ensures { result ≡ acct_row (objects_of (λ b. seen b) self.now) p }
+        ensures { result ≡ acct_row (objects_of self.now) p }
     {
         let amounts = [
             self.accounts.balance(p, Kind::Steps),
@@ -35,7 +36,7 @@ impl Store {
     /// The cells of process p.
     pub fn shown_cells(&self, p: u8) -> RawRow
         requires { p < 16 }
-        ensures { result ≡ cells_row (objects_of (λ b. seen b) self.now) p }
+        ensures { result ≡ cells_row (objects_of self.now) p }
     {
         let cells = [
             self.procs.cell(p, 0),
@@ -48,10 +49,9 @@ impl Store {
 
     /// The file that is open at descriptor fd of process p, with its name.
     pub fn shown_file(&self, p: u8, fd: u8) -> Option<RawRow>
-        requires sound { IsStore (λ b. seen b) self.now }
         requires process { p < 16 }
         requires number { fd < 4 }
-        ensures { result ≡ open_row (world_of_store self.now) (objects_of (λ b. seen b) self.now) p fd }
+        ensures { result ≡ open_row (world_of_store self.now) (objects_of self.now) p fd }
     {
         let opened = self.procs.file(p, fd)?;
         let file = self.dir.file(opened.file);
@@ -62,7 +62,7 @@ impl Store {
     pub fn shown_graft(&self, p: u8, pt: u8) -> Option<RawRow>
         requires process { p < 16 }
         requires point { pt < 16 }
-        ensures { result ≡ graft_row (objects_of (λ b. seen b) self.now) p pt }
+        ensures { result ≡ graft_row (objects_of self.now) p pt }
     {
         let graft = self.accounts.graft(p, pt)?;
         let balance = [graft.steps, graft.records, graft.locks];
@@ -71,9 +71,8 @@ impl Store {
 
     /// The chosen policy of a kind, with its parameter if it has one.
     pub fn shown_policy(&self, kind: u8) -> RawRow
-        requires sound { IsStore (λ b. seen b) self.now }
         requires kind { kind < 3 }
-        ensures { result ≡ pol_row (objects_of (λ b. seen b) self.now) kind }
+        ensures { result ≡ pol_row (objects_of self.now) kind }
     {
         RawRow::Pol(kind, self.chosen(kind), self.param(kind))
     }
@@ -81,7 +80,7 @@ impl Store {
     /// The process that holds user lock u.
     pub fn shown_lock(&self, u: u8) -> Option<RawRow>
         requires { u < 16 }
-        ensures { result ≡ lock_row (objects_of (λ b. seen b) self.now) u }
+        ensures { result ≡ lock_row (objects_of self.now) u }
     {
         let p = self.procs.holder(u)?;
         Some(RawRow::Lock(u, p))

@@ -5,5 +5,5 @@ use Rattle.graft_points.proofs.shelf.are_like.Given as goal
 abbrev pub invariant-loop-i : goal.invariant-loop-i
 invariant-loop-i g l =
     (k : ℕ) → k < l.i →
-    view_at (map (λ b. (goal.Policy-dyn g (b.vtable, b.value)).seen b.value) l.shelf) k
+    view_at (map g.B.Policy.seen l.shelf) k
     ≡ view_at (map (λ s. stock_view s.0 s.1) l.table) k

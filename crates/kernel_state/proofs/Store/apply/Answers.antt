@@ -8,4 +8,4 @@ use Rattle.kernel_state.proofs.Store.apply.Goals as goal
 pub returns-clause-kept : goal.returns-clause-kept
 returns-clause-kept g c = λ i h.
     subst (λ (s : Objects). CanBeUndone i s.things) (sym c.change.ensures.objects)
-    (kept_by_access c.args.id (slice_index c.args.args 0) (slice_index c.args.args 1) (slice_index c.args.args 2) c.args.q i (objects_of (λ b. (goal.Policy-dyn g (b.vtable, b.value)).seen b.value) c.args.self.now).things h)
+    (kept_by_access c.args.id (slice_index c.args.args 0) (slice_index c.args.args 1) (slice_index c.args.args 2) c.args.q i (objects_of c.args.self.now).things h)

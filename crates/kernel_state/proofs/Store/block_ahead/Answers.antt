@@ -7,10 +7,10 @@ pub overflow_add-result : goal.overflow_add-result
 overflow_add-result g c =
     let s = c.args.self.now in
     let row = c.file.result in
-    let inside = ahead_inside (world_of_store s) c.args.opened.now row c.requires.file c.file.ensures (c.requires.sound.fits.directory c.args.opened.now.file row c.file.ensures) c.requires.some in
-    let most = c.requires.sound.fits.most in omega arith
+    let inside = ahead_inside (world_of_store s) c.args.opened.now row c.requires.file c.file.ensures (c.args.self.now.fits.directory c.args.opened.now.file row c.file.ensures) c.requires.some in
+    let most = c.args.self.now.fits.most in omega arith
 
 pub returns-clause-on_disk : goal.returns-clause-on_disk
 returns-clause-on_disk g c =
     let s = c.args.self.now in
-    ahead_inside (world_of_store s) c.args.opened.now c.file.result c.requires.file c.file.ensures (c.requires.sound.fits.directory c.args.opened.now.file c.file.result c.file.ensures) c.requires.some
+    ahead_inside (world_of_store s) c.args.opened.now c.file.result c.requires.file c.file.ensures (c.args.self.now.fits.directory c.args.opened.now.file c.file.result c.file.ensures) c.requires.some

@@ -1,5 +1,4 @@
-use Rattle.std.proofs.Common.{ap, refl, map}
-use Rattle.graft_points.specs.Shelf.{pol_of}
+use Rattle.std.proofs.Common.{refl}
 use Rattle.kernel_state.specs.Stores.{policies_of}
 use Rattle.kernel_state.proofs.Rows.{none_used, candidate_is, evicted_used, no_rows}
 use Rattle.kernel_state.proofs.Store.candidate.Goals as goal
@@ -14,13 +13,13 @@ returns-then-is_empty-clause-none g c =
 pub returns-clause-value : goal.returns-clause-value
 returns-clause-value g c =
     let s = c.args.self.now in
-    candidate_is s.cache s.ram s.cache.order c.frame_rows-rows.result c.as_slice-3.result.now
-    (policies_of (λ b. (goal.Policy-dyn g (b.vtable, b.value)).seen b.value) s 1)
-    (pol_of (map (λ b. (goal.Policy-dyn g (b.vtable, b.value)).seen b.value) c.as_slice-2.result.now) s.choice 1) c.victim.result
-    c.lru.ensures.sound c.frame_rows-rows.ensures.value c.as_slice-3.ensures.value
-    (ap (λ xs. pol_of (map (λ b. (goal.Policy-dyn g (b.vtable, b.value)).seen b.value) xs) s.choice 1) c.as_slice-2.ensures.value) c.victim.ensures.candidate
+    candidate_is s.cache s.ram s.cache.order c.frame_rows-rows.result c.as_slice-2.result.now
+    (policies_of s 1)
+    (policies_of s 1) c.victim.result
+    c.lru.ensures.sound c.frame_rows-rows.ensures.value c.as_slice-2.ensures.value
+    refl c.victim.ensures.candidate
 
 pub returns-clause-in_cache : goal.returns-clause-in_cache
 returns-clause-in_cache g c =
     let s = c.args.self.now in
-    evicted_used s.cache c.victim.result s.cache.order c.frame_rows-rows.result c.as_slice-3.result.now c.lru.ensures.sound c.frame_rows-rows.ensures.value c.as_slice-3.ensures.value c.victim.ensures.stands
+    evicted_used s.cache c.victim.result s.cache.order c.frame_rows-rows.result c.as_slice-2.result.now c.lru.ensures.sound c.frame_rows-rows.ensures.value c.as_slice-2.ensures.value c.victim.ensures.stands

@@ -16,18 +16,15 @@ pub returns-clause-objects : goal.returns-clause-objects
 returns-clause-objects g c =
     let s = c.args.self.now in
     let long : length c.args.bytes.now ≡ 512 = omega arith in
-    stands_so _ s c.fill.new.self c.fill.new.ram _
+    stands_so s c.fill.new.self c.fill.new.ram _
     (filled_is s.cache c.fill.new.self s.ram c.fill.new.ram c.args.bytes.now c.args.f c.args.owner c.args.block c.lru.ensures.sound c.whole.ensures c.requires.frame long c.fill.ensures.cache
     c.fill.ensures.memory)
 
-pub returns-clause-sound : goal.returns-clause-sound
-returns-clause-sound g c =
+pub invariant_of-self-clause-fits : goal.invariant_of-self-clause-fits
+invariant_of-self-clause-fits g c =
     let s = c.args.self.now in
     let long : length c.args.bytes.now ≡ 512 = omega arith in
     let is = filled_is s.cache c.fill.new.self s.ram c.fill.new.ram c.args.bytes.now c.args.f c.args.owner c.args.block c.lru.ensures.sound c.whole.ensures c.requires.frame long c.fill.ensures.cache
     c.fill.ensures.memory in
-    record {
-      fits = fits_frames s.cache.count c.fill.new.self.count (world_of_store s) _ _ c.requires.sound.fits (ap (λ (w : Frames). w.count) c.fill.ensures.cache) refl
-          (blocks_filled s.size c.args.f c.args.owner c.args.block c.args.bytes.now (cache_of s) (cache_value c.fill.new.self c.fill.new.ram) c.requires.sound.fits.blocks c.requires.block (ap (λ (w : CacheValue). w.frame) is));
-      shelf = c.requires.sound.shelf;
-    }
+    fits_frames s.cache.count c.fill.new.self.count (world_of_store s) _ _ c.args.self.now.fits (ap (λ (w : Frames). w.count) c.fill.ensures.cache) refl
+    (blocks_filled s.size c.args.f c.args.owner c.args.block c.args.bytes.now (cache_of s) (cache_value c.fill.new.self c.fill.new.ram) c.args.self.now.fits.blocks c.requires.block (ap (λ (w : CacheValue). w.frame) is))

@@ -1,8 +1,15 @@
-use Rattle.std.proofs.Common.{refl}
-use Rattle.kernel_state.specs.Stores.{world_for}
+use Rattle.std.proofs.Common.{ℕ, List, refl, ap, ◌∙◌}
+use Rattle.graft_points.specs.Shelf.{pol_of}
+use Rattle.kernel_state.specs.Sound.{world_for}
 use Rattle.kernel_state.proofs.Fits.{fits_new}
+use Rattle.kernel_state.proofs.Opening.{opens_with}
 use Rattle.kernel_state.proofs.Store.new.Goals as goal
 
-pub returns-clause-sound : goal.returns-clause-sound
-returns-clause-sound g c =
-    record { fits = fits_new (world_for c.args.setup c.args.size c.args.dir) _ c.new-3.result c.new.result c.args.ram c.new-3.ensures c.new.ensures refl refl c.requires.size_least c.requires.size_most c.requires.files; shelf = c.requires.shelf }
+pub invariant_of-result-clause-fits : goal.invariant_of-result-clause-fits
+invariant_of-result-clause-fits g c =
+    fits_new (world_for c.args.setup c.args.size c.args.dir) _ c.new-3.result c.new.result c.args.ram c.new-3.ensures c.new.ensures refl refl c.requires.size_least c.requires.size_most c.requires.files
+
+pub returns-clause-objects : goal.returns-clause-objects
+returns-clause-objects g c =
+    opens_with _ _ c.new-3.result c.args.ram _ c.args.setup.frames c.args.setup.grant c.new-2.ensures.value c.new.ensures c.new-3.ensures
+    (ap (λ (choice : List ℕ). pol_of c.args.shelf choice) c.new-4.ensures ∙ c.requires.stock)

@@ -8,16 +8,13 @@ use Rattle.kernel_state.proofs.Store.patch.Goals as goal
 pub returns-clause-objects : goal.returns-clause-objects
 returns-clause-objects g c =
     let s = c.args.self.now in
-    stands_so _ s c.patch.new.self c.patch.new.ram _
+    stands_so s c.patch.new.self c.patch.new.ram _
     (patched_is s.cache c.patch.new.self s.ram c.patch.new.ram c.args.bytes.now c.args.f c.args.off c.lru.ensures.sound c.whole.ensures c.requires.in_cache c.requires.inside
     c.patch.ensures.cache c.patch.ensures.memory)
 
-pub returns-clause-sound : goal.returns-clause-sound
-returns-clause-sound g c =
+pub invariant_of-self-clause-fits : goal.invariant_of-self-clause-fits
+invariant_of-self-clause-fits g c =
     let s = c.args.self.now in
-    record {
-      fits = fits_frames s.cache.count c.patch.new.self.count (world_of_store s) _ _ c.requires.sound.fits (ap (λ (w : Frames). w.count) c.patch.ensures.cache) refl
-          (blocks_changed s.cache c.patch.new.self s.ram c.patch.new.ram s.size c.args.f true c.lru.ensures.sound (used_below s.cache c.args.f c.lru.ensures.sound c.requires.in_cache)
-          c.patch.ensures.cache c.requires.sound.fits.blocks);
-      shelf = c.requires.sound.shelf;
-    }
+    fits_frames s.cache.count c.patch.new.self.count (world_of_store s) _ _ c.args.self.now.fits (ap (λ (w : Frames). w.count) c.patch.ensures.cache) refl
+    (blocks_changed s.cache c.patch.new.self s.ram c.patch.new.ram s.size c.args.f true c.lru.ensures.sound (used_below s.cache c.args.f c.lru.ensures.sound c.requires.in_cache)
+    c.patch.ensures.cache c.args.self.now.fits.blocks)

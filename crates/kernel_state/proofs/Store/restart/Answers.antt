@@ -1,8 +1,8 @@
 use Rattle.std.proofs.Common.{refl}
-use Rattle.kernel_state.specs.Stores.{world_for}
+use Rattle.kernel_state.specs.Sound.{world_for}
 use Rattle.kernel_state.proofs.Fits.{fits_new}
 use Rattle.kernel_state.proofs.Store.restart.Goals as goal
 
-pub returns-clause-sound : goal.returns-clause-sound
-returns-clause-sound g c =
-    record { fits = fits_new (world_for c.args.setup c.args.size c.args.dir) _ c.new-self-3.result c.new-self.result c.args.self.now.ram c.new-self-3.ensures c.new-self.ensures refl refl c.requires.size_least c.requires.size_most c.requires.files; shelf = c.requires.sound.shelf }
+pub invariant_of-self-clause-fits : goal.invariant_of-self-clause-fits
+invariant_of-self-clause-fits g c =
+    fits_new (world_for c.args.setup c.args.size c.args.dir) _ c.new-self-3.result c.new-self.result c.args.self.now.ram c.new-self-3.ensures c.new-self.ensures refl refl c.requires.size_least c.requires.size_most c.requires.files

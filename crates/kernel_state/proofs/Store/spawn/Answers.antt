@@ -4,7 +4,7 @@ use Rattle.kernel_state.specs.Stores.{world_of_store}
 use Rattle.kernel_state.proofs.Fits.{fits_same}
 use Rattle.kernel_state.proofs.Store.spawn.Goals as goal
 
-pub returns-clause-sound : goal.returns-clause-sound
-returns-clause-sound g c =
+pub invariant_of-self-clause-fits : goal.invariant_of-self-clause-fits
+invariant_of-self-clause-fits g c =
     let s = c.args.self.now in
-    record { fits = fits_same s.cache.count (world_of_store s) _ _ c.requires.fits (ap (λ (x : Processes). x.file) c.spawn.ensures.value) refl; shelf = c.requires.shelf }
+    fits_same s.cache.count (world_of_store s) _ _ c.args.self.now.fits (ap (λ (x : Processes). x.file) c.spawn.ensures.value) refl

@@ -9,7 +9,7 @@ use Rattle.kernel_state.proofs.Store.to_back.Goals as goal
 pub returns-clause-living : goal.returns-clause-living
 returns-clause-living g c = λ q. ap (λ (x : Processes). lives x.queue q) c.to_back.ensures ∙ lives_back c.args.p q c.args.self.now.procs.queue
 
-pub returns-clause-sound : goal.returns-clause-sound
-returns-clause-sound g c =
+pub invariant_of-self-clause-fits : goal.invariant_of-self-clause-fits
+invariant_of-self-clause-fits g c =
     let s = c.args.self.now in
-    record { fits = fits_same s.cache.count (world_of_store s) _ _ c.requires.sound.fits (ap (λ (x : Processes). x.file) c.to_back.ensures) refl; shelf = c.requires.sound.shelf }
+    fits_same s.cache.count (world_of_store s) _ _ c.args.self.now.fits (ap (λ (x : Processes). x.file) c.to_back.ensures) refl

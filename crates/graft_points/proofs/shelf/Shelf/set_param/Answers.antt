@@ -1,6 +1,6 @@
 use Rattle.std.proofs.Common.{rules}
 use Rattle.graft_points.proofs.Tuned.{values_after}
-use Rattle.graft_points.proofs.shelf.set_param.Goals as goal
+use Rattle.graft_points.proofs.shelf.Shelf.set_param.Goals as goal
 
 pub returns-clause-policies : goal.returns-clause-policies
 returns-clause-policies g c =

@@ -1,0 +1,48 @@
+-- The world and the things of a store, and what always holds of them.
+use Rattle.std.specs.Prelude.{◌≡◌, ℕ, ◌<◌, ◌≤◌, true, List, Option, Some, slice_index_or}
+use Rattle.kernel_model.specs.declared.TheConstants.{LAST_CALLABLE}
+use Rattle.kernel_model.specs.declared.FileRow.{FileRow}
+use Rattle.kernel_model.specs.declared.OpenRow.{OpenRow}
+use Rattle.kernel_model.specs.World.{World, file_row}
+use Rattle.kernel_model.specs.Objects.{Things, CacheValue, FrameValue, PolValue, nothing_kept}
+use Rattle.kernel_model.specs.Directory.{lies_on_disk}
+use Rattle.kernel_model.specs.Sound.{IsSoundFile}
+use Rattle.process_table.specs.Processes.{Processes}
+use Rattle.kernel_state.specs.declared.Setup.{Setup}
+
+-- what no call changes, on a disk of this size with this directory: grafts may call each id of the list
+abbrev pub world_for : Setup → (size : ℕ) → (directory : List (Option FileRow)) → World
+world_for u size directory =
+    record {
+      frames = u.frames;
+      patience = λ kind. slice_index_or u.patience kind 10;
+      grant = u.grant;
+      disk_size = size;
+      directory = directory;
+      callable = LAST_CALLABLE;
+    }
+
+-- processes, cache and policies: nothing is kept for any graft
+abbrev pub things_with : Processes → CacheValue → (ℕ → PolValue) → Things
+things_with s cache pol =
+    record {
+      cell = s.cell;
+      file = s.file;
+      queue = s.queue;
+      cache = cache;
+      lock = s.lock;
+      pol = pol;
+      seg = λ q pt. nothing_kept;
+      handlers = s.handlers;
+    }
+
+-- So many frames, a world and the objects besides accounts are within each other: there are the
+-- frames of the set-up, each usable file lies on the disk, so does the block of each frame in use,
+-- and each open file is a usable one.
+pub record StoreFits (count : ℕ) (v : World) (w : Things) : Type 0 where
+  pub frames : count ≡ v.frames
+  pub some : 1 ≤ v.disk_size
+  pub most : v.disk_size ≤ 4096
+  pub directory : (n : ℕ) (r : FileRow) → file_row v n ≡ Some r → lies_on_disk v.disk_size r ≡ true
+  pub blocks : (f : ℕ) (x : FrameValue) → w.cache.frame f ≡ Some x → x.block < v.disk_size
+  pub files : (p fd : ℕ) (o : OpenRow) → w.file p fd ≡ Some o → IsSoundFile v o
