@@ -6,24 +6,23 @@ ghost use Rattle.kernel_model.specs.Meaning.{Stage};
 ghost use Rattle.kernel_model.specs.Policies.{lives};
 ghost use Rattle.kernel_model.specs.Pieces.{give_piece, install_piece, remove_piece, fund_piece, bill_piece, new_graft};
 ghost use Rattle.disk_log.specs.Calls.{Tells};
-ghost use Rattle.kernel_state.specs.Stores.{world_of_store, objects_of, queue_of, IsStore, SegmentsStay};
+ghost use Rattle.kernel_state.specs.Stores.{world_of_store, objects_of, queue_of, SegmentsStay};
 ghost use Rattle.call_pieces.specs.Works.{comes_after};
 ghost use Rattle.call_pieces.specs.Coming.{CameTo, is_fault, goes_on};
 
 use crate::{After, Next, came};
+use graft_points::Policy;
 use kernel_model::{Kind, Refusal, Reply};
 use kernel_state::Store;
 
 /// Process p gives n to process q, if that lives.
-pub(crate) fn give(store: &mut Store, p: u8, q: u32, k: Kind, n: u32) -> After
-    requires sound { IsStore (λ b. seen (b.vtable, b.value)) store.old }
+pub(crate) fn give<B: Policy>(store: &mut Store<B>, p: u8, q: u32, k: Kind, n: u32) -> After
     requires alive { lives (queue_of store.old) p ≡ true }
     requires granted { q < 16 }
     ensures does { (blocks : Blocks) (told : Option (List (List ℕ))) (t : Stage) → Tells told blocks →
-        CameTo (give_piece (objects_of (λ b. seen (b.vtable, b.value)) store.old) p q k n blocks (lives (queue_of store.old) q)) (objects_of (λ b. seen (b.vtable, b.value)) store.new) told result.gave (comes_after result.next t) 0 }
+        CameTo (give_piece (objects_of store.old) p q k n blocks (lives (queue_of store.old) q)) (objects_of store.new) told result.gave (comes_after result.next t) 0 }
     ensures queue { queue_of store.new ≡ queue_of store.old }
     ensures world { world_of_store store.new ≡ world_of_store store.old }
-    ensures sound { IsStore (λ b. seen (b.vtable, b.value)) store.new }
     ensures ends { goes_on result.next ≡ false }
     ensures no_fault { is_fault result.next ≡ false }
     ensures memory { SegmentsStay store.old.ram store.new.ram }
@@ -38,18 +37,22 @@ pub(crate) fn give(store: &mut Store, p: u8, q: u32, k: Kind, n: u32) -> After
 }
 
 /// A graft is put at point pt of process p, if none stands there.
-pub(crate) fn install(store: &mut Store, p: u8, pt: u32, image: u32, limit: u32) -> After
-    requires sound { IsStore (λ b. seen (b.vtable, b.value)) store.old }
+pub(crate) fn install<B: Policy>(
+    store: &mut Store<B>,
+    p: u8,
+    pt: u32,
+    image: u32,
+    limit: u32,
+) -> After
     requires alive { lives (queue_of store.old) p ≡ true }
     requires point { pt < 16 }
     requires image { image < 32 }
     requires some { 1 ≤ limit }
     requires most { limit ≤ 65536 }
     ensures does { (blocks : Blocks) (told : Option (List (List ℕ))) (t : Stage) → Tells told blocks →
-        CameTo (install_piece (objects_of (λ b. seen (b.vtable, b.value)) store.old) p pt (new_graft image limit) ((objects_of (λ b. seen (b.vtable, b.value)) store.old).accounts.graft p pt) blocks) (objects_of (λ b. seen (b.vtable, b.value)) store.new) told result.gave (comes_after result.next t) 0 }
+        CameTo (install_piece (objects_of store.old) p pt (new_graft image limit) ((objects_of store.old).accounts.graft p pt) blocks) (objects_of store.new) told result.gave (comes_after result.next t) 0 }
     ensures queue { queue_of store.new ≡ queue_of store.old }
     ensures world { world_of_store store.new ≡ world_of_store store.old }
-    ensures sound { IsStore (λ b. seen (b.vtable, b.value)) store.new }
     ensures ends { goes_on result.next ≡ false }
     ensures no_fault { is_fault result.next ≡ false }
     ensures memory { SegmentsStay store.old.ram store.new.ram }
@@ -62,15 +65,13 @@ pub(crate) fn install(store: &mut Store, p: u8, pt: u32, image: u32, limit: u32)
 }
 
 /// The graft at point pt of process p is taken out, if one stands there.
-pub(crate) fn remove(store: &mut Store, p: u8, pt: u32) -> After
-    requires sound { IsStore (λ b. seen (b.vtable, b.value)) store.old }
+pub(crate) fn remove<B: Policy>(store: &mut Store<B>, p: u8, pt: u32) -> After
     requires alive { lives (queue_of store.old) p ≡ true }
     requires point { pt < 16 }
     ensures does { (blocks : Blocks) (told : Option (List (List ℕ))) (t : Stage) → Tells told blocks →
-        CameTo (remove_piece (objects_of (λ b. seen (b.vtable, b.value)) store.old) p pt ((objects_of (λ b. seen (b.vtable, b.value)) store.old).accounts.graft p pt) blocks) (objects_of (λ b. seen (b.vtable, b.value)) store.new) told result.gave (comes_after result.next t) 0 }
+        CameTo (remove_piece (objects_of store.old) p pt ((objects_of store.old).accounts.graft p pt) blocks) (objects_of store.new) told result.gave (comes_after result.next t) 0 }
     ensures queue { queue_of store.new ≡ queue_of store.old }
     ensures world { world_of_store store.new ≡ world_of_store store.old }
-    ensures sound { IsStore (λ b. seen (b.vtable, b.value)) store.new }
     ensures ends { goes_on result.next ≡ false }
     ensures no_fault { is_fault result.next ≡ false }
     ensures memory { SegmentsStay store.old.ram store.new.ram }
@@ -83,15 +84,13 @@ pub(crate) fn remove(store: &mut Store, p: u8, pt: u32) -> After
 }
 
 /// Process p gives n to its graft at point pt, if one stands there.
-pub(crate) fn fund(store: &mut Store, p: u8, pt: u32, k: Kind, n: u32) -> After
-    requires sound { IsStore (λ b. seen (b.vtable, b.value)) store.old }
+pub(crate) fn fund<B: Policy>(store: &mut Store<B>, p: u8, pt: u32, k: Kind, n: u32) -> After
     requires alive { lives (queue_of store.old) p ≡ true }
     requires point { pt < 16 }
     ensures does { (blocks : Blocks) (told : Option (List (List ℕ))) (t : Stage) → Tells told blocks →
-        CameTo (fund_piece (objects_of (λ b. seen (b.vtable, b.value)) store.old) p pt k n ((objects_of (λ b. seen (b.vtable, b.value)) store.old).accounts.graft p pt) blocks) (objects_of (λ b. seen (b.vtable, b.value)) store.new) told result.gave (comes_after result.next t) 0 }
+        CameTo (fund_piece (objects_of store.old) p pt k n ((objects_of store.old).accounts.graft p pt) blocks) (objects_of store.new) told result.gave (comes_after result.next t) 0 }
     ensures queue { queue_of store.new ≡ queue_of store.old }
     ensures world { world_of_store store.new ≡ world_of_store store.old }
-    ensures sound { IsStore (λ b. seen (b.vtable, b.value)) store.new }
     ensures ends { goes_on result.next ≡ false }
     ensures no_fault { is_fault result.next ≡ false }
     ensures memory { SegmentsStay store.old.ram store.new.ram }
@@ -106,15 +105,13 @@ pub(crate) fn fund(store: &mut Store, p: u8, pt: u32, k: Kind, n: u32) -> After
 }
 
 /// From here on process p pays for its graft at point pt, if one stands there.
-pub(crate) fn bill(store: &mut Store, p: u8, pt: u32) -> After
-    requires sound { IsStore (λ b. seen (b.vtable, b.value)) store.old }
+pub(crate) fn bill<B: Policy>(store: &mut Store<B>, p: u8, pt: u32) -> After
     requires alive { lives (queue_of store.old) p ≡ true }
     requires point { pt < 16 }
     ensures does { (blocks : Blocks) (told : Option (List (List ℕ))) (t : Stage) → Tells told blocks →
-        CameTo (bill_piece (objects_of (λ b. seen (b.vtable, b.value)) store.old) p pt ((objects_of (λ b. seen (b.vtable, b.value)) store.old).accounts.graft p pt) blocks) (objects_of (λ b. seen (b.vtable, b.value)) store.new) told result.gave (comes_after result.next t) 0 }
+        CameTo (bill_piece (objects_of store.old) p pt ((objects_of store.old).accounts.graft p pt) blocks) (objects_of store.new) told result.gave (comes_after result.next t) 0 }
     ensures queue { queue_of store.new ≡ queue_of store.old }
     ensures world { world_of_store store.new ≡ world_of_store store.old }
-    ensures sound { IsStore (λ b. seen (b.vtable, b.value)) store.new }
     ensures ends { goes_on result.next ≡ false }
     ensures no_fault { is_fault result.next ≡ false }
     ensures memory { SegmentsStay store.old.ram store.new.ram }

@@ -7,11 +7,12 @@ ghost use Rattle.kernel_model.specs.ImageMask.{TellsImages, has_bit};
 ghost use Rattle.kernel_model.specs.Policies.{lives};
 ghost use Rattle.kernel_model.specs.Pieces.{plain};
 ghost use Rattle.kernel_model.specs.Early.{plain_early, call_refusal, refused, policy_count, TOP_POINT};
-ghost use Rattle.kernel_state.specs.Stores.{world_of_store, objects_of, queue_of, IsStore};
+ghost use Rattle.kernel_state.specs.Stores.{world_of_store, objects_of, queue_of};
 ghost use Rattle.call_pieces.specs.Works.{MayCome, stage_of, stage_granted};
 
 use crate::Work;
 use crate::copies::copy_call;
+use graft_points::Policy;
 use kernel_model::{BLOCK_BYTES, Refusal, SysCall};
 use kernel_state::Store;
 
@@ -20,13 +21,17 @@ const TOP_POINT: u32 = 5;
 
 /// A call of process p, which lives, before its first piece; or its refusal of least number that needs no object. Bit k
 /// of `images` tells whether image k is loaded.
-pub fn early(store: &Store, images: u32, p: u8, call: &SysCall) -> Result<Work, Refusal>
-    requires sound { IsStore (λ b. seen (b.vtable, b.value)) store.now }
+pub fn early<B: Policy>(
+    store: &Store<B>,
+    images: u32,
+    p: u8,
+    call: &SysCall,
+) -> Result<Work, Refusal>
     requires alive { lives (queue_of store.now) p ≡ true }
     ensures value { (table : ImageTable) → TellsImages images table →
         stage_granted stage_of result
         ≡ plain_early TOP_POINT (world_of_store store.now) table p call.now }
-    ensures ready { IfOk result (λ w. MayCome plain (world_of_store store.now) (objects_of (λ b. seen (b.vtable, b.value)) store.now) w.caller (stage_of w)) }
+    ensures ready { IfOk result (λ w. MayCome plain (world_of_store store.now) (objects_of store.now) w.caller (stage_of w)) }
     ensures call { IfOk result (λ w. w ≡ record { caller = p; call = call.now; piece = 0 }) }
 {
     if let Some(refusal) = refusal(store, images, p, call) {
@@ -40,7 +45,7 @@ pub fn early(store: &Store, images: u32, p: u8, call: &SysCall) -> Result<Work, 
 }
 
 /// The refusal of least number of a call that needs no object.
-fn refusal(store: &Store, images: u32, p: u8, call: &SysCall) -> Option<Refusal>
+fn refusal<B: Policy>(store: &Store<B>, images: u32, p: u8, call: &SysCall) -> Option<Refusal>
     ensures { (table : ImageTable) → TellsImages images table →
         result ≡ call_refusal TOP_POINT (world_of_store store.now) table p call.now }
 {

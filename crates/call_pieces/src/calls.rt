@@ -2,6 +2,7 @@
 
 use crate::{After, Needs, Work, asks, early, need, piece};
 use disk_log::DiskLog;
+use graft_points::Policy;
 use kernel_model::{Point, Refusal, Rules, SysCall};
 use kernel_state::Store;
 use plain_rules::PlainRules;
@@ -15,7 +16,7 @@ pub trait Calls {
     ghost use Rattle.kernel_model.specs.Laws.{IsRightAnswer};
     ghost use Rattle.kernel_model.specs.Policies.{lives};
     ghost use Rattle.disk_log.specs.Calls.{Tells, GoesOn};
-    ghost use Rattle.kernel_state.specs.Stores.{world_of_store, objects_of, queue_of, IsStore, SegmentsStay};
+    ghost use Rattle.kernel_state.specs.Stores.{world_of_store, objects_of, queue_of, SegmentsStay};
     ghost use Rattle.kernel_model.specs.ImageMask.{TellsImages};
     ghost use Rattle.call_pieces.specs.Works.{MayCome, stage_granted, answer_seen, comes_after};
     ghost use Rattle.call_pieces.specs.Coming.{CameTo, LeftBySome, GoesOnFrom, has_failed, is_fault, goes_on};
@@ -34,58 +35,58 @@ pub trait Calls {
 
     /// A call of process p, which lives, before its first piece; or its refusal of least number that needs no object. Bit k
     /// of `images` tells whether image k is loaded.
-    fn early(store: &Store, images: u32, p: u8, call: &SysCall) -> Result<Self::Work, Refusal>
-        requires sound { IsStore (λ b. seen (b.vtable, b.value)) store.now }
+    fn early<B: Policy>(
+        store: &Store<B>,
+        images: u32,
+        p: u8,
+        call: &SysCall,
+    ) -> Result<Self::Work, Refusal>
         requires alive { lives (queue_of store.now) p ≡ true }
         ensures value { (table : ImageTable) → TellsImages images table →
             stage_granted stage result ≡ Self.Meaning.meaning.early (world_of_store store.now) table p call.now }
-        ensures ready { IfOk result (λ w. MayCome Self.Meaning.meaning (world_of_store store.now) (objects_of (λ b. seen (b.vtable, b.value)) store.now) (caller w) (stage w)) }
+        ensures ready { IfOk result (λ w. MayCome Self.Meaning.meaning (world_of_store store.now) (objects_of store.now) (caller w) (stage w)) }
         ensures caller { IfOk result (λ w. caller w ≡ p) }
-        ensures few { IfOk result (λ w. Self.Meaning.meaning.left (world_of_store store.now) (objects_of (λ b. seen (b.vtable, b.value)) store.now) (caller w) (stage w) ≤ 15) };
+        ensures few { IfOk result (λ w. Self.Meaning.meaning.left (world_of_store store.now) (objects_of store.now) (caller w) (stage w) ≤ 15) };
 
     /// The objects that the next piece of a call needs, in order. They take the place of what the list had.
-    fn need(work: &Self::Work, store: &Store, needs: &mut Needs)
-        requires sound { IsStore (λ b. seen (b.vtable, b.value)) store.now }
-        requires ready { MayCome Self.Meaning.meaning (world_of_store store.now) (objects_of (λ b. seen (b.vtable, b.value)) store.now) (caller work.now) (stage work.now) }
-        ensures { needs.new ≡ Self.Meaning.meaning.need (world_of_store store.now) (objects_of (λ b. seen (b.vtable, b.value)) store.now) (caller work.now) (stage work.now) };
+    fn need<B: Policy>(work: &Self::Work, store: &Store<B>, needs: &mut Needs)
+        requires ready { MayCome Self.Meaning.meaning (world_of_store store.now) (objects_of store.now) (caller work.now) (stage work.now) }
+        ensures { needs.new ≡ Self.Meaning.meaning.need (world_of_store store.now) (objects_of store.now) (caller work.now) (stage work.now) };
 
     /// The point that the next piece of a call asks, with its arguments.
-    fn asks(work: &Self::Work, store: &Store) -> Option<Point>
-        requires sound { IsStore (λ b. seen (b.vtable, b.value)) store.now }
-        requires ready { MayCome Self.Meaning.meaning (world_of_store store.now) (objects_of (λ b. seen (b.vtable, b.value)) store.now) (caller work.now) (stage work.now) }
-        ensures { result ≡ Self.Meaning.meaning.asks (world_of_store store.now) (objects_of (λ b. seen (b.vtable, b.value)) store.now) (caller work.now) (stage work.now) };
+    fn asks<B: Policy>(work: &Self::Work, store: &Store<B>) -> Option<Point>
+        requires ready { MayCome Self.Meaning.meaning (world_of_store store.now) (objects_of store.now) (caller work.now) (stage work.now) }
+        ensures { result ≡ Self.Meaning.meaning.asks (world_of_store store.now) (objects_of store.now) (caller work.now) (stage work.now) };
 
     /// The next piece of a call, with an answer that the point accepts which it asks, or by default. The log starts empty and has this piece's calls of the disk then.
-    fn piece<D: Disk>(
+    fn piece<B: Policy, D: Disk>(
         work: &mut Self::Work,
-        store: &mut Store,
+        store: &mut Store<B>,
         answer: Option<[u32; 4]>,
         disk: &mut D,
         log: &mut DiskLog,
     ) -> After
-        requires sound { IsStore (λ b. seen (b.vtable, b.value)) store.old }
-        requires ready { MayCome Self.Meaning.meaning (world_of_store store.old) (objects_of (λ b. seen (b.vtable, b.value)) store.old) (caller work.old) (stage work.old) }
-        requires right { IsRightAnswer (objects_of (λ b. seen (b.vtable, b.value)) store.old) (Self.Meaning.meaning.asks (world_of_store store.old) (objects_of (λ b. seen (b.vtable, b.value)) store.old) (caller work.old) (stage work.old)) answer }
+        requires ready { MayCome Self.Meaning.meaning (world_of_store store.old) (objects_of store.old) (caller work.old) (stage work.old) }
+        requires right { IsRightAnswer (objects_of store.old) (Self.Meaning.meaning.asks (world_of_store store.old) (objects_of store.old) (caller work.old) (stage work.old)) answer }
         requires disk { store.old.size ≡ D.block_count disk.old }
         requires fresh { log.old ≡ [] }
         ensures does { (images : ImageTable) (blocks : Blocks) (rest : List Bool) → Tells (D.blocks disk.old) blocks →
             CameTo (Self.Meaning.meaning.piece (world_of_store store.old) images
-            (objects_of (λ b. seen (b.vtable, b.value)) store.old) blocks
+            (objects_of store.old) blocks
             (caller work.old) (stage work.old) (answer_seen answer) (log.new ++ rest))
-            (objects_of (λ b. seen (b.vtable, b.value)) store.new) (D.blocks disk.new) result.gave
+            (objects_of store.new) (D.blocks disk.new) result.gave
             (comes_after result.next (stage work.new)) (length log.new) }
         ensures some { (images : ImageTable) →
             LeftBySome (world_of_store store.old) (λ blocks io.
             Self.Meaning.meaning.piece (world_of_store store.old) images
-            (objects_of (λ b. seen (b.vtable, b.value)) store.old) blocks
+            (objects_of store.old) blocks
             (caller work.old) (stage work.old) (answer_seen answer) io)
-            (objects_of (λ b. seen (b.vtable, b.value)) store.new) result.gave
+            (objects_of store.new) result.gave
             (comes_after result.next (stage work.new)) log.new }
-        ensures gone { goes_on result.next ≡ true → GoesOnFrom Self.Meaning.meaning (world_of_store store.old) (objects_of (λ b. seen (b.vtable, b.value)) store.old) (objects_of (λ b. seen (b.vtable, b.value)) store.new)
+        ensures gone { goes_on result.next ≡ true → GoesOnFrom Self.Meaning.meaning (world_of_store store.old) (objects_of store.old) (objects_of store.new)
             (caller work.old) (caller work.new) (stage work.old) (stage work.new) }
         ensures failed { is_fault result.next ≡ true → has_failed log.new ≡ true }
         ensures world { world_of_store store.new ≡ world_of_store store.old }
-        ensures sound { IsStore (λ b. seen (b.vtable, b.value)) store.new }
         ensures memory { SegmentsStay store.old.ram store.new.ram }
         ensures same_size { D.block_count disk.new ≡ D.block_count disk.old }
         ensures calls { GoesOn (D.faults disk.old) (D.faults disk.new) (D.plan disk.old) (D.plan disk.new) log.old log.new }
@@ -107,21 +108,26 @@ impl Calls for Plain {
 
     ghost caller = { λ w. w.caller };
 
-    fn early(store: &Store, images: u32, p: u8, call: &SysCall) -> Result<Work, Refusal> {
+    fn early<B: Policy>(
+        store: &Store<B>,
+        images: u32,
+        p: u8,
+        call: &SysCall,
+    ) -> Result<Work, Refusal> {
         early(store, images, p, call)
     }
 
-    fn need(work: &Work, store: &Store, needs: &mut Needs) {
+    fn need<B: Policy>(work: &Work, store: &Store<B>, needs: &mut Needs) {
         need(work, store, needs);
     }
 
-    fn asks(work: &Work, store: &Store) -> Option<Point> {
+    fn asks<B: Policy>(work: &Work, store: &Store<B>) -> Option<Point> {
         asks(work, store)
     }
 
-    fn piece<D: Disk>(
+    fn piece<B: Policy, D: Disk>(
         work: &mut Work,
-        store: &mut Store,
+        store: &mut Store<B>,
         answer: Option<[u32; 4]>,
         disk: &mut D,
         log: &mut DiskLog,

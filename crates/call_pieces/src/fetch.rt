@@ -11,41 +11,40 @@ ghost use Rattle.kernel_model.specs.Meaning.{disk_fails};
 ghost use Rattle.kernel_model.specs.FilePieces.{with_cache};
 ghost use Rattle.buffer_cache.specs.Frames.{in_use};
 ghost use Rattle.disk_log.specs.Calls.{Tells, GoesOn};
-ghost use Rattle.kernel_state.specs.Stores.{world_of_store, objects_of, cache_of, queue_of, policies_of, IsStore, SegmentsStay};
+ghost use Rattle.kernel_state.specs.Stores.{world_of_store, objects_of, cache_of, queue_of, policies_of, SegmentsStay};
 ghost use Rattle.call_pieces.specs.Coming.{FetchCameTo, FetchLeft, FetchLeftBySome, blocks_after, has_failed};
 
 use disk_log::DiskLog;
+use graft_points::Policy;
 use kernel_model::BLOCK_BYTES;
 use kernel_state::Store;
 use vino_base::{Disk, Failed};
 
 /// Block b for process p: the frame that holds it becomes the newest, or the block is read into a frame. An answer names the
 /// frame in use that is to be evicted where none is free.
-pub(crate) fn fetch<D: Disk>(
-    store: &mut Store,
+pub(crate) fn fetch<B: Policy, D: Disk>(
+    store: &mut Store<B>,
     disk: &mut D,
     log: &mut DiskLog,
     p: u8,
     b: u32,
     answer: Option<[u32; 4]>,
 ) -> Result<u8, Failed>
-    requires sound { IsStore (λ b. seen (b.vtable, b.value)) store.old }
     requires alive { lives (queue_of store.old) p ≡ true }
     requires block { b < store.old.size }
     requires right { IfSome answer (λ a. is_some ((cache_of store.old).frame (slice_index a 0)) ≡ true) }
     requires disk { store.old.size ≡ D.block_count disk.old }
     requires fresh { log.old ≡ [] }
     ensures does { (blocks : Blocks) (rest : List Bool) → Tells (D.blocks disk.old) blocks →
-        FetchCameTo (fetches.fetch (world_of_store store.old) (policies_of (λ b. seen (b.vtable, b.value)) store.old 1) p b answer (cache_of store.old) blocks (log.new ++ rest)) blocks
+        FetchCameTo (fetches.fetch (world_of_store store.old) (policies_of store.old 1) p b answer (cache_of store.old) blocks (log.new ++ rest)) blocks
         result (cache_of store.new) (D.blocks disk.new) (length log.new) }
-    ensures some { FetchLeftBySome (world_of_store store.old) (λ blocks io. fetches.fetch (world_of_store store.old) (policies_of (λ b. seen (b.vtable, b.value)) store.old 1) p b answer (cache_of store.old) blocks io)
+    ensures some { FetchLeftBySome (world_of_store store.old) (λ blocks io. fetches.fetch (world_of_store store.old) (policies_of store.old 1) p b answer (cache_of store.old) blocks io)
         result (cache_of store.new) log.new }
-    ensures objects { objects_of (λ b. seen (b.vtable, b.value)) store.new ≡ with_cache (cache_of store.new) (objects_of (λ b. seen (b.vtable, b.value)) store.old) }
+    ensures objects { objects_of store.new ≡ with_cache (cache_of store.new) (objects_of store.old) }
     ensures in_cache { IfOk result (λ f. in_use f store.new.cache ≡ true) }
-    ensures kept { IfErr result (λ _. objects_of (λ b. seen (b.vtable, b.value)) store.new ≡ objects_of (λ b. seen (b.vtable, b.value)) store.old) }
+    ensures kept { IfErr result (λ _. objects_of store.new ≡ objects_of store.old) }
     ensures failed { IfErr result (λ _. has_failed log.new ≡ true) }
     ensures world { world_of_store store.new ≡ world_of_store store.old }
-    ensures sound { IsStore (λ b. seen (b.vtable, b.value)) store.new }
     ensures same_size { D.block_count disk.new ≡ D.block_count disk.old }
     ensures calls { GoesOn (D.faults disk.old) (D.faults disk.new) (D.plan disk.old) (D.plan disk.new) log.old log.new }
     ensures few { length log.new ≤ 256 }
@@ -61,31 +60,29 @@ pub(crate) fn fetch<D: Disk>(
 }
 
 /// Block b, ahead of a read of process p: where a frame holds it already, nothing changes.
-pub(crate) fn fetch_ahead<D: Disk>(
-    store: &mut Store,
+pub(crate) fn fetch_ahead<B: Policy, D: Disk>(
+    store: &mut Store<B>,
     disk: &mut D,
     log: &mut DiskLog,
     p: u8,
     b: u32,
     answer: Option<[u32; 4]>,
 ) -> Result<u8, Failed>
-    requires sound { IsStore (λ b. seen (b.vtable, b.value)) store.old }
     requires alive { lives (queue_of store.old) p ≡ true }
     requires block { b < store.old.size }
     requires right { IfSome answer (λ a. is_some ((cache_of store.old).frame (slice_index a 0)) ≡ true) }
     requires disk { store.old.size ≡ D.block_count disk.old }
     requires fresh { log.old ≡ [] }
     ensures does { (blocks : Blocks) (rest : List Bool) → Tells (D.blocks disk.old) blocks →
-        FetchCameTo (fetches.fetch_ahead (world_of_store store.old) (policies_of (λ b. seen (b.vtable, b.value)) store.old 1) p b answer (cache_of store.old) blocks (log.new ++ rest)) blocks
+        FetchCameTo (fetches.fetch_ahead (world_of_store store.old) (policies_of store.old 1) p b answer (cache_of store.old) blocks (log.new ++ rest)) blocks
         result (cache_of store.new) (D.blocks disk.new) (length log.new) }
-    ensures some { FetchLeftBySome (world_of_store store.old) (λ blocks io. fetches.fetch_ahead (world_of_store store.old) (policies_of (λ b. seen (b.vtable, b.value)) store.old 1) p b answer (cache_of store.old) blocks io)
+    ensures some { FetchLeftBySome (world_of_store store.old) (λ blocks io. fetches.fetch_ahead (world_of_store store.old) (policies_of store.old 1) p b answer (cache_of store.old) blocks io)
         result (cache_of store.new) log.new }
-    ensures objects { objects_of (λ b. seen (b.vtable, b.value)) store.new ≡ with_cache (cache_of store.new) (objects_of (λ b. seen (b.vtable, b.value)) store.old) }
+    ensures objects { objects_of store.new ≡ with_cache (cache_of store.new) (objects_of store.old) }
     ensures in_cache { IfOk result (λ f. in_use f store.new.cache ≡ true) }
-    ensures kept { IfErr result (λ _. objects_of (λ b. seen (b.vtable, b.value)) store.new ≡ objects_of (λ b. seen (b.vtable, b.value)) store.old) }
+    ensures kept { IfErr result (λ _. objects_of store.new ≡ objects_of store.old) }
     ensures failed { IfErr result (λ _. has_failed log.new ≡ true) }
     ensures world { world_of_store store.new ≡ world_of_store store.old }
-    ensures sound { IsStore (λ b. seen (b.vtable, b.value)) store.new }
     ensures same_size { D.block_count disk.new ≡ D.block_count disk.old }
     ensures calls { GoesOn (D.faults disk.old) (D.faults disk.new) (D.plan disk.old) (D.plan disk.new) log.old log.new }
     ensures few { length log.new ≤ 256 }
@@ -98,15 +95,14 @@ pub(crate) fn fetch_ahead<D: Disk>(
 }
 
 /// Reads block b, which no frame holds, into a frame.
-fn load<D: Disk>(
-    store: &mut Store,
+fn load<B: Policy, D: Disk>(
+    store: &mut Store<B>,
     disk: &mut D,
     log: &mut DiskLog,
     p: u8,
     b: u32,
     answer: Option<[u32; 4]>,
 ) -> Result<u8, Failed>
-    requires sound { IsStore (λ b. seen (b.vtable, b.value)) store.old }
     requires alive { lives (queue_of store.old) p ≡ true }
     requires block { b < store.old.size }
     requires right { IfSome answer (λ a. is_some ((cache_of store.old).frame (slice_index a 0)) ≡ true) }
@@ -114,16 +110,15 @@ fn load<D: Disk>(
     requires fresh { log.old ≡ [] }
     requires missing { frame_of_block (cache_of store.old) b ≡ None }
     ensures does { (blocks : Blocks) (rest : List Bool) → Tells (D.blocks disk.old) blocks →
-        FetchCameTo (read_block (world_of_store store.old) (policies_of (λ b. seen (b.vtable, b.value)) store.old 1) p b answer (cache_of store.old) blocks (log.new ++ rest)) blocks
+        FetchCameTo (read_block (world_of_store store.old) (policies_of store.old 1) p b answer (cache_of store.old) blocks (log.new ++ rest)) blocks
         result (cache_of store.new) (D.blocks disk.new) (length log.new) }
-    ensures some { FetchLeftBySome (world_of_store store.old) (λ blocks io. read_block (world_of_store store.old) (policies_of (λ b. seen (b.vtable, b.value)) store.old 1) p b answer (cache_of store.old) blocks io)
+    ensures some { FetchLeftBySome (world_of_store store.old) (λ blocks io. read_block (world_of_store store.old) (policies_of store.old 1) p b answer (cache_of store.old) blocks io)
         result (cache_of store.new) log.new }
-    ensures objects { objects_of (λ b. seen (b.vtable, b.value)) store.new ≡ with_cache (cache_of store.new) (objects_of (λ b. seen (b.vtable, b.value)) store.old) }
+    ensures objects { objects_of store.new ≡ with_cache (cache_of store.new) (objects_of store.old) }
     ensures in_cache { IfOk result (λ f. in_use f store.new.cache ≡ true) }
-    ensures kept { IfErr result (λ _. objects_of (λ b. seen (b.vtable, b.value)) store.new ≡ objects_of (λ b. seen (b.vtable, b.value)) store.old) }
+    ensures kept { IfErr result (λ _. objects_of store.new ≡ objects_of store.old) }
     ensures failed { IfErr result (λ _. has_failed log.new ≡ true) }
     ensures world { world_of_store store.new ≡ world_of_store store.old }
-    ensures sound { IsStore (λ b. seen (b.vtable, b.value)) store.new }
     ensures same_size { D.block_count disk.new ≡ D.block_count disk.old }
     ensures calls { GoesOn (D.faults disk.old) (D.faults disk.new) (D.plan disk.old) (D.plan disk.new) log.old log.new }
     ensures few { length log.new ≤ 256 }
@@ -138,8 +133,8 @@ fn load<D: Disk>(
 
 /// Puts block b, which no frame holds, into the lowest free frame, or else into the one that the answer
 /// chooses, or by default into the candidate.
-fn place<D: Disk>(
-    store: &mut Store,
+fn place<B: Policy, D: Disk>(
+    store: &mut Store<B>,
     disk: &mut D,
     log: &mut DiskLog,
     p: u8,
@@ -147,7 +142,6 @@ fn place<D: Disk>(
     answer: Option<[u32; 4]>,
     bytes: &[u8; 512],
 ) -> Result<u8, Failed>
-    requires sound { IsStore (λ b. seen (b.vtable, b.value)) store.old }
     requires alive { lives (queue_of store.old) p ≡ true }
     requires block { b < store.old.size }
     requires right { IfSome answer (λ a. is_some ((cache_of store.old).frame (slice_index a 0)) ≡ true) }
@@ -155,19 +149,18 @@ fn place<D: Disk>(
     requires read { log.old ≡ false ∷ [] }
     requires missing { frame_of_block (cache_of store.old) b ≡ None }
     ensures outcome { (blocks : Blocks) (rest : List Bool) → blocks b ≡ bytes.now →
-        let candidate = or_zero (victim_among (policies_of (λ b. seen (b.vtable, b.value)) store.old 1) (cache_of store.old) (cache_of store.old).lru) in
+        let candidate = or_zero (victim_among (policies_of store.old 1) (cache_of store.old) (cache_of store.old).lru) in
         FetchLeft (place_block (free_frame (cache_of store.old) (world_of_store store.old).frames 0) p b (chosen_by answer candidate) candidate (cache_of store.old) blocks (log.new ++ rest)) blocks
         result (cache_of store.new) (length log.new) }
     ensures tells { (blocks : Blocks) (rest : List Bool) → blocks b ≡ bytes.now → Tells (D.blocks disk.old) blocks →
-        let candidate = or_zero (victim_among (policies_of (λ b. seen (b.vtable, b.value)) store.old 1) (cache_of store.old) (cache_of store.old).lru) in
+        let candidate = or_zero (victim_among (policies_of store.old 1) (cache_of store.old) (cache_of store.old).lru) in
         Tells (D.blocks disk.new) (blocks_after (place_block (free_frame (cache_of store.old) (world_of_store store.old).frames 0) p b (chosen_by answer candidate) candidate (cache_of store.old) blocks (log.new ++ rest)) blocks) }
     ensures first { (rest : List Bool) → disk_fails (log.new ++ rest) 0 ≡ false }
-    ensures objects { objects_of (λ b. seen (b.vtable, b.value)) store.new ≡ with_cache (cache_of store.new) (objects_of (λ b. seen (b.vtable, b.value)) store.old) }
+    ensures objects { objects_of store.new ≡ with_cache (cache_of store.new) (objects_of store.old) }
     ensures in_cache { IfOk result (λ f. in_use f store.new.cache ≡ true) }
-    ensures kept { IfErr result (λ _. objects_of (λ b. seen (b.vtable, b.value)) store.new ≡ objects_of (λ b. seen (b.vtable, b.value)) store.old) }
+    ensures kept { IfErr result (λ _. objects_of store.new ≡ objects_of store.old) }
     ensures failed { IfErr result (λ _. has_failed log.new ≡ true) }
     ensures world { world_of_store store.new ≡ world_of_store store.old }
-    ensures sound { IsStore (λ b. seen (b.vtable, b.value)) store.new }
     ensures same_size { D.block_count disk.new ≡ D.block_count disk.old }
     ensures calls { GoesOn (D.faults disk.old) (D.faults disk.new) (D.plan disk.old) (D.plan disk.new) log.old log.new }
     ensures few { length log.new ≤ 256 }
@@ -187,7 +180,7 @@ fn place<D: Disk>(
 }
 
 /// The frame that an answer chooses, which is in use, or else the candidate.
-fn chosen(store: &Store, answer: Option<[u32; 4]>, candidate: u8) -> u8
+fn chosen<B: Policy>(store: &Store<B>, answer: Option<[u32; 4]>, candidate: u8) -> u8
     requires right { IfSome answer (λ a. is_some ((cache_of store.now).frame (slice_index a 0)) ≡ true) }
     requires candidate { in_use candidate store.now.cache ≡ true }
     ensures value { result ≡ chosen_by answer candidate }
@@ -200,8 +193,8 @@ fn chosen(store: &Store, answer: Option<[u32; 4]>, candidate: u8) -> u8
 }
 
 /// Puts block b, which no frame holds, into frame f, which is in use: what it held is written first, if it is dirty.
-fn evict<D: Disk>(
-    store: &mut Store,
+fn evict<B: Policy, D: Disk>(
+    store: &mut Store<B>,
     disk: &mut D,
     log: &mut DiskLog,
     p: u8,
@@ -210,7 +203,6 @@ fn evict<D: Disk>(
     candidate: u8,
     bytes: &[u8; 512],
 ) -> Result<u8, Failed>
-    requires sound { IsStore (λ b. seen (b.vtable, b.value)) store.old }
     requires alive { lives (queue_of store.old) p ≡ true }
     requires block { b < store.old.size }
     requires disk { store.old.size ≡ D.block_count disk.old }
@@ -224,12 +216,11 @@ fn evict<D: Disk>(
     ensures tells { (blocks : Blocks) (rest : List Bool) → Tells (D.blocks disk.old) blocks →
         Tells (D.blocks disk.new) (blocks_after (evicted ((cache_of store.old).frame f) f (replaced f candidate (new_frame p b bytes.now) (cache_of store.old)) blocks (log.new ++ rest)) blocks) }
     ensures first { (rest : List Bool) → disk_fails (log.new ++ rest) 0 ≡ false }
-    ensures objects { objects_of (λ b. seen (b.vtable, b.value)) store.new ≡ with_cache (cache_of store.new) (objects_of (λ b. seen (b.vtable, b.value)) store.old) }
+    ensures objects { objects_of store.new ≡ with_cache (cache_of store.new) (objects_of store.old) }
     ensures in_cache { IfOk result (λ g. in_use g store.new.cache ≡ true) }
-    ensures kept { IfErr result (λ _. objects_of (λ b. seen (b.vtable, b.value)) store.new ≡ objects_of (λ b. seen (b.vtable, b.value)) store.old) }
+    ensures kept { IfErr result (λ _. objects_of store.new ≡ objects_of store.old) }
     ensures failed { IfErr result (λ _. has_failed log.new ≡ true) }
     ensures world { world_of_store store.new ≡ world_of_store store.old }
-    ensures sound { IsStore (λ b. seen (b.vtable, b.value)) store.new }
     ensures same_size { D.block_count disk.new ≡ D.block_count disk.old }
     ensures calls { GoesOn (D.faults disk.old) (D.faults disk.new) (D.plan disk.old) (D.plan disk.new) log.old log.new }
     ensures few { length log.new ≤ 256 }
@@ -245,8 +236,8 @@ fn evict<D: Disk>(
 }
 
 /// Puts block b, which no frame holds, into frame f, which is in use and dirty: its block is written first.
-fn evict_dirty<D: Disk>(
-    store: &mut Store,
+fn evict_dirty<B: Policy, D: Disk>(
+    store: &mut Store<B>,
     disk: &mut D,
     log: &mut DiskLog,
     p: u8,
@@ -256,7 +247,6 @@ fn evict_dirty<D: Disk>(
     bytes: &[u8; 512],
     old: u32,
 ) -> Result<u8, Failed>
-    requires sound { IsStore (λ b. seen (b.vtable, b.value)) store.old }
     requires alive { lives (queue_of store.old) p ≡ true }
     requires block { b < store.old.size }
     requires disk { store.old.size ≡ D.block_count disk.old }
@@ -272,12 +262,11 @@ fn evict_dirty<D: Disk>(
     ensures tells { (blocks : Blocks) (rest : List Bool) → Tells (D.blocks disk.old) blocks →
         Tells (D.blocks disk.new) (blocks_after (evicted ((cache_of store.old).frame f) f (replaced f candidate (new_frame p b bytes.now) (cache_of store.old)) blocks (log.new ++ rest)) blocks) }
     ensures first { (rest : List Bool) → disk_fails (log.new ++ rest) 0 ≡ false }
-    ensures objects { objects_of (λ b. seen (b.vtable, b.value)) store.new ≡ with_cache (cache_of store.new) (objects_of (λ b. seen (b.vtable, b.value)) store.old) }
+    ensures objects { objects_of store.new ≡ with_cache (cache_of store.new) (objects_of store.old) }
     ensures in_cache { IfOk result (λ g. in_use g store.new.cache ≡ true) }
-    ensures kept { IfErr result (λ _. objects_of (λ b. seen (b.vtable, b.value)) store.new ≡ objects_of (λ b. seen (b.vtable, b.value)) store.old) }
+    ensures kept { IfErr result (λ _. objects_of store.new ≡ objects_of store.old) }
     ensures failed { IfErr result (λ _. has_failed log.new ≡ true) }
     ensures world { world_of_store store.new ≡ world_of_store store.old }
-    ensures sound { IsStore (λ b. seen (b.vtable, b.value)) store.new }
     ensures same_size { D.block_count disk.new ≡ D.block_count disk.old }
     ensures calls { GoesOn (D.faults disk.old) (D.faults disk.new) (D.plan disk.old) (D.plan disk.new) log.old log.new }
     ensures few { length log.new ≤ 256 }

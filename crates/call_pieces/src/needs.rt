@@ -8,12 +8,13 @@ ghost use Rattle.kernel_model.specs.Policies.{lives};
 ghost use Rattle.kernel_model.specs.Pieces.{plain, read_fits};
 ghost use Rattle.kernel_model.specs.Needs as spec;
 ghost use Rattle.buffer_cache.specs.Frames.{in_use};
-ghost use Rattle.kernel_state.specs.Stores.{world_of_store, objects_of, cache_of, queue_of, policies_of, IsStore};
+ghost use Rattle.kernel_state.specs.Stores.{world_of_store, objects_of, cache_of, queue_of, policies_of};
 ghost use Rattle.call_pieces.specs.Works.{MayCome, stage_of};
 
 use crate::Work;
 use crate::reads::Range;
 use arrayvec::ArrayVec;
+use graft_points::Policy;
 use kernel_model::{Kind, Mode, Need, Object, SysCall};
 use kernel_state::Store;
 use std::marker::Model;
@@ -137,10 +138,10 @@ impl Needs {
     }
 
     /// The graft at point pt of process q, and its installer's account where one stands.
-    fn point(&mut self, store: &Store, q: u8, pt: u8)
+    fn point<B: Policy>(&mut self, store: &Store<B>, q: u8, pt: u8)
         requires room { length self.old + 2 ≤ NEEDS }
         requires number { pt < 16 }
-        ensures { self.new ≡ self.old ++ spec.point_needs (objects_of (λ b. seen (b.vtable, b.value)) store.now).accounts q pt }
+        ensures { self.new ≡ self.old ++ spec.point_needs (objects_of store.now).accounts q pt }
     {
         self.exclusive(Object::Graft(q, pt));
         if store.has_graft(q, pt) {
@@ -149,10 +150,9 @@ impl Needs {
     }
 
     /// The cache, and where a frame must be chosen for block b the policy and the point of the candidate's owner.
-    fn fetch(&mut self, store: &Store, b: u32)
-        requires sound { IsStore (λ b. seen (b.vtable, b.value)) store.now }
+    fn fetch<B: Policy>(&mut self, store: &Store<B>, b: u32)
         requires room { length self.old + 4 ≤ NEEDS }
-        ensures { self.new ≡ self.old ++ spec.fetch_needs (world_of_store store.now) (objects_of (λ b. seen (b.vtable, b.value)) store.now) (Ok b) }
+        ensures { self.new ≡ self.old ++ spec.fetch_needs (world_of_store store.now) (objects_of store.now) (Ok b) }
     {
         self.exclusive(Object::Cache);
         if let Some(f) = candidate_for(store, b) {
@@ -162,13 +162,12 @@ impl Needs {
     }
 
     /// What a fetch of block i of an open file needs, of which bytes off to off + len are meant. Nothing where that is refused.
-    fn block(&mut self, store: &Store, p: u8, fd: u8, i: u32, off: u32, len: u32)
-        requires sound { IsStore (λ b. seen (b.vtable, b.value)) store.now }
+    fn block<B: Policy>(&mut self, store: &Store<B>, p: u8, fd: u8, i: u32, off: u32, len: u32)
         requires alive { lives (queue_of store.now) p ≡ true }
         requires descriptor { fd < 4 }
         requires room { length self.old + 4 ≤ NEEDS }
-        ensures { self.new ≡ self.old ++ spec.fetch_needs (world_of_store store.now) (objects_of (λ b. seen (b.vtable, b.value)) store.now)
-            (spec.file_block (world_of_store store.now) ((objects_of (λ b. seen (b.vtable, b.value)) store.now).things.file p fd) i off len) }
+        ensures { self.new ≡ self.old ++ spec.fetch_needs (world_of_store store.now) (objects_of store.now)
+            (spec.file_block (world_of_store store.now) ((objects_of store.now).things.file p fd) i off len) }
     {
         if let Ok(b) = store.block_of(p, fd, i, off, len) {
             self.fetch(store, b);
@@ -176,14 +175,13 @@ impl Needs {
     }
 
     /// What a fetch of the block ahead of an open file needs, which has one.
-    fn ahead(&mut self, store: &Store, p: u8, fd: u8)
-        requires sound { IsStore (λ b. seen (b.vtable, b.value)) store.now }
+    fn ahead<B: Policy>(&mut self, store: &Store<B>, p: u8, fd: u8)
         requires alive { lives (queue_of store.now) p ≡ true }
         requires descriptor { fd < 4 }
-        requires fits { read_fits 2 ((objects_of (λ b. seen (b.vtable, b.value)) store.now).things.file p fd) ≡ true }
+        requires fits { read_fits 2 ((objects_of store.now).things.file p fd) ≡ true }
         requires room { length self.old + 4 ≤ NEEDS }
-        ensures { self.new ≡ self.old ++ spec.fetch_needs (world_of_store store.now) (objects_of (λ b. seen (b.vtable, b.value)) store.now)
-            (spec.ahead_block (world_of_store store.now) ((objects_of (λ b. seen (b.vtable, b.value)) store.now).things.file p fd)) }
+        ensures { self.new ≡ self.old ++ spec.fetch_needs (world_of_store store.now) (objects_of store.now)
+            (spec.ahead_block (world_of_store store.now) ((objects_of store.now).things.file p fd)) }
     {
         if let Some(opened) = store.file(p, fd) {
             self.fetch(store, store.block_ahead(&opened));
@@ -192,9 +190,8 @@ impl Needs {
 }
 
 /// The candidate for eviction, where a frame must be chosen for block b: no frame holds it, and none is free.
-pub(crate) fn candidate_for(store: &Store, b: u32) -> Option<u8>
-    requires { IsStore (λ b. seen (b.vtable, b.value)) store.now }
-    ensures value { result ≡ spec.candidate_for (world_of_store store.now) (policies_of (λ b. seen (b.vtable, b.value)) store.now 1) (cache_of store.now) b }
+pub(crate) fn candidate_for<B: Policy>(store: &Store<B>, b: u32) -> Option<u8>
+    ensures value { result ≡ spec.candidate_for (world_of_store store.now) (policies_of store.now 1) (cache_of store.now) b }
     ensures in_cache { IfSome result (λ f. in_use f store.now.cache ≡ true) }
 {
     if store.find(b).is_some() || store.free().is_some() {
@@ -204,10 +201,9 @@ pub(crate) fn candidate_for(store: &Store, b: u32) -> Option<u8>
 }
 
 /// The objects that the next piece of a call needs, in order. They take the place of what the list had.
-pub fn need(work: &Work, store: &Store, needs: &mut Needs)
-    requires sound { IsStore (λ b. seen (b.vtable, b.value)) store.now }
-    requires ready { MayCome plain (world_of_store store.now) (objects_of (λ b. seen (b.vtable, b.value)) store.now) work.now.caller (stage_of work.now) }
-    ensures { needs.new ≡ spec.piece_needs work.now.call work.now.piece (world_of_store store.now) (objects_of (λ b. seen (b.vtable, b.value)) store.now) work.now.caller }
+pub fn need<B: Policy>(work: &Work, store: &Store<B>, needs: &mut Needs)
+    requires ready { MayCome plain (world_of_store store.now) (objects_of store.now) work.now.caller (stage_of work.now) }
+    ensures { needs.new ≡ spec.piece_needs work.now.call work.now.piece (world_of_store store.now) (objects_of store.now) work.now.caller }
 {
     needs.clear();
     let p = work.caller;
@@ -247,7 +243,7 @@ pub fn need(work: &Work, store: &Store, needs: &mut Needs)
 }
 
 /// The queue, and the account of the new process if there is room for one.
-fn spawn_needs(store: &Store, needs: &mut Needs)
+fn spawn_needs<B: Policy>(store: &Store<B>, needs: &mut Needs)
     requires { needs.old ≡ [] }
     ensures { needs.new ≡ spec.spawn_needs (spec.free_process (queue_of store.now) 16 0) }
 {
@@ -273,10 +269,9 @@ fn exit_needs(p: u8, needs: &mut Needs)
 }
 
 /// The queue, and for a slice the policy and the point of the candidate.
-fn yield_needs(piece: u8, store: &Store, needs: &mut Needs)
-    requires sound { IsStore (λ b. seen (b.vtable, b.value)) store.now }
+fn yield_needs<B: Policy>(piece: u8, store: &Store<B>, needs: &mut Needs)
     requires empty { needs.old ≡ [] }
-    ensures { needs.new ≡ spec.yield_needs piece (objects_of (λ b. seen (b.vtable, b.value)) store.now) }
+    ensures { needs.new ≡ spec.yield_needs piece (objects_of store.now) }
 {
     needs.exclusive(Object::Queue);
     if piece > 0 {
@@ -286,13 +281,12 @@ fn yield_needs(piece: u8, store: &Store, needs: &mut Needs)
 }
 
 /// The open file, and the block that is read, the point that is asked, or the block ahead.
-fn read_needs(piece: u8, store: &Store, p: u8, r: Range, needs: &mut Needs)
-    requires sound { IsStore (λ b. seen (b.vtable, b.value)) store.now }
+fn read_needs<B: Policy>(piece: u8, store: &Store<B>, p: u8, r: Range, needs: &mut Needs)
     requires alive { lives (queue_of store.now) p ≡ true }
     requires descriptor { r.fd < 4 }
-    requires fits { read_fits piece ((objects_of (λ b. seen (b.vtable, b.value)) store.now).things.file p r.fd) ≡ true }
+    requires fits { read_fits piece ((objects_of store.now).things.file p r.fd) ≡ true }
     requires empty { needs.old ≡ [] }
-    ensures { needs.new ≡ spec.read_needs piece (world_of_store store.now) (objects_of (λ b. seen (b.vtable, b.value)) store.now) p r.fd r.i r.off r.len }
+    ensures { needs.new ≡ spec.read_needs piece (world_of_store store.now) (objects_of store.now) p r.fd r.i r.off r.len }
 {
     let fd = r.fd as u8;
     needs.exclusive(Object::OpenFile(p, fd));
@@ -307,10 +301,10 @@ fn read_needs(piece: u8, store: &Store, p: u8, r: Range, needs: &mut Needs)
 }
 
 /// The queue, which shows whether the receiver lives, and the accounts up to the one that shows the refusal.
-fn give_needs(store: &Store, p: u8, q: u8, kind: Kind, n: u32, needs: &mut Needs)
+fn give_needs<B: Policy>(store: &Store<B>, p: u8, q: u8, kind: Kind, n: u32, needs: &mut Needs)
     requires alive { lives (queue_of store.now) p ≡ true }
     requires empty { needs.old ≡ [] }
-    ensures { needs.new ≡ spec.give_needs (objects_of (λ b. seen (b.vtable, b.value)) store.now) p q kind n }
+    ensures { needs.new ≡ spec.give_needs (objects_of store.now) p q kind n }
 {
     needs.shared(Object::Queue);
     if !store.living(u32::from(q)) {

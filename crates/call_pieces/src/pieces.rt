@@ -6,7 +6,7 @@ ghost use Rattle.kernel_model.specs.Pieces.{plain, piece_of};
 ghost use Rattle.kernel_model.specs.Needs.{piece_ask};
 ghost use Rattle.kernel_model.specs.Laws.{IsRightAnswer};
 ghost use Rattle.disk_log.specs.Calls.{Tells, GoesOn};
-ghost use Rattle.kernel_state.specs.Stores.{world_of_store, objects_of, queue_of, policies_of, IsStore, SegmentsStay};
+ghost use Rattle.kernel_state.specs.Stores.{world_of_store, objects_of, queue_of, policies_of, SegmentsStay};
 ghost use Rattle.call_pieces.specs.Works.{stage_of, comes_after, queue_after, MayCome};
 ghost use Rattle.call_pieces.specs.Coming.{CameTo, LeftBySome, HasGone, has_failed, is_fault, goes_on};
 
@@ -19,6 +19,7 @@ use crate::syncs::sync;
 use crate::writes::write;
 use crate::{After, Work};
 use disk_log::DiskLog;
+use graft_points::Policy;
 use kernel_model::SysCall;
 use kernel_state::Store;
 use vino_base::Disk;
@@ -26,34 +27,32 @@ use vino_base::Disk;
 /// The next piece of a call, with an answer to the point that it asks, or by default.
 ///
 /// The log starts empty and has this piece's calls of the disk then.
-pub fn piece<D: Disk>(
+pub fn piece<B: Policy, D: Disk>(
     work: &mut Work,
-    store: &mut Store,
+    store: &mut Store<B>,
     answer: Option<[u32; 4]>,
     disk: &mut D,
     log: &mut DiskLog,
 ) -> After
-    requires sound { IsStore (λ b. seen (b.vtable, b.value)) store.old }
-    requires ready { MayCome plain (world_of_store store.old) (objects_of (λ b. seen (b.vtable, b.value)) store.old) work.old.caller (stage_of work.old) }
-    requires right { IsRightAnswer (objects_of (λ b. seen (b.vtable, b.value)) store.old) (piece_ask work.old.call work.old.piece (world_of_store store.old) (objects_of (λ b. seen (b.vtable, b.value)) store.old).things work.old.caller) answer }
+    requires ready { MayCome plain (world_of_store store.old) (objects_of store.old) work.old.caller (stage_of work.old) }
+    requires right { IsRightAnswer (objects_of store.old) (piece_ask work.old.call work.old.piece (world_of_store store.old) (objects_of store.old).things work.old.caller) answer }
     requires disk { store.old.size ≡ D.block_count disk.old }
     requires fresh { log.old ≡ [] }
     ensures does { (blocks : Blocks) (rest : List Bool) → Tells (D.blocks disk.old) blocks →
         CameTo (piece_of work.old.call work.old.piece (world_of_store store.old)
-        (objects_of (λ b. seen (b.vtable, b.value)) store.old) blocks work.old.caller answer
+        (objects_of store.old) blocks work.old.caller answer
         (log.new ++ rest))
-        (objects_of (λ b. seen (b.vtable, b.value)) store.new) (D.blocks disk.new) result.gave
+        (objects_of store.new) (D.blocks disk.new) result.gave
         (comes_after result.next (stage_of work.new)) (length log.new) }
     ensures some { LeftBySome (world_of_store store.old) (λ blocks io. piece_of work.old.call work.old.piece
-        (world_of_store store.old) (objects_of (λ b. seen (b.vtable, b.value)) store.old) blocks
+        (world_of_store store.old) (objects_of store.old) blocks
         work.old.caller answer io)
-        (objects_of (λ b. seen (b.vtable, b.value)) store.new) result.gave
+        (objects_of store.new) result.gave
         (comes_after result.next (stage_of work.new)) log.new }
-    ensures queue { queue_of store.new ≡ queue_after (policies_of (λ b. seen (b.vtable, b.value)) store.old 2) answer work.old.call work.old.piece work.old.caller (queue_of store.old) }
-    ensures gone { goes_on result.next ≡ true → HasGone work.old work.new (objects_of (λ b. seen (b.vtable, b.value)) store.old) (objects_of (λ b. seen (b.vtable, b.value)) store.new) }
+    ensures queue { queue_of store.new ≡ queue_after (policies_of store.old 2) answer work.old.call work.old.piece work.old.caller (queue_of store.old) }
+    ensures gone { goes_on result.next ≡ true → HasGone work.old work.new (objects_of store.old) (objects_of store.new) }
     ensures failed { is_fault result.next ≡ true → has_failed log.new ≡ true }
     ensures world { world_of_store store.new ≡ world_of_store store.old }
-    ensures sound { IsStore (λ b. seen (b.vtable, b.value)) store.new }
     ensures same_size { D.block_count disk.new ≡ D.block_count disk.old }
     ensures calls { GoesOn (D.faults disk.old) (D.faults disk.new) (D.plan disk.old) (D.plan disk.new) log.old log.new }
     ensures few { length log.new ≤ 256 }

@@ -5,20 +5,20 @@ ghost use Rattle.kernel_model.specs.Policies.{lives, frames_of};
 ghost use Rattle.kernel_model.specs.Pieces.{plain, read_fits};
 ghost use Rattle.kernel_model.specs.Needs as spec;
 ghost use Rattle.buffer_cache.specs.Frames.{in_use};
-ghost use Rattle.kernel_state.specs.Stores.{world_of_store, objects_of, cache_of, queue_of, policies_of, IsStore};
+ghost use Rattle.kernel_state.specs.Stores.{world_of_store, objects_of, cache_of, queue_of, policies_of};
 ghost use Rattle.call_pieces.specs.Works.{MayCome, stage_of};
 
 use crate::Work;
 use crate::needs::candidate_for;
 use crate::reads::Range;
+use graft_points::Policy;
 use kernel_model::{Point, SysCall};
 use kernel_state::Store;
 
 /// The point that the next piece of a call asks, with its arguments.
-pub fn asks(work: &Work, store: &Store) -> Option<Point>
-    requires sound { IsStore (λ b. seen (b.vtable, b.value)) store.now }
-    requires ready { MayCome plain (world_of_store store.now) (objects_of (λ b. seen (b.vtable, b.value)) store.now) work.now.caller (stage_of work.now) }
-    ensures { result ≡ spec.piece_ask work.now.call work.now.piece (world_of_store store.now) (objects_of (λ b. seen (b.vtable, b.value)) store.now).things work.now.caller }
+pub fn asks<B: Policy>(work: &Work, store: &Store<B>) -> Option<Point>
+    requires ready { MayCome plain (world_of_store store.now) (objects_of store.now) work.now.caller (stage_of work.now) }
+    ensures { result ≡ spec.piece_ask work.now.call work.now.piece (world_of_store store.now) (objects_of store.now).things work.now.caller }
 {
     let p = work.caller;
     match &work.call {
@@ -41,9 +41,8 @@ pub fn asks(work: &Work, store: &Store) -> Option<Point>
 }
 
 /// The scheduling point of the candidate, before the second piece of a yield.
-fn turn_ask(piece: u8, store: &Store) -> Option<Point>
-    requires { IsStore (λ b. seen (b.vtable, b.value)) store.now }
-    ensures { result ≡ spec.yield_ask piece (world_of_store store.now) (objects_of (λ b. seen (b.vtable, b.value)) store.now).things }
+fn turn_ask<B: Policy>(piece: u8, store: &Store<B>) -> Option<Point>
+    ensures { result ≡ spec.yield_ask piece (world_of_store store.now) (objects_of store.now).things }
 {
     if piece == 0 {
         return None;
@@ -58,12 +57,11 @@ fn turn_ask(piece: u8, store: &Store) -> Option<Point>
 }
 
 /// The points of the three kinds of pieces of a read.
-fn read_ask(piece: u8, store: &Store, p: u8, r: Range) -> Option<Point>
-    requires sound { IsStore (λ b. seen (b.vtable, b.value)) store.now }
+fn read_ask<B: Policy>(piece: u8, store: &Store<B>, p: u8, r: Range) -> Option<Point>
     requires alive { lives (queue_of store.now) p ≡ true }
     requires descriptor { r.fd < 4 }
-    requires fits { read_fits piece ((objects_of (λ b. seen (b.vtable, b.value)) store.now).things.file p r.fd) ≡ true }
-    ensures { result ≡ spec.read_ask piece (world_of_store store.now) (objects_of (λ b. seen (b.vtable, b.value)) store.now).things p r.fd r.i r.off r.len }
+    requires fits { read_fits piece ((objects_of store.now).things.file p r.fd) ≡ true }
+    ensures { result ≡ spec.read_ask piece (world_of_store store.now) (objects_of store.now).things p r.fd r.i r.off r.len }
 {
     let fd = r.fd as u8;
     match piece {
@@ -77,12 +75,11 @@ fn read_ask(piece: u8, store: &Store, p: u8, r: Range) -> Option<Point>
 }
 
 /// The point of an open file, which says what is to be read ahead.
-fn file_ask(store: &Store, p: u8, fd: u8) -> Option<Point>
-    requires sound { IsStore (λ b. seen (b.vtable, b.value)) store.now }
+fn file_ask<B: Policy>(store: &Store<B>, p: u8, fd: u8) -> Option<Point>
     requires alive { lives (queue_of store.now) p ≡ true }
     requires descriptor { fd < 4 }
-    requires fits { read_fits 1 ((objects_of (λ b. seen (b.vtable, b.value)) store.now).things.file p fd) ≡ true }
-    ensures { result ≡ spec.read_ask 1 (world_of_store store.now) (objects_of (λ b. seen (b.vtable, b.value)) store.now).things p fd 0 0 0 }
+    requires fits { read_fits 1 ((objects_of store.now).things.file p fd) ≡ true }
+    ensures { result ≡ spec.read_ask 1 (world_of_store store.now) (objects_of store.now).things p fd 0 0 0 }
 {
     let opened = store.file(p, fd)?;
     let default = store.ahead(&opened);
@@ -99,12 +96,18 @@ fn file_ask(store: &Store, p: u8, fd: u8) -> Option<Point>
 }
 
 /// The point that a fetch of block i of an open file asks, of which bytes off to off + len are meant.
-fn block_ask(store: &Store, p: u8, fd: u8, i: u32, off: u32, len: u32) -> Option<Point>
-    requires sound { IsStore (λ b. seen (b.vtable, b.value)) store.now }
+fn block_ask<B: Policy>(
+    store: &Store<B>,
+    p: u8,
+    fd: u8,
+    i: u32,
+    off: u32,
+    len: u32,
+) -> Option<Point>
     requires alive { lives (queue_of store.now) p ≡ true }
     requires descriptor { fd < 4 }
-    ensures { result ≡ spec.fetch_ask (world_of_store store.now) (objects_of (λ b. seen (b.vtable, b.value)) store.now).things
-        (spec.file_block (world_of_store store.now) ((objects_of (λ b. seen (b.vtable, b.value)) store.now).things.file p fd) i off len) }
+    ensures { result ≡ spec.fetch_ask (world_of_store store.now) (objects_of store.now).things
+        (spec.file_block (world_of_store store.now) ((objects_of store.now).things.file p fd) i off len) }
 {
     match store.block_of(p, fd, i, off, len) {
         Ok(b) => victim_ask(store, b),
@@ -113,9 +116,8 @@ fn block_ask(store: &Store, p: u8, fd: u8, i: u32, off: u32, len: u32) -> Option
 }
 
 /// The point of the owner of the candidate, where a frame must be chosen for block b.
-fn victim_ask(store: &Store, b: u32) -> Option<Point>
-    requires { IsStore (λ b. seen (b.vtable, b.value)) store.now }
-    ensures { result ≡ spec.fetch_ask (world_of_store store.now) (objects_of (λ b. seen (b.vtable, b.value)) store.now).things (Ok b) }
+fn victim_ask<B: Policy>(store: &Store<B>, b: u32) -> Option<Point>
+    ensures { result ≡ spec.fetch_ask (world_of_store store.now) (objects_of store.now).things (Ok b) }
 {
     let f = candidate_for(store, b)?;
     let owner = store.owner(f);

@@ -13,23 +13,22 @@ ghost use Rattle.kernel_model.specs.FilePieces.{leaves, open_piece, close_piece,
 ghost use Rattle.kernel_model.specs.Pieces.{spawn_piece, exit_piece, yield_piece, poke_piece};
 ghost use Rattle.kernel_model.specs.Sound.{IsSoundFile};
 ghost use Rattle.disk_log.specs.Calls.{Tells};
-ghost use Rattle.kernel_state.specs.Stores.{world_of_store, objects_of, queue_of, queue_joined, policies_of, IsStore, SegmentsStay};
+ghost use Rattle.kernel_state.specs.Stores.{world_of_store, objects_of, queue_of, queue_joined, policies_of, SegmentsStay};
 ghost use Rattle.call_pieces.specs.Works.{queue_yielded, next_of, comes_after};
 ghost use Rattle.call_pieces.specs.Coming.{CameTo, is_fault, goes_on};
 
 use crate::{After, Next, came};
+use graft_points::Policy;
 use kernel_model::{OpenRow, Refusal, Reply};
 use kernel_state::Store;
 
 /// A new process joins at the back of the queue.
-pub(crate) fn spawn(store: &mut Store) -> After
-    requires { IsStore (λ b. seen (b.vtable, b.value)) store.old }
+pub(crate) fn spawn<B: Policy>(store: &mut Store<B>) -> After
     ensures does { (blocks : Blocks) (told : Option (List (List ℕ))) (t : Stage) → Tells told blocks →
-        CameTo (spawn_piece (objects_of (λ b. seen (b.vtable, b.value)) store.old) (free_process (queue_of store.old) 16 0) blocks) (objects_of (λ b. seen (b.vtable, b.value)) store.new) told result.gave (comes_after result.next t) 0 }
+        CameTo (spawn_piece (objects_of store.old) (free_process (queue_of store.old) 16 0) blocks) (objects_of store.new) told result.gave (comes_after result.next t) 0 }
     ensures queue { queue_of store.new ≡ queue_joined (free_process (queue_of store.old) 16 0) (queue_of store.old) }
     ensures living { (q : ℕ) → lives (queue_of store.old) q ≡ true → lives (queue_of store.new) q ≡ true }
     ensures world { world_of_store store.new ≡ world_of_store store.old }
-    ensures sound { IsStore (λ b. seen (b.vtable, b.value)) store.new }
     ensures ends { goes_on result.next ≡ false }
     ensures no_fault { is_fault result.next ≡ false }
     ensures memory { SegmentsStay store.old.ram store.new.ram }
@@ -41,15 +40,13 @@ pub(crate) fn spawn(store: &mut Store) -> After
 }
 
 /// Process p leaves, which isn't 0.
-pub(crate) fn exit(store: &mut Store, p: u8) -> After
-    requires sound { IsStore (λ b. seen (b.vtable, b.value)) store.old }
+pub(crate) fn exit<B: Policy>(store: &mut Store<B>, p: u8) -> After
     requires alive { lives (queue_of store.old) p ≡ true }
     requires granted { 0 < p }
     ensures does { (blocks : Blocks) (told : Option (List (List ℕ))) (t : Stage) → Tells told blocks →
-        CameTo (exit_piece (objects_of (λ b. seen (b.vtable, b.value)) store.old) p blocks) (objects_of (λ b. seen (b.vtable, b.value)) store.new) told result.gave (comes_after result.next t) 0 }
+        CameTo (exit_piece (objects_of store.old) p blocks) (objects_of store.new) told result.gave (comes_after result.next t) 0 }
     ensures queue { queue_of store.new ≡ queue_without p (queue_of store.old) }
     ensures world { world_of_store store.new ≡ world_of_store store.old }
-    ensures sound { IsStore (λ b. seen (b.vtable, b.value)) store.new }
     ensures ends { goes_on result.next ≡ false }
     ensures no_fault { is_fault result.next ≡ false }
     ensures memory { SegmentsStay store.old.ram store.new.ram }
@@ -59,10 +56,9 @@ pub(crate) fn exit(store: &mut Store, p: u8) -> After
 }
 
 /// The process that an answer chooses, which lives, or else the one that is next by default.
-fn turn(store: &Store, answer: Option<[u32; 4]>) -> u8
-    requires sound { IsStore (λ b. seen (b.vtable, b.value)) store.now }
+fn turn<B: Policy>(store: &Store<B>, answer: Option<[u32; 4]>) -> u8
     requires right { IfSome answer (λ a. lives (queue_of store.now) (slice_index a 0) ≡ true) }
-    ensures value { result ≡ chosen_by answer (next_of (policies_of (λ b. seen (b.vtable, b.value)) store.now 2) (queue_of store.now)) }
+    ensures value { result ≡ chosen_by answer (next_of (policies_of store.now 2) (queue_of store.now)) }
     ensures lives { lives (queue_of store.now) result ≡ true }
 {
     store.procs.rows();
@@ -73,22 +69,20 @@ fn turn(store: &Store, answer: Option<[u32; 4]>) -> u8
 }
 
 /// Process p goes to the back of the queue; then the process that the answer chooses, or by default the policy, gets a slice.
-pub(crate) fn yield_turn(
+pub(crate) fn yield_turn<B: Policy>(
     piece: &mut u8,
-    store: &mut Store,
+    store: &mut Store<B>,
     p: u8,
     answer: Option<[u32; 4]>,
 ) -> After
-    requires sound { IsStore (λ b. seen (b.vtable, b.value)) store.old }
     requires alive { lives (queue_of store.old) p ≡ true }
     requires fits { piece.old ≤ 1 }
     requires right { IfSome answer (λ a. lives (queue_of store.old) (slice_index a 0) ≡ true) }
     ensures does { (blocks : Blocks) (told : Option (List (List ℕ))) → Tells told blocks →
-        CameTo (yield_piece piece.old (objects_of (λ b. seen (b.vtable, b.value)) store.old) p answer blocks) (objects_of (λ b. seen (b.vtable, b.value)) store.new) told result.gave (comes_after result.next (stage Yield piece.new)) 0 }
-    ensures queue { queue_of store.new ≡ queue_yielded (policies_of (λ b. seen (b.vtable, b.value)) store.old 2) answer piece.old p (queue_of store.old) }
+        CameTo (yield_piece piece.old (objects_of store.old) p answer blocks) (objects_of store.new) told result.gave (comes_after result.next (stage Yield piece.new)) 0 }
+    ensures queue { queue_of store.new ≡ queue_yielded (policies_of store.old 2) answer piece.old p (queue_of store.old) }
     ensures living { (q : ℕ) → lives (queue_of store.new) q ≡ lives (queue_of store.old) q }
     ensures world { world_of_store store.new ≡ world_of_store store.old }
-    ensures sound { IsStore (λ b. seen (b.vtable, b.value)) store.new }
     ensures next { goes_on result.next ≡ true → (piece.old ≡ 0) × (piece.new ≡ 1) }
     ensures no_fault { is_fault result.next ≡ false }
     ensures memory { SegmentsStay store.old.ram store.new.ram }
@@ -104,15 +98,13 @@ pub(crate) fn yield_turn(
 }
 
 /// Cell k of process p gets a value.
-pub(crate) fn poke(store: &mut Store, p: u8, k: u32, v: u32) -> After
-    requires sound { IsStore (λ b. seen (b.vtable, b.value)) store.old }
+pub(crate) fn poke<B: Policy>(store: &mut Store<B>, p: u8, k: u32, v: u32) -> After
     requires alive { lives (queue_of store.old) p ≡ true }
     requires granted { k < 4 }
     ensures does { (blocks : Blocks) (told : Option (List (List ℕ))) (t : Stage) → Tells told blocks →
-        CameTo (poke_piece (objects_of (λ b. seen (b.vtable, b.value)) store.old) p k v blocks) (objects_of (λ b. seen (b.vtable, b.value)) store.new) told result.gave (comes_after result.next t) 0 }
+        CameTo (poke_piece (objects_of store.old) p k v blocks) (objects_of store.new) told result.gave (comes_after result.next t) 0 }
     ensures queue { queue_of store.new ≡ queue_of store.old }
     ensures world { world_of_store store.new ≡ world_of_store store.old }
-    ensures sound { IsStore (λ b. seen (b.vtable, b.value)) store.new }
     ensures ends { goes_on result.next ≡ false }
     ensures no_fault { is_fault result.next ≡ false }
     ensures memory { SegmentsStay store.old.ram store.new.ram }
@@ -122,11 +114,11 @@ pub(crate) fn poke(store: &mut Store, p: u8, k: u32, v: u32) -> After
 }
 
 /// Cell k of process p is told.
-pub(crate) fn peek(store: &Store, p: u8, k: u32) -> After
+pub(crate) fn peek<B: Policy>(store: &Store<B>, p: u8, k: u32) -> After
     requires alive { lives (queue_of store.now) p ≡ true }
     requires granted { k < 4 }
     ensures does { (blocks : Blocks) (told : Option (List (List ℕ))) (t : Stage) → Tells told blocks →
-        CameTo (leaves (objects_of (λ b. seen (b.vtable, b.value)) store.now) blocks (EndsWith (One ((objects_of (λ b. seen (b.vtable, b.value)) store.now).things.cell p k)))) (objects_of (λ b. seen (b.vtable, b.value)) store.now) told result.gave (comes_after result.next t) 0 }
+        CameTo (leaves (objects_of store.now) blocks (EndsWith (One ((objects_of store.now).things.cell p k)))) (objects_of store.now) told result.gave (comes_after result.next t) 0 }
     ensures ends { goes_on result.next ≡ false }
     ensures no_fault { is_fault result.next ≡ false }
 {
@@ -134,15 +126,13 @@ pub(crate) fn peek(store: &Store, p: u8, k: u32) -> After
 }
 
 /// The file of this name is opened at the lowest free descriptor of process p.
-pub(crate) fn open(store: &mut Store, p: u8, name: &[u8]) -> After
-    requires sound { IsStore (λ b. seen (b.vtable, b.value)) store.old }
+pub(crate) fn open<B: Policy>(store: &mut Store<B>, p: u8, name: &[u8]) -> After
     requires alive { lives (queue_of store.old) p ≡ true }
     ensures does { (blocks : Blocks) (told : Option (List (List ℕ))) (t : Stage) → Tells told blocks →
-        CameTo (open_piece (objects_of (λ b. seen (b.vtable, b.value)) store.old) p (file_named (world_of_store store.old) name.now) (free_descriptor (objects_of (λ b. seen (b.vtable, b.value)) store.old).things p 4 0) blocks)
-        (objects_of (λ b. seen (b.vtable, b.value)) store.new) told result.gave (comes_after result.next t) 0 }
+        CameTo (open_piece (objects_of store.old) p (file_named (world_of_store store.old) name.now) (free_descriptor (objects_of store.old).things p 4 0) blocks)
+        (objects_of store.new) told result.gave (comes_after result.next t) 0 }
     ensures queue { queue_of store.new ≡ queue_of store.old }
     ensures world { world_of_store store.new ≡ world_of_store store.old }
-    ensures sound { IsStore (λ b. seen (b.vtable, b.value)) store.new }
     ensures ends { goes_on result.next ≡ false }
     ensures no_fault { is_fault result.next ≡ false }
     ensures memory { SegmentsStay store.old.ram store.new.ram }
@@ -157,16 +147,14 @@ pub(crate) fn open(store: &mut Store, p: u8, name: &[u8]) -> After
 }
 
 /// A file is opened at descriptor fd of process p, which is free.
-fn open_at(store: &mut Store, p: u8, fd: u8, file: u8) -> After
-    requires sound { IsStore (λ b. seen (b.vtable, b.value)) store.old }
+fn open_at<B: Policy>(store: &mut Store<B>, p: u8, fd: u8, file: u8) -> After
     requires alive { lives (queue_of store.old) p ≡ true }
     requires number { fd < 4 }
     requires file { IsSoundFile (world_of_store store.old) (new_file file) }
     ensures does { (blocks : Blocks) (told : Option (List (List ℕ))) (t : Stage) → Tells told blocks →
-        CameTo (open_piece (objects_of (λ b. seen (b.vtable, b.value)) store.old) p (Some file) (Some fd) blocks) (objects_of (λ b. seen (b.vtable, b.value)) store.new) told result.gave (comes_after result.next t) 0 }
+        CameTo (open_piece (objects_of store.old) p (Some file) (Some fd) blocks) (objects_of store.new) told result.gave (comes_after result.next t) 0 }
     ensures queue { queue_of store.new ≡ queue_of store.old }
     ensures world { world_of_store store.new ≡ world_of_store store.old }
-    ensures sound { IsStore (λ b. seen (b.vtable, b.value)) store.new }
     ensures ends { goes_on result.next ≡ false }
     ensures no_fault { is_fault result.next ≡ false }
     ensures memory { SegmentsStay store.old.ram store.new.ram }
@@ -184,15 +172,13 @@ fn open_at(store: &mut Store, p: u8, fd: u8, file: u8) -> After
 }
 
 /// The file at descriptor fd of process p is closed.
-pub(crate) fn close(store: &mut Store, p: u8, fd: u32) -> After
-    requires sound { IsStore (λ b. seen (b.vtable, b.value)) store.old }
+pub(crate) fn close<B: Policy>(store: &mut Store<B>, p: u8, fd: u32) -> After
     requires alive { lives (queue_of store.old) p ≡ true }
     requires granted { fd < 4 }
     ensures does { (blocks : Blocks) (told : Option (List (List ℕ))) (t : Stage) → Tells told blocks →
-        CameTo (close_piece (objects_of (λ b. seen (b.vtable, b.value)) store.old) p fd ((objects_of (λ b. seen (b.vtable, b.value)) store.old).things.file p fd) blocks) (objects_of (λ b. seen (b.vtable, b.value)) store.new) told result.gave (comes_after result.next t) 0 }
+        CameTo (close_piece (objects_of store.old) p fd ((objects_of store.old).things.file p fd) blocks) (objects_of store.new) told result.gave (comes_after result.next t) 0 }
     ensures queue { queue_of store.new ≡ queue_of store.old }
     ensures world { world_of_store store.new ≡ world_of_store store.old }
-    ensures sound { IsStore (λ b. seen (b.vtable, b.value)) store.new }
     ensures ends { goes_on result.next ≡ false }
     ensures no_fault { is_fault result.next ≡ false }
     ensures memory { SegmentsStay store.old.ram store.new.ram }

@@ -12,13 +12,14 @@ ghost use Rattle.kernel_model.specs.Needs.{file_block, ahead_block, read_ask};
 ghost use Rattle.kernel_model.specs.Fetch as fetches;
 ghost use Rattle.kernel_model.specs.Sound.{IsSoundFile};
 ghost use Rattle.disk_log.specs.Calls.{Tells, GoesOn};
-ghost use Rattle.kernel_state.specs.Stores.{world_of_store, objects_of, cache_of, queue_of, policies_of, IsStore, SegmentsStay};
+ghost use Rattle.kernel_state.specs.Stores.{world_of_store, objects_of, cache_of, queue_of, policies_of, SegmentsStay};
 ghost use Rattle.call_pieces.specs.Works.{comes_after};
 ghost use Rattle.call_pieces.specs.Coming.{CameTo, LeftBySome, ReadGoes, has_failed, is_fault, goes_on};
 
 use crate::fetch::{fetch, fetch_ahead};
 use crate::{After, Next, came};
 use disk_log::DiskLog;
+use graft_points::Policy;
 use kernel_model::{OpenRow, Refusal, Reply};
 use kernel_state::{Ahead, Store};
 use vino_base::Disk;
@@ -33,33 +34,31 @@ pub(crate) struct Range {
 }
 
 /// The next piece of a read of process p.
-pub(crate) fn read<D: Disk>(
+pub(crate) fn read<B: Policy, D: Disk>(
     piece: &mut u8,
-    store: &mut Store,
+    store: &mut Store<B>,
     disk: &mut D,
     log: &mut DiskLog,
     p: u8,
     r: Range,
     answer: Option<[u32; 4]>,
 ) -> After
-    requires sound { IsStore (λ b. seen (b.vtable, b.value)) store.old }
     requires alive { lives (queue_of store.old) p ≡ true }
     requires descriptor { r.fd < 4 }
     requires inside { r.off + r.len ≤ 512 }
-    requires fits { piece_fits (Read r.fd r.i r.off r.len) piece.old (objects_of (λ b. seen (b.vtable, b.value)) store.old).things p ≡ true }
-    requires right { IsRightAnswer (objects_of (λ b. seen (b.vtable, b.value)) store.old) (read_ask piece.old (world_of_store store.old) (objects_of (λ b. seen (b.vtable, b.value)) store.old).things p r.fd r.i r.off r.len) answer }
+    requires fits { piece_fits (Read r.fd r.i r.off r.len) piece.old (objects_of store.old).things p ≡ true }
+    requires right { IsRightAnswer (objects_of store.old) (read_ask piece.old (world_of_store store.old) (objects_of store.old).things p r.fd r.i r.off r.len) answer }
     requires disk { store.old.size ≡ D.block_count disk.old }
     requires fresh { log.old ≡ [] }
     ensures does { (blocks : Blocks) (rest : List Bool) → Tells (D.blocks disk.old) blocks →
-        CameTo (read_piece piece.old (world_of_store store.old) (objects_of (λ b. seen (b.vtable, b.value)) store.old) blocks p r.fd r.i r.off r.len ((objects_of (λ b. seen (b.vtable, b.value)) store.old).things.file p r.fd) answer (log.new ++ rest))
-        (objects_of (λ b. seen (b.vtable, b.value)) store.new) (D.blocks disk.new) result.gave (comes_after result.next (stage (Read r.fd r.i r.off r.len) piece.new)) (length log.new) }
-    ensures some { LeftBySome (world_of_store store.old) (λ blocks io. read_piece piece.old (world_of_store store.old) (objects_of (λ b. seen (b.vtable, b.value)) store.old) blocks p r.fd r.i r.off r.len ((objects_of (λ b. seen (b.vtable, b.value)) store.old).things.file p r.fd) answer io)
-        (objects_of (λ b. seen (b.vtable, b.value)) store.new) result.gave (comes_after result.next (stage (Read r.fd r.i r.off r.len) piece.new)) log.new }
+        CameTo (read_piece piece.old (world_of_store store.old) (objects_of store.old) blocks p r.fd r.i r.off r.len ((objects_of store.old).things.file p r.fd) answer (log.new ++ rest))
+        (objects_of store.new) (D.blocks disk.new) result.gave (comes_after result.next (stage (Read r.fd r.i r.off r.len) piece.new)) (length log.new) }
+    ensures some { LeftBySome (world_of_store store.old) (λ blocks io. read_piece piece.old (world_of_store store.old) (objects_of store.old) blocks p r.fd r.i r.off r.len ((objects_of store.old).things.file p r.fd) answer io)
+        (objects_of store.new) result.gave (comes_after result.next (stage (Read r.fd r.i r.off r.len) piece.new)) log.new }
     ensures queue { queue_of store.new ≡ queue_of store.old }
-    ensures next { goes_on result.next ≡ true → ReadGoes piece.old piece.new ((objects_of (λ b. seen (b.vtable, b.value)) store.old).things.file p r.fd) ((objects_of (λ b. seen (b.vtable, b.value)) store.new).things.file p r.fd) }
+    ensures next { goes_on result.next ≡ true → ReadGoes piece.old piece.new ((objects_of store.old).things.file p r.fd) ((objects_of store.new).things.file p r.fd) }
     ensures failed { is_fault result.next ≡ true → has_failed log.new ≡ true }
     ensures world { world_of_store store.new ≡ world_of_store store.old }
-    ensures sound { IsStore (λ b. seen (b.vtable, b.value)) store.new }
     ensures same_size { D.block_count disk.new ≡ D.block_count disk.old }
     ensures calls { GoesOn (D.faults disk.old) (D.faults disk.new) (D.plan disk.old) (D.plan disk.new) log.old log.new }
     ensures few { length log.new ≤ 256 }
@@ -76,9 +75,9 @@ pub(crate) fn read<D: Disk>(
 }
 
 /// The first piece: the block is fetched, and its bytes are given.
-fn first<D: Disk>(
+fn first<B: Policy, D: Disk>(
     piece: &mut u8,
-    store: &mut Store,
+    store: &mut Store<B>,
     disk: &mut D,
     log: &mut DiskLog,
     p: u8,
@@ -86,25 +85,23 @@ fn first<D: Disk>(
     answer: Option<[u32; 4]>,
     opened: OpenRow,
 ) -> After
-    requires sound { IsStore (λ b. seen (b.vtable, b.value)) store.old }
     requires alive { lives (queue_of store.old) p ≡ true }
     requires descriptor { r.fd < 4 }
     requires right { IfSome answer (λ a. is_some ((cache_of store.old).frame (slice_index a 0)) ≡ true) }
     requires inside { r.off + r.len ≤ 512 }
     requires number { piece.old ≡ 0 }
-    requires file { (objects_of (λ b. seen (b.vtable, b.value)) store.old).things.file p r.fd ≡ Some opened }
+    requires file { (objects_of store.old).things.file p r.fd ≡ Some opened }
     requires disk { store.old.size ≡ D.block_count disk.old }
     requires fresh { log.old ≡ [] }
     ensures does { (blocks : Blocks) (rest : List Bool) → Tells (D.blocks disk.old) blocks →
-        CameTo (read_first_at (file_block (world_of_store store.old) (Some opened) r.i r.off r.len) (world_of_store store.old) (objects_of (λ b. seen (b.vtable, b.value)) store.old) blocks p r.fd r.i r.off r.len opened answer (log.new ++ rest))
-        (objects_of (λ b. seen (b.vtable, b.value)) store.new) (D.blocks disk.new) result.gave (comes_after result.next (stage (Read r.fd r.i r.off r.len) piece.new)) (length log.new) }
-    ensures some { LeftBySome (world_of_store store.old) (λ blocks io. read_first_at (file_block (world_of_store store.old) (Some opened) r.i r.off r.len) (world_of_store store.old) (objects_of (λ b. seen (b.vtable, b.value)) store.old) blocks p r.fd r.i r.off r.len opened answer io)
-        (objects_of (λ b. seen (b.vtable, b.value)) store.new) result.gave (comes_after result.next (stage (Read r.fd r.i r.off r.len) piece.new)) log.new }
+        CameTo (read_first_at (file_block (world_of_store store.old) (Some opened) r.i r.off r.len) (world_of_store store.old) (objects_of store.old) blocks p r.fd r.i r.off r.len opened answer (log.new ++ rest))
+        (objects_of store.new) (D.blocks disk.new) result.gave (comes_after result.next (stage (Read r.fd r.i r.off r.len) piece.new)) (length log.new) }
+    ensures some { LeftBySome (world_of_store store.old) (λ blocks io. read_first_at (file_block (world_of_store store.old) (Some opened) r.i r.off r.len) (world_of_store store.old) (objects_of store.old) blocks p r.fd r.i r.off r.len opened answer io)
+        (objects_of store.new) result.gave (comes_after result.next (stage (Read r.fd r.i r.off r.len) piece.new)) log.new }
     ensures queue { queue_of store.new ≡ queue_of store.old }
-    ensures next { goes_on result.next ≡ true → ReadGoes 0 piece.new (Some opened) ((objects_of (λ b. seen (b.vtable, b.value)) store.new).things.file p r.fd) }
+    ensures next { goes_on result.next ≡ true → ReadGoes 0 piece.new (Some opened) ((objects_of store.new).things.file p r.fd) }
     ensures failed { is_fault result.next ≡ true → has_failed log.new ≡ true }
     ensures world { world_of_store store.new ≡ world_of_store store.old }
-    ensures sound { IsStore (λ b. seen (b.vtable, b.value)) store.new }
     ensures same_size { D.block_count disk.new ≡ D.block_count disk.old }
     ensures calls { GoesOn (D.faults disk.old) (D.faults disk.new) (D.plan disk.old) (D.plan disk.new) log.old log.new }
     ensures few { length log.new ≤ 256 }
@@ -117,9 +114,9 @@ fn first<D: Disk>(
 }
 
 /// The first piece, for block b.
-fn first_at<D: Disk>(
+fn first_at<B: Policy, D: Disk>(
     piece: &mut u8,
-    store: &mut Store,
+    store: &mut Store<B>,
     disk: &mut D,
     log: &mut DiskLog,
     p: u8,
@@ -128,7 +125,6 @@ fn first_at<D: Disk>(
     opened: OpenRow,
     b: u32,
 ) -> After
-    requires sound { IsStore (λ b. seen (b.vtable, b.value)) store.old }
     requires alive { lives (queue_of store.old) p ≡ true }
     requires descriptor { r.fd < 4 }
     requires right { IfSome answer (λ a. is_some ((cache_of store.old).frame (slice_index a 0)) ≡ true) }
@@ -140,15 +136,14 @@ fn first_at<D: Disk>(
     requires disk { store.old.size ≡ D.block_count disk.old }
     requires fresh { log.old ≡ [] }
     ensures does { (blocks : Blocks) (rest : List Bool) → Tells (D.blocks disk.old) blocks →
-        CameTo (read_first (objects_of (λ b. seen (b.vtable, b.value)) store.old) blocks p r.fd r.i r.off r.len opened (fetches.fetch (world_of_store store.old) (policies_of (λ b. seen (b.vtable, b.value)) store.old 1) p b answer (cache_of store.old) blocks (log.new ++ rest)))
-        (objects_of (λ b. seen (b.vtable, b.value)) store.new) (D.blocks disk.new) result.gave (comes_after result.next (stage (Read r.fd r.i r.off r.len) piece.new)) (length log.new) }
-    ensures some { LeftBySome (world_of_store store.old) (λ blocks io. read_first (objects_of (λ b. seen (b.vtable, b.value)) store.old) blocks p r.fd r.i r.off r.len opened (fetches.fetch (world_of_store store.old) (policies_of (λ b. seen (b.vtable, b.value)) store.old 1) p b answer (cache_of store.old) blocks io))
-        (objects_of (λ b. seen (b.vtable, b.value)) store.new) result.gave (comes_after result.next (stage (Read r.fd r.i r.off r.len) piece.new)) log.new }
+        CameTo (read_first (objects_of store.old) blocks p r.fd r.i r.off r.len opened (fetches.fetch (world_of_store store.old) (policies_of store.old 1) p b answer (cache_of store.old) blocks (log.new ++ rest)))
+        (objects_of store.new) (D.blocks disk.new) result.gave (comes_after result.next (stage (Read r.fd r.i r.off r.len) piece.new)) (length log.new) }
+    ensures some { LeftBySome (world_of_store store.old) (λ blocks io. read_first (objects_of store.old) blocks p r.fd r.i r.off r.len opened (fetches.fetch (world_of_store store.old) (policies_of store.old 1) p b answer (cache_of store.old) blocks io))
+        (objects_of store.new) result.gave (comes_after result.next (stage (Read r.fd r.i r.off r.len) piece.new)) log.new }
     ensures queue { queue_of store.new ≡ queue_of store.old }
-    ensures next { goes_on result.next ≡ true → ReadGoes 0 piece.new (Some opened) ((objects_of (λ b. seen (b.vtable, b.value)) store.new).things.file p r.fd) }
+    ensures next { goes_on result.next ≡ true → ReadGoes 0 piece.new (Some opened) ((objects_of store.new).things.file p r.fd) }
     ensures failed { is_fault result.next ≡ true → has_failed log.new ≡ true }
     ensures world { world_of_store store.new ≡ world_of_store store.old }
-    ensures sound { IsStore (λ b. seen (b.vtable, b.value)) store.new }
     ensures same_size { D.block_count disk.new ≡ D.block_count disk.old }
     ensures calls { GoesOn (D.faults disk.old) (D.faults disk.new) (D.plan disk.old) (D.plan disk.new) log.old log.new }
     ensures few { length log.new ≤ 256 }
@@ -172,11 +167,10 @@ fn first_at<D: Disk>(
 }
 
 /// What is to be read ahead of an open file: what the answer says, or by default the policy.
-fn reach(store: &Store, answer: Option<[u32; 4]>, opened: &OpenRow) -> Ahead
-    requires sound { IsStore (λ b. seen (b.vtable, b.value)) store.now }
+fn reach<B: Policy>(store: &Store<B>, answer: Option<[u32; 4]>, opened: &OpenRow) -> Ahead
     requires opened { IsSoundFile (world_of_store store.now) opened.now }
     requires right { IfSome answer (λ a. (slice_index a 1 ≤ 8) × (slice_index a 0 + slice_index a 1 ≤ blocks_of (world_of_store store.now) opened.now.file)) }
-    ensures value { ahead_by answer (ahead_default (world_of_store store.now) (policies_of (λ b. seen (b.vtable, b.value)) store.now 0) (Some opened.now)) ≡ (result.start, result.count) }
+    ensures value { ahead_by answer (ahead_default (world_of_store store.now) (policies_of store.now 0) (Some opened.now)) ≡ (result.start, result.count) }
     ensures sound { IsSoundFile (world_of_store store.now) (record (opened.now) { start = result.start; count = result.count }) }
 {
     match answer {
@@ -189,27 +183,25 @@ fn reach(store: &Store, answer: Option<[u32; 4]>, opened: &OpenRow) -> Ahead
 }
 
 /// The second piece: the answer, or by default the policy, says what is to be read ahead.
-fn second(
+fn second<B: Policy>(
     piece: &mut u8,
-    store: &mut Store,
+    store: &mut Store<B>,
     p: u8,
     r: Range,
     answer: Option<[u32; 4]>,
     opened: OpenRow,
 ) -> After
-    requires sound { IsStore (λ b. seen (b.vtable, b.value)) store.old }
     requires alive { lives (queue_of store.old) p ≡ true }
     requires descriptor { r.fd < 4 }
     requires opened { IsSoundFile (world_of_store store.old) opened }
     requires right { IfSome answer (λ a. (slice_index a 1 ≤ 8) × (slice_index a 0 + slice_index a 1 ≤ blocks_of (world_of_store store.old) opened.file)) }
     ensures does { (blocks : Blocks) (told : Option (List (List ℕ))) → Tells told blocks →
-        CameTo (read_second (objects_of (λ b. seen (b.vtable, b.value)) store.old) blocks p r.fd r.i r.off r.len opened (ahead_by answer (ahead_default (world_of_store store.old) (policies_of (λ b. seen (b.vtable, b.value)) store.old 0) (Some opened))))
-        (objects_of (λ b. seen (b.vtable, b.value)) store.new) told result.gave (comes_after result.next (stage (Read r.fd r.i r.off r.len) piece.new)) 0 }
+        CameTo (read_second (objects_of store.old) blocks p r.fd r.i r.off r.len opened (ahead_by answer (ahead_default (world_of_store store.old) (policies_of store.old 0) (Some opened))))
+        (objects_of store.new) told result.gave (comes_after result.next (stage (Read r.fd r.i r.off r.len) piece.new)) 0 }
     ensures queue { queue_of store.new ≡ queue_of store.old }
-    ensures next { goes_on result.next ≡ true → ReadGoes 1 piece.new (Some opened) ((objects_of (λ b. seen (b.vtable, b.value)) store.new).things.file p r.fd) }
+    ensures next { goes_on result.next ≡ true → ReadGoes 1 piece.new (Some opened) ((objects_of store.new).things.file p r.fd) }
     ensures no_fault { is_fault result.next ≡ false }
     ensures world { world_of_store store.new ≡ world_of_store store.old }
-    ensures sound { IsStore (λ b. seen (b.vtable, b.value)) store.new }
     ensures memory { SegmentsStay store.old.ram store.new.ram }
 {
     let ahead = reach(store, answer, &opened);
@@ -227,8 +219,8 @@ fn second(
 }
 
 /// A later piece: one block more is fetched ahead.
-fn later<D: Disk>(
-    store: &mut Store,
+fn later<B: Policy, D: Disk>(
+    store: &mut Store<B>,
     disk: &mut D,
     log: &mut DiskLog,
     p: u8,
@@ -236,7 +228,6 @@ fn later<D: Disk>(
     answer: Option<[u32; 4]>,
     opened: OpenRow,
 ) -> After
-    requires sound { IsStore (λ b. seen (b.vtable, b.value)) store.old }
     requires alive { lives (queue_of store.old) p ≡ true }
     requires descriptor { r.fd < 4 }
     requires right { IfSome answer (λ a. is_some ((cache_of store.old).frame (slice_index a 0)) ≡ true) }
@@ -245,15 +236,14 @@ fn later<D: Disk>(
     requires disk { store.old.size ≡ D.block_count disk.old }
     requires fresh { log.old ≡ [] }
     ensures does { (blocks : Blocks) (rest : List Bool) → Tells (D.blocks disk.old) blocks →
-        CameTo (read_third_at (ahead_block (world_of_store store.old) (Some opened)) (world_of_store store.old) (objects_of (λ b. seen (b.vtable, b.value)) store.old) blocks p r.fd r.i r.off r.len opened answer (log.new ++ rest))
-        (objects_of (λ b. seen (b.vtable, b.value)) store.new) (D.blocks disk.new) result.gave (comes_after result.next (stage (Read r.fd r.i r.off r.len) 2)) (length log.new) }
-    ensures some { LeftBySome (world_of_store store.old) (λ blocks io. read_third_at (ahead_block (world_of_store store.old) (Some opened)) (world_of_store store.old) (objects_of (λ b. seen (b.vtable, b.value)) store.old) blocks p r.fd r.i r.off r.len opened answer io)
-        (objects_of (λ b. seen (b.vtable, b.value)) store.new) result.gave (comes_after result.next (stage (Read r.fd r.i r.off r.len) 2)) log.new }
+        CameTo (read_third_at (ahead_block (world_of_store store.old) (Some opened)) (world_of_store store.old) (objects_of store.old) blocks p r.fd r.i r.off r.len opened answer (log.new ++ rest))
+        (objects_of store.new) (D.blocks disk.new) result.gave (comes_after result.next (stage (Read r.fd r.i r.off r.len) 2)) (length log.new) }
+    ensures some { LeftBySome (world_of_store store.old) (λ blocks io. read_third_at (ahead_block (world_of_store store.old) (Some opened)) (world_of_store store.old) (objects_of store.old) blocks p r.fd r.i r.off r.len opened answer io)
+        (objects_of store.new) result.gave (comes_after result.next (stage (Read r.fd r.i r.off r.len) 2)) log.new }
     ensures queue { queue_of store.new ≡ queue_of store.old }
-    ensures next { goes_on result.next ≡ true → ReadGoes 2 2 (Some opened) ((objects_of (λ b. seen (b.vtable, b.value)) store.new).things.file p r.fd) }
+    ensures next { goes_on result.next ≡ true → ReadGoes 2 2 (Some opened) ((objects_of store.new).things.file p r.fd) }
     ensures failed { is_fault result.next ≡ true → has_failed log.new ≡ true }
     ensures world { world_of_store store.new ≡ world_of_store store.old }
-    ensures sound { IsStore (λ b. seen (b.vtable, b.value)) store.new }
     ensures same_size { D.block_count disk.new ≡ D.block_count disk.old }
     ensures calls { GoesOn (D.faults disk.old) (D.faults disk.new) (D.plan disk.old) (D.plan disk.new) log.old log.new }
     ensures few { length log.new ≤ 256 }

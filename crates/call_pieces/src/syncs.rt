@@ -9,33 +9,36 @@ ghost use Rattle.kernel_model.specs.Objects.{FrameValue, at};
 ghost use Rattle.kernel_model.specs.Fetch.{bytes_of, cleaned};
 ghost use Rattle.buffer_cache.specs.Frames.{in_use};
 ghost use Rattle.disk_log.specs.Calls.{Tells, GoesOn};
-ghost use Rattle.kernel_state.specs.Stores.{world_of_store, objects_of, cache_of, queue_of, IsStore};
+ghost use Rattle.kernel_state.specs.Stores.{world_of_store, objects_of, cache_of, queue_of};
 ghost use Rattle.call_pieces.specs.Works.{comes_after};
 ghost use Rattle.call_pieces.specs.Coming.{CameTo, LeftBy, has_failed, is_fault, goes_on};
 
 use crate::{After, Next, came};
 use disk_log::DiskLog;
+use graft_points::Policy;
 use kernel_model::{BLOCK_BYTES, Refusal, Reply};
 use kernel_state::Store;
 use vino_base::{Disk, Failed};
 
 /// Writes the dirty frames in the order of their numbers; each is clean then. Where a call of the disk fails, what was
 /// written before stays written.
-pub(crate) fn sync<D: Disk>(store: &mut Store, disk: &mut D, log: &mut DiskLog) -> After
-    requires sound { IsStore (λ b. seen (b.vtable, b.value)) store.old }
+pub(crate) fn sync<B: Policy, D: Disk>(
+    store: &mut Store<B>,
+    disk: &mut D,
+    log: &mut DiskLog,
+) -> After
     requires disk { store.old.size ≡ D.block_count disk.old }
     requires fresh { log.old ≡ [] }
     ensures does { (blocks : Blocks) (rest : List Bool) (t : Stage) → Tells (D.blocks disk.old) blocks →
-        CameTo (sync_from (world_of_store store.old).frames 0 0 (objects_of (λ b. seen (b.vtable, b.value)) store.old) blocks (log.new ++ rest))
-        (objects_of (λ b. seen (b.vtable, b.value)) store.new) (D.blocks disk.new) result.gave (comes_after result.next t) (length log.new) }
+        CameTo (sync_from (world_of_store store.old).frames 0 0 (objects_of store.old) blocks (log.new ++ rest))
+        (objects_of store.new) (D.blocks disk.new) result.gave (comes_after result.next t) (length log.new) }
     ensures left { (blocks : Blocks) (rest : List Bool) (t : Stage) →
-        LeftBy (sync_from (world_of_store store.old).frames 0 0 (objects_of (λ b. seen (b.vtable, b.value)) store.old) blocks (log.new ++ rest))
-        (objects_of (λ b. seen (b.vtable, b.value)) store.new) result.gave (comes_after result.next t) (length log.new) }
+        LeftBy (sync_from (world_of_store store.old).frames 0 0 (objects_of store.old) blocks (log.new ++ rest))
+        (objects_of store.new) result.gave (comes_after result.next t) (length log.new) }
     ensures queue { queue_of store.new ≡ queue_of store.old }
     ensures ends { goes_on result.next ≡ false }
     ensures failed { is_fault result.next ≡ true → has_failed log.new ≡ true }
     ensures world { world_of_store store.new ≡ world_of_store store.old }
-    ensures sound { IsStore (λ b. seen (b.vtable, b.value)) store.new }
     ensures same_size { D.block_count disk.new ≡ D.block_count disk.old }
     ensures calls { GoesOn (D.faults disk.old) (D.faults disk.new) (D.plan disk.old) (D.plan disk.new) log.old log.new }
     ensures few { length log.new ≤ 256 }
@@ -55,14 +58,13 @@ pub(crate) fn sync<D: Disk>(store: &mut Store, disk: &mut D, log: &mut DiskLog) 
 }
 
 /// Writes frame f, which holds block b and is dirty. It is clean then, unless the call of the disk fails.
-fn write_back<D: Disk>(
-    store: &mut Store,
+fn write_back<B: Policy, D: Disk>(
+    store: &mut Store<B>,
     disk: &mut D,
     log: &mut DiskLog,
     f: u8,
     b: u32,
 ) -> Result<(), Failed>
-    requires sound { IsStore (λ b. seen (b.vtable, b.value)) store.old }
     requires block { b < store.old.size }
     requires disk { store.old.size ≡ D.block_count disk.old }
     requires frame { in_use f store.old.cache ≡ true }
@@ -71,11 +73,10 @@ fn write_back<D: Disk>(
     ensures told { (blocks : Blocks) → Tells (D.blocks disk.old) blocks →
         Tells (D.blocks disk.new) (cond (is_ok result) (at b (bytes_of (cache_of store.old) f) blocks) blocks) }
     ensures cleaned { IfOk result (λ _. (x : FrameValue) → (cache_of store.old).frame f ≡ Some x →
-        objects_of (λ b. seen (b.vtable, b.value)) store.new ≡ with_cache (cleaned f x (cache_of store.old)) (objects_of (λ b. seen (b.vtable, b.value)) store.old)) }
-    ensures kept { IfErr result (λ _. objects_of (λ b. seen (b.vtable, b.value)) store.new ≡ objects_of (λ b. seen (b.vtable, b.value)) store.old) }
+        objects_of store.new ≡ with_cache (cleaned f x (cache_of store.old)) (objects_of store.old)) }
+    ensures kept { IfErr result (λ _. objects_of store.new ≡ objects_of store.old) }
     ensures queue { queue_of store.new ≡ queue_of store.old }
     ensures world { world_of_store store.new ≡ world_of_store store.old }
-    ensures sound { IsStore (λ b. seen (b.vtable, b.value)) store.new }
     ensures same_size { D.block_count disk.new ≡ D.block_count disk.old }
     ensures calls { GoesOn (D.faults disk.old) (D.faults disk.new) (D.plan disk.old) (D.plan disk.new) log.old log.new }
     ensures few { length log.new ≤ 256 }

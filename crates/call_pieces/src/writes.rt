@@ -8,20 +8,21 @@ ghost use Rattle.kernel_model.specs.Needs.{file_block, fetch_ask};
 ghost use Rattle.kernel_model.specs.Laws.{IsRightAnswer};
 ghost use Rattle.kernel_model.specs.FilePieces.{write_piece};
 ghost use Rattle.disk_log.specs.Calls.{Tells, GoesOn};
-ghost use Rattle.kernel_state.specs.Stores.{world_of_store, objects_of, queue_of, IsStore, SegmentsStay};
+ghost use Rattle.kernel_state.specs.Stores.{world_of_store, objects_of, queue_of, SegmentsStay};
 ghost use Rattle.call_pieces.specs.Works.{comes_after};
 ghost use Rattle.call_pieces.specs.Coming.{CameTo, LeftBySome, has_failed, is_fault, goes_on};
 
 use crate::fetch::fetch;
 use crate::{After, Next, came};
 use disk_log::DiskLog;
+use graft_points::Policy;
 use kernel_model::{Refusal, Reply};
 use kernel_state::Store;
 use vino_base::Disk;
 
 /// Process p writes bytes into block i of the file at descriptor fd, from a place in it on.
-pub(crate) fn write<D: Disk>(
-    store: &mut Store,
+pub(crate) fn write<B: Policy, D: Disk>(
+    store: &mut Store<B>,
     disk: &mut D,
     log: &mut DiskLog,
     p: u8,
@@ -31,23 +32,21 @@ pub(crate) fn write<D: Disk>(
     bytes: &[u8],
     answer: Option<[u32; 4]>,
 ) -> After
-    requires sound { IsStore (λ b. seen (b.vtable, b.value)) store.old }
     requires alive { lives (queue_of store.old) p ≡ true }
     requires descriptor { fd < 4 }
     requires inside { off + length bytes.now ≤ 512 }
-    requires right { IsRightAnswer (objects_of (λ b. seen (b.vtable, b.value)) store.old) (fetch_ask (world_of_store store.old) (objects_of (λ b. seen (b.vtable, b.value)) store.old).things (file_block (world_of_store store.old) ((objects_of (λ b. seen (b.vtable, b.value)) store.old).things.file p fd) i off (length bytes.now))) answer }
+    requires right { IsRightAnswer (objects_of store.old) (fetch_ask (world_of_store store.old) (objects_of store.old).things (file_block (world_of_store store.old) ((objects_of store.old).things.file p fd) i off (length bytes.now))) answer }
     requires disk { store.old.size ≡ D.block_count disk.old }
     requires fresh { log.old ≡ [] }
     ensures does { (blocks : Blocks) (rest : List Bool) (t : Stage) → Tells (D.blocks disk.old) blocks →
-        CameTo (write_piece (file_block (world_of_store store.old) ((objects_of (λ b. seen (b.vtable, b.value)) store.old).things.file p fd) i off (length bytes.now)) (world_of_store store.old) (objects_of (λ b. seen (b.vtable, b.value)) store.old) blocks p off bytes.now answer (log.new ++ rest))
-        (objects_of (λ b. seen (b.vtable, b.value)) store.new) (D.blocks disk.new) result.gave (comes_after result.next t) (length log.new) }
-    ensures some { (t : Stage) → LeftBySome (world_of_store store.old) (λ blocks io. write_piece (file_block (world_of_store store.old) ((objects_of (λ b. seen (b.vtable, b.value)) store.old).things.file p fd) i off (length bytes.now)) (world_of_store store.old) (objects_of (λ b. seen (b.vtable, b.value)) store.old) blocks p off bytes.now answer io)
-        (objects_of (λ b. seen (b.vtable, b.value)) store.new) result.gave (comes_after result.next t) log.new }
+        CameTo (write_piece (file_block (world_of_store store.old) ((objects_of store.old).things.file p fd) i off (length bytes.now)) (world_of_store store.old) (objects_of store.old) blocks p off bytes.now answer (log.new ++ rest))
+        (objects_of store.new) (D.blocks disk.new) result.gave (comes_after result.next t) (length log.new) }
+    ensures some { (t : Stage) → LeftBySome (world_of_store store.old) (λ blocks io. write_piece (file_block (world_of_store store.old) ((objects_of store.old).things.file p fd) i off (length bytes.now)) (world_of_store store.old) (objects_of store.old) blocks p off bytes.now answer io)
+        (objects_of store.new) result.gave (comes_after result.next t) log.new }
     ensures queue { queue_of store.new ≡ queue_of store.old }
     ensures ends { goes_on result.next ≡ false }
     ensures failed { is_fault result.next ≡ true → has_failed log.new ≡ true }
     ensures world { world_of_store store.new ≡ world_of_store store.old }
-    ensures sound { IsStore (λ b. seen (b.vtable, b.value)) store.new }
     ensures same_size { D.block_count disk.new ≡ D.block_count disk.old }
     ensures calls { GoesOn (D.faults disk.old) (D.faults disk.new) (D.plan disk.old) (D.plan disk.new) log.old log.new }
     ensures few { length log.new ≤ 256 }

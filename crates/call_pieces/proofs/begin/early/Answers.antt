@@ -5,5 +5,5 @@ use Rattle.call_pieces.proofs.begin.early.Goals as goal
 
 pub returns-clause-ready : goal.returns-clause-ready
 returns-clause-ready g c =
-    may_come (world_of_store c.args.store.now) (objects_of (λ b. (goal.Policy-dyn g (b.vtable, b.value)).seen b.value) c.args.store.now) c.args.images c.args.p c.args.call.now c.copy_call.result c.copy_call.ensures c.requires.alive
+    may_come (world_of_store c.args.store.now) (objects_of c.args.store.now) c.args.images c.args.p c.args.call.now c.copy_call.result c.copy_call.ensures c.requires.alive
     (λ table tells. sym c.in_default.is ∙ c.refusal.ensures table tells)

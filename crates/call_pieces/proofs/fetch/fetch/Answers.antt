@@ -10,7 +10,7 @@ pub returns-in-Some-clause-some : goal.returns-in-Some-clause-some
 returns-in-Some-clause-some g c =
     let s = c.args.store.now in
     let v = world_of_store s in
-    let pol = policies_of (λ b. (goal.Policy-dyn g (b.vtable, b.value)).seen b.value) s 1 in
+    let pol = policies_of s 1 in
     let f = c.in-Some.f in
     subst (λ (x : CacheValue). FetchLeftBySome v (λ blocks w. fetch v pol c.args.p c.args.b c.args.answer (cache_of s) blocks w) (Ok f) x c.args.log.now)
     (sym (ap (λ (x : Objects). x.things.cache) c.touch.ensures.objects))

@@ -14,7 +14,7 @@ returns-in-Ok-clause-does g c =
     λ blocks rest tells.
     let s = c.args.store.now in
     let read = c.in-Ok.ensures.told blocks tells in
-    let is = read_is (world_of_store s) (policies_of (λ b. (goal.Policy-dyn g (b.vtable, b.value)).seen b.value) s 1) c.args.p c.args.b c.args.answer (cache_of s) blocks (c.place.new.log ++ rest) (c.place.ensures.first rest) in
+    let is = read_is (world_of_store s) (policies_of s 1) c.args.p c.args.b c.args.answer (cache_of s) blocks (c.place.new.log ++ rest) (c.place.ensures.first rest) in
     record {
       outcome = subst (λ (x : Fetched). FetchLeft x blocks c.place.result (cache_of c.place.new.store) (length c.place.new.log)) (sym is) (c.place.ensures.outcome blocks rest (sym read.1));
       tells = subst (λ (x : Fetched). Tells (g.D.Disk.blocks c.place.new.disk) (blocks_after x blocks)) (sym is) (c.place.ensures.tells blocks rest (sym read.1) read.0);
@@ -24,7 +24,7 @@ pub returns-in-Ok-clause-some : goal.returns-in-Ok-clause-some
 returns-in-Ok-clause-some g c =
     let s = c.args.store.now in
     let v = world_of_store s in
-    let pol = policies_of (λ b. (goal.Policy-dyn g (b.vtable, b.value)).seen b.value) s 1 in
+    let pol = policies_of s 1 in
     let bytes : List ℕ = c.read.new.to in
     fetch_alike v (λ blocks w. read_block v pol c.args.p c.args.b c.args.answer (cache_of s) blocks w) c.place.result (cache_of c.place.new.store) c.place.new.log bytes c.read.array_long
     (λ rest.
@@ -36,6 +36,6 @@ pub returns-in-Err-clause-some : goal.returns-in-Err-clause-some
 returns-in-Err-clause-some g c =
     let s = c.args.store.now in
     let v = world_of_store s in
-    let pol = policies_of (λ b. (goal.Policy-dyn g (b.vtable, b.value)).seen b.value) s 1 in
+    let pol = policies_of s 1 in
     fetch_some v (λ blocks w. read_block v pol c.args.p c.args.b c.args.answer (cache_of s) blocks w) _ (cache_of s) c.read.new.self
     (λ blocks rest. read_failed v pol c.args.p c.args.b c.args.answer (cache_of s) blocks c.in-Err.failed c.read.new.self rest (c.in-Err.ensures.noted ∙ ap (λ (w : List Bool). w ++ true ∷ []) c.requires.fresh))

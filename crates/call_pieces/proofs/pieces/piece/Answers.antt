@@ -34,8 +34,8 @@ write-requires-clause-inside g c = rw c.as_slice-in-Write.ensures.value ((write_
 pub take_lock-requires-clause-granted : goal.take_lock-requires-clause-granted
 take_lock-requires-clause-granted g c = take_granted (world_of_store c.args.store.now) c.args.work.now.caller c.args.work.now.call c.in-TakeLock.u (c.requires.ready.images, c.requires.ready.granted) c.in-TakeLock.is
 
-pub free_lock-requires-clause-granted : goal.free_lock-requires-clause-granted
-free_lock-requires-clause-granted g c = free_granted (world_of_store c.args.store.now) c.args.work.now.caller c.args.work.now.call c.in-FreeLock.u (c.requires.ready.images, c.requires.ready.granted) c.in-FreeLock.is
+pub free_lock-requires : goal.free_lock-requires
+free_lock-requires g c = record { granted = free_granted (world_of_store c.args.store.now) c.args.work.now.caller c.args.work.now.call c.in-FreeLock.u (c.requires.ready.images, c.requires.ready.granted) c.in-FreeLock.is }
 
 pub poke-requires-clause-granted : goal.poke-requires-clause-granted
 poke-requires-clause-granted g c = poke_granted (world_of_store c.args.store.now) c.args.work.now.caller c.args.work.now.call c.in-Poke.k c.in-Poke.v (c.requires.ready.images, c.requires.ready.granted) c.in-Poke.is
@@ -43,8 +43,8 @@ poke-requires-clause-granted g c = poke_granted (world_of_store c.args.store.now
 pub peek-requires-clause-granted : goal.peek-requires-clause-granted
 peek-requires-clause-granted g c = peek_granted (world_of_store c.args.store.now) c.args.work.now.caller c.args.work.now.call c.in-Peek.k (c.requires.ready.images, c.requires.ready.granted) c.in-Peek.is
 
-pub tune-requires-clause-granted : goal.tune-requires-clause-granted
-tune-requires-clause-granted g c = tune_granted (world_of_store c.args.store.now) c.args.work.now.caller c.args.work.now.call c.in-Tune.kind c.in-Tune.k c.in-Tune.v (c.requires.ready.images, c.requires.ready.granted) c.in-Tune.is
+pub tune-requires : goal.tune-requires
+tune-requires g c = record { granted = tune_granted (world_of_store c.args.store.now) c.args.work.now.caller c.args.work.now.call c.in-Tune.kind c.in-Tune.k c.in-Tune.v (c.requires.ready.images, c.requires.ready.granted) c.in-Tune.is }
 
 pub choose-requires-clause-kind : goal.choose-requires-clause-kind
 choose-requires-clause-kind g c = (choose_granted (world_of_store c.args.store.now) c.args.work.now.caller c.args.work.now.call c.in-Choose.kind c.in-Choose.j (c.requires.ready.images, c.requires.ready.granted) c.in-Choose.is).0
@@ -79,279 +79,279 @@ bill-requires-clause-point g c = bill_granted (world_of_store c.args.store.now) 
 pub returns-in-Spawn-clause-does : goal.returns-in-Spawn-clause-does
 returns-in-Spawn-clause-does g c =
     λ blocks rest tells.
-    let s = objects_of (λ b. (goal.Policy-dyn g (b.vtable, b.value)).seen b.value) c.args.store.now in
+    let s = objects_of c.args.store.now in
     let w = c.args.work.now in
-    came_named (λ (k : SysCall). piece_of k w.piece (world_of_store c.args.store.now) s blocks w.caller c.args.answer (c.args.log.now ++ rest)) w.call Spawn (objects_of (λ b. (goal.Policy-dyn g (b.vtable, b.value)).seen b.value) c.spawn.new.store)
+    came_named (λ (k : SysCall). piece_of k w.piece (world_of_store c.args.store.now) s blocks w.caller c.args.answer (c.args.log.now ++ rest)) w.call Spawn (objects_of c.spawn.new.store)
     (g.D.Disk.blocks c.args.disk.now) _ _ (length c.args.log.now) 0 c.in-Spawn.is (ap length c.requires.fresh) (c.spawn.ensures.does blocks _ (stage w.call w.piece) tells)
 
 pub returns-in-Exit-clause-does : goal.returns-in-Exit-clause-does
 returns-in-Exit-clause-does g c =
     λ blocks rest tells.
-    let s = objects_of (λ b. (goal.Policy-dyn g (b.vtable, b.value)).seen b.value) c.args.store.now in
+    let s = objects_of c.args.store.now in
     let w = c.args.work.now in
-    came_named (λ (k : SysCall). piece_of k w.piece (world_of_store c.args.store.now) s blocks w.caller c.args.answer (c.args.log.now ++ rest)) w.call Exit (objects_of (λ b. (goal.Policy-dyn g (b.vtable, b.value)).seen b.value) c.exit.new.store)
+    came_named (λ (k : SysCall). piece_of k w.piece (world_of_store c.args.store.now) s blocks w.caller c.args.answer (c.args.log.now ++ rest)) w.call Exit (objects_of c.exit.new.store)
     (g.D.Disk.blocks c.args.disk.now) _ _ (length c.args.log.now) 0 c.in-Exit.is (ap length c.requires.fresh) (c.exit.ensures.does blocks _ (stage w.call w.piece) tells)
 
 pub returns-in-OpenName-clause-does : goal.returns-in-OpenName-clause-does
 returns-in-OpenName-clause-does g c =
     λ blocks rest tells.
-    let s = objects_of (λ b. (goal.Policy-dyn g (b.vtable, b.value)).seen b.value) c.args.store.now in
+    let s = objects_of c.args.store.now in
     let w = c.args.work.now in
-    came_named (λ (k : SysCall). piece_of k w.piece (world_of_store c.args.store.now) s blocks w.caller c.args.answer (c.args.log.now ++ rest)) w.call (OpenName c.in-OpenName.name) (objects_of (λ b. (goal.Policy-dyn g (b.vtable, b.value)).seen b.value) c.open.new.store) (g.D.Disk.blocks c.args.disk.now)
+    came_named (λ (k : SysCall). piece_of k w.piece (world_of_store c.args.store.now) s blocks w.caller c.args.answer (c.args.log.now ++ rest)) w.call (OpenName c.in-OpenName.name) (objects_of c.open.new.store) (g.D.Disk.blocks c.args.disk.now)
     _ _ (length c.args.log.now) 0 c.in-OpenName.is (ap length c.requires.fresh)
-    (subst (λ (name : List ℕ). CameTo (open_piece s w.caller (file_named (world_of_store c.args.store.now) name) (free_descriptor s.things w.caller 4 0) blocks) (objects_of (λ b. (goal.Policy-dyn g (b.vtable, b.value)).seen b.value) c.open.new.store) (g.D.Disk.blocks c.args.disk.now) c.open.result.gave (comes_after c.open.result.next (stage w.call w.piece)) 0) c.as_slice.ensures.value
+    (subst (λ (name : List ℕ). CameTo (open_piece s w.caller (file_named (world_of_store c.args.store.now) name) (free_descriptor s.things w.caller 4 0) blocks) (objects_of c.open.new.store) (g.D.Disk.blocks c.args.disk.now) c.open.result.gave (comes_after c.open.result.next (stage w.call w.piece)) 0) c.as_slice.ensures.value
     (c.open.ensures.does blocks _ (stage w.call w.piece) tells))
 
 pub returns-in-CloseFd-clause-does : goal.returns-in-CloseFd-clause-does
 returns-in-CloseFd-clause-does g c =
     λ blocks rest tells.
-    let s = objects_of (λ b. (goal.Policy-dyn g (b.vtable, b.value)).seen b.value) c.args.store.now in
+    let s = objects_of c.args.store.now in
     let w = c.args.work.now in
-    came_named (λ (k : SysCall). piece_of k w.piece (world_of_store c.args.store.now) s blocks w.caller c.args.answer (c.args.log.now ++ rest)) w.call (CloseFd c.in-CloseFd.fd) (objects_of (λ b. (goal.Policy-dyn g (b.vtable, b.value)).seen b.value) c.close.new.store)
+    came_named (λ (k : SysCall). piece_of k w.piece (world_of_store c.args.store.now) s blocks w.caller c.args.answer (c.args.log.now ++ rest)) w.call (CloseFd c.in-CloseFd.fd) (objects_of c.close.new.store)
     (g.D.Disk.blocks c.args.disk.now) _ _ (length c.args.log.now) 0 c.in-CloseFd.is (ap length c.requires.fresh) (c.close.ensures.does blocks _ (stage w.call w.piece) tells)
 
 pub returns-in-Read-clause-does : goal.returns-in-Read-clause-does
 returns-in-Read-clause-does g c =
     λ blocks rest tells.
-    let s = objects_of (λ b. (goal.Policy-dyn g (b.vtable, b.value)).seen b.value) c.args.store.now in
+    let s = objects_of c.args.store.now in
     let w = c.args.work.now in
-    subst (λ (k : SysCall). CameTo (piece_of k w.piece (world_of_store c.args.store.now) s blocks w.caller c.args.answer (c.read.new.log ++ rest)) (objects_of (λ b. (goal.Policy-dyn g (b.vtable, b.value)).seen b.value) c.read.new.store) (g.D.Disk.blocks c.read.new.disk)
+    subst (λ (k : SysCall). CameTo (piece_of k w.piece (world_of_store c.args.store.now) s blocks w.caller c.args.answer (c.read.new.log ++ rest)) (objects_of c.read.new.store) (g.D.Disk.blocks c.read.new.disk)
     c.read.result.gave (comes_after c.read.result.next (stage k c.read.new.piece)) (length c.read.new.log)) (sym c.in-Read.is) (c.read.ensures.does blocks rest tells)
 
 pub returns-in-Write-clause-does : goal.returns-in-Write-clause-does
 returns-in-Write-clause-does g c =
     λ blocks rest tells.
-    let s = objects_of (λ b. (goal.Policy-dyn g (b.vtable, b.value)).seen b.value) c.args.store.now in
+    let s = objects_of c.args.store.now in
     let v = world_of_store c.args.store.now in
     let w = c.args.work.now in
     let x = c.in-Write in
-    came_named (λ (k : SysCall). piece_of k w.piece v s blocks w.caller c.args.answer (c.write.new.log ++ rest)) w.call (Write x.fd x.i x.off x.bytes) (objects_of (λ b. (goal.Policy-dyn g (b.vtable, b.value)).seen b.value) c.write.new.store)
+    came_named (λ (k : SysCall). piece_of k w.piece v s blocks w.caller c.args.answer (c.write.new.log ++ rest)) w.call (Write x.fd x.i x.off x.bytes) (objects_of c.write.new.store)
     (g.D.Disk.blocks c.write.new.disk) _ _ (length c.write.new.log) (length c.write.new.log) x.is refl
-    (subst (λ (bytes : List ℕ). CameTo (write_piece (file_block v (s.things.file w.caller x.fd) x.i x.off (length bytes)) v s blocks w.caller x.off bytes c.args.answer (c.write.new.log ++ rest)) (objects_of (λ b. (goal.Policy-dyn g (b.vtable, b.value)).seen b.value) c.write.new.store)
+    (subst (λ (bytes : List ℕ). CameTo (write_piece (file_block v (s.things.file w.caller x.fd) x.i x.off (length bytes)) v s blocks w.caller x.off bytes c.args.answer (c.write.new.log ++ rest)) (objects_of c.write.new.store)
     (g.D.Disk.blocks c.write.new.disk) c.write.result.gave (comes_after c.write.result.next (stage w.call w.piece)) (length c.write.new.log)) c.as_slice-in-Write.ensures.value (c.write.ensures.does blocks rest (stage w.call w.piece) tells))
 
 pub returns-in-Sync-clause-does : goal.returns-in-Sync-clause-does
 returns-in-Sync-clause-does g c =
     λ blocks rest tells.
-    let s = objects_of (λ b. (goal.Policy-dyn g (b.vtable, b.value)).seen b.value) c.args.store.now in
+    let s = objects_of c.args.store.now in
     let w = c.args.work.now in
-    came_named (λ (k : SysCall). piece_of k w.piece (world_of_store c.args.store.now) s blocks w.caller c.args.answer (c.sync.new.log ++ rest)) w.call Sync (objects_of (λ b. (goal.Policy-dyn g (b.vtable, b.value)).seen b.value) c.sync.new.store)
+    came_named (λ (k : SysCall). piece_of k w.piece (world_of_store c.args.store.now) s blocks w.caller c.args.answer (c.sync.new.log ++ rest)) w.call Sync (objects_of c.sync.new.store)
     (g.D.Disk.blocks c.sync.new.disk) _ _ (length c.sync.new.log) (length c.sync.new.log) c.in-Sync.is refl (c.sync.ensures.does blocks rest (stage w.call w.piece) tells)
 
 pub returns-in-TakeLock-clause-does : goal.returns-in-TakeLock-clause-does
 returns-in-TakeLock-clause-does g c =
     λ blocks rest tells.
-    let s = objects_of (λ b. (goal.Policy-dyn g (b.vtable, b.value)).seen b.value) c.args.store.now in
+    let s = objects_of c.args.store.now in
     let w = c.args.work.now in
-    came_named (λ (k : SysCall). piece_of k w.piece (world_of_store c.args.store.now) s blocks w.caller c.args.answer (c.args.log.now ++ rest)) w.call (TakeLock c.in-TakeLock.u) (objects_of (λ b. (goal.Policy-dyn g (b.vtable, b.value)).seen b.value) c.take_lock.new.store)
+    came_named (λ (k : SysCall). piece_of k w.piece (world_of_store c.args.store.now) s blocks w.caller c.args.answer (c.args.log.now ++ rest)) w.call (TakeLock c.in-TakeLock.u) (objects_of c.take_lock.new.store)
     (g.D.Disk.blocks c.args.disk.now) _ _ (length c.args.log.now) 0 c.in-TakeLock.is (ap length c.requires.fresh) (c.take_lock.ensures.does blocks _ (stage w.call w.piece) tells)
 
 pub returns-in-FreeLock-clause-does : goal.returns-in-FreeLock-clause-does
 returns-in-FreeLock-clause-does g c =
     λ blocks rest tells.
-    let s = objects_of (λ b. (goal.Policy-dyn g (b.vtable, b.value)).seen b.value) c.args.store.now in
+    let s = objects_of c.args.store.now in
     let w = c.args.work.now in
-    came_named (λ (k : SysCall). piece_of k w.piece (world_of_store c.args.store.now) s blocks w.caller c.args.answer (c.args.log.now ++ rest)) w.call (FreeLock c.in-FreeLock.u) (objects_of (λ b. (goal.Policy-dyn g (b.vtable, b.value)).seen b.value) c.free_lock.new.store)
+    came_named (λ (k : SysCall). piece_of k w.piece (world_of_store c.args.store.now) s blocks w.caller c.args.answer (c.args.log.now ++ rest)) w.call (FreeLock c.in-FreeLock.u) (objects_of c.free_lock.new.store)
     (g.D.Disk.blocks c.args.disk.now) _ _ (length c.args.log.now) 0 c.in-FreeLock.is (ap length c.requires.fresh) (c.free_lock.ensures.does blocks _ (stage w.call w.piece) tells)
 
 pub returns-in-Poke-clause-does : goal.returns-in-Poke-clause-does
 returns-in-Poke-clause-does g c =
     λ blocks rest tells.
-    let s = objects_of (λ b. (goal.Policy-dyn g (b.vtable, b.value)).seen b.value) c.args.store.now in
+    let s = objects_of c.args.store.now in
     let w = c.args.work.now in
-    came_named (λ (k : SysCall). piece_of k w.piece (world_of_store c.args.store.now) s blocks w.caller c.args.answer (c.args.log.now ++ rest)) w.call (Poke c.in-Poke.k c.in-Poke.v) (objects_of (λ b. (goal.Policy-dyn g (b.vtable, b.value)).seen b.value) c.poke.new.store)
+    came_named (λ (k : SysCall). piece_of k w.piece (world_of_store c.args.store.now) s blocks w.caller c.args.answer (c.args.log.now ++ rest)) w.call (Poke c.in-Poke.k c.in-Poke.v) (objects_of c.poke.new.store)
     (g.D.Disk.blocks c.args.disk.now) _ _ (length c.args.log.now) 0 c.in-Poke.is (ap length c.requires.fresh) (c.poke.ensures.does blocks _ (stage w.call w.piece) tells)
 
 pub returns-in-Peek-clause-does : goal.returns-in-Peek-clause-does
 returns-in-Peek-clause-does g c =
     λ blocks rest tells.
-    let s = objects_of (λ b. (goal.Policy-dyn g (b.vtable, b.value)).seen b.value) c.args.store.now in
+    let s = objects_of c.args.store.now in
     let w = c.args.work.now in
-    came_named (λ (k : SysCall). piece_of k w.piece (world_of_store c.args.store.now) s blocks w.caller c.args.answer (c.args.log.now ++ rest)) w.call (Peek c.in-Peek.k) (objects_of (λ b. (goal.Policy-dyn g (b.vtable, b.value)).seen b.value) c.args.store.now)
+    came_named (λ (k : SysCall). piece_of k w.piece (world_of_store c.args.store.now) s blocks w.caller c.args.answer (c.args.log.now ++ rest)) w.call (Peek c.in-Peek.k) (objects_of c.args.store.now)
     (g.D.Disk.blocks c.args.disk.now) _ _ (length c.args.log.now) 0 c.in-Peek.is (ap length c.requires.fresh) (c.peek.ensures.does blocks _ (stage w.call w.piece) tells)
 
 pub returns-in-Tune-clause-does : goal.returns-in-Tune-clause-does
 returns-in-Tune-clause-does g c =
     λ blocks rest tells.
-    let s = objects_of (λ b. (goal.Policy-dyn g (b.vtable, b.value)).seen b.value) c.args.store.now in
+    let s = objects_of c.args.store.now in
     let w = c.args.work.now in
-    came_named (λ (k : SysCall). piece_of k w.piece (world_of_store c.args.store.now) s blocks w.caller c.args.answer (c.args.log.now ++ rest)) w.call (Tune c.in-Tune.kind c.in-Tune.k c.in-Tune.v) (objects_of (λ b. (goal.Policy-dyn g (b.vtable, b.value)).seen b.value) c.tune.new.store)
+    came_named (λ (k : SysCall). piece_of k w.piece (world_of_store c.args.store.now) s blocks w.caller c.args.answer (c.args.log.now ++ rest)) w.call (Tune c.in-Tune.kind c.in-Tune.k c.in-Tune.v) (objects_of c.tune.new.store)
     (g.D.Disk.blocks c.args.disk.now) _ _ (length c.args.log.now) 0 c.in-Tune.is (ap length c.requires.fresh) (c.tune.ensures.does blocks _ (stage w.call w.piece) tells)
 
 pub returns-in-Choose-clause-does : goal.returns-in-Choose-clause-does
 returns-in-Choose-clause-does g c =
     λ blocks rest tells.
-    let s = objects_of (λ b. (goal.Policy-dyn g (b.vtable, b.value)).seen b.value) c.args.store.now in
+    let s = objects_of c.args.store.now in
     let w = c.args.work.now in
-    came_named (λ (k : SysCall). piece_of k w.piece (world_of_store c.args.store.now) s blocks w.caller c.args.answer (c.args.log.now ++ rest)) w.call (Choose c.in-Choose.kind c.in-Choose.j) (objects_of (λ b. (goal.Policy-dyn g (b.vtable, b.value)).seen b.value) c.choose.new.store)
+    came_named (λ (k : SysCall). piece_of k w.piece (world_of_store c.args.store.now) s blocks w.caller c.args.answer (c.args.log.now ++ rest)) w.call (Choose c.in-Choose.kind c.in-Choose.j) (objects_of c.choose.new.store)
     (g.D.Disk.blocks c.args.disk.now) _ _ (length c.args.log.now) 0 c.in-Choose.is (ap length c.requires.fresh) (c.choose.ensures.does blocks _ (stage w.call w.piece) tells)
 
 pub returns-in-Give-clause-does : goal.returns-in-Give-clause-does
 returns-in-Give-clause-does g c =
     λ blocks rest tells.
-    let s = objects_of (λ b. (goal.Policy-dyn g (b.vtable, b.value)).seen b.value) c.args.store.now in
+    let s = objects_of c.args.store.now in
     let w = c.args.work.now in
-    came_named (λ (k : SysCall). piece_of k w.piece (world_of_store c.args.store.now) s blocks w.caller c.args.answer (c.args.log.now ++ rest)) w.call (Give c.in-Give.q c.in-Give.kind c.in-Give.n) (objects_of (λ b. (goal.Policy-dyn g (b.vtable, b.value)).seen b.value) c.give.new.store)
+    came_named (λ (k : SysCall). piece_of k w.piece (world_of_store c.args.store.now) s blocks w.caller c.args.answer (c.args.log.now ++ rest)) w.call (Give c.in-Give.q c.in-Give.kind c.in-Give.n) (objects_of c.give.new.store)
     (g.D.Disk.blocks c.args.disk.now) _ _ (length c.args.log.now) 0 c.in-Give.is (ap length c.requires.fresh) (c.give.ensures.does blocks _ (stage w.call w.piece) tells)
 
 pub returns-in-Install-clause-does : goal.returns-in-Install-clause-does
 returns-in-Install-clause-does g c =
     λ blocks rest tells.
-    let s = objects_of (λ b. (goal.Policy-dyn g (b.vtable, b.value)).seen b.value) c.args.store.now in
+    let s = objects_of c.args.store.now in
     let w = c.args.work.now in
-    came_named (λ (k : SysCall). piece_of k w.piece (world_of_store c.args.store.now) s blocks w.caller c.args.answer (c.args.log.now ++ rest)) w.call (Install c.in-Install.pt c.in-Install.image c.in-Install.limit) (objects_of (λ b. (goal.Policy-dyn g (b.vtable, b.value)).seen b.value) c.install.new.store)
+    came_named (λ (k : SysCall). piece_of k w.piece (world_of_store c.args.store.now) s blocks w.caller c.args.answer (c.args.log.now ++ rest)) w.call (Install c.in-Install.pt c.in-Install.image c.in-Install.limit) (objects_of c.install.new.store)
     (g.D.Disk.blocks c.args.disk.now) _ _ (length c.args.log.now) 0 c.in-Install.is (ap length c.requires.fresh) (c.install.ensures.does blocks _ (stage w.call w.piece) tells)
 
 pub returns-in-Remove-clause-does : goal.returns-in-Remove-clause-does
 returns-in-Remove-clause-does g c =
     λ blocks rest tells.
-    let s = objects_of (λ b. (goal.Policy-dyn g (b.vtable, b.value)).seen b.value) c.args.store.now in
+    let s = objects_of c.args.store.now in
     let w = c.args.work.now in
-    came_named (λ (k : SysCall). piece_of k w.piece (world_of_store c.args.store.now) s blocks w.caller c.args.answer (c.args.log.now ++ rest)) w.call (Remove c.in-Remove.pt) (objects_of (λ b. (goal.Policy-dyn g (b.vtable, b.value)).seen b.value) c.remove.new.store)
+    came_named (λ (k : SysCall). piece_of k w.piece (world_of_store c.args.store.now) s blocks w.caller c.args.answer (c.args.log.now ++ rest)) w.call (Remove c.in-Remove.pt) (objects_of c.remove.new.store)
     (g.D.Disk.blocks c.args.disk.now) _ _ (length c.args.log.now) 0 c.in-Remove.is (ap length c.requires.fresh) (c.remove.ensures.does blocks _ (stage w.call w.piece) tells)
 
 pub returns-in-Fund-clause-does : goal.returns-in-Fund-clause-does
 returns-in-Fund-clause-does g c =
     λ blocks rest tells.
-    let s = objects_of (λ b. (goal.Policy-dyn g (b.vtable, b.value)).seen b.value) c.args.store.now in
+    let s = objects_of c.args.store.now in
     let w = c.args.work.now in
-    came_named (λ (k : SysCall). piece_of k w.piece (world_of_store c.args.store.now) s blocks w.caller c.args.answer (c.args.log.now ++ rest)) w.call (Fund c.in-Fund.pt c.in-Fund.kind c.in-Fund.n) (objects_of (λ b. (goal.Policy-dyn g (b.vtable, b.value)).seen b.value) c.fund.new.store)
+    came_named (λ (k : SysCall). piece_of k w.piece (world_of_store c.args.store.now) s blocks w.caller c.args.answer (c.args.log.now ++ rest)) w.call (Fund c.in-Fund.pt c.in-Fund.kind c.in-Fund.n) (objects_of c.fund.new.store)
     (g.D.Disk.blocks c.args.disk.now) _ _ (length c.args.log.now) 0 c.in-Fund.is (ap length c.requires.fresh) (c.fund.ensures.does blocks _ (stage w.call w.piece) tells)
 
 pub returns-in-Bill-clause-does : goal.returns-in-Bill-clause-does
 returns-in-Bill-clause-does g c =
     λ blocks rest tells.
-    let s = objects_of (λ b. (goal.Policy-dyn g (b.vtable, b.value)).seen b.value) c.args.store.now in
+    let s = objects_of c.args.store.now in
     let w = c.args.work.now in
-    came_named (λ (k : SysCall). piece_of k w.piece (world_of_store c.args.store.now) s blocks w.caller c.args.answer (c.args.log.now ++ rest)) w.call (Bill c.in-Bill.pt) (objects_of (λ b. (goal.Policy-dyn g (b.vtable, b.value)).seen b.value) c.bill.new.store)
+    came_named (λ (k : SysCall). piece_of k w.piece (world_of_store c.args.store.now) s blocks w.caller c.args.answer (c.args.log.now ++ rest)) w.call (Bill c.in-Bill.pt) (objects_of c.bill.new.store)
     (g.D.Disk.blocks c.args.disk.now) _ _ (length c.args.log.now) 0 c.in-Bill.is (ap length c.requires.fresh) (c.bill.ensures.does blocks _ (stage w.call w.piece) tells)
 
 pub returns-in-Spawn-clause-some : goal.returns-in-Spawn-clause-some
 returns-in-Spawn-clause-some g c =
     let v = world_of_store c.args.store.now in
-    let s = objects_of (λ b. (goal.Policy-dyn g (b.vtable, b.value)).seen b.value) c.args.store.now in
+    let s = objects_of c.args.store.now in
     let w = c.args.work.now in
-    some_named v (λ k blocks io. piece_of k w.piece v s blocks w.caller c.args.answer io) w.call Spawn (objects_of (λ b. (goal.Policy-dyn g (b.vtable, b.value)).seen b.value) c.spawn.new.store) _ _ c.args.log.now c.in-Spawn.is c.requires.fresh
+    some_named v (λ k blocks io. piece_of k w.piece v s blocks w.caller c.args.answer io) w.call Spawn (objects_of c.spawn.new.store) _ _ c.args.log.now c.in-Spawn.is c.requires.fresh
     (λ blocks told io tells. c.spawn.ensures.does blocks told (stage w.call w.piece) tells)
 
 pub returns-in-Exit-clause-some : goal.returns-in-Exit-clause-some
 returns-in-Exit-clause-some g c =
     let v = world_of_store c.args.store.now in
-    let s = objects_of (λ b. (goal.Policy-dyn g (b.vtable, b.value)).seen b.value) c.args.store.now in
+    let s = objects_of c.args.store.now in
     let w = c.args.work.now in
-    some_named v (λ k blocks io. piece_of k w.piece v s blocks w.caller c.args.answer io) w.call Exit (objects_of (λ b. (goal.Policy-dyn g (b.vtable, b.value)).seen b.value) c.exit.new.store) _ _ c.args.log.now c.in-Exit.is c.requires.fresh
+    some_named v (λ k blocks io. piece_of k w.piece v s blocks w.caller c.args.answer io) w.call Exit (objects_of c.exit.new.store) _ _ c.args.log.now c.in-Exit.is c.requires.fresh
     (λ blocks told io tells. c.exit.ensures.does blocks told (stage w.call w.piece) tells)
 
 pub returns-in-CloseFd-clause-some : goal.returns-in-CloseFd-clause-some
 returns-in-CloseFd-clause-some g c =
     let v = world_of_store c.args.store.now in
-    let s = objects_of (λ b. (goal.Policy-dyn g (b.vtable, b.value)).seen b.value) c.args.store.now in
+    let s = objects_of c.args.store.now in
     let w = c.args.work.now in
-    some_named v (λ k blocks io. piece_of k w.piece v s blocks w.caller c.args.answer io) w.call (CloseFd c.in-CloseFd.fd) (objects_of (λ b. (goal.Policy-dyn g (b.vtable, b.value)).seen b.value) c.close.new.store) _ _ c.args.log.now c.in-CloseFd.is c.requires.fresh
+    some_named v (λ k blocks io. piece_of k w.piece v s blocks w.caller c.args.answer io) w.call (CloseFd c.in-CloseFd.fd) (objects_of c.close.new.store) _ _ c.args.log.now c.in-CloseFd.is c.requires.fresh
     (λ blocks told io tells. c.close.ensures.does blocks told (stage w.call w.piece) tells)
 
 pub returns-in-TakeLock-clause-some : goal.returns-in-TakeLock-clause-some
 returns-in-TakeLock-clause-some g c =
     let v = world_of_store c.args.store.now in
-    let s = objects_of (λ b. (goal.Policy-dyn g (b.vtable, b.value)).seen b.value) c.args.store.now in
+    let s = objects_of c.args.store.now in
     let w = c.args.work.now in
-    some_named v (λ k blocks io. piece_of k w.piece v s blocks w.caller c.args.answer io) w.call (TakeLock c.in-TakeLock.u) (objects_of (λ b. (goal.Policy-dyn g (b.vtable, b.value)).seen b.value) c.take_lock.new.store) _ _ c.args.log.now c.in-TakeLock.is c.requires.fresh
+    some_named v (λ k blocks io. piece_of k w.piece v s blocks w.caller c.args.answer io) w.call (TakeLock c.in-TakeLock.u) (objects_of c.take_lock.new.store) _ _ c.args.log.now c.in-TakeLock.is c.requires.fresh
     (λ blocks told io tells. c.take_lock.ensures.does blocks told (stage w.call w.piece) tells)
 
 pub returns-in-FreeLock-clause-some : goal.returns-in-FreeLock-clause-some
 returns-in-FreeLock-clause-some g c =
     let v = world_of_store c.args.store.now in
-    let s = objects_of (λ b. (goal.Policy-dyn g (b.vtable, b.value)).seen b.value) c.args.store.now in
+    let s = objects_of c.args.store.now in
     let w = c.args.work.now in
-    some_named v (λ k blocks io. piece_of k w.piece v s blocks w.caller c.args.answer io) w.call (FreeLock c.in-FreeLock.u) (objects_of (λ b. (goal.Policy-dyn g (b.vtable, b.value)).seen b.value) c.free_lock.new.store) _ _ c.args.log.now c.in-FreeLock.is c.requires.fresh
+    some_named v (λ k blocks io. piece_of k w.piece v s blocks w.caller c.args.answer io) w.call (FreeLock c.in-FreeLock.u) (objects_of c.free_lock.new.store) _ _ c.args.log.now c.in-FreeLock.is c.requires.fresh
     (λ blocks told io tells. c.free_lock.ensures.does blocks told (stage w.call w.piece) tells)
 
 pub returns-in-Poke-clause-some : goal.returns-in-Poke-clause-some
 returns-in-Poke-clause-some g c =
     let v = world_of_store c.args.store.now in
-    let s = objects_of (λ b. (goal.Policy-dyn g (b.vtable, b.value)).seen b.value) c.args.store.now in
+    let s = objects_of c.args.store.now in
     let w = c.args.work.now in
-    some_named v (λ k blocks io. piece_of k w.piece v s blocks w.caller c.args.answer io) w.call (Poke c.in-Poke.k c.in-Poke.v) (objects_of (λ b. (goal.Policy-dyn g (b.vtable, b.value)).seen b.value) c.poke.new.store) _ _ c.args.log.now c.in-Poke.is c.requires.fresh
+    some_named v (λ k blocks io. piece_of k w.piece v s blocks w.caller c.args.answer io) w.call (Poke c.in-Poke.k c.in-Poke.v) (objects_of c.poke.new.store) _ _ c.args.log.now c.in-Poke.is c.requires.fresh
     (λ blocks told io tells. c.poke.ensures.does blocks told (stage w.call w.piece) tells)
 
 pub returns-in-Peek-clause-some : goal.returns-in-Peek-clause-some
 returns-in-Peek-clause-some g c =
     let v = world_of_store c.args.store.now in
-    let s = objects_of (λ b. (goal.Policy-dyn g (b.vtable, b.value)).seen b.value) c.args.store.now in
+    let s = objects_of c.args.store.now in
     let w = c.args.work.now in
-    some_named v (λ k blocks io. piece_of k w.piece v s blocks w.caller c.args.answer io) w.call (Peek c.in-Peek.k) (objects_of (λ b. (goal.Policy-dyn g (b.vtable, b.value)).seen b.value) c.args.store.now) _ _ c.args.log.now c.in-Peek.is c.requires.fresh
+    some_named v (λ k blocks io. piece_of k w.piece v s blocks w.caller c.args.answer io) w.call (Peek c.in-Peek.k) (objects_of c.args.store.now) _ _ c.args.log.now c.in-Peek.is c.requires.fresh
     (λ blocks told io tells. c.peek.ensures.does blocks told (stage w.call w.piece) tells)
 
 pub returns-in-Tune-clause-some : goal.returns-in-Tune-clause-some
 returns-in-Tune-clause-some g c =
     let v = world_of_store c.args.store.now in
-    let s = objects_of (λ b. (goal.Policy-dyn g (b.vtable, b.value)).seen b.value) c.args.store.now in
+    let s = objects_of c.args.store.now in
     let w = c.args.work.now in
-    some_named v (λ k blocks io. piece_of k w.piece v s blocks w.caller c.args.answer io) w.call (Tune c.in-Tune.kind c.in-Tune.k c.in-Tune.v) (objects_of (λ b. (goal.Policy-dyn g (b.vtable, b.value)).seen b.value) c.tune.new.store) _ _ c.args.log.now c.in-Tune.is c.requires.fresh
+    some_named v (λ k blocks io. piece_of k w.piece v s blocks w.caller c.args.answer io) w.call (Tune c.in-Tune.kind c.in-Tune.k c.in-Tune.v) (objects_of c.tune.new.store) _ _ c.args.log.now c.in-Tune.is c.requires.fresh
     (λ blocks told io tells. c.tune.ensures.does blocks told (stage w.call w.piece) tells)
 
 pub returns-in-Choose-clause-some : goal.returns-in-Choose-clause-some
 returns-in-Choose-clause-some g c =
     let v = world_of_store c.args.store.now in
-    let s = objects_of (λ b. (goal.Policy-dyn g (b.vtable, b.value)).seen b.value) c.args.store.now in
+    let s = objects_of c.args.store.now in
     let w = c.args.work.now in
-    some_named v (λ k blocks io. piece_of k w.piece v s blocks w.caller c.args.answer io) w.call (Choose c.in-Choose.kind c.in-Choose.j) (objects_of (λ b. (goal.Policy-dyn g (b.vtable, b.value)).seen b.value) c.choose.new.store) _ _ c.args.log.now c.in-Choose.is c.requires.fresh
+    some_named v (λ k blocks io. piece_of k w.piece v s blocks w.caller c.args.answer io) w.call (Choose c.in-Choose.kind c.in-Choose.j) (objects_of c.choose.new.store) _ _ c.args.log.now c.in-Choose.is c.requires.fresh
     (λ blocks told io tells. c.choose.ensures.does blocks told (stage w.call w.piece) tells)
 
 pub returns-in-Give-clause-some : goal.returns-in-Give-clause-some
 returns-in-Give-clause-some g c =
     let v = world_of_store c.args.store.now in
-    let s = objects_of (λ b. (goal.Policy-dyn g (b.vtable, b.value)).seen b.value) c.args.store.now in
+    let s = objects_of c.args.store.now in
     let w = c.args.work.now in
-    some_named v (λ k blocks io. piece_of k w.piece v s blocks w.caller c.args.answer io) w.call (Give c.in-Give.q c.in-Give.kind c.in-Give.n) (objects_of (λ b. (goal.Policy-dyn g (b.vtable, b.value)).seen b.value) c.give.new.store) _ _ c.args.log.now c.in-Give.is c.requires.fresh
+    some_named v (λ k blocks io. piece_of k w.piece v s blocks w.caller c.args.answer io) w.call (Give c.in-Give.q c.in-Give.kind c.in-Give.n) (objects_of c.give.new.store) _ _ c.args.log.now c.in-Give.is c.requires.fresh
     (λ blocks told io tells. c.give.ensures.does blocks told (stage w.call w.piece) tells)
 
 pub returns-in-Install-clause-some : goal.returns-in-Install-clause-some
 returns-in-Install-clause-some g c =
     let v = world_of_store c.args.store.now in
-    let s = objects_of (λ b. (goal.Policy-dyn g (b.vtable, b.value)).seen b.value) c.args.store.now in
+    let s = objects_of c.args.store.now in
     let w = c.args.work.now in
-    some_named v (λ k blocks io. piece_of k w.piece v s blocks w.caller c.args.answer io) w.call (Install c.in-Install.pt c.in-Install.image c.in-Install.limit) (objects_of (λ b. (goal.Policy-dyn g (b.vtable, b.value)).seen b.value) c.install.new.store) _ _ c.args.log.now c.in-Install.is c.requires.fresh
+    some_named v (λ k blocks io. piece_of k w.piece v s blocks w.caller c.args.answer io) w.call (Install c.in-Install.pt c.in-Install.image c.in-Install.limit) (objects_of c.install.new.store) _ _ c.args.log.now c.in-Install.is c.requires.fresh
     (λ blocks told io tells. c.install.ensures.does blocks told (stage w.call w.piece) tells)
 
 pub returns-in-Remove-clause-some : goal.returns-in-Remove-clause-some
 returns-in-Remove-clause-some g c =
     let v = world_of_store c.args.store.now in
-    let s = objects_of (λ b. (goal.Policy-dyn g (b.vtable, b.value)).seen b.value) c.args.store.now in
+    let s = objects_of c.args.store.now in
     let w = c.args.work.now in
-    some_named v (λ k blocks io. piece_of k w.piece v s blocks w.caller c.args.answer io) w.call (Remove c.in-Remove.pt) (objects_of (λ b. (goal.Policy-dyn g (b.vtable, b.value)).seen b.value) c.remove.new.store) _ _ c.args.log.now c.in-Remove.is c.requires.fresh
+    some_named v (λ k blocks io. piece_of k w.piece v s blocks w.caller c.args.answer io) w.call (Remove c.in-Remove.pt) (objects_of c.remove.new.store) _ _ c.args.log.now c.in-Remove.is c.requires.fresh
     (λ blocks told io tells. c.remove.ensures.does blocks told (stage w.call w.piece) tells)
 
 pub returns-in-Fund-clause-some : goal.returns-in-Fund-clause-some
 returns-in-Fund-clause-some g c =
     let v = world_of_store c.args.store.now in
-    let s = objects_of (λ b. (goal.Policy-dyn g (b.vtable, b.value)).seen b.value) c.args.store.now in
+    let s = objects_of c.args.store.now in
     let w = c.args.work.now in
-    some_named v (λ k blocks io. piece_of k w.piece v s blocks w.caller c.args.answer io) w.call (Fund c.in-Fund.pt c.in-Fund.kind c.in-Fund.n) (objects_of (λ b. (goal.Policy-dyn g (b.vtable, b.value)).seen b.value) c.fund.new.store) _ _ c.args.log.now c.in-Fund.is c.requires.fresh
+    some_named v (λ k blocks io. piece_of k w.piece v s blocks w.caller c.args.answer io) w.call (Fund c.in-Fund.pt c.in-Fund.kind c.in-Fund.n) (objects_of c.fund.new.store) _ _ c.args.log.now c.in-Fund.is c.requires.fresh
     (λ blocks told io tells. c.fund.ensures.does blocks told (stage w.call w.piece) tells)
 
 pub returns-in-Bill-clause-some : goal.returns-in-Bill-clause-some
 returns-in-Bill-clause-some g c =
     let v = world_of_store c.args.store.now in
-    let s = objects_of (λ b. (goal.Policy-dyn g (b.vtable, b.value)).seen b.value) c.args.store.now in
+    let s = objects_of c.args.store.now in
     let w = c.args.work.now in
-    some_named v (λ k blocks io. piece_of k w.piece v s blocks w.caller c.args.answer io) w.call (Bill c.in-Bill.pt) (objects_of (λ b. (goal.Policy-dyn g (b.vtable, b.value)).seen b.value) c.bill.new.store) _ _ c.args.log.now c.in-Bill.is c.requires.fresh
+    some_named v (λ k blocks io. piece_of k w.piece v s blocks w.caller c.args.answer io) w.call (Bill c.in-Bill.pt) (objects_of c.bill.new.store) _ _ c.args.log.now c.in-Bill.is c.requires.fresh
     (λ blocks told io tells. c.bill.ensures.does blocks told (stage w.call w.piece) tells)
 
 pub returns-in-Yield-clause-some : goal.returns-in-Yield-clause-some
 returns-in-Yield-clause-some g c =
     let v = world_of_store c.args.store.now in
-    let s = objects_of (λ b. (goal.Policy-dyn g (b.vtable, b.value)).seen b.value) c.args.store.now in
+    let s = objects_of c.args.store.now in
     let w = c.args.work.now in
-    subst (λ (k : SysCall). LeftBySome v (λ blocks io. piece_of k w.piece v s blocks w.caller c.args.answer io) (objects_of (λ b. (goal.Policy-dyn g (b.vtable, b.value)).seen b.value) c.yield_turn.new.store) c.yield_turn.result.gave (comes_after c.yield_turn.result.next (stage k c.yield_turn.new.piece)) c.args.log.now) (sym c.in-Yield.is)
-    (some_quick v (λ blocks io. yield_piece w.piece s w.caller c.args.answer blocks) (objects_of (λ b. (goal.Policy-dyn g (b.vtable, b.value)).seen b.value) c.yield_turn.new.store) _ _ c.args.log.now c.requires.fresh (λ blocks told io tells. c.yield_turn.ensures.does blocks told tells))
+    subst (λ (k : SysCall). LeftBySome v (λ blocks io. piece_of k w.piece v s blocks w.caller c.args.answer io) (objects_of c.yield_turn.new.store) c.yield_turn.result.gave (comes_after c.yield_turn.result.next (stage k c.yield_turn.new.piece)) c.args.log.now) (sym c.in-Yield.is)
+    (some_quick v (λ blocks io. yield_piece w.piece s w.caller c.args.answer blocks) (objects_of c.yield_turn.new.store) _ _ c.args.log.now c.requires.fresh (λ blocks told io tells. c.yield_turn.ensures.does blocks told tells))
 
 pub returns-in-OpenName-clause-some : goal.returns-in-OpenName-clause-some
 returns-in-OpenName-clause-some g c =
     let v = world_of_store c.args.store.now in
-    let s = objects_of (λ b. (goal.Policy-dyn g (b.vtable, b.value)).seen b.value) c.args.store.now in
+    let s = objects_of c.args.store.now in
     let w = c.args.work.now in
-    let after = objects_of (λ b. (goal.Policy-dyn g (b.vtable, b.value)).seen b.value) c.open.new.store in
+    let after = objects_of c.open.new.store in
     some_named v (λ k blocks io. piece_of k w.piece v s blocks w.caller c.args.answer io) w.call (OpenName c.in-OpenName.name) after _ _ c.args.log.now c.in-OpenName.is c.requires.fresh
     (λ blocks told io tells.
     subst (λ (name : List ℕ). CameTo (open_piece s w.caller (file_named v name) (free_descriptor s.things w.caller 4 0) blocks) after told c.open.result.gave (comes_after c.open.result.next (stage w.call w.piece)) 0) c.as_slice.ensures.value
@@ -360,25 +360,25 @@ returns-in-OpenName-clause-some g c =
 pub returns-in-Read-clause-some : goal.returns-in-Read-clause-some
 returns-in-Read-clause-some g c =
     let v = world_of_store c.args.store.now in
-    let s = objects_of (λ b. (goal.Policy-dyn g (b.vtable, b.value)).seen b.value) c.args.store.now in
+    let s = objects_of c.args.store.now in
     let w = c.args.work.now in
-    subst (λ (k : SysCall). LeftBySome v (λ blocks io. piece_of k w.piece v s blocks w.caller c.args.answer io) (objects_of (λ b. (goal.Policy-dyn g (b.vtable, b.value)).seen b.value) c.read.new.store) c.read.result.gave (comes_after c.read.result.next (stage k c.read.new.piece)) c.read.new.log) (sym c.in-Read.is)
+    subst (λ (k : SysCall). LeftBySome v (λ blocks io. piece_of k w.piece v s blocks w.caller c.args.answer io) (objects_of c.read.new.store) c.read.result.gave (comes_after c.read.result.next (stage k c.read.new.piece)) c.read.new.log) (sym c.in-Read.is)
     c.read.ensures.some
 
 pub returns-in-Write-clause-some : goal.returns-in-Write-clause-some
 returns-in-Write-clause-some g c =
     let v = world_of_store c.args.store.now in
-    let s = objects_of (λ b. (goal.Policy-dyn g (b.vtable, b.value)).seen b.value) c.args.store.now in
+    let s = objects_of c.args.store.now in
     let w = c.args.work.now in
     let x = c.in-Write in
-    subst (λ (k : SysCall). LeftBySome v (λ blocks io. piece_of k w.piece v s blocks w.caller c.args.answer io) (objects_of (λ b. (goal.Policy-dyn g (b.vtable, b.value)).seen b.value) c.write.new.store) c.write.result.gave (comes_after c.write.result.next (stage w.call w.piece)) c.write.new.log) (sym x.is)
-    (subst (λ (bytes : List ℕ). LeftBySome v (λ blocks io. write_piece (file_block v (s.things.file w.caller x.fd) x.i x.off (length bytes)) v s blocks w.caller x.off bytes c.args.answer io) (objects_of (λ b. (goal.Policy-dyn g (b.vtable, b.value)).seen b.value) c.write.new.store) c.write.result.gave (comes_after c.write.result.next (stage w.call w.piece)) c.write.new.log)
+    subst (λ (k : SysCall). LeftBySome v (λ blocks io. piece_of k w.piece v s blocks w.caller c.args.answer io) (objects_of c.write.new.store) c.write.result.gave (comes_after c.write.result.next (stage w.call w.piece)) c.write.new.log) (sym x.is)
+    (subst (λ (bytes : List ℕ). LeftBySome v (λ blocks io. write_piece (file_block v (s.things.file w.caller x.fd) x.i x.off (length bytes)) v s blocks w.caller x.off bytes c.args.answer io) (objects_of c.write.new.store) c.write.result.gave (comes_after c.write.result.next (stage w.call w.piece)) c.write.new.log)
     c.as_slice-in-Write.ensures.value (c.write.ensures.some (stage w.call w.piece)))
 
 pub returns-in-Sync-clause-some : goal.returns-in-Sync-clause-some
 returns-in-Sync-clause-some g c =
     let v = world_of_store c.args.store.now in
-    let s = objects_of (λ b. (goal.Policy-dyn g (b.vtable, b.value)).seen b.value) c.args.store.now in
+    let s = objects_of c.args.store.now in
     let w = c.args.work.now in
-    subst (λ (k : SysCall). LeftBySome v (λ blocks io. piece_of k w.piece v s blocks w.caller c.args.answer io) (objects_of (λ b. (goal.Policy-dyn g (b.vtable, b.value)).seen b.value) c.sync.new.store) c.sync.result.gave (comes_after c.sync.result.next (stage w.call w.piece)) c.sync.new.log) (sym c.in-Sync.is)
-    (some_of_all v (λ blocks io. sync_from v.frames 0 0 s blocks io) (objects_of (λ b. (goal.Policy-dyn g (b.vtable, b.value)).seen b.value) c.sync.new.store) _ _ c.sync.new.log (λ blocks rest. c.sync.ensures.left blocks rest (stage w.call w.piece)))
+    subst (λ (k : SysCall). LeftBySome v (λ blocks io. piece_of k w.piece v s blocks w.caller c.args.answer io) (objects_of c.sync.new.store) c.sync.result.gave (comes_after c.sync.result.next (stage w.call w.piece)) c.sync.new.log) (sym c.in-Sync.is)
+    (some_of_all v (λ blocks io. sync_from v.frames 0 0 s blocks io) (objects_of c.sync.new.store) _ _ c.sync.new.log (λ blocks rest. c.sync.ensures.left blocks rest (stage w.call w.piece)))

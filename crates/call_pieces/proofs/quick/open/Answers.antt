@@ -8,8 +8,8 @@ use Rattle.call_pieces.proofs.quick.open.Goals as goal
 pub returns-in-Some-free_descriptor-clause-does : goal.returns-in-Some-free_descriptor-clause-does
 returns-in-Some-free_descriptor-clause-does g c =
     λ blocks told t tells.
-    let s = objects_of (λ b. (goal.Policy-dyn g (b.vtable, b.value)).seen b.value) c.args.store.now in
+    let s = objects_of c.args.store.now in
     let after = comes_after c.open_at.result.next t in
-    subst (λ (x : Option ℕ). CameTo (open_piece s c.args.p x (free_descriptor s.things c.args.p 4 0) blocks) (objects_of (λ b. (goal.Policy-dyn g (b.vtable, b.value)).seen b.value) c.open_at.new.store) told c.open_at.result.gave after 0) c.in-Some.ensures.value
-    (subst (λ (y : Option ℕ). CameTo (open_piece s c.args.p (Some c.in-Some.file) y blocks) (objects_of (λ b. (goal.Policy-dyn g (b.vtable, b.value)).seen b.value) c.open_at.new.store) told c.open_at.result.gave after 0) c.in-Some-free_descriptor.ensures.value
+    subst (λ (x : Option ℕ). CameTo (open_piece s c.args.p x (free_descriptor s.things c.args.p 4 0) blocks) (objects_of c.open_at.new.store) told c.open_at.result.gave after 0) c.in-Some.ensures.value
+    (subst (λ (y : Option ℕ). CameTo (open_piece s c.args.p (Some c.in-Some.file) y blocks) (objects_of c.open_at.new.store) told c.open_at.result.gave after 0) c.in-Some-free_descriptor.ensures.value
     (c.open_at.ensures.does blocks told t tells))

@@ -9,14 +9,14 @@ use Rattle.call_pieces.proofs.ReadLaws.{first_block}
 use Rattle.call_pieces.proofs.reads.first.Goals as goal
 
 pub first_at-requires-clause-opened : goal.first_at-requires-clause-opened
-first_at-requires-clause-opened g c = c.requires.sound.fits.files c.args.p c.args.r.fd c.args.opened c.requires.file
+first_at-requires-clause-opened g c = c.args.store.now.fits.files c.args.p c.args.r.fd c.args.opened c.requires.file
 
 pub returns-in-Ok-clause-does : goal.returns-in-Ok-clause-does
 returns-in-Ok-clause-does g c =
     λ blocks rest tells.
     let s = c.args.store.now in
     let r = c.args.r in
-    first_block (file_block (world_of_store s) (Some c.args.opened) r.i r.off r.len) c.in-Ok.b (world_of_store s) (objects_of (λ b. (goal.Policy-dyn g (b.vtable, b.value)).seen b.value) s) (objects_of (λ b. (goal.Policy-dyn g (b.vtable, b.value)).seen b.value) c.first_at.new.store) blocks c.args.p r.fd r.i r.off r.len
+    first_block (file_block (world_of_store s) (Some c.args.opened) r.i r.off r.len) c.in-Ok.b (world_of_store s) (objects_of s) (objects_of c.first_at.new.store) blocks c.args.p r.fd r.i r.off r.len
     (length c.first_at.new.log) c.args.opened c.args.answer (c.first_at.new.log ++ rest) (g.D.Disk.blocks c.first_at.new.disk) _ _
     (c.in-Ok.ensures.value ∙ ap (λ (x : Option OpenRow). file_block (world_of_store s) x r.i r.off r.len) c.requires.file) (c.first_at.ensures.does blocks rest tells)
 
@@ -25,7 +25,7 @@ returns-in-Err-clause-some g c =
     let s = c.args.store.now in
     let r = c.args.r in
     let v = world_of_store s in
-    let o = objects_of (λ b. (goal.Policy-dyn g (b.vtable, b.value)).seen b.value) s in
+    let o = objects_of s in
     let block : Err c.in-Err.refusal ≡ file_block v (Some c.args.opened) r.i r.off r.len = c.in-Err.ensures.value ∙ ap (λ (x : Option OpenRow). file_block v x r.i r.off r.len) c.requires.file in
     some_came v (λ blocks w. read_first_at (file_block v (Some c.args.opened) r.i r.off r.len) v o blocks c.args.p r.fd r.i r.off r.len c.args.opened c.args.answer w) c.came.result _ o _ c.args.log.now c.came.ensures
     (some_refused v (λ blocks w. read_first_at (file_block v (Some c.args.opened) r.i r.off r.len) v o blocks c.args.p r.fd r.i r.off r.len c.args.opened c.args.answer w) o c.in-Err.refusal c.args.log.now c.requires.fresh

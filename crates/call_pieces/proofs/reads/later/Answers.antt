@@ -13,7 +13,7 @@ use Rattle.call_pieces.proofs.reads.later.Goals as goal
 pub returns-clause-next : goal.returns-clause-next
 returns-clause-next g c =
     λ _.
-    goes_later c.args.opened _ _ (file_here (objects_of (λ b. (goal.Policy-dyn g (b.vtable, b.value)).seen b.value) c.fetch_ahead.new.store) (objects_of (λ b. (goal.Policy-dyn g (b.vtable, b.value)).seen b.value) c.put_file.new.self) c.args.p c.args.r.fd _ c.put_file.ensures.objects) refl c.if-row-eq0.false
+    goes_later c.args.opened _ _ (file_here (objects_of c.fetch_ahead.new.store) (objects_of c.put_file.new.self) c.args.p c.args.r.fd _ c.put_file.ensures.objects) refl c.if-row-eq0.false
 
 pub returns-in_default-clause-does : goal.returns-in_default-clause-does
 returns-in_default-clause-does g c =
@@ -21,14 +21,14 @@ returns-in_default-clause-does g c =
     let r = c.args.r in
     let s = c.args.store.now in
     let v = world_of_store s in
-    let o = objects_of (λ b. (goal.Policy-dyn g (b.vtable, b.value)).seen b.value) s in
+    let o = objects_of s in
     let io = c.fetch_ahead.new.log ++ rest in
     let n = length c.fetch_ahead.new.log in
-    came_of _ c.came.result _ (objects_of (λ b. (goal.Policy-dyn g (b.vtable, b.value)).seen b.value) c.fetch_ahead.new.store) (g.D.Disk.blocks c.fetch_ahead.new.disk) _ n c.came.ensures
-    (third_block (ahead_block v (Some c.args.opened)) c.block_ahead-b.result v o (objects_of (λ b. (goal.Policy-dyn g (b.vtable, b.value)).seen b.value) c.fetch_ahead.new.store) blocks c.args.p r.fd r.i r.off r.len n c.args.opened c.args.answer io (g.D.Disk.blocks c.fetch_ahead.new.disk) _ _
+    came_of _ c.came.result _ (objects_of c.fetch_ahead.new.store) (g.D.Disk.blocks c.fetch_ahead.new.disk) _ n c.came.ensures
+    (third_block (ahead_block v (Some c.args.opened)) c.block_ahead-b.result v o (objects_of c.fetch_ahead.new.store) blocks c.args.p r.fd r.i r.off r.len n c.args.opened c.args.answer io (g.D.Disk.blocks c.fetch_ahead.new.disk) _ _
     c.block_ahead-b.ensures.value
     (fetch_failed (read_third o blocks c.args.p r.fd r.i r.off r.len c.args.opened) (fetch_ahead v (o.things.pol 1) c.args.p c.block_ahead-b.result c.args.answer o.things.cache blocks io) o
-    (objects_of (λ b. (goal.Policy-dyn g (b.vtable, b.value)).seen b.value) c.fetch_ahead.new.store) blocks c.in_default.field-0 (cache_of c.fetch_ahead.new.store) (g.D.Disk.blocks c.fetch_ahead.new.disk) n refl (c.in_default.ensures.does blocks rest tells) c.in_default.ensures.kept))
+    (objects_of c.fetch_ahead.new.store) blocks c.in_default.field-0 (cache_of c.fetch_ahead.new.store) (g.D.Disk.blocks c.fetch_ahead.new.disk) n refl (c.in_default.ensures.does blocks rest tells) c.in_default.ensures.kept))
 
 pub returns-then-row-eq0-clause-does : goal.returns-then-row-eq0-clause-does
 returns-then-row-eq0-clause-does g c =
@@ -36,13 +36,13 @@ returns-then-row-eq0-clause-does g c =
     let r = c.args.r in
     let s = c.args.store.now in
     let v = world_of_store s in
-    let o = objects_of (λ b. (goal.Policy-dyn g (b.vtable, b.value)).seen b.value) s in
+    let o = objects_of s in
     let io = c.fetch_ahead.new.log ++ rest in
     let n = length c.fetch_ahead.new.log in
-    came_of _ c.came-then-row-eq0.result _ (objects_of (λ b. (goal.Policy-dyn g (b.vtable, b.value)).seen b.value) c.put_file.new.self) (g.D.Disk.blocks c.fetch_ahead.new.disk) _ n c.came-then-row-eq0.ensures
-    (third_block (ahead_block v (Some c.args.opened)) c.block_ahead-b.result v o (objects_of (λ b. (goal.Policy-dyn g (b.vtable, b.value)).seen b.value) c.put_file.new.self) blocks c.args.p r.fd r.i r.off r.len n c.args.opened c.args.answer io (g.D.Disk.blocks c.fetch_ahead.new.disk) _ _
+    came_of _ c.came-then-row-eq0.result _ (objects_of c.put_file.new.self) (g.D.Disk.blocks c.fetch_ahead.new.disk) _ n c.came-then-row-eq0.ensures
+    (third_block (ahead_block v (Some c.args.opened)) c.block_ahead-b.result v o (objects_of c.put_file.new.self) blocks c.args.p r.fd r.i r.off r.len n c.args.opened c.args.answer io (g.D.Disk.blocks c.fetch_ahead.new.disk) _ _
     c.block_ahead-b.ensures.value
-    (third_came o (objects_of (λ b. (goal.Policy-dyn g (b.vtable, b.value)).seen b.value) c.fetch_ahead.new.store) (objects_of (λ b. (goal.Policy-dyn g (b.vtable, b.value)).seen b.value) c.put_file.new.self) blocks c.args.p r.fd r.i r.off r.len c.in-Ok.field-0 n c.args.opened
+    (third_came o (objects_of c.fetch_ahead.new.store) (objects_of c.put_file.new.self) blocks c.args.p r.fd r.i r.off r.len c.in-Ok.field-0 n c.args.opened
     (fetch_ahead v (o.things.pol 1) c.args.p c.block_ahead-b.result c.args.answer o.things.cache blocks io) (cache_of c.fetch_ahead.new.store) (g.D.Disk.blocks c.fetch_ahead.new.disk) _
     (c.in-Ok.ensures.does blocks rest tells) c.fetch_ahead.ensures.objects c.put_file.ensures.objects (none_ahead (stage (Read r.fd r.i r.off r.len) 2) (c.args.opened.count - 1) c.if-row-eq0.true)))
 
@@ -52,12 +52,12 @@ returns-clause-does g c =
     let r = c.args.r in
     let s = c.args.store.now in
     let v = world_of_store s in
-    let o = objects_of (λ b. (goal.Policy-dyn g (b.vtable, b.value)).seen b.value) s in
+    let o = objects_of s in
     let io = c.fetch_ahead.new.log ++ rest in
     let n = length c.fetch_ahead.new.log in
-    came_of _ c.came-2.result _ (objects_of (λ b. (goal.Policy-dyn g (b.vtable, b.value)).seen b.value) c.put_file.new.self) (g.D.Disk.blocks c.fetch_ahead.new.disk) _ n c.came-2.ensures
-    (third_block (ahead_block v (Some c.args.opened)) c.block_ahead-b.result v o (objects_of (λ b. (goal.Policy-dyn g (b.vtable, b.value)).seen b.value) c.put_file.new.self) blocks c.args.p r.fd r.i r.off r.len n c.args.opened c.args.answer io (g.D.Disk.blocks c.fetch_ahead.new.disk) _ _
+    came_of _ c.came-2.result _ (objects_of c.put_file.new.self) (g.D.Disk.blocks c.fetch_ahead.new.disk) _ n c.came-2.ensures
+    (third_block (ahead_block v (Some c.args.opened)) c.block_ahead-b.result v o (objects_of c.put_file.new.self) blocks c.args.p r.fd r.i r.off r.len n c.args.opened c.args.answer io (g.D.Disk.blocks c.fetch_ahead.new.disk) _ _
     c.block_ahead-b.ensures.value
-    (third_came o (objects_of (λ b. (goal.Policy-dyn g (b.vtable, b.value)).seen b.value) c.fetch_ahead.new.store) (objects_of (λ b. (goal.Policy-dyn g (b.vtable, b.value)).seen b.value) c.put_file.new.self) blocks c.args.p r.fd r.i r.off r.len c.in-Ok.field-0 n c.args.opened
+    (third_came o (objects_of c.fetch_ahead.new.store) (objects_of c.put_file.new.self) blocks c.args.p r.fd r.i r.off r.len c.in-Ok.field-0 n c.args.opened
     (fetch_ahead v (o.things.pol 1) c.args.p c.block_ahead-b.result c.args.answer o.things.cache blocks io) (cache_of c.fetch_ahead.new.store) (g.D.Disk.blocks c.fetch_ahead.new.disk) _
     (c.in-Ok.ensures.does blocks rest tells) c.fetch_ahead.ensures.objects c.put_file.ensures.objects (some_ahead (stage (Read r.fd r.i r.off r.len) 2) (c.args.opened.count - 1) c.if-row-eq0.false)))

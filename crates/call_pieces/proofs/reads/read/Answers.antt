@@ -19,8 +19,8 @@ returns-in-0-clause-does g c =
     λ blocks rest tells.
     let r = c.args.r in
     let s = c.args.store.now in
-    came_as _ _ (objects_of (λ b. (goal.Policy-dyn g (b.vtable, b.value)).seen b.value) c.first.new.store) (g.D.Disk.blocks c.first.new.disk) _ _ (length c.first.new.log)
-    (read_zero c.args.piece.now (world_of_store s) (objects_of (λ b. (goal.Policy-dyn g (b.vtable, b.value)).seen b.value) s) blocks c.args.p r.fd r.i r.off r.len _ c.in-Some.opened c.args.answer (c.first.new.log ++ rest) c.in-0.is (sym c.file.ensures.value ∙ c.in-Some.is))
+    came_as _ _ (objects_of c.first.new.store) (g.D.Disk.blocks c.first.new.disk) _ _ (length c.first.new.log)
+    (read_zero c.args.piece.now (world_of_store s) (objects_of s) blocks c.args.p r.fd r.i r.off r.len _ c.in-Some.opened c.args.answer (c.first.new.log ++ rest) c.in-0.is (sym c.file.ensures.value ∙ c.in-Some.is))
     (c.first.ensures.does blocks rest tells)
 
 pub returns-in_default-piece-clause-does : goal.returns-in_default-piece-clause-does
@@ -28,14 +28,14 @@ returns-in_default-piece-clause-does g c =
     λ blocks rest tells.
     let r = c.args.r in
     let s = c.args.store.now in
-    let o = objects_of (λ b. (goal.Policy-dyn g (b.vtable, b.value)).seen b.value) s in
+    let o = objects_of s in
     let v = world_of_store s in
     let opened = c.in-Some.opened in
     let few = few_kinds c.args.r.fd c.args.piece.now _ c.requires.fits in
     let third : c.args.piece.now ≡ 2 = omega arith in
-    came_as _ _ (objects_of (λ b. (goal.Policy-dyn g (b.vtable, b.value)).seen b.value) c.later.new.store) (g.D.Disk.blocks c.later.new.disk) _ _ (length c.later.new.log)
+    came_as _ _ (objects_of c.later.new.store) (g.D.Disk.blocks c.later.new.disk) _ _ (length c.later.new.log)
     (read_later c.args.piece.now v o blocks c.args.p r.fd r.i r.off r.len _ opened c.args.answer (c.later.new.log ++ rest) third (sym c.file.ensures.value ∙ c.in-Some.is))
-    (subst (λ (k : ℕ). CameTo (read_third_at (ahead_block v (Some opened)) v o blocks c.args.p r.fd r.i r.off r.len opened c.args.answer (c.later.new.log ++ rest)) (objects_of (λ b. (goal.Policy-dyn g (b.vtable, b.value)).seen b.value) c.later.new.store)
+    (subst (λ (k : ℕ). CameTo (read_third_at (ahead_block v (Some opened)) v o blocks c.args.p r.fd r.i r.off r.len opened c.args.answer (c.later.new.log ++ rest)) (objects_of c.later.new.store)
     (g.D.Disk.blocks c.later.new.disk) c.later.result.gave (comes_after c.later.result.next (stage (Read r.fd r.i r.off r.len) k)) (length c.later.new.log)) (sym third) (c.later.ensures.does blocks rest tells))
 
 pub returns-in_default-clause-some : goal.returns-in_default-clause-some
@@ -43,7 +43,7 @@ returns-in_default-clause-some g c =
     let s = c.args.store.now in
     let r = c.args.r in
     let v = world_of_store s in
-    let o = objects_of (λ b. (goal.Policy-dyn g (b.vtable, b.value)).seen b.value) s in
+    let o = objects_of s in
     some_came v (λ blocks w. read_piece c.args.piece.now v o blocks c.args.p r.fd r.i r.off r.len (o.things.file c.args.p r.fd) c.args.answer w) c.came.result _ o _ c.args.log.now c.came.ensures
     (some_refused v (λ blocks w. read_piece c.args.piece.now v o blocks c.args.p r.fd r.i r.off r.len (o.things.file c.args.p r.fd) c.args.answer w) o BadFd c.args.log.now c.requires.fresh
     (λ blocks w. ap (λ (x : Option OpenRow). read_piece c.args.piece.now v o blocks c.args.p r.fd r.i r.off r.len x c.args.answer w) (sym c.file.ensures.value ∙ c.in_default.is)))
@@ -53,7 +53,7 @@ returns-in-1-clause-some g c =
     let s = c.args.store.now in
     let r = c.args.r in
     let v = world_of_store s in
-    let o = objects_of (λ b. (goal.Policy-dyn g (b.vtable, b.value)).seen b.value) s in
+    let o = objects_of s in
     let opened = c.in-Some.opened in
     let ahead = ahead_by c.args.answer (ahead_default v (o.things.pol 0) (Some opened)) in
     some_as v (λ blocks w. read_piece c.args.piece.now v o blocks c.args.p r.fd r.i r.off r.len (o.things.file c.args.p r.fd) c.args.answer w)

@@ -12,14 +12,13 @@ use Rattle.call_pieces.proofs.syncs.sync.Goals as goal
 pub loop-f-init : goal.loop-f-init
 loop-f-init g c =
     let n = c.args.store.now.setup.frames in
-    let s = objects_of (λ b. (goal.Policy-dyn g (b.vtable, b.value)).seen b.value) c.args.store.now in
+    let s = objects_of c.args.store.now in
     let told = g.D.Disk.blocks c.args.disk.now in
     record {
       so_far = subst (λ (io : List Bool). Midway n 0 0 s s told told io) (sym c.requires.fresh) (begins n s told);
       calls = λ f p made. made;
       queue = refl;
       world = refl;
-      sound = c.requires.sound;
       disk = c.requires.disk;
       memory = refl;
       same_size = refl;
@@ -29,12 +28,11 @@ pub loop-f-preserved-in_default : goal.loop-f-preserved-in_default
 loop-f-preserved-in_default g c =
     let l = c.loop-f.invariant in
     record {
-      so_far = past_clean c.args.store.now.setup.frames c.loop-f.f c.loop-f.written (objects_of (λ b. (goal.Policy-dyn g (b.vtable, b.value)).seen b.value) c.args.store.now) (objects_of (λ b. (goal.Policy-dyn g (b.vtable, b.value)).seen b.value) c.loop-f.store) (g.D.Disk.blocks c.args.disk.now)
+      so_far = past_clean c.args.store.now.setup.frames c.loop-f.f c.loop-f.written (objects_of c.args.store.now) (objects_of c.loop-f.store) (g.D.Disk.blocks c.args.disk.now)
           (g.D.Disk.blocks c.loop-f.disk) c.loop-f.log c.loop-f-test.true l.so_far c.in_default.ensures.value;
       calls = l.calls;
       queue = l.queue;
       world = l.world;
-      sound = l.sound;
       disk = l.disk;
       memory = l.memory;
       same_size = l.same_size;
@@ -47,15 +45,14 @@ loop-f-preserved g c =
     let well = c.if-is_err.ensures.negation in
     let cache = cache_of c.loop-f.store in
     record {
-      so_far = past_written c.args.store.now.setup.frames c.loop-f.f c.in-Some.b c.loop-f.written (objects_of (λ b. (goal.Policy-dyn g (b.vtable, b.value)).seen b.value) c.args.store.now) (objects_of (λ b. (goal.Policy-dyn g (b.vtable, b.value)).seen b.value) c.loop-f.store) (objects_of (λ b. (goal.Policy-dyn g (b.vtable, b.value)).seen b.value) c.write_back.new.store)
+      so_far = past_written c.args.store.now.setup.frames c.loop-f.f c.in-Some.b c.loop-f.written (objects_of c.args.store.now) (objects_of c.loop-f.store) (objects_of c.write_back.new.store)
           (g.D.Disk.blocks c.args.disk.now) (g.D.Disk.blocks c.loop-f.disk) (g.D.Disk.blocks c.write_back.new.disk) c.loop-f.log c.write_back.new.log (is_err c.write_back.result) c.loop-f-test.true l.so_far
           (sym c.in-Some.ensures.value) w.noted (sym c.if-is_err.ensures.value)
-          (of_ok c.write_back.result ((x : FrameValue) → cache.frame c.loop-f.f ≡ Some x → objects_of (λ b. (goal.Policy-dyn g (b.vtable, b.value)).seen b.value) c.write_back.new.store ≡ with_cache (cleaned c.loop-f.f x cache) (objects_of (λ b. (goal.Policy-dyn g (b.vtable, b.value)).seen b.value) c.loop-f.store)) well w.cleaned)
+          (of_ok c.write_back.result ((x : FrameValue) → cache.frame c.loop-f.f ≡ Some x → objects_of c.write_back.new.store ≡ with_cache (cleaned c.loop-f.f x cache) (objects_of c.loop-f.store)) well w.cleaned)
           (λ blocks tells. subst (λ t. Tells (g.D.Disk.blocks c.write_back.new.disk) (cond t (at c.in-Some.b (bytes_of cache c.loop-f.f) blocks) blocks)) well (w.told blocks tells));
       calls = λ f p made. w.calls f p (l.calls f p made);
       queue = w.queue ∙ l.queue;
       world = w.world ∙ l.world;
-      sound = w.sound;
       disk = ap (λ (v : World). v.disk_size) w.world ∙ l.disk ∙ sym w.same_size;
       memory = w.memory ∙ l.memory;
       same_size = w.same_size ∙ l.same_size;
@@ -68,11 +65,11 @@ returns-then-is_err-clause-does g c =
     let w = c.write_back.ensures in
     let ill = c.if-is_err.ensures.negation in
     let cache = cache_of c.loop-f.store in
-    came_of _ c.came.result _ (objects_of (λ b. (goal.Policy-dyn g (b.vtable, b.value)).seen b.value) c.write_back.new.store) (g.D.Disk.blocks c.write_back.new.disk) t _ c.came.ensures
-    (ends_failed c.args.store.now.setup.frames c.loop-f.f c.in-Some.b c.loop-f.written (objects_of (λ b. (goal.Policy-dyn g (b.vtable, b.value)).seen b.value) c.args.store.now) (objects_of (λ b. (goal.Policy-dyn g (b.vtable, b.value)).seen b.value) c.loop-f.store) (objects_of (λ b. (goal.Policy-dyn g (b.vtable, b.value)).seen b.value) c.write_back.new.store)
+    came_of _ c.came.result _ (objects_of c.write_back.new.store) (g.D.Disk.blocks c.write_back.new.disk) t _ c.came.ensures
+    (ends_failed c.args.store.now.setup.frames c.loop-f.f c.in-Some.b c.loop-f.written (objects_of c.args.store.now) (objects_of c.loop-f.store) (objects_of c.write_back.new.store)
     (g.D.Disk.blocks c.args.disk.now) (g.D.Disk.blocks c.loop-f.disk) (g.D.Disk.blocks c.write_back.new.disk) c.loop-f.log c.write_back.new.log (is_err c.write_back.result) c.loop-f-test.true l.so_far
     (sym c.in-Some.ensures.value) w.noted (sym c.if-is_err.ensures.value)
-    (of_err c.write_back.result (objects_of (λ b. (goal.Policy-dyn g (b.vtable, b.value)).seen b.value) c.write_back.new.store ≡ objects_of (λ b. (goal.Policy-dyn g (b.vtable, b.value)).seen b.value) c.loop-f.store) (sym c.if-is_err.ensures.value) w.kept)
+    (of_err c.write_back.result (objects_of c.write_back.new.store ≡ objects_of c.loop-f.store) (sym c.if-is_err.ensures.value) w.kept)
     (λ bs told. subst (λ t. Tells (g.D.Disk.blocks c.write_back.new.disk) (cond t (at c.in-Some.b (bytes_of cache c.loop-f.f) bs) bs)) ill (w.told bs told)) blocks rest tells)
 
 pub returns-then-is_err-clause-calls : goal.returns-then-is_err-clause-calls
@@ -81,8 +78,8 @@ returns-then-is_err-clause-calls g c = λ f p made. c.write_back.ensures.calls f
 pub returns-clause-does : goal.returns-clause-does
 returns-clause-does g c =
     λ blocks rest t tells.
-    came_of _ c.came-2.result _ (objects_of (λ b. (goal.Policy-dyn g (b.vtable, b.value)).seen b.value) c.loop-f.store) (g.D.Disk.blocks c.loop-f.disk) t _ c.came-2.ensures
-    (ends_well c.args.store.now.setup.frames c.loop-f.f c.loop-f.written (objects_of (λ b. (goal.Policy-dyn g (b.vtable, b.value)).seen b.value) c.args.store.now) (objects_of (λ b. (goal.Policy-dyn g (b.vtable, b.value)).seen b.value) c.loop-f.store) (g.D.Disk.blocks c.args.disk.now) (g.D.Disk.blocks c.loop-f.disk)
+    came_of _ c.came-2.result _ (objects_of c.loop-f.store) (g.D.Disk.blocks c.loop-f.disk) t _ c.came-2.ensures
+    (ends_well c.args.store.now.setup.frames c.loop-f.f c.loop-f.written (objects_of c.args.store.now) (objects_of c.loop-f.store) (g.D.Disk.blocks c.args.disk.now) (g.D.Disk.blocks c.loop-f.disk)
     c.loop-f.log (omega arith) c.loop-f.invariant.so_far blocks rest tells)
 
 pub returns-then-is_err-clause-left : goal.returns-then-is_err-clause-left
@@ -91,16 +88,16 @@ returns-then-is_err-clause-left g c =
     let l = c.loop-f.invariant in
     let w = c.write_back.ensures in
     let cache = cache_of c.loop-f.store in
-    left_of _ c.came.result _ (objects_of (λ b. (goal.Policy-dyn g (b.vtable, b.value)).seen b.value) c.write_back.new.store) t _ c.came.ensures
-    (left_failed c.args.store.now.setup.frames c.loop-f.f c.in-Some.b c.loop-f.written (objects_of (λ b. (goal.Policy-dyn g (b.vtable, b.value)).seen b.value) c.args.store.now) (objects_of (λ b. (goal.Policy-dyn g (b.vtable, b.value)).seen b.value) c.loop-f.store) (objects_of (λ b. (goal.Policy-dyn g (b.vtable, b.value)).seen b.value) c.write_back.new.store)
+    left_of _ c.came.result _ (objects_of c.write_back.new.store) t _ c.came.ensures
+    (left_failed c.args.store.now.setup.frames c.loop-f.f c.in-Some.b c.loop-f.written (objects_of c.args.store.now) (objects_of c.loop-f.store) (objects_of c.write_back.new.store)
     (g.D.Disk.blocks c.args.disk.now) (g.D.Disk.blocks c.loop-f.disk) c.loop-f.log c.write_back.new.log (is_err c.write_back.result) c.loop-f-test.true l.so_far
     (sym c.in-Some.ensures.value) w.noted (sym c.if-is_err.ensures.value)
-    (of_err c.write_back.result (objects_of (λ b. (goal.Policy-dyn g (b.vtable, b.value)).seen b.value) c.write_back.new.store ≡ objects_of (λ b. (goal.Policy-dyn g (b.vtable, b.value)).seen b.value) c.loop-f.store) (sym c.if-is_err.ensures.value) w.kept)
+    (of_err c.write_back.result (objects_of c.write_back.new.store ≡ objects_of c.loop-f.store) (sym c.if-is_err.ensures.value) w.kept)
     blocks rest)
 
 pub returns-clause-left : goal.returns-clause-left
 returns-clause-left g c =
     λ blocks rest t.
-    left_of _ c.came-2.result _ (objects_of (λ b. (goal.Policy-dyn g (b.vtable, b.value)).seen b.value) c.loop-f.store) t _ c.came-2.ensures
-    (left_well c.args.store.now.setup.frames c.loop-f.f c.loop-f.written (objects_of (λ b. (goal.Policy-dyn g (b.vtable, b.value)).seen b.value) c.args.store.now) (objects_of (λ b. (goal.Policy-dyn g (b.vtable, b.value)).seen b.value) c.loop-f.store) (g.D.Disk.blocks c.args.disk.now) (g.D.Disk.blocks c.loop-f.disk)
+    left_of _ c.came-2.result _ (objects_of c.loop-f.store) t _ c.came-2.ensures
+    (left_well c.args.store.now.setup.frames c.loop-f.f c.loop-f.written (objects_of c.args.store.now) (objects_of c.loop-f.store) (g.D.Disk.blocks c.args.disk.now) (g.D.Disk.blocks c.loop-f.disk)
     c.loop-f.log (omega arith) c.loop-f.invariant.so_far blocks rest)
