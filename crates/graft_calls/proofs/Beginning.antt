@@ -5,10 +5,11 @@ use Rattle.std.proofs.lemmas.Bool.Decides.{nat_tests}
 use Rattle.std.proofs.lemmas.List.{get_or_past}
 use Rattle.std.proofs.lemmas.Option.{unwrap_or-slice_get}
 use Rattle.std.specs.Option.{unwrap_or}
+use Rattle.kernel_model.specs.declared.FrameRow.{FrameRow}
 use Rattle.kernel_model.specs.declared.Inverse.{Inverse}
 use Rattle.kernel_model.specs.declared.Instr.{Instr}
 use Rattle.kernel_model.specs.Machine.{first_machine, segment_base}
-use Rattle.kernel_model.specs.Objects.{Objects, Accounts, CacheValue}
+use Rattle.kernel_model.specs.Objects.{Objects, Accounts, CacheValue, FrameValue}
 use Rattle.kernel_model.specs.World.{Image, ImageTable}
 use Rattle.kernel_model.specs.Policies.{or_zero}
 use Rattle.kernel_model.specs.Boxed.{IsBoxed, IsInside}
@@ -17,11 +18,15 @@ use Rattle.kernel_model.specs.Levels.{new_level, image_of, body_of, body_in, cod
 use Rattle.kernel_model.specs.Runs.{on_segment, segment_of}
 use Rattle.graft_machine.specs.Cpu.{Cpu, machine_of, by_place}
 use Rattle.kernel_state.specs.declared.Store.{Store}
-use Rattle.kernel_state.specs.Stores.{Seeing, StoreFits, world_of_store, objects_of, IsStore}
-use Rattle.buffer_cache.specs.Frames.{IsFrames}
+use Rattle.graft_accounts.specs.Table.{accounts_of}
+use Rattle.process_table.specs.Processes.{processes_of}
+use Rattle.kernel_state.specs.CacheViews.{cache_value, frame_value, frame_bytes, value_with}
+use Rattle.kernel_state.specs.Sound.{StoreFits, things_with}
+use Rattle.kernel_state.specs.Stores.{world_of_store, objects_with, objects_of, policies_of}
+use Rattle.buffer_cache.specs.Frames.{IsFrames, row_at}
 use Rattle.graft_calls.specs.declared.GraftLevel.{GraftLevel}
 use Rattle.graft_calls.specs.Chains.{level_in, levels_in}
-use Rattle.graft_calls.specs.Calls.{AreInside}
+use Rattle.graft_calls.specs.Calls.{AreInside, HasOtherMemory}
 use Rattle.graft_calls.proofs.Memory.{same_cache, same_segment}
 use Rattle.graft_calls.proofs.Views.{glued, levels_alike}
 
@@ -74,12 +79,41 @@ begun_inside images image a p base q pt args cpu gs news is_news is_base boxed i
 
 -- ---- the store
 
--- other bytes outside the frames
-pub same_objects : {X : Type 0} {F : X → Type 0} (view : Seeing X F) (s : Store X F) (mem : List ℕ) → IsFrames s.cache → length s.ram ≡ 524288 → length mem ≡ 524288 →
-    ((a : ℕ) → a < 262144 → slice_index mem a ≡ slice_index s.ram a) → objects_of view (record s { ram = mem }) ≡ objects_of view s
-same_objects view s mem frames size mem_size same =
-    let w = objects_of view s in ap (λ (c : CacheValue). let o : Objects = record w { things = record (w.things) { cache = c } } in o) (same_cache s.cache s.ram mem frames size mem_size same)
+-- the objects of a store, where memory has these bytes
+abbrev pub objects_over : {B : Type 0} {P : _} → Store B P → List ℕ → Objects
+objects_over s mem = objects_with (accounts_of s.accounts) (processes_of s.procs) (cache_value s.cache mem) (policies_of s)
 
-pub memory_store : {X : Type 0} {F : X → Type 0} (view : Seeing X F) (s : Store X F) (mem : List ℕ) → objects_of view (record s { ram = mem }) ≡ objects_of view s → IsStore view s → IsStore view (record s { ram = mem })
-memory_store view s mem same h =
-    record { fits = subst (λ (o : Objects). StoreFits s.cache.count (world_of_store s) o.things) (sym same) h.fits; shelf = h.shelf }
+-- what always holds of a store, where memory has these bytes
+abbrev pub FitsOver : {B : Type 0} {P : _} → Store B P → List ℕ → Type 0
+FitsOver s mem =
+    StoreFits s.cache.count (world_of_store s) (things_with (processes_of s.procs) (cache_value s.cache mem) (policies_of s))
+
+-- other bytes outside the frames
+pub same_objects : {B : Type 0} {P : _} (s : Store B P) (mem : List ℕ) → IsFrames s.cache → length s.ram ≡ 524288 → length mem ≡ 524288 →
+    ((a : ℕ) → a < 262144 → slice_index mem a ≡ slice_index s.ram a) → objects_over s mem ≡ objects_of s
+same_objects s mem frames size mem_size same =
+    ap (λ (c : CacheValue). objects_with (accounts_of s.accounts) (processes_of s.procs) c (policies_of s)) (same_cache s.cache s.ram mem frames size mem_size same)
+
+-- which holds whatever memory has: no block of a frame depends on it
+pub memory_fits : {B : Type 0} {P : _} (s : Store B P) (mem : List ℕ) → FitsOver s mem
+memory_fits s mem =
+    let h = s.fits in
+    record {
+      frames = h.frames;
+      some = h.some;
+      most = h.most;
+      directory = h.directory;
+      blocks = λ f x is. by_row f x (row_at s.cache.rows f) refl is;
+      files = h.files;
+    }
+  where
+    by_row : (f : ℕ) (x : FrameValue) (r : Option FrameRow) → row_at s.cache.rows f ≡ r → frame_value mem f r ≡ Some x → x.block < s.size
+    by_row f x None row is = absurd cc
+    by_row f x (Some r) row is =
+        let before = s.fits.blocks f (value_with (frame_bytes s.ram f) r) (ap (frame_value s.ram f) row) in
+        let same : r.block ≡ x.block = ap (λ (o : Option FrameValue). elim o [ None ↦ r.block | Some y ↦ y.block ]) is in
+        subst (λ n. n < s.size) same before
+
+-- the objects of a store that is another one but for what memory has
+pub over_memory : {B : Type 0} {P : _} (s u : Store B P) → HasOtherMemory s u → objects_of u ≡ objects_over s u.ram
+over_memory s u rest = rw (rest.accounts, rest.procs, rest.cache, rest.shelf, rest.choice) refl

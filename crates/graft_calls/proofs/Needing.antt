@@ -10,7 +10,7 @@ use Rattle.kernel_model.specs.Objects.{Objects}
 use Rattle.lock_table.specs.declared.Holds.{Holds}
 use Rattle.lock_table.specs.Masks.{held}
 use Rattle.kernel_state.specs.declared.Store.{Store}
-use Rattle.kernel_state.specs.Stores.{Seeing, objects_of, queue_of, IsStore}
+use Rattle.kernel_state.specs.Stores.{objects_of, queue_of}
 use Rattle.graft_calls.specs.declared.GraftLevel.{GraftLevel}
 use Rattle.graft_calls.specs.Calls.{AreSound, AllUndoable, IsPlaced, IsElsewhereSame, needs_touched}
 use Rattle.graft_calls.proofs.Holding.{touched_here, touched_apart}
@@ -28,20 +28,19 @@ pub nothing_held : (t : LockTable) (p d : ℕ) → ((o : Object) → t p d o ≡
 nothing_held t p d free = fun_ext (λ o. free o)
 
 -- a level began, and what it needs is touched
-pub begun_placed : {X : Type 0} {F : X → Type 0} (view : Seeing X F) (s u : Store X F) (t r : List (List Holds)) (p : ℕ) (gs hs : List GraftLevel) (log more : List (List Inverse)) →
-    IsPlaced view s t p gs log → length gs < 4 → IsStore view u → objects_of view u ≡ objects_of view s → length hs ≡ suc (length gs) → more ≡ [] ∷ log → AreSound (queue_of u) hs →
-    ((d : ℕ) (o : Object) → suc (length gs) ≤ d → held r p d o ≡ Held.Free) → IsPlaced view u r p hs more
-begun_placed view s u t r p gs hs log more h few store same count is sound free =
+pub begun_placed : {B : Type 0} {P : _} (s u : Store B P) (t r : List (List Holds)) (p : ℕ) (gs hs : List GraftLevel) (log more : List (List Inverse)) →
+    IsPlaced s t p gs log → length gs < 4 → objects_of u ≡ objects_of s → length hs ≡ suc (length gs) → more ≡ [] ∷ log → AreSound (queue_of u) hs →
+    ((d : ℕ) (o : Object) → suc (length gs) ≤ d → held r p d o ≡ Held.Free) → IsPlaced u r p hs more
+begun_placed s u t r p gs hs log more h few same count is sound free =
     record {
-      store = store;
       process = h.process;
       few = omega (arith, few, count);
       as_many = ap length is ∙ ap suc h.as_many ∙ sym count;
       unheld = λ d o le. free d o (omega (arith, le, count));
       levels = sound;
-      undoable = subst (λ x. AllUndoable x (objects_of view u).things) (sym is) (tt, subst (λ (x : Objects). AllUndoable log x.things) (sym same) h.undoable);
+      undoable = subst (λ x. AllUndoable x (objects_of u).things) (sym is) (tt, subst (λ (x : Objects). AllUndoable log x.things) (sym same) h.undoable);
     }
 
 -- and the locks of this process alone changed
-pub locks_elsewhere : {X : Type 0} {F : X → Type 0} (s u : Store X F) (t r : List (List Holds)) (p : ℕ) → IsElsewhereSame s u t t p → ((q d : ℕ) → q ≢ p → held r q d ≡ held t q d) → IsElsewhereSame s u t r p
+pub locks_elsewhere : {B : Type 0} {P : _} (s u : Store B P) (t r : List (List Holds)) (p : ℕ) → IsElsewhereSame s u t t p → ((q d : ℕ) → q ≢ p → held r q d ≡ held t q d) → IsElsewhereSame s u t r p
 locks_elsewhere s u t r p h others = record { world = h.world; living = h.living; others = others; memory = h.memory }

@@ -8,9 +8,8 @@ use Rattle.kernel_model.specs.Locks.{LockTable, release_from, with_touch}
 use Rattle.kernel_model.specs.Policies.{lives}
 use Rattle.lock_table.specs.declared.Holds.{Holds}
 use Rattle.lock_table.specs.Masks.{held}
-use Rattle.graft_accounts.specs.Table.{Table}
 use Rattle.kernel_state.specs.declared.Store.{Store}
-use Rattle.kernel_state.specs.Stores.{Seeing, world_of_store, objects_of, queue_of, IsStore}
+use Rattle.kernel_state.specs.Stores.{world_of_store, objects_of, queue_of}
 use Rattle.kernel_state.specs.Accesses.{CanBeUndone}
 use Rattle.graft_calls.specs.declared.GraftLevel.{GraftLevel}
 use Rattle.graft_calls.specs.Chains.{outer}
@@ -22,42 +21,26 @@ use Rattle.graft_calls.proofs.Holding.{touched_apart}
 use Rattle.std.proofs.lemmas.Bool.Decides.{nat_tests}
 
 -- a level was undone, and let go
-pub ended_placed : {X : Type 0} {F : X → Type 0} (view : Seeing X F) (s u : Store X F) (t r : List (List Holds)) (p n : ℕ) (gs : List GraftLevel) (log rest : List (List Inverse)) →
-    p < 16 → length gs < 4 → length log ≡ suc (length gs) → AreSound (queue_of s) gs → AllUndoable log (objects_of view s).things →
-    IsStore view u → ((q : ℕ) → lives (queue_of u) q ≡ lives (queue_of s) q) →
-    ((i : Inverse) → CanBeUndone i (objects_of view s).things → CanBeUndone i (objects_of view u).things) → rest ≡ outer log →
-    held r ≡ release_from p n (held t) → n ≡ length gs → IsPlaced view u r p gs rest
-ended_placed view s u t r p n gs log rest process few as_many sound undoable store living kept is held_is count =
+pub ended_placed : {B : Type 0} {P : _} (s u : Store B P) (t r : List (List Holds)) (p n : ℕ) (gs : List GraftLevel) (log rest : List (List Inverse)) →
+    p < 16 → length gs < 4 → length log ≡ suc (length gs) → AreSound (queue_of s) gs → AllUndoable log (objects_of s).things →
+    ((q : ℕ) → lives (queue_of u) q ≡ lives (queue_of s) q) →
+    ((i : Inverse) → CanBeUndone i (objects_of s).things → CanBeUndone i (objects_of u).things) → rest ≡ outer log →
+    held r ≡ release_from p n (held t) → n ≡ length gs → IsPlaced u r p gs rest
+ended_placed s u t r p n gs log rest process few as_many sound undoable living kept is held_is count =
     record {
-      store = store;
       process = process;
       few = omega (arith, few);
       as_many = ap length is ∙ outer_length log (length gs) as_many;
       unheld = λ d o le. released_free p n d o (held t) (held r) held_is (omega (arith, le, count));
       levels = still_sound (queue_of s) (queue_of u) gs living sound;
-      undoable = subst (λ x. AllUndoable x (objects_of view u).things) (sym is) (of_outer log _ (all_kept log (objects_of view s).things _ kept undoable));
-    }
-
--- other accounts
-pub accounts_placed : {X : Type 0} {F : X → Type 0} (view : Seeing X F) (s : Store X F) (t : List (List Holds)) (p : ℕ) (gs : List GraftLevel) (log : List (List Inverse)) (a : Table) →
-    IsPlaced view s t p gs log → IsPlaced view (record s { accounts = a }) t p gs log
-accounts_placed view s t p gs log a h =
-    record {
-      store = record { fits = h.store.fits; shelf = h.store.shelf };
-      process = h.process;
-      few = h.few;
-      as_many = h.as_many;
-      unheld = h.unheld;
-      levels = h.levels;
-      undoable = h.undoable;
+      undoable = subst (λ x. AllUndoable x (objects_of u).things) (sym is) (of_outer log _ (all_kept log (objects_of s).things _ kept undoable));
     }
 
 -- other levels, as many
-pub levels_placed : {X : Type 0} {F : X → Type 0} (view : Seeing X F) (s : Store X F) (t : List (List Holds)) (p : ℕ) (gs hs : List GraftLevel) (log : List (List Inverse)) →
-    IsPlaced view s t p gs log → length hs ≡ length gs → AreSound (queue_of s) hs → IsPlaced view s t p hs log
-levels_placed view s t p gs hs log h count sound =
+pub levels_placed : {B : Type 0} {P : _} (s : Store B P) (t : List (List Holds)) (p : ℕ) (gs hs : List GraftLevel) (log : List (List Inverse)) →
+    IsPlaced s t p gs log → length hs ≡ length gs → AreSound (queue_of s) hs → IsPlaced s t p hs log
+levels_placed s t p gs hs log h count sound =
     record {
-      store = h.store;
       process = h.process;
       few = omega (arith, h.few, count);
       as_many = h.as_many ∙ sym count;
@@ -68,7 +51,7 @@ levels_placed view s t p gs hs log h count sound =
 
 -- ---- what stays
 
-pub ended_elsewhere : {X : Type 0} {F : X → Type 0} (s u : Store X F) (t r : List (List Holds)) (p n : ℕ) → world_of_store u ≡ world_of_store s → ((q : ℕ) → lives (queue_of u) q ≡ lives (queue_of s) q) →
+pub ended_elsewhere : {B : Type 0} {P : _} (s u : Store B P) (t r : List (List Holds)) (p n : ℕ) → world_of_store u ≡ world_of_store s → ((q : ℕ) → lives (queue_of u) q ≡ lives (queue_of s) q) →
     u.ram ≡ s.ram → held r ≡ release_from p n (held t) → IsElsewhereSame s u t r p
 ended_elsewhere s u t r p n world living memory held_is =
     record {
@@ -78,10 +61,7 @@ ended_elsewhere s u t r p n world living memory held_is =
       memory = λ a beyond. ap (λ m. slice_index m a) memory;
     }
 
-pub accounts_elsewhere : {X : Type 0} {F : X → Type 0} (s u : Store X F) (t r : List (List Holds)) (p : ℕ) (a : Table) → IsElsewhereSame s u t r p → IsElsewhereSame s (record u { accounts = a }) t r p
-accounts_elsewhere s u t r p a h = record { world = h.world; living = h.living; others = h.others; memory = h.memory }
-
-pub elsewhere_twice : {X : Type 0} {F : X → Type 0} (s u v : Store X F) (t r l : List (List Holds)) (p : ℕ) → IsElsewhereSame s u t r p → IsElsewhereSame u v r l p → IsElsewhereSame s v t l p
+pub elsewhere_twice : {B : Type 0} {P : _} (s u v : Store B P) (t r l : List (List Holds)) (p : ℕ) → IsElsewhereSame s u t r p → IsElsewhereSame u v r l p → IsElsewhereSame s v t l p
 elsewhere_twice s u v t r l p h k =
     record {
       world = k.world ∙ h.world;
@@ -92,12 +72,11 @@ elsewhere_twice s u v t r l p h k =
 
 -- ---- a level goes on and touched an object
 
-pub touched_placed : {X : Type 0} {F : X → Type 0} (view : Seeing X F) (s u : Store X F) (t r : List (List Holds)) (p n : ℕ) (o : Object) (m : Mode) (g : GraftLevel) (gs hs : List GraftLevel) (log rest : List (List Inverse)) →
-    IsPlaced view s t p (g ∷ gs) log → IsStore view u → ((q : ℕ) → lives (queue_of u) q ≡ lives (queue_of s) q) → length hs ≡ suc (length gs) → AreSound (queue_of s) hs →
-    held r ≡ with_touch p n o m (held t) → n ≡ length gs → length rest ≡ length log → AllUndoable rest (objects_of view u).things → IsPlaced view u r p hs rest
-touched_placed view s u t r p n o m g gs hs log rest h store living many sound held_is count same undoable =
+pub touched_placed : {B : Type 0} {P : _} (s u : Store B P) (t r : List (List Holds)) (p n : ℕ) (o : Object) (m : Mode) (g : GraftLevel) (gs hs : List GraftLevel) (log rest : List (List Inverse)) →
+    IsPlaced s t p (g ∷ gs) log → ((q : ℕ) → lives (queue_of u) q ≡ lives (queue_of s) q) → length hs ≡ suc (length gs) → AreSound (queue_of s) hs →
+    held r ≡ with_touch p n o m (held t) → n ≡ length gs → length rest ≡ length log → AllUndoable rest (objects_of u).things → IsPlaced u r p hs rest
+touched_placed s u t r p n o m g gs hs log rest h living many sound held_is count same undoable =
     record {
-      store = store;
       process = h.process;
       few = omega (arith, many, h.few);
       as_many = same ∙ h.as_many ∙ sym many;
@@ -106,7 +85,7 @@ touched_placed view s u t r p n o m g gs hs log rest h store living many sound h
       undoable = undoable;
     }
 
-pub touched_elsewhere : {X : Type 0} {F : X → Type 0} (s u : Store X F) (t r : List (List Holds)) (p n : ℕ) (o : Object) (m : Mode) → world_of_store u ≡ world_of_store s →
+pub touched_elsewhere : {B : Type 0} {P : _} (s u : Store B P) (t r : List (List Holds)) (p n : ℕ) (o : Object) (m : Mode) → world_of_store u ≡ world_of_store s →
     ((q : ℕ) → lives (queue_of u) q ≡ lives (queue_of s) q) → u.ram ≡ s.ram → held r ≡ with_touch p n o m (held t) → IsElsewhereSame s u t r p
 touched_elsewhere s u t r p n o m world living memory held_is =
     record {
@@ -118,11 +97,11 @@ touched_elsewhere s u t r p n o m world living memory held_is =
 
 -- ---- the locks of this process alone change
 
-pub locks_placed : {X : Type 0} {F : X → Type 0} (view : Seeing X F) (s : Store X F) (t r : List (List Holds)) (p : ℕ) (gs hs : List GraftLevel) (log : List (List Inverse)) →
-    IsPlaced view s t p gs log → hs ≡ gs → ((d : ℕ) (o : Object) → length gs ≤ d → held r p d o ≡ Held.Free) → IsPlaced view s r p hs log
-locks_placed view s t r p gs hs log h same free =
-    subst (λ xs. IsPlaced view s r p xs log) (sym same)
-    (record { store = h.store; process = h.process; few = h.few; as_many = h.as_many; unheld = free; levels = h.levels; undoable = h.undoable })
+pub locks_placed : {B : Type 0} {P : _} (s : Store B P) (t r : List (List Holds)) (p : ℕ) (gs hs : List GraftLevel) (log : List (List Inverse)) →
+    IsPlaced s t p gs log → hs ≡ gs → ((d : ℕ) (o : Object) → length gs ≤ d → held r p d o ≡ Held.Free) → IsPlaced s r p hs log
+locks_placed s t r p gs hs log h same free =
+    subst (λ xs. IsPlaced s r p xs log) (sym same)
+    (record { process = h.process; few = h.few; as_many = h.as_many; unheld = free; levels = h.levels; undoable = h.undoable })
 
-pub before_elsewhere : {X : Type 0} {F : X → Type 0} (s u : Store X F) (t r : List (List Holds)) (p : ℕ) → IsElsewhereSame s u r r p → ((q d : ℕ) → q ≢ p → held r q d ≡ held t q d) → IsElsewhereSame s u t r p
+pub before_elsewhere : {B : Type 0} {P : _} (s u : Store B P) (t r : List (List Holds)) (p : ℕ) → IsElsewhereSame s u r r p → ((q d : ℕ) → q ≢ p → held r q d ≡ held t q d) → IsElsewhereSame s u t r p
 before_elsewhere s u t r p h others = record { world = h.world; living = h.living; others = others; memory = h.memory }

@@ -16,7 +16,7 @@ use Rattle.lock_table.specs.declared.Holds.{Holds}
 use Rattle.lock_table.specs.Masks.{held}
 use Rattle.graft_machine.specs.Cpu.{machine_of}
 use Rattle.kernel_state.specs.declared.Store.{Store}
-use Rattle.kernel_state.specs.Stores.{Seeing, world_of_store, objects_of, queue_of, IsStore}
+use Rattle.kernel_state.specs.Stores.{world_of_store, objects_of, queue_of}
 use Rattle.kernel_state.specs.Accesses.{CanBeUndone}
 use Rattle.graft_calls.specs.declared.GraftLevel.{GraftLevel}
 use Rattle.graft_calls.specs.Chains.{is_running_in}
@@ -57,21 +57,35 @@ AllUndoable (is ∷ log) w = AreUndoable is w × AllUndoable log w
 
 -- Levels of process p with this undo log stand in place on a store: there are at most four, each with its records, the process
 -- holds nothing further inward, and all records can be undone.
-pub record IsPlaced {X : Type 0} {F : X → Type 0} (view : Seeing X F) (s : Store X F) (t : List (List Holds)) (p : ℕ) (gs : List GraftLevel) (log : List (List Inverse)) : Type 0 where
-  pub store : IsStore view s
+pub record IsPlaced {B : Type 0} {P : _} (s : Store B P) (t : List (List Holds)) (p : ℕ)
+    (gs : List GraftLevel) (log : List (List Inverse)) : Type 0 where
   pub process : p < 16
   pub few : length gs ≤ 4
   pub as_many : length log ≡ length gs
   pub unheld : (d : ℕ) (o : Object) → length gs ≤ d → held t p d o ≡ Held.Free
   pub levels : AreSound (queue_of s) gs
-  pub undoable : AllUndoable log (objects_of view s).things
+  pub undoable : AllUndoable log (objects_of s).things
 
 -- A graft call in place: nothing more is needed for its next instruction, nor for a drop, and both keep it.
-pub record IsInPlace {X : Type 0} {F : X → Type 0} (view : Seeing X F) (s : Store X F) (t : List (List Holds)) (images : ImageTable) (p : ℕ) (gs : List GraftLevel) (log : List (List Inverse)) : Type 0 where
-  pub placed : IsPlaced view s t p gs log
-  pub inside : AreInside images (objects_of view s).accounts p gs
+pub record IsInPlace {B : Type 0} {P : _} (s : Store B P) (t : List (List Holds))
+    (images : ImageTable) (p : ℕ) (gs : List GraftLevel) (log : List (List Inverse)) : Type 0 where
+  pub placed : IsPlaced s t p gs log
+  pub inside : AreInside images (objects_of s).accounts p gs
   -- an ask begins a level on the image of any graft that stands
-  pub loaded : ImagesAreLoaded images (objects_of view s).accounts
+  pub loaded : ImagesAreLoaded images (objects_of s).accounts
+
+-- ---- other memory
+
+-- a store is another one but for what memory has
+pub record HasOtherMemory {B : Type 0} {P : _} (s u : Store B P) : Type 0 where
+  pub setup : u.setup ≡ s.setup
+  pub size : u.size ≡ s.size
+  pub procs : u.procs ≡ s.procs
+  pub accounts : u.accounts ≡ s.accounts
+  pub cache : u.cache ≡ s.cache
+  pub dir : u.dir ≡ s.dir
+  pub choice : u.choice ≡ s.choice
+  pub shelf : u.shelf ≡ s.shelf
 
 -- ---- what stays
 
@@ -81,7 +95,7 @@ IsBeyond p a = (a < base_of p 0) ⊎ (base_of p 4 ≤ a)
 
 -- Of all that the state of objects doesn't tell, another store and lock table have the same: the set-up, who lives, what other
 -- processes hold, and the bytes of memory outside the segments of process p.
-pub record IsElsewhereSame {X : Type 0} {F : X → Type 0} (s u : Store X F) (t r : List (List Holds)) (p : ℕ) : Type 0 where
+pub record IsElsewhereSame {B : Type 0} {P : _} (s u : Store B P) (t r : List (List Holds)) (p : ℕ) : Type 0 where
   pub world : world_of_store u ≡ world_of_store s
   pub living : (q : ℕ) → lives (queue_of u) q ≡ lives (queue_of s) q
   pub others : (q d : ℕ) → q ≢ p → held r q d ≡ held t q d

@@ -14,7 +14,7 @@ use Rattle.lock_table.specs.Masks.{held}
 use Rattle.undo_calls.specs.UndoLevels.{innermost}
 use Rattle.graft_machine.specs.Cpu.{machine_of}
 use Rattle.kernel_state.specs.declared.Store.{Store}
-use Rattle.kernel_state.specs.Stores.{Seeing, objects_of}
+use Rattle.kernel_state.specs.Stores.{objects_of}
 use Rattle.graft_calls.specs.declared.GraftLevel.{GraftLevel}
 use Rattle.graft_calls.specs.declared.Chain.{Chain}
 
@@ -67,21 +67,21 @@ is_running_in gs q pt = list_any (λ (g : GraftLevel). g.owner == q && g.point =
 -- ---- on a store
 
 -- the levels of a chain of process p
-abbrev pub levels_of : {X : Type 0} {F : X → Type 0} → Seeing X F → Store X F → List (List Holds) → Chain → ℕ → List Level
-levels_of view s t c p = levels_in p s.ram (held t) c.levels c.undo (objects_of view s).things
+abbrev pub levels_of : {B : Type 0} {P : _} → Store B P → List (List Holds) → Chain → ℕ → List Level
+levels_of s t c p = levels_in p s.ram (held t) c.levels c.undo (objects_of s).things
 
 -- the graft call of a chain of process p
-abbrev pub call_of : {X : Type 0} {F : X → Type 0} → Seeing X F → Store X F → List (List Holds) → Chain → ℕ → Config
-call_of view s t c p = record { now = objects_of view s; levels = levels_of view s t c p }
+abbrev pub call_of : {B : Type 0} {P : _} → Store B P → List (List Holds) → Chain → ℕ → Config
+call_of s t c p = record { now = objects_of s; levels = levels_of s t c p }
 
 -- a level that was taken from the inner end of a chain, whose records are still in the log
-abbrev pub level_of : {X : Type 0} {F : X → Type 0} → Seeing X F → Store X F → List (List Holds) → Chain → ℕ → GraftLevel → Level
-level_of view s t c p g =
-    level_in p (length c.levels) s.ram (held t) g (innermost c.undo) (put_back (innermost c.undo) (objects_of view s).things)
+abbrev pub level_of : {B : Type 0} {P : _} → Store B P → List (List Holds) → Chain → ℕ → GraftLevel → Level
+level_of s t c p g =
+    level_in p (length c.levels) s.ram (held t) g (innermost c.undo) (put_back (innermost c.undo) (objects_of s).things)
 
 -- the levels outside it
-abbrev pub outer_of : {X : Type 0} {F : X → Type 0} → Seeing X F → Store X F → List (List Holds) → Chain → ℕ → List Level
-outer_of view s t c p = levels_in p s.ram (held t) c.levels (outer c.undo) (put_back (innermost c.undo) (objects_of view s).things)
+abbrev pub outer_of : {B : Type 0} {P : _} → Store B P → List (List Holds) → Chain → ℕ → List Level
+outer_of s t c p = levels_in p s.ram (held t) c.levels (outer c.undo) (put_back (innermost c.undo) (objects_of s).things)
 
 -- ---- outcomes
 

@@ -25,6 +25,7 @@ use crate::charges::{charge_lock, charge_record};
 use crate::drops::drop_innermost;
 use crate::{Chain, GraftLevel, Levels};
 use accessor_list::ids;
+use graft_points::Policy;
 use kernel_laws::undoing::inverses_undo;
 use kernel_model::{Cause, Inverse, Micro, Mode, Object};
 use kernel_state::Store;
@@ -43,10 +44,12 @@ fn go_on(level: GraftLevel, r0: u32, levels: &mut Levels)
     requires { length levels.old < 4 }
     ensures levels { (p : ℕ) (ram : List ℕ) (t : Table) (log : List (List Undoing)) (w : Things) →
         let l = level_in p (length levels.old) ram t level (innermost log) (put_back (innermost log) w) in
-        levels_in p ram t levels.new log w ≡ with_machine (answered spec.Victim r0 0 l.machine) l ∷ levels_in p ram t levels.old (outer log) (put_back (innermost log) w) }
+        levels_in p ram t levels.new log w ≡ with_machine (answered spec.Victim r0 0 l.machine) l
+        ∷ levels_in p ram t levels.old (outer log) (put_back (innermost log) w) }
     ensures count { length levels.new ≡ suc (length levels.old) }
     ensures sound { (queue : List Waiting) → AreSound queue (level ∷ levels.old) → AreSound queue levels.new }
-    ensures inside { (images : ImageTable) (a : Funds) (p : ℕ) → AreInside images a p (level ∷ levels.old) → AreInside images a p levels.new }
+    ensures inside { (images : ImageTable) (a : Funds) (p : ℕ) →
+        AreInside images a p (level ∷ levels.old) → AreInside images a p levels.new }
 {
     let mut level = level;
     level.machine.set_reg(0, r0);
@@ -63,27 +66,34 @@ fn is_lock_due(id: u32, object: Object, p: u8, locks: &LockTable) -> bool
 }
 
 /// An accessor gives a result, where nothing changes; a lock is paid for where that is due.
-fn give(
+fn give<B: Policy>(
     id: u32,
     result_is: u32,
     need: Accessed,
     level: GraftLevel,
     chain: &mut Chain,
     p: u8,
-    store: &mut Store,
+    store: &mut Store<B>,
     locks: &mut LockTable,
 ) -> Micro
-    requires placed { IsPlaced (λ b. seen (b.vtable, b.value)) store.old locks.old p (level ∷ chain.old.levels) chain.old.undo }
+    requires placed { IsPlaced store.old locks.old p (level ∷ chain.old.levels) chain.old.undo }
     requires object { need.object ≡ (accessed id (slice_index level.machine.regs 0) level.owner).object }
     requires mode { need.mode ≡ (accessed id (slice_index level.machine.regs 0) level.owner).mode }
     requires range { IsInRange need.object }
     requires plain { id ≤ 12 }
-    ensures step { let l = level_of (λ b. seen (b.vtable, b.value)) store.old locks.old chain.old p level in let ls = outer_of (λ b. seen (b.vtable, b.value)) store.old locks.old chain.old p in
-        came (after_result (world_of_store store.old) (objects_of (λ b. seen (b.vtable, b.value)) store.old) l ls l.machine id result_is (lock_due id (l.machine.regs 0) (l ∷ ls)))
-        ≡ (result, call_of (λ b. seen (b.vtable, b.value)) store.new locks.new chain.new p) }
-    ensures placed { IsPlaced (λ b. seen (b.vtable, b.value)) store.new locks.new p chain.new.levels chain.new.undo }
-    ensures inside { (images : ImageTable) → AreInside images (objects_of (λ b. seen (b.vtable, b.value)) store.old).accounts p (level ∷ chain.old.levels) → AreInside images (objects_of (λ b. seen (b.vtable, b.value)) store.new).accounts p chain.new.levels }
-    ensures loaded { (images : ImageTable) → ImagesAreLoaded images (objects_of (λ b. seen (b.vtable, b.value)) store.old).accounts → ImagesAreLoaded images (objects_of (λ b. seen (b.vtable, b.value)) store.new).accounts }
+    ensures step { let l = level_of store.old locks.old chain.old p level in
+        let ls = outer_of store.old locks.old chain.old p in
+        came (after_result (world_of_store store.old)
+        (objects_of store.old) l ls l.machine id result_is
+        (lock_due id (l.machine.regs 0) (l ∷ ls)))
+        ≡ (result, call_of store.new locks.new chain.new p) }
+    ensures placed { IsPlaced store.new locks.new p chain.new.levels chain.new.undo }
+    ensures inside { (images : ImageTable) →
+        AreInside images (objects_of store.old).accounts p (level ∷ chain.old.levels) →
+        AreInside images (objects_of store.new).accounts p chain.new.levels }
+    ensures loaded { (images : ImageTable) →
+        ImagesAreLoaded images (objects_of store.old).accounts →
+        ImagesAreLoaded images (objects_of store.new).accounts }
     ensures elsewhere { IsElsewhereSame store.old store.new locks.old locks.new p }
 {
     let due = is_lock_due(id, need.object, p, locks);
@@ -105,7 +115,7 @@ fn record(undo: &mut UndoStack, inverse_is: Inverse)
 }
 
 /// An accessor's change is charged, recorded and made, unless no record can be made.
-fn change(
+fn change<B: Policy>(
     id: u32,
     result_is: u32,
     inverse_is: Inverse,
@@ -113,26 +123,36 @@ fn change(
     level: GraftLevel,
     chain: &mut Chain,
     p: u8,
-    store: &mut Store,
+    store: &mut Store<B>,
     locks: &mut LockTable,
 ) -> Micro
-    requires placed { IsPlaced (λ b. seen (b.vtable, b.value)) store.old locks.old p (level ∷ chain.old.levels) chain.old.undo }
+    requires placed { IsPlaced store.old locks.old p (level ∷ chain.old.levels) chain.old.undo }
     requires object { need.object ≡ (accessed id (slice_index level.machine.regs 0) level.owner).object }
     requires mode { need.mode ≡ (accessed id (slice_index level.machine.regs 0) level.owner).mode }
     requires range { IsInRange need.object }
     requires plain { id ≤ 12 }
-    requires early { early_refusal 15 id (slice_index level.machine.regs 0) (slice_index level.machine.regs 1) level.owner ≡ None }
-    requires answer { answer_of (accessed_by id (slice_index level.machine.regs 0) (slice_index level.machine.regs 1) (slice_index level.machine.regs 2) level.owner (objects_of (λ b. seen (b.vtable, b.value)) store.old).things)
+    requires early { early_refusal 15 id (slice_index level.machine.regs 0)
+        (slice_index level.machine.regs 1) level.owner ≡ None }
+    requires answer { answer_of (accessed_by id (slice_index level.machine.regs 0)
+        (slice_index level.machine.regs 1) (slice_index level.machine.regs 2) level.owner
+        (objects_of store.old).things)
         ≡ Ok (record { result = result_is; inverse = Some inverse_is }) }
-    requires undoable { CanBeUndone inverse_is (objects_of (λ b. seen (b.vtable, b.value)) store.old).things }
-    ensures step { let l = level_of (λ b. seen (b.vtable, b.value)) store.old locks.old chain.old p level in let ls = outer_of (λ b. seen (b.vtable, b.value)) store.old locks.old chain.old p in
-        came (after_change (world_of_store store.old) (objects_of (λ b. seen (b.vtable, b.value)) store.old) l ls l.machine id result_is inverse_is
-        (things_after (accessed_by id (slice_index level.machine.regs 0) (slice_index level.machine.regs 1) (slice_index level.machine.regs 2) level.owner (objects_of (λ b. seen (b.vtable, b.value)) store.old).things) (objects_of (λ b. seen (b.vtable, b.value)) store.old).things)
-        (is_record_spent (objects_of (λ b. seen (b.vtable, b.value)) store.old).accounts l ls))
-        ≡ (result, call_of (λ b. seen (b.vtable, b.value)) store.new locks.new chain.new p) }
-    ensures placed { IsPlaced (λ b. seen (b.vtable, b.value)) store.new locks.new p chain.new.levels chain.new.undo }
-    ensures inside { (images : ImageTable) → AreInside images (objects_of (λ b. seen (b.vtable, b.value)) store.old).accounts p (level ∷ chain.old.levels) → AreInside images (objects_of (λ b. seen (b.vtable, b.value)) store.new).accounts p chain.new.levels }
-    ensures loaded { (images : ImageTable) → ImagesAreLoaded images (objects_of (λ b. seen (b.vtable, b.value)) store.old).accounts → ImagesAreLoaded images (objects_of (λ b. seen (b.vtable, b.value)) store.new).accounts }
+    requires undoable { CanBeUndone inverse_is (objects_of store.old).things }
+    ensures step { let l = level_of store.old locks.old chain.old p level in
+        let ls = outer_of store.old locks.old chain.old p in
+        came (after_change (world_of_store store.old) (objects_of store.old) l ls l.machine id result_is inverse_is
+        (things_after (accessed_by id (slice_index level.machine.regs 0)
+        (slice_index level.machine.regs 1) (slice_index level.machine.regs 2) level.owner
+        (objects_of store.old).things) (objects_of store.old).things)
+        (is_record_spent (objects_of store.old).accounts l ls))
+        ≡ (result, call_of store.new locks.new chain.new p) }
+    ensures placed { IsPlaced store.new locks.new p chain.new.levels chain.new.undo }
+    ensures inside { (images : ImageTable) →
+        AreInside images (objects_of store.old).accounts p (level ∷ chain.old.levels) →
+        AreInside images (objects_of store.new).accounts p chain.new.levels }
+    ensures loaded { (images : ImageTable) →
+        ImagesAreLoaded images (objects_of store.old).accounts →
+        ImagesAreLoaded images (objects_of store.new).accounts }
     ensures elsewhere { IsElsewhereSame store.old store.new locks.old locks.new p }
 {
     if !charge_record(&chain.undo, &mut store.accounts, level.owner, level.point) {
@@ -148,28 +168,34 @@ fn change(
 }
 
 /// What a plain accessor comes to that isn't refused by its arguments.
-pub(crate) fn access(
+pub(crate) fn access<B: Policy>(
     id: u32,
     need: Accessed,
     level: GraftLevel,
     chain: &mut Chain,
     p: u8,
-    store: &mut Store,
+    store: &mut Store<B>,
     locks: &mut LockTable,
 ) -> Micro
-    requires placed { IsPlaced (λ b. seen (b.vtable, b.value)) store.old locks.old p (level ∷ chain.old.levels) chain.old.undo }
+    requires placed { IsPlaced store.old locks.old p (level ∷ chain.old.levels) chain.old.undo }
     requires object { need.object ≡ (accessed id (slice_index level.machine.regs 0) level.owner).object }
     requires mode { need.mode ≡ (accessed id (slice_index level.machine.regs 0) level.owner).mode }
     requires range { IsInRange need.object }
     requires plain { id ≤ 12 }
-    requires early { early_refusal 15 id (slice_index level.machine.regs 0) (slice_index level.machine.regs 1) level.owner ≡ None }
-    ensures step { let l = level_of (λ b. seen (b.vtable, b.value)) store.old locks.old chain.old p level in let ls = outer_of (λ b. seen (b.vtable, b.value)) store.old locks.old chain.old p in
-        came (after_accessor (world_of_store store.old) (objects_of (λ b. seen (b.vtable, b.value)) store.old) l ls l.machine id
-        (accessed_by id (l.machine.regs 0) (l.machine.regs 1) (l.machine.regs 2) l.owner (objects_of (λ b. seen (b.vtable, b.value)) store.old).things))
-        ≡ (result, call_of (λ b. seen (b.vtable, b.value)) store.new locks.new chain.new p) }
-    ensures placed { IsPlaced (λ b. seen (b.vtable, b.value)) store.new locks.new p chain.new.levels chain.new.undo }
-    ensures inside { (images : ImageTable) → AreInside images (objects_of (λ b. seen (b.vtable, b.value)) store.old).accounts p (level ∷ chain.old.levels) → AreInside images (objects_of (λ b. seen (b.vtable, b.value)) store.new).accounts p chain.new.levels }
-    ensures loaded { (images : ImageTable) → ImagesAreLoaded images (objects_of (λ b. seen (b.vtable, b.value)) store.old).accounts → ImagesAreLoaded images (objects_of (λ b. seen (b.vtable, b.value)) store.new).accounts }
+    requires early { early_refusal 15 id (slice_index level.machine.regs 0)
+        (slice_index level.machine.regs 1) level.owner ≡ None }
+    ensures step { let l = level_of store.old locks.old chain.old p level in
+        let ls = outer_of store.old locks.old chain.old p in
+        came (after_accessor (world_of_store store.old) (objects_of store.old) l ls l.machine id
+        (accessed_by id (l.machine.regs 0) (l.machine.regs 1) (l.machine.regs 2) l.owner (objects_of store.old).things))
+        ≡ (result, call_of store.new locks.new chain.new p) }
+    ensures placed { IsPlaced store.new locks.new p chain.new.levels chain.new.undo }
+    ensures inside { (images : ImageTable) →
+        AreInside images (objects_of store.old).accounts p (level ∷ chain.old.levels) →
+        AreInside images (objects_of store.new).accounts p chain.new.levels }
+    ensures loaded { (images : ImageTable) →
+        ImagesAreLoaded images (objects_of store.old).accounts →
+        ImagesAreLoaded images (objects_of store.new).accounts }
     ensures elsewhere { IsElsewhereSame store.old store.new locks.old locks.new p }
 {
     match store.answer(id, arguments(&level.machine), level.owner) {

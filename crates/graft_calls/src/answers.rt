@@ -19,15 +19,19 @@ use graft_machine::Machine;
 
 /// The first three registers.
 pub(crate) fn arguments(machine: &Machine) -> [u32; 3]
-    ensures { result ≡ slice_index machine.now.regs 0 ∷ slice_index machine.now.regs 1 ∷ slice_index machine.now.regs 2 ∷ [] }
+    ensures { result ≡ slice_index machine.now.regs 0 ∷ slice_index machine.now.regs 1
+        ∷ slice_index machine.now.regs 2 ∷ [] }
 {
     [machine.reg(0), machine.reg(1), machine.reg(2)]
 }
 
 /// An answer of point pt goes to registers: r0, and for reading ahead r1 too.
 pub(crate) fn answer(machine: &mut Machine, pt: u8, r0: u32, r1: u32)
-    ensures machine { (ram : List ℕ) → machine_of machine.new ram ≡ answered (kind_of pt) r0 r1 (machine_of machine.old ram) }
-    ensures inside { (code : List Instr) (slot : ℕ) (ram : List ℕ) → IsInside code slot (machine_of machine.old ram) → IsInside code slot (machine_of machine.new ram) }
+    ensures machine { (ram : List ℕ) →
+        machine_of machine.new ram ≡ answered (kind_of pt) r0 r1 (machine_of machine.old ram) }
+    ensures inside { (code : List Instr) (slot : ℕ) (ram : List ℕ) →
+        IsInside code slot (machine_of machine.old ram) →
+        IsInside code slot (machine_of machine.new ram) }
 {
     machine.set_reg(0, r0);
     if pt < 4 {
@@ -42,7 +46,8 @@ pub(crate) fn give_answer(levels: &mut Levels, pt: u8, r0: u32, r1: u32)
         levels_in p ram t levels.new log w ≡ answer_innermost pt r0 r1 (levels_in p ram t levels.old log w) }
     ensures count { length levels.new ≡ length levels.old }
     ensures sound { (queue : List Waiting) → AreSound queue levels.old → AreSound queue levels.new }
-    ensures inside { (images : ImageTable) (a : Accounts) (p : ℕ) → AreInside images a p levels.old → AreInside images a p levels.new }
+    ensures inside { (images : ImageTable) (a : Accounts) (p : ℕ) →
+        AreInside images a p levels.old → AreInside images a p levels.new }
 {
     if let Some(mut level) = levels.pop() {
         answer(&mut level.machine, pt, r0, r1);

@@ -12,7 +12,7 @@ ghost use Rattle.kernel_model.specs.Locks.{LockTable as Table, with_touch};
 ghost use Rattle.kernel_model.specs.Objects.{Things};
 ghost use Rattle.kernel_model.specs.Policies.{kind_of, lives};
 ghost use Rattle.graft_accounts.specs.Table.{accounts_of};
-ghost use Rattle.kernel_state.specs.Stores.{world_of_store, objects_of, queue_of, IsStore};
+ghost use Rattle.kernel_state.specs.Stores.{world_of_store, objects_of, queue_of};
 ghost use Rattle.lock_table.specs.Masks.{held};
 ghost use Rattle.graft_loader.specs.Slots.{table_of};
 ghost use Rattle.graft_calls.specs.Chains.{came, call_of, level_of, outer_of, levels_in, levels_of, is_running_in};
@@ -27,6 +27,7 @@ use crate::{Chain, GraftLevel, Levels};
 use accessor_list::ids;
 use graft_accounts::Accounts;
 use graft_loader::Images;
+use graft_points::Policy;
 use kernel_model::{Cause, Micro, Mode, Need, Object, Point};
 use kernel_state::Store;
 use lock_table::LockTable;
@@ -73,10 +74,9 @@ pub(crate) fn asked_needs(id: u32, r0: u32, q: u8) -> [Need; 2]
 }
 
 /// Whether a point can't be asked, as the values show: its file isn't open, or process q has no frame.
-fn is_vain(store: &Store, q: u8, pt: u8) -> bool
-    requires sound { IsStore (λ b. seen (b.vtable, b.value)) store.now }
+fn is_vain<B: Policy>(store: &Store<B>, q: u8, pt: u8) -> bool
     requires lives { lives (queue_of store.now) q ≡ true }
-    ensures { result ≡ is_vain_ask (kind_of pt) (objects_of (λ b. seen (b.vtable, b.value)) store.now).things q pt }
+    ensures { result ≡ is_vain_ask (kind_of pt) (objects_of store.now).things q pt }
 {
     match pt {
         0..=3 => store.file(q, pt).is_none(),
@@ -102,16 +102,23 @@ fn is_too_deep(levels: &Levels, accounts: &Accounts, q: u8, pt: u8) -> bool
 }
 
 /// Why an ask of point pt is refused by the values, if it is; the asking level was taken from the others.
-fn ask_refusal(id: u32, pt: u8, level: &GraftLevel, levels: &Levels, store: &Store) -> Option<Cause>
-    requires sound { IsStore (λ b. seen (b.vtable, b.value)) store.now }
+fn ask_refusal<B: Policy>(
+    id: u32,
+    pt: u8,
+    level: &GraftLevel,
+    levels: &Levels,
+    store: &Store<B>,
+) -> Option<Cause>
     requires lives { lives (queue_of store.now) level.now.owner ≡ true }
     requires owner { level.now.owner < 16 }
     requires point { pt < 16 }
     requires few { length levels.now < 4 }
     ensures value { (p : ℕ) (ram : List ℕ) (t : Table) (log : List (List Undoing)) (w : Things) →
-        result ≡ refusal_of_ask (objects_of (λ b. seen (b.vtable, b.value)) store.now) level.now.owner pt id (levels_in p ram t (level.now ∷ levels.now) log w) }
+        result ≡ refusal_of_ask (objects_of store.now) level.now.owner pt id
+        (levels_in p ram t (level.now ∷ levels.now) log w) }
     ensures free { result ≡ None → is_running_in (level.now ∷ levels.now) level.now.owner pt ≡ false }
-    ensures room { result ≡ None → (objects_of (λ b. seen (b.vtable, b.value)) store.now).accounts.graft level.now.owner pt ≢ None → length levels.now < 3 }
+    ensures room { result ≡ None → (objects_of store.now).accounts.graft level.now.owner pt ≢ None →
+        length levels.now < 3 }
 {
     if is_vain(store, level.owner, pt) {
         return Some(Cause::BadArgument(id));
@@ -131,7 +138,8 @@ fn touch_asked(id: u32, r0: u32, q: u8, p: u8, d: u8, locks: &mut LockTable)
     requires process { p < 16 }
     requires depth { d < 4 }
     requires descriptor { id ≡ 13 → r0 < 4 }
-    ensures { held locks.new ≡ with_touch p 0 (Graft q (point_asked id r0)) Exclusive (needs_touched p d (asked_objects id r0 q) (held locks.old)) }
+    ensures { held locks.new ≡ with_touch p 0 (Graft q (point_asked id r0)) Exclusive
+        (needs_touched p d (asked_objects id r0 q) (held locks.old)) }
 {
     touch_needs(&asked_needs(id, r0, q), p, d, locks);
     locks.touch(p, 0, Object::Graft(q, asked_point(id, r0)), Mode::Exclusive);
@@ -139,24 +147,26 @@ fn touch_asked(id: u32, r0: u32, q: u8, p: u8, d: u8, locks: &mut LockTable)
 
 /// An ask that isn't refused is answered: a level begins inside the others where a graft stands, else the innermost level gets the
 /// default.
-fn answer_ask(
+fn answer_ask<B: Policy>(
     pt: u8,
     q: u8,
     chain: &mut Chain,
     p: u8,
-    store: &mut Store,
+    store: &mut Store<B>,
     locks: &LockTable,
     images: &Images,
 ) -> Micro
-    requires in_place { IsInPlace (λ b. seen (b.vtable, b.value)) store.old locks.now (table_of images.now) p chain.old.levels chain.old.undo }
+    requires in_place { IsInPlace store.old locks.now (table_of images.now) p chain.old.levels chain.old.undo }
     requires owner { q < 16 }
     requires point { pt < 16 }
     requires lives { lives (queue_of store.old) q ≡ true }
     requires free { is_running_in chain.old.levels q pt ≡ false }
-    requires room { (objects_of (λ b. seen (b.vtable, b.value)) store.old).accounts.graft q pt ≢ None → length chain.old.levels < 4 }
-    ensures step { came (ask_answered (world_of_store store.old) (table_of images.now) (objects_of (λ b. seen (b.vtable, b.value)) store.old) p q pt (levels_of (λ b. seen (b.vtable, b.value)) store.old locks.now chain.old p) ((objects_of (λ b. seen (b.vtable, b.value)) store.old).accounts.graft q pt))
-        ≡ (result, call_of (λ b. seen (b.vtable, b.value)) store.new locks.now chain.new p) }
-    ensures in_place { IsInPlace (λ b. seen (b.vtable, b.value)) store.new locks.now (table_of images.now) p chain.new.levels chain.new.undo }
+    requires room { (objects_of store.old).accounts.graft q pt ≢ None → length chain.old.levels < 4 }
+    ensures step { came (ask_answered (world_of_store store.old) (table_of images.now)
+        (objects_of store.old) p q pt (levels_of store.old locks.now chain.old p)
+        ((objects_of store.old).accounts.graft q pt))
+        ≡ (result, call_of store.new locks.now chain.new p) }
+    ensures in_place { IsInPlace store.new locks.now (table_of images.now) p chain.new.levels chain.new.undo }
     ensures elsewhere { IsElsewhereSame store.old store.new locks.now locks.now p }
 {
     if store.accounts.graft(q, pt).is_none() {
@@ -176,22 +186,27 @@ fn answer_ask(
 }
 
 /// What an ask comes to that isn't refused by its arguments.
-pub(crate) fn ask(
+pub(crate) fn ask<B: Policy>(
     id: u32,
     level: GraftLevel,
     chain: &mut Chain,
     p: u8,
-    store: &mut Store,
+    store: &mut Store<B>,
     locks: &mut LockTable,
     images: &Images,
 ) -> Micro
-    requires in_place { IsInPlace (λ b. seen (b.vtable, b.value)) store.old locks.old (table_of images.now) p (level ∷ chain.old.levels) chain.old.undo }
-    requires early { early_refusal 15 id (slice_index level.machine.regs 0) (slice_index level.machine.regs 1) level.owner ≡ None }
-    ensures step { let l = level_of (λ b. seen (b.vtable, b.value)) store.old locks.old chain.old p level in let ls = outer_of (λ b. seen (b.vtable, b.value)) store.old locks.old chain.old p in
+    requires in_place { IsInPlace store.old locks.old (table_of images.now) p
+        (level ∷ chain.old.levels) chain.old.undo }
+    requires early { early_refusal 15 id (slice_index level.machine.regs 0)
+        (slice_index level.machine.regs 1) level.owner ≡ None }
+    ensures step { let l = level_of store.old locks.old chain.old p level in
+        let ls = outer_of store.old locks.old chain.old p in
         let pt = point_asked id (l.machine.regs 0) in
-        came (after_ask (world_of_store store.old) (table_of images.now) (objects_of (λ b. seen (b.vtable, b.value)) store.old) p l ls l.machine id pt (refusal_of_ask (objects_of (λ b. seen (b.vtable, b.value)) store.old) l.owner pt id (l ∷ ls)))
-        ≡ (result, call_of (λ b. seen (b.vtable, b.value)) store.new locks.new chain.new p) }
-    ensures in_place { IsInPlace (λ b. seen (b.vtable, b.value)) store.new locks.new (table_of images.now) p chain.new.levels chain.new.undo }
+        came (after_ask (world_of_store store.old) (table_of images.now)
+        (objects_of store.old) p l ls l.machine id pt
+        (refusal_of_ask (objects_of store.old) l.owner pt id (l ∷ ls)))
+        ≡ (result, call_of store.new locks.new chain.new p) }
+    ensures in_place { IsInPlace store.new locks.new (table_of images.now) p chain.new.levels chain.new.undo }
     ensures elsewhere { IsElsewhereSame store.old store.new locks.old locks.new p }
 {
     let q = level.owner;

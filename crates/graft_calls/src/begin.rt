@@ -9,7 +9,7 @@ ghost use Rattle.kernel_model.specs.Locks.{LockTable as Table};
 ghost use Rattle.kernel_model.specs.Policies.{lives};
 ghost use Rattle.kernel_model.specs.Sound.{ImagesAreLoaded};
 ghost use Rattle.kernel_model.specs.World.{ImageTable};
-ghost use Rattle.kernel_state.specs.Stores.{world_of_store, objects_of, queue_of, IsStore};
+ghost use Rattle.kernel_state.specs.Stores.{world_of_store, objects_of, queue_of};
 ghost use Rattle.lock_table.specs.Masks.{held};
 ghost use Rattle.graft_loader.specs.Slots.{table_of};
 ghost use Rattle.graft_calls.specs.Chains.{call_of, levels_in, is_running_in};
@@ -20,6 +20,7 @@ use crate::segments::{base_of, fill};
 use crate::{Chain, GraftLevel};
 use graft_loader::{Images, Loaded};
 use graft_machine::Machine;
+use graft_points::Policy;
 use kernel_model::{Need, Point};
 use kernel_state::Store;
 use lock_table::LockTable;
@@ -37,21 +38,31 @@ pub(crate) fn touch_needs(needs: &[Need], p: u8, d: u8, locks: &mut LockTable)
 }
 
 /// A new innermost level begins on this image, which is that of the graft at the asked point.
-pub(crate) fn begin_level(chain: &mut Chain, p: u8, store: &mut Store, image: &Loaded, at: &Point)
+pub(crate) fn begin_level<B: Policy>(
+    chain: &mut Chain,
+    p: u8,
+    store: &mut Store<B>,
+    image: &Loaded,
+    at: &Point,
+)
     requires process { p < 16 }
     requires few { length chain.old.levels < 4 }
     requires as_many { length chain.old.undo ≡ length chain.old.levels }
-    requires sound { IsStore (λ b. seen (b.vtable, b.value)) store.old }
-    ensures levels { (images : ImageTable) (t : Table) → let s = objects_of (λ b. seen (b.vtable, b.value)) store.old in image_of images (s.accounts.graft at.now.installer at.now.point) ≡ Some image.now →
+    ensures levels { (images : ImageTable) (t : Table) → let s = objects_of store.old in
+        image_of images (s.accounts.graft at.now.installer at.now.point) ≡ Some image.now →
         levels_in p store.new.ram t chain.new.levels chain.new.undo s.things
-        ≡ new_level images s p (length chain.old.levels) at.now.installer at.now.point at.now.args (t p (length chain.old.levels)) ∷ levels_in p store.old.ram t chain.old.levels chain.old.undo s.things }
-    ensures objects { objects_of (λ b. seen (b.vtable, b.value)) store.new ≡ objects_of (λ b. seen (b.vtable, b.value)) store.old }
-    ensures sound { IsStore (λ b. seen (b.vtable, b.value)) store.new }
+        ≡ new_level images s p (length chain.old.levels) at.now.installer at.now.point at.now.args
+        (t p (length chain.old.levels)) ∷ levels_in p store.old.ram t chain.old.levels
+        chain.old.undo s.things }
+    ensures objects { objects_of store.new ≡ objects_of store.old }
     ensures log { chain.new.undo ≡ [] ∷ chain.old.undo }
     ensures count { length chain.new.levels ≡ suc (length chain.old.levels) }
-    ensures levels_sound { AreSound (queue_of store.old) chain.old.levels → at.now.installer < 16 → at.now.point < 16 → lives (queue_of store.old) at.now.installer ≡ true →
-        is_running_in chain.old.levels at.now.installer at.now.point ≡ false → AreSound (queue_of store.new) chain.new.levels }
-    ensures inside { (images : ImageTable) → let a = (objects_of (λ b. seen (b.vtable, b.value)) store.old).accounts in image_of images (a.graft at.now.installer at.now.point) ≡ Some image.now →
+    ensures levels_sound { AreSound (queue_of store.old) chain.old.levels → at.now.installer < 16 →
+        at.now.point < 16 → lives (queue_of store.old) at.now.installer ≡ true →
+        is_running_in chain.old.levels at.now.installer at.now.point ≡ false →
+        AreSound (queue_of store.new) chain.new.levels }
+    ensures inside { (images : ImageTable) → let a = (objects_of store.old).accounts in
+        image_of images (a.graft at.now.installer at.now.point) ≡ Some image.now →
         AreInside images a p chain.old.levels → AreInside images a p chain.new.levels }
     ensures elsewhere { (t : _) → IsElsewhereSame store.old store.new t t p }
 {
@@ -72,25 +83,26 @@ pub(crate) fn begin_level(chain: &mut Chain, p: u8, store: &mut Store, image: &L
 impl Chain {
     /// The graft call of a process begins, where a piece asks a point at which a graft stands: level 0 holds what the piece
     /// needs. The process holds nothing before.
-    pub fn begin(
+    pub fn begin<B: Policy>(
         &mut self,
         p: u8,
-        store: &mut Store,
+        store: &mut Store<B>,
         locks: &mut LockTable,
         images: &Images,
         needs: &[Need],
         at: &Point,
     )
         requires none { self.old.levels ≡ [] }
-        requires placed { IsPlaced (λ b. seen (b.vtable, b.value)) store.old locks.old p self.old.levels self.old.undo }
+        requires placed { IsPlaced store.old locks.old p self.old.levels self.old.undo }
         requires owner { at.now.installer < 16 }
         requires point { at.now.point < 16 }
         requires lives { lives (queue_of store.old) at.now.installer ≡ true }
-        requires stands { is_some ((objects_of (λ b. seen (b.vtable, b.value)) store.old).accounts.graft at.now.installer at.now.point) ≡ true }
-        requires loaded { ImagesAreLoaded (table_of images.now) (objects_of (λ b. seen (b.vtable, b.value)) store.old).accounts }
+        requires stands { is_some ((objects_of store.old).accounts.graft at.now.installer at.now.point) ≡ true }
+        requires loaded { ImagesAreLoaded (table_of images.now) (objects_of store.old).accounts }
         requires range { All (λ (n : Needed). IsInRange n.object) needs.now }
-        ensures value { call_of (λ b. seen (b.vtable, b.value)) store.new locks.new self.new p ≡ begin_at (table_of images.now) (objects_of (λ b. seen (b.vtable, b.value)) store.old) p needs.now at.now }
-        ensures in_place { IsInPlace (λ b. seen (b.vtable, b.value)) store.new locks.new (table_of images.now) p self.new.levels self.new.undo }
+        ensures value { call_of store.new locks.new self.new p
+            ≡ begin_at (table_of images.now) (objects_of store.old) p needs.now at.now }
+        ensures in_place { IsInPlace store.new locks.new (table_of images.now) p self.new.levels self.new.undo }
         ensures elsewhere { IsElsewhereSame store.old store.new locks.old locks.new p }
     {
         let image = image_at(images, &store.accounts, at.installer, at.point);

@@ -18,10 +18,13 @@ pub(crate) fn charge_step(level: &mut GraftLevel, accounts: &mut Accounts) -> bo
     requires owner { level.old.owner < 16 }
     requires point { level.old.point < 16 }
     requires count { level.old.count ≤ limit_in ((accounts_of accounts.old).graft level.old.owner level.old.point) }
-    ensures answer { result ≡ not (level.old.count == limit_in ((accounts_of accounts.old).graft level.old.owner level.old.point)
+    ensures answer { result ≡ not (level.old.count == limit_in
+        ((accounts_of accounts.old).graft level.old.owner level.old.point)
         || funds (accounts_of accounts.old) level.old.owner level.old.point Steps == 0) }
     ensures level { level.new ≡ cond result (record level.old { count = level.old.count + 1 }) level.old }
-    ensures accounts { accounts_of accounts.new ≡ cond result (charge Steps level.old.owner level.old.point (accounts_of accounts.old)) (accounts_of accounts.old) }
+    ensures accounts { accounts_of accounts.new
+        ≡ cond result (charge Steps level.old.owner level.old.point (accounts_of accounts.old))
+        (accounts_of accounts.old) }
 {
     if level.count == accounts.limit(level.owner, level.point) {
         return false;
@@ -38,8 +41,10 @@ pub(crate) fn charge_step(level: &mut GraftLevel, accounts: &mut Accounts) -> bo
 pub(crate) fn charge_record(undo: &UndoStack, accounts: &mut Accounts, q: u8, pt: u8) -> bool
     requires owner { q < 16 }
     requires point { pt < 16 }
-    ensures answer { result ≡ not (funds (accounts_of accounts.old) q pt Records == 0 || length (records_of undo.now) == 64) }
-    ensures accounts { accounts_of accounts.new ≡ cond result (charge Records q pt (accounts_of accounts.old)) (accounts_of accounts.old) }
+    ensures answer { result ≡ not (funds (accounts_of accounts.old) q pt Records == 0 || length
+        (records_of undo.now) == 64) }
+    ensures accounts { accounts_of accounts.new
+        ≡ cond result (charge Records q pt (accounts_of accounts.old)) (accounts_of accounts.old) }
 {
     undo.list().len() < RECORDS && accounts.charge(q, pt, Kind::Records)
 }
@@ -49,7 +54,9 @@ pub(crate) fn charge_lock(due: bool, accounts: &mut Accounts, q: u8, pt: u8) -> 
     requires owner { q < 16 }
     requires point { pt < 16 }
     ensures answer { result ≡ not (due && funds (accounts_of accounts.old) q pt Locks == 0) }
-    ensures accounts { accounts_of accounts.new ≡ cond (due && result) (charge Locks q pt (accounts_of accounts.old)) (accounts_of accounts.old) }
+    ensures accounts { accounts_of accounts.new
+        ≡ cond (due && result) (charge Locks q pt (accounts_of accounts.old))
+        (accounts_of accounts.old) }
 {
     !due || accounts.charge(q, pt, Kind::Locks)
 }

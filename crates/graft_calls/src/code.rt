@@ -18,7 +18,8 @@ pub(crate) fn find_image<'a>(
 ) -> Option<&'a Loaded>
     requires owner { q < 16 }
     requires point { pt < 16 }
-    ensures some { IfSome result (λ l. model.image_of (table_of images.now) ((accounts_of accounts.now).graft q pt) ≡ Some l.now) }
+    ensures some { IfSome result (λ l. model.image_of (table_of images.now)
+        ((accounts_of accounts.now).graft q pt) ≡ Some l.now) }
     ensures none { IfNone result (model.image_of (table_of images.now) ((accounts_of accounts.now).graft q pt) ≡ None) }
 {
     match accounts.image(q, pt) {

@@ -8,7 +8,7 @@ ghost use Rattle.kernel_model.specs.Policies.{lives};
 ghost use Rattle.kernel_model.specs.Sound.{ImagesAreLoaded};
 ghost use Rattle.kernel_model.specs.World.{ImageTable};
 ghost use Rattle.kernel_state.specs.Accesses.{CanBeUndone};
-ghost use Rattle.kernel_state.specs.Stores.{world_of_store, objects_of, queue_of, IsStore};
+ghost use Rattle.kernel_state.specs.Stores.{world_of_store, objects_of, queue_of};
 ghost use Rattle.lock_table.specs.Masks.{held};
 ghost use Rattle.undo_calls.specs.UndoLevels.{innermost};
 ghost use Rattle.graft_calls.specs.Chains.{came, call_of, level_of, outer_of, levels_of, outer, put_back_on};
@@ -17,25 +17,25 @@ ghost use Rattle.graft_calls.specs.Calls.{AreSound, AreInside, AreUndoable, AllU
 use crate::answers::give_answer;
 use crate::points::default_of;
 use crate::{Chain, GraftLevel};
+use graft_points::Policy;
 use kernel_model::{Cause, Micro};
 use kernel_state::Store;
 use lock_table::LockTable;
 use undo_calls::UndoStack;
 
 /// Undoes the records of the innermost level, newest first, and takes them out of the log.
-pub(crate) fn undo_records(undo: &mut UndoStack, store: &mut Store)
+pub(crate) fn undo_records<B: Policy>(undo: &mut UndoStack, store: &mut Store<B>)
     requires level { 0 < length undo.old }
-    requires sound { IsStore (λ b. seen (b.vtable, b.value)) store.old }
-    requires undoable { AreUndoable (innermost undo.old) (objects_of (λ b. seen (b.vtable, b.value)) store.old).things }
+    requires undoable { AreUndoable (innermost undo.old) (objects_of store.old).things }
     ensures none { innermost undo.new ≡ [] }
     ensures outer { outer undo.new ≡ outer undo.old }
     ensures level { 0 < length undo.new }
-    ensures objects { objects_of (λ b. seen (b.vtable, b.value)) store.new ≡ put_back_on (innermost undo.old) (objects_of (λ b. seen (b.vtable, b.value)) store.old) }
+    ensures objects { objects_of store.new ≡ put_back_on (innermost undo.old) (objects_of store.old) }
     ensures memory { store.new.ram ≡ store.old.ram }
     ensures world { world_of_store store.new ≡ world_of_store store.old }
     ensures living { (q : ℕ) → lives (queue_of store.new) q ≡ lives (queue_of store.old) q }
-    ensures sound { IsStore (λ b. seen (b.vtable, b.value)) store.new }
-    ensures kept { (i : Undoing) → CanBeUndone i (objects_of (λ b. seen (b.vtable, b.value)) store.old).things → CanBeUndone i (objects_of (λ b. seen (b.vtable, b.value)) store.new).things }
+    ensures kept { (i : Undoing) → CanBeUndone i (objects_of store.old).things →
+        CanBeUndone i (objects_of store.new).things }
 {
     if let Some(inverse) = undo.pop() {
         store.undo(inverse);
@@ -44,36 +44,39 @@ pub(crate) fn undo_records(undo: &mut UndoStack, store: &mut Store)
 }
 
 /// The innermost level of the log ends: its records are undone, newest first.
-pub(crate) fn undo_level(undo: &mut UndoStack, store: &mut Store)
+pub(crate) fn undo_level<B: Policy>(undo: &mut UndoStack, store: &mut Store<B>)
     requires level { 0 < length undo.old }
-    requires sound { IsStore (λ b. seen (b.vtable, b.value)) store.old }
-    requires undoable { AreUndoable (innermost undo.old) (objects_of (λ b. seen (b.vtable, b.value)) store.old).things }
+    requires undoable { AreUndoable (innermost undo.old) (objects_of store.old).things }
     ensures log { undo.new ≡ outer undo.old }
-    ensures objects { objects_of (λ b. seen (b.vtable, b.value)) store.new ≡ put_back_on (innermost undo.old) (objects_of (λ b. seen (b.vtable, b.value)) store.old) }
+    ensures objects { objects_of store.new ≡ put_back_on (innermost undo.old) (objects_of store.old) }
     ensures memory { store.new.ram ≡ store.old.ram }
     ensures world { world_of_store store.new ≡ world_of_store store.old }
     ensures living { (q : ℕ) → lives (queue_of store.new) q ≡ lives (queue_of store.old) q }
-    ensures sound { IsStore (λ b. seen (b.vtable, b.value)) store.new }
-    ensures kept { (i : Undoing) → CanBeUndone i (objects_of (λ b. seen (b.vtable, b.value)) store.old).things → CanBeUndone i (objects_of (λ b. seen (b.vtable, b.value)) store.new).things }
+    ensures kept { (i : Undoing) → CanBeUndone i (objects_of store.old).things →
+        CanBeUndone i (objects_of store.new).things }
 {
     undo_records(undo, store);
     undo.end_level();
 }
 
 /// A level that was taken out of a chain ends: its records are undone, newest first, and it lets go of what it holds.
-pub(crate) fn end_level(chain: &mut Chain, p: u8, store: &mut Store, locks: &mut LockTable)
-    requires store { IsStore (λ b. seen (b.vtable, b.value)) store.old }
+pub(crate) fn end_level<B: Policy>(
+    chain: &mut Chain,
+    p: u8,
+    store: &mut Store<B>,
+    locks: &mut LockTable,
+)
     requires process { p < 16 }
     requires few { length chain.old.levels < 4 }
     requires as_many { length chain.old.undo ≡ suc (length chain.old.levels) }
-    requires undoable { AllUndoable chain.old.undo (objects_of (λ b. seen (b.vtable, b.value)) store.old).things }
+    requires undoable { AllUndoable chain.old.undo (objects_of store.old).things }
     requires sound { AreSound (queue_of store.old) chain.old.levels }
     ensures levels { chain.new.levels ≡ chain.old.levels }
     ensures log { chain.new.undo ≡ outer chain.old.undo }
-    ensures objects { objects_of (λ b. seen (b.vtable, b.value)) store.new ≡ put_back_on (innermost chain.old.undo) (objects_of (λ b. seen (b.vtable, b.value)) store.old) }
+    ensures objects { objects_of store.new ≡ put_back_on (innermost chain.old.undo) (objects_of store.old) }
     ensures locks { held locks.new ≡ release_from p (length chain.old.levels) (held locks.old) }
     ensures memory { store.new.ram ≡ store.old.ram }
-    ensures placed { IsPlaced (λ b. seen (b.vtable, b.value)) store.new locks.new p chain.new.levels chain.new.undo }
+    ensures placed { IsPlaced store.new locks.new p chain.new.levels chain.new.undo }
     ensures elsewhere { IsElsewhereSame store.old store.new locks.old locks.new p }
 {
     undo_level(&mut chain.undo, store);
@@ -82,20 +85,26 @@ pub(crate) fn end_level(chain: &mut Chain, p: u8, store: &mut Store, locks: &mut
 
 /// A level that was taken out of a chain is dropped, and those that were further inward are gone: its records are undone, it lets
 /// go of what it holds, its graft is taken out, and the level that asked gets the default answer.
-pub(crate) fn drop_innermost(
+pub(crate) fn drop_innermost<B: Policy>(
     level: GraftLevel,
     chain: &mut Chain,
     p: u8,
-    store: &mut Store,
+    store: &mut Store<B>,
     locks: &mut LockTable,
     cause: Cause,
 ) -> Micro
-    requires placed { IsPlaced (λ b. seen (b.vtable, b.value)) store.old locks.old p (level ∷ chain.old.levels) chain.old.undo }
-    ensures step { came (innermost_dropped (world_of_store store.old) (objects_of (λ b. seen (b.vtable, b.value)) store.old) (level_of (λ b. seen (b.vtable, b.value)) store.old locks.old chain.old p level) (outer_of (λ b. seen (b.vtable, b.value)) store.old locks.old chain.old p) cause)
-        ≡ (result, call_of (λ b. seen (b.vtable, b.value)) store.new locks.new chain.new p) }
-    ensures placed { IsPlaced (λ b. seen (b.vtable, b.value)) store.new locks.new p chain.new.levels chain.new.undo }
-    ensures inside { (images : ImageTable) → AreInside images (objects_of (λ b. seen (b.vtable, b.value)) store.old).accounts p (level ∷ chain.old.levels) → AreInside images (objects_of (λ b. seen (b.vtable, b.value)) store.new).accounts p chain.new.levels }
-    ensures loaded { (images : ImageTable) → ImagesAreLoaded images (objects_of (λ b. seen (b.vtable, b.value)) store.old).accounts → ImagesAreLoaded images (objects_of (λ b. seen (b.vtable, b.value)) store.new).accounts }
+    requires placed { IsPlaced store.old locks.old p (level ∷ chain.old.levels) chain.old.undo }
+    ensures step { came (innermost_dropped (world_of_store store.old) (objects_of store.old)
+        (level_of store.old locks.old chain.old p level)
+        (outer_of store.old locks.old chain.old p) cause)
+        ≡ (result, call_of store.new locks.new chain.new p) }
+    ensures placed { IsPlaced store.new locks.new p chain.new.levels chain.new.undo }
+    ensures inside { (images : ImageTable) →
+        AreInside images (objects_of store.old).accounts p (level ∷ chain.old.levels) →
+        AreInside images (objects_of store.new).accounts p chain.new.levels }
+    ensures loaded { (images : ImageTable) →
+        ImagesAreLoaded images (objects_of store.old).accounts →
+        ImagesAreLoaded images (objects_of store.new).accounts }
     ensures elsewhere { IsElsewhereSame store.old store.new locks.old locks.new p }
 {
     end_level(chain, p, store, locks);
@@ -107,21 +116,26 @@ pub(crate) fn drop_innermost(
 
 impl Chain {
     /// The drop of level d, counted from the outermost, by this cause: those further inward end with it.
-    pub fn drop_level(
+    pub fn drop_level<B: Policy>(
         &mut self,
         p: u8,
-        store: &mut Store,
+        store: &mut Store<B>,
         locks: &mut LockTable,
         d: u8,
         cause: Cause,
     ) -> Micro
-        requires placed { IsPlaced (λ b. seen (b.vtable, b.value)) store.old locks.old p self.old.levels self.old.undo }
+        requires placed { IsPlaced store.old locks.old p self.old.levels self.old.undo }
         requires level { d < length self.old.levels }
-        ensures step { came (level_dropped (world_of_store store.old) (objects_of (λ b. seen (b.vtable, b.value)) store.old) (levels_of (λ b. seen (b.vtable, b.value)) store.old locks.old self.old p) d cause)
-            ≡ (result, call_of (λ b. seen (b.vtable, b.value)) store.new locks.new self.new p) }
-        ensures placed { IsPlaced (λ b. seen (b.vtable, b.value)) store.new locks.new p self.new.levels self.new.undo }
-        ensures inside { (images : ImageTable) → AreInside images (objects_of (λ b. seen (b.vtable, b.value)) store.old).accounts p self.old.levels → AreInside images (objects_of (λ b. seen (b.vtable, b.value)) store.new).accounts p self.new.levels }
-        ensures loaded { (images : ImageTable) → ImagesAreLoaded images (objects_of (λ b. seen (b.vtable, b.value)) store.old).accounts → ImagesAreLoaded images (objects_of (λ b. seen (b.vtable, b.value)) store.new).accounts }
+        ensures step { came (level_dropped (world_of_store store.old) (objects_of store.old)
+            (levels_of store.old locks.old self.old p) d cause)
+            ≡ (result, call_of store.new locks.new self.new p) }
+        ensures placed { IsPlaced store.new locks.new p self.new.levels self.new.undo }
+        ensures inside { (images : ImageTable) →
+            AreInside images (objects_of store.old).accounts p self.old.levels →
+            AreInside images (objects_of store.new).accounts p self.new.levels }
+        ensures loaded { (images : ImageTable) →
+            ImagesAreLoaded images (objects_of store.old).accounts →
+            ImagesAreLoaded images (objects_of store.new).accounts }
         ensures elsewhere { IsElsewhereSame store.old store.new locks.old locks.new p }
     {
         let Some(level) = self.levels.pop() else {

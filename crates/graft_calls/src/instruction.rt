@@ -20,26 +20,29 @@ use crate::{Chain, GraftLevel};
 use accessor_list::early;
 use graft_loader::Images;
 use graft_machine::{Outcome, laws};
+use graft_points::Policy;
 use kernel_model::{Cause, LAST_CALLABLE, Micro};
 use kernel_state::Store;
 use lock_table::LockTable;
 
 /// What a call comes to. The machine is behind it.
-fn call(
+fn call<B: Policy>(
     id: u32,
     level: GraftLevel,
     chain: &mut Chain,
     p: u8,
-    store: &mut Store,
+    store: &mut Store<B>,
     locks: &mut LockTable,
     images: &Images,
 ) -> Micro
-    requires in_place { IsInPlace (λ b. seen (b.vtable, b.value)) store.old locks.old (table_of images.now) p (level ∷ chain.old.levels) chain.old.undo }
-    ensures step { let l = level_of (λ b. seen (b.vtable, b.value)) store.old locks.old chain.old p level in
-        came (after_call (world_of_store store.old) (table_of images.now) (objects_of (λ b. seen (b.vtable, b.value)) store.old) p l (outer_of (λ b. seen (b.vtable, b.value)) store.old locks.old chain.old p) l.machine id
+    requires in_place { IsInPlace store.old locks.old (table_of images.now) p
+        (level ∷ chain.old.levels) chain.old.undo }
+    ensures step { let l = level_of store.old locks.old chain.old p level in
+        came (after_call (world_of_store store.old) (table_of images.now) (objects_of store.old) p l
+        (outer_of store.old locks.old chain.old p) l.machine id
         (early_refusal (world_of_store store.old).callable id (l.machine.regs 0) (l.machine.regs 1) l.owner))
-        ≡ (result, call_of (λ b. seen (b.vtable, b.value)) store.new locks.new chain.new p) }
-    ensures in_place { IsInPlace (λ b. seen (b.vtable, b.value)) store.new locks.new (table_of images.now) p chain.new.levels chain.new.undo }
+        ≡ (result, call_of store.new locks.new chain.new p) }
+    ensures in_place { IsInPlace store.new locks.new (table_of images.now) p chain.new.levels chain.new.undo }
     ensures elsewhere { IsElsewhereSame store.old store.new locks.old locks.new p }
 {
     if id > LAST_CALLABLE {
@@ -56,20 +59,22 @@ fn call(
 }
 
 /// What follows from what the machine of a level did, which was taken out of the chain.
-fn after_machine(
+fn after_machine<B: Policy>(
     done: Outcome,
     level: GraftLevel,
     chain: &mut Chain,
     p: u8,
-    store: &mut Store,
+    store: &mut Store<B>,
     locks: &mut LockTable,
     images: &Images,
 ) -> Micro
-    requires in_place { IsInPlace (λ b. seen (b.vtable, b.value)) store.old locks.old (table_of images.now) p (level ∷ chain.old.levels) chain.old.undo }
-    ensures step { let l = level_of (λ b. seen (b.vtable, b.value)) store.old locks.old chain.old p level in
-        came (after_step (world_of_store store.old) (table_of images.now) p (objects_of (λ b. seen (b.vtable, b.value)) store.old) l (outer_of (λ b. seen (b.vtable, b.value)) store.old locks.old chain.old p) (done_of done l.machine))
-        ≡ (result, call_of (λ b. seen (b.vtable, b.value)) store.new locks.new chain.new p) }
-    ensures in_place { IsInPlace (λ b. seen (b.vtable, b.value)) store.new locks.new (table_of images.now) p chain.new.levels chain.new.undo }
+    requires in_place { IsInPlace store.old locks.old (table_of images.now) p
+        (level ∷ chain.old.levels) chain.old.undo }
+    ensures step { let l = level_of store.old locks.old chain.old p level in
+        came (after_step (world_of_store store.old) (table_of images.now) p (objects_of store.old) l
+        (outer_of store.old locks.old chain.old p) (done_of done l.machine))
+        ≡ (result, call_of store.new locks.new chain.new p) }
+    ensures in_place { IsInPlace store.new locks.new (table_of images.now) p chain.new.levels chain.new.undo }
     ensures elsewhere { IsElsewhereSame store.old store.new locks.old locks.new p }
 {
     match done {
@@ -90,18 +95,21 @@ fn after_machine(
 
 /// One instruction of a level that was taken out of the chain: it is charged and done, or the level is dropped where no step is
 /// left.
-fn run(
+fn run<B: Policy>(
     level: GraftLevel,
     chain: &mut Chain,
     p: u8,
-    store: &mut Store,
+    store: &mut Store<B>,
     locks: &mut LockTable,
     images: &Images,
 ) -> Micro
-    requires in_place { IsInPlace (λ b. seen (b.vtable, b.value)) store.old locks.old (table_of images.now) p (level ∷ chain.old.levels) chain.old.undo }
-    ensures step { came (micro_on (world_of_store store.old) (table_of images.now) p (objects_of (λ b. seen (b.vtable, b.value)) store.old) (level_of (λ b. seen (b.vtable, b.value)) store.old locks.old chain.old p level ∷ outer_of (λ b. seen (b.vtable, b.value)) store.old locks.old chain.old p))
-        ≡ (result, call_of (λ b. seen (b.vtable, b.value)) store.new locks.new chain.new p) }
-    ensures in_place { IsInPlace (λ b. seen (b.vtable, b.value)) store.new locks.new (table_of images.now) p chain.new.levels chain.new.undo }
+    requires in_place { IsInPlace store.old locks.old (table_of images.now) p
+        (level ∷ chain.old.levels) chain.old.undo }
+    ensures step { came (micro_on (world_of_store store.old) (table_of images.now) p
+        (objects_of store.old) (level_of store.old locks.old chain.old p level
+        ∷ outer_of store.old locks.old chain.old p))
+        ≡ (result, call_of store.new locks.new chain.new p) }
+    ensures in_place { IsInPlace store.new locks.new (table_of images.now) p chain.new.levels chain.new.undo }
     ensures elsewhere { IsElsewhereSame store.old store.new locks.old locks.new p }
 {
     let mut level = level;
@@ -121,16 +129,18 @@ fn run(
 impl Chain {
     /// One instruction of the innermost level, whatever another call holds. `Completed` has the answer of level 0, and then no
     /// level is left; `Dropped` has the number of the level that was dropped, its graft and the cause. `Blocked` isn't answered.
-    pub fn instruction(
+    pub fn instruction<B: Policy>(
         &mut self,
         p: u8,
-        store: &mut Store,
+        store: &mut Store<B>,
         locks: &mut LockTable,
         images: &Images,
     ) -> Micro
-        requires in_place { IsInPlace (λ b. seen (b.vtable, b.value)) store.old locks.old (table_of images.now) p self.old.levels self.old.undo }
-        ensures step { came (micro (world_of_store store.old) (table_of images.now) p (call_of (λ b. seen (b.vtable, b.value)) store.old locks.old self.old p)) ≡ (result, call_of (λ b. seen (b.vtable, b.value)) store.new locks.new self.new p) }
-        ensures in_place { IsInPlace (λ b. seen (b.vtable, b.value)) store.new locks.new (table_of images.now) p self.new.levels self.new.undo }
+        requires in_place { IsInPlace store.old locks.old (table_of images.now) p self.old.levels self.old.undo }
+        ensures step { came (micro (world_of_store store.old) (table_of images.now) p
+            (call_of store.old locks.old self.old p))
+            ≡ (result, call_of store.new locks.new self.new p) }
+        ensures in_place { IsInPlace store.new locks.new (table_of images.now) p self.new.levels self.new.undo }
         ensures elsewhere { IsElsewhereSame store.old store.new locks.old locks.new p }
     {
         match self.levels.pop() {

@@ -28,6 +28,7 @@ use crate::{Chain, GraftLevel};
 use accessor_list::{early, ids};
 use graft_accounts::Accounts;
 use graft_loader::Images;
+use graft_points::Policy;
 use kernel_model::{Kind, LAST_CALLABLE, Mode, Need, Object};
 use kernel_state::Store;
 use std::marker::Model;
@@ -103,7 +104,8 @@ impl Needs {
 /// What a call of an id needs: nothing where it is refused by its arguments.
 fn call_needs(id: u32, level: &GraftLevel) -> Needs
     requires { level.now.owner < 16 }
-    ensures value { (v : World) (p d : ℕ) (ram : List ℕ) (t : Table) (is : List Undoing) (w : Things) → v.callable ≡ LAST_CALLABLE →
+    ensures value { (v : World) (p d : ℕ) (ram : List ℕ) (t : Table) (is : List Undoing)
+        (w : Things) → v.callable ≡ LAST_CALLABLE →
         let l = level_in p d ram t level.now is w in
         result ≡ needs_of_call v l id (early_refusal v.callable id (l.machine.regs 0) (l.machine.regs 1) l.owner) }
     ensures range { All (λ (n : Needed). IsInRange n.object) result }
@@ -143,7 +145,8 @@ fn ask_needs(id: u32, r0: u32, q: u8) -> Needs
 fn is_spent(level: &GraftLevel, accounts: &Accounts) -> bool
     requires owner { level.now.owner < 16 }
     requires point { level.now.point < 16 }
-    ensures { result ≡ (level.now.count == model.limit_in ((accounts_of accounts.now).graft level.now.owner level.now.point)
+    ensures { result ≡ (level.now.count == model.limit_in
+        ((accounts_of accounts.now).graft level.now.owner level.now.point)
         || funds (accounts_of accounts.now) level.now.owner level.now.point Steps == 0) }
 {
     level.count == accounts.limit(level.owner, level.point)
@@ -154,7 +157,10 @@ fn is_spent(level: &GraftLevel, accounts: &Accounts) -> bool
 fn next_call(level: &GraftLevel, accounts: &Accounts, images: &Images) -> Option<u32>
     requires owner { level.now.owner < 16 }
     requires point { level.now.point < 16 }
-    ensures { (ram : List ℕ) → result ≡ machines.next_call (model.code_of (table_of images.now) (accounts_of accounts.now) level.now.owner level.now.point) (machine_of level.now.machine ram) }
+    ensures { (ram : List ℕ) → result ≡ machines.next_call
+        (model.code_of (table_of images.now)
+        (accounts_of accounts.now) level.now.owner level.now.point)
+        (machine_of level.now.machine ram) }
 {
     match find_image(images, accounts, level.owner, level.point) {
         Some(image) => level.machine.next_call(image.code()),
@@ -166,8 +172,10 @@ fn next_call(level: &GraftLevel, accounts: &Accounts, images: &Images) -> Option
 fn level_needs(level: &GraftLevel, accounts: &Accounts, images: &Images) -> Needs
     requires owner { level.now.owner < 16 }
     requires point { level.now.point < 16 }
-    ensures value { (v : World) (p d : ℕ) (ram : List ℕ) (t : Table) (is : List Undoing) (w : Things) (ls : List Level) → v.callable ≡ LAST_CALLABLE →
-        result ≡ next_needs v (table_of images.now) (accounts_of accounts.now) (level_in p d ram t level.now is w ∷ ls) }
+    ensures value { (v : World) (p d : ℕ) (ram : List ℕ) (t : Table) (is : List Undoing)
+        (w : Things) (ls : List Level) → v.callable ≡ LAST_CALLABLE →
+        result ≡ next_needs v (table_of images.now) (accounts_of accounts.now)
+        (level_in p d ram t level.now is w ∷ ls) }
     ensures range { All (λ (n : Needed). IsInRange n.object) result }
 {
     if is_spent(level, accounts) {
@@ -181,10 +189,11 @@ fn level_needs(level: &GraftLevel, accounts: &Accounts, images: &Images) -> Need
 
 impl Chain {
     /// What the next instruction needs: the objects of its call, if it is one that isn't refused by its arguments.
-    pub fn needs(&self, store: &Store, images: &Images) -> Needs
+    pub fn needs<B: Policy>(&self, store: &Store<B>, images: &Images) -> Needs
         requires { AreSound (queue_of store.now) self.now.levels }
         ensures value { (p : ℕ) (ram : List ℕ) (t : Table) (log : List (List Undoing)) (w : Things) →
-            result ≡ next_needs (world_of_store store.now) (table_of images.now) (objects_of (λ b. seen (b.vtable, b.value)) store.now).accounts (levels_in p ram t self.now.levels log w) }
+            result ≡ next_needs (world_of_store store.now) (table_of images.now)
+            (objects_of store.now).accounts (levels_in p ram t self.now.levels log w) }
         ensures range { All (λ (n : Needed). IsInRange n.object) result }
     {
         match self.levels.innermost() {
@@ -195,7 +204,8 @@ impl Chain {
 
     /// Whose user locks don't hinder the next instruction: those of the innermost level's installer, or else of process p.
     pub fn lock_user(&self, p: u8) -> u8
-        ensures { (q : ℕ) (ram : List ℕ) (t : Table) (log : List (List Undoing)) (w : Things) → result ≡ user_of_locks p (levels_in q ram t self.now.levels log w) }
+        ensures { (q : ℕ) (ram : List ℕ) (t : Table) (log : List (List Undoing)) (w : Things) →
+            result ≡ user_of_locks p (levels_in q ram t self.now.levels log w) }
     {
         match self.levels.innermost() {
             Some(level) => level.owner,

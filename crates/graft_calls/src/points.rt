@@ -3,21 +3,22 @@
 ghost use Rattle.std.specs.Prelude.{◌≡◌, ◌<◌, true, false, length, slice_index};
 ghost use Rattle.kernel_model.specs.Policies.{lives, kind_of, valid, ahead_default, open_blocks};
 ghost use Rattle.kernel_model.specs.Policies as spec;
-ghost use Rattle.kernel_state.specs.Stores.{world_of_store, objects_of, queue_of, IsStore};
+ghost use Rattle.kernel_state.specs.Stores.{world_of_store, objects_of, queue_of};
 
 use crate::GraftLevel;
-use graft_points::valid_ahead;
+use graft_points::{Policy, valid_ahead};
 use kernel_state::Store;
 
 /// What is to be read ahead by default of the file at descriptor fd of process q, which lives: from which block on, how many, and
 /// how many blocks the file has. Zeros where none is open.
-fn ahead(store: &Store, q: u8, fd: u8) -> (u32, u32, u32)
-    requires sound { IsStore (λ b. seen (b.vtable, b.value)) store.now }
+fn ahead<B: Policy>(store: &Store<B>, q: u8, fd: u8) -> (u32, u32, u32)
     requires lives { lives (queue_of store.now) q ≡ true }
     requires number { fd < 4 }
-    ensures start { result.0 ≡ (ahead_default (world_of_store store.now) ((objects_of (λ b. seen (b.vtable, b.value)) store.now).things.pol 0) ((objects_of (λ b. seen (b.vtable, b.value)) store.now).things.file q fd)).0 }
-    ensures count { result.1 ≡ (ahead_default (world_of_store store.now) ((objects_of (λ b. seen (b.vtable, b.value)) store.now).things.pol 0) ((objects_of (λ b. seen (b.vtable, b.value)) store.now).things.file q fd)).1 }
-    ensures blocks { result.2 ≡ open_blocks (world_of_store store.now) ((objects_of (λ b. seen (b.vtable, b.value)) store.now).things.file q fd) }
+    ensures start { result.0 ≡ (ahead_default (world_of_store store.now)
+        ((objects_of store.now).things.pol 0) ((objects_of store.now).things.file q fd)).0 }
+    ensures count { result.1 ≡ (ahead_default (world_of_store store.now)
+        ((objects_of store.now).things.pol 0) ((objects_of store.now).things.file q fd)).1 }
+    ensures blocks { result.2 ≡ open_blocks (world_of_store store.now) ((objects_of store.now).things.file q fd) }
 {
     match store.file(q, fd) {
         None => (0, 0, 0),
@@ -33,9 +34,8 @@ fn ahead(store: &Store, q: u8, fd: u8) -> (u32, u32, u32)
 }
 
 /// The candidate for eviction of process q, or 0.
-fn victim(store: &Store, q: u8) -> u32
-    requires { IsStore (λ b. seen (b.vtable, b.value)) store.now }
-    ensures { result ≡ (spec.default_by spec.Victim (world_of_store store.now) (objects_of (λ b. seen (b.vtable, b.value)) store.now).things q 4).0 }
+fn victim<B: Policy>(store: &Store<B>, q: u8) -> u32
+    ensures { result ≡ (spec.default_by spec.Victim (world_of_store store.now) (objects_of store.now).things q 4).0 }
 {
     match store.candidate_of(q) {
         Some(f) => u32::from(f),
@@ -44,10 +44,9 @@ fn victim(store: &Store, q: u8) -> u32
 }
 
 /// The default answer of point pt of process q, which lives, where a graft of q asks it.
-pub(crate) fn default_of(store: &Store, q: u8, pt: u8) -> (u32, u32)
-    requires sound { IsStore (λ b. seen (b.vtable, b.value)) store.now }
+pub(crate) fn default_of<B: Policy>(store: &Store<B>, q: u8, pt: u8) -> (u32, u32)
     requires lives { lives (queue_of store.now) q ≡ true }
-    ensures { result ≡ spec.default_of (world_of_store store.now) (objects_of (λ b. seen (b.vtable, b.value)) store.now).things q pt }
+    ensures { result ≡ spec.default_of (world_of_store store.now) (objects_of store.now).things q pt }
 {
     match pt {
         0..=3 => {
@@ -61,10 +60,9 @@ pub(crate) fn default_of(store: &Store, q: u8, pt: u8) -> (u32, u32)
 }
 
 /// The arguments of point pt of process q, which lives, where a graft of q asks it.
-pub(crate) fn args_of(store: &Store, q: u8, pt: u8) -> [u32; 4]
-    requires sound { IsStore (λ b. seen (b.vtable, b.value)) store.now }
+pub(crate) fn args_of<B: Policy>(store: &Store<B>, q: u8, pt: u8) -> [u32; 4]
     requires lives { lives (queue_of store.now) q ≡ true }
-    ensures { result ≡ spec.args_by (kind_of pt) (world_of_store store.now) (objects_of (λ b. seen (b.vtable, b.value)) store.now).things q pt }
+    ensures { result ≡ spec.args_by (kind_of pt) (world_of_store store.now) (objects_of store.now).things q pt }
 {
     match pt {
         0..=3 => {
@@ -84,8 +82,8 @@ pub(crate) fn args_of(store: &Store, q: u8, pt: u8) -> [u32; 4]
 }
 
 /// Whether the point of a level accepts the answer that stands in r0 and r1.
-pub(crate) fn is_valid(store: &Store, level: &GraftLevel) -> bool
-    ensures { result ≡ valid (objects_of (λ b. seen (b.vtable, b.value)) store.now).things level.now.owner level.now.point level.now.args
+pub(crate) fn is_valid<B: Policy>(store: &Store<B>, level: &GraftLevel) -> bool
+    ensures { result ≡ valid (objects_of store.now).things level.now.owner level.now.point level.now.args
         (slice_index level.now.machine.regs 0) (slice_index level.now.machine.regs 1) }
 {
     let r0 = level.machine.reg(0);

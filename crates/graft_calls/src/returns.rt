@@ -24,6 +24,7 @@ use crate::drops::drop_innermost;
 use crate::points::is_valid;
 use crate::{Chain, GraftLevel, Levels};
 use graft_machine::Machine;
+use graft_points::Policy;
 use kernel_model::{Cause, Micro};
 use kernel_state::Store;
 use lock_table::LockTable;
@@ -46,12 +47,17 @@ fn join(level: GraftLevel, asker: GraftLevel, levels: &mut Levels, p: u8, locks:
     requires process { p < 16 }
     ensures levels { (q : ℕ) (ram : List ℕ) (t : Table) (log : List (List Undoing)) (w : Things) →
         let k = level_in q (length levels.old) ram t asker (innermost log) (put_back (innermost log) w) in
-        levels_in q ram t levels.new log w ≡ record k { machine = answered (kind_of level.point) (slice_index level.machine.regs 0) (slice_index level.machine.regs 1) k.machine }
+        levels_in q ram t levels.new log w
+        ≡ record k {
+          machine = answered (kind_of level.point) (slice_index level.machine.regs 0)
+              (slice_index level.machine.regs 1) k.machine;
+        }
         ∷ levels_in q ram t levels.old (outer log) (put_back (innermost log) w) }
     ensures locks { held locks.new ≡ merge_level p (suc (length levels.old)) (held locks.old) }
     ensures count { length levels.new ≡ suc (length levels.old) }
     ensures sound { (queue : List Waiting) → AreSound queue (asker ∷ levels.old) → AreSound queue levels.new }
-    ensures inside { (images : ImageTable) (a : Funds) (q : ℕ) → AreInside images a q (asker ∷ levels.old) → AreInside images a q levels.new }
+    ensures inside { (images : ImageTable) (a : Funds) (q : ℕ) →
+        AreInside images a q (asker ∷ levels.old) → AreInside images a q levels.new }
 {
     let mut asker = asker;
     answer(
@@ -71,15 +77,26 @@ fn complete(level: GraftLevel, chain: &mut Chain, p: u8, locks: &mut LockTable) 
     requires as_many { length chain.old.undo ≡ suc (length chain.old.levels) }
     requires process { p < 16 }
     ensures step { (w : State) (ram : List ℕ) → let kept = put_back (innermost chain.old.undo) w.things in
-        came (completed w (level_in p (length chain.old.levels) ram (held locks.old) level (innermost chain.old.undo) kept)
+        came (completed w (level_in p (length chain.old.levels) ram (held locks.old) level
+        (innermost chain.old.undo) kept)
         (levels_in p ram (held locks.old) chain.old.levels (outer chain.old.undo) kept))
-        ≡ (result, record { now = w; levels = levels_in p ram (held locks.new) chain.new.levels chain.new.undo w.things }) }
+        ≡ (
+          result,
+          record {
+            now = w;
+            levels = levels_in p ram
+                (held locks.new) chain.new.levels chain.new.undo w.things;
+          },
+        ) }
     ensures log { chain.new.undo ≡ merged chain.old.undo }
     ensures count { length chain.new.levels ≡ length chain.old.levels }
-    ensures unheld { (d : ℕ) (o : Objects) → length chain.old.levels ≤ d → ((e : ℕ) (a : Objects) → suc (length chain.old.levels) ≤ e → held locks.old p e a ≡ Free) → held locks.new p d o ≡ Free }
+    ensures unheld { (d : ℕ) (o : Objects) → length chain.old.levels ≤ d →
+        ((e : ℕ) (a : Objects) → suc (length chain.old.levels) ≤ e → held locks.old p e a ≡ Free) →
+        held locks.new p d o ≡ Free }
     ensures others { (q d : ℕ) → q ≢ p → held locks.new q d ≡ held locks.old q d }
     ensures sound { (queue : List Waiting) → AreSound queue chain.old.levels → AreSound queue chain.new.levels }
-    ensures inside { (images : ImageTable) (a : Funds) (q : ℕ) → AreInside images a q chain.old.levels → AreInside images a q chain.new.levels }
+    ensures inside { (images : ImageTable) (a : Funds) (q : ℕ) →
+        AreInside images a q chain.old.levels → AreInside images a q chain.new.levels }
 {
     chain.undo.commit_level();
     match chain.levels.pop() {
@@ -95,21 +112,26 @@ fn complete(level: GraftLevel, chain: &mut Chain, p: u8, locks: &mut LockTable) 
 }
 
 /// A level that was taken out of a chain offers the answer in r0 to r3. It is dropped where its point doesn't accept that.
-pub(crate) fn offer(
+pub(crate) fn offer<B: Policy>(
     level: GraftLevel,
     chain: &mut Chain,
     p: u8,
-    store: &mut Store,
+    store: &mut Store<B>,
     locks: &mut LockTable,
 ) -> Micro
-    requires placed { IsPlaced (λ b. seen (b.vtable, b.value)) store.old locks.old p (level ∷ chain.old.levels) chain.old.undo }
-    ensures step { let l = level_of (λ b. seen (b.vtable, b.value)) store.old locks.old chain.old p level in let ls = outer_of (λ b. seen (b.vtable, b.value)) store.old locks.old chain.old p in
-        came (after_return (world_of_store store.old) (objects_of (λ b. seen (b.vtable, b.value)) store.old) l ls
-        (valid (objects_of (λ b. seen (b.vtable, b.value)) store.old).things l.owner l.point l.args (l.machine.regs 0) (l.machine.regs 1)))
-        ≡ (result, call_of (λ b. seen (b.vtable, b.value)) store.new locks.new chain.new p) }
-    ensures placed { IsPlaced (λ b. seen (b.vtable, b.value)) store.new locks.new p chain.new.levels chain.new.undo }
-    ensures inside { (images : ImageTable) → AreInside images (objects_of (λ b. seen (b.vtable, b.value)) store.old).accounts p (level ∷ chain.old.levels) → AreInside images (objects_of (λ b. seen (b.vtable, b.value)) store.new).accounts p chain.new.levels }
-    ensures loaded { (images : ImageTable) → ImagesAreLoaded images (objects_of (λ b. seen (b.vtable, b.value)) store.old).accounts → ImagesAreLoaded images (objects_of (λ b. seen (b.vtable, b.value)) store.new).accounts }
+    requires placed { IsPlaced store.old locks.old p (level ∷ chain.old.levels) chain.old.undo }
+    ensures step { let l = level_of store.old locks.old chain.old p level in
+        let ls = outer_of store.old locks.old chain.old p in
+        came (after_return (world_of_store store.old) (objects_of store.old) l ls
+        (valid (objects_of store.old).things l.owner l.point l.args (l.machine.regs 0) (l.machine.regs 1)))
+        ≡ (result, call_of store.new locks.new chain.new p) }
+    ensures placed { IsPlaced store.new locks.new p chain.new.levels chain.new.undo }
+    ensures inside { (images : ImageTable) →
+        AreInside images (objects_of store.old).accounts p (level ∷ chain.old.levels) →
+        AreInside images (objects_of store.new).accounts p chain.new.levels }
+    ensures loaded { (images : ImageTable) →
+        ImagesAreLoaded images (objects_of store.old).accounts →
+        ImagesAreLoaded images (objects_of store.new).accounts }
     ensures elsewhere { IsElsewhereSame store.old store.new locks.old locks.new p }
 {
     if !is_valid(store, &level) {

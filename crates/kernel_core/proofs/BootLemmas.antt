@@ -11,7 +11,7 @@ use Rattle.kernel_model.specs.Meaning.{Meaning}
 use Rattle.kernel_model.specs.Opening.{opening_kernel, opening_objects}
 use Rattle.kernel_model.specs.Sound.{IsAtRest, ImagesAreLoaded}
 use Rattle.kernel_state.specs.declared.Setup.{Setup}
-use Rattle.kernel_state.specs.Stores.{world_for}
+use Rattle.kernel_state.specs.Sound.{world_for}
 use Rattle.placed_laws.specs.Placed.{Placed}
 use Rattle.placed_laws.specs.Stands.{StandsFor}
 use Rattle.kernel_core.specs.declared.kernel.BootNote.TheVariants.{Up, Fault}

@@ -20,7 +20,7 @@ use crate::placed_rows::{self, RowPlace};
 use call_pieces::Calls;
 use disk_log::DiskLog;
 use graft_loader::{Images, Loaded};
-use graft_points::Policy;
+use graft_points::{Policy, Shelf};
 use kernel_model::{Event, NoMemory, RawRow};
 use kernel_state::{Setup, Store};
 use kernel_steps::{Notes, Running};
@@ -31,9 +31,9 @@ use vino_base::Disk;
 
 /// The kernel over a table of calls.
 #[derive(Drop)]
-pub struct Kernel<C: Calls> {
+pub struct Kernel<C: Calls, B: Policy> {
     /// The store, the clock and all that is in flight.
-    pub running: Running<C>,
+    pub running: Running<C, B>,
     /// The calls of the disk of one piece, or of a boot.
     log: DiskLog,
 }
@@ -47,22 +47,22 @@ pub enum BootNote {
     Fault,
 }
 
-impl<C: Calls> Kernel<C> {
+impl<C: Calls, B: Policy> Kernel<C, B> {
     /// A kernel before boot, with its memory, the table of images and the stock policies. Takes all the memory that it ever does.
     pub fn new(
         alloc: Global,
         setup: Setup,
         ram: Ram,
         images: Images,
-        shelf: Vec<Box<dyn Policy>>,
-    ) -> Result<Kernel<C>, NoMemory>
+        shelf: Vec<B>,
+    ) -> Result<Kernel<C, B>, NoMemory>
         requires frames_least { 2 ≤ setup.frames }
         requires frames_most { setup.frames ≤ 64 }
-        requires shelf { IsShelf (map (λ b. seen b) shelf.items) }
-        requires stock { pol_of (map (λ b. seen b) shelf.items) first_choice ≡ opening_policy }
-        ensures blank { IfOk result (λ k. IsBlank (λ b. seen b) (λ w. C.caller w) k.running) }
+        requires shelf { IsShelf (map B.seen shelf.items) }
+        requires stock { pol_of (map B.seen shelf.items) first_choice ≡ opening_policy }
+        ensures blank { IfOk result (λ k. IsBlank C.caller k.running) }
     {
-        let store = Store::new(setup, 1, Directory::empty(), ram, shelf);
+        let store = Store::new(setup, 1, Directory::empty(), ram, Shelf::of(shelf));
         match Running::new(alloc, store, images) {
             Ok(running) => Ok(Kernel {
                 running,
@@ -77,10 +77,12 @@ impl<C: Calls> Kernel<C> {
     pub fn boot<D: Disk>(&mut self, setup: Setup, disk: &mut D) -> BootNote
         requires frames_least { 2 ≤ setup.frames }
         requires frames_most { setup.frames ≤ 64 }
-        requires blank { IsBlank (λ b. seen (b.vtable, b.value)) (λ w. C.caller w) self.old.running }
-        ensures booted { Booted C.Meaning.meaning setup (D.block_count disk.old) (placed_of (λ b. seen (b.vtable, b.value)) (λ w. C.stage w) self.new.running) result
-            (disk_seen (D.blocks disk.old) (D.plan disk.old) (D.faults disk.old)) (disk_seen (D.blocks disk.new) (D.plan disk.new) (D.faults disk.new)) }
-        ensures kernel { IsKernel C.Meaning.meaning (λ b. seen (b.vtable, b.value)) (λ w. C.stage w) (λ w. C.caller w) 0 self.new.running }
+        requires blank { IsBlank C.caller self.old.running }
+        ensures booted { Booted C.Meaning.meaning setup (D.block_count disk.old)
+            (placed_of C.stage self.new.running) result
+            (disk_seen (D.blocks disk.old) (D.plan disk.old) (D.faults disk.old))
+            (disk_seen (D.blocks disk.new) (D.plan disk.new) (D.faults disk.new)) }
+        ensures kernel { IsKernel C.Meaning.meaning C.stage C.caller 0 self.new.running }
         ensures size { self.new.running.store.size ≡ D.block_count disk.old }
         ensures same_size { D.block_count disk.new ≡ D.block_count disk.old }
     {
@@ -104,7 +106,7 @@ impl<C: Calls> Kernel<C> {
     /// Whether a slot has an image.
     pub fn has_image(&self, slot: u32) -> bool
         requires { slot < 32 }
-        ensures { result ≡ is_some ((placed_of (λ b. seen (b.vtable, b.value)) (λ w. C.stage w) self.now.running).images slot) }
+        ensures { result ≡ is_some ((placed_of C.stage self.now.running).images slot) }
     {
         self.running.has_image(slot)
     }
@@ -112,15 +114,16 @@ impl<C: Calls> Kernel<C> {
     /// A slot that is free has this image from now on. No memory is taken.
     pub fn add_image(&mut self, slot: u32, image: Loaded)
         requires slot { slot < 32 }
-        requires free { (placed_of (λ b. seen (b.vtable, b.value)) (λ w. C.stage w) self.old.running).images slot ≡ None }
-        requires running { IsRunning (λ b. seen (b.vtable, b.value)) (λ w. C.caller w) self.old.running }
-        requires stood { Stood C.Meaning.meaning (placed_of (λ b. seen (b.vtable, b.value)) (λ w. C.stage w) self.old.running) }
-        ensures stands { (k : Abstract) → StandsFor C.Meaning.meaning (placed_of (λ b. seen (b.vtable, b.value)) (λ w. C.stage w) self.old.running) k →
-            StandsFor C.Meaning.meaning (placed_of (λ b. seen (b.vtable, b.value)) (λ w. C.stage w) self.new.running) (session.add_image slot image k) }
-        ensures rests { (k : Abstract) → StandsFor C.Meaning.meaning (placed_of (λ b. seen (b.vtable, b.value)) (λ w. C.stage w) self.old.running) k → IsAtRest C.Meaning.meaning k →
+        requires free { (placed_of C.stage self.old.running).images slot ≡ None }
+        requires running { IsRunning C.caller self.old.running }
+        requires stood { Stood C.Meaning.meaning (placed_of C.stage self.old.running) }
+        ensures stands { (k : Abstract) → StandsFor C.Meaning.meaning (placed_of C.stage self.old.running) k →
+            StandsFor C.Meaning.meaning (placed_of C.stage self.new.running) (session.add_image slot image k) }
+        ensures rests { (k : Abstract) → StandsFor C.Meaning.meaning
+            (placed_of C.stage self.old.running) k → IsAtRest C.Meaning.meaning k →
             IsAtRest C.Meaning.meaning (session.add_image slot image k) }
-        ensures running { IsRunning (λ b. seen (b.vtable, b.value)) (λ w. C.caller w) self.new.running }
-        ensures stood { Stood C.Meaning.meaning (placed_of (λ b. seen (b.vtable, b.value)) (λ w. C.stage w) self.new.running) }
+        ensures running { IsRunning C.caller self.new.running }
+        ensures stood { Stood C.Meaning.meaning (placed_of C.stage self.new.running) }
         ensures store { self.new.running.store ≡ self.old.running.store }
         ensures clock { self.new.running.clock ≡ self.old.running.clock }
     {
@@ -129,7 +132,7 @@ impl<C: Calls> Kernel<C> {
 
     /// The number of the call that process p has in flight. None past the last process.
     pub fn left(&self, p: u8) -> Option<u32>
-        ensures { result ≡ option_map (λ (c : PlacedCall). c.number) ((placed_of (λ b. seen (b.vtable, b.value)) (λ w. C.stage w) self.now.running).call p) }
+        ensures { result ≡ option_map (λ (c : PlacedCall). c.number) ((placed_of C.stage self.now.running).call p) }
     {
         self.running.call_number(p)
     }
@@ -138,12 +141,14 @@ impl<C: Calls> Kernel<C> {
     pub fn event<D: Disk>(&mut self, number: u32, what: &Event, disk: &mut D, notes: &mut Notes)
         requires first { 0 < number }
         requires room { number < 2 ^ 32 - 1 }
-        requires kernel { IsKernel C.Meaning.meaning (λ b. seen (b.vtable, b.value)) (λ w. C.stage w) (λ w. C.caller w) (number - 1) self.old.running }
+        requires kernel { IsKernel C.Meaning.meaning C.stage C.caller (number - 1) self.old.running }
         requires disk { self.old.running.store.size ≡ D.block_count disk.old }
         requires no_notes { notes.old ≡ [] }
-        ensures happened { Happened C.Meaning.meaning (placed_of (λ b. seen (b.vtable, b.value)) (λ w. C.stage w) self.old.running) (placed_of (λ b. seen (b.vtable, b.value)) (λ w. C.stage w) self.new.running) number what.now notes.new
-            (disk_seen (D.blocks disk.old) (D.plan disk.old) (D.faults disk.old)) (disk_seen (D.blocks disk.new) (D.plan disk.new) (D.faults disk.new)) }
-        ensures kernel { IsKernel C.Meaning.meaning (λ b. seen (b.vtable, b.value)) (λ w. C.stage w) (λ w. C.caller w) number self.new.running }
+        ensures happened { Happened C.Meaning.meaning (placed_of C.stage self.old.running)
+            (placed_of C.stage self.new.running) number what.now notes.new
+            (disk_seen (D.blocks disk.old) (D.plan disk.old) (D.faults disk.old))
+            (disk_seen (D.blocks disk.new) (D.plan disk.new) (D.faults disk.new)) }
+        ensures kernel { IsKernel C.Meaning.meaning C.stage C.caller number self.new.running }
         ensures world { world_of_store self.new.running.store ≡ world_of_store self.old.running.store }
         ensures same_size { D.block_count disk.new ≡ D.block_count disk.old }
     {
@@ -152,16 +157,16 @@ impl<C: Calls> Kernel<C> {
 
     /// The i-th of the rows that show the whole state. None past the last.
     pub fn raw(&self, i: u32) -> Option<RawRow>
-        requires running { IsRunning (λ b. seen (b.vtable, b.value)) (λ w. C.caller w) self.now.running }
-        ensures value { result ≡ slice_get (placed_rows (placed_of (λ b. seen (b.vtable, b.value)) (λ w. C.stage w) self.now.running)) i }
+        requires running { IsRunning C.caller self.now.running }
+        ensures value { result ≡ slice_get (placed_rows (placed_of C.stage self.now.running)) i }
         ensures few { 1478 ≤ i → result ≡ None }
     {
         placed_rows::raw(&self.running, i)
     }
     /// The next row from a place on, which then is behind that row. None where no row is left.
     pub fn next_row(&self, at: &mut RowPlace) -> Option<RawRow>
-        requires running { IsRunning (λ b. seen (b.vtable, b.value)) (λ w. C.caller w) self.now.running }
-        ensures { TakesRow (placed_of (λ b. seen (b.vtable, b.value)) (λ w. C.stage w) self.now.running)
+        requires running { IsRunning C.caller self.now.running }
+        ensures { TakesRow (placed_of C.stage self.now.running)
             at.old at.new result }
     {
         placed_rows::next_row(&self.running, at)

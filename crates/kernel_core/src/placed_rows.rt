@@ -7,6 +7,7 @@ ghost use Rattle.kernel_steps.specs.Views.{placed_of, IsRunning};
 ghost use Rattle.kernel_core.specs.PlacedSections.{most_at, most_left, places, rows_at, rows_left, TakesRow};
 
 use call_pieces::Calls;
+use graft_points::Policy;
 use kernel_model::RawRow;
 use kernel_steps::Running;
 
@@ -114,9 +115,9 @@ impl RowPlace {
 }
 
 /// The i-th of the rows that show the whole state. None past the last.
-pub fn raw<C: Calls>(running: &Running<C>, i: u32) -> Option<RawRow>
-    requires running { IsRunning (λ b. seen (b.vtable, b.value)) (λ w. C.caller w) running.now }
-    ensures value { result ≡ slice_get (placed_rows (placed_of (λ b. seen (b.vtable, b.value)) (λ w. C.stage w) running.now)) i }
+pub fn raw<C: Calls, B: Policy>(running: &Running<C, B>, i: u32) -> Option<RawRow>
+    requires running { IsRunning C.caller running.now }
+    ensures value { result ≡ slice_get (placed_rows (placed_of C.stage running.now)) i }
     ensures few { 1478 ≤ i → result ≡ None }
 {
     let mut at = RowPlace::first();
@@ -127,9 +128,9 @@ pub fn raw<C: Calls>(running: &Running<C>, i: u32) -> Option<RawRow>
 }
 
 /// The next row from a place on, which then is behind that row. None where no row is left.
-pub fn next_row<C: Calls>(running: &Running<C>, at: &mut RowPlace) -> Option<RawRow>
-    requires running { IsRunning (λ b. seen (b.vtable, b.value)) (λ w. C.caller w) running.now }
-    ensures { TakesRow (placed_of (λ b. seen (b.vtable, b.value)) (λ w. C.stage w) running.now) at.old at.new result }
+pub fn next_row<C: Calls, B: Policy>(running: &Running<C, B>, at: &mut RowPlace) -> Option<RawRow>
+    requires running { IsRunning C.caller running.now }
+    ensures { TakesRow (placed_of C.stage running.now) at.old at.new result }
 {
     while at.section < SECTIONS.len() {
         let section = SECTIONS[at.section];
@@ -148,11 +149,11 @@ pub fn next_row<C: Calls>(running: &Running<C>, at: &mut RowPlace) -> Option<Raw
 }
 
 /// How many rows there are at a place of a section.
-fn count_at<C: Calls>(running: &Running<C>, section: Section, n: u16) -> u32
-    requires running { IsRunning (λ b. seen (b.vtable, b.value)) (λ w. C.caller w) running.now }
+fn count_at<C: Calls, B: Policy>(running: &Running<C, B>, section: Section, n: u16) -> u32
+    requires running { IsRunning C.caller running.now }
     requires place { n < places section }
     ensures value { result ≡
-        length (rows_at (placed_of (λ b. seen (b.vtable, b.value)) (λ w. C.stage w) running.now) section n) }
+        length (rows_at (placed_of C.stage running.now) section n) }
     ensures few { result ≤ most_at section }
 {
     let store = &running.store;
@@ -173,14 +174,19 @@ fn count_at<C: Calls>(running: &Running<C>, section: Section, n: u16) -> u32
 }
 
 /// The i-th row at a place of a section, which has more than i.
-fn row_at<C: Calls>(running: &Running<C>, section: Section, n: u16, i: u32) -> Option<RawRow>
-    requires running { IsRunning (λ b. seen (b.vtable, b.value)) (λ w. C.caller w) running.now }
+fn row_at<C: Calls, B: Policy>(
+    running: &Running<C, B>,
+    section: Section,
+    n: u16,
+    i: u32,
+) -> Option<RawRow>
+    requires running { IsRunning C.caller running.now }
     requires place { n < places section }
     requires row { i <
-        length (rows_at (placed_of (λ b. seen (b.vtable, b.value)) (λ w. C.stage w) running.now) section n) }
+        length (rows_at (placed_of C.stage running.now) section n) }
     requires few { i < most_at section }
     ensures { result ≡
-        slice_get (rows_at (placed_of (λ b. seen (b.vtable, b.value)) (λ w. C.stage w) running.now) section n) i }
+        slice_get (rows_at (placed_of C.stage running.now) section n) i }
 {
     let store = &running.store;
     match section {

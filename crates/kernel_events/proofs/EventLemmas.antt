@@ -1,7 +1,6 @@
 -- A whole event.
-use Rattle.std.proofs.Common.{◌≡◌, ℕ, zero, suc, ◌-◌, ◌≤◌, ◌<◌, ◌==◌, ◌&&◌, Bool, true, false, nat_le, List, [], ◌∷◌, ◌++◌, length, Option, Some, None, Result, Ok, Err, arith, refl, ap, sym, subst, ◌∙◌}
+use Rattle.std.proofs.Common.{◌≡◌, ℕ, suc, ◌≤◌, ◌<◌, ◌==◌, ◌&&◌, Bool, true, false, nat_le, List, [], ◌∷◌, ◌++◌, length, Option, Some, None, Ok, Err, arith, refl, ap, sym, subst, ◌∙◌}
 use Rattle.std.specs.Prelude.{Contains, is_some, option_map, slice_index_or, ◌||◌}
-use Rattle.std.specs.List.{list_any}
 use Rattle.std.proofs.lemmas.Bool.{eqb-true}
 use Rattle.std.proofs.lemmas.Bool.Decides.{nat_tests}
 use Rattle.kernel_model.specs.declared.Event.{Event}
@@ -14,27 +13,26 @@ use Rattle.kernel_model.specs.declared.SysCall.{SysCall}
 use Rattle.kernel_model.specs.World.{World, Blocks}
 use Rattle.kernel_model.specs.Policies.{lives}
 use Rattle.kernel_model.specs.Meaning.{Meaning, Stage}
-use Rattle.kernel_model.specs.Kernel.{Entry, Kernel, Run}
+use Rattle.kernel_model.specs.Kernel.{Entry, Run}
 use Rattle.kernel_model.specs.Events.{MOST_STEPS, event, in_order}
-use Rattle.kernel_model.specs.Sound.{HasWholeBlocks, IsAtRest}
+use Rattle.kernel_model.specs.Sound.{HasWholeBlocks}
 use Rattle.disk_log.specs.Calls.{Tells, blocks_in}
 use Rattle.disk_log.specs.Seen.{DiskSeen}
 use Rattle.history_laws.specs.Notes.{EventsLeaveFewNotes}
-use Rattle.kernel_state.specs.Stores.{Seeing, world_of_store}
 use Rattle.placed_laws.specs.Agreeing.{SameShown}
 use Rattle.placed_laws.specs.Keeping.{EventsStand}
 use Rattle.placed_laws.specs.Placed.{Placed, PlacedCall, PlacedRun}
 use Rattle.placed_laws.specs.PlacedSteps.{placed_noted}
 use Rattle.placed_laws.specs.PlacedEvents.{placed_begun, placed_event_on, placed_last, placed_last_note, placed_step_event, placed_sys_event}
-use Rattle.placed_laws.specs.Stands.{StandsFor, RunStandsFor}
+use Rattle.placed_laws.specs.Stands.{StandsFor}
 use Rattle.kernel_steps.specs.declared.order.Waiting.{Waiting}
 use Rattle.kernel_steps.specs.declared.running.Running.{Running}
 use Rattle.kernel_steps.specs.Composing.{did_as}
-use Rattle.kernel_steps.specs.Did.{first_notes, Did}
+use Rattle.kernel_steps.specs.Did.{first_notes}
 use Rattle.kernel_steps.specs.Kept.{kept_whole}
 use Rattle.kernel_steps.specs.Orders.{has_number, numbers_of, order_of}
 use Rattle.kernel_steps.specs.Views.{placed_of, run_of, IsRunning, Stood}
-use Rattle.kernel_events.specs.Happened.{EventIs, Happened}
+use Rattle.kernel_events.specs.Happened.{Happened}
 use Rattle.kernel_events.specs.Went.{DidFromRest, Went}
 use Rattle.kernel_events.proofs.LastLemmas.{did_note}
 use Rattle.kernel_events.proofs.WentLemmas.{ordered_called}
@@ -141,12 +139,12 @@ module _ (m : Meaning) (x : Placed) (number p : ℕ) where
   step_taken n h some few blocks notes io = step_living n true h (grind (arith, nat_tests, some, few)) blocks notes io
 
 -- a refusal, which is all that an event comes to
-pub went_refused : {C M W X : Type 0} {F : X → Type 0} (m : Meaning) (view : Seeing X F) (stage : W → Stage) (caller : W → ℕ) (f : PlacedRun → PlacedRun) (x : Running C M W X F) (note : Note) (kept kept_new : List Note) (d : DiskSeen) → IsRunning view caller x → Stood m (placed_of view stage x) →
-    ((blocks : Blocks) (notes : List Note) (io : List Bool) → f (run_of (placed_of view stage x) blocks notes io) ≡ placed_noted note (run_of (placed_of view stage x) blocks notes io)) →
-    ((all : List Note) → kept ≡ first_notes all → kept_new ≡ first_notes (all ++ note ∷ [])) → Went m view stage caller f x x kept kept_new d d
-went_refused m view stage caller f x note kept kept_new d running stood same adds =
+pub went_refused : {C B M W : Type 0} {P : _} (m : Meaning) (stage : W → Stage) (caller : W → ℕ) (f : PlacedRun → PlacedRun) (x : Running C B M W P) (note : Note) (kept kept_new : List Note) (d : DiskSeen) → IsRunning caller x → Stood m (placed_of stage x) →
+    ((blocks : Blocks) (notes : List Note) (io : List Bool) → f (run_of (placed_of stage x) blocks notes io) ≡ placed_noted note (run_of (placed_of stage x) blocks notes io)) →
+    ((all : List Note) → kept ≡ first_notes all → kept_new ≡ first_notes (all ++ note ∷ [])) → Went m stage caller f x x kept kept_new d d
+went_refused m stage caller f x note kept kept_new d running stood same adds =
     record {
-      did = did_as f (placed_noted note) (placed_of view stage x) (placed_of view stage x) kept kept_new d d same (did_note (placed_of view stage x) note kept kept_new d adds);
+      did = did_as f (placed_noted note) (placed_of stage x) (placed_of stage x) kept kept_new d d same (did_note (placed_of stage x) note kept kept_new d adds);
       running = running;
       stood = stood;
       world = refl;

@@ -10,7 +10,6 @@ use Rattle.kernel_model.specs.Events.{in_order}
 use Rattle.kernel_model.specs.Sound.{HasWholeBlocks, IsAtRest}
 use Rattle.disk_log.specs.Joined.{made_joined}
 use Rattle.disk_log.specs.Seen.{DiskSeen}
-use Rattle.kernel_state.specs.Stores.{Seeing}
 use Rattle.placed_laws.specs.Keeping.{OthersStand, StepsStand}
 use Rattle.placed_laws.specs.Placed.{Placed, PlacedCall, PlacedRun, has_some, placed_blocker}
 use Rattle.placed_laws.specs.PlacedSteps.{placed_joins, placed_step}
@@ -18,15 +17,15 @@ use Rattle.placed_laws.specs.PlacedEvents.{placed_settled}
 use Rattle.placed_laws.specs.Resting.{KeepsHolds, Resting}
 use Rattle.placed_laws.specs.Stands.{StandsFor, RunStandsFor}
 use Rattle.kernel_steps.specs.declared.running.Running.{Running}
-use Rattle.kernel_steps.specs.Did.{first_notes, CameAs, Did}
-use Rattle.kernel_steps.specs.Views.{placed_of, run_of, IsRunning, Stood}
+use Rattle.kernel_steps.specs.Did.{CameAs, Did}
+use Rattle.kernel_steps.specs.Views.{run_of}
 use Rattle.kernel_events.specs.Went.{DidFromRest, DidToRest, GoesOn, Rests, Went, taken_up}
 
 -- ---- what always holds
 
-pub on_went : {C M W X : Type 0} {F : X → Type 0} (m : Meaning) (view : Seeing X F) (stage : W → Stage) (caller : W → ℕ) (f : PlacedRun → PlacedRun) (x y : Running C M W X F) (kept kept_new : List Note) (d e : DiskSeen) →
-    Went m view stage caller f x y kept kept_new d e → GoesOn m view stage caller x y
-on_went m view stage caller f x y kept kept_new d e h = record { running = h.running; stood = h.stood; world = h.world; clock = h.clock }
+pub on_went : {C B M W : Type 0} {P : _} (m : Meaning) (stage : W → Stage) (caller : W → ℕ) (f : PlacedRun → PlacedRun) (x y : Running C B M W P) (kept kept_new : List Note) (d e : DiskSeen) →
+    Went m stage caller f x y kept kept_new d e → GoesOn m stage caller x y
+on_went m stage caller f x y kept kept_new d e h = record { running = h.running; stood = h.stood; world = h.world; clock = h.clock }
 
 -- ---- what was done
 

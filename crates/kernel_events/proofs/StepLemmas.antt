@@ -1,5 +1,5 @@
 -- Instructions of a call, one after the other.
-use Rattle.std.proofs.Common.{append_assoc, append-nil, ◌≡◌, ℕ, zero, suc, ◌+◌, ◌-◌, ◌≤◌, ◌<◌, ◌&&◌, Bool, true, false, cond, not, nat_lt, List, [], ◌∷◌, ◌++◌, length, Option, Some, None, arith, refl, ap, sym, subst, ◌∙◌}
+use Rattle.std.proofs.Common.{append_assoc, ◌≡◌, ℕ, zero, suc, ◌+◌, ◌-◌, ◌≤◌, ◌<◌, ◌&&◌, Bool, true, false, cond, not, nat_lt, List, [], ◌++◌, Option, Some, None, arith, refl, ap, sym, subst, ◌∙◌}
 use Rattle.std.specs.Prelude.{is_some, option_map}
 use Rattle.kernel_steps.specs.declared.order.Blocking.{Blocking}
 use Rattle.kernel_steps.specs.Orders.{blocker_of}
@@ -17,7 +17,7 @@ use Rattle.placed_laws.specs.Placed.{Placed, PlacedCall, PlacedRun, has_some, pl
 use Rattle.placed_laws.specs.Stretch.{IsStretched, Stretched, Stretches}
 use Rattle.placed_laws.specs.PlacedSteps.{placed_joins, placed_noted, placed_step}
 use Rattle.placed_laws.specs.PlacedEvents.{placed_settled, placed_steps}
-use Rattle.kernel_steps.specs.Did.{first_notes, CameAs, Did}
+use Rattle.kernel_steps.specs.Did.{CameAs, Did}
 use Rattle.kernel_steps.specs.Views.{run_of}
 use Rattle.kernel_events.specs.Went.{takes_up, taken_up, steps_said, steps_left, DidFromRest, DidToRest, HasCome, Leads, Rests}
 

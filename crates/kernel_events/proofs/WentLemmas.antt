@@ -1,22 +1,21 @@
 -- How parts of an event follow each other.
-use Rattle.std.proofs.Common.{append-nil, ◌≡◌, ℕ, zero, suc, ◌≤◌, ◌<◌, Bool, true, false, List, [], ◌∷◌, ◌++◌, map, length, Option, Some, None, arith, refl, ap, sym, subst, ◌∙◌}
-use Rattle.std.specs.Prelude.{Contains, is_some, option_map}
+use Rattle.std.proofs.Common.{append-nil, ◌≡◌, ℕ, ◌≤◌, ◌<◌, Bool, true, false, List, [], ◌∷◌, ◌++◌, map, length, Option, Some, None, arith, refl, ap, sym, subst, ◌∙◌}
+use Rattle.std.specs.Prelude.{Contains, is_some}
 use Rattle.kernel_model.specs.declared.Note.{Note}
-use Rattle.kernel_model.specs.World.{World, Blocks}
-use Rattle.kernel_model.specs.Policies.{lives}
+use Rattle.kernel_model.specs.World.{Blocks}
 use Rattle.kernel_model.specs.Meaning.{Meaning, Stage}
-use Rattle.kernel_model.specs.Kernel.{Call, Entry, Kernel, Run, has_level, is_at_piece}
+use Rattle.kernel_model.specs.Kernel.{Call, Entry, Run, has_level, is_at_piece}
 use Rattle.kernel_model.specs.Blocking.{levels_of}
 use Rattle.disk_log.specs.Seen.{DiskSeen}
-use Rattle.kernel_state.specs.Stores.{Seeing, world_of_store}
+use Rattle.kernel_state.specs.Stores.{world_of_store}
 use Rattle.kernel_model.specs.Levels.{Level}
 use Rattle.placed_laws.specs.Agreeing.{SameShown}
-use Rattle.placed_laws.specs.Placed.{Placed, PlacedCall, PlacedLevel, PlacedRun, bare, has_some}
+use Rattle.placed_laws.specs.Placed.{Placed, PlacedRun, bare, has_some}
 use Rattle.placed_laws.specs.Stands.{StandsFor, RunStandsFor, without_history}
 use Rattle.kernel_steps.specs.declared.running.Running.{Running}
 use Rattle.kernel_steps.specs.Composing.{did_as, did_nothing, did_purely, did_then}
 use Rattle.kernel_steps.specs.WholeBlocks.{some_blocks, blocks_are_whole}
-use Rattle.kernel_steps.specs.Did.{first_notes, Did}
+use Rattle.kernel_steps.specs.Did.{first_notes}
 use Rattle.kernel_steps.specs.Views.{placed_of, run_of, IsRunning, Stood}
 use Rattle.kernel_events.specs.Went.{Went}
 
@@ -32,16 +31,16 @@ stood_as m y t r h is = record { kernel = r.kernel; stands = subst (λ z. Stands
 
 -- ---- parts
 
-pub went_as : {C M W X : Type 0} {F : X → Type 0} (m : Meaning) (view : Seeing X F) (stage : W → Stage) (caller : W → ℕ) (f g : PlacedRun → PlacedRun) (x y : Running C M W X F) (kept kept_new : List Note) (d e : DiskSeen) →
-    ((blocks : Blocks) (notes : List Note) (io : List Bool) → f (run_of (placed_of view stage x) blocks notes io) ≡ g (run_of (placed_of view stage x) blocks notes io)) → Went m view stage caller g x y kept kept_new d e → Went m view stage caller f x y kept kept_new d e
-went_as m view stage caller f g x y kept kept_new d e same h =
-    record { did = did_as f g (placed_of view stage x) (placed_of view stage y) kept kept_new d e same h.did; running = h.running; stood = h.stood; world = h.world; clock = h.clock }
+pub went_as : {C B M W : Type 0} {P : _} (m : Meaning) (stage : W → Stage) (caller : W → ℕ) (f g : PlacedRun → PlacedRun) (x y : Running C B M W P) (kept kept_new : List Note) (d e : DiskSeen) →
+    ((blocks : Blocks) (notes : List Note) (io : List Bool) → f (run_of (placed_of stage x) blocks notes io) ≡ g (run_of (placed_of stage x) blocks notes io)) → Went m stage caller g x y kept kept_new d e → Went m stage caller f x y kept kept_new d e
+went_as m stage caller f g x y kept kept_new d e same h =
+    record { did = did_as f g (placed_of stage x) (placed_of stage y) kept kept_new d e same h.did; running = h.running; stood = h.stood; world = h.world; clock = h.clock }
 
-pub went_then : {C M W X : Type 0} {F : X → Type 0} (m : Meaning) (view : Seeing X F) (stage : W → Stage) (caller : W → ℕ) (f g : PlacedRun → PlacedRun) (x y z : Running C M W X F) (a b c : List Note) (d e l : DiskSeen) →
-    Went m view stage caller f x y a b d e → Went m view stage caller g y z b c e l → Went m view stage caller (λ r. g (f r)) x z a c d l
-went_then m view stage caller f g x y z a b c d e l first second =
+pub went_then : {C B M W : Type 0} {P : _} (m : Meaning) (stage : W → Stage) (caller : W → ℕ) (f g : PlacedRun → PlacedRun) (x y z : Running C B M W P) (a b c : List Note) (d e l : DiskSeen) →
+    Went m stage caller f x y a b d e → Went m stage caller g y z b c e l → Went m stage caller (λ r. g (f r)) x z a c d l
+went_then m stage caller f g x y z a b c d e l first second =
     record {
-      did = did_then f g (placed_of view stage x) (placed_of view stage y) (placed_of view stage z) a b c d e l first.did second.did;
+      did = did_then f g (placed_of stage x) (placed_of stage y) (placed_of stage z) a b c d e l first.did second.did;
       running = second.running;
       stood = second.stood;
       world = second.world ∙ first.world;
@@ -49,25 +48,25 @@ went_then m view stage caller f g x y z a b c d e l first second =
     }
 
 -- a change without a call of the disk, which adds these notes
-pub went_purely : {C M W X : Type 0} {F : X → Type 0} (m : Meaning) (view : Seeing X F) (stage : W → Stage) (caller : W → ℕ) (f : PlacedRun → PlacedRun) (x y : Running C M W X F) (kept kept_new more : List Note) (d : DiskSeen) →
-    ((blocks : Blocks) (notes : List Note) (io : List Bool) → f (run_of (placed_of view stage x) blocks notes io) ≡ run_of (placed_of view stage y) blocks (notes ++ more) io) →
-    ((notes : List Note) → kept ≡ first_notes notes → kept_new ≡ first_notes (notes ++ more)) → IsRunning view caller y → Stood m (placed_of view stage y) → world_of_store y.store ≡ world_of_store x.store → y.clock ≡ x.clock →
-    Went m view stage caller f x y kept kept_new d d
-went_purely m view stage caller f x y kept kept_new more d same adds running stood world clock =
-    record { did = did_purely f (placed_of view stage x) (placed_of view stage y) kept kept_new more d same adds; running = running; stood = stood; world = world; clock = clock }
+pub went_purely : {C B M W : Type 0} {P : _} (m : Meaning) (stage : W → Stage) (caller : W → ℕ) (f : PlacedRun → PlacedRun) (x y : Running C B M W P) (kept kept_new more : List Note) (d : DiskSeen) →
+    ((blocks : Blocks) (notes : List Note) (io : List Bool) → f (run_of (placed_of stage x) blocks notes io) ≡ run_of (placed_of stage y) blocks (notes ++ more) io) →
+    ((notes : List Note) → kept ≡ first_notes notes → kept_new ≡ first_notes (notes ++ more)) → IsRunning caller y → Stood m (placed_of stage y) → world_of_store y.store ≡ world_of_store x.store → y.clock ≡ x.clock →
+    Went m stage caller f x y kept kept_new d d
+went_purely m stage caller f x y kept kept_new more d same adds running stood world clock =
+    record { did = did_purely f (placed_of stage x) (placed_of stage y) kept kept_new more d same adds; running = running; stood = stood; world = world; clock = clock }
 
 -- the same without notes
-pub went_silently : {C M W X : Type 0} {F : X → Type 0} (m : Meaning) (view : Seeing X F) (stage : W → Stage) (caller : W → ℕ) (f : PlacedRun → PlacedRun) (x y : Running C M W X F) (kept : List Note) (d : DiskSeen) →
-    ((notes : List Note) (blocks : Blocks) (io : List Bool) → f (run_of (placed_of view stage x) blocks notes io) ≡ run_of (placed_of view stage y) blocks notes io) →
-    IsRunning view caller y → Stood m (placed_of view stage y) → world_of_store y.store ≡ world_of_store x.store → y.clock ≡ x.clock → Went m view stage caller f x y kept kept d d
-went_silently m view stage caller f x y kept d same running stood world clock =
-    went_purely m view stage caller f x y kept kept [] d (λ blocks notes io. same notes blocks io ∙ ap (λ ns. run_of (placed_of view stage y) blocks ns io) (sym (append-nil notes)))
+pub went_silently : {C B M W : Type 0} {P : _} (m : Meaning) (stage : W → Stage) (caller : W → ℕ) (f : PlacedRun → PlacedRun) (x y : Running C B M W P) (kept : List Note) (d : DiskSeen) →
+    ((notes : List Note) (blocks : Blocks) (io : List Bool) → f (run_of (placed_of stage x) blocks notes io) ≡ run_of (placed_of stage y) blocks notes io) →
+    IsRunning caller y → Stood m (placed_of stage y) → world_of_store y.store ≡ world_of_store x.store → y.clock ≡ x.clock → Went m stage caller f x y kept kept d d
+went_silently m stage caller f x y kept d same running stood world clock =
+    went_purely m stage caller f x y kept kept [] d (λ blocks notes io. same notes blocks io ∙ ap (λ ns. run_of (placed_of stage y) blocks ns io) (sym (append-nil notes)))
     (λ notes k. k ∙ ap first_notes (sym (append-nil notes))) running stood world clock
 
 -- nothing
-pub went_nothing : {C M W X : Type 0} {F : X → Type 0} (m : Meaning) (view : Seeing X F) (stage : W → Stage) (caller : W → ℕ) (x : Running C M W X F) (kept : List Note) (d : DiskSeen) → IsRunning view caller x → Stood m (placed_of view stage x) →
-    Went m view stage caller (λ r. r) x x kept kept d d
-went_nothing m view stage caller x kept d running stood = record { did = did_nothing (placed_of view stage x) kept d; running = running; stood = stood; world = refl; clock = refl }
+pub went_nothing : {C B M W : Type 0} {P : _} (m : Meaning) (stage : W → Stage) (caller : W → ℕ) (x : Running C B M W P) (kept : List Note) (d : DiskSeen) → IsRunning caller x → Stood m (placed_of stage x) →
+    Went m stage caller (λ r. r) x x kept kept d d
+went_nothing m stage caller x kept d running stood = record { did = did_nothing (placed_of stage x) kept d; running = running; stood = stood; world = refl; clock = refl }
 
 -- ---- who stands in the order
 

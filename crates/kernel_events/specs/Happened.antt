@@ -9,21 +9,22 @@ use Rattle.kernel_model.specs.Meaning.{Meaning, Stage}
 use Rattle.kernel_model.specs.Kernel.{Kernel, Run}
 use Rattle.kernel_model.specs.Events.{event}
 use Rattle.kernel_model.specs.Sound.{IsAtRest}
-use Rattle.kernel_state.specs.Stores.{Seeing}
 use Rattle.placed_laws.specs.Placed.{Placed}
 use Rattle.placed_laws.specs.Stands.{StandsFor}
 use Rattle.kernel_steps.specs.declared.running.Running.{Running}
 use Rattle.kernel_steps.specs.Views.{placed_of, IsRunning, Stood}
 
 -- A kernel runs, stands for some abstract kernel, and had at most so many ticks.
-pub record IsKernel {C M W X : Type 0} {F : X → Type 0} (m : Meaning) (view : Seeing X F) (stage : W → Stage) (caller : W → ℕ) (most : ℕ) (x : Running C M W X F) : Type 0 where
-  pub running : IsRunning view caller x
-  pub stood : Stood m (placed_of view stage x)
+pub record IsKernel {C B M W : Type 0} {P : _} (m : Meaning) (stage : W → Stage) (caller : W → ℕ)
+    (most : ℕ) (x : Running C B M W P) : Type 0 where
+  pub running : IsRunning caller x
+  pub stood : Stood m (placed_of stage x)
   pub clock : x.clock ≤ most
 
 -- what is left of the definitions' event is what the code left: the kernel stands for the abstract one, which rests, the disk tells
 -- its blocks, the notes are the same, and of the calls of the disk that were told these are left
-pub record EventIs (m : Meaning) (r : Run) (y : Placed) (notes : List Note) (told : Option (List (List ℕ))) (rest : List Bool) : Type 0 where
+pub record EventIs (m : Meaning) (r : Run) (y : Placed) (notes : List Note)
+    (told : Option (List (List ℕ))) (rest : List Bool) : Type 0 where
   pub stands : StandsFor m y r.kernel
   pub rests : IsAtRest m r.kernel
   pub blocks : Tells told r.blocks
@@ -34,7 +35,8 @@ pub record EventIs (m : Meaning) (r : Run) (y : Placed) (notes : List Note) (tol
 -- every abstract kernel that the one stands for, and that rests, the other stands for what the definitions' event makes of it. The
 -- definitions' event makes as many calls of the disk as the code did, no fewer and no more: whatever later calls would do, it comes
 -- to the same, and leaves them all.
-pub record Happened (m : Meaning) (x y : Placed) (number : ℕ) (what : Event) (notes : List Note) (d e : DiskSeen) : Type 0 where
+pub record Happened (m : Meaning) (x y : Placed) (number : ℕ) (what : Event) (notes : List Note)
+    (d e : DiskSeen) : Type 0 where
   -- which of its calls of the disk failed
   pub io : List Bool
   pub made : Made d.faults e.faults d.plan e.plan io

@@ -21,6 +21,7 @@ use crate::stepping::step_event;
 use crate::ticks::tick_event;
 use call_pieces::Calls;
 use disk_log::DiskLog;
+use graft_points::Policy;
 use history_laws::notes as few_notes;
 use kernel_model::{Event, Note, Refusal, SysCall};
 use kernel_steps::{Notes, Running};
@@ -31,16 +32,20 @@ use vino_base::Disk;
 const MOST_STEPS: u32 = 65_536;
 
 /// A call of process p begins, which has none, and joins the order.
-fn begin<C: Calls>(running: &mut Running<C>, p: u8, number: u32, work: C::Work)
+fn begin<C: Calls, B: Policy>(running: &mut Running<C, B>, p: u8, number: u32, work: C::Work)
     requires process { p < 16 }
     requires alive { lives (queue_of running.old.store) p ≡ true }
-    requires none { (placed_of (λ b. seen (b.vtable, b.value)) (λ w. C.stage w) running.old).call p ≡ None }
+    requires none { (placed_of C.stage running.old).call p ≡ None }
     requires caller { C.caller work ≡ p }
-    requires granted { (call : Called) × (C.Meaning.meaning.early (world_of_store running.old.store) (table_of running.old.images) p call ≡ Ok (C.stage work)) }
-    requires running { IsRunning (λ b. seen (b.vtable, b.value)) (λ w. C.caller w) running.old }
-    requires stood { Stood C.Meaning.meaning (placed_of (λ b. seen (b.vtable, b.value)) (λ w. C.stage w) running.old) }
+    requires granted { (call : Called)
+        × (C.Meaning.meaning.early (world_of_store running.old.store)
+        (table_of running.old.images) p call ≡ Ok (C.stage work)) }
+    requires running { IsRunning C.caller running.old }
+    requires stood { Stood C.Meaning.meaning (placed_of C.stage running.old) }
     ensures went { (kept : List Told) (d : DiskSeen) →
-        Went C.Meaning.meaning (λ b. seen (b.vtable, b.value)) (λ w. C.stage w) (λ w. C.caller w) (λ r. placed_joins p (with_placed_call p (Some (first_placed number (C.stage work))) r)) running.old running.new kept kept d d }
+        Went C.Meaning.meaning C.stage C.caller
+        (λ r. placed_joins p (with_placed_call p (Some (first_placed number (C.stage work))) r))
+        running.old running.new kept kept d d }
 {
     agreeing::same_shown::<C::Meaning>();
     keeping::others_stand::<C::Meaning>();
@@ -48,8 +53,8 @@ fn begin<C: Calls>(running: &mut Running<C>, p: u8, number: u32, work: C::Work)
 }
 
 /// A granted call of process p, as far as it comes at its event.
-fn run<C: Calls, D: Disk>(
-    running: &mut Running<C>,
+fn run<C: Calls, B: Policy, D: Disk>(
+    running: &mut Running<C, B>,
     p: u8,
     number: u32,
     work: C::Work,
@@ -59,15 +64,21 @@ fn run<C: Calls, D: Disk>(
 )
     requires process { p < 16 }
     requires alive { lives (queue_of running.old.store) p ≡ true }
-    requires none { (placed_of (λ b. seen (b.vtable, b.value)) (λ w. C.stage w) running.old).call p ≡ None }
+    requires none { (placed_of C.stage running.old).call p ≡ None }
     requires caller { C.caller work ≡ p }
-    requires granted { (call : Called) × (C.Meaning.meaning.early (world_of_store running.old.store) (table_of running.old.images) p call ≡ Ok (C.stage work)) }
-    requires running { IsRunning (λ b. seen (b.vtable, b.value)) (λ w. C.caller w) running.old }
-    requires stood { Stood C.Meaning.meaning (placed_of (λ b. seen (b.vtable, b.value)) (λ w. C.stage w) running.old) }
+    requires granted { (call : Called)
+        × (C.Meaning.meaning.early (world_of_store running.old.store)
+        (table_of running.old.images) p call ≡ Ok (C.stage work)) }
+    requires running { IsRunning C.caller running.old }
+    requires stood { Stood C.Meaning.meaning (placed_of C.stage running.old) }
     requires disk { running.old.store.size ≡ D.block_count disk.old }
-    ensures went { Went C.Meaning.meaning (λ b. seen (b.vtable, b.value)) (λ w. C.stage w) (λ w. C.caller w)
-        (λ r. placed_last C.Meaning.meaning p (placed_settled C.Meaning.meaning (placed_joins p (with_placed_call p (Some (first_placed number (C.stage work))) r)))) running.old running.new notes.old notes.new
-        (disk_seen (D.blocks disk.old) (D.plan disk.old) (D.faults disk.old)) (disk_seen (D.blocks disk.new) (D.plan disk.new) (D.faults disk.new)) }
+    ensures went { Went C.Meaning.meaning C.stage C.caller
+        (λ r. placed_last C.Meaning.meaning p
+        (placed_settled C.Meaning.meaning
+        (placed_joins p (with_placed_call p (Some (first_placed number (C.stage work))) r))))
+        running.old running.new notes.old notes.new
+        (disk_seen (D.blocks disk.old) (D.plan disk.old) (D.faults disk.old))
+        (disk_seen (D.blocks disk.new) (D.plan disk.new) (D.faults disk.new)) }
     ensures same_size { D.block_count disk.new ≡ D.block_count disk.old }
 {
     begin(running, p, number, work);
@@ -76,8 +87,8 @@ fn run<C: Calls, D: Disk>(
 }
 
 /// A system call of process p: refused at once, or begun.
-fn system<C: Calls, D: Disk>(
-    running: &mut Running<C>,
+fn system<C: Calls, B: Policy, D: Disk>(
+    running: &mut Running<C, B>,
     number: u32,
     p: u32,
     call: &SysCall,
@@ -85,11 +96,14 @@ fn system<C: Calls, D: Disk>(
     log: &mut DiskLog,
     notes: &mut Notes,
 )
-    requires running { IsRunning (λ b. seen (b.vtable, b.value)) (λ w. C.caller w) running.old }
-    requires stood { Stood C.Meaning.meaning (placed_of (λ b. seen (b.vtable, b.value)) (λ w. C.stage w) running.old) }
+    requires running { IsRunning C.caller running.old }
+    requires stood { Stood C.Meaning.meaning (placed_of C.stage running.old) }
     requires disk { running.old.store.size ≡ D.block_count disk.old }
-    ensures went { Went C.Meaning.meaning (λ b. seen (b.vtable, b.value)) (λ w. C.stage w) (λ w. C.caller w) (placed_event_on C.Meaning.meaning number (Sys p call.now)) running.old running.new notes.old notes.new
-        (disk_seen (D.blocks disk.old) (D.plan disk.old) (D.faults disk.old)) (disk_seen (D.blocks disk.new) (D.plan disk.new) (D.faults disk.new)) }
+    ensures went { Went C.Meaning.meaning C.stage C.caller
+        (placed_event_on C.Meaning.meaning number (Sys p call.now)) running.old running.new
+        notes.old notes.new
+        (disk_seen (D.blocks disk.old) (D.plan disk.old) (D.faults disk.old))
+        (disk_seen (D.blocks disk.new) (D.plan disk.new) (D.faults disk.new)) }
     ensures same_size { D.block_count disk.new ≡ D.block_count disk.old }
 {
     if !running.store.living(p) {
@@ -105,8 +119,8 @@ fn system<C: Calls, D: Disk>(
 }
 
 /// Instructions of process p's call, at most n, or a refusal.
-fn stepped<C: Calls, D: Disk>(
-    running: &mut Running<C>,
+fn stepped<C: Calls, B: Policy, D: Disk>(
+    running: &mut Running<C, B>,
     number: u32,
     p: u32,
     n: u32,
@@ -114,12 +128,15 @@ fn stepped<C: Calls, D: Disk>(
     log: &mut DiskLog,
     notes: &mut Notes,
 )
-    requires running { IsRunning (λ b. seen (b.vtable, b.value)) (λ w. C.caller w) running.old }
-    requires stood { Stood C.Meaning.meaning (placed_of (λ b. seen (b.vtable, b.value)) (λ w. C.stage w) running.old) }
+    requires running { IsRunning C.caller running.old }
+    requires stood { Stood C.Meaning.meaning (placed_of C.stage running.old) }
     requires disk { running.old.store.size ≡ D.block_count disk.old }
-    ensures did { DidFromRest C.Meaning.meaning (placed_event_on C.Meaning.meaning number (Step p n)) (placed_of (λ b. seen (b.vtable, b.value)) (λ w. C.stage w) running.old) (placed_of (λ b. seen (b.vtable, b.value)) (λ w. C.stage w) running.new) notes.old notes.new
-        (disk_seen (D.blocks disk.old) (D.plan disk.old) (D.faults disk.old)) (disk_seen (D.blocks disk.new) (D.plan disk.new) (D.faults disk.new)) }
-    ensures on { GoesOn C.Meaning.meaning (λ b. seen (b.vtable, b.value)) (λ w. C.stage w) (λ w. C.caller w) running.old running.new }
+    ensures did { DidFromRest C.Meaning.meaning
+        (placed_event_on C.Meaning.meaning number (Step p n)) (placed_of C.stage running.old)
+        (placed_of C.stage running.new) notes.old notes.new
+        (disk_seen (D.blocks disk.old) (D.plan disk.old) (D.faults disk.old))
+        (disk_seen (D.blocks disk.new) (D.plan disk.new) (D.faults disk.new)) }
+    ensures on { GoesOn C.Meaning.meaning C.stage C.caller running.old running.new }
     ensures same_size { D.block_count disk.new ≡ D.block_count disk.old }
 {
     if !running.store.living(p) {
@@ -136,8 +153,8 @@ fn stepped<C: Calls, D: Disk>(
 
 /// One event, which has this number. Its notes are left behind. The log is for the calls of the disk of one piece. No memory is
 /// taken.
-pub fn event<C: Calls, D: Disk>(
-    running: &mut Running<C>,
+pub fn event<C: Calls, B: Policy, D: Disk>(
+    running: &mut Running<C, B>,
     number: u32,
     what: &Event,
     disk: &mut D,
@@ -146,12 +163,14 @@ pub fn event<C: Calls, D: Disk>(
 )
     requires first { 0 < number }
     requires room { number < 2 ^ 32 - 1 }
-    requires kernel { IsKernel C.Meaning.meaning (λ b. seen (b.vtable, b.value)) (λ w. C.stage w) (λ w. C.caller w) (number - 1) running.old }
+    requires kernel { IsKernel C.Meaning.meaning C.stage C.caller (number - 1) running.old }
     requires disk { running.old.store.size ≡ D.block_count disk.old }
     requires no_notes { notes.old ≡ [] }
-    ensures happened { Happened C.Meaning.meaning (placed_of (λ b. seen (b.vtable, b.value)) (λ w. C.stage w) running.old) (placed_of (λ b. seen (b.vtable, b.value)) (λ w. C.stage w) running.new) number what.now notes.new
-        (disk_seen (D.blocks disk.old) (D.plan disk.old) (D.faults disk.old)) (disk_seen (D.blocks disk.new) (D.plan disk.new) (D.faults disk.new)) }
-    ensures kernel { IsKernel C.Meaning.meaning (λ b. seen (b.vtable, b.value)) (λ w. C.stage w) (λ w. C.caller w) number running.new }
+    ensures happened { Happened C.Meaning.meaning (placed_of C.stage running.old)
+        (placed_of C.stage running.new) number what.now notes.new
+        (disk_seen (D.blocks disk.old) (D.plan disk.old) (D.faults disk.old))
+        (disk_seen (D.blocks disk.new) (D.plan disk.new) (D.faults disk.new)) }
+    ensures kernel { IsKernel C.Meaning.meaning C.stage C.caller number running.new }
     ensures world { world_of_store running.new.store ≡ world_of_store running.old.store }
     ensures same_size { D.block_count disk.new ≡ D.block_count disk.old }
 {

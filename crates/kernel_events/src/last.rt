@@ -8,15 +8,16 @@ ghost use Rattle.kernel_steps.specs.Did.{Did};
 ghost use Rattle.kernel_steps.specs.Views.{placed_of, IsRunning, Stood};
 
 use call_pieces::Calls;
+use graft_points::Policy;
 use kernel_model::Note;
 use kernel_steps::{Notes, Running};
 
 /// Says for what process p's call of this number waits, if something blocks it.
-fn say_wait<C: Calls>(running: &Running<C>, p: u8, number: u32, notes: &mut Notes)
+fn say_wait<C: Calls, B: Policy>(running: &Running<C, B>, p: u8, number: u32, notes: &mut Notes)
     requires process { p < 16 }
-    requires running { IsRunning (λ b. seen (b.vtable, b.value)) (λ w. C.caller w) running.now }
-    requires stood { Stood C.Meaning.meaning (placed_of (λ b. seen (b.vtable, b.value)) (λ w. C.stage w) running.now) }
-    ensures said { (d : DiskSeen) → let x = placed_of (λ b. seen (b.vtable, b.value)) (λ w. C.stage w) running.now in
+    requires running { IsRunning C.caller running.now }
+    requires stood { Stood C.Meaning.meaning (placed_of C.stage running.now) }
+    ensures said { (d : DiskSeen) → let x = placed_of C.stage running.now in
         Did (placed_waits_note number (placed_blocker C.Meaning.meaning x p)) x x notes.old notes.new d d }
 {
     if let Some(found) = running.blocker(p) {
@@ -25,11 +26,11 @@ fn say_wait<C: Calls>(running: &Running<C>, p: u8, number: u32, notes: &mut Note
 }
 
 /// Says where process p's call stands, if it is still in flight: it waits, or it is in a graft.
-pub(crate) fn say_last<C: Calls>(running: &Running<C>, p: u8, notes: &mut Notes)
+pub(crate) fn say_last<C: Calls, B: Policy>(running: &Running<C, B>, p: u8, notes: &mut Notes)
     requires process { p < 16 }
-    requires running { IsRunning (λ b. seen (b.vtable, b.value)) (λ w. C.caller w) running.now }
-    requires stood { Stood C.Meaning.meaning (placed_of (λ b. seen (b.vtable, b.value)) (λ w. C.stage w) running.now) }
-    ensures said { (d : DiskSeen) → let x = placed_of (λ b. seen (b.vtable, b.value)) (λ w. C.stage w) running.now in
+    requires running { IsRunning C.caller running.now }
+    requires stood { Stood C.Meaning.meaning (placed_of C.stage running.now) }
+    ensures said { (d : DiskSeen) → let x = placed_of C.stage running.now in
         Did (placed_last C.Meaning.meaning p) x x notes.old notes.new d d }
 {
     let Some(number) = running.call_number(p) else {

@@ -9,6 +9,7 @@ ghost use Rattle.kernel_events.specs.Went.{Went};
 
 use call_pieces::Calls;
 use disk_log::DiskLog;
+use graft_points::Policy;
 use kernel_steps::{Notes, Running};
 use placed_laws::{agreeing, keeping};
 use vino_base::Disk;
@@ -17,29 +18,32 @@ use vino_base::Disk;
 const STEPS: u16 = 256;
 
 /// The order is told its blockers.
-fn rest<C: Calls>(running: &mut Running<C>)
-    requires running { IsRunning (λ b. seen (b.vtable, b.value)) (λ w. C.caller w) running.old }
-    requires stood { Stood C.Meaning.meaning (placed_of (λ b. seen (b.vtable, b.value)) (λ w. C.stage w) running.old) }
+fn rest<C: Calls, B: Policy>(running: &mut Running<C, B>)
+    requires running { IsRunning C.caller running.old }
+    requires stood { Stood C.Meaning.meaning (placed_of C.stage running.old) }
     ensures went { (kept : List Told) (d : DiskSeen) →
-        Went C.Meaning.meaning (λ b. seen (b.vtable, b.value)) (λ w. C.stage w) (λ w. C.caller w) (placed_rested C.Meaning.meaning) running.old running.new kept kept d d }
+        Went C.Meaning.meaning C.stage C.caller
+        (placed_rested C.Meaning.meaning) running.old running.new kept kept d d }
 {
     keeping::others_stand::<C::Meaning>();
     running.rest();
 }
 
 /// At most so many steps, each of the first call in the order that nothing blocks, and then rest.
-fn settle<C: Calls, D: Disk>(
-    running: &mut Running<C>,
+fn settle<C: Calls, B: Policy, D: Disk>(
+    running: &mut Running<C, B>,
     turns: u16,
     disk: &mut D,
     log: &mut DiskLog,
     notes: &mut Notes,
 )
-    requires running { IsRunning (λ b. seen (b.vtable, b.value)) (λ w. C.caller w) running.old }
-    requires stood { Stood C.Meaning.meaning (placed_of (λ b. seen (b.vtable, b.value)) (λ w. C.stage w) running.old) }
+    requires running { IsRunning C.caller running.old }
+    requires stood { Stood C.Meaning.meaning (placed_of C.stage running.old) }
     requires disk { running.old.store.size ≡ D.block_count disk.old }
-    ensures went { Went C.Meaning.meaning (λ b. seen (b.vtable, b.value)) (λ w. C.stage w) (λ w. C.caller w) (placed_settle C.Meaning.meaning turns) running.old running.new notes.old notes.new
-        (disk_seen (D.blocks disk.old) (D.plan disk.old) (D.faults disk.old)) (disk_seen (D.blocks disk.new) (D.plan disk.new) (D.faults disk.new)) }
+    ensures went { Went C.Meaning.meaning C.stage C.caller
+        (placed_settle C.Meaning.meaning turns) running.old running.new notes.old notes.new
+        (disk_seen (D.blocks disk.old) (D.plan disk.old) (D.faults disk.old))
+        (disk_seen (D.blocks disk.new) (D.plan disk.new) (D.faults disk.new)) }
     ensures same_size { D.block_count disk.new ≡ D.block_count disk.old }
 {
     agreeing::same_shown::<C::Meaning>();
@@ -54,17 +58,19 @@ fn settle<C: Calls, D: Disk>(
 }
 
 /// All steps that can be taken.
-pub(crate) fn settle_all<C: Calls, D: Disk>(
-    running: &mut Running<C>,
+pub(crate) fn settle_all<C: Calls, B: Policy, D: Disk>(
+    running: &mut Running<C, B>,
     disk: &mut D,
     log: &mut DiskLog,
     notes: &mut Notes,
 )
-    requires running { IsRunning (λ b. seen (b.vtable, b.value)) (λ w. C.caller w) running.old }
-    requires stood { Stood C.Meaning.meaning (placed_of (λ b. seen (b.vtable, b.value)) (λ w. C.stage w) running.old) }
+    requires running { IsRunning C.caller running.old }
+    requires stood { Stood C.Meaning.meaning (placed_of C.stage running.old) }
     requires disk { running.old.store.size ≡ D.block_count disk.old }
-    ensures went { Went C.Meaning.meaning (λ b. seen (b.vtable, b.value)) (λ w. C.stage w) (λ w. C.caller w) (placed_settled C.Meaning.meaning) running.old running.new notes.old notes.new
-        (disk_seen (D.blocks disk.old) (D.plan disk.old) (D.faults disk.old)) (disk_seen (D.blocks disk.new) (D.plan disk.new) (D.faults disk.new)) }
+    ensures went { Went C.Meaning.meaning C.stage C.caller
+        (placed_settled C.Meaning.meaning) running.old running.new notes.old notes.new
+        (disk_seen (D.blocks disk.old) (D.plan disk.old) (D.faults disk.old))
+        (disk_seen (D.blocks disk.new) (D.plan disk.new) (D.faults disk.new)) }
     ensures same_size { D.block_count disk.new ≡ D.block_count disk.old }
 {
     settle(running, STEPS, disk, log, notes);

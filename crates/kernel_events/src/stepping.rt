@@ -16,21 +16,22 @@ use crate::settle::settle_all;
 use crate::stretch::stretch;
 use call_pieces::Calls;
 use disk_log::DiskLog;
+use graft_points::Policy;
 use kernel_model::Note;
 use kernel_steps::{Notes, Running};
 use placed_laws::{agreeing, keeping, resting};
 use vino_base::Disk;
 
 /// Process p's call, which is in a graft, blocked, and not in the order, joins it.
-fn join<C: Calls>(running: &mut Running<C>, p: u8)
+fn join<C: Calls, B: Policy>(running: &mut Running<C, B>, p: u8)
     requires process { p < 16 }
-    requires level { has_some ((placed_of (λ b. seen (b.vtable, b.value)) (λ w. C.stage w) running.old).levels p) ≡ true }
-    requires new { in_order p (placed_of (λ b. seen (b.vtable, b.value)) (λ w. C.stage w) running.old).order ≡ false }
-    requires blocked { is_some (placed_blocker C.Meaning.meaning (placed_of (λ b. seen (b.vtable, b.value)) (λ w. C.stage w) running.old) p) ≡ true }
-    requires running { IsRunning (λ b. seen (b.vtable, b.value)) (λ w. C.caller w) running.old }
-    requires stood { Stood C.Meaning.meaning (placed_of (λ b. seen (b.vtable, b.value)) (λ w. C.stage w) running.old) }
+    requires level { has_some ((placed_of C.stage running.old).levels p) ≡ true }
+    requires new { in_order p (placed_of C.stage running.old).order ≡ false }
+    requires blocked { is_some (placed_blocker C.Meaning.meaning (placed_of C.stage running.old) p) ≡ true }
+    requires running { IsRunning C.caller running.old }
+    requires stood { Stood C.Meaning.meaning (placed_of C.stage running.old) }
     ensures went { (kept : List Told) (d : DiskSeen) →
-        Went C.Meaning.meaning (λ b. seen (b.vtable, b.value)) (λ w. C.stage w) (λ w. C.caller w) (placed_joins p) running.old running.new kept kept d d }
+        Went C.Meaning.meaning C.stage C.caller (placed_joins p) running.old running.new kept kept d d }
 {
     keeping::others_stand::<C::Meaning>();
     running.join(p);
@@ -38,21 +39,23 @@ fn join<C: Calls>(running: &mut Running<C>, p: u8)
 
 /// Takes up an instruction of process p's call, and all steps that can be taken then: none where the kernel rested, and the call
 /// keeps its levels and what they hold. Whether it could: a call that is blocked in a graft joins the order.
-fn take_up<C: Calls, D: Disk>(
-    running: &mut Running<C>,
+fn take_up<C: Calls, B: Policy, D: Disk>(
+    running: &mut Running<C, B>,
     p: u8,
     disk: &mut D,
     log: &mut DiskLog,
     notes: &mut Notes,
 ) -> bool
     requires process { p < 16 }
-    requires running { IsRunning (λ b. seen (b.vtable, b.value)) (λ w. C.caller w) running.old }
-    requires stood { Stood C.Meaning.meaning (placed_of (λ b. seen (b.vtable, b.value)) (λ w. C.stage w) running.old) }
+    requires running { IsRunning C.caller running.old }
+    requires stood { Stood C.Meaning.meaning (placed_of C.stage running.old) }
     requires disk { running.old.store.size ≡ D.block_count disk.old }
-    ensures took { result ≡ takes_up C.Meaning.meaning (placed_of (λ b. seen (b.vtable, b.value)) (λ w. C.stage w) running.old) p }
-    ensures did { DidToRest C.Meaning.meaning (taken_up C.Meaning.meaning p) (placed_of (λ b. seen (b.vtable, b.value)) (λ w. C.stage w) running.old) (placed_of (λ b. seen (b.vtable, b.value)) (λ w. C.stage w) running.new) notes.old notes.new
-        (disk_seen (D.blocks disk.old) (D.plan disk.old) (D.faults disk.old)) (disk_seen (D.blocks disk.new) (D.plan disk.new) (D.faults disk.new)) }
-    ensures on { GoesOn C.Meaning.meaning (λ b. seen (b.vtable, b.value)) (λ w. C.stage w) (λ w. C.caller w) running.old running.new }
+    ensures took { result ≡ takes_up C.Meaning.meaning (placed_of C.stage running.old) p }
+    ensures did { DidToRest C.Meaning.meaning (taken_up C.Meaning.meaning p)
+        (placed_of C.stage running.old) (placed_of C.stage running.new) notes.old notes.new
+        (disk_seen (D.blocks disk.old) (D.plan disk.old) (D.faults disk.old))
+        (disk_seen (D.blocks disk.new) (D.plan disk.new) (D.faults disk.new)) }
+    ensures on { GoesOn C.Meaning.meaning C.stage C.caller running.old running.new }
     ensures same_size { D.block_count disk.new ≡ D.block_count disk.old }
 {
     agreeing::same_shown::<C::Meaning>();
@@ -87,8 +90,8 @@ fn more(taken: u32, went: bool) -> u32
 }
 
 /// At most n instructions of process p's call, and the note of how many were taken up.
-fn steps<C: Calls, D: Disk>(
-    running: &mut Running<C>,
+fn steps<C: Calls, B: Policy, D: Disk>(
+    running: &mut Running<C, B>,
     number: u32,
     p: u8,
     n: u32,
@@ -98,12 +101,14 @@ fn steps<C: Calls, D: Disk>(
 )
     requires process { p < 16 }
     requires few { n ≤ 65536 }
-    requires running { IsRunning (λ b. seen (b.vtable, b.value)) (λ w. C.caller w) running.old }
-    requires stood { Stood C.Meaning.meaning (placed_of (λ b. seen (b.vtable, b.value)) (λ w. C.stage w) running.old) }
+    requires running { IsRunning C.caller running.old }
+    requires stood { Stood C.Meaning.meaning (placed_of C.stage running.old) }
     requires disk { running.old.store.size ≡ D.block_count disk.old }
-    ensures did { DidFromRest C.Meaning.meaning (steps_said C.Meaning.meaning number p n 0) (placed_of (λ b. seen (b.vtable, b.value)) (λ w. C.stage w) running.old) (placed_of (λ b. seen (b.vtable, b.value)) (λ w. C.stage w) running.new) notes.old notes.new
-        (disk_seen (D.blocks disk.old) (D.plan disk.old) (D.faults disk.old)) (disk_seen (D.blocks disk.new) (D.plan disk.new) (D.faults disk.new)) }
-    ensures on { GoesOn C.Meaning.meaning (λ b. seen (b.vtable, b.value)) (λ w. C.stage w) (λ w. C.caller w) running.old running.new }
+    ensures did { DidFromRest C.Meaning.meaning (steps_said C.Meaning.meaning number p n 0)
+        (placed_of C.stage running.old) (placed_of C.stage running.new) notes.old notes.new
+        (disk_seen (D.blocks disk.old) (D.plan disk.old) (D.faults disk.old))
+        (disk_seen (D.blocks disk.new) (D.plan disk.new) (D.faults disk.new)) }
+    ensures on { GoesOn C.Meaning.meaning C.stage C.caller running.old running.new }
     ensures same_size { D.block_count disk.new ≡ D.block_count disk.old }
 {
     let mut taken = 0;
@@ -120,8 +125,8 @@ fn steps<C: Calls, D: Disk>(
 }
 
 /// Instructions of process p's call: at most n, how many were taken up, and where the call stands then.
-pub(crate) fn step_event<C: Calls, D: Disk>(
-    running: &mut Running<C>,
+pub(crate) fn step_event<C: Calls, B: Policy, D: Disk>(
+    running: &mut Running<C, B>,
     number: u32,
     p: u8,
     n: u32,
@@ -131,12 +136,14 @@ pub(crate) fn step_event<C: Calls, D: Disk>(
 )
     requires process { p < 16 }
     requires few { n ≤ 65536 }
-    requires running { IsRunning (λ b. seen (b.vtable, b.value)) (λ w. C.caller w) running.old }
-    requires stood { Stood C.Meaning.meaning (placed_of (λ b. seen (b.vtable, b.value)) (λ w. C.stage w) running.old) }
+    requires running { IsRunning C.caller running.old }
+    requires stood { Stood C.Meaning.meaning (placed_of C.stage running.old) }
     requires disk { running.old.store.size ≡ D.block_count disk.old }
-    ensures did { DidFromRest C.Meaning.meaning (placed_step_event C.Meaning.meaning number p n) (placed_of (λ b. seen (b.vtable, b.value)) (λ w. C.stage w) running.old) (placed_of (λ b. seen (b.vtable, b.value)) (λ w. C.stage w) running.new) notes.old notes.new
-        (disk_seen (D.blocks disk.old) (D.plan disk.old) (D.faults disk.old)) (disk_seen (D.blocks disk.new) (D.plan disk.new) (D.faults disk.new)) }
-    ensures on { GoesOn C.Meaning.meaning (λ b. seen (b.vtable, b.value)) (λ w. C.stage w) (λ w. C.caller w) running.old running.new }
+    ensures did { DidFromRest C.Meaning.meaning (placed_step_event C.Meaning.meaning number p n)
+        (placed_of C.stage running.old) (placed_of C.stage running.new) notes.old notes.new
+        (disk_seen (D.blocks disk.old) (D.plan disk.old) (D.faults disk.old))
+        (disk_seen (D.blocks disk.new) (D.plan disk.new) (D.faults disk.new)) }
+    ensures on { GoesOn C.Meaning.meaning C.stage C.caller running.old running.new }
     ensures same_size { D.block_count disk.new ≡ D.block_count disk.old }
 {
     steps(running, number, p, n, disk, log, notes);

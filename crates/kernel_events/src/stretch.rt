@@ -5,20 +5,21 @@ ghost use Rattle.kernel_steps.specs.Views.{placed_of, IsRunning, Stood};
 ghost use Rattle.kernel_events.specs.Went.{GoesOn, Leads};
 
 use call_pieces::Calls;
+use graft_points::Policy;
 use kernel_steps::Running;
 use placed_laws::{agreeing, stretching};
 
 /// A stretch of process p's call, where it is in a graft and doesn't wait: at most n quiet instructions, which each go
 /// on and call nothing, or only read an object that their level holds already. How many there were. They leave no step
 /// to take.
-pub(crate) fn stretch<C: Calls>(running: &mut Running<C>, p: u8, n: u32) -> u32
+pub(crate) fn stretch<C: Calls, B: Policy>(running: &mut Running<C, B>, p: u8, n: u32) -> u32
     requires process { p < 16 }
-    requires running { IsRunning (λ b. seen (b.vtable, b.value)) (λ w. C.caller w) running.old }
-    requires stood { Stood C.Meaning.meaning (placed_of (λ b. seen (b.vtable, b.value)) (λ w. C.stage w) running.old) }
+    requires running { IsRunning C.caller running.old }
+    requires stood { Stood C.Meaning.meaning (placed_of C.stage running.old) }
     ensures most { result ≤ n }
-    ensures leads { let x = placed_of (λ b. seen (b.vtable, b.value)) (λ w. C.stage w) running.old in
-        Leads C.Meaning.meaning p result x (placed_of (λ b. seen (b.vtable, b.value)) (λ w. C.stage w) running.new) }
-    ensures on { GoesOn C.Meaning.meaning (λ b. seen (b.vtable, b.value)) (λ w. C.stage w) (λ w. C.caller w)
+    ensures leads { let x = placed_of C.stage running.old in
+        Leads C.Meaning.meaning p result x (placed_of C.stage running.new) }
+    ensures on { GoesOn C.Meaning.meaning C.stage C.caller
         running.old running.new }
 {
     agreeing::same_shown::<C::Meaning>();

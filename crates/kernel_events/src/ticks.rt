@@ -13,6 +13,7 @@ ghost use Rattle.kernel_events.specs.Went.{Went, Ticked};
 use crate::settle::settle_all;
 use call_pieces::Calls;
 use disk_log::DiskLog;
+use graft_points::Policy;
 use kernel_model::{Cause, Note, Refusal};
 use kernel_steps::{Blocking, Notes, Running, Waiting};
 use placed_laws::{agreeing, keeping};
@@ -22,22 +23,30 @@ use vino_base::Disk;
 const ACTIONS: u16 = 288;
 
 /// Process p's call of this number, which is in no graft, is refused.
-fn refuse<C: Calls>(running: &mut Running<C>, p: u8, number: u32, why: Refusal, notes: &mut Notes)
+fn refuse<C: Calls, B: Policy>(
+    running: &mut Running<C, B>,
+    p: u8,
+    number: u32,
+    why: Refusal,
+    notes: &mut Notes,
+)
     requires process { p < 16 }
-    requires call { Some number ≡ option_map (λ c. c.number) ((placed_of (λ b. seen (b.vtable, b.value)) (λ w. C.stage w) running.old).call p) }
-    requires none { (placed_of (λ b. seen (b.vtable, b.value)) (λ w. C.stage w) running.old).levels p ≡ [] }
-    requires running { IsRunning (λ b. seen (b.vtable, b.value)) (λ w. C.caller w) running.old }
-    requires stood { Stood C.Meaning.meaning (placed_of (λ b. seen (b.vtable, b.value)) (λ w. C.stage w) running.old) }
+    requires call { Some number ≡ option_map (λ c. c.number) ((placed_of C.stage running.old).call p) }
+    requires none { (placed_of C.stage running.old).levels p ≡ [] }
+    requires running { IsRunning C.caller running.old }
+    requires stood { Stood C.Meaning.meaning (placed_of C.stage running.old) }
     ensures went { (d : DiskSeen) →
-        Went C.Meaning.meaning (λ b. seen (b.vtable, b.value)) (λ w. C.stage w) (λ w. C.caller w) (λ r. placed_requeue p (placed_noted (Refused number why) (with_placed_call p None r))) running.old running.new notes.old notes.new d d }
+        Went C.Meaning.meaning C.stage C.caller
+        (λ r. placed_requeue p (placed_noted (Refused number why) (with_placed_call p None r)))
+        running.old running.new notes.old notes.new d d }
 {
     keeping::others_stand::<C::Meaning>();
     running.end(p, Note::Refused(number, why), notes);
 }
 
 /// Process p has waited too long for a user lock: its innermost level is dropped, or its call ends.
-fn time_out_waiter<C: Calls, D: Disk>(
-    running: &mut Running<C>,
+fn time_out_waiter<C: Calls, B: Policy, D: Disk>(
+    running: &mut Running<C, B>,
     p: u8,
     found: Blocking,
     disk: &mut D,
@@ -45,11 +54,14 @@ fn time_out_waiter<C: Calls, D: Disk>(
     notes: &mut Notes,
 )
     requires process { p < 16 }
-    requires running { IsRunning (λ b. seen (b.vtable, b.value)) (λ w. C.caller w) running.old }
-    requires stood { Stood C.Meaning.meaning (placed_of (λ b. seen (b.vtable, b.value)) (λ w. C.stage w) running.old) }
+    requires running { IsRunning C.caller running.old }
+    requires stood { Stood C.Meaning.meaning (placed_of C.stage running.old) }
     requires disk { running.old.store.size ≡ D.block_count disk.old }
-    ensures went { Went C.Meaning.meaning (λ b. seen (b.vtable, b.value)) (λ w. C.stage w) (λ w. C.caller w) (λ r. placed_waiter C.Meaning.meaning p (blocker_of found) (r.placed.call p) r) running.old running.new notes.old notes.new
-        (disk_seen (D.blocks disk.old) (D.plan disk.old) (D.faults disk.old)) (disk_seen (D.blocks disk.new) (D.plan disk.new) (D.faults disk.new)) }
+    ensures went { Went C.Meaning.meaning C.stage C.caller
+        (λ r. placed_waiter C.Meaning.meaning p (blocker_of found) (r.placed.call p) r) running.old
+        running.new notes.old notes.new
+        (disk_seen (D.blocks disk.old) (D.plan disk.old) (D.faults disk.old))
+        (disk_seen (D.blocks disk.new) (D.plan disk.new) (D.faults disk.new)) }
     ensures same_size { D.block_count disk.new ≡ D.block_count disk.old }
 {
     let Some(number) = running.call_number(p) else {
@@ -65,8 +77,8 @@ fn time_out_waiter<C: Calls, D: Disk>(
 }
 
 /// A call has been in process p's way for too long: it loses the outermost level whose hold conflicts.
-fn time_out_holder<C: Calls, D: Disk>(
-    running: &mut Running<C>,
+fn time_out_holder<C: Calls, B: Policy, D: Disk>(
+    running: &mut Running<C, B>,
     p: u8,
     found: Blocking,
     disk: &mut D,
@@ -74,11 +86,14 @@ fn time_out_holder<C: Calls, D: Disk>(
     notes: &mut Notes,
 )
     requires process { p < 16 }
-    requires running { IsRunning (λ b. seen (b.vtable, b.value)) (λ w. C.caller w) running.old }
-    requires stood { Stood C.Meaning.meaning (placed_of (λ b. seen (b.vtable, b.value)) (λ w. C.stage w) running.old) }
+    requires running { IsRunning C.caller running.old }
+    requires stood { Stood C.Meaning.meaning (placed_of C.stage running.old) }
     requires disk { running.old.store.size ≡ D.block_count disk.old }
-    ensures went { Went C.Meaning.meaning (λ b. seen (b.vtable, b.value)) (λ w. C.stage w) (λ w. C.caller w) (placed_holder C.Meaning.meaning p (blocker_of found)) running.old running.new notes.old notes.new
-        (disk_seen (D.blocks disk.old) (D.plan disk.old) (D.faults disk.old)) (disk_seen (D.blocks disk.new) (D.plan disk.new) (D.faults disk.new)) }
+    ensures went { Went C.Meaning.meaning C.stage C.caller
+        (placed_holder C.Meaning.meaning p (blocker_of found)) running.old running.new notes.old
+        notes.new
+        (disk_seen (D.blocks disk.old) (D.plan disk.old) (D.faults disk.old))
+        (disk_seen (D.blocks disk.new) (D.plan disk.new) (D.faults disk.new)) }
     ensures same_size { D.block_count disk.new ≡ D.block_count disk.old }
 {
     let Some(level) = running.level_in_the_way(p, found.object, found.holder) else {
@@ -89,19 +104,22 @@ fn time_out_holder<C: Calls, D: Disk>(
 }
 
 /// The action for an entry that has waited too long.
-fn act<C: Calls, D: Disk>(
-    running: &mut Running<C>,
+fn act<C: Calls, B: Policy, D: Disk>(
+    running: &mut Running<C, B>,
     waiting: Waiting,
     disk: &mut D,
     log: &mut DiskLog,
     notes: &mut Notes,
 )
     requires process { waiting.process < 16 }
-    requires running { IsRunning (λ b. seen (b.vtable, b.value)) (λ w. C.caller w) running.old }
-    requires stood { Stood C.Meaning.meaning (placed_of (λ b. seen (b.vtable, b.value)) (λ w. C.stage w) running.old) }
+    requires running { IsRunning C.caller running.old }
+    requires stood { Stood C.Meaning.meaning (placed_of C.stage running.old) }
     requires disk { running.old.store.size ≡ D.block_count disk.old }
-    ensures went { Went C.Meaning.meaning (λ b. seen (b.vtable, b.value)) (λ w. C.stage w) (λ w. C.caller w) (placed_entry_action C.Meaning.meaning (entry_of waiting) (entry_of waiting).blocker) running.old running.new notes.old notes.new
-        (disk_seen (D.blocks disk.old) (D.plan disk.old) (D.faults disk.old)) (disk_seen (D.blocks disk.new) (D.plan disk.new) (D.faults disk.new)) }
+    ensures went { Went C.Meaning.meaning C.stage C.caller
+        (placed_entry_action C.Meaning.meaning (entry_of waiting) (entry_of waiting).blocker)
+        running.old running.new notes.old notes.new
+        (disk_seen (D.blocks disk.old) (D.plan disk.old) (D.faults disk.old))
+        (disk_seen (D.blocks disk.new) (D.plan disk.new) (D.faults disk.new)) }
     ensures same_size { D.block_count disk.new ≡ D.block_count disk.old }
 {
     let Some(found) = waiting.blocker else {
@@ -114,18 +132,20 @@ fn act<C: Calls, D: Disk>(
 }
 
 /// At most so many actions, as long as a count has reached its patience, each with all steps that can be taken then.
-fn actions<C: Calls, D: Disk>(
-    running: &mut Running<C>,
+fn actions<C: Calls, B: Policy, D: Disk>(
+    running: &mut Running<C, B>,
     turns: u16,
     disk: &mut D,
     log: &mut DiskLog,
     notes: &mut Notes,
 )
-    requires running { IsRunning (λ b. seen (b.vtable, b.value)) (λ w. C.caller w) running.old }
-    requires stood { Stood C.Meaning.meaning (placed_of (λ b. seen (b.vtable, b.value)) (λ w. C.stage w) running.old) }
+    requires running { IsRunning C.caller running.old }
+    requires stood { Stood C.Meaning.meaning (placed_of C.stage running.old) }
     requires disk { running.old.store.size ≡ D.block_count disk.old }
-    ensures went { Went C.Meaning.meaning (λ b. seen (b.vtable, b.value)) (λ w. C.stage w) (λ w. C.caller w) (placed_actions C.Meaning.meaning turns) running.old running.new notes.old notes.new
-        (disk_seen (D.blocks disk.old) (D.plan disk.old) (D.faults disk.old)) (disk_seen (D.blocks disk.new) (D.plan disk.new) (D.faults disk.new)) }
+    ensures went { Went C.Meaning.meaning C.stage C.caller
+        (placed_actions C.Meaning.meaning turns) running.old running.new notes.old notes.new
+        (disk_seen (D.blocks disk.old) (D.plan disk.old) (D.faults disk.old))
+        (disk_seen (D.blocks disk.new) (D.plan disk.new) (D.faults disk.new)) }
     ensures same_size { D.block_count disk.new ≡ D.block_count disk.old }
 {
     agreeing::same_shown::<C::Meaning>();
@@ -141,30 +161,33 @@ fn actions<C: Calls, D: Disk>(
 }
 
 /// The clock and the counts rise.
-fn raise<C: Calls>(running: &mut Running<C>, number: u32, notes: &mut Notes)
+fn raise<C: Calls, B: Policy>(running: &mut Running<C, B>, number: u32, notes: &mut Notes)
     requires clock { running.old.clock < 2 ^ 32 - 1 }
-    requires running { IsRunning (λ b. seen (b.vtable, b.value)) (λ w. C.caller w) running.old }
-    requires stood { Stood C.Meaning.meaning (placed_of (λ b. seen (b.vtable, b.value)) (λ w. C.stage w) running.old) }
-    ensures ticked { (d : DiskSeen) → Ticked C.Meaning.meaning (λ b. seen (b.vtable, b.value)) (λ w. C.stage w) (λ w. C.caller w) (placed_ticked number) running.old running.new notes.old notes.new d d }
+    requires running { IsRunning C.caller running.old }
+    requires stood { Stood C.Meaning.meaning (placed_of C.stage running.old) }
+    ensures ticked { (d : DiskSeen) → Ticked C.Meaning.meaning C.stage C.caller
+        (placed_ticked number) running.old running.new notes.old notes.new d d }
 {
     keeping::others_stand::<C::Meaning>();
     running.tick(number, notes);
 }
 
 /// A tick: the clock and the counts rise, and calls that have waited too long time out.
-pub(crate) fn tick_event<C: Calls, D: Disk>(
-    running: &mut Running<C>,
+pub(crate) fn tick_event<C: Calls, B: Policy, D: Disk>(
+    running: &mut Running<C, B>,
     number: u32,
     disk: &mut D,
     log: &mut DiskLog,
     notes: &mut Notes,
 )
     requires clock { running.old.clock < 2 ^ 32 - 1 }
-    requires running { IsRunning (λ b. seen (b.vtable, b.value)) (λ w. C.caller w) running.old }
-    requires stood { Stood C.Meaning.meaning (placed_of (λ b. seen (b.vtable, b.value)) (λ w. C.stage w) running.old) }
+    requires running { IsRunning C.caller running.old }
+    requires stood { Stood C.Meaning.meaning (placed_of C.stage running.old) }
     requires disk { running.old.store.size ≡ D.block_count disk.old }
-    ensures ticked { Ticked C.Meaning.meaning (λ b. seen (b.vtable, b.value)) (λ w. C.stage w) (λ w. C.caller w) (placed_tick_event C.Meaning.meaning number) running.old running.new notes.old notes.new
-        (disk_seen (D.blocks disk.old) (D.plan disk.old) (D.faults disk.old)) (disk_seen (D.blocks disk.new) (D.plan disk.new) (D.faults disk.new)) }
+    ensures ticked { Ticked C.Meaning.meaning C.stage C.caller
+        (placed_tick_event C.Meaning.meaning number) running.old running.new notes.old notes.new
+        (disk_seen (D.blocks disk.old) (D.plan disk.old) (D.faults disk.old))
+        (disk_seen (D.blocks disk.new) (D.plan disk.new) (D.faults disk.new)) }
     ensures same_size { D.block_count disk.new ≡ D.block_count disk.old }
 {
     raise(running, number, notes);

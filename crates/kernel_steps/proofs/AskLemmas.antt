@@ -12,7 +12,7 @@ use Rattle.kernel_model.specs.Levels.{Config}
 use Rattle.kernel_model.specs.History.{begin_at}
 use Rattle.kernel_model.specs.Sound.{IsSoundStore}
 use Rattle.disk_log.specs.Seen.{DiskSeen}
-use Rattle.kernel_state.specs.Stores.{Seeing, world_of_store, objects_of}
+use Rattle.kernel_state.specs.Stores.{world_of_store, objects_of}
 use Rattle.graft_loader.specs.Slots.{table_of}
 use Rattle.placed_laws.specs.Owners.{OwnersStay}
 use Rattle.placed_laws.specs.Placed.{PlacedCall}
@@ -28,42 +28,42 @@ use Rattle.kernel_steps.proofs.StepLemmas.{alone_moved, done_as, moved_done, not
 
 -- ---- what the definitions say
 
-module _ {C M W X : Type 0} {F : X → Type 0} (m : Meaning) (view : Seeing X F) (stage : W → Stage) (x : Running C M W X F) (p : ℕ) (c : PlacedCall) (none : (chain_of x p).levels ≡ []) where
+module _ {C B M W : Type 0} {P : _} (m : Meaning) (stage : W → Stage) (x : Running C B M W P) (p : ℕ) (c : PlacedCall) (none : (chain_of x p).levels ≡ []) where
   -- the step of a call without levels is a piece
-  piece_is : (blocks : Blocks) (notes : List Note) (io : List Bool) → let r = run_of (placed_of view stage x) blocks notes io in
-      placed_call_step m p (Some c) r ≡ placed_piece_step m p c (m.asks (world_of_store x.store) (objects_of view x.store) p c.stage) r
-  piece_is blocks notes io = ap (λ ls. placed_step_by m p c ls (run_of (placed_of view stage x) blocks notes io)) (none_at view x p none)
+  piece_is : (blocks : Blocks) (notes : List Note) (io : List Bool) → let r = run_of (placed_of stage x) blocks notes io in
+      placed_call_step m p (Some c) r ≡ placed_piece_step m p c (m.asks (world_of_store x.store) (objects_of x.store) p c.stage) r
+  piece_is blocks notes io = ap (λ ls. placed_step_by m p c ls (run_of (placed_of stage x) blocks notes io)) (none_at x p none)
 
   -- it asks no point
-  pub asks_none : m.asks (world_of_store x.store) (objects_of view x.store) p c.stage ≡ None → (blocks : Blocks) (notes : List Note) (io : List Bool) → let r = run_of (placed_of view stage x) blocks notes io in
+  pub asks_none : m.asks (world_of_store x.store) (objects_of x.store) p c.stage ≡ None → (blocks : Blocks) (notes : List Note) (io : List Bool) → let r = run_of (placed_of stage x) blocks notes io in
       placed_call_step m p (Some c) r ≡ finishes m p c None r
-  asks_none asks blocks notes io = piece_is blocks notes io ∙ ap (λ o. placed_piece_step m p c o (run_of (placed_of view stage x) blocks notes io)) asks
+  asks_none asks blocks notes io = piece_is blocks notes io ∙ ap (λ o. placed_piece_step m p c o (run_of (placed_of stage x) blocks notes io)) asks
 
   -- it asks one where this stands
-  asks_there : (a : Point) (g : Option GraftValue) → m.asks (world_of_store x.store) (objects_of view x.store) p c.stage ≡ Some a → (objects_of view x.store).accounts.graft a.installer a.point ≡ g →
-      (blocks : Blocks) (notes : List Note) (io : List Bool) → let r = run_of (placed_of view stage x) blocks notes io in placed_call_step m p (Some c) r ≡ placed_piece_at m p c a g r
+  asks_there : (a : Point) (g : Option GraftValue) → m.asks (world_of_store x.store) (objects_of x.store) p c.stage ≡ Some a → (objects_of x.store).accounts.graft a.installer a.point ≡ g →
+      (blocks : Blocks) (notes : List Note) (io : List Bool) → let r = run_of (placed_of stage x) blocks notes io in placed_call_step m p (Some c) r ≡ placed_piece_at m p c a g r
   asks_there a g asks stands blocks notes io =
-      piece_is blocks notes io ∙ ap (λ o. placed_piece_step m p c o (run_of (placed_of view stage x) blocks notes io)) asks
-      ∙ ap (λ o. placed_piece_at m p c a o (run_of (placed_of view stage x) blocks notes io)) stands
+      piece_is blocks notes io ∙ ap (λ o. placed_piece_step m p c o (run_of (placed_of stage x) blocks notes io)) asks
+      ∙ ap (λ o. placed_piece_at m p c a o (run_of (placed_of stage x) blocks notes io)) stands
 
   -- no graft stands there
-  pub asks_empty : (a : Point) → m.asks (world_of_store x.store) (objects_of view x.store) p c.stage ≡ Some a → is_some ((objects_of view x.store).accounts.graft a.installer a.point) ≡ false →
-      (blocks : Blocks) (notes : List Note) (io : List Bool) → let r = run_of (placed_of view stage x) blocks notes io in placed_call_step m p (Some c) r ≡ finishes m p c None r
-  asks_empty a asks empty blocks notes io = asks_there a None asks (none_is ((objects_of view x.store).accounts.graft a.installer a.point) empty) blocks notes io
+  pub asks_empty : (a : Point) → m.asks (world_of_store x.store) (objects_of x.store) p c.stage ≡ Some a → is_some ((objects_of x.store).accounts.graft a.installer a.point) ≡ false →
+      (blocks : Blocks) (notes : List Note) (io : List Bool) → let r = run_of (placed_of stage x) blocks notes io in placed_call_step m p (Some c) r ≡ finishes m p c None r
+  asks_empty a asks empty blocks notes io = asks_there a None asks (none_is ((objects_of x.store).accounts.graft a.installer a.point) empty) blocks notes io
     where
       none_is : (g : Option GraftValue) → is_some g ≡ false → g ≡ None
       none_is None h = refl
       none_is (Some g) h = grind (arith, h)
 
   -- a graft stands there
-  pub asks_graft : (a : Point) → m.asks (world_of_store x.store) (objects_of view x.store) p c.stage ≡ Some a → is_some ((objects_of view x.store).accounts.graft a.installer a.point) ≡ true →
-      (blocks : Blocks) (notes : List Note) (io : List Bool) → let r = run_of (placed_of view stage x) blocks notes io in
-      placed_call_step m p (Some c) r ≡ with_config p (begin_at (table_of x.images) (objects_of view x.store) p (m.need (world_of_store x.store) (objects_of view x.store) p c.stage) a) r
-  asks_graft a asks there blocks notes io = by_value ((objects_of view x.store).accounts.graft a.installer a.point) there (λ g stands. asks_there a g asks stands blocks notes io) refl
+  pub asks_graft : (a : Point) → m.asks (world_of_store x.store) (objects_of x.store) p c.stage ≡ Some a → is_some ((objects_of x.store).accounts.graft a.installer a.point) ≡ true →
+      (blocks : Blocks) (notes : List Note) (io : List Bool) → let r = run_of (placed_of stage x) blocks notes io in
+      placed_call_step m p (Some c) r ≡ with_config p (begin_at (table_of x.images) (objects_of x.store) p (m.need (world_of_store x.store) (objects_of x.store) p c.stage) a) r
+  asks_graft a asks there blocks notes io = by_value ((objects_of x.store).accounts.graft a.installer a.point) there (λ g stands. asks_there a g asks stands blocks notes io) refl
     where
-      by_value : (g : Option GraftValue) → is_some g ≡ true → ((h : Option GraftValue) → (objects_of view x.store).accounts.graft a.installer a.point ≡ h → let r = run_of (placed_of view stage x) blocks notes io in placed_call_step m p (Some c) r ≡ placed_piece_at m p c a h r) →
-          g ≡ (objects_of view x.store).accounts.graft a.installer a.point → let r = run_of (placed_of view stage x) blocks notes io in
-          placed_call_step m p (Some c) r ≡ with_config p (begin_at (table_of x.images) (objects_of view x.store) p (m.need (world_of_store x.store) (objects_of view x.store) p c.stage) a) r
+      by_value : (g : Option GraftValue) → is_some g ≡ true → ((h : Option GraftValue) → (objects_of x.store).accounts.graft a.installer a.point ≡ h → let r = run_of (placed_of stage x) blocks notes io in placed_call_step m p (Some c) r ≡ placed_piece_at m p c a h r) →
+          g ≡ (objects_of x.store).accounts.graft a.installer a.point → let r = run_of (placed_of stage x) blocks notes io in
+          placed_call_step m p (Some c) r ≡ with_config p (begin_at (table_of x.images) (objects_of x.store) p (m.need (world_of_store x.store) (objects_of x.store) p c.stage) a) r
       by_value None h then is = grind (arith, h)
       by_value (Some g) h then is = then (Some g) (sym is)
 
@@ -78,22 +78,22 @@ asked_lives v s q pt sound there = by_value (s.accounts.graft q pt) refl there
     by_value (Some g) e h = (sound.grafts q pt g e).1
 
 -- a piece is ready by default
-pub ready_at_once : {C M W X : Type 0} {F : X → Type 0} (m : Meaning) → ReadyInPlace m → (view : Seeing X F) (stage : W → Stage) (x : Running C M W X F) (p : ℕ) (f : InFlight W) → Stood m (placed_of view stage x) → (flight_of x.calls.items p).call ≡ Some f →
-    IsReady m (world_of_store x.store) (table_of x.images) (objects_of view x.store) p (stage f.work) None
-ready_at_once m ready view stage x p f stood is =
-    ready.at_once (placed_of view stage x) stood.kernel p (call_in_place stage f) stood.stands (ap (option_map (call_in_place stage)) is)
+pub ready_at_once : {C B M W : Type 0} {P : _} (m : Meaning) → ReadyInPlace m → (stage : W → Stage) (x : Running C B M W P) (p : ℕ) (f : InFlight W) → Stood m (placed_of stage x) → (flight_of x.calls.items p).call ≡ Some f →
+    IsReady m (world_of_store x.store) (table_of x.images) (objects_of x.store) p (stage f.work) None
+ready_at_once m ready stage x p f stood is =
+    ready.at_once (placed_of stage x) stood.kernel p (call_in_place stage f) stood.stands (ap (option_map (call_in_place stage)) is)
 
 -- the call entered a graft
-pub entered_done : {C M W X : Type 0} {F : X → Type 0} (m : Meaning) → OwnersStay → (view : Seeing X F) (stage : W → Stage) (caller : W → ℕ) (x y : Running C M W X F) (p : ℕ) (c : PlacedCall) (a : Point) (kept : List Note) (d : DiskSeen) → IsRunning view caller x → p < 16 →
-    (chain_of x p).levels ≡ [] → m.asks (world_of_store x.store) (objects_of view x.store) p c.stage ≡ Some a → is_some ((objects_of view x.store).accounts.graft a.installer a.point) ≡ true → Moved view x y p →
-    placed_of view stage y ≡ come_to p (begin_at (table_of x.images) (objects_of view x.store) p (m.need (world_of_store x.store) (objects_of view x.store) p c.stage) a) (placed_of view stage x) →
-    StepDone view stage caller (λ r. placed_call_step m p (Some c) r) x y p kept kept d d
-entered_done m law view stage caller x y p c a kept d r small none asks there moved come =
-    let ns = m.need (world_of_store x.store) (objects_of view x.store) p c.stage in
-    let f : Config = begin_at (table_of x.images) (objects_of view x.store) p ns a in
-    let own = of_one view y p a.installer f.levels (levels_come view stage x y p f come) (law.begins (table_of x.images) (objects_of view x.store) p ns a) in
-    done_as view stage caller (λ r. placed_call_step m p (Some c) r) (λ r. with_config p f r) x y p kept kept d d (asks_graft m view stage x p c none a asks there)
-    (moved_done view stage caller f (λ r. r) x y y p kept kept d d moved come (nothing_done view stage caller y p kept d (alone_moved view caller x y p r small moved own)))
+pub entered_done : {C B M W : Type 0} {P : _} (m : Meaning) → OwnersStay → (stage : W → Stage) (caller : W → ℕ) (x y : Running C B M W P) (p : ℕ) (c : PlacedCall) (a : Point) (kept : List Note) (d : DiskSeen) → IsRunning caller x → p < 16 →
+    (chain_of x p).levels ≡ [] → m.asks (world_of_store x.store) (objects_of x.store) p c.stage ≡ Some a → is_some ((objects_of x.store).accounts.graft a.installer a.point) ≡ true → Moved x y p →
+    placed_of stage y ≡ come_to p (begin_at (table_of x.images) (objects_of x.store) p (m.need (world_of_store x.store) (objects_of x.store) p c.stage) a) (placed_of stage x) →
+    StepDone stage caller (λ r. placed_call_step m p (Some c) r) x y p kept kept d d
+entered_done m law stage caller x y p c a kept d r small none asks there moved come =
+    let ns = m.need (world_of_store x.store) (objects_of x.store) p c.stage in
+    let f : Config = begin_at (table_of x.images) (objects_of x.store) p ns a in
+    let own = of_one y p a.installer f.levels (levels_come stage x y p f come) (law.begins (table_of x.images) (objects_of x.store) p ns a) in
+    done_as stage caller (λ r. placed_call_step m p (Some c) r) (λ r. with_config p f r) x y p kept kept d d (asks_graft m stage x p c none a asks there)
+    (moved_done stage caller f (λ r. r) x y y p kept kept d d moved come (nothing_done stage caller y p kept d (alone_moved caller x y p r small moved own)))
 
 -- what is told of a graft by a test
 pub there_is : {A : Type 0} (b : Bool) (g : Option A) → b ≡ is_some g → b ≡ true → is_some g ≡ true

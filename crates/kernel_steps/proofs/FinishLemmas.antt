@@ -16,7 +16,7 @@ use Rattle.call_pieces.specs.Works.{answer_seen}
 use Rattle.undo_calls.specs.UndoLevels.{innermost}
 use Rattle.lock_table.specs.Masks.{held}
 use Rattle.graft_machine.specs.Cpu.{by_place}
-use Rattle.kernel_state.specs.Stores.{Seeing, world_of_store, objects_of, SegmentsStay}
+use Rattle.kernel_state.specs.Stores.{world_of_store, objects_of, SegmentsStay}
 use Rattle.graft_loader.specs.Slots.{table_of}
 use Rattle.graft_calls.specs.declared.GraftLevel.{GraftLevel}
 use Rattle.graft_calls.specs.declared.Chain.{Chain}
@@ -60,35 +60,35 @@ levels_stay q s u t (g ∷ gs) log w z same =
 abbrev pub finished : ℕ → Option PlacedCall → Objects → Placed → Placed
 finished p call u x = record x { objects = u; call = at p call x.call; levels = at p [] x.levels }
 
-levels_after : {C M W X : Type 0} {F : X → Type 0} (view : Seeing X F) (x y : Running C M W X F) (p : ℕ) (v : Option (InFlight W)) → p < length x.calls.items → chain_of x p ≡ no_chain →
+levels_after : {C B M W : Type 0} {P : _} (x y : Running C B M W P) (p : ℕ) (v : Option (InFlight W)) → p < length x.calls.items → chain_of x p ≡ no_chain →
     y.calls.items ≡ with_call x.calls.items p v → y.locks ≡ x.locks → SegmentsStay x.store.ram y.store.ram → (q : ℕ) (b : Bool) → (q == p) ≡ b →
-    levels_at view y q ≡ at p [] (levels_at view x) q
-levels_after view x y p v within none calls locks memory q b h =
-    ap (λ fs. map bare (levels_of view y.store y.locks (flight_of fs q).chain q)) calls
-    ∙ ap (λ (chain : Chain). map bare (levels_of view y.store y.locks chain q)) (chain_of_changed x.calls.items p v within q)
-    ∙ ap (λ t. map bare (levels_of view y.store t (chain_of x q) q)) locks
-    ∙ levels_stay q x.store.ram y.store.ram (held x.locks) (chain_of x q).levels (chain_of x q).undo (objects_of view x.store).things (objects_of view y.store).things memory
+    levels_at y q ≡ at p [] (levels_at x) q
+levels_after x y p v within none calls locks memory q b h =
+    ap (λ fs. map bare (levels_of y.store y.locks (flight_of fs q).chain q)) calls
+    ∙ ap (λ (chain : Chain). map bare (levels_of y.store y.locks chain q)) (chain_of_changed x.calls.items p v within q)
+    ∙ ap (λ t. map bare (levels_of y.store t (chain_of x q) q)) locks
+    ∙ levels_stay q x.store.ram y.store.ram (held x.locks) (chain_of x q).levels (chain_of x q).undo (objects_of x.store).things (objects_of y.store).things memory
     ∙ own b h
   where
-    own : (b : Bool) → (q == p) ≡ b → levels_at view x q ≡ at p [] (levels_at view x) q
+    own : (b : Bool) → (q == p) ≡ b → levels_at x q ≡ at p [] (levels_at x) q
     own true e =
-        ap (λ (chain : Chain). map bare (levels_of view x.store x.locks chain q)) (ap (chain_of x) (eqb-true q p e) ∙ none)
-        ∙ sym (ap (λ c. cond c [] (levels_at view x q)) e)
-    own false e = sym (ap (λ c. cond c [] (levels_at view x q)) e)
+        ap (λ (chain : Chain). map bare (levels_of x.store x.locks chain q)) (ap (chain_of x) (eqb-true q p e) ∙ none)
+        ∙ sym (ap (λ c. cond c [] (levels_at x q)) e)
+    own false e = sym (ap (λ c. cond c [] (levels_at x q)) e)
 
-pub placed_finished : {C M W X : Type 0} {F : X → Type 0} (view : Seeing X F) (stage : W → Stage) (x y : Running C M W X F) (p : ℕ) (v : Option (InFlight W)) → p < length x.calls.items → chain_of x p ≡ no_chain →
+pub placed_finished : {C B M W : Type 0} {P : _} (stage : W → Stage) (x y : Running C B M W P) (p : ℕ) (v : Option (InFlight W)) → p < length x.calls.items → chain_of x p ≡ no_chain →
     y.calls.items ≡ with_call x.calls.items p v → y.locks ≡ x.locks → SegmentsStay x.store.ram y.store.ram → world_of_store y.store ≡ world_of_store x.store → y.images ≡ x.images → y.clock ≡ x.clock → y.order ≡ x.order →
-    placed_of view stage y ≡ finished p (option_map (call_in_place stage) v) (objects_of view y.store) (placed_of view stage x)
-placed_finished view stage x y p v within none calls locks memory world images clock order =
-    let z = placed_of view stage y in
-    let o = placed_of view stage x in
+    placed_of stage y ≡ finished p (option_map (call_in_place stage) v) (objects_of y.store) (placed_of stage x)
+placed_finished stage x y p v within none calls locks memory world images clock order =
+    let z = placed_of stage y in
+    let o = placed_of stage x in
     ap (λ (v : World). record z { world = v }) world
     ∙ ap (λ (i : ImageTable). record z { world = o.world; images = i }) (ap table_of images)
     ∙ ap (λ (n : ℕ). record z { world = o.world; images = o.images; clock = n }) clock
     ∙ ap (λ (cs : ℕ → Option PlacedCall). record z { world = o.world; images = o.images; clock = o.clock; call = cs })
     (ap (λ fs q. option_map (call_in_place stage) (flight_of fs q).call) calls ∙ calls_changed stage x.calls.items p v within)
     ∙ ap (λ (ls : ℕ → List PlacedLevel). record z { world = o.world; images = o.images; clock = o.clock; call = at p (option_map (call_in_place stage) v) o.call; levels = ls })
-    (fun_ext (λ q. levels_after view x y p v within none calls locks memory q (q == p) refl))
+    (fun_ext (λ q. levels_after x y p v within none calls locks memory q (q == p) refl))
     ∙ ap (λ (es : List Entry). record z { world = o.world; images = o.images; clock = o.clock; call = at p (option_map (call_in_place stage) v) o.call; levels = at p [] o.levels; order = es }) (ap order_of order)
 
 -- ---- what it comes to

@@ -12,7 +12,7 @@ use Rattle.kernel_model.specs.Locks.{LockTable, first_hindrance}
 use Rattle.kernel_model.specs.Levels.{Level}
 use Rattle.kernel_model.specs.GraftStep.{next_needs, lock_user}
 use Rattle.lock_table.specs.Masks.{held}
-use Rattle.kernel_state.specs.Stores.{Seeing, world_of_store, objects_of}
+use Rattle.kernel_state.specs.Stores.{world_of_store, objects_of}
 use Rattle.call_pieces.specs.Works.{MayCome}
 use Rattle.graft_loader.specs.Slots.{table_of}
 use Rattle.graft_calls.specs.declared.GraftLevel.{GraftLevel}
@@ -30,12 +30,12 @@ use Rattle.kernel_steps.proofs.ViewLemmas.{levels_in_place, holds_in_place}
 -- ---- the next piece
 
 -- a call in flight stands at its stage
-pub stands : {C M W X : Type 0} {F : X → Type 0} (m : Meaning) → SoundInPlace m → (view : Seeing X F) (stage : W → Stage) (caller : W → ℕ) (x : Running C M W X F) (p : ℕ) (f : InFlight W) →
-    IsRunning view caller x → Stood m (placed_of view stage x) → (flight_of x.calls.items p).call ≡ Some f →
-    IsStanding m (world_of_store x.store) (table_of x.images) (objects_of view x.store) (caller f.work) (stage f.work)
-stands m sound view stage caller x p f r stood is =
-    subst (λ q. IsStanding m (world_of_store x.store) (table_of x.images) (objects_of view x.store) q (stage f.work)) (sym (r.callers p f is))
-    (sound.standing (placed_of view stage x) stood.kernel p (call_in_place stage f) stood.stands (ap (option_map (call_in_place stage)) is))
+pub stands : {C B M W : Type 0} {P : _} (m : Meaning) → SoundInPlace m → (stage : W → Stage) (caller : W → ℕ) (x : Running C B M W P) (p : ℕ) (f : InFlight W) →
+    IsRunning caller x → Stood m (placed_of stage x) → (flight_of x.calls.items p).call ≡ Some f →
+    IsStanding m (world_of_store x.store) (table_of x.images) (objects_of x.store) (caller f.work) (stage f.work)
+stands m sound stage caller x p f r stood is =
+    subst (λ q. IsStanding m (world_of_store x.store) (table_of x.images) (objects_of x.store) q (stage f.work)) (sym (r.callers p f is))
+    (sound.standing (placed_of stage x) stood.kernel p (call_in_place stage f) stood.stands (ap (option_map (call_in_place stage)) is))
 
 -- so its next piece may come
 pub may_come : (m : Meaning) → Laws m → (v : World) (images : ImageTable) (s : Objects) (p : ℕ) (t : Stage) → IsStanding m v images s p t → MayCome m v s p t
@@ -64,83 +64,83 @@ graft_needs m x p c (l ∷ ls) h = refl
 
 -- ---- what the next step needs
 
-pub piece_needs : {C M W X : Type 0} {F : X → Type 0} (m : Meaning) (view : Seeing X F) (stage : W → Stage) (caller : W → ℕ) (x : Running C M W X F) (p : ℕ) (f : InFlight W) →
-    IsRunning view caller x → (flight_of x.calls.items p).call ≡ Some f → length (chain_of x p).levels ≡ 0 →
-    m.need (world_of_store x.store) (objects_of view x.store) (caller f.work) (stage f.work) ≡ placed_needs m (placed_of view stage x) p
-piece_needs m view stage caller x p f r is none =
-    let y = placed_of view stage x in
-    let bare_none : y.levels p ≡ [] = no_levels p x.store.ram (held x.locks) (chain_of x p).levels (chain_of x p).undo (objects_of view x.store).things none in
-    ap (λ q. m.need (world_of_store x.store) (objects_of view x.store) q (stage f.work)) (r.callers p f is)
+pub piece_needs : {C B M W : Type 0} {P : _} (m : Meaning) (stage : W → Stage) (caller : W → ℕ) (x : Running C B M W P) (p : ℕ) (f : InFlight W) →
+    IsRunning caller x → (flight_of x.calls.items p).call ≡ Some f → length (chain_of x p).levels ≡ 0 →
+    m.need (world_of_store x.store) (objects_of x.store) (caller f.work) (stage f.work) ≡ placed_needs m (placed_of stage x) p
+piece_needs m stage caller x p f r is none =
+    let y = placed_of stage x in
+    let bare_none : y.levels p ≡ [] = no_levels p x.store.ram (held x.locks) (chain_of x p).levels (chain_of x p).undo (objects_of x.store).things none in
+    ap (λ q. m.need (world_of_store x.store) (objects_of x.store) q (stage f.work)) (r.callers p f is)
     ∙ sym (ap (placed_needs_in m y p) (ap (option_map (call_in_place stage)) is) ∙ ap (placed_needs_at m y p (call_in_place stage f)) bare_none)
 
-pub graft_needs_are : {C M W X : Type 0} {F : X → Type 0} (m : Meaning) (view : Seeing X F) (stage : W → Stage) (x : Running C M W X F) (p : ℕ) (f : InFlight W) →
+pub graft_needs_are : {C B M W : Type 0} {P : _} (m : Meaning) (stage : W → Stage) (x : Running C B M W P) (p : ℕ) (f : InFlight W) →
     (flight_of x.calls.items p).call ≡ Some f → 0 < length (chain_of x p).levels →
-    next_needs (world_of_store x.store) (table_of x.images) (objects_of view x.store).accounts (levels_of view x.store x.locks (chain_of x p) p) ≡ placed_needs m (placed_of view stage x) p
-graft_needs_are m view stage x p f is some =
-    let y = placed_of view stage x in
-    let s = objects_of view x.store in
+    next_needs (world_of_store x.store) (table_of x.images) (objects_of x.store).accounts (levels_of x.store x.locks (chain_of x p) p) ≡ placed_needs m (placed_of stage x) p
+graft_needs_are m stage x p f is some =
+    let y = placed_of stage x in
+    let s = objects_of x.store in
     let has : has_some (y.levels p) ≡ true = some_levels p x.store.ram (held x.locks) (chain_of x p).levels (chain_of x p).undo s.things some in
-    ap (λ (ks : List Level). next_needs (world_of_store x.store) (table_of x.images) s.accounts ks) (sym (levels_in_place view stage x p))
+    ap (λ (ks : List Level). next_needs (world_of_store x.store) (table_of x.images) s.accounts ks) (sym (levels_in_place stage x p))
     ∙ sym (ap (placed_needs_in m y p) (ap (option_map (call_in_place stage)) is) ∙ graft_needs m y p (call_in_place stage f) (y.levels p) has)
 
 -- ---- what hinders
 
-pub piece_hindered : {C M W X : Type 0} {F : X → Type 0} (m : Meaning) (view : Seeing X F) (stage : W → Stage) (caller : W → ℕ) (x : Running C M W X F) (p : ℕ) (f : InFlight W) →
-    IsRunning view caller x → (flight_of x.calls.items p).call ≡ Some f → length (chain_of x p).levels ≡ 0 →
-    first_hindrance (held x.locks) (objects_of view x.store).things.lock p p (m.need (world_of_store x.store) (objects_of view x.store) (caller f.work) (stage f.work))
-    ≡ first_hindrance (placed_holds (placed_of view stage x)) (objects_of view x.store).things.lock p (lock_user p (placed_levels (placed_of view stage x) p)) (placed_needs m (placed_of view stage x) p)
-piece_hindered m view stage caller x p f r is none =
-    let y = placed_of view stage x in
-    let users = (objects_of view x.store).things.lock in
+pub piece_hindered : {C B M W : Type 0} {P : _} (m : Meaning) (stage : W → Stage) (caller : W → ℕ) (x : Running C B M W P) (p : ℕ) (f : InFlight W) →
+    IsRunning caller x → (flight_of x.calls.items p).call ≡ Some f → length (chain_of x p).levels ≡ 0 →
+    first_hindrance (held x.locks) (objects_of x.store).things.lock p p (m.need (world_of_store x.store) (objects_of x.store) (caller f.work) (stage f.work))
+    ≡ first_hindrance (placed_holds (placed_of stage x)) (objects_of x.store).things.lock p (lock_user p (placed_levels (placed_of stage x) p)) (placed_needs m (placed_of stage x) p)
+piece_hindered m stage caller x p f r is none =
+    let y = placed_of stage x in
+    let users = (objects_of x.store).things.lock in
     let h = placed_holds y in
     let v = world_of_store x.store in
-    let s = objects_of view x.store in
+    let s = objects_of x.store in
     let t = stage f.work in
     let bare_none : y.levels p ≡ [] = no_levels p x.store.ram (held x.locks) (chain_of x p).levels (chain_of x p).undo s.things none in
     let needs_are : placed_needs m y p ≡ m.need v s p t = ap (placed_needs_in m y p) (ap (option_map (call_in_place stage)) is) ∙ ap (placed_needs_at m y p (call_in_place stage f)) bare_none in
     let user : lock_user p (placed_levels y p) ≡ p = ap (λ ls. lock_user p (levels_with s.things ls)) bare_none in
-    ap (λ (table : LockTable). first_hindrance table users p p (m.need v s (caller f.work) t)) (sym (holds_in_place view stage caller x r))
+    ap (λ (table : LockTable). first_hindrance table users p p (m.need v s (caller f.work) t)) (sym (holds_in_place stage caller x r))
     ∙ ap (λ q. first_hindrance h users p p (m.need v s q t)) (r.callers p f is)
     ∙ ap (λ q. first_hindrance h users p q (m.need v s p t)) (sym user)
     ∙ ap (first_hindrance h users p (lock_user p (placed_levels y p))) (sym needs_are)
 
-pub graft_hindered : {C M W X : Type 0} {F : X → Type 0} (m : Meaning) (view : Seeing X F) (stage : W → Stage) (caller : W → ℕ) (x : Running C M W X F) (p : ℕ) (f : InFlight W) →
-    IsRunning view caller x → (flight_of x.calls.items p).call ≡ Some f → 0 < length (chain_of x p).levels →
-    let ls = levels_of view x.store x.locks (chain_of x p) p in
-    first_hindrance (held x.locks) (objects_of view x.store).things.lock p (lock_user p ls) (next_needs (world_of_store x.store) (table_of x.images) (objects_of view x.store).accounts ls)
-    ≡ first_hindrance (placed_holds (placed_of view stage x)) (objects_of view x.store).things.lock p (lock_user p (placed_levels (placed_of view stage x) p)) (placed_needs m (placed_of view stage x) p)
-graft_hindered m view stage caller x p f r is some =
-    let y = placed_of view stage x in
-    let users = (objects_of view x.store).things.lock in
+pub graft_hindered : {C B M W : Type 0} {P : _} (m : Meaning) (stage : W → Stage) (caller : W → ℕ) (x : Running C B M W P) (p : ℕ) (f : InFlight W) →
+    IsRunning caller x → (flight_of x.calls.items p).call ≡ Some f → 0 < length (chain_of x p).levels →
+    let ls = levels_of x.store x.locks (chain_of x p) p in
+    first_hindrance (held x.locks) (objects_of x.store).things.lock p (lock_user p ls) (next_needs (world_of_store x.store) (table_of x.images) (objects_of x.store).accounts ls)
+    ≡ first_hindrance (placed_holds (placed_of stage x)) (objects_of x.store).things.lock p (lock_user p (placed_levels (placed_of stage x) p)) (placed_needs m (placed_of stage x) p)
+graft_hindered m stage caller x p f r is some =
+    let y = placed_of stage x in
+    let users = (objects_of x.store).things.lock in
     let h = placed_holds y in
     let v = world_of_store x.store in
-    let s = objects_of view x.store in
-    let ls = levels_of view x.store x.locks (chain_of x p) p in
+    let s = objects_of x.store in
+    let ls = levels_of x.store x.locks (chain_of x p) p in
     let has : has_some (y.levels p) ≡ true = some_levels p x.store.ram (held x.locks) (chain_of x p).levels (chain_of x p).undo s.things some in
     let needs_are : placed_needs m y p ≡ next_needs v (table_of x.images) s.accounts (placed_levels y p) =
     ap (placed_needs_in m y p) (ap (option_map (call_in_place stage)) is) ∙ graft_needs m y p (call_in_place stage f) (y.levels p) has in
-    ap (λ (table : LockTable). first_hindrance table users p (lock_user p ls) (next_needs v (table_of x.images) s.accounts ls)) (sym (holds_in_place view stage caller x r))
-    ∙ ap (λ (ks : List Level). first_hindrance h users p (lock_user p ks) (next_needs v (table_of x.images) s.accounts ks)) (sym (levels_in_place view stage x p))
+    ap (λ (table : LockTable). first_hindrance table users p (lock_user p ls) (next_needs v (table_of x.images) s.accounts ls)) (sym (holds_in_place stage caller x r))
+    ∙ ap (λ (ks : List Level). first_hindrance h users p (lock_user p ks) (next_needs v (table_of x.images) s.accounts ks)) (sym (levels_in_place stage x p))
     ∙ ap (first_hindrance h users p (lock_user p (placed_levels y p))) (sym needs_are)
 
 -- what hinders an instruction, by what it needs and whose user locks don't hinder it
-pub needs_hinder : {C M W X : Type 0} {F : X → Type 0} (m : Meaning) (view : Seeing X F) (stage : W → Stage) (caller : W → ℕ) (x : Running C M W X F) (p user : ℕ) (needs : List Need) (f : Flight W) →
-    IsRunning view caller x → f ≡ flight_of x.calls.items p → user ≡ lock_user p (levels_of view x.store x.locks f.chain p) → needs ≡ placed_needs m (placed_of view stage x) p →
-    first_hindrance (held x.locks) (objects_of view x.store).things.lock p user needs
-    ≡ first_hindrance (placed_holds (placed_of view stage x)) (objects_of view x.store).things.lock p (lock_user p (placed_levels (placed_of view stage x) p)) (placed_needs m (placed_of view stage x) p)
-needs_hinder {W = W} m view stage caller x p user needs f r is user_is needs_are =
-    let y = placed_of view stage x in
-    let users = (objects_of view x.store).things.lock in
-    let chain = ap (λ (l : Flight W). lock_user p (levels_of view x.store x.locks l.chain p)) is in
-    let levels = ap (λ (ls : List Level). lock_user p ls) (sym (levels_in_place view stage x p)) in
-    ap (λ (table : LockTable). first_hindrance table users p user needs) (sym (holds_in_place view stage caller x r))
+pub needs_hinder : {C B M W : Type 0} {P : _} (m : Meaning) (stage : W → Stage) (caller : W → ℕ) (x : Running C B M W P) (p user : ℕ) (needs : List Need) (f : Flight W) →
+    IsRunning caller x → f ≡ flight_of x.calls.items p → user ≡ lock_user p (levels_of x.store x.locks f.chain p) → needs ≡ placed_needs m (placed_of stage x) p →
+    first_hindrance (held x.locks) (objects_of x.store).things.lock p user needs
+    ≡ first_hindrance (placed_holds (placed_of stage x)) (objects_of x.store).things.lock p (lock_user p (placed_levels (placed_of stage x) p)) (placed_needs m (placed_of stage x) p)
+needs_hinder {W = W} m stage caller x p user needs f r is user_is needs_are =
+    let y = placed_of stage x in
+    let users = (objects_of x.store).things.lock in
+    let chain = ap (λ (l : Flight W). lock_user p (levels_of x.store x.locks l.chain p)) is in
+    let levels = ap (λ (ls : List Level). lock_user p ls) (sym (levels_in_place stage x p)) in
+    ap (λ (table : LockTable). first_hindrance table users p user needs) (sym (holds_in_place stage caller x r))
     ∙ ap (λ q. first_hindrance (placed_holds y) users p q needs) (user_is ∙ chain ∙ levels)
     ∙ ap (first_hindrance (placed_holds y) users p (lock_user p (placed_levels y p))) needs_are
 
 -- nothing hinders where there is no call
-pub none_hindered : {C M W X : Type 0} {F : X → Type 0} (m : Meaning) (view : Seeing X F) (stage : W → Stage) (x : Running C M W X F) (p : ℕ) → (flight_of x.calls.items p).call ≡ None →
-    placed_needs m (placed_of view stage x) p ≡ []
-none_hindered m view stage x p is = ap (placed_needs_in m (placed_of view stage x) p) (ap (option_map (call_in_place stage)) is)
+pub none_hindered : {C B M W : Type 0} {P : _} (m : Meaning) (stage : W → Stage) (x : Running C B M W P) (p : ℕ) → (flight_of x.calls.items p).call ≡ None →
+    placed_needs m (placed_of stage x) p ≡ []
+none_hindered m stage x p is = ap (placed_needs_in m (placed_of stage x) p) (ap (option_map (call_in_place stage)) is)
 
 -- ---- what blocks
 
@@ -149,7 +149,7 @@ numbers_same : {W : Type 0} (stage : W → Stage) (o : Option (InFlight W)) →
 numbers_same stage None = refl
 numbers_same stage (Some f) = refl
 
-pub blocking_in_place : {C M W X : Type 0} {F : X → Type 0} (view : Seeing X F) (stage : W → Stage) (x : Running C M W X F) (h : Hindrance) →
-    blocking_by x.calls.items h ≡ placed_blocker_from (placed_of view stage x) (hindrance_of h)
-blocking_in_place view stage x h =
+pub blocking_in_place : {C B M W : Type 0} {P : _} (stage : W → Stage) (x : Running C B M W P) (h : Hindrance) →
+    blocking_by x.calls.items h ≡ placed_blocker_from (placed_of stage x) (hindrance_of h)
+blocking_in_place stage x h =
     ap (λ (call : Option ℕ). record { object = h.object; holder = h.holder; call = cond h.by_user None call }) (numbers_same stage (flight_of x.calls.items h.holder).call)

@@ -5,7 +5,7 @@ use Rattle.std.proofs.lemmas.Grind.{common_steps}
 use Rattle.kernel_model.specs.Sound.{ImagesAreLoaded}
 use Rattle.kernel_model.specs.Locks.{no_locks}
 use Rattle.lock_table.specs.Masks.{held}
-use Rattle.kernel_state.specs.Stores.{Seeing, objects_of, IsStore}
+use Rattle.kernel_state.specs.Stores.{objects_of}
 use Rattle.graft_calls.specs.declared.Chain.{Chain}
 use Rattle.graft_loader.specs.Slots.{table_of}
 use Rattle.graft_calls.specs.Calls.{IsPlaced, AreInside}
@@ -19,17 +19,16 @@ use Rattle.kernel_steps.specs.Orders.{counts_within, are_processes, are_once, nu
 pub none_of_sixteen : {W : Type 0} (fs : List (Flight W)) (n p : ℕ) → fs ≡ replicate n no_flight → flight_of fs p ≡ no_flight
 none_of_sixteen fs n p is = grind (arith, common_steps, is)
 
-pub just_begun : {C M W X : Type 0} {F : X → Type 0} (view : Seeing X F) (caller : W → ℕ) (x : Running C M W X F) →
-    IsStore view x.store → x.calls.items ≡ replicate 16 no_flight → held x.locks ≡ no_locks → x.order ≡ [] → ImagesAreLoaded (table_of x.images) (objects_of view x.store).accounts → IsRunning view caller x
-just_begun {W = W} view caller x sound calls free order loaded =
+pub just_begun : {C B M W : Type 0} {P : _} (caller : W → ℕ) (x : Running C B M W P) →
+    x.calls.items ≡ replicate 16 no_flight → held x.locks ≡ no_locks → x.order ≡ [] → ImagesAreLoaded (table_of x.images) (objects_of x.store).accounts → IsRunning caller x
+just_begun {W = W} caller x calls free order loaded =
     let none : (p : ℕ) → chain_of x p ≡ record { levels = []; undo = [] } = λ p. ap (λ (f : Flight W). f.chain) (none_of_sixteen x.calls.items 16 p calls) in
     record {
-      store = sound;
       sixteen = grind (arith, common_steps, calls);
       callers = λ p f is. grind (arith, is, none_of_sixteen x.calls.items 16 p calls);
-      placed = λ p h. subst (λ (chain : Chain). IsPlaced view x.store x.locks p chain.levels chain.undo) (sym (none p))
-          (record { store = sound; process = h; few = omega arith; as_many = refl; unheld = λ d o le. ap (λ t. t p d o) free; levels = tt; undoable = tt });
-      inside = λ p h. subst (λ (chain : Chain). AreInside (table_of x.images) (objects_of view x.store).accounts p chain.levels) (sym (none p)) tt;
+      placed = λ p h. subst (λ (chain : Chain). IsPlaced x.store x.locks p chain.levels chain.undo) (sym (none p))
+          (record { process = h; few = omega arith; as_many = refl; unheld = λ d o le. ap (λ t. t p d o) free; levels = tt; undoable = tt });
+      inside = λ p h. subst (λ (chain : Chain). AreInside (table_of x.images) (objects_of x.store).accounts p chain.levels) (sym (none p)) tt;
       counts = ap (counts_within x.clock) order;
       order = ap are_processes order;
       once = ap (λ ws. are_once (numbers_of ws)) order;

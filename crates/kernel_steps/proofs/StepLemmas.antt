@@ -17,7 +17,7 @@ use Rattle.call_pieces.specs.Works.{answer_seen}
 use Rattle.undo_calls.specs.UndoLevels.{innermost}
 use Rattle.lock_table.specs.Masks.{held}
 use Rattle.disk_log.specs.Seen.{DiskSeen}
-use Rattle.kernel_state.specs.Stores.{Seeing, world_of_store, objects_of, IsStore, SegmentsStay}
+use Rattle.kernel_state.specs.Stores.{world_of_store, objects_of, SegmentsStay}
 use Rattle.graft_loader.specs.Slots.{table_of}
 use Rattle.graft_calls.specs.declared.GraftLevel.{GraftLevel}
 use Rattle.graft_calls.specs.declared.Chain.{Chain}
@@ -46,8 +46,8 @@ no_records [] h = refl
 no_records (is ∷ log) h = absurd (omega (arith, h))
 
 -- a chain without levels has no records
-pub none_in : {X C M W : Type 0} {F : X → Type 0} (view : Seeing X F) (x : Running C M W X F) (p : ℕ) → IsPlaced view x.store x.locks p (chain_of x p).levels (chain_of x p).undo → (chain_of x p).levels ≡ [] → chain_of x p ≡ no_chain
-none_in view x p placed none =
+pub none_in : {C B M W : Type 0} {P : _} (x : Running C B M W P) (p : ℕ) → IsPlaced x.store x.locks p (chain_of x p).levels (chain_of x p).undo → (chain_of x p).levels ≡ [] → chain_of x p ≡ no_chain
+none_in x p placed none =
     ap (λ gs. record { levels = gs; undo = (chain_of x p).undo }) none
     ∙ ap (λ log. record { levels = []; undo = log }) (no_records (chain_of x p).undo (placed.as_many ∙ ap length none))
 
@@ -58,36 +58,34 @@ other_call v w p q other = grind (arith, nat_tests, other)
 own_call : {W : Type 0} (v w : Option (InFlight W)) (p : ℕ) → cond (p == p) v w ≡ v
 own_call v w p = grind (arith, nat_tests)
 
-pub finish_done : {C M W X : Type 0} {F : X → Type 0} (m : Meaning) (view : Seeing X F) (stage : W → Stage) (caller : W → ℕ) (x y : Running C M W X F) (p : ℕ) (c : PlacedCall) (f : InFlight W) (v : Option (InFlight W)) (answer : Option (List ℕ)) (kept kept_new : List Note) (d e : DiskSeen) →
-    StepsAlone view caller x p → (chain_of x p).levels ≡ [] → p < 16 → (flight_of x.calls.items p).call ≡ Some f → call_in_place stage f ≡ c →
+pub finish_done : {C B M W : Type 0} {P : _} (m : Meaning) (stage : W → Stage) (caller : W → ℕ) (x y : Running C B M W P) (p : ℕ) (c : PlacedCall) (f : InFlight W) (v : Option (InFlight W)) (answer : Option (List ℕ)) (kept kept_new : List Note) (d e : DiskSeen) →
+    StepsAlone caller x p → (chain_of x p).levels ≡ [] → p < 16 → (flight_of x.calls.items p).call ≡ Some f → call_in_place stage f ≡ c →
     y.calls.items ≡ with_call x.calls.items p v → y.locks ≡ x.locks → y.images ≡ x.images → y.clock ≡ x.clock → y.order ≡ x.order →
-    world_of_store y.store ≡ world_of_store x.store → IsStore view y.store → SegmentsStay x.store.ram y.store.ram → ((g : InFlight W) → v ≡ Some g → caller g.work ≡ caller f.work) →
-    PieceDone m (world_of_store x.store) (objects_of view x.store) (objects_of view y.store) (caller f.work) (call_in_place stage f) (option_map (call_in_place stage) v) answer kept kept_new d e →
-    StepDone view stage caller (finishes m p c answer) x y p kept kept_new d e
-finish_done {W = W} m view stage caller x y p c f v answer kept kept_new d e alone none small is c_is calls locks images clock order world store memory caller_is done =
+    world_of_store y.store ≡ world_of_store x.store → SegmentsStay x.store.ram y.store.ram → ((g : InFlight W) → v ≡ Some g → caller g.work ≡ caller f.work) →
+    PieceDone m (world_of_store x.store) (objects_of x.store) (objects_of y.store) (caller f.work) (call_in_place stage f) (option_map (call_in_place stage) v) answer kept kept_new d e →
+    StepDone stage caller (finishes m p c answer) x y p kept kept_new d e
+finish_done {W = W} m stage caller x y p c f v answer kept kept_new d e alone none small is c_is calls locks images clock order world memory caller_is done =
     let within : p < length x.calls.items = omega (arith, alone.sixteen, small) in
-    let nothing = none_in view x p alone.placed none in
-    let here = placed_finished view stage x y p v within nothing calls locks memory world images clock order in
-    let whole : PieceDone m (world_of_store x.store) (objects_of view x.store) (objects_of view y.store) p c (option_map (call_in_place stage) v) answer kept kept_new d e =
-    subst (λ b. PieceDone m (world_of_store x.store) (objects_of view x.store) (objects_of view y.store) p b (option_map (call_in_place stage) v) answer kept kept_new d e) c_is
-    (subst (λ q. PieceDone m (world_of_store x.store) (objects_of view x.store) (objects_of view y.store) q (call_in_place stage f) (option_map (call_in_place stage) v) answer kept kept_new d e) (alone.caller_is f is) done) in
+    let nothing = none_in x p alone.placed none in
+    let here = placed_finished stage x y p v within nothing calls locks memory world images clock order in
+    let whole : PieceDone m (world_of_store x.store) (objects_of x.store) (objects_of y.store) p c (option_map (call_in_place stage) v) answer kept kept_new d e =
+    subst (λ b. PieceDone m (world_of_store x.store) (objects_of x.store) (objects_of y.store) p b (option_map (call_in_place stage) v) answer kept kept_new d e) c_is
+    (subst (λ q. PieceDone m (world_of_store x.store) (objects_of x.store) (objects_of y.store) q (call_in_place stage f) (option_map (call_in_place stage) v) answer kept kept_new d e) (alone.caller_is f is) done) in
     let chains : (q : ℕ) → chain_of y q ≡ chain_of x q = λ q. ap (λ fs. (flight_of fs q).chain) calls ∙ chain_of_changed x.calls.items p v within q in
     let own : chain_of y p ≡ no_chain = chains p ∙ nothing in
     let call_then : (q : ℕ) → (flight_of y.calls.items q).call ≡ at p v (λ r. (flight_of x.calls.items r).call) q = λ q. ap (λ fs. (flight_of fs q).call) calls ∙ call_of_changed x.calls.items p v within q in
     record {
-      did = finish_did m (placed_of view stage x) (placed_of view stage y) p c (objects_of view y.store) (option_map (call_in_place stage) v) answer kept kept_new d e here whole;
-      reaches = finish_reaches m (placed_of view stage x) (placed_of view stage y) p c (objects_of view y.store) (option_map (call_in_place stage) v) answer kept kept_new d e here whole;
+      did = finish_did m (placed_of stage x) (placed_of stage y) p c (objects_of y.store) (option_map (call_in_place stage) v) answer kept kept_new d e here whole;
+      reaches = finish_reaches m (placed_of stage x) (placed_of stage y) p c (objects_of y.store) (option_map (call_in_place stage) v) answer kept kept_new d e here whole;
       stepped = record {
-        store = store;
         world = world;
         sixteen = still_sixteen x.calls.items p v y.calls.items calls;
         caller_is = λ g there. caller_is g (sym (call_then p ∙ own_call v (flight_of x.calls.items p).call p) ∙ there) ∙ alone.caller_is f is;
         calls = λ q other. call_then q ∙ other_call v (flight_of x.calls.items q).call p q other;
         chains = λ q other. chains q;
         locks = λ q d other. ap (λ t. held t q d) locks;
-        placed = subst (λ (chain : Chain). IsPlaced view y.store y.locks p chain.levels chain.undo) (sym own)
+        placed = subst (λ (chain : Chain). IsPlaced y.store y.locks p chain.levels chain.undo) (sym own)
             (record {
-              store = store;
               process = small;
               few = omega arith;
               as_many = refl;
@@ -95,7 +93,7 @@ finish_done {W = W} m view stage caller x y p c f v answer kept kept_new d e alo
               levels = tt;
               undoable = tt;
             });
-        inside = subst (λ (chain : Chain). AreInside (table_of y.images) (objects_of view y.store).accounts p chain.levels) (sym own) tt;
+        inside = subst (λ (chain : Chain). AreInside (table_of y.images) (objects_of y.store).accounts p chain.levels) (sym own) tt;
         images = images;
         clock = clock;
         order = order;
@@ -106,10 +104,9 @@ finish_done {W = W} m view stage caller x y p c f v answer kept kept_new d e alo
 -- ---- what was said
 
 -- nothing is left to do
-stepped_same : {C M W X : Type 0} {F : X → Type 0} (view : Seeing X F) (caller : W → ℕ) (x : Running C M W X F) (p : ℕ) → StepsAlone view caller x p → Stepped view caller x x p
-stepped_same view caller x p alone =
+stepped_same : {C B M W : Type 0} {P : _} (caller : W → ℕ) (x : Running C B M W P) (p : ℕ) → StepsAlone caller x p → Stepped caller x x p
+stepped_same caller x p alone =
     record {
-      store = alone.store;
       world = refl;
       sixteen = refl;
       caller_is = alone.caller_is;
@@ -123,27 +120,27 @@ stepped_same view caller x p alone =
       order = refl;
     }
 
-pub nothing_done : {C M W X : Type 0} {F : X → Type 0} (view : Seeing X F) (stage : W → Stage) (caller : W → ℕ) (x : Running C M W X F) (p : ℕ) (kept : List Note) (d : DiskSeen) → StepsAlone view caller x p →
-    StepDone view stage caller (λ r. r) x x p kept kept d d
-nothing_done view stage caller x p kept d alone =
+pub nothing_done : {C B M W : Type 0} {P : _} (stage : W → Stage) (caller : W → ℕ) (x : Running C B M W P) (p : ℕ) (kept : List Note) (d : DiskSeen) → StepsAlone caller x p →
+    StepDone stage caller (λ r. r) x x p kept kept d d
+nothing_done stage caller x p kept d alone =
     record {
-      did = did_nothing (placed_of view stage x) kept d;
-      reaches = reaches_purely (λ r. r) (placed_of view stage x) (placed_of view stage x) [] some_blocks (blocks_are_whole (world_of_store x.store)) (λ blocks notes io. nil_right blocks notes io);
-      stepped = stepped_same view caller x p alone;
+      did = did_nothing (placed_of stage x) kept d;
+      reaches = reaches_purely (λ r. r) (placed_of stage x) (placed_of stage x) [] some_blocks (blocks_are_whole (world_of_store x.store)) (λ blocks notes io. nil_right blocks notes io);
+      stepped = stepped_same caller x p alone;
       own = alone.own;
     }
   where
-    nil_right : (blocks : Blocks) (notes : List Note) (io : List Bool) → run_of (placed_of view stage x) blocks notes io ≡ run_of (placed_of view stage x) blocks (notes ++ []) io
-    nil_right blocks notes io = ap (λ ns. run_of (placed_of view stage x) blocks ns io) (sym (append-nil notes))
+    nil_right : (blocks : Blocks) (notes : List Note) (io : List Bool) → run_of (placed_of stage x) blocks notes io ≡ run_of (placed_of stage x) blocks (notes ++ []) io
+    nil_right blocks notes io = ap (λ ns. run_of (placed_of stage x) blocks ns io) (sym (append-nil notes))
 
 -- a note, and then this
-pub noted_done : {C M W X : Type 0} {F : X → Type 0} (view : Seeing X F) (stage : W → Stage) (caller : W → ℕ) (g : PlacedRun → PlacedRun) (x y : Running C M W X F) (p : ℕ) (note : Note) (kept mid kept_new : List Note) (d e : DiskSeen) →
-    ((all : List Note) → kept ≡ first_notes all → mid ≡ first_notes (all ++ note ∷ [])) → StepDone view stage caller g x y p mid kept_new d e → StepDone view stage caller (λ r. g (placed_noted note r)) x y p kept kept_new d e
-noted_done view stage caller g x y p note kept mid kept_new d e adds h =
-    let o = placed_of view stage x in
+pub noted_done : {C B M W : Type 0} {P : _} (stage : W → Stage) (caller : W → ℕ) (g : PlacedRun → PlacedRun) (x y : Running C B M W P) (p : ℕ) (note : Note) (kept mid kept_new : List Note) (d e : DiskSeen) →
+    ((all : List Note) → kept ≡ first_notes all → mid ≡ first_notes (all ++ note ∷ [])) → StepDone stage caller g x y p mid kept_new d e → StepDone stage caller (λ r. g (placed_noted note r)) x y p kept kept_new d e
+noted_done stage caller g x y p note kept mid kept_new d e adds h =
+    let o = placed_of stage x in
     record {
-      did = did_then (placed_noted note) g o o (placed_of view stage y) kept mid kept_new d d e (did_purely (placed_noted note) o o kept mid (note ∷ []) d (λ blocks notes io. refl) adds) h.did;
-      reaches = reaches_behind (placed_noted note) g o o (placed_of view stage y) (note ∷ []) refl (λ blocks notes io. refl) h.reaches;
+      did = did_then (placed_noted note) g o o (placed_of stage y) kept mid kept_new d d e (did_purely (placed_noted note) o o kept mid (note ∷ []) d (λ blocks notes io. refl) adds) h.did;
+      reaches = reaches_behind (placed_noted note) g o o (placed_of stage y) (note ∷ []) refl (λ blocks notes io. refl) h.reaches;
       stepped = h.stepped;
       own = h.own;
     }
@@ -200,8 +197,8 @@ no_levels p ram t [] log w h = refl
 no_levels p ram t (g ∷ gs) log w h = grind (arith, h)
 
 -- a chain whose levels are none has none
-pub none_of_bare : {C M W X : Type 0} {F : X → Type 0} (view : Seeing X F) (x : Running C M W X F) (p : ℕ) → levels_at view x p ≡ [] → (chain_of x p).levels ≡ []
-none_of_bare view x p h = no_levels p x.store.ram (held x.locks) (chain_of x p).levels (chain_of x p).undo (objects_of view x.store).things h
+pub none_of_bare : {C B M W : Type 0} {P : _} (x : Running C B M W P) (p : ℕ) → levels_at x p ≡ [] → (chain_of x p).levels ≡ []
+none_of_bare x p h = no_levels p x.store.ram (held x.locks) (chain_of x p).levels (chain_of x p).undo (objects_of x.store).things h
 
 -- what two equal lists begin with
 same_first : {A : Type 0} (a b : A) (xs ys : List A) → a ∷ xs ≡ b ∷ ys → (a ≡ b) × (xs ≡ ys)
@@ -218,9 +215,9 @@ owned_by q p ram t (g ∷ gs) log w (l ∷ ls) h own =
       owned_by q p ram t gs (outer log) (put_back (innermost log) w) ls both.1 own.2,
     )
 
-pub of_one : {C M W X : Type 0} {F : X → Type 0} (view : Seeing X F) (x : Running C M W X F) (p q : ℕ) (ls : List Level) → levels_at view x p ≡ map bare ls → AreOfOwner q ls → IsOfOne (chain_of x p)
-of_one view x p q ls h own =
-    record { owner = q; own = owned_by q p x.store.ram (held x.locks) (chain_of x p).levels (chain_of x p).undo (objects_of view x.store).things ls h own }
+pub of_one : {C B M W : Type 0} {P : _} (x : Running C B M W P) (p q : ℕ) (ls : List Level) → levels_at x p ≡ map bare ls → AreOfOwner q ls → IsOfOne (chain_of x p)
+of_one x p q ls h own =
+    record { owner = q; own = owned_by q p x.store.ram (held x.locks) (chain_of x p).levels (chain_of x p).undo (objects_of x.store).things ls h own }
 
 -- and the other way round
 pub owner_of : (q p : ℕ) (ram : List ℕ) (t : LockTable) (gs : List GraftLevel) (log : List (List Inverse)) (w : Things) → AreOwned q gs log → AreOfOwner q (levels_in p ram t gs log w)
@@ -230,39 +227,36 @@ owner_of q p ram t (g ∷ gs) log w own = (own.0, own.1, owner_of q p ram t gs (
 -- ---- a move
 
 -- what must hold of p's call for the rest of its step
-pub alone_at : {C M W X : Type 0} {F : X → Type 0} (view : Seeing X F) (caller : W → ℕ) (x : Running C M W X F) (p : ℕ) → IsRunning view caller x → p < 16 → StepsAlone view caller x p
-alone_at view caller x p r small =
+pub alone_at : {C B M W : Type 0} {P : _} (caller : W → ℕ) (x : Running C B M W P) (p : ℕ) → IsRunning caller x → p < 16 → StepsAlone caller x p
+alone_at caller x p r small =
     record {
-      store = r.store;
       sixteen = r.sixteen;
-      few = λ q. few_levels view caller x r q (nat_lt q 16) refl;
+      few = λ q. few_levels caller x r q (nat_lt q 16) refl;
       caller_is = λ f is. r.callers p f is;
       placed = r.placed p small;
       inside = r.inside p small;
       own = record { owner = r.owner p; own = r.own p small };
     }
 
-few_moved : {C M W X : Type 0} {F : X → Type 0} (view : Seeing X F) (caller : W → ℕ) (x y : Running C M W X F) (p : ℕ) → IsRunning view caller x → Moved view x y p → (q : ℕ) (b : Bool) → (q == p) ≡ b → length (chain_of y q).levels ≤ 4
-few_moved view caller x y p r moved q true h = subst (λ k. length (chain_of y k).levels ≤ 4) (sym (eqb-true q p h)) moved.placed.few
-few_moved view caller x y p r moved q false h =
-    subst (λ (c : Chain). length c.levels ≤ 4) (sym (moved.chains q (grind (arith, nat_tests, h)))) (few_levels view caller x r q (nat_lt q 16) refl)
+few_moved : {C B M W : Type 0} {P : _} (caller : W → ℕ) (x y : Running C B M W P) (p : ℕ) → IsRunning caller x → Moved x y p → (q : ℕ) (b : Bool) → (q == p) ≡ b → length (chain_of y q).levels ≤ 4
+few_moved caller x y p r moved q true h = subst (λ k. length (chain_of y k).levels ≤ 4) (sym (eqb-true q p h)) moved.placed.few
+few_moved caller x y p r moved q false h =
+    subst (λ (c : Chain). length c.levels ≤ 4) (sym (moved.chains q (grind (arith, nat_tests, h)))) (few_levels caller x r q (nat_lt q 16) refl)
 
-pub alone_moved : {C M W X : Type 0} {F : X → Type 0} (view : Seeing X F) (caller : W → ℕ) (x y : Running C M W X F) (p : ℕ) → IsRunning view caller x → p < 16 → Moved view x y p → IsOfOne (chain_of y p) → StepsAlone view caller y p
-alone_moved view caller x y p r small moved own =
+pub alone_moved : {C B M W : Type 0} {P : _} (caller : W → ℕ) (x y : Running C B M W P) (p : ℕ) → IsRunning caller x → p < 16 → Moved x y p → IsOfOne (chain_of y p) → StepsAlone caller y p
+alone_moved caller x y p r small moved own =
     record {
-      store = moved.placed.store;
       sixteen = moved.sixteen ∙ r.sixteen;
-      few = λ q. few_moved view caller x y p r moved q (q == p) refl;
+      few = λ q. few_moved caller x y p r moved q (q == p) refl;
       caller_is = λ f is. r.callers p f (sym (moved.calls p) ∙ is);
       placed = moved.placed;
       inside = moved.inside;
       own = own;
     }
 
-stepped_moved : {C M W X : Type 0} {F : X → Type 0} (view : Seeing X F) (caller : W → ℕ) (x y z : Running C M W X F) (p : ℕ) → Moved view x y p → Stepped view caller y z p → Stepped view caller x z p
-stepped_moved view caller x y z p moved step =
+stepped_moved : {C B M W : Type 0} {P : _} (caller : W → ℕ) (x y z : Running C B M W P) (p : ℕ) → Moved x y p → Stepped caller y z p → Stepped caller x z p
+stepped_moved caller x y z p moved step =
     record {
-      store = step.store;
       world = step.world ∙ moved.elsewhere.world;
       sixteen = step.sixteen ∙ moved.sixteen;
       caller_is = step.caller_is;
@@ -277,27 +271,27 @@ stepped_moved view caller x y z p moved step =
     }
 
 -- a move to a config, and then this
-pub moved_done : {C M W X : Type 0} {F : X → Type 0} (view : Seeing X F) (stage : W → Stage) (caller : W → ℕ) (f : Config) (g : PlacedRun → PlacedRun) (x y z : Running C M W X F) (p : ℕ) (kept kept_new : List Note) (d e : DiskSeen) →
-    Moved view x y p → placed_of view stage y ≡ come_to p f (placed_of view stage x) → StepDone view stage caller g y z p kept kept_new d e → StepDone view stage caller (λ r. g (with_config p f r)) x z p kept kept_new d e
-moved_done view stage caller f g x y z p kept kept_new d e moved come h =
-    let o = placed_of view stage x in
-    let same : (blocks : Blocks) (notes : List Note) (io : List Bool) → with_config p f (run_of o blocks notes io) ≡ run_of (placed_of view stage y) blocks (notes ++ []) io =
-    λ blocks notes io. ap (λ w. run_of w blocks notes io) (sym come) ∙ ap (λ ns. run_of (placed_of view stage y) blocks ns io) (sym (append-nil notes)) in
+pub moved_done : {C B M W : Type 0} {P : _} (stage : W → Stage) (caller : W → ℕ) (f : Config) (g : PlacedRun → PlacedRun) (x y z : Running C B M W P) (p : ℕ) (kept kept_new : List Note) (d e : DiskSeen) →
+    Moved x y p → placed_of stage y ≡ come_to p f (placed_of stage x) → StepDone stage caller g y z p kept kept_new d e → StepDone stage caller (λ r. g (with_config p f r)) x z p kept kept_new d e
+moved_done stage caller f g x y z p kept kept_new d e moved come h =
+    let o = placed_of stage x in
+    let same : (blocks : Blocks) (notes : List Note) (io : List Bool) → with_config p f (run_of o blocks notes io) ≡ run_of (placed_of stage y) blocks (notes ++ []) io =
+    λ blocks notes io. ap (λ w. run_of w blocks notes io) (sym come) ∙ ap (λ ns. run_of (placed_of stage y) blocks ns io) (sym (append-nil notes)) in
     record {
-      did = did_then (with_config p f) g o (placed_of view stage y) (placed_of view stage z) kept kept kept_new d d e
-          (did_purely (with_config p f) o (placed_of view stage y) kept kept [] d same (λ notes k. k ∙ ap first_notes (sym (append-nil notes)))) h.did;
-      reaches = reaches_behind (with_config p f) g o (placed_of view stage y) (placed_of view stage z) [] moved.elsewhere.world same h.reaches;
-      stepped = stepped_moved view caller x y z p moved h.stepped;
+      did = did_then (with_config p f) g o (placed_of stage y) (placed_of stage z) kept kept kept_new d d e
+          (did_purely (with_config p f) o (placed_of stage y) kept kept [] d same (λ notes k. k ∙ ap first_notes (sym (append-nil notes)))) h.did;
+      reaches = reaches_behind (with_config p f) g o (placed_of stage y) (placed_of stage z) [] moved.elsewhere.world same h.reaches;
+      stepped = stepped_moved caller x y z p moved h.stepped;
       own = h.own;
     }
 
 -- another change that comes to the same from here
-pub done_as : {C M W X : Type 0} {F : X → Type 0} (view : Seeing X F) (stage : W → Stage) (caller : W → ℕ) (f g : PlacedRun → PlacedRun) (x y : Running C M W X F) (p : ℕ) (kept kept_new : List Note) (d e : DiskSeen) →
-    ((blocks : Blocks) (notes : List Note) (io : List Bool) → f (run_of (placed_of view stage x) blocks notes io) ≡ g (run_of (placed_of view stage x) blocks notes io)) → StepDone view stage caller g x y p kept kept_new d e → StepDone view stage caller f x y p kept kept_new d e
-done_as view stage caller f g x y p kept kept_new d e same h =
+pub done_as : {C B M W : Type 0} {P : _} (stage : W → Stage) (caller : W → ℕ) (f g : PlacedRun → PlacedRun) (x y : Running C B M W P) (p : ℕ) (kept kept_new : List Note) (d e : DiskSeen) →
+    ((blocks : Blocks) (notes : List Note) (io : List Bool) → f (run_of (placed_of stage x) blocks notes io) ≡ g (run_of (placed_of stage x) blocks notes io)) → StepDone stage caller g x y p kept kept_new d e → StepDone stage caller f x y p kept kept_new d e
+done_as stage caller f g x y p kept kept_new d e same h =
     record {
-      did = did_as f g (placed_of view stage x) (placed_of view stage y) kept kept_new d e same h.did;
-      reaches = reaches_as f g (placed_of view stage x) (placed_of view stage y) same h.reaches;
+      did = did_as f g (placed_of stage x) (placed_of stage y) kept kept_new d e same h.did;
+      reaches = reaches_as f g (placed_of stage x) (placed_of stage y) same h.reaches;
       stepped = h.stepped;
       own = h.own;
     }
@@ -322,16 +316,16 @@ no_call stage (Some f) c e h = grind (arith, e)
 
 -- ---- the drop of a level
 
-pub drop_noted : {C M W X : Type 0} {F : X → Type 0} (m : Meaning) (view : Seeing X F) (stage : W → Stage) (caller : W → ℕ) (x : Running C M W X F) (p d : ℕ) (c : PlacedCall) (note : Note) (kept mid : List Note) (e : DiskSeen) → 0 < d →
-    ((all : List Note) → kept ≡ first_notes all → mid ≡ first_notes (all ++ note ∷ [])) → StepsAlone view caller x p → StepDone view stage caller (λ r. after_drop m p c d (placed_noted note r)) x x p kept mid e e
-drop_noted m view stage caller x p zero c note kept mid e h adds alone = absurd (omega (arith, h))
-drop_noted m view stage caller x p (suc d) c note kept mid e h adds alone =
-    noted_done view stage caller (λ r. r) x x p note kept mid mid e e adds (nothing_done view stage caller x p mid e alone)
+pub drop_noted : {C B M W : Type 0} {P : _} (m : Meaning) (stage : W → Stage) (caller : W → ℕ) (x : Running C B M W P) (p d : ℕ) (c : PlacedCall) (note : Note) (kept mid : List Note) (e : DiskSeen) → 0 < d →
+    ((all : List Note) → kept ≡ first_notes all → mid ≡ first_notes (all ++ note ∷ [])) → StepsAlone caller x p → StepDone stage caller (λ r. after_drop m p c d (placed_noted note r)) x x p kept mid e e
+drop_noted m stage caller x p zero c note kept mid e h adds alone = absurd (omega (arith, h))
+drop_noted m stage caller x p (suc d) c note kept mid e h adds alone =
+    noted_done stage caller (λ r. r) x x p note kept mid mid e e adds (nothing_done stage caller x p mid e alone)
 
-pub drop_finished : {C M W X : Type 0} {F : X → Type 0} (m : Meaning) (view : Seeing X F) (stage : W → Stage) (caller : W → ℕ) (x y : Running C M W X F) (p d : ℕ) (c : PlacedCall) (note : Note) (kept mid kept_new : List Note) (e l : DiskSeen) → d ≤ 0 →
-    ((all : List Note) → kept ≡ first_notes all → mid ≡ first_notes (all ++ note ∷ [])) → StepDone view stage caller (finishes m p c None) x y p mid kept_new e l → StepDone view stage caller (λ r. after_drop m p c d (placed_noted note r)) x y p kept kept_new e l
-drop_finished m view stage caller x y p zero c note kept mid kept_new e l h adds done = noted_done view stage caller (finishes m p c None) x y p note kept mid kept_new e l adds done
-drop_finished m view stage caller x y p (suc d) c note kept mid kept_new e l h adds done = absurd (omega (arith, h))
+pub drop_finished : {C B M W : Type 0} {P : _} (m : Meaning) (stage : W → Stage) (caller : W → ℕ) (x y : Running C B M W P) (p d : ℕ) (c : PlacedCall) (note : Note) (kept mid kept_new : List Note) (e l : DiskSeen) → d ≤ 0 →
+    ((all : List Note) → kept ≡ first_notes all → mid ≡ first_notes (all ++ note ∷ [])) → StepDone stage caller (finishes m p c None) x y p mid kept_new e l → StepDone stage caller (λ r. after_drop m p c d (placed_noted note r)) x y p kept kept_new e l
+drop_finished m stage caller x y p zero c note kept mid kept_new e l h adds done = noted_done stage caller (finishes m p c None) x y p note kept mid kept_new e l adds done
+drop_finished m stage caller x y p (suc d) c note kept mid kept_new e l h adds done = absurd (omega (arith, h))
 
 -- with level 0 the piece finishes by default
 pub answer_zero : (d : ℕ) → d ≤ 0 → answer_of_drop d ≡ Some None
@@ -339,9 +333,9 @@ answer_zero zero h = refl
 answer_zero (suc d) h = absurd (omega (arith, h))
 
 -- by what was said
-pub said_done : {C M W X : Type 0} {F : X → Type 0} (m : Meaning) (view : Seeing X F) (stage : W → Stage) (caller : W → ℕ) (x y : Running C M W X F) (p : ℕ) (c : PlacedCall) (s t : Micro) (kept kept_new : List Note) (d e : DiskSeen) → s ≡ t →
-    StepDone view stage caller (after_said m p c t) x y p kept kept_new d e → StepDone view stage caller (after_said m p c s) x y p kept kept_new d e
-said_done m view stage caller x y p c s t kept kept_new d e is h = subst (λ u. StepDone view stage caller (after_said m p c u) x y p kept kept_new d e) (sym is) h
+pub said_done : {C B M W : Type 0} {P : _} (m : Meaning) (stage : W → Stage) (caller : W → ℕ) (x y : Running C B M W P) (p : ℕ) (c : PlacedCall) (s t : Micro) (kept kept_new : List Note) (d e : DiskSeen) → s ≡ t →
+    StepDone stage caller (after_said m p c t) x y p kept kept_new d e → StepDone stage caller (after_said m p c s) x y p kept kept_new d e
+said_done m stage caller x y p c s t kept kept_new d e is h = subst (λ u. StepDone stage caller (after_said m p c u) x y p kept kept_new d e) (sym is) h
 
 -- the number of a call that stands in place
 pub number_is : {W : Type 0} (stage : W → Stage) (o : Option (InFlight W)) (c : PlacedCall) (n : ℕ) → Some n ≡ option_map (λ (f : InFlight W). f.number) o → option_map (call_in_place stage) o ≡ Some c → n ≡ c.number

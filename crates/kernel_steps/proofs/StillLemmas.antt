@@ -13,7 +13,7 @@ use Rattle.kernel_model.specs.Locks.{LockTable, Touched}
 use Rattle.kernel_model.specs.Meaning.{Meaning, Stage}
 use Rattle.lock_table.specs.declared.Holds.{Holds}
 use Rattle.lock_table.specs.Masks.{held}
-use Rattle.kernel_state.specs.Stores.{Seeing, world_of_store, objects_of}
+use Rattle.kernel_state.specs.Stores.{world_of_store, objects_of}
 use Rattle.graft_loader.specs.Slots.{table_of}
 use Rattle.graft_calls.specs.declared.GraftLevel.{GraftLevel}
 use Rattle.graft_calls.specs.Chains.{levels_in, levels_of}
@@ -59,16 +59,16 @@ module _ (t u : ℕ → Touched) (d : ℕ) (o : Object) where
       too_many n h = omega (arith, h)
 
 -- a running kernel after a step of which the grips before and after are one
-pub keeps_holds : {C M W X : Type 0} {F : X → Type 0} (m : Meaning) (view : Seeing X F) (stage : W → Stage) (caller : W → ℕ) (x y : Running C M W X F) (p : ℕ) (ns : List Need) (before after : Grip) →
-    IsRunning view caller x → IsRunning view caller y → ns ≡ placed_needs m (placed_of view stage x) p → length ns ≤ 3 → IsGrip (held x.locks p) ns before → IsGrip (held y.locks p) ns after → before ≡ after →
-    length ((placed_of view stage y).levels p) ≡ length ((placed_of view stage x).levels p) → KeepsHolds m (placed_of view stage x) (placed_of view stage y) p
-keeps_holds m view stage caller x y p ns before after rx ry is few gx gy same many =
+pub keeps_holds : {C B M W : Type 0} {P : _} (m : Meaning) (stage : W → Stage) (caller : W → ℕ) (x y : Running C B M W P) (p : ℕ) (ns : List Need) (before after : Grip) →
+    IsRunning caller x → IsRunning caller y → ns ≡ placed_needs m (placed_of stage x) p → length ns ≤ 3 → IsGrip (held x.locks p) ns before → IsGrip (held y.locks p) ns after → before ≡ after →
+    length ((placed_of stage y).levels p) ≡ length ((placed_of stage x).levels p) → KeepsHolds m (placed_of stage x) (placed_of stage y) p
+keeps_holds m stage caller x y p ns before after rx ry is few gx gy same many =
     record {
       levels = many;
       holds = λ d o needed.
-          ap (λ t. t p d o) (holds_in_place view stage caller y ry)
+          ap (λ t. t p d o) (holds_in_place stage caller y ry)
           ∙ same_grip (held x.locks p) (held y.locks p) d o ns before few gx (subst (IsGrip (held y.locks p) ns) (sym same) gy) (ap (is_needed o) is ∙ needed)
-          ∙ sym (ap (λ t. t p d o) (holds_in_place view stage caller x rx));
+          ∙ sym (ap (λ t. t p d o) (holds_in_place stage caller x rx));
     }
 
 -- ---- what the next instruction needs
@@ -83,8 +83,8 @@ some_levels_there : (p : ℕ) (ram : List ℕ) (t : LockTable) (gs : List GraftL
 some_levels_there p ram t [] log w h = absurd cc
 some_levels_there p ram t (g ∷ gs) log w h = omega arith
 
-pub needs_there : {C M W X : Type 0} {F : X → Type 0} (m : Meaning) (view : Seeing X F) (stage : W → Stage) (x : Running C M W X F) (p : ℕ) → is_some (call_at stage x p) ≡ true → has_some (levels_at view x p) ≡ true →
-    next_needs (world_of_store x.store) (table_of x.images) (objects_of view x.store).accounts (levels_of view x.store x.locks (chain_of x p) p) ≡ placed_needs m (placed_of view stage x) p
-needs_there m view stage x p call some =
+pub needs_there : {C B M W : Type 0} {P : _} (m : Meaning) (stage : W → Stage) (x : Running C B M W P) (p : ℕ) → is_some (call_at stage x p) ≡ true → has_some (levels_at x p) ≡ true →
+    next_needs (world_of_store x.store) (table_of x.images) (objects_of x.store).accounts (levels_of x.store x.locks (chain_of x p) p) ≡ placed_needs m (placed_of stage x) p
+needs_there m stage x p call some =
     let f = flying stage (flight_of x.calls.items p).call call in
-    graft_needs_are m view stage x p f.0 f.1 (some_levels_there p x.store.ram (held x.locks) (chain_of x p).levels (chain_of x p).undo (objects_of view x.store).things some)
+    graft_needs_are m stage x p f.0 f.1 (some_levels_there p x.store.ram (held x.locks) (chain_of x p).levels (chain_of x p).undo (objects_of x.store).things some)

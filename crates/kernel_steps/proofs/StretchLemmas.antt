@@ -9,7 +9,7 @@ use Rattle.kernel_model.specs.Meaning.{Meaning, Stage}
 use Rattle.kernel_model.specs.Levels.{Config}
 use Rattle.kernel_model.specs.Locks.{LockTable}
 use Rattle.lock_table.specs.Masks.{held}
-use Rattle.kernel_state.specs.Stores.{Seeing, world_of_store, objects_of, queue_of}
+use Rattle.kernel_state.specs.Stores.{world_of_store, objects_of, queue_of}
 use Rattle.graft_loader.specs.Slots.{table_of}
 use Rattle.graft_calls.specs.declared.GraftLevel.{GraftLevel}
 use Rattle.graft_calls.specs.declared.Chain.{Chain}
@@ -45,27 +45,27 @@ some_in : (p : ℕ) (ram : List ℕ) (t : LockTable) (gs : List GraftLevel) (log
 some_in p ram t [] log w h = absurd cc
 some_in p ram t (g ∷ gs) log w h = omega arith
 
-pub some_chain : {C M W X : Type 0} {F : X → Type 0} (view : Seeing X F) (x : Running C M W X F) (p : ℕ) → has_some (levels_at view x p) ≡ true → 0 < length (chain_of x p).levels
-some_chain view x p h = some_in p x.store.ram (held x.locks) (chain_of x p).levels (chain_of x p).undo (objects_of view x.store).things h
+pub some_chain : {C B M W : Type 0} {P : _} (x : Running C B M W P) (p : ℕ) → has_some (levels_at x p) ≡ true → 0 < length (chain_of x p).levels
+some_chain x p h = some_in p x.store.ram (held x.locks) (chain_of x p).levels (chain_of x p).undo (objects_of x.store).things h
 
 -- the graft call of p went on, where the chain before was that of p, and so is the one after
-pub gone_by : {C M W X : Type 0} {F : X → Type 0} (view : Seeing X F) (x y : Running C M W X F) (p n : ℕ) (fl : Flight W) (ch : Chain) → fl ≡ flight_of x.calls.items p → chain_of y p ≡ ch →
-    HasGoneOn (world_of_store x.store) (table_of x.images) n (call_of view x.store x.locks fl.chain p) (call_of view y.store y.locks ch p) → HasGoneOn (world_of_store x.store) (table_of x.images) n (call_of view x.store x.locks (chain_of x p) p) (call_of view y.store y.locks (chain_of y p) p)
-gone_by {W = W} view x y p n fl ch fl_is own h =
-    subst (λ (l : Flight W). HasGoneOn (world_of_store x.store) (table_of x.images) n (call_of view x.store x.locks l.chain p) (call_of view y.store y.locks (chain_of y p) p)) fl_is
-    (subst (λ (c : Chain). HasGoneOn (world_of_store x.store) (table_of x.images) n (call_of view x.store x.locks fl.chain p) (call_of view y.store y.locks c p)) (sym own) h)
+pub gone_by : {C B M W : Type 0} {P : _} (x y : Running C B M W P) (p n : ℕ) (fl : Flight W) (ch : Chain) → fl ≡ flight_of x.calls.items p → chain_of y p ≡ ch →
+    HasGoneOn (world_of_store x.store) (table_of x.images) n (call_of x.store x.locks fl.chain p) (call_of y.store y.locks ch p) → HasGoneOn (world_of_store x.store) (table_of x.images) n (call_of x.store x.locks (chain_of x p) p) (call_of y.store y.locks (chain_of y p) p)
+gone_by {W = W} x y p n fl ch fl_is own h =
+    subst (λ (l : Flight W). HasGoneOn (world_of_store x.store) (table_of x.images) n (call_of x.store x.locks l.chain p) (call_of y.store y.locks (chain_of y p) p)) fl_is
+    (subst (λ (c : Chain). HasGoneOn (world_of_store x.store) (table_of x.images) n (call_of x.store x.locks fl.chain p) (call_of y.store y.locks c p)) (sym own) h)
 
-module _ {C M W X : Type 0} {F : X → Type 0} (view : Seeing X F) (stage : W → Stage) (caller : W → ℕ) (x y : Running C M W X F) (p n : ℕ) (r : IsRunning view caller x) (small : p < 16)
-    (moved : Moved view x y p) (gone : HasGoneOn (world_of_store x.store) (table_of x.images) n (call_of view x.store x.locks (chain_of x p) p) (call_of view y.store y.locks (chain_of y p) p))
-    (locks : y.locks ≡ x.locks) (still : StillRun (table_of x.images) (objects_of view x.store).accounts (objects_of view y.store).accounts) where
+module _ {C B M W : Type 0} {P : _} (stage : W → Stage) (caller : W → ℕ) (x y : Running C B M W P) (p n : ℕ) (r : IsRunning caller x) (small : p < 16)
+    (moved : Moved x y p) (gone : HasGoneOn (world_of_store x.store) (table_of x.images) n (call_of x.store x.locks (chain_of x p) p) (call_of y.store y.locks (chain_of y p) p))
+    (locks : y.locks ≡ x.locks) (still : StillRun (table_of x.images) (objects_of x.store).accounts (objects_of y.store).accounts) where
   abbrev far : Config
-  far = gone_on n gone.machine gone.level gone.outer (call_of view x.store x.locks (chain_of x p) p)
+  far = gone_on n gone.machine gone.level gone.outer (call_of x.store x.locks (chain_of x p) p)
 
-  come : placed_of view stage y ≡ come_to p far (placed_of view stage x)
-  come = placed_moved view stage caller x y p far r moved gone.is
+  come : placed_of stage y ≡ come_to p far (placed_of stage x)
+  come = placed_moved stage caller x y p far r moved gone.is
 
   -- the kernel in place has gone on
-  pub is_stretched : IsStretched (placed_of view stage x) (placed_of view stage y) p n
+  pub is_stretched : IsStretched (placed_of stage x) (placed_of stage y) p n
   is_stretched =
       record {
         process = small;
@@ -79,22 +79,21 @@ module _ {C M W X : Type 0} {F : X → Type 0} (view : Seeing X F) (stage : W �
         is = come;
       }
 
-  things : (objects_of view y.store).things ≡ (objects_of view x.store).things
+  things : (objects_of y.store).things ≡ (objects_of x.store).things
   things = ap (λ (c : Config). c.now.things) gone.is
 
   owned : IsOfOne (chain_of y p)
   owned =
-      of_one view y p (r.owner p) far.levels (levels_come view stage x y p far come)
-      (same_owner (subst (AreOfOwner (r.owner p)) gone.levels (owner_of (r.owner p) p x.store.ram (held x.locks) (chain_of x p).levels (chain_of x p).undo (objects_of view x.store).things (r.own p small))))
+      of_one y p (r.owner p) far.levels (levels_come stage x y p far come)
+      (same_owner (subst (AreOfOwner (r.owner p)) gone.levels (owner_of (r.owner p) p x.store.ram (held x.locks) (chain_of x p).levels (chain_of x p).undo (objects_of x.store).things (r.own p small))))
     where
       same_owner : AreOfOwner (r.owner p) (gone.level ∷ gone.outer) → AreOfOwner (r.owner p) far.levels
       same_owner h = (h.0, h.1, h.2)
 
-  placed_still : (q : ℕ) → q ≢ p → q < 16 → IsPlaced view y.store y.locks q (chain_of y q).levels (chain_of y q).undo
+  placed_still : (q : ℕ) → q ≢ p → q < 16 → IsPlaced y.store y.locks q (chain_of y q).levels (chain_of y q).undo
   placed_still q other low =
-      subst (λ (c : Chain). IsPlaced view y.store y.locks q c.levels c.undo) (sym (moved.chains q other))
+      subst (λ (c : Chain). IsPlaced y.store y.locks q c.levels c.undo) (sym (moved.chains q other))
       (let old = r.placed q low in record {
-        store = moved.placed.store;
         process = low;
         few = old.few;
         as_many = old.as_many;
@@ -103,20 +102,19 @@ module _ {C M W X : Type 0} {F : X → Type 0} (view : Seeing X F) (stage : W �
         undoable = subst (AllUndoable (chain_of x q).undo) (sym things) old.undoable;
       })
 
-  inside_still : (q : ℕ) → q ≢ p → q < 16 → AreInside (table_of y.images) (objects_of view y.store).accounts q (chain_of y q).levels
+  inside_still : (q : ℕ) → q ≢ p → q < 16 → AreInside (table_of y.images) (objects_of y.store).accounts q (chain_of y q).levels
   inside_still q other low =
-      subst (λ (c : Chain). AreInside (table_of y.images) (objects_of view y.store).accounts q c.levels) (sym (moved.chains q other))
-      (subst (λ i. AreInside (table_of i) (objects_of view y.store).accounts q (chain_of x q).levels) (sym moved.images) (still q (chain_of x q).levels (r.inside q low)))
+      subst (λ (c : Chain). AreInside (table_of y.images) (objects_of y.store).accounts q c.levels) (sym (moved.chains q other))
+      (subst (λ i. AreInside (table_of i) (objects_of y.store).accounts q (chain_of x q).levels) (sym moved.images) (still q (chain_of x q).levels (r.inside q low)))
 
   -- the kernel runs
-  pub runs_stretched : IsRunning view caller y
+  pub runs_stretched : IsRunning caller y
   runs_stretched =
       record {
-        store = moved.placed.store;
         sixteen = moved.sixteen ∙ r.sixteen;
         callers = λ q f is. r.callers q f (sym (moved.calls q) ∙ is);
-        placed = λ q low. all_hold p (λ q. q < 16 → IsPlaced view y.store y.locks q (chain_of y q).levels (chain_of y q).undo) (λ low. moved.placed) placed_still q (q == p) refl low;
-        inside = λ q low. all_hold p (λ q. q < 16 → AreInside (table_of y.images) (objects_of view y.store).accounts q (chain_of y q).levels) (λ low. moved.inside) inside_still q (q == p) refl low;
+        placed = λ q low. all_hold p (λ q. q < 16 → IsPlaced y.store y.locks q (chain_of y q).levels (chain_of y q).undo) (λ low. moved.placed) placed_still q (q == p) refl low;
+        inside = λ q low. all_hold p (λ q. q < 16 → AreInside (table_of y.images) (objects_of y.store).accounts q (chain_of y q).levels) (λ low. moved.inside) inside_still q (q == p) refl low;
         counts = ap (λ n. counts_within n y.order) moved.clock ∙ ap (counts_within x.clock) moved.order ∙ r.counts;
         order = ap are_processes moved.order ∙ r.order;
         once = ap (λ ws. are_once (numbers_of ws)) moved.order ∙ r.once;

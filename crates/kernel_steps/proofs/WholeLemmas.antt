@@ -12,7 +12,6 @@ use Rattle.kernel_model.specs.Events.{drop_call}
 use Rattle.kernel_model.specs.Levels.{drop_level}
 use Rattle.kernel_model.specs.Sound.{HasWholeBlocks}
 use Rattle.disk_log.specs.Seen.{DiskSeen}
-use Rattle.kernel_state.specs.Stores.{Seeing}
 use Rattle.placed_laws.specs.Agreeing.{SameShown}
 use Rattle.placed_laws.specs.Keeping.{StepsStand, DropsStand, HeldStays as HeldStaysInPlace}
 use Rattle.placed_laws.specs.Placed.{Placed, PlacedCall, PlacedLevel, PlacedRun, has_some, placed_blocker, placed_config}
@@ -53,23 +52,23 @@ stood_dropped m law x y p d cause s low reach =
 
 -- ---- what others hold
 
-held_stepped : {C M W X : Type 0} {F : X → Type 0} (m : Meaning) → HeldStaysInPlace m → (view : Seeing X F) (stage : W → Stage) (caller : W → ℕ) (x y : Running C M W X F) (es : List Entry) (p q : ℕ) (c : PlacedCall) → IsRunning view caller x →
-    Stood m (placed_of view stage x) → call_at stage x p ≡ Some c → placed_blocker m (placed_of view stage x) p ≡ None → q ≢ p →
-    Reaches (placed_step m p) (placed_of view stage x) (record (placed_of view stage y) { order = es }) → HeldStays view x y q
-held_stepped m law view stage caller x y es p q c r s is free other reach d o own =
-    let z = placed_of view stage x in
+held_stepped : {C B M W : Type 0} {P : _} (m : Meaning) → HeldStaysInPlace m → (stage : W → Stage) (caller : W → ℕ) (x y : Running C B M W P) (es : List Entry) (p q : ℕ) (c : PlacedCall) → IsRunning caller x →
+    Stood m (placed_of stage x) → call_at stage x p ≡ Some c → placed_blocker m (placed_of stage x) p ≡ None → q ≢ p →
+    Reaches (placed_step m p) (placed_of stage x) (record (placed_of stage y) { order = es }) → HeldStays x y q
+held_stepped m law stage caller x y es p q c r s is free other reach d o own =
+    let z = placed_of stage x in
     subst (λ (w : Placed). SameAt o w.objects z.objects) (reach.goes [])
     (law.steps (run_of z reach.blocks [] reach.io) (record { kernel = s.kernel; blocks = reach.blocks; notes = []; io = reach.io }) p q d c o (run_stands m z s reach.blocks reach.io reach.whole) is free other
-    (ap (λ t. t q d o) (holds_in_place view stage caller x r) ∙ own))
+    (ap (λ t. t q d o) (holds_in_place stage caller x r) ∙ own))
 
-held_dropped : {C M W X : Type 0} {F : X → Type 0} (m : Meaning) → HeldStaysInPlace m → (view : Seeing X F) (stage : W → Stage) (caller : W → ℕ) (x y : Running C M W X F) (es : List Entry) (p q n : ℕ) (cause : Cause) → IsRunning view caller x →
-    Stood m (placed_of view stage x) → n < length (levels_at view x p) → q ≢ p →
-    Reaches (placed_drop m p n cause) (placed_of view stage x) (record (placed_of view stage y) { order = es }) → HeldStays view x y q
-held_dropped m law view stage caller x y es p q n cause r s low other reach d o own =
-    let z = placed_of view stage x in
+held_dropped : {C B M W : Type 0} {P : _} (m : Meaning) → HeldStaysInPlace m → (stage : W → Stage) (caller : W → ℕ) (x y : Running C B M W P) (es : List Entry) (p q n : ℕ) (cause : Cause) → IsRunning caller x →
+    Stood m (placed_of stage x) → n < length (levels_at x p) → q ≢ p →
+    Reaches (placed_drop m p n cause) (placed_of stage x) (record (placed_of stage y) { order = es }) → HeldStays x y q
+held_dropped m law stage caller x y es p q n cause r s low other reach d o own =
+    let z = placed_of stage x in
     subst (λ (w : Placed). SameAt o w.objects z.objects) (reach.goes [])
     (law.drops (run_of z reach.blocks [] reach.io) (record { kernel = s.kernel; blocks = reach.blocks; notes = []; io = reach.io }) p q d n cause o (run_stands m z s reach.blocks reach.io reach.whole) low other
-    (ap (λ t. t q d o) (holds_in_place view stage caller x r) ∙ own))
+    (ap (λ t. t q d o) (holds_in_place stage caller x r) ∙ own))
 
 -- ---- the order
 
@@ -91,21 +90,21 @@ step_reaches m x y p h =
     reaches_as (placed_step m p) (λ r. placed_requeue p (placed_call_step m p (x.call p) r)) x (record y { order = requeued_order p y }) (λ blocks notes io. refl)
     (reaches_before (placed_call_step m p (x.call p)) (placed_requeue p) x y (record y { order = requeued_order p y }) (λ r is. requeue_same p r y is) h)
 
-pub stood_after_step : {C M W X : Type 0} {F : X → Type 0} (m : Meaning) → StepsStand m → (view : Seeing X F) (stage : W → Stage) (caller : W → ℕ) (x y : Running C M W X F) (p : ℕ) (c : PlacedCall) (kept kept_new : List Note) (d e : DiskSeen) →
-    Stood m (placed_of view stage x) → call_at stage x p ≡ Some c → placed_blocker m (placed_of view stage x) p ≡ None →
-    StepDone view stage caller (placed_call_step m p (call_at stage x p)) x y p kept kept_new d e → Stood m (record (placed_of view stage y) { order = requeued_order p (placed_of view stage y) })
-stood_after_step m law view stage caller x y p c kept kept_new d e s is free h =
-    let o = placed_of view stage x in
-    let z = placed_of view stage y in
+pub stood_after_step : {C B M W : Type 0} {P : _} (m : Meaning) → StepsStand m → (stage : W → Stage) (caller : W → ℕ) (x y : Running C B M W P) (p : ℕ) (c : PlacedCall) (kept kept_new : List Note) (d e : DiskSeen) →
+    Stood m (placed_of stage x) → call_at stage x p ≡ Some c → placed_blocker m (placed_of stage x) p ≡ None →
+    StepDone stage caller (placed_call_step m p (call_at stage x p)) x y p kept kept_new d e → Stood m (record (placed_of stage y) { order = requeued_order p (placed_of stage y) })
+stood_after_step m law stage caller x y p c kept kept_new d e s is free h =
+    let o = placed_of stage x in
+    let z = placed_of stage y in
     stood_stepped m law o (record z { order = requeued_order p z }) p c s is free (step_reaches m o z p h.reaches)
 
-pub running_after_step : {C M W X : Type 0} {F : X → Type 0} (m : Meaning) → SoundInPlace m → StepsStand m → HeldStaysInPlace m → (view : Seeing X F) (stage : W → Stage) (caller : W → ℕ) (x y : Running C M W X F) (p : ℕ) (c : PlacedCall) (kept kept_new : List Note) (d e : DiskSeen) →
-    IsRunning view caller x → p < 16 → Stood m (placed_of view stage x) → call_at stage x p ≡ Some c → placed_blocker m (placed_of view stage x) p ≡ None →
-    StepDone view stage caller (placed_call_step m p (call_at stage x p)) x y p kept kept_new d e → IsRunning view caller y
-running_after_step m sound law held view stage caller x y p c kept kept_new d e r small s is free h =
-    let z = placed_of view stage y in
-    runs_again m sound view stage caller x y (requeued_order p z) p h.own.owner r small s (stood_after_step m law view stage caller x y p c kept kept_new d e s is free h) h.stepped h.own.own
-    (λ q other. held_stepped m held view stage caller x y (requeued_order p z) p q c r s is free other (step_reaches m (placed_of view stage x) z p h.reaches))
+pub running_after_step : {C B M W : Type 0} {P : _} (m : Meaning) → SoundInPlace m → StepsStand m → HeldStaysInPlace m → (stage : W → Stage) (caller : W → ℕ) (x y : Running C B M W P) (p : ℕ) (c : PlacedCall) (kept kept_new : List Note) (d e : DiskSeen) →
+    IsRunning caller x → p < 16 → Stood m (placed_of stage x) → call_at stage x p ≡ Some c → placed_blocker m (placed_of stage x) p ≡ None →
+    StepDone stage caller (placed_call_step m p (call_at stage x p)) x y p kept kept_new d e → IsRunning caller y
+running_after_step m sound law held stage caller x y p c kept kept_new d e r small s is free h =
+    let z = placed_of stage y in
+    runs_again m sound stage caller x y (requeued_order p z) p h.own.owner r small s (stood_after_step m law stage caller x y p c kept kept_new d e s is free h) h.stepped h.own.own
+    (λ q other. held_stepped m held stage caller x y (requeued_order p z) p q c r s is free other (step_reaches m (placed_of stage x) z p h.reaches))
 
 -- once the call took its place
 pub stood_requeued : (m : Meaning) (p : ℕ) (y z : Placed) → Goes (placed_requeue p) y z → Stood m (record y { order = requeued_order p y }) → Stood m z
@@ -145,21 +144,21 @@ drop_reaches m x y p n c cause is some h =
     reaches_as (placed_drop m p n cause) (λ r. placed_requeue p (drop_change m p n c cause r)) x (record y { order = requeued_order p y }) (drop_as m x p n c cause is some)
     (reaches_before (drop_change m p n c cause) (placed_requeue p) x y (record y { order = requeued_order p y }) (λ r is. requeue_same p r y is) h)
 
-pub stood_after_drop : {C M W X : Type 0} {F : X → Type 0} (m : Meaning) → DropsStand m → (view : Seeing X F) (stage : W → Stage) (caller : W → ℕ) (x y : Running C M W X F) (p n : ℕ) (c : PlacedCall) (cause : Cause) (kept kept_new : List Note) (d e : DiskSeen) →
-    Stood m (placed_of view stage x) → call_at stage x p ≡ Some c → n < length (levels_at view x p) → has_some (levels_at view x p) ≡ true →
-    StepDone view stage caller (drop_change m p n c cause) x y p kept kept_new d e → Stood m (record (placed_of view stage y) { order = requeued_order p (placed_of view stage y) })
-stood_after_drop m law view stage caller x y p n c cause kept kept_new d e s is low some h =
-    let o = placed_of view stage x in
-    let z = placed_of view stage y in
+pub stood_after_drop : {C B M W : Type 0} {P : _} (m : Meaning) → DropsStand m → (stage : W → Stage) (caller : W → ℕ) (x y : Running C B M W P) (p n : ℕ) (c : PlacedCall) (cause : Cause) (kept kept_new : List Note) (d e : DiskSeen) →
+    Stood m (placed_of stage x) → call_at stage x p ≡ Some c → n < length (levels_at x p) → has_some (levels_at x p) ≡ true →
+    StepDone stage caller (drop_change m p n c cause) x y p kept kept_new d e → Stood m (record (placed_of stage y) { order = requeued_order p (placed_of stage y) })
+stood_after_drop m law stage caller x y p n c cause kept kept_new d e s is low some h =
+    let o = placed_of stage x in
+    let z = placed_of stage y in
     stood_dropped m law o (record z { order = requeued_order p z }) p n cause s low (drop_reaches m o z p n c cause is some h.reaches)
 
-pub running_after_drop : {C M W X : Type 0} {F : X → Type 0} (m : Meaning) → SoundInPlace m → DropsStand m → HeldStaysInPlace m → (view : Seeing X F) (stage : W → Stage) (caller : W → ℕ) (x y : Running C M W X F) (p n : ℕ) (c : PlacedCall) (cause : Cause) (kept kept_new : List Note) (d e : DiskSeen) →
-    IsRunning view caller x → p < 16 → Stood m (placed_of view stage x) → call_at stage x p ≡ Some c → n < length (levels_at view x p) → has_some (levels_at view x p) ≡ true →
-    StepDone view stage caller (drop_change m p n c cause) x y p kept kept_new d e → IsRunning view caller y
-running_after_drop m sound law held view stage caller x y p n c cause kept kept_new d e r small s is low some h =
-    let z = placed_of view stage y in
-    runs_again m sound view stage caller x y (requeued_order p z) p h.own.owner r small s (stood_after_drop m law view stage caller x y p n c cause kept kept_new d e s is low some h) h.stepped h.own.own
-    (λ q other. held_dropped m held view stage caller x y (requeued_order p z) p q n cause r s low other (drop_reaches m (placed_of view stage x) z p n c cause is some h.reaches))
+pub running_after_drop : {C B M W : Type 0} {P : _} (m : Meaning) → SoundInPlace m → DropsStand m → HeldStaysInPlace m → (stage : W → Stage) (caller : W → ℕ) (x y : Running C B M W P) (p n : ℕ) (c : PlacedCall) (cause : Cause) (kept kept_new : List Note) (d e : DiskSeen) →
+    IsRunning caller x → p < 16 → Stood m (placed_of stage x) → call_at stage x p ≡ Some c → n < length (levels_at x p) → has_some (levels_at x p) ≡ true →
+    StepDone stage caller (drop_change m p n c cause) x y p kept kept_new d e → IsRunning caller y
+running_after_drop m sound law held stage caller x y p n c cause kept kept_new d e r small s is low some h =
+    let z = placed_of stage y in
+    runs_again m sound stage caller x y (requeued_order p z) p h.own.owner r small s (stood_after_drop m law stage caller x y p n c cause kept kept_new d e s is low some h) h.stepped h.own.own
+    (λ q other. held_dropped m held stage caller x y (requeued_order p z) p q n cause r s low other (drop_reaches m (placed_of stage x) z p n c cause is some h.reaches))
 
 pub did_drop : (m : Meaning) (x z : Placed) (p n : ℕ) (c : PlacedCall) (cause : Cause) (kept kept_new : List Note) (d e : DiskSeen) → x.call p ≡ Some c → has_some (x.levels p) ≡ true →
     Did (λ r. placed_requeue p (drop_change m p n c cause r)) x z kept kept_new d e → Did (placed_drop m p n cause) x z kept kept_new d e

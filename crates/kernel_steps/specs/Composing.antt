@@ -13,7 +13,8 @@ use Rattle.kernel_steps.specs.Views.{run_of}
 -- ---- what a change did
 
 -- an event under way that came as said is this one
-run_is : (r : PlacedRun) (y : Placed) (kept : List Note) (told : Option (List (List ℕ))) (rest : List Bool) → CameAs r y kept told rest → r ≡ run_of y r.blocks r.notes rest
+run_is : (r : PlacedRun) (y : Placed) (kept : List Note) (told : Option (List (List ℕ)))
+    (rest : List Bool) → CameAs r y kept told rest → r ≡ run_of y r.blocks r.notes rest
 run_is r y kept told rest h =
     ap (λ z. record { placed = z; blocks = r.blocks; notes = r.notes; io = r.io }) h.placed
     ∙ ap (λ io. record { placed = y; blocks = r.blocks; notes = r.notes; io = io }) h.io
@@ -28,7 +29,9 @@ did_nothing x kept d =
     }
 
 -- another change that comes to the same from here
-pub did_as : (f g : PlacedRun → PlacedRun) (x y : Placed) (kept kept_new : List Note) (d e : DiskSeen) → ((blocks : Blocks) (notes : List Note) (io : List Bool) → f (run_of x blocks notes io) ≡ g (run_of x blocks notes io)) →
+pub did_as : (f g : PlacedRun → PlacedRun) (x y : Placed) (kept kept_new : List Note)
+    (d e : DiskSeen) → ((blocks : Blocks) (notes : List Note) (io : List Bool) →
+    f (run_of x blocks notes io) ≡ g (run_of x blocks notes io)) →
     Did g x y kept kept_new d e → Did f x y kept kept_new d e
 did_as f g x y kept kept_new d e same h =
     record {
@@ -38,7 +41,9 @@ did_as f g x y kept kept_new d e same h =
     }
 
 -- a change without a call of the disk, which adds these notes
-pub did_purely : (f : PlacedRun → PlacedRun) (x y : Placed) (kept kept_new more : List Note) (d : DiskSeen) → ((blocks : Blocks) (notes : List Note) (io : List Bool) → f (run_of x blocks notes io) ≡ run_of y blocks (notes ++ more) io) →
+pub did_purely : (f : PlacedRun → PlacedRun) (x y : Placed) (kept kept_new more : List Note)
+    (d : DiskSeen) → ((blocks : Blocks) (notes : List Note) (io : List Bool) →
+    f (run_of x blocks notes io) ≡ run_of y blocks (notes ++ more) io) →
     ((notes : List Note) → kept ≡ first_notes notes → kept_new ≡ first_notes (notes ++ more)) → Did f x y kept kept_new d d
 did_purely f x y kept kept_new more d same adds =
     record {
@@ -48,7 +53,8 @@ did_purely f x y kept kept_new more d same adds =
     }
 
 -- one after the other
-pub did_then : (f g : PlacedRun → PlacedRun) (x y z : Placed) (a b c : List Note) (d e l : DiskSeen) → Did f x y a b d e → Did g y z b c e l → Did (λ r. g (f r)) x z a c d l
+pub did_then : (f g : PlacedRun → PlacedRun) (x y z : Placed) (a b c : List Note)
+    (d e l : DiskSeen) → Did f x y a b d e → Did g y z b c e l → Did (λ r. g (f r)) x z a c d l
 did_then f g x y z a b c d e l first second =
     record {
       io = first.io ++ second.io;
@@ -62,12 +68,16 @@ did_then f g x y z a b c d e l first second =
 
 -- ---- what a change may reach
 
-pub reaches_as : (f g : PlacedRun → PlacedRun) (x y : Placed) → ((blocks : Blocks) (notes : List Note) (io : List Bool) → f (run_of x blocks notes io) ≡ g (run_of x blocks notes io)) → Reaches g x y → Reaches f x y
+pub reaches_as : (f g : PlacedRun → PlacedRun) (x y : Placed) →
+    ((blocks : Blocks) (notes : List Note) (io : List Bool) →
+    f (run_of x blocks notes io) ≡ g (run_of x blocks notes io)) → Reaches g x y → Reaches f x y
 reaches_as f g x y same h =
     record { blocks = h.blocks; whole = h.whole; io = h.io; goes = λ notes. ap (λ (r : PlacedRun). r.placed) (same h.blocks notes h.io) ∙ h.goes notes }
 
 -- behind a change without a call of the disk
-pub reaches_behind : (f g : PlacedRun → PlacedRun) (x y z : Placed) (more : List Note) → y.world ≡ x.world → ((blocks : Blocks) (notes : List Note) (io : List Bool) → f (run_of x blocks notes io) ≡ run_of y blocks (notes ++ more) io) →
+pub reaches_behind : (f g : PlacedRun → PlacedRun) (x y z : Placed) (more : List Note) →
+    y.world ≡ x.world → ((blocks : Blocks) (notes : List Note) (io : List Bool) →
+    f (run_of x blocks notes io) ≡ run_of y blocks (notes ++ more) io) →
     Reaches g y z → Reaches (λ r. g (f r)) x z
 reaches_behind f g x y z more world same h =
     record {
@@ -78,12 +88,14 @@ reaches_behind f g x y z more world same h =
     }
 
 -- before a change that looks at the kernel in place alone
-pub reaches_before : (f g : PlacedRun → PlacedRun) (x y z : Placed) → ((r : PlacedRun) → r.placed ≡ y → (g r).placed ≡ z) → Reaches f x y → Reaches (λ r. g (f r)) x z
+pub reaches_before : (f g : PlacedRun → PlacedRun) (x y z : Placed) →
+    ((r : PlacedRun) → r.placed ≡ y → (g r).placed ≡ z) → Reaches f x y → Reaches (λ r. g (f r)) x z
 reaches_before f g x y z same h =
     record { blocks = h.blocks; whole = h.whole; io = h.io; goes = λ notes. same (f (run_of x h.blocks notes h.io)) (h.goes notes) }
 
 -- a change without a call of the disk, over some whole blocks
-pub reaches_purely : (f : PlacedRun → PlacedRun) (x y : Placed) (more : List Note) (blocks : Blocks) → HasWholeBlocks x.world blocks →
+pub reaches_purely : (f : PlacedRun → PlacedRun) (x y : Placed) (more : List Note)
+    (blocks : Blocks) → HasWholeBlocks x.world blocks →
     ((blocks : Blocks) (notes : List Note) (io : List Bool) → f (run_of x blocks notes io) ≡ run_of y blocks (notes ++ more) io) → Reaches f x y
 reaches_purely f x y more blocks whole same =
     record { blocks = blocks; whole = whole; io = []; goes = λ notes. ap (λ (r : PlacedRun). r.placed) (same blocks notes []) }

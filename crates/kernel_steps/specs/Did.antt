@@ -28,7 +28,8 @@ Says f x y more kept kept_new =
 
 -- an event under way has come to this kernel in place, of its notes these are kept, the disk tells its blocks, and its next calls
 -- will do this
-pub record CameAs (r : PlacedRun) (y : Placed) (kept : List Note) (told : Option (List (List ℕ))) (rest : List Bool) : Type 0 where
+pub record CameAs (r : PlacedRun) (y : Placed) (kept : List Note) (told : Option (List (List ℕ)))
+    (rest : List Bool) : Type 0 where
   pub placed : r.placed ≡ y
   pub notes : kept ≡ first_notes r.notes
   pub blocks : Tells told r.blocks
@@ -54,7 +55,8 @@ pub record Reaches (f : PlacedRun → PlacedRun) (x y : Placed) : Type 0 where
 
 -- what is left of a piece of a call: the objects, the call, the notes that are kept of it, what the disk tells, and how many calls
 -- of the disk were made
-pub record PieceLeft (c : PlacedCall) (q : Piece) (u : Objects) (call : Option PlacedCall) (notes kept : List Note) (told : Option (List (List ℕ))) (calls : ℕ) : Type 0 where
+pub record PieceLeft (c : PlacedCall) (q : Piece) (u : Objects) (call : Option PlacedCall)
+    (notes kept : List Note) (told : Option (List (List ℕ))) (calls : ℕ) : Type 0 where
   pub objects : u ≡ q.objects
   pub call_is : call ≡ placed_after c q.after
   pub kept_are : kept ≡ first_notes (notes ++ gave_note c.number q.gave ++ after_note c.number q.after)
@@ -62,7 +64,8 @@ pub record PieceLeft (c : PlacedCall) (q : Piece) (u : Objects) (call : Option P
   pub all_made : calls ≡ q.calls
 
 -- the same for some whole blocks, for a disk that doesn't tell its own
-pub record PieceMayLeave (v : World) (piece : Blocks → List Bool → Piece) (c : PlacedCall) (u : Objects) (call : Option PlacedCall) : Type 0 where
+pub record PieceMayLeave (v : World) (piece : Blocks → List Bool → Piece) (c : PlacedCall)
+    (u : Objects) (call : Option PlacedCall) : Type 0 where
   pub blocks : Blocks
   pub whole : HasWholeBlocks v blocks
   pub io : List Bool
@@ -70,9 +73,13 @@ pub record PieceMayLeave (v : World) (piece : Blocks → List Bool → Piece) (c
   pub call_is : call ≡ placed_after c (piece blocks io).after
 
 -- a piece of the call c of process p over the objects s, with an answer or by default, was done
-pub record PieceDone (m : Meaning) (v : World) (s u : Objects) (p : ℕ) (c : PlacedCall) (call : Option PlacedCall) (answer : Option (List ℕ)) (kept kept_new : List Note) (d e : DiskSeen) : Type 0 where
+pub record PieceDone (m : Meaning) (v : World) (s u : Objects) (p : ℕ) (c : PlacedCall)
+    (call : Option PlacedCall) (answer : Option (List ℕ)) (kept kept_new : List Note)
+    (d e : DiskSeen) : Type 0 where
   pub io : List Bool
   pub made : Made d.faults e.faults d.plan e.plan io
-  pub goes : (images : ImageTable) (blocks : Blocks) (notes : List Note) (rest : List Bool) → Tells d.told blocks → kept ≡ first_notes notes →
+  pub goes : (images : ImageTable) (blocks : Blocks) (notes : List Note) (rest : List Bool) →
+      Tells d.told blocks → kept ≡ first_notes notes →
       PieceLeft c (m.piece v images s blocks p c.stage (answer_seen answer) (io ++ rest)) u call notes kept_new e.told (length io)
-  pub some : (images : ImageTable) → PieceMayLeave v (λ blocks io. m.piece v images s blocks p c.stage (answer_seen answer) io) c u call
+  pub some : (images : ImageTable) → PieceMayLeave v
+      (λ blocks io. m.piece v images s blocks p c.stage (answer_seen answer) io) c u call

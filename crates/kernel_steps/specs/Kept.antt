@@ -8,7 +8,8 @@ take_none zero = refl
 take_none (suc n) = refl
 
 -- the first few of a list and one more, where there is room
-take_room : {A : Type 0} (n : ℕ) (xs : List A) (x : A) → length (take n xs) < n → take n xs ++ x ∷ [] ≡ take n (xs ++ x ∷ [])
+take_room : {A : Type 0} (n : ℕ) (xs : List A) (x : A) → length (take n xs) < n →
+    take n xs ++ x ∷ [] ≡ take n (xs ++ x ∷ [])
 take_room zero xs x h = absurd (omega (arith, h))
 take_room (suc n) [] x h = ap (λ zs. x ∷ zs) (sym (take_none n))
 take_room (suc n) (y ∷ ys) x h = ap (λ zs. y ∷ zs) (take_room n ys x (omega (arith, h)))
@@ -26,11 +27,13 @@ take_short zero (x ∷ xs) h = absurd (omega (arith, h))
 take_short (suc n) [] h = refl
 take_short (suc n) (x ∷ xs) h = ap (λ zs. x ∷ zs) (take_short n xs (omega (arith, h)))
 
-pub kept_more : (old : List Note) (all : List Note) (note : Note) → old ≡ first_notes all → length old < 530 → old ++ note ∷ [] ≡ first_notes (all ++ note ∷ [])
+pub kept_more : (old : List Note) (all : List Note) (note : Note) → old ≡ first_notes all →
+    length old < 530 → old ++ note ∷ [] ≡ first_notes (all ++ note ∷ [])
 unfolding first_notes
 kept_more old all note is room = ap (λ ns. ns ++ note ∷ []) is ∙ take_room 530 all note (subst (λ ns. length ns < 530) is room)
 
-pub kept_full : (old : List Note) (all : List Note) (note : Note) → old ≡ first_notes all → 530 ≤ length old → old ≡ first_notes (all ++ note ∷ [])
+pub kept_full : (old : List Note) (all : List Note) (note : Note) → old ≡ first_notes all →
+    530 ≤ length old → old ≡ first_notes (all ++ note ∷ [])
 unfolding first_notes
 kept_full old all note is full = is ∙ take_full 530 all note (subst (λ ns. 530 ≤ length ns) is full)
 

@@ -6,7 +6,7 @@ use Rattle.lock_table.specs.Masks.{held}
 use Rattle.kernel_model.specs.Objects.{at, SameAt}
 use Rattle.kernel_model.specs.Levels.{Config}
 use Rattle.kernel_model.specs.Sound.{ImagesAreLoaded}
-use Rattle.kernel_state.specs.Stores.{Seeing, objects_of, queue_of}
+use Rattle.kernel_state.specs.Stores.{objects_of, queue_of}
 use Rattle.graft_loader.specs.Slots.{table_of}
 use Rattle.graft_calls.specs.Calls.{IsPlaced, AreSound, AreInside, AllUndoable, IsElsewhereSame}
 use Rattle.placed_laws.specs.Placed.{Placed, bare}
@@ -19,11 +19,11 @@ come_to p c x = record x { objects = c.now; levels = at p (map bare c.levels) x.
 
 -- The levels of p's call moved. They are in place again, and of all else the store has the same but for its objects: the calls,
 -- the other chains and what they hold, the memory of other processes' levels, who lives, images, clock and order.
-pub record Moved {C M W X : Type 0} {F : X → Type 0} (view : Seeing X F) (x y : Running C M W X F) (p : ℕ) : Type 0 where
+pub record Moved {C B M W : Type 0} {P : _} (x y : Running C B M W P) (p : ℕ) : Type 0 where
   pub elsewhere : IsElsewhereSame x.store y.store x.locks y.locks p
-  pub placed : IsPlaced view y.store y.locks p (chain_of y p).levels (chain_of y p).undo
-  pub inside : AreInside (table_of y.images) (objects_of view y.store).accounts p (chain_of y p).levels
-  pub loaded : ImagesAreLoaded (table_of y.images) (objects_of view y.store).accounts
+  pub placed : IsPlaced y.store y.locks p (chain_of y p).levels (chain_of y p).undo
+  pub inside : AreInside (table_of y.images) (objects_of y.store).accounts p (chain_of y p).levels
+  pub loaded : ImagesAreLoaded (table_of y.images) (objects_of y.store).accounts
   pub calls : (q : ℕ) → (flight_of y.calls.items q).call ≡ (flight_of x.calls.items q).call
   pub chains : (q : ℕ) → q ≢ p → chain_of y q ≡ chain_of x q
   pub sixteen : length y.calls.items ≡ length x.calls.items
@@ -33,11 +33,11 @@ pub record Moved {C M W X : Type 0} {F : X → Type 0} (view : Seeing X F) (x y 
 
 -- The levels of another call q stay in place, though the store changed: their owner lives, their records can still be undone, and
 -- their grafts stand as they did.
-pub record StaysInPlace {C M W X : Type 0} {F : X → Type 0} (view : Seeing X F) (y : Running C M W X F) (q : ℕ) : Type 0 where
+pub record StaysInPlace {C B M W : Type 0} {P : _} (y : Running C B M W P) (q : ℕ) : Type 0 where
   pub levels : AreSound (queue_of y.store) (chain_of y q).levels
-  pub undoable : AllUndoable (chain_of y q).undo (objects_of view y.store).things
-  pub inside : AreInside (table_of y.images) (objects_of view y.store).accounts q (chain_of y q).levels
+  pub undoable : AllUndoable (chain_of y q).undo (objects_of y.store).things
+  pub inside : AreInside (table_of y.images) (objects_of y.store).accounts q (chain_of y q).levels
 
 -- what a call q holds exclusively has the same values after a change
-abbrev pub HeldStays : {C M W X : Type 0} {F : X → Type 0} → Seeing X F → Running C M W X F → Running C M W X F → ℕ → Type 0
-HeldStays view x y q = (d : ℕ) (o : Object) → held x.locks q d o ≡ Held.Exclusive → SameAt o (objects_of view y.store) (objects_of view x.store)
+abbrev pub HeldStays : {C B M W : Type 0} {P : _} → Running C B M W P → Running C B M W P → ℕ → Type 0
+HeldStays x y q = (d : ℕ) (o : Object) → held x.locks q d o ≡ Held.Exclusive → SameAt o (objects_of y.store) (objects_of x.store)

@@ -7,7 +7,7 @@ use Rattle.kernel_model.specs.Meaning.{Meaning, Stage}
 use Rattle.call_pieces.specs.Works.{answer_seen}
 use Rattle.disk_log.specs.Seen.{DiskSeen}
 use Rattle.lock_table.specs.Masks.{held}
-use Rattle.kernel_state.specs.Stores.{Seeing, world_of_store, objects_of, IsStore}
+use Rattle.kernel_state.specs.Stores.{world_of_store, objects_of}
 use Rattle.graft_loader.specs.Slots.{table_of}
 use Rattle.graft_calls.specs.declared.Chain.{Chain}
 use Rattle.graft_calls.specs.Calls.{IsPlaced, AreInside}
@@ -57,34 +57,34 @@ pub record IsOfOne (c : Chain) : Type 0 where
   pub own : AreOwned owner c.levels c.undo
 
 -- What must hold of p's call for a step of it, of whatever else is in flight: its levels are in place.
-pub record StepsAlone {C M W X : Type 0} {F : X → Type 0} (view : Seeing X F) (caller : W → ℕ) (x : Running C M W X F) (p : ℕ) : Type 0 where
-  pub store : IsStore view x.store
+pub record StepsAlone {C B M W : Type 0} {P : _} (caller : W → ℕ) (x : Running C B M W P) (p : ℕ) : Type 0 where
   pub sixteen : length x.calls.items ≡ 16
   pub few : (q : ℕ) → length (chain_of x q).levels ≤ 4
   pub caller_is : (f : InFlight W) → (flight_of x.calls.items p).call ≡ Some f → caller f.work ≡ p
-  pub placed : IsPlaced view x.store x.locks p (chain_of x p).levels (chain_of x p).undo
-  pub inside : AreInside (table_of x.images) (objects_of view x.store).accounts p (chain_of x p).levels
+  pub placed : IsPlaced x.store x.locks p (chain_of x p).levels (chain_of x p).undo
+  pub inside : AreInside (table_of x.images) (objects_of x.store).accounts p (chain_of x p).levels
   pub own : IsOfOne (chain_of x p)
 
 -- A step of the call of p. Of all that is in flight p's alone has changed, the memory of grafts but for p's own, what the others
 -- hold, images, clock and order stay; and p's levels are in place again.
-pub record Stepped {C M W X : Type 0} {F : X → Type 0} (view : Seeing X F) (caller : W → ℕ) (x y : Running C M W X F) (p : ℕ) : Type 0 where
-  pub store : IsStore view y.store
+pub record Stepped {C B M W : Type 0} {P : _} (caller : W → ℕ) (x y : Running C B M W P) (p : ℕ) : Type 0 where
   pub world : world_of_store y.store ≡ world_of_store x.store
   pub sixteen : length y.calls.items ≡ length x.calls.items
   pub caller_is : (f : InFlight W) → (flight_of y.calls.items p).call ≡ Some f → caller f.work ≡ p
   pub calls : (q : ℕ) → q ≢ p → (flight_of y.calls.items q).call ≡ (flight_of x.calls.items q).call
   pub chains : (q : ℕ) → q ≢ p → chain_of y q ≡ chain_of x q
   pub locks : (q d : ℕ) → q ≢ p → held y.locks q d ≡ held x.locks q d
-  pub placed : IsPlaced view y.store y.locks p (chain_of y p).levels (chain_of y p).undo
-  pub inside : AreInside (table_of y.images) (objects_of view y.store).accounts p (chain_of y p).levels
+  pub placed : IsPlaced y.store y.locks p (chain_of y p).levels (chain_of y p).undo
+  pub inside : AreInside (table_of y.images) (objects_of y.store).accounts p (chain_of y p).levels
   pub images : y.images ≡ x.images
   pub clock : y.clock ≡ x.clock
   pub order : y.order ≡ x.order
 
 -- A step of the call of p, or a part of one, did what the definitions say; and p's levels are of one owner again.
-pub record StepDone {C M W X : Type 0} {F : X → Type 0} (view : Seeing X F) (stage : W → Stage) (caller : W → ℕ) (f : PlacedRun → PlacedRun) (x y : Running C M W X F) (p : ℕ) (kept kept_new : List Note) (d e : DiskSeen) : Type 0 where
-  pub did : Did f (placed_of view stage x) (placed_of view stage y) kept kept_new d e
-  pub reaches : Reaches f (placed_of view stage x) (placed_of view stage y)
-  pub stepped : Stepped view caller x y p
+pub record StepDone {C B M W : Type 0} {P : _} (stage : W → Stage) (caller : W → ℕ)
+    (f : PlacedRun → PlacedRun) (x y : Running C B M W P) (p : ℕ) (kept kept_new : List Note)
+    (d e : DiskSeen) : Type 0 where
+  pub did : Did f (placed_of stage x) (placed_of stage y) kept kept_new d e
+  pub reaches : Reaches f (placed_of stage x) (placed_of stage y)
+  pub stepped : Stepped caller x y p
   pub own : IsOfOne (chain_of y p)

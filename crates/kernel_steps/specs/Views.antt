@@ -5,7 +5,7 @@ use Rattle.kernel_model.specs.World.{Blocks}
 use Rattle.kernel_model.specs.Kernel.{Kernel}
 use Rattle.kernel_model.specs.Sound.{ImagesAreLoaded}
 use Rattle.kernel_model.specs.Meaning.{Meaning, Stage}
-use Rattle.kernel_state.specs.Stores.{Seeing, world_of_store, objects_of, IsStore}
+use Rattle.kernel_state.specs.Stores.{world_of_store, objects_of}
 use Rattle.graft_calls.specs.declared.Chain.{Chain}
 use Rattle.graft_loader.specs.Slots.{table_of}
 use Rattle.graft_calls.specs.Chains.{levels_of}
@@ -37,49 +37,48 @@ abbrev pub call_in_place : {W : Type 0} → (W → Stage) → InFlight W → Pla
 call_in_place at f = record { number = f.number; stage = at f.work }
 
 -- the chain of a process
-abbrev pub chain_of : {C M W X : Type 0} {F : X → Type 0} → Running C M W X F → ℕ → Chain
+abbrev pub chain_of : {C B M W : Type 0} {P : _} → Running C B M W P → ℕ → Chain
 chain_of x p = (flight_of x.calls.items p).chain
 
 -- the levels of a process over the store, without what they found
-abbrev pub levels_at : {C M W X : Type 0} {F : X → Type 0} → Seeing X F → Running C M W X F → ℕ → List PlacedLevel
-levels_at view x p = map bare (levels_of view x.store x.locks (chain_of x p) p)
+abbrev pub levels_at : {C B M W : Type 0} {P : _} → Running C B M W P → ℕ → List PlacedLevel
+levels_at x p = map bare (levels_of x.store x.locks (chain_of x p) p)
 
 -- the call of a process
-abbrev pub call_at : {C M W X : Type 0} {F : X → Type 0} → (W → Stage) → Running C M W X F → ℕ → Option PlacedCall
+abbrev pub call_at : {C B M W : Type 0} {P : _} → (W → Stage) → Running C B M W P → ℕ → Option PlacedCall
 call_at at x p = option_map (call_in_place at) (flight_of x.calls.items p).call
 
 -- the kernel in place
-abbrev pub placed_of : {C M W X : Type 0} {F : X → Type 0} → Seeing X F → (W → Stage) → Running C M W X F → Placed
-placed_of view at x =
+abbrev pub placed_of : {C B M W : Type 0} {P : _} → (W → Stage) → Running C B M W P → Placed
+placed_of at x =
     record {
       world = world_of_store x.store;
       images = table_of x.images;
-      objects = objects_of view x.store;
+      objects = objects_of x.store;
       clock = x.clock;
       call = call_at at x;
-      levels = levels_at view x;
+      levels = levels_at x;
       order = order_of x.order;
     }
 
 -- ---- what always holds
 
 -- The calls of a running kernel are its own, and the levels of each are in place on the store.
-pub record IsRunning {C M W X : Type 0} {F : X → Type 0} (view : Seeing X F) (caller : W → ℕ) (x : Running C M W X F) : Type 0 where
-  pub store : IsStore view x.store
+pub record IsRunning {C B M W : Type 0} {P : _} (caller : W → ℕ) (x : Running C B M W P) : Type 0 where
   pub sixteen : length x.calls.items ≡ 16
   pub callers : (p : ℕ) (f : InFlight W) → (flight_of x.calls.items p).call ≡ Some f → caller f.work ≡ p
-  pub placed : (p : ℕ) → p < 16 → IsPlaced view x.store x.locks p (chain_of x p).levels (chain_of x p).undo
-  pub inside : (p : ℕ) → p < 16 → AreInside (table_of x.images) (objects_of view x.store).accounts p (chain_of x p).levels
+  pub placed : (p : ℕ) → p < 16 → IsPlaced x.store x.locks p (chain_of x p).levels (chain_of x p).undo
+  pub inside : (p : ℕ) → p < 16 → AreInside (table_of x.images) (objects_of x.store).accounts p (chain_of x p).levels
   pub counts : counts_within x.clock x.order ≡ true
   pub order : are_processes x.order ≡ true
   pub once : are_once (numbers_of x.order) ≡ true
-  pub loaded : ImagesAreLoaded (table_of x.images) (objects_of view x.store).accounts
+  pub loaded : ImagesAreLoaded (table_of x.images) (objects_of x.store).accounts
   -- the levels of each call are of one owner
   pub owner : ℕ → ℕ
   pub own : (p : ℕ) → p < 16 → AreOwned (owner p) (chain_of x p).levels (chain_of x p).undo
 
 -- No call is in flight, and none waits.
-pub record IsQuiet {C M W X : Type 0} {F : X → Type 0} (x : Running C M W X F) : Type 0 where
+pub record IsQuiet {C B M W : Type 0} {P : _} (x : Running C B M W P) : Type 0 where
   pub calls : (p : ℕ) → flight_of x.calls.items p ≡ no_flight
   pub order : x.order ≡ []
 

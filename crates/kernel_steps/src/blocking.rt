@@ -5,7 +5,7 @@ ghost use Rattle.kernel_model.specs.declared.Inverse.{Inverse as Undoing};
 ghost use Rattle.kernel_model.specs.GraftStep.{next_needs, lock_user};
 ghost use Rattle.kernel_model.specs.Locks.{LockTable as Table};
 ghost use Rattle.kernel_model.specs.Objects.{Things};
-ghost use Rattle.kernel_state.specs.Stores.{world_of_store, queue_of, IsStore};
+ghost use Rattle.kernel_state.specs.Stores.{world_of_store, queue_of};
 ghost use Rattle.call_pieces.specs.Works.{MayCome};
 ghost use Rattle.graft_calls.specs.Calls.{AreSound};
 ghost use Rattle.graft_calls.specs.Chains.{levels_in};
@@ -25,6 +25,7 @@ use crate::running::{Flight, Running};
 use call_pieces::{Calls, Needs};
 use graft_calls::Chain;
 use graft_loader::Images;
+use graft_points::Policy;
 use kernel_model::{Need, Object};
 use kernel_state::Store;
 use lock_table::LockTable;
@@ -42,9 +43,10 @@ pub struct Hindrance {
 }
 
 /// The process that holds an object as a user lock, and isn't q.
-fn other_user(store: &Store, q: u8, object: Object) -> Option<Hindrance>
+fn other_user<B: Policy>(store: &Store<B>, q: u8, object: Object) -> Option<Hindrance>
     requires range { IsInRange object }
-    ensures { option_map hindrance_of result ≡ user_hindrance q object (user_of (objects_of (λ b. seen (b.vtable, b.value)) store.now).things.lock object) }
+    ensures { option_map hindrance_of result
+        ≡ user_hindrance q object (user_of (objects_of store.now).things.lock object) }
 {
     let Object::Lock(u) = object else {
         return None;
@@ -60,15 +62,17 @@ fn other_user(store: &Store, q: u8, object: Object) -> Option<Hindrance>
 }
 
 /// What hinders one need of process p; user locks of q don't.
-fn hindrance_by_need(
+fn hindrance_by_need<B: Policy>(
     locks: &LockTable,
-    store: &Store,
+    store: &Store<B>,
     p: u8,
     q: u8,
     need: Need,
 ) -> Option<Hindrance>
     requires range { IsInRange need.object }
-    ensures { option_map hindrance_of result ≡ hindrance_by (objects_of (λ b. seen (b.vtable, b.value)) store.now).things.lock q need (lowest_holder (held locks.now) p need.object need.mode) }
+    ensures { option_map hindrance_of result
+        ≡ hindrance_by (objects_of store.now).things.lock q need
+        (lowest_holder (held locks.now) p need.object need.mode) }
 {
     match locks.ask(p, need.object, need.mode) {
         Some(holder) => Some(Hindrance {
@@ -83,15 +87,16 @@ fn hindrance_by_need(
 
 /// The first hindrance of a step of process p over its needs in order; user locks of q don't hinder it. Looks at one pair of masks
 /// of each process for each need.
-pub(crate) fn first_hindrance(
+pub(crate) fn first_hindrance<B: Policy>(
     locks: &LockTable,
-    store: &Store,
+    store: &Store<B>,
     p: u8,
     q: u8,
     needs: &[Need],
 ) -> Option<Hindrance>
     requires range { All (λ (n : Needed). IsInRange n.object) needs.now }
-    ensures { option_map hindrance_of result ≡ first_of (held locks.now) (objects_of (λ b. seen (b.vtable, b.value)) store.now).things.lock p q needs.now }
+    ensures { option_map hindrance_of result
+        ≡ first_of (held locks.now) (objects_of store.now).things.lock p q needs.now }
 {
     let Some((need, rest)) = needs.split_first() else {
         return None;
@@ -103,16 +108,21 @@ pub(crate) fn first_hindrance(
 }
 
 /// What hinders the next piece of a call of process p.
-fn piece_hindrance<C: Calls>(
+fn piece_hindrance<C: Calls, B: Policy>(
     locks: &LockTable,
-    store: &Store,
+    store: &Store<B>,
     p: u8,
     work: &C::Work,
 ) -> Option<Hindrance>
-    requires sound { IsStore (λ b. seen (b.vtable, b.value)) store.now }
-    requires ready { MayCome C.Meaning.meaning (world_of_store store.now) (objects_of (λ b. seen (b.vtable, b.value)) store.now) (C.caller work.now) (C.stage work.now) }
-    requires range { (n : Needed) → Contains (C.Meaning.meaning.need (world_of_store store.now) (objects_of (λ b. seen (b.vtable, b.value)) store.now) (C.caller work.now) (C.stage work.now)) n → IsInRange n.object }
-    ensures { option_map hindrance_of result ≡ first_of (held locks.now) (objects_of (λ b. seen (b.vtable, b.value)) store.now).things.lock p p (C.Meaning.meaning.need (world_of_store store.now) (objects_of (λ b. seen (b.vtable, b.value)) store.now) (C.caller work.now) (C.stage work.now)) }
+    requires ready { MayCome C.Meaning.meaning (world_of_store store.now) (objects_of store.now)
+        (C.caller work.now) (C.stage work.now) }
+    requires range { (n : Needed) → Contains
+        (C.Meaning.meaning.need (world_of_store store.now) (objects_of store.now)
+        (C.caller work.now) (C.stage work.now)) n → IsInRange n.object }
+    ensures { option_map hindrance_of result
+        ≡ first_of (held locks.now) (objects_of store.now).things.lock p p
+        (C.Meaning.meaning.need (world_of_store store.now) (objects_of store.now)
+        (C.caller work.now) (C.stage work.now)) }
 {
     let mut needs = Needs::new();
     C::need(work, store, &mut needs);
@@ -120,16 +130,20 @@ fn piece_hindrance<C: Calls>(
 }
 
 /// What hinders the next instruction of a graft call of process p.
-fn graft_hindrance(
+fn graft_hindrance<B: Policy>(
     locks: &LockTable,
-    store: &Store,
+    store: &Store<B>,
     images: &Images,
     p: u8,
     chain: &Chain,
 ) -> Option<Hindrance>
     requires { AreSound (queue_of store.now) chain.now.levels }
-    ensures { (ram : List ℕ) (t : Table) (log : List (List Undoing)) (w : Things) → let ls = levels_in p ram t chain.now.levels log w in
-        option_map hindrance_of result ≡ first_of (held locks.now) (objects_of (λ b. seen (b.vtable, b.value)) store.now).things.lock p (lock_user p ls) (next_needs (world_of_store store.now) (table_of images.now) (objects_of (λ b. seen (b.vtable, b.value)) store.now).accounts ls) }
+    ensures { (ram : List ℕ) (t : Table) (log : List (List Undoing)) (w : Things) →
+        let ls = levels_in p ram t chain.now.levels log w in
+        option_map hindrance_of result ≡ first_of (held locks.now)
+        (objects_of store.now).things.lock p (lock_user p ls)
+        (next_needs (world_of_store store.now) (table_of images.now)
+        (objects_of store.now).accounts ls) }
 {
     let needs = chain.needs(store, images);
     first_hindrance(locks, store, p, chain.lock_user(p), needs.as_slice())
@@ -171,14 +185,15 @@ pub(crate) fn flight<W: Drop>(flights: &[Flight<W>], p: u8) -> &Flight<W>
     &flights[p as usize]
 }
 
-impl<C: Calls> Running<C> {
+impl<C: Calls, B: Policy> Running<C, B> {
     /// What hinders the next step of process p's call.
     fn hindered(&self, p: u8) -> Option<Hindrance>
         requires process { p < 16 }
-        requires running { IsRunning (λ b. seen (b.vtable, b.value)) (λ w. C.caller w) self.now }
-        requires stood { Stood C.Meaning.meaning (placed_of (λ b. seen (b.vtable, b.value)) (λ w. C.stage w) self.now) }
-        ensures { let x = placed_of (λ b. seen (b.vtable, b.value)) (λ w. C.stage w) self.now in
-            option_map hindrance_of result ≡ first_of (placed_holds x) x.objects.things.lock p (lock_user p (placed_levels x p)) (placed_needs C.Meaning.meaning x p) }
+        requires running { IsRunning C.caller self.now }
+        requires stood { Stood C.Meaning.meaning (placed_of C.stage self.now) }
+        ensures { let x = placed_of C.stage self.now in
+            option_map hindrance_of result ≡ first_of (placed_holds x) x.objects.things.lock p
+            (lock_user p (placed_levels x p)) (placed_needs C.Meaning.meaning x p) }
     {
         soundness::sound_in_place::<C::Meaning>();
         let flight = flight(&self.calls, p);
@@ -186,7 +201,7 @@ impl<C: Calls> Running<C> {
             return None;
         };
         if flight.chain.levels.count() == 0 {
-            return piece_hindrance::<C>(&self.locks, &self.store, p, &call.work);
+            return piece_hindrance::<C, B>(&self.locks, &self.store, p, &call.work);
         }
         graft_hindrance(&self.locks, &self.store, &self.images, p, &flight.chain)
     }
@@ -194,11 +209,11 @@ impl<C: Calls> Running<C> {
     /// What hinders the next instruction of process p's call, which is in a graft and needs this.
     fn hindered_by(&self, p: u8, needs: &[Need]) -> Option<Hindrance>
         requires process { p < 16 }
-        requires running { IsRunning (λ b. seen (b.vtable, b.value)) (λ w. C.caller w) self.now }
-        requires needs { let x = placed_of (λ b. seen (b.vtable, b.value)) (λ w. C.stage w) self.now in
+        requires running { IsRunning C.caller self.now }
+        requires needs { let x = placed_of C.stage self.now in
             needs.now ≡ placed_needs C.Meaning.meaning x p }
         requires range { All (λ (n : Needed). IsInRange n.object) needs.now }
-        ensures { let x = placed_of (λ b. seen (b.vtable, b.value)) (λ w. C.stage w) self.now in
+        ensures { let x = placed_of C.stage self.now in
             let user = lock_user p (placed_levels x p) in
             option_map hindrance_of result
             ≡ first_of (placed_holds x) x.objects.things.lock p user (placed_needs C.Meaning.meaning x p) }
@@ -210,11 +225,11 @@ impl<C: Calls> Running<C> {
     /// What blocks the next instruction of process p's call, which is in a graft and needs this, if something does.
     pub fn blocked_by(&self, p: u8, needs: &[Need]) -> Option<Blocking>
         requires process { p < 16 }
-        requires running { IsRunning (λ b. seen (b.vtable, b.value)) (λ w. C.caller w) self.now }
-        requires needs { let x = placed_of (λ b. seen (b.vtable, b.value)) (λ w. C.stage w) self.now in
+        requires running { IsRunning C.caller self.now }
+        requires needs { let x = placed_of C.stage self.now in
             needs.now ≡ placed_needs C.Meaning.meaning x p }
         requires range { All (λ (n : Needed). IsInRange n.object) needs.now }
-        ensures { let x = placed_of (λ b. seen (b.vtable, b.value)) (λ w. C.stage w) self.now in
+        ensures { let x = placed_of C.stage self.now in
             option_map blocker_of result ≡ placed_blocker C.Meaning.meaning x p }
     {
         match self.hindered_by(p, needs) {
@@ -226,9 +241,9 @@ impl<C: Calls> Running<C> {
     /// What blocks the next step of process p's call, if something does. The time that this takes doesn't grow with what is held.
     pub fn blocker(&self, p: u8) -> Option<Blocking>
         requires process { p < 16 }
-        requires running { IsRunning (λ b. seen (b.vtable, b.value)) (λ w. C.caller w) self.now }
-        requires stood { Stood C.Meaning.meaning (placed_of (λ b. seen (b.vtable, b.value)) (λ w. C.stage w) self.now) }
-        ensures { option_map blocker_of result ≡ placed_blocker C.Meaning.meaning (placed_of (λ b. seen (b.vtable, b.value)) (λ w. C.stage w) self.now) p }
+        requires running { IsRunning C.caller self.now }
+        requires stood { Stood C.Meaning.meaning (placed_of C.stage self.now) }
+        ensures { option_map blocker_of result ≡ placed_blocker C.Meaning.meaning (placed_of C.stage self.now) p }
     {
         match self.hindered(p) {
             Some(found) => Some(blocking_of(&self.calls, found)),

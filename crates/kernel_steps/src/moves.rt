@@ -14,19 +14,21 @@ ghost use Rattle.kernel_steps.specs.Moves.{come_to, Moved};
 
 use crate::running::Running;
 use call_pieces::Calls;
+use graft_points::Policy;
 use kernel_model::{Cause, Micro, Need, Point};
 
-impl<C: Calls> Running<C> {
+impl<C: Calls, B: Policy> Running<C, B> {
     /// Level d of process p's call is dropped, counted from the outermost: those further inward end with it.
     pub fn fall(&mut self, p: u8, d: u8, cause: Cause) -> Micro
         requires process { p < 16 }
         requires level { d < length (chain_of self.old p).levels }
-        requires running { IsRunning (λ b. seen (b.vtable, b.value)) (λ w. C.caller w) self.old }
-        ensures said { let x = placed_of (λ b. seen (b.vtable, b.value)) (λ w. C.stage w) self.old in
+        requires running { IsRunning C.caller self.old }
+        ensures said { let x = placed_of C.stage self.old in
             result ≡ (level_dropped x.world x.objects (placed_levels x p) d cause).said }
-        ensures config { let x = placed_of (λ b. seen (b.vtable, b.value)) (λ w. C.stage w) self.old in
-            placed_of (λ b. seen (b.vtable, b.value)) (λ w. C.stage w) self.new ≡ come_to p (level_dropped x.world x.objects (placed_levels x p) d cause).config x }
-        ensures moved { Moved (λ b. seen (b.vtable, b.value)) self.old self.new p }
+        ensures config { let x = placed_of C.stage self.old in
+            placed_of C.stage self.new ≡ come_to p
+            (level_dropped x.world x.objects (placed_levels x p) d cause).config x }
+        ensures moved { Moved self.old self.new p }
     {
         let flight = &mut self.calls[p as usize];
         flight
@@ -37,12 +39,12 @@ impl<C: Calls> Running<C> {
     /// One instruction of the innermost level of process p's call, whatever another call holds.
     pub fn instruct(&mut self, p: u8) -> Micro
         requires process { p < 16 }
-        requires running { IsRunning (λ b. seen (b.vtable, b.value)) (λ w. C.caller w) self.old }
-        ensures said { let x = placed_of (λ b. seen (b.vtable, b.value)) (λ w. C.stage w) self.old in
+        requires running { IsRunning C.caller self.old }
+        ensures said { let x = placed_of C.stage self.old in
             result ≡ (micro x.world x.images p (placed_config x p)).said }
-        ensures config { let x = placed_of (λ b. seen (b.vtable, b.value)) (λ w. C.stage w) self.old in
-            placed_of (λ b. seen (b.vtable, b.value)) (λ w. C.stage w) self.new ≡ come_to p (micro x.world x.images p (placed_config x p)).config x }
-        ensures moved { Moved (λ b. seen (b.vtable, b.value)) self.old self.new p }
+        ensures config { let x = placed_of C.stage self.old in
+            placed_of C.stage self.new ≡ come_to p (micro x.world x.images p (placed_config x p)).config x }
+        ensures moved { Moved self.old self.new p }
     {
         let flight = &mut self.calls[p as usize];
         flight
@@ -57,12 +59,12 @@ impl<C: Calls> Running<C> {
         requires owner { at.now.installer < 16 }
         requires point { at.now.point < 16 }
         requires lives { lives (queue_of self.old.store) at.now.installer ≡ true }
-        requires stands { is_some ((objects_of (λ b. seen (b.vtable, b.value)) self.old.store).accounts.graft at.now.installer at.now.point) ≡ true }
+        requires stands { is_some ((objects_of self.old.store).accounts.graft at.now.installer at.now.point) ≡ true }
         requires range { All (λ (n : Needed). IsInRange n.object) needs.now }
-        requires running { IsRunning (λ b. seen (b.vtable, b.value)) (λ w. C.caller w) self.old }
-        ensures config { let x = placed_of (λ b. seen (b.vtable, b.value)) (λ w. C.stage w) self.old in
-            placed_of (λ b. seen (b.vtable, b.value)) (λ w. C.stage w) self.new ≡ come_to p (begin_at x.images x.objects p needs.now at.now) x }
-        ensures moved { Moved (λ b. seen (b.vtable, b.value)) self.old self.new p }
+        requires running { IsRunning C.caller self.old }
+        ensures config { let x = placed_of C.stage self.old in
+            placed_of C.stage self.new ≡ come_to p (begin_at x.images x.objects p needs.now at.now) x }
+        ensures moved { Moved self.old self.new p }
     {
         let flight = &mut self.calls[p as usize];
         flight.chain.begin(p, &mut self.store, &mut self.locks, &self.images, needs, at);

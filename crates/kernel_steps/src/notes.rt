@@ -66,7 +66,8 @@ impl Notes {
 
     /// The note of bytes that a piece gave, if it gave some.
     pub fn push_bytes(&mut self, number: u32, gave: Option<Bytes>)
-        ensures { (all : List Told) → self.old ≡ first_notes all → self.new ≡ first_notes (all ++ gave_note number gave) }
+        ensures { (all : List Told) → self.old ≡ first_notes all →
+            self.new ≡ first_notes (all ++ gave_note number gave) }
     {
         if let Some(bytes) = gave {
             self.push(Note::Gave(number, bytes));

@@ -8,7 +8,8 @@ ghost use Rattle.kernel_model.specs.Opening.{opening_kernel, opening_policy};
 ghost use Rattle.kernel_model.specs.Session as session;
 ghost use Rattle.kernel_model.specs.Sound.{IsAtRest};
 ghost use Rattle.graft_points.specs.Shelf.{pol_of, first_choice};
-ghost use Rattle.kernel_state.specs.Stores.{world_for, world_of_store, objects_of, views_of, IsStore};
+ghost use Rattle.kernel_state.specs.Stores.{world_of_store, objects_of, views_of};
+ghost use Rattle.kernel_state.specs.Sound.{world_for};
 ghost use Rattle.graft_loader.specs.Slots.{table_of};
 ghost use Rattle.placed_laws.specs.Stands.{StandsFor};
 ghost use Rattle.kernel_steps.specs.Views.{placed_of, IsRunning, IsQuiet, Stood};
@@ -16,12 +17,13 @@ ghost use Rattle.kernel_steps.specs.Views.{placed_of, IsRunning, IsQuiet, Stood}
 use crate::running::Running;
 use call_pieces::Calls;
 use graft_loader::Loaded;
+use graft_points::Policy;
 use kernel_laws::soundness;
 use kernel_state::Setup;
 use mem_disk::Directory;
 use placed_laws::keeping;
 
-impl<C: Calls> Running<C> {
+impl<C: Calls, B: Policy> Running<C, B> {
     /// The kernel begins again, on a disk of this size with this directory: no call is in flight, and none waits. The policies stay,
     /// with the parameters of boot.
     pub fn restart(&mut self, setup: Setup, size: u32, dir: Directory)
@@ -31,15 +33,16 @@ impl<C: Calls> Running<C> {
         requires size_most { size ≤ 4096 }
         requires rows { length dir ≤ 16 }
         requires files { (n : ℕ) (r : Row) → slice_index_or dir n None ≡ Some r → lies_on_disk size r ≡ true }
-        requires stock { pol_of (views_of (λ b. seen (b.vtable, b.value)) self.old.store) first_choice ≡ opening_policy }
-        requires running { IsRunning (λ b. seen (b.vtable, b.value)) (λ w. C.caller w) self.old }
+        requires stock { pol_of (views_of self.old.store) first_choice ≡ opening_policy }
+        requires running { IsRunning C.caller self.old }
         requires quiet { IsQuiet self.old }
-        ensures stands { StandsFor C.Meaning.meaning (placed_of (λ b. seen (b.vtable, b.value)) (λ w. C.stage w) self.new) (opening_kernel (world_for setup size dir)) }
-        ensures running { IsRunning (λ b. seen (b.vtable, b.value)) (λ w. C.caller w) self.new }
+        ensures stands { StandsFor C.Meaning.meaning (placed_of C.stage self.new)
+            (opening_kernel (world_for setup size dir)) }
+        ensures running { IsRunning C.caller self.new }
         ensures quiet { IsQuiet self.new }
         ensures clock { self.new.clock ≡ 0 }
         ensures world { world_of_store self.new.store ≡ world_for setup size dir }
-        ensures views { views_of (λ b. seen (b.vtable, b.value)) self.new.store ≡ views_of (λ b. seen (b.vtable, b.value)) self.old.store }
+        ensures views { views_of self.new.store ≡ views_of self.old.store }
     {
         soundness::opening_kernel_is_sound::<C::Meaning>();
         keeping::quiet_kernels_stand::<C::Meaning>();
@@ -51,7 +54,7 @@ impl<C: Calls> Running<C> {
     /// Whether a slot has an image.
     pub fn has_image(&self, slot: u32) -> bool
         requires { slot < 32 }
-        ensures { result ≡ is_some ((placed_of (λ b. seen (b.vtable, b.value)) (λ w. C.stage w) self.now).images slot) }
+        ensures { result ≡ is_some ((placed_of C.stage self.now).images slot) }
     {
         !self.images.is_free(slot)
     }
@@ -59,15 +62,16 @@ impl<C: Calls> Running<C> {
     /// A slot that is free has this image from now on. Every call stays where it is, and what blocks it. No memory is taken.
     pub fn add_image(&mut self, slot: u32, image: Loaded)
         requires slot { slot < 32 }
-        requires free { (placed_of (λ b. seen (b.vtable, b.value)) (λ w. C.stage w) self.old).images slot ≡ None }
-        requires running { IsRunning (λ b. seen (b.vtable, b.value)) (λ w. C.caller w) self.old }
-        requires stood { Stood C.Meaning.meaning (placed_of (λ b. seen (b.vtable, b.value)) (λ w. C.stage w) self.old) }
-        ensures stands { (k : Kernel) → StandsFor C.Meaning.meaning (placed_of (λ b. seen (b.vtable, b.value)) (λ w. C.stage w) self.old) k →
-            StandsFor C.Meaning.meaning (placed_of (λ b. seen (b.vtable, b.value)) (λ w. C.stage w) self.new) (session.add_image slot image k) }
-        ensures rests { (k : Kernel) → StandsFor C.Meaning.meaning (placed_of (λ b. seen (b.vtable, b.value)) (λ w. C.stage w) self.old) k → IsAtRest C.Meaning.meaning k →
+        requires free { (placed_of C.stage self.old).images slot ≡ None }
+        requires running { IsRunning C.caller self.old }
+        requires stood { Stood C.Meaning.meaning (placed_of C.stage self.old) }
+        ensures stands { (k : Kernel) → StandsFor C.Meaning.meaning (placed_of C.stage self.old) k →
+            StandsFor C.Meaning.meaning (placed_of C.stage self.new) (session.add_image slot image k) }
+        ensures rests { (k : Kernel) → StandsFor C.Meaning.meaning (placed_of C.stage self.old) k →
+            IsAtRest C.Meaning.meaning k →
             IsAtRest C.Meaning.meaning (session.add_image slot image k) }
-        ensures running { IsRunning (λ b. seen (b.vtable, b.value)) (λ w. C.caller w) self.new }
-        ensures stood { Stood C.Meaning.meaning (placed_of (λ b. seen (b.vtable, b.value)) (λ w. C.stage w) self.new) }
+        ensures running { IsRunning C.caller self.new }
+        ensures stood { Stood C.Meaning.meaning (placed_of C.stage self.new) }
         ensures store { self.new.store ≡ self.old.store }
         ensures clock { self.new.clock ≡ self.old.clock }
     {

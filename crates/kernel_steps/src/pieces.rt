@@ -5,7 +5,7 @@ ghost use Rattle.disk_log.specs.Seen.{disk_seen};
 ghost use Rattle.kernel_model.specs.Laws.{IsReady};
 ghost use Rattle.kernel_model.specs.World.{ImageTable};
 ghost use Rattle.call_pieces.specs.Works.{answer_seen};
-ghost use Rattle.kernel_state.specs.Stores.{world_of_store, objects_of, IsStore, SegmentsStay};
+ghost use Rattle.kernel_state.specs.Stores.{world_of_store, objects_of, SegmentsStay};
 ghost use Rattle.kernel_steps.specs.declared.running.InFlight.{InFlight as Flying};
 ghost use Rattle.kernel_steps.specs.Did.{PieceDone};
 ghost use Rattle.kernel_steps.specs.Views.{call_in_place};
@@ -14,31 +14,34 @@ use crate::notes::Notes;
 use crate::running::InFlight;
 use call_pieces::{Calls, Next};
 use disk_log::DiskLog;
+use graft_points::Policy;
 use kernel_model::Note;
 use kernel_state::Store;
 use vino_base::Disk;
 
 /// The next piece of a call in flight, with an answer to the point that it asks, or by default. The call goes on, or it ends with a
 /// note. The log has this piece's calls of the disk then.
-pub(crate) fn do_piece<C: Calls, D: Disk>(
+pub(crate) fn do_piece<C: Calls, B: Policy, D: Disk>(
     slot: &mut Option<InFlight<C::Work>>,
-    store: &mut Store,
+    store: &mut Store<B>,
     answer: Option<[u32; 4]>,
     disk: &mut D,
     log: &mut DiskLog,
     notes: &mut Notes,
 )
-    requires sound { IsStore (λ b. seen (b.vtable, b.value)) store.old }
-    requires ready { (f : Flying C.Work) → slot.old ≡ Some f → (images : ImageTable) × IsReady C.Meaning.meaning (world_of_store store.old) images (objects_of (λ b. seen (b.vtable, b.value)) store.old) (C.caller f.work) (C.stage f.work) (answer_seen answer) }
+    requires ready { (f : Flying C.Work) → slot.old ≡ Some f →
+        (images : ImageTable) × IsReady C.Meaning.meaning (world_of_store store.old) images
+        (objects_of store.old) (C.caller f.work) (C.stage f.work) (answer_seen answer) }
     requires disk { store.old.size ≡ D.block_count disk.old }
     ensures done { (f : Flying C.Work) → slot.old ≡ Some f →
-        PieceDone C.Meaning.meaning (world_of_store store.old) (objects_of (λ b. seen (b.vtable, b.value)) store.old) (objects_of (λ b. seen (b.vtable, b.value)) store.new) (C.caller f.work)
-        (call_in_place (λ w. C.stage w) f) (option_map (call_in_place (λ w. C.stage w)) slot.new) answer notes.old notes.new
-        (disk_seen (D.blocks disk.old) (D.plan disk.old) (D.faults disk.old)) (disk_seen (D.blocks disk.new) (D.plan disk.new) (D.faults disk.new)) }
+        PieceDone C.Meaning.meaning (world_of_store store.old) (objects_of store.old)
+        (objects_of store.new) (C.caller f.work)
+        (call_in_place C.stage f) (option_map (call_in_place C.stage) slot.new) answer notes.old notes.new
+        (disk_seen (D.blocks disk.old) (D.plan disk.old) (D.faults disk.old))
+        (disk_seen (D.blocks disk.new) (D.plan disk.new) (D.faults disk.new)) }
     ensures caller { (f g : Flying C.Work) → slot.old ≡ Some f → slot.new ≡ Some g → C.caller g.work ≡ C.caller f.work }
     ensures world { world_of_store store.new ≡ world_of_store store.old }
     ensures size { store.new.size ≡ store.old.size }
-    ensures sound { IsStore (λ b. seen (b.vtable, b.value)) store.new }
     ensures memory { SegmentsStay store.old.ram store.new.ram }
     ensures same_size { D.block_count disk.new ≡ D.block_count disk.old }
 {

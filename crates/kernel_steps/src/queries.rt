@@ -16,6 +16,7 @@ use crate::running::Running;
 use crate::waits::is_same_object;
 use call_pieces::{Calls, Needs};
 use graft_calls::GraftLevel;
+use graft_points::Policy;
 use kernel_model::{Mode, Need, Note, Object};
 use lock_table::laws;
 use placed_laws::soundness;
@@ -56,10 +57,10 @@ fn note_of(innermost: &GraftLevel, number: u32, count: u8) -> Note
     Note::InGraft(number, innermost.owner, innermost.point, count)
 }
 
-impl<C: Calls> Running<C> {
+impl<C: Calls, B: Policy> Running<C, B> {
     /// Whether process p stands in the order.
     pub fn waits(&self, p: u8) -> bool
-        ensures { result ≡ in_order p (placed_of (λ b. seen (b.vtable, b.value)) (λ w. C.stage w) self.now).order }
+        ensures { result ≡ in_order p (placed_of C.stage self.now).order }
     {
         self.order.has(p)
     }
@@ -67,17 +68,17 @@ impl<C: Calls> Running<C> {
     /// Process p, which isn't in the order, joins it at its end.
     pub fn join(&mut self, p: u8)
         requires process { p < 16 }
-        requires new { in_order p (placed_of (λ b. seen (b.vtable, b.value)) (λ w. C.stage w) self.old).order ≡ false }
-        requires running { IsRunning (λ b. seen (b.vtable, b.value)) (λ w. C.caller w) self.old }
-        ensures value { Goes (placed_joins p) (placed_of (λ b. seen (b.vtable, b.value)) (λ w. C.stage w) self.old) (placed_of (λ b. seen (b.vtable, b.value)) (λ w. C.stage w) self.new) }
-        ensures running { IsRunning (λ b. seen (b.vtable, b.value)) (λ w. C.caller w) self.new }
+        requires new { in_order p (placed_of C.stage self.old).order ≡ false }
+        requires running { IsRunning C.caller self.old }
+        ensures value { Goes (placed_joins p) (placed_of C.stage self.old) (placed_of C.stage self.new) }
+        ensures running { IsRunning C.caller self.new }
     {
         self.order.push(Waiting::joined(p));
     }
 
     /// The number of the call that process p has in flight.
     pub fn call_number(&self, p: u8) -> Option<u32>
-        ensures { result ≡ option_map (λ c. c.number) ((placed_of (λ b. seen (b.vtable, b.value)) (λ w. C.stage w) self.now).call p) }
+        ensures { result ≡ option_map (λ c. c.number) ((placed_of C.stage self.now).call p) }
     {
         number_of(&self.calls, p)
     }
@@ -85,8 +86,8 @@ impl<C: Calls> Running<C> {
     /// How many levels process p's call has.
     pub fn level_count(&self, p: u8) -> u8
         requires process { p < 16 }
-        requires running { IsRunning (λ b. seen (b.vtable, b.value)) (λ w. C.caller w) self.now }
-        ensures value { result ≡ length ((placed_of (λ b. seen (b.vtable, b.value)) (λ w. C.stage w) self.now).levels p) }
+        requires running { IsRunning C.caller self.now }
+        ensures value { result ≡ length ((placed_of C.stage self.now).levels p) }
         ensures chain { result ≡ length (chain_of self.now p).levels }
     {
         flight(&self.calls, p).chain.levels.count()
@@ -95,8 +96,8 @@ impl<C: Calls> Running<C> {
     /// Whether process p's call is in a graft.
     pub fn in_graft(&self, p: u8) -> bool
         requires process { p < 16 }
-        requires running { IsRunning (λ b. seen (b.vtable, b.value)) (λ w. C.caller w) self.now }
-        ensures { result ≡ has_some ((placed_of (λ b. seen (b.vtable, b.value)) (λ w. C.stage w) self.now).levels p) }
+        requires running { IsRunning C.caller self.now }
+        ensures { result ≡ has_some ((placed_of C.stage self.now).levels p) }
     {
         flight(&self.calls, p).chain.levels.count() != 0
     }
@@ -104,8 +105,8 @@ impl<C: Calls> Running<C> {
     /// The note that process p's call, of this number, is in a graft, if it is.
     pub fn graft_note(&self, p: u8, number: u32) -> Option<Note>
         requires process { p < 16 }
-        requires running { IsRunning (λ b. seen (b.vtable, b.value)) (λ w. C.caller w) self.now }
-        ensures { result ≡ note_in_graft number ((placed_of (λ b. seen (b.vtable, b.value)) (λ w. C.stage w) self.now).levels p) }
+        requires running { IsRunning C.caller self.now }
+        ensures { result ≡ note_in_graft number ((placed_of C.stage self.now).levels p) }
     {
         let chain = &flight(&self.calls, p).chain;
         match chain.levels.innermost() {
@@ -117,9 +118,9 @@ impl<C: Calls> Running<C> {
     /// The mode in which the next step of process p's call needs an object: shared, where it doesn't.
     fn wanted(&self, p: u8, object: Object) -> Mode
         requires process { p < 16 }
-        requires running { IsRunning (λ b. seen (b.vtable, b.value)) (λ w. C.caller w) self.now }
-        requires stood { Stood C.Meaning.meaning (placed_of (λ b. seen (b.vtable, b.value)) (λ w. C.stage w) self.now) }
-        ensures { result ≡ wanted object (placed_needs C.Meaning.meaning (placed_of (λ b. seen (b.vtable, b.value)) (λ w. C.stage w) self.now) p) }
+        requires running { IsRunning C.caller self.now }
+        requires stood { Stood C.Meaning.meaning (placed_of C.stage self.now) }
+        ensures { result ≡ wanted object (placed_needs C.Meaning.meaning (placed_of C.stage self.now) p) }
     {
         soundness::sound_in_place::<C::Meaning>();
         let flight = flight(&self.calls, p);
@@ -138,10 +139,11 @@ impl<C: Calls> Running<C> {
     /// The outermost level of a holder's call whose hold on an object conflicts with the mode in which process p needs it.
     pub fn level_in_the_way(&self, p: u8, object: Object, holder: u8) -> Option<u8>
         requires process { p < 16 }
-        requires running { IsRunning (λ b. seen (b.vtable, b.value)) (λ w. C.caller w) self.now }
-        requires stood { Stood C.Meaning.meaning (placed_of (λ b. seen (b.vtable, b.value)) (λ w. C.stage w) self.now) }
-        ensures value { let x = placed_of (λ b. seen (b.vtable, b.value)) (λ w. C.stage w) self.now in
-            result ≡ outermost_holding object (wanted object (placed_needs C.Meaning.meaning x p)) (placed_holds x holder) }
+        requires running { IsRunning C.caller self.now }
+        requires stood { Stood C.Meaning.meaning (placed_of C.stage self.now) }
+        ensures value { let x = placed_of C.stage self.now in
+            result ≡ outermost_holding object (wanted object (placed_needs C.Meaning.meaning x p))
+            (placed_holds x holder) }
         ensures there { IfSome result (λ d. (holder < 16) × (d < length (chain_of self.now holder).levels)) }
     {
         laws::test_is_range();

@@ -2,7 +2,7 @@
 
 ghost use Rattle.std.specs.Prelude.{suc, false, ◌≡◌, ◌<◌, ◌≤◌, ◌-◌, ◌^◌, None, Some, [], ◌++◌, ◌∷◌, length, IfOk, replicate, slice_set, ℕ};
 ghost use Rattle.kernel_model.specs.Sound.{ImagesAreLoaded};
-ghost use Rattle.kernel_state.specs.Stores.{world_of_store, objects_of, IsStore};
+ghost use Rattle.kernel_state.specs.Stores.{world_of_store, objects_of};
 ghost use Rattle.graft_loader.specs.Slots.{table_of};
 ghost use Rattle.placed_laws.specs.Keeping.{first_placed};
 ghost use Rattle.placed_laws.specs.PlacedSteps.{is_placed_at_piece, placed_joins, placed_noted, placed_requeue, placed_ticked, with_placed_call};
@@ -17,6 +17,7 @@ use crate::order::{Order, Waiting};
 use call_pieces::Calls;
 use graft_calls::{Chain, Levels};
 use graft_loader::Images;
+use graft_points::Policy;
 use kernel_model::{NoMemory, Note, PROCESSES};
 use kernel_state::Store;
 use lock_table::LockTable;
@@ -43,9 +44,9 @@ pub struct Flight<W> {
 
 /// A kernel over a table of calls, with all that is in flight. The store has what all calls have done.
 #[derive(Drop)]
-pub struct Running<C: Calls> {
+pub struct Running<C: Calls, B: Policy> {
     /// One value for each object.
-    pub store: Store,
+    pub store: Store<B>,
     /// How many ticks there were.
     pub clock: u32,
     /// The images that are loaded.
@@ -82,23 +83,23 @@ fn no_flights<W: Drop>(alloc: Global, count: usize) -> Result<Vec<Flight<W>>, Al
 /// A process has this call.
 fn set_call<W: Drop>(flights: &mut Vec<Flight<W>>, p: u8, call: Option<InFlight<W>>)
     requires { p < length flights.old.items }
-    ensures { flights.new.items ≡ slice_set flights.old.items p (record (flight_of flights.old.items p) { call = call }) }
+    ensures { flights.new.items ≡ slice_set flights.old.items p
+        (record (flight_of flights.old.items p) { call = call }) }
 {
     flights[p as usize].call = call;
 }
 
-impl<C: Calls> Running<C> {
+impl<C: Calls, B: Policy> Running<C, B> {
     /// A kernel over this store with these images, in which no call is in flight. Takes all the memory that it ever does.
-    pub fn new(alloc: Global, store: Store, images: Images) -> Result<Running<C>, NoMemory>
-        requires sound { IsStore (λ b. seen (b.vtable, b.value)) store }
-        requires loaded { ImagesAreLoaded (table_of images) (objects_of (λ b. seen (b.vtable, b.value)) store).accounts }
+    pub fn new(alloc: Global, store: Store<B>, images: Images) -> Result<Running<C, B>, NoMemory>
+        requires loaded { ImagesAreLoaded (table_of images) (objects_of store).accounts }
         ensures store { IfOk result (λ x. x.store ≡ store) }
         ensures images { IfOk result (λ x. x.images ≡ images) }
         ensures clock { IfOk result (λ x. x.clock ≡ 0) }
         ensures order { IfOk result (λ x. x.order ≡ []) }
         ensures calls { IfOk result (λ x. (p : ℕ) → flight_of x.calls.items p ≡ no_flight) }
         ensures quiet { IfOk result (λ x. IsQuiet x) }
-        ensures running { IfOk result (λ x. IsRunning (λ b. seen (b.vtable, b.value)) (λ w. C.caller w) x) }
+        ensures running { IfOk result (λ x. IsRunning C.caller x) }
     {
         let Ok(locks) = LockTable::new(alloc) else {
             return Err(NoMemory);
@@ -121,9 +122,11 @@ impl<C: Calls> Running<C> {
         requires process { p < 16 }
         requires caller { C.caller work ≡ p }
         requires new { has_number p (numbers_of self.old.order) ≡ false }
-        requires running { IsRunning (λ b. seen (b.vtable, b.value)) (λ w. C.caller w) self.old }
-        ensures value { Goes (λ r. placed_joins p (with_placed_call p (Some (first_placed number (C.stage work))) r)) (placed_of (λ b. seen (b.vtable, b.value)) (λ w. C.stage w) self.old) (placed_of (λ b. seen (b.vtable, b.value)) (λ w. C.stage w) self.new) }
-        ensures running { IsRunning (λ b. seen (b.vtable, b.value)) (λ w. C.caller w) self.new }
+        requires running { IsRunning C.caller self.old }
+        ensures value { Goes (λ r. placed_joins p
+            (with_placed_call p (Some (first_placed number (C.stage work))) r))
+            (placed_of C.stage self.old) (placed_of C.stage self.new) }
+        ensures running { IsRunning C.caller self.new }
     {
         set_call(&mut self.calls, p, Some(InFlight { number, work }));
         self.order.push(Waiting::joined(p));
@@ -132,9 +135,11 @@ impl<C: Calls> Running<C> {
     /// The call of process p ends with this note; it has no level.
     pub fn end(&mut self, p: u8, note: Note, notes: &mut Notes)
         requires process { p < 16 }
-        requires running { IsRunning (λ b. seen (b.vtable, b.value)) (λ w. C.caller w) self.old }
-        ensures value { Says (λ r. placed_requeue p (placed_noted note (with_placed_call p None r))) (placed_of (λ b. seen (b.vtable, b.value)) (λ w. C.stage w) self.old) (placed_of (λ b. seen (b.vtable, b.value)) (λ w. C.stage w) self.new) (note ∷ []) notes.old notes.new }
-        ensures running { IsRunning (λ b. seen (b.vtable, b.value)) (λ w. C.caller w) self.new }
+        requires running { IsRunning C.caller self.old }
+        ensures value { Says (λ r. placed_requeue p (placed_noted note (with_placed_call p None r)))
+            (placed_of C.stage self.old) (placed_of C.stage self.new)
+            (note ∷ []) notes.old notes.new }
+        ensures running { IsRunning C.caller self.new }
     {
         set_call(&mut self.calls, p, None);
         self.order.leave(p);
@@ -144,8 +149,8 @@ impl<C: Calls> Running<C> {
     /// Whether the next step of process p's call is a piece.
     pub fn is_at_piece(&self, p: u8) -> bool
         requires process { p < 16 }
-        requires running { IsRunning (λ b. seen (b.vtable, b.value)) (λ w. C.caller w) self.now }
-        ensures { let x = placed_of (λ b. seen (b.vtable, b.value)) (λ w. C.stage w) self.now in result ≡ is_placed_at_piece (x.call p) (x.levels p) }
+        requires running { IsRunning C.caller self.now }
+        ensures { let x = placed_of C.stage self.now in result ≡ is_placed_at_piece (x.call p) (x.levels p) }
     {
         let flight = flight(&self.calls, p);
         match &flight.call {
@@ -157,9 +162,9 @@ impl<C: Calls> Running<C> {
     /// After a step of process p: it stands in the order, at its end, exactly where its next step is a piece.
     pub fn requeue(&mut self, p: u8)
         requires process { p < 16 }
-        requires running { IsRunning (λ b. seen (b.vtable, b.value)) (λ w. C.caller w) self.old }
-        ensures value { Goes (placed_requeue p) (placed_of (λ b. seen (b.vtable, b.value)) (λ w. C.stage w) self.old) (placed_of (λ b. seen (b.vtable, b.value)) (λ w. C.stage w) self.new) }
-        ensures running { IsRunning (λ b. seen (b.vtable, b.value)) (λ w. C.caller w) self.new }
+        requires running { IsRunning C.caller self.old }
+        ensures value { Goes (placed_requeue p) (placed_of C.stage self.old) (placed_of C.stage self.new) }
+        ensures running { IsRunning C.caller self.new }
     {
         let waits = self.is_at_piece(p);
         self.order.leave(p);
@@ -172,9 +177,11 @@ impl<C: Calls> Running<C> {
     /// The clock and the count of each entry rise by one.
     pub fn tick(&mut self, number: u32, notes: &mut Notes)
         requires clock { self.old.clock < 2 ^ 32 - 1 }
-        requires running { IsRunning (λ b. seen (b.vtable, b.value)) (λ w. C.caller w) self.old }
-        ensures value { Says (placed_ticked number) (placed_of (λ b. seen (b.vtable, b.value)) (λ w. C.stage w) self.old) (placed_of (λ b. seen (b.vtable, b.value)) (λ w. C.stage w) self.new) (Ticked number (suc self.old.clock) ∷ []) notes.old notes.new }
-        ensures running { IsRunning (λ b. seen (b.vtable, b.value)) (λ w. C.caller w) self.new }
+        requires running { IsRunning C.caller self.old }
+        ensures value { Says (placed_ticked number) (placed_of C.stage self.old)
+            (placed_of C.stage self.new) (Ticked number (suc self.old.clock) ∷ []) notes.old
+            notes.new }
+        ensures running { IsRunning C.caller self.new }
     {
         self.clock += 1;
         self.order.count_up();

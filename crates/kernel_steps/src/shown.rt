@@ -17,6 +17,7 @@ use crate::order::Waiting;
 use crate::running::Running;
 use call_pieces::Calls;
 use graft_calls::Levels;
+use graft_points::Policy;
 use kernel_model::{RawRow, TopRow, WaitRow};
 use undo_calls::UndoStack;
 
@@ -45,7 +46,8 @@ fn wait_row(entries: &[Waiting], p: u8) -> Option<WaitRow>
 
 /// The innermost of these levels.
 fn top_row(levels: &Levels) -> Option<TopRow>
-    ensures { (p : ℕ) (ram : List ℕ) (t : Table) (log : List (List Undoing)) (w : Things) → result ≡ top_of (levels_in p ram t levels.now log w) }
+    ensures { (p : ℕ) (ram : List ℕ) (t : Table) (log : List (List Undoing)) (w : Things) →
+        result ≡ top_of (levels_in p ram t levels.now log w) }
 {
     let level = levels.innermost()?;
     Some(TopRow {
@@ -58,7 +60,9 @@ fn top_row(levels: &Levels) -> Option<TopRow>
 /// Level d of process p, 0 being the outermost.
 fn row_of_level(levels: &Levels, p: u8, d: u8) -> RawRow
     requires { d < length levels.now }
-    ensures { (ram : List ℕ) (t : Table) (log : List (List Undoing)) (w : Things) → slice_get (reverse (rows_of_levels p (levels_in p ram t levels.now log w))) d ≡ Some result }
+    ensures { (ram : List ℕ) (t : Table) (log : List (List Undoing)) (w : Things) →
+        slice_get (reverse (rows_of_levels p (levels_in p ram t levels.now log w))) d
+        ≡ Some result }
 {
     let level = &levels.as_slice()[d as usize];
     RawRow::Level(p, d, level.owner, level.point, level.count)
@@ -74,12 +78,12 @@ fn row_of_record(log: &UndoStack, p: u8, i: u8) -> RawRow
     RawRow::Undo(p, log.owner(place), records[place])
 }
 
-impl<C: Calls> Running<C> {
+impl<C: Calls, B: Policy> Running<C, B> {
     /// The call of process p, if it has one: its number, what it waits for, and its innermost level.
     pub fn call_row(&self, p: u8) -> Option<RawRow>
         requires process { p < 16 }
-        requires running { IsRunning (λ b. seen (b.vtable, b.value)) (λ w. C.caller w) self.now }
-        ensures { result ≡ placed_call_row (placed_of (λ b. seen (b.vtable, b.value)) (λ w. C.stage w) self.now) p }
+        requires running { IsRunning C.caller self.now }
+        ensures { result ≡ placed_call_row (placed_of C.stage self.now) p }
     {
         let flight = flight(&self.calls, p);
         let Some(call) = &flight.call else {
@@ -92,8 +96,8 @@ impl<C: Calls> Running<C> {
     /// How many levels the call of process p has.
     pub fn shown_levels(&self, p: u8) -> u8
         requires process { p < 16 }
-        requires running { IsRunning (λ b. seen (b.vtable, b.value)) (λ w. C.caller w) self.now }
-        ensures value { result ≡ length (placed_level_rows (placed_of (λ b. seen (b.vtable, b.value)) (λ w. C.stage w) self.now) p) }
+        requires running { IsRunning C.caller self.now }
+        ensures value { result ≡ length (placed_level_rows (placed_of C.stage self.now) p) }
         ensures few { result ≤ 4 }
     {
         flight(&self.calls, p).chain.levels.count()
@@ -102,9 +106,9 @@ impl<C: Calls> Running<C> {
     /// Level d of process p's call, 0 being the outermost.
     pub fn level_row(&self, p: u8, d: u8) -> RawRow
         requires process { p < 16 }
-        requires running { IsRunning (λ b. seen (b.vtable, b.value)) (λ w. C.caller w) self.now }
-        requires level { d < length (placed_level_rows (placed_of (λ b. seen (b.vtable, b.value)) (λ w. C.stage w) self.now) p) }
-        ensures { slice_get (placed_level_rows (placed_of (λ b. seen (b.vtable, b.value)) (λ w. C.stage w) self.now) p) d ≡ Some result }
+        requires running { IsRunning C.caller self.now }
+        requires level { d < length (placed_level_rows (placed_of C.stage self.now) p) }
+        ensures { slice_get (placed_level_rows (placed_of C.stage self.now) p) d ≡ Some result }
     {
         row_of_level(&flight(&self.calls, p).chain.levels, p, d)
     }
@@ -112,8 +116,8 @@ impl<C: Calls> Running<C> {
     /// How many records the call of process p has, over all its levels.
     pub fn shown_records(&self, p: u8) -> u8
         requires process { p < 16 }
-        requires running { IsRunning (λ b. seen (b.vtable, b.value)) (λ w. C.caller w) self.now }
-        ensures value { result ≡ length (placed_undo_rows (placed_of (λ b. seen (b.vtable, b.value)) (λ w. C.stage w) self.now) p) }
+        requires running { IsRunning C.caller self.now }
+        ensures value { result ≡ length (placed_undo_rows (placed_of C.stage self.now) p) }
         ensures few { result ≤ 64 }
     {
         flight(&self.calls, p).chain.undo.list().len() as u8
@@ -122,9 +126,9 @@ impl<C: Calls> Running<C> {
     /// Record i of process p's call with the level that owns it, 0 being the newest.
     pub fn undo_row(&self, p: u8, i: u8) -> RawRow
         requires process { p < 16 }
-        requires running { IsRunning (λ b. seen (b.vtable, b.value)) (λ w. C.caller w) self.now }
-        requires recorded { i < length (placed_undo_rows (placed_of (λ b. seen (b.vtable, b.value)) (λ w. C.stage w) self.now) p) }
-        ensures { slice_get (placed_undo_rows (placed_of (λ b. seen (b.vtable, b.value)) (λ w. C.stage w) self.now) p) i ≡ Some result }
+        requires running { IsRunning C.caller self.now }
+        requires recorded { i < length (placed_undo_rows (placed_of C.stage self.now) p) }
+        ensures { slice_get (placed_undo_rows (placed_of C.stage self.now) p) i ≡ Some result }
     {
         row_of_record(&flight(&self.calls, p).chain.undo, p, i)
     }

@@ -22,11 +22,12 @@ use crate::pieces::do_piece;
 use crate::running::Running;
 use call_pieces::{Calls, Needs};
 use disk_log::DiskLog;
+use graft_points::Policy;
 use kernel_model::{Cause, Micro, Note};
 use placed_laws::{agreeing, keeping, owners, soundness};
 use vino_base::Disk;
 
-impl<C: Calls> Running<C> {
+impl<C: Calls, B: Policy> Running<C, B> {
     /// The piece of process p's call, which has no level, is done: with an answer to the point that it asks, or by default.
     fn finish<D: Disk>(
         &mut self,
@@ -37,18 +38,20 @@ impl<C: Calls> Running<C> {
         notes: &mut Notes,
     )
         requires process { p < 16 }
-        requires alone { StepsAlone (λ b. seen (b.vtable, b.value)) (λ w. C.caller w) self.old p }
+        requires alone { StepsAlone C.caller self.old p }
         requires none { (chain_of self.old p).levels ≡ [] }
         requires ready { (f : Flying C.Work) → (flight_of self.old.calls.items p).call ≡ Some f →
-            IsReady C.Meaning.meaning (world_of_store self.old.store) (table_of self.old.images) (objects_of (λ b. seen (b.vtable, b.value)) self.old.store) p (C.stage f.work) (answer_seen answer) }
+            IsReady C.Meaning.meaning (world_of_store self.old.store) (table_of self.old.images)
+            (objects_of self.old.store) p (C.stage f.work) (answer_seen answer) }
         requires disk { self.old.store.size ≡ D.block_count disk.old }
-        ensures done { (c : PlacedCall) → call_at (λ w. C.stage w) self.old p ≡ Some c →
-            StepDone (λ b. seen (b.vtable, b.value)) (λ w. C.stage w) (λ w. C.caller w) (finishes C.Meaning.meaning p c answer) self.old self.new p notes.old notes.new
-            (disk_seen (D.blocks disk.old) (D.plan disk.old) (D.faults disk.old)) (disk_seen (D.blocks disk.new) (D.plan disk.new) (D.faults disk.new)) }
+        ensures done { (c : PlacedCall) → call_at C.stage self.old p ≡ Some c →
+            StepDone C.stage C.caller (finishes C.Meaning.meaning p c answer) self.old self.new p notes.old notes.new
+            (disk_seen (D.blocks disk.old) (D.plan disk.old) (D.faults disk.old))
+            (disk_seen (D.blocks disk.new) (D.plan disk.new) (D.faults disk.new)) }
         ensures same_size { D.block_count disk.new ≡ D.block_count disk.old }
     {
         let flight = &mut self.calls[p as usize];
-        do_piece::<C, D>(&mut flight.call, &mut self.store, answer, disk, log, notes);
+        do_piece::<C, B, D>(&mut flight.call, &mut self.store, answer, disk, log, notes);
     }
 
     /// Level d of process p's call was dropped, which is noted. With level 0 the default finishes the piece.
@@ -62,14 +65,19 @@ impl<C: Calls> Running<C> {
         notes: &mut Notes,
     )
         requires process { p < 16 }
-        requires alone { StepsAlone (λ b. seen (b.vtable, b.value)) (λ w. C.caller w) self.old p }
-        requires none { (answer : Option (List ℕ)) → answer_of_drop d ≡ Some answer → (chain_of self.old p).levels ≡ [] }
-        requires ready { (answer : Option (List ℕ)) (f : Flying C.Work) → answer_of_drop d ≡ Some answer → (flight_of self.old.calls.items p).call ≡ Some f →
-            IsReady C.Meaning.meaning (world_of_store self.old.store) (table_of self.old.images) (objects_of (λ b. seen (b.vtable, b.value)) self.old.store) p (C.stage f.work) (answer_seen answer) }
+        requires alone { StepsAlone C.caller self.old p }
+        requires none { (answer : Option (List ℕ)) → answer_of_drop d ≡ Some answer →
+            (chain_of self.old p).levels ≡ [] }
+        requires ready { (answer : Option (List ℕ)) (f : Flying C.Work) →
+            answer_of_drop d ≡ Some answer → (flight_of self.old.calls.items p).call ≡ Some f →
+            IsReady C.Meaning.meaning (world_of_store self.old.store) (table_of self.old.images)
+            (objects_of self.old.store) p (C.stage f.work) (answer_seen answer) }
         requires disk { self.old.store.size ≡ D.block_count disk.old }
-        ensures done { (c : PlacedCall) → call_at (λ w. C.stage w) self.old p ≡ Some c →
-            StepDone (λ b. seen (b.vtable, b.value)) (λ w. C.stage w) (λ w. C.caller w) (λ r. after_drop C.Meaning.meaning p c d (placed_noted note r)) self.old self.new p notes.old notes.new
-            (disk_seen (D.blocks disk.old) (D.plan disk.old) (D.faults disk.old)) (disk_seen (D.blocks disk.new) (D.plan disk.new) (D.faults disk.new)) }
+        ensures done { (c : PlacedCall) → call_at C.stage self.old p ≡ Some c →
+            StepDone C.stage C.caller (λ r. after_drop C.Meaning.meaning p c d
+            (placed_noted note r)) self.old self.new p notes.old notes.new
+            (disk_seen (D.blocks disk.old) (D.plan disk.old) (D.faults disk.old))
+            (disk_seen (D.blocks disk.new) (D.plan disk.new) (D.faults disk.new)) }
         ensures same_size { D.block_count disk.new ≡ D.block_count disk.old }
     {
         notes.push(note);
@@ -89,14 +97,18 @@ impl<C: Calls> Running<C> {
         notes: &mut Notes,
     )
         requires process { p < 16 }
-        requires alone { StepsAlone (λ b. seen (b.vtable, b.value)) (λ w. C.caller w) self.old p }
-        requires none { (answer : Option (List ℕ)) → answer_said said ≡ Some answer → (chain_of self.old p).levels ≡ [] }
-        requires ready { (answer : Option (List ℕ)) (f : Flying C.Work) → answer_said said ≡ Some answer → (flight_of self.old.calls.items p).call ≡ Some f →
-            IsReady C.Meaning.meaning (world_of_store self.old.store) (table_of self.old.images) (objects_of (λ b. seen (b.vtable, b.value)) self.old.store) p (C.stage f.work) (answer_seen answer) }
+        requires alone { StepsAlone C.caller self.old p }
+        requires none { (answer : Option (List ℕ)) → answer_said said ≡ Some answer →
+            (chain_of self.old p).levels ≡ [] }
+        requires ready { (answer : Option (List ℕ)) (f : Flying C.Work) →
+            answer_said said ≡ Some answer → (flight_of self.old.calls.items p).call ≡ Some f →
+            IsReady C.Meaning.meaning (world_of_store self.old.store) (table_of self.old.images)
+            (objects_of self.old.store) p (C.stage f.work) (answer_seen answer) }
         requires disk { self.old.store.size ≡ D.block_count disk.old }
-        ensures done { (c : PlacedCall) → call_at (λ w. C.stage w) self.old p ≡ Some c →
-            StepDone (λ b. seen (b.vtable, b.value)) (λ w. C.stage w) (λ w. C.caller w) (after_said C.Meaning.meaning p c said) self.old self.new p notes.old notes.new
-            (disk_seen (D.blocks disk.old) (D.plan disk.old) (D.faults disk.old)) (disk_seen (D.blocks disk.new) (D.plan disk.new) (D.faults disk.new)) }
+        ensures done { (c : PlacedCall) → call_at C.stage self.old p ≡ Some c →
+            StepDone C.stage C.caller (after_said C.Meaning.meaning p c said) self.old self.new p notes.old notes.new
+            (disk_seen (D.blocks disk.old) (D.plan disk.old) (D.faults disk.old))
+            (disk_seen (D.blocks disk.new) (D.plan disk.new) (D.faults disk.new)) }
         ensures same_size { D.block_count disk.new ≡ D.block_count disk.old }
     {
         match said {
@@ -115,12 +127,15 @@ impl<C: Calls> Running<C> {
     fn graft_step<D: Disk>(&mut self, p: u8, disk: &mut D, log: &mut DiskLog, notes: &mut Notes)
         requires process { p < 16 }
         requires level { 0 < length (chain_of self.old p).levels }
-        requires running { IsRunning (λ b. seen (b.vtable, b.value)) (λ w. C.caller w) self.old }
-        requires stood { Stood C.Meaning.meaning (placed_of (λ b. seen (b.vtable, b.value)) (λ w. C.stage w) self.old) }
+        requires running { IsRunning C.caller self.old }
+        requires stood { Stood C.Meaning.meaning (placed_of C.stage self.old) }
         requires disk { self.old.store.size ≡ D.block_count disk.old }
-        ensures done { (c : PlacedCall) → call_at (λ w. C.stage w) self.old p ≡ Some c →
-            StepDone (λ b. seen (b.vtable, b.value)) (λ w. C.stage w) (λ w. C.caller w) (λ r. placed_outcome C.Meaning.meaning p c (micro r.placed.world r.placed.images p (placed_config r.placed p)) r) self.old self.new p notes.old notes.new
-            (disk_seen (D.blocks disk.old) (D.plan disk.old) (D.faults disk.old)) (disk_seen (D.blocks disk.new) (D.plan disk.new) (D.faults disk.new)) }
+        ensures done { (c : PlacedCall) → call_at C.stage self.old p ≡ Some c →
+            StepDone C.stage C.caller (λ r. placed_outcome C.Meaning.meaning p c
+            (micro r.placed.world r.placed.images p (placed_config r.placed p)) r) self.old self.new
+            p notes.old notes.new
+            (disk_seen (D.blocks disk.old) (D.plan disk.old) (D.faults disk.old))
+            (disk_seen (D.blocks disk.new) (D.plan disk.new) (D.faults disk.new)) }
         ensures same_size { D.block_count disk.new ≡ D.block_count disk.old }
     {
         soundness::ready_in_place::<C::Meaning>();
@@ -134,12 +149,14 @@ impl<C: Calls> Running<C> {
     fn piece_step<D: Disk>(&mut self, p: u8, disk: &mut D, log: &mut DiskLog, notes: &mut Notes)
         requires process { p < 16 }
         requires none { (chain_of self.old p).levels ≡ [] }
-        requires running { IsRunning (λ b. seen (b.vtable, b.value)) (λ w. C.caller w) self.old }
-        requires stood { Stood C.Meaning.meaning (placed_of (λ b. seen (b.vtable, b.value)) (λ w. C.stage w) self.old) }
+        requires running { IsRunning C.caller self.old }
+        requires stood { Stood C.Meaning.meaning (placed_of C.stage self.old) }
         requires disk { self.old.store.size ≡ D.block_count disk.old }
-        ensures done { (c : PlacedCall) → call_at (λ w. C.stage w) self.old p ≡ Some c →
-            StepDone (λ b. seen (b.vtable, b.value)) (λ w. C.stage w) (λ w. C.caller w) (λ r. placed_call_step C.Meaning.meaning p (Some c) r) self.old self.new p notes.old notes.new
-            (disk_seen (D.blocks disk.old) (D.plan disk.old) (D.faults disk.old)) (disk_seen (D.blocks disk.new) (D.plan disk.new) (D.faults disk.new)) }
+        ensures done { (c : PlacedCall) → call_at C.stage self.old p ≡ Some c →
+            StepDone C.stage C.caller (λ r. placed_call_step C.Meaning.meaning p (Some c) r)
+            self.old self.new p notes.old notes.new
+            (disk_seen (D.blocks disk.old) (D.plan disk.old) (D.faults disk.old))
+            (disk_seen (D.blocks disk.new) (D.plan disk.new) (D.faults disk.new)) }
         ensures same_size { D.block_count disk.new ≡ D.block_count disk.old }
     {
         soundness::sound_in_place::<C::Meaning>();
@@ -163,12 +180,15 @@ impl<C: Calls> Running<C> {
     /// A step of process p's call, but for its place in the order.
     fn step_call<D: Disk>(&mut self, p: u8, disk: &mut D, log: &mut DiskLog, notes: &mut Notes)
         requires process { p < 16 }
-        requires call { is_some (call_at (λ w. C.stage w) self.old p) ≡ true }
-        requires running { IsRunning (λ b. seen (b.vtable, b.value)) (λ w. C.caller w) self.old }
-        requires stood { Stood C.Meaning.meaning (placed_of (λ b. seen (b.vtable, b.value)) (λ w. C.stage w) self.old) }
+        requires call { is_some (call_at C.stage self.old p) ≡ true }
+        requires running { IsRunning C.caller self.old }
+        requires stood { Stood C.Meaning.meaning (placed_of C.stage self.old) }
         requires disk { self.old.store.size ≡ D.block_count disk.old }
-        ensures done { StepDone (λ b. seen (b.vtable, b.value)) (λ w. C.stage w) (λ w. C.caller w) (placed_call_step C.Meaning.meaning p (call_at (λ w. C.stage w) self.old p)) self.old self.new p notes.old notes.new
-            (disk_seen (D.blocks disk.old) (D.plan disk.old) (D.faults disk.old)) (disk_seen (D.blocks disk.new) (D.plan disk.new) (D.faults disk.new)) }
+        ensures done { StepDone C.stage C.caller
+            (placed_call_step C.Meaning.meaning p (call_at C.stage self.old p)) self.old self.new p
+            notes.old notes.new
+            (disk_seen (D.blocks disk.old) (D.plan disk.old) (D.faults disk.old))
+            (disk_seen (D.blocks disk.new) (D.plan disk.new) (D.faults disk.new)) }
         ensures same_size { D.block_count disk.new ≡ D.block_count disk.old }
     {
         if flight(&self.calls, p).chain.levels.count() == 0 {
@@ -182,15 +202,17 @@ impl<C: Calls> Running<C> {
     /// disk of one piece.
     pub fn step<D: Disk>(&mut self, p: u8, disk: &mut D, log: &mut DiskLog, notes: &mut Notes)
         requires process { p < 16 }
-        requires call { is_some (call_at (λ w. C.stage w) self.old p) ≡ true }
-        requires free { placed_blocker C.Meaning.meaning (placed_of (λ b. seen (b.vtable, b.value)) (λ w. C.stage w) self.old) p ≡ None }
-        requires running { IsRunning (λ b. seen (b.vtable, b.value)) (λ w. C.caller w) self.old }
-        requires stood { Stood C.Meaning.meaning (placed_of (λ b. seen (b.vtable, b.value)) (λ w. C.stage w) self.old) }
+        requires call { is_some (call_at C.stage self.old p) ≡ true }
+        requires free { placed_blocker C.Meaning.meaning (placed_of C.stage self.old) p ≡ None }
+        requires running { IsRunning C.caller self.old }
+        requires stood { Stood C.Meaning.meaning (placed_of C.stage self.old) }
         requires disk { self.old.store.size ≡ D.block_count disk.old }
-        ensures did { Did (placed_step C.Meaning.meaning p) (placed_of (λ b. seen (b.vtable, b.value)) (λ w. C.stage w) self.old) (placed_of (λ b. seen (b.vtable, b.value)) (λ w. C.stage w) self.new) notes.old notes.new
-            (disk_seen (D.blocks disk.old) (D.plan disk.old) (D.faults disk.old)) (disk_seen (D.blocks disk.new) (D.plan disk.new) (D.faults disk.new)) }
-        ensures running { IsRunning (λ b. seen (b.vtable, b.value)) (λ w. C.caller w) self.new }
-        ensures stood { Stood C.Meaning.meaning (placed_of (λ b. seen (b.vtable, b.value)) (λ w. C.stage w) self.new) }
+        ensures did { Did (placed_step C.Meaning.meaning p) (placed_of C.stage self.old)
+            (placed_of C.stage self.new) notes.old notes.new
+            (disk_seen (D.blocks disk.old) (D.plan disk.old) (D.faults disk.old))
+            (disk_seen (D.blocks disk.new) (D.plan disk.new) (D.faults disk.new)) }
+        ensures running { IsRunning C.caller self.new }
+        ensures stood { Stood C.Meaning.meaning (placed_of C.stage self.new) }
         ensures world { world_of_store self.new.store ≡ world_of_store self.old.store }
         ensures clock { self.new.clock ≡ self.old.clock }
         ensures same_size { D.block_count disk.new ≡ D.block_count disk.old }
@@ -214,12 +236,15 @@ impl<C: Calls> Running<C> {
     )
         requires process { p < 16 }
         requires level { d < length (chain_of self.old p).levels }
-        requires running { IsRunning (λ b. seen (b.vtable, b.value)) (λ w. C.caller w) self.old }
-        requires stood { Stood C.Meaning.meaning (placed_of (λ b. seen (b.vtable, b.value)) (λ w. C.stage w) self.old) }
+        requires running { IsRunning C.caller self.old }
+        requires stood { Stood C.Meaning.meaning (placed_of C.stage self.old) }
         requires disk { self.old.store.size ≡ D.block_count disk.old }
-        ensures done { (c : PlacedCall) → call_at (λ w. C.stage w) self.old p ≡ Some c →
-            StepDone (λ b. seen (b.vtable, b.value)) (λ w. C.stage w) (λ w. C.caller w) (λ r. placed_outcome C.Meaning.meaning p c (level_dropped r.placed.world r.placed.objects (placed_config r.placed p).levels d cause) r) self.old self.new p notes.old notes.new
-            (disk_seen (D.blocks disk.old) (D.plan disk.old) (D.faults disk.old)) (disk_seen (D.blocks disk.new) (D.plan disk.new) (D.faults disk.new)) }
+        ensures done { (c : PlacedCall) → call_at C.stage self.old p ≡ Some c →
+            StepDone C.stage C.caller (λ r. placed_outcome C.Meaning.meaning p c
+            (level_dropped r.placed.world r.placed.objects
+            (placed_config r.placed p).levels d cause) r) self.old self.new p notes.old notes.new
+            (disk_seen (D.blocks disk.old) (D.plan disk.old) (D.faults disk.old))
+            (disk_seen (D.blocks disk.new) (D.plan disk.new) (D.faults disk.new)) }
         ensures same_size { D.block_count disk.new ≡ D.block_count disk.old }
     {
         soundness::ready_in_place::<C::Meaning>();
@@ -241,13 +266,15 @@ impl<C: Calls> Running<C> {
     )
         requires process { p < 16 }
         requires level { d < length (chain_of self.old p).levels }
-        requires running { IsRunning (λ b. seen (b.vtable, b.value)) (λ w. C.caller w) self.old }
-        requires stood { Stood C.Meaning.meaning (placed_of (λ b. seen (b.vtable, b.value)) (λ w. C.stage w) self.old) }
+        requires running { IsRunning C.caller self.old }
+        requires stood { Stood C.Meaning.meaning (placed_of C.stage self.old) }
         requires disk { self.old.store.size ≡ D.block_count disk.old }
-        ensures did { Did (placed_drop C.Meaning.meaning p d cause) (placed_of (λ b. seen (b.vtable, b.value)) (λ w. C.stage w) self.old) (placed_of (λ b. seen (b.vtable, b.value)) (λ w. C.stage w) self.new) notes.old notes.new
-            (disk_seen (D.blocks disk.old) (D.plan disk.old) (D.faults disk.old)) (disk_seen (D.blocks disk.new) (D.plan disk.new) (D.faults disk.new)) }
-        ensures running { IsRunning (λ b. seen (b.vtable, b.value)) (λ w. C.caller w) self.new }
-        ensures stood { Stood C.Meaning.meaning (placed_of (λ b. seen (b.vtable, b.value)) (λ w. C.stage w) self.new) }
+        ensures did { Did (placed_drop C.Meaning.meaning p d cause) (placed_of C.stage self.old)
+            (placed_of C.stage self.new) notes.old notes.new
+            (disk_seen (D.blocks disk.old) (D.plan disk.old) (D.faults disk.old))
+            (disk_seen (D.blocks disk.new) (D.plan disk.new) (D.faults disk.new)) }
+        ensures running { IsRunning C.caller self.new }
+        ensures stood { Stood C.Meaning.meaning (placed_of C.stage self.new) }
         ensures world { world_of_store self.new.store ≡ world_of_store self.old.store }
         ensures clock { self.new.clock ≡ self.old.clock }
         ensures same_size { D.block_count disk.new ≡ D.block_count disk.old }

@@ -19,6 +19,7 @@ use crate::running::Running;
 use call_pieces::Calls;
 use disk_log::DiskLog;
 use graft_calls::Needs;
+use graft_points::Policy;
 use kernel_model::Need;
 use lock_table::{Holds, LockTable};
 use vino_base::Disk;
@@ -63,14 +64,14 @@ fn is_same_grip(a: Grip, b: Grip) -> bool
     a == b
 }
 
-impl<C: Calls> Running<C> {
+impl<C: Calls, B: Policy> Running<C, B> {
     /// What the next instruction of process p's call needs, which is in a graft.
     pub fn instruction_needs(&self, p: u8) -> Needs
         requires process { p < 16 }
-        requires call { is_some (call_at (λ w. C.stage w) self.now p) ≡ true }
-        requires level { has_some ((placed_of (λ b. seen (b.vtable, b.value)) (λ w. C.stage w) self.now).levels p) ≡ true }
-        requires running { IsRunning (λ b. seen (b.vtable, b.value)) (λ w. C.caller w) self.now }
-        ensures value { result ≡ placed_needs C.Meaning.meaning (placed_of (λ b. seen (b.vtable, b.value)) (λ w. C.stage w) self.now) p }
+        requires call { is_some (call_at C.stage self.now p) ≡ true }
+        requires level { has_some ((placed_of C.stage self.now).levels p) ≡ true }
+        requires running { IsRunning C.caller self.now }
+        ensures value { result ≡ placed_needs C.Meaning.meaning (placed_of C.stage self.now) p }
         ensures range { All (λ (n : Needed). IsInRange n.object) result }
     {
         flight(&self.calls, p)
@@ -89,21 +90,24 @@ impl<C: Calls> Running<C> {
         notes: &mut Notes,
     ) -> bool
         requires process { p < 16 }
-        requires call { is_some (call_at (λ w. C.stage w) self.old p) ≡ true }
-        requires level { has_some ((placed_of (λ b. seen (b.vtable, b.value)) (λ w. C.stage w) self.old).levels p) ≡ true }
-        requires free { placed_blocker C.Meaning.meaning (placed_of (λ b. seen (b.vtable, b.value)) (λ w. C.stage w) self.old) p ≡ None }
-        requires running { IsRunning (λ b. seen (b.vtable, b.value)) (λ w. C.caller w) self.old }
-        requires stood { Stood C.Meaning.meaning (placed_of (λ b. seen (b.vtable, b.value)) (λ w. C.stage w) self.old) }
+        requires call { is_some (call_at C.stage self.old p) ≡ true }
+        requires level { has_some ((placed_of C.stage self.old).levels p) ≡ true }
+        requires free { placed_blocker C.Meaning.meaning (placed_of C.stage self.old) p ≡ None }
+        requires running { IsRunning C.caller self.old }
+        requires stood { Stood C.Meaning.meaning (placed_of C.stage self.old) }
         requires disk { self.old.store.size ≡ D.block_count disk.old }
-        requires needs { let x = placed_of (λ b. seen (b.vtable, b.value)) (λ w. C.stage w) self.old in
+        requires needs { let x = placed_of C.stage self.old in
             needs.now ≡ placed_needs C.Meaning.meaning x p }
         requires range { All (λ (n : Needed). IsInRange n.object) needs.now }
         requires few { length needs.now ≤ 3 }
-        ensures kept { result ≡ true → KeepsHolds C.Meaning.meaning (placed_of (λ b. seen (b.vtable, b.value)) (λ w. C.stage w) self.old) (placed_of (λ b. seen (b.vtable, b.value)) (λ w. C.stage w) self.new) p }
-        ensures did { Did (placed_step C.Meaning.meaning p) (placed_of (λ b. seen (b.vtable, b.value)) (λ w. C.stage w) self.old) (placed_of (λ b. seen (b.vtable, b.value)) (λ w. C.stage w) self.new) notes.old notes.new
-            (disk_seen (D.blocks disk.old) (D.plan disk.old) (D.faults disk.old)) (disk_seen (D.blocks disk.new) (D.plan disk.new) (D.faults disk.new)) }
-        ensures running { IsRunning (λ b. seen (b.vtable, b.value)) (λ w. C.caller w) self.new }
-        ensures stood { Stood C.Meaning.meaning (placed_of (λ b. seen (b.vtable, b.value)) (λ w. C.stage w) self.new) }
+        ensures kept { result ≡ true → KeepsHolds C.Meaning.meaning (placed_of C.stage self.old)
+            (placed_of C.stage self.new) p }
+        ensures did { Did (placed_step C.Meaning.meaning p) (placed_of C.stage self.old)
+            (placed_of C.stage self.new) notes.old notes.new
+            (disk_seen (D.blocks disk.old) (D.plan disk.old) (D.faults disk.old))
+            (disk_seen (D.blocks disk.new) (D.plan disk.new) (D.faults disk.new)) }
+        ensures running { IsRunning C.caller self.new }
+        ensures stood { Stood C.Meaning.meaning (placed_of C.stage self.new) }
         ensures world { world_of_store self.new.store ≡ world_of_store self.old.store }
         ensures clock { self.new.clock ≡ self.old.clock }
         ensures same_size { D.block_count disk.new ≡ D.block_count disk.old }

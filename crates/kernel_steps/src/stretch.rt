@@ -9,24 +9,25 @@ ghost use Rattle.kernel_steps.specs.Views.{placed_of, IsRunning, Stood};
 
 use crate::running::Running;
 use call_pieces::Calls;
+use graft_points::Policy;
 use placed_laws::{agreeing, stretching};
 
-impl<C: Calls> Running<C> {
+impl<C: Calls, B: Policy> Running<C, B> {
     /// A stretch of process p's call, which is in a graft and doesn't wait: at most n quiet instructions, which each go
     /// on and call nothing, or only read an object that their level holds already. How many there were. It may stop
     /// early, even at none.
     pub fn stretch(&mut self, p: u8, n: u32) -> u32
         requires process { p < 16 }
-        requires level { let x = placed_of (λ b. seen (b.vtable, b.value)) (λ w. C.stage w) self.old in
+        requires level { let x = placed_of C.stage self.old in
             has_some (x.levels p) ≡ true }
-        requires away { in_order p (placed_of (λ b. seen (b.vtable, b.value)) (λ w. C.stage w) self.old).order ≡ false }
-        requires running { IsRunning (λ b. seen (b.vtable, b.value)) (λ w. C.caller w) self.old }
-        requires stood { Stood C.Meaning.meaning (placed_of (λ b. seen (b.vtable, b.value)) (λ w. C.stage w) self.old) }
+        requires away { in_order p (placed_of C.stage self.old).order ≡ false }
+        requires running { IsRunning C.caller self.old }
+        requires stood { Stood C.Meaning.meaning (placed_of C.stage self.old) }
         ensures most { result ≤ n }
-        ensures is { let x = placed_of (λ b. seen (b.vtable, b.value)) (λ w. C.stage w) self.old in
-            IsStretched x (placed_of (λ b. seen (b.vtable, b.value)) (λ w. C.stage w) self.new) p result }
-        ensures running { IsRunning (λ b. seen (b.vtable, b.value)) (λ w. C.caller w) self.new }
-        ensures stood { Stood C.Meaning.meaning (placed_of (λ b. seen (b.vtable, b.value)) (λ w. C.stage w) self.new) }
+        ensures is { let x = placed_of C.stage self.old in
+            IsStretched x (placed_of C.stage self.new) p result }
+        ensures running { IsRunning C.caller self.new }
+        ensures stood { Stood C.Meaning.meaning (placed_of C.stage self.new) }
         ensures world { world_of_store self.new.store ≡ world_of_store self.old.store }
         ensures clock { self.new.clock ≡ self.old.clock }
     {

@@ -16,6 +16,7 @@ ghost use Rattle.kernel_steps.specs.Views.{placed_of, IsRunning, Stood, Goes};
 use crate::order::{Blocking, Order, Waiting};
 use crate::running::Running;
 use call_pieces::Calls;
+use graft_points::Policy;
 use kernel_model::Object;
 
 /// Whether two objects are one.
@@ -87,7 +88,8 @@ fn kind_of(object: Object) -> u8
 
 /// Whether an entry's count has reached the patience of its blocker's kind.
 fn is_over(patience: &[u32; 8], waiting: Waiting) -> bool
-    ensures { (v : World) → v.patience ≡ patience_of patience.now → result ≡ is_over_by v (entry_of waiting) (entry_of waiting).blocker }
+    ensures { (v : World) → v.patience ≡ patience_of patience.now →
+        result ≡ is_over_by v (entry_of waiting) (entry_of waiting).blocker }
 {
     match waiting.blocker {
         Some(blocking) => patience[kind_of(blocking.object) as usize] <= waiting.count,
@@ -97,7 +99,8 @@ fn is_over(patience: &[u32; 8], waiting: Waiting) -> bool
 
 /// The first entry whose count has reached the patience.
 pub(crate) fn first_over(patience: &[u32; 8], entries: &[Waiting]) -> Option<Waiting>
-    ensures { (v : World) → v.patience ≡ patience_of patience.now → option_map entry_of result ≡ expired_by v (order_of entries.now) }
+    ensures { (v : World) → v.patience ≡ patience_of patience.now →
+        option_map entry_of result ≡ expired_by v (order_of entries.now) }
 {
     let Some((first, rest)) = entries.split_first() else {
         return None;
@@ -108,13 +111,13 @@ pub(crate) fn first_over(patience: &[u32; 8], entries: &[Waiting]) -> Option<Wai
     first_over(patience, rest)
 }
 
-impl<C: Calls> Running<C> {
+impl<C: Calls, B: Policy> Running<C, B> {
     /// The first of these entries that nothing blocks.
     fn first_free_of(&self, entries: &[Waiting]) -> Option<u8>
         requires processes { are_processes entries.now ≡ true }
-        requires running { IsRunning (λ b. seen (b.vtable, b.value)) (λ w. C.caller w) self.now }
-        requires stood { Stood C.Meaning.meaning (placed_of (λ b. seen (b.vtable, b.value)) (λ w. C.stage w) self.now) }
-        ensures { result ≡ placed_first_free C.Meaning.meaning (placed_of (λ b. seen (b.vtable, b.value)) (λ w. C.stage w) self.now) (order_of entries.now) }
+        requires running { IsRunning C.caller self.now }
+        requires stood { Stood C.Meaning.meaning (placed_of C.stage self.now) }
+        ensures { result ≡ placed_first_free C.Meaning.meaning (placed_of C.stage self.now) (order_of entries.now) }
     {
         let Some((first, rest)) = entries.split_first() else {
             return None;
@@ -129,10 +132,14 @@ impl<C: Calls> Running<C> {
     fn rested_from(&self, entries: &[Waiting], done: Order) -> Order
         requires processes { are_processes entries.now ≡ true }
         requires room { length done + length entries.now ≤ 16 }
-        requires running { IsRunning (λ b. seen (b.vtable, b.value)) (λ w. C.caller w) self.now }
-        requires stood { Stood C.Meaning.meaning (placed_of (λ b. seen (b.vtable, b.value)) (λ w. C.stage w) self.now) }
-        ensures value { order_of result ≡ order_of done ++ placed_rested_order C.Meaning.meaning (placed_of (λ b. seen (b.vtable, b.value)) (λ w. C.stage w) self.now) (order_of entries.now) }
-        ensures counts { counts_within self.now.clock done ≡ true → counts_within self.now.clock entries.now ≡ true → counts_within self.now.clock result ≡ true }
+        requires running { IsRunning C.caller self.now }
+        requires stood { Stood C.Meaning.meaning (placed_of C.stage self.now) }
+        ensures value { order_of result ≡ order_of done
+            ++ placed_rested_order C.Meaning.meaning (placed_of C.stage self.now)
+            (order_of entries.now) }
+        ensures counts { counts_within self.now.clock done ≡ true →
+            counts_within self.now.clock entries.now ≡ true →
+            counts_within self.now.clock result ≡ true }
         ensures processes { are_processes done ≡ true → are_processes result ≡ true }
         ensures numbers { numbers_of result ≡ numbers_of done ++ numbers_of entries.now }
     {
@@ -146,20 +153,20 @@ impl<C: Calls> Running<C> {
 
     /// The process of the first call in the order that nothing blocks.
     pub fn first_free(&self) -> Option<u8>
-        requires running { IsRunning (λ b. seen (b.vtable, b.value)) (λ w. C.caller w) self.now }
-        requires stood { Stood C.Meaning.meaning (placed_of (λ b. seen (b.vtable, b.value)) (λ w. C.stage w) self.now) }
-        ensures { let x = placed_of (λ b. seen (b.vtable, b.value)) (λ w. C.stage w) self.now in result ≡ placed_first_free C.Meaning.meaning x x.order }
+        requires running { IsRunning C.caller self.now }
+        requires stood { Stood C.Meaning.meaning (placed_of C.stage self.now) }
+        ensures { let x = placed_of C.stage self.now in result ≡ placed_first_free C.Meaning.meaning x x.order }
     {
         self.first_free_of(self.order.entries())
     }
 
     /// The order is told its blockers.
     pub fn rest(&mut self)
-        requires running { IsRunning (λ b. seen (b.vtable, b.value)) (λ w. C.caller w) self.old }
-        requires stood { Stood C.Meaning.meaning (placed_of (λ b. seen (b.vtable, b.value)) (λ w. C.stage w) self.old) }
-        ensures value { let x = placed_of (λ b. seen (b.vtable, b.value)) (λ w. C.stage w) self.old in
-            Goes (with_placed_order (placed_rested_order C.Meaning.meaning x x.order)) x (placed_of (λ b. seen (b.vtable, b.value)) (λ w. C.stage w) self.new) }
-        ensures running { IsRunning (λ b. seen (b.vtable, b.value)) (λ w. C.caller w) self.new }
+        requires running { IsRunning C.caller self.old }
+        requires stood { Stood C.Meaning.meaning (placed_of C.stage self.old) }
+        ensures value { let x = placed_of C.stage self.old in
+            Goes (with_placed_order (placed_rested_order C.Meaning.meaning x x.order)) x (placed_of C.stage self.new) }
+        ensures running { IsRunning C.caller self.new }
     {
         if self.order.is_empty() {
             return;
@@ -170,7 +177,7 @@ impl<C: Calls> Running<C> {
 
     /// The first entry of the order whose count has reached the patience with its blocker's kind of object.
     pub fn expired(&self) -> Option<Waiting>
-        ensures { let x = placed_of (λ b. seen (b.vtable, b.value)) (λ w. C.stage w) self.now in option_map entry_of result ≡ expired_by x.world x.order }
+        ensures { let x = placed_of C.stage self.now in option_map entry_of result ≡ expired_by x.world x.order }
     {
         first_over(&self.store.setup.patience, self.order.entries())
     }

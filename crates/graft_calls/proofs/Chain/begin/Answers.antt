@@ -19,7 +19,7 @@ use Rattle.graft_calls.proofs.Chain.begin.Goals as goal
 pub returns-clause-value : goal.returns-clause-value
 returns-clause-value g c =
     let s = c.args.store.now in
-    let w = objects_of (λ b. (goal.Policy-dyn g (b.vtable, b.value)).seen b.value) s in
+    let w = objects_of s in
     let images = table_of c.args.images.now in
     let q = c.args.at.now.installer in
     let pt = c.args.at.now.point in
@@ -42,8 +42,8 @@ returns-clause-in_place g c =
     let q = c.args.at.now.installer in
     let pt = c.args.at.now.point in
     record {
-      placed = begun_placed (λ b. (goal.Policy-dyn g (b.vtable, b.value)).seen b.value) s c.begin_level.new.store c.args.locks.now c.touch_needs.new.locks c.args.p c.args.self.now.levels
-          c.begin_level.new.chain.levels c.args.self.now.undo c.begin_level.new.chain.undo c.requires.placed (omega (arith, few)) c.begin_level.ensures.sound c.begin_level.ensures.objects c.begin_level.ensures.count
+      placed = begun_placed s c.begin_level.new.store c.args.locks.now c.touch_needs.new.locks c.args.p c.args.self.now.levels
+          c.begin_level.new.chain.levels c.args.self.now.undo c.begin_level.new.chain.undo c.requires.placed (omega (arith, few)) c.begin_level.ensures.objects c.begin_level.ensures.count
           c.begin_level.ensures.log
           (c.begin_level.ensures.levels_sound c.requires.placed.levels c.requires.owner c.requires.point c.requires.lives (ap (λ (x : List GraftLevel). is_running_in x q pt) c.requires.none))
           (λ d o le. ap (λ (x : LockTable). x c.args.p d o) c.touch_needs.ensures

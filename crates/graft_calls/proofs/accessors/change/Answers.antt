@@ -28,11 +28,11 @@ pub returns-then-not-charge_record-clause-step : goal.returns-then-not-charge_re
 returns-then-not-charge_record-clause-step g c =
     let s = c.args.store.now in
     let v = world_of_store s in
-    let w = objects_of (λ b. (goal.Policy-dyn g (b.vtable, b.value)).seen b.value) s in
+    let w = objects_of s in
     let gs = c.args.level ∷ c.args.chain.now.levels in
     let log = c.args.chain.now.undo in
-    let l = level_of (λ b. (goal.Policy-dyn g (b.vtable, b.value)).seen b.value) s c.args.locks.now c.args.chain.now c.args.p c.args.level in
-    let ls = outer_of (λ b. (goal.Policy-dyn g (b.vtable, b.value)).seen b.value) s c.args.locks.now c.args.chain.now c.args.p in
+    let l = level_of s c.args.locks.now c.args.chain.now c.args.p c.args.level in
+    let ls = outer_of s c.args.locks.now c.args.chain.now c.args.p in
     let spent = funds w.accounts l.owner l.point Records == 0 || length (records_of log) == 64 in
     let same : is_record_spent w.accounts l ls ≡ spent =
     ap (λ n. funds w.accounts l.owner l.point Records == 0 || n == 64) (record_count_is c.args.p s.ram (held c.args.locks.now) gs log w.things c.requires.placed.as_many) in
@@ -50,12 +50,12 @@ pub returns-clause-step : goal.returns-clause-step
 returns-clause-step g c =
     let s = c.args.store.now in
     let v = world_of_store s in
-    let w = objects_of (λ b. (goal.Policy-dyn g (b.vtable, b.value)).seen b.value) s in
-    let u = objects_of (λ b. (goal.Policy-dyn g (b.vtable, b.value)).seen b.value) c.apply.new.self in
+    let w = objects_of s in
+    let u = objects_of c.apply.new.self in
     let gs = c.args.level ∷ c.args.chain.now.levels in
     let log = c.args.chain.now.undo in
-    let l = level_of (λ b. (goal.Policy-dyn g (b.vtable, b.value)).seen b.value) s c.args.locks.now c.args.chain.now c.args.p c.args.level in
-    let ls = outer_of (λ b. (goal.Policy-dyn g (b.vtable, b.value)).seen b.value) s c.args.locks.now c.args.chain.now c.args.p in
+    let l = level_of s c.args.locks.now c.args.chain.now c.args.p c.args.level in
+    let ls = outer_of s c.args.locks.now c.args.chain.now c.args.p in
     let q = c.args.level.owner in
     let a = access c.args.id (l.machine.regs 0) (l.machine.regs 1) (l.machine.regs 2) q w.things in
     let after = things_after a w.things in
@@ -79,8 +79,8 @@ pub returns-clause-placed : goal.returns-clause-placed
 returns-clause-placed g c =
     let s = c.args.store.now in
     let log = c.args.chain.now.undo in
-    touched_placed (λ b. (goal.Policy-dyn g (b.vtable, b.value)).seen b.value) s c.apply.new.self c.args.locks.now c.touch.new.self c.args.p c.count.result c.args.need.object c.args.need.mode
-    c.args.level c.args.chain.now.levels c.go_on.new.levels log c.record.new.undo c.requires.placed c.apply.ensures.sound
+    touched_placed s c.apply.new.self c.args.locks.now c.touch.new.self c.args.p c.count.result c.args.need.object c.args.need.mode
+    c.args.level c.args.chain.now.levels c.go_on.new.levels log c.record.new.undo c.requires.placed
     c.apply.ensures.living c.go_on.ensures.count (c.go_on.ensures.sound _ c.requires.placed.levels) c.touch.ensures c.count.ensures.value
     (ap length c.record.ensures ∙ record_length c.args.inverse_is log)
     (more_undoable c.args.inverse_is log c.record.new.undo _ c.record.ensures (c.apply.ensures.kept c.args.inverse_is c.requires.undoable)

@@ -22,9 +22,9 @@ pub returns-then-not-charge_lock-clause-step : goal.returns-then-not-charge_lock
 returns-then-not-charge_lock-clause-step g c =
     let s = c.args.store.now in
     let v = world_of_store s in
-    let w = objects_of (λ b. (goal.Policy-dyn g (b.vtable, b.value)).seen b.value) s in
-    let l = level_of (λ b. (goal.Policy-dyn g (b.vtable, b.value)).seen b.value) s c.args.locks.now c.args.chain.now c.args.p c.args.level in
-    let ls = outer_of (λ b. (goal.Policy-dyn g (b.vtable, b.value)).seen b.value) s c.args.locks.now c.args.chain.now c.args.p in
+    let w = objects_of s in
+    let l = level_of s c.args.locks.now c.args.chain.now c.args.p c.args.level in
+    let ls = outer_of s c.args.locks.now c.args.chain.now c.args.p in
     let due = c.is_lock_due-due.result in
     ap (λ b. came (after_result v w l ls l.machine c.args.id c.args.result_is b))
     (sym (c.is_lock_due-due.ensures ∙ due_is c.args.id (l.machine.regs 0) c.args.p s.ram (held c.args.locks.now) (c.args.level ∷ c.args.chain.now.levels) c.args.chain.now.undo w.things
@@ -43,11 +43,11 @@ pub returns-clause-step : goal.returns-clause-step
 returns-clause-step g c =
     let s = c.args.store.now in
     let v = world_of_store s in
-    let w = objects_of (λ b. (goal.Policy-dyn g (b.vtable, b.value)).seen b.value) s in
+    let w = objects_of s in
     let u = with_accounts (accounts_of c.charge_lock.new.accounts) w in
     let log = c.args.chain.now.undo in
-    let l = level_of (λ b. (goal.Policy-dyn g (b.vtable, b.value)).seen b.value) s c.args.locks.now c.args.chain.now c.args.p c.args.level in
-    let ls = outer_of (λ b. (goal.Policy-dyn g (b.vtable, b.value)).seen b.value) s c.args.locks.now c.args.chain.now c.args.p in
+    let l = level_of s c.args.locks.now c.args.chain.now c.args.p c.args.level in
+    let ls = outer_of s c.args.locks.now c.args.chain.now c.args.p in
     let due = c.is_lock_due-due.result in
     ap (λ b. came (after_result v w l ls l.machine c.args.id c.args.result_is b))
     (sym (c.is_lock_due-due.ensures ∙ due_is c.args.id (l.machine.regs 0) c.args.p s.ram (held c.args.locks.now) (c.args.level ∷ c.args.chain.now.levels) log w.things
@@ -61,9 +61,10 @@ returns-clause-step g c =
 pub returns-clause-placed : goal.returns-clause-placed
 returns-clause-placed g c =
     let s = c.args.store.now in
-    touched_placed (λ b. (goal.Policy-dyn g (b.vtable, b.value)).seen b.value) s (record s { accounts = c.charge_lock.new.accounts }) c.args.locks.now c.touch.new.self c.args.p c.count.result c.args.need.object c.args.need.mode
-    c.args.level c.args.chain.now.levels c.go_on.new.levels c.args.chain.now.undo c.args.chain.now.undo c.requires.placed (record { fits = c.requires.placed.store.fits; shelf = c.requires.placed.store.shelf })
-    (λ q. refl) c.go_on.ensures.count (c.go_on.ensures.sound _ c.requires.placed.levels) c.touch.ensures c.count.ensures.value refl c.requires.placed.undoable
+    let h = touched_placed s (record s { accounts = c.charge_lock.new.accounts }) c.args.locks.now c.touch.new.self c.args.p c.count.result c.args.need.object c.args.need.mode
+    c.args.level c.args.chain.now.levels c.go_on.new.levels c.args.chain.now.undo c.args.chain.now.undo c.requires.placed
+    (λ q. refl) c.go_on.ensures.count (c.go_on.ensures.sound _ c.requires.placed.levels) c.touch.ensures c.count.ensures.value refl c.requires.placed.undoable in
+    record { process = h.process; few = h.few; as_many = h.as_many; unheld = h.unheld; levels = h.levels; undoable = h.undoable }
 
 pub returns-clause-inside : goal.returns-clause-inside
 returns-clause-inside g c = λ images h.

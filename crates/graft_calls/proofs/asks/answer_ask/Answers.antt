@@ -23,7 +23,7 @@ pub returns-then-is_none-clause-in_place : goal.returns-then-is_none-clause-in_p
 returns-then-is_none-clause-in_place g c =
     let h = c.requires.in_place in
     record {
-      placed = levels_placed (λ b. (goal.Policy-dyn g (b.vtable, b.value)).seen b.value) c.args.store.now c.args.locks.now c.args.p c.args.chain.now.levels c.give_answer.new.levels c.args.chain.now.undo h.placed c.give_answer.ensures.count
+      placed = levels_placed c.args.store.now c.args.locks.now c.args.p c.args.chain.now.levels c.give_answer.new.levels c.args.chain.now.undo h.placed c.give_answer.ensures.count
           (c.give_answer.ensures.sound (queue_of c.args.store.now) h.placed.levels);
       inside = c.give_answer.ensures.inside (table_of c.args.images.now) (accounts_of c.args.store.now.accounts) c.args.p h.inside;
       loaded = h.loaded;
@@ -39,12 +39,12 @@ pub returns-clause-step : goal.returns-clause-step
 returns-clause-step g c =
     let s = c.args.store.now in
     let v = world_of_store s in
-    let w = objects_of (λ b. (goal.Policy-dyn g (b.vtable, b.value)).seen b.value) s in
+    let w = objects_of s in
     let images = table_of c.args.images.now in
     let a = accounts_of s.accounts in
     let t = held c.args.locks.now in
     let gs = c.args.chain.now.levels in
-    let ls = levels_of (λ b. (goal.Policy-dyn g (b.vtable, b.value)).seen b.value) s c.args.locks.now c.args.chain.now c.args.p in
+    let ls = levels_of s c.args.locks.now c.args.chain.now c.args.p in
     let some : is_some (a.graft c.args.q c.args.pt) ≡ true = stands_by (a.graft c.args.q c.args.pt) c.graft.result c.graft.ensures c.if-is_none.ensures in
     let none : t c.args.p (length gs) ≡ untouched = nothing_held t c.args.p (length gs) (λ o. c.requires.in_place.placed.unheld (length gs) o (omega arith)) in
     ap came (asked_begins v images w c.args.p c.args.q c.args.pt ls (a.graft c.args.q c.args.pt) some)
@@ -62,8 +62,8 @@ returns-clause-in_place g c =
     let some : is_some (a.graft c.args.q c.args.pt) ≡ true = stands_by (a.graft c.args.q c.args.pt) c.graft.result c.graft.ensures c.if-is_none.ensures in
     let room = c.requires.room (λ (e : a.graft c.args.q c.args.pt ≡ None). is_nothing _ e some) in
     record {
-      placed = begun_placed (λ b. (goal.Policy-dyn g (b.vtable, b.value)).seen b.value) c.args.store.now c.begin_level.new.store c.args.locks.now c.args.locks.now c.args.p c.args.chain.now.levels c.begin_level.new.chain.levels
-          c.args.chain.now.undo c.begin_level.new.chain.undo h.placed room c.begin_level.ensures.sound c.begin_level.ensures.objects c.begin_level.ensures.count c.begin_level.ensures.log
+      placed = begun_placed c.args.store.now c.begin_level.new.store c.args.locks.now c.args.locks.now c.args.p c.args.chain.now.levels c.begin_level.new.chain.levels
+          c.args.chain.now.undo c.begin_level.new.chain.undo h.placed room c.begin_level.ensures.objects c.begin_level.ensures.count c.begin_level.ensures.log
           (c.begin_level.ensures.levels_sound h.placed.levels c.requires.owner c.requires.point c.requires.lives c.requires.free)
           (λ d o le. h.placed.unheld d o (omega (arith, le)));
       inside = subst (λ (x : Objects). AreInside (table_of c.args.images.now) x.accounts c.args.p c.begin_level.new.chain.levels) (sym c.begin_level.ensures.objects)

@@ -31,7 +31,7 @@ answer_ask-requires-clause-in_place g c =
     let gs = c.args.level ∷ c.args.chain.now.levels in
     let count = c.count.ensures.value in
     record {
-      placed = locks_placed (λ b. (goal.Policy-dyn g (b.vtable, b.value)).seen b.value) c.args.store.now c.args.locks.now c.touch_asked.new.locks c.args.p gs c.push.new.self c.args.chain.now.undo h.placed c.push.ensures
+      placed = locks_placed c.args.store.now c.args.locks.now c.touch_asked.new.locks c.args.p gs c.push.new.self c.args.chain.now.undo h.placed c.push.ensures
           (λ d o le. ap (λ (x : Touched). x o)
           (asked_apart c.args.id c.reg-r0.result c.args.level.owner c.args.p c.count.result c.args.p d (held c.args.locks.now) (held c.touch_asked.new.locks) c.touch_asked.ensures
           (grind (arith, nat_tests, le)) (grind (arith, nat_tests, le, count)))
@@ -44,14 +44,14 @@ pub returns-clause-step : goal.returns-clause-step
 returns-clause-step g c =
     let s = c.args.store.now in
     let v = world_of_store s in
-    let w = objects_of (λ b. (goal.Policy-dyn g (b.vtable, b.value)).seen b.value) s in
+    let w = objects_of s in
     let images = table_of c.args.images.now in
     let t = held c.args.locks.now in
     let p = c.args.p in
     let id = c.args.id in
     let q = c.args.level.owner in
-    let l = level_of (λ b. (goal.Policy-dyn g (b.vtable, b.value)).seen b.value) s c.args.locks.now c.args.chain.now p c.args.level in
-    let ls = outer_of (λ b. (goal.Policy-dyn g (b.vtable, b.value)).seen b.value) s c.args.locks.now c.args.chain.now p in
+    let l = level_of s c.args.locks.now c.args.chain.now p c.args.level in
+    let ls = outer_of s c.args.locks.now c.args.chain.now p in
     let pt = c.asked_point-pt.result in
     let point : pt ≡ asked_point id (l.machine.regs 0) = c.asked_point-pt.ensures.value ∙ ap (asked_point id) c.reg-r0.ensures in
     let held_is = c.touch_asked.ensures ∙ ap (λ x. with_touch p 0 (asked_graft id x q).object Mode.Exclusive (needs_touched p c.count.result (asked_objects id x q) t)) c.reg-r0.ensures in

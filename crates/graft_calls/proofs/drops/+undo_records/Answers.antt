@@ -9,4 +9,4 @@ undo_records-requires g t c =
     let h = popped c.in-Some.inverse c.args.undo.now c.pop.new.self c.in-Some.ensures.value c.in-Some.ensures.rest in
     let less : length (innermost c.pop.new.self) < length (innermost c.args.undo.now) = omega (arith, ap length h.records) in
     let falls : length (innermost c.pop.new.self) < t = omega (arith, less, c.decreases) in
-    (falls, (h.level, (c.undo.ensures.sound, rest_kept c.in-Some.inverse (innermost c.args.undo.now) (innermost c.pop.new.self) _ _ h.records c.undo.ensures.kept c.requires.undoable)))
+    λ κs alive. (falls, (alive, (h.level, rest_kept c.in-Some.inverse (innermost c.args.undo.now) (innermost c.pop.new.self) _ _ h.records c.undo.ensures.kept c.requires.undoable)))

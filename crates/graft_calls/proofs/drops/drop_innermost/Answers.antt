@@ -1,4 +1,4 @@
-use Rattle.std.proofs.Common.{◌≡◌, ap, subst, sym, ◌∙◌, length}
+use Rattle.std.proofs.Common.{◌≡◌, arith, ap, subst, sym, ◌∙◌, length}
 use Rattle.kernel_model.specs.Policies.{default_of}
 use Rattle.kernel_model.specs.Levels.{answer_innermost}
 use Rattle.graft_calls.specs.Chains.{levels_in, put_back_on}
@@ -11,15 +11,14 @@ use Rattle.graft_accounts.specs.Table.{accounts_of}
 use Rattle.kernel_state.specs.Stores.{world_of_store, objects_of}
 use Rattle.graft_calls.specs.Calls.{AreInside}
 use Rattle.graft_calls.proofs.Conditions.{inside_removed, loaded_removed}
-use Rattle.graft_calls.proofs.Placing.{accounts_placed, levels_placed}
 use Rattle.graft_calls.proofs.Dropping.{dropped, removed_after}
 use Rattle.graft_calls.proofs.drops.drop_innermost.Goals as goal
 
 pub returns-clause-step : goal.returns-clause-step
 returns-clause-step g c =
-    let w = objects_of (λ b. (goal.Policy-dyn g (b.vtable, b.value)).seen b.value) c.args.store.now in
-    let one = objects_of (λ b. (goal.Policy-dyn g (b.vtable, b.value)).seen b.value) c.end_level.new.store in
-    let u = objects_of (λ b. (goal.Policy-dyn g (b.vtable, b.value)).seen b.value) (record (c.end_level.new.store) { accounts = c.remove.new.self }) in
+    let w = objects_of c.args.store.now in
+    let one = objects_of c.end_level.new.store in
+    let u = objects_of (record (c.end_level.new.store) { accounts = c.remove.new.self }) in
     let v = world_of_store c.args.store.now in
     let g1 = c.args.level in
     let state : u ≡ with_accounts (removed g1.owner g1.point w.accounts) (put_back_on (innermost c.args.chain.now.undo) w) =
@@ -35,9 +34,16 @@ returns-clause-step g c =
 
 pub returns-clause-placed : goal.returns-clause-placed
 returns-clause-placed g c =
-    levels_placed (λ b. (goal.Policy-dyn g (b.vtable, b.value)).seen b.value) _ _ _ _ _ _
-    (accounts_placed (λ b. (goal.Policy-dyn g (b.vtable, b.value)).seen b.value) c.end_level.new.store _ _ _ _ c.remove.new.self c.end_level.ensures.placed)
-    c.give_answer.ensures.count (c.give_answer.ensures.sound _ c.end_level.ensures.placed.levels)
+    let h = c.end_level.ensures.placed in
+    let count = c.give_answer.ensures.count in
+    record {
+      process = h.process;
+      few = omega (arith, h.few, count);
+      as_many = h.as_many ∙ sym count;
+      unheld = λ d o le. h.unheld d o (omega (arith, le, count));
+      levels = c.give_answer.ensures.sound _ h.levels;
+      undoable = h.undoable;
+    }
 
 pub returns-clause-inside : goal.returns-clause-inside
 returns-clause-inside g c = λ images h.

@@ -18,12 +18,12 @@ use Rattle.kernel_state.specs.Stores.{world_of_store, objects_of, queue_of}
 use Rattle.graft_loader.specs.Slots.{table_of}
 use Rattle.graft_calls.specs.declared.GraftLevel.{GraftLevel}
 use Rattle.graft_calls.specs.Chains.{came, level_of, outer_of, level_in, levels_in, outer, put_back}
-use Rattle.graft_calls.specs.Calls.{AreInside}
-use Rattle.graft_calls.proofs.Beginning.{same_objects}
+use Rattle.graft_calls.specs.Calls.{AreInside, AllUndoable}
+use Rattle.graft_calls.proofs.Beginning.{objects_over, same_objects, memory_fits}
 use Rattle.graft_calls.proofs.Conditions.{loaded_charged}
 use Rattle.graft_calls.proofs.Memory.{same_segment}
-use Rattle.graft_calls.proofs.Placing.{accounts_placed, levels_placed, elsewhere_twice}
-use Rattle.graft_calls.proofs.Stepping.{after_done, machine_inside, spent_step, paid_step, done_alone, beyond_outside, frames_outside, count_rises, stepped_sound, stepped_inside, memory_placed}
+use Rattle.graft_calls.proofs.Placing.{elsewhere_twice}
+use Rattle.graft_calls.proofs.Stepping.{after_done, machine_inside, spent_step, paid_step, done_alone, beyond_outside, frames_outside, count_rises, stepped_sound, stepped_inside}
 use Rattle.graft_calls.proofs.Views.{levels_alike}
 use Rattle.graft_calls.proofs.instruction.run.Goals as goal
 
@@ -34,14 +34,14 @@ pub returns-then-not-charge_step-clause-step : goal.returns-then-not-charge_step
 returns-then-not-charge_step-clause-step g c =
     let s = c.args.store.now in
     let v = world_of_store s in
-    let w = objects_of (λ b. (goal.Policy-dyn g (b.vtable, b.value)).seen b.value) s in
+    let w = objects_of s in
     let images = table_of c.args.images.now in
-    let l = level_of (λ b. (goal.Policy-dyn g (b.vtable, b.value)).seen b.value) s c.args.locks.now c.args.chain.now c.args.p c.args.level in
-    let ls = outer_of (λ b. (goal.Policy-dyn g (b.vtable, b.value)).seen b.value) s c.args.locks.now c.args.chain.now c.args.p in
+    let l = level_of s c.args.locks.now c.args.chain.now c.args.p c.args.level in
+    let ls = outer_of s c.args.locks.now c.args.chain.now c.args.p in
     let a = accounts_of c.charge_step.new.accounts in
     ap came (spent_step v images c.args.p w l ls (is_spent w.accounts l) refl c.if-not-charge_step.ensures.answer)
     ∙ ap (λ (x : Accounts). came (drop_innermost v (with_accounts x w) l ls SpentSteps)) (sym c.if-not-charge_step.ensures.accounts)
-    ∙ ap (λ (x : GraftLevel). came (drop_innermost v (with_accounts a w) (level_of (λ b. (goal.Policy-dyn g (b.vtable, b.value)).seen b.value) s c.args.locks.now c.args.chain.now c.args.p x) ls SpentSteps)) (sym c.if-not-charge_step.ensures.level)
+    ∙ ap (λ (x : GraftLevel). came (drop_innermost v (with_accounts a w) (level_of s c.args.locks.now c.args.chain.now c.args.p x) ls SpentSteps)) (sym c.if-not-charge_step.ensures.level)
     ∙ c.drop_innermost.ensures.step
 
 pub returns-then-not-charge_step-clause-in_place : goal.returns-then-not-charge_step-clause-in_place
@@ -62,6 +62,9 @@ step-done-requires g c =
     subst (λ (x : GraftLevel). x.machine.pc < length c.code_of-code.result.now) (sym c.if-not-charge_step.ensures.level)
     (subst (λ (x : List Instr). c.args.level.machine.pc < length x) (sym c.code_of-code.ensures) h.place)
 
+pub invariant_of-store-2-clause-fits : goal.invariant_of-store-2-clause-fits
+invariant_of-store-2-clause-fits g c = memory_fits c.args.store.now c.step-done.new.ram
+
 pub after_machine-requires : goal.after_machine-requires
 after_machine-requires g c =
     let s = c.args.store.now in
@@ -76,17 +79,21 @@ after_machine-requires g c =
     let inside : (ram : List ℕ) → IsInside code (4 * p + n) (machine_of now.machine ram) = λ ram.
     subst (λ (x : GraftLevel). IsInside code (4 * p + n) (machine_of x.machine ram)) (sym c.if-not-charge_step.ensures.level)
     (subst (λ (x : List Instr). IsInside x (4 * p + n) (machine_of c.args.level.machine ram)) (sym c.code_of-code.ensures) (c.requires.in_place.inside.0.inside ram)) in
-    let same : objects_of (λ b. (goal.Policy-dyn g (b.vtable, b.value)).seen b.value) (record s { accounts = c.charge_step.new.accounts; ram = mem }) ≡ objects_of (λ b. (goal.Policy-dyn g (b.vtable, b.value)).seen b.value) (record s { accounts = c.charge_step.new.accounts }) =
-    same_objects (λ b. (goal.Policy-dyn g (b.vtable, b.value)).seen b.value) (record s { accounts = c.charge_step.new.accounts }) mem c.lru.ensures.sound c.byte.ensures.size c.byte-2.ensures.size
+    let same : objects_over (record s { accounts = c.charge_step.new.accounts }) mem ≡ objects_of (record s { accounts = c.charge_step.new.accounts }) =
+    same_objects (record s { accounts = c.charge_step.new.accounts }) mem c.lru.ensures.sound c.byte.ensures.size c.byte-2.ensures.size
     (λ a lt. c.step-done.ensures.contained (4 * p + n) a (inside s.ram) (frames_outside (4 * p + n) a lt)) in
     let h = c.requires.in_place in
-    let w = objects_of (λ b. (goal.Policy-dyn g (b.vtable, b.value)).seen b.value) s in
+    let w = objects_of s in
     record {
       in_place = record {
-        placed = levels_placed (λ b. (goal.Policy-dyn g (b.vtable, b.value)).seen b.value) (record s { accounts = c.charge_step.new.accounts; ram = mem }) c.args.locks.now p (c.args.level ∷ gs) (record now { machine = cpu } ∷ gs) c.args.chain.now.undo
-            (memory_placed (λ b. (goal.Policy-dyn g (b.vtable, b.value)).seen b.value) (record s { accounts = c.charge_step.new.accounts }) mem c.args.locks.now p (c.args.level ∷ gs) c.args.chain.now.undo same
-            (accounts_placed (λ b. (goal.Policy-dyn g (b.vtable, b.value)).seen b.value) s c.args.locks.now p (c.args.level ∷ gs) c.args.chain.now.undo c.charge_step.new.accounts h.placed)) refl
-            (stepped_sound (queue_of s) c.args.level now cpu gs c.if-not-charge_step.ensures.level h.placed.levels);
+        placed = record {
+          process = h.placed.process;
+          few = h.placed.few;
+          as_many = h.placed.as_many;
+          unheld = h.placed.unheld;
+          levels = stepped_sound (queue_of s) c.args.level now cpu gs c.if-not-charge_step.ensures.level h.placed.levels;
+          undoable = subst (λ (x : Objects). AllUndoable c.args.chain.now.undo x.things) (sym same) h.placed.undoable;
+        };
         inside = stepped_inside images w.accounts (accounts_of c.charge_step.new.accounts) p c.args.level now cpu gs c.if-not-charge_step.ensures.level c.if-not-charge_step.ensures.accounts
             (count_rises c.args.level.count (limit_in (w.accounts.graft c.args.level.owner c.args.level.point)) (funds w.accounts c.args.level.owner c.args.level.point Steps == 0) c.if-not-charge_step.ensures.answer h.inside.0.count)
             (λ ram. subst (λ (x : List Instr). IsInside x (4 * p + n) (machine_of cpu ram)) c.code_of-code.ensures
@@ -110,11 +117,11 @@ returns-clause-step g c =
     let inside : (ram : List ℕ) → IsInside code (4 * p + n) (machine_of now.machine ram) = λ ram.
     subst (λ (x : GraftLevel). IsInside code (4 * p + n) (machine_of x.machine ram)) (sym c.if-not-charge_step.ensures.level)
     (subst (λ (x : List Instr). IsInside x (4 * p + n) (machine_of c.args.level.machine ram)) (sym c.code_of-code.ensures) (c.requires.in_place.inside.0.inside ram)) in
-    let same : objects_of (λ b. (goal.Policy-dyn g (b.vtable, b.value)).seen b.value) (record s { accounts = c.charge_step.new.accounts; ram = mem }) ≡ objects_of (λ b. (goal.Policy-dyn g (b.vtable, b.value)).seen b.value) (record s { accounts = c.charge_step.new.accounts }) =
-    same_objects (λ b. (goal.Policy-dyn g (b.vtable, b.value)).seen b.value) (record s { accounts = c.charge_step.new.accounts }) mem c.lru.ensures.sound c.byte.ensures.size c.byte-2.ensures.size
+    let same : objects_over (record s { accounts = c.charge_step.new.accounts }) mem ≡ objects_of (record s { accounts = c.charge_step.new.accounts }) =
+    same_objects (record s { accounts = c.charge_step.new.accounts }) mem c.lru.ensures.sound c.byte.ensures.size c.byte-2.ensures.size
     (λ a lt. c.step-done.ensures.contained (4 * p + n) a (inside s.ram) (frames_outside (4 * p + n) a lt)) in
     let v = world_of_store s in
-    let w = objects_of (λ b. (goal.Policy-dyn g (b.vtable, b.value)).seen b.value) s in
+    let w = objects_of s in
     let q = c.args.level.owner in
     let pt = c.args.level.point in
     let t = held c.args.locks.now in
@@ -122,15 +129,15 @@ returns-clause-step g c =
     let is = innermost log in
     let kept = put_back is w.things in
     let base = base_of p n in
-    let l = level_of (λ b. (goal.Policy-dyn g (b.vtable, b.value)).seen b.value) s c.args.locks.now c.args.chain.now p c.args.level in
-    let ls = outer_of (λ b. (goal.Policy-dyn g (b.vtable, b.value)).seen b.value) s c.args.locks.now c.args.chain.now p in
+    let l = level_of s c.args.locks.now c.args.chain.now p c.args.level in
+    let ls = outer_of s c.args.locks.now c.args.chain.now p in
     let one = level_in p n s.ram t now is kept in
     let u = with_accounts (charge Steps q pt w.accounts) w in
     let m = machine_of now.machine s.ram in
     let k = machine_of cpu mem in
     let done = c.step-done.result in
     let two = level_in p n mem t (record now { machine = cpu }) is kept in
-    let state : objects_of (λ b. (goal.Policy-dyn g (b.vtable, b.value)).seen b.value) (record s { accounts = c.charge_step.new.accounts; ram = mem }) ≡ u = same ∙ ap (λ (x : Accounts). with_accounts x w) c.if-not-charge_step.ensures.accounts in
+    let state : objects_over (record s { accounts = c.charge_step.new.accounts }) mem ≡ u = same ∙ ap (λ (x : Accounts). with_accounts x w) c.if-not-charge_step.ensures.accounts in
     let alone = done_alone c.stays_inside.ensures code (4 * p + n) m k done (subst (λ (x : List Instr). IsBoxed x) c.code.ensures.code c.code.ensures.boxed) (inside s.ram) c.step-done.ensures.flat in
     let outside : ls ≡ levels_in p mem t gs (outer log) kept =
     sym (levels_alike p mem s.ram t t gs (outer log) kept (λ e lt. refl)
@@ -159,10 +166,10 @@ returns-clause-elsewhere g c =
     let inside : (ram : List ℕ) → IsInside code (4 * p + n) (machine_of now.machine ram) = λ ram.
     subst (λ (x : GraftLevel). IsInside code (4 * p + n) (machine_of x.machine ram)) (sym c.if-not-charge_step.ensures.level)
     (subst (λ (x : List Instr). IsInside x (4 * p + n) (machine_of c.args.level.machine ram)) (sym c.code_of-code.ensures) (c.requires.in_place.inside.0.inside ram)) in
-    let same : objects_of (λ b. (goal.Policy-dyn g (b.vtable, b.value)).seen b.value) (record s { accounts = c.charge_step.new.accounts; ram = mem }) ≡ objects_of (λ b. (goal.Policy-dyn g (b.vtable, b.value)).seen b.value) (record s { accounts = c.charge_step.new.accounts }) =
-    same_objects (λ b. (goal.Policy-dyn g (b.vtable, b.value)).seen b.value) (record s { accounts = c.charge_step.new.accounts }) mem c.lru.ensures.sound c.byte.ensures.size c.byte-2.ensures.size
+    let same : objects_over (record s { accounts = c.charge_step.new.accounts }) mem ≡ objects_of (record s { accounts = c.charge_step.new.accounts }) =
+    same_objects (record s { accounts = c.charge_step.new.accounts }) mem c.lru.ensures.sound c.byte.ensures.size c.byte-2.ensures.size
     (λ a lt. c.step-done.ensures.contained (4 * p + n) a (inside s.ram) (frames_outside (4 * p + n) a lt)) in
-    elsewhere_twice s (record s { accounts = c.charge_step.new.accounts; ram = mem }) c.after_machine.new.store c.args.locks.now c.args.locks.now c.after_machine.new.locks p
+    elsewhere_twice s _ c.after_machine.new.store c.args.locks.now c.args.locks.now c.after_machine.new.locks p
     (record {
       world = refl;
       living = λ q. refl;

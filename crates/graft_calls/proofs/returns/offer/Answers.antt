@@ -10,13 +10,12 @@ returns-clause-placed g c =
     let h = c.requires.placed in
     let count = c.complete.ensures.count in
     record {
-      store = h.store;
       process = h.process;
       few = omega (arith, h.few, count);
       as_many = merged_length c.args.chain.now.undo c.complete.new.chain.undo (length c.args.chain.now.levels) c.complete.ensures.log h.as_many ∙ sym count;
       unheld = λ d o le. c.complete.ensures.unheld d o (omega (arith, le, count)) h.unheld;
       levels = c.complete.ensures.sound (queue_of s) h.levels.2;
-      undoable = merged_undoable c.args.chain.now.undo c.complete.new.chain.undo (objects_of (λ b. (goal.Policy-dyn g (b.vtable, b.value)).seen b.value) s).things c.complete.ensures.log h.undoable;
+      undoable = merged_undoable c.args.chain.now.undo c.complete.new.chain.undo (objects_of s).things c.complete.ensures.log h.undoable;
     }
 
 pub returns-clause-inside : goal.returns-clause-inside

@@ -12,14 +12,14 @@ loop-at-preserved-then-at-places_of g c =
     let at = c.loop-at.at in
     let s = get_or sections at.section Clock in
     let here = slice_get-get_or sections at.section Clock c.loop-at-test.true in
-    section_passed (placed_of (λ b. (goal.Policy-dyn g (b.vtable, b.value)).seen b.value) (λ w. g.C.Calls.stage w) c.args.running.now) c.args.at.now at c.pass_section.new.self s c.loop-at.invariant here (omega (arith, c.if-at-places_of.true, c.places_of.ensures)) c.pass_section.ensures
+    section_passed (placed_of g.C.Calls.stage c.args.running.now) c.args.at.now at c.pass_section.new.self s c.loop-at.invariant here (omega (arith, c.if-at-places_of.true, c.places_of.ensures)) c.pass_section.ensures
 
 pub returns-then-at-count_at : goal.returns-then-at-count_at
 returns-then-at-count_at g c =
     let at = c.loop-at.at in
     let s = get_or sections at.section Clock in
     let here = slice_get-get_or sections at.section Clock c.loop-at-test.true in
-    row_taken (placed_of (λ b. (goal.Policy-dyn g (b.vtable, b.value)).seen b.value) (λ w. g.C.Calls.stage w) c.args.running.now) c.args.at.now at (record at { index = at.index + 1 }) s c.row_at.result c.loop-at.invariant here (omega (arith, c.if-at-places_of.false, c.places_of.ensures))
+    row_taken (placed_of g.C.Calls.stage c.args.running.now) c.args.at.now at (record at { index = at.index + 1 }) s c.row_at.result c.loop-at.invariant here (omega (arith, c.if-at-places_of.false, c.places_of.ensures))
     (omega (arith, c.if-at-count_at.true, c.count_at.ensures.value)) (omega (arith, c.if-at-count_at.true, c.count_at.ensures.few)) c.row_at.ensures refl
 
 pub loop-at-preserved : goal.loop-at-preserved
@@ -27,7 +27,7 @@ loop-at-preserved g c =
     let at = c.loop-at.at in
     let s = get_or sections at.section Clock in
     let here = slice_get-get_or sections at.section Clock c.loop-at-test.true in
-    place_passed (placed_of (λ b. (goal.Policy-dyn g (b.vtable, b.value)).seen b.value) (λ w. g.C.Calls.stage w) c.args.running.now) c.args.at.now at c.pass_place.new.self s c.loop-at.invariant here (omega (arith, c.if-at-places_of.false, c.places_of.ensures)) (omega (arith, c.if-at-count_at.false, c.count_at.ensures.value)) c.pass_place.ensures
+    place_passed (placed_of g.C.Calls.stage c.args.running.now) c.args.at.now at c.pass_place.new.self s c.loop-at.invariant here (omega (arith, c.if-at-places_of.false, c.places_of.ensures)) (omega (arith, c.if-at-count_at.false, c.count_at.ensures.value)) c.pass_place.ensures
 
 pub returns : goal.returns
-returns g c = none_taken (placed_of (λ b. (goal.Policy-dyn g (b.vtable, b.value)).seen b.value) (λ w. g.C.Calls.stage w) c.args.running.now) c.args.at.now c.loop-at.at c.loop-at.invariant c.loop-at-test.false
+returns g c = none_taken (placed_of g.C.Calls.stage c.args.running.now) c.args.at.now c.loop-at.at c.loop-at.invariant c.loop-at-test.false

@@ -1,4 +1,4 @@
-use Rattle.std.proofs.Common.{◌≡◌, ◌∙◌, ap, refl, Some}
+use Rattle.std.proofs.Common.{◌∙◌, ap, refl, Some}
 use Rattle.disk_log.specs.Seen.{disk_seen}
 use Rattle.kernel_model.specs.World.{World}
 use Rattle.placed_laws.specs.Keeping.{first_placed}
@@ -20,6 +20,6 @@ pub returns-clause-went : goal.returns-clause-went
 returns-clause-went g c =
     let a = c.args in
     let w = c.settle_all.ensures.went in
-    went_then g.C.Meaning.Rules.meaning (λ b. (goal.Policy-dyn g (b.vtable, b.value)).seen b.value) (λ w. g.C.Calls.stage w) (λ w. g.C.Calls.caller w) (λ r. placed_settled g.C.Meaning.Rules.meaning (placed_joins a.p (with_placed_call a.p (Some (first_placed a.number (g.C.Calls.stage a.work))) r))) (placed_last g.C.Meaning.Rules.meaning a.p) a.running.now c.settle_all.new.running c.settle_all.new.running a.notes.now c.settle_all.new.notes c.say_last.new.notes (disk_seen (g.D.Disk.blocks a.disk.now) (g.D.Disk.plan a.disk.now) (g.D.Disk.faults a.disk.now)) (disk_seen (g.D.Disk.blocks c.settle_all.new.disk) (g.D.Disk.plan c.settle_all.new.disk) (g.D.Disk.faults c.settle_all.new.disk)) (disk_seen (g.D.Disk.blocks c.settle_all.new.disk) (g.D.Disk.plan c.settle_all.new.disk) (g.D.Disk.faults c.settle_all.new.disk))
-    (went_then g.C.Meaning.Rules.meaning (λ b. (goal.Policy-dyn g (b.vtable, b.value)).seen b.value) (λ w. g.C.Calls.stage w) (λ w. g.C.Calls.caller w) (λ r. placed_joins a.p (with_placed_call a.p (Some (first_placed a.number (g.C.Calls.stage a.work))) r)) (placed_settled g.C.Meaning.Rules.meaning) a.running.now c.begin.new.running c.settle_all.new.running a.notes.now a.notes.now c.settle_all.new.notes (disk_seen (g.D.Disk.blocks a.disk.now) (g.D.Disk.plan a.disk.now) (g.D.Disk.faults a.disk.now)) (disk_seen (g.D.Disk.blocks a.disk.now) (g.D.Disk.plan a.disk.now) (g.D.Disk.faults a.disk.now)) (disk_seen (g.D.Disk.blocks c.settle_all.new.disk) (g.D.Disk.plan c.settle_all.new.disk) (g.D.Disk.faults c.settle_all.new.disk)) (c.begin.ensures.went a.notes.now (disk_seen (g.D.Disk.blocks a.disk.now) (g.D.Disk.plan a.disk.now) (g.D.Disk.faults a.disk.now))) w)
+    went_then g.C.Meaning.Rules.meaning g.C.Calls.stage g.C.Calls.caller (λ r. placed_settled g.C.Meaning.Rules.meaning (placed_joins a.p (with_placed_call a.p (Some (first_placed a.number (g.C.Calls.stage a.work))) r))) (placed_last g.C.Meaning.Rules.meaning a.p) a.running.now c.settle_all.new.running c.settle_all.new.running a.notes.now c.settle_all.new.notes c.say_last.new.notes (disk_seen (g.D.Disk.blocks a.disk.now) (g.D.Disk.plan a.disk.now) (g.D.Disk.faults a.disk.now)) (disk_seen (g.D.Disk.blocks c.settle_all.new.disk) (g.D.Disk.plan c.settle_all.new.disk) (g.D.Disk.faults c.settle_all.new.disk)) (disk_seen (g.D.Disk.blocks c.settle_all.new.disk) (g.D.Disk.plan c.settle_all.new.disk) (g.D.Disk.faults c.settle_all.new.disk))
+    (went_then g.C.Meaning.Rules.meaning g.C.Calls.stage g.C.Calls.caller (λ r. placed_joins a.p (with_placed_call a.p (Some (first_placed a.number (g.C.Calls.stage a.work))) r)) (placed_settled g.C.Meaning.Rules.meaning) a.running.now c.begin.new.running c.settle_all.new.running a.notes.now a.notes.now c.settle_all.new.notes (disk_seen (g.D.Disk.blocks a.disk.now) (g.D.Disk.plan a.disk.now) (g.D.Disk.faults a.disk.now)) (disk_seen (g.D.Disk.blocks a.disk.now) (g.D.Disk.plan a.disk.now) (g.D.Disk.faults a.disk.now)) (disk_seen (g.D.Disk.blocks c.settle_all.new.disk) (g.D.Disk.plan c.settle_all.new.disk) (g.D.Disk.faults c.settle_all.new.disk)) (c.begin.ensures.went a.notes.now (disk_seen (g.D.Disk.blocks a.disk.now) (g.D.Disk.plan a.disk.now) (g.D.Disk.faults a.disk.now))) w)
     (record { did = c.say_last.ensures.said (disk_seen (g.D.Disk.blocks c.settle_all.new.disk) (g.D.Disk.plan c.settle_all.new.disk) (g.D.Disk.faults c.settle_all.new.disk)); running = w.running; stood = w.stood; world = refl; clock = refl })

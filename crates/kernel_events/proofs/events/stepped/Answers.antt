@@ -1,4 +1,4 @@
-use Rattle.std.proofs.Common.{◌≡◌, ◌<◌, ◌∙◌, sym, refl, arith}
+use Rattle.std.proofs.Common.{◌<◌, ◌∙◌, sym, refl, arith}
 use Rattle.disk_log.specs.Seen.{disk_seen}
 use Rattle.kernel_model.specs.declared.Event.TheVariants.{Step}
 use Rattle.kernel_model.specs.declared.Note.TheVariants.{Refused}
@@ -12,8 +12,8 @@ use Rattle.kernel_events.proofs.events.stepped.Goals as goal
 pub returns-then-not-living-clause-did : goal.returns-then-not-living-clause-did
 returns-then-not-living-clause-did g c =
     let a = c.args in
-    from_did g.C.Meaning.Rules.meaning (placed_event_on g.C.Meaning.Rules.meaning a.number (Step a.p a.n)) (placed_of (λ b. (goal.Policy-dyn g (b.vtable, b.value)).seen b.value) (λ w. g.C.Calls.stage w) a.running.now) (placed_of (λ b. (goal.Policy-dyn g (b.vtable, b.value)).seen b.value) (λ w. g.C.Calls.stage w) a.running.now) a.notes.now c.push.new.self (disk_seen (g.D.Disk.blocks a.disk.now) (g.D.Disk.plan a.disk.now) (g.D.Disk.faults a.disk.now)) (disk_seen (g.D.Disk.blocks a.disk.now) (g.D.Disk.plan a.disk.now) (g.D.Disk.faults a.disk.now))
-    (went_refused g.C.Meaning.Rules.meaning (λ b. (goal.Policy-dyn g (b.vtable, b.value)).seen b.value) (λ w. g.C.Calls.stage w) (λ w. g.C.Calls.caller w) (placed_event_on g.C.Meaning.Rules.meaning a.number (Step a.p a.n)) a.running.now (Refused a.number NoProcess) a.notes.now c.push.new.self (disk_seen (g.D.Disk.blocks a.disk.now) (g.D.Disk.plan a.disk.now) (g.D.Disk.faults a.disk.now)) c.requires.running c.requires.stood (step_unliving g.C.Meaning.Rules.meaning (placed_of (λ b. (goal.Policy-dyn g (b.vtable, b.value)).seen b.value) (λ w. g.C.Calls.stage w) a.running.now) a.number a.p a.n (sym c.living.ensures.value ∙ c.if-not-living.true)) c.push.ensures).did
+    from_did g.C.Meaning.Rules.meaning (placed_event_on g.C.Meaning.Rules.meaning a.number (Step a.p a.n)) (placed_of g.C.Calls.stage a.running.now) (placed_of g.C.Calls.stage a.running.now) a.notes.now c.push.new.self (disk_seen (g.D.Disk.blocks a.disk.now) (g.D.Disk.plan a.disk.now) (g.D.Disk.faults a.disk.now)) (disk_seen (g.D.Disk.blocks a.disk.now) (g.D.Disk.plan a.disk.now) (g.D.Disk.faults a.disk.now))
+    (went_refused g.C.Meaning.Rules.meaning g.C.Calls.stage g.C.Calls.caller (placed_event_on g.C.Meaning.Rules.meaning a.number (Step a.p a.n)) a.running.now (Refused a.number NoProcess) a.notes.now c.push.new.self (disk_seen (g.D.Disk.blocks a.disk.now) (g.D.Disk.plan a.disk.now) (g.D.Disk.faults a.disk.now)) c.requires.running c.requires.stood (step_unliving g.C.Meaning.Rules.meaning (placed_of g.C.Calls.stage a.running.now) a.number a.p a.n (sym c.living.ensures.value ∙ c.if-not-living.true)) c.push.ensures).did
 
 pub returns-then-not-living-clause-on : goal.returns-then-not-living-clause-on
 returns-then-not-living-clause-on g c = record { running = c.requires.running; stood = c.requires.stood; world = refl; clock = refl }
@@ -21,8 +21,8 @@ returns-then-not-living-clause-on g c = record { running = c.requires.running; s
 pub returns-then-n-eq0-clause-did : goal.returns-then-n-eq0-clause-did
 returns-then-n-eq0-clause-did g c =
     let a = c.args in
-    from_did g.C.Meaning.Rules.meaning (placed_event_on g.C.Meaning.Rules.meaning a.number (Step a.p a.n)) (placed_of (λ b. (goal.Policy-dyn g (b.vtable, b.value)).seen b.value) (λ w. g.C.Calls.stage w) a.running.now) (placed_of (λ b. (goal.Policy-dyn g (b.vtable, b.value)).seen b.value) (λ w. g.C.Calls.stage w) a.running.now) a.notes.now c.push-then-n-eq0.new.self (disk_seen (g.D.Disk.blocks a.disk.now) (g.D.Disk.plan a.disk.now) (g.D.Disk.faults a.disk.now)) (disk_seen (g.D.Disk.blocks a.disk.now) (g.D.Disk.plan a.disk.now) (g.D.Disk.faults a.disk.now))
-    (went_refused g.C.Meaning.Rules.meaning (λ b. (goal.Policy-dyn g (b.vtable, b.value)).seen b.value) (λ w. g.C.Calls.stage w) (λ w. g.C.Calls.caller w) (placed_event_on g.C.Meaning.Rules.meaning a.number (Step a.p a.n)) a.running.now (Refused a.number BadIndex) a.notes.now c.push-then-n-eq0.new.self (disk_seen (g.D.Disk.blocks a.disk.now) (g.D.Disk.plan a.disk.now) (g.D.Disk.faults a.disk.now)) c.requires.running c.requires.stood (step_zero g.C.Meaning.Rules.meaning (placed_of (λ b. (goal.Policy-dyn g (b.vtable, b.value)).seen b.value) (λ w. g.C.Calls.stage w) a.running.now) a.number a.p a.n (sym c.living.ensures.value ∙ c.if-not-living.false) (c.if-n-eq0.true)) c.push-then-n-eq0.ensures).did
+    from_did g.C.Meaning.Rules.meaning (placed_event_on g.C.Meaning.Rules.meaning a.number (Step a.p a.n)) (placed_of g.C.Calls.stage a.running.now) (placed_of g.C.Calls.stage a.running.now) a.notes.now c.push-then-n-eq0.new.self (disk_seen (g.D.Disk.blocks a.disk.now) (g.D.Disk.plan a.disk.now) (g.D.Disk.faults a.disk.now)) (disk_seen (g.D.Disk.blocks a.disk.now) (g.D.Disk.plan a.disk.now) (g.D.Disk.faults a.disk.now))
+    (went_refused g.C.Meaning.Rules.meaning g.C.Calls.stage g.C.Calls.caller (placed_event_on g.C.Meaning.Rules.meaning a.number (Step a.p a.n)) a.running.now (Refused a.number BadIndex) a.notes.now c.push-then-n-eq0.new.self (disk_seen (g.D.Disk.blocks a.disk.now) (g.D.Disk.plan a.disk.now) (g.D.Disk.faults a.disk.now)) c.requires.running c.requires.stood (step_zero g.C.Meaning.Rules.meaning (placed_of g.C.Calls.stage a.running.now) a.number a.p a.n (sym c.living.ensures.value ∙ c.if-not-living.false) (c.if-n-eq0.true)) c.push-then-n-eq0.ensures).did
 
 pub returns-then-n-eq0-clause-on : goal.returns-then-n-eq0-clause-on
 returns-then-n-eq0-clause-on g c = record { running = c.requires.running; stood = c.requires.stood; world = refl; clock = refl }
@@ -30,8 +30,8 @@ returns-then-n-eq0-clause-on g c = record { running = c.requires.running; stood 
 pub returns-then-n-gt-MOST_STEPS-clause-did : goal.returns-then-n-gt-MOST_STEPS-clause-did
 returns-then-n-gt-MOST_STEPS-clause-did g c =
     let a = c.args in
-    from_did g.C.Meaning.Rules.meaning (placed_event_on g.C.Meaning.Rules.meaning a.number (Step a.p a.n)) (placed_of (λ b. (goal.Policy-dyn g (b.vtable, b.value)).seen b.value) (λ w. g.C.Calls.stage w) a.running.now) (placed_of (λ b. (goal.Policy-dyn g (b.vtable, b.value)).seen b.value) (λ w. g.C.Calls.stage w) a.running.now) a.notes.now c.push-then-n-gt-MOST_STEPS.new.self (disk_seen (g.D.Disk.blocks a.disk.now) (g.D.Disk.plan a.disk.now) (g.D.Disk.faults a.disk.now)) (disk_seen (g.D.Disk.blocks a.disk.now) (g.D.Disk.plan a.disk.now) (g.D.Disk.faults a.disk.now))
-    (went_refused g.C.Meaning.Rules.meaning (λ b. (goal.Policy-dyn g (b.vtable, b.value)).seen b.value) (λ w. g.C.Calls.stage w) (λ w. g.C.Calls.caller w) (placed_event_on g.C.Meaning.Rules.meaning a.number (Step a.p a.n)) a.running.now (Refused a.number BadIndex) a.notes.now c.push-then-n-gt-MOST_STEPS.new.self (disk_seen (g.D.Disk.blocks a.disk.now) (g.D.Disk.plan a.disk.now) (g.D.Disk.faults a.disk.now)) c.requires.running c.requires.stood (step_many g.C.Meaning.Rules.meaning (placed_of (λ b. (goal.Policy-dyn g (b.vtable, b.value)).seen b.value) (λ w. g.C.Calls.stage w) a.running.now) a.number a.p a.n (sym c.living.ensures.value ∙ c.if-not-living.false) (c.if-n-gt-MOST_STEPS.true)) c.push-then-n-gt-MOST_STEPS.ensures).did
+    from_did g.C.Meaning.Rules.meaning (placed_event_on g.C.Meaning.Rules.meaning a.number (Step a.p a.n)) (placed_of g.C.Calls.stage a.running.now) (placed_of g.C.Calls.stage a.running.now) a.notes.now c.push-then-n-gt-MOST_STEPS.new.self (disk_seen (g.D.Disk.blocks a.disk.now) (g.D.Disk.plan a.disk.now) (g.D.Disk.faults a.disk.now)) (disk_seen (g.D.Disk.blocks a.disk.now) (g.D.Disk.plan a.disk.now) (g.D.Disk.faults a.disk.now))
+    (went_refused g.C.Meaning.Rules.meaning g.C.Calls.stage g.C.Calls.caller (placed_event_on g.C.Meaning.Rules.meaning a.number (Step a.p a.n)) a.running.now (Refused a.number BadIndex) a.notes.now c.push-then-n-gt-MOST_STEPS.new.self (disk_seen (g.D.Disk.blocks a.disk.now) (g.D.Disk.plan a.disk.now) (g.D.Disk.faults a.disk.now)) c.requires.running c.requires.stood (step_many g.C.Meaning.Rules.meaning (placed_of g.C.Calls.stage a.running.now) a.number a.p a.n (sym c.living.ensures.value ∙ c.if-not-living.false) (c.if-n-gt-MOST_STEPS.true)) c.push-then-n-gt-MOST_STEPS.ensures).did
 
 pub returns-then-n-gt-MOST_STEPS-clause-on : goal.returns-then-n-gt-MOST_STEPS-clause-on
 returns-then-n-gt-MOST_STEPS-clause-on g c = record { running = c.requires.running; stood = c.requires.stood; world = refl; clock = refl }
@@ -40,5 +40,5 @@ pub returns-clause-did : goal.returns-clause-did
 returns-clause-did g c =
     let a = c.args in
     let some : 0 < a.n = omega (arith, c.if-n-eq0.false) in
-    from_as g.C.Meaning.Rules.meaning (placed_event_on g.C.Meaning.Rules.meaning a.number (Step a.p a.n)) (placed_step_event g.C.Meaning.Rules.meaning a.number a.p a.n) (placed_of (λ b. (goal.Policy-dyn g (b.vtable, b.value)).seen b.value) (λ w. g.C.Calls.stage w) a.running.now) (placed_of (λ b. (goal.Policy-dyn g (b.vtable, b.value)).seen b.value) (λ w. g.C.Calls.stage w) c.step_event.new.running) a.notes.now c.step_event.new.notes (disk_seen (g.D.Disk.blocks a.disk.now) (g.D.Disk.plan a.disk.now) (g.D.Disk.faults a.disk.now)) (disk_seen (g.D.Disk.blocks c.step_event.new.disk) (g.D.Disk.plan c.step_event.new.disk) (g.D.Disk.faults c.step_event.new.disk))
-    (step_taken g.C.Meaning.Rules.meaning (placed_of (λ b. (goal.Policy-dyn g (b.vtable, b.value)).seen b.value) (λ w. g.C.Calls.stage w) a.running.now) a.number a.p a.n (sym c.living.ensures.value ∙ c.if-not-living.false) some c.if-n-gt-MOST_STEPS.false) c.step_event.ensures.did
+    from_as g.C.Meaning.Rules.meaning (placed_event_on g.C.Meaning.Rules.meaning a.number (Step a.p a.n)) (placed_step_event g.C.Meaning.Rules.meaning a.number a.p a.n) (placed_of g.C.Calls.stage a.running.now) (placed_of g.C.Calls.stage c.step_event.new.running) a.notes.now c.step_event.new.notes (disk_seen (g.D.Disk.blocks a.disk.now) (g.D.Disk.plan a.disk.now) (g.D.Disk.faults a.disk.now)) (disk_seen (g.D.Disk.blocks c.step_event.new.disk) (g.D.Disk.plan c.step_event.new.disk) (g.D.Disk.faults c.step_event.new.disk))
+    (step_taken g.C.Meaning.Rules.meaning (placed_of g.C.Calls.stage a.running.now) a.number a.p a.n (sym c.living.ensures.value ∙ c.if-not-living.false) some c.if-n-gt-MOST_STEPS.false) c.step_event.ensures.did

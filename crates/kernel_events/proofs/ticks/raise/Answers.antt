@@ -1,4 +1,4 @@
-use Rattle.std.proofs.Common.{◌≡◌, suc, [], ◌∷◌, ap, sym}
+use Rattle.std.proofs.Common.{suc, [], ◌∷◌, ap, sym}
 use Rattle.kernel_model.specs.declared.Note.TheVariants.{Ticked}
 use Rattle.kernel_model.specs.Events.{ticked}
 use Rattle.placed_laws.specs.Placed.{Placed, PlacedRun}
@@ -13,8 +13,8 @@ pub returns : goal.returns
 returns g c = record {
   ticked = λ d.
       let a = c.args in
-      let x = (placed_of (λ b. (goal.Policy-dyn g (b.vtable, b.value)).seen b.value) (λ w. g.C.Calls.stage w) a.running.now) in
-      let y = placed_of (λ b. (goal.Policy-dyn g (b.vtable, b.value)).seen b.value) (λ w. g.C.Calls.stage w) c.tick.new.self in
+      let x = (placed_of g.C.Calls.stage a.running.now) in
+      let y = placed_of g.C.Calls.stage c.tick.new.self in
       let s = c.requires.stood in
       let value = c.tick.ensures.value in
       let here = ap (λ (r : PlacedRun). r.placed) (value.0 [] some_blocks []) in

@@ -7,6 +7,6 @@ pub first_hindrance-requires : goal.first_hindrance-requires
 first_hindrance-requires g c =
     record {
       range = all_of c.as_slice.result.now
-          (g.C.Meaning.Rules.meaning.need (world_of_store c.args.store.now) (objects_of (λ b. (goal.Policy-dyn g (b.vtable, b.value)).seen b.value) c.args.store.now) (g.C.Calls.caller c.args.work.now) (g.C.Calls.stage c.args.work.now))
+          (g.C.Meaning.Rules.meaning.need (world_of_store c.args.store.now) (objects_of c.args.store.now) (g.C.Calls.caller c.args.work.now) (g.C.Calls.stage c.args.work.now))
           (c.as_slice.ensures ∙ c.need.ensures) c.requires.range;
     }

@@ -11,7 +11,7 @@ returns-in-Goes-clause-done g c =
     let call = c.in-Some.call in
     let a = c.args in
     let p = c.piece-after in
-    flight_done g.C.Meaning.Rules.meaning (λ w. g.C.Calls.stage w) (λ w. g.C.Calls.caller w) (world_of_store a.store.now) (objects_of (λ b. (goal.Policy-dyn g (b.vtable, b.value)).seen b.value) a.store.now) (objects_of (λ b. (goal.Policy-dyn g (b.vtable, b.value)).seen b.value) p.new.store)
+    flight_done g.C.Meaning.Rules.meaning g.C.Calls.stage g.C.Calls.caller (world_of_store a.store.now) (objects_of a.store.now) (objects_of p.new.store)
     call f p.new.work (Some (record { number = call.number; work = p.new.work })) a.answer a.notes.now c.push_bytes.new.self c.push_bytes.new.self (g.D.Disk.blocks a.disk.now) (g.D.Disk.blocks p.new.disk) (g.D.Disk.plan a.disk.now) (g.D.Disk.plan p.new.disk) (g.D.Disk.faults a.disk.now) (g.D.Disk.faults p.new.disk)
     p.new.log p.result.gave p.result.next Next.Goes (same_some call f (sym c.in-Some.is ∙ is)) c.in-Goes.is p.ensures.does p.ensures.some (subst (λ (io : List Bool). GoesOn (g.D.Disk.faults a.disk.now) (g.D.Disk.faults p.new.disk) (g.D.Disk.plan a.disk.now) (g.D.Disk.plan p.new.disk) io p.new.log) c.clear.ensures p.ensures.calls) refl c.push_bytes.ensures (λ all k. nothing_more c.push_bytes.new.self all k)
 
@@ -21,7 +21,7 @@ returns-in-Ends-clause-done g c =
     let call = c.in-Some.call in
     let a = c.args in
     let p = c.piece-after in
-    flight_done g.C.Meaning.Rules.meaning (λ w. g.C.Calls.stage w) (λ w. g.C.Calls.caller w) (world_of_store a.store.now) (objects_of (λ b. (goal.Policy-dyn g (b.vtable, b.value)).seen b.value) a.store.now) (objects_of (λ b. (goal.Policy-dyn g (b.vtable, b.value)).seen b.value) p.new.store)
+    flight_done g.C.Meaning.Rules.meaning g.C.Calls.stage g.C.Calls.caller (world_of_store a.store.now) (objects_of a.store.now) (objects_of p.new.store)
     call f p.new.work None a.answer a.notes.now c.push_bytes.new.self c.push.new.self (g.D.Disk.blocks a.disk.now) (g.D.Disk.blocks p.new.disk) (g.D.Disk.plan a.disk.now) (g.D.Disk.plan p.new.disk) (g.D.Disk.faults a.disk.now) (g.D.Disk.faults p.new.disk)
     p.new.log p.result.gave p.result.next (Next.Ends c.in-Ends.reply) (same_some call f (sym c.in-Some.is ∙ is)) c.in-Ends.is p.ensures.does p.ensures.some (subst (λ (io : List Bool). GoesOn (g.D.Disk.faults a.disk.now) (g.D.Disk.faults p.new.disk) (g.D.Disk.plan a.disk.now) (g.D.Disk.plan p.new.disk) io p.new.log) c.clear.ensures p.ensures.calls) refl c.push_bytes.ensures c.push.ensures
 
@@ -31,6 +31,6 @@ returns-in-Fails-clause-done g c =
     let call = c.in-Some.call in
     let a = c.args in
     let p = c.piece-after in
-    flight_done g.C.Meaning.Rules.meaning (λ w. g.C.Calls.stage w) (λ w. g.C.Calls.caller w) (world_of_store a.store.now) (objects_of (λ b. (goal.Policy-dyn g (b.vtable, b.value)).seen b.value) a.store.now) (objects_of (λ b. (goal.Policy-dyn g (b.vtable, b.value)).seen b.value) p.new.store)
+    flight_done g.C.Meaning.Rules.meaning g.C.Calls.stage g.C.Calls.caller (world_of_store a.store.now) (objects_of a.store.now) (objects_of p.new.store)
     call f p.new.work None a.answer a.notes.now c.push_bytes.new.self c.push-in-Fails.new.self (g.D.Disk.blocks a.disk.now) (g.D.Disk.blocks p.new.disk) (g.D.Disk.plan a.disk.now) (g.D.Disk.plan p.new.disk) (g.D.Disk.faults a.disk.now) (g.D.Disk.faults p.new.disk)
     p.new.log p.result.gave p.result.next (Next.Fails c.in-Fails.refusal) (same_some call f (sym c.in-Some.is ∙ is)) c.in-Fails.is p.ensures.does p.ensures.some (subst (λ (io : List Bool). GoesOn (g.D.Disk.faults a.disk.now) (g.D.Disk.faults p.new.disk) (g.D.Disk.plan a.disk.now) (g.D.Disk.plan p.new.disk) io p.new.log) c.clear.ensures p.ensures.calls) refl c.push_bytes.ensures c.push-in-Fails.ensures

@@ -14,7 +14,7 @@ use Rattle.kernel_steps.proofs.running.Running.begin.Goals as goal
 pub returns-clause-value : goal.returns-clause-value
 returns-clause-value g c = λ notes blocks io.
     let x = c.args.self.now in
-    call_begun (λ b. (goal.Policy-dyn g (b.vtable, b.value)).seen b.value) (λ w. g.C.Calls.stage w) x c.args.p (record { number = c.args.number; work = c.args.work }) c.set_call.new.flights.items c.joined.result c.push.new.self
+    call_begun g.C.Calls.stage x c.args.p (record { number = c.args.number; work = c.args.work }) c.set_call.new.flights.items c.joined.result c.push.new.self
     (within_flights x.calls.items c.args.p c.requires.running.sixteen c.requires.process) c.set_call.ensures c.joined.ensures c.push.ensures blocks notes io
 
 pub returns-clause-running : goal.returns-clause-running
@@ -25,11 +25,10 @@ returns-clause-running g c =
     let small = within_flights x.calls.items c.args.p r.sixteen c.requires.process in
     let same = chains_stay x.calls.items c.args.p (Some f) c.set_call.new.flights.items small c.set_call.ensures in
     record {
-      store = r.store;
       sixteen = still_sixteen x.calls.items c.args.p (Some f) c.set_call.new.flights.items c.set_call.ensures ∙ r.sixteen;
-      callers = callers_set (λ w. g.C.Calls.caller w) x.calls.items c.args.p (Some f) c.set_call.new.flights.items small c.set_call.ensures r.callers (λ e is. grind (arith, is, c.requires.caller));
-      placed = λ q h. subst (λ (chain : Chain). IsPlaced (λ b. (goal.Policy-dyn g (b.vtable, b.value)).seen b.value) x.store x.locks q chain.levels chain.undo) (sym (same q)) (r.placed q h);
-      inside = λ q h. subst (λ (chain : Chain). AreInside (table_of x.images) (objects_of (λ b. (goal.Policy-dyn g (b.vtable, b.value)).seen b.value) x.store).accounts q chain.levels) (sym (same q)) (r.inside q h);
+      callers = callers_set g.C.Calls.caller x.calls.items c.args.p (Some f) c.set_call.new.flights.items small c.set_call.ensures r.callers (λ e is. grind (arith, is, c.requires.caller));
+      placed = λ q h. subst (λ (chain : Chain). IsPlaced x.store x.locks q chain.levels chain.undo) (sym (same q)) (r.placed q h);
+      inside = λ q h. subst (λ (chain : Chain). AreInside (table_of x.images) (objects_of x.store).accounts q chain.levels) (sym (same q)) (r.inside q h);
       counts = counts_joined x.clock c.args.p x.order c.joined.result c.push.new.self c.joined.ensures c.push.ensures r.counts;
       order = processes_joined c.args.p x.order c.joined.result c.push.new.self c.joined.ensures c.push.ensures c.requires.process r.order;
       once = once_joined c.args.p x.order c.joined.result c.push.new.self c.joined.ensures c.push.ensures r.once c.requires.new;

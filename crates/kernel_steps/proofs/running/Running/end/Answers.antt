@@ -15,7 +15,7 @@ use Rattle.kernel_steps.proofs.running.Running.end.Goals as goal
 pub returns-clause-value : goal.returns-clause-value
 returns-clause-value g c =
     let x = c.args.self.now in (
-      λ notes blocks io. call_ended (λ b. (goal.Policy-dyn g (b.vtable, b.value)).seen b.value) (λ w. g.C.Calls.stage w) x c.args.p c.args.note c.set_call.new.flights.items c.leave.new.self notes (notes ++ c.args.note ∷ [])
+      λ notes blocks io. call_ended g.C.Calls.stage x c.args.p c.args.note c.set_call.new.flights.items c.leave.new.self notes (notes ++ c.args.note ∷ [])
           (within_flights x.calls.items c.args.p c.requires.running.sixteen c.requires.process) c.set_call.ensures c.leave.ensures refl blocks io,
       c.push.ensures,
     )
@@ -27,11 +27,10 @@ returns-clause-running g c =
     let small = within_flights x.calls.items c.args.p r.sixteen c.requires.process in
     let same = chains_stay x.calls.items c.args.p None c.set_call.new.flights.items small c.set_call.ensures in
     record {
-      store = r.store;
       sixteen = still_sixteen x.calls.items c.args.p None c.set_call.new.flights.items c.set_call.ensures ∙ r.sixteen;
-      callers = callers_set (λ w. g.C.Calls.caller w) x.calls.items c.args.p None c.set_call.new.flights.items small c.set_call.ensures r.callers (λ e is. grind (arith, is));
-      placed = λ q h. subst (λ (chain : Chain). IsPlaced (λ b. (goal.Policy-dyn g (b.vtable, b.value)).seen b.value) x.store x.locks q chain.levels chain.undo) (sym (same q)) (r.placed q h);
-      inside = λ q h. subst (λ (chain : Chain). AreInside (table_of x.images) (objects_of (λ b. (goal.Policy-dyn g (b.vtable, b.value)).seen b.value) x.store).accounts q chain.levels) (sym (same q)) (r.inside q h);
+      callers = callers_set g.C.Calls.caller x.calls.items c.args.p None c.set_call.new.flights.items small c.set_call.ensures r.callers (λ e is. grind (arith, is));
+      placed = λ q h. subst (λ (chain : Chain). IsPlaced x.store x.locks q chain.levels chain.undo) (sym (same q)) (r.placed q h);
+      inside = λ q h. subst (λ (chain : Chain). AreInside (table_of x.images) (objects_of x.store).accounts q chain.levels) (sym (same q)) (r.inside q h);
       counts = ap (counts_within x.clock) c.leave.ensures ∙ counts_less x.clock c.args.p x.order r.counts;
       order = ap are_processes c.leave.ensures ∙ processes_less c.args.p x.order r.order;
       once = ap (λ ws. are_once (numbers_of ws)) c.leave.ensures ∙ once_less c.args.p x.order r.once;

@@ -21,7 +21,7 @@ do_piece-requires-clause-ready g c =
     let fl : c.index_mut-flight.result.now ≡ flight_of x.calls.items c.args.p = fetched x.calls.items c.args.p c.index_mut-flight.result.now alone.sixteen c.requires.process c.index_mut-flight.ensures.value in
     let there = sym (ap (λ (l : Flight g.row.C-Work.Denot). l.call) fl) ∙ is in (
       table_of x.images,
-      subst (λ q. IsReady g.C.Meaning.Rules.meaning (world_of_store x.store) (table_of x.images) (objects_of (λ b. (goal.Policy-dyn g (b.vtable, b.value)).seen b.value) x.store) q (g.C.Calls.stage f.work) (answer_seen c.args.answer)) (sym (alone.caller_is f there)) (c.requires.ready f there),
+      subst (λ q. IsReady g.C.Meaning.Rules.meaning (world_of_store x.store) (table_of x.images) (objects_of x.store) q (g.C.Calls.stage f.work) (answer_seen c.args.answer)) (sym (alone.caller_is f there)) (c.requires.ready f there),
     )
 
 pub returns-clause-done : goal.returns-clause-done
@@ -31,11 +31,11 @@ returns-clause-done g c =
     let x = a.self.now in
     let alone = c.requires.alone in
     let fl : c.index_mut-flight.result.now ≡ flight_of x.calls.items a.p = fetched x.calls.items a.p c.index_mut-flight.result.now alone.sixteen c.requires.process c.index_mut-flight.ensures.value in
-    let y : Running g.row.C.Denot g.row.C-Meaning.Denot g.row.C-Work.Denot _ _ = record { store = c.do_piece.new.store; clock = x.clock; images = x.images; locks = x.locks; calls = with_item x.calls a.p (record { call = c.do_piece.new.slot; chain = c.index_mut-flight.result.now.chain }); order = x.order } in
-    let t = call_there (λ w. g.C.Calls.stage w) (flight_of x.calls.items a.p).call pc is in
+    let y : Running g.row.C.Denot g.row.B.Denot g.row.C-Meaning.Denot g.row.C-Work.Denot _ = record { store = c.do_piece.new.store; clock = x.clock; images = x.images; locks = x.locks; calls = with_item x.calls a.p (record { call = c.do_piece.new.slot; chain = c.index_mut-flight.result.now.chain }); order = x.order } in
+    let t = call_there g.C.Calls.stage (flight_of x.calls.items a.p).call pc is in
     let there = ap (λ (l : Flight g.row.C-Work.Denot). l.call) fl ∙ t.is in
-    finish_done g.C.Meaning.Rules.meaning (λ b. (goal.Policy-dyn g (b.vtable, b.value)).seen b.value) (λ w. g.C.Calls.stage w) (λ w. g.C.Calls.caller w) x y a.p pc t.flight c.do_piece.new.slot a.answer a.notes.now c.do_piece.new.notes
+    finish_done g.C.Meaning.Rules.meaning g.C.Calls.stage g.C.Calls.caller x y a.p pc t.flight c.do_piece.new.slot a.answer a.notes.now c.do_piece.new.notes
     (disk_seen (g.D.Disk.blocks a.disk.now) (g.D.Disk.plan a.disk.now) (g.D.Disk.faults a.disk.now)) (disk_seen (g.D.Disk.blocks c.do_piece.new.disk) (g.D.Disk.plan c.do_piece.new.disk) (g.D.Disk.faults c.do_piece.new.disk))
     alone c.requires.none c.requires.process t.is t.stands
     (ap (λ (l : Flight g.row.C-Work.Denot). with_call_of x.calls.items a.p c.do_piece.new.slot l) fl)
-    refl refl refl refl c.do_piece.ensures.world c.do_piece.ensures.sound c.do_piece.ensures.memory (λ h left. c.do_piece.ensures.caller t.flight h there left) (c.do_piece.ensures.done t.flight there)
+    refl refl refl refl c.do_piece.ensures.world c.do_piece.ensures.memory (λ h left. c.do_piece.ensures.caller t.flight h there left) (c.do_piece.ensures.done t.flight there)

@@ -14,27 +14,27 @@ use Rattle.kernel_steps.proofs.running.Running.graft_step.Goals as goal
 pub follow-requires-clause-alone : goal.follow-requires-clause-alone
 follow-requires-clause-alone g c =
     let x = c.args.self.now in
-    micro_alone c.owners_stay.ensures (λ b. (goal.Policy-dyn g (b.vtable, b.value)).seen b.value) (λ w. g.C.Calls.stage w) (λ w. g.C.Calls.caller w) x c.instruct-said.new.self c.args.p c.requires.running c.requires.process c.instruct-said.ensures.moved c.instruct-said.ensures.config
+    micro_alone c.owners_stay.ensures g.C.Calls.stage g.C.Calls.caller x c.instruct-said.new.self c.args.p c.requires.running c.requires.process c.instruct-said.ensures.moved c.instruct-said.ensures.config
 
 pub follow-requires-clause-none : goal.follow-requires-clause-none
 follow-requires-clause-none g c =
     λ answer h.
     let x = c.args.self.now in
-    let o : Outcome = micro (world_of_store x.store) (table_of x.images) c.args.p (placed_config (placed_of (λ b. (goal.Policy-dyn g (b.vtable, b.value)).seen b.value) (λ w. g.C.Calls.stage w) x) c.args.p) in
-    move_ends (λ b. (goal.Policy-dyn g (b.vtable, b.value)).seen b.value) (λ w. g.C.Calls.stage w) x c.instruct-said.new.self c.args.p o c.instruct-said.result answer c.instruct-said.ensures.config c.instruct-said.ensures.said (micro_ends (world_of_store x.store) (table_of x.images) c.args.p (objects_of (λ b. (goal.Policy-dyn g (b.vtable, b.value)).seen b.value) x.store) (placed_config (placed_of (λ b. (goal.Policy-dyn g (b.vtable, b.value)).seen b.value) (λ w. g.C.Calls.stage w) x) c.args.p).levels) h
+    let o : Outcome = micro (world_of_store x.store) (table_of x.images) c.args.p (placed_config (placed_of g.C.Calls.stage x) c.args.p) in
+    move_ends g.C.Calls.stage x c.instruct-said.new.self c.args.p o c.instruct-said.result answer c.instruct-said.ensures.config c.instruct-said.ensures.said (micro_ends (world_of_store x.store) (table_of x.images) c.args.p (objects_of x.store) (placed_config (placed_of g.C.Calls.stage x) c.args.p).levels) h
 
 pub follow-requires-clause-ready : goal.follow-requires-clause-ready
 follow-requires-clause-ready g c =
     λ answer f h is.
     let x = c.args.self.now in
-    micro_ready g.C.Meaning.Rules.meaning c.ready_in_place.ensures (λ b. (goal.Policy-dyn g (b.vtable, b.value)).seen b.value) (λ w. g.C.Calls.stage w) x c.instruct-said.new.self c.args.p f c.instruct-said.result answer c.requires.stood c.requires.level c.instruct-said.ensures.moved c.instruct-said.ensures.config c.instruct-said.ensures.said h is
+    micro_ready g.C.Meaning.Rules.meaning c.ready_in_place.ensures g.C.Calls.stage x c.instruct-said.new.self c.args.p f c.instruct-said.result answer c.requires.stood c.requires.level c.instruct-said.ensures.moved c.instruct-said.ensures.config c.instruct-said.ensures.said h is
 
 pub returns-clause-done : goal.returns-clause-done
 returns-clause-done g c =
     λ pc is.
     let a = c.args in
     let x = a.self.now in
-    micro_done g.C.Meaning.Rules.meaning (λ b. (goal.Policy-dyn g (b.vtable, b.value)).seen b.value) (λ w. g.C.Calls.stage w) (λ w. g.C.Calls.caller w) x c.instruct-said.new.self c.follow.new.self a.p pc c.instruct-said.result a.notes.now c.follow.new.notes
+    micro_done g.C.Meaning.Rules.meaning g.C.Calls.stage g.C.Calls.caller x c.instruct-said.new.self c.follow.new.self a.p pc c.instruct-said.result a.notes.now c.follow.new.notes
     (disk_seen (g.D.Disk.blocks a.disk.now) (g.D.Disk.plan a.disk.now) (g.D.Disk.faults a.disk.now)) (disk_seen (g.D.Disk.blocks c.follow.new.disk) (g.D.Disk.plan c.follow.new.disk) (g.D.Disk.faults c.follow.new.disk))
     c.instruct-said.ensures.moved c.instruct-said.ensures.config c.instruct-said.ensures.said
-    (c.follow.ensures.done pc (ap (option_map (call_in_place (λ w. g.C.Calls.stage w))) (c.instruct-said.ensures.moved.calls a.p) ∙ is))
+    (c.follow.ensures.done pc (ap (option_map (call_in_place g.C.Calls.stage)) (c.instruct-said.ensures.moved.calls a.p) ∙ is))

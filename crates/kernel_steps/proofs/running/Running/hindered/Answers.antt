@@ -16,8 +16,8 @@ piece_hindrance-requires-clause-ready g c =
     let x = c.args.self.now in
     let m = g.C.Meaning.Rules.meaning in
     let fl : c.flight-flight.result.now ≡ flight_of x.calls.items c.args.p = c.flight-flight.ensures ∙ ap (λ fs. flight_of fs c.args.p) c.deref.ensures.value in
-    may_come m g.C.Meaning.Rules.laws (world_of_store x.store) (table_of x.images) (objects_of (λ b. (goal.Policy-dyn g (b.vtable, b.value)).seen b.value) x.store) (g.C.Calls.caller c.in-Some.call.work) (g.C.Calls.stage c.in-Some.call.work)
-    (stands m c.sound_in_place.ensures (λ b. (goal.Policy-dyn g (b.vtable, b.value)).seen b.value) (λ w. g.C.Calls.stage w) (λ w. g.C.Calls.caller w) x c.args.p c.in-Some.call c.requires.running c.requires.stood
+    may_come m g.C.Meaning.Rules.laws (world_of_store x.store) (table_of x.images) (objects_of x.store) (g.C.Calls.caller c.in-Some.call.work) (g.C.Calls.stage c.in-Some.call.work)
+    (stands m c.sound_in_place.ensures g.C.Calls.stage g.C.Calls.caller x c.args.p c.in-Some.call c.requires.running c.requires.stood
     (sym (ap (λ (f : Flight g.row.C-Work.Denot). f.call) fl) ∙ c.in-Some.is))
 
 pub piece_hindrance-requires-clause-range : goal.piece_hindrance-requires-clause-range
@@ -25,8 +25,8 @@ piece_hindrance-requires-clause-range g c =
     let x = c.args.self.now in
     let m = g.C.Meaning.Rules.meaning in
     let fl : c.flight-flight.result.now ≡ flight_of x.calls.items c.args.p = c.flight-flight.ensures ∙ ap (λ fs. flight_of fs c.args.p) c.deref.ensures.value in
-    λ n has. g.C.Meaning.Rules.laws.need.ranges (world_of_store x.store) (table_of x.images) (objects_of (λ b. (goal.Policy-dyn g (b.vtable, b.value)).seen b.value) x.store) (g.C.Calls.caller c.in-Some.call.work) (g.C.Calls.stage c.in-Some.call.work) n
-    (stands m c.sound_in_place.ensures (λ b. (goal.Policy-dyn g (b.vtable, b.value)).seen b.value) (λ w. g.C.Calls.stage w) (λ w. g.C.Calls.caller w) x c.args.p c.in-Some.call c.requires.running c.requires.stood
+    λ n has. g.C.Meaning.Rules.laws.need.ranges (world_of_store x.store) (table_of x.images) (objects_of x.store) (g.C.Calls.caller c.in-Some.call.work) (g.C.Calls.stage c.in-Some.call.work) n
+    (stands m c.sound_in_place.ensures g.C.Calls.stage g.C.Calls.caller x c.args.p c.in-Some.call c.requires.running c.requires.stood
     (sym (ap (λ (f : Flight g.row.C-Work.Denot). f.call) fl) ∙ c.in-Some.is)) has
 
 pub returns-then-count-eq0 : goal.returns-then-count-eq0
@@ -35,7 +35,7 @@ returns-then-count-eq0 g c =
     let m = g.C.Meaning.Rules.meaning in
     let fl : c.flight-flight.result.now ≡ flight_of x.calls.items c.args.p = c.flight-flight.ensures ∙ ap (λ fs. flight_of fs c.args.p) c.deref.ensures.value in
     c.piece_hindrance.ensures
-    ∙ piece_hindered m (λ b. (goal.Policy-dyn g (b.vtable, b.value)).seen b.value) (λ w. g.C.Calls.stage w) (λ w. g.C.Calls.caller w) x c.args.p c.in-Some.call c.requires.running
+    ∙ piece_hindered m g.C.Calls.stage g.C.Calls.caller x c.args.p c.in-Some.call c.requires.running
     (sym (ap (λ (f : Flight g.row.C-Work.Denot). f.call) fl) ∙ c.in-Some.is)
     (sym (ap (λ (f : Flight g.row.C-Work.Denot). length f.chain.levels) fl) ∙ sym c.count.ensures.value ∙ c.if-count-eq0.true)
 
@@ -43,12 +43,12 @@ pub returns : goal.returns
 returns g c =
     let x = c.args.self.now in
     let m = g.C.Meaning.Rules.meaning in
-    let s = objects_of (λ b. (goal.Policy-dyn g (b.vtable, b.value)).seen b.value) x.store in
+    let s = objects_of x.store in
     let fl : c.flight-flight.result.now ≡ flight_of x.calls.items c.args.p = c.flight-flight.ensures ∙ ap (λ fs. flight_of fs c.args.p) c.deref.ensures.value in
     let many : length c.flight-flight.result.now.chain.levels ≡ length (flight_of x.calls.items c.args.p).chain.levels = ap (λ (f : Flight g.row.C-Work.Denot). length f.chain.levels) fl in
     let some : 0 < length (flight_of x.calls.items c.args.p).chain.levels = grind (arith, nat_tests, many, c.count.ensures.value, c.if-count-eq0.false) in
     c.graft_hindrance.ensures x.store.ram (held x.locks) c.flight-flight.result.now.chain.undo s.things
     ∙ ap (λ (f : Flight g.row.C-Work.Denot). let ls = levels_in c.args.p x.store.ram (held x.locks) f.chain.levels f.chain.undo s.things in
     first_hindrance (held x.locks) s.things.lock c.args.p (lock_user c.args.p ls) (next_needs (world_of_store x.store) (table_of x.images) s.accounts ls)) fl
-    ∙ graft_hindered m (λ b. (goal.Policy-dyn g (b.vtable, b.value)).seen b.value) (λ w. g.C.Calls.stage w) (λ w. g.C.Calls.caller w) x c.args.p c.in-Some.call c.requires.running
+    ∙ graft_hindered m g.C.Calls.stage g.C.Calls.caller x c.args.p c.in-Some.call c.requires.running
     (sym (ap (λ (f : Flight g.row.C-Work.Denot). f.call) fl) ∙ c.in-Some.is) some

@@ -12,7 +12,6 @@ returns-clause-running g c =
     let x = c.args.self.now in
     let r = c.requires.running in
     record {
-      store = r.store;
       sixteen = r.sixteen;
       callers = r.callers;
       placed = r.placed;

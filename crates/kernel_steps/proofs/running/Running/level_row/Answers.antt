@@ -16,13 +16,13 @@ row_of_level-requires g c =
     let x = c.args.self.now in
     let fl : c.flight.result.now ≡ flight_of x.calls.items c.args.p = c.flight.ensures ∙ ap (λ fs. flight_of fs c.args.p) c.deref.ensures.value in
     let many : length c.flight.result.now.chain.levels ≡ length (flight_of x.calls.items c.args.p).chain.levels = ap (λ (f : Flight g.row.C-Work.Denot). length f.chain.levels) fl in
-    omega (arith, c.requires.level, many, levels_many (λ b. (goal.Policy-dyn g (b.vtable, b.value)).seen b.value) (λ w. g.C.Calls.stage w) x c.args.p)
+    omega (arith, c.requires.level, many, levels_many g.C.Calls.stage x c.args.p)
 
 pub returns : goal.returns
 returns g c =
     let x = c.args.self.now in
     let fl : c.flight.result.now ≡ flight_of x.calls.items c.args.p = c.flight.ensures ∙ ap (λ fs. flight_of fs c.args.p) c.deref.ensures.value in
-    let s = objects_of (λ b. (goal.Policy-dyn g (b.vtable, b.value)).seen b.value) x.store in
-    ap (λ (rows : List RawRow). slice_get rows c.args.d) (level_rows_in_place (λ b. (goal.Policy-dyn g (b.vtable, b.value)).seen b.value) (λ w. g.C.Calls.stage w) x c.args.p
+    let s = objects_of x.store in
+    ap (λ (rows : List RawRow). slice_get rows c.args.d) (level_rows_in_place g.C.Calls.stage x c.args.p
     ∙ sym (ap (λ (f : Flight g.row.C-Work.Denot). reverse (rows_of_levels c.args.p (levels_in c.args.p x.store.ram (held x.locks) f.chain.levels f.chain.undo s.things))) fl))
     ∙ c.row_of_level.ensures x.store.ram (held x.locks) c.flight.result.now.chain.undo s.things

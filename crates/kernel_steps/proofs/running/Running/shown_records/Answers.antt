@@ -12,4 +12,4 @@ returns-clause-value g c =
     let fl : c.flight.result.now ≡ flight_of x.calls.items c.args.p = c.flight.ensures ∙ ap (λ fs. flight_of fs c.args.p) c.deref.ensures.value in
     ap length c.list.ensures.value ∙ as_many_records c.flight.result.now.chain.undo
     ∙ ap (λ (f : Flight g.row.C-Work.Denot). length (numbered_log f.chain.undo)) fl
-    ∙ sym (records_many (λ b. (goal.Policy-dyn g (b.vtable, b.value)).seen b.value) (λ w. g.C.Calls.stage w) (λ w. g.C.Calls.caller w) x c.args.p c.requires.process c.requires.running)
+    ∙ sym (records_many g.C.Calls.stage g.C.Calls.caller x c.args.p c.requires.process c.requires.running)
