@@ -8,7 +8,7 @@ use Rattle.kernel_model.specs.Filters as filter
 use Rattle.filters.specs.Filtered.{AppendsPart}
 use Rattle.filters.specs.Filtered as filtered
 use Rattle.vino_top.specs.declared.words.Asked.{Asked}
-use Rattle.vino_top.specs.declared.words.Asked.TheVariants.{Run, Box, Check, Reseal, Asm, Dis, Demo, Nothing}
+use Rattle.vino_top.specs.declared.words.Asked.TheVariants.{Run, Box, Check, Reseal, Asm, Dis, Lang, Demo, Nothing}
 use Rattle.vino_top.specs.Run.{Place, place, Ran, Broke, Lacked}
 use Rattle.vino_top.specs.Demos.{DemoRan, DemoLacked}
 
@@ -25,7 +25,7 @@ pub record RunDoes (c : Place) (rest rest_new : Option (List ℕ)) (before now :
 -- a filter read its input, and answered under its keys; the disk stays
 pub record FilterDoes (f : Filter) (rest rest_new : Option (List ℕ)) (before now : ℕ) (got got_new : Option (List ℕ)) (d e : DiskSeen) (status : ℕ) : Type 0 where
   pub known : status ≢ 1
-  -- the status and the bytes are those of the filter's answer
+  -- the status and the bytes are those of an answer of the filter
   pub ran : status ≢ 4 → status ≢ 5 → filtered.Ran f rest rest_new before now got got_new status
   -- the sink failed: it took a part of the answer, not whole
   pub broke : status ≡ 4 → filtered.Broke f rest rest_new before now got got_new
@@ -55,5 +55,6 @@ Does (Check keys) size rest rest_new before now got got_new d e status = FilterD
 Does (Reseal keys) size rest rest_new before now got got_new d e status = FilterDoes (filter.Reseal keys) rest rest_new before now got got_new d e status
 Does Asm size rest rest_new before now got got_new d e status = FilterDoes filter.Asm rest rest_new before now got got_new d e status
 Does Dis size rest rest_new before now got got_new d e status = FilterDoes filter.Dis rest rest_new before now got got_new d e status
+Does Lang size rest rest_new before now got got_new d e status = FilterDoes filter.Lang rest rest_new before now got got_new d e status
 Does (Demo n) size rest rest_new before now got got_new d e status = DemoDoes n size rest rest_new got got_new d e status
 Does Nothing size rest rest_new before now got got_new d e status = UsageDoes rest rest_new got got_new d e status

@@ -5,7 +5,7 @@ use Rattle.kernel_model.specs.World.{same_bytes}
 use Rattle.kernel_model.specs.declared.Keys.{Keys}
 use Rattle.filters.specs.Keys.{keys_of}
 use Rattle.vino_top.specs.declared.words.Asked.{Asked}
-use Rattle.vino_top.specs.declared.words.Asked.TheVariants.{Run, Box, Check, Reseal, Asm, Dis, Demo, Nothing}
+use Rattle.vino_top.specs.declared.words.Asked.TheVariants.{Run, Box, Check, Reseal, Asm, Dis, Lang, Demo, Nothing}
 
 -- what a word asks beside keys, if there are some
 abbrev pub asked_with : (word : List ℕ) → Option Keys → Asked
@@ -23,7 +23,10 @@ asked_over word (Some keys) = cond (same_bytes word (codes "run")) (Run keys) No
 
 -- what one word asks
 abbrev pub asked_by_one : (word : List ℕ) → Asked
-asked_by_one word = cond (same_bytes word (codes "asm")) Asm (cond (same_bytes word (codes "dis")) Dis Nothing)
+asked_by_one word =
+    cond (same_bytes word (codes "asm")) Asm
+    (cond (same_bytes word (codes "dis")) Dis
+    (cond (same_bytes word (codes "lang")) Lang Nothing))
 
 -- what `demo` asks with a number, if it is one
 abbrev pub asked_number : Option ℕ → Asked
@@ -39,7 +42,7 @@ unfoldable pub asked_by_three : (word keys : List ℕ) → Asked
 asked_by_three word keys = asked_over word (keys_of keys)
 
 -- what the words of the command line ask: `run KEYS`, `run KEYS PATH`, `box KEYS`, `check KEYS`, `reseal KEYS`, `asm`,
--- `dis` or `demo N`, keys being 64 hex digits of either case or twice 64 with a comma, and N a number as in scripts
+-- `dis`, `lang` or `demo N`, keys being 64 hex digits of either case or twice 64 with a comma, and N a number as in scripts
 abbrev pub asked_by : List (List ℕ) → Asked
 asked_by (word ∷ []) = asked_by_one word
 asked_by (word ∷ other ∷ []) = asked_by_two word other

@@ -25,6 +25,8 @@ pub enum Asked {
     Asm,
     /// `dis`: an image is disassembled.
     Dis,
+    /// `lang`: a text of the graft language is compiled.
+    Lang,
     /// `demo N`: the script of this number is run.
     Demo(u32),
     /// Other words.
@@ -50,6 +52,8 @@ fn asked_one(word: &[u8]) -> Asked
         Asked::Asm
     } else if word == b"dis".as_slice() {
         Asked::Dis
+    } else if word == b"lang".as_slice() {
+        Asked::Lang
     } else {
         Asked::Nothing
     }

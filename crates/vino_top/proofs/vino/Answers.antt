@@ -36,6 +36,16 @@ returns-in-Dis-clause-does g c =
       disk = refl;
     })
 
+pub returns-in-Lang-clause-does : goal.returns-in-Lang-clause-does
+returns-in-Lang-clause-does g c =
+    rw (sym c.read_words.ensures ∙ c.in-Lang.is) (record {
+      known = known_run c.lang.result c.lang.ensures.statuses;
+      ran = c.lang.ensures.ran;
+      broke = c.lang.ensures.broke;
+      memory = c.lang.ensures.memory;
+      disk = refl;
+    })
+
 pub returns-in-Box-clause-does : goal.returns-in-Box-clause-does
 returns-in-Box-clause-does g c =
     rw (sym c.read_words.ensures ∙ c.in-Box.is) (record {
@@ -53,6 +63,16 @@ returns-in-Check-clause-does g c =
       ran = c.check_image.ensures.ran;
       broke = c.check_image.ensures.broke;
       memory = c.check_image.ensures.memory;
+      disk = refl;
+    })
+
+pub returns-in-Reseal-clause-does : goal.returns-in-Reseal-clause-does
+returns-in-Reseal-clause-does g c =
+    rw (sym c.read_words.ensures ∙ c.in-Reseal.is) (record {
+      known = known_image c.reseal_image.result c.reseal_image.ensures.statuses;
+      ran = c.reseal_image.ensures.ran;
+      broke = c.reseal_image.ensures.broke;
+      memory = c.reseal_image.ensures.memory;
       disk = refl;
     })
 
