@@ -8,3 +8,4 @@ pub mod SetupLemmas
 pub mod SliceLemmas
 pub mod TickLineLemmas
 pub mod TraceCountLemmas
+pub mod SpendingLemmas

@@ -2,3 +2,4 @@ pub mod Clock
 pub mod Counts
 pub mod Sessions
 pub mod Slices
+pub mod Spending

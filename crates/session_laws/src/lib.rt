@@ -5,5 +5,6 @@ pub mod clock;
 pub mod counts;
 pub mod sessions;
 pub mod slices;
+pub mod spending;
 #[cfg(test)]
 mod tests;
