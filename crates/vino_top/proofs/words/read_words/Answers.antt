@@ -17,6 +17,6 @@ of_three f (x ∷ y ∷ z ∷ u ∷ ws) word key a b least most first second h g
 pub returns-in-len3 : goal.returns-in-len3
 returns-in-len3 c =
     c.asked_three.ensures
-    ∙ of_three (λ w. string_bytes w) c.args.words.now c.word-item-then-words-lt4.result c.key-item.result
+    ∙ of_three (λ w. string_bytes w) c.args.words.now c.word-item-then-words-lt4.result c.keys-item.result
     c.as_bytes-in-len3.result.now c.as_bytes-in-len3-2.result.now c.in-len3.len_at_least c.in-len3.len_below
-    c.word-item-then-words-lt4.is c.key-item.is c.as_bytes-in-len3.ensures.value c.as_bytes-in-len3-2.ensures.value
+    c.word-item-then-words-lt4.is c.keys-item.is c.as_bytes-in-len3.ensures.value c.as_bytes-in-len3-2.ensures.value
