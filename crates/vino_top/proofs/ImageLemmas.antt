@@ -21,7 +21,6 @@ use Rattle.vino_top.specs.Standing.{Seen, caller_of}
 use Rattle.vino_top.specs.Run.{Place, Left, Says, Comes, LoadsFree, WantsAt, RunsEntry}
 use Rattle.vino_top.specs.Bounds.{IsSessionWithin}
 use Rattle.vino_top.specs.declared.session.Session.{Session as CodeSession}
-use Rattle.kernel_state.specs.Stores.{Seeing}
 use Rattle.vino_top.proofs.SessionLemmas.{alone, up_is_down, down_is_up}
 
 -- the answer to an image line, by the two tests
@@ -147,11 +146,11 @@ image_runs c s t slot bytes y answer out d booted state said written =
     })))
 
 -- one event more, in a session whose kernel runs and has the same store
-pub one_later : {X : Type 0} {F : X → Type 0} (view : Seeing X F) (size : ℕ) (s t u : CodeSession X F) → s.booted ≡ true → s.events < s.lines →
-    t ≡ record s { kernel = u.kernel; events = s.events + 1 } → u.kernel.running.store ≡ s.kernel.running.store → IsKernel plain view stage_of caller_of s.events u.kernel.running →
-    IsSessionWithin view size s → IsSessionWithin view size t
-one_later view size s t u up fresh state store kernel within =
-    subst (λ (x : CodeSession _ _). IsSessionWithin view size x) (sym state) (record {
+pub one_later : {B : Type 0} {P : _} (size : ℕ) (s t u : CodeSession B P) → s.booted ≡ true → s.events < s.lines →
+    t ≡ record s { kernel = u.kernel; events = s.events + 1 } → u.kernel.running.store ≡ s.kernel.running.store → IsKernel plain stage_of caller_of s.events u.kernel.running →
+    IsSessionWithin size s → IsSessionWithin size t
+one_later size s t u up fresh state store kernel within =
+    subst (λ (x : CodeSession _ _). IsSessionWithin size x) (sym state) (record {
       frames_least = within.frames_least;
       frames_most = within.frames_most;
       events = omega (arith, fresh);
@@ -161,10 +160,10 @@ one_later view size s t u up fresh state store kernel within =
     })
 
 -- a session whose line was counted and refused
-pub refused_later : {X : Type 0} {F : X → Type 0} (view : Seeing X F) (size : ℕ) (s t : CodeSession X F) → t ≡ record s { lines = s.lines + 1; refused = true } →
-    IsSessionWithin view size s → IsSessionWithin view size t
-refused_later view size s t state within =
-    subst (λ (x : CodeSession _ _). IsSessionWithin view size x) (sym state) (record {
+pub refused_later : {B : Type 0} {P : _} (size : ℕ) (s t : CodeSession B P) → t ≡ record s { lines = s.lines + 1; refused = true } →
+    IsSessionWithin size s → IsSessionWithin size t
+refused_later size s t state within =
+    subst (λ (x : CodeSession _ _). IsSessionWithin size x) (sym state) (record {
       frames_least = within.frames_least;
       frames_most = within.frames_most;
       events = omega (arith, within.events);

@@ -25,7 +25,7 @@ use Rattle.kernel_model.specs.declared.Note.TheVariants.{Refused}
 use Rattle.kernel_model.specs.declared.Refusal.TheVariants.{DiskFault}
 use Rattle.kernel_model.specs.Text.{line, spaced, boot_text, note_text, note_lines, row_lines}
 use Rattle.kernel_model.specs.Opening.{opening_kernel}
-use Rattle.kernel_state.specs.Stores.{world_for}
+use Rattle.kernel_state.specs.Sound.{world_for}
 use Rattle.placed_laws.specs.Agreeing.{SameShown}
 use Rattle.placed_laws.specs.Placed.{Placed}
 use Rattle.placed_laws.specs.PlacedRows.{placed_rows}

@@ -1,7 +1,6 @@
 -- How large the numbers of a session grow, and what always holds of its kernel.
 use Rattle.std.specs.Prelude.{◌≡◌, ℕ, ◌≤◌, true, false}
 use Rattle.kernel_model.specs.Pieces.{plain}
-use Rattle.kernel_state.specs.Stores.{Seeing}
 use Rattle.call_pieces.specs.Works.{stage_of}
 use Rattle.kernel_events.specs.Happened.{IsKernel}
 use Rattle.kernel_core.specs.Standing.{IsBlank}
@@ -10,10 +9,10 @@ use Rattle.vino_top.specs.declared.session.Session.{Session}
 
 -- On a disk of this size: the set-up is within its limits, each event had a line, and the kernel had at most a tick for each event.
 -- Before `boot` nothing came yet.
-pub record IsSessionWithin {X : Type 0} {F : X → Type 0} (view : Seeing X F) (size : ℕ) (s : Session X F) : Type 0 where
+pub record IsSessionWithin {B : Type 0} {P : _} (size : ℕ) (s : Session B P) : Type 0 where
   pub frames_least : 2 ≤ s.setup.frames
   pub frames_most : s.setup.frames ≤ 64
   pub events : s.events ≤ s.lines
-  pub kernel : s.booted ≡ true → IsKernel plain view stage_of caller_of s.events s.kernel.running
+  pub kernel : s.booted ≡ true → IsKernel plain stage_of caller_of s.events s.kernel.running
   pub size_is : s.booted ≡ true → s.kernel.running.store.size ≡ size
-  pub unbooted : s.booted ≡ false → IsBlank view caller_of s.kernel.running
+  pub unbooted : s.booted ≡ false → IsBlank caller_of s.kernel.running

@@ -54,7 +54,8 @@ pub record DemoRan (n size : ℕ) (d e : DiskSeen) (Writes : List ℕ → Type 0
   pub calls : MadeAll d e ios
   pub used : Whenever (demo_place size) (IsFirst size d.told) (λ c a. UsesAll c a (demo_lines n) ios)
   pub writes : Whenever (demo_place size) (IsFirst size d.told) (λ c a. Writes (demo_told n size a.blocks ios))
-  pub blocks : Whenever (demo_place size) (IsFirst size d.told) (λ c a. Tells e.told (lines_run c a (demo_lines n) ios).blocks)
+  pub blocks : Whenever (demo_place size) (IsFirst size d.told)
+      (λ c a. Tells e.told (lines_run c a (demo_lines n) ios).blocks)
 
 -- For the image of a line there was no memory. The disk is as the lines before it leave it.
 pub record DemoLacked (n size : ℕ) (d e : DiskSeen) : Type 0 where
@@ -78,7 +79,8 @@ pub record HasRoom (tally : Tally) : Type 0 where
   pub is : IsTally tally so_far.bytes so_far.notes
 
 -- How far the script is run, while these lines are to come: the tally is that of what was written.
-pub record DemoReached (c : Place) (all texts : List (List ℕ)) (s t : Seen) (d e : DiskSeen) (tally : Tally) : Type 0 where
+pub record DemoReached (c : Place) (all texts : List (List ℕ)) (s t : Seen) (d e : DiskSeen)
+    (tally : Tally) : Type 0 where
   pub done : List (List ℕ)
   pub order : all ≡ done ++ texts
   pub lines : t.lines ≤ s.lines + length done
@@ -93,7 +95,8 @@ pub record DemoTakes (c : Place) (text : List ℕ) (s t : Seen) (d e : DiskSeen)
   pub out : Left
   pub few : IsFew out 1
   pub runs : RanLines c (text ∷ []) s t d e out
-  pub tallied : (so_far : Left) → IsTally old so_far.bytes so_far.notes → IsTally new (joined so_far out).bytes (joined so_far out).notes
+  pub tallied : (so_far : Left) → IsTally old so_far.bytes so_far.notes →
+      IsTally new (joined so_far out).bytes (joined so_far out).notes
 
 -- There was no memory for the image of the next line, whose own run left the disk alone.
 pub record DemoStops (c : Place) (all : List (List ℕ)) (s : Seen) (d e : DiskSeen) : Type 0 where

@@ -13,7 +13,8 @@ use Rattle.vino_top.specs.Run.{Place, place, Ran, Broke, Lacked}
 use Rattle.vino_top.specs.Demos.{DemoRan, DemoLacked}
 
 -- a script was run under this key, over a disk of this size
-pub record RunDoes (c : Place) (rest rest_new : Option (List ℕ)) (before now : ℕ) (got got_new : Option (List ℕ)) (d e : DiskSeen) (status : ℕ) : Type 0 where
+pub record RunDoes (c : Place) (rest rest_new : Option (List ℕ)) (before now : ℕ)
+    (got got_new : Option (List ℕ)) (d e : DiskSeen) (status : ℕ) : Type 0 where
   pub known : status ≢ 1
   -- the status, the lines and the disk's blocks are those of the outcome
   pub ran : status ≢ 4 → status ≢ 5 → Ran c rest rest_new before now got got_new d e status
@@ -23,7 +24,8 @@ pub record RunDoes (c : Place) (rest rest_new : Option (List ℕ)) (before now :
   pub memory : status ≡ 5 → Keeps rest rest_new × Keeps got got_new × (e ≡ d) ⊎ Lacked c rest rest_new got got_new d e
 
 -- a filter read its input, and answered under this key; the disk stays
-pub record FilterDoes (f : Filter) (key : List ℕ) (rest rest_new : Option (List ℕ)) (before now : ℕ) (got got_new : Option (List ℕ)) (d e : DiskSeen) (status : ℕ) : Type 0 where
+pub record FilterDoes (f : Filter) (key : List ℕ) (rest rest_new : Option (List ℕ)) (before now : ℕ)
+    (got got_new : Option (List ℕ)) (d e : DiskSeen) (status : ℕ) : Type 0 where
   pub known : status ≢ 1
   -- the status and the bytes are those of the filter's answer
   pub ran : status ≢ 4 → status ≢ 5 → filtered.Ran f key rest rest_new before now got got_new status
@@ -40,7 +42,8 @@ UsageDoes rest rest_new got got_new d e status =
     × ((status ≡ 1) × Appends got got_new (line usage_text) ⊎ (status ≡ 4) × AppendsPart got got_new (line usage_text))
 
 -- the generated script was run, nothing was read, and the line that tells of it was written
-abbrev pub DemoDoes : (n size : ℕ) → (rest rest_new got got_new : Option (List ℕ)) → (d e : DiskSeen) → (status : ℕ) → Type 0
+abbrev pub DemoDoes : (n size : ℕ) → (rest rest_new got got_new : Option (List ℕ)) →
+    (d e : DiskSeen) → (status : ℕ) → Type 0
 DemoDoes n size rest rest_new got got_new d e status =
     Keeps rest rest_new
     × ((status ≡ 0) × DemoRan n size d e (λ told. Appends got got_new told)
@@ -48,7 +51,8 @@ DemoDoes n size rest rest_new got got_new d e status =
     ⊎ (status ≡ 5) × Keeps got got_new × ((e ≡ d) ⊎ DemoLacked n size d e))
 
 -- what is done for what the words ask, over a disk of this size
-abbrev pub Does : Asked → (size : ℕ) → (rest rest_new : Option (List ℕ)) → (before now : ℕ) → (got got_new : Option (List ℕ)) → (d e : DiskSeen) → (status : ℕ) → Type 0
+abbrev pub Does : Asked → (size : ℕ) → (rest rest_new : Option (List ℕ)) → (before now : ℕ) →
+    (got got_new : Option (List ℕ)) → (d e : DiskSeen) → (status : ℕ) → Type 0
 Does (Run key) size rest rest_new before now got got_new d e status = RunDoes (place key size) rest rest_new before now got got_new d e status
 Does (Box key) size rest rest_new before now got got_new d e status = FilterDoes filter.Box key rest rest_new before now got got_new d e status
 Does (Check key) size rest rest_new before now got got_new d e status = FilterDoes filter.Check key rest rest_new before now got got_new d e status

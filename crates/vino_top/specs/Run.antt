@@ -10,7 +10,7 @@ use Rattle.kernel_model.specs.World.{Blocks}
 use Rattle.kernel_model.specs.Session.{Session, Written, first_session, after_line, after_entry, session_after, pieces_of, first_io, later_io}
 use Rattle.kernel_model.specs.Kernel.{Kernel}
 use Rattle.kernel_model.specs.Script.{Entry, Loads, parsed_line}
-use Rattle.kernel_model.specs.Outcome.{SCRIPT_BYTES, Ending, End, Fault, Over, Outcome, outcome, written, lines_after, rest_after}
+use Rattle.kernel_model.specs.Outcome.{SCRIPT_BYTES, Ending, End, Outcome, outcome, written, lines_after, rest_after}
 use Rattle.kernel_model.specs.Text.{boot_text}
 use Rattle.kernel_core.specs.declared.kernel.BootNote.{BootNote}
 use Rattle.kernel_core.specs.declared.kernel.BootNote.TheVariants.{Up}
@@ -49,7 +49,8 @@ pieces_run c a texts ios = pieces_of present_build c.key c.size a texts ios
 pub record Uses (c : Place) (a : Session) (text : List ℕ) (io : List Bool) : Type 0 where
   pub left : (rest : List Bool) → (line_run c a text (io ++ rest)).io ≡ rest
   pub bytes : (rest : List Bool) → (line_run c a text (io ++ rest)).bytes ≡ (line_run c a text io).bytes
-  pub blocks : (rest : List Bool) → (line_run c a text (io ++ rest)).session.blocks ≡ (line_run c a text io).session.blocks
+  pub blocks : (rest : List Bool) → (line_run c a text (io ++ rest)).session.blocks
+      ≡ (line_run c a text io).session.blocks
 
 -- each of these lines makes the calls of its list, no fewer and no more
 abbrev pub UsesAll : Place → Session → List (List ℕ) → List (List Bool) → Type 0
@@ -101,7 +102,8 @@ pub record RunsLine (c : Place) (text : List ℕ) (s t : Seen) (d e : DiskSeen) 
   -- which of its calls of the disk failed
   pub io : List Bool
   pub made : Made d.faults e.faults d.plan e.plan io
-  pub comes : (a : Session) (rest : List Bool) → StandsFor s d.told a → Comes t e.told out (line_run c a text (io ++ rest)) rest
+  pub comes : (a : Session) (rest : List Bool) → StandsFor s d.told a →
+      Comes t e.told out (line_run c a text (io ++ rest)) rest
 
 -- The session went on by this entry, which took the disk from the one to the other and left `out` behind. Whatever calls
 -- behind its own would do, the entry comes to this, and leaves those.
@@ -147,7 +149,8 @@ abbrev pub Whenever : Place → (Session → Type 0) → (Place → Session → 
 Whenever c from holds = (a : Session) → from a → holds c a
 
 -- These bytes were fed to a session and to the line that was being read. The sink took what they write.
-pub record Feeds (c : Place) (s t : Seen) (line line_new bytes : List ℕ) (got got_new : Option (List ℕ)) (d e : DiskSeen) : Type 0 where
+pub record Feeds (c : Place) (s t : Seen) (line line_new bytes : List ℕ)
+    (got got_new : Option (List ℕ)) (d e : DiskSeen) : Type 0 where
   pub ios : List (List Bool)
   pub one_each : length ios ≡ length (lines_after line bytes)
   pub calls : MadeAll d e ios
@@ -155,11 +158,13 @@ pub record Feeds (c : Place) (s t : Seen) (line line_new bytes : List ℕ) (got 
   pub lines : t.lines ≤ s.lines + length bytes
   pub stands : Whenever c (StandsFor s d.told) (λ c a. StandsFor t e.told (lines_run c a (lines_after line bytes) ios))
   pub used : Whenever c (StandsFor s d.told) (λ c a. UsesAll c a (lines_after line bytes) ios)
-  pub appended : Whenever c (StandsFor s d.told) (λ c a. Appends got got_new (concat (pieces_run c a (lines_after line bytes) ios)))
+  pub appended : Whenever c (StandsFor s d.told)
+      (λ c a. Appends got got_new (concat (pieces_run c a (lines_after line bytes) ios)))
 
 -- Of these lines some were run, and of what the next one writes the sink took a part, not whole. The disk is as that line
 -- leaves it.
-pub record CutsShort (c : Place) (from : Session → Type 0) (lines : List (List ℕ)) (got got_new : Option (List ℕ)) (d e : DiskSeen) : Type 0 where
+pub record CutsShort (c : Place) (from : Session → Type 0) (lines : List (List ℕ))
+    (got got_new : Option (List ℕ)) (d e : DiskSeen) : Type 0 where
   pub done : List (List ℕ)
   pub next : List ℕ
   pub later : List (List ℕ)
@@ -177,7 +182,8 @@ pub record CutsShort (c : Place) (from : Session → Type 0) (lines : List (List
   pub blocks : Whenever c from (λ c a. Tells e.told (line_run c (lines_run c a done ios) next io).session.blocks)
 
 -- Of these lines some were run. For the image of the next one there was no memory.
-pub record Lacks (c : Place) (from : Session → Type 0) (lines : List (List ℕ)) (got got_new : Option (List ℕ)) (d e : DiskSeen) : Type 0 where
+pub record Lacks (c : Place) (from : Session → Type 0) (lines : List (List ℕ))
+    (got got_new : Option (List ℕ)) (d e : DiskSeen) : Type 0 where
   pub done : List (List ℕ)
   pub next : List ℕ
   pub later : List (List ℕ)
@@ -196,12 +202,14 @@ stop_status SinkFailed = 4
 stop_status NoMemory = 5
 
 -- why the run stopped among these lines
-abbrev pub StopsAt : Place → (Session → Type 0) → List (List ℕ) → (got got_new : Option (List ℕ)) → (d e : DiskSeen) → Stop → Type 0
+abbrev pub StopsAt : Place → (Session → Type 0) → List (List ℕ) → (got got_new : Option (List ℕ)) →
+    (d e : DiskSeen) → Stop → Type 0
 StopsAt c from lines got got_new d e SinkFailed = CutsShort c from lines got got_new d e
 StopsAt c from lines got got_new d e NoMemory = Lacks c from lines got got_new d e
 
 -- the session went on by this line, and the sink took what the line writes
-pub record TakesLine (c : Place) (text : List ℕ) (s t : Seen) (got got_new : Option (List ℕ)) (d e : DiskSeen) : Type 0 where
+pub record TakesLine (c : Place) (text : List ℕ) (s t : Seen) (got got_new : Option (List ℕ))
+    (d e : DiskSeen) : Type 0 where
   pub lines : t.lines ≤ s.lines + 1
   pub out : Left
   pub appended : Appends got got_new out.bytes
@@ -221,7 +229,8 @@ script_lines taken = lines_after [] (take SCRIPT_BYTES taken)
 -- The source gave some bytes, at most one more than a script may have, and reading ended somehow, or stopped behind a
 -- refused line. Over the blocks that the disk told: each line makes the calls of its list, the status
 -- is that of the outcome, the sink took its bytes, and the disk tells its blocks.
-pub record Ran (c : Place) (rest rest_new : Option (List ℕ)) (before now : ℕ) (got got_new : Option (List ℕ)) (d e : DiskSeen) (status : ℕ) : Type 0 where
+pub record Ran (c : Place) (rest rest_new : Option (List ℕ)) (before now : ℕ)
+    (got got_new : Option (List ℕ)) (d e : DiskSeen) (status : ℕ) : Type 0 where
   pub taken : List ℕ
   pub ending : Ending
   pub within : length taken ≤ SCRIPT_BYTES + 1
@@ -229,14 +238,18 @@ pub record Ran (c : Place) (rest rest_new : Option (List ℕ)) (before now : ℕ
   pub ios : List (List Bool)
   pub one_each : length ios ≡ length (script_lines taken)
   pub calls : MadeAll d e ios
-  pub ended : Whenever c (IsFirst c.size d.told) (λ c a. (lines_run c a (script_lines taken) ios).refused ≡ true) ⊎ HasEnded ending taken rest_new before now
+  pub ended : Whenever c (IsFirst c.size d.told)
+      (λ c a. (lines_run c a (script_lines taken) ios).refused ≡ true)
+      ⊎ HasEnded ending taken rest_new before now
   pub used : Whenever c (IsFirst c.size d.told) (λ c a. UsesAll c a (script_lines taken) ios)
   pub status_is : Whenever c (IsFirst c.size d.told) (λ c a. status ≡ (outcome_at c a.blocks taken ending ios).status)
-  pub appended : Whenever c (IsFirst c.size d.told) (λ c a. Appends got got_new (written (outcome_at c a.blocks taken ending ios)))
+  pub appended : Whenever c (IsFirst c.size d.told)
+      (λ c a. Appends got got_new (written (outcome_at c a.blocks taken ending ios)))
   pub blocks : Whenever c (IsFirst c.size d.told) (λ c a. Tells e.told (outcome_at c a.blocks taken ending ios).blocks)
 
 -- The input has ended. Of what the outcome writes behind the lines of the script the sink took a part, not whole.
-pub record CutsLast (c : Place) (taken : List ℕ) (rest_new got got_new : Option (List ℕ)) (d e : DiskSeen) : Type 0 where
+pub record CutsLast (c : Place) (taken : List ℕ) (rest_new got got_new : Option (List ℕ))
+    (d e : DiskSeen) : Type 0 where
   pub ended : (length taken ≤ SCRIPT_BYTES) × IsAtEnd rest_new
   pub ios : List (List Bool)
   pub one_each : length ios ≡ length (script_lines taken)
@@ -245,8 +258,11 @@ pub record CutsLast (c : Place) (taken : List ℕ) (rest_new got got_new : Optio
   pub more : List ℕ
   pub lacks : 0 < length more
   pub used : Whenever c (IsFirst c.size d.told) (λ c a. UsesAll c a (script_lines taken) ios)
-  pub bytes : Whenever c (IsFirst c.size d.told) (λ c a. written (outcome_at c a.blocks taken End ios) ≡ (concat (pieces_run c a (script_lines taken) ios) ++ part) ++ more)
-  pub appended : Whenever c (IsFirst c.size d.told) (λ c a. Appends got got_new (concat (pieces_run c a (script_lines taken) ios) ++ part))
+  pub bytes : Whenever c (IsFirst c.size d.told)
+      (λ c a. written (outcome_at c a.blocks taken End ios)
+      ≡ (concat (pieces_run c a (script_lines taken) ios) ++ part) ++ more)
+  pub appended : Whenever c (IsFirst c.size d.told)
+      (λ c a. Appends got got_new (concat (pieces_run c a (script_lines taken) ios) ++ part))
   pub blocks : Whenever c (IsFirst c.size d.told) (λ c a. Tells e.told (outcome_at c a.blocks taken End ios).blocks)
 
 -- The source gave some bytes, and what a line of them writes was cut short, or the last lines were.
@@ -254,7 +270,8 @@ pub record Broke (c : Place) (rest rest_new got got_new : Option (List ℕ)) (d 
   pub taken : List ℕ
   pub within : length taken ≤ SCRIPT_BYTES + 1
   pub consumed : Consumes rest rest_new taken
-  pub short : CutsShort c (IsFirst c.size d.told) (script_lines taken) got got_new d e ⊎ CutsLast c taken rest_new got got_new d e
+  pub short : CutsShort c (IsFirst c.size d.told) (script_lines taken) got got_new d e
+      ⊎ CutsLast c taken rest_new got got_new d e
 
 -- The source gave some bytes, and for one of their lines there was no memory.
 pub record Lacked (c : Place) (rest rest_new got got_new : Option (List ℕ)) (d e : DiskSeen) : Type 0 where
@@ -266,7 +283,8 @@ pub record Lacked (c : Place) (rest rest_new got got_new : Option (List ℕ)) (d
 -- ---- the steps of a run
 
 -- Where a run stands before a read, while so many bytes may still be taken.
-pub record Reached (c : Place) (s t : Seen) (rest rest_new got got_new : Option (List ℕ)) (d e : DiskSeen) (line : List ℕ) (left : ℕ) : Type 0 where
+pub record Reached (c : Place) (s t : Seen) (rest rest_new got got_new : Option (List ℕ))
+    (d e : DiskSeen) (line : List ℕ) (left : ℕ) : Type 0 where
   pub taken : List ℕ
   pub count : length taken + left ≡ SCRIPT_BYTES + 1
   pub consumed : Consumes rest rest_new taken

@@ -13,7 +13,6 @@ use Rattle.script_text.specs.declared.parse.ScriptFault.TheVariants.{BadWord, Ba
 use Rattle.call_pieces.specs.declared.Work.{Work}
 use Rattle.call_pieces.specs.Works.{stage_of}
 use Rattle.kernel_state.specs.declared.Setup.{Setup}
-use Rattle.kernel_state.specs.Stores.{Seeing}
 use Rattle.placed_laws.specs.Placed.{Placed, PlacedCall}
 use Rattle.placed_laws.specs.Stands as kernels
 use Rattle.kernel_steps.specs.Views.{placed_of}
@@ -35,12 +34,12 @@ abbrev pub caller_of : Work → ℕ
 caller_of w = w.caller
 
 -- the same of a session of the code, by what is seen of a policy
-abbrev pub seen_of : {X : Type 0} {F : X → Type 0} → Seeing X F → Session X F → Seen
-seen_of view s =
+abbrev pub seen_of : {B : Type 0} {P : _} → Session B P → Seen
+seen_of s =
     record {
       setup = s.setup;
       booted = s.booted;
-      placed = placed_of view stage_of s.kernel.running;
+      placed = placed_of stage_of s.kernel.running;
       lines = s.lines;
       events = s.events;
       refused = s.refused;

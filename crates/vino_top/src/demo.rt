@@ -28,18 +28,18 @@ const KEY: [u8; 32] = [0; 32];
 
 /// A run of the generated script: its session, what a line leaves behind, and what all lines came to.
 #[derive(Drop)]
-struct DemoRun {
-    session: Session,
+struct DemoRun<B: Policy> {
+    session: Session<B>,
     out: Buffers,
     tally: Tally,
 }
 
 /// Before the first line, with the stock policies.
-fn begin(alloc: Global, shelf: Vec<Box<dyn Policy>>) -> Result<DemoRun, NoMemory>
-    requires shelf { IsShelf (map (λ b. seen b) shelf.items) }
-    requires stock { pol_of (map (λ b. seen b) shelf.items) first_choice ≡ opening_policy }
-    ensures within { IfOk result (λ r. (size : ℕ) → IsSessionWithin (λ b. seen b) size r.session) }
-    ensures begun { IfOk result (λ r. IsBegun (seen_of (λ b. seen b) r.session)) }
+fn begin<B: Policy>(alloc: Global, shelf: Vec<B>) -> Result<DemoRun<B>, NoMemory>
+    requires shelf { IsShelf (map B.seen shelf.items) }
+    requires stock { pol_of (map B.seen shelf.items) first_choice ≡ opening_policy }
+    ensures within { IfOk result (λ r. (size : ℕ) → IsSessionWithin size r.session) }
+    ensures begun { IfOk result (λ r. IsBegun (seen_of r.session)) }
     ensures tally { IfOk result (λ r. IsTally r.tally [] []) }
 {
     Ok(DemoRun {
@@ -50,26 +50,26 @@ fn begin(alloc: Global, shelf: Vec<Box<dyn Policy>>) -> Result<DemoRun, NoMemory
 }
 
 /// Runs a line, and tallies what it leaves behind.
-fn run_one<D: Disk>(
+fn run_one<B: Policy, D: Disk>(
     alloc: Global,
-    run: &mut DemoRun,
+    run: &mut DemoRun<B>,
     text: &[u8],
     size: u32,
     disk: &mut D,
 ) -> Result<(), NoMemory>
     requires room { run.old.session.lines < 2 ^ 32 - 2 }
-    requires within { IsSessionWithin (λ b. seen (b.vtable, b.value)) size run.old.session }
+    requires within { IsSessionWithin size run.old.session }
     requires short { length text.now ≤ 2048 }
     requires disk { D.block_count disk.old ≡ size }
     requires tally { HasRoom run.old.tally }
-    ensures within { IsSessionWithin (λ b. seen (b.vtable, b.value)) size run.new.session }
+    ensures within { IsSessionWithin size run.new.session }
     ensures same_size { D.block_count disk.new ≡ size }
     ensures ok { OnOk result (DemoTakes (demo_place size) text.now
-        (seen_of (λ b. seen (b.vtable, b.value)) run.old.session)
-        (seen_of (λ b. seen (b.vtable, b.value)) run.new.session)
+        (seen_of run.old.session)
+        (seen_of run.new.session)
         (disk_seen (D.blocks disk.old) (D.plan disk.old) (D.faults disk.old))
         (disk_seen (D.blocks disk.new) (D.plan disk.new) (D.faults disk.new)) run.old.tally run.new.tally) }
-    ensures err { OnErr result (WantsAt (seen_of (λ b. seen (b.vtable, b.value)) run.old.session) text.now) }
+    ensures err { OnErr result (WantsAt (seen_of run.old.session) text.now) }
     ensures same_disk { OnErr result (disk_seen (D.blocks disk.new) (D.plan disk.new) (D.faults disk.new)
         ≡ disk_seen (D.blocks disk.old) (D.plan disk.old) (D.faults disk.old)) }
 {
@@ -81,25 +81,25 @@ fn run_one<D: Disk>(
 }
 
 /// Runs all lines that are to come.
-fn run_all<D: Disk>(
+fn run_all<B: Policy, D: Disk>(
     alloc: Global,
-    run: &mut DemoRun,
+    run: &mut DemoRun<B>,
     lines: &mut DemoLines,
     size: u32,
     disk: &mut D,
 ) -> Result<(), NoMemory>
     requires few { length lines.old ≤ 5026 }
-    requires begun { IsBegun (seen_of (λ b. seen (b.vtable, b.value)) run.old.session) }
-    requires within { IsSessionWithin (λ b. seen (b.vtable, b.value)) size run.old.session }
+    requires begun { IsBegun (seen_of run.old.session) }
+    requires within { IsSessionWithin size run.old.session }
     requires disk { D.block_count disk.old ≡ size }
     requires tally { IsTally run.old.tally [] [] }
     ensures ok { OnOk result (DemoReached (demo_place size) lines.old []
-        (seen_of (λ b. seen (b.vtable, b.value)) run.old.session)
-        (seen_of (λ b. seen (b.vtable, b.value)) run.new.session)
+        (seen_of run.old.session)
+        (seen_of run.new.session)
         (disk_seen (D.blocks disk.old) (D.plan disk.old) (D.faults disk.old))
         (disk_seen (D.blocks disk.new) (D.plan disk.new) (D.faults disk.new)) run.new.tally) }
     ensures err { OnErr result (DemoStops (demo_place size) lines.old
-        (seen_of (λ b. seen (b.vtable, b.value)) run.old.session)
+        (seen_of run.old.session)
         (disk_seen (D.blocks disk.old) (D.plan disk.old) (D.faults disk.old))
         (disk_seen (D.blocks disk.new) (D.plan disk.new) (D.faults disk.new))) }
 {
@@ -113,11 +113,11 @@ fn run_all<D: Disk>(
 }
 
 /// The line that tells of a run, once the lines of the calls that are left are tallied too.
-fn tell(run: DemoRun, n: u32, text: &mut Text)
+fn tell<B: Policy>(run: DemoRun<B>, n: u32, text: &mut Text)
     requires tally { HasRoom run.tally }
     ensures { (so_far : Left) → IsTally run.tally so_far.bytes so_far.notes →
         text.new ≡ summary_of n
-        (so_far.bytes ++ last_bytes (seen_of (λ b. seen (b.vtable, b.value)) run.session) []) so_far.notes }
+        (so_far.bytes ++ last_bytes (seen_of run.session) []) so_far.notes }
 {
     let DemoRun {
         session,
@@ -130,17 +130,17 @@ fn tell(run: DemoRun, n: u32, text: &mut Text)
 }
 
 /// Runs the script from its beginning, and tells of it.
-fn run_demo<K: Sink, D: Disk>(
+fn run_demo<B: Policy, K: Sink, D: Disk>(
     alloc: Global,
     n: u32,
-    mut run: DemoRun,
+    mut run: DemoRun<B>,
     mut lines: DemoLines,
     sink: &mut K,
     disk: &mut D,
 ) -> u8
     requires script { lines ≡ demo_lines n }
-    requires begun { IsBegun (seen_of (λ b. seen (b.vtable, b.value)) run.session) }
-    requires within { (size : ℕ) → IsSessionWithin (λ b. seen (b.vtable, b.value)) size run.session }
+    requires begun { IsBegun (seen_of run.session) }
+    requires within { (size : ℕ) → IsSessionWithin size run.session }
     requires tally { IsTally run.tally [] [] }
     ensures ran { result ≡ 0 → DemoRan n (D.block_count disk.old)
         (disk_seen (D.blocks disk.old) (D.plan disk.old) (D.faults disk.old))
@@ -171,15 +171,15 @@ fn run_demo<K: Sink, D: Disk>(
 
 /// Runs the script of a number, over a new kernel with the stock policies, and tells of it in one line. The status: 0, 4 where
 /// the sink failed, 5 for want of memory.
-pub fn demo<K: Sink, D: Disk>(
+pub fn demo<B: Policy, K: Sink, D: Disk>(
     alloc: Global,
     n: u32,
     sink: &mut K,
     disk: &mut D,
-    shelf: Vec<Box<dyn Policy>>,
+    shelf: Vec<B>,
 ) -> u8
-    requires shelf { IsShelf (map (λ b. seen b) shelf.items) }
-    requires stock { pol_of (map (λ b. seen b) shelf.items) first_choice ≡ opening_policy }
+    requires shelf { IsShelf (map B.seen shelf.items) }
+    requires stock { pol_of (map B.seen shelf.items) first_choice ≡ opening_policy }
     ensures ran { result ≡ 0 → DemoRan n (D.block_count disk.old)
         (disk_seen (D.blocks disk.old) (D.plan disk.old) (D.faults disk.old))
         (disk_seen (D.blocks disk.new) (D.plan disk.new) (D.faults disk.new))

@@ -51,14 +51,16 @@ pub fn vino<S: Source, K: Sink, D: Disk>(
     shelf: Vec<Box<dyn Policy>>,
 ) -> u8
     // The shelf has the seven stock policies, with their parameters at boot.
-    requires shelf { IsShelf (map (λ b. seen b) shelf.items) }
-    requires stock { pol_of (map (λ b. seen b) shelf.items) first_choice ≡ opening_policy }
+    requires shelf { IsShelf (map ⟦<Box<dyn Policy> as Policy>⟧.seen shelf.items) }
+    requires stock { pol_of (map ⟦<Box<dyn Policy> as Policy>⟧.seen shelf.items) first_choice ≡ opening_policy }
     // What is done for what the words ask: the status, the bytes read and written, and the disk.
     ensures does { Does (asked_by (map (λ (w : _). string_bytes w) words.now)) (D.block_count disk.old)
         (S.rest src.old) (S.rest src.new) (S.faults src.old) (S.faults src.new) (K.got out.old) (K.got out.new)
-        (disk_seen (D.blocks disk.old) (D.plan disk.old) (D.faults disk.old)) (disk_seen (D.blocks disk.new) (D.plan disk.new) (D.faults disk.new)) result }
+        (disk_seen (D.blocks disk.old) (D.plan disk.old) (D.faults disk.old))
+        (disk_seen (D.blocks disk.new) (D.plan disk.new) (D.faults disk.new)) result }
     // No other status comes.
-    ensures statuses { (result ≡ 0) ⊎ (result ≡ 1) ⊎ (result ≡ 2) ⊎ (result ≡ 3) ⊎ (result ≡ 4) ⊎ (result ≡ 5) ⊎ (result ≡ 6) ⊎ (result ≡ 7) }
+    ensures statuses { (result ≡ 0) ⊎ (result ≡ 1) ⊎ (result ≡ 2) ⊎ (result ≡ 3) ⊎ (result ≡ 4)
+        ⊎ (result ≡ 5) ⊎ (result ≡ 6) ⊎ (result ≡ 7) }
     // A source or a sink is blamed only where its count of faults rose.
     ensures source_failed { result ≡ 3 → Rose (S.faults src.old) (S.faults src.new) }
     ensures sink_failed { result ≡ 4 → Rose (K.faults out.old) (K.faults out.new) }
@@ -77,24 +79,32 @@ pub fn vino<S: Source, K: Sink, D: Disk>(
 }
 
 /// Runs the script that the source gives, with this key for its images.
-fn run_script<S: Source, K: Sink, D: Disk>(
+fn run_script<B: Policy, S: Source, K: Sink, D: Disk>(
     alloc: Global,
     key: &[u8; 32],
     src: &mut S,
     out: &mut K,
     disk: &mut D,
-    shelf: Vec<Box<dyn Policy>>,
+    shelf: Vec<B>,
 ) -> u8
-    requires shelf { IsShelf (map (λ b. seen b) shelf.items) }
-    requires stock { pol_of (map (λ b. seen b) shelf.items) first_choice ≡ opening_policy }
-    ensures ran { result ≢ 4 → result ≢ 5 → Ran (place key.now (D.block_count disk.old)) (S.rest src.old) (S.rest src.new) (S.faults src.old) (S.faults src.new) (K.got out.old) (K.got out.new)
-        (disk_seen (D.blocks disk.old) (D.plan disk.old) (D.faults disk.old)) (disk_seen (D.blocks disk.new) (D.plan disk.new) (D.faults disk.new)) result }
-    ensures broke { result ≡ 4 → Broke (place key.now (D.block_count disk.old)) (S.rest src.old) (S.rest src.new) (K.got out.old) (K.got out.new)
-        (disk_seen (D.blocks disk.old) (D.plan disk.old) (D.faults disk.old)) (disk_seen (D.blocks disk.new) (D.plan disk.new) (D.faults disk.new)) }
+    requires shelf { IsShelf (map B.seen shelf.items) }
+    requires stock { pol_of (map B.seen shelf.items) first_choice ≡ opening_policy }
+    ensures ran { result ≢ 4 → result ≢ 5 →
+        Ran (place key.now (D.block_count disk.old)) (S.rest src.old) (S.rest src.new)
+        (S.faults src.old) (S.faults src.new) (K.got out.old) (K.got out.new)
+        (disk_seen (D.blocks disk.old) (D.plan disk.old) (D.faults disk.old))
+        (disk_seen (D.blocks disk.new) (D.plan disk.new) (D.faults disk.new)) result }
+    ensures broke { result ≡ 4 → Broke (place key.now (D.block_count disk.old)) (S.rest src.old)
+        (S.rest src.new) (K.got out.old) (K.got out.new)
+        (disk_seen (D.blocks disk.old) (D.plan disk.old) (D.faults disk.old))
+        (disk_seen (D.blocks disk.new) (D.plan disk.new) (D.faults disk.new)) }
     ensures memory { result ≡ 5 → Keeps (S.rest src.old) (S.rest src.new) × Keeps (K.got out.old) (K.got out.new)
-        × (disk_seen (D.blocks disk.new) (D.plan disk.new) (D.faults disk.new) ≡ disk_seen (D.blocks disk.old) (D.plan disk.old) (D.faults disk.old))
-        ⊎ Lacked (place key.now (D.block_count disk.old)) (S.rest src.old) (S.rest src.new) (K.got out.old) (K.got out.new)
-        (disk_seen (D.blocks disk.old) (D.plan disk.old) (D.faults disk.old)) (disk_seen (D.blocks disk.new) (D.plan disk.new) (D.faults disk.new)) }
+        × (disk_seen (D.blocks disk.new) (D.plan disk.new) (D.faults disk.new)
+        ≡ disk_seen (D.blocks disk.old) (D.plan disk.old) (D.faults disk.old))
+        ⊎ Lacked (place key.now (D.block_count disk.old)) (S.rest src.old) (S.rest src.new)
+        (K.got out.old) (K.got out.new)
+        (disk_seen (D.blocks disk.old) (D.plan disk.old) (D.faults disk.old))
+        (disk_seen (D.blocks disk.new) (D.plan disk.new) (D.faults disk.new)) }
     ensures statuses { (result ≡ 0) ⊎ (result ≡ 2) ⊎ (result ≡ 3) ⊎ (result ≡ 4) ⊎ (result ≡ 5) ⊎ (result ≡ 7) }
     ensures source_later { S.faults src.old ≤ S.faults src.new }
     ensures sink_later { K.faults out.old ≤ K.faults out.new }
@@ -109,7 +119,8 @@ fn run_script<S: Source, K: Sink, D: Disk>(
 
 /// Writes the usage line.
 fn write_usage<K: Sink>(out: &mut K) -> u8
-    ensures cases { (result ≡ 1) × Appends (K.got out.old) (K.got out.new) (line usage_text) ⊎ (result ≡ 4) × AppendsPart (K.got out.old) (K.got out.new) (line usage_text) }
+    ensures cases { (result ≡ 1) × Appends (K.got out.old) (K.got out.new) (line usage_text)
+        ⊎ (result ≡ 4) × AppendsPart (K.got out.old) (K.got out.new) (line usage_text) }
     ensures sink_failed { result ≡ 4 → Rose (K.faults out.old) (K.faults out.new) }
     ensures sink_later { K.faults out.old ≤ K.faults out.new }
 {
@@ -120,25 +131,33 @@ fn write_usage<K: Sink>(out: &mut K) -> u8
 }
 
 /// Runs a script from its beginning.
-fn start<S: Source, K: Sink, D: Disk>(
+fn start<B: Policy, S: Source, K: Sink, D: Disk>(
     alloc: Global,
     key: &[u8; 32],
-    mut reader: run::Reader,
+    mut reader: run::Reader<B>,
     src: &mut S,
     out: &mut K,
     disk: &mut D,
 ) -> u8
-    requires begun { IsBegun (seen_of (λ b. seen (b.vtable, b.value)) reader.session) }
-    requires within { (size : ℕ) → IsSessionWithin (λ b. seen (b.vtable, b.value)) size reader.session }
+    requires begun { IsBegun (seen_of reader.session) }
+    requires within { (size : ℕ) → IsSessionWithin size reader.session }
     requires line { reader.line ≡ [] }
-    ensures ran { result ≢ 4 → result ≢ 5 → Ran (place key.now (D.block_count disk.old)) (S.rest src.old) (S.rest src.new) (S.faults src.old) (S.faults src.new) (K.got out.old) (K.got out.new)
-        (disk_seen (D.blocks disk.old) (D.plan disk.old) (D.faults disk.old)) (disk_seen (D.blocks disk.new) (D.plan disk.new) (D.faults disk.new)) result }
-    ensures broke { result ≡ 4 → Broke (place key.now (D.block_count disk.old)) (S.rest src.old) (S.rest src.new) (K.got out.old) (K.got out.new)
-        (disk_seen (D.blocks disk.old) (D.plan disk.old) (D.faults disk.old)) (disk_seen (D.blocks disk.new) (D.plan disk.new) (D.faults disk.new)) }
+    ensures ran { result ≢ 4 → result ≢ 5 →
+        Ran (place key.now (D.block_count disk.old)) (S.rest src.old) (S.rest src.new)
+        (S.faults src.old) (S.faults src.new) (K.got out.old) (K.got out.new)
+        (disk_seen (D.blocks disk.old) (D.plan disk.old) (D.faults disk.old))
+        (disk_seen (D.blocks disk.new) (D.plan disk.new) (D.faults disk.new)) result }
+    ensures broke { result ≡ 4 → Broke (place key.now (D.block_count disk.old)) (S.rest src.old)
+        (S.rest src.new) (K.got out.old) (K.got out.new)
+        (disk_seen (D.blocks disk.old) (D.plan disk.old) (D.faults disk.old))
+        (disk_seen (D.blocks disk.new) (D.plan disk.new) (D.faults disk.new)) }
     ensures memory { result ≡ 5 → Keeps (S.rest src.old) (S.rest src.new) × Keeps (K.got out.old) (K.got out.new)
-        × (disk_seen (D.blocks disk.new) (D.plan disk.new) (D.faults disk.new) ≡ disk_seen (D.blocks disk.old) (D.plan disk.old) (D.faults disk.old))
-        ⊎ Lacked (place key.now (D.block_count disk.old)) (S.rest src.old) (S.rest src.new) (K.got out.old) (K.got out.new)
-        (disk_seen (D.blocks disk.old) (D.plan disk.old) (D.faults disk.old)) (disk_seen (D.blocks disk.new) (D.plan disk.new) (D.faults disk.new)) }
+        × (disk_seen (D.blocks disk.new) (D.plan disk.new) (D.faults disk.new)
+        ≡ disk_seen (D.blocks disk.old) (D.plan disk.old) (D.faults disk.old))
+        ⊎ Lacked (place key.now (D.block_count disk.old)) (S.rest src.old) (S.rest src.new)
+        (K.got out.old) (K.got out.new)
+        (disk_seen (D.blocks disk.old) (D.plan disk.old) (D.faults disk.old))
+        (disk_seen (D.blocks disk.new) (D.plan disk.new) (D.faults disk.new)) }
     ensures statuses { (result ≡ 0) ⊎ (result ≡ 2) ⊎ (result ≡ 3) ⊎ (result ≡ 4) ⊎ (result ≡ 5) ⊎ (result ≡ 7) }
     ensures source_later { S.faults src.old ≤ S.faults src.new }
     ensures sink_later { K.faults out.old ≤ K.faults out.new }

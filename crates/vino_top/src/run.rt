@@ -36,19 +36,19 @@ pub enum Stop {
 
 /// The run of a script: its session, the line that is being read, and what a line leaves behind.
 #[derive(Drop)]
-pub struct Reader {
-    pub session: Session,
+pub struct Reader<B: Policy> {
+    pub session: Session<B>,
     pub line: LineBuf,
     pub out: Buffers,
 }
 
-impl Reader {
+impl<B: Policy> Reader<B> {
     /// Before the first byte, with the stock policies.
-    pub fn new(alloc: Global, shelf: Vec<Box<dyn Policy>>) -> Result<Reader, NoMemory>
-        requires shelf { IsShelf (map (λ b. seen b) shelf.items) }
-        requires stock { pol_of (map (λ b. seen b) shelf.items) first_choice ≡ opening_policy }
-        ensures within { IfOk result (λ r. (size : ℕ) → IsSessionWithin (λ b. seen b) size r.session) }
-        ensures begun { IfOk result (λ r. IsBegun (seen_of (λ b. seen b) r.session)) }
+    pub fn new(alloc: Global, shelf: Vec<B>) -> Result<Reader<B>, NoMemory>
+        requires shelf { IsShelf (map B.seen shelf.items) }
+        requires stock { pol_of (map B.seen shelf.items) first_choice ≡ opening_policy }
+        ensures within { IfOk result (λ r. (size : ℕ) → IsSessionWithin size r.session) }
+        ensures begun { IfOk result (λ r. IsBegun (seen_of r.session)) }
         ensures line { IfOk result (λ r. r.line ≡ []) }
     {
         Ok(Reader {
@@ -70,7 +70,7 @@ pub fn zeros(alloc: Global, n: usize) -> Result<Vec<u8>, NoMemory>
 }
 
 /// What a line writes is written.
-fn write_lines<K: Sink>(reader: &Reader, out: &mut K) -> Result<(), Stop>
+fn write_lines<B: Policy, K: Sink>(reader: &Reader<B>, out: &mut K) -> Result<(), Stop>
     ensures later { K.faults out.old ≤ K.faults out.new }
     ensures sink_failed { result ≡ Err SinkFailed → Rose (K.faults out.old) (K.faults out.new) }
     ensures contents { MatchResult result (λ _. Appends (K.got out.old) (K.got out.new) reader.now.out.lines)
@@ -83,25 +83,29 @@ fn write_lines<K: Sink>(reader: &Reader, out: &mut K) -> Result<(), Stop>
 }
 
 /// The line has ended: it is run, and what it writes is written.
-fn end_line<K: Sink, D: Disk>(
+fn end_line<B: Policy, K: Sink, D: Disk>(
     alloc: Global,
     key: &[u8; 32],
-    reader: &mut Reader,
+    reader: &mut Reader<B>,
     size: u32,
     out: &mut K,
     disk: &mut D,
 ) -> Result<(), Stop>
     requires lines { reader.old.session.lines < 2 ^ 32 - 2 }
-    requires within { IsSessionWithin (λ b. seen (b.vtable, b.value)) size reader.old.session }
+    requires within { IsSessionWithin size reader.old.session }
     requires short { length reader.old.line ≤ LINE_BYTES }
     requires disk { D.block_count disk.old ≡ size }
-    ensures within { IsSessionWithin (λ b. seen (b.vtable, b.value)) size reader.new.session }
+    ensures within { IsSessionWithin size reader.new.session }
     ensures line { OnOk result (reader.new.line ≡ []) }
     ensures contents { MatchResult result
-        (λ _. TakesLine (place key.now size) reader.old.line (seen_of (λ b. seen (b.vtable, b.value)) reader.old.session) (seen_of (λ b. seen (b.vtable, b.value)) reader.new.session) (K.got out.old) (K.got out.new)
-        (disk_seen (D.blocks disk.old) (D.plan disk.old) (D.faults disk.old)) (disk_seen (D.blocks disk.new) (D.plan disk.new) (D.faults disk.new)))
-        (StopsAt (place key.now size) (StandsFor (seen_of (λ b. seen (b.vtable, b.value)) reader.old.session) (D.blocks disk.old)) (reader.old.line ∷ []) (K.got out.old) (K.got out.new)
-        (disk_seen (D.blocks disk.old) (D.plan disk.old) (D.faults disk.old)) (disk_seen (D.blocks disk.new) (D.plan disk.new) (D.faults disk.new))) }
+        (λ _. TakesLine (place key.now size) reader.old.line (seen_of reader.old.session)
+        (seen_of reader.new.session) (K.got out.old) (K.got out.new)
+        (disk_seen (D.blocks disk.old) (D.plan disk.old) (D.faults disk.old))
+        (disk_seen (D.blocks disk.new) (D.plan disk.new) (D.faults disk.new)))
+        (StopsAt (place key.now size) (StandsFor (seen_of reader.old.session) (D.blocks disk.old))
+        (reader.old.line ∷ []) (K.got out.old) (K.got out.new)
+        (disk_seen (D.blocks disk.old) (D.plan disk.old) (D.faults disk.old))
+        (disk_seen (D.blocks disk.new) (D.plan disk.new) (D.faults disk.new))) }
     ensures later { K.faults out.old ≤ K.faults out.new }
     ensures sink_failed { result ≡ Err SinkFailed → Rose (K.faults out.old) (K.faults out.new) }
     ensures same_size { D.block_count disk.new ≡ size }
@@ -121,14 +125,16 @@ fn end_line<K: Sink, D: Disk>(
 }
 
 /// The line is too long with this byte.
-fn end_long<K: Sink>(reader: &mut Reader, byte: u8, out: &mut K) -> Result<(), Stop>
+fn end_long<B: Policy, K: Sink>(reader: &mut Reader<B>, byte: u8, out: &mut K) -> Result<(), Stop>
     requires lines { reader.old.session.lines < 2 ^ 32 - 2 }
     requires long { length reader.old.line ≡ LINE_BYTES }
-    ensures within { (size : ℕ) → IsSessionWithin (λ b. seen (b.vtable, b.value)) size reader.old.session → IsSessionWithin (λ b. seen (b.vtable, b.value)) size reader.new.session }
+    ensures within { (size : ℕ) → IsSessionWithin size reader.old.session → IsSessionWithin size reader.new.session }
     ensures line { OnOk result (reader.new.line ≡ []) }
     ensures contents { (c : Place) (d : DiskSeen) → MatchResult result
-        (λ _. TakesLine c (reader.old.line ++ byte ∷ []) (seen_of (λ b. seen (b.vtable, b.value)) reader.old.session) (seen_of (λ b. seen (b.vtable, b.value)) reader.new.session) (K.got out.old) (K.got out.new) d d)
-        (StopsAt c (StandsFor (seen_of (λ b. seen (b.vtable, b.value)) reader.old.session) d.told) ((reader.old.line ++ byte ∷ []) ∷ []) (K.got out.old) (K.got out.new) d d) }
+        (λ _. TakesLine c (reader.old.line ++ byte ∷ []) (seen_of reader.old.session)
+        (seen_of reader.new.session) (K.got out.old) (K.got out.new) d d)
+        (StopsAt c (StandsFor (seen_of reader.old.session) d.told)
+        ((reader.old.line ++ byte ∷ []) ∷ []) (K.got out.old) (K.got out.new) d d) }
     ensures later { K.faults out.old ≤ K.faults out.new }
     ensures sink_failed { result ≡ Err SinkFailed → Rose (K.faults out.old) (K.faults out.new) }
 {
@@ -138,25 +144,30 @@ fn end_long<K: Sink>(reader: &mut Reader, byte: u8, out: &mut K) -> Result<(), S
 }
 
 /// One byte of the script.
-fn take_byte<K: Sink, D: Disk>(
+fn take_byte<B: Policy, K: Sink, D: Disk>(
     alloc: Global,
     key: &[u8; 32],
-    reader: &mut Reader,
+    reader: &mut Reader<B>,
     byte: u8,
     size: u32,
     out: &mut K,
     disk: &mut D,
 ) -> Result<(), Stop>
     requires lines { reader.old.session.lines < 2 ^ 32 - 2 }
-    requires within { IsSessionWithin (λ b. seen (b.vtable, b.value)) size reader.old.session }
+    requires within { IsSessionWithin size reader.old.session }
     requires short { length reader.old.line ≤ LINE_BYTES }
     requires disk { D.block_count disk.old ≡ size }
-    ensures within { IsSessionWithin (λ b. seen (b.vtable, b.value)) size reader.new.session }
+    ensures within { IsSessionWithin size reader.new.session }
     ensures contents { MatchResult result
-        (λ _. Feeds (place key.now size) (seen_of (λ b. seen (b.vtable, b.value)) reader.old.session) (seen_of (λ b. seen (b.vtable, b.value)) reader.new.session) reader.old.line reader.new.line (byte ∷ []) (K.got out.old) (K.got out.new)
-        (disk_seen (D.blocks disk.old) (D.plan disk.old) (D.faults disk.old)) (disk_seen (D.blocks disk.new) (D.plan disk.new) (D.faults disk.new)))
-        (StopsAt (place key.now size) (StandsFor (seen_of (λ b. seen (b.vtable, b.value)) reader.old.session) (D.blocks disk.old)) (lines_after reader.old.line (byte ∷ [])) (K.got out.old) (K.got out.new)
-        (disk_seen (D.blocks disk.old) (D.plan disk.old) (D.faults disk.old)) (disk_seen (D.blocks disk.new) (D.plan disk.new) (D.faults disk.new))) }
+        (λ _. Feeds (place key.now size) (seen_of reader.old.session)
+        (seen_of reader.new.session) reader.old.line reader.new.line (byte ∷ []) (K.got out.old)
+        (K.got out.new)
+        (disk_seen (D.blocks disk.old) (D.plan disk.old) (D.faults disk.old))
+        (disk_seen (D.blocks disk.new) (D.plan disk.new) (D.faults disk.new)))
+        (StopsAt (place key.now size) (StandsFor (seen_of reader.old.session) (D.blocks disk.old))
+        (lines_after reader.old.line (byte ∷ [])) (K.got out.old) (K.got out.new)
+        (disk_seen (D.blocks disk.old) (D.plan disk.old) (D.faults disk.old))
+        (disk_seen (D.blocks disk.new) (D.plan disk.new) (D.faults disk.new))) }
     ensures later { K.faults out.old ≤ K.faults out.new }
     ensures sink_failed { result ≡ Err SinkFailed → Rose (K.faults out.old) (K.faults out.new) }
     ensures same_size { D.block_count disk.new ≡ size }
@@ -169,25 +180,30 @@ fn take_byte<K: Sink, D: Disk>(
 }
 
 /// Some bytes of the script, one after another.
-fn feed<K: Sink, D: Disk>(
+fn feed<B: Policy, K: Sink, D: Disk>(
     alloc: Global,
     key: &[u8; 32],
-    reader: &mut Reader,
+    reader: &mut Reader<B>,
     bytes: &[u8],
     size: u32,
     out: &mut K,
     disk: &mut D,
 ) -> Result<(), Stop>
     requires lines { reader.old.session.lines + length bytes.now < 2 ^ 32 - 2 }
-    requires within { IsSessionWithin (λ b. seen (b.vtable, b.value)) size reader.old.session }
+    requires within { IsSessionWithin size reader.old.session }
     requires short { length reader.old.line ≤ LINE_BYTES }
     requires disk { D.block_count disk.old ≡ size }
-    ensures within { IsSessionWithin (λ b. seen (b.vtable, b.value)) size reader.new.session }
+    ensures within { IsSessionWithin size reader.new.session }
     ensures contents { MatchResult result
-        (λ _. Feeds (place key.now size) (seen_of (λ b. seen (b.vtable, b.value)) reader.old.session) (seen_of (λ b. seen (b.vtable, b.value)) reader.new.session) reader.old.line reader.new.line bytes.now (K.got out.old) (K.got out.new)
-        (disk_seen (D.blocks disk.old) (D.plan disk.old) (D.faults disk.old)) (disk_seen (D.blocks disk.new) (D.plan disk.new) (D.faults disk.new)))
-        (StopsAt (place key.now size) (StandsFor (seen_of (λ b. seen (b.vtable, b.value)) reader.old.session) (D.blocks disk.old)) (lines_after reader.old.line bytes.now) (K.got out.old) (K.got out.new)
-        (disk_seen (D.blocks disk.old) (D.plan disk.old) (D.faults disk.old)) (disk_seen (D.blocks disk.new) (D.plan disk.new) (D.faults disk.new))) }
+        (λ _. Feeds (place key.now size) (seen_of reader.old.session)
+        (seen_of reader.new.session) reader.old.line reader.new.line bytes.now (K.got out.old)
+        (K.got out.new)
+        (disk_seen (D.blocks disk.old) (D.plan disk.old) (D.faults disk.old))
+        (disk_seen (D.blocks disk.new) (D.plan disk.new) (D.faults disk.new)))
+        (StopsAt (place key.now size) (StandsFor (seen_of reader.old.session) (D.blocks disk.old))
+        (lines_after reader.old.line bytes.now) (K.got out.old) (K.got out.new)
+        (disk_seen (D.blocks disk.old) (D.plan disk.old) (D.faults disk.old))
+        (disk_seen (D.blocks disk.new) (D.plan disk.new) (D.faults disk.new))) }
     ensures later { K.faults out.old ≤ K.faults out.new }
     ensures sink_failed { result ≡ Err SinkFailed → Rose (K.faults out.old) (K.faults out.new) }
     ensures same_size { D.block_count disk.new ≡ size }
@@ -201,7 +217,7 @@ fn feed<K: Sink, D: Disk>(
 }
 
 /// Writes the last lines of a run, which ends with this status.
-fn write_last<K: Sink>(reader: &Reader, status: u8, out: &mut K) -> u8
+fn write_last<B: Policy, K: Sink>(reader: &Reader<B>, status: u8, out: &mut K) -> u8
     requires { (status ≡ 0) ⊎ (status ≡ 2) }
     ensures done { result ≢ 4 → (result ≡ status) × Appends (K.got out.old) (K.got out.new) reader.now.out.lines }
     ensures broken { result ≡ 4 → AppendsPart (K.got out.old) (K.got out.new) reader.now.out.lines }
@@ -216,11 +232,14 @@ fn write_last<K: Sink>(reader: &Reader, status: u8, out: &mut K) -> u8
 }
 
 /// The input has ended: bytes behind the last newline are refused, and else a line is written for each call that is left.
-fn finish<K: Sink>(reader: &mut Reader, out: &mut K) -> u8
+fn finish<B: Policy, K: Sink>(reader: &mut Reader<B>, out: &mut K) -> u8
     requires lines { reader.old.session.lines < 2 ^ 32 - 2 }
-    requires within { (size : ℕ) × IsSessionWithin (λ b. seen (b.vtable, b.value)) size reader.old.session }
-    ensures done { result ≢ 4 → (result ≡ last_status reader.old.line) × Appends (K.got out.old) (K.got out.new) (last_bytes (seen_of (λ b. seen (b.vtable, b.value)) reader.old.session) reader.old.line) }
-    ensures broken { result ≡ 4 → AppendsPart (K.got out.old) (K.got out.new) (last_bytes (seen_of (λ b. seen (b.vtable, b.value)) reader.old.session) reader.old.line) }
+    requires within { (size : ℕ) × IsSessionWithin size reader.old.session }
+    ensures done { result ≢ 4 → (result ≡ last_status reader.old.line)
+        × Appends (K.got out.old) (K.got out.new)
+        (last_bytes (seen_of reader.old.session) reader.old.line) }
+    ensures broken { result ≡ 4 → AppendsPart (K.got out.old) (K.got out.new)
+        (last_bytes (seen_of reader.old.session) reader.old.line) }
     ensures statuses { (result ≡ 0) ⊎ (result ≡ 2) ⊎ (result ≡ 4) }
     ensures later { K.faults out.old ≤ K.faults out.new }
     ensures sink_failed { result ≡ 4 → Rose (K.faults out.old) (K.faults out.new) }
@@ -244,25 +263,32 @@ fn status_of(stop: Stop) -> u8
 }
 
 /// Runs the script that the source gives, to its end or to the first thing that stops it. The status.
-pub fn run<S: Source, K: Sink, D: Disk>(
+pub fn run<B: Policy, S: Source, K: Sink, D: Disk>(
     alloc: Global,
     key: &[u8; 32],
-    reader: &mut Reader,
+    reader: &mut Reader<B>,
     buf: &mut [u8],
     src: &mut S,
     out: &mut K,
     disk: &mut D,
 ) -> u8
-    requires begun { IsBegun (seen_of (λ b. seen (b.vtable, b.value)) reader.old.session) }
-    requires within { IsSessionWithin (λ b. seen (b.vtable, b.value)) (D.block_count disk.old) reader.old.session }
+    requires begun { IsBegun (seen_of reader.old.session) }
+    requires within { IsSessionWithin (D.block_count disk.old) reader.old.session }
     requires line { reader.old.line ≡ [] }
     requires room { 0 < length buf.old }
-    ensures ran { result ≢ 4 → result ≢ 5 → Ran (place key.now (D.block_count disk.old)) (S.rest src.old) (S.rest src.new) (S.faults src.old) (S.faults src.new) (K.got out.old) (K.got out.new)
-        (disk_seen (D.blocks disk.old) (D.plan disk.old) (D.faults disk.old)) (disk_seen (D.blocks disk.new) (D.plan disk.new) (D.faults disk.new)) result }
-    ensures broke { result ≡ 4 → Broke (place key.now (D.block_count disk.old)) (S.rest src.old) (S.rest src.new) (K.got out.old) (K.got out.new)
-        (disk_seen (D.blocks disk.old) (D.plan disk.old) (D.faults disk.old)) (disk_seen (D.blocks disk.new) (D.plan disk.new) (D.faults disk.new)) }
-    ensures lacked { result ≡ 5 → Lacked (place key.now (D.block_count disk.old)) (S.rest src.old) (S.rest src.new) (K.got out.old) (K.got out.new)
-        (disk_seen (D.blocks disk.old) (D.plan disk.old) (D.faults disk.old)) (disk_seen (D.blocks disk.new) (D.plan disk.new) (D.faults disk.new)) }
+    ensures ran { result ≢ 4 → result ≢ 5 →
+        Ran (place key.now (D.block_count disk.old)) (S.rest src.old) (S.rest src.new)
+        (S.faults src.old) (S.faults src.new) (K.got out.old) (K.got out.new)
+        (disk_seen (D.blocks disk.old) (D.plan disk.old) (D.faults disk.old))
+        (disk_seen (D.blocks disk.new) (D.plan disk.new) (D.faults disk.new)) result }
+    ensures broke { result ≡ 4 → Broke (place key.now (D.block_count disk.old)) (S.rest src.old)
+        (S.rest src.new) (K.got out.old) (K.got out.new)
+        (disk_seen (D.blocks disk.old) (D.plan disk.old) (D.faults disk.old))
+        (disk_seen (D.blocks disk.new) (D.plan disk.new) (D.faults disk.new)) }
+    ensures lacked { result ≡ 5 → Lacked (place key.now (D.block_count disk.old)) (S.rest src.old)
+        (S.rest src.new) (K.got out.old) (K.got out.new)
+        (disk_seen (D.blocks disk.old) (D.plan disk.old) (D.faults disk.old))
+        (disk_seen (D.blocks disk.new) (D.plan disk.new) (D.faults disk.new)) }
     ensures statuses { (result ≡ 0) ⊎ (result ≡ 2) ⊎ (result ≡ 3) ⊎ (result ≡ 4) ⊎ (result ≡ 5) ⊎ (result ≡ 7) }
     ensures source_failed { result ≡ 3 → Rose (S.faults src.old) (S.faults src.new) }
     ensures source_later { S.faults src.old ≤ S.faults src.new }

@@ -61,13 +61,13 @@ impl Buffers {
 
 /// How far a script has come.
 #[derive(Drop)]
-pub struct Session {
+pub struct Session<B: Policy> {
     /// What the set-up lines set.
     pub setup: Setup,
     /// Whether `boot` was run.
     pub booted: bool,
     /// What `boot` begins anew.
-    pub kernel: Kernel<Plain>,
+    pub kernel: Kernel<Plain, B>,
     /// How many lines were taken.
     pub lines: u32,
     /// How many events were counted.
@@ -76,13 +76,13 @@ pub struct Session {
     pub refused: bool,
 }
 
-impl Session {
+impl<B: Policy> Session<B> {
     /// Before the first line, with the stock policies.
-    pub fn new(alloc: Global, shelf: Vec<Box<dyn Policy>>) -> Result<Session, NoMemory>
-        requires shelf { IsShelf (map (λ b. seen b) shelf.items) }
-        requires stock { pol_of (map (λ b. seen b) shelf.items) first_choice ≡ opening_policy }
-        ensures within { IfOk result (λ s. (size : ℕ) → IsSessionWithin (λ b. seen b) size s) }
-        ensures begun { IfOk result (λ s. IsBegun (seen_of (λ b. seen b) s)) }
+    pub fn new(alloc: Global, shelf: Vec<B>) -> Result<Session<B>, NoMemory>
+        requires shelf { IsShelf (map B.seen shelf.items) }
+        requires stock { pol_of (map B.seen shelf.items) first_choice ≡ opening_policy }
+        ensures within { IfOk result (λ s. (size : ℕ) → IsSessionWithin size s) }
+        ensures begun { IfOk result (λ s. IsBegun (seen_of s)) }
     {
         let setup = Setup {
             frames: 8,
@@ -120,15 +120,19 @@ impl Session {
         out: &mut Buffers,
     ) -> Result<(), NoMemory>
         requires room { self.old.lines < 2 ^ 32 - 2 }
-        requires within { IsSessionWithin (λ b. seen (b.vtable, b.value)) size self.old }
+        requires within { IsSessionWithin size self.old }
         requires short { length text.now ≤ 65536 }
         requires disk { D.block_count disk.old ≡ size }
-        ensures within { IsSessionWithin (λ b. seen (b.vtable, b.value)) size self.new }
+        ensures within { IsSessionWithin size self.new }
         ensures counted { self.new.lines ≤ self.old.lines + 1 }
         ensures same_size { D.block_count disk.new ≡ size }
-        ensures ok { OnOk result (RunsLine (place key.now size) text.now (seen_of (λ b. seen (b.vtable, b.value)) self.old) (seen_of (λ b. seen (b.vtable, b.value)) self.new) (disk_seen (D.blocks disk.old) (D.plan disk.old) (D.faults disk.old)) (disk_seen (D.blocks disk.new) (D.plan disk.new) (D.faults disk.new)) (left_in out.new)) }
-        ensures err { OnErr result ((self.new ≡ self.old) × WantsAt (seen_of (λ b. seen (b.vtable, b.value)) self.old) text.now) }
-        ensures same_disk { OnErr result (disk_seen (D.blocks disk.new) (D.plan disk.new) (D.faults disk.new) ≡ disk_seen (D.blocks disk.old) (D.plan disk.old) (D.faults disk.old)) }
+        ensures ok { OnOk result (RunsLine (place key.now size) text.now (seen_of self.old)
+            (seen_of self.new) (disk_seen (D.blocks disk.old) (D.plan disk.old) (D.faults disk.old))
+            (disk_seen (D.blocks disk.new) (D.plan disk.new) (D.faults disk.new)) (left_in out.new)) }
+        ensures err { OnErr result ((self.new ≡ self.old) × WantsAt (seen_of self.old) text.now) }
+        ensures same_disk { OnErr result (disk_seen (D.blocks disk.new) (D.plan disk.new)
+            (D.faults disk.new) ≡ disk_seen (D.blocks disk.old) (D.plan disk.old)
+            (D.faults disk.old)) }
     {
         out.clear();
         if self.refused {
@@ -154,9 +158,10 @@ impl Session {
     /// Takes a line that is longer than a line may be.
     pub fn refuse_long(&mut self, out: &mut Buffers)
         requires room { self.old.lines < 2 ^ 32 - 2 }
-        ensures within { (size : ℕ) → IsSessionWithin (λ b. seen (b.vtable, b.value)) size self.old → IsSessionWithin (λ b. seen (b.vtable, b.value)) size self.new }
+        ensures within { (size : ℕ) → IsSessionWithin size self.old → IsSessionWithin size self.new }
         ensures counted { self.new.lines ≤ self.old.lines + 1 }
-        ensures runs { (c : Place) (text : List ℕ) (d : DiskSeen) → 65536 < length text → RunsLine c text (seen_of (λ b. seen (b.vtable, b.value)) self.old) (seen_of (λ b. seen (b.vtable, b.value)) self.new) d d (left_in out.new) }
+        ensures runs { (c : Place) (text : List ℕ) (d : DiskSeen) → 65536 < length text →
+            RunsLine c text (seen_of self.old) (seen_of self.new) d d (left_in out.new) }
     {
         out.clear();
         if self.refused {
@@ -190,18 +195,23 @@ impl Session {
     ) -> Result<(), NoMemory>
         requires room { self.old.lines < 2 ^ 32 - 1 }
         requires fresh { self.old.events < self.old.lines }
-        requires within { IsSessionWithin (λ b. seen (b.vtable, b.value)) size self.old }
+        requires within { IsSessionWithin size self.old }
         requires disk { D.block_count disk.old ≡ size }
         requires limits { SetsWithin (Ok entry.now) }
         requires place { entry_seen entry.now ≡ Boot → self.old.booted ≡ false }
         requires no_notes { out.old.notes ≡ [] }
         requires empty { out.old.lines ≡ [] }
-        ensures within { IsSessionWithin (λ b. seen (b.vtable, b.value)) size self.new }
+        ensures within { IsSessionWithin size self.new }
         ensures counted { self.new.lines ≡ self.old.lines }
         ensures same_size { D.block_count disk.new ≡ size }
-        ensures runs { OnOk result (RunsEntry (place key.now size) (entry_seen entry.now) (seen_of (λ b. seen (b.vtable, b.value)) self.old) (seen_of (λ b. seen (b.vtable, b.value)) self.new) (disk_seen (D.blocks disk.old) (D.plan disk.old) (D.faults disk.old)) (disk_seen (D.blocks disk.new) (D.plan disk.new) (D.faults disk.new)) (left_in out.new)) }
-        ensures err { OnErr result ((self.new ≡ self.old) × LoadsFree (seen_of (λ b. seen (b.vtable, b.value)) self.old) (entry_seen entry.now)) }
-        ensures same_disk { OnErr result (disk_seen (D.blocks disk.new) (D.plan disk.new) (D.faults disk.new) ≡ disk_seen (D.blocks disk.old) (D.plan disk.old) (D.faults disk.old)) }
+        ensures runs { OnOk result (RunsEntry (place key.now size) (entry_seen entry.now)
+            (seen_of self.old) (seen_of self.new)
+            (disk_seen (D.blocks disk.old) (D.plan disk.old) (D.faults disk.old))
+            (disk_seen (D.blocks disk.new) (D.plan disk.new) (D.faults disk.new)) (left_in out.new)) }
+        ensures err { OnErr result ((self.new ≡ self.old) × LoadsFree (seen_of self.old) (entry_seen entry.now)) }
+        ensures same_disk { OnErr result (disk_seen (D.blocks disk.new) (D.plan disk.new)
+            (D.faults disk.new) ≡ disk_seen (D.blocks disk.old) (D.plan disk.old)
+            (D.faults disk.old)) }
     {
         match entry {
             Entry::Blank => Ok(()),
@@ -236,14 +246,17 @@ impl Session {
     /// The kernel begins.
     fn boot<D: Disk>(&mut self, size: u32, disk: &mut D, out: &mut Buffers)
         requires first { self.old.booted ≡ false }
-        requires within { IsSessionWithin (λ b. seen (b.vtable, b.value)) size self.old }
+        requires within { IsSessionWithin size self.old }
         requires disk { D.block_count disk.old ≡ size }
         requires no_notes { out.old.notes ≡ [] }
         requires empty { out.old.lines ≡ [] }
-        ensures within { IsSessionWithin (λ b. seen (b.vtable, b.value)) size self.new }
+        ensures within { IsSessionWithin size self.new }
         ensures counted { self.new.lines ≡ self.old.lines }
         ensures same_size { D.block_count disk.new ≡ size }
-        ensures runs { (key : List ℕ) → RunsEntry (place key size) Boot (seen_of (λ b. seen (b.vtable, b.value)) self.old) (seen_of (λ b. seen (b.vtable, b.value)) self.new) (disk_seen (D.blocks disk.old) (D.plan disk.old) (D.faults disk.old)) (disk_seen (D.blocks disk.new) (D.plan disk.new) (D.faults disk.new)) (left_in out.new) }
+        ensures runs { (key : List ℕ) → RunsEntry (place key size) Boot (seen_of self.old)
+            (seen_of self.new) (disk_seen (D.blocks disk.old) (D.plan disk.old) (D.faults disk.old))
+            (disk_seen (D.blocks disk.new) (D.plan disk.new) (D.faults disk.new))
+            (left_in out.new) }
     {
         let note = self.kernel.boot(self.setup, disk);
         self.booted = true;
@@ -263,13 +276,15 @@ impl Session {
     ) -> Result<(), NoMemory>
         requires room { self.old.lines < 2 ^ 32 - 1 }
         requires fresh { self.old.events < self.old.lines }
-        requires within { (size : ℕ) × IsSessionWithin (λ b. seen (b.vtable, b.value)) size self.old }
+        requires within { (size : ℕ) × IsSessionWithin size self.old }
         requires no_notes { out.old.notes ≡ [] }
         requires empty { out.old.lines ≡ [] }
-        ensures within { (size : ℕ) → IsSessionWithin (λ b. seen (b.vtable, b.value)) size self.old → IsSessionWithin (λ b. seen (b.vtable, b.value)) size self.new }
+        ensures within { (size : ℕ) → IsSessionWithin size self.old → IsSessionWithin size self.new }
         ensures counted { self.new.lines ≡ self.old.lines }
-        ensures runs { OnOk result ((size : ℕ) (d : DiskSeen) → RunsEntry (place key.now size) (Loads slot bytes.now) (seen_of (λ b. seen (b.vtable, b.value)) self.old) (seen_of (λ b. seen (b.vtable, b.value)) self.new) d d (left_in out.new)) }
-        ensures err { OnErr result ((self.new ≡ self.old) × LoadsFree (seen_of (λ b. seen (b.vtable, b.value)) self.old) (Loads slot bytes.now)) }
+        ensures runs { OnOk result ((size : ℕ) (d : DiskSeen) →
+            RunsEntry (place key.now size) (Loads slot bytes.now) (seen_of self.old)
+            (seen_of self.new) d d (left_in out.new)) }
+        ensures err { OnErr result ((self.new ≡ self.old) × LoadsFree (seen_of self.old) (Loads slot bytes.now)) }
     {
         if !self.booted {
             return Ok(());
@@ -301,7 +316,7 @@ impl Session {
 
     /// The lines of the calls that are left in flight, at the end of the input.
     pub fn left(&self, out: &mut Buffers)
-        ensures { out.new.lines ≡ last_bytes (seen_of (λ b. seen (b.vtable, b.value)) self.now) [] }
+        ensures { out.new.lines ≡ last_bytes (seen_of self.now) [] }
     {
         out.clear();
         if self.booted {
@@ -337,10 +352,11 @@ impl Session {
         requires fresh { self.old.events < self.old.lines }
         requires no_notes { out.old.notes ≡ [] }
         requires empty { out.old.lines ≡ [] }
-        requires within { (size : ℕ) × IsSessionWithin (λ b. seen (b.vtable, b.value)) size self.old }
-        ensures within { (size : ℕ) → IsSessionWithin (λ b. seen (b.vtable, b.value)) size self.old → IsSessionWithin (λ b. seen (b.vtable, b.value)) size self.new }
+        requires within { (size : ℕ) × IsSessionWithin size self.old }
+        ensures within { (size : ℕ) → IsSessionWithin size self.old → IsSessionWithin size self.new }
         ensures counted { self.new.lines ≡ self.old.lines }
-        ensures runs { (c : Place) (d : DiskSeen) → RunsEntry c Raw (seen_of (λ b. seen (b.vtable, b.value)) self.old) (seen_of (λ b. seen (b.vtable, b.value)) self.new) d d (left_in out.new) }
+        ensures runs { (c : Place) (d : DiskSeen) →
+            RunsEntry c Raw (seen_of self.old) (seen_of self.new) d d (left_in out.new) }
     {
         agreeing::same_shown::<PlainRules>();
         if self.booted {
@@ -353,14 +369,18 @@ impl Session {
     fn happen<D: Disk>(&mut self, event: &Event, size: u32, disk: &mut D, out: &mut Buffers)
         requires room { self.old.lines < 2 ^ 32 - 1 }
         requires fresh { self.old.events < self.old.lines }
-        requires within { IsSessionWithin (λ b. seen (b.vtable, b.value)) size self.old }
+        requires within { IsSessionWithin size self.old }
         requires disk { D.block_count disk.old ≡ size }
         requires no_notes { out.old.notes ≡ [] }
         requires empty { out.old.lines ≡ [] }
-        ensures within { IsSessionWithin (λ b. seen (b.vtable, b.value)) size self.new }
+        ensures within { IsSessionWithin size self.new }
         ensures counted { self.new.lines ≡ self.old.lines }
         ensures same_size { D.block_count disk.new ≡ size }
-        ensures runs { (key : List ℕ) → RunsEntry (place key size) (Happens event.now) (seen_of (λ b. seen (b.vtable, b.value)) self.old) (seen_of (λ b. seen (b.vtable, b.value)) self.new) (disk_seen (D.blocks disk.old) (D.plan disk.old) (D.faults disk.old)) (disk_seen (D.blocks disk.new) (D.plan disk.new) (D.faults disk.new)) (left_in out.new) }
+        ensures runs { (key : List ℕ) → RunsEntry (place key size) (Happens event.now)
+            (seen_of self.old) (seen_of self.new)
+            (disk_seen (D.blocks disk.old) (D.plan disk.old) (D.faults disk.old))
+            (disk_seen (D.blocks disk.new) (D.plan disk.new) (D.faults disk.new))
+            (left_in out.new) }
     {
         if self.booted {
             self.events += 1;

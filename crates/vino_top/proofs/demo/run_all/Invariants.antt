@@ -9,10 +9,10 @@ use Rattle.vino_top.proofs.demo.run_all.Given as goal
 abbrev pub invariant-lines : goal.invariant-lines
 invariant-lines g l =
     record {
-      reached : DemoReached (demo_place l.size) l.fn.lines l.lines (seen_of (λ b. (goal.Policy-dyn g (b.vtable, b.value)).seen b.value) l.fn.run.session) (seen_of (λ b. (goal.Policy-dyn g (b.vtable, b.value)).seen b.value) l.run.session)
+      reached : DemoReached (demo_place l.size) l.fn.lines l.lines (seen_of l.fn.run.session) (seen_of l.run.session)
           (disk_seen (g.D.Disk.blocks l.fn.disk) (g.D.Disk.plan l.fn.disk) (g.D.Disk.faults l.fn.disk)) (disk_seen (g.D.Disk.blocks l.disk) (g.D.Disk.plan l.disk) (g.D.Disk.faults l.disk))
           l.run.tally;
-      within : IsSessionWithin (λ b. (goal.Policy-dyn g (b.vtable, b.value)).seen b.value) l.size l.run.session;
+      within : IsSessionWithin l.size l.run.session;
       same_size : g.D.Disk.block_count l.disk ≡ l.size;
     }
 

@@ -7,8 +7,8 @@ use Rattle.vino_top.proofs.demo.run_one.Goals as goal
 
 pub returns-clause-ok : goal.returns-clause-ok
 returns-clause-ok g c =
-    demo_takes (demo_place c.args.size) c.args.text.now (seen_of (λ b. (goal.Policy-dyn g (b.vtable, b.value)).seen b.value) c.args.run.now.session)
-    (seen_of (λ b. (goal.Policy-dyn g (b.vtable, b.value)).seen b.value) c.run_line.new.self)
+    demo_takes (demo_place c.args.size) c.args.text.now (seen_of c.args.run.now.session)
+    (seen_of c.run_line.new.self)
     _ _ (left_in c.run_line.new.out) c.as_slice.result.now c.list.result.now _ _
     c.run_line.ensures.counted c.in_ok-run_line.ensures.ok c.as_slice.ensures.value c.list.ensures.value c.as_slice.ensures.few c.list.ensures.few
     c.add.ensures

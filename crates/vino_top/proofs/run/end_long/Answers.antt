@@ -9,5 +9,5 @@ pub returns-clause-contents : goal.returns-clause-contents
 returns-clause-contents g c = λ place d.
     let text = c.args.reader.now.line ++ c.args.byte ∷ [] in
     let long : 65536 < length text = omega (arith, c.requires.long, length-append c.args.reader.now.line (c.args.byte ∷ [])) in
-    line_written place text (seen_of (λ b. (goal.Policy-dyn g (b.vtable, b.value)).seen b.value) c.args.reader.now.session) (seen_of (λ b. (goal.Policy-dyn g (b.vtable, b.value)).seen b.value) c.refuse_long.new.self) (left_in c.refuse_long.new.out) _ _ d d c.write_lines.result (c.refuse_long.ensures.runs place text d long)
+    line_written place text (seen_of c.args.reader.now.session) (seen_of c.refuse_long.new.self) (left_in c.refuse_long.new.out) _ _ d d c.write_lines.result (c.refuse_long.ensures.runs place text d long)
     c.refuse_long.ensures.counted c.write_lines.ensures.contents

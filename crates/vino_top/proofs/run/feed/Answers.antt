@@ -8,7 +8,7 @@ use Rattle.vino_top.proofs.run.feed.Goals as goal
 pub loop-byte-init : goal.loop-byte-init
 loop-byte-init g c =
     record {
-      fed = fed_none (place c.args.key.now c.args.size) (seen_of (λ b. (goal.Policy-dyn g (b.vtable, b.value)).seen b.value) c.args.reader.now.session) c.args.reader.now.line _ _;
+      fed = fed_none (place c.args.key.now c.args.size) (seen_of c.args.reader.now.session) c.args.reader.now.line _ _;
       within = c.requires.within;
       later = omega arith;
       same_size = c.requires.disk;

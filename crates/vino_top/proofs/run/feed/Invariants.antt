@@ -9,9 +9,9 @@ use Rattle.vino_top.proofs.run.feed.Given as goal
 abbrev pub invariant-loop-byte : goal.invariant-loop-byte
 invariant-loop-byte g l =
     record {
-      fed : Feeds (place l.key l.size) (seen_of (λ b. (goal.Policy-dyn g (b.vtable, b.value)).seen b.value) l.fn.reader.session) (seen_of (λ b. (goal.Policy-dyn g (b.vtable, b.value)).seen b.value) l.reader.session) l.fn.reader.line l.reader.line (take l.byte-index l.bytes) (g.K.Sink.got l.fn.out) (g.K.Sink.got l.out)
+      fed : Feeds (place l.key l.size) (seen_of l.fn.reader.session) (seen_of l.reader.session) l.fn.reader.line l.reader.line (take l.byte-index l.bytes) (g.K.Sink.got l.fn.out) (g.K.Sink.got l.out)
           (disk_seen (g.D.Disk.blocks l.fn.disk) (g.D.Disk.plan l.fn.disk) (g.D.Disk.faults l.fn.disk)) (disk_seen (g.D.Disk.blocks l.disk) (g.D.Disk.plan l.disk) (g.D.Disk.faults l.disk));
-      within : IsSessionWithin (λ b. (goal.Policy-dyn g (b.vtable, b.value)).seen b.value) l.size l.reader.session;
+      within : IsSessionWithin l.size l.reader.session;
       later : g.K.Sink.faults l.fn.out ≤ g.K.Sink.faults l.out;
       same_size : g.D.Disk.block_count l.disk ≡ l.size;
     }

@@ -9,10 +9,10 @@ use Rattle.vino_top.proofs.run.run.Given as goal
 abbrev pub invariant-loop-left : goal.invariant-loop-left
 invariant-loop-left g l =
     record {
-      reached : Reached (place l.key l.size) (seen_of (λ b. (goal.Policy-dyn g (b.vtable, b.value)).seen b.value) l.fn.reader.session) (seen_of (λ b. (goal.Policy-dyn g (b.vtable, b.value)).seen b.value) l.reader.session) (g.S.Source.rest l.fn.src) (g.S.Source.rest l.src) (g.K.Sink.got l.fn.out) (g.K.Sink.got l.out)
+      reached : Reached (place l.key l.size) (seen_of l.fn.reader.session) (seen_of l.reader.session) (g.S.Source.rest l.fn.src) (g.S.Source.rest l.src) (g.K.Sink.got l.fn.out) (g.K.Sink.got l.out)
           (disk_seen (g.D.Disk.blocks l.fn.disk) (g.D.Disk.plan l.fn.disk) (g.D.Disk.faults l.fn.disk)) (disk_seen (g.D.Disk.blocks l.disk) (g.D.Disk.plan l.disk) (g.D.Disk.faults l.disk))
           l.reader.line l.left;
-      within : IsSessionWithin (λ b. (goal.Policy-dyn g (b.vtable, b.value)).seen b.value) l.size l.reader.session;
+      within : IsSessionWithin l.size l.reader.session;
       going : l.reader.session.refused ≡ false;
       source : g.S.Source.faults l.fn.src ≤ g.S.Source.faults l.src;
       sink : g.K.Sink.faults l.fn.out ≤ g.K.Sink.faults l.out;

@@ -10,7 +10,7 @@ use Rattle.vino_top.proofs.lines.Lines.add_rows.Goals as goal
 
 pub loop-row-init : goal.loop-row-init
 loop-row-init g c =
-    let x = placed_of (λ b. (goal.Policy-dyn g (b.vtable, b.value)).seen b.value) stage_of c.args.kernel.now.running in
+    let x = placed_of stage_of c.args.kernel.now.running in
     record {
       lines = row_first c.args.n (rows_left x c.first-at.result) (placed_rows x) c.args.self.now c.requires.empty (c.first-at.ensures.rows x);
       room = no_bytes c.args.self.now c.requires.empty (most_left c.first-at.result) c.first-at.ensures.most;
@@ -18,7 +18,7 @@ loop-row-init g c =
 
 pub loop-row-preserved : goal.loop-row-preserved
 loop-row-preserved g c =
-    let x = placed_of (λ b. (goal.Policy-dyn g (b.vtable, b.value)).seen b.value) stage_of c.args.kernel.now.running in
+    let x = placed_of stage_of c.args.kernel.now.running in
     record {
       lines = row_more c.args.n (rows_left x c.loop-row.at) (rows_left x c.next_row.new.at) c.in-Some.row c.loop-row.self c.add.new.self c.print_row.new.out (row_lines c.args.n (placed_rows x)) c.loop-row.invariant.lines c.in-Some.ensures.first c.next_row.ensures.rest c.print_row.ensures c.add.ensures.value;
       room = omega (arith, c.loop-row.invariant.room, c.add.ensures.fits, c.in-Some.ensures.fewer);
@@ -26,5 +26,5 @@ loop-row-preserved g c =
 
 pub returns : goal.returns
 returns g c =
-    let x = placed_of (λ b. (goal.Policy-dyn g (b.vtable, b.value)).seen b.value) stage_of c.args.kernel.now.running in
+    let x = placed_of stage_of c.args.kernel.now.running in
     row_end c.args.n (rows_left x c.loop-row.at) c.next_row.result c.loop-row.self (row_lines c.args.n (placed_rows x)) c.loop-row.invariant.lines c.next_row.ensures.first c.in_default.is

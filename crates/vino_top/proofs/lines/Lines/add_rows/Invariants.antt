@@ -11,8 +11,8 @@ abbrev pub invariant-loop-row : goal.invariant-loop-row
 invariant-loop-row g l =
     record {
       lines :
-          l.self ++ row_lines l.n (rows_left (placed_of (λ b. (goal.Policy-dyn g (b.vtable, b.value)).seen b.value) stage_of l.kernel.running) l.at)
-          ≡ row_lines l.n (placed_rows (placed_of (λ b. (goal.Policy-dyn g (b.vtable, b.value)).seen b.value) stage_of l.kernel.running));
+          l.self ++ row_lines l.n (rows_left (placed_of stage_of l.kernel.running) l.at)
+          ≡ row_lines l.n (placed_rows (placed_of stage_of l.kernel.running));
       room : length l.self + 2048 * most_left l.at ≤ 3026944;
     }
 

@@ -22,7 +22,7 @@ returns-clause-within g c =
 
 pub returns-clause-runs : goal.returns-clause-runs
 returns-clause-runs g c = λ key.
-    boot_runs (place key c.args.size) (seen_of (λ b. (goal.Policy-dyn g (b.vtable, b.value)).seen b.value) c.args.self.now) (placed_of (λ b. (goal.Policy-dyn g (b.vtable, b.value)).seen b.value) stage_of c.boot-note.new.self.running) c.boot-note.result _
+    boot_runs (place key c.args.size) (seen_of c.args.self.now) (placed_of stage_of c.boot-note.new.self.running) c.boot-note.result _
     (disk_seen (g.D.Disk.blocks c.args.disk.now) (g.D.Disk.plan c.args.disk.now) (g.D.Disk.faults c.args.disk.now)) (disk_seen (g.D.Disk.blocks c.boot-note.new.disk) (g.D.Disk.plan c.boot-note.new.disk) (g.D.Disk.faults c.boot-note.new.disk))
     (rw c.requires.disk at c.boot-note.ensures.booted)
     (record { bytes_are = c.add.ensures.value ∙ rw c.requires.empty c.say_boot.ensures; no_notes = c.requires.no_notes })

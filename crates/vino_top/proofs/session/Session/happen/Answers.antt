@@ -11,11 +11,11 @@ use Rattle.vino_top.proofs.session.Session.happen.Goals as goal
 
 pub returns-then-self-clause-runs : goal.returns-then-self-clause-runs
 returns-then-self-clause-runs g c = λ key.
-    event_runs (place key c.args.size) (seen_of (λ b. (goal.Policy-dyn g (b.vtable, b.value)).seen b.value) c.args.self.now) (placed_of (λ b. (goal.Policy-dyn g (b.vtable, b.value)).seen b.value) stage_of c.event.new.self.running) c.args.event.now c.event.new.notes _
+    event_runs (place key c.args.size) (seen_of c.args.self.now) (placed_of stage_of c.event.new.self.running) c.args.event.now c.event.new.notes _
     (disk_seen (g.D.Disk.blocks c.args.disk.now) (g.D.Disk.plan c.args.disk.now) (g.D.Disk.faults c.args.disk.now)) (disk_seen (g.D.Disk.blocks c.event.new.disk) (g.D.Disk.plan c.event.new.disk) (g.D.Disk.faults c.event.new.disk))
     c.if-self.true c.event.ensures.happened c.add_notes.ensures refl
 
 pub returns-else-self-clause-runs : goal.returns-else-self-clause-runs
 returns-else-self-clause-runs g c = λ key.
-    unbooted_runs (place key c.args.size) (Happens c.args.event.now) (seen_of (λ b. (goal.Policy-dyn g (b.vtable, b.value)).seen b.value) c.args.self.now) _ (disk_seen (g.D.Disk.blocks c.args.disk.now) (g.D.Disk.plan c.args.disk.now) (g.D.Disk.faults c.args.disk.now)) (λ a rest. refl) c.if-self.false
+    unbooted_runs (place key c.args.size) (Happens c.args.event.now) (seen_of c.args.self.now) _ (disk_seen (g.D.Disk.blocks c.args.disk.now) (g.D.Disk.plan c.args.disk.now) (g.D.Disk.faults c.args.disk.now)) (λ a rest. refl) c.if-self.false
     (record { bytes_are = c.requires.empty; no_notes = c.requires.no_notes })

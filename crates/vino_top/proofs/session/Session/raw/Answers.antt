@@ -7,12 +7,12 @@ use Rattle.vino_top.proofs.session.Session.raw.Goals as goal
 
 pub returns-then-self-clause-runs : goal.returns-then-self-clause-runs
 returns-then-self-clause-runs g c = λ place d.
-    raw_runs c.same_shown.ensures place (seen_of (λ b. (goal.Policy-dyn g (b.vtable, b.value)).seen b.value) c.args.self.now) _ d c.if-self.true
+    raw_runs c.same_shown.ensures place (seen_of c.args.self.now) _ d c.if-self.true
     (record { bytes_are = c.add_rows.ensures; no_notes = c.requires.no_notes })
 
 pub returns-else-self-clause-runs : goal.returns-else-self-clause-runs
 returns-else-self-clause-runs g c = λ place d.
-    unbooted_runs place Raw (seen_of (λ b. (goal.Policy-dyn g (b.vtable, b.value)).seen b.value) c.args.self.now) _ d (λ a rest. refl) c.if-self.false
+    unbooted_runs place Raw (seen_of c.args.self.now) _ d (λ a rest. refl) c.if-self.false
     (record { bytes_are = c.requires.empty; no_notes = c.requires.no_notes })
 
 pub returns-then-self-clause-within : goal.returns-then-self-clause-within

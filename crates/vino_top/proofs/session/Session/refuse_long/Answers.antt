@@ -7,10 +7,10 @@ use Rattle.vino_top.proofs.session.Session.refuse_long.Goals as goal
 
 pub returns-then-self-clause-runs : goal.returns-then-self-clause-runs
 returns-then-self-clause-runs g c = λ place text d long.
-    line_after_refusal place (seen_of (λ b. (goal.Policy-dyn g (b.vtable, b.value)).seen b.value) c.args.self.now) text _ d c.if-self.true
+    line_after_refusal place (seen_of c.args.self.now) text _ d c.if-self.true
     (record { bytes_are = c.clear.ensures.lines; no_notes = c.clear.ensures.notes })
 
 pub returns-clause-runs : goal.returns-clause-runs
 returns-clause-runs g c = λ place text d long.
-    line_too_long place (seen_of (λ b. (goal.Policy-dyn g (b.vtable, b.value)).seen b.value) c.args.self.now) (seen_of (λ b. (goal.Policy-dyn g (b.vtable, b.value)).seen b.value) c.refuse.new.self) text _ d c.if-self.false long (ap (λ s. seen_of (λ b. (goal.Policy-dyn g (b.vtable, b.value)).seen b.value) s) c.refuse.ensures.state)
+    line_too_long place (seen_of c.args.self.now) (seen_of c.refuse.new.self) text _ d c.if-self.false long (ap (λ s. seen_of s) c.refuse.ensures.state)
     (record { bytes_are = c.refuse.ensures.text; no_notes = c.refuse.ensures.notes ∙ c.clear.ensures.notes })

@@ -10,17 +10,17 @@ pub boot-requires-clause-first : goal.boot-requires-clause-first
 boot-requires-clause-first g c = c.requires.place (rw c.in-Boot.is refl)
 
 pub returns-in-Blank-clause-runs : goal.returns-in-Blank-clause-runs
-returns-in-Blank-clause-runs g c = rw c.in-Blank.is (blank_runs (place c.args.key.now c.args.size) (seen_of (λ b. (goal.Policy-dyn g (b.vtable, b.value)).seen b.value) c.args.self.now) _ (disk_seen (g.D.Disk.blocks c.args.disk.now) (g.D.Disk.plan c.args.disk.now) (g.D.Disk.faults c.args.disk.now)) (record { bytes_are = c.requires.empty; no_notes = c.requires.no_notes }))
+returns-in-Blank-clause-runs g c = rw c.in-Blank.is (blank_runs (place c.args.key.now c.args.size) (seen_of c.args.self.now) _ (disk_seen (g.D.Disk.blocks c.args.disk.now) (g.D.Disk.plan c.args.disk.now) (g.D.Disk.faults c.args.disk.now)) (record { bytes_are = c.requires.empty; no_notes = c.requires.no_notes }))
 
 pub returns-in-Frames-clause-runs : goal.returns-in-Frames-clause-runs
-returns-in-Frames-clause-runs g c = rw c.in-Frames.is (frames_runs (place c.args.key.now c.args.size) (seen_of (λ b. (goal.Policy-dyn g (b.vtable, b.value)).seen b.value) c.args.self.now) c.in-Frames.n _ (disk_seen (g.D.Disk.blocks c.args.disk.now) (g.D.Disk.plan c.args.disk.now) (g.D.Disk.faults c.args.disk.now)) (record { bytes_are = c.requires.empty; no_notes = c.requires.no_notes }))
+returns-in-Frames-clause-runs g c = rw c.in-Frames.is (frames_runs (place c.args.key.now c.args.size) (seen_of c.args.self.now) c.in-Frames.n _ (disk_seen (g.D.Disk.blocks c.args.disk.now) (g.D.Disk.plan c.args.disk.now) (g.D.Disk.faults c.args.disk.now)) (record { bytes_are = c.requires.empty; no_notes = c.requires.no_notes }))
 
 pub returns-in-Patience-clause-runs : goal.returns-in-Patience-clause-runs
 returns-in-Patience-clause-runs g c =
-    rw c.in-Patience.is (patience_runs (place c.args.key.now c.args.size) (seen_of (λ b. (goal.Policy-dyn g (b.vtable, b.value)).seen b.value) c.args.self.now) c.in-Patience.kind c.in-Patience.ticks c.set_patience.new.patience _ (disk_seen (g.D.Disk.blocks c.args.disk.now) (g.D.Disk.plan c.args.disk.now) (g.D.Disk.faults c.args.disk.now)) c.set_patience.ensures.value (record { bytes_are = c.requires.empty; no_notes = c.requires.no_notes }))
+    rw c.in-Patience.is (patience_runs (place c.args.key.now c.args.size) (seen_of c.args.self.now) c.in-Patience.kind c.in-Patience.ticks c.set_patience.new.patience _ (disk_seen (g.D.Disk.blocks c.args.disk.now) (g.D.Disk.plan c.args.disk.now) (g.D.Disk.faults c.args.disk.now)) c.set_patience.ensures.value (record { bytes_are = c.requires.empty; no_notes = c.requires.no_notes }))
 
 pub returns-in-Grant-clause-runs : goal.returns-in-Grant-clause-runs
-returns-in-Grant-clause-runs g c = rw c.in-Grant.is (grant_runs (place c.args.key.now c.args.size) (seen_of (λ b. (goal.Policy-dyn g (b.vtable, b.value)).seen b.value) c.args.self.now) c.in-Grant.n _ (disk_seen (g.D.Disk.blocks c.args.disk.now) (g.D.Disk.plan c.args.disk.now) (g.D.Disk.faults c.args.disk.now)) (record { bytes_are = c.requires.empty; no_notes = c.requires.no_notes }))
+returns-in-Grant-clause-runs g c = rw c.in-Grant.is (grant_runs (place c.args.key.now c.args.size) (seen_of c.args.self.now) c.in-Grant.n _ (disk_seen (g.D.Disk.blocks c.args.disk.now) (g.D.Disk.plan c.args.disk.now) (g.D.Disk.faults c.args.disk.now)) (record { bytes_are = c.requires.empty; no_notes = c.requires.no_notes }))
 
 pub returns-in-Boot-clause-runs : goal.returns-in-Boot-clause-runs
 returns-in-Boot-clause-runs g c = rw c.in-Boot.is (c.boot.ensures.runs c.args.key.now)

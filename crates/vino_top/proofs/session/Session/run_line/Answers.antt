@@ -15,28 +15,28 @@ run_entry-requires-clause-place g c = λ boot.
 
 pub returns-in-Err-clause-ok : goal.returns-in-Err-clause-ok
 returns-in-Err-clause-ok g c =
-    line_refused_as (place c.args.key.now c.args.size) (seen_of (λ b. (goal.Policy-dyn g (b.vtable, b.value)).seen b.value) c.args.self.now) (seen_of (λ b. (goal.Policy-dyn g (b.vtable, b.value)).seen b.value) c.refuse.new.self) c.args.text.now _ c.in-Err.fault c.fault_code.result
+    line_refused_as (place c.args.key.now c.args.size) (seen_of c.args.self.now) (seen_of c.refuse.new.self) c.args.text.now _ c.in-Err.fault c.fault_code.result
     (disk_seen (g.D.Disk.blocks c.args.disk.now) (g.D.Disk.plan c.args.disk.now) (g.D.Disk.faults c.args.disk.now)) c.if-self.false
-    c.fault_code.ensures c.in-Err.ensures.answer (ap (λ s. seen_of (λ b. (goal.Policy-dyn g (b.vtable, b.value)).seen b.value) s) c.refuse.ensures.state)
+    c.fault_code.ensures c.in-Err.ensures.answer (ap (λ s. seen_of s) c.refuse.ensures.state)
     (record { bytes_are = c.refuse.ensures.text; no_notes = c.refuse.ensures.notes ∙ c.clear.ensures.notes })
 
 pub returns-in_default-clause-ok : goal.returns-in_default-clause-ok
 returns-in_default-clause-ok g c =
-    line_entered (place c.args.key.now c.args.size) (seen_of (λ b. (goal.Policy-dyn g (b.vtable, b.value)).seen b.value) c.args.self.now) (seen_of (λ b. (goal.Policy-dyn g (b.vtable, b.value)).seen b.value) c.run_entry.new.self) c.args.text.now _ (entry_seen c.in-Ok.entry)
+    line_entered (place c.args.key.now c.args.size) (seen_of c.args.self.now) (seen_of c.run_entry.new.self) c.args.text.now _ (entry_seen c.in-Ok.entry)
     (disk_seen (g.D.Disk.blocks c.args.disk.now) (g.D.Disk.plan c.args.disk.now) (g.D.Disk.faults c.args.disk.now)) (disk_seen (g.D.Disk.blocks c.run_entry.new.disk) (g.D.Disk.plan c.run_entry.new.disk) (g.D.Disk.faults c.run_entry.new.disk))
     c.if-self.false c.in-Ok.ensures.answer c.in_default.ensures.runs
 
 pub returns-in-Err-run_entry-clause-err : goal.returns-in-Err-run_entry-clause-err
 returns-in-Err-run_entry-clause-err g c =
     let lines : c.args.self.now.lines + 1 - 1 ≡ c.args.self.now.lines = omega arith in
-    (rw (c.in-Err-run_entry.ensures.err.0, lines) refl, wants_free (seen_of (λ b. (goal.Policy-dyn g (b.vtable, b.value)).seen b.value) c.args.self.now) c.args.text.now (entry_seen c.in-Ok.entry) c.if-self.false c.in-Ok.ensures.answer c.in-Err-run_entry.ensures.err.1)
+    (rw (c.in-Err-run_entry.ensures.err.0, lines) refl, wants_free (seen_of c.args.self.now) c.args.text.now (entry_seen c.in-Ok.entry) c.if-self.false c.in-Ok.ensures.answer c.in-Err-run_entry.ensures.err.1)
 
 pub returns-then-self-clause-ok : goal.returns-then-self-clause-ok
 returns-then-self-clause-ok g c =
-    line_after_refusal (place c.args.key.now c.args.size) (seen_of (λ b. (goal.Policy-dyn g (b.vtable, b.value)).seen b.value) c.args.self.now) c.args.text.now _
+    line_after_refusal (place c.args.key.now c.args.size) (seen_of c.args.self.now) c.args.text.now _
     (disk_seen (g.D.Disk.blocks c.args.disk.now) (g.D.Disk.plan c.args.disk.now) (g.D.Disk.faults c.args.disk.now)) c.if-self.true
     (record { bytes_are = c.clear.ensures.lines; no_notes = c.clear.ensures.notes })
 
 pub returns-in-Err-clause-within : goal.returns-in-Err-clause-within
 returns-in-Err-clause-within g c =
-    refused_later (λ b. (goal.Policy-dyn g (b.vtable, b.value)).seen b.value) c.args.size c.args.self.now c.refuse.new.self c.refuse.ensures.state c.requires.within
+    refused_later c.args.size c.args.self.now c.refuse.new.self c.refuse.ensures.state c.requires.within
