@@ -71,8 +71,8 @@ mod tests {
         failing: [u64; 2],
         shelf: Vec<Box<dyn Policy>>,
     ) -> Result<Ran, Fail>
-        requires shelf { IsShelf (map (λ b. seen b) shelf.items) }
-        requires stock { pol_of (map (λ b. seen b) shelf.items) first_choice ≡ opening_policy }
+        requires shelf { IsShelf (map ⟦<Box<dyn Policy> as Policy>⟧.seen shelf.items) }
+        requires stock { pol_of (map ⟦<Box<dyn Policy> as Policy>⟧.seen shelf.items) first_choice ≡ opening_policy }
     {
         let [failing_write, failing_call] = failing;
         let words = words_of(alloc, words)?;
@@ -94,8 +94,8 @@ mod tests {
         failing: [u64; 3],
         shelf: Vec<Box<dyn Policy>>,
     ) -> Result<Ran, Fail>
-        requires shelf { IsShelf (map (λ b. seen b) shelf.items) }
-        requires stock { pol_of (map (λ b. seen b) shelf.items) first_choice ≡ opening_policy }
+        requires shelf { IsShelf (map ⟦<Box<dyn Policy> as Policy>⟧.seen shelf.items) }
+        requires stock { pol_of (map ⟦<Box<dyn Policy> as Policy>⟧.seen shelf.items) first_choice ≡ opening_policy }
     {
         let [failing_read, failing_write, failing_call] = failing;
         let script = Vec::from_slice(alloc, script.as_bytes())?;
