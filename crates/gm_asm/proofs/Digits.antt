@@ -1,11 +1,8 @@
 -- Decimal digits and the numbers that they write.
-use Rattle.std.proofs.Common.{◌≡◌, ℕ, ◌+◌, ◌-◌, ◌*◌, ◌^◌, ◌<◌, ◌≤◌, true, List, length, take, get_or, refl, ap, arith, length-take}
+use Rattle.std.proofs.Common.{◌≡◌, ◌+◌, ◌-◌, ◌*◌, true, refl, arith}
 use Rattle.std.specs.List.{list_all, fold}
 use Rattle.std.proofs.lemmas.Bool.Decides.{nat_tests}
-use Rattle.std.proofs.lemmas.List.{take_more}
-use Rattle.std.proofs.lemmas.List.Folds.{list_all_more}
-use Rattle.std.proofs.lemmas.List.Sums.{fold_push}
-use Rattle.std.proofs.lemmas.Str.Parse.{IsDigitsTest, IsNumeralModel, numerals_by_fold, digits_value_short}
+use Rattle.std.proofs.lemmas.Str.Parse.{IsDigitsTest, IsNumeralModel, numerals_by_fold}
 use Rattle.kernel_model.specs.Bytes.{is_digit, digits_value}
 
 -- a text of digits, one digit at a time
@@ -21,21 +18,3 @@ pub own : IsNumeralModel (λ ds. list_all is_digit ds ≡ true) digits_value
 own =
     numerals_by_fold (λ ds. list_all is_digit ds ≡ true) is_digits (λ n ds. fold (λ a d. a * 10 + (d - 48)) n ds)
     (record { empty = λ n. refl; more = λ n c cs r. refl })
-
--- the digits so far, and their value
-pub record Digits (word : List ℕ) (i value : ℕ) : Type 0 where
-  pub digits : list_all is_digit (take i word) ≡ true
-  pub value_is : value ≡ digits_value (take i word)
-
--- one more digit
-pub Digits-more : (word : List ℕ) (i value : ℕ) → Digits word i value → i < length word → is_digit (get_or word i 0) ≡ true
-    → Digits word (i + 1) (value * 10 + (get_or word i 0 - 48))
-Digits-more word i value h within d =
-    record {
-      digits = rw (list_all_more is_digit word i 0 within) (rw h.digits (rw d refl));
-      value_is = rw (take_more word i 0 within) (rw fold_push (ap (λ n. n * 10 + (get_or word i 0 - 48)) h.value_is));
-    }
-
--- the value of at most ten digits
-pub Digits-small : (word : List ℕ) (i value : ℕ) → Digits word i value → length word ≤ 10 → value < 10 ^ 10
-Digits-small word i value h short = rw h.value_is (digits_value_short own (take i word) 10 h.digits (omega (arith, length-take i word)))

@@ -1,4 +1,3 @@
-pub mod Splits
 pub mod Digits
 pub mod Hex
 pub mod LabelLemmas

@@ -1,4 +1,3 @@
-pub mod Parts
 pub mod Views
 pub mod Faults
 pub mod State

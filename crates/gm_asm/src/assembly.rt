@@ -10,7 +10,6 @@ ghost use Rattle.gm_asm.specs.State.{label_view};
 use crate::AsmFault;
 use crate::data::add_data;
 use crate::link::link_code;
-use crate::parts::Parts;
 use crate::statement::{Statement, statement_of};
 use gm_image::RawImage;
 use gm_isa::Instr;
@@ -18,6 +17,7 @@ use indexmap::IndexMap;
 use kernel_model::{AsmKind, NoMemory};
 use std::alloc::Global;
 use std::marker::Model;
+use text_words::Parts;
 
 /// An instruction, the label that is to give its imm, and the line that it stands in.
 #[derive(Clone, Copy)]

@@ -9,7 +9,6 @@ mod assembly;
 mod data;
 pub mod laws;
 mod link;
-mod parts;
 mod print;
 mod statement;
 mod words;

@@ -6,10 +6,10 @@ ghost use Rattle.kernel_model.specs.Instructions.{is_register_field, is_imm_fiel
 ghost use Rattle.kernel_model.specs.Assembler as spec;
 ghost use Rattle.gm_asm.specs.Views.{imm_view, statement_view, said_view, StatementFits};
 
-use crate::parts::Parts;
 use crate::words::{Imm, imm_of, label_set_by, register_of};
 use gm_isa::{Instr, Op, form_of};
 use kernel_model::AsmKind;
+use text_words::Parts;
 
 /// What a line says.
 #[derive(Clone, Copy)]

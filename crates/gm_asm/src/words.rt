@@ -1,15 +1,14 @@
 //! The words of assembler text: numbers, registers, labels, targets and callees.
 
-ghost use Rattle.std.specs.Prelude.{◌≡◌, ◌<◌, length, position, IfSome};
-ghost use Rattle.std.specs.List.{list_all};
+ghost use Rattle.std.specs.Prelude.{◌≡◌};
 ghost use Rattle.std.specs.Option.{option_map, option_copied};
 ghost use Rattle.gm_asm.specs.Views.{imm_view};
-ghost use Rattle.kernel_model.specs.World.{same_bytes};
 ghost use Rattle.kernel_model.specs.Bytes as model;
 ghost use Rattle.kernel_model.specs.Assembler as spec;
 
 use accessor_list::id_of;
 use gm_isa::Op;
+use text_words::{is_label, number_of, place_of};
 
 /// An imm as it is written: a number, or a label that is to give it, and then 0.
 #[derive(Clone, Copy)]
@@ -24,14 +23,6 @@ const REGISTERS: [&str; 16] = [
     "r15",
 ];
 
-/// The place of a name in a list of names.
-fn place_of(name: &[u8], names: &[&str]) -> Option<usize>
-    ensures place { result ≡ position (λ listed. same_bytes name.now listed.now) names.now }
-    ensures within { IfSome result (λ i. i < length names.now) }
-{
-    names.iter().position(|listed| name == listed.as_bytes())
-}
-
 /// The number of a register.
 pub fn register_of(word: &[u8]) -> Option<u8>
     ensures { result ≡ spec.register_of word.now }
@@ -39,42 +30,6 @@ pub fn register_of(word: &[u8]) -> Option<u8>
     match place_of(word, &REGISTERS) {
         Some(n) => Some(n as u8),
         None => None,
-    }
-}
-
-fn is_letter(b: u8) -> bool
-    ensures { result ≡ model.is_letter b }
-{
-    b >= b'a' && b < b'z' + 1
-}
-
-fn is_digit(b: u8) -> bool
-    ensures { result ≡ model.is_digit b }
-{
-    b >= b'0' && b < b'9' + 1
-}
-
-fn is_label_byte(b: u8) -> bool
-    ensures { result ≡ spec.is_label_byte b }
-{
-    is_letter(b) || is_digit(b) || b == b'_'
-}
-
-fn all_label_bytes(bytes: &[u8]) -> bool
-    ensures { result ≡ list_all spec.is_label_byte bytes.now }
-{
-    bytes.iter().all(|b| is_label_byte(*b))
-}
-
-/// Whether a word is a label: a letter, then letters, digits and `_`, up to 16 bytes.
-pub fn is_label(word: &[u8]) -> bool
-    ensures { result ≡ spec.is_label word.now }
-{
-    match word.split_first() {
-        None => false,
-        Some((first, others)) => {
-            is_letter(*first) && others.len() <= 15 && all_label_bytes(others)
-        }
     }
 }
 
@@ -88,23 +43,6 @@ pub fn label_set_by(word: &[u8]) -> Option<&[u8]>
     } else {
         None
     }
-}
-
-/// The number that 1 to 10 decimal digits write, if it is below 2^32.
-pub fn number_of(word: &[u8]) -> Option<u32>
-    ensures { result ≡ model.number_of word.now }
-{
-    if word.is_empty() || word.len() > 10 {
-        return None;
-    }
-    let mut value = 0u64;
-    for b in word {
-        if !is_digit(*b) {
-            return None;
-        }
-        value = value * 10 + u64::from(*b - b'0');
-    }
-    u32::try_from(value).ok()
 }
 
 fn number_imm<'a>(n: Option<u32>) -> Option<Imm<'a>>

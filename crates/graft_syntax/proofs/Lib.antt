@@ -1,5 +1,3 @@
-pub mod Splits
-pub mod Digits
 pub mod Names
 pub mod Words
 pub mod Filling

@@ -7,7 +7,6 @@ ghost use Rattle.kernel_model.specs.LanguageReading as spec;
 
 mod grammar;
 pub mod laws;
-mod parts;
 mod reader;
 mod tokens;
 

@@ -12,13 +12,13 @@ ghost use Rattle.kernel_model.specs.Assembler.{words_of};
 ghost use Rattle.kernel_model.specs.LanguageReading as spec;
 
 use crate::grammar::{Goals, Refusal};
-use crate::parts::Parts;
 use crate::tokens::token_of;
 use crate::{LangFault, LangKind, Symbol, Token};
 use indexmap::IndexMap;
 use kernel_model::Goal;
 use std::alloc::Global;
 use std::marker::Model;
+use text_words::Parts;
 
 /// The variables that are known, in the order of their first assignments.
 type Names<'a> = IndexMap<&'a [u8], ()>;

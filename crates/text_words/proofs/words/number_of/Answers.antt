@@ -1,6 +1,6 @@
 use Rattle.std.proofs.Common.{arith}
-use Rattle.gm_asm.proofs.Digits.{Digits-small}
-use Rattle.gm_asm.proofs.words.number_of.Goals as goal
+use Rattle.text_words.proofs.Digits.{Digits-small}
+use Rattle.text_words.proofs.words.number_of.Goals as goal
 
 pub overflow_mul-value : goal.overflow_mul-value
 overflow_mul-value c = omega (arith, Digits-small _ _ _ c.loop-b.invariant (omega arith))

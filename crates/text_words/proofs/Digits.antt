@@ -18,7 +18,7 @@ is_digits = record {
 }
 
 -- digits and their value, in std's words
-pub own : IsNumeralModel (λ ds. list_all is_digit ds ≡ true) digits_value
+own : IsNumeralModel (λ ds. list_all is_digit ds ≡ true) digits_value
 own =
     numerals_by_fold (λ ds. list_all is_digit ds ≡ true) is_digits (λ n ds. fold (λ a d. a * 10 + (d - 48)) n ds)
     (record { empty = λ n. refl; more = λ n c cs r. refl })

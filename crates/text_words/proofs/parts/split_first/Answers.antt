@@ -1,6 +1,6 @@
 use Rattle.std.proofs.Common.{◌==◌, sym, add-one}
-use Rattle.graft_syntax.proofs.Splits.{slice_split-none, slice_split-some}
-use Rattle.graft_syntax.proofs.parts.split_first.Goals as goal
+use Rattle.text_words.proofs.Splits.{slice_split-none, slice_split-some}
+use Rattle.text_words.proofs.parts.split_first.Goals as goal
 
 pub returns-in-None : goal.returns-in-None
 returns-in-None c = slice_split-none (λ b. b == c.args.separator) c.args.text.now (sym c.in-None.ensures.place)

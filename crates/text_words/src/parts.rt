@@ -3,7 +3,7 @@
 ghost use Rattle.std.specs.Prelude.{◌≡◌, ◌≤◌, ◌+◌, ◌==◌, ◌<◌, [], ◌∷◌, length, position, MatchOption, IfSome};
 ghost use Rattle.std.specs.List.{slice_split};
 ghost use Rattle.std.specs.Option.{option_copied};
-ghost use Rattle.gm_asm.specs.Parts.{parts_left};
+ghost use Rattle.text_words.specs.Parts.{parts_left};
 
 use std::marker::Model;
 
@@ -17,7 +17,7 @@ pub struct Parts<'a> {
 impl<'a> Model for Parts<'a> {
     ghost use Rattle.std.specs.Prelude.{ℕ, List};
     ghost use Rattle.std.specs.Option.{option_copied};
-    ghost use Rattle.gm_asm.specs.Parts.{parts_left};
+    ghost use Rattle.text_words.specs.Parts.{parts_left};
 
     ghost Value = { List (List ℕ) };
 

@@ -1,5 +1,0 @@
-use Rattle.gm_asm.proofs.Splits.{few_parts}
-use Rattle.gm_asm.proofs.parts.Parts.new.Goals as goal
-
-pub returns-clause-few : goal.returns-clause-few
-returns-clause-few c = few_parts _ c.args.text.now

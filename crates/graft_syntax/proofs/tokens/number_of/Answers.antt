@@ -1,9 +1,0 @@
-use Rattle.std.proofs.Common.{arith}
-use Rattle.graft_syntax.proofs.Digits.{Digits-small}
-use Rattle.graft_syntax.proofs.tokens.number_of.Goals as goal
-
-pub overflow_mul-value : goal.overflow_mul-value
-overflow_mul-value c = omega (arith, Digits-small _ _ _ c.loop-b.invariant (omega arith))
-
-pub overflow_add-value : goal.overflow_add-value
-overflow_add-value c = omega (arith, Digits-small _ _ _ c.loop-b.invariant (omega arith))
