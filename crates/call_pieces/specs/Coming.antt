@@ -16,26 +16,28 @@ use Rattle.call_pieces.specs.declared.Work.{Work}
 use Rattle.call_pieces.specs.declared.Next.{Next}
 use Rattle.call_pieces.specs.Works.{MayCome}
 
--- A piece left these objects, the disk tells this, these bytes were given, this comes next, and so many calls of the disk
--- were made: all as the definitions' piece has it.
-pub record CameTo (q : Piece) (s : Objects) (told : Option (List (List ℕ))) (gave : Option (List ℕ)) (after : After) (calls : ℕ) : Type 0 where
+-- A piece left these objects, the disk tells this, these bytes were given, this comes next, and so
+-- many calls of the disk were made: all as the definitions' piece has it.
+pub record CameTo (q : Piece) (s : Objects) (told : Option (List (List ℕ)))
+    (gave : Option (List ℕ)) (after : After) (calls : ℕ) : Type 0 where
   pub objects : s ≡ q.objects
   pub blocks : Tells told q.blocks
   pub bytes : gave ≡ q.gave
   pub next : after ≡ q.after
   pub calls_made : calls ≡ q.calls
 
--- The same without what the disk tells: a piece left these objects, these bytes were given, this comes next, and so many
--- calls of the disk were made, all as the definitions' piece has it.
+-- The same without what the disk tells: a piece left these objects, these bytes were given, this
+-- comes next, and so many calls of the disk were made, all as the definitions' piece has it.
 pub record LeftBy (q : Piece) (s : Objects) (gave : Option (List ℕ)) (after : After) (calls : ℕ) : Type 0 where
   pub objects : s ≡ q.objects
   pub bytes : gave ≡ q.gave
   pub next : after ≡ q.after
   pub calls_made : calls ≡ q.calls
 
--- So it is for some whole blocks, whether the disk tells its blocks or not, where these calls of it were made, whatever the
--- calls after them do.
-pub record LeftBySome (v : World) (piece : Blocks → List Bool → Piece) (s : Objects) (gave : Option (List ℕ)) (after : After) (io : List Bool) : Type 0 where
+-- So it is for some whole blocks, whether the disk tells its blocks or not, where these calls of it
+-- were made, whatever the calls after them do.
+pub record LeftBySome (v : World) (piece : Blocks → List Bool → Piece)
+    (s : Objects) (gave : Option (List ℕ)) (after : After) (io : List Bool) : Type 0 where
   pub blocks : Blocks
   pub whole : HasWholeBlocks v blocks
   pub left : (rest : List Bool) → LeftBy (piece blocks (io ++ rest)) s gave after (length io)
@@ -55,12 +57,14 @@ abbrev pub FetchLeft : Fetched → Blocks → Result ℕ DiskFailed → CacheVal
 FetchLeft q blocks result cache calls = fetched_so result cache (blocks_after q blocks) calls ≡ q
 
 -- a fetch left this cache, the disk tells this, and so many calls were made: all as the definitions' fetch has it
-pub record FetchCameTo (q : Fetched) (blocks : Blocks) (result : Result ℕ DiskFailed) (cache : CacheValue) (told : Option (List (List ℕ))) (calls : ℕ) : Type 0 where
+pub record FetchCameTo (q : Fetched) (blocks : Blocks) (result : Result ℕ DiskFailed)
+    (cache : CacheValue) (told : Option (List (List ℕ))) (calls : ℕ) : Type 0 where
   pub outcome : FetchLeft q blocks result cache calls
   pub tells : Tells told (blocks_after q blocks)
 
 -- so it is with a fetch for some whole blocks, where these calls of the disk were made
-pub record FetchLeftBySome (v : World) (fetch : Blocks → List Bool → Fetched) (result : Result ℕ DiskFailed) (cache : CacheValue) (io : List Bool) : Type 0 where
+pub record FetchLeftBySome (v : World) (fetch : Blocks → List Bool → Fetched) (result : Result ℕ DiskFailed)
+    (cache : CacheValue) (io : List Bool) : Type 0 where
   pub blocks : Blocks
   pub whole : HasWholeBlocks v blocks
   pub outcome : (rest : List Bool) → FetchLeft (fetch blocks (io ++ rest)) blocks result cache (length io)

@@ -1,2 +1,3 @@
 pub mod Works
 pub mod Coming
+pub mod Shared

@@ -48,8 +48,8 @@ registers_seen (Some r) = refl
 
 -- ---- pieces
 
--- The next piece of a call may come: its caller lives, no early refusal of it holds with some images loaded, and it stands
--- before one of its pieces.
+-- The next piece of a call may come: its caller lives, no early refusal of it holds with some
+-- images loaded, and it stands before one of its pieces.
 pub record MayCome (m : Meaning) (v : World) (s : Objects) (p : ℕ) (t : Stage) : Type 0 where
   pub images : ImageTable
   pub alive : lives s.things.queue p ≡ true

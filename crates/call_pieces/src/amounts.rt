@@ -1,14 +1,10 @@
 //! Amounts that are given, and the grafts that have them.
 
-ghost use Rattle.std.specs.Prelude.{◌≡◌, ℕ, ◌<◌, ◌≤◌, true, false, List, Option};
-ghost use Rattle.kernel_model.specs.World.{Blocks};
-ghost use Rattle.kernel_model.specs.Meaning.{Stage};
+ghost use Rattle.std.specs.Prelude.{◌≡◌, ◌<◌, ◌≤◌, true};
 ghost use Rattle.kernel_model.specs.Policies.{lives};
 ghost use Rattle.kernel_model.specs.Pieces.{give_piece, install_piece, remove_piece, fund_piece, bill_piece, new_graft};
-ghost use Rattle.disk_log.specs.Calls.{Tells};
-ghost use Rattle.kernel_state.specs.Stores.{world_of_store, objects_of, queue_of, SegmentsStay};
-ghost use Rattle.call_pieces.specs.Works.{comes_after};
-ghost use Rattle.call_pieces.specs.Coming.{CameTo, is_fault, goes_on};
+ghost use Rattle.kernel_state.specs.Stores.{objects_of, queue_of};
+ghost use Rattle.call_pieces.specs.Shared.{CameAtOnce, EndsAtOnce};
 
 use crate::{After, Next, came};
 use graft_points::Policy;
@@ -19,13 +15,11 @@ use kernel_state::Store;
 pub(crate) fn give<B: Policy>(store: &mut Store<B>, p: u8, q: u32, k: Kind, n: u32) -> After
     requires alive { lives (queue_of store.old) p ≡ true }
     requires granted { q < 16 }
-    ensures does { (blocks : Blocks) (told : Option (List (List ℕ))) (t : Stage) → Tells told blocks →
-        CameTo (give_piece (objects_of store.old) p q k n blocks (lives (queue_of store.old) q)) (objects_of store.new) told result.gave (comes_after result.next t) 0 }
+    ensures does { CameAtOnce (λ blocks.
+        give_piece (objects_of store.old) p q k n blocks (lives (queue_of store.old) q))
+        (objects_of store.new) result }
     ensures queue { queue_of store.new ≡ queue_of store.old }
-    ensures world { world_of_store store.new ≡ world_of_store store.old }
-    ensures ends { goes_on result.next ≡ false }
-    ensures no_fault { is_fault result.next ≡ false }
-    ensures memory { SegmentsStay store.old.ram store.new.ram }
+    ensures ended { EndsAtOnce store.old store.new result.next }
 {
     if !store.living(q) {
         return came(Next::Fails(Refusal::NoProcess));
@@ -49,13 +43,12 @@ pub(crate) fn install<B: Policy>(
     requires image { image < 32 }
     requires some { 1 ≤ limit }
     requires most { limit ≤ 65536 }
-    ensures does { (blocks : Blocks) (told : Option (List (List ℕ))) (t : Stage) → Tells told blocks →
-        CameTo (install_piece (objects_of store.old) p pt (new_graft image limit) ((objects_of store.old).accounts.graft p pt) blocks) (objects_of store.new) told result.gave (comes_after result.next t) 0 }
+    ensures does { CameAtOnce (λ blocks.
+        install_piece (objects_of store.old) p pt (new_graft image limit)
+        ((objects_of store.old).accounts.graft p pt) blocks)
+        (objects_of store.new) result }
     ensures queue { queue_of store.new ≡ queue_of store.old }
-    ensures world { world_of_store store.new ≡ world_of_store store.old }
-    ensures ends { goes_on result.next ≡ false }
-    ensures no_fault { is_fault result.next ≡ false }
-    ensures memory { SegmentsStay store.old.ram store.new.ram }
+    ensures ended { EndsAtOnce store.old store.new result.next }
 {
     if store.has_graft(p, pt as u8) {
         return came(Next::Fails(Refusal::Taken));
@@ -68,13 +61,11 @@ pub(crate) fn install<B: Policy>(
 pub(crate) fn remove<B: Policy>(store: &mut Store<B>, p: u8, pt: u32) -> After
     requires alive { lives (queue_of store.old) p ≡ true }
     requires point { pt < 16 }
-    ensures does { (blocks : Blocks) (told : Option (List (List ℕ))) (t : Stage) → Tells told blocks →
-        CameTo (remove_piece (objects_of store.old) p pt ((objects_of store.old).accounts.graft p pt) blocks) (objects_of store.new) told result.gave (comes_after result.next t) 0 }
+    ensures does { CameAtOnce (λ blocks.
+        remove_piece (objects_of store.old) p pt ((objects_of store.old).accounts.graft p pt) blocks)
+        (objects_of store.new) result }
     ensures queue { queue_of store.new ≡ queue_of store.old }
-    ensures world { world_of_store store.new ≡ world_of_store store.old }
-    ensures ends { goes_on result.next ≡ false }
-    ensures no_fault { is_fault result.next ≡ false }
-    ensures memory { SegmentsStay store.old.ram store.new.ram }
+    ensures ended { EndsAtOnce store.old store.new result.next }
 {
     if !store.has_graft(p, pt as u8) {
         return came(Next::Fails(Refusal::NoGraft));
@@ -87,13 +78,11 @@ pub(crate) fn remove<B: Policy>(store: &mut Store<B>, p: u8, pt: u32) -> After
 pub(crate) fn fund<B: Policy>(store: &mut Store<B>, p: u8, pt: u32, k: Kind, n: u32) -> After
     requires alive { lives (queue_of store.old) p ≡ true }
     requires point { pt < 16 }
-    ensures does { (blocks : Blocks) (told : Option (List (List ℕ))) (t : Stage) → Tells told blocks →
-        CameTo (fund_piece (objects_of store.old) p pt k n ((objects_of store.old).accounts.graft p pt) blocks) (objects_of store.new) told result.gave (comes_after result.next t) 0 }
+    ensures does { CameAtOnce (λ blocks.
+        fund_piece (objects_of store.old) p pt k n ((objects_of store.old).accounts.graft p pt) blocks)
+        (objects_of store.new) result }
     ensures queue { queue_of store.new ≡ queue_of store.old }
-    ensures world { world_of_store store.new ≡ world_of_store store.old }
-    ensures ends { goes_on result.next ≡ false }
-    ensures no_fault { is_fault result.next ≡ false }
-    ensures memory { SegmentsStay store.old.ram store.new.ram }
+    ensures ended { EndsAtOnce store.old store.new result.next }
 {
     if !store.has_graft(p, pt as u8) {
         return came(Next::Fails(Refusal::NoGraft));
@@ -108,13 +97,11 @@ pub(crate) fn fund<B: Policy>(store: &mut Store<B>, p: u8, pt: u32, k: Kind, n: 
 pub(crate) fn bill<B: Policy>(store: &mut Store<B>, p: u8, pt: u32) -> After
     requires alive { lives (queue_of store.old) p ≡ true }
     requires point { pt < 16 }
-    ensures does { (blocks : Blocks) (told : Option (List (List ℕ))) (t : Stage) → Tells told blocks →
-        CameTo (bill_piece (objects_of store.old) p pt ((objects_of store.old).accounts.graft p pt) blocks) (objects_of store.new) told result.gave (comes_after result.next t) 0 }
+    ensures does { CameAtOnce (λ blocks.
+        bill_piece (objects_of store.old) p pt ((objects_of store.old).accounts.graft p pt) blocks)
+        (objects_of store.new) result }
     ensures queue { queue_of store.new ≡ queue_of store.old }
-    ensures world { world_of_store store.new ≡ world_of_store store.old }
-    ensures ends { goes_on result.next ≡ false }
-    ensures no_fault { is_fault result.next ≡ false }
-    ensures memory { SegmentsStay store.old.ram store.new.ram }
+    ensures ended { EndsAtOnce store.old store.new result.next }
 {
     if !store.has_graft(p, pt as u8) {
         return came(Next::Fails(Refusal::NoGraft));

@@ -31,7 +31,8 @@ pub fn early<B: Policy>(
     ensures value { (table : ImageTable) → TellsImages images table →
         stage_granted stage_of result
         ≡ plain_early TOP_POINT (world_of_store store.now) table p call.now }
-    ensures ready { IfOk result (λ w. MayCome plain (world_of_store store.now) (objects_of store.now) w.caller (stage_of w)) }
+    ensures ready { IfOk result (λ w. MayCome plain (world_of_store store.now) (objects_of store.now) w.caller
+        (stage_of w)) }
     ensures call { IfOk result (λ w. w ≡ record { caller = p; call = call.now; piece = 0 }) }
 {
     if let Some(refusal) = refusal(store, images, p, call) {
@@ -123,7 +124,8 @@ fn is_loaded(images: u32, k: u32) -> bool
 fn install_refusal(images: u32, pt: u32, image: u32, limit: u32) -> Option<Refusal>
     ensures { (table : ImageTable) → TellsImages images table →
         result ≡ refused (nat_lt TOP_POINT pt) BadPoint
-        (refused (limit == 0 || nat_lt 65536 limit) BadIndex (refused (nat_lt 31 image || not (is_some (table image))) NoImage None)) }
+        (refused (limit == 0 || nat_lt 65536 limit) BadIndex
+        (refused (nat_lt 31 image || not (is_some (table image))) NoImage None)) }
 {
     if pt > TOP_POINT {
         Some(Refusal::BadPoint)

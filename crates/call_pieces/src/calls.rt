@@ -33,8 +33,8 @@ pub trait Calls {
     /// The process that made it.
     ghost caller: { Self.Work → ℕ };
 
-    /// A call of process p, which lives, before its first piece; or its refusal of least number that needs no object. Bit k
-    /// of `images` tells whether image k is loaded.
+    /// A call of process p, which lives, before its first piece; or its refusal of least number
+    /// that needs no object. Bit k of `images` tells whether image k is loaded.
     fn early<B: Policy>(
         store: &Store<B>,
         images: u32,
@@ -44,21 +44,28 @@ pub trait Calls {
         requires alive { lives (queue_of store.now) p ≡ true }
         ensures value { (table : ImageTable) → TellsImages images table →
             stage_granted stage result ≡ Self.Meaning.meaning.early (world_of_store store.now) table p call.now }
-        ensures ready { IfOk result (λ w. MayCome Self.Meaning.meaning (world_of_store store.now) (objects_of store.now) (caller w) (stage w)) }
+        ensures ready { IfOk result (λ w. MayCome Self.Meaning.meaning (world_of_store store.now)
+            (objects_of store.now) (caller w) (stage w)) }
         ensures caller { IfOk result (λ w. caller w ≡ p) }
-        ensures few { IfOk result (λ w. Self.Meaning.meaning.left (world_of_store store.now) (objects_of store.now) (caller w) (stage w) ≤ 15) };
+        ensures few { IfOk result (λ w. Self.Meaning.meaning.left (world_of_store store.now) (objects_of store.now)
+            (caller w) (stage w) ≤ 15) };
 
     /// The objects that the next piece of a call needs, in order. They take the place of what the list had.
     fn need<B: Policy>(work: &Self::Work, store: &Store<B>, needs: &mut Needs)
-        requires ready { MayCome Self.Meaning.meaning (world_of_store store.now) (objects_of store.now) (caller work.now) (stage work.now) }
-        ensures { needs.new ≡ Self.Meaning.meaning.need (world_of_store store.now) (objects_of store.now) (caller work.now) (stage work.now) };
+        requires ready { MayCome Self.Meaning.meaning (world_of_store store.now) (objects_of store.now)
+            (caller work.now) (stage work.now) }
+        ensures { needs.new ≡ Self.Meaning.meaning.need (world_of_store store.now) (objects_of store.now)
+            (caller work.now) (stage work.now) };
 
     /// The point that the next piece of a call asks, with its arguments.
     fn asks<B: Policy>(work: &Self::Work, store: &Store<B>) -> Option<Point>
-        requires ready { MayCome Self.Meaning.meaning (world_of_store store.now) (objects_of store.now) (caller work.now) (stage work.now) }
-        ensures { result ≡ Self.Meaning.meaning.asks (world_of_store store.now) (objects_of store.now) (caller work.now) (stage work.now) };
+        requires ready { MayCome Self.Meaning.meaning (world_of_store store.now) (objects_of store.now)
+            (caller work.now) (stage work.now) }
+        ensures { result ≡ Self.Meaning.meaning.asks (world_of_store store.now) (objects_of store.now)
+            (caller work.now) (stage work.now) };
 
-    /// The next piece of a call, with an answer that the point accepts which it asks, or by default. The log starts empty and has this piece's calls of the disk then.
+    /// The next piece of a call, with an answer that the point accepts which it asks, or by
+    /// default. The log starts empty and has this piece's calls of the disk then.
     fn piece<B: Policy, D: Disk>(
         work: &mut Self::Work,
         store: &mut Store<B>,
@@ -66,8 +73,11 @@ pub trait Calls {
         disk: &mut D,
         log: &mut DiskLog,
     ) -> After
-        requires ready { MayCome Self.Meaning.meaning (world_of_store store.old) (objects_of store.old) (caller work.old) (stage work.old) }
-        requires right { IsRightAnswer (objects_of store.old) (Self.Meaning.meaning.asks (world_of_store store.old) (objects_of store.old) (caller work.old) (stage work.old)) answer }
+        requires ready { MayCome Self.Meaning.meaning (world_of_store store.old) (objects_of store.old)
+            (caller work.old) (stage work.old) }
+        requires right { IsRightAnswer (objects_of store.old)
+            (Self.Meaning.meaning.asks (world_of_store store.old) (objects_of store.old) (caller work.old)
+            (stage work.old)) answer }
         requires disk { store.old.size ≡ D.block_count disk.old }
         requires fresh { log.old ≡ [] }
         ensures does { (images : ImageTable) (blocks : Blocks) (rest : List Bool) → Tells (D.blocks disk.old) blocks →
@@ -83,13 +93,15 @@ pub trait Calls {
             (caller work.old) (stage work.old) (answer_seen answer) io)
             (objects_of store.new) result.gave
             (comes_after result.next (stage work.new)) log.new }
-        ensures gone { goes_on result.next ≡ true → GoesOnFrom Self.Meaning.meaning (world_of_store store.old) (objects_of store.old) (objects_of store.new)
+        ensures gone { goes_on result.next ≡ true →
+            GoesOnFrom Self.Meaning.meaning (world_of_store store.old) (objects_of store.old) (objects_of store.new)
             (caller work.old) (caller work.new) (stage work.old) (stage work.new) }
         ensures failed { is_fault result.next ≡ true → has_failed log.new ≡ true }
         ensures world { world_of_store store.new ≡ world_of_store store.old }
         ensures memory { SegmentsStay store.old.ram store.new.ram }
         ensures same_size { D.block_count disk.new ≡ D.block_count disk.old }
-        ensures calls { GoesOn (D.faults disk.old) (D.faults disk.new) (D.plan disk.old) (D.plan disk.new) log.old log.new }
+        ensures calls { GoesOn (D.faults disk.old) (D.faults disk.new) (D.plan disk.old)
+            (D.plan disk.new) log.old log.new }
         ensures few { length log.new ≤ 256 };
 }
 

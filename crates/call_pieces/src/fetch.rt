@@ -1,18 +1,17 @@
 //! How a block comes into the cache.
 
-ghost use Rattle.std.specs.Prelude.{◌≡◌, ℕ, ◌<◌, true, false, List, Bool, [], ◌∷◌, ◌++◌, Some, None, option_map, is_some, slice_index, length, IfOk, IfErr, IfSome, ◌≤◌};
+ghost use Rattle.std.specs.Prelude.{◌≡◌, ◌<◌, true, false, List, Bool, [], ◌∷◌, ◌++◌, Some, None, option_map, is_some, slice_index, length, IfSome};
 ghost use Rattle.kernel_model.specs.World.{Blocks};
 ghost use Rattle.kernel_model.specs.Objects.{FrameValue};
-ghost use Rattle.kernel_model.specs.Policies.{lives, or_zero, victim_among};
-ghost use Rattle.kernel_model.specs.Needs.{frame_of_block, free_frame};
+ghost use Rattle.kernel_model.specs.Needs.{frame_of_block};
 ghost use Rattle.kernel_model.specs.Fetch as fetches;
-ghost use Rattle.kernel_model.specs.Fetch.{new_frame, replaced, dirty_value, read_block, place_block, chosen_by, evict as evicted};
+ghost use Rattle.kernel_model.specs.Fetch.{dirty_value, chosen_by, evict as evicted};
 ghost use Rattle.kernel_model.specs.Meaning.{disk_fails};
-ghost use Rattle.kernel_model.specs.FilePieces.{with_cache};
 ghost use Rattle.buffer_cache.specs.Frames.{in_use};
 ghost use Rattle.disk_log.specs.Calls.{Tells, GoesOn};
-ghost use Rattle.kernel_state.specs.Stores.{world_of_store, objects_of, cache_of, queue_of, policies_of, SegmentsStay};
-ghost use Rattle.call_pieces.specs.Coming.{FetchCameTo, FetchLeft, FetchLeftBySome, blocks_after, has_failed};
+ghost use Rattle.kernel_state.specs.Stores.{world_of_store, cache_of};
+ghost use Rattle.call_pieces.specs.Shared.{FetchReady, FetchDone, FetchCameBy, fetch_of, fetch_ahead_of, load_of, place_of, evict_of};
+ghost use Rattle.call_pieces.specs.Coming.{FetchLeft, FetchLeftBySome, blocks_after};
 
 use disk_log::DiskLog;
 use graft_points::Policy;
@@ -20,8 +19,8 @@ use kernel_model::BLOCK_BYTES;
 use kernel_state::Store;
 use vino_base::{Disk, Failed};
 
-/// Block b for process p: the frame that holds it becomes the newest, or the block is read into a frame. An answer names the
-/// frame in use that is to be evicted where none is free.
+/// Block b for process p: the frame that holds it becomes the newest, or the block is read into a
+/// frame. An answer names the frame in use that is to be evicted where none is free.
 pub(crate) fn fetch<B: Policy, D: Disk>(
     store: &mut Store<B>,
     disk: &mut D,
@@ -30,25 +29,16 @@ pub(crate) fn fetch<B: Policy, D: Disk>(
     b: u32,
     answer: Option<[u32; 4]>,
 ) -> Result<u8, Failed>
-    requires alive { lives (queue_of store.old) p ≡ true }
-    requires block { b < store.old.size }
+    requires ready { FetchReady store.old (D.block_count disk.old) p b }
     requires right { IfSome answer (λ a. is_some ((cache_of store.old).frame (slice_index a 0)) ≡ true) }
-    requires disk { store.old.size ≡ D.block_count disk.old }
     requires fresh { log.old ≡ [] }
-    ensures does { (blocks : Blocks) (rest : List Bool) → Tells (D.blocks disk.old) blocks →
-        FetchCameTo (fetches.fetch (world_of_store store.old) (policies_of store.old 1) p b answer (cache_of store.old) blocks (log.new ++ rest)) blocks
-        result (cache_of store.new) (D.blocks disk.new) (length log.new) }
-    ensures some { FetchLeftBySome (world_of_store store.old) (λ blocks io. fetches.fetch (world_of_store store.old) (policies_of store.old 1) p b answer (cache_of store.old) blocks io)
+    ensures does { FetchCameBy (fetch_of store.old p b answer) (D.blocks disk.old) (D.blocks disk.new)
         result (cache_of store.new) log.new }
-    ensures objects { objects_of store.new ≡ with_cache (cache_of store.new) (objects_of store.old) }
-    ensures in_cache { IfOk result (λ f. in_use f store.new.cache ≡ true) }
-    ensures kept { IfErr result (λ _. objects_of store.new ≡ objects_of store.old) }
-    ensures failed { IfErr result (λ _. has_failed log.new ≡ true) }
-    ensures world { world_of_store store.new ≡ world_of_store store.old }
+    ensures some { FetchLeftBySome (world_of_store store.old) (fetch_of store.old p b answer)
+        result (cache_of store.new) log.new }
+    ensures done { FetchDone store.old store.new result log.new }
     ensures same_size { D.block_count disk.new ≡ D.block_count disk.old }
     ensures calls { GoesOn (D.faults disk.old) (D.faults disk.new) (D.plan disk.old) (D.plan disk.new) log.old log.new }
-    ensures few { length log.new ≤ 256 }
-    ensures memory { SegmentsStay store.old.ram store.new.ram }
 {
     match store.find(b) {
         Some(f) => {
@@ -68,25 +58,16 @@ pub(crate) fn fetch_ahead<B: Policy, D: Disk>(
     b: u32,
     answer: Option<[u32; 4]>,
 ) -> Result<u8, Failed>
-    requires alive { lives (queue_of store.old) p ≡ true }
-    requires block { b < store.old.size }
+    requires ready { FetchReady store.old (D.block_count disk.old) p b }
     requires right { IfSome answer (λ a. is_some ((cache_of store.old).frame (slice_index a 0)) ≡ true) }
-    requires disk { store.old.size ≡ D.block_count disk.old }
     requires fresh { log.old ≡ [] }
-    ensures does { (blocks : Blocks) (rest : List Bool) → Tells (D.blocks disk.old) blocks →
-        FetchCameTo (fetches.fetch_ahead (world_of_store store.old) (policies_of store.old 1) p b answer (cache_of store.old) blocks (log.new ++ rest)) blocks
-        result (cache_of store.new) (D.blocks disk.new) (length log.new) }
-    ensures some { FetchLeftBySome (world_of_store store.old) (λ blocks io. fetches.fetch_ahead (world_of_store store.old) (policies_of store.old 1) p b answer (cache_of store.old) blocks io)
+    ensures does { FetchCameBy (fetch_ahead_of store.old p b answer) (D.blocks disk.old) (D.blocks disk.new)
         result (cache_of store.new) log.new }
-    ensures objects { objects_of store.new ≡ with_cache (cache_of store.new) (objects_of store.old) }
-    ensures in_cache { IfOk result (λ f. in_use f store.new.cache ≡ true) }
-    ensures kept { IfErr result (λ _. objects_of store.new ≡ objects_of store.old) }
-    ensures failed { IfErr result (λ _. has_failed log.new ≡ true) }
-    ensures world { world_of_store store.new ≡ world_of_store store.old }
+    ensures some { FetchLeftBySome (world_of_store store.old) (fetch_ahead_of store.old p b answer)
+        result (cache_of store.new) log.new }
+    ensures done { FetchDone store.old store.new result log.new }
     ensures same_size { D.block_count disk.new ≡ D.block_count disk.old }
     ensures calls { GoesOn (D.faults disk.old) (D.faults disk.new) (D.plan disk.old) (D.plan disk.new) log.old log.new }
-    ensures few { length log.new ≤ 256 }
-    ensures memory { SegmentsStay store.old.ram store.new.ram }
 {
     match store.find(b) {
         Some(f) => Ok(f),
@@ -103,26 +84,17 @@ fn load<B: Policy, D: Disk>(
     b: u32,
     answer: Option<[u32; 4]>,
 ) -> Result<u8, Failed>
-    requires alive { lives (queue_of store.old) p ≡ true }
-    requires block { b < store.old.size }
+    requires ready { FetchReady store.old (D.block_count disk.old) p b }
     requires right { IfSome answer (λ a. is_some ((cache_of store.old).frame (slice_index a 0)) ≡ true) }
-    requires disk { store.old.size ≡ D.block_count disk.old }
     requires fresh { log.old ≡ [] }
     requires missing { frame_of_block (cache_of store.old) b ≡ None }
-    ensures does { (blocks : Blocks) (rest : List Bool) → Tells (D.blocks disk.old) blocks →
-        FetchCameTo (read_block (world_of_store store.old) (policies_of store.old 1) p b answer (cache_of store.old) blocks (log.new ++ rest)) blocks
-        result (cache_of store.new) (D.blocks disk.new) (length log.new) }
-    ensures some { FetchLeftBySome (world_of_store store.old) (λ blocks io. read_block (world_of_store store.old) (policies_of store.old 1) p b answer (cache_of store.old) blocks io)
+    ensures does { FetchCameBy (load_of store.old p b answer) (D.blocks disk.old) (D.blocks disk.new)
         result (cache_of store.new) log.new }
-    ensures objects { objects_of store.new ≡ with_cache (cache_of store.new) (objects_of store.old) }
-    ensures in_cache { IfOk result (λ f. in_use f store.new.cache ≡ true) }
-    ensures kept { IfErr result (λ _. objects_of store.new ≡ objects_of store.old) }
-    ensures failed { IfErr result (λ _. has_failed log.new ≡ true) }
-    ensures world { world_of_store store.new ≡ world_of_store store.old }
+    ensures some { FetchLeftBySome (world_of_store store.old) (load_of store.old p b answer)
+        result (cache_of store.new) log.new }
+    ensures done { FetchDone store.old store.new result log.new }
     ensures same_size { D.block_count disk.new ≡ D.block_count disk.old }
     ensures calls { GoesOn (D.faults disk.old) (D.faults disk.new) (D.plan disk.old) (D.plan disk.new) log.old log.new }
-    ensures few { length log.new ≤ 256 }
-    ensures memory { SegmentsStay store.old.ram store.new.ram }
 {
     let mut bytes = [0; BLOCK_BYTES];
     match log.read(disk, b, &mut bytes) {
@@ -142,29 +114,19 @@ fn place<B: Policy, D: Disk>(
     answer: Option<[u32; 4]>,
     bytes: &[u8; 512],
 ) -> Result<u8, Failed>
-    requires alive { lives (queue_of store.old) p ≡ true }
-    requires block { b < store.old.size }
+    requires ready { FetchReady store.old (D.block_count disk.old) p b }
     requires right { IfSome answer (λ a. is_some ((cache_of store.old).frame (slice_index a 0)) ≡ true) }
-    requires disk { store.old.size ≡ D.block_count disk.old }
     requires read { log.old ≡ false ∷ [] }
     requires missing { frame_of_block (cache_of store.old) b ≡ None }
     ensures outcome { (blocks : Blocks) (rest : List Bool) → blocks b ≡ bytes.now →
-        let candidate = or_zero (victim_among (policies_of store.old 1) (cache_of store.old) (cache_of store.old).lru) in
-        FetchLeft (place_block (free_frame (cache_of store.old) (world_of_store store.old).frames 0) p b (chosen_by answer candidate) candidate (cache_of store.old) blocks (log.new ++ rest)) blocks
-        result (cache_of store.new) (length log.new) }
+        FetchLeft (place_of store.old p b answer blocks (log.new ++ rest)) blocks result (cache_of store.new)
+        (length log.new) }
     ensures tells { (blocks : Blocks) (rest : List Bool) → blocks b ≡ bytes.now → Tells (D.blocks disk.old) blocks →
-        let candidate = or_zero (victim_among (policies_of store.old 1) (cache_of store.old) (cache_of store.old).lru) in
-        Tells (D.blocks disk.new) (blocks_after (place_block (free_frame (cache_of store.old) (world_of_store store.old).frames 0) p b (chosen_by answer candidate) candidate (cache_of store.old) blocks (log.new ++ rest)) blocks) }
+        Tells (D.blocks disk.new) (blocks_after (place_of store.old p b answer blocks (log.new ++ rest)) blocks) }
     ensures first { (rest : List Bool) → disk_fails (log.new ++ rest) 0 ≡ false }
-    ensures objects { objects_of store.new ≡ with_cache (cache_of store.new) (objects_of store.old) }
-    ensures in_cache { IfOk result (λ f. in_use f store.new.cache ≡ true) }
-    ensures kept { IfErr result (λ _. objects_of store.new ≡ objects_of store.old) }
-    ensures failed { IfErr result (λ _. has_failed log.new ≡ true) }
-    ensures world { world_of_store store.new ≡ world_of_store store.old }
+    ensures done { FetchDone store.old store.new result log.new }
     ensures same_size { D.block_count disk.new ≡ D.block_count disk.old }
     ensures calls { GoesOn (D.faults disk.old) (D.faults disk.new) (D.plan disk.old) (D.plan disk.new) log.old log.new }
-    ensures few { length log.new ≤ 256 }
-    ensures memory { SegmentsStay store.old.ram store.new.ram }
 {
     if let Some(f) = store.free() {
         store.fill(f, p, b, bytes);
@@ -203,28 +165,21 @@ fn evict<B: Policy, D: Disk>(
     candidate: u8,
     bytes: &[u8; 512],
 ) -> Result<u8, Failed>
-    requires alive { lives (queue_of store.old) p ≡ true }
-    requires block { b < store.old.size }
-    requires disk { store.old.size ≡ D.block_count disk.old }
+    requires ready { FetchReady store.old (D.block_count disk.old) p b }
     requires read { log.old ≡ false ∷ [] }
     requires missing { frame_of_block (cache_of store.old) b ≡ None }
     requires frame { in_use f store.old.cache ≡ true }
     requires candidate { in_use candidate store.old.cache ≡ true }
     ensures outcome { (blocks : Blocks) (rest : List Bool) →
-        FetchLeft (evicted ((cache_of store.old).frame f) f (replaced f candidate (new_frame p b bytes.now) (cache_of store.old)) blocks (log.new ++ rest)) blocks
-        result (cache_of store.new) (length log.new) }
+        FetchLeft (evict_of store.old p b f candidate bytes.now blocks (log.new ++ rest)) blocks result
+        (cache_of store.new) (length log.new) }
     ensures tells { (blocks : Blocks) (rest : List Bool) → Tells (D.blocks disk.old) blocks →
-        Tells (D.blocks disk.new) (blocks_after (evicted ((cache_of store.old).frame f) f (replaced f candidate (new_frame p b bytes.now) (cache_of store.old)) blocks (log.new ++ rest)) blocks) }
+        Tells (D.blocks disk.new) (blocks_after
+        (evict_of store.old p b f candidate bytes.now blocks (log.new ++ rest)) blocks) }
     ensures first { (rest : List Bool) → disk_fails (log.new ++ rest) 0 ≡ false }
-    ensures objects { objects_of store.new ≡ with_cache (cache_of store.new) (objects_of store.old) }
-    ensures in_cache { IfOk result (λ g. in_use g store.new.cache ≡ true) }
-    ensures kept { IfErr result (λ _. objects_of store.new ≡ objects_of store.old) }
-    ensures failed { IfErr result (λ _. has_failed log.new ≡ true) }
-    ensures world { world_of_store store.new ≡ world_of_store store.old }
+    ensures done { FetchDone store.old store.new result log.new }
     ensures same_size { D.block_count disk.new ≡ D.block_count disk.old }
     ensures calls { GoesOn (D.faults disk.old) (D.faults disk.new) (D.plan disk.old) (D.plan disk.new) log.old log.new }
-    ensures few { length log.new ≤ 256 }
-    ensures memory { SegmentsStay store.old.ram store.new.ram }
 {
     match store.dirty_block(f) {
         Some(old) => evict_dirty(store, disk, log, p, b, f, candidate, bytes, old),
@@ -247,9 +202,7 @@ fn evict_dirty<B: Policy, D: Disk>(
     bytes: &[u8; 512],
     old: u32,
 ) -> Result<u8, Failed>
-    requires alive { lives (queue_of store.old) p ≡ true }
-    requires block { b < store.old.size }
-    requires disk { store.old.size ≡ D.block_count disk.old }
+    requires ready { FetchReady store.old (D.block_count disk.old) p b }
     requires read { log.old ≡ false ∷ [] }
     requires missing { frame_of_block (cache_of store.old) b ≡ None }
     requires frame { in_use f store.old.cache ≡ true }
@@ -257,20 +210,15 @@ fn evict_dirty<B: Policy, D: Disk>(
     requires dirty { option_map (λ (x : FrameValue). x.block) (dirty_value ((cache_of store.old).frame f)) ≡ Some old }
     requires evicted { old < store.old.size }
     ensures outcome { (blocks : Blocks) (rest : List Bool) →
-        FetchLeft (evicted ((cache_of store.old).frame f) f (replaced f candidate (new_frame p b bytes.now) (cache_of store.old)) blocks (log.new ++ rest)) blocks
-        result (cache_of store.new) (length log.new) }
+        FetchLeft (evict_of store.old p b f candidate bytes.now blocks (log.new ++ rest)) blocks result
+        (cache_of store.new) (length log.new) }
     ensures tells { (blocks : Blocks) (rest : List Bool) → Tells (D.blocks disk.old) blocks →
-        Tells (D.blocks disk.new) (blocks_after (evicted ((cache_of store.old).frame f) f (replaced f candidate (new_frame p b bytes.now) (cache_of store.old)) blocks (log.new ++ rest)) blocks) }
+        Tells (D.blocks disk.new) (blocks_after
+        (evict_of store.old p b f candidate bytes.now blocks (log.new ++ rest)) blocks) }
     ensures first { (rest : List Bool) → disk_fails (log.new ++ rest) 0 ≡ false }
-    ensures objects { objects_of store.new ≡ with_cache (cache_of store.new) (objects_of store.old) }
-    ensures in_cache { IfOk result (λ g. in_use g store.new.cache ≡ true) }
-    ensures kept { IfErr result (λ _. objects_of store.new ≡ objects_of store.old) }
-    ensures failed { IfErr result (λ _. has_failed log.new ≡ true) }
-    ensures world { world_of_store store.new ≡ world_of_store store.old }
+    ensures done { FetchDone store.old store.new result log.new }
     ensures same_size { D.block_count disk.new ≡ D.block_count disk.old }
     ensures calls { GoesOn (D.faults disk.old) (D.faults disk.new) (D.plan disk.old) (D.plan disk.new) log.old log.new }
-    ensures few { length log.new ≤ 256 }
-    ensures memory { SegmentsStay store.old.ram store.new.ram }
 {
     let mut evicted = [0; BLOCK_BYTES];
     store.copy_frame(f, &mut evicted);

@@ -1,7 +1,7 @@
 //! The pieces of the system calls, over one store and a disk.
 //!
-//! A call is refused at once (`early`), or it is in flight as `Work` until a piece ends it. A piece (`piece`) is what a call
-//! does in one step.
+//! A call is refused at once (`early`), or it is in flight as `Work` until a piece ends it. A piece
+//! (`piece`) is what a call does in one step.
 #![tactic(auto)]
 
 ghost use Rattle.std.specs.Prelude.{◌≡◌, None};

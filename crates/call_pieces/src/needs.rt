@@ -161,7 +161,8 @@ impl Needs {
         }
     }
 
-    /// What a fetch of block i of an open file needs, of which bytes off to off + len are meant. Nothing where that is refused.
+    /// What a fetch of block i of an open file needs, of which bytes off to off + len are meant.
+    /// Nothing where that is refused.
     fn block<B: Policy>(&mut self, store: &Store<B>, p: u8, fd: u8, i: u32, off: u32, len: u32)
         requires alive { lives (queue_of store.now) p ≡ true }
         requires descriptor { fd < 4 }
@@ -191,7 +192,8 @@ impl Needs {
 
 /// The candidate for eviction, where a frame must be chosen for block b: no frame holds it, and none is free.
 pub(crate) fn candidate_for<B: Policy>(store: &Store<B>, b: u32) -> Option<u8>
-    ensures value { result ≡ spec.candidate_for (world_of_store store.now) (policies_of store.now 1) (cache_of store.now) b }
+    ensures value { result ≡ spec.candidate_for (world_of_store store.now) (policies_of store.now 1)
+        (cache_of store.now) b }
     ensures in_cache { IfSome result (λ f. in_use f store.now.cache ≡ true) }
 {
     if store.find(b).is_some() || store.free().is_some() {
@@ -202,8 +204,10 @@ pub(crate) fn candidate_for<B: Policy>(store: &Store<B>, b: u32) -> Option<u8>
 
 /// The objects that the next piece of a call needs, in order. They take the place of what the list had.
 pub fn need<B: Policy>(work: &Work, store: &Store<B>, needs: &mut Needs)
-    requires ready { MayCome plain (world_of_store store.now) (objects_of store.now) work.now.caller (stage_of work.now) }
-    ensures { needs.new ≡ spec.piece_needs work.now.call work.now.piece (world_of_store store.now) (objects_of store.now) work.now.caller }
+    requires ready { MayCome plain (world_of_store store.now) (objects_of store.now) work.now.caller
+        (stage_of work.now) }
+    ensures { needs.new ≡ spec.piece_needs work.now.call work.now.piece (world_of_store store.now)
+        (objects_of store.now) work.now.caller }
 {
     needs.clear();
     let p = work.caller;
@@ -286,7 +290,8 @@ fn read_needs<B: Policy>(piece: u8, store: &Store<B>, p: u8, r: Range, needs: &m
     requires descriptor { r.fd < 4 }
     requires fits { read_fits piece ((objects_of store.now).things.file p r.fd) ≡ true }
     requires empty { needs.old ≡ [] }
-    ensures { needs.new ≡ spec.read_needs piece (world_of_store store.now) (objects_of store.now) p r.fd r.i r.off r.len }
+    ensures { needs.new ≡ spec.read_needs piece (world_of_store store.now)
+        (objects_of store.now) p r.fd r.i r.off r.len }
 {
     let fd = r.fd as u8;
     needs.exclusive(Object::OpenFile(p, fd));

@@ -34,8 +34,11 @@ pub fn piece<B: Policy, D: Disk>(
     disk: &mut D,
     log: &mut DiskLog,
 ) -> After
-    requires ready { MayCome plain (world_of_store store.old) (objects_of store.old) work.old.caller (stage_of work.old) }
-    requires right { IsRightAnswer (objects_of store.old) (piece_ask work.old.call work.old.piece (world_of_store store.old) (objects_of store.old).things work.old.caller) answer }
+    requires ready { MayCome plain (world_of_store store.old) (objects_of store.old) work.old.caller
+        (stage_of work.old) }
+    requires right { IsRightAnswer (objects_of store.old)
+        (piece_ask work.old.call work.old.piece (world_of_store store.old)
+        (objects_of store.old).things work.old.caller) answer }
     requires disk { store.old.size ≡ D.block_count disk.old }
     requires fresh { log.old ≡ [] }
     ensures does { (blocks : Blocks) (rest : List Bool) → Tells (D.blocks disk.old) blocks →
@@ -49,8 +52,10 @@ pub fn piece<B: Policy, D: Disk>(
         work.old.caller answer io)
         (objects_of store.new) result.gave
         (comes_after result.next (stage_of work.new)) log.new }
-    ensures queue { queue_of store.new ≡ queue_after (policies_of store.old 2) answer work.old.call work.old.piece work.old.caller (queue_of store.old) }
-    ensures gone { goes_on result.next ≡ true → HasGone work.old work.new (objects_of store.old) (objects_of store.new) }
+    ensures queue { queue_of store.new ≡ queue_after
+        (policies_of store.old 2) answer work.old.call work.old.piece work.old.caller (queue_of store.old) }
+    ensures gone { goes_on result.next ≡ true →
+        HasGone work.old work.new (objects_of store.old) (objects_of store.new) }
     ensures failed { is_fault result.next ≡ true → has_failed log.new ≡ true }
     ensures world { world_of_store store.new ≡ world_of_store store.old }
     ensures same_size { D.block_count disk.new ≡ D.block_count disk.old }

@@ -17,8 +17,10 @@ use kernel_state::Store;
 
 /// The point that the next piece of a call asks, with its arguments.
 pub fn asks<B: Policy>(work: &Work, store: &Store<B>) -> Option<Point>
-    requires ready { MayCome plain (world_of_store store.now) (objects_of store.now) work.now.caller (stage_of work.now) }
-    ensures { result ≡ spec.piece_ask work.now.call work.now.piece (world_of_store store.now) (objects_of store.now).things work.now.caller }
+    requires ready { MayCome plain (world_of_store store.now) (objects_of store.now) work.now.caller
+        (stage_of work.now) }
+    ensures { result ≡ spec.piece_ask work.now.call work.now.piece (world_of_store store.now)
+        (objects_of store.now).things work.now.caller }
 {
     let p = work.caller;
     match &work.call {
@@ -61,7 +63,8 @@ fn read_ask<B: Policy>(piece: u8, store: &Store<B>, p: u8, r: Range) -> Option<P
     requires alive { lives (queue_of store.now) p ≡ true }
     requires descriptor { r.fd < 4 }
     requires fits { read_fits piece ((objects_of store.now).things.file p r.fd) ≡ true }
-    ensures { result ≡ spec.read_ask piece (world_of_store store.now) (objects_of store.now).things p r.fd r.i r.off r.len }
+    ensures { result ≡ spec.read_ask piece (world_of_store store.now)
+        (objects_of store.now).things p r.fd r.i r.off r.len }
 {
     let fd = r.fd as u8;
     match piece {

@@ -1,8 +1,8 @@
 //! The pieces that take no block of the disk.
 
-ghost use Rattle.std.specs.Prelude.{◌≡◌, ℕ, ◌+◌, ◌<◌, ◌≤◌, true, false, List, Option, Some, slice_index, IfSome};
+ghost use Rattle.std.specs.Prelude.{◌≡◌, ℕ, ◌<◌, ◌≤◌, true, false, List, Option, Some, slice_index, IfSome};
 ghost use Rattle.kernel_model.specs.World.{Blocks, file_named};
-ghost use Rattle.kernel_model.specs.Meaning.{Stage, stage, EndsWith};
+ghost use Rattle.kernel_model.specs.Meaning.{stage, EndsWith};
 ghost use Rattle.kernel_model.specs.Queue.{queue_without};
 ghost use Rattle.kernel_model.specs.declared.SysCall.TheVariants.{Yield};
 ghost use Rattle.kernel_model.specs.declared.Reply.TheVariants.{One};
@@ -14,6 +14,7 @@ ghost use Rattle.kernel_model.specs.Pieces.{spawn_piece, exit_piece, yield_piece
 ghost use Rattle.kernel_model.specs.Sound.{IsSoundFile};
 ghost use Rattle.disk_log.specs.Calls.{Tells};
 ghost use Rattle.kernel_state.specs.Stores.{world_of_store, objects_of, queue_of, queue_joined, policies_of, SegmentsStay};
+ghost use Rattle.call_pieces.specs.Shared.{CameAtOnce, EndsAtOnce};
 ghost use Rattle.call_pieces.specs.Works.{queue_yielded, next_of, comes_after};
 ghost use Rattle.call_pieces.specs.Coming.{CameTo, is_fault, goes_on};
 
@@ -24,14 +25,12 @@ use kernel_state::Store;
 
 /// A new process joins at the back of the queue.
 pub(crate) fn spawn<B: Policy>(store: &mut Store<B>) -> After
-    ensures does { (blocks : Blocks) (told : Option (List (List ℕ))) (t : Stage) → Tells told blocks →
-        CameTo (spawn_piece (objects_of store.old) (free_process (queue_of store.old) 16 0) blocks) (objects_of store.new) told result.gave (comes_after result.next t) 0 }
+    ensures does { CameAtOnce (λ blocks.
+        spawn_piece (objects_of store.old) (free_process (queue_of store.old) 16 0) blocks)
+        (objects_of store.new) result }
     ensures queue { queue_of store.new ≡ queue_joined (free_process (queue_of store.old) 16 0) (queue_of store.old) }
     ensures living { (q : ℕ) → lives (queue_of store.old) q ≡ true → lives (queue_of store.new) q ≡ true }
-    ensures world { world_of_store store.new ≡ world_of_store store.old }
-    ensures ends { goes_on result.next ≡ false }
-    ensures no_fault { is_fault result.next ≡ false }
-    ensures memory { SegmentsStay store.old.ram store.new.ram }
+    ensures ended { EndsAtOnce store.old store.new result.next }
 {
     match store.spawn() {
         Some(c) => came(Next::Ends(Reply::One(u32::from(c)))),
@@ -43,13 +42,10 @@ pub(crate) fn spawn<B: Policy>(store: &mut Store<B>) -> After
 pub(crate) fn exit<B: Policy>(store: &mut Store<B>, p: u8) -> After
     requires alive { lives (queue_of store.old) p ≡ true }
     requires granted { 0 < p }
-    ensures does { (blocks : Blocks) (told : Option (List (List ℕ))) (t : Stage) → Tells told blocks →
-        CameTo (exit_piece (objects_of store.old) p blocks) (objects_of store.new) told result.gave (comes_after result.next t) 0 }
+    ensures does { CameAtOnce (λ blocks.
+        exit_piece (objects_of store.old) p blocks) (objects_of store.new) result }
     ensures queue { queue_of store.new ≡ queue_without p (queue_of store.old) }
-    ensures world { world_of_store store.new ≡ world_of_store store.old }
-    ensures ends { goes_on result.next ≡ false }
-    ensures no_fault { is_fault result.next ≡ false }
-    ensures memory { SegmentsStay store.old.ram store.new.ram }
+    ensures ended { EndsAtOnce store.old store.new result.next }
 {
     store.leave(p);
     came(Next::Ends(Reply::Plain))
@@ -68,7 +64,8 @@ fn turn<B: Policy>(store: &Store<B>, answer: Option<[u32; 4]>) -> u8
     }
 }
 
-/// Process p goes to the back of the queue; then the process that the answer chooses, or by default the policy, gets a slice.
+/// Process p goes to the back of the queue; then the process that the answer chooses, or by default
+/// the policy, gets a slice.
 pub(crate) fn yield_turn<B: Policy>(
     piece: &mut u8,
     store: &mut Store<B>,
@@ -79,8 +76,10 @@ pub(crate) fn yield_turn<B: Policy>(
     requires fits { piece.old ≤ 1 }
     requires right { IfSome answer (λ a. lives (queue_of store.old) (slice_index a 0) ≡ true) }
     ensures does { (blocks : Blocks) (told : Option (List (List ℕ))) → Tells told blocks →
-        CameTo (yield_piece piece.old (objects_of store.old) p answer blocks) (objects_of store.new) told result.gave (comes_after result.next (stage Yield piece.new)) 0 }
-    ensures queue { queue_of store.new ≡ queue_yielded (policies_of store.old 2) answer piece.old p (queue_of store.old) }
+        CameTo (yield_piece piece.old (objects_of store.old) p answer blocks)
+        (objects_of store.new) told result.gave (comes_after result.next (stage Yield piece.new)) 0 }
+    ensures queue { queue_of store.new ≡ queue_yielded (policies_of store.old 2) answer piece.old p
+        (queue_of store.old) }
     ensures living { (q : ℕ) → lives (queue_of store.new) q ≡ lives (queue_of store.old) q }
     ensures world { world_of_store store.new ≡ world_of_store store.old }
     ensures next { goes_on result.next ≡ true → (piece.old ≡ 0) × (piece.new ≡ 1) }
@@ -101,13 +100,10 @@ pub(crate) fn yield_turn<B: Policy>(
 pub(crate) fn poke<B: Policy>(store: &mut Store<B>, p: u8, k: u32, v: u32) -> After
     requires alive { lives (queue_of store.old) p ≡ true }
     requires granted { k < 4 }
-    ensures does { (blocks : Blocks) (told : Option (List (List ℕ))) (t : Stage) → Tells told blocks →
-        CameTo (poke_piece (objects_of store.old) p k v blocks) (objects_of store.new) told result.gave (comes_after result.next t) 0 }
+    ensures does { CameAtOnce (λ blocks.
+        poke_piece (objects_of store.old) p k v blocks) (objects_of store.new) result }
     ensures queue { queue_of store.new ≡ queue_of store.old }
-    ensures world { world_of_store store.new ≡ world_of_store store.old }
-    ensures ends { goes_on result.next ≡ false }
-    ensures no_fault { is_fault result.next ≡ false }
-    ensures memory { SegmentsStay store.old.ram store.new.ram }
+    ensures ended { EndsAtOnce store.old store.new result.next }
 {
     store.set_cell(p, k as u8, v);
     came(Next::Ends(Reply::Plain))
@@ -117,8 +113,9 @@ pub(crate) fn poke<B: Policy>(store: &mut Store<B>, p: u8, k: u32, v: u32) -> Af
 pub(crate) fn peek<B: Policy>(store: &Store<B>, p: u8, k: u32) -> After
     requires alive { lives (queue_of store.now) p ≡ true }
     requires granted { k < 4 }
-    ensures does { (blocks : Blocks) (told : Option (List (List ℕ))) (t : Stage) → Tells told blocks →
-        CameTo (leaves (objects_of store.now) blocks (EndsWith (One ((objects_of store.now).things.cell p k)))) (objects_of store.now) told result.gave (comes_after result.next t) 0 }
+    ensures does { CameAtOnce (λ blocks.
+        leaves (objects_of store.now) blocks (EndsWith (One ((objects_of store.now).things.cell p k))))
+        (objects_of store.now) result }
     ensures ends { goes_on result.next ≡ false }
     ensures no_fault { is_fault result.next ≡ false }
 {
@@ -128,14 +125,12 @@ pub(crate) fn peek<B: Policy>(store: &Store<B>, p: u8, k: u32) -> After
 /// The file of this name is opened at the lowest free descriptor of process p.
 pub(crate) fn open<B: Policy>(store: &mut Store<B>, p: u8, name: &[u8]) -> After
     requires alive { lives (queue_of store.old) p ≡ true }
-    ensures does { (blocks : Blocks) (told : Option (List (List ℕ))) (t : Stage) → Tells told blocks →
-        CameTo (open_piece (objects_of store.old) p (file_named (world_of_store store.old) name.now) (free_descriptor (objects_of store.old).things p 4 0) blocks)
-        (objects_of store.new) told result.gave (comes_after result.next t) 0 }
+    ensures does { CameAtOnce (λ blocks.
+        open_piece (objects_of store.old) p (file_named (world_of_store store.old) name.now)
+        (free_descriptor (objects_of store.old).things p 4 0) blocks)
+        (objects_of store.new) result }
     ensures queue { queue_of store.new ≡ queue_of store.old }
-    ensures world { world_of_store store.new ≡ world_of_store store.old }
-    ensures ends { goes_on result.next ≡ false }
-    ensures no_fault { is_fault result.next ≡ false }
-    ensures memory { SegmentsStay store.old.ram store.new.ram }
+    ensures ended { EndsAtOnce store.old store.new result.next }
 {
     let Some(file) = store.named(name) else {
         return came(Next::Fails(Refusal::NoFile));
@@ -151,13 +146,10 @@ fn open_at<B: Policy>(store: &mut Store<B>, p: u8, fd: u8, file: u8) -> After
     requires alive { lives (queue_of store.old) p ≡ true }
     requires number { fd < 4 }
     requires file { IsSoundFile (world_of_store store.old) (new_file file) }
-    ensures does { (blocks : Blocks) (told : Option (List (List ℕ))) (t : Stage) → Tells told blocks →
-        CameTo (open_piece (objects_of store.old) p (Some file) (Some fd) blocks) (objects_of store.new) told result.gave (comes_after result.next t) 0 }
+    ensures does { CameAtOnce (λ blocks.
+        open_piece (objects_of store.old) p (Some file) (Some fd) blocks) (objects_of store.new) result }
     ensures queue { queue_of store.new ≡ queue_of store.old }
-    ensures world { world_of_store store.new ≡ world_of_store store.old }
-    ensures ends { goes_on result.next ≡ false }
-    ensures no_fault { is_fault result.next ≡ false }
-    ensures memory { SegmentsStay store.old.ram store.new.ram }
+    ensures ended { EndsAtOnce store.old store.new result.next }
 {
     let row = OpenRow {
         file,
@@ -175,13 +167,11 @@ fn open_at<B: Policy>(store: &mut Store<B>, p: u8, fd: u8, file: u8) -> After
 pub(crate) fn close<B: Policy>(store: &mut Store<B>, p: u8, fd: u32) -> After
     requires alive { lives (queue_of store.old) p ≡ true }
     requires granted { fd < 4 }
-    ensures does { (blocks : Blocks) (told : Option (List (List ℕ))) (t : Stage) → Tells told blocks →
-        CameTo (close_piece (objects_of store.old) p fd ((objects_of store.old).things.file p fd) blocks) (objects_of store.new) told result.gave (comes_after result.next t) 0 }
+    ensures does { CameAtOnce (λ blocks.
+        close_piece (objects_of store.old) p fd ((objects_of store.old).things.file p fd) blocks)
+        (objects_of store.new) result }
     ensures queue { queue_of store.new ≡ queue_of store.old }
-    ensures world { world_of_store store.new ≡ world_of_store store.old }
-    ensures ends { goes_on result.next ≡ false }
-    ensures no_fault { is_fault result.next ≡ false }
-    ensures memory { SegmentsStay store.old.ram store.new.ram }
+    ensures ended { EndsAtOnce store.old store.new result.next }
 {
     if store.file(p, fd as u8).is_none() {
         return came(Next::Fails(Refusal::BadFd));

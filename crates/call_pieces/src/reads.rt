@@ -1,20 +1,20 @@
 //! The pieces of a read: the block itself, how far to read ahead, and each block ahead.
 
-ghost use Rattle.std.specs.Prelude.{◌≡◌, ℕ, ◌+◌, ◌<◌, ◌≤◌, true, false, List, Bool, Option, [], ◌++◌, Some, length, slice_index, is_some, IfSome};
+ghost use Rattle.std.specs.Prelude.{◌≡◌, ℕ, ◌+◌, ◌<◌, ◌≤◌, true, false, List, Option, [], Some, slice_index, is_some, IfSome};
 ghost use Rattle.kernel_model.specs.World.{Blocks, blocks_of};
 ghost use Rattle.kernel_model.specs.declared.SysCall.TheVariants.{Read};
-ghost use Rattle.kernel_model.specs.Meaning.{stage};
 ghost use Rattle.kernel_model.specs.Policies.{lives, ahead_default};
-ghost use Rattle.kernel_model.specs.FilePieces.{read_piece, read_first_at, read_first, read_second, read_third_at, ahead_by};
+ghost use Rattle.kernel_model.specs.FilePieces.{read_second, ahead_by};
 ghost use Rattle.kernel_model.specs.Laws.{IsRightAnswer};
 ghost use Rattle.kernel_model.specs.Pieces.{piece_fits};
-ghost use Rattle.kernel_model.specs.Needs.{file_block, ahead_block, read_ask};
+ghost use Rattle.kernel_model.specs.Needs.{read_ask};
 ghost use Rattle.kernel_model.specs.Fetch as fetches;
 ghost use Rattle.kernel_model.specs.Sound.{IsSoundFile};
 ghost use Rattle.disk_log.specs.Calls.{Tells, GoesOn};
 ghost use Rattle.kernel_state.specs.Stores.{world_of_store, objects_of, cache_of, queue_of, policies_of, SegmentsStay};
+ghost use Rattle.call_pieces.specs.Shared.{CameBy, CameBySome, Serves, read_stage, read_of, first_of, first_at_of, later_of};
 ghost use Rattle.call_pieces.specs.Works.{comes_after};
-ghost use Rattle.call_pieces.specs.Coming.{CameTo, LeftBySome, ReadGoes, has_failed, is_fault, goes_on};
+ghost use Rattle.call_pieces.specs.Coming.{CameTo, ReadGoes, is_fault, goes_on};
 
 use crate::fetch::{fetch, fetch_ahead};
 use crate::{After, Next, came};
@@ -47,22 +47,19 @@ pub(crate) fn read<B: Policy, D: Disk>(
     requires descriptor { r.fd < 4 }
     requires inside { r.off + r.len ≤ 512 }
     requires fits { piece_fits (Read r.fd r.i r.off r.len) piece.old (objects_of store.old).things p ≡ true }
-    requires right { IsRightAnswer (objects_of store.old) (read_ask piece.old (world_of_store store.old) (objects_of store.old).things p r.fd r.i r.off r.len) answer }
+    requires right { IsRightAnswer (objects_of store.old)
+        (read_ask piece.old (world_of_store store.old) (objects_of store.old).things p r.fd r.i r.off r.len) answer }
     requires disk { store.old.size ≡ D.block_count disk.old }
     requires fresh { log.old ≡ [] }
-    ensures does { (blocks : Blocks) (rest : List Bool) → Tells (D.blocks disk.old) blocks →
-        CameTo (read_piece piece.old (world_of_store store.old) (objects_of store.old) blocks p r.fd r.i r.off r.len ((objects_of store.old).things.file p r.fd) answer (log.new ++ rest))
-        (objects_of store.new) (D.blocks disk.new) result.gave (comes_after result.next (stage (Read r.fd r.i r.off r.len) piece.new)) (length log.new) }
-    ensures some { LeftBySome (world_of_store store.old) (λ blocks io. read_piece piece.old (world_of_store store.old) (objects_of store.old) blocks p r.fd r.i r.off r.len ((objects_of store.old).things.file p r.fd) answer io)
-        (objects_of store.new) result.gave (comes_after result.next (stage (Read r.fd r.i r.off r.len) piece.new)) log.new }
-    ensures queue { queue_of store.new ≡ queue_of store.old }
-    ensures next { goes_on result.next ≡ true → ReadGoes piece.old piece.new ((objects_of store.old).things.file p r.fd) ((objects_of store.new).things.file p r.fd) }
-    ensures failed { is_fault result.next ≡ true → has_failed log.new ≡ true }
-    ensures world { world_of_store store.new ≡ world_of_store store.old }
+    ensures does { CameBy (read_of store.old piece.old p r answer) (objects_of store.new)
+        (D.blocks disk.old) (D.blocks disk.new) result (read_stage r piece.new) log.new }
+    ensures some { CameBySome (world_of_store store.old) (read_of store.old piece.old p r answer) (objects_of store.new)
+        result (read_stage r piece.new) log.new }
+    ensures next { goes_on result.next ≡ true → ReadGoes piece.old piece.new
+        ((objects_of store.old).things.file p r.fd) ((objects_of store.new).things.file p r.fd) }
+    ensures serves { Serves store.old store.new result.next log.new }
     ensures same_size { D.block_count disk.new ≡ D.block_count disk.old }
     ensures calls { GoesOn (D.faults disk.old) (D.faults disk.new) (D.plan disk.old) (D.plan disk.new) log.old log.new }
-    ensures few { length log.new ≤ 256 }
-    ensures memory { SegmentsStay store.old.ram store.new.ram }
 {
     let Some(opened) = store.file(p, r.fd as u8) else {
         return came(Next::Fails(Refusal::BadFd));
@@ -93,19 +90,15 @@ fn first<B: Policy, D: Disk>(
     requires file { (objects_of store.old).things.file p r.fd ≡ Some opened }
     requires disk { store.old.size ≡ D.block_count disk.old }
     requires fresh { log.old ≡ [] }
-    ensures does { (blocks : Blocks) (rest : List Bool) → Tells (D.blocks disk.old) blocks →
-        CameTo (read_first_at (file_block (world_of_store store.old) (Some opened) r.i r.off r.len) (world_of_store store.old) (objects_of store.old) blocks p r.fd r.i r.off r.len opened answer (log.new ++ rest))
-        (objects_of store.new) (D.blocks disk.new) result.gave (comes_after result.next (stage (Read r.fd r.i r.off r.len) piece.new)) (length log.new) }
-    ensures some { LeftBySome (world_of_store store.old) (λ blocks io. read_first_at (file_block (world_of_store store.old) (Some opened) r.i r.off r.len) (world_of_store store.old) (objects_of store.old) blocks p r.fd r.i r.off r.len opened answer io)
-        (objects_of store.new) result.gave (comes_after result.next (stage (Read r.fd r.i r.off r.len) piece.new)) log.new }
-    ensures queue { queue_of store.new ≡ queue_of store.old }
-    ensures next { goes_on result.next ≡ true → ReadGoes 0 piece.new (Some opened) ((objects_of store.new).things.file p r.fd) }
-    ensures failed { is_fault result.next ≡ true → has_failed log.new ≡ true }
-    ensures world { world_of_store store.new ≡ world_of_store store.old }
+    ensures does { CameBy (first_of store.old p r opened answer) (objects_of store.new)
+        (D.blocks disk.old) (D.blocks disk.new) result (read_stage r piece.new) log.new }
+    ensures some { CameBySome (world_of_store store.old) (first_of store.old p r opened answer) (objects_of store.new)
+        result (read_stage r piece.new) log.new }
+    ensures next { goes_on result.next ≡ true →
+        ReadGoes 0 piece.new (Some opened) ((objects_of store.new).things.file p r.fd) }
+    ensures serves { Serves store.old store.new result.next log.new }
     ensures same_size { D.block_count disk.new ≡ D.block_count disk.old }
     ensures calls { GoesOn (D.faults disk.old) (D.faults disk.new) (D.plan disk.old) (D.plan disk.new) log.old log.new }
-    ensures few { length log.new ≤ 256 }
-    ensures memory { SegmentsStay store.old.ram store.new.ram }
 {
     match store.block_of(p, r.fd as u8, r.i, r.off, r.len) {
         Ok(b) => first_at(piece, store, disk, log, p, r, answer, opened, b),
@@ -135,19 +128,15 @@ fn first_at<B: Policy, D: Disk>(
     requires place { r.i < 4096 }
     requires disk { store.old.size ≡ D.block_count disk.old }
     requires fresh { log.old ≡ [] }
-    ensures does { (blocks : Blocks) (rest : List Bool) → Tells (D.blocks disk.old) blocks →
-        CameTo (read_first (objects_of store.old) blocks p r.fd r.i r.off r.len opened (fetches.fetch (world_of_store store.old) (policies_of store.old 1) p b answer (cache_of store.old) blocks (log.new ++ rest)))
-        (objects_of store.new) (D.blocks disk.new) result.gave (comes_after result.next (stage (Read r.fd r.i r.off r.len) piece.new)) (length log.new) }
-    ensures some { LeftBySome (world_of_store store.old) (λ blocks io. read_first (objects_of store.old) blocks p r.fd r.i r.off r.len opened (fetches.fetch (world_of_store store.old) (policies_of store.old 1) p b answer (cache_of store.old) blocks io))
-        (objects_of store.new) result.gave (comes_after result.next (stage (Read r.fd r.i r.off r.len) piece.new)) log.new }
-    ensures queue { queue_of store.new ≡ queue_of store.old }
-    ensures next { goes_on result.next ≡ true → ReadGoes 0 piece.new (Some opened) ((objects_of store.new).things.file p r.fd) }
-    ensures failed { is_fault result.next ≡ true → has_failed log.new ≡ true }
-    ensures world { world_of_store store.new ≡ world_of_store store.old }
+    ensures does { CameBy (first_at_of store.old p r opened b answer) (objects_of store.new)
+        (D.blocks disk.old) (D.blocks disk.new) result (read_stage r piece.new) log.new }
+    ensures some { CameBySome (world_of_store store.old) (first_at_of store.old p r opened b answer)
+        (objects_of store.new) result (read_stage r piece.new) log.new }
+    ensures next { goes_on result.next ≡ true →
+        ReadGoes 0 piece.new (Some opened) ((objects_of store.new).things.file p r.fd) }
+    ensures serves { Serves store.old store.new result.next log.new }
     ensures same_size { D.block_count disk.new ≡ D.block_count disk.old }
     ensures calls { GoesOn (D.faults disk.old) (D.faults disk.new) (D.plan disk.old) (D.plan disk.new) log.old log.new }
-    ensures few { length log.new ≤ 256 }
-    ensures memory { SegmentsStay store.old.ram store.new.ram }
 {
     let Ok(f) = fetch(store, disk, log, p, b, answer) else {
         return came(Next::Fails(Refusal::DiskFault));
@@ -169,9 +158,13 @@ fn first_at<B: Policy, D: Disk>(
 /// What is to be read ahead of an open file: what the answer says, or by default the policy.
 fn reach<B: Policy>(store: &Store<B>, answer: Option<[u32; 4]>, opened: &OpenRow) -> Ahead
     requires opened { IsSoundFile (world_of_store store.now) opened.now }
-    requires right { IfSome answer (λ a. (slice_index a 1 ≤ 8) × (slice_index a 0 + slice_index a 1 ≤ blocks_of (world_of_store store.now) opened.now.file)) }
-    ensures value { ahead_by answer (ahead_default (world_of_store store.now) (policies_of store.now 0) (Some opened.now)) ≡ (result.start, result.count) }
-    ensures sound { IsSoundFile (world_of_store store.now) (record (opened.now) { start = result.start; count = result.count }) }
+    requires right { IfSome answer (λ a. (slice_index a 1 ≤ 8) ×
+        (slice_index a 0 + slice_index a 1 ≤ blocks_of (world_of_store store.now) opened.now.file)) }
+    ensures value { let pol = policies_of store.now 0 in
+        ahead_by answer (ahead_default (world_of_store store.now) pol (Some opened.now)) ≡
+        (result.start, result.count) }
+    ensures sound { IsSoundFile (world_of_store store.now)
+        (record (opened.now) { start = result.start; count = result.count }) }
 {
     match answer {
         Some(a) => Ahead {
@@ -194,12 +187,16 @@ fn second<B: Policy>(
     requires alive { lives (queue_of store.old) p ≡ true }
     requires descriptor { r.fd < 4 }
     requires opened { IsSoundFile (world_of_store store.old) opened }
-    requires right { IfSome answer (λ a. (slice_index a 1 ≤ 8) × (slice_index a 0 + slice_index a 1 ≤ blocks_of (world_of_store store.old) opened.file)) }
+    requires right { IfSome answer (λ a. (slice_index a 1 ≤ 8) ×
+        (slice_index a 0 + slice_index a 1 ≤ blocks_of (world_of_store store.old) opened.file)) }
     ensures does { (blocks : Blocks) (told : Option (List (List ℕ))) → Tells told blocks →
-        CameTo (read_second (objects_of store.old) blocks p r.fd r.i r.off r.len opened (ahead_by answer (ahead_default (world_of_store store.old) (policies_of store.old 0) (Some opened))))
-        (objects_of store.new) told result.gave (comes_after result.next (stage (Read r.fd r.i r.off r.len) piece.new)) 0 }
+        let pol = policies_of store.old 0 in
+        let ahead = ahead_by answer (ahead_default (world_of_store store.old) pol (Some opened)) in
+        CameTo (read_second (objects_of store.old) blocks p r.fd r.i r.off r.len opened ahead)
+        (objects_of store.new) told result.gave (comes_after result.next (read_stage r piece.new)) 0 }
     ensures queue { queue_of store.new ≡ queue_of store.old }
-    ensures next { goes_on result.next ≡ true → ReadGoes 1 piece.new (Some opened) ((objects_of store.new).things.file p r.fd) }
+    ensures next { goes_on result.next ≡ true →
+        ReadGoes 1 piece.new (Some opened) ((objects_of store.new).things.file p r.fd) }
     ensures no_fault { is_fault result.next ≡ false }
     ensures world { world_of_store store.new ≡ world_of_store store.old }
     ensures memory { SegmentsStay store.old.ram store.new.ram }
@@ -235,19 +232,15 @@ fn later<B: Policy, D: Disk>(
     requires some { 1 ≤ opened.count }
     requires disk { store.old.size ≡ D.block_count disk.old }
     requires fresh { log.old ≡ [] }
-    ensures does { (blocks : Blocks) (rest : List Bool) → Tells (D.blocks disk.old) blocks →
-        CameTo (read_third_at (ahead_block (world_of_store store.old) (Some opened)) (world_of_store store.old) (objects_of store.old) blocks p r.fd r.i r.off r.len opened answer (log.new ++ rest))
-        (objects_of store.new) (D.blocks disk.new) result.gave (comes_after result.next (stage (Read r.fd r.i r.off r.len) 2)) (length log.new) }
-    ensures some { LeftBySome (world_of_store store.old) (λ blocks io. read_third_at (ahead_block (world_of_store store.old) (Some opened)) (world_of_store store.old) (objects_of store.old) blocks p r.fd r.i r.off r.len opened answer io)
-        (objects_of store.new) result.gave (comes_after result.next (stage (Read r.fd r.i r.off r.len) 2)) log.new }
-    ensures queue { queue_of store.new ≡ queue_of store.old }
-    ensures next { goes_on result.next ≡ true → ReadGoes 2 2 (Some opened) ((objects_of store.new).things.file p r.fd) }
-    ensures failed { is_fault result.next ≡ true → has_failed log.new ≡ true }
-    ensures world { world_of_store store.new ≡ world_of_store store.old }
+    ensures does { CameBy (later_of store.old p r opened answer) (objects_of store.new)
+        (D.blocks disk.old) (D.blocks disk.new) result (read_stage r 2) log.new }
+    ensures some { CameBySome (world_of_store store.old) (later_of store.old p r opened answer) (objects_of store.new)
+        result (read_stage r 2) log.new }
+    ensures next { goes_on result.next ≡ true →
+        ReadGoes 2 2 (Some opened) ((objects_of store.new).things.file p r.fd) }
+    ensures serves { Serves store.old store.new result.next log.new }
     ensures same_size { D.block_count disk.new ≡ D.block_count disk.old }
     ensures calls { GoesOn (D.faults disk.old) (D.faults disk.new) (D.plan disk.old) (D.plan disk.new) log.old log.new }
-    ensures few { length log.new ≤ 256 }
-    ensures memory { SegmentsStay store.old.ram store.new.ram }
 {
     let b = store.block_ahead(&opened);
     let Ok(_) = fetch_ahead(store, disk, log, p, b, answer) else {

@@ -1,16 +1,14 @@
 //! A write.
 
-ghost use Rattle.std.specs.Prelude.{◌≡◌, ℕ, ◌+◌, ◌<◌, ◌≤◌, true, false, List, Bool, [], ◌++◌, None, length};
-ghost use Rattle.kernel_model.specs.World.{Blocks};
+ghost use Rattle.std.specs.Prelude.{◌≡◌, ◌+◌, ◌<◌, ◌≤◌, true, false, [], length};
 ghost use Rattle.kernel_model.specs.Meaning.{Stage};
 ghost use Rattle.kernel_model.specs.Policies.{lives};
-ghost use Rattle.kernel_model.specs.Needs.{file_block, fetch_ask};
+ghost use Rattle.kernel_model.specs.Needs.{fetch_ask};
 ghost use Rattle.kernel_model.specs.Laws.{IsRightAnswer};
-ghost use Rattle.kernel_model.specs.FilePieces.{write_piece};
-ghost use Rattle.disk_log.specs.Calls.{Tells, GoesOn};
-ghost use Rattle.kernel_state.specs.Stores.{world_of_store, objects_of, queue_of, SegmentsStay};
-ghost use Rattle.call_pieces.specs.Works.{comes_after};
-ghost use Rattle.call_pieces.specs.Coming.{CameTo, LeftBySome, has_failed, is_fault, goes_on};
+ghost use Rattle.disk_log.specs.Calls.{GoesOn};
+ghost use Rattle.kernel_state.specs.Stores.{world_of_store, objects_of, queue_of};
+ghost use Rattle.call_pieces.specs.Shared.{CameBy, CameBySome, Serves, block_written, write_of};
+ghost use Rattle.call_pieces.specs.Coming.{goes_on};
 
 use crate::fetch::fetch;
 use crate::{After, Next, came};
@@ -35,22 +33,18 @@ pub(crate) fn write<B: Policy, D: Disk>(
     requires alive { lives (queue_of store.old) p ≡ true }
     requires descriptor { fd < 4 }
     requires inside { off + length bytes.now ≤ 512 }
-    requires right { IsRightAnswer (objects_of store.old) (fetch_ask (world_of_store store.old) (objects_of store.old).things (file_block (world_of_store store.old) ((objects_of store.old).things.file p fd) i off (length bytes.now))) answer }
+    requires right { IsRightAnswer (objects_of store.old) (fetch_ask (world_of_store store.old)
+        (objects_of store.old).things (block_written store.old p fd i off (length bytes.now))) answer }
     requires disk { store.old.size ≡ D.block_count disk.old }
     requires fresh { log.old ≡ [] }
-    ensures does { (blocks : Blocks) (rest : List Bool) (t : Stage) → Tells (D.blocks disk.old) blocks →
-        CameTo (write_piece (file_block (world_of_store store.old) ((objects_of store.old).things.file p fd) i off (length bytes.now)) (world_of_store store.old) (objects_of store.old) blocks p off bytes.now answer (log.new ++ rest))
-        (objects_of store.new) (D.blocks disk.new) result.gave (comes_after result.next t) (length log.new) }
-    ensures some { (t : Stage) → LeftBySome (world_of_store store.old) (λ blocks io. write_piece (file_block (world_of_store store.old) ((objects_of store.old).things.file p fd) i off (length bytes.now)) (world_of_store store.old) (objects_of store.old) blocks p off bytes.now answer io)
-        (objects_of store.new) result.gave (comes_after result.next t) log.new }
-    ensures queue { queue_of store.new ≡ queue_of store.old }
+    ensures does { (t : Stage) → CameBy (write_of store.old p fd i off bytes.now answer) (objects_of store.new)
+        (D.blocks disk.old) (D.blocks disk.new) result t log.new }
+    ensures some { (t : Stage) → CameBySome (world_of_store store.old) (write_of store.old p fd i off bytes.now answer)
+        (objects_of store.new) result t log.new }
     ensures ends { goes_on result.next ≡ false }
-    ensures failed { is_fault result.next ≡ true → has_failed log.new ≡ true }
-    ensures world { world_of_store store.new ≡ world_of_store store.old }
+    ensures serves { Serves store.old store.new result.next log.new }
     ensures same_size { D.block_count disk.new ≡ D.block_count disk.old }
     ensures calls { GoesOn (D.faults disk.old) (D.faults disk.new) (D.plan disk.old) (D.plan disk.new) log.old log.new }
-    ensures few { length log.new ≤ 256 }
-    ensures memory { SegmentsStay store.old.ram store.new.ram }
 {
     let b = match store.block_of(p, fd as u8, i, off, bytes.len() as u32) {
         Ok(b) => b,

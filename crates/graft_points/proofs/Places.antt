@@ -1,6 +1,6 @@
 -- The policies of a shelf by place, where the shelf is a list of boxes that are seen as policies.
-use Rattle.std.proofs.Common.{◌≡◌, subst, ℕ, ◌<◌, IsTrue, nat_eq, Option, Some, None, List, [], ◌∷◌, length, refl, slice_index, map, slice_index_or, slice_set, sym, ◌∙◌, ap, arith}
-use Rattle.std.proofs.lemmas.List.{get_or-map, map-set, ext_get_or, length-map}
+use Rattle.std.proofs.Common.{◌≡◌, ℕ, ◌<◌, IsTrue, nat_eq, Option, Some, None, List, [], ◌∷◌, length, refl, slice_index, map, slice_index_or, slice_set, sym, ◌∙◌, ap, arith}
+use Rattle.std.proofs.lemmas.List.{get_or-map, map-set, ext_get_or}
 use Rattle.std.proofs.lemmas.Bool.Decides.{nat_tests}
 use Rattle.graft_points.specs.Views.{PolicyView}
 use Rattle.graft_points.specs.Shelf.{no_policy, view_at, retuned, shelf_with, params_of}
@@ -49,10 +49,3 @@ one_exactly ps n m x param e one first is =
     let forth : IsTrue (nat_eq m x) → ps ≡ x ∷ [] = λ t. one_by_length ps x (sym e ∙ one) (let z : m ≡ x = grind (arith, nat_tests) in sym first ∙ z) in
     let back : ps ≡ x ∷ [] → IsTrue (nat_eq m x) = λ same. let z : m ≡ x = first ∙ ap (λ qs. slice_index qs 0) same in grind (arith, nat_tests) in
     rw is (forth, back)
-
--- the same, where the shelf is seen so before
-pub shelf_with_seen : {B : Type 0} (f : B → PolicyView) (xs : List B) (views : List PolicyView) (i x : ℕ) (d e : B) → map f xs ≡ views → i < length views →
-    d ≡ slice_index_or xs i d → f e ≡ retuned x (f d) → map f (slice_set xs i e) ≡ shelf_with i x views
-shelf_with_seen f xs views i x d e is h at new =
-    let P : List PolicyView → Type 0 = λ vs. i < length vs → map f (slice_set xs i e) ≡ shelf_with i x vs in
-    subst P is (λ below. shelf_with_map f xs i x d e (let same : length (map f xs) ≡ length xs = simp length-map refl in let N : ℕ → Type 0 = λ n. i < n in subst N same below) at new) h

@@ -1,6 +1,6 @@
 //! The policies of a kernel on a shelf: the chosen ones are asked and tuned.
 
-ghost use Rattle.std.specs.Prelude.{◌≡◌, ◌<◌, ◌↔◌, ◌==◌, ℕ, true, IsTrue, IfOk, IfErr, map, length, Some, [], ◌∷◌, ◌++◌, slice_index};
+ghost use Rattle.std.specs.Prelude.{◌≡◌, ◌≢◌, ◌<◌, ◌↔◌, ◌==◌, ℕ, true, IsTrue, IfOk, IfErr, map, length, Some, [], ◌∷◌, ◌++◌, slice_index, slice_index_or};
 ghost use Rattle.std.specs.List.{list_any};
 ghost use Rattle.kernel_model.specs.declared.FrameRow.{FrameRow as Frame};
 ghost use Rattle.kernel_model.specs.Objects.{CacheValue, at};
@@ -169,6 +169,18 @@ pub fn put_last<B: Policy>(
     }
 }
 
+#[tactic(auto, using(crate::proofs::Places::shelf_with_map))]
+/// Sets the parameter of the policy at a place. The other policies stay what they were, whatever they are.
+fn tune_in<B: Policy>(boxes: &mut [B], i: usize, v: u32)
+    requires place { i < length boxes.old }
+    requires number { 0 < length (view_at (map B.seen boxes.old) i).params }
+    requires range { in_range (top_of_code (view_at (map B.seen boxes.old) i).code) 0 v ≡ true }
+    ensures views { map B.seen boxes.new ≡ shelf_with i v (map B.seen boxes.old) }
+    ensures others { (j : ℕ) (d : _) → j ≢ i → slice_index_or boxes.new j d ≡ slice_index_or boxes.old j d }
+{
+    tune(&mut boxes[i], v);
+}
+
 impl<B: Policy> Shelf<B> {
     /// The shelf of these policies.
     pub fn of(boxes: Vec<B>) -> Shelf<B>
@@ -260,7 +272,6 @@ impl<B: Policy> Shelf<B> {
         self.param_at(choice.code(kind) as usize)
     }
 
-    #[tactic(auto, using(crate::proofs::Places::shelf_with_seen))]
     /// Sets the parameter of the policy at a place. The other policies stay what they were.
     fn tune_at(&mut self, i: usize, v: u32)
         requires place { i < length self.old }
@@ -268,7 +279,7 @@ impl<B: Policy> Shelf<B> {
         requires range { in_range (top_of_code (view_at self.old i).code) 0 v ≡ true }
         ensures views { self.new ≡ shelf_with i v self.old }
     {
-        tune(&mut self.boxes[i], v);
+        tune_in(self.boxes.as_mut_slice(), i, v);
     }
 
     /// Sets the parameter of the chosen policy of a kind, which has one, to a value in its range.

@@ -128,7 +128,7 @@ returns-in-Write-clause-does g c =
     came_named (λ (k : SysCall). piece_of k w.piece v s blocks w.caller c.args.answer (c.write.new.log ++ rest)) w.call (Write x.fd x.i x.off x.bytes) (objects_of c.write.new.store)
     (g.D.Disk.blocks c.write.new.disk) _ _ (length c.write.new.log) (length c.write.new.log) x.is refl
     (subst (λ (bytes : List ℕ). CameTo (write_piece (file_block v (s.things.file w.caller x.fd) x.i x.off (length bytes)) v s blocks w.caller x.off bytes c.args.answer (c.write.new.log ++ rest)) (objects_of c.write.new.store)
-    (g.D.Disk.blocks c.write.new.disk) c.write.result.gave (comes_after c.write.result.next (stage w.call w.piece)) (length c.write.new.log)) c.as_slice-in-Write.ensures.value (c.write.ensures.does blocks rest (stage w.call w.piece) tells))
+    (g.D.Disk.blocks c.write.new.disk) c.write.result.gave (comes_after c.write.result.next (stage w.call w.piece)) (length c.write.new.log)) c.as_slice-in-Write.ensures.value (c.write.ensures.does (stage w.call w.piece) blocks rest tells))
 
 pub returns-in-Sync-clause-does : goal.returns-in-Sync-clause-does
 returns-in-Sync-clause-does g c =

@@ -28,7 +28,7 @@ returns-in_default-clause-does g c =
     (third_block (ahead_block v (Some c.args.opened)) c.block_ahead-b.result v o (objects_of c.fetch_ahead.new.store) blocks c.args.p r.fd r.i r.off r.len n c.args.opened c.args.answer io (g.D.Disk.blocks c.fetch_ahead.new.disk) _ _
     c.block_ahead-b.ensures.value
     (fetch_failed (read_third o blocks c.args.p r.fd r.i r.off r.len c.args.opened) (fetch_ahead v (o.things.pol 1) c.args.p c.block_ahead-b.result c.args.answer o.things.cache blocks io) o
-    (objects_of c.fetch_ahead.new.store) blocks c.in_default.field-0 (cache_of c.fetch_ahead.new.store) (g.D.Disk.blocks c.fetch_ahead.new.disk) n refl (c.in_default.ensures.does blocks rest tells) c.in_default.ensures.kept))
+    (objects_of c.fetch_ahead.new.store) blocks c.in_default.field-0 (cache_of c.fetch_ahead.new.store) (g.D.Disk.blocks c.fetch_ahead.new.disk) n refl (c.in_default.ensures.does blocks rest tells) c.in_default.ensures.done.kept))
 
 pub returns-then-row-eq0-clause-does : goal.returns-then-row-eq0-clause-does
 returns-then-row-eq0-clause-does g c =
@@ -44,7 +44,7 @@ returns-then-row-eq0-clause-does g c =
     c.block_ahead-b.ensures.value
     (third_came o (objects_of c.fetch_ahead.new.store) (objects_of c.put_file.new.self) blocks c.args.p r.fd r.i r.off r.len c.in-Ok.field-0 n c.args.opened
     (fetch_ahead v (o.things.pol 1) c.args.p c.block_ahead-b.result c.args.answer o.things.cache blocks io) (cache_of c.fetch_ahead.new.store) (g.D.Disk.blocks c.fetch_ahead.new.disk) _
-    (c.in-Ok.ensures.does blocks rest tells) c.fetch_ahead.ensures.objects c.put_file.ensures.objects (none_ahead (stage (Read r.fd r.i r.off r.len) 2) (c.args.opened.count - 1) c.if-row-eq0.true)))
+    (c.in-Ok.ensures.does blocks rest tells) c.fetch_ahead.ensures.done.objects c.put_file.ensures.objects (none_ahead (stage (Read r.fd r.i r.off r.len) 2) (c.args.opened.count - 1) c.if-row-eq0.true)))
 
 pub returns-clause-does : goal.returns-clause-does
 returns-clause-does g c =
@@ -60,4 +60,4 @@ returns-clause-does g c =
     c.block_ahead-b.ensures.value
     (third_came o (objects_of c.fetch_ahead.new.store) (objects_of c.put_file.new.self) blocks c.args.p r.fd r.i r.off r.len c.in-Ok.field-0 n c.args.opened
     (fetch_ahead v (o.things.pol 1) c.args.p c.block_ahead-b.result c.args.answer o.things.cache blocks io) (cache_of c.fetch_ahead.new.store) (g.D.Disk.blocks c.fetch_ahead.new.disk) _
-    (c.in-Ok.ensures.does blocks rest tells) c.fetch_ahead.ensures.objects c.put_file.ensures.objects (some_ahead (stage (Read r.fd r.i r.off r.len) 2) (c.args.opened.count - 1) c.if-row-eq0.false)))
+    (c.in-Ok.ensures.does blocks rest tells) c.fetch_ahead.ensures.done.objects c.put_file.ensures.objects (some_ahead (stage (Read r.fd r.i r.off r.len) 2) (c.args.opened.count - 1) c.if-row-eq0.false)))

@@ -11,7 +11,7 @@ use Rattle.call_pieces.proofs.writes.write.Goals as goal
 
 pub returns-in-Ok-fetch-clause-does : goal.returns-in-Ok-fetch-clause-does
 returns-in-Ok-fetch-clause-does g c =
-    λ blocks rest t tells.
+    λ t blocks rest tells.
     let s = c.args.store.now in
     let o = objects_of s in
     let io = c.fetch.new.log ++ rest in
@@ -20,11 +20,11 @@ returns-in-Ok-fetch-clause-does g c =
     (write_at _ c.in-Ok.b (world_of_store s) o (objects_of c.patch.new.self) blocks c.args.p c.args.off n c.args.bytes.now c.args.answer io (g.D.Disk.blocks c.fetch.new.disk) _ c.in-Ok.ensures.value
     (write_came o (objects_of c.fetch.new.store) (objects_of c.patch.new.self) blocks c.args.off c.in-Ok-fetch.f n c.args.bytes.now
     (fetch (world_of_store s) (o.things.pol 1) c.args.p c.in-Ok.b c.args.answer o.things.cache blocks io) (cache_of c.fetch.new.store) (g.D.Disk.blocks c.fetch.new.disk)
-    (c.in-Ok-fetch.ensures.does blocks rest tells) c.in-Ok-fetch.ensures.objects c.patch.ensures.objects))
+    (c.in-Ok-fetch.ensures.does blocks rest tells) c.in-Ok-fetch.ensures.done.objects c.patch.ensures.objects))
 
 pub returns-in-Err-fetch-clause-does : goal.returns-in-Err-fetch-clause-does
 returns-in-Err-fetch-clause-does g c =
-    λ blocks rest t tells.
+    λ t blocks rest tells.
     let s = c.args.store.now in
     let o = objects_of s in
     let io = c.fetch.new.log ++ rest in
@@ -32,7 +32,7 @@ returns-in-Err-fetch-clause-does g c =
     came_of _ c.came-in-Err-fetch.result _ (objects_of c.fetch.new.store) (g.D.Disk.blocks c.fetch.new.disk) t n c.came-in-Err-fetch.ensures
     (write_at _ c.in-Ok.b (world_of_store s) o (objects_of c.fetch.new.store) blocks c.args.p c.args.off n c.args.bytes.now c.args.answer io (g.D.Disk.blocks c.fetch.new.disk) _ c.in-Ok.ensures.value
     (fetch_failed (write_fetched o blocks c.args.off c.args.bytes.now) (fetch (world_of_store s) (o.things.pol 1) c.args.p c.in-Ok.b c.args.answer o.things.cache blocks io) o (objects_of c.fetch.new.store) blocks
-    c.in-Err-fetch.field-0 (cache_of c.fetch.new.store) (g.D.Disk.blocks c.fetch.new.disk) n refl (c.in-Err-fetch.ensures.does blocks rest tells) c.in-Err-fetch.ensures.kept))
+    c.in-Err-fetch.field-0 (cache_of c.fetch.new.store) (g.D.Disk.blocks c.fetch.new.disk) n refl (c.in-Err-fetch.ensures.does blocks rest tells) c.in-Err-fetch.ensures.done.kept))
 
 pub returns-in-Err-clause-some : goal.returns-in-Err-clause-some
 returns-in-Err-clause-some g c =
