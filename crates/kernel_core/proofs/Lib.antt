@@ -1,3 +1,10 @@
+pub mod WentLemmas
+pub mod SettleLemmas
+pub mod LastLemmas
+pub mod RestLemmas
+pub mod StepLemmas
+pub mod TickLemmas
+pub mod EventLemmas
 pub mod BootLemmas
 pub mod PlacedSectionLemmas
 pub mod RowPlaceLemmas

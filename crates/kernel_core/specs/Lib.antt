@@ -1,2 +1,4 @@
+pub mod Happened
+pub mod Went
 pub mod Standing
 pub mod PlacedSections

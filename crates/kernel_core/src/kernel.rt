@@ -12,10 +12,11 @@ ghost use Rattle.placed_laws.specs.Placed.{PlacedCall};
 ghost use Rattle.placed_laws.specs.PlacedRows.{placed_rows};
 ghost use Rattle.placed_laws.specs.Stands.{StandsFor};
 ghost use Rattle.kernel_steps.specs.Views.{placed_of, IsRunning, Stood};
-ghost use Rattle.kernel_events.specs.Happened.{Happened, IsKernel};
+ghost use Rattle.kernel_core.specs.Happened.{Happened, IsKernel};
 ghost use Rattle.kernel_core.specs.PlacedSections.{TakesRow};
 ghost use Rattle.kernel_core.specs.Standing.{IsBlank, Booted};
 
+use crate::events::event;
 use crate::placed_rows::{self, RowPlace};
 use call_pieces::Calls;
 use disk_log::DiskLog;
@@ -152,7 +153,7 @@ impl<C: Calls, B: Policy> Kernel<C, B> {
         ensures world { world_of_store self.new.running.store ≡ world_of_store self.old.running.store }
         ensures same_size { D.block_count disk.new ≡ D.block_count disk.old }
     {
-        kernel_events::event(&mut self.running, number, what, disk, &mut self.log, notes);
+        event(&mut self.running, number, what, disk, &mut self.log, notes);
     }
 
     /// The i-th of the rows that show the whole state. None past the last.

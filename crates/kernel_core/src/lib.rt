@@ -1,10 +1,17 @@
 //! The kernel: events over one store and a disk, for any table of calls.
 //!
-//! Contracts see a kernel as the kernel in place of the definitions, which stands for an abstract kernel.
+//! Contracts see a kernel as the kernel in place of the definitions, which stands for an abstract kernel, and an event as
+//! what it makes of that one (`Happened`).
 #![tactic(auto)]
 
+mod events;
 mod kernel;
+mod last;
 mod placed_rows;
+mod settle;
+mod stepping;
+mod stretch;
+mod ticks;
 
 pub use kernel::{BootNote, Kernel};
 pub use kernel_state::Setup;

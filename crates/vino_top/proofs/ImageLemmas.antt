@@ -7,7 +7,7 @@ use Rattle.kernel_model.specs.Pieces.{plain}
 use Rattle.kernel_model.specs.Sound.{IsAtRest}
 use Rattle.disk_log.specs.Seen.{DiskSeen}
 use Rattle.call_pieces.specs.Works.{stage_of}
-use Rattle.kernel_events.specs.Happened.{IsKernel}
+use Rattle.kernel_core.specs.Happened.{IsKernel}
 use Rattle.placed_laws.specs.Placed.{Placed}
 use Rattle.placed_laws.specs.Stands as kernels
 use Rattle.kernel_model.specs.Images.{LoadFault, load}

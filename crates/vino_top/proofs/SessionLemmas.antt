@@ -29,7 +29,7 @@ use Rattle.kernel_state.specs.Sound.{world_for}
 use Rattle.placed_laws.specs.Agreeing.{SameShown}
 use Rattle.placed_laws.specs.Placed.{Placed}
 use Rattle.placed_laws.specs.PlacedRows.{placed_rows}
-use Rattle.kernel_events.specs.Happened.{Happened, EventIs}
+use Rattle.kernel_core.specs.Happened.{Happened, EventIs}
 use Rattle.kernel_core.specs.declared.kernel.BootNote.{BootNote}
 use Rattle.kernel_core.specs.Standing.{Booted, BootIs}
 use Rattle.vino_top.specs.Built.{present_build}

@@ -2,7 +2,7 @@
 use Rattle.std.specs.Prelude.{◌≡◌, ℕ, ◌≤◌, true, false}
 use Rattle.kernel_model.specs.Pieces.{plain}
 use Rattle.call_pieces.specs.Works.{stage_of}
-use Rattle.kernel_events.specs.Happened.{IsKernel}
+use Rattle.kernel_core.specs.Happened.{IsKernel}
 use Rattle.kernel_core.specs.Standing.{IsBlank}
 use Rattle.vino_top.specs.Standing.{caller_of}
 use Rattle.vino_top.specs.declared.session.Session.{Session}

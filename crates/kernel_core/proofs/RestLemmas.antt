@@ -1,0 +1,146 @@
+-- Changes that begin at rest.
+use Rattle.std.proofs.Common.{append_assoc, ◌≡◌, ℕ, true, false, Bool, List, ◌++◌, Option, Some, None, refl, ap, sym, subst, ◌∙◌}
+use Rattle.std.specs.Prelude.{is_some}
+use Rattle.kernel_model.specs.declared.Note.{Note}
+use Rattle.kernel_model.specs.World.{Blocks}
+use Rattle.kernel_model.specs.Meaning.{Meaning, Stage}
+use Rattle.kernel_model.specs.Kernel.{Blocker, Run, joins}
+use Rattle.kernel_model.specs.Settle.{settled, step}
+use Rattle.kernel_model.specs.Events.{in_order}
+use Rattle.kernel_model.specs.Sound.{HasWholeBlocks, IsAtRest}
+use Rattle.disk_log.specs.Joined.{made_joined}
+use Rattle.disk_log.specs.Seen.{DiskSeen}
+use Rattle.placed_laws.specs.Keeping.{OthersStand, StepsStand}
+use Rattle.placed_laws.specs.Placed.{Placed, PlacedCall, PlacedRun, has_some, placed_blocker}
+use Rattle.placed_laws.specs.PlacedSteps.{placed_joins, placed_step}
+use Rattle.placed_laws.specs.PlacedEvents.{placed_settled}
+use Rattle.placed_laws.specs.Resting.{KeepsHolds, Resting}
+use Rattle.placed_laws.specs.Stands.{StandsFor, RunStandsFor}
+use Rattle.kernel_steps.specs.declared.running.Running.{Running}
+use Rattle.kernel_steps.specs.Did.{CameAs, Did}
+use Rattle.kernel_steps.specs.Views.{run_of}
+use Rattle.kernel_core.specs.Went.{DidFromRest, DidToRest, GoesOn, Rests, Went, taken_up}
+
+-- ---- what always holds
+
+pub on_went : {C B M W : Type 0} {P : _} (m : Meaning) (stage : W → Stage) (caller : W → ℕ) (f : PlacedRun → PlacedRun) (x y : Running C B M W P) (kept kept_new : List Note) (d e : DiskSeen) →
+    Went m stage caller f x y kept kept_new d e → GoesOn m stage caller x y
+on_went m stage caller f x y kept kept_new d e h = record { running = h.running; stood = h.stood; world = h.world; clock = h.clock }
+
+-- ---- what was done
+
+-- from anywhere, and so from rest
+pub from_did : (m : Meaning) (f : PlacedRun → PlacedRun) (x y : Placed) (kept kept_new : List Note) (d e : DiskSeen) → Did f x y kept kept_new d e → DidFromRest m f x y kept kept_new d e
+from_did m f x y kept kept_new d e h = record { io = h.io; made = h.made; goes = λ blocks notes rest s tells k. h.goes blocks notes rest tells k }
+
+-- another change that comes to the same
+pub from_as : (m : Meaning) (f g : PlacedRun → PlacedRun) (x y : Placed) (kept kept_new : List Note) (d e : DiskSeen) → ((blocks : Blocks) (notes : List Note) (io : List Bool) → f (run_of x blocks notes io) ≡ g (run_of x blocks notes io)) →
+    DidFromRest m g x y kept kept_new d e → DidFromRest m f x y kept kept_new d e
+from_as m f g x y kept kept_new d e same h =
+    record {
+      io = h.io;
+      made = h.made;
+      goes = λ blocks notes rest s tells k. subst (λ r. CameAs r y kept_new e.told rest) (sym (same blocks notes (h.io ++ rest))) (h.goes blocks notes rest s tells k);
+    }
+
+-- and another change after it
+pub from_then : (m : Meaning) (f g : PlacedRun → PlacedRun) (x y z : Placed) (a b c : List Note) (d e l : DiskSeen) → DidFromRest m f x y a b d e → Did g y z b c e l → DidFromRest m (λ r. g (f r)) x z a c d l
+from_then m f g x y z a b c d e l first second =
+    record {
+      io = first.io ++ second.io;
+      made = made_joined d.faults e.faults l.faults d.plan e.plan l.plan first.io second.io first.made second.made;
+      goes = λ blocks notes rest s tells k.
+          let one = subst (λ io. CameAs (f (run_of x blocks notes io)) y b e.told (second.io ++ rest)) (sym (append_assoc first.io second.io rest)) (first.goes blocks notes (second.io ++ rest) s tells k) in
+          let r : PlacedRun = f (run_of x blocks notes ((first.io ++ second.io) ++ rest)) in
+          subst (λ q. CameAs (g q) z c l.told rest) (sym (run_is r y b e.told (second.io ++ rest) one))
+          (second.goes r.blocks r.notes rest one.blocks one.notes);
+    }
+  where
+    run_is : (r : PlacedRun) (y : Placed) (kept : List Note) (told : Option (List (List ℕ))) (rest : List Bool) → CameAs r y kept told rest → r ≡ run_of y r.blocks r.notes rest
+    run_is r y kept told rest h =
+        ap (λ z. record { placed = z; blocks = r.blocks; notes = r.notes; io = r.io }) h.placed
+        ∙ ap (λ io. record { placed = y; blocks = r.blocks; notes = r.notes; io = io }) h.io
+
+-- ---- to rest
+
+-- from an event under way one change comes to the same as another, and leaves what stands for an event at rest
+pub record RestedAs (m : Meaning) (f g : PlacedRun → PlacedRun) (r : PlacedRun) : Type 0 where
+  pub same : f r ≡ g r
+  pub run : Run
+  pub stands : RunStandsFor m (g r) run
+  pub rests : IsAtRest m run.kernel
+
+-- the change g was done, which comes to the same as f and leaves rest
+pub did_to_rest : (m : Meaning) (f g : PlacedRun → PlacedRun) (x y : Placed) (kept kept_new : List Note) (d e : DiskSeen) → Did g x y kept kept_new d e →
+    ((blocks : Blocks) (notes : List Note) (io : List Bool) → Rests m x blocks → (g (run_of x blocks notes io)).placed ≡ y → RestedAs m f g (run_of x blocks notes io)) → DidToRest m f x y kept kept_new d e
+did_to_rest m f g x y kept kept_new d e did how =
+    record {
+      did = record {
+        io = did.io;
+        made = did.made;
+        goes = λ blocks notes rest s tells k.
+            let came = did.goes blocks notes rest tells k in
+            subst (λ r. CameAs r y kept_new e.told rest) (sym (how blocks notes (did.io ++ rest) s came.placed).same) came;
+      };
+      rests = λ blocks notes rest s tells k.
+          let came = did.goes blocks notes rest tells k in
+          let a = how blocks notes (did.io ++ rest) s came.placed in
+          subst (λ (r : PlacedRun). Rests m y r.blocks) (sym a.same)
+          (record {
+            kernel = a.run.kernel;
+            stands = subst (λ z. StandsFor m z a.run.kernel) came.placed a.stands.kernel;
+            rests = a.rests;
+            whole = subst (HasWholeBlocks a.run.kernel.world) (sym a.stands.blocks) a.stands.whole;
+          });
+    }
+
+module _ (m : Meaning) (x : Placed) where
+  -- an event under way at rest
+  abbrev run_from : (blocks : Blocks) → List Note → List Bool → Rests m x blocks → Run
+  run_from blocks notes io s = record { kernel = s.kernel; blocks = blocks; notes = notes; io = io }
+
+  stands_from : (blocks : Blocks) (notes : List Note) (io : List Bool) (s : Rests m x blocks) → RunStandsFor m (run_of x blocks notes io) (run_from blocks notes io s)
+  stands_from blocks notes io s = record { kernel = s.stands; blocks = refl; notes = refl; io = refl; whole = s.whole }
+
+  -- nothing was done
+  pub rested_same : (f : PlacedRun → PlacedRun) → ((blocks : Blocks) (notes : List Note) (io : List Bool) → f (run_of x blocks notes io) ≡ run_of x blocks notes io) →
+      (blocks : Blocks) (notes : List Note) (io : List Bool) → Rests m x blocks → RestedAs m f (λ r. r) (run_of x blocks notes io)
+  rested_same f same blocks notes io s = record { same = same blocks notes io; run = run_from blocks notes io s; stands = stands_from blocks notes io s; rests = s.rests }
+
+  -- all steps were taken after a change that leaves what stands
+  rested_settled : Resting m → (f g : PlacedRun → PlacedRun) (blocks : Blocks) (notes : List Note) (io : List Bool) → f (run_of x blocks notes io) ≡ placed_settled m (g (run_of x blocks notes io)) → (u : Run) → RunStandsFor m (g (run_of x blocks notes io)) u →
+      RestedAs m f (λ r. placed_settled m (g r)) (run_of x blocks notes io)
+  rested_settled law f g blocks notes io same u h = let k = law.settling (g (run_of x blocks notes io)) u h in record { same = same; run = settled m u; stands = k.0; rests = k.1 }
+
+  -- a blocked call joined the order
+  pub rested_joined : OthersStand m → Resting m → (p : ℕ) (b : Blocker) → has_some (x.levels p) ≡ true → in_order p x.order ≡ false → placed_blocker m x p ≡ Some b →
+      ((blocks : Blocks) (notes : List Note) (io : List Bool) → taken_up m p (run_of x blocks notes io) ≡ placed_settled m (placed_joins p (run_of x blocks notes io))) →
+      (blocks : Blocks) (notes : List Note) (io : List Bool) → Rests m x blocks → RestedAs m (taken_up m p) (λ r. placed_settled m (placed_joins p r)) (run_of x blocks notes io)
+  rested_joined others law p b level away blocked same blocks notes io s =
+      rested_settled law (taken_up m p) (placed_joins p) blocks notes io (same blocks notes io) (joins p (run_from blocks notes io s))
+      (others.joining (run_of x blocks notes io) (run_from blocks notes io s) p b (stands_from blocks notes io s) level away blocked)
+
+  -- an instruction was taken up, and then all steps that there were
+  pub rested_stepped : StepsStand m → Resting m → (p : ℕ) (c : PlacedCall) → x.call p ≡ Some c → placed_blocker m x p ≡ None →
+      ((blocks : Blocks) (notes : List Note) (io : List Bool) → taken_up m p (run_of x blocks notes io) ≡ placed_settled m (placed_step m p (run_of x blocks notes io))) →
+      (blocks : Blocks) (notes : List Note) (io : List Bool) → Rests m x blocks → RestedAs m (taken_up m p) (λ r. placed_settled m (placed_step m p r)) (run_of x blocks notes io)
+  rested_stepped steps law p c there free same blocks notes io s =
+      rested_settled law (taken_up m p) (placed_step m p) blocks notes io (same blocks notes io) (step m p (run_from blocks notes io s))
+      (steps (run_of x blocks notes io) (run_from blocks notes io s) p c (stands_from blocks notes io s) there free)
+
+  -- an instruction that left what its call holds: there was no step to take
+  pub rested_still : StepsStand m → Resting m → (p : ℕ) (c : PlacedCall) (y : Placed) → x.call p ≡ Some c → placed_blocker m x p ≡ None → has_some (x.levels p) ≡ true → in_order p x.order ≡ false → KeepsHolds m x y p →
+      ((blocks : Blocks) (notes : List Note) (io : List Bool) → taken_up m p (run_of x blocks notes io) ≡ placed_settled m (placed_step m p (run_of x blocks notes io))) →
+      (blocks : Blocks) (notes : List Note) (io : List Bool) → Rests m x blocks → (placed_step m p (run_of x blocks notes io)).placed ≡ y → RestedAs m (taken_up m p) (placed_step m p) (run_of x blocks notes io)
+  rested_still steps law p c y there free level away keeps same blocks notes io s is =
+      let r = run_of x blocks notes io in
+      let u = run_from blocks notes io s in
+      let h = stands_from blocks notes io s in
+      let after = steps r u p c h there free in
+      let rests = law.still r u p c h s.rests there free (record { level = level; away = away; keeps = subst (λ (z : Placed). KeepsHolds m x z p) (sym is) keeps }) in
+      record { same = same blocks notes io ∙ law.rested (placed_step m p r) (step m p u) after rests; run = step m p u; stands = after; rests = rests }
+
+-- a call that there is
+pub called : (o : Option PlacedCall) → is_some o ≡ true → (c : PlacedCall) × (o ≡ Some c)
+called None h = absurd cc
+called (Some c) h = (c, refl)

@@ -1,0 +1,72 @@
+-- Steps until all calls are blocked.
+use Rattle.std.proofs.Common.{◌≡◌, ℕ, zero, suc, ◌<◌, Bool, true, List, [], ◌∷◌, Option, Some, None, arith, refl, ap, sym, ◌∙◌}
+use Rattle.std.specs.Prelude.{Contains, is_some}
+use Rattle.kernel_model.specs.declared.Note.{Note}
+use Rattle.kernel_model.specs.World.{Blocks}
+use Rattle.kernel_model.specs.Meaning.{Meaning}
+use Rattle.kernel_model.specs.Kernel.{Blocker, Entry}
+use Rattle.kernel_model.specs.Locks.{LockTable}
+use Rattle.placed_laws.specs.Agreeing.{SameShown}
+use Rattle.placed_laws.specs.Placed.{Placed, PlacedRun, placed_blocker, placed_blocker_in, placed_holds}
+use Rattle.placed_laws.specs.PlacedSteps.{placed_first_free, placed_first_free_in, placed_step}
+use Rattle.placed_laws.specs.PlacedEvents.{placed_rested, placed_settle}
+use Rattle.kernel_steps.specs.Views.{run_of, Stood}
+use Rattle.kernel_core.proofs.WentLemmas.{called_small, ordered_called}
+
+-- ---- the first that nothing blocks
+
+-- an entry of the order that nothing blocks
+pub record IsFree (m : Meaning) (x : Placed) (locks : LockTable) (es : List Entry) (p : ℕ) : Type 0 where
+  pub entry : Entry
+  pub among : Contains es entry
+  pub process : entry.process ≡ p
+  pub free : placed_blocker_in m x locks p ≡ None
+
+same_number : (a b : ℕ) → Some a ≡ Some b → a ≡ b
+same_number a b h = cc
+
+free_from : (m : Meaning) (x : Placed) (locks : LockTable) (es : List Entry) (p : ℕ) → placed_first_free_in m x locks es ≡ Some p → IsFree m x locks es p
+free_from m x locks [] p h = grind (arith, h)
+free_from m x locks (e ∷ es) p h = by_blocker (placed_blocker_in m x locks e.process) refl (free_from m x locks es p)
+  where
+    by_blocker : (b : Option Blocker) → placed_blocker_in m x locks e.process ≡ b → (placed_first_free_in m x locks es ≡ Some p → IsFree m x locks es p) → IsFree m x locks (e ∷ es) p
+    by_blocker None is further =
+        let same = same_number e.process p (sym (ap (λ o. elim o as (λ _. Option ℕ) [ None ↦ Some e.process | Some b ↦ placed_first_free_in m x locks es ]) is) ∙ h) in
+        record { entry = e; among = (0, omega arith, refl); process = same; free = ap (placed_blocker_in m x locks) (sym same) ∙ is }
+    by_blocker (Some b) is further =
+        let f = further (sym (ap (λ o. elim o as (λ _. Option ℕ) [ None ↦ Some e.process | Some b ↦ placed_first_free_in m x locks es ]) is) ∙ h) in
+        record { entry = f.entry; among = (suc f.among.0, omega (arith, f.among.1), f.among.2); process = f.process; free = f.free }
+
+pub free_is : (m : Meaning) (x : Placed) (p : ℕ) → placed_first_free m x x.order ≡ Some p → IsFree m x (placed_holds x) x.order p
+free_is m x p h = free_from m x (placed_holds x) x.order p h
+
+-- nothing blocks it
+pub free_unblocked : (m : Meaning) (x : Placed) (p : ℕ) → Stood m x → placed_first_free m x x.order ≡ Some p → placed_blocker m x p ≡ None
+free_unblocked m x p s h = (free_is m x p h).free
+
+-- it has a call
+pub free_called : (m : Meaning) → SameShown m → (x : Placed) (p : ℕ) → Stood m x → placed_first_free m x x.order ≡ Some p → is_some (x.call p) ≡ true
+free_called m shown x p s h = let f = free_is m x p h in ap (λ q. is_some (x.call q)) (sym f.process) ∙ ordered_called m shown x f.entry s f.among
+
+-- and is one of sixteen
+pub free_small : (m : Meaning) → SameShown m → (x : Placed) (p : ℕ) → Stood m x → placed_first_free m x x.order ≡ Some p → p < 16
+free_small m shown x p s h = called_small m x p s (free_called m shown x p s h)
+
+-- ---- what settling is
+
+-- no turn is left
+pub settle_none : (m : Meaning) (n : ℕ) (r : PlacedRun) → n ≡ 0 → placed_settle m n r ≡ placed_rested m r
+settle_none m n r h = ap (λ k. placed_settle m k r) h
+
+-- nothing is free
+pub settle_blocked : (m : Meaning) (n : ℕ) (x : Placed) → 0 < n → placed_first_free m x x.order ≡ None → (blocks : Blocks) (notes : List Note) (io : List Bool) → placed_settle m n (run_of x blocks notes io) ≡ placed_rested m (run_of x blocks notes io)
+settle_blocked m zero x some h blocks notes io = absurd (omega (arith, some))
+settle_blocked m (suc n) x some h blocks notes io =
+    ap (λ o. elim o as (λ _. PlacedRun) [ None ↦ placed_rested m (run_of x blocks notes io) | Some p ↦ placed_settle m n (placed_step m p (run_of x blocks notes io)) ]) h
+
+-- p is free
+pub settle_free : (m : Meaning) (n k : ℕ) (x : Placed) (p : ℕ) → n ≡ suc k → placed_first_free m x x.order ≡ Some p → (blocks : Blocks) (notes : List Note) (io : List Bool) →
+    placed_settle m n (run_of x blocks notes io) ≡ placed_settle m k (placed_step m p (run_of x blocks notes io))
+settle_free m n k x p is h blocks notes io =
+    ap (λ j. placed_settle m j (run_of x blocks notes io)) is
+    ∙ ap (λ o. elim o as (λ _. PlacedRun) [ None ↦ placed_rested m (run_of x blocks notes io) | Some q ↦ placed_settle m k (placed_step m q (run_of x blocks notes io)) ]) h

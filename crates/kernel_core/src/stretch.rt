@@ -1,0 +1,34 @@
+//! Stretches: instructions of a call that leave no step to take, one after another.
+
+ghost use Rattle.std.specs.Prelude.{◌≡◌, ◌<◌, ◌≤◌};
+ghost use Rattle.kernel_steps.specs.Views.{placed_of, IsRunning, Stood};
+ghost use Rattle.kernel_core.specs.Went.{GoesOn, Leads};
+
+use call_pieces::Calls;
+use graft_points::Policy;
+use kernel_steps::Running;
+use placed_laws::{agreeing, stretching};
+
+/// A stretch of process p's call, where it is in a graft and doesn't wait: at most n quiet instructions, which each go
+/// on and call nothing, or only read an object that their level holds already. How many there were. They leave no step
+/// to take.
+pub(crate) fn stretch<C: Calls, B: Policy>(running: &mut Running<C, B>, p: u8, n: u32) -> u32
+    requires process { p < 16 }
+    requires running { IsRunning C.caller running.old }
+    requires stood { Stood C.Meaning.meaning (placed_of C.stage running.old) }
+    ensures most { result ≤ n }
+    ensures leads { let x = placed_of C.stage running.old in
+        Leads C.Meaning.meaning p result x (placed_of C.stage running.new) }
+    ensures on { GoesOn C.Meaning.meaning C.stage C.caller
+        running.old running.new }
+{
+    agreeing::same_shown::<C::Meaning>();
+    stretching::stretches::<C::Meaning>();
+    if !running.in_graft(p) {
+        return 0;
+    }
+    if running.waits(p) {
+        return 0;
+    }
+    running.stretch(p, n)
+}

@@ -1,0 +1,195 @@
+//! The time-outs of a tick.
+
+ghost use Rattle.std.specs.Prelude.{◌≡◌, ◌<◌, ◌-◌, ◌^◌, suc, List, [], Some, None, option_map};
+ghost use Rattle.disk_log.specs.Seen.{DiskSeen, disk_seen};
+ghost use Rattle.kernel_model.specs.declared.Note.{Note as Told};
+ghost use Rattle.kernel_model.specs.declared.Note.TheVariants.{Refused};
+ghost use Rattle.placed_laws.specs.PlacedSteps.{placed_noted, placed_requeue, placed_ticked, with_placed_call};
+ghost use Rattle.placed_laws.specs.PlacedEvents.{placed_actions, placed_entry_action, placed_holder, placed_tick_event, placed_waiter};
+ghost use Rattle.kernel_steps.specs.Orders.{blocker_of, entry_of};
+ghost use Rattle.kernel_steps.specs.Views.{placed_of, IsRunning, Stood};
+ghost use Rattle.kernel_core.specs.Went.{Went, Ticked};
+
+use crate::settle::settle_all;
+use call_pieces::Calls;
+use disk_log::DiskLog;
+use graft_points::Policy;
+use kernel_model::{Cause, Note, Refusal};
+use kernel_steps::{Blocking, Notes, Running, Waiting};
+use placed_laws::{agreeing, keeping};
+use vino_base::Disk;
+
+/// The most actions of a tick (`history_laws::ticks`).
+const ACTIONS: u16 = 288;
+
+/// Process p's call of this number, which is in no graft, is refused.
+fn refuse<C: Calls, B: Policy>(
+    running: &mut Running<C, B>,
+    p: u8,
+    number: u32,
+    why: Refusal,
+    notes: &mut Notes,
+)
+    requires process { p < 16 }
+    requires call { Some number ≡ option_map (λ c. c.number) ((placed_of C.stage running.old).call p) }
+    requires none { (placed_of C.stage running.old).levels p ≡ [] }
+    requires running { IsRunning C.caller running.old }
+    requires stood { Stood C.Meaning.meaning (placed_of C.stage running.old) }
+    ensures went { (d : DiskSeen) →
+        Went C.Meaning.meaning C.stage C.caller
+        (λ r. placed_requeue p (placed_noted (Refused number why) (with_placed_call p None r)))
+        running.old running.new notes.old notes.new d d }
+{
+    keeping::others_stand::<C::Meaning>();
+    running.end(p, Note::Refused(number, why), notes);
+}
+
+/// Process p has waited too long for a user lock: its innermost level is dropped, or its call ends.
+fn time_out_waiter<C: Calls, B: Policy, D: Disk>(
+    running: &mut Running<C, B>,
+    p: u8,
+    found: Blocking,
+    disk: &mut D,
+    log: &mut DiskLog,
+    notes: &mut Notes,
+)
+    requires process { p < 16 }
+    requires running { IsRunning C.caller running.old }
+    requires stood { Stood C.Meaning.meaning (placed_of C.stage running.old) }
+    requires disk { running.old.store.size ≡ D.block_count disk.old }
+    ensures went { Went C.Meaning.meaning C.stage C.caller
+        (λ r. placed_waiter C.Meaning.meaning p (blocker_of found) (r.placed.call p) r) running.old
+        running.new notes.old notes.new
+        (disk_seen (D.blocks disk.old) (D.plan disk.old) (D.faults disk.old))
+        (disk_seen (D.blocks disk.new) (D.plan disk.new) (D.faults disk.new)) }
+    ensures same_size { D.block_count disk.new ≡ D.block_count disk.old }
+{
+    let Some(number) = running.call_number(p) else {
+        return;
+    };
+    let count = running.level_count(p);
+    if count == 0 {
+        let why = Refusal::TimedOut(found.object, found.holder);
+        return refuse(running, p, number, why, notes);
+    }
+    let cause = Cause::TimeOut(found.object, found.holder);
+    running.drop_level(p, count - 1, cause, disk, log, notes);
+}
+
+/// A call has been in process p's way for too long: it loses the outermost level whose hold conflicts.
+fn time_out_holder<C: Calls, B: Policy, D: Disk>(
+    running: &mut Running<C, B>,
+    p: u8,
+    found: Blocking,
+    disk: &mut D,
+    log: &mut DiskLog,
+    notes: &mut Notes,
+)
+    requires process { p < 16 }
+    requires running { IsRunning C.caller running.old }
+    requires stood { Stood C.Meaning.meaning (placed_of C.stage running.old) }
+    requires disk { running.old.store.size ≡ D.block_count disk.old }
+    ensures went { Went C.Meaning.meaning C.stage C.caller
+        (placed_holder C.Meaning.meaning p (blocker_of found)) running.old running.new notes.old
+        notes.new
+        (disk_seen (D.blocks disk.old) (D.plan disk.old) (D.faults disk.old))
+        (disk_seen (D.blocks disk.new) (D.plan disk.new) (D.faults disk.new)) }
+    ensures same_size { D.block_count disk.new ≡ D.block_count disk.old }
+{
+    let Some(level) = running.level_in_the_way(p, found.object, found.holder) else {
+        return;
+    };
+    let cause = Cause::TimeOut(found.object, p);
+    running.drop_level(found.holder, level, cause, disk, log, notes);
+}
+
+/// The action for an entry that has waited too long.
+fn act<C: Calls, B: Policy, D: Disk>(
+    running: &mut Running<C, B>,
+    waiting: Waiting,
+    disk: &mut D,
+    log: &mut DiskLog,
+    notes: &mut Notes,
+)
+    requires process { waiting.process < 16 }
+    requires running { IsRunning C.caller running.old }
+    requires stood { Stood C.Meaning.meaning (placed_of C.stage running.old) }
+    requires disk { running.old.store.size ≡ D.block_count disk.old }
+    ensures went { Went C.Meaning.meaning C.stage C.caller
+        (placed_entry_action C.Meaning.meaning (entry_of waiting) (entry_of waiting).blocker)
+        running.old running.new notes.old notes.new
+        (disk_seen (D.blocks disk.old) (D.plan disk.old) (D.faults disk.old))
+        (disk_seen (D.blocks disk.new) (D.plan disk.new) (D.faults disk.new)) }
+    ensures same_size { D.block_count disk.new ≡ D.block_count disk.old }
+{
+    let Some(found) = waiting.blocker else {
+        return;
+    };
+    match found.call {
+        None => time_out_waiter(running, waiting.process, found, disk, log, notes),
+        Some(_) => time_out_holder(running, waiting.process, found, disk, log, notes),
+    }
+}
+
+/// At most so many actions, as long as a count has reached its patience, each with all steps that can be taken then.
+fn actions<C: Calls, B: Policy, D: Disk>(
+    running: &mut Running<C, B>,
+    turns: u16,
+    disk: &mut D,
+    log: &mut DiskLog,
+    notes: &mut Notes,
+)
+    requires running { IsRunning C.caller running.old }
+    requires stood { Stood C.Meaning.meaning (placed_of C.stage running.old) }
+    requires disk { running.old.store.size ≡ D.block_count disk.old }
+    ensures went { Went C.Meaning.meaning C.stage C.caller
+        (placed_actions C.Meaning.meaning turns) running.old running.new notes.old notes.new
+        (disk_seen (D.blocks disk.old) (D.plan disk.old) (D.faults disk.old))
+        (disk_seen (D.blocks disk.new) (D.plan disk.new) (D.faults disk.new)) }
+    ensures same_size { D.block_count disk.new ≡ D.block_count disk.old }
+{
+    agreeing::same_shown::<C::Meaning>();
+    if turns == 0 {
+        return;
+    }
+    let Some(waiting) = running.expired() else {
+        return;
+    };
+    act(running, waiting, disk, log, notes);
+    settle_all(running, disk, log, notes);
+    actions(running, turns - 1, disk, log, notes);
+}
+
+/// The clock and the counts rise.
+fn raise<C: Calls, B: Policy>(running: &mut Running<C, B>, number: u32, notes: &mut Notes)
+    requires clock { running.old.clock < 2 ^ 32 - 1 }
+    requires running { IsRunning C.caller running.old }
+    requires stood { Stood C.Meaning.meaning (placed_of C.stage running.old) }
+    ensures ticked { (d : DiskSeen) → Ticked C.Meaning.meaning C.stage C.caller
+        (placed_ticked number) running.old running.new notes.old notes.new d d }
+{
+    keeping::others_stand::<C::Meaning>();
+    running.tick(number, notes);
+}
+
+/// A tick: the clock and the counts rise, and calls that have waited too long time out.
+pub(crate) fn tick_event<C: Calls, B: Policy, D: Disk>(
+    running: &mut Running<C, B>,
+    number: u32,
+    disk: &mut D,
+    log: &mut DiskLog,
+    notes: &mut Notes,
+)
+    requires clock { running.old.clock < 2 ^ 32 - 1 }
+    requires running { IsRunning C.caller running.old }
+    requires stood { Stood C.Meaning.meaning (placed_of C.stage running.old) }
+    requires disk { running.old.store.size ≡ D.block_count disk.old }
+    ensures ticked { Ticked C.Meaning.meaning C.stage C.caller
+        (placed_tick_event C.Meaning.meaning number) running.old running.new notes.old notes.new
+        (disk_seen (D.blocks disk.old) (D.plan disk.old) (D.faults disk.old))
+        (disk_seen (D.blocks disk.new) (D.plan disk.new) (D.faults disk.new)) }
+    ensures same_size { D.block_count disk.new ≡ D.block_count disk.old }
+{
+    raise(running, number, notes);
+    actions(running, ACTIONS, disk, log, notes);
+}

@@ -1,5 +1,0 @@
--- Each turn is one less.
-use Rattle.kernel_events.proofs.settle.+settle.Given as goal
-
-abbrev pub decreases-settle : goal.decreases-settle
-decreases-settle g l = l.turns

@@ -1,2 +1,0 @@
-pub mod Happened
-pub mod Went
