@@ -8,3 +8,4 @@ pub mod EventLemmas
 pub mod BootLemmas
 pub mod PlacedSectionLemmas
 pub mod RowPlaceLemmas
+pub mod AddedImageLemmas

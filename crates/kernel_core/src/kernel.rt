@@ -105,7 +105,7 @@ impl<C: Calls, B: Policy> Kernel<C, B> {
     }
 
     /// Whether a slot has an image.
-    pub fn has_image(&self, slot: u32) -> bool
+    pub(crate) fn has_image(&self, slot: u32) -> bool
         requires { slot < 32 }
         ensures { result ≡ is_some ((placed_of C.stage self.now.running).images slot) }
     {
@@ -113,7 +113,7 @@ impl<C: Calls, B: Policy> Kernel<C, B> {
     }
 
     /// A slot that is free has this image from now on. No memory is taken.
-    pub fn add_image(&mut self, slot: u32, image: Loaded)
+    pub(crate) fn put_image(&mut self, slot: u32, image: Loaded)
         requires slot { slot < 32 }
         requires free { (placed_of C.stage self.old.running).images slot ≡ None }
         requires running { IsRunning C.caller self.old.running }

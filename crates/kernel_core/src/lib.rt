@@ -5,6 +5,7 @@
 #![tactic(auto)]
 
 mod events;
+mod images;
 mod kernel;
 mod last;
 mod placed_rows;
@@ -13,6 +14,7 @@ mod stepping;
 mod stretch;
 mod ticks;
 
+pub use images::ImageRefusal;
 pub use kernel::{BootNote, Kernel};
 pub use kernel_state::Setup;
 pub use kernel_steps::Notes;

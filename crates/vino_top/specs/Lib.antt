@@ -5,4 +5,3 @@ pub mod Run
 pub mod Demos
 pub mod Does
 pub mod Words
-pub mod Loading

@@ -1,6 +1,6 @@
 //! How a script runs, line by line.
 
-ghost use Rattle.std.specs.Prelude.{◌≡◌, ℕ, ◌+◌, ◌<◌, ◌≤◌, ◌-◌, ◌++◌, ◌^◌, true, false, List, [], length, map, codes, decimal, slice_index_or, Ok, IfOk, OnOk, OnErr};
+ghost use Rattle.std.specs.Prelude.{◌≡◌, ℕ, ◌+◌, ◌<◌, ◌≤◌, ◌-◌, ◌++◌, ◌^◌, true, false, List, [], length, map, codes, decimal, slice_index_or, None, Ok, Err, IfOk, OnOk, OnErr};
 ghost use Rattle.disk_log.specs.Seen.{DiskSeen, disk_seen};
 ghost use Rattle.kernel_model.specs.declared.Keys.{Keys};
 ghost use Rattle.kernel_model.specs.Objects.{at};
@@ -9,17 +9,26 @@ ghost use Rattle.kernel_model.specs.Opening.{opening_policy};
 ghost use Rattle.kernel_model.specs.Script.{Happens, Boot, Loads, Raw, Unfinished};
 ghost use Rattle.kernel_model.specs.Session.{fault_text};
 ghost use Rattle.script_text.specs.Answers.{entry_seen, SetsWithin};
+ghost use Rattle.kernel_model.specs.Images as images;
+ghost use Rattle.kernel_model.specs.Kernel.{Kernel as Abstract};
+ghost use Rattle.kernel_model.specs.Pieces.{plain};
+ghost use Rattle.kernel_model.specs.Sound.{IsAtRest};
+ghost use Rattle.call_pieces.specs.Works.{stage_of};
+ghost use Rattle.kernel_steps.specs.Views.{placed_of, IsRunning, Stood};
+ghost use Rattle.placed_laws.specs.Stands as kernels;
+ghost use Rattle.kernel_core.specs.declared.images.ImageRefusal.TheVariants.{Unloaded};
+ghost use Rattle.kernel_core.specs.AddedImages.{slot_refused, has_memory, image_said, ImageIsAdded};
 ghost use Rattle.vino_top.specs.Bounds.{IsSessionWithin};
 ghost use Rattle.graft_points.specs.Shelf.{IsShelf, pol_of, first_choice};
-ghost use Rattle.vino_top.specs.Standing.{seen_of, IsBegun, last_bytes, code_seen};
+ghost use Rattle.vino_top.specs.Standing.{caller_of, seen_of, IsBegun, last_bytes, code_seen};
 ghost use Rattle.vino_top.specs.Run.{Place, place, LoadsFree, WantsAt, RunsLine, RunsEntry, boot_line, left_in};
 
 use crate::lines::Lines;
-use crate::loading::load_image;
+use crate::loading::say_image;
 use call_pieces::Plain;
-use graft_loader::{Images, Keys};
+use graft_loader::{Images, Keys, LoadFault};
 use graft_points::Policy;
-use kernel_core::{BootNote, Kernel, Notes, Setup};
+use kernel_core::{BootNote, ImageRefusal, Kernel, Notes, Setup};
 use kernel_model::{Event, NoMemory, Note, Refusal};
 use line_text::{Text, print_boot, print_fault, print_note};
 use placed_laws::agreeing;
@@ -28,9 +37,6 @@ use ram_space::Ram;
 use script_text::{Entry, ImageBytes, ScriptFault, parse_line};
 use std::alloc::Global;
 use vino_base::Disk;
-
-/// The last slot of images.
-const LAST_SLOT: u32 = 31;
 
 /// What a line leaves behind: the notes of its event, and the bytes that are written. Memory is taken once, before the first line.
 #[derive(Drop)]
@@ -265,6 +271,40 @@ impl<B: Policy> Session<B> {
         out.lines.add(&out.text);
     }
 
+    /// An image for a slot of the kernel. Memory is taken only where the slot is in range and free; without it nothing
+    /// changes.
+    fn add_image(
+        &mut self,
+        alloc: Global,
+        keys: &Keys,
+        slot: u32,
+        bytes: &ImageBytes,
+    ) -> Result<Result<(u32, u32), ImageRefusal>, NoMemory>
+        requires running { IsRunning caller_of self.old.kernel.running }
+        requires stood { Stood plain (placed_of stage_of self.old.kernel.running) }
+        ensures memory { IfOk result (λ answer. has_memory answer ≡ true) }
+        ensures added { IfOk result (λ answer. (k : Abstract) →
+            kernels.StandsFor plain (placed_of stage_of self.old.kernel.running) k → IsAtRest plain k →
+            ImageIsAdded plain slot (images.load keys.now bytes.now) k
+            (placed_of stage_of self.new.kernel.running) (image_said answer)) }
+        ensures err { OnErr result ((self.new ≡ self.old)
+            × (slot_refused (placed_of stage_of self.old.kernel.running).images slot ≡ None)) }
+        ensures state { self.new ≡ record self.old { kernel = self.new.kernel } }
+        ensures running { IsRunning caller_of self.new.kernel.running }
+        ensures stood { Stood plain (placed_of stage_of self.new.kernel.running) }
+        ensures store { self.new.kernel.running.store ≡ self.old.kernel.running.store }
+        ensures clock { self.new.kernel.running.clock ≡ self.old.kernel.running.clock }
+    {
+        if let Some(refusal) = self.kernel.slot_refusal(slot) {
+            return Ok(Err(refusal));
+        }
+        let sealed = bytes.decode(alloc)?;
+        match known(self.kernel.add_image(alloc, keys, slot, sealed.as_slice())) {
+            Err(lacks) => Err(lacks),
+            Ok(answer) => Ok(answer),
+        }
+    }
+
     /// The line of an image, as an event: the bytes are loaded under the keys into a slot that is free. Where there is no
     /// memory for them or for the image, nothing changes.
     fn image(
@@ -291,24 +331,10 @@ impl<B: Policy> Session<B> {
             return Ok(());
         }
         let n = self.events + 1;
-        if slot > LAST_SLOT {
-            print_note(&Note::Refused(n, Refusal::BadIndex), &mut out.text);
-            self.answer_image(out);
-            return Ok(());
-        }
-        if self.kernel.has_image(slot) {
-            print_note(&Note::Refused(n, Refusal::Taken), &mut out.text);
-            self.answer_image(out);
-            return Ok(());
-        }
-        let sealed = bytes.decode(alloc)?;
-        match load_image(alloc, keys, sealed.as_slice(), n, &mut out.text)? {
-            None => {
-                self.answer_image(out);
-                Ok(())
-            }
-            Some(image) => {
-                self.kernel.add_image(slot, image);
+        match self.add_image(alloc, keys, slot, bytes) {
+            Err(lacks) => Err(lacks),
+            Ok(answer) => {
+                say_image(n, answer, &mut out.text);
                 self.answer_image(out);
                 Ok(())
             }
@@ -390,6 +416,20 @@ impl<B: Policy> Session<B> {
         }
     }
 }
+
+/// An answer about an image, apart from want of memory.
+fn known(
+    answer: Result<(u32, u32), ImageRefusal>,
+) -> Result<Result<(u32, u32), ImageRefusal>, NoMemory>
+    ensures same { IfOk result (λ a. (a ≡ answer) × (has_memory a ≡ true)) }
+    ensures lacks { OnErr result (answer ≡ Err (Unloaded LoadFault.NoMemory)) }
+{
+    match answer {
+        Err(ImageRefusal::Unloaded(LoadFault::NoMemory)) => Err(NoMemory),
+        answer => Ok(answer),
+    }
+}
+
 /// What is said of a boot.
 fn say_boot(note: BootNote, text: &mut Text)
     ensures { text.new ≡ line (boot_line note) }
