@@ -1,6 +1,7 @@
 -- Runs of scripts for worked examples: an image line may be given by what its bytes load to, so that no seal is computed.
 use Rattle.std.specs.Prelude.{ℕ, suc, Bool, List, [], ◌∷◌, Option, None, Some, Result, Ok}
 use Rattle.kernel_model.specs.declared.Instr.{Instr}
+use Rattle.kernel_model.specs.declared.Keys.{Keys}
 use Rattle.kernel_model.specs.World.{Image}
 use Rattle.kernel_model.specs.Directory.{sample_disk}
 use Rattle.kernel_model.specs.Images.{LoadFault}
@@ -22,12 +23,16 @@ abbrev pub image_given : Session → ℕ → Result Image LoadFault → Option K
 image_given s slot loaded None io = silent s io
 image_given s slot loaded (Some k) io = image_line_run (record s { lines = suc s.lines }) slot loaded k io
 
-module _ (b : Build) (key : List ℕ) where
+-- keys under which no image is loaded here, since image lines are given by what they load
+abbrev pub no_keys : Keys
+no_keys = record { first = []; second = None }
+
+module _ (b : Build) (keys : Keys) where
   -- what lines make of a session, where one list says of all their calls of the disk whether they fail
   abbrev pub run_lines : Session → List (List ℕ) → List Bool → Written
   run_lines s [] io = silent s io
   run_lines s (text ∷ texts) io =
-      let w = after_line b key sample_disk.size s text io in and_then w (run_lines w.session texts w.io)
+      let w = after_line b keys sample_disk.size s text io in and_then w (run_lines w.session texts w.io)
 
   -- what one of these makes of a session
   abbrev pub run_one : Session → Given → List Bool → Written
@@ -47,4 +52,4 @@ module _ (b : Build) (key : List ℕ) where
 
 -- the same with all that the product has
 abbrev pub given_run : List Bool → List Given → ℕ × List ℕ
-given_run io gs = run_of whole [] io gs
+given_run io gs = run_of whole no_keys io gs

@@ -14,7 +14,7 @@ use Rattle.kernel_model.specs.Pieces.{plain}
 use Rattle.kernel_model.specs.InPlace.{Cut, in_place, undone, store_below}
 use Rattle.kernel_model.specs.Session.{whole, first_session}
 use Rattle.kernel_model.specs.Boxed.{instr}
-use Rattle.worked_examples.specs.Given.{Given, Lines, ImageLine, image, run_all, given_run, run_of}
+use Rattle.worked_examples.specs.Given.{Given, Lines, ImageLine, image, no_keys, run_all, given_run, run_of}
 
 -- sets cell 0 to 7, then to 9, and divides by zero
 abbrev pub twice : Result Image LoadFault
@@ -185,7 +185,7 @@ victim_of_another_owner = refl
 
 -- An id that isn't built drops the graft, and its step is charged.
 pub ids_above_the_highest_are_refused :
-    run_of (record whole { callable = 11 }) [] ([]) (
+    run_of (record whole { callable = 11 }) no_keys [] (
     Lines (codes "boot\n")
     ∷ ImageLine 0 spinner
     ∷ Lines (codes "install 0 5 0 9\nfund 0 5 steps 5\nyield 0\nstep 0 9\nraw\n")
@@ -196,7 +196,7 @@ ids_above_the_highest_are_refused = refl
 
 -- the kernel after a script, nothing where it hasn't booted
 abbrev pub kernel_after : List Given → Option Kernel
-kernel_after gs = (run_all whole [] (first_session sample_disk) gs []).session.kernel
+kernel_after gs = (run_all whole no_keys (first_session sample_disk) gs []).session.kernel
 
 -- cell 0 of process 1 in a state
 abbrev pub cell_in : Objects → ℕ
