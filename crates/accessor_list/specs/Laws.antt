@@ -4,4 +4,5 @@ use Rattle.kernel_model.specs.Assembler.{callable_name, callable_id}
 
 -- a name has an id exactly where the id has the name
 abbrev pub NamesAreIds : Type 0
-NamesAreIds = (id : ℕ) (name : List ℕ) → (callable_id name ≡ Some id) ↔ (callable_name id ≡ Some name)
+NamesAreIds = (id : ℕ) (name : List ℕ) →
+    (callable_id name ≡ Some id) ↔ (callable_name id ≡ Some name)

@@ -1,5 +1,5 @@
-//! The callable list: the names by which graft code calls the kernel, their ids, and the objects that they need
-//! (docs/FORMATS.md).
+//! The callable list: the names by which graft code calls the kernel, their ids, and the objects
+//! that they need (docs/FORMATS.md).
 #![tactic(auto)]
 
 ghost use Rattle.std.specs.Prelude.{◌≡◌, ◌<◌, IfSome, length, position};

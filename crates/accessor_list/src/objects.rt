@@ -83,16 +83,19 @@ fn object_of(id: u32, first: u32, second: u32, q: u8) -> Option<Object>
     }
 }
 
-/// What a call with these arguments comes to before its object is looked at, for a graft of process q: a plain
-/// accessor's object and how it is needed, nothing for a call that asks another point, or the refusal that needs no
-/// object.
+/// What a call with these arguments comes to before its object is looked at, for a graft of process
+/// q: a plain accessor's object and how it is needed, nothing for a call that asks another point,
+/// or the refusal that needs no object.
 pub fn early(id: u32, args: [u32; 3], q: u8) -> Result<Option<(Object, Mode)>, Cause>
     requires highest { id ≤ 15 }
     requires process { q < 16 }
-    ensures refused { result_err result ≡ early_refusal 15 id (slice_index args 0) (slice_index args 1) q }
+    ensures refused { result_err result
+        ≡ early_refusal 15 id (slice_index args 0) (slice_index args 1) q }
     ensures ask { IfOk result (λ found. is_none found ≡ is_ask id) }
-    ensures object { IfOk result (λ found. IfSome found (λ f. f.0 ≡ (accessed id (slice_index args 0) q).object)) }
-    ensures mode { IfOk result (λ found. IfSome found (λ f. f.1 ≡ (accessed id (slice_index args 0) q).mode)) }
+    ensures object { IfOk result
+        (λ found. IfSome found (λ f. f.0 ≡ (accessed id (slice_index args 0) q).object)) }
+    ensures mode { IfOk result
+        (λ found. IfSome found (λ f. f.1 ≡ (accessed id (slice_index args 0) q).mode)) }
     ensures range { IfOk result (λ found. IfSome found (λ f. IsInRange f.0)) }
 {
     let [first, second, _] = args;

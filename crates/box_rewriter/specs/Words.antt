@@ -7,7 +7,8 @@ use Rattle.kernel_model.specs.Instructions.{fits}
 use Rattle.kernel_model.specs.World.{Image}
 use Rattle.kernel_model.specs.Boxed.{RewriteFault, IsBoxed, access_width, is_jump, boxed_place, boxed_access, instr, rewrite_fault_at}
 
--- what a boxed image keeps: at most 1,024 instructions, each of which can be encoded, boxed, and at most 4,096 data bytes
+-- what a boxed image keeps: at most 1,024 instructions, each of which can be encoded, boxed, and at
+-- most 4,096 data bytes
 pub record IsBoxedImage (i : Image) : Type 0 where
   pub few : length i.code ≤ 1024
   pub fit : list_all fits i.code ≡ true
@@ -34,4 +35,8 @@ pub record ArePlaces (code : List Instr) (places : List ℕ) : Type 0 where
 -- the first instruction from a place on that can't be boxed, where these are left
 abbrev pub first_from : List Instr → ℕ → List Instr → Option RewriteFault
 first_from code pc [] = None
-first_from code pc (i ∷ is) = elim (rewrite_fault_at code pc i) [ Some fault ↦ Some fault | None ↦ first_from code (suc pc) is ]
+first_from code pc (i ∷ is) =
+    elim (rewrite_fault_at code pc i) [
+      | Some fault ↦ Some fault
+      | None ↦ first_from code (suc pc) is
+    ]

@@ -8,8 +8,9 @@ pub fn rewritten_is_boxed()
     ensures { RewrittenIsBoxed }
 {}
 
-/// Boxed code comes as far as the raw code with each address masked: after n raw instructions with k
-/// accesses among them, it has after n + 2k the same segment, registers (r14 apart), place, calls and end.
+/// Boxed code comes as far as the raw code with each address masked: after n raw instructions with
+/// k accesses among them, it has after n + 2k the same segment, registers (r14 apart), place, calls
+/// and end.
 pub fn boxed_does_what_raw_does()
     ensures { Rewriting }
 {}

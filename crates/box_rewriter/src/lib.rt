@@ -92,7 +92,8 @@ impl BoxedCode {
 
 /// Why an instruction can't be boxed, the register first.
 fn fault_at(code: &[Instr], pc: u32, i: &Instr) -> Option<RewriteFault>
-    ensures { MatchOption result (spec.rewrite_fault_at code.now pc i.now ≡ None) (λ e. IsFound e (spec.rewrite_fault_at code.now pc i.now)) }
+    ensures { MatchOption result (spec.rewrite_fault_at code.now pc i.now ≡ None)
+        (λ e. IsFound e (spec.rewrite_fault_at code.now pc i.now)) }
 {
     if names_register(14, i) || names_register(15, i) {
         Some(RewriteFault::Register(pc))
@@ -108,7 +109,8 @@ fn fault_at(code: &[Instr], pc: u32, i: &Instr) -> Option<RewriteFault>
 /// The first instruction that can't be boxed.
 fn first_fault(code: &[Instr]) -> Option<RewriteFault>
     requires { length code.now ≤ 1024 }
-    ensures { MatchOption result (first_from code.now 0 code.now ≡ None) (λ e. IsFound e (first_from code.now 0 code.now)) }
+    ensures { MatchOption result (first_from code.now 0 code.now ≡ None)
+        (λ e. IsFound e (first_from code.now 0 code.now)) }
 {
     for (pc, i) in code.iter().enumerate() {
         if let Some(fault) = fault_at(code, pc as u32, i) {
@@ -257,8 +259,8 @@ fn rewrite_code(alloc: Global, code: &[Instr]) -> Result<Vec<Instr>, RewriteFaul
     }
 }
 
-/// Boxed code of an image's code, with the same data; or the first refusal: the first place decides,
-/// at one place the order `Register`, `Jump`, `Call`; then `End`, then `TooLarge`.
+/// Boxed code of an image's code, with the same data; or the first refusal: the first place
+/// decides, at one place the order `Register`, `Jump`, `Call`; then `End`, then `TooLarge`.
 pub fn rewrite(alloc: Global, img: &RawImage) -> Result<BoxedCode, RewriteFault>
     ensures code { IfOk result (λ b. spec.rewrite img.now.code ≡ Ok b.code) }
     ensures body { IfOk result (λ b. b.body ≡ img.now.body) }

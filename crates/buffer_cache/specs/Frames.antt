@@ -4,7 +4,8 @@ use Rattle.std.specs.List.{count_by}
 use Rattle.std.specs.Option.{is_some}
 use Rattle.kernel_model.specs.declared.FrameRow.{FrameRow}
 
--- the cache: what each of 64 frames holds, the frames in use, oldest first, and how many frames there are
+-- the cache: what each of 64 frames holds, the frames in use, oldest first, and how many frames
+-- there are
 pub record Frames : Type 0 where
   pub rows : List (Option FrameRow)
   pub order : List ℕ
@@ -25,7 +26,8 @@ holds b (Some r) = r.block == b
 
 -- a frame that was just filled: clean, mark 0
 abbrev pub filled_row : (f owner block : ℕ) → FrameRow
-filled_row f owner block = record { frame = f; owner = owner; block = block; dirty = false; mark = 0 }
+filled_row f owner block =
+    record { frame = f; owner = owner; block = block; dirty = false; mark = 0 }
 
 -- the order of use with frame f as the newest
 abbrev pub newest : ℕ → List ℕ → List ℕ
@@ -57,13 +59,15 @@ handed from to r = cond (r.owner == from) (record r { owner = to }) r
 
 -- the cache where a process owns what another one owned
 abbrev pub handed_over : (from to : ℕ) → Frames → Frames
-handed_over from to c = record c { rows = map (λ (r : Option FrameRow). option_map (handed from to) r) c.rows }
+handed_over from to c =
+    record c { rows = map (λ (r : Option FrameRow). option_map (handed from to) r) c.rows }
 
 -- how often a frame stands in the order of use
 abbrev pub uses : ℕ → List ℕ → ℕ
 uses f order = length (filter (λ g. g == f) order)
 
--- what always holds: the order of use lists the frames in use once each, and no block stands in two frames
+-- what always holds: the order of use lists the frames in use once each, and no block stands in two
+-- frames
 pub record IsFrames (c : Frames) : Type 0 where
   pub rows : length c.rows ≡ 64
   pub least : 2 ≤ c.count
@@ -72,4 +76,5 @@ pub record IsFrames (c : Frames) : Type 0 where
   pub order : length c.order ≡ count_by (λ (r : Option FrameRow). is_some r) c.rows
   pub below : (f : ℕ) → in_use f c ≡ true → f < c.count
   pub numbered : (f : ℕ) (r : FrameRow) → row_at c.rows f ≡ Some r → r.frame ≡ f
-  pub one_frame : (f g : ℕ) (x y : FrameRow) → row_at c.rows f ≡ Some x → row_at c.rows g ≡ Some y → x.block ≡ y.block → f ≡ g
+  pub one_frame : (f g : ℕ) (x y : FrameRow) → row_at c.rows f ≡ Some x → row_at c.rows g ≡ Some y →
+      x.block ≡ y.block → f ≡ g

@@ -87,7 +87,8 @@ impl Cache {
 
     /// The lowest frame that isn't in use.
     pub fn free(&self) -> Option<u8>
-        ensures value { result ≡ position (λ (r : Option Row). is_none r) (take self.now.count self.now.rows) }
+        ensures value { result
+            ≡ position (λ (r : Option Row). is_none r) (take self.now.count self.now.rows) }
         ensures below { IfSome result (λ f. f < self.now.count) }
         ensures unused { IfSome result (λ f. in_use f self.now ≡ false) }
         ensures full { IfNone result ((f : ℕ) → f < self.now.count → in_use f self.now ≡ true) }
@@ -98,7 +99,8 @@ impl Cache {
     /// The frames in use, oldest first.
     pub fn lru(&self) -> &[u8]
         ensures value { result.now ≡ self.now.order }
-        ensures used { (i : ℕ) → i < length result.now → in_use (slice_index result.now i) self.now ≡ true }
+        ensures used { (i : ℕ) → i < length result.now →
+            in_use (slice_index result.now i) self.now ≡ true }
         ensures sound { IsFrames self.now }
     {
         self.order.as_slice()
@@ -113,15 +115,16 @@ impl Cache {
         row_of(&self.rows, f)
     }
 
-    /// Fills frame f with a block that no other frame holds: it is clean, has mark 0 and is the newest. The owner is a
-    /// process, 0 to 15, and blocks are below 4,096.
+    /// Fills frame f with a block that no other frame holds: it is clean, has mark 0 and is the
+    /// newest. The owner is a process, 0 to 15, and blocks are below 4,096.
     pub fn fill(&mut self, ram: &mut Ram, f: u8, owner: u8, block: u32, bytes: &[u8; 512])
         requires frame { f < self.old.count }
         requires owner { owner < 16 }
         requires range { block < 4096 }
         requires no_other { (g : ℕ) → holds block (row_at self.old.rows g) ≡ true → g ≡ f }
         ensures cache { self.new ≡ filled f (filled_row f owner block) self.old }
-        ensures memory { ram.new ≡ take (512 * f) ram.old ++ bytes.now ++ drop (512 * f + 512) ram.old }
+        ensures memory { ram.new ≡ take (512 * f) ram.old ++ bytes.now
+            ++ drop (512 * f + 512) ram.old }
     {
         put_row(&mut self.rows, f, new_row(f, owner, block));
         make_newest(&mut self.order, f);
@@ -152,7 +155,8 @@ impl Cache {
         requires used { in_use f self.old ≡ true }
         requires inside { off + length bytes.now ≤ 512 }
         ensures cache { self.new ≡ with_row f (λ r. record r { dirty = true }) self.old }
-        ensures memory { ram.new ≡ take (512 * f + off) ram.old ++ bytes.now ++ drop (512 * f + off + length bytes.now) ram.old }
+        ensures memory { ram.new ≡ take (512 * f + off) ram.old ++ bytes.now
+            ++ drop (512 * f + off + length bytes.now) ram.old }
     {
         let row = row_of(&self.rows, f);
         put_row(&mut self.rows, f, FrameRow { dirty: true, ..row });

@@ -36,7 +36,8 @@ fn slot(block: u32, d: usize) -> usize
 pub(crate) fn find_frame(index: &[Option<u8>], rows: &[Option<FrameRow>], block: u32) -> Option<u8>
     requires index { IsIndex index.now rows.now }
     requires rows { length rows.now ≡ 64 }
-    requires one_frame { (f g : ℕ) (x y : Row) → row_at rows.now f ≡ Some x → row_at rows.now g ≡ Some y → x.block ≡ y.block → f ≡ g }
+    requires one_frame { (f g : ℕ) (x y : Row) → row_at rows.now f ≡ Some x →
+        row_at rows.now g ≡ Some y → x.block ≡ y.block → f ≡ g }
     ensures value { result ≡ position (holds block) rows.now }
     ensures found { IfSome result (λ f. holds block (row_at rows.now f) ≡ true) }
     ensures used { IfSome result (λ f. is_some (row_at rows.now f) ≡ true) }
@@ -78,7 +79,8 @@ fn insert(index: &mut [Option<u8>], block: u32, f: u8)
     requires range { f < 64 }
     requires frames { (s g : ℕ) → slice_index_or index.old s None ≡ Some g → g < 64 }
     ensures slots { length index.new ≡ 128 }
-    ensures count { count_by (λ (s : Option ℕ). is_some s) index.new ≡ count_by (λ (s : Option ℕ). is_some s) index.old + 1 }
+    ensures count { count_by (λ (s : Option ℕ). is_some s) index.new
+        ≡ count_by (λ (s : Option ℕ). is_some s) index.old + 1 }
     ensures frames { (s g : ℕ) → slice_index_or index.new s None ≡ Some g → g < 64 }
     ensures here { IsReached index.new block f }
     ensures others { (b g : ℕ) → IsReached index.old b g → IsReached index.new b g }
@@ -94,7 +96,8 @@ fn insert_row(index: &mut [Option<u8>], row: &Option<FrameRow>, f: u8)
     requires range { f < 64 }
     requires frames { (s g : ℕ) → slice_index_or index.old s None ≡ Some g → g < 64 }
     ensures slots { length index.new ≡ 128 }
-    ensures count { count_by (λ (s : Option ℕ). is_some s) index.new ≤ count_by (λ (s : Option ℕ). is_some s) index.old + 1 }
+    ensures count { count_by (λ (s : Option ℕ). is_some s) index.new ≤ count_by
+        (λ (s : Option ℕ). is_some s) index.old + 1 }
     ensures frames { (s g : ℕ) → slice_index_or index.new s None ≡ Some g → g < 64 }
     ensures here { (r : Row) → row.now ≡ Some r → IsReached index.new r.block f }
     ensures others { (b g : ℕ) → IsReached index.old b g → IsReached index.new b g }
@@ -125,14 +128,16 @@ fn rebuild(index: &mut [Option<u8>], rows: &[Option<FrameRow>])
     }
 }
 
-/// Makes the index of the rows but for frame f that of all rows, and says how many slots may lead to a frame then.
+/// Makes the index of the rows but for frame f that of all rows, and says how many slots may lead
+/// to a frame then.
 pub(crate) fn lead(index: &mut [Option<u8>], used: u8, rows: &[Option<FrameRow>], f: u8) -> u8
     requires slots { length index.old ≡ 128 }
     requires room { HasRoom index.old used }
     requires range { f < 64 }
     requires rows { length rows.now ≡ 64 }
     requires frames { (s g : ℕ) → slice_index_or index.old s None ≡ Some g → g < 64 }
-    requires reached { (g : ℕ) (r : Row) → (g ≡ f → ⊥) → row_at rows.now g ≡ Some r → IsReached index.old r.block g }
+    requires reached { (g : ℕ) (r : Row) → (g ≡ f → ⊥) → row_at rows.now g ≡ Some r →
+        IsReached index.old r.block g }
     ensures index { IsIndex index.new rows.now }
     ensures room { HasRoom index.new result }
 {

@@ -1,4 +1,5 @@
-//! The buffer cache: frames of 512 bytes that hold blocks of the disk, and the order in which they were used.
+//! The buffer cache: frames of 512 bytes that hold blocks of the disk, and the order in which they
+//! were used.
 #![tactic(auto)]
 
 mod cache;

@@ -28,7 +28,8 @@ pub record CameTo (q : Piece) (s : Objects) (told : Option (List (List ℕ)))
 
 -- The same without what the disk tells: a piece left these objects, these bytes were given, this
 -- comes next, and so many calls of the disk were made, all as the definitions' piece has it.
-pub record LeftBy (q : Piece) (s : Objects) (gave : Option (List ℕ)) (after : After) (calls : ℕ) : Type 0 where
+pub record LeftBy (q : Piece) (s : Objects) (gave : Option (List ℕ)) (after : After)
+    (calls : ℕ) : Type 0 where
   pub objects : s ≡ q.objects
   pub bytes : gave ≡ q.gave
   pub next : after ≡ q.after
@@ -47,27 +48,32 @@ abbrev pub blocks_after : Fetched → Blocks → Blocks
 blocks_after (Got cache after frame calls) blocks = after
 blocks_after (Failed calls) blocks = blocks
 
--- a fetch that left this cache and these blocks, with so many calls of the disk: it gave a frame or failed
+-- a fetch that left this cache and these blocks, with so many calls of the disk: it gave a frame or
+-- failed
 abbrev pub fetched_so : Result ℕ DiskFailed → CacheValue → Blocks → ℕ → Fetched
 fetched_so (Ok f) cache blocks calls = Got cache blocks f calls
 fetched_so (Err e) cache blocks calls = Failed calls
 
--- a fetch left this cache, and so many calls of the disk were made: as the definitions' fetch has it
+-- a fetch left this cache, and so many calls of the disk were made: as the definitions' fetch has
+-- it
 abbrev pub FetchLeft : Fetched → Blocks → Result ℕ DiskFailed → CacheValue → ℕ → Type 0
 FetchLeft q blocks result cache calls = fetched_so result cache (blocks_after q blocks) calls ≡ q
 
--- a fetch left this cache, the disk tells this, and so many calls were made: all as the definitions' fetch has it
+-- a fetch left this cache, the disk tells this, and so many calls were made: all as the
+-- definitions' fetch has it
 pub record FetchCameTo (q : Fetched) (blocks : Blocks) (result : Result ℕ DiskFailed)
     (cache : CacheValue) (told : Option (List (List ℕ))) (calls : ℕ) : Type 0 where
   pub outcome : FetchLeft q blocks result cache calls
   pub tells : Tells told (blocks_after q blocks)
 
 -- so it is with a fetch for some whole blocks, where these calls of the disk were made
-pub record FetchLeftBySome (v : World) (fetch : Blocks → List Bool → Fetched) (result : Result ℕ DiskFailed)
+pub record FetchLeftBySome (v : World) (fetch : Blocks → List Bool →
+    Fetched) (result : Result ℕ DiskFailed)
     (cache : CacheValue) (io : List Bool) : Type 0 where
   pub blocks : Blocks
   pub whole : HasWholeBlocks v blocks
-  pub outcome : (rest : List Bool) → FetchLeft (fetch blocks (io ++ rest)) blocks result cache (length io)
+  pub outcome : (rest : List Bool) →
+      FetchLeft (fetch blocks (io ++ rest)) blocks result cache (length io)
 
 -- one of these calls of the disk failed
 abbrev pub has_failed : List Bool → Bool
@@ -89,16 +95,19 @@ pub record HasGone (old new : Work) (s t : Objects) : Type 0 where
   pub call : new.call ≡ old.call
   pub alive : lives t.things.queue new.caller ≡ true
   pub fits : piece_fits new.call new.piece t.things new.caller ≡ true
-  pub fewer : pieces_left new.call new.piece t.things new.caller < pieces_left old.call old.piece s.things old.caller
+  pub fewer : pieces_left new.call new.piece t.things new.caller
+      < pieces_left old.call old.piece s.things old.caller
 
 -- the same in the terms of a table of calls
-pub record GoesOnFrom (m : Meaning) (v : World) (s u : Objects) (p q : ℕ) (t r : Stage) : Type 0 where
+pub record GoesOnFrom (m : Meaning) (v : World) (s u : Objects) (p q : ℕ)
+    (t r : Stage) : Type 0 where
   pub caller : q ≡ p
   pub call : r.call ≡ t.call
   pub ready : MayCome m v u q r
   pub fewer : m.left v u q r < m.left v s p t
 
--- a read that goes on from before one piece to before another, where its open file was the first and is the second
+-- a read that goes on from before one piece to before another, where its open file was the first
+-- and is the second
 pub record ReadGoes (old new : ℕ) (before after : Option OpenRow) : Type 0 where
   pub few : nat_le new 2 ≡ true
   pub fits : read_fits new after ≡ true

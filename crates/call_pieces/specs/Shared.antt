@@ -1,4 +1,5 @@
--- The clauses that many functions of this crate share, and the pieces and fetches of the definitions on a store.
+-- The clauses that many functions of this crate share, and the pieces and fetches of the
+-- definitions on a store.
 use Rattle.std.specs.Prelude.{◌≡◌, ℕ, ◌<◌, ◌≤◌, Bool, true, false, List, ◌++◌, length, Option, Some, Result, IfOk, IfErr}
 use Rattle.kernel_model.specs.declared.OpenRow.{OpenRow}
 use Rattle.kernel_model.specs.declared.SysCall.TheVariants.{Read}
@@ -24,7 +25,8 @@ use Rattle.call_pieces.specs.Coming.{CameTo, LeftBySome, FetchCameTo, has_failed
 
 -- ---- pieces without a call of the disk
 
--- a piece left these objects and came out as the definitions have it, whatever the disk tells, with no call of it
+-- a piece left these objects and came out as the definitions have it, whatever the disk tells, with
+-- no call of it
 abbrev pub CameAtOnce : (piece : Blocks → Piece) (s : Objects) (result : After) → Type 0
 CameAtOnce piece s result =
     (blocks : Blocks) (told : Option (List (List ℕ))) (t : Stage) → Tells told blocks →
@@ -42,7 +44,8 @@ pub record EndsAtOnce {B : Type 0} {P : _} (old new : Store B P) (next : Next) :
 -- A piece left these objects and came out as the definitions have it, where the disk told its
 -- blocks before and tells them after, and these calls of it were made, whatever the calls after
 -- them do.
-abbrev pub CameBy : (piece : Blocks → List Bool → Piece) (s : Objects) (before after : Option (List (List ℕ)))
+abbrev pub CameBy : (piece : Blocks → List Bool →
+    Piece) (s : Objects) (before after : Option (List (List ℕ)))
     (result : After) (t : Stage) (log : List Bool) → Type 0
 CameBy piece s before after result t log =
     (blocks : Blocks) (rest : List Bool) → Tells before blocks →
@@ -53,8 +56,10 @@ abbrev pub CameBySome : (v : World) (piece : Blocks → List Bool → Piece) (s 
     (result : After) (t : Stage) (log : List Bool) → Type 0
 CameBySome v piece s result t log = LeftBySome v piece s result.gave (comes_after result.next t) log
 
--- a piece fails for the disk only where a call of it failed; the queue, the world and the segments of grafts stay
-pub record Serves {B : Type 0} {P : _} (old new : Store B P) (next : Next) (log : List Bool) : Type 0 where
+-- a piece fails for the disk only where a call of it failed; the queue, the world and the segments
+-- of grafts stay
+pub record Serves {B : Type 0} {P : _} (old new : Store B P) (next : Next)
+    (log : List Bool) : Type 0 where
   pub failed : is_fault next ≡ true → has_failed log ≡ true
   pub few : length log ≤ 256
   pub queue : queue_of new ≡ queue_of old
@@ -69,7 +74,8 @@ pub record FetchReady {B : Type 0} {P : _} (s : Store B P) (blocks p b : ℕ) : 
   pub block : b < s.size
   pub disk : s.size ≡ blocks
 
--- A fetch changes the cache alone, and nothing where it fails, which it does only where a call of the disk failed; the
+-- A fetch changes the cache alone, and nothing where it fails, which it does only where a call of
+-- the disk failed; the
 -- frame that it gives is in use.
 pub record FetchDone {B : Type 0} {P : _} (old new : Store B P)
     (result : Result ℕ DiskFailed) (log : List Bool) : Type 0 where
@@ -83,29 +89,36 @@ pub record FetchDone {B : Type 0} {P : _} (old new : Store B P)
 
 -- A fetch came out as the definitions have it, where the disk told its blocks before and tells them
 -- after, and these calls of it were made, whatever the calls after them do.
-abbrev pub FetchCameBy : (fetch : Blocks → List Bool → Fetched) (before after : Option (List (List ℕ)))
+abbrev pub FetchCameBy : (fetch : Blocks → List Bool →
+    Fetched) (before after : Option (List (List ℕ)))
     (result : Result ℕ DiskFailed) (cache : CacheValue) (log : List Bool) → Type 0
 FetchCameBy fetch before after result cache log =
     (blocks : Blocks) (rest : List Bool) → Tells before blocks →
     FetchCameTo (fetch blocks (log ++ rest)) blocks result cache after (length log)
 
 -- the definitions' fetch of block b for process p
-abbrev pub fetch_of : {B : Type 0} {P : _} → Store B P → (p b : ℕ) → Option (List ℕ) → Blocks → List Bool → Fetched
+abbrev pub fetch_of : {B : Type 0} {P : _} → Store B P → (p b : ℕ) → Option (List ℕ) → Blocks →
+    List Bool → Fetched
 fetch_of s p b answer =
-    λ blocks io. fetches.fetch (world_of_store s) (policies_of s 1) p b answer (cache_of s) blocks io
+    λ blocks io. fetches.fetch (world_of_store s) (policies_of s 1) p b answer
+    (cache_of s) blocks io
 
 -- the same ahead of a read
 abbrev pub fetch_ahead_of : {B : Type 0} {P : _} → Store B P → (p b : ℕ)
     → Option (List ℕ) → Blocks → List Bool → Fetched
 fetch_ahead_of s p b answer =
-    λ blocks io. fetches.fetch_ahead (world_of_store s) (policies_of s 1) p b answer (cache_of s) blocks io
+    λ blocks io. fetches.fetch_ahead (world_of_store s) (policies_of s 1) p b answer
+    (cache_of s) blocks io
 
 -- the same where no frame holds the block
-abbrev pub load_of : {B : Type 0} {P : _} → Store B P → (p b : ℕ) → Option (List ℕ) → Blocks → List Bool → Fetched
-load_of s p b answer = λ blocks io. read_block (world_of_store s) (policies_of s 1) p b answer (cache_of s) blocks io
+abbrev pub load_of : {B : Type 0} {P : _} → Store B P → (p b : ℕ) → Option (List ℕ) → Blocks →
+    List Bool → Fetched
+load_of s p b answer =
+    λ blocks io. read_block (world_of_store s) (policies_of s 1) p b answer (cache_of s) blocks io
 
 -- the same once the block was read
-abbrev pub place_of : {B : Type 0} {P : _} → Store B P → (p b : ℕ) → Option (List ℕ) → Blocks → List Bool → Fetched
+abbrev pub place_of : {B : Type 0} {P : _} → Store B P → (p b : ℕ) → Option (List ℕ) → Blocks →
+    List Bool → Fetched
 place_of s p b answer =
     let candidate = or_zero (victim_among (policies_of s 1) (cache_of s) (cache_of s).lru) in
     λ blocks io.
@@ -117,7 +130,8 @@ abbrev pub evict_of : {B : Type 0} {P : _} → Store B P → (p b f candidate : 
     → Blocks → List Bool → Fetched
 evict_of s p b f candidate bytes =
     λ blocks io.
-    fetches.evict ((cache_of s).frame f) f (replaced f candidate (new_frame p b bytes) (cache_of s)) blocks io
+    fetches.evict ((cache_of s).frame f) f
+    (replaced f candidate (new_frame p b bytes) (cache_of s)) blocks io
 
 -- ---- pieces of reads and writes
 
@@ -130,31 +144,37 @@ abbrev pub read_of : {B : Type 0} {P : _} → Store B P → (n p : ℕ) → Rang
     → Option (List ℕ) → Blocks → List Bool → Piece
 read_of s n p r answer =
     let o = objects_of s in
-    λ blocks io. read_piece n (world_of_store s) o blocks p r.fd r.i r.off r.len (o.things.file p r.fd) answer io
+    λ blocks io. read_piece n (world_of_store s) o blocks p r.fd r.i r.off r.len
+    (o.things.file p r.fd) answer io
 
 -- the first, with the open file
 abbrev pub first_of : {B : Type 0} {P : _} → Store B P → (p : ℕ) → Range → OpenRow
     → Option (List ℕ) → Blocks → List Bool → Piece
 first_of s p r opened answer =
     let block = file_block (world_of_store s) (Some opened) r.i r.off r.len in
-    λ blocks io. read_first_at block (world_of_store s) (objects_of s) blocks p r.fd r.i r.off r.len opened answer io
+    λ blocks io. read_first_at block (world_of_store s)
+    (objects_of s) blocks p r.fd r.i r.off r.len opened answer io
 
 -- the first, with the block of the disk
 abbrev pub first_at_of : {B : Type 0} {P : _} → Store B P → (p : ℕ) → Range → OpenRow → (b : ℕ)
     → Option (List ℕ) → Blocks → List Bool → Piece
 first_at_of s p r opened b answer =
-    λ blocks io. read_first (objects_of s) blocks p r.fd r.i r.off r.len opened (fetch_of s p b answer blocks io)
+    λ blocks io. read_first (objects_of s) blocks p r.fd r.i r.off r.len opened
+    (fetch_of s p b answer blocks io)
 
 -- a later one
 abbrev pub later_of : {B : Type 0} {P : _} → Store B P → (p : ℕ) → Range → OpenRow
     → Option (List ℕ) → Blocks → List Bool → Piece
 later_of s p r opened answer =
     let block = ahead_block (world_of_store s) (Some opened) in
-    λ blocks io. read_third_at block (world_of_store s) (objects_of s) blocks p r.fd r.i r.off r.len opened answer io
+    λ blocks io. read_third_at block (world_of_store s)
+    (objects_of s) blocks p r.fd r.i r.off r.len opened answer io
 
 -- the block of the disk that process p writes to
-abbrev pub block_written : {B : Type 0} {P : _} → Store B P → (p fd i off len : ℕ) → Result ℕ Refusal
-block_written s p fd i off len = file_block (world_of_store s) ((objects_of s).things.file p fd) i off len
+abbrev pub block_written : {B : Type 0} {P : _} → Store B P → (p fd i off len : ℕ) →
+    Result ℕ Refusal
+block_written s p fd i off len =
+    file_block (world_of_store s) ((objects_of s).things.file p fd) i off len
 
 -- the definitions' write of bytes by process p
 abbrev pub write_of : {B : Type 0} {P : _} → Store B P → (p fd i off : ℕ) → (bytes : List ℕ)

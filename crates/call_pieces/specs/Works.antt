@@ -42,7 +42,8 @@ abbrev pub answer_seen : Option (List ℕ) → Option Answer
 answer_seen registers = option_map bare_answer registers
 
 -- its registers are these
-pub registers_seen : (registers : Option (List ℕ)) → registers_of (answer_seen registers) ≡ registers
+pub registers_seen : (registers : Option (List ℕ)) →
+    registers_of (answer_seen registers) ≡ registers
 registers_seen None = refl
 registers_seen (Some r) = refl
 
@@ -69,7 +70,8 @@ queue_yielded pol answer zero p queue = to_back p queue
 queue_yielded pol answer (suc n) p queue = add_slice (chosen_by answer (next_of pol queue)) queue
 
 -- the queue after a piece of this number of a call of process p, with an answer or by default
-abbrev pub queue_after : PolValue → Option (List ℕ) → SysCall → ℕ → ℕ → List QueueRow → List QueueRow
+abbrev pub queue_after : PolValue → Option (List ℕ) → SysCall → ℕ → ℕ → List QueueRow →
+    List QueueRow
 queue_after pol answer Spawn n p queue = queue_joined (free_process queue 16 0) queue
 queue_after pol answer Exit n p queue = queue_without p queue
 queue_after pol answer Yield n p queue = queue_yielded pol answer n p queue

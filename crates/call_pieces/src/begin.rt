@@ -19,8 +19,8 @@ use kernel_state::Store;
 /// The highest point at which a graft may stand.
 const TOP_POINT: u32 = 5;
 
-/// A call of process p, which lives, before its first piece; or its refusal of least number that needs no object. Bit k
-/// of `images` tells whether image k is loaded.
+/// A call of process p, which lives, before its first piece; or its refusal of least number that
+/// needs no object. Bit k of `images` tells whether image k is loaded.
 pub fn early<B: Policy>(
     store: &Store<B>,
     images: u32,
@@ -31,7 +31,8 @@ pub fn early<B: Policy>(
     ensures value { (table : ImageTable) → TellsImages images table →
         stage_granted stage_of result
         ≡ plain_early TOP_POINT (world_of_store store.now) table p call.now }
-    ensures ready { IfOk result (λ w. MayCome plain (world_of_store store.now) (objects_of store.now) w.caller
+    ensures ready { IfOk result
+        (λ w. MayCome plain (world_of_store store.now) (objects_of store.now) w.caller
         (stage_of w)) }
     ensures call { IfOk result (λ w. w ≡ record { caller = p; call = call.now; piece = 0 }) }
 {
@@ -82,7 +83,8 @@ fn unless(holds: bool, refusal: Refusal) -> Option<Refusal>
 
 /// The refusal of a descriptor, or of a range of a block's bytes.
 fn range_refusal(fd: u32, off: u32, len: u32) -> Option<Refusal>
-    ensures { result ≡ refused (nat_lt 3 fd) BadFd (refused (nat_lt 512 (off + len)) BadIndex None) }
+    ensures { result ≡ refused (nat_lt 3 fd) BadFd
+        (refused (nat_lt 512 (off + len)) BadIndex None) }
 {
     if fd > 3 {
         Some(Refusal::BadFd)

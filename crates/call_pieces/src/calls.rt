@@ -47,21 +47,27 @@ pub trait Calls {
         ensures ready { IfOk result (λ w. MayCome Self.Meaning.meaning (world_of_store store.now)
             (objects_of store.now) (caller w) (stage w)) }
         ensures caller { IfOk result (λ w. caller w ≡ p) }
-        ensures few { IfOk result (λ w. Self.Meaning.meaning.left (world_of_store store.now) (objects_of store.now)
+        ensures few { IfOk result
+            (λ w. Self.Meaning.meaning.left (world_of_store store.now) (objects_of store.now)
             (caller w) (stage w) ≤ 15) };
 
-    /// The objects that the next piece of a call needs, in order. They take the place of what the list had.
+    /// The objects that the next piece of a call needs, in order. They take the place of what the
+    /// list had.
     fn need<B: Policy>(work: &Self::Work, store: &Store<B>, needs: &mut Needs)
-        requires ready { MayCome Self.Meaning.meaning (world_of_store store.now) (objects_of store.now)
+        requires ready { MayCome Self.Meaning.meaning (world_of_store store.now)
+            (objects_of store.now)
             (caller work.now) (stage work.now) }
-        ensures { needs.new ≡ Self.Meaning.meaning.need (world_of_store store.now) (objects_of store.now)
+        ensures { needs.new ≡ Self.Meaning.meaning.need (world_of_store store.now)
+            (objects_of store.now)
             (caller work.now) (stage work.now) };
 
     /// The point that the next piece of a call asks, with its arguments.
     fn asks<B: Policy>(work: &Self::Work, store: &Store<B>) -> Option<Point>
-        requires ready { MayCome Self.Meaning.meaning (world_of_store store.now) (objects_of store.now)
+        requires ready { MayCome Self.Meaning.meaning (world_of_store store.now)
+            (objects_of store.now)
             (caller work.now) (stage work.now) }
-        ensures { result ≡ Self.Meaning.meaning.asks (world_of_store store.now) (objects_of store.now)
+        ensures { result ≡ Self.Meaning.meaning.asks (world_of_store store.now)
+            (objects_of store.now)
             (caller work.now) (stage work.now) };
 
     /// The next piece of a call, with an answer that the point accepts which it asks, or by
@@ -73,14 +79,17 @@ pub trait Calls {
         disk: &mut D,
         log: &mut DiskLog,
     ) -> After
-        requires ready { MayCome Self.Meaning.meaning (world_of_store store.old) (objects_of store.old)
+        requires ready { MayCome Self.Meaning.meaning (world_of_store store.old)
+            (objects_of store.old)
             (caller work.old) (stage work.old) }
         requires right { IsRightAnswer (objects_of store.old)
-            (Self.Meaning.meaning.asks (world_of_store store.old) (objects_of store.old) (caller work.old)
+            (Self.Meaning.meaning.asks (world_of_store store.old) (objects_of store.old)
+            (caller work.old)
             (stage work.old)) answer }
         requires disk { store.old.size ≡ D.block_count disk.old }
         requires fresh { log.old ≡ [] }
-        ensures does { (images : ImageTable) (blocks : Blocks) (rest : List Bool) → Tells (D.blocks disk.old) blocks →
+        ensures does { (images : ImageTable) (blocks : Blocks) (rest : List Bool) →
+            Tells (D.blocks disk.old) blocks →
             CameTo (Self.Meaning.meaning.piece (world_of_store store.old) images
             (objects_of store.old) blocks
             (caller work.old) (stage work.old) (answer_seen answer) (log.new ++ rest))
@@ -94,7 +103,8 @@ pub trait Calls {
             (objects_of store.new) result.gave
             (comes_after result.next (stage work.new)) log.new }
         ensures gone { goes_on result.next ≡ true →
-            GoesOnFrom Self.Meaning.meaning (world_of_store store.old) (objects_of store.old) (objects_of store.new)
+            GoesOnFrom Self.Meaning.meaning (world_of_store store.old) (objects_of store.old)
+            (objects_of store.new)
             (caller work.old) (caller work.new) (stage work.old) (stage work.new) }
         ensures failed { is_fault result.next ≡ true → has_failed log.new ≡ true }
         ensures world { world_of_store store.new ≡ world_of_store store.old }

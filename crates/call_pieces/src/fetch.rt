@@ -30,15 +30,18 @@ pub(crate) fn fetch<B: Policy, D: Disk>(
     answer: Option<[u32; 4]>,
 ) -> Result<u8, Failed>
     requires ready { FetchReady store.old (D.block_count disk.old) p b }
-    requires right { IfSome answer (λ a. is_some ((cache_of store.old).frame (slice_index a 0)) ≡ true) }
+    requires right { IfSome answer (λ a. is_some ((cache_of store.old).frame (slice_index a 0))
+        ≡ true) }
     requires fresh { log.old ≡ [] }
-    ensures does { FetchCameBy (fetch_of store.old p b answer) (D.blocks disk.old) (D.blocks disk.new)
+    ensures does { FetchCameBy (fetch_of store.old p b answer) (D.blocks disk.old)
+        (D.blocks disk.new)
         result (cache_of store.new) log.new }
     ensures some { FetchLeftBySome (world_of_store store.old) (fetch_of store.old p b answer)
         result (cache_of store.new) log.new }
     ensures done { FetchDone store.old store.new result log.new }
     ensures same_size { D.block_count disk.new ≡ D.block_count disk.old }
-    ensures calls { GoesOn (D.faults disk.old) (D.faults disk.new) (D.plan disk.old) (D.plan disk.new) log.old log.new }
+    ensures calls { GoesOn (D.faults disk.old) (D.faults disk.new) (D.plan disk.old)
+        (D.plan disk.new) log.old log.new }
 {
     match store.find(b) {
         Some(f) => {
@@ -59,15 +62,18 @@ pub(crate) fn fetch_ahead<B: Policy, D: Disk>(
     answer: Option<[u32; 4]>,
 ) -> Result<u8, Failed>
     requires ready { FetchReady store.old (D.block_count disk.old) p b }
-    requires right { IfSome answer (λ a. is_some ((cache_of store.old).frame (slice_index a 0)) ≡ true) }
+    requires right { IfSome answer (λ a. is_some ((cache_of store.old).frame (slice_index a 0))
+        ≡ true) }
     requires fresh { log.old ≡ [] }
-    ensures does { FetchCameBy (fetch_ahead_of store.old p b answer) (D.blocks disk.old) (D.blocks disk.new)
+    ensures does { FetchCameBy (fetch_ahead_of store.old p b answer) (D.blocks disk.old)
+        (D.blocks disk.new)
         result (cache_of store.new) log.new }
     ensures some { FetchLeftBySome (world_of_store store.old) (fetch_ahead_of store.old p b answer)
         result (cache_of store.new) log.new }
     ensures done { FetchDone store.old store.new result log.new }
     ensures same_size { D.block_count disk.new ≡ D.block_count disk.old }
-    ensures calls { GoesOn (D.faults disk.old) (D.faults disk.new) (D.plan disk.old) (D.plan disk.new) log.old log.new }
+    ensures calls { GoesOn (D.faults disk.old) (D.faults disk.new) (D.plan disk.old)
+        (D.plan disk.new) log.old log.new }
 {
     match store.find(b) {
         Some(f) => Ok(f),
@@ -85,16 +91,19 @@ fn load<B: Policy, D: Disk>(
     answer: Option<[u32; 4]>,
 ) -> Result<u8, Failed>
     requires ready { FetchReady store.old (D.block_count disk.old) p b }
-    requires right { IfSome answer (λ a. is_some ((cache_of store.old).frame (slice_index a 0)) ≡ true) }
+    requires right { IfSome answer (λ a. is_some ((cache_of store.old).frame (slice_index a 0))
+        ≡ true) }
     requires fresh { log.old ≡ [] }
     requires missing { frame_of_block (cache_of store.old) b ≡ None }
-    ensures does { FetchCameBy (load_of store.old p b answer) (D.blocks disk.old) (D.blocks disk.new)
+    ensures does { FetchCameBy (load_of store.old p b answer) (D.blocks disk.old)
+        (D.blocks disk.new)
         result (cache_of store.new) log.new }
     ensures some { FetchLeftBySome (world_of_store store.old) (load_of store.old p b answer)
         result (cache_of store.new) log.new }
     ensures done { FetchDone store.old store.new result log.new }
     ensures same_size { D.block_count disk.new ≡ D.block_count disk.old }
-    ensures calls { GoesOn (D.faults disk.old) (D.faults disk.new) (D.plan disk.old) (D.plan disk.new) log.old log.new }
+    ensures calls { GoesOn (D.faults disk.old) (D.faults disk.new) (D.plan disk.old)
+        (D.plan disk.new) log.old log.new }
 {
     let mut bytes = [0; BLOCK_BYTES];
     match log.read(disk, b, &mut bytes) {
@@ -103,8 +112,8 @@ fn load<B: Policy, D: Disk>(
     }
 }
 
-/// Puts block b, which no frame holds, into the lowest free frame, or else into the one that the answer
-/// chooses, or by default into the candidate.
+/// Puts block b, which no frame holds, into the lowest free frame, or else into the one that the
+/// answer chooses, or by default into the candidate.
 fn place<B: Policy, D: Disk>(
     store: &mut Store<B>,
     disk: &mut D,
@@ -115,18 +124,23 @@ fn place<B: Policy, D: Disk>(
     bytes: &[u8; 512],
 ) -> Result<u8, Failed>
     requires ready { FetchReady store.old (D.block_count disk.old) p b }
-    requires right { IfSome answer (λ a. is_some ((cache_of store.old).frame (slice_index a 0)) ≡ true) }
+    requires right { IfSome answer (λ a. is_some ((cache_of store.old).frame (slice_index a 0))
+        ≡ true) }
     requires read { log.old ≡ false ∷ [] }
     requires missing { frame_of_block (cache_of store.old) b ≡ None }
     ensures outcome { (blocks : Blocks) (rest : List Bool) → blocks b ≡ bytes.now →
-        FetchLeft (place_of store.old p b answer blocks (log.new ++ rest)) blocks result (cache_of store.new)
+        FetchLeft (place_of store.old p b answer blocks (log.new ++ rest)) blocks result
+        (cache_of store.new)
         (length log.new) }
-    ensures tells { (blocks : Blocks) (rest : List Bool) → blocks b ≡ bytes.now → Tells (D.blocks disk.old) blocks →
-        Tells (D.blocks disk.new) (blocks_after (place_of store.old p b answer blocks (log.new ++ rest)) blocks) }
+    ensures tells { (blocks : Blocks) (rest : List Bool) → blocks b ≡ bytes.now →
+        Tells (D.blocks disk.old) blocks →
+        Tells (D.blocks disk.new)
+        (blocks_after (place_of store.old p b answer blocks (log.new ++ rest)) blocks) }
     ensures first { (rest : List Bool) → disk_fails (log.new ++ rest) 0 ≡ false }
     ensures done { FetchDone store.old store.new result log.new }
     ensures same_size { D.block_count disk.new ≡ D.block_count disk.old }
-    ensures calls { GoesOn (D.faults disk.old) (D.faults disk.new) (D.plan disk.old) (D.plan disk.new) log.old log.new }
+    ensures calls { GoesOn (D.faults disk.old) (D.faults disk.new) (D.plan disk.old)
+        (D.plan disk.new) log.old log.new }
 {
     if let Some(f) = store.free() {
         store.fill(f, p, b, bytes);
@@ -143,7 +157,8 @@ fn place<B: Policy, D: Disk>(
 
 /// The frame that an answer chooses, which is in use, or else the candidate.
 fn chosen<B: Policy>(store: &Store<B>, answer: Option<[u32; 4]>, candidate: u8) -> u8
-    requires right { IfSome answer (λ a. is_some ((cache_of store.now).frame (slice_index a 0)) ≡ true) }
+    requires right { IfSome answer (λ a. is_some ((cache_of store.now).frame (slice_index a 0))
+        ≡ true) }
     requires candidate { in_use candidate store.now.cache ≡ true }
     ensures value { result ≡ chosen_by answer candidate }
     ensures in_cache { in_use result store.now.cache ≡ true }
@@ -154,7 +169,8 @@ fn chosen<B: Policy>(store: &Store<B>, answer: Option<[u32; 4]>, candidate: u8) 
     }
 }
 
-/// Puts block b, which no frame holds, into frame f, which is in use: what it held is written first, if it is dirty.
+/// Puts block b, which no frame holds, into frame f, which is in use: what it held is written
+/// first, if it is dirty.
 fn evict<B: Policy, D: Disk>(
     store: &mut Store<B>,
     disk: &mut D,
@@ -171,7 +187,8 @@ fn evict<B: Policy, D: Disk>(
     requires frame { in_use f store.old.cache ≡ true }
     requires candidate { in_use candidate store.old.cache ≡ true }
     ensures outcome { (blocks : Blocks) (rest : List Bool) →
-        FetchLeft (evict_of store.old p b f candidate bytes.now blocks (log.new ++ rest)) blocks result
+        FetchLeft (evict_of store.old p b f candidate bytes.now blocks (log.new
+        ++ rest)) blocks result
         (cache_of store.new) (length log.new) }
     ensures tells { (blocks : Blocks) (rest : List Bool) → Tells (D.blocks disk.old) blocks →
         Tells (D.blocks disk.new) (blocks_after
@@ -179,7 +196,8 @@ fn evict<B: Policy, D: Disk>(
     ensures first { (rest : List Bool) → disk_fails (log.new ++ rest) 0 ≡ false }
     ensures done { FetchDone store.old store.new result log.new }
     ensures same_size { D.block_count disk.new ≡ D.block_count disk.old }
-    ensures calls { GoesOn (D.faults disk.old) (D.faults disk.new) (D.plan disk.old) (D.plan disk.new) log.old log.new }
+    ensures calls { GoesOn (D.faults disk.old) (D.faults disk.new) (D.plan disk.old)
+        (D.plan disk.new) log.old log.new }
 {
     match store.dirty_block(f) {
         Some(old) => evict_dirty(store, disk, log, p, b, f, candidate, bytes, old),
@@ -190,7 +208,8 @@ fn evict<B: Policy, D: Disk>(
     }
 }
 
-/// Puts block b, which no frame holds, into frame f, which is in use and dirty: its block is written first.
+/// Puts block b, which no frame holds, into frame f, which is in use and dirty: its block is
+/// written first.
 fn evict_dirty<B: Policy, D: Disk>(
     store: &mut Store<B>,
     disk: &mut D,
@@ -207,10 +226,12 @@ fn evict_dirty<B: Policy, D: Disk>(
     requires missing { frame_of_block (cache_of store.old) b ≡ None }
     requires frame { in_use f store.old.cache ≡ true }
     requires candidate { in_use candidate store.old.cache ≡ true }
-    requires dirty { option_map (λ (x : FrameValue). x.block) (dirty_value ((cache_of store.old).frame f)) ≡ Some old }
+    requires dirty { option_map (λ (x : FrameValue). x.block)
+        (dirty_value ((cache_of store.old).frame f)) ≡ Some old }
     requires evicted { old < store.old.size }
     ensures outcome { (blocks : Blocks) (rest : List Bool) →
-        FetchLeft (evict_of store.old p b f candidate bytes.now blocks (log.new ++ rest)) blocks result
+        FetchLeft (evict_of store.old p b f candidate bytes.now blocks (log.new
+        ++ rest)) blocks result
         (cache_of store.new) (length log.new) }
     ensures tells { (blocks : Blocks) (rest : List Bool) → Tells (D.blocks disk.old) blocks →
         Tells (D.blocks disk.new) (blocks_after
@@ -218,7 +239,8 @@ fn evict_dirty<B: Policy, D: Disk>(
     ensures first { (rest : List Bool) → disk_fails (log.new ++ rest) 0 ≡ false }
     ensures done { FetchDone store.old store.new result log.new }
     ensures same_size { D.block_count disk.new ≡ D.block_count disk.old }
-    ensures calls { GoesOn (D.faults disk.old) (D.faults disk.new) (D.plan disk.old) (D.plan disk.new) log.old log.new }
+    ensures calls { GoesOn (D.faults disk.old) (D.faults disk.new) (D.plan disk.old)
+        (D.plan disk.new) log.old log.new }
 {
     let mut evicted = [0; BLOCK_BYTES];
     store.copy_frame(f, &mut evicted);

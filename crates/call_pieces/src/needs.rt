@@ -88,7 +88,8 @@ impl Needs {
     /// The user lock that `lock` takes: its holder is a blocker too.
     fn user_lock(&mut self, u: u8)
         requires { length self.old < NEEDS }
-        ensures { self.new ≡ self.old ++ record { object = Lock u; mode = Exclusive; by_user = true } ∷ [] }
+        ensures { self.new ≡ self.old
+            ++ record { object = Lock u; mode = Exclusive; by_user = true } ∷ [] }
     {
         self.list.push(Need {
             object: Object::Lock(u),
@@ -100,7 +101,8 @@ impl Needs {
     /// The grafts at all points of process p.
     fn grafts(&mut self, p: u8)
         requires { length self.old + 16 ≤ NEEDS }
-        ensures { self.new ≡ self.old ++ map (λ pt. spec.exclusive (Graft p pt)) (range_with_len 0 16) }
+        ensures { self.new ≡ self.old
+            ++ map (λ pt. spec.exclusive (Graft p pt)) (range_with_len 0 16) }
     {
         for pt in 0..16u8 {
             self.exclusive(Object::Graft(p, pt));
@@ -110,7 +112,8 @@ impl Needs {
     /// All open files of process p.
     fn files(&mut self, p: u8)
         requires { length self.old + 4 ≤ NEEDS }
-        ensures { self.new ≡ self.old ++ map (λ fd. spec.exclusive (OpenFile p fd)) (range_with_len 0 4) }
+        ensures { self.new ≡ self.old
+            ++ map (λ fd. spec.exclusive (OpenFile p fd)) (range_with_len 0 4) }
     {
         for fd in 0..4u8 {
             self.exclusive(Object::OpenFile(p, fd));
@@ -149,10 +152,12 @@ impl Needs {
         }
     }
 
-    /// The cache, and where a frame must be chosen for block b the policy and the point of the candidate's owner.
+    /// The cache, and where a frame must be chosen for block b the policy and the point of the
+    /// candidate's owner.
     fn fetch<B: Policy>(&mut self, store: &Store<B>, b: u32)
         requires room { length self.old + 4 ≤ NEEDS }
-        ensures { self.new ≡ self.old ++ spec.fetch_needs (world_of_store store.now) (objects_of store.now) (Ok b) }
+        ensures { self.new ≡ self.old
+            ++ spec.fetch_needs (world_of_store store.now) (objects_of store.now) (Ok b) }
     {
         self.exclusive(Object::Cache);
         if let Some(f) = candidate_for(store, b) {
@@ -167,8 +172,10 @@ impl Needs {
         requires alive { lives (queue_of store.now) p ≡ true }
         requires descriptor { fd < 4 }
         requires room { length self.old + 4 ≤ NEEDS }
-        ensures { self.new ≡ self.old ++ spec.fetch_needs (world_of_store store.now) (objects_of store.now)
-            (spec.file_block (world_of_store store.now) ((objects_of store.now).things.file p fd) i off len) }
+        ensures { self.new ≡ self.old
+            ++ spec.fetch_needs (world_of_store store.now) (objects_of store.now)
+            (spec.file_block (world_of_store store.now)
+            ((objects_of store.now).things.file p fd) i off len) }
     {
         if let Ok(b) = store.block_of(p, fd, i, off, len) {
             self.fetch(store, b);
@@ -181,8 +188,10 @@ impl Needs {
         requires descriptor { fd < 4 }
         requires fits { read_fits 2 ((objects_of store.now).things.file p fd) ≡ true }
         requires room { length self.old + 4 ≤ NEEDS }
-        ensures { self.new ≡ self.old ++ spec.fetch_needs (world_of_store store.now) (objects_of store.now)
-            (spec.ahead_block (world_of_store store.now) ((objects_of store.now).things.file p fd)) }
+        ensures { self.new ≡ self.old
+            ++ spec.fetch_needs (world_of_store store.now) (objects_of store.now)
+            (spec.ahead_block (world_of_store store.now)
+            ((objects_of store.now).things.file p fd)) }
     {
         if let Some(opened) = store.file(p, fd) {
             self.fetch(store, store.block_ahead(&opened));
@@ -190,7 +199,8 @@ impl Needs {
     }
 }
 
-/// The candidate for eviction, where a frame must be chosen for block b: no frame holds it, and none is free.
+/// The candidate for eviction, where a frame must be chosen for block b: no frame holds it, and
+/// none is free.
 pub(crate) fn candidate_for<B: Policy>(store: &Store<B>, b: u32) -> Option<u8>
     ensures value { result ≡ spec.candidate_for (world_of_store store.now) (policies_of store.now 1)
         (cache_of store.now) b }
@@ -202,7 +212,8 @@ pub(crate) fn candidate_for<B: Policy>(store: &Store<B>, b: u32) -> Option<u8>
     store.candidate()
 }
 
-/// The objects that the next piece of a call needs, in order. They take the place of what the list had.
+/// The objects that the next piece of a call needs, in order. They take the place of what the list
+/// had.
 pub fn need<B: Policy>(work: &Work, store: &Store<B>, needs: &mut Needs)
     requires ready { MayCome plain (world_of_store store.now) (objects_of store.now) work.now.caller
         (stage_of work.now) }
@@ -305,7 +316,8 @@ fn read_needs<B: Policy>(piece: u8, store: &Store<B>, p: u8, r: Range, needs: &m
     }
 }
 
-/// The queue, which shows whether the receiver lives, and the accounts up to the one that shows the refusal.
+/// The queue, which shows whether the receiver lives, and the accounts up to the one that shows the
+/// refusal.
 fn give_needs<B: Policy>(store: &Store<B>, p: u8, q: u8, kind: Kind, n: u32, needs: &mut Needs)
     requires alive { lives (queue_of store.now) p ≡ true }
     requires empty { needs.old ≡ [] }

@@ -47,19 +47,22 @@ pub fn piece<B: Policy, D: Disk>(
         (log.new ++ rest))
         (objects_of store.new) (D.blocks disk.new) result.gave
         (comes_after result.next (stage_of work.new)) (length log.new) }
-    ensures some { LeftBySome (world_of_store store.old) (λ blocks io. piece_of work.old.call work.old.piece
+    ensures some { LeftBySome (world_of_store store.old)
+        (λ blocks io. piece_of work.old.call work.old.piece
         (world_of_store store.old) (objects_of store.old) blocks
         work.old.caller answer io)
         (objects_of store.new) result.gave
         (comes_after result.next (stage_of work.new)) log.new }
     ensures queue { queue_of store.new ≡ queue_after
-        (policies_of store.old 2) answer work.old.call work.old.piece work.old.caller (queue_of store.old) }
+        (policies_of store.old 2) answer work.old.call work.old.piece work.old.caller
+        (queue_of store.old) }
     ensures gone { goes_on result.next ≡ true →
         HasGone work.old work.new (objects_of store.old) (objects_of store.new) }
     ensures failed { is_fault result.next ≡ true → has_failed log.new ≡ true }
     ensures world { world_of_store store.new ≡ world_of_store store.old }
     ensures same_size { D.block_count disk.new ≡ D.block_count disk.old }
-    ensures calls { GoesOn (D.faults disk.old) (D.faults disk.new) (D.plan disk.old) (D.plan disk.new) log.old log.new }
+    ensures calls { GoesOn (D.faults disk.old) (D.faults disk.new) (D.plan disk.old)
+        (D.plan disk.new) log.old log.new }
     ensures few { length log.new ≤ 256 }
     ensures memory { SegmentsStay store.old.ram store.new.ram }
 {

@@ -44,7 +44,8 @@ pub fn asks<B: Policy>(work: &Work, store: &Store<B>) -> Option<Point>
 
 /// The scheduling point of the candidate, before the second piece of a yield.
 fn turn_ask<B: Policy>(piece: u8, store: &Store<B>) -> Option<Point>
-    ensures { result ≡ spec.yield_ask piece (world_of_store store.now) (objects_of store.now).things }
+    ensures { result ≡ spec.yield_ask piece (world_of_store store.now)
+        (objects_of store.now).things }
 {
     if piece == 0 {
         return None;
@@ -82,7 +83,8 @@ fn file_ask<B: Policy>(store: &Store<B>, p: u8, fd: u8) -> Option<Point>
     requires alive { lives (queue_of store.now) p ≡ true }
     requires descriptor { fd < 4 }
     requires fits { read_fits 1 ((objects_of store.now).things.file p fd) ≡ true }
-    ensures { result ≡ spec.read_ask 1 (world_of_store store.now) (objects_of store.now).things p fd 0 0 0 }
+    ensures { result ≡ spec.read_ask 1 (world_of_store store.now)
+        (objects_of store.now).things p fd 0 0 0 }
 {
     let opened = store.file(p, fd)?;
     let default = store.ahead(&opened);
@@ -98,7 +100,8 @@ fn file_ask<B: Policy>(store: &Store<B>, p: u8, fd: u8) -> Option<Point>
     })
 }
 
-/// The point that a fetch of block i of an open file asks, of which bytes off to off + len are meant.
+/// The point that a fetch of block i of an open file asks, of which bytes off to off + len are
+/// meant.
 fn block_ask<B: Policy>(
     store: &Store<B>,
     p: u8,
@@ -110,7 +113,8 @@ fn block_ask<B: Policy>(
     requires alive { lives (queue_of store.now) p ≡ true }
     requires descriptor { fd < 4 }
     ensures { result ≡ spec.fetch_ask (world_of_store store.now) (objects_of store.now).things
-        (spec.file_block (world_of_store store.now) ((objects_of store.now).things.file p fd) i off len) }
+        (spec.file_block (world_of_store store.now)
+        ((objects_of store.now).things.file p fd) i off len) }
 {
     match store.block_of(p, fd, i, off, len) {
         Ok(b) => victim_ask(store, b),
@@ -120,7 +124,8 @@ fn block_ask<B: Policy>(
 
 /// The point of the owner of the candidate, where a frame must be chosen for block b.
 fn victim_ask<B: Policy>(store: &Store<B>, b: u32) -> Option<Point>
-    ensures { result ≡ spec.fetch_ask (world_of_store store.now) (objects_of store.now).things (Ok b) }
+    ensures { result ≡ spec.fetch_ask (world_of_store store.now) (objects_of store.now).things
+        (Ok b) }
 {
     let f = candidate_for(store, b)?;
     let owner = store.owner(f);

@@ -28,8 +28,10 @@ pub(crate) fn spawn<B: Policy>(store: &mut Store<B>) -> After
     ensures does { CameAtOnce (λ blocks.
         spawn_piece (objects_of store.old) (free_process (queue_of store.old) 16 0) blocks)
         (objects_of store.new) result }
-    ensures queue { queue_of store.new ≡ queue_joined (free_process (queue_of store.old) 16 0) (queue_of store.old) }
-    ensures living { (q : ℕ) → lives (queue_of store.old) q ≡ true → lives (queue_of store.new) q ≡ true }
+    ensures queue { queue_of store.new
+        ≡ queue_joined (free_process (queue_of store.old) 16 0) (queue_of store.old) }
+    ensures living { (q : ℕ) → lives (queue_of store.old) q ≡ true →
+        lives (queue_of store.new) q ≡ true }
     ensures ended { EndsAtOnce store.old store.new result.next }
 {
     match store.spawn() {
@@ -54,7 +56,8 @@ pub(crate) fn exit<B: Policy>(store: &mut Store<B>, p: u8) -> After
 /// The process that an answer chooses, which lives, or else the one that is next by default.
 fn turn<B: Policy>(store: &Store<B>, answer: Option<[u32; 4]>) -> u8
     requires right { IfSome answer (λ a. lives (queue_of store.now) (slice_index a 0) ≡ true) }
-    ensures value { result ≡ chosen_by answer (next_of (policies_of store.now 2) (queue_of store.now)) }
+    ensures value { result
+        ≡ chosen_by answer (next_of (policies_of store.now 2) (queue_of store.now)) }
     ensures lives { lives (queue_of store.now) result ≡ true }
 {
     store.procs.rows();
@@ -77,7 +80,8 @@ pub(crate) fn yield_turn<B: Policy>(
     requires right { IfSome answer (λ a. lives (queue_of store.old) (slice_index a 0) ≡ true) }
     ensures does { (blocks : Blocks) (told : Option (List (List ℕ))) → Tells told blocks →
         CameTo (yield_piece piece.old (objects_of store.old) p answer blocks)
-        (objects_of store.new) told result.gave (comes_after result.next (stage Yield piece.new)) 0 }
+        (objects_of store.new) told result.gave
+        (comes_after result.next (stage Yield piece.new)) 0 }
     ensures queue { queue_of store.new ≡ queue_yielded (policies_of store.old 2) answer piece.old p
         (queue_of store.old) }
     ensures living { (q : ℕ) → lives (queue_of store.new) q ≡ lives (queue_of store.old) q }

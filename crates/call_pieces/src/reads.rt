@@ -46,20 +46,24 @@ pub(crate) fn read<B: Policy, D: Disk>(
     requires alive { lives (queue_of store.old) p ≡ true }
     requires descriptor { r.fd < 4 }
     requires inside { r.off + r.len ≤ 512 }
-    requires fits { piece_fits (Read r.fd r.i r.off r.len) piece.old (objects_of store.old).things p ≡ true }
+    requires fits { piece_fits (Read r.fd r.i r.off r.len) piece.old (objects_of store.old).things p
+        ≡ true }
     requires right { IsRightAnswer (objects_of store.old)
-        (read_ask piece.old (world_of_store store.old) (objects_of store.old).things p r.fd r.i r.off r.len) answer }
+        (read_ask piece.old (world_of_store store.old)
+        (objects_of store.old).things p r.fd r.i r.off r.len) answer }
     requires disk { store.old.size ≡ D.block_count disk.old }
     requires fresh { log.old ≡ [] }
     ensures does { CameBy (read_of store.old piece.old p r answer) (objects_of store.new)
         (D.blocks disk.old) (D.blocks disk.new) result (read_stage r piece.new) log.new }
-    ensures some { CameBySome (world_of_store store.old) (read_of store.old piece.old p r answer) (objects_of store.new)
+    ensures some { CameBySome (world_of_store store.old) (read_of store.old piece.old p r answer)
+        (objects_of store.new)
         result (read_stage r piece.new) log.new }
     ensures next { goes_on result.next ≡ true → ReadGoes piece.old piece.new
         ((objects_of store.old).things.file p r.fd) ((objects_of store.new).things.file p r.fd) }
     ensures serves { Serves store.old store.new result.next log.new }
     ensures same_size { D.block_count disk.new ≡ D.block_count disk.old }
-    ensures calls { GoesOn (D.faults disk.old) (D.faults disk.new) (D.plan disk.old) (D.plan disk.new) log.old log.new }
+    ensures calls { GoesOn (D.faults disk.old) (D.faults disk.new) (D.plan disk.old)
+        (D.plan disk.new) log.old log.new }
 {
     let Some(opened) = store.file(p, r.fd as u8) else {
         return came(Next::Fails(Refusal::BadFd));
@@ -84,7 +88,8 @@ fn first<B: Policy, D: Disk>(
 ) -> After
     requires alive { lives (queue_of store.old) p ≡ true }
     requires descriptor { r.fd < 4 }
-    requires right { IfSome answer (λ a. is_some ((cache_of store.old).frame (slice_index a 0)) ≡ true) }
+    requires right { IfSome answer (λ a. is_some ((cache_of store.old).frame (slice_index a 0))
+        ≡ true) }
     requires inside { r.off + r.len ≤ 512 }
     requires number { piece.old ≡ 0 }
     requires file { (objects_of store.old).things.file p r.fd ≡ Some opened }
@@ -92,13 +97,15 @@ fn first<B: Policy, D: Disk>(
     requires fresh { log.old ≡ [] }
     ensures does { CameBy (first_of store.old p r opened answer) (objects_of store.new)
         (D.blocks disk.old) (D.blocks disk.new) result (read_stage r piece.new) log.new }
-    ensures some { CameBySome (world_of_store store.old) (first_of store.old p r opened answer) (objects_of store.new)
+    ensures some { CameBySome (world_of_store store.old) (first_of store.old p r opened answer)
+        (objects_of store.new)
         result (read_stage r piece.new) log.new }
     ensures next { goes_on result.next ≡ true →
         ReadGoes 0 piece.new (Some opened) ((objects_of store.new).things.file p r.fd) }
     ensures serves { Serves store.old store.new result.next log.new }
     ensures same_size { D.block_count disk.new ≡ D.block_count disk.old }
-    ensures calls { GoesOn (D.faults disk.old) (D.faults disk.new) (D.plan disk.old) (D.plan disk.new) log.old log.new }
+    ensures calls { GoesOn (D.faults disk.old) (D.faults disk.new) (D.plan disk.old)
+        (D.plan disk.new) log.old log.new }
 {
     match store.block_of(p, r.fd as u8, r.i, r.off, r.len) {
         Ok(b) => first_at(piece, store, disk, log, p, r, answer, opened, b),
@@ -120,7 +127,8 @@ fn first_at<B: Policy, D: Disk>(
 ) -> After
     requires alive { lives (queue_of store.old) p ≡ true }
     requires descriptor { r.fd < 4 }
-    requires right { IfSome answer (λ a. is_some ((cache_of store.old).frame (slice_index a 0)) ≡ true) }
+    requires right { IfSome answer (λ a. is_some ((cache_of store.old).frame (slice_index a 0))
+        ≡ true) }
     requires inside { r.off + r.len ≤ 512 }
     requires number { piece.old ≡ 0 }
     requires opened { IsSoundFile (world_of_store store.old) opened }
@@ -136,7 +144,8 @@ fn first_at<B: Policy, D: Disk>(
         ReadGoes 0 piece.new (Some opened) ((objects_of store.new).things.file p r.fd) }
     ensures serves { Serves store.old store.new result.next log.new }
     ensures same_size { D.block_count disk.new ≡ D.block_count disk.old }
-    ensures calls { GoesOn (D.faults disk.old) (D.faults disk.new) (D.plan disk.old) (D.plan disk.new) log.old log.new }
+    ensures calls { GoesOn (D.faults disk.old) (D.faults disk.new) (D.plan disk.old)
+        (D.plan disk.new) log.old log.new }
 {
     let Ok(f) = fetch(store, disk, log, p, b, answer) else {
         return came(Next::Fails(Refusal::DiskFault));
@@ -159,7 +168,8 @@ fn first_at<B: Policy, D: Disk>(
 fn reach<B: Policy>(store: &Store<B>, answer: Option<[u32; 4]>, opened: &OpenRow) -> Ahead
     requires opened { IsSoundFile (world_of_store store.now) opened.now }
     requires right { IfSome answer (λ a. (slice_index a 1 ≤ 8) ×
-        (slice_index a 0 + slice_index a 1 ≤ blocks_of (world_of_store store.now) opened.now.file)) }
+        (slice_index a 0 + slice_index a 1 ≤ blocks_of
+        (world_of_store store.now) opened.now.file)) }
     ensures value { let pol = policies_of store.now 0 in
         ahead_by answer (ahead_default (world_of_store store.now) pol (Some opened.now)) ≡
         (result.start, result.count) }
@@ -193,7 +203,8 @@ fn second<B: Policy>(
         let pol = policies_of store.old 0 in
         let ahead = ahead_by answer (ahead_default (world_of_store store.old) pol (Some opened)) in
         CameTo (read_second (objects_of store.old) blocks p r.fd r.i r.off r.len opened ahead)
-        (objects_of store.new) told result.gave (comes_after result.next (read_stage r piece.new)) 0 }
+        (objects_of store.new) told result.gave
+        (comes_after result.next (read_stage r piece.new)) 0 }
     ensures queue { queue_of store.new ≡ queue_of store.old }
     ensures next { goes_on result.next ≡ true →
         ReadGoes 1 piece.new (Some opened) ((objects_of store.new).things.file p r.fd) }
@@ -227,20 +238,23 @@ fn later<B: Policy, D: Disk>(
 ) -> After
     requires alive { lives (queue_of store.old) p ≡ true }
     requires descriptor { r.fd < 4 }
-    requires right { IfSome answer (λ a. is_some ((cache_of store.old).frame (slice_index a 0)) ≡ true) }
+    requires right { IfSome answer (λ a. is_some ((cache_of store.old).frame (slice_index a 0))
+        ≡ true) }
     requires opened { IsSoundFile (world_of_store store.old) opened }
     requires some { 1 ≤ opened.count }
     requires disk { store.old.size ≡ D.block_count disk.old }
     requires fresh { log.old ≡ [] }
     ensures does { CameBy (later_of store.old p r opened answer) (objects_of store.new)
         (D.blocks disk.old) (D.blocks disk.new) result (read_stage r 2) log.new }
-    ensures some { CameBySome (world_of_store store.old) (later_of store.old p r opened answer) (objects_of store.new)
+    ensures some { CameBySome (world_of_store store.old) (later_of store.old p r opened answer)
+        (objects_of store.new)
         result (read_stage r 2) log.new }
     ensures next { goes_on result.next ≡ true →
         ReadGoes 2 2 (Some opened) ((objects_of store.new).things.file p r.fd) }
     ensures serves { Serves store.old store.new result.next log.new }
     ensures same_size { D.block_count disk.new ≡ D.block_count disk.old }
-    ensures calls { GoesOn (D.faults disk.old) (D.faults disk.new) (D.plan disk.old) (D.plan disk.new) log.old log.new }
+    ensures calls { GoesOn (D.faults disk.old) (D.faults disk.new) (D.plan disk.old)
+        (D.plan disk.new) log.old log.new }
 {
     let b = store.block_ahead(&opened);
     let Ok(_) = fetch_ahead(store, disk, log, p, b, answer) else {

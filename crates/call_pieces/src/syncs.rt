@@ -20,8 +20,8 @@ use kernel_model::{BLOCK_BYTES, Refusal, Reply};
 use kernel_state::Store;
 use vino_base::{Disk, Failed};
 
-/// Writes the dirty frames in the order of their numbers; each is clean then. Where a call of the disk fails, what was
-/// written before stays written.
+/// Writes the dirty frames in the order of their numbers; each is clean then. Where a call of the
+/// disk fails, what was written before stays written.
 pub(crate) fn sync<B: Policy, D: Disk>(
     store: &mut Store<B>,
     disk: &mut D,
@@ -29,18 +29,23 @@ pub(crate) fn sync<B: Policy, D: Disk>(
 ) -> After
     requires disk { store.old.size ≡ D.block_count disk.old }
     requires fresh { log.old ≡ [] }
-    ensures does { (blocks : Blocks) (rest : List Bool) (t : Stage) → Tells (D.blocks disk.old) blocks →
-        CameTo (sync_from (world_of_store store.old).frames 0 0 (objects_of store.old) blocks (log.new ++ rest))
-        (objects_of store.new) (D.blocks disk.new) result.gave (comes_after result.next t) (length log.new) }
+    ensures does { (blocks : Blocks) (rest : List Bool) (t : Stage) →
+        Tells (D.blocks disk.old) blocks →
+        CameTo (sync_from (world_of_store store.old).frames 0 0 (objects_of store.old) blocks
+        (log.new ++ rest))
+        (objects_of store.new) (D.blocks disk.new) result.gave (comes_after result.next t)
+        (length log.new) }
     ensures left { (blocks : Blocks) (rest : List Bool) (t : Stage) →
-        LeftBy (sync_from (world_of_store store.old).frames 0 0 (objects_of store.old) blocks (log.new ++ rest))
+        LeftBy (sync_from (world_of_store store.old).frames 0 0 (objects_of store.old) blocks
+        (log.new ++ rest))
         (objects_of store.new) result.gave (comes_after result.next t) (length log.new) }
     ensures queue { queue_of store.new ≡ queue_of store.old }
     ensures ends { goes_on result.next ≡ false }
     ensures failed { is_fault result.next ≡ true → has_failed log.new ≡ true }
     ensures world { world_of_store store.new ≡ world_of_store store.old }
     ensures same_size { D.block_count disk.new ≡ D.block_count disk.old }
-    ensures calls { GoesOn (D.faults disk.old) (D.faults disk.new) (D.plan disk.old) (D.plan disk.new) log.old log.new }
+    ensures calls { GoesOn (D.faults disk.old) (D.faults disk.new) (D.plan disk.old)
+        (D.plan disk.new) log.old log.new }
     ensures few { length log.new ≤ 256 }
     ensures memory { store.new.ram ≡ store.old.ram }
 {
@@ -57,7 +62,8 @@ pub(crate) fn sync<B: Policy, D: Disk>(
     came(Next::Ends(Reply::One(written)))
 }
 
-/// Writes frame f, which holds block b and is dirty. It is clean then, unless the call of the disk fails.
+/// Writes frame f, which holds block b and is dirty. It is clean then, unless the call of the disk
+/// fails.
 fn write_back<B: Policy, D: Disk>(
     store: &mut Store<B>,
     disk: &mut D,
@@ -71,14 +77,16 @@ fn write_back<B: Policy, D: Disk>(
     requires room { length log.old < 256 }
     ensures noted { log.new ≡ log.old ++ is_err result ∷ [] }
     ensures told { (blocks : Blocks) → Tells (D.blocks disk.old) blocks →
-        Tells (D.blocks disk.new) (cond (is_ok result) (at b (bytes_of (cache_of store.old) f) blocks) blocks) }
+        Tells (D.blocks disk.new)
+        (cond (is_ok result) (at b (bytes_of (cache_of store.old) f) blocks) blocks) }
     ensures cleaned { IfOk result (λ _. (x : FrameValue) → (cache_of store.old).frame f ≡ Some x →
         objects_of store.new ≡ with_cache (cleaned f x (cache_of store.old)) (objects_of store.old)) }
     ensures kept { IfErr result (λ _. objects_of store.new ≡ objects_of store.old) }
     ensures queue { queue_of store.new ≡ queue_of store.old }
     ensures world { world_of_store store.new ≡ world_of_store store.old }
     ensures same_size { D.block_count disk.new ≡ D.block_count disk.old }
-    ensures calls { GoesOn (D.faults disk.old) (D.faults disk.new) (D.plan disk.old) (D.plan disk.new) log.old log.new }
+    ensures calls { GoesOn (D.faults disk.old) (D.faults disk.new) (D.plan disk.old)
+        (D.plan disk.new) log.old log.new }
     ensures few { length log.new ≤ 256 }
     ensures memory { store.new.ram ≡ store.old.ram }
 {

@@ -34,17 +34,21 @@ pub(crate) fn write<B: Policy, D: Disk>(
     requires descriptor { fd < 4 }
     requires inside { off + length bytes.now ≤ 512 }
     requires right { IsRightAnswer (objects_of store.old) (fetch_ask (world_of_store store.old)
-        (objects_of store.old).things (block_written store.old p fd i off (length bytes.now))) answer }
+        (objects_of store.old).things (block_written store.old p fd i off (length bytes.now)))
+        answer }
     requires disk { store.old.size ≡ D.block_count disk.old }
     requires fresh { log.old ≡ [] }
-    ensures does { (t : Stage) → CameBy (write_of store.old p fd i off bytes.now answer) (objects_of store.new)
+    ensures does { (t : Stage) →
+        CameBy (write_of store.old p fd i off bytes.now answer) (objects_of store.new)
         (D.blocks disk.old) (D.blocks disk.new) result t log.new }
-    ensures some { (t : Stage) → CameBySome (world_of_store store.old) (write_of store.old p fd i off bytes.now answer)
+    ensures some { (t : Stage) →
+        CameBySome (world_of_store store.old) (write_of store.old p fd i off bytes.now answer)
         (objects_of store.new) result t log.new }
     ensures ends { goes_on result.next ≡ false }
     ensures serves { Serves store.old store.new result.next log.new }
     ensures same_size { D.block_count disk.new ≡ D.block_count disk.old }
-    ensures calls { GoesOn (D.faults disk.old) (D.faults disk.new) (D.plan disk.old) (D.plan disk.new) log.old log.new }
+    ensures calls { GoesOn (D.faults disk.old) (D.faults disk.new) (D.plan disk.old)
+        (D.plan disk.new) log.old log.new }
 {
     let b = match store.block_of(p, fd as u8, i, off, bytes.len() as u32) {
         Ok(b) => b,

@@ -1,4 +1,5 @@
-//! The lines before the drawn ones: the set-up, both images, the processes, their files and their grafts.
+//! The lines before the drawn ones: the set-up, both images, the processes, their files and their
+//! grafts.
 
 ghost use Rattle.std.specs.Prelude.{◌≡◌, ◌<◌, ◌≤◌, ◌+◌, ◌++◌, ◌∷◌, codes, drop, length};
 ghost use Rattle.kernel_model.specs.Bytes.{hex_text};

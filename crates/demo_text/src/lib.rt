@@ -1,5 +1,5 @@
-//! What `demo` runs and writes: the lines of the script that it generates from a number, and the line that tells
-//! of the run.
+//! What `demo` runs and writes: the lines of the script that it generates from a number, and the
+//! line that tells of the run.
 //!
 //! `docs/FORMATS.md` has both.
 #![tactic(auto)]

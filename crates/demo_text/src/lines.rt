@@ -23,7 +23,8 @@ const KEYS: Keys = Keys {
     second: None,
 };
 
-/// The lines of the script of a number, one after another. Contracts see the lines that are to come.
+/// The lines of the script of a number, one after another. Contracts see the lines that are to
+/// come.
 #[derive(Drop)]
 pub struct DemoLines {
     /// How many lines of the head came.

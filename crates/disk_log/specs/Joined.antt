@@ -25,14 +25,17 @@ more_and : (m n : ℕ) → suc m + n ≡ suc (m + n)
 more_and m n = grind (arith)
 
 -- what the next calls of a plan do, in two parts
-planned_joined : (m n : ℕ) (p : Plan) → planned (m + n) p ≡ planned m p ++ planned n (plan_after m p)
+planned_joined : (m n : ℕ) (p : Plan) →
+    planned (m + n) p ≡ planned m p ++ planned n (plan_after m p)
 planned_joined zero n p = ap (λ k. planned k p) (none_and n)
-planned_joined (suc m) n p = ap (λ k. planned k p) (more_and m n) ∙ ap (λ io. call_fails p ∷ io) (planned_joined m n (after_call p))
+planned_joined (suc m) n p = ap (λ k. planned k p) (more_and m n)
+    ∙ ap (λ io. call_fails p ∷ io) (planned_joined m n (after_call p))
 
 -- a plan after calls in two parts
 plan_after_joined : (m n : ℕ) (p : Plan) → plan_after (m + n) p ≡ plan_after n (plan_after m p)
 plan_after_joined zero n p = ap (λ k. plan_after k p) (none_and n)
-plan_after_joined (suc m) n p = ap (λ k. plan_after k p) (more_and m n) ∙ plan_after_joined m n (after_call p)
+plan_after_joined (suc m) n p = ap (λ k. plan_after k p) (more_and m n)
+    ∙ plan_after_joined m n (after_call p)
 
 -- how many calls there are in two lists
 length_joined : (xs ys : List Bool) → length (xs ++ ys) ≡ length xs + length ys
@@ -40,20 +43,24 @@ length_joined [] ys = sym (none_and (length ys))
 length_joined (x ∷ xs) ys = ap suc (length_joined xs ys) ∙ sym (more_and (length xs) (length ys))
 
 -- two counts of failures
-counted_joined : (f g h m n : ℕ) → min (f + m) (2 ^ 64 - 1) ≤ g → min (g + n) (2 ^ 64 - 1) ≤ h → min (f + (m + n)) (2 ^ 64 - 1) ≤ h
+counted_joined : (f g h m n : ℕ) → min (f + m) (2 ^ 64 - 1) ≤ g → min (g + n) (2 ^ 64 - 1) ≤ h →
+    min (f + (m + n)) (2 ^ 64 - 1) ≤ h
 counted_joined f g h m n first second = grind (arith, nat_tests)
 
 -- Two lists of calls, one after the other, are one list.
-pub made_joined : (f g h : ℕ) (p q r : Option Plan) (xs ys : List Bool) → Made f g p q xs → Made g h q r ys → Made f h p r (xs ++ ys)
+pub made_joined : (f g h : ℕ) (p q r : Option Plan) (xs ys : List Bool) → Made f g p q xs →
+    Made g h q r ys → Made f h p r (xs ++ ys)
 made_joined f g h p q r xs ys first second =
     record {
       later = let a = first.later in let b = second.later in grind (arith);
       counted =
-          subst (λ n. min (f + n) (2 ^ 64 - 1) ≤ h) (sym (sum_by-append (λ failed. cond failed 1 0) xs ys))
+          subst (λ n. min (f + n) (2 ^ 64 - 1) ≤ h)
+          (sym (sum_by-append (λ failed. cond failed 1 0) xs ys))
           (counted_joined f g h (failures xs) (failures ys) first.counted second.counted);
       calls = λ x e.
           ap (λ (io : List Bool). io ++ ys) (first.calls x e)
-          ∙ ap (λ (io : List Bool). planned (length xs) x ++ io) (second.calls (plan_after (length xs) x) (first.plan_is x e))
+          ∙ ap (λ (io : List Bool). planned (length xs) x
+          ++ io) (second.calls (plan_after (length xs) x) (first.plan_is x e))
           ∙ sym (planned_joined (length xs) (length ys) x)
           ∙ ap (λ n. planned n x) (sym (length_joined xs ys));
       plan_is = λ x e.

@@ -57,9 +57,11 @@ impl DiskLog {
         requires room { length self.old < CALLS }
         requires block { b < D.block_count disk.old }
         ensures noted { self.new ≡ self.old ++ is_err result ∷ [] }
-        ensures told { (blocks : Blocks) → Tells (D.blocks disk.old) blocks → Tells (D.blocks disk.new) blocks × OnOk result (to.new ≡ blocks b) }
+        ensures told { (blocks : Blocks) → Tells (D.blocks disk.old) blocks →
+            Tells (D.blocks disk.new) blocks × OnOk result (to.new ≡ blocks b) }
         ensures same_size { D.block_count disk.new ≡ D.block_count disk.old }
-        ensures calls { GoesOn (D.faults disk.old) (D.faults disk.new) (D.plan disk.old) (D.plan disk.new) self.old self.new }
+        ensures calls { GoesOn (D.faults disk.old) (D.faults disk.new) (D.plan disk.old)
+            (D.plan disk.new) self.old self.new }
     {
         let result = disk.read_block(b, to);
         note(&mut self.failed, result.is_err());
@@ -74,7 +76,8 @@ impl DiskLog {
         ensures told { (blocks : Blocks) → Tells (D.blocks disk.old) blocks →
             Tells (D.blocks disk.new) (cond (is_ok result) (at b from.now blocks) blocks) }
         ensures same_size { D.block_count disk.new ≡ D.block_count disk.old }
-        ensures calls { GoesOn (D.faults disk.old) (D.faults disk.new) (D.plan disk.old) (D.plan disk.new) self.old self.new }
+        ensures calls { GoesOn (D.faults disk.old) (D.faults disk.new) (D.plan disk.old)
+            (D.plan disk.new) self.old self.new }
     {
         disk.size();
         let result = disk.write_block(b, from);

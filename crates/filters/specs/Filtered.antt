@@ -20,7 +20,8 @@ HasEnded Fault taken rest_new before now = (length taken ≤ SCRIPT_BYTES) × Ro
 HasEnded Over taken rest_new before now = length taken ≡ SCRIPT_BYTES + 1
 
 -- the source gave these bytes, and reading ended so
-pub record Took (rest rest_new : Option (List ℕ)) (before now : ℕ) (taken : List ℕ) (ending : Ending) : Type 0 where
+pub record Took (rest rest_new : Option (List ℕ)) (before now : ℕ) (taken : List ℕ)
+    (ending : Ending) : Type 0 where
   pub consumed : Consumes rest rest_new taken
   pub ended : HasEnded ending taken rest_new before now
 
@@ -30,10 +31,13 @@ pub record Gave (rest rest_new : Option (List ℕ)) : Type 0 where
   pub within : length taken ≤ SCRIPT_BYTES + 1
   pub consumed : Consumes rest rest_new taken
 
--- The source gave some bytes, at most one more than an input may have, and reading ended somehow. The
--- status is that of an answer of the filter, and the sink took its bytes. Each filter but `lang` has one
+-- The source gave some bytes, at most one more than an input may have, and reading ended somehow.
+-- The
+-- status is that of an answer of the filter, and the sink took its bytes. Each filter but `lang`
+-- has one
 -- answer to an input.
-pub record Ran (f : Filter) (rest rest_new : Option (List ℕ)) (before now : ℕ) (got got_new : Option (List ℕ)) (status : ℕ) : Type 0 where
+pub record Ran (f : Filter) (rest rest_new : Option (List ℕ)) (before now : ℕ)
+    (got got_new : Option (List ℕ)) (status : ℕ) : Type 0 where
   pub taken : List ℕ
   pub ending : Ending
   pub within : length taken ≤ SCRIPT_BYTES + 1
@@ -45,7 +49,8 @@ pub record Ran (f : Filter) (rest rest_new : Option (List ℕ)) (before now : �
   pub appended : Appends got got_new answer.written
 
 -- The same, but the sink took a part of the answer's bytes, not whole.
-pub record Broke (f : Filter) (rest rest_new : Option (List ℕ)) (before now : ℕ) (got got_new : Option (List ℕ)) : Type 0 where
+pub record Broke (f : Filter) (rest rest_new : Option (List ℕ)) (before now : ℕ)
+    (got got_new : Option (List ℕ)) : Type 0 where
   pub taken : List ℕ
   pub ending : Ending
   pub within : length taken ≤ SCRIPT_BYTES + 1

@@ -104,7 +104,8 @@ impl Answer {
         }
     }
 
-    /// The answer to a text of which a line is refused: the word, the line and the code of the refusal.
+    /// The answer to a text of which a line is refused: the word, the line and the code of the
+    /// refusal.
     pub(crate) fn refused_line(
         alloc: Global,
         word: &[u8],

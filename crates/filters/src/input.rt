@@ -43,7 +43,9 @@ fn read_pieces<S: Source>(
 ) -> Result<Ending, NoMemory>
     requires empty { input.old.items ≡ [] }
     requires room { 0 < length buf.old }
-    ensures took { IfOk result (λ e. Took (S.rest src.old) (S.rest src.new) (S.faults src.old) (S.faults src.new) input.new.items (ending_of e)) }
+    ensures took { IfOk result
+        (λ e. Took (S.rest src.old) (S.rest src.new) (S.faults src.old)
+        (S.faults src.new) input.new.items (ending_of e)) }
     ensures gave { OnErr result (Gave (S.rest src.old) (S.rest src.new)) }
     ensures later { S.faults src.old ≤ S.faults src.new }
 {
@@ -69,7 +71,9 @@ pub(crate) fn read_all<S: Source>(
     input: &mut Vec<u8>,
 ) -> Result<Ending, NoMemory>
     requires { input.old.items ≡ [] }
-    ensures took { IfOk result (λ e. Took (S.rest src.old) (S.rest src.new) (S.faults src.old) (S.faults src.new) input.new.items (ending_of e)) }
+    ensures took { IfOk result
+        (λ e. Took (S.rest src.old) (S.rest src.new) (S.faults src.old)
+        (S.faults src.new) input.new.items (ending_of e)) }
     ensures gave { OnErr result (Gave (S.rest src.old) (S.rest src.new)) }
     ensures later { S.faults src.old ≤ S.faults src.new }
 {

@@ -23,8 +23,8 @@ fn comma_at(text: &[u8]) -> Option<usize>
     text.iter().position(|byte| *byte == b',')
 }
 
-/// The keys that a word of the command line writes: 64 hex digits of either case, or twice 64 with a comma
-/// between them.
+/// The keys that a word of the command line writes: 64 hex digits of either case, or twice 64 with
+/// a comma between them.
 pub fn read_keys(text: &[u8]) -> Option<Keys>
     ensures { result ≡ keys_of text.now }
 {

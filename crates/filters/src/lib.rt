@@ -1,7 +1,8 @@
-//! The words `box`, `check`, `reseal`, `asm`, `dis` and `lang` of the program: filters that read a whole
-//! input and write one answer.
+//! The words `box`, `check`, `reseal`, `asm`, `dis` and `lang` of the program: filters that read a
+//! whole input and write one answer.
 //!
-//! What they answer is said by the definitions of `kernel_model`; docs/FORMATS.md tells the formats.
+//! What they answer is said by the definitions of `kernel_model`; docs/FORMATS.md tells the
+//! formats.
 #![tactic(auto)]
 
 ghost use Rattle.std.specs.Prelude.{◌≡◌, ◌≢◌, ◌⊎◌, ◌≤◌, [], true, length, IfOk};
@@ -60,7 +61,8 @@ fn answer_to(alloc: Global, word: Filter, taken: &[u8], ending: Ending) -> Resul
 /// Writes an answer. Its status, or 4 where the sink fails.
 fn write_answer<K: Sink>(answer: &Answer, out: &mut K) -> u8
     requires { answer.now.status ≢ 4 }
-    ensures whole { result ≢ 4 → (result ≡ answer.now.status) × Appends (K.got out.old) (K.got out.new) answer.now.written }
+    ensures whole { result ≢ 4 → (result ≡ answer.now.status)
+        × Appends (K.got out.old) (K.got out.new) answer.now.written }
     ensures part { result ≡ 4 → AppendsPart (K.got out.old) (K.got out.new) answer.now.written }
     ensures sink_later { K.faults out.old ≤ K.faults out.new }
     ensures sink_failed { result ≡ 4 → Rose (K.faults out.old) (K.faults out.new) }
@@ -73,12 +75,16 @@ fn write_answer<K: Sink>(answer: &Answer, out: &mut K) -> u8
 
 /// Reads the input and writes the answer to it.
 fn filter<S: Source, K: Sink>(alloc: Global, word: Filter, src: &mut S, out: &mut K) -> u8
-    ensures statuses { (result ≡ 0) ⊎ (result ≡ 2) ⊎ (result ≡ 3) ⊎ (result ≡ 4) ⊎ (result ≡ 5) ⊎ (result ≡ 6) × (is_of_images word ≡ true) ⊎ (result ≡ 7) }
+    ensures statuses { (result ≡ 0) ⊎ (result ≡ 2) ⊎ (result ≡ 3) ⊎ (result ≡ 4) ⊎ (result ≡ 5)
+        ⊎ (result ≡ 6) × (is_of_images word ≡ true) ⊎ (result ≡ 7) }
     ensures ran { result ≢ 4 → result ≢ 5 →
-        Ran (filter_of word) (S.rest src.old) (S.rest src.new) (S.faults src.old) (S.faults src.new) (K.got out.old) (K.got out.new) result }
+        Ran (filter_of word) (S.rest src.old) (S.rest src.new) (S.faults src.old) (S.faults src.new)
+        (K.got out.old) (K.got out.new) result }
     ensures broke { result ≡ 4 →
-        Broke (filter_of word) (S.rest src.old) (S.rest src.new) (S.faults src.old) (S.faults src.new) (K.got out.old) (K.got out.new) }
-    ensures memory { result ≡ 5 → Gave (S.rest src.old) (S.rest src.new) × Keeps (K.got out.old) (K.got out.new) }
+        Broke (filter_of word) (S.rest src.old) (S.rest src.new) (S.faults src.old)
+        (S.faults src.new) (K.got out.old) (K.got out.new) }
+    ensures memory { result ≡ 5 → Gave (S.rest src.old) (S.rest src.new)
+        × Keeps (K.got out.old) (K.got out.new) }
     ensures source_failed { result ≡ 3 → Rose (S.faults src.old) (S.faults src.new) }
     ensures sink_failed { result ≡ 4 → Rose (K.faults out.old) (K.faults out.new) }
     ensures source_later { S.faults src.old ≤ S.faults src.new }
@@ -97,20 +103,24 @@ fn filter<S: Source, K: Sink>(alloc: Global, word: Filter, src: &mut S, out: &mu
 /// Reads assembler text and writes the raw image as one line of lower-case hex, or the line that is
 /// refused and why, as `asm LINE CODE`.
 ///
-/// The answer is the exit status: 0 for an image, 2 for a refusal, 3 for a source and 4 for a sink that
-/// failed, 5 for want of memory, 7 for a text of more than 16,777,216 bytes. Nothing is written with 3, 5
-/// and 7.
+/// The answer is the exit status: 0 for an image, 2 for a refusal, 3 for a source and 4 for a sink
+/// that failed, 5 for want of memory, 7 for a text of more than 16,777,216 bytes. Nothing is
+/// written with 3, 5 and 7.
 pub fn asm<S: Source, K: Sink>(alloc: Global, src: &mut S, out: &mut K) -> u8
     // No other status comes.
-    ensures statuses { (result ≡ 0) ⊎ (result ≡ 2) ⊎ (result ≡ 3) ⊎ (result ≡ 4) ⊎ (result ≡ 5) ⊎ (result ≡ 7) }
+    ensures statuses { (result ≡ 0) ⊎ (result ≡ 2) ⊎ (result ≡ 3) ⊎ (result ≡ 4) ⊎ (result ≡ 5)
+        ⊎ (result ≡ 7) }
     // The status and the bytes written are those of the answer to the bytes that were taken.
     ensures ran { result ≢ 4 → result ≢ 5 →
-        Ran spec.Asm (S.rest src.old) (S.rest src.new) (S.faults src.old) (S.faults src.new) (K.got out.old) (K.got out.new) result }
+        Ran spec.Asm (S.rest src.old) (S.rest src.new) (S.faults src.old) (S.faults src.new)
+        (K.got out.old) (K.got out.new) result }
     // Where the sink fails it took a part of those bytes, not whole.
     ensures broke { result ≡ 4 →
-        Broke spec.Asm (S.rest src.old) (S.rest src.new) (S.faults src.old) (S.faults src.new) (K.got out.old) (K.got out.new) }
+        Broke spec.Asm (S.rest src.old) (S.rest src.new) (S.faults src.old) (S.faults src.new)
+        (K.got out.old) (K.got out.new) }
     // With no memory nothing is written.
-    ensures memory { result ≡ 5 → Gave (S.rest src.old) (S.rest src.new) × Keeps (K.got out.old) (K.got out.new) }
+    ensures memory { result ≡ 5 → Gave (S.rest src.old) (S.rest src.new)
+        × Keeps (K.got out.old) (K.got out.new) }
     // A source or a sink is blamed only where its count of faults rose.
     ensures source_failed { result ≡ 3 → Rose (S.faults src.old) (S.faults src.new) }
     ensures sink_failed { result ≡ 4 → Rose (K.faults out.old) (K.faults out.new) }
@@ -120,23 +130,27 @@ pub fn asm<S: Source, K: Sink>(alloc: Global, src: &mut S, out: &mut K) -> u8
     filter(alloc, Filter::Asm, src, out)
 }
 
-/// Reads a text of the graft language and writes a raw image of its program as one line of lower-case
-/// hex, or the line that is refused and why, as `lang LINE CODE`.
+/// Reads a text of the graft language and writes a raw image of its program as one line of
+/// lower-case hex, or the line that is refused and why, as `lang LINE CODE`.
 ///
-/// The answer is the exit status: 0 for an image, 2 for a refusal, 3 for a source and 4 for a sink that
-/// failed, 5 for want of memory, 7 for a text of more than 16,777,216 bytes. Nothing is written with 3, 5
-/// and 7.
+/// The answer is the exit status: 0 for an image, 2 for a refusal, 3 for a source and 4 for a sink
+/// that failed, 5 for want of memory, 7 for a text of more than 16,777,216 bytes. Nothing is
+/// written with 3, 5 and 7.
 pub fn lang<S: Source, K: Sink>(alloc: Global, src: &mut S, out: &mut K) -> u8
     // No other status comes.
-    ensures statuses { (result ≡ 0) ⊎ (result ≡ 2) ⊎ (result ≡ 3) ⊎ (result ≡ 4) ⊎ (result ≡ 5) ⊎ (result ≡ 7) }
+    ensures statuses { (result ≡ 0) ⊎ (result ≡ 2) ⊎ (result ≡ 3) ⊎ (result ≡ 4) ⊎ (result ≡ 5)
+        ⊎ (result ≡ 7) }
     // The status and the bytes written are those of an answer to the bytes that were taken.
     ensures ran { result ≢ 4 → result ≢ 5 →
-        Ran spec.Lang (S.rest src.old) (S.rest src.new) (S.faults src.old) (S.faults src.new) (K.got out.old) (K.got out.new) result }
+        Ran spec.Lang (S.rest src.old) (S.rest src.new) (S.faults src.old) (S.faults src.new)
+        (K.got out.old) (K.got out.new) result }
     // Where the sink fails it took a part of those bytes, not whole.
     ensures broke { result ≡ 4 →
-        Broke spec.Lang (S.rest src.old) (S.rest src.new) (S.faults src.old) (S.faults src.new) (K.got out.old) (K.got out.new) }
+        Broke spec.Lang (S.rest src.old) (S.rest src.new) (S.faults src.old) (S.faults src.new)
+        (K.got out.old) (K.got out.new) }
     // With no memory nothing is written.
-    ensures memory { result ≡ 5 → Gave (S.rest src.old) (S.rest src.new) × Keeps (K.got out.old) (K.got out.new) }
+    ensures memory { result ≡ 5 → Gave (S.rest src.old) (S.rest src.new)
+        × Keeps (K.got out.old) (K.got out.new) }
     // A source or a sink is blamed only where its count of faults rose.
     ensures source_failed { result ≡ 3 → Rose (S.faults src.old) (S.faults src.new) }
     ensures sink_failed { result ≡ 4 → Rose (K.faults out.old) (K.faults out.new) }
@@ -149,20 +163,24 @@ pub fn lang<S: Source, K: Sink>(alloc: Global, src: &mut S, out: &mut K) -> u8
 /// Reads one line of hex, the bytes of a raw image, and writes the image's text, or why the line
 /// (`input S2`, `input S6` or `input S1`) or the image (`L1`, `L2`, `L4` or `L6 PC`) is refused.
 ///
-/// The answer is the exit status: 0 for an image, 2 for a refusal, 3 for a source and 4 for a sink that
-/// failed, 5 for want of memory, 7 for an input of more than 16,777,216 bytes. Nothing is written with 3,
-/// 5 and 7.
+/// The answer is the exit status: 0 for an image, 2 for a refusal, 3 for a source and 4 for a sink
+/// that failed, 5 for want of memory, 7 for an input of more than 16,777,216 bytes. Nothing is
+/// written with 3, 5 and 7.
 pub fn dis<S: Source, K: Sink>(alloc: Global, src: &mut S, out: &mut K) -> u8
     // No other status comes.
-    ensures statuses { (result ≡ 0) ⊎ (result ≡ 2) ⊎ (result ≡ 3) ⊎ (result ≡ 4) ⊎ (result ≡ 5) ⊎ (result ≡ 7) }
+    ensures statuses { (result ≡ 0) ⊎ (result ≡ 2) ⊎ (result ≡ 3) ⊎ (result ≡ 4) ⊎ (result ≡ 5)
+        ⊎ (result ≡ 7) }
     // The status and the bytes written are those of the answer to the bytes that were taken.
     ensures ran { result ≢ 4 → result ≢ 5 →
-        Ran spec.Dis (S.rest src.old) (S.rest src.new) (S.faults src.old) (S.faults src.new) (K.got out.old) (K.got out.new) result }
+        Ran spec.Dis (S.rest src.old) (S.rest src.new) (S.faults src.old) (S.faults src.new)
+        (K.got out.old) (K.got out.new) result }
     // Where the sink fails it took a part of those bytes, not whole.
     ensures broke { result ≡ 4 →
-        Broke spec.Dis (S.rest src.old) (S.rest src.new) (S.faults src.old) (S.faults src.new) (K.got out.old) (K.got out.new) }
+        Broke spec.Dis (S.rest src.old) (S.rest src.new) (S.faults src.old) (S.faults src.new)
+        (K.got out.old) (K.got out.new) }
     // With no memory nothing is written.
-    ensures memory { result ≡ 5 → Gave (S.rest src.old) (S.rest src.new) × Keeps (K.got out.old) (K.got out.new) }
+    ensures memory { result ≡ 5 → Gave (S.rest src.old) (S.rest src.new)
+        × Keeps (K.got out.old) (K.got out.new) }
     // A source or a sink is blamed only where its count of faults rose.
     ensures source_failed { result ≡ 3 → Rose (S.faults src.old) (S.faults src.new) }
     ensures sink_failed { result ≡ 4 → Rose (K.faults out.old) (K.faults out.new) }
@@ -172,25 +190,29 @@ pub fn dis<S: Source, K: Sink>(alloc: Global, src: &mut S, out: &mut K) -> u8
     filter(alloc, Filter::Dis, src, out)
 }
 
-/// Reads one line of hex, the bytes of a raw image, boxes its code and writes the image sealed under the
-/// last key as one line of lower-case hex; or why the line (`input S2`, `input S6` or `input S1`), the image
-/// (`L1`, `L2`, `L4` or `L6 PC`) or its code (`Register PC`, `Jump PC`, `Call PC`, `End` or `TooLarge`) is
-/// refused.
+/// Reads one line of hex, the bytes of a raw image, boxes its code and writes the image sealed
+/// under the last key as one line of lower-case hex; or why the line (`input S2`, `input S6` or
+/// `input S1`), the image (`L1`, `L2`, `L4` or `L6 PC`) or its code (`Register PC`, `Jump PC`,
+/// `Call PC`, `End` or `TooLarge`) is refused.
 ///
-/// The answer is the exit status: 0 for an image, 2 for a refused line, 3 for a source and 4 for a sink that
-/// failed, 5 for want of memory, 6 for an image or code that is refused, 7 for an input of more than
-/// 16,777,216 bytes. Nothing is written with 3, 5 and 7.
+/// The answer is the exit status: 0 for an image, 2 for a refused line, 3 for a source and 4 for a
+/// sink that failed, 5 for want of memory, 6 for an image or code that is refused, 7 for an input
+/// of more than 16,777,216 bytes. Nothing is written with 3, 5 and 7.
 pub fn box_image<S: Source, K: Sink>(alloc: Global, keys: &Keys, src: &mut S, out: &mut K) -> u8
     // No other status comes.
-    ensures statuses { (result ≡ 0) ⊎ (result ≡ 2) ⊎ (result ≡ 3) ⊎ (result ≡ 4) ⊎ (result ≡ 5) ⊎ (result ≡ 6) ⊎ (result ≡ 7) }
+    ensures statuses { (result ≡ 0) ⊎ (result ≡ 2) ⊎ (result ≡ 3) ⊎ (result ≡ 4) ⊎ (result ≡ 5)
+        ⊎ (result ≡ 6) ⊎ (result ≡ 7) }
     // The status and the bytes written are those of the answer to the bytes that were taken.
     ensures ran { result ≢ 4 → result ≢ 5 →
-        Ran (spec.Box keys.now) (S.rest src.old) (S.rest src.new) (S.faults src.old) (S.faults src.new) (K.got out.old) (K.got out.new) result }
+        Ran (spec.Box keys.now) (S.rest src.old) (S.rest src.new) (S.faults src.old)
+        (S.faults src.new) (K.got out.old) (K.got out.new) result }
     // Where the sink fails it took a part of those bytes, not whole.
     ensures broke { result ≡ 4 →
-        Broke (spec.Box keys.now) (S.rest src.old) (S.rest src.new) (S.faults src.old) (S.faults src.new) (K.got out.old) (K.got out.new) }
+        Broke (spec.Box keys.now) (S.rest src.old) (S.rest src.new) (S.faults src.old)
+        (S.faults src.new) (K.got out.old) (K.got out.new) }
     // With no memory nothing is written.
-    ensures memory { result ≡ 5 → Gave (S.rest src.old) (S.rest src.new) × Keeps (K.got out.old) (K.got out.new) }
+    ensures memory { result ≡ 5 → Gave (S.rest src.old) (S.rest src.new)
+        × Keeps (K.got out.old) (K.got out.new) }
     // A source or a sink is blamed only where its count of faults rose.
     ensures source_failed { result ≡ 3 → Rose (S.faults src.old) (S.faults src.new) }
     ensures sink_failed { result ≡ 4 → Rose (K.faults out.old) (K.faults out.new) }
@@ -201,23 +223,27 @@ pub fn box_image<S: Source, K: Sink>(alloc: Global, keys: &Keys, src: &mut S, ou
 }
 
 /// Reads one line of hex, the bytes of a sealed image, loads it under its key and writes how many
-/// instructions and data bytes it has, as `ok N D`; or why the line (`input S2`, `input S6` or `input S1`)
-/// or the image (`L1` to `L13`, with the place) is refused.
+/// instructions and data bytes it has, as `ok N D`; or why the line (`input S2`, `input S6` or
+/// `input S1`) or the image (`L1` to `L13`, with the place) is refused.
 ///
-/// The answer is the exit status: 0 for an image, 2 for a refused line, 3 for a source and 4 for a sink that
-/// failed, 5 for want of memory, 6 for an image that is refused, 7 for an input of more than 16,777,216
-/// bytes. Nothing is written with 3, 5 and 7.
+/// The answer is the exit status: 0 for an image, 2 for a refused line, 3 for a source and 4 for a
+/// sink that failed, 5 for want of memory, 6 for an image that is refused, 7 for an input of more
+/// than 16,777,216 bytes. Nothing is written with 3, 5 and 7.
 pub fn check_image<S: Source, K: Sink>(alloc: Global, keys: &Keys, src: &mut S, out: &mut K) -> u8
     // No other status comes.
-    ensures statuses { (result ≡ 0) ⊎ (result ≡ 2) ⊎ (result ≡ 3) ⊎ (result ≡ 4) ⊎ (result ≡ 5) ⊎ (result ≡ 6) ⊎ (result ≡ 7) }
+    ensures statuses { (result ≡ 0) ⊎ (result ≡ 2) ⊎ (result ≡ 3) ⊎ (result ≡ 4) ⊎ (result ≡ 5)
+        ⊎ (result ≡ 6) ⊎ (result ≡ 7) }
     // The status and the bytes written are those of the answer to the bytes that were taken.
     ensures ran { result ≢ 4 → result ≢ 5 →
-        Ran (spec.Check keys.now) (S.rest src.old) (S.rest src.new) (S.faults src.old) (S.faults src.new) (K.got out.old) (K.got out.new) result }
+        Ran (spec.Check keys.now) (S.rest src.old) (S.rest src.new) (S.faults src.old)
+        (S.faults src.new) (K.got out.old) (K.got out.new) result }
     // Where the sink fails it took a part of those bytes, not whole.
     ensures broke { result ≡ 4 →
-        Broke (spec.Check keys.now) (S.rest src.old) (S.rest src.new) (S.faults src.old) (S.faults src.new) (K.got out.old) (K.got out.new) }
+        Broke (spec.Check keys.now) (S.rest src.old) (S.rest src.new) (S.faults src.old)
+        (S.faults src.new) (K.got out.old) (K.got out.new) }
     // With no memory nothing is written.
-    ensures memory { result ≡ 5 → Gave (S.rest src.old) (S.rest src.new) × Keeps (K.got out.old) (K.got out.new) }
+    ensures memory { result ≡ 5 → Gave (S.rest src.old) (S.rest src.new)
+        × Keeps (K.got out.old) (K.got out.new) }
     // A source or a sink is blamed only where its count of faults rose.
     ensures source_failed { result ≡ 3 → Rose (S.faults src.old) (S.faults src.new) }
     ensures sink_failed { result ≡ 4 → Rose (K.faults out.old) (K.faults out.new) }
@@ -227,24 +253,28 @@ pub fn check_image<S: Source, K: Sink>(alloc: Global, keys: &Keys, src: &mut S, 
     filter(alloc, Filter::Check(*keys), src, out)
 }
 
-/// Reads one line of hex, the bytes of a sealed image, loads it under its key and writes
-/// its code and data, sealed anew under the last key, as one line of lower-case hex; or why the line (`input
+/// Reads one line of hex, the bytes of a sealed image, loads it under its key and writes its code
+/// and data, sealed anew under the last key, as one line of lower-case hex; or why the line (`input
 /// S2`, `input S6` or `input S1`) or the image (`L1` to `L13`, with the place) is refused.
 ///
-/// The answer is the exit status: 0 for an image, 2 for a refused line, 3 for a source and 4 for a sink that
-/// failed, 5 for want of memory, 6 for an image that is refused, 7 for an input of more than 16,777,216
-/// bytes. Nothing is written with 3, 5 and 7.
+/// The answer is the exit status: 0 for an image, 2 for a refused line, 3 for a source and 4 for a
+/// sink that failed, 5 for want of memory, 6 for an image that is refused, 7 for an input of more
+/// than 16,777,216 bytes. Nothing is written with 3, 5 and 7.
 pub fn reseal_image<S: Source, K: Sink>(alloc: Global, keys: &Keys, src: &mut S, out: &mut K) -> u8
     // No other status comes.
-    ensures statuses { (result ≡ 0) ⊎ (result ≡ 2) ⊎ (result ≡ 3) ⊎ (result ≡ 4) ⊎ (result ≡ 5) ⊎ (result ≡ 6) ⊎ (result ≡ 7) }
+    ensures statuses { (result ≡ 0) ⊎ (result ≡ 2) ⊎ (result ≡ 3) ⊎ (result ≡ 4) ⊎ (result ≡ 5)
+        ⊎ (result ≡ 6) ⊎ (result ≡ 7) }
     // The status and the bytes written are those of the answer to the bytes that were taken.
     ensures ran { result ≢ 4 → result ≢ 5 →
-        Ran (spec.Reseal keys.now) (S.rest src.old) (S.rest src.new) (S.faults src.old) (S.faults src.new) (K.got out.old) (K.got out.new) result }
+        Ran (spec.Reseal keys.now) (S.rest src.old) (S.rest src.new) (S.faults src.old)
+        (S.faults src.new) (K.got out.old) (K.got out.new) result }
     // Where the sink fails it took a part of those bytes, not whole.
     ensures broke { result ≡ 4 →
-        Broke (spec.Reseal keys.now) (S.rest src.old) (S.rest src.new) (S.faults src.old) (S.faults src.new) (K.got out.old) (K.got out.new) }
+        Broke (spec.Reseal keys.now) (S.rest src.old) (S.rest src.new) (S.faults src.old)
+        (S.faults src.new) (K.got out.old) (K.got out.new) }
     // With no memory nothing is written.
-    ensures memory { result ≡ 5 → Gave (S.rest src.old) (S.rest src.new) × Keeps (K.got out.old) (K.got out.new) }
+    ensures memory { result ≡ 5 → Gave (S.rest src.old) (S.rest src.new)
+        × Keeps (K.got out.old) (K.got out.new) }
     // A source or a sink is blamed only where its count of faults rose.
     ensures source_failed { result ≡ 3 → Rose (S.faults src.old) (S.faults src.new) }
     ensures sink_failed { result ≡ 4 → Rose (K.faults out.old) (K.faults out.new) }

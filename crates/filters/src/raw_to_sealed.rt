@@ -65,7 +65,8 @@ fn bytes_answer(alloc: Global, keys: &Keys, bytes: &[u8]) -> Result<Answer, NoMe
     }
 }
 
-/// The answer to an input: the sealed image of the raw one that its one line says, or why there is none.
+/// The answer to an input: the sealed image of the raw one that its one line says, or why there is
+/// none.
 pub(crate) fn box_answer(alloc: Global, keys: &Keys, input: &[u8]) -> Result<Answer, NoMemory>
     ensures { IfOk result (λ a. a ≡ spec.input_answer (spec.Box keys.now) input.now) }
 {

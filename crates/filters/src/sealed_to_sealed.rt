@@ -29,7 +29,8 @@ fn bytes_answer(alloc: Global, keys: &Keys, bytes: &[u8]) -> Result<Answer, NoMe
     }
 }
 
-/// The answer to an input: the sealed image that its one line says, sealed anew, or why it is refused.
+/// The answer to an input: the sealed image that its one line says, sealed anew, or why it is
+/// refused.
 pub(crate) fn reseal_answer(alloc: Global, keys: &Keys, input: &[u8]) -> Result<Answer, NoMemory>
     ensures { IfOk result (λ a. a ≡ spec.input_answer (spec.Reseal keys.now) input.now) }
 {

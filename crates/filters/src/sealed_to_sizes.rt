@@ -34,7 +34,8 @@ fn bytes_answer(alloc: Global, keys: &Keys, bytes: &[u8]) -> Result<Answer, NoMe
     }
 }
 
-/// The answer to an input: the sizes of the sealed image that its one line says, or why it is refused.
+/// The answer to an input: the sizes of the sealed image that its one line says, or why it is
+/// refused.
 pub(crate) fn check_answer(alloc: Global, keys: &Keys, input: &[u8]) -> Result<Answer, NoMemory>
     ensures { IfOk result (λ a. a ≡ spec.input_answer (spec.Check keys.now) input.now) }
 {

@@ -6,4 +6,5 @@ use Rattle.kernel_model.specs.Assembler.{assemble, disassemble}
 
 -- the text of an image assembles to the image
 abbrev pub AssembleUndoesDisassemble : Type 0
-AssembleUndoesDisassemble = (i : Image) → IsRawImage i → ((k : ℕ) → slice_index i.body k < 256) → assemble (disassemble i) ≡ Ok i
+AssembleUndoesDisassemble = (i : Image) → IsRawImage i → ((k : ℕ) → slice_index i.body k < 256) →
+    assemble (disassemble i) ≡ Ok i

@@ -21,7 +21,8 @@ is_placed_instr p = is_placed p.instr (is_some p.label)
 
 -- what the assembler's code, data and labels stand for
 abbrev pub assembly_of : List Placed → List ℕ → List (Bor (List ℕ) × Option ℕ) → spec.Assembly
-assembly_of code body labels = record { code = map placed_view code; body = body; labels = map label_view labels }
+assembly_of code body labels =
+    record { code = map placed_view code; body = body; labels = map label_view labels }
 
 -- code and data are within the limits, and code can be encoded
 pub record IsWithin (code : List Placed) (body : List ℕ) : Type 0 where

@@ -65,7 +65,8 @@ pub fn place_of(labels: &Labels, name: &[u8]) -> Option<u32>
 
 /// Sets a label that isn't set.
 fn set_label<'a>(labels: &mut Labels<'a>, name: &'a [u8], place: u32) -> Result<(), NoMemory>
-    ensures { OnOk result (map label_view labels.new.entries ≡ spec.with_place name.now place (map label_view labels.old.entries)) }
+    ensures { OnOk result (map label_view labels.new.entries
+        ≡ spec.with_place name.now place (map label_view labels.old.entries)) }
 {
     match labels.insert(name, Some(place)) {
         Ok(_) => Ok(()),
@@ -75,7 +76,8 @@ fn set_label<'a>(labels: &mut Labels<'a>, name: &'a [u8], place: u32) -> Result<
 
 /// Puts a label among the labels, where it isn't there.
 fn use_label<'a>(labels: &mut Labels<'a>, name: &'a [u8]) -> Result<(), NoMemory>
-    ensures { OnOk result (map label_view labels.new.entries ≡ spec.with_use name.now (map label_view labels.old.entries)) }
+    ensures { OnOk result (map label_view labels.new.entries
+        ≡ spec.with_use name.now (map label_view labels.old.entries)) }
 {
     if labels.contains_key(name) {
         return Ok(());
@@ -121,8 +123,10 @@ impl<'a> Assembly<'a> {
     }
 
     fn add_label(&mut self, line: u32, name: &'a [u8]) -> Result<(), AsmFault>
-        ensures ok { OnOk result (spec.with_statement line self.old (spec.SetsLabel name.now) ≡ Ok self.new) }
-        ensures err { IfErr result (λ e. Refuses e (spec.with_statement line self.old (spec.SetsLabel name.now))) }
+        ensures ok { OnOk result (spec.with_statement line self.old (spec.SetsLabel name.now)
+            ≡ Ok self.new) }
+        ensures err { IfErr result
+            (λ e. Refuses e (spec.with_statement line self.old (spec.SetsLabel name.now))) }
     {
         if place_of(&self.labels, name).is_some() {
             return Err(AsmFault::At(line, AsmKind::LabelSetTwice));
@@ -132,8 +136,10 @@ impl<'a> Assembly<'a> {
     }
 
     fn add_data(&mut self, alloc: Global, line: u32, digits: &[u8]) -> Result<(), AsmFault>
-        ensures ok { OnOk result (spec.with_statement line self.old (spec.Data digits.now) ≡ Ok self.new) }
-        ensures err { IfErr result (λ e. Refuses e (spec.with_statement line self.old (spec.Data digits.now))) }
+        ensures ok { OnOk result (spec.with_statement line self.old (spec.Data digits.now)
+            ≡ Ok self.new) }
+        ensures err { IfErr result
+            (λ e. Refuses e (spec.with_statement line self.old (spec.Data digits.now))) }
     {
         if add_data(alloc, &mut self.body, digits)? {
             Ok(())
@@ -144,8 +150,12 @@ impl<'a> Assembly<'a> {
 
     fn add_instr(&mut self, placed: Placed<'a>) -> Result<(), AsmFault>
         requires { is_placed placed.instr (is_some placed.label) ≡ true }
-        ensures ok { OnOk result (spec.with_instr placed.entry.line self.old placed.entry.instr (option_copied placed.entry.label) ≡ Ok self.new) }
-        ensures err { IfErr result (λ e. Refuses e (spec.with_instr placed.entry.line self.old placed.entry.instr (option_copied placed.entry.label))) }
+        ensures ok { OnOk result
+            (spec.with_instr placed.entry.line self.old placed.entry.instr
+            (option_copied placed.entry.label) ≡ Ok self.new) }
+        ensures err { IfErr result
+            (λ e. Refuses e (spec.with_instr placed.entry.line self.old placed.entry.instr
+            (option_copied placed.entry.label))) }
     {
         if self.code.len() >= MAX_CODE {
             return Err(AsmFault::At(placed.line, AsmKind::TooManyInstructions));
@@ -187,8 +197,10 @@ impl<'a> Assembly<'a> {
 /// What all lines of a text give.
 pub fn read_lines(alloc: Global, text: &[u8]) -> Result<Assembly<'_>, AsmFault>
     requires { length text.now ≤ 16_777_216 }
-    ensures ok { IfOk result (λ a. spec.with_lines 1 spec.empty_assembly (spec.lines_of text.now) ≡ Ok a) }
-    ensures err { IfErr result (λ e. Refuses e (spec.with_lines 1 spec.empty_assembly (spec.lines_of text.now))) }
+    ensures ok { IfOk result (λ a. spec.with_lines 1 spec.empty_assembly (spec.lines_of text.now)
+        ≡ Ok a) }
+    ensures err { IfErr result
+        (λ e. Refuses e (spec.with_lines 1 spec.empty_assembly (spec.lines_of text.now))) }
 {
     let mut assembly = Assembly::new(alloc);
     let mut lines = Parts::new(text, b'\n');

@@ -17,10 +17,13 @@ use std::alloc::Global;
 /// An instruction whose label, if it has one, has become the number of an instruction.
 fn link_one(labels: &Labels, placed: Placed) -> Result<Instr, AsmFault>
     requires { is_placed_instr placed ≡ true }
-    ensures ok { IfOk result (λ i. spec.linked_by (map label_view labels.now.entries) (placed_view placed.entry)
+    ensures ok { IfOk result
+        (λ i. spec.linked_by (map label_view labels.now.entries) (placed_view placed.entry)
         (option_copied placed.entry.label) ≡ Ok i) }
     ensures fit { IfOk result (λ i. fits i ≡ true) }
-    ensures err { IfErr result (λ e. Refuses e (spec.linked_by (map label_view labels.now.entries) (placed_view placed.entry)
+    ensures err { IfErr result
+        (λ e. Refuses e (spec.linked_by (map label_view labels.now.entries)
+        (placed_view placed.entry)
         (option_copied placed.entry.label))) }
 {
     match placed.label {
@@ -48,10 +51,14 @@ fn push(code: &mut Vec<Instr>, instr: Instr) -> Result<(), NoMemory>
 /// Instructions whose labels have become numbers. The first one whose label is never set decides.
 pub fn link_code(alloc: Global, labels: &Labels, code: &[Placed]) -> Result<Vec<Instr>, AsmFault>
     requires { list_all is_placed_instr code.now ≡ true }
-    ensures ok { IfOk result (λ linked. spec.linked (map label_view labels.now.entries) (map placed_view code.now) ≡ Ok linked.items) }
+    ensures ok { IfOk result
+        (λ linked. spec.linked (map label_view labels.now.entries) (map placed_view code.now)
+        ≡ Ok linked.items) }
     ensures len { IfOk result (λ linked. length linked.items ≡ length code.now) }
     ensures fit { IfOk result (λ linked. list_all fits linked.items ≡ true) }
-    ensures err { IfErr result (λ e. Refuses e (spec.linked (map label_view labels.now.entries) (map placed_view code.now))) }
+    ensures err { IfErr result
+        (λ e. Refuses e (spec.linked (map label_view labels.now.entries)
+        (map placed_view code.now))) }
 {
     let mut linked = Vec::new(alloc);
     for placed in code {

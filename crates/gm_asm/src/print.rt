@@ -28,7 +28,8 @@ fn append_number(out: &mut Vec<u8>, n: u32) -> Result<(), NoMemory>
 
 /// Appends a space and a register, if its field is named.
 fn append_register(out: &mut Vec<u8>, named: bool, n: u8) -> Result<(), NoMemory>
-    ensures { OnOk result (out.new.items ≡ out.old.items ++ spec.operand_text named (spec.register_word n)) }
+    ensures { OnOk result (out.new.items ≡ out.old.items
+        ++ spec.operand_text named (spec.register_word n)) }
 {
     if named {
         append(out, b" r")?;
@@ -39,7 +40,8 @@ fn append_register(out: &mut Vec<u8>, named: bool, n: u8) -> Result<(), NoMemory
 
 /// Appends a space and an imm, if the field is named.
 fn append_imm(out: &mut Vec<u8>, named: bool, op: Op, n: u32) -> Result<(), NoMemory>
-    ensures { OnOk result (out.new.items ≡ out.old.items ++ spec.operand_text named (spec.imm_word op n)) }
+    ensures { OnOk result (out.new.items ≡ out.old.items
+        ++ spec.operand_text named (spec.imm_word op n)) }
 {
     if named {
         let start: &[u8] = match op {
@@ -77,7 +79,8 @@ pub fn append_code(out: &mut Vec<u8>, code: &[Instr]) -> Result<(), NoMemory>
 
 /// Appends the line of data of some bytes.
 fn append_data(alloc: Global, out: &mut Vec<u8>, body: &[u8]) -> Result<(), NoMemory>
-    ensures { OnOk result (out.new.items ≡ out.old.items ++ (codes ".bytes " ++ encode_lower body.now ++ 10 ∷ [])) }
+    ensures { OnOk result (out.new.items ≡ out.old.items
+        ++ (codes ".bytes " ++ encode_lower body.now ++ 10 ∷ [])) }
 {
     let Ok(digits) = hex::encode(alloc, body) else {
         return Err(NoMemory);

@@ -24,7 +24,8 @@ pub enum Statement<'a> {
 
 /// The register that a field names, which is the next word, or 0 for a field that isn't named.
 fn register_field(named: bool, words: &mut Parts) -> Option<u8>
-    ensures field { option_map (λ n. record { value = n; rest = words.new }) result ≡ spec.register_field named words.old }
+    ensures field { option_map (λ n. record { value = n; rest = words.new }) result
+        ≡ spec.register_field named words.old }
     ensures fits { IfSome result (λ n. is_register_field named n ≡ true) }
 {
     if !named {
@@ -35,7 +36,8 @@ fn register_field(named: bool, words: &mut Parts) -> Option<u8>
 
 /// The imm that a field names, which is the next word, or 0 for a field that isn't named.
 fn imm_field<'a>(op: Op, named: bool, words: &mut Parts<'a>) -> Option<Imm<'a>>
-    ensures field { option_map (λ i. record { value = imm_view i; rest = words.new }) result ≡ spec.imm_field op named words.old }
+    ensures field { option_map (λ i. record { value = imm_view i; rest = words.new }) result
+        ≡ spec.imm_field op named words.old }
     ensures fits { IfSome result (λ i. is_imm_field named i.value ≡ true) }
     ensures labelled { IfSome result (λ i. IsSome i.label → named ≡ true) }
 {

@@ -10,4 +10,5 @@ ReadUndoesWrite = (i : Image) → IsRawImage i → read_raw (raw_image i.code i.
 -- bytes that read as an image are those that the image writes
 abbrev pub WriteUndoesRead : Type 0
 WriteUndoesRead =
-    (bytes : List ℕ) (i : Image) → ((k : ℕ) → slice_index bytes k < 256) → read_raw bytes ≡ Ok i → raw_image i.code i.body ≡ bytes
+    (bytes : List ℕ) (i : Image) → ((k : ℕ) → slice_index bytes k < 256) → read_raw bytes ≡ Ok i →
+    raw_image i.code i.body ≡ bytes

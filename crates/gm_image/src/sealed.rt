@@ -231,7 +231,8 @@ fn read_parts(alloc: Global, bytes: &[u8]) -> Result<SealedImage, ImageFault>
     })
 }
 
-/// The parts of the bytes of a sealed image, or the first refusal: `Length` below 48 bytes, `Magic`,
+/// The parts of the bytes of a sealed image, or the first refusal: `Length` below 48 bytes,
+/// `Magic`,
 /// `Version` above 2 or 0, `Length` below 56 bytes in version 2, `TooLarge`, `Length` where it isn't that
 /// of the two sizes.
 pub fn read_sealed(alloc: Global, bytes: &[u8]) -> Result<SealedImage, ImageFault>

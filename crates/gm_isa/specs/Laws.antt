@@ -10,4 +10,5 @@ DecodeUndoesEncode = (i : Instr) → IsTrue (fits i) → decode (encode i) ≡ O
 -- eight bytes that decode are those of the instruction that they decode to
 abbrev pub EncodeUndoesDecode : Type 0
 EncodeUndoesDecode =
-    (bytes : List ℕ) (i : Instr) → length bytes ≡ 8 → ((k : ℕ) → slice_index bytes k < 256) → decode bytes ≡ Ok i → encode i ≡ bytes
+    (bytes : List ℕ) (i : Instr) → length bytes ≡ 8 → ((k : ℕ) → slice_index bytes k < 256) →
+    decode bytes ≡ Ok i → encode i ≡ bytes

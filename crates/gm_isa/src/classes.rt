@@ -1,4 +1,5 @@
-//! What an instruction does with registers, memory and the program counter, as far as the sandbox asks.
+//! What an instruction does with registers, memory and the program counter, as far as the sandbox
+//! asks.
 
 ghost use Rattle.std.specs.Prelude.{◌≡◌, ℕ, ◌≤◌, length, option_map};
 ghost use Rattle.kernel_model.specs.Instructions as spec;
@@ -41,7 +42,8 @@ pub fn is_end(op: Op) -> bool
     matches!(op, Op::Ret | Op::Jmp | Op::Trap)
 }
 
-/// Whether the last instruction is `ret`, `jmp` or `trap`. Code without instructions has no last one.
+/// Whether the last instruction is `ret`, `jmp` or `trap`. Code without instructions has no last
+/// one.
 pub fn ends_well(code: &[Instr]) -> bool
     ensures { result ≡ boxed.ends_well code.now }
 {

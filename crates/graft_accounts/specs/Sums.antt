@@ -27,7 +27,12 @@ more_at i n xs = slice_set xs i (slice_index xs i + n)
 -- process 0 has it all
 abbrev pub opening : (grant : ℕ) → Amounts
 opening grant =
-    record { grant = grant; balances = more_at 0 grant (replicate 16 0); spent = replicate 16 0; funds = replicate 256 0 }
+    record {
+      grant = grant;
+      balances = more_at 0 grant (replicate 16 0);
+      spent = replicate 16 0;
+      funds = replicate 256 0;
+    }
 
 -- ---- what is moved
 
@@ -50,11 +55,15 @@ paid_at p i n s = record s { funds = less_at i n s.funds; spent = more_at p n s.
 -- all that a graft has, to a process
 abbrev pub given_back : (p i : ℕ) → Amounts → Amounts
 given_back p i s =
-    let n = slice_index s.funds i in record s { balances = more_at p n s.balances; funds = less_at i n s.funds }
+    let n = slice_index s.funds i in
+    record s { balances = more_at p n s.balances; funds = less_at i n s.funds }
 
 -- all that a process has and has spent, to process 0
 abbrev pub closed : (p : ℕ) → Amounts → Amounts
 closed p s =
     let n = slice_index s.balances p in
     let m = slice_index s.spent p in
-    record s { balances = more_at 0 n (less_at p n s.balances); spent = more_at 0 m (less_at p m s.spent) }
+    record s {
+      balances = more_at 0 n (less_at p n s.balances);
+      spent = more_at 0 m (less_at p m s.spent);
+    }

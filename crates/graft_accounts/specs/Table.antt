@@ -34,7 +34,8 @@ with_sums Locks s t = record t { locks = s }
 abbrev pub standing_at : Table → ℕ → Option Standing
 standing_at t i = slice_index_or t.grafts i None
 
--- what always holds of the arrays: where no graft stands there are no amounts, and nothing is made or lost
+-- what always holds of the arrays: where no graft stands there are no amounts, and nothing is made
+-- or lost
 pub record IsTable (t : Table) : Type 0 where
   pub grafts : length t.grafts ≡ 256
   pub steps : IsKept t.grafts t.steps
@@ -58,14 +59,22 @@ taken_out p i t =
 -- the arrays where process 0 has what p had and had spent
 abbrev pub closed_all : (p : ℕ) → Table → Table
 closed_all p t =
-    record { grafts = t.grafts; steps = closed p t.steps; records = closed p t.records; locks = closed p t.locks }
+    record {
+      grafts = t.grafts;
+      steps = closed p t.steps;
+      records = closed p t.records;
+      locks = closed p t.locks;
+    }
 
 -- ---- as the kernel's state sees them
 
 -- the account of a process
 abbrev pub account_at : Table → ℕ → AcctValue
 account_at t q =
-    record { balance = λ k. slice_index (sums_of t k).balances q; spent = λ k. slice_index (sums_of t k).spent q }
+    record {
+      balance = λ k. slice_index (sums_of t k).balances q;
+      spent = λ k. slice_index (sums_of t k).spent q;
+    }
 
 -- the graft at a place
 abbrev pub graft_at : Table → ℕ → Option Standing → Option GraftValue
@@ -81,7 +90,8 @@ graft_at t i s =
 abbrev pub accounts_of : Table → Accounts
 accounts_of t =
     record {
-      graft = λ q pt. cond (nat_lt pt 16) (graft_at t (16 * q + pt) (standing_at t (16 * q + pt))) None;
+      graft = λ q pt. cond (nat_lt pt 16)
+          (graft_at t (16 * q + pt) (standing_at t (16 * q + pt))) None;
       acct = account_at t;
     }
 
@@ -94,7 +104,14 @@ total a k = sum_below 16 (ledger a k)
 -- the row of a graft
 abbrev pub row_of : GraftValue → GraftRow
 row_of g =
-    record { image = g.image; limit = g.limit; billed = g.billed; steps = g.balance Steps; records = g.balance Records; locks = g.balance Locks }
+    record {
+      image = g.image;
+      limit = g.limit;
+      billed = g.billed;
+      steps = g.balance Steps;
+      records = g.balance Records;
+      locks = g.balance Locks;
+    }
 
 -- the balance where it is smaller than what is asked for
 abbrev pub short_of : (has n : ℕ) → Result Unit ℕ
@@ -103,12 +120,16 @@ short_of has n = elim (nat_lt has n) [ true ↦ Err has | false ↦ Ok tt ]
 -- n goes from p to q, if p has as much
 abbrev pub after_give : (p q : ℕ) → Kind → ℕ → Accounts → Accounts
 after_give p q k n a =
-    elim (nat_lt ((a.acct p).balance k) n) [ true ↦ a | false ↦ record a { acct = accounts_after a.acct p q k n } ]
+    elim (nat_lt ((a.acct p).balance k) n) [
+      | true ↦ a
+      | false ↦ record a { acct = accounts_after a.acct p q k n }
+    ]
 
 -- n goes from p to this graft at its point, if p has as much
 abbrev pub after_fund : (p pt : ℕ) → Kind → ℕ → Option GraftValue → Accounts → Accounts
 after_fund p pt k n None a = a
-after_fund p pt k n (Some g) a = elim (nat_lt ((a.acct p).balance k) n) [ true ↦ a | false ↦ accounts_funded p pt k n g a ]
+after_fund p pt k n (Some g) a =
+    elim (nat_lt ((a.acct p).balance k) n) [ true ↦ a | false ↦ accounts_funded p pt k n g a ]
 
 -- from here on p pays for this graft at its point
 abbrev pub after_bill : (p pt : ℕ) → Option GraftValue → Accounts → Accounts

@@ -18,7 +18,8 @@ const EACH: u8 = 16;
 
 /// The accounts of the processes and the grafts at their points.
 ///
-/// Contracts see the arrays, through `accounts_of`: what the kernel's state has of accounts and grafts.
+/// Contracts see the arrays, through `accounts_of`: what the kernel's state has of accounts and
+/// grafts.
 #[derive(Drop)]
 pub struct Accounts {
     grafts: [Option<Standing>; POINTS],
@@ -175,7 +176,8 @@ impl Accounts {
     fn charge_account(&mut self, p: u8, k: Kind) -> bool
         requires { p < 16 }
         ensures answer { result ≡ nat_le 1 (slice_index (sums_of self.old k).balances p) }
-        ensures value { self.new ≡ cond result (with_sums k (paid p 1 (sums_of self.old k)) self.old) self.old }
+        ensures value { self.new
+            ≡ cond result (with_sums k (paid p 1 (sums_of self.old k)) self.old) self.old }
         ensures was { IsTable self.old }
         ensures table { IsTable self.new }
     {
@@ -191,7 +193,8 @@ impl Accounts {
         requires process { p < 16 }
         requires place { i < 256 }
         ensures answer { result ≡ nat_le 1 (slice_index (sums_of self.old k).funds i) }
-        ensures value { self.new ≡ cond result (with_sums k (paid_at p i 1 (sums_of self.old k)) self.old) self.old }
+        ensures value { self.new
+            ≡ cond result (with_sums k (paid_at p i 1 (sums_of self.old k)) self.old) self.old }
         ensures was { IsTable self.old }
         ensures table { IsTable self.new }
     {
@@ -249,13 +252,15 @@ impl Accounts {
         self.locks.close(p);
     }
 
-    /// Moves n from process p to process q. Err has the balance of p, with nothing changed, exactly where it is smaller.
+    /// Moves n from process p to process q. Err has the balance of p, with nothing changed, exactly
+    /// where it is smaller.
     pub fn give(&mut self, p: u8, q: u8, k: Kind, n: u32) -> Result<(), u64>
         requires from { p < 16 }
         requires to { q < 16 }
         ensures answer { result ≡ short_of (((accounts_of self.old).acct p).balance k) n }
         ensures value { accounts_of self.new ≡ after_give p q k n (accounts_of self.old) }
-        ensures sums { (j : Kind) → total (accounts_of self.new) j ≡ total (accounts_of self.old) j }
+        ensures sums { (j : Kind) →
+            total (accounts_of self.new) j ≡ total (accounts_of self.old) j }
     {
         let has = self.balance(p, k);
         if has < u64::from(n) {
@@ -335,8 +340,10 @@ impl Accounts {
         requires some { 1 ≤ limit }
         requires most { limit ≤ 65536 }
         requires free { (accounts_of self.old).graft p pt ≡ None }
-        ensures value { accounts_of self.new ≡ with_graft p pt (new_graft image limit) (accounts_of self.old) }
-        ensures sums { (j : Kind) → total (accounts_of self.new) j ≡ total (accounts_of self.old) j }
+        ensures value { accounts_of self.new
+            ≡ with_graft p pt (new_graft image limit) (accounts_of self.old) }
+        ensures sums { (j : Kind) →
+            total (accounts_of self.new) j ≡ total (accounts_of self.old) j }
     {
         let standing = Standing {
             image,
@@ -346,15 +353,17 @@ impl Accounts {
         self.put(place(p, pt), standing);
     }
 
-    /// Moves n from process p to its graft at point pt, where one stands. Err has the balance of p, with nothing changed,
-    /// exactly where it is smaller.
+    /// Moves n from process p to its graft at point pt, where one stands. Err has the balance of p,
+    /// with nothing changed, exactly where it is smaller.
     pub fn fund(&mut self, p: u8, pt: u8, k: Kind, n: u32) -> Result<(), u64>
         requires process { p < 16 }
         requires point { pt < 16 }
         requires stands { is_some ((accounts_of self.old).graft p pt) ≡ true }
         ensures answer { result ≡ short_of (((accounts_of self.old).acct p).balance k) n }
-        ensures value { accounts_of self.new ≡ after_fund p pt k n ((accounts_of self.old).graft p pt) (accounts_of self.old) }
-        ensures sums { (j : Kind) → total (accounts_of self.new) j ≡ total (accounts_of self.old) j }
+        ensures value { accounts_of self.new
+            ≡ after_fund p pt k n ((accounts_of self.old).graft p pt) (accounts_of self.old) }
+        ensures sums { (j : Kind) →
+            total (accounts_of self.new) j ≡ total (accounts_of self.old) j }
     {
         let has = self.balance(p, k);
         if has < u64::from(n) {
@@ -369,8 +378,10 @@ impl Accounts {
         requires process { p < 16 }
         requires point { pt < 16 }
         requires stands { is_some ((accounts_of self.old).graft p pt) ≡ true }
-        ensures value { accounts_of self.new ≡ after_bill p pt ((accounts_of self.old).graft p pt) (accounts_of self.old) }
-        ensures sums { (j : Kind) → total (accounts_of self.new) j ≡ total (accounts_of self.old) j }
+        ensures value { accounts_of self.new
+            ≡ after_bill p pt ((accounts_of self.old).graft p pt) (accounts_of self.old) }
+        ensures sums { (j : Kind) →
+            total (accounts_of self.new) j ≡ total (accounts_of self.old) j }
     {
         let i = place(p, pt);
         if let Some(standing) = self.standing(i) {
@@ -382,15 +393,18 @@ impl Accounts {
         }
     }
 
-    /// Moves one from whoever pays for the graft at point pt of process p to what p has spent. False, with nothing
-    /// changed, exactly where the payer has none.
+    /// Moves one from whoever pays for the graft at point pt of process p to what p has spent.
+    /// False, with nothing changed, exactly where the payer has none.
     pub fn charge(&mut self, p: u8, pt: u8, k: Kind) -> bool
         requires process { p < 16 }
         requires point { pt < 16 }
         ensures answer { result ≡ nat_le 1 (funds (accounts_of self.old) p pt k) }
-        ensures value { accounts_of self.new ≡ cond result (charge k p pt (accounts_of self.old)) (accounts_of self.old) }
-        ensures ledgers { (j : Kind) (r : ℕ) → ledger (accounts_of self.new) j r ≡ ledger (accounts_of self.old) j r }
-        ensures sums { (j : Kind) → total (accounts_of self.new) j ≡ total (accounts_of self.old) j }
+        ensures value { accounts_of self.new
+            ≡ cond result (charge k p pt (accounts_of self.old)) (accounts_of self.old) }
+        ensures ledgers { (j : Kind) (r : ℕ) →
+            ledger (accounts_of self.new) j r ≡ ledger (accounts_of self.old) j r }
+        ensures sums { (j : Kind) →
+            total (accounts_of self.new) j ≡ total (accounts_of self.old) j }
     {
         let i = place(p, pt);
         match self.standing(i) {
@@ -400,14 +414,15 @@ impl Accounts {
         }
     }
 
-    /// Moves n steps at once from whoever pays for the graft at point pt of process p to what p has spent: the books
-    /// are as if the steps had been charged one after another.
+    /// Moves n steps at once from whoever pays for the graft at point pt of process p to what p has
+    /// spent: the books are as if the steps had been charged one after another.
     pub fn charge_steps(&mut self, p: u8, pt: u8, n: u32)
         requires process { p < 16 }
         requires point { pt < 16 }
         requires enough { n ≤ funds (accounts_of self.old) p pt Steps }
         ensures value { accounts_of self.new ≡ charged_steps n p pt (accounts_of self.old) }
-        ensures sums { (j : Kind) → total (accounts_of self.new) j ≡ total (accounts_of self.old) j }
+        ensures sums { (j : Kind) →
+            total (accounts_of self.new) j ≡ total (accounts_of self.old) j }
     {
         let i = place(p, pt);
         match self.standing(i) {
@@ -417,12 +432,14 @@ impl Accounts {
         }
     }
 
-    /// Takes out the graft at point pt of process p, if one stands, and gives what it has back to p.
+    /// Takes out the graft at point pt of process p, if one stands, and gives what it has back to
+    /// p.
     pub fn remove(&mut self, p: u8, pt: u8)
         requires process { p < 16 }
         requires point { pt < 16 }
         ensures value { accounts_of self.new ≡ removed p pt (accounts_of self.old) }
-        ensures sums { (j : Kind) → total (accounts_of self.new) j ≡ total (accounts_of self.old) j }
+        ensures sums { (j : Kind) →
+            total (accounts_of self.new) j ≡ total (accounts_of self.old) j }
     {
         let i = place(p, pt);
         if self.standing(i).is_some() {
@@ -435,7 +452,8 @@ impl Accounts {
         requires process { p < 16 }
         requires points { points ≤ 16 }
         ensures value { accounts_of self.new ≡ without_grafts p points (accounts_of self.old) }
-        ensures sums { (j : Kind) → total (accounts_of self.new) j ≡ total (accounts_of self.old) j }
+        ensures sums { (j : Kind) →
+            total (accounts_of self.new) j ≡ total (accounts_of self.old) j }
     {
         let mut left = points;
         while left > 0 {
@@ -444,12 +462,15 @@ impl Accounts {
         }
     }
 
-    /// Takes out all grafts of process p, which isn't 0, and gives all that p has and has spent to process 0.
+    /// Takes out all grafts of process p, which isn't 0, and gives all that p has and has spent to
+    /// process 0.
     pub fn close(&mut self, p: u8)
         requires process { p < 16 }
         requires not_root { 0 < p }
-        ensures value { accounts_of self.new ≡ account_closed p (without_grafts p 16 (accounts_of self.old)) }
-        ensures sums { (j : Kind) → total (accounts_of self.new) j ≡ total (accounts_of self.old) j }
+        ensures value { accounts_of self.new
+            ≡ account_closed p (without_grafts p 16 (accounts_of self.old)) }
+        ensures sums { (j : Kind) →
+            total (accounts_of self.new) j ≡ total (accounts_of self.old) j }
     {
         self.remove_first(p, EACH);
         self.close_account(p);

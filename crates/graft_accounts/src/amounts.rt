@@ -9,8 +9,8 @@ pub(crate) const PROCESSES: usize = 16;
 /// The points of all processes, 16 each.
 pub(crate) const POINTS: usize = 256;
 
-/// The amounts of one kind: what each process has and has spent, and what the graft at each point has. In all they are
-/// the grant.
+/// The amounts of one kind: what each process has and has spent, and what the graft at each point
+/// has. In all they are the grant.
 #[derive(Drop)]
 pub(crate) struct Amounts {
     pub(crate) grant: u32,

@@ -1,4 +1,5 @@
--- What must hold of a graft call in place for its next instruction, and what an instruction leaves as it was.
+-- What must hold of a graft call in place for its next instruction, and what an instruction leaves
+-- as it was.
 use Rattle.std.specs.Prelude.{◌≡◌, ◌≢◌, ℕ, ◌+◌, ◌*◌, ◌<◌, ◌≤◌, false, true, List, [], ◌∷◌, length, slice_index, ⊤, ◌⊎◌}
 use Rattle.kernel_model.specs.declared.Inverse.{Inverse}
 use Rattle.kernel_model.specs.declared.Object.{Object}
@@ -32,13 +33,16 @@ pub record IsSoundLevel (queue : List QueueRow) (g : GraftLevel) : Type 0 where
 -- levels, innermost first: each is sound, and no graft is two of them
 abbrev pub AreSound : List QueueRow → List GraftLevel → Type 0
 AreSound queue [] = ⊤
-AreSound queue (g ∷ gs) = IsSoundLevel queue g × (is_running_in gs g.owner g.point ≡ false) × AreSound queue gs
+AreSound queue (g ∷ gs) = IsSoundLevel queue g × (is_running_in gs g.owner g.point ≡ false)
+    × AreSound queue gs
 
--- Level d of process p runs: its count is within the limit of its graft, and its machine is inside its segment on the code of its
+-- Level d of process p runs: its count is within the limit of its graft, and its machine is inside
+-- its segment on the code of its
 -- graft, whatever memory has. So its graft stands, and the image of it is loaded.
 pub record RunsInside (images : ImageTable) (a : Accounts) (p d : ℕ) (g : GraftLevel) : Type 0 where
   pub count : g.count ≤ limit_in (a.graft g.owner g.point)
-  pub inside : (ram : List ℕ) → IsInside (code_of images a g.owner g.point) (4 * p + d) (machine_of g.machine ram)
+  pub inside : (ram : List ℕ) →
+      IsInside (code_of images a g.owner g.point) (4 * p + d) (machine_of g.machine ram)
 
 -- levels of process p, innermost first, that run
 abbrev pub AreInside : ImageTable → Accounts → ℕ → List GraftLevel → Type 0
@@ -55,7 +59,8 @@ abbrev pub AllUndoable : List (List Inverse) → Things → Type 0
 AllUndoable [] w = ⊤
 AllUndoable (is ∷ log) w = AreUndoable is w × AllUndoable log w
 
--- Levels of process p with this undo log stand in place on a store: there are at most four, each with its records, the process
+-- Levels of process p with this undo log stand in place on a store: there are at most four, each
+-- with its records, the process
 -- holds nothing further inward, and all records can be undone.
 pub record IsPlaced {B : Type 0} {P : _} (s : Store B P) (t : List (List Holds)) (p : ℕ)
     (gs : List GraftLevel) (log : List (List Inverse)) : Type 0 where
@@ -66,7 +71,8 @@ pub record IsPlaced {B : Type 0} {P : _} (s : Store B P) (t : List (List Holds))
   pub levels : AreSound (queue_of s) gs
   pub undoable : AllUndoable log (objects_of s).things
 
--- A graft call in place: nothing more is needed for its next instruction, nor for a drop, and both keep it.
+-- A graft call in place: nothing more is needed for its next instruction, nor for a drop, and both
+-- keep it.
 pub record IsInPlace {B : Type 0} {P : _} (s : Store B P) (t : List (List Holds))
     (images : ImageTable) (p : ℕ) (gs : List GraftLevel) (log : List (List Inverse)) : Type 0 where
   pub placed : IsPlaced s t p gs log
@@ -93,9 +99,11 @@ pub record HasOtherMemory {B : Type 0} {P : _} (s u : Store B P) : Type 0 where
 abbrev pub IsBeyond : (p a : ℕ) → Type 0
 IsBeyond p a = (a < base_of p 0) ⊎ (base_of p 4 ≤ a)
 
--- Of all that the state of objects doesn't tell, another store and lock table have the same: the set-up, who lives, what other
+-- Of all that the state of objects doesn't tell, another store and lock table have the same: the
+-- set-up, who lives, what other
 -- processes hold, and the bytes of memory outside the segments of process p.
-pub record IsElsewhereSame {B : Type 0} {P : _} (s u : Store B P) (t r : List (List Holds)) (p : ℕ) : Type 0 where
+pub record IsElsewhereSame {B : Type 0} {P : _} (s u : Store B P) (t r : List (List Holds))
+    (p : ℕ) : Type 0 where
   pub world : world_of_store u ≡ world_of_store s
   pub living : (q : ℕ) → lives (queue_of u) q ≡ lives (queue_of s) q
   pub others : (q d : ℕ) → q ≢ p → held r q d ≡ held t q d

@@ -33,7 +33,8 @@ abbrev pub outer : List (List Inverse) → List (List Inverse)
 outer [] = []
 outer (is ∷ log) = log
 
--- level d of process p, whose segment is in this memory and which holds what the table says; it has these records, and found
+-- level d of process p, whose segment is in this memory and which holds what the table says; it has
+-- these records, and found
 -- these things when it began
 abbrev pub level_in : (p d : ℕ) → List ℕ → LockTable → GraftLevel → List Inverse → Things → Level
 level_in p d ram t g is kept =
@@ -48,12 +49,15 @@ level_in p d ram t g is kept =
       kept = kept;
     }
 
--- The levels of process p, innermost first, where these are the things now: what a level found is what undoing its records
+-- The levels of process p, innermost first, where these are the things now: what a level found is
+-- what undoing its records
 -- and those further inward gives.
-abbrev pub levels_in : ℕ → List ℕ → LockTable → List GraftLevel → List (List Inverse) → Things → List Level
+abbrev pub levels_in : ℕ → List ℕ → LockTable → List GraftLevel → List (List Inverse) → Things →
+    List Level
 levels_in p ram t [] log w = []
 levels_in p ram t (g ∷ gs) log w =
-    level_in p (length gs) ram t g (innermost log) (put_back (innermost log) w) ∷ levels_in p ram t gs (outer log) (put_back (innermost log) w)
+    level_in p (length gs) ram t g (innermost log) (put_back (innermost log) w)
+    ∷ levels_in p ram t gs (outer log) (put_back (innermost log) w)
 
 -- the innermost level, if there is one
 abbrev pub first_level : List GraftLevel → Option GraftLevel
@@ -75,13 +79,17 @@ abbrev pub call_of : {B : Type 0} {P : _} → Store B P → List (List Holds) �
 call_of s t c p = record { now = objects_of s; levels = levels_of s t c p }
 
 -- a level that was taken from the inner end of a chain, whose records are still in the log
-abbrev pub level_of : {B : Type 0} {P : _} → Store B P → List (List Holds) → Chain → ℕ → GraftLevel → Level
+abbrev pub level_of : {B : Type 0} {P : _} → Store B P → List (List Holds) → Chain → ℕ →
+    GraftLevel → Level
 level_of s t c p g =
-    level_in p (length c.levels) s.ram (held t) g (innermost c.undo) (put_back (innermost c.undo) (objects_of s).things)
+    level_in p (length c.levels) s.ram (held t) g (innermost c.undo)
+    (put_back (innermost c.undo) (objects_of s).things)
 
 -- the levels outside it
 abbrev pub outer_of : {B : Type 0} {P : _} → Store B P → List (List Holds) → Chain → ℕ → List Level
-outer_of s t c p = levels_in p s.ram (held t) c.levels (outer c.undo) (put_back (innermost c.undo) (objects_of s).things)
+outer_of s t c p =
+    levels_in p s.ram (held t) c.levels (outer c.undo)
+    (put_back (innermost c.undo) (objects_of s).things)
 
 -- ---- outcomes
 

@@ -47,7 +47,8 @@ fn go_on(level: GraftLevel, r0: u32, levels: &mut Levels)
         levels_in p ram t levels.new log w ≡ with_machine (answered spec.Victim r0 0 l.machine) l
         ∷ levels_in p ram t levels.old (outer log) (put_back (innermost log) w) }
     ensures count { length levels.new ≡ suc (length levels.old) }
-    ensures sound { (queue : List Waiting) → AreSound queue (level ∷ levels.old) → AreSound queue levels.new }
+    ensures sound { (queue : List Waiting) → AreSound queue (level ∷ levels.old) →
+        AreSound queue levels.new }
     ensures inside { (images : ImageTable) (a : Funds) (p : ℕ) →
         AreInside images a p (level ∷ levels.old) → AreInside images a p levels.new }
 {
@@ -60,7 +61,8 @@ fn go_on(level: GraftLevel, r0: u32, levels: &mut Levels)
 fn is_lock_due(id: u32, object: Object, p: u8, locks: &LockTable) -> bool
     requires process { p < 16 }
     requires range { IsInRange object }
-    ensures { result ≡ (id == 12 && not (is_some (outermost_holding object Exclusive (held locks.now p)))) }
+    ensures { result
+        ≡ (id == 12 && not (is_some (outermost_holding object Exclusive (held locks.now p)))) }
 {
     id == ids::TAKE_LOCK && locks.level_of(p, object, Mode::Exclusive).is_none()
 }
@@ -77,7 +79,8 @@ fn give<B: Policy>(
     locks: &mut LockTable,
 ) -> Micro
     requires placed { IsPlaced store.old locks.old p (level ∷ chain.old.levels) chain.old.undo }
-    requires object { need.object ≡ (accessed id (slice_index level.machine.regs 0) level.owner).object }
+    requires object { need.object
+        ≡ (accessed id (slice_index level.machine.regs 0) level.owner).object }
     requires mode { need.mode ≡ (accessed id (slice_index level.machine.regs 0) level.owner).mode }
     requires range { IsInRange need.object }
     requires plain { id ≤ 12 }
@@ -127,7 +130,8 @@ fn change<B: Policy>(
     locks: &mut LockTable,
 ) -> Micro
     requires placed { IsPlaced store.old locks.old p (level ∷ chain.old.levels) chain.old.undo }
-    requires object { need.object ≡ (accessed id (slice_index level.machine.regs 0) level.owner).object }
+    requires object { need.object
+        ≡ (accessed id (slice_index level.machine.regs 0) level.owner).object }
     requires mode { need.mode ≡ (accessed id (slice_index level.machine.regs 0) level.owner).mode }
     requires range { IsInRange need.object }
     requires plain { id ≤ 12 }
@@ -178,7 +182,8 @@ pub(crate) fn access<B: Policy>(
     locks: &mut LockTable,
 ) -> Micro
     requires placed { IsPlaced store.old locks.old p (level ∷ chain.old.levels) chain.old.undo }
-    requires object { need.object ≡ (accessed id (slice_index level.machine.regs 0) level.owner).object }
+    requires object { need.object
+        ≡ (accessed id (slice_index level.machine.regs 0) level.owner).object }
     requires mode { need.mode ≡ (accessed id (slice_index level.machine.regs 0) level.owner).mode }
     requires range { IsInRange need.object }
     requires plain { id ≤ 12 }
@@ -187,7 +192,8 @@ pub(crate) fn access<B: Policy>(
     ensures step { let l = level_of store.old locks.old chain.old p level in
         let ls = outer_of store.old locks.old chain.old p in
         came (after_accessor (world_of_store store.old) (objects_of store.old) l ls l.machine id
-        (accessed_by id (l.machine.regs 0) (l.machine.regs 1) (l.machine.regs 2) l.owner (objects_of store.old).things))
+        (accessed_by id (l.machine.regs 0) (l.machine.regs 1) (l.machine.regs 2) l.owner
+        (objects_of store.old).things))
         ≡ (result, call_of store.new locks.new chain.new p) }
     ensures placed { IsPlaced store.new locks.new p chain.new.levels chain.new.undo }
     ensures inside { (images : ImageTable) →

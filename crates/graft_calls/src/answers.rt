@@ -42,7 +42,8 @@ pub(crate) fn answer(machine: &mut Machine, pt: u8, r0: u32, r1: u32)
 /// The innermost level, if there is one, gets the answer of point pt.
 pub(crate) fn give_answer(levels: &mut Levels, pt: u8, r0: u32, r1: u32)
     requires { length levels.old ≤ 4 }
-    ensures levels { (p : ℕ) (ram : List ℕ) (t : LockTable) (log : List (List Undoing)) (w : Things) →
+    ensures levels { (p : ℕ) (ram : List ℕ) (t : LockTable) (log : List (List Undoing))
+        (w : Things) →
         levels_in p ram t levels.new log w ≡ answer_innermost pt r0 r1 (levels_in p ram t levels.old log w) }
     ensures count { length levels.new ≡ length levels.old }
     ensures sound { (queue : List Waiting) → AreSound queue levels.old → AreSound queue levels.new }

@@ -73,7 +73,8 @@ pub(crate) fn asked_needs(id: u32, r0: u32, q: u8) -> [Need; 2]
     }
 }
 
-/// Whether a point can't be asked, as the values show: its file isn't open, or process q has no frame.
+/// Whether a point can't be asked, as the values show: its file isn't open, or process q has no
+/// frame.
 fn is_vain<B: Policy>(store: &Store<B>, q: u8, pt: u8) -> bool
     requires lives { lives (queue_of store.now) q ≡ true }
     ensures { result ≡ is_vain_ask (kind_of pt) (objects_of store.now).things q pt }
@@ -85,14 +86,16 @@ fn is_vain<B: Policy>(store: &Store<B>, q: u8, pt: u8) -> bool
     }
 }
 
-/// Whether the asking level or one outside it is a run of the graft at point pt of the same process.
+/// Whether the asking level or one outside it is a run of the graft at point pt of the same
+/// process.
 fn is_running(level: &GraftLevel, levels: &Levels, pt: u8) -> bool
     ensures { result ≡ is_running_in (level.now ∷ levels.now) level.now.owner pt }
 {
     level.point == pt || levels.runs(level.owner, pt)
 }
 
-/// Whether a graft stands at point pt of process q, but there is no room for a level, as the asking level is inside three others.
+/// Whether a graft stands at point pt of process q, but there is no room for a level, as the asking
+/// level is inside three others.
 fn is_too_deep(levels: &Levels, accounts: &Accounts, q: u8, pt: u8) -> bool
     requires owner { q < 16 }
     requires point { pt < 16 }
@@ -101,7 +104,8 @@ fn is_too_deep(levels: &Levels, accounts: &Accounts, q: u8, pt: u8) -> bool
     accounts.stands(q, pt) && levels.count() == 3
 }
 
-/// Why an ask of point pt is refused by the values, if it is; the asking level was taken from the others.
+/// Why an ask of point pt is refused by the values, if it is; the asking level was taken from the
+/// others.
 fn ask_refusal<B: Policy>(
     id: u32,
     pt: u8,
@@ -116,7 +120,8 @@ fn ask_refusal<B: Policy>(
     ensures value { (p : ℕ) (ram : List ℕ) (t : Table) (log : List (List Undoing)) (w : Things) →
         result ≡ refusal_of_ask (objects_of store.now) level.now.owner pt id
         (levels_in p ram t (level.now ∷ levels.now) log w) }
-    ensures free { result ≡ None → is_running_in (level.now ∷ levels.now) level.now.owner pt ≡ false }
+    ensures free { result ≡ None →
+        is_running_in (level.now ∷ levels.now) level.now.owner pt ≡ false }
     ensures room { result ≡ None → (objects_of store.now).accounts.graft level.now.owner pt ≢ None →
         length levels.now < 3 }
 {
@@ -145,8 +150,8 @@ fn touch_asked(id: u32, r0: u32, q: u8, p: u8, d: u8, locks: &mut LockTable)
     locks.touch(p, 0, Object::Graft(q, asked_point(id, r0)), Mode::Exclusive);
 }
 
-/// An ask that isn't refused is answered: a level begins inside the others where a graft stands, else the innermost level gets the
-/// default.
+/// An ask that isn't refused is answered: a level begins inside the others where a graft stands,
+/// else the innermost level gets the default.
 fn answer_ask<B: Policy>(
     pt: u8,
     q: u8,
@@ -156,17 +161,20 @@ fn answer_ask<B: Policy>(
     locks: &LockTable,
     images: &Images,
 ) -> Micro
-    requires in_place { IsInPlace store.old locks.now (table_of images.now) p chain.old.levels chain.old.undo }
+    requires in_place { IsInPlace store.old locks.now
+        (table_of images.now) p chain.old.levels chain.old.undo }
     requires owner { q < 16 }
     requires point { pt < 16 }
     requires lives { lives (queue_of store.old) q ≡ true }
     requires free { is_running_in chain.old.levels q pt ≡ false }
-    requires room { (objects_of store.old).accounts.graft q pt ≢ None → length chain.old.levels < 4 }
+    requires room { (objects_of store.old).accounts.graft q pt ≢ None →
+        length chain.old.levels < 4 }
     ensures step { came (ask_answered (world_of_store store.old) (table_of images.now)
         (objects_of store.old) p q pt (levels_of store.old locks.now chain.old p)
         ((objects_of store.old).accounts.graft q pt))
         ≡ (result, call_of store.new locks.now chain.new p) }
-    ensures in_place { IsInPlace store.new locks.now (table_of images.now) p chain.new.levels chain.new.undo }
+    ensures in_place { IsInPlace store.new locks.now
+        (table_of images.now) p chain.new.levels chain.new.undo }
     ensures elsewhere { IsElsewhereSame store.old store.new locks.now locks.now p }
 {
     if store.accounts.graft(q, pt).is_none() {
@@ -206,7 +214,8 @@ pub(crate) fn ask<B: Policy>(
         (objects_of store.old) p l ls l.machine id pt
         (refusal_of_ask (objects_of store.old) l.owner pt id (l ∷ ls)))
         ≡ (result, call_of store.new locks.new chain.new p) }
-    ensures in_place { IsInPlace store.new locks.new (table_of images.now) p chain.new.levels chain.new.undo }
+    ensures in_place { IsInPlace store.new locks.new
+        (table_of images.now) p chain.new.levels chain.new.undo }
     ensures elsewhere { IsElsewhereSame store.old store.new locks.old locks.new p }
 {
     let q = level.owner;

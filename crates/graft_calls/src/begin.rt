@@ -81,8 +81,8 @@ pub(crate) fn begin_level<B: Policy>(
 }
 
 impl Chain {
-    /// The graft call of a process begins, where a piece asks a point at which a graft stands: level 0 holds what the piece
-    /// needs. The process holds nothing before.
+    /// The graft call of a process begins, where a piece asks a point at which a graft stands:
+    /// level 0 holds what the piece needs. The process holds nothing before.
     pub fn begin<B: Policy>(
         &mut self,
         p: u8,
@@ -97,12 +97,14 @@ impl Chain {
         requires owner { at.now.installer < 16 }
         requires point { at.now.point < 16 }
         requires lives { lives (queue_of store.old) at.now.installer ≡ true }
-        requires stands { is_some ((objects_of store.old).accounts.graft at.now.installer at.now.point) ≡ true }
+        requires stands { is_some
+            ((objects_of store.old).accounts.graft at.now.installer at.now.point) ≡ true }
         requires loaded { ImagesAreLoaded (table_of images.now) (objects_of store.old).accounts }
         requires range { All (λ (n : Needed). IsInRange n.object) needs.now }
         ensures value { call_of store.new locks.new self.new p
             ≡ begin_at (table_of images.now) (objects_of store.old) p needs.now at.now }
-        ensures in_place { IsInPlace store.new locks.new (table_of images.now) p self.new.levels self.new.undo }
+        ensures in_place { IsInPlace store.new locks.new
+            (table_of images.now) p self.new.levels self.new.undo }
         ensures elsewhere { IsElsewhereSame store.old store.new locks.old locks.new p }
     {
         let image = image_at(images, &store.accounts, at.installer, at.point);

@@ -12,16 +12,18 @@ use graft_accounts::Accounts;
 use kernel_model::Kind;
 use undo_calls::{RECORDS, UndoStack};
 
-/// Charges a level for one more instruction. False, with nothing changed, exactly where its count is at the limit of its graft, or
-/// nobody pays for it.
+/// Charges a level for one more instruction. False, with nothing changed, exactly where its count
+/// is at the limit of its graft, or nobody pays for it.
 pub(crate) fn charge_step(level: &mut GraftLevel, accounts: &mut Accounts) -> bool
     requires owner { level.old.owner < 16 }
     requires point { level.old.point < 16 }
-    requires count { level.old.count ≤ limit_in ((accounts_of accounts.old).graft level.old.owner level.old.point) }
+    requires count { level.old.count ≤ limit_in
+        ((accounts_of accounts.old).graft level.old.owner level.old.point) }
     ensures answer { result ≡ not (level.old.count == limit_in
         ((accounts_of accounts.old).graft level.old.owner level.old.point)
         || funds (accounts_of accounts.old) level.old.owner level.old.point Steps == 0) }
-    ensures level { level.new ≡ cond result (record level.old { count = level.old.count + 1 }) level.old }
+    ensures level { level.new
+        ≡ cond result (record level.old { count = level.old.count + 1 }) level.old }
     ensures accounts { accounts_of accounts.new
         ≡ cond result (charge Steps level.old.owner level.old.point (accounts_of accounts.old))
         (accounts_of accounts.old) }
@@ -36,8 +38,8 @@ pub(crate) fn charge_step(level: &mut GraftLevel, accounts: &mut Accounts) -> bo
     true
 }
 
-/// Charges one of records. False, with nothing changed, exactly where nobody pays for it, or the call has as many records as there
-/// may be.
+/// Charges one of records. False, with nothing changed, exactly where nobody pays for it, or the
+/// call has as many records as there may be.
 pub(crate) fn charge_record(undo: &UndoStack, accounts: &mut Accounts, q: u8, pt: u8) -> bool
     requires owner { q < 16 }
     requires point { pt < 16 }
@@ -49,7 +51,8 @@ pub(crate) fn charge_record(undo: &UndoStack, accounts: &mut Accounts, q: u8, pt
     undo.list().len() < RECORDS && accounts.charge(q, pt, Kind::Records)
 }
 
-/// Charges one of locks where that is due. False, with nothing changed, exactly where it is due and nobody pays for it.
+/// Charges one of locks where that is due. False, with nothing changed, exactly where it is due and
+/// nobody pays for it.
 pub(crate) fn charge_lock(due: bool, accounts: &mut Accounts, q: u8, pt: u8) -> bool
     requires owner { q < 16 }
     requires point { pt < 16 }

@@ -20,7 +20,8 @@ pub(crate) fn find_image<'a>(
     requires point { pt < 16 }
     ensures some { IfSome result (λ l. model.image_of (table_of images.now)
         ((accounts_of accounts.now).graft q pt) ≡ Some l.now) }
-    ensures none { IfNone result (model.image_of (table_of images.now) ((accounts_of accounts.now).graft q pt) ≡ None) }
+    ensures none { IfNone result
+        (model.image_of (table_of images.now) ((accounts_of accounts.now).graft q pt) ≡ None) }
 {
     match accounts.image(q, pt) {
         Some(slot) => images.get(u32::from(slot)),
@@ -32,8 +33,10 @@ pub(crate) fn find_image<'a>(
 pub(crate) fn image_of<'a>(images: &'a Images, accounts: &Accounts, q: u8, pt: u8) -> &'a Loaded
     requires owner { q < 16 }
     requires point { pt < 16 }
-    requires loaded { is_some (model.image_of (table_of images.now) ((accounts_of accounts.now).graft q pt)) ≡ true }
-    ensures { model.image_of (table_of images.now) ((accounts_of accounts.now).graft q pt) ≡ Some result.now }
+    requires loaded { is_some
+        (model.image_of (table_of images.now) ((accounts_of accounts.now).graft q pt)) ≡ true }
+    ensures { model.image_of (table_of images.now) ((accounts_of accounts.now).graft q pt)
+        ≡ Some result.now }
 {
     match find_image(images, accounts, q, pt) {
         Some(image) => image,
@@ -45,7 +48,8 @@ pub(crate) fn image_of<'a>(images: &'a Images, accounts: &Accounts, q: u8, pt: u
 pub(crate) fn code_of<'a>(images: &'a Images, accounts: &Accounts, q: u8, pt: u8) -> &'a Verified
     requires owner { q < 16 }
     requires point { pt < 16 }
-    requires some { 0 < length (model.code_of (table_of images.now) (accounts_of accounts.now) q pt) }
+    requires some { 0 < length
+        (model.code_of (table_of images.now) (accounts_of accounts.now) q pt) }
     ensures { result.now ≡ model.code_of (table_of images.now) (accounts_of accounts.now) q pt }
 {
     image_of(images, accounts, q, pt).code()

@@ -30,7 +30,8 @@ pub(crate) fn undo_records<B: Policy>(undo: &mut UndoStack, store: &mut Store<B>
     ensures none { innermost undo.new ≡ [] }
     ensures outer { outer undo.new ≡ outer undo.old }
     ensures level { 0 < length undo.new }
-    ensures objects { objects_of store.new ≡ put_back_on (innermost undo.old) (objects_of store.old) }
+    ensures objects { objects_of store.new
+        ≡ put_back_on (innermost undo.old) (objects_of store.old) }
     ensures memory { store.new.ram ≡ store.old.ram }
     ensures world { world_of_store store.new ≡ world_of_store store.old }
     ensures living { (q : ℕ) → lives (queue_of store.new) q ≡ lives (queue_of store.old) q }
@@ -48,7 +49,8 @@ pub(crate) fn undo_level<B: Policy>(undo: &mut UndoStack, store: &mut Store<B>)
     requires level { 0 < length undo.old }
     requires undoable { AreUndoable (innermost undo.old) (objects_of store.old).things }
     ensures log { undo.new ≡ outer undo.old }
-    ensures objects { objects_of store.new ≡ put_back_on (innermost undo.old) (objects_of store.old) }
+    ensures objects { objects_of store.new
+        ≡ put_back_on (innermost undo.old) (objects_of store.old) }
     ensures memory { store.new.ram ≡ store.old.ram }
     ensures world { world_of_store store.new ≡ world_of_store store.old }
     ensures living { (q : ℕ) → lives (queue_of store.new) q ≡ lives (queue_of store.old) q }
@@ -59,7 +61,8 @@ pub(crate) fn undo_level<B: Policy>(undo: &mut UndoStack, store: &mut Store<B>)
     undo.end_level();
 }
 
-/// A level that was taken out of a chain ends: its records are undone, newest first, and it lets go of what it holds.
+/// A level that was taken out of a chain ends: its records are undone, newest first, and it lets go
+/// of what it holds.
 pub(crate) fn end_level<B: Policy>(
     chain: &mut Chain,
     p: u8,
@@ -73,7 +76,8 @@ pub(crate) fn end_level<B: Policy>(
     requires sound { AreSound (queue_of store.old) chain.old.levels }
     ensures levels { chain.new.levels ≡ chain.old.levels }
     ensures log { chain.new.undo ≡ outer chain.old.undo }
-    ensures objects { objects_of store.new ≡ put_back_on (innermost chain.old.undo) (objects_of store.old) }
+    ensures objects { objects_of store.new
+        ≡ put_back_on (innermost chain.old.undo) (objects_of store.old) }
     ensures locks { held locks.new ≡ release_from p (length chain.old.levels) (held locks.old) }
     ensures memory { store.new.ram ≡ store.old.ram }
     ensures placed { IsPlaced store.new locks.new p chain.new.levels chain.new.undo }
@@ -83,8 +87,9 @@ pub(crate) fn end_level<B: Policy>(
     locks.release_from(p, chain.levels.count());
 }
 
-/// A level that was taken out of a chain is dropped, and those that were further inward are gone: its records are undone, it lets
-/// go of what it holds, its graft is taken out, and the level that asked gets the default answer.
+/// A level that was taken out of a chain is dropped, and those that were further inward are gone:
+/// its records are undone, it lets go of what it holds, its graft is taken out, and the level that
+/// asked gets the default answer.
 pub(crate) fn drop_innermost<B: Policy>(
     level: GraftLevel,
     chain: &mut Chain,
@@ -115,7 +120,8 @@ pub(crate) fn drop_innermost<B: Policy>(
 }
 
 impl Chain {
-    /// The drop of level d, counted from the outermost, by this cause: those further inward end with it.
+    /// The drop of level d, counted from the outermost, by this cause: those further inward end
+    /// with it.
     pub fn drop_level<B: Policy>(
         &mut self,
         p: u8,

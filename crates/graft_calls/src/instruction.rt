@@ -40,9 +40,11 @@ fn call<B: Policy>(
     ensures step { let l = level_of store.old locks.old chain.old p level in
         came (after_call (world_of_store store.old) (table_of images.now) (objects_of store.old) p l
         (outer_of store.old locks.old chain.old p) l.machine id
-        (early_refusal (world_of_store store.old).callable id (l.machine.regs 0) (l.machine.regs 1) l.owner))
+        (early_refusal (world_of_store store.old).callable id (l.machine.regs 0)
+        (l.machine.regs 1) l.owner))
         ≡ (result, call_of store.new locks.new chain.new p) }
-    ensures in_place { IsInPlace store.new locks.new (table_of images.now) p chain.new.levels chain.new.undo }
+    ensures in_place { IsInPlace store.new locks.new
+        (table_of images.now) p chain.new.levels chain.new.undo }
     ensures elsewhere { IsElsewhereSame store.old store.new locks.old locks.new p }
 {
     if id > LAST_CALLABLE {
@@ -74,7 +76,8 @@ fn after_machine<B: Policy>(
         came (after_step (world_of_store store.old) (table_of images.now) p (objects_of store.old) l
         (outer_of store.old locks.old chain.old p) (done_of done l.machine))
         ≡ (result, call_of store.new locks.new chain.new p) }
-    ensures in_place { IsInPlace store.new locks.new (table_of images.now) p chain.new.levels chain.new.undo }
+    ensures in_place { IsInPlace store.new locks.new
+        (table_of images.now) p chain.new.levels chain.new.undo }
     ensures elsewhere { IsElsewhereSame store.old store.new locks.old locks.new p }
 {
     match done {
@@ -93,8 +96,8 @@ fn after_machine<B: Policy>(
     }
 }
 
-/// One instruction of a level that was taken out of the chain: it is charged and done, or the level is dropped where no step is
-/// left.
+/// One instruction of a level that was taken out of the chain: it is charged and done, or the level
+/// is dropped where no step is left.
 fn run<B: Policy>(
     level: GraftLevel,
     chain: &mut Chain,
@@ -109,7 +112,8 @@ fn run<B: Policy>(
         (objects_of store.old) (level_of store.old locks.old chain.old p level
         ∷ outer_of store.old locks.old chain.old p))
         ≡ (result, call_of store.new locks.new chain.new p) }
-    ensures in_place { IsInPlace store.new locks.new (table_of images.now) p chain.new.levels chain.new.undo }
+    ensures in_place { IsInPlace store.new locks.new
+        (table_of images.now) p chain.new.levels chain.new.undo }
     ensures elsewhere { IsElsewhereSame store.old store.new locks.old locks.new p }
 {
     let mut level = level;
@@ -127,8 +131,9 @@ fn run<B: Policy>(
 }
 
 impl Chain {
-    /// One instruction of the innermost level, whatever another call holds. `Completed` has the answer of level 0, and then no
-    /// level is left; `Dropped` has the number of the level that was dropped, its graft and the cause. `Blocked` isn't answered.
+    /// One instruction of the innermost level, whatever another call holds. `Completed` has the
+    /// answer of level 0, and then no level is left; `Dropped` has the number of the level that was
+    /// dropped, its graft and the cause. `Blocked` isn't answered.
     pub fn instruction<B: Policy>(
         &mut self,
         p: u8,
@@ -136,11 +141,13 @@ impl Chain {
         locks: &mut LockTable,
         images: &Images,
     ) -> Micro
-        requires in_place { IsInPlace store.old locks.old (table_of images.now) p self.old.levels self.old.undo }
+        requires in_place { IsInPlace store.old locks.old
+            (table_of images.now) p self.old.levels self.old.undo }
         ensures step { came (micro (world_of_store store.old) (table_of images.now) p
             (call_of store.old locks.old self.old p))
             ≡ (result, call_of store.new locks.new self.new p) }
-        ensures in_place { IsInPlace store.new locks.new (table_of images.now) p self.new.levels self.new.undo }
+        ensures in_place { IsInPlace store.new locks.new
+            (table_of images.now) p self.new.levels self.new.undo }
         ensures elsewhere { IsElsewhereSame store.old store.new locks.old locks.new p }
     {
         match self.levels.pop() {

@@ -1,7 +1,8 @@
 //! One graft call in place: how it begins, each instruction of it, and the drop of a level.
 //!
-//! A call changes the one store as it goes. Its undo log leads back, and the lock table has what its levels hold. Contracts see
-//! the graft call of the definitions that a chain of levels is on a store (`call_of`).
+//! A call changes the one store as it goes. Its undo log leads back, and the lock table has what
+//! its levels hold. Contracts see the graft call of the definitions that a chain of levels is on a
+//! store (`call_of`).
 #![tactic(auto)]
 
 mod accessors;
@@ -35,7 +36,8 @@ pub struct GraftLevel {
     pub count: u32,
     /// The arguments that it was given.
     pub args: [u32; 4],
-    /// Its registers, and its place in the code. Level d of process p has segment 4 * p + d of memory.
+    /// Its registers, and its place in the code. Level d of process p has segment 4 * p + d of
+    /// memory.
     pub machine: Machine,
 }
 

@@ -188,10 +188,12 @@ fn level_needs(level: &GraftLevel, accounts: &Accounts, images: &Images) -> Need
 }
 
 impl Chain {
-    /// What the next instruction needs: the objects of its call, if it is one that isn't refused by its arguments.
+    /// What the next instruction needs: the objects of its call, if it is one that isn't refused by
+    /// its arguments.
     pub fn needs<B: Policy>(&self, store: &Store<B>, images: &Images) -> Needs
         requires { AreSound (queue_of store.now) self.now.levels }
-        ensures value { (p : ℕ) (ram : List ℕ) (t : Table) (log : List (List Undoing)) (w : Things) →
+        ensures value { (p : ℕ) (ram : List ℕ) (t : Table) (log : List (List Undoing))
+            (w : Things) →
             result ≡ next_needs (world_of_store store.now) (table_of images.now)
             (objects_of store.now).accounts (levels_in p ram t self.now.levels log w) }
         ensures range { All (λ (n : Needed). IsInRange n.object) result }
@@ -202,7 +204,8 @@ impl Chain {
         }
     }
 
-    /// Whose user locks don't hinder the next instruction: those of the innermost level's installer, or else of process p.
+    /// Whose user locks don't hinder the next instruction: those of the innermost level's
+    /// installer, or else of process p.
     pub fn lock_user(&self, p: u8) -> u8
         ensures { (q : ℕ) (ram : List ℕ) (t : Table) (log : List (List Undoing)) (w : Things) →
             result ≡ user_of_locks p (levels_in q ram t self.now.levels log w) }

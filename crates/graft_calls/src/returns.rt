@@ -55,7 +55,8 @@ fn join(level: GraftLevel, asker: GraftLevel, levels: &mut Levels, p: u8, locks:
         ∷ levels_in q ram t levels.old (outer log) (put_back (innermost log) w) }
     ensures locks { held locks.new ≡ merge_level p (suc (length levels.old)) (held locks.old) }
     ensures count { length levels.new ≡ suc (length levels.old) }
-    ensures sound { (queue : List Waiting) → AreSound queue (asker ∷ levels.old) → AreSound queue levels.new }
+    ensures sound { (queue : List Waiting) → AreSound queue (asker ∷ levels.old) →
+        AreSound queue levels.new }
     ensures inside { (images : ImageTable) (a : Funds) (q : ℕ) →
         AreInside images a q (asker ∷ levels.old) → AreInside images a q levels.new }
 {
@@ -70,13 +71,15 @@ fn join(level: GraftLevel, asker: GraftLevel, levels: &mut Levels, p: u8, locks:
     levels.push(asker);
 }
 
-/// A level that was taken out of a chain ends with its answer. Level 0 ends the call: what it held is let go, and its records are
-/// forgotten. Another one gives its answer, what it held and its records to the level that asked.
+/// A level that was taken out of a chain ends with its answer. Level 0 ends the call: what it held
+/// is let go, and its records are forgotten. Another one gives its answer, what it held and its
+/// records to the level that asked.
 fn complete(level: GraftLevel, chain: &mut Chain, p: u8, locks: &mut LockTable) -> Micro
     requires few { length chain.old.levels < 4 }
     requires as_many { length chain.old.undo ≡ suc (length chain.old.levels) }
     requires process { p < 16 }
-    ensures step { (w : State) (ram : List ℕ) → let kept = put_back (innermost chain.old.undo) w.things in
+    ensures step { (w : State) (ram : List ℕ) →
+        let kept = put_back (innermost chain.old.undo) w.things in
         came (completed w (level_in p (length chain.old.levels) ram (held locks.old) level
         (innermost chain.old.undo) kept)
         (levels_in p ram (held locks.old) chain.old.levels (outer chain.old.undo) kept))
@@ -94,7 +97,8 @@ fn complete(level: GraftLevel, chain: &mut Chain, p: u8, locks: &mut LockTable) 
         ((e : ℕ) (a : Objects) → suc (length chain.old.levels) ≤ e → held locks.old p e a ≡ Free) →
         held locks.new p d o ≡ Free }
     ensures others { (q d : ℕ) → q ≢ p → held locks.new q d ≡ held locks.old q d }
-    ensures sound { (queue : List Waiting) → AreSound queue chain.old.levels → AreSound queue chain.new.levels }
+    ensures sound { (queue : List Waiting) → AreSound queue chain.old.levels →
+        AreSound queue chain.new.levels }
     ensures inside { (images : ImageTable) (a : Funds) (q : ℕ) →
         AreInside images a q chain.old.levels → AreInside images a q chain.new.levels }
 {
@@ -111,7 +115,8 @@ fn complete(level: GraftLevel, chain: &mut Chain, p: u8, locks: &mut LockTable) 
     }
 }
 
-/// A level that was taken out of a chain offers the answer in r0 to r3. It is dropped where its point doesn't accept that.
+/// A level that was taken out of a chain offers the answer in r0 to r3. It is dropped where its
+/// point doesn't accept that.
 pub(crate) fn offer<B: Policy>(
     level: GraftLevel,
     chain: &mut Chain,
@@ -123,7 +128,8 @@ pub(crate) fn offer<B: Policy>(
     ensures step { let l = level_of store.old locks.old chain.old p level in
         let ls = outer_of store.old locks.old chain.old p in
         came (after_return (world_of_store store.old) (objects_of store.old) l ls
-        (valid (objects_of store.old).things l.owner l.point l.args (l.machine.regs 0) (l.machine.regs 1)))
+        (valid (objects_of store.old).things l.owner l.point l.args (l.machine.regs 0)
+        (l.machine.regs 1)))
         ≡ (result, call_of store.new locks.new chain.new p) }
     ensures placed { IsPlaced store.new locks.new p chain.new.levels chain.new.undo }
     ensures inside { (images : ImageTable) →

@@ -22,7 +22,8 @@ pub(crate) fn base_of(p: u8, d: u8) -> u32
 fn clear(ram: &mut Ram, from: u32, to: u32)
     requires order { from ≤ to }
     requires inside { to ≤ 524288 }
-    ensures { (a : ℕ) → slice_index ram.new a ≡ cond (nat_le from a && nat_lt a to) 0 (slice_index ram.old a) }
+    ensures { (a : ℕ) → slice_index ram.new a
+        ≡ cond (nat_le from a && nat_lt a to) 0 (slice_index ram.old a) }
 {
     whole(ram);
     ram.clear(from, to);
@@ -40,7 +41,8 @@ pub(crate) fn fill(ram: &mut Ram, base: u32, body: &[u8])
     requires inside { base + SEGMENT_BYTES ≤ 524288 }
     requires few { length body.now ≤ 4096 }
     ensures segment { (i : ℕ) → i < 4096 → slice_index ram.new (base + i) ≡ slice_index body.now i }
-    ensures outside { (a : ℕ) → (a < base) ⊎ (base + 4096 ≤ a) → slice_index ram.new a ≡ slice_index ram.old a }
+    ensures outside { (a : ℕ) → (a < base) ⊎ (base + 4096 ≤ a) →
+        slice_index ram.new a ≡ slice_index ram.old a }
     ensures size { length ram.new ≡ 524288 }
     ensures same_size { length ram.old ≡ 524288 }
 {

@@ -7,7 +7,8 @@ use Rattle.kernel_model.specs.LanguageMeaning.{numbered}
 use Rattle.graft_lang.specs.Code.{program_code}
 use Rattle.kernel_model.specs.LanguageImages.{Behaves}
 
--- The code of the program that an accepted text spells does what the program says, and the rewriter takes it.
+-- The code of the program that an accepted text spells does what the program says, and the rewriter
+-- takes it.
 abbrev pub AcceptedProgramsRun : Type 0
 AcceptedProgramsRun =
     (text : List ℕ) (s : Syntax) (p : grammar.Program) → read text ≡ Ok s

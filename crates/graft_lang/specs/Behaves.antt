@@ -7,4 +7,5 @@ use Rattle.graft_lang.specs.Going.{FitsProgram}
 
 -- the code of a program does what it says
 abbrev pub ProgramsRun : Type 0
-ProgramsRun = (v : ℕ) (p : Program) → 4 ≤ v → v < 1021 → FitsProgram v p → Behaves p (program_code v p)
+ProgramsRun = (v : ℕ) (p : Program) → 4 ≤ v → v < 1021 → FitsProgram v p →
+    Behaves p (program_code v p)

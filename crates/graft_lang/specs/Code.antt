@@ -1,4 +1,5 @@
--- The code of a program. Variable i is kept in word i of the segment, operands in the words behind the variables.
+-- The code of a program. Variable i is kept in word i of the segment, operands in the words behind
+-- the variables.
 -- r4 has values, r5 addresses, r6 left operands; r14 and r15 are never named.
 use Rattle.std.specs.Prelude.{ℕ, zero, suc, ◌+◌, ◌-◌, ◌*◌, List, [], ◌∷◌, ◌++◌, length}
 use Rattle.kernel_model.specs.declared.Instr.{Instr}
@@ -47,19 +48,23 @@ abbrev pub arguments_code : (top : ℕ) → List Expression → List Instr
 arguments_code top [] = []
 arguments_code top (e ∷ es) = expression_code top e ++ (puts 4 top ++ arguments_code (suc top) es)
 
--- the arguments come from the slots from `top` on to the registers from `reg` on, and zeros to those that are left
+-- the arguments come from the slots from `top` on to the registers from `reg` on, and zeros to
+-- those that are left
 abbrev pub registers_code : (reg top : ℕ) → (left : ℕ) → List Expression → List Instr
 registers_code reg top zero es = []
 registers_code reg top (suc left) [] = instr Li reg 0 0 0 ∷ registers_code (suc reg) top left []
-registers_code reg top (suc left) (e ∷ es) = fetches reg top ++ registers_code (suc reg) (suc top) left es
+registers_code reg top (suc left) (e ∷ es) =
+    fetches reg top ++ registers_code (suc reg) (suc top) left es
 
 -- the code of statements that stands at this place
 abbrev pub statements_code : (top place : ℕ) → Program → List Instr
 statements_code top place Done = []
 statements_code top place (Assigns i e p) =
-    let first = expression_code top e ++ puts 4 i in first ++ statements_code top (place + length first) p
+    let first = expression_code top e ++ puts 4 i in
+    first ++ statements_code top (place + length first) p
 statements_code top place (Calls i id es p) =
-    let first = arguments_code top es ++ (registers_code 0 top 3 es ++ (instr Call 0 0 0 id ∷ puts 0 i)) in
+    let first = arguments_code top es
+    ++ (registers_code 0 top 3 es ++ (instr Call 0 0 0 id ∷ puts 0 i)) in
     first ++ statements_code top (place + length first) p
 statements_code top place (When e body p) =
     let test = expression_code top e in
@@ -78,7 +83,8 @@ statements_code top place (Loops e body p) =
     let test = expression_code top e in
     let inner = statements_code top (place + length test + 1) body in
     let behind = place + length test + 1 + length inner + 1 in
-    test ++ (instr Jz 4 0 0 behind ∷ (inner ++ (instr Jmp 0 0 0 place ∷ statements_code top behind p)))
+    test ++ (instr Jz 4 0 0 behind
+    ∷ (inner ++ (instr Jmp 0 0 0 place ∷ statements_code top behind p)))
 statements_code top place (Traps code p) = instr Trap 0 0 0 code ∷ statements_code top (place + 1) p
 statements_code top place (Answers e f p) =
     let first = expression_code top e ++ (puts 4 top ++ (expression_code (suc top) f
@@ -93,7 +99,8 @@ zeros_code i (suc count) = puts 4 i ++ zeros_code (suc i) count
 -- the arguments to their slots, zeros to the other variables
 abbrev pub prologue : (variables : ℕ) → List Instr
 prologue variables =
-    puts 0 0 ++ (puts 1 1 ++ (puts 2 2 ++ (puts 3 3 ++ (instr Li 4 0 0 0 ∷ zeros_code 4 (variables - 4)))))
+    puts 0 0 ++ (puts 1 1
+    ++ (puts 2 2 ++ (puts 3 3 ++ (instr Li 4 0 0 0 ∷ zeros_code 4 (variables - 4)))))
 
 -- the first two arguments are the answer
 abbrev pub epilogue : List Instr
@@ -102,4 +109,5 @@ epilogue = fetches 0 0 ++ (fetches 1 1 ++ (instr Ret 0 0 0 0 ∷ []))
 -- the code of a program with so many variables
 abbrev pub program_code : (variables : ℕ) → Program → List Instr
 program_code variables p =
-    let begin = prologue variables in begin ++ (statements_code variables (length begin) p ++ epilogue)
+    let begin = prologue variables in
+    begin ++ (statements_code variables (length begin) p ++ epilogue)

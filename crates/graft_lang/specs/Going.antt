@@ -25,17 +25,21 @@ pub record IsSmall (s : State) : Type 0 where
 
 -- a run has this end
 abbrev pub HasEnd : End → CodeRun → Type 0
-HasEnd (Answered x y) r = (r.ended ≡ Some AtReturn) × (r.machine.regs 0 ≡ x) × (r.machine.regs 1 ≡ y)
+HasEnd (Answered x y) r = (r.ended ≡ Some AtReturn) × (r.machine.regs 0 ≡ x)
+    × (r.machine.regs 1 ≡ y)
 HasEnd (Trapped code) r = r.ended ≡ Some (AtTrap code)
 HasEnd DividedByZero r = r.ended ≡ Some AtDivision
 HasEnd (Asks call) r =
-    (r.ended ≡ Some (Unanswered call.id)) × (r.machine.regs 0 ≡ call.r0) × (r.machine.regs 1 ≡ call.r1)
+    (r.ended ≡ Some (Unanswered call.id)) × (r.machine.regs 0 ≡ call.r0)
+    × (r.machine.regs 1 ≡ call.r1)
     × (r.machine.regs 2 ≡ call.r2)
 HasEnd Going r = r.ended ≡ None
 
--- The code of so many instructions is run to its end, with so many turns of loops, while s becomes t; no
+-- The code of so many instructions is run to its end, with so many turns of loops, while s becomes
+-- t; no
 -- turn takes more than `most` instructions.
-pub record GoesOn (code : List Instr) (most top c len : ℕ) (r : CodeRun) (s t : State) : Type 0 where
+pub record GoesOn (code : List Instr) (most top c len : ℕ) (r : CodeRun)
+    (s t : State) : Type 0 where
   pub steps : ℕ
   pub used : ℕ
   pub turns_are : s.turns ≡ used + t.turns
@@ -45,7 +49,8 @@ pub record GoesOn (code : List Instr) (most top c len : ℕ) (r : CodeRun) (s t 
   pub small : IsSmall t
 
 -- the code ends as t ended
-pub record EndsSo (code : List Instr) (most len : ℕ) (r : CodeRun) (s t : State) (end : End) : Type 0 where
+pub record EndsSo (code : List Instr) (most len : ℕ) (r : CodeRun) (s t : State)
+    (end : End) : Type 0 where
   pub steps : ℕ
   pub used : ℕ
   pub turns_are : used ≤ s.turns
@@ -60,7 +65,8 @@ pub record Lasts (code : List Instr) (r : CodeRun) (s : State) : Type 0 where
   pub lasts : (run code steps r).ended ≡ None
 
 -- the code does what made t of s, where t ended so, or goes on
-abbrev pub GoesBy : Option End → (code : List Instr) (most top c len : ℕ) (r : CodeRun) (s t : State) → Type 0
+abbrev pub GoesBy : Option End →
+    (code : List Instr) (most top c len : ℕ) (r : CodeRun) (s t : State) → Type 0
 GoesBy None code most top c len r s t = GoesOn code most top c len r s t
 GoesBy (Some Going) code most top c len r s t = Lasts code r s
 GoesBy (Some (Answered x y)) code most top c len r s t = EndsSo code most len r s t (Answered x y)
@@ -83,7 +89,8 @@ FitsProgram v Done = ⊤
 FitsProgram v (Assigns i e p) = (i < v) × (v < 1024) × Fits v v e × FitsProgram v p
 FitsProgram v (Calls i id es p) = (i < v) × (v + length es ≤ 1024) × AllFit v v es × FitsProgram v p
 FitsProgram v (When e body p) = Fits v v e × FitsProgram v body × FitsProgram v p
-FitsProgram v (Either e body other p) = Fits v v e × FitsProgram v body × FitsProgram v other × FitsProgram v p
+FitsProgram v (Either e body other p) = Fits v v e × FitsProgram v body × FitsProgram v other
+    × FitsProgram v p
 FitsProgram v (Loops e body p) = Fits v v e × FitsProgram v body × FitsProgram v p
 FitsProgram v (Traps code p) = FitsProgram v p
 FitsProgram v (Answers e f p) = (v < 1023) × Fits v v e × Fits v (suc v) f × FitsProgram v p
@@ -93,7 +100,8 @@ abbrev pub StatementsRun : Type 0
 StatementsRun =
     (p : Program) (code : List Instr) (most v c : ℕ) (cells : ℕ → ℕ)
     (calls : List MadeCall) (answers : List (ℕ × ℕ)) (turns : ℕ) (r : CodeRun)
-    → IsSmall (going cells calls answers turns) → FitsProgram v p → Stands code c (statements_code v c p)
+    → IsSmall (going cells calls answers turns) → FitsProgram v p →
+    Stands code c (statements_code v c p)
     → length (statements_code v c p) ≤ most → IsAt cells v c calls answers r
     → Goes code most v c (length (statements_code v c p)) r (going cells calls answers turns)
     (does p (going cells calls answers turns))

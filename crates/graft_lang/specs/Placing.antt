@@ -23,7 +23,8 @@ Stands code c (i ∷ is) = (slice_get code c ≡ Some i) × Stands code (suc c) 
 abbrev pub slot_of : (ℕ → ℕ) → ℕ → ℕ
 slot_of memory i = load Word memory (4 * i)
 
--- a run stands at a place, with these words in the slots below `top`, these calls made and these answers left
+-- a run stands at a place, with these words in the slots below `top`, these calls made and these
+-- answers left
 pub record IsAt (cells : ℕ → ℕ) (top c : ℕ) (calls : List MadeCall) (answers : List (ℕ × ℕ))
     (r : CodeRun) : Type 0 where
   pub place : r.machine.pc ≡ c
@@ -32,12 +33,14 @@ pub record IsAt (cells : ℕ → ℕ) (top c : ℕ) (calls : List MadeCall) (ans
   pub calls_are : r.calls ≡ calls
   pub answers_are : r.answers ≡ answers
 
--- where the value of an expression is this, its code comes to its end with it in r4; or it divides by zero on
+-- where the value of an expression is this, its code comes to its end with it in r4; or it divides
+-- by zero on
 -- the way
 abbrev pub ComesTo : (cells : ℕ → ℕ) (top c len : ℕ) → List MadeCall → List (ℕ × ℕ) → List Instr
     → CodeRun → Option ℕ → Type 0
 ComesTo cells top c len calls answers code r (Some x) =
-    let u = run_by masked_place code len r in IsAt cells top (c + len) calls answers u × (u.machine.regs 4 ≡ x)
+    let u = run_by masked_place code len r in IsAt cells top (c + len) calls answers u
+    × (u.machine.regs 4 ≡ x)
 ComesTo cells top c len calls answers code r None =
     (n : ℕ) × (n ≤ len) × ((run_by masked_place code n r).ended ≡ Some AtDivision)
     × ((run_by masked_place code n r).calls ≡ calls)

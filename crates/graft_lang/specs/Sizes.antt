@@ -40,7 +40,8 @@ semicolons (Loops e body p) = semicolons body + semicolons p
 semicolons (Traps code p) = 1 + semicolons p
 semicolons (Answers e f p) = 1 + semicolons p
 
--- boxed, a program needs at most 8 instructions a token and 32 more, where it has no more variables than the
+-- boxed, a program needs at most 8 instructions a token and 32 more, where it has no more variables
+-- than the
 -- arguments and one for each semicolon
 abbrev pub ProgramsAreShort : Type 0
 ProgramsAreShort =

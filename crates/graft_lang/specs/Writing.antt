@@ -1,4 +1,5 @@
--- What the writer of code does with the tokens of a program: each part is taken, and its code appended.
+-- What the writer of code does with the tokens of a program: each part is taken, and its code
+-- appended.
 use Rattle.std.specs.Prelude.{◌≡◌, ℕ, suc, ◌+◌, ◌*◌, ◌≤◌, Bool, true, false, cond, nat_lt, List, [], ◌∷◌}
 use Rattle.std.specs.Prelude.{◌++◌, length, map, drop, set, Option, None, Some, is_some}
 use Rattle.kernel_model.specs.declared.Instr.{Instr}
@@ -43,7 +44,8 @@ with_first t w = record { tokens = t ∷ w.tokens; code = w.code }
 
 -- ---- room
 
--- Tokens are taken, and no more than so many instructions appended for each of them and so many beside.
+-- Tokens are taken, and no more than so many instructions appended for each of them and so many
+-- beside.
 pub record Uses (each beside : ℕ) (old new : Writing) : Type 0 where
   pub fewer : length new.tokens ≤ length old.tokens
   pub longer : length old.code ≤ length new.code

@@ -30,7 +30,8 @@ AreHeldBy ls os = AllByRecursion (λ o. is_held_in ls o ≡ true) os
 abbrev pub AsksAreHeld : List Level → Type 0
 AsksAreHeld [] = ⊤
 AsksAreHeld (l ∷ []) = ⊤
-AsksAreHeld (l ∷ k ∷ ls) = AreHeldBy (k ∷ ls) (point_objects (kind_of l.point) l.owner l.point) × AsksAreHeld (k ∷ ls)
+AsksAreHeld (l ∷ k ∷ ls) = AreHeldBy (k ∷ ls) (point_objects (kind_of l.point) l.owner l.point)
+    × AsksAreHeld (k ∷ ls)
 
 -- level 0 holds what tells whether an answer of its point is valid
 abbrev pub AnswerIsHeld : List Level → Type 0
@@ -40,24 +41,29 @@ AnswerIsHeld (l ∷ k ∷ ls) = AnswerIsHeld (k ∷ ls)
 
 -- ---- outcomes
 
--- Two outcomes are the same, as far as the call can tell; and where the states before agreed, those after agree.
+-- Two outcomes are the same, as far as the call can tell; and where the states before agreed, those
+-- after agree.
 pub record OutcomesAlike (c d : Config) (o r : Outcome) : Type 0 where
   pub said : o.said ≡ r.said
   pub effects : o.effects ≡ r.effects
   pub config : ConfigsAlike o.config r.config
   pub keeps : Keeps c.now d.now o.config.now r.config.now
 
--- An instruction of two sound graft calls that are alike, and agree on what it needs, comes to the same.
+-- An instruction of two sound graft calls that are alike, and agree on what it needs, comes to the
+-- same.
 abbrev pub InstructionsAlike : Type 0
 InstructionsAlike =
-    (v : World) (images : ImageTable) (p : ℕ) (c d : Config) → IsSoundConfig v c → IsSoundConfig v d → ConfigsAlike c d →
-    AsksAreHeld c.levels → AnswerIsHeld c.levels → AgreeOn (next_needs v images c.now.accounts c.levels) c.now d.now →
+    (v : World) (images : ImageTable) (p : ℕ) (c d : Config) → IsSoundConfig v c →
+    IsSoundConfig v d → ConfigsAlike c d →
+    AsksAreHeld c.levels → AnswerIsHeld c.levels →
+    AgreeOn (next_needs v images c.now.accounts c.levels) c.now d.now →
     OutcomesAlike c d (micro v images p c) (micro v images p d)
 
 -- So does the drop of a level.
 abbrev pub DropsAlike : Type 0
 DropsAlike =
-    (v : World) (c d : Config) (n : ℕ) (cause : Cause) → IsSoundConfig v c → IsSoundConfig v d → ConfigsAlike c d → AsksAreHeld c.levels →
+    (v : World) (c d : Config) (n : ℕ) (cause : Cause) → IsSoundConfig v c → IsSoundConfig v d →
+    ConfigsAlike c d → AsksAreHeld c.levels →
     OutcomesAlike c d (drop_level v c.now c.levels n cause) (drop_level v d.now d.levels n cause)
 
 -- after a step levels hold what they looked at of points, if they held it before
@@ -67,4 +73,5 @@ pub record HoldsPoints (before after : List Level) : Type 0 where
 
 -- an instruction leaves held what levels looked at of points
 abbrev pub PointsStayHeld : Type 0
-PointsStayHeld = (v : World) (images : ImageTable) (p : ℕ) (c : Config) → HoldsPoints c.levels (micro v images p c).config.levels
+PointsStayHeld = (v : World) (images : ImageTable) (p : ℕ) (c : Config) →
+    HoldsPoints c.levels (micro v images p c).config.levels

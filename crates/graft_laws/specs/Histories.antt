@@ -23,9 +23,11 @@ outside_of n (l ∷ ls) = elim (length ls == n) [ true ↦ ls | false ↦ outsid
 
 -- the graft of each level stands
 abbrev pub GraftsStand : Config → Type 0
-GraftsStand c = (l : Level) → Contains c.levels l → is_some (c.now.accounts.graft l.owner l.point) ≡ true
+GraftsStand c = (l : Level) → Contains c.levels l →
+    is_some (c.now.accounts.graft l.owner l.point) ≡ true
 
--- the numbers of an object are in their ranges; those of a graft may be any, since none stands outside them
+-- the numbers of an object are in their ranges; those of a graft may be any, since none stands
+-- outside them
 abbrev pub HasRange : Object → Type 0
 HasRange (Graft q pt) = ⊤
 HasRange o = IsInRange o
@@ -35,14 +37,18 @@ pub record IsReplayed (v : World) (s : Objects) (c : Config) : Type 0 where
   pub sound : IsSoundConfig v c
   -- levels hold what they looked at of points that they asked
   pub asks : AsksAreHeld c.levels
-  -- level 0 holds exclusively each graft that some level holds, and each account that some level holds so
-  pub grafts : (q pt : ℕ) → is_held_in c.levels (Graft q pt) ≡ true → outermost_touched c.levels (Graft q pt) ≡ Held.Exclusive
-  pub accounts : (q : ℕ) → is_changed_in c.levels (Acct q) ≡ true → outermost_touched c.levels (Acct q) ≡ Held.Exclusive
+  -- level 0 holds exclusively each graft that some level holds, and each account that some level
+  -- holds so
+  pub grafts : (q pt : ℕ) → is_held_in c.levels (Graft q pt) ≡ true →
+      outermost_touched c.levels (Graft q pt) ≡ Held.Exclusive
+  pub accounts : (q : ℕ) → is_changed_in c.levels (Acct q) ≡ true →
+      outermost_touched c.levels (Acct q) ≡ Held.Exclusive
   pub ranges : (o : Object) → is_held_in c.levels o ≡ true → HasRange o
   -- what no level holds exclusively is as in the state
   pub now : (o : Object) → is_changed_in c.levels o ≡ false → SameAt o c.now s
   -- and a level found as in the state what no level outside it holds so
-  pub kept : (n : ℕ) (l : Level) (o : Object) → level_at n c.levels ≡ Some l → is_changed_in (outside_of n c.levels) o ≡ false → SameThing o l.kept s.things
+  pub kept : (n : ℕ) (l : Level) (o : Object) → level_at n c.levels ≡ Some l →
+      is_changed_in (outside_of n c.levels) o ≡ false → SameThing o l.kept s.things
 
 -- where a graft call begins
 abbrev pub BeginningsReplay : Meaning → Type 0
@@ -53,21 +59,28 @@ BeginningsReplay m =
 -- after an instruction that doesn't end a level but by an answer to its asker
 abbrev pub InstructionsReplay : Type 0
 InstructionsReplay =
-    (v : World) (images : ImageTable) (p : ℕ) (s : Objects) (c : Config) → IsReplayed v s c → is_going_on (micro v images p c).said ≡ true →
+    (v : World) (images : ImageTable) (p : ℕ) (s : Objects) (c : Config) → IsReplayed v s c →
+    is_going_on (micro v images p c).said ≡ true →
     IsReplayed v s (micro v images p c).config
 
 -- wherever a history leads, if the graft of each level stands there
 abbrev pub HistoriesReplay : Meaning → Type 0
 HistoriesReplay m =
-    (v : World) (images : ImageTable) (s : Objects) (p : ℕ) (t : Stage) (ks : List Mark) (now : Trace) → Laws m →
-    IsStanding m v images s p t → replay m v images s p t ks ≡ Some now → GraftsStand now.config → IsReplayed v s now.config
+    (v : World) (images : ImageTable) (s : Objects) (p : ℕ) (t : Stage) (ks : List Mark)
+    (now : Trace) → Laws m →
+    IsStanding m v images s p t → replay m v images s p t ks ≡ Some now → GraftsStand now.config →
+    IsReplayed v s now.config
 
--- after the drop of any level, if one is left; and else all but accounts and grafts is as in the state
+-- after the drop of any level, if one is left; and else all but accounts and grafts is as in the
+-- state
 pub record DropsReplay : Type 0 where
   pub some : (v : World) (s : Objects) (c : Config) (n : ℕ) (cause : Cause) → IsReplayed v s c →
-      (drop_level v c.now c.levels n cause).config.levels ≢ [] → IsReplayed v s (drop_level v c.now c.levels n cause).config
-  pub none : (v : World) (s : Objects) (c : Config) (n : ℕ) (cause : Cause) (o : Object) → IsReplayed v s c →
-      (drop_level v c.now c.levels n cause).config.levels ≡ [] → n < length c.levels → SameThing o (drop_level v c.now c.levels n cause).config.now.things s.things
+      (drop_level v c.now c.levels n cause).config.levels ≢ [] →
+      IsReplayed v s (drop_level v c.now c.levels n cause).config
+  pub none : (v : World) (s : Objects) (c : Config) (n : ℕ) (cause : Cause) (o : Object) →
+      IsReplayed v s c →
+      (drop_level v c.now c.levels n cause).config.levels ≡ [] → n < length c.levels →
+      SameThing o (drop_level v c.now c.levels n cause).config.now.things s.things
 
 -- ---- one history from two states
 
@@ -77,10 +90,13 @@ pub record TracesAlike (t u : Trace) : Type 0 where
   pub marks : t.marks ≡ u.marks
   pub pasts : t.pasts ≡ u.pasts
 
--- A history that leads somewhere from a state leads to the like from another state that agrees on what the call holds in the end.
+-- A history that leads somewhere from a state leads to the like from another state that agrees on
+-- what the call holds in the end.
 abbrev pub HistoriesAlike : Meaning → Type 0
 HistoriesAlike m =
-    (v : World) (images : ImageTable) (s u : Objects) (p : ℕ) (t : Stage) (ks : List Mark) (now : Trace) → Laws m →
-    IsStanding m v images s p t → IsStanding m v images u p t → replay m v images s p t ks ≡ Some now → GraftsStand now.config →
+    (v : World) (images : ImageTable) (s u : Objects) (p : ℕ) (t : Stage) (ks : List Mark)
+    (now : Trace) → Laws m →
+    IsStanding m v images s p t → IsStanding m v images u p t →
+    replay m v images s p t ks ≡ Some now → GraftsStand now.config →
     ((o : Object) → is_held_in now.config.levels o ≡ true → SameAt o s u) →
     (other : Trace) × (replay m v images u p t ks ≡ Some other) × TracesAlike now other

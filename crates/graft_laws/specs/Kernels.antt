@@ -23,15 +23,18 @@ pub record IsSoundRun (m : Meaning) (r : Run) : Type 0 where
 abbrev pub with_images : ImageTable → Run → Run
 with_images more r = record r { kernel = record (r.kernel) { images = more } }
 
--- a step of a call that nothing blocks keeps a run sound: also that of each object there are sharers, or one owner
+-- a step of a call that nothing blocks keeps a run sound: also that of each object there are
+-- sharers, or one owner
 abbrev pub StepsStaySound : Meaning → Type 0
 StepsStaySound m =
-    (r : Run) (p : ℕ) (c : Call) → Laws m → IsSoundRun m r → r.kernel.call p ≡ Some c → blocker m r.kernel p ≡ None → IsSoundRun m (step m p r)
+    (r : Run) (p : ℕ) (c : Call) → Laws m → IsSoundRun m r → r.kernel.call p ≡ Some c →
+    blocker m r.kernel p ≡ None → IsSoundRun m (step m p r)
 
 -- so does the drop of one of a call's levels
 abbrev pub DropsStaySound : Meaning → Type 0
 DropsStaySound m =
-    (r : Run) (p n : ℕ) (cause : Cause) → Laws m → IsSoundRun m r → n < length (levels_of m r.kernel p) →
+    (r : Run) (p n : ℕ) (cause : Cause) → Laws m → IsSoundRun m r →
+    n < length (levels_of m r.kernel p) →
     IsSoundRun m (drop_call m p (r.kernel.call p) (Some n) cause r)
 
 -- and settling
@@ -41,10 +44,12 @@ SettlingStaysSound m = (r : Run) → Laws m → IsSoundRun m r → IsSoundRun m 
 -- and every event
 abbrev pub EventsStaySound : Meaning → Type 0
 EventsStaySound m =
-    (k : Kernel) (blocks : Blocks) (number : ℕ) (e : Event) (io : List Bool) → Laws m → IsSoundKernel m k →
+    (k : Kernel) (blocks : Blocks) (number : ℕ) (e : Event) (io : List Bool) → Laws m →
+    IsSoundKernel m k →
     HasWholeBlocks k.world blocks → IsSoundRun m (event m k blocks number e io)
 
--- a call in a graft of a sound kernel is sound, and as in the committed state but for what its levels hold exclusively
+-- a call in a graft of a sound kernel is sound, and as in the committed state but for what its
+-- levels hold exclusively
 abbrev pub CallsReplay : Meaning → Type 0
 CallsReplay m =
     (r : Run) (p : ℕ) (c : Config) → Laws m → IsSoundRun m r → config_of m r.kernel p ≡ Some c →
@@ -54,4 +59,5 @@ CallsReplay m =
 abbrev pub ImagesStaySound : Meaning → Type 0
 ImagesStaySound m =
     (r : Run) (more : ImageTable) → Laws m → IsSoundRun m r → Extends r.kernel.images more →
-    IsSoundRun m (with_images more r) × ((p : ℕ) → config_of m (with_images more r).kernel p ≡ config_of m r.kernel p)
+    IsSoundRun m (with_images more r)
+    × ((p : ℕ) → config_of m (with_images more r).kernel p ≡ config_of m r.kernel p)

@@ -10,5 +10,7 @@ use Rattle.graft_laws.specs.Alike.{AnswerIsHeld}
 -- level 0 holds what tells whether the answer of its point is valid, wherever a history leads
 abbrev pub HistoriesHoldAnswers : Meaning → Type 0
 HistoriesHoldAnswers m =
-    (v : World) (images : ImageTable) (s : Objects) (p : ℕ) (t : Stage) (ks : List Mark) (now : Trace) → Laws m →
-    IsStanding m v images s p t → replay m v images s p t ks ≡ Some now → AnswerIsHeld now.config.levels
+    (v : World) (images : ImageTable) (s : Objects) (p : ℕ) (t : Stage) (ks : List Mark)
+    (now : Trace) → Laws m →
+    IsStanding m v images s p t → replay m v images s p t ks ≡ Some now →
+    AnswerIsHeld now.config.levels

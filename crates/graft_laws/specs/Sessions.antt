@@ -17,5 +17,6 @@ pub record IsSoundSession (m : Meaning) (s : Session) : Type 0 where
 -- lines keep it so, whatever they say
 abbrev pub LinesStaySound : Type 0
 LinesStaySound =
-    (b : Build) (keys : Keys) (size : ℕ) (s : Session) (texts : List (List ℕ)) (ios : List (List Bool)) → Laws b.meaning →
+    (b : Build) (keys : Keys) (size : ℕ) (s : Session) (texts : List (List ℕ))
+    (ios : List (List Bool)) → Laws b.meaning →
     IsSoundSession b.meaning s → IsSoundSession b.meaning (session_after b keys size s texts ios)

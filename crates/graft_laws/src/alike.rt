@@ -2,7 +2,8 @@
 
 ghost use Rattle.graft_laws.specs.Alike.{InstructionsAlike, DropsAlike, PointsStayHeld};
 
-/// An instruction of two sound graft calls that are alike, and agree on what it needs, comes to the same.
+/// An instruction of two sound graft calls that are alike, and agree on what it needs, comes to the
+/// same.
 pub fn instructions_alike()
     ensures { InstructionsAlike }
 {}

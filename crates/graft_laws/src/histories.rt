@@ -10,7 +10,8 @@ pub fn beginnings_replay<R: Rules>()
     ensures { BeginningsReplay R.meaning }
 {}
 
-/// After an instruction that goes on, a graft call is sound, and as in the state but for what its levels hold exclusively.
+/// After an instruction that goes on, a graft call is sound, and as in the state but for what its
+/// levels hold exclusively.
 pub fn instructions_replay()
     ensures { InstructionsReplay }
 {}

@@ -29,7 +29,8 @@ pub fn images_stay_sound<R: Rules>()
     ensures { ImagesStaySound R.meaning }
 {}
 
-/// In a sound kernel each call in a graft is sound, and as in the state but for what its levels hold exclusively.
+/// In a sound kernel each call in a graft is sound, and as in the state but for what its levels
+/// hold exclusively.
 pub fn calls_replay<R: Rules>()
     ensures { CallsReplay R.meaning }
 {}

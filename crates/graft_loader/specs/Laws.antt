@@ -10,16 +10,19 @@ pub record IsBoxedImage (i : Image) : Type 0 where
   pub raw : IsRawImage i
   pub boxed : box_fault i.code ≡ None
 
--- sealed under the key of a number without a flag, an image loads under keys of which this is the one of that number
+-- sealed under the key of a number without a flag, an image loads under keys of which this is the
+-- one of that number
 abbrev pub SealedImagesLoad : Type 0
 SealedImagesLoad =
-    (keys : Keys) (number : ℕ) (key : List ℕ) (i : Image) → key_of keys number ≡ Some key → IsBoxedImage i →
+    (keys : Keys) (number : ℕ) (key : List ℕ) (i : Image) → key_of keys number ≡ Some key →
+    IsBoxedImage i →
     load keys (sealed_image key number 0 i.code i.body) ≡ Ok i
 
 -- an image of version 1 loads under the first key
 abbrev pub FirstSealedImagesLoad : Type 0
 FirstSealedImagesLoad =
-    (keys : Keys) (i : Image) → IsBoxedImage i → load keys (first_sealed_image keys.first i.code i.body) ≡ Ok i
+    (keys : Keys) (i : Image) → IsBoxedImage i →
+    load keys (first_sealed_image keys.first i.code i.body) ≡ Ok i
 
 -- what loads is sealed anew, and loads again under the same keys as the same image
 abbrev pub ResealedImagesLoad : Type 0

@@ -9,7 +9,8 @@ use Rattle.kernel_model.specs.declared.Keys.{Keys}
 use Rattle.kernel_model.specs.Images.{LoadFault, BadFlags, NoKey, Seal, hmac, key_of, with_first, image_with, verified}
 use Rattle.gm_image.specs.Sealed.{Parts}
 
--- boxed code of at most 1,024 instructions, each of which can be encoded, and at most 4,096 data bytes
+-- boxed code of at most 1,024 instructions, each of which can be encoded, and at most 4,096 data
+-- bytes
 pub record IsLoaded (i : Image) : Type 0 where
   pub code_len : length i.code ≤ 1024
   pub code_fits : list_all fits i.code ≡ true
@@ -28,7 +29,8 @@ unsealed p = verified (image_with p.body (decoded_words 0 p.words))
 -- the image of parts, whose seal is over this text under this key, or the first refusal
 abbrev pub sealed_by : Option (List ℕ) → List ℕ → Parts → Result Image LoadFault
 sealed_by None text p = Err NoKey
-sealed_by (Some key) text p = elim (same_bytes (hmac key text) p.seal) [ false ↦ Err Seal | true ↦ unsealed p ]
+sealed_by (Some key) text p =
+    elim (same_bytes (hmac key text) p.seal) [ false ↦ Err Seal | true ↦ unsealed p ]
 
 -- the image of parts, whose seal is over this text under one of these keys, or the first refusal
 abbrev pub loaded : Keys → List ℕ → Result Parts LoadFault → Result Image LoadFault

@@ -10,8 +10,8 @@ use std::marker::Model;
 /// How many images can be loaded.
 const SLOTS: usize = 32;
 
-/// The loaded images by slot, 0 to 31, and one bit for each slot that tells whether it has one. Contracts see the list
-/// of the slots.
+/// The loaded images by slot, 0 to 31, and one bit for each slot that tells whether it has one.
+/// Contracts see the list of the slots.
 #[derive(Drop)]
 pub struct Images {
     slots: Vec<Option<Loaded>>,

@@ -1,5 +1,5 @@
-//! The seal of images of graft code, and the loader: code and data of sealed bytes whose seal is right
-//! and whose code is boxed (docs/FORMATS.md).
+//! The seal of images of graft code, and the loader: code and data of sealed bytes whose seal is
+//! right and whose code is boxed (docs/FORMATS.md).
 #![tactic(auto)]
 
 ghost use Rattle.std.specs.Prelude.{◌≡◌, ◌≤◌, ◌-◌, ◌++◌, [], ◌∷◌, length, true, take, Some, Ok, IfOk, IfErr, OnOk, option_copied};
@@ -35,8 +35,8 @@ pub use sealing::{seal, seal_under};
 /// The bytes of a seal.
 const SEAL: usize = 32;
 
-/// Why bytes are no image that can be used, in the order in which it is decided; with the place of the
-/// first instruction that is refused.
+/// Why bytes are no image that can be used, in the order in which it is decided; with the place of
+/// the first instruction that is refused.
 #[derive(Clone, Copy, PartialEq, Eq, Debug, Error)]
 pub enum LoadFault {
     #[error("the length is not that of an image")]
@@ -248,7 +248,8 @@ fn check_parts(
     }
 }
 
-/// The image of sealed bytes of either version, or the first refusal: `Length` below 48 bytes, `Magic`,
+/// The image of sealed bytes of either version, or the first refusal: `Length` below 48 bytes,
+/// `Magic`,
 /// `Version`, `Length` below 56 bytes in version 2, `TooLarge`, `Length` where it isn't that of the two
 /// sizes, `BadFlags`, `NoKey`, `Seal`, `BadOp` with the first instruction that doesn't decode; then the
 /// first place with `Register`, `Jump`, `Memory` or `Call`, in this order at one place; then `End`.
@@ -276,8 +277,8 @@ fn sealed_again(alloc: Global, keys: &Keys, image: &Loaded) -> Result<Vec<u8>, L
     }
 }
 
-/// The bytes of an image of version 2 with the code, data and flags of a sealed one, under the last key
-/// that was given. It refuses exactly as `load`.
+/// The bytes of an image of version 2 with the code, data and flags of a sealed one, under the last
+/// key that was given. It refuses exactly as `load`.
 pub fn reseal(alloc: Global, keys: &Keys, bytes: &[u8]) -> Result<Vec<u8>, LoadFault>
     ensures ok { IfOk result (λ sealed. spec.reseal keys.now bytes.now ≡ Ok sealed.items) }
     ensures err { IfErr result (λ e. Refuses e (spec.reseal keys.now bytes.now)) }

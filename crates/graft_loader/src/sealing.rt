@@ -68,8 +68,8 @@ fn sealed_text(
     Ok(out)
 }
 
-/// The bytes of the image of this code and data, sealed under a key with its number, 0 or 1. Whether the
-/// code is boxed isn't looked at. No flag is known, so there is none.
+/// The bytes of the image of this code and data, sealed under a key with its number, 0 or 1.
+/// Whether the code is boxed isn't looked at. No flag is known, so there is none.
 pub fn seal(
     alloc: Global,
     key: &[u8; 32],
@@ -83,7 +83,8 @@ pub fn seal(
     requires code_len { length code.now ≤ 1024 }
     requires code_fits { list_all fits code.now ≡ true }
     requires body_len { length body.now ≤ 4096 }
-    ensures { IfOk result (λ bytes. bytes.items ≡ spec.sealed_image key.now number flags code.now body.now) }
+    ensures { IfOk result (λ bytes. bytes.items
+        ≡ spec.sealed_image key.now number flags code.now body.now) }
 {
     let mut out = sealed_text(alloc, number, flags, code, body)?;
     let seal = hmac(key, out.as_slice());

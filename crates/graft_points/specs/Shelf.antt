@@ -56,7 +56,8 @@ stock_view code param = record { code = code; params = params_of param }
 -- the shelf that a kernel boots with
 abbrev pub stock_views : List PolicyView
 stock_views =
-    stock_view 0 None ∷ stock_view 1 (Some 2) ∷ stock_view 2 (Some 1) ∷ stock_view 3 None ∷ stock_view 4 (Some 0) ∷
+    stock_view 0 None ∷ stock_view 1 (Some 2) ∷ stock_view 2 (Some 1) ∷ stock_view 3 None
+    ∷ stock_view 4 (Some 0) ∷
     stock_view 5 None ∷ stock_view 6 (Some 0) ∷ []
 
 -- a policy with another value of its parameter
@@ -71,7 +72,8 @@ shelf_with i x views = slice_set views i (retuned x (view_at views i))
 
 -- the parameter of policy j of a kind, 0 where it has none
 abbrev pub param_on : List PolicyView → (kind j : ℕ) → ℕ
-param_on views kind j = cond (is_policy kind j) (slice_index (view_at views (code_of kind j)).params 0) 0
+param_on views kind j =
+    cond (is_policy kind j) (slice_index (view_at views (code_of kind j)).params 0) 0
 
 -- the value of a kind: which policy is chosen, and the parameter of each
 abbrev pub pol_of : List PolicyView → (choice : List ℕ) → ℕ → PolValue

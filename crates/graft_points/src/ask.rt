@@ -5,8 +5,8 @@ use kernel_model::{FrameRow, QueueRow};
 /// What a policy is asked.
 #[derive(Clone, Copy)]
 pub enum Ask<'a> {
-    /// Reading ahead: whether the last read followed the one before, the file's window (0 to 8), and how
-    /// many blocks of the file are left.
+    /// Reading ahead: whether the last read followed the one before, the file's window (0 to 8),
+    /// and how many blocks of the file are left.
     Ahead(bool, u32, u32),
     /// Eviction: frames in use, oldest first.
     Victim(&'a [FrameRow]),

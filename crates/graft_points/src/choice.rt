@@ -7,8 +7,8 @@ use std::marker::Model;
 /// The kinds of policies: 0 reads ahead, 1 evicts, 2 schedules.
 pub const KINDS: usize = 3;
 
-/// Which policy of each kind is chosen: 0, 1 or 2 of kind 0, and 0 or 1 of kinds 1 and 2. Contracts see the list of the
-/// three numbers.
+/// Which policy of each kind is chosen: 0, 1 or 2 of kind 0, and 0 or 1 of kinds 1 and 2. Contracts
+/// see the list of the three numbers.
 #[derive(Drop)]
 pub struct Choice {
     numbers: [u8; KINDS],
@@ -42,7 +42,8 @@ impl Choice {
     ghost use Rattle.graft_points.specs.Views.{PolicyView};
     ghost use Rattle.graft_points.specs.Shelf.{IsChoice, first_choice, code_of, pol_of};
 
-    /// The choice at boot: reading ahead by the sequential policy, the oldest frame, the front of the queue.
+    /// The choice at boot: reading ahead by the sequential policy, the oldest frame, the front of
+    /// the queue.
     pub fn new() -> Choice
         ensures { result ≡ first_choice }
     {

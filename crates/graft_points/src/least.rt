@@ -8,7 +8,8 @@ ghost use Rattle.graft_points.specs.Views.{lesser};
 
 use kernel_model::{FrameRow, QueueRow};
 
-/// The frame of two with the lower mark, where each mark is taken as at least the floor; the first at a tie.
+/// The frame of two with the lower mark, where each mark is taken as at least the floor; the first
+/// at a tie.
 fn lower_marked(best: FrameRow, row: FrameRow, floor: u32) -> FrameRow
     ensures { result ≡ lesser (λ (r : Frame). max r.mark floor) best row }
 {
@@ -31,7 +32,8 @@ pub(crate) fn lowest_marked(rows: &[FrameRow], floor: u32) -> FrameRow
     best
 }
 
-/// The process of two with the lower nice, where each nice is taken as at least the floor; the first at a tie.
+/// The process of two with the lower nice, where each nice is taken as at least the floor; the
+/// first at a tie.
 fn nicer(best: QueueRow, row: QueueRow, floor: u32) -> QueueRow
     ensures { result ≡ lesser (λ (r : Row). max r.nice floor) best row }
 {

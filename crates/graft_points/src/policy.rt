@@ -28,7 +28,8 @@ pub trait Policy: Drop {
     fn set(&mut self, k: u8, v: u32)
         requires number { k < length (seen self.old).params }
         requires range { in_range (top_of_code (seen self.old).code) k v ≡ true }
-        ensures { seen self.new ≡ record (seen self.old) { params = slice_set (seen self.old).params k v } };
+        ensures { seen self.new
+            ≡ record (seen self.old) { params = slice_set (seen self.old).params k v } };
 
     /// The answer to a question of its kind, with at least one to choose.
     fn answer(&self, ask: &Ask) -> u32

@@ -141,7 +141,8 @@ fn are_like<B: Policy>(shelf: &[B], table: &[(u8, Option<u32>)]) -> bool
 }
 
 #[tactic(auto, using(crate::proofs::Tuned::stock_is_shelf, crate::proofs::Tuned::stock_opens))]
-/// Whether these are the seven stock policies in the order of their codes, with their parameters at boot.
+/// Whether these are the seven stock policies in the order of their codes, with their parameters at
+/// boot.
 pub fn is_stock<B: Policy>(shelf: &[B]) -> bool
     ensures exact { IsTrue result ↔ map B.seen shelf.now ≡ stock_views }
     ensures shelf { IsTrue result → IsShelf (map B.seen shelf.now) }
@@ -150,8 +151,8 @@ pub fn is_stock<B: Policy>(shelf: &[B]) -> bool
     are_like(shelf, &STOCK)
 }
 
-/// Puts a policy last on a shelf, which is known to have this code, and this parameter or none. Err, with the shelf as
-/// it was, comes for want of memory alone.
+/// Puts a policy last on a shelf, which is known to have this code, and this parameter or none.
+/// Err, with the shelf as it was, comes for want of memory alone.
 pub fn put_last<B: Policy>(
     shelf: &mut Vec<B>,
     policy: B,
@@ -170,13 +171,15 @@ pub fn put_last<B: Policy>(
 }
 
 #[tactic(auto, using(crate::proofs::Places::shelf_with_map))]
-/// Sets the parameter of the policy at a place. The other policies stay what they were, whatever they are.
+/// Sets the parameter of the policy at a place. The other policies stay what they were, whatever
+/// they are.
 fn tune_in<B: Policy>(boxes: &mut [B], i: usize, v: u32)
     requires place { i < length boxes.old }
     requires number { 0 < length (view_at (map B.seen boxes.old) i).params }
     requires range { in_range (top_of_code (view_at (map B.seen boxes.old) i).code) 0 v ≡ true }
     ensures views { map B.seen boxes.new ≡ shelf_with i v (map B.seen boxes.old) }
-    ensures others { (j : ℕ) (d : _) → j ≢ i → slice_index_or boxes.new j d ≡ slice_index_or boxes.old j d }
+    ensures others { (j : ℕ) (d : _) → j ≢ i →
+        slice_index_or boxes.new j d ≡ slice_index_or boxes.old j d }
 {
     tune(&mut boxes[i], v);
 }
@@ -215,7 +218,8 @@ impl<B: Policy> Shelf<B> {
         param_in(&self.boxes[i])
     }
 
-    /// What the chosen policy of a kind answers to a question of that kind, with at least one to choose.
+    /// What the chosen policy of a kind answers to a question of that kind, with at least one to
+    /// choose.
     #[tactic(auto, using(crate::proofs::Chosen::chosen_answers, crate::proofs::Chosen::kind_of_its_code))]
     pub fn ask_chosen(&self, choice: &Choice, kind: u8, ask: &Ask) -> u32
         requires shelf { IsShelf self.now }
@@ -228,7 +232,8 @@ impl<B: Policy> Shelf<B> {
         self.ask_at(choice.code(kind) as usize, ask)
     }
 
-    /// Where reading ahead starts in an open file of so many blocks, and by how many, as the chosen policy has it.
+    /// Where reading ahead starts in an open file of so many blocks, and by how many, as the chosen
+    /// policy has it.
     pub fn ahead(&self, choice: &Choice, file: &OpenRow, blocks: u32) -> (u32, u32)
         requires { IsShelf self.now }
         ensures { result ≡ ahead_in (pol_of self.now choice.now 0) file.now blocks }
@@ -288,7 +293,8 @@ impl<B: Policy> Shelf<B> {
         requires shelf { IsShelf self.old }
         requires kind { kind < 3 }
         requires range { in_range (param_top kind (slice_index choice.now kind)) 0 v ≡ true }
-        ensures views { self.new ≡ shelf_with (code_of kind (slice_index choice.now kind)) v self.old }
+        ensures views { self.new
+            ≡ shelf_with (code_of kind (slice_index choice.now kind)) v self.old }
         ensures policies { pol_of self.new choice.now ≡
             at kind (with_param v (pol_of self.old choice.now kind)) (pol_of self.old choice.now) }
         ensures stays { IsShelf self.new }

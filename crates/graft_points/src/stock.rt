@@ -179,7 +179,8 @@ impl Policy for VictimLru {
     }
 }
 
-/// Evicts the frame with the lowest mark, each taken as at least a floor of 0 to 255, and the oldest of these: code 4.
+/// Evicts the frame with the lowest mark, each taken as at least a floor of 0 to 255, and the
+/// oldest of these: code 4.
 #[derive(Drop)]
 pub struct VictimMark {
     floor: u32,
@@ -267,7 +268,8 @@ impl Policy for SchedRound {
     }
 }
 
-/// The process with the lowest nice is next, each taken as at least a floor of 0 to 39, and the first of these: code 6.
+/// The process with the lowest nice is next, each taken as at least a floor of 0 to 39, and the
+/// first of these: code 6.
 #[derive(Drop)]
 pub struct SchedNice {
     floor: u32,

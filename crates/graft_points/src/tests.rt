@@ -12,7 +12,8 @@ use std::process::Abort;
 use std::rc::Rc;
 use std::test::Fail;
 
-/// Frames in use, oldest first: numbers 3, 0, 7, 5 with marks 9, 4, 4, 200, of processes 1, 0, 1, 0.
+/// Frames in use, oldest first: numbers 3, 0, 7, 5 with marks 9, 4, 4, 200, of processes 1, 0, 1,
+/// 0.
 fn frames() -> [FrameRow; 4] {
     [
         frame(3, 1, 9),

@@ -15,14 +15,16 @@ unknown : read (codes "x = y ;") ≡ Err (record { line = 1; kind = UnknownVaria
 unknown = refl
 
 -- a variable isn't known within its first assignment
-unknown_itself : read (codes "\nx = ( x + 1 ) ;\n") ≡ Err (record { line = 2; kind = UnknownVariable })
+unknown_itself : read (codes "\nx = ( x + 1 ) ;\n")
+    ≡ Err (record { line = 2; kind = UnknownVariable })
 unknown_itself = refl
 
 an_argument_too_many : read (codes "x = cell_get ( 0 , 1 ) ;")
     ≡ Err (record { line = 1; kind = WrongArguments })
 an_argument_too_many = refl
 
-an_argument_too_few : read (codes "x = cell_set ( 0\n) ;") ≡ Err (record { line = 2; kind = WrongArguments })
+an_argument_too_few : read (codes "x = cell_set ( 0\n) ;")
+    ≡ Err (record { line = 2; kind = WrongArguments })
 an_argument_too_few = refl
 
 unfinished : read (codes "x = ( 1 + ;") ≡ Err (record { line = 1; kind = NoProgram })

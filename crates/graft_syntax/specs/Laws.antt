@@ -30,4 +30,5 @@ abbrev pub RefusedTokensDontGoOn : Type 0
 RefusedTokensDontGoOn =
     (tokens : List Token) (goals : List Goal) (token : Token) (kind : LangKind)
     → follow_all first_goals tokens ≡ Ok goals
-    → follow goals token ≡ Err kind → (p : Program) (more : List Token) → spelled p ≢ tokens ++ (token ∷ more)
+    → follow goals token ≡ Err kind → (p : Program) (more : List Token) →
+    spelled p ≢ tokens ++ (token ∷ more)

@@ -135,10 +135,12 @@ impl Goals {
         after_if: bool,
         token: Token,
     ) -> Result<(), Refusal>
-        ensures ok { OnOk result (spec.follow_statement in_block after_if self.old (token_view token.entry)
+        ensures ok { OnOk result
+            (spec.follow_statement in_block after_if self.old (token_view token.entry)
             ≡ Ok self.new) }
         ensures err { IfErr result
-            (λ e. Stops e (spec.follow_statement in_block after_if self.old (token_view token.entry))) }
+            (λ e. Stops e (spec.follow_statement in_block after_if self.old
+            (token_view token.entry))) }
     {
         match token {
             Token::Variable(_) => self.push(&[
@@ -153,8 +155,10 @@ impl Goals {
     }
 
     fn follow_operand(&mut self, token: Token) -> Result<(), Refusal>
-        ensures ok { OnOk result (spec.follow_operand self.old (token_view token.entry) ≡ Ok self.new) }
-        ensures err { IfErr result (λ e. Stops e (spec.follow_operand self.old (token_view token.entry))) }
+        ensures ok { OnOk result (spec.follow_operand self.old (token_view token.entry)
+            ≡ Ok self.new) }
+        ensures err { IfErr result
+            (λ e. Stops e (spec.follow_operand self.old (token_view token.entry))) }
     {
         match token {
             Token::Number(_) | Token::Variable(_) => Ok(()),
@@ -169,8 +173,10 @@ impl Goals {
     }
 
     fn follow_right_side(&mut self, token: Token) -> Result<(), Refusal>
-        ensures ok { OnOk result (spec.follow_right_side self.old (token_view token.entry) ≡ Ok self.new) }
-        ensures err { IfErr result (λ e. Stops e (spec.follow_right_side self.old (token_view token.entry))) }
+        ensures ok { OnOk result (spec.follow_right_side self.old (token_view token.entry)
+            ≡ Ok self.new) }
+        ensures err { IfErr result
+            (λ e. Stops e (spec.follow_right_side self.old (token_view token.entry))) }
     {
         match token {
             Token::Callable(id) => self.push(&[
@@ -183,18 +189,22 @@ impl Goals {
 
     /// An argument, behind which one argument less is left.
     fn follow_next(&mut self, left: u32, token: Token) -> Result<(), Refusal>
-        ensures ok { OnOk result (spec.follow_goal (Goal.NextArgument left) self.old (token_view token.entry)
+        ensures ok { OnOk result
+            (spec.follow_goal (Goal.NextArgument left) self.old (token_view token.entry)
             ≡ Ok self.new) }
         ensures err { IfErr result
-            (λ e. Stops e (spec.follow_goal (Goal.NextArgument left) self.old (token_view token.entry))) }
+            (λ e. Stops e (spec.follow_goal (Goal.NextArgument left) self.old
+            (token_view token.entry))) }
     {
         self.push(&[Goal::AfterArgument(left.saturating_sub(1))])?;
         self.follow_operand(token)
     }
 
     fn follow_first(&mut self, left: u32, token: Token) -> Result<(), Refusal>
-        ensures ok { OnOk result (spec.follow_first left self.old (token_view token.entry) ≡ Ok self.new) }
-        ensures err { IfErr result (λ e. Stops e (spec.follow_first left self.old (token_view token.entry))) }
+        ensures ok { OnOk result (spec.follow_first left self.old (token_view token.entry)
+            ≡ Ok self.new) }
+        ensures err { IfErr result
+            (λ e. Stops e (spec.follow_first left self.old (token_view token.entry))) }
     {
         match token {
             Token::Mark(Symbol::CloseParenthesis) => Ok(()),
@@ -203,8 +213,10 @@ impl Goals {
     }
 
     fn follow_argument(&mut self, left: u32, token: Token) -> Result<(), Refusal>
-        ensures ok { OnOk result (spec.follow_argument left self.old (token_view token.entry) ≡ Ok self.new) }
-        ensures err { IfErr result (λ e. Stops e (spec.follow_argument left self.old (token_view token.entry))) }
+        ensures ok { OnOk result (spec.follow_argument left self.old (token_view token.entry)
+            ≡ Ok self.new) }
+        ensures err { IfErr result
+            (λ e. Stops e (spec.follow_argument left self.old (token_view token.entry))) }
     {
         match token {
             Token::Mark(Symbol::Comma) => self.push(&[Goal::NextArgument(left)]),
@@ -215,8 +227,10 @@ impl Goals {
 
     /// This symbol and no other.
     fn follow_awaited(&mut self, awaited: Symbol, token: Token) -> Result<(), Refusal>
-        ensures ok { OnOk result (spec.follow_awaited awaited self.old (token_view token.entry) ≡ Ok self.new) }
-        ensures err { IfErr result (λ e. Stops e (spec.follow_awaited awaited self.old (token_view token.entry))) }
+        ensures ok { OnOk result (spec.follow_awaited awaited self.old (token_view token.entry)
+            ≡ Ok self.new) }
+        ensures err { IfErr result
+            (λ e. Stops e (spec.follow_awaited awaited self.old (token_view token.entry))) }
     {
         match token {
             Token::Mark(s) if same_symbol(awaited, s) => Ok(()),
@@ -225,7 +239,8 @@ impl Goals {
     }
 
     fn follow_braces(&mut self, token: Token) -> Result<(), Refusal>
-        ensures ok { OnOk result (spec.follow_goal Goal.Braces self.old (token_view token.entry) ≡ Ok self.new) }
+        ensures ok { OnOk result (spec.follow_goal Goal.Braces self.old (token_view token.entry)
+            ≡ Ok self.new) }
         ensures err { IfErr result
             (λ e. Stops e (spec.follow_goal Goal.Braces self.old (token_view token.entry))) }
     {
@@ -236,8 +251,10 @@ impl Goals {
     }
 
     fn follow_constant(&mut self, token: Token) -> Result<(), Refusal>
-        ensures ok { OnOk result (spec.follow_constant self.old (token_view token.entry) ≡ Ok self.new) }
-        ensures err { IfErr result (λ e. Stops e (spec.follow_constant self.old (token_view token.entry))) }
+        ensures ok { OnOk result (spec.follow_constant self.old (token_view token.entry)
+            ≡ Ok self.new) }
+        ensures err { IfErr result
+            (λ e. Stops e (spec.follow_constant self.old (token_view token.entry))) }
     {
         match token {
             Token::Number(_) => Ok(()),
@@ -246,8 +263,10 @@ impl Goals {
     }
 
     fn follow_infix(&mut self, token: Token) -> Result<(), Refusal>
-        ensures ok { OnOk result (spec.follow_infix self.old (token_view token.entry) ≡ Ok self.new) }
-        ensures err { IfErr result (λ e. Stops e (spec.follow_infix self.old (token_view token.entry))) }
+        ensures ok { OnOk result (spec.follow_infix self.old (token_view token.entry)
+            ≡ Ok self.new) }
+        ensures err { IfErr result
+            (λ e. Stops e (spec.follow_infix self.old (token_view token.entry))) }
     {
         match token {
             Token::Infix(_) => Ok(()),
@@ -257,8 +276,10 @@ impl Goals {
 
     /// Meets a goal, which was taken, by what begins with a token.
     pub fn follow(&mut self, goal: Goal, token: Token) -> Result<(), Refusal>
-        ensures ok { OnOk result (spec.follow_goal goal self.old (token_view token.entry) ≡ Ok self.new) }
-        ensures err { IfErr result (λ e. Stops e (spec.follow_goal goal self.old (token_view token.entry))) }
+        ensures ok { OnOk result (spec.follow_goal goal self.old (token_view token.entry)
+            ≡ Ok self.new) }
+        ensures err { IfErr result
+            (λ e. Stops e (spec.follow_goal goal self.old (token_view token.entry))) }
     {
         match goal {
             Goal::Statements(in_block, after_if) => {

@@ -36,8 +36,8 @@ pub enum LangFault {
     NoMemory,
 }
 
-/// What a text of at most 16 MiB says: the tokens of its program and its variables, or the line that
-/// is refused and why.
+/// What a text of at most 16 MiB says: the tokens of its program and its variables, or the line
+/// that is refused and why.
 pub fn read(alloc: Global, text: &[u8]) -> Result<Syntax<'_>, LangFault>
     requires { length text.now ≤ 16_777_216 }
     ensures ok { IfOk result (λ s. spec.read text.now ≡ Ok s) }

@@ -79,7 +79,8 @@ impl<'a> Syntax<'a> {
         self.names.len()
     }
 
-    /// The number of a variable: its place in the order of the first assignments, the arguments first.
+    /// The number of a variable: its place in the order of the first assignments, the arguments
+    /// first.
     pub fn number_of(&self, name: &[u8]) -> usize
         ensures number { result ≡ spec.number_of self.now.names name.now }
         ensures within { result ≤ length self.now.names }
@@ -109,7 +110,8 @@ fn place_of(names: &Names, name: &[u8]) -> Option<usize>
 }
 
 fn learn<'a>(names: &mut Names<'a>, name: &'a [u8]) -> Result<(), Refusal>
-    ensures ok { OnOk result (names_of names.new.entries ≡ spec.with_name name.now (names_of names.old.entries)) }
+    ensures ok { OnOk result (names_of names.new.entries
+        ≡ spec.with_name name.now (names_of names.old.entries)) }
     ensures err { IfErr result (λ e. e ≡ Refusal.NoMemory) }
 {
     match names.insert(name, ()) {
@@ -173,7 +175,8 @@ fn end_fault(left: u32) -> Option<LangKind>
 
 /// What is wrong with an operand that begins with a token.
 fn operand_fault(room: bool, below: &Goals, names: &Names, token: Token) -> Option<LangKind>
-    ensures { result ≡ spec.operand_fault room below.now (names_of names.now.entries) (token_view token.entry) }
+    ensures { result ≡ spec.operand_fault room below.now (names_of names.now.entries)
+        (token_view token.entry) }
 {
     match token {
         Token::Number(_) => room_fault(room),
@@ -196,7 +199,8 @@ fn operand_fault(room: bool, below: &Goals, names: &Names, token: Token) -> Opti
 }
 
 fn first_fault(left: u32, below: &Goals, names: &Names, token: Token) -> Option<LangKind>
-    ensures { result ≡ spec.first_fault left below.now (names_of names.now.entries) (token_view token.entry) }
+    ensures { result ≡ spec.first_fault left below.now (names_of names.now.entries)
+        (token_view token.entry) }
 {
     match token {
         Token::Mark(Symbol::CloseParenthesis) => end_fault(left),
@@ -215,7 +219,8 @@ fn argument_fault(left: u32, token: Token) -> Option<LangKind>
 
 /// What is wrong with a token that the grammar takes.
 fn fault_at(goal: Goal, below: &Goals, names: &Names, token: Token) -> Option<LangKind>
-    ensures { result ≡ spec.fault_at goal below.now (names_of names.now.entries) (token_view token.entry) }
+    ensures { result ≡ spec.fault_at goal below.now (names_of names.now.entries)
+        (token_view token.entry) }
 {
     match goal {
         Goal::Operand | Goal::RightSide => operand_fault(true, below, names, token),
@@ -241,7 +246,8 @@ fn learn_assigned<'a>(names: &mut Names<'a>, goal: Goal, assigned: &'a [u8]) -> 
 
 /// The variable that a statement assigns, if an assignment begins with this goal and this token.
 fn assigned_by<'a>(goal: Goal, assigned: &'a [u8], token: Token<'a>) -> &'a [u8]
-    ensures { result.now ≡ spec.assigned_after (goal ∷ []) assigned.entry.now (token_view token.entry) }
+    ensures { result.now ≡ spec.assigned_after (goal ∷ []) assigned.entry.now
+        (token_view token.entry) }
 {
     match (goal, token) {
         (Goal::Statements(_, _), Token::Variable(name)) => name,
@@ -287,7 +293,8 @@ impl<'a> Reader<'a> {
     /// Reads a token.
     fn read_token(&mut self, token: Token<'a>) -> Result<(), Refusal>
         ensures ok { OnOk result (spec.read_token self.old (token_view token.entry) ≡ Ok self.new) }
-        ensures err { IfErr result (λ e. Stops e (spec.read_token self.old (token_view token.entry))) }
+        ensures err { IfErr result
+            (λ e. Stops e (spec.read_token self.old (token_view token.entry))) }
     {
         match self.goals.pop() {
             None => Err(Refusal::Of(LangKind::NoProgram)),
@@ -308,7 +315,8 @@ impl<'a> Reader<'a> {
 
     /// Reads a part between spaces, which is a word unless it has no bytes.
     fn read_part(&mut self, line: u32, part: &'a [u8]) -> Result<(), LangFault>
-        ensures ok { OnOk result (spec.read_words self.old (line_words line (part.now ∷ [])) ≡ Ok self.new) }
+        ensures ok { OnOk result (spec.read_words self.old (line_words line (part.now ∷ []))
+            ≡ Ok self.new) }
         ensures err { IfErr result
             (λ e. Refuses e (spec.read_words self.old (line_words line (part.now ∷ [])))) }
     {
@@ -324,7 +332,8 @@ impl<'a> Reader<'a> {
 
     /// Reads the words of a line.
     fn read_line(&mut self, line: u32, text: &'a [u8]) -> Result<(), LangFault>
-        ensures ok { OnOk result (spec.read_words self.old (line_words line (words_of text.now)) ≡ Ok self.new) }
+        ensures ok { OnOk result (spec.read_words self.old (line_words line (words_of text.now))
+            ≡ Ok self.new) }
         ensures err { IfErr result
             (λ e. Refuses e (spec.read_words self.old (line_words line (words_of text.now)))) }
     {
@@ -377,7 +386,8 @@ fn last_line(text: &[u8]) -> u32
 fn read_lines(alloc: Global, text: &[u8]) -> Result<Reader<'_>, LangFault>
     requires { length text.now ≤ 16_777_216 }
     ensures ok { IfOk result (λ r. spec.read_words spec.first_reading (words text.now) ≡ Ok r) }
-    ensures err { IfErr result (λ e. Refuses e (spec.read_words spec.first_reading (words text.now))) }
+    ensures err { IfErr result
+        (λ e. Refuses e (spec.read_words spec.first_reading (words text.now))) }
 {
     let mut reader = match Reader::new(alloc) {
         Ok(reader) => reader,

@@ -44,22 +44,26 @@ note_count test (n ∷ ns) = cond (test n) (suc (note_count test ns)) (note_coun
 
 -- ---- the bounds
 
--- the notes of an event, drops left out: at most one end of each process's call, and one of bytes for each piece
+-- the notes of an event, drops left out: at most one end of each process's call, and one of bytes
+-- for each piece
 pub record AreFewButDrops (notes : List Note) : Type 0 where
   pub ends : note_count is_end notes ≤ 16
   pub data_notes : note_count is_data notes ≤ 240
   pub lines : note_count is_line notes ≤ 2
 
--- an event from a sound kernel leaves at most 16 ends, 240 notes of bytes and two further lines, drops left out
+-- an event from a sound kernel leaves at most 16 ends, 240 notes of bytes and two further lines,
+-- drops left out
 abbrev pub LeavesFewNotes : Meaning → Type 0
 LeavesFewNotes m =
-    (k : Kernel) (blocks : Blocks) (number : ℕ) (e : Event) (io : List Bool) → IsSoundKernel m k → HasWholeBlocks k.world blocks →
+    (k : Kernel) (blocks : Blocks) (number : ℕ) (e : Event) (io : List Bool) → IsSoundKernel m k →
+    HasWholeBlocks k.world blocks →
     AreFewButDrops (event m k blocks number e io).notes
 
 -- a system call leaves at most 16 drops
 abbrev pub CallsLeaveFewDrops : Meaning → Type 0
 CallsLeaveFewDrops m =
-    (k : Kernel) (blocks : Blocks) (number p : ℕ) (call : SysCall) (io : List Bool) → IsSoundKernel m k → HasWholeBlocks k.world blocks →
+    (k : Kernel) (blocks : Blocks) (number p : ℕ) (call : SysCall) (io : List Bool) →
+    IsSoundKernel m k → HasWholeBlocks k.world blocks →
     note_count is_drop (event m k blocks number (Sys p call) io).notes ≤ 16
 
 -- the notes of an event: at most one drop for each graft and for each call, and 530 notes in all
@@ -71,5 +75,6 @@ pub record AreFew (notes : List Note) : Type 0 where
 -- an event from a sound kernel leaves few notes
 abbrev pub EventsLeaveFewNotes : Meaning → Type 0
 EventsLeaveFewNotes m =
-    (k : Kernel) (blocks : Blocks) (number : ℕ) (e : Event) (io : List Bool) → IsSoundKernel m k → HasWholeBlocks k.world blocks →
+    (k : Kernel) (blocks : Blocks) (number : ℕ) (e : Event) (io : List Bool) → IsSoundKernel m k →
+    HasWholeBlocks k.world blocks →
     AreFew (event m k blocks number e io).notes

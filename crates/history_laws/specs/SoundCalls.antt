@@ -8,4 +8,5 @@ use Rattle.kernel_model.specs.Sound.{IsSoundConfig, IsSoundKernel}
 
 -- the history of each call of a sound kernel leads to a sound graft call
 abbrev pub CallsAreSound : Meaning → Type 0
-CallsAreSound m = (k : Kernel) (p : ℕ) (c : Config) → IsSoundKernel m k → config_of m k p ≡ Some c → IsSoundConfig k.world c
+CallsAreSound m = (k : Kernel) (p : ℕ) (c : Config) → IsSoundKernel m k → config_of m k p ≡ Some c →
+    IsSoundConfig k.world c

@@ -9,5 +9,6 @@ use Rattle.kernel_model.specs.Laws.{Laws}
 -- a tick's 288 actions leave no count at its patience
 abbrev pub TicksEnd : Meaning → Type 0
 TicksEnd m =
-    (r : Run) (number : ℕ) → Laws m → IsSoundKernel m r.kernel → HasWholeBlocks r.kernel.world r.blocks → IsAtRest m r.kernel →
+    (r : Run) (number : ℕ) → Laws m → IsSoundKernel m r.kernel →
+    HasWholeBlocks r.kernel.world r.blocks → IsAtRest m r.kernel →
     expired (tick_event m number r).kernel (tick_event m number r).kernel.order ≡ None

@@ -6,8 +6,8 @@ ghost use Rattle.history_laws.specs.SoundCalls.{CallsAreSound};
 use kernel_laws::{soundness, undoing};
 use kernel_model::Rules;
 
-/// Where a level above the outermost is dropped, by an instruction or a time-out, the history that results leads to the config
-/// that the drop gave, if the level's graft stood.
+/// Where a level above the outermost is dropped, by an instruction or a time-out, the history that
+/// results leads to the config that the drop gave, if the level's graft stood.
 pub fn falls_replay<R: Rules>()
     ensures { FallsReplay R.meaning }
 {}

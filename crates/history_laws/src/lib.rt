@@ -1,5 +1,5 @@
-//! Laws of the histories of calls, of the one store that holds what all calls have done, of how much an event writes, and of
-//! ticks.
+//! Laws of the histories of calls, of the one store that holds what all calls have done, of how
+//! much an event writes, and of ticks.
 #![tactic(auto)]
 
 pub mod histories;

@@ -6,7 +6,8 @@ use graft_laws::stability;
 use kernel_laws::{soundness, undoing};
 use kernel_model::Rules;
 
-/// An event from a sound kernel leaves at most 16 ends, 240 notes of bytes and two further lines, drops left out.
+/// An event from a sound kernel leaves at most 16 ends, 240 notes of bytes and two further lines,
+/// drops left out.
 pub fn leaves_few_notes<R: Rules>()
     ensures { LeavesFewNotes R.meaning }
 {

@@ -1,4 +1,5 @@
-//! Refused bytes by the kind of their refusal. The lines that are written don't tell the two kinds apart.
+//! Refused bytes by the kind of their refusal. The lines that are written don't tell the two kinds
+//! apart.
 
 use gm_isa::{IsaFault, decode};
 

@@ -35,8 +35,10 @@ abbrev pub image_said : Result (ℕ × ℕ) ImageRefusal → List ℕ
 image_said (Ok sizes) = codes "ok" ++ spaced sizes.0 ++ spaced sizes.1
 image_said (Err refusal) = refusal_said refusal
 
--- An image line whose bytes load so says this of a kernel, and leaves one that rests, for which this kernel in place stands.
-pub record ImageIsAdded (m : Meaning) (slot : ℕ) (loaded : Result Image LoadFault) (k : Kernel) (y : Placed)
+-- An image line whose bytes load so says this of a kernel, and leaves one that rests, for which
+-- this kernel in place stands.
+pub record ImageIsAdded (m : Meaning) (slot : ℕ) (loaded : Result Image LoadFault) (k : Kernel)
+    (y : Placed)
     (said : List ℕ) : Type 0 where
   pub said_is : (image_answer slot loaded k).1 ≡ said
   pub stands : StandsFor m y (image_answer slot loaded k).0

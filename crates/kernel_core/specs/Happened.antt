@@ -21,7 +21,8 @@ pub record IsKernel {C B M W : Type 0} {P : _} (m : Meaning) (stage : W → Stag
   pub stood : Stood m (placed_of stage x)
   pub clock : x.clock ≤ most
 
--- what is left of the definitions' event is what the code left: the kernel stands for the abstract one, which rests, the disk tells
+-- what is left of the definitions' event is what the code left: the kernel stands for the abstract
+-- one, which rests, the disk tells
 -- its blocks, the notes are the same, and of the calls of the disk that were told these are left
 pub record EventIs (m : Meaning) (r : Run) (y : Placed) (notes : List Note)
     (told : Option (List (List ℕ))) (rest : List Bool) : Type 0 where
@@ -31,14 +32,18 @@ pub record EventIs (m : Meaning) (r : Run) (y : Placed) (notes : List Note)
   pub notes_are : notes ≡ r.notes
   pub left : r.io ≡ rest
 
--- An event of this number took one kernel in place to another, left these notes, and took the disk from the one to the other: for
--- every abstract kernel that the one stands for, and that rests, the other stands for what the definitions' event makes of it. The
--- definitions' event makes as many calls of the disk as the code did, no fewer and no more: whatever later calls would do, it comes
+-- An event of this number took one kernel in place to another, left these notes, and took the disk
+-- from the one to the other: for
+-- every abstract kernel that the one stands for, and that rests, the other stands for what the
+-- definitions' event makes of it. The
+-- definitions' event makes as many calls of the disk as the code did, no fewer and no more:
+-- whatever later calls would do, it comes
 -- to the same, and leaves them all.
 pub record Happened (m : Meaning) (x y : Placed) (number : ℕ) (what : Event) (notes : List Note)
     (d e : DiskSeen) : Type 0 where
   -- which of its calls of the disk failed
   pub io : List Bool
   pub made : Made d.faults e.faults d.plan e.plan io
-  pub is : (k : Kernel) (blocks : Blocks) (rest : List Bool) → StandsFor m x k → IsAtRest m k → Tells d.told blocks →
+  pub is : (k : Kernel) (blocks : Blocks) (rest : List Bool) → StandsFor m x k → IsAtRest m k →
+      Tells d.told blocks →
       EventIs m (event m k blocks number what (io ++ rest)) y notes e.told rest

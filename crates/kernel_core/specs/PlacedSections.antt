@@ -1,4 +1,5 @@
--- The rows of a kernel in place, by sections: each has so many places, with some rows at each. And the rows that are
+-- The rows of a kernel in place, by sections: each has so many places, with some rows at each. And
+-- the rows that are
 -- left from a place on.
 use Rattle.std.specs.Prelude.{◌≡◌, ◌<◌, ℕ, ◌+◌, ◌-◌, ◌*◌, ◌/◌, ◌%◌, cond, List, [], ◌∷◌, ◌++◌, Option, Some, None, IfSome, drop, filter_map, flat_map, length, slice_get}
 use Rattle.std.specs.List.{range_with_len}
@@ -19,7 +20,8 @@ as_list (Some x) = x ∷ []
 
 -- the sections, in their order
 abbrev pub sections : List Section
-sections = Clock ∷ Queue ∷ Accounts ∷ Cells ∷ Files ∷ Grafts ∷ Policies ∷ Frames ∷ Locks ∷ Calls ∷ Levels ∷ Undo ∷ []
+sections = Clock ∷ Queue ∷ Accounts ∷ Cells ∷ Files ∷ Grafts ∷ Policies ∷ Frames ∷ Locks ∷ Calls
+    ∷ Levels ∷ Undo ∷ []
 
 -- how many places a section has
 abbrev pub places : Section → ℕ
@@ -68,7 +70,8 @@ rows_at x Cells n = as_list (if_lives x.objects n (cells_row x.objects n))
 rows_at x Files n = as_list (open_row x.world x.objects (n / 4) (n % 4))
 rows_at x Grafts n = as_list (graft_row x.objects (n / 16) (n % 16))
 rows_at x Policies n = pol_row x.objects n ∷ []
-rows_at x Frames n = RawRow.Lru (filter_map (frame_row_of x.objects) x.objects.things.cache.lru) ∷ []
+rows_at x Frames n = RawRow.Lru (filter_map (frame_row_of x.objects) x.objects.things.cache.lru)
+    ∷ []
 rows_at x Locks n = as_list (lock_row x.objects n)
 rows_at x Calls n = as_list (placed_call_row x n)
 rows_at x Levels n = placed_level_rows x n
@@ -101,12 +104,14 @@ abbrev pub most_of : List Section → ℕ
 most_of [] = 0
 most_of (s ∷ ss) = most_in s + most_of ss
 
--- the rows from a place on: those of its section, without the ones that came before, and those of the sections behind
+-- the rows from a place on: those of its section, without the ones that came before, and those of
+-- the sections behind
 unfoldable pub rows_left : Placed → RowPlace → List RawRow
 rows_left x at =
     elim (slice_get sections at.section) [
       | None ↦ []
-      | Some s ↦ rows_past (rows_at x s) at.index (places_from s at.place) ++ rows_of x (drop (at.section + 1) sections)
+      | Some s ↦ rows_past (rows_at x s) at.index (places_from s at.place)
+          ++ rows_of x (drop (at.section + 1) sections)
     ]
 
 -- how many they are at most
@@ -114,10 +119,12 @@ unfoldable pub most_left : RowPlace → ℕ
 most_left at =
     elim (slice_get sections at.section) [
       | None ↦ 0
-      | Some s ↦ most_past (most_at s) at.index (places_from s at.place) + most_of (drop (at.section + 1) sections)
+      | Some s ↦ most_past (most_at s) at.index (places_from s at.place) + most_of
+          (drop (at.section + 1) sections)
     ]
 
--- The next row was asked for at a place: it is the first of those that were left, if there was one, and from the new
+-- The next row was asked for at a place: it is the first of those that were left, if there was one,
+-- and from the new
 -- place on the rest is left.
 pub record TakesRow (x : Placed) (old new : RowPlace) (row : Option RawRow) : Type 0 where
   pub first : row ≡ slice_get (rows_left x old) 0

@@ -19,30 +19,41 @@ use Rattle.kernel_steps.specs.Views.{IsRunning, IsQuiet}
 use Rattle.kernel_core.specs.declared.kernel.BootNote.{BootNote}
 use Rattle.kernel_core.specs.declared.kernel.BootNote.TheVariants.{Up, Fault}
 
--- A kernel before `boot`: no call is in flight, none waits, no tick came, and the policies are those of the opening state.
-pub record IsBlank {C B M W : Type 0} {P : _} (caller : W → ℕ) (x : Running C B M W P) : Type 0 where
+-- A kernel before `boot`: no call is in flight, none waits, no tick came, and the policies are
+-- those of the opening state.
+pub record IsBlank {C B M W : Type 0} {P : _} (caller : W →
+    ℕ) (x : Running C B M W P) : Type 0 where
   pub running : IsRunning caller x
   pub quiet : IsQuiet x
   pub clock : x.clock ≡ 0
   pub stock : pol_of (views_of x.store) first_choice ≡ opening_policy
 
--- the directory that was read from block 0 of a disk of this size, which is empty where the first of these calls failed
+-- the directory that was read from block 0 of a disk of this size, which is empty where the first
+-- of these calls failed
 abbrev pub directory_read : (size : ℕ) → (block : List ℕ) → List Bool → List (Option FileRow)
-directory_read size block io = elim (disk_fails io 0) [ true ↦ [] | false ↦ directory_of size block ]
+directory_read size block io =
+    elim (disk_fails io 0) [ true ↦ [] | false ↦ directory_of size block ]
 
 -- what is said of a boot
 abbrev pub boot_note : (frames size : ℕ) → (block : List ℕ) → List Bool → BootNote
-boot_note frames size block io = elim (disk_fails io 0) [ true ↦ Fault | false ↦ Up frames size (usable_count (directory_of size block)) ]
+boot_note frames size block io =
+    elim (disk_fails io 0) [
+      | true ↦ Fault
+      | false ↦ Up frames size (usable_count (directory_of size block))
+    ]
 
--- what a boot leaves stands for the kernel after boot, which rests, the note is that of the boot, and the disk tells its blocks
+-- what a boot leaves stands for the kernel after boot, which rests, the note is that of the boot,
+-- and the disk tells its blocks
 pub record BootIs (m : Meaning) (setup : Setup) (size : ℕ) (blocks : Blocks) (io : List Bool)
     (y : Placed) (note : BootNote) (told : Option (List (List ℕ))) : Type 0 where
-  pub stands : StandsFor m y (opening_kernel (world_for setup size (directory_read size (blocks 0) io)))
+  pub stands : StandsFor m y
+      (opening_kernel (world_for setup size (directory_read size (blocks 0) io)))
   pub rests : IsAtRest m (opening_kernel (world_for setup size (directory_read size (blocks 0) io)))
   pub note_is : note ≡ boot_note setup.frames size (blocks 0) io
   pub blocks_are : Tells told blocks
 
--- A boot with this set-up, on a disk of this size, left this kernel in place and this note, and took the disk from the one to the
+-- A boot with this set-up, on a disk of this size, left this kernel in place and this note, and
+-- took the disk from the one to the
 -- other.
 pub record Booted (m : Meaning) (setup : Setup) (size : ℕ) (y : Placed) (note : BootNote)
     (d e : DiskSeen) : Type 0 where

@@ -18,7 +18,8 @@ use Rattle.kernel_steps.specs.declared.running.Running.{Running}
 use Rattle.kernel_steps.specs.Did.{first_notes, CameAs, Did}
 use Rattle.kernel_steps.specs.Views.{placed_of, run_of, IsRunning, Stood}
 
--- A change of an event under way was made: the kernel runs on, and stands for some abstract kernel again. The set-up and the clock
+-- A change of an event under way was made: the kernel runs on, and stands for some abstract kernel
+-- again. The set-up and the clock
 -- stay.
 pub record Went {C B M W : Type 0} {P : _} (m : Meaning) (stage : W → Stage) (caller : W → ℕ)
     (f : PlacedRun → PlacedRun) (x y : Running C B M W P) (kept kept_new : List Note)
@@ -48,7 +49,8 @@ pub record Rests (m : Meaning) (x : Placed) (blocks : Blocks) : Type 0 where
   pub rests : IsAtRest m kernel
   pub whole : HasWholeBlocks kernel.world blocks
 
--- A change of an event under way did what is said of it wherever it began at rest, and left the disk and the notes as `Did` says.
+-- A change of an event under way did what is said of it wherever it began at rest, and left the
+-- disk and the notes as `Did` says.
 pub record DidFromRest (m : Meaning) (f : PlacedRun → PlacedRun) (x y : Placed)
     (kept kept_new : List Note) (d e : DiskSeen) : Type 0 where
   -- which of its calls of the disk failed
@@ -66,7 +68,8 @@ pub record DidToRest (m : Meaning) (f : PlacedRun → PlacedRun) (x y : Placed)
       Tells d.told blocks → kept ≡ first_notes notes →
       Rests m y (f (run_of x blocks notes (did.io ++ rest))).blocks
 
--- What always holds after a change: the kernel runs on, and stands for some abstract kernel. The set-up and the clock stay.
+-- What always holds after a change: the kernel runs on, and stands for some abstract kernel. The
+-- set-up and the clock stay.
 pub record GoesOn {C B M W : Type 0} {P : _} (m : Meaning) (stage : W → Stage) (caller : W → ℕ)
     (x y : Running C B M W P) : Type 0 where
   pub running : IsRunning caller y
@@ -79,33 +82,42 @@ pub record GoesOn {C B M W : Type 0} {P : _} (m : Meaning) (stage : W → Stage)
 module _ (m : Meaning) where
   -- the call of p takes up an instruction
   abbrev pub takes_up : Placed → ℕ → Bool
-  takes_up x p = has_some (x.levels p) && not (in_order p x.order) && not (is_some (placed_blocker m x p))
+  takes_up x p = has_some (x.levels p) && not (in_order p x.order)
+      && not (is_some (placed_blocker m x p))
 
-  -- what the attempt makes of the kernel: a call that can't go on joins the order, where it has a level and isn't in it yet
+  -- what the attempt makes of the kernel: a call that can't go on joins the order, where it has a
+  -- level and isn't in it yet
   abbrev pub taken_up : ℕ → PlacedRun → PlacedRun
   taken_up p r =
       elim (has_some (r.placed.levels p) && not (in_order p r.placed.order)) [
         | false ↦ r
-        | true ↦ elim (placed_blocker m r.placed p) [ Some b ↦ placed_settled m (placed_joins p r) | None ↦ placed_settled m (placed_step m p r) ]
+        | true ↦ elim (placed_blocker m r.placed p) [
+          | Some b ↦ placed_settled m (placed_joins p r)
+          | None ↦ placed_settled m (placed_step m p r)
+        ]
       ]
 
   -- at most so many instructions, so many having been taken, and the note of how many
   abbrev pub steps_said : (number p left taken : ℕ) → PlacedRun → PlacedRun
-  steps_said number p left taken r = let s = placed_steps m p left taken r in placed_noted (Ran number s.0) s.1
+  steps_said number p left taken r = let s = placed_steps m p left taken r in
+      placed_noted (Ran number s.0) s.1
 
   -- the same where the call goes on, and else the note
   abbrev pub steps_left : (number p left taken : ℕ) → (going : Bool) → PlacedRun → PlacedRun
   steps_left number p left taken true r = steps_said number p left taken r
   steps_left number p left taken false r = placed_noted (Ran number taken) r
 
--- From rest, so many instructions of the call of p lead from x to y: what follows them begins there, at rest.
+-- From rest, so many instructions of the call of p lead from x to y: what follows them begins
+-- there, at rest.
 pub record Leads (m : Meaning) (p n : ℕ) (x y : Placed) : Type 0 where
-  pub steps : (left taken : ℕ) (blocks : Blocks) (notes : List Note) (io : List Bool) → Rests m x blocks →
+  pub steps : (left taken : ℕ) (blocks : Blocks) (notes : List Note) (io : List Bool) →
+      Rests m x blocks →
       placed_steps m p (n + left) taken (run_of x blocks notes io)
       ≡ placed_steps m p left (taken + n) (run_of y blocks notes io)
   pub rests : (blocks : Blocks) → Rests m x blocks → Rests m y blocks
 
--- A change of an event under way has come, from rest, to a point of rest from which this is left of it.
+-- A change of an event under way has come, from rest, to a point of rest from which this is left of
+-- it.
 pub record HasCome (m : Meaning) (f left : PlacedRun → PlacedRun) (x y : Placed)
     (kept kept_new : List Note) (d e : DiskSeen) : Type 0 where
   pub io : List Bool
@@ -113,7 +125,8 @@ pub record HasCome (m : Meaning) (f left : PlacedRun → PlacedRun) (x y : Place
   pub now : Blocks → List Note → List Bool → PlacedRun
   pub came : (blocks : Blocks) (notes : List Note) (rest : List Bool) → Rests m x blocks →
       Tells d.told blocks → kept ≡ first_notes notes →
-      CameAs (now blocks notes rest) y kept_new e.told rest × Rests m y (now blocks notes rest).blocks
+      CameAs (now blocks notes rest) y kept_new e.told rest
+      × Rests m y (now blocks notes rest).blocks
   pub goes : (blocks : Blocks) (notes : List Note) (rest : List Bool) → Rests m x blocks →
       Tells d.told blocks → kept ≡ first_notes notes →
       f (run_of x blocks notes (io ++ rest)) ≡ left (now blocks notes rest)

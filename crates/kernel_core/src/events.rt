@@ -151,8 +151,8 @@ fn stepped<C: Calls, B: Policy, D: Disk>(
     step_event(running, number, p as u8, n, disk, log, notes);
 }
 
-/// One event, which has this number. Its notes are left behind. The log is for the calls of the disk of one piece. No memory is
-/// taken.
+/// One event, which has this number. Its notes are left behind. The log is for the calls of the
+/// disk of one piece. No memory is taken.
 pub fn event<C: Calls, B: Policy, D: Disk>(
     running: &mut Running<C, B>,
     number: u32,

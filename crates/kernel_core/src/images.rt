@@ -35,8 +35,10 @@ impl<C: Calls, B: Policy> Kernel<C, B> {
     /// Why no image can stand in a slot, if it can't: `BadSlot` above 31, `Taken` where it has one.
     pub fn slot_refusal(&self, slot: u32) -> Option<ImageRefusal>
         ensures value { result ≡ slot_refused (placed_of C.stage self.now.running).images slot }
-        ensures refused { IfSome result (λ refusal. (k : Abstract) (loaded : Result Image images.LoadFault) →
-            StandsFor C.Meaning.meaning (placed_of C.stage self.now.running) k → IsAtRest C.Meaning.meaning k →
+        ensures refused { IfSome result
+            (λ refusal. (k : Abstract) (loaded : Result Image images.LoadFault) →
+            StandsFor C.Meaning.meaning (placed_of C.stage self.now.running) k →
+            IsAtRest C.Meaning.meaning k →
             ImageIsAdded C.Meaning.meaning slot loaded k
             (placed_of C.stage self.now.running) (refusal_said refusal)) }
     {
@@ -49,9 +51,9 @@ impl<C: Calls, B: Policy> Kernel<C, B> {
         None
     }
 
-    /// Loads sealed bytes under these keys into a slot, and answers how many instructions and data bytes the image has.
-    /// It is refused as its slot is, and then as `load` refuses its bytes. The keys aren't kept. Memory is taken for the
-    /// image alone; without it nothing changes.
+    /// Loads sealed bytes under these keys into a slot, and answers how many instructions and data
+    /// bytes the image has. It is refused as its slot is, and then as `load` refuses its bytes. The
+    /// keys aren't kept. Memory is taken for the image alone; without it nothing changes.
     pub fn add_image(
         &mut self,
         alloc: Global,
@@ -62,7 +64,8 @@ impl<C: Calls, B: Policy> Kernel<C, B> {
         requires running { IsRunning C.caller self.old.running }
         requires stood { Stood C.Meaning.meaning (placed_of C.stage self.old.running) }
         ensures added { has_memory result ≡ true → (k : Abstract) →
-            StandsFor C.Meaning.meaning (placed_of C.stage self.old.running) k → IsAtRest C.Meaning.meaning k →
+            StandsFor C.Meaning.meaning (placed_of C.stage self.old.running) k →
+            IsAtRest C.Meaning.meaning k →
             ImageIsAdded C.Meaning.meaning slot (images.load keys.now bytes.now) k
             (placed_of C.stage self.new.running) (image_said result) }
         ensures memory { result ≡ Err (Unloaded NoMemory) → (self.new ≡ self.old)

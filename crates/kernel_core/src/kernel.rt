@@ -1,4 +1,5 @@
-//! The kernel: a running kernel over a disk. It is booted, takes events one after another, and shows what it is.
+//! The kernel: a running kernel over a disk. It is booted, takes events one after another, and
+//! shows what it is.
 
 ghost use Rattle.std.specs.Prelude.{◌≡◌, ℕ, ◌<◌, ◌≤◌, ◌-◌, ◌^◌, [], map, None, is_some, option_map, slice_get, IfOk};
 ghost use Rattle.disk_log.specs.Seen.{disk_seen};
@@ -49,7 +50,8 @@ pub enum BootNote {
 }
 
 impl<C: Calls, B: Policy> Kernel<C, B> {
-    /// A kernel before boot, with its memory, the table of images and the stock policies. Takes all the memory that it ever does.
+    /// A kernel before boot, with its memory, the table of images and the stock policies. Takes all
+    /// the memory that it ever does.
     pub fn new(
         alloc: Global,
         setup: Setup,
@@ -73,8 +75,8 @@ impl<C: Calls, B: Policy> Kernel<C, B> {
         }
     }
 
-    /// The kernel begins: block 0 of the disk has the directory. Where it can't be read there are no files. All slots of images are
-    /// free.
+    /// The kernel begins: block 0 of the disk has the directory. Where it can't be read there are
+    /// no files. All slots of images are free.
     pub fn boot<D: Disk>(&mut self, setup: Setup, disk: &mut D) -> BootNote
         requires frames_least { 2 ≤ setup.frames }
         requires frames_most { setup.frames ≤ 64 }
@@ -118,8 +120,10 @@ impl<C: Calls, B: Policy> Kernel<C, B> {
         requires free { (placed_of C.stage self.old.running).images slot ≡ None }
         requires running { IsRunning C.caller self.old.running }
         requires stood { Stood C.Meaning.meaning (placed_of C.stage self.old.running) }
-        ensures stands { (k : Abstract) → StandsFor C.Meaning.meaning (placed_of C.stage self.old.running) k →
-            StandsFor C.Meaning.meaning (placed_of C.stage self.new.running) (session.add_image slot image k) }
+        ensures stands { (k : Abstract) →
+            StandsFor C.Meaning.meaning (placed_of C.stage self.old.running) k →
+            StandsFor C.Meaning.meaning (placed_of C.stage self.new.running)
+            (session.add_image slot image k) }
         ensures rests { (k : Abstract) → StandsFor C.Meaning.meaning
             (placed_of C.stage self.old.running) k → IsAtRest C.Meaning.meaning k →
             IsAtRest C.Meaning.meaning (session.add_image slot image k) }
@@ -133,7 +137,8 @@ impl<C: Calls, B: Policy> Kernel<C, B> {
 
     /// The number of the call that process p has in flight. None past the last process.
     pub fn left(&self, p: u8) -> Option<u32>
-        ensures { result ≡ option_map (λ (c : PlacedCall). c.number) ((placed_of C.stage self.now.running).call p) }
+        ensures { result ≡ option_map (λ (c : PlacedCall). c.number)
+            ((placed_of C.stage self.now.running).call p) }
     {
         self.running.call_number(p)
     }
@@ -142,7 +147,8 @@ impl<C: Calls, B: Policy> Kernel<C, B> {
     pub fn event<D: Disk>(&mut self, number: u32, what: &Event, disk: &mut D, notes: &mut Notes)
         requires first { 0 < number }
         requires room { number < 2 ^ 32 - 1 }
-        requires kernel { IsKernel C.Meaning.meaning C.stage C.caller (number - 1) self.old.running }
+        requires kernel { IsKernel C.Meaning.meaning C.stage C.caller
+            (number - 1) self.old.running }
         requires disk { self.old.running.store.size ≡ D.block_count disk.old }
         requires no_notes { notes.old ≡ [] }
         ensures happened { Happened C.Meaning.meaning (placed_of C.stage self.old.running)
@@ -150,7 +156,8 @@ impl<C: Calls, B: Policy> Kernel<C, B> {
             (disk_seen (D.blocks disk.old) (D.plan disk.old) (D.faults disk.old))
             (disk_seen (D.blocks disk.new) (D.plan disk.new) (D.faults disk.new)) }
         ensures kernel { IsKernel C.Meaning.meaning C.stage C.caller number self.new.running }
-        ensures world { world_of_store self.new.running.store ≡ world_of_store self.old.running.store }
+        ensures world { world_of_store self.new.running.store
+            ≡ world_of_store self.old.running.store }
         ensures same_size { D.block_count disk.new ≡ D.block_count disk.old }
     {
         event(&mut self.running, number, what, disk, &mut self.log, notes);

@@ -18,7 +18,8 @@ fn say_wait<C: Calls, B: Policy>(running: &Running<C, B>, p: u8, number: u32, no
     requires running { IsRunning C.caller running.now }
     requires stood { Stood C.Meaning.meaning (placed_of C.stage running.now) }
     ensures said { (d : DiskSeen) → let x = placed_of C.stage running.now in
-        Did (placed_waits_note number (placed_blocker C.Meaning.meaning x p)) x x notes.old notes.new d d }
+        Did (placed_waits_note number (placed_blocker C.Meaning.meaning x p)) x x notes.old
+        notes.new d d }
 {
     if let Some(found) = running.blocker(p) {
         notes.push(Note::Waits(number, found.object, found.holder));

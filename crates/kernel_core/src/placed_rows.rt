@@ -97,7 +97,11 @@ impl RowPlace {
     /// On to the next place of the section.
     fn pass_place(&mut self)
         requires { self.old.place < 2 ^ 16 - 1 }
-        ensures { self.new ≡ record { section = self.old.section; place = self.old.place + 1; index = 0 } }
+        ensures { self.new ≡ record {
+          section = self.old.section;
+          place = self.old.place + 1;
+          index = 0;
+        } }
     {
         self.place += 1;
         self.index = 0;

@@ -27,18 +27,21 @@ fn join<C: Calls, B: Policy>(running: &mut Running<C, B>, p: u8)
     requires process { p < 16 }
     requires level { has_some ((placed_of C.stage running.old).levels p) ≡ true }
     requires new { in_order p (placed_of C.stage running.old).order ≡ false }
-    requires blocked { is_some (placed_blocker C.Meaning.meaning (placed_of C.stage running.old) p) ≡ true }
+    requires blocked { is_some (placed_blocker C.Meaning.meaning (placed_of C.stage running.old) p)
+        ≡ true }
     requires running { IsRunning C.caller running.old }
     requires stood { Stood C.Meaning.meaning (placed_of C.stage running.old) }
     ensures went { (kept : List Told) (d : DiskSeen) →
-        Went C.Meaning.meaning C.stage C.caller (placed_joins p) running.old running.new kept kept d d }
+        Went C.Meaning.meaning C.stage C.caller
+        (placed_joins p) running.old running.new kept kept d d }
 {
     keeping::others_stand::<C::Meaning>();
     running.join(p);
 }
 
-/// Takes up an instruction of process p's call, and all steps that can be taken then: none where the kernel rested, and the call
-/// keeps its levels and what they hold. Whether it could: a call that is blocked in a graft joins the order.
+/// Takes up an instruction of process p's call, and all steps that can be taken then: none where
+/// the kernel rested, and the call keeps its levels and what they hold. Whether it could: a call
+/// that is blocked in a graft joins the order.
 fn take_up<C: Calls, B: Policy, D: Disk>(
     running: &mut Running<C, B>,
     p: u8,
@@ -124,7 +127,8 @@ fn steps<C: Calls, B: Policy, D: Disk>(
     notes.push(Note::Ran(number, taken));
 }
 
-/// Instructions of process p's call: at most n, how many were taken up, and where the call stands then.
+/// Instructions of process p's call: at most n, how many were taken up, and where the call stands
+/// then.
 pub(crate) fn step_event<C: Calls, B: Policy, D: Disk>(
     running: &mut Running<C, B>,
     number: u32,

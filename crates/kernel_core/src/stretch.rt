@@ -9,9 +9,9 @@ use graft_points::Policy;
 use kernel_steps::Running;
 use placed_laws::{agreeing, stretching};
 
-/// A stretch of process p's call, where it is in a graft and doesn't wait: at most n quiet instructions, which each go
-/// on and call nothing, or only read an object that their level holds already. How many there were. They leave no step
-/// to take.
+/// A stretch of process p's call, where it is in a graft and doesn't wait: at most n quiet
+/// instructions, which each go on and call nothing, or only read an object that their level holds
+/// already. How many there were. They leave no step to take.
 pub(crate) fn stretch<C: Calls, B: Policy>(running: &mut Running<C, B>, p: u8, n: u32) -> u32
     requires process { p < 16 }
     requires running { IsRunning C.caller running.old }

@@ -31,7 +31,8 @@ fn refuse<C: Calls, B: Policy>(
     notes: &mut Notes,
 )
     requires process { p < 16 }
-    requires call { Some number ≡ option_map (λ c. c.number) ((placed_of C.stage running.old).call p) }
+    requires call { Some number
+        ≡ option_map (λ c. c.number) ((placed_of C.stage running.old).call p) }
     requires none { (placed_of C.stage running.old).levels p ≡ [] }
     requires running { IsRunning C.caller running.old }
     requires stood { Stood C.Meaning.meaning (placed_of C.stage running.old) }
@@ -76,7 +77,8 @@ fn time_out_waiter<C: Calls, B: Policy, D: Disk>(
     running.drop_level(p, count - 1, cause, disk, log, notes);
 }
 
-/// A call has been in process p's way for too long: it loses the outermost level whose hold conflicts.
+/// A call has been in process p's way for too long: it loses the outermost level whose hold
+/// conflicts.
 fn time_out_holder<C: Calls, B: Policy, D: Disk>(
     running: &mut Running<C, B>,
     p: u8,
@@ -131,7 +133,8 @@ fn act<C: Calls, B: Policy, D: Disk>(
     }
 }
 
-/// At most so many actions, as long as a count has reached its patience, each with all steps that can be taken then.
+/// At most so many actions, as long as a count has reached its patience, each with all steps that
+/// can be taken then.
 fn actions<C: Calls, B: Policy, D: Disk>(
     running: &mut Running<C, B>,
     turns: u16,

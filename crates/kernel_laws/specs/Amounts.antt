@@ -15,14 +15,19 @@ total a k = sum_below 16 (ledger a k)
 -- On a sound state the total of each kind is the grant, and stays it.
 pub record GrantStays : Type 0 where
   -- where one of a kind is charged to a graft that can pay
-  pub charged : (v : World) (s : Objects) (q pt : ℕ) (k j : Kind) → IsSoundStore v s → 1 ≤ funds s.accounts q pt k →
+  pub charged : (v : World) (s : Objects) (q pt : ℕ) (k j : Kind) → IsSoundStore v s →
+      1 ≤ funds s.accounts q pt k →
       total (charge k q pt s.accounts) j ≡ v.grant
   -- where a graft is taken out
-  pub removed : (v : World) (s : Objects) (q pt : ℕ) (j : Kind) → IsSoundStore v s → total (removed q pt s.accounts) j ≡ v.grant
+  pub removed : (v : World) (s : Objects) (q pt : ℕ) (j : Kind) → IsSoundStore v s →
+      total (removed q pt s.accounts) j ≡ v.grant
   -- where a process gives to another what it has
   pub given : (v : World) (s : Objects) (p q : ℕ) (k : Kind) (n : ℕ) (j : Kind) → IsSoundStore v s →
-      lives s.things.queue p ≡ true → lives s.things.queue q ≡ true → n ≤ (s.accounts.acct p).balance k →
+      lives s.things.queue p ≡ true → lives s.things.queue q ≡ true →
+      n ≤ (s.accounts.acct p).balance k →
       total (record (s.accounts) { acct = accounts_after s.accounts.acct p q k n }) j ≡ v.grant
   -- where a process gives to a graft what it has
-  pub funded : (v : World) (s : Objects) (p pt : ℕ) (g : GraftValue) (k : Kind) (n : ℕ) (j : Kind) → IsSoundStore v s →
-      s.accounts.graft p pt ≡ Some g → n ≤ (s.accounts.acct p).balance k → total (accounts_funded p pt k n g s.accounts) j ≡ v.grant
+  pub funded : (v : World) (s : Objects) (p pt : ℕ) (g : GraftValue) (k : Kind) (n : ℕ) (j : Kind) →
+      IsSoundStore v s →
+      s.accounts.graft p pt ≡ Some g → n ≤ (s.accounts.acct p).balance k →
+      total (accounts_funded p pt k n g s.accounts) j ≡ v.grant

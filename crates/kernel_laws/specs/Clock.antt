@@ -15,7 +15,8 @@ is_tick e = false
 -- a tick raises the clock by one
 abbrev pub TicksRaiseTheClock : Meaning → Type 0
 TicksRaiseTheClock m =
-    (k : Kernel) (blocks : Blocks) (number : ℕ) (io : List Bool) → (event m k blocks number Tick io).kernel.clock ≡ suc k.clock
+    (k : Kernel) (blocks : Blocks) (number : ℕ) (io : List Bool) →
+    (event m k blocks number Tick io).kernel.clock ≡ suc k.clock
 
 -- no other event changes the clock
 abbrev pub OthersLeaveTheClock : Meaning → Type 0

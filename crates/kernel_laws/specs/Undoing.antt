@@ -14,7 +14,8 @@ IsOnceIn q queue = count_of q (in_queue queue) ≤ 1
 
 -- inverses of distinct objects commute
 abbrev pub InversesCommute : Type 0
-InversesCommute = (i j : Found) (w : Things) → changed_by i ≢ changed_by j → undo i (undo j w) ≡ undo j (undo i w)
+InversesCommute = (i j : Found) (w : Things) → changed_by i ≢ changed_by j →
+    undo i (undo j w) ≡ undo j (undo i w)
 
 -- where an accessor made a change, its inverse leads back to the things before it
 abbrev pub LeadsBack : Things → Access → Type 0
@@ -22,9 +23,11 @@ LeadsBack w (Gives result) = ⊤
 LeadsBack w (Changes result i u) = undo (bare_found i) u ≡ w
 LeadsBack w (Refuses cause) = ⊤
 
--- an inverse undoes the change of the accessor that recorded it, where the process stands in the queue at most once
+-- an inverse undoes the change of the accessor that recorded it, where the process stands in the
+-- queue at most once
 abbrev pub InversesUndo : Type 0
-InversesUndo = (id r0 r1 r2 q : ℕ) (w : Things) → IsOnceIn q w.queue → LeadsBack w (access id r0 r1 r2 q w)
+InversesUndo = (id r0 r1 r2 q : ℕ) (w : Things) → IsOnceIn q w.queue →
+    LeadsBack w (access id r0 r1 r2 q w)
 
 -- a call of a plain accessor by a process
 pub record AccessorCall : Type 0 where
@@ -53,15 +56,19 @@ RecordsLeadBack =
 
 -- an inverse changes its object alone
 abbrev pub InversesChangeOneObject : Type 0
-InversesChangeOneObject = (i : Found) (o : Object) (w : Things) → o ≢ changed_by i → SameThing o (undo i w) w
+InversesChangeOneObject = (i : Found) (o : Object) (w : Things) → o ≢ changed_by i →
+    SameThing o (undo i w) w
 
--- where an accessor of process q made a change, it needs the object of the inverse exclusively, and changed no other
+-- where an accessor of process q made a change, it needs the object of the inverse exclusively, and
+-- changed no other
 abbrev pub ChangesItsObject : (id r0 q : ℕ) → Things → Access → Type 0
 ChangesItsObject id r0 q w (Gives result) = ⊤
 ChangesItsObject id r0 q w (Changes result i u) =
-    (accessed id r0 q ≡ needed (object_of_inverse i) Exclusive) × ((o : Object) → o ≢ object_of_inverse i → SameThing o u w)
+    (accessed id r0 q ≡ needed (object_of_inverse i) Exclusive)
+    × ((o : Object) → o ≢ object_of_inverse i → SameThing o u w)
 ChangesItsObject id r0 q w (Refuses cause) = ⊤
 
 -- an accessor's change is of one object alone: of that which it needs, and exclusively
 abbrev pub ChangesAreOfOneObject : Type 0
-ChangesAreOfOneObject = (id r0 r1 r2 q : ℕ) (w : Things) → ChangesItsObject id r0 q w (access id r0 r1 r2 q w)
+ChangesAreOfOneObject = (id r0 r1 r2 q : ℕ) (w : Things) →
+    ChangesItsObject id r0 q w (access id r0 r1 r2 q w)

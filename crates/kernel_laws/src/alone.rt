@@ -1,11 +1,12 @@
-//! Laws of a call that is alone in flight, where no graft stands. A call of one brings its statement into a proof.
+//! Laws of a call that is alone in flight, where no graft stands. A call of one brings its
+//! statement into a proof.
 
 ghost use Rattle.kernel_model.specs.Alone.{CallsRunAlone, OthersAreFree, NothingIsLeft};
 
 use kernel_model::Rules;
 
-/// A call is run to its end at its own event, piece after piece with the default answers, where no user lock of another
-/// process hinders a piece.
+/// A call is run to its end at its own event, piece after piece with the default answers, where no
+/// user lock of another process hinders a piece.
 pub fn calls_run_alone<R: Rules>()
     ensures { CallsRunAlone R.meaning }
 {}
@@ -15,7 +16,8 @@ pub fn others_are_free<R: Rules>()
     ensures { OthersAreFree R.meaning }
 {}
 
-/// Such a call leaves no call in flight, and writes the bytes that it gives and its end, so no `waits` and no `graft` line.
+/// Such a call leaves no call in flight, and writes the bytes that it gives and its end, so no
+/// `waits` and no `graft` line.
 pub fn nothing_is_left<R: Rules>()
     ensures { NothingIsLeft R.meaning }
 {}

@@ -6,7 +6,8 @@ ghost use Rattle.kernel_laws.specs.Soundness.{OpeningIsSound, OpeningKernelIsSou
 
 use kernel_model::Rules;
 
-/// The state after boot is sound, where what no call changes is within the limits and the files lie on the disk.
+/// The state after boot is sound, where what no call changes is within the limits and the files lie
+/// on the disk.
 pub fn opening_is_sound()
     ensures { OpeningIsSound }
 {}
@@ -27,8 +28,9 @@ pub fn refusals_change_nothing<R: Rules>()
     ensures { RefusalsChangeNothing R.meaning }
 {}
 
-/// An instruction of a graft call keeps sound what the call works on, the working state and what each level found, changes
-/// of it only what grafts may change, and completes the call only with an answer that its point accepts.
+/// An instruction of a graft call keeps sound what the call works on, the working state and what
+/// each level found, changes of it only what grafts may change, and completes the call only with an
+/// answer that its point accepts.
 pub fn instructions_work()
     ensures { InstructionsWork }
 {}
@@ -53,7 +55,8 @@ pub fn effects_stay_sound()
     ensures { EffectsStaySound }
 {}
 
-/// An instruction of a sound graft call changes nothing but what some level holds exclusively, before it or after it.
+/// An instruction of a sound graft call changes nothing but what some level holds exclusively,
+/// before it or after it.
 pub fn changes_what_is_held()
     ensures { ChangesWhatIsHeld }
 {}

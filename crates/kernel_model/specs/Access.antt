@@ -28,8 +28,10 @@ is_tuning id = id == 10 || id == 11
 -- an argument is out of its range, as the numbers alone show
 abbrev pub is_out_of_range : (id r0 r1 : ℕ) → Bool
 is_out_of_range id r0 r1 =
-    nat_le id 1 && nat_lt 3 r0 || (id == 3 && nat_lt 39 r0) || ((id == 4 || id == 5 || id == 13) && nat_lt 3 r0)
-    || (id == 5 && nat_lt 8 r1) || (id == 9 && nat_lt 255 r1) || (is_tuning id && nat_lt 2 r0) || (id == 12 && nat_lt 15 r0)
+    nat_le id 1 && nat_lt 3 r0 || (id == 3 && nat_lt 39 r0)
+    || ((id == 4 || id == 5 || id == 13) && nat_lt 3 r0)
+    || (id == 5 && nat_lt 8 r1) || (id == 9 && nat_lt 255 r1) || (is_tuning id && nat_lt 2 r0)
+    || (id == 12 && nat_lt 15 r0)
 
 -- A call is refused early where its id is above the highest one, where another than root's graft
 -- tunes, or where an argument is out of its range as the numbers alone show.
@@ -49,7 +51,8 @@ abbrev pub accessed : (id r0 q : ℕ) → Need
 accessed id r0 q =
     cond (id == 0) (needed (Cell q r0) Shared) (cond (id == 1) (needed (Cell q r0) Exclusive)
     (cond (id == 2) (needed Queue Shared) (cond (id == 3) (needed Queue Exclusive)
-    (cond (id == 4) (needed (OpenFile q r0) Shared) (cond (id == 5) (needed (OpenFile q r0) Exclusive)
+    (cond (id == 4) (needed (OpenFile q r0) Shared)
+    (cond (id == 5) (needed (OpenFile q r0) Exclusive)
     (cond (nat_le id 8) (needed Cache Shared) (cond (id == 9) (needed Cache Exclusive)
     (cond (id == 10) (needed (Pol r0) Shared) (cond (id == 11) (needed (Pol r0) Exclusive)
     (record { object = Lock r0; mode = Exclusive; by_user = true }))))))))))
@@ -62,7 +65,8 @@ asked_point id r0 = cond (id == 13) r0 (cond (id == 14) 4 5)
 abbrev pub asked_objects : (id r0 q : ℕ) → List Need
 asked_objects id r0 q =
     cond (id == 13) (needed (OpenFile q r0) Shared ∷ needed (Pol 0) Shared ∷ [])
-    (cond (id == 14) (needed Cache Shared ∷ needed (Pol 1) Shared ∷ []) (needed Queue Shared ∷ needed (Pol 2) Shared ∷ []))
+    (cond (id == 14) (needed Cache Shared ∷ needed (Pol 1) Shared ∷ [])
+    (needed Queue Shared ∷ needed (Pol 2) Shared ∷ []))
 
 -- the graft of the point that an ask names
 abbrev pub asked_graft : (id r0 q : ℕ) → Need
@@ -100,7 +104,11 @@ set_window q fd v w = record w { file = at2 q fd (with_window v (w.file q fd)) w
 
 -- a frame gets a mark
 abbrev pub set_mark : ℕ → ℕ → Things → Things
-set_mark f v w = record w { cache = record (w.cache) { frame = at f (with_mark v (w.cache.frame f)) w.cache.frame } }
+set_mark f v w =
+    record w {
+      cache = record (w.cache)
+          { frame = at f (with_mark v (w.cache.frame f)) w.cache.frame };
+    }
 
 -- the parameter of the chosen policy gets a value
 abbrev pub set_param : ℕ → ℕ → Things → Things
@@ -109,7 +117,8 @@ set_param kind v w = record w { pol = at kind (with_param v (w.pol kind)) w.pol 
 -- the highest value of a policy's parameter, if it has one: 8 for reading ahead, 255 for eviction,
 -- 39 for scheduling; policy 0 of each kind has none
 abbrev pub param_top : (kind policy : ℕ) → Option ℕ
-param_top kind j = cond (j == 0) None (cond (kind == 0) (Some 8) (cond (kind == 1) (Some 255) (Some 39)))
+param_top kind j =
+    cond (j == 0) None (cond (kind == 0) (Some 8) (cond (kind == 1) (Some 255) (Some 39)))
 
 -- parameter 0 with a value in the range
 abbrev pub in_range : Option ℕ → ℕ → ℕ → Bool
@@ -124,16 +133,21 @@ chosen_param p = p.param p.chosen
 
 -- one case for each plain accessor
 pub data Callable : Type 0 where
-  CellGet CellSet NiceGet NiceSet WindowGet WindowSet FramesMine FrameAt FrameBlock FrameMark TuneGet TuneSet TakeLock : Callable
+  CellGet CellSet NiceGet NiceSet WindowGet WindowSet FramesMine : Callable
+  FrameAt FrameBlock FrameMark TuneGet TuneSet TakeLock : Callable
 
 -- the accessor of an id
 abbrev pub callable : ℕ → Callable
 callable id =
     cond (id == 0) CellGet (cond (id == 1) CellSet (cond (id == 2) NiceGet (cond (id == 3) NiceSet
-    (cond (id == 4) WindowGet (cond (id == 5) WindowSet (cond (id == 6) FramesMine (cond (id == 7) FrameAt
-    (cond (id == 8) FrameBlock (cond (id == 9) FrameMark (cond (id == 10) TuneGet (cond (id == 11) TuneSet TakeLock)))))))))))
+    (cond (id == 4) WindowGet
+    (cond (id == 5) WindowSet (cond (id == 6) FramesMine (cond (id == 7) FrameAt
+    (cond (id == 8) FrameBlock
+    (cond (id == 9) FrameMark
+    (cond (id == 10) TuneGet (cond (id == 11) TuneSet TakeLock)))))))))))
 
--- what an accessor comes to: a result; a result, a change and what undoes it; or a refusal by the values
+-- what an accessor comes to: a result; a result, a change and what undoes it; or a refusal by the
+-- values
 pub data Access : Type 0 where
   Gives : (result : ℕ) → Access
   Changes : (result : ℕ) → Inverse → Things → Access
@@ -156,10 +170,13 @@ tune_change kind k v old w = Changes old (Tune kind k old) (set_param kind v w)
 -- what each accessor does; a changing one gives the value from before, also where it stays the same
 abbrev pub access_by : Callable → (id r0 r1 r2 q : ℕ) → Things → Access
 access_by CellGet id r0 r1 r2 q w = Gives (w.cell q r0)
-access_by CellSet id r0 r1 r2 q w = Changes (w.cell q r0) (Inverse.Cell q r0 (w.cell q r0)) (set_cell q r0 r1 w)
+access_by CellSet id r0 r1 r2 q w =
+    Changes (w.cell q r0) (Inverse.Cell q r0 (w.cell q r0)) (set_cell q r0 r1 w)
 access_by NiceGet id r0 r1 r2 q w = Gives (nice_of w.queue q)
-access_by NiceSet id r0 r1 r2 q w = Changes (nice_of w.queue q) (Nice q (nice_of w.queue q)) (set_nice q r0 w)
-access_by WindowGet id r0 r1 r2 q w = elim (w.file q r0) [ None ↦ Refuses (BadArgument id) | Some o ↦ Gives o.window ]
+access_by NiceSet id r0 r1 r2 q w =
+    Changes (nice_of w.queue q) (Nice q (nice_of w.queue q)) (set_nice q r0 w)
+access_by WindowGet id r0 r1 r2 q w =
+    elim (w.file q r0) [ None ↦ Refuses (BadArgument id) | Some o ↦ Gives o.window ]
 access_by WindowSet id r0 r1 r2 q w = window_change id r0 r1 q (w.file q r0) w
 access_by FramesMine id r0 r1 r2 q w = Gives (length (frames_of w.cache q))
 access_by FrameAt id r0 r1 r2 q w =
@@ -168,9 +185,11 @@ access_by FrameBlock id r0 r1 r2 q w = own_frame id q (w.cache.frame r0) (λ f. 
 access_by FrameMark id r0 r1 r2 q w =
     own_frame id q (w.cache.frame r0) (λ f. Changes f.mark (Mark r0 f.mark) (set_mark r0 r1 w))
 access_by TuneGet id r0 r1 r2 q w =
-    cond (in_range (param_top r0 (w.pol r0).chosen) r1 0) (Gives (chosen_param (w.pol r0))) (Refuses (BadArgument id))
+    cond (in_range (param_top r0 (w.pol r0).chosen) r1 0) (Gives (chosen_param (w.pol r0)))
+    (Refuses (BadArgument id))
 access_by TuneSet id r0 r1 r2 q w =
-    cond (in_range (param_top r0 (w.pol r0).chosen) r1 r2) (tune_change r0 r1 r2 (chosen_param (w.pol r0)) w)
+    cond (in_range (param_top r0 (w.pol r0).chosen) r1 r2)
+    (tune_change r0 r1 r2 (chosen_param (w.pol r0)) w)
     (Refuses (BadArgument id))
 access_by TakeLock id r0 r1 r2 q w = Gives r0
 
@@ -181,7 +200,8 @@ access id r0 r1 r2 q w = access_by (callable id) id r0 r1 r2 q w
 
 -- ---- undoing
 
--- what a change found: its inverse, and the bytes that the inverse puts back, if it is one that has any
+-- what a change found: its inverse, and the bytes that the inverse puts back, if it is one that has
+-- any
 pub record Found : Type 0 where
   pub inverse : Inverse
   pub bytes : ℕ → ℕ

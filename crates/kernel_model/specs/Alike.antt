@@ -27,7 +27,8 @@ is_needed o (n ∷ ns) = same_object o n.object || is_needed o ns
 -- an object is needed exclusively
 abbrev pub is_needed_exclusively : Object → List Need → Bool
 is_needed_exclusively o [] = false
-is_needed_exclusively o (n ∷ ns) = is_exclusive n.mode && same_object o n.object || is_needed_exclusively o ns
+is_needed_exclusively o (n ∷ ns) = is_exclusive n.mode && same_object o n.object
+    || is_needed_exclusively o ns
 
 -- two states have the same values of these objects
 abbrev pub AgreeOn : List Need → Objects → Objects → Type 0
@@ -59,7 +60,8 @@ niceless rows = map (λ (r : QueueRow). record r { nice = 0 }) rows
 abbrev pub SameFiles : ℕ → Objects → Objects → Type 0
 SameFiles p s u = (fd : ℕ) → windowless (s.things.file p fd) ≡ windowless (u.things.file p fd)
 
--- two states differ alone in what grafts may change: cells, nices, windows, marks, parameters, accounts and grafts
+-- two states differ alone in what grafts may change: cells, nices, windows, marks, parameters,
+-- accounts and grafts
 pub record AreAlike (s u : Objects) : Type 0 where
   pub files : (p : ℕ) → SameFiles p s u
   pub queue : niceless s.things.queue ≡ niceless u.things.queue
@@ -85,9 +87,11 @@ LevelsAlike _ _ = ⊥
 abbrev pub is_held_in : List Level → Object → Bool
 is_held_in ls o = list_any (λ (l : Level). is_held (l.touched o)) ls
 
--- two graft calls have the same levels, and the same values of what these hold, now and when each level began
+-- two graft calls have the same levels, and the same values of what these hold, now and when each
+-- level began
 pub record ConfigsAlike (c d : Config) : Type 0 where
   pub levels : LevelsAlike c.levels d.levels
   pub now : (o : Object) → is_held_in c.levels o ≡ true → SameAt o c.now d.now
-  pub kept : (n : ℕ) (l k : Level) (o : Object) → level_at n c.levels ≡ Some l → level_at n d.levels ≡ Some k →
+  pub kept : (n : ℕ) (l k : Level) (o : Object) → level_at n c.levels ≡ Some l →
+      level_at n d.levels ≡ Some k →
       is_held_in c.levels o ≡ true → SameThing o l.kept k.kept

@@ -16,8 +16,10 @@ use Rattle.kernel_model.specs.Instructions.{row_of, op_named}
 -- the names of the callable list, in the order of the ids
 abbrev pub callables : List (List ℕ)
 callables =
-    codes "cell_get" ∷ codes "cell_set" ∷ codes "nice_get" ∷ codes "nice_set" ∷ codes "window_get" ∷ codes "window_set"
-    ∷ codes "frames_mine" ∷ codes "frame_at" ∷ codes "frame_block" ∷ codes "frame_mark" ∷ codes "tune_get" ∷ codes "tune_set"
+    codes "cell_get" ∷ codes "cell_set" ∷ codes "nice_get" ∷ codes "nice_set" ∷ codes "window_get"
+    ∷ codes "window_set"
+    ∷ codes "frames_mine" ∷ codes "frame_at" ∷ codes "frame_block" ∷ codes "frame_mark"
+    ∷ codes "tune_get" ∷ codes "tune_set"
     ∷ codes "take_lock" ∷ codes "ask_ra" ∷ codes "ask_victim" ∷ codes "ask_sched" ∷ []
 
 -- the name of a callable
@@ -67,8 +69,10 @@ label_set_by word =
 -- `r0` to `r15`
 abbrev pub register_names : List (List ℕ)
 register_names =
-    codes "r0" ∷ codes "r1" ∷ codes "r2" ∷ codes "r3" ∷ codes "r4" ∷ codes "r5" ∷ codes "r6" ∷ codes "r7"
-    ∷ codes "r8" ∷ codes "r9" ∷ codes "r10" ∷ codes "r11" ∷ codes "r12" ∷ codes "r13" ∷ codes "r14" ∷ codes "r15" ∷ []
+    codes "r0" ∷ codes "r1" ∷ codes "r2" ∷ codes "r3" ∷ codes "r4" ∷ codes "r5" ∷ codes "r6"
+    ∷ codes "r7"
+    ∷ codes "r8" ∷ codes "r9" ∷ codes "r10" ∷ codes "r11" ∷ codes "r12" ∷ codes "r13" ∷ codes "r14"
+    ∷ codes "r15" ∷ []
 
 -- the number of a register
 abbrev pub register_of : List ℕ → Option ℕ
@@ -128,7 +132,8 @@ register_field true (word ∷ words) = field_before (register_of word) words
 
 -- an imm, which is the next word if the field is named, else 0
 abbrev pub imm_field : Op → Bool → List (List ℕ) → Option (Field Imm)
-imm_field op false words = Some (record { value = record { value = 0; label = None }; rest = words })
+imm_field op false words =
+    Some (record { value = record { value = 0; label = None }; rest = words })
 imm_field op true [] = None
 imm_field op true (word ∷ words) = field_before (imm_of op word) words
 
@@ -144,14 +149,18 @@ pub data Statement : Type 0 where
 
 -- an instruction by its fields, unless words are left
 abbrev pub instruction_of : Op → (a b c : ℕ) → Imm → List (List ℕ) → Option Statement
-instruction_of op a b c imm [] = Some (Instruction (record { op = op; a = a; b = b; c = c; imm = imm.value }) imm.label)
+instruction_of op a b c imm [] =
+    Some (Instruction (record { op = op; a = a; b = b; c = c; imm = imm.value }) imm.label)
 instruction_of op a b c imm (word ∷ words) = None
 
 -- the words behind c are the imm's
 abbrev pub with_c : Op → (a b : ℕ) → Option (Field ℕ) → Option Statement
 with_c op a b None = None
 with_c op a b (Some c) =
-    elim (imm_field op (row_of op).form.imm c.rest) [ None ↦ None | Some imm ↦ instruction_of op a b c.value imm.value imm.rest ]
+    elim (imm_field op (row_of op).form.imm c.rest) [
+      | None ↦ None
+      | Some imm ↦ instruction_of op a b c.value imm.value imm.rest
+    ]
 
 -- the words behind b are c's and the imm's
 abbrev pub with_b : Op → (a : ℕ) → Option (Field ℕ) → Option Statement
@@ -189,19 +198,26 @@ by_digits _ = Err BadOperands
 
 -- a line that sets no label: data, or an instruction
 abbrev pub by_first : List ℕ → List (List ℕ) → Result Statement AsmKind
-by_first first rest = elim (same_bytes first (codes ".bytes")) [ true ↦ by_digits rest | false ↦ by_mnemonic (op_named first) rest ]
+by_first first rest = elim (same_bytes first (codes ".bytes")) [
+  | true ↦ by_digits rest
+  | false ↦ by_mnemonic (op_named first) rest
+]
 
 -- a line whose first word is this one: a label with its colon, or what else it says
 abbrev pub by_words : List (List ℕ) → Result Statement AsmKind
 by_words [] = Ok Blank
-by_words (first ∷ rest) = elim (label_set_by first) [ Some name ↦ by_label name rest | None ↦ by_first first rest ]
+by_words (first ∷ rest) =
+    elim (label_set_by first) [ Some name ↦ by_label name rest | None ↦ by_first first rest ]
 
 -- what a line says, or why it is refused
 abbrev pub statement_of : List ℕ → Result Statement AsmKind
 statement_of line =
     elim (is_passed_over line) [
       | true ↦ Ok Blank
-      | false ↦ elim (list_any is_empty (words_of line)) [ true ↦ Err BadOperands | false ↦ by_words (words_of line) ]
+      | false ↦ elim (list_any is_empty (words_of line)) [
+        | true ↦ Err BadOperands
+        | false ↦ by_words (words_of line)
+      ]
     ]
 
 -- ---- the whole text
@@ -244,7 +260,9 @@ label_place name (l ∷ ls) = cond (same_bytes name l.name) l.place (label_place
 -- the labels, with this one set here
 abbrev pub with_place : List ℕ → ℕ → List Label → List Label
 with_place name place [] = record { name = name; place = Some place } ∷ []
-with_place name place (l ∷ ls) = cond (same_bytes name l.name) (record l { place = Some place } ∷ ls) (l ∷ with_place name place ls)
+with_place name place (l ∷ ls) =
+    cond (same_bytes name l.name) (record l { place = Some place } ∷ ls)
+    (l ∷ with_place name place ls)
 
 -- the labels, with this one among them
 abbrev pub with_use : List ℕ → List Label → List Label
@@ -264,7 +282,8 @@ with_label line a name None = Ok (record a { labels = with_place name (length a.
 -- data with these bytes behind it, of which there are at most 4,096 in all
 abbrev pub joined_data : List ℕ → Option (List ℕ) → Option (List ℕ)
 joined_data body None = None
-joined_data body (Some bytes) = cond (nat_lt 4096 (length body + length bytes)) None (Some (body ++ bytes))
+joined_data body (Some bytes) =
+    cond (nat_lt 4096 (length body + length bytes)) None (Some (body ++ bytes))
 
 -- data with the bytes of these hex digits behind it
 abbrev pub data_after : List ℕ → List ℕ → Option (List ℕ)
@@ -279,7 +298,10 @@ with_data line a (Some body) = Ok (record a { body = body })
 abbrev pub with_instr : ℕ → Assembly → Instr → Option (List ℕ) → Result Assembly LineFault
 with_instr line a i label =
     cond (nat_le 1024 (length a.code)) (refused line TooManyInstructions)
-    (Ok (record a { code = a.code ++ record { instr = i; label = label; line = line } ∷ []; labels = with_label_of label a.labels }))
+    (Ok (record a {
+      code = a.code ++ record { instr = i; label = label; line = line } ∷ [];
+      labels = with_label_of label a.labels;
+    }))
 
 -- what a statement adds
 abbrev pub with_statement : ℕ → Assembly → Statement → Result Assembly LineFault
@@ -300,7 +322,8 @@ with_line line a text = with_said line a (statement_of text)
 -- what these lines add, the first of which has this number; the first line that is refused decides
 abbrev pub with_lines : ℕ → Assembly → List (List ℕ) → Result Assembly LineFault
 with_lines line a [] = Ok a
-with_lines line a (text ∷ texts) = elim (with_line line a text) [ Err fault ↦ Err fault | Ok b ↦ with_lines (suc line) b texts ]
+with_lines line a (text ∷ texts) =
+    elim (with_line line a text) [ Err fault ↦ Err fault | Ok b ↦ with_lines (suc line) b texts ]
 
 -- ---- labels become numbers
 
@@ -315,7 +338,8 @@ linked_by labels p None = Ok p.instr
 linked_by labels p (Some name) = linked_to p (label_place name labels)
 
 -- an instruction before others, or the first refusal
-abbrev pub before_code : Result Instr LineFault → Result (List Instr) LineFault → Result (List Instr) LineFault
+abbrev pub before_code : Result Instr LineFault → Result (List Instr) LineFault →
+    Result (List Instr) LineFault
 before_code (Err fault) rest = Err fault
 before_code (Ok i) (Err fault) = Err fault
 before_code (Ok i) (Ok is) = Ok (i ∷ is)
@@ -360,8 +384,10 @@ operand_text named word = cond named (32 ∷ word) []
 abbrev pub instr_line : Instr → List ℕ
 instr_line i =
     let r = row_of i.op in
-    r.name ++ (operand_text r.form.a (register_word i.a) ++ (operand_text r.form.b (register_word i.b)
-    ++ (operand_text r.form.c (register_word i.c) ++ operand_text r.form.imm (imm_word i.op i.imm))))
+    r.name ++ (operand_text r.form.a (register_word i.a)
+    ++ (operand_text r.form.b (register_word i.b)
+    ++ (operand_text r.form.c (register_word i.c)
+    ++ operand_text r.form.imm (imm_word i.op i.imm))))
 
 -- the line of an instruction, with its newline
 abbrev pub instr_text : Instr → List ℕ

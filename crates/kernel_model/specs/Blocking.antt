@@ -31,7 +31,11 @@ number_of_call c = option_map (λ (x : Call). x.number) c
 -- a blocker: what hinders, with the number of the holder's call unless it is a user lock
 abbrev pub blocker_from : Kernel → Hindrance → Blocker
 blocker_from k h =
-    record { object = h.object; holder = h.holder; call = cond h.by_user None (number_of_call (k.call h.holder)) }
+    record {
+      object = h.object;
+      holder = h.holder;
+      call = cond h.by_user None (number_of_call (k.call h.holder));
+    }
 
 -- two calls, or none, are one
 abbrev pub same_call : Option ℕ → Option ℕ → Bool
@@ -42,7 +46,8 @@ same_call _ _ = false
 -- two blockers are one; the mode isn't compared
 abbrev pub same_blocker : Option Blocker → Option Blocker → Bool
 same_blocker None None = true
-same_blocker (Some a) (Some b) = same_object a.object b.object && a.holder == b.holder && same_call a.call b.call
+same_blocker (Some a) (Some b) = same_object a.object b.object && a.holder == b.holder
+    && same_call a.call b.call
 same_blocker _ _ = false
 
 module _ (m : Meaning) where
@@ -73,7 +78,10 @@ module _ (m : Meaning) where
   abbrev pub needs_in : Kernel → ℕ → Option Call → List Need
   needs_in k p None = []
   needs_in k p (Some c) =
-      elim c.marks [ None ↦ m.need k.world k.objects p c.stage | Some ks ↦ needs_at k (config_of k p) ]
+      elim c.marks [
+        | None ↦ m.need k.world k.objects p c.stage
+        | Some ks ↦ needs_at k (config_of k p)
+      ]
 
   -- A call's next step needs the objects of its piece or, where it has a level, those of its next
   -- instruction.

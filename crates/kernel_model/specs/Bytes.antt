@@ -10,7 +10,8 @@ word_bytes n = n % 256 ∷ n / 256 % 256 ∷ n / 65536 % 256 ∷ n / 16777216 % 
 -- the word whose four bytes stand at this place, the lowest first
 abbrev pub word_at : List ℕ → ℕ → ℕ
 word_at bytes i =
-    slice_index bytes i + 256 * slice_index bytes (i + 1) + 65536 * slice_index bytes (i + 2) + 16777216 * slice_index bytes (i + 3)
+    slice_index bytes i + 256 * slice_index bytes (i + 1) + 65536 * slice_index bytes
+    (i + 2) + 16777216 * slice_index bytes (i + 3)
 
 -- the digit of a number below 16
 abbrev pub hex_digit : ℕ → ℕ
@@ -24,7 +25,8 @@ hex_text bytes = flat_map (λ b. hex_digit (b / 16) ∷ hex_digit (b % 16) ∷ [
 abbrev pub hex_value : ℕ → Option ℕ
 hex_value c =
     cond (nat_le 48 c && nat_lt c 58) (Some (c - 48))
-    (cond (nat_le 97 c && nat_lt c 103) (Some (c - 87)) (cond (nat_le 65 c && nat_lt c 71) (Some (c - 55)) None))
+    (cond (nat_le 97 c && nat_lt c 103) (Some (c - 87))
+    (cond (nat_le 65 c && nat_lt c 71) (Some (c - 55)) None))
 
 -- a byte of two digits before others, if all are digits
 abbrev pub byte_before : Option ℕ → Option ℕ → Option (List ℕ) → Option (List ℕ)
@@ -39,7 +41,8 @@ hex_bytes (c ∷ d ∷ text) = byte_before (hex_value c) (hex_value d) (hex_byte
 
 -- the bytes of a text of 2 to so many hex digits
 abbrev pub hex_word : ℕ → List ℕ → Option (List ℕ)
-hex_word most text = cond (nat_le 2 (length text) && nat_le (length text) most) (hex_bytes text) None
+hex_word most text =
+    cond (nat_le 2 (length text) && nat_le (length text) most) (hex_bytes text) None
 
 -- 0 to 9
 abbrev pub is_digit : ℕ → Bool
@@ -60,5 +63,6 @@ digits_value bytes = fold (λ n byte. n * 10 + (byte - 48)) 0 bytes
 -- the value of 1 to 10 digits that is below 2^32
 abbrev pub number_of : List ℕ → Option ℕ
 number_of text =
-    cond (nat_le 1 (length text) && nat_le (length text) 10 && list_all is_digit text && nat_lt (digits_value text) (2 ^ 32))
+    cond (nat_le 1 (length text) && nat_le (length text) 10 && list_all is_digit text
+    && nat_lt (digits_value text) (2 ^ 32))
     (Some (digits_value text)) None

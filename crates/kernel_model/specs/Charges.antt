@@ -20,7 +20,10 @@ spend k a = record { balance = a.balance; spent = at_kind k (a.spent k + 1) a.sp
 
 -- an account that pays one of a kind
 abbrev pub pay : Kind → AcctValue → AcctValue
-pay k a = record { balance = at_kind k (a.balance k - 1) a.balance; spent = at_kind k (a.spent k + 1) a.spent }
+pay k a = record {
+  balance = at_kind k (a.balance k - 1) a.balance;
+  spent = at_kind k (a.spent k + 1) a.spent;
+}
 
 -- a graft that pays one of a kind
 abbrev pub taken_from : Kind → GraftValue → GraftValue
@@ -33,12 +36,16 @@ charge_account k q w = record w { acct = at q (pay k (w.acct q)) w.acct }
 -- the graft pays, and its installer's account tells that it was spent
 abbrev pub charge_graft : Kind → (q pt : ℕ) → GraftValue → Accounts → Accounts
 charge_graft k q pt g w =
-    record { graft = at2 q pt (Some (taken_from k g)) w.graft; acct = at q (spend k (w.acct q)) w.acct }
+    record {
+      graft = at2 q pt (Some (taken_from k g)) w.graft;
+      acct = at q (spend k (w.acct q)) w.acct;
+    }
 
 -- the graft pays, or the account where the graft is billed
 abbrev pub charge_by : Kind → (q pt : ℕ) → Option GraftValue → Accounts → Accounts
 charge_by k q pt None w = w
-charge_by k q pt (Some g) w = elim g.billed [ true ↦ charge_account k q w | false ↦ charge_graft k q pt g w ]
+charge_by k q pt (Some g) w =
+    elim g.billed [ true ↦ charge_account k q w | false ↦ charge_graft k q pt g w ]
 
 -- Charging one of a kind takes it from the payer, which is the graft itself or, where it is billed,
 -- its installer's account, and adds it to what the installer has spent.
@@ -57,7 +64,8 @@ returned g a = record { balance = λ k. a.balance k + g.balance k; spent = a.spe
 -- a graft is taken out, if one stands, and its balances go back to its installer
 abbrev pub removed_by : (q pt : ℕ) → Option GraftValue → Accounts → Accounts
 removed_by q pt None w = w
-removed_by q pt (Some g) w = record { graft = at2 q pt None w.graft; acct = at q (returned g (w.acct q)) w.acct }
+removed_by q pt (Some g) w =
+    record { graft = at2 q pt None w.graft; acct = at q (returned g (w.acct q)) w.acct }
 
 -- removing the graft at (q, pt) takes it out and gives its balances back to its installer
 abbrev pub removed : (q pt : ℕ) → Accounts → Accounts

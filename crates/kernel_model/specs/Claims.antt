@@ -27,7 +27,8 @@ use Rattle.kernel_model.specs.Laws.{Laws}
 
 -- ---- the sandbox
 
--- after an instruction of an inside machine: it is inside still, and neither reached out of the segment nor ran past the code
+-- after an instruction of an inside machine: it is inside still, and neither reached out of the
+-- segment nor ran past the code
 abbrev pub IsInsideAfter : List Instr → (slot : ℕ) → Done → Type 0
 IsInsideAfter code slot (Went m) = IsInside code slot m
 IsInsideAfter code slot (Called id m) = IsInside code slot m
@@ -35,17 +36,21 @@ IsInsideAfter code slot Outside = ⊥
 IsInsideAfter code slot PastEnd = ⊥
 IsInsideAfter code slot done = ⊤
 
--- An inside machine on boxed code stays inside, and one instruction over flat memory is one on its segment alone.
+-- An inside machine on boxed code stays inside, and one instruction over flat memory is one on its
+-- segment alone.
 pub record StaysInside (code : List Instr) (slot : ℕ) (m : Machine) : Type 0 where
   pub inside : IsInsideAfter code slot (flat_step code m)
-  pub alone : seg_step code (on_segment (segment_base slot) m) ≡ done_on_segment (segment_base slot) (flat_step code m)
+  pub alone : seg_step code (on_segment (segment_base slot) m)
+      ≡ done_on_segment (segment_base slot) (flat_step code m)
 
 -- An inside machine on boxed code stays inside, never reaches out of its segment or past its code,
 -- and over flat memory does what it does on its segment alone.
 abbrev pub Sandbox : Type 0
-Sandbox = (code : List Instr) (slot : ℕ) (m : Machine) → IsBoxed code → IsInside code slot m → StaysInside code slot m
+Sandbox = (code : List Instr) (slot : ℕ) (m : Machine) → IsBoxed code → IsInside code slot m →
+    StaysInside code slot m
 
--- a run of boxed code has come as far as the raw run: the same registers, r14 apart, place, segment, calls and end
+-- a run of boxed code has come as far as the raw run: the same registers, r14 apart, place,
+-- segment, calls and end
 pub record HasComeAsFar (code : List Instr) (raw boxed : CodeRun) : Type 0 where
   pub registers : (i : ℕ) → i ≢ 14 → boxed.machine.regs i ≡ raw.machine.regs i
   pub place : boxed.machine.pc ≡ boxed_place code raw.machine.pc
@@ -59,7 +64,8 @@ pub record HasComeAsFar (code : List Instr) (raw boxed : CodeRun) : Type 0 where
 -- and end.
 abbrev pub Rewriting : Type 0
 Rewriting =
-    (code boxed : List Instr) (slot n : ℕ) (segment : ℕ → ℕ) (args : List ℕ) (answers : List (ℕ × ℕ)) →
+    (code boxed : List Instr) (slot n : ℕ) (segment : ℕ →
+    ℕ) (args : List ℕ) (answers : List (ℕ × ℕ)) →
     rewrite code ≡ Ok boxed → slot < 64 →
     let first = first_run (segment_base slot) segment args answers in
     let raw = raw_run code n first in
@@ -69,54 +75,69 @@ Rewriting =
 
 -- charging what the payer has, and removing a graft, leave every ledger
 pub record LedgersStay : Type 0 where
-  pub charged : (a : Accounts) (q pt r : ℕ) (k j : Kind) → pt < 16 → 1 ≤ funds a q pt k → ledger (charge k q pt a) j r ≡ ledger a j r
-  pub removed : (a : Accounts) (q pt r : ℕ) (j : Kind) → pt < 16 → ledger (removed q pt a) j r ≡ ledger a j r
+  pub charged : (a : Accounts) (q pt r : ℕ) (k j : Kind) → pt < 16 → 1 ≤ funds a q pt k →
+      ledger (charge k q pt a) j r ≡ ledger a j r
+  pub removed : (a : Accounts) (q pt r : ℕ) (j : Kind) → pt < 16 →
+      ledger (removed q pt a) j r ≡ ledger a j r
 
 -- ---- graft calls and their histories
 
 -- an instruction is the same once more images are loaded
 abbrev pub MoreImages : Type 0
 MoreImages =
-    (v : World) (images more : ImageTable) (p : ℕ) (c : Config) → Extends images more → ImagesAreLoaded images c.now.accounts →
+    (v : World) (images more : ImageTable) (p : ℕ) (c : Config) → Extends images more →
+    ImagesAreLoaded images c.now.accounts →
     micro v more p c ≡ micro v images p c
 
 -- an instruction changes nothing but what some level holds exclusively, before it or after it
 abbrev pub ChangesWhatIsHeld : Type 0
 ChangesWhatIsHeld =
-    (v : World) (images : ImageTable) (p : ℕ) (c : Config) (o : Object) → IsSoundConfig v c → is_changed_in c.levels o ≡ false →
-    is_changed_in (micro v images p c).config.levels o ≡ false → SameAt o (micro v images p c).config.now c.now
+    (v : World) (images : ImageTable) (p : ℕ) (c : Config) (o : Object) → IsSoundConfig v c →
+    is_changed_in c.levels o ≡ false →
+    is_changed_in (micro v images p c).config.levels o ≡ false →
+    SameAt o (micro v images p c).config.now c.now
 
 -- an effect that is made again leaves a sound store
 abbrev pub EffectsStaySound : Type 0
 EffectsStaySound =
-    (v : World) (q : ℕ) (e : Effect) (c d : Config) → IsSoundStore v c.now → effect q e c ≡ Some d → IsSoundStore v d.now
+    (v : World) (q : ℕ) (e : Effect) (c d : Config) → IsSoundStore v c.now → effect q e c ≡ Some d →
+    IsSoundStore v d.now
 
 -- a sound graft call is sound after each instruction that doesn't end it
 abbrev pub ConfigsStaySound : Type 0
 ConfigsStaySound =
-    (v : World) (images : ImageTable) (p : ℕ) (c : Config) → IsSoundConfig v c → (micro v images p c).config.levels ≢ [] →
+    (v : World) (images : ImageTable) (p : ℕ) (c : Config) → IsSoundConfig v c →
+    (micro v images p c).config.levels ≢ [] →
     IsSoundConfig v (micro v images p c).config
 
--- The history after the drop of a level above 0, by an instruction or a time-out, leads to the config that the drop gave, if the
+-- The history after the drop of a level above 0, by an instruction or a time-out, leads to the
+-- config that the drop gave, if the
 -- level's graft stood.
 abbrev pub FallsReplay : Meaning → Type 0
 FallsReplay m =
-    (v : World) (images : ImageTable) (s : Objects) (p : ℕ) (t : Stage) (ks : List Mark) (now : Trace) (o : Outcome) (d q pt : ℕ) (cause why : Cause) →
+    (v : World) (images : ImageTable) (s : Objects) (p : ℕ) (t : Stage) (ks : List Mark)
+    (now : Trace) (o : Outcome) (d q pt : ℕ) (cause why : Cause) →
     replay m v images s p t ks ≡ Some now →
-    (o ≡ micro v images p now.config) ⊎ (o ≡ drop_level v now.config.now now.config.levels (suc d) why) →
-    o.said ≡ Micro.Dropped (suc d) q pt cause → is_some (now.config.now.accounts.graft q pt) ≡ true →
+    (o ≡ micro v images p now.config) ⊎
+    (o ≡ drop_level v now.config.now now.config.levels (suc d) why) →
+    o.said ≡ Micro.Dropped (suc d) q pt cause →
+    is_some (now.config.now.accounts.graft q pt) ≡ true →
     config_in (replay m v images s p t (fallen now ks o.effects (suc d))) ≡ Some o.config
 
 -- p's graft call is the same, as far as it can tell, in another kernel
 abbrev pub IsStable : Meaning → (k l : Kernel) → ℕ → Type 0
-IsStable m k l p = (c : Config) → config_of m k p ≡ Some c → (d : Config) × (config_of m l p ≡ Some d) × ConfigsAlike c d
+IsStable m k l p = (c : Config) → config_of m k p ≡ Some c → (d : Config)
+    × (config_of m l p ≡ Some d) × ConfigsAlike c d
 
 -- While a call is in a graft, no step and no drop of another call changes its replay: the same
 -- levels, and the same values of all that they hold.
 pub record Stability (m : Meaning) : Type 0 where
-  pub steps : (r : Run) (p q : ℕ) (c : Call) → Laws m → IsSoundKernel m r.kernel → HasWholeBlocks r.kernel.world r.blocks → p ≢ q →
-      r.kernel.call q ≡ Some c → blocker m r.kernel q ≡ None → IsStable m r.kernel (step m q r).kernel p
-  pub drops : (r : Run) (p q : ℕ) (d : Option ℕ) (cause : Cause) → Laws m → IsSoundKernel m r.kernel → HasWholeBlocks r.kernel.world r.blocks →
+  pub steps : (r : Run) (p q : ℕ) (c : Call) → Laws m → IsSoundKernel m r.kernel →
+      HasWholeBlocks r.kernel.world r.blocks → p ≢ q →
+      r.kernel.call q ≡ Some c → blocker m r.kernel q ≡ None →
+      IsStable m r.kernel (step m q r).kernel p
+  pub drops : (r : Run) (p q : ℕ) (d : Option ℕ) (cause : Cause) → Laws m →
+      IsSoundKernel m r.kernel → HasWholeBlocks r.kernel.world r.blocks →
       p ≢ q → IsStable m r.kernel (drop_call m q (r.kernel.call q) d cause r).kernel p
 
 -- ---- rest
@@ -124,21 +145,28 @@ pub record Stability (m : Meaning) : Type 0 where
 -- Settling from a sound kernel rests after at most 256 steps, and after a tick's 288 actions no
 -- count has reached its patience.
 pub record Rests (m : Meaning) : Type 0 where
-  pub settling : (r : Run) → Laws m → IsSoundKernel m r.kernel → HasWholeBlocks r.kernel.world r.blocks → IsAtRest m (settled m r).kernel
-  pub ticking : (r : Run) (number : ℕ) → Laws m → IsSoundKernel m r.kernel → HasWholeBlocks r.kernel.world r.blocks → IsAtRest m r.kernel →
+  pub settling : (r : Run) → Laws m → IsSoundKernel m r.kernel →
+      HasWholeBlocks r.kernel.world r.blocks → IsAtRest m (settled m r).kernel
+  pub ticking : (r : Run) (number : ℕ) → Laws m → IsSoundKernel m r.kernel →
+      HasWholeBlocks r.kernel.world r.blocks → IsAtRest m r.kernel →
       expired (tick_event m number r).kernel (tick_event m number r).kernel.order ≡ None
 
 -- ---- the store in place
 
--- The store in place has what a call holds exclusively as the call's replay has it, and what none holds so as it is committed.
+-- The store in place has what a call holds exclusively as the call's replay has it, and what none
+-- holds so as it is committed.
 pub record InPlaceReads (m : Meaning) : Type 0 where
-  pub own : (k : Kernel) (p : ℕ) (c : Config) (o : Object) → IsSoundKernel m k → config_of m k p ≡ Some c →
+  pub own : (k : Kernel) (p : ℕ) (c : Config) (o : Object) → IsSoundKernel m k →
+      config_of m k p ≡ Some c →
       is_changed_in c.levels o ≡ true → SameAt o (in_place m k) c.now
-  pub committed : (k : Kernel) (o : Object) → ((p : ℕ) → is_changed_in (levels_of m k p) o ≡ false) → SameAt o (in_place m k) k.objects
+  pub committed : (k : Kernel) (o : Object) →
+      ((p : ℕ) → is_changed_in (levels_of m k p) o ≡ false) → SameAt o (in_place m k) k.objects
 
 -- Undoing the cut calls' records, newest first within each call and call after call in any order,
 -- turns the store in place into the store below the cut.
 abbrev pub UndoneIsBelow : Meaning → Type 0
 UndoneIsBelow m =
-    (k : Kernel) (cut : Cut) (ps : List ℕ) (o : Object) → Laws m → IsSoundKernel m k → ((p : ℕ) → count_of p ps ≤ 1) →
-    ((p : ℕ) → is_some (cut p) ≡ true → Contains ps p) → SameAt o (undone m k cut ps) (store_below m k cut)
+    (k : Kernel) (cut : Cut) (ps : List ℕ) (o : Object) → Laws m → IsSoundKernel m k →
+    ((p : ℕ) → count_of p ps ≤ 1) →
+    ((p : ℕ) → is_some (cut p) ≡ true → Contains ps p) →
+    SameAt o (undone m k cut ps) (store_below m k cut)

@@ -21,22 +21,26 @@ demo_keys = record { first = replicate 32 0; second = None }
 -- reads ahead what is left of three blocks, or three
 abbrev pub three : List Instr
 three =
-    instr Sub 4 2 0 0 ∷ instr Li 5 0 0 3 ∷ instr Sltu 6 4 5 0 ∷ instr Jnz 6 0 0 6 ∷ instr Mov 1 5 0 0 ∷ instr Ret 0 0 0 0
+    instr Sub 4 2 0 0 ∷ instr Li 5 0 0 3 ∷ instr Sltu 6 4 5 0 ∷ instr Jnz 6 0 0 6
+    ∷ instr Mov 1 5 0 0 ∷ instr Ret 0 0 0 0
     ∷ instr Mov 1 4 0 0 ∷ instr Ret 0 0 0 0 ∷ []
 
 -- gives the newest frame of its process
 abbrev pub newest_frame : List Instr
-newest_frame = instr Call 0 0 0 6 ∷ instr Addi 0 0 0 4294967295 ∷ instr Call 0 0 0 7 ∷ instr Ret 0 0 0 0 ∷ []
+newest_frame = instr Call 0 0 0 6 ∷ instr Addi 0 0 0 4294967295 ∷ instr Call 0 0 0 7
+    ∷ instr Ret 0 0 0 0 ∷ []
 
 -- a line that loads code
 abbrev pub image_line : ℕ → List Instr → List ℕ
-image_line slot code = codes "image" ++ spaced slot ++ 32 ∷ hex_text (sealed_under demo_keys code [])
+image_line slot code = codes "image" ++ spaced slot
+    ++ 32 ∷ hex_text (sealed_under demo_keys code [])
 
 -- both grafts of a process
 abbrev pub graft_lines : ℕ → List (List ℕ)
 graft_lines p =
     (codes "install" ++ spaced p ++ codes " 0 0 64") ∷ (codes "bill" ++ spaced p ++ codes " 0")
-    ∷ (codes "install" ++ spaced p ++ codes " 4 1 64") ∷ (codes "bill" ++ spaced p ++ codes " 4") ∷ []
+    ∷ (codes "install" ++ spaced p ++ codes " 4 1 64") ∷ (codes "bill" ++ spaced p ++ codes " 4")
+    ∷ []
 
 -- the lines before the drawn ones
 abbrev pub head_lines : List (List ℕ)
@@ -61,14 +65,16 @@ read_line p i = codes "read" ++ spaced p ++ codes " 0" ++ spaced i ++ codes " 0 
 
 -- a write of the draw's digits
 abbrev pub write_line : ℕ → ℕ → ℕ → List ℕ
-write_line p i x = codes "write" ++ spaced p ++ codes " 0" ++ spaced i ++ codes " 0 " ++ hex_text (high_first x)
+write_line p i x = codes "write" ++ spaced p ++ codes " 0" ++ spaced i ++ codes " 0 "
+    ++ hex_text (high_first x)
 
 -- the line of a choice: three kinds of read in eight, a write, a yield, a tick, and two steps
 abbrev pub line_by : (choice p i x : ℕ) → List ℕ
 line_by c p i x =
     cond (nat_le c 2) (read_line p i)
     (cond (c == 3) (write_line p i x)
-    (cond (c == 4) (codes "yield" ++ spaced p) (cond (c == 5) (codes "tick") (codes "step" ++ spaced p ++ codes " 20"))))
+    (cond (c == 4) (codes "yield" ++ spaced p)
+    (cond (c == 5) (codes "tick") (codes "step" ++ spaced p ++ codes " 20"))))
 
 -- the line of a draw
 abbrev pub line_of_draw : ℕ → List ℕ
@@ -101,14 +107,19 @@ is_dropped _ = false
 -- the summary of these lines and notes
 abbrev pub summary_of : ℕ → List ℕ → List Note → List ℕ
 summary_of n written notes =
-    line (codes "demo" ++ spaced n ++ codes " lines" ++ spaced (length (filter (λ b. b == 10) written))
-    ++ codes " ok" ++ spaced (length (filter is_ended notes)) ++ codes " refused" ++ spaced (length (filter is_refused notes))
-    ++ codes " drops" ++ spaced (length (filter is_dropped notes)) ++ codes " digest " ++ hex_text (sha256 written))
+    line (codes "demo" ++ spaced n ++ codes " lines"
+    ++ spaced (length (filter (λ b. b == 10) written))
+    ++ codes " ok" ++ spaced (length (filter is_ended notes)) ++ codes " refused"
+    ++ spaced (length (filter is_refused notes))
+    ++ codes " drops" ++ spaced (length (filter is_dropped notes)) ++ codes " digest "
+    ++ hex_text (sha256 written))
 
 -- the summary of a run
 abbrev pub summary_by : ℕ → Written → List ℕ
 summary_by n w = summary_of n (w.bytes ++ left_lines w.session.kernel) w.notes
 
--- the line that `demo n` writes over a disk, of which `ios` says, line for line, which of its calls fail
+-- the line that `demo n` writes over a disk, of which `ios` says, line for line, which of its calls
+-- fail
 abbrev pub summary : Build → ℕ → Disk → List (List Bool) → List ℕ
-summary b n d ios = summary_by n (after_lines b demo_keys d.size (first_session d) (demo_lines n) ios)
+summary b n d ios =
+    summary_by n (after_lines b demo_keys d.size (first_session d) (demo_lines n) ios)

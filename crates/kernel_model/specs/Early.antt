@@ -24,22 +24,27 @@ refused holds refusal next = cond holds (Some refusal) next
 -- this one; docs/CALLS.md lists them, call by call
 abbrev pub call_refusal : (top : ℕ) → World → ImageTable → ℕ → SysCall → Option Refusal
 call_refusal top v images p Exit = refused (p == 0) Denied None
-call_refusal top v images p (OpenName name) = refused (not (is_some (file_named v name))) NoFile None
+call_refusal top v images p (OpenName name) =
+    refused (not (is_some (file_named v name))) NoFile None
 call_refusal top v images p (CloseFd fd) = refused (nat_lt 3 fd) BadFd None
-call_refusal top v images p (Read fd i off len) = refused (nat_lt 3 fd) BadFd (refused (nat_lt 512 (off + len)) BadIndex None)
+call_refusal top v images p (Read fd i off len) =
+    refused (nat_lt 3 fd) BadFd (refused (nat_lt 512 (off + len)) BadIndex None)
 call_refusal top v images p (Write fd i off bytes) =
     refused (nat_lt 3 fd) BadFd (refused (nat_lt 512 (off + length bytes)) BadIndex None)
 call_refusal top v images p (TakeLock u) = refused (nat_lt 15 u) BadIndex None
 call_refusal top v images p (FreeLock u) = refused (nat_lt 15 u) BadIndex None
 call_refusal top v images p (Poke k x) = refused (nat_lt 3 k) BadIndex None
 call_refusal top v images p (Peek k) = refused (nat_lt 3 k) BadIndex None
-call_refusal top v images p (Tune kind k x) = refused (not (p == 0)) Denied (refused (nat_lt 2 kind) BadPoint None)
+call_refusal top v images p (Tune kind k x) =
+    refused (not (p == 0)) Denied (refused (nat_lt 2 kind) BadPoint None)
 call_refusal top v images p (Choose kind j) =
-    refused (not (p == 0)) Denied (refused (nat_lt 2 kind || nat_le (policy_count kind) j) BadPoint None)
+    refused (not (p == 0)) Denied
+    (refused (nat_lt 2 kind || nat_le (policy_count kind) j) BadPoint None)
 call_refusal top v images p (Give q kind n) = refused (nat_lt 15 q) NoProcess None
 call_refusal top v images p (Install pt i limit) =
     refused (nat_lt top pt) BadPoint
-    (refused (limit == 0 || nat_lt 65536 limit) BadIndex (refused (nat_lt 31 i || not (is_some (images i))) NoImage None))
+    (refused (limit == 0 || nat_lt 65536 limit) BadIndex
+    (refused (nat_lt 31 i || not (is_some (images i))) NoImage None))
 call_refusal top v images p (Remove pt) = refused (nat_lt top pt) BadPoint None
 call_refusal top v images p (Fund pt kind n) = refused (nat_lt top pt) BadPoint None
 call_refusal top v images p (Bill pt) = refused (nat_lt top pt) BadPoint None

@@ -76,7 +76,12 @@ counted es = map (λ (e : Entry). record e { count = suc e.count }) es
 abbrev pub ticked : ℕ → Run → Run
 ticked number r =
     noted (Ticked number (suc r.kernel.clock))
-    (record r { kernel = record (r.kernel) { clock = suc r.kernel.clock; order = counted r.kernel.order } })
+    (record r {
+      kernel = record (r.kernel) {
+        clock = suc r.kernel.clock;
+        order = counted r.kernel.order;
+      };
+    })
 
 -- the mode in which an object is needed
 abbrev pub wanted : Object → List Need → Mode
@@ -108,12 +113,14 @@ module _ (m : Meaning) where
   abbrev pub begun : ℕ → ℕ → Result Stage Refusal → Run → Run
   begun number p (Err refusal) r = noted (Refused number refusal) r
   begun number p (Ok t) r =
-      settled m (joins p (with_call p (Some (record { number = number; stage = t; marks = None })) r))
+      settled m (joins p
+      (with_call p (Some (record { number = number; stage = t; marks = None })) r))
 
   -- a system call: busy, refused at once, or begun
   abbrev pub sys_event : ℕ → ℕ → SysCall → Option Call → Run → Run
   sys_event number p call (Some c) r = noted (Refused number (Busy c.number)) r
-  sys_event number p call None r = last p (begun number p (m.early r.kernel.world r.kernel.images p call) r)
+  sys_event number p call None r =
+      last p (begun number p (m.early r.kernel.world r.kernel.images p call) r)
 
   -- ---- steps
 
@@ -141,21 +148,25 @@ module _ (m : Meaning) where
   abbrev pub drop_at : ℕ → Call → List Mark → Trace → Option ℕ → Cause → Run → Run
   drop_at p c ks t None cause r = r
   drop_at p c ks t (Some d) cause r =
-      requeue p (outcome_step m p c t ks (drop_level r.kernel.world t.config.now t.config.levels d cause) r)
+      requeue p (outcome_step m p c t ks
+      (drop_level r.kernel.world t.config.now t.config.levels d cause) r)
 
   -- a level of a call that stands at a history is dropped
-  abbrev pub drop_marked : ℕ → Call → Option (List Mark) → Option Trace → Option ℕ → Cause → Run → Run
+  abbrev pub drop_marked : ℕ → Call → Option (List Mark) → Option Trace → Option ℕ → Cause → Run →
+      Run
   drop_marked p c (Some ks) (Some t) d cause r = drop_at p c ks t d cause r
   drop_marked p c _ _ d cause r = r
 
   -- level d of the call of p is dropped, if there is one
   abbrev pub drop_call : ℕ → Option Call → Option ℕ → Cause → Run → Run
   drop_call p None d cause r = r
-  drop_call p (Some c) d cause r = drop_marked p c c.marks (trace_of m r.kernel p (Some c)) d cause r
+  drop_call p (Some c) d cause r =
+      drop_marked p c c.marks (trace_of m r.kernel p (Some c)) d cause r
 
   -- a waiter for a user lock without a level ends
   abbrev pub times_out : ℕ → Blocker → Call → Run → Run
-  times_out p b c r = requeue p (noted (Refused c.number (TimedOut b.object b.holder)) (with_call p None r))
+  times_out p b c r =
+      requeue p (noted (Refused c.number (TimedOut b.object b.holder)) (with_call p None r))
 
   -- who waits too long for a user lock loses the innermost level or, without a level, is refused
   abbrev pub waiter_action : ℕ → Blocker → Option Call → Run → Run
@@ -163,7 +174,8 @@ module _ (m : Meaning) where
   waiter_action p b (Some c) r =
       elim c.marks [
         | None ↦ times_out p b c r
-        | Some ks ↦ drop_call p (Some c) (innermost (levels_of m r.kernel p)) (TimeOut b.object b.holder) r
+        | Some ks ↦ drop_call p (Some c) (innermost (levels_of m r.kernel p))
+            (TimeOut b.object b.holder) r
       ]
 
   -- a call that blocks for too long loses the outermost of its levels whose hold conflicts, with
@@ -171,7 +183,8 @@ module _ (m : Meaning) where
   abbrev pub holder_action : ℕ → Blocker → Run → Run
   holder_action p b r =
       drop_call b.holder (r.kernel.call b.holder)
-      (outermost_holding b.object (wanted b.object (needs m r.kernel p)) (holds m r.kernel b.holder)) (TimeOut b.object p) r
+      (outermost_holding b.object (wanted b.object (needs m r.kernel p))
+      (holds m r.kernel b.holder)) (TimeOut b.object p) r
 
   -- one action of a tick, for a waiter and its blocker
   abbrev pub action : ℕ → Blocker → Option ℕ → Run → Run
@@ -208,10 +221,13 @@ module _ (m : Meaning) where
             [ true ↦ step_event number p n r | false ↦ noted (Refused number BadIndex) r ]
       ]
   event_on number (Sys p call) r =
-      elim (lives r.kernel.objects.things.queue p)
-      [ false ↦ noted (Refused number NoProcess) r | true ↦ sys_event number p call (r.kernel.call p) r ]
+      elim (lives r.kernel.objects.things.queue p) [
+        | false ↦ noted (Refused number NoProcess) r
+        | true ↦ sys_event number p call (r.kernel.call p) r
+      ]
 
   -- An event changes the kernel and the disk's blocks and leaves notes in order; io says of each of
   -- its calls of the disk whether it fails.
   abbrev pub event : Kernel → Blocks → ℕ → Event → List Bool → Run
-  event k blocks number e io = event_on number e (record { kernel = k; blocks = blocks; notes = []; io = io })
+  event k blocks number e io =
+      event_on number e (record { kernel = k; blocks = blocks; notes = []; io = io })

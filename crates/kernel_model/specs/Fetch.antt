@@ -7,7 +7,8 @@ use Rattle.kernel_model.specs.Policies.{or_zero, victim_among}
 use Rattle.kernel_model.specs.Meaning.{disk_fails}
 use Rattle.kernel_model.specs.Needs.{frame_of_block, free_frame}
 
--- What a fetch comes to: the cache, the disk's blocks and the frame that holds the block, or a failed call of the disk;
+-- What a fetch comes to: the cache, the disk's blocks and the frame that holds the block, or a
+-- failed call of the disk;
 -- and how many calls of the disk it made.
 pub data Fetched : Type 0 where
   Got : CacheValue → Blocks → (frame calls : ℕ) → Fetched
@@ -46,47 +47,62 @@ abbrev pub chosen_by : Option (List ℕ) → ℕ → ℕ
 chosen_by None default = default
 chosen_by (Some answer) default = slice_index answer 0
 
--- what an evicted frame held is written where it is dirty, by the disk's second call; then the cache is this one
+-- what an evicted frame held is written where it is dirty, by the disk's second call; then the
+-- cache is this one
 abbrev pub evict : Option FrameValue → ℕ → CacheValue → Blocks → List Bool → Fetched
 evict None f after blocks io = Got after blocks f 1
 evict (Some old) f after blocks io =
     elim old.dirty [
       | false ↦ Got after blocks f 1
-      | true ↦ elim (disk_fails io 1) [ true ↦ Failed 2 | false ↦ Got after (at old.block old.bytes blocks) f 2 ]
+      | true ↦ elim (disk_fails io 1) [
+        | true ↦ Failed 2
+        | false ↦ Got after (at old.block old.bytes blocks) f 2
+      ]
     ]
 
 -- where a block that was read goes: to a free frame, or to the chosen one, which is evicted
-abbrev pub place_block : Option ℕ → (p b : ℕ) → (chosen candidate : ℕ) → CacheValue → Blocks → List Bool → Fetched
-place_block (Some f) p b chosen candidate c blocks io = Got (filled f (new_frame p b (blocks b)) c) blocks f 1
+abbrev pub place_block : Option ℕ → (p b : ℕ) → (chosen candidate : ℕ) → CacheValue → Blocks →
+    List Bool → Fetched
+place_block (Some f) p b chosen candidate c blocks io =
+    Got (filled f (new_frame p b (blocks b)) c) blocks f 1
 place_block None p b chosen candidate c blocks io =
     evict (c.frame chosen) chosen (replaced chosen candidate (new_frame p b (blocks b)) c) blocks io
 
 -- a block that no frame holds is read, by the disk's first call
-abbrev pub read_block : World → PolValue → (p b : ℕ) → Option (List ℕ) → CacheValue → Blocks → List Bool → Fetched
+abbrev pub read_block : World → PolValue → (p b : ℕ) → Option (List ℕ) → CacheValue → Blocks →
+    List Bool → Fetched
 read_block v pol p b answer c blocks io =
     let candidate = or_zero (victim_among pol c c.lru) in
-    elim (disk_fails io 0)
-    [ true ↦ Failed 1 | false ↦ place_block (free_frame c v.frames 0) p b (chosen_by answer candidate) candidate c blocks io ]
+    elim (disk_fails io 0) [
+      | true ↦ Failed 1
+      | false ↦ place_block (free_frame c v.frames 0) p b
+          (chosen_by answer candidate) candidate c blocks io
+    ]
 
 -- a block that frame f holds, which becomes the newest, or one that is read
-abbrev pub fetch_by : Option ℕ → World → PolValue → (p b : ℕ) → Option (List ℕ) → CacheValue → Blocks → List Bool → Fetched
+abbrev pub fetch_by : Option ℕ → World → PolValue → (p b : ℕ) → Option (List ℕ) → CacheValue →
+    Blocks → List Bool → Fetched
 fetch_by (Some f) v pol p b answer c blocks io = Got (used f c) blocks f 0
 fetch_by None v pol p b answer c blocks io = read_block v pol p b answer c blocks io
 
 -- A block is fetched for process p into the frame that holds it, which becomes the newest; else
 -- into the lowest free frame; else into the frame that the answer chooses, which first changes
 -- places with the candidate in the order of use and is written to the disk where it is dirty.
-abbrev pub fetch : World → PolValue → (p b : ℕ) → Option (List ℕ) → CacheValue → Blocks → List Bool → Fetched
+abbrev pub fetch : World → PolValue → (p b : ℕ) → Option (List ℕ) → CacheValue → Blocks →
+    List Bool → Fetched
 fetch v pol p b answer c blocks io = fetch_by (frame_of_block c b) v pol p b answer c blocks io
 
 -- a block that is read ahead: where a frame holds it already, the order of use stays
-abbrev pub fetch_ahead_by : Option ℕ → World → PolValue → (p b : ℕ) → Option (List ℕ) → CacheValue → Blocks → List Bool → Fetched
+abbrev pub fetch_ahead_by : Option ℕ → World → PolValue → (p b : ℕ) → Option (List ℕ) → CacheValue →
+    Blocks → List Bool → Fetched
 fetch_ahead_by (Some f) v pol p b answer c blocks io = Got c blocks f 0
 fetch_ahead_by None v pol p b answer c blocks io = read_block v pol p b answer c blocks io
 
 -- block b, ahead of a read of process p
-abbrev pub fetch_ahead : World → PolValue → (p b : ℕ) → Option (List ℕ) → CacheValue → Blocks → List Bool → Fetched
-fetch_ahead v pol p b answer c blocks io = fetch_ahead_by (frame_of_block c b) v pol p b answer c blocks io
+abbrev pub fetch_ahead : World → PolValue → (p b : ℕ) → Option (List ℕ) → CacheValue → Blocks →
+    List Bool → Fetched
+fetch_ahead v pol p b answer c blocks io =
+    fetch_ahead_by (frame_of_block c b) v pol p b answer c blocks io
 
 -- ---- the bytes of a frame
 

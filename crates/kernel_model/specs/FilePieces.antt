@@ -17,7 +17,8 @@ use Rattle.kernel_model.specs.Fetch.{Fetched, Got, Failed, fetch, fetch_ahead, b
 
 -- a piece that leaves the disk alone and gives no bytes
 abbrev pub leaves : Objects → Blocks → After → Piece
-leaves s blocks after = record { objects = s; blocks = blocks; gave = None; after = after; calls = 0 }
+leaves s blocks after =
+    record { objects = s; blocks = blocks; gave = None; after = after; calls = 0 }
 
 -- a piece that is refused, and leaves all as it was
 abbrev pub refuses : Objects → Blocks → Refusal → Piece
@@ -44,7 +45,8 @@ with_file p fd o s = with_things (record (s.things) { file = at2 p fd o s.things
 -- the lowest descriptor from fd on that is free, among n
 abbrev pub free_descriptor : Things → (p n fd : ℕ) → Option ℕ
 free_descriptor w p zero fd = None
-free_descriptor w p (suc n) fd = elim (w.file p fd) [ None ↦ Some fd | Some o ↦ free_descriptor w p n (suc fd) ]
+free_descriptor w p (suc n) fd =
+    elim (w.file p fd) [ None ↦ Some fd | Some o ↦ free_descriptor w p n (suc fd) ]
 
 -- a file that was just opened: next 0, window 8, not sequential, nothing ahead
 abbrev pub new_file : ℕ → OpenRow
@@ -54,7 +56,8 @@ new_file n = record { file = n; next = 0; window = 8; seq = false; start = 0; co
 abbrev pub open_piece : Objects → ℕ → (file fd : Option ℕ) → Blocks → Piece
 open_piece s p None fd blocks = refuses s blocks NoFile
 open_piece s p (Some n) None blocks = refuses s blocks NoFd
-open_piece s p (Some n) (Some fd) blocks = leaves (with_file p fd (Some (new_file n)) s) blocks (EndsWith (One fd))
+open_piece s p (Some n) (Some fd) blocks =
+    leaves (with_file p fd (Some (new_file n)) s) blocks (EndsWith (One fd))
 
 -- a file is closed; a graft at its point stays
 abbrev pub close_piece : Objects → (p fd : ℕ) → Option OpenRow → Blocks → Piece
@@ -68,7 +71,8 @@ abbrev pub unless_zero : Stage → ℕ → After
 unless_zero t zero = well
 unless_zero t (suc n) = Continues t
 
--- an open file after the read of its block i: whether that was the next one, and which is the next now
+-- an open file after the read of its block i: whether that was the next one, and which is the next
+-- now
 abbrev pub read_on : ℕ → OpenRow → OpenRow
 read_on i o = record o { next = i + 1; seq = i == o.next }
 
@@ -91,13 +95,15 @@ read_first s blocks p fd i off len o (Got cache after frame calls) =
 -- the second piece: the answer becomes what is to be read ahead
 abbrev pub read_second : Objects → Blocks → (p fd i off len : ℕ) → OpenRow → ℕ × ℕ → Piece
 read_second s blocks p fd i off len o ahead =
-    leaves (with_file p fd (Some (with_ahead ahead.0 ahead.1 o)) s) blocks (unless_zero (stage (Read fd i off len) 2) ahead.1)
+    leaves (with_file p fd (Some (with_ahead ahead.0 ahead.1 o)) s) blocks
+    (unless_zero (stage (Read fd i off len) 2) ahead.1)
 
 -- a later piece, once a block ahead is fetched
 abbrev pub read_third : Objects → Blocks → (p fd i off len : ℕ) → OpenRow → Fetched → Piece
 read_third s blocks p fd i off len o (Failed calls) = disk_failed s blocks calls
 read_third s blocks p fd i off len o (Got cache after frame calls) =
-    record (leaves (with_file p fd (Some (with_ahead (o.start + 1) (o.count - 1) o)) (with_cache cache s)) after
+    record (leaves (with_file p fd (Some (with_ahead (o.start + 1) (o.count - 1) o))
+    (with_cache cache s)) after
     (unless_zero (stage (Read fd i off len) 2) (o.count - 1)))
     { calls = calls }
 
@@ -107,24 +113,30 @@ ahead_by None default = default
 ahead_by (Some a) default = (slice_index a 0, slice_index a 1)
 
 -- the first piece, for the block that it names
-abbrev pub read_first_at : Result ℕ Refusal → World → Objects → Blocks → (p fd i off len : ℕ) → OpenRow → Option (List ℕ) → List Bool → Piece
+abbrev pub read_first_at : Result ℕ Refusal → World → Objects → Blocks → (p fd i off len : ℕ) →
+    OpenRow → Option (List ℕ) → List Bool → Piece
 read_first_at (Err refusal) v s blocks p fd i off len o answer io = refuses s blocks refusal
 read_first_at (Ok b) v s blocks p fd i off len o answer io =
-    read_first s blocks p fd i off len o (fetch v (s.things.pol 1) p b answer s.things.cache blocks io)
+    read_first s blocks p fd i off len o
+    (fetch v (s.things.pol 1) p b answer s.things.cache blocks io)
 
 -- a later piece, for the block ahead
-abbrev pub read_third_at : Result ℕ Refusal → World → Objects → Blocks → (p fd i off len : ℕ) → OpenRow → Option (List ℕ) → List Bool → Piece
+abbrev pub read_third_at : Result ℕ Refusal → World → Objects → Blocks → (p fd i off len : ℕ) →
+    OpenRow → Option (List ℕ) → List Bool → Piece
 read_third_at (Err refusal) v s blocks p fd i off len o answer io = refuses s blocks refusal
 read_third_at (Ok b) v s blocks p fd i off len o answer io =
-    read_third s blocks p fd i off len o (fetch_ahead v (s.things.pol 1) p b answer s.things.cache blocks io)
+    read_third s blocks p fd i off len o
+    (fetch_ahead v (s.things.pol 1) p b answer s.things.cache blocks io)
 
 -- the pieces of a read, by their number
-abbrev pub read_piece : ℕ → World → Objects → Blocks → (p fd i off len : ℕ) → Option OpenRow → Option (List ℕ) → List Bool → Piece
+abbrev pub read_piece : ℕ → World → Objects → Blocks → (p fd i off len : ℕ) → Option OpenRow →
+    Option (List ℕ) → List Bool → Piece
 read_piece n v s blocks p fd i off len None answer io = refuses s blocks BadFd
 read_piece zero v s blocks p fd i off len (Some o) answer io =
     read_first_at (file_block v (Some o) i off len) v s blocks p fd i off len o answer io
 read_piece (suc zero) v s blocks p fd i off len (Some o) answer io =
-    read_second s blocks p fd i off len o (ahead_by answer (ahead_default v (s.things.pol 0) (Some o)))
+    read_second s blocks p fd i off len o
+    (ahead_by answer (ahead_default v (s.things.pol 0) (Some o)))
 read_piece (suc (suc n)) v s blocks p fd i off len (Some o) answer io =
     read_third_at (ahead_block v (Some o)) v s blocks p fd i off len o answer io
 
@@ -137,7 +149,8 @@ write_fetched s blocks off new (Got cache after frame calls) =
     record (leaves (with_cache (with_patch frame off new cache) s) after well) { calls = calls }
 
 -- a write, for the block that it names
-abbrev pub write_piece : Result ℕ Refusal → World → Objects → Blocks → (p off : ℕ) → List ℕ → Option (List ℕ) → List Bool → Piece
+abbrev pub write_piece : Result ℕ Refusal → World → Objects → Blocks → (p off : ℕ) → List ℕ →
+    Option (List ℕ) → List Bool → Piece
 write_piece (Err refusal) v s blocks p off new answer io = refuses s blocks refusal
 write_piece (Ok b) v s blocks p off new answer io =
     write_fetched s blocks off new (fetch v (s.things.pol 1) p b answer s.things.cache blocks io)
@@ -146,12 +159,14 @@ write_piece (Ok b) v s blocks p off new answer io =
 -- each is clean then, and the call answers how many were written in all. Where a call of the disk
 -- fails, what was written before stays written.
 abbrev pub sync_from : (n f written : ℕ) → Objects → Blocks → List Bool → Piece
-sync_from zero f written s blocks io = record (leaves s blocks (EndsWith (One written))) { calls = written }
+sync_from zero f written s blocks io =
+    record (leaves s blocks (EndsWith (One written))) { calls = written }
 sync_from (suc n) f written s blocks io =
     elim (dirty_value (s.things.cache.frame f)) [
       | None ↦ sync_from n (suc f) written s blocks io
       | Some value ↦ elim (disk_fails io written) [
         | true ↦ disk_failed s blocks (suc written)
-        | false ↦ sync_from n (suc f) (suc written) (with_cache (cleaned f value s.things.cache) s) (at value.block value.bytes blocks) io
+        | false ↦ sync_from n (suc f) (suc written) (with_cache (cleaned f value s.things.cache) s)
+            (at value.block value.bytes blocks) io
       ]
     ]

@@ -1,4 +1,5 @@
--- What `box`, `check`, `reseal`, `asm`, `dis` and `lang` write about their input, and with which status they end.
+-- What `box`, `check`, `reseal`, `asm`, `dis` and `lang` write about their input, and with which
+-- status they end.
 use Rattle.std.specs.Prelude.{◌≡◌, ℕ, ◌==◌, true, false, List, [], ◌∷◌, ◌++◌, codes, Option, None, Some, Result, Ok, Err}
 use Rattle.kernel_model.specs.declared.Instr.{Instr}
 use Rattle.kernel_model.specs.Bytes.{hex_text, hex_word}
@@ -38,7 +39,8 @@ answer status written = record { status = status; written = written }
 -- what stands before the first newline, and what stands behind it, if there is one
 abbrev pub first_line : List ℕ → List ℕ × Option (List ℕ)
 first_line [] = ([], None)
-first_line (b ∷ bytes) = elim (b == 10) [ true ↦ ([], Some bytes) | false ↦ let r = first_line bytes in (b ∷ r.0, r.1) ]
+first_line (b ∷ bytes) =
+    elim (b == 10) [ true ↦ ([], Some bytes) | false ↦ let r = first_line bytes in (b ∷ r.0, r.1) ]
 
 -- bytes, unless they are no hex, have no newline or have more behind it
 abbrev pub hex_by : Option (List ℕ) → Option (List ℕ) → Result (List ℕ) (List ℕ)

@@ -1,4 +1,5 @@
--- Words on the handlers of the event points, each a process and a point, in the order in which they were put last.
+-- Words on the handlers of the event points, each a process and a point, in the order in which they
+-- were put last.
 use Rattle.std.specs.Prelude.{◌≡◌, ◌≤◌, ℕ, Bool, true, cond, not, ◌&&◌, ◌||◌, ◌==◌, nat_le, nat_lt, List, [], ◌∷◌, ◌++◌, filter, length}
 use Rattle.std.specs.List.{list_all, list_any}
 use Rattle.std.proofs.Common.{refl, arith}
@@ -28,27 +29,32 @@ pub record AreHandlers (handlers : List (ℕ × ℕ)) : Type 0 where
 
 -- a handler that stands may be put last; another one joins where fewer than 8 stand at its point
 abbrev pub has_room : ℕ → ℕ → List (ℕ × ℕ) → Bool
-has_room q pt handlers = list_any (is_handler q pt) handlers || nat_lt (length (handlers_at pt handlers)) 8
+has_room q pt handlers = list_any (is_handler q pt) handlers
+    || nat_lt (length (handlers_at pt handlers)) 8
 
 -- a handler is put last, if it has room
 abbrev pub handlers_with : ℕ → ℕ → List (ℕ × ℕ) → List (ℕ × ℕ)
-handlers_with q pt handlers = cond (has_room q pt handlers) (handlers_without q pt handlers ++ (q, pt) ∷ []) handlers
+handlers_with q pt handlers =
+    cond (has_room q pt handlers) (handlers_without q pt handlers ++ (q, pt) ∷ []) handlers
 
 -- ---- handlers that pass a test
 
 -- fewer pass two tests than one
-fewer_pass : (p q : ℕ × ℕ → Bool) (hs : List (ℕ × ℕ)) → length (filter p (filter q hs)) ≤ length (filter p hs)
+fewer_pass : (p q : ℕ × ℕ → Bool) (hs : List (ℕ × ℕ)) →
+    length (filter p (filter q hs)) ≤ length (filter p hs)
 fewer_pass p q [] = omega arith
 fewer_pass p q (h ∷ hs) = grind (arith, fewer_pass p q hs)
 
 -- their points are among those before
-points_pass : (p : ℕ × ℕ → Bool) (hs : List (ℕ × ℕ)) → list_all (λ (h : ℕ × ℕ). nat_le 6 h.1 && nat_le h.1 13) hs ≡ true →
+points_pass : (p : ℕ × ℕ → Bool) (hs : List (ℕ × ℕ)) →
+    list_all (λ (h : ℕ × ℕ). nat_le 6 h.1 && nat_le h.1 13) hs ≡ true →
     list_all (λ (h : ℕ × ℕ). nat_le 6 h.1 && nat_le h.1 13) (filter p hs) ≡ true
 points_pass p [] h = refl
 points_pass p (x ∷ hs) h = grind (arith, nat_tests, points_pass p hs)
 
 -- they are handlers
-pub handlers_pass : (p : ℕ × ℕ → Bool) (hs : List (ℕ × ℕ)) → AreHandlers hs → AreHandlers (filter p hs)
+pub handlers_pass : (p : ℕ × ℕ → Bool) (hs : List (ℕ × ℕ)) → AreHandlers hs →
+    AreHandlers (filter p hs)
 handlers_pass p hs h = record {
   once = λ q pt. omega (arith, fewer_pass (is_handler q pt) p hs, h.once q pt);
   points = points_pass p hs h.points;

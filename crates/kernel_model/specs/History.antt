@@ -16,17 +16,20 @@ use Rattle.kernel_model.specs.GraftStep.{micro}
 
 -- ---- histories
 
--- a mark: an instruction, or an ask whose level was dropped, with what its levels did that outlives them
+-- a mark: an instruction, or an ask whose level was dropped, with what its levels did that outlives
+-- them
 pub data Mark : Type 0 where
   Stepped : Mark
   Fell : List Effect → Mark
 
--- what came about since a level began: how many marks stand before its ask, and the effects since, newest first
+-- what came about since a level began: how many marks stand before its ask, and the effects since,
+-- newest first
 pub record Past : Type 0 where
   pub began : ℕ
   pub effects : List Effect
 
--- where a history leads: the config, how many marks it has, and the past of each level, innermost first
+-- where a history leads: the config, how many marks it has, and the past of each level, innermost
+-- first
 pub record Trace : Type 0 where
   pub config : Config
   pub marks : ℕ
@@ -37,7 +40,11 @@ pub record Trace : Type 0 where
 -- the config whose only level has just begun, with the base objects
 abbrev pub begin_at : ImageTable → Objects → ℕ → List Need → Point → Config
 begin_at images s p base a =
-    record { now = s; levels = new_level images s p 0 a.installer a.point a.args (touch_all base untouched) ∷ [] }
+    record {
+      now = s;
+      levels = new_level images s p 0 a.installer a.point a.args (touch_all base untouched)
+          ∷ [];
+    }
 
 -- the same where a point is asked
 abbrev pub begin_with : ImageTable → Objects → ℕ → List Need → Option Point → Option Config
@@ -66,10 +73,12 @@ joined_pasts [] = []
 joined_pasts (a ∷ []) = a ∷ []
 joined_pasts (a ∷ b ∷ rest) = record b { effects = a.effects ++ b.effects } ∷ rest
 
--- the pasts after an instruction, by how many levels there were before it and are after it; n marks stand before it
+-- the pasts after an instruction, by how many levels there were before it and are after it; n marks
+-- stand before it
 abbrev pub pasts_after : (n before after : ℕ) → List Past → List Past
 pasts_after n before after ps =
-    cond (after == suc before) (record { began = n; effects = [] } ∷ ps) (cond (before == suc after) (joined_pasts ps) ps)
+    cond (after == suc before) (record { began = n; effects = [] } ∷ ps)
+    (cond (before == suc after) (joined_pasts ps) ps)
 
 -- the trace after an instruction, where the call goes on
 abbrev pub trace_after : Trace → Outcome → Trace
@@ -77,7 +86,8 @@ trace_after t r =
     record {
       config = r.config;
       marks = suc t.marks;
-      pasts = pasts_after t.marks (length t.config.levels) (length r.config.levels) (with_effects r.effects t.pasts);
+      pasts = pasts_after t.marks (length t.config.levels) (length r.config.levels)
+          (with_effects r.effects t.pasts);
     }
 
 -- the trace after an instruction; there is none where it ends a level otherwise than by an answer
@@ -88,7 +98,8 @@ stepped t r = elim (is_going_on r.said) [ true ↦ Some (trace_after t r) | fals
 
 -- a graft of q stands that level 0 holds
 abbrev pub is_found : (q pt : ℕ) → Config → Bool
-is_found q pt c = is_some (c.now.accounts.graft q pt) && is_held (outermost_touched c.levels (Graft q pt))
+is_found q pt c = is_some (c.now.accounts.graft q pt)
+    && is_held (outermost_touched c.levels (Graft q pt))
 
 -- a config with these accounts and grafts
 abbrev pub with_accounts_of : Accounts → Config → Config
@@ -105,8 +116,10 @@ config_if false c = None
 abbrev pub effect : ℕ → Effect → Config → Option Config
 effect q (Asked pt) c = Some (record c { levels = touch_outermost (Graft q pt) c.levels })
 effect q (Charged pt k) c =
-    config_if (is_found q pt c && not (funds c.now.accounts q pt k == 0)) (with_accounts_of (charge k q pt c.now.accounts) c)
-effect q (Removed pt) c = config_if (is_found q pt c) (with_accounts_of (removed q pt c.now.accounts) c)
+    config_if (is_found q pt c && not (funds c.now.accounts q pt k == 0))
+    (with_accounts_of (charge k q pt c.now.accounts) c)
+effect q (Removed pt) c =
+    config_if (is_found q pt c) (with_accounts_of (removed q pt c.now.accounts) c)
 
 -- effects in order
 abbrev pub effects_on : ℕ → List Effect → Config → Option Config
@@ -117,7 +130,8 @@ effects_on q (e ∷ es) c = elim (effect q e c) [ None ↦ None | Some u ↦ eff
 abbrev pub level_ends : World → Objects → List Level → Config
 level_ends v w [] = record { now = w; levels = [] }
 level_ends v w (l ∷ ls) =
-    let d = default_of v w.things l.owner l.point in record { now = w; levels = answer_innermost l.point d.0 d.1 ls }
+    let d = default_of v w.things l.owner l.point in
+    record { now = w; levels = answer_innermost l.point d.0 d.1 ls }
 
 -- the pasts without the innermost level's
 abbrev pub outer_pasts : List Past → List Past
@@ -127,7 +141,11 @@ outer_pasts (a ∷ outer) = outer
 -- the trace u after an ask, with the effects of the level that it began and that level's end
 abbrev pub trace_fallen : World → List Effect → Trace → Config → Trace
 trace_fallen v es u c =
-    record { config = level_ends v c.now c.levels; marks = u.marks; pasts = with_effects es (outer_pasts u.pasts) }
+    record {
+      config = level_ends v c.now c.levels;
+      marks = u.marks;
+      pasts = with_effects es (outer_pasts u.pasts);
+    }
 
 -- the same, where the effects can be made again
 abbrev pub fallen_if : World → List Effect → Trace → Option Config → Option Trace
@@ -139,7 +157,8 @@ abbrev pub owner_among : List Level → ℕ
 owner_among [] = 0
 owner_among (l ∷ ls) = l.owner
 
--- a level that fell, where u is the trace after its ask, which began a level, and n is how many there were before
+-- a level that fell, where u is the trace after its ask, which began a level, and n is how many
+-- there were before
 abbrev pub fell_on : World → List Effect → (n : ℕ) → Trace → Option Trace
 fell_on v es n u =
     elim (length u.config.levels == suc n) [
@@ -153,12 +172,16 @@ fell_on v es n u =
 abbrev pub mark_on : World → ImageTable → ℕ → Mark → Trace → Option Trace
 mark_on v images p Stepped t = stepped t (micro v images p t.config)
 mark_on v images p (Fell es) t =
-    elim (stepped t (micro v images p t.config)) [ None ↦ None | Some u ↦ fell_on v es (length t.config.levels) u ]
+    elim (stepped t (micro v images p t.config)) [
+      | None ↦ None
+      | Some u ↦ fell_on v es (length t.config.levels) u
+    ]
 
 -- marks in order
 abbrev pub marks_on : World → ImageTable → ℕ → List Mark → Trace → Option Trace
 marks_on v images p [] t = Some t
-marks_on v images p (k ∷ ks) t = elim (mark_on v images p k t) [ None ↦ None | Some u ↦ marks_on v images p ks u ]
+marks_on v images p (k ∷ ks) t =
+    elim (mark_on v images p k t) [ None ↦ None | Some u ↦ marks_on v images p ks u ]
 
 -- Replaying a history runs its marks, in order, from the committed state of this moment. It knows
 -- no other call.
@@ -171,15 +194,18 @@ replay m v images s p t ks =
 -- the effects since level d began, newest first; the pasts are innermost first
 abbrev pub effects_since : ℕ → List Past → List Effect
 effects_since d [] = []
-effects_since d (a ∷ outer) = elim (nat_le d (length outer)) [ true ↦ a.effects ++ effects_since d outer | false ↦ [] ]
+effects_since d (a ∷ outer) =
+    elim (nat_le d (length outer)) [ true ↦ a.effects ++ effects_since d outer | false ↦ [] ]
 
 -- how many marks stand before the ask that began level d
 abbrev pub marks_before : ℕ → List Past → ℕ
 marks_before d [] = 0
-marks_before d (a ∷ outer) = elim (length outer == d) [ true ↦ a.began | false ↦ marks_before d outer ]
+marks_before d (a ∷ outer) =
+    elim (length outer == d) [ true ↦ a.began | false ↦ marks_before d outer ]
 
 -- When level d above 0 is dropped, the marks from its ask on are replaced by one, which holds what
 -- its levels and those inside asked, were charged and lost, in order, the drop's own, `last`,
 -- behind them.
 abbrev pub fallen : Trace → List Mark → (last : List Effect) → (d : ℕ) → List Mark
-fallen t ks last d = take (marks_before d t.pasts) ks ++ Fell (reverse (effects_since d t.pasts) ++ last) ∷ []
+fallen t ks last d = take (marks_before d t.pasts) ks
+    ++ Fell (reverse (effects_since d t.pasts) ++ last) ∷ []

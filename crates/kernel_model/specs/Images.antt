@@ -25,7 +25,8 @@ code_bytes code = flat_map encode code
 
 -- the bytes of a raw image
 abbrev pub raw_image : List Instr → List ℕ → List ℕ
-raw_image code body = codes "VGR0" ++ word_bytes (length code) ++ word_bytes (length body) ++ code_bytes code ++ body
+raw_image code body = codes "VGR0" ++ word_bytes (length code) ++ word_bytes (length body)
+    ++ code_bytes code ++ body
 
 -- the key of a number, if there is one
 abbrev pub key_of : Keys → ℕ → Option (List ℕ)
@@ -37,9 +38,11 @@ last_key keys = elim keys.second [ None ↦ (0, keys.first) | Some key ↦ (1, k
 
 -- what stands before the code of a sealed image of version 1
 abbrev pub first_head : List Instr → List ℕ → List ℕ
-first_head code body = codes "VGR1" ++ word_bytes 1 ++ word_bytes (length code) ++ word_bytes (length body)
+first_head code body = codes "VGR1" ++ word_bytes 1 ++ word_bytes (length code)
+    ++ word_bytes (length body)
 
--- what stands before the code of a sealed image of version 2: flags and the number of the key besides
+-- what stands before the code of a sealed image of version 2: flags and the number of the key
+-- besides
 abbrev pub second_head : (number flags : ℕ) → List Instr → List ℕ → List ℕ
 second_head number flags code body =
     codes "VGR1" ++ word_bytes 2 ++ word_bytes (length code) ++ word_bytes (length body)
@@ -96,7 +99,8 @@ of_box (BoxFault.DirectCall pc) = DirectCall pc
 of_box BoxFault.End = End
 
 -- an instruction before others, or the first refusal
-abbrev pub with_first : Result Instr IsaFault → ℕ → Result (List Instr) LoadFault → Result (List Instr) LoadFault
+abbrev pub with_first : Result Instr IsaFault → ℕ → Result (List Instr) LoadFault →
+    Result (List Instr) LoadFault
 with_first (Err fault) pc rest = Err (BadOp pc)
 with_first (Ok i) pc (Err fault) = Err fault
 with_first (Ok i) pc (Ok is) = Ok (i ∷ is)
@@ -200,7 +204,8 @@ head_fault bytes =
 
 -- the image of n instructions behind a head of so many bytes, where the seal is right
 abbrev pub unsealed : (head n : ℕ) → List ℕ → Result Image LoadFault
-unsealed head n text = verified (image_with (drop (head + 8 * n) text) (decoded n 0 (drop head text)))
+unsealed head n text =
+    verified (image_with (drop (head + 8 * n) text) (decoded n 0 (drop head text)))
 
 -- the image of sealed bytes whose head is right, under a key
 abbrev pub load_by_seal : List ℕ → List ℕ → Result Image LoadFault

@@ -45,7 +45,8 @@ pub record Kernel : Type 0 where
   -- the order of waiting
   pub order : List Entry
 
--- an event under way: the kernel, the disk's blocks, the notes so far, and what the disk's next calls will do
+-- an event under way: the kernel, the disk's blocks, the notes so far, and what the disk's next
+-- calls will do
 pub record Run : Type 0 where
   pub kernel : Kernel
   pub blocks : Blocks
@@ -100,7 +101,10 @@ call_after c (Fails refusal) = None
 abbrev pub finish : ℕ → Call → Piece → Run → Run
 finish p c q r =
     record {
-      kernel = record (r.kernel) { objects = q.objects; call = at p (call_after c q.after) r.kernel.call };
+      kernel = record (r.kernel) {
+        objects = q.objects;
+        call = at p (call_after c q.after) r.kernel.call;
+      };
       blocks = q.blocks;
       notes = r.notes ++ gave_note c.number q.gave ++ after_note c.number q.after;
       io = drop q.calls r.io;
@@ -126,6 +130,7 @@ abbrev pub requeue : ℕ → Run → Run
 requeue p r =
     record r {
       kernel = record (r.kernel) {
-        order = less_entry p r.kernel.order ++ cond (is_at_piece (r.kernel.call p)) (new_entry p ∷ []) [];
+        order = less_entry p r.kernel.order
+            ++ cond (is_at_piece (r.kernel.call p)) (new_entry p ∷ []) [];
       };
     }

@@ -1,4 +1,5 @@
--- The grammar of the graft language: programs, how they are spelled, and which tokens may come next.
+-- The grammar of the graft language: programs, how they are spelled, and which tokens may come
+-- next.
 -- docs/LANGUAGE.md says the rules.
 use Rattle.std.specs.Prelude.{ℕ, ◌-◌, Bool, true, false, cond, not, List, [], ◌∷◌, Result, Ok, Err}
 use Rattle.kernel_model.specs.declared.language.LangKind.{LangKind}
@@ -60,7 +61,8 @@ spelled_arguments (e ∷ es) behind = spelled_expression e (spelled_more es behi
 abbrev pub spelled_statements : Program → List Token → List Token
 spelled_statements Done behind = behind
 spelled_statements (Assigns name e p) behind =
-    Variable name ∷ Mark Assign ∷ spelled_expression e (Mark Semicolon ∷ spelled_statements p behind)
+    Variable name ∷ Mark Assign
+    ∷ spelled_expression e (Mark Semicolon ∷ spelled_statements p behind)
 spelled_statements (Calls name id arguments p) behind =
     Variable name ∷ Mark Assign ∷ Callable id ∷ Mark OpenParenthesis
     ∷ spelled_arguments arguments (Mark Semicolon ∷ spelled_statements p behind)
@@ -70,7 +72,8 @@ spelled_statements (When e body p) behind =
 spelled_statements (Either e body other p) behind =
     Mark If
     ∷ spelled_expression e (Mark OpenBrace ∷ spelled_statements body (Mark CloseBrace
-    ∷ Mark Else ∷ Mark OpenBrace ∷ spelled_statements other (Mark CloseBrace ∷ spelled_statements p behind)))
+    ∷ Mark Else ∷ Mark OpenBrace
+    ∷ spelled_statements other (Mark CloseBrace ∷ spelled_statements p behind)))
 spelled_statements (Loops e body p) behind =
     Mark While ∷ spelled_expression e (Mark OpenBrace
     ∷ spelled_statements body (Mark CloseBrace ∷ spelled_statements p behind))
@@ -87,19 +90,23 @@ spelled p = spelled_statements p []
 -- ---- which tokens may come next: goals in the order in which they are to be met
 
 -- a statement that begins with a symbol, or the end of a block
-abbrev pub follow_mark : (in_block after_if : Bool) → List Goal → Symbol → Result (List Goal) LangKind
+abbrev pub follow_mark : (in_block after_if : Bool) → List Goal → Symbol →
+    Result (List Goal) LangKind
 follow_mark in_block after_if below If = Ok (Operand ∷ Braces ∷ Statements in_block true ∷ below)
 follow_mark in_block after_if below Else =
     cond after_if (Ok (Braces ∷ Statements in_block false ∷ below)) (Err NoProgram)
-follow_mark in_block after_if below While = Ok (Operand ∷ Braces ∷ Statements in_block false ∷ below)
-follow_mark in_block after_if below Trap = Ok (Constant ∷ Awaits Semicolon ∷ Statements in_block false ∷ below)
+follow_mark in_block after_if below While =
+    Ok (Operand ∷ Braces ∷ Statements in_block false ∷ below)
+follow_mark in_block after_if below Trap =
+    Ok (Constant ∷ Awaits Semicolon ∷ Statements in_block false ∷ below)
 follow_mark in_block after_if below Answer =
     Ok (Operand ∷ Awaits Comma ∷ Operand ∷ Awaits Semicolon ∷ Statements in_block false ∷ below)
 follow_mark in_block after_if below CloseBrace = cond in_block (Ok below) (Err NoProgram)
 follow_mark in_block after_if below _ = Err NoProgram
 
 -- a statement, or the end of a block
-abbrev pub follow_statement : (in_block after_if : Bool) → List Goal → Token → Result (List Goal) LangKind
+abbrev pub follow_statement : (in_block after_if : Bool) → List Goal → Token →
+    Result (List Goal) LangKind
 follow_statement in_block after_if below (Variable name) =
     Ok (Awaits Assign ∷ RightSide ∷ EndOfAssignment ∷ Statements in_block false ∷ below)
 follow_statement in_block after_if below (Mark s) = follow_mark in_block after_if below s
@@ -115,7 +122,8 @@ follow_operand below _ = Err NoProgram
 
 -- what an assignment takes its value from: a call, or an expression
 abbrev pub follow_right_side : List Goal → Token → Result (List Goal) LangKind
-follow_right_side below (Callable id) = Ok (Awaits OpenParenthesis ∷ FirstArgument (arguments_of id) ∷ below)
+follow_right_side below (Callable id) =
+    Ok (Awaits OpenParenthesis ∷ FirstArgument (arguments_of id) ∷ below)
 follow_right_side below token = follow_operand below token
 
 -- the first argument of a call, or its end
@@ -146,13 +154,15 @@ follow_awaited s next _ = Err NoProgram
 
 -- a goal is met by what begins with this token; the goals that are left
 abbrev pub follow_goal : Goal → List Goal → Token → Result (List Goal) LangKind
-follow_goal (Statements in_block after_if) below token = follow_statement in_block after_if below token
+follow_goal (Statements in_block after_if) below token =
+    follow_statement in_block after_if below token
 follow_goal Braces below token = follow_awaited OpenBrace (Statements true false ∷ below) token
 follow_goal Operand below token = follow_operand below token
 follow_goal InfixOperator below token = follow_infix below token
 follow_goal RightSide below token = follow_right_side below token
 follow_goal (FirstArgument left) below token = follow_first left below token
-follow_goal (NextArgument left) below token = follow_operand (AfterArgument (left - 1) ∷ below) token
+follow_goal (NextArgument left) below token =
+    follow_operand (AfterArgument (left - 1) ∷ below) token
 follow_goal (AfterArgument left) below token = follow_argument left below token
 follow_goal EndOfAssignment below token = follow_awaited Semicolon below token
 follow_goal Constant below token = follow_constant below token

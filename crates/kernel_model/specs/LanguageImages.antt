@@ -13,14 +13,20 @@ use Rattle.kernel_model.specs.LanguageMeaning.{Program, End, Answered, Trapped, 
 use Rattle.kernel_model.specs.LanguageMeaning.{says, numbered}
 
 -- raw code over a segment, with these arguments and answers, for so many instructions
-abbrev pub fed : List Instr → (segment : ℕ → ℕ) → (arguments : List ℕ) → (answers : List (ℕ × ℕ)) → ℕ → CodeRun
+abbrev pub fed : List Instr → (segment : ℕ → ℕ) → (arguments : List ℕ) → (answers : List (ℕ × ℕ)) →
+    ℕ → CodeRun
 fed code segment arguments answers n = raw_run code n (first_run 262144 segment arguments answers)
 
 -- how such a run has ended, named as the end of a program; code that goes astray has no such end
 abbrev pub end_by : CodeRun → Option Halt → Option End
 end_by r None = Some Going
 end_by r (Some (Unanswered id)) =
-    Some (Asks (record { id = id; r0 = r.machine.regs 0; r1 = r.machine.regs 1; r2 = r.machine.regs 2 }))
+    Some (Asks (record {
+      id = id;
+      r0 = r.machine.regs 0;
+      r1 = r.machine.regs 1;
+      r2 = r.machine.regs 2;
+    }))
 end_by r (Some AtReturn) = Some (Answered (r.machine.regs 0) (r.machine.regs 1))
 end_by r (Some AtDivision) = Some DividedByZero
 end_by r (Some (AtTrap code)) = Some (Trapped code)
@@ -43,13 +49,17 @@ abbrev pub AreWords : List (ℕ × ℕ) → Type 0
 AreWords [] = ⊤
 AreWords (pair ∷ pairs) = (pair.0 < 2 ^ 32) × (pair.1 < 2 ^ 32) × AreWords pairs
 
--- For each segment, arguments and answers: where the program ends within n turns of loops, the code ends
--- within (n + 1) * N instructions, N being its length, with the same calls and the same end; and where the
--- code ends within n instructions, the program ends within n turns, with the same calls and the same end. So
+-- For each segment, arguments and answers: where the program ends within n turns of loops, the code
+-- ends
+-- within (n + 1) * N instructions, N being its length, with the same calls and the same end; and
+-- where the
+-- code ends within n instructions, the program ends within n turns, with the same calls and the
+-- same end. So
 -- where either goes on for every n, both do.
 pub record Behaves (p : Program) (code : List Instr) : Type 0 where
   pub forth : (segment : ℕ → ℕ) (arguments : List ℕ) (answers : List (ℕ × ℕ)) (n : ℕ) (end : End)
-      → AreArguments arguments → AreWords answers → end ≢ Going → (said p arguments answers n).ended ≡ Some end
+      → AreArguments arguments → AreWords answers → end ≢ Going →
+      (said p arguments answers n).ended ≡ Some end
       → (end_of (fed code segment arguments answers ((n + 1) * length code)) ≡ Some end)
       × ((fed code segment arguments answers ((n + 1) * length code)).calls
       ≡ (said p arguments answers n).calls)
@@ -59,7 +69,8 @@ pub record Behaves (p : Program) (code : List Instr) : Type 0 where
       → ((said p arguments answers n).ended ≡ Some end)
       × ((said p arguments answers n).calls ≡ (fed code segment arguments answers n).calls)
 
--- The text is accepted, and spells a program. The code does what each program says that is spelled so. The
+-- The text is accepted, and spells a program. The code does what each program says that is spelled
+-- so. The
 -- rewriter takes the code, and there is no data.
 pub record IsCompiled (text : List ℕ) (image : Image) : Type 0 where
   pub syntax : Syntax

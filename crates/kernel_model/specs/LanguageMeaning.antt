@@ -46,7 +46,8 @@ numbered names (spelled.Calls name id es p) =
 numbered names (spelled.When e body p) =
     When (numbered_expression names e) (numbered names body) (numbered names p)
 numbered names (spelled.Either e body other p) =
-    Either (numbered_expression names e) (numbered names body) (numbered names other) (numbered names p)
+    Either (numbered_expression names e) (numbered names body) (numbered names other)
+    (numbered names p)
 numbered names (spelled.Loops e body p) =
     Loops (numbered_expression names e) (numbered names body) (numbered names p)
 numbered names (spelled.Traps code p) = Traps code (numbered names p)
@@ -163,9 +164,13 @@ takes_turn turn s zero = ends s Going
 takes_turn turn s (suc n) = turn (record s { turns = n })
 
 -- a loop of at most so many turns; a state that has ended stays as it is
-abbrev pub loops : (condition : (ℕ → ℕ) → Option ℕ) → (body : State → State) → (most : ℕ) → State → State
+abbrev pub loops : (condition : (ℕ → ℕ) → Option ℕ) → (body : State → State) → (most : ℕ) → State →
+    State
 loops condition body zero s =
-    elim s.ended [ Some end ↦ s | None ↦ chooses (λ t. ends t Going) (λ t. t) s (condition s.cells) ]
+    elim s.ended [
+      | Some end ↦ s
+      | None ↦ chooses (λ t. ends t Going) (λ t. t) s (condition s.cells)
+    ]
 loops condition body (suc n) s =
     elim s.ended [
       | Some end ↦ s
@@ -176,16 +181,25 @@ loops condition body (suc n) s =
 -- what a program does; a state that has ended stays as it is
 abbrev pub does : Program → State → State
 does Done s = s
-does (Assigns i e p) s = elim s.ended [ Some end ↦ s | None ↦ does p (assigns i s (value s.cells e)) ]
-does (Calls i id es p) s = elim s.ended [ Some end ↦ s | None ↦ does p (calls i id s (values s.cells es)) ]
+does (Assigns i e p) s =
+    elim s.ended [ Some end ↦ s | None ↦ does p (assigns i s (value s.cells e)) ]
+does (Calls i id es p) s =
+    elim s.ended [ Some end ↦ s | None ↦ does p (calls i id s (values s.cells es)) ]
 does (When e body p) s =
     elim s.ended [ Some end ↦ s | None ↦ does p (chooses (does body) (λ t. t) s (value s.cells e)) ]
 does (Either e body other p) s =
-    elim s.ended [ Some end ↦ s | None ↦ does p (chooses (does body) (does other) s (value s.cells e)) ]
+    elim s.ended [
+      | Some end ↦ s
+      | None ↦ does p (chooses (does body) (does other) s (value s.cells e))
+    ]
 does (Loops e body p) s =
-    elim s.ended [ Some end ↦ s | None ↦ does p (loops (λ cells. value cells e) (does body) s.turns s) ]
+    elim s.ended [
+      | Some end ↦ s
+      | None ↦ does p (loops (λ cells. value cells e) (does body) s.turns s)
+    ]
 does (Traps code p) s = elim s.ended [ Some end ↦ s | None ↦ ends s (Trapped code) ]
-does (Answers e f p) s = elim s.ended [ Some end ↦ s | None ↦ answers s (value s.cells e) (value s.cells f) ]
+does (Answers e f p) s =
+    elim s.ended [ Some end ↦ s | None ↦ answers s (value s.cells e) (value s.cells f) ]
 
 -- at the end of the text the first two arguments are the answer
 abbrev pub at_end : State → State

@@ -55,7 +55,8 @@ abbrev pub room_fault : (room : Bool) → Option LangKind
 room_fault room = cond room None (Some WrongArguments)
 
 -- what is wrong with an operand that begins with this token
-abbrev pub operand_fault : (room : Bool) → List Goal → (names : List (List ℕ)) → Token → Option LangKind
+abbrev pub operand_fault : (room : Bool) → List Goal → (names : List (List ℕ)) → Token →
+    Option LangKind
 operand_fault room below names (Number n) = room_fault room
 operand_fault room below names (Variable name) =
     cond (is_known name names) (room_fault room) (Some UnknownVariable)
@@ -76,7 +77,8 @@ abbrev pub argument_fault : (left : ℕ) → Token → Option LangKind
 argument_fault left (Mark CloseParenthesis) = end_fault left
 argument_fault left _ = None
 
--- what is wrong with a token that the grammar takes: the variable, the number of arguments, the depth, in
+-- what is wrong with a token that the grammar takes: the variable, the number of arguments, the
+-- depth, in
 -- this order
 abbrev pub fault_at : Goal → List Goal → (names : List (List ℕ)) → Token → Option LangKind
 fault_at Operand below names token = operand_fault true below names token
@@ -97,7 +99,8 @@ fault_of (goal ∷ below) names token = fault_at goal below names token
 -- the variables with this one, which is put behind the others unless it is known
 abbrev pub with_name : List ℕ → List (List ℕ) → List (List ℕ)
 with_name name [] = name ∷ []
-with_name name (known ∷ names) = cond (same_bytes name known) (known ∷ names) (known ∷ with_name name names)
+with_name name (known ∷ names) =
+    cond (same_bytes name known) (known ∷ names) (known ∷ with_name name names)
 
 -- a variable is known from the end of its first assignment on
 abbrev pub names_after : List Goal → (assigned : List ℕ) → List (List ℕ) → List (List ℕ)

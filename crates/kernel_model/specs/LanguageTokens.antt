@@ -60,7 +60,8 @@ symbol_of word = at_place (position (same_bytes word) symbol_names) symbols
 abbrev pub operator_of : List ℕ → Option Operator
 operator_of word = at_place (position (same_bytes word) operator_names) operators
 
--- a name that is no keyword and no callable: a letter a to z, then letters, digits and `_`, up to 16 bytes
+-- a name that is no keyword and no callable: a letter a to z, then letters, digits and `_`, up to
+-- 16 bytes
 abbrev pub variable_of : List ℕ → Option Token
 variable_of word = cond (is_label word) (Some (Variable word)) None
 

@@ -65,19 +65,23 @@ SameKindOfPoint None None = ⊤
 SameKindOfPoint (Some a) (Some b) = kind_of a.point ≡ kind_of b.point
 SameKindOfPoint _ _ = ⊥
 
--- two asks to read ahead are the same, but for the count; those to serve, and to change a stream, are the same
+-- two asks to read ahead are the same, but for the count; those to serve, and to change a stream,
+-- are the same
 abbrev pub SameAheadAsk : PointKind → Point → Point → Type 0
 SameAheadAsk Ahead a b =
-    (a.installer ≡ b.installer) × (a.point ≡ b.point) × (slice_index a.args 0 ≡ slice_index b.args 0)
+    (a.installer ≡ b.installer) × (a.point ≡ b.point)
+    × (slice_index a.args 0 ≡ slice_index b.args 0)
     × (slice_index a.args 2 ≡ slice_index b.args 2) × (slice_index a.args 3 ≡ slice_index b.args 3)
 SameAheadAsk Serve a b = a ≡ b
 SameAheadAsk Stream a b = a ≡ b
 SameAheadAsk _ a b = ⊤
 
--- An answer that the kind of point accepts. For eviction any frame in use will do: the candidate of the state in which the
+-- An answer that the kind of point accepts. For eviction any frame in use will do: the candidate of
+-- the state in which the
 -- piece runs may have another owner than the one that was asked.
 abbrev pub accepted_by : PointKind → Objects → List ℕ → List ℕ → Bool
-accepted_by Ahead s args answer = nat_le (slice_index answer 1) 8 && nat_le (slice_index answer 0 + slice_index answer 1) (slice_index args 2)
+accepted_by Ahead s args answer = nat_le (slice_index answer 1) 8
+    && nat_le (slice_index answer 0 + slice_index answer 1) (slice_index args 2)
 accepted_by Victim s args answer = is_some (s.things.cache.frame (slice_index answer 0))
 accepted_by Next s args answer = lives s.things.queue (slice_index answer 0)
 accepted_by Serve s args answer = nat_le (slice_index answer 0) 512
@@ -110,15 +114,19 @@ slices_in rows = sum (map (λ (r : QueueRow). r.slices) rows)
 abbrev pub is_new_graft : Objects → Objects → (q pt : ℕ) → Bool
 is_new_graft s u q pt = not (is_some (s.accounts.graft q pt)) && is_some (u.accounts.graft q pt)
 
--- a call stands at a stage: a sound store, a caller that lives, a call that is granted, a stage that fits
-pub record IsStanding (m : Meaning) (v : World) (images : ImageTable) (s : Objects) (p : ℕ) (t : Stage) : Type 0 where
+-- a call stands at a stage: a sound store, a caller that lives, a call that is granted, a stage
+-- that fits
+pub record IsStanding (m : Meaning) (v : World) (images : ImageTable) (s : Objects) (p : ℕ)
+    (t : Stage) : Type 0 where
   pub store : IsSoundStore v s
   pub caller : lives s.things.queue p ≡ true
   pub granted : is_ok (m.early v images p t.call) ≡ true
   pub fits : m.fits v s p t ≡ true
 
--- the conditions of a piece: its call stands there, the cache fits the disk, and the answer is a right one
-pub record IsReady (m : Meaning) (v : World) (images : ImageTable) (s : Objects) (p : ℕ) (t : Stage) (answer : Option Answer) : Type 0 where
+-- the conditions of a piece: its call stands there, the cache fits the disk, and the answer is a
+-- right one
+pub record IsReady (m : Meaning) (v : World) (images : ImageTable) (s : Objects) (p : ℕ) (t : Stage)
+    (answer : Option Answer) : Type 0 where
   pub standing : IsStanding m v images s p t
   pub disk : FitsDisk v s.things.cache
   pub right : IsRightAnswer s (m.asks v s p t) (registers_of answer)
@@ -137,38 +145,48 @@ module _ (m : Meaning) where
   -- A graft that a piece needs it needs exclusively.
   abbrev pub NeedsGraftsExclusively : Type 0
   NeedsGraftsExclusively =
-      (v : World) (s : Objects) (p : ℕ) (t : Stage) (q pt : ℕ) → m.fits v s p t ≡ true → is_needed (Graft q pt) (m.need v s p t) ≡ true →
+      (v : World) (s : Objects) (p : ℕ) (t : Stage) (q pt : ℕ) → m.fits v s p t ≡ true →
+      is_needed (Graft q pt) (m.need v s p t) ≡ true →
       is_needed_exclusively (Graft q pt) (m.need v s p t) ≡ true
 
   -- A piece needs each object in one mode.
   abbrev pub NeedsHaveOneMode : Type 0
   NeedsHaveOneMode =
-      (v : World) (s : Objects) (p : ℕ) (t : Stage) (n : Need) → m.fits v s p t ≡ true → Contains (m.need v s p t) n →
+      (v : World) (s : Objects) (p : ℕ) (t : Stage) (n : Need) → m.fits v s p t ≡ true →
+      Contains (m.need v s p t) n →
       wanted n.object (m.need v s p t) ≡ n.mode
 
   -- A piece that asks a point needs what tells whether an answer of that point is valid.
   abbrev pub NeedsAnswers : Type 0
   NeedsAnswers =
-      (v : World) (images : ImageTable) (s : Objects) (p : ℕ) (t : Stage) (a : Point) → IsStanding m v images s p t → m.asks v s p t ≡ Some a →
-      AllByRecursion (λ (o : Object). is_needed o (m.need v s p t) ≡ true) (answer_objects (kind_of a.point))
+      (v : World) (images : ImageTable) (s : Objects) (p : ℕ) (t : Stage) (a : Point) →
+      IsStanding m v images s p t → m.asks v s p t ≡ Some a →
+      AllByRecursion (λ (o : Object). is_needed o (m.need v s p t) ≡ true)
+      (answer_objects (kind_of a.point))
 
   -- The objects of a piece.
   pub record NeedLaws : Type 0 where
     -- states that agree on the first objects of the list have the same next one, or both none
-    pub prefix : (v : World) (s u : Objects) (p : ℕ) (t : Stage) (i : ℕ) → m.fits v s p t ≡ true → m.fits v u p t ≡ true →
-        AgreeOn (take i (m.need v s p t)) s u → take (suc i) (m.need v s p t) ≡ take (suc i) (m.need v u p t)
+    pub prefix : (v : World) (s u : Objects) (p : ℕ) (t : Stage) (i : ℕ) → m.fits v s p t ≡ true →
+        m.fits v u p t ≡ true →
+        AgreeOn (take i (m.need v s p t)) s u →
+        take (suc i) (m.need v s p t) ≡ take (suc i) (m.need v u p t)
     -- an open file that is needed is the caller's
-    pub files : (v : World) (s : Objects) (p : ℕ) (t : Stage) (n : Need) → m.fits v s p t ≡ true → Contains (m.need v s p t) n → IsOwnFile p n.object
+    pub files : (v : World) (s : Objects) (p : ℕ) (t : Stage) (n : Need) → m.fits v s p t ≡ true →
+        Contains (m.need v s p t) n → IsOwnFile p n.object
     -- a user lock's holder hinders `lock` alone
-    pub user : (v : World) (s : Objects) (p : ℕ) (t : Stage) (n : Need) → m.fits v s p t ≡ true → Contains (m.need v s p t) n →
+    pub user : (v : World) (s : Objects) (p : ℕ) (t : Stage) (n : Need) → m.fits v s p t ≡ true →
+        Contains (m.need v s p t) n →
         n.by_user ≡ waits_for_user t.call n.object
     -- there are at most 255
-    pub most : (v : World) (s : Objects) (p : ℕ) (t : Stage) → m.fits v s p t ≡ true → length (m.need v s p t) ≤ 255
+    pub most : (v : World) (s : Objects) (p : ℕ) (t : Stage) → m.fits v s p t ≡ true →
+        length (m.need v s p t) ≤ 255
     -- their numbers are in their ranges
     pub ranges : (v : World) (images : ImageTable) (s : Objects) (p : ℕ) (t : Stage) (n : Need) →
         IsStanding m v images s p t → Contains (m.need v s p t) n → IsInRange n.object
     -- where the piece asks a point, the list ends with that point's objects
-    pub point : (v : World) (s : Objects) (p : ℕ) (t : Stage) (a : Point) → m.fits v s p t ≡ true → m.asks v s p t ≡ Some a →
+    pub point : (v : World) (s : Objects) (p : ℕ) (t : Stage) (a : Point) → m.fits v s p t ≡ true →
+        m.asks v s p t ≡ Some a →
         m.need v s p t ≡ before_point s a (m.need v s p t) ++ needs_of_point s a
     -- grafts are needed exclusively
     pub grafts : NeedsGraftsExclusively
@@ -180,129 +198,185 @@ module _ (m : Meaning) where
   -- The points that pieces ask.
   pub record AskLaws : Type 0 where
     -- states that agree on the objects of the piece have the same point asked
-    pub looks : (v : World) (s u : Objects) (p : ℕ) (t : Stage) → m.fits v s p t ≡ true → m.fits v u p t ≡ true →
+    pub looks : (v : World) (s u : Objects) (p : ℕ) (t : Stage) → m.fits v s p t ≡ true →
+        m.fits v u p t ≡ true →
         AgreeOn (m.need v s p t) s u → m.asks v s p t ≡ m.asks v u p t
     -- its numbers are in their ranges, and its arguments are four words
     pub ranges : (v : World) (images : ImageTable) (s : Objects) (p : ℕ) (t : Stage) (a : Point) →
         IsStanding m v images s p t → m.asks v s p t ≡ Some a → IsRightPoint a
     -- on alike states a point of the same kind is asked on both, or none
-    pub alike : (v : World) (s u : Objects) (p : ℕ) (t : Stage) → m.fits v s p t ≡ true → AreAlike s u →
+    pub alike : (v : World) (s u : Objects) (p : ℕ) (t : Stage) → m.fits v s p t ≡ true →
+        AreAlike s u →
         SameKindOfPoint (m.asks v s p t) (m.asks v u p t)
     -- on alike states the objects before the point are the same
-    pub alike_before : (v : World) (s u : Objects) (p : ℕ) (t : Stage) (a b : Point) → m.fits v s p t ≡ true → AreAlike s u →
-        m.asks v s p t ≡ Some a → m.asks v u p t ≡ Some b → before_point s a (m.need v s p t) ≡ before_point u b (m.need v u p t)
+    pub alike_before : (v : World) (s u : Objects) (p : ℕ) (t : Stage) (a b : Point) →
+        m.fits v s p t ≡ true → AreAlike s u →
+        m.asks v s p t ≡ Some a → m.asks v u p t ≡ Some b →
+        before_point s a (m.need v s p t) ≡ before_point u b (m.need v u p t)
     -- on alike states the same reading ahead is asked, but for the count; and the same serving, and
     -- the same change of a stream
-    pub alike_ahead : (v : World) (s u : Objects) (p : ℕ) (t : Stage) (a b : Point) → m.fits v s p t ≡ true → AreAlike s u →
+    pub alike_ahead : (v : World) (s u : Objects) (p : ℕ) (t : Stage) (a b : Point) →
+        m.fits v s p t ≡ true → AreAlike s u →
         m.asks v s p t ≡ Some a → m.asks v u p t ≡ Some b → SameAheadAsk (kind_of a.point) a b
 
   -- What a piece looks at and changes.
   pub record FootprintLaws : Type 0 where
     -- on states that agree on what it needs, and on who lives, a piece does the same
-    pub looks : (v : World) (images : ImageTable) (s u : Objects) (blocks : Blocks) (p : ℕ) (t : Stage) (answer : Option Answer) (io : List Bool) →
-        IsReady m v images s p t answer → IsReady m v images u p t answer → AgreeOn (m.need v s p t) s u → SameLiving s u →
-        PieceAlike (m.need v s p t) (m.piece v images s blocks p t answer io) (m.piece v images u blocks p t answer io)
+    pub looks : (v : World) (images : ImageTable) (s u : Objects) (blocks : Blocks) (p : ℕ)
+        (t : Stage) (answer : Option Answer) (io : List Bool) →
+        IsReady m v images s p t answer → IsReady m v images u p t answer →
+        AgreeOn (m.need v s p t) s u → SameLiving s u →
+        PieceAlike (m.need v s p t) (m.piece v images s blocks p t answer io)
+        (m.piece v images u blocks p t answer io)
     -- a piece changes no object but those that it needs exclusively
-    pub changes : (v : World) (images : ImageTable) (s : Objects) (blocks : Blocks) (p : ℕ) (t : Stage) (answer : Option Answer) (io : List Bool) (o : Object) →
-        IsReady m v images s p t answer → IsInRange o → is_needed_exclusively o (m.need v s p t) ≡ false →
+    pub changes : (v : World) (images : ImageTable) (s : Objects) (blocks : Blocks) (p : ℕ)
+        (t : Stage) (answer : Option Answer) (io : List Bool) (o : Object) →
+        IsReady m v images s p t answer → IsInRange o →
+        is_needed_exclusively o (m.need v s p t) ≡ false →
         SameAt o (m.piece v images s blocks p t answer io).objects s
     -- a piece that asks looks at the objects before the point alone
-    pub asking_looks : (v : World) (images : ImageTable) (s u : Objects) (blocks : Blocks) (p : ℕ) (t : Stage) (answer : Option Answer) (io : List Bool) (a : Point) →
-        IsReady m v images s p t answer → IsReady m v images u p t answer → m.asks v s p t ≡ Some a →
+    pub asking_looks : (v : World) (images : ImageTable) (s u : Objects) (blocks : Blocks) (p : ℕ)
+        (t : Stage) (answer : Option Answer) (io : List Bool) (a : Point) →
+        IsReady m v images s p t answer → IsReady m v images u p t answer →
+        m.asks v s p t ≡ Some a →
         AgreeOn (before_point s a (m.need v s p t)) s u → SameLiving s u →
-        PieceAlike (before_point s a (m.need v s p t)) (m.piece v images s blocks p t answer io) (m.piece v images u blocks p t answer io)
+        PieceAlike (before_point s a (m.need v s p t)) (m.piece v images s blocks p t answer io)
+        (m.piece v images u blocks p t answer io)
     -- and changes none but those before the point
-    pub asking_changes : (v : World) (images : ImageTable) (s : Objects) (blocks : Blocks) (p : ℕ) (t : Stage) (answer : Option Answer) (io : List Bool) (a : Point) (o : Object) →
+    pub asking_changes : (v : World) (images : ImageTable) (s : Objects) (blocks : Blocks) (p : ℕ)
+        (t : Stage) (answer : Option Answer) (io : List Bool) (a : Point) (o : Object) →
         IsReady m v images s p t answer → IsInRange o → m.asks v s p t ≡ Some a →
-        is_needed_exclusively o (before_point s a (m.need v s p t)) ≡ false → SameAt o (m.piece v images s blocks p t answer io).objects s
+        is_needed_exclusively o (before_point s a (m.need v s p t)) ≡ false →
+        SameAt o (m.piece v images s blocks p t answer io).objects s
 
-  -- A piece that is refused changes neither the state nor the disk's blocks, but for a `sync`, which keeps what it wrote.
+  -- A piece that is refused changes neither the state nor the disk's blocks, but for a `sync`,
+  -- which keeps what it wrote.
   abbrev pub RefusalsChangeNothing : Type 0
   RefusalsChangeNothing =
-      (v : World) (images : ImageTable) (s : Objects) (blocks : Blocks) (p : ℕ) (t : Stage) (answer : Option Answer) (io : List Bool) (why : Refusal) →
+      (v : World) (images : ImageTable) (s : Objects) (blocks : Blocks) (p : ℕ) (t : Stage)
+      (answer : Option Answer) (io : List Bool) (why : Refusal) →
       t.call ≢ Sync → (m.piece v images s blocks p t answer io).after ≡ Fails why →
-      ((m.piece v images s blocks p t answer io).objects ≡ s) × ((m.piece v images s blocks p t answer io).blocks ≡ blocks)
+      ((m.piece v images s blocks p t answer io).objects ≡ s)
+      × ((m.piece v images s blocks p t answer io).blocks ≡ blocks)
 
   -- What a piece keeps, and what it may do but once.
   pub record PieceLaws : Type 0 where
     -- a sound store stays sound
-    pub store : (v : World) (images : ImageTable) (s : Objects) (blocks : Blocks) (p : ℕ) (t : Stage) (answer : Option Answer) (io : List Bool) →
-        IsReady m v images s p t answer → HasWholeBlocks v blocks → IsSoundStore v (m.piece v images s blocks p t answer io).objects
+    pub store : (v : World) (images : ImageTable) (s : Objects) (blocks : Blocks) (p : ℕ)
+        (t : Stage) (answer : Option Answer) (io : List Bool) →
+        IsReady m v images s p t answer → HasWholeBlocks v blocks →
+        IsSoundStore v (m.piece v images s blocks p t answer io).objects
     -- the images of grafts stay loaded
-    pub images_loaded : (v : World) (images : ImageTable) (s : Objects) (blocks : Blocks) (p : ℕ) (t : Stage) (answer : Option Answer) (io : List Bool) →
-        IsReady m v images s p t answer → ImagesAreLoaded images s.accounts → ImagesAreLoaded images (m.piece v images s blocks p t answer io).objects.accounts
+    pub images_loaded : (v : World) (images : ImageTable) (s : Objects) (blocks : Blocks) (p : ℕ)
+        (t : Stage) (answer : Option Answer) (io : List Bool) →
+        IsReady m v images s p t answer → ImagesAreLoaded images s.accounts →
+        ImagesAreLoaded images (m.piece v images s blocks p t answer io).objects.accounts
     -- what fits the disk still fits
-    pub disk : (v : World) (images : ImageTable) (s : Objects) (blocks : Blocks) (p : ℕ) (t : Stage) (answer : Option Answer) (io : List Bool) →
-        IsReady m v images s p t answer → FitsDisk v (m.piece v images s blocks p t answer io).objects.things.cache
+    pub disk : (v : World) (images : ImageTable) (s : Objects) (blocks : Blocks) (p : ℕ) (t : Stage)
+        (answer : Option Answer) (io : List Bool) →
+        IsReady m v images s p t answer →
+        FitsDisk v (m.piece v images s blocks p t answer io).objects.things.cache
     -- a refusal changes nothing (`RefusalsChangeNothing`)
     pub refused : RefusalsChangeNothing
     -- blocks stay whole
-    pub whole_blocks : (v : World) (images : ImageTable) (s : Objects) (blocks : Blocks) (p : ℕ) (t : Stage) (answer : Option Answer) (io : List Bool) →
-        IsReady m v images s p t answer → HasWholeBlocks v blocks → HasWholeBlocks v (m.piece v images s blocks p t answer io).blocks
+    pub whole_blocks : (v : World) (images : ImageTable) (s : Objects) (blocks : Blocks) (p : ℕ)
+        (t : Stage) (answer : Option Answer) (io : List Bool) →
+        IsReady m v images s p t answer → HasWholeBlocks v blocks →
+        HasWholeBlocks v (m.piece v images s blocks p t answer io).blocks
     -- no piece ends another process than the caller
-    pub others_live : (v : World) (images : ImageTable) (s : Objects) (blocks : Blocks) (p q : ℕ) (t : Stage) (answer : Option Answer) (io : List Bool) →
-        IsReady m v images s p t answer → q ≢ p → lives s.things.queue q ≡ true → lives (m.piece v images s blocks p t answer io).objects.things.queue q ≡ true
+    pub others_live : (v : World) (images : ImageTable) (s : Objects) (blocks : Blocks) (p q : ℕ)
+        (t : Stage) (answer : Option Answer) (io : List Bool) →
+        IsReady m v images s p t answer → q ≢ p → lives s.things.queue q ≡ true →
+        lives (m.piece v images s blocks p t answer io).objects.things.queue q ≡ true
     -- a piece that ends the caller ends its call
-    pub caller_lives : (v : World) (images : ImageTable) (s : Objects) (blocks : Blocks) (p : ℕ) (t : Stage) (answer : Option Answer) (io : List Bool) →
-        IsReady m v images s p t answer → continues (m.piece v images s blocks p t answer io).after ≡ true →
+    pub caller_lives : (v : World) (images : ImageTable) (s : Objects) (blocks : Blocks) (p : ℕ)
+        (t : Stage) (answer : Option Answer) (io : List Bool) →
+        IsReady m v images s p t answer →
+        continues (m.piece v images s blocks p t answer io).after ≡ true →
         lives (m.piece v images s blocks p t answer io).objects.things.queue p ≡ true
     -- a piece puts at most one graft in place
-    pub one_graft : (v : World) (images : ImageTable) (s : Objects) (blocks : Blocks) (p : ℕ) (t : Stage) (answer : Option Answer) (io : List Bool) (q pt r pu : ℕ) →
-        IsReady m v images s p t answer → is_new_graft s (m.piece v images s blocks p t answer io).objects q pt ≡ true →
-        is_new_graft s (m.piece v images s blocks p t answer io).objects r pu ≡ true → (q ≡ r) × (pt ≡ pu)
+    pub one_graft : (v : World) (images : ImageTable) (s : Objects) (blocks : Blocks) (p : ℕ)
+        (t : Stage) (answer : Option Answer) (io : List Bool) (q pt r pu : ℕ) →
+        IsReady m v images s p t answer →
+        is_new_graft s (m.piece v images s blocks p t answer io).objects q pt ≡ true →
+        is_new_graft s (m.piece v images s blocks p t answer io).objects r pu ≡ true → (q ≡ r)
+        × (pt ≡ pu)
     -- and then ends its call
-    pub graft_ends : (v : World) (images : ImageTable) (s : Objects) (blocks : Blocks) (p : ℕ) (t : Stage) (answer : Option Answer) (io : List Bool) (q pt : ℕ) →
-        IsReady m v images s p t answer → is_new_graft s (m.piece v images s blocks p t answer io).objects q pt ≡ true →
+    pub graft_ends : (v : World) (images : ImageTable) (s : Objects) (blocks : Blocks) (p : ℕ)
+        (t : Stage) (answer : Option Answer) (io : List Bool) (q pt : ℕ) →
+        IsReady m v images s p t answer →
+        is_new_graft s (m.piece v images s blocks p t answer io).objects q pt ≡ true →
         continues (m.piece v images s blocks p t answer io).after ≡ false
     -- a piece gives at most one slice
-    pub one_slice : (v : World) (images : ImageTable) (s : Objects) (blocks : Blocks) (p : ℕ) (t : Stage) (answer : Option Answer) (io : List Bool) →
-        IsReady m v images s p t answer → slices_in (m.piece v images s blocks p t answer io).objects.things.queue ≤ slices_in s.things.queue + 1
+    pub one_slice : (v : World) (images : ImageTable) (s : Objects) (blocks : Blocks) (p : ℕ)
+        (t : Stage) (answer : Option Answer) (io : List Bool) →
+        IsReady m v images s p t answer →
+        slices_in (m.piece v images s blocks p t answer io).objects.things.queue
+        ≤ slices_in s.things.queue + 1
     -- and then ends its call
-    pub slice_ends : (v : World) (images : ImageTable) (s : Objects) (blocks : Blocks) (p : ℕ) (t : Stage) (answer : Option Answer) (io : List Bool) →
-        IsReady m v images s p t answer → slices_in s.things.queue < slices_in (m.piece v images s blocks p t answer io).objects.things.queue →
+    pub slice_ends : (v : World) (images : ImageTable) (s : Objects) (blocks : Blocks) (p : ℕ)
+        (t : Stage) (answer : Option Answer) (io : List Bool) →
+        IsReady m v images s p t answer →
+        slices_in s.things.queue < slices_in
+        (m.piece v images s blocks p t answer io).objects.things.queue →
         continues (m.piece v images s blocks p t answer io).after ≡ false
 
   -- A piece and the calls of the disk that it makes.
   pub record DiskLaws : Type 0 where
     -- what a piece does looks at what the disk calls that it makes do, and at nothing of later ones
-    pub own_calls : (v : World) (images : ImageTable) (s : Objects) (blocks : Blocks) (p : ℕ) (t : Stage) (answer : Option Answer) (io rest : List Bool) →
+    pub own_calls : (v : World) (images : ImageTable) (s : Objects) (blocks : Blocks) (p : ℕ)
+        (t : Stage) (answer : Option Answer) (io rest : List Bool) →
         (m.piece v images s blocks p t answer io).calls ≤ length io →
         m.piece v images s blocks p t answer (io ++ rest) ≡ m.piece v images s blocks p t answer io
     -- it makes at most one for each frame
-    pub few_calls : (v : World) (images : ImageTable) (s : Objects) (blocks : Blocks) (p : ℕ) (t : Stage) (answer : Option Answer) (io : List Bool) →
+    pub few_calls : (v : World) (images : ImageTable) (s : Objects) (blocks : Blocks) (p : ℕ)
+        (t : Stage) (answer : Option Answer) (io : List Bool) →
         IsReady m v images s p t answer → (m.piece v images s blocks p t answer io).calls ≤ v.frames
     -- it answers a disk fault only where one of them failed
-    pub fault : (v : World) (images : ImageTable) (s : Objects) (blocks : Blocks) (p : ℕ) (t : Stage) (answer : Option Answer) (io : List Bool) →
+    pub fault : (v : World) (images : ImageTable) (s : Objects) (blocks : Blocks) (p : ℕ)
+        (t : Stage) (answer : Option Answer) (io : List Bool) →
         (m.piece v images s blocks p t answer io).after ≡ Fails DiskFault →
         list_any (λ failed. failed) (take (m.piece v images s blocks p t answer io).calls io) ≡ true
 
   -- At which stages a call may stand, and for how long.
   pub record StageLaws : Type 0 where
     -- a call begins at a stage that fits
-    pub first : (v : World) (images : ImageTable) (s : Objects) (p : ℕ) (c : SysCall) (t : Stage) → m.early v images p c ≡ Ok t → m.fits v s p t ≡ true
+    pub first : (v : World) (images : ImageTable) (s : Objects) (p : ℕ) (c : SysCall) (t : Stage) →
+        m.early v images p c ≡ Ok t → m.fits v s p t ≡ true
     -- that is a stage of the call itself
-    pub same_call : (v : World) (images : ImageTable) (p : ℕ) (c : SysCall) (t : Stage) → m.early v images p c ≡ Ok t → t.call ≡ c
+    pub same_call : (v : World) (images : ImageTable) (p : ℕ) (c : SysCall) (t : Stage) →
+        m.early v images p c ≡ Ok t → t.call ≡ c
     -- a piece goes on to a stage that fits
-    pub next : (v : World) (images : ImageTable) (s : Objects) (blocks : Blocks) (p : ℕ) (t u : Stage) (answer : Option Answer) (io : List Bool) →
-        IsReady m v images s p t answer → (m.piece v images s blocks p t answer io).after ≡ Continues u →
+    pub next : (v : World) (images : ImageTable) (s : Objects) (blocks : Blocks) (p : ℕ)
+        (t u : Stage) (answer : Option Answer) (io : List Bool) →
+        IsReady m v images s p t answer →
+        (m.piece v images s blocks p t answer io).after ≡ Continues u →
         m.fits v (m.piece v images s blocks p t answer io).objects p u ≡ true
     -- and to one of the same call
-    pub same_call_next : (v : World) (images : ImageTable) (s : Objects) (blocks : Blocks) (p : ℕ) (t u : Stage) (answer : Option Answer) (io : List Bool) →
-        IsReady m v images s p t answer → (m.piece v images s blocks p t answer io).after ≡ Continues u → u.call ≡ t.call
+    pub same_call_next : (v : World) (images : ImageTable) (s : Objects) (blocks : Blocks) (p : ℕ)
+        (t u : Stage) (answer : Option Answer) (io : List Bool) →
+        IsReady m v images s p t answer →
+        (m.piece v images s blocks p t answer io).after ≡ Continues u → u.call ≡ t.call
     -- whether a stage fits looks at the caller's open files alone, windows apart
-    pub fits_same : (v : World) (s u : Objects) (p : ℕ) (t : Stage) → SameFiles p s u → m.fits v s p t ≡ m.fits v u p t
+    pub fits_same : (v : World) (s u : Objects) (p : ℕ) (t : Stage) → SameFiles p s u →
+        m.fits v s p t ≡ m.fits v u p t
     -- what is granted is also granted with more images loaded
-    pub more_images : (v : World) (images more : ImageTable) (p : ℕ) (c : SysCall) (t : Stage) → Extends images more →
+    pub more_images : (v : World) (images more : ImageTable) (p : ℕ) (c : SysCall) (t : Stage) →
+        Extends images more →
         m.early v images p c ≡ Ok t → m.early v more p c ≡ Ok t
     -- 1 to 15 pieces are left
-    pub some_left : (v : World) (images : ImageTable) (s : Objects) (p : ℕ) (t : Stage) → IsStanding m v images s p t →
+    pub some_left : (v : World) (images : ImageTable) (s : Objects) (p : ℕ) (t : Stage) →
+        IsStanding m v images s p t →
         (1 ≤ m.left v s p t) × (m.left v s p t ≤ 15)
     -- and fewer after each
-    pub left_falls : (v : World) (images : ImageTable) (s : Objects) (blocks : Blocks) (p : ℕ) (t u : Stage) (answer : Option Answer) (io : List Bool) →
-        IsReady m v images s p t answer → (m.piece v images s blocks p t answer io).after ≡ Continues u →
+    pub left_falls : (v : World) (images : ImageTable) (s : Objects) (blocks : Blocks) (p : ℕ)
+        (t u : Stage) (answer : Option Answer) (io : List Bool) →
+        IsReady m v images s p t answer →
+        (m.piece v images s blocks p t answer io).after ≡ Continues u →
         m.left v (m.piece v images s blocks p t answer io).objects p u < m.left v s p t
     -- how many looks at the caller's open files alone, windows apart
-    pub left_same : (v : World) (s u : Objects) (p : ℕ) (t : Stage) → SameFiles p s u → m.left v s p t ≡ m.left v u p t
+    pub left_same : (v : World) (s u : Objects) (p : ℕ) (t : Stage) → SameFiles p s u →
+        m.left v s p t ≡ m.left v u p t
 
 -- The laws of a table of calls: of its needs, its asks, its footprints, its pieces, its calls of
 -- the disk and its stages.

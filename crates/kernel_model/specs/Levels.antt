@@ -40,13 +40,15 @@ pub record Config : Type 0 where
   pub now : Objects
   pub levels : List Level
 
--- what an instruction, or a drop, does beyond its level: it asked a point, was charged, or lost a graft
+-- what an instruction, or a drop, does beyond its level: it asked a point, was charged, or lost a
+-- graft
 pub data Effect : Type 0 where
   Asked : (point : ℕ) → Effect
   Charged : (point : ℕ) → Kind → Effect
   Removed : (point : ℕ) → Effect
 
--- what one instruction, or the drop of a level, comes to: what is said of it, the config after it, its effects in order
+-- what one instruction, or the drop of a level, comes to: what is said of it, the config after it,
+-- its effects in order
 pub record Outcome : Type 0 where
   pub said : Micro
   pub config : Config
@@ -108,7 +110,8 @@ new_level images w p d q pt args touched =
     record {
       owner = q;
       point = pt;
-      machine = first_machine (base_of p d) args (λ i. or_zero (slice_get (body_of images w.accounts q pt) i));
+      machine = first_machine (base_of p d) args
+          (λ i. or_zero (slice_get (body_of images w.accounts q pt) i));
       count = 0;
       touched = touched;
       args = args;
@@ -172,7 +175,8 @@ answer_innermost pt r0 r1 (l ∷ ls) = with_machine (answered (kind_of pt) r0 r1
 abbrev pub state_without : Level → Objects → Objects
 state_without l w = record { accounts = removed l.owner l.point w.accounts; things = l.kept }
 
--- the levels outside a dropped one, of which the innermost gets the default answer on the state after the drop
+-- the levels outside a dropped one, of which the innermost gets the default answer on the state
+-- after the drop
 abbrev pub asker_of : World → Level → Things → List Level → List Level
 asker_of v l w ls = let d = default_of v w l.owner l.point in answer_innermost l.point d.0 d.1 ls
 
@@ -191,4 +195,7 @@ drop_innermost v w l ls cause =
 abbrev pub drop_level : World → Objects → List Level → ℕ → Cause → Outcome
 drop_level v w [] d cause = goes_on w []
 drop_level v w (l ∷ ls) d cause =
-    elim (length ls == d) [ true ↦ drop_innermost v w l ls cause | false ↦ drop_level v w ls d cause ]
+    elim (length ls == d) [
+      | true ↦ drop_innermost v w l ls cause
+      | false ↦ drop_level v w ls d cause
+    ]

@@ -113,16 +113,22 @@ user_of users _ = None
 -- a user lock hinders, unless q itself holds it
 abbrev pub user_hindrance : ℕ → Object → Option ℕ → Option Hindrance
 user_hindrance q o None = None
-user_hindrance q o (Some h) = cond (h == q) None (Some (record { object = o; holder = h; by_user = true }))
+user_hindrance q o (Some h) =
+    cond (h == q) None (Some (record { object = o; holder = h; by_user = true }))
 
 -- what hinders one need: a call that holds its object, or else a user lock, where that counts
 abbrev pub hindrance_by : (ℕ → Option ℕ) → ℕ → Need → Option ℕ → Option Hindrance
 hindrance_by users q n (Some h) = Some (record { object = n.object; holder = h; by_user = false })
-hindrance_by users q n None = cond n.by_user (user_hindrance q n.object (user_of users n.object)) None
+hindrance_by users q n None =
+    cond n.by_user (user_hindrance q n.object (user_of users n.object)) None
 
 -- A step of p is hindered by the first of its needs, in order, that another call holds in conflict
 -- or that is another's user lock; q's user locks don't hinder it.
-abbrev pub first_hindrance : LockTable → (users : ℕ → Option ℕ) → (p q : ℕ) → List Need → Option Hindrance
+abbrev pub first_hindrance : LockTable → (users : ℕ → Option ℕ) → (p q : ℕ) → List Need →
+    Option Hindrance
 first_hindrance t users p q [] = None
 first_hindrance t users p q (n ∷ ns) =
-    elim (hindrance_by users q n (lowest_holder t p n.object n.mode)) [ Some h ↦ Some h | None ↦ first_hindrance t users p q ns ]
+    elim (hindrance_by users q n (lowest_holder t p n.object n.mode)) [
+      | Some h ↦ Some h
+      | None ↦ first_hindrance t users p q ns
+    ]

@@ -54,7 +54,8 @@ pub record Piece : Type 0 where
   pub after : After
   pub calls : ℕ
 
--- the call of the disk of this number fails, where the list says of each call in order whether it fails
+-- the call of the disk of this number fails, where the list says of each call in order whether it
+-- fails
 abbrev pub disk_fails : List Bool → ℕ → Bool
 disk_fails io n = slice_index_or io n false
 
@@ -62,13 +63,15 @@ disk_fails io n = slice_index_or io n false
 -- point that asks, what it does in one step, at which stages a call may stand, and how many pieces
 -- it may still take.
 pub record Meaning : Type 0 where
-  -- the stage at which a call of a process begins, or its refusal of least number that needs no object
+  -- the stage at which a call of a process begins, or its refusal of least number that needs no
+  -- object
   pub early : World → ImageTable → ℕ → SysCall → Result Stage Refusal
   -- the objects that the next piece needs, in order
   pub need : World → Objects → ℕ → Stage → List Need
   -- the point that the next piece asks
   pub asks : World → Objects → ℕ → Stage → Option Point
-  -- the next piece in one step, with an answer or by default, and with what the calls of the disk from here on will do
+  -- the next piece in one step, with an answer or by default, and with what the calls of the disk
+  -- from here on will do
   pub piece : World → ImageTable → Objects → Blocks → ℕ → Stage → Option Answer → List Bool → Piece
   -- a call may stand at this stage
   pub fits : World → Objects → ℕ → Stage → Bool

@@ -44,7 +44,8 @@ point_needs a q pt = exclusive (Graft q pt) ∷ payer_needs q (a.graft q pt)
 -- the least number from p on that doesn't live, among n
 abbrev pub free_process : List QueueRow → (n p : ℕ) → Option ℕ
 free_process queue zero p = None
-free_process queue (suc n) p = elim (lives queue p) [ true ↦ free_process queue n (suc p) | false ↦ Some p ]
+free_process queue (suc n) p =
+    elim (lives queue p) [ true ↦ free_process queue n (suc p) | false ↦ Some p ]
 
 -- ---- the block that a piece fetches
 
@@ -71,7 +72,10 @@ ahead_block v (Some o) = Ok (block_of v o.file o.start)
 abbrev pub frame_with : CacheValue → ℕ → List ℕ → Option ℕ
 frame_with c b [] = None
 frame_with c b (f ∷ fs) =
-    elim (c.frame f) [ None ↦ frame_with c b fs | Some r ↦ elim (r.block == b) [ true ↦ Some f | false ↦ frame_with c b fs ] ]
+    elim (c.frame f) [
+      | None ↦ frame_with c b fs
+      | Some r ↦ elim (r.block == b) [ true ↦ Some f | false ↦ frame_with c b fs ]
+    ]
 
 -- the frame in use that holds a block
 abbrev pub frame_of_block : CacheValue → ℕ → Option ℕ
@@ -89,7 +93,8 @@ candidate_by _ _ candidate = None
 
 -- the candidate for eviction, where a frame must be chosen for a block
 abbrev pub candidate_for : World → PolValue → CacheValue → ℕ → Option ℕ
-candidate_for v pol c b = candidate_by (frame_of_block c b) (free_frame c v.frames 0) (victim_among pol c c.lru)
+candidate_for v pol c b =
+    candidate_by (frame_of_block c b) (free_frame c v.frames 0) (victim_among pol c c.lru)
 
 -- the owner of a candidate, whose point is asked
 abbrev pub owner_asked : CacheValue → ℕ → ℕ
@@ -104,13 +109,18 @@ victim_needs a c (Some f) = shared (Pol 1) ∷ point_needs a (owner_asked c f) 4
 abbrev pub fetch_needs : World → Objects → Result ℕ Refusal → List Need
 fetch_needs v s (Err refusal) = []
 fetch_needs v s (Ok b) =
-    exclusive Cache ∷ victim_needs s.accounts s.things.cache (candidate_for v (s.things.pol 1) s.things.cache b)
+    exclusive Cache ∷ victim_needs s.accounts s.things.cache
+    (candidate_for v (s.things.pol 1) s.things.cache b)
 
 -- the point of the candidate's owner, for a block to come
 abbrev pub victim_ask : CacheValue → ℕ → Option ℕ → Option Point
 victim_ask c b None = None
 victim_ask c b (Some f) =
-    Some (record { installer = owner_asked c f; point = 4; args = f ∷ b ∷ length (frames_of c (owner_asked c f)) ∷ 0 ∷ [] })
+    Some (record {
+      installer = owner_asked c f;
+      point = 4;
+      args = f ∷ b ∷ length (frames_of c (owner_asked c f)) ∷ 0 ∷ [];
+    })
 
 -- the point that a fetch asks
 abbrev pub fetch_ask : World → Things → Result ℕ Refusal → Option Point
@@ -142,13 +152,17 @@ slice_needs a (Some c) = point_needs a c 5
 abbrev pub yield_needs : ℕ → Objects → List Need
 yield_needs zero s = exclusive Queue ∷ []
 yield_needs (suc n) s =
-    exclusive Queue ∷ shared (Pol 2) ∷ slice_needs s.accounts (next_process (s.things.pol 2) s.things.queue)
+    exclusive Queue ∷ shared (Pol 2)
+    ∷ slice_needs s.accounts (next_process (s.things.pol 2) s.things.queue)
 
 -- first the block itself, then how far to read ahead, then each block ahead
 abbrev pub read_needs : ℕ → World → Objects → (p fd i off len : ℕ) → List Need
-read_needs zero v s p fd i off len = exclusive (OpenFile p fd) ∷ fetch_needs v s (file_block v (s.things.file p fd) i off len)
-read_needs (suc zero) v s p fd i off len = exclusive (OpenFile p fd) ∷ shared (Pol 0) ∷ point_needs s.accounts p fd
-read_needs (suc (suc n)) v s p fd i off len = exclusive (OpenFile p fd) ∷ fetch_needs v s (ahead_block v (s.things.file p fd))
+read_needs zero v s p fd i off len =
+    exclusive (OpenFile p fd) ∷ fetch_needs v s (file_block v (s.things.file p fd) i off len)
+read_needs (suc zero) v s p fd i off len =
+    exclusive (OpenFile p fd) ∷ shared (Pol 0) ∷ point_needs s.accounts p fd
+read_needs (suc (suc n)) v s p fd i off len =
+    exclusive (OpenFile p fd) ∷ fetch_needs v s (ahead_block v (s.things.file p fd))
 
 -- the accounts of a gift, up to the one that shows the refusal
 abbrev pub payment_needs : Accounts → (p q : ℕ) → Kind → ℕ → List Need
@@ -157,7 +171,8 @@ payment_needs a p q kind n =
 
 -- the queue, which shows whether the receiver lives, and then the accounts
 abbrev pub give_needs : Objects → (p q : ℕ) → Kind → ℕ → List Need
-give_needs s p q kind n = shared Queue ∷ cond (lives s.things.queue q) (payment_needs s.accounts p q kind n) []
+give_needs s p q kind n =
+    shared Queue ∷ cond (lives s.things.queue q) (payment_needs s.accounts p q kind n) []
 
 -- the objects of the piece of this number, from 0
 abbrev pub piece_needs : SysCall → ℕ → World → Objects → ℕ → List Need
@@ -168,7 +183,8 @@ piece_needs (OpenName name) n v s p = map (λ fd. exclusive (OpenFile p fd)) (ra
 piece_needs (CloseFd fd) n v s p = exclusive (OpenFile p fd) ∷ []
 piece_needs (Read fd i off len) n v s p = read_needs n v s p fd i off len
 piece_needs (Write fd i off bytes) n v s p =
-    shared (OpenFile p fd) ∷ fetch_needs v s (file_block v (s.things.file p fd) i off (length bytes))
+    shared (OpenFile p fd)
+    ∷ fetch_needs v s (file_block v (s.things.file p fd) i off (length bytes))
 piece_needs Sync n v s p = exclusive Cache ∷ []
 piece_needs (TakeLock u) n v s p = record { object = Lock u; mode = Exclusive; by_user = true } ∷ []
 piece_needs (FreeLock u) n v s p = exclusive (Lock u) ∷ []
@@ -197,12 +213,14 @@ yield_ask (suc n) v w = slice_ask v w (next_process (w.pol 2) w.queue)
 -- the points of the three kinds of pieces of a read
 abbrev pub read_ask : ℕ → World → Things → (p fd i off len : ℕ) → Option Point
 read_ask zero v w p fd i off len = fetch_ask v w (file_block v (w.file p fd) i off len)
-read_ask (suc zero) v w p fd i off len = Some (record { installer = p; point = fd; args = args_by Ahead v w p fd })
+read_ask (suc zero) v w p fd i off len =
+    Some (record { installer = p; point = fd; args = args_by Ahead v w p fd })
 read_ask (suc (suc n)) v w p fd i off len = fetch_ask v w (ahead_block v (w.file p fd))
 
 -- the point that the piece of this number asks
 abbrev pub piece_ask : SysCall → ℕ → World → Things → ℕ → Option Point
 piece_ask Yield n v w p = yield_ask n v w
 piece_ask (Read fd i off len) n v w p = read_ask n v w p fd i off len
-piece_ask (Write fd i off bytes) n v w p = fetch_ask v w (file_block v (w.file p fd) i off (length bytes))
+piece_ask (Write fd i off bytes) n v w p =
+    fetch_ask v w (file_block v (w.file p fd) i off (length bytes))
 piece_ask c n v w p = None

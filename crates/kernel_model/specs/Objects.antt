@@ -57,9 +57,11 @@ pub record Things : Type 0 where
   pub cache : CacheValue
   pub lock : ℕ → Option ℕ
   pub pol : ℕ → PolValue
-  -- what is kept for the graft at each point, by place: it counts where a graft stands whose image keeps its segment
+  -- what is kept for the graft at each point, by place: it counts where a graft stands whose image
+  -- keeps its segment
   pub seg : ℕ → ℕ → ℕ → ℕ
-  -- the handlers of the event points, each a process and a point, in the order in which they were put last
+  -- the handlers of the event points, each a process and a point, in the order in which they were
+  -- put last
   pub handlers : List (ℕ × ℕ)
 
 -- what is kept where nothing is
@@ -116,7 +118,8 @@ same_object _ _ = false
 
 -- two states have the same value of an object
 abbrev pub SameAt : Object → Objects → Objects → Type 0
-SameAt (Graft q pt) s t = (s.accounts.graft q pt ≡ t.accounts.graft q pt) × (s.things.seg q pt ≡ t.things.seg q pt)
+SameAt (Graft q pt) s t = (s.accounts.graft q pt ≡ t.accounts.graft q pt)
+    × (s.things.seg q pt ≡ t.things.seg q pt)
 SameAt (Acct q) s t = s.accounts.acct q ≡ t.accounts.acct q
 SameAt (Cell q k) s t = s.things.cell q k ≡ t.things.cell q k
 SameAt (OpenFile q fd) s t = s.things.file q fd ≡ t.things.file q fd
@@ -160,4 +163,7 @@ mix_things test w s =
 
 -- `mix test w s` has the objects of w where the test holds, and those of s elsewhere.
 abbrev pub mix : (Object → Bool) → Objects → Objects → Objects
-mix test w s = record { accounts = mix_accounts test w.accounts s.accounts; things = mix_things test w.things s.things }
+mix test w s = record {
+  accounts = mix_accounts test w.accounts s.accounts;
+  things = mix_things test w.things s.things;
+}

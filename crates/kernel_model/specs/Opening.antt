@@ -8,10 +8,14 @@ use Rattle.kernel_model.specs.Kernel.{Kernel}
 abbrev pub opening_account : ℕ → ℕ → AcctValue
 opening_account grant q = record { balance = λ k. cond (q == 0) grant 0; spent = λ k. 0 }
 
--- policy 1 reads ahead, by 2 blocks; policy 2 of that kind would by 1; all else is policy 0 and parameter 0
+-- policy 1 reads ahead, by 2 blocks; policy 2 of that kind would by 1; all else is policy 0 and
+-- parameter 0
 abbrev pub opening_policy : ℕ → PolValue
 opening_policy kind =
-    record { chosen = cond (kind == 0) 1 0; param = λ j. cond (kind == 0) (cond (j == 1) 2 (cond (j == 2) 1 0)) 0 }
+    record {
+      chosen = cond (kind == 0) 1 0;
+      param = λ j. cond (kind == 0) (cond (j == 1) 2 (cond (j == 2) 1 0)) 0;
+    }
 
 -- nothing is installed, and root has the whole grant
 abbrev pub opening_accounts : ℕ → Accounts

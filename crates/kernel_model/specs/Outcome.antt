@@ -33,7 +33,10 @@ lines_after text (byte ∷ bytes) =
 abbrev pub rest_after : List ℕ → List ℕ → List ℕ
 rest_after text [] = text
 rest_after text (byte ∷ bytes) =
-    elim (ends_line text byte) [ true ↦ rest_after [] bytes | false ↦ rest_after (text ++ byte ∷ []) bytes ]
+    elim (ends_line text byte) [
+      | true ↦ rest_after [] bytes
+      | false ↦ rest_after (text ++ byte ∷ []) bytes
+    ]
 
 -- the most bytes of a script
 abbrev pub SCRIPT_BYTES : ℕ
@@ -50,7 +53,8 @@ pub data Ending : Type 0 where
   -- with one byte more than a script may have
   Over : Ending
 
--- a status, the pieces that are written (one for each line, and the last lines of the run), and the disk's blocks
+-- a status, the pieces that are written (one for each line, and the last lines of the run), and the
+-- disk's blocks
 pub record Outcome : Type 0 where
   pub status : ℕ
   pub pieces : List (List ℕ)
@@ -72,7 +76,8 @@ left_lines (Some k) = flat_map (λ p. left_line p (k.call p)) processes
 
 -- an outcome of this status, whose last piece is written after the others
 abbrev pub ends_with : ℕ → Session → List (List ℕ) → List ℕ → Outcome
-ends_with status s pieces last = record { status = status; pieces = pieces ++ last ∷ []; blocks = s.blocks }
+ends_with status s pieces last =
+    record { status = status; pieces = pieces ++ last ∷ []; blocks = s.blocks }
 
 -- an outcome of this status, and no more is written
 abbrev pub ends_as : ℕ → Session → List (List ℕ) → Outcome
@@ -89,9 +94,11 @@ at_ending End s pieces rest = at_end s pieces rest
 at_ending Fault s pieces rest = ends_as 3 s pieces
 at_ending Over s pieces rest = ends_as 7 s pieces
 
--- the outcome for a session after all lines; where one was refused, it doesn't matter how reading ends
+-- the outcome for a session after all lines; where one was refused, it doesn't matter how reading
+-- ends
 abbrev pub outcome_of : Ending → Session → List (List ℕ) → List ℕ → Outcome
-outcome_of e s pieces rest = elim s.refused [ true ↦ ends_as 2 s pieces | false ↦ at_ending e s pieces rest ]
+outcome_of e s pieces rest =
+    elim s.refused [ true ↦ ends_as 2 s pieces | false ↦ at_ending e s pieces rest ]
 
 -- A run that took these bytes and ended so has a status, pieces and the disk's blocks: 2 where a
 -- line is refused, else 3 after a failed read, 7 past the most bytes, 2 for an unfinished line, and
@@ -102,7 +109,8 @@ outcome b keys taken e d ios =
     let script = take SCRIPT_BYTES taken in
     let lines = lines_after [] script in
     let s = first_session d in
-    outcome_of e (session_after b keys d.size s lines ios) (pieces_of b keys d.size s lines ios) (rest_after [] script)
+    outcome_of e (session_after b keys d.size s lines ios) (pieces_of b keys d.size s lines ios)
+    (rest_after [] script)
 
 -- bytes that stop within a piece: some pieces whole, and not all of the next
 pub record IsCutShort (pieces : List (List ℕ)) (bytes : List ℕ) : Type 0 where

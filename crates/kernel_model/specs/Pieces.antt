@@ -32,7 +32,8 @@ with_queue queue s = with_things (record (s.things) { queue = queue }) s
 abbrev pub spawn_piece : Objects → Option ℕ → Blocks → Piece
 spawn_piece s None blocks = refuses s blocks Full
 spawn_piece s (Some c) blocks =
-    leaves (with_queue (s.things.queue ++ record { process = c; nice = 20; slices = 0 } ∷ []) s) blocks (EndsWith (One c))
+    leaves (with_queue (s.things.queue ++ record { process = c; nice = 20; slices = 0 } ∷ []) s)
+    blocks (EndsWith (One c))
 
 -- an account of nothing
 abbrev pub empty_account : AcctValue
@@ -40,7 +41,10 @@ empty_account = record { balance = λ k. 0; spent = λ k. 0 }
 
 -- two accounts as one
 abbrev pub joint_account : AcctValue → AcctValue → AcctValue
-joint_account a b = record { balance = λ k. a.balance k + b.balance k; spent = λ k. a.spent k + b.spent k }
+joint_account a b = record {
+  balance = λ k. a.balance k + b.balance k;
+  spent = λ k. a.spent k + b.spent k;
+}
 
 -- the grafts of p at the first n points are taken out, and their balances go to its account
 abbrev pub without_grafts : (p n : ℕ) → Accounts → Accounts
@@ -49,7 +53,8 @@ without_grafts p (suc n) a = without_grafts p n (removed p n a)
 
 -- the account of p goes to process 0
 abbrev pub account_closed : ℕ → Accounts → Accounts
-account_closed p a = record a { acct = at p empty_account (at 0 (joint_account (a.acct p) (a.acct 0)) a.acct) }
+account_closed p a =
+    record a { acct = at p empty_account (at 0 (joint_account (a.acct p) (a.acct 0)) a.acct) }
 
 -- a frame whose owner changes from p to q
 abbrev pub handed_over : (p q : ℕ) → Option FrameValue → Option FrameValue
@@ -61,7 +66,8 @@ abbrev pub freed_by : ℕ → Option ℕ → Option ℕ
 freed_by p None = None
 freed_by p (Some q) = cond (q == p) None (Some q)
 
--- p's cells are 0, its files closed, its locks free, it isn't in the queue, its handlers are gone, and its frames are process 0's
+-- p's cells are 0, its files closed, its locks free, it isn't in the queue, its handlers are gone,
+-- and its frames are process 0's
 abbrev pub things_without : ℕ → Things → Things
 things_without p w =
     record {
@@ -78,19 +84,26 @@ things_without p w =
 -- a process leaves
 abbrev pub exit_piece : Objects → ℕ → Blocks → Piece
 exit_piece s p blocks =
-    leaves (record { accounts = account_closed p (without_grafts p 16 s.accounts); things = things_without p s.things }) blocks well
+    leaves (record {
+      accounts = account_closed p (without_grafts p 16 s.accounts);
+      things = things_without p s.things;
+    }) blocks well
 
 -- a process goes to the back of the queue
 abbrev pub to_back : ℕ → List QueueRow → List QueueRow
-to_back p rows = filter (λ (r : QueueRow). not (r.process == p)) rows ++ filter (λ (r : QueueRow). r.process == p) rows
+to_back p rows = filter (λ (r : QueueRow). not (r.process == p)) rows
+    ++ filter (λ (r : QueueRow). r.process == p) rows
 
 -- the queue with one slice more for a process
 abbrev pub add_slice : ℕ → List QueueRow → List QueueRow
-add_slice p rows = map (λ (r : QueueRow). cond (r.process == p) (record r { slices = one_more_slice r.slices }) r) rows
+add_slice p rows =
+    map (λ (r : QueueRow). cond (r.process == p) (record r { slices = one_more_slice r.slices }) r)
+    rows
 
 -- p goes to the back; then the process of the answer gets a slice, and is what the call answers
 abbrev pub yield_piece : ℕ → Objects → ℕ → Option (List ℕ) → Blocks → Piece
-yield_piece zero s p answer blocks = leaves (with_queue (to_back p s.things.queue) s) blocks (Continues (stage Yield 1))
+yield_piece zero s p answer blocks =
+    leaves (with_queue (to_back p s.things.queue) s) blocks (Continues (stage Yield 1))
 yield_piece (suc n) s p answer blocks =
     let c = chosen_by answer (or_zero (next_process (s.things.pol 2) s.things.queue)) in
     leaves (with_queue (add_slice c s.things.queue) s) blocks (EndsWith (One c))
@@ -114,18 +127,26 @@ lock_piece s p u None blocks = leaves (with_holder u (Some p) s) blocks well
 abbrev pub unlock_piece : Objects → (p u : ℕ) → Option ℕ → Blocks → Piece
 unlock_piece s p u None blocks = refuses s blocks NotHeld
 unlock_piece s p u (Some h) blocks =
-    elim (h == p) [ true ↦ leaves (with_holder u None s) blocks well | false ↦ refuses s blocks NotHeld ]
+    elim (h == p) [
+      | true ↦ leaves (with_holder u None s) blocks well
+      | false ↦ refuses s blocks NotHeld
+    ]
 
 -- a parameter of the chosen policy gets a value
 abbrev pub tune_piece : Objects → (kind k x : ℕ) → Blocks → Piece
 tune_piece s kind k x blocks =
-    elim (in_range (param_top kind (s.things.pol kind).chosen) k x)
-    [ true ↦ leaves (with_things (set_param kind x s.things) s) blocks well | false ↦ refuses s blocks BadIndex ]
+    elim (in_range (param_top kind (s.things.pol kind).chosen) k x) [
+      | true ↦ leaves (with_things (set_param kind x s.things) s) blocks well
+      | false ↦ refuses s blocks BadIndex
+    ]
 
 -- a policy is chosen; no parameter changes
 abbrev pub choose_piece : Objects → (kind j : ℕ) → Blocks → Piece
 choose_piece s kind j blocks =
-    leaves (with_things (record (s.things) { pol = at kind (record (s.things.pol kind) { chosen = j }) s.things.pol }) s) blocks well
+    leaves (with_things
+    (record (s.things)
+    { pol = at kind (record (s.things.pol kind) { chosen = j }) s.things.pol }) s) blocks
+    well
 
 -- ---- amounts and grafts
 
@@ -145,12 +166,14 @@ accounts_after accts p q k n = let u = at p (less k n (accts p)) accts in at q (
 abbrev pub pay_piece : Objects → (p q : ℕ) → Kind → ℕ → Blocks → (short : Bool) → Piece
 pay_piece s p q k n blocks true = refuses s blocks (Short ((s.accounts.acct p).balance k))
 pay_piece s p q k n blocks false =
-    leaves (with_accounts (record (s.accounts) { acct = accounts_after s.accounts.acct p q k n }) s) blocks well
+    leaves (with_accounts (record (s.accounts) { acct = accounts_after s.accounts.acct p q k n }) s)
+    blocks well
 
 -- an amount goes from one account to another, if the receiver lives
 abbrev pub give_piece : Objects → (p q : ℕ) → Kind → ℕ → Blocks → (lives : Bool) → Piece
 give_piece s p q k n blocks false = refuses s blocks NoProcess
-give_piece s p q k n blocks true = pay_piece s p q k n blocks (nat_lt ((s.accounts.acct p).balance k) n)
+give_piece s p q k n blocks true =
+    pay_piece s p q k n blocks (nat_lt ((s.accounts.acct p).balance k) n)
 
 -- a graft that was just installed: balances 0, not billed
 abbrev pub new_graft : (image limit : ℕ) → GraftValue
@@ -163,7 +186,8 @@ with_graft p pt g a = record a { graft = at2 p pt (Some g) a.graft }
 -- a graft is put at a point where none stands
 abbrev pub install_piece : Objects → (p pt : ℕ) → GraftValue → Option GraftValue → Blocks → Piece
 install_piece s p pt g (Some h) blocks = refuses s blocks Taken
-install_piece s p pt g None blocks = leaves (with_accounts (with_graft p pt g s.accounts) s) blocks well
+install_piece s p pt g None blocks =
+    leaves (with_accounts (with_graft p pt g s.accounts) s) blocks well
 
 -- a graft is taken out, and its balances go back
 abbrev pub remove_piece : Objects → (p pt : ℕ) → Option GraftValue → Blocks → Piece
@@ -177,7 +201,10 @@ funded k n g = record g { balance = at_kind k (g.balance k + n) g.balance }
 -- accounts and grafts after an amount went from the account of p to its graft
 abbrev pub accounts_funded : (p pt : ℕ) → Kind → ℕ → GraftValue → Accounts → Accounts
 accounts_funded p pt k n g a =
-    record { graft = at2 p pt (Some (funded k n g)) a.graft; acct = at p (less k n (a.acct p)) a.acct }
+    record {
+      graft = at2 p pt (Some (funded k n g)) a.graft;
+      acct = at p (less k n (a.acct p)) a.acct;
+    }
 
 -- an amount goes from the account to a graft, unless the account has too little
 abbrev pub fund_piece : Objects → (p pt : ℕ) → Kind → ℕ → Option GraftValue → Blocks → Piece
@@ -191,20 +218,25 @@ fund_piece s p pt k n (Some g) blocks =
 -- from here on the installer's account pays
 abbrev pub bill_piece : Objects → (p pt : ℕ) → Option GraftValue → Blocks → Piece
 bill_piece s p pt None blocks = refuses s blocks NoGraft
-bill_piece s p pt (Some g) blocks = leaves (with_accounts (with_graft p pt (record g { billed = true }) s.accounts) s) blocks well
+bill_piece s p pt (Some g) blocks =
+    leaves (with_accounts (with_graft p pt (record g { billed = true }) s.accounts) s) blocks well
 
 -- ---- all of them
 
 -- the piece of this number, from 0
-abbrev pub piece_of : SysCall → ℕ → World → Objects → Blocks → ℕ → Option (List ℕ) → List Bool → Piece
+abbrev pub piece_of : SysCall → ℕ → World → Objects → Blocks → ℕ → Option (List ℕ) → List Bool →
+    Piece
 piece_of Spawn n v s blocks p answer io = spawn_piece s (free_process s.things.queue 16 0) blocks
 piece_of Exit n v s blocks p answer io = exit_piece s p blocks
 piece_of Yield n v s blocks p answer io = yield_piece n s p answer blocks
-piece_of (OpenName name) n v s blocks p answer io = open_piece s p (file_named v name) (free_descriptor s.things p 4 0) blocks
+piece_of (OpenName name) n v s blocks p answer io =
+    open_piece s p (file_named v name) (free_descriptor s.things p 4 0) blocks
 piece_of (CloseFd fd) n v s blocks p answer io = close_piece s p fd (s.things.file p fd) blocks
-piece_of (Read fd i off len) n v s blocks p answer io = read_piece n v s blocks p fd i off len (s.things.file p fd) answer io
+piece_of (Read fd i off len) n v s blocks p answer io =
+    read_piece n v s blocks p fd i off len (s.things.file p fd) answer io
 piece_of (Write fd i off bytes) n v s blocks p answer io =
-    write_piece (file_block v (s.things.file p fd) i off (length bytes)) v s blocks p off bytes answer io
+    write_piece (file_block v (s.things.file p fd) i off (length bytes)) v s blocks p off bytes
+    answer io
 piece_of Sync n v s blocks p answer io = sync_from v.frames 0 0 s blocks io
 piece_of (TakeLock u) n v s blocks p answer io = lock_piece s p u (s.things.lock u) blocks
 piece_of (FreeLock u) n v s blocks p answer io = unlock_piece s p u (s.things.lock u) blocks
@@ -212,20 +244,25 @@ piece_of (Poke k x) n v s blocks p answer io = poke_piece s p k x blocks
 piece_of (Peek k) n v s blocks p answer io = leaves s blocks (EndsWith (One (s.things.cell p k)))
 piece_of (Tune kind k x) n v s blocks p answer io = tune_piece s kind k x blocks
 piece_of (Choose kind j) n v s blocks p answer io = choose_piece s kind j blocks
-piece_of (Give q k x) n v s blocks p answer io = give_piece s p q k x blocks (lives s.things.queue q)
-piece_of (Install pt i limit) n v s blocks p answer io = install_piece s p pt (new_graft i limit) (s.accounts.graft p pt) blocks
+piece_of (Give q k x) n v s blocks p answer io =
+    give_piece s p q k x blocks (lives s.things.queue q)
+piece_of (Install pt i limit) n v s blocks p answer io =
+    install_piece s p pt (new_graft i limit) (s.accounts.graft p pt) blocks
 piece_of (Remove pt) n v s blocks p answer io = remove_piece s p pt (s.accounts.graft p pt) blocks
-piece_of (Fund pt k x) n v s blocks p answer io = fund_piece s p pt k x (s.accounts.graft p pt) blocks
+piece_of (Fund pt k x) n v s blocks p answer io =
+    fund_piece s p pt k x (s.accounts.graft p pt) blocks
 piece_of (Bill pt) n v s blocks p answer io = bill_piece s p pt (s.accounts.graft p pt) blocks
 
--- the later pieces of a read have its file open, and from the third on there is something to read ahead
+-- the later pieces of a read have its file open, and from the third on there is something to read
+-- ahead
 abbrev pub read_fits : ℕ → Option OpenRow → Bool
 read_fits zero o = true
 read_fits (suc n) None = false
 read_fits (suc zero) (Some o) = true
 read_fits (suc (suc n)) (Some o) = nat_le 1 o.count
 
--- A call may stand before the piece of this number: a read, of one of the four descriptors, before each of its three, and
+-- A call may stand before the piece of this number: a read, of one of the four descriptors, before
+-- each of its three, and
 -- another call not past its last.
 abbrev pub piece_fits : SysCall → ℕ → Things → ℕ → Bool
 piece_fits Yield n w p = nat_le n 1
@@ -252,7 +289,8 @@ plain_upto top =
       early = plain_early top;
       need = λ v s p t. piece_needs t.call t.piece v s p;
       asks = λ v s p t. piece_ask t.call t.piece v s.things p;
-      piece = λ v images s blocks p t answer io. piece_of t.call t.piece v s blocks p (registers_of answer) io;
+      piece = λ v images s blocks p t answer io.
+          piece_of t.call t.piece v s blocks p (registers_of answer) io;
       fits = λ v s p t. piece_fits t.call t.piece s.things p;
       left = λ v s p t. pieces_left t.call t.piece s.things p;
     }

@@ -10,7 +10,8 @@ use Rattle.kernel_model.specs.Objects.{Things, PolValue, CacheValue}
 -- the first of those with the least key
 abbrev pub least : {A : Type 0} → (A → ℕ) → List A → Option A
 least key [] = None
-least key (x ∷ xs) = elim (least key xs) [ None ↦ Some x | Some y ↦ cond (nat_lt (key y) (key x)) (Some y) (Some x) ]
+least key (x ∷ xs) =
+    elim (least key xs) [ None ↦ Some x | Some y ↦ cond (nat_lt (key y) (key x)) (Some y) (Some x) ]
 
 -- a number, or 0
 abbrev pub or_zero : Option ℕ → ℕ
@@ -80,12 +81,14 @@ victim_among pol c fs = least (victim_key pol c) fs
 abbrev pub ahead_count : PolValue → Bool → ℕ → ℕ → ℕ
 ahead_count pol seq window left =
     cond (pol.chosen == 0) 0
-    (cond (pol.chosen == 1) (cond seq (min (pol.param 1) (min window left)) 0) (min (pol.param 2) (min window left)))
+    (cond (pol.chosen == 1) (cond seq (min (pol.param 1) (min window left)) 0)
+    (min (pol.param 2) (min window left)))
 
 -- where reading ahead starts in a file of so many blocks, at `next` or at the file's end where that
 -- comes first, and by how many
 abbrev pub ahead_in : PolValue → OpenRow → ℕ → ℕ × ℕ
-ahead_in pol o blocks = let start = min o.next blocks in (start, ahead_count pol o.seq o.window (blocks - start))
+ahead_in pol o blocks = let start = min o.next blocks in
+    (start, ahead_count pol o.seq o.window (blocks - start))
 
 -- the blocks of an open file, 0 where none is open
 abbrev pub open_blocks : World → Option OpenRow → ℕ
@@ -111,7 +114,8 @@ pub data PointKind : Type 0 where
 -- change streams. No call of those that are built asks a point above 5.
 abbrev pub kind_of : ℕ → PointKind
 kind_of pt =
-    cond (nat_lt pt 4) Ahead (cond (pt == 4) Victim (cond (pt == 5) Next (cond (nat_lt pt 14) Serve Stream)))
+    cond (nat_lt pt 4) Ahead
+    (cond (pt == 4) Victim (cond (pt == 5) Next (cond (nat_lt pt 14) Serve Stream)))
 
 -- the default answer of each kind of point
 abbrev pub default_by : PointKind → World → Things → ℕ → ℕ → ℕ × ℕ
@@ -126,12 +130,15 @@ default_by Stream v w q pt = (0, 0)
 abbrev pub default_of : World → Things → ℕ → ℕ → ℕ × ℕ
 default_of v w q pt = default_by (kind_of pt) v w q pt
 
--- the arguments of a point of q; a piece that asks for a frame puts the block to come in the second place
+-- the arguments of a point of q; a piece that asks for a frame puts the block to come in the second
+-- place
 abbrev pub args_by : PointKind → World → Things → ℕ → ℕ → List ℕ
 args_by Ahead v w q pt =
-    let d = ahead_default v (w.pol 0) (w.file q pt) in d.0 ∷ d.1 ∷ open_blocks v (w.file q pt) ∷ pt ∷ []
+    let d = ahead_default v (w.pol 0) (w.file q pt) in
+    d.0 ∷ d.1 ∷ open_blocks v (w.file q pt) ∷ pt ∷ []
 args_by Victim v w q pt =
-    or_zero (victim_among (w.pol 1) w.cache (frames_of w.cache q)) ∷ 0 ∷ length (frames_of w.cache q) ∷ 0 ∷ []
+    or_zero (victim_among (w.pol 1) w.cache (frames_of w.cache q)) ∷ 0
+    ∷ length (frames_of w.cache q) ∷ 0 ∷ []
 args_by Next v w q pt = q ∷ nice_of w.queue q ∷ length w.queue ∷ 0 ∷ []
 args_by Serve v w q pt = 0 ∷ 0 ∷ 0 ∷ 0 ∷ []
 args_by Stream v w q pt = 0 ∷ 0 ∷ 0 ∷ 0 ∷ []

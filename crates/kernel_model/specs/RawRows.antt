@@ -32,11 +32,14 @@ points = range_with_len 0 16
 abbrev pub acct_row : Objects → ℕ → RawRow
 acct_row w p =
     let a = w.accounts.acct p in
-    RawRow.Acct p (a.balance Steps ∷ a.balance Records ∷ a.balance Locks ∷ a.spent Steps ∷ a.spent Records ∷ a.spent Locks ∷ [])
+    RawRow.Acct p (a.balance Steps ∷ a.balance Records ∷ a.balance Locks ∷ a.spent Steps
+    ∷ a.spent Records ∷ a.spent Locks ∷ [])
 
 -- the cells of a process
 abbrev pub cells_row : Objects → ℕ → RawRow
-cells_row w p = RawRow.Cells p (w.things.cell p 0 ∷ w.things.cell p 1 ∷ w.things.cell p 2 ∷ w.things.cell p 3 ∷ [])
+cells_row w p =
+    RawRow.Cells p (w.things.cell p 0 ∷ w.things.cell p 1 ∷ w.things.cell p 2 ∷ w.things.cell p 3
+    ∷ [])
 
 -- the name of a file
 abbrev pub name_of_file : Option FileRow → List ℕ
@@ -45,7 +48,9 @@ name_of_file (Some r) = r.name
 
 -- an open file
 abbrev pub open_row : World → Objects → ℕ → ℕ → Option RawRow
-open_row v w p fd = option_map (λ (o : OpenRow). RawRow.OpenFile p fd (name_of_file (file_row v o.file)) o) (w.things.file p fd)
+open_row v w p fd =
+    option_map (λ (o : OpenRow). RawRow.OpenFile p fd (name_of_file (file_row v o.file)) o)
+    (w.things.file p fd)
 
 -- the open files of a process
 abbrev pub open_rows : World → Objects → ℕ → List RawRow
@@ -54,7 +59,8 @@ open_rows v w p = filter_map (open_row v w p) (range_with_len 0 4)
 -- a graft at a point
 abbrev pub graft_row : Objects → ℕ → ℕ → Option RawRow
 graft_row w q pt =
-    option_map (λ (g : GraftValue). RawRow.Graft q pt g.image g.limit g.billed (g.balance Steps ∷ g.balance Records ∷ g.balance Locks ∷ []))
+    option_map (λ (g : GraftValue). RawRow.Graft q pt g.image g.limit g.billed
+    (g.balance Steps ∷ g.balance Records ∷ g.balance Locks ∷ []))
     (w.accounts.graft q pt)
 
 -- the grafts of a process
@@ -72,7 +78,13 @@ pol_row w kind = RawRow.Pol kind (w.things.pol kind).chosen (shown_param kind (w
 -- a frame in use
 abbrev pub frame_row_of : Objects → ℕ → Option FrameRow
 frame_row_of w f =
-    option_map (λ (x : FrameValue). record { frame = f; owner = x.owner; block = x.block; dirty = x.dirty; mark = x.mark }) (w.things.cache.frame f)
+    option_map (λ (x : FrameValue). record {
+      frame = f;
+      owner = x.owner;
+      block = x.block;
+      dirty = x.dirty;
+      mark = x.mark;
+    }) (w.things.cache.frame f)
 
 -- a held user lock
 abbrev pub lock_row : Objects → ℕ → Option RawRow
@@ -110,7 +122,9 @@ undo_row p r = RawRow.Undo p r.0 r.1.inverse
 module _ (m : Meaning) where
   -- a call in flight
   abbrev pub call_row : Kernel → ℕ → Option RawRow
-  call_row k p = option_map (λ (c : Call). RawRow.Call p c.number (wait_row k p) (top_of (levels_of m k p))) (k.call p)
+  call_row k p =
+      option_map (λ (c : Call). RawRow.Call p c.number (wait_row k p) (top_of (levels_of m k p)))
+      (k.call p)
 
   -- the levels of a call, outermost first
   abbrev pub level_rows : Kernel → ℕ → List RawRow
@@ -123,10 +137,14 @@ module _ (m : Meaning) where
   -- the rows of these objects, and of the calls of a kernel
   abbrev pub rows_on : Kernel → Objects → List RawRow
   rows_on k w =
-      RawRow.Clock k.clock ∷ RawRow.Queue w.things.queue ∷ map (acct_row w) (living w) ++ map (cells_row w) (living w)
+      RawRow.Clock k.clock ∷ RawRow.Queue w.things.queue ∷ map (acct_row w) (living w)
+      ++ map (cells_row w) (living w)
       ++ flat_map (open_rows k.world w) processes ++ flat_map (graft_rows w) processes
-      ++ map (pol_row w) (0 ∷ 1 ∷ 2 ∷ []) ++ RawRow.Lru (filter_map (frame_row_of w) w.things.cache.lru) ∷ filter_map (lock_row w) points
-      ++ filter_map (call_row k) processes ++ flat_map (level_rows k) processes ++ flat_map (undo_rows k) processes
+      ++ map (pol_row w) (0 ∷ 1 ∷ 2 ∷ [])
+      ++ RawRow.Lru (filter_map (frame_row_of w) w.things.cache.lru)
+      ∷ filter_map (lock_row w) points
+      ++ filter_map (call_row k) processes ++ flat_map (level_rows k) processes
+      ++ flat_map (undo_rows k) processes
 
   -- the rows of a kernel, in order
   abbrev pub raw_rows : Kernel → List RawRow

@@ -51,7 +51,10 @@ fault_number Unfinished = 6
 abbrev pub words_after : List ℕ → List ℕ → List (List ℕ)
 words_after word [] = word ∷ []
 words_after word (byte ∷ bytes) =
-    elim (byte == 32) [ true ↦ word ∷ words_after [] bytes | false ↦ words_after (word ++ byte ∷ []) bytes ]
+    elim (byte == 32) [
+      | true ↦ word ∷ words_after [] bytes
+      | false ↦ words_after (word ++ byte ∷ []) bytes
+    ]
 
 -- the words of a line, parted by single spaces
 abbrev pub words_of : List ℕ → List (List ℕ)
@@ -82,7 +85,8 @@ is_empty (b ∷ bs) = false
 -- the kinds of objects, in their order
 abbrev pub object_kinds : List (List ℕ)
 object_kinds =
-    codes "graft" ∷ codes "acct" ∷ codes "cell" ∷ codes "open" ∷ codes "queue" ∷ codes "cache" ∷ codes "lock" ∷ codes "pol" ∷ []
+    codes "graft" ∷ codes "acct" ∷ codes "cell" ∷ codes "open" ∷ codes "queue" ∷ codes "cache"
+    ∷ codes "lock" ∷ codes "pol" ∷ []
 
 -- the kinds of amounts
 abbrev pub amounts : List (List ℕ)
@@ -92,7 +96,8 @@ amounts = codes "steps" ∷ codes "records" ∷ codes "locks" ∷ []
 abbrev pub amount_at : ℕ → Kind
 amount_at n = cond (n == 0) Steps (cond (n == 1) Records Locks)
 
--- the number that a word says: a kind says its place in its list; a text says 0, and is read by its command
+-- the number that a word says: a kind says its place in its list; a text says 0, and is read by its
+-- command
 abbrev pub number_said : Form → List ℕ → Option ℕ
 number_said Number word = number_of word
 number_said ObjectKind word = position (same_bytes word) object_kinds
@@ -125,7 +130,8 @@ is_well_formed (f ∷ fs) (w ∷ ws) = not (is_bad_word f w) && is_well_formed f
 abbrev pub numbers_after : List ℕ → List Form → List (List ℕ) → Option (List ℕ)
 numbers_after ns [] ws = Some ns
 numbers_after ns (f ∷ fs) [] = Some ns
-numbers_after ns (f ∷ fs) (w ∷ ws) = elim (number_said f w) [ None ↦ None | Some n ↦ numbers_after (ns ++ n ∷ []) fs ws ]
+numbers_after ns (f ∷ fs) (w ∷ ws) =
+    elim (number_said f w) [ None ↦ None | Some n ↦ numbers_after (ns ++ n ∷ []) fs ws ]
 
 -- numbers and the last word, if all words say numbers
 abbrev pub said_by : List ℕ → Option (List ℕ) → Result (List ℕ × List ℕ) ScriptFault
@@ -133,9 +139,13 @@ said_by last None = Err BadNumber
 said_by last (Some ns) = Ok (ns, last)
 
 -- the numbers that words say, after others, with the last word; or why they are refused
-abbrev pub words_said : List ℕ → List ℕ → List Form → List (List ℕ) → Result (List ℕ × List ℕ) ScriptFault
+abbrev pub words_said : List ℕ → List ℕ → List Form → List (List ℕ) →
+    Result (List ℕ × List ℕ) ScriptFault
 words_said ns last forms words =
-    elim (is_well_formed forms words) [ false ↦ Err BadWord | true ↦ said_by (last_word last words) (numbers_after ns forms words) ]
+    elim (is_well_formed forms words) [
+      | false ↦ Err BadWord
+      | true ↦ said_by (last_word last words) (numbers_after ns forms words)
+    ]
 
 -- 1 to 16 bytes of a name
 abbrev pub is_file_name : List ℕ → Bool
@@ -192,10 +202,14 @@ command_word (Call name) = call_word name
 -- all commands
 abbrev pub all_commands : List Command
 all_commands =
-    Command.Frames ∷ Command.Patience ∷ Command.Grant ∷ Command.Boot ∷ Command.Tick ∷ Command.Step ∷ Command.Raw ∷ Command.Image
-    ∷ Call CallName.Spawn ∷ Call CallName.Exit ∷ Call CallName.Yield ∷ Call CallName.Sync ∷ Call CallName.Open ∷ Call CallName.Close
-    ∷ Call CallName.Read ∷ Call CallName.Write ∷ Call CallName.Lock ∷ Call CallName.Unlock ∷ Call CallName.Poke ∷ Call CallName.Peek
-    ∷ Call CallName.Tune ∷ Call CallName.Default ∷ Call CallName.Give ∷ Call CallName.Install ∷ Call CallName.Remove ∷ Call CallName.Fund
+    Command.Frames ∷ Command.Patience ∷ Command.Grant ∷ Command.Boot ∷ Command.Tick ∷ Command.Step
+    ∷ Command.Raw ∷ Command.Image
+    ∷ Call CallName.Spawn ∷ Call CallName.Exit ∷ Call CallName.Yield ∷ Call CallName.Sync
+    ∷ Call CallName.Open ∷ Call CallName.Close
+    ∷ Call CallName.Read ∷ Call CallName.Write ∷ Call CallName.Lock ∷ Call CallName.Unlock
+    ∷ Call CallName.Poke ∷ Call CallName.Peek
+    ∷ Call CallName.Tune ∷ Call CallName.Default ∷ Call CallName.Give ∷ Call CallName.Install
+    ∷ Call CallName.Remove ∷ Call CallName.Fund
     ∷ Call CallName.Bill ∷ []
 
 -- a command stands before `boot`
@@ -250,7 +264,8 @@ abbrev pub write_by : (fd i off : ℕ) → Option (List ℕ) → Option SysCall
 write_by fd i off None = None
 write_by fd i off (Some bytes) = Some (SysCall.Write fd i off bytes)
 
--- a system call by the numbers of its words, of which the first is the process, and by its last word
+-- a system call by the numbers of its words, of which the first is the process, and by its last
+-- word
 abbrev pub call_of : CallName → List ℕ → List ℕ → Option SysCall
 call_of CallName.Spawn n last = Some SysCall.Spawn
 call_of CallName.Exit n last = Some SysCall.Exit
@@ -258,18 +273,24 @@ call_of CallName.Yield n last = Some SysCall.Yield
 call_of CallName.Sync n last = Some SysCall.Sync
 call_of CallName.Open n last = open_by (name_word last)
 call_of CallName.Close n last = Some (CloseFd (slice_index n 1))
-call_of CallName.Read n last = Some (SysCall.Read (slice_index n 1) (slice_index n 2) (slice_index n 3) (slice_index n 4))
-call_of CallName.Write n last = write_by (slice_index n 1) (slice_index n 2) (slice_index n 3) (hex_word WRITE_DIGITS last)
+call_of CallName.Read n last =
+    Some (SysCall.Read (slice_index n 1) (slice_index n 2) (slice_index n 3) (slice_index n 4))
+call_of CallName.Write n last =
+    write_by (slice_index n 1) (slice_index n 2) (slice_index n 3) (hex_word WRITE_DIGITS last)
 call_of CallName.Lock n last = Some (TakeLock (slice_index n 1))
 call_of CallName.Unlock n last = Some (FreeLock (slice_index n 1))
 call_of CallName.Poke n last = Some (SysCall.Poke (slice_index n 1) (slice_index n 2))
 call_of CallName.Peek n last = Some (SysCall.Peek (slice_index n 1))
-call_of CallName.Tune n last = Some (SysCall.Tune (slice_index n 1) (slice_index n 2) (slice_index n 3))
+call_of CallName.Tune n last =
+    Some (SysCall.Tune (slice_index n 1) (slice_index n 2) (slice_index n 3))
 call_of CallName.Default n last = Some (Choose (slice_index n 1) (slice_index n 2))
-call_of CallName.Give n last = Some (SysCall.Give (slice_index n 1) (amount_at (slice_index n 2)) (slice_index n 3))
-call_of CallName.Install n last = Some (SysCall.Install (slice_index n 1) (slice_index n 2) (slice_index n 3))
+call_of CallName.Give n last =
+    Some (SysCall.Give (slice_index n 1) (amount_at (slice_index n 2)) (slice_index n 3))
+call_of CallName.Install n last =
+    Some (SysCall.Install (slice_index n 1) (slice_index n 2) (slice_index n 3))
 call_of CallName.Remove n last = Some (SysCall.Remove (slice_index n 1))
-call_of CallName.Fund n last = Some (SysCall.Fund (slice_index n 1) (amount_at (slice_index n 2)) (slice_index n 3))
+call_of CallName.Fund n last =
+    Some (SysCall.Fund (slice_index n 1) (amount_at (slice_index n 2)) (slice_index n 3))
 call_of CallName.Bill n last = Some (SysCall.Bill (slice_index n 1))
 
 -- a system call of process p
@@ -289,7 +310,8 @@ within low high n entry = cond (nat_le low n && nat_le n high) (Ok entry) (Err B
 -- a command by the numbers of its words and by its last word
 abbrev pub entry_of : Command → List ℕ → List ℕ → Result Entry ScriptFault
 entry_of Command.Frames n last = within 2 64 (slice_index n 0) (Frames (slice_index n 0))
-entry_of Command.Patience n last = within 1 1000 (slice_index n 1) (Patience (slice_index n 0) (slice_index n 1))
+entry_of Command.Patience n last =
+    within 1 1000 (slice_index n 1) (Patience (slice_index n 0) (slice_index n 1))
 entry_of Command.Grant n last = Ok (Grant (slice_index n 0))
 entry_of Command.Boot n last = Ok Boot
 entry_of Command.Tick n last = Ok (Happens Tick)
@@ -315,7 +337,10 @@ same_bool a b = cond a b (not b)
 abbrev pub entry_at : Bool → List (List ℕ) → Option Command → Result Entry ScriptFault
 entry_at booted words None = Err UnknownCommand
 entry_at booted words (Some c) =
-    elim (same_bool (is_setup c) booted) [ true ↦ Err WrongPlace | false ↦ entry_by c (words_said [] [] (forms_of c) words) ]
+    elim (same_bool (is_setup c) booted) [
+      | true ↦ Err WrongPlace
+      | false ↦ entry_by c (words_said [] [] (forms_of c) words)
+    ]
 
 -- an empty line, or one that begins with `#`
 abbrev pub is_blank : List ℕ → Bool
@@ -333,6 +358,7 @@ parsed_line booted text =
       | true ↦ Err TooLong
       | false ↦ elim (is_blank text) [
         | true ↦ Ok Blank
-        | false ↦ let words = words_of text in entry_at booted (other_words words) (command_named (first_word words))
+        | false ↦ let words = words_of text in
+            entry_at booted (other_words words) (command_named (first_word words))
       ]
     ]

@@ -19,7 +19,8 @@ use Rattle.kernel_model.specs.Script.{Entry, Blank, Frames, Patience, Grant, Boo
 
 -- ---- what is run
 
--- what of the product is built: the meaning of its system calls, and the highest id that grafts may call
+-- what of the product is built: the meaning of its system calls, and the highest id that grafts may
+-- call
 pub record Build : Type 0 where
   pub meaning : Meaning
   pub callable : ℕ
@@ -54,7 +55,8 @@ pub record Session : Type 0 where
   -- a line was refused, and no other is run
   pub refused : Bool
 
--- what a line makes of a session: the session, the bytes written, the notes among them, and what was told of calls of
+-- what a line makes of a session: the session, the bytes written, the notes among them, and what
+-- was told of calls of
 -- the disk that it didn't make
 pub record Written : Type 0 where
   pub session : Session
@@ -64,7 +66,14 @@ pub record Written : Type 0 where
 
 -- a session over a disk before the first line
 abbrev pub first_session : Disk → Session
-first_session d = record { setup = first_setup; kernel = None; blocks = d.block; lines = 0; events = 0; refused = false }
+first_session d = record {
+  setup = first_setup;
+  kernel = None;
+  blocks = d.block;
+  lines = 0;
+  events = 0;
+  refused = false;
+}
 
 -- bytes are written, none of them a note's, and the disk isn't called
 abbrev pub says : Session → List ℕ → List Bool → Written
@@ -106,7 +115,8 @@ boots size callable s io =
     let rows = directory_of size (s.blocks 0) in
     elim (disk_fails io 0) [
       | true ↦ booted s (world_of s.setup size callable []) (codes "0 E16") (drop 1 io)
-      | false ↦ booted s (world_of s.setup size callable rows) (boot_text s.setup.frames size (usable_count rows)) (drop 1 io)
+      | false ↦ booted s (world_of s.setup size callable rows)
+          (boot_text s.setup.frames size (usable_count rows)) (drop 1 io)
     ]
 
 -- a kernel with one more image
@@ -123,12 +133,16 @@ abbrev pub image_answer : ℕ → Result Image LoadFault → Kernel → Kernel �
 image_answer slot loaded k =
     elim (nat_lt 31 slot) [
       | true ↦ (k, codes "E8")
-      | false ↦ elim (k.images slot) [ Some i ↦ (k, codes "E10") | None ↦ image_added slot loaded k ]
+      | false ↦ elim (k.images slot) [
+        | Some i ↦ (k, codes "E10")
+        | None ↦ image_added slot loaded k
+      ]
     ]
 
 -- a session after an image line of this number
 abbrev pub after_image : Session → ℕ → Kernel × List ℕ → List Bool → Written
-after_image s n r io = says (record s { kernel = Some r.0; events = n }) (line (decimal n ++ 32 ∷ r.1)) io
+after_image s n r io =
+    says (record s { kernel = Some r.0; events = n }) (line (decimal n ++ 32 ∷ r.1)) io
 
 -- an image line of a session
 abbrev pub image_line_run : Session → ℕ → Result Image LoadFault → Kernel → List Bool → Written
@@ -148,7 +162,12 @@ after_event s n r =
 
 -- one `Written` after another: the later session, and both their bytes and notes
 abbrev pub and_then : Written → Written → Written
-and_then a b = record { session = b.session; bytes = a.bytes ++ b.bytes; notes = a.notes ++ b.notes; io = b.io }
+and_then a b = record {
+  session = b.session;
+  bytes = a.bytes ++ b.bytes;
+  notes = a.notes ++ b.notes;
+  io = b.io;
+}
 
 -- the first list of several
 abbrev pub first_io : List (List Bool) → List Bool
@@ -163,9 +182,11 @@ later_io (io ∷ rest) = rest
 module _ (b : Build) (keys : Keys) (size : ℕ) where
   -- an entry after `boot`
   abbrev pub running : Session → Entry → Kernel → List Bool → Written
-  running s (Happens e) k io = after_event s (suc s.events) (event b.meaning k s.blocks (suc s.events) e io)
+  running s (Happens e) k io =
+      after_event s (suc s.events) (event b.meaning k s.blocks (suc s.events) e io)
   running s (Loads slot bytes) k io = image_line_run s slot (load keys bytes) k io
-  running s Raw k io = says (record s { events = suc s.events }) (row_lines (suc s.events) (raw_rows b.meaning k)) io
+  running s Raw k io =
+      says (record s { events = suc s.events }) (row_lines (suc s.events) (raw_rows b.meaning k)) io
   running s _ k io = silent s io
 
   -- an entry after `boot`, for the kernel if there is one
@@ -177,7 +198,8 @@ module _ (b : Build) (keys : Keys) (size : ℕ) where
   abbrev pub after_entry : Session → Entry → List Bool → Written
   after_entry s Blank io = silent s io
   after_entry s (Frames n) io = silent (record s { setup = record (s.setup) { frames = n } }) io
-  after_entry s (Patience kind ticks) io = silent (record s { setup = with_patience kind ticks s.setup }) io
+  after_entry s (Patience kind ticks) io =
+      silent (record s { setup = with_patience kind ticks s.setup }) io
   after_entry s (Grant n) io = silent (record s { setup = record (s.setup) { grant = n } }) io
   after_entry s Boot io = boots size b.callable s io
   after_entry s e io = running_in s e s.kernel io
@@ -187,24 +209,28 @@ module _ (b : Build) (keys : Keys) (size : ℕ) where
   after_parse s (Err fault) io = refuses_line s fault io
   after_parse s (Ok e) io = after_entry s e io
 
-  -- what a line makes of a session, with what its calls of the disk will do; after a refused line there is no other
+  -- what a line makes of a session, with what its calls of the disk will do; after a refused line
+  -- there is no other
   abbrev pub after_line : Session → List ℕ → List Bool → Written
   after_line s text io =
       elim s.refused [
         | true ↦ silent s io
-        | false ↦ after_parse (record s { lines = suc s.lines }) (parsed_line (is_some s.kernel) text) io
+        | false ↦ after_parse (record s { lines = suc s.lines })
+            (parsed_line (is_some s.kernel) text) io
       ]
 
   -- what lines make of a session, in order, with one list for each line's calls of the disk
   abbrev pub after_lines : Session → List (List ℕ) → List (List Bool) → Written
   after_lines s [] ios = silent s []
   after_lines s (text ∷ texts) ios =
-      let w = after_line s text (first_io ios) in and_then w (after_lines w.session texts (later_io ios))
+      let w = after_line s text (first_io ios) in
+      and_then w (after_lines w.session texts (later_io ios))
 
   -- the session after lines, with one list for each line's calls of the disk
   abbrev pub session_after : Session → List (List ℕ) → List (List Bool) → Session
   session_after s [] ios = s
-  session_after s (text ∷ texts) ios = session_after (after_line s text (first_io ios)).session texts (later_io ios)
+  session_after s (text ∷ texts) ios =
+      session_after (after_line s text (first_io ios)).session texts (later_io ios)
 
   -- what each of these lines writes
   abbrev pub pieces_of : Session → List (List ℕ) → List (List Bool) → List (List ℕ)

@@ -20,16 +20,21 @@ lost_objects w s = record { accounts = w.accounts; things = s.things }
 -- An entry whose blocker is the kept one keeps its count; another keeps the new blocker with count
 -- 0.
 abbrev pub entry_with : Entry → Option Blocker → Entry
-entry_with e b = elim (same_blocker e.blocker b) [ true ↦ e | false ↦ record { process = e.process; blocker = b; count = 0 } ]
+entry_with e b = elim (same_blocker e.blocker b) [
+  | true ↦ e
+  | false ↦ record { process = e.process; blocker = b; count = 0 }
+]
 
 module _ (m : Meaning) where
   -- ---- one step
 
   -- the piece of a call on a state, with an answer or by default
   abbrev pub finish_on : ℕ → Call → Objects → Option Answer → Run → Run
-  finish_on p c s answer r = finish p c (m.piece r.kernel.world r.kernel.images s r.blocks p c.stage answer r.io) r
+  finish_on p c s answer r =
+      finish p c (m.piece r.kernel.world r.kernel.images s r.blocks p c.stage answer r.io) r
 
-  -- a piece: a history begins where a graft stands at its point, else the default finishes the piece
+  -- a piece: a history begins where a graft stands at its point, else the default finishes the
+  -- piece
   abbrev pub piece_at : ℕ → Call → Option GraftValue → Run → Run
   piece_at p c None r = finish_on p c r.kernel.objects None r
   piece_at p c (Some g) r = with_marks p c [] r
@@ -39,17 +44,21 @@ module _ (m : Meaning) where
   piece_step p c None r = piece_at p c None r
   piece_step p c (Some a) r = piece_at p c (r.kernel.objects.accounts.graft a.installer a.point) r
 
-  -- a level was dropped: level 0's default finishes the piece, and another's history goes back to the ask that began it
+  -- a level was dropped: level 0's default finishes the piece, and another's history goes back to
+  -- the ask that began it
   abbrev pub after_drop : ℕ → Call → Trace → List Mark → Outcome → (d : ℕ) → Run → Run
   after_drop p c t ks o zero r = finish_on p c (lost_objects o.config.now r.kernel.objects) None r
   after_drop p c t ks o (suc d) r = with_marks p c (fallen t ks o.effects (suc d)) r
 
-  -- what an instruction, or the drop of a level, makes of a call whose history leads to a trace; one that runs alone is never blocked
+  -- what an instruction, or the drop of a level, makes of a call whose history leads to a trace;
+  -- one that runs alone is never blocked
   abbrev pub after_outcome : ℕ → Call → Trace → List Mark → Outcome → Micro → Run → Run
   after_outcome p c t ks o Micro.Went r = with_marks p c (ks ++ Stepped ∷ []) r
   after_outcome p c t ks o (Micro.Blocked object holder by_user) r = r
-  after_outcome p c t ks o (Micro.Completed answer) r = finish_on p c o.config.now (Some (bare_answer answer)) r
-  after_outcome p c t ks o (Micro.Dropped d q pt cause) r = after_drop p c t ks o d (noted (Dropped c.number q pt cause) r)
+  after_outcome p c t ks o (Micro.Completed answer) r =
+      finish_on p c o.config.now (Some (bare_answer answer)) r
+  after_outcome p c t ks o (Micro.Dropped d q pt cause) r =
+      after_drop p c t ks o d (noted (Dropped c.number q pt cause) r)
 
   -- the same by what is said of the outcome
   abbrev pub outcome_step : ℕ → Call → Trace → List Mark → Outcome → Run → Run
@@ -58,7 +67,8 @@ module _ (m : Meaning) where
   -- one instruction of the innermost level
   abbrev pub graft_step : ℕ → Call → List Mark → Option Trace → Run → Run
   graft_step p c ks None r = r
-  graft_step p c ks (Some t) r = outcome_step p c t ks (micro r.kernel.world r.kernel.images p t.config) r
+  graft_step p c ks (Some t) r =
+      outcome_step p c t ks (micro r.kernel.world r.kernel.images p t.config) r
 
   -- a piece, or an instruction where the call has a level
   abbrev pub marked_step : ℕ → Call → Option (List Mark) → Run → Run
@@ -84,7 +94,10 @@ module _ (m : Meaning) where
   abbrev pub first_free_in : Kernel → LockTable → List Entry → Option ℕ
   first_free_in k locks [] = None
   first_free_in k locks (e ∷ es) =
-      elim (blocker_in m k locks e.process) [ None ↦ Some e.process | Some b ↦ first_free_in k locks es ]
+      elim (blocker_in m k locks e.process) [
+        | None ↦ Some e.process
+        | Some b ↦ first_free_in k locks es
+      ]
 
   -- the first in the order that nothing blocks
   abbrev pub first_free : Kernel → List Entry → Option ℕ
@@ -102,7 +115,8 @@ module _ (m : Meaning) where
 
   -- the kernel rests: each entry keeps its blocker
   abbrev pub rested : Run → Run
-  rested r = record r { kernel = record (r.kernel) { order = rested_order r.kernel r.kernel.order } }
+  rested r = record r
+      { kernel = record (r.kernel) { order = rested_order r.kernel r.kernel.order } }
 
   -- Settling takes at most so many steps, each of the first call in the order that nothing blocks;
   -- then each entry keeps its blocker, with its count where that is the same as before and else

@@ -39,7 +39,8 @@ graft_balance k (Some g) = g.balance k
 -- the ledger of a process in a kind is its balance, what it has spent, and the balances of its
 -- grafts
 abbrev pub ledger : Accounts → Kind → ℕ → ℕ
-ledger a k q = (a.acct q).balance k + (a.acct q).spent k + sum_below 16 (λ pt. graft_balance k (a.graft q pt))
+ledger a k q =
+    (a.acct q).balance k + (a.acct q).spent k + sum_below 16 (λ pt. graft_balance k (a.graft q pt))
 
 -- how often a number stands in a list
 abbrev pub count_of : ℕ → List ℕ → ℕ
@@ -87,7 +88,8 @@ pub record IsSoundPolicy (kind : ℕ) (p : PolValue) : Type 0 where
   pub chosen : p.chosen < policy_count kind
   pub params : (j : ℕ) → j < policy_count kind → ParamFits (param_top kind j) (p.param j)
 
--- what no call changes is within the limits: 2 to 64 frames, a directory within 4,096 blocks, and ids up to 15
+-- what no call changes is within the limits: 2 to 64 frames, a directory within 4,096 blocks, and
+-- ids up to 15
 pub record IsSoundWorld (v : World) : Type 0 where
   pub frames_some : 2 ≤ v.frames
   pub frames_most : v.frames ≤ 64
@@ -107,12 +109,15 @@ pub record IsSoundStore (v : World) (s : Objects) : Type 0 where
   -- the order of use lists the frames in use once each, and no block stands in two frames
   pub in_use : (f : ℕ) → count_of f s.things.cache.lru ≡ once_if (is_some (s.things.cache.frame f))
   pub frame_numbers : (f : ℕ) → is_some (s.things.cache.frame f) ≡ true → f < v.frames
-  pub one_frame : (f g : ℕ) (x y : FrameValue) → s.things.cache.frame f ≡ Some x → s.things.cache.frame g ≡ Some y → x.block ≡ y.block → f ≡ g
+  pub one_frame : (f g : ℕ) (x y : FrameValue) → s.things.cache.frame f ≡ Some x →
+      s.things.cache.frame g ≡ Some y → x.block ≡ y.block → f ≡ g
   -- a frame in use holds a whole block, and its owner lives
-  pub frames : (f : ℕ) (x : FrameValue) → s.things.cache.frame f ≡ Some x → IsSoundFrame s.things.queue x
+  pub frames : (f : ℕ) (x : FrameValue) → s.things.cache.frame f ≡ Some x →
+      IsSoundFrame s.things.queue x
   -- holders of locks and installers of grafts live
   pub holders : (u p : ℕ) → s.things.lock u ≡ Some p → (u < 16) × (lives s.things.queue p ≡ true)
-  pub grafts : (q pt : ℕ) (g : GraftValue) → s.accounts.graft q pt ≡ Some g → (pt < 16) × (lives s.things.queue q ≡ true)
+  pub grafts : (q pt : ℕ) (g : GraftValue) → s.accounts.graft q pt ≡ Some g → (pt < 16)
+      × (lives s.things.queue q ≡ true)
   -- nothing is left of a process that doesn't live
   pub gone : (p : ℕ) → lives s.things.queue p ≡ false → IsGone s p
   -- open files are usable entries whose blocks ahead end within them
@@ -121,7 +126,8 @@ pub record IsSoundStore (v : World) (s : Objects) : Type 0 where
   pub policies : (kind : ℕ) → kind < 3 → IsSoundPolicy kind (s.things.pol kind)
   -- handlers are those of event points, and of processes that live
   pub handlers : AreHandlers s.things.handlers
-  pub handlers_live : (q pt : ℕ) → list_any (is_handler q pt) s.things.handlers ≡ true → lives s.things.queue q ≡ true
+  pub handlers_live : (q pt : ℕ) → list_any (is_handler q pt) s.things.handlers ≡ true →
+      lives s.things.queue q ≡ true
   -- nothing is kept at points that there aren't
   pub segs : (q pt : ℕ) → (nat_lt q 16 && nat_lt pt 16) ≡ false → s.things.seg q pt ≡ nothing_kept
   -- nothing of any kind is made or lost: the ledgers add up to the grant
@@ -129,7 +135,8 @@ pub record IsSoundStore (v : World) (s : Objects) : Type 0 where
 
 -- the image of each graft that stands is loaded
 abbrev pub ImagesAreLoaded : ImageTable → Accounts → Type 0
-ImagesAreLoaded images a = (q pt : ℕ) (g : GraftValue) → a.graft q pt ≡ Some g → is_some (images g.image) ≡ true
+ImagesAreLoaded images a = (q pt : ℕ) (g : GraftValue) → a.graft q pt ≡ Some g →
+    is_some (images g.image) ≡ true
 
 -- a disk of 1 to 4,096 blocks, on which each usable file ends and each frame's block stands
 pub record FitsDisk (v : World) (c : CacheValue) : Type 0 where
@@ -150,21 +157,29 @@ HasWholeBlocks v blocks = (b : ℕ) → b < v.disk_size → length (blocks b) �
 
 -- ---- sound graft calls
 
--- A graft call on a sound state: one to four levels, whose grafts stand and are different ones; level 0 holds each level's
--- graft and its installer's account exclusively, so that charges can always be made again; each record's object is held
--- exclusively by the level that owns the record; and what a level found is sound, and what the undo log tells.
+-- A graft call on a sound state: one to four levels, whose grafts stand and are different ones;
+-- level 0 holds each level's
+-- graft and its installer's account exclusively, so that charges can always be made again; each
+-- record's object is held
+-- exclusively by the level that owns the record; and what a level found is sound, and what the undo
+-- log tells.
 pub record IsSoundConfig (v : World) (c : Config) : Type 0 where
   pub now : IsSoundStore v c.now
   pub some : 1 ≤ length c.levels
   pub most : length c.levels ≤ 4
-  pub grafts : (l : Level) → Contains c.levels l → is_some (c.now.accounts.graft l.owner l.point) ≡ true
-  pub different : (d e : ℕ) (l n : Level) → level_at d c.levels ≡ Some l → level_at e c.levels ≡ Some n →
+  pub grafts : (l : Level) → Contains c.levels l →
+      is_some (c.now.accounts.graft l.owner l.point) ≡ true
+  pub different : (d e : ℕ) (l n : Level) → level_at d c.levels ≡ Some l →
+      level_at e c.levels ≡ Some n →
       l.owner ≡ n.owner → l.point ≡ n.point → d ≡ e
   pub paid : (l : Level) → Contains c.levels l →
-      (outermost_touched c.levels (Graft l.owner l.point) ≡ Held.Exclusive) × (outermost_touched c.levels (Acct l.owner) ≡ Held.Exclusive)
-  pub recorded : (l : Level) (i : Found) → Contains c.levels l → Contains l.records i → l.touched (changed_by i) ≡ Held.Exclusive
+      (outermost_touched c.levels (Graft l.owner l.point) ≡ Held.Exclusive)
+      × (outermost_touched c.levels (Acct l.owner) ≡ Held.Exclusive)
+  pub recorded : (l : Level) (i : Found) → Contains c.levels l → Contains l.records i →
+      l.touched (changed_by i) ≡ Held.Exclusive
   pub few : record_count c.levels ≤ 64
-  pub found : (l : Level) → Contains c.levels l → IsSoundStore v (record (c.now) { things = l.kept })
+  pub found : (l : Level) → Contains c.levels l →
+      IsSoundStore v (record (c.now) { things = l.kept })
   pub kept : map (λ (l : Level). l.kept) c.levels ≡ kept_by_log c.now.things (undo_log c.levels)
 
 -- ---- abstract kernels
@@ -185,8 +200,10 @@ in_the_order k = map (λ (e : Entry). e.process) k.order
 -- fitting stages, and the order has whom it must.
 pub record IsSoundKernel (m : Meaning) (k : Kernel) : Type 0 where
   pub state : IsSoundState k.world k.images k.objects
-  -- each history leads to a config: no instruction on the way drops a level, and each effect finds what it needs
-  pub runs : (p : ℕ) (c : Call) (ks : List Mark) → k.call p ≡ Some c → c.marks ≡ Some ks → is_some (trace_of m k p (Some c)) ≡ true
+  -- each history leads to a config: no instruction on the way drops a level, and each effect finds
+  -- what it needs
+  pub runs : (p : ℕ) (c : Call) (ks : List Mark) → k.call p ≡ Some c → c.marks ≡ Some ks →
+      is_some (trace_of m k p (Some c)) ≡ true
   -- the graft of each level stands
   pub grafts : (p : ℕ) (f : Config) (l : Level) → config_of m k p ≡ Some f → Contains f.levels l →
       is_some (f.now.accounts.graft l.owner l.point) ≡ true
@@ -194,15 +211,19 @@ pub record IsSoundKernel (m : Meaning) (k : Kernel) : Type 0 where
   pub apart : (p q d e : ℕ) (o : Object) → p ≢ q → clash (holds m k p d o) (holds m k q e o) ≡ false
   -- who has a call in flight lives, and no early refusal of it holds
   pub callers : (p : ℕ) (c : Call) → k.call p ≡ Some c → lives k.objects.things.queue p ≡ true
-  pub granted : (p : ℕ) (c : Call) → k.call p ≡ Some c → is_ok (m.early k.world k.images p c.stage.call) ≡ true
+  pub granted : (p : ℕ) (c : Call) → k.call p ≡ Some c →
+      is_ok (m.early k.world k.images p c.stage.call) ≡ true
   -- each call stands at a stage that fits
   pub fit : (p : ℕ) (c : Call) → k.call p ≡ Some c → m.fits k.world k.objects p c.stage ≡ true
   -- each call whose next step is a piece stands in the order, once
   pub pieces : (p : ℕ) → is_at_piece (k.call p) ≡ true → count_of p (in_the_order k) ≡ 1
-  -- each other entry is a call that stands there once, and whose next instruction is a call that needs an object
+  -- each other entry is a call that stands there once, and whose next instruction is a call that
+  -- needs an object
   pub others : (e : Entry) → Contains k.order e → is_at_piece (k.call e.process) ≡ false →
-      (count_of e.process (in_the_order k) ≡ 1) × (1 ≤ length (levels_of m k e.process)) × (1 ≤ length (needs m k e.process))
+      (count_of e.process (in_the_order k) ≡ 1) × (1 ≤ length (levels_of m k e.process))
+      × (1 ≤ length (needs m k e.process))
 
 -- a kernel is at rest where each entry of the order is blocked by what it keeps as its blocker
 abbrev pub IsAtRest : Meaning → Kernel → Type 0
-IsAtRest m k = (e : Entry) → Contains k.order e → (is_some e.blocker ≡ true) × (blocker m k e.process ≡ e.blocker)
+IsAtRest m k = (e : Entry) → Contains k.order e → (is_some e.blocker ≡ true)
+    × (blocker m k e.process ≡ e.blocker)

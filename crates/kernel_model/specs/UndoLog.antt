@@ -38,4 +38,5 @@ numbered_log (is ∷ log) = map (λ i. (length log, i)) is ++ numbered_log log
 -- the records of level d and of those further inward, newest first
 abbrev pub records_from : {A : Type 0} → ℕ → List (List A) → List A
 records_from d [] = []
-records_from d (is ∷ log) = elim (nat_le d (length log)) [ true ↦ is ++ records_from d log | false ↦ [] ]
+records_from d (is ∷ log) =
+    elim (nat_le d (length log)) [ true ↦ is ++ records_from d log | false ↦ [] ]

@@ -58,7 +58,8 @@ same_bytes xs ys = pointwise nat_eq xs ys
 abbrev pub entry_named : List ℕ → ℕ → List (Option FileRow) → Option ℕ
 entry_named name n [] = None
 entry_named name n (None ∷ rows) = entry_named name (suc n) rows
-entry_named name n (Some r ∷ rows) = elim (same_bytes r.name name) [ true ↦ Some n | false ↦ entry_named name (suc n) rows ]
+entry_named name n (Some r ∷ rows) =
+    elim (same_bytes r.name name) [ true ↦ Some n | false ↦ entry_named name (suc n) rows ]
 
 -- the usable entry of this name
 abbrev pub file_named : World → List ℕ → Option ℕ

@@ -239,7 +239,8 @@ pub struct Instr {
     pub imm: u32,
 }
 
-/// The keys under which images are sealed: the first, whose number is 0, and the second, number 1, if one was given.
+/// The keys under which images are sealed: the first, whose number is 0, and the second, number 1,
+/// if one was given.
 #[derive(Clone, Copy)]
 pub struct Keys {
     pub first: [u8; 32],
@@ -284,7 +285,8 @@ pub struct FileRow {
     pub length: u32,
 }
 
-/// An object that a piece needs. `by_user`: the process that holds it as a user lock is a blocker too.
+/// An object that a piece needs. `by_user`: the process that holds it as a user lock is a blocker
+/// too.
 #[derive(Clone, Copy)]
 pub struct Need {
     pub object: Object,
@@ -388,8 +390,9 @@ pub enum Held {
     Exclusive,
 }
 
-/// What one instruction of a graft came to: it went on; it waits for an object of this process, as a user lock or
-/// not; the call's level 0 returned this answer; or this level of the graft at (installer, point) was dropped.
+/// What one instruction of a graft came to: it went on; it waits for an object of this process, as
+/// a user lock or not; the call's level 0 returned this answer; or this level of the graft at
+/// (installer, point) was dropped.
 #[derive(Clone, Copy)]
 pub enum Micro {
     Went,

@@ -10,7 +10,8 @@ use Rattle.kernel_state.specs.declared.Access.{Access}
 
 -- what the accessor of an id does with its three arguments, for a graft of process q
 abbrev pub accessed_with : (id : ℕ) (args : List ℕ) (q : ℕ) → Things → Accessed
-accessed_with id args q w = access id (slice_index args 0) (slice_index args 1) (slice_index args 2) q w
+accessed_with id args q w =
+    access id (slice_index args 0) (slice_index args 1) (slice_index args 2) q w
 
 -- the answer of an accessor: the result and what undoes the change, or the refusal
 abbrev pub answer_of : Accessed → Result Access Cause
@@ -29,6 +30,8 @@ things_after (Refuses cause) w = w
 abbrev pub CanBeUndone : Inverse → Things → Type 0
 CanBeUndone (Cell q k v) w = (lives w.queue q ≡ true) × (k < 4)
 CanBeUndone (Nice q v) w = (lives w.queue q ≡ true) × (v ≤ 39)
-CanBeUndone (Window q fd v) w = (lives w.queue q ≡ true) × (fd < 4) × (is_some (w.file q fd) ≡ true) × (v ≤ 8)
+CanBeUndone (Window q fd v) w = (lives w.queue q ≡ true) × (fd < 4) × (is_some (w.file q fd) ≡ true)
+    × (v ≤ 8)
 CanBeUndone (Mark f v) w = is_some (w.cache.frame f) ≡ true
-CanBeUndone (Tune kind k v) w = (kind < 3) × (in_range (param_top kind (w.pol kind).chosen) k v ≡ true)
+CanBeUndone (Tune kind k v) w = (kind < 3)
+    × (in_range (param_top kind (w.pol kind).chosen) k v ≡ true)

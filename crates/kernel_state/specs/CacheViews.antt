@@ -10,7 +10,8 @@ frame_bytes memory f = slice_range memory (512 * f) (512 * f + 512)
 
 -- a frame in use, with these bytes
 abbrev pub value_with : List ℕ → FrameRow → FrameValue
-value_with bytes r = record { owner = r.owner; block = r.block; dirty = r.dirty; mark = r.mark; bytes = bytes }
+value_with bytes r =
+    record { owner = r.owner; block = r.block; dirty = r.dirty; mark = r.mark; bytes = bytes }
 
 -- what frame f is, if it is in use
 abbrev pub frame_value : (memory : List ℕ) → ℕ → Option FrameRow → Option FrameValue

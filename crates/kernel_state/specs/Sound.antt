@@ -10,7 +10,8 @@ use Rattle.kernel_model.specs.Sound.{IsSoundFile}
 use Rattle.process_table.specs.Processes.{Processes}
 use Rattle.kernel_state.specs.declared.Setup.{Setup}
 
--- what no call changes, on a disk of this size with this directory: grafts may call each id of the list
+-- what no call changes, on a disk of this size with this directory: grafts may call each id of the
+-- list
 abbrev pub world_for : Setup → (size : ℕ) → (directory : List (Option FileRow)) → World
 world_for u size directory =
     record {

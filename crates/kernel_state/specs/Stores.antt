@@ -42,7 +42,8 @@ policies_of s = pol_of (views_of s) s.choice
 
 -- the objects
 abbrev pub objects_of : {B : Type 0} {P : _} → Store B P → Objects
-objects_of s = objects_with (accounts_of s.accounts) (processes_of s.procs) (cache_of s) (policies_of s)
+objects_of s =
+    objects_with (accounts_of s.accounts) (processes_of s.procs) (cache_of s) (policies_of s)
 
 -- ---- memory
 

@@ -30,7 +30,8 @@ impl<B: Policy> Store<B> {
         ensures living { (p : ℕ) → lives (queue_of self.new) p ≡ lives (queue_of self.old) p }
         ensures world { world_of_store self.new ≡ world_of_store self.old }
         ensures memory { self.new.ram ≡ self.old.ram }
-        ensures undoable { IfOk result (λ a. IfSome a.inverse (λ i. CanBeUndone i (objects_of self.new).things)) }
+        ensures undoable { IfOk result
+            (λ a. IfSome a.inverse (λ i. CanBeUndone i (objects_of self.new).things)) }
         ensures kept { (i : Inverses) → CanBeUndone i (objects_of self.old).things →
             CanBeUndone i (objects_of self.new).things }
     {
@@ -68,7 +69,8 @@ impl<B: Policy> Store<B> {
         requires early { early_refusal 15 id (slice_index args 0) (slice_index args 1) q ≡ None }
         ensures answer { result ≡
             answer_of (accessed_with id args q (objects_of self.now).things) }
-        ensures undoable { IfOk result (λ a. IfSome a.inverse (λ i. CanBeUndone i (objects_of self.now).things)) }
+        ensures undoable { IfOk result
+            (λ a. IfSome a.inverse (λ i. CanBeUndone i (objects_of self.now).things)) }
     {
         let [first, second, third] = args;
         match id {
@@ -93,7 +95,8 @@ impl<B: Policy> Store<B> {
         requires lives { lives (queue_of self.old) q ≡ true }
         requires plain { id ≤ 12 }
         requires early { early_refusal 15 id (slice_index args 0) (slice_index args 1) q ≡ None }
-        requires accepted { is_ok (answer_of (accessed_with id args q (objects_of self.old).things)) ≡ true }
+        requires accepted { is_ok (answer_of (accessed_with id args q (objects_of self.old).things))
+            ≡ true }
         ensures objects { let s = objects_of self.old in objects_of self.new ≡
             with_things (things_after (accessed_with id args q s.things) s.things) s }
         ensures living { (p : ℕ) → lives (queue_of self.new) p ≡ lives (queue_of self.old) p }
@@ -110,7 +113,8 @@ impl<B: Policy> Store<B> {
         requires lives { lives (queue_of self.old) q ≡ true }
         requires plain { id ≤ 12 }
         requires early { early_refusal 15 id (slice_index args 0) (slice_index args 1) q ≡ None }
-        requires accepted { is_ok (answer_of (accessed_with id args q (objects_of self.old).things)) ≡ true }
+        requires accepted { is_ok (answer_of (accessed_with id args q (objects_of self.old).things))
+            ≡ true }
         ensures objects { let s = objects_of self.old in objects_of self.new ≡
             with_things (things_after (accessed_with id args q s.things) s.things) s }
         ensures living { (p : ℕ) → lives (queue_of self.new) p ≡ lives (queue_of self.old) p }
@@ -132,7 +136,8 @@ impl<B: Policy> Store<B> {
         requires lives { lives (queue_of self.now) q ≡ true }
         requires number { k < 4 }
         ensures answer { result ≡ answer_of (accessed 1 k 0 0 q (objects_of self.now).things) }
-        ensures undoable { IfOk result (λ a. IfSome a.inverse (λ i. CanBeUndone i (objects_of self.now).things)) }
+        ensures undoable { IfOk result
+            (λ a. IfSome a.inverse (λ i. CanBeUndone i (objects_of self.now).things)) }
     {
         let was = self.cell(q, k);
         changes(was, Inverse::Cell(q, k, was))
@@ -141,7 +146,8 @@ impl<B: Policy> Store<B> {
     fn nice_set(&self, q: u8) -> Result<Access, Cause>
         requires { lives (queue_of self.now) q ≡ true }
         ensures answer { result ≡ answer_of (accessed 3 0 0 0 q (objects_of self.now).things) }
-        ensures undoable { IfOk result (λ a. IfSome a.inverse (λ i. CanBeUndone i (objects_of self.now).things)) }
+        ensures undoable { IfOk result
+            (λ a. IfSome a.inverse (λ i. CanBeUndone i (objects_of self.now).things)) }
     {
         let was = self.nice(q);
         changes(u32::from(was), Inverse::Nice(q, was))
@@ -161,8 +167,10 @@ impl<B: Policy> Store<B> {
     fn window_set(&self, q: u8, fd: u8) -> Result<Access, Cause>
         requires lives { lives (queue_of self.now) q ≡ true }
         requires number { fd < 4 }
-        ensures answer { (v : ℕ) → result ≡ answer_of (accessed 5 fd v 0 q (objects_of self.now).things) }
-        ensures undoable { IfOk result (λ a. IfSome a.inverse (λ i. CanBeUndone i (objects_of self.now).things)) }
+        ensures answer { (v : ℕ) →
+            result ≡ answer_of (accessed 5 fd v 0 q (objects_of self.now).things) }
+        ensures undoable { IfOk result
+            (λ a. IfSome a.inverse (λ i. CanBeUndone i (objects_of self.now).things)) }
     {
         match self.file(q, fd) {
             Some(row) => changes(u32::from(row.window), Inverse::Window(q, fd, row.window)),
@@ -191,8 +199,10 @@ impl<B: Policy> Store<B> {
     }
 
     fn frame_mark(&self, q: u8, f: u32) -> Result<Access, Cause>
-        ensures answer { (v : ℕ) → result ≡ answer_of (accessed 9 f v 0 q (objects_of self.now).things) }
-        ensures undoable { IfOk result (λ a. IfSome a.inverse (λ i. CanBeUndone i (objects_of self.now).things)) }
+        ensures answer { (v : ℕ) →
+            result ≡ answer_of (accessed 9 f v 0 q (objects_of self.now).things) }
+        ensures undoable { IfOk result
+            (λ a. IfSome a.inverse (λ i. CanBeUndone i (objects_of self.now).things)) }
     {
         match self.row(f) {
             Some(row) if row.owner == q => {
@@ -216,7 +226,8 @@ impl<B: Policy> Store<B> {
     fn tune_set(&self, kind: u8, k: u32, v: u32) -> Result<Access, Cause>
         requires kind { kind < 3 }
         ensures answer { result ≡ answer_of (accessed 11 kind k v 0 (objects_of self.now).things) }
-        ensures undoable { IfOk result (λ a. IfSome a.inverse (λ i. CanBeUndone i (objects_of self.now).things)) }
+        ensures undoable { IfOk result
+            (λ a. IfSome a.inverse (λ i. CanBeUndone i (objects_of self.now).things)) }
     {
         match self.param(kind) {
             Some(was) if self.takes(kind, k, v) => changes(was, Inverse::Tune(kind, 0, was)),

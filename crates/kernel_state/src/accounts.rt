@@ -56,7 +56,8 @@ impl<B: Policy> Store<B> {
         self.accounts.install(p, pt, image, limit);
     }
 
-    /// Takes out the graft at point pt of process p, if one stands, and gives what it has back to p.
+    /// Takes out the graft at point pt of process p, if one stands, and gives what it has back to
+    /// p.
     pub fn remove(&mut self, p: u8, pt: u8)
         requires lives { lives (queue_of self.old) p ≡ true }
         requires point { pt < 16 }

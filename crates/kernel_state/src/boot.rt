@@ -25,7 +25,8 @@ impl<B: Policy> Store<B> {
         requires frames_most { setup.frames ≤ 64 }
         requires size_least { 1 ≤ size }
         requires size_most { size ≤ 4096 }
-        requires files { (n : ℕ) (r : Row) → slice_index_or dir n None ≡ Some r → lies_on_disk size r ≡ true }
+        requires files { (n : ℕ) (r : Row) → slice_index_or dir n None ≡ Some r →
+            lies_on_disk size r ≡ true }
         requires shelf { IsShelf shelf }
         requires stock { pol_of shelf first_choice ≡ opening_policy }
         ensures objects { objects_of result ≡ opening_objects setup.grant }
@@ -54,7 +55,8 @@ impl<B: Policy> Store<B> {
         requires frames_most { setup.frames ≤ 64 }
         requires size_least { 1 ≤ size }
         requires size_most { size ≤ 4096 }
-        requires files { (n : ℕ) (r : Row) → slice_index_or dir n None ≡ Some r → lies_on_disk size r ≡ true }
+        requires files { (n : ℕ) (r : Row) → slice_index_or dir n None ≡ Some r →
+            lies_on_disk size r ≡ true }
         requires stock { pol_of (views_of self.old) first_choice ≡ opening_policy }
         ensures objects { objects_of self.new ≡ opening_objects setup.grant }
         ensures world { world_of_store self.new ≡ world_for setup size dir }

@@ -31,7 +31,8 @@ impl<B: Policy> Store<B> {
         ensures value { result ≡ free_frame (cache_of self.now) (world_of_store self.now).frames 0 }
         ensures some { 2 ≤ self.now.cache.count }
         ensures below { IfSome result (λ f. f < self.now.cache.count) }
-        ensures full { IfNone result ((f : ℕ) → f < self.now.cache.count → in_use f self.now.cache ≡ true) }
+        ensures full { IfNone result ((f : ℕ) → f < self.now.cache.count →
+            in_use f self.now.cache ≡ true) }
     {
         self.cache.lru();
         self.cache.free()
@@ -39,8 +40,10 @@ impl<B: Policy> Store<B> {
 
     /// The frames in use, oldest first.
     pub fn frame_rows(&self) -> FrameRows
-        ensures value { map (λ (r : Row). Some r) result ≡ map (row_at self.now.cache.rows) self.now.cache.order }
-        ensures shown { result ≡ filter_map (frame_row_of (objects_of self.now)) (cache_of self.now).lru }
+        ensures value { map (λ (r : Row). Some r) result
+            ≡ map (row_at self.now.cache.rows) self.now.cache.order }
+        ensures shown { result
+            ≡ filter_map (frame_row_of (objects_of self.now)) (cache_of self.now).lru }
     {
         let mut rows = FrameRows::new();
         for f in self.cache.lru() {
@@ -52,7 +55,8 @@ impl<B: Policy> Store<B> {
     /// The candidate for eviction by default: the frame that the chosen policy evicts of those in
     /// use, if there are some.
     pub fn candidate(&self) -> Option<u8>
-        ensures value { result ≡ victim_among (policies_of self.now 1) (cache_of self.now) (cache_of self.now).lru }
+        ensures value { result
+            ≡ victim_among (policies_of self.now 1) (cache_of self.now) (cache_of self.now).lru }
         ensures in_cache { IfSome result (λ f. in_use f self.now.cache ≡ true) }
         ensures none { IfNone result ((f : ℕ) → in_use f self.now.cache ≡ false) }
     {
@@ -83,7 +87,8 @@ impl<B: Policy> Store<B> {
     /// Makes frame f, which is in use, the newest.
     pub fn touch(&mut self, f: u8)
         requires in_cache { in_use f self.old.cache ≡ true }
-        ensures objects { objects_of self.new ≡ with_cache (used f (cache_of self.old)) (objects_of self.old) }
+        ensures objects { objects_of self.new
+            ≡ with_cache (used f (cache_of self.old)) (objects_of self.old) }
         ensures world { world_of_store self.new ≡ world_of_store self.old }
         ensures kept { (g : ℕ) → in_use g self.new.cache ≡ in_use g self.old.cache }
         ensures memory { self.new.ram ≡ self.old.ram }
@@ -109,7 +114,8 @@ impl<B: Policy> Store<B> {
         self.cache.fill(&mut self.ram, f, owner, block, bytes);
     }
 
-    /// Fills frame f, which is in use, with a block that no frame holds, once it changed places with the candidate.
+    /// Fills frame f, which is in use, with a block that no frame holds, once it changed places
+    /// with the candidate.
     pub fn replace(&mut self, f: u8, candidate: u8, owner: u8, block: u32, bytes: &[u8; 512])
         requires frame { in_use f self.old.cache ≡ true }
         requires candidate { in_use candidate self.old.cache ≡ true }
@@ -147,8 +153,10 @@ impl<B: Policy> Store<B> {
 
     /// The block of frame f, where it is in use and dirty.
     pub fn dirty_block(&self, f: u8) -> Option<u32>
-        ensures value { result ≡ option_map (λ (x : FrameValue). x.block) (dirty_value ((cache_of self.now).frame f)) }
-        ensures in_cache { IfSome result (λ b. (b < self.now.size) × (in_use f self.now.cache ≡ true)) }
+        ensures value { result
+            ≡ option_map (λ (x : FrameValue). x.block) (dirty_value ((cache_of self.now).frame f)) }
+        ensures in_cache { IfSome result (λ b. (b < self.now.size)
+            × (in_use f self.now.cache ≡ true)) }
     {
         if !self.is_used(f) {
             return None;

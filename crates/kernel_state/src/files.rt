@@ -82,7 +82,8 @@ impl<B: Policy> Store<B> {
         Ok(row.start + i)
     }
 
-    /// The disk's block that is to be read ahead next for an open file, which has one to be read ahead.
+    /// The disk's block that is to be read ahead next for an open file, which has one to be read
+    /// ahead.
     pub fn block_ahead(&self, opened: &OpenRow) -> u32
         requires file { IsSoundFile (world_of_store self.now) opened.now }
         requires some { 1 ≤ opened.now.count }
@@ -103,7 +104,8 @@ impl<B: Policy> Store<B> {
     /// What is to be read ahead of an open file by default, as the chosen policy has it.
     pub fn ahead(&self, opened: &OpenRow) -> Ahead
         requires file { IsSoundFile (world_of_store self.now) opened.now }
-        ensures value { ahead_default (world_of_store self.now) (policies_of self.now 0) (Some opened.now) ≡
+        ensures value { ahead_default (world_of_store self.now) (policies_of self.now 0)
+            (Some opened.now) ≡
             (result.start, result.count) }
         ensures sound { IsSoundFile (world_of_store self.now)
             (record (opened.now) { start = result.start; count = result.count }) }

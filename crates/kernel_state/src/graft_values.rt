@@ -1,4 +1,5 @@
-//! Values of a store that only grafts look at and change: nices, windows, marks, and the frames of one process.
+//! Values of a store that only grafts look at and change: nices, windows, marks, and the frames of
+//! one process.
 
 ghost use Rattle.std.specs.Prelude.{◌≡◌, ℕ, ◌<◌, ◌≤◌, true, Some, [], nat_le, map, is_some, IfSome, IfNone};
 ghost use Rattle.std.specs.List.{list_all};
@@ -119,7 +120,8 @@ impl<B: Policy> Store<B> {
         }
     }
 
-    /// The candidate for eviction of process q: the frame that the chosen policy evicts of those of q, if it has some.
+    /// The candidate for eviction of process q: the frame that the chosen policy evicts of those of
+    /// q, if it has some.
     pub fn candidate_of(&self, q: u8) -> Option<u8>
         ensures value { result ≡
             victim_among (policies_of self.now 1) (cache_of self.now) (frames_of (cache_of self.now) q) }

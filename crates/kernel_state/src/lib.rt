@@ -1,6 +1,8 @@
-//! The kernel's state as one store: set-up, processes, accounts, cache, memory, policies and the disk's directory.
+//! The kernel's state as one store: set-up, processes, accounts, cache, memory, policies and the
+//! disk's directory.
 //!
-//! Contracts see a store as the objects and the world of the definitions, and each change of it as a change of objects.
+//! Contracts see a store as the objects and the world of the definitions, and each change of it as
+//! a change of objects.
 #![tactic(auto)]
 
 ghost use Rattle.kernel_state.specs.Sound.{StoreFits, world_for, things_with};
@@ -70,8 +72,8 @@ pub struct Ahead {
     pub count: u8,
 }
 
-/// What a plain accessor of a graft gives where it isn't refused: a result, and what undoes its change if it changes
-/// something.
+/// What a plain accessor of a graft gives where it isn't refused: a result, and what undoes its
+/// change if it changes something.
 #[derive(Clone, Copy)]
 pub struct Access {
     pub result: u32,

@@ -34,7 +34,8 @@ impl<B: Policy> Store<B> {
     /// most, and it has a range.
     pub fn takes(&self, kind: u8, k: u32, v: u32) -> bool
         requires { kind < 3 }
-        ensures { result ≡ in_range (param_top kind ((objects_of self.now).things.pol kind).chosen) k v }
+        ensures { result
+            ≡ in_range (param_top kind ((objects_of self.now).things.pol kind).chosen) k v }
     {
         match top_of(kind, self.chosen(kind)) {
             Some(top) => k == 0 && v <= top,
@@ -62,7 +63,8 @@ impl<B: Policy> Store<B> {
     /// The other policies stay what they were.
     pub fn set_param(&mut self, kind: u8, v: u32)
         requires kind { kind < 3 }
-        requires range { in_range (param_top kind ((objects_of self.old).things.pol kind).chosen) 0 v ≡ true }
+        requires range { in_range
+            (param_top kind ((objects_of self.old).things.pol kind).chosen) 0 v ≡ true }
         ensures objects { objects_of self.new ≡
             with_things (param_set kind v (objects_of self.old).things) (objects_of self.old) }
         ensures queue { queue_of self.new ≡ queue_of self.old }

@@ -29,12 +29,14 @@ impl<B: Policy> Store<B> {
         self.procs.free()
     }
 
-    /// The least number that isn't living joins at the back. None, with nothing changed, where 16 processes live.
+    /// The least number that isn't living joins at the back. None, with nothing changed, where 16
+    /// processes live.
     pub fn spawn(&mut self) -> Option<u8>
         ensures number { result ≡ free_process (queue_of self.old) 16 0 }
         ensures objects { objects_of self.new ≡
             with_queue (queue_joined result (queue_of self.old)) (objects_of self.old) }
-        ensures living { (q : ℕ) → lives (queue_of self.old) q ≡ true → lives (queue_of self.new) q ≡ true }
+        ensures living { (q : ℕ) → lives (queue_of self.old) q ≡ true →
+            lives (queue_of self.new) q ≡ true }
         ensures world { world_of_store self.new ≡ world_of_store self.old }
         ensures memory { self.new.ram ≡ self.old.ram }
     {
@@ -44,7 +46,8 @@ impl<B: Policy> Store<B> {
     /// Process p goes to the back of the queue.
     pub fn to_back(&mut self, p: u8)
         requires lives { lives (queue_of self.old) p ≡ true }
-        ensures objects { objects_of self.new ≡ with_queue (queue_to_back p (queue_of self.old)) (objects_of self.old) }
+        ensures objects { objects_of self.new
+            ≡ with_queue (queue_to_back p (queue_of self.old)) (objects_of self.old) }
         ensures living { (q : ℕ) → lives (queue_of self.new) q ≡ lives (queue_of self.old) q }
         ensures world { world_of_store self.new ≡ world_of_store self.old }
         ensures memory { self.new.ram ≡ self.old.ram }
@@ -63,7 +66,8 @@ impl<B: Policy> Store<B> {
               accounts = account_closed p (without_grafts p 16 s.accounts);
               things = things_without p s.things;
             } }
-        ensures living { (q : ℕ) → lives (queue_of self.new) q ≡ (lives (queue_of self.old) q && not (q == p)) }
+        ensures living { (q : ℕ) →
+            lives (queue_of self.new) q ≡ (lives (queue_of self.old) q && not (q == p)) }
         ensures queue { queue_of self.new ≡ queue_without p (queue_of self.old) }
         ensures world { world_of_store self.new ≡ world_of_store self.old }
         ensures memory { self.new.ram ≡ self.old.ram }

@@ -25,7 +25,12 @@ did_nothing x kept d =
     record {
       io = [];
       made = made_none d.faults d.plan;
-      goes = λ blocks notes rest tells k. record { placed = refl; notes = k; blocks = tells; io = refl };
+      goes = λ blocks notes rest tells k. record {
+        placed = refl;
+        notes = k;
+        blocks = tells;
+        io = refl;
+      };
     }
 
 -- another change that comes to the same from here
@@ -37,19 +42,23 @@ did_as f g x y kept kept_new d e same h =
     record {
       io = h.io;
       made = h.made;
-      goes = λ blocks notes rest tells k. subst (λ r. CameAs r y kept_new e.told rest) (sym (same blocks notes (h.io ++ rest))) (h.goes blocks notes rest tells k);
+      goes = λ blocks notes rest tells k. subst (λ r. CameAs r y kept_new e.told rest)
+          (sym (same blocks notes (h.io ++ rest))) (h.goes blocks notes rest tells k);
     }
 
 -- a change without a call of the disk, which adds these notes
 pub did_purely : (f : PlacedRun → PlacedRun) (x y : Placed) (kept kept_new more : List Note)
     (d : DiskSeen) → ((blocks : Blocks) (notes : List Note) (io : List Bool) →
     f (run_of x blocks notes io) ≡ run_of y blocks (notes ++ more) io) →
-    ((notes : List Note) → kept ≡ first_notes notes → kept_new ≡ first_notes (notes ++ more)) → Did f x y kept kept_new d d
+    ((notes : List Note) → kept ≡ first_notes notes → kept_new ≡ first_notes (notes ++ more)) →
+    Did f x y kept kept_new d d
 did_purely f x y kept kept_new more d same adds =
     record {
       io = [];
       made = made_none d.faults d.plan;
-      goes = λ blocks notes rest tells k. subst (λ r. CameAs r y kept_new d.told rest) (sym (same blocks notes rest)) (record { placed = refl; notes = adds notes k; blocks = tells; io = refl });
+      goes = λ blocks notes rest tells k.
+          subst (λ r. CameAs r y kept_new d.told rest) (sym (same blocks notes rest))
+          (record { placed = refl; notes = adds notes k; blocks = tells; io = refl });
     }
 
 -- one after the other
@@ -58,11 +67,15 @@ pub did_then : (f g : PlacedRun → PlacedRun) (x y z : Placed) (a b c : List No
 did_then f g x y z a b c d e l first second =
     record {
       io = first.io ++ second.io;
-      made = made_joined d.faults e.faults l.faults d.plan e.plan l.plan first.io second.io first.made second.made;
+      made = made_joined d.faults e.faults l.faults d.plan e.plan l.plan first.io second.io
+          first.made second.made;
       goes = λ blocks notes rest tells k.
-          let one = subst (λ io. CameAs (f (run_of x blocks notes io)) y b e.told (second.io ++ rest)) (sym (append_assoc first.io second.io rest)) (first.goes blocks notes (second.io ++ rest) tells k) in
+          let one = subst (λ io. CameAs (f (run_of x blocks notes io)) y b e.told (second.io
+          ++ rest)) (sym (append_assoc first.io second.io rest))
+          (first.goes blocks notes (second.io ++ rest) tells k) in
           let r : PlacedRun = f (run_of x blocks notes ((first.io ++ second.io) ++ rest)) in
-          subst (λ s. CameAs (g s) z c l.told rest) (sym (run_is r y b e.told (second.io ++ rest) one))
+          subst (λ s. CameAs (g s) z c l.told rest)
+          (sym (run_is r y b e.told (second.io ++ rest) one))
           (second.goes r.blocks r.notes rest one.blocks one.notes);
     }
 
@@ -72,7 +85,13 @@ pub reaches_as : (f g : PlacedRun → PlacedRun) (x y : Placed) →
     ((blocks : Blocks) (notes : List Note) (io : List Bool) →
     f (run_of x blocks notes io) ≡ g (run_of x blocks notes io)) → Reaches g x y → Reaches f x y
 reaches_as f g x y same h =
-    record { blocks = h.blocks; whole = h.whole; io = h.io; goes = λ notes. ap (λ (r : PlacedRun). r.placed) (same h.blocks notes h.io) ∙ h.goes notes }
+    record {
+      blocks = h.blocks;
+      whole = h.whole;
+      io = h.io;
+      goes = λ notes. ap (λ (r : PlacedRun). r.placed) (same h.blocks notes h.io)
+          ∙ h.goes notes;
+    }
 
 -- behind a change without a call of the disk
 pub reaches_behind : (f g : PlacedRun → PlacedRun) (x y z : Placed) (more : List Note) →
@@ -91,11 +110,22 @@ reaches_behind f g x y z more world same h =
 pub reaches_before : (f g : PlacedRun → PlacedRun) (x y z : Placed) →
     ((r : PlacedRun) → r.placed ≡ y → (g r).placed ≡ z) → Reaches f x y → Reaches (λ r. g (f r)) x z
 reaches_before f g x y z same h =
-    record { blocks = h.blocks; whole = h.whole; io = h.io; goes = λ notes. same (f (run_of x h.blocks notes h.io)) (h.goes notes) }
+    record {
+      blocks = h.blocks;
+      whole = h.whole;
+      io = h.io;
+      goes = λ notes. same (f (run_of x h.blocks notes h.io)) (h.goes notes);
+    }
 
 -- a change without a call of the disk, over some whole blocks
 pub reaches_purely : (f : PlacedRun → PlacedRun) (x y : Placed) (more : List Note)
     (blocks : Blocks) → HasWholeBlocks x.world blocks →
-    ((blocks : Blocks) (notes : List Note) (io : List Bool) → f (run_of x blocks notes io) ≡ run_of y blocks (notes ++ more) io) → Reaches f x y
+    ((blocks : Blocks) (notes : List Note) (io : List Bool) →
+    f (run_of x blocks notes io) ≡ run_of y blocks (notes ++ more) io) → Reaches f x y
 reaches_purely f x y more blocks whole same =
-    record { blocks = blocks; whole = whole; io = []; goes = λ notes. ap (λ (r : PlacedRun). r.placed) (same blocks notes []) }
+    record {
+      blocks = blocks;
+      whole = whole;
+      io = [];
+      goes = λ notes. ap (λ (r : PlacedRun). r.placed) (same blocks notes []);
+    }

@@ -19,14 +19,18 @@ first_notes notes = take 530 notes
 
 -- ---- a change of an event under way
 
--- a change that makes no call of the disk took one kernel in place to another and added these notes, and the notes that are kept to
+-- a change that makes no call of the disk took one kernel in place to another and added these
+-- notes, and the notes that are kept to
 -- those
-abbrev pub Says : (PlacedRun → PlacedRun) → Placed → Placed → (more kept kept_new : List Note) → Type 0
+abbrev pub Says : (PlacedRun → PlacedRun) → Placed → Placed → (more kept kept_new : List Note) →
+    Type 0
 Says f x y more kept kept_new =
-    ((notes : List Note) (blocks : Blocks) (io : List Bool) → f (run_of x blocks notes io) ≡ run_of y blocks (notes ++ more) io)
+    ((notes : List Note) (blocks : Blocks) (io : List Bool) →
+    f (run_of x blocks notes io) ≡ run_of y blocks (notes ++ more) io)
     × ((notes : List Note) → kept ≡ first_notes notes → kept_new ≡ first_notes (notes ++ more))
 
--- an event under way has come to this kernel in place, of its notes these are kept, the disk tells its blocks, and its next calls
+-- an event under way has come to this kernel in place, of its notes these are kept, the disk tells
+-- its blocks, and its next calls
 -- will do this
 pub record CameAs (r : PlacedRun) (y : Placed) (kept : List Note) (told : Option (List (List ℕ)))
     (rest : List Bool) : Type 0 where
@@ -35,16 +39,20 @@ pub record CameAs (r : PlacedRun) (y : Placed) (kept : List Note) (told : Option
   pub blocks : Tells told r.blocks
   pub io : r.io ≡ rest
 
--- A change of an event under way took one kernel in place to another, the notes that are kept of it to these, and the disk from
+-- A change of an event under way took one kernel in place to another, the notes that are kept of it
+-- to these, and the disk from
 -- the one to the other. Where the disk tells its blocks, all is as the definitions have it.
-pub record Did (f : PlacedRun → PlacedRun) (x y : Placed) (kept kept_new : List Note) (d e : DiskSeen) : Type 0 where
+pub record Did (f : PlacedRun →
+    PlacedRun) (x y : Placed) (kept kept_new : List Note) (d e : DiskSeen) : Type 0 where
   -- which of its calls of the disk failed
   pub io : List Bool
   pub made : Made d.faults e.faults d.plan e.plan io
-  pub goes : (blocks : Blocks) (notes : List Note) (rest : List Bool) → Tells d.told blocks → kept ≡ first_notes notes →
+  pub goes : (blocks : Blocks) (notes : List Note) (rest : List Bool) → Tells d.told blocks →
+      kept ≡ first_notes notes →
       CameAs (f (run_of x blocks notes (io ++ rest))) y kept_new e.told rest
 
--- Whether the disk tells its blocks or not: over some whole ones the change takes the one kernel in place to the other.
+-- Whether the disk tells its blocks or not: over some whole ones the change takes the one kernel in
+-- place to the other.
 pub record Reaches (f : PlacedRun → PlacedRun) (x y : Placed) : Type 0 where
   pub blocks : Blocks
   pub whole : HasWholeBlocks x.world blocks
@@ -53,13 +61,15 @@ pub record Reaches (f : PlacedRun → PlacedRun) (x y : Placed) : Type 0 where
 
 -- ---- a piece
 
--- what is left of a piece of a call: the objects, the call, the notes that are kept of it, what the disk tells, and how many calls
+-- what is left of a piece of a call: the objects, the call, the notes that are kept of it, what the
+-- disk tells, and how many calls
 -- of the disk were made
 pub record PieceLeft (c : PlacedCall) (q : Piece) (u : Objects) (call : Option PlacedCall)
     (notes kept : List Note) (told : Option (List (List ℕ))) (calls : ℕ) : Type 0 where
   pub objects : u ≡ q.objects
   pub call_is : call ≡ placed_after c q.after
-  pub kept_are : kept ≡ first_notes (notes ++ gave_note c.number q.gave ++ after_note c.number q.after)
+  pub kept_are : kept ≡ first_notes (notes ++ gave_note c.number q.gave
+      ++ after_note c.number q.after)
   pub blocks : Tells told q.blocks
   pub all_made : calls ≡ q.calls
 
@@ -80,6 +90,7 @@ pub record PieceDone (m : Meaning) (v : World) (s u : Objects) (p : ℕ) (c : Pl
   pub made : Made d.faults e.faults d.plan e.plan io
   pub goes : (images : ImageTable) (blocks : Blocks) (notes : List Note) (rest : List Bool) →
       Tells d.told blocks → kept ≡ first_notes notes →
-      PieceLeft c (m.piece v images s blocks p c.stage (answer_seen answer) (io ++ rest)) u call notes kept_new e.told (length io)
+      PieceLeft c (m.piece v images s blocks p c.stage (answer_seen answer) (io
+      ++ rest)) u call notes kept_new e.told (length io)
   pub some : (images : ImageTable) → PieceMayLeave v
       (λ blocks io. m.piece v images s blocks p c.stage (answer_seen answer) io) c u call

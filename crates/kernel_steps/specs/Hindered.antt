@@ -17,5 +17,6 @@ blocking_by {W = W} flights h =
     record {
       object = h.object;
       holder = h.holder;
-      call = cond h.by_user None (option_map (λ (f : InFlight W). f.number) (flight_of flights h.holder).call);
+      call = cond h.by_user None
+          (option_map (λ (f : InFlight W). f.number) (flight_of flights h.holder).call);
     }

@@ -15,7 +15,8 @@ take_room (suc n) [] x h = ap (λ zs. x ∷ zs) (sym (take_none n))
 take_room (suc n) (y ∷ ys) x h = ap (λ zs. y ∷ zs) (take_room n ys x (omega (arith, h)))
 
 -- and where there is none
-take_full : {A : Type 0} (n : ℕ) (xs : List A) (x : A) → n ≤ length (take n xs) → take n xs ≡ take n (xs ++ x ∷ [])
+take_full : {A : Type 0} (n : ℕ) (xs : List A) (x : A) → n ≤ length (take n xs) →
+    take n xs ≡ take n (xs ++ x ∷ [])
 take_full zero xs x h = refl
 take_full (suc n) [] x h = absurd (omega (arith, h))
 take_full (suc n) (y ∷ ys) x h = ap (λ zs. y ∷ zs) (take_full n ys x (omega (arith, h)))
@@ -30,7 +31,8 @@ take_short (suc n) (x ∷ xs) h = ap (λ zs. x ∷ zs) (take_short n xs (omega (
 pub kept_more : (old : List Note) (all : List Note) (note : Note) → old ≡ first_notes all →
     length old < 530 → old ++ note ∷ [] ≡ first_notes (all ++ note ∷ [])
 unfolding first_notes
-kept_more old all note is room = ap (λ ns. ns ++ note ∷ []) is ∙ take_room 530 all note (subst (λ ns. length ns < 530) is room)
+kept_more old all note is room = ap (λ ns. ns ++ note ∷ []) is
+    ∙ take_room 530 all note (subst (λ ns. length ns < 530) is room)
 
 pub kept_full : (old : List Note) (all : List Note) (note : Note) → old ≡ first_notes all →
     530 ≤ length old → old ≡ first_notes (all ++ note ∷ [])

@@ -1,4 +1,5 @@
--- What a move of one call's levels makes of a running kernel: a level begins, an instruction, or the drop of a level.
+-- What a move of one call's levels makes of a running kernel: a level begins, an instruction, or
+-- the drop of a level.
 use Rattle.std.specs.Prelude.{◌≡◌, ◌≢◌, ℕ, map, length}
 use Rattle.kernel_model.specs.declared.Held.{Held}
 use Rattle.kernel_model.specs.declared.Object.{Object}
@@ -17,8 +18,10 @@ use Rattle.kernel_steps.specs.Views.{flight_of, chain_of}
 abbrev pub come_to : ℕ → Config → Placed → Placed
 come_to p c x = record x { objects = c.now; levels = at p (map bare c.levels) x.levels }
 
--- The levels of p's call moved. They are in place again, and of all else the store has the same but for its objects: the calls,
--- the other chains and what they hold, the memory of other processes' levels, who lives, images, clock and order.
+-- The levels of p's call moved. They are in place again, and of all else the store has the same but
+-- for its objects: the calls,
+-- the other chains and what they hold, the memory of other processes' levels, who lives, images,
+-- clock and order.
 pub record Moved {C B M W : Type 0} {P : _} (x y : Running C B M W P) (p : ℕ) : Type 0 where
   pub elsewhere : IsElsewhereSame x.store y.store x.locks y.locks p
   pub placed : IsPlaced y.store y.locks p (chain_of y p).levels (chain_of y p).undo
@@ -31,7 +34,8 @@ pub record Moved {C B M W : Type 0} {P : _} (x y : Running C B M W P) (p : ℕ) 
   pub clock : y.clock ≡ x.clock
   pub order : y.order ≡ x.order
 
--- The levels of another call q stay in place, though the store changed: their owner lives, their records can still be undone, and
+-- The levels of another call q stay in place, though the store changed: their owner lives, their
+-- records can still be undone, and
 -- their grafts stand as they did.
 pub record StaysInPlace {C B M W : Type 0} {P : _} (y : Running C B M W P) (q : ℕ) : Type 0 where
   pub levels : AreSound (queue_of y.store) (chain_of y q).levels
@@ -39,5 +43,7 @@ pub record StaysInPlace {C B M W : Type 0} {P : _} (y : Running C B M W P) (q : 
   pub inside : AreInside (table_of y.images) (objects_of y.store).accounts q (chain_of y q).levels
 
 -- what a call q holds exclusively has the same values after a change
-abbrev pub HeldStays : {C B M W : Type 0} {P : _} → Running C B M W P → Running C B M W P → ℕ → Type 0
-HeldStays x y q = (d : ℕ) (o : Object) → held x.locks q d o ≡ Held.Exclusive → SameAt o (objects_of y.store) (objects_of x.store)
+abbrev pub HeldStays : {C B M W : Type 0} {P : _} → Running C B M W P → Running C B M W P → ℕ →
+    Type 0
+HeldStays x y q = (d : ℕ) (o : Object) → held x.locks q d o ≡ Held.Exclusive →
+    SameAt o (objects_of y.store) (objects_of x.store)

@@ -11,7 +11,11 @@ blocker_of b = record { object = b.object; holder = b.holder; call = b.call }
 
 -- an entry of the order
 abbrev pub entry_of : Waiting → Entry
-entry_of w = record { process = w.process; blocker = option_map blocker_of w.blocker; count = w.count }
+entry_of w = record {
+  process = w.process;
+  blocker = option_map blocker_of w.blocker;
+  count = w.count;
+}
 
 -- the order
 abbrev pub order_of : List Waiting → List Entry

@@ -36,7 +36,8 @@ module _ (m : Meaning) where
   after_said p c Micro.Went r = r
   after_said p c (Micro.Blocked object holder by_user) r = r
   after_said p c (Micro.Completed answer) r = finishes p c (Some answer) r
-  after_said p c (Micro.Dropped d q pt cause) r = after_drop p c d (placed_noted (Dropped c.number q pt cause) r)
+  after_said p c (Micro.Dropped d q pt cause) r =
+      after_drop p c d (placed_noted (Dropped c.number q pt cause) r)
 
 -- the answer with which what was said finishes the piece of a call, if it does
 abbrev pub answer_of_drop : (d : ℕ) → Option (Option (List ℕ))
@@ -56,8 +57,10 @@ pub record IsOfOne (c : Chain) : Type 0 where
   pub owner : ℕ
   pub own : AreOwned owner c.levels c.undo
 
--- What must hold of p's call for a step of it, of whatever else is in flight: its levels are in place.
-pub record StepsAlone {C B M W : Type 0} {P : _} (caller : W → ℕ) (x : Running C B M W P) (p : ℕ) : Type 0 where
+-- What must hold of p's call for a step of it, of whatever else is in flight: its levels are in
+-- place.
+pub record StepsAlone {C B M W : Type 0} {P : _} (caller : W →
+    ℕ) (x : Running C B M W P) (p : ℕ) : Type 0 where
   pub sixteen : length x.calls.items ≡ 16
   pub few : (q : ℕ) → length (chain_of x q).levels ≤ 4
   pub caller_is : (f : InFlight W) → (flight_of x.calls.items p).call ≡ Some f → caller f.work ≡ p
@@ -65,9 +68,11 @@ pub record StepsAlone {C B M W : Type 0} {P : _} (caller : W → ℕ) (x : Runni
   pub inside : AreInside (table_of x.images) (objects_of x.store).accounts p (chain_of x p).levels
   pub own : IsOfOne (chain_of x p)
 
--- A step of the call of p. Of all that is in flight p's alone has changed, the memory of grafts but for p's own, what the others
+-- A step of the call of p. Of all that is in flight p's alone has changed, the memory of grafts but
+-- for p's own, what the others
 -- hold, images, clock and order stay; and p's levels are in place again.
-pub record Stepped {C B M W : Type 0} {P : _} (caller : W → ℕ) (x y : Running C B M W P) (p : ℕ) : Type 0 where
+pub record Stepped {C B M W : Type 0} {P : _} (caller : W →
+    ℕ) (x y : Running C B M W P) (p : ℕ) : Type 0 where
   pub world : world_of_store y.store ≡ world_of_store x.store
   pub sixteen : length y.calls.items ≡ length x.calls.items
   pub caller_is : (f : InFlight W) → (flight_of y.calls.items p).call ≡ Some f → caller f.work ≡ p
@@ -80,7 +85,8 @@ pub record Stepped {C B M W : Type 0} {P : _} (caller : W → ℕ) (x y : Runnin
   pub clock : y.clock ≡ x.clock
   pub order : y.order ≡ x.order
 
--- A step of the call of p, or a part of one, did what the definitions say; and p's levels are of one owner again.
+-- A step of the call of p, or a part of one, did what the definitions say; and p's levels are of
+-- one owner again.
 pub record StepDone {C B M W : Type 0} {P : _} (stage : W → Stage) (caller : W → ℕ)
     (f : PlacedRun → PlacedRun) (x y : Running C B M W P) (p : ℕ) (kept kept_new : List Note)
     (d e : DiskSeen) : Type 0 where

@@ -45,7 +45,8 @@ abbrev pub levels_at : {C B M W : Type 0} {P : _} → Running C B M W P → ℕ 
 levels_at x p = map bare (levels_of x.store x.locks (chain_of x p) p)
 
 -- the call of a process
-abbrev pub call_at : {C B M W : Type 0} {P : _} → (W → Stage) → Running C B M W P → ℕ → Option PlacedCall
+abbrev pub call_at : {C B M W : Type 0} {P : _} → (W → Stage) → Running C B M W P → ℕ →
+    Option PlacedCall
 call_at at x p = option_map (call_in_place at) (flight_of x.calls.items p).call
 
 -- the kernel in place
@@ -64,11 +65,15 @@ placed_of at x =
 -- ---- what always holds
 
 -- The calls of a running kernel are its own, and the levels of each are in place on the store.
-pub record IsRunning {C B M W : Type 0} {P : _} (caller : W → ℕ) (x : Running C B M W P) : Type 0 where
+pub record IsRunning {C B M W : Type 0} {P : _} (caller : W →
+    ℕ) (x : Running C B M W P) : Type 0 where
   pub sixteen : length x.calls.items ≡ 16
-  pub callers : (p : ℕ) (f : InFlight W) → (flight_of x.calls.items p).call ≡ Some f → caller f.work ≡ p
-  pub placed : (p : ℕ) → p < 16 → IsPlaced x.store x.locks p (chain_of x p).levels (chain_of x p).undo
-  pub inside : (p : ℕ) → p < 16 → AreInside (table_of x.images) (objects_of x.store).accounts p (chain_of x p).levels
+  pub callers : (p : ℕ) (f : InFlight W) → (flight_of x.calls.items p).call ≡ Some f →
+      caller f.work ≡ p
+  pub placed : (p : ℕ) → p < 16 →
+      IsPlaced x.store x.locks p (chain_of x p).levels (chain_of x p).undo
+  pub inside : (p : ℕ) → p < 16 →
+      AreInside (table_of x.images) (objects_of x.store).accounts p (chain_of x p).levels
   pub counts : counts_within x.clock x.order ≡ true
   pub order : are_processes x.order ≡ true
   pub once : are_once (numbers_of x.order) ≡ true
@@ -95,4 +100,5 @@ run_of x blocks notes io = record { placed = x; blocks = blocks; notes = notes; 
 
 -- a change that makes no call of the disk, and says nothing, took one kernel in place to another
 abbrev pub Goes : (PlacedRun → PlacedRun) → Placed → Placed → Type 0
-Goes f x y = (notes : List Note) (blocks : Blocks) (io : List Bool) → f (run_of x blocks notes io) ≡ run_of y blocks notes io
+Goes f x y = (notes : List Note) (blocks : Blocks) (io : List Bool) →
+    f (run_of x blocks notes io) ≡ run_of y blocks notes io

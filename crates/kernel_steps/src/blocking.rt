@@ -85,8 +85,8 @@ fn hindrance_by_need<B: Policy>(
     }
 }
 
-/// The first hindrance of a step of process p over its needs in order; user locks of q don't hinder it. Looks at one pair of masks
-/// of each process for each need.
+/// The first hindrance of a step of process p over its needs in order; user locks of q don't hinder
+/// it. Looks at one pair of masks of each process for each need.
 pub(crate) fn first_hindrance<B: Policy>(
     locks: &LockTable,
     store: &Store<B>,
@@ -222,7 +222,8 @@ impl<C: Calls, B: Policy> Running<C, B> {
         first_hindrance(&self.locks, &self.store, p, user, needs)
     }
 
-    /// What blocks the next instruction of process p's call, which is in a graft and needs this, if something does.
+    /// What blocks the next instruction of process p's call, which is in a graft and needs this, if
+    /// something does.
     pub fn blocked_by(&self, p: u8, needs: &[Need]) -> Option<Blocking>
         requires process { p < 16 }
         requires running { IsRunning C.caller self.now }
@@ -238,12 +239,14 @@ impl<C: Calls, B: Policy> Running<C, B> {
         }
     }
 
-    /// What blocks the next step of process p's call, if something does. The time that this takes doesn't grow with what is held.
+    /// What blocks the next step of process p's call, if something does. The time that this takes
+    /// doesn't grow with what is held.
     pub fn blocker(&self, p: u8) -> Option<Blocking>
         requires process { p < 16 }
         requires running { IsRunning C.caller self.now }
         requires stood { Stood C.Meaning.meaning (placed_of C.stage self.now) }
-        ensures { option_map blocker_of result ≡ placed_blocker C.Meaning.meaning (placed_of C.stage self.now) p }
+        ensures { option_map blocker_of result
+            ≡ placed_blocker C.Meaning.meaning (placed_of C.stage self.now) p }
     {
         match self.hindered(p) {
             Some(found) => Some(blocking_of(&self.calls, found)),

@@ -1,6 +1,8 @@
-//! The running kernel: what is in flight, who blocks whom, the order of waiting, and the moves of one call's levels.
+//! The running kernel: what is in flight, who blocks whom, the order of waiting, and the moves of
+//! one call's levels.
 //!
-//! A running kernel changes its one store as it goes. Contracts see the kernel in place of the definitions that it is (`placed_of`).
+//! A running kernel changes its one store as it goes. Contracts see the kernel in place of the
+//! definitions that it is (`placed_of`).
 #![tactic(auto)]
 
 mod blocking;

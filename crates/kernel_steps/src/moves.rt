@@ -18,7 +18,8 @@ use graft_points::Policy;
 use kernel_model::{Cause, Micro, Need, Point};
 
 impl<C: Calls, B: Policy> Running<C, B> {
-    /// Level d of process p's call is dropped, counted from the outermost: those further inward end with it.
+    /// Level d of process p's call is dropped, counted from the outermost: those further inward end
+    /// with it.
     pub fn fall(&mut self, p: u8, d: u8, cause: Cause) -> Micro
         requires process { p < 16 }
         requires level { d < length (chain_of self.old p).levels }
@@ -52,14 +53,16 @@ impl<C: Calls, B: Policy> Running<C, B> {
             .instruction(p, &mut self.store, &mut self.locks, &self.images)
     }
 
-    /// The call of process p enters a graft, where its piece asks a point at which one stands: level 0 holds what the piece needs.
+    /// The call of process p enters a graft, where its piece asks a point at which one stands:
+    /// level 0 holds what the piece needs.
     pub fn enter(&mut self, p: u8, needs: &[Need], at: &Point)
         requires process { p < 16 }
         requires none { (chain_of self.old p).levels ≡ [] }
         requires owner { at.now.installer < 16 }
         requires point { at.now.point < 16 }
         requires lives { lives (queue_of self.old.store) at.now.installer ≡ true }
-        requires stands { is_some ((objects_of self.old.store).accounts.graft at.now.installer at.now.point) ≡ true }
+        requires stands { is_some
+            ((objects_of self.old.store).accounts.graft at.now.installer at.now.point) ≡ true }
         requires range { All (λ (n : Needed). IsInRange n.object) needs.now }
         requires running { IsRunning C.caller self.old }
         ensures config { let x = placed_of C.stage self.old in

@@ -57,7 +57,8 @@ impl Notes {
 
     /// One more note. No event of a sound kernel has more than 530; of more the first are kept.
     pub fn push(&mut self, note: Note)
-        ensures { (all : List Told) → self.old ≡ first_notes all → self.new ≡ first_notes (all ++ note ∷ []) }
+        ensures { (all : List Told) → self.old ≡ first_notes all →
+            self.new ≡ first_notes (all ++ note ∷ []) }
     {
         if self.list().len() < NOTES {
             let _ = self.list.push(note);

@@ -24,15 +24,16 @@ use mem_disk::Directory;
 use placed_laws::keeping;
 
 impl<C: Calls, B: Policy> Running<C, B> {
-    /// The kernel begins again, on a disk of this size with this directory: no call is in flight, and none waits. The policies stay,
-    /// with the parameters of boot.
+    /// The kernel begins again, on a disk of this size with this directory: no call is in flight,
+    /// and none waits. The policies stay, with the parameters of boot.
     pub fn restart(&mut self, setup: Setup, size: u32, dir: Directory)
         requires frames_least { 2 ≤ setup.frames }
         requires frames_most { setup.frames ≤ 64 }
         requires size_least { 1 ≤ size }
         requires size_most { size ≤ 4096 }
         requires rows { length dir ≤ 16 }
-        requires files { (n : ℕ) (r : Row) → slice_index_or dir n None ≡ Some r → lies_on_disk size r ≡ true }
+        requires files { (n : ℕ) (r : Row) → slice_index_or dir n None ≡ Some r →
+            lies_on_disk size r ≡ true }
         requires stock { pol_of (views_of self.old.store) first_choice ≡ opening_policy }
         requires running { IsRunning C.caller self.old }
         requires quiet { IsQuiet self.old }
@@ -59,14 +60,16 @@ impl<C: Calls, B: Policy> Running<C, B> {
         !self.images.is_free(slot)
     }
 
-    /// A slot that is free has this image from now on. Every call stays where it is, and what blocks it. No memory is taken.
+    /// A slot that is free has this image from now on. Every call stays where it is, and what
+    /// blocks it. No memory is taken.
     pub fn add_image(&mut self, slot: u32, image: Loaded)
         requires slot { slot < 32 }
         requires free { (placed_of C.stage self.old).images slot ≡ None }
         requires running { IsRunning C.caller self.old }
         requires stood { Stood C.Meaning.meaning (placed_of C.stage self.old) }
         ensures stands { (k : Kernel) → StandsFor C.Meaning.meaning (placed_of C.stage self.old) k →
-            StandsFor C.Meaning.meaning (placed_of C.stage self.new) (session.add_image slot image k) }
+            StandsFor C.Meaning.meaning (placed_of C.stage self.new)
+            (session.add_image slot image k) }
         ensures rests { (k : Kernel) → StandsFor C.Meaning.meaning (placed_of C.stage self.old) k →
             IsAtRest C.Meaning.meaning k →
             IsAtRest C.Meaning.meaning (session.add_image slot image k) }

@@ -19,8 +19,8 @@ use kernel_model::Note;
 use kernel_state::Store;
 use vino_base::Disk;
 
-/// The next piece of a call in flight, with an answer to the point that it asks, or by default. The call goes on, or it ends with a
-/// note. The log has this piece's calls of the disk then.
+/// The next piece of a call in flight, with an answer to the point that it asks, or by default. The
+/// call goes on, or it ends with a note. The log has this piece's calls of the disk then.
 pub(crate) fn do_piece<C: Calls, B: Policy, D: Disk>(
     slot: &mut Option<InFlight<C::Work>>,
     store: &mut Store<B>,
@@ -36,10 +36,12 @@ pub(crate) fn do_piece<C: Calls, B: Policy, D: Disk>(
     ensures done { (f : Flying C.Work) → slot.old ≡ Some f →
         PieceDone C.Meaning.meaning (world_of_store store.old) (objects_of store.old)
         (objects_of store.new) (C.caller f.work)
-        (call_in_place C.stage f) (option_map (call_in_place C.stage) slot.new) answer notes.old notes.new
+        (call_in_place C.stage f)
+        (option_map (call_in_place C.stage) slot.new) answer notes.old notes.new
         (disk_seen (D.blocks disk.old) (D.plan disk.old) (D.faults disk.old))
         (disk_seen (D.blocks disk.new) (D.plan disk.new) (D.faults disk.new)) }
-    ensures caller { (f g : Flying C.Work) → slot.old ≡ Some f → slot.new ≡ Some g → C.caller g.work ≡ C.caller f.work }
+    ensures caller { (f g : Flying C.Work) → slot.old ≡ Some f → slot.new ≡ Some g →
+        C.caller g.work ≡ C.caller f.work }
     ensures world { world_of_store store.new ≡ world_of_store store.old }
     ensures size { store.new.size ≡ store.old.size }
     ensures memory { SegmentsStay store.old.ram store.new.ram }

@@ -70,7 +70,8 @@ impl<C: Calls, B: Policy> Running<C, B> {
         requires process { p < 16 }
         requires new { in_order p (placed_of C.stage self.old).order ≡ false }
         requires running { IsRunning C.caller self.old }
-        ensures value { Goes (placed_joins p) (placed_of C.stage self.old) (placed_of C.stage self.new) }
+        ensures value { Goes (placed_joins p) (placed_of C.stage self.old)
+            (placed_of C.stage self.new) }
         ensures running { IsRunning C.caller self.new }
     {
         self.order.push(Waiting::joined(p));
@@ -115,12 +116,14 @@ impl<C: Calls, B: Policy> Running<C, B> {
         }
     }
 
-    /// The mode in which the next step of process p's call needs an object: shared, where it doesn't.
+    /// The mode in which the next step of process p's call needs an object: shared, where it
+    /// doesn't.
     fn wanted(&self, p: u8, object: Object) -> Mode
         requires process { p < 16 }
         requires running { IsRunning C.caller self.now }
         requires stood { Stood C.Meaning.meaning (placed_of C.stage self.now) }
-        ensures { result ≡ wanted object (placed_needs C.Meaning.meaning (placed_of C.stage self.now) p) }
+        ensures { result
+            ≡ wanted object (placed_needs C.Meaning.meaning (placed_of C.stage self.now) p) }
     {
         soundness::sound_in_place::<C::Meaning>();
         let flight = flight(&self.calls, p);
@@ -136,7 +139,8 @@ impl<C: Calls, B: Policy> Running<C, B> {
         wanted_in(needs.as_slice(), object)
     }
 
-    /// The outermost level of a holder's call whose hold on an object conflicts with the mode in which process p needs it.
+    /// The outermost level of a holder's call whose hold on an object conflicts with the mode in
+    /// which process p needs it.
     pub fn level_in_the_way(&self, p: u8, object: Object, holder: u8) -> Option<u8>
         requires process { p < 16 }
         requires running { IsRunning C.caller self.now }
@@ -144,7 +148,8 @@ impl<C: Calls, B: Policy> Running<C, B> {
         ensures value { let x = placed_of C.stage self.now in
             result ≡ outermost_holding object (wanted object (placed_needs C.Meaning.meaning x p))
             (placed_holds x holder) }
-        ensures there { IfSome result (λ d. (holder < 16) × (d < length (chain_of self.now holder).levels)) }
+        ensures there { IfSome result (λ d. (holder < 16)
+            × (d < length (chain_of self.now holder).levels)) }
     {
         laws::test_is_range();
         let mode = self.wanted(p, object);

@@ -42,7 +42,8 @@ pub struct Flight<W> {
     pub chain: Chain,
 }
 
-/// A kernel over a table of calls, with all that is in flight. The store has what all calls have done.
+/// A kernel over a table of calls, with all that is in flight. The store has what all calls have
+/// done.
 #[derive(Drop)]
 pub struct Running<C: Calls, B: Policy> {
     /// One value for each object.
@@ -90,7 +91,8 @@ fn set_call<W: Drop>(flights: &mut Vec<Flight<W>>, p: u8, call: Option<InFlight<
 }
 
 impl<C: Calls, B: Policy> Running<C, B> {
-    /// A kernel over this store with these images, in which no call is in flight. Takes all the memory that it ever does.
+    /// A kernel over this store with these images, in which no call is in flight. Takes all the
+    /// memory that it ever does.
     pub fn new(alloc: Global, store: Store<B>, images: Images) -> Result<Running<C, B>, NoMemory>
         requires loaded { ImagesAreLoaded (table_of images) (objects_of store).accounts }
         ensures store { IfOk result (λ x. x.store ≡ store) }
@@ -150,7 +152,8 @@ impl<C: Calls, B: Policy> Running<C, B> {
     pub fn is_at_piece(&self, p: u8) -> bool
         requires process { p < 16 }
         requires running { IsRunning C.caller self.now }
-        ensures { let x = placed_of C.stage self.now in result ≡ is_placed_at_piece (x.call p) (x.levels p) }
+        ensures { let x = placed_of C.stage self.now in
+            result ≡ is_placed_at_piece (x.call p) (x.levels p) }
     {
         let flight = flight(&self.calls, p);
         match &flight.call {
@@ -159,11 +162,13 @@ impl<C: Calls, B: Policy> Running<C, B> {
         }
     }
 
-    /// After a step of process p: it stands in the order, at its end, exactly where its next step is a piece.
+    /// After a step of process p: it stands in the order, at its end, exactly where its next step
+    /// is a piece.
     pub fn requeue(&mut self, p: u8)
         requires process { p < 16 }
         requires running { IsRunning C.caller self.old }
-        ensures value { Goes (placed_requeue p) (placed_of C.stage self.old) (placed_of C.stage self.new) }
+        ensures value { Goes (placed_requeue p) (placed_of C.stage self.old)
+            (placed_of C.stage self.new) }
         ensures running { IsRunning C.caller self.new }
     {
         let waits = self.is_at_piece(p);

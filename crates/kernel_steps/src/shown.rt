@@ -79,7 +79,8 @@ fn row_of_record(log: &UndoStack, p: u8, i: u8) -> RawRow
 }
 
 impl<C: Calls, B: Policy> Running<C, B> {
-    /// The call of process p, if it has one: its number, what it waits for, and its innermost level.
+    /// The call of process p, if it has one: its number, what it waits for, and its innermost
+    /// level.
     pub fn call_row(&self, p: u8) -> Option<RawRow>
         requires process { p < 16 }
         requires running { IsRunning C.caller self.now }

@@ -28,7 +28,8 @@ use placed_laws::{agreeing, keeping, owners, soundness};
 use vino_base::Disk;
 
 impl<C: Calls, B: Policy> Running<C, B> {
-    /// The piece of process p's call, which has no level, is done: with an answer to the point that it asks, or by default.
+    /// The piece of process p's call, which has no level, is done: with an answer to the point that
+    /// it asks, or by default.
     fn finish<D: Disk>(
         &mut self,
         p: u8,
@@ -45,7 +46,8 @@ impl<C: Calls, B: Policy> Running<C, B> {
             (objects_of self.old.store) p (C.stage f.work) (answer_seen answer) }
         requires disk { self.old.store.size ≡ D.block_count disk.old }
         ensures done { (c : PlacedCall) → call_at C.stage self.old p ≡ Some c →
-            StepDone C.stage C.caller (finishes C.Meaning.meaning p c answer) self.old self.new p notes.old notes.new
+            StepDone C.stage C.caller
+            (finishes C.Meaning.meaning p c answer) self.old self.new p notes.old notes.new
             (disk_seen (D.blocks disk.old) (D.plan disk.old) (D.faults disk.old))
             (disk_seen (D.blocks disk.new) (D.plan disk.new) (D.faults disk.new)) }
         ensures same_size { D.block_count disk.new ≡ D.block_count disk.old }
@@ -54,7 +56,8 @@ impl<C: Calls, B: Policy> Running<C, B> {
         do_piece::<C, B, D>(&mut flight.call, &mut self.store, answer, disk, log, notes);
     }
 
-    /// Level d of process p's call was dropped, which is noted. With level 0 the default finishes the piece.
+    /// Level d of process p's call was dropped, which is noted. With level 0 the default finishes
+    /// the piece.
     fn follow_drop<D: Disk>(
         &mut self,
         p: u8,
@@ -87,7 +90,8 @@ impl<C: Calls, B: Policy> Running<C, B> {
         self.finish(p, None, disk, log, notes);
     }
 
-    /// What is left to do of a step of process p's call, once an instruction or the drop of a level said this.
+    /// What is left to do of a step of process p's call, once an instruction or the drop of a level
+    /// said this.
     fn follow<D: Disk>(
         &mut self,
         p: u8,
@@ -106,7 +110,8 @@ impl<C: Calls, B: Policy> Running<C, B> {
             (objects_of self.old.store) p (C.stage f.work) (answer_seen answer) }
         requires disk { self.old.store.size ≡ D.block_count disk.old }
         ensures done { (c : PlacedCall) → call_at C.stage self.old p ≡ Some c →
-            StepDone C.stage C.caller (after_said C.Meaning.meaning p c said) self.old self.new p notes.old notes.new
+            StepDone C.stage C.caller
+            (after_said C.Meaning.meaning p c said) self.old self.new p notes.old notes.new
             (disk_seen (D.blocks disk.old) (D.plan disk.old) (D.faults disk.old))
             (disk_seen (D.blocks disk.new) (D.plan disk.new) (D.faults disk.new)) }
         ensures same_size { D.block_count disk.new ≡ D.block_count disk.old }
@@ -144,8 +149,8 @@ impl<C: Calls, B: Policy> Running<C, B> {
         self.follow(p, said, disk, log, notes);
     }
 
-    /// The next piece of process p's call, which is in no graft: where it asks a point at which a graft stands, the call enters that
-    /// graft; else the piece is done by default.
+    /// The next piece of process p's call, which is in no graft: where it asks a point at which a
+    /// graft stands, the call enters that graft; else the piece is done by default.
     fn piece_step<D: Disk>(&mut self, p: u8, disk: &mut D, log: &mut DiskLog, notes: &mut Notes)
         requires process { p < 16 }
         requires none { (chain_of self.old p).levels ≡ [] }
@@ -197,9 +202,9 @@ impl<C: Calls, B: Policy> Running<C, B> {
         self.graft_step(p, disk, log, notes);
     }
 
-    /// One step of process p's call, which nothing blocks: its next piece, or an instruction of its innermost level, with all that
-    /// this ends. The call stands in the order, at its end, exactly where its next step is a piece. The log is for the calls of the
-    /// disk of one piece.
+    /// One step of process p's call, which nothing blocks: its next piece, or an instruction of its
+    /// innermost level, with all that this ends. The call stands in the order, at its end, exactly
+    /// where its next step is a piece. The log is for the calls of the disk of one piece.
     pub fn step<D: Disk>(&mut self, p: u8, disk: &mut D, log: &mut DiskLog, notes: &mut Notes)
         requires process { p < 16 }
         requires call { is_some (call_at C.stage self.old p) ≡ true }
@@ -253,8 +258,9 @@ impl<C: Calls, B: Policy> Running<C, B> {
         self.follow(p, said, disk, log, notes);
     }
 
-    /// Level d of process p's call is dropped, counted from the outermost, with all that this ends: with level 0 the default
-    /// finishes the piece, and else the asking level gets the default answer. The call takes its place in the order.
+    /// Level d of process p's call is dropped, counted from the outermost, with all that this ends:
+    /// with level 0 the default finishes the piece, and else the asking level gets the default
+    /// answer. The call takes its place in the order.
     pub fn drop_level<D: Disk>(
         &mut self,
         p: u8,

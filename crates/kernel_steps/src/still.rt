@@ -79,8 +79,8 @@ impl<C: Calls, B: Policy> Running<C, B> {
             .needs(&self.store, &self.images)
     }
 
-    /// One step of process p's call, which is in a graft, needs this, and which nothing blocks. Whether it left the
-    /// call's levels, and how these hold what it needed.
+    /// One step of process p's call, which is in a graft, needs this, and which nothing blocks.
+    /// Whether it left the call's levels, and how these hold what it needed.
     pub fn step_in_graft<D: Disk>(
         &mut self,
         p: u8,

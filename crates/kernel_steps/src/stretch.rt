@@ -13,9 +13,9 @@ use graft_points::Policy;
 use placed_laws::{agreeing, stretching};
 
 impl<C: Calls, B: Policy> Running<C, B> {
-    /// A stretch of process p's call, which is in a graft and doesn't wait: at most n quiet instructions, which each go
-    /// on and call nothing, or only read an object that their level holds already. How many there were. It may stop
-    /// early, even at none.
+    /// A stretch of process p's call, which is in a graft and doesn't wait: at most n quiet
+    /// instructions, which each go on and call nothing, or only read an object that their level
+    /// holds already. How many there were. It may stop early, even at none.
     pub fn stretch(&mut self, p: u8, n: u32) -> u32
         requires process { p < 16 }
         requires level { let x = placed_of C.stage self.old in

@@ -53,9 +53,11 @@ fn is_same_blocker(a: Option<Blocking>, b: Option<Blocking>) -> bool
     }
 }
 
-/// An entry with its blocker: it stays as it is where the blocker is the kept one, and else counts from 0.
+/// An entry with its blocker: it stays as it is where the blocker is the kept one, and else counts
+/// from 0.
 pub(crate) fn with_blocker(waiting: Waiting, blocker: Option<Blocking>) -> Waiting
-    ensures value { entry_of result ≡ entry_with (entry_of waiting) (option_map blocker_of blocker) }
+    ensures value { entry_of result
+        ≡ entry_with (entry_of waiting) (option_map blocker_of blocker) }
     ensures process { result.process ≡ waiting.process }
     ensures count { result.count ≤ waiting.count }
 {
@@ -117,7 +119,8 @@ impl<C: Calls, B: Policy> Running<C, B> {
         requires processes { are_processes entries.now ≡ true }
         requires running { IsRunning C.caller self.now }
         requires stood { Stood C.Meaning.meaning (placed_of C.stage self.now) }
-        ensures { result ≡ placed_first_free C.Meaning.meaning (placed_of C.stage self.now) (order_of entries.now) }
+        ensures { result ≡ placed_first_free C.Meaning.meaning (placed_of C.stage self.now)
+            (order_of entries.now) }
     {
         let Some((first, rest)) = entries.split_first() else {
             return None;
@@ -155,7 +158,8 @@ impl<C: Calls, B: Policy> Running<C, B> {
     pub fn first_free(&self) -> Option<u8>
         requires running { IsRunning C.caller self.now }
         requires stood { Stood C.Meaning.meaning (placed_of C.stage self.now) }
-        ensures { let x = placed_of C.stage self.now in result ≡ placed_first_free C.Meaning.meaning x x.order }
+        ensures { let x = placed_of C.stage self.now in
+            result ≡ placed_first_free C.Meaning.meaning x x.order }
     {
         self.first_free_of(self.order.entries())
     }
@@ -165,7 +169,8 @@ impl<C: Calls, B: Policy> Running<C, B> {
         requires running { IsRunning C.caller self.old }
         requires stood { Stood C.Meaning.meaning (placed_of C.stage self.old) }
         ensures value { let x = placed_of C.stage self.old in
-            Goes (with_placed_order (placed_rested_order C.Meaning.meaning x x.order)) x (placed_of C.stage self.new) }
+            Goes (with_placed_order (placed_rested_order C.Meaning.meaning x x.order)) x
+            (placed_of C.stage self.new) }
         ensures running { IsRunning C.caller self.new }
     {
         if self.order.is_empty() {
@@ -175,9 +180,11 @@ impl<C: Calls, B: Policy> Running<C, B> {
         self.order = rested;
     }
 
-    /// The first entry of the order whose count has reached the patience with its blocker's kind of object.
+    /// The first entry of the order whose count has reached the patience with its blocker's kind of
+    /// object.
     pub fn expired(&self) -> Option<Waiting>
-        ensures { let x = placed_of C.stage self.now in option_map entry_of result ≡ expired_by x.world x.order }
+        ensures { let x = placed_of C.stage self.now in
+            option_map entry_of result ≡ expired_by x.world x.order }
     {
         first_over(&self.store.setup.patience, self.order.entries())
     }

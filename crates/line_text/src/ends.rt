@@ -68,7 +68,8 @@ pub fn print_unloaded_at(n: u32, code: &[u8], pc: u32, out: &mut Text)
 
 /// The line of event n for an image that is loaded: how many instructions and data bytes it has.
 pub fn print_loaded(n: u32, instructions: u32, bytes: u32, out: &mut Text)
-    ensures { out.new ≡ line (decimal n ++ 32 ∷ (codes "ok" ++ spaced instructions ++ spaced bytes)) }
+    ensures { out.new ≡ line (decimal n
+        ++ 32 ∷ (codes "ok" ++ spaced instructions ++ spaced bytes)) }
 {
     out.bytes.clear();
     number_u32(&mut out.bytes, n);

@@ -8,7 +8,8 @@ use crate::append::{Buffer, TEXT_BYTES, add, hex_digits, spaced_u64};
 use arrayvec::ArrayVec;
 use std::marker::Model;
 
-/// At most 2,048 bytes, which lie in the value itself: no call takes memory. Contracts see their list.
+/// At most 2,048 bytes, which lie in the value itself: no call takes memory. Contracts see their
+/// list.
 #[derive(Drop)]
 pub struct Text {
     pub(crate) bytes: Buffer,

@@ -14,7 +14,9 @@ has_level mask d = nat_lt d 4 && bit_at mask d == 1
 
 -- how a level holds an object, by the two masks of its process for it
 abbrev pub held_by : Holds → ℕ → Held
-held_by h d = cond (has_level h.exclusive d) Held.Exclusive (cond (has_level h.shared d) Held.Shared Held.Free)
+held_by h d =
+    cond (has_level h.exclusive d) Held.Exclusive
+    (cond (has_level h.shared d) Held.Shared Held.Free)
 
 -- no level holds
 abbrev pub no_holds : Holds
@@ -22,7 +24,8 @@ no_holds = record { shared = 0; exclusive = 0 }
 
 -- some level holds
 abbrev pub is_used : Holds → Bool
-is_used h = is_held (held_by h 0) || is_held (held_by h 1) || is_held (held_by h 2) || is_held (held_by h 3)
+is_used h = is_held (held_by h 0) || is_held (held_by h 1) || is_held (held_by h 2)
+    || is_held (held_by h 3)
 
 -- what the levels of one process hold of the object with a number, as masks
 abbrev pub holds_at : List Holds → ℕ → Holds
@@ -44,14 +47,18 @@ merged d h = at d Held.Free (at (d - 1) (stronger (h d) (h (d - 1))) h)
 abbrev pub released : ℕ → (ℕ → Held) → ℕ → Held
 released d h e = cond (nat_le d e) Held.Free (h e)
 
--- the table: what each level of each process holds of each object; nothing where a number is out of its range
+-- the table: what each level of each process holds of each object; nothing where a number is out of
+-- its range
 abbrev pub held : List (List Holds) → LockTable
-held calls p d o = cond (nat_lt p 16 && is_in_range o) (levels_at (masks_of calls p) (number_of o) d) Held.Free
+held calls p d o =
+    cond (nat_lt p 16 && is_in_range o) (levels_at (masks_of calls p) (number_of o) d) Held.Free
 
 -- the outermost level of one process whose hold on the object with a number conflicts with a mode
 abbrev pub conflicting_level : List Holds → ℕ → Mode → Option ℕ
-conflicting_level masks n mode = find (λ d. conflicts (levels_at masks n d) mode) (0 ∷ 1 ∷ 2 ∷ 3 ∷ [])
+conflicting_level masks n mode =
+    find (λ d. conflicts (levels_at masks n d) mode) (0 ∷ 1 ∷ 2 ∷ 3 ∷ [])
 
 -- process q isn't p, and some level of it hinders
 abbrev pub is_other_hindering : List (List Holds) → (p n : ℕ) → Mode → ℕ → Bool
-is_other_hindering calls p n mode q = not (q == p) && is_some (conflicting_level (masks_of calls q) n mode)
+is_other_hindering calls p n mode q =
+    not (q == p) && is_some (conflicting_level (masks_of calls q) n mode)

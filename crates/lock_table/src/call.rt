@@ -16,8 +16,8 @@ use std::marker::Model;
 
 /// What the levels of one process's call hold of the objects, by the objects' numbers.
 ///
-/// Contracts see the masks. The numbers of the objects that are held stand in a list beside them, so that all of these are
-/// found without a look at the others.
+/// Contracts see the masks. The numbers of the objects that are held stand in a list beside them,
+/// so that all of these are found without a look at the others.
 #[derive(Drop)]
 pub(crate) struct CallHolds {
     masks: Vec<Holds>,
@@ -70,7 +70,9 @@ impl CallHolds {
     pub(crate) fn touch(&mut self, number: u16, level: u8, mode: Mode)
         requires number { number < 421 }
         requires depth { level < 4 }
-        ensures { (n e : ℕ) → levels_at self.new n e ≡ cond (n == number && e == level) (stronger (levels_at self.old n e) (held_as mode)) (levels_at self.old n e) }
+        ensures { (n e : ℕ) →
+            levels_at self.new n e ≡ cond (n == number && e == level)
+            (stronger (levels_at self.old n e) (held_as mode)) (levels_at self.old n e) }
     {
         note(&mut self.numbers, &self.masks, number);
         touch_at(&mut self.masks, number, level, mode);

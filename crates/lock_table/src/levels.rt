@@ -44,7 +44,8 @@ pub(crate) fn conflicting(holds: Holds, mode: Mode) -> Option<u8>
 /// A level holds in a mode; where it held, the stronger way stays.
 pub(crate) fn touched(holds: Holds, level: u8, mode: Mode) -> Holds
     requires depth { level < 4 }
-    ensures { (e : ℕ) → held_by result e ≡ at level (stronger (held_by holds level) (held_as mode)) (held_by holds) e }
+    ensures { (e : ℕ) → held_by result e
+        ≡ at level (stronger (held_by holds level) (held_as mode)) (held_by holds) e }
 {
     match mode {
         Mode::Shared => Holds {
@@ -62,7 +63,8 @@ pub(crate) fn touched(holds: Holds, level: u8, mode: Mode) -> Holds
 fn moved_out(mask: u8, level: u8) -> u8
     requires inner { 0 < level }
     requires depth { level < 4 }
-    ensures { (e : ℕ) → has_level result e ≡ (not (e == level) && (has_level mask e || (e == level - 1 && has_level mask level))) }
+    ensures { (e : ℕ) → has_level result e
+        ≡ (not (e == level) && (has_level mask e || (e == level - 1 && has_level mask level))) }
 {
     if has(mask, level) {
         with(without(mask, level), level - 1)
@@ -71,7 +73,8 @@ fn moved_out(mask: u8, level: u8) -> u8
     }
 }
 
-/// What a level above 0 holds goes to the level outside it; where both hold, the stronger way stays.
+/// What a level above 0 holds goes to the level outside it; where both hold, the stronger way
+/// stays.
 pub(crate) fn merged_out(holds: Holds, level: u8) -> Holds
     requires inner { 0 < level }
     requires depth { level < 4 }

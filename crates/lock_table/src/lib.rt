@@ -1,5 +1,5 @@
-//! What each level of each call in flight holds of the kernel's objects: a table of masks, two for each process and
-//! object.
+//! What each level of each call in flight holds of the kernel's objects: a table of masks, two for
+//! each process and object.
 #![tactic(auto)]
 
 mod call;
@@ -16,7 +16,8 @@ pub use kernel_model::{Mode, NoMemory, Object};
 pub use numbers::object_number;
 pub use table::LockTable;
 
-/// The levels of one process that hold one object: a mask of four bits for each mode, the outermost level's lowest.
+/// The levels of one process that hold one object: a mask of four bits for each mode, the outermost
+/// level's lowest.
 #[derive(Clone, Copy, PartialEq, Eq)]
 pub struct Holds {
     shared: u8,

@@ -20,8 +20,8 @@ const FIRST_LOCK: u16 = 402;
 
 const FIRST_POLICY: u16 = 418;
 
-/// The number of an object. Those whose own numbers are in their ranges have the numbers 0 to 420, each its own
-/// (`laws`).
+/// The number of an object. Those whose own numbers are in their ranges have the numbers 0 to 420,
+/// each its own (`laws`).
 #[tactic(auto, unfolding(crate::specs::Numbers::number_of))]
 pub fn object_number(o: &Object) -> u16
     ensures value { result ≡ number_of o.now }

@@ -1,5 +1,5 @@
-//! The work on what the levels of one process hold: a list of masks in the order of the objects' numbers, and a list of the
-//! numbers of the objects that some level holds.
+//! The work on what the levels of one process hold: a list of masks in the order of the objects'
+//! numbers, and a list of the numbers of the objects that some level holds.
 
 ghost use Rattle.std.specs.Prelude.{◌≡◌, ℕ, ◌<◌, ◌++◌, ◌&&◌, ◌==◌, true, cond, length, filter, IfOk, [], ◌∷◌};
 ghost use Rattle.kernel_model.specs.Locks.{held_as, stronger};
@@ -43,8 +43,11 @@ pub(crate) fn conflicting_at(masks: &[Holds], number: u16, mode: Mode) -> Option
 pub(crate) fn touch_at(masks: &mut [Holds], number: u16, level: u8, mode: Mode)
     requires size { number < length masks.old }
     requires depth { level < 4 }
-    ensures touched { (n e : ℕ) → levels_at masks.new n e ≡ cond (n == number && e == level) (stronger (levels_at masks.old n e) (held_as mode)) (levels_at masks.old n e) }
-    ensures used { (n : ℕ) → is_used (holds_at masks.new n) ≡ cond (n == number) true (is_used (holds_at masks.old n)) }
+    ensures touched { (n e : ℕ) →
+        levels_at masks.new n e ≡ cond (n == number && e == level)
+        (stronger (levels_at masks.old n e) (held_as mode)) (levels_at masks.old n e) }
+    ensures used { (n : ℕ) →
+        is_used (holds_at masks.new n) ≡ cond (n == number) true (is_used (holds_at masks.old n)) }
 {
     let holds = &mut masks[number as usize];
     *holds = touched(*holds, level, mode);
@@ -55,7 +58,8 @@ pub(crate) fn note(numbers: &mut ArrayVec<u16, OBJECTS>, masks: &[Holds], number
     requires noted { IsNoted masks.now numbers.old.items }
     requires size { length masks.now ≡ 421 }
     requires number { number < 421 }
-    ensures { numbers.new.items ≡ cond (is_used (holds_at masks.now number)) numbers.old.items (numbers.old.items ++ number ∷ []) }
+    ensures { numbers.new.items ≡ cond (is_used (holds_at masks.now number)) numbers.old.items
+        (numbers.old.items ++ number ∷ []) }
 {
     if !any_holds(masks[number as usize]) {
         numbers.push(number);

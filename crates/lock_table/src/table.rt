@@ -17,7 +17,8 @@ use std::marker::Model;
 
 /// What each level of each process's call holds of each object.
 ///
-/// Contracts see the masks, through `held`: a function from process, level and object to free, shared or exclusive.
+/// Contracts see the masks, through `held`: a function from process, level and object to free,
+/// shared or exclusive.
 #[derive(Drop)]
 pub struct LockTable {
     calls: Vec<CallHolds>,
@@ -82,7 +83,8 @@ impl LockTable {
         }
     }
 
-    /// The lowest other process whose hold on an object conflicts with a mode. Looks at one pair of masks of each process.
+    /// The lowest other process whose hold on an object conflicts with a mode. Looks at one pair of
+    /// masks of each process.
     pub fn ask(&self, p: u8, o: Object, mode: Mode) -> Option<u8>
         requires range { IsInRange o }
         ensures { result ≡ lowest_holder (held self.now) p o mode }
@@ -120,7 +122,8 @@ impl LockTable {
         is_holding(self.holds(p, o), level)
     }
 
-    /// A level of process p holds an object in a mode. Where it holds the object already, the stronger way stays.
+    /// A level of process p holds an object in a mode. Where it holds the object already, the
+    /// stronger way stays.
     pub fn touch(&mut self, p: u8, level: u8, o: Object, mode: Mode)
         requires process { p < 16 }
         requires depth { level < 4 }
@@ -131,8 +134,8 @@ impl LockTable {
         call.touch(object_number(&o), level, mode);
     }
 
-    /// What a level of process p above level 0 holds goes to the level outside it. Where both hold an object, the
-    /// stronger way stays.
+    /// What a level of process p above level 0 holds goes to the level outside it. Where both hold
+    /// an object, the stronger way stays.
     pub fn merge_level(&mut self, p: u8, level: u8)
         requires process { p < 16 }
         requires inner { 0 < level }

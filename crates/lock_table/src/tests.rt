@@ -1,4 +1,5 @@
-//! The table beside a plain list of rows, over a fixed sequence of pseudo-random calls, and the numbers at the edges.
+//! The table beside a plain list of rows, over a fixed sequence of pseudo-random calls, and the
+//! numbers at the edges.
 
 ghost use Rattle.std.specs.Prelude.{◌<◌, ◌≤◌};
 ghost use Rattle.kernel_model.specs.Laws.{IsInRange};

@@ -25,5 +25,9 @@ blocks_of bytes = blocks_in bytes (length bytes / 512)
 -- a disk after a call that leaves these blocks where it doesn't fail
 abbrev pub disk_after : DiskState → List (List ℕ) → DiskState
 disk_after d blocks =
-    cond (call_fails d.plan) (record { blocks = d.blocks; plan = after_call d.plan; faults = counted d.faults })
+    cond (call_fails d.plan) (record {
+      blocks = d.blocks;
+      plan = after_call d.plan;
+      faults = counted d.faults;
+    })
     (record { blocks = blocks; plan = after_call d.plan; faults = d.faults })

@@ -80,13 +80,15 @@ impl Directory {
 
 /// The directory that block 0 of a disk of so many blocks holds.
 ///
-/// An entry is usable where its name is 1 to 16 bytes of names with zeros alone after them, it starts at block 1 or
-/// later, its blocks lie on the disk, its length is at most that of its blocks, and no usable entry before it has its
-/// name. Its owner isn't looked at. Other entries are as if they weren't there.
+/// An entry is usable where its name is 1 to 16 bytes of names with zeros alone after them, it
+/// starts at block 1 or later, its blocks lie on the disk, its length is at most that of its
+/// blocks, and no usable entry before it has its name. Its owner isn't looked at. Other entries are
+/// as if they weren't there.
 pub fn read_directory(block: &[u8; 512], size: u32) -> Directory
     ensures value { result ≡ directory_of size block.now }
     ensures entries { length result ≡ 16 }
-    ensures files { (n : ℕ) (r : Row) → slice_index_or result n None ≡ Some r → lies_on_disk size r ≡ true }
+    ensures files { (n : ℕ) (r : Row) → slice_index_or result n None ≡ Some r →
+        lies_on_disk size r ≡ true }
 {
     Directory {
         rows: read_entries(block, size),
@@ -98,7 +100,8 @@ fn read_entries(block: &[u8], size: u32) -> ArrayVec<Option<FileRow>, ENTRIES>
     requires { 512 ≤ length block.now }
     ensures value { result.items ≡ entries size block.now 16 }
     ensures count { length result.items ≡ 16 }
-    ensures files { (n : ℕ) (r : Row) → slice_index_or result.items n None ≡ Some r → lies_on_disk size r ≡ true }
+    ensures files { (n : ℕ) (r : Row) → slice_index_or result.items n None ≡ Some r →
+        lies_on_disk size r ≡ true }
 {
     let mut rows = ArrayVec::new();
     for i in 0..ENTRIES {
@@ -112,7 +115,8 @@ fn read_entries(block: &[u8], size: u32) -> ArrayVec<Option<FileRow>, ENTRIES>
 /// An entry after these, if it is usable.
 fn read_entry(entry: &[u8], size: u32, earlier: &[Option<FileRow>]) -> Option<FileRow>
     requires { length entry.now ≡ 32 }
-    ensures value { result ≡ cond (is_usable size entry.now (entry_row entry.now) earlier.now) (Some (entry_row entry.now)) None }
+    ensures value { result ≡ cond (is_usable size entry.now (entry_row entry.now) earlier.now)
+        (Some (entry_row entry.now)) None }
     ensures files { IfSome result (λ r. lies_on_disk size r ≡ true) }
 {
     let row = row_of(entry);
@@ -204,7 +208,8 @@ fn all_zero(bytes: &[u8]) -> bool
     bytes.iter().all(|byte| *byte == 0)
 }
 
-/// Whether the blocks of a file lie on a disk of so many blocks, behind block 0, and have room for its length.
+/// Whether the blocks of a file lie on a disk of so many blocks, behind block 0, and have room for
+/// its length.
 fn fits_disk(row: &FileRow, size: u32) -> bool
     ensures { result ≡ lies_on_disk size row.now }
 {

@@ -34,13 +34,17 @@ impl Model for MemDisk {
 }
 
 impl MemDisk {
-    /// The disk of these blocks, one after another: 1 to 4,096 of 512 bytes. The k-th call of read and write, counted
-    /// from 1, fails exactly where k is in `fails`. No fault was counted yet.
+    /// The disk of these blocks, one after another: 1 to 4,096 of 512 bytes. The k-th call of read
+    /// and write, counted from 1, fails exactly where k is in `fails`. No fault was counted yet.
     pub fn from_bytes(bytes: Vec<u8>, fails: Vec<u64>) -> MemDisk
         requires whole { vec_len bytes % 512 ≡ 0 }
         requires least { 512 ≤ vec_len bytes }
         requires most { vec_len bytes ≤ 512 * 4096 }
-        ensures { result ≡ record { blocks = blocks_of bytes.items; plan = record { made = 0; failing = fails.items }; faults = 0 } }
+        ensures { result ≡ record {
+          blocks = blocks_of bytes.items;
+          plan = record { made = 0; failing = fails.items };
+          faults = 0;
+        } }
     {
         let size = (bytes.len() / BLOCK_BYTES) as u32;
         MemDisk {
@@ -69,12 +73,16 @@ impl Disk for MemDisk {
         requires { b < length self.old.blocks }
         ensures cause { HasCause self.old.faults self.new.faults result }
         ensures same_size { length self.new.blocks ≡ length self.old.blocks }
-        ensures given { (bs : List (List ℕ)) → Some self.old.blocks ≡ Some bs → OnOk result (slice_get bs b ≡ Some to.new) }
-        ensures kept { (bs : List (List ℕ)) → Some self.old.blocks ≡ Some bs → Some self.new.blocks ≡ Some bs }
-        ensures planned { (p : Plan) → Some self.old.plan ≡ Some p → (is_err result ≡ call_fails p) × (Some self.new.plan ≡ Some (after_call p)) }
+        ensures given { (bs : List (List ℕ)) → Some self.old.blocks ≡ Some bs →
+            OnOk result (slice_get bs b ≡ Some to.new) }
+        ensures kept { (bs : List (List ℕ)) → Some self.old.blocks ≡ Some bs →
+            Some self.new.blocks ≡ Some bs }
+        ensures planned { (p : Plan) → Some self.old.plan ≡ Some p → (is_err result ≡ call_fails p)
+            × (Some self.new.plan ≡ Some (after_call p)) }
         ensures fails { is_err result ≡ call_fails self.old.plan }
         ensures after { self.new ≡ disk_after self.old self.old.blocks }
-        ensures buffer { to.new ≡ cond (call_fails self.old.plan) to.old (slice_index_or self.old.blocks b []) }
+        ensures buffer { to.new
+            ≡ cond (call_fails self.old.plan) to.old (slice_index_or self.old.blocks b []) }
     {
         if self.plan.next_fails() {
             self.faults = counted_up(self.faults);
@@ -90,7 +98,8 @@ impl Disk for MemDisk {
         ensures same_size { length self.new.blocks ≡ length self.old.blocks }
         ensures replaced { (bs : List (List ℕ)) → Some self.old.blocks ≡ Some bs →
             Some self.new.blocks ≡ Some (if is_ok result then slice_set bs b from.now else bs) }
-        ensures planned { (p : Plan) → Some self.old.plan ≡ Some p → (is_err result ≡ call_fails p) × (Some self.new.plan ≡ Some (after_call p)) }
+        ensures planned { (p : Plan) → Some self.old.plan ≡ Some p → (is_err result ≡ call_fails p)
+            × (Some self.new.plan ≡ Some (after_call p)) }
         ensures fails { is_err result ≡ call_fails self.old.plan }
         ensures after { self.new ≡ disk_after self.old (slice_set self.old.blocks b from.now) }
     {

@@ -15,10 +15,15 @@ use std::alloc::{AllocError, Global};
 const SAMPLE_BLOCKS: u32 = 64;
 
 impl MemDisk {
-    /// The sample disk: 64 blocks, with the files `alpha`, `beta` and `gamma`. The k-th call of read and write, counted
-    /// from 1, fails exactly where k is in `fails`. No fault was counted yet.
+    /// The sample disk: 64 blocks, with the files `alpha`, `beta` and `gamma`. The k-th call of
+    /// read and write, counted from 1, fails exactly where k is in `fails`. No fault was counted
+    /// yet.
     pub fn sample(alloc: Global, fails: Vec<u64>) -> Result<MemDisk, NoMemory>
-        ensures { IfOk result (λ d. d ≡ record { blocks = blocks_of_disk sample_disk; plan = record { made = 0; failing = fails.items }; faults = 0 }) }
+        ensures { IfOk result (λ d. d ≡ record {
+          blocks = blocks_of_disk sample_disk;
+          plan = record { made = 0; failing = fails.items };
+          faults = 0;
+        }) }
     {
         match sample_bytes(alloc, SAMPLE_BLOCKS) {
             Ok(bytes) => Ok(MemDisk::from_bytes(bytes, fails)),
@@ -31,7 +36,8 @@ impl MemDisk {
 fn sample_bytes(alloc: Global, count: u32) -> Result<Vec<u8>, AllocError>
     requires some { 1 ≤ count }
     requires few { count ≤ 4096 }
-    ensures value { IfOk result (λ v. blocks_in v.items count ≡ map sample_block (range_with_len 0 count)) }
+    ensures value { IfOk result (λ v. blocks_in v.items count
+        ≡ map sample_block (range_with_len 0 count)) }
     ensures len { IfOk result (λ v. vec_len v ≡ 512 * count) }
 {
     let mut bytes = Vec::with_capacity(alloc, BLOCK_BYTES * count as usize)?;
@@ -85,7 +91,8 @@ fn append_entry(
     file_bytes: u32,
 ) -> Result<(), AllocError>
     requires { length name.now ≤ 16 }
-    ensures { OnOk result (bytes.new.items ≡ bytes.old.items ++ sample_entry name.now start blocks file_bytes) }
+    ensures { OnOk result (bytes.new.items ≡ bytes.old.items
+        ++ sample_entry name.now start blocks file_bytes) }
 {
     bytes.extend_from_slice(name)?;
     append_zeros(bytes, 16 - name.len())?;

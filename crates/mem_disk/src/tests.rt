@@ -1,4 +1,5 @@
-//! The sample disk's bytes by the rule of `docs/FORMATS.md`, hostile directories, and chosen faults.
+//! The sample disk's bytes by the rule of `docs/FORMATS.md`, hostile directories, and chosen
+//! faults.
 
 use crate::{MemDisk, read_directory};
 use std::test::Fail;

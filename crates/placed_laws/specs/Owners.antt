@@ -14,7 +14,8 @@ use Rattle.kernel_model.specs.History.{begin_at}
 
 -- ---- owners
 
--- the process that a record names, if it names one, is this one: marks of frames and parameters of policies name none
+-- the process that a record names, if it names one, is this one: marks of frames and parameters of
+-- policies name none
 abbrev pub IsOwn : ℕ → Inverse → Type 0
 IsOwn q (Inverse.Cell r k v) = r ≡ q
 IsOwn q (Nice r v) = r ≡ q
@@ -34,11 +35,16 @@ AreOfOwner q (l ∷ ls) = (l.owner ≡ q) × AreOwn q l.records × AreOfOwner q 
 
 -- ---- the law
 
--- The levels of a graft call are all of one owner, the installer of the point that its piece asks, and so are their records.
+-- The levels of a graft call are all of one owner, the installer of the point that its piece asks,
+-- and so are their records.
 pub record OwnersStay : Type 0 where
   -- the first level begins
-  pub begins : (images : ImageTable) (s : Objects) (p : ℕ) (needs : List Need) (a : Point) → AreOfOwner a.installer (begin_at images s p needs a).levels
-  -- an instruction: an ask begins a level of the asker's own process, and an accessor changes what the level's owner has
-  pub instructions : (v : World) (images : ImageTable) (p q : ℕ) (c : Config) → AreOfOwner q c.levels → AreOfOwner q (micro v images p c).config.levels
+  pub begins : (images : ImageTable) (s : Objects) (p : ℕ) (needs : List Need) (a : Point) →
+      AreOfOwner a.installer (begin_at images s p needs a).levels
+  -- an instruction: an ask begins a level of the asker's own process, and an accessor changes what
+  -- the level's owner has
+  pub instructions : (v : World) (images : ImageTable) (p q : ℕ) (c : Config) →
+      AreOfOwner q c.levels → AreOfOwner q (micro v images p c).config.levels
   -- the drop of a level
-  pub drops : (v : World) (w : Objects) (ls : List Level) (d q : ℕ) (cause : Cause) → AreOfOwner q ls → AreOfOwner q (drop_level v w ls d cause).config.levels
+  pub drops : (v : World) (w : Objects) (ls : List Level) (d q : ℕ) (cause : Cause) →
+      AreOfOwner q ls → AreOfOwner q (drop_level v w ls d cause).config.levels

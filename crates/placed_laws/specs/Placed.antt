@@ -1,4 +1,5 @@
--- The kernel in place: one store that is changed in place, and of each call in flight its levels, without a history and without a
+-- The kernel in place: one store that is changed in place, and of each call in flight its levels,
+-- without a history and without a
 -- committed copy.
 use Rattle.std.specs.Prelude.{ℕ, Bool, true, false, cond, List, [], ◌∷◌, Option, Some, None, map, option_map}
 use Rattle.kernel_model.specs.Access.{Found}
@@ -47,12 +48,14 @@ pub record Placed : Type 0 where
   pub clock : ℕ
   -- the call of each process that has one in flight
   pub call : ℕ → Option PlacedCall
-  -- the levels of each process's call, innermost first; it is in a graft exactly where there are some
+  -- the levels of each process's call, innermost first; it is in a graft exactly where there are
+  -- some
   pub levels : ℕ → List PlacedLevel
   -- the order of waiting
   pub order : List Entry
 
--- an event under way: the kernel in place, the disk's blocks, the notes so far, and what the disk's next calls will do
+-- an event under way: the kernel in place, the disk's blocks, the notes so far, and what the disk's
+-- next calls will do
 pub record PlacedRun : Type 0 where
   pub placed : Placed
   pub blocks : Blocks
@@ -122,10 +125,12 @@ placed_blocker_from x h =
     }
 
 module _ (m : Meaning) where
-  -- what the next step needs of a call with these levels: the objects of its piece, or those of its next instruction
+  -- what the next step needs of a call with these levels: the objects of its piece, or those of its
+  -- next instruction
   abbrev pub placed_needs_at : Placed → ℕ → PlacedCall → List PlacedLevel → List Need
   placed_needs_at x p c [] = m.need x.world x.objects p c.stage
-  placed_needs_at x p c (l ∷ ls) = next_needs x.world x.images x.objects.accounts (placed_levels x p)
+  placed_needs_at x p c (l ∷ ls) =
+      next_needs x.world x.images x.objects.accounts (placed_levels x p)
 
   -- the same of a call, if there is one
   abbrev pub placed_needs_in : Placed → ℕ → Option PlacedCall → List Need
@@ -140,7 +145,8 @@ module _ (m : Meaning) where
   abbrev pub placed_blocker_in : Placed → LockTable → ℕ → Option Blocker
   placed_blocker_in x locks p =
       option_map (placed_blocker_from x)
-      (first_hindrance locks x.objects.things.lock p (lock_user p (placed_levels x p)) (placed_needs x p))
+      (first_hindrance locks x.objects.things.lock p (lock_user p (placed_levels x p))
+      (placed_needs x p))
 
   -- who blocks the next step of a process's call
   abbrev pub placed_blocker : Placed → ℕ → Option Blocker

@@ -52,7 +52,10 @@ module _ (m : Meaning) where
   abbrev pub placed_settle : ℕ → PlacedRun → PlacedRun
   placed_settle zero r = placed_rested r
   placed_settle (suc n) r =
-      elim (placed_first_free m r.placed r.placed.order) [ None ↦ placed_rested r | Some p ↦ placed_settle n (placed_step m p r) ]
+      elim (placed_first_free m r.placed r.placed.order) [
+        | None ↦ placed_rested r
+        | Some p ↦ placed_settle n (placed_step m p r)
+      ]
 
   -- all steps that can be taken: 256 are always enough
   abbrev pub placed_settled : PlacedRun → PlacedRun
@@ -77,16 +80,19 @@ module _ (m : Meaning) where
   abbrev pub placed_begun : ℕ → ℕ → Result Stage Refusal → PlacedRun → PlacedRun
   placed_begun number p (Err refusal) r = placed_noted (Refused number refusal) r
   placed_begun number p (Ok t) r =
-      placed_settled (placed_joins p (with_placed_call p (Some (record { number = number; stage = t })) r))
+      placed_settled
+      (placed_joins p (with_placed_call p (Some (record { number = number; stage = t })) r))
 
   -- a system call: busy, refused at once, or begun
   abbrev pub placed_sys_event : ℕ → ℕ → SysCall → Option PlacedCall → PlacedRun → PlacedRun
   placed_sys_event number p call (Some c) r = placed_noted (Refused number (Busy c.number)) r
-  placed_sys_event number p call None r = placed_last p (placed_begun number p (m.early r.placed.world r.placed.images p call) r)
+  placed_sys_event number p call None r =
+      placed_last p (placed_begun number p (m.early r.placed.world r.placed.images p call) r)
 
   -- ---- steps
 
-  -- at most n instructions of the call of p, as long as it has a level and isn't in the order; how many were taken up
+  -- at most n instructions of the call of p, as long as it has a level and isn't in the order; how
+  -- many were taken up
   abbrev pub placed_steps : ℕ → ℕ → ℕ → PlacedRun → ℕ × PlacedRun
   placed_steps p zero taken r = (taken, r)
   placed_steps p (suc n) taken r =
@@ -100,7 +106,8 @@ module _ (m : Meaning) where
 
   -- instructions of the call of p
   abbrev pub placed_step_event : ℕ → ℕ → ℕ → PlacedRun → PlacedRun
-  placed_step_event number p n r = let s = placed_steps p n 0 r in placed_last p (placed_noted (Ran number s.0) s.1)
+  placed_step_event number p n r = let s = placed_steps p n 0 r in
+      placed_last p (placed_noted (Ran number s.0) s.1)
 
   -- ---- time-outs
 
@@ -111,7 +118,9 @@ module _ (m : Meaning) where
 
   -- a waiter for a user lock: its innermost level is dropped, or it ends
   abbrev pub placed_waiter_by : ℕ → Blocker → PlacedCall → List PlacedLevel → PlacedRun → PlacedRun
-  placed_waiter_by p b c [] r = placed_requeue p (placed_noted (Refused c.number (TimedOut b.object b.holder)) (with_placed_call p None r))
+  placed_waiter_by p b c [] r =
+      placed_requeue p (placed_noted (Refused c.number (TimedOut b.object b.holder))
+      (with_placed_call p None r))
   placed_waiter_by p b c (l ∷ ls) r = placed_drop m p (length ls) (TimeOut b.object b.holder) r
 
   -- the same, if there is a call
@@ -122,7 +131,9 @@ module _ (m : Meaning) where
   -- a call that blocks loses the outermost level whose hold on the object conflicts
   abbrev pub placed_holder : ℕ → Blocker → PlacedRun → PlacedRun
   placed_holder p b r =
-      placed_drop_if b.holder (outermost_holding b.object (wanted b.object (placed_needs m r.placed p)) (placed_holds r.placed b.holder)) (TimeOut b.object p) r
+      placed_drop_if b.holder
+      (outermost_holding b.object (wanted b.object (placed_needs m r.placed p))
+      (placed_holds r.placed b.holder)) (TimeOut b.object p) r
 
   -- one action of a tick, for a waiter and its blocker
   abbrev pub placed_action : ℕ → Blocker → Option ℕ → PlacedRun → PlacedRun
@@ -153,13 +164,19 @@ module _ (m : Meaning) where
   placed_event_on number (Step p n) r =
       elim (lives r.placed.objects.things.queue p) [
         | false ↦ placed_noted (Refused number NoProcess) r
-        | true ↦ elim (nat_le 1 n && nat_le n MOST_STEPS)
-            [ true ↦ placed_step_event number p n r | false ↦ placed_noted (Refused number BadIndex) r ]
+        | true ↦ elim (nat_le 1 n && nat_le n MOST_STEPS) [
+          | true ↦ placed_step_event number p n r
+          | false ↦ placed_noted (Refused number BadIndex) r
+        ]
       ]
   placed_event_on number (Sys p call) r =
-      elim (lives r.placed.objects.things.queue p)
-      [ false ↦ placed_noted (Refused number NoProcess) r | true ↦ placed_sys_event number p call (r.placed.call p) r ]
+      elim (lives r.placed.objects.things.queue p) [
+        | false ↦ placed_noted (Refused number NoProcess) r
+        | true ↦ placed_sys_event number p call (r.placed.call p) r
+      ]
 
-  -- one event of this number over these blocks; io says of each of its calls of the disk whether it fails
+  -- one event of this number over these blocks; io says of each of its calls of the disk whether it
+  -- fails
   abbrev pub placed_event : Placed → Blocks → ℕ → Event → List Bool → PlacedRun
-  placed_event x blocks number e io = placed_event_on number e (record { placed = x; blocks = blocks; notes = []; io = io })
+  placed_event x blocks number e io =
+      placed_event_on number e (record { placed = x; blocks = blocks; notes = []; io = io })

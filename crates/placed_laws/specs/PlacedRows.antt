@@ -15,7 +15,8 @@ placed_wait_row x p = wait_by (find (λ (e : Entry). e.process == p) x.order)
 -- a call in flight
 abbrev pub placed_call_row : Placed → ℕ → Option RawRow
 placed_call_row x p =
-    option_map (λ (c : PlacedCall). RawRow.Call p c.number (placed_wait_row x p) (top_of (placed_levels x p))) (x.call p)
+    option_map (λ (c : PlacedCall). RawRow.Call p c.number (placed_wait_row x p)
+    (top_of (placed_levels x p))) (x.call p)
 
 -- the levels of a call, outermost first
 abbrev pub placed_level_rows : Placed → ℕ → List RawRow
@@ -29,7 +30,11 @@ placed_undo_rows x p = map (undo_row p) (numbered_log (undo_log (placed_levels x
 abbrev pub placed_rows : Placed → List RawRow
 placed_rows x =
     let w = x.objects in
-    RawRow.Clock x.clock ∷ RawRow.Queue w.things.queue ∷ map (acct_row w) (living w) ++ map (cells_row w) (living w)
+    RawRow.Clock x.clock ∷ RawRow.Queue w.things.queue ∷ map (acct_row w) (living w)
+    ++ map (cells_row w) (living w)
     ++ flat_map (open_rows x.world w) processes ++ flat_map (graft_rows w) processes
-    ++ map (pol_row w) (0 ∷ 1 ∷ 2 ∷ []) ++ RawRow.Lru (filter_map (frame_row_of w) w.things.cache.lru) ∷ filter_map (lock_row w) points
-    ++ filter_map (placed_call_row x) processes ++ flat_map (placed_level_rows x) processes ++ flat_map (placed_undo_rows x) processes
+    ++ map (pol_row w) (0 ∷ 1 ∷ 2 ∷ [])
+    ++ RawRow.Lru (filter_map (frame_row_of w) w.things.cache.lru)
+    ∷ filter_map (lock_row w) points
+    ++ filter_map (placed_call_row x) processes ++ flat_map (placed_level_rows x) processes
+    ++ flat_map (placed_undo_rows x) processes

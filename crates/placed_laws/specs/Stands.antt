@@ -14,8 +14,10 @@ use Rattle.placed_laws.specs.Placed.{PlacedCall, Placed, PlacedRun, bare}
 abbrev pub without_history : Option Call → Option PlacedCall
 without_history c = option_map (λ (x : Call). record { number = x.number; stage = x.stage }) c
 
--- A kernel in place stands for a sound abstract kernel. Its store is sound, and has each object as the abstract kernel's store in
--- place has it: what a call holds exclusively as the call's replay has it, and all else as committed. Its levels are those to which
+-- A kernel in place stands for a sound abstract kernel. Its store is sound, and has each object as
+-- the abstract kernel's store in
+-- place has it: what a call holds exclusively as the call's replay has it, and all else as
+-- committed. Its levels are those to which
 -- the histories lead. Numbers out of range don't count, but for those of grafts.
 pub record StandsFor (m : Meaning) (x : Placed) (k : Kernel) : Type 0 where
   pub world : x.world ≡ k.world
@@ -28,7 +30,8 @@ pub record StandsFor (m : Meaning) (x : Placed) (k : Kernel) : Type 0 where
   pub store : IsSoundStore x.world x.objects
   pub kernel : IsSoundKernel m k
 
--- an event under way in place stands for one of the abstract kernel: the same blocks, which are whole, notes and disk calls
+-- an event under way in place stands for one of the abstract kernel: the same blocks, which are
+-- whole, notes and disk calls
 pub record RunStandsFor (m : Meaning) (x : PlacedRun) (r : Run) : Type 0 where
   pub kernel : StandsFor m x.placed r.kernel
   pub blocks : x.blocks ≡ r.blocks

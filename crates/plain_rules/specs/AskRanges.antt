@@ -33,18 +33,21 @@ words_none : (top i : ℕ) → 0 < top → slice_index [] i < top
 words_none top i l = l
 
 -- a list of words with one more
-words_more : (top x : ℕ) (xs : List ℕ) → x < top → ((i : ℕ) → slice_index xs i < top) → (i : ℕ) → slice_index (x ∷ xs) i < top
+words_more : (top x : ℕ) (xs : List ℕ) → x < top → ((i : ℕ) → slice_index xs i < top) → (i : ℕ) →
+    slice_index (x ∷ xs) i < top
 words_more top x xs l rest zero = l
 words_more top x xs l rest (suc i) = rest i
 
 -- a point of four words
-right_point : (q pt a b c d : ℕ) → q < 16 → pt < 16 → a < 2 ^ 32 → b < 2 ^ 32 → c < 2 ^ 32 → d < 2 ^ 32 →
+right_point : (q pt a b c d : ℕ) → q < 16 → pt < 16 → a < 2 ^ 32 → b < 2 ^ 32 → c < 2 ^ 32 →
+    d < 2 ^ 32 →
     IsRightPoint (record { installer = q; point = pt; args = a ∷ b ∷ c ∷ d ∷ [] })
 right_point q pt a b c d l m la lb lc ld =
     record {
       graft = (l, m);
       four = refl;
-      words = words_more (2 ^ 32) a (b ∷ c ∷ d ∷ []) la (words_more (2 ^ 32) b (c ∷ d ∷ []) lb (words_more (2 ^ 32) c (d ∷ []) lc
+      words = words_more (2 ^ 32) a (b ∷ c ∷ d ∷ []) la
+          (words_more (2 ^ 32) b (c ∷ d ∷ []) lb (words_more (2 ^ 32) c (d ∷ []) lc
           (words_more (2 ^ 32) d [] ld (λ i. words_none (2 ^ 32) i (omega arith)))));
     }
 
@@ -65,22 +68,26 @@ once_some true l = refl
 once_some false l = absurd (omega arith)
 
 -- the numbers in the order of use are below 64
-frames_below : (v : World) (s : Objects) → IsSoundStore v s → Each (λ (f : ℕ). f < 64) s.things.cache.lru
+frames_below : (v : World) (s : Objects) → IsSoundStore v s →
+    Each (λ (f : ℕ). f < 64) s.things.cache.lru
 frames_below v s sound =
     each_counted (λ (f : ℕ). f < 64) s.things.cache.lru
     (λ f l.
     let same = sound.in_use f in
-    let m = sound.frame_numbers f (once_some (is_some (s.things.cache.frame f)) (omega (arith, l, same))) in
+    let m = sound.frame_numbers f
+    (once_some (is_some (s.things.cache.frame f)) (omega (arith, l, same))) in
     let most = sound.world.frames_most in omega (arith, m, most))
 
 -- at most 64 frames are in use
 frames_few : (v : World) (s : Objects) → IsSoundStore v s → length s.things.cache.lru ≤ 64
 frames_few v s sound =
     counted_few s.things.cache.lru 64
-    (λ f. let same = sound.in_use f in let l = once_few (is_some (s.things.cache.frame f)) in omega (arith, same, l)) (frames_below v s sound)
+    (λ f. let same = sound.in_use f in let l = once_few (is_some (s.things.cache.frame f)) in
+    omega (arith, same, l)) (frames_below v s sound)
 
 -- one element more, or not
-filter_step : {A : Type 0} (test : Bool) (x : A) (xs : List A) (n : ℕ) → length xs ≤ n → length (cond test (x ∷ xs) xs) ≤ suc n
+filter_step : {A : Type 0} (test : Bool) (x : A) (xs : List A) (n : ℕ) → length xs ≤ n →
+    length (cond test (x ∷ xs) xs) ≤ suc n
 filter_step true x xs n l = omega (arith, l)
 filter_step false x xs n l = omega (arith, l)
 
@@ -96,25 +103,33 @@ candidate_is None (Some g) x f e = cc
 candidate_is (Some g) free x f e = cc
 
 -- the candidate for eviction is below 64
-candidate_below : (v : World) (s : Objects) (pol : PolValue) (b f : ℕ) → IsSoundStore v s → candidate_for v pol s.things.cache b ≡ Some f → f < 64
+candidate_below : (v : World) (s : Objects) (pol : PolValue) (b f : ℕ) → IsSoundStore v s →
+    candidate_for v pol s.things.cache b ≡ Some f → f < 64
 candidate_below v s pol b f sound e =
-    least_holds (λ (g : ℕ). g < 64) (victim_key pol s.things.cache) s.things.cache.lru f (frames_below v s sound)
-    (candidate_is (frame_of_block s.things.cache b) (free_frame s.things.cache v.frames 0) (victim_among pol s.things.cache s.things.cache.lru) f e)
+    least_holds (λ (g : ℕ). g < 64) (victim_key pol s.things.cache) s.things.cache.lru f
+    (frames_below v s sound)
+    (candidate_is (frame_of_block s.things.cache b) (free_frame s.things.cache v.frames 0)
+    (victim_among pol s.things.cache s.things.cache.lru) f e)
 
 -- the point of a victim
-victim_right : (v : World) (s : Objects) (b : ℕ) (x : Option ℕ) (a : Point) → IsSoundStore v s → b < 2 ^ 32 → ((f : ℕ) → x ≡ Some f → f < 64) →
+victim_right : (v : World) (s : Objects) (b : ℕ) (x : Option ℕ) (a : Point) → IsSoundStore v s →
+    b < 2 ^ 32 → ((f : ℕ) → x ≡ Some f → f < 64) →
     victim_ask s.things.cache b x ≡ Some a → IsRightPoint a
 victim_right v s b None a sound l k e = cc
 victim_right v s b (Some f) a sound l k e =
-    let few = filter_few (λ g. is_owned s.things.cache (owner_asked s.things.cache f) g) s.things.cache.lru in
+    let few = filter_few (λ g. is_owned s.things.cache (owner_asked s.things.cache f) g)
+    s.things.cache.lru in
     let most = frames_few v s sound in
     let low = k f refl in
     right_same _ a
-    (right_point (owner_asked s.things.cache f) 4 f b (length (frames_of s.things.cache (owner_asked s.things.cache f))) 0 (owner_below v s f sound)
+    (right_point (owner_asked s.things.cache f) 4 f b
+    (length (frames_of s.things.cache (owner_asked s.things.cache f))) 0
+    (owner_below v s f sound)
     (omega arith) (omega (arith, low)) l (omega (arith, few, most)) (omega arith)) e
 
 -- the point of a fetch of a block below 2 ^ 32
-fetch_right : (v : World) (s : Objects) (r : Result ℕ Refusal) (a : Point) → IsSoundStore v s → ((b : ℕ) → r ≡ Ok b → b < 2 ^ 32) →
+fetch_right : (v : World) (s : Objects) (r : Result ℕ Refusal) (a : Point) → IsSoundStore v s →
+    ((b : ℕ) → r ≡ Ok b → b < 2 ^ 32) →
     fetch_ask v s.things r ≡ Some a → IsRightPoint a
 fetch_right v s (Err why) a sound k e = cc
 fetch_right v s (Ok b) a sound k e =
@@ -133,22 +148,27 @@ within_step true x b e = (refl, cc)
 within_step false x b e = cc
 
 -- a block of a file is one of the disk
-file_block_in_below : (r : Option FileRow) (i off len b : ℕ) → ((row : FileRow) → r ≡ Some row → row.start + row.blocks ≤ 4096) →
+file_block_in_below : (r : Option FileRow) (i off len b : ℕ) →
+    ((row : FileRow) → r ≡ Some row → row.start + row.blocks ≤ 4096) →
     file_block_in r i off len ≡ Ok b → b < 4096
 file_block_in_below None i off len b k e = cc
 file_block_in_below (Some r) i off len b k e =
     let within = within_step (is_within r i off len) (r.start + i) b e in
-    let l = ltb-true i r.blocks (and_parts (nat_lt i r.blocks) (nat_le (512 * i + off + len) r.length) within.0).0 in
+    let l = ltb-true i r.blocks
+    (and_parts (nat_lt i r.blocks) (nat_le (512 * i + off + len) r.length) within.0).0 in
     let same = within.1 in let most = k r refl in omega (arith, l, same, most)
 
 -- the block of a read or a write is a word
-file_block_below : (v : World) (s : Objects) (o : Option OpenRow) (i off len b : ℕ) → IsSoundStore v s → file_block v o i off len ≡ Ok b → b < 2 ^ 32
+file_block_below : (v : World) (s : Objects) (o : Option OpenRow) (i off len b : ℕ) →
+    IsSoundStore v s → file_block v o i off len ≡ Ok b → b < 2 ^ 32
 file_block_below v s None i off len b sound e = cc
 file_block_below v s (Some o) i off len b sound e =
-    let l = file_block_in_below (file_row v o.file) i off len b (λ r h. sound.world.files o.file r h) e in omega (arith, l)
+    let l = file_block_in_below (file_row v o.file) i off len b
+    (λ r h. sound.world.files o.file r h) e in omega (arith, l)
 
 -- a file's blocks are at most those of the disk
-blocks_step : (r : Option FileRow) → ((row : FileRow) → r ≡ Some row → row.start + row.blocks ≤ 4096) →
+blocks_step : (r : Option FileRow) →
+    ((row : FileRow) → r ≡ Some row → row.start + row.blocks ≤ 4096) →
     elim r as (λ _. ℕ) [ None ↦ 0 | Some row ↦ row.blocks ] ≤ 4096
 blocks_step None k = omega arith
 blocks_step (Some r) k = let l = k r refl in omega (arith, l)
@@ -158,41 +178,51 @@ blocks_few : (v : World) (s : Objects) (n : ℕ) → IsSoundStore v s → blocks
 blocks_few v s n sound = blocks_step (file_row v n) (λ r e. sound.world.files n r e)
 
 -- a block of a file that ends on the disk is one of the disk
-block_step : (r : Option FileRow) (i : ℕ) → ((row : FileRow) → r ≡ Some row → row.start + row.blocks ≤ 4096) →
-    i ≤ elim r as (λ _. ℕ) [ None ↦ 0 | Some row ↦ row.blocks ] → elim r as (λ _. ℕ) [ None ↦ 0 | Some row ↦ row.start + i ] ≤ 4096
+block_step : (r : Option FileRow) (i : ℕ) →
+    ((row : FileRow) → r ≡ Some row → row.start + row.blocks ≤ 4096) →
+    i ≤ elim r as (λ _. ℕ) [ None ↦ 0 | Some row ↦ row.blocks ] →
+    elim r as (λ _. ℕ) [ None ↦ 0 | Some row ↦ row.start + i ] ≤ 4096
 block_step None i k l = omega arith
 block_step (Some r) i k l = let m = k r refl in omega (arith, l, m)
 
 -- the block that is to be read ahead next
-ahead_block_below : (v : World) (s : Objects) (o : Option OpenRow) (b : ℕ) → IsSoundStore v s → ((r : OpenRow) → o ≡ Some r → IsSoundFile v r) →
+ahead_block_below : (v : World) (s : Objects) (o : Option OpenRow) (b : ℕ) → IsSoundStore v s →
+    ((r : OpenRow) → o ≡ Some r → IsSoundFile v r) →
     ahead_block v o ≡ Ok b → b < 2 ^ 32
 ahead_block_below v s None b sound k e = cc
 ahead_block_below v s (Some o) b sound k e =
     let same : block_of v o.file o.start ≡ b = cc in
     let file = k o refl in
     let within = file.within in
-    let l = block_step (file_row v o.file) o.start (λ r h. sound.world.files o.file r h) (omega (arith, within)) in omega (arith, same, l)
+    let l = block_step (file_row v o.file) o.start (λ r h. sound.world.files o.file r h)
+    (omega (arith, within)) in omega (arith, same, l)
 
 -- ---- the processor
 
 -- the nice of the first row is one of the rows'
-nice_step : (test : Bool) (r : QueueRow) (rows : List QueueRow) → r.nice ≤ 39 → first_nice rows ≤ 39 → first_nice (cond test (r ∷ rows) rows) ≤ 39
+nice_step : (test : Bool) (r : QueueRow) (rows : List QueueRow) → r.nice ≤ 39 →
+    first_nice rows ≤ 39 → first_nice (cond test (r ∷ rows) rows) ≤ 39
 nice_step true r rows l m = l
 nice_step false r rows l m = m
 
 -- the first nice of some rows is one of the rows'
-nice_most : (test : QueueRow → Bool) (rows : List QueueRow) → Each (λ (r : QueueRow). r.nice ≤ 39) rows → first_nice (filter test rows) ≤ 39
+nice_most : (test : QueueRow → Bool) (rows : List QueueRow) →
+    Each (λ (r : QueueRow). r.nice ≤ 39) rows → first_nice (filter test rows) ≤ 39
 nice_most test [] each = omega arith
-nice_most test (r ∷ rows) each = nice_step (test r) r (filter test rows) each.0 (nice_most test rows each.1)
+nice_most test (r ∷ rows) each =
+    nice_step (test r) r (filter test rows) each.0 (nice_most test rows each.1)
 
 -- each row's nice is at most 39
-nices : (v : World) (s : Objects) → IsSoundStore v s → Each (λ (r : QueueRow). r.nice ≤ 39) s.things.queue
+nices : (v : World) (s : Objects) → IsSoundStore v s →
+    Each (λ (r : QueueRow). r.nice ≤ 39) s.things.queue
 nices v s sound =
     recursion_from_All (λ (r : QueueRow). r.nice ≤ 39) s.things.queue
-    (All-weaker (Contains s.things.queue) (λ (r : QueueRow). r.nice ≤ 39) sound.nices s.things.queue (All-contains_itself s.things.queue))
+    (All-weaker (Contains s.things.queue) (λ (r : QueueRow). r.nice ≤ 39) sound.nices s.things.queue
+    (All-contains_itself s.things.queue))
 
 -- what holds of the process of each row
-each_process : (rows : List QueueRow) → Each (λ (r : QueueRow). r.process < 16) rows → Each (λ (p : ℕ). p < 16) (in_queue rows)
+each_process : (rows : List QueueRow) → Each (λ (r : QueueRow). r.process < 16) rows →
+    Each (λ (p : ℕ). p < 16) (in_queue rows)
 each_process [] each = tt
 each_process (r ∷ rows) each = (each.0, each_process rows each.1)
 
@@ -200,12 +230,14 @@ each_process (r ∷ rows) each = (each.0, each_process rows each.1)
 queue_few : (v : World) (s : Objects) → IsSoundStore v s → length s.things.queue ≤ 16
 queue_few v s sound =
     let l = counted_few (in_queue s.things.queue) 16
-    (λ p. let same = sound.once p in let l = once_few (lives s.things.queue p) in omega (arith, same, l))
+    (λ p. let same = sound.once p in let l = once_few (lives s.things.queue p) in
+    omega (arith, same, l))
     (each_process s.things.queue (rows_below s.things.queue sound.numbers)) in
     let same = length-map s.things.queue (λ (r : QueueRow). r.process) in omega (arith, l, same)
 
 -- the point of a candidate for the processor
-slice_right : (v : World) (s : Objects) (x : Option ℕ) (a : Point) → IsSoundStore v s → ((c : ℕ) → x ≡ Some c → c < 16) →
+slice_right : (v : World) (s : Objects) (x : Option ℕ) (a : Point) → IsSoundStore v s →
+    ((c : ℕ) → x ≡ Some c → c < 16) →
     slice_ask v s.things x ≡ Some a → IsRightPoint a
 slice_right v s None a sound k e = cc
 slice_right v s (Some c) a sound k e =
@@ -213,57 +245,72 @@ slice_right v s (Some c) a sound k e =
     let nice = nice_most (λ (r : QueueRow). r.process == c) s.things.queue (nices v s sound) in
     let few = queue_few v s sound in
     right_same _ a
-    (right_point c 5 c (nice_of s.things.queue c) (length s.things.queue) 0 l (omega arith) (omega (arith, l)) (omega (arith, nice))
+    (right_point c 5 c (nice_of s.things.queue c) (length s.things.queue) 0 l (omega arith)
+    (omega (arith, l)) (omega (arith, nice))
     (omega (arith, few)) (omega arith)) e
 
 -- the point of a yield
-yield_right : (n : ℕ) (v : World) (s : Objects) (a : Point) → IsSoundStore v s → yield_ask n v s.things ≡ Some a → IsRightPoint a
+yield_right : (n : ℕ) (v : World) (s : Objects) (a : Point) → IsSoundStore v s →
+    yield_ask n v s.things ≡ Some a → IsRightPoint a
 yield_right zero v s a sound e = cc
 yield_right (suc n) v s a sound e =
-    slice_right v s (next_process (s.things.pol 2) s.things.queue) a sound (λ c h. next_below v s (s.things.pol 2) c sound h) e
+    slice_right v s (next_process (s.things.pol 2) s.things.queue) a sound
+    (λ c h. next_below v s (s.things.pol 2) c sound h) e
 
 -- ---- reading ahead
 
 -- the blocks of an open file are at most those of the disk
-open_blocks_few : (v : World) (s : Objects) (o : Option OpenRow) → IsSoundStore v s → open_blocks v o ≤ 4096
+open_blocks_few : (v : World) (s : Objects) (o : Option OpenRow) → IsSoundStore v s →
+    open_blocks v o ≤ 4096
 open_blocks_few v s None sound = omega arith
 open_blocks_few v s (Some o) sound = blocks_few v s o.file sound
 
 -- where reading ahead starts by default
-default_start_few : (v : World) (s : Objects) (pol : PolValue) (o : Option OpenRow) → IsSoundStore v s → (ahead_default v pol o).0 ≤ 4096
+default_start_few : (v : World) (s : Objects) (pol : PolValue) (o : Option OpenRow) →
+    IsSoundStore v s → (ahead_default v pol o).0 ≤ 4096
 default_start_few v s pol None sound = omega arith
 default_start_few v s pol (Some o) sound = let l = blocks_few v s o.file sound in omega (arith, l)
 
 -- and by how much
-default_count_few : (v : World) (pol : PolValue) (o : Option OpenRow) → ((r : OpenRow) → o ≡ Some r → IsSoundFile v r) → (ahead_default v pol o).1 ≤ 8
+default_count_few : (v : World) (pol : PolValue) (o : Option OpenRow) →
+    ((r : OpenRow) → o ≡ Some r → IsSoundFile v r) → (ahead_default v pol o).1 ≤ 8
 default_count_few v pol None k = omega arith
 default_count_few v pol (Some o) k =
-    let l = ahead_count_most pol o.seq o.window (blocks_of v o.file - min o.next (blocks_of v o.file)) in
+    let l = ahead_count_most pol o.seq o.window
+    (blocks_of v o.file - min o.next (blocks_of v o.file)) in
     let file = k o refl in let wide = file.window in omega (arith, l, wide)
 
 -- the point of a read
-read_right : (n : ℕ) (v : World) (s : Objects) (p fd i off len : ℕ) (a : Point) → IsSoundStore v s → p < 16 → fd < 4 →
+read_right : (n : ℕ) (v : World) (s : Objects) (p fd i off len : ℕ) (a : Point) → IsSoundStore v s →
+    p < 16 → fd < 4 →
     read_ask n v s.things p fd i off len ≡ Some a → IsRightPoint a
 read_right zero v s p fd i off len a sound l m e =
-    fetch_right v s (file_block v (s.things.file p fd) i off len) a sound (λ b h. file_block_below v s (s.things.file p fd) i off len b sound h) e
+    fetch_right v s (file_block v (s.things.file p fd) i off len) a sound
+    (λ b h. file_block_below v s (s.things.file p fd) i off len b sound h) e
 read_right (suc zero) v s p fd i off len a sound l m e =
     let start = default_start_few v s (s.things.pol 0) (s.things.file p fd) sound in
-    let count = default_count_few v (s.things.pol 0) (s.things.file p fd) (λ r h. (sound.files p fd r h).1) in
+    let count = default_count_few v (s.things.pol 0) (s.things.file p fd)
+    (λ r h. (sound.files p fd r h).1) in
     let most = open_blocks_few v s (s.things.file p fd) sound in
     right_same _ a
-    (right_point p fd (ahead_default v (s.things.pol 0) (s.things.file p fd)).0 (ahead_default v (s.things.pol 0) (s.things.file p fd)).1
-    (open_blocks v (s.things.file p fd)) fd l (omega (arith, m)) (omega (arith, start)) (omega (arith, count)) (omega (arith, most)) (omega (arith, m))) e
+    (right_point p fd (ahead_default v (s.things.pol 0) (s.things.file p fd)).0
+    (ahead_default v (s.things.pol 0) (s.things.file p fd)).1
+    (open_blocks v (s.things.file p fd)) fd l (omega (arith, m)) (omega (arith, start))
+    (omega (arith, count)) (omega (arith, most)) (omega (arith, m))) e
 read_right (suc (suc n)) v s p fd i off len a sound l m e =
     fetch_right v s (ahead_block v (s.things.file p fd)) a sound
-    (λ b h. ahead_block_below v s (s.things.file p fd) b sound (λ r k. (sound.files p fd r k).1) h) e
+    (λ b h. ahead_block_below v s (s.things.file p fd) b sound (λ r k. (sound.files p fd r k).1) h)
+    e
 
 -- the point that a piece asks is a right one
-pub piece_asks_right : (v : World) (images : ImageTable) (s : Objects) (p : ℕ) (c : SysCall) (n : ℕ) (a : Point) → PieceStands c n v images s p →
+pub piece_asks_right : (v : World) (images : ImageTable) (s : Objects) (p : ℕ) (c : SysCall) (n : ℕ)
+    (a : Point) → PieceStands c n v images s p →
     piece_ask c n v s.things p ≡ Some a → IsRightPoint a
 piece_asks_right v images s p Yield n a c e = yield_right n v s a c.store e
 piece_asks_right v images s p (Read fd i off len) n a c e =
     read_right n v s p fd i off len a c.store (c.store.numbers p c.caller)
-    (granted_below (Read fd i off len) 3 fd BadFd (refused (nat_lt 512 (off + len)) BadIndex None) c.granted.granted) e
+    (granted_below (Read fd i off len) 3 fd BadFd
+    (refused (nat_lt 512 (off + len)) BadIndex None) c.granted.granted) e
 piece_asks_right v images s p (Write fd i off bytes) n a c e =
     fetch_right v s (file_block v (s.things.file p fd) i off (length bytes)) a c.store
     (λ b h. file_block_below v s (s.things.file p fd) i off (length bytes) b c.store h) e

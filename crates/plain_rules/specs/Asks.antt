@@ -14,10 +14,13 @@ use Rattle.plain_rules.specs.BeforePoint.{piece_before_point}
 pub asks_of_plain : (top : ℕ) → top ≤ 15 → AskLaws (plain_upto top)
 asks_of_plain top most =
     record {
-      looks = λ v s u p t h k a. piece_asks_same t.call t.piece v s u p (each_agrees s u (piece_needs t.call t.piece v s p) a);
-      ranges = λ v images s p t a c e. piece_asks_right v images s p t.call t.piece a (piece_stands top v images s p t most c) e;
+      looks = λ v s u p t h k a. piece_asks_same t.call t.piece v s u p
+          (each_agrees s u (piece_needs t.call t.piece v s p) a);
+      ranges = λ v images s p t a c e.
+          piece_asks_right v images s p t.call t.piece a (piece_stands top v images s p t most c) e;
       alike = λ v s u p t h a. piece_kind t.call t.piece v s u p a;
       alike_before = λ v s u p t a b h k e f.
-          piece_before_point t.call t.piece v s p a e ∙ sym (piece_before_point t.call t.piece v u p b f);
+          piece_before_point t.call t.piece v s p a e
+          ∙ sym (piece_before_point t.call t.piece v u p b f);
       alike_ahead = λ v s u p t a b h k e f. piece_ahead_alike t.call t.piece v s u p a b h k e f;
     }

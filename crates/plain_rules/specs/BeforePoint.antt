@@ -1,4 +1,5 @@
--- Where a piece asks a point, its objects end with the point's, and those before are the same in every state.
+-- Where a piece asks a point, its objects end with the point's, and those before are the same in
+-- every state.
 use Rattle.std.specs.Prelude.{◌≡◌, ℕ, zero, suc, ◌-◌, List, [], ◌∷◌, ◌++◌, length, take, Option, Some, None, Result, Ok, Err}
 use Rattle.std.proofs.Common.{arith, ap, ◌∙◌}
 use Rattle.std.proofs.Math.Seq.{take-append_seam}
@@ -25,7 +26,8 @@ read_before (suc (suc n)) p fd = exclusive (OpenFile p fd) ∷ exclusive Cache �
 abbrev pub piece_before : SysCall → (n p : ℕ) → List Need
 piece_before Yield n p = exclusive Queue ∷ shared (Pol 2) ∷ []
 piece_before (Read fd i off len) n p = read_before n p fd
-piece_before (Write fd i off bytes) n p = shared (OpenFile p fd) ∷ exclusive Cache ∷ shared (Pol 1) ∷ []
+piece_before (Write fd i off bytes) n p =
+    shared (OpenFile p fd) ∷ exclusive Cache ∷ shared (Pol 1) ∷ []
 piece_before c n p = []
 
 -- the value, or another
@@ -34,46 +36,59 @@ or_else a None = a
 or_else a (Some b) = b
 
 -- the objects of a fetch that asks
-victim_ends : (s : Objects) (c : CacheValue) (b : ℕ) (x : Option ℕ) (a : Point) → victim_ask c b x ≡ Some a →
+victim_ends : (s : Objects) (c : CacheValue) (b : ℕ) (x : Option ℕ) (a : Point) →
+    victim_ask c b x ≡ Some a →
     victim_needs s.accounts c x ≡ shared (Pol 1) ∷ needs_of_point s a
 victim_ends s c b None a e = cc
 victim_ends s c b (Some f) a e =
     ap (λ o. shared (Pol 1) ∷ needs_of_point s (or_else a o)) e
 
 -- the objects of a fetch that asks: the cache, the policy and the point's
-fetch_ends : (v : World) (s : Objects) (r : Result ℕ Refusal) (a : Point) → fetch_ask v s.things r ≡ Some a →
+fetch_ends : (v : World) (s : Objects) (r : Result ℕ Refusal) (a : Point) →
+    fetch_ask v s.things r ≡ Some a →
     fetch_needs v s r ≡ exclusive Cache ∷ shared (Pol 1) ∷ needs_of_point s a
 fetch_ends v s (Err why) a e = cc
-fetch_ends v s (Ok b) a e = ap (λ ns. exclusive Cache ∷ ns) (victim_ends s s.things.cache b (candidate_for v (s.things.pol 1) s.things.cache b) a e)
+fetch_ends v s (Ok b) a e =
+    ap (λ ns. exclusive Cache ∷ ns)
+    (victim_ends s s.things.cache b (candidate_for v (s.things.pol 1) s.things.cache b) a e)
 
 -- the objects of a candidate for the processor are those of the point
-slice_ends : (v : World) (s : Objects) (x : Option ℕ) (a : Point) → slice_ask v s.things x ≡ Some a → slice_needs s.accounts x ≡ needs_of_point s a
+slice_ends : (v : World) (s : Objects) (x : Option ℕ) (a : Point) →
+    slice_ask v s.things x ≡ Some a → slice_needs s.accounts x ≡ needs_of_point s a
 slice_ends v s None a e = cc
 slice_ends v s (Some c) a e = ap (λ o. needs_of_point s (or_else a o)) e
 
 -- the objects of a yield that asks
-yield_ends : (n : ℕ) (v : World) (s : Objects) (p : ℕ) (a : Point) → yield_ask n v s.things ≡ Some a →
+yield_ends : (n : ℕ) (v : World) (s : Objects) (p : ℕ) (a : Point) →
+    yield_ask n v s.things ≡ Some a →
     yield_needs n s ≡ exclusive Queue ∷ shared (Pol 2) ∷ needs_of_point s a
 yield_ends zero v s p a e = cc
 yield_ends (suc n) v s p a e =
-    ap (λ ns. exclusive Queue ∷ shared (Pol 2) ∷ ns) (slice_ends v s (next_process (s.things.pol 2) s.things.queue) a e)
+    ap (λ ns. exclusive Queue ∷ shared (Pol 2) ∷ ns)
+    (slice_ends v s (next_process (s.things.pol 2) s.things.queue) a e)
 
 -- the objects of a read that asks
-read_ends : (n : ℕ) (v : World) (s : Objects) (p fd i off len : ℕ) (a : Point) → read_ask n v s.things p fd i off len ≡ Some a →
+read_ends : (n : ℕ) (v : World) (s : Objects) (p fd i off len : ℕ) (a : Point) →
+    read_ask n v s.things p fd i off len ≡ Some a →
     read_needs n v s p fd i off len ≡ read_before n p fd ++ needs_of_point s a
 read_ends zero v s p fd i off len a e =
-    ap (λ ns. exclusive (OpenFile p fd) ∷ ns) (fetch_ends v s (file_block v (s.things.file p fd) i off len) a e)
-read_ends (suc zero) v s p fd i off len a e = ap (λ o. exclusive (OpenFile p fd) ∷ shared (Pol 0) ∷ needs_of_point s (or_else a o)) e
+    ap (λ ns. exclusive (OpenFile p fd) ∷ ns)
+    (fetch_ends v s (file_block v (s.things.file p fd) i off len) a e)
+read_ends (suc zero) v s p fd i off len a e =
+    ap (λ o. exclusive (OpenFile p fd) ∷ shared (Pol 0) ∷ needs_of_point s (or_else a o)) e
 read_ends (suc (suc n)) v s p fd i off len a e =
-    ap (λ ns. exclusive (OpenFile p fd) ∷ ns) (fetch_ends v s (ahead_block v (s.things.file p fd)) a e)
+    ap (λ ns. exclusive (OpenFile p fd) ∷ ns)
+    (fetch_ends v s (ahead_block v (s.things.file p fd)) a e)
 
 -- a piece's objects end with those of its point
-pub piece_ends : (c : SysCall) (n : ℕ) (v : World) (s : Objects) (p : ℕ) (a : Point) → piece_ask c n v s.things p ≡ Some a →
+pub piece_ends : (c : SysCall) (n : ℕ) (v : World) (s : Objects) (p : ℕ) (a : Point) →
+    piece_ask c n v s.things p ≡ Some a →
     piece_needs c n v s p ≡ piece_before c n p ++ needs_of_point s a
 piece_ends Yield n v s p a e = yield_ends n v s p a e
 piece_ends (Read fd i off len) n v s p a e = read_ends n v s p fd i off len a e
 piece_ends (Write fd i off bytes) n v s p a e =
-    ap (λ ns. shared (OpenFile p fd) ∷ ns) (fetch_ends v s (file_block v (s.things.file p fd) i off (length bytes)) a e)
+    ap (λ ns. shared (OpenFile p fd) ∷ ns)
+    (fetch_ends v s (file_block v (s.things.file p fd) i off (length bytes)) a e)
 piece_ends c n v s p a e = cc
 
 -- what stands before the end of a list
@@ -83,7 +98,9 @@ front_of xs ys =
     ap (λ n. take n (xs ++ ys)) same ∙ take-append_seam xs ys
 
 -- the objects before the point
-pub piece_before_point : (c : SysCall) (n : ℕ) (v : World) (s : Objects) (p : ℕ) (a : Point) → piece_ask c n v s.things p ≡ Some a →
+pub piece_before_point : (c : SysCall) (n : ℕ) (v : World) (s : Objects) (p : ℕ) (a : Point) →
+    piece_ask c n v s.things p ≡ Some a →
     before_point s a (piece_needs c n v s p) ≡ piece_before c n p
 piece_before_point c n v s p a e =
-    ap (λ ns. take (length ns - length (needs_of_point s a)) ns) (piece_ends c n v s p a e) ∙ front_of (piece_before c n p) (needs_of_point s a)
+    ap (λ ns. take (length ns - length (needs_of_point s a)) ns) (piece_ends c n v s p a e)
+    ∙ front_of (piece_before c n p) (needs_of_point s a)

@@ -19,7 +19,10 @@ some_either false x y = refl
 
 -- a list with a first element has one of least key, whatever the least of the rest
 some_least : {A : Type 0} (key : A → ℕ) (x : A) (o : Option A) →
-    is_some (elim o as (λ _. Option A) [ None ↦ Some x | Some y ↦ cond (nat_lt (key y) (key x)) (Some y) (Some x) ]) ≡ true
+    is_some (elim o as (λ _. Option A) [
+      | None ↦ Some x
+      | Some y ↦ cond (nat_lt (key y) (key x)) (Some y) (Some x)
+    ]) ≡ true
 some_least key x None = refl
 some_least key x (Some y) = some_either (nat_lt (key y) (key x)) y x
 
@@ -34,17 +37,22 @@ process_in_stands None = refl
 process_in_stands (Some r) = refl
 
 -- there is a candidate for the processor unless the queue is empty
-pub next_stands : (pol : PolValue) (queue : List QueueRow) → is_some (next_process pol queue) ≡ has_first queue
-next_stands pol queue = process_in_stands (least (turn_key pol) queue) ∙ least_stands (turn_key pol) queue
+pub next_stands : (pol : PolValue) (queue : List QueueRow) →
+    is_some (next_process pol queue) ≡ has_first queue
+next_stands pol queue = process_in_stands (least (turn_key pol) queue)
+    ∙ least_stands (turn_key pol) queue
 
 -- whether a frame must be chosen doesn't look at which
-pub candidate_by_same : (held free x y : Option ℕ) → is_some x ≡ is_some y → is_some (candidate_by held free x) ≡ is_some (candidate_by held free y)
+pub candidate_by_same : (held free x y : Option ℕ) → is_some x ≡ is_some y →
+    is_some (candidate_by held free x) ≡ is_some (candidate_by held free y)
 candidate_by_same None None x y h = h
 candidate_by_same None (Some f) x y h = refl
 candidate_by_same (Some f) free x y h = refl
 
 -- two policies have a candidate for eviction, or neither
-pub candidate_stands : (v : World) (pol other : PolValue) (c : CacheValue) (b : ℕ) → is_some (candidate_for v pol c b) ≡ is_some (candidate_for v other c b)
+pub candidate_stands : (v : World) (pol other : PolValue) (c : CacheValue) (b : ℕ) →
+    is_some (candidate_for v pol c b) ≡ is_some (candidate_for v other c b)
 candidate_stands v pol other c b =
-    candidate_by_same (frame_of_block c b) (free_frame c v.frames 0) (victim_among pol c c.lru) (victim_among other c c.lru)
+    candidate_by_same (frame_of_block c b) (free_frame c v.frames 0) (victim_among pol c c.lru)
+    (victim_among other c c.lru)
     (least_stands (victim_key pol c) c.lru ∙ sym (least_stands (victim_key other c) c.lru))

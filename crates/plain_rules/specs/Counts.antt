@@ -20,11 +20,15 @@ count_first x xs = grind (arith, nat_tests)
 pub each_counted : (P : ℕ → Type 0) (xs : List ℕ) → ((f : ℕ) → 1 ≤ count_of f xs → P f) → Each P xs
 each_counted P [] h = tt
 each_counted P (x ∷ xs) h =
-    let first = count_first x xs in
-    (h x (omega (arith, first)), each_counted P xs (λ f l. let m = count_rest x f xs in h f (omega (arith, l, m))))
+    let first = count_first x xs in (
+      h x (omega (arith, first)),
+      each_counted P xs (λ f l. let m = count_rest x f xs in
+          h f (omega (arith, l, m))),
+    )
 
 -- a list that begins with another number
-count_other : (x y : ℕ) (ys : List ℕ) → count_of x (y ∷ ys) ≡ 0 → (nat_eq x y ≡ false) × (count_of x ys ≡ 0)
+count_other : (x y : ℕ) (ys : List ℕ) → count_of x (y ∷ ys) ≡ 0 → (nat_eq x y ≡ false)
+    × (count_of x ys ≡ 0)
 count_other x y ys h = grind (arith, nat_tests)
 
 -- what stands in no place is no number of the list
@@ -42,12 +46,16 @@ distinct (x ∷ xs) h =
     (distinct xs (λ f. let l = h f in let m = count_rest x f xs in omega (arith, l, m)))
 
 -- what is among numbers below n is below n
-member_below : (n : ℕ) (xs : List ℕ) (q : ℕ) → Each (λ x. x < n) xs → list_any (nat_eq q) xs ≡ true → q < n
+member_below : (n : ℕ) (xs : List ℕ) (q : ℕ) → Each (λ x. x < n) xs →
+    list_any (nat_eq q) xs ≡ true → q < n
 member_below n [] q each h = cc
 member_below n (x ∷ xs) q each h =
-    ⊎_elim (λ e. let same = eqb-true q x e in let l = each.0 in omega (arith, same, l)) (λ r. member_below n xs q each.1 r)
+    ⊎_elim (λ e. let same = eqb-true q x e in let l = each.0 in
+    omega (arith, same, l)) (λ r. member_below n xs q each.1 r)
     (or_cases (nat_eq q x) (list_any (nat_eq q) xs) h)
 
 -- numbers below n of which each stands at most once are at most n
-pub counted_few : (xs : List ℕ) (n : ℕ) → ((f : ℕ) → count_of f xs ≤ 1) → Each (λ x. x < n) xs → length xs ≤ n
-counted_few xs n h each = length-le_from_distinct_below xs n (distinct xs h) (λ q l. member_below n xs q each l)
+pub counted_few : (xs : List ℕ) (n : ℕ) → ((f : ℕ) → count_of f xs ≤ 1) → Each (λ x. x < n) xs →
+    length xs ≤ n
+counted_few xs n h each =
+    length-le_from_distinct_below xs n (distinct xs h) (λ q l. member_below n xs q each l)

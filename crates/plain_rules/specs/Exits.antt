@@ -25,36 +25,44 @@ in_family f (suc n) a k low high =
     ]
 
 -- what is needed exclusively is needed
-pub needed_from_exclusively : (o : Object) (ns : List Need) → is_needed_exclusively o ns ≡ true → is_needed o ns ≡ true
+pub needed_from_exclusively : (o : Object) (ns : List Need) → is_needed_exclusively o ns ≡ true →
+    is_needed o ns ≡ true
 needed_from_exclusively o [] h = h
 needed_from_exclusively o (n ∷ ns) h = grind (arith, needed_from_exclusively o ns)
 
 -- a graft of another process than the one whose graft is taken out stays
-removed_graft_of_another : (p n q pt : ℕ) (g : Option GraftValue) (a : Accounts) → (q == p) ≡ false → (removed_by p n g a).graft q pt ≡ a.graft q pt
+removed_graft_of_another : (p n q pt : ℕ) (g : Option GraftValue) (a : Accounts) →
+    (q == p) ≡ false → (removed_by p n g a).graft q pt ≡ a.graft q pt
 removed_graft_of_another p n q pt g a h = grind (arith, nat_tests)
 
 -- and so does the account
-removed_account_of_another : (p n q : ℕ) (g : Option GraftValue) (a : Accounts) → (q == p) ≡ false → (removed_by p n g a).acct q ≡ a.acct q
+removed_account_of_another : (p n q : ℕ) (g : Option GraftValue) (a : Accounts) → (q == p) ≡ false →
+    (removed_by p n g a).acct q ≡ a.acct q
 removed_account_of_another p n q g a h = grind (arith, nat_tests)
 
 -- the grafts of other processes stay
-pub graft_of_another : (p n q pt : ℕ) (a : Accounts) → (q == p) ≡ false → (without_grafts p n a).graft q pt ≡ a.graft q pt
+pub graft_of_another : (p n q pt : ℕ) (a : Accounts) → (q == p) ≡ false →
+    (without_grafts p n a).graft q pt ≡ a.graft q pt
 graft_of_another p zero q pt a h = refl
 graft_of_another p (suc n) q pt a h =
-    graft_of_another p n q pt (removed p n a) h ∙ removed_graft_of_another p n q pt (a.graft p n) a h
+    graft_of_another p n q pt (removed p n a) h
+    ∙ removed_graft_of_another p n q pt (a.graft p n) a h
 
 -- the accounts of other processes stay while the grafts are taken out
-pub account_of_another : (p n q : ℕ) (a : Accounts) → (q == p) ≡ false → (without_grafts p n a).acct q ≡ a.acct q
+pub account_of_another : (p n q : ℕ) (a : Accounts) → (q == p) ≡ false →
+    (without_grafts p n a).acct q ≡ a.acct q
 account_of_another p zero q a h = refl
 account_of_another p (suc n) q a h =
     account_of_another p n q (removed p n a) h ∙ removed_account_of_another p n q (a.graft p n) a h
 
 -- where a graft stands that isn't taken out, it stays
-removed_graft_elsewhere : (p n q pt : ℕ) (g : Option GraftValue) (a : Accounts) → (pt == n) ≡ false → (removed_by p n g a).graft q pt ≡ a.graft q pt
+removed_graft_elsewhere : (p n q pt : ℕ) (g : Option GraftValue) (a : Accounts) →
+    (pt == n) ≡ false → (removed_by p n g a).graft q pt ≡ a.graft q pt
 removed_graft_elsewhere p n q pt g a h = grind (arith, nat_tests)
 
 -- no graft stands at a point where it was taken out
-removed_here_by : (p n : ℕ) (g : Option GraftValue) (a : Accounts) → a.graft p n ≡ g → (removed_by p n g a).graft p n ≡ None
+removed_here_by : (p n : ℕ) (g : Option GraftValue) (a : Accounts) → a.graft p n ≡ g →
+    (removed_by p n g a).graft p n ≡ None
 removed_here_by p n g a h = grind (arith, nat_tests)
 
 -- no graft stands at a point where it was taken out
@@ -62,16 +70,19 @@ removed_graft_here : (p n : ℕ) (a : Accounts) → (removed p n a).graft p n �
 removed_graft_here p n a = removed_here_by p n (a.graft p n) a refl
 
 -- grafts that aren't among the first n points stay
-pub graft_above : (p n q pt : ℕ) (a : Accounts) → n ≤ pt → (without_grafts p n a).graft q pt ≡ a.graft q pt
+pub graft_above : (p n q pt : ℕ) (a : Accounts) → n ≤ pt →
+    (without_grafts p n a).graft q pt ≡ a.graft q pt
 graft_above p zero q pt a h = refl
 graft_above p (suc n) q pt a h =
-    graft_above p n q pt (removed p n a) (omega arith) ∙ removed_graft_elsewhere p n q pt (a.graft p n) a (grind (arith, nat_tests))
+    graft_above p n q pt (removed p n a) (omega arith)
+    ∙ removed_graft_elsewhere p n q pt (a.graft p n) a (grind (arith, nat_tests))
 
 -- no graft of the process stands at the first n points
 pub graft_taken : (p n pt : ℕ) (a : Accounts) → pt < n → (without_grafts p n a).graft p pt ≡ None
 graft_taken p zero pt a h = absurd (omega arith)
 graft_taken p (suc n) pt a h = elim (cases_eq pt n) [
-  | inl e ↦ graft_above p n p pt (removed p n a) (omega arith) ∙ ap (λ i. (removed p n a).graft p i) e ∙ removed_graft_here p n a
+  | inl e ↦ graft_above p n p pt (removed p n a) (omega arith)
+      ∙ ap (λ i. (removed p n a).graft p i) e ∙ removed_graft_here p n a
   | inr ne ↦ graft_taken p n pt (removed p n a) (omega arith)
 ]
 

@@ -43,35 +43,54 @@ taken_spawn (Some c) = (tt, (tt, tt))
 
 taken_yield : (n : ℕ) (s : Objects) → Each TakesGraft (yield_needs n s)
 taken_yield zero s = (tt, tt)
-taken_yield (suc n) s = (tt, (tt, each_of_slice TakesGraft s.accounts (next_process (s.things.pol 2) s.things.queue) (λ c e. (refl, tt))))
+taken_yield (suc n) s = (
+  tt,
+  (
+    tt,
+    each_of_slice TakesGraft s.accounts (next_process (s.things.pol 2) s.things.queue)
+        (λ c e. (refl, tt)),
+  ),
+)
 
 taken_fetch : (v : World) (s : Objects) (r : Result ℕ Refusal) → Each TakesGraft (fetch_needs v s r)
 taken_fetch v s r = each_of_fetch TakesGraft v s r tt tt (λ f. (refl, tt))
 
-taken_read : (n : ℕ) (v : World) (s : Objects) (p fd i off len : ℕ) → Each TakesGraft (read_needs n v s p fd i off len)
-taken_read zero v s p fd i off len = (tt, taken_fetch v s (file_block v (s.things.file p fd) i off len))
-taken_read (suc zero) v s p fd i off len = (tt, (tt, each_of_point TakesGraft s.accounts p fd refl tt))
-taken_read (suc (suc n)) v s p fd i off len = (tt, taken_fetch v s (ahead_block v (s.things.file p fd)))
+taken_read : (n : ℕ) (v : World) (s : Objects) (p fd i off len : ℕ) →
+    Each TakesGraft (read_needs n v s p fd i off len)
+taken_read zero v s p fd i off len =
+    (tt, taken_fetch v s (file_block v (s.things.file p fd) i off len))
+taken_read (suc zero) v s p fd i off len =
+    (tt, (tt, each_of_point TakesGraft s.accounts p fd refl tt))
+taken_read (suc (suc n)) v s p fd i off len =
+    (tt, taken_fetch v s (ahead_block v (s.things.file p fd)))
 
 taken_give : (s : Objects) (p q : ℕ) (k : Kind) (n : ℕ) → Each TakesGraft (give_needs s p q k n)
 taken_give s p q k n = (
   tt,
-  each_either TakesGraft (lives s.things.queue q) (payment_needs s.accounts p q k n) []
-      (tt, each_either TakesGraft (nat_lt ((s.accounts.acct p).balance k) n) [] (exclusive (Acct q) ∷ []) tt (tt, tt)) tt,
+  each_either TakesGraft (lives s.things.queue q) (payment_needs s.accounts p q k n) [] (
+    tt,
+    each_either TakesGraft (nat_lt ((s.accounts.acct p).balance k) n) []
+        (exclusive (Acct q) ∷ []) tt (tt, tt),
+  ) tt,
 )
 
-taken_piece : (c : SysCall) (n : ℕ) (v : World) (s : Objects) (p : ℕ) → Each TakesGraft (piece_needs c n v s p)
+taken_piece : (c : SysCall) (n : ℕ) (v : World) (s : Objects) (p : ℕ) →
+    Each TakesGraft (piece_needs c n v s p)
 taken_piece Spawn n v s p = taken_spawn (free_process s.things.queue 16 0)
 taken_piece Exit n v s p =
-    each_of_exit TakesGraft p tt tt tt tt (each_any (λ pt. TakesGraft (exclusive (Graft p pt))) (λ pt. refl) (range_with_len 0 16))
+    each_of_exit TakesGraft p tt tt tt tt
+    (each_any (λ pt. TakesGraft (exclusive (Graft p pt))) (λ pt. refl) (range_with_len 0 16))
     (each_any (λ fd. TakesGraft (exclusive (OpenFile p fd))) (λ fd. tt) (range_with_len 0 4))
-    (each_any (λ k. TakesGraft (exclusive (Object.Cell p k))) (λ k. tt) (range_with_len 0 4)) (each_any (λ u. TakesGraft (exclusive (Lock u))) (λ u. tt) (range_with_len 0 16))
+    (each_any (λ k. TakesGraft (exclusive (Object.Cell p k))) (λ k. tt) (range_with_len 0 4))
+    (each_any (λ u. TakesGraft (exclusive (Lock u))) (λ u. tt) (range_with_len 0 16))
 taken_piece Yield n v s p = taken_yield n s
 taken_piece (OpenName name) n v s p =
-    each_map TakesGraft (λ fd. exclusive (OpenFile p fd)) (range_with_len 0 4) (each_any (λ fd. TakesGraft (exclusive (OpenFile p fd))) (λ fd. tt) (range_with_len 0 4))
+    each_map TakesGraft (λ fd. exclusive (OpenFile p fd)) (range_with_len 0 4)
+    (each_any (λ fd. TakesGraft (exclusive (OpenFile p fd))) (λ fd. tt) (range_with_len 0 4))
 taken_piece (CloseFd fd) n v s p = (tt, tt)
 taken_piece (Read fd i off len) n v s p = taken_read n v s p fd i off len
-taken_piece (Write fd i off bytes) n v s p = (tt, taken_fetch v s (file_block v (s.things.file p fd) i off (length bytes)))
+taken_piece (Write fd i off bytes) n v s p =
+    (tt, taken_fetch v s (file_block v (s.things.file p fd) i off (length bytes)))
 taken_piece Sync n v s p = (tt, tt)
 taken_piece (TakeLock u) n v s p = (tt, tt)
 taken_piece (FreeLock u) n v s p = (tt, tt)
@@ -86,13 +105,20 @@ taken_piece (Fund pt kind x) n v s p = each_of_point TakesGraft s.accounts p pt 
 taken_piece (Bill pt) n v s p = (refl, tt)
 
 -- a graft of such a list
-graft_taken : (q pt : ℕ) (ns : List Need) → Each TakesGraft ns → is_needed (Graft q pt) ns ≡ true → is_needed_exclusively (Graft q pt) ns ≡ true
+graft_taken : (q pt : ℕ) (ns : List Need) → Each TakesGraft ns → is_needed (Graft q pt) ns ≡ true →
+    is_needed_exclusively (Graft q pt) ns ≡ true
 graft_taken q pt [] each h = h
-graft_taken q pt (n ∷ ns) each h = elim (or_cases (same_object (Graft q pt) n.object) (is_needed (Graft q pt) ns) h) [
-  | inl here ↦ or_left (is_exclusive n.mode && same_object (Graft q pt) n.object) (is_needed_exclusively (Graft q pt) ns)
-      (ap (λ b. b && same_object (Graft q pt) n.object) (subst (λ o. IsTaken o n.mode) (sym (same_object_is (Graft q pt) n.object here)) each.0) ∙ here)
-  | inr later ↦ or_right (is_exclusive n.mode && same_object (Graft q pt) n.object) (is_needed_exclusively (Graft q pt) ns) (graft_taken q pt ns each.1 later)
-]
+graft_taken q pt (n ∷ ns) each h =
+    elim (or_cases (same_object (Graft q pt) n.object) (is_needed (Graft q pt) ns) h) [
+      | inl here ↦ or_left (is_exclusive n.mode
+          && same_object (Graft q pt) n.object) (is_needed_exclusively (Graft q pt) ns)
+          (ap (λ b. b && same_object (Graft q pt) n.object)
+          (subst (λ o. IsTaken o n.mode) (sym (same_object_is (Graft q pt) n.object here)) each.0)
+          ∙ here)
+      | inr later ↦ or_right (is_exclusive n.mode && same_object (Graft q pt) n.object)
+          (is_needed_exclusively (Graft q pt) ns) (graft_taken q pt ns each.1 later)
+    ]
 
 pub calls_take_grafts : (top : ℕ) → NeedsGraftsExclusively (plain_upto top)
-calls_take_grafts top v s p t q pt fits h = graft_taken q pt (piece_needs t.call t.piece v s p) (taken_piece t.call t.piece v s p) h
+calls_take_grafts top v s p t q pt fits h =
+    graft_taken q pt (piece_needs t.call t.piece v s p) (taken_piece t.call t.piece v s p) h

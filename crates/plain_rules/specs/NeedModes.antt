@@ -27,10 +27,14 @@ abbrev OneMode : List Need → Type 0
 OneMode ns = Each (λ (n : Need). wanted n.object ns ≡ n.mode) ns
 
 first_wanted : (n : Need) (ns : List Need) → wanted n.object (n ∷ ns) ≡ n.mode
-first_wanted n ns = ap (λ b. elim b as (λ _. Mode) [ true ↦ n.mode | false ↦ wanted n.object ns ]) (same_object_self n.object)
+first_wanted n ns =
+    ap (λ b. elim b as (λ _. Mode) [ true ↦ n.mode | false ↦ wanted n.object ns ])
+    (same_object_self n.object)
 
-later_wanted : (x n : Need) (ns : List Need) → same_object x.object n.object ≡ false → wanted n.object (x ∷ ns) ≡ wanted n.object ns
-later_wanted x n ns h = ap (λ b. elim b as (λ _. Mode) [ true ↦ x.mode | false ↦ wanted n.object ns ]) h
+later_wanted : (x n : Need) (ns : List Need) → same_object x.object n.object ≡ false →
+    wanted n.object (x ∷ ns) ≡ wanted n.object ns
+later_wanted x n ns h =
+    ap (λ b. elim b as (λ _. Mode) [ true ↦ x.mode | false ↦ wanted n.object ns ]) h
 
 -- ---- a mode for each kind of object
 
@@ -39,24 +43,31 @@ abbrev ByKind : (ℕ → Mode) → List Need → Type 0
 ByKind f ns = Each (λ (n : Need). n.mode ≡ f (object_kind n.object)) ns
 
 -- the first need of an object has the mode of a later one
-kind_wanted : (f : ℕ → Mode) (xs ys : List Need) (n : Need) → ByKind f xs → n.mode ≡ f (object_kind n.object) → wanted n.object (xs ++ n ∷ ys) ≡ n.mode
+kind_wanted : (f : ℕ → Mode) (xs ys : List Need) (n : Need) → ByKind f xs →
+    n.mode ≡ f (object_kind n.object) → wanted n.object (xs ++ n ∷ ys) ≡ n.mode
 kind_wanted f [] ys n h e = first_wanted n ys
 kind_wanted f (x ∷ xs) ys n h e = elim (cases_Bool (same_object x.object n.object)) [
-  | inl same ↦ ap (λ b. elim b as (λ _. Mode) [ true ↦ x.mode | false ↦ wanted n.object (xs ++ n ∷ ys) ]) same
+  | inl same ↦ ap (λ b. elim b as (λ _. Mode) [
+    | true ↦ x.mode
+    | false ↦ wanted n.object (xs ++ n ∷ ys)
+  ]) same
       ∙ h.0 ∙ ap (λ o. f (object_kind o)) (same_object_is x.object n.object same) ∙ sym e
   | inr other ↦ later_wanted x n (xs ++ n ∷ ys) other ∙ kind_wanted f xs ys n h.1 e
 ]
 
 -- one more before
-kind_more : (f : ℕ → Mode) (xs : List Need) (n : Need) → ByKind f xs → n.mode ≡ f (object_kind n.object) → ByKind f (xs ++ n ∷ [])
+kind_more : (f : ℕ → Mode) (xs : List Need) (n : Need) → ByKind f xs →
+    n.mode ≡ f (object_kind n.object) → ByKind f (xs ++ n ∷ [])
 kind_more f [] n h e = (e, tt)
 kind_more f (x ∷ xs) n h e = (h.0, kind_more f xs n h.1 e)
 
-kind_from : (f : ℕ → Mode) (xs ns : List Need) → ByKind f xs → ByKind f ns → Each (λ (n : Need). wanted n.object (xs ++ ns) ≡ n.mode) ns
+kind_from : (f : ℕ → Mode) (xs ns : List Need) → ByKind f xs → ByKind f ns →
+    Each (λ (n : Need). wanted n.object (xs ++ ns) ≡ n.mode) ns
 kind_from f xs [] h k = tt
 kind_from f xs (n ∷ ns) h k = (
   kind_wanted f xs ns n h k.0,
-  subst (λ ys. Each (λ (x : Need). wanted x.object ys ≡ x.mode) ns) (append_assoc xs (n ∷ []) ns) (kind_from f (xs ++ n ∷ []) ns (kind_more f xs n h k.0) k.1),
+  subst (λ ys. Each (λ (x : Need). wanted x.object ys ≡ x.mode) ns) (append_assoc xs (n ∷ []) ns)
+      (kind_from f (xs ++ n ∷ []) ns (kind_more f xs n h k.0) k.1),
 )
 
 kind_modes : (f : ℕ → Mode) (ns : List Need) → ByKind f ns → OneMode ns
@@ -87,25 +98,35 @@ but_queue k = cond (k == 4) Mode.Shared Mode.Exclusive
 
 -- ---- the calls
 
-each_exclusive : (object : ℕ → Object) (xs : List ℕ) → ByKind all_exclusive (map (λ x. exclusive (object x)) xs)
+each_exclusive : (object : ℕ → Object) (xs : List ℕ) →
+    ByKind all_exclusive (map (λ x. exclusive (object x)) xs)
 each_exclusive object [] = tt
 each_exclusive object (x ∷ xs) = (refl, each_exclusive object xs)
 
 -- the objects of a point are exclusive
-payer_kind : (f : ℕ → Mode) (q : ℕ) (g : Option GraftValue) → f 1 ≡ Mode.Exclusive → ByKind f (payer_needs q g)
+payer_kind : (f : ℕ → Mode) (q : ℕ) (g : Option GraftValue) → f 1 ≡ Mode.Exclusive →
+    ByKind f (payer_needs q g)
 payer_kind f q None h = tt
 payer_kind f q (Some g) h = (sym h, tt)
 
-point_kind : (f : ℕ → Mode) (a : Accounts) (q pt : ℕ) → f 0 ≡ Mode.Exclusive → f 1 ≡ Mode.Exclusive → ByKind f (point_needs a q pt)
+point_kind : (f : ℕ → Mode) (a : Accounts) (q pt : ℕ) → f 0 ≡ Mode.Exclusive →
+    f 1 ≡ Mode.Exclusive → ByKind f (point_needs a q pt)
 point_kind f a q pt h k = (sym h, payer_kind f q (a.graft q pt) k)
 
-victim_kind : (f : ℕ → Mode) (a : Accounts) (c : CacheValue) (x : Option ℕ) → f 7 ≡ Mode.Shared → f 0 ≡ Mode.Exclusive → f 1 ≡ Mode.Exclusive → ByKind f (victim_needs a c x)
+victim_kind : (f : ℕ → Mode) (a : Accounts) (c : CacheValue) (x : Option ℕ) → f 7 ≡ Mode.Shared →
+    f 0 ≡ Mode.Exclusive → f 1 ≡ Mode.Exclusive → ByKind f (victim_needs a c x)
 victim_kind f a c None h i j = tt
 victim_kind f a c (Some y) h i j = (sym h, point_kind f a (owner_asked c y) 4 i j)
 
-fetch_kind : (f : ℕ → Mode) (v : World) (s : Objects) (x : Result ℕ Refusal) → f 5 ≡ Mode.Exclusive → f 7 ≡ Mode.Shared → f 0 ≡ Mode.Exclusive → f 1 ≡ Mode.Exclusive → ByKind f (fetch_needs v s x)
+fetch_kind : (f : ℕ → Mode) (v : World) (s : Objects) (x : Result ℕ Refusal) →
+    f 5 ≡ Mode.Exclusive → f 7 ≡ Mode.Shared → f 0 ≡ Mode.Exclusive → f 1 ≡ Mode.Exclusive →
+    ByKind f (fetch_needs v s x)
 fetch_kind f v s (Err refusal) g h i j = tt
-fetch_kind f v s (Ok b) g h i j = (sym g, victim_kind f s.accounts s.things.cache (candidate_for v (s.things.pol 1) s.things.cache b) h i j)
+fetch_kind f v s (Ok b) g h i j = (
+  sym g,
+  victim_kind f s.accounts s.things.cache
+      (candidate_for v (s.things.pol 1) s.things.cache b) h i j,
+)
 
 spawn_kind : (x : Option ℕ) → ByKind all_exclusive (spawn_needs x)
 spawn_kind None = (refl, tt)
@@ -123,9 +144,12 @@ exit_kind p =
           refl,
           (
             refl,
-            kind_both all_exclusive (grafts ++ files ++ cells) (map (λ u. exclusive (Lock u)) (range_with_len 0 16))
+            kind_both all_exclusive (grafts ++ files
+                ++ cells) (map (λ u. exclusive (Lock u)) (range_with_len 0 16))
                 (kind_both all_exclusive (grafts ++ files) cells
-                (kind_both all_exclusive grafts files (each_exclusive (λ pt. Graft p pt) (range_with_len 0 16)) (each_exclusive (λ fd. OpenFile p fd) (range_with_len 0 4)))
+                (kind_both all_exclusive grafts files
+                (each_exclusive (λ pt. Graft p pt) (range_with_len 0 16))
+                (each_exclusive (λ fd. OpenFile p fd) (range_with_len 0 4)))
                 (each_exclusive (λ k. Object.Cell p k) (range_with_len 0 4)))
                 (each_exclusive (λ u. Lock u) (range_with_len 0 16)),
           ),
@@ -139,21 +163,31 @@ slice_kind a (Some c) = point_kind but_policies a c 5 refl refl
 
 yield_kind : (n : ℕ) (s : Objects) → ByKind but_policies (yield_needs n s)
 yield_kind zero s = (refl, tt)
-yield_kind (suc n) s = (refl, (refl, slice_kind s.accounts (next_process (s.things.pol 2) s.things.queue)))
+yield_kind (suc n) s =
+    (refl, (refl, slice_kind s.accounts (next_process (s.things.pol 2) s.things.queue)))
 
-read_kind : (n : ℕ) (v : World) (s : Objects) (p fd i off len : ℕ) → ByKind but_policies (read_needs n v s p fd i off len)
-read_kind zero v s p fd i off len = (refl, fetch_kind but_policies v s (file_block v (s.things.file p fd) i off len) refl refl refl refl)
-read_kind (suc zero) v s p fd i off len = (refl, (refl, point_kind but_policies s.accounts p fd refl refl))
-read_kind (suc (suc n)) v s p fd i off len = (refl, fetch_kind but_policies v s (ahead_block v (s.things.file p fd)) refl refl refl refl)
+read_kind : (n : ℕ) (v : World) (s : Objects) (p fd i off len : ℕ) →
+    ByKind but_policies (read_needs n v s p fd i off len)
+read_kind zero v s p fd i off len = (
+  refl,
+  fetch_kind but_policies v s
+      (file_block v (s.things.file p fd) i off len) refl refl refl refl,
+)
+read_kind (suc zero) v s p fd i off len =
+    (refl, (refl, point_kind but_policies s.accounts p fd refl refl))
+read_kind (suc (suc n)) v s p fd i off len =
+    (refl, fetch_kind but_policies v s (ahead_block v (s.things.file p fd)) refl refl refl refl)
 
-payment_kind : (a : Accounts) (p q : ℕ) (kind : Kind) (n : ℕ) → ByKind but_queue (payment_needs a p q kind n)
+payment_kind : (a : Accounts) (p q : ℕ) (kind : Kind) (n : ℕ) →
+    ByKind but_queue (payment_needs a p q kind n)
 payment_kind a p q kind n = (refl, by_test (nat_lt ((a.acct p).balance kind) n))
   where
     by_test : (b : Bool) → ByKind but_queue (cond b [] (exclusive (Acct q) ∷ []))
     by_test true = tt
     by_test false = (refl, tt)
 
-give_kind : (s : Objects) (p q : ℕ) (kind : Kind) (n : ℕ) → ByKind but_queue (give_needs s p q kind n)
+give_kind : (s : Objects) (p q : ℕ) (kind : Kind) (n : ℕ) →
+    ByKind but_queue (give_needs s p q kind n)
 give_kind s p q kind n = (refl, by_test (lives s.things.queue q))
   where
     by_test : (b : Bool) → ByKind but_queue (cond b (payment_needs s.accounts p q kind n) [])
@@ -161,29 +195,47 @@ give_kind s p q kind n = (refl, by_test (lives s.things.queue q))
     by_test false = tt
 
 -- each call's pieces
-call_modes : (c : SysCall) (n : ℕ) (v : World) (s : Objects) (p : ℕ) → OneMode (piece_needs c n v s p)
-call_modes Spawn n v s p = kind_modes all_exclusive (piece_needs Spawn n v s p) (spawn_kind (free_process s.things.queue 16 0))
+call_modes : (c : SysCall) (n : ℕ) (v : World) (s : Objects) (p : ℕ) →
+    OneMode (piece_needs c n v s p)
+call_modes Spawn n v s p =
+    kind_modes all_exclusive (piece_needs Spawn n v s p)
+    (spawn_kind (free_process s.things.queue 16 0))
 call_modes Exit n v s p = kind_modes all_exclusive (piece_needs Exit n v s p) (exit_kind p)
 call_modes Yield n v s p = kind_modes but_policies (piece_needs Yield n v s p) (yield_kind n s)
-call_modes (OpenName name) n v s p = kind_modes all_exclusive (piece_needs (OpenName name) n v s p) (each_exclusive (λ fd. OpenFile p fd) (range_with_len 0 4))
+call_modes (OpenName name) n v s p =
+    kind_modes all_exclusive (piece_needs (OpenName name) n v s p)
+    (each_exclusive (λ fd. OpenFile p fd) (range_with_len 0 4))
 call_modes (CloseFd fd) n v s p = (first_wanted (exclusive (OpenFile p fd)) [], tt)
-call_modes (Read fd i off len) n v s p = kind_modes but_policies (piece_needs (Read fd i off len) n v s p) (read_kind n v s p fd i off len)
+call_modes (Read fd i off len) n v s p =
+    kind_modes but_policies (piece_needs (Read fd i off len) n v s p)
+    (read_kind n v s p fd i off len)
 call_modes (Write fd i off bytes) n v s p =
-    kind_modes but_files (piece_needs (Write fd i off bytes) n v s p) (refl, fetch_kind but_files v s (file_block v (s.things.file p fd) i off (length bytes)) refl refl refl refl)
+    kind_modes but_files (piece_needs (Write fd i off bytes) n v s p) (
+      refl,
+      fetch_kind but_files v s
+          (file_block v (s.things.file p fd) i off (length bytes)) refl refl refl refl,
+    )
 call_modes Sync n v s p = (first_wanted (exclusive Cache) [], tt)
-call_modes (TakeLock u) n v s p = (first_wanted (record { object = Lock u; mode = Mode.Exclusive; by_user = true }) [], tt)
+call_modes (TakeLock u) n v s p =
+    (first_wanted (record { object = Lock u; mode = Mode.Exclusive; by_user = true }) [], tt)
 call_modes (FreeLock u) n v s p = (first_wanted (exclusive (Lock u)) [], tt)
 call_modes (Poke k x) n v s p = (first_wanted (exclusive (Object.Cell p k)) [], tt)
 call_modes (Peek k) n v s p = (first_wanted (shared (Object.Cell p k)) [], tt)
 call_modes (Tune kind k x) n v s p = (first_wanted (exclusive (Pol kind)) [], tt)
 call_modes (Choose kind j) n v s p = (first_wanted (exclusive (Pol kind)) [], tt)
-call_modes (Give q kind x) n v s p = kind_modes but_queue (piece_needs (Give q kind x) n v s p) (give_kind s p q kind x)
+call_modes (Give q kind x) n v s p =
+    kind_modes but_queue (piece_needs (Give q kind x) n v s p) (give_kind s p q kind x)
 call_modes (Install pt i limit) n v s p = (first_wanted (exclusive (Graft p pt)) [], tt)
-call_modes (Remove pt) n v s p = kind_modes all_exclusive (piece_needs (Remove pt) n v s p) (point_kind all_exclusive s.accounts p pt refl refl)
-call_modes (Fund pt kind x) n v s p = kind_modes all_exclusive (piece_needs (Fund pt kind x) n v s p) (point_kind all_exclusive s.accounts p pt refl refl)
+call_modes (Remove pt) n v s p =
+    kind_modes all_exclusive (piece_needs (Remove pt) n v s p)
+    (point_kind all_exclusive s.accounts p pt refl refl)
+call_modes (Fund pt kind x) n v s p =
+    kind_modes all_exclusive (piece_needs (Fund pt kind x) n v s p)
+    (point_kind all_exclusive s.accounts p pt refl refl)
 call_modes (Bill pt) n v s p = (first_wanted (exclusive (Graft p pt)) [], tt)
 
 -- the system calls need each object in one mode
 pub plain_needs_have_one_mode : (top : ℕ) → NeedsHaveOneMode (plain_upto top)
 plain_needs_have_one_mode top v s p t n fits contained =
-    each_contains (λ (x : Need). wanted x.object (piece_needs t.call t.piece v s p) ≡ x.mode) (piece_needs t.call t.piece v s p) n (call_modes t.call t.piece v s p) contained
+    each_contains (λ (x : Need). wanted x.object (piece_needs t.call t.piece v s p) ≡ x.mode)
+    (piece_needs t.call t.piece v s p) n (call_modes t.call t.piece v s p) contained

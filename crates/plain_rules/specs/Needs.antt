@@ -19,14 +19,18 @@ pub needs_of_plain : (top : ℕ) → top ≤ 15 → NeedLaws (plain_upto top)
 needs_of_plain top most =
     record {
       prefix = λ v s u p t i h k a.
-          follows_next s u (piece_needs t.call t.piece v s p) (piece_needs t.call t.piece v u p) i (follows_piece t.call t.piece v s u p) a;
+          follows_next s u (piece_needs t.call t.piece v s p) (piece_needs t.call t.piece v u p) i
+          (follows_piece t.call t.piece v s u p) a;
       files = λ v s p t n h c.
-          (each_contains (IsOwnNeed t.call p) (piece_needs t.call t.piece v s p) n (own_piece t.call t.piece v s p) c).file;
+          (each_contains (IsOwnNeed t.call p) (piece_needs t.call t.piece v s p) n
+          (own_piece t.call t.piece v s p) c).file;
       user = λ v s p t n h c.
-          (each_contains (IsOwnNeed t.call p) (piece_needs t.call t.piece v s p) n (own_piece t.call t.piece v s p) c).user;
+          (each_contains (IsOwnNeed t.call p) (piece_needs t.call t.piece v s p) n
+          (own_piece t.call t.piece v s p) c).user;
       most = λ v s p t h. piece_few t.call t.piece v s p;
       ranges = λ v images s p t n h c.
-          each_contains NeedIsInRange (piece_needs t.call t.piece v s p) n (piece_ranges v images s p t.call t.piece (piece_stands top v images s p t most h)) c;
+          each_contains NeedIsInRange (piece_needs t.call t.piece v s p) n
+          (piece_ranges v images s p t.call t.piece (piece_stands top v images s p t most h)) c;
       point = λ v s p t a h e.
           piece_ends t.call t.piece v s p a e
           ∙ sym (ap (λ ns. ns ++ needs_of_point s a) (piece_before_point t.call t.piece v s p a e));

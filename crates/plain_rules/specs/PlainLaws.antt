@@ -11,7 +11,8 @@ use Rattle.plain_rules.specs.Keeping.{pieces_of_plain}
 use Rattle.plain_rules.specs.Needs.{needs_of_plain}
 use Rattle.plain_rules.specs.Stages.{stages_of_plain}
 
--- the laws of needs, of asking, of what a piece looks at, changes and keeps, of disk calls and of stages
+-- the laws of needs, of asking, of what a piece looks at, changes and keeps, of disk calls and of
+-- stages
 pub laws_of_plain_upto : (top : ℕ) → top ≤ 15 → Laws (plain_upto top)
 laws_of_plain_upto top most =
     record {

@@ -1,4 +1,5 @@
--- The changes of one part of a store that keep it sound: the queue, the cache, an open file, a cell, a lock, a policy, accounts and grafts.
+-- The changes of one part of a store that keep it sound: the queue, the cache, an open file, a
+-- cell, a lock, a policy, accounts and grafts.
 use Rattle.std.specs.Prelude.{◌≡◌, ◌≢◌, ℕ, ◌<◌, ◌==◌, ◌&&◌, true, false, List, Option, Some}
 use Rattle.std.proofs.Common.{◌⊎◌, arith, subst, sym, ap, ◌∙◌, inl, inr}
 use Rattle.std.proofs.lemmas.Bool.{cases_Bool, cases_eq, cond-true, cond-false, eqb-true, eq-eqb, ne_eqb, true≢false, and_parts}
@@ -17,13 +18,15 @@ use Rattle.plain_rules.specs.SoundCaches.{IsSoundCache}
 use Rattle.plain_rules.specs.Rows.{NicesFit}
 
 -- who lives isn't one who doesn't
-pub not_gone : (queue : List QueueRow) (p q : ℕ) → lives queue p ≡ true → lives queue q ≡ false → q ≢ p
+pub not_gone : (queue : List QueueRow) (p q : ℕ) → lives queue p ≡ true → lives queue q ≡ false →
+    q ≢ p
 not_gone queue p q h k e = true≢false (sym h ∙ ap (lives queue) (sym e) ∙ k)
 
 -- ---- the cache
 
 -- another sound cache
-pub store_with_cache : (v : World) (s : Objects) (c : CacheValue) → IsSoundStore v s → IsSoundCache v s.things.queue c → IsSoundStore v (with_cache c s)
+pub store_with_cache : (v : World) (s : Objects) (c : CacheValue) → IsSoundStore v s →
+    IsSoundCache v s.things.queue c → IsSoundStore v (with_cache c s)
 store_with_cache v s c h k = record {
   world = h.world;
   root = h.root;
@@ -36,7 +39,12 @@ store_with_cache v s c h k = record {
   frames = k.frames;
   holders = h.holders;
   grafts = h.grafts;
-  gone = λ p e. record { cells = (h.gone p e).cells; files = (h.gone p e).files; balances = (h.gone p e).balances; spent = (h.gone p e).spent };
+  gone = λ p e. record {
+    cells = (h.gone p e).cells;
+    files = (h.gone p e).files;
+    balances = (h.gone p e).balances;
+    spent = (h.gone p e).spent;
+  };
   files = h.files;
   policies = h.policies;
   handlers = h.handlers;
@@ -48,14 +56,17 @@ store_with_cache v s c h k = record {
 -- ---- an open file
 
 -- an open file at a changed place: the new one, or the one that was there
-file_found : (p fd q l : ℕ) (row : Option OpenRow) (file : ℕ → ℕ → Option OpenRow) → ((q ≡ p) × (l ≡ fd) × (at2 p fd row file q l ≡ row)) ⊎ (at2 p fd row file q l ≡ file q l)
+file_found : (p fd q l : ℕ) (row : Option OpenRow) (file : ℕ → ℕ → Option OpenRow) →
+    ((q ≡ p) × (l ≡ fd) × (at2 p fd row file q l ≡ row)) ⊎ (at2 p fd row file q l ≡ file q l)
 file_found p fd q l row file = elim (cases_Bool (q == p && l == fd)) [
-  | inl e ↦ let k = and_parts (q == p) (l == fd) e in inl (eqb-true q p k.0, eqb-true l fd k.1, cond-true (q == p && l == fd) row (file q l) e)
+  | inl e ↦ let k = and_parts (q == p) (l == fd) e in
+      inl (eqb-true q p k.0, eqb-true l fd k.1, cond-true (q == p && l == fd) row (file q l) e)
   | inr e ↦ inr (cond-false (q == p && l == fd) row (file q l) e)
 ]
 
 -- a living process has another open file
-pub store_with_file : (v : World) (s : Objects) (p fd : ℕ) (row : Option OpenRow) → IsSoundStore v s → lives s.things.queue p ≡ true → fd < 4 →
+pub store_with_file : (v : World) (s : Objects) (p fd : ℕ) (row : Option OpenRow) →
+    IsSoundStore v s → lives s.things.queue p ≡ true → fd < 4 →
     ((o : OpenRow) → row ≡ Some o → IsSoundFile v o) → IsSoundStore v (with_file p fd row s)
 store_with_file v s p fd row h alive low sound = record {
   world = h.world;
@@ -92,7 +103,8 @@ store_with_file v s p fd row h alive low sound = record {
 -- ---- a cell
 
 -- a living process has another value in a cell
-pub store_with_cell : (v : World) (s : Objects) (p k x : ℕ) → IsSoundStore v s → lives s.things.queue p ≡ true → IsSoundStore v (with_things (set_cell p k x s.things) s)
+pub store_with_cell : (v : World) (s : Objects) (p k x : ℕ) → IsSoundStore v s →
+    lives s.things.queue p ≡ true → IsSoundStore v (with_things (set_cell p k x s.things) s)
 store_with_cell v s p k x h alive = record {
   world = h.world;
   root = h.root;
@@ -106,7 +118,8 @@ store_with_cell v s p k x h alive = record {
   holders = h.holders;
   grafts = h.grafts;
   gone = λ q e. record {
-    cells = λ l. other_cell p k q l x s.things.cell (not_gone s.things.queue p q alive e) ∙ (h.gone q e).cells l;
+    cells = λ l. other_cell p k q l x s.things.cell (not_gone s.things.queue p q alive e)
+        ∙ (h.gone q e).cells l;
     files = (h.gone q e).files;
     balances = (h.gone q e).balances;
     spent = (h.gone q e).spent;
@@ -126,7 +139,8 @@ store_with_cell v s p k x h alive = record {
 -- ---- a user lock
 
 -- a user lock has another holder
-pub store_with_holder : (v : World) (s : Objects) (u : ℕ) (holder : Option ℕ) → IsSoundStore v s → u < 16 → ((p : ℕ) → holder ≡ Some p → lives s.things.queue p ≡ true) →
+pub store_with_holder : (v : World) (s : Objects) (u : ℕ) (holder : Option ℕ) → IsSoundStore v s →
+    u < 16 → ((p : ℕ) → holder ≡ Some p → lives s.things.queue p ≡ true) →
     IsSoundStore v (with_holder u holder s)
 store_with_holder v s u holder h low alive = record {
   world = h.world;
@@ -139,11 +153,20 @@ store_with_holder v s u holder h low alive = record {
   one_frame = h.one_frame;
   frames = h.frames;
   holders = λ l p e. elim (cases_eq l u) [
-    | inl same ↦ (subst (λ i. i < 16) (sym same) low, alive p (sym (cond-true (l == u) holder (s.things.lock l) (eq-eqb l u same)) ∙ e))
-    | inr ne ↦ h.holders l p (sym (cond-false (l == u) holder (s.things.lock l) (ne_eqb l u ne)) ∙ e)
+    | inl same ↦ (
+      subst (λ i. i < 16) (sym same) low,
+      alive p (sym (cond-true (l == u) holder (s.things.lock l) (eq-eqb l u same)) ∙ e),
+    )
+    | inr ne ↦ h.holders l p (sym (cond-false (l == u) holder (s.things.lock l) (ne_eqb l u ne))
+        ∙ e)
   ];
   grafts = h.grafts;
-  gone = λ p e. record { cells = (h.gone p e).cells; files = (h.gone p e).files; balances = (h.gone p e).balances; spent = (h.gone p e).spent };
+  gone = λ p e. record {
+    cells = (h.gone p e).cells;
+    files = (h.gone p e).files;
+    balances = (h.gone p e).balances;
+    spent = (h.gone p e).spent;
+  };
   files = h.files;
   policies = h.policies;
   handlers = h.handlers;
@@ -155,7 +178,8 @@ store_with_holder v s u holder h low alive = record {
 -- ---- a policy
 
 -- another sound policy
-pub store_with_policy : (v : World) (s : Objects) (kind : ℕ) (pol : PolValue) → IsSoundStore v s → IsSoundPolicy kind pol →
+pub store_with_policy : (v : World) (s : Objects) (kind : ℕ) (pol : PolValue) → IsSoundStore v s →
+    IsSoundPolicy kind pol →
     IsSoundStore v (with_things (record (s.things) { pol = at kind pol s.things.pol }) s)
 store_with_policy v s kind pol h sound = record {
   world = h.world;
@@ -169,11 +193,19 @@ store_with_policy v s kind pol h sound = record {
   frames = h.frames;
   holders = h.holders;
   grafts = h.grafts;
-  gone = λ p e. record { cells = (h.gone p e).cells; files = (h.gone p e).files; balances = (h.gone p e).balances; spent = (h.gone p e).spent };
+  gone = λ p e. record {
+    cells = (h.gone p e).cells;
+    files = (h.gone p e).files;
+    balances = (h.gone p e).balances;
+    spent = (h.gone p e).spent;
+  };
   files = h.files;
   policies = λ k low. elim (cases_eq k kind) [
-    | inl same ↦ subst (λ q. IsSoundPolicy k q) (sym (cond-true (k == kind) pol (s.things.pol k) (eq-eqb k kind same))) (subst (λ i. IsSoundPolicy i pol) (sym same) sound)
-    | inr ne ↦ subst (λ q. IsSoundPolicy k q) (sym (cond-false (k == kind) pol (s.things.pol k) (ne_eqb k kind ne))) (h.policies k low)
+    | inl same ↦ subst (λ q. IsSoundPolicy k q)
+        (sym (cond-true (k == kind) pol (s.things.pol k) (eq-eqb k kind same)))
+        (subst (λ i. IsSoundPolicy i pol) (sym same) sound)
+    | inr ne ↦ subst (λ q. IsSoundPolicy k q)
+        (sym (cond-false (k == kind) pol (s.things.pol k) (ne_eqb k kind ne))) (h.policies k low)
   ];
   handlers = h.handlers;
   handlers_live = h.handlers_live;
@@ -190,7 +222,8 @@ pub record IsSameQueue (old new : List QueueRow) : Type 0 where
   pub nices : NicesFit new
 
 -- the queue has other rows
-pub store_with_queue : (v : World) (s : Objects) (queue : List QueueRow) → IsSoundStore v s → IsSameQueue s.things.queue queue → IsSoundStore v (with_queue queue s)
+pub store_with_queue : (v : World) (s : Objects) (queue : List QueueRow) → IsSoundStore v s →
+    IsSameQueue s.things.queue queue → IsSoundStore v (with_queue queue s)
 store_with_queue v s queue h k = record {
   world = h.world;
   root = k.living 0 ∙ h.root;
@@ -200,10 +233,17 @@ store_with_queue v s queue h k = record {
   in_use = h.in_use;
   frame_numbers = h.frame_numbers;
   one_frame = h.one_frame;
-  frames = λ f x e. let q = h.frames f x e in record { owner = k.living x.owner ∙ q.owner; block = q.block; mark = q.mark; bytes = q.bytes };
+  frames = λ f x e. let q = h.frames f x e in
+      record {
+        owner = k.living x.owner ∙ q.owner;
+        block = q.block;
+        mark = q.mark;
+        bytes = q.bytes;
+      };
   holders = λ u p e. let q = h.holders u p e in (q.0, k.living p ∙ q.1);
   grafts = λ q pt g e. let a = h.grafts q pt g e in (a.0, k.living q ∙ a.1);
-  gone = λ p e. let g = h.gone p (sym (k.living p) ∙ e) in record { cells = g.cells; files = g.files; balances = g.balances; spent = g.spent };
+  gone = λ p e. let g = h.gone p (sym (k.living p) ∙ e) in
+      record { cells = g.cells; files = g.files; balances = g.balances; spent = g.spent };
   files = h.files;
   policies = h.policies;
   handlers = h.handlers;
@@ -216,12 +256,14 @@ store_with_queue v s queue h k = record {
 
 -- other accounts and grafts are sound beside the queue, and hold the same amounts
 pub record AreSoundAccounts (s : Objects) (a : Accounts) : Type 0 where
-  pub grafts : (q pt : ℕ) (g : GraftValue) → a.graft q pt ≡ Some g → (pt < 16) × (lives s.things.queue q ≡ true)
+  pub grafts : (q pt : ℕ) (g : GraftValue) → a.graft q pt ≡ Some g → (pt < 16)
+      × (lives s.things.queue q ≡ true)
   pub gone : (q : ℕ) → lives s.things.queue q ≡ false → a.acct q ≡ s.accounts.acct q
   pub ledgers : (k : Kind) → sum_below 16 (ledger a k) ≡ sum_below 16 (ledger s.accounts k)
 
 -- other accounts and grafts
-pub store_with_accounts : (v : World) (s : Objects) (a : Accounts) → IsSoundStore v s → AreSoundAccounts s a → IsSoundStore v (with_accounts a s)
+pub store_with_accounts : (v : World) (s : Objects) (a : Accounts) → IsSoundStore v s →
+    AreSoundAccounts s a → IsSoundStore v (with_accounts a s)
 store_with_accounts v s a h k = record {
   world = h.world;
   root = h.root;

@@ -1,4 +1,5 @@
--- The living processes with their cells, files, user locks and handlers: as arrays, and as the kernel's state sees them.
+-- The living processes with their cells, files, user locks and handlers: as arrays, and as the
+-- kernel's state sees them.
 use Rattle.std.specs.Prelude.{◌≡◌, ℕ, ◌+◌, ◌*◌, ◌<◌, ◌≤◌, Bool, true, false, cond, ◌&&◌, ◌==◌, nat_lt, nat_le, List, [], ◌∷◌, ◌++◌, length, filter, slice_index, slice_index_or, Option, Some, None}
 use Rattle.std.specs.List.{list_all}
 use Rattle.kernel_model.specs.declared.QueueRow.{QueueRow}
@@ -66,11 +67,18 @@ processes_of t =
 -- process 0 lives alone
 abbrev pub opening : Processes
 opening =
-    record { queue = new_row 0 ∷ []; cell = λ p k. 0; file = λ p fd. None; lock = λ u. None; handlers = [] }
+    record {
+      queue = new_row 0 ∷ [];
+      cell = λ p k. 0;
+      file = λ p fd. None;
+      lock = λ u. None;
+      handlers = [];
+    }
 
 -- a process joins at the back, if a number is free
 abbrev pub spawned : Option ℕ → Processes → Processes
-spawned free s = record s { queue = elim free [ None ↦ s.queue | Some c ↦ s.queue ++ new_row c ∷ [] ] }
+spawned free s =
+    record s { queue = elim free [ None ↦ s.queue | Some c ↦ s.queue ++ new_row c ∷ [] ] }
 
 -- a process leaves: its cells become 0, its files close, its locks and its handlers go
 abbrev pub without : ℕ → Processes → Processes
@@ -85,7 +93,8 @@ without p s =
 
 -- ---- what always holds
 
--- the rows of the queue: each process once, below 16, with a nice of at most 39; process 0 among them
+-- the rows of the queue: each process once, below 16, with a nice of at most 39; process 0 among
+-- them
 pub record IsQueue (rows : List QueueRow) : Type 0 where
   pub once : (p : ℕ) → length (filter (λ (r : QueueRow). r.process == p) rows) ≤ 1
   pub below : (p : ℕ) → lives rows p ≡ true → p < 16

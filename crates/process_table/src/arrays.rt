@@ -162,7 +162,8 @@ pub(crate) fn change_nice(rows: &mut ArrayVec<QueueRow, PROCESSES>, p: u8, v: u8
 
 /// A row with one slice more, if it is that of the process.
 fn row_with_slice(row: QueueRow, p: u8) -> QueueRow
-    ensures { result ≡ cond (row.process == p) (record row { slices = one_more_slice row.slices }) row }
+    ensures { result ≡ cond (row.process == p)
+        (record row { slices = one_more_slice row.slices }) row }
 {
     if row.process == p {
         QueueRow {
@@ -203,7 +204,8 @@ pub(crate) fn clear_cells(cells: &mut [u32], p: u8)
 /// Closes the files of a process.
 pub(crate) fn close_files(files: &mut [Option<OpenRow>], p: u8)
     requires { 4 * p + 4 ≤ length files.old }
-    ensures { (i : ℕ) → slice_index_or files.new i None ≡ cond (is_of p i) None (slice_index_or files.old i None) }
+    ensures { (i : ℕ) → slice_index_or files.new i None
+        ≡ cond (is_of p i) None (slice_index_or files.old i None) }
 {
     for fd in 0..EACH {
         files[EACH * p as usize + fd] = None;

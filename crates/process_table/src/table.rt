@@ -50,8 +50,8 @@ fn place(p: u8, k: u8) -> usize
 impl Procs {
     ghost use Rattle.process_table.specs.Processes.{processes_of, opening, spawned, without, IsSound};
 
-    /// Process 0 lives alone, with nice 20 and slices 0. All cells are 0, no file is open, no lock is held and there is
-    /// no handler.
+    /// Process 0 lives alone, with nice 20 and slices 0. All cells are 0, no file is open, no lock
+    /// is held and there is no handler.
     pub fn new() -> Procs
         ensures { processes_of result ≡ opening }
     {
@@ -78,8 +78,8 @@ impl Procs {
         least_free(self.rows.as_slice())
     }
 
-    /// The least number that isn't living joins at the back, with nice 20 and slices 0. None, with nothing changed,
-    /// exactly where 16 processes live.
+    /// The least number that isn't living joins at the back, with nice 20 and slices 0. None, with
+    /// nothing changed, exactly where 16 processes live.
     pub fn spawn(&mut self) -> Option<u8>
         ensures number { result ≡ free_process self.old.queue 16 0 }
         ensures least { IfSome result (λ c. IsLeastFree self.old.queue c) }
@@ -107,7 +107,8 @@ impl Procs {
     /// Process p goes to the back of the queue.
     pub fn to_back(&mut self, p: u8)
         requires { IsTrue (lives self.old.queue p) }
-        ensures { processes_of self.new ≡ record (processes_of self.old) { queue = queue_to_back p self.old.queue } }
+        ensures { processes_of self.new
+            ≡ record (processes_of self.old) { queue = queue_to_back p self.old.queue } }
     {
         move_back(&mut self.rows, p);
     }
@@ -125,7 +126,8 @@ impl Procs {
     pub fn set_nice(&mut self, p: u8, v: u8)
         requires lives { IsTrue (lives self.old.queue p) }
         requires range { v ≤ 39 }
-        ensures { processes_of self.new ≡ record (processes_of self.old) { queue = with_nice p v self.old.queue } }
+        ensures { processes_of self.new
+            ≡ record (processes_of self.old) { queue = with_nice p v self.old.queue } }
     {
         change_nice(&mut self.rows, p, v);
     }
@@ -133,7 +135,8 @@ impl Procs {
     /// Raises the slices of process p by one, up to 4,294,967,295.
     pub fn add_slice(&mut self, p: u8)
         requires lives { IsTrue (lives self.old.queue p) }
-        ensures { processes_of self.new ≡ record (processes_of self.old) { queue = queue_with_slice p self.old.queue } }
+        ensures { processes_of self.new
+            ≡ record (processes_of self.old) { queue = queue_with_slice p self.old.queue } }
     {
         raise_slices(&mut self.rows, p);
     }
@@ -151,7 +154,8 @@ impl Procs {
     pub fn set_cell(&mut self, p: u8, k: u8, v: u32)
         requires lives { IsTrue (lives self.old.queue p) }
         requires number { k < 4 }
-        ensures { processes_of self.new ≡ record (processes_of self.old) { cell = at2 p k v (processes_of self.old).cell } }
+        ensures { processes_of self.new
+            ≡ record (processes_of self.old) { cell = at2 p k v (processes_of self.old).cell } }
     {
         self.cells[place(p, k)] = v;
     }
@@ -170,7 +174,8 @@ impl Procs {
         requires process { p < 16 }
         requires number { fd < 4 }
         requires lives { IfSome row (λ _. lives self.old.queue p ≡ true) }
-        ensures { processes_of self.new ≡ record (processes_of self.old) { file = at2 p fd row (processes_of self.old).file } }
+        ensures { processes_of self.new
+            ≡ record (processes_of self.old) { file = at2 p fd row (processes_of self.old).file } }
     {
         self.files[place(p, fd)] = row;
     }
@@ -187,7 +192,8 @@ impl Procs {
     pub fn set_holder(&mut self, u: u8, p: Option<u8>)
         requires number { u < 16 }
         requires lives { IfSome p (λ q. lives self.old.queue q ≡ true) }
-        ensures { processes_of self.new ≡ record (processes_of self.old) { lock = at u p (processes_of self.old).lock } }
+        ensures { processes_of self.new
+            ≡ record (processes_of self.old) { lock = at u p (processes_of self.old).lock } }
     {
         self.holders[u as usize] = p;
     }
@@ -200,14 +206,15 @@ impl Procs {
         self.handlers.as_slice()
     }
 
-    /// Puts the handler of process q at point pt last, taking it out first where it stood. False, with nothing changed,
-    /// exactly where it doesn't stand and 8 others stand at the point.
+    /// Puts the handler of process q at point pt last, taking it out first where it stood. False,
+    /// with nothing changed, exactly where it doesn't stand and 8 others stand at the point.
     pub fn add_handler(&mut self, q: u8, pt: u8) -> bool
         requires process { q < 16 }
         requires first { 6 ≤ pt }
         requires last { pt ≤ 13 }
         ensures answer { result ≡ has_room q pt self.old.handlers }
-        ensures value { processes_of self.new ≡ record (processes_of self.old) { handlers = handlers_with q pt self.old.handlers } }
+        ensures value { processes_of self.new
+            ≡ record (processes_of self.old) { handlers = handlers_with q pt self.old.handlers } }
     {
         if !fits(self.handlers.as_slice(), q, pt) {
             return false;
@@ -218,7 +225,9 @@ impl Procs {
 
     /// Takes out the handler of process q at point pt. Nothing changes where it doesn't stand.
     pub fn drop_handler(&mut self, q: u8, pt: u8)
-        ensures { processes_of self.new ≡ record (processes_of self.old) { handlers = handlers_without q pt self.old.handlers } }
+        ensures { processes_of self.new
+            ≡ record (processes_of self.old)
+            { handlers = handlers_without q pt self.old.handlers } }
     {
         remove_handler(&mut self.handlers, q, pt);
     }

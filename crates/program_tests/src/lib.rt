@@ -1,4 +1,5 @@
-//! Runs of the whole program over sources, sinks and disks in memory that fail, and over a policy of the tests' own.
+//! Runs of the whole program over sources, sinks and disks in memory that fail, and over a policy
+//! of the tests' own.
 #![tactic(auto)]
 
 ghost use Rattle.std.specs.Prelude.{◌≡◌, map};
@@ -62,8 +63,8 @@ mod tests {
         Ok(all)
     }
 
-    /// Runs the program over this source, the sample disk and these policies. The write and the call of the disk with these
-    /// numbers fail; 0 is none.
+    /// Runs the program over this source, the sample disk and these policies. The write and the
+    /// call of the disk with these numbers fail; 0 is none.
     fn run_over<S: Source>(
         alloc: Global,
         words: &[&str],
@@ -72,7 +73,8 @@ mod tests {
         shelf: Vec<Box<dyn Policy>>,
     ) -> Result<Ran, Fail>
         requires shelf { IsShelf (map ⟦<Box<dyn Policy> as Policy>⟧.seen shelf.items) }
-        requires stock { pol_of (map ⟦<Box<dyn Policy> as Policy>⟧.seen shelf.items) first_choice ≡ opening_policy }
+        requires stock { pol_of (map ⟦<Box<dyn Policy> as Policy>⟧.seen shelf.items) first_choice
+            ≡ opening_policy }
     {
         let [failing_write, failing_call] = failing;
         let words = words_of(alloc, words)?;
@@ -95,7 +97,8 @@ mod tests {
         shelf: Vec<Box<dyn Policy>>,
     ) -> Result<Ran, Fail>
         requires shelf { IsShelf (map ⟦<Box<dyn Policy> as Policy>⟧.seen shelf.items) }
-        requires stock { pol_of (map ⟦<Box<dyn Policy> as Policy>⟧.seen shelf.items) first_choice ≡ opening_policy }
+        requires stock { pol_of (map ⟦<Box<dyn Policy> as Policy>⟧.seen shelf.items) first_choice
+            ≡ opening_policy }
     {
         let [failing_read, failing_write, failing_call] = failing;
         let script = Vec::from_slice(alloc, script.as_bytes())?;
@@ -157,7 +160,8 @@ mod tests {
         run_over(alloc, words, source, [0, 0], shelf)
     }
 
-    /// Runs the script of the long session, over a source that gives few bytes at a time, whose read with this number fails.
+    /// Runs the script of the long session, over a source that gives few bytes at a time, whose
+    /// read with this number fails.
     fn run_trickling(alloc: Global, failing_read: u64) -> Result<Ran, Fail> {
         let script = Vec::from_slice(alloc, SESSION.as_bytes())?;
         let inner = MemSource::new(script, Vec::from_slice(alloc, &[failing_read])?);
@@ -215,8 +219,9 @@ mod tests {
         Ok(())
     }
 
-    /// Two frames, a read ahead that evicts, a changed frame that is evicted, and another one that is synced. The disk is called
-    /// for block 0, blocks 1 to 3, block 4, block 6 and the changed block 2, and the changed block 6.
+    /// Two frames, a read ahead that evicts, a changed frame that is evicted, and another one that
+    /// is synced. The disk is called for block 0, blocks 1 to 3, block 4, block 6 and the changed
+    /// block 2, and the changed block 6.
     const EVICTIONS: &str =
         "frames 2\nboot\nopen 0 alpha\nread 0 0 0 0 4\nwrite 0 0 1 0 7879\nread 0 0 3 0 1\nread 0 0 5 0 1\n\
         write 0 0 5 0 7a7a\nsync 0\n";
@@ -262,7 +267,8 @@ mod tests {
             let mut ran = run_failing(rt.alloc(), &["run", KEY], EVICTIONS, [0, 0, call])?;
             assert_eq!(rt; ran.status, 0, "at call {call}");
             assert!(rt; ran.written.bytes() == lines.as_bytes(), "at call {call}");
-            // The changed block that was evicted is on the disk, and so is the other one unless its own write failed.
+            // The changed block that was evicted is on the disk, and so is the other one unless its
+            // own write failed.
             assert!(rt; begins(&mut ran.disk, 2, b"xy"), "at call {call}");
             let last = if call == 8 { b"\xba\xbb" } else { b"zz" };
             assert!(rt; begins(&mut ran.disk, 6, last), "at call {call}");
@@ -270,8 +276,8 @@ mod tests {
         Ok(())
     }
 
-    /// A sequential reader with a graft that reads ahead and one that evicts, beside a plain reader: with a wait, a write, a
-    /// yield and a sync. Another program computed the seals.
+    /// A sequential reader with a graft that reads ahead and one that evicts, beside a plain
+    /// reader: with a wait, a write, a yield and a sync. Another program computed the seals.
     const SESSION: &str = "boot\n\
         image 0 56475231010000000800000000000000040402000000000001050000030000000d06040500000000160600000600000002010500000000001a0000000000000002010400000000001a0000000000000085a9380c0c8a998c1b2a759a5fb62bd2e24ceae40e8342b555bf816dec78f679\n\
         image 1 5647523101000000040000000000000017000000060000000e000000ffffffff17000000070000001a000000000000007c7d7443096be342b6733039e33c1cdc0f6c2e1bf6b6684595e4d96240eca2b7\n\
@@ -384,7 +390,8 @@ mod tests {
         Ok(())
     }
 
-    /// Sets the parameter of reading ahead to 5 and to 6, then divides by zero. Another program computed the seal.
+    /// Sets the parameter of reading ahead to 5 and to 6, then divides by zero. Another program
+    /// computed the seal.
     const TUNES: &str =
         "56475231010000000b00000000000000010000000000000001010000000000000102000005000000170000000b000000010000000000000001010000000000000102000006000000170000000b00000001070000000000000b070707000000001a000000000000008211e4388f02474685ac91110290a570ee60e9a820be0de1033cf879e02262ce";
 
@@ -432,7 +439,8 @@ mod tests {
     #[test]
     fn stops_at_a_failing_write(rt: HostRuntime) -> Result<(), Fail> {
         let lines = b"0 boot 8 64 3\n1 ok 1\n2 ok 1\n3 ok 0\n4 tick 1\n";
-        // Each event is one write: what was written before the failing one stands, and nothing after it.
+        // Each event is one write: what was written before the failing one stands, and nothing
+        // after it.
         let ends = [0usize, 14, 21, 28, 35, lines.len()];
         for (failing, written) in ends.iter().enumerate() {
             let number = failing as u64 + 1;

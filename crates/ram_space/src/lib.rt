@@ -60,7 +60,8 @@ impl Ram {
         set_byte(&mut self.bytes, a as usize, v);
     }
 
-    /// The word of the four bytes from an address on, the lowest byte first. The address is a multiple of 4.
+    /// The word of the four bytes from an address on, the lowest byte first. The address is a
+    /// multiple of 4.
     pub fn word(&self, a: u32) -> u32
         requires aligned { a % 4 ≡ 0 }
         requires inside { a < RAM_BYTES }
@@ -70,7 +71,8 @@ impl Ram {
         get_word(&self.bytes, a as usize)
     }
 
-    /// Puts a word in the four bytes from an address on, the lowest byte first. The address is a multiple of 4.
+    /// Puts a word in the four bytes from an address on, the lowest byte first. The address is a
+    /// multiple of 4.
     pub fn put_word(&mut self, a: u32, v: u32)
         requires aligned { a % 4 ≡ 0 }
         requires inside { a < RAM_BYTES }
@@ -83,7 +85,8 @@ impl Ram {
     /// Copies bytes in, the first to an address.
     pub fn copy_in(&mut self, a: u32, from: &[u8])
         requires { a + length from.now ≤ RAM_BYTES }
-        ensures value { self.new ≡ take a self.old ++ from.now ++ drop (a + length from.now) self.old }
+        ensures value { self.new ≡ take a self.old ++ from.now
+            ++ drop (a + length from.now) self.old }
         ensures size { length self.new ≡ RAM_BYTES }
     {
         set_piece(&mut self.bytes, a as usize, from);
@@ -93,7 +96,8 @@ impl Ram {
     pub fn clear(&mut self, from: u32, to: u32)
         requires order { from ≤ to }
         requires inside { to ≤ RAM_BYTES }
-        ensures value { self.new ≡ take from self.old ++ replicate (to - from) 0 ++ drop to self.old }
+        ensures value { self.new ≡ take from self.old ++ replicate (to - from) 0
+            ++ drop to self.old }
         ensures size { length self.new ≡ RAM_BYTES }
     {
         clear_piece(&mut self.bytes, from as usize, to as usize);

@@ -11,8 +11,8 @@ use vino_base::{Disk, Failed};
 /// The bytes of a block.
 const BLOCK_BYTES: u64 = 512;
 
-/// A disk whose block b stands in a file from byte 512 * b on. A block that the file doesn't give or take whole is a
-/// fault; the bytes of a failed write may have reached the file in part.
+/// A disk whose block b stands in a file from byte 512 * b on. A block that the file doesn't give
+/// or take whole is a fault; the bytes of a failed write may have reached the file in part.
 #[derive(Drop)]
 pub struct FileDisk {
     file: Option<File>,
@@ -23,8 +23,8 @@ pub struct FileDisk {
 }
 
 impl FileDisk {
-    /// The first blocks of a file, 1 to 4,096 of them. The file is open for reading and writing. No fault was counted
-    /// yet.
+    /// The first blocks of a file, 1 to 4,096 of them. The file is open for reading and writing. No
+    /// fault was counted yet.
     pub fn new(file: File, size: u32) -> FileDisk
         requires least { 1 ≤ size }
         requires most { size ≤ 4096 }
@@ -38,8 +38,8 @@ impl FileDisk {
         }
     }
 
-    /// A disk of one block, of which each call fails: it stands for a file that can't be opened. No fault was counted
-    /// yet.
+    /// A disk of one block, of which each call fails: it stands for a file that can't be opened. No
+    /// fault was counted yet.
     pub fn closed() -> FileDisk
         ensures size { result.size ≡ 1 }
         ensures file { result.file ≡ None }

@@ -1,6 +1,7 @@
 //! The outside world: std's readers, writers and files as sources, sinks and disks.
 //!
-//! They count faults and tell no contents. What a reader, a writer or a file really holds is trusted, not proved.
+//! They count faults and tell no contents. What a reader, a writer or a file really holds is
+//! trusted, not proved.
 #![tactic(auto)]
 
 mod file_disk;

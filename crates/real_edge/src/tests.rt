@@ -1,4 +1,5 @@
-//! One way through a real file: blocks into it and out of it, then the file as a stream into another one.
+//! One way through a real file: blocks into it and out of it, then the file as a stream into
+//! another one.
 
 use crate::{FileDisk, StreamSink, StreamSource};
 use std::fs;

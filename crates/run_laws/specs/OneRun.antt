@@ -1,4 +1,5 @@
--- What a run writes is one function of the key, the script, the disk's blocks and which of its calls fail.
+-- What a run writes is one function of the key, the script, the disk's blocks and which of its
+-- calls fail.
 use Rattle.std.specs.Prelude.{◌≡◌, ℕ, Bool, List, length, flat_map, Option, Some}
 use Rattle.std.specs.Io.KnownBytes.{Appends}
 use Rattle.vino_base.specs.Calls.{Plan}
@@ -16,15 +17,18 @@ all_calls ios = flat_map (λ (io : List Bool). io) ios
 abbrev pub ArePlanned : Plan → List Bool → Type 0
 ArePlanned p io = io ≡ planned (length io) p
 
--- Lists of calls, one for each line, of which each line makes its own, no fewer and no more: where they are what a plan gives,
+-- Lists of calls, one for each line, of which each line makes its own, no fewer and no more: where
+-- they are what a plan gives,
 -- they are the only ones.
 abbrev pub CallsAreOne : Type 0
 CallsAreOne =
     (c : Place) (p : Plan) (a : Session) (lines : List (List ℕ)) (ios jos : List (List Bool))
-    → length ios ≡ length lines → length jos ≡ length lines → UsesAll c a lines ios → UsesAll c a lines jos
+    → length ios ≡ length lines → length jos ≡ length lines → UsesAll c a lines ios →
+    UsesAll c a lines jos
     → ArePlanned p (all_calls ios) → ArePlanned p (all_calls jos) → ios ≡ jos
 
--- what is seen of a run: of its source what was left and the count of faults, before and after it; of its sink what it had
+-- what is seen of a run: of its source what was left and the count of faults, before and after it;
+-- of its sink what it had
 -- got; of its disk; and the status
 pub record RunSeen : Type 0 where
   pub rest : Option (List ℕ)
@@ -37,7 +41,8 @@ pub record RunSeen : Type 0 where
   pub disk_new : DiskSeen
   pub status : ℕ
 
--- it is what the contract of the top call says of a run that neither lacked memory nor had a sink that failed
+-- it is what the contract of the top call says of a run that neither lacked memory nor had a sink
+-- that failed
 abbrev pub IsRun : Place → RunSeen → Type 0
 IsRun c x = Ran c x.rest x.rest_new x.faults x.faults_new x.got x.got_new x.disk x.disk_new x.status
 
@@ -59,8 +64,11 @@ pub record EndAlike (x y : RunSeen) : Type 0 where
   pub second_blocks : Tells y.disk_new.told blocks
   pub plan : x.disk_new.plan ≡ y.disk_new.plan
 
--- Runs that took the same bytes and ended reading alike, under one key, come to the same over disks that tell the same.
+-- Runs that took the same bytes and ended reading alike, under one key, come to the same over disks
+-- that tell the same.
 abbrev pub RunsAreOne : Type 0
 RunsAreOne =
-    (c : Place) (blocks : List (List ℕ)) (p : Plan) (x y : RunSeen) (one : IsRun c x) (other : IsRun c y)
-    → BeginsOver blocks p x → BeginsOver blocks p y → one.taken ≡ other.taken → one.ending ≡ other.ending → EndAlike x y
+    (c : Place) (blocks : List (List ℕ)) (p : Plan) (x y : RunSeen) (one : IsRun c x)
+    (other : IsRun c y)
+    → BeginsOver blocks p x → BeginsOver blocks p y → one.taken ≡ other.taken →
+    one.ending ≡ other.ending → EndAlike x y

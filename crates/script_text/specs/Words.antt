@@ -48,4 +48,5 @@ fed byte line = cond (byte == 10) Line (cond (nat_lt (length line) LINE_BYTES) M
 
 -- the line after a byte
 abbrev pub line_with : ℕ → List ℕ → List ℕ
-line_with byte line = cond (byte == 10) line (cond (nat_lt (length line) LINE_BYTES) (line ++ byte ∷ []) line)
+line_with byte line =
+    cond (byte == 10) line (cond (nat_lt (length line) LINE_BYTES) (line ++ byte ∷ []) line)

@@ -10,7 +10,8 @@ use kernel_model::{NAME_BYTES, Name};
 /// The most digits of a number.
 const DIGITS: usize = 10;
 
-/// A number of 1 to 10 decimal digits, below 2^32; none where the word is something else. Leading zeros are allowed.
+/// A number of 1 to 10 decimal digits, below 2^32; none where the word is something else. Leading
+/// zeros are allowed.
 pub fn read_number(word: &[u8]) -> Option<u32>
     ensures { result ≡ number_of word.now }
 {

@@ -21,7 +21,8 @@ pub enum Entry<'a> {
     Blank,
     /// How many frames the cache has, 2 to 64.
     Frames(u8),
-    /// A kind of object, 0 to 7 in the order of `Object`, and how many ticks a call waits for it, 1 to 1,000.
+    /// A kind of object, 0 to 7 in the order of `Object`, and how many ticks a call waits for it, 1
+    /// to 1,000.
     Patience(u8, u32),
     /// What root has of each kind of amount at first.
     Grant(u32),
@@ -187,7 +188,8 @@ fn entry_said<'a>(command: Command, n: &[u32], last: &'a [u8]) -> Result<Entry<'
     }
 }
 
-/// What a line says, before or after `boot`, or why it is refused. The line stands without its newline.
+/// What a line says, before or after `boot`, or why it is refused. The line stands without its
+/// newline.
 ///
 /// No memory is taken: the bytes of an image are decoded later.
 pub fn parse_line<'a>(line: &'a [u8], booted: bool) -> Result<Entry<'a>, ScriptFault>

@@ -142,7 +142,8 @@ fn fits_forms(forms: &[Form], rest: &[u8]) -> bool
 
 /// The refusal of a line with a word that is no number, where the words that are left may be worse.
 fn refused(forms: &[Form], rest: &[u8]) -> Reading<'static>
-    ensures { (ns : List ℕ) → said result ns ≡ failed (is_well_formed forms.now (words_left rest.now)) }
+    ensures { (ns : List ℕ) →
+        said result ns ≡ failed (is_well_formed forms.now (words_left rest.now)) }
 {
     if fits_forms(forms, rest) {
         Reading::BadNumber
@@ -162,7 +163,8 @@ fn nothing_left<'a>(rest: &[u8], last: &'a [u8]) -> Reading<'a>
     }
 }
 
-/// Reads the words that are left, and puts their numbers behind others. `last` is the word before them.
+/// Reads the words that are left, and puts their numbers behind others. `last` is the word before
+/// them.
 pub(crate) fn read_words<'a>(
     forms: &[Form],
     rest: &'a [u8],
@@ -170,7 +172,8 @@ pub(crate) fn read_words<'a>(
     numbers: &mut ArrayVec<u32, WORDS>,
 ) -> Reading<'a>
     requires { array_vec_len numbers.old + length forms.now ≤ 5 }
-    ensures { said result numbers.new.items ≡ words_said numbers.old.items last.now forms.now (words_left rest.now) }
+    ensures { said result numbers.new.items
+        ≡ words_said numbers.old.items last.now forms.now (words_left rest.now) }
 {
     if forms.is_empty() {
         return nothing_left(rest, last);

@@ -22,23 +22,31 @@ says_tick (Ok e) = is_tick_entry e
 -- a line is run as a tick: it says one, after boot, and no line before it was refused
 abbrev pub is_tick_line : Session → List ℕ → Bool
 is_tick_line s text =
-    elim s.refused [ true ↦ false | false ↦ says_tick (parsed_line (is_some s.kernel) text) && is_some s.kernel ]
+    elim s.refused [
+      | true ↦ false
+      | false ↦ says_tick (parsed_line (is_some s.kernel) text)
+          && is_some s.kernel
+    ]
 
 -- how many of these lines are
 abbrev pub tick_lines : Build → Keys → (size : ℕ) → Session → List (List ℕ) → List (List Bool) → ℕ
 tick_lines b keys size s [] ios = 0
 tick_lines b keys size s (text ∷ texts) ios =
     once_if (is_tick_line s text)
-    + tick_lines b keys size (after_line b keys size s text (first_io ios)).session texts (later_io ios)
+    + tick_lines b keys size (after_line b keys size s text (first_io ios)).session texts
+    (later_io ios)
 
 -- the clock of a run is the number of its lines that are run as ticks
 abbrev pub ClockCountsTicks : Type 0
 ClockCountsTicks =
-    (b : Build) (keys : Keys) (d : Disk) (texts : List (List ℕ)) (ios : List (List Bool)) (k : Kernel) →
-    (run_of b keys d texts ios).kernel ≡ Some k → k.clock ≡ tick_lines b keys d.size (first_session d) texts ios
+    (b : Build) (keys : Keys) (d : Disk) (texts : List (List ℕ)) (ios : List (List Bool))
+    (k : Kernel) →
+    (run_of b keys d texts ios).kernel ≡ Some k →
+    k.clock ≡ tick_lines b keys d.size (first_session d) texts ios
 
 -- the clock of a run is at most the number of its events
 abbrev pub ClockWithinEvents : Type 0
 ClockWithinEvents =
-    (b : Build) (keys : Keys) (d : Disk) (texts : List (List ℕ)) (ios : List (List Bool)) (k : Kernel) →
+    (b : Build) (keys : Keys) (d : Disk) (texts : List (List ℕ)) (ios : List (List Bool))
+    (k : Kernel) →
     (run_of b keys d texts ios).kernel ≡ Some k → k.clock ≤ (run_of b keys d texts ios).events

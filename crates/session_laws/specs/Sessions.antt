@@ -22,7 +22,8 @@ pub record IsRunnable (b : Build) (d : Disk) : Type 0 where
 -- where a run has a kernel, that is sound, and the disk's blocks are whole
 abbrev pub RunsAreSound : Type 0
 RunsAreSound =
-    (b : Build) (keys : Keys) (d : Disk) (texts : List (List ℕ)) (ios : List (List Bool)) (k : Kernel) →
+    (b : Build) (keys : Keys) (d : Disk) (texts : List (List ℕ)) (ios : List (List Bool))
+    (k : Kernel) →
     IsRunnable b d →
     (run_of b keys d texts ios).kernel ≡ Some k →
     IsSoundKernel b.meaning k × HasWholeBlocks k.world (run_of b keys d texts ios).blocks

@@ -17,7 +17,8 @@ pub record StepsStay (a b : Accounts) : Type 0 where
   pub steps : (q : ℕ) → steps_of b q ≡ steps_of a q
   pub ledgers : (q : ℕ) (k : Kind) → ledger b k q ≡ ledger a k q
 
--- process p has spent one step more, no other process has spent more or fewer, and each ledger stays
+-- process p has spent one step more, no other process has spent more or fewer, and each ledger
+-- stays
 pub record StepIsSpent (p : ℕ) (a b : Accounts) : Type 0 where
   pub own : steps_of b p ≡ steps_of a p + 1
   pub others : (q : ℕ) → q ≢ p → steps_of b q ≡ steps_of a q
@@ -25,14 +26,18 @@ pub record StepIsSpent (p : ℕ) (a b : Accounts) : Type 0 where
 
 -- what the next instruction of a call's innermost level l makes of the accounts
 pub record IsPaidFor (l : Level) (a b : Accounts) : Type 0 where
-  -- a level that has a step left takes it from its own graft's payer, and whatever it does with it no more
+  -- a level that has a step left takes it from its own graft's payer, and whatever it does with it
+  -- no more
   pub charged : is_spent a l ≡ false → StepIsSpent l.owner a b
   -- one that has none left is dropped, and nothing is charged
   pub uncharged : is_spent a l ≡ true → StepsStay a b
 
--- An instruction of process p's call is charged to who installed the graft that takes it, whichever process p is. What it
+-- An instruction of process p's call is charged to who installed the graft that takes it, whichever
+-- process p is. What it
 -- charges of records and locks, and a drop that it ends in, move amounts within ledgers alone.
 abbrev pub InstructionsArePaidFor : Type 0
 InstructionsArePaidFor =
-    (v : World) (images : ImageTable) (p : ℕ) (w : Objects) (l : Level) (ls : List Level) → l.point < 16 →
-    IsPaidFor l w.accounts (micro v images p (record { now = w; levels = l ∷ ls })).config.now.accounts
+    (v : World) (images : ImageTable) (p : ℕ) (w : Objects) (l : Level) (ls : List Level) →
+    l.point < 16 →
+    IsPaidFor l w.accounts
+    (micro v images p (record { now = w; levels = l ∷ ls })).config.now.accounts

@@ -20,7 +20,8 @@ pub fn calls_keep_counts<R: Rules>()
     ensures { CallsKeepCounts R.meaning }
 {}
 
-/// In a sound kernel each level of each call has taken at most as many instructions as its graft's limit.
+/// In a sound kernel each level of each call has taken at most as many instructions as its graft's
+/// limit.
 pub fn calls_fit<R: Rules>()
     ensures { CallsFit R.meaning }
 {}

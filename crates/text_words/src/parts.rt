@@ -34,7 +34,8 @@ fn find(text: &[u8], separator: u8) -> Option<usize>
 
 /// The part before the first separator, and what is behind it, if there is one.
 fn split_first(text: &[u8], separator: u8) -> (&[u8], Option<&[u8]>)
-    ensures { slice_split (λ b. b == separator) text.now ≡ result.0.now ∷ parts_left separator (option_copied result.1) }
+    ensures { slice_split (λ b. b == separator) text.now ≡ result.0.now
+        ∷ parts_left separator (option_copied result.1) }
 {
     match find(text, separator) {
         None => (text, None),
@@ -60,7 +61,8 @@ impl<'a> Parts<'a> {
 
     /// Takes the first part.
     pub fn next(&mut self) -> Option<&'a [u8]>
-        ensures { MatchOption (option_copied result) ((self.old ≡ []) × (self.new ≡ [])) (λ part. self.old ≡ part ∷ self.new) }
+        ensures { MatchOption (option_copied result) ((self.old ≡ [])
+            × (self.new ≡ [])) (λ part. self.old ≡ part ∷ self.new) }
     {
         match self.rest {
             None => None,

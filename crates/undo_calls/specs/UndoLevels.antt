@@ -54,7 +54,8 @@ abbrev pub cut : List ℕ → List Inverse → List (List Inverse)
 cut [] rs = []
 cut (m ∷ ms) rs = take (length rs - m) rs ∷ cut ms (drop (length rs - m) rs)
 
--- marks, innermost first, are in order, within so many records, and the outermost level has all from the first one on
+-- marks, innermost first, are in order, within so many records, and the outermost level has all
+-- from the first one on
 abbrev pub are_marks : List ℕ → ℕ → Bool
 are_marks [] n = n == 0
 are_marks (m ∷ ms) n = nat_le m n && are_marks ms m

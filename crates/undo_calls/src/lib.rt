@@ -16,7 +16,8 @@ pub const LEVELS: usize = 4;
 
 /// The records of a call, with marks where its levels begin.
 ///
-/// Contracts see a list of lists: the records of each level, innermost level first, newest first within a level.
+/// Contracts see a list of lists: the records of each level, innermost level first, newest first
+/// within a level.
 #[derive(Drop)]
 pub struct UndoStack {
     records: ArrayVec<Inverse, RECORDS>,
@@ -43,7 +44,8 @@ fn last_mark(marks: &[u8]) -> u8
     marks[marks.len() - 1]
 }
 
-/// The level that owns the record at a place in the order of age: the innermost one that began there or before.
+/// The level that owns the record at a place in the order of age: the innermost one that began
+/// there or before.
 fn owner_at(marks: &[u8], i: usize) -> u8
     requires { length marks.now ≤ 4 }
     ensures { result ≡ owner_by (reverse marks.now) i }
@@ -79,8 +81,8 @@ impl UndoStack {
         self.marks.push(mark);
     }
 
-    /// A record comes to the innermost level. It is given back, with nothing changed, exactly where there are 64 records.
-    /// There is a level.
+    /// A record comes to the innermost level. It is given back, with nothing changed, exactly where
+    /// there are 64 records. There is a level.
     pub fn push(&mut self, inv: Inverse) -> Result<(), Inverse>
         requires { 0 < length self.old }
         ensures full { IsErr result ↔ length (records_of self.old) ≡ 64 }
@@ -95,8 +97,8 @@ impl UndoStack {
         Ok(())
     }
 
-    /// The innermost level ends, and its records go to the level outside it. Where it is the only one they are forgotten.
-    /// There is a level.
+    /// The innermost level ends, and its records go to the level outside it. Where it is the only
+    /// one they are forgotten. There is a level.
     pub fn commit_level(&mut self)
         requires { 0 < length self.old }
         ensures { self.new ≡ merged self.old }
@@ -107,8 +109,8 @@ impl UndoStack {
         }
     }
 
-    /// Takes out the newest record of the innermost level. None, with nothing changed, exactly where that level has none.
-    /// There is a level.
+    /// Takes out the newest record of the innermost level. None, with nothing changed, exactly
+    /// where that level has none. There is a level.
     pub fn pop(&mut self) -> Option<Inverse>
         requires { 0 < length self.old }
         ensures value { result ≡ newest self.old }

@@ -30,7 +30,8 @@ fn main(rt: HostRuntime) -> ExitCode {
     })
 }
 
-/// Does what the words ask, over the file that they name or else over the sample disk: the exit status.
+/// Does what the words ask, over the file that they name or else over the sample disk: the exit
+/// status.
 fn run(rt: &HostRuntime, words: &[String]) -> u8 {
     match words {
         [word, _, path] if word.as_str() == "run" => {
@@ -49,9 +50,9 @@ fn file_disk(rt: &HostRuntime, path: &str) -> FileDisk {
     open_disk(rt, path).unwrap_or(FileDisk::closed())
 }
 
-/// Opens the disk. A new file takes the lowest descriptor that is free, so where a standard stream is closed the disk would
-/// stand in its place, and be read as the script or written as the output. Therefore three others are opened first, which
-/// take such places, and let go of behind it.
+/// Opens the disk. A new file takes the lowest descriptor that is free, so where a standard stream
+/// is closed the disk would stand in its place, and be read as the script or written as the output.
+/// Therefore three others are opened first, which take such places, and let go of behind it.
 fn open_disk(rt: &HostRuntime, path: &str) -> io::Result<FileDisk> {
     let _input = open_null(rt)?;
     let _output = open_null(rt)?;

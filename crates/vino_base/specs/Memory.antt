@@ -22,13 +22,18 @@ given room s = min room (length s.rest)
 -- a source after a read into so much room: a failed one takes nothing
 abbrev pub source_after : ℕ → SourceState → SourceState
 source_after room s =
-    cond (call_fails s.plan) (record { rest = s.rest; plan = after_call s.plan; faults = counted s.faults })
+    cond (call_fails s.plan) (record {
+      rest = s.rest;
+      plan = after_call s.plan;
+      faults = counted s.faults;
+    })
     (record { rest = drop (given room s) s.rest; plan = after_call s.plan; faults = s.faults })
 
 -- a buffer after a read
 abbrev pub buffer_after : List ℕ → SourceState → List ℕ
 buffer_after buf s =
-    cond (call_fails s.plan) buf (take (given (length buf) s) s.rest ++ drop (given (length buf) s) buf)
+    cond (call_fails s.plan) buf (take (given (length buf) s) s.rest
+    ++ drop (given (length buf) s) buf)
 
 -- a sink after a write of these bytes, which it took whole or not at all
 abbrev pub sink_after : Bool → List ℕ → SinkState → SinkState

@@ -19,7 +19,8 @@ pub trait Disk {
     /// The blocks, where the disk tells them.
     ghost blocks: { Self → Option (List (List ℕ)) };
 
-    /// How many calls were made and which fail, where the disk tells it. Reads and writes count together.
+    /// How many calls were made and which fail, where the disk tells it. Reads and writes count
+    /// together.
     ghost plan: { Self → Option Plan };
 
     /// How many blocks it has.
@@ -28,16 +29,20 @@ pub trait Disk {
         ensures least { 1 ≤ result }
         ensures most { result ≤ 4096 }
         ensures told { IfSome (blocks self.now) (λ bs. length bs ≡ result) }
-        ensures whole { (bs : List (List ℕ)) → blocks self.now ≡ Some bs → (b : ℕ) → b < result → length (slice_index_or bs b []) ≡ 512 };
+        ensures whole { (bs : List (List ℕ)) → blocks self.now ≡ Some bs → (b : ℕ) → b < result →
+            length (slice_index_or bs b []) ≡ 512 };
 
     /// Gives block b. A failed read leaves the blocks as they are.
     fn read_block(&mut self, b: u32, to: &mut [u8; 512]) -> Result<(), Failed>
         requires { b < block_count self.old }
         ensures cause { HasCause (faults self.old) (faults self.new) result }
         ensures same_size { block_count self.new ≡ block_count self.old }
-        ensures given { (bs : List (List ℕ)) → blocks self.old ≡ Some bs → OnOk result (slice_get bs b ≡ Some to.new) }
-        ensures kept { (bs : List (List ℕ)) → blocks self.old ≡ Some bs → blocks self.new ≡ Some bs }
-        ensures planned { (p : Plan) → plan self.old ≡ Some p → (is_err result ≡ call_fails p) × (plan self.new ≡ Some (after_call p)) };
+        ensures given { (bs : List (List ℕ)) → blocks self.old ≡ Some bs →
+            OnOk result (slice_get bs b ≡ Some to.new) }
+        ensures kept { (bs : List (List ℕ)) → blocks self.old ≡ Some bs →
+            blocks self.new ≡ Some bs }
+        ensures planned { (p : Plan) → plan self.old ≡ Some p → (is_err result ≡ call_fails p)
+            × (plan self.new ≡ Some (after_call p)) };
 
     /// Replaces block b. A failed write leaves the blocks as they are.
     fn write_block(&mut self, b: u32, from: &[u8; 512]) -> Result<(), Failed>
@@ -46,5 +51,6 @@ pub trait Disk {
         ensures same_size { block_count self.new ≡ block_count self.old }
         ensures replaced { (bs : List (List ℕ)) → blocks self.old ≡ Some bs →
             blocks self.new ≡ Some (if is_ok result then slice_set bs b from.now else bs) }
-        ensures planned { (p : Plan) → plan self.old ≡ Some p → (is_err result ≡ call_fails p) × (plan self.new ≡ Some (after_call p)) };
+        ensures planned { (p : Plan) → plan self.old ≡ Some p → (is_err result ≡ call_fails p)
+            × (plan self.new ≡ Some (after_call p)) };
 }

@@ -1,7 +1,8 @@
 //! Sources, sinks and disks: what a caller may rely on, and devices in memory.
 //!
 //! Each device counts its faults. A call answers [`Failed`] only where the count rose, so whoever
-//! answers for a failure can show what it came from. What a device holds is told where it can be told.
+//! answers for a failure can show what it came from. What a device holds is told where it can be
+//! told.
 #![tactic(auto)]
 
 mod calls;

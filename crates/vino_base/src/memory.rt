@@ -34,9 +34,14 @@ impl Model for MemSource {
 }
 
 impl MemSource {
-    /// The k-th read, counted from 1, fails exactly where k is in `fails`. No fault was counted yet.
+    /// The k-th read, counted from 1, fails exactly where k is in `fails`. No fault was counted
+    /// yet.
     pub fn new(bytes: Vec<u8>, fails: Vec<u64>) -> MemSource
-        ensures { result ≡ record { rest = bytes.items; plan = record { made = 0; failing = fails.items }; faults = 0 } }
+        ensures { result ≡ record {
+          rest = bytes.items;
+          plan = record { made = 0; failing = fails.items };
+          faults = 0;
+        } }
     {
         MemSource {
             bytes,
@@ -100,10 +105,14 @@ impl Model for MemSink {
 }
 
 impl MemSink {
-    /// The k-th write, counted from 1, fails where k is in `fails`, and else only where there is no memory
-    /// for its bytes. No fault was counted yet.
+    /// The k-th write, counted from 1, fails where k is in `fails`, and else only where there is no
+    /// memory for its bytes. No fault was counted yet.
     pub fn new(alloc: Global, fails: Vec<u64>) -> MemSink
-        ensures { result ≡ record { got = []; plan = record { made = 0; failing = fails.items }; faults = 0 } }
+        ensures { result ≡ record {
+          got = [];
+          plan = record { made = 0; failing = fails.items };
+          faults = 0;
+        } }
     {
         MemSink {
             got: Vec::new(alloc),

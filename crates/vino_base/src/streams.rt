@@ -16,8 +16,8 @@ pub trait Source {
     /// The bytes that are left, where the source tells them.
     ghost rest: { Self → Option (List ℕ) };
 
-    /// Puts the next bytes at the front of `buf` and says how many they are: 0 with a buffer that isn't
-    /// empty only at the end. A failed read takes nothing.
+    /// Puts the next bytes at the front of `buf` and says how many they are: 0 with a buffer that
+    /// isn't empty only at the end. A failed read takes nothing.
     fn read(&mut self, buf: &mut [u8]) -> Result<usize, Failed>
         ensures bound { IfOk result (λ n. n ≤ length buf.old) }
         ensures contents { ReadConsumes (rest self.old) (rest self.new) result buf.new }
@@ -32,8 +32,8 @@ pub trait Sink {
     /// The bytes that were taken, where the sink tells them.
     ghost got: { Self → Option (List ℕ) };
 
-    /// Takes bytes from the front of `buf` and says how many: at least one of a buffer that isn't empty.
-    /// A failed write takes nothing.
+    /// Takes bytes from the front of `buf` and says how many: at least one of a buffer that isn't
+    /// empty. A failed write takes nothing.
     fn write(&mut self, buf: &[u8]) -> Result<usize, Failed>
         ensures bound { IfOk result (λ n. n ≤ length buf.now) }
         ensures moves { 0 < length buf.now → IfOk result (λ n. 0 < n) }

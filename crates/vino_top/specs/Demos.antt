@@ -15,8 +15,10 @@ use Rattle.vino_top.specs.Run.{Place, place, lines_run, UsesAll, MadeAll, Whenev
 abbrev pub all_run : Place → Session → List (List ℕ) → List (List Bool) → Written
 all_run c a texts ios = after_lines present_build c.keys c.size a texts ios
 
--- The session went on by these lines, which took the disk from the one to the other and left `out` behind, in all.
-pub record RanLines (c : Place) (texts : List (List ℕ)) (s t : Seen) (d e : DiskSeen) (out : Left) : Type 0 where
+-- The session went on by these lines, which took the disk from the one to the other and left `out`
+-- behind, in all.
+pub record RanLines (c : Place) (texts : List (List ℕ)) (s t : Seen) (d e : DiskSeen)
+    (out : Left) : Type 0 where
   pub ios : List (List Bool)
   pub one_each : length ios ≡ length texts
   pub calls : MadeAll d e ios
@@ -46,14 +48,17 @@ demo_place size = place demo_keys size
 abbrev pub demo_told : (n size : ℕ) → Blocks → List (List Bool) → List ℕ
 demo_told n size blocks ios = summary present_build n (record { size = size; block = blocks }) ios
 
--- The script of a number was run to its end. Over the blocks that the disk told: each line made the calls of its list, the
+-- The script of a number was run to its end. Over the blocks that the disk told: each line made the
+-- calls of its list, the
 -- line that tells of it all was written so, and the disk tells the blocks that are left.
 pub record DemoRan (n size : ℕ) (d e : DiskSeen) (Writes : List ℕ → Type 0) : Type 0 where
   pub ios : List (List Bool)
   pub one_each : length ios ≡ length (demo_lines n)
   pub calls : MadeAll d e ios
-  pub used : Whenever (demo_place size) (IsFirst size d.told) (λ c a. UsesAll c a (demo_lines n) ios)
-  pub writes : Whenever (demo_place size) (IsFirst size d.told) (λ c a. Writes (demo_told n size a.blocks ios))
+  pub used : Whenever (demo_place size) (IsFirst size d.told)
+      (λ c a. UsesAll c a (demo_lines n) ios)
+  pub writes : Whenever (demo_place size) (IsFirst size d.told)
+      (λ c a. Writes (demo_told n size a.blocks ios))
   pub blocks : Whenever (demo_place size) (IsFirst size d.told)
       (λ c a. Tells e.told (lines_run c a (demo_lines n) ios).blocks)
 
@@ -66,9 +71,11 @@ pub record DemoLacked (n size : ℕ) (d e : DiskSeen) : Type 0 where
   pub ios : List (List Bool)
   pub one_each : length ios ≡ length done
   pub calls : MadeAll d e ios
-  pub wants : Whenever (demo_place size) (IsFirst size d.told) (λ c a. WantsMemory (lines_run c a done ios) next)
+  pub wants : Whenever (demo_place size) (IsFirst size d.told)
+      (λ c a. WantsMemory (lines_run c a done ios) next)
   pub used : Whenever (demo_place size) (IsFirst size d.told) (λ c a. UsesAll c a done ios)
-  pub blocks : Whenever (demo_place size) (IsFirst size d.told) (λ c a. Tells e.told (lines_run c a done ios).blocks)
+  pub blocks : Whenever (demo_place size) (IsFirst size d.told)
+      (λ c a. Tells e.told (lines_run c a done ios).blocks)
 
 -- ---- the steps of its run
 
@@ -90,7 +97,8 @@ pub record DemoReached (c : Place) (all texts : List (List ℕ)) (s t : Seen) (d
   pub tallied : IsTally tally out.bytes out.notes
 
 -- One line went on, and the tally takes what it left behind.
-pub record DemoTakes (c : Place) (text : List ℕ) (s t : Seen) (d e : DiskSeen) (old new : Tally) : Type 0 where
+pub record DemoTakes (c : Place) (text : List ℕ) (s t : Seen) (d e : DiskSeen)
+    (old new : Tally) : Type 0 where
   pub lines : t.lines ≤ s.lines + 1
   pub out : Left
   pub few : IsFew out 1

@@ -33,7 +33,8 @@ pub record Place : Type 0 where
 abbrev pub place : Keys → (size : ℕ) → Place
 place keys size = record { keys = keys; size = size }
 
--- what a line makes of a session, where the list says of each of its calls of the disk whether it fails
+-- what a line makes of a session, where the list says of each of its calls of the disk whether it
+-- fails
 abbrev pub line_run : Place → Session → List ℕ → List Bool → Written
 line_run c a text io = after_line present_build c.keys c.size a text io
 
@@ -45,11 +46,13 @@ lines_run c a texts ios = session_after present_build c.keys c.size a texts ios
 abbrev pub pieces_run : Place → Session → List (List ℕ) → List (List Bool) → List (List ℕ)
 pieces_run c a texts ios = pieces_of present_build c.keys c.size a texts ios
 
--- The line makes these calls of the disk, no fewer and no more: whatever the calls behind them would do, it leaves those, writes
+-- The line makes these calls of the disk, no fewer and no more: whatever the calls behind them
+-- would do, it leaves those, writes
 -- the same bytes and comes to the same blocks.
 pub record Uses (c : Place) (a : Session) (text : List ℕ) (io : List Bool) : Type 0 where
   pub left : (rest : List Bool) → (line_run c a text (io ++ rest)).io ≡ rest
-  pub bytes : (rest : List Bool) → (line_run c a text (io ++ rest)).bytes ≡ (line_run c a text io).bytes
+  pub bytes : (rest : List Bool) →
+      (line_run c a text (io ++ rest)).bytes ≡ (line_run c a text io).bytes
   pub blocks : (rest : List Bool) → (line_run c a text (io ++ rest)).session.blocks
       ≡ (line_run c a text io).session.blocks
 
@@ -57,7 +60,8 @@ pub record Uses (c : Place) (a : Session) (text : List ℕ) (io : List Bool) : T
 abbrev pub UsesAll : Place → Session → List (List ℕ) → List (List Bool) → Type 0
 UsesAll c a [] ios = ⊤
 UsesAll c a (text ∷ texts) ios =
-    Uses c a text (first_io ios) × UsesAll c (line_run c a text (first_io ios)).session texts (later_io ios)
+    Uses c a text (first_io ios)
+    × UsesAll c (line_run c a text (first_io ios)).session texts (later_io ios)
 
 -- the session before the first line, over a disk with these blocks
 abbrev pub first_on : (size : ℕ) → Blocks → Session
@@ -65,7 +69,8 @@ first_on size blocks = first_session (record { size = size; block = blocks })
 
 -- the outcome of a run that took these bytes and ended so
 abbrev pub outcome_at : Place → Blocks → (taken : List ℕ) → Ending → List (List Bool) → Outcome
-outcome_at c blocks taken e ios = outcome present_build c.keys taken e (record { size = c.size; block = blocks }) ios
+outcome_at c blocks taken e ios =
+    outcome present_build c.keys taken e (record { size = c.size; block = blocks }) ios
 
 -- ---- the disk
 
@@ -89,26 +94,32 @@ pub record Says (out : Left) (bytes : List ℕ) : Type 0 where
   pub bytes_are : out.bytes ≡ bytes
   pub no_notes : out.notes ≡ []
 
--- what came of a line or an entry: the session and the disk stand for what is written of them, of the calls that were told
+-- what came of a line or an entry: the session and the disk stand for what is written of them, of
+-- the calls that were told
 -- these are left, and the bytes and notes are those that are left behind
-pub record Comes (t : Seen) (told : Option (List (List ℕ))) (out : Left) (w : Written) (rest : List Bool) : Type 0 where
+pub record Comes (t : Seen) (told : Option (List (List ℕ))) (out : Left) (w : Written)
+    (rest : List Bool) : Type 0 where
   pub stands : StandsFor t told w.session
   pub left : w.io ≡ rest
   pub bytes : out.bytes ≡ w.bytes
   pub notes : out.notes ≡ w.notes
 
--- The session went on by this line, which took the disk from the one to the other and left `out` behind. Whatever calls
+-- The session went on by this line, which took the disk from the one to the other and left `out`
+-- behind. Whatever calls
 -- behind its own would do, the line comes to this, and leaves those.
-pub record RunsLine (c : Place) (text : List ℕ) (s t : Seen) (d e : DiskSeen) (out : Left) : Type 0 where
+pub record RunsLine (c : Place) (text : List ℕ) (s t : Seen) (d e : DiskSeen)
+    (out : Left) : Type 0 where
   -- which of its calls of the disk failed
   pub io : List Bool
   pub made : Made d.faults e.faults d.plan e.plan io
   pub comes : (a : Session) (rest : List Bool) → StandsFor s d.told a →
       Comes t e.told out (line_run c a text (io ++ rest)) rest
 
--- The session went on by this entry, which took the disk from the one to the other and left `out` behind. Whatever calls
+-- The session went on by this entry, which took the disk from the one to the other and left `out`
+-- behind. Whatever calls
 -- behind its own would do, the entry comes to this, and leaves those.
-pub record RunsEntry (c : Place) (entry : Entry) (s t : Seen) (d e : DiskSeen) (out : Left) : Type 0 where
+pub record RunsEntry (c : Place) (entry : Entry) (s t : Seen) (d e : DiskSeen)
+    (out : Left) : Type 0 where
   -- which of its calls of the disk failed
   pub io : List Bool
   pub made : Made d.faults e.faults d.plan e.plan io
@@ -129,7 +140,8 @@ pub record LoadsFree (s : Seen) (e : Entry) : Type 0 where
   pub in_range : slot < 32
   pub free : is_some (s.placed.images slot) ≡ false
 
--- The line is run, its words are right, and its image goes to a slot that is in range and free. Only such a line wants
+-- The line is run, its words are right, and its image goes to a slot that is in range and free.
+-- Only such a line wants
 -- memory.
 pub record WantsMemory (a : Session) (text : List ℕ) : Type 0 where
   pub going : a.refused ≡ false
@@ -143,13 +155,15 @@ pub record WantsMemory (a : Session) (text : List ℕ) : Type 0 where
 
 -- so it is in whichever session this one stands for
 abbrev pub WantsAt : Seen → List ℕ → Type 0
-WantsAt s text = (told : Option (List (List ℕ))) (a : Session) → StandsFor s told a → WantsMemory a text
+WantsAt s text = (told : Option (List (List ℕ))) (a : Session) → StandsFor s told a →
+    WantsMemory a text
 
 -- from whichever of these sessions
 abbrev pub Whenever : Place → (Session → Type 0) → (Place → Session → Type 0) → Type 0
 Whenever c from holds = (a : Session) → from a → holds c a
 
--- These bytes were fed to a session and to the line that was being read. The sink took what they write.
+-- These bytes were fed to a session and to the line that was being read. The sink took what they
+-- write.
 pub record Feeds (c : Place) (s t : Seen) (line line_new bytes : List ℕ)
     (got got_new : Option (List ℕ)) (d e : DiskSeen) : Type 0 where
   pub ios : List (List Bool)
@@ -157,12 +171,14 @@ pub record Feeds (c : Place) (s t : Seen) (line line_new bytes : List ℕ)
   pub calls : MadeAll d e ios
   pub line_is : line_new ≡ rest_after line bytes
   pub lines : t.lines ≤ s.lines + length bytes
-  pub stands : Whenever c (StandsFor s d.told) (λ c a. StandsFor t e.told (lines_run c a (lines_after line bytes) ios))
+  pub stands : Whenever c (StandsFor s d.told)
+      (λ c a. StandsFor t e.told (lines_run c a (lines_after line bytes) ios))
   pub used : Whenever c (StandsFor s d.told) (λ c a. UsesAll c a (lines_after line bytes) ios)
   pub appended : Whenever c (StandsFor s d.told)
       (λ c a. Appends got got_new (concat (pieces_run c a (lines_after line bytes) ios)))
 
--- Of these lines some were run, and of what the next one writes the sink took a part, not whole. The disk is as that line
+-- Of these lines some were run, and of what the next one writes the sink took a part, not whole.
+-- The disk is as that line
 -- leaves it.
 pub record CutsShort (c : Place) (from : Session → Type 0) (lines : List (List ℕ))
     (got got_new : Option (List ℕ)) (d e : DiskSeen) : Type 0 where
@@ -178,9 +194,12 @@ pub record CutsShort (c : Place) (from : Session → Type 0) (lines : List (List
   pub more : List ℕ
   pub lacks : 0 < length more
   pub used : Whenever c from (λ c a. UsesAll c a done ios × Uses c (lines_run c a done ios) next io)
-  pub bytes : Whenever c from (λ c a. (line_run c (lines_run c a done ios) next io).bytes ≡ part ++ more)
-  pub appended : Whenever c from (λ c a. Appends got got_new (concat (pieces_run c a done ios) ++ part))
-  pub blocks : Whenever c from (λ c a. Tells e.told (line_run c (lines_run c a done ios) next io).session.blocks)
+  pub bytes : Whenever c from (λ c a. (line_run c (lines_run c a done ios) next io).bytes ≡ part
+      ++ more)
+  pub appended : Whenever c from
+      (λ c a. Appends got got_new (concat (pieces_run c a done ios) ++ part))
+  pub blocks : Whenever c from
+      (λ c a. Tells e.told (line_run c (lines_run c a done ios) next io).session.blocks)
 
 -- Of these lines some were run. For the image of the next one there was no memory.
 pub record Lacks (c : Place) (from : Session → Type 0) (lines : List (List ℕ))
@@ -227,8 +246,10 @@ pub record IsFirst (size : ℕ) (told : Option (List (List ℕ))) (a : Session) 
 abbrev pub script_lines : List ℕ → List (List ℕ)
 script_lines taken = lines_after [] (take SCRIPT_BYTES taken)
 
--- The source gave some bytes, at most one more than a script may have, and reading ended somehow, or stopped behind a
--- refused line. Over the blocks that the disk told: each line makes the calls of its list, the status
+-- The source gave some bytes, at most one more than a script may have, and reading ended somehow,
+-- or stopped behind a
+-- refused line. Over the blocks that the disk told: each line makes the calls of its list, the
+-- status
 -- is that of the outcome, the sink took its bytes, and the disk tells its blocks.
 pub record Ran (c : Place) (rest rest_new : Option (List ℕ)) (before now : ℕ)
     (got got_new : Option (List ℕ)) (d e : DiskSeen) (status : ℕ) : Type 0 where
@@ -243,12 +264,15 @@ pub record Ran (c : Place) (rest rest_new : Option (List ℕ)) (before now : ℕ
       (λ c a. (lines_run c a (script_lines taken) ios).refused ≡ true)
       ⊎ HasEnded ending taken rest_new before now
   pub used : Whenever c (IsFirst c.size d.told) (λ c a. UsesAll c a (script_lines taken) ios)
-  pub status_is : Whenever c (IsFirst c.size d.told) (λ c a. status ≡ (outcome_at c a.blocks taken ending ios).status)
+  pub status_is : Whenever c (IsFirst c.size d.told)
+      (λ c a. status ≡ (outcome_at c a.blocks taken ending ios).status)
   pub appended : Whenever c (IsFirst c.size d.told)
       (λ c a. Appends got got_new (written (outcome_at c a.blocks taken ending ios)))
-  pub blocks : Whenever c (IsFirst c.size d.told) (λ c a. Tells e.told (outcome_at c a.blocks taken ending ios).blocks)
+  pub blocks : Whenever c (IsFirst c.size d.told)
+      (λ c a. Tells e.told (outcome_at c a.blocks taken ending ios).blocks)
 
--- The input has ended. Of what the outcome writes behind the lines of the script the sink took a part, not whole.
+-- The input has ended. Of what the outcome writes behind the lines of the script the sink took a
+-- part, not whole.
 pub record CutsLast (c : Place) (taken : List ℕ) (rest_new got got_new : Option (List ℕ))
     (d e : DiskSeen) : Type 0 where
   pub ended : (length taken ≤ SCRIPT_BYTES) × IsAtEnd rest_new
@@ -264,10 +288,12 @@ pub record CutsLast (c : Place) (taken : List ℕ) (rest_new got got_new : Optio
       ≡ (concat (pieces_run c a (script_lines taken) ios) ++ part) ++ more)
   pub appended : Whenever c (IsFirst c.size d.told)
       (λ c a. Appends got got_new (concat (pieces_run c a (script_lines taken) ios) ++ part))
-  pub blocks : Whenever c (IsFirst c.size d.told) (λ c a. Tells e.told (outcome_at c a.blocks taken End ios).blocks)
+  pub blocks : Whenever c (IsFirst c.size d.told)
+      (λ c a. Tells e.told (outcome_at c a.blocks taken End ios).blocks)
 
 -- The source gave some bytes, and what a line of them writes was cut short, or the last lines were.
-pub record Broke (c : Place) (rest rest_new got got_new : Option (List ℕ)) (d e : DiskSeen) : Type 0 where
+pub record Broke (c : Place) (rest rest_new got got_new : Option (List ℕ))
+    (d e : DiskSeen) : Type 0 where
   pub taken : List ℕ
   pub within : length taken ≤ SCRIPT_BYTES + 1
   pub consumed : Consumes rest rest_new taken
@@ -275,7 +301,8 @@ pub record Broke (c : Place) (rest rest_new got got_new : Option (List ℕ)) (d 
       ⊎ CutsLast c taken rest_new got got_new d e
 
 -- The source gave some bytes, and for one of their lines there was no memory.
-pub record Lacked (c : Place) (rest rest_new got got_new : Option (List ℕ)) (d e : DiskSeen) : Type 0 where
+pub record Lacked (c : Place) (rest rest_new got got_new : Option (List ℕ))
+    (d e : DiskSeen) : Type 0 where
   pub taken : List ℕ
   pub within : length taken ≤ SCRIPT_BYTES + 1
   pub consumed : Consumes rest rest_new taken

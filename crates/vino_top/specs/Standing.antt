@@ -47,7 +47,11 @@ seen_of s =
 
 -- the set-up
 abbrev pub setup_of : Setup → script.Setup
-setup_of u = record { frames = u.frames; patience = λ kind. slice_index_or u.patience kind 10; grant = u.grant }
+setup_of u = record {
+  frames = u.frames;
+  patience = λ kind. slice_index_or u.patience kind 10;
+  grant = u.grant;
+}
 
 -- ---- what that stands for
 
@@ -58,7 +62,8 @@ pub record HasKernel (x : Placed) (o : Option abstract.Kernel) : Type 0 where
   pub stands : kernels.StandsFor plain x kernel
   pub rests : IsAtRest plain kernel
 
--- What is seen of a session stands for an abstract one, whose blocks the disk tells: that has no kernel before `boot`, and after it
+-- What is seen of a session stands for an abstract one, whose blocks the disk tells: that has no
+-- kernel before `boot`, and after it
 -- one that rests, for which the kernel in place stands.
 pub record StandsFor (s : Seen) (told : Option (List (List ℕ))) (a : script.Session) : Type 0 where
   pub setup : a.setup ≡ setup_of s.setup

@@ -35,14 +35,18 @@ asked_number (Some n) = Demo n
 
 -- what two words ask: `demo` and a number, or a word and keys
 unfoldable pub asked_by_two : (word other : List ℕ) → Asked
-asked_by_two word other = cond (same_bytes word (codes "demo")) (asked_number (number_of other)) (asked_with word (keys_of other))
+asked_by_two word other =
+    cond (same_bytes word (codes "demo")) (asked_number (number_of other))
+    (asked_with word (keys_of other))
 
 -- what a word, keys and a path ask; the path isn't looked at
 unfoldable pub asked_by_three : (word keys : List ℕ) → Asked
 asked_by_three word keys = asked_over word (keys_of keys)
 
--- what the words of the command line ask: `run KEYS`, `run KEYS PATH`, `box KEYS`, `check KEYS`, `reseal KEYS`, `asm`,
--- `dis`, `lang` or `demo N`, keys being 64 hex digits of either case or twice 64 with a comma, and N a number as in scripts
+-- what the words of the command line ask: `run KEYS`, `run KEYS PATH`, `box KEYS`, `check KEYS`,
+-- `reseal KEYS`, `asm`,
+-- `dis`, `lang` or `demo N`, keys being 64 hex digits of either case or twice 64 with a comma, and
+-- N a number as in scripts
 abbrev pub asked_by : List (List ℕ) → Asked
 asked_by (word ∷ []) = asked_by_one word
 asked_by (word ∷ other ∷ []) = asked_by_two word other

@@ -30,7 +30,8 @@ const KEYS: Keys = Keys {
     second: None,
 };
 
-/// A run of the generated script: its session, what a line leaves behind, and what all lines came to.
+/// A run of the generated script: its session, what a line leaves behind, and what all lines came
+/// to.
 #[derive(Drop)]
 struct DemoRun<B: Policy> {
     session: Session<B>,
@@ -72,9 +73,11 @@ fn run_one<B: Policy, D: Disk>(
         (seen_of run.old.session)
         (seen_of run.new.session)
         (disk_seen (D.blocks disk.old) (D.plan disk.old) (D.faults disk.old))
-        (disk_seen (D.blocks disk.new) (D.plan disk.new) (D.faults disk.new)) run.old.tally run.new.tally) }
+        (disk_seen (D.blocks disk.new) (D.plan disk.new) (D.faults disk.new)) run.old.tally
+        run.new.tally) }
     ensures err { OnErr result (WantsAt (seen_of run.old.session) text.now) }
-    ensures same_disk { OnErr result (disk_seen (D.blocks disk.new) (D.plan disk.new) (D.faults disk.new)
+    ensures same_disk { OnErr result
+        (disk_seen (D.blocks disk.new) (D.plan disk.new) (D.faults disk.new)
         ≡ disk_seen (D.blocks disk.old) (D.plan disk.old) (D.faults disk.old)) }
 {
     run.session
@@ -154,7 +157,8 @@ fn run_demo<B: Policy, K: Sink, D: Disk>(
         (disk_seen (D.blocks disk.old) (D.plan disk.old) (D.faults disk.old))
         (disk_seen (D.blocks disk.new) (D.plan disk.new) (D.faults disk.new))
         (λ told. AppendsPart (K.got sink.old) (K.got sink.new) told) }
-    ensures memory { result ≡ 5 → Keeps (K.got sink.old) (K.got sink.new) × DemoLacked n (D.block_count disk.old)
+    ensures memory { result ≡ 5 → Keeps (K.got sink.old) (K.got sink.new)
+        × DemoLacked n (D.block_count disk.old)
         (disk_seen (D.blocks disk.old) (D.plan disk.old) (D.faults disk.old))
         (disk_seen (D.blocks disk.new) (D.plan disk.new) (D.faults disk.new)) }
     ensures statuses { (result ≡ 0) ⊎ (result ≡ 4) ⊎ (result ≡ 5) }
@@ -173,8 +177,8 @@ fn run_demo<B: Policy, K: Sink, D: Disk>(
     }
 }
 
-/// Runs the script of a number, over a new kernel with the stock policies, and tells of it in one line. The status: 0, 4 where
-/// the sink failed, 5 for want of memory.
+/// Runs the script of a number, over a new kernel with the stock policies, and tells of it in one
+/// line. The status: 0, 4 where the sink failed, 5 for want of memory.
 pub fn demo<B: Policy, K: Sink, D: Disk>(
     alloc: Global,
     n: u32,

@@ -1,6 +1,7 @@
 //! The top call: it does all that the program does.
 //!
-//! What it writes is said by the definitions of `kernel_model`. `docs/PROMISES.md` reads the clauses aloud.
+//! What it writes is said by the definitions of `kernel_model`. `docs/PROMISES.md` reads the
+//! clauses aloud.
 #![tactic(auto)]
 
 ghost use Rattle.std.specs.Prelude.{◌≡◌, ◌≢◌, ◌⊎◌, ◌≤◌, true, false, List, [], ℕ, String, Vec, map, string_bytes};
@@ -35,15 +36,17 @@ use vino_base::{Disk, Sink, Source};
 /// How many bytes are read at once, at most.
 const READ_BYTES: usize = 65_536;
 
-/// Does what the words ask. `run KEYS` runs the script that the source gives, whose images are sealed under these
-/// keys; `box KEYS` boxes and seals the raw image that it gives, `check KEYS` says whether a sealed image can be used,
-/// and `reseal KEYS` seals one anew under the last key; `asm`, `dis` and `lang` assemble, disassemble and
-/// compile what it gives; `demo N` runs the script that `demo_script` gives for N and tells of it in one
-/// line. For other words the usage line is written.
+/// Does what the words ask. `run KEYS` runs the script that the source gives, whose images are
+/// sealed under these keys; `box KEYS` boxes and seals the raw image that it gives, `check KEYS`
+/// says whether a sealed image can be used, and `reseal KEYS` seals one anew under the last key;
+/// `asm`, `dis` and `lang` assemble, disassemble and compile what it gives; `demo N` runs the
+/// script that `demo_script` gives for N and tells of it in one line. For other words the usage
+/// line is written.
 ///
-/// The words are those after the program's own name. The answer is the exit status: 0 for an input that
-/// was done to its end, 1 for words that aren't in the grammar, 2 for a refused line, 3 for a source and 4
-/// for a sink that failed, 5 for want of memory, 6 for an image that is refused, 7 for an input of more than 16,777,216 bytes.
+/// The words are those after the program's own name. The answer is the exit status: 0 for an input
+/// that was done to its end, 1 for words that aren't in the grammar, 2 for a refused line, 3 for a
+/// source and 4 for a sink that failed, 5 for want of memory, 6 for an image that is refused, 7 for
+/// an input of more than 16,777,216 bytes.
 pub fn vino<S: Source, K: Sink, D: Disk>(
     alloc: Global,
     words: &[String],
@@ -54,10 +57,13 @@ pub fn vino<S: Source, K: Sink, D: Disk>(
 ) -> u8
     // The shelf has the seven stock policies, with their parameters at boot.
     requires shelf { IsShelf (map ⟦<Box<dyn Policy> as Policy>⟧.seen shelf.items) }
-    requires stock { pol_of (map ⟦<Box<dyn Policy> as Policy>⟧.seen shelf.items) first_choice ≡ opening_policy }
+    requires stock { pol_of (map ⟦<Box<dyn Policy> as Policy>⟧.seen shelf.items) first_choice
+        ≡ opening_policy }
     // What is done for what the words ask: the status, the bytes read and written, and the disk.
-    ensures does { Does (asked_by (map (λ (w : _). string_bytes w) words.now)) (D.block_count disk.old)
-        (S.rest src.old) (S.rest src.new) (S.faults src.old) (S.faults src.new) (K.got out.old) (K.got out.new)
+    ensures does { Does (asked_by (map (λ (w : _). string_bytes w) words.now))
+        (D.block_count disk.old)
+        (S.rest src.old) (S.rest src.new) (S.faults src.old) (S.faults src.new) (K.got out.old)
+        (K.got out.new)
         (disk_seen (D.blocks disk.old) (D.plan disk.old) (D.faults disk.old))
         (disk_seen (D.blocks disk.new) (D.plan disk.new) (D.faults disk.new)) result }
     // No other status comes.
@@ -102,14 +108,16 @@ fn run_script<B: Policy, S: Source, K: Sink, D: Disk>(
         (S.rest src.new) (K.got out.old) (K.got out.new)
         (disk_seen (D.blocks disk.old) (D.plan disk.old) (D.faults disk.old))
         (disk_seen (D.blocks disk.new) (D.plan disk.new) (D.faults disk.new)) }
-    ensures memory { result ≡ 5 → Keeps (S.rest src.old) (S.rest src.new) × Keeps (K.got out.old) (K.got out.new)
+    ensures memory { result ≡ 5 → Keeps (S.rest src.old) (S.rest src.new)
+        × Keeps (K.got out.old) (K.got out.new)
         × (disk_seen (D.blocks disk.new) (D.plan disk.new) (D.faults disk.new)
         ≡ disk_seen (D.blocks disk.old) (D.plan disk.old) (D.faults disk.old))
         ⊎ Lacked (place keys.now (D.block_count disk.old)) (S.rest src.old) (S.rest src.new)
         (K.got out.old) (K.got out.new)
         (disk_seen (D.blocks disk.old) (D.plan disk.old) (D.faults disk.old))
         (disk_seen (D.blocks disk.new) (D.plan disk.new) (D.faults disk.new)) }
-    ensures statuses { (result ≡ 0) ⊎ (result ≡ 2) ⊎ (result ≡ 3) ⊎ (result ≡ 4) ⊎ (result ≡ 5) ⊎ (result ≡ 7) }
+    ensures statuses { (result ≡ 0) ⊎ (result ≡ 2) ⊎ (result ≡ 3) ⊎ (result ≡ 4) ⊎ (result ≡ 5)
+        ⊎ (result ≡ 7) }
     ensures source_later { S.faults src.old ≤ S.faults src.new }
     ensures sink_later { K.faults out.old ≤ K.faults out.new }
     ensures source_failed { result ≡ 3 → Rose (S.faults src.old) (S.faults src.new) }
@@ -155,14 +163,16 @@ fn start<B: Policy, S: Source, K: Sink, D: Disk>(
         (S.rest src.new) (K.got out.old) (K.got out.new)
         (disk_seen (D.blocks disk.old) (D.plan disk.old) (D.faults disk.old))
         (disk_seen (D.blocks disk.new) (D.plan disk.new) (D.faults disk.new)) }
-    ensures memory { result ≡ 5 → Keeps (S.rest src.old) (S.rest src.new) × Keeps (K.got out.old) (K.got out.new)
+    ensures memory { result ≡ 5 → Keeps (S.rest src.old) (S.rest src.new)
+        × Keeps (K.got out.old) (K.got out.new)
         × (disk_seen (D.blocks disk.new) (D.plan disk.new) (D.faults disk.new)
         ≡ disk_seen (D.blocks disk.old) (D.plan disk.old) (D.faults disk.old))
         ⊎ Lacked (place keys.now (D.block_count disk.old)) (S.rest src.old) (S.rest src.new)
         (K.got out.old) (K.got out.new)
         (disk_seen (D.blocks disk.old) (D.plan disk.old) (D.faults disk.old))
         (disk_seen (D.blocks disk.new) (D.plan disk.new) (D.faults disk.new)) }
-    ensures statuses { (result ≡ 0) ⊎ (result ≡ 2) ⊎ (result ≡ 3) ⊎ (result ≡ 4) ⊎ (result ≡ 5) ⊎ (result ≡ 7) }
+    ensures statuses { (result ≡ 0) ⊎ (result ≡ 2) ⊎ (result ≡ 3) ⊎ (result ≡ 4) ⊎ (result ≡ 5)
+        ⊎ (result ≡ 7) }
     ensures source_later { S.faults src.old ≤ S.faults src.new }
     ensures sink_later { K.faults out.old ≤ K.faults out.new }
     ensures source_failed { result ≡ 3 → Rose (S.faults src.old) (S.faults src.new) }

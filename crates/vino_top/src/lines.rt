@@ -15,7 +15,8 @@ use line_text::{Text, print_left, print_note, print_row};
 use std::alloc::Global;
 use std::marker::Model;
 
-/// Room for a line of at most 2,048 bytes for each of the 1,478 rows that there are at most, and one more.
+/// Room for a line of at most 2,048 bytes for each of the 1,478 rows that there are at most, and
+/// one more.
 const LINES_BYTES: usize = 3_028_992;
 
 /// The bytes that are written at once. Contracts see their list. Memory is taken once.
@@ -83,7 +84,8 @@ impl Lines {
     /// The line of process p's call, if it has one in flight.
     fn add_left_of<B: Policy>(&mut self, kernel: &Kernel<Plain, B>, p: u8, text: &mut Text)
         requires room { length self.old + 2048 ≤ 3028992 }
-        ensures value { self.new ≡ self.old ++ placed_left_line p ((placed_of stage_of kernel.now.running).call p) }
+        ensures value { self.new ≡ self.old
+            ++ placed_left_line p ((placed_of stage_of kernel.now.running).call p) }
         ensures fits { length self.new ≤ length self.old + 2048 }
     {
         if let Some(number) = kernel.left(p) {

@@ -74,8 +74,10 @@ pub fn zeros(alloc: Global, n: usize) -> Result<Vec<u8>, NoMemory>
 fn write_lines<B: Policy, K: Sink>(reader: &Reader<B>, out: &mut K) -> Result<(), Stop>
     ensures later { K.faults out.old ≤ K.faults out.new }
     ensures sink_failed { result ≡ Err SinkFailed → Rose (K.faults out.old) (K.faults out.new) }
-    ensures contents { MatchResult result (λ _. Appends (K.got out.old) (K.got out.new) reader.now.out.lines)
-        (λ stop. (stop ≡ SinkFailed) × AppendsPart (K.got out.old) (K.got out.new) reader.now.out.lines) }
+    ensures contents { MatchResult result
+        (λ _. Appends (K.got out.old) (K.got out.new) reader.now.out.lines)
+        (λ stop. (stop ≡ SinkFailed)
+        × AppendsPart (K.got out.old) (K.got out.new) reader.now.out.lines) }
 {
     match write_all(out, reader.out.lines.as_slice()) {
         Ok(()) => Ok(()),
@@ -129,7 +131,8 @@ fn end_line<B: Policy, K: Sink, D: Disk>(
 fn end_long<B: Policy, K: Sink>(reader: &mut Reader<B>, byte: u8, out: &mut K) -> Result<(), Stop>
     requires lines { reader.old.session.lines < 2 ^ 32 - 2 }
     requires long { length reader.old.line ≡ LINE_BYTES }
-    ensures within { (size : ℕ) → IsSessionWithin size reader.old.session → IsSessionWithin size reader.new.session }
+    ensures within { (size : ℕ) → IsSessionWithin size reader.old.session →
+        IsSessionWithin size reader.new.session }
     ensures line { OnOk result (reader.new.line ≡ []) }
     ensures contents { (c : Place) (d : DiskSeen) → MatchResult result
         (λ _. TakesLine c (reader.old.line ++ byte ∷ []) (seen_of reader.old.session)
@@ -220,7 +223,8 @@ fn feed<B: Policy, K: Sink, D: Disk>(
 /// Writes the last lines of a run, which ends with this status.
 fn write_last<B: Policy, K: Sink>(reader: &Reader<B>, status: u8, out: &mut K) -> u8
     requires { (status ≡ 0) ⊎ (status ≡ 2) }
-    ensures done { result ≢ 4 → (result ≡ status) × Appends (K.got out.old) (K.got out.new) reader.now.out.lines }
+    ensures done { result ≢ 4 → (result ≡ status)
+        × Appends (K.got out.old) (K.got out.new) reader.now.out.lines }
     ensures broken { result ≡ 4 → AppendsPart (K.got out.old) (K.got out.new) reader.now.out.lines }
     ensures statuses { (result ≡ 0) ⊎ (result ≡ 2) ⊎ (result ≡ 4) }
     ensures later { K.faults out.old ≤ K.faults out.new }
@@ -232,7 +236,8 @@ fn write_last<B: Policy, K: Sink>(reader: &Reader<B>, status: u8, out: &mut K) -
     }
 }
 
-/// The input has ended: bytes behind the last newline are refused, and else a line is written for each call that is left.
+/// The input has ended: bytes behind the last newline are refused, and else a line is written for
+/// each call that is left.
 fn finish<B: Policy, K: Sink>(reader: &mut Reader<B>, out: &mut K) -> u8
     requires lines { reader.old.session.lines < 2 ^ 32 - 2 }
     requires within { (size : ℕ) × IsSessionWithin size reader.old.session }
@@ -263,7 +268,8 @@ fn status_of(stop: Stop) -> u8
     }
 }
 
-/// Runs the script that the source gives, to its end or to the first thing that stops it. The status.
+/// Runs the script that the source gives, to its end or to the first thing that stops it. The
+/// status.
 pub fn run<B: Policy, S: Source, K: Sink, D: Disk>(
     alloc: Global,
     keys: &Keys,
@@ -290,7 +296,8 @@ pub fn run<B: Policy, S: Source, K: Sink, D: Disk>(
         (S.rest src.new) (K.got out.old) (K.got out.new)
         (disk_seen (D.blocks disk.old) (D.plan disk.old) (D.faults disk.old))
         (disk_seen (D.blocks disk.new) (D.plan disk.new) (D.faults disk.new)) }
-    ensures statuses { (result ≡ 0) ⊎ (result ≡ 2) ⊎ (result ≡ 3) ⊎ (result ≡ 4) ⊎ (result ≡ 5) ⊎ (result ≡ 7) }
+    ensures statuses { (result ≡ 0) ⊎ (result ≡ 2) ⊎ (result ≡ 3) ⊎ (result ≡ 4) ⊎ (result ≡ 5)
+        ⊎ (result ≡ 7) }
     ensures source_failed { result ≡ 3 → Rose (S.faults src.old) (S.faults src.new) }
     ensures source_later { S.faults src.old ≤ S.faults src.new }
     ensures sink_later { K.faults out.old ≤ K.faults out.new }

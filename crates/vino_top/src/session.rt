@@ -38,7 +38,8 @@ use script_text::{Entry, ImageBytes, ScriptFault, parse_line};
 use std::alloc::Global;
 use vino_base::Disk;
 
-/// What a line leaves behind: the notes of its event, and the bytes that are written. Memory is taken once, before the first line.
+/// What a line leaves behind: the notes of its event, and the bytes that are written. Memory is
+/// taken once, before the first line.
 #[derive(Drop)]
 pub struct Buffers {
     pub notes: Notes,
@@ -113,10 +114,11 @@ impl<B: Policy> Session<B> {
         }
     }
 
-    /// Runs the next line, under the keys of the images and over a disk of so many blocks. What it writes stands in the
-    /// buffers.
+    /// Runs the next line, under the keys of the images and over a disk of so many blocks. What it
+    /// writes stands in the buffers.
     ///
-    /// Memory is wanted for an image whose slot is in range and free, and for nothing else; where there is none, nothing changes.
+    /// Memory is wanted for an image whose slot is in range and free, and for nothing else; where
+    /// there is none, nothing changes.
     pub fn run_line<D: Disk>(
         &mut self,
         alloc: Global,
@@ -135,7 +137,8 @@ impl<B: Policy> Session<B> {
         ensures same_size { D.block_count disk.new ≡ size }
         ensures ok { OnOk result (RunsLine (place keys.now size) text.now (seen_of self.old)
             (seen_of self.new) (disk_seen (D.blocks disk.old) (D.plan disk.old) (D.faults disk.old))
-            (disk_seen (D.blocks disk.new) (D.plan disk.new) (D.faults disk.new)) (left_in out.new)) }
+            (disk_seen (D.blocks disk.new) (D.plan disk.new) (D.faults disk.new))
+            (left_in out.new)) }
         ensures err { OnErr result ((self.new ≡ self.old) × WantsAt (seen_of self.old) text.now) }
         ensures same_disk { OnErr result (disk_seen (D.blocks disk.new) (D.plan disk.new)
             (D.faults disk.new) ≡ disk_seen (D.blocks disk.old) (D.plan disk.old)
@@ -165,7 +168,8 @@ impl<B: Policy> Session<B> {
     /// Takes a line that is longer than a line may be.
     pub fn refuse_long(&mut self, out: &mut Buffers)
         requires room { self.old.lines < 2 ^ 32 - 2 }
-        ensures within { (size : ℕ) → IsSessionWithin size self.old → IsSessionWithin size self.new }
+        ensures within { (size : ℕ) → IsSessionWithin size self.old →
+            IsSessionWithin size self.new }
         ensures counted { self.new.lines ≤ self.old.lines + 1 }
         ensures runs { (c : Place) (text : List ℕ) (d : DiskSeen) → 65536 < length text →
             RunsLine c text (seen_of self.old) (seen_of self.new) d d (left_in out.new) }
@@ -183,14 +187,16 @@ impl<B: Policy> Session<B> {
         requires empty { out.old.lines ≡ [] }
         ensures state { self.new ≡ record self.old { refused = true } }
         ensures notes { out.new.notes ≡ out.old.notes }
-        ensures text { out.new.lines ≡ line (codes "script" ++ spaced self.old.lines ++ codes " S" ++ decimal code) }
+        ensures text { out.new.lines
+            ≡ line (codes "script" ++ spaced self.old.lines ++ codes " S" ++ decimal code) }
     {
         self.refused = true;
         print_fault(self.lines, code, &mut out.text);
         out.lines.add(&out.text);
     }
 
-    /// Runs an entry of the line that was counted. Only an image wants memory; where there is none, nothing changes.
+    /// Runs an entry of the line that was counted. Only an image wants memory; where there is none,
+    /// nothing changes.
     fn run_entry<D: Disk>(
         &mut self,
         alloc: Global,
@@ -214,8 +220,10 @@ impl<B: Policy> Session<B> {
         ensures runs { OnOk result (RunsEntry (place keys.now size) (entry_seen entry.now)
             (seen_of self.old) (seen_of self.new)
             (disk_seen (D.blocks disk.old) (D.plan disk.old) (D.faults disk.old))
-            (disk_seen (D.blocks disk.new) (D.plan disk.new) (D.faults disk.new)) (left_in out.new)) }
-        ensures err { OnErr result ((self.new ≡ self.old) × LoadsFree (seen_of self.old) (entry_seen entry.now)) }
+            (disk_seen (D.blocks disk.new) (D.plan disk.new) (D.faults disk.new))
+            (left_in out.new)) }
+        ensures err { OnErr result ((self.new ≡ self.old)
+            × LoadsFree (seen_of self.old) (entry_seen entry.now)) }
         ensures same_disk { OnErr result (disk_seen (D.blocks disk.new) (D.plan disk.new)
             (D.faults disk.new) ≡ disk_seen (D.blocks disk.old) (D.plan disk.old)
             (D.faults disk.old)) }
@@ -271,8 +279,8 @@ impl<B: Policy> Session<B> {
         out.lines.add(&out.text);
     }
 
-    /// An image for a slot of the kernel. Memory is taken only where the slot is in range and free; without it nothing
-    /// changes.
+    /// An image for a slot of the kernel. Memory is taken only where the slot is in range and free;
+    /// without it nothing changes.
     fn add_image(
         &mut self,
         alloc: Global,
@@ -305,8 +313,8 @@ impl<B: Policy> Session<B> {
         }
     }
 
-    /// The line of an image, as an event: the bytes are loaded under the keys into a slot that is free. Where there is no
-    /// memory for them or for the image, nothing changes.
+    /// The line of an image, as an event: the bytes are loaded under the keys into a slot that is
+    /// free. Where there is no memory for them or for the image, nothing changes.
     fn image(
         &mut self,
         alloc: Global,
@@ -320,12 +328,14 @@ impl<B: Policy> Session<B> {
         requires within { (size : ℕ) × IsSessionWithin size self.old }
         requires no_notes { out.old.notes ≡ [] }
         requires empty { out.old.lines ≡ [] }
-        ensures within { (size : ℕ) → IsSessionWithin size self.old → IsSessionWithin size self.new }
+        ensures within { (size : ℕ) → IsSessionWithin size self.old →
+            IsSessionWithin size self.new }
         ensures counted { self.new.lines ≡ self.old.lines }
         ensures runs { OnOk result ((size : ℕ) (d : DiskSeen) →
             RunsEntry (place keys.now size) (Loads slot bytes.now) (seen_of self.old)
             (seen_of self.new) d d (left_in out.new)) }
-        ensures err { OnErr result ((self.new ≡ self.old) × LoadsFree (seen_of self.old) (Loads slot bytes.now)) }
+        ensures err { OnErr result ((self.new ≡ self.old)
+            × LoadsFree (seen_of self.old) (Loads slot bytes.now)) }
     {
         if !self.booted {
             return Ok(());
@@ -380,7 +390,8 @@ impl<B: Policy> Session<B> {
         requires no_notes { out.old.notes ≡ [] }
         requires empty { out.old.lines ≡ [] }
         requires within { (size : ℕ) × IsSessionWithin size self.old }
-        ensures within { (size : ℕ) → IsSessionWithin size self.old → IsSessionWithin size self.new }
+        ensures within { (size : ℕ) → IsSessionWithin size self.old →
+            IsSessionWithin size self.new }
         ensures counted { self.new.lines ≡ self.old.lines }
         ensures runs { (c : Place) (d : DiskSeen) →
             RunsEntry c Raw (seen_of self.old) (seen_of self.new) d d (left_in out.new) }
@@ -443,7 +454,8 @@ fn say_boot(note: BootNote, text: &mut Text)
 /// A call waits for a kind of object for so many ticks.
 fn set_patience(patience: &mut [u32], kind: u8, ticks: u32)
     requires { kind < length patience.old }
-    ensures value { (λ k. slice_index_or patience.new k 10) ≡ at kind ticks (λ k. slice_index_or patience.old k 10) }
+    ensures value { (λ k. slice_index_or patience.new k 10)
+        ≡ at kind ticks (λ k. slice_index_or patience.old k 10) }
 {
     patience[kind as usize] = ticks;
 }

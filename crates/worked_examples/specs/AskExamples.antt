@@ -25,7 +25,8 @@ asks_victim = image (instr Call 0 0 0 14 ∷ instr Ret 0 0 0 0 ∷ []) []
 -- asks for a frame to evict, sets cell 0 to it, and answers what it was given
 abbrev pub notes_victim : Result Image LoadFault
 notes_victim =
-    image (instr Mov 8 0 0 0 ∷ instr Call 0 0 0 14 ∷ instr Mov 1 0 0 0 ∷ instr Li 0 0 0 0 ∷ instr Call 0 0 0 1
+    image (instr Mov 8 0 0 0 ∷ instr Call 0 0 0 14 ∷ instr Mov 1 0 0 0 ∷ instr Li 0 0 0 0
+    ∷ instr Call 0 0 0 1
     ∷ instr Mov 0 8 0 0 ∷ instr Ret 0 0 0 0 ∷ []) []
 
 -- answers r2 - 1 + r1: where it is asked with three frames, and no block is to come, frame 2
@@ -39,7 +40,8 @@ as_given = image (instr Ret 0 0 0 0 ∷ []) []
 -- takes the locks 3 and 4
 abbrev pub two_locks : Result Image LoadFault
 two_locks =
-    image (instr Li 0 0 0 3 ∷ instr Call 0 0 0 12 ∷ instr Li 0 0 0 4 ∷ instr Call 0 0 0 12 ∷ instr Ret 0 0 0 0 ∷ []) []
+    image (instr Li 0 0 0 3 ∷ instr Call 0 0 0 12 ∷ instr Li 0 0 0 4 ∷ instr Call 0 0 0 12
+    ∷ instr Ret 0 0 0 0 ∷ []) []
 
 -- A graft that asks its own point is dropped: its point is asked already.
 pub own_point_is_refused :
@@ -72,7 +74,8 @@ pub own_point_is_refused :
 unfolding digits same_object entries entry_row is_usable sample_directory sample_block
 own_point_is_refused = refl
 
--- Four levels are the most: the fourth asks a point where a graft stands, and is dropped alone. The three outside it go on
+-- Four levels are the most: the fourth asks a point where a graft stands, and is dropped alone. The
+-- three outside it go on
 -- with the default answer, and complete.
 pub fifth_level_is_too_deep :
     given_run [] (
@@ -84,7 +87,8 @@ pub fifth_level_is_too_deep :
     ∷ ImageLine 4 as_given
     ∷ Lines (lines_of (
     codes "open 0 alpha" ∷ codes "open 0 alpha" ∷ codes "open 0 alpha" ∷ codes "open 0 alpha"
-    ∷ codes "install 0 0 0 10" ∷ codes "install 0 1 1 10" ∷ codes "install 0 2 2 10" ∷ codes "install 0 3 3 10"
+    ∷ codes "install 0 0 0 10" ∷ codes "install 0 1 1 10" ∷ codes "install 0 2 2 10"
+    ∷ codes "install 0 3 3 10"
     ∷ codes "install 0 4 4 10"
     ∷ codes "bill 0 0" ∷ codes "bill 0 1" ∷ codes "bill 0 2" ∷ codes "bill 0 3" ∷ codes "bill 0 4"
     ∷ codes "read 0 0 0 0 1"
@@ -95,7 +99,8 @@ pub fifth_level_is_too_deep :
       0,
       lines_of (
           codes "0 boot 8 64 3"
-          ∷ codes "1 ok 3 0" ∷ codes "2 ok 3 0" ∷ codes "3 ok 3 0" ∷ codes "4 ok 2 0" ∷ codes "5 ok 1 0"
+          ∷ codes "1 ok 3 0" ∷ codes "2 ok 3 0" ∷ codes "3 ok 3 0" ∷ codes "4 ok 2 0"
+          ∷ codes "5 ok 1 0"
           ∷ codes "6 ok 0" ∷ codes "7 ok 1" ∷ codes "8 ok 2" ∷ codes "9 ok 3"
           ∷ codes "10 ok" ∷ codes "11 ok" ∷ codes "12 ok" ∷ codes "13 ok" ∷ codes "14 ok"
           ∷ codes "15 ok" ∷ codes "16 ok" ∷ codes "17 ok" ∷ codes "18 ok" ∷ codes "19 ok"
@@ -154,7 +159,8 @@ pub spent_locks_drop_the_graft :
 unfolding digits same_object entries entry_row is_usable sample_directory sample_block
 spent_locks_drop_the_graft = refl
 
--- Who asks for a frame to evict gets the one of its own frames that was used longest ago: after reads of the blocks 0, 1 and 0
+-- Who asks for a frame to evict gets the one of its own frames that was used longest ago: after
+-- reads of the blocks 0, 1 and 0
 -- that is frame 1. Without a frame the ask is refused.
 pub victim_is_the_oldest_frame :
     given_run [] (
@@ -208,7 +214,8 @@ pub victim_is_the_oldest_frame :
 unfolding digits same_object entries entry_row is_usable sample_directory sample_block
 victim_is_the_oldest_frame = refl
 
--- Where a graft stands at the eviction point, it is asked: with how many frames there are, and no block to come.
+-- Where a graft stands at the eviction point, it is asked: with how many frames there are, and no
+-- block to come.
 pub victim_of_a_nested_graft :
     given_run [] (
     Lines (codes "boot\n")

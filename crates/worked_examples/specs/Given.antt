@@ -1,4 +1,5 @@
--- Runs of scripts for worked examples: an image line may be given by what its bytes load to, so that no seal is computed.
+-- Runs of scripts for worked examples: an image line may be given by what its bytes load to, so
+-- that no seal is computed.
 use Rattle.std.specs.Prelude.{ℕ, suc, Bool, List, [], ◌∷◌, Option, None, Some, Result, Ok}
 use Rattle.kernel_model.specs.declared.Instr.{Instr}
 use Rattle.kernel_model.specs.declared.Keys.{Keys}
@@ -21,18 +22,21 @@ image code body = Ok (record { code = code; body = body })
 -- an image line after `boot`
 abbrev pub image_given : Session → ℕ → Result Image LoadFault → Option Kernel → List Bool → Written
 image_given s slot loaded None io = silent s io
-image_given s slot loaded (Some k) io = image_line_run (record s { lines = suc s.lines }) slot loaded k io
+image_given s slot loaded (Some k) io =
+    image_line_run (record s { lines = suc s.lines }) slot loaded k io
 
 -- keys under which no image is loaded here, since image lines are given by what they load
 abbrev pub no_keys : Keys
 no_keys = record { first = []; second = None }
 
 module _ (b : Build) (keys : Keys) where
-  -- what lines make of a session, where one list says of all their calls of the disk whether they fail
+  -- what lines make of a session, where one list says of all their calls of the disk whether they
+  -- fail
   abbrev pub run_lines : Session → List (List ℕ) → List Bool → Written
   run_lines s [] io = silent s io
   run_lines s (text ∷ texts) io =
-      let w = after_line b keys sample_disk.size s text io in and_then w (run_lines w.session texts w.io)
+      let w = after_line b keys sample_disk.size s text io in
+      and_then w (run_lines w.session texts w.io)
 
   -- what one of these makes of a session
   abbrev pub run_one : Session → Given → List Bool → Written

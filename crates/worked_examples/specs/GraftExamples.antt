@@ -18,11 +18,15 @@ use Rattle.worked_examples.specs.Given.{Given, Lines, ImageLine, image, no_keys,
 
 -- sets cell 0 to 7, then to 9, and divides by zero
 abbrev pub twice : Result Image LoadFault
-twice = image (instr Li 0 0 0 0 ∷ instr Li 1 0 0 7 ∷ instr Call 0 0 0 1 ∷ instr Li 0 0 0 0 ∷ instr Li 1 0 0 9 ∷ instr Call 0 0 0 1 ∷ instr Li 2 0 0 0 ∷ instr Divu 3 0 2 0 ∷ instr Ret 0 0 0 0 ∷ []) []
+twice = image (instr Li 0 0 0 0 ∷ instr Li 1 0 0 7 ∷ instr Call 0 0 0 1 ∷ instr Li 0 0 0 0
+    ∷ instr Li 1 0 0 9 ∷ instr Call 0 0 0 1 ∷ instr Li 2 0 0 0 ∷ instr Divu 3 0 2 0
+    ∷ instr Ret 0 0 0 0 ∷ []) []
 
 -- sets the parameter of reading ahead to 5, and divides by zero
 abbrev pub tuner : Result Image LoadFault
-tuner = image (instr Mov 8 0 0 0 ∷ instr Mov 9 1 0 0 ∷ instr Li 0 0 0 0 ∷ instr Li 1 0 0 0 ∷ instr Li 2 0 0 5 ∷ instr Call 0 0 0 11 ∷ instr Li 7 0 0 0 ∷ instr Divu 7 7 7 0 ∷ instr Ret 0 0 0 0 ∷ []) []
+tuner = image (instr Mov 8 0 0 0 ∷ instr Mov 9 1 0 0 ∷ instr Li 0 0 0 0 ∷ instr Li 1 0 0 0
+    ∷ instr Li 2 0 0 5 ∷ instr Call 0 0 0 11 ∷ instr Li 7 0 0 0 ∷ instr Divu 7 7 7 0
+    ∷ instr Ret 0 0 0 0 ∷ []) []
 
 -- answers at once what it was given
 abbrev pub at_once : Result Image LoadFault
@@ -30,7 +34,8 @@ at_once = image (instr Ret 0 0 0 0 ∷ []) []
 
 -- sets cell 0 to 8, and answers what it was given
 abbrev pub child : Result Image LoadFault
-child = image (instr Mov 8 0 0 0 ∷ instr Mov 9 1 0 0 ∷ instr Li 0 0 0 0 ∷ instr Li 1 0 0 8 ∷ instr Call 0 0 0 1 ∷ instr Mov 0 8 0 0 ∷ instr Mov 1 9 0 0 ∷ instr Ret 0 0 0 0 ∷ []) []
+child = image (instr Mov 8 0 0 0 ∷ instr Mov 9 1 0 0 ∷ instr Li 0 0 0 0 ∷ instr Li 1 0 0 8
+    ∷ instr Call 0 0 0 1 ∷ instr Mov 0 8 0 0 ∷ instr Mov 1 9 0 0 ∷ instr Ret 0 0 0 0 ∷ []) []
 
 -- asks its reading ahead of descriptor 0, and traps
 abbrev pub parent : Result Image LoadFault
@@ -38,23 +43,28 @@ parent = image (instr Li 0 0 0 0 ∷ instr Call 0 0 0 13 ∷ instr Trap 0 0 0 77
 
 -- sets cell 0 to 8, and traps
 abbrev pub trapping_child : Result Image LoadFault
-trapping_child = image (instr Li 0 0 0 0 ∷ instr Li 1 0 0 8 ∷ instr Call 0 0 0 1 ∷ instr Trap 0 0 0 9 ∷ []) []
+trapping_child =
+    image (instr Li 0 0 0 0 ∷ instr Li 1 0 0 8 ∷ instr Call 0 0 0 1 ∷ instr Trap 0 0 0 9 ∷ []) []
 
 -- sets cell 0 to 5, asks its reading ahead of descriptor 0, and answers what it was given
 abbrev pub setter : Result Image LoadFault
-setter = image (instr Mov 8 0 0 0 ∷ instr Li 0 0 0 0 ∷ instr Li 1 0 0 5 ∷ instr Call 0 0 0 1 ∷ instr Li 0 0 0 0 ∷ instr Call 0 0 0 13 ∷ instr Mov 0 8 0 0 ∷ instr Ret 0 0 0 0 ∷ []) []
+setter = image (instr Mov 8 0 0 0 ∷ instr Li 0 0 0 0 ∷ instr Li 1 0 0 5 ∷ instr Call 0 0 0 1
+    ∷ instr Li 0 0 0 0 ∷ instr Call 0 0 0 13 ∷ instr Mov 0 8 0 0 ∷ instr Ret 0 0 0 0 ∷ []) []
 
 -- reads cell 0, and divides by zero where that is 0
 abbrev pub reader : Result Image LoadFault
-reader = image (instr Li 0 0 0 0 ∷ instr Call 0 0 0 0 ∷ instr Jnz 0 0 0 4 ∷ instr Divu 0 0 0 0 ∷ instr Li 0 0 0 0 ∷ instr Li 1 0 0 0 ∷ instr Ret 0 0 0 0 ∷ []) []
+reader = image (instr Li 0 0 0 0 ∷ instr Call 0 0 0 0 ∷ instr Jnz 0 0 0 4 ∷ instr Divu 0 0 0 0
+    ∷ instr Li 0 0 0 0 ∷ instr Li 1 0 0 0 ∷ instr Ret 0 0 0 0 ∷ []) []
 
 -- asks its reading ahead of descriptor 0, and answers what it was given
 abbrev pub asker : Result Image LoadFault
-asker = image (instr Mov 8 0 0 0 ∷ instr Li 0 0 0 0 ∷ instr Call 0 0 0 13 ∷ instr Mov 0 8 0 0 ∷ instr Ret 0 0 0 0 ∷ []) []
+asker = image (instr Mov 8 0 0 0 ∷ instr Li 0 0 0 0 ∷ instr Call 0 0 0 13 ∷ instr Mov 0 8 0 0
+    ∷ instr Ret 0 0 0 0 ∷ []) []
 
 -- asks its reading ahead, and sets cell 0 to the count
 abbrev pub counter : Result Image LoadFault
-counter = image (instr Mov 8 0 0 0 ∷ instr Li 0 0 0 0 ∷ instr Call 0 0 0 13 ∷ instr Li 0 0 0 0 ∷ instr Call 0 0 0 1 ∷ instr Mov 0 8 0 0 ∷ instr Ret 0 0 0 0 ∷ []) []
+counter = image (instr Mov 8 0 0 0 ∷ instr Li 0 0 0 0 ∷ instr Call 0 0 0 13 ∷ instr Li 0 0 0 0
+    ∷ instr Call 0 0 0 1 ∷ instr Mov 0 8 0 0 ∷ instr Ret 0 0 0 0 ∷ []) []
 
 -- answers 2
 abbrev pub frame_2 : Result Image LoadFault
@@ -68,12 +78,14 @@ frame_3 = image (instr Li 0 0 0 3 ∷ instr Ret 0 0 0 0 ∷ []) []
 abbrev pub spinner : Result Image LoadFault
 spinner = image (instr Li 0 0 0 3 ∷ instr Call 0 0 0 12 ∷ instr Jmp 0 0 0 2 ∷ []) []
 
--- A cell that was changed twice is again what it was first; what the dropped graft was charged stays spent.
+-- A cell that was changed twice is again what it was first; what the dropped graft was charged
+-- stays spent.
 pub oldest_value_comes_back :
     given_run ([]) (
     Lines (codes "boot\n")
     ∷ ImageLine 0 twice
-    ∷ Lines (codes "spawn 0\ngive 0 1 steps 100\ngive 0 1 records 10\npoke 1 0 3\ninstall 1 5 0 100\nbill 1 5\nyield 0\nstep 0 6\nraw\nstep 0 6\npeek 1 0\nraw\n")
+    ∷ Lines (codes
+    "spawn 0\ngive 0 1 steps 100\ngive 0 1 records 10\npoke 1 0 3\ninstall 1 5 0 100\nbill 1 5\nyield 0\nstep 0 6\nraw\nstep 0 6\npeek 1 0\nraw\n")
     ∷ [])
     ≡ (0, codes "0 boot 8 64 3\n1 ok 9 0\n2 ok 1\n3 ok\n4 ok\n5 ok\n6 ok\n7 ok\n8 graft 1 5 1\n9 ran 6\n8 graft 1 5 1\n10 raw clock 0\n10 raw queue 1:20:0 0:20:0\n10 raw acct 0 999900 999990 1000000 0 0 0\n10 raw acct 1 94 8 0 6 2 0\n10 raw cells 0 0 0 0 0\n10 raw cells 1 9 0 0 0\n10 raw graft 1 5 0 100 1 0 0 0\n10 raw pol 0 1 2\n10 raw pol 1 0\n10 raw pol 2 0\n10 raw lru\n10 raw call 0 8 graft 1 5 1\n10 raw level 0 0 1 5 6\n10 raw undo 0 0 cell 1 0 7\n10 raw undo 0 0 cell 1 0 3\n8 drop 1 5 C1\n8 ok 1\n11 ran 2\n12 ok 3\n13 raw clock 0\n13 raw queue 1:20:1 0:20:0\n13 raw acct 0 999900 999990 1000000 0 0 0\n13 raw acct 1 92 8 0 8 2 0\n13 raw cells 0 0 0 0 0\n13 raw cells 1 3 0 0 0\n13 raw pol 0 1 2\n13 raw pol 1 0\n13 raw pol 2 0\n13 raw lru\n")
 unfolding digits same_object entries entry_row is_usable sample_directory sample_block
@@ -84,13 +96,15 @@ pub tuned_parameter_put_back :
     given_run ([]) (
     Lines (codes "boot\ntune 0 0 0 4\n")
     ∷ ImageLine 0 tuner
-    ∷ Lines (codes "open 0 alpha\ninstall 0 0 0 50\nbill 0 0\nread 0 0 0 0 1\nstep 0 6\nraw\nstep 0 2\nraw\n")
+    ∷ Lines (codes
+    "open 0 alpha\ninstall 0 0 0 50\nbill 0 0\nread 0 0 0 0 1\nstep 0 6\nraw\nstep 0 2\nraw\n")
     ∷ [])
     ≡ (0, codes "0 boot 8 64 3\n1 ok\n2 ok 9 0\n3 ok 0\n4 ok\n5 ok\n6 data 1f\n6 graft 0 0 1\n7 ran 6\n6 graft 0 0 1\n8 raw clock 0\n8 raw queue 0:20:0\n8 raw acct 0 999994 999999 1000000 6 1 0\n8 raw cells 0 0 0 0 0\n8 raw open 0 0 alpha 1 8 1 0 0\n8 raw graft 0 0 0 50 1 0 0 0\n8 raw pol 0 1 5\n8 raw pol 1 0\n8 raw pol 2 0\n8 raw lru 0:0:1:0:0\n8 raw call 0 6 graft 0 0 1\n8 raw level 0 0 0 0 6\n8 raw undo 0 0 tune 0 0 4\n6 drop 0 0 C1\n6 ok\n9 ran 2\n10 raw clock 0\n10 raw queue 0:20:0\n10 raw acct 0 999992 999999 1000000 8 1 0\n10 raw cells 0 0 0 0 0\n10 raw open 0 0 alpha 1 8 1 5 0\n10 raw pol 0 1 4\n10 raw pol 1 0\n10 raw pol 2 0\n10 raw lru 0:0:1:0:0 1:0:2:0:0 2:0:3:0:0 3:0:4:0:0 4:0:5:0:0\n")
 unfolding digits same_object entries entry_row is_usable sample_directory sample_block
 tuned_parameter_put_back = refl
 
--- A graft begins with nothing of its own, and is dropped at its first instruction, which isn't charged.
+-- A graft begins with nothing of its own, and is dropped at its first instruction, which isn't
+-- charged.
 pub unfunded_graft_is_dropped :
     given_run ([]) (
     Lines (codes "boot\n")
@@ -118,43 +132,50 @@ pub nested_completes_then_asker_traps :
     Lines (codes "boot\n")
     ∷ ImageLine 0 child
     ∷ ImageLine 1 parent
-    ∷ Lines (codes "spawn 0\nopen 1 alpha\ngive 0 1 steps 100\ngive 0 1 records 10\npoke 1 0 3\ninstall 1 0 0 50\nfund 1 0 steps 20\nfund 1 0 records 5\ninstall 1 5 1 50\nfund 1 5 steps 20\nyield 0\nstep 0 9\nraw\nstep 0 1\nraw\nstep 0 1\npeek 1 0\nraw\n")
+    ∷ Lines (codes
+    "spawn 0\nopen 1 alpha\ngive 0 1 steps 100\ngive 0 1 records 10\npoke 1 0 3\ninstall 1 0 0 50\nfund 1 0 steps 20\nfund 1 0 records 5\ninstall 1 5 1 50\nfund 1 5 steps 20\nyield 0\nstep 0 9\nraw\nstep 0 1\nraw\nstep 0 1\npeek 1 0\nraw\n")
     ∷ [])
     ≡ (0, codes "0 boot 8 64 3\n1 ok 8 0\n2 ok 3 0\n3 ok 1\n4 ok 0\n5 ok\n6 ok\n7 ok\n8 ok\n9 ok\n10 ok\n11 ok\n12 ok\n13 graft 1 5 1\n14 ran 9\n13 graft 1 0 2\n15 raw clock 0\n15 raw queue 1:20:0 0:20:0\n15 raw acct 0 999900 999990 1000000 0 0 0\n15 raw acct 1 60 5 0 9 1 0\n15 raw cells 0 0 0 0 0\n15 raw cells 1 8 0 0 0\n15 raw open 1 0 alpha 0 8 0 0 0\n15 raw graft 1 0 0 50 0 13 4 0\n15 raw graft 1 5 1 50 0 18 0 0\n15 raw pol 0 1 2\n15 raw pol 1 0\n15 raw pol 2 0\n15 raw lru\n15 raw call 0 13 graft 1 0 2\n15 raw level 0 0 1 5 2\n15 raw level 0 1 1 0 7\n15 raw undo 0 1 cell 1 0 3\n16 ran 1\n13 graft 1 5 1\n17 raw clock 0\n17 raw queue 1:20:0 0:20:0\n17 raw acct 0 999900 999990 1000000 0 0 0\n17 raw acct 1 60 5 0 10 1 0\n17 raw cells 0 0 0 0 0\n17 raw cells 1 8 0 0 0\n17 raw open 1 0 alpha 0 8 0 0 0\n17 raw graft 1 0 0 50 0 12 4 0\n17 raw graft 1 5 1 50 0 18 0 0\n17 raw pol 0 1 2\n17 raw pol 1 0\n17 raw pol 2 0\n17 raw lru\n17 raw call 0 13 graft 1 5 1\n17 raw level 0 0 1 5 2\n17 raw undo 0 0 cell 1 0 3\n13 drop 1 5 C2 77\n13 ok 1\n18 ran 1\n19 ok 3\n20 raw clock 0\n20 raw queue 1:20:1 0:20:0\n20 raw acct 0 999900 999990 1000000 0 0 0\n20 raw acct 1 77 5 0 11 1 0\n20 raw cells 0 0 0 0 0\n20 raw cells 1 3 0 0 0\n20 raw open 1 0 alpha 0 8 0 0 0\n20 raw graft 1 0 0 50 0 12 4 0\n20 raw pol 0 1 2\n20 raw pol 1 0\n20 raw pol 2 0\n20 raw lru\n")
 unfolding digits same_object entries entry_row is_usable sample_directory sample_block
 nested_completes_then_asker_traps = refl
 
--- What a nested level held is held on after its answer: another process waits for the cell until the asker ends.
+-- What a nested level held is held on after its answer: another process waits for the cell until
+-- the asker ends.
 pub nested_level_hands_on_what_it_holds :
     given_run ([]) (
     Lines (codes "boot\n")
     ∷ ImageLine 0 child
     ∷ ImageLine 1 parent
-    ∷ Lines (codes "spawn 0\nopen 1 alpha\ngive 0 1 steps 100\ngive 0 1 records 10\npoke 1 0 3\ninstall 1 0 0 50\nfund 1 0 steps 20\nfund 1 0 records 5\ninstall 1 5 1 50\nfund 1 5 steps 20\nyield 0\nstep 0 10\npoke 1 0 7\nstep 0 1\npeek 1 0\n")
+    ∷ Lines (codes
+    "spawn 0\nopen 1 alpha\ngive 0 1 steps 100\ngive 0 1 records 10\npoke 1 0 3\ninstall 1 0 0 50\nfund 1 0 steps 20\nfund 1 0 records 5\ninstall 1 5 1 50\nfund 1 5 steps 20\nyield 0\nstep 0 10\npoke 1 0 7\nstep 0 1\npeek 1 0\n")
     ∷ [])
     ≡ (0, codes "0 boot 8 64 3\n1 ok 8 0\n2 ok 3 0\n3 ok 1\n4 ok 0\n5 ok\n6 ok\n7 ok\n8 ok\n9 ok\n10 ok\n11 ok\n12 ok\n13 graft 1 5 1\n14 ran 10\n13 graft 1 5 1\n15 waits Cell(1,0) 0\n13 drop 1 5 C2 77\n13 ok 1\n15 ok\n16 ran 1\n17 ok 7\n")
 unfolding digits same_object entries entry_row is_usable sample_directory sample_block
 nested_level_hands_on_what_it_holds = refl
 
--- A dropped nested level's change is undone, and its asker's own is not: the asker goes on and commits it.
+-- A dropped nested level's change is undone, and its asker's own is not: the asker goes on and
+-- commits it.
 pub nested_drop_undoes_its_own_changes :
     given_run ([]) (
     Lines (codes "boot\n")
     ∷ ImageLine 0 trapping_child
     ∷ ImageLine 1 setter
-    ∷ Lines (codes "spawn 0\nopen 1 alpha\ngive 0 1 steps 100\ngive 0 1 records 10\npoke 1 0 3\ninstall 1 0 0 50\nbill 1 0\ninstall 1 5 1 50\nbill 1 5\nyield 0\nstep 0 9\nstep 0 1\nstep 0 2\npeek 1 0\n")
+    ∷ Lines (codes
+    "spawn 0\nopen 1 alpha\ngive 0 1 steps 100\ngive 0 1 records 10\npoke 1 0 3\ninstall 1 0 0 50\nbill 1 0\ninstall 1 5 1 50\nbill 1 5\nyield 0\nstep 0 9\nstep 0 1\nstep 0 2\npeek 1 0\n")
     ∷ [])
     ≡ (0, codes "0 boot 8 64 3\n1 ok 4 0\n2 ok 8 0\n3 ok 1\n4 ok 0\n5 ok\n6 ok\n7 ok\n8 ok\n9 ok\n10 ok\n11 ok\n12 graft 1 5 1\n13 ran 9\n12 graft 1 0 2\n12 drop 1 0 C2 9\n14 ran 1\n12 graft 1 5 1\n12 ok 1\n15 ran 2\n16 ok 5\n")
 unfolding digits same_object entries entry_row is_usable sample_directory sample_block
 nested_drop_undoes_its_own_changes = refl
 
--- A dropped nested level lets go of the cell that it read: the cell changes, and the level isn't run again.
+-- A dropped nested level lets go of the cell that it read: the cell changes, and the level isn't
+-- run again.
 pub dropped_level_lets_go_what_it_read :
     given_run ([]) (
     Lines (codes "boot\n")
     ∷ ImageLine 0 reader
     ∷ ImageLine 1 asker
-    ∷ Lines (codes "spawn 0\nopen 1 alpha\ngive 0 1 steps 100\ninstall 1 0 0 20\nbill 1 0\ninstall 1 5 1 20\nbill 1 5\nyield 0\nstep 0 7\npoke 1 0 7\nstep 0 2\nraw\n")
+    ∷ Lines (codes
+    "spawn 0\nopen 1 alpha\ngive 0 1 steps 100\ninstall 1 0 0 20\nbill 1 0\ninstall 1 5 1 20\nbill 1 5\nyield 0\nstep 0 7\npoke 1 0 7\nstep 0 2\nraw\n")
     ∷ [])
     ≡ (0, codes "0 boot 8 64 3\n1 ok 7 0\n2 ok 5 0\n3 ok 1\n4 ok 0\n5 ok\n6 ok\n7 ok\n8 ok\n9 ok\n10 graft 1 5 1\n10 drop 1 0 C1\n11 ran 7\n10 graft 1 5 1\n12 ok\n10 ok 1\n13 ran 2\n14 raw clock 0\n14 raw queue 1:20:1 0:20:0\n14 raw acct 0 999900 1000000 1000000 0 0 0\n14 raw acct 1 91 0 0 9 0 0\n14 raw cells 0 0 0 0 0\n14 raw cells 1 7 0 0 0\n14 raw open 1 0 alpha 0 8 0 0 0\n14 raw graft 1 5 1 20 1 0 0 0\n14 raw pol 0 1 2\n14 raw pol 1 0\n14 raw pol 2 0\n14 raw lru\n")
 unfolding digits same_object entries entry_row is_usable sample_directory sample_block
@@ -165,19 +186,22 @@ pub ask_without_a_graft :
     given_run ([]) (
     Lines (codes "boot\n")
     ∷ ImageLine 0 counter
-    ∷ Lines (codes "spawn 0\nopen 1 alpha\ngive 0 1 steps 50\ngive 0 1 records 50\nread 1 0 0 0 1\ninstall 1 5 0 10\nbill 1 5\nyield 0\nstep 0 9\npeek 1 0\nraw\n")
+    ∷ Lines (codes
+    "spawn 0\nopen 1 alpha\ngive 0 1 steps 50\ngive 0 1 records 50\nread 1 0 0 0 1\ninstall 1 5 0 10\nbill 1 5\nyield 0\nstep 0 9\npeek 1 0\nraw\n")
     ∷ [])
     ≡ (0, codes "0 boot 8 64 3\n1 ok 7 0\n2 ok 1\n3 ok 0\n4 ok\n5 ok\n6 data 1f\n6 ok\n7 ok\n8 ok\n9 graft 1 5 1\n9 ok 1\n10 ran 7\n11 ok 2\n12 raw clock 0\n12 raw queue 1:20:1 0:20:0\n12 raw acct 0 999950 999950 1000000 0 0 0\n12 raw acct 1 43 49 0 7 1 0\n12 raw cells 0 0 0 0 0\n12 raw cells 1 2 0 0 0\n12 raw open 1 0 alpha 1 8 1 3 0\n12 raw graft 1 5 0 10 1 0 0 0\n12 raw pol 0 1 2\n12 raw pol 1 0\n12 raw pol 2 0\n12 raw lru 0:1:1:0:0 1:1:2:0:0 2:1:3:0:0\n")
 unfolding digits same_object entries entry_row is_usable sample_directory sample_block
 ask_without_a_graft = refl
 
--- A refused answer drops the graft; an accepted victim changes places with the candidate in the order of use.
+-- A refused answer drops the graft; an accepted victim changes places with the candidate in the
+-- order of use.
 pub victim_of_another_owner :
     given_run ([]) (
     Lines (codes "frames 4\nboot\n")
     ∷ ImageLine 0 frame_2
     ∷ ImageLine 1 frame_3
-    ∷ Lines (codes "spawn 0\ndefault 0 0 0\nopen 0 alpha\nopen 1 beta\nread 1 0 0 0 1\nread 1 0 1 0 1\nread 0 0 0 0 1\nread 1 0 2 0 1\ngive 0 1 steps 100\ninstall 1 4 0 10\nbill 1 4\nread 0 0 1 0 1\nstep 0 2\ninstall 1 4 1 10\nbill 1 4\nread 0 0 2 0 1\nstep 0 2\nraw\n")
+    ∷ Lines (codes
+    "spawn 0\ndefault 0 0 0\nopen 0 alpha\nopen 1 beta\nread 1 0 0 0 1\nread 1 0 1 0 1\nread 0 0 0 0 1\nread 1 0 2 0 1\ngive 0 1 steps 100\ninstall 1 4 0 10\nbill 1 4\nread 0 0 1 0 1\nstep 0 2\ninstall 1 4 1 10\nbill 1 4\nread 0 0 2 0 1\nstep 0 2\nraw\n")
     ∷ [])
     ≡ (0, codes "0 boot 4 64 3\n1 ok 2 0\n2 ok 2 0\n3 ok 1\n4 ok\n5 ok 0\n6 ok 0\n7 data 17\n7 ok\n8 data 36\n8 ok\n9 data 1f\n9 ok\n10 data 55\n10 ok\n11 ok\n12 ok\n13 ok\n14 graft 1 4 1\n14 drop 1 4 C12 2 2\n14 data 3e\n14 ok\n15 ran 2\n16 ok\n17 ok\n18 graft 1 4 1\n18 data 5d\n18 ok\n19 ran 2\n20 raw clock 0\n20 raw queue 0:20:0 1:20:0\n20 raw acct 0 999900 1000000 1000000 0 0 0\n20 raw acct 1 96 0 0 4 0 0\n20 raw cells 0 0 0 0 0\n20 raw cells 1 0 0 0 0\n20 raw open 0 0 alpha 3 8 1 3 0\n20 raw open 1 0 beta 3 8 1 3 0\n20 raw graft 1 4 1 10 1 0 0 0\n20 raw pol 0 0\n20 raw pol 1 0\n20 raw pol 2 0\n20 raw lru 2:0:1:0:0 1:1:10:0:0 0:0:2:0:0 3:0:3:0:0\n")
 unfolding digits same_object entries entry_row is_usable sample_directory sample_block
@@ -206,17 +230,21 @@ cell_in s = s.things.cell 1 0
 abbrev pub at_level_0 : Cut
 at_level_0 p = cond (p == 0) (Some 0) None
 
--- that cell in the store in place, in that store once process 0's call is undone, and in the store below the cut
+-- that cell in the store in place, in that store once process 0's call is undone, and in the store
+-- below the cut
 abbrev pub cells_of : Option Kernel → List ℕ
 cells_of None = []
-cells_of (Some k) = cell_in (in_place plain k) ∷ cell_in (undone plain k at_level_0 (0 ∷ [])) ∷ cell_in (store_below plain k at_level_0) ∷ []
+cells_of (Some k) = cell_in (in_place plain k) ∷ cell_in (undone plain k at_level_0 (0 ∷ []))
+    ∷ cell_in (store_below plain k at_level_0) ∷ []
 
--- Two records of one cell are undone newest first: the store in place has 9, and undone, or below the cut, 3.
+-- Two records of one cell are undone newest first: the store in place has 9, and undone, or below
+-- the cut, 3.
 pub undone_newest_first :
     cells_of (kernel_after (
     Lines (codes "boot\n")
     ∷ ImageLine 0 twice
-    ∷ Lines (codes "spawn 0\ngive 0 1 steps 100\ngive 0 1 records 10\npoke 1 0 3\ninstall 1 5 0 100\nbill 1 5\nyield 0\nstep 0 6\n")
+    ∷ Lines (codes
+    "spawn 0\ngive 0 1 steps 100\ngive 0 1 records 10\npoke 1 0 3\ninstall 1 5 0 100\nbill 1 5\nyield 0\nstep 0 6\n")
     ∷ []))
     ≡ 9 ∷ 3 ∷ 3 ∷ []
 unfolding digits same_object
@@ -226,20 +254,23 @@ undone_newest_first = refl
 abbrev pub cells_dropped : World → Option Config → List ℕ
 cells_dropped v None = []
 cells_dropped v (Some c) =
-    cell_in c.now ∷ cell_in (drop_level v c.now c.levels 1 TooDeep).config.now ∷ cell_in (drop_level v c.now c.levels 0 TooDeep).config.now ∷ []
+    cell_in c.now ∷ cell_in (drop_level v c.now c.levels 1 TooDeep).config.now
+    ∷ cell_in (drop_level v c.now c.levels 0 TooDeep).config.now ∷ []
 
 -- the same for process 0's call in a kernel
 abbrev pub cells_dropped_in : Option Kernel → List ℕ
 cells_dropped_in None = []
 cells_dropped_in (Some k) = cells_dropped k.world (config_of plain k 0)
 
--- A drop puts back what its level found, and no more: of 3, then 5 by level 0, then 8 by level 1, level 1's drop leaves 5.
+-- A drop puts back what its level found, and no more: of 3, then 5 by level 0, then 8 by level 1,
+-- level 1's drop leaves 5.
 pub each_drop_puts_back_its_own :
     cells_dropped_in (kernel_after (
     Lines (codes "boot\n")
     ∷ ImageLine 0 trapping_child
     ∷ ImageLine 1 setter
-    ∷ Lines (codes "spawn 0\nopen 1 alpha\ngive 0 1 steps 100\ngive 0 1 records 10\npoke 1 0 3\ninstall 1 0 0 50\nbill 1 0\ninstall 1 5 1 50\nbill 1 5\nyield 0\nstep 0 9\n")
+    ∷ Lines (codes
+    "spawn 0\nopen 1 alpha\ngive 0 1 steps 100\ngive 0 1 records 10\npoke 1 0 3\ninstall 1 0 0 50\nbill 1 0\ninstall 1 5 1 50\nbill 1 5\nyield 0\nstep 0 9\n")
     ∷ []))
     ≡ 8 ∷ 5 ∷ 3 ∷ []
 unfolding digits same_object entries entry_row is_usable sample_directory sample_block

@@ -1,4 +1,5 @@
--- Worked examples of runs: raw code with masked addresses, its boxed code on the segment alone and on flat memory do the same.
+-- Worked examples of runs: raw code with masked addresses, its boxed code on the segment alone and
+-- on flat memory do the same.
 use Rattle.std.specs.Prelude.{◌≡◌, ℕ, ◌+◌, ◌-◌, cond, nat_lt, List, [], ◌∷◌, ◌++◌, map, None, Some, Ok, refl}
 use Rattle.kernel_model.specs.declared.Instr.{Instr}
 use Rattle.kernel_model.specs.declared.Op.TheVariants.{Li, Mul, Addi, Ldw, Stw, Ldb, Stb, Jnz, Call, Ret}
@@ -10,8 +11,10 @@ use Rattle.kernel_model.specs.Boxed.{instr, rewrite, box_fault, boxed_code}
 abbrev pub raw_code : List Instr
 raw_code =
     instr Li 2 0 0 4294963205 ∷ instr Li 3 0 0 287454020 ∷ instr Li 5 0 0 3
-    ∷ instr Stw 3 2 0 0 ∷ instr Ldb 4 2 0 0 ∷ instr Mul 3 3 4 0 ∷ instr Addi 2 2 0 1021 ∷ instr Stb 3 2 0 0 ∷ instr Ldw 1 2 0 0
-    ∷ instr Addi 5 5 0 4294967295 ∷ instr Jnz 5 0 0 3 ∷ instr Call 0 0 0 13 ∷ instr Stw 1 0 0 0 ∷ instr Ret 0 0 0 0 ∷ []
+    ∷ instr Stw 3 2 0 0 ∷ instr Ldb 4 2 0 0 ∷ instr Mul 3 3 4 0 ∷ instr Addi 2 2 0 1021
+    ∷ instr Stb 3 2 0 0 ∷ instr Ldw 1 2 0 0
+    ∷ instr Addi 5 5 0 4294967295 ∷ instr Jnz 5 0 0 3 ∷ instr Call 0 0 0 13 ∷ instr Stw 1 0 0 0
+    ∷ instr Ret 0 0 0 0 ∷ []
 
 -- the base of a segment
 abbrev pub base : ℕ
@@ -19,13 +22,18 @@ base = 0x43000
 
 -- the registers at the beginning, over a memory whose segment begins at this place
 abbrev pub first : ℕ → Machine
-first from = record { regs = λ r. cond (nat_lt r 15) r base; pc = 0; memory = λ a. cond (nat_lt a from) 0 (cond (nat_lt (a - from) 100) (a - from) 0) }
+first from = record {
+  regs = λ r. cond (nat_lt r 15) r base;
+  pc = 0;
+  memory = λ a. cond (nat_lt a from) 0 (cond (nat_lt (a - from) 100) (a - from) 0);
+}
 
 -- the registers but r14 and r15, and the bytes of memory from a place on that the code reaches
 abbrev pub seen : ℕ → Machine → List ℕ
 seen from m =
     map m.regs (0 ∷ 1 ∷ 2 ∷ 3 ∷ 4 ∷ 5 ∷ 6 ∷ 7 ∷ 8 ∷ 9 ∷ 10 ∷ 11 ∷ 12 ∷ 13 ∷ [])
-    ++ map (λ a. m.memory (from + a)) (0 ∷ 1 ∷ 2 ∷ 3 ∷ 4 ∷ 5 ∷ 6 ∷ 7 ∷ 8 ∷ 9 ∷ 1020 ∷ 1023 ∷ 1024 ∷ 1025 ∷ 2040 ∷ 2047 ∷ 3066 ∷ 3067 ∷ 4092 ∷ [])
+    ++ map (λ a. m.memory (from + a)) (0 ∷ 1 ∷ 2 ∷ 3 ∷ 4 ∷ 5 ∷ 6 ∷ 7 ∷ 8 ∷ 9 ∷ 1020 ∷ 1023 ∷ 1024
+    ∷ 1025 ∷ 2040 ∷ 2047 ∷ 3066 ∷ 3067 ∷ 4092 ∷ [])
 
 -- a run that begins over this memory
 abbrev pub begins : ℕ → CodeRun
@@ -51,12 +59,15 @@ thirteen = refl
 pub ended : raw_end.ended ≡ Some AtReturn
 ended = refl
 
--- 30 raw instructions, 13 of them accesses, are 56 boxed ones: the same registers and memory on the segment alone
-pub on_the_segment : seen 0 (boxed_run (boxed_code raw_code) 56 (begins 0)).machine ≡ seen 0 raw_end.machine
+-- 30 raw instructions, 13 of them accesses, are 56 boxed ones: the same registers and memory on the
+-- segment alone
+pub on_the_segment : seen 0 (boxed_run (boxed_code raw_code) 56 (begins 0)).machine
+    ≡ seen 0 raw_end.machine
 on_the_segment = refl
 
 -- and the same on flat memory
-pub on_flat_memory : seen base (flat_run (boxed_code raw_code) 56 (begins base)).machine ≡ seen 0 raw_end.machine
+pub on_flat_memory : seen base (flat_run (boxed_code raw_code) 56 (begins base)).machine
+    ≡ seen 0 raw_end.machine
 on_flat_memory = refl
 
 -- with the same calls
