@@ -1,6 +1,5 @@
 -- The index from blocks to frames: a table of 128 slots, probed from a block's number on. A slot
--- may still lead to a
--- frame that holds another block by now.
+-- may still lead to a frame that holds another block by now.
 use Rattle.std.specs.Prelude.{◌≡◌, ℕ, ◌+◌, ◌%◌, ◌<◌, ◌≤◌, true, List, length, slice_index_or, Option, Some, None}
 use Rattle.std.specs.List.{count_by}
 use Rattle.std.specs.Option.{is_some}

@@ -13,19 +13,19 @@ use Rattle.kernel_model.specs.Early.{TOP_POINT, call_refusal, begins_unless}
 use Rattle.kernel_model.specs.Policies.{lives}
 use Rattle.kernel_model.specs.Pieces.{plain, piece_fits, pieces_left}
 use Rattle.kernel_model.specs.ImageMask.{TellsImages, has_bit}
-use Rattle.call_pieces.specs.Works.{MayCome}
+use Rattle.call_pieces.specs.Works.{IsDue}
 use Rattle.call_pieces.proofs.Grants.{Granted, read_granted}
 
 -- a table in which the images of these bits are loaded
 abbrev table_of : ℕ → ImageTable
 table_of bits k = cond (has_bit k bits) (let i : Image = record { code = []; body = [] } in Some i) None
 
-told : (b : Bool) (i : Image) → is_some (cond b (Some i) None) ≡ b
-told true i = refl
-told false i = refl
+known : (b : Bool) (i : Image) → is_some (cond b (Some i) None) ≡ b
+known true i = refl
+known false i = refl
 
 table_tells : (bits : ℕ) → TellsImages bits (table_of bits)
-table_tells bits = λ k below. told (has_bit k bits) _
+table_tells bits = λ k below. known (has_bit k bits) _
 
 first_fits : (v : World) (c : SysCall) (w : Things) (p : ℕ) → Granted v p c →
     piece_fits c 0 w p ≡ true
@@ -47,16 +47,16 @@ most_left _ w p = omega arith
 
 pub may_come : (v : World) (s : Objects) (bits p : ℕ) (c k : SysCall) → k ≡ c → lives s.things.queue p ≡ true →
     ((table : ImageTable) → TellsImages bits table → None ≡ call_refusal TOP_POINT v table p c) →
-    MayCome plain v s p (stage k 0)
+    IsDue plain v s p (stage k 0)
 may_come v s bits p c k same alive granted =
-    let told : is_ok (begins_unless k (call_refusal TOP_POINT v (table_of bits) p k)) ≡ true =
+    let known : is_ok (begins_unless k (call_refusal TOP_POINT v (table_of bits) p k)) ≡ true =
     ap (λ x. is_ok (begins_unless x (call_refusal TOP_POINT v (table_of bits) p x))) same
     ∙ ap (λ (x : Option Refusal). is_ok (begins_unless c x))
     (sym (granted (table_of bits) (table_tells bits))) in
     record {
       images = table_of bits;
       alive = alive;
-      granted = told;
-      fits = first_fits v k s.things p (table_of bits, told);
+      granted = known;
+      fits = first_fits v k s.things p (table_of bits, known);
       left = first_left k s.things p;
     }

@@ -12,7 +12,7 @@ use Rattle.kernel_model.specs.World.{World, ImageTable}
 use Rattle.kernel_model.specs.Objects.{Objects}
 use Rattle.kernel_model.specs.Meaning.{Piece, After}
 use Rattle.kernel_model.specs.Early.{plain_early, call_refusal, begins_unless, refused, policy_count, TOP_POINT}
-use Rattle.call_pieces.specs.Coming.{CameTo}
+use Rattle.call_pieces.specs.Matching.{PieceMatches}
 
 -- a refusal that doesn't hold
 not_refused : (test : Bool) (r : Refusal) (next : Option Refusal) → refused test r next ≡ None → (test ≡ false) × (next ≡ None)
@@ -118,7 +118,7 @@ install_granted v p c pt i limit h is =
     record { point = grind (arith, nat_tests, a); number = grind (arith, nat_tests, d0); some = grind (arith, nat_tests, b0); most = grind (arith, nat_tests, b1) }
 
 -- what came of a call by its name, with so many calls of the disk
-pub came_named : (f : SysCall → Piece) (c k : SysCall) (s : Objects) (told : Option (List (List ℕ))) (gave : Option (List ℕ)) (after : After) (n m : ℕ) → c ≡ k → n ≡ m
-    → CameTo (f k) s told gave after m → CameTo (f c) s told gave after n
-came_named f c k s told gave after n m named count came =
-    subst (λ (x : SysCall). CameTo (f x) s told gave after n) (sym named) (subst (λ j. CameTo (f k) s told gave after j) (sym count) came)
+pub came_named : (f : SysCall → Piece) (c k : SysCall) (s : Objects) (known : Option (List (List ℕ))) (gave : Option (List ℕ)) (after : After) (n m : ℕ) → c ≡ k → n ≡ m
+    → PieceMatches (f k) s known gave after m → PieceMatches (f c) s known gave after n
+came_named f c k s known gave after n m named count came =
+    subst (λ (x : SysCall). PieceMatches (f x) s known gave after n) (sym named) (subst (λ j. PieceMatches (f k) s known gave after j) (sym count) came)

@@ -12,10 +12,10 @@ use Rattle.kernel_model.specs.Fetch.{Fetched, Got, Failed, chosen_by, place_bloc
 use Rattle.kernel_model.specs.FilePieces.{refuses}
 use Rattle.kernel_model.specs.Sound.{HasWholeBlocks}
 use Rattle.vino_base.specs.declared.streams.Failed.{Failed as DiskFailed}
-use Rattle.disk_log.specs.Calls.{Tells, blocks_in}
+use Rattle.disk_log.specs.Calls.{Knows, blocks_in}
 use Rattle.call_pieces.specs.declared.After.{After as Came}
 use Rattle.call_pieces.specs.Works.{comes_after}
-use Rattle.call_pieces.specs.Coming.{CameTo, LeftBy, LeftBySome, FetchLeft, FetchLeftBySome}
+use Rattle.call_pieces.specs.Matching.{PieceMatches, PieceLeaves, PieceMatchesSome, FetchLeft, FetchMatchesSome}
 
 -- a list of so many bytes
 some_bytes : (n : ℕ) → (bytes : List ℕ) × (length bytes ≡ n)
@@ -31,13 +31,13 @@ some_told v =
 
 -- a piece for all blocks
 pub some_of_all : (v : World) (q : Blocks → List Bool → Piece) (s : Objects) (gave : Option (List ℕ)) (after : After) (io : List Bool)
-    → ((blocks : Blocks) (rest : List Bool) → LeftBy (q blocks (io ++ rest)) s gave after (length io)) → LeftBySome v q s gave after io
+    → ((blocks : Blocks) (rest : List Bool) → PieceLeaves (q blocks (io ++ rest)) s gave after (length io)) → PieceMatchesSome v q s gave after io
 some_of_all v q s gave after io all =
     let there = some_told v in record { blocks = blocks_in there.0; whole = there.1; left = λ rest. all (blocks_in there.0) rest }
 
 -- a piece without a call of the disk, whatever a disk tells
 pub some_quick : (v : World) (q : Blocks → List Bool → Piece) (s : Objects) (gave : Option (List ℕ)) (after : After) (io : List Bool) → io ≡ []
-    → ((blocks : Blocks) (told : Option (List (List ℕ))) (w : List Bool) → Tells told blocks → CameTo (q blocks w) s told gave after 0) → LeftBySome v q s gave after io
+    → ((blocks : Blocks) (known : Option (List (List ℕ))) (w : List Bool) → Knows known blocks → PieceMatches (q blocks w) s known gave after 0) → PieceMatchesSome v q s gave after io
 some_quick v q s gave after io none came =
     let there = some_told v in
     record {
@@ -49,41 +49,41 @@ some_quick v q s gave after io none came =
 
 -- the same of a call by its name
 pub some_named : (v : World) (f : SysCall → Blocks → List Bool → Piece) (c k : SysCall) (s : Objects) (gave : Option (List ℕ)) (after : After) (io : List Bool) → c ≡ k → io ≡ []
-    → ((blocks : Blocks) (told : Option (List (List ℕ))) (w : List Bool) → Tells told blocks → CameTo (f k blocks w) s told gave after 0) → LeftBySome v (f c) s gave after io
+    → ((blocks : Blocks) (known : Option (List (List ℕ))) (w : List Bool) → Knows known blocks → PieceMatches (f k blocks w) s known gave after 0) → PieceMatchesSome v (f c) s gave after io
 some_named v f c k s gave after io named none came =
-    subst (λ (x : SysCall). LeftBySome v (f x) s gave after io) (sym named) (some_quick v (f k) s gave after io none came)
+    subst (λ (x : SysCall). PieceMatchesSome v (f x) s gave after io) (sym named) (some_quick v (f k) s gave after io none came)
 
 -- a piece in other words
 pub some_as : (v : World) (q r : Blocks → List Bool → Piece) (s : Objects) (gave : Option (List ℕ)) (after : After) (io : List Bool)
-    → ((blocks : Blocks) (w : List Bool) → q blocks w ≡ r blocks w) → LeftBySome v r s gave after io → LeftBySome v q s gave after io
+    → ((blocks : Blocks) (w : List Bool) → q blocks w ≡ r blocks w) → PieceMatchesSome v r s gave after io → PieceMatchesSome v q s gave after io
 some_as v q r s gave after io is some =
     record {
       blocks = some.blocks;
       whole = some.whole;
-      left = λ rest. subst (λ (x : Piece). LeftBy x s gave after (length io)) (sym (is some.blocks (io ++ rest))) (some.left rest);
+      left = λ rest. subst (λ (x : Piece). PieceLeaves x s gave after (length io)) (sym (is some.blocks (io ++ rest))) (some.left rest);
     }
 
 -- what was left, by what the piece returned
-pub some_came : (v : World) (q : Blocks → List Bool → Piece) (r k : Came) (s : Objects) (t : Stage) (io : List Bool) → r ≡ k → LeftBySome v q s k.gave (comes_after k.next t) io
-    → LeftBySome v q s r.gave (comes_after r.next t) io
-some_came v q r k s t io is some = subst (λ (x : Came). LeftBySome v q s x.gave (comes_after x.next t) io) (sym is) some
+pub some_came : (v : World) (q : Blocks → List Bool → Piece) (r k : Came) (s : Objects) (t : Stage) (io : List Bool) → r ≡ k → PieceMatchesSome v q s k.gave (comes_after k.next t) io
+    → PieceMatchesSome v q s r.gave (comes_after r.next t) io
+some_came v q r k s t io is some = subst (λ (x : Came). PieceMatchesSome v q s x.gave (comes_after x.next t) io) (sym is) some
 
 -- a fetch for all blocks
 pub fetch_some : (v : World) (q : Blocks → List Bool → Fetched) (result : Result ℕ DiskFailed) (cache : CacheValue) (io : List Bool)
-    → ((blocks : Blocks) (rest : List Bool) → FetchLeft (q blocks (io ++ rest)) blocks result cache (length io)) → FetchLeftBySome v q result cache io
+    → ((blocks : Blocks) (rest : List Bool) → FetchLeft (q blocks (io ++ rest)) blocks result cache (length io)) → FetchMatchesSome v q result cache io
 fetch_some v q result cache io all =
     let there = some_told v in record { blocks = blocks_in there.0; whole = there.1; outcome = λ rest. all (blocks_in there.0) rest }
 
 -- a fetch for blocks that are all the one that was read
 pub fetch_alike : (v : World) (q : Blocks → List Bool → Fetched) (result : Result ℕ DiskFailed) (cache : CacheValue) (io : List Bool) (bytes : List ℕ) → length bytes ≡ 512
-    → ((rest : List Bool) → FetchLeft (q (λ b. bytes) (io ++ rest)) (λ b. bytes) result cache (length io)) → FetchLeftBySome v q result cache io
+    → ((rest : List Bool) → FetchLeft (q (λ b. bytes) (io ++ rest)) (λ b. bytes) result cache (length io)) → FetchMatchesSome v q result cache io
 fetch_alike v q result cache io bytes whole all = record { blocks = λ b. bytes; whole = λ b below. whole; outcome = all }
 
 -- ---- a fetch, and the block that it reads
 
 -- a fetch of a block that a frame holds
 pub fetch_held : (v : World) (q : Blocks → List Bool → Fetched) (cache : CacheValue) (f : ℕ) (io : List Bool) → io ≡ [] → ((blocks : Blocks) (w : List Bool) → q blocks w ≡ Got cache blocks f 0)
-    → FetchLeftBySome v q (Ok f) cache io
+    → FetchMatchesSome v q (Ok f) cache io
 fetch_held v q cache f io none is =
     fetch_some v q (Ok f) cache io (λ blocks rest.
     subst (λ (x : Fetched). FetchLeft x blocks (Ok f) cache (length io)) (sym (is blocks (io ++ rest)))
@@ -107,7 +107,7 @@ read_failed v pol p b answer c blocks e io rest is =
 
 -- a piece that is refused, and leaves all as it was
 pub some_refused : (v : World) (q : Blocks → List Bool → Piece) (s : Objects) (why : Refusal) (io : List Bool) → io ≡ [] → ((blocks : Blocks) (w : List Bool) → q blocks w ≡ refuses s blocks why)
-    → LeftBySome v q s None (Fails why) io
+    → PieceMatchesSome v q s None (Fails why) io
 some_refused v q s why io none is =
     some_as v q (λ blocks w. refuses s blocks why) s None (Fails why) io is
     (some_of_all v (λ blocks w. refuses s blocks why) s None (Fails why) io

@@ -8,10 +8,10 @@ use Rattle.kernel_model.specs.Objects.{Objects, CacheValue, FrameValue, at}
 use Rattle.kernel_model.specs.Meaning.{Piece, After, Stage, EndsWith, Fails, disk_fails}
 use Rattle.kernel_model.specs.Fetch.{cleaned, dirty_value, bytes_of}
 use Rattle.kernel_model.specs.FilePieces.{sync_from, with_cache, disk_failed, leaves}
-use Rattle.disk_log.specs.Calls.{Tells}
+use Rattle.disk_log.specs.Calls.{Knows}
 use Rattle.call_pieces.specs.declared.After.{After as Came}
 use Rattle.call_pieces.specs.Works.{comes_after}
-use Rattle.call_pieces.specs.Coming.{CameTo, LeftBy}
+use Rattle.call_pieces.specs.Matching.{PieceMatches, PieceLeaves}
 use Rattle.call_pieces.proofs.Logs.{fails_is, length_more}
 
 -- the block of what is dirty
@@ -34,18 +34,18 @@ dirty_flag v true b is some = let known = clean_or_dirty v true is in (refl, cc)
 dirty_flag v false b is some = let none = clean_or_dirty v false is in absurd (cc)
 
 -- a piece in other words
-pub came_as : (q r : Piece) (s : Objects) (told : Option (List (List ℕ))) (gave : Option (List ℕ)) (after : After) (n : ℕ) → q ≡ r → CameTo r s told gave after n
-    → CameTo q s told gave after n
-came_as q r s told gave after n is came = subst (λ (x : Piece). CameTo x s told gave after n) (sym is) came
+pub came_as : (q r : Piece) (s : Objects) (known : Option (List (List ℕ))) (gave : Option (List ℕ)) (after : After) (n : ℕ) → q ≡ r → PieceMatches r s known gave after n
+    → PieceMatches q s known gave after n
+came_as q r s known gave after n is came = subst (λ (x : Piece). PieceMatches x s known gave after n) (sym is) came
 
-pub left_as : (q r : Piece) (s : Objects) (gave : Option (List ℕ)) (after : After) (n : ℕ) → q ≡ r → LeftBy r s gave after n → LeftBy q s gave after n
-left_as q r s gave after n is left = subst (λ (x : Piece). LeftBy x s gave after n) (sym is) left
+pub left_as : (q r : Piece) (s : Objects) (gave : Option (List ℕ)) (after : After) (n : ℕ) → q ≡ r → PieceLeaves r s gave after n → PieceLeaves q s gave after n
+left_as q r s gave after n is left = subst (λ (x : Piece). PieceLeaves x s gave after n) (sym is) left
 
 -- a piece that left this came to it, where the disk tells the blocks that the piece has in other words
-pub came_by : (q r : Piece) (s : Objects) (told : Option (List (List ℕ))) (gave : Option (List ℕ)) (after : After) (n : ℕ) → q ≡ r → Tells told r.blocks → LeftBy q s gave after n
-    → CameTo q s told gave after n
-came_by q r s told gave after n is tells left =
-    record { objects = left.objects; blocks = subst (λ (x : Piece). Tells told x.blocks) (sym is) tells; bytes = left.bytes; next = left.next; calls_made = left.calls_made }
+pub came_by : (q r : Piece) (s : Objects) (known : Option (List (List ℕ))) (gave : Option (List ℕ)) (after : After) (n : ℕ) → q ≡ r → Knows known r.blocks → PieceLeaves q s gave after n
+    → PieceMatches q s known gave after n
+came_by q r s known gave after n is tells left =
+    record { objects = left.objects; blocks = subst (λ (x : Piece). Knows known x.blocks) (sym is) tells; bytes = left.bytes; next = left.next; calls_made = left.calls_made }
 
 -- a dirty frame
 pub record IsDirty (c : CacheValue) (f b : ℕ) : Type 0 where
@@ -108,24 +108,24 @@ step_dirty n f b written s blocks io d fails is =
 
 -- What is left of a sync before frame f, once so many frames were written: whatever the blocks were at first, it goes on from
 -- some that the disk tells now, if it told those.
-pub record Midway (n f written : ℕ) (first now : Objects) (told told_now : Option (List (List ℕ))) (log : List Bool) : Type 0 where
+pub record Midway (n f written : ℕ) (first now : Objects) (known told_now : Option (List (List ℕ))) (log : List Bool) : Type 0 where
   pub count : length log ≡ written
   pub few : written ≤ f
   pub rest : (blocks : Blocks) (io : List Bool)
-      → (after : Blocks) × (Tells told blocks → Tells told_now after) × (sync_from n 0 0 first blocks (log ++ io) ≡ sync_from (n - f) f written now after (log ++ io))
+      → (after : Blocks) × (Knows known blocks → Knows told_now after) × (sync_from n 0 0 first blocks (log ++ io) ≡ sync_from (n - f) f written now after (log ++ io))
 
 -- at first
-pub begins : (n : ℕ) (s : Objects) (told : Option (List (List ℕ))) → Midway n 0 0 s s told told []
-begins n s told = record { count = refl; few = omega arith; rest = λ blocks io. (blocks, (λ tells. tells), let same : n ≡ n - 0 = omega arith in ap (λ k. sync_from k 0 0 s blocks io) same) }
+pub begins : (n : ℕ) (s : Objects) (known : Option (List (List ℕ))) → Midway n 0 0 s s known known []
+begins n s known = record { count = refl; few = omega arith; rest = λ blocks io. (blocks, (λ tells. tells), let same : n ≡ n - 0 = omega arith in ap (λ k. sync_from k 0 0 s blocks io) same) }
 
 -- one frame less
 one_less : (n f written : ℕ) (s : Objects) (blocks : Blocks) (io : List Bool) → f < n → sync_from (n - f) f written s blocks io ≡ sync_from (suc (n - (f + 1))) f written s blocks io
 one_less n f written s blocks io less = let fewer : n - f ≡ suc (n - (f + 1)) = omega arith in ap (λ k. sync_from k f written s blocks io) fewer
 
 -- past a frame that is clean
-pub past_clean : (n f written : ℕ) (first now : Objects) (told told_now : Option (List (List ℕ))) (log : List Bool) → f < n → Midway n f written first now told told_now log
-    → None ≡ dirty_block_of (now.things.cache.frame f) → Midway n (f + 1) written first now told told_now log
-past_clean n f written first now told told_now log less m clean =
+pub past_clean : (n f written : ℕ) (first now : Objects) (known told_now : Option (List (List ℕ))) (log : List Bool) → f < n → Midway n f written first now known told_now log
+    → None ≡ dirty_block_of (now.things.cache.frame f) → Midway n (f + 1) written first now known told_now log
+past_clean n f written first now known told_now log less m clean =
     let bound : written ≤ f = m.few in
     record {
       count = m.count;
@@ -140,11 +140,11 @@ past_clean n f written first now told told_now log less m clean =
     }
 
 -- past a frame that was written
-pub past_written : (n f b written : ℕ) (first now next : Objects) (told told_now told_next : Option (List (List ℕ))) (log more : List Bool) (failed : Bool) → f < n
-    → Midway n f written first now told told_now log → dirty_block_of (now.things.cache.frame f) ≡ Some b → more ≡ log ++ failed ∷ [] → failed ≡ false
+pub past_written : (n f b written : ℕ) (first now next : Objects) (known told_now told_next : Option (List (List ℕ))) (log more : List Bool) (failed : Bool) → f < n
+    → Midway n f written first now known told_now log → dirty_block_of (now.things.cache.frame f) ≡ Some b → more ≡ log ++ failed ∷ [] → failed ≡ false
     → ((x : FrameValue) → now.things.cache.frame f ≡ Some x → next ≡ with_cache (cleaned f x now.things.cache) now)
-    → ((blocks : Blocks) → Tells told_now blocks → Tells told_next (at b (bytes_of now.things.cache f) blocks)) → Midway n (f + 1) (written + 1) first next told told_next more
-past_written n f b written first now next told told_now told_next log more failed less m dirty noted fine cleans tells_next =
+    → ((blocks : Blocks) → Knows told_now blocks → Knows told_next (at b (bytes_of now.things.cache f) blocks)) → Midway n (f + 1) (written + 1) first next known told_next more
+past_written n f b written first now next known told_now told_next log more failed less m dirty noted fine cleans tells_next =
     let d = is_dirty now.things.cache f b dirty in
     let bound : written ≤ f = m.few in
     record {
@@ -168,10 +168,10 @@ past_written n f b written first now next told told_now told_next log more faile
     }
 
 -- a frame whose write failed
-failed_is : (n f b written : ℕ) (first now : Objects) (told told_now : Option (List (List ℕ))) (log more : List Bool) (failed : Bool) → f < n
-    → (m : Midway n f written first now told told_now log) → dirty_block_of (now.things.cache.frame f) ≡ Some b → more ≡ log ++ failed ∷ [] → failed ≡ true
+failed_is : (n f b written : ℕ) (first now : Objects) (known told_now : Option (List (List ℕ))) (log more : List Bool) (failed : Bool) → f < n
+    → (m : Midway n f written first now known told_now log) → dirty_block_of (now.things.cache.frame f) ≡ Some b → more ≡ log ++ failed ∷ [] → failed ≡ true
     → (blocks : Blocks) (io : List Bool) → sync_from n 0 0 first blocks (more ++ io) ≡ disk_failed now (m.rest blocks (failed ∷ io)).0 (suc written)
-failed_is n f b written first now told told_now log more failed less m dirty noted fine blocks io =
+failed_is n f b written first now known told_now log more failed less m dirty noted fine blocks io =
     let d = is_dirty now.things.cache f b dirty in
     let so = m.rest blocks (failed ∷ io) in
     let whole : more ++ io ≡ log ++ (failed ∷ io) = ap (λ w. w ++ io) noted ∙ append_assoc log (failed ∷ []) io in
@@ -179,54 +179,54 @@ failed_is n f b written first now told told_now log more failed less m dirty not
     ap (λ w. sync_from n 0 0 first blocks w) whole ∙ so.2 ∙ ap (λ w. sync_from (n - f) f written now so.0 w) (sym whole) ∙ one_less n f written now so.0 (more ++ io) less
     ∙ step_dirty (n - (f + 1)) f b written now so.0 (more ++ io) d true result
 
-pub left_failed : (n f b written : ℕ) (first now next : Objects) (told told_now : Option (List (List ℕ))) (log more : List Bool) (failed : Bool) → f < n
-    → Midway n f written first now told told_now log → dirty_block_of (now.things.cache.frame f) ≡ Some b → more ≡ log ++ failed ∷ [] → failed ≡ true → next ≡ now
-    → (blocks : Blocks) (io : List Bool) → LeftBy (sync_from n 0 0 first blocks (more ++ io)) next None (Fails DiskFault) (length more)
-left_failed n f b written first now next told told_now log more failed less m dirty noted fine same blocks io =
+pub left_failed : (n f b written : ℕ) (first now next : Objects) (known told_now : Option (List (List ℕ))) (log more : List Bool) (failed : Bool) → f < n
+    → Midway n f written first now known told_now log → dirty_block_of (now.things.cache.frame f) ≡ Some b → more ≡ log ++ failed ∷ [] → failed ≡ true → next ≡ now
+    → (blocks : Blocks) (io : List Bool) → PieceLeaves (sync_from n 0 0 first blocks (more ++ io)) next None (Fails DiskFault) (length more)
+left_failed n f b written first now next known told_now log more failed less m dirty noted fine same blocks io =
     left_as (sync_from n 0 0 first blocks (more ++ io)) (disk_failed now (m.rest blocks (failed ∷ io)).0 (suc written)) next None (Fails DiskFault) (length more)
-    (failed_is n f b written first now told told_now log more failed less m dirty noted fine blocks io)
+    (failed_is n f b written first now known told_now log more failed less m dirty noted fine blocks io)
     (record { objects = same; bytes = refl; next = refl; calls_made = length_more more log failed written noted m.count ∙ add-one written })
 
-pub ends_failed : (n f b written : ℕ) (first now next : Objects) (told told_now told_next : Option (List (List ℕ))) (log more : List Bool) (failed : Bool) → f < n
-    → Midway n f written first now told told_now log → dirty_block_of (now.things.cache.frame f) ≡ Some b → more ≡ log ++ failed ∷ [] → failed ≡ true → next ≡ now
-    → ((blocks : Blocks) → Tells told_now blocks → Tells told_next blocks) → (blocks : Blocks) (io : List Bool) → Tells told blocks
-    → CameTo (sync_from n 0 0 first blocks (more ++ io)) next told_next None (Fails DiskFault) (length more)
-ends_failed n f b written first now next told told_now told_next log more failed less m dirty noted fine same tells_next blocks io tells =
+pub ends_failed : (n f b written : ℕ) (first now next : Objects) (known told_now told_next : Option (List (List ℕ))) (log more : List Bool) (failed : Bool) → f < n
+    → Midway n f written first now known told_now log → dirty_block_of (now.things.cache.frame f) ≡ Some b → more ≡ log ++ failed ∷ [] → failed ≡ true → next ≡ now
+    → ((blocks : Blocks) → Knows told_now blocks → Knows told_next blocks) → (blocks : Blocks) (io : List Bool) → Knows known blocks
+    → PieceMatches (sync_from n 0 0 first blocks (more ++ io)) next told_next None (Fails DiskFault) (length more)
+ends_failed n f b written first now next known told_now told_next log more failed less m dirty noted fine same tells_next blocks io tells =
     let so = m.rest blocks (failed ∷ io) in
     came_by (sync_from n 0 0 first blocks (more ++ io)) (disk_failed now so.0 (suc written)) next told_next None (Fails DiskFault) (length more)
-    (failed_is n f b written first now told told_now log more failed less m dirty noted fine blocks io) (tells_next so.0 (so.1 tells))
-    (left_failed n f b written first now next told told_now log more failed less m dirty noted fine same blocks io)
+    (failed_is n f b written first now known told_now log more failed less m dirty noted fine blocks io) (tells_next so.0 (so.1 tells))
+    (left_failed n f b written first now next known told_now log more failed less m dirty noted fine same blocks io)
 
 -- all frames were looked at
-well_is : (n f written : ℕ) (first now : Objects) (told told_now : Option (List (List ℕ))) (log : List Bool) → f ≡ n → (m : Midway n f written first now told told_now log)
+well_is : (n f written : ℕ) (first now : Objects) (known told_now : Option (List (List ℕ))) (log : List Bool) → f ≡ n → (m : Midway n f written first now known told_now log)
     → (blocks : Blocks) (io : List Bool) → sync_from n 0 0 first blocks (log ++ io) ≡ record (leaves now (m.rest blocks io).0 (EndsWith (One written))) { calls = written }
-well_is n f written first now told told_now log all m blocks io =
+well_is n f written first now known told_now log all m blocks io =
     let so = m.rest blocks io in
     let none : n - f ≡ 0 = omega arith in
     so.2 ∙ ap (λ k. sync_from k f written now so.0 (log ++ io)) none
 
-pub left_well : (n f written : ℕ) (first now : Objects) (told told_now : Option (List (List ℕ))) (log : List Bool) → f ≡ n → Midway n f written first now told told_now log
-    → (blocks : Blocks) (io : List Bool) → LeftBy (sync_from n 0 0 first blocks (log ++ io)) now None (EndsWith (One written)) (length log)
-left_well n f written first now told told_now log all m blocks io =
+pub left_well : (n f written : ℕ) (first now : Objects) (known told_now : Option (List (List ℕ))) (log : List Bool) → f ≡ n → Midway n f written first now known told_now log
+    → (blocks : Blocks) (io : List Bool) → PieceLeaves (sync_from n 0 0 first blocks (log ++ io)) now None (EndsWith (One written)) (length log)
+left_well n f written first now known told_now log all m blocks io =
     left_as (sync_from n 0 0 first blocks (log ++ io)) (record (leaves now (m.rest blocks io).0 (EndsWith (One written))) { calls = written }) now None (EndsWith (One written)) (length log)
-    (well_is n f written first now told told_now log all m blocks io)
+    (well_is n f written first now known told_now log all m blocks io)
     (record { objects = refl; bytes = refl; next = refl; calls_made = m.count })
 
-pub ends_well : (n f written : ℕ) (first now : Objects) (told told_now : Option (List (List ℕ))) (log : List Bool) → f ≡ n → Midway n f written first now told told_now log
-    → (blocks : Blocks) (io : List Bool) → Tells told blocks → CameTo (sync_from n 0 0 first blocks (log ++ io)) now told_now None (EndsWith (One written)) (length log)
-ends_well n f written first now told told_now log all m blocks io tells =
+pub ends_well : (n f written : ℕ) (first now : Objects) (known told_now : Option (List (List ℕ))) (log : List Bool) → f ≡ n → Midway n f written first now known told_now log
+    → (blocks : Blocks) (io : List Bool) → Knows known blocks → PieceMatches (sync_from n 0 0 first blocks (log ++ io)) now told_now None (EndsWith (One written)) (length log)
+ends_well n f written first now known told_now log all m blocks io tells =
     let so = m.rest blocks io in
     came_by (sync_from n 0 0 first blocks (log ++ io)) (record (leaves now so.0 (EndsWith (One written))) { calls = written }) now told_now None (EndsWith (One written)) (length log)
-    (well_is n f written first now told told_now log all m blocks io) (so.1 tells)
-    (left_well n f written first now told told_now log all m blocks io)
+    (well_is n f written first now known told_now log all m blocks io) (so.1 tells)
+    (left_well n f written first now known told_now log all m blocks io)
 
 -- what came of a piece, by what it returned
-pub came_of : (q : Piece) (r k : Came) (s : Objects) (told : Option (List (List ℕ))) (t : Stage) (n : ℕ) → r ≡ k → CameTo q s told k.gave (comes_after k.next t) n
-    → CameTo q s told r.gave (comes_after r.next t) n
-came_of q r k s told t n is came = subst (λ (x : Came). CameTo q s told x.gave (comes_after x.next t) n) (sym is) came
+pub came_of : (q : Piece) (r k : Came) (s : Objects) (known : Option (List (List ℕ))) (t : Stage) (n : ℕ) → r ≡ k → PieceMatches q s known k.gave (comes_after k.next t) n
+    → PieceMatches q s known r.gave (comes_after r.next t) n
+came_of q r k s known t n is came = subst (λ (x : Came). PieceMatches q s known x.gave (comes_after x.next t) n) (sym is) came
 
-pub left_of : (q : Piece) (r k : Came) (s : Objects) (t : Stage) (n : ℕ) → r ≡ k → LeftBy q s k.gave (comes_after k.next t) n → LeftBy q s r.gave (comes_after r.next t) n
-left_of q r k s t n is left = subst (λ (x : Came). LeftBy q s x.gave (comes_after x.next t) n) (sym is) left
+pub left_of : (q : Piece) (r k : Came) (s : Objects) (t : Stage) (n : ℕ) → r ≡ k → PieceLeaves q s k.gave (comes_after k.next t) n → PieceLeaves q s r.gave (comes_after r.next t) n
+left_of q r k s t n is left = subst (λ (x : Came). PieceLeaves q s x.gave (comes_after x.next t) n) (sym is) left
 
 -- what holds of a failure, and of a success
 pub of_err : {T E : Type 0} (r : Result T E) (P : Type 0) → is_err r ≡ true → IfErr r (λ _. P) → P

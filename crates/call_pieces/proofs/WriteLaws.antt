@@ -8,27 +8,27 @@ use Rattle.kernel_model.specs.Meaning.{Piece, After, Fails}
 use Rattle.kernel_model.specs.Fetch.{Fetched, Got, Failed, fetch, with_patch}
 use Rattle.kernel_model.specs.FilePieces.{with_cache, write_fetched, write_piece, disk_failed, well}
 use Rattle.vino_base.specs.declared.streams.Failed.{Failed as DiskFailed}
-use Rattle.disk_log.specs.Calls.{Tells}
-use Rattle.call_pieces.specs.Coming.{CameTo, FetchCameTo, blocks_after}
+use Rattle.disk_log.specs.Calls.{Knows}
+use Rattle.call_pieces.specs.Matching.{PieceMatches, FetchMatches, blocks_after}
 
 -- what a failed fetch tells of the blocks
-pub tells_failed : (q : Fetched) (blocks : Blocks) (e : DiskFailed) (cache : CacheValue) (told : Option (List (List ℕ))) (n : ℕ) → FetchCameTo q blocks (Err e) cache told n → Tells told blocks
-tells_failed q blocks e cache told n came = subst (λ (x : Fetched). Tells told (blocks_after x blocks)) (sym came.outcome) came.tells
+pub tells_failed : (q : Fetched) (blocks : Blocks) (e : DiskFailed) (cache : CacheValue) (known : Option (List (List ℕ))) (n : ℕ) → FetchMatches q blocks (Err e) cache known n → Knows known blocks
+tells_failed q blocks e cache known n came = subst (λ (x : Fetched). Knows known (blocks_after x blocks)) (sym came.outcome) came.tells
 
 -- a piece of which a fetch failed
-pub fetch_failed : (f : Fetched → Piece) (q : Fetched) (s new : Objects) (blocks : Blocks) (e : DiskFailed) (cache : CacheValue) (told : Option (List (List ℕ))) (n : ℕ) →
-    f (Failed n) ≡ disk_failed s blocks n → FetchCameTo q blocks (Err e) cache told n → new ≡ s → CameTo (f q) new told None (Fails DiskFault) n
-fetch_failed f q s new blocks e cache told n is came kept =
-    let tells = tells_failed q blocks e cache told n came in
-    let there : CameTo (disk_failed s blocks n) new told None (Fails DiskFault) n = record { objects = kept; blocks = tells; bytes = refl; next = refl; calls_made = refl } in
-    subst (λ (x : Fetched). CameTo (f x) new told None (Fails DiskFault) n) came.outcome (subst (λ (x : Piece). CameTo x new told None (Fails DiskFault) n) (sym is) there)
+pub fetch_failed : (f : Fetched → Piece) (q : Fetched) (s new : Objects) (blocks : Blocks) (e : DiskFailed) (cache : CacheValue) (known : Option (List (List ℕ))) (n : ℕ) →
+    f (Failed n) ≡ disk_failed s blocks n → FetchMatches q blocks (Err e) cache known n → new ≡ s → PieceMatches (f q) new known None (Fails DiskFault) n
+fetch_failed f q s new blocks e cache known n is came kept =
+    let tells = tells_failed q blocks e cache known n came in
+    let there : PieceMatches (disk_failed s blocks n) new known None (Fails DiskFault) n = record { objects = kept; blocks = tells; bytes = refl; next = refl; calls_made = refl } in
+    subst (λ (x : Fetched). PieceMatches (f x) new known None (Fails DiskFault) n) came.outcome (subst (λ (x : Piece). PieceMatches x new known None (Fails DiskFault) n) (sym is) there)
 
 -- a write whose block was fetched
-pub write_came : (s mid new : Objects) (blocks : Blocks) (off f n : ℕ) (bytes : List ℕ) (q : Fetched) (cache : CacheValue) (told : Option (List (List ℕ))) →
-    FetchCameTo q blocks (Ok f) cache told n → mid ≡ with_cache cache s → new ≡ with_cache (with_patch f off bytes cache) mid →
-    CameTo (write_fetched s blocks off bytes q) new told None well n
-write_came s mid new blocks off f n bytes q cache told came cached patched =
-    let there : CameTo (write_fetched s blocks off bytes (Got cache (blocks_after q blocks) f n)) new told None well n =
+pub write_came : (s mid new : Objects) (blocks : Blocks) (off f n : ℕ) (bytes : List ℕ) (q : Fetched) (cache : CacheValue) (known : Option (List (List ℕ))) →
+    FetchMatches q blocks (Ok f) cache known n → mid ≡ with_cache cache s → new ≡ with_cache (with_patch f off bytes cache) mid →
+    PieceMatches (write_fetched s blocks off bytes q) new known None well n
+write_came s mid new blocks off f n bytes q cache known came cached patched =
+    let there : PieceMatches (write_fetched s blocks off bytes (Got cache (blocks_after q blocks) f n)) new known None well n =
     record {
       objects = patched ∙ ap (λ (x : Objects). with_cache (with_patch f off bytes cache) x) cached;
       blocks = came.tells;
@@ -36,11 +36,11 @@ write_came s mid new blocks off f n bytes q cache told came cached patched =
       next = refl;
       calls_made = refl;
     } in
-    subst (λ (x : Fetched). CameTo (write_fetched s blocks off bytes x) new told None well n) came.outcome there
+    subst (λ (x : Fetched). PieceMatches (write_fetched s blocks off bytes x) new known None well n) came.outcome there
 
 -- a write, by the block that it names
-pub write_at : (x : Result ℕ Refusal) (b : ℕ) (v : World) (s new : Objects) (blocks : Blocks) (p off n : ℕ) (bytes : List ℕ) (answer : Option (List ℕ)) (io : List Bool) (told : Option (List (List ℕ))) (after : After) → Ok b ≡ x →
-    CameTo (write_fetched s blocks off bytes (fetch v (s.things.pol 1) p b answer s.things.cache blocks io)) new told None after n →
-    CameTo (write_piece x v s blocks p off bytes answer io) new told None after n
-write_at x b v s new blocks p off n bytes answer io told after is came =
-    subst (λ (y : Result ℕ Refusal). CameTo (write_piece y v s blocks p off bytes answer io) new told None after n) is came
+pub write_at : (x : Result ℕ Refusal) (b : ℕ) (v : World) (s new : Objects) (blocks : Blocks) (p off n : ℕ) (bytes : List ℕ) (answer : Option (List ℕ)) (io : List Bool) (known : Option (List (List ℕ))) (after : After) → Ok b ≡ x →
+    PieceMatches (write_fetched s blocks off bytes (fetch v (s.things.pol 1) p b answer s.things.cache blocks io)) new known None after n →
+    PieceMatches (write_piece x v s blocks p off bytes answer io) new known None after n
+write_at x b v s new blocks p off n bytes answer io known after is came =
+    subst (λ (y : Result ℕ Refusal). PieceMatches (write_piece y v s blocks p off bytes answer io) new known None after n) is came

@@ -1,3 +1,3 @@
 pub mod Works
-pub mod Coming
+pub mod Matching
 pub mod Shared

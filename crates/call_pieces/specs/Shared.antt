@@ -14,14 +14,14 @@ use Rattle.kernel_model.specs.Fetch.{Fetched, new_frame, replaced, read_block, p
 use Rattle.kernel_model.specs.FilePieces.{read_piece, read_first_at, read_first, read_third_at, write_piece, with_cache}
 use Rattle.buffer_cache.specs.Frames.{in_use}
 use Rattle.vino_base.specs.declared.streams.Failed.{Failed as DiskFailed}
-use Rattle.disk_log.specs.Calls.{Tells}
+use Rattle.disk_log.specs.Calls.{Knows}
 use Rattle.kernel_state.specs.declared.Store.{Store}
 use Rattle.kernel_state.specs.Stores.{world_of_store, objects_of, cache_of, queue_of, policies_of, SegmentsStay}
 use Rattle.call_pieces.specs.declared.After.{After}
 use Rattle.call_pieces.specs.declared.Next.{Next}
 use Rattle.call_pieces.specs.declared.reads.Range.{Range}
 use Rattle.call_pieces.specs.Works.{comes_after}
-use Rattle.call_pieces.specs.Coming.{CameTo, LeftBySome, FetchCameTo, has_failed, is_fault, goes_on}
+use Rattle.call_pieces.specs.Matching.{PieceMatches, PieceMatchesSome, FetchMatches, has_failed, is_fault, goes_on}
 
 -- ---- pieces without a call of the disk
 
@@ -29,8 +29,8 @@ use Rattle.call_pieces.specs.Coming.{CameTo, LeftBySome, FetchCameTo, has_failed
 -- no call of it
 abbrev pub CameAtOnce : (piece : Blocks → Piece) (s : Objects) (result : After) → Type 0
 CameAtOnce piece s result =
-    (blocks : Blocks) (told : Option (List (List ℕ))) (t : Stage) → Tells told blocks →
-    CameTo (piece blocks) s told result.gave (comes_after result.next t) 0
+    (blocks : Blocks) (known : Option (List (List ℕ))) (t : Stage) → Knows known blocks →
+    PieceMatches (piece blocks) s known result.gave (comes_after result.next t) 0
 
 -- a call ends with this piece, and not for the disk; the world and the segments of grafts stay
 pub record EndsAtOnce {B : Type 0} {P : _} (old new : Store B P) (next : Next) : Type 0 where
@@ -48,13 +48,13 @@ abbrev pub CameBy : (piece : Blocks → List Bool →
     Piece) (s : Objects) (before after : Option (List (List ℕ)))
     (result : After) (t : Stage) (log : List Bool) → Type 0
 CameBy piece s before after result t log =
-    (blocks : Blocks) (rest : List Bool) → Tells before blocks →
-    CameTo (piece blocks (log ++ rest)) s after result.gave (comes_after result.next t) (length log)
+    (blocks : Blocks) (rest : List Bool) → Knows before blocks →
+    PieceMatches (piece blocks (log ++ rest)) s after result.gave (comes_after result.next t) (length log)
 
 -- so it is for some whole blocks, whether the disk tells its blocks or not
 abbrev pub CameBySome : (v : World) (piece : Blocks → List Bool → Piece) (s : Objects)
     (result : After) (t : Stage) (log : List Bool) → Type 0
-CameBySome v piece s result t log = LeftBySome v piece s result.gave (comes_after result.next t) log
+CameBySome v piece s result t log = PieceMatchesSome v piece s result.gave (comes_after result.next t) log
 
 -- a piece fails for the disk only where a call of it failed; the queue, the world and the segments
 -- of grafts stay
@@ -75,8 +75,7 @@ pub record FetchReady {B : Type 0} {P : _} (s : Store B P) (blocks p b : ℕ) : 
   pub disk : s.size ≡ blocks
 
 -- A fetch changes the cache alone, and nothing where it fails, which it does only where a call of
--- the disk failed; the
--- frame that it gives is in use.
+-- the disk failed; the frame that it gives is in use.
 pub record FetchDone {B : Type 0} {P : _} (old new : Store B P)
     (result : Result ℕ DiskFailed) (log : List Bool) : Type 0 where
   pub objects : objects_of new ≡ with_cache (cache_of new) (objects_of old)
@@ -93,8 +92,8 @@ abbrev pub FetchCameBy : (fetch : Blocks → List Bool →
     Fetched) (before after : Option (List (List ℕ)))
     (result : Result ℕ DiskFailed) (cache : CacheValue) (log : List Bool) → Type 0
 FetchCameBy fetch before after result cache log =
-    (blocks : Blocks) (rest : List Bool) → Tells before blocks →
-    FetchCameTo (fetch blocks (log ++ rest)) blocks result cache after (length log)
+    (blocks : Blocks) (rest : List Bool) → Knows before blocks →
+    FetchMatches (fetch blocks (log ++ rest)) blocks result cache after (length log)
 
 -- the definitions' fetch of block b for process p
 abbrev pub fetch_of : {B : Type 0} {P : _} → Store B P → (p b : ℕ) → Option (List ℕ) → Blocks →

@@ -51,7 +51,7 @@ registers_seen (Some r) = refl
 
 -- The next piece of a call may come: its caller lives, no early refusal of it holds with some
 -- images loaded, and it stands before one of its pieces.
-pub record MayCome (m : Meaning) (v : World) (s : Objects) (p : ℕ) (t : Stage) : Type 0 where
+pub record IsDue (m : Meaning) (v : World) (s : Objects) (p : ℕ) (t : Stage) : Type 0 where
   pub images : ImageTable
   pub alive : lives s.things.queue p ≡ true
   pub granted : is_ok (m.early v images p t.call) ≡ true

@@ -8,7 +8,7 @@ ghost use Rattle.kernel_model.specs.Policies.{lives};
 ghost use Rattle.kernel_model.specs.Pieces.{plain};
 ghost use Rattle.kernel_model.specs.Early.{plain_early, call_refusal, refused, policy_count, TOP_POINT};
 ghost use Rattle.kernel_state.specs.Stores.{world_of_store, objects_of, queue_of};
-ghost use Rattle.call_pieces.specs.Works.{MayCome, stage_of, stage_granted};
+ghost use Rattle.call_pieces.specs.Works.{IsDue, stage_of, stage_granted};
 
 use crate::Work;
 use crate::copies::copy_call;
@@ -32,7 +32,7 @@ pub fn early<B: Policy>(
         stage_granted stage_of result
         ≡ plain_early TOP_POINT (world_of_store store.now) table p call.now }
     ensures ready { IfOk result
-        (λ w. MayCome plain (world_of_store store.now) (objects_of store.now) w.caller
+        (λ w. IsDue plain (world_of_store store.now) (objects_of store.now) w.caller
         (stage_of w)) }
     ensures call { IfOk result (λ w. w ≡ record { caller = p; call = call.now; piece = 0 }) }
 {

@@ -15,11 +15,11 @@ pub trait Calls {
     ghost use Rattle.kernel_model.specs.Meaning.{Stage};
     ghost use Rattle.kernel_model.specs.Laws.{IsRightAnswer};
     ghost use Rattle.kernel_model.specs.Policies.{lives};
-    ghost use Rattle.disk_log.specs.Calls.{Tells, GoesOn};
+    ghost use Rattle.disk_log.specs.Calls.{Knows, CallsExtend};
     ghost use Rattle.kernel_state.specs.Stores.{world_of_store, objects_of, queue_of, SegmentsStay};
     ghost use Rattle.kernel_model.specs.ImageMask.{TellsImages};
-    ghost use Rattle.call_pieces.specs.Works.{MayCome, stage_granted, answer_seen, comes_after};
-    ghost use Rattle.call_pieces.specs.Coming.{CameTo, LeftBySome, GoesOnFrom, has_failed, is_fault, goes_on};
+    ghost use Rattle.call_pieces.specs.Works.{IsDue, stage_granted, answer_seen, comes_after};
+    ghost use Rattle.call_pieces.specs.Matching.{PieceMatches, PieceMatchesSome, ContinuesFrom, has_failed, is_fault, goes_on};
 
     /// What the calls mean.
     type Meaning: Rules;
@@ -44,7 +44,7 @@ pub trait Calls {
         requires alive { lives (queue_of store.now) p ≡ true }
         ensures value { (table : ImageTable) → TellsImages images table →
             stage_granted stage result ≡ Self.Meaning.meaning.early (world_of_store store.now) table p call.now }
-        ensures ready { IfOk result (λ w. MayCome Self.Meaning.meaning (world_of_store store.now)
+        ensures ready { IfOk result (λ w. IsDue Self.Meaning.meaning (world_of_store store.now)
             (objects_of store.now) (caller w) (stage w)) }
         ensures caller { IfOk result (λ w. caller w ≡ p) }
         ensures few { IfOk result
@@ -54,7 +54,7 @@ pub trait Calls {
     /// The objects that the next piece of a call needs, in order. They take the place of what the
     /// list had.
     fn need<B: Policy>(work: &Self::Work, store: &Store<B>, needs: &mut Needs)
-        requires ready { MayCome Self.Meaning.meaning (world_of_store store.now)
+        requires ready { IsDue Self.Meaning.meaning (world_of_store store.now)
             (objects_of store.now)
             (caller work.now) (stage work.now) }
         ensures { needs.new ≡ Self.Meaning.meaning.need (world_of_store store.now)
@@ -63,7 +63,7 @@ pub trait Calls {
 
     /// The point that the next piece of a call asks, with its arguments.
     fn asks<B: Policy>(work: &Self::Work, store: &Store<B>) -> Option<Point>
-        requires ready { MayCome Self.Meaning.meaning (world_of_store store.now)
+        requires ready { IsDue Self.Meaning.meaning (world_of_store store.now)
             (objects_of store.now)
             (caller work.now) (stage work.now) }
         ensures { result ≡ Self.Meaning.meaning.asks (world_of_store store.now)
@@ -79,7 +79,7 @@ pub trait Calls {
         disk: &mut D,
         log: &mut DiskLog,
     ) -> After
-        requires ready { MayCome Self.Meaning.meaning (world_of_store store.old)
+        requires ready { IsDue Self.Meaning.meaning (world_of_store store.old)
             (objects_of store.old)
             (caller work.old) (stage work.old) }
         requires right { IsRightAnswer (objects_of store.old)
@@ -89,28 +89,28 @@ pub trait Calls {
         requires disk { store.old.size ≡ D.block_count disk.old }
         requires fresh { log.old ≡ [] }
         ensures does { (images : ImageTable) (blocks : Blocks) (rest : List Bool) →
-            Tells (D.blocks disk.old) blocks →
-            CameTo (Self.Meaning.meaning.piece (world_of_store store.old) images
+            Knows (D.blocks disk.old) blocks →
+            PieceMatches (Self.Meaning.meaning.piece (world_of_store store.old) images
             (objects_of store.old) blocks
             (caller work.old) (stage work.old) (answer_seen answer) (log.new ++ rest))
             (objects_of store.new) (D.blocks disk.new) result.gave
             (comes_after result.next (stage work.new)) (length log.new) }
         ensures some { (images : ImageTable) →
-            LeftBySome (world_of_store store.old) (λ blocks io.
+            PieceMatchesSome (world_of_store store.old) (λ blocks io.
             Self.Meaning.meaning.piece (world_of_store store.old) images
             (objects_of store.old) blocks
             (caller work.old) (stage work.old) (answer_seen answer) io)
             (objects_of store.new) result.gave
             (comes_after result.next (stage work.new)) log.new }
         ensures gone { goes_on result.next ≡ true →
-            GoesOnFrom Self.Meaning.meaning (world_of_store store.old) (objects_of store.old)
+            ContinuesFrom Self.Meaning.meaning (world_of_store store.old) (objects_of store.old)
             (objects_of store.new)
             (caller work.old) (caller work.new) (stage work.old) (stage work.new) }
         ensures failed { is_fault result.next ≡ true → has_failed log.new ≡ true }
         ensures world { world_of_store store.new ≡ world_of_store store.old }
         ensures memory { SegmentsStay store.old.ram store.new.ram }
         ensures same_size { D.block_count disk.new ≡ D.block_count disk.old }
-        ensures calls { GoesOn (D.faults disk.old) (D.faults disk.new) (D.plan disk.old)
+        ensures calls { CallsExtend (D.faults disk.old) (D.faults disk.new) (D.plan disk.old)
             (D.plan disk.new) log.old log.new }
         ensures few { length log.new ≤ 256 };
 }

@@ -8,10 +8,10 @@ ghost use Rattle.kernel_model.specs.Fetch as fetches;
 ghost use Rattle.kernel_model.specs.Fetch.{dirty_value, chosen_by, evict as evicted};
 ghost use Rattle.kernel_model.specs.Meaning.{disk_fails};
 ghost use Rattle.buffer_cache.specs.Frames.{in_use};
-ghost use Rattle.disk_log.specs.Calls.{Tells, GoesOn};
+ghost use Rattle.disk_log.specs.Calls.{Knows, CallsExtend};
 ghost use Rattle.kernel_state.specs.Stores.{world_of_store, cache_of};
 ghost use Rattle.call_pieces.specs.Shared.{FetchReady, FetchDone, FetchCameBy, fetch_of, fetch_ahead_of, load_of, place_of, evict_of};
-ghost use Rattle.call_pieces.specs.Coming.{FetchLeft, FetchLeftBySome, blocks_after};
+ghost use Rattle.call_pieces.specs.Matching.{FetchLeft, FetchMatchesSome, blocks_after};
 
 use disk_log::DiskLog;
 use graft_points::Policy;
@@ -36,11 +36,11 @@ pub(crate) fn fetch<B: Policy, D: Disk>(
     ensures does { FetchCameBy (fetch_of store.old p b answer) (D.blocks disk.old)
         (D.blocks disk.new)
         result (cache_of store.new) log.new }
-    ensures some { FetchLeftBySome (world_of_store store.old) (fetch_of store.old p b answer)
+    ensures some { FetchMatchesSome (world_of_store store.old) (fetch_of store.old p b answer)
         result (cache_of store.new) log.new }
     ensures done { FetchDone store.old store.new result log.new }
     ensures same_size { D.block_count disk.new ≡ D.block_count disk.old }
-    ensures calls { GoesOn (D.faults disk.old) (D.faults disk.new) (D.plan disk.old)
+    ensures calls { CallsExtend (D.faults disk.old) (D.faults disk.new) (D.plan disk.old)
         (D.plan disk.new) log.old log.new }
 {
     match store.find(b) {
@@ -68,11 +68,11 @@ pub(crate) fn fetch_ahead<B: Policy, D: Disk>(
     ensures does { FetchCameBy (fetch_ahead_of store.old p b answer) (D.blocks disk.old)
         (D.blocks disk.new)
         result (cache_of store.new) log.new }
-    ensures some { FetchLeftBySome (world_of_store store.old) (fetch_ahead_of store.old p b answer)
+    ensures some { FetchMatchesSome (world_of_store store.old) (fetch_ahead_of store.old p b answer)
         result (cache_of store.new) log.new }
     ensures done { FetchDone store.old store.new result log.new }
     ensures same_size { D.block_count disk.new ≡ D.block_count disk.old }
-    ensures calls { GoesOn (D.faults disk.old) (D.faults disk.new) (D.plan disk.old)
+    ensures calls { CallsExtend (D.faults disk.old) (D.faults disk.new) (D.plan disk.old)
         (D.plan disk.new) log.old log.new }
 {
     match store.find(b) {
@@ -98,11 +98,11 @@ fn load<B: Policy, D: Disk>(
     ensures does { FetchCameBy (load_of store.old p b answer) (D.blocks disk.old)
         (D.blocks disk.new)
         result (cache_of store.new) log.new }
-    ensures some { FetchLeftBySome (world_of_store store.old) (load_of store.old p b answer)
+    ensures some { FetchMatchesSome (world_of_store store.old) (load_of store.old p b answer)
         result (cache_of store.new) log.new }
     ensures done { FetchDone store.old store.new result log.new }
     ensures same_size { D.block_count disk.new ≡ D.block_count disk.old }
-    ensures calls { GoesOn (D.faults disk.old) (D.faults disk.new) (D.plan disk.old)
+    ensures calls { CallsExtend (D.faults disk.old) (D.faults disk.new) (D.plan disk.old)
         (D.plan disk.new) log.old log.new }
 {
     let mut bytes = [0; BLOCK_BYTES];
@@ -133,13 +133,13 @@ fn place<B: Policy, D: Disk>(
         (cache_of store.new)
         (length log.new) }
     ensures tells { (blocks : Blocks) (rest : List Bool) → blocks b ≡ bytes.now →
-        Tells (D.blocks disk.old) blocks →
-        Tells (D.blocks disk.new)
+        Knows (D.blocks disk.old) blocks →
+        Knows (D.blocks disk.new)
         (blocks_after (place_of store.old p b answer blocks (log.new ++ rest)) blocks) }
     ensures first { (rest : List Bool) → disk_fails (log.new ++ rest) 0 ≡ false }
     ensures done { FetchDone store.old store.new result log.new }
     ensures same_size { D.block_count disk.new ≡ D.block_count disk.old }
-    ensures calls { GoesOn (D.faults disk.old) (D.faults disk.new) (D.plan disk.old)
+    ensures calls { CallsExtend (D.faults disk.old) (D.faults disk.new) (D.plan disk.old)
         (D.plan disk.new) log.old log.new }
 {
     if let Some(f) = store.free() {
@@ -190,13 +190,13 @@ fn evict<B: Policy, D: Disk>(
         FetchLeft (evict_of store.old p b f candidate bytes.now blocks (log.new
         ++ rest)) blocks result
         (cache_of store.new) (length log.new) }
-    ensures tells { (blocks : Blocks) (rest : List Bool) → Tells (D.blocks disk.old) blocks →
-        Tells (D.blocks disk.new) (blocks_after
+    ensures tells { (blocks : Blocks) (rest : List Bool) → Knows (D.blocks disk.old) blocks →
+        Knows (D.blocks disk.new) (blocks_after
         (evict_of store.old p b f candidate bytes.now blocks (log.new ++ rest)) blocks) }
     ensures first { (rest : List Bool) → disk_fails (log.new ++ rest) 0 ≡ false }
     ensures done { FetchDone store.old store.new result log.new }
     ensures same_size { D.block_count disk.new ≡ D.block_count disk.old }
-    ensures calls { GoesOn (D.faults disk.old) (D.faults disk.new) (D.plan disk.old)
+    ensures calls { CallsExtend (D.faults disk.old) (D.faults disk.new) (D.plan disk.old)
         (D.plan disk.new) log.old log.new }
 {
     match store.dirty_block(f) {
@@ -233,13 +233,13 @@ fn evict_dirty<B: Policy, D: Disk>(
         FetchLeft (evict_of store.old p b f candidate bytes.now blocks (log.new
         ++ rest)) blocks result
         (cache_of store.new) (length log.new) }
-    ensures tells { (blocks : Blocks) (rest : List Bool) → Tells (D.blocks disk.old) blocks →
-        Tells (D.blocks disk.new) (blocks_after
+    ensures tells { (blocks : Blocks) (rest : List Bool) → Knows (D.blocks disk.old) blocks →
+        Knows (D.blocks disk.new) (blocks_after
         (evict_of store.old p b f candidate bytes.now blocks (log.new ++ rest)) blocks) }
     ensures first { (rest : List Bool) → disk_fails (log.new ++ rest) 0 ≡ false }
     ensures done { FetchDone store.old store.new result log.new }
     ensures same_size { D.block_count disk.new ≡ D.block_count disk.old }
-    ensures calls { GoesOn (D.faults disk.old) (D.faults disk.new) (D.plan disk.old)
+    ensures calls { CallsExtend (D.faults disk.old) (D.faults disk.new) (D.plan disk.old)
         (D.plan disk.new) log.old log.new }
 {
     let mut evicted = [0; BLOCK_BYTES];

@@ -9,7 +9,7 @@ ghost use Rattle.kernel_model.specs.Pieces.{plain, read_fits};
 ghost use Rattle.kernel_model.specs.Needs as spec;
 ghost use Rattle.buffer_cache.specs.Frames.{in_use};
 ghost use Rattle.kernel_state.specs.Stores.{world_of_store, objects_of, cache_of, queue_of, policies_of};
-ghost use Rattle.call_pieces.specs.Works.{MayCome, stage_of};
+ghost use Rattle.call_pieces.specs.Works.{IsDue, stage_of};
 
 use crate::Work;
 use crate::reads::Range;
@@ -215,7 +215,7 @@ pub(crate) fn candidate_for<B: Policy>(store: &Store<B>, b: u32) -> Option<u8>
 /// The objects that the next piece of a call needs, in order. They take the place of what the list
 /// had.
 pub fn need<B: Policy>(work: &Work, store: &Store<B>, needs: &mut Needs)
-    requires ready { MayCome plain (world_of_store store.now) (objects_of store.now) work.now.caller
+    requires ready { IsDue plain (world_of_store store.now) (objects_of store.now) work.now.caller
         (stage_of work.now) }
     ensures { needs.new ≡ spec.piece_needs work.now.call work.now.piece (world_of_store store.now)
         (objects_of store.now) work.now.caller }

@@ -5,15 +5,15 @@ ghost use Rattle.kernel_model.specs.World.{Blocks};
 ghost use Rattle.kernel_model.specs.Pieces.{plain, piece_of};
 ghost use Rattle.kernel_model.specs.Needs.{piece_ask};
 ghost use Rattle.kernel_model.specs.Laws.{IsRightAnswer};
-ghost use Rattle.disk_log.specs.Calls.{Tells, GoesOn};
+ghost use Rattle.disk_log.specs.Calls.{Knows, CallsExtend};
 ghost use Rattle.kernel_state.specs.Stores.{world_of_store, objects_of, queue_of, policies_of, SegmentsStay};
-ghost use Rattle.call_pieces.specs.Works.{stage_of, comes_after, queue_after, MayCome};
-ghost use Rattle.call_pieces.specs.Coming.{CameTo, LeftBySome, HasGone, has_failed, is_fault, goes_on};
+ghost use Rattle.call_pieces.specs.Works.{stage_of, comes_after, queue_after, IsDue};
+ghost use Rattle.call_pieces.specs.Matching.{PieceMatches, PieceMatchesSome, HasContinued, has_failed, is_fault, goes_on};
 
 use crate::amounts::{bill, fund, give, install, remove};
 use crate::locks::{free_lock, take_lock};
+use crate::one_piece::{close, exit, open, peek, poke, spawn, yield_turn};
 use crate::policies::{choose, tune};
-use crate::quick::{close, exit, open, peek, poke, spawn, yield_turn};
 use crate::reads::{Range, read};
 use crate::syncs::sync;
 use crate::writes::write;
@@ -34,20 +34,20 @@ pub fn piece<B: Policy, D: Disk>(
     disk: &mut D,
     log: &mut DiskLog,
 ) -> After
-    requires ready { MayCome plain (world_of_store store.old) (objects_of store.old) work.old.caller
+    requires ready { IsDue plain (world_of_store store.old) (objects_of store.old) work.old.caller
         (stage_of work.old) }
     requires right { IsRightAnswer (objects_of store.old)
         (piece_ask work.old.call work.old.piece (world_of_store store.old)
         (objects_of store.old).things work.old.caller) answer }
     requires disk { store.old.size ≡ D.block_count disk.old }
     requires fresh { log.old ≡ [] }
-    ensures does { (blocks : Blocks) (rest : List Bool) → Tells (D.blocks disk.old) blocks →
-        CameTo (piece_of work.old.call work.old.piece (world_of_store store.old)
+    ensures does { (blocks : Blocks) (rest : List Bool) → Knows (D.blocks disk.old) blocks →
+        PieceMatches (piece_of work.old.call work.old.piece (world_of_store store.old)
         (objects_of store.old) blocks work.old.caller answer
         (log.new ++ rest))
         (objects_of store.new) (D.blocks disk.new) result.gave
         (comes_after result.next (stage_of work.new)) (length log.new) }
-    ensures some { LeftBySome (world_of_store store.old)
+    ensures some { PieceMatchesSome (world_of_store store.old)
         (λ blocks io. piece_of work.old.call work.old.piece
         (world_of_store store.old) (objects_of store.old) blocks
         work.old.caller answer io)
@@ -57,11 +57,11 @@ pub fn piece<B: Policy, D: Disk>(
         (policies_of store.old 2) answer work.old.call work.old.piece work.old.caller
         (queue_of store.old) }
     ensures gone { goes_on result.next ≡ true →
-        HasGone work.old work.new (objects_of store.old) (objects_of store.new) }
+        HasContinued work.old work.new (objects_of store.old) (objects_of store.new) }
     ensures failed { is_fault result.next ≡ true → has_failed log.new ≡ true }
     ensures world { world_of_store store.new ≡ world_of_store store.old }
     ensures same_size { D.block_count disk.new ≡ D.block_count disk.old }
-    ensures calls { GoesOn (D.faults disk.old) (D.faults disk.new) (D.plan disk.old)
+    ensures calls { CallsExtend (D.faults disk.old) (D.faults disk.new) (D.plan disk.old)
         (D.plan disk.new) log.old log.new }
     ensures few { length log.new ≤ 256 }
     ensures memory { SegmentsStay store.old.ram store.new.ram }

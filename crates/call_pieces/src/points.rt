@@ -6,7 +6,7 @@ ghost use Rattle.kernel_model.specs.Pieces.{plain, read_fits};
 ghost use Rattle.kernel_model.specs.Needs as spec;
 ghost use Rattle.buffer_cache.specs.Frames.{in_use};
 ghost use Rattle.kernel_state.specs.Stores.{world_of_store, objects_of, cache_of, queue_of, policies_of};
-ghost use Rattle.call_pieces.specs.Works.{MayCome, stage_of};
+ghost use Rattle.call_pieces.specs.Works.{IsDue, stage_of};
 
 use crate::Work;
 use crate::needs::candidate_for;
@@ -17,7 +17,7 @@ use kernel_state::Store;
 
 /// The point that the next piece of a call asks, with its arguments.
 pub fn asks<B: Policy>(work: &Work, store: &Store<B>) -> Option<Point>
-    requires ready { MayCome plain (world_of_store store.now) (objects_of store.now) work.now.caller
+    requires ready { IsDue plain (world_of_store store.now) (objects_of store.now) work.now.caller
         (stage_of work.now) }
     ensures { result ≡ spec.piece_ask work.now.call work.now.piece (world_of_store store.now)
         (objects_of store.now).things work.now.caller }

@@ -10,11 +10,11 @@ ghost use Rattle.kernel_model.specs.Pieces.{piece_fits};
 ghost use Rattle.kernel_model.specs.Needs.{read_ask};
 ghost use Rattle.kernel_model.specs.Fetch as fetches;
 ghost use Rattle.kernel_model.specs.Sound.{IsSoundFile};
-ghost use Rattle.disk_log.specs.Calls.{Tells, GoesOn};
+ghost use Rattle.disk_log.specs.Calls.{Knows, CallsExtend};
 ghost use Rattle.kernel_state.specs.Stores.{world_of_store, objects_of, cache_of, queue_of, policies_of, SegmentsStay};
 ghost use Rattle.call_pieces.specs.Shared.{CameBy, CameBySome, Serves, read_stage, read_of, first_of, first_at_of, later_of};
 ghost use Rattle.call_pieces.specs.Works.{comes_after};
-ghost use Rattle.call_pieces.specs.Coming.{CameTo, ReadGoes, is_fault, goes_on};
+ghost use Rattle.call_pieces.specs.Matching.{PieceMatches, ReadContinues, is_fault, goes_on};
 
 use crate::fetch::{fetch, fetch_ahead};
 use crate::{After, Next, came};
@@ -58,11 +58,11 @@ pub(crate) fn read<B: Policy, D: Disk>(
     ensures some { CameBySome (world_of_store store.old) (read_of store.old piece.old p r answer)
         (objects_of store.new)
         result (read_stage r piece.new) log.new }
-    ensures next { goes_on result.next ≡ true → ReadGoes piece.old piece.new
+    ensures next { goes_on result.next ≡ true → ReadContinues piece.old piece.new
         ((objects_of store.old).things.file p r.fd) ((objects_of store.new).things.file p r.fd) }
     ensures serves { Serves store.old store.new result.next log.new }
     ensures same_size { D.block_count disk.new ≡ D.block_count disk.old }
-    ensures calls { GoesOn (D.faults disk.old) (D.faults disk.new) (D.plan disk.old)
+    ensures calls { CallsExtend (D.faults disk.old) (D.faults disk.new) (D.plan disk.old)
         (D.plan disk.new) log.old log.new }
 {
     let Some(opened) = store.file(p, r.fd as u8) else {
@@ -101,10 +101,10 @@ fn first<B: Policy, D: Disk>(
         (objects_of store.new)
         result (read_stage r piece.new) log.new }
     ensures next { goes_on result.next ≡ true →
-        ReadGoes 0 piece.new (Some opened) ((objects_of store.new).things.file p r.fd) }
+        ReadContinues 0 piece.new (Some opened) ((objects_of store.new).things.file p r.fd) }
     ensures serves { Serves store.old store.new result.next log.new }
     ensures same_size { D.block_count disk.new ≡ D.block_count disk.old }
-    ensures calls { GoesOn (D.faults disk.old) (D.faults disk.new) (D.plan disk.old)
+    ensures calls { CallsExtend (D.faults disk.old) (D.faults disk.new) (D.plan disk.old)
         (D.plan disk.new) log.old log.new }
 {
     match store.block_of(p, r.fd as u8, r.i, r.off, r.len) {
@@ -141,10 +141,10 @@ fn first_at<B: Policy, D: Disk>(
     ensures some { CameBySome (world_of_store store.old) (first_at_of store.old p r opened b answer)
         (objects_of store.new) result (read_stage r piece.new) log.new }
     ensures next { goes_on result.next ≡ true →
-        ReadGoes 0 piece.new (Some opened) ((objects_of store.new).things.file p r.fd) }
+        ReadContinues 0 piece.new (Some opened) ((objects_of store.new).things.file p r.fd) }
     ensures serves { Serves store.old store.new result.next log.new }
     ensures same_size { D.block_count disk.new ≡ D.block_count disk.old }
-    ensures calls { GoesOn (D.faults disk.old) (D.faults disk.new) (D.plan disk.old)
+    ensures calls { CallsExtend (D.faults disk.old) (D.faults disk.new) (D.plan disk.old)
         (D.plan disk.new) log.old log.new }
 {
     let Ok(f) = fetch(store, disk, log, p, b, answer) else {
@@ -199,15 +199,15 @@ fn second<B: Policy>(
     requires opened { IsSoundFile (world_of_store store.old) opened }
     requires right { IfSome answer (λ a. (slice_index a 1 ≤ 8) ×
         (slice_index a 0 + slice_index a 1 ≤ blocks_of (world_of_store store.old) opened.file)) }
-    ensures does { (blocks : Blocks) (told : Option (List (List ℕ))) → Tells told blocks →
+    ensures does { (blocks : Blocks) (known : Option (List (List ℕ))) → Knows known blocks →
         let pol = policies_of store.old 0 in
         let ahead = ahead_by answer (ahead_default (world_of_store store.old) pol (Some opened)) in
-        CameTo (read_second (objects_of store.old) blocks p r.fd r.i r.off r.len opened ahead)
-        (objects_of store.new) told result.gave
+        PieceMatches (read_second (objects_of store.old) blocks p r.fd r.i r.off r.len opened ahead)
+        (objects_of store.new) known result.gave
         (comes_after result.next (read_stage r piece.new)) 0 }
     ensures queue { queue_of store.new ≡ queue_of store.old }
     ensures next { goes_on result.next ≡ true →
-        ReadGoes 1 piece.new (Some opened) ((objects_of store.new).things.file p r.fd) }
+        ReadContinues 1 piece.new (Some opened) ((objects_of store.new).things.file p r.fd) }
     ensures no_fault { is_fault result.next ≡ false }
     ensures world { world_of_store store.new ≡ world_of_store store.old }
     ensures memory { SegmentsStay store.old.ram store.new.ram }
@@ -250,10 +250,10 @@ fn later<B: Policy, D: Disk>(
         (objects_of store.new)
         result (read_stage r 2) log.new }
     ensures next { goes_on result.next ≡ true →
-        ReadGoes 2 2 (Some opened) ((objects_of store.new).things.file p r.fd) }
+        ReadContinues 2 2 (Some opened) ((objects_of store.new).things.file p r.fd) }
     ensures serves { Serves store.old store.new result.next log.new }
     ensures same_size { D.block_count disk.new ≡ D.block_count disk.old }
-    ensures calls { GoesOn (D.faults disk.old) (D.faults disk.new) (D.plan disk.old)
+    ensures calls { CallsExtend (D.faults disk.old) (D.faults disk.new) (D.plan disk.old)
         (D.plan disk.new) log.old log.new }
 {
     let b = store.block_ahead(&opened);

@@ -8,10 +8,10 @@ ghost use Rattle.std.specs.Result.{is_err};
 ghost use Rattle.kernel_model.specs.Objects.{FrameValue, at};
 ghost use Rattle.kernel_model.specs.Fetch.{bytes_of, cleaned};
 ghost use Rattle.buffer_cache.specs.Frames.{in_use};
-ghost use Rattle.disk_log.specs.Calls.{Tells, GoesOn};
+ghost use Rattle.disk_log.specs.Calls.{Knows, CallsExtend};
 ghost use Rattle.kernel_state.specs.Stores.{world_of_store, objects_of, cache_of, queue_of};
 ghost use Rattle.call_pieces.specs.Works.{comes_after};
-ghost use Rattle.call_pieces.specs.Coming.{CameTo, LeftBy, has_failed, is_fault, goes_on};
+ghost use Rattle.call_pieces.specs.Matching.{PieceMatches, PieceLeaves, has_failed, is_fault, goes_on};
 
 use crate::{After, Next, came};
 use disk_log::DiskLog;
@@ -30,13 +30,13 @@ pub(crate) fn sync<B: Policy, D: Disk>(
     requires disk { store.old.size ≡ D.block_count disk.old }
     requires fresh { log.old ≡ [] }
     ensures does { (blocks : Blocks) (rest : List Bool) (t : Stage) →
-        Tells (D.blocks disk.old) blocks →
-        CameTo (sync_from (world_of_store store.old).frames 0 0 (objects_of store.old) blocks
+        Knows (D.blocks disk.old) blocks →
+        PieceMatches (sync_from (world_of_store store.old).frames 0 0 (objects_of store.old) blocks
         (log.new ++ rest))
         (objects_of store.new) (D.blocks disk.new) result.gave (comes_after result.next t)
         (length log.new) }
     ensures left { (blocks : Blocks) (rest : List Bool) (t : Stage) →
-        LeftBy (sync_from (world_of_store store.old).frames 0 0 (objects_of store.old) blocks
+        PieceLeaves (sync_from (world_of_store store.old).frames 0 0 (objects_of store.old) blocks
         (log.new ++ rest))
         (objects_of store.new) result.gave (comes_after result.next t) (length log.new) }
     ensures queue { queue_of store.new ≡ queue_of store.old }
@@ -44,7 +44,7 @@ pub(crate) fn sync<B: Policy, D: Disk>(
     ensures failed { is_fault result.next ≡ true → has_failed log.new ≡ true }
     ensures world { world_of_store store.new ≡ world_of_store store.old }
     ensures same_size { D.block_count disk.new ≡ D.block_count disk.old }
-    ensures calls { GoesOn (D.faults disk.old) (D.faults disk.new) (D.plan disk.old)
+    ensures calls { CallsExtend (D.faults disk.old) (D.faults disk.new) (D.plan disk.old)
         (D.plan disk.new) log.old log.new }
     ensures few { length log.new ≤ 256 }
     ensures memory { store.new.ram ≡ store.old.ram }
@@ -76,8 +76,8 @@ fn write_back<B: Policy, D: Disk>(
     requires frame { in_use f store.old.cache ≡ true }
     requires room { length log.old < 256 }
     ensures noted { log.new ≡ log.old ++ is_err result ∷ [] }
-    ensures told { (blocks : Blocks) → Tells (D.blocks disk.old) blocks →
-        Tells (D.blocks disk.new)
+    ensures known { (blocks : Blocks) → Knows (D.blocks disk.old) blocks →
+        Knows (D.blocks disk.new)
         (cond (is_ok result) (at b (bytes_of (cache_of store.old) f) blocks) blocks) }
     ensures cleaned { IfOk result (λ _. (x : FrameValue) → (cache_of store.old).frame f ≡ Some x →
         objects_of store.new ≡ with_cache (cleaned f x (cache_of store.old)) (objects_of store.old)) }
@@ -85,7 +85,7 @@ fn write_back<B: Policy, D: Disk>(
     ensures queue { queue_of store.new ≡ queue_of store.old }
     ensures world { world_of_store store.new ≡ world_of_store store.old }
     ensures same_size { D.block_count disk.new ≡ D.block_count disk.old }
-    ensures calls { GoesOn (D.faults disk.old) (D.faults disk.new) (D.plan disk.old)
+    ensures calls { CallsExtend (D.faults disk.old) (D.faults disk.new) (D.plan disk.old)
         (D.plan disk.new) log.old log.new }
     ensures few { length log.new ≤ 256 }
     ensures memory { store.new.ram ≡ store.old.ram }

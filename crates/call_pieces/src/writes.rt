@@ -5,10 +5,10 @@ ghost use Rattle.kernel_model.specs.Meaning.{Stage};
 ghost use Rattle.kernel_model.specs.Policies.{lives};
 ghost use Rattle.kernel_model.specs.Needs.{fetch_ask};
 ghost use Rattle.kernel_model.specs.Laws.{IsRightAnswer};
-ghost use Rattle.disk_log.specs.Calls.{GoesOn};
+ghost use Rattle.disk_log.specs.Calls.{CallsExtend};
 ghost use Rattle.kernel_state.specs.Stores.{world_of_store, objects_of, queue_of};
 ghost use Rattle.call_pieces.specs.Shared.{CameBy, CameBySome, Serves, block_written, write_of};
-ghost use Rattle.call_pieces.specs.Coming.{goes_on};
+ghost use Rattle.call_pieces.specs.Matching.{goes_on};
 
 use crate::fetch::fetch;
 use crate::{After, Next, came};
@@ -47,7 +47,7 @@ pub(crate) fn write<B: Policy, D: Disk>(
     ensures ends { goes_on result.next ≡ false }
     ensures serves { Serves store.old store.new result.next log.new }
     ensures same_size { D.block_count disk.new ≡ D.block_count disk.old }
-    ensures calls { GoesOn (D.faults disk.old) (D.faults disk.new) (D.plan disk.old)
+    ensures calls { CallsExtend (D.faults disk.old) (D.faults disk.new) (D.plan disk.old)
         (D.plan disk.new) log.old log.new }
 {
     let b = match store.block_of(p, fd as u8, i, off, bytes.len() as u32) {

@@ -11,17 +11,17 @@ use Rattle.vino_base.specs.Calls.{Plan, after_call, call_fails}
 use Rattle.vino_base.specs.Faults.{HasCause}
 use Rattle.kernel_model.specs.World.{Blocks}
 use Rattle.kernel_model.specs.Objects.{at}
-use Rattle.disk_log.specs.Calls.{blocks_in, Tells, failures, planned, plan_after, Made}
+use Rattle.disk_log.specs.Calls.{blocks_in, Knows, failures, planned, plan_after, Made}
 
 -- what an option holds
 held : {A : Type 0} {a b : A} → Some a ≡ Some b → a ≡ b
 held e = grind (arith, e)
 
 -- a read leaves the told blocks, and gives one of them
-pub read_tells : {T E : Type 0} (told told_new : Option (List (List ℕ))) (result : Result T E) (b : ℕ) (to : List ℕ) (blocks : Blocks) →
-    ((bs : List (List ℕ)) → told ≡ Some bs → OnOk result (slice_get bs b ≡ Some to)) →
-    ((bs : List (List ℕ)) → told ≡ Some bs → told_new ≡ Some bs) →
-    Tells told blocks → Tells told_new blocks × OnOk result (to ≡ blocks b)
+pub read_tells : {T E : Type 0} (known told_new : Option (List (List ℕ))) (result : Result T E) (b : ℕ) (to : List ℕ) (blocks : Blocks) →
+    ((bs : List (List ℕ)) → known ≡ Some bs → OnOk result (slice_get bs b ≡ Some to)) →
+    ((bs : List (List ℕ)) → known ≡ Some bs → told_new ≡ Some bs) →
+    Knows known blocks → Knows told_new blocks × OnOk result (to ≡ blocks b)
 read_tells None told_new result b to blocks given kept tells = absurd cc
 read_tells (Some bs) told_new (Ok x) b to blocks given kept tells = (
   ap (option_map blocks_in) (kept bs refl) ∙ tells,
@@ -38,10 +38,10 @@ set_block bs b bytes below = fun_ext (λ j. by_test j (j == b) refl)
     by_test j false h = grind (arith, nat_tests, get_or-set_other)
 
 -- a write that doesn't fail replaces one of the told blocks
-pub write_tells : {T E : Type 0} (told told_new : Option (List (List ℕ))) (result : Result T E) (b count : ℕ) (bytes : List ℕ) (blocks : Blocks) →
-    b < count → ((bs : List (List ℕ)) → told ≡ Some bs → length bs ≡ count) →
-    ((bs : List (List ℕ)) → told ≡ Some bs → told_new ≡ Some (cond (is_ok result) (slice_set bs b bytes) bs)) →
-    Tells told blocks → Tells told_new (cond (is_ok result) (at b bytes blocks) blocks)
+pub write_tells : {T E : Type 0} (known told_new : Option (List (List ℕ))) (result : Result T E) (b count : ℕ) (bytes : List ℕ) (blocks : Blocks) →
+    b < count → ((bs : List (List ℕ)) → known ≡ Some bs → length bs ≡ count) →
+    ((bs : List (List ℕ)) → known ≡ Some bs → told_new ≡ Some (cond (is_ok result) (slice_set bs b bytes) bs)) →
+    Knows known blocks → Knows told_new (cond (is_ok result) (at b bytes blocks) blocks)
 write_tells None told_new result b count bytes blocks below long replaced tells = absurd cc
 write_tells (Some bs) told_new (Ok x) b count bytes blocks below long replaced tells =
     ap (option_map blocks_in) (replaced bs refl)

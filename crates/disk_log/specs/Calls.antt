@@ -10,8 +10,8 @@ abbrev pub blocks_in : List (List ℕ) → Blocks
 blocks_in bs b = slice_index_or bs b []
 
 -- a disk tells its blocks, and they are these
-abbrev pub Tells : Option (List (List ℕ)) → Blocks → Type 0
-Tells told blocks = option_map blocks_in told ≡ Some blocks
+abbrev pub Knows : Option (List (List ℕ)) → Blocks → Type 0
+Knows known blocks = option_map blocks_in known ≡ Some blocks
 
 -- how many of these calls failed
 abbrev pub failures : List Bool → ℕ
@@ -28,8 +28,7 @@ plan_after zero p = p
 plan_after (suc n) p = plan_after n (after_call p)
 
 -- From one moment to another a disk had these calls: its count of faults rose by those that failed,
--- or stands at its end,
--- and where it tells its plan they are what the plan gave.
+-- or stands at its end, and where it tells its plan they are what the plan gave.
 pub record Made (faults faults_new : ℕ) (plan plan_new : Option Plan)
     (io : List Bool) : Type 0 where
   pub later : faults ≤ faults_new
@@ -39,7 +38,7 @@ pub record Made (faults faults_new : ℕ) (plan plan_new : Option Plan)
 
 -- A list of calls went on with what a disk did: whenever it began, it says what the disk did from
 -- there on.
-abbrev pub GoesOn : (faults faults_new : ℕ) → (plan plan_new : Option Plan) →
+abbrev pub CallsExtend : (faults faults_new : ℕ) → (plan plan_new : Option Plan) →
     (io io_new : List Bool) → Type 0
-GoesOn faults faults_new plan plan_new io io_new =
+CallsExtend faults faults_new plan plan_new io io_new =
     (f : ℕ) (p : Option Plan) → Made f faults p plan io → Made f faults_new p plan_new io_new

@@ -5,7 +5,7 @@ ghost use Rattle.std.specs.Prelude.{◌≡◌, ℕ, ◌+◌, ◌<◌, ◌≤◌,
 ghost use Rattle.std.specs.Result.{is_err, OnOk};
 ghost use Rattle.kernel_model.specs.World.{Blocks};
 ghost use Rattle.kernel_model.specs.Objects.{at};
-ghost use Rattle.disk_log.specs.Calls.{Tells, GoesOn};
+ghost use Rattle.disk_log.specs.Calls.{Knows, CallsExtend};
 
 use arrayvec::ArrayVec;
 use std::marker::Model;
@@ -57,10 +57,10 @@ impl DiskLog {
         requires room { length self.old < CALLS }
         requires block { b < D.block_count disk.old }
         ensures noted { self.new ≡ self.old ++ is_err result ∷ [] }
-        ensures told { (blocks : Blocks) → Tells (D.blocks disk.old) blocks →
-            Tells (D.blocks disk.new) blocks × OnOk result (to.new ≡ blocks b) }
+        ensures known { (blocks : Blocks) → Knows (D.blocks disk.old) blocks →
+            Knows (D.blocks disk.new) blocks × OnOk result (to.new ≡ blocks b) }
         ensures same_size { D.block_count disk.new ≡ D.block_count disk.old }
-        ensures calls { GoesOn (D.faults disk.old) (D.faults disk.new) (D.plan disk.old)
+        ensures calls { CallsExtend (D.faults disk.old) (D.faults disk.new) (D.plan disk.old)
             (D.plan disk.new) self.old self.new }
     {
         let result = disk.read_block(b, to);
@@ -73,10 +73,10 @@ impl DiskLog {
         requires room { length self.old < CALLS }
         requires block { b < D.block_count disk.old }
         ensures noted { self.new ≡ self.old ++ is_err result ∷ [] }
-        ensures told { (blocks : Blocks) → Tells (D.blocks disk.old) blocks →
-            Tells (D.blocks disk.new) (cond (is_ok result) (at b from.now blocks) blocks) }
+        ensures known { (blocks : Blocks) → Knows (D.blocks disk.old) blocks →
+            Knows (D.blocks disk.new) (cond (is_ok result) (at b from.now blocks) blocks) }
         ensures same_size { D.block_count disk.new ≡ D.block_count disk.old }
-        ensures calls { GoesOn (D.faults disk.old) (D.faults disk.new) (D.plan disk.old)
+        ensures calls { CallsExtend (D.faults disk.old) (D.faults disk.new) (D.plan disk.old)
             (D.plan disk.new) self.old self.new }
     {
         disk.size();

@@ -32,10 +32,8 @@ pub record Gave (rest rest_new : Option (List ℕ)) : Type 0 where
   pub consumed : Consumes rest rest_new taken
 
 -- The source gave some bytes, at most one more than an input may have, and reading ended somehow.
--- The
--- status is that of an answer of the filter, and the sink took its bytes. Each filter but `lang`
--- has one
--- answer to an input.
+-- The status is that of an answer of the filter, and the sink took its bytes. Each filter but
+-- `lang` has one answer to an input.
 pub record Ran (f : Filter) (rest rest_new : Option (List ℕ)) (before now : ℕ)
     (got got_new : Option (List ℕ)) (status : ℕ) : Type 0 where
   pub taken : List ℕ

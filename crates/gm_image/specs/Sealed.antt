@@ -4,8 +4,7 @@ use Rattle.kernel_model.specs.Bytes.{word_at}
 use Rattle.kernel_model.specs.Images.{LoadFault, head_of, flags_of, number_of, head_fault}
 
 -- What a sealed image says: its version, its flags and the number of its key, eight bytes for each
--- instruction, the data
--- bytes, and the seal. Version 1 has no flags, and its key is number 0.
+-- instruction, the data bytes, and the seal. Version 1 has no flags, and its key is number 0.
 pub record Parts : Type 0 where
   pub version : ℕ
   pub flags : ℕ

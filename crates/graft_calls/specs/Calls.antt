@@ -37,8 +37,8 @@ AreSound queue (g ∷ gs) = IsSoundLevel queue g × (is_running_in gs g.owner g.
     × AreSound queue gs
 
 -- Level d of process p runs: its count is within the limit of its graft, and its machine is inside
--- its segment on the code of its
--- graft, whatever memory has. So its graft stands, and the image of it is loaded.
+-- its segment on the code of its graft, whatever memory has. So its graft stands, and the image of
+-- it is loaded.
 pub record RunsInside (images : ImageTable) (a : Accounts) (p d : ℕ) (g : GraftLevel) : Type 0 where
   pub count : g.count ≤ limit_in (a.graft g.owner g.point)
   pub inside : (ram : List ℕ) →
@@ -60,8 +60,7 @@ AllUndoable [] w = ⊤
 AllUndoable (is ∷ log) w = AreUndoable is w × AllUndoable log w
 
 -- Levels of process p with this undo log stand in place on a store: there are at most four, each
--- with its records, the process
--- holds nothing further inward, and all records can be undone.
+-- with its records, the process holds nothing further inward, and all records can be undone.
 pub record IsPlaced {B : Type 0} {P : _} (s : Store B P) (t : List (List Holds)) (p : ℕ)
     (gs : List GraftLevel) (log : List (List Inverse)) : Type 0 where
   pub process : p < 16
@@ -100,8 +99,8 @@ abbrev pub IsBeyond : (p a : ℕ) → Type 0
 IsBeyond p a = (a < base_of p 0) ⊎ (base_of p 4 ≤ a)
 
 -- Of all that the state of objects doesn't tell, another store and lock table have the same: the
--- set-up, who lives, what other
--- processes hold, and the bytes of memory outside the segments of process p.
+-- set-up, who lives, what other processes hold, and the bytes of memory outside the segments of
+-- process p.
 pub record IsElsewhereSame {B : Type 0} {P : _} (s u : Store B P) (t r : List (List Holds))
     (p : ℕ) : Type 0 where
   pub world : world_of_store u ≡ world_of_store s

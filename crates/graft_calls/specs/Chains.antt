@@ -34,8 +34,7 @@ outer [] = []
 outer (is ∷ log) = log
 
 -- level d of process p, whose segment is in this memory and which holds what the table says; it has
--- these records, and found
--- these things when it began
+-- these records, and found these things when it began
 abbrev pub level_in : (p d : ℕ) → List ℕ → LockTable → GraftLevel → List Inverse → Things → Level
 level_in p d ram t g is kept =
     record {
@@ -50,8 +49,7 @@ level_in p d ram t g is kept =
     }
 
 -- The levels of process p, innermost first, where these are the things now: what a level found is
--- what undoing its records
--- and those further inward gives.
+-- what undoing its records and those further inward gives.
 abbrev pub levels_in : ℕ → List ℕ → LockTable → List GraftLevel → List (List Inverse) → Things →
     List Level
 levels_in p ram t [] log w = []

@@ -1,6 +1,5 @@
 -- The code of a program. Variable i is kept in word i of the segment, operands in the words behind
--- the variables.
--- r4 has values, r5 addresses, r6 left operands; r14 and r15 are never named.
+-- the variables. r4 has values, r5 addresses, r6 left operands; r14 and r15 are never named.
 use Rattle.std.specs.Prelude.{ℕ, zero, suc, ◌+◌, ◌-◌, ◌*◌, List, [], ◌∷◌, ◌++◌, length}
 use Rattle.kernel_model.specs.declared.Instr.{Instr}
 use Rattle.kernel_model.specs.declared.Op.TheVariants.{Li, Mov, Ldw, Stw, Add, Sub, Mul, And, Or, Xor, Shl, Shr}

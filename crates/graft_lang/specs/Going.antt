@@ -36,8 +36,7 @@ HasEnd (Asks call) r =
 HasEnd Going r = r.ended ≡ None
 
 -- The code of so many instructions is run to its end, with so many turns of loops, while s becomes
--- t; no
--- turn takes more than `most` instructions.
+-- t; no turn takes more than `most` instructions.
 pub record GoesOn (code : List Instr) (most top c len : ℕ) (r : CodeRun)
     (s t : State) : Type 0 where
   pub steps : ℕ

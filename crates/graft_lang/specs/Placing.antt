@@ -34,8 +34,7 @@ pub record IsAt (cells : ℕ → ℕ) (top c : ℕ) (calls : List MadeCall) (ans
   pub answers_are : r.answers ≡ answers
 
 -- where the value of an expression is this, its code comes to its end with it in r4; or it divides
--- by zero on
--- the way
+-- by zero on the way
 abbrev pub ComesTo : (cells : ℕ → ℕ) (top c len : ℕ) → List MadeCall → List (ℕ × ℕ) → List Instr
     → CodeRun → Option ℕ → Type 0
 ComesTo cells top c len calls answers code r (Some x) =

@@ -41,8 +41,7 @@ semicolons (Traps code p) = 1 + semicolons p
 semicolons (Answers e f p) = 1 + semicolons p
 
 -- boxed, a program needs at most 8 instructions a token and 32 more, where it has no more variables
--- than the
--- arguments and one for each semicolon
+-- than the arguments and one for each semicolon
 abbrev pub ProgramsAreShort : Type 0
 ProgramsAreShort =
     (v : ℕ) (p : Program) → 4 ≤ v → v ≤ 4 + semicolons p

@@ -16,7 +16,7 @@ use Rattle.kernel_model.specs.Meaning.{Meaning, Stage}
 use Rattle.kernel_model.specs.Kernel.{Entry, Run}
 use Rattle.kernel_model.specs.Events.{MOST_STEPS, event, in_order}
 use Rattle.kernel_model.specs.Sound.{HasWholeBlocks}
-use Rattle.disk_log.specs.Calls.{Tells, blocks_in}
+use Rattle.disk_log.specs.Calls.{Knows, blocks_in}
 use Rattle.disk_log.specs.Seen.{DiskSeen}
 use Rattle.history_laws.specs.Notes.{EventsLeaveFewNotes}
 use Rattle.placed_laws.specs.Agreeing.{SameShown}
@@ -28,12 +28,12 @@ use Rattle.placed_laws.specs.Stands.{StandsFor}
 use Rattle.kernel_steps.specs.declared.order.Waiting.{Waiting}
 use Rattle.kernel_steps.specs.declared.running.Running.{Running}
 use Rattle.kernel_steps.specs.Composing.{did_as}
-use Rattle.kernel_steps.specs.Did.{first_notes}
+use Rattle.kernel_steps.specs.Refines.{first_notes}
 use Rattle.kernel_steps.specs.Kept.{kept_whole}
 use Rattle.kernel_steps.specs.Orders.{has_number, numbers_of, order_of}
-use Rattle.kernel_steps.specs.Views.{placed_of, run_of, IsRunning, Stood}
-use Rattle.kernel_core.specs.Happened.{Happened}
-use Rattle.kernel_core.specs.Went.{DidFromRest, Went}
+use Rattle.kernel_steps.specs.Views.{placed_of, run_of, IsRunning, HasAbstraction}
+use Rattle.kernel_core.specs.EventRefines.{EventRefines}
+use Rattle.kernel_core.specs.RefinesAndKeeps.{RefinesFromRest, RefinesAndKeeps}
 use Rattle.kernel_core.proofs.LastLemmas.{did_note}
 use Rattle.kernel_core.proofs.WentLemmas.{ordered_called}
 
@@ -54,7 +54,7 @@ order_numbers p [] = refl
 order_numbers p (w ∷ ws) = ap (λ b. (w.process == p) || b) (order_numbers p ws)
 
 -- who has no call doesn't stand there
-pub uncalled_unordered : (m : Meaning) → SameShown m → (x : Placed) (p : ℕ) (ws : List Waiting) → Stood m x → x.order ≡ order_of ws → x.call p ≡ None → has_number p (numbers_of ws) ≡ false
+pub uncalled_unordered : (m : Meaning) → SameShown m → (x : Placed) (p : ℕ) (ws : List Waiting) → HasAbstraction m x → x.order ≡ order_of ws → x.call p ≡ None → has_number p (numbers_of ws) ≡ false
 uncalled_unordered m shown x p ws s is none = by_test (in_order p x.order) refl
   where
     contrary : true ≡ false → ⊥
@@ -139,14 +139,14 @@ module _ (m : Meaning) (x : Placed) (number p : ℕ) where
   step_taken n h some few blocks notes io = step_living n true h (grind (arith, nat_tests, some, few)) blocks notes io
 
 -- a refusal, which is all that an event comes to
-pub went_refused : {C B M W : Type 0} {P : _} (m : Meaning) (stage : W → Stage) (caller : W → ℕ) (f : PlacedRun → PlacedRun) (x : Running C B M W P) (note : Note) (kept kept_new : List Note) (d : DiskSeen) → IsRunning caller x → Stood m (placed_of stage x) →
+pub went_refused : {C B M W : Type 0} {P : _} (m : Meaning) (stage : W → Stage) (caller : W → ℕ) (f : PlacedRun → PlacedRun) (x : Running C B M W P) (note : Note) (kept kept_new : List Note) (d : DiskSeen) → IsRunning caller x → HasAbstraction m (placed_of stage x) →
     ((blocks : Blocks) (notes : List Note) (io : List Bool) → f (run_of (placed_of stage x) blocks notes io) ≡ placed_noted note (run_of (placed_of stage x) blocks notes io)) →
-    ((all : List Note) → kept ≡ first_notes all → kept_new ≡ first_notes (all ++ note ∷ [])) → Went m stage caller f x x kept kept_new d d
-went_refused m stage caller f x note kept kept_new d running stood same adds =
+    ((all : List Note) → kept ≡ first_notes all → kept_new ≡ first_notes (all ++ note ∷ [])) → RefinesAndKeeps m stage caller f x x kept kept_new d d
+went_refused m stage caller f x note kept kept_new d running abstraction same adds =
     record {
-      did = did_as f (placed_noted note) (placed_of stage x) (placed_of stage x) kept kept_new d d same (did_note (placed_of stage x) note kept kept_new d adds);
+      refines = did_as f (placed_noted note) (placed_of stage x) (placed_of stage x) kept kept_new d d same (did_note (placed_of stage x) note kept kept_new d adds);
       running = running;
-      stood = stood;
+      abstraction = abstraction;
       world = refl;
       clock = refl;
     }
@@ -154,7 +154,7 @@ went_refused m stage caller f x note kept kept_new d running stood same adds =
 -- ---- what happened
 
 -- a disk that tells whole blocks
-whole_of : (told : Option (List (List ℕ))) (blocks : Blocks) (size : ℕ) (v : World) → v.disk_size ≡ size → ((bs : List (List ℕ)) → told ≡ Some bs → (b : ℕ) → b < size → length (slice_index_or bs b []) ≡ 512) → Tells told blocks → HasWholeBlocks v blocks
+whole_of : (known : Option (List (List ℕ))) (blocks : Blocks) (size : ℕ) (v : World) → v.disk_size ≡ size → ((bs : List (List ℕ)) → known ≡ Some bs → (b : ℕ) → b < size → length (slice_index_or bs b []) ≡ 512) → Knows known blocks → HasWholeBlocks v blocks
 whole_of None blocks size v is whole tells = grind (arith, tells)
 whole_of (Some bs) blocks size v is whole tells =
     λ b small. ap (λ (f : Blocks). length (f b)) (sym (same_blocks (blocks_in bs) blocks tells)) ∙ whole bs refl b (subst (λ n. b < n) is small)
@@ -163,30 +163,30 @@ whole_of (Some bs) blocks size v is whole tells =
     same_blocks f g h = cc
 
 pub happened_by : (m : Meaning) → EventsStand m → EventsLeaveFewNotes m → (x y : Placed) (number size : ℕ) (what : Event) (kept kept_new : List Note) (d e : DiskSeen) → x.world.disk_size ≡ size → kept ≡ [] →
-    ((bs : List (List ℕ)) → d.told ≡ Some bs → (b : ℕ) → b < size → length (slice_index_or bs b []) ≡ 512) →
-    DidFromRest m (placed_event_on m number what) x y kept kept_new d e → Happened m x y number what kept_new d e
-happened_by m law few x y number size what kept kept_new d e size_is none whole did =
+    ((bs : List (List ℕ)) → d.known ≡ Some bs → (b : ℕ) → b < size → length (slice_index_or bs b []) ≡ 512) →
+    RefinesFromRest m (placed_event_on m number what) x y kept kept_new d e → EventRefines m x y number what kept_new d e
+happened_by m law few x y number size what kept kept_new d e size_is none whole refines =
     record {
-      io = did.io;
-      made = did.made;
+      io = refines.io;
+      made = refines.made;
       is = λ k blocks rest stands rests tells.
-          let io = did.io ++ rest in
+          let io = refines.io ++ rest in
           let r : Run = record { kernel = k; blocks = blocks; notes = []; io = io } in
-          let all : HasWholeBlocks k.world blocks = subst (λ v. HasWholeBlocks v blocks) stands.world (whole_of d.told blocks size x.world size_is whole tells) in
+          let all : HasWholeBlocks k.world blocks = subst (λ v. HasWholeBlocks v blocks) stands.world (whole_of d.known blocks size x.world size_is whole tells) in
           let after = law (run_of x blocks [] io) r number what (record { kernel = stands; blocks = refl; notes = refl; io = refl; whole = all }) rests in
-          let came = did.goes blocks [] rest (record { kernel = k; stands = stands; rests = rests; whole = all }) tells (none ∙ sym (kept_whole [] (omega arith))) in
+          let came = refines.goes blocks [] rest (record { kernel = k; stands = stands; rests = rests; whole = all }) tells (none ∙ sym (kept_whole [] (omega arith))) in
           record {
             stands = subst (λ z. StandsFor m z (event m k blocks number what io).kernel) came.placed after.0.kernel;
             rests = after.1;
-            blocks = subst (Tells e.told) after.0.blocks came.blocks;
+            blocks = subst (Knows e.known) after.0.blocks came.blocks;
             notes_are = came.notes ∙ ap first_notes after.0.notes ∙ kept_whole (event m k blocks number what io).notes (few k blocks number what io stands.kernel all).all;
             left = sym after.0.io ∙ came.io;
           };
     }
 
 -- by the event that it is
-pub happened_as : (m : Meaning) (x y : Placed) (number : ℕ) (what other : Event) (notes : List Note) (d e : DiskSeen) → what ≡ other → Happened m x y number what notes d e → Happened m x y number other notes d e
-happened_as m x y number what other notes d e is h = subst (λ w. Happened m x y number w notes d e) is h
+pub happened_as : (m : Meaning) (x y : Placed) (number : ℕ) (what other : Event) (notes : List Note) (d e : DiskSeen) → what ≡ other → EventRefines m x y number what notes d e → EventRefines m x y number other notes d e
+happened_as m x y number what other notes d e is h = subst (λ w. EventRefines m x y number w notes d e) is h
 
 -- a process without a call
 pub no_call_told : (x : Placed) (p : ℕ) (n : Option ℕ) → n ≡ option_map (λ (c : PlacedCall). c.number) (x.call p) → n ≡ None → x.call p ≡ None

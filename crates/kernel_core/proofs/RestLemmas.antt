@@ -17,47 +17,47 @@ use Rattle.placed_laws.specs.PlacedEvents.{placed_settled}
 use Rattle.placed_laws.specs.Resting.{KeepsHolds, Resting}
 use Rattle.placed_laws.specs.Stands.{StandsFor, RunStandsFor}
 use Rattle.kernel_steps.specs.declared.running.Running.{Running}
-use Rattle.kernel_steps.specs.Did.{CameAs, Did}
+use Rattle.kernel_steps.specs.Refines.{RunMatches, Refines}
 use Rattle.kernel_steps.specs.Views.{run_of}
-use Rattle.kernel_core.specs.Went.{DidFromRest, DidToRest, GoesOn, Rests, Went, taken_up}
+use Rattle.kernel_core.specs.RefinesAndKeeps.{RefinesFromRest, RefinesToRest, KeepsRunning, Rests, RefinesAndKeeps, taken_up}
 
 -- ---- what always holds
 
 pub on_went : {C B M W : Type 0} {P : _} (m : Meaning) (stage : W → Stage) (caller : W → ℕ) (f : PlacedRun → PlacedRun) (x y : Running C B M W P) (kept kept_new : List Note) (d e : DiskSeen) →
-    Went m stage caller f x y kept kept_new d e → GoesOn m stage caller x y
-on_went m stage caller f x y kept kept_new d e h = record { running = h.running; stood = h.stood; world = h.world; clock = h.clock }
+    RefinesAndKeeps m stage caller f x y kept kept_new d e → KeepsRunning m stage caller x y
+on_went m stage caller f x y kept kept_new d e h = record { running = h.running; abstraction = h.abstraction; world = h.world; clock = h.clock }
 
 -- ---- what was done
 
 -- from anywhere, and so from rest
-pub from_did : (m : Meaning) (f : PlacedRun → PlacedRun) (x y : Placed) (kept kept_new : List Note) (d e : DiskSeen) → Did f x y kept kept_new d e → DidFromRest m f x y kept kept_new d e
+pub from_did : (m : Meaning) (f : PlacedRun → PlacedRun) (x y : Placed) (kept kept_new : List Note) (d e : DiskSeen) → Refines f x y kept kept_new d e → RefinesFromRest m f x y kept kept_new d e
 from_did m f x y kept kept_new d e h = record { io = h.io; made = h.made; goes = λ blocks notes rest s tells k. h.goes blocks notes rest tells k }
 
 -- another change that comes to the same
 pub from_as : (m : Meaning) (f g : PlacedRun → PlacedRun) (x y : Placed) (kept kept_new : List Note) (d e : DiskSeen) → ((blocks : Blocks) (notes : List Note) (io : List Bool) → f (run_of x blocks notes io) ≡ g (run_of x blocks notes io)) →
-    DidFromRest m g x y kept kept_new d e → DidFromRest m f x y kept kept_new d e
+    RefinesFromRest m g x y kept kept_new d e → RefinesFromRest m f x y kept kept_new d e
 from_as m f g x y kept kept_new d e same h =
     record {
       io = h.io;
       made = h.made;
-      goes = λ blocks notes rest s tells k. subst (λ r. CameAs r y kept_new e.told rest) (sym (same blocks notes (h.io ++ rest))) (h.goes blocks notes rest s tells k);
+      goes = λ blocks notes rest s tells k. subst (λ r. RunMatches r y kept_new e.known rest) (sym (same blocks notes (h.io ++ rest))) (h.goes blocks notes rest s tells k);
     }
 
 -- and another change after it
-pub from_then : (m : Meaning) (f g : PlacedRun → PlacedRun) (x y z : Placed) (a b c : List Note) (d e l : DiskSeen) → DidFromRest m f x y a b d e → Did g y z b c e l → DidFromRest m (λ r. g (f r)) x z a c d l
+pub from_then : (m : Meaning) (f g : PlacedRun → PlacedRun) (x y z : Placed) (a b c : List Note) (d e l : DiskSeen) → RefinesFromRest m f x y a b d e → Refines g y z b c e l → RefinesFromRest m (λ r. g (f r)) x z a c d l
 from_then m f g x y z a b c d e l first second =
     record {
       io = first.io ++ second.io;
       made = made_joined d.faults e.faults l.faults d.plan e.plan l.plan first.io second.io first.made second.made;
       goes = λ blocks notes rest s tells k.
-          let one = subst (λ io. CameAs (f (run_of x blocks notes io)) y b e.told (second.io ++ rest)) (sym (append_assoc first.io second.io rest)) (first.goes blocks notes (second.io ++ rest) s tells k) in
+          let one = subst (λ io. RunMatches (f (run_of x blocks notes io)) y b e.known (second.io ++ rest)) (sym (append_assoc first.io second.io rest)) (first.goes blocks notes (second.io ++ rest) s tells k) in
           let r : PlacedRun = f (run_of x blocks notes ((first.io ++ second.io) ++ rest)) in
-          subst (λ q. CameAs (g q) z c l.told rest) (sym (run_is r y b e.told (second.io ++ rest) one))
+          subst (λ q. RunMatches (g q) z c l.known rest) (sym (run_is r y b e.known (second.io ++ rest) one))
           (second.goes r.blocks r.notes rest one.blocks one.notes);
     }
   where
-    run_is : (r : PlacedRun) (y : Placed) (kept : List Note) (told : Option (List (List ℕ))) (rest : List Bool) → CameAs r y kept told rest → r ≡ run_of y r.blocks r.notes rest
-    run_is r y kept told rest h =
+    run_is : (r : PlacedRun) (y : Placed) (kept : List Note) (known : Option (List (List ℕ))) (rest : List Bool) → RunMatches r y kept known rest → r ≡ run_of y r.blocks r.notes rest
+    run_is r y kept known rest h =
         ap (λ z. record { placed = z; blocks = r.blocks; notes = r.notes; io = r.io }) h.placed
         ∙ ap (λ io. record { placed = y; blocks = r.blocks; notes = r.notes; io = io }) h.io
 
@@ -71,20 +71,20 @@ pub record RestedAs (m : Meaning) (f g : PlacedRun → PlacedRun) (r : PlacedRun
   pub rests : IsAtRest m run.kernel
 
 -- the change g was done, which comes to the same as f and leaves rest
-pub did_to_rest : (m : Meaning) (f g : PlacedRun → PlacedRun) (x y : Placed) (kept kept_new : List Note) (d e : DiskSeen) → Did g x y kept kept_new d e →
-    ((blocks : Blocks) (notes : List Note) (io : List Bool) → Rests m x blocks → (g (run_of x blocks notes io)).placed ≡ y → RestedAs m f g (run_of x blocks notes io)) → DidToRest m f x y kept kept_new d e
-did_to_rest m f g x y kept kept_new d e did how =
+pub did_to_rest : (m : Meaning) (f g : PlacedRun → PlacedRun) (x y : Placed) (kept kept_new : List Note) (d e : DiskSeen) → Refines g x y kept kept_new d e →
+    ((blocks : Blocks) (notes : List Note) (io : List Bool) → Rests m x blocks → (g (run_of x blocks notes io)).placed ≡ y → RestedAs m f g (run_of x blocks notes io)) → RefinesToRest m f x y kept kept_new d e
+did_to_rest m f g x y kept kept_new d e refines how =
     record {
-      did = record {
-        io = did.io;
-        made = did.made;
+      refines = record {
+        io = refines.io;
+        made = refines.made;
         goes = λ blocks notes rest s tells k.
-            let came = did.goes blocks notes rest tells k in
-            subst (λ r. CameAs r y kept_new e.told rest) (sym (how blocks notes (did.io ++ rest) s came.placed).same) came;
+            let came = refines.goes blocks notes rest tells k in
+            subst (λ r. RunMatches r y kept_new e.known rest) (sym (how blocks notes (refines.io ++ rest) s came.placed).same) came;
       };
       rests = λ blocks notes rest s tells k.
-          let came = did.goes blocks notes rest tells k in
-          let a = how blocks notes (did.io ++ rest) s came.placed in
+          let came = refines.goes blocks notes rest tells k in
+          let a = how blocks notes (refines.io ++ rest) s came.placed in
           subst (λ (r : PlacedRun). Rests m y r.blocks) (sym a.same)
           (record {
             kernel = a.run.kernel;

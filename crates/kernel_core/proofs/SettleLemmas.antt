@@ -10,7 +10,7 @@ use Rattle.placed_laws.specs.Agreeing.{SameShown}
 use Rattle.placed_laws.specs.Placed.{Placed, PlacedRun, placed_blocker, placed_blocker_in, placed_holds}
 use Rattle.placed_laws.specs.PlacedSteps.{placed_first_free, placed_first_free_in, placed_step}
 use Rattle.placed_laws.specs.PlacedEvents.{placed_rested, placed_settle}
-use Rattle.kernel_steps.specs.Views.{run_of, Stood}
+use Rattle.kernel_steps.specs.Views.{run_of, HasAbstraction}
 use Rattle.kernel_core.proofs.WentLemmas.{called_small, ordered_called}
 
 -- ---- the first that nothing blocks
@@ -41,15 +41,15 @@ pub free_is : (m : Meaning) (x : Placed) (p : ℕ) → placed_first_free m x x.o
 free_is m x p h = free_from m x (placed_holds x) x.order p h
 
 -- nothing blocks it
-pub free_unblocked : (m : Meaning) (x : Placed) (p : ℕ) → Stood m x → placed_first_free m x x.order ≡ Some p → placed_blocker m x p ≡ None
+pub free_unblocked : (m : Meaning) (x : Placed) (p : ℕ) → HasAbstraction m x → placed_first_free m x x.order ≡ Some p → placed_blocker m x p ≡ None
 free_unblocked m x p s h = (free_is m x p h).free
 
 -- it has a call
-pub free_called : (m : Meaning) → SameShown m → (x : Placed) (p : ℕ) → Stood m x → placed_first_free m x x.order ≡ Some p → is_some (x.call p) ≡ true
+pub free_called : (m : Meaning) → SameShown m → (x : Placed) (p : ℕ) → HasAbstraction m x → placed_first_free m x x.order ≡ Some p → is_some (x.call p) ≡ true
 free_called m shown x p s h = let f = free_is m x p h in ap (λ q. is_some (x.call q)) (sym f.process) ∙ ordered_called m shown x f.entry s f.among
 
 -- and is one of sixteen
-pub free_small : (m : Meaning) → SameShown m → (x : Placed) (p : ℕ) → Stood m x → placed_first_free m x x.order ≡ Some p → p < 16
+pub free_small : (m : Meaning) → SameShown m → (x : Placed) (p : ℕ) → HasAbstraction m x → placed_first_free m x x.order ≡ Some p → p < 16
 free_small m shown x p s h = called_small m x p s (free_called m shown x p s h)
 
 -- ---- what settling is

@@ -17,20 +17,20 @@ use Rattle.placed_laws.specs.Placed.{Placed, PlacedCall, PlacedRun, has_some, pl
 use Rattle.placed_laws.specs.Stretch.{IsStretched, Stretched, Stretches}
 use Rattle.placed_laws.specs.PlacedSteps.{placed_joins, placed_noted, placed_step}
 use Rattle.placed_laws.specs.PlacedEvents.{placed_settled, placed_steps}
-use Rattle.kernel_steps.specs.Did.{CameAs, Did}
+use Rattle.kernel_steps.specs.Refines.{RunMatches, Refines}
 use Rattle.kernel_steps.specs.Views.{run_of}
-use Rattle.kernel_core.specs.Went.{takes_up, taken_up, steps_said, steps_left, DidFromRest, DidToRest, HasCome, Leads, Rests}
+use Rattle.kernel_core.specs.RefinesAndKeeps.{takes_up, taken_up, steps_said, steps_left, RefinesFromRest, RefinesToRest, HasReached, Leads, Rests}
 
 -- ---- what is left of a change
 
 -- an event under way that came as said is this one
-run_is : (r : PlacedRun) (y : Placed) (kept : List Note) (told : Option (List (List ℕ))) (rest : List Bool) → CameAs r y kept told rest → r ≡ run_of y r.blocks r.notes rest
-run_is r y kept told rest h =
+run_is : (r : PlacedRun) (y : Placed) (kept : List Note) (known : Option (List (List ℕ))) (rest : List Bool) → RunMatches r y kept known rest → r ≡ run_of y r.blocks r.notes rest
+run_is r y kept known rest h =
     ap (λ z. record { placed = z; blocks = r.blocks; notes = r.notes; io = r.io }) h.placed
     ∙ ap (λ io. record { placed = y; blocks = r.blocks; notes = r.notes; io = io }) h.io
 
 -- at the beginning all is left
-pub come_first : (m : Meaning) (f : PlacedRun → PlacedRun) (x : Placed) (kept : List Note) (d : DiskSeen) → HasCome m f f x x kept kept d d
+pub come_first : (m : Meaning) (f : PlacedRun → PlacedRun) (x : Placed) (kept : List Note) (d : DiskSeen) → HasReached m f f x x kept kept d d
 come_first m f x kept d =
     record {
       io = [];
@@ -41,34 +41,34 @@ come_first m f x kept d =
     }
 
 -- what is left goes on with a part of it
-pub come_on : (m : Meaning) (f left later g : PlacedRun → PlacedRun) (x y z : Placed) (a b c : List Note) (d e l : DiskSeen) → HasCome m f left x y a b d e → DidToRest m g y z b c e l →
-    ((blocks : Blocks) (notes : List Note) (io : List Bool) → left (run_of y blocks notes io) ≡ later (g (run_of y blocks notes io))) → HasCome m f later x z a c d l
+pub come_on : (m : Meaning) (f left later g : PlacedRun → PlacedRun) (x y z : Placed) (a b c : List Note) (d e l : DiskSeen) → HasReached m f left x y a b d e → RefinesToRest m g y z b c e l →
+    ((blocks : Blocks) (notes : List Note) (io : List Bool) → left (run_of y blocks notes io) ≡ later (g (run_of y blocks notes io))) → HasReached m f later x z a c d l
 come_on m f left later g x y z a b c d e l h part same =
-    let did = part.did in
+    let refines = part.refines in
     record {
-      io = h.io ++ did.io;
-      made = made_joined d.faults e.faults l.faults d.plan e.plan l.plan h.io did.io h.made did.made;
-      now = λ blocks notes rest. g (h.now blocks notes (did.io ++ rest));
+      io = h.io ++ refines.io;
+      made = made_joined d.faults e.faults l.faults d.plan e.plan l.plan h.io refines.io h.made refines.made;
+      now = λ blocks notes rest. g (h.now blocks notes (refines.io ++ rest));
       came = λ blocks notes rest s tells k.
-          let one = h.came blocks notes (did.io ++ rest) s tells k in
-          let r = h.now blocks notes (did.io ++ rest) in
-          let is = run_is r y b e.told (did.io ++ rest) one.0 in (
-            subst (λ q. CameAs (g q) z c l.told rest) (sym is) (did.goes r.blocks r.notes rest one.1 one.0.blocks one.0.notes),
+          let one = h.came blocks notes (refines.io ++ rest) s tells k in
+          let r = h.now blocks notes (refines.io ++ rest) in
+          let is = run_is r y b e.known (refines.io ++ rest) one.0 in (
+            subst (λ q. RunMatches (g q) z c l.known rest) (sym is) (refines.goes r.blocks r.notes rest one.1 one.0.blocks one.0.notes),
             subst (λ q. Rests m z (g q).blocks) (sym is) (part.rests r.blocks r.notes rest one.1 one.0.blocks one.0.notes),
           );
       goes = λ blocks notes rest s tells k.
-          let one = h.came blocks notes (did.io ++ rest) s tells k in
-          let r = h.now blocks notes (did.io ++ rest) in
-          let is = run_is r y b e.told (did.io ++ rest) one.0 in
-          ap (λ io. f (run_of x blocks notes io)) (append_assoc h.io did.io rest) ∙ h.goes blocks notes (did.io ++ rest) s tells k
-          ∙ ap left is ∙ same r.blocks r.notes (did.io ++ rest) ∙ ap (λ q. later (g q)) (sym is);
+          let one = h.came blocks notes (refines.io ++ rest) s tells k in
+          let r = h.now blocks notes (refines.io ++ rest) in
+          let is = run_is r y b e.known (refines.io ++ rest) one.0 in
+          ap (λ io. f (run_of x blocks notes io)) (append_assoc h.io refines.io rest) ∙ h.goes blocks notes (refines.io ++ rest) s tells k
+          ∙ ap left is ∙ same r.blocks r.notes (refines.io ++ rest) ∙ ap (λ q. later (g q)) (sym is);
     }
 
 -- ---- a stretch
 
 -- what is left goes on behind a stretch
-pub come_far : (m : Meaning) (number p d left taken : ℕ) (f : PlacedRun → PlacedRun) (x y z : Placed) (a b : List Note) (k e : DiskSeen) → HasCome m f (steps_said m number p (d + left) taken) x y a b k e → Leads m p d y z →
-    HasCome m f (steps_said m number p left (taken + d)) x z a b k e
+pub come_far : (m : Meaning) (number p d left taken : ℕ) (f : PlacedRun → PlacedRun) (x y z : Placed) (a b : List Note) (k e : DiskSeen) → HasReached m f (steps_said m number p (d + left) taken) x y a b k e → Leads m p d y z →
+    HasReached m f (steps_said m number p left (taken + d)) x z a b k e
 come_far m number p d left taken f x y z a b k e h leads =
     record {
       io = h.io;
@@ -81,19 +81,19 @@ come_far m number p d left taken f x y z a b k e h leads =
           let one = h.came blocks notes rest s tells kept in
           let r = h.now blocks notes rest in
           h.goes blocks notes rest s tells kept
-          ∙ ap (steps_said m number p (d + left) taken) (run_is r y b e.told rest one.0)
+          ∙ ap (steps_said m number p (d + left) taken) (run_is r y b e.known rest one.0)
           ∙ ap (λ (q : ℕ × PlacedRun). placed_noted (Ran number q.0) q.1) (leads.steps left taken r.blocks r.notes rest one.1)
           ∙ ap (λ io. steps_said m number p left (taken + d) (run_of z r.blocks r.notes io)) (sym one.0.io);
     }
 
 -- so it does with n in all, of which so many were taken before
 pub come_stretched : (m : Meaning) (number p n d taken : ℕ) (going : Bool) (f : PlacedRun → PlacedRun) (x y z : Placed) (a b : List Note) (k e : DiskSeen) → going ≡ true → taken < n → d ≤ n - taken →
-    HasCome m f (steps_left m number p (n - taken) taken going) x y a b k e → Leads m p d y z → HasCome m f (steps_left m number p (n - (taken + d)) (taken + d) true) x z a b k e
+    HasReached m f (steps_left m number p (n - taken) taken going) x y a b k e → Leads m p d y z → HasReached m f (steps_left m number p (n - (taken + d)) (taken + d) true) x z a b k e
 come_stretched m number p n d taken going f x y z a b k e goes less most h leads =
     let parts : n - taken ≡ d + (n - (taken + d)) = omega (arith, less, most) in
     come_far m number p d (n - (taken + d)) taken f x y z a b k e
-    (subst (λ j. HasCome m f (steps_said m number p j taken) x y a b k e) parts
-    (subst (λ t. HasCome m f (steps_left m number p (n - taken) taken t) x y a b k e) goes h)) leads
+    (subst (λ j. HasReached m f (steps_said m number p j taken) x y a b k e) parts
+    (subst (λ t. HasReached m f (steps_left m number p (n - taken) taken t) x y a b k e) goes h)) leads
 
 -- no instruction leads nowhere
 pub leads_none : (m : Meaning) (p : ℕ) (x : Placed) → Leads m p 0 x x
@@ -130,17 +130,17 @@ leads_far m law x y c p n call away h =
         (record { kernel = s.stands; blocks = refl; notes = refl; io = refl; whole = s.whole }) call away h
 
 -- what is left is done
-pub come_last : (m : Meaning) (f left : PlacedRun → PlacedRun) (x y z : Placed) (a b c : List Note) (d e l : DiskSeen) → HasCome m f left x y a b d e → Did left y z b c e l → DidFromRest m f x z a c d l
-come_last m f left x y z a b c d e l h did =
+pub come_last : (m : Meaning) (f left : PlacedRun → PlacedRun) (x y z : Placed) (a b c : List Note) (d e l : DiskSeen) → HasReached m f left x y a b d e → Refines left y z b c e l → RefinesFromRest m f x z a c d l
+come_last m f left x y z a b c d e l h refines =
     record {
-      io = h.io ++ did.io;
-      made = made_joined d.faults e.faults l.faults d.plan e.plan l.plan h.io did.io h.made did.made;
+      io = h.io ++ refines.io;
+      made = made_joined d.faults e.faults l.faults d.plan e.plan l.plan h.io refines.io h.made refines.made;
       goes = λ blocks notes rest s tells k.
-          let one = h.came blocks notes (did.io ++ rest) s tells k in
-          let r = h.now blocks notes (did.io ++ rest) in
-          let is = run_is r y b e.told (did.io ++ rest) one.0 in
-          subst (λ q. CameAs q z c l.told rest) (sym (ap (λ io. f (run_of x blocks notes io)) (append_assoc h.io did.io rest) ∙ h.goes blocks notes (did.io ++ rest) s tells k ∙ ap left is))
-          (did.goes r.blocks r.notes rest one.0.blocks one.0.notes);
+          let one = h.came blocks notes (refines.io ++ rest) s tells k in
+          let r = h.now blocks notes (refines.io ++ rest) in
+          let is = run_is r y b e.known (refines.io ++ rest) one.0 in
+          subst (λ q. RunMatches q z c l.known rest) (sym (ap (λ io. f (run_of x blocks notes io)) (append_assoc h.io refines.io rest) ∙ h.goes blocks notes (refines.io ++ rest) s tells k ∙ ap left is))
+          (refines.goes r.blocks r.notes rest one.0.blocks one.0.notes);
     }
 
 -- ---- one instruction

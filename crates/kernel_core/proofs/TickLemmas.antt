@@ -13,7 +13,7 @@ use Rattle.placed_laws.specs.Agreeing.{SameShown}
 use Rattle.placed_laws.specs.Placed.{Placed, PlacedCall, PlacedLevel, PlacedRun}
 use Rattle.placed_laws.specs.PlacedSteps.{placed_drop, placed_noted, placed_requeue, with_placed_call}
 use Rattle.placed_laws.specs.PlacedEvents.{expired_by, is_over_by, placed_actions, placed_drop_if, placed_entry_action, placed_settled, placed_waiter, placed_waiter_by}
-use Rattle.kernel_steps.specs.Views.{run_of, Stood}
+use Rattle.kernel_steps.specs.Views.{run_of, HasAbstraction}
 use Rattle.kernel_core.proofs.WentLemmas.{called_small, ordered_called}
 
 -- ---- who has waited too long
@@ -32,7 +32,7 @@ expired_among v (d ∷ es) e h = by_test (is_over_by v d d.blocker) refl (expire
         let c = further (sym (ap (λ t. elim t as (λ _. Option Entry) [ true ↦ Some d | false ↦ expired_by v es ]) is) ∙ h) in (suc c.0, omega (arith, c.1), c.2)
 
 -- its process is one of sixteen
-pub expired_small : (m : Meaning) → SameShown m → (x : Placed) (e : Entry) → Stood m x → expired_by x.world x.order ≡ Some e → e.process < 16
+pub expired_small : (m : Meaning) → SameShown m → (x : Placed) (e : Entry) → HasAbstraction m x → expired_by x.world x.order ≡ Some e → e.process < 16
 expired_small m shown x e s h = called_small m x e.process s (ordered_called m shown x e s (expired_among x.world x.order e h))
 
 -- ---- the actions

@@ -15,34 +15,34 @@ use Rattle.placed_laws.specs.Stands.{StandsFor, RunStandsFor, without_history}
 use Rattle.kernel_steps.specs.declared.running.Running.{Running}
 use Rattle.kernel_steps.specs.Composing.{did_as, did_nothing, did_purely, did_then}
 use Rattle.kernel_steps.specs.WholeBlocks.{some_blocks, blocks_are_whole}
-use Rattle.kernel_steps.specs.Did.{first_notes}
-use Rattle.kernel_steps.specs.Views.{placed_of, run_of, IsRunning, Stood}
-use Rattle.kernel_core.specs.Went.{Went}
+use Rattle.kernel_steps.specs.Refines.{first_notes}
+use Rattle.kernel_steps.specs.Views.{placed_of, run_of, IsRunning, HasAbstraction}
+use Rattle.kernel_core.specs.RefinesAndKeeps.{RefinesAndKeeps}
 
 -- ---- a kernel goes on to stand
 
 -- an event under way from what stands for a kernel
-pub run_at : (m : Meaning) (x : Placed) (s : Stood m x) → RunStandsFor m (run_of x some_blocks [] []) (record { kernel = s.kernel; blocks = some_blocks; notes = []; io = [] })
+pub run_at : (m : Meaning) (x : Placed) (s : HasAbstraction m x) → RunStandsFor m (run_of x some_blocks [] []) (record { kernel = s.kernel; blocks = some_blocks; notes = []; io = [] })
 run_at m x s = record { kernel = s.stands; blocks = refl; notes = refl; io = refl; whole = blocks_are_whole s.kernel.world }
 
 -- so does what it comes to
-pub stood_as : (m : Meaning) (y : Placed) (t : PlacedRun) (r : Run) → RunStandsFor m t r → t.placed ≡ y → Stood m y
+pub stood_as : (m : Meaning) (y : Placed) (t : PlacedRun) (r : Run) → RunStandsFor m t r → t.placed ≡ y → HasAbstraction m y
 stood_as m y t r h is = record { kernel = r.kernel; stands = subst (λ z. StandsFor m z r.kernel) is h.kernel }
 
 -- ---- parts
 
 pub went_as : {C B M W : Type 0} {P : _} (m : Meaning) (stage : W → Stage) (caller : W → ℕ) (f g : PlacedRun → PlacedRun) (x y : Running C B M W P) (kept kept_new : List Note) (d e : DiskSeen) →
-    ((blocks : Blocks) (notes : List Note) (io : List Bool) → f (run_of (placed_of stage x) blocks notes io) ≡ g (run_of (placed_of stage x) blocks notes io)) → Went m stage caller g x y kept kept_new d e → Went m stage caller f x y kept kept_new d e
+    ((blocks : Blocks) (notes : List Note) (io : List Bool) → f (run_of (placed_of stage x) blocks notes io) ≡ g (run_of (placed_of stage x) blocks notes io)) → RefinesAndKeeps m stage caller g x y kept kept_new d e → RefinesAndKeeps m stage caller f x y kept kept_new d e
 went_as m stage caller f g x y kept kept_new d e same h =
-    record { did = did_as f g (placed_of stage x) (placed_of stage y) kept kept_new d e same h.did; running = h.running; stood = h.stood; world = h.world; clock = h.clock }
+    record { refines = did_as f g (placed_of stage x) (placed_of stage y) kept kept_new d e same h.refines; running = h.running; abstraction = h.abstraction; world = h.world; clock = h.clock }
 
 pub went_then : {C B M W : Type 0} {P : _} (m : Meaning) (stage : W → Stage) (caller : W → ℕ) (f g : PlacedRun → PlacedRun) (x y z : Running C B M W P) (a b c : List Note) (d e l : DiskSeen) →
-    Went m stage caller f x y a b d e → Went m stage caller g y z b c e l → Went m stage caller (λ r. g (f r)) x z a c d l
+    RefinesAndKeeps m stage caller f x y a b d e → RefinesAndKeeps m stage caller g y z b c e l → RefinesAndKeeps m stage caller (λ r. g (f r)) x z a c d l
 went_then m stage caller f g x y z a b c d e l first second =
     record {
-      did = did_then f g (placed_of stage x) (placed_of stage y) (placed_of stage z) a b c d e l first.did second.did;
+      refines = did_then f g (placed_of stage x) (placed_of stage y) (placed_of stage z) a b c d e l first.refines second.refines;
       running = second.running;
-      stood = second.stood;
+      abstraction = second.abstraction;
       world = second.world ∙ first.world;
       clock = second.clock ∙ first.clock;
     }
@@ -50,28 +50,28 @@ went_then m stage caller f g x y z a b c d e l first second =
 -- a change without a call of the disk, which adds these notes
 pub went_purely : {C B M W : Type 0} {P : _} (m : Meaning) (stage : W → Stage) (caller : W → ℕ) (f : PlacedRun → PlacedRun) (x y : Running C B M W P) (kept kept_new more : List Note) (d : DiskSeen) →
     ((blocks : Blocks) (notes : List Note) (io : List Bool) → f (run_of (placed_of stage x) blocks notes io) ≡ run_of (placed_of stage y) blocks (notes ++ more) io) →
-    ((notes : List Note) → kept ≡ first_notes notes → kept_new ≡ first_notes (notes ++ more)) → IsRunning caller y → Stood m (placed_of stage y) → world_of_store y.store ≡ world_of_store x.store → y.clock ≡ x.clock →
-    Went m stage caller f x y kept kept_new d d
-went_purely m stage caller f x y kept kept_new more d same adds running stood world clock =
-    record { did = did_purely f (placed_of stage x) (placed_of stage y) kept kept_new more d same adds; running = running; stood = stood; world = world; clock = clock }
+    ((notes : List Note) → kept ≡ first_notes notes → kept_new ≡ first_notes (notes ++ more)) → IsRunning caller y → HasAbstraction m (placed_of stage y) → world_of_store y.store ≡ world_of_store x.store → y.clock ≡ x.clock →
+    RefinesAndKeeps m stage caller f x y kept kept_new d d
+went_purely m stage caller f x y kept kept_new more d same adds running abstraction world clock =
+    record { refines = did_purely f (placed_of stage x) (placed_of stage y) kept kept_new more d same adds; running = running; abstraction = abstraction; world = world; clock = clock }
 
 -- the same without notes
 pub went_silently : {C B M W : Type 0} {P : _} (m : Meaning) (stage : W → Stage) (caller : W → ℕ) (f : PlacedRun → PlacedRun) (x y : Running C B M W P) (kept : List Note) (d : DiskSeen) →
     ((notes : List Note) (blocks : Blocks) (io : List Bool) → f (run_of (placed_of stage x) blocks notes io) ≡ run_of (placed_of stage y) blocks notes io) →
-    IsRunning caller y → Stood m (placed_of stage y) → world_of_store y.store ≡ world_of_store x.store → y.clock ≡ x.clock → Went m stage caller f x y kept kept d d
-went_silently m stage caller f x y kept d same running stood world clock =
+    IsRunning caller y → HasAbstraction m (placed_of stage y) → world_of_store y.store ≡ world_of_store x.store → y.clock ≡ x.clock → RefinesAndKeeps m stage caller f x y kept kept d d
+went_silently m stage caller f x y kept d same running abstraction world clock =
     went_purely m stage caller f x y kept kept [] d (λ blocks notes io. same notes blocks io ∙ ap (λ ns. run_of (placed_of stage y) blocks ns io) (sym (append-nil notes)))
-    (λ notes k. k ∙ ap first_notes (sym (append-nil notes))) running stood world clock
+    (λ notes k. k ∙ ap first_notes (sym (append-nil notes))) running abstraction world clock
 
 -- nothing
-pub went_nothing : {C B M W : Type 0} {P : _} (m : Meaning) (stage : W → Stage) (caller : W → ℕ) (x : Running C B M W P) (kept : List Note) (d : DiskSeen) → IsRunning caller x → Stood m (placed_of stage x) →
-    Went m stage caller (λ r. r) x x kept kept d d
-went_nothing m stage caller x kept d running stood = record { did = did_nothing (placed_of stage x) kept d; running = running; stood = stood; world = refl; clock = refl }
+pub went_nothing : {C B M W : Type 0} {P : _} (m : Meaning) (stage : W → Stage) (caller : W → ℕ) (x : Running C B M W P) (kept : List Note) (d : DiskSeen) → IsRunning caller x → HasAbstraction m (placed_of stage x) →
+    RefinesAndKeeps m stage caller (λ r. r) x x kept kept d d
+went_nothing m stage caller x kept d running abstraction = record { refines = did_nothing (placed_of stage x) kept d; running = running; abstraction = abstraction; world = refl; clock = refl }
 
 -- ---- who stands in the order
 
 -- a process with levels has a call
-pub levels_called : (m : Meaning) → SameShown m → (x : Placed) (p : ℕ) → Stood m x → has_some (x.levels p) ≡ true → is_some (x.call p) ≡ true
+pub levels_called : (m : Meaning) → SameShown m → (x : Placed) (p : ℕ) → HasAbstraction m x → has_some (x.levels p) ≡ true → is_some (x.call p) ≡ true
 levels_called m shown x p s some = by_call (s.kernel.call p) (shown.level x s.kernel p s.stands ∙ some) (s.stands.calls p)
   where
     by_call : (c : Option Call) → has_level c ≡ true → x.call p ≡ without_history c → is_some (x.call p) ≡ true
@@ -84,7 +84,7 @@ some_of_many [] h = absurd (omega (arith, h))
 some_of_many (l ∷ ls) h = refl
 
 -- who stands in the order has a call
-pub ordered_called : (m : Meaning) → SameShown m → (x : Placed) (e : Entry) → Stood m x → Contains x.order e → is_some (x.call e.process) ≡ true
+pub ordered_called : (m : Meaning) → SameShown m → (x : Placed) (e : Entry) → HasAbstraction m x → Contains x.order e → is_some (x.call e.process) ≡ true
 ordered_called m shown x e s has = by_piece (is_at_piece (s.kernel.call e.process)) refl
   where
     at_piece_called : (c : Option Call) → is_at_piece c ≡ true → is_some (without_history c) ≡ true
@@ -98,7 +98,7 @@ ordered_called m shown x e s has = by_piece (is_at_piece (s.kernel.call e.proces
         (ap has_some (s.stands.levels e.process) ∙ some_of_many (levels_of m s.kernel e.process) (s.stands.kernel.others e (subst (λ es. Contains es e) s.stands.order has) h).1)
 
 -- who has a call is one of sixteen
-pub called_small : (m : Meaning) (x : Placed) (p : ℕ) → Stood m x → is_some (x.call p) ≡ true → p < 16
+pub called_small : (m : Meaning) (x : Placed) (p : ℕ) → HasAbstraction m x → is_some (x.call p) ≡ true → p < 16
 called_small m x p s some = by_call (s.kernel.call p) refl (s.stands.calls p)
   where
     by_call : (c : Option Call) → s.kernel.call p ≡ c → x.call p ≡ without_history c → p < 16

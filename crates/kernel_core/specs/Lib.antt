@@ -1,5 +1,5 @@
-pub mod Happened
-pub mod Went
+pub mod EventRefines
+pub mod RefinesAndKeeps
 pub mod Standing
 pub mod PlacedSections
 pub mod AddedImages

@@ -1,6 +1,5 @@
 -- The rows of a kernel in place, by sections: each has so many places, with some rows at each. And
--- the rows that are
--- left from a place on.
+-- the rows that are left from a place on.
 use Rattle.std.specs.Prelude.{◌≡◌, ◌<◌, ℕ, ◌+◌, ◌-◌, ◌*◌, ◌/◌, ◌%◌, cond, List, [], ◌∷◌, ◌++◌, Option, Some, None, IfSome, drop, filter_map, flat_map, length, slice_get}
 use Rattle.std.specs.List.{range_with_len}
 use Rattle.kernel_model.specs.declared.RawRow.{RawRow}
@@ -124,8 +123,7 @@ most_left at =
     ]
 
 -- The next row was asked for at a place: it is the first of those that were left, if there was one,
--- and from the new
--- place on the rest is left.
+-- and from the new place on the rest is left.
 pub record TakesRow (x : Placed) (old new : RowPlace) (row : Option RawRow) : Type 0 where
   pub first : row ≡ slice_get (rows_left x old) 0
   pub rest : rows_left x new ≡ drop 1 (rows_left x old)

@@ -1,6 +1,6 @@
 -- What a kernel is before `boot`, and what a boot makes of it.
 use Rattle.std.specs.Prelude.{◌≡◌, ℕ, Bool, true, false, List, [], length, Option}
-use Rattle.disk_log.specs.Calls.{Tells, Made}
+use Rattle.disk_log.specs.Calls.{Knows, Made}
 use Rattle.disk_log.specs.Seen.{DiskSeen}
 use Rattle.kernel_model.specs.declared.FileRow.{FileRow}
 use Rattle.kernel_model.specs.World.{Blocks}
@@ -45,20 +45,19 @@ boot_note frames size block io =
 -- what a boot leaves stands for the kernel after boot, which rests, the note is that of the boot,
 -- and the disk tells its blocks
 pub record BootIs (m : Meaning) (setup : Setup) (size : ℕ) (blocks : Blocks) (io : List Bool)
-    (y : Placed) (note : BootNote) (told : Option (List (List ℕ))) : Type 0 where
+    (y : Placed) (note : BootNote) (known : Option (List (List ℕ))) : Type 0 where
   pub stands : StandsFor m y
       (opening_kernel (world_for setup size (directory_read size (blocks 0) io)))
   pub rests : IsAtRest m (opening_kernel (world_for setup size (directory_read size (blocks 0) io)))
   pub note_is : note ≡ boot_note setup.frames size (blocks 0) io
-  pub blocks_are : Tells told blocks
+  pub blocks_are : Knows known blocks
 
 -- A boot with this set-up, on a disk of this size, left this kernel in place and this note, and
--- took the disk from the one to the
--- other.
+-- took the disk from the one to the other.
 pub record Booted (m : Meaning) (setup : Setup) (size : ℕ) (y : Placed) (note : BootNote)
     (d e : DiskSeen) : Type 0 where
   -- whether its one call of the disk failed
   pub io : List Bool
   pub one : length io ≡ 1
   pub made : Made d.faults e.faults d.plan e.plan io
-  pub is : (blocks : Blocks) → Tells d.told blocks → BootIs m setup size blocks io y note e.told
+  pub is : (blocks : Blocks) → Knows d.known blocks → BootIs m setup size blocks io y note e.known

@@ -11,9 +11,9 @@ ghost use Rattle.graft_loader.specs.Slots.{table_of};
 ghost use Rattle.placed_laws.specs.Keeping.{first_placed};
 ghost use Rattle.placed_laws.specs.PlacedSteps.{placed_joins, with_placed_call};
 ghost use Rattle.placed_laws.specs.PlacedEvents.{placed_event_on, placed_last, placed_settled};
-ghost use Rattle.kernel_steps.specs.Views.{placed_of, IsRunning, Stood};
-ghost use Rattle.kernel_core.specs.Happened.{Happened, IsKernel};
-ghost use Rattle.kernel_core.specs.Went.{DidFromRest, GoesOn, Went};
+ghost use Rattle.kernel_steps.specs.Views.{placed_of, IsRunning, HasAbstraction};
+ghost use Rattle.kernel_core.specs.EventRefines.{EventRefines, IsKernel};
+ghost use Rattle.kernel_core.specs.RefinesAndKeeps.{RefinesFromRest, KeepsRunning, RefinesAndKeeps};
 
 use crate::last::say_last;
 use crate::settle::settle_all;
@@ -41,9 +41,9 @@ fn begin<C: Calls, B: Policy>(running: &mut Running<C, B>, p: u8, number: u32, w
         × (C.Meaning.meaning.early (world_of_store running.old.store)
         (table_of running.old.images) p call ≡ Ok (C.stage work)) }
     requires running { IsRunning C.caller running.old }
-    requires stood { Stood C.Meaning.meaning (placed_of C.stage running.old) }
+    requires abstraction { HasAbstraction C.Meaning.meaning (placed_of C.stage running.old) }
     ensures went { (kept : List Told) (d : DiskSeen) →
-        Went C.Meaning.meaning C.stage C.caller
+        RefinesAndKeeps C.Meaning.meaning C.stage C.caller
         (λ r. placed_joins p (with_placed_call p (Some (first_placed number (C.stage work))) r))
         running.old running.new kept kept d d }
 {
@@ -70,9 +70,9 @@ fn run<C: Calls, B: Policy, D: Disk>(
         × (C.Meaning.meaning.early (world_of_store running.old.store)
         (table_of running.old.images) p call ≡ Ok (C.stage work)) }
     requires running { IsRunning C.caller running.old }
-    requires stood { Stood C.Meaning.meaning (placed_of C.stage running.old) }
+    requires abstraction { HasAbstraction C.Meaning.meaning (placed_of C.stage running.old) }
     requires disk { running.old.store.size ≡ D.block_count disk.old }
-    ensures went { Went C.Meaning.meaning C.stage C.caller
+    ensures went { RefinesAndKeeps C.Meaning.meaning C.stage C.caller
         (λ r. placed_last C.Meaning.meaning p
         (placed_settled C.Meaning.meaning
         (placed_joins p (with_placed_call p (Some (first_placed number (C.stage work))) r))))
@@ -97,9 +97,9 @@ fn system<C: Calls, B: Policy, D: Disk>(
     notes: &mut Notes,
 )
     requires running { IsRunning C.caller running.old }
-    requires stood { Stood C.Meaning.meaning (placed_of C.stage running.old) }
+    requires abstraction { HasAbstraction C.Meaning.meaning (placed_of C.stage running.old) }
     requires disk { running.old.store.size ≡ D.block_count disk.old }
-    ensures went { Went C.Meaning.meaning C.stage C.caller
+    ensures went { RefinesAndKeeps C.Meaning.meaning C.stage C.caller
         (placed_event_on C.Meaning.meaning number (Sys p call.now)) running.old running.new
         notes.old notes.new
         (disk_seen (D.blocks disk.old) (D.plan disk.old) (D.faults disk.old))
@@ -129,14 +129,14 @@ fn stepped<C: Calls, B: Policy, D: Disk>(
     notes: &mut Notes,
 )
     requires running { IsRunning C.caller running.old }
-    requires stood { Stood C.Meaning.meaning (placed_of C.stage running.old) }
+    requires abstraction { HasAbstraction C.Meaning.meaning (placed_of C.stage running.old) }
     requires disk { running.old.store.size ≡ D.block_count disk.old }
-    ensures did { DidFromRest C.Meaning.meaning
+    ensures refines { RefinesFromRest C.Meaning.meaning
         (placed_event_on C.Meaning.meaning number (Step p n)) (placed_of C.stage running.old)
         (placed_of C.stage running.new) notes.old notes.new
         (disk_seen (D.blocks disk.old) (D.plan disk.old) (D.faults disk.old))
         (disk_seen (D.blocks disk.new) (D.plan disk.new) (D.faults disk.new)) }
-    ensures on { GoesOn C.Meaning.meaning C.stage C.caller running.old running.new }
+    ensures on { KeepsRunning C.Meaning.meaning C.stage C.caller running.old running.new }
     ensures same_size { D.block_count disk.new ≡ D.block_count disk.old }
 {
     if !running.store.living(p) {
@@ -166,7 +166,7 @@ pub fn event<C: Calls, B: Policy, D: Disk>(
     requires kernel { IsKernel C.Meaning.meaning C.stage C.caller (number - 1) running.old }
     requires disk { running.old.store.size ≡ D.block_count disk.old }
     requires no_notes { notes.old ≡ [] }
-    ensures happened { Happened C.Meaning.meaning (placed_of C.stage running.old)
+    ensures happened { EventRefines C.Meaning.meaning (placed_of C.stage running.old)
         (placed_of C.stage running.new) number what.now notes.new
         (disk_seen (D.blocks disk.old) (D.plan disk.old) (D.faults disk.old))
         (disk_seen (D.blocks disk.new) (D.plan disk.new) (D.faults disk.new)) }

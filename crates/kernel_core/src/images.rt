@@ -7,7 +7,7 @@ ghost use Rattle.kernel_model.specs.Kernel.{Kernel as Abstract};
 ghost use Rattle.kernel_model.specs.Sound.{IsAtRest};
 ghost use Rattle.graft_loader.specs.declared.LoadFault.TheVariants.{NoMemory};
 ghost use Rattle.placed_laws.specs.Stands.{StandsFor};
-ghost use Rattle.kernel_steps.specs.Views.{placed_of, IsRunning, Stood};
+ghost use Rattle.kernel_steps.specs.Views.{placed_of, IsRunning, HasAbstraction};
 ghost use Rattle.kernel_core.specs.declared.images.ImageRefusal.TheVariants.{Unloaded};
 ghost use Rattle.kernel_core.specs.AddedImages.{slot_refused, has_memory, refusal_said, image_said, ImageIsAdded};
 
@@ -62,7 +62,7 @@ impl<C: Calls, B: Policy> Kernel<C, B> {
         bytes: &[u8],
     ) -> Result<(u32, u32), ImageRefusal>
         requires running { IsRunning C.caller self.old.running }
-        requires stood { Stood C.Meaning.meaning (placed_of C.stage self.old.running) }
+        requires abstraction { HasAbstraction C.Meaning.meaning (placed_of C.stage self.old.running) }
         ensures added { has_memory result ≡ true → (k : Abstract) →
             StandsFor C.Meaning.meaning (placed_of C.stage self.old.running) k →
             IsAtRest C.Meaning.meaning k →
@@ -71,7 +71,7 @@ impl<C: Calls, B: Policy> Kernel<C, B> {
         ensures memory { result ≡ Err (Unloaded NoMemory) → (self.new ≡ self.old)
             × (slot_refused (placed_of C.stage self.old.running).images slot ≡ None) }
         ensures running { IsRunning C.caller self.new.running }
-        ensures stood { Stood C.Meaning.meaning (placed_of C.stage self.new.running) }
+        ensures abstraction { HasAbstraction C.Meaning.meaning (placed_of C.stage self.new.running) }
         ensures store { self.new.running.store ≡ self.old.running.store }
         ensures clock { self.new.running.clock ≡ self.old.running.clock }
     {

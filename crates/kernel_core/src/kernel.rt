@@ -12,8 +12,8 @@ ghost use Rattle.kernel_state.specs.Stores.{world_of_store};
 ghost use Rattle.placed_laws.specs.Placed.{PlacedCall};
 ghost use Rattle.placed_laws.specs.PlacedRows.{placed_rows};
 ghost use Rattle.placed_laws.specs.Stands.{StandsFor};
-ghost use Rattle.kernel_steps.specs.Views.{placed_of, IsRunning, Stood};
-ghost use Rattle.kernel_core.specs.Happened.{Happened, IsKernel};
+ghost use Rattle.kernel_steps.specs.Views.{placed_of, IsRunning, HasAbstraction};
+ghost use Rattle.kernel_core.specs.EventRefines.{EventRefines, IsKernel};
 ghost use Rattle.kernel_core.specs.PlacedSections.{TakesRow};
 ghost use Rattle.kernel_core.specs.Standing.{IsBlank, Booted};
 
@@ -119,7 +119,7 @@ impl<C: Calls, B: Policy> Kernel<C, B> {
         requires slot { slot < 32 }
         requires free { (placed_of C.stage self.old.running).images slot ≡ None }
         requires running { IsRunning C.caller self.old.running }
-        requires stood { Stood C.Meaning.meaning (placed_of C.stage self.old.running) }
+        requires abstraction { HasAbstraction C.Meaning.meaning (placed_of C.stage self.old.running) }
         ensures stands { (k : Abstract) →
             StandsFor C.Meaning.meaning (placed_of C.stage self.old.running) k →
             StandsFor C.Meaning.meaning (placed_of C.stage self.new.running)
@@ -128,7 +128,7 @@ impl<C: Calls, B: Policy> Kernel<C, B> {
             (placed_of C.stage self.old.running) k → IsAtRest C.Meaning.meaning k →
             IsAtRest C.Meaning.meaning (session.add_image slot image k) }
         ensures running { IsRunning C.caller self.new.running }
-        ensures stood { Stood C.Meaning.meaning (placed_of C.stage self.new.running) }
+        ensures abstraction { HasAbstraction C.Meaning.meaning (placed_of C.stage self.new.running) }
         ensures store { self.new.running.store ≡ self.old.running.store }
         ensures clock { self.new.running.clock ≡ self.old.running.clock }
     {
@@ -151,7 +151,7 @@ impl<C: Calls, B: Policy> Kernel<C, B> {
             (number - 1) self.old.running }
         requires disk { self.old.running.store.size ≡ D.block_count disk.old }
         requires no_notes { notes.old ≡ [] }
-        ensures happened { Happened C.Meaning.meaning (placed_of C.stage self.old.running)
+        ensures happened { EventRefines C.Meaning.meaning (placed_of C.stage self.old.running)
             (placed_of C.stage self.new.running) number what.now notes.new
             (disk_seen (D.blocks disk.old) (D.plan disk.old) (D.faults disk.old))
             (disk_seen (D.blocks disk.new) (D.plan disk.new) (D.faults disk.new)) }

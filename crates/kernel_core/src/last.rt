@@ -4,8 +4,8 @@ ghost use Rattle.std.specs.Prelude.{◌≡◌, ◌<◌};
 ghost use Rattle.disk_log.specs.Seen.{DiskSeen};
 ghost use Rattle.placed_laws.specs.PlacedEvents.{placed_last, placed_waits_note};
 ghost use Rattle.placed_laws.specs.Placed.{placed_blocker};
-ghost use Rattle.kernel_steps.specs.Did.{Did};
-ghost use Rattle.kernel_steps.specs.Views.{placed_of, IsRunning, Stood};
+ghost use Rattle.kernel_steps.specs.Refines.{Refines};
+ghost use Rattle.kernel_steps.specs.Views.{placed_of, IsRunning, HasAbstraction};
 
 use call_pieces::Calls;
 use graft_points::Policy;
@@ -16,9 +16,9 @@ use kernel_steps::{Notes, Running};
 fn say_wait<C: Calls, B: Policy>(running: &Running<C, B>, p: u8, number: u32, notes: &mut Notes)
     requires process { p < 16 }
     requires running { IsRunning C.caller running.now }
-    requires stood { Stood C.Meaning.meaning (placed_of C.stage running.now) }
+    requires abstraction { HasAbstraction C.Meaning.meaning (placed_of C.stage running.now) }
     ensures said { (d : DiskSeen) → let x = placed_of C.stage running.now in
-        Did (placed_waits_note number (placed_blocker C.Meaning.meaning x p)) x x notes.old
+        Refines (placed_waits_note number (placed_blocker C.Meaning.meaning x p)) x x notes.old
         notes.new d d }
 {
     if let Some(found) = running.blocker(p) {
@@ -30,9 +30,9 @@ fn say_wait<C: Calls, B: Policy>(running: &Running<C, B>, p: u8, number: u32, no
 pub(crate) fn say_last<C: Calls, B: Policy>(running: &Running<C, B>, p: u8, notes: &mut Notes)
     requires process { p < 16 }
     requires running { IsRunning C.caller running.now }
-    requires stood { Stood C.Meaning.meaning (placed_of C.stage running.now) }
+    requires abstraction { HasAbstraction C.Meaning.meaning (placed_of C.stage running.now) }
     ensures said { (d : DiskSeen) → let x = placed_of C.stage running.now in
-        Did (placed_last C.Meaning.meaning p) x x notes.old notes.new d d }
+        Refines (placed_last C.Meaning.meaning p) x x notes.old notes.new d d }
 {
     let Some(number) = running.call_number(p) else {
         return;

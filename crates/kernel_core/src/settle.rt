@@ -4,8 +4,8 @@ ghost use Rattle.std.specs.Prelude.{◌≡◌, List};
 ghost use Rattle.disk_log.specs.Seen.{DiskSeen, disk_seen};
 ghost use Rattle.kernel_model.specs.declared.Note.{Note as Told};
 ghost use Rattle.placed_laws.specs.PlacedEvents.{placed_rested, placed_settle, placed_settled};
-ghost use Rattle.kernel_steps.specs.Views.{placed_of, IsRunning, Stood};
-ghost use Rattle.kernel_core.specs.Went.{Went};
+ghost use Rattle.kernel_steps.specs.Views.{placed_of, IsRunning, HasAbstraction};
+ghost use Rattle.kernel_core.specs.RefinesAndKeeps.{RefinesAndKeeps};
 
 use call_pieces::Calls;
 use disk_log::DiskLog;
@@ -20,9 +20,9 @@ const STEPS: u16 = 256;
 /// The order is told its blockers.
 fn rest<C: Calls, B: Policy>(running: &mut Running<C, B>)
     requires running { IsRunning C.caller running.old }
-    requires stood { Stood C.Meaning.meaning (placed_of C.stage running.old) }
+    requires abstraction { HasAbstraction C.Meaning.meaning (placed_of C.stage running.old) }
     ensures went { (kept : List Told) (d : DiskSeen) →
-        Went C.Meaning.meaning C.stage C.caller
+        RefinesAndKeeps C.Meaning.meaning C.stage C.caller
         (placed_rested C.Meaning.meaning) running.old running.new kept kept d d }
 {
     keeping::others_stand::<C::Meaning>();
@@ -38,9 +38,9 @@ fn settle<C: Calls, B: Policy, D: Disk>(
     notes: &mut Notes,
 )
     requires running { IsRunning C.caller running.old }
-    requires stood { Stood C.Meaning.meaning (placed_of C.stage running.old) }
+    requires abstraction { HasAbstraction C.Meaning.meaning (placed_of C.stage running.old) }
     requires disk { running.old.store.size ≡ D.block_count disk.old }
-    ensures went { Went C.Meaning.meaning C.stage C.caller
+    ensures went { RefinesAndKeeps C.Meaning.meaning C.stage C.caller
         (placed_settle C.Meaning.meaning turns) running.old running.new notes.old notes.new
         (disk_seen (D.blocks disk.old) (D.plan disk.old) (D.faults disk.old))
         (disk_seen (D.blocks disk.new) (D.plan disk.new) (D.faults disk.new)) }
@@ -65,9 +65,9 @@ pub(crate) fn settle_all<C: Calls, B: Policy, D: Disk>(
     notes: &mut Notes,
 )
     requires running { IsRunning C.caller running.old }
-    requires stood { Stood C.Meaning.meaning (placed_of C.stage running.old) }
+    requires abstraction { HasAbstraction C.Meaning.meaning (placed_of C.stage running.old) }
     requires disk { running.old.store.size ≡ D.block_count disk.old }
-    ensures went { Went C.Meaning.meaning C.stage C.caller
+    ensures went { RefinesAndKeeps C.Meaning.meaning C.stage C.caller
         (placed_settled C.Meaning.meaning) running.old running.new notes.old notes.new
         (disk_seen (D.blocks disk.old) (D.plan disk.old) (D.faults disk.old))
         (disk_seen (D.blocks disk.new) (D.plan disk.new) (D.faults disk.new)) }

@@ -8,8 +8,8 @@ ghost use Rattle.kernel_state.specs.Stores.{world_of_store};
 ghost use Rattle.placed_laws.specs.Placed.{has_some, placed_blocker};
 ghost use Rattle.placed_laws.specs.PlacedSteps.{placed_joins};
 ghost use Rattle.placed_laws.specs.PlacedEvents.{placed_step_event};
-ghost use Rattle.kernel_steps.specs.Views.{placed_of, IsRunning, Stood};
-ghost use Rattle.kernel_core.specs.Went.{DidFromRest, DidToRest, GoesOn, Went, takes_up, taken_up, steps_said};
+ghost use Rattle.kernel_steps.specs.Views.{placed_of, IsRunning, HasAbstraction};
+ghost use Rattle.kernel_core.specs.RefinesAndKeeps.{RefinesFromRest, RefinesToRest, KeepsRunning, RefinesAndKeeps, takes_up, taken_up, steps_said};
 
 use crate::last::say_last;
 use crate::settle::settle_all;
@@ -30,9 +30,9 @@ fn join<C: Calls, B: Policy>(running: &mut Running<C, B>, p: u8)
     requires blocked { is_some (placed_blocker C.Meaning.meaning (placed_of C.stage running.old) p)
         ≡ true }
     requires running { IsRunning C.caller running.old }
-    requires stood { Stood C.Meaning.meaning (placed_of C.stage running.old) }
+    requires abstraction { HasAbstraction C.Meaning.meaning (placed_of C.stage running.old) }
     ensures went { (kept : List Told) (d : DiskSeen) →
-        Went C.Meaning.meaning C.stage C.caller
+        RefinesAndKeeps C.Meaning.meaning C.stage C.caller
         (placed_joins p) running.old running.new kept kept d d }
 {
     keeping::others_stand::<C::Meaning>();
@@ -51,14 +51,14 @@ fn take_up<C: Calls, B: Policy, D: Disk>(
 ) -> bool
     requires process { p < 16 }
     requires running { IsRunning C.caller running.old }
-    requires stood { Stood C.Meaning.meaning (placed_of C.stage running.old) }
+    requires abstraction { HasAbstraction C.Meaning.meaning (placed_of C.stage running.old) }
     requires disk { running.old.store.size ≡ D.block_count disk.old }
     ensures took { result ≡ takes_up C.Meaning.meaning (placed_of C.stage running.old) p }
-    ensures did { DidToRest C.Meaning.meaning (taken_up C.Meaning.meaning p)
+    ensures refines { RefinesToRest C.Meaning.meaning (taken_up C.Meaning.meaning p)
         (placed_of C.stage running.old) (placed_of C.stage running.new) notes.old notes.new
         (disk_seen (D.blocks disk.old) (D.plan disk.old) (D.faults disk.old))
         (disk_seen (D.blocks disk.new) (D.plan disk.new) (D.faults disk.new)) }
-    ensures on { GoesOn C.Meaning.meaning C.stage C.caller running.old running.new }
+    ensures on { KeepsRunning C.Meaning.meaning C.stage C.caller running.old running.new }
     ensures same_size { D.block_count disk.new ≡ D.block_count disk.old }
 {
     agreeing::same_shown::<C::Meaning>();
@@ -105,13 +105,13 @@ fn steps<C: Calls, B: Policy, D: Disk>(
     requires process { p < 16 }
     requires few { n ≤ 65536 }
     requires running { IsRunning C.caller running.old }
-    requires stood { Stood C.Meaning.meaning (placed_of C.stage running.old) }
+    requires abstraction { HasAbstraction C.Meaning.meaning (placed_of C.stage running.old) }
     requires disk { running.old.store.size ≡ D.block_count disk.old }
-    ensures did { DidFromRest C.Meaning.meaning (steps_said C.Meaning.meaning number p n 0)
+    ensures refines { RefinesFromRest C.Meaning.meaning (steps_said C.Meaning.meaning number p n 0)
         (placed_of C.stage running.old) (placed_of C.stage running.new) notes.old notes.new
         (disk_seen (D.blocks disk.old) (D.plan disk.old) (D.faults disk.old))
         (disk_seen (D.blocks disk.new) (D.plan disk.new) (D.faults disk.new)) }
-    ensures on { GoesOn C.Meaning.meaning C.stage C.caller running.old running.new }
+    ensures on { KeepsRunning C.Meaning.meaning C.stage C.caller running.old running.new }
     ensures same_size { D.block_count disk.new ≡ D.block_count disk.old }
 {
     let mut taken = 0;
@@ -141,13 +141,13 @@ pub(crate) fn step_event<C: Calls, B: Policy, D: Disk>(
     requires process { p < 16 }
     requires few { n ≤ 65536 }
     requires running { IsRunning C.caller running.old }
-    requires stood { Stood C.Meaning.meaning (placed_of C.stage running.old) }
+    requires abstraction { HasAbstraction C.Meaning.meaning (placed_of C.stage running.old) }
     requires disk { running.old.store.size ≡ D.block_count disk.old }
-    ensures did { DidFromRest C.Meaning.meaning (placed_step_event C.Meaning.meaning number p n)
+    ensures refines { RefinesFromRest C.Meaning.meaning (placed_step_event C.Meaning.meaning number p n)
         (placed_of C.stage running.old) (placed_of C.stage running.new) notes.old notes.new
         (disk_seen (D.blocks disk.old) (D.plan disk.old) (D.faults disk.old))
         (disk_seen (D.blocks disk.new) (D.plan disk.new) (D.faults disk.new)) }
-    ensures on { GoesOn C.Meaning.meaning C.stage C.caller running.old running.new }
+    ensures on { KeepsRunning C.Meaning.meaning C.stage C.caller running.old running.new }
     ensures same_size { D.block_count disk.new ≡ D.block_count disk.old }
 {
     steps(running, number, p, n, disk, log, notes);

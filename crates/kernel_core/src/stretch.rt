@@ -1,8 +1,8 @@
 //! Stretches: instructions of a call that leave no step to take, one after another.
 
 ghost use Rattle.std.specs.Prelude.{◌≡◌, ◌<◌, ◌≤◌};
-ghost use Rattle.kernel_steps.specs.Views.{placed_of, IsRunning, Stood};
-ghost use Rattle.kernel_core.specs.Went.{GoesOn, Leads};
+ghost use Rattle.kernel_steps.specs.Views.{placed_of, IsRunning, HasAbstraction};
+ghost use Rattle.kernel_core.specs.RefinesAndKeeps.{KeepsRunning, Leads};
 
 use call_pieces::Calls;
 use graft_points::Policy;
@@ -15,11 +15,11 @@ use placed_laws::{agreeing, stretching};
 pub(crate) fn stretch<C: Calls, B: Policy>(running: &mut Running<C, B>, p: u8, n: u32) -> u32
     requires process { p < 16 }
     requires running { IsRunning C.caller running.old }
-    requires stood { Stood C.Meaning.meaning (placed_of C.stage running.old) }
+    requires abstraction { HasAbstraction C.Meaning.meaning (placed_of C.stage running.old) }
     ensures most { result ≤ n }
     ensures leads { let x = placed_of C.stage running.old in
         Leads C.Meaning.meaning p result x (placed_of C.stage running.new) }
-    ensures on { GoesOn C.Meaning.meaning C.stage C.caller
+    ensures on { KeepsRunning C.Meaning.meaning C.stage C.caller
         running.old running.new }
 {
     agreeing::same_shown::<C::Meaning>();

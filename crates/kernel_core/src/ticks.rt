@@ -7,8 +7,8 @@ ghost use Rattle.kernel_model.specs.declared.Note.TheVariants.{Refused};
 ghost use Rattle.placed_laws.specs.PlacedSteps.{placed_noted, placed_requeue, placed_ticked, with_placed_call};
 ghost use Rattle.placed_laws.specs.PlacedEvents.{placed_actions, placed_entry_action, placed_holder, placed_tick_event, placed_waiter};
 ghost use Rattle.kernel_steps.specs.Orders.{blocker_of, entry_of};
-ghost use Rattle.kernel_steps.specs.Views.{placed_of, IsRunning, Stood};
-ghost use Rattle.kernel_core.specs.Went.{Went, Ticked};
+ghost use Rattle.kernel_steps.specs.Views.{placed_of, IsRunning, HasAbstraction};
+ghost use Rattle.kernel_core.specs.RefinesAndKeeps.{RefinesAndKeeps, Ticked};
 
 use crate::settle::settle_all;
 use call_pieces::Calls;
@@ -35,9 +35,9 @@ fn refuse<C: Calls, B: Policy>(
         ≡ option_map (λ c. c.number) ((placed_of C.stage running.old).call p) }
     requires none { (placed_of C.stage running.old).levels p ≡ [] }
     requires running { IsRunning C.caller running.old }
-    requires stood { Stood C.Meaning.meaning (placed_of C.stage running.old) }
+    requires abstraction { HasAbstraction C.Meaning.meaning (placed_of C.stage running.old) }
     ensures went { (d : DiskSeen) →
-        Went C.Meaning.meaning C.stage C.caller
+        RefinesAndKeeps C.Meaning.meaning C.stage C.caller
         (λ r. placed_requeue p (placed_noted (Refused number why) (with_placed_call p None r)))
         running.old running.new notes.old notes.new d d }
 {
@@ -56,9 +56,9 @@ fn time_out_waiter<C: Calls, B: Policy, D: Disk>(
 )
     requires process { p < 16 }
     requires running { IsRunning C.caller running.old }
-    requires stood { Stood C.Meaning.meaning (placed_of C.stage running.old) }
+    requires abstraction { HasAbstraction C.Meaning.meaning (placed_of C.stage running.old) }
     requires disk { running.old.store.size ≡ D.block_count disk.old }
-    ensures went { Went C.Meaning.meaning C.stage C.caller
+    ensures went { RefinesAndKeeps C.Meaning.meaning C.stage C.caller
         (λ r. placed_waiter C.Meaning.meaning p (blocker_of found) (r.placed.call p) r) running.old
         running.new notes.old notes.new
         (disk_seen (D.blocks disk.old) (D.plan disk.old) (D.faults disk.old))
@@ -89,9 +89,9 @@ fn time_out_holder<C: Calls, B: Policy, D: Disk>(
 )
     requires process { p < 16 }
     requires running { IsRunning C.caller running.old }
-    requires stood { Stood C.Meaning.meaning (placed_of C.stage running.old) }
+    requires abstraction { HasAbstraction C.Meaning.meaning (placed_of C.stage running.old) }
     requires disk { running.old.store.size ≡ D.block_count disk.old }
-    ensures went { Went C.Meaning.meaning C.stage C.caller
+    ensures went { RefinesAndKeeps C.Meaning.meaning C.stage C.caller
         (placed_holder C.Meaning.meaning p (blocker_of found)) running.old running.new notes.old
         notes.new
         (disk_seen (D.blocks disk.old) (D.plan disk.old) (D.faults disk.old))
@@ -115,9 +115,9 @@ fn act<C: Calls, B: Policy, D: Disk>(
 )
     requires process { waiting.process < 16 }
     requires running { IsRunning C.caller running.old }
-    requires stood { Stood C.Meaning.meaning (placed_of C.stage running.old) }
+    requires abstraction { HasAbstraction C.Meaning.meaning (placed_of C.stage running.old) }
     requires disk { running.old.store.size ≡ D.block_count disk.old }
-    ensures went { Went C.Meaning.meaning C.stage C.caller
+    ensures went { RefinesAndKeeps C.Meaning.meaning C.stage C.caller
         (placed_entry_action C.Meaning.meaning (entry_of waiting) (entry_of waiting).blocker)
         running.old running.new notes.old notes.new
         (disk_seen (D.blocks disk.old) (D.plan disk.old) (D.faults disk.old))
@@ -143,9 +143,9 @@ fn actions<C: Calls, B: Policy, D: Disk>(
     notes: &mut Notes,
 )
     requires running { IsRunning C.caller running.old }
-    requires stood { Stood C.Meaning.meaning (placed_of C.stage running.old) }
+    requires abstraction { HasAbstraction C.Meaning.meaning (placed_of C.stage running.old) }
     requires disk { running.old.store.size ≡ D.block_count disk.old }
-    ensures went { Went C.Meaning.meaning C.stage C.caller
+    ensures went { RefinesAndKeeps C.Meaning.meaning C.stage C.caller
         (placed_actions C.Meaning.meaning turns) running.old running.new notes.old notes.new
         (disk_seen (D.blocks disk.old) (D.plan disk.old) (D.faults disk.old))
         (disk_seen (D.blocks disk.new) (D.plan disk.new) (D.faults disk.new)) }
@@ -167,7 +167,7 @@ fn actions<C: Calls, B: Policy, D: Disk>(
 fn raise<C: Calls, B: Policy>(running: &mut Running<C, B>, number: u32, notes: &mut Notes)
     requires clock { running.old.clock < 2 ^ 32 - 1 }
     requires running { IsRunning C.caller running.old }
-    requires stood { Stood C.Meaning.meaning (placed_of C.stage running.old) }
+    requires abstraction { HasAbstraction C.Meaning.meaning (placed_of C.stage running.old) }
     ensures ticked { (d : DiskSeen) → Ticked C.Meaning.meaning C.stage C.caller
         (placed_ticked number) running.old running.new notes.old notes.new d d }
 {
@@ -185,7 +185,7 @@ pub(crate) fn tick_event<C: Calls, B: Policy, D: Disk>(
 )
     requires clock { running.old.clock < 2 ^ 32 - 1 }
     requires running { IsRunning C.caller running.old }
-    requires stood { Stood C.Meaning.meaning (placed_of C.stage running.old) }
+    requires abstraction { HasAbstraction C.Meaning.meaning (placed_of C.stage running.old) }
     requires disk { running.old.store.size ≡ D.block_count disk.old }
     ensures ticked { Ticked C.Meaning.meaning C.stage C.caller
         (placed_tick_event C.Meaning.meaning number) running.old running.new notes.old notes.new

@@ -61,9 +61,8 @@ IsAskedAt a (l ∷ []) = (l.owner ≡ a.installer) × (l.point ≡ a.point) × (
 IsAskedAt a (l ∷ k ∷ ls) = IsAskedAt a (k ∷ ls)
 
 -- A graft call that was asked at a point of a state works on it: the working state and what each
--- level found are sound with
--- the working state's accounts, and so is the state that it began from; all differ from that alone
--- in what grafts may change.
+-- level found are sound with the working state's accounts, and so is the state that it began from;
+-- all differ from that alone in what grafts may change.
 pub record WorksOn (v : World) (s : Objects) (a : Point) (c : Config) : Type 0 where
   pub works : AreGraftsWork v s c.now.accounts (s.things ∷ c.now.things ∷ found_by c.levels)
   pub asked : IsAskedAt a c.levels

@@ -294,9 +294,8 @@ pub record BeginsAlone (m : Meaning) (v : World) (images : ImageTable) (s : Obje
   pub granted : m.early v images p c ≡ Ok t
 
 -- Where no call is in flight and no graft stands, a call whose pieces no user lock of another
--- process hinders is run to its
--- end at its own event: piece after piece, with the default answers, and by as many pieces as are
--- left.
+-- process hinders is run to its end at its own event: piece after piece, with the default answers,
+-- and by as many pieces as are left.
 abbrev pub CallsRunAlone : Meaning → Type 0
 CallsRunAlone m =
     (n p number : ℕ) (c : SysCall) (t : Stage) (v : World) (images : ImageTable) (s : Objects)

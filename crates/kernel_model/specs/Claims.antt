@@ -111,8 +111,7 @@ ConfigsStaySound =
     IsSoundConfig v (micro v images p c).config
 
 -- The history after the drop of a level above 0, by an instruction or a time-out, leads to the
--- config that the drop gave, if the
--- level's graft stood.
+-- config that the drop gave, if the level's graft stood.
 abbrev pub FallsReplay : Meaning → Type 0
 FallsReplay m =
     (v : World) (images : ImageTable) (s : Objects) (p : ℕ) (t : Stage) (ks : List Mark)

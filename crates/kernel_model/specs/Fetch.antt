@@ -8,8 +8,7 @@ use Rattle.kernel_model.specs.Meaning.{disk_fails}
 use Rattle.kernel_model.specs.Needs.{frame_of_block, free_frame}
 
 -- What a fetch comes to: the cache, the disk's blocks and the frame that holds the block, or a
--- failed call of the disk;
--- and how many calls of the disk it made.
+-- failed call of the disk; and how many calls of the disk it made.
 pub data Fetched : Type 0 where
   Got : CacheValue → Blocks → (frame calls : ℕ) → Fetched
   Failed : (calls : ℕ) → Fetched

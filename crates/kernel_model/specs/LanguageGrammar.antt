@@ -1,6 +1,5 @@
 -- The grammar of the graft language: programs, how they are spelled, and which tokens may come
--- next.
--- docs/LANGUAGE.md says the rules.
+-- next. docs/LANGUAGE.md says the rules.
 use Rattle.std.specs.Prelude.{ℕ, ◌-◌, Bool, true, false, cond, not, List, [], ◌∷◌, Result, Ok, Err}
 use Rattle.kernel_model.specs.declared.language.LangKind.{LangKind}
 use Rattle.kernel_model.specs.declared.language.LangKind.TheVariants.{NoProgram}

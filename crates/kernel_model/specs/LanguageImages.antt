@@ -50,12 +50,9 @@ AreWords [] = ⊤
 AreWords (pair ∷ pairs) = (pair.0 < 2 ^ 32) × (pair.1 < 2 ^ 32) × AreWords pairs
 
 -- For each segment, arguments and answers: where the program ends within n turns of loops, the code
--- ends
--- within (n + 1) * N instructions, N being its length, with the same calls and the same end; and
--- where the
--- code ends within n instructions, the program ends within n turns, with the same calls and the
--- same end. So
--- where either goes on for every n, both do.
+-- ends within (n + 1) * N instructions, N being its length, with the same calls and the same end;
+-- and where the code ends within n instructions, the program ends within n turns, with the same
+-- calls and the same end. So where either goes on for every n, both do.
 pub record Behaves (p : Program) (code : List Instr) : Type 0 where
   pub forth : (segment : ℕ → ℕ) (arguments : List ℕ) (answers : List (ℕ × ℕ)) (n : ℕ) (end : End)
       → AreArguments arguments → AreWords answers → end ≢ Going →
@@ -70,8 +67,7 @@ pub record Behaves (p : Program) (code : List Instr) : Type 0 where
       × ((said p arguments answers n).calls ≡ (fed code segment arguments answers n).calls)
 
 -- The text is accepted, and spells a program. The code does what each program says that is spelled
--- so. The
--- rewriter takes the code, and there is no data.
+-- so. The rewriter takes the code, and there is no data.
 pub record IsCompiled (text : List ℕ) (image : Image) : Type 0 where
   pub syntax : Syntax
   pub is_read : read text ≡ Ok syntax

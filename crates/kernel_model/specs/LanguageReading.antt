@@ -78,8 +78,7 @@ argument_fault left (Mark CloseParenthesis) = end_fault left
 argument_fault left _ = None
 
 -- what is wrong with a token that the grammar takes: the variable, the number of arguments, the
--- depth, in
--- this order
+-- depth, in this order
 abbrev pub fault_at : Goal → List Goal → (names : List (List ℕ)) → Token → Option LangKind
 fault_at Operand below names token = operand_fault true below names token
 fault_at RightSide below names token = operand_fault true below names token

@@ -77,8 +77,7 @@ SameAheadAsk Stream a b = a ≡ b
 SameAheadAsk _ a b = ⊤
 
 -- An answer that the kind of point accepts. For eviction any frame in use will do: the candidate of
--- the state in which the
--- piece runs may have another owner than the one that was asked.
+-- the state in which the piece runs may have another owner than the one that was asked.
 abbrev pub accepted_by : PointKind → Objects → List ℕ → List ℕ → Bool
 accepted_by Ahead s args answer = nat_le (slice_index answer 1) 8
     && nat_le (slice_index answer 0 + slice_index answer 1) (slice_index args 2)

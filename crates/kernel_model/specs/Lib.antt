@@ -50,4 +50,5 @@ pub mod Sound
 pub mod Alike
 pub mod Laws
 pub mod Alone
+pub mod Bare
 pub mod Claims

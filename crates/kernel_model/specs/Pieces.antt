@@ -262,8 +262,7 @@ read_fits (suc zero) (Some o) = true
 read_fits (suc (suc n)) (Some o) = nat_le 1 o.count
 
 -- A call may stand before the piece of this number: a read, of one of the four descriptors, before
--- each of its three, and
--- another call not past its last.
+-- each of its three, and another call not past its last.
 abbrev pub piece_fits : SysCall → ℕ → Things → ℕ → Bool
 piece_fits Yield n w p = nat_le n 1
 piece_fits (Read fd i off len) n w p = nat_lt fd 4 && (nat_le n 2 && read_fits n (w.file p fd))

@@ -56,8 +56,7 @@ pub record Session : Type 0 where
   pub refused : Bool
 
 -- what a line makes of a session: the session, the bytes written, the notes among them, and what
--- was told of calls of
--- the disk that it didn't make
+-- was told of calls of the disk that it didn't make
 pub record Written : Type 0 where
   pub session : Session
   pub bytes : List ℕ

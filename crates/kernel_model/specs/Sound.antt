@@ -158,11 +158,9 @@ HasWholeBlocks v blocks = (b : ℕ) → b < v.disk_size → length (blocks b) �
 -- ---- sound graft calls
 
 -- A graft call on a sound state: one to four levels, whose grafts stand and are different ones;
--- level 0 holds each level's
--- graft and its installer's account exclusively, so that charges can always be made again; each
--- record's object is held
--- exclusively by the level that owns the record; and what a level found is sound, and what the undo
--- log tells.
+-- level 0 holds each level's graft and its installer's account exclusively, so that charges can
+-- always be made again; each record's object is held exclusively by the level that owns the record;
+-- and what a level found is sound, and what the undo log tells.
 pub record IsSoundConfig (v : World) (c : Config) : Type 0 where
   pub now : IsSoundStore v c.now
   pub some : 1 ≤ length c.levels

@@ -116,6 +116,39 @@ pub enum Event {
     Sys(u32, SysCall),
 }
 
+/// A system call without its bytes, which stand beside it: the name of `OpenName`, and what `Write`
+/// writes. All others have none (`call_with`, `specs/Bare.antt`).
+#[derive(Clone, Copy)]
+pub enum BareCall {
+    Spawn,
+    Exit,
+    Yield,
+    OpenName,
+    CloseFd(u32),
+    Read(u32, u32, u32, u32),
+    Write(u32, u32, u32),
+    Sync,
+    TakeLock(u32),
+    FreeLock(u32),
+    Poke(u32, u32),
+    Peek(u32),
+    Tune(u32, u32, u32),
+    Choose(u32, u32),
+    Give(u32, Kind, u32),
+    Install(u32, u32, u32),
+    Remove(u32),
+    Fund(u32, Kind, u32),
+    Bill(u32),
+}
+
+/// What happens to a kernel, without the bytes of a system call, which stand beside it.
+#[derive(Clone, Copy)]
+pub enum BareEvent {
+    Tick,
+    Step(u32, u32),
+    Sys(u32, BareCall),
+}
+
 /// What a call that ends well answers.
 #[derive(Clone, Copy)]
 pub enum Reply {
@@ -171,6 +204,20 @@ pub enum Note {
     Ended(u32, Reply),
     Refused(u32, Refusal),
     Gave(u32, Bytes),
+    Dropped(u32, u8, u8, Cause),
+    Ran(u32, u32),
+    Waits(u32, Object, u8),
+    InGraft(u32, u8, u8, u8),
+}
+
+/// A note without its bytes, which stand beside it: of those that were given, the number of the
+/// call and how many there are.
+#[derive(Clone, Copy)]
+pub enum BareNote {
+    Ticked(u32, u32),
+    Ended(u32, Reply),
+    Refused(u32, Refusal),
+    Gave(u32, u16),
     Dropped(u32, u8, u8, Cause),
     Ran(u32, u32),
     Waits(u32, Object, u8),

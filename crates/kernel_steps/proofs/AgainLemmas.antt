@@ -30,7 +30,7 @@ use Rattle.placed_laws.specs.Soundness.{SoundInPlace}
 use Rattle.kernel_steps.specs.declared.running.InFlight.{InFlight}
 use Rattle.kernel_steps.specs.declared.running.Running.{Running}
 use Rattle.kernel_steps.specs.Orders.{order_of, counts_within, are_processes, are_once, numbers_of}
-use Rattle.kernel_steps.specs.Views.{placed_of, flight_of, chain_of, run_of, IsRunning, Stood}
+use Rattle.kernel_steps.specs.Views.{placed_of, flight_of, chain_of, run_of, IsRunning, HasAbstraction}
 use Rattle.kernel_steps.specs.WholeBlocks.{some_blocks, blocks_are_whole}
 use Rattle.kernel_steps.specs.Moves.{StaysInPlace, HeldStays}
 use Rattle.kernel_steps.specs.Owned.{AreOwned}
@@ -83,11 +83,11 @@ none_sound queue [] h = tt
 none_sound queue (g ∷ gs) h = absurd (omega (arith, h))
 
 -- a graft call is sound on what stands for a kernel, whatever the order of waiting
-config_of : {C B M W : Type 0} {P : _} (m : Meaning) → SoundInPlace m → (stage : W → Stage) (x : Running C B M W P) (es : List Entry) (q : ℕ) → Stood m (record (placed_of stage x) { order = es }) →
+config_of : {C B M W : Type 0} {P : _} (m : Meaning) → SoundInPlace m → (stage : W → Stage) (x : Running C B M W P) (es : List Entry) (q : ℕ) → HasAbstraction m (record (placed_of stage x) { order = es }) →
     0 < length (chain_of x q).levels → IsSoundConfig (world_of_store x.store) (call_of x.store x.locks (chain_of x q) q)
-config_of m sound stage x es q stood some =
+config_of m sound stage x es q abstraction some =
     subst (IsSoundConfig (world_of_store x.store)) (config_in_place stage x q)
-    (sound.configs (record (placed_of stage x) { order = es }) stood.kernel q stood.stands
+    (sound.configs (record (placed_of stage x) { order = es }) abstraction.kernel q abstraction.stands
     (some_levels q x.store.ram (held x.locks) (chain_of x q).levels (chain_of x q).undo (objects_of x.store).things some))
 
 -- the graft of a level stands, so its installer lives
@@ -120,15 +120,15 @@ stays_without x y q caller r chain small none =
 
 -- with levels, what it holds exclusively stays
 stays_with : {C B M W : Type 0} {P : _} (m : Meaning) → SoundInPlace m → (stage : W → Stage) (x y : Running C B M W P) (es : List Entry) (q : ℕ) (caller : W → ℕ) → IsRunning caller x →
-    Stood m (placed_of stage x) → Stood m (record (placed_of stage y) { order = es }) → chain_of y q ≡ chain_of x q → y.images ≡ x.images → q < 16 → HeldStays x y q → 0 < length (chain_of x q).levels → StaysInPlace y q
-stays_with m sound stage x y es q caller r stood after chain images small stays some =
+    HasAbstraction m (placed_of stage x) → HasAbstraction m (record (placed_of stage y) { order = es }) → chain_of y q ≡ chain_of x q → y.images ≡ x.images → q < 16 → HeldStays x y q → 0 < length (chain_of x q).levels → StaysInPlace y q
+stays_with m sound stage x y es q caller r abstraction after chain images small stays some =
     let gs = (chain_of x q).levels in
     let log = (chain_of x q).undo in
     let s = objects_of x.store in
     let u = objects_of y.store in
     let t = held x.locks in
     let old = r.placed q small in
-    let config = config_of m sound stage x (order_of x.order) q stood some in
+    let config = config_of m sound stage x (order_of x.order) q abstraction some in
     let later = subst (λ (c : Chain). IsSoundConfig (world_of_store y.store) (call_of y.store y.locks c q)) chain
     (config_of m sound stage y es q after (subst (λ (c : Chain). 0 < length c.levels) (sym chain) some)) in
     let live = owner_lives (world_of_store y.store) u (r.owner q) q y.store.ram (held y.locks) gs log later (r.own q small) some in
@@ -144,10 +144,10 @@ stays_with m sound stage x y es q caller r stood after chain images small stays 
     }
 
 stays_in_place : {C B M W : Type 0} {P : _} (m : Meaning) → SoundInPlace m → (stage : W → Stage) (x y : Running C B M W P) (es : List Entry) (q : ℕ) (caller : W → ℕ) → IsRunning caller x →
-    Stood m (placed_of stage x) → Stood m (record (placed_of stage y) { order = es }) → chain_of y q ≡ chain_of x q → y.images ≡ x.images → q < 16 → HeldStays x y q → (b : Bool) → nat_lt 0 (length (chain_of x q).levels) ≡ b → StaysInPlace y q
-stays_in_place m sound stage x y es q caller r stood after chain images small stays true h =
-    stays_with m sound stage x y es q caller r stood after chain images small stays (grind (arith, nat_tests, h))
-stays_in_place m sound stage x y es q caller r stood after chain images small stays false h = stays_without x y q caller r chain small (grind (arith, nat_tests, h))
+    HasAbstraction m (placed_of stage x) → HasAbstraction m (record (placed_of stage y) { order = es }) → chain_of y q ≡ chain_of x q → y.images ≡ x.images → q < 16 → HeldStays x y q → (b : Bool) → nat_lt 0 (length (chain_of x q).levels) ≡ b → StaysInPlace y q
+stays_in_place m sound stage x y es q caller r abstraction after chain images small stays true h =
+    stays_with m sound stage x y es q caller r abstraction after chain images small stays (grind (arith, nat_tests, h))
+stays_in_place m sound stage x y es q caller r abstraction after chain images small stays false h = stays_without x y q caller r chain small (grind (arith, nat_tests, h))
 
 -- ---- the kernel runs again
 
@@ -176,16 +176,16 @@ placed_again x y p q caller r step small other stay =
     }
 
 -- the images of what stands for a kernel are loaded, whatever the order of waiting
-loaded_of : (m : Meaning) → SoundInPlace m → (x : Placed) (es : List Entry) → Stood m (record x { order = es }) → ImagesAreLoaded x.images x.objects.accounts
-loaded_of m sound x es stood =
-    sound.images_loaded (run_of (record x { order = es }) some_blocks [] []) (record { kernel = stood.kernel; blocks = some_blocks; notes = []; io = [] })
-    (record { kernel = stood.stands; blocks = refl; notes = refl; io = refl; whole = blocks_are_whole stood.kernel.world })
+loaded_of : (m : Meaning) → SoundInPlace m → (x : Placed) (es : List Entry) → HasAbstraction m (record x { order = es }) → ImagesAreLoaded x.images x.objects.accounts
+loaded_of m sound x es abstraction =
+    sound.images_loaded (run_of (record x { order = es }) some_blocks [] []) (record { kernel = abstraction.kernel; blocks = some_blocks; notes = []; io = [] })
+    (record { kernel = abstraction.stands; blocks = refl; notes = refl; io = refl; whole = blocks_are_whole abstraction.kernel.world })
 
 pub runs_again : {C B M W : Type 0} {P : _} (m : Meaning) → SoundInPlace m → (stage : W → Stage) (caller : W → ℕ) (x y : Running C B M W P) (es : List Entry) (p o : ℕ) → IsRunning caller x → p < 16 →
-    Stood m (placed_of stage x) → Stood m (record (placed_of stage y) { order = es }) → Stepped caller x y p → AreOwned o (chain_of y p).levels (chain_of y p).undo → ((q : ℕ) → q ≢ p → HeldStays x y q) → IsRunning caller y
-runs_again {W = W} m sound stage caller x y es p o r low stood after step own held =
+    HasAbstraction m (placed_of stage x) → HasAbstraction m (record (placed_of stage y) { order = es }) → Stepped caller x y p → AreOwned o (chain_of y p).levels (chain_of y p).undo → ((q : ℕ) → q ≢ p → HeldStays x y q) → IsRunning caller y
+runs_again {W = W} m sound stage caller x y es p o r low abstraction after step own held =
     let stay : (q : ℕ) → q ≢ p → q < 16 → StaysInPlace y q =
-    λ q other small. stays_in_place m sound stage x y es q caller r stood after (step.chains q other) step.images small (held q other) (nat_lt 0 (length (chain_of x q).levels)) refl in
+    λ q other small. stays_in_place m sound stage x y es q caller r abstraction after (step.chains q other) step.images small (held q other) (nat_lt 0 (length (chain_of x q).levels)) refl in
     record {
       sixteen = step.sixteen ∙ r.sixteen;
       callers = λ q f is. all_hold p (λ q. (f : InFlight W) → (flight_of y.calls.items q).call ≡ Some f → caller f.work ≡ q) step.caller_is (λ q other f is. r.callers q f (sym (step.calls q other) ∙ is)) q (q == p) refl f is;

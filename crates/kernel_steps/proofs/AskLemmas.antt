@@ -22,7 +22,7 @@ use Rattle.kernel_steps.specs.declared.running.InFlight.{InFlight}
 use Rattle.kernel_steps.specs.declared.running.Running.{Running}
 use Rattle.kernel_steps.specs.Moves.{come_to, Moved}
 use Rattle.kernel_steps.specs.Steps.{finishes, StepDone}
-use Rattle.kernel_steps.specs.Views.{placed_of, flight_of, chain_of, call_in_place, run_of, IsRunning, Stood}
+use Rattle.kernel_steps.specs.Views.{placed_of, flight_of, chain_of, call_in_place, run_of, IsRunning, HasAbstraction}
 use Rattle.kernel_steps.proofs.PartLemmas.{levels_come, none_at}
 use Rattle.kernel_steps.proofs.StepLemmas.{alone_moved, done_as, moved_done, nothing_done, of_one}
 
@@ -78,10 +78,10 @@ asked_lives v s q pt sound there = by_value (s.accounts.graft q pt) refl there
     by_value (Some g) e h = (sound.grafts q pt g e).1
 
 -- a piece is ready by default
-pub ready_at_once : {C B M W : Type 0} {P : _} (m : Meaning) → ReadyInPlace m → (stage : W → Stage) (x : Running C B M W P) (p : ℕ) (f : InFlight W) → Stood m (placed_of stage x) → (flight_of x.calls.items p).call ≡ Some f →
+pub ready_at_once : {C B M W : Type 0} {P : _} (m : Meaning) → ReadyInPlace m → (stage : W → Stage) (x : Running C B M W P) (p : ℕ) (f : InFlight W) → HasAbstraction m (placed_of stage x) → (flight_of x.calls.items p).call ≡ Some f →
     IsReady m (world_of_store x.store) (table_of x.images) (objects_of x.store) p (stage f.work) None
-ready_at_once m ready stage x p f stood is =
-    ready.at_once (placed_of stage x) stood.kernel p (call_in_place stage f) stood.stands (ap (option_map (call_in_place stage)) is)
+ready_at_once m ready stage x p f abstraction is =
+    ready.at_once (placed_of stage x) abstraction.kernel p (call_in_place stage f) abstraction.stands (ap (option_map (call_in_place stage)) is)
 
 -- the call entered a graft
 pub entered_done : {C B M W : Type 0} {P : _} (m : Meaning) → OwnersStay → (stage : W → Stage) (caller : W → ℕ) (x y : Running C B M W P) (p : ℕ) (c : PlacedCall) (a : Point) (kept : List Note) (d : DiskSeen) → IsRunning caller x → p < 16 →

@@ -27,7 +27,7 @@ use Rattle.placed_laws.specs.PlacedSteps.{placed_after, placed_finish}
 use Rattle.kernel_steps.specs.declared.running.InFlight.{InFlight}
 use Rattle.kernel_steps.specs.declared.running.Running.{Running}
 use Rattle.kernel_steps.specs.Orders.{order_of}
-use Rattle.kernel_steps.specs.Did.{CameAs, Did, Reaches, PieceLeft, PieceDone}
+use Rattle.kernel_steps.specs.Refines.{RunMatches, Refines, Reaches, PieceLeft, PieceDone}
 use Rattle.kernel_steps.specs.Steps.{finishes}
 use Rattle.kernel_steps.specs.Views.{placed_of, flight_of, chain_of, no_chain, levels_at, call_in_place, run_of}
 use Rattle.kernel_steps.proofs.CallLemmas.{with_call, calls_changed, chain_of_changed}
@@ -103,9 +103,9 @@ finished_as : (p : ℕ) (call other : Option PlacedCall) (u w : Objects) (x : Pl
 finished_as p call other u w x same is = sym (ap (λ o. finished p call o x) same ∙ ap (λ o. finished p o w x) is)
 
 -- what a piece leaves of an event under way
-piece_came : (m : Meaning) (x : Placed) (p : ℕ) (c : PlacedCall) (q : Piece) (blocks : Blocks) (notes kept_new : List Note) (io rest : List Bool) (u : Objects) (call : Option PlacedCall) (told : Option (List (List ℕ))) →
-    PieceLeft c q u call notes kept_new told (length io) → CameAs (placed_finish p c q (run_of x blocks notes (io ++ rest))) (finished p call u x) kept_new told rest
-piece_came m x p c q blocks notes kept_new io rest u call told l =
+piece_came : (m : Meaning) (x : Placed) (p : ℕ) (c : PlacedCall) (q : Piece) (blocks : Blocks) (notes kept_new : List Note) (io rest : List Bool) (u : Objects) (call : Option PlacedCall) (known : Option (List (List ℕ))) →
+    PieceLeft c q u call notes kept_new known (length io) → RunMatches (placed_finish p c q (run_of x blocks notes (io ++ rest))) (finished p call u x) kept_new known rest
+piece_came m x p c q blocks notes kept_new io rest u call known l =
     record {
       placed = finished_as p call (placed_after c q.after) u q.objects x l.objects l.call_is;
       notes = l.kept_are;
@@ -114,14 +114,14 @@ piece_came m x p c q blocks notes kept_new io rest u call told l =
     }
 
 pub finish_did : (m : Meaning) (x y : Placed) (p : ℕ) (c : PlacedCall) (u : Objects) (call : Option PlacedCall) (answer : Option (List ℕ)) (kept kept_new : List Note) (d e : DiskSeen) → y ≡ finished p call u x →
-    PieceDone m x.world x.objects u p c call answer kept kept_new d e → Did (finishes m p c answer) x y kept kept_new d e
+    PieceDone m x.world x.objects u p c call answer kept kept_new d e → Refines (finishes m p c answer) x y kept kept_new d e
 finish_did m x y p c u call answer kept kept_new d e is h =
     record {
       io = h.io;
       made = h.made;
       goes = λ blocks notes rest tells k.
-          subst (λ z. CameAs (finishes m p c answer (run_of x blocks notes (h.io ++ rest))) z kept_new e.told rest) (sym is)
-          (piece_came m x p c (m.piece x.world x.images x.objects blocks p c.stage (answer_seen answer) (h.io ++ rest)) blocks notes kept_new h.io rest u call e.told (h.goes x.images blocks notes rest tells k));
+          subst (λ z. RunMatches (finishes m p c answer (run_of x blocks notes (h.io ++ rest))) z kept_new e.known rest) (sym is)
+          (piece_came m x p c (m.piece x.world x.images x.objects blocks p c.stage (answer_seen answer) (h.io ++ rest)) blocks notes kept_new h.io rest u call e.known (h.goes x.images blocks notes rest tells k));
     }
 
 pub finish_reaches : (m : Meaning) (x y : Placed) (p : ℕ) (c : PlacedCall) (u : Objects) (call : Option PlacedCall) (answer : Option (List ℕ)) (kept kept_new : List Note) (d e : DiskSeen) → y ≡ finished p call u x →

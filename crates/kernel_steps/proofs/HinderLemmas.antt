@@ -13,7 +13,7 @@ use Rattle.kernel_model.specs.Levels.{Level}
 use Rattle.kernel_model.specs.GraftStep.{next_needs, lock_user}
 use Rattle.lock_table.specs.Masks.{held}
 use Rattle.kernel_state.specs.Stores.{world_of_store, objects_of}
-use Rattle.call_pieces.specs.Works.{MayCome}
+use Rattle.call_pieces.specs.Works.{IsDue}
 use Rattle.graft_loader.specs.Slots.{table_of}
 use Rattle.graft_calls.specs.declared.GraftLevel.{GraftLevel}
 use Rattle.graft_calls.specs.Chains.{levels_in, levels_of}
@@ -24,21 +24,21 @@ use Rattle.kernel_steps.specs.declared.running.InFlight.{InFlight}
 use Rattle.kernel_steps.specs.declared.running.Flight.{Flight}
 use Rattle.kernel_steps.specs.declared.running.Running.{Running}
 use Rattle.kernel_steps.specs.Hindered.{hindrance_of, blocking_by}
-use Rattle.kernel_steps.specs.Views.{placed_of, flight_of, chain_of, call_in_place, IsRunning, Stood}
+use Rattle.kernel_steps.specs.Views.{placed_of, flight_of, chain_of, call_in_place, IsRunning, HasAbstraction}
 use Rattle.kernel_steps.proofs.ViewLemmas.{levels_in_place, holds_in_place}
 
 -- ---- the next piece
 
 -- a call in flight stands at its stage
 pub stands : {C B M W : Type 0} {P : _} (m : Meaning) → SoundInPlace m → (stage : W → Stage) (caller : W → ℕ) (x : Running C B M W P) (p : ℕ) (f : InFlight W) →
-    IsRunning caller x → Stood m (placed_of stage x) → (flight_of x.calls.items p).call ≡ Some f →
+    IsRunning caller x → HasAbstraction m (placed_of stage x) → (flight_of x.calls.items p).call ≡ Some f →
     IsStanding m (world_of_store x.store) (table_of x.images) (objects_of x.store) (caller f.work) (stage f.work)
-stands m sound stage caller x p f r stood is =
+stands m sound stage caller x p f r abstraction is =
     subst (λ q. IsStanding m (world_of_store x.store) (table_of x.images) (objects_of x.store) q (stage f.work)) (sym (r.callers p f is))
-    (sound.standing (placed_of stage x) stood.kernel p (call_in_place stage f) stood.stands (ap (option_map (call_in_place stage)) is))
+    (sound.standing (placed_of stage x) abstraction.kernel p (call_in_place stage f) abstraction.stands (ap (option_map (call_in_place stage)) is))
 
 -- so its next piece may come
-pub may_come : (m : Meaning) → Laws m → (v : World) (images : ImageTable) (s : Objects) (p : ℕ) (t : Stage) → IsStanding m v images s p t → MayCome m v s p t
+pub may_come : (m : Meaning) → Laws m → (v : World) (images : ImageTable) (s : Objects) (p : ℕ) (t : Stage) → IsStanding m v images s p t → IsDue m v s p t
 may_come m laws v images s p t h =
     record { images = images; alive = h.caller; granted = h.granted; fits = h.fits; left = (laws.stages.some_left v images s p t h).0 }
 

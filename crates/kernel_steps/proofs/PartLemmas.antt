@@ -22,7 +22,7 @@ use Rattle.kernel_steps.specs.declared.running.InFlight.{InFlight}
 use Rattle.kernel_steps.specs.declared.running.Running.{Running}
 use Rattle.kernel_steps.specs.Moves.{come_to, Moved}
 use Rattle.kernel_steps.specs.Steps.{after_said, answer_said, IsOfOne, StepsAlone, StepDone}
-use Rattle.kernel_steps.specs.Views.{placed_of, flight_of, chain_of, levels_at, call_at, call_in_place, run_of, IsRunning, Stood}
+use Rattle.kernel_steps.specs.Views.{placed_of, flight_of, chain_of, levels_at, call_at, call_in_place, run_of, IsRunning, HasAbstraction}
 use Rattle.kernel_steps.proofs.EndLemmas.{micro_ends, drop_ends, drop_answer, same_inner}
 use Rattle.kernel_steps.proofs.HinderLemmas.{some_levels}
 use Rattle.kernel_steps.proofs.ViewLemmas.{as_many, config_in_place}
@@ -69,11 +69,11 @@ micro_alone law stage caller x y p r small moved come =
     alone_moved caller x y p r small moved
     (move_owned stage x y p (r.owner p) o.config come (law.instructions (world_of_store x.store) (table_of x.images) p (r.owner p) (placed_config (placed_of stage x) p) (config_owned stage caller x p r small)))
 
-pub micro_ready : {C B M W : Type 0} {P : _} (m : Meaning) → ReadyInPlace m → (stage : W → Stage) (x y : Running C B M W P) (p : ℕ) (f : InFlight W) (said : Micro) (answer : Option (List ℕ)) → Stood m (placed_of stage x) →
+pub micro_ready : {C B M W : Type 0} {P : _} (m : Meaning) → ReadyInPlace m → (stage : W → Stage) (x y : Running C B M W P) (p : ℕ) (f : InFlight W) (said : Micro) (answer : Option (List ℕ)) → HasAbstraction m (placed_of stage x) →
     0 < length (chain_of x p).levels → Moved x y p → placed_of stage y ≡ come_to p (micro (world_of_store x.store) (table_of x.images) p (placed_config (placed_of stage x) p)).config (placed_of stage x) →
     said ≡ (micro (world_of_store x.store) (table_of x.images) p (placed_config (placed_of stage x) p)).said → answer_said said ≡ Some answer → (flight_of y.calls.items p).call ≡ Some f →
     IsReady m (world_of_store y.store) (table_of y.images) (objects_of y.store) p (stage f.work) (answer_seen answer)
-micro_ready {W = W} m ready stage x y p f said answer stood some moved come is h there =
+micro_ready {W = W} m ready stage x y p f said answer abstraction some moved come is h there =
     let z = placed_of stage x in
     let o : Outcome = micro (world_of_store x.store) (table_of x.images) p (placed_config z p) in
     let c : PlacedCall = call_in_place stage f in
@@ -81,7 +81,7 @@ micro_ready {W = W} m ready stage x y p f said answer stood some moved come is h
     let has : has_some (z.levels p) ≡ true = some_levels p x.store.ram (held x.locks) (chain_of x p).levels (chain_of x p).undo (objects_of x.store).things some in
     ready_come m stage x y p (stage f.work) o.config answer moved come
     (by_answer o.said answer (answer_same said o.said answer is h) refl
-    (λ a e. ready.completed z stood.kernel p c a stood.stands call has e) (ready.lost z stood.kernel p c stood.stands call has))
+    (λ a e. ready.completed z abstraction.kernel p c a abstraction.stands call has e) (ready.lost z abstraction.kernel p c abstraction.stands call has))
   where
     by_answer : (s : Micro) (answer : Option (List ℕ)) → answer_said s ≡ Some answer → (micro (world_of_store x.store) (table_of x.images) p (placed_config (placed_of stage x) p)).said ≡ s →
         ((a : List ℕ) → (micro (world_of_store x.store) (table_of x.images) p (placed_config (placed_of stage x) p)).said ≡ Micro.Completed a →
@@ -117,16 +117,16 @@ drop_alone law stage caller x y p n cause r small moved come =
     alone_moved caller x y p r small moved
     (move_owned stage x y p (r.owner p) o.config come (law.drops (world_of_store x.store) (objects_of x.store) (placed_levels (placed_of stage x) p) n (r.owner p) cause (config_owned stage caller x p r small)))
 
-pub drop_ready : {C B M W : Type 0} {P : _} (m : Meaning) → ReadyInPlace m → (stage : W → Stage) (x y : Running C B M W P) (p n : ℕ) (cause : Cause) (f : InFlight W) (said : Micro) (answer : Option (List ℕ)) → Stood m (placed_of stage x) →
+pub drop_ready : {C B M W : Type 0} {P : _} (m : Meaning) → ReadyInPlace m → (stage : W → Stage) (x y : Running C B M W P) (p n : ℕ) (cause : Cause) (f : InFlight W) (said : Micro) (answer : Option (List ℕ)) → HasAbstraction m (placed_of stage x) →
     n < length (levels_at x p) → Moved x y p → placed_of stage y ≡ come_to p (drop_level (world_of_store x.store) (objects_of x.store) (placed_levels (placed_of stage x) p) n cause).config (placed_of stage x) →
     said ≡ (drop_level (world_of_store x.store) (objects_of x.store) (placed_levels (placed_of stage x) p) n cause).said → answer_said said ≡ Some answer → (flight_of y.calls.items p).call ≡ Some f →
     IsReady m (world_of_store y.store) (table_of y.images) (objects_of y.store) p (stage f.work) (answer_seen answer)
-drop_ready m ready stage x y p n cause f said answer stood low moved come is h there =
+drop_ready m ready stage x y p n cause f said answer abstraction low moved come is h there =
     let z = placed_of stage x in
     let o : Outcome = drop_level (world_of_store x.store) (objects_of x.store) (placed_levels z p) n cause in
     ready_come m stage x y p (stage f.work) o.config answer moved come
     (subst (λ b. IsReady m (world_of_store x.store) (table_of x.images) o.config.now p (stage f.work) (answer_seen b)) (drop_answer (world_of_store x.store) (objects_of x.store) (placed_levels z p) n cause answer (answer_same said o.said answer is h))
-    (ready.dropped z stood.kernel p (call_in_place stage f) n cause stood.stands (ap (option_map (call_in_place stage)) (sym (moved.calls p) ∙ there)) low))
+    (ready.dropped z abstraction.kernel p (call_in_place stage f) n cause abstraction.stands (ap (option_map (call_in_place stage)) (sym (moved.calls p) ∙ there)) low))
 
 pub drop_done : {C B M W : Type 0} {P : _} (m : Meaning) (stage : W → Stage) (caller : W → ℕ) (x y z : Running C B M W P) (p n : ℕ) (cause : Cause) (c : PlacedCall) (said : Micro) (kept kept_new : List Note) (d e : DiskSeen) → Moved x y p →
     placed_of stage y ≡ come_to p (drop_level (world_of_store x.store) (objects_of x.store) (placed_levels (placed_of stage x) p) n cause).config (placed_of stage x) →

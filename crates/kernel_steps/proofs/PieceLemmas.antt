@@ -7,27 +7,27 @@ use Rattle.kernel_model.specs.Meaning.{Meaning, Stage, After, Piece}
 use Rattle.kernel_model.specs.Kernel.{gave_note, after_note}
 use Rattle.std.specs.Prelude.{option_map}
 use Rattle.vino_base.specs.Calls.{Plan}
-use Rattle.disk_log.specs.Calls.{Tells, GoesOn}
+use Rattle.disk_log.specs.Calls.{Knows, CallsExtend}
 use Rattle.disk_log.specs.Seen.{disk_seen}
 use Rattle.disk_log.specs.Joined.{made_none}
-use Rattle.call_pieces.specs.Coming.{CameTo, LeftBySome}
+use Rattle.call_pieces.specs.Matching.{PieceMatches, PieceMatchesSome}
 use Rattle.placed_laws.specs.Placed.{PlacedCall}
 use Rattle.placed_laws.specs.PlacedSteps.{placed_after}
 use Rattle.call_pieces.specs.declared.Next.{Next}
 use Rattle.call_pieces.specs.Works.{comes_after, answer_seen}
 use Rattle.kernel_steps.specs.declared.running.InFlight.{InFlight}
 use Rattle.kernel_steps.specs.Views.{call_in_place}
-use Rattle.kernel_steps.specs.Did.{first_notes, PieceDone}
+use Rattle.kernel_steps.specs.Refines.{first_notes, PieceDone}
 
-pub piece_done : (m : Meaning) (v : World) (s u : Objects) (p : ℕ) (c : PlacedCall) (call : Option PlacedCall) (answer : Option (List ℕ)) (kept mid kept_new : List Note) (told told_new : Option (List (List ℕ)))
+pub piece_done : (m : Meaning) (v : World) (s u : Objects) (p : ℕ) (c : PlacedCall) (call : Option PlacedCall) (answer : Option (List ℕ)) (kept mid kept_new : List Note) (known told_new : Option (List (List ℕ)))
     (plan plan_new : Option Plan) (faults faults_new : ℕ) (io : List Bool) (gave : Option (List ℕ)) (after : After) →
-    ((images : ImageTable) (blocks : Blocks) (rest : List Bool) → Tells told blocks → CameTo (m.piece v images s blocks p c.stage (answer_seen answer) (io ++ rest)) u told_new gave after (length io)) →
-    ((images : ImageTable) → LeftBySome v (λ blocks io. m.piece v images s blocks p c.stage (answer_seen answer) io) u gave after io) →
-    GoesOn faults faults_new plan plan_new [] io → call ≡ placed_after c after →
+    ((images : ImageTable) (blocks : Blocks) (rest : List Bool) → Knows known blocks → PieceMatches (m.piece v images s blocks p c.stage (answer_seen answer) (io ++ rest)) u told_new gave after (length io)) →
+    ((images : ImageTable) → PieceMatchesSome v (λ blocks io. m.piece v images s blocks p c.stage (answer_seen answer) io) u gave after io) →
+    CallsExtend faults faults_new plan plan_new [] io → call ≡ placed_after c after →
     ((all : List Note) → kept ≡ first_notes all → mid ≡ first_notes (all ++ gave_note c.number gave)) →
     ((all : List Note) → mid ≡ first_notes all → kept_new ≡ first_notes (all ++ after_note c.number after)) →
-    PieceDone m v s u p c call answer kept kept_new (disk_seen told plan faults) (disk_seen told_new plan_new faults_new)
-piece_done m v s u p c call answer kept mid kept_new told told_new plan plan_new faults faults_new io gave after does some made call_is first second =
+    PieceDone m v s u p c call answer kept kept_new (disk_seen known plan faults) (disk_seen told_new plan_new faults_new)
+piece_done m v s u p c call answer kept mid kept_new known told_new plan plan_new faults faults_new io gave after does some made call_is first second =
     record {
       io = io;
       made = made faults plan (made_none faults plan);
@@ -55,19 +55,19 @@ piece_done m v s u p c call answer kept mid kept_new told told_new plan plan_new
     }
 
 -- the same of a call in flight, by what came next
-pub flight_done : {W : Type 0} (m : Meaning) (stage : W → Stage) (caller : W → ℕ) (v : World) (s u : Objects) (call f : InFlight W) (new : W) (left : Option (InFlight W)) (answer : Option (List ℕ)) (kept mid kept_new : List Note) (told told_new : Option (List (List ℕ)))
+pub flight_done : {W : Type 0} (m : Meaning) (stage : W → Stage) (caller : W → ℕ) (v : World) (s u : Objects) (call f : InFlight W) (new : W) (left : Option (InFlight W)) (answer : Option (List ℕ)) (kept mid kept_new : List Note) (known told_new : Option (List (List ℕ)))
     (plan plan_new : Option Plan) (faults faults_new : ℕ) (io : List Bool) (gave : Option (List ℕ)) (next n : Next) → call ≡ f → next ≡ n →
-    ((images : ImageTable) (blocks : Blocks) (rest : List Bool) → Tells told blocks → CameTo (m.piece v images s blocks (caller call.work) (stage call.work) (answer_seen answer) (io ++ rest)) u told_new gave (comes_after next (stage new)) (length io)) →
-    ((images : ImageTable) → LeftBySome v (λ blocks io. m.piece v images s blocks (caller call.work) (stage call.work) (answer_seen answer) io) u gave (comes_after next (stage new)) io) →
-    GoesOn faults faults_new plan plan_new [] io → option_map (call_in_place stage) left ≡ placed_after (call_in_place stage call) (comes_after n (stage new)) →
+    ((images : ImageTable) (blocks : Blocks) (rest : List Bool) → Knows known blocks → PieceMatches (m.piece v images s blocks (caller call.work) (stage call.work) (answer_seen answer) (io ++ rest)) u told_new gave (comes_after next (stage new)) (length io)) →
+    ((images : ImageTable) → PieceMatchesSome v (λ blocks io. m.piece v images s blocks (caller call.work) (stage call.work) (answer_seen answer) io) u gave (comes_after next (stage new)) io) →
+    CallsExtend faults faults_new plan plan_new [] io → option_map (call_in_place stage) left ≡ placed_after (call_in_place stage call) (comes_after n (stage new)) →
     ((all : List Note) → kept ≡ first_notes all → mid ≡ first_notes (all ++ gave_note call.number gave)) →
     ((all : List Note) → mid ≡ first_notes all → kept_new ≡ first_notes (all ++ after_note call.number (comes_after n (stage new)))) →
-    PieceDone m v s u (caller f.work) (call_in_place stage f) (option_map (call_in_place stage) left) answer kept kept_new (disk_seen told plan faults) (disk_seen told_new plan_new faults_new)
-flight_done {W = W} m stage caller v s u call f new left answer kept mid kept_new told told_new plan plan_new faults faults_new io gave next n same is does some made left_is first second =
-    subst (λ (h : InFlight W). PieceDone m v s u (caller h.work) (call_in_place stage h) (option_map (call_in_place stage) left) answer kept kept_new (disk_seen told plan faults) (disk_seen told_new plan_new faults_new)) same
-    (piece_done m v s u (caller call.work) (call_in_place stage call) (option_map (call_in_place stage) left) answer kept mid kept_new told told_new plan plan_new faults faults_new io gave (comes_after n (stage new))
-    (subst (λ k. (images : ImageTable) (blocks : Blocks) (rest : List Bool) → Tells told blocks → CameTo (m.piece v images s blocks (caller call.work) (stage call.work) (answer_seen answer) (io ++ rest)) u told_new gave (comes_after k (stage new)) (length io)) is does)
-    (subst (λ k. (images : ImageTable) → LeftBySome v (λ blocks io. m.piece v images s blocks (caller call.work) (stage call.work) (answer_seen answer) io) u gave (comes_after k (stage new)) io) is some)
+    PieceDone m v s u (caller f.work) (call_in_place stage f) (option_map (call_in_place stage) left) answer kept kept_new (disk_seen known plan faults) (disk_seen told_new plan_new faults_new)
+flight_done {W = W} m stage caller v s u call f new left answer kept mid kept_new known told_new plan plan_new faults faults_new io gave next n same is does some made left_is first second =
+    subst (λ (h : InFlight W). PieceDone m v s u (caller h.work) (call_in_place stage h) (option_map (call_in_place stage) left) answer kept kept_new (disk_seen known plan faults) (disk_seen told_new plan_new faults_new)) same
+    (piece_done m v s u (caller call.work) (call_in_place stage call) (option_map (call_in_place stage) left) answer kept mid kept_new known told_new plan plan_new faults faults_new io gave (comes_after n (stage new))
+    (subst (λ k. (images : ImageTable) (blocks : Blocks) (rest : List Bool) → Knows known blocks → PieceMatches (m.piece v images s blocks (caller call.work) (stage call.work) (answer_seen answer) (io ++ rest)) u told_new gave (comes_after k (stage new)) (length io)) is does)
+    (subst (λ k. (images : ImageTable) → PieceMatchesSome v (λ blocks io. m.piece v images s blocks (caller call.work) (stage call.work) (answer_seen answer) io) u gave (comes_after k (stage new)) io) is some)
     made left_is first second)
 
 -- no more notes

@@ -28,7 +28,7 @@ use Rattle.placed_laws.specs.Placed.{PlacedCall, PlacedLevel, PlacedRun, bare}
 use Rattle.placed_laws.specs.PlacedSteps.{placed_finish, placed_finish_on, placed_noted, placed_after_outcome, placed_outcome, with_config}
 use Rattle.kernel_steps.specs.declared.running.InFlight.{InFlight}
 use Rattle.kernel_steps.specs.declared.running.Running.{Running}
-use Rattle.kernel_steps.specs.Did.{first_notes, PieceDone}
+use Rattle.kernel_steps.specs.Refines.{first_notes, PieceDone}
 use Rattle.kernel_steps.specs.Moves.{come_to, Moved}
 use Rattle.kernel_steps.specs.Owned.{AreOwned}
 use Rattle.kernel_steps.specs.Steps.{finishes, after_drop, after_said, answer_of_drop, answer_said, IsOfOne, StepsAlone, Stepped, StepDone}
@@ -75,7 +75,7 @@ finish_done {W = W} m stage caller x y p c f v answer kept kept_new d e alone no
     let own : chain_of y p ≡ no_chain = chains p ∙ nothing in
     let call_then : (q : ℕ) → (flight_of y.calls.items q).call ≡ at p v (λ r. (flight_of x.calls.items r).call) q = λ q. ap (λ fs. (flight_of fs q).call) calls ∙ call_of_changed x.calls.items p v within q in
     record {
-      did = finish_did m (placed_of stage x) (placed_of stage y) p c (objects_of y.store) (option_map (call_in_place stage) v) answer kept kept_new d e here whole;
+      refines = finish_did m (placed_of stage x) (placed_of stage y) p c (objects_of y.store) (option_map (call_in_place stage) v) answer kept kept_new d e here whole;
       reaches = finish_reaches m (placed_of stage x) (placed_of stage y) p c (objects_of y.store) (option_map (call_in_place stage) v) answer kept kept_new d e here whole;
       stepped = record {
         world = world;
@@ -124,7 +124,7 @@ pub nothing_done : {C B M W : Type 0} {P : _} (stage : W → Stage) (caller : W 
     StepDone stage caller (λ r. r) x x p kept kept d d
 nothing_done stage caller x p kept d alone =
     record {
-      did = did_nothing (placed_of stage x) kept d;
+      refines = did_nothing (placed_of stage x) kept d;
       reaches = reaches_purely (λ r. r) (placed_of stage x) (placed_of stage x) [] some_blocks (blocks_are_whole (world_of_store x.store)) (λ blocks notes io. nil_right blocks notes io);
       stepped = stepped_same caller x p alone;
       own = alone.own;
@@ -139,7 +139,7 @@ pub noted_done : {C B M W : Type 0} {P : _} (stage : W → Stage) (caller : W �
 noted_done stage caller g x y p note kept mid kept_new d e adds h =
     let o = placed_of stage x in
     record {
-      did = did_then (placed_noted note) g o o (placed_of stage y) kept mid kept_new d d e (did_purely (placed_noted note) o o kept mid (note ∷ []) d (λ blocks notes io. refl) adds) h.did;
+      refines = did_then (placed_noted note) g o o (placed_of stage y) kept mid kept_new d d e (did_purely (placed_noted note) o o kept mid (note ∷ []) d (λ blocks notes io. refl) adds) h.refines;
       reaches = reaches_behind (placed_noted note) g o o (placed_of stage y) (note ∷ []) refl (λ blocks notes io. refl) h.reaches;
       stepped = h.stepped;
       own = h.own;
@@ -278,8 +278,8 @@ moved_done stage caller f g x y z p kept kept_new d e moved come h =
     let same : (blocks : Blocks) (notes : List Note) (io : List Bool) → with_config p f (run_of o blocks notes io) ≡ run_of (placed_of stage y) blocks (notes ++ []) io =
     λ blocks notes io. ap (λ w. run_of w blocks notes io) (sym come) ∙ ap (λ ns. run_of (placed_of stage y) blocks ns io) (sym (append-nil notes)) in
     record {
-      did = did_then (with_config p f) g o (placed_of stage y) (placed_of stage z) kept kept kept_new d d e
-          (did_purely (with_config p f) o (placed_of stage y) kept kept [] d same (λ notes k. k ∙ ap first_notes (sym (append-nil notes)))) h.did;
+      refines = did_then (with_config p f) g o (placed_of stage y) (placed_of stage z) kept kept kept_new d d e
+          (did_purely (with_config p f) o (placed_of stage y) kept kept [] d same (λ notes k. k ∙ ap first_notes (sym (append-nil notes)))) h.refines;
       reaches = reaches_behind (with_config p f) g o (placed_of stage y) (placed_of stage z) [] moved.elsewhere.world same h.reaches;
       stepped = stepped_moved caller x y z p moved h.stepped;
       own = h.own;
@@ -290,7 +290,7 @@ pub done_as : {C B M W : Type 0} {P : _} (stage : W → Stage) (caller : W → �
     ((blocks : Blocks) (notes : List Note) (io : List Bool) → f (run_of (placed_of stage x) blocks notes io) ≡ g (run_of (placed_of stage x) blocks notes io)) → StepDone stage caller g x y p kept kept_new d e → StepDone stage caller f x y p kept kept_new d e
 done_as stage caller f g x y p kept kept_new d e same h =
     record {
-      did = did_as f g (placed_of stage x) (placed_of stage y) kept kept_new d e same h.did;
+      refines = did_as f g (placed_of stage x) (placed_of stage y) kept kept_new d e same h.refines;
       reaches = reaches_as f g (placed_of stage x) (placed_of stage y) same h.reaches;
       stepped = h.stepped;
       own = h.own;

@@ -21,7 +21,7 @@ use Rattle.placed_laws.specs.Placed.{bare, has_some, placed_needs}
 use Rattle.placed_laws.specs.Resting.{KeepsHolds}
 use Rattle.kernel_steps.specs.declared.running.InFlight.{InFlight}
 use Rattle.kernel_steps.specs.declared.running.Running.{Running}
-use Rattle.kernel_steps.specs.declared.still.Grip.{Grip}
+use Rattle.kernel_steps.specs.declared.settled.HoldSnapshot.{HoldSnapshot}
 use Rattle.kernel_steps.specs.Grips.{IsHold, IsGrip}
 use Rattle.kernel_steps.specs.Views.{placed_of, call_at, call_in_place, chain_of, flight_of, levels_at, IsRunning}
 use Rattle.kernel_steps.proofs.HinderLemmas.{graft_needs_are}
@@ -45,7 +45,7 @@ module _ (t u : ℕ → Touched) (d : ℕ) (o : Object) where
   contrary : false ≡ true → u d o ≡ t d o
   contrary h = cc
 
-  same_grip : (ns : List Need) (g : Grip) → length ns ≤ 3 → IsGrip t ns g → IsGrip u ns g → is_needed o ns ≡ true → u d o ≡ t d o
+  same_grip : (ns : List Need) (g : HoldSnapshot) → length ns ≤ 3 → IsGrip t ns g → IsGrip u ns g → is_needed o ns ≡ true → u d o ≡ t d o
   same_grip [] g few before after needed = contrary needed
   same_grip (a ∷ []) g few before after needed = first_or a g.first false before.first after.first needed contrary
   same_grip (a ∷ b ∷ []) g few before after needed =
@@ -59,7 +59,7 @@ module _ (t u : ℕ → Touched) (d : ℕ) (o : Object) where
       too_many n h = omega (arith, h)
 
 -- a running kernel after a step of which the grips before and after are one
-pub keeps_holds : {C B M W : Type 0} {P : _} (m : Meaning) (stage : W → Stage) (caller : W → ℕ) (x y : Running C B M W P) (p : ℕ) (ns : List Need) (before after : Grip) →
+pub keeps_holds : {C B M W : Type 0} {P : _} (m : Meaning) (stage : W → Stage) (caller : W → ℕ) (x y : Running C B M W P) (p : ℕ) (ns : List Need) (before after : HoldSnapshot) →
     IsRunning caller x → IsRunning caller y → ns ≡ placed_needs m (placed_of stage x) p → length ns ≤ 3 → IsGrip (held x.locks p) ns before → IsGrip (held y.locks p) ns after → before ≡ after →
     length ((placed_of stage y).levels p) ≡ length ((placed_of stage x).levels p) → KeepsHolds m (placed_of stage x) (placed_of stage y) p
 keeps_holds m stage caller x y p ns before after rx ry is few gx gy same many =

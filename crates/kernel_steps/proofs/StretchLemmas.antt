@@ -26,7 +26,7 @@ use Rattle.kernel_steps.specs.Moves.{come_to, Moved}
 use Rattle.kernel_steps.specs.Orders.{counts_within, are_processes, are_once, numbers_of}
 use Rattle.kernel_steps.specs.Owned.{AreOwned}
 use Rattle.kernel_steps.specs.Steps.{IsOfOne}
-use Rattle.kernel_steps.specs.Views.{placed_of, flight_of, chain_of, levels_at, run_of, IsRunning, Stood}
+use Rattle.kernel_steps.specs.Views.{placed_of, flight_of, chain_of, levels_at, run_of, IsRunning, HasAbstraction}
 use Rattle.kernel_steps.specs.WholeBlocks.{some_blocks, blocks_are_whole}
 use Rattle.kernel_steps.proofs.AgainLemmas.{all_hold, owners_at}
 use Rattle.kernel_steps.proofs.MoveLemmas.{placed_moved}
@@ -125,7 +125,7 @@ module _ {C B M W : Type 0} {P : _} (stage : W → Stage) (caller : W → ℕ) (
       }
 
 -- and it stands for some abstract kernel
-pub stood_stretched : (m : Meaning) → SameShown m → Stretches m → (x y : Placed) (p n : ℕ) → Stood m x → has_some (x.levels p) ≡ true → in_order p x.order ≡ false → IsStretched x y p n → Stood m y
+pub stood_stretched : (m : Meaning) → SameShown m → Stretches m → (x y : Placed) (p n : ℕ) → HasAbstraction m x → has_some (x.levels p) ≡ true → in_order p x.order ≡ false → IsStretched x y p n → HasAbstraction m y
 stood_stretched m shown law x y p n s some away h =
     let call = call_is (x.call p) (has_call m shown x p s some) in
     let after = law (run_of x some_blocks [] []) y (record { kernel = s.kernel; blocks = some_blocks; notes = []; io = [] }) call.0 p n

@@ -19,10 +19,10 @@ use Rattle.placed_laws.specs.PlacedSteps.{is_placed_at_piece, placed_call_step, 
 use Rattle.placed_laws.specs.Soundness.{SoundInPlace}
 use Rattle.placed_laws.specs.Stands.{StandsFor, RunStandsFor, without_history}
 use Rattle.kernel_steps.specs.declared.running.Running.{Running}
-use Rattle.kernel_steps.specs.Did.{first_notes, Did, Reaches}
+use Rattle.kernel_steps.specs.Refines.{first_notes, Refines, Reaches}
 use Rattle.kernel_steps.specs.Moves.{HeldStays}
 use Rattle.kernel_steps.specs.Steps.{StepDone}
-use Rattle.kernel_steps.specs.Views.{placed_of, levels_at, call_at, run_of, IsRunning, Stood, Goes}
+use Rattle.kernel_steps.specs.Views.{placed_of, levels_at, call_at, run_of, IsRunning, HasAbstraction, Simulates}
 use Rattle.kernel_steps.proofs.AgainLemmas.{runs_again}
 use Rattle.kernel_steps.specs.Composing.{did_as, did_purely, did_then, reaches_as, reaches_before}
 use Rattle.kernel_steps.proofs.ViewLemmas.{holds_in_place}
@@ -30,20 +30,20 @@ use Rattle.kernel_steps.proofs.ViewLemmas.{holds_in_place}
 -- ---- what stands for a kernel goes on to
 
 -- an event under way from what stands for a kernel, over some whole blocks
-run_stands : (m : Meaning) (x : Placed) (s : Stood m x) (blocks : Blocks) (io : List Bool) → HasWholeBlocks x.world blocks →
+run_stands : (m : Meaning) (x : Placed) (s : HasAbstraction m x) (blocks : Blocks) (io : List Bool) → HasWholeBlocks x.world blocks →
     RunStandsFor m (run_of x blocks [] io) (record { kernel = s.kernel; blocks = blocks; notes = []; io = io })
 run_stands m x s blocks io whole =
     record { kernel = s.stands; blocks = refl; notes = refl; io = refl; whole = subst (λ v. HasWholeBlocks v blocks) s.stands.world whole }
 
 -- after a step
-stood_stepped : (m : Meaning) → StepsStand m → (x y : Placed) (p : ℕ) (c : PlacedCall) → Stood m x → x.call p ≡ Some c → placed_blocker m x p ≡ None → Reaches (placed_step m p) x y → Stood m y
+stood_stepped : (m : Meaning) → StepsStand m → (x y : Placed) (p : ℕ) (c : PlacedCall) → HasAbstraction m x → x.call p ≡ Some c → placed_blocker m x p ≡ None → Reaches (placed_step m p) x y → HasAbstraction m y
 stood_stepped m law x y p c s is free reach =
     let r : Run = record { kernel = s.kernel; blocks = reach.blocks; notes = []; io = reach.io } in
     let after = law (run_of x reach.blocks [] reach.io) r p c (run_stands m x s reach.blocks reach.io reach.whole) is free in
     record { kernel = (step m p r).kernel; stands = subst (λ z. StandsFor m z (step m p r).kernel) (reach.goes []) after.kernel }
 
 -- after the drop of a level
-stood_dropped : (m : Meaning) → DropsStand m → (x y : Placed) (p d : ℕ) (cause : Cause) → Stood m x → d < length (x.levels p) → Reaches (placed_drop m p d cause) x y → Stood m y
+stood_dropped : (m : Meaning) → DropsStand m → (x y : Placed) (p d : ℕ) (cause : Cause) → HasAbstraction m x → d < length (x.levels p) → Reaches (placed_drop m p d cause) x y → HasAbstraction m y
 stood_dropped m law x y p d cause s low reach =
     let r : Run = record { kernel = s.kernel; blocks = reach.blocks; notes = []; io = reach.io } in
     let after = law (run_of x reach.blocks [] reach.io) r p d cause (run_stands m x s reach.blocks reach.io reach.whole) low in
@@ -53,7 +53,7 @@ stood_dropped m law x y p d cause s low reach =
 -- ---- what others hold
 
 held_stepped : {C B M W : Type 0} {P : _} (m : Meaning) → HeldStaysInPlace m → (stage : W → Stage) (caller : W → ℕ) (x y : Running C B M W P) (es : List Entry) (p q : ℕ) (c : PlacedCall) → IsRunning caller x →
-    Stood m (placed_of stage x) → call_at stage x p ≡ Some c → placed_blocker m (placed_of stage x) p ≡ None → q ≢ p →
+    HasAbstraction m (placed_of stage x) → call_at stage x p ≡ Some c → placed_blocker m (placed_of stage x) p ≡ None → q ≢ p →
     Reaches (placed_step m p) (placed_of stage x) (record (placed_of stage y) { order = es }) → HeldStays x y q
 held_stepped m law stage caller x y es p q c r s is free other reach d o own =
     let z = placed_of stage x in
@@ -62,7 +62,7 @@ held_stepped m law stage caller x y es p q c r s is free other reach d o own =
     (ap (λ t. t q d o) (holds_in_place stage caller x r) ∙ own))
 
 held_dropped : {C B M W : Type 0} {P : _} (m : Meaning) → HeldStaysInPlace m → (stage : W → Stage) (caller : W → ℕ) (x y : Running C B M W P) (es : List Entry) (p q n : ℕ) (cause : Cause) → IsRunning caller x →
-    Stood m (placed_of stage x) → n < length (levels_at x p) → q ≢ p →
+    HasAbstraction m (placed_of stage x) → n < length (levels_at x p) → q ≢ p →
     Reaches (placed_drop m p n cause) (placed_of stage x) (record (placed_of stage y) { order = es }) → HeldStays x y q
 held_dropped m law stage caller x y es p q n cause r s low other reach d o own =
     let z = placed_of stage x in
@@ -91,15 +91,15 @@ step_reaches m x y p h =
     (reaches_before (placed_call_step m p (x.call p)) (placed_requeue p) x y (record y { order = requeued_order p y }) (λ r is. requeue_same p r y is) h)
 
 pub stood_after_step : {C B M W : Type 0} {P : _} (m : Meaning) → StepsStand m → (stage : W → Stage) (caller : W → ℕ) (x y : Running C B M W P) (p : ℕ) (c : PlacedCall) (kept kept_new : List Note) (d e : DiskSeen) →
-    Stood m (placed_of stage x) → call_at stage x p ≡ Some c → placed_blocker m (placed_of stage x) p ≡ None →
-    StepDone stage caller (placed_call_step m p (call_at stage x p)) x y p kept kept_new d e → Stood m (record (placed_of stage y) { order = requeued_order p (placed_of stage y) })
+    HasAbstraction m (placed_of stage x) → call_at stage x p ≡ Some c → placed_blocker m (placed_of stage x) p ≡ None →
+    StepDone stage caller (placed_call_step m p (call_at stage x p)) x y p kept kept_new d e → HasAbstraction m (record (placed_of stage y) { order = requeued_order p (placed_of stage y) })
 stood_after_step m law stage caller x y p c kept kept_new d e s is free h =
     let o = placed_of stage x in
     let z = placed_of stage y in
     stood_stepped m law o (record z { order = requeued_order p z }) p c s is free (step_reaches m o z p h.reaches)
 
 pub running_after_step : {C B M W : Type 0} {P : _} (m : Meaning) → SoundInPlace m → StepsStand m → HeldStaysInPlace m → (stage : W → Stage) (caller : W → ℕ) (x y : Running C B M W P) (p : ℕ) (c : PlacedCall) (kept kept_new : List Note) (d e : DiskSeen) →
-    IsRunning caller x → p < 16 → Stood m (placed_of stage x) → call_at stage x p ≡ Some c → placed_blocker m (placed_of stage x) p ≡ None →
+    IsRunning caller x → p < 16 → HasAbstraction m (placed_of stage x) → call_at stage x p ≡ Some c → placed_blocker m (placed_of stage x) p ≡ None →
     StepDone stage caller (placed_call_step m p (call_at stage x p)) x y p kept kept_new d e → IsRunning caller y
 running_after_step m sound law held stage caller x y p c kept kept_new d e r small s is free h =
     let z = placed_of stage y in
@@ -107,18 +107,18 @@ running_after_step m sound law held stage caller x y p c kept kept_new d e r sma
     (λ q other. held_stepped m held stage caller x y (requeued_order p z) p q c r s is free other (step_reaches m (placed_of stage x) z p h.reaches))
 
 -- once the call took its place
-pub stood_requeued : (m : Meaning) (p : ℕ) (y z : Placed) → Goes (placed_requeue p) y z → Stood m (record y { order = requeued_order p y }) → Stood m z
-stood_requeued m p y z goes s = subst (Stood m) (ap (λ (r : PlacedRun). r.placed) (goes [] (λ b. []) [])) s
+pub stood_requeued : (m : Meaning) (p : ℕ) (y z : Placed) → Simulates (placed_requeue p) y z → HasAbstraction m (record y { order = requeued_order p y }) → HasAbstraction m z
+stood_requeued m p y z goes s = subst (HasAbstraction m) (ap (λ (r : PlacedRun). r.placed) (goes [] (λ b. []) [])) s
 
 -- a change, and then its place in the order
-pub did_requeued : (f : PlacedRun → PlacedRun) (x y z : Placed) (p : ℕ) (kept kept_new : List Note) (d e : DiskSeen) → Did f x y kept kept_new d e → Goes (placed_requeue p) y z →
-    Did (λ r. placed_requeue p (f r)) x z kept kept_new d e
+pub did_requeued : (f : PlacedRun → PlacedRun) (x y z : Placed) (p : ℕ) (kept kept_new : List Note) (d e : DiskSeen) → Refines f x y kept kept_new d e → Simulates (placed_requeue p) y z →
+    Refines (λ r. placed_requeue p (f r)) x z kept kept_new d e
 did_requeued f x y z p kept kept_new d e h goes =
     did_then f (placed_requeue p) x y z kept kept_new kept_new d e e h
     (did_purely (placed_requeue p) y z kept_new kept_new [] e (λ blocks notes io. goes notes blocks io ∙ ap (λ ns. run_of z blocks ns io) (sym (append-nil notes)))
     (λ notes k. k ∙ ap first_notes (sym (append-nil notes))))
 
-pub did_step : (m : Meaning) (x z : Placed) (p : ℕ) (kept kept_new : List Note) (d e : DiskSeen) → Did (λ r. placed_requeue p (placed_call_step m p (x.call p) r)) x z kept kept_new d e → Did (placed_step m p) x z kept kept_new d e
+pub did_step : (m : Meaning) (x z : Placed) (p : ℕ) (kept kept_new : List Note) (d e : DiskSeen) → Refines (λ r. placed_requeue p (placed_call_step m p (x.call p) r)) x z kept kept_new d e → Refines (placed_step m p) x z kept kept_new d e
 did_step m x z p kept kept_new d e h = did_as (placed_step m p) (λ r. placed_requeue p (placed_call_step m p (x.call p) r)) x z kept kept_new d e (λ blocks notes io. refl) h
 
 -- ---- the drop of a level
@@ -145,15 +145,15 @@ drop_reaches m x y p n c cause is some h =
     (reaches_before (drop_change m p n c cause) (placed_requeue p) x y (record y { order = requeued_order p y }) (λ r is. requeue_same p r y is) h)
 
 pub stood_after_drop : {C B M W : Type 0} {P : _} (m : Meaning) → DropsStand m → (stage : W → Stage) (caller : W → ℕ) (x y : Running C B M W P) (p n : ℕ) (c : PlacedCall) (cause : Cause) (kept kept_new : List Note) (d e : DiskSeen) →
-    Stood m (placed_of stage x) → call_at stage x p ≡ Some c → n < length (levels_at x p) → has_some (levels_at x p) ≡ true →
-    StepDone stage caller (drop_change m p n c cause) x y p kept kept_new d e → Stood m (record (placed_of stage y) { order = requeued_order p (placed_of stage y) })
+    HasAbstraction m (placed_of stage x) → call_at stage x p ≡ Some c → n < length (levels_at x p) → has_some (levels_at x p) ≡ true →
+    StepDone stage caller (drop_change m p n c cause) x y p kept kept_new d e → HasAbstraction m (record (placed_of stage y) { order = requeued_order p (placed_of stage y) })
 stood_after_drop m law stage caller x y p n c cause kept kept_new d e s is low some h =
     let o = placed_of stage x in
     let z = placed_of stage y in
     stood_dropped m law o (record z { order = requeued_order p z }) p n cause s low (drop_reaches m o z p n c cause is some h.reaches)
 
 pub running_after_drop : {C B M W : Type 0} {P : _} (m : Meaning) → SoundInPlace m → DropsStand m → HeldStaysInPlace m → (stage : W → Stage) (caller : W → ℕ) (x y : Running C B M W P) (p n : ℕ) (c : PlacedCall) (cause : Cause) (kept kept_new : List Note) (d e : DiskSeen) →
-    IsRunning caller x → p < 16 → Stood m (placed_of stage x) → call_at stage x p ≡ Some c → n < length (levels_at x p) → has_some (levels_at x p) ≡ true →
+    IsRunning caller x → p < 16 → HasAbstraction m (placed_of stage x) → call_at stage x p ≡ Some c → n < length (levels_at x p) → has_some (levels_at x p) ≡ true →
     StepDone stage caller (drop_change m p n c cause) x y p kept kept_new d e → IsRunning caller y
 running_after_drop m sound law held stage caller x y p n c cause kept kept_new d e r small s is low some h =
     let z = placed_of stage y in
@@ -161,12 +161,12 @@ running_after_drop m sound law held stage caller x y p n c cause kept kept_new d
     (λ q other. held_dropped m held stage caller x y (requeued_order p z) p q n cause r s low other (drop_reaches m (placed_of stage x) z p n c cause is some h.reaches))
 
 pub did_drop : (m : Meaning) (x z : Placed) (p n : ℕ) (c : PlacedCall) (cause : Cause) (kept kept_new : List Note) (d e : DiskSeen) → x.call p ≡ Some c → has_some (x.levels p) ≡ true →
-    Did (λ r. placed_requeue p (drop_change m p n c cause r)) x z kept kept_new d e → Did (placed_drop m p n cause) x z kept kept_new d e
+    Refines (λ r. placed_requeue p (drop_change m p n c cause r)) x z kept kept_new d e → Refines (placed_drop m p n cause) x z kept kept_new d e
 did_drop m x z p n c cause kept kept_new d e is some h =
     did_as (placed_drop m p n cause) (λ r. placed_requeue p (drop_change m p n c cause r)) x z kept kept_new d e (drop_as m x p n c cause is some) h
 
 -- a call in a graft is there
-pub has_call : (m : Meaning) → SameShown m → (x : Placed) (p : ℕ) → Stood m x → has_some (x.levels p) ≡ true → is_some (x.call p) ≡ true
+pub has_call : (m : Meaning) → SameShown m → (x : Placed) (p : ℕ) → HasAbstraction m x → has_some (x.levels p) ≡ true → is_some (x.call p) ≡ true
 has_call m shown x p s some =
     by_call (s.kernel.call p) (shown.level x s.kernel p s.stands ∙ some) (s.stands.calls p)
   where
@@ -185,5 +185,5 @@ some_by_more [] n h = absurd (omega (arith, h))
 some_by_more (l ∷ ls) n h = refl
 
 -- what a place in the order leaves
-pub requeue_keeps : (p : ℕ) (y z : Placed) → Goes (placed_requeue p) y z → z ≡ record y { order = requeued_order p y }
+pub requeue_keeps : (p : ℕ) (y z : Placed) → Simulates (placed_requeue p) y z → z ≡ record y { order = requeued_order p y }
 requeue_keeps p y z goes = sym (ap (λ (r : PlacedRun). r.placed) (goes [] (λ b. []) []))

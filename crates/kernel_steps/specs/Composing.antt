@@ -7,20 +7,20 @@ use Rattle.kernel_model.specs.Sound.{HasWholeBlocks}
 use Rattle.disk_log.specs.Seen.{DiskSeen}
 use Rattle.disk_log.specs.Joined.{made_none, made_joined}
 use Rattle.placed_laws.specs.Placed.{Placed, PlacedRun}
-use Rattle.kernel_steps.specs.Did.{first_notes, CameAs, Did, Reaches}
+use Rattle.kernel_steps.specs.Refines.{first_notes, RunMatches, Refines, Reaches}
 use Rattle.kernel_steps.specs.Views.{run_of}
 
 -- ---- what a change did
 
 -- an event under way that came as said is this one
-run_is : (r : PlacedRun) (y : Placed) (kept : List Note) (told : Option (List (List ℕ)))
-    (rest : List Bool) → CameAs r y kept told rest → r ≡ run_of y r.blocks r.notes rest
-run_is r y kept told rest h =
+run_is : (r : PlacedRun) (y : Placed) (kept : List Note) (known : Option (List (List ℕ)))
+    (rest : List Bool) → RunMatches r y kept known rest → r ≡ run_of y r.blocks r.notes rest
+run_is r y kept known rest h =
     ap (λ z. record { placed = z; blocks = r.blocks; notes = r.notes; io = r.io }) h.placed
     ∙ ap (λ io. record { placed = y; blocks = r.blocks; notes = r.notes; io = io }) h.io
 
 -- nothing was done
-pub did_nothing : (x : Placed) (kept : List Note) (d : DiskSeen) → Did (λ r. r) x x kept kept d d
+pub did_nothing : (x : Placed) (kept : List Note) (d : DiskSeen) → Refines (λ r. r) x x kept kept d d
 did_nothing x kept d =
     record {
       io = [];
@@ -37,12 +37,12 @@ did_nothing x kept d =
 pub did_as : (f g : PlacedRun → PlacedRun) (x y : Placed) (kept kept_new : List Note)
     (d e : DiskSeen) → ((blocks : Blocks) (notes : List Note) (io : List Bool) →
     f (run_of x blocks notes io) ≡ g (run_of x blocks notes io)) →
-    Did g x y kept kept_new d e → Did f x y kept kept_new d e
+    Refines g x y kept kept_new d e → Refines f x y kept kept_new d e
 did_as f g x y kept kept_new d e same h =
     record {
       io = h.io;
       made = h.made;
-      goes = λ blocks notes rest tells k. subst (λ r. CameAs r y kept_new e.told rest)
+      goes = λ blocks notes rest tells k. subst (λ r. RunMatches r y kept_new e.known rest)
           (sym (same blocks notes (h.io ++ rest))) (h.goes blocks notes rest tells k);
     }
 
@@ -51,31 +51,31 @@ pub did_purely : (f : PlacedRun → PlacedRun) (x y : Placed) (kept kept_new mor
     (d : DiskSeen) → ((blocks : Blocks) (notes : List Note) (io : List Bool) →
     f (run_of x blocks notes io) ≡ run_of y blocks (notes ++ more) io) →
     ((notes : List Note) → kept ≡ first_notes notes → kept_new ≡ first_notes (notes ++ more)) →
-    Did f x y kept kept_new d d
+    Refines f x y kept kept_new d d
 did_purely f x y kept kept_new more d same adds =
     record {
       io = [];
       made = made_none d.faults d.plan;
       goes = λ blocks notes rest tells k.
-          subst (λ r. CameAs r y kept_new d.told rest) (sym (same blocks notes rest))
+          subst (λ r. RunMatches r y kept_new d.known rest) (sym (same blocks notes rest))
           (record { placed = refl; notes = adds notes k; blocks = tells; io = refl });
     }
 
 -- one after the other
 pub did_then : (f g : PlacedRun → PlacedRun) (x y z : Placed) (a b c : List Note)
-    (d e l : DiskSeen) → Did f x y a b d e → Did g y z b c e l → Did (λ r. g (f r)) x z a c d l
+    (d e l : DiskSeen) → Refines f x y a b d e → Refines g y z b c e l → Refines (λ r. g (f r)) x z a c d l
 did_then f g x y z a b c d e l first second =
     record {
       io = first.io ++ second.io;
       made = made_joined d.faults e.faults l.faults d.plan e.plan l.plan first.io second.io
           first.made second.made;
       goes = λ blocks notes rest tells k.
-          let one = subst (λ io. CameAs (f (run_of x blocks notes io)) y b e.told (second.io
+          let one = subst (λ io. RunMatches (f (run_of x blocks notes io)) y b e.known (second.io
           ++ rest)) (sym (append_assoc first.io second.io rest))
           (first.goes blocks notes (second.io ++ rest) tells k) in
           let r : PlacedRun = f (run_of x blocks notes ((first.io ++ second.io) ++ rest)) in
-          subst (λ s. CameAs (g s) z c l.told rest)
-          (sym (run_is r y b e.told (second.io ++ rest) one))
+          subst (λ s. RunMatches (g s) z c l.known rest)
+          (sym (run_is r y b e.known (second.io ++ rest) one))
           (second.goes r.blocks r.notes rest one.blocks one.notes);
     }
 

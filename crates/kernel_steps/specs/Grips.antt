@@ -4,7 +4,7 @@ use Rattle.kernel_model.specs.declared.Need.{Need}
 use Rattle.kernel_model.specs.Locks.{Touched}
 use Rattle.lock_table.specs.declared.Holds.{Holds}
 use Rattle.lock_table.specs.Masks.{held_by}
-use Rattle.kernel_steps.specs.declared.still.Grip.{Grip}
+use Rattle.kernel_steps.specs.declared.settled.HoldSnapshot.{HoldSnapshot}
 
 -- how the levels hold the object of a need, where there is one
 abbrev pub IsHold : (levels : ℕ → Touched) → Option Need → Option Holds → Type 0
@@ -13,7 +13,7 @@ IsHold levels (Some n) None = ⊥
 IsHold levels (Some n) (Some h) = (d : ℕ) → held_by h d ≡ levels d n.object
 
 -- how they hold the objects of the first three needs
-pub record IsGrip (levels : ℕ → Touched) (ns : List Need) (g : Grip) : Type 0 where
+pub record IsGrip (levels : ℕ → Touched) (ns : List Need) (g : HoldSnapshot) : Type 0 where
   pub first : IsHold levels (slice_get ns 0) g.first
   pub second : IsHold levels (slice_get ns 1) g.second
   pub third : IsHold levels (slice_get ns 2) g.third

@@ -1,7 +1,7 @@
 -- The notes that are kept.
 use Rattle.std.proofs.Common.{◌≡◌, ℕ, zero, suc, ◌≤◌, ◌<◌, List, [], ◌∷◌, ◌++◌, take, length, refl, ap, sym, subst, ◌∙◌, arith}
 use Rattle.kernel_model.specs.declared.Note.{Note}
-use Rattle.kernel_steps.specs.Did.{first_notes}
+use Rattle.kernel_steps.specs.Refines.{first_notes}
 
 take_none : {A : Type 0} (n : ℕ) → take {A = A} n [] ≡ []
 take_none zero = refl

@@ -4,7 +4,7 @@ pub mod Orders
 pub mod Grips
 pub mod Hindered
 pub mod Moves
-pub mod Did
+pub mod Refines
 pub mod Steps
 pub mod Queries
 pub mod Composing

@@ -19,9 +19,8 @@ abbrev pub come_to : ℕ → Config → Placed → Placed
 come_to p c x = record x { objects = c.now; levels = at p (map bare c.levels) x.levels }
 
 -- The levels of p's call moved. They are in place again, and of all else the store has the same but
--- for its objects: the calls,
--- the other chains and what they hold, the memory of other processes' levels, who lives, images,
--- clock and order.
+-- for its objects: the calls, the other chains and what they hold, the memory of other processes'
+-- levels, who lives, images, clock and order.
 pub record Moved {C B M W : Type 0} {P : _} (x y : Running C B M W P) (p : ℕ) : Type 0 where
   pub elsewhere : IsElsewhereSame x.store y.store x.locks y.locks p
   pub placed : IsPlaced y.store y.locks p (chain_of y p).levels (chain_of y p).undo
@@ -35,8 +34,7 @@ pub record Moved {C B M W : Type 0} {P : _} (x y : Running C B M W P) (p : ℕ) 
   pub order : y.order ≡ x.order
 
 -- The levels of another call q stay in place, though the store changed: their owner lives, their
--- records can still be undone, and
--- their grafts stand as they did.
+-- records can still be undone, and their grafts stand as they did.
 pub record StaysInPlace {C B M W : Type 0} {P : _} (y : Running C B M W P) (q : ℕ) : Type 0 where
   pub levels : AreSound (queue_of y.store) (chain_of y q).levels
   pub undoable : AllUndoable (chain_of y q).undo (objects_of y.store).things

@@ -15,7 +15,7 @@ use Rattle.placed_laws.specs.Placed.{PlacedCall, PlacedRun}
 use Rattle.placed_laws.specs.PlacedSteps.{placed_noted, placed_finish_on}
 use Rattle.kernel_steps.specs.declared.running.InFlight.{InFlight}
 use Rattle.kernel_steps.specs.declared.running.Running.{Running}
-use Rattle.kernel_steps.specs.Did.{Did, Reaches}
+use Rattle.kernel_steps.specs.Refines.{Refines, Reaches}
 use Rattle.kernel_steps.specs.Owned.{AreOwned}
 use Rattle.kernel_steps.specs.Views.{placed_of, flight_of, chain_of}
 
@@ -69,8 +69,8 @@ pub record StepsAlone {C B M W : Type 0} {P : _} (caller : W →
   pub own : IsOfOne (chain_of x p)
 
 -- A step of the call of p. Of all that is in flight p's alone has changed, the memory of grafts but
--- for p's own, what the others
--- hold, images, clock and order stay; and p's levels are in place again.
+-- for p's own, what the others hold, images, clock and order stay; and p's levels are in place
+-- again.
 pub record Stepped {C B M W : Type 0} {P : _} (caller : W →
     ℕ) (x y : Running C B M W P) (p : ℕ) : Type 0 where
   pub world : world_of_store y.store ≡ world_of_store x.store
@@ -90,7 +90,7 @@ pub record Stepped {C B M W : Type 0} {P : _} (caller : W →
 pub record StepDone {C B M W : Type 0} {P : _} (stage : W → Stage) (caller : W → ℕ)
     (f : PlacedRun → PlacedRun) (x y : Running C B M W P) (p : ℕ) (kept kept_new : List Note)
     (d e : DiskSeen) : Type 0 where
-  pub did : Did f (placed_of stage x) (placed_of stage y) kept kept_new d e
+  pub refines : Refines f (placed_of stage x) (placed_of stage y) kept kept_new d e
   pub reaches : Reaches f (placed_of stage x) (placed_of stage y)
   pub stepped : Stepped caller x y p
   pub own : IsOfOne (chain_of y p)

@@ -88,7 +88,7 @@ pub record IsQuiet {C B M W : Type 0} {P : _} (x : Running C B M W P) : Type 0 w
   pub order : x.order ≡ []
 
 -- a kernel in place stands for some abstract kernel
-pub record Stood (m : Meaning) (x : Placed) : Type 0 where
+pub record HasAbstraction (m : Meaning) (x : Placed) : Type 0 where
   pub kernel : Kernel
   pub stands : StandsFor m x kernel
 
@@ -99,6 +99,6 @@ abbrev pub run_of : Placed → Blocks → List Note → List Bool → PlacedRun
 run_of x blocks notes io = record { placed = x; blocks = blocks; notes = notes; io = io }
 
 -- a change that makes no call of the disk, and says nothing, took one kernel in place to another
-abbrev pub Goes : (PlacedRun → PlacedRun) → Placed → Placed → Type 0
-Goes f x y = (notes : List Note) (blocks : Blocks) (io : List Bool) →
+abbrev pub Simulates : (PlacedRun → PlacedRun) → Placed → Placed → Type 0
+Simulates f x y = (notes : List Note) (blocks : Blocks) (io : List Bool) →
     f (run_of x blocks notes io) ≡ run_of y blocks notes io

@@ -6,13 +6,13 @@ ghost use Rattle.kernel_model.specs.GraftStep.{next_needs, lock_user};
 ghost use Rattle.kernel_model.specs.Locks.{LockTable as Table};
 ghost use Rattle.kernel_model.specs.Objects.{Things};
 ghost use Rattle.kernel_state.specs.Stores.{world_of_store, queue_of};
-ghost use Rattle.call_pieces.specs.Works.{MayCome};
+ghost use Rattle.call_pieces.specs.Works.{IsDue};
 ghost use Rattle.graft_calls.specs.Calls.{AreSound};
 ghost use Rattle.graft_calls.specs.Chains.{levels_in};
 ghost use Rattle.graft_loader.specs.Slots.{table_of};
 ghost use Rattle.placed_laws.specs.Placed.{placed_blocker, placed_holds, placed_levels, placed_needs};
 ghost use Rattle.kernel_steps.specs.Orders.{blocker_of};
-ghost use Rattle.kernel_steps.specs.Views.{placed_of, flight_of, IsRunning, Stood};
+ghost use Rattle.kernel_steps.specs.Views.{placed_of, flight_of, IsRunning, HasAbstraction};
 ghost use Rattle.kernel_model.specs.declared.Need.{Need as Needed};
 ghost use Rattle.kernel_model.specs.Laws.{IsInRange};
 ghost use Rattle.kernel_model.specs.Locks.{first_hindrance as first_of, hindrance_by, lowest_holder, user_hindrance, user_of};
@@ -114,7 +114,7 @@ fn piece_hindrance<C: Calls, B: Policy>(
     p: u8,
     work: &C::Work,
 ) -> Option<Hindrance>
-    requires ready { MayCome C.Meaning.meaning (world_of_store store.now) (objects_of store.now)
+    requires ready { IsDue C.Meaning.meaning (world_of_store store.now) (objects_of store.now)
         (C.caller work.now) (C.stage work.now) }
     requires range { (n : Needed) → Contains
         (C.Meaning.meaning.need (world_of_store store.now) (objects_of store.now)
@@ -190,7 +190,7 @@ impl<C: Calls, B: Policy> Running<C, B> {
     fn hindered(&self, p: u8) -> Option<Hindrance>
         requires process { p < 16 }
         requires running { IsRunning C.caller self.now }
-        requires stood { Stood C.Meaning.meaning (placed_of C.stage self.now) }
+        requires abstraction { HasAbstraction C.Meaning.meaning (placed_of C.stage self.now) }
         ensures { let x = placed_of C.stage self.now in
             option_map hindrance_of result ≡ first_of (placed_holds x) x.objects.things.lock p
             (lock_user p (placed_levels x p)) (placed_needs C.Meaning.meaning x p) }
@@ -244,7 +244,7 @@ impl<C: Calls, B: Policy> Running<C, B> {
     pub fn blocker(&self, p: u8) -> Option<Blocking>
         requires process { p < 16 }
         requires running { IsRunning C.caller self.now }
-        requires stood { Stood C.Meaning.meaning (placed_of C.stage self.now) }
+        requires abstraction { HasAbstraction C.Meaning.meaning (placed_of C.stage self.now) }
         ensures { option_map blocker_of result
             ≡ placed_blocker C.Meaning.meaning (placed_of C.stage self.now) p }
     {

@@ -6,16 +6,16 @@
 #![tactic(auto)]
 
 mod blocking;
-mod moves;
+mod levels;
 mod notes;
 mod opening;
 mod order;
 mod pieces;
 mod queries;
 mod running;
+mod settled;
 mod shown;
 mod steps;
-mod still;
 mod stretch;
 mod waits;
 

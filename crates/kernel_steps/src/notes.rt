@@ -3,7 +3,7 @@
 ghost use Rattle.std.specs.Prelude.{◌≡◌, ◌≤◌, ◌++◌, List, [], ◌∷◌, length, IfOk};
 ghost use Rattle.kernel_model.specs.declared.Note.{Note as Told};
 ghost use Rattle.kernel_model.specs.Kernel.{gave_note};
-ghost use Rattle.kernel_steps.specs.Did.{first_notes};
+ghost use Rattle.kernel_steps.specs.Refines.{first_notes};
 
 use kernel_model::{Bytes, NoMemory, Note};
 use std::alloc::Global;

@@ -12,7 +12,7 @@ ghost use Rattle.kernel_state.specs.Stores.{world_of_store, objects_of, views_of
 ghost use Rattle.kernel_state.specs.Sound.{world_for};
 ghost use Rattle.graft_loader.specs.Slots.{table_of};
 ghost use Rattle.placed_laws.specs.Stands.{StandsFor};
-ghost use Rattle.kernel_steps.specs.Views.{placed_of, IsRunning, IsQuiet, Stood};
+ghost use Rattle.kernel_steps.specs.Views.{placed_of, IsRunning, IsQuiet, HasAbstraction};
 
 use crate::running::Running;
 use call_pieces::Calls;
@@ -66,7 +66,7 @@ impl<C: Calls, B: Policy> Running<C, B> {
         requires slot { slot < 32 }
         requires free { (placed_of C.stage self.old).images slot ≡ None }
         requires running { IsRunning C.caller self.old }
-        requires stood { Stood C.Meaning.meaning (placed_of C.stage self.old) }
+        requires abstraction { HasAbstraction C.Meaning.meaning (placed_of C.stage self.old) }
         ensures stands { (k : Kernel) → StandsFor C.Meaning.meaning (placed_of C.stage self.old) k →
             StandsFor C.Meaning.meaning (placed_of C.stage self.new)
             (session.add_image slot image k) }
@@ -74,7 +74,7 @@ impl<C: Calls, B: Policy> Running<C, B> {
             IsAtRest C.Meaning.meaning k →
             IsAtRest C.Meaning.meaning (session.add_image slot image k) }
         ensures running { IsRunning C.caller self.new }
-        ensures stood { Stood C.Meaning.meaning (placed_of C.stage self.new) }
+        ensures abstraction { HasAbstraction C.Meaning.meaning (placed_of C.stage self.new) }
         ensures store { self.new.store ≡ self.old.store }
         ensures clock { self.new.clock ≡ self.old.clock }
     {

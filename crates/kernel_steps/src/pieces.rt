@@ -7,7 +7,7 @@ ghost use Rattle.kernel_model.specs.World.{ImageTable};
 ghost use Rattle.call_pieces.specs.Works.{answer_seen};
 ghost use Rattle.kernel_state.specs.Stores.{world_of_store, objects_of, SegmentsStay};
 ghost use Rattle.kernel_steps.specs.declared.running.InFlight.{InFlight as Flying};
-ghost use Rattle.kernel_steps.specs.Did.{PieceDone};
+ghost use Rattle.kernel_steps.specs.Refines.{PieceDone};
 ghost use Rattle.kernel_steps.specs.Views.{call_in_place};
 
 use crate::notes::Notes;

@@ -8,7 +8,7 @@ ghost use Rattle.lock_table.specs.Numbers.{is_in_range};
 ghost use Rattle.placed_laws.specs.Placed.{has_some, placed_holds, placed_needs};
 ghost use Rattle.placed_laws.specs.PlacedSteps.{placed_joins};
 ghost use Rattle.kernel_steps.specs.Queries.{note_in_graft};
-ghost use Rattle.kernel_steps.specs.Views.{placed_of, chain_of, IsRunning, Stood, Goes};
+ghost use Rattle.kernel_steps.specs.Views.{placed_of, chain_of, IsRunning, HasAbstraction, Simulates};
 
 use crate::blocking::{flight, number_of};
 use crate::order::Waiting;
@@ -70,7 +70,7 @@ impl<C: Calls, B: Policy> Running<C, B> {
         requires process { p < 16 }
         requires new { in_order p (placed_of C.stage self.old).order ≡ false }
         requires running { IsRunning C.caller self.old }
-        ensures value { Goes (placed_joins p) (placed_of C.stage self.old)
+        ensures value { Simulates (placed_joins p) (placed_of C.stage self.old)
             (placed_of C.stage self.new) }
         ensures running { IsRunning C.caller self.new }
     {
@@ -121,7 +121,7 @@ impl<C: Calls, B: Policy> Running<C, B> {
     fn wanted(&self, p: u8, object: Object) -> Mode
         requires process { p < 16 }
         requires running { IsRunning C.caller self.now }
-        requires stood { Stood C.Meaning.meaning (placed_of C.stage self.now) }
+        requires abstraction { HasAbstraction C.Meaning.meaning (placed_of C.stage self.now) }
         ensures { result
             ≡ wanted object (placed_needs C.Meaning.meaning (placed_of C.stage self.now) p) }
     {
@@ -144,7 +144,7 @@ impl<C: Calls, B: Policy> Running<C, B> {
     pub fn level_in_the_way(&self, p: u8, object: Object, holder: u8) -> Option<u8>
         requires process { p < 16 }
         requires running { IsRunning C.caller self.now }
-        requires stood { Stood C.Meaning.meaning (placed_of C.stage self.now) }
+        requires abstraction { HasAbstraction C.Meaning.meaning (placed_of C.stage self.now) }
         ensures value { let x = placed_of C.stage self.now in
             result ≡ outermost_holding object (wanted object (placed_needs C.Meaning.meaning x p))
             (placed_holds x holder) }

@@ -7,8 +7,8 @@ ghost use Rattle.graft_loader.specs.Slots.{table_of};
 ghost use Rattle.placed_laws.specs.Keeping.{first_placed};
 ghost use Rattle.placed_laws.specs.PlacedSteps.{is_placed_at_piece, placed_joins, placed_noted, placed_requeue, placed_ticked, with_placed_call};
 ghost use Rattle.kernel_steps.specs.Orders.{has_number, numbers_of};
-ghost use Rattle.kernel_steps.specs.Views.{placed_of, flight_of, chain_of, no_flight, IsRunning, IsQuiet, Stood, Goes};
-ghost use Rattle.kernel_steps.specs.Did.{Says};
+ghost use Rattle.kernel_steps.specs.Views.{placed_of, flight_of, chain_of, no_flight, IsRunning, IsQuiet, HasAbstraction, Simulates};
+ghost use Rattle.kernel_steps.specs.Refines.{SimulatesNoting};
 ghost use Rattle.kernel_model.specs.declared.Note.TheVariants.{Ticked};
 
 use crate::blocking::flight;
@@ -125,7 +125,7 @@ impl<C: Calls, B: Policy> Running<C, B> {
         requires caller { C.caller work ≡ p }
         requires new { has_number p (numbers_of self.old.order) ≡ false }
         requires running { IsRunning C.caller self.old }
-        ensures value { Goes (λ r. placed_joins p
+        ensures value { Simulates (λ r. placed_joins p
             (with_placed_call p (Some (first_placed number (C.stage work))) r))
             (placed_of C.stage self.old) (placed_of C.stage self.new) }
         ensures running { IsRunning C.caller self.new }
@@ -138,7 +138,7 @@ impl<C: Calls, B: Policy> Running<C, B> {
     pub fn end(&mut self, p: u8, note: Note, notes: &mut Notes)
         requires process { p < 16 }
         requires running { IsRunning C.caller self.old }
-        ensures value { Says (λ r. placed_requeue p (placed_noted note (with_placed_call p None r)))
+        ensures value { SimulatesNoting (λ r. placed_requeue p (placed_noted note (with_placed_call p None r)))
             (placed_of C.stage self.old) (placed_of C.stage self.new)
             (note ∷ []) notes.old notes.new }
         ensures running { IsRunning C.caller self.new }
@@ -167,7 +167,7 @@ impl<C: Calls, B: Policy> Running<C, B> {
     pub fn requeue(&mut self, p: u8)
         requires process { p < 16 }
         requires running { IsRunning C.caller self.old }
-        ensures value { Goes (placed_requeue p) (placed_of C.stage self.old)
+        ensures value { Simulates (placed_requeue p) (placed_of C.stage self.old)
             (placed_of C.stage self.new) }
         ensures running { IsRunning C.caller self.new }
     {
@@ -183,7 +183,7 @@ impl<C: Calls, B: Policy> Running<C, B> {
     pub fn tick(&mut self, number: u32, notes: &mut Notes)
         requires clock { self.old.clock < 2 ^ 32 - 1 }
         requires running { IsRunning C.caller self.old }
-        ensures value { Says (placed_ticked number) (placed_of C.stage self.old)
+        ensures value { SimulatesNoting (placed_ticked number) (placed_of C.stage self.old)
             (placed_of C.stage self.new) (Ticked number (suc self.old.clock) ∷ []) notes.old
             notes.new }
         ensures running { IsRunning C.caller self.new }

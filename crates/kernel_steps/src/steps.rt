@@ -12,9 +12,9 @@ ghost use Rattle.placed_laws.specs.PlacedSteps.{placed_call_step, placed_drop, p
 ghost use Rattle.kernel_model.specs.declared.Note.TheVariants.{Dropped};
 ghost use Rattle.call_pieces.specs.Works.{answer_seen};
 ghost use Rattle.kernel_steps.specs.declared.running.InFlight.{InFlight as Flying};
-ghost use Rattle.kernel_steps.specs.Did.{Did};
+ghost use Rattle.kernel_steps.specs.Refines.{Refines};
 ghost use Rattle.kernel_steps.specs.Steps.{answer_said, answer_of_drop, after_drop, after_said, finishes, StepDone, StepsAlone};
-ghost use Rattle.kernel_steps.specs.Views.{placed_of, flight_of, chain_of, call_at, IsRunning, Stood};
+ghost use Rattle.kernel_steps.specs.Views.{placed_of, flight_of, chain_of, call_at, IsRunning, HasAbstraction};
 
 use crate::blocking::{flight, number_of};
 use crate::notes::Notes;
@@ -133,7 +133,7 @@ impl<C: Calls, B: Policy> Running<C, B> {
         requires process { p < 16 }
         requires level { 0 < length (chain_of self.old p).levels }
         requires running { IsRunning C.caller self.old }
-        requires stood { Stood C.Meaning.meaning (placed_of C.stage self.old) }
+        requires abstraction { HasAbstraction C.Meaning.meaning (placed_of C.stage self.old) }
         requires disk { self.old.store.size ≡ D.block_count disk.old }
         ensures done { (c : PlacedCall) → call_at C.stage self.old p ≡ Some c →
             StepDone C.stage C.caller (λ r. placed_outcome C.Meaning.meaning p c
@@ -155,7 +155,7 @@ impl<C: Calls, B: Policy> Running<C, B> {
         requires process { p < 16 }
         requires none { (chain_of self.old p).levels ≡ [] }
         requires running { IsRunning C.caller self.old }
-        requires stood { Stood C.Meaning.meaning (placed_of C.stage self.old) }
+        requires abstraction { HasAbstraction C.Meaning.meaning (placed_of C.stage self.old) }
         requires disk { self.old.store.size ≡ D.block_count disk.old }
         ensures done { (c : PlacedCall) → call_at C.stage self.old p ≡ Some c →
             StepDone C.stage C.caller (λ r. placed_call_step C.Meaning.meaning p (Some c) r)
@@ -187,7 +187,7 @@ impl<C: Calls, B: Policy> Running<C, B> {
         requires process { p < 16 }
         requires call { is_some (call_at C.stage self.old p) ≡ true }
         requires running { IsRunning C.caller self.old }
-        requires stood { Stood C.Meaning.meaning (placed_of C.stage self.old) }
+        requires abstraction { HasAbstraction C.Meaning.meaning (placed_of C.stage self.old) }
         requires disk { self.old.store.size ≡ D.block_count disk.old }
         ensures done { StepDone C.stage C.caller
             (placed_call_step C.Meaning.meaning p (call_at C.stage self.old p)) self.old self.new p
@@ -210,14 +210,14 @@ impl<C: Calls, B: Policy> Running<C, B> {
         requires call { is_some (call_at C.stage self.old p) ≡ true }
         requires free { placed_blocker C.Meaning.meaning (placed_of C.stage self.old) p ≡ None }
         requires running { IsRunning C.caller self.old }
-        requires stood { Stood C.Meaning.meaning (placed_of C.stage self.old) }
+        requires abstraction { HasAbstraction C.Meaning.meaning (placed_of C.stage self.old) }
         requires disk { self.old.store.size ≡ D.block_count disk.old }
-        ensures did { Did (placed_step C.Meaning.meaning p) (placed_of C.stage self.old)
+        ensures refines { Refines (placed_step C.Meaning.meaning p) (placed_of C.stage self.old)
             (placed_of C.stage self.new) notes.old notes.new
             (disk_seen (D.blocks disk.old) (D.plan disk.old) (D.faults disk.old))
             (disk_seen (D.blocks disk.new) (D.plan disk.new) (D.faults disk.new)) }
         ensures running { IsRunning C.caller self.new }
-        ensures stood { Stood C.Meaning.meaning (placed_of C.stage self.new) }
+        ensures abstraction { HasAbstraction C.Meaning.meaning (placed_of C.stage self.new) }
         ensures world { world_of_store self.new.store ≡ world_of_store self.old.store }
         ensures clock { self.new.clock ≡ self.old.clock }
         ensures same_size { D.block_count disk.new ≡ D.block_count disk.old }
@@ -242,7 +242,7 @@ impl<C: Calls, B: Policy> Running<C, B> {
         requires process { p < 16 }
         requires level { d < length (chain_of self.old p).levels }
         requires running { IsRunning C.caller self.old }
-        requires stood { Stood C.Meaning.meaning (placed_of C.stage self.old) }
+        requires abstraction { HasAbstraction C.Meaning.meaning (placed_of C.stage self.old) }
         requires disk { self.old.store.size ≡ D.block_count disk.old }
         ensures done { (c : PlacedCall) → call_at C.stage self.old p ≡ Some c →
             StepDone C.stage C.caller (λ r. placed_outcome C.Meaning.meaning p c
@@ -273,14 +273,14 @@ impl<C: Calls, B: Policy> Running<C, B> {
         requires process { p < 16 }
         requires level { d < length (chain_of self.old p).levels }
         requires running { IsRunning C.caller self.old }
-        requires stood { Stood C.Meaning.meaning (placed_of C.stage self.old) }
+        requires abstraction { HasAbstraction C.Meaning.meaning (placed_of C.stage self.old) }
         requires disk { self.old.store.size ≡ D.block_count disk.old }
-        ensures did { Did (placed_drop C.Meaning.meaning p d cause) (placed_of C.stage self.old)
+        ensures refines { Refines (placed_drop C.Meaning.meaning p d cause) (placed_of C.stage self.old)
             (placed_of C.stage self.new) notes.old notes.new
             (disk_seen (D.blocks disk.old) (D.plan disk.old) (D.faults disk.old))
             (disk_seen (D.blocks disk.new) (D.plan disk.new) (D.faults disk.new)) }
         ensures running { IsRunning C.caller self.new }
-        ensures stood { Stood C.Meaning.meaning (placed_of C.stage self.new) }
+        ensures abstraction { HasAbstraction C.Meaning.meaning (placed_of C.stage self.new) }
         ensures world { world_of_store self.new.store ≡ world_of_store self.old.store }
         ensures clock { self.new.clock ≡ self.old.clock }
         ensures same_size { D.block_count disk.new ≡ D.block_count disk.old }

@@ -5,7 +5,7 @@ ghost use Rattle.kernel_model.specs.Events.{in_order};
 ghost use Rattle.kernel_state.specs.Stores.{world_of_store};
 ghost use Rattle.placed_laws.specs.Placed.{has_some};
 ghost use Rattle.placed_laws.specs.Stretch.{IsStretched};
-ghost use Rattle.kernel_steps.specs.Views.{placed_of, IsRunning, Stood};
+ghost use Rattle.kernel_steps.specs.Views.{placed_of, IsRunning, HasAbstraction};
 
 use crate::running::Running;
 use call_pieces::Calls;
@@ -22,12 +22,12 @@ impl<C: Calls, B: Policy> Running<C, B> {
             has_some (x.levels p) ≡ true }
         requires away { in_order p (placed_of C.stage self.old).order ≡ false }
         requires running { IsRunning C.caller self.old }
-        requires stood { Stood C.Meaning.meaning (placed_of C.stage self.old) }
+        requires abstraction { HasAbstraction C.Meaning.meaning (placed_of C.stage self.old) }
         ensures most { result ≤ n }
         ensures is { let x = placed_of C.stage self.old in
             IsStretched x (placed_of C.stage self.new) p result }
         ensures running { IsRunning C.caller self.new }
-        ensures stood { Stood C.Meaning.meaning (placed_of C.stage self.new) }
+        ensures abstraction { HasAbstraction C.Meaning.meaning (placed_of C.stage self.new) }
         ensures world { world_of_store self.new.store ≡ world_of_store self.old.store }
         ensures clock { self.new.clock ≡ self.old.clock }
     {

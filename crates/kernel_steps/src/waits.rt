@@ -11,7 +11,7 @@ ghost use Rattle.placed_laws.specs.PlacedSteps.{placed_first_free, placed_rested
 ghost use Rattle.kernel_state.specs.Stores.{world_of_store, objects_of};
 ghost use Rattle.kernel_model.specs.World.{World};
 ghost use Rattle.kernel_steps.specs.Orders.{blocker_of, entry_of, order_of, are_processes, counts_within, patience_of, numbers_of};
-ghost use Rattle.kernel_steps.specs.Views.{placed_of, IsRunning, Stood, Goes};
+ghost use Rattle.kernel_steps.specs.Views.{placed_of, IsRunning, HasAbstraction, Simulates};
 
 use crate::order::{Blocking, Order, Waiting};
 use crate::running::Running;
@@ -118,7 +118,7 @@ impl<C: Calls, B: Policy> Running<C, B> {
     fn first_free_of(&self, entries: &[Waiting]) -> Option<u8>
         requires processes { are_processes entries.now ≡ true }
         requires running { IsRunning C.caller self.now }
-        requires stood { Stood C.Meaning.meaning (placed_of C.stage self.now) }
+        requires abstraction { HasAbstraction C.Meaning.meaning (placed_of C.stage self.now) }
         ensures { result ≡ placed_first_free C.Meaning.meaning (placed_of C.stage self.now)
             (order_of entries.now) }
     {
@@ -136,7 +136,7 @@ impl<C: Calls, B: Policy> Running<C, B> {
         requires processes { are_processes entries.now ≡ true }
         requires room { length done + length entries.now ≤ 16 }
         requires running { IsRunning C.caller self.now }
-        requires stood { Stood C.Meaning.meaning (placed_of C.stage self.now) }
+        requires abstraction { HasAbstraction C.Meaning.meaning (placed_of C.stage self.now) }
         ensures value { order_of result ≡ order_of done
             ++ placed_rested_order C.Meaning.meaning (placed_of C.stage self.now)
             (order_of entries.now) }
@@ -157,7 +157,7 @@ impl<C: Calls, B: Policy> Running<C, B> {
     /// The process of the first call in the order that nothing blocks.
     pub fn first_free(&self) -> Option<u8>
         requires running { IsRunning C.caller self.now }
-        requires stood { Stood C.Meaning.meaning (placed_of C.stage self.now) }
+        requires abstraction { HasAbstraction C.Meaning.meaning (placed_of C.stage self.now) }
         ensures { let x = placed_of C.stage self.now in
             result ≡ placed_first_free C.Meaning.meaning x x.order }
     {
@@ -167,9 +167,9 @@ impl<C: Calls, B: Policy> Running<C, B> {
     /// The order is told its blockers.
     pub fn rest(&mut self)
         requires running { IsRunning C.caller self.old }
-        requires stood { Stood C.Meaning.meaning (placed_of C.stage self.old) }
+        requires abstraction { HasAbstraction C.Meaning.meaning (placed_of C.stage self.old) }
         ensures value { let x = placed_of C.stage self.old in
-            Goes (with_placed_order (placed_rested_order C.Meaning.meaning x x.order)) x
+            Simulates (with_placed_order (placed_rested_order C.Meaning.meaning x x.order)) x
             (placed_of C.stage self.new) }
         ensures running { IsRunning C.caller self.new }
     {

@@ -131,7 +131,7 @@ fn start_of(bytes: &[u8], b: u32) -> usize
 /// Copies block b out.
 fn get_block(bytes: &[u8], b: u32, to: &mut [u8; 512])
     requires { b < length (blocks_of bytes.now) }
-    ensures told { slice_get (blocks_of bytes.now) b ≡ Some to.new }
+    ensures known { slice_get (blocks_of bytes.now) b ≡ Some to.new }
     ensures value { to.new ≡ slice_index_or (blocks_of bytes.now) b [] }
 {
     let start = start_of(bytes, b);

@@ -1,6 +1,5 @@
 -- The kernel in place: one store that is changed in place, and of each call in flight its levels,
--- without a history and without a
--- committed copy.
+-- without a history and without a committed copy.
 use Rattle.std.specs.Prelude.{ℕ, Bool, true, false, cond, List, [], ◌∷◌, Option, Some, None, map, option_map}
 use Rattle.kernel_model.specs.Access.{Found}
 use Rattle.kernel_model.specs.declared.Need.{Need}

@@ -20,8 +20,7 @@ pub record KeepsHolds (m : Meaning) (x y : Placed) (p : ℕ) : Type 0 where
       placed_holds y p d o ≡ placed_holds x p d o
 
 -- the conditions of a step after which all others are blocked as they were: an instruction of a
--- call that isn't in the order, with
--- which neither its levels nor what they hold has changed
+-- call that isn't in the order, with which neither its levels nor what they hold has changed
 pub record IsStill (m : Meaning) (x y : Placed) (p : ℕ) : Type 0 where
   pub level : has_some (x.levels p) ≡ true
   pub away : in_order p x.order ≡ false

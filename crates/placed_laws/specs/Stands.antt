@@ -15,10 +15,9 @@ abbrev pub without_history : Option Call → Option PlacedCall
 without_history c = option_map (λ (x : Call). record { number = x.number; stage = x.stage }) c
 
 -- A kernel in place stands for a sound abstract kernel. Its store is sound, and has each object as
--- the abstract kernel's store in
--- place has it: what a call holds exclusively as the call's replay has it, and all else as
--- committed. Its levels are those to which
--- the histories lead. Numbers out of range don't count, but for those of grafts.
+-- the abstract kernel's store in place has it: what a call holds exclusively as the call's replay
+-- has it, and all else as committed. Its levels are those to which the histories lead. Numbers out
+-- of range don't count, but for those of grafts.
 pub record StandsFor (m : Meaning) (x : Placed) (k : Kernel) : Type 0 where
   pub world : x.world ≡ k.world
   pub images : x.images ≡ k.images

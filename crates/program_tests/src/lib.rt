@@ -351,15 +351,16 @@ mod tests {
 
     #[test]
     fn demo_tells_of_its_own_script(rt: HostRuntime) -> Result<(), Fail> {
-        let told = run_failing(rt.alloc(), &["demo", "0"], "", [0; 3])?;
+        let known = run_failing(rt.alloc(), &["demo", "0"], "", [0; 3])?;
         let ran = run_generated(rt.alloc())?;
-        assert_eq!(rt; told.status, 0);
+        assert_eq!(rt; known.status, 0);
         assert_eq!(rt; ran.status, 0);
         let lines = count_lines(ran.written.bytes());
         let begins = format!(in rt.alloc(); "demo 0 lines {lines} ok ")?;
-        assert!(rt; told.written.bytes().starts_with(begins.as_bytes()));
+        assert!(rt; known.written.bytes().starts_with(begins.as_bytes()));
         assert!(rt;
-            told.written
+            known
+                .written
                 .bytes()
                 .ends_with(&digest_line(ran.written.bytes()))
         );
@@ -369,10 +370,10 @@ mod tests {
     #[test]
     fn a_drop_undoes_the_newest_change_first(rt: HostRuntime) -> Result<(), Fail> {
         let alloc = rt.alloc();
-        let told = Rc::new(alloc, Cell::new(Told::nothing()))?;
+        let known = Rc::new(alloc, Cell::new(Told::nothing()))?;
         let noting = Noting {
             blocks: 2,
-            told: told.clone()?,
+            known: known.clone()?,
         };
         let shelf = shelf_with!(alloc, noting);
         if !is_stock(&shelf) {
@@ -385,8 +386,8 @@ mod tests {
             "0 boot 8 64 3\n1 ok 11 0\n2 ok 0\n3 ok\n4 ok\n5 data 1f\n5 graft 0 0 1\n5 drop 0 0 C1\n5 ok\n6 ran 10\n";
         let ran = run_with(alloc, &["run", KEY], script.as_str(), [0; 3], shelf)?;
         assert!(rt; ran.written.bytes() == lines.as_bytes());
-        assert_eq!(rt; told.get().count, 4);
-        assert!(rt; told.get().values[..4] == [5, 6, 5, 2]);
+        assert_eq!(rt; known.get().count, 4);
+        assert!(rt; known.get().values[..4] == [5, 6, 5, 2]);
         Ok(())
     }
 

@@ -25,7 +25,7 @@ impl Told {
 #[derive(Drop)]
 pub struct Noting {
     pub blocks: u32,
-    pub told: Rc<Cell<Told>>,
+    pub known: Rc<Cell<Told>>,
 }
 
 impl Policy for Noting {
@@ -47,12 +47,12 @@ impl Policy for Noting {
     }
 
     fn set(&mut self, _k: u8, v: u32) {
-        let mut told = self.told.get();
-        if told.count < 8 {
-            told.values[told.count] = v;
-            told.count += 1;
+        let mut known = self.known.get();
+        if known.count < 8 {
+            known.values[known.count] = v;
+            known.count += 1;
         }
-        self.told.set(told);
+        self.known.set(known);
         self.blocks = v;
     }
 

@@ -4,7 +4,7 @@ use Rattle.std.proofs.Common.{arith, refl, subst, sym, ap, ◌∙◌, ◌⊎◌,
 use Rattle.std.proofs.lemmas.Bool.{cases_lt}
 use Rattle.std.specs.Io.KnownBytes.{Appends}
 use Rattle.vino_base.specs.Calls.{Plan, after_call, call_fails}
-use Rattle.disk_log.specs.Calls.{Tells, blocks_in, planned, plan_after}
+use Rattle.disk_log.specs.Calls.{Knows, blocks_in, planned, plan_after}
 use Rattle.kernel_model.specs.Session.{Session}
 use Rattle.kernel_model.specs.Outcome.{Outcome, written}
 use Rattle.vino_top.specs.Run.{Place, Uses, UsesAll, IsFirst, line_run, first_on, outcome_at, script_lines}
@@ -91,15 +91,15 @@ calls_are_one c p a (text ∷ lines) (io ∷ ios) (jo ∷ jos) n m used made fir
 -- ---- runs
 
 -- the session before the first line, over a disk that tells these blocks
-begins : (c : Place) (bs : List (List ℕ)) (told : Option (List (List ℕ))) → told ≡ Some bs → IsFirst c.size told (first_on c.size (blocks_in bs))
-begins c bs told e = subst (λ t. IsFirst c.size t (first_on c.size (blocks_in bs))) (sym e) (record { session = refl; blocks = refl })
+begins : (c : Place) (bs : List (List ℕ)) (known : Option (List (List ℕ))) → known ≡ Some bs → IsFirst c.size known (first_on c.size (blocks_in bs))
+begins c bs known e = subst (λ t. IsFirst c.size t (first_on c.size (blocks_in bs))) (sym e) (record { session = refl; blocks = refl })
 
 -- runs come to the same
 pub runs_are_one : RunsAreOne
 runs_are_one c bs p x y one other here there bytes ended =
     let a = first_on c.size (blocks_in bs) in
-    let from = begins c bs x.disk.told here.told in
-    let to = begins c bs y.disk.told there.told in
+    let from = begins c bs x.disk.known here.known in
+    let to = begins c bs y.disk.known there.known in
     let same : one.ios ≡ other.ios =
     calls_are_one c p a (script_lines one.taken) one.ios other.ios one.one_each
     (subst (λ t. length other.ios ≡ length (script_lines t)) (sym bytes) other.one_each) (one.used a from)
@@ -115,7 +115,7 @@ runs_are_one c bs p x y one other here there bytes ended =
       second = subst (λ (o : Outcome). Appends y.got y.got_new (written o)) (sym outcomes) (other.appended a to);
       blocks = (outcome_at c a.blocks one.taken one.ending one.ios).blocks;
       first_blocks = one.blocks a from;
-      second_blocks = subst (λ (o : Outcome). Tells y.disk_new.told o.blocks) (sym outcomes) (other.blocks a to);
+      second_blocks = subst (λ (o : Outcome). Knows y.disk_new.known o.blocks) (sym outcomes) (other.blocks a to);
       plan = one.calls.plan_is p here.plan ∙ ap (λ (ios : List (List Bool)). Some (plan_after (length (all_calls ios)) p)) same
           ∙ sym (other.calls.plan_is p there.plan);
     }

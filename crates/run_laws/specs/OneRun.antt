@@ -3,7 +3,7 @@
 use Rattle.std.specs.Prelude.{◌≡◌, ℕ, Bool, List, length, flat_map, Option, Some}
 use Rattle.std.specs.Io.KnownBytes.{Appends}
 use Rattle.vino_base.specs.Calls.{Plan}
-use Rattle.disk_log.specs.Calls.{Tells, planned}
+use Rattle.disk_log.specs.Calls.{Knows, planned}
 use Rattle.disk_log.specs.Seen.{DiskSeen}
 use Rattle.kernel_model.specs.World.{Blocks}
 use Rattle.kernel_model.specs.Session.{Session}
@@ -18,8 +18,7 @@ abbrev pub ArePlanned : Plan → List Bool → Type 0
 ArePlanned p io = io ≡ planned (length io) p
 
 -- Lists of calls, one for each line, of which each line makes its own, no fewer and no more: where
--- they are what a plan gives,
--- they are the only ones.
+-- they are what a plan gives, they are the only ones.
 abbrev pub CallsAreOne : Type 0
 CallsAreOne =
     (c : Place) (p : Plan) (a : Session) (lines : List (List ℕ)) (ios jos : List (List Bool))
@@ -28,8 +27,7 @@ CallsAreOne =
     → ArePlanned p (all_calls ios) → ArePlanned p (all_calls jos) → ios ≡ jos
 
 -- what is seen of a run: of its source what was left and the count of faults, before and after it;
--- of its sink what it had
--- got; of its disk; and the status
+-- of its sink what it had got; of its disk; and the status
 pub record RunSeen : Type 0 where
   pub rest : Option (List ℕ)
   pub rest_new : Option (List ℕ)
@@ -48,7 +46,7 @@ IsRun c x = Ran c x.rest x.rest_new x.faults x.faults_new x.got x.got_new x.disk
 
 -- it began over a disk that tells these blocks and this plan
 pub record BeginsOver (blocks : List (List ℕ)) (p : Plan) (x : RunSeen) : Type 0 where
-  pub told : x.disk.told ≡ Some blocks
+  pub known : x.disk.known ≡ Some blocks
   pub plan : x.disk.plan ≡ Some p
 
 -- two runs came to the same
@@ -60,8 +58,8 @@ pub record EndAlike (x y : RunSeen) : Type 0 where
   pub second : Appends y.got y.got_new bytes
   -- the blocks that each left
   pub blocks : Blocks
-  pub first_blocks : Tells x.disk_new.told blocks
-  pub second_blocks : Tells y.disk_new.told blocks
+  pub first_blocks : Knows x.disk_new.known blocks
+  pub second_blocks : Knows y.disk_new.known blocks
   pub plan : x.disk_new.plan ≡ y.disk_new.plan
 
 -- Runs that took the same bytes and ended reading alike, under one key, come to the same over disks

@@ -33,8 +33,8 @@ pub record IsPaidFor (l : Level) (a b : Accounts) : Type 0 where
   pub uncharged : is_spent a l ≡ true → StepsStay a b
 
 -- An instruction of process p's call is charged to who installed the graft that takes it, whichever
--- process p is. What it
--- charges of records and locks, and a drop that it ends in, move amounts within ledgers alone.
+-- process p is. What it charges of records and locks, and a drop that it ends in, move amounts
+-- within ledgers alone.
 abbrev pub InstructionsArePaidFor : Type 0
 InstructionsArePaidFor =
     (v : World) (images : ImageTable) (p : ℕ) (w : Objects) (l : Level) (ls : List Level) →

@@ -28,7 +28,7 @@ pub trait Disk {
         ensures count { result ≡ block_count self.now }
         ensures least { 1 ≤ result }
         ensures most { result ≤ 4096 }
-        ensures told { IfSome (blocks self.now) (λ bs. length bs ≡ result) }
+        ensures known { IfSome (blocks self.now) (λ bs. length bs ≡ result) }
         ensures whole { (bs : List (List ℕ)) → blocks self.now ≡ Some bs → (b : ℕ) → b < result →
             length (slice_index_or bs b []) ≡ 512 };
 

@@ -1,6 +1,6 @@
 -- Lines run one after another, and the script that `demo` generates.
 use Rattle.std.proofs.Common.{◌≡◌, ◌≤◌, ◌<◌, ◌+◌, ◌-◌, ◌%◌, ◌^◌, ◌++◌, ◌∙◌, ℕ, zero, suc, Bool, List, [], ◌∷◌, Option, length, refl, sym, ap, subst, arith, append_assoc, append-nil, length-append}
-use Rattle.disk_log.specs.Calls.{Tells}
+use Rattle.disk_log.specs.Calls.{Knows}
 use Rattle.disk_log.specs.Seen.{DiskSeen}
 use Rattle.kernel_model.specs.declared.Note.{Note}
 use Rattle.kernel_model.specs.Session.{Session, Written, and_then}
@@ -8,7 +8,7 @@ use Rattle.kernel_model.specs.Demo.{demo_lines, drawn_lines, next_draw, head_lin
 use Rattle.demo_text.specs.declared.tally.Tally.{Tally}
 use Rattle.demo_text.specs.Tallies.{IsTally}
 use Rattle.vino_top.specs.Standing.{Seen, IsBegun, last_bytes}
-use Rattle.vino_top.specs.Run.{Place, first_on, line_run, lines_run, UsesAll, WantsMemory, WantsAt, Left, Comes, RunsLine}
+use Rattle.vino_top.specs.Run.{Place, first_on, line_run, lines_run, UsesAll, WantsMemory, WantsAt, Left, LineMatches, RunsLine}
 use Rattle.vino_top.specs.Demos.{all_run, RanLines, joined, nothing_left, HasRoom, demo_place, DemoRan, DemoLacked, DemoReached, DemoTakes, DemoStops}
 use Rattle.vino_top.proofs.EndLemmas.{begun_stands, left_by}
 use Rattle.vino_top.proofs.RunLemmas.{all_made_none, all_made_one, all_made_joined, comes_alone, line_uses, uses-append}
@@ -83,7 +83,7 @@ ran_more c xs ys s t u d e f out more p q =
       comes = λ a from.
           let first = p.comes a from in
           let second = q.comes (all_run c a xs p.ios).session first.stands in
-          subst (λ (w : Written). Comes u f.told (joined out more) w []) (sym (all-append c a xs ys p.ios q.ios p.one_each))
+          subst (λ (w : Written). LineMatches u f.known (joined out more) w []) (sym (all-append c a xs ys p.ios q.ios p.one_each))
           (record {
             stands = second.stands;
             left = second.left;
@@ -172,7 +172,7 @@ script_length n = both_lengths head_lines 5000 (n % 2 ^ 31) refl
 -- one line went on
 pub demo_takes : (c : Place) (text : List ℕ) (s t : Seen) (d e : DiskSeen) (out : Left) (bytes : List ℕ) (notes : List Note) (old new : Tally) →
     t.lines ≤ s.lines + 1 → RunsLine c text s t d e out → bytes ≡ out.bytes → notes ≡ out.notes → length bytes ≤ 3028992 → length notes ≤ 530 →
-    ((written : List ℕ) (told : List Note) → IsTally old written told → IsTally new (written ++ bytes) (told ++ notes)) → DemoTakes c text s t d e old new
+    ((written : List ℕ) (known : List Note) → IsTally old written known → IsTally new (written ++ bytes) (known ++ notes)) → DemoTakes c text s t d e old new
 demo_takes c text s t d e out bytes notes old new lines runs bytes_are notes_are few_bytes few_notes tallied =
     record {
       lines = lines;
@@ -191,13 +191,13 @@ tells n bytes last lines text notes is last_are =
 -- ---- the whole run
 
 -- what is told of lines, whose last lines are the code's
-told_is : (c : Place) (n : ℕ) (a : Session) (texts : List (List ℕ)) (ios : List (List Bool)) (t : Seen) (told : Option (List (List ℕ))) (out : Left) (text : List ℕ) →
-    Comes t told out (all_run c a texts ios) [] → text ≡ summary_of n (out.bytes ++ last_bytes t []) out.notes → text ≡ summary_by n (all_run c a texts ios)
-told_is c n a texts ios t told out text came is =
+told_is : (c : Place) (n : ℕ) (a : Session) (texts : List (List ℕ)) (ios : List (List Bool)) (t : Seen) (known : Option (List (List ℕ))) (out : Left) (text : List ℕ) →
+    LineMatches t known out (all_run c a texts ios) [] → text ≡ summary_of n (out.bytes ++ last_bytes t []) out.notes → text ≡ summary_by n (all_run c a texts ios)
+told_is c n a texts ios t known out text came is =
     let w = all_run c a texts ios in
     is ∙ ap (λ (bytes : List ℕ). summary_of n (bytes ++ last_bytes t []) out.notes) came.bytes
     ∙ ap (λ (notes : List Note). summary_of n (w.bytes ++ last_bytes t []) notes) came.notes
-    ∙ ap (λ (last : List ℕ). summary_of n (w.bytes ++ last) w.notes) (left_by t told w.session t.booted came.stands refl)
+    ∙ ap (λ (last : List ℕ). summary_of n (w.bytes ++ last) w.notes) (left_by t known w.session t.booted came.stands refl)
 
 -- the script was run to its end
 pub demo_ran : (n size : ℕ) (s t : Seen) (d e : DiskSeen) (tally : Tally) (text : List ℕ) (Writes : List ℕ → Type 0) → IsBegun s →
@@ -211,16 +211,16 @@ demo_ran n size s t d e tally text Writes begun p is wrote =
       ios = ran.ios;
       one_each = ran.one_each;
       calls = ran.calls;
-      used = λ a first. ran.used a (begun_stands size s d.told a begun first);
+      used = λ a first. ran.used a (begun_stands size s d.known a begun first);
       writes = λ a first.
-          let came = ran.comes a (begun_stands size s d.told a begun first) in
-          let told : text ≡ summary_by n (all_run c (first_on size a.blocks) (demo_lines n) ran.ios) =
-          told_is c n a (demo_lines n) ran.ios t e.told p.out text came is
+          let came = ran.comes a (begun_stands size s d.known a begun first) in
+          let known : text ≡ summary_by n (all_run c (first_on size a.blocks) (demo_lines n) ran.ios) =
+          told_is c n a (demo_lines n) ran.ios t e.known p.out text came is
           ∙ ap (λ (x : Session). summary_by n (all_run c x (demo_lines n) ran.ios)) first.session in
-          subst Writes told wrote;
+          subst Writes known wrote;
       blocks = λ a first.
-          subst (λ (b : Session). Tells e.told b.blocks) (session_of_all c a (demo_lines n) ran.ios)
-          (ran.comes a (begun_stands size s d.told a begun first)).stands.blocks;
+          subst (λ (b : Session). Knows e.known b.blocks) (session_of_all c a (demo_lines n) ran.ios)
+          (ran.comes a (begun_stands size s d.known a begun first)).stands.blocks;
     }
 
 -- there was no memory for an image of it
@@ -237,11 +237,11 @@ demo_lacked n size s d e begun p =
       calls = p.ran.calls;
       wants = λ a first.
           subst (λ (b : Session). WantsMemory b p.next) (session_of_all c a p.done p.ran.ios)
-          (p.wants e.told (all_run c a p.done p.ran.ios).session (p.ran.comes a (begun_stands size s d.told a begun first)).stands);
-      used = λ a first. p.ran.used a (begun_stands size s d.told a begun first);
+          (p.wants e.known (all_run c a p.done p.ran.ios).session (p.ran.comes a (begun_stands size s d.known a begun first)).stands);
+      used = λ a first. p.ran.used a (begun_stands size s d.known a begun first);
       blocks = λ a first.
-          subst (λ (b : Session). Tells e.told b.blocks) (session_of_all c a p.done p.ran.ios)
-          (p.ran.comes a (begun_stands size s d.told a begun first)).stands.blocks;
+          subst (λ (b : Session). Knows e.known b.blocks) (session_of_all c a p.done p.ran.ios)
+          (p.ran.comes a (begun_stands size s d.known a begun first)).stands.blocks;
     }
 
 -- the same where the lines and the size are the code's
@@ -249,9 +249,9 @@ pub ran_over : (n count size : ℕ) (lines : List (List ℕ)) (s t : Seen) (d e 
     size ≡ count → lines ≡ demo_lines n → IsBegun s → DemoReached (demo_place size) lines [] s t d e tally →
     ((so_far : Left) → IsTally tally so_far.bytes so_far.notes → text ≡ summary_of n (so_far.bytes ++ last_bytes t []) so_far.notes) → Writes text →
     DemoRan n count d e Writes
-ran_over n count size lines s t d e tally text Writes same script begun p told wrote =
+ran_over n count size lines s t d e tally text Writes same script begun p known wrote =
     let q = subst (λ (all : List (List ℕ)). DemoReached (demo_place size) all [] s t d e tally) script p in
-    subst (λ (k : ℕ). DemoRan n k d e Writes) same (demo_ran n size s t d e tally text Writes begun q (told q.out q.tallied) wrote)
+    subst (λ (k : ℕ). DemoRan n k d e Writes) same (demo_ran n size s t d e tally text Writes begun q (known q.out q.tallied) wrote)
 
 pub lacked_over : (n count size : ℕ) (lines : List (List ℕ)) (s : Seen) (d e : DiskSeen) → size ≡ count → lines ≡ demo_lines n → IsBegun s →
     DemoStops (demo_place size) lines s d e → DemoLacked n count d e

@@ -30,8 +30,8 @@ use Rattle.vino_top.proofs.RunLemmas.{fed_none, fed_more, fed_short, stops_fed, 
 -- ---- where a run stands
 
 -- it stands for a first session
-pub begun_stands : (size : ℕ) (s : Seen) (told : Option (List (List ℕ))) (a : Session) → IsBegun s → IsFirst size told a → StandsFor s told a
-begun_stands size s told a begun first =
+pub begun_stands : (size : ℕ) (s : Seen) (known : Option (List (List ℕ))) (a : Session) → IsBegun s → IsFirst size known a → StandsFor s known a
+begun_stands size s known a begun first =
     record {
       setup = ap (λ (x : Session). x.setup) first.session ∙ sym begun.setup;
       lines = ap (λ (x : Session). x.lines) first.session ∙ sym begun.lines;
@@ -107,15 +107,15 @@ ends_last status a pieces last =
 ran_by : (c : Place) (s t : Seen) (r r2 r3 : Option (List ℕ)) (f f2 : ℕ) (g g2 g3 : Option (List ℕ)) (d e : DiskSeen) (l : List ℕ) (left status : ℕ) (ending : Ending) (last : List ℕ) →
     IsBegun s → (p : Reached c s t r r2 g g2 d e l left) → Consumes r2 r3 [] → Appends g2 g3 last →
     (t.refused ≡ true) ⊎ HasEnded ending p.taken r3 f f2 →
-    ((a : Session) (pieces : List (List ℕ)) → StandsFor t e.told a → EndsSo (outcome_of ending a pieces l) a pieces status last) →
+    ((a : Session) (pieces : List (List ℕ)) → StandsFor t e.known a → EndsSo (outcome_of ending a pieces l) a pieces status last) →
     Ran c r r3 f f2 g g3 d e status
 ran_by c s t r r2 r3 f f2 g g2 g3 d e l left status ending last begun p kept more ended out =
     let lines = script_lines p.taken in
-    let from = λ (a : Session) (first : IsFirst c.size d.told a). begun_stands c.size s d.told a begun first in
-    let is = λ (a : Session) (first : IsFirst c.size d.told a).
+    let from = λ (a : Session) (first : IsFirst c.size d.known a). begun_stands c.size s d.known a begun first in
+    let is = λ (a : Session) (first : IsFirst c.size d.known a).
     outcome_is c a p.taken ending p.fed.ios first.session
     ∙ ap (outcome_of ending (lines_run c a lines p.fed.ios) (pieces_run c a lines p.fed.ios)) (sym p.fed.line_is) in
-    let so = λ (a : Session) (first : IsFirst c.size d.told a).
+    let so = λ (a : Session) (first : IsFirst c.size d.known a).
     out (lines_run c a lines p.fed.ios) (pieces_run c a lines p.fed.ios) (p.fed.stands a (from a first)) in
     record {
       taken = p.taken;
@@ -136,8 +136,8 @@ ran_by c s t r r2 r3 f f2 g g2 g3 d e l left status ending last begun p kept mor
     }
 
 -- what a session of the code says of the abstract one
-refused_as : (t : Seen) (told : Option (List (List ℕ))) (a : Session) (b : Bool) → StandsFor t told a → t.refused ≡ b → a.refused ≡ b
-refused_as t told a b stands h = stands.refused ∙ h
+refused_as : (t : Seen) (known : Option (List (List ℕ))) (a : Session) (b : Bool) → StandsFor t known a → t.refused ≡ b → a.refused ≡ b
+refused_as t known a b stands h = stands.refused ∙ h
 
 -- the line of a call that is left, in place
 left_line_is : (p : ℕ) (o : Option Call) → placed_left_line p (without_history o) ≡ left_line p o
@@ -151,9 +151,9 @@ left_is x k stands =
     (fun_ext (λ p. ap (placed_left_line p) (stands.calls p) ∙ left_line_is p (k.call p)))
 
 -- the same by whether `boot` was run
-pub left_by : (t : Seen) (told : Option (List (List ℕ))) (a : Session) (b : Bool) → StandsFor t told a → t.booted ≡ b → cond b (placed_left_lines t.placed) [] ≡ left_lines a.kernel
-left_by t told a false stands h = ap left_lines (sym (stands.unbooted h))
-left_by t told a true stands h =
+pub left_by : (t : Seen) (known : Option (List (List ℕ))) (a : Session) (b : Bool) → StandsFor t known a → t.booted ≡ b → cond b (placed_left_lines t.placed) [] ≡ left_lines a.kernel
+left_by t known a false stands h = ap left_lines (sym (stands.unbooted h))
+left_by t known a true stands h =
     let has = stands.booted h in left_is t.placed has.kernel has.stands ∙ ap left_lines (sym has.is)
 
 -- a failed read
@@ -161,7 +161,7 @@ pub ran_fault : (c : Place) (s t : Seen) (r r2 r3 : Option (List ℕ)) (f f2 f3 
     IsBegun s → Reached c s t r r2 g g2 d e l left → t.refused ≡ false → 0 < left → Keeps r2 r3 → f ≤ f2 → Rose f2 f3 → Ran c r r3 f f3 g g2 d e 3
 ran_fault c s t r r2 r3 f f2 f3 g g2 d e l left begun p going some kept before rose =
     ran_by c s t r r2 r3 f f3 g g2 g2 d e l left 3 Fault [] begun p (keeps_consumes r2 r3 kept) (Appends-nil g2) (inr (omega (arith, p.count), omega arith))
-    (λ a pieces stands. rw (going_outcome Fault a pieces l (refused_as t e.told a false stands going)) (ends_plain 3 a pieces))
+    (λ a pieces stands. rw (going_outcome Fault a pieces l (refused_as t e.known a false stands going)) (ends_plain 3 a pieces))
   where
     keeps_consumes : (r r2 : Option (List ℕ)) → Keeps r r2 → Consumes r r2 []
     keeps_consumes r r2 kept = Consumes-kept _ _ _ _ (Consumes-nil r) kept
@@ -171,20 +171,20 @@ pub ran_over : (c : Place) (s t : Seen) (r r2 : Option (List ℕ)) (f f2 : ℕ) 
     IsBegun s → Reached c s t r r2 g g2 d e l left → left ≡ 0 → t.refused ≡ false → Ran c r r2 f f2 g g2 d e 7
 ran_over c s t r r2 f f2 g g2 d e l left begun p none going =
     ran_by c s t r r2 r2 f f2 g g2 g2 d e l left 7 Over [] begun p (Consumes-nil r2) (Appends-nil g2) (inr (omega (arith, p.count, none)))
-    (λ a pieces stands. rw (going_outcome Over a pieces l (refused_as t e.told a false stands going)) (ends_plain 7 a pieces))
+    (λ a pieces stands. rw (going_outcome Over a pieces l (refused_as t e.known a false stands going)) (ends_plain 7 a pieces))
 
 -- a refused line
 pub ran_stopped : (c : Place) (s t : Seen) (r r2 : Option (List ℕ)) (f f2 : ℕ) (g g2 : Option (List ℕ)) (d e : DiskSeen) (l : List ℕ) (left : ℕ) →
     IsBegun s → Reached c s t r r2 g g2 d e l left → t.refused ≡ true → Ran c r r2 f f2 g g2 d e 2
 ran_stopped c s t r r2 f f2 g g2 d e l left begun p refused =
     ran_by c s t r r2 r2 f f2 g g2 g2 d e l left 2 Fault [] begun p (Consumes-nil r2) (Appends-nil g2) (inl refused)
-    (λ a pieces stands. rw (refused_outcome Fault a pieces l (refused_as t e.told a true stands refused)) (ends_plain 2 a pieces))
+    (λ a pieces stands. rw (refused_outcome Fault a pieces l (refused_as t e.known a true stands refused)) (ends_plain 2 a pieces))
 
 -- the end of the input: behind a newline, or behind other bytes
-end_so : (t : Seen) (told : Option (List (List ℕ))) (a : Session) (pieces : List (List ℕ)) (l : List ℕ) → StandsFor t told a → EndsSo (at_end a pieces l) a pieces (last_status l) (last_bytes t l)
-end_so t told a pieces [] stands =
-    subst (λ (bytes : List ℕ). EndsSo (at_end a pieces []) a pieces 0 bytes) (sym (left_by t told a t.booted stands refl)) (ends_last 0 a pieces (left_lines a.kernel))
-end_so t told a pieces (x ∷ l) stands =
+end_so : (t : Seen) (known : Option (List (List ℕ))) (a : Session) (pieces : List (List ℕ)) (l : List ℕ) → StandsFor t known a → EndsSo (at_end a pieces l) a pieces (last_status l) (last_bytes t l)
+end_so t known a pieces [] stands =
+    subst (λ (bytes : List ℕ). EndsSo (at_end a pieces []) a pieces 0 bytes) (sym (left_by t known a t.booted stands refl)) (ends_last 0 a pieces (left_lines a.kernel))
+end_so t known a pieces (x ∷ l) stands =
     subst (λ (n : ℕ). EndsSo (at_end a pieces (x ∷ l)) a pieces 2 (line (fault_text (suc n) Unfinished))) stands.lines (ends_last 2 a pieces (line (fault_text (suc a.lines) Unfinished)))
 
 -- how the last lines end a run
@@ -195,25 +195,25 @@ ran_finish c s t r r2 r3 f f2 g g2 g3 d e l left status begun p going some kept 
     let last = done other in
     rw last.0
     (ran_by c s t r r2 r3 f f2 g g2 g3 d e l left (last_status l) End (last_bytes t l) begun p kept last.1 (inr (omega (arith, p.count), end))
-    (λ a pieces stands. rw (going_outcome End a pieces l (refused_as t e.told a false stands going)) (end_so t e.told a pieces l stands)))
+    (λ a pieces stands. rw (going_outcome End a pieces l (refused_as t e.known a false stands going)) (end_so t e.known a pieces l stands)))
 
 -- ---- runs that stop
 
 -- why the run stopped at a line, among those of the script
 stopped : (c : Place) (s t : Seen) (r r2 r3 g g2 g3 : Option (List ℕ)) (d e f : DiskSeen) (l : List ℕ) (left n : ℕ) (given : List ℕ) (stop : Stop) →
     IsBegun s → (p : Reached c s t r r2 g g2 d e l left) → 0 < left →
-    StopsAt c (StandsFor t e.told) (lines_after l (take (left - 1) given)) g2 g3 e f stop → StopsAt c (IsFirst c.size d.told) (script_lines (p.taken ++ given)) g g3 d f stop
+    StopsAt c (StandsFor t e.known) (lines_after l (take (left - 1) given)) g2 g3 e f stop → StopsAt c (IsFirst c.size d.known) (script_lines (p.taken ++ given)) g g3 d f stop
 stopped c s t r r2 r3 g g2 g3 d e f l left n given stop begun p some q =
     let script = script_more p.taken given left p.count some in
     let all = stops_fed c s t [] l (take SCRIPT_BYTES p.taken) (take (left - 1) given) [] g g2 g3 d e f stop p.fed q in
     rw script
-    (subst (λ x. StopsAt c (IsFirst c.size d.told) (lines_after [] x) g g3 d f stop) (append-nil (take SCRIPT_BYTES p.taken ++ take (left - 1) given))
-    (stops_from c (StandsFor s d.told) (IsFirst c.size d.told) (lines_after [] ((take SCRIPT_BYTES p.taken ++ take (left - 1) given) ++ [])) g g3 d f stop (λ a first. begun_stands c.size s d.told a begun first) all))
+    (subst (λ x. StopsAt c (IsFirst c.size d.known) (lines_after [] x) g g3 d f stop) (append-nil (take SCRIPT_BYTES p.taken ++ take (left - 1) given))
+    (stops_from c (StandsFor s d.known) (IsFirst c.size d.known) (lines_after [] ((take SCRIPT_BYTES p.taken ++ take (left - 1) given) ++ [])) g g3 d f stop (λ a first. begun_stands c.size s d.known a begun first) all))
 
 -- the sink failed at a line
 pub broke_fed : (c : Place) (s t : Seen) (r r2 r3 g g2 g3 : Option (List ℕ)) (d e f : DiskSeen) (l : List ℕ) (left n : ℕ) (given script : List ℕ) (stop : Stop) →
     IsBegun s → Reached c s t r r2 g g2 d e l left → 0 < left → length given ≡ n → n ≤ left → Consumes r2 r3 given →
-    script ≡ take (left - 1) given → stop_status stop ≡ 4 → StopsAt c (StandsFor t e.told) (lines_after l script) g2 g3 e f stop → Broke c r r3 g g3 d f
+    script ≡ take (left - 1) given → stop_status stop ≡ 4 → StopsAt c (StandsFor t e.known) (lines_after l script) g2 g3 e f stop → Broke c r r3 g g3 d f
 broke_fed c s t r r2 r3 g g2 g3 d e f l left n given script SinkFailed begun p some count most consumed is four q =
     record {
       taken = p.taken ++ given;
@@ -226,7 +226,7 @@ broke_fed c s t r r2 r3 g g2 g3 d e f l left n given script NoMemory begun p som
 -- there was no memory for a line
 pub lacked_fed : (c : Place) (s t : Seen) (r r2 r3 g g2 g3 : Option (List ℕ)) (d e f : DiskSeen) (l : List ℕ) (left n : ℕ) (given script : List ℕ) (stop : Stop) →
     IsBegun s → Reached c s t r r2 g g2 d e l left → 0 < left → length given ≡ n → n ≤ left → Consumes r2 r3 given →
-    script ≡ take (left - 1) given → stop_status stop ≡ 5 → StopsAt c (StandsFor t e.told) (lines_after l script) g2 g3 e f stop → Lacked c r r3 g g3 d f
+    script ≡ take (left - 1) given → stop_status stop ≡ 5 → StopsAt c (StandsFor t e.known) (lines_after l script) g2 g3 e f stop → Lacked c r r3 g g3 d f
 lacked_fed c s t r r2 r3 g g2 g3 d e f l left n given script SinkFailed begun p some count most consumed is five q = absurd (omega (arith, five))
 lacked_fed c s t r r2 r3 g g2 g3 d e f l left n given script NoMemory begun p some count most consumed is five q =
     record {
@@ -242,14 +242,14 @@ pub broke_finish : (c : Place) (s t : Seen) (r r2 r3 g g2 g3 : Option (List ℕ)
     AppendsPart g2 g3 (last_bytes t l) → Broke c r r3 g g3 d e
 broke_finish c s t r r2 r3 g g2 g3 d e l left begun p going some kept end cut =
     let lines = script_lines p.taken in
-    let from = λ (a : Session) (first : IsFirst c.size d.told a). begun_stands c.size s d.told a begun first in
-    let so = λ (a : Session) (first : IsFirst c.size d.told a).
+    let from = λ (a : Session) (first : IsFirst c.size d.known a). begun_stands c.size s d.known a begun first in
+    let so = λ (a : Session) (first : IsFirst c.size d.known a).
     let b = lines_run c a lines p.fed.ios in
     let stands = p.fed.stands a (from a first) in
     subst (λ o. EndsSo o b (pieces_run c a lines p.fed.ios) (last_status l) (last_bytes t l))
-    (sym (going_outcome End b (pieces_run c a lines p.fed.ios) l (refused_as t e.told b false stands going)))
-    (end_so t e.told b (pieces_run c a lines p.fed.ios) l stands) in
-    let is = λ (a : Session) (first : IsFirst c.size d.told a).
+    (sym (going_outcome End b (pieces_run c a lines p.fed.ios) l (refused_as t e.known b false stands going)))
+    (end_so t e.known b (pieces_run c a lines p.fed.ios) l stands) in
+    let is = λ (a : Session) (first : IsFirst c.size d.known a).
     outcome_is c a p.taken End p.fed.ios first.session
     ∙ ap (outcome_of End (lines_run c a lines p.fed.ios) (pieces_run c a lines p.fed.ios)) (sym p.fed.line_is) in
     record {

@@ -9,7 +9,7 @@ use Rattle.disk_log.specs.Seen.{DiskSeen}
 use Rattle.call_pieces.specs.Works.{stage_of}
 use Rattle.kernel_core.specs.declared.images.ImageRefusal.TheVariants.{BadSlot, Taken}
 use Rattle.kernel_core.specs.AddedImages.{slot_refused, ImageIsAdded}
-use Rattle.kernel_core.specs.Happened.{IsKernel}
+use Rattle.kernel_core.specs.EventRefines.{IsKernel}
 use Rattle.placed_laws.specs.Placed.{Placed}
 use Rattle.placed_laws.specs.Stands as kernels
 use Rattle.kernel_model.specs.Images.{load}
@@ -19,7 +19,7 @@ use Rattle.kernel_model.specs.Session.{image_answer, after_image, after_entry, r
 use Rattle.kernel_model.specs.Text.{line}
 use Rattle.vino_top.specs.Built.{present_build}
 use Rattle.vino_top.specs.Standing.{Seen, caller_of}
-use Rattle.vino_top.specs.Run.{Place, Left, Says, Comes, LoadsFree, WantsAt, RunsEntry}
+use Rattle.vino_top.specs.Run.{Place, Left, LeavesText, LineMatches, LoadsFree, WantsAt, RunsEntry}
 use Rattle.vino_top.specs.Bounds.{IsSessionWithin}
 use Rattle.vino_top.specs.declared.session.Session.{Session as CodeSession}
 use Rattle.vino_top.proofs.SessionLemmas.{alone, up_is_down}
@@ -46,7 +46,7 @@ no_image (Some i) h = up_is_down h
 -- a line that loads an image into a slot that is free, once it is counted, wants memory
 pub wants_free : (s : Seen) (text : List ℕ) (e : Entry) → s.refused ≡ false → parsed_line s.booted text ≡ Ok e →
     LoadsFree (record s { lines = s.lines + 1 }) e → WantsAt s text
-wants_free s text e going is loads = λ told a stands.
+wants_free s text e going is loads = λ known a stands.
     let has = stands.booted loads.booted in
     record {
       going = stands.refused ∙ going;
@@ -63,7 +63,7 @@ wants_free s text e going is loads = λ told a stands.
 pub image_runs : (c : Place) (s t : Seen) (slot : ℕ) (bytes : List ℕ) (y : Placed) (answer : List ℕ) (out : Left) (d : DiskSeen) →
     s.booted ≡ true → t ≡ record s { placed = y; events = s.events + 1 } →
     ((k : abstract.Kernel) → kernels.StandsFor plain s.placed k → IsAtRest plain k → ImageIsAdded plain slot (load c.keys bytes) k y answer) →
-    Says out (line (decimal (s.events + 1) ++ 32 ∷ answer)) → RunsEntry c (Loads slot bytes) s t d d out
+    LeavesText out (line (decimal (s.events + 1) ++ 32 ∷ answer)) → RunsEntry c (Loads slot bytes) s t d d out
 image_runs c s t slot bytes y answer out d booted state said written =
     let u = record s { placed = y; events = s.events + 1 } in
     subst (λ (x : Seen). RunsEntry c (Loads slot bytes) s x d d out) (sym state) (alone c (Loads slot bytes) s u out d (λ a rest stands.
@@ -75,7 +75,7 @@ image_runs c s t slot bytes y answer out d booted state said written =
     let run : after_entry present_build c.keys c.size a (Loads slot bytes) rest ≡ after_image a n (left_over, answer) rest =
     ap (λ (o : Option abstract.Kernel). running_in present_build c.keys c.size a (Loads slot bytes) o rest) has.is
     ∙ ap (λ (text : List ℕ). after_image a n (left_over, text) rest) new.said_is in
-    subst (λ w. Comes u d.told out w rest) (sym run) (record {
+    subst (λ w. LineMatches u d.known out w rest) (sym run) (record {
       stands = record {
         setup = stands.setup;
         lines = stands.lines;
@@ -99,7 +99,7 @@ one_later size s t u up fresh state store kernel within =
       frames_least = within.frames_least;
       frames_most = within.frames_most;
       events = omega (arith, fresh);
-      kernel = λ b. record { running = kernel.running; stood = kernel.stood; clock = omega (arith, kernel.clock) };
+      kernel = λ b. record { running = kernel.running; abstraction = kernel.abstraction; clock = omega (arith, kernel.clock) };
       size_is = λ b. rw store (within.size_is b);
       unbooted = λ down. up_is_down (sym up ∙ down);
     })

@@ -6,7 +6,7 @@ use Rattle.std.proofs.lemmas.List.Folds.{concat-append}
 use Rattle.std.specs.Io.KnownBytes.{Appends}
 use Rattle.std.proofs.lemmas.List.{take_more, take-append-drop, take_all}
 use Rattle.std.proofs.KnownBytes.{Appends-nil, Appends-trans}
-use Rattle.disk_log.specs.Calls.{Tells, Made}
+use Rattle.disk_log.specs.Calls.{Knows, Made}
 use Rattle.disk_log.specs.Joined.{made_none, made_joined}
 use Rattle.kernel_model.specs.Script.{LINE_BYTES}
 use Rattle.kernel_model.specs.World.{Blocks}
@@ -14,7 +14,7 @@ use Rattle.kernel_model.specs.Session.{Session}
 use Rattle.kernel_model.specs.Outcome.{lines_after, rest_after, ends_line, ended_line}
 use Rattle.disk_log.specs.Seen.{DiskSeen}
 use Rattle.filters.specs.Filtered.{AppendsPart}
-use Rattle.vino_top.specs.Run.{Place, line_run, lines_run, pieces_run, Uses, UsesAll, MadeAll, Left, Comes, RunsLine, WantsAt, Feeds, StopsAt, TakesLine}
+use Rattle.vino_top.specs.Run.{Place, line_run, lines_run, pieces_run, Uses, UsesAll, MadeAll, Left, LineMatches, RunsLine, WantsAt, Feeds, StopsAt, TakesLine}
 use Rattle.vino_top.specs.Standing.{Seen, StandsFor}
 use Rattle.vino_top.specs.declared.run.Stop.{Stop}
 use Rattle.vino_top.specs.declared.run.Stop.TheVariants.{SinkFailed, NoMemory}
@@ -77,19 +77,19 @@ uses-append c a (x ∷ xs) ys (io ∷ is) js h p q =
 -- ---- the calls of one line
 
 -- a disk tells its blocks, and no others
-same_told : (told : Option (List (List ℕ))) (x y : Blocks) → Tells told x → Tells told y → x ≡ y
-same_told told x y p q = same_some x y (sym p ∙ q)
+same_told : (known : Option (List (List ℕ))) (x y : Blocks) → Knows known x → Knows known y → x ≡ y
+same_told known x y p q = same_some x y (sym p ∙ q)
   where
     same_some : (f g : Blocks) → Some f ≡ Some g → f ≡ g
     same_some f g h = cc
 
 -- what comes of a line with its own calls alone
-pub comes_alone : (c : Place) (text : List ℕ) (s t : Seen) (d e : DiskSeen) (out : Left) (r : RunsLine c text s t d e out) (a : Session) → StandsFor s d.told a →
-    Comes t e.told out (line_run c a text r.io) []
-comes_alone c text s t d e out r a from = subst (λ io. Comes t e.told out (line_run c a text io) []) (append-nil r.io) (r.comes a [] from)
+pub comes_alone : (c : Place) (text : List ℕ) (s t : Seen) (d e : DiskSeen) (out : Left) (r : RunsLine c text s t d e out) (a : Session) → StandsFor s d.known a →
+    LineMatches t e.known out (line_run c a text r.io) []
+comes_alone c text s t d e out r a from = subst (λ io. LineMatches t e.known out (line_run c a text io) []) (append-nil r.io) (r.comes a [] from)
 
 -- a line makes its calls, no fewer and no more
-pub line_uses : (c : Place) (text : List ℕ) (s t : Seen) (d e : DiskSeen) (out : Left) (r : RunsLine c text s t d e out) (a : Session) → StandsFor s d.told a →
+pub line_uses : (c : Place) (text : List ℕ) (s t : Seen) (d e : DiskSeen) (out : Left) (r : RunsLine c text s t d e out) (a : Session) → StandsFor s d.known a →
     Uses c a text r.io
 line_uses c text s t d e out r a from =
     let now = comes_alone c text s t d e out r a from in
@@ -97,7 +97,7 @@ line_uses c text s t d e out r a from =
       left = λ rest. (r.comes a rest from).left;
       bytes = λ rest. sym (r.comes a rest from).bytes ∙ now.bytes;
       blocks = λ rest.
-          same_told e.told (line_run c a text (r.io ++ rest)).session.blocks (line_run c a text r.io).session.blocks (r.comes a rest from).stands.blocks now.stands.blocks;
+          same_told e.known (line_run c a text (r.io ++ rest)).session.blocks (line_run c a text r.io).session.blocks (r.comes a rest from).stands.blocks now.stands.blocks;
     }
 
 -- ---- bytes that are fed
@@ -161,7 +161,7 @@ pub fed_line : (c : Place) (s t : Seen) (l m n : List ℕ) (byte : ℕ) (g h : O
 fed_line c s t l m n byte g h d e ends is empty p =
     let ended = lines_ended l byte [] ends in
     let r = p.runs in
-    let comes = λ (a : Session) (from : StandsFor s d.told a). comes_alone c m s t d e p.out r a from in
+    let comes = λ (a : Session) (from : StandsFor s d.known a). comes_alone c m s t d e p.out r a from in
     record {
       ios = r.io ∷ [];
       one_each = rw ended refl;
@@ -199,7 +199,7 @@ order_later first done later third next second is =
 
 -- Some lines were run, and why the run stopped among others; then this is why it stopped among all.
 stops_later : (c : Place) (s t : Seen) (l m xs : List ℕ) (second third : List (List ℕ)) (g h k : Option (List ℕ)) (d e f : DiskSeen) (stop : Stop) →
-    Feeds c s t l m xs g h d e → StopsAt c (StandsFor t e.told) second h k e f stop → StopsAt c (StandsFor s d.told) ((lines_after l xs ++ second) ++ third) g k d f stop
+    Feeds c s t l m xs g h d e → StopsAt c (StandsFor t e.known) second h k e f stop → StopsAt c (StandsFor s d.known) ((lines_after l xs ++ second) ++ third) g k d f stop
 stops_later c s t l m xs second third g h k d e f SinkFailed p q =
     let first = lines_after l xs in
     record {
@@ -250,8 +250,8 @@ stops_later c s t l m xs second third g h k d e f NoMemory p q =
 
 -- why the run stopped at some bytes, among others
 pub stops_fed : (c : Place) (s t : Seen) (l m xs ys zs : List ℕ) (g h k : Option (List ℕ)) (d e f : DiskSeen) (stop : Stop) →
-    Feeds c s t l m xs g h d e → StopsAt c (StandsFor t e.told) (lines_after m ys) h k e f stop →
-    StopsAt c (StandsFor s d.told) (lines_after l ((xs ++ ys) ++ zs)) g k d f stop
+    Feeds c s t l m xs g h d e → StopsAt c (StandsFor t e.known) (lines_after m ys) h k e f stop →
+    StopsAt c (StandsFor s d.known) (lines_after l ((xs ++ ys) ++ zs)) g k d f stop
 stops_fed c s t l m xs ys zs g h k d e f stop p q =
     let second = lines_after (rest_after l xs) ys in
     let third = lines_after (rest_after l (xs ++ ys)) zs in
@@ -260,13 +260,13 @@ stops_fed c s t l m xs ys zs g h k d e f stop p q =
 
 -- why the run stopped at the byte at a place
 pub stops_next : (c : Place) (s t : Seen) (l m bytes : List ℕ) (i : ℕ) (g h k : Option (List ℕ)) (d e f : DiskSeen) (stop : Stop) → i < length bytes →
-    Feeds c s t l m (take i bytes) g h d e → StopsAt c (StandsFor t e.told) (lines_after m (get_or bytes i 0 ∷ [])) h k e f stop →
-    StopsAt c (StandsFor s d.told) (lines_after l bytes) g k d f stop
+    Feeds c s t l m (take i bytes) g h d e → StopsAt c (StandsFor t e.known) (lines_after m (get_or bytes i 0 ∷ [])) h k e f stop →
+    StopsAt c (StandsFor s d.known) (lines_after l bytes) g k d f stop
 stops_next c s t l m bytes i g h k d e f stop below p q =
     let byte = get_or bytes i 0 ∷ [] in
     let whole : (take i bytes ++ byte) ++ drop (i + 1) bytes ≡ bytes =
     ap (λ front. front ++ drop (i + 1) bytes) (sym (take_more bytes i 0 below)) ∙ take-append-drop (i + 1) bytes in
-    subst (λ x. StopsAt c (StandsFor s d.told) (lines_after l x) g k d f stop) whole (stops_fed c s t l m (take i bytes) byte (drop (i + 1) bytes) g h k d e f stop p q)
+    subst (λ x. StopsAt c (StandsFor s d.known) (lines_after l x) g k d f stop) whole (stops_fed c s t l m (take i bytes) byte (drop (i + 1) bytes) g h k d e f stop p q)
 
 -- why a run stopped, from fewer sessions
 pub stops_from : (c : Place) (from less : Session → Type 0) (lines : List (List ℕ)) (g h : Option (List ℕ)) (d e : DiskSeen) (stop : Stop) →
@@ -310,7 +310,7 @@ stops_from c from less lines g h d e NoMemory into p =
 pub line_written : {T : Type 0} → (c : Place) (text : List ℕ) (s t : Seen) (out : Left) (g h : Option (List ℕ)) (d e : DiskSeen) (r : Result T Stop) →
     RunsLine c text s t d e out → t.lines ≤ s.lines + 1 →
     MatchResult r (λ _. Appends g h out.bytes) (λ stop. (stop ≡ SinkFailed) × AppendsPart g h out.bytes) →
-    MatchResult r (λ _. TakesLine c text s t g h d e) (StopsAt c (StandsFor s d.told) (text ∷ []) g h d e)
+    MatchResult r (λ _. TakesLine c text s t g h d e) (StopsAt c (StandsFor s d.known) (text ∷ []) g h d e)
 line_written c text s t out g h d e (Ok x) runs lines p =
     record { lines = lines; out = out; appended = p; runs = runs }
 line_written c text s t out g h d e (Err stop) runs lines p =
@@ -334,7 +334,7 @@ line_written c text s t out g h d e (Err stop) runs lines p =
 
 -- there was no memory for a line
 pub line_lacks : (c : Place) (text : List ℕ) (s : Seen) (g : Option (List ℕ)) (d e : DiskSeen) → e ≡ d → WantsAt s text →
-    StopsAt c (StandsFor s d.told) (text ∷ []) g g d e NoMemory
+    StopsAt c (StandsFor s d.known) (text ∷ []) g g d e NoMemory
 line_lacks c text s g d e same wants =
     rw same (record {
       done = [];
@@ -345,14 +345,14 @@ line_lacks c text s g d e same wants =
       one_each = refl;
       calls = all_made_none d;
       used = λ a from. tt;
-      wants = λ a from. wants d.told a from;
+      wants = λ a from. wants d.known a from;
       appended = λ a from. Appends-nil g;
       blocks = λ a from. from.blocks;
     })
 
 -- a line that ended with this byte was fed, or stopped the run
 pub line_ended : {T : Type 0} → (c : Place) (l m n : List ℕ) (byte : ℕ) (s t : Seen) (g h : Option (List ℕ)) (d e : DiskSeen) (r : Result T Stop) → ends_line l byte ≡ true → ended_line l byte ≡ m →
-    OnOk r (n ≡ []) → MatchResult r (λ _. TakesLine c m s t g h d e) (StopsAt c (StandsFor s d.told) (m ∷ []) g h d e) →
-    MatchResult r (λ _. Feeds c s t l n (byte ∷ []) g h d e) (StopsAt c (StandsFor s d.told) (lines_after l (byte ∷ [])) g h d e)
+    OnOk r (n ≡ []) → MatchResult r (λ _. TakesLine c m s t g h d e) (StopsAt c (StandsFor s d.known) (m ∷ []) g h d e) →
+    MatchResult r (λ _. Feeds c s t l n (byte ∷ []) g h d e) (StopsAt c (StandsFor s d.known) (lines_after l (byte ∷ [])) g h d e)
 line_ended c l m n byte s t g h d e (Ok x) ends is empty p = fed_line c s t l m n byte g h d e ends is empty p
 line_ended c l m n byte s t g h d e (Err stop) ends is empty p = rw (lines_ended l byte [] ends, is) p

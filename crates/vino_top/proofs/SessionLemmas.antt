@@ -29,12 +29,12 @@ use Rattle.kernel_state.specs.Sound.{world_for}
 use Rattle.placed_laws.specs.Agreeing.{SameShown}
 use Rattle.placed_laws.specs.Placed.{Placed}
 use Rattle.placed_laws.specs.PlacedRows.{placed_rows}
-use Rattle.kernel_core.specs.Happened.{Happened, EventIs}
+use Rattle.kernel_core.specs.EventRefines.{EventRefines, EventIs}
 use Rattle.kernel_core.specs.declared.kernel.BootNote.{BootNote}
 use Rattle.kernel_core.specs.Standing.{Booted, BootIs}
 use Rattle.vino_top.specs.Built.{present_build}
 use Rattle.vino_top.specs.Standing.{Seen, StandsFor, setup_of, code_seen}
-use Rattle.vino_top.specs.Run.{Place, line_run, Left, Says, Comes, RunsLine, RunsEntry, boot_line}
+use Rattle.vino_top.specs.Run.{Place, line_run, Left, LeavesText, LineMatches, RunsLine, RunsEntry, boot_line}
 
 -- what is booted isn't not booted
 pub up_is_down : {A : Type 0} → true ≡ false → A
@@ -66,12 +66,12 @@ first_patience = ap (λ (f : ℕ → ℕ). record first_setup { patience = f }) 
 -- ---- entries
 
 -- the next number of an event
-next_number : (s : Seen) (told : Option (List (List ℕ))) (a : Session) → StandsFor s told a → s.events + 1 ≡ suc a.events
-next_number s told a stands = add-one s.events ∙ ap suc (sym stands.events)
+next_number : (s : Seen) (known : Option (List (List ℕ))) (a : Session) → StandsFor s known a → s.events + 1 ≡ suc a.events
+next_number s known a stands = add-one s.events ∙ ap suc (sym stands.events)
 
 -- a session goes on by an event, and writes the lines of its notes
 pub event_runs : (c : Place) (s : Seen) (x : Placed) (what : Event) (notes : List Note) (out : Left) (d e : DiskSeen) →
-    s.booted ≡ true → Happened plain s.placed x (s.events + 1) what notes d e → out.bytes ≡ note_lines notes → out.notes ≡ notes →
+    s.booted ≡ true → EventRefines plain s.placed x (s.events + 1) what notes d e → out.bytes ≡ note_lines notes → out.notes ≡ notes →
     RunsEntry c (Happens what) s (record s { placed = x; events = s.events + 1 }) d e out
 event_runs c s x what notes out d e booted h text kept =
     record {
@@ -81,13 +81,13 @@ event_runs c s x what notes out d e booted h text kept =
           let has = stands.booted booted in
           let io = h.io ++ rest in
           let n = suc a.events in
-          let number = next_number s d.told a stands in
+          let number = next_number s d.known a stands in
           let r = event plain has.kernel a.blocks n what io in
-          let is : EventIs plain r x notes e.told rest =
-          subst (λ (m : ℕ). EventIs plain (event plain has.kernel a.blocks m what io) x notes e.told rest) number (h.is has.kernel a.blocks rest has.stands has.rests stands.blocks) in
+          let is : EventIs plain r x notes e.known rest =
+          subst (λ (m : ℕ). EventIs plain (event plain has.kernel a.blocks m what io) x notes e.known rest) number (h.is has.kernel a.blocks rest has.stands has.rests stands.blocks) in
           let run : after_entry present_build c.keys c.size a (Happens what) io ≡ after_event a n r =
           ap (λ (o : Option abstract.Kernel). running_in present_build c.keys c.size a (Happens what) o io) has.is in
-          subst (λ w. Comes (record s { placed = x; events = s.events + 1 }) e.told out w rest) (sym run) (record {
+          subst (λ w. LineMatches (record s { placed = x; events = s.events + 1 }) e.known out w rest) (sym run) (record {
             stands = record {
               setup = stands.setup;
               lines = stands.lines;
@@ -104,10 +104,10 @@ event_runs c s x what notes out d e booted h text kept =
     }
 
 -- what comes of a boot: block 0 was read, or that failed
-boot_comes : (c : Place) (s : Seen) (x : Placed) (io : List Bool) (note : BootNote) (out : Left) (told told_new : Option (List (List ℕ))) (a : Session) (rest : List Bool) →
-    length io ≡ 1 → StandsFor s told a → BootIs plain s.setup c.size a.blocks io x note told_new → Says out (line (boot_line note)) →
-    Comes (record s { placed = x; booted = true }) told_new out (after_entry present_build c.keys c.size a Boot (io ++ rest)) rest
-boot_comes c s x (true ∷ []) note out told told_new a rest one stands is said =
+boot_comes : (c : Place) (s : Seen) (x : Placed) (io : List Bool) (note : BootNote) (out : Left) (known told_new : Option (List (List ℕ))) (a : Session) (rest : List Bool) →
+    length io ≡ 1 → StandsFor s known a → BootIs plain s.setup c.size a.blocks io x note told_new → LeavesText out (line (boot_line note)) →
+    LineMatches (record s { placed = x; booted = true }) told_new out (after_entry present_build c.keys c.size a Boot (io ++ rest)) rest
+boot_comes c s x (true ∷ []) note out known told_new a rest one stands is said =
     record {
       stands = record {
         setup = stands.setup;
@@ -127,7 +127,7 @@ boot_comes c s x (true ∷ []) note out told told_new a rest one stands is said 
       bytes = said.bytes_are ∙ ap (λ (y : BootNote). line (boot_line y)) is.note_is;
       notes = said.no_notes;
     }
-boot_comes c s x (false ∷ []) note out told told_new a rest one stands is said =
+boot_comes c s x (false ∷ []) note out known told_new a rest one stands is said =
     let rows = directory_of c.size (a.blocks 0) in
     record {
       stands = record {
@@ -148,52 +148,52 @@ boot_comes c s x (false ∷ []) note out told told_new a rest one stands is said
       notes = said.no_notes;
       bytes = said.bytes_are ∙ ap (λ (y : BootNote). line (boot_line y)) is.note_is ∙ ap (λ (u : Setup). line (boot_text u.frames c.size (usable_count rows))) (sym stands.setup);
     }
-boot_comes c s x [] note out told told_new a rest one stands is said = absurd (omega (arith, one))
-boot_comes c s x (y ∷ z ∷ io) note out told told_new a rest one stands is said = absurd (omega (arith, one))
+boot_comes c s x [] note out known told_new a rest one stands is said = absurd (omega (arith, one))
+boot_comes c s x (y ∷ z ∷ io) note out known told_new a rest one stands is said = absurd (omega (arith, one))
 
 -- a session once the kernel began
 pub boot_runs : (c : Place) (s : Seen) (x : Placed) (note : BootNote) (out : Left) (d e : DiskSeen) →
-    Booted plain s.setup c.size x note d e → Says out (line (boot_line note)) → RunsEntry c Boot s (record s { placed = x; booted = true }) d e out
+    Booted plain s.setup c.size x note d e → LeavesText out (line (boot_line note)) → RunsEntry c Boot s (record s { placed = x; booted = true }) d e out
 boot_runs c s x note out d e h said =
-    record { io = h.io; made = h.made; comes = λ a rest stands. boot_comes c s x h.io note out d.told e.told a rest h.one stands (h.is a.blocks stands.blocks) said }
+    record { io = h.io; made = h.made; comes = λ a rest stands. boot_comes c s x h.io note out d.known e.known a rest h.one stands (h.is a.blocks stands.blocks) said }
 
 -- a session went on by an entry that leaves the disk alone
 pub alone : (c : Place) (entry : Entry) (s t : Seen) (out : Left) (d : DiskSeen) →
-    ((a : Session) (rest : List Bool) → StandsFor s d.told a →
-    Comes t d.told out (after_entry present_build c.keys c.size a entry rest) rest) → RunsEntry c entry s t d d out
+    ((a : Session) (rest : List Bool) → StandsFor s d.known a →
+    LineMatches t d.known out (after_entry present_build c.keys c.size a entry rest) rest) → RunsEntry c entry s t d d out
 alone c entry s t out d comes = record { io = []; made = made_none d.faults d.plan; comes = comes }
 
 -- a blank line
-pub blank_runs : (c : Place) (s : Seen) (out : Left) (d : DiskSeen) → Says out [] → RunsEntry c Blank s s d d out
+pub blank_runs : (c : Place) (s : Seen) (out : Left) (d : DiskSeen) → LeavesText out [] → RunsEntry c Blank s s d d out
 blank_runs c s out d silent = alone c Blank s s out d (λ a rest stands. record { stands = stands; left = refl; bytes = silent.bytes_are; notes = silent.no_notes })
 
 -- a session with another set-up
-set_up : (s : Seen) (u : _) (told : Option (List (List ℕ))) (a : Session) (v : Setup) → v ≡ setup_of u → StandsFor s told a → StandsFor (record s { setup = u }) told (record a { setup = v })
-set_up s u told a v is stands =
+set_up : (s : Seen) (u : _) (known : Option (List (List ℕ))) (a : Session) (v : Setup) → v ≡ setup_of u → StandsFor s known a → StandsFor (record s { setup = u }) known (record a { setup = v })
+set_up s u known a v is stands =
     record { setup = is; lines = stands.lines; events = stands.events; refused = stands.refused; unbooted = stands.unbooted; booted = stands.booted; blocks = stands.blocks }
 
 -- a line that sets the frames
-pub frames_runs : (c : Place) (s : Seen) (n : ℕ) (out : Left) (d : DiskSeen) → Says out [] →
+pub frames_runs : (c : Place) (s : Seen) (n : ℕ) (out : Left) (d : DiskSeen) → LeavesText out [] →
     RunsEntry c (Frames n) s (record s { setup = record (s.setup) { frames = n } }) d d out
 frames_runs c s n out d silent =
     alone c (Frames n) s (record s { setup = record (s.setup) { frames = n } }) out d (λ a rest stands.
-    record { stands = set_up s (record (s.setup) { frames = n }) d.told a (record (a.setup) { frames = n }) (ap (λ (u : Setup). record u { frames = n }) stands.setup) stands; left = refl; bytes = silent.bytes_are; notes = silent.no_notes })
+    record { stands = set_up s (record (s.setup) { frames = n }) d.known a (record (a.setup) { frames = n }) (ap (λ (u : Setup). record u { frames = n }) stands.setup) stands; left = refl; bytes = silent.bytes_are; notes = silent.no_notes })
 
 -- a line that sets the grant
-pub grant_runs : (c : Place) (s : Seen) (n : ℕ) (out : Left) (d : DiskSeen) → Says out [] →
+pub grant_runs : (c : Place) (s : Seen) (n : ℕ) (out : Left) (d : DiskSeen) → LeavesText out [] →
     RunsEntry c (Grant n) s (record s { setup = record (s.setup) { grant = n } }) d d out
 grant_runs c s n out d silent =
     alone c (Grant n) s (record s { setup = record (s.setup) { grant = n } }) out d (λ a rest stands.
-    record { stands = set_up s (record (s.setup) { grant = n }) d.told a (record (a.setup) { grant = n }) (ap (λ (u : Setup). record u { grant = n }) stands.setup) stands; left = refl; bytes = silent.bytes_are; notes = silent.no_notes })
+    record { stands = set_up s (record (s.setup) { grant = n }) d.known a (record (a.setup) { grant = n }) (ap (λ (u : Setup). record u { grant = n }) stands.setup) stands; left = refl; bytes = silent.bytes_are; notes = silent.no_notes })
 
 -- a line that sets the patience with a kind of object
 pub patience_runs : (c : Place) (s : Seen) (kind ticks : ℕ) (patience : List ℕ) (out : Left) (d : DiskSeen) →
-    (λ k. slice_index_or patience k 10) ≡ at kind ticks (λ k. slice_index_or s.setup.patience k 10) → Says out [] →
+    (λ k. slice_index_or patience k 10) ≡ at kind ticks (λ k. slice_index_or s.setup.patience k 10) → LeavesText out [] →
     RunsEntry c (Patience kind ticks) s (record s { setup = record (s.setup) { patience = patience } }) d d out
 patience_runs c s kind ticks patience out d is silent =
     alone c (Patience kind ticks) s (record s { setup = record (s.setup) { patience = patience } }) out d (λ a rest stands.
     record {
-      stands = set_up s (record (s.setup) { patience = patience }) d.told a (with_patience kind ticks a.setup)
+      stands = set_up s (record (s.setup) { patience = patience }) d.known a (with_patience kind ticks a.setup)
           (ap (with_patience kind ticks) stands.setup ∙ ap (λ (f : ℕ → ℕ). record (setup_of s.setup) { patience = f }) (sym is)) stands;
       left = refl;
       bytes = silent.bytes_are;
@@ -203,25 +203,25 @@ patience_runs c s kind ticks patience out d is silent =
 -- an entry after `boot` that stands before it
 pub unbooted_runs : (c : Place) (entry : Entry) (s : Seen) (out : Left) (d : DiskSeen) → ((a : Session) (rest : List Bool) →
     after_entry present_build c.keys c.size a entry rest ≡ running_in present_build c.keys c.size a entry a.kernel rest) →
-    s.booted ≡ false → Says out [] → RunsEntry c entry s s d d out
+    s.booted ≡ false → LeavesText out [] → RunsEntry c entry s s d d out
 unbooted_runs c entry s out d runs booted said =
     alone c entry s s out d (λ a rest stands.
     let run : after_entry present_build c.keys c.size a entry rest ≡ silent a rest =
     runs a rest ∙ ap (λ (o : Option abstract.Kernel). running_in present_build c.keys c.size a entry o rest) (stands.unbooted booted) in
-    subst (λ w. Comes s d.told out w rest) (sym run) (record { stands = stands; left = refl; bytes = said.bytes_are; notes = said.no_notes }))
+    subst (λ w. LineMatches s d.known out w rest) (sym run) (record { stands = stands; left = refl; bytes = said.bytes_are; notes = said.no_notes }))
 
 -- the rows of the kernel's whole state
 pub raw_runs : SameShown plain → (c : Place) (s : Seen) (out : Left) (d : DiskSeen) → s.booted ≡ true →
-    Says out (row_lines (s.events + 1) (placed_rows s.placed)) →
+    LeavesText out (row_lines (s.events + 1) (placed_rows s.placed)) →
     RunsEntry c Raw s (record s { events = s.events + 1 }) d d out
 raw_runs shown c s out d booted said =
     alone c Raw s (record s { events = s.events + 1 }) out d (λ a rest stands.
     let has = stands.booted booted in
     let n = suc a.events in
-    let number = next_number s d.told a stands in
+    let number = next_number s d.known a stands in
     let run : after_entry present_build c.keys c.size a Raw rest ≡ says (record a { events = n }) (row_lines n (raw_rows plain has.kernel)) rest =
     ap (λ (o : Option abstract.Kernel). running_in present_build c.keys c.size a Raw o rest) has.is in
-    subst (λ w. Comes (record s { events = s.events + 1 }) d.told out w rest) (sym run) (record {
+    subst (λ w. LineMatches (record s { events = s.events + 1 }) d.known out w rest) (sym run) (record {
       stands = record {
         setup = stands.setup;
         lines = stands.lines;
@@ -239,12 +239,12 @@ raw_runs shown c s out d booted said =
 -- ---- lines
 
 -- a kernel of the abstract session is there where the code's is booted
-kernel_is_some : (s : Seen) (told : Option (List (List ℕ))) (a : Session) (b : Bool) → StandsFor s told a → s.booted ≡ b → is_some a.kernel ≡ b
-kernel_is_some s told a false stands h = ap is_some (stands.unbooted h)
-kernel_is_some s told a true stands h = ap is_some (stands.booted h).is
+kernel_is_some : (s : Seen) (known : Option (List (List ℕ))) (a : Session) (b : Bool) → StandsFor s known a → s.booted ≡ b → is_some a.kernel ≡ b
+kernel_is_some s known a false stands h = ap is_some (stands.unbooted h)
+kernel_is_some s known a true stands h = ap is_some (stands.booted h).is
 
 -- a session after a refused line
-pub line_after_refusal : (c : Place) (s : Seen) (text : List ℕ) (out : Left) (d : DiskSeen) → s.refused ≡ true → Says out [] → RunsLine c text s s d d out
+pub line_after_refusal : (c : Place) (s : Seen) (text : List ℕ) (out : Left) (d : DiskSeen) → s.refused ≡ true → LeavesText out [] → RunsLine c text s s d d out
 line_after_refusal c s text out d refused said =
     record {
       io = [];
@@ -255,25 +255,25 @@ line_after_refusal c s text out d refused said =
             | true ↦ silent a rest
             | false ↦ after_parse present_build c.keys c.size (record a { lines = suc a.lines }) (parsed_line (is_some a.kernel) text) rest
           ]) (stands.refused ∙ refused) in
-          subst (λ w. Comes s d.told out w rest) (sym is) (record { stands = stands; left = refl; bytes = said.bytes_are; notes = said.no_notes });
+          subst (λ w. LineMatches s d.known out w rest) (sym is) (record { stands = stands; left = refl; bytes = said.bytes_are; notes = said.no_notes });
     }
 
 -- a line of a session that goes on is what its words say
-line_parsed : (c : Place) (s : Seen) (told : Option (List (List ℕ))) (a : Session) (text : List ℕ) (said : Result Entry ScriptFault) (io : List Bool) →
-    StandsFor s told a → s.refused ≡ false → parsed_line s.booted text ≡ said →
+line_parsed : (c : Place) (s : Seen) (known : Option (List (List ℕ))) (a : Session) (text : List ℕ) (said : Result Entry ScriptFault) (io : List Bool) →
+    StandsFor s known a → s.refused ≡ false → parsed_line s.booted text ≡ said →
     line_run c a text io ≡ after_parse present_build c.keys c.size (record a { lines = suc a.lines }) said io
-line_parsed c s told a text said io stands going is =
+line_parsed c s known a text said io stands going is =
     let u = record a { lines = suc a.lines } in
     ap (λ (refused : Bool). elim refused as (λ _. Written) [
       | true ↦ silent a io
       | false ↦ after_parse present_build c.keys c.size u (parsed_line (is_some a.kernel) text) io
     ]) (stands.refused ∙ going)
-    ∙ ap (λ (b : Bool). after_parse present_build c.keys c.size u (parsed_line b text) io) (kernel_is_some s told a s.booted stands refl)
+    ∙ ap (λ (b : Bool). after_parse present_build c.keys c.size u (parsed_line b text) io) (kernel_is_some s known a s.booted stands refl)
     ∙ ap (λ (r : Result Entry ScriptFault). after_parse present_build c.keys c.size u r io) is
 
 -- a session whose next line was counted
-counted : (s : Seen) (told : Option (List (List ℕ))) (a : Session) → StandsFor s told a → StandsFor (record s { lines = s.lines + 1 }) told (record a { lines = suc a.lines })
-counted s told a stands =
+counted : (s : Seen) (known : Option (List (List ℕ))) (a : Session) → StandsFor s known a → StandsFor (record s { lines = s.lines + 1 }) known (record a { lines = suc a.lines })
+counted s known a stands =
     record {
       setup = stands.setup;
       lines = ap suc stands.lines ∙ sym (add-one s.lines);
@@ -292,28 +292,28 @@ line_entered c s t text out entry d e going is runs =
       io = runs.io;
       made = runs.made;
       comes = λ a rest stands.
-          subst (λ w. Comes t e.told out w rest) (sym (line_parsed c s d.told a text (Ok entry) (runs.io ++ rest) stands going is))
-          (runs.comes (record a { lines = suc a.lines }) rest (counted s d.told a stands));
+          subst (λ w. LineMatches t e.known out w rest) (sym (line_parsed c s d.known a text (Ok entry) (runs.io ++ rest) stands going is))
+          (runs.comes (record a { lines = suc a.lines }) rest (counted s d.known a stands));
     }
 
 -- a session that refused its line
-refused_now : (s : Seen) (told : Option (List (List ℕ))) (a : Session) → StandsFor s told a → StandsFor (record s { refused = true }) told (record a { refused = true })
-refused_now s told a stands =
+refused_now : (s : Seen) (known : Option (List (List ℕ))) (a : Session) → StandsFor s known a → StandsFor (record s { refused = true }) known (record a { refused = true })
+refused_now s known a stands =
     record { setup = stands.setup; lines = stands.lines; events = stands.events; refused = refl; unbooted = stands.unbooted; booted = stands.booted; blocks = stands.blocks }
 
 -- a line is refused for this fault
 pub line_refused : (c : Place) (s t : Seen) (text : List ℕ) (out : Left) (fault : ScriptFault) (d : DiskSeen) → s.refused ≡ false →
     parsed_line s.booted text ≡ Err fault → t ≡ record s { lines = s.lines + 1; refused = true } →
-    Says out (line (codes "script" ++ spaced (s.lines + 1) ++ codes " S" ++ decimal (fault_number fault))) → RunsLine c text s t d d out
+    LeavesText out (line (codes "script" ++ spaced (s.lines + 1) ++ codes " S" ++ decimal (fault_number fault))) → RunsLine c text s t d d out
 line_refused c s t text out fault d going is state said =
     record {
       io = [];
       made = made_none d.faults d.plan;
       comes = λ a rest stands.
-          let u = counted s d.told a stands in
-          subst (λ w. Comes t d.told out w rest) (sym (line_parsed c s d.told a text (Err fault) rest stands going is)) (record {
-            stands = subst (λ (x : Seen). StandsFor x d.told (record a { lines = suc a.lines; refused = true })) (sym state)
-                (refused_now (record s { lines = s.lines + 1 }) d.told (record a { lines = suc a.lines }) u);
+          let u = counted s d.known a stands in
+          subst (λ w. LineMatches t d.known out w rest) (sym (line_parsed c s d.known a text (Err fault) rest stands going is)) (record {
+            stands = subst (λ (x : Seen). StandsFor x d.known (record a { lines = suc a.lines; refused = true })) (sym state)
+                (refused_now (record s { lines = s.lines + 1 }) d.known (record a { lines = suc a.lines }) u);
             left = refl;
             notes = said.no_notes;
             bytes = said.bytes_are ∙ ap (λ n. line (codes "script" ++ spaced n ++ codes " S" ++ decimal (fault_number fault))) (sym u.lines);
@@ -333,7 +333,7 @@ long_said true booted text h = refl
 long_said false booted text h = down_is_up h
 
 pub line_too_long : (c : Place) (s t : Seen) (text : List ℕ) (out : Left) (d : DiskSeen) → s.refused ≡ false → 65536 < length text → t ≡ record s { lines = s.lines + 1; refused = true } →
-    Says out (line (codes "script" ++ spaced (s.lines + 1) ++ codes " S" ++ decimal 3)) → RunsLine c text s t d d out
+    LeavesText out (line (codes "script" ++ spaced (s.lines + 1) ++ codes " S" ++ decimal 3)) → RunsLine c text s t d d out
 line_too_long c s t text out d going long state written =
     let is : nat_lt LINE_BYTES (length text) ≡ true = grind (arith, nat_tests, long) in
     line_refused c s t text out script_is.TooLong d going (long_said (nat_lt LINE_BYTES (length text)) s.booted text is) state written
@@ -353,7 +353,7 @@ refused_as text.UnknownCommand said r = record { fault = script_is.UnknownComman
 -- a line is refused with this code
 pub line_refused_as : (c : Place) (s t : Seen) (text : List ℕ) (out : Left) (fault : TextFault) (code : ℕ) (d : DiskSeen) → s.refused ≡ false →
     code ≡ code_seen fault → Refuses fault (parsed_line s.booted text) → t ≡ record s { lines = s.lines + 1; refused = true } →
-    Says out (line (codes "script" ++ spaced (s.lines + 1) ++ codes " S" ++ decimal code)) → RunsLine c text s t d d out
+    LeavesText out (line (codes "script" ++ spaced (s.lines + 1) ++ codes " S" ++ decimal code)) → RunsLine c text s t d d out
 line_refused_as c s t text out fault code d going seen refuses state written =
     let r = refused_as fault (parsed_line s.booted text) refuses in
     line_refused c s t text out r.fault d going r.is state (rw (r.number, ← seen) written)

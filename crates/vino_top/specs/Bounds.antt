@@ -2,14 +2,13 @@
 use Rattle.std.specs.Prelude.{◌≡◌, ℕ, ◌≤◌, true, false}
 use Rattle.kernel_model.specs.Pieces.{plain}
 use Rattle.call_pieces.specs.Works.{stage_of}
-use Rattle.kernel_core.specs.Happened.{IsKernel}
+use Rattle.kernel_core.specs.EventRefines.{IsKernel}
 use Rattle.kernel_core.specs.Standing.{IsBlank}
 use Rattle.vino_top.specs.Standing.{caller_of}
 use Rattle.vino_top.specs.declared.session.Session.{Session}
 
 -- On a disk of this size: the set-up is within its limits, each event had a line, and the kernel
--- had at most a tick for each event.
--- Before `boot` nothing came yet.
+-- had at most a tick for each event. Before `boot` nothing came yet.
 pub record IsSessionWithin {B : Type 0} {P : _} (size : ℕ) (s : Session B P) : Type 0 where
   pub frames_least : 2 ≤ s.setup.frames
   pub frames_most : s.setup.frames ≤ 64

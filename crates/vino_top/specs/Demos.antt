@@ -1,6 +1,6 @@
 -- Lines run one after another, and what `demo` makes of the script that it generates.
 use Rattle.std.specs.Prelude.{◌≡◌, ℕ, ◌+◌, ◌*◌, ◌≤◌, Bool, List, [], ◌∷◌, ◌++◌, length}
-use Rattle.disk_log.specs.Calls.{Tells}
+use Rattle.disk_log.specs.Calls.{Knows}
 use Rattle.disk_log.specs.Seen.{DiskSeen}
 use Rattle.kernel_model.specs.World.{Blocks}
 use Rattle.kernel_model.specs.Session.{Session, Written, after_lines}
@@ -9,7 +9,7 @@ use Rattle.demo_text.specs.declared.tally.Tally.{Tally}
 use Rattle.demo_text.specs.Tallies.{IsTally}
 use Rattle.vino_top.specs.Built.{present_build}
 use Rattle.vino_top.specs.Standing.{Seen, StandsFor}
-use Rattle.vino_top.specs.Run.{Place, place, lines_run, UsesAll, MadeAll, Whenever, IsFirst, WantsMemory, WantsAt, Left, Comes}
+use Rattle.vino_top.specs.Run.{Place, place, lines_run, UsesAll, MadeAll, ForEachSession, IsFirst, WantsMemory, WantsAt, Left, LineMatches}
 
 -- what all these lines make of a session, and what they write
 abbrev pub all_run : Place → Session → List (List ℕ) → List (List Bool) → Written
@@ -22,8 +22,8 @@ pub record RanLines (c : Place) (texts : List (List ℕ)) (s t : Seen) (d e : Di
   pub ios : List (List Bool)
   pub one_each : length ios ≡ length texts
   pub calls : MadeAll d e ios
-  pub used : Whenever c (StandsFor s d.told) (λ c a. UsesAll c a texts ios)
-  pub comes : Whenever c (StandsFor s d.told) (λ c a. Comes t e.told out (all_run c a texts ios) [])
+  pub used : ForEachSession c (StandsFor s d.known) (λ c a. UsesAll c a texts ios)
+  pub comes : ForEachSession c (StandsFor s d.known) (λ c a. LineMatches t e.known out (all_run c a texts ios) [])
 
 -- both of these, in order
 abbrev pub joined : Left → Left → Left
@@ -49,18 +49,18 @@ abbrev pub demo_told : (n size : ℕ) → Blocks → List (List Bool) → List �
 demo_told n size blocks ios = summary present_build n (record { size = size; block = blocks }) ios
 
 -- The script of a number was run to its end. Over the blocks that the disk told: each line made the
--- calls of its list, the
--- line that tells of it all was written so, and the disk tells the blocks that are left.
+-- calls of its list, the line that tells of it all was written so, and the disk tells the blocks
+-- that are left.
 pub record DemoRan (n size : ℕ) (d e : DiskSeen) (Writes : List ℕ → Type 0) : Type 0 where
   pub ios : List (List Bool)
   pub one_each : length ios ≡ length (demo_lines n)
   pub calls : MadeAll d e ios
-  pub used : Whenever (demo_place size) (IsFirst size d.told)
+  pub used : ForEachSession (demo_place size) (IsFirst size d.known)
       (λ c a. UsesAll c a (demo_lines n) ios)
-  pub writes : Whenever (demo_place size) (IsFirst size d.told)
+  pub writes : ForEachSession (demo_place size) (IsFirst size d.known)
       (λ c a. Writes (demo_told n size a.blocks ios))
-  pub blocks : Whenever (demo_place size) (IsFirst size d.told)
-      (λ c a. Tells e.told (lines_run c a (demo_lines n) ios).blocks)
+  pub blocks : ForEachSession (demo_place size) (IsFirst size d.known)
+      (λ c a. Knows e.known (lines_run c a (demo_lines n) ios).blocks)
 
 -- For the image of a line there was no memory. The disk is as the lines before it leave it.
 pub record DemoLacked (n size : ℕ) (d e : DiskSeen) : Type 0 where
@@ -71,11 +71,11 @@ pub record DemoLacked (n size : ℕ) (d e : DiskSeen) : Type 0 where
   pub ios : List (List Bool)
   pub one_each : length ios ≡ length done
   pub calls : MadeAll d e ios
-  pub wants : Whenever (demo_place size) (IsFirst size d.told)
+  pub wants : ForEachSession (demo_place size) (IsFirst size d.known)
       (λ c a. WantsMemory (lines_run c a done ios) next)
-  pub used : Whenever (demo_place size) (IsFirst size d.told) (λ c a. UsesAll c a done ios)
-  pub blocks : Whenever (demo_place size) (IsFirst size d.told)
-      (λ c a. Tells e.told (lines_run c a done ios).blocks)
+  pub used : ForEachSession (demo_place size) (IsFirst size d.known) (λ c a. UsesAll c a done ios)
+  pub blocks : ForEachSession (demo_place size) (IsFirst size d.known)
+      (λ c a. Knows e.known (lines_run c a done ios).blocks)
 
 -- ---- the steps of its run
 

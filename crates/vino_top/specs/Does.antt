@@ -50,8 +50,8 @@ abbrev pub DemoDoes : (n size : ℕ) → (rest rest_new got got_new : Option (Li
     (d e : DiskSeen) → (status : ℕ) → Type 0
 DemoDoes n size rest rest_new got got_new d e status =
     Keeps rest rest_new
-    × ((status ≡ 0) × DemoRan n size d e (λ told. Appends got got_new told)
-    ⊎ (status ≡ 4) × DemoRan n size d e (λ told. AppendsPart got got_new told)
+    × ((status ≡ 0) × DemoRan n size d e (λ known. Appends got got_new known)
+    ⊎ (status ≡ 4) × DemoRan n size d e (λ known. AppendsPart got got_new known)
     ⊎ (status ≡ 5) × Keeps got got_new × ((e ≡ d) ⊎ DemoLacked n size d e))
 
 -- what is done for what the words ask, over a disk of this size

@@ -3,7 +3,7 @@ use Rattle.std.specs.Prelude.{◌≡◌, ℕ, ◌+◌, ◌<◌, ◌≤◌, ◌�
 use Rattle.std.specs.List.{concat}
 use Rattle.std.specs.Io.KnownBytes.{Appends, Consumes, IsAtEnd}
 use Rattle.filters.specs.Filtered.{HasEnded}
-use Rattle.disk_log.specs.Calls.{Tells, Made}
+use Rattle.disk_log.specs.Calls.{Knows, Made}
 use Rattle.disk_log.specs.Seen.{DiskSeen}
 use Rattle.kernel_model.specs.declared.Keys.{Keys}
 use Rattle.kernel_model.specs.declared.Note.{Note}
@@ -47,8 +47,7 @@ abbrev pub pieces_run : Place → Session → List (List ℕ) → List (List Boo
 pieces_run c a texts ios = pieces_of present_build c.keys c.size a texts ios
 
 -- The line makes these calls of the disk, no fewer and no more: whatever the calls behind them
--- would do, it leaves those, writes
--- the same bytes and comes to the same blocks.
+-- would do, it leaves those, writes the same bytes and comes to the same blocks.
 pub record Uses (c : Place) (a : Session) (text : List ℕ) (io : List Bool) : Type 0 where
   pub left : (rest : List Bool) → (line_run c a text (io ++ rest)).io ≡ rest
   pub bytes : (rest : List Bool) →
@@ -90,41 +89,38 @@ abbrev pub left_in : Buffers → Left
 left_in b = record { bytes = b.lines; notes = b.notes }
 
 -- these bytes are left behind, and no note
-pub record Says (out : Left) (bytes : List ℕ) : Type 0 where
+pub record LeavesText (out : Left) (bytes : List ℕ) : Type 0 where
   pub bytes_are : out.bytes ≡ bytes
   pub no_notes : out.notes ≡ []
 
 -- what came of a line or an entry: the session and the disk stand for what is written of them, of
--- the calls that were told
--- these are left, and the bytes and notes are those that are left behind
-pub record Comes (t : Seen) (told : Option (List (List ℕ))) (out : Left) (w : Written)
+-- the calls that were told these are left, and the bytes and notes are those that are left behind
+pub record LineMatches (t : Seen) (known : Option (List (List ℕ))) (out : Left) (w : Written)
     (rest : List Bool) : Type 0 where
-  pub stands : StandsFor t told w.session
+  pub stands : StandsFor t known w.session
   pub left : w.io ≡ rest
   pub bytes : out.bytes ≡ w.bytes
   pub notes : out.notes ≡ w.notes
 
 -- The session went on by this line, which took the disk from the one to the other and left `out`
--- behind. Whatever calls
--- behind its own would do, the line comes to this, and leaves those.
+-- behind. Whatever calls behind its own would do, the line comes to this, and leaves those.
 pub record RunsLine (c : Place) (text : List ℕ) (s t : Seen) (d e : DiskSeen)
     (out : Left) : Type 0 where
   -- which of its calls of the disk failed
   pub io : List Bool
   pub made : Made d.faults e.faults d.plan e.plan io
-  pub comes : (a : Session) (rest : List Bool) → StandsFor s d.told a →
-      Comes t e.told out (line_run c a text (io ++ rest)) rest
+  pub comes : (a : Session) (rest : List Bool) → StandsFor s d.known a →
+      LineMatches t e.known out (line_run c a text (io ++ rest)) rest
 
 -- The session went on by this entry, which took the disk from the one to the other and left `out`
--- behind. Whatever calls
--- behind its own would do, the entry comes to this, and leaves those.
+-- behind. Whatever calls behind its own would do, the entry comes to this, and leaves those.
 pub record RunsEntry (c : Place) (entry : Entry) (s t : Seen) (d e : DiskSeen)
     (out : Left) : Type 0 where
   -- which of its calls of the disk failed
   pub io : List Bool
   pub made : Made d.faults e.faults d.plan e.plan io
-  pub comes : (a : Session) (rest : List Bool) → StandsFor s d.told a →
-      Comes t e.told out (after_entry present_build c.keys c.size a entry (io ++ rest)) rest
+  pub comes : (a : Session) (rest : List Bool) → StandsFor s d.known a →
+      LineMatches t e.known out (after_entry present_build c.keys c.size a entry (io ++ rest)) rest
 
 -- what is written of a boot
 abbrev pub boot_line : BootNote → List ℕ
@@ -141,8 +137,7 @@ pub record LoadsFree (s : Seen) (e : Entry) : Type 0 where
   pub free : is_some (s.placed.images slot) ≡ false
 
 -- The line is run, its words are right, and its image goes to a slot that is in range and free.
--- Only such a line wants
--- memory.
+-- Only such a line wants memory.
 pub record WantsMemory (a : Session) (text : List ℕ) : Type 0 where
   pub going : a.refused ≡ false
   pub kernel : Kernel
@@ -155,12 +150,12 @@ pub record WantsMemory (a : Session) (text : List ℕ) : Type 0 where
 
 -- so it is in whichever session this one stands for
 abbrev pub WantsAt : Seen → List ℕ → Type 0
-WantsAt s text = (told : Option (List (List ℕ))) (a : Session) → StandsFor s told a →
+WantsAt s text = (known : Option (List (List ℕ))) (a : Session) → StandsFor s known a →
     WantsMemory a text
 
 -- from whichever of these sessions
-abbrev pub Whenever : Place → (Session → Type 0) → (Place → Session → Type 0) → Type 0
-Whenever c from holds = (a : Session) → from a → holds c a
+abbrev pub ForEachSession : Place → (Session → Type 0) → (Place → Session → Type 0) → Type 0
+ForEachSession c from holds = (a : Session) → from a → holds c a
 
 -- These bytes were fed to a session and to the line that was being read. The sink took what they
 -- write.
@@ -171,15 +166,14 @@ pub record Feeds (c : Place) (s t : Seen) (line line_new bytes : List ℕ)
   pub calls : MadeAll d e ios
   pub line_is : line_new ≡ rest_after line bytes
   pub lines : t.lines ≤ s.lines + length bytes
-  pub stands : Whenever c (StandsFor s d.told)
-      (λ c a. StandsFor t e.told (lines_run c a (lines_after line bytes) ios))
-  pub used : Whenever c (StandsFor s d.told) (λ c a. UsesAll c a (lines_after line bytes) ios)
-  pub appended : Whenever c (StandsFor s d.told)
+  pub stands : ForEachSession c (StandsFor s d.known)
+      (λ c a. StandsFor t e.known (lines_run c a (lines_after line bytes) ios))
+  pub used : ForEachSession c (StandsFor s d.known) (λ c a. UsesAll c a (lines_after line bytes) ios)
+  pub appended : ForEachSession c (StandsFor s d.known)
       (λ c a. Appends got got_new (concat (pieces_run c a (lines_after line bytes) ios)))
 
 -- Of these lines some were run, and of what the next one writes the sink took a part, not whole.
--- The disk is as that line
--- leaves it.
+-- The disk is as that line leaves it.
 pub record CutsShort (c : Place) (from : Session → Type 0) (lines : List (List ℕ))
     (got got_new : Option (List ℕ)) (d e : DiskSeen) : Type 0 where
   pub done : List (List ℕ)
@@ -193,13 +187,13 @@ pub record CutsShort (c : Place) (from : Session → Type 0) (lines : List (List
   pub part : List ℕ
   pub more : List ℕ
   pub lacks : 0 < length more
-  pub used : Whenever c from (λ c a. UsesAll c a done ios × Uses c (lines_run c a done ios) next io)
-  pub bytes : Whenever c from (λ c a. (line_run c (lines_run c a done ios) next io).bytes ≡ part
+  pub used : ForEachSession c from (λ c a. UsesAll c a done ios × Uses c (lines_run c a done ios) next io)
+  pub bytes : ForEachSession c from (λ c a. (line_run c (lines_run c a done ios) next io).bytes ≡ part
       ++ more)
-  pub appended : Whenever c from
+  pub appended : ForEachSession c from
       (λ c a. Appends got got_new (concat (pieces_run c a done ios) ++ part))
-  pub blocks : Whenever c from
-      (λ c a. Tells e.told (line_run c (lines_run c a done ios) next io).session.blocks)
+  pub blocks : ForEachSession c from
+      (λ c a. Knows e.known (line_run c (lines_run c a done ios) next io).session.blocks)
 
 -- Of these lines some were run. For the image of the next one there was no memory.
 pub record Lacks (c : Place) (from : Session → Type 0) (lines : List (List ℕ))
@@ -211,10 +205,10 @@ pub record Lacks (c : Place) (from : Session → Type 0) (lines : List (List ℕ
   pub ios : List (List Bool)
   pub one_each : length ios ≡ length done
   pub calls : MadeAll d e ios
-  pub used : Whenever c from (λ c a. UsesAll c a done ios)
-  pub wants : Whenever c from (λ c a. WantsMemory (lines_run c a done ios) next)
-  pub appended : Whenever c from (λ c a. Appends got got_new (concat (pieces_run c a done ios)))
-  pub blocks : Whenever c from (λ c a. Tells e.told (lines_run c a done ios).blocks)
+  pub used : ForEachSession c from (λ c a. UsesAll c a done ios)
+  pub wants : ForEachSession c from (λ c a. WantsMemory (lines_run c a done ios) next)
+  pub appended : ForEachSession c from (λ c a. Appends got got_new (concat (pieces_run c a done ios)))
+  pub blocks : ForEachSession c from (λ c a. Knows e.known (lines_run c a done ios).blocks)
 
 -- the status of a run that stopped
 abbrev pub stop_status : Stop → ℕ
@@ -238,19 +232,18 @@ pub record TakesLine (c : Place) (text : List ℕ) (s t : Seen) (got got_new : O
 -- ---- a whole run
 
 -- a session before the first line, whose blocks the disk tells
-pub record IsFirst (size : ℕ) (told : Option (List (List ℕ))) (a : Session) : Type 0 where
+pub record IsFirst (size : ℕ) (known : Option (List (List ℕ))) (a : Session) : Type 0 where
   pub session : a ≡ first_on size a.blocks
-  pub blocks : Tells told a.blocks
+  pub blocks : Knows known a.blocks
 
 -- the lines of a script, of which these bytes were taken
 abbrev pub script_lines : List ℕ → List (List ℕ)
 script_lines taken = lines_after [] (take SCRIPT_BYTES taken)
 
 -- The source gave some bytes, at most one more than a script may have, and reading ended somehow,
--- or stopped behind a
--- refused line. Over the blocks that the disk told: each line makes the calls of its list, the
--- status
--- is that of the outcome, the sink took its bytes, and the disk tells its blocks.
+-- or stopped behind a refused line. Over the blocks that the disk told: each line makes the calls
+-- of its list, the status is that of the outcome, the sink took its bytes, and the disk tells its
+-- blocks.
 pub record Ran (c : Place) (rest rest_new : Option (List ℕ)) (before now : ℕ)
     (got got_new : Option (List ℕ)) (d e : DiskSeen) (status : ℕ) : Type 0 where
   pub taken : List ℕ
@@ -260,16 +253,16 @@ pub record Ran (c : Place) (rest rest_new : Option (List ℕ)) (before now : ℕ
   pub ios : List (List Bool)
   pub one_each : length ios ≡ length (script_lines taken)
   pub calls : MadeAll d e ios
-  pub ended : Whenever c (IsFirst c.size d.told)
+  pub ended : ForEachSession c (IsFirst c.size d.known)
       (λ c a. (lines_run c a (script_lines taken) ios).refused ≡ true)
       ⊎ HasEnded ending taken rest_new before now
-  pub used : Whenever c (IsFirst c.size d.told) (λ c a. UsesAll c a (script_lines taken) ios)
-  pub status_is : Whenever c (IsFirst c.size d.told)
+  pub used : ForEachSession c (IsFirst c.size d.known) (λ c a. UsesAll c a (script_lines taken) ios)
+  pub status_is : ForEachSession c (IsFirst c.size d.known)
       (λ c a. status ≡ (outcome_at c a.blocks taken ending ios).status)
-  pub appended : Whenever c (IsFirst c.size d.told)
+  pub appended : ForEachSession c (IsFirst c.size d.known)
       (λ c a. Appends got got_new (written (outcome_at c a.blocks taken ending ios)))
-  pub blocks : Whenever c (IsFirst c.size d.told)
-      (λ c a. Tells e.told (outcome_at c a.blocks taken ending ios).blocks)
+  pub blocks : ForEachSession c (IsFirst c.size d.known)
+      (λ c a. Knows e.known (outcome_at c a.blocks taken ending ios).blocks)
 
 -- The input has ended. Of what the outcome writes behind the lines of the script the sink took a
 -- part, not whole.
@@ -282,14 +275,14 @@ pub record CutsLast (c : Place) (taken : List ℕ) (rest_new got got_new : Optio
   pub part : List ℕ
   pub more : List ℕ
   pub lacks : 0 < length more
-  pub used : Whenever c (IsFirst c.size d.told) (λ c a. UsesAll c a (script_lines taken) ios)
-  pub bytes : Whenever c (IsFirst c.size d.told)
+  pub used : ForEachSession c (IsFirst c.size d.known) (λ c a. UsesAll c a (script_lines taken) ios)
+  pub bytes : ForEachSession c (IsFirst c.size d.known)
       (λ c a. written (outcome_at c a.blocks taken End ios)
       ≡ (concat (pieces_run c a (script_lines taken) ios) ++ part) ++ more)
-  pub appended : Whenever c (IsFirst c.size d.told)
+  pub appended : ForEachSession c (IsFirst c.size d.known)
       (λ c a. Appends got got_new (concat (pieces_run c a (script_lines taken) ios) ++ part))
-  pub blocks : Whenever c (IsFirst c.size d.told)
-      (λ c a. Tells e.told (outcome_at c a.blocks taken End ios).blocks)
+  pub blocks : ForEachSession c (IsFirst c.size d.known)
+      (λ c a. Knows e.known (outcome_at c a.blocks taken End ios).blocks)
 
 -- The source gave some bytes, and what a line of them writes was cut short, or the last lines were.
 pub record Broke (c : Place) (rest rest_new got got_new : Option (List ℕ))
@@ -297,7 +290,7 @@ pub record Broke (c : Place) (rest rest_new got got_new : Option (List ℕ))
   pub taken : List ℕ
   pub within : length taken ≤ SCRIPT_BYTES + 1
   pub consumed : Consumes rest rest_new taken
-  pub short : CutsShort c (IsFirst c.size d.told) (script_lines taken) got got_new d e
+  pub short : CutsShort c (IsFirst c.size d.known) (script_lines taken) got got_new d e
       ⊎ CutsLast c taken rest_new got got_new d e
 
 -- The source gave some bytes, and for one of their lines there was no memory.
@@ -306,7 +299,7 @@ pub record Lacked (c : Place) (rest rest_new got got_new : Option (List ℕ))
   pub taken : List ℕ
   pub within : length taken ≤ SCRIPT_BYTES + 1
   pub consumed : Consumes rest rest_new taken
-  pub lacks : Lacks c (IsFirst c.size d.told) (script_lines taken) got got_new d e
+  pub lacks : Lacks c (IsFirst c.size d.known) (script_lines taken) got got_new d e
 
 -- ---- the steps of a run
 

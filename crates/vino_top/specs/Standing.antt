@@ -1,6 +1,6 @@
 -- Which abstract sessions a session of the code stands for.
 use Rattle.std.specs.Prelude.{◌≡◌, ℕ, suc, Bool, true, false, cond, List, [], ◌∷◌, Option, Some, None, slice_index_or, flat_map}
-use Rattle.disk_log.specs.Calls.{Tells}
+use Rattle.disk_log.specs.Calls.{Knows}
 use Rattle.kernel_model.specs.World.{processes}
 use Rattle.kernel_model.specs.Pieces.{plain}
 use Rattle.kernel_model.specs.Kernel as abstract
@@ -63,16 +63,15 @@ pub record HasKernel (x : Placed) (o : Option abstract.Kernel) : Type 0 where
   pub rests : IsAtRest plain kernel
 
 -- What is seen of a session stands for an abstract one, whose blocks the disk tells: that has no
--- kernel before `boot`, and after it
--- one that rests, for which the kernel in place stands.
-pub record StandsFor (s : Seen) (told : Option (List (List ℕ))) (a : script.Session) : Type 0 where
+-- kernel before `boot`, and after it one that rests, for which the kernel in place stands.
+pub record StandsFor (s : Seen) (known : Option (List (List ℕ))) (a : script.Session) : Type 0 where
   pub setup : a.setup ≡ setup_of s.setup
   pub lines : a.lines ≡ s.lines
   pub events : a.events ≡ s.events
   pub refused : a.refused ≡ s.refused
   pub unbooted : s.booted ≡ false → a.kernel ≡ None
   pub booted : s.booted ≡ true → HasKernel s.placed a.kernel
-  pub blocks : Tells told a.blocks
+  pub blocks : Knows known a.blocks
 
 -- What is seen of a session before its first line.
 pub record IsBegun (s : Seen) : Type 0 where

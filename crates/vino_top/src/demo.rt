@@ -152,11 +152,11 @@ fn run_demo<B: Policy, K: Sink, D: Disk>(
     ensures ran { result ≡ 0 → DemoRan n (D.block_count disk.old)
         (disk_seen (D.blocks disk.old) (D.plan disk.old) (D.faults disk.old))
         (disk_seen (D.blocks disk.new) (D.plan disk.new) (D.faults disk.new))
-        (λ told. Appends (K.got sink.old) (K.got sink.new) told) }
+        (λ known. Appends (K.got sink.old) (K.got sink.new) known) }
     ensures broke { result ≡ 4 → DemoRan n (D.block_count disk.old)
         (disk_seen (D.blocks disk.old) (D.plan disk.old) (D.faults disk.old))
         (disk_seen (D.blocks disk.new) (D.plan disk.new) (D.faults disk.new))
-        (λ told. AppendsPart (K.got sink.old) (K.got sink.new) told) }
+        (λ known. AppendsPart (K.got sink.old) (K.got sink.new) known) }
     ensures memory { result ≡ 5 → Keeps (K.got sink.old) (K.got sink.new)
         × DemoLacked n (D.block_count disk.old)
         (disk_seen (D.blocks disk.old) (D.plan disk.old) (D.faults disk.old))
@@ -191,11 +191,11 @@ pub fn demo<B: Policy, K: Sink, D: Disk>(
     ensures ran { result ≡ 0 → DemoRan n (D.block_count disk.old)
         (disk_seen (D.blocks disk.old) (D.plan disk.old) (D.faults disk.old))
         (disk_seen (D.blocks disk.new) (D.plan disk.new) (D.faults disk.new))
-        (λ told. Appends (K.got sink.old) (K.got sink.new) told) }
+        (λ known. Appends (K.got sink.old) (K.got sink.new) known) }
     ensures broke { result ≡ 4 → DemoRan n (D.block_count disk.old)
         (disk_seen (D.blocks disk.old) (D.plan disk.old) (D.faults disk.old))
         (disk_seen (D.blocks disk.new) (D.plan disk.new) (D.faults disk.new))
-        (λ told. AppendsPart (K.got sink.old) (K.got sink.new) told) }
+        (λ known. AppendsPart (K.got sink.old) (K.got sink.new) known) }
     ensures memory { result ≡ 5 → Keeps (K.got sink.old) (K.got sink.new)
         × ((disk_seen (D.blocks disk.new) (D.plan disk.new) (D.faults disk.new)
         ≡ disk_seen (D.blocks disk.old) (D.plan disk.old) (D.faults disk.old))

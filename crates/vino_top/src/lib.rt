@@ -123,7 +123,7 @@ fn run_script<B: Policy, S: Source, K: Sink, D: Disk>(
     ensures source_failed { result ≡ 3 → Rose (S.faults src.old) (S.faults src.new) }
     ensures sink_failed { result ≡ 4 → Rose (K.faults out.old) (K.faults out.new) }
 {
-    match run::Reader::new(alloc, shelf) {
+    match run::ScriptRun::new(alloc, shelf) {
         Err(_) => 5,
         Ok(reader) => start(alloc, keys, reader, src, out, disk),
     }
@@ -146,7 +146,7 @@ fn write_usage<K: Sink>(out: &mut K) -> u8
 fn start<B: Policy, S: Source, K: Sink, D: Disk>(
     alloc: Global,
     keys: &Keys,
-    mut reader: run::Reader<B>,
+    mut reader: run::ScriptRun<B>,
     src: &mut S,
     out: &mut K,
     disk: &mut D,

@@ -37,22 +37,22 @@ pub enum Stop {
 
 /// The run of a script: its session, the line that is being read, and what a line leaves behind.
 #[derive(Drop)]
-pub struct Reader<B: Policy> {
+pub struct ScriptRun<B: Policy> {
     pub session: Session<B>,
     pub line: LineBuf,
     pub out: Buffers,
 }
 
-impl<B: Policy> Reader<B> {
+impl<B: Policy> ScriptRun<B> {
     /// Before the first byte, with the stock policies.
-    pub fn new(alloc: Global, shelf: Vec<B>) -> Result<Reader<B>, NoMemory>
+    pub fn new(alloc: Global, shelf: Vec<B>) -> Result<ScriptRun<B>, NoMemory>
         requires shelf { IsShelf (map B.seen shelf.items) }
         requires stock { pol_of (map B.seen shelf.items) first_choice ≡ opening_policy }
         ensures within { IfOk result (λ r. (size : ℕ) → IsSessionWithin size r.session) }
         ensures begun { IfOk result (λ r. IsBegun (seen_of r.session)) }
         ensures line { IfOk result (λ r. r.line ≡ []) }
     {
-        Ok(Reader {
+        Ok(ScriptRun {
             session: Session::new(alloc, shelf)?,
             line: LineBuf::new(alloc)?,
             out: Buffers::new(alloc)?,
@@ -71,7 +71,7 @@ pub fn zeros(alloc: Global, n: usize) -> Result<Vec<u8>, NoMemory>
 }
 
 /// What a line writes is written.
-fn write_lines<B: Policy, K: Sink>(reader: &Reader<B>, out: &mut K) -> Result<(), Stop>
+fn write_lines<B: Policy, K: Sink>(reader: &ScriptRun<B>, out: &mut K) -> Result<(), Stop>
     ensures later { K.faults out.old ≤ K.faults out.new }
     ensures sink_failed { result ≡ Err SinkFailed → Rose (K.faults out.old) (K.faults out.new) }
     ensures contents { MatchResult result
@@ -89,7 +89,7 @@ fn write_lines<B: Policy, K: Sink>(reader: &Reader<B>, out: &mut K) -> Result<()
 fn end_line<B: Policy, K: Sink, D: Disk>(
     alloc: Global,
     keys: &Keys,
-    reader: &mut Reader<B>,
+    reader: &mut ScriptRun<B>,
     size: u32,
     out: &mut K,
     disk: &mut D,
@@ -128,7 +128,11 @@ fn end_line<B: Policy, K: Sink, D: Disk>(
 }
 
 /// The line is too long with this byte.
-fn end_long<B: Policy, K: Sink>(reader: &mut Reader<B>, byte: u8, out: &mut K) -> Result<(), Stop>
+fn end_long<B: Policy, K: Sink>(
+    reader: &mut ScriptRun<B>,
+    byte: u8,
+    out: &mut K,
+) -> Result<(), Stop>
     requires lines { reader.old.session.lines < 2 ^ 32 - 2 }
     requires long { length reader.old.line ≡ LINE_BYTES }
     ensures within { (size : ℕ) → IsSessionWithin size reader.old.session →
@@ -137,7 +141,7 @@ fn end_long<B: Policy, K: Sink>(reader: &mut Reader<B>, byte: u8, out: &mut K) -
     ensures contents { (c : Place) (d : DiskSeen) → MatchResult result
         (λ _. TakesLine c (reader.old.line ++ byte ∷ []) (seen_of reader.old.session)
         (seen_of reader.new.session) (K.got out.old) (K.got out.new) d d)
-        (StopsAt c (StandsFor (seen_of reader.old.session) d.told)
+        (StopsAt c (StandsFor (seen_of reader.old.session) d.known)
         ((reader.old.line ++ byte ∷ []) ∷ []) (K.got out.old) (K.got out.new) d d) }
     ensures later { K.faults out.old ≤ K.faults out.new }
     ensures sink_failed { result ≡ Err SinkFailed → Rose (K.faults out.old) (K.faults out.new) }
@@ -151,7 +155,7 @@ fn end_long<B: Policy, K: Sink>(reader: &mut Reader<B>, byte: u8, out: &mut K) -
 fn take_byte<B: Policy, K: Sink, D: Disk>(
     alloc: Global,
     keys: &Keys,
-    reader: &mut Reader<B>,
+    reader: &mut ScriptRun<B>,
     byte: u8,
     size: u32,
     out: &mut K,
@@ -187,7 +191,7 @@ fn take_byte<B: Policy, K: Sink, D: Disk>(
 fn feed<B: Policy, K: Sink, D: Disk>(
     alloc: Global,
     keys: &Keys,
-    reader: &mut Reader<B>,
+    reader: &mut ScriptRun<B>,
     bytes: &[u8],
     size: u32,
     out: &mut K,
@@ -221,7 +225,7 @@ fn feed<B: Policy, K: Sink, D: Disk>(
 }
 
 /// Writes the last lines of a run, which ends with this status.
-fn write_last<B: Policy, K: Sink>(reader: &Reader<B>, status: u8, out: &mut K) -> u8
+fn write_last<B: Policy, K: Sink>(reader: &ScriptRun<B>, status: u8, out: &mut K) -> u8
     requires { (status ≡ 0) ⊎ (status ≡ 2) }
     ensures done { result ≢ 4 → (result ≡ status)
         × Appends (K.got out.old) (K.got out.new) reader.now.out.lines }
@@ -238,7 +242,7 @@ fn write_last<B: Policy, K: Sink>(reader: &Reader<B>, status: u8, out: &mut K) -
 
 /// The input has ended: bytes behind the last newline are refused, and else a line is written for
 /// each call that is left.
-fn finish<B: Policy, K: Sink>(reader: &mut Reader<B>, out: &mut K) -> u8
+fn finish<B: Policy, K: Sink>(reader: &mut ScriptRun<B>, out: &mut K) -> u8
     requires lines { reader.old.session.lines < 2 ^ 32 - 2 }
     requires within { (size : ℕ) × IsSessionWithin size reader.old.session }
     ensures done { result ≢ 4 → (result ≡ last_status reader.old.line)
@@ -273,7 +277,7 @@ fn status_of(stop: Stop) -> u8
 pub fn run<B: Policy, S: Source, K: Sink, D: Disk>(
     alloc: Global,
     keys: &Keys,
-    reader: &mut Reader<B>,
+    reader: &mut ScriptRun<B>,
     buf: &mut [u8],
     src: &mut S,
     out: &mut K,

@@ -14,7 +14,7 @@ ghost use Rattle.kernel_model.specs.Kernel.{Kernel as Abstract};
 ghost use Rattle.kernel_model.specs.Pieces.{plain};
 ghost use Rattle.kernel_model.specs.Sound.{IsAtRest};
 ghost use Rattle.call_pieces.specs.Works.{stage_of};
-ghost use Rattle.kernel_steps.specs.Views.{placed_of, IsRunning, Stood};
+ghost use Rattle.kernel_steps.specs.Views.{placed_of, IsRunning, HasAbstraction};
 ghost use Rattle.placed_laws.specs.Stands as kernels;
 ghost use Rattle.kernel_core.specs.declared.images.ImageRefusal.TheVariants.{Unloaded};
 ghost use Rattle.kernel_core.specs.AddedImages.{slot_refused, has_memory, image_said, ImageIsAdded};
@@ -289,7 +289,7 @@ impl<B: Policy> Session<B> {
         bytes: &ImageBytes,
     ) -> Result<Result<(u32, u32), ImageRefusal>, NoMemory>
         requires running { IsRunning caller_of self.old.kernel.running }
-        requires stood { Stood plain (placed_of stage_of self.old.kernel.running) }
+        requires abstraction { HasAbstraction plain (placed_of stage_of self.old.kernel.running) }
         ensures memory { IfOk result (λ answer. has_memory answer ≡ true) }
         ensures added { IfOk result (λ answer. (k : Abstract) →
             kernels.StandsFor plain (placed_of stage_of self.old.kernel.running) k → IsAtRest plain k →
@@ -299,7 +299,7 @@ impl<B: Policy> Session<B> {
             × (slot_refused (placed_of stage_of self.old.kernel.running).images slot ≡ None)) }
         ensures state { self.new ≡ record self.old { kernel = self.new.kernel } }
         ensures running { IsRunning caller_of self.new.kernel.running }
-        ensures stood { Stood plain (placed_of stage_of self.new.kernel.running) }
+        ensures abstraction { HasAbstraction plain (placed_of stage_of self.new.kernel.running) }
         ensures store { self.new.kernel.running.store ≡ self.old.kernel.running.store }
         ensures clock { self.new.kernel.running.clock ≡ self.old.kernel.running.clock }
     {

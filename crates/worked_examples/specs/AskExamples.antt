@@ -75,8 +75,7 @@ unfolding digits same_object entries entry_row is_usable sample_directory sample
 own_point_is_refused = refl
 
 -- Four levels are the most: the fourth asks a point where a graft stands, and is dropped alone. The
--- three outside it go on
--- with the default answer, and complete.
+-- three outside it go on with the default answer, and complete.
 pub fifth_level_is_too_deep :
     given_run [] (
     Lines (codes "boot\n")
@@ -160,8 +159,7 @@ unfolding digits same_object entries entry_row is_usable sample_directory sample
 spent_locks_drop_the_graft = refl
 
 -- Who asks for a frame to evict gets the one of its own frames that was used longest ago: after
--- reads of the blocks 0, 1 and 0
--- that is frame 1. Without a frame the ask is refused.
+-- reads of the blocks 0, 1 and 0 that is frame 1. Without a frame the ask is refused.
 pub victim_is_the_oldest_frame :
     given_run [] (
     Lines (codes "boot\n")

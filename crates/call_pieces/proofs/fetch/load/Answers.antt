@@ -1,8 +1,8 @@
 use Rattle.std.proofs.Common.{List, Bool, true, [], ◌∷◌, ℕ, refl, ◌++◌, length, sym, ◌∙◌, ap, subst}
 use Rattle.kernel_model.specs.Fetch.{Fetched, read_block}
 use Rattle.kernel_state.specs.Stores.{world_of_store, cache_of, policies_of}
-use Rattle.call_pieces.specs.Coming.{FetchLeft, blocks_after}
-use Rattle.disk_log.specs.Calls.{Tells}
+use Rattle.call_pieces.specs.Matching.{FetchLeft, blocks_after}
+use Rattle.disk_log.specs.Calls.{Knows}
 use Rattle.call_pieces.proofs.LeftLaws.{fetch_some, fetch_alike, read_is, read_failed}
 use Rattle.call_pieces.proofs.fetch.load.Goals as goal
 
@@ -13,11 +13,11 @@ pub returns-in-Ok-clause-does : goal.returns-in-Ok-clause-does
 returns-in-Ok-clause-does g c =
     λ blocks rest tells.
     let s = c.args.store.now in
-    let read = c.in-Ok.ensures.told blocks tells in
+    let read = c.in-Ok.ensures.known blocks tells in
     let is = read_is (world_of_store s) (policies_of s 1) c.args.p c.args.b c.args.answer (cache_of s) blocks (c.place.new.log ++ rest) (c.place.ensures.first rest) in
     record {
       outcome = subst (λ (x : Fetched). FetchLeft x blocks c.place.result (cache_of c.place.new.store) (length c.place.new.log)) (sym is) (c.place.ensures.outcome blocks rest (sym read.1));
-      tells = subst (λ (x : Fetched). Tells (g.D.Disk.blocks c.place.new.disk) (blocks_after x blocks)) (sym is) (c.place.ensures.tells blocks rest (sym read.1) read.0);
+      tells = subst (λ (x : Fetched). Knows (g.D.Disk.blocks c.place.new.disk) (blocks_after x blocks)) (sym is) (c.place.ensures.tells blocks rest (sym read.1) read.0);
     }
 
 pub returns-in-Ok-clause-some : goal.returns-in-Ok-clause-some

@@ -8,7 +8,7 @@ use Rattle.kernel_model.specs.FilePieces.{open_piece, free_descriptor, write_pie
 use Rattle.kernel_model.specs.Pieces.{piece_of, yield_piece}
 use Rattle.kernel_state.specs.Stores.{world_of_store, objects_of}
 use Rattle.call_pieces.specs.Works.{comes_after}
-use Rattle.call_pieces.specs.Coming.{CameTo, LeftBySome}
+use Rattle.call_pieces.specs.Matching.{PieceMatches, PieceMatchesSome}
 use Rattle.call_pieces.proofs.Grants.{exit_granted, close_granted, take_granted, free_granted, poke_granted, peek_granted, tune_granted, choose_granted, give_granted, install_granted, remove_granted, fund_granted, bill_granted, read_granted, write_granted, came_named}
 use Rattle.call_pieces.proofs.LeftLaws.{some_of_all, some_quick, some_named}
 use Rattle.call_pieces.proofs.pieces.piece.Goals as goal
@@ -99,7 +99,7 @@ returns-in-OpenName-clause-does g c =
     let w = c.args.work.now in
     came_named (λ (k : SysCall). piece_of k w.piece (world_of_store c.args.store.now) s blocks w.caller c.args.answer (c.args.log.now ++ rest)) w.call (OpenName c.in-OpenName.name) (objects_of c.open.new.store) (g.D.Disk.blocks c.args.disk.now)
     _ _ (length c.args.log.now) 0 c.in-OpenName.is (ap length c.requires.fresh)
-    (subst (λ (name : List ℕ). CameTo (open_piece s w.caller (file_named (world_of_store c.args.store.now) name) (free_descriptor s.things w.caller 4 0) blocks) (objects_of c.open.new.store) (g.D.Disk.blocks c.args.disk.now) c.open.result.gave (comes_after c.open.result.next (stage w.call w.piece)) 0) c.as_slice.ensures.value
+    (subst (λ (name : List ℕ). PieceMatches (open_piece s w.caller (file_named (world_of_store c.args.store.now) name) (free_descriptor s.things w.caller 4 0) blocks) (objects_of c.open.new.store) (g.D.Disk.blocks c.args.disk.now) c.open.result.gave (comes_after c.open.result.next (stage w.call w.piece)) 0) c.as_slice.ensures.value
     (c.open.ensures.does blocks _ (stage w.call w.piece) tells))
 
 pub returns-in-CloseFd-clause-does : goal.returns-in-CloseFd-clause-does
@@ -115,7 +115,7 @@ returns-in-Read-clause-does g c =
     λ blocks rest tells.
     let s = objects_of c.args.store.now in
     let w = c.args.work.now in
-    subst (λ (k : SysCall). CameTo (piece_of k w.piece (world_of_store c.args.store.now) s blocks w.caller c.args.answer (c.read.new.log ++ rest)) (objects_of c.read.new.store) (g.D.Disk.blocks c.read.new.disk)
+    subst (λ (k : SysCall). PieceMatches (piece_of k w.piece (world_of_store c.args.store.now) s blocks w.caller c.args.answer (c.read.new.log ++ rest)) (objects_of c.read.new.store) (g.D.Disk.blocks c.read.new.disk)
     c.read.result.gave (comes_after c.read.result.next (stage k c.read.new.piece)) (length c.read.new.log)) (sym c.in-Read.is) (c.read.ensures.does blocks rest tells)
 
 pub returns-in-Write-clause-does : goal.returns-in-Write-clause-does
@@ -127,7 +127,7 @@ returns-in-Write-clause-does g c =
     let x = c.in-Write in
     came_named (λ (k : SysCall). piece_of k w.piece v s blocks w.caller c.args.answer (c.write.new.log ++ rest)) w.call (Write x.fd x.i x.off x.bytes) (objects_of c.write.new.store)
     (g.D.Disk.blocks c.write.new.disk) _ _ (length c.write.new.log) (length c.write.new.log) x.is refl
-    (subst (λ (bytes : List ℕ). CameTo (write_piece (file_block v (s.things.file w.caller x.fd) x.i x.off (length bytes)) v s blocks w.caller x.off bytes c.args.answer (c.write.new.log ++ rest)) (objects_of c.write.new.store)
+    (subst (λ (bytes : List ℕ). PieceMatches (write_piece (file_block v (s.things.file w.caller x.fd) x.i x.off (length bytes)) v s blocks w.caller x.off bytes c.args.answer (c.write.new.log ++ rest)) (objects_of c.write.new.store)
     (g.D.Disk.blocks c.write.new.disk) c.write.result.gave (comes_after c.write.result.next (stage w.call w.piece)) (length c.write.new.log)) c.as_slice-in-Write.ensures.value (c.write.ensures.does (stage w.call w.piece) blocks rest tells))
 
 pub returns-in-Sync-clause-does : goal.returns-in-Sync-clause-does
@@ -232,7 +232,7 @@ returns-in-Spawn-clause-some g c =
     let s = objects_of c.args.store.now in
     let w = c.args.work.now in
     some_named v (λ k blocks io. piece_of k w.piece v s blocks w.caller c.args.answer io) w.call Spawn (objects_of c.spawn.new.store) _ _ c.args.log.now c.in-Spawn.is c.requires.fresh
-    (λ blocks told io tells. c.spawn.ensures.does blocks told (stage w.call w.piece) tells)
+    (λ blocks known io tells. c.spawn.ensures.does blocks known (stage w.call w.piece) tells)
 
 pub returns-in-Exit-clause-some : goal.returns-in-Exit-clause-some
 returns-in-Exit-clause-some g c =
@@ -240,7 +240,7 @@ returns-in-Exit-clause-some g c =
     let s = objects_of c.args.store.now in
     let w = c.args.work.now in
     some_named v (λ k blocks io. piece_of k w.piece v s blocks w.caller c.args.answer io) w.call Exit (objects_of c.exit.new.store) _ _ c.args.log.now c.in-Exit.is c.requires.fresh
-    (λ blocks told io tells. c.exit.ensures.does blocks told (stage w.call w.piece) tells)
+    (λ blocks known io tells. c.exit.ensures.does blocks known (stage w.call w.piece) tells)
 
 pub returns-in-CloseFd-clause-some : goal.returns-in-CloseFd-clause-some
 returns-in-CloseFd-clause-some g c =
@@ -248,7 +248,7 @@ returns-in-CloseFd-clause-some g c =
     let s = objects_of c.args.store.now in
     let w = c.args.work.now in
     some_named v (λ k blocks io. piece_of k w.piece v s blocks w.caller c.args.answer io) w.call (CloseFd c.in-CloseFd.fd) (objects_of c.close.new.store) _ _ c.args.log.now c.in-CloseFd.is c.requires.fresh
-    (λ blocks told io tells. c.close.ensures.does blocks told (stage w.call w.piece) tells)
+    (λ blocks known io tells. c.close.ensures.does blocks known (stage w.call w.piece) tells)
 
 pub returns-in-TakeLock-clause-some : goal.returns-in-TakeLock-clause-some
 returns-in-TakeLock-clause-some g c =
@@ -256,7 +256,7 @@ returns-in-TakeLock-clause-some g c =
     let s = objects_of c.args.store.now in
     let w = c.args.work.now in
     some_named v (λ k blocks io. piece_of k w.piece v s blocks w.caller c.args.answer io) w.call (TakeLock c.in-TakeLock.u) (objects_of c.take_lock.new.store) _ _ c.args.log.now c.in-TakeLock.is c.requires.fresh
-    (λ blocks told io tells. c.take_lock.ensures.does blocks told (stage w.call w.piece) tells)
+    (λ blocks known io tells. c.take_lock.ensures.does blocks known (stage w.call w.piece) tells)
 
 pub returns-in-FreeLock-clause-some : goal.returns-in-FreeLock-clause-some
 returns-in-FreeLock-clause-some g c =
@@ -264,7 +264,7 @@ returns-in-FreeLock-clause-some g c =
     let s = objects_of c.args.store.now in
     let w = c.args.work.now in
     some_named v (λ k blocks io. piece_of k w.piece v s blocks w.caller c.args.answer io) w.call (FreeLock c.in-FreeLock.u) (objects_of c.free_lock.new.store) _ _ c.args.log.now c.in-FreeLock.is c.requires.fresh
-    (λ blocks told io tells. c.free_lock.ensures.does blocks told (stage w.call w.piece) tells)
+    (λ blocks known io tells. c.free_lock.ensures.does blocks known (stage w.call w.piece) tells)
 
 pub returns-in-Poke-clause-some : goal.returns-in-Poke-clause-some
 returns-in-Poke-clause-some g c =
@@ -272,7 +272,7 @@ returns-in-Poke-clause-some g c =
     let s = objects_of c.args.store.now in
     let w = c.args.work.now in
     some_named v (λ k blocks io. piece_of k w.piece v s blocks w.caller c.args.answer io) w.call (Poke c.in-Poke.k c.in-Poke.v) (objects_of c.poke.new.store) _ _ c.args.log.now c.in-Poke.is c.requires.fresh
-    (λ blocks told io tells. c.poke.ensures.does blocks told (stage w.call w.piece) tells)
+    (λ blocks known io tells. c.poke.ensures.does blocks known (stage w.call w.piece) tells)
 
 pub returns-in-Peek-clause-some : goal.returns-in-Peek-clause-some
 returns-in-Peek-clause-some g c =
@@ -280,7 +280,7 @@ returns-in-Peek-clause-some g c =
     let s = objects_of c.args.store.now in
     let w = c.args.work.now in
     some_named v (λ k blocks io. piece_of k w.piece v s blocks w.caller c.args.answer io) w.call (Peek c.in-Peek.k) (objects_of c.args.store.now) _ _ c.args.log.now c.in-Peek.is c.requires.fresh
-    (λ blocks told io tells. c.peek.ensures.does blocks told (stage w.call w.piece) tells)
+    (λ blocks known io tells. c.peek.ensures.does blocks known (stage w.call w.piece) tells)
 
 pub returns-in-Tune-clause-some : goal.returns-in-Tune-clause-some
 returns-in-Tune-clause-some g c =
@@ -288,7 +288,7 @@ returns-in-Tune-clause-some g c =
     let s = objects_of c.args.store.now in
     let w = c.args.work.now in
     some_named v (λ k blocks io. piece_of k w.piece v s blocks w.caller c.args.answer io) w.call (Tune c.in-Tune.kind c.in-Tune.k c.in-Tune.v) (objects_of c.tune.new.store) _ _ c.args.log.now c.in-Tune.is c.requires.fresh
-    (λ blocks told io tells. c.tune.ensures.does blocks told (stage w.call w.piece) tells)
+    (λ blocks known io tells. c.tune.ensures.does blocks known (stage w.call w.piece) tells)
 
 pub returns-in-Choose-clause-some : goal.returns-in-Choose-clause-some
 returns-in-Choose-clause-some g c =
@@ -296,7 +296,7 @@ returns-in-Choose-clause-some g c =
     let s = objects_of c.args.store.now in
     let w = c.args.work.now in
     some_named v (λ k blocks io. piece_of k w.piece v s blocks w.caller c.args.answer io) w.call (Choose c.in-Choose.kind c.in-Choose.j) (objects_of c.choose.new.store) _ _ c.args.log.now c.in-Choose.is c.requires.fresh
-    (λ blocks told io tells. c.choose.ensures.does blocks told (stage w.call w.piece) tells)
+    (λ blocks known io tells. c.choose.ensures.does blocks known (stage w.call w.piece) tells)
 
 pub returns-in-Give-clause-some : goal.returns-in-Give-clause-some
 returns-in-Give-clause-some g c =
@@ -304,7 +304,7 @@ returns-in-Give-clause-some g c =
     let s = objects_of c.args.store.now in
     let w = c.args.work.now in
     some_named v (λ k blocks io. piece_of k w.piece v s blocks w.caller c.args.answer io) w.call (Give c.in-Give.q c.in-Give.kind c.in-Give.n) (objects_of c.give.new.store) _ _ c.args.log.now c.in-Give.is c.requires.fresh
-    (λ blocks told io tells. c.give.ensures.does blocks told (stage w.call w.piece) tells)
+    (λ blocks known io tells. c.give.ensures.does blocks known (stage w.call w.piece) tells)
 
 pub returns-in-Install-clause-some : goal.returns-in-Install-clause-some
 returns-in-Install-clause-some g c =
@@ -312,7 +312,7 @@ returns-in-Install-clause-some g c =
     let s = objects_of c.args.store.now in
     let w = c.args.work.now in
     some_named v (λ k blocks io. piece_of k w.piece v s blocks w.caller c.args.answer io) w.call (Install c.in-Install.pt c.in-Install.image c.in-Install.limit) (objects_of c.install.new.store) _ _ c.args.log.now c.in-Install.is c.requires.fresh
-    (λ blocks told io tells. c.install.ensures.does blocks told (stage w.call w.piece) tells)
+    (λ blocks known io tells. c.install.ensures.does blocks known (stage w.call w.piece) tells)
 
 pub returns-in-Remove-clause-some : goal.returns-in-Remove-clause-some
 returns-in-Remove-clause-some g c =
@@ -320,7 +320,7 @@ returns-in-Remove-clause-some g c =
     let s = objects_of c.args.store.now in
     let w = c.args.work.now in
     some_named v (λ k blocks io. piece_of k w.piece v s blocks w.caller c.args.answer io) w.call (Remove c.in-Remove.pt) (objects_of c.remove.new.store) _ _ c.args.log.now c.in-Remove.is c.requires.fresh
-    (λ blocks told io tells. c.remove.ensures.does blocks told (stage w.call w.piece) tells)
+    (λ blocks known io tells. c.remove.ensures.does blocks known (stage w.call w.piece) tells)
 
 pub returns-in-Fund-clause-some : goal.returns-in-Fund-clause-some
 returns-in-Fund-clause-some g c =
@@ -328,7 +328,7 @@ returns-in-Fund-clause-some g c =
     let s = objects_of c.args.store.now in
     let w = c.args.work.now in
     some_named v (λ k blocks io. piece_of k w.piece v s blocks w.caller c.args.answer io) w.call (Fund c.in-Fund.pt c.in-Fund.kind c.in-Fund.n) (objects_of c.fund.new.store) _ _ c.args.log.now c.in-Fund.is c.requires.fresh
-    (λ blocks told io tells. c.fund.ensures.does blocks told (stage w.call w.piece) tells)
+    (λ blocks known io tells. c.fund.ensures.does blocks known (stage w.call w.piece) tells)
 
 pub returns-in-Bill-clause-some : goal.returns-in-Bill-clause-some
 returns-in-Bill-clause-some g c =
@@ -336,15 +336,15 @@ returns-in-Bill-clause-some g c =
     let s = objects_of c.args.store.now in
     let w = c.args.work.now in
     some_named v (λ k blocks io. piece_of k w.piece v s blocks w.caller c.args.answer io) w.call (Bill c.in-Bill.pt) (objects_of c.bill.new.store) _ _ c.args.log.now c.in-Bill.is c.requires.fresh
-    (λ blocks told io tells. c.bill.ensures.does blocks told (stage w.call w.piece) tells)
+    (λ blocks known io tells. c.bill.ensures.does blocks known (stage w.call w.piece) tells)
 
 pub returns-in-Yield-clause-some : goal.returns-in-Yield-clause-some
 returns-in-Yield-clause-some g c =
     let v = world_of_store c.args.store.now in
     let s = objects_of c.args.store.now in
     let w = c.args.work.now in
-    subst (λ (k : SysCall). LeftBySome v (λ blocks io. piece_of k w.piece v s blocks w.caller c.args.answer io) (objects_of c.yield_turn.new.store) c.yield_turn.result.gave (comes_after c.yield_turn.result.next (stage k c.yield_turn.new.piece)) c.args.log.now) (sym c.in-Yield.is)
-    (some_quick v (λ blocks io. yield_piece w.piece s w.caller c.args.answer blocks) (objects_of c.yield_turn.new.store) _ _ c.args.log.now c.requires.fresh (λ blocks told io tells. c.yield_turn.ensures.does blocks told tells))
+    subst (λ (k : SysCall). PieceMatchesSome v (λ blocks io. piece_of k w.piece v s blocks w.caller c.args.answer io) (objects_of c.yield_turn.new.store) c.yield_turn.result.gave (comes_after c.yield_turn.result.next (stage k c.yield_turn.new.piece)) c.args.log.now) (sym c.in-Yield.is)
+    (some_quick v (λ blocks io. yield_piece w.piece s w.caller c.args.answer blocks) (objects_of c.yield_turn.new.store) _ _ c.args.log.now c.requires.fresh (λ blocks known io tells. c.yield_turn.ensures.does blocks known tells))
 
 pub returns-in-OpenName-clause-some : goal.returns-in-OpenName-clause-some
 returns-in-OpenName-clause-some g c =
@@ -353,16 +353,16 @@ returns-in-OpenName-clause-some g c =
     let w = c.args.work.now in
     let after = objects_of c.open.new.store in
     some_named v (λ k blocks io. piece_of k w.piece v s blocks w.caller c.args.answer io) w.call (OpenName c.in-OpenName.name) after _ _ c.args.log.now c.in-OpenName.is c.requires.fresh
-    (λ blocks told io tells.
-    subst (λ (name : List ℕ). CameTo (open_piece s w.caller (file_named v name) (free_descriptor s.things w.caller 4 0) blocks) after told c.open.result.gave (comes_after c.open.result.next (stage w.call w.piece)) 0) c.as_slice.ensures.value
-    (c.open.ensures.does blocks told (stage w.call w.piece) tells))
+    (λ blocks known io tells.
+    subst (λ (name : List ℕ). PieceMatches (open_piece s w.caller (file_named v name) (free_descriptor s.things w.caller 4 0) blocks) after known c.open.result.gave (comes_after c.open.result.next (stage w.call w.piece)) 0) c.as_slice.ensures.value
+    (c.open.ensures.does blocks known (stage w.call w.piece) tells))
 
 pub returns-in-Read-clause-some : goal.returns-in-Read-clause-some
 returns-in-Read-clause-some g c =
     let v = world_of_store c.args.store.now in
     let s = objects_of c.args.store.now in
     let w = c.args.work.now in
-    subst (λ (k : SysCall). LeftBySome v (λ blocks io. piece_of k w.piece v s blocks w.caller c.args.answer io) (objects_of c.read.new.store) c.read.result.gave (comes_after c.read.result.next (stage k c.read.new.piece)) c.read.new.log) (sym c.in-Read.is)
+    subst (λ (k : SysCall). PieceMatchesSome v (λ blocks io. piece_of k w.piece v s blocks w.caller c.args.answer io) (objects_of c.read.new.store) c.read.result.gave (comes_after c.read.result.next (stage k c.read.new.piece)) c.read.new.log) (sym c.in-Read.is)
     c.read.ensures.some
 
 pub returns-in-Write-clause-some : goal.returns-in-Write-clause-some
@@ -371,8 +371,8 @@ returns-in-Write-clause-some g c =
     let s = objects_of c.args.store.now in
     let w = c.args.work.now in
     let x = c.in-Write in
-    subst (λ (k : SysCall). LeftBySome v (λ blocks io. piece_of k w.piece v s blocks w.caller c.args.answer io) (objects_of c.write.new.store) c.write.result.gave (comes_after c.write.result.next (stage w.call w.piece)) c.write.new.log) (sym x.is)
-    (subst (λ (bytes : List ℕ). LeftBySome v (λ blocks io. write_piece (file_block v (s.things.file w.caller x.fd) x.i x.off (length bytes)) v s blocks w.caller x.off bytes c.args.answer io) (objects_of c.write.new.store) c.write.result.gave (comes_after c.write.result.next (stage w.call w.piece)) c.write.new.log)
+    subst (λ (k : SysCall). PieceMatchesSome v (λ blocks io. piece_of k w.piece v s blocks w.caller c.args.answer io) (objects_of c.write.new.store) c.write.result.gave (comes_after c.write.result.next (stage w.call w.piece)) c.write.new.log) (sym x.is)
+    (subst (λ (bytes : List ℕ). PieceMatchesSome v (λ blocks io. write_piece (file_block v (s.things.file w.caller x.fd) x.i x.off (length bytes)) v s blocks w.caller x.off bytes c.args.answer io) (objects_of c.write.new.store) c.write.result.gave (comes_after c.write.result.next (stage w.call w.piece)) c.write.new.log)
     c.as_slice-in-Write.ensures.value (c.write.ensures.some (stage w.call w.piece)))
 
 pub returns-in-Sync-clause-some : goal.returns-in-Sync-clause-some
@@ -380,5 +380,5 @@ returns-in-Sync-clause-some g c =
     let v = world_of_store c.args.store.now in
     let s = objects_of c.args.store.now in
     let w = c.args.work.now in
-    subst (λ (k : SysCall). LeftBySome v (λ blocks io. piece_of k w.piece v s blocks w.caller c.args.answer io) (objects_of c.sync.new.store) c.sync.result.gave (comes_after c.sync.result.next (stage w.call w.piece)) c.sync.new.log) (sym c.in-Sync.is)
+    subst (λ (k : SysCall). PieceMatchesSome v (λ blocks io. piece_of k w.piece v s blocks w.caller c.args.answer io) (objects_of c.sync.new.store) c.sync.result.gave (comes_after c.sync.result.next (stage w.call w.piece)) c.sync.new.log) (sym c.in-Sync.is)
     (some_of_all v (λ blocks io. sync_from v.frames 0 0 s blocks io) (objects_of c.sync.new.store) _ _ c.sync.new.log (λ blocks rest. c.sync.ensures.left blocks rest (stage w.call w.piece)))

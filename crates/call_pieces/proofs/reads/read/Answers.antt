@@ -8,7 +8,7 @@ use Rattle.kernel_model.specs.Needs.{ahead_block}
 use Rattle.kernel_model.specs.FilePieces.{read_piece, read_second, read_third_at, ahead_by}
 use Rattle.kernel_state.specs.Stores.{world_of_store, objects_of}
 use Rattle.call_pieces.specs.Works.{comes_after}
-use Rattle.call_pieces.specs.Coming.{CameTo}
+use Rattle.call_pieces.specs.Matching.{PieceMatches}
 use Rattle.call_pieces.proofs.ReadLaws.{read_zero, read_one, read_later, few_kinds}
 use Rattle.call_pieces.proofs.LeftLaws.{some_as, some_came, some_quick, some_refused}
 use Rattle.call_pieces.proofs.SyncLaws.{came_as}
@@ -35,7 +35,7 @@ returns-in_default-piece-clause-does g c =
     let third : c.args.piece.now ≡ 2 = omega arith in
     came_as _ _ (objects_of c.later.new.store) (g.D.Disk.blocks c.later.new.disk) _ _ (length c.later.new.log)
     (read_later c.args.piece.now v o blocks c.args.p r.fd r.i r.off r.len _ opened c.args.answer (c.later.new.log ++ rest) third (sym c.file.ensures.value ∙ c.in-Some.is))
-    (subst (λ (k : ℕ). CameTo (read_third_at (ahead_block v (Some opened)) v o blocks c.args.p r.fd r.i r.off r.len opened c.args.answer (c.later.new.log ++ rest)) (objects_of c.later.new.store)
+    (subst (λ (k : ℕ). PieceMatches (read_third_at (ahead_block v (Some opened)) v o blocks c.args.p r.fd r.i r.off r.len opened c.args.answer (c.later.new.log ++ rest)) (objects_of c.later.new.store)
     (g.D.Disk.blocks c.later.new.disk) c.later.result.gave (comes_after c.later.result.next (stage (Read r.fd r.i r.off r.len) k)) (length c.later.new.log)) (sym third) (c.later.ensures.does blocks rest tells))
 
 pub returns-in_default-clause-some : goal.returns-in_default-clause-some
@@ -60,4 +60,4 @@ returns-in-1-clause-some g c =
     (λ blocks w. read_second o blocks c.args.p r.fd r.i r.off r.len opened ahead) _ _ _ c.args.log.now
     (λ blocks w. read_one c.args.piece.now v o blocks c.args.p r.fd r.i r.off r.len _ opened c.args.answer w c.in-1.is (sym c.file.ensures.value ∙ c.in-Some.is))
     (some_quick v (λ blocks w. read_second o blocks c.args.p r.fd r.i r.off r.len opened ahead) _ _ _ c.args.log.now c.requires.fresh
-    (λ blocks told w tells. c.second.ensures.does blocks told tells))
+    (λ blocks known w tells. c.second.ensures.does blocks known tells))

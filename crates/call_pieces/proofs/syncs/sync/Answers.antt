@@ -3,7 +3,7 @@ use Rattle.kernel_model.specs.World.{World}
 use Rattle.kernel_model.specs.Objects.{FrameValue, at}
 use Rattle.kernel_model.specs.Fetch.{bytes_of, cleaned}
 use Rattle.kernel_model.specs.FilePieces.{with_cache}
-use Rattle.disk_log.specs.Calls.{Tells}
+use Rattle.disk_log.specs.Calls.{Knows}
 use Rattle.std.specs.Result.{is_err}
 use Rattle.kernel_state.specs.Stores.{objects_of, cache_of}
 use Rattle.call_pieces.proofs.SyncLaws.{Midway, begins, past_clean, past_written, ends_failed, ends_well, left_failed, left_well, came_of, left_of, of_err, of_ok}
@@ -13,9 +13,9 @@ pub loop-f-init : goal.loop-f-init
 loop-f-init g c =
     let n = c.args.store.now.setup.frames in
     let s = objects_of c.args.store.now in
-    let told = g.D.Disk.blocks c.args.disk.now in
+    let known = g.D.Disk.blocks c.args.disk.now in
     record {
-      so_far = subst (λ (io : List Bool). Midway n 0 0 s s told told io) (sym c.requires.fresh) (begins n s told);
+      so_far = subst (λ (io : List Bool). Midway n 0 0 s s known known io) (sym c.requires.fresh) (begins n s known);
       calls = λ f p made. made;
       queue = refl;
       world = refl;
@@ -49,7 +49,7 @@ loop-f-preserved g c =
           (g.D.Disk.blocks c.args.disk.now) (g.D.Disk.blocks c.loop-f.disk) (g.D.Disk.blocks c.write_back.new.disk) c.loop-f.log c.write_back.new.log (is_err c.write_back.result) c.loop-f-test.true l.so_far
           (sym c.in-Some.ensures.value) w.noted (sym c.if-is_err.ensures.value)
           (of_ok c.write_back.result ((x : FrameValue) → cache.frame c.loop-f.f ≡ Some x → objects_of c.write_back.new.store ≡ with_cache (cleaned c.loop-f.f x cache) (objects_of c.loop-f.store)) well w.cleaned)
-          (λ blocks tells. subst (λ t. Tells (g.D.Disk.blocks c.write_back.new.disk) (cond t (at c.in-Some.b (bytes_of cache c.loop-f.f) blocks) blocks)) well (w.told blocks tells));
+          (λ blocks tells. subst (λ t. Knows (g.D.Disk.blocks c.write_back.new.disk) (cond t (at c.in-Some.b (bytes_of cache c.loop-f.f) blocks) blocks)) well (w.known blocks tells));
       calls = λ f p made. w.calls f p (l.calls f p made);
       queue = w.queue ∙ l.queue;
       world = w.world ∙ l.world;
@@ -70,7 +70,7 @@ returns-then-is_err-clause-does g c =
     (g.D.Disk.blocks c.args.disk.now) (g.D.Disk.blocks c.loop-f.disk) (g.D.Disk.blocks c.write_back.new.disk) c.loop-f.log c.write_back.new.log (is_err c.write_back.result) c.loop-f-test.true l.so_far
     (sym c.in-Some.ensures.value) w.noted (sym c.if-is_err.ensures.value)
     (of_err c.write_back.result (objects_of c.write_back.new.store ≡ objects_of c.loop-f.store) (sym c.if-is_err.ensures.value) w.kept)
-    (λ bs told. subst (λ t. Tells (g.D.Disk.blocks c.write_back.new.disk) (cond t (at c.in-Some.b (bytes_of cache c.loop-f.f) bs) bs)) ill (w.told bs told)) blocks rest tells)
+    (λ bs known. subst (λ t. Knows (g.D.Disk.blocks c.write_back.new.disk) (cond t (at c.in-Some.b (bytes_of cache c.loop-f.f) bs) bs)) ill (w.known bs known)) blocks rest tells)
 
 pub returns-then-is_err-clause-calls : goal.returns-then-is_err-clause-calls
 returns-then-is_err-clause-calls g c = λ f p made. c.write_back.ensures.calls f p (c.loop-f.invariant.calls f p made)

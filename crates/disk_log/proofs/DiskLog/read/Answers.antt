@@ -3,8 +3,8 @@ use Rattle.disk_log.proofs.Logs.{read_tells, made_more}
 use Rattle.disk_log.proofs.DiskLog.read.Goals as goal
 
 -- src/lib.rt:56:5
-pub returns-clause-told : goal.returns-clause-told
-returns-clause-told g c blocks tells =
+pub returns-clause-known : goal.returns-clause-known
+returns-clause-known g c blocks tells =
     read_tells (g.D.Disk.blocks c.args.disk.now) (g.D.Disk.blocks c.read_block-result.new.self) c.read_block-result.result c.args.b c.read_block-result.new.to blocks
     c.read_block-result.ensures.given c.read_block-result.ensures.kept tells
 

@@ -3,8 +3,8 @@ use Rattle.disk_log.proofs.Logs.{write_tells, made_more}
 use Rattle.disk_log.proofs.DiskLog.write.Goals as goal
 
 -- src/lib.rt:70:5
-pub returns-clause-told : goal.returns-clause-told
-returns-clause-told g c blocks tells =
+pub returns-clause-known : goal.returns-clause-known
+returns-clause-known g c blocks tells =
     write_tells (g.D.Disk.blocks c.args.disk.now) (g.D.Disk.blocks c.write_block-result.new.self) c.write_block-result.result c.args.b c.size.result c.args.from.now blocks
     (search rules) (search rules) c.write_block-result.ensures.replaced tells
 

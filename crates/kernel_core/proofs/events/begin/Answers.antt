@@ -10,7 +10,7 @@ use Rattle.kernel_core.proofs.WentLemmas.{run_at, stood_as, went_silently}
 use Rattle.kernel_core.proofs.events.begin.Goals as goal
 
 pub begin-requires-clause-new : goal.begin-requires-clause-new
-begin-requires-clause-new g c = let a = c.args in uncalled_unordered g.C.Meaning.Rules.meaning c.same_shown.ensures (placed_of g.C.Calls.stage a.running.now) a.p a.running.now.order c.requires.stood refl c.requires.none
+begin-requires-clause-new g c = let a = c.args in uncalled_unordered g.C.Meaning.Rules.meaning c.same_shown.ensures (placed_of g.C.Calls.stage a.running.now) a.p a.running.now.order c.requires.abstraction refl c.requires.none
 
 pub returns : goal.returns
 returns g c = record {
@@ -18,7 +18,7 @@ returns g c = record {
       let a = c.args in
       let x = (placed_of g.C.Calls.stage a.running.now) in
       let y = placed_of g.C.Calls.stage c.begin.new.self in
-      let s = c.requires.stood in
+      let s = c.requires.abstraction in
       let t = g.C.Calls.stage a.work in
       let here = ap (λ (r : PlacedRun). r.placed) (c.begin.ensures.value [] some_blocks []) in
       went_silently g.C.Meaning.Rules.meaning g.C.Calls.stage g.C.Calls.caller (λ r. placed_joins a.p (with_placed_call a.p (Some (first_placed a.number (g.C.Calls.stage a.work))) r)) a.running.now c.begin.new.self kept d (λ notes blocks io. c.begin.ensures.value notes blocks io) c.begin.ensures.running

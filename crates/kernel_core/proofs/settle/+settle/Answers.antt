@@ -19,13 +19,13 @@ returns-in_default-clause-went g κ c =
     (settle_blocked g.C.Meaning.Rules.meaning a.turns _ (omega (arith, c.if-turns-eq0.false)) (sym c.first_free.ensures ∙ c.in_default.is)) (c.rest-in_default.ensures.went a.notes.now (disk_seen (g.D.Disk.blocks a.disk.now) (g.D.Disk.plan a.disk.now) (g.D.Disk.faults a.disk.now)))
 
 pub step-requires-clause-process : goal.step-requires-clause-process
-step-requires-clause-process g κ c = free_small g.C.Meaning.Rules.meaning c.same_shown.ensures _ c.in-Some.p c.requires.stood (sym c.first_free.ensures ∙ c.in-Some.is)
+step-requires-clause-process g κ c = free_small g.C.Meaning.Rules.meaning c.same_shown.ensures _ c.in-Some.p c.requires.abstraction (sym c.first_free.ensures ∙ c.in-Some.is)
 
 pub step-requires-clause-call : goal.step-requires-clause-call
-step-requires-clause-call g κ c = free_called g.C.Meaning.Rules.meaning c.same_shown.ensures _ c.in-Some.p c.requires.stood (sym c.first_free.ensures ∙ c.in-Some.is)
+step-requires-clause-call g κ c = free_called g.C.Meaning.Rules.meaning c.same_shown.ensures _ c.in-Some.p c.requires.abstraction (sym c.first_free.ensures ∙ c.in-Some.is)
 
 pub step-requires-clause-free : goal.step-requires-clause-free
-step-requires-clause-free g κ c = free_unblocked g.C.Meaning.Rules.meaning _ c.in-Some.p c.requires.stood (sym c.first_free.ensures ∙ c.in-Some.is)
+step-requires-clause-free g κ c = free_unblocked g.C.Meaning.Rules.meaning _ c.in-Some.p c.requires.abstraction (sym c.first_free.ensures ∙ c.in-Some.is)
 
 pub returns-clause-went : goal.returns-clause-went
 returns-clause-went g κ c =
@@ -34,4 +34,4 @@ returns-clause-went g κ c =
     went_as g.C.Meaning.Rules.meaning g.C.Calls.stage g.C.Calls.caller (placed_settle g.C.Meaning.Rules.meaning a.turns) (λ r. placed_settle g.C.Meaning.Rules.meaning (a.turns - 1) (placed_step g.C.Meaning.Rules.meaning c.in-Some.p r)) a.running.now c.settle.new.running a.notes.now c.settle.new.notes (disk_seen (g.D.Disk.blocks a.disk.now) (g.D.Disk.plan a.disk.now) (g.D.Disk.faults a.disk.now)) (disk_seen (g.D.Disk.blocks c.settle.new.disk) (g.D.Disk.plan c.settle.new.disk) (g.D.Disk.faults c.settle.new.disk))
     (settle_free g.C.Meaning.Rules.meaning a.turns (a.turns - 1) _ c.in-Some.p turns (sym c.first_free.ensures ∙ c.in-Some.is))
     (went_then g.C.Meaning.Rules.meaning g.C.Calls.stage g.C.Calls.caller (placed_step g.C.Meaning.Rules.meaning c.in-Some.p) (placed_settle g.C.Meaning.Rules.meaning (a.turns - 1)) a.running.now c.step.new.self c.settle.new.running a.notes.now c.step.new.notes c.settle.new.notes (disk_seen (g.D.Disk.blocks a.disk.now) (g.D.Disk.plan a.disk.now) (g.D.Disk.faults a.disk.now)) (disk_seen (g.D.Disk.blocks c.step.new.disk) (g.D.Disk.plan c.step.new.disk) (g.D.Disk.faults c.step.new.disk)) (disk_seen (g.D.Disk.blocks c.settle.new.disk) (g.D.Disk.plan c.settle.new.disk) (g.D.Disk.faults c.settle.new.disk))
-    (record { did = c.step.ensures.did; running = c.step.ensures.running; stood = c.step.ensures.stood; world = c.step.ensures.world; clock = c.step.ensures.clock }) c.settle.ensures.went)
+    (record { refines = c.step.ensures.refines; running = c.step.ensures.running; abstraction = c.step.ensures.abstraction; world = c.step.ensures.world; clock = c.step.ensures.clock }) c.settle.ensures.went)

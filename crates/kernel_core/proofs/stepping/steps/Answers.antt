@@ -5,7 +5,7 @@ use Rattle.kernel_model.specs.declared.Note.TheVariants.{Ran}
 use Rattle.placed_laws.specs.PlacedSteps.{placed_noted}
 use Rattle.kernel_steps.specs.Composing.{did_as}
 use Rattle.kernel_steps.specs.Views.{placed_of, run_of}
-use Rattle.kernel_core.specs.Went.{HasCome, steps_left, steps_said, taken_up}
+use Rattle.kernel_core.specs.RefinesAndKeeps.{HasReached, steps_left, steps_said, taken_up}
 use Rattle.kernel_core.proofs.LastLemmas.{did_note}
 use Rattle.kernel_core.proofs.StepLemmas.{all_taken, come_first, come_last, come_on, come_stretched, not_going, one_less, steps_again, steps_next, steps_over, still_few}
 use Rattle.kernel_core.proofs.stepping.steps.Goals as goal
@@ -15,9 +15,9 @@ loop-going-init g c =
     let a = c.args in
     let all : a.n ≡ a.n - 0 = omega arith in
     record {
-      come = subst (λ k. HasCome g.C.Meaning.Rules.meaning (steps_said g.C.Meaning.Rules.meaning a.number a.p a.n 0) (steps_left g.C.Meaning.Rules.meaning a.number a.p k 0 true) (placed_of g.C.Calls.stage a.running.now) (placed_of g.C.Calls.stage a.running.now) a.notes.now a.notes.now (disk_seen (g.D.Disk.blocks a.disk.now) (g.D.Disk.plan a.disk.now) (g.D.Disk.faults a.disk.now)) (disk_seen (g.D.Disk.blocks a.disk.now) (g.D.Disk.plan a.disk.now) (g.D.Disk.faults a.disk.now))) all (come_first g.C.Meaning.Rules.meaning (steps_said g.C.Meaning.Rules.meaning a.number a.p a.n 0) (placed_of g.C.Calls.stage a.running.now) a.notes.now (disk_seen (g.D.Disk.blocks a.disk.now) (g.D.Disk.plan a.disk.now) (g.D.Disk.faults a.disk.now)));
+      come = subst (λ k. HasReached g.C.Meaning.Rules.meaning (steps_said g.C.Meaning.Rules.meaning a.number a.p a.n 0) (steps_left g.C.Meaning.Rules.meaning a.number a.p k 0 true) (placed_of g.C.Calls.stage a.running.now) (placed_of g.C.Calls.stage a.running.now) a.notes.now a.notes.now (disk_seen (g.D.Disk.blocks a.disk.now) (g.D.Disk.plan a.disk.now) (g.D.Disk.faults a.disk.now)) (disk_seen (g.D.Disk.blocks a.disk.now) (g.D.Disk.plan a.disk.now) (g.D.Disk.faults a.disk.now))) all (come_first g.C.Meaning.Rules.meaning (steps_said g.C.Meaning.Rules.meaning a.number a.p a.n 0) (placed_of g.C.Calls.stage a.running.now) a.notes.now (disk_seen (g.D.Disk.blocks a.disk.now) (g.D.Disk.plan a.disk.now) (g.D.Disk.faults a.disk.now)));
       running = c.requires.running;
-      stood = c.requires.stood;
+      abstraction = c.requires.abstraction;
       world = refl;
       clock = refl;
       disk = c.requires.disk;
@@ -34,10 +34,10 @@ loop-going-preserved-then-taken-n-2 g c =
     let on = s.ensures.on in
     let next = l.taken + s.result in
     record {
-      come = subst (λ b. HasCome g.C.Meaning.Rules.meaning (steps_said g.C.Meaning.Rules.meaning a.number a.p a.n 0) (steps_left g.C.Meaning.Rules.meaning a.number a.p (a.n - next) next b) (placed_of g.C.Calls.stage a.running.now) (placed_of g.C.Calls.stage s.new.running) a.notes.now l.notes (disk_seen (g.D.Disk.blocks a.disk.now) (g.D.Disk.plan a.disk.now) (g.D.Disk.faults a.disk.now)) (disk_seen (g.D.Disk.blocks l.disk) (g.D.Disk.plan l.disk) (g.D.Disk.faults l.disk))) (sym c.loop-going-test.true)
+      come = subst (λ b. HasReached g.C.Meaning.Rules.meaning (steps_said g.C.Meaning.Rules.meaning a.number a.p a.n 0) (steps_left g.C.Meaning.Rules.meaning a.number a.p (a.n - next) next b) (placed_of g.C.Calls.stage a.running.now) (placed_of g.C.Calls.stage s.new.running) a.notes.now l.notes (disk_seen (g.D.Disk.blocks a.disk.now) (g.D.Disk.plan a.disk.now) (g.D.Disk.faults a.disk.now)) (disk_seen (g.D.Disk.blocks l.disk) (g.D.Disk.plan l.disk) (g.D.Disk.faults l.disk))) (sym c.loop-going-test.true)
           (come_stretched g.C.Meaning.Rules.meaning a.number a.p a.n s.result l.taken l.going (steps_said g.C.Meaning.Rules.meaning a.number a.p a.n 0) (placed_of g.C.Calls.stage a.running.now) (placed_of g.C.Calls.stage l.running) (placed_of g.C.Calls.stage s.new.running) a.notes.now l.notes (disk_seen (g.D.Disk.blocks a.disk.now) (g.D.Disk.plan a.disk.now) (g.D.Disk.faults a.disk.now)) (disk_seen (g.D.Disk.blocks l.disk) (g.D.Disk.plan l.disk) (g.D.Disk.faults l.disk)) c.loop-going-test.true c.if-taken-n.true s.ensures.most i.come s.ensures.leads);
       running = on.running;
-      stood = on.stood;
+      abstraction = on.abstraction;
       world = on.world ∙ i.world;
       clock = on.clock ∙ i.clock;
       disk = ap (λ (v : World). v.disk_size) on.world ∙ i.disk;
@@ -63,11 +63,11 @@ loop-going-preserved g c =
       come = come_on g.C.Meaning.Rules.meaning (steps_said g.C.Meaning.Rules.meaning a.number a.p a.n 0) (steps_left g.C.Meaning.Rules.meaning a.number a.p (a.n - taken) taken true) (steps_left g.C.Meaning.Rules.meaning a.number a.p (a.n - next) next t.result) (taken_up g.C.Meaning.Rules.meaning a.p)
           (placed_of g.C.Calls.stage a.running.now) (placed_of g.C.Calls.stage s.new.running) (placed_of g.C.Calls.stage t.new.running) a.notes.now l.notes t.new.notes (disk_seen (g.D.Disk.blocks a.disk.now) (g.D.Disk.plan a.disk.now) (g.D.Disk.faults a.disk.now)) (disk_seen (g.D.Disk.blocks l.disk) (g.D.Disk.plan l.disk) (g.D.Disk.faults l.disk)) (disk_seen (g.D.Disk.blocks c.take_up-going.new.disk) (g.D.Disk.plan c.take_up-going.new.disk) (g.D.Disk.faults c.take_up-going.new.disk))
           (come_stretched g.C.Meaning.Rules.meaning a.number a.p a.n s.result l.taken l.going (steps_said g.C.Meaning.Rules.meaning a.number a.p a.n 0) (placed_of g.C.Calls.stage a.running.now) (placed_of g.C.Calls.stage l.running) (placed_of g.C.Calls.stage s.new.running) a.notes.now l.notes (disk_seen (g.D.Disk.blocks a.disk.now) (g.D.Disk.plan a.disk.now) (g.D.Disk.faults a.disk.now)) (disk_seen (g.D.Disk.blocks l.disk) (g.D.Disk.plan l.disk) (g.D.Disk.faults l.disk)) c.loop-going-test.true c.if-taken-n.true s.ensures.most i.come s.ensures.leads)
-          t.ensures.did
+          t.ensures.refines
           (λ blocks notes io. steps_next g.C.Meaning.Rules.meaning (placed_of g.C.Calls.stage s.new.running) a.p a.number (a.n - taken) k taken next t.result left t.ensures.took c.more-taken.ensures blocks notes io
           ∙ steps_again g.C.Meaning.Rules.meaning a.number a.p k (a.n - next) next t.result (taken_up g.C.Meaning.Rules.meaning a.p (run_of (placed_of g.C.Calls.stage s.new.running) blocks notes io)) (one_less a.n taken next t.result c.more-taken.ensures));
       running = on.running;
-      stood = on.stood;
+      abstraction = on.abstraction;
       world = on.world ∙ s.ensures.on.world ∙ i.world;
       clock = on.clock ∙ s.ensures.on.clock ∙ i.clock;
       disk = ap (λ (v : World). v.disk_size) (on.world ∙ s.ensures.on.world) ∙ i.disk ∙ sym t.ensures.same_size;
@@ -75,8 +75,8 @@ loop-going-preserved g c =
       few = still_few a.n taken next t.result less c.more-taken.ensures;
     }
 
-pub returns-clause-did : goal.returns-clause-did
-returns-clause-did g c =
+pub returns-clause-refines : goal.returns-clause-refines
+returns-clause-refines g c =
     let a = c.args in
     let l = c.loop-going in
     let i = l.invariant in
@@ -89,4 +89,4 @@ returns-clause-did g c =
     (λ blocks notes io. steps_over g.C.Meaning.Rules.meaning a.number a.p (a.n - l.taken) l.taken l.going (run_of (placed_of g.C.Calls.stage l.running) blocks notes io) over) (did_note (placed_of g.C.Calls.stage l.running) (Ran a.number l.taken) l.notes c.push.new.self (disk_seen (g.D.Disk.blocks l.disk) (g.D.Disk.plan l.disk) (g.D.Disk.faults l.disk)) c.push.ensures))
 
 pub returns-clause-on : goal.returns-clause-on
-returns-clause-on g c = let i = c.loop-going.invariant in record { running = i.running; stood = i.stood; world = i.world; clock = i.clock }
+returns-clause-on g c = let i = c.loop-going.invariant in record { running = i.running; abstraction = i.abstraction; world = i.world; clock = i.clock }

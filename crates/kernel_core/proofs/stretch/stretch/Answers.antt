@@ -14,5 +14,5 @@ returns-then-waits-clause-leads g c = leads_none g.C.Meaning.Rules.meaning c.arg
 pub returns-clause-leads : goal.returns-clause-leads
 returns-clause-leads g c =
     let x = placed_of g.C.Calls.stage c.args.running.now in
-    let call = called (x.call c.args.p) (levels_called g.C.Meaning.Rules.meaning c.same_shown.ensures x c.args.p c.requires.stood (sym c.in_graft.ensures ∙ c.if-not-in_graft.false)) in
+    let call = called (x.call c.args.p) (levels_called g.C.Meaning.Rules.meaning c.same_shown.ensures x c.args.p c.requires.abstraction (sym c.in_graft.ensures ∙ c.if-not-in_graft.false)) in
     leads_far g.C.Meaning.Rules.meaning c.stretches.ensures x (placed_of g.C.Calls.stage c.stretch.new.self) call.0 c.args.p c.stretch.result call.1 (sym c.waits.ensures ∙ c.if-waits.false) c.stretch.ensures.is

@@ -11,16 +11,16 @@ pub returns-then-turns-eq0-clause-went : goal.returns-then-turns-eq0-clause-went
 returns-then-turns-eq0-clause-went g κ c =
     let a = c.args in
     went_as g.C.Meaning.Rules.meaning g.C.Calls.stage g.C.Calls.caller (placed_actions g.C.Meaning.Rules.meaning a.turns) (λ r. r) a.running.now a.running.now a.notes.now a.notes.now (disk_seen (g.D.Disk.blocks a.disk.now) (g.D.Disk.plan a.disk.now) (g.D.Disk.faults a.disk.now)) (disk_seen (g.D.Disk.blocks a.disk.now) (g.D.Disk.plan a.disk.now) (g.D.Disk.faults a.disk.now))
-    (λ blocks notes io. actions_zero g.C.Meaning.Rules.meaning a.turns _ c.if-turns-eq0.true) (went_nothing g.C.Meaning.Rules.meaning g.C.Calls.stage g.C.Calls.caller a.running.now a.notes.now (disk_seen (g.D.Disk.blocks a.disk.now) (g.D.Disk.plan a.disk.now) (g.D.Disk.faults a.disk.now)) c.requires.running c.requires.stood)
+    (λ blocks notes io. actions_zero g.C.Meaning.Rules.meaning a.turns _ c.if-turns-eq0.true) (went_nothing g.C.Meaning.Rules.meaning g.C.Calls.stage g.C.Calls.caller a.running.now a.notes.now (disk_seen (g.D.Disk.blocks a.disk.now) (g.D.Disk.plan a.disk.now) (g.D.Disk.faults a.disk.now)) c.requires.running c.requires.abstraction)
 
 pub returns-in_default-clause-went : goal.returns-in_default-clause-went
 returns-in_default-clause-went g κ c =
     let a = c.args in
     went_as g.C.Meaning.Rules.meaning g.C.Calls.stage g.C.Calls.caller (placed_actions g.C.Meaning.Rules.meaning a.turns) (λ r. r) a.running.now a.running.now a.notes.now a.notes.now (disk_seen (g.D.Disk.blocks a.disk.now) (g.D.Disk.plan a.disk.now) (g.D.Disk.faults a.disk.now)) (disk_seen (g.D.Disk.blocks a.disk.now) (g.D.Disk.plan a.disk.now) (g.D.Disk.faults a.disk.now))
-    (actions_none g.C.Meaning.Rules.meaning a.turns _ (sym c.expired.ensures ∙ ap (option_map entry_of) c.in_default.is)) (went_nothing g.C.Meaning.Rules.meaning g.C.Calls.stage g.C.Calls.caller a.running.now a.notes.now (disk_seen (g.D.Disk.blocks a.disk.now) (g.D.Disk.plan a.disk.now) (g.D.Disk.faults a.disk.now)) c.requires.running c.requires.stood)
+    (actions_none g.C.Meaning.Rules.meaning a.turns _ (sym c.expired.ensures ∙ ap (option_map entry_of) c.in_default.is)) (went_nothing g.C.Meaning.Rules.meaning g.C.Calls.stage g.C.Calls.caller a.running.now a.notes.now (disk_seen (g.D.Disk.blocks a.disk.now) (g.D.Disk.plan a.disk.now) (g.D.Disk.faults a.disk.now)) c.requires.running c.requires.abstraction)
 
 pub act-requires-clause-process : goal.act-requires-clause-process
-act-requires-clause-process g κ c = expired_small g.C.Meaning.Rules.meaning c.same_shown.ensures _ (entry_of c.in-Some.waiting) c.requires.stood (sym c.expired.ensures ∙ ap (option_map entry_of) c.in-Some.is)
+act-requires-clause-process g κ c = expired_small g.C.Meaning.Rules.meaning c.same_shown.ensures _ (entry_of c.in-Some.waiting) c.requires.abstraction (sym c.expired.ensures ∙ ap (option_map entry_of) c.in-Some.is)
 
 pub returns-clause-went : goal.returns-clause-went
 returns-clause-went g κ c =

@@ -12,7 +12,7 @@ returns-in_default-clause-went g c =
     let a = c.args in
     went_as g.C.Meaning.Rules.meaning g.C.Calls.stage g.C.Calls.caller (placed_entry_action g.C.Meaning.Rules.meaning (entry_of a.waiting) (entry_of a.waiting).blocker) (λ r. r) a.running.now a.running.now a.notes.now a.notes.now (disk_seen (g.D.Disk.blocks a.disk.now) (g.D.Disk.plan a.disk.now) (g.D.Disk.faults a.disk.now)) (disk_seen (g.D.Disk.blocks a.disk.now) (g.D.Disk.plan a.disk.now) (g.D.Disk.faults a.disk.now))
     (λ blocks notes io. ap (λ o. placed_entry_action g.C.Meaning.Rules.meaning (entry_of a.waiting) (option_map blocker_of o) (run_of (placed_of g.C.Calls.stage a.running.now) blocks notes io)) c.in_default.is)
-    (went_nothing g.C.Meaning.Rules.meaning g.C.Calls.stage g.C.Calls.caller a.running.now a.notes.now (disk_seen (g.D.Disk.blocks a.disk.now) (g.D.Disk.plan a.disk.now) (g.D.Disk.faults a.disk.now)) c.requires.running c.requires.stood)
+    (went_nothing g.C.Meaning.Rules.meaning g.C.Calls.stage g.C.Calls.caller a.running.now a.notes.now (disk_seen (g.D.Disk.blocks a.disk.now) (g.D.Disk.plan a.disk.now) (g.D.Disk.faults a.disk.now)) c.requires.running c.requires.abstraction)
 
 pub returns-in-None-clause-went : goal.returns-in-None-clause-went
 returns-in-None-clause-went g c =

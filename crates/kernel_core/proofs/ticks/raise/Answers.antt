@@ -15,13 +15,13 @@ returns g c = record {
       let a = c.args in
       let x = (placed_of g.C.Calls.stage a.running.now) in
       let y = placed_of g.C.Calls.stage c.tick.new.self in
-      let s = c.requires.stood in
+      let s = c.requires.abstraction in
       let value = c.tick.ensures.value in
       let here = ap (λ (r : PlacedRun). r.placed) (value.0 [] some_blocks []) in
       record {
-        did = did_purely (placed_ticked a.number) x y a.notes.now c.tick.new.notes (Ticked a.number (suc a.running.now.clock) ∷ []) d (λ blocks notes io. value.0 notes blocks io) value.1;
+        refines = did_purely (placed_ticked a.number) x y a.notes.now c.tick.new.notes (Ticked a.number (suc a.running.now.clock) ∷ []) d (λ blocks notes io. value.0 notes blocks io) value.1;
         running = c.tick.ensures.running;
-        stood = stood_as g.C.Meaning.Rules.meaning y (placed_ticked a.number (run_of x some_blocks [] [])) (ticked a.number (record { kernel = s.kernel; blocks = some_blocks; notes = []; io = [] })) (c.others_stand.ensures.ticking (run_of x some_blocks [] []) (record { kernel = s.kernel; blocks = some_blocks; notes = []; io = [] }) a.number (run_at g.C.Meaning.Rules.meaning x s)) here;
+        abstraction = stood_as g.C.Meaning.Rules.meaning y (placed_ticked a.number (run_of x some_blocks [] [])) (ticked a.number (record { kernel = s.kernel; blocks = some_blocks; notes = []; io = [] })) (c.others_stand.ensures.ticking (run_of x some_blocks [] []) (record { kernel = s.kernel; blocks = some_blocks; notes = []; io = [] }) a.number (run_at g.C.Meaning.Rules.meaning x s)) here;
         world = sym (ap (λ (z : Placed). z.world) here);
         clock = sym (ap (λ (z : Placed). z.clock) here);
       };

@@ -10,8 +10,8 @@ use Rattle.kernel_core.proofs.ticks.tick_event.Goals as goal
 pub actions-requires-clause-running : goal.actions-requires-clause-running
 actions-requires-clause-running g c = let a = c.args in (c.raise.ensures.ticked (disk_seen (g.D.Disk.blocks a.disk.now) (g.D.Disk.plan a.disk.now) (g.D.Disk.faults a.disk.now))).running
 
-pub actions-requires-clause-stood : goal.actions-requires-clause-stood
-actions-requires-clause-stood g c = let a = c.args in (c.raise.ensures.ticked (disk_seen (g.D.Disk.blocks a.disk.now) (g.D.Disk.plan a.disk.now) (g.D.Disk.faults a.disk.now))).stood
+pub actions-requires-clause-abstraction : goal.actions-requires-clause-abstraction
+actions-requires-clause-abstraction g c = let a = c.args in (c.raise.ensures.ticked (disk_seen (g.D.Disk.blocks a.disk.now) (g.D.Disk.plan a.disk.now) (g.D.Disk.faults a.disk.now))).abstraction
 
 pub actions-requires-clause-disk : goal.actions-requires-clause-disk
 actions-requires-clause-disk g c = let a = c.args in ap (λ (v : World). v.disk_size) (c.raise.ensures.ticked (disk_seen (g.D.Disk.blocks a.disk.now) (g.D.Disk.plan a.disk.now) (g.D.Disk.faults a.disk.now))).world ∙ c.requires.disk
@@ -22,9 +22,9 @@ returns-clause-ticked g c =
     let t = c.raise.ensures.ticked (disk_seen (g.D.Disk.blocks a.disk.now) (g.D.Disk.plan a.disk.now) (g.D.Disk.faults a.disk.now)) in
     let w = c.actions.ensures.went in
     record {
-      did = did_then (placed_ticked a.number) (placed_actions g.C.Meaning.Rules.meaning 288) (placed_of g.C.Calls.stage a.running.now) (placed_of g.C.Calls.stage c.raise.new.running) (placed_of g.C.Calls.stage c.actions.new.running) a.notes.now c.raise.new.notes c.actions.new.notes (disk_seen (g.D.Disk.blocks a.disk.now) (g.D.Disk.plan a.disk.now) (g.D.Disk.faults a.disk.now)) (disk_seen (g.D.Disk.blocks a.disk.now) (g.D.Disk.plan a.disk.now) (g.D.Disk.faults a.disk.now)) (disk_seen (g.D.Disk.blocks c.actions.new.disk) (g.D.Disk.plan c.actions.new.disk) (g.D.Disk.faults c.actions.new.disk)) t.did w.did;
+      refines = did_then (placed_ticked a.number) (placed_actions g.C.Meaning.Rules.meaning 288) (placed_of g.C.Calls.stage a.running.now) (placed_of g.C.Calls.stage c.raise.new.running) (placed_of g.C.Calls.stage c.actions.new.running) a.notes.now c.raise.new.notes c.actions.new.notes (disk_seen (g.D.Disk.blocks a.disk.now) (g.D.Disk.plan a.disk.now) (g.D.Disk.faults a.disk.now)) (disk_seen (g.D.Disk.blocks a.disk.now) (g.D.Disk.plan a.disk.now) (g.D.Disk.faults a.disk.now)) (disk_seen (g.D.Disk.blocks c.actions.new.disk) (g.D.Disk.plan c.actions.new.disk) (g.D.Disk.faults c.actions.new.disk)) t.refines w.refines;
       running = w.running;
-      stood = w.stood;
+      abstraction = w.abstraction;
       world = w.world ∙ t.world;
       clock = w.clock ∙ t.clock;
     }

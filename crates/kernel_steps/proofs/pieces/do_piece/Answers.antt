@@ -1,19 +1,19 @@
 use Rattle.std.proofs.Common.{◌∙◌, sym, subst, refl, List, Bool, None, Some}
-use Rattle.disk_log.specs.Calls.{GoesOn}
+use Rattle.disk_log.specs.Calls.{CallsExtend}
 use Rattle.call_pieces.specs.declared.Next.{Next}
 use Rattle.kernel_state.specs.Stores.{world_of_store, objects_of}
 use Rattle.kernel_steps.proofs.PieceLemmas.{flight_done, nothing_more, same_some}
 use Rattle.kernel_steps.proofs.pieces.do_piece.Goals as goal
 
-pub returns-in-Goes-clause-done : goal.returns-in-Goes-clause-done
-returns-in-Goes-clause-done g c =
+pub returns-in-Simulates-clause-done : goal.returns-in-Simulates-clause-done
+returns-in-Simulates-clause-done g c =
     λ f is.
     let call = c.in-Some.call in
     let a = c.args in
     let p = c.piece-after in
     flight_done g.C.Meaning.Rules.meaning g.C.Calls.stage g.C.Calls.caller (world_of_store a.store.now) (objects_of a.store.now) (objects_of p.new.store)
     call f p.new.work (Some (record { number = call.number; work = p.new.work })) a.answer a.notes.now c.push_bytes.new.self c.push_bytes.new.self (g.D.Disk.blocks a.disk.now) (g.D.Disk.blocks p.new.disk) (g.D.Disk.plan a.disk.now) (g.D.Disk.plan p.new.disk) (g.D.Disk.faults a.disk.now) (g.D.Disk.faults p.new.disk)
-    p.new.log p.result.gave p.result.next Next.Goes (same_some call f (sym c.in-Some.is ∙ is)) c.in-Goes.is p.ensures.does p.ensures.some (subst (λ (io : List Bool). GoesOn (g.D.Disk.faults a.disk.now) (g.D.Disk.faults p.new.disk) (g.D.Disk.plan a.disk.now) (g.D.Disk.plan p.new.disk) io p.new.log) c.clear.ensures p.ensures.calls) refl c.push_bytes.ensures (λ all k. nothing_more c.push_bytes.new.self all k)
+    p.new.log p.result.gave p.result.next Next.Goes (same_some call f (sym c.in-Some.is ∙ is)) c.in-Simulates.is p.ensures.does p.ensures.some (subst (λ (io : List Bool). CallsExtend (g.D.Disk.faults a.disk.now) (g.D.Disk.faults p.new.disk) (g.D.Disk.plan a.disk.now) (g.D.Disk.plan p.new.disk) io p.new.log) c.clear.ensures p.ensures.calls) refl c.push_bytes.ensures (λ all k. nothing_more c.push_bytes.new.self all k)
 
 pub returns-in-Ends-clause-done : goal.returns-in-Ends-clause-done
 returns-in-Ends-clause-done g c =
@@ -23,7 +23,7 @@ returns-in-Ends-clause-done g c =
     let p = c.piece-after in
     flight_done g.C.Meaning.Rules.meaning g.C.Calls.stage g.C.Calls.caller (world_of_store a.store.now) (objects_of a.store.now) (objects_of p.new.store)
     call f p.new.work None a.answer a.notes.now c.push_bytes.new.self c.push.new.self (g.D.Disk.blocks a.disk.now) (g.D.Disk.blocks p.new.disk) (g.D.Disk.plan a.disk.now) (g.D.Disk.plan p.new.disk) (g.D.Disk.faults a.disk.now) (g.D.Disk.faults p.new.disk)
-    p.new.log p.result.gave p.result.next (Next.Ends c.in-Ends.reply) (same_some call f (sym c.in-Some.is ∙ is)) c.in-Ends.is p.ensures.does p.ensures.some (subst (λ (io : List Bool). GoesOn (g.D.Disk.faults a.disk.now) (g.D.Disk.faults p.new.disk) (g.D.Disk.plan a.disk.now) (g.D.Disk.plan p.new.disk) io p.new.log) c.clear.ensures p.ensures.calls) refl c.push_bytes.ensures c.push.ensures
+    p.new.log p.result.gave p.result.next (Next.Ends c.in-Ends.reply) (same_some call f (sym c.in-Some.is ∙ is)) c.in-Ends.is p.ensures.does p.ensures.some (subst (λ (io : List Bool). CallsExtend (g.D.Disk.faults a.disk.now) (g.D.Disk.faults p.new.disk) (g.D.Disk.plan a.disk.now) (g.D.Disk.plan p.new.disk) io p.new.log) c.clear.ensures p.ensures.calls) refl c.push_bytes.ensures c.push.ensures
 
 pub returns-in-Fails-clause-done : goal.returns-in-Fails-clause-done
 returns-in-Fails-clause-done g c =
@@ -33,4 +33,4 @@ returns-in-Fails-clause-done g c =
     let p = c.piece-after in
     flight_done g.C.Meaning.Rules.meaning g.C.Calls.stage g.C.Calls.caller (world_of_store a.store.now) (objects_of a.store.now) (objects_of p.new.store)
     call f p.new.work None a.answer a.notes.now c.push_bytes.new.self c.push-in-Fails.new.self (g.D.Disk.blocks a.disk.now) (g.D.Disk.blocks p.new.disk) (g.D.Disk.plan a.disk.now) (g.D.Disk.plan p.new.disk) (g.D.Disk.faults a.disk.now) (g.D.Disk.faults p.new.disk)
-    p.new.log p.result.gave p.result.next (Next.Fails c.in-Fails.refusal) (same_some call f (sym c.in-Some.is ∙ is)) c.in-Fails.is p.ensures.does p.ensures.some (subst (λ (io : List Bool). GoesOn (g.D.Disk.faults a.disk.now) (g.D.Disk.faults p.new.disk) (g.D.Disk.plan a.disk.now) (g.D.Disk.plan p.new.disk) io p.new.log) c.clear.ensures p.ensures.calls) refl c.push_bytes.ensures c.push-in-Fails.ensures
+    p.new.log p.result.gave p.result.next (Next.Fails c.in-Fails.refusal) (same_some call f (sym c.in-Some.is ∙ is)) c.in-Fails.is p.ensures.does p.ensures.some (subst (λ (io : List Bool). CallsExtend (g.D.Disk.faults a.disk.now) (g.D.Disk.faults p.new.disk) (g.D.Disk.plan a.disk.now) (g.D.Disk.plan p.new.disk) io p.new.log) c.clear.ensures p.ensures.calls) refl c.push_bytes.ensures c.push-in-Fails.ensures

@@ -22,11 +22,11 @@ returns-clause-running g c =
     runs_with_more g.C.Calls.caller c.args.self.now c.add.new.self c.requires.running
     (subst (λ (t : ImageTable). Extends (table_of c.args.self.now.images) t) (sym c.add.ensures.table) (extends_at c.args.slot c.args.image (table_of c.args.self.now.images) c.requires.free))
 
-pub returns-clause-stood : goal.returns-clause-stood
-returns-clause-stood g c =
+pub returns-clause-abstraction : goal.returns-clause-abstraction
+returns-clause-abstraction g c =
     let x = placed_of g.C.Calls.stage c.args.self.now in
-    let k = c.requires.stood.kernel in
+    let k = c.requires.abstraction.kernel in
     record {
       kernel = session.add_image c.args.slot c.args.image k;
-      stands = stands_added g.C.Meaning.Rules.meaning c.others_stand.ensures x k c.args.slot c.args.image (table_of c.add.new.self) c.add.ensures.table c.requires.free c.requires.stood.stands;
+      stands = stands_added g.C.Meaning.Rules.meaning c.others_stand.ensures x k c.args.slot c.args.image (table_of c.add.new.self) c.add.ensures.table c.requires.free c.requires.abstraction.stands;
     }

@@ -25,7 +25,7 @@ pub follow-requires-clause-ready : goal.follow-requires-clause-ready
 follow-requires-clause-ready g c =
     λ answer f h is.
     let x = c.args.self.now in
-    drop_ready g.C.Meaning.Rules.meaning c.ready_in_place.ensures g.C.Calls.stage x c.fall-said.new.self c.args.p c.args.d c.args.cause f c.fall-said.result answer c.requires.stood (subst (λ n. c.args.d < n) (sym (levels_many x c.args.p)) c.requires.level) c.fall-said.ensures.moved c.fall-said.ensures.config c.fall-said.ensures.said h is
+    drop_ready g.C.Meaning.Rules.meaning c.ready_in_place.ensures g.C.Calls.stage x c.fall-said.new.self c.args.p c.args.d c.args.cause f c.fall-said.result answer c.requires.abstraction (subst (λ n. c.args.d < n) (sym (levels_many x c.args.p)) c.requires.level) c.fall-said.ensures.moved c.fall-said.ensures.config c.fall-said.ensures.said h is
 
 pub returns-clause-done : goal.returns-clause-done
 returns-clause-done g c =

@@ -27,7 +27,7 @@ pub follow-requires-clause-ready : goal.follow-requires-clause-ready
 follow-requires-clause-ready g c =
     λ answer f h is.
     let x = c.args.self.now in
-    micro_ready g.C.Meaning.Rules.meaning c.ready_in_place.ensures g.C.Calls.stage x c.instruct-said.new.self c.args.p f c.instruct-said.result answer c.requires.stood c.requires.level c.instruct-said.ensures.moved c.instruct-said.ensures.config c.instruct-said.ensures.said h is
+    micro_ready g.C.Meaning.Rules.meaning c.ready_in_place.ensures g.C.Calls.stage x c.instruct-said.new.self c.args.p f c.instruct-said.result answer c.requires.abstraction c.requires.level c.instruct-said.ensures.moved c.instruct-said.ensures.config c.instruct-said.ensures.said h is
 
 pub returns-clause-done : goal.returns-clause-done
 returns-clause-done g c =

@@ -17,7 +17,7 @@ piece_hindrance-requires-clause-ready g c =
     let m = g.C.Meaning.Rules.meaning in
     let fl : c.flight-flight.result.now ≡ flight_of x.calls.items c.args.p = c.flight-flight.ensures ∙ ap (λ fs. flight_of fs c.args.p) c.deref.ensures.value in
     may_come m g.C.Meaning.Rules.laws (world_of_store x.store) (table_of x.images) (objects_of x.store) (g.C.Calls.caller c.in-Some.call.work) (g.C.Calls.stage c.in-Some.call.work)
-    (stands m c.sound_in_place.ensures g.C.Calls.stage g.C.Calls.caller x c.args.p c.in-Some.call c.requires.running c.requires.stood
+    (stands m c.sound_in_place.ensures g.C.Calls.stage g.C.Calls.caller x c.args.p c.in-Some.call c.requires.running c.requires.abstraction
     (sym (ap (λ (f : Flight g.row.C-Work.Denot). f.call) fl) ∙ c.in-Some.is))
 
 pub piece_hindrance-requires-clause-range : goal.piece_hindrance-requires-clause-range
@@ -26,7 +26,7 @@ piece_hindrance-requires-clause-range g c =
     let m = g.C.Meaning.Rules.meaning in
     let fl : c.flight-flight.result.now ≡ flight_of x.calls.items c.args.p = c.flight-flight.ensures ∙ ap (λ fs. flight_of fs c.args.p) c.deref.ensures.value in
     λ n has. g.C.Meaning.Rules.laws.need.ranges (world_of_store x.store) (table_of x.images) (objects_of x.store) (g.C.Calls.caller c.in-Some.call.work) (g.C.Calls.stage c.in-Some.call.work) n
-    (stands m c.sound_in_place.ensures g.C.Calls.stage g.C.Calls.caller x c.args.p c.in-Some.call c.requires.running c.requires.stood
+    (stands m c.sound_in_place.ensures g.C.Calls.stage g.C.Calls.caller x c.args.p c.in-Some.call c.requires.running c.requires.abstraction
     (sym (ap (λ (f : Flight g.row.C-Work.Denot). f.call) fl) ∙ c.in-Some.is)) has
 
 pub returns-then-count-eq0 : goal.returns-then-count-eq0

@@ -23,13 +23,13 @@ asks-requires g c =
     let call = c.in-Some.call in
     let fl : c.flight-flight.result.now ≡ flight_of x.calls.items a.p = c.flight-flight.ensures ∙ ap (λ fs. flight_of fs a.p) c.deref.ensures.value in
     let there = sym (ap (λ (f : Flight g.row.C-Work.Denot). f.call) fl) ∙ c.in-Some.is in
-    record { ready = may_come g.C.Meaning.Rules.meaning g.C.Meaning.Rules.laws (world_of_store x.store) (table_of x.images) (objects_of x.store) (g.C.Calls.caller call.work) (g.C.Calls.stage call.work) (stands g.C.Meaning.Rules.meaning c.sound_in_place.ensures g.C.Calls.stage g.C.Calls.caller x a.p call c.requires.running c.requires.stood there) }
+    record { ready = may_come g.C.Meaning.Rules.meaning g.C.Meaning.Rules.laws (world_of_store x.store) (table_of x.images) (objects_of x.store) (g.C.Calls.caller call.work) (g.C.Calls.stage call.work) (stands g.C.Meaning.Rules.meaning c.sound_in_place.ensures g.C.Calls.stage g.C.Calls.caller x a.p call c.requires.running c.requires.abstraction there) }
 
 pub finish-requires-clause-alone : goal.finish-requires-clause-alone
 finish-requires-clause-alone g c = alone_at g.C.Calls.caller c.args.self.now c.args.p c.requires.running c.requires.process
 
 pub finish-requires-clause-ready : goal.finish-requires-clause-ready
-finish-requires-clause-ready g c = λ f is. ready_at_once g.C.Meaning.Rules.meaning c.ready_in_place.ensures g.C.Calls.stage c.args.self.now c.args.p f c.requires.stood is
+finish-requires-clause-ready g c = λ f is. ready_at_once g.C.Meaning.Rules.meaning c.ready_in_place.ensures g.C.Calls.stage c.args.self.now c.args.p f c.requires.abstraction is
 
 pub returns-in_default-asks-clause-done : goal.returns-in_default-asks-clause-done
 returns-in_default-asks-clause-done g c =
@@ -50,13 +50,13 @@ has_graft-requires g c =
     let call = c.in-Some.call in
     let fl : c.flight-flight.result.now ≡ flight_of x.calls.items a.p = c.flight-flight.ensures ∙ ap (λ fs. flight_of fs a.p) c.deref.ensures.value in
     let there = sym (ap (λ (f : Flight g.row.C-Work.Denot). f.call) fl) ∙ c.in-Some.is in
-    (g.C.Meaning.Rules.laws.ask.ranges (world_of_store x.store) (table_of x.images) (objects_of x.store) (g.C.Calls.caller call.work) (g.C.Calls.stage call.work) c.in-Some-asks.point (stands g.C.Meaning.Rules.meaning c.sound_in_place.ensures g.C.Calls.stage g.C.Calls.caller x a.p call c.requires.running c.requires.stood there) (sym c.asks.ensures ∙ c.in-Some-asks.is)).graft.1
+    (g.C.Meaning.Rules.laws.ask.ranges (world_of_store x.store) (table_of x.images) (objects_of x.store) (g.C.Calls.caller call.work) (g.C.Calls.stage call.work) c.in-Some-asks.point (stands g.C.Meaning.Rules.meaning c.sound_in_place.ensures g.C.Calls.stage g.C.Calls.caller x a.p call c.requires.running c.requires.abstraction there) (sym c.asks.ensures ∙ c.in-Some-asks.is)).graft.1
 
 pub finish-requires-then-not-has_graft-clause-alone : goal.finish-requires-then-not-has_graft-clause-alone
 finish-requires-then-not-has_graft-clause-alone g c = alone_at g.C.Calls.caller c.args.self.now c.args.p c.requires.running c.requires.process
 
 pub finish-requires-then-not-has_graft-clause-ready : goal.finish-requires-then-not-has_graft-clause-ready
-finish-requires-then-not-has_graft-clause-ready g c = λ f is. ready_at_once g.C.Meaning.Rules.meaning c.ready_in_place.ensures g.C.Calls.stage c.args.self.now c.args.p f c.requires.stood is
+finish-requires-then-not-has_graft-clause-ready g c = λ f is. ready_at_once g.C.Meaning.Rules.meaning c.ready_in_place.ensures g.C.Calls.stage c.args.self.now c.args.p f c.requires.abstraction is
 
 pub returns-then-not-has_graft-clause-done : goal.returns-then-not-has_graft-clause-done
 returns-then-not-has_graft-clause-done g c =
@@ -78,7 +78,7 @@ need-requires g c =
     let call = c.in-Some.call in
     let fl : c.flight-flight.result.now ≡ flight_of x.calls.items a.p = c.flight-flight.ensures ∙ ap (λ fs. flight_of fs a.p) c.deref.ensures.value in
     let there = sym (ap (λ (f : Flight g.row.C-Work.Denot). f.call) fl) ∙ c.in-Some.is in
-    record { ready = may_come g.C.Meaning.Rules.meaning g.C.Meaning.Rules.laws (world_of_store x.store) (table_of x.images) (objects_of x.store) (g.C.Calls.caller call.work) (g.C.Calls.stage call.work) (stands g.C.Meaning.Rules.meaning c.sound_in_place.ensures g.C.Calls.stage g.C.Calls.caller x a.p call c.requires.running c.requires.stood there) }
+    record { ready = may_come g.C.Meaning.Rules.meaning g.C.Meaning.Rules.laws (world_of_store x.store) (table_of x.images) (objects_of x.store) (g.C.Calls.caller call.work) (g.C.Calls.stage call.work) (stands g.C.Meaning.Rules.meaning c.sound_in_place.ensures g.C.Calls.stage g.C.Calls.caller x a.p call c.requires.running c.requires.abstraction there) }
 
 pub enter-requires-clause-owner : goal.enter-requires-clause-owner
 enter-requires-clause-owner g c =
@@ -87,7 +87,7 @@ enter-requires-clause-owner g c =
     let call = c.in-Some.call in
     let fl : c.flight-flight.result.now ≡ flight_of x.calls.items a.p = c.flight-flight.ensures ∙ ap (λ fs. flight_of fs a.p) c.deref.ensures.value in
     let there = sym (ap (λ (f : Flight g.row.C-Work.Denot). f.call) fl) ∙ c.in-Some.is in
-    (g.C.Meaning.Rules.laws.ask.ranges (world_of_store x.store) (table_of x.images) (objects_of x.store) (g.C.Calls.caller call.work) (g.C.Calls.stage call.work) c.in-Some-asks.point (stands g.C.Meaning.Rules.meaning c.sound_in_place.ensures g.C.Calls.stage g.C.Calls.caller x a.p call c.requires.running c.requires.stood there) (sym c.asks.ensures ∙ c.in-Some-asks.is)).graft.0
+    (g.C.Meaning.Rules.laws.ask.ranges (world_of_store x.store) (table_of x.images) (objects_of x.store) (g.C.Calls.caller call.work) (g.C.Calls.stage call.work) c.in-Some-asks.point (stands g.C.Meaning.Rules.meaning c.sound_in_place.ensures g.C.Calls.stage g.C.Calls.caller x a.p call c.requires.running c.requires.abstraction there) (sym c.asks.ensures ∙ c.in-Some-asks.is)).graft.0
 
 pub enter-requires-clause-lives : goal.enter-requires-clause-lives
 enter-requires-clause-lives g c =
@@ -96,7 +96,7 @@ enter-requires-clause-lives g c =
     let call = c.in-Some.call in
     let fl : c.flight-flight.result.now ≡ flight_of x.calls.items a.p = c.flight-flight.ensures ∙ ap (λ fs. flight_of fs a.p) c.deref.ensures.value in
     let there = sym (ap (λ (f : Flight g.row.C-Work.Denot). f.call) fl) ∙ c.in-Some.is in
-    asked_lives (world_of_store x.store) (objects_of x.store) c.in-Some-asks.point.installer c.in-Some-asks.point.point (stands g.C.Meaning.Rules.meaning c.sound_in_place.ensures g.C.Calls.stage g.C.Calls.caller x a.p call c.requires.running c.requires.stood there).store
+    asked_lives (world_of_store x.store) (objects_of x.store) c.in-Some-asks.point.installer c.in-Some-asks.point.point (stands g.C.Meaning.Rules.meaning c.sound_in_place.ensures g.C.Calls.stage g.C.Calls.caller x a.p call c.requires.running c.requires.abstraction there).store
     (there_is c.has_graft.result ((objects_of x.store).accounts.graft c.in-Some-asks.point.installer c.in-Some-asks.point.point) c.has_graft.ensures c.if-not-has_graft.false)
 
 pub enter-requires-clause-range : goal.enter-requires-clause-range
@@ -107,7 +107,7 @@ enter-requires-clause-range g c =
     let fl : c.flight-flight.result.now ≡ flight_of x.calls.items a.p = c.flight-flight.ensures ∙ ap (λ fs. flight_of fs a.p) c.deref.ensures.value in
     let there = sym (ap (λ (f : Flight g.row.C-Work.Denot). f.call) fl) ∙ c.in-Some.is in
     all_of c.as_slice.result.now (g.C.Meaning.Rules.meaning.need (world_of_store x.store) (objects_of x.store) (g.C.Calls.caller call.work) (g.C.Calls.stage call.work)) (c.as_slice.ensures ∙ c.need.ensures)
-    (λ n has. g.C.Meaning.Rules.laws.need.ranges (world_of_store x.store) (table_of x.images) (objects_of x.store) (g.C.Calls.caller call.work) (g.C.Calls.stage call.work) n (stands g.C.Meaning.Rules.meaning c.sound_in_place.ensures g.C.Calls.stage g.C.Calls.caller x a.p call c.requires.running c.requires.stood there) has)
+    (λ n has. g.C.Meaning.Rules.laws.need.ranges (world_of_store x.store) (table_of x.images) (objects_of x.store) (g.C.Calls.caller call.work) (g.C.Calls.stage call.work) n (stands g.C.Meaning.Rules.meaning c.sound_in_place.ensures g.C.Calls.stage g.C.Calls.caller x a.p call c.requires.running c.requires.abstraction there) has)
 
 pub returns-clause-done : goal.returns-clause-done
 returns-clause-done g c =

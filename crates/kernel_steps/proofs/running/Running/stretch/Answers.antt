@@ -39,8 +39,8 @@ returns-clause-running g c =
     let gone = gone_by x y c.args.p c.stretch.result c.index_mut-flight.result.now c.stretch.new.self fl (chain_by x y c.args.p c.index_mut-flight.result.now c.stretch.new.self r.sixteen c.requires.process fl refl) e.went in
     runs_stretched g.C.Calls.stage g.C.Calls.caller x y c.args.p c.stretch.result r c.requires.process moved gone refl e.others
 
-pub returns-clause-stood : goal.returns-clause-stood
-returns-clause-stood g c =
+pub returns-clause-abstraction : goal.returns-clause-abstraction
+returns-clause-abstraction g c =
     let x = c.args.self.now in
     let y : Running g.row.C.Denot g.row.B.Denot g.row.C-Meaning.Denot g.row.C-Work.Denot _ = record { store = c.stretch.new.store; clock = x.clock; images = x.images; locks = x.locks; calls = with_item x.calls c.args.p (record { call = c.index_mut-flight.result.now.call; chain = c.stretch.new.self }); order = x.order } in
     let r = c.requires.running in
@@ -48,7 +48,7 @@ returns-clause-stood g c =
     let e = c.stretch.ensures in
     let moved = moved_by x y c.args.p c.index_mut-flight.result.now c.stretch.new.self r.sixteen c.requires.process fl refl e.elsewhere e.in_place.placed e.in_place.inside e.in_place.loaded refl refl refl in
     let gone = gone_by x y c.args.p c.stretch.result c.index_mut-flight.result.now c.stretch.new.self fl (chain_by x y c.args.p c.index_mut-flight.result.now c.stretch.new.self r.sixteen c.requires.process fl refl) e.went in
-    stood_stretched g.C.Meaning.Rules.meaning c.same_shown.ensures c.stretches.ensures (placed_of g.C.Calls.stage x) (placed_of g.C.Calls.stage y) c.args.p c.stretch.result c.requires.stood c.requires.level c.requires.away
+    stood_stretched g.C.Meaning.Rules.meaning c.same_shown.ensures c.stretches.ensures (placed_of g.C.Calls.stage x) (placed_of g.C.Calls.stage y) c.args.p c.stretch.result c.requires.abstraction c.requires.level c.requires.away
     (is_stretched g.C.Calls.stage g.C.Calls.caller x y c.args.p c.stretch.result r c.requires.process moved gone refl e.others)
 
 pub returns-clause-world : goal.returns-clause-world

@@ -17,7 +17,7 @@ need-requires g c =
     let call = c.in-Some.call in
     let fl : c.flight-flight.result.now ≡ flight_of x.calls.items c.args.p = c.flight-flight.ensures ∙ ap (λ fs. flight_of fs c.args.p) c.deref.ensures.value in
     let there = sym (ap (λ (f : Flight g.row.C-Work.Denot). f.call) fl) ∙ c.in-Some.is in
-    record { ready = may_come g.C.Meaning.Rules.meaning g.C.Meaning.Rules.laws (world_of_store x.store) (table_of x.images) (objects_of x.store) (g.C.Calls.caller call.work) (g.C.Calls.stage call.work) (stands g.C.Meaning.Rules.meaning c.sound_in_place.ensures g.C.Calls.stage g.C.Calls.caller x c.args.p call c.requires.running c.requires.stood there) }
+    record { ready = may_come g.C.Meaning.Rules.meaning g.C.Meaning.Rules.laws (world_of_store x.store) (table_of x.images) (objects_of x.store) (g.C.Calls.caller call.work) (g.C.Calls.stage call.work) (stands g.C.Meaning.Rules.meaning c.sound_in_place.ensures g.C.Calls.stage g.C.Calls.caller x c.args.p call c.requires.running c.requires.abstraction there) }
 
 pub returns-then-count-eq0 : goal.returns-then-count-eq0
 returns-then-count-eq0 g c =

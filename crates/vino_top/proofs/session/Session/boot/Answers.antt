@@ -15,7 +15,7 @@ returns-clause-within g c =
       frames_least = c.requires.within.frames_least;
       frames_most = c.requires.within.frames_most;
       events = c.requires.within.events;
-      kernel = λ up. record { running = kernel.running; stood = kernel.stood; clock = omega (arith, kernel.clock) };
+      kernel = λ up. record { running = kernel.running; abstraction = kernel.abstraction; clock = omega (arith, kernel.clock) };
       size_is = λ up. c.boot-note.ensures.size ∙ c.requires.disk;
       unbooted = λ down. up_is_down down;
     }

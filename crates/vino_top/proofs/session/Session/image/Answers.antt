@@ -14,8 +14,8 @@ use Rattle.vino_top.proofs.session.Session.image.Goals as goal
 pub add_image-requires-clause-running : goal.add_image-requires-clause-running
 add_image-requires-clause-running g c = (c.requires.within.1.kernel c.if-not-self.false).running
 
-pub add_image-requires-clause-stood : goal.add_image-requires-clause-stood
-add_image-requires-clause-stood g c = (c.requires.within.1.kernel c.if-not-self.false).stood
+pub add_image-requires-clause-abstraction : goal.add_image-requires-clause-abstraction
+add_image-requires-clause-abstraction g c = (c.requires.within.1.kernel c.if-not-self.false).abstraction
 
 pub returns-then-not-self-clause-runs : goal.returns-then-not-self-clause-runs
 returns-then-not-self-clause-runs g c = λ size d.

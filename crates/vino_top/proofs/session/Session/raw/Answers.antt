@@ -22,7 +22,7 @@ returns-then-self-clause-within g c = λ size within.
       frames_least = within.frames_least;
       frames_most = within.frames_most;
       events = omega (arith, c.requires.fresh);
-      kernel = λ up. record { running = kernel.running; stood = kernel.stood; clock = omega (arith, kernel.clock) };
+      kernel = λ up. record { running = kernel.running; abstraction = kernel.abstraction; clock = omega (arith, kernel.clock) };
       size_is = within.size_is;
       unbooted = λ down. up_is_down (sym c.if-self.true ∙ down);
     }

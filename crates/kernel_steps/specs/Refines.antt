@@ -1,6 +1,6 @@
 -- What a change of an event under way did, beside what the definitions say.
 use Rattle.std.specs.Prelude.{◌≡◌, ℕ, Bool, List, ◌++◌, Option, take, length}
-use Rattle.disk_log.specs.Calls.{Tells, Made}
+use Rattle.disk_log.specs.Calls.{Knows, Made}
 use Rattle.disk_log.specs.Seen.{DiskSeen}
 use Rattle.kernel_model.specs.declared.Note.{Note}
 use Rattle.kernel_model.specs.World.{World, ImageTable, Blocks}
@@ -20,36 +20,34 @@ first_notes notes = take 530 notes
 -- ---- a change of an event under way
 
 -- a change that makes no call of the disk took one kernel in place to another and added these
--- notes, and the notes that are kept to
--- those
-abbrev pub Says : (PlacedRun → PlacedRun) → Placed → Placed → (more kept kept_new : List Note) →
+-- notes, and the notes that are kept to those
+abbrev pub SimulatesNoting : (PlacedRun → PlacedRun) → Placed → Placed → (more kept kept_new : List Note) →
     Type 0
-Says f x y more kept kept_new =
+SimulatesNoting f x y more kept kept_new =
     ((notes : List Note) (blocks : Blocks) (io : List Bool) →
     f (run_of x blocks notes io) ≡ run_of y blocks (notes ++ more) io)
     × ((notes : List Note) → kept ≡ first_notes notes → kept_new ≡ first_notes (notes ++ more))
 
 -- an event under way has come to this kernel in place, of its notes these are kept, the disk tells
--- its blocks, and its next calls
--- will do this
-pub record CameAs (r : PlacedRun) (y : Placed) (kept : List Note) (told : Option (List (List ℕ)))
+-- its blocks, and its next calls will do this
+pub record RunMatches (r : PlacedRun) (y : Placed) (kept : List Note) (known : Option (List (List ℕ)))
     (rest : List Bool) : Type 0 where
   pub placed : r.placed ≡ y
   pub notes : kept ≡ first_notes r.notes
-  pub blocks : Tells told r.blocks
+  pub blocks : Knows known r.blocks
   pub io : r.io ≡ rest
 
 -- A change of an event under way took one kernel in place to another, the notes that are kept of it
--- to these, and the disk from
--- the one to the other. Where the disk tells its blocks, all is as the definitions have it.
-pub record Did (f : PlacedRun →
+-- to these, and the disk from the one to the other. Where the disk tells its blocks, all is as the
+-- definitions have it.
+pub record Refines (f : PlacedRun →
     PlacedRun) (x y : Placed) (kept kept_new : List Note) (d e : DiskSeen) : Type 0 where
   -- which of its calls of the disk failed
   pub io : List Bool
   pub made : Made d.faults e.faults d.plan e.plan io
-  pub goes : (blocks : Blocks) (notes : List Note) (rest : List Bool) → Tells d.told blocks →
+  pub goes : (blocks : Blocks) (notes : List Note) (rest : List Bool) → Knows d.known blocks →
       kept ≡ first_notes notes →
-      CameAs (f (run_of x blocks notes (io ++ rest))) y kept_new e.told rest
+      RunMatches (f (run_of x blocks notes (io ++ rest))) y kept_new e.known rest
 
 -- Whether the disk tells its blocks or not: over some whole ones the change takes the one kernel in
 -- place to the other.
@@ -62,15 +60,14 @@ pub record Reaches (f : PlacedRun → PlacedRun) (x y : Placed) : Type 0 where
 -- ---- a piece
 
 -- what is left of a piece of a call: the objects, the call, the notes that are kept of it, what the
--- disk tells, and how many calls
--- of the disk were made
+-- disk tells, and how many calls of the disk were made
 pub record PieceLeft (c : PlacedCall) (q : Piece) (u : Objects) (call : Option PlacedCall)
-    (notes kept : List Note) (told : Option (List (List ℕ))) (calls : ℕ) : Type 0 where
+    (notes kept : List Note) (known : Option (List (List ℕ))) (calls : ℕ) : Type 0 where
   pub objects : u ≡ q.objects
   pub call_is : call ≡ placed_after c q.after
   pub kept_are : kept ≡ first_notes (notes ++ gave_note c.number q.gave
       ++ after_note c.number q.after)
-  pub blocks : Tells told q.blocks
+  pub blocks : Knows known q.blocks
   pub all_made : calls ≡ q.calls
 
 -- the same for some whole blocks, for a disk that doesn't tell its own
@@ -89,8 +86,8 @@ pub record PieceDone (m : Meaning) (v : World) (s u : Objects) (p : ℕ) (c : Pl
   pub io : List Bool
   pub made : Made d.faults e.faults d.plan e.plan io
   pub goes : (images : ImageTable) (blocks : Blocks) (notes : List Note) (rest : List Bool) →
-      Tells d.told blocks → kept ≡ first_notes notes →
+      Knows d.known blocks → kept ≡ first_notes notes →
       PieceLeft c (m.piece v images s blocks p c.stage (answer_seen answer) (io
-      ++ rest)) u call notes kept_new e.told (length io)
+      ++ rest)) u call notes kept_new e.known (length io)
   pub some : (images : ImageTable) → PieceMayLeave v
       (λ blocks io. m.piece v images s blocks p c.stage (answer_seen answer) io) c u call

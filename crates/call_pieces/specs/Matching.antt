@@ -11,24 +11,24 @@ use Rattle.kernel_model.specs.Policies.{lives}
 use Rattle.kernel_model.specs.Pieces.{piece_fits, pieces_left, read_fits, read_left}
 use Rattle.kernel_model.specs.Sound.{HasWholeBlocks}
 use Rattle.vino_base.specs.declared.streams.Failed.{Failed as DiskFailed}
-use Rattle.disk_log.specs.Calls.{Tells}
+use Rattle.disk_log.specs.Calls.{Knows}
 use Rattle.call_pieces.specs.declared.Work.{Work}
 use Rattle.call_pieces.specs.declared.Next.{Next}
-use Rattle.call_pieces.specs.Works.{MayCome}
+use Rattle.call_pieces.specs.Works.{IsDue}
 
 -- A piece left these objects, the disk tells this, these bytes were given, this comes next, and so
 -- many calls of the disk were made: all as the definitions' piece has it.
-pub record CameTo (q : Piece) (s : Objects) (told : Option (List (List ℕ)))
+pub record PieceMatches (q : Piece) (s : Objects) (known : Option (List (List ℕ)))
     (gave : Option (List ℕ)) (after : After) (calls : ℕ) : Type 0 where
   pub objects : s ≡ q.objects
-  pub blocks : Tells told q.blocks
+  pub blocks : Knows known q.blocks
   pub bytes : gave ≡ q.gave
   pub next : after ≡ q.after
   pub calls_made : calls ≡ q.calls
 
 -- The same without what the disk tells: a piece left these objects, these bytes were given, this
 -- comes next, and so many calls of the disk were made, all as the definitions' piece has it.
-pub record LeftBy (q : Piece) (s : Objects) (gave : Option (List ℕ)) (after : After)
+pub record PieceLeaves (q : Piece) (s : Objects) (gave : Option (List ℕ)) (after : After)
     (calls : ℕ) : Type 0 where
   pub objects : s ≡ q.objects
   pub bytes : gave ≡ q.gave
@@ -37,11 +37,11 @@ pub record LeftBy (q : Piece) (s : Objects) (gave : Option (List ℕ)) (after : 
 
 -- So it is for some whole blocks, whether the disk tells its blocks or not, where these calls of it
 -- were made, whatever the calls after them do.
-pub record LeftBySome (v : World) (piece : Blocks → List Bool → Piece)
+pub record PieceMatchesSome (v : World) (piece : Blocks → List Bool → Piece)
     (s : Objects) (gave : Option (List ℕ)) (after : After) (io : List Bool) : Type 0 where
   pub blocks : Blocks
   pub whole : HasWholeBlocks v blocks
-  pub left : (rest : List Bool) → LeftBy (piece blocks (io ++ rest)) s gave after (length io)
+  pub left : (rest : List Bool) → PieceLeaves (piece blocks (io ++ rest)) s gave after (length io)
 
 -- the blocks after a fetch, where they were these
 abbrev pub blocks_after : Fetched → Blocks → Blocks
@@ -61,13 +61,13 @@ FetchLeft q blocks result cache calls = fetched_so result cache (blocks_after q 
 
 -- a fetch left this cache, the disk tells this, and so many calls were made: all as the
 -- definitions' fetch has it
-pub record FetchCameTo (q : Fetched) (blocks : Blocks) (result : Result ℕ DiskFailed)
-    (cache : CacheValue) (told : Option (List (List ℕ))) (calls : ℕ) : Type 0 where
+pub record FetchMatches (q : Fetched) (blocks : Blocks) (result : Result ℕ DiskFailed)
+    (cache : CacheValue) (known : Option (List (List ℕ))) (calls : ℕ) : Type 0 where
   pub outcome : FetchLeft q blocks result cache calls
-  pub tells : Tells told (blocks_after q blocks)
+  pub tells : Knows known (blocks_after q blocks)
 
 -- so it is with a fetch for some whole blocks, where these calls of the disk were made
-pub record FetchLeftBySome (v : World) (fetch : Blocks → List Bool →
+pub record FetchMatchesSome (v : World) (fetch : Blocks → List Bool →
     Fetched) (result : Result ℕ DiskFailed)
     (cache : CacheValue) (io : List Bool) : Type 0 where
   pub blocks : Blocks
@@ -90,7 +90,7 @@ goes_on Next.Goes = true
 goes_on _ = false
 
 -- a call that goes on: it is the same call, its next piece may come, and fewer pieces are left
-pub record HasGone (old new : Work) (s t : Objects) : Type 0 where
+pub record HasContinued (old new : Work) (s t : Objects) : Type 0 where
   pub caller : new.caller ≡ old.caller
   pub call : new.call ≡ old.call
   pub alive : lives t.things.queue new.caller ≡ true
@@ -99,16 +99,16 @@ pub record HasGone (old new : Work) (s t : Objects) : Type 0 where
       < pieces_left old.call old.piece s.things old.caller
 
 -- the same in the terms of a table of calls
-pub record GoesOnFrom (m : Meaning) (v : World) (s u : Objects) (p q : ℕ)
+pub record ContinuesFrom (m : Meaning) (v : World) (s u : Objects) (p q : ℕ)
     (t r : Stage) : Type 0 where
   pub caller : q ≡ p
   pub call : r.call ≡ t.call
-  pub ready : MayCome m v u q r
+  pub ready : IsDue m v u q r
   pub fewer : m.left v u q r < m.left v s p t
 
 -- a read that goes on from before one piece to before another, where its open file was the first
 -- and is the second
-pub record ReadGoes (old new : ℕ) (before after : Option OpenRow) : Type 0 where
+pub record ReadContinues (old new : ℕ) (before after : Option OpenRow) : Type 0 where
   pub few : nat_le new 2 ≡ true
   pub fits : read_fits new after ≡ true
   pub fewer : read_left new after < read_left old before

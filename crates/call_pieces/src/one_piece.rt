@@ -12,11 +12,11 @@ ghost use Rattle.kernel_model.specs.Fetch.{chosen_by};
 ghost use Rattle.kernel_model.specs.FilePieces.{leaves, open_piece, close_piece, free_descriptor, new_file};
 ghost use Rattle.kernel_model.specs.Pieces.{spawn_piece, exit_piece, yield_piece, poke_piece};
 ghost use Rattle.kernel_model.specs.Sound.{IsSoundFile};
-ghost use Rattle.disk_log.specs.Calls.{Tells};
+ghost use Rattle.disk_log.specs.Calls.{Knows};
 ghost use Rattle.kernel_state.specs.Stores.{world_of_store, objects_of, queue_of, queue_joined, policies_of, SegmentsStay};
 ghost use Rattle.call_pieces.specs.Shared.{CameAtOnce, EndsAtOnce};
 ghost use Rattle.call_pieces.specs.Works.{queue_yielded, next_of, comes_after};
-ghost use Rattle.call_pieces.specs.Coming.{CameTo, is_fault, goes_on};
+ghost use Rattle.call_pieces.specs.Matching.{PieceMatches, is_fault, goes_on};
 
 use crate::{After, Next, came};
 use graft_points::Policy;
@@ -78,9 +78,9 @@ pub(crate) fn yield_turn<B: Policy>(
     requires alive { lives (queue_of store.old) p ≡ true }
     requires fits { piece.old ≤ 1 }
     requires right { IfSome answer (λ a. lives (queue_of store.old) (slice_index a 0) ≡ true) }
-    ensures does { (blocks : Blocks) (told : Option (List (List ℕ))) → Tells told blocks →
-        CameTo (yield_piece piece.old (objects_of store.old) p answer blocks)
-        (objects_of store.new) told result.gave
+    ensures does { (blocks : Blocks) (known : Option (List (List ℕ))) → Knows known blocks →
+        PieceMatches (yield_piece piece.old (objects_of store.old) p answer blocks)
+        (objects_of store.new) known result.gave
         (comes_after result.next (stage Yield piece.new)) 0 }
     ensures queue { queue_of store.new ≡ queue_yielded (policies_of store.old 2) answer piece.old p
         (queue_of store.old) }

@@ -9,9 +9,9 @@ ghost use Rattle.lock_table.specs.Masks.{held};
 ghost use Rattle.placed_laws.specs.Placed.{has_some, placed_blocker, placed_needs};
 ghost use Rattle.placed_laws.specs.PlacedSteps.{placed_step};
 ghost use Rattle.placed_laws.specs.Resting.{KeepsHolds};
-ghost use Rattle.kernel_steps.specs.Did.{Did};
+ghost use Rattle.kernel_steps.specs.Refines.{Refines};
 ghost use Rattle.kernel_steps.specs.Grips.{IsHold, IsGrip};
-ghost use Rattle.kernel_steps.specs.Views.{placed_of, call_at, IsRunning, Stood};
+ghost use Rattle.kernel_steps.specs.Views.{placed_of, call_at, IsRunning, HasAbstraction};
 
 use crate::blocking::flight;
 use crate::notes::Notes;
@@ -26,7 +26,7 @@ use vino_base::Disk;
 
 /// How the levels of a call hold up to three objects.
 #[derive(Clone, Copy, PartialEq, Eq)]
-struct Grip {
+struct HoldSnapshot {
     first: Option<Holds>,
     second: Option<Holds>,
     third: Option<Holds>,
@@ -45,12 +45,12 @@ fn hold_at(locks: &LockTable, p: u8, needs: &[Need], i: usize) -> Option<Holds>
 }
 
 /// How the levels of process p's call hold the objects of the first three needs.
-fn grip_of(locks: &LockTable, p: u8, needs: &[Need]) -> Grip
+fn grip_of(locks: &LockTable, p: u8, needs: &[Need]) -> HoldSnapshot
     requires process { p < 16 }
     requires range { All (λ (n : Needed). IsInRange n.object) needs.now }
     ensures { IsGrip (held locks.now p) needs.now result }
 {
-    Grip {
+    HoldSnapshot {
         first: hold_at(locks, p, needs, 0),
         second: hold_at(locks, p, needs, 1),
         third: hold_at(locks, p, needs, 2),
@@ -58,7 +58,7 @@ fn grip_of(locks: &LockTable, p: u8, needs: &[Need]) -> Grip
 }
 
 /// Whether two grips are one.
-fn is_same_grip(a: Grip, b: Grip) -> bool
+fn is_same_grip(a: HoldSnapshot, b: HoldSnapshot) -> bool
     ensures { result ≡ true → a ≡ b }
 {
     a == b
@@ -94,7 +94,7 @@ impl<C: Calls, B: Policy> Running<C, B> {
         requires level { has_some ((placed_of C.stage self.old).levels p) ≡ true }
         requires free { placed_blocker C.Meaning.meaning (placed_of C.stage self.old) p ≡ None }
         requires running { IsRunning C.caller self.old }
-        requires stood { Stood C.Meaning.meaning (placed_of C.stage self.old) }
+        requires abstraction { HasAbstraction C.Meaning.meaning (placed_of C.stage self.old) }
         requires disk { self.old.store.size ≡ D.block_count disk.old }
         requires needs { let x = placed_of C.stage self.old in
             needs.now ≡ placed_needs C.Meaning.meaning x p }
@@ -102,12 +102,12 @@ impl<C: Calls, B: Policy> Running<C, B> {
         requires few { length needs.now ≤ 3 }
         ensures kept { result ≡ true → KeepsHolds C.Meaning.meaning (placed_of C.stage self.old)
             (placed_of C.stage self.new) p }
-        ensures did { Did (placed_step C.Meaning.meaning p) (placed_of C.stage self.old)
+        ensures refines { Refines (placed_step C.Meaning.meaning p) (placed_of C.stage self.old)
             (placed_of C.stage self.new) notes.old notes.new
             (disk_seen (D.blocks disk.old) (D.plan disk.old) (D.faults disk.old))
             (disk_seen (D.blocks disk.new) (D.plan disk.new) (D.faults disk.new)) }
         ensures running { IsRunning C.caller self.new }
-        ensures stood { Stood C.Meaning.meaning (placed_of C.stage self.new) }
+        ensures abstraction { HasAbstraction C.Meaning.meaning (placed_of C.stage self.new) }
         ensures world { world_of_store self.new.store ≡ world_of_store self.old.store }
         ensures clock { self.new.clock ≡ self.old.clock }
         ensures same_size { D.block_count disk.new ≡ D.block_count disk.old }

@@ -1,6 +1,6 @@
 -- A part of an event of a running kernel.
 use Rattle.std.specs.Prelude.{◌≡◌, ℕ, suc, ◌+◌, Bool, true, false, not, ◌&&◌, is_some, List, ◌++◌, Some, None}
-use Rattle.disk_log.specs.Calls.{Tells, Made}
+use Rattle.disk_log.specs.Calls.{Knows, Made}
 use Rattle.disk_log.specs.Seen.{DiskSeen}
 use Rattle.kernel_model.specs.declared.Note.{Note}
 use Rattle.kernel_model.specs.declared.Note.TheVariants.{Ran}
@@ -15,18 +15,17 @@ use Rattle.placed_laws.specs.Stands.{StandsFor}
 use Rattle.placed_laws.specs.PlacedSteps.{placed_joins, placed_noted, placed_step}
 use Rattle.placed_laws.specs.PlacedEvents.{placed_settled, placed_steps}
 use Rattle.kernel_steps.specs.declared.running.Running.{Running}
-use Rattle.kernel_steps.specs.Did.{first_notes, CameAs, Did}
-use Rattle.kernel_steps.specs.Views.{placed_of, run_of, IsRunning, Stood}
+use Rattle.kernel_steps.specs.Refines.{first_notes, RunMatches, Refines}
+use Rattle.kernel_steps.specs.Views.{placed_of, run_of, IsRunning, HasAbstraction}
 
 -- A change of an event under way was made: the kernel runs on, and stands for some abstract kernel
--- again. The set-up and the clock
--- stay.
-pub record Went {C B M W : Type 0} {P : _} (m : Meaning) (stage : W → Stage) (caller : W → ℕ)
+-- again. The set-up and the clock stay.
+pub record RefinesAndKeeps {C B M W : Type 0} {P : _} (m : Meaning) (stage : W → Stage) (caller : W → ℕ)
     (f : PlacedRun → PlacedRun) (x y : Running C B M W P) (kept kept_new : List Note)
     (d e : DiskSeen) : Type 0 where
-  pub did : Did f (placed_of stage x) (placed_of stage y) kept kept_new d e
+  pub refines : Refines f (placed_of stage x) (placed_of stage y) kept kept_new d e
   pub running : IsRunning caller y
-  pub stood : Stood m (placed_of stage y)
+  pub abstraction : HasAbstraction m (placed_of stage y)
   pub world : world_of_store y.store ≡ world_of_store x.store
   pub clock : y.clock ≡ x.clock
 
@@ -34,9 +33,9 @@ pub record Went {C B M W : Type 0} {P : _} (m : Meaning) (stage : W → Stage) (
 pub record Ticked {C B M W : Type 0} {P : _} (m : Meaning) (stage : W → Stage) (caller : W → ℕ)
     (f : PlacedRun → PlacedRun) (x y : Running C B M W P) (kept kept_new : List Note)
     (d e : DiskSeen) : Type 0 where
-  pub did : Did f (placed_of stage x) (placed_of stage y) kept kept_new d e
+  pub refines : Refines f (placed_of stage x) (placed_of stage y) kept kept_new d e
   pub running : IsRunning caller y
-  pub stood : Stood m (placed_of stage y)
+  pub abstraction : HasAbstraction m (placed_of stage y)
   pub world : world_of_store y.store ≡ world_of_store x.store
   pub clock : y.clock ≡ suc x.clock
 
@@ -50,30 +49,30 @@ pub record Rests (m : Meaning) (x : Placed) (blocks : Blocks) : Type 0 where
   pub whole : HasWholeBlocks kernel.world blocks
 
 -- A change of an event under way did what is said of it wherever it began at rest, and left the
--- disk and the notes as `Did` says.
-pub record DidFromRest (m : Meaning) (f : PlacedRun → PlacedRun) (x y : Placed)
+-- disk and the notes as `Refines` says.
+pub record RefinesFromRest (m : Meaning) (f : PlacedRun → PlacedRun) (x y : Placed)
     (kept kept_new : List Note) (d e : DiskSeen) : Type 0 where
   -- which of its calls of the disk failed
   pub io : List Bool
   pub made : Made d.faults e.faults d.plan e.plan io
   pub goes : (blocks : Blocks) (notes : List Note) (rest : List Bool) → Rests m x blocks →
-      Tells d.told blocks → kept ≡ first_notes notes →
-      CameAs (f (run_of x blocks notes (io ++ rest))) y kept_new e.told rest
+      Knows d.known blocks → kept ≡ first_notes notes →
+      RunMatches (f (run_of x blocks notes (io ++ rest))) y kept_new e.known rest
 
 -- the same of one that leaves rest
-pub record DidToRest (m : Meaning) (f : PlacedRun → PlacedRun) (x y : Placed)
+pub record RefinesToRest (m : Meaning) (f : PlacedRun → PlacedRun) (x y : Placed)
     (kept kept_new : List Note) (d e : DiskSeen) : Type 0 where
-  pub did : DidFromRest m f x y kept kept_new d e
+  pub refines : RefinesFromRest m f x y kept kept_new d e
   pub rests : (blocks : Blocks) (notes : List Note) (rest : List Bool) → Rests m x blocks →
-      Tells d.told blocks → kept ≡ first_notes notes →
-      Rests m y (f (run_of x blocks notes (did.io ++ rest))).blocks
+      Knows d.known blocks → kept ≡ first_notes notes →
+      Rests m y (f (run_of x blocks notes (refines.io ++ rest))).blocks
 
 -- What always holds after a change: the kernel runs on, and stands for some abstract kernel. The
 -- set-up and the clock stay.
-pub record GoesOn {C B M W : Type 0} {P : _} (m : Meaning) (stage : W → Stage) (caller : W → ℕ)
+pub record KeepsRunning {C B M W : Type 0} {P : _} (m : Meaning) (stage : W → Stage) (caller : W → ℕ)
     (x y : Running C B M W P) : Type 0 where
   pub running : IsRunning caller y
-  pub stood : Stood m (placed_of stage y)
+  pub abstraction : HasAbstraction m (placed_of stage y)
   pub world : world_of_store y.store ≡ world_of_store x.store
   pub clock : y.clock ≡ x.clock
 
@@ -118,15 +117,15 @@ pub record Leads (m : Meaning) (p n : ℕ) (x y : Placed) : Type 0 where
 
 -- A change of an event under way has come, from rest, to a point of rest from which this is left of
 -- it.
-pub record HasCome (m : Meaning) (f left : PlacedRun → PlacedRun) (x y : Placed)
+pub record HasReached (m : Meaning) (f left : PlacedRun → PlacedRun) (x y : Placed)
     (kept kept_new : List Note) (d e : DiskSeen) : Type 0 where
   pub io : List Bool
   pub made : Made d.faults e.faults d.plan e.plan io
   pub now : Blocks → List Note → List Bool → PlacedRun
   pub came : (blocks : Blocks) (notes : List Note) (rest : List Bool) → Rests m x blocks →
-      Tells d.told blocks → kept ≡ first_notes notes →
-      CameAs (now blocks notes rest) y kept_new e.told rest
+      Knows d.known blocks → kept ≡ first_notes notes →
+      RunMatches (now blocks notes rest) y kept_new e.known rest
       × Rests m y (now blocks notes rest).blocks
   pub goes : (blocks : Blocks) (notes : List Note) (rest : List Bool) → Rests m x blocks →
-      Tells d.told blocks → kept ≡ first_notes notes →
+      Knows d.known blocks → kept ≡ first_notes notes →
       f (run_of x blocks notes (io ++ rest)) ≡ left (now blocks notes rest)

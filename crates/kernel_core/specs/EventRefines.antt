@@ -1,6 +1,6 @@
 -- What an event makes of a running kernel, and what always holds of one.
 use Rattle.std.specs.Prelude.{◌≡◌, ℕ, ◌≤◌, Bool, List, ◌++◌, Option}
-use Rattle.disk_log.specs.Calls.{Tells, Made}
+use Rattle.disk_log.specs.Calls.{Knows, Made}
 use Rattle.disk_log.specs.Seen.{DiskSeen}
 use Rattle.kernel_model.specs.declared.Event.{Event}
 use Rattle.kernel_model.specs.declared.Note.{Note}
@@ -12,38 +12,36 @@ use Rattle.kernel_model.specs.Sound.{IsAtRest}
 use Rattle.placed_laws.specs.Placed.{Placed}
 use Rattle.placed_laws.specs.Stands.{StandsFor}
 use Rattle.kernel_steps.specs.declared.running.Running.{Running}
-use Rattle.kernel_steps.specs.Views.{placed_of, IsRunning, Stood}
+use Rattle.kernel_steps.specs.Views.{placed_of, IsRunning, HasAbstraction}
 
 -- A kernel runs, stands for some abstract kernel, and had at most so many ticks.
 pub record IsKernel {C B M W : Type 0} {P : _} (m : Meaning) (stage : W → Stage) (caller : W → ℕ)
     (most : ℕ) (x : Running C B M W P) : Type 0 where
   pub running : IsRunning caller x
-  pub stood : Stood m (placed_of stage x)
+  pub abstraction : HasAbstraction m (placed_of stage x)
   pub clock : x.clock ≤ most
 
 -- what is left of the definitions' event is what the code left: the kernel stands for the abstract
--- one, which rests, the disk tells
--- its blocks, the notes are the same, and of the calls of the disk that were told these are left
+-- one, which rests, the disk tells its blocks, the notes are the same, and of the calls of the disk
+-- that were told these are left
 pub record EventIs (m : Meaning) (r : Run) (y : Placed) (notes : List Note)
-    (told : Option (List (List ℕ))) (rest : List Bool) : Type 0 where
+    (known : Option (List (List ℕ))) (rest : List Bool) : Type 0 where
   pub stands : StandsFor m y r.kernel
   pub rests : IsAtRest m r.kernel
-  pub blocks : Tells told r.blocks
+  pub blocks : Knows known r.blocks
   pub notes_are : notes ≡ r.notes
   pub left : r.io ≡ rest
 
 -- An event of this number took one kernel in place to another, left these notes, and took the disk
--- from the one to the other: for
--- every abstract kernel that the one stands for, and that rests, the other stands for what the
--- definitions' event makes of it. The
--- definitions' event makes as many calls of the disk as the code did, no fewer and no more:
--- whatever later calls would do, it comes
+-- from the one to the other: for every abstract kernel that the one stands for, and that rests, the
+-- other stands for what the definitions' event makes of it. The definitions' event makes as many
+-- calls of the disk as the code did, no fewer and no more: whatever later calls would do, it comes
 -- to the same, and leaves them all.
-pub record Happened (m : Meaning) (x y : Placed) (number : ℕ) (what : Event) (notes : List Note)
+pub record EventRefines (m : Meaning) (x y : Placed) (number : ℕ) (what : Event) (notes : List Note)
     (d e : DiskSeen) : Type 0 where
   -- which of its calls of the disk failed
   pub io : List Bool
   pub made : Made d.faults e.faults d.plan e.plan io
   pub is : (k : Kernel) (blocks : Blocks) (rest : List Bool) → StandsFor m x k → IsAtRest m k →
-      Tells d.told blocks →
-      EventIs m (event m k blocks number what (io ++ rest)) y notes e.told rest
+      Knows d.known blocks →
+      EventIs m (event m k blocks number what (io ++ rest)) y notes e.known rest
