@@ -35,7 +35,7 @@ log_many [] = refl
 log_many (l ∷ ls) = ap suc (log_many ls)
 
 -- no records are of levels further inward than all
-records_none : (d : ℕ) (ls : List Level) → length ls ≤ d → records_from d (undo_log ls) ≡ []
+pub records_none : (d : ℕ) (ls : List Level) → length ls ≤ d → records_from d (undo_log ls) ≡ []
 records_none d [] h = refl
 records_none d (l ∷ ls) h = ap (λ b. elim b as (λ _. List Found) [ true ↦ l.records ++ records_from d (undo_log ls) | false ↦ [] ]) (too_far d (length (undo_log ls)) (length ls) (log_many ls) h)
   where
@@ -43,7 +43,7 @@ records_none d (l ∷ ls) h = ap (λ b. elim b as (λ _. List Found) [ true ↦ 
     too_far d n k e h = grind (arith, nat_tests)
 
 -- records of a level that isn't the innermost
-records_more : (d : ℕ) (l : Level) (ls : List Level) → d ≤ length ls → records_from d (undo_log (l ∷ ls)) ≡ l.records ++ records_from d (undo_log ls)
+pub records_more : (d : ℕ) (l : Level) (ls : List Level) → d ≤ length ls → records_from d (undo_log (l ∷ ls)) ≡ l.records ++ records_from d (undo_log ls)
 records_more d l ls h =
     ap (λ b. elim b as (λ _. List Found) [ true ↦ l.records ++ records_from d (undo_log ls) | false ↦ [] ]) (within d (length (undo_log ls)) (length ls) (log_many ls) h)
   where

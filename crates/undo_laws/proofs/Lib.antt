@@ -1,0 +1,4 @@
+pub mod InPlaceLemmas
+pub mod DropLemmas
+pub mod BeginLemmas
+pub mod CommittedLemmas

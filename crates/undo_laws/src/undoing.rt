@@ -1,0 +1,28 @@
+//! Laws of undoing in the one store. A call of one brings its statement into a proof.
+
+ghost use Rattle.undo_laws.specs.Undone.{UndoneInPlace, UndoneIsCommitted, DropsLeaveTheStoreBelow};
+
+use history_laws::store;
+use kernel_model::Rules;
+
+/// Undoing calls in the one store, newest records first, one call after another in any order, gives
+/// what the abstract kernel's store has below the cut.
+pub fn undone_in_place<R: Rules>()
+    ensures { UndoneInPlace R.meaning }
+{
+    store::undone_is_below::<R>();
+}
+
+/// The drop of a level leaves each thing as the abstract kernel's store has it below that level, and
+/// takes out the level's graft.
+pub fn drops_undo<R: Rules>()
+    ensures { DropsLeaveTheStoreBelow R.meaning }
+{
+    store::undone_is_below::<R>();
+}
+
+/// Undoing all calls in flight, each from its outermost level on, leads back to the committed things;
+/// accounts and grafts stay as they are.
+pub fn undone_is_committed<R: Rules>()
+    ensures { UndoneIsCommitted R.meaning }
+{}
