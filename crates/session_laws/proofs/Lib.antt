@@ -9,3 +9,4 @@ pub mod SliceLemmas
 pub mod TickLineLemmas
 pub mod TraceCountLemmas
 pub mod SpendingLemmas
+pub mod SyncLemmas

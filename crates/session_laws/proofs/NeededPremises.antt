@@ -1,8 +1,8 @@
 -- Premises of the laws that can't be left out: for each the smallest example in which the law would be false.
-use Rattle.std.specs.Prelude.{◌≡◌, ℕ, ◌≤◌, ◌==◌, cond, List, [], ◌∷◌, codes, Option, Some, None, false}
-use Rattle.std.proofs.Common.{arith, refl}
-use Rattle.kernel_model.specs.World.{World}
-use Rattle.kernel_model.specs.Objects.{Accounts}
+use Rattle.std.specs.Prelude.{◌≡◌, ℕ, ◌≤◌, ◌==◌, cond, nat_lt, List, [], ◌∷◌, codes, Option, Some, None, true, false}
+use Rattle.std.proofs.Common.{arith, refl, ap, subst, inl, inr}
+use Rattle.kernel_model.specs.World.{World, Blocks}
+use Rattle.kernel_model.specs.Objects.{Objects, Accounts, FrameValue}
 use Rattle.kernel_model.specs.Locks.{untouched}
 use Rattle.kernel_model.specs.Directory.{Disk, directory_of}
 use Rattle.kernel_model.specs.declared.Keys.{Keys}
@@ -12,7 +12,11 @@ use Rattle.kernel_model.specs.Kernel.{Kernel}
 use Rattle.kernel_model.specs.Opening.{opening_things, opening_kernel}
 use Rattle.kernel_model.specs.Session.{Session, first_setup, world_of, session_after, whole}
 use Rattle.kernel_model.specs.Sound.{IsSoundKernel}
+use Rattle.kernel_model.specs.declared.SysCall.TheVariants.{Sync}
+use Rattle.kernel_model.specs.Fetch.{dirty_value}
+use Rattle.kernel_model.specs.Pieces.{piece_of}
 use Rattle.session_laws.specs.Sessions.{run_of}
+use Rattle.session_laws.specs.Syncs.{WritesBackAlone}
 
 -- a world of the least size
 abbrev small_world : World
@@ -105,3 +109,46 @@ clock_in (Some k) = k.clock
 late_is_beyond : clock_in (session_after whole some_keys 1 late_session [] []).kernel ≤
     (session_after whole some_keys 1 late_session [] []).events → ⊥
 late_is_beyond h = not_within h
+
+-- ---- syncs
+
+-- two frames hold block 0, both dirty, with different bytes
+abbrev doubled : Objects
+doubled =
+    record {
+      accounts = limited;
+      things = record (opening_things) {
+        cache = record {
+          frame = λ f. Some (record { owner = 0; block = 0; dirty = nat_lt f 2; mark = 0; bytes = f ∷ [] });
+          lru = 0 ∷ 1 ∷ [];
+        };
+      };
+    }
+
+-- what frame 0 holds
+abbrev first_value : FrameValue
+first_value = record { owner = 0; block = 0; dirty = true; mark = 0; bytes = 0 ∷ [] }
+
+-- after a sync frame 0 is clean, and the disk has what frame 1 held
+doubles_lose :
+    ((s : Objects) (blocks : Blocks) → WritesBackAlone s blocks (piece_of Sync 0 small_world s blocks 0 None [])) →
+    ⊥
+doubles_lose h = elim ((h doubled (λ b. [])).frames 0) [
+  | inl same ↦ was_dirty (ap dirty_value same)
+  | inr written ↦ other_bytes written.value (some_is written.value written.dirty) written.on_disk
+]
+  where
+    was_dirty : None ≡ Some first_value → ⊥
+    was_dirty e = cc
+
+    some_is : (v : FrameValue) → Some first_value ≡ Some v →
+        v ≡ first_value
+    some_is v e = cc
+
+    apart : (xs ys : List ℕ) → xs ≡ 1 ∷ [] → ys ≡ 0 ∷ [] → xs ≡ ys → ⊥
+    apart xs ys one none e = grind (arith, one, none, e)
+
+    other_bytes : (v : FrameValue) → v ≡ first_value →
+        (piece_of Sync 0 small_world doubled (λ b. []) 0 None []).blocks v.block ≡ v.bytes → ⊥
+    other_bytes v is e = apart ((piece_of Sync 0 small_world doubled (λ b. []) 0 None []).blocks first_value.block) first_value.bytes refl refl
+        (subst (λ (x : FrameValue). (piece_of Sync 0 small_world doubled (λ b. []) 0 None []).blocks x.block ≡ x.bytes) is e)

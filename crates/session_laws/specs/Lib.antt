@@ -3,3 +3,4 @@ pub mod Counts
 pub mod Sessions
 pub mod Slices
 pub mod Spending
+pub mod Syncs

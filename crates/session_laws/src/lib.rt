@@ -6,5 +6,6 @@ pub mod counts;
 pub mod sessions;
 pub mod slices;
 pub mod spending;
+pub mod syncs;
 #[cfg(test)]
 mod tests;
