@@ -5,15 +5,15 @@ use Rattle.kernel_state.specs.Stores.{world_of_store, objects_of}
 use Rattle.kernel_steps.proofs.PieceLemmas.{flight_done, nothing_more, same_some}
 use Rattle.kernel_steps.proofs.pieces.do_piece.Goals as goal
 
-pub returns-in-Simulates-clause-done : goal.returns-in-Simulates-clause-done
-returns-in-Simulates-clause-done g c =
+pub returns-in-Goes-clause-done : goal.returns-in-Goes-clause-done
+returns-in-Goes-clause-done g c =
     λ f is.
     let call = c.in-Some.call in
     let a = c.args in
     let p = c.piece-after in
     flight_done g.C.Meaning.Rules.meaning g.C.Calls.stage g.C.Calls.caller (world_of_store a.store.now) (objects_of a.store.now) (objects_of p.new.store)
     call f p.new.work (Some (record { number = call.number; work = p.new.work })) a.answer a.notes.now c.push_bytes.new.self c.push_bytes.new.self (g.D.Disk.blocks a.disk.now) (g.D.Disk.blocks p.new.disk) (g.D.Disk.plan a.disk.now) (g.D.Disk.plan p.new.disk) (g.D.Disk.faults a.disk.now) (g.D.Disk.faults p.new.disk)
-    p.new.log p.result.gave p.result.next Next.Goes (same_some call f (sym c.in-Some.is ∙ is)) c.in-Simulates.is p.ensures.does p.ensures.some (subst (λ (io : List Bool). CallsExtend (g.D.Disk.faults a.disk.now) (g.D.Disk.faults p.new.disk) (g.D.Disk.plan a.disk.now) (g.D.Disk.plan p.new.disk) io p.new.log) c.clear.ensures p.ensures.calls) refl c.push_bytes.ensures (λ all k. nothing_more c.push_bytes.new.self all k)
+    p.new.log p.result.gave p.result.next Next.Goes (same_some call f (sym c.in-Some.is ∙ is)) c.in-Goes.is p.ensures.does p.ensures.some (subst (λ (io : List Bool). CallsExtend (g.D.Disk.faults a.disk.now) (g.D.Disk.faults p.new.disk) (g.D.Disk.plan a.disk.now) (g.D.Disk.plan p.new.disk) io p.new.log) c.clear.ensures p.ensures.calls) refl c.push_bytes.ensures (λ all k. nothing_more c.push_bytes.new.self all k)
 
 pub returns-in-Ends-clause-done : goal.returns-in-Ends-clause-done
 returns-in-Ends-clause-done g c =
