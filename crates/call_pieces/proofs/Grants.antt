@@ -1,5 +1,5 @@
 -- What a call is that was granted, and what came of a call by its name.
-use Rattle.std.proofs.Common.{◌≡◌, ℕ, ◌+◌, ◌<◌, ◌≤◌, ◌==◌, ◌||◌, not, Bool, true, false, nat_lt, nat_le, List, length, Option, Some, None, refl, arith, sym, subst}
+use Rattle.std.proofs.Common.{◌≡◌, ℕ, ◌+◌, ◌<◌, ◌≤◌, ◌==◌, ◌||◌, not, Bool, true, false, nat_lt, nat_le, List, length, Option, Some, None, refl, arith, sym, subst, ap}
 use Rattle.std.specs.Option.{is_some}
 use Rattle.std.specs.Result.{is_ok}
 use Rattle.std.proofs.lemmas.Bool.Decides.{nat_tests}
@@ -12,6 +12,10 @@ use Rattle.kernel_model.specs.World.{World, ImageTable}
 use Rattle.kernel_model.specs.Objects.{Objects}
 use Rattle.kernel_model.specs.Meaning.{Piece, After}
 use Rattle.kernel_model.specs.Early.{plain_early, call_refusal, begins_unless, refused, policy_count, TOP_POINT}
+use Rattle.kernel_model.specs.declared.BareCall.{BareCall}
+use Rattle.kernel_model.specs.Bare.{call_with}
+use Rattle.call_pieces.specs.declared.Work.{Work}
+use Rattle.call_pieces.specs.Works.{call_of}
 use Rattle.call_pieces.specs.Matching.{PieceMatches}
 
 -- a refusal that doesn't hold
@@ -122,3 +126,7 @@ pub came_named : (f : SysCall → Piece) (c k : SysCall) (s : Objects) (known : 
     → PieceMatches (f k) s known gave after m → PieceMatches (f c) s known gave after n
 came_named f c k s known gave after n m named count came =
     subst (λ (x : SysCall). PieceMatches (f x) s known gave after n) (sym named) (subst (λ j. PieceMatches (f k) s known gave after j) (sym count) came)
+
+-- a call by the name of what it is without its bytes
+pub named : (w : Work) (k : BareCall) → w.call ≡ k → call_of w ≡ call_with k w.bytes.items
+named w k is = ap (λ x. call_with x w.bytes.items) is

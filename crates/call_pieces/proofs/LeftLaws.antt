@@ -7,14 +7,12 @@ use Rattle.kernel_model.specs.World.{World, Blocks}
 use Rattle.kernel_model.specs.Objects.{Objects, CacheValue, PolValue}
 use Rattle.kernel_model.specs.Policies.{or_zero, victim_among}
 use Rattle.kernel_model.specs.Needs.{free_frame}
-use Rattle.kernel_model.specs.Meaning.{Piece, Stage, After, Fails, disk_fails}
+use Rattle.kernel_model.specs.Meaning.{Piece, After, Fails, disk_fails}
 use Rattle.kernel_model.specs.Fetch.{Fetched, Got, Failed, chosen_by, place_block, read_block}
 use Rattle.kernel_model.specs.FilePieces.{refuses}
 use Rattle.kernel_model.specs.Sound.{HasWholeBlocks}
 use Rattle.vino_base.specs.declared.streams.Failed.{Failed as DiskFailed}
 use Rattle.disk_log.specs.Calls.{Knows, blocks_in}
-use Rattle.call_pieces.specs.declared.After.{After as Came}
-use Rattle.call_pieces.specs.Works.{comes_after}
 use Rattle.call_pieces.specs.Matching.{PieceMatches, PieceLeaves, PieceMatchesSome, FetchLeft, FetchMatchesSome}
 
 -- a list of so many bytes
@@ -62,11 +60,6 @@ some_as v q r s gave after io is some =
       whole = some.whole;
       left = λ rest. subst (λ (x : Piece). PieceLeaves x s gave after (length io)) (sym (is some.blocks (io ++ rest))) (some.left rest);
     }
-
--- what was left, by what the piece returned
-pub some_came : (v : World) (q : Blocks → List Bool → Piece) (r k : Came) (s : Objects) (t : Stage) (io : List Bool) → r ≡ k → PieceMatchesSome v q s k.gave (comes_after k.next t) io
-    → PieceMatchesSome v q s r.gave (comes_after r.next t) io
-some_came v q r k s t io is some = subst (λ (x : Came). PieceMatchesSome v q s x.gave (comes_after x.next t) io) (sym is) some
 
 -- a fetch for all blocks
 pub fetch_some : (v : World) (q : Blocks → List Bool → Fetched) (result : Result ℕ DiskFailed) (cache : CacheValue) (io : List Bool)

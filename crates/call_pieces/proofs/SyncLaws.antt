@@ -5,12 +5,10 @@ use Rattle.kernel_model.specs.declared.Refusal.TheVariants.{DiskFault}
 use Rattle.kernel_model.specs.declared.Reply.TheVariants.{One}
 use Rattle.kernel_model.specs.World.{Blocks}
 use Rattle.kernel_model.specs.Objects.{Objects, CacheValue, FrameValue, at}
-use Rattle.kernel_model.specs.Meaning.{Piece, After, Stage, EndsWith, Fails, disk_fails}
+use Rattle.kernel_model.specs.Meaning.{Piece, After, EndsWith, Fails, disk_fails}
 use Rattle.kernel_model.specs.Fetch.{cleaned, dirty_value, bytes_of}
 use Rattle.kernel_model.specs.FilePieces.{sync_from, with_cache, disk_failed, leaves}
 use Rattle.disk_log.specs.Calls.{Knows}
-use Rattle.call_pieces.specs.declared.After.{After as Came}
-use Rattle.call_pieces.specs.Works.{comes_after}
 use Rattle.call_pieces.specs.Matching.{PieceMatches, PieceLeaves}
 use Rattle.call_pieces.proofs.Logs.{fails_is, length_more}
 
@@ -219,14 +217,6 @@ ends_well n f written first now known told_now log all m blocks io tells =
     came_by (sync_from n 0 0 first blocks (log ++ io)) (record (leaves now so.0 (EndsWith (One written))) { calls = written }) now told_now None (EndsWith (One written)) (length log)
     (well_is n f written first now known told_now log all m blocks io) (so.1 tells)
     (left_well n f written first now known told_now log all m blocks io)
-
--- what came of a piece, by what it returned
-pub came_of : (q : Piece) (r k : Came) (s : Objects) (known : Option (List (List ℕ))) (t : Stage) (n : ℕ) → r ≡ k → PieceMatches q s known k.gave (comes_after k.next t) n
-    → PieceMatches q s known r.gave (comes_after r.next t) n
-came_of q r k s known t n is came = subst (λ (x : Came). PieceMatches q s known x.gave (comes_after x.next t) n) (sym is) came
-
-pub left_of : (q : Piece) (r k : Came) (s : Objects) (t : Stage) (n : ℕ) → r ≡ k → PieceLeaves q s k.gave (comes_after k.next t) n → PieceLeaves q s r.gave (comes_after r.next t) n
-left_of q r k s t n is left = subst (λ (x : Came). PieceLeaves q s x.gave (comes_after x.next t) n) (sym is) left
 
 -- what holds of a failure, and of a success
 pub of_err : {T E : Type 0} (r : Result T E) (P : Type 0) → is_err r ≡ true → IfErr r (λ _. P) → P

@@ -14,7 +14,7 @@ use Rattle.vino_base.specs.declared.streams.Failed.{Failed as DiskFailed}
 use Rattle.disk_log.specs.Calls.{Knows}
 use Rattle.call_pieces.specs.declared.Work.{Work}
 use Rattle.call_pieces.specs.declared.Next.{Next}
-use Rattle.call_pieces.specs.Works.{IsDue}
+use Rattle.call_pieces.specs.Works.{IsDue, call_of}
 
 -- A piece left these objects, the disk tells this, these bytes were given, this comes next, and so
 -- many calls of the disk were made: all as the definitions' piece has it.
@@ -92,11 +92,11 @@ goes_on _ = false
 -- a call that goes on: it is the same call, its next piece may come, and fewer pieces are left
 pub record HasContinued (old new : Work) (s t : Objects) : Type 0 where
   pub caller : new.caller ≡ old.caller
-  pub call : new.call ≡ old.call
+  pub call : call_of new ≡ call_of old
   pub alive : lives t.things.queue new.caller ≡ true
-  pub fits : piece_fits new.call new.piece t.things new.caller ≡ true
-  pub fewer : pieces_left new.call new.piece t.things new.caller
-      < pieces_left old.call old.piece s.things old.caller
+  pub fits : piece_fits (call_of new) new.piece t.things new.caller ≡ true
+  pub fewer : pieces_left (call_of new) new.piece t.things new.caller
+      < pieces_left (call_of old) old.piece s.things old.caller
 
 -- the same in the terms of a table of calls
 pub record ContinuesFrom (m : Meaning) (v : World) (s u : Objects) (p q : ℕ)

@@ -1,6 +1,6 @@
 -- The clauses that many functions of this crate share, and the pieces and fetches of the
 -- definitions on a store.
-use Rattle.std.specs.Prelude.{◌≡◌, ℕ, ◌<◌, ◌≤◌, Bool, true, false, List, ◌++◌, length, Option, Some, Result, IfOk, IfErr}
+use Rattle.std.specs.Prelude.{◌≡◌, ℕ, ◌<◌, ◌≤◌, Bool, true, false, List, ◌++◌, length, Option, Some, None, Result, IfOk, IfErr}
 use Rattle.kernel_model.specs.declared.OpenRow.{OpenRow}
 use Rattle.kernel_model.specs.declared.SysCall.TheVariants.{Read}
 use Rattle.kernel_model.specs.declared.Refusal.{Refusal}
@@ -17,7 +17,6 @@ use Rattle.vino_base.specs.declared.streams.Failed.{Failed as DiskFailed}
 use Rattle.disk_log.specs.Calls.{Knows}
 use Rattle.kernel_state.specs.declared.Store.{Store}
 use Rattle.kernel_state.specs.Stores.{world_of_store, objects_of, cache_of, queue_of, policies_of, SegmentsStay}
-use Rattle.call_pieces.specs.declared.After.{After}
 use Rattle.call_pieces.specs.declared.Next.{Next}
 use Rattle.call_pieces.specs.declared.reads.Range.{Range}
 use Rattle.call_pieces.specs.Works.{comes_after}
@@ -27,10 +26,10 @@ use Rattle.call_pieces.specs.Matching.{PieceMatches, PieceMatchesSome, FetchMatc
 
 -- a piece left these objects and came out as the definitions have it, whatever the disk tells, with
 -- no call of it
-abbrev pub CameAtOnce : (piece : Blocks → Piece) (s : Objects) (result : After) → Type 0
+abbrev pub CameAtOnce : (piece : Blocks → Piece) (s : Objects) (result : Next) → Type 0
 CameAtOnce piece s result =
     (blocks : Blocks) (known : Option (List (List ℕ))) (t : Stage) → Knows known blocks →
-    PieceMatches (piece blocks) s known result.gave (comes_after result.next t) 0
+    PieceMatches (piece blocks) s known None (comes_after result t) 0
 
 -- a call ends with this piece, and not for the disk; the world and the segments of grafts stay
 pub record EndsAtOnce {B : Type 0} {P : _} (old new : Store B P) (next : Next) : Type 0 where
@@ -46,15 +45,15 @@ pub record EndsAtOnce {B : Type 0} {P : _} (old new : Store B P) (next : Next) :
 -- them do.
 abbrev pub CameBy : (piece : Blocks → List Bool →
     Piece) (s : Objects) (before after : Option (List (List ℕ)))
-    (result : After) (t : Stage) (log : List Bool) → Type 0
-CameBy piece s before after result t log =
+    (gave : Option (List ℕ)) (result : Next) (t : Stage) (log : List Bool) → Type 0
+CameBy piece s before after gave result t log =
     (blocks : Blocks) (rest : List Bool) → Knows before blocks →
-    PieceMatches (piece blocks (log ++ rest)) s after result.gave (comes_after result.next t) (length log)
+    PieceMatches (piece blocks (log ++ rest)) s after gave (comes_after result t) (length log)
 
 -- so it is for some whole blocks, whether the disk tells its blocks or not
 abbrev pub CameBySome : (v : World) (piece : Blocks → List Bool → Piece) (s : Objects)
-    (result : After) (t : Stage) (log : List Bool) → Type 0
-CameBySome v piece s result t log = PieceMatchesSome v piece s result.gave (comes_after result.next t) log
+    (gave : Option (List ℕ)) (result : Next) (t : Stage) (log : List Bool) → Type 0
+CameBySome v piece s gave result t log = PieceMatchesSome v piece s gave (comes_after result t) log
 
 -- a piece fails for the disk only where a call of it failed; the queue, the world and the segments
 -- of grafts stay

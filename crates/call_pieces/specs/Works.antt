@@ -6,6 +6,7 @@ use Rattle.kernel_model.specs.declared.SysCall.{SysCall}
 use Rattle.kernel_model.specs.declared.SysCall.TheVariants.{Spawn, Exit, Yield, Install}
 use Rattle.kernel_model.specs.declared.Refusal.{Refusal}
 use Rattle.kernel_model.specs.declared.QueueRow.{QueueRow}
+use Rattle.kernel_model.specs.Bare.{call_with}
 use Rattle.kernel_model.specs.World.{World, ImageTable}
 use Rattle.kernel_model.specs.Objects.{Objects, PolValue}
 use Rattle.kernel_model.specs.Queue.{queue_without}
@@ -20,14 +21,18 @@ use Rattle.call_pieces.specs.declared.Next.{Next}
 
 -- ---- where a call stands
 
+-- the call with its bytes
+abbrev pub call_of : Work → SysCall
+call_of w = call_with w.call w.bytes.items
+
 -- where a call stands
 abbrev pub stage_of : Work → Stage
-stage_of w = stage w.call w.piece
+stage_of w = stage (call_of w) w.piece
 
 -- where a call stands that was just granted, or its refusal
-abbrev pub stage_granted : {W : Type 0} → (W → Stage) → Result W Refusal → Result Stage Refusal
-stage_granted at (Ok w) = Ok (at w)
-stage_granted at (Err refusal) = Err refusal
+abbrev pub stage_granted : {A : Type 0} → Stage → Result A Refusal → Result Stage Refusal
+stage_granted t (Ok _) = Ok t
+stage_granted t (Err refusal) = Err refusal
 
 -- what comes after a piece, where the call stands so now
 abbrev pub comes_after : Next → Stage → After

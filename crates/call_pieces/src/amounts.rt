@@ -6,27 +6,27 @@ ghost use Rattle.kernel_model.specs.Pieces.{give_piece, install_piece, remove_pi
 ghost use Rattle.kernel_state.specs.Stores.{objects_of, queue_of};
 ghost use Rattle.call_pieces.specs.Shared.{CameAtOnce, EndsAtOnce};
 
-use crate::{After, Next, came};
+use crate::Next;
 use graft_points::Policy;
 use kernel_model::{Kind, Refusal, Reply};
 use kernel_state::Store;
 
 /// Process p gives n to process q, if that lives.
-pub(crate) fn give<B: Policy>(store: &mut Store<B>, p: u8, q: u32, k: Kind, n: u32) -> After
+pub(crate) fn give<B: Policy>(store: &mut Store<B>, p: u8, q: u32, k: Kind, n: u32) -> Next
     requires alive { lives (queue_of store.old) p ≡ true }
     requires granted { q < 16 }
     ensures does { CameAtOnce (λ blocks.
         give_piece (objects_of store.old) p q k n blocks (lives (queue_of store.old) q))
         (objects_of store.new) result }
     ensures queue { queue_of store.new ≡ queue_of store.old }
-    ensures ended { EndsAtOnce store.old store.new result.next }
+    ensures ended { EndsAtOnce store.old store.new result }
 {
     if !store.living(q) {
-        return came(Next::Fails(Refusal::NoProcess));
+        return Next::Fails(Refusal::NoProcess);
     }
     match store.give(p, q as u8, k, n) {
-        Ok(()) => came(Next::Ends(Reply::Plain)),
-        Err(has) => came(Next::Fails(Refusal::Short(has))),
+        Ok(()) => Next::Ends(Reply::Plain),
+        Err(has) => Next::Fails(Refusal::Short(has)),
     }
 }
 
@@ -37,7 +37,7 @@ pub(crate) fn install<B: Policy>(
     pt: u32,
     image: u32,
     limit: u32,
-) -> After
+) -> Next
     requires alive { lives (queue_of store.old) p ≡ true }
     requires point { pt < 16 }
     requires image { image < 32 }
@@ -48,64 +48,64 @@ pub(crate) fn install<B: Policy>(
         ((objects_of store.old).accounts.graft p pt) blocks)
         (objects_of store.new) result }
     ensures queue { queue_of store.new ≡ queue_of store.old }
-    ensures ended { EndsAtOnce store.old store.new result.next }
+    ensures ended { EndsAtOnce store.old store.new result }
 {
     if store.has_graft(p, pt as u8) {
-        return came(Next::Fails(Refusal::Taken));
+        return Next::Fails(Refusal::Taken);
     }
     store.install(p, pt as u8, image as u8, limit);
-    came(Next::Ends(Reply::Plain))
+    Next::Ends(Reply::Plain)
 }
 
 /// The graft at point pt of process p is taken out, if one stands there.
-pub(crate) fn remove<B: Policy>(store: &mut Store<B>, p: u8, pt: u32) -> After
+pub(crate) fn remove<B: Policy>(store: &mut Store<B>, p: u8, pt: u32) -> Next
     requires alive { lives (queue_of store.old) p ≡ true }
     requires point { pt < 16 }
     ensures does { CameAtOnce (λ blocks.
         remove_piece (objects_of store.old) p pt ((objects_of store.old).accounts.graft p pt) blocks)
         (objects_of store.new) result }
     ensures queue { queue_of store.new ≡ queue_of store.old }
-    ensures ended { EndsAtOnce store.old store.new result.next }
+    ensures ended { EndsAtOnce store.old store.new result }
 {
     if !store.has_graft(p, pt as u8) {
-        return came(Next::Fails(Refusal::NoGraft));
+        return Next::Fails(Refusal::NoGraft);
     }
     store.remove(p, pt as u8);
-    came(Next::Ends(Reply::Plain))
+    Next::Ends(Reply::Plain)
 }
 
 /// Process p gives n to its graft at point pt, if one stands there.
-pub(crate) fn fund<B: Policy>(store: &mut Store<B>, p: u8, pt: u32, k: Kind, n: u32) -> After
+pub(crate) fn fund<B: Policy>(store: &mut Store<B>, p: u8, pt: u32, k: Kind, n: u32) -> Next
     requires alive { lives (queue_of store.old) p ≡ true }
     requires point { pt < 16 }
     ensures does { CameAtOnce (λ blocks.
         fund_piece (objects_of store.old) p pt k n ((objects_of store.old).accounts.graft p pt) blocks)
         (objects_of store.new) result }
     ensures queue { queue_of store.new ≡ queue_of store.old }
-    ensures ended { EndsAtOnce store.old store.new result.next }
+    ensures ended { EndsAtOnce store.old store.new result }
 {
     if !store.has_graft(p, pt as u8) {
-        return came(Next::Fails(Refusal::NoGraft));
+        return Next::Fails(Refusal::NoGraft);
     }
     match store.fund(p, pt as u8, k, n) {
-        Ok(()) => came(Next::Ends(Reply::Plain)),
-        Err(has) => came(Next::Fails(Refusal::Short(has))),
+        Ok(()) => Next::Ends(Reply::Plain),
+        Err(has) => Next::Fails(Refusal::Short(has)),
     }
 }
 
 /// From here on process p pays for its graft at point pt, if one stands there.
-pub(crate) fn bill<B: Policy>(store: &mut Store<B>, p: u8, pt: u32) -> After
+pub(crate) fn bill<B: Policy>(store: &mut Store<B>, p: u8, pt: u32) -> Next
     requires alive { lives (queue_of store.old) p ≡ true }
     requires point { pt < 16 }
     ensures does { CameAtOnce (λ blocks.
         bill_piece (objects_of store.old) p pt ((objects_of store.old).accounts.graft p pt) blocks)
         (objects_of store.new) result }
     ensures queue { queue_of store.new ≡ queue_of store.old }
-    ensures ended { EndsAtOnce store.old store.new result.next }
+    ensures ended { EndsAtOnce store.old store.new result }
 {
     if !store.has_graft(p, pt as u8) {
-        return came(Next::Fails(Refusal::NoGraft));
+        return Next::Fails(Refusal::NoGraft);
     }
     store.bill(p, pt as u8);
-    came(Next::Ends(Reply::Plain))
+    Next::Ends(Reply::Plain)
 }

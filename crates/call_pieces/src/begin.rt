@@ -1,9 +1,10 @@
 //! Calls that are refused at once.
 
-ghost use Rattle.std.specs.Prelude.{◌≡◌, ℕ, ◌+◌, ◌<◌, ◌≤◌, ◌==◌, ◌||◌, true, not, length, nat_lt, nat_le, is_some, None, IfOk};
+ghost use Rattle.std.specs.Prelude.{◌≡◌, ℕ, ◌+◌, ◌<◌, ◌≤◌, ◌==◌, ◌||◌, true, not, length, nat_lt, nat_le, is_some, None, IfOk, IfErr};
 ghost use Rattle.kernel_model.specs.declared.Refusal.TheVariants.{BadFd, BadIndex, BadPoint, Denied, NoImage};
 ghost use Rattle.kernel_model.specs.World.{ImageTable};
 ghost use Rattle.kernel_model.specs.ImageMask.{TellsImages, has_bit};
+ghost use Rattle.kernel_model.specs.Bare.{call_with};
 ghost use Rattle.kernel_model.specs.Policies.{lives};
 ghost use Rattle.kernel_model.specs.Pieces.{plain};
 ghost use Rattle.kernel_model.specs.Early.{plain_early, call_refusal, refused, policy_count, TOP_POINT};
@@ -11,66 +12,83 @@ ghost use Rattle.kernel_state.specs.Stores.{world_of_store, objects_of, queue_of
 ghost use Rattle.call_pieces.specs.Works.{IsDue, stage_of, stage_granted};
 
 use crate::Work;
-use crate::copies::copy_call;
+use arrayvec::ArrayVec;
 use graft_points::Policy;
-use kernel_model::{BLOCK_BYTES, Refusal, SysCall};
+use kernel_model::{BLOCK_BYTES, BareCall, Refusal};
 use kernel_state::Store;
 
 /// The highest point at which a graft may stand.
 const TOP_POINT: u32 = 5;
 
 /// A call of process p, which lives, before its first piece; or its refusal of least number that
-/// needs no object. Bit k of `images` tells whether image k is loaded.
+/// needs no object, and the work stays as it was. Bit k of `images` tells whether image k is
+/// loaded. Only the bytes that there are are copied.
 pub fn early<B: Policy>(
     store: &Store<B>,
     images: u32,
     p: u8,
-    call: &SysCall,
-) -> Result<Work, Refusal>
+    call: BareCall,
+    bytes: &ArrayVec<u8, BLOCK_BYTES>,
+    work: &mut Work,
+) -> Result<(), Refusal>
     requires alive { lives (queue_of store.now) p ≡ true }
     ensures value { (table : ImageTable) → TellsImages images table →
-        stage_granted stage_of result
-        ≡ plain_early TOP_POINT (world_of_store store.now) table p call.now }
-    ensures ready { IfOk result
-        (λ w. IsDue plain (world_of_store store.now) (objects_of store.now) w.caller
-        (stage_of w)) }
-    ensures call { IfOk result (λ w. w ≡ record { caller = p; call = call.now; piece = 0 }) }
+        stage_granted (stage_of work.new) result
+        ≡ plain_early TOP_POINT (world_of_store store.now) table p
+        (call_with call bytes.now.items) }
+    ensures ready { IfOk result (λ _. IsDue plain (world_of_store store.now)
+        (objects_of store.now) work.new.caller (stage_of work.new)) }
+    ensures work { IfOk result (λ _. work.new ≡
+        record { caller = p; call = call; bytes = bytes.now; piece = 0 }) }
+    ensures kept { IfErr result (λ _. work.new ≡ work.old) }
 {
-    if let Some(refusal) = refusal(store, images, p, call) {
+    if let Some(refusal) = refusal(store, images, p, call, bytes.as_slice()) {
         return Err(refusal);
     }
-    Ok(Work {
-        caller: p,
-        call: copy_call(call),
-        piece: 0,
-    })
+    work.caller = p;
+    work.call = call;
+    work.piece = 0;
+    copy_bytes(&mut work.bytes, bytes);
+    Ok(())
+}
+
+/// The same bytes once more.
+fn copy_bytes(to: &mut ArrayVec<u8, BLOCK_BYTES>, from: &ArrayVec<u8, BLOCK_BYTES>)
+    ensures { to.new.items ≡ from.now.items }
+{
+    to.clear();
+    let _ = to.try_extend_from_slice(from.as_slice());
 }
 
 /// The refusal of least number of a call that needs no object.
-fn refusal<B: Policy>(store: &Store<B>, images: u32, p: u8, call: &SysCall) -> Option<Refusal>
+fn refusal<B: Policy>(
+    store: &Store<B>,
+    images: u32,
+    p: u8,
+    call: BareCall,
+    bytes: &[u8],
+) -> Option<Refusal>
+    requires few { length bytes.now ≤ 512 }
     ensures { (table : ImageTable) → TellsImages images table →
-        result ≡ call_refusal TOP_POINT (world_of_store store.now) table p call.now }
+        result ≡ call_refusal TOP_POINT (world_of_store store.now) table p
+        (call_with call bytes.now) }
 {
     match call {
-        SysCall::Exit => unless(p != 0, Refusal::Denied),
-        SysCall::OpenName(name) => unless(store.named(name.as_slice()).is_some(), Refusal::NoFile),
-        SysCall::CloseFd(fd) => unless(*fd <= 3, Refusal::BadFd),
-        SysCall::Read(fd, _, off, len) => range_refusal(*fd, *off, *len),
-        SysCall::Write(fd, _, off, bytes) => range_refusal(
-            *fd,
-            *off,
-            bytes.as_slice().len() as u32,
-        ),
-        SysCall::TakeLock(u) | SysCall::FreeLock(u) => unless(*u <= 15, Refusal::BadIndex),
-        SysCall::Poke(k, _) | SysCall::Peek(k) => unless(*k <= 3, Refusal::BadIndex),
-        SysCall::Tune(kind, _, _) => policy_refusal(p, *kind <= 2),
-        SysCall::Choose(kind, j) => policy_refusal(p, *kind <= 2 && *j < policies_of_kind(*kind)),
-        SysCall::Give(q, _, _) => unless(*q <= 15, Refusal::NoProcess),
-        SysCall::Install(pt, image, limit) => install_refusal(images, *pt, *image, *limit),
-        SysCall::Remove(pt) | SysCall::Fund(pt, _, _) | SysCall::Bill(pt) => {
-            unless(*pt <= TOP_POINT, Refusal::BadPoint)
+        BareCall::Exit => unless(p != 0, Refusal::Denied),
+        BareCall::OpenName => unless(store.named(bytes).is_some(), Refusal::NoFile),
+        BareCall::CloseFd(fd) => unless(fd <= 3, Refusal::BadFd),
+        BareCall::Read(fd, _, off, len) => range_refusal(fd, off, len),
+        BareCall::Write(fd, _, off) => range_refusal(fd, off, bytes.len() as u32),
+        BareCall::TakeLock(u) | BareCall::FreeLock(u) => unless(u <= 15, Refusal::BadIndex),
+        BareCall::Poke(k, _) | BareCall::Peek(k) => unless(k <= 3, Refusal::BadIndex),
+        BareCall::Tune(kind, _, _) => policy_refusal(p, kind <= 2),
+        BareCall::Choose(kind, j) => policy_refusal(p, kind <= 2 && j < policies_of_kind(kind)),
+        BareCall::Give(q, _, _) => unless(q <= 15, Refusal::NoProcess),
+        BareCall::Install(pt, image, limit) => install_refusal(images, pt, image, limit),
+        BareCall::Remove(pt) | BareCall::Fund(pt, _, _) | BareCall::Bill(pt) => {
+            unless(pt <= TOP_POINT, Refusal::BadPoint)
         }
-        SysCall::Spawn | SysCall::Yield | SysCall::Sync => None,
+        BareCall::Spawn | BareCall::Yield | BareCall::Sync => None,
     }
 }
 

@@ -1,19 +1,21 @@
 //! What a kernel runs: a table of calls.
 
-use crate::{After, Needs, Work, asks, early, need, piece};
+use crate::{Gift, Needs, Next, Work, asks, early, need, piece};
+use arrayvec::ArrayVec;
 use disk_log::DiskLog;
 use graft_points::Policy;
-use kernel_model::{Point, Refusal, Rules, SysCall};
+use kernel_model::{BLOCK_BYTES, BareCall, Point, Refusal, Rules};
 use kernel_state::Store;
 use plain_rules::PlainRules;
 use vino_base::Disk;
 
 /// A table of system calls, each of which is refused at once or is in flight until a piece ends it.
 pub trait Calls {
-    ghost use Rattle.std.specs.Prelude.{◌≡◌, ℕ, ◌<◌, ◌≤◌, ◌+◌, true, List, Bool, [], ◌++◌, None, length, IfOk};
+    ghost use Rattle.std.specs.Prelude.{◌≡◌, ℕ, ◌<◌, ◌≤◌, ◌+◌, true, List, Bool, [], ◌++◌, None, length, IfOk, IfErr};
     ghost use Rattle.kernel_model.specs.World.{ImageTable, Blocks};
     ghost use Rattle.kernel_model.specs.Meaning.{Stage};
     ghost use Rattle.kernel_model.specs.Laws.{IsRightAnswer};
+    ghost use Rattle.kernel_model.specs.Bare.{call_with};
     ghost use Rattle.kernel_model.specs.Policies.{lives};
     ghost use Rattle.disk_log.specs.Calls.{Knows, CallsExtend};
     ghost use Rattle.kernel_state.specs.Stores.{world_of_store, objects_of, queue_of, SegmentsStay};
@@ -33,23 +35,31 @@ pub trait Calls {
     /// The process that made it.
     ghost caller: { Self.Work → ℕ };
 
+    /// Some call, to be written over by the next that is granted.
+    fn some_work() -> Self::Work;
+
     /// A call of process p, which lives, before its first piece; or its refusal of least number
-    /// that needs no object. Bit k of `images` tells whether image k is loaded.
+    /// that needs no object, and the work stays as it was. Bit k of `images` tells whether image k
+    /// is loaded.
     fn early<B: Policy>(
         store: &Store<B>,
         images: u32,
         p: u8,
-        call: &SysCall,
-    ) -> Result<Self::Work, Refusal>
+        call: BareCall,
+        bytes: &ArrayVec<u8, BLOCK_BYTES>,
+        work: &mut Self::Work,
+    ) -> Result<(), Refusal>
         requires alive { lives (queue_of store.now) p ≡ true }
         ensures value { (table : ImageTable) → TellsImages images table →
-            stage_granted stage result ≡ Self.Meaning.meaning.early (world_of_store store.now) table p call.now }
-        ensures ready { IfOk result (λ w. IsDue Self.Meaning.meaning (world_of_store store.now)
-            (objects_of store.now) (caller w) (stage w)) }
-        ensures caller { IfOk result (λ w. caller w ≡ p) }
-        ensures few { IfOk result
-            (λ w. Self.Meaning.meaning.left (world_of_store store.now) (objects_of store.now)
-            (caller w) (stage w) ≤ 15) };
+            stage_granted (stage work.new) result
+            ≡ Self.Meaning.meaning.early (world_of_store store.now) table p
+            (call_with call bytes.now.items) }
+        ensures ready { IfOk result (λ _. IsDue Self.Meaning.meaning (world_of_store store.now)
+            (objects_of store.now) (caller work.new) (stage work.new)) }
+        ensures caller { IfOk result (λ _. caller work.new ≡ p) }
+        ensures few { IfOk result (λ _. Self.Meaning.meaning.left (world_of_store store.now)
+            (objects_of store.now) (caller work.new) (stage work.new) ≤ 15) }
+        ensures kept { IfErr result (λ _. work.new ≡ work.old) };
 
     /// The objects that the next piece of a call needs, in order. They take the place of what the
     /// list had.
@@ -71,14 +81,16 @@ pub trait Calls {
             (caller work.now) (stage work.now) };
 
     /// The next piece of a call, with an answer that the point accepts which it asks, or by
-    /// default. The log starts empty and has this piece's calls of the disk then.
+    /// default. The log starts empty and has this piece's calls of the disk then; the gift has what
+    /// the piece gave, whatever it had.
     fn piece<B: Policy, D: Disk>(
         work: &mut Self::Work,
         store: &mut Store<B>,
         answer: Option<[u32; 4]>,
         disk: &mut D,
         log: &mut DiskLog,
-    ) -> After
+        gave: &mut Gift,
+    ) -> Next
         requires ready { IsDue Self.Meaning.meaning (world_of_store store.old)
             (objects_of store.old)
             (caller work.old) (stage work.old) }
@@ -93,20 +105,20 @@ pub trait Calls {
             PieceMatches (Self.Meaning.meaning.piece (world_of_store store.old) images
             (objects_of store.old) blocks
             (caller work.old) (stage work.old) (answer_seen answer) (log.new ++ rest))
-            (objects_of store.new) (D.blocks disk.new) result.gave
-            (comes_after result.next (stage work.new)) (length log.new) }
+            (objects_of store.new) (D.blocks disk.new) gave.new
+            (comes_after result (stage work.new)) (length log.new) }
         ensures some { (images : ImageTable) →
             PieceMatchesSome (world_of_store store.old) (λ blocks io.
             Self.Meaning.meaning.piece (world_of_store store.old) images
             (objects_of store.old) blocks
             (caller work.old) (stage work.old) (answer_seen answer) io)
-            (objects_of store.new) result.gave
-            (comes_after result.next (stage work.new)) log.new }
-        ensures gone { goes_on result.next ≡ true →
+            (objects_of store.new) gave.new
+            (comes_after result (stage work.new)) log.new }
+        ensures gone { goes_on result ≡ true →
             ContinuesFrom Self.Meaning.meaning (world_of_store store.old) (objects_of store.old)
             (objects_of store.new)
             (caller work.old) (caller work.new) (stage work.old) (stage work.new) }
-        ensures failed { is_fault result.next ≡ true → has_failed log.new ≡ true }
+        ensures failed { is_fault result ≡ true → has_failed log.new ≡ true }
         ensures world { world_of_store store.new ≡ world_of_store store.old }
         ensures memory { SegmentsStay store.old.ram store.new.ram }
         ensures same_size { D.block_count disk.new ≡ D.block_count disk.old }
@@ -130,13 +142,24 @@ impl Calls for Plain {
 
     ghost caller = { λ w. w.caller };
 
+    fn some_work() -> Work {
+        Work {
+            caller: 0,
+            call: BareCall::Sync,
+            bytes: ArrayVec::new(),
+            piece: 0,
+        }
+    }
+
     fn early<B: Policy>(
         store: &Store<B>,
         images: u32,
         p: u8,
-        call: &SysCall,
-    ) -> Result<Work, Refusal> {
-        early(store, images, p, call)
+        call: BareCall,
+        bytes: &ArrayVec<u8, BLOCK_BYTES>,
+        work: &mut Work,
+    ) -> Result<(), Refusal> {
+        early(store, images, p, call, bytes, work)
     }
 
     fn need<B: Policy>(work: &Work, store: &Store<B>, needs: &mut Needs) {
@@ -153,7 +176,8 @@ impl Calls for Plain {
         answer: Option<[u32; 4]>,
         disk: &mut D,
         log: &mut DiskLog,
-    ) -> After {
-        piece(work, store, answer, disk, log)
+        gave: &mut Gift,
+    ) -> Next {
+        piece(work, store, answer, disk, log, gave)
     }
 }

@@ -4,13 +4,11 @@
 //! (`piece`) is what a call does in one step.
 #![tactic(auto)]
 
-ghost use Rattle.std.specs.Prelude.{◌≡◌, None};
-
 mod amounts;
 mod begin;
 mod calls;
-mod copies;
 mod fetch;
+mod gifts;
 mod locks;
 mod needs;
 mod one_piece;
@@ -21,31 +19,26 @@ mod reads;
 mod syncs;
 mod writes;
 
+use arrayvec::ArrayVec;
 pub use begin::early;
 pub use calls::{Calls, Plain};
-use kernel_model::{Bytes, Refusal, Reply, SysCall};
+pub use gifts::Gift;
+use kernel_model::{BLOCK_BYTES, BareCall, Refusal, Reply};
 pub use needs::{NEEDS, Needs, need};
 pub use pieces::piece;
 pub use points::asks;
 
-/// A call in flight.
+/// A call in flight. It stays where it is from its first piece to its last.
 #[derive(Drop)]
 pub struct Work {
     /// The process that made it.
     pub caller: u8,
-    /// The call.
-    pub call: SysCall,
+    /// The call, without its bytes.
+    pub call: BareCall,
+    /// The name of `open`, or what a write writes. No other call looks at them.
+    pub bytes: ArrayVec<u8, BLOCK_BYTES>,
     /// The number of its next piece, from 0. Every piece of a read after the second has number 2.
     pub piece: u8,
-}
-
-/// What came of a piece.
-#[derive(Drop)]
-pub struct After {
-    /// The bytes that it gave.
-    pub gave: Option<Bytes>,
-    /// What comes next.
-    pub next: Next,
 }
 
 /// What comes after a piece.
@@ -57,11 +50,4 @@ pub enum Next {
     Ends(Reply),
     /// Nothing: the call was refused.
     Fails(Refusal),
-}
-
-/// A piece that gave no bytes.
-pub(crate) fn came(next: Next) -> After
-    ensures { result ≡ record { gave = None; next = next } }
-{
-    After { gave: None, next }
 }

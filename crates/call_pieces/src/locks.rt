@@ -6,42 +6,42 @@ ghost use Rattle.kernel_model.specs.Pieces.{lock_piece, unlock_piece};
 ghost use Rattle.kernel_state.specs.Stores.{objects_of, queue_of};
 ghost use Rattle.call_pieces.specs.Shared.{CameAtOnce, EndsAtOnce};
 
-use crate::{After, Next, came};
+use crate::Next;
 use graft_points::Policy;
 use kernel_model::{Refusal, Reply};
 use kernel_state::Store;
 
 /// Process p takes user lock u, unless it is held.
-pub(crate) fn take_lock<B: Policy>(store: &mut Store<B>, p: u8, u: u32) -> After
+pub(crate) fn take_lock<B: Policy>(store: &mut Store<B>, p: u8, u: u32) -> Next
     requires alive { lives (queue_of store.old) p ≡ true }
     requires granted { u < 16 }
     ensures does { CameAtOnce (λ blocks.
         lock_piece (objects_of store.old) p u ((objects_of store.old).things.lock u) blocks)
         (objects_of store.new) result }
     ensures queue { queue_of store.new ≡ queue_of store.old }
-    ensures ended { EndsAtOnce store.old store.new result.next }
+    ensures ended { EndsAtOnce store.old store.new result }
 {
     if store.holder(u as u8).is_some() {
-        return came(Next::Fails(Refusal::Held));
+        return Next::Fails(Refusal::Held);
     }
     store.set_holder(u as u8, Some(p));
-    came(Next::Ends(Reply::Plain))
+    Next::Ends(Reply::Plain)
 }
 
 /// Process p lets user lock u go, which it holds.
-pub(crate) fn free_lock<B: Policy>(store: &mut Store<B>, p: u8, u: u32) -> After
+pub(crate) fn free_lock<B: Policy>(store: &mut Store<B>, p: u8, u: u32) -> Next
     requires granted { u < 16 }
     ensures does { CameAtOnce (λ blocks.
         unlock_piece (objects_of store.old) p u ((objects_of store.old).things.lock u) blocks)
         (objects_of store.new) result }
     ensures queue { queue_of store.new ≡ queue_of store.old }
-    ensures ended { EndsAtOnce store.old store.new result.next }
+    ensures ended { EndsAtOnce store.old store.new result }
 {
     match store.holder(u as u8) {
         Some(q) if q == p => {
             store.set_holder(u as u8, None);
-            came(Next::Ends(Reply::Plain))
+            Next::Ends(Reply::Plain)
         }
-        _ => came(Next::Fails(Refusal::NotHeld)),
+        _ => Next::Fails(Refusal::NotHeld),
     }
 }

@@ -9,13 +9,13 @@ ghost use Rattle.kernel_model.specs.Pieces.{plain, read_fits};
 ghost use Rattle.kernel_model.specs.Needs as spec;
 ghost use Rattle.buffer_cache.specs.Frames.{in_use};
 ghost use Rattle.kernel_state.specs.Stores.{world_of_store, objects_of, cache_of, queue_of, policies_of};
-ghost use Rattle.call_pieces.specs.Works.{IsDue, stage_of};
+ghost use Rattle.call_pieces.specs.Works.{IsDue, call_of, stage_of};
 
 use crate::Work;
 use crate::reads::Range;
 use arrayvec::ArrayVec;
 use graft_points::Policy;
-use kernel_model::{Kind, Mode, Need, Object, SysCall};
+use kernel_model::{BareCall, Kind, Mode, Need, Object};
 use kernel_state::Store;
 use std::marker::Model;
 
@@ -217,43 +217,45 @@ pub(crate) fn candidate_for<B: Policy>(store: &Store<B>, b: u32) -> Option<u8>
 pub fn need<B: Policy>(work: &Work, store: &Store<B>, needs: &mut Needs)
     requires ready { IsDue plain (world_of_store store.now) (objects_of store.now) work.now.caller
         (stage_of work.now) }
-    ensures { needs.new ≡ spec.piece_needs work.now.call work.now.piece (world_of_store store.now)
+    ensures { needs.new ≡ spec.piece_needs (call_of work.now) work.now.piece (world_of_store store.now)
         (objects_of store.now) work.now.caller }
 {
     needs.clear();
     let p = work.caller;
-    match &work.call {
-        SysCall::Spawn => spawn_needs(store, needs),
-        SysCall::Exit => exit_needs(p, needs),
-        SysCall::Yield => yield_needs(work.piece, store, needs),
-        SysCall::OpenName(_) => needs.files(p),
-        SysCall::CloseFd(fd) => needs.exclusive(Object::OpenFile(p, *fd as u8)),
-        SysCall::Read(fd, i, off, len) => {
-            let range = Range {
-                fd: *fd,
-                i: *i,
-                off: *off,
-                len: *len,
-            };
+    match work.call {
+        BareCall::Spawn => spawn_needs(store, needs),
+        BareCall::Exit => exit_needs(p, needs),
+        BareCall::Yield => yield_needs(work.piece, store, needs),
+        BareCall::OpenName => needs.files(p),
+        BareCall::CloseFd(fd) => needs.exclusive(Object::OpenFile(p, fd as u8)),
+        BareCall::Read(fd, i, off, len) => {
+            let range = Range { fd, i, off, len };
             read_needs(work.piece, store, p, range, needs)
         }
-        SysCall::Write(fd, i, off, bytes) => {
-            needs.shared(Object::OpenFile(p, *fd as u8));
-            needs.block(store, p, *fd as u8, *i, *off, bytes.as_slice().len() as u32);
+        BareCall::Write(fd, i, off) => {
+            needs.shared(Object::OpenFile(p, fd as u8));
+            needs.block(
+                store,
+                p,
+                fd as u8,
+                i,
+                off,
+                work.bytes.as_slice().len() as u32,
+            );
         }
-        SysCall::Sync => needs.exclusive(Object::Cache),
-        SysCall::TakeLock(u) => needs.user_lock(*u as u8),
-        SysCall::FreeLock(u) => needs.exclusive(Object::Lock(*u as u8)),
-        SysCall::Poke(k, _) => needs.exclusive(Object::Cell(p, *k as u8)),
-        SysCall::Peek(k) => needs.shared(Object::Cell(p, *k as u8)),
-        SysCall::Tune(kind, _, _) | SysCall::Choose(kind, _) => {
-            needs.exclusive(Object::Pol(*kind as u8))
+        BareCall::Sync => needs.exclusive(Object::Cache),
+        BareCall::TakeLock(u) => needs.user_lock(u as u8),
+        BareCall::FreeLock(u) => needs.exclusive(Object::Lock(u as u8)),
+        BareCall::Poke(k, _) => needs.exclusive(Object::Cell(p, k as u8)),
+        BareCall::Peek(k) => needs.shared(Object::Cell(p, k as u8)),
+        BareCall::Tune(kind, _, _) | BareCall::Choose(kind, _) => {
+            needs.exclusive(Object::Pol(kind as u8))
         }
-        SysCall::Give(q, kind, n) => give_needs(store, p, *q as u8, *kind, *n, needs),
-        SysCall::Install(pt, _, _) | SysCall::Bill(pt) => {
-            needs.exclusive(Object::Graft(p, *pt as u8))
+        BareCall::Give(q, kind, n) => give_needs(store, p, q as u8, kind, n, needs),
+        BareCall::Install(pt, _, _) | BareCall::Bill(pt) => {
+            needs.exclusive(Object::Graft(p, pt as u8))
         }
-        SysCall::Remove(pt) | SysCall::Fund(pt, _, _) => needs.point(store, p, *pt as u8),
+        BareCall::Remove(pt) | BareCall::Fund(pt, _, _) => needs.point(store, p, pt as u8),
     }
 }
 

@@ -18,13 +18,13 @@ ghost use Rattle.call_pieces.specs.Shared.{CameAtOnce, EndsAtOnce};
 ghost use Rattle.call_pieces.specs.Works.{queue_yielded, next_of, comes_after};
 ghost use Rattle.call_pieces.specs.Matching.{PieceMatches, is_fault, goes_on};
 
-use crate::{After, Next, came};
+use crate::Next;
 use graft_points::Policy;
 use kernel_model::{OpenRow, Refusal, Reply};
 use kernel_state::Store;
 
 /// A new process joins at the back of the queue.
-pub(crate) fn spawn<B: Policy>(store: &mut Store<B>) -> After
+pub(crate) fn spawn<B: Policy>(store: &mut Store<B>) -> Next
     ensures does { CameAtOnce (λ blocks.
         spawn_piece (objects_of store.old) (free_process (queue_of store.old) 16 0) blocks)
         (objects_of store.new) result }
@@ -32,25 +32,25 @@ pub(crate) fn spawn<B: Policy>(store: &mut Store<B>) -> After
         ≡ queue_joined (free_process (queue_of store.old) 16 0) (queue_of store.old) }
     ensures living { (q : ℕ) → lives (queue_of store.old) q ≡ true →
         lives (queue_of store.new) q ≡ true }
-    ensures ended { EndsAtOnce store.old store.new result.next }
+    ensures ended { EndsAtOnce store.old store.new result }
 {
     match store.spawn() {
-        Some(c) => came(Next::Ends(Reply::One(u32::from(c)))),
-        None => came(Next::Fails(Refusal::Full)),
+        Some(c) => Next::Ends(Reply::One(u32::from(c))),
+        None => Next::Fails(Refusal::Full),
     }
 }
 
 /// Process p leaves, which isn't 0.
-pub(crate) fn exit<B: Policy>(store: &mut Store<B>, p: u8) -> After
+pub(crate) fn exit<B: Policy>(store: &mut Store<B>, p: u8) -> Next
     requires alive { lives (queue_of store.old) p ≡ true }
     requires granted { 0 < p }
     ensures does { CameAtOnce (λ blocks.
         exit_piece (objects_of store.old) p blocks) (objects_of store.new) result }
     ensures queue { queue_of store.new ≡ queue_without p (queue_of store.old) }
-    ensures ended { EndsAtOnce store.old store.new result.next }
+    ensures ended { EndsAtOnce store.old store.new result }
 {
     store.leave(p);
-    came(Next::Ends(Reply::Plain))
+    Next::Ends(Reply::Plain)
 }
 
 /// The process that an answer chooses, which lives, or else the one that is next by default.
@@ -74,86 +74,86 @@ pub(crate) fn yield_turn<B: Policy>(
     store: &mut Store<B>,
     p: u8,
     answer: Option<[u32; 4]>,
-) -> After
+) -> Next
     requires alive { lives (queue_of store.old) p ≡ true }
     requires fits { piece.old ≤ 1 }
     requires right { IfSome answer (λ a. lives (queue_of store.old) (slice_index a 0) ≡ true) }
     ensures does { (blocks : Blocks) (known : Option (List (List ℕ))) → Knows known blocks →
         PieceMatches (yield_piece piece.old (objects_of store.old) p answer blocks)
-        (objects_of store.new) known result.gave
-        (comes_after result.next (stage Yield piece.new)) 0 }
+        (objects_of store.new) known None
+        (comes_after result (stage Yield piece.new)) 0 }
     ensures queue { queue_of store.new ≡ queue_yielded (policies_of store.old 2) answer piece.old p
         (queue_of store.old) }
     ensures living { (q : ℕ) → lives (queue_of store.new) q ≡ lives (queue_of store.old) q }
     ensures world { world_of_store store.new ≡ world_of_store store.old }
-    ensures next { goes_on result.next ≡ true → (piece.old ≡ 0) × (piece.new ≡ 1) }
-    ensures no_fault { is_fault result.next ≡ false }
+    ensures next { goes_on result ≡ true → (piece.old ≡ 0) × (piece.new ≡ 1) }
+    ensures no_fault { is_fault result ≡ false }
     ensures memory { SegmentsStay store.old.ram store.new.ram }
 {
     if *piece == 0 {
         *piece = 1;
         store.to_back(p);
-        return came(Next::Goes);
+        return Next::Goes;
     }
     let next = turn(store, answer);
     store.add_slice(next);
-    came(Next::Ends(Reply::One(u32::from(next))))
+    Next::Ends(Reply::One(u32::from(next)))
 }
 
 /// Cell k of process p gets a value.
-pub(crate) fn poke<B: Policy>(store: &mut Store<B>, p: u8, k: u32, v: u32) -> After
+pub(crate) fn poke<B: Policy>(store: &mut Store<B>, p: u8, k: u32, v: u32) -> Next
     requires alive { lives (queue_of store.old) p ≡ true }
     requires granted { k < 4 }
     ensures does { CameAtOnce (λ blocks.
         poke_piece (objects_of store.old) p k v blocks) (objects_of store.new) result }
     ensures queue { queue_of store.new ≡ queue_of store.old }
-    ensures ended { EndsAtOnce store.old store.new result.next }
+    ensures ended { EndsAtOnce store.old store.new result }
 {
     store.set_cell(p, k as u8, v);
-    came(Next::Ends(Reply::Plain))
+    Next::Ends(Reply::Plain)
 }
 
 /// Cell k of process p is told.
-pub(crate) fn peek<B: Policy>(store: &Store<B>, p: u8, k: u32) -> After
+pub(crate) fn peek<B: Policy>(store: &Store<B>, p: u8, k: u32) -> Next
     requires alive { lives (queue_of store.now) p ≡ true }
     requires granted { k < 4 }
     ensures does { CameAtOnce (λ blocks.
         leaves (objects_of store.now) blocks (EndsWith (One ((objects_of store.now).things.cell p k))))
         (objects_of store.now) result }
-    ensures ends { goes_on result.next ≡ false }
-    ensures no_fault { is_fault result.next ≡ false }
+    ensures ends { goes_on result ≡ false }
+    ensures no_fault { is_fault result ≡ false }
 {
-    came(Next::Ends(Reply::One(store.cell(p, k as u8))))
+    Next::Ends(Reply::One(store.cell(p, k as u8)))
 }
 
 /// The file of this name is opened at the lowest free descriptor of process p.
-pub(crate) fn open<B: Policy>(store: &mut Store<B>, p: u8, name: &[u8]) -> After
+pub(crate) fn open<B: Policy>(store: &mut Store<B>, p: u8, name: &[u8]) -> Next
     requires alive { lives (queue_of store.old) p ≡ true }
     ensures does { CameAtOnce (λ blocks.
         open_piece (objects_of store.old) p (file_named (world_of_store store.old) name.now)
         (free_descriptor (objects_of store.old).things p 4 0) blocks)
         (objects_of store.new) result }
     ensures queue { queue_of store.new ≡ queue_of store.old }
-    ensures ended { EndsAtOnce store.old store.new result.next }
+    ensures ended { EndsAtOnce store.old store.new result }
 {
     let Some(file) = store.named(name) else {
-        return came(Next::Fails(Refusal::NoFile));
+        return Next::Fails(Refusal::NoFile);
     };
     match store.free_descriptor(p) {
         Some(fd) => open_at(store, p, fd, file),
-        None => came(Next::Fails(Refusal::NoFd)),
+        None => Next::Fails(Refusal::NoFd),
     }
 }
 
 /// A file is opened at descriptor fd of process p, which is free.
-fn open_at<B: Policy>(store: &mut Store<B>, p: u8, fd: u8, file: u8) -> After
+fn open_at<B: Policy>(store: &mut Store<B>, p: u8, fd: u8, file: u8) -> Next
     requires alive { lives (queue_of store.old) p ≡ true }
     requires number { fd < 4 }
     requires file { IsSoundFile (world_of_store store.old) (new_file file) }
     ensures does { CameAtOnce (λ blocks.
         open_piece (objects_of store.old) p (Some file) (Some fd) blocks) (objects_of store.new) result }
     ensures queue { queue_of store.new ≡ queue_of store.old }
-    ensures ended { EndsAtOnce store.old store.new result.next }
+    ensures ended { EndsAtOnce store.old store.new result }
 {
     let row = OpenRow {
         file,
@@ -164,22 +164,22 @@ fn open_at<B: Policy>(store: &mut Store<B>, p: u8, fd: u8, file: u8) -> After
         count: 0,
     };
     store.put_file(p, fd, Some(row));
-    came(Next::Ends(Reply::One(u32::from(fd))))
+    Next::Ends(Reply::One(u32::from(fd)))
 }
 
 /// The file at descriptor fd of process p is closed.
-pub(crate) fn close<B: Policy>(store: &mut Store<B>, p: u8, fd: u32) -> After
+pub(crate) fn close<B: Policy>(store: &mut Store<B>, p: u8, fd: u32) -> Next
     requires alive { lives (queue_of store.old) p ≡ true }
     requires granted { fd < 4 }
     ensures does { CameAtOnce (λ blocks.
         close_piece (objects_of store.old) p fd ((objects_of store.old).things.file p fd) blocks)
         (objects_of store.new) result }
     ensures queue { queue_of store.new ≡ queue_of store.old }
-    ensures ended { EndsAtOnce store.old store.new result.next }
+    ensures ended { EndsAtOnce store.old store.new result }
 {
     if store.file(p, fd as u8).is_none() {
-        return came(Next::Fails(Refusal::BadFd));
+        return Next::Fails(Refusal::BadFd);
     }
     store.put_file(p, fd as u8, None);
-    came(Next::Ends(Reply::Plain))
+    Next::Ends(Reply::Plain)
 }

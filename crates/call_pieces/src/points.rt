@@ -6,37 +6,32 @@ ghost use Rattle.kernel_model.specs.Pieces.{plain, read_fits};
 ghost use Rattle.kernel_model.specs.Needs as spec;
 ghost use Rattle.buffer_cache.specs.Frames.{in_use};
 ghost use Rattle.kernel_state.specs.Stores.{world_of_store, objects_of, cache_of, queue_of, policies_of};
-ghost use Rattle.call_pieces.specs.Works.{IsDue, stage_of};
+ghost use Rattle.call_pieces.specs.Works.{IsDue, call_of, stage_of};
 
 use crate::Work;
 use crate::needs::candidate_for;
 use crate::reads::Range;
 use graft_points::Policy;
-use kernel_model::{Point, SysCall};
+use kernel_model::{BareCall, Point};
 use kernel_state::Store;
 
 /// The point that the next piece of a call asks, with its arguments.
 pub fn asks<B: Policy>(work: &Work, store: &Store<B>) -> Option<Point>
     requires ready { IsDue plain (world_of_store store.now) (objects_of store.now) work.now.caller
         (stage_of work.now) }
-    ensures { result ≡ spec.piece_ask work.now.call work.now.piece (world_of_store store.now)
+    ensures { result ≡ spec.piece_ask (call_of work.now) work.now.piece (world_of_store store.now)
         (objects_of store.now).things work.now.caller }
 {
     let p = work.caller;
-    match &work.call {
-        SysCall::Yield => turn_ask(work.piece, store),
-        SysCall::Read(fd, i, off, len) => {
-            let range = Range {
-                fd: *fd,
-                i: *i,
-                off: *off,
-                len: *len,
-            };
+    match work.call {
+        BareCall::Yield => turn_ask(work.piece, store),
+        BareCall::Read(fd, i, off, len) => {
+            let range = Range { fd, i, off, len };
             read_ask(work.piece, store, p, range)
         }
-        SysCall::Write(fd, i, off, bytes) => {
-            let len = bytes.as_slice().len() as u32;
-            block_ask(store, p, *fd as u8, *i, *off, len)
+        BareCall::Write(fd, i, off) => {
+            let len = work.bytes.as_slice().len() as u32;
+            block_ask(store, p, fd as u8, i, off, len)
         }
         _ => None,
     }

@@ -1,6 +1,6 @@
 //! The pieces of a read: the block itself, how far to read ahead, and each block ahead.
 
-ghost use Rattle.std.specs.Prelude.{◌≡◌, ℕ, ◌+◌, ◌<◌, ◌≤◌, true, false, List, Option, [], Some, slice_index, is_some, IfSome};
+ghost use Rattle.std.specs.Prelude.{◌≡◌, ℕ, ◌+◌, ◌<◌, ◌≤◌, true, false, List, Option, [], Some, None, slice_index, is_some, IfSome};
 ghost use Rattle.kernel_model.specs.World.{Blocks, blocks_of};
 ghost use Rattle.kernel_model.specs.declared.SysCall.TheVariants.{Read};
 ghost use Rattle.kernel_model.specs.Policies.{lives, ahead_default};
@@ -17,7 +17,7 @@ ghost use Rattle.call_pieces.specs.Works.{comes_after};
 ghost use Rattle.call_pieces.specs.Matching.{PieceMatches, ReadContinues, is_fault, goes_on};
 
 use crate::fetch::{fetch, fetch_ahead};
-use crate::{After, Next, came};
+use crate::{Gift, Next};
 use disk_log::DiskLog;
 use graft_points::Policy;
 use kernel_model::{OpenRow, Refusal, Reply};
@@ -39,10 +39,11 @@ pub(crate) fn read<B: Policy, D: Disk>(
     store: &mut Store<B>,
     disk: &mut D,
     log: &mut DiskLog,
+    gave: &mut Gift,
     p: u8,
     r: Range,
     answer: Option<[u32; 4]>,
-) -> After
+) -> Next
     requires alive { lives (queue_of store.old) p ≡ true }
     requires descriptor { r.fd < 4 }
     requires inside { r.off + r.len ≤ 512 }
@@ -53,23 +54,24 @@ pub(crate) fn read<B: Policy, D: Disk>(
         (objects_of store.old).things p r.fd r.i r.off r.len) answer }
     requires disk { store.old.size ≡ D.block_count disk.old }
     requires fresh { log.old ≡ [] }
+    requires nothing { gave.old ≡ None }
     ensures does { CameBy (read_of store.old piece.old p r answer) (objects_of store.new)
-        (D.blocks disk.old) (D.blocks disk.new) result (read_stage r piece.new) log.new }
+        (D.blocks disk.old) (D.blocks disk.new) gave.new result (read_stage r piece.new) log.new }
     ensures some { CameBySome (world_of_store store.old) (read_of store.old piece.old p r answer)
         (objects_of store.new)
-        result (read_stage r piece.new) log.new }
-    ensures next { goes_on result.next ≡ true → ReadContinues piece.old piece.new
+        gave.new result (read_stage r piece.new) log.new }
+    ensures next { goes_on result ≡ true → ReadContinues piece.old piece.new
         ((objects_of store.old).things.file p r.fd) ((objects_of store.new).things.file p r.fd) }
-    ensures serves { Serves store.old store.new result.next log.new }
+    ensures serves { Serves store.old store.new result log.new }
     ensures same_size { D.block_count disk.new ≡ D.block_count disk.old }
     ensures calls { CallsExtend (D.faults disk.old) (D.faults disk.new) (D.plan disk.old)
         (D.plan disk.new) log.old log.new }
 {
     let Some(opened) = store.file(p, r.fd as u8) else {
-        return came(Next::Fails(Refusal::BadFd));
+        return Next::Fails(Refusal::BadFd);
     };
     match *piece {
-        0 => first(piece, store, disk, log, p, r, answer, opened),
+        0 => first(piece, store, disk, log, gave, p, r, answer, opened),
         1 => second(piece, store, p, r, answer, opened),
         _ => later(store, disk, log, p, r, answer, opened),
     }
@@ -81,11 +83,12 @@ fn first<B: Policy, D: Disk>(
     store: &mut Store<B>,
     disk: &mut D,
     log: &mut DiskLog,
+    gave: &mut Gift,
     p: u8,
     r: Range,
     answer: Option<[u32; 4]>,
     opened: OpenRow,
-) -> After
+) -> Next
     requires alive { lives (queue_of store.old) p ≡ true }
     requires descriptor { r.fd < 4 }
     requires right { IfSome answer (λ a. is_some ((cache_of store.old).frame (slice_index a 0))
@@ -95,21 +98,22 @@ fn first<B: Policy, D: Disk>(
     requires file { (objects_of store.old).things.file p r.fd ≡ Some opened }
     requires disk { store.old.size ≡ D.block_count disk.old }
     requires fresh { log.old ≡ [] }
+    requires nothing { gave.old ≡ None }
     ensures does { CameBy (first_of store.old p r opened answer) (objects_of store.new)
-        (D.blocks disk.old) (D.blocks disk.new) result (read_stage r piece.new) log.new }
+        (D.blocks disk.old) (D.blocks disk.new) gave.new result (read_stage r piece.new) log.new }
     ensures some { CameBySome (world_of_store store.old) (first_of store.old p r opened answer)
         (objects_of store.new)
-        result (read_stage r piece.new) log.new }
-    ensures next { goes_on result.next ≡ true →
+        gave.new result (read_stage r piece.new) log.new }
+    ensures next { goes_on result ≡ true →
         ReadContinues 0 piece.new (Some opened) ((objects_of store.new).things.file p r.fd) }
-    ensures serves { Serves store.old store.new result.next log.new }
+    ensures serves { Serves store.old store.new result log.new }
     ensures same_size { D.block_count disk.new ≡ D.block_count disk.old }
     ensures calls { CallsExtend (D.faults disk.old) (D.faults disk.new) (D.plan disk.old)
         (D.plan disk.new) log.old log.new }
 {
     match store.block_of(p, r.fd as u8, r.i, r.off, r.len) {
-        Ok(b) => first_at(piece, store, disk, log, p, r, answer, opened, b),
-        Err(refusal) => came(Next::Fails(refusal)),
+        Ok(b) => first_at(piece, store, disk, log, gave, p, r, answer, opened, b),
+        Err(refusal) => Next::Fails(refusal),
     }
 }
 
@@ -119,12 +123,13 @@ fn first_at<B: Policy, D: Disk>(
     store: &mut Store<B>,
     disk: &mut D,
     log: &mut DiskLog,
+    gave: &mut Gift,
     p: u8,
     r: Range,
     answer: Option<[u32; 4]>,
     opened: OpenRow,
     b: u32,
-) -> After
+) -> Next
     requires alive { lives (queue_of store.old) p ≡ true }
     requires descriptor { r.fd < 4 }
     requires right { IfSome answer (λ a. is_some ((cache_of store.old).frame (slice_index a 0))
@@ -136,32 +141,30 @@ fn first_at<B: Policy, D: Disk>(
     requires place { r.i < 4096 }
     requires disk { store.old.size ≡ D.block_count disk.old }
     requires fresh { log.old ≡ [] }
+    requires nothing { gave.old ≡ None }
     ensures does { CameBy (first_at_of store.old p r opened b answer) (objects_of store.new)
-        (D.blocks disk.old) (D.blocks disk.new) result (read_stage r piece.new) log.new }
+        (D.blocks disk.old) (D.blocks disk.new) gave.new result (read_stage r piece.new) log.new }
     ensures some { CameBySome (world_of_store store.old) (first_at_of store.old p r opened b answer)
-        (objects_of store.new) result (read_stage r piece.new) log.new }
-    ensures next { goes_on result.next ≡ true →
+        (objects_of store.new) gave.new result (read_stage r piece.new) log.new }
+    ensures next { goes_on result ≡ true →
         ReadContinues 0 piece.new (Some opened) ((objects_of store.new).things.file p r.fd) }
-    ensures serves { Serves store.old store.new result.next log.new }
+    ensures serves { Serves store.old store.new result log.new }
     ensures same_size { D.block_count disk.new ≡ D.block_count disk.old }
     ensures calls { CallsExtend (D.faults disk.old) (D.faults disk.new) (D.plan disk.old)
         (D.plan disk.new) log.old log.new }
 {
     let Ok(f) = fetch(store, disk, log, p, b, answer) else {
-        return came(Next::Fails(Refusal::DiskFault));
+        return Next::Fails(Refusal::DiskFault);
     };
     let row = OpenRow {
         next: r.i + 1,
         seq: r.i == opened.next,
         ..opened
     };
-    let bytes = store.bytes(f, r.off, r.len);
+    gave.give(store, f, r.off, r.len);
     store.put_file(p, r.fd as u8, Some(row));
     *piece = 1;
-    After {
-        gave: Some(bytes),
-        next: Next::Goes,
-    }
+    Next::Goes
 }
 
 /// What is to be read ahead of an open file: what the answer says, or by default the policy.
@@ -193,7 +196,7 @@ fn second<B: Policy>(
     r: Range,
     answer: Option<[u32; 4]>,
     opened: OpenRow,
-) -> After
+) -> Next
     requires alive { lives (queue_of store.old) p ≡ true }
     requires descriptor { r.fd < 4 }
     requires opened { IsSoundFile (world_of_store store.old) opened }
@@ -203,12 +206,12 @@ fn second<B: Policy>(
         let pol = policies_of store.old 0 in
         let ahead = ahead_by answer (ahead_default (world_of_store store.old) pol (Some opened)) in
         PieceMatches (read_second (objects_of store.old) blocks p r.fd r.i r.off r.len opened ahead)
-        (objects_of store.new) known result.gave
-        (comes_after result.next (read_stage r piece.new)) 0 }
+        (objects_of store.new) known None
+        (comes_after result (read_stage r piece.new)) 0 }
     ensures queue { queue_of store.new ≡ queue_of store.old }
-    ensures next { goes_on result.next ≡ true →
+    ensures next { goes_on result ≡ true →
         ReadContinues 1 piece.new (Some opened) ((objects_of store.new).things.file p r.fd) }
-    ensures no_fault { is_fault result.next ≡ false }
+    ensures no_fault { is_fault result ≡ false }
     ensures world { world_of_store store.new ≡ world_of_store store.old }
     ensures memory { SegmentsStay store.old.ram store.new.ram }
 {
@@ -220,10 +223,10 @@ fn second<B: Policy>(
     };
     store.put_file(p, r.fd as u8, Some(row));
     if ahead.count == 0 {
-        return came(Next::Ends(Reply::Plain));
+        return Next::Ends(Reply::Plain);
     }
     *piece = 2;
-    came(Next::Goes)
+    Next::Goes
 }
 
 /// A later piece: one block more is fetched ahead.
@@ -235,7 +238,7 @@ fn later<B: Policy, D: Disk>(
     r: Range,
     answer: Option<[u32; 4]>,
     opened: OpenRow,
-) -> After
+) -> Next
     requires alive { lives (queue_of store.old) p ≡ true }
     requires descriptor { r.fd < 4 }
     requires right { IfSome answer (λ a. is_some ((cache_of store.old).frame (slice_index a 0))
@@ -245,20 +248,20 @@ fn later<B: Policy, D: Disk>(
     requires disk { store.old.size ≡ D.block_count disk.old }
     requires fresh { log.old ≡ [] }
     ensures does { CameBy (later_of store.old p r opened answer) (objects_of store.new)
-        (D.blocks disk.old) (D.blocks disk.new) result (read_stage r 2) log.new }
+        (D.blocks disk.old) (D.blocks disk.new) None result (read_stage r 2) log.new }
     ensures some { CameBySome (world_of_store store.old) (later_of store.old p r opened answer)
         (objects_of store.new)
-        result (read_stage r 2) log.new }
-    ensures next { goes_on result.next ≡ true →
+        None result (read_stage r 2) log.new }
+    ensures next { goes_on result ≡ true →
         ReadContinues 2 2 (Some opened) ((objects_of store.new).things.file p r.fd) }
-    ensures serves { Serves store.old store.new result.next log.new }
+    ensures serves { Serves store.old store.new result log.new }
     ensures same_size { D.block_count disk.new ≡ D.block_count disk.old }
     ensures calls { CallsExtend (D.faults disk.old) (D.faults disk.new) (D.plan disk.old)
         (D.plan disk.new) log.old log.new }
 {
     let b = store.block_ahead(&opened);
     let Ok(_) = fetch_ahead(store, disk, log, p, b, answer) else {
-        return came(Next::Fails(Refusal::DiskFault));
+        return Next::Fails(Refusal::DiskFault);
     };
     let row = OpenRow {
         start: opened.start + 1,
@@ -267,7 +270,7 @@ fn later<B: Policy, D: Disk>(
     };
     store.put_file(p, r.fd as u8, Some(row));
     if row.count == 0 {
-        return came(Next::Ends(Reply::Plain));
+        return Next::Ends(Reply::Plain);
     }
-    came(Next::Goes)
+    Next::Goes
 }

@@ -13,7 +13,7 @@ ghost use Rattle.kernel_state.specs.Stores.{world_of_store, objects_of, cache_of
 ghost use Rattle.call_pieces.specs.Works.{comes_after};
 ghost use Rattle.call_pieces.specs.Matching.{PieceMatches, PieceLeaves, has_failed, is_fault, goes_on};
 
-use crate::{After, Next, came};
+use crate::Next;
 use disk_log::DiskLog;
 use graft_points::Policy;
 use kernel_model::{BLOCK_BYTES, Refusal, Reply};
@@ -26,22 +26,22 @@ pub(crate) fn sync<B: Policy, D: Disk>(
     store: &mut Store<B>,
     disk: &mut D,
     log: &mut DiskLog,
-) -> After
+) -> Next
     requires disk { store.old.size ≡ D.block_count disk.old }
     requires fresh { log.old ≡ [] }
     ensures does { (blocks : Blocks) (rest : List Bool) (t : Stage) →
         Knows (D.blocks disk.old) blocks →
         PieceMatches (sync_from (world_of_store store.old).frames 0 0 (objects_of store.old) blocks
         (log.new ++ rest))
-        (objects_of store.new) (D.blocks disk.new) result.gave (comes_after result.next t)
+        (objects_of store.new) (D.blocks disk.new) None (comes_after result t)
         (length log.new) }
     ensures left { (blocks : Blocks) (rest : List Bool) (t : Stage) →
         PieceLeaves (sync_from (world_of_store store.old).frames 0 0 (objects_of store.old) blocks
         (log.new ++ rest))
-        (objects_of store.new) result.gave (comes_after result.next t) (length log.new) }
+        (objects_of store.new) None (comes_after result t) (length log.new) }
     ensures queue { queue_of store.new ≡ queue_of store.old }
-    ensures ends { goes_on result.next ≡ false }
-    ensures failed { is_fault result.next ≡ true → has_failed log.new ≡ true }
+    ensures ends { goes_on result ≡ false }
+    ensures failed { is_fault result ≡ true → has_failed log.new ≡ true }
     ensures world { world_of_store store.new ≡ world_of_store store.old }
     ensures same_size { D.block_count disk.new ≡ D.block_count disk.old }
     ensures calls { CallsExtend (D.faults disk.old) (D.faults disk.new) (D.plan disk.old)
@@ -55,11 +55,11 @@ pub(crate) fn sync<B: Policy, D: Disk>(
             continue;
         };
         if write_back(store, disk, log, f, b).is_err() {
-            return came(Next::Fails(Refusal::DiskFault));
+            return Next::Fails(Refusal::DiskFault);
         }
         written += 1;
     }
-    came(Next::Ends(Reply::One(written)))
+    Next::Ends(Reply::One(written))
 }
 
 /// Writes frame f, which holds block b and is dirty. It is clean then, unless the call of the disk

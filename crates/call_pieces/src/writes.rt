@@ -1,6 +1,6 @@
 //! A write.
 
-ghost use Rattle.std.specs.Prelude.{◌≡◌, ◌+◌, ◌<◌, ◌≤◌, true, false, [], length};
+ghost use Rattle.std.specs.Prelude.{◌≡◌, ◌+◌, ◌<◌, ◌≤◌, true, false, [], None, length};
 ghost use Rattle.kernel_model.specs.Meaning.{Stage};
 ghost use Rattle.kernel_model.specs.Policies.{lives};
 ghost use Rattle.kernel_model.specs.Needs.{fetch_ask};
@@ -10,8 +10,8 @@ ghost use Rattle.kernel_state.specs.Stores.{world_of_store, objects_of, queue_of
 ghost use Rattle.call_pieces.specs.Shared.{CameBy, CameBySome, Serves, block_written, write_of};
 ghost use Rattle.call_pieces.specs.Matching.{goes_on};
 
+use crate::Next;
 use crate::fetch::fetch;
-use crate::{After, Next, came};
 use disk_log::DiskLog;
 use graft_points::Policy;
 use kernel_model::{Refusal, Reply};
@@ -29,7 +29,7 @@ pub(crate) fn write<B: Policy, D: Disk>(
     off: u32,
     bytes: &[u8],
     answer: Option<[u32; 4]>,
-) -> After
+) -> Next
     requires alive { lives (queue_of store.old) p ≡ true }
     requires descriptor { fd < 4 }
     requires inside { off + length bytes.now ≤ 512 }
@@ -40,25 +40,25 @@ pub(crate) fn write<B: Policy, D: Disk>(
     requires fresh { log.old ≡ [] }
     ensures does { (t : Stage) →
         CameBy (write_of store.old p fd i off bytes.now answer) (objects_of store.new)
-        (D.blocks disk.old) (D.blocks disk.new) result t log.new }
+        (D.blocks disk.old) (D.blocks disk.new) None result t log.new }
     ensures some { (t : Stage) →
         CameBySome (world_of_store store.old) (write_of store.old p fd i off bytes.now answer)
-        (objects_of store.new) result t log.new }
-    ensures ends { goes_on result.next ≡ false }
-    ensures serves { Serves store.old store.new result.next log.new }
+        (objects_of store.new) None result t log.new }
+    ensures ends { goes_on result ≡ false }
+    ensures serves { Serves store.old store.new result log.new }
     ensures same_size { D.block_count disk.new ≡ D.block_count disk.old }
     ensures calls { CallsExtend (D.faults disk.old) (D.faults disk.new) (D.plan disk.old)
         (D.plan disk.new) log.old log.new }
 {
     let b = match store.block_of(p, fd as u8, i, off, bytes.len() as u32) {
         Ok(b) => b,
-        Err(refusal) => return came(Next::Fails(refusal)),
+        Err(refusal) => return Next::Fails(refusal),
     };
     match fetch(store, disk, log, p, b, answer) {
         Ok(f) => {
             store.patch(f, off, bytes);
-            came(Next::Ends(Reply::Plain))
+            Next::Ends(Reply::Plain)
         }
-        Err(_) => came(Next::Fails(Refusal::DiskFault)),
+        Err(_) => Next::Fails(Refusal::DiskFault),
     }
 }

@@ -1,5 +1,5 @@
 -- The lines of the generated script that are still to come.
-use Rattle.std.specs.Prelude.{◌≡◌, ℕ, ◌≤◌, ◌<◌, ◌^◌, List, [], ◌++◌, drop, length}
+use Rattle.std.specs.Prelude.{◌≡◌, ℕ, ◌≤◌, List, [], ◌++◌, drop, length}
 use Rattle.kernel_model.specs.Images.{sealed_under}
 use Rattle.kernel_model.specs.Demo.{demo_keys, three, newest_frame, head_lines, drawn_lines}
 

@@ -17,10 +17,10 @@ pub record IsTally (t : Tally) (written : List ℕ) (told : List Note) : Type 0 
   pub drops : t.counts.drops ≡ length (filter is_dropped told)
   pub digest : Holds256 t.hash written
 
--- it can take these too: there are fewer bytes and notes than a count can tell
-pub record TakesMore (t : Tally) (bytes : List ℕ) (notes : List Note) : Type 0 where
+-- it can take these too, and so many notes: there are fewer bytes and notes than a count can tell
+pub record TakesMore (t : Tally) (bytes : List ℕ) (notes : ℕ) : Type 0 where
   pub written : List ℕ
   pub told : List Note
   pub is : IsTally t written told
   pub few_bytes : length written + length bytes < 2 ^ 64
-  pub few_notes : length told + length notes < 2 ^ 64
+  pub few_notes : length told + notes < 2 ^ 64

@@ -2,11 +2,12 @@
 
 ghost use Rattle.std.specs.Prelude.{◌≡◌, ◌≤◌, ◌<◌, ◌+◌, ◌^◌, ◌++◌, ◌==◌, ℕ, List, [], length, filter};
 ghost use Rattle.kernel_model.specs.declared.Note.{Note as Told};
+ghost use Rattle.kernel_model.specs.Bare.{note_with, notes_with};
 ghost use Rattle.kernel_model.specs.Demo as demo;
 ghost use Rattle.demo_text.specs.Tallies.{IsTally, is_newline, TakesMore};
 
 use crate::summary::{Counts, print_summary};
-use kernel_model::Note;
+use kernel_model::BareNote;
 use line_text::Text;
 use sha2::{Digest, Sha256};
 
@@ -25,32 +26,32 @@ fn count_lines(bytes: &[u8]) -> u64
 }
 
 /// How many calls ended well.
-fn count_ended(notes: &[Note]) -> u64
-    ensures { result ≡ length (filter demo.is_ended notes.now) }
+fn count_ended(notes: &[BareNote]) -> u64
+    ensures { result ≡ length (filter (λ n. demo.is_ended (note_with n [])) notes.now) }
 {
     notes
         .iter()
-        .filter(|note| matches!(note, Note::Ended(_, _)))
+        .filter(|note| matches!(note, BareNote::Ended(_, _)))
         .count() as u64
 }
 
 /// How many calls were refused.
-fn count_refused(notes: &[Note]) -> u64
-    ensures { result ≡ length (filter demo.is_refused notes.now) }
+fn count_refused(notes: &[BareNote]) -> u64
+    ensures { result ≡ length (filter (λ n. demo.is_refused (note_with n [])) notes.now) }
 {
     notes
         .iter()
-        .filter(|note| matches!(note, Note::Refused(_, _)))
+        .filter(|note| matches!(note, BareNote::Refused(_, _)))
         .count() as u64
 }
 
 /// How many levels were dropped.
-fn count_drops(notes: &[Note]) -> u64
-    ensures { result ≡ length (filter demo.is_dropped notes.now) }
+fn count_drops(notes: &[BareNote]) -> u64
+    ensures { result ≡ length (filter (λ n. demo.is_dropped (note_with n [])) notes.now) }
 {
     notes
         .iter()
-        .filter(|note| matches!(note, Note::Dropped(_, _, _, _)))
+        .filter(|note| matches!(note, BareNote::Dropped(_, _, _, _)))
         .count() as u64
 }
 
@@ -70,11 +71,11 @@ impl Tally {
         }
     }
 
-    /// More bytes, and the notes of which they tell.
-    pub fn add(&mut self, bytes: &[u8], notes: &[Note])
-        requires { TakesMore self.old bytes.now notes.now }
-        ensures { (written : List ℕ) (told : List Told) → IsTally self.old written told →
-            IsTally self.new (written ++ bytes.now) (told ++ notes.now) }
+    /// More bytes, and the notes of which they tell, whatever bytes these gave.
+    pub fn add(&mut self, bytes: &[u8], notes: &[BareNote])
+        requires { TakesMore self.old bytes.now (length notes.now) }
+        ensures { (given written : List ℕ) (told : List Told) → IsTally self.old written told →
+            IsTally self.new (written ++ bytes.now) (told ++ notes_with notes.now given) }
     {
         self.counts.lines += count_lines(bytes);
         self.counts.ended += count_ended(notes);

@@ -1,3 +1,4 @@
 mod Decoding
 mod FirstLine
 mod Statuses
+pub mod FilterLemmas

@@ -1,5 +1,5 @@
--- The status of want of memory is no answer's.
-use Rattle.std.proofs.Common.{◌≡◌, ℕ, List, Result, Ok, Err, sym, ap, ◌∙◌}
+-- Which statuses answers have: none that of want of memory, and that of a failed source exactly where reading failed.
+use Rattle.std.proofs.Common.{◌≡◌, ℕ, ◌==◌, Bool, true, false, List, Result, Ok, Err, refl, sym, subst}
 use Rattle.kernel_model.specs.declared.Instr.{Instr}
 use Rattle.kernel_model.specs.declared.Keys.{Keys}
 use Rattle.kernel_model.specs.World.{Image}
@@ -11,76 +11,77 @@ use Rattle.kernel_model.specs.LanguageReading.{Syntax, read}
 use Rattle.kernel_model.specs.LanguageReading as language
 use Rattle.kernel_model.specs.Filters.{Filter, Answer, Box, Check, Reseal, Asm, Dis, Lang, hex_line, boxed_answer, box_answer, check_answer, reseal_answer, dis_answer, asm_answer, hex_answer, filter_answer, lang_refusal, raw_answer, AnswersText, Answers}
 
--- the answer has another status than that of want of memory
-abbrev HasMemory : Answer → Type 0
-HasMemory a = a.status ≡ 5 → ⊥
+-- an answer's status isn't that of want of memory, and is that of a failed source if reading failed
+abbrev pub IsUsual : (failed : Bool) → Answer → Type 0
+IsUsual failed a = (a.status ≡ 5 → ⊥) × ((a.status == 3) ≡ failed)
 
-boxed : (keys : Keys) (body : List ℕ) (r : Result (List Instr) RewriteFault) → HasMemory (boxed_answer keys body r)
-boxed keys body (Err fault) h = cc
-boxed keys body (Ok code) h = cc
+-- whether reading failed
+abbrev pub is_fault : Ending → Bool
+is_fault End = false
+is_fault Fault = true
+is_fault Over = false
 
-box_has : (keys : Keys) (r : Result Image LoadFault) → HasMemory (box_answer keys r)
-box_has keys (Err fault) h = cc
-box_has keys (Ok i) h = boxed keys i.body (rewrite i.code) h
+boxed : (keys : Keys) (body : List ℕ) (r : Result (List Instr) RewriteFault) → IsUsual false (boxed_answer keys body r)
+boxed keys body (Err fault) = ((λ h. cc), refl)
+boxed keys body (Ok code) = ((λ h. cc), refl)
 
-check_has : (r : Result Image LoadFault) → HasMemory (check_answer r)
-check_has (Err fault) h = cc
-check_has (Ok i) h = cc
+box_usual : (keys : Keys) (r : Result Image LoadFault) → IsUsual false (box_answer keys r)
+box_usual keys (Err fault) = ((λ h. cc), refl)
+box_usual keys (Ok i) = boxed keys i.body (rewrite i.code)
 
-reseal_has : (r : Result (List ℕ) LoadFault) → HasMemory (reseal_answer r)
-reseal_has (Err fault) h = cc
-reseal_has (Ok bytes) h = cc
+check_usual : (r : Result Image LoadFault) → IsUsual false (check_answer r)
+check_usual (Err fault) = ((λ h. cc), refl)
+check_usual (Ok i) = ((λ h. cc), refl)
 
-dis_has : (r : Result Image LoadFault) → HasMemory (dis_answer r)
-dis_has (Err fault) h = cc
-dis_has (Ok i) h = cc
+reseal_usual : (r : Result (List ℕ) LoadFault) → IsUsual false (reseal_answer r)
+reseal_usual (Err fault) = ((λ h. cc), refl)
+reseal_usual (Ok bytes) = ((λ h. cc), refl)
 
-asm_has : (r : Result Image LineFault) → HasMemory (asm_answer r)
-asm_has (Err fault) h = cc
-asm_has (Ok i) h = cc
+dis_usual : (r : Result Image LoadFault) → IsUsual false (dis_answer r)
+dis_usual (Err fault) = ((λ h. cc), refl)
+dis_usual (Ok i) = ((λ h. cc), refl)
 
-hex_has : (f : Filter) (r : Result (List ℕ) (List ℕ)) → HasMemory (hex_answer f r)
-hex_has f (Err text) h = cc
-hex_has (Box keys) (Ok bytes) h = box_has keys (read_raw bytes) h
-hex_has (Check keys) (Ok bytes) h = check_has (load keys bytes) h
-hex_has (Reseal keys) (Ok bytes) h = reseal_has (reseal keys bytes) h
-hex_has Asm (Ok bytes) h = cc
-hex_has Dis (Ok bytes) h = dis_has (read_raw bytes) h
-hex_has Lang (Ok bytes) h = cc
+asm_usual : (r : Result Image LineFault) → IsUsual false (asm_answer r)
+asm_usual (Err fault) = ((λ h. cc), refl)
+asm_usual (Ok i) = ((λ h. cc), refl)
 
--- no answer of a filter that has one has the status of want of memory
-filter_has : (f : Filter) (taken : List ℕ) (e : Ending) → HasMemory (filter_answer f taken e)
-filter_has f taken Fault h = cc
-filter_has f taken Over h = cc
-filter_has Asm taken End h = asm_has (assemble taken) h
-filter_has (Box keys) taken End h = hex_has (Box keys) (hex_line taken) h
-filter_has (Check keys) taken End h = hex_has (Check keys) (hex_line taken) h
-filter_has (Reseal keys) taken End h = hex_has (Reseal keys) (hex_line taken) h
-filter_has Dis taken End h = hex_has Dis (hex_line taken) h
-filter_has Lang taken End h = hex_has Lang (hex_line taken) h
+hex_usual : (f : Filter) (r : Result (List ℕ) (List ℕ)) → IsUsual false (hex_answer f r)
+hex_usual f (Err text) = ((λ h. cc), refl)
+hex_usual (Box keys) (Ok bytes) = box_usual keys (read_raw bytes)
+hex_usual (Check keys) (Ok bytes) = check_usual (load keys bytes)
+hex_usual (Reseal keys) (Ok bytes) = reseal_usual (reseal keys bytes)
+hex_usual Asm (Ok bytes) = ((λ h. cc), refl)
+hex_usual Dis (Ok bytes) = dis_usual (read_raw bytes)
+hex_usual Lang (Ok bytes) = ((λ h. cc), refl)
 
-refusal_has : (fault : language.LineFault) → HasMemory (lang_refusal fault)
-refusal_has fault h = cc
+-- the answer of a filter that has one
+filter_usual : (f : Filter) (taken : List ℕ) (e : Ending) → IsUsual (is_fault e) (filter_answer f taken e)
+filter_usual f taken Fault = ((λ h. cc), refl)
+filter_usual f taken Over = ((λ h. cc), refl)
+filter_usual Asm taken End = asm_usual (assemble taken)
+filter_usual (Box keys) taken End = hex_usual (Box keys) (hex_line taken)
+filter_usual (Check keys) taken End = hex_usual (Check keys) (hex_line taken)
+filter_usual (Reseal keys) taken End = hex_usual (Reseal keys) (hex_line taken)
+filter_usual Dis taken End = hex_usual Dis (hex_line taken)
+filter_usual Lang taken End = hex_usual Lang (hex_line taken)
 
-image_has : (i : Image) → HasMemory (raw_answer i)
-image_has i h = cc
+refusal_usual : (fault : language.LineFault) → IsUsual false (lang_refusal fault)
+refusal_usual fault = ((λ h. cc), refl)
 
-text_has : (text : List ℕ) (r : Result Syntax language.LineFault) (a : Answer) → AnswersText text r a → HasMemory a
-text_has text (Err fault) a is h = refusal_has fault (ap (λ (b : Answer). b.status) (sym is) ∙ h)
-text_has text (Ok syntax) a w h = image_has w.image (ap (λ (b : Answer). b.status) (sym w.is_written) ∙ h)
+image_usual : (i : Image) → IsUsual false (raw_answer i)
+image_usual i = ((λ h. cc), refl)
 
-same_has : (a b : Answer) → a ≡ b → HasMemory b → HasMemory a
-same_has a b is has h = has (ap (λ (c : Answer). c.status) (sym is) ∙ h)
+text_usual : (text : List ℕ) (r : Result Syntax language.LineFault) (a : Answer) → AnswersText text r a → IsUsual false a
+text_usual text (Err fault) a is = subst (IsUsual false) (sym is) (refusal_usual fault)
+text_usual text (Ok syntax) a w = subst (IsUsual false) (sym w.is_written) (image_usual w.image)
 
--- no answer has the status of want of memory
-pub has_memory : (f : Filter) (taken : List ℕ) (e : Ending) (a : Answer) → Answers f taken e a → HasMemory a
-has_memory Lang taken End a is h = text_has taken (read taken) a is h
-has_memory Lang taken Fault a is h = same_has a (filter_answer Lang taken Fault) is (filter_has Lang taken Fault) h
-has_memory Lang taken Over a is h = same_has a (filter_answer Lang taken Over) is (filter_has Lang taken Over) h
-has_memory (Box keys) taken e a is h = same_has a (filter_answer (Box keys) taken e) is (filter_has (Box keys) taken e) h
-has_memory (Check keys) taken e a is h =
-    same_has a (filter_answer (Check keys) taken e) is (filter_has (Check keys) taken e) h
-has_memory (Reseal keys) taken e a is h =
-    same_has a (filter_answer (Reseal keys) taken e) is (filter_has (Reseal keys) taken e) h
-has_memory Asm taken e a is h = same_has a (filter_answer Asm taken e) is (filter_has Asm taken e) h
-has_memory Dis taken e a is h = same_has a (filter_answer Dis taken e) is (filter_has Dis taken e) h
+-- so it is with each answer
+pub answers_usual : (f : Filter) (taken : List ℕ) (e : Ending) (a : Answer) → Answers f taken e a → IsUsual (is_fault e) a
+answers_usual Lang taken End a is = text_usual taken (read taken) a is
+answers_usual Lang taken Fault a is = subst (IsUsual true) (sym is) (filter_usual Lang taken Fault)
+answers_usual Lang taken Over a is = subst (IsUsual false) (sym is) (filter_usual Lang taken Over)
+answers_usual (Box keys) taken e a is = subst (IsUsual (is_fault e)) (sym is) (filter_usual (Box keys) taken e)
+answers_usual (Check keys) taken e a is = subst (IsUsual (is_fault e)) (sym is) (filter_usual (Check keys) taken e)
+answers_usual (Reseal keys) taken e a is = subst (IsUsual (is_fault e)) (sym is) (filter_usual (Reseal keys) taken e)
+answers_usual Asm taken e a is = subst (IsUsual (is_fault e)) (sym is) (filter_usual Asm taken e)
+answers_usual Dis taken e a is = subst (IsUsual (is_fault e)) (sym is) (filter_usual Dis taken e)

@@ -1,7 +1,8 @@
 -- What a filter does to its source and its sink.
-use Rattle.std.specs.Prelude.{◌≡◌, ℕ, ◌+◌, ◌<◌, ◌≤◌, List, ◌++◌, length, Option}
-use Rattle.std.specs.Io.KnownBytes.{Appends, Consumes, IsAtEnd}
+use Rattle.std.specs.Prelude.{◌≡◌, ◌≢◌, ◌==◌, ℕ, ◌+◌, ◌<◌, ◌≤◌, List, ◌++◌, length, Option}
+use Rattle.std.specs.Io.KnownBytes.{Appends, Consumes, IsAtEnd, Keeps}
 use Rattle.vino_base.specs.Faults.{Rose}
+use Rattle.vino_base.specs.Streams.{SourceSeen, SinkSeen, IsUsed}
 use Rattle.kernel_model.specs.Outcome.{Ending, End, Fault, Over, SCRIPT_BYTES}
 use Rattle.kernel_model.specs.Filters.{Filter, Answer, Answers}
 
@@ -14,46 +15,55 @@ pub record AppendsPart (old new : Option (List ℕ)) (bytes : List ℕ) : Type 0
   pub appended : Appends old new part
 
 -- what the source did where reading ended so
-abbrev pub HasEnded : Ending → List ℕ → Option (List ℕ) → ℕ → ℕ → Type 0
-HasEnded End taken rest_new before now = (length taken ≤ SCRIPT_BYTES) × IsAtEnd rest_new
-HasEnded Fault taken rest_new before now = (length taken ≤ SCRIPT_BYTES) × Rose before now
-HasEnded Over taken rest_new before now = length taken ≡ SCRIPT_BYTES + 1
+abbrev pub HasEnded : Ending → List ℕ → (s t : SourceSeen) → Type 0
+HasEnded End taken s t = (length taken ≤ SCRIPT_BYTES) × IsAtEnd t.rest
+HasEnded Fault taken s t = (length taken ≤ SCRIPT_BYTES) × Rose s.device.faults t.device.faults
+HasEnded Over taken s t = length taken ≡ SCRIPT_BYTES + 1
 
 -- the source gave these bytes, and reading ended so
-pub record Took (rest rest_new : Option (List ℕ)) (before now : ℕ) (taken : List ℕ)
-    (ending : Ending) : Type 0 where
-  pub consumed : Consumes rest rest_new taken
-  pub ended : HasEnded ending taken rest_new before now
+pub record Took (s t : SourceSeen) (taken : List ℕ) (ending : Ending) : Type 0 where
+  pub consumed : Consumes s.rest t.rest taken
+  pub ended : HasEnded ending taken s t
 
 -- the source gave some bytes, at most one more than an input may have
-pub record Gave (rest rest_new : Option (List ℕ)) : Type 0 where
+pub record Gave (s t : SourceSeen) : Type 0 where
   pub taken : List ℕ
   pub within : length taken ≤ SCRIPT_BYTES + 1
-  pub consumed : Consumes rest rest_new taken
+  pub consumed : Consumes s.rest t.rest taken
 
 -- The source gave some bytes, at most one more than an input may have, and reading ended somehow.
 -- The status is that of an answer of the filter, and the sink took its bytes. Each filter but
 -- `lang` has one answer to an input.
-pub record Ran (f : Filter) (rest rest_new : Option (List ℕ)) (before now : ℕ)
-    (got got_new : Option (List ℕ)) (status : ℕ) : Type 0 where
+pub record Ran (f : Filter) (s t : SourceSeen) (k m : SinkSeen) (status : ℕ) : Type 0 where
   pub taken : List ℕ
   pub ending : Ending
   pub within : length taken ≤ SCRIPT_BYTES + 1
-  pub consumed : Consumes rest rest_new taken
-  pub ended : HasEnded ending taken rest_new before now
+  pub consumed : Consumes s.rest t.rest taken
+  pub ended : HasEnded ending taken s t
   pub answer : Answer
   pub answers : Answers f taken ending answer
   pub status_is : status ≡ answer.status
-  pub appended : Appends got got_new answer.written
+  pub appended : Appends k.got m.got answer.written
 
 -- The same, but the sink took a part of the answer's bytes, not whole.
-pub record Broke (f : Filter) (rest rest_new : Option (List ℕ)) (before now : ℕ)
-    (got got_new : Option (List ℕ)) : Type 0 where
+pub record Broke (f : Filter) (s t : SourceSeen) (k m : SinkSeen) : Type 0 where
   pub taken : List ℕ
   pub ending : Ending
   pub within : length taken ≤ SCRIPT_BYTES + 1
-  pub consumed : Consumes rest rest_new taken
-  pub ended : HasEnded ending taken rest_new before now
+  pub consumed : Consumes s.rest t.rest taken
+  pub ended : HasEnded ending taken s t
   pub answer : Answer
   pub answers : Answers f taken ending answer
-  pub short : AppendsPart got got_new answer.written
+  pub short : AppendsPart k.got m.got answer.written
+
+-- A filter read its input and answered with this status.
+pub record Filtered (f : Filter) (s t : SourceSeen) (k m : SinkSeen) (status : ℕ) : Type 0 where
+  -- the status and the bytes written are those of an answer to the bytes that were taken
+  pub ran : status ≢ 4 → status ≢ 5 → Ran f s t k m status
+  -- where the sink fails it took a part of those bytes, not whole
+  pub broke : status ≡ 4 → Broke f s t k m
+  -- with no memory nothing is written
+  pub memory : status ≡ 5 → Gave s t × Keeps k.got m.got
+  -- the source fails only with 3 and the sink only with 4; none is called again behind that
+  pub source : IsUsed s.device t.device (status == 3)
+  pub sink : IsUsed k.device m.device (status == 4)

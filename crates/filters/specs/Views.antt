@@ -1,5 +1,5 @@
 -- What the enums of this crate stand for.
-use Rattle.std.specs.Prelude.{Bool, true, false}
+use Rattle.std.specs.Prelude.{Bool, true, false, Result, Ok}
 use Rattle.kernel_model.specs.Filters as spec
 use Rattle.kernel_model.specs.Outcome as spec_outcome
 use Rattle.filters.specs.declared.input.Ending.{Ending}
@@ -12,6 +12,11 @@ abbrev pub ending_of : Ending → spec_outcome.Ending
 ending_of End = spec_outcome.End
 ending_of Fault = spec_outcome.Fault
 ending_of Over = spec_outcome.Over
+
+-- a read failed
+abbrev pub reading_failed : {E : Type 0} → Result Ending E → Bool
+reading_failed (Ok Fault) = true
+reading_failed _ = false
 
 -- what is asked of the input
 abbrev pub filter_of : Filter → spec.Filter

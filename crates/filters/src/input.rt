@@ -1,7 +1,8 @@
 //! Reading a whole input.
 
 ghost use Rattle.std.specs.Prelude.{◌≡◌, ◌<◌, ◌≤◌, [], length, IfOk, OnErr, vec_len};
-ghost use Rattle.filters.specs.Views.{ending_of};
+ghost use Rattle.vino_base.specs.Streams.{IsUsed};
+ghost use Rattle.filters.specs.Views.{ending_of, reading_failed};
 ghost use Rattle.filters.specs.Filtered.{Took, Gave};
 
 use kernel_model::NoMemory;
@@ -44,10 +45,9 @@ fn read_pieces<S: Source>(
     requires empty { input.old.items ≡ [] }
     requires room { 0 < length buf.old }
     ensures took { IfOk result
-        (λ e. Took (S.rest src.old) (S.rest src.new) (S.faults src.old)
-        (S.faults src.new) input.new.items (ending_of e)) }
-    ensures gave { OnErr result (Gave (S.rest src.old) (S.rest src.new)) }
-    ensures later { S.faults src.old ≤ S.faults src.new }
+        (λ e. Took (S.seen src.old) (S.seen src.new) input.new.items (ending_of e)) }
+    ensures gave { OnErr result (Gave (S.seen src.old) (S.seen src.new)) }
+    ensures used { IsUsed (S.seen src.old).device (S.seen src.new).device (reading_failed result) }
 {
     while input.len() <= INPUT_BYTES {
         let room = buf.len().min(INPUT_BYTES + 1 - input.len());
@@ -72,10 +72,9 @@ pub(crate) fn read_all<S: Source>(
 ) -> Result<Ending, NoMemory>
     requires { input.old.items ≡ [] }
     ensures took { IfOk result
-        (λ e. Took (S.rest src.old) (S.rest src.new) (S.faults src.old)
-        (S.faults src.new) input.new.items (ending_of e)) }
-    ensures gave { OnErr result (Gave (S.rest src.old) (S.rest src.new)) }
-    ensures later { S.faults src.old ≤ S.faults src.new }
+        (λ e. Took (S.seen src.old) (S.seen src.new) input.new.items (ending_of e)) }
+    ensures gave { OnErr result (Gave (S.seen src.old) (S.seen src.new)) }
+    ensures used { IsUsed (S.seen src.old).device (S.seen src.new).device (reading_failed result) }
 {
     match zeros(alloc, READ_BYTES) {
         Err(_) => Err(NoMemory),

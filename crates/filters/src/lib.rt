@@ -5,13 +5,13 @@
 //! formats.
 #![tactic(auto)]
 
-ghost use Rattle.std.specs.Prelude.{◌≡◌, ◌≢◌, ◌⊎◌, ◌≤◌, [], true, length, IfOk};
-ghost use Rattle.std.specs.Io.KnownBytes.{Appends, Keeps};
-ghost use Rattle.vino_base.specs.Faults.{Rose};
+ghost use Rattle.std.specs.Prelude.{◌≡◌, ◌≢◌, ◌==◌, ◌⊎◌, ◌≤◌, [], true, length, IfOk, OnErr};
+ghost use Rattle.std.specs.Io.KnownBytes.{Appends};
+ghost use Rattle.vino_base.specs.Streams.{IsUsed};
 ghost use Rattle.kernel_model.specs.Outcome as outcome;
 ghost use Rattle.kernel_model.specs.Filters as spec;
 ghost use Rattle.filters.specs.Views.{ending_of, filter_of, is_of_images};
-ghost use Rattle.filters.specs.Filtered.{AppendsPart, Gave, Ran, Broke};
+ghost use Rattle.filters.specs.Filtered.{AppendsPart, Filtered};
 
 mod answer;
 mod hex_line;
@@ -44,7 +44,9 @@ use vino_base::{Sink, Source};
 /// The answer to an input that was taken so far and ended so.
 fn answer_to(alloc: Global, word: Filter, taken: &[u8], ending: Ending) -> Result<Answer, NoMemory>
     requires { ending_of ending ≡ outcome.End → length taken.now ≤ outcome.SCRIPT_BYTES }
-    ensures { IfOk result (λ a. spec.Answers (filter_of word) taken.now (ending_of ending) a) }
+    ensures answer { IfOk result
+        (λ a. spec.Answers (filter_of word) taken.now (ending_of ending) a) }
+    ensures memory { OnErr result (ending_of ending ≡ outcome.End) }
 {
     match (ending, word) {
         (Ending::End, Filter::Box(keys)) => box_answer(alloc, &keys, taken),
@@ -62,10 +64,10 @@ fn answer_to(alloc: Global, word: Filter, taken: &[u8], ending: Ending) -> Resul
 fn write_answer<K: Sink>(answer: &Answer, out: &mut K) -> u8
     requires { answer.now.status ≢ 4 }
     ensures whole { result ≢ 4 → (result ≡ answer.now.status)
-        × Appends (K.got out.old) (K.got out.new) answer.now.written }
-    ensures part { result ≡ 4 → AppendsPart (K.got out.old) (K.got out.new) answer.now.written }
-    ensures sink_later { K.faults out.old ≤ K.faults out.new }
-    ensures sink_failed { result ≡ 4 → Rose (K.faults out.old) (K.faults out.new) }
+        × Appends (K.seen out.old).got (K.seen out.new).got answer.now.written }
+    ensures part { result ≡ 4 → AppendsPart (K.seen out.old).got (K.seen out.new).got
+        answer.now.written }
+    ensures used { IsUsed (K.seen out.old).device (K.seen out.new).device (result == 4) }
 {
     match write_all(out, answer.text()) {
         Ok(()) => answer.status(),
@@ -77,18 +79,8 @@ fn write_answer<K: Sink>(answer: &Answer, out: &mut K) -> u8
 fn filter<S: Source, K: Sink>(alloc: Global, word: Filter, src: &mut S, out: &mut K) -> u8
     ensures statuses { (result ≡ 0) ⊎ (result ≡ 2) ⊎ (result ≡ 3) ⊎ (result ≡ 4) ⊎ (result ≡ 5)
         ⊎ (result ≡ 6) × (is_of_images word ≡ true) ⊎ (result ≡ 7) }
-    ensures ran { result ≢ 4 → result ≢ 5 →
-        Ran (filter_of word) (S.rest src.old) (S.rest src.new) (S.faults src.old) (S.faults src.new)
-        (K.got out.old) (K.got out.new) result }
-    ensures broke { result ≡ 4 →
-        Broke (filter_of word) (S.rest src.old) (S.rest src.new) (S.faults src.old)
-        (S.faults src.new) (K.got out.old) (K.got out.new) }
-    ensures memory { result ≡ 5 → Gave (S.rest src.old) (S.rest src.new)
-        × Keeps (K.got out.old) (K.got out.new) }
-    ensures source_failed { result ≡ 3 → Rose (S.faults src.old) (S.faults src.new) }
-    ensures sink_failed { result ≡ 4 → Rose (K.faults out.old) (K.faults out.new) }
-    ensures source_later { S.faults src.old ≤ S.faults src.new }
-    ensures sink_later { K.faults out.old ≤ K.faults out.new }
+    ensures filtered { Filtered (filter_of word) (S.seen src.old) (S.seen src.new) (K.seen out.old)
+        (K.seen out.new) result }
 {
     let mut input = Vec::new(alloc);
     let Ok(ending) = read_all(alloc, src, &mut input) else {
@@ -110,22 +102,9 @@ pub fn asm<S: Source, K: Sink>(alloc: Global, src: &mut S, out: &mut K) -> u8
     // No other status comes.
     ensures statuses { (result ≡ 0) ⊎ (result ≡ 2) ⊎ (result ≡ 3) ⊎ (result ≡ 4) ⊎ (result ≡ 5)
         ⊎ (result ≡ 7) }
-    // The status and the bytes written are those of the answer to the bytes that were taken.
-    ensures ran { result ≢ 4 → result ≢ 5 →
-        Ran spec.Asm (S.rest src.old) (S.rest src.new) (S.faults src.old) (S.faults src.new)
-        (K.got out.old) (K.got out.new) result }
-    // Where the sink fails it took a part of those bytes, not whole.
-    ensures broke { result ≡ 4 →
-        Broke spec.Asm (S.rest src.old) (S.rest src.new) (S.faults src.old) (S.faults src.new)
-        (K.got out.old) (K.got out.new) }
-    // With no memory nothing is written.
-    ensures memory { result ≡ 5 → Gave (S.rest src.old) (S.rest src.new)
-        × Keeps (K.got out.old) (K.got out.new) }
-    // A source or a sink is blamed only where its count of faults rose.
-    ensures source_failed { result ≡ 3 → Rose (S.faults src.old) (S.faults src.new) }
-    ensures sink_failed { result ≡ 4 → Rose (K.faults out.old) (K.faults out.new) }
-    ensures source_later { S.faults src.old ≤ S.faults src.new }
-    ensures sink_later { K.faults out.old ≤ K.faults out.new }
+    // What it does to its source and its sink, by the status.
+    ensures filtered { Filtered spec.Asm (S.seen src.old) (S.seen src.new) (K.seen out.old)
+        (K.seen out.new) result }
 {
     filter(alloc, Filter::Asm, src, out)
 }
@@ -140,22 +119,9 @@ pub fn lang<S: Source, K: Sink>(alloc: Global, src: &mut S, out: &mut K) -> u8
     // No other status comes.
     ensures statuses { (result ≡ 0) ⊎ (result ≡ 2) ⊎ (result ≡ 3) ⊎ (result ≡ 4) ⊎ (result ≡ 5)
         ⊎ (result ≡ 7) }
-    // The status and the bytes written are those of an answer to the bytes that were taken.
-    ensures ran { result ≢ 4 → result ≢ 5 →
-        Ran spec.Lang (S.rest src.old) (S.rest src.new) (S.faults src.old) (S.faults src.new)
-        (K.got out.old) (K.got out.new) result }
-    // Where the sink fails it took a part of those bytes, not whole.
-    ensures broke { result ≡ 4 →
-        Broke spec.Lang (S.rest src.old) (S.rest src.new) (S.faults src.old) (S.faults src.new)
-        (K.got out.old) (K.got out.new) }
-    // With no memory nothing is written.
-    ensures memory { result ≡ 5 → Gave (S.rest src.old) (S.rest src.new)
-        × Keeps (K.got out.old) (K.got out.new) }
-    // A source or a sink is blamed only where its count of faults rose.
-    ensures source_failed { result ≡ 3 → Rose (S.faults src.old) (S.faults src.new) }
-    ensures sink_failed { result ≡ 4 → Rose (K.faults out.old) (K.faults out.new) }
-    ensures source_later { S.faults src.old ≤ S.faults src.new }
-    ensures sink_later { K.faults out.old ≤ K.faults out.new }
+    // What it does to its source and its sink, by the status.
+    ensures filtered { Filtered spec.Lang (S.seen src.old) (S.seen src.new) (K.seen out.old)
+        (K.seen out.new) result }
 {
     filter(alloc, Filter::Lang, src, out)
 }
@@ -170,22 +136,9 @@ pub fn dis<S: Source, K: Sink>(alloc: Global, src: &mut S, out: &mut K) -> u8
     // No other status comes.
     ensures statuses { (result ≡ 0) ⊎ (result ≡ 2) ⊎ (result ≡ 3) ⊎ (result ≡ 4) ⊎ (result ≡ 5)
         ⊎ (result ≡ 7) }
-    // The status and the bytes written are those of the answer to the bytes that were taken.
-    ensures ran { result ≢ 4 → result ≢ 5 →
-        Ran spec.Dis (S.rest src.old) (S.rest src.new) (S.faults src.old) (S.faults src.new)
-        (K.got out.old) (K.got out.new) result }
-    // Where the sink fails it took a part of those bytes, not whole.
-    ensures broke { result ≡ 4 →
-        Broke spec.Dis (S.rest src.old) (S.rest src.new) (S.faults src.old) (S.faults src.new)
-        (K.got out.old) (K.got out.new) }
-    // With no memory nothing is written.
-    ensures memory { result ≡ 5 → Gave (S.rest src.old) (S.rest src.new)
-        × Keeps (K.got out.old) (K.got out.new) }
-    // A source or a sink is blamed only where its count of faults rose.
-    ensures source_failed { result ≡ 3 → Rose (S.faults src.old) (S.faults src.new) }
-    ensures sink_failed { result ≡ 4 → Rose (K.faults out.old) (K.faults out.new) }
-    ensures source_later { S.faults src.old ≤ S.faults src.new }
-    ensures sink_later { K.faults out.old ≤ K.faults out.new }
+    // What it does to its source and its sink, by the status.
+    ensures filtered { Filtered spec.Dis (S.seen src.old) (S.seen src.new) (K.seen out.old)
+        (K.seen out.new) result }
 {
     filter(alloc, Filter::Dis, src, out)
 }
@@ -202,22 +155,9 @@ pub fn box_image<S: Source, K: Sink>(alloc: Global, keys: &Keys, src: &mut S, ou
     // No other status comes.
     ensures statuses { (result ≡ 0) ⊎ (result ≡ 2) ⊎ (result ≡ 3) ⊎ (result ≡ 4) ⊎ (result ≡ 5)
         ⊎ (result ≡ 6) ⊎ (result ≡ 7) }
-    // The status and the bytes written are those of the answer to the bytes that were taken.
-    ensures ran { result ≢ 4 → result ≢ 5 →
-        Ran (spec.Box keys.now) (S.rest src.old) (S.rest src.new) (S.faults src.old)
-        (S.faults src.new) (K.got out.old) (K.got out.new) result }
-    // Where the sink fails it took a part of those bytes, not whole.
-    ensures broke { result ≡ 4 →
-        Broke (spec.Box keys.now) (S.rest src.old) (S.rest src.new) (S.faults src.old)
-        (S.faults src.new) (K.got out.old) (K.got out.new) }
-    // With no memory nothing is written.
-    ensures memory { result ≡ 5 → Gave (S.rest src.old) (S.rest src.new)
-        × Keeps (K.got out.old) (K.got out.new) }
-    // A source or a sink is blamed only where its count of faults rose.
-    ensures source_failed { result ≡ 3 → Rose (S.faults src.old) (S.faults src.new) }
-    ensures sink_failed { result ≡ 4 → Rose (K.faults out.old) (K.faults out.new) }
-    ensures source_later { S.faults src.old ≤ S.faults src.new }
-    ensures sink_later { K.faults out.old ≤ K.faults out.new }
+    // What it does to its source and its sink, by the status.
+    ensures filtered { Filtered (spec.Box keys.now) (S.seen src.old) (S.seen src.new) (K.seen out.old)
+        (K.seen out.new) result }
 {
     filter(alloc, Filter::Box(*keys), src, out)
 }
@@ -233,22 +173,9 @@ pub fn check_image<S: Source, K: Sink>(alloc: Global, keys: &Keys, src: &mut S, 
     // No other status comes.
     ensures statuses { (result ≡ 0) ⊎ (result ≡ 2) ⊎ (result ≡ 3) ⊎ (result ≡ 4) ⊎ (result ≡ 5)
         ⊎ (result ≡ 6) ⊎ (result ≡ 7) }
-    // The status and the bytes written are those of the answer to the bytes that were taken.
-    ensures ran { result ≢ 4 → result ≢ 5 →
-        Ran (spec.Check keys.now) (S.rest src.old) (S.rest src.new) (S.faults src.old)
-        (S.faults src.new) (K.got out.old) (K.got out.new) result }
-    // Where the sink fails it took a part of those bytes, not whole.
-    ensures broke { result ≡ 4 →
-        Broke (spec.Check keys.now) (S.rest src.old) (S.rest src.new) (S.faults src.old)
-        (S.faults src.new) (K.got out.old) (K.got out.new) }
-    // With no memory nothing is written.
-    ensures memory { result ≡ 5 → Gave (S.rest src.old) (S.rest src.new)
-        × Keeps (K.got out.old) (K.got out.new) }
-    // A source or a sink is blamed only where its count of faults rose.
-    ensures source_failed { result ≡ 3 → Rose (S.faults src.old) (S.faults src.new) }
-    ensures sink_failed { result ≡ 4 → Rose (K.faults out.old) (K.faults out.new) }
-    ensures source_later { S.faults src.old ≤ S.faults src.new }
-    ensures sink_later { K.faults out.old ≤ K.faults out.new }
+    // What it does to its source and its sink, by the status.
+    ensures filtered { Filtered (spec.Check keys.now) (S.seen src.old) (S.seen src.new) (K.seen out.old)
+        (K.seen out.new) result }
 {
     filter(alloc, Filter::Check(*keys), src, out)
 }
@@ -264,22 +191,9 @@ pub fn reseal_image<S: Source, K: Sink>(alloc: Global, keys: &Keys, src: &mut S,
     // No other status comes.
     ensures statuses { (result ≡ 0) ⊎ (result ≡ 2) ⊎ (result ≡ 3) ⊎ (result ≡ 4) ⊎ (result ≡ 5)
         ⊎ (result ≡ 6) ⊎ (result ≡ 7) }
-    // The status and the bytes written are those of the answer to the bytes that were taken.
-    ensures ran { result ≢ 4 → result ≢ 5 →
-        Ran (spec.Reseal keys.now) (S.rest src.old) (S.rest src.new) (S.faults src.old)
-        (S.faults src.new) (K.got out.old) (K.got out.new) result }
-    // Where the sink fails it took a part of those bytes, not whole.
-    ensures broke { result ≡ 4 →
-        Broke (spec.Reseal keys.now) (S.rest src.old) (S.rest src.new) (S.faults src.old)
-        (S.faults src.new) (K.got out.old) (K.got out.new) }
-    // With no memory nothing is written.
-    ensures memory { result ≡ 5 → Gave (S.rest src.old) (S.rest src.new)
-        × Keeps (K.got out.old) (K.got out.new) }
-    // A source or a sink is blamed only where its count of faults rose.
-    ensures source_failed { result ≡ 3 → Rose (S.faults src.old) (S.faults src.new) }
-    ensures sink_failed { result ≡ 4 → Rose (K.faults out.old) (K.faults out.new) }
-    ensures source_later { S.faults src.old ≤ S.faults src.new }
-    ensures sink_later { K.faults out.old ≤ K.faults out.new }
+    // What it does to its source and its sink, by the status.
+    ensures filtered { Filtered (spec.Reseal keys.now) (S.seen src.old) (S.seen src.new) (K.seen out.old)
+        (K.seen out.new) result }
 {
     filter(alloc, Filter::Reseal(*keys), src, out)
 }

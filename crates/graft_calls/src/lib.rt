@@ -19,6 +19,7 @@ mod points;
 mod returns;
 mod segments;
 mod stretch;
+mod watched;
 
 use graft_machine::Machine;
 pub use levels::{Levels, MOST_LEVELS};

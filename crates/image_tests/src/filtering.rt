@@ -22,9 +22,7 @@ struct SlowSource {
 }
 
 impl Source for SlowSource {
-    ghost faults = { λ s. s.faults };
-
-    ghost rest = { λ s. None };
+    ghost seen = { λ s. record { rest = None; device = record { faults = s.faults; health = None } } };
 
     fn read(&mut self, buf: &mut [u8]) -> Result<usize, Failed> {
         self.calls = self.calls.saturating_add(1);
@@ -51,9 +49,7 @@ struct SlowSink {
 }
 
 impl Sink for SlowSink {
-    ghost faults = { λ s. s.faults };
-
-    ghost got = { λ s. None };
+    ghost seen = { λ s. record { got = None; device = record { faults = s.faults; health = None } } };
 
     fn write(&mut self, buf: &[u8]) -> Result<usize, Failed> {
         self.calls = self.calls.saturating_add(1);

@@ -1,5 +1,5 @@
 -- A whole event.
-use Rattle.std.proofs.Common.{◌≡◌, ℕ, suc, ◌≤◌, ◌<◌, ◌==◌, ◌&&◌, Bool, true, false, nat_le, List, [], ◌∷◌, ◌++◌, length, Option, Some, None, Ok, Err, arith, refl, ap, sym, subst, ◌∙◌}
+use Rattle.std.proofs.Common.{◌≡◌, ℕ, suc, ◌≤◌, ◌<◌, ◌==◌, ◌&&◌, Bool, true, false, nat_le, List, [], ◌∷◌, ◌++◌, length, Option, Some, None, Result, Ok, Err, arith, refl, ap, sym, subst, ◌∙◌}
 use Rattle.std.specs.Prelude.{Contains, is_some, option_map, slice_index_or, ◌||◌}
 use Rattle.std.proofs.lemmas.Bool.{eqb-true}
 use Rattle.std.proofs.lemmas.Bool.Decides.{nat_tests}
@@ -28,9 +28,11 @@ use Rattle.placed_laws.specs.Stands.{StandsFor}
 use Rattle.kernel_steps.specs.declared.order.Waiting.{Waiting}
 use Rattle.kernel_steps.specs.declared.running.Running.{Running}
 use Rattle.kernel_steps.specs.Composing.{did_as}
-use Rattle.kernel_steps.specs.Refines.{first_notes}
+use Rattle.kernel_steps.specs.Refines.{Refines, first_notes}
 use Rattle.kernel_steps.specs.Kept.{kept_whole}
 use Rattle.kernel_steps.specs.Orders.{has_number, numbers_of, order_of}
+use Rattle.kernel_steps.specs.Begins.{Begun, CallBegins}
+use Rattle.kernel_core.specs.Starts.{Started, Starts}
 use Rattle.kernel_steps.specs.Views.{placed_of, run_of, IsRunning, HasAbstraction}
 use Rattle.kernel_core.specs.EventRefines.{EventRefines}
 use Rattle.kernel_core.specs.RefinesAndKeeps.{RefinesFromRest, RefinesAndKeeps}
@@ -150,6 +152,26 @@ went_refused m stage caller f x note kept kept_new d running abstraction same ad
       world = refl;
       clock = refl;
     }
+
+-- the same where the kernel was looked at, and stands as it did
+pub went_refused_at : {C B M W : Type 0} {P : _} (m : Meaning) (stage : W → Stage) (caller : W → ℕ) (f : PlacedRun → PlacedRun) (x y : Running C B M W P) (note : Note) (kept kept_new : List Note) (d : DiskSeen) → IsRunning caller y → HasAbstraction m (placed_of stage x) →
+    placed_of stage y ≡ placed_of stage x →
+    ((blocks : Blocks) (notes : List Note) (io : List Bool) → f (run_of (placed_of stage x) blocks notes io) ≡ placed_noted note (run_of (placed_of stage x) blocks notes io)) →
+    ((all : List Note) → kept ≡ first_notes all → kept_new ≡ first_notes (all ++ note ∷ [])) → RefinesAndKeeps m stage caller f x y kept kept_new d d
+went_refused_at m stage caller f x y note kept kept_new d running abstraction is same adds =
+    record {
+      refines = subst (λ z. Refines f (placed_of stage x) z kept kept_new d d) (sym is) (did_as f (placed_noted note) (placed_of stage x) (placed_of stage x) kept kept_new d d same (did_note (placed_of stage x) note kept kept_new d adds));
+      running = running;
+      abstraction = subst (HasAbstraction m) (sym is) abstraction;
+      world = ap (λ (z : Placed). z.world) is;
+      clock = ap (λ (z : Placed). z.clock) is;
+    }
+
+-- how a call begins, by whether it does
+pub starts_by : {C B M W A : Type 0} {P : _} (m : Meaning) (stage : W → Stage) (caller : W → ℕ) (p number : ℕ) (call : SysCall) (x y : Running C B M W P) (result : Result A Refusal) → CallBegins m stage caller p number call x y result →
+    (Begun m stage caller p number call x y → Started m stage caller p number call x y) → Starts m stage caller p number call x y result
+starts_by m stage caller p number call x y (Ok t) h begun = begun h
+starts_by m stage caller p number call x y (Err why) h begun = h
 
 -- ---- what happened
 

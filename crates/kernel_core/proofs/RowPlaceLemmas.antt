@@ -1,8 +1,9 @@
 -- The rows from a place on: a row at the place is the first of them, and where there is none they are those from the next place on.
-use Rattle.std.proofs.Common.{◌≡◌, ◌<◌, ◌≤◌, ℕ, zero, suc, ◌+◌, ◌-◌, ◌*◌, List, [], ◌∷◌, ◌++◌, Option, Some, None, add-one, arith, refl, sym, ap, ◌∙◌, drop, length}
-use Rattle.std.specs.Prelude.{IfSome, flat_map, slice_get}
+use Rattle.std.proofs.Common.{◌≡◌, ◌<◌, ◌≤◌, ℕ, zero, suc, ◌+◌, ◌-◌, ◌*◌, List, [], ◌∷◌, ◌++◌, Option, Some, None, add-one, arith, refl, sym, subst, ap, ◌∙◌, drop, length}
+use Rattle.std.specs.Prelude.{IfSome, Bool, true, false, cond, nat_lt, flat_map, slice_get}
 use Rattle.std.specs.List.{range_with_len}
 use Rattle.std.proofs.lemmas.List.FromFn.{length-range_with_len, get_or-range_with_len}
+use Rattle.std.proofs.lemmas.Bool.Decides.{nat_tests}
 use Rattle.std.proofs.lemmas.Option.{slice_get-get_or, slice_get_past}
 use Rattle.std.proofs.Math.ListN.{drop_of_length-le}
 use Rattle.kernel_model.specs.declared.RawRow.{RawRow}
@@ -10,7 +11,7 @@ use Rattle.placed_laws.specs.Placed.{Placed}
 use Rattle.placed_laws.specs.PlacedRows.{placed_rows}
 use Rattle.kernel_core.specs.declared.placed_rows.RowPlace.{RowPlace}
 use Rattle.kernel_core.specs.declared.placed_rows.Section.{Section}
-use Rattle.kernel_core.specs.PlacedSections.{sections, places, places_from, most_at, most_past, most_of, most_left, rows_at, rows_of, rows_past, rows_left, TakesRow}
+use Rattle.kernel_core.specs.PlacedSections.{sections, places, places_from, most_at, most_past, most_of, most_left, rows_at, rows_of, rows_past, rows_left, row_passed, IsPassed, TakesRow}
 use Rattle.kernel_core.proofs.PlacedSectionLemmas.{rows_are}
 
 -- ---- lists
@@ -105,6 +106,14 @@ most_here at new s here below few next =
 pub record IsAlike (x : Placed) (from at : RowPlace) : Type 0 where
   pub same : rows_left x at ≡ rows_left x from
   pub most : most_left at ≤ most_left from
+
+-- a place is like itself
+pub alike_self : (x : Placed) (at : RowPlace) → IsAlike x at at
+alike_self x at = record { same = refl; most = omega arith }
+
+-- what is passed is like what is passed from
+pub alike_passed : (x : Placed) (from at new : RowPlace) (s : Section) → IsAlike x from at → IsPassed x s at new → IsAlike x from new
+alike_passed x from at new s h p = record { same = p.same ∙ h.same; most = omega (arith, p.most, h.most) }
 
 -- on to the next place
 pub place_passed : (x : Placed) (from at new : RowPlace) (s : Section) → IsAlike x from at → slice_get sections at.section ≡ Some s → at.place < places s →
@@ -216,6 +225,59 @@ row_taken x from at new s found h here below within few is next =
     whichever : (o : Option RawRow) → most_left new < most_left from → IfSome o (λ _. most_left new < most_left from)
     whichever None less = tt
     whichever (Some row) less = less
+
+-- and the place behind it may be one like that
+taken_alike : (x : Placed) (from at new : RowPlace) (found : Option RawRow) → TakesRow x from at found → IsAlike x at new → TakesRow x from new found
+taken_alike x from at new found t h = record { first = t.first; rest = h.same ∙ t.rest; fewer = whichever found t.fewer }
+  where
+    whichever : (o : Option RawRow) → IfSome o (λ _. most_left at < most_left from) → IfSome o (λ _. most_left new < most_left from)
+    whichever None less = tt
+    whichever (Some row) less = omega (arith, less, h.most)
+
+-- a row is taken, and its place is passed if it was the last one there
+pub row_taken_of : (x : Placed) (from at new : RowPlace) (s : Section) (count : ℕ) (found : Option RawRow) → IsAlike x from at → slice_get sections at.section ≡ Some s → at.place < places s →
+    count ≡ length (rows_at x s at.place) → at.index < count → count ≤ most_at s → found ≡ slice_get (rows_at x s at.place) at.index → new ≡ row_passed count at → TakesRow x from new found
+row_taken_of x from at new s count found h here below all within few is next = by (nat_lt (at.index + 1) count) refl
+  where
+    mid : RowPlace
+    mid = record at { index = at.index + 1 }
+
+    taken : TakesRow x from mid found
+    taken = row_taken x from at mid s found h here below (omega (arith, all, within)) (omega (arith, within, few)) is refl
+
+    by : (more : Bool) → nat_lt (at.index + 1) count ≡ more → TakesRow x from new found
+    by true more =
+        let same : new ≡ mid = next ∙ ap (λ b. cond b mid (record { section = at.section; place = at.place + 1; index = 0 })) more in
+        taken_alike x from mid new found taken (subst (λ (r : RowPlace). IsAlike x mid r) (sym same) (alike_self x mid))
+    by false more =
+        let far : count ≤ at.index + 1 = grind (arith, nat_tests, more) in
+        taken_alike x from mid new found taken
+        (place_passed x mid mid new s (alike_self x mid) here below (omega (arith, all, far)) (next ∙ ap (λ b. cond b mid (record { section = at.section; place = at.place + 1; index = 0 })) more))
+
+-- ---- places without a row
+
+-- a place without a row is passed
+pub none_passed : (x : Placed) (s : Section) (from at new : RowPlace) → IsPassed x s from at → slice_get sections from.section ≡ Some s → at.place < places s →
+    length (rows_at x s at.place) ≤ at.index → new ≡ record { section = at.section; place = at.place + 1; index = 0 } → IsPassed x s from new
+none_passed x s from at new p here below none next =
+    let there = ap (λ n. slice_get sections n) p.section ∙ here in
+    let alike = place_passed x from at new s (record { same = p.same; most = p.most }) there below none next in
+    record {
+      section = ap (λ (r : RowPlace). r.section) next ∙ p.section;
+      forward = omega (arith, p.forward, ap (λ (r : RowPlace). r.place) next);
+      within = omega (arith, below, ap (λ (r : RowPlace). r.place) next);
+      same = alike.same;
+      most = alike.most;
+    }
+
+-- nothing is passed yet
+pub nothing_passed : (x : Placed) (s : Section) (at : RowPlace) → at.place ≤ places s → IsPassed x s at at
+nothing_passed x s at within = record { section = refl; forward = omega arith; within = within; same = refl; most = omega arith }
+
+-- one stretch of them after another
+pub passed_on : (x : Placed) (s : Section) (from at new : RowPlace) → IsPassed x s from at → IsPassed x s at new → IsPassed x s from new
+passed_on x s from at new p q =
+    record { section = q.section ∙ p.section; forward = omega (arith, p.forward, q.forward); within = q.within; same = q.same ∙ p.same; most = omega (arith, p.most, q.most) }
 
 -- The rows behind n of them are left, among so many.
 pub record IsBehind (x : Placed) (n : ℕ) (at : RowPlace) : Type 0 where

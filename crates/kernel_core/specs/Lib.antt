@@ -3,3 +3,4 @@ pub mod RefinesAndKeeps
 pub mod Standing
 pub mod PlacedSections
 pub mod AddedImages
+pub mod Starts

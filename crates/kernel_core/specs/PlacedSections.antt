@@ -1,6 +1,6 @@
 -- The rows of a kernel in place, by sections: each has so many places, with some rows at each. And
 -- the rows that are left from a place on.
-use Rattle.std.specs.Prelude.{◌≡◌, ◌<◌, ℕ, ◌+◌, ◌-◌, ◌*◌, ◌/◌, ◌%◌, cond, List, [], ◌∷◌, ◌++◌, Option, Some, None, IfSome, drop, filter_map, flat_map, length, slice_get}
+use Rattle.std.specs.Prelude.{◌≡◌, ◌<◌, ◌≤◌, ℕ, nat_lt, ◌+◌, ◌-◌, ◌*◌, ◌/◌, ◌%◌, cond, List, [], ◌∷◌, ◌++◌, Option, Some, None, IfSome, drop, filter_map, flat_map, length, slice_get}
 use Rattle.std.specs.List.{range_with_len}
 use Rattle.kernel_model.specs.declared.RawRow.{RawRow}
 use Rattle.kernel_model.specs.Objects.{Objects}
@@ -8,6 +8,7 @@ use Rattle.kernel_model.specs.Policies.{lives}
 use Rattle.kernel_model.specs.RawRows.{acct_row, cells_row, open_row, graft_row, pol_row, frame_row_of, lock_row}
 use Rattle.placed_laws.specs.Placed.{Placed}
 use Rattle.placed_laws.specs.PlacedRows.{placed_call_row, placed_level_rows, placed_undo_rows}
+use Rattle.kernel_core.specs.declared.placed_rows.FoundRow.{FoundRow}
 use Rattle.kernel_core.specs.declared.placed_rows.RowPlace.{RowPlace}
 use Rattle.kernel_core.specs.declared.placed_rows.Section.{Section}
 use Rattle.kernel_core.specs.declared.placed_rows.Section.TheVariants.{Clock, Queue, Accounts, Cells, Files, Grafts, Policies, Frames, Locks, Calls, Levels, Undo}
@@ -129,3 +130,32 @@ pub record TakesRow (x : Placed) (old new : RowPlace) (row : Option RawRow) : Ty
   pub rest : rows_left x new ≡ drop 1 (rows_left x old)
   -- with a row, fewer can be left than before
   pub fewer : IfSome row (λ _. most_left new < most_left old)
+
+-- On from a place of a section, past places without a row that is left.
+pub record IsPassed (x : Placed) (s : Section) (old new : RowPlace) : Type 0 where
+  pub section : new.section ≡ old.section
+  pub forward : old.place ≤ new.place
+  pub within : new.place ≤ places s
+  pub same : rows_left x new ≡ rows_left x old
+  pub most : most_left new ≤ most_left old
+
+-- behind a row of so many at a place
+abbrev pub row_passed : (count : ℕ) → RowPlace → RowPlace
+row_passed count at =
+    cond (nat_lt (at.index + 1) count) (record at { index = at.index + 1 })
+    (record { section = at.section; place = at.place + 1; index = 0 })
+
+-- the row that stands there
+abbrev pub row_found : Placed → FoundRow → Option RawRow
+row_found x f = slice_get (rows_at x f.section f.place) f.index
+
+-- the row that was found, if one was
+abbrev pub row_if_found : Placed → Option FoundRow → Option RawRow
+row_if_found x None = None
+row_if_found x (Some f) = row_found x f
+
+-- there is a row
+pub record IsRow (x : Placed) (f : FoundRow) : Type 0 where
+  pub place : f.place < places f.section
+  pub index : f.index < length (rows_at x f.section f.place)
+  pub few : f.index < most_at f.section

@@ -1,8 +1,9 @@
 //! The kernel: a running kernel over a disk. It is booted, takes events one after another, and
 //! shows what it is.
 
-ghost use Rattle.std.specs.Prelude.{◌≡◌, ℕ, ◌<◌, ◌≤◌, ◌-◌, ◌^◌, [], map, None, is_some, option_map, slice_get, IfOk};
+ghost use Rattle.std.specs.Prelude.{◌≡◌, ℕ, ◌<◌, ◌≤◌, ◌-◌, ◌^◌, [], map, None, is_some, option_map, slice_get, IfOk, IfSome};
 ghost use Rattle.disk_log.specs.Seen.{disk_seen};
+ghost use Rattle.kernel_model.specs.Bare.{event_with};
 ghost use Rattle.kernel_model.specs.Kernel.{Kernel as Abstract};
 ghost use Rattle.kernel_model.specs.Opening.{opening_policy};
 ghost use Rattle.kernel_model.specs.Session as session;
@@ -14,18 +15,19 @@ ghost use Rattle.placed_laws.specs.PlacedRows.{placed_rows};
 ghost use Rattle.placed_laws.specs.Stands.{StandsFor};
 ghost use Rattle.kernel_steps.specs.Views.{placed_of, IsRunning, HasAbstraction};
 ghost use Rattle.kernel_core.specs.EventRefines.{EventRefines, IsKernel};
-ghost use Rattle.kernel_core.specs.PlacedSections.{TakesRow};
+ghost use Rattle.kernel_core.specs.PlacedSections.{row_found, row_if_found, IsRow, TakesRow};
 ghost use Rattle.kernel_core.specs.Standing.{IsBlank, Booted};
 
 use crate::events::event;
-use crate::placed_rows::{self, RowPlace};
+use crate::placed_rows::{self, FoundRow, RowPlace};
+use arrayvec::ArrayVec;
 use call_pieces::Calls;
 use disk_log::DiskLog;
 use graft_loader::{Images, Loaded};
 use graft_points::{Policy, Shelf};
-use kernel_model::{Event, NoMemory, RawRow};
+use kernel_model::{BLOCK_BYTES, BareEvent, NoMemory, RawRow};
 use kernel_state::{Setup, Store};
-use kernel_steps::{Notes, Running};
+use kernel_steps::{Running, Trace};
 use mem_disk::{Directory, read_directory};
 use ram_space::Ram;
 use std::alloc::Global;
@@ -36,7 +38,7 @@ use vino_base::Disk;
 pub struct Kernel<C: Calls, B: Policy> {
     /// The store, the clock and all that is in flight.
     pub running: Running<C, B>,
-    /// The calls of the disk of one piece, or of a boot.
+    /// The calls of the disk of a boot.
     log: DiskLog,
 }
 
@@ -143,16 +145,25 @@ impl<C: Calls, B: Policy> Kernel<C, B> {
         self.running.call_number(p)
     }
 
-    /// One event, which has this number. Its notes are left behind. No memory is taken.
-    pub fn event<D: Disk>(&mut self, number: u32, what: &Event, disk: &mut D, notes: &mut Notes)
+    /// One event, which has this number, and the bytes of its system call. Its notes are left
+    /// behind. No memory is taken.
+    pub fn event<D: Disk>(
+        &mut self,
+        number: u32,
+        what: BareEvent,
+        bytes: &ArrayVec<u8, BLOCK_BYTES>,
+        disk: &mut D,
+        trace: &mut Trace,
+    )
         requires first { 0 < number }
         requires room { number < 2 ^ 32 - 1 }
         requires kernel { IsKernel C.Meaning.meaning C.stage C.caller
             (number - 1) self.old.running }
         requires disk { self.old.running.store.size ≡ D.block_count disk.old }
-        requires no_notes { notes.old ≡ [] }
+        requires no_notes { trace.old.notes ≡ [] }
         ensures happened { EventRefines C.Meaning.meaning (placed_of C.stage self.old.running)
-            (placed_of C.stage self.new.running) number what.now notes.new
+            (placed_of C.stage self.new.running) number (event_with what bytes.now.items)
+            trace.new.notes
             (disk_seen (D.blocks disk.old) (D.plan disk.old) (D.faults disk.old))
             (disk_seen (D.blocks disk.new) (D.plan disk.new) (D.faults disk.new)) }
         ensures kernel { IsKernel C.Meaning.meaning C.stage C.caller number self.new.running }
@@ -160,7 +171,7 @@ impl<C: Calls, B: Policy> Kernel<C, B> {
             ≡ world_of_store self.old.running.store }
         ensures same_size { D.block_count disk.new ≡ D.block_count disk.old }
     {
-        event(&mut self.running, number, what, disk, &mut self.log, notes);
+        event(&mut self.running, number, what, bytes, disk, trace);
     }
 
     /// The i-th of the rows that show the whole state. None past the last.
@@ -171,6 +182,7 @@ impl<C: Calls, B: Policy> Kernel<C, B> {
     {
         placed_rows::raw(&self.running, i)
     }
+
     /// The next row from a place on, which then is behind that row. None where no row is left.
     pub fn next_row(&self, at: &mut RowPlace) -> Option<RawRow>
         requires running { IsRunning C.caller self.now.running }
@@ -178,5 +190,24 @@ impl<C: Calls, B: Policy> Kernel<C, B> {
             at.old at.new result }
     {
         placed_rows::next_row(&self.running, at)
+    }
+    /// Where the next row from a place on stands, which then is behind that row. None where no row
+    /// is left.
+    pub fn find_row(&self, at: &mut RowPlace) -> Option<FoundRow>
+        requires running { IsRunning C.caller self.now.running }
+        ensures taken { TakesRow (placed_of C.stage self.now.running) at.old at.new
+            (row_if_found (placed_of C.stage self.now.running) result) }
+        ensures found { IfSome result (IsRow (placed_of C.stage self.now.running)) }
+    {
+        placed_rows::find_row(&self.running, at)
+    }
+
+    /// The row that stands there.
+    pub fn row_at(&self, found: &FoundRow) -> Option<RawRow>
+        requires running { IsRunning C.caller self.now.running }
+        requires found { IsRow (placed_of C.stage self.now.running) found.now }
+        ensures { result ≡ row_found (placed_of C.stage self.now.running) found.now }
+    {
+        placed_rows::row_at(&self.running, found)
     }
 }

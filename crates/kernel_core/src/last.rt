@@ -9,7 +9,7 @@ ghost use Rattle.kernel_steps.specs.Views.{placed_of, IsRunning, HasAbstraction}
 
 use call_pieces::Calls;
 use graft_points::Policy;
-use kernel_model::Note;
+use kernel_model::BareNote;
 use kernel_steps::{Notes, Running};
 
 /// Says for what process p's call of this number waits, if something blocks it.
@@ -22,7 +22,7 @@ fn say_wait<C: Calls, B: Policy>(running: &Running<C, B>, p: u8, number: u32, no
         notes.new d d }
 {
     if let Some(found) = running.blocker(p) {
-        notes.push(Note::Waits(number, found.object, found.holder));
+        notes.push(BareNote::Waits(number, found.object, found.holder));
     }
 }
 

@@ -1,10 +1,11 @@
 //! The rows that show a running kernel's whole state, with the calls in flight.
 
-ghost use Rattle.std.specs.Prelude.{◌≡◌, ◌-◌, ◌^◌, ◌<◌, ◌≤◌, ◌+◌, None, length, slice_get};
+ghost use Rattle.std.specs.Prelude.{◌≡◌, if◌then◌else◌, ◌-◌, ◌^◌, ◌<◌, ◌≤◌, ◌+◌, None, Some, IfSome, length, slice_get};
 ghost use Rattle.placed_laws.specs.Placed.{Placed};
 ghost use Rattle.placed_laws.specs.PlacedRows.{placed_rows};
 ghost use Rattle.kernel_steps.specs.Views.{placed_of, IsRunning};
-ghost use Rattle.kernel_core.specs.PlacedSections.{most_at, most_left, places, rows_at, rows_left, TakesRow};
+ghost use Rattle.kernel_core.specs.declared.placed_rows.Section.TheVariants.{Files, Grafts};
+ghost use Rattle.kernel_core.specs.PlacedSections.{most_at, most_left, places, row_found, row_if_found, row_passed, rows_at, rows_left, sections, IsPassed, IsRow, TakesRow};
 
 use call_pieces::Calls;
 use graft_points::Policy;
@@ -13,7 +14,7 @@ use kernel_steps::Running;
 
 /// A section of the rows.
 #[derive(Clone, Copy)]
-enum Section {
+pub enum Section {
     /// The clock.
     Clock,
     /// The queue.
@@ -38,6 +39,15 @@ enum Section {
     Levels,
     /// The undo log of each call, newest record first.
     Undo,
+}
+
+/// Where a row stands: the row of this index, from 0, at a place of a section. Places are counted
+/// from 0; the places of files and grafts go by process, and then by descriptor or point.
+#[derive(Clone, Copy)]
+pub struct FoundRow {
+    pub section: Section,
+    pub place: u16,
+    pub index: u32,
 }
 
 /// The sections, in their order.
@@ -94,6 +104,19 @@ impl RowPlace {
         }
     }
 
+    /// On to the next row of so many at the place, or to the next place behind the last one.
+    fn pass_row(&mut self, count: u32)
+        requires place { self.old.place < 2 ^ 16 - 1 }
+        requires row { self.old.index < count }
+        ensures { self.new ≡ row_passed count self.old }
+    {
+        if self.index + 1 < count {
+            self.index += 1;
+        } else {
+            self.pass_place();
+        }
+    }
+
     /// On to the next place of the section.
     fn pass_place(&mut self)
         requires { self.old.place < 2 ^ 16 - 1 }
@@ -136,20 +159,97 @@ pub fn next_row<C: Calls, B: Policy>(running: &Running<C, B>, at: &mut RowPlace)
     requires running { IsRunning C.caller running.now }
     ensures { TakesRow (placed_of C.stage running.now) at.old at.new result }
 {
+    let found = find_row(running, at)?;
+    row_at(running, &found)
+}
+
+/// Where the next row from a place on stands, which then is behind that row. None where no row is
+/// left.
+pub fn find_row<C: Calls, B: Policy>(running: &Running<C, B>, at: &mut RowPlace) -> Option<FoundRow>
+    requires running { IsRunning C.caller running.now }
+    ensures taken { TakesRow (placed_of C.stage running.now) at.old at.new
+        (row_if_found (placed_of C.stage running.now) result) }
+    ensures found { IfSome result (IsRow (placed_of C.stage running.now)) }
+{
     while at.section < SECTIONS.len() {
         let section = SECTIONS[at.section];
         if at.place >= places_of(section) {
             at.pass_section();
             continue;
         }
-        if at.index < count_at(running, section, at.place) {
-            let i = at.index;
-            at.index += 1;
-            return row_at(running, section, at.place, i);
+        let count = count_at(running, section, at.place);
+        if at.index < count {
+            let found = FoundRow {
+                section,
+                place: at.place,
+                index: at.index,
+            };
+            at.pass_row(count);
+            return Some(found);
         }
-        at.pass_place();
+        pass_place(running, section, at);
     }
     None
+}
+
+/// On to the next place of this section. Where it is that of the files or of the grafts, of which
+/// few places have one, on from there to the next place with one.
+fn pass_place<C: Calls, B: Policy>(running: &Running<C, B>, section: Section, at: &mut RowPlace)
+    requires running { IsRunning C.caller running.now }
+    requires section { slice_get sections at.old.section ≡ Some section }
+    requires place { at.old.place < places section }
+    requires none { length (rows_at (placed_of C.stage running.now) section at.old.place)
+        ≤ at.old.index }
+    ensures passed { IsPassed (placed_of C.stage running.now) section at.old at.new }
+    ensures further { at.old.place < at.new.place }
+{
+    at.pass_place();
+    match section {
+        Section::Files => pass_no_file(running, at),
+        Section::Grafts => pass_no_graft(running, at),
+        _ => {}
+    }
+}
+
+/// Whether a file is open at a place of the files.
+fn has_file<C: Calls, B: Policy>(running: &Running<C, B>, n: u16) -> bool
+    requires { n < 64 }
+    ensures { length (rows_at (placed_of C.stage running.now) Files n) ≡ (if result then 1 else 0) }
+{
+    let file = running.store.procs.file((n / 4) as u8, (n % 4) as u8);
+    file.is_some()
+}
+
+/// Whether a graft stands at a place of the grafts.
+fn has_graft<C: Calls, B: Policy>(running: &Running<C, B>, n: u16) -> bool
+    requires { n < 256 }
+    ensures { length (rows_at (placed_of C.stage running.now) Grafts n) ≡ (if result then 1 else 0) }
+{
+    running.store.has_graft((n / 16) as u8, (n % 16) as u8)
+}
+
+/// On past places without an open file.
+fn pass_no_file<C: Calls, B: Policy>(running: &Running<C, B>, at: &mut RowPlace)
+    requires running { IsRunning C.caller running.now }
+    requires section { slice_get sections at.old.section ≡ Some Files }
+    requires place { at.old.place ≤ 64 }
+    ensures { IsPassed (placed_of C.stage running.now) Files at.old at.new }
+{
+    while at.place < 64 && !has_file(running, at.place) {
+        at.pass_place();
+    }
+}
+
+/// On past places without a graft.
+fn pass_no_graft<C: Calls, B: Policy>(running: &Running<C, B>, at: &mut RowPlace)
+    requires running { IsRunning C.caller running.now }
+    requires section { slice_get sections at.old.section ≡ Some Grafts }
+    requires place { at.old.place ≤ 256 }
+    ensures { IsPassed (placed_of C.stage running.now) Grafts at.old at.new }
+{
+    while at.place < 256 && !has_graft(running, at.place) {
+        at.pass_place();
+    }
 }
 
 /// How many rows there are at a place of a section.
@@ -164,12 +264,8 @@ fn count_at<C: Calls, B: Policy>(running: &Running<C, B>, section: Section, n: u
     match section {
         Section::Clock | Section::Queue | Section::Policies | Section::Frames => 1,
         Section::Accounts | Section::Cells => store.living(n.into()).into(),
-        Section::Files => store
-            .procs
-            .file((n / 4) as u8, (n % 4) as u8)
-            .is_some()
-            .into(),
-        Section::Grafts => store.has_graft((n / 16) as u8, (n % 16) as u8).into(),
+        Section::Files => has_file(running, n).into(),
+        Section::Grafts => has_graft(running, n).into(),
         Section::Locks => store.holder(n as u8).is_some().into(),
         Section::Calls => running.call_number(n as u8).is_some().into(),
         Section::Levels => running.shown_levels(n as u8).into(),
@@ -177,23 +273,16 @@ fn count_at<C: Calls, B: Policy>(running: &Running<C, B>, section: Section, n: u
     }
 }
 
-/// The i-th row at a place of a section, which has more than i.
-fn row_at<C: Calls, B: Policy>(
-    running: &Running<C, B>,
-    section: Section,
-    n: u16,
-    i: u32,
-) -> Option<RawRow>
+/// The row that stands there.
+pub fn row_at<C: Calls, B: Policy>(running: &Running<C, B>, found: &FoundRow) -> Option<RawRow>
     requires running { IsRunning C.caller running.now }
-    requires place { n < places section }
-    requires row { i <
-        length (rows_at (placed_of C.stage running.now) section n) }
-    requires few { i < most_at section }
-    ensures { result ≡
-        slice_get (rows_at (placed_of C.stage running.now) section n) i }
+    requires found { IsRow (placed_of C.stage running.now) found.now }
+    ensures { result ≡ row_found (placed_of C.stage running.now) found.now }
 {
     let store = &running.store;
-    match section {
+    let n = found.place;
+    let i = found.index;
+    match found.section {
         Section::Clock => Some(RawRow::Clock(running.clock)),
         Section::Queue => Some(store.shown_queue()),
         Section::Accounts => Some(store.shown_account(n as u8)),

@@ -8,9 +8,8 @@ ghost use Rattle.kernel_steps.specs.Views.{placed_of, IsRunning, HasAbstraction}
 ghost use Rattle.kernel_core.specs.RefinesAndKeeps.{RefinesAndKeeps};
 
 use call_pieces::Calls;
-use disk_log::DiskLog;
 use graft_points::Policy;
-use kernel_steps::{Notes, Running};
+use kernel_steps::{Running, Trace};
 use placed_laws::{agreeing, keeping};
 use vino_base::Disk;
 
@@ -34,14 +33,13 @@ fn settle<C: Calls, B: Policy, D: Disk>(
     running: &mut Running<C, B>,
     turns: u16,
     disk: &mut D,
-    log: &mut DiskLog,
-    notes: &mut Notes,
+    trace: &mut Trace,
 )
     requires running { IsRunning C.caller running.old }
     requires abstraction { HasAbstraction C.Meaning.meaning (placed_of C.stage running.old) }
     requires disk { running.old.store.size ≡ D.block_count disk.old }
     ensures went { RefinesAndKeeps C.Meaning.meaning C.stage C.caller
-        (placed_settle C.Meaning.meaning turns) running.old running.new notes.old notes.new
+        (placed_settle C.Meaning.meaning turns) running.old running.new trace.old.notes trace.new.notes
         (disk_seen (D.blocks disk.old) (D.plan disk.old) (D.faults disk.old))
         (disk_seen (D.blocks disk.new) (D.plan disk.new) (D.faults disk.new)) }
     ensures same_size { D.block_count disk.new ≡ D.block_count disk.old }
@@ -53,25 +51,24 @@ fn settle<C: Calls, B: Policy, D: Disk>(
     let Some(p) = running.first_free() else {
         return rest(running);
     };
-    running.step(p, disk, log, notes);
-    settle(running, turns - 1, disk, log, notes);
+    running.step(p, disk, trace);
+    settle(running, turns - 1, disk, trace);
 }
 
 /// All steps that can be taken.
 pub(crate) fn settle_all<C: Calls, B: Policy, D: Disk>(
     running: &mut Running<C, B>,
     disk: &mut D,
-    log: &mut DiskLog,
-    notes: &mut Notes,
+    trace: &mut Trace,
 )
     requires running { IsRunning C.caller running.old }
     requires abstraction { HasAbstraction C.Meaning.meaning (placed_of C.stage running.old) }
     requires disk { running.old.store.size ≡ D.block_count disk.old }
     ensures went { RefinesAndKeeps C.Meaning.meaning C.stage C.caller
-        (placed_settled C.Meaning.meaning) running.old running.new notes.old notes.new
+        (placed_settled C.Meaning.meaning) running.old running.new trace.old.notes trace.new.notes
         (disk_seen (D.blocks disk.old) (D.plan disk.old) (D.faults disk.old))
         (disk_seen (D.blocks disk.new) (D.plan disk.new) (D.faults disk.new)) }
     ensures same_size { D.block_count disk.new ≡ D.block_count disk.old }
 {
-    settle(running, STEPS, disk, log, notes);
+    settle(running, STEPS, disk, trace);
 }

@@ -15,10 +15,9 @@ use crate::last::say_last;
 use crate::settle::settle_all;
 use crate::stretch::stretch;
 use call_pieces::Calls;
-use disk_log::DiskLog;
 use graft_points::Policy;
-use kernel_model::Note;
-use kernel_steps::{Notes, Running};
+use kernel_model::BareNote;
+use kernel_steps::{Running, Trace};
 use placed_laws::{agreeing, keeping, resting};
 use vino_base::Disk;
 
@@ -46,8 +45,7 @@ fn take_up<C: Calls, B: Policy, D: Disk>(
     running: &mut Running<C, B>,
     p: u8,
     disk: &mut D,
-    log: &mut DiskLog,
-    notes: &mut Notes,
+    trace: &mut Trace,
 ) -> bool
     requires process { p < 16 }
     requires running { IsRunning C.caller running.old }
@@ -55,7 +53,7 @@ fn take_up<C: Calls, B: Policy, D: Disk>(
     requires disk { running.old.store.size ≡ D.block_count disk.old }
     ensures took { result ≡ takes_up C.Meaning.meaning (placed_of C.stage running.old) p }
     ensures refines { RefinesToRest C.Meaning.meaning (taken_up C.Meaning.meaning p)
-        (placed_of C.stage running.old) (placed_of C.stage running.new) notes.old notes.new
+        (placed_of C.stage running.old) (placed_of C.stage running.new) trace.old.notes trace.new.notes
         (disk_seen (D.blocks disk.old) (D.plan disk.old) (D.faults disk.old))
         (disk_seen (D.blocks disk.new) (D.plan disk.new) (D.faults disk.new)) }
     ensures on { KeepsRunning C.Meaning.meaning C.stage C.caller running.old running.new }
@@ -74,13 +72,13 @@ fn take_up<C: Calls, B: Policy, D: Disk>(
     let needs = running.instruction_needs(p);
     if running.blocked_by(p, needs.as_slice()).is_some() {
         join(running, p);
-        settle_all(running, disk, log, notes);
+        settle_all(running, disk, trace);
         return false;
     }
-    if running.step_in_graft(p, needs.as_slice(), disk, log, notes) {
+    if running.step_in_graft(p, needs.as_slice(), disk, trace) {
         return true;
     }
-    settle_all(running, disk, log, notes);
+    settle_all(running, disk, trace);
     true
 }
 
@@ -99,8 +97,7 @@ fn steps<C: Calls, B: Policy, D: Disk>(
     p: u8,
     n: u32,
     disk: &mut D,
-    log: &mut DiskLog,
-    notes: &mut Notes,
+    trace: &mut Trace,
 )
     requires process { p < 16 }
     requires few { n ≤ 65536 }
@@ -108,7 +105,7 @@ fn steps<C: Calls, B: Policy, D: Disk>(
     requires abstraction { HasAbstraction C.Meaning.meaning (placed_of C.stage running.old) }
     requires disk { running.old.store.size ≡ D.block_count disk.old }
     ensures refines { RefinesFromRest C.Meaning.meaning (steps_said C.Meaning.meaning number p n 0)
-        (placed_of C.stage running.old) (placed_of C.stage running.new) notes.old notes.new
+        (placed_of C.stage running.old) (placed_of C.stage running.new) trace.old.notes trace.new.notes
         (disk_seen (D.blocks disk.old) (D.plan disk.old) (D.faults disk.old))
         (disk_seen (D.blocks disk.new) (D.plan disk.new) (D.faults disk.new)) }
     ensures on { KeepsRunning C.Meaning.meaning C.stage C.caller running.old running.new }
@@ -121,10 +118,10 @@ fn steps<C: Calls, B: Policy, D: Disk>(
         if taken == n {
             continue;
         }
-        going = take_up(running, p, disk, log, notes);
+        going = take_up(running, p, disk, trace);
         taken = more(taken, going);
     }
-    notes.push(Note::Ran(number, taken));
+    trace.notes.push(BareNote::Ran(number, taken));
 }
 
 /// Instructions of process p's call: at most n, how many were taken up, and where the call stands
@@ -135,8 +132,7 @@ pub(crate) fn step_event<C: Calls, B: Policy, D: Disk>(
     p: u8,
     n: u32,
     disk: &mut D,
-    log: &mut DiskLog,
-    notes: &mut Notes,
+    trace: &mut Trace,
 )
     requires process { p < 16 }
     requires few { n ≤ 65536 }
@@ -144,12 +140,12 @@ pub(crate) fn step_event<C: Calls, B: Policy, D: Disk>(
     requires abstraction { HasAbstraction C.Meaning.meaning (placed_of C.stage running.old) }
     requires disk { running.old.store.size ≡ D.block_count disk.old }
     ensures refines { RefinesFromRest C.Meaning.meaning (placed_step_event C.Meaning.meaning number p n)
-        (placed_of C.stage running.old) (placed_of C.stage running.new) notes.old notes.new
+        (placed_of C.stage running.old) (placed_of C.stage running.new) trace.old.notes trace.new.notes
         (disk_seen (D.blocks disk.old) (D.plan disk.old) (D.faults disk.old))
         (disk_seen (D.blocks disk.new) (D.plan disk.new) (D.faults disk.new)) }
     ensures on { KeepsRunning C.Meaning.meaning C.stage C.caller running.old running.new }
     ensures same_size { D.block_count disk.new ≡ D.block_count disk.old }
 {
-    steps(running, number, p, n, disk, log, notes);
-    say_last(running, p, notes);
+    steps(running, number, p, n, disk, trace);
+    say_last(running, p, &mut trace.notes);
 }

@@ -12,10 +12,9 @@ ghost use Rattle.kernel_core.specs.RefinesAndKeeps.{RefinesAndKeeps, Ticked};
 
 use crate::settle::settle_all;
 use call_pieces::Calls;
-use disk_log::DiskLog;
 use graft_points::Policy;
-use kernel_model::{Cause, Note, Refusal};
-use kernel_steps::{Blocking, Notes, Running, Waiting};
+use kernel_model::{BareNote, Cause, Refusal};
+use kernel_steps::{Blocking, Notes, Running, Trace, Waiting};
 use placed_laws::{agreeing, keeping};
 use vino_base::Disk;
 
@@ -42,7 +41,7 @@ fn refuse<C: Calls, B: Policy>(
         running.old running.new notes.old notes.new d d }
 {
     keeping::others_stand::<C::Meaning>();
-    running.end(p, Note::Refused(number, why), notes);
+    running.end(p, BareNote::Refused(number, why), notes);
 }
 
 /// Process p has waited too long for a user lock: its innermost level is dropped, or its call ends.
@@ -51,8 +50,7 @@ fn time_out_waiter<C: Calls, B: Policy, D: Disk>(
     p: u8,
     found: Blocking,
     disk: &mut D,
-    log: &mut DiskLog,
-    notes: &mut Notes,
+    trace: &mut Trace,
 )
     requires process { p < 16 }
     requires running { IsRunning C.caller running.old }
@@ -60,7 +58,7 @@ fn time_out_waiter<C: Calls, B: Policy, D: Disk>(
     requires disk { running.old.store.size ≡ D.block_count disk.old }
     ensures went { RefinesAndKeeps C.Meaning.meaning C.stage C.caller
         (λ r. placed_waiter C.Meaning.meaning p (blocker_of found) (r.placed.call p) r) running.old
-        running.new notes.old notes.new
+        running.new trace.old.notes trace.new.notes
         (disk_seen (D.blocks disk.old) (D.plan disk.old) (D.faults disk.old))
         (disk_seen (D.blocks disk.new) (D.plan disk.new) (D.faults disk.new)) }
     ensures same_size { D.block_count disk.new ≡ D.block_count disk.old }
@@ -71,10 +69,10 @@ fn time_out_waiter<C: Calls, B: Policy, D: Disk>(
     let count = running.level_count(p);
     if count == 0 {
         let why = Refusal::TimedOut(found.object, found.holder);
-        return refuse(running, p, number, why, notes);
+        return refuse(running, p, number, why, &mut trace.notes);
     }
     let cause = Cause::TimeOut(found.object, found.holder);
-    running.drop_level(p, count - 1, cause, disk, log, notes);
+    running.drop_level(p, count - 1, cause, disk, trace);
 }
 
 /// A call has been in process p's way for too long: it loses the outermost level whose hold
@@ -84,16 +82,15 @@ fn time_out_holder<C: Calls, B: Policy, D: Disk>(
     p: u8,
     found: Blocking,
     disk: &mut D,
-    log: &mut DiskLog,
-    notes: &mut Notes,
+    trace: &mut Trace,
 )
     requires process { p < 16 }
     requires running { IsRunning C.caller running.old }
     requires abstraction { HasAbstraction C.Meaning.meaning (placed_of C.stage running.old) }
     requires disk { running.old.store.size ≡ D.block_count disk.old }
     ensures went { RefinesAndKeeps C.Meaning.meaning C.stage C.caller
-        (placed_holder C.Meaning.meaning p (blocker_of found)) running.old running.new notes.old
-        notes.new
+        (placed_holder C.Meaning.meaning p (blocker_of found)) running.old running.new trace.old.notes
+        trace.new.notes
         (disk_seen (D.blocks disk.old) (D.plan disk.old) (D.faults disk.old))
         (disk_seen (D.blocks disk.new) (D.plan disk.new) (D.faults disk.new)) }
     ensures same_size { D.block_count disk.new ≡ D.block_count disk.old }
@@ -102,7 +99,7 @@ fn time_out_holder<C: Calls, B: Policy, D: Disk>(
         return;
     };
     let cause = Cause::TimeOut(found.object, p);
-    running.drop_level(found.holder, level, cause, disk, log, notes);
+    running.drop_level(found.holder, level, cause, disk, trace);
 }
 
 /// The action for an entry that has waited too long.
@@ -110,8 +107,7 @@ fn act<C: Calls, B: Policy, D: Disk>(
     running: &mut Running<C, B>,
     waiting: Waiting,
     disk: &mut D,
-    log: &mut DiskLog,
-    notes: &mut Notes,
+    trace: &mut Trace,
 )
     requires process { waiting.process < 16 }
     requires running { IsRunning C.caller running.old }
@@ -119,7 +115,7 @@ fn act<C: Calls, B: Policy, D: Disk>(
     requires disk { running.old.store.size ≡ D.block_count disk.old }
     ensures went { RefinesAndKeeps C.Meaning.meaning C.stage C.caller
         (placed_entry_action C.Meaning.meaning (entry_of waiting) (entry_of waiting).blocker)
-        running.old running.new notes.old notes.new
+        running.old running.new trace.old.notes trace.new.notes
         (disk_seen (D.blocks disk.old) (D.plan disk.old) (D.faults disk.old))
         (disk_seen (D.blocks disk.new) (D.plan disk.new) (D.faults disk.new)) }
     ensures same_size { D.block_count disk.new ≡ D.block_count disk.old }
@@ -128,8 +124,8 @@ fn act<C: Calls, B: Policy, D: Disk>(
         return;
     };
     match found.call {
-        None => time_out_waiter(running, waiting.process, found, disk, log, notes),
-        Some(_) => time_out_holder(running, waiting.process, found, disk, log, notes),
+        None => time_out_waiter(running, waiting.process, found, disk, trace),
+        Some(_) => time_out_holder(running, waiting.process, found, disk, trace),
     }
 }
 
@@ -139,14 +135,13 @@ fn actions<C: Calls, B: Policy, D: Disk>(
     running: &mut Running<C, B>,
     turns: u16,
     disk: &mut D,
-    log: &mut DiskLog,
-    notes: &mut Notes,
+    trace: &mut Trace,
 )
     requires running { IsRunning C.caller running.old }
     requires abstraction { HasAbstraction C.Meaning.meaning (placed_of C.stage running.old) }
     requires disk { running.old.store.size ≡ D.block_count disk.old }
     ensures went { RefinesAndKeeps C.Meaning.meaning C.stage C.caller
-        (placed_actions C.Meaning.meaning turns) running.old running.new notes.old notes.new
+        (placed_actions C.Meaning.meaning turns) running.old running.new trace.old.notes trace.new.notes
         (disk_seen (D.blocks disk.old) (D.plan disk.old) (D.faults disk.old))
         (disk_seen (D.blocks disk.new) (D.plan disk.new) (D.faults disk.new)) }
     ensures same_size { D.block_count disk.new ≡ D.block_count disk.old }
@@ -158,9 +153,9 @@ fn actions<C: Calls, B: Policy, D: Disk>(
     let Some(waiting) = running.expired() else {
         return;
     };
-    act(running, waiting, disk, log, notes);
-    settle_all(running, disk, log, notes);
-    actions(running, turns - 1, disk, log, notes);
+    act(running, waiting, disk, trace);
+    settle_all(running, disk, trace);
+    actions(running, turns - 1, disk, trace);
 }
 
 /// The clock and the counts rise.
@@ -180,19 +175,18 @@ pub(crate) fn tick_event<C: Calls, B: Policy, D: Disk>(
     running: &mut Running<C, B>,
     number: u32,
     disk: &mut D,
-    log: &mut DiskLog,
-    notes: &mut Notes,
+    trace: &mut Trace,
 )
     requires clock { running.old.clock < 2 ^ 32 - 1 }
     requires running { IsRunning C.caller running.old }
     requires abstraction { HasAbstraction C.Meaning.meaning (placed_of C.stage running.old) }
     requires disk { running.old.store.size ≡ D.block_count disk.old }
     ensures ticked { Ticked C.Meaning.meaning C.stage C.caller
-        (placed_tick_event C.Meaning.meaning number) running.old running.new notes.old notes.new
+        (placed_tick_event C.Meaning.meaning number) running.old running.new trace.old.notes trace.new.notes
         (disk_seen (D.blocks disk.old) (D.plan disk.old) (D.faults disk.old))
         (disk_seen (D.blocks disk.new) (D.plan disk.new) (D.faults disk.new)) }
     ensures same_size { D.block_count disk.new ≡ D.block_count disk.old }
 {
-    raise(running, number, notes);
-    actions(running, ACTIONS, disk, log, notes);
+    raise(running, number, &mut trace.notes);
+    actions(running, ACTIONS, disk, trace);
 }

@@ -2,7 +2,7 @@
 
 ghost use Rattle.std.specs.Prelude.{◌≡◌, ◌<◌, ◌≤◌, length};
 ghost use Rattle.kernel_model.specs.RawRows.{acct_row, cells_row, open_row, graft_row, pol_row, lock_row};
-ghost use Rattle.kernel_model.specs.declared.RawRow.TheVariants.{Queue};
+ghost use Rattle.kernel_model.specs.declared.RawRow.TheVariants.{Acct, Cells, Queue};
 ghost use Rattle.kernel_state.specs.Stores.{world_of_store, objects_of, queue_of};
 
 use crate::Store;
@@ -22,15 +22,22 @@ impl<B: Policy> Store<B> {
         requires { p < 16 }
         ensures { result ≡ acct_row (objects_of self.now) p }
     {
-        let amounts = [
+        RawRow::Acct(p, self.amounts(p))
+    }
+
+    /// The amounts of process p, balances first.
+    pub fn amounts(&self, p: u8) -> [u64; 6]
+        requires { p < 16 }
+        ensures { Acct p result ≡ acct_row (objects_of self.now) p }
+    {
+        [
             self.accounts.balance(p, Kind::Steps),
             self.accounts.balance(p, Kind::Records),
             self.accounts.balance(p, Kind::Locks),
             self.accounts.spent(p, Kind::Steps),
             self.accounts.spent(p, Kind::Records),
             self.accounts.spent(p, Kind::Locks),
-        ];
-        RawRow::Acct(p, amounts)
+        ]
     }
 
     /// The cells of process p.
@@ -38,13 +45,20 @@ impl<B: Policy> Store<B> {
         requires { p < 16 }
         ensures { result ≡ cells_row (objects_of self.now) p }
     {
-        let cells = [
+        RawRow::Cells(p, self.cells(p))
+    }
+
+    /// The values of the cells of process p.
+    pub fn cells(&self, p: u8) -> [u32; 4]
+        requires { p < 16 }
+        ensures { Cells p result ≡ cells_row (objects_of self.now) p }
+    {
+        [
             self.procs.cell(p, 0),
             self.procs.cell(p, 1),
             self.procs.cell(p, 2),
             self.procs.cell(p, 3),
-        ];
-        RawRow::Cells(p, cells)
+        ]
     }
 
     /// The file that is open at descriptor fd of process p, with its name.

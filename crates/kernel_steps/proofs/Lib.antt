@@ -20,3 +20,5 @@ pub mod ShownLemmas
 pub mod OpeningLemmas
 pub mod StillLemmas
 pub mod StretchLemmas
+mod NotingLemmas
+pub mod SegmentLemmas

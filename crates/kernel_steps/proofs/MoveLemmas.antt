@@ -188,7 +188,7 @@ config_by stage caller x y p ch o said r moved own h =
     (ap (λ (chain : Chain). call_of y.store y.locks chain p) own ∙ sym (ap (λ (z : Micro × Config). z.1) h))
 
 -- a flight that was found at a place, whatever stands for none
-any_default : {A : Type 0} (xs : List A) (i : ℕ) (d e : A) → i < length xs → slice_index_or xs i d ≡ slice_index_or xs i e
+pub any_default : {A : Type 0} (xs : List A) (i : ℕ) (d e : A) → i < length xs → slice_index_or xs i d ≡ slice_index_or xs i e
 any_default [] i d e h = absurd (omega (arith, h))
 any_default (x ∷ xs) zero d e h = refl
 any_default (x ∷ xs) (suc i) d e h = any_default xs i d e (omega (arith, h))

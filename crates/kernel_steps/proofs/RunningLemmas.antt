@@ -55,6 +55,18 @@ call_begun stage x p f fs w ws h fs_is w_is ws_is blocks notes io =
     (flying_changed stage x p (Some f) (order_of x.order ++ new_entry p ∷ []) h ∙ ap (λ gs. flying stage x gs (order_of x.order ++ new_entry p ∷ [])) (sym fs_is)
     ∙ ap (flying stage x fs) es)
 
+-- where a process has no call, none is put there
+none_at : {A : Type 0} (p q : ℕ) (calls : ℕ → Option A) → calls p ≡ None → at p None calls q ≡ calls q
+none_at p q calls none = grind (arith, nat_tests, none)
+
+pub call_kept : {C B M W : Type 0} {P : _} (stage : W → Stage) (x : Running C B M W P) (p : ℕ) (fs : List (Flight W)) →
+    p < length x.calls.items → fs ≡ with_call x.calls.items p None → (placed_of stage x).call p ≡ None →
+    flying stage x fs (order_of x.order) ≡ placed_of stage x
+call_kept stage x p fs h fs_is none =
+    ap (λ gs. flying stage x gs (order_of x.order)) fs_is
+    ∙ sym (flying_changed stage x p None (order_of x.order) h)
+    ∙ ap (λ call. record (placed_of stage x) { call = call }) (fun_ext (λ q. none_at p q (placed_of stage x).call none))
+
 -- a number is itself
 self : (p : ℕ) → (p == p) ≡ true
 self p = grind (arith, nat_tests)

@@ -10,3 +10,6 @@ pub mod Queries
 pub mod Composing
 pub mod Kept
 pub mod WholeBlocks
+pub mod Noting
+pub mod Begins
+pub mod Looking

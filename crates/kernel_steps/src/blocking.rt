@@ -154,7 +154,7 @@ pub(crate) fn number_of<W: Drop>(flights: &[Flight<W>], p: u8) -> Option<u32>
     ensures { result ≡ option_map (λ f. f.number) (flight_of flights.now p).call }
 {
     match flights.get(p as usize) {
-        Some(flight) => match &flight.call {
+        Some(flight) => match flight.call.get() {
             Some(call) => Some(call.number),
             None => None,
         },
@@ -197,7 +197,7 @@ impl<C: Calls, B: Policy> Running<C, B> {
     {
         soundness::sound_in_place::<C::Meaning>();
         let flight = flight(&self.calls, p);
-        let Some(call) = &flight.call else {
+        let Some(call) = flight.call.get() else {
             return None;
         };
         if flight.chain.levels.count() == 0 {

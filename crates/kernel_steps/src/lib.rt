@@ -7,6 +7,7 @@
 
 mod blocking;
 mod levels;
+mod looking;
 mod notes;
 mod opening;
 mod order;
@@ -15,11 +16,15 @@ mod queries;
 mod running;
 mod settled;
 mod shown;
+mod slots;
 mod steps;
 mod stretch;
+mod trace;
 mod waits;
 
 pub use blocking::Hindrance;
 pub use notes::Notes;
 pub use order::{Blocking, Order, Waiting};
 pub use running::{Flight, InFlight, Running};
+pub use slots::Slot;
+pub use trace::Trace;

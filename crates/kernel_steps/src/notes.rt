@@ -1,32 +1,70 @@
 //! The notes of an event.
 
-ghost use Rattle.std.specs.Prelude.{◌≡◌, ◌≤◌, ◌++◌, List, [], ◌∷◌, length, IfOk};
+ghost use Rattle.std.specs.Prelude.{◌≡◌, ◌≤◌, ◌<◌, ◌*◌, ◌+◌, ◌++◌, List, Option, None, Some, [], ◌∷◌, length, IfOk, vec_len, vec_capacity};
 ghost use Rattle.kernel_model.specs.declared.Note.{Note as Told};
 ghost use Rattle.kernel_model.specs.Kernel.{gave_note};
+ghost use Rattle.kernel_model.specs.Bare.{given_count, note_with, notes_with};
 ghost use Rattle.kernel_steps.specs.Refines.{first_notes};
+ghost use Rattle.kernel_steps.specs.Noting.{AreGiven, NotesFit};
 
-use kernel_model::{Bytes, NoMemory, Note};
+use call_pieces::Gift;
+use kernel_model::{BLOCK_BYTES, BareNote, NoMemory};
 use std::alloc::Global;
 use std::marker::Model;
 
 /// The most notes of one event of a sound kernel (`history_laws::notes`).
 const NOTES: usize = 530;
 
-/// The notes of an event, in order. Contracts see their list. Memory is taken once.
+/// The most bytes that these notes give.
+const NOTE_BYTES: usize = NOTES * BLOCK_BYTES;
+
+/// The notes of an event, in order: small rows, and the bytes that were given, one behind the
+/// other. Contracts see the list of the notes with their bytes. Memory is taken once.
 #[derive(Drop)]
 pub struct Notes {
-    list: Vec<Note>,
+    list: Vec<BareNote>,
+    bytes: Vec<u8>,
 }
 
 impl Model for Notes {
-    ghost use Rattle.std.specs.Prelude.{◌≤◌, List, length, vec_capacity, vec_len};
+    ghost use Rattle.std.specs.Prelude.{List, vec_capacity};
     ghost use Rattle.kernel_model.specs.declared.Note.{Note};
+    ghost use Rattle.kernel_model.specs.Bare.{notes_with};
+    ghost use Rattle.kernel_steps.specs.Noting.{NotesFit};
 
     ghost Value = { List Note };
 
-    ghost view = { λ n. n.list.items };
+    ghost view = { λ n. notes_with n.list.items n.bytes.items };
 
-    ghost invariant = { λ n. (530 ≤ vec_capacity n.list) × (vec_len n.list ≤ 530) };
+    ghost invariant = { λ n. NotesFit n.list.items n.bytes.items (vec_capacity n.list)
+        (vec_capacity n.bytes) };
+}
+
+/// The same note, without bytes.
+fn without_bytes(note: BareNote) -> BareNote
+    ensures count { given_count result ≡ 0 }
+    ensures same { note_with result [] ≡ note_with note [] }
+{
+    match note {
+        BareNote::Gave(number, _) => BareNote::Gave(number, 0),
+        _ => note,
+    }
+}
+
+/// One more note, and its bytes, where there is room.
+fn add(list: &mut Vec<BareNote>, bytes: &mut Vec<u8>, note: BareNote, more: &[u8])
+    requires fit { NotesFit list.old.items bytes.old.items (vec_capacity list.old)
+        (vec_capacity bytes.old) }
+    requires count { given_count note ≡ length more.now }
+    requires few { length more.now ≤ 512 }
+    requires room { length list.old.items < 530 }
+    ensures fit { NotesFit list.new.items bytes.new.items (vec_capacity list.new)
+        (vec_capacity bytes.new) }
+    ensures list { list.new.items ≡ list.old.items ++ note ∷ [] }
+    ensures bytes { bytes.new.items ≡ bytes.old.items ++ more.now }
+{
+    let _ = list.push(note);
+    let _ = bytes.extend_from_slice(more);
 }
 
 impl Notes {
@@ -34,8 +72,11 @@ impl Notes {
     pub fn new(alloc: Global) -> Result<Notes, NoMemory>
         ensures { IfOk result (λ n. n ≡ []) }
     {
-        match Vec::with_capacity(alloc, NOTES) {
-            Ok(list) => Ok(Notes { list }),
+        let Ok(list) = Vec::with_capacity(alloc, NOTES) else {
+            return Err(NoMemory);
+        };
+        match Vec::with_capacity(alloc, NOTE_BYTES) {
+            Ok(bytes) => Ok(Notes { list, bytes }),
             Err(_) => Err(NoMemory),
         }
     }
@@ -45,33 +86,41 @@ impl Notes {
         ensures { self.new ≡ [] }
     {
         self.list.clear();
+        self.bytes.clear();
     }
 
-    /// The notes, in order.
-    pub fn list(&self) -> &[Note]
-        ensures value { result.now ≡ self.now }
-        ensures few { length result.now ≤ 530 }
+    /// The notes without their bytes, in order, and the bytes that they gave, one behind the other.
+    pub fn parts(&self) -> (&[BareNote], &[u8])
+        ensures value { self.now ≡ notes_with result.0.now result.1.now }
+        ensures few { length result.0.now ≤ 530 }
+        ensures few_notes { length self.now ≤ 530 }
+        ensures given { AreGiven result.0.now result.1.now }
     {
-        self.list.as_slice()
+        (self.list.as_slice(), self.bytes.as_slice())
     }
 
-    /// One more note. No event of a sound kernel has more than 530; of more the first are kept.
-    pub fn push(&mut self, note: Note)
+    /// One more note, without bytes. No event of a sound kernel has more than 530; of more
+    /// the first are kept.
+    pub fn push(&mut self, note: BareNote)
         ensures { (all : List Told) → self.old ≡ first_notes all →
-            self.new ≡ first_notes (all ++ note ∷ []) }
+            self.new ≡ first_notes (all ++ note_with note [] ∷ []) }
     {
-        if self.list().len() < NOTES {
-            let _ = self.list.push(note);
+        if self.list.len() < NOTES {
+            add(&mut self.list, &mut self.bytes, without_bytes(note), &[]);
         }
     }
 
     /// The note of bytes that a piece gave, if it gave some.
-    pub fn push_bytes(&mut self, number: u32, gave: Option<Bytes>)
+    pub fn push_bytes(&mut self, number: u32, gave: &Gift)
         ensures { (all : List Told) → self.old ≡ first_notes all →
-            self.new ≡ first_notes (all ++ gave_note number gave) }
+            self.new ≡ first_notes (all ++ gave_note number gave.now) }
     {
-        if let Some(bytes) = gave {
-            self.push(Note::Gave(number, bytes));
+        let Some(bytes) = gave.bytes() else {
+            return;
+        };
+        if self.list.len() < NOTES {
+            let note = BareNote::Gave(number, bytes.len() as u16);
+            add(&mut self.list, &mut self.bytes, note, bytes);
         }
     }
 }

@@ -1,6 +1,6 @@
 //! A piece of a call in flight.
 
-ghost use Rattle.std.specs.Prelude.{◌≡◌, Some, option_map};
+ghost use Rattle.std.specs.Prelude.{◌≡◌, true, Some, None, cond, option_map};
 ghost use Rattle.disk_log.specs.Seen.{disk_seen};
 ghost use Rattle.kernel_model.specs.Laws.{IsReady};
 ghost use Rattle.kernel_model.specs.World.{ImageTable};
@@ -10,24 +10,72 @@ ghost use Rattle.kernel_steps.specs.declared.running.InFlight.{InFlight as Flyin
 ghost use Rattle.kernel_steps.specs.Refines.{PieceDone};
 ghost use Rattle.kernel_steps.specs.Views.{call_in_place};
 
-use crate::notes::Notes;
 use crate::running::InFlight;
+use crate::slots::Slot;
+use crate::trace::Trace;
 use call_pieces::{Calls, Next};
-use disk_log::DiskLog;
 use graft_points::Policy;
-use kernel_model::Note;
+use kernel_model::BareNote;
 use kernel_state::Store;
 use vino_base::Disk;
 
-/// The next piece of a call in flight, with an answer to the point that it asks, or by default. The
-/// call goes on, or it ends with a note. The log has this piece's calls of the disk then.
-pub(crate) fn do_piece<C: Calls, B: Policy, D: Disk>(
-    slot: &mut Option<InFlight<C::Work>>,
+/// The next piece of a call in flight, with an answer to the point that it asks, or by default.
+/// Whether the call goes on; it ends with a note. The log has this piece's calls of the disk then.
+fn run_piece<C: Calls, B: Policy, D: Disk>(
+    call: &mut InFlight<C::Work>,
     store: &mut Store<B>,
     answer: Option<[u32; 4]>,
     disk: &mut D,
-    log: &mut DiskLog,
-    notes: &mut Notes,
+    trace: &mut Trace,
+) -> bool
+    requires ready { (images : ImageTable) × IsReady C.Meaning.meaning (world_of_store store.old)
+        images (objects_of store.old) (C.caller call.old.work) (C.stage call.old.work)
+        (answer_seen answer) }
+    requires disk { store.old.size ≡ D.block_count disk.old }
+    ensures done { PieceDone C.Meaning.meaning (world_of_store store.old) (objects_of store.old)
+        (objects_of store.new) (C.caller call.old.work) (call_in_place C.stage call.old)
+        (option_map (call_in_place C.stage) (cond result (Some call.new) None)) answer
+        trace.old.notes trace.new.notes
+        (disk_seen (D.blocks disk.old) (D.plan disk.old) (D.faults disk.old))
+        (disk_seen (D.blocks disk.new) (D.plan disk.new) (D.faults disk.new)) }
+    ensures caller { result ≡ true → C.caller call.new.work ≡ C.caller call.old.work }
+    ensures world { world_of_store store.new ≡ world_of_store store.old }
+    ensures size { store.new.size ≡ store.old.size }
+    ensures memory { SegmentsStay store.old.ram store.new.ram }
+    ensures same_size { D.block_count disk.new ≡ D.block_count disk.old }
+{
+    trace.log.clear();
+    let next = C::piece(
+        &mut call.work,
+        store,
+        answer,
+        disk,
+        &mut trace.log,
+        &mut trace.gave,
+    );
+    let number = call.number;
+    trace.notes.push_bytes(number, &trace.gave);
+    match next {
+        Next::Goes => true,
+        Next::Ends(reply) => {
+            trace.notes.push(BareNote::Ended(number, reply));
+            false
+        }
+        Next::Fails(refusal) => {
+            trace.notes.push(BareNote::Refused(number, refusal));
+            false
+        }
+    }
+}
+
+/// The next piece of the call in flight that stands here, with an answer to the point that it asks,
+/// or by default. The call goes on, or it ends with a note.
+pub(crate) fn do_piece<C: Calls, B: Policy, D: Disk>(
+    slot: &mut Slot<C::Work>,
+    store: &mut Store<B>,
+    answer: Option<[u32; 4]>,
+    disk: &mut D,
+    trace: &mut Trace,
 )
     requires ready { (f : Flying C.Work) → slot.old ≡ Some f →
         (images : ImageTable) × IsReady C.Meaning.meaning (world_of_store store.old) images
@@ -37,7 +85,7 @@ pub(crate) fn do_piece<C: Calls, B: Policy, D: Disk>(
         PieceDone C.Meaning.meaning (world_of_store store.old) (objects_of store.old)
         (objects_of store.new) (C.caller f.work)
         (call_in_place C.stage f)
-        (option_map (call_in_place C.stage) slot.new) answer notes.old notes.new
+        (option_map (call_in_place C.stage) slot.new) answer trace.old.notes trace.new.notes
         (disk_seen (D.blocks disk.old) (D.plan disk.old) (D.faults disk.old))
         (disk_seen (D.blocks disk.new) (D.plan disk.new) (D.faults disk.new)) }
     ensures caller { (f g : Flying C.Work) → slot.old ≡ Some f → slot.new ≡ Some g →
@@ -47,22 +95,8 @@ pub(crate) fn do_piece<C: Calls, B: Policy, D: Disk>(
     ensures memory { SegmentsStay store.old.ram store.new.ram }
     ensures same_size { D.block_count disk.new ≡ D.block_count disk.old }
 {
-    let Some(call) = slot else {
+    if !slot.taken {
         return;
-    };
-    log.clear();
-    let after = C::piece(&mut call.work, store, answer, disk, log);
-    let number = call.number;
-    notes.push_bytes(number, after.gave);
-    match after.next {
-        Next::Goes => {}
-        Next::Ends(reply) => {
-            *slot = None;
-            notes.push(Note::Ended(number, reply));
-        }
-        Next::Fails(refusal) => {
-            *slot = None;
-            notes.push(Note::Refused(number, refusal));
-        }
     }
+    slot.taken = run_piece::<C, B, D>(&mut slot.call, store, answer, disk, trace);
 }

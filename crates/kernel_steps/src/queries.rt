@@ -1,7 +1,8 @@
 //! What an event asks of a running kernel, and how a call joins the order.
 
-ghost use Rattle.std.specs.Prelude.{◌≡◌, ◌<◌, false, length, option_map, IfSome};
+ghost use Rattle.std.specs.Prelude.{◌≡◌, ◌<◌, false, [], length, option_map, IfSome};
 ghost use Rattle.kernel_model.specs.declared.Note.TheVariants.{InGraft};
+ghost use Rattle.kernel_model.specs.Bare.{note_with};
 ghost use Rattle.kernel_model.specs.Events.{in_order, wanted};
 ghost use Rattle.kernel_model.specs.Locks.{outermost_holding};
 ghost use Rattle.lock_table.specs.Numbers.{is_in_range};
@@ -17,7 +18,7 @@ use crate::waits::is_same_object;
 use call_pieces::{Calls, Needs};
 use graft_calls::GraftLevel;
 use graft_points::Policy;
-use kernel_model::{Mode, Need, Note, Object};
+use kernel_model::{BareNote, Mode, Need, Object};
 use lock_table::laws;
 use placed_laws::soundness;
 
@@ -51,10 +52,10 @@ fn wanted_in(needs: &[Need], object: Object) -> Mode
 }
 
 /// The note that a call of this number is in a graft, with so many levels.
-fn note_of(innermost: &GraftLevel, number: u32, count: u8) -> Note
-    ensures { result ≡ InGraft number innermost.now.owner innermost.now.point count }
+fn note_of(innermost: &GraftLevel, number: u32, count: u8) -> BareNote
+    ensures { note_with result [] ≡ InGraft number innermost.now.owner innermost.now.point count }
 {
-    Note::InGraft(number, innermost.owner, innermost.point, count)
+    BareNote::InGraft(number, innermost.owner, innermost.point, count)
 }
 
 impl<C: Calls, B: Policy> Running<C, B> {
@@ -104,10 +105,11 @@ impl<C: Calls, B: Policy> Running<C, B> {
     }
 
     /// The note that process p's call, of this number, is in a graft, if it is.
-    pub fn graft_note(&self, p: u8, number: u32) -> Option<Note>
+    pub fn graft_note(&self, p: u8, number: u32) -> Option<BareNote>
         requires process { p < 16 }
         requires running { IsRunning C.caller self.now }
-        ensures { result ≡ note_in_graft number ((placed_of C.stage self.now).levels p) }
+        ensures { option_map (λ n. note_with n []) result
+            ≡ note_in_graft number ((placed_of C.stage self.now).levels p) }
     {
         let chain = &flight(&self.calls, p).chain;
         match chain.levels.innermost() {
@@ -127,7 +129,7 @@ impl<C: Calls, B: Policy> Running<C, B> {
     {
         soundness::sound_in_place::<C::Meaning>();
         let flight = flight(&self.calls, p);
-        let Some(call) = &flight.call else {
+        let Some(call) = flight.call.get() else {
             return Mode::Shared;
         };
         if flight.chain.levels.count() == 0 {

@@ -1,24 +1,28 @@
 //! The running kernel: how it begins, and how calls begin and end.
 
-ghost use Rattle.std.specs.Prelude.{suc, false, ◌≡◌, ◌<◌, ◌≤◌, ◌-◌, ◌^◌, None, Some, [], ◌++◌, ◌∷◌, length, IfOk, replicate, slice_set, ℕ};
+ghost use Rattle.std.specs.Prelude.{suc, true, false, ◌≡◌, ◌<◌, ◌≤◌, ◌-◌, ◌^◌, None, [], ◌++◌, ◌∷◌, length, IfOk, replicate, slice_set, ℕ};
 ghost use Rattle.kernel_model.specs.Sound.{ImagesAreLoaded};
-ghost use Rattle.kernel_state.specs.Stores.{world_of_store, objects_of};
+ghost use Rattle.kernel_model.specs.Bare.{call_with, note_with};
+ghost use Rattle.kernel_model.specs.Policies.{lives};
+ghost use Rattle.kernel_state.specs.Stores.{world_of_store, objects_of, queue_of};
+ghost use Rattle.kernel_steps.specs.Begins.{CallBegins, FlightBegins};
 ghost use Rattle.graft_loader.specs.Slots.{table_of};
-ghost use Rattle.placed_laws.specs.Keeping.{first_placed};
-ghost use Rattle.placed_laws.specs.PlacedSteps.{is_placed_at_piece, placed_joins, placed_noted, placed_requeue, placed_ticked, with_placed_call};
+ghost use Rattle.placed_laws.specs.PlacedSteps.{is_placed_at_piece, placed_noted, placed_requeue, placed_ticked, with_placed_call};
 ghost use Rattle.kernel_steps.specs.Orders.{has_number, numbers_of};
-ghost use Rattle.kernel_steps.specs.Views.{placed_of, flight_of, chain_of, no_flight, IsRunning, IsQuiet, HasAbstraction, Simulates};
+ghost use Rattle.kernel_steps.specs.Views.{placed_of, flight_of, no_flight, IsRunning, IsQuiet, Simulates};
 ghost use Rattle.kernel_steps.specs.Refines.{SimulatesNoting};
 ghost use Rattle.kernel_model.specs.declared.Note.TheVariants.{Ticked};
 
 use crate::blocking::flight;
 use crate::notes::Notes;
 use crate::order::{Order, Waiting};
+use crate::slots::{Slot, begin_in};
+use arrayvec::ArrayVec;
 use call_pieces::Calls;
 use graft_calls::{Chain, Levels};
 use graft_loader::Images;
 use graft_points::Policy;
-use kernel_model::{NoMemory, Note, PROCESSES};
+use kernel_model::{BLOCK_BYTES, BareCall, BareNote, NoMemory, PROCESSES, Refusal};
 use kernel_state::Store;
 use lock_table::LockTable;
 use std::alloc::{AllocError, Global};
@@ -37,7 +41,7 @@ pub struct InFlight<W> {
 #[derive(Drop)]
 pub struct Flight<W> {
     /// Its call, if it has one.
-    pub call: Option<InFlight<W>>,
+    pub call: Slot<W>,
     /// The levels of its call, if that is in a graft.
     pub chain: Chain,
 }
@@ -58,11 +62,11 @@ pub struct Running<C: Calls, B: Policy> {
 }
 
 /// No call, and no level.
-fn no_flight<W>() -> Flight<W>
+fn no_flight<C: Calls>() -> Flight<C::Work>
     ensures { result ≡ no_flight }
 {
     Flight {
-        call: None,
+        call: Slot::empty(C::some_work()),
         chain: Chain {
             levels: Levels::new(),
             undo: UndoStack::new(),
@@ -71,23 +75,43 @@ fn no_flight<W>() -> Flight<W>
 }
 
 /// So many processes without a call.
-fn no_flights<W: Drop>(alloc: Global, count: usize) -> Result<Vec<Flight<W>>, AllocError>
+fn no_flights<C: Calls>(alloc: Global, count: usize) -> Result<Vec<Flight<C::Work>>, AllocError>
     ensures { IfOk result (λ v. v.items ≡ replicate count no_flight) }
 {
     let mut flights = Vec::with_capacity(alloc, count)?;
     for _ in 0..count {
-        flights.push(no_flight())?;
+        flights.push(no_flight::<C>())?;
     }
     Ok(flights)
 }
 
-/// A process has this call.
-fn set_call<W: Drop>(flights: &mut Vec<Flight<W>>, p: u8, call: Option<InFlight<W>>)
+/// A call of process p, which lives, begins in its place, unless it is refused at once.
+fn begin_call<C: Calls, B: Policy>(
+    flights: &mut Vec<Flight<C::Work>>,
+    store: &Store<B>,
+    images: &Images,
+    p: u8,
+    number: u32,
+    call: BareCall,
+    bytes: &ArrayVec<u8, BLOCK_BYTES>,
+) -> Result<(), Refusal>
+    requires process { p < length flights.old.items }
+    requires alive { lives (queue_of store.now) p ≡ true }
+    ensures { FlightBegins C.Meaning.meaning C.stage C.caller (world_of_store store.now)
+        (table_of images.now) p number (call_with call bytes.now.items) flights.old.items
+        flights.new.items result }
+{
+    let flight = &mut flights[p as usize];
+    begin_in::<C, B>(&mut flight.call, store, images, p, number, call, bytes)
+}
+
+/// A process has no call.
+fn end_call<W: Drop>(flights: &mut Vec<Flight<W>>, p: u8)
     requires { p < length flights.old.items }
     ensures { flights.new.items ≡ slice_set flights.old.items p
-        (record (flight_of flights.old.items p) { call = call }) }
+        (record (flight_of flights.old.items p) { call = None }) }
 {
-    flights[p as usize].call = call;
+    flights[p as usize].call.end();
 }
 
 impl<C: Calls, B: Policy> Running<C, B> {
@@ -106,7 +130,7 @@ impl<C: Calls, B: Policy> Running<C, B> {
         let Ok(locks) = LockTable::new(alloc) else {
             return Err(NoMemory);
         };
-        match no_flights(alloc, PROCESSES) {
+        match no_flights::<C>(alloc, PROCESSES) {
             Ok(calls) => Ok(Running {
                 store,
                 clock: 0,
@@ -119,31 +143,44 @@ impl<C: Calls, B: Policy> Running<C, B> {
         }
     }
 
-    /// A call of process p begins, which has none and doesn't wait: it joins the order.
-    pub fn begin(&mut self, p: u8, number: u32, work: C::Work)
+    /// A call of process p begins, which lives, has none and doesn't wait: it joins the order. Or it
+    /// is refused at once, and nothing changes.
+    pub fn begin(
+        &mut self,
+        p: u8,
+        number: u32,
+        call: BareCall,
+        bytes: &ArrayVec<u8, BLOCK_BYTES>,
+    ) -> Result<(), Refusal>
         requires process { p < 16 }
-        requires caller { C.caller work ≡ p }
+        requires alive { lives (queue_of self.old.store) p ≡ true }
+        requires none { (placed_of C.stage self.old).call p ≡ None }
         requires new { has_number p (numbers_of self.old.order) ≡ false }
         requires running { IsRunning C.caller self.old }
-        ensures value { Simulates (λ r. placed_joins p
-            (with_placed_call p (Some (first_placed number (C.stage work))) r))
-            (placed_of C.stage self.old) (placed_of C.stage self.new) }
-        ensures running { IsRunning C.caller self.new }
+        ensures { CallBegins C.Meaning.meaning C.stage C.caller p number
+            (call_with call bytes.now.items) self.old self.new result }
     {
-        set_call(&mut self.calls, p, Some(InFlight { number, work }));
-        self.order.push(Waiting::joined(p));
+        let calls = &mut self.calls;
+        match begin_call::<C, B>(calls, &self.store, &self.images, p, number, call, bytes) {
+            Err(refusal) => Err(refusal),
+            Ok(()) => {
+                self.order.push(Waiting::joined(p));
+                Ok(())
+            }
+        }
     }
 
     /// The call of process p ends with this note; it has no level.
-    pub fn end(&mut self, p: u8, note: Note, notes: &mut Notes)
+    pub fn end(&mut self, p: u8, note: BareNote, notes: &mut Notes)
         requires process { p < 16 }
         requires running { IsRunning C.caller self.old }
-        ensures value { SimulatesNoting (λ r. placed_requeue p (placed_noted note (with_placed_call p None r)))
+        ensures value { SimulatesNoting
+            (λ r. placed_requeue p (placed_noted (note_with note []) (with_placed_call p None r)))
             (placed_of C.stage self.old) (placed_of C.stage self.new)
-            (note ∷ []) notes.old notes.new }
+            (note_with note [] ∷ []) notes.old notes.new }
         ensures running { IsRunning C.caller self.new }
     {
-        set_call(&mut self.calls, p, None);
+        end_call(&mut self.calls, p);
         self.order.leave(p);
         notes.push(note);
     }
@@ -156,7 +193,7 @@ impl<C: Calls, B: Policy> Running<C, B> {
             result ≡ is_placed_at_piece (x.call p) (x.levels p) }
     {
         let flight = flight(&self.calls, p);
-        match &flight.call {
+        match flight.call.get() {
             Some(_) => flight.chain.levels.count() == 0,
             None => false,
         }
@@ -190,6 +227,6 @@ impl<C: Calls, B: Policy> Running<C, B> {
     {
         self.clock += 1;
         self.order.count_up();
-        notes.push(Note::Ticked(number, self.clock));
+        notes.push(BareNote::Ticked(number, self.clock));
     }
 }

@@ -14,10 +14,9 @@ ghost use Rattle.kernel_steps.specs.Grips.{IsHold, IsGrip};
 ghost use Rattle.kernel_steps.specs.Views.{placed_of, call_at, IsRunning, HasAbstraction};
 
 use crate::blocking::flight;
-use crate::notes::Notes;
 use crate::running::Running;
+use crate::trace::Trace;
 use call_pieces::Calls;
-use disk_log::DiskLog;
 use graft_calls::Needs;
 use graft_points::Policy;
 use kernel_model::Need;
@@ -86,8 +85,7 @@ impl<C: Calls, B: Policy> Running<C, B> {
         p: u8,
         needs: &[Need],
         disk: &mut D,
-        log: &mut DiskLog,
-        notes: &mut Notes,
+        trace: &mut Trace,
     ) -> bool
         requires process { p < 16 }
         requires call { is_some (call_at C.stage self.old p) ≡ true }
@@ -103,7 +101,7 @@ impl<C: Calls, B: Policy> Running<C, B> {
         ensures kept { result ≡ true → KeepsHolds C.Meaning.meaning (placed_of C.stage self.old)
             (placed_of C.stage self.new) p }
         ensures refines { Refines (placed_step C.Meaning.meaning p) (placed_of C.stage self.old)
-            (placed_of C.stage self.new) notes.old notes.new
+            (placed_of C.stage self.new) trace.old.notes trace.new.notes
             (disk_seen (D.blocks disk.old) (D.plan disk.old) (D.faults disk.old))
             (disk_seen (D.blocks disk.new) (D.plan disk.new) (D.faults disk.new)) }
         ensures running { IsRunning C.caller self.new }
@@ -114,7 +112,7 @@ impl<C: Calls, B: Policy> Running<C, B> {
     {
         let count = self.level_count(p);
         let before = grip_of(&self.locks, p, needs);
-        self.step(p, disk, log, notes);
+        self.step(p, disk, trace);
         let after = grip_of(&self.locks, p, needs);
         self.level_count(p) == count && is_same_grip(before, after)
     }

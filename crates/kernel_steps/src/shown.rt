@@ -87,7 +87,7 @@ impl<C: Calls, B: Policy> Running<C, B> {
         ensures { result ≡ placed_call_row (placed_of C.stage self.now) p }
     {
         let flight = flight(&self.calls, p);
-        let Some(call) = &flight.call else {
+        let Some(call) = flight.call.get() else {
             return None;
         };
         let waits = wait_row(self.order.entries(), p);

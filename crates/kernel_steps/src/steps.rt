@@ -2,6 +2,7 @@
 
 ghost use Rattle.std.specs.Prelude.{◌≡◌, ◌<◌, ℕ, true, [], Some, None, is_some, length, List, Option};
 ghost use Rattle.disk_log.specs.Seen.{disk_seen};
+ghost use Rattle.kernel_model.specs.Bare.{note_with};
 ghost use Rattle.kernel_model.specs.GraftStep.{micro};
 ghost use Rattle.kernel_model.specs.Laws.{IsReady};
 ghost use Rattle.kernel_model.specs.Levels.{drop_level as level_dropped};
@@ -9,7 +10,6 @@ ghost use Rattle.kernel_state.specs.Stores.{world_of_store, objects_of};
 ghost use Rattle.graft_loader.specs.Slots.{table_of};
 ghost use Rattle.placed_laws.specs.Placed.{PlacedCall, placed_blocker, placed_config};
 ghost use Rattle.placed_laws.specs.PlacedSteps.{placed_call_step, placed_drop, placed_noted, placed_outcome, placed_step};
-ghost use Rattle.kernel_model.specs.declared.Note.TheVariants.{Dropped};
 ghost use Rattle.call_pieces.specs.Works.{answer_seen};
 ghost use Rattle.kernel_steps.specs.declared.running.InFlight.{InFlight as Flying};
 ghost use Rattle.kernel_steps.specs.Refines.{Refines};
@@ -17,27 +17,19 @@ ghost use Rattle.kernel_steps.specs.Steps.{answer_said, answer_of_drop, after_dr
 ghost use Rattle.kernel_steps.specs.Views.{placed_of, flight_of, chain_of, call_at, IsRunning, HasAbstraction};
 
 use crate::blocking::{flight, number_of};
-use crate::notes::Notes;
 use crate::pieces::do_piece;
 use crate::running::Running;
+use crate::trace::Trace;
 use call_pieces::{Calls, Needs};
-use disk_log::DiskLog;
 use graft_points::Policy;
-use kernel_model::{Cause, Micro, Note};
+use kernel_model::{BareNote, Cause, Micro};
 use placed_laws::{agreeing, keeping, owners, soundness};
 use vino_base::Disk;
 
 impl<C: Calls, B: Policy> Running<C, B> {
     /// The piece of process p's call, which has no level, is done: with an answer to the point that
     /// it asks, or by default.
-    fn finish<D: Disk>(
-        &mut self,
-        p: u8,
-        answer: Option<[u32; 4]>,
-        disk: &mut D,
-        log: &mut DiskLog,
-        notes: &mut Notes,
-    )
+    fn finish<D: Disk>(&mut self, p: u8, answer: Option<[u32; 4]>, disk: &mut D, trace: &mut Trace)
         requires process { p < 16 }
         requires alone { StepsAlone C.caller self.old p }
         requires none { (chain_of self.old p).levels ≡ [] }
@@ -47,13 +39,13 @@ impl<C: Calls, B: Policy> Running<C, B> {
         requires disk { self.old.store.size ≡ D.block_count disk.old }
         ensures done { (c : PlacedCall) → call_at C.stage self.old p ≡ Some c →
             StepDone C.stage C.caller
-            (finishes C.Meaning.meaning p c answer) self.old self.new p notes.old notes.new
+            (finishes C.Meaning.meaning p c answer) self.old self.new p trace.old.notes trace.new.notes
             (disk_seen (D.blocks disk.old) (D.plan disk.old) (D.faults disk.old))
             (disk_seen (D.blocks disk.new) (D.plan disk.new) (D.faults disk.new)) }
         ensures same_size { D.block_count disk.new ≡ D.block_count disk.old }
     {
         let flight = &mut self.calls[p as usize];
-        do_piece::<C, B, D>(&mut flight.call, &mut self.store, answer, disk, log, notes);
+        do_piece::<C, B, D>(&mut flight.call, &mut self.store, answer, disk, trace);
     }
 
     /// Level d of process p's call was dropped, which is noted. With level 0 the default finishes
@@ -62,10 +54,9 @@ impl<C: Calls, B: Policy> Running<C, B> {
         &mut self,
         p: u8,
         d: u8,
-        note: Note,
+        note: BareNote,
         disk: &mut D,
-        log: &mut DiskLog,
-        notes: &mut Notes,
+        trace: &mut Trace,
     )
         requires process { p < 16 }
         requires alone { StepsAlone C.caller self.old p }
@@ -78,28 +69,21 @@ impl<C: Calls, B: Policy> Running<C, B> {
         requires disk { self.old.store.size ≡ D.block_count disk.old }
         ensures done { (c : PlacedCall) → call_at C.stage self.old p ≡ Some c →
             StepDone C.stage C.caller (λ r. after_drop C.Meaning.meaning p c d
-            (placed_noted note r)) self.old self.new p notes.old notes.new
+            (placed_noted (note_with note []) r)) self.old self.new p trace.old.notes trace.new.notes
             (disk_seen (D.blocks disk.old) (D.plan disk.old) (D.faults disk.old))
             (disk_seen (D.blocks disk.new) (D.plan disk.new) (D.faults disk.new)) }
         ensures same_size { D.block_count disk.new ≡ D.block_count disk.old }
     {
-        notes.push(note);
+        trace.notes.push(note);
         if d > 0 {
             return;
         }
-        self.finish(p, None, disk, log, notes);
+        self.finish(p, None, disk, trace);
     }
 
     /// What is left to do of a step of process p's call, once an instruction or the drop of a level
     /// said this.
-    fn follow<D: Disk>(
-        &mut self,
-        p: u8,
-        said: Micro,
-        disk: &mut D,
-        log: &mut DiskLog,
-        notes: &mut Notes,
-    )
+    fn follow<D: Disk>(&mut self, p: u8, said: Micro, disk: &mut D, trace: &mut Trace)
         requires process { p < 16 }
         requires alone { StepsAlone C.caller self.old p }
         requires none { (answer : Option (List ℕ)) → answer_said said ≡ Some answer →
@@ -111,25 +95,25 @@ impl<C: Calls, B: Policy> Running<C, B> {
         requires disk { self.old.store.size ≡ D.block_count disk.old }
         ensures done { (c : PlacedCall) → call_at C.stage self.old p ≡ Some c →
             StepDone C.stage C.caller
-            (after_said C.Meaning.meaning p c said) self.old self.new p notes.old notes.new
+            (after_said C.Meaning.meaning p c said) self.old self.new p trace.old.notes trace.new.notes
             (disk_seen (D.blocks disk.old) (D.plan disk.old) (D.faults disk.old))
             (disk_seen (D.blocks disk.new) (D.plan disk.new) (D.faults disk.new)) }
         ensures same_size { D.block_count disk.new ≡ D.block_count disk.old }
     {
         match said {
             Micro::Went | Micro::Blocked(..) => {}
-            Micro::Completed(answer) => self.finish(p, Some(answer), disk, log, notes),
+            Micro::Completed(answer) => self.finish(p, Some(answer), disk, trace),
             Micro::Dropped(d, q, pt, cause) => {
                 let Some(number) = number_of(&self.calls, p) else {
                     return;
                 };
-                self.follow_drop(p, d, Note::Dropped(number, q, pt, cause), disk, log, notes)
+                self.follow_drop(p, d, BareNote::Dropped(number, q, pt, cause), disk, trace)
             }
         }
     }
 
     /// One instruction of process p's call, which is in a graft, and what follows from it.
-    fn graft_step<D: Disk>(&mut self, p: u8, disk: &mut D, log: &mut DiskLog, notes: &mut Notes)
+    fn graft_step<D: Disk>(&mut self, p: u8, disk: &mut D, trace: &mut Trace)
         requires process { p < 16 }
         requires level { 0 < length (chain_of self.old p).levels }
         requires running { IsRunning C.caller self.old }
@@ -138,7 +122,7 @@ impl<C: Calls, B: Policy> Running<C, B> {
         ensures done { (c : PlacedCall) → call_at C.stage self.old p ≡ Some c →
             StepDone C.stage C.caller (λ r. placed_outcome C.Meaning.meaning p c
             (micro r.placed.world r.placed.images p (placed_config r.placed p)) r) self.old self.new
-            p notes.old notes.new
+            p trace.old.notes trace.new.notes
             (disk_seen (D.blocks disk.old) (D.plan disk.old) (D.faults disk.old))
             (disk_seen (D.blocks disk.new) (D.plan disk.new) (D.faults disk.new)) }
         ensures same_size { D.block_count disk.new ≡ D.block_count disk.old }
@@ -146,12 +130,12 @@ impl<C: Calls, B: Policy> Running<C, B> {
         soundness::ready_in_place::<C::Meaning>();
         owners::owners_stay();
         let said = self.instruct(p);
-        self.follow(p, said, disk, log, notes);
+        self.follow(p, said, disk, trace);
     }
 
     /// The next piece of process p's call, which is in no graft: where it asks a point at which a
     /// graft stands, the call enters that graft; else the piece is done by default.
-    fn piece_step<D: Disk>(&mut self, p: u8, disk: &mut D, log: &mut DiskLog, notes: &mut Notes)
+    fn piece_step<D: Disk>(&mut self, p: u8, disk: &mut D, trace: &mut Trace)
         requires process { p < 16 }
         requires none { (chain_of self.old p).levels ≡ [] }
         requires running { IsRunning C.caller self.old }
@@ -159,7 +143,7 @@ impl<C: Calls, B: Policy> Running<C, B> {
         requires disk { self.old.store.size ≡ D.block_count disk.old }
         ensures done { (c : PlacedCall) → call_at C.stage self.old p ≡ Some c →
             StepDone C.stage C.caller (λ r. placed_call_step C.Meaning.meaning p (Some c) r)
-            self.old self.new p notes.old notes.new
+            self.old self.new p trace.old.notes trace.new.notes
             (disk_seen (D.blocks disk.old) (D.plan disk.old) (D.faults disk.old))
             (disk_seen (D.blocks disk.new) (D.plan disk.new) (D.faults disk.new)) }
         ensures same_size { D.block_count disk.new ≡ D.block_count disk.old }
@@ -168,14 +152,14 @@ impl<C: Calls, B: Policy> Running<C, B> {
         soundness::ready_in_place::<C::Meaning>();
         owners::owners_stay();
         let flight = flight(&self.calls, p);
-        let Some(call) = &flight.call else {
+        let Some(call) = flight.call.get() else {
             return;
         };
         let Some(point) = C::asks(&call.work, &self.store) else {
-            return self.finish(p, None, disk, log, notes);
+            return self.finish(p, None, disk, trace);
         };
         if !self.store.has_graft(point.installer, point.point) {
-            return self.finish(p, None, disk, log, notes);
+            return self.finish(p, None, disk, trace);
         }
         let mut needs = Needs::new();
         C::need(&call.work, &self.store, &mut needs);
@@ -183,7 +167,7 @@ impl<C: Calls, B: Policy> Running<C, B> {
     }
 
     /// A step of process p's call, but for its place in the order.
-    fn step_call<D: Disk>(&mut self, p: u8, disk: &mut D, log: &mut DiskLog, notes: &mut Notes)
+    fn step_call<D: Disk>(&mut self, p: u8, disk: &mut D, trace: &mut Trace)
         requires process { p < 16 }
         requires call { is_some (call_at C.stage self.old p) ≡ true }
         requires running { IsRunning C.caller self.old }
@@ -191,21 +175,21 @@ impl<C: Calls, B: Policy> Running<C, B> {
         requires disk { self.old.store.size ≡ D.block_count disk.old }
         ensures done { StepDone C.stage C.caller
             (placed_call_step C.Meaning.meaning p (call_at C.stage self.old p)) self.old self.new p
-            notes.old notes.new
+            trace.old.notes trace.new.notes
             (disk_seen (D.blocks disk.old) (D.plan disk.old) (D.faults disk.old))
             (disk_seen (D.blocks disk.new) (D.plan disk.new) (D.faults disk.new)) }
         ensures same_size { D.block_count disk.new ≡ D.block_count disk.old }
     {
         if flight(&self.calls, p).chain.levels.count() == 0 {
-            return self.piece_step(p, disk, log, notes);
+            return self.piece_step(p, disk, trace);
         }
-        self.graft_step(p, disk, log, notes);
+        self.graft_step(p, disk, trace);
     }
 
     /// One step of process p's call, which nothing blocks: its next piece, or an instruction of its
     /// innermost level, with all that this ends. The call stands in the order, at its end, exactly
     /// where its next step is a piece. The log is for the calls of the disk of one piece.
-    pub fn step<D: Disk>(&mut self, p: u8, disk: &mut D, log: &mut DiskLog, notes: &mut Notes)
+    pub fn step<D: Disk>(&mut self, p: u8, disk: &mut D, trace: &mut Trace)
         requires process { p < 16 }
         requires call { is_some (call_at C.stage self.old p) ≡ true }
         requires free { placed_blocker C.Meaning.meaning (placed_of C.stage self.old) p ≡ None }
@@ -213,7 +197,7 @@ impl<C: Calls, B: Policy> Running<C, B> {
         requires abstraction { HasAbstraction C.Meaning.meaning (placed_of C.stage self.old) }
         requires disk { self.old.store.size ≡ D.block_count disk.old }
         ensures refines { Refines (placed_step C.Meaning.meaning p) (placed_of C.stage self.old)
-            (placed_of C.stage self.new) notes.old notes.new
+            (placed_of C.stage self.new) trace.old.notes trace.new.notes
             (disk_seen (D.blocks disk.old) (D.plan disk.old) (D.faults disk.old))
             (disk_seen (D.blocks disk.new) (D.plan disk.new) (D.faults disk.new)) }
         ensures running { IsRunning C.caller self.new }
@@ -225,20 +209,12 @@ impl<C: Calls, B: Policy> Running<C, B> {
         soundness::sound_in_place::<C::Meaning>();
         keeping::steps_stand::<C::Meaning>();
         keeping::held_stays::<C::Meaning>();
-        self.step_call(p, disk, log, notes);
+        self.step_call(p, disk, trace);
         self.requeue(p);
     }
 
     /// The drop of level d of process p's call, but for the call's place in the order.
-    fn drop_call<D: Disk>(
-        &mut self,
-        p: u8,
-        d: u8,
-        cause: Cause,
-        disk: &mut D,
-        log: &mut DiskLog,
-        notes: &mut Notes,
-    )
+    fn drop_call<D: Disk>(&mut self, p: u8, d: u8, cause: Cause, disk: &mut D, trace: &mut Trace)
         requires process { p < 16 }
         requires level { d < length (chain_of self.old p).levels }
         requires running { IsRunning C.caller self.old }
@@ -247,7 +223,7 @@ impl<C: Calls, B: Policy> Running<C, B> {
         ensures done { (c : PlacedCall) → call_at C.stage self.old p ≡ Some c →
             StepDone C.stage C.caller (λ r. placed_outcome C.Meaning.meaning p c
             (level_dropped r.placed.world r.placed.objects
-            (placed_config r.placed p).levels d cause) r) self.old self.new p notes.old notes.new
+            (placed_config r.placed p).levels d cause) r) self.old self.new p trace.old.notes trace.new.notes
             (disk_seen (D.blocks disk.old) (D.plan disk.old) (D.faults disk.old))
             (disk_seen (D.blocks disk.new) (D.plan disk.new) (D.faults disk.new)) }
         ensures same_size { D.block_count disk.new ≡ D.block_count disk.old }
@@ -255,7 +231,7 @@ impl<C: Calls, B: Policy> Running<C, B> {
         soundness::ready_in_place::<C::Meaning>();
         owners::owners_stay();
         let said = self.fall(p, d, cause);
-        self.follow(p, said, disk, log, notes);
+        self.follow(p, said, disk, trace);
     }
 
     /// Level d of process p's call is dropped, counted from the outermost, with all that this ends:
@@ -267,8 +243,7 @@ impl<C: Calls, B: Policy> Running<C, B> {
         d: u8,
         cause: Cause,
         disk: &mut D,
-        log: &mut DiskLog,
-        notes: &mut Notes,
+        trace: &mut Trace,
     )
         requires process { p < 16 }
         requires level { d < length (chain_of self.old p).levels }
@@ -276,7 +251,7 @@ impl<C: Calls, B: Policy> Running<C, B> {
         requires abstraction { HasAbstraction C.Meaning.meaning (placed_of C.stage self.old) }
         requires disk { self.old.store.size ≡ D.block_count disk.old }
         ensures refines { Refines (placed_drop C.Meaning.meaning p d cause) (placed_of C.stage self.old)
-            (placed_of C.stage self.new) notes.old notes.new
+            (placed_of C.stage self.new) trace.old.notes trace.new.notes
             (disk_seen (D.blocks disk.old) (D.plan disk.old) (D.faults disk.old))
             (disk_seen (D.blocks disk.new) (D.plan disk.new) (D.faults disk.new)) }
         ensures running { IsRunning C.caller self.new }
@@ -289,7 +264,7 @@ impl<C: Calls, B: Policy> Running<C, B> {
         soundness::sound_in_place::<C::Meaning>();
         keeping::drops_stand::<C::Meaning>();
         keeping::held_stays::<C::Meaning>();
-        self.drop_call(p, d, cause, disk, log, notes);
+        self.drop_call(p, d, cause, disk, trace);
         self.requeue(p);
     }
 }

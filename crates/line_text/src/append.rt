@@ -1,6 +1,6 @@
 //! Bytes, numbers and hex digits are put behind a text. Each function says how much room it needs.
 
-ghost use Rattle.std.specs.Prelude.{◌≡◌, ◌≤◌, ◌+◌, ◌*◌, ◌∷◌, ◌++◌, length, decimal, take, flat_map};
+ghost use Rattle.std.specs.Prelude.{◌≡◌, ◌<◌, ◌≤◌, ◌+◌, ◌*◌, ◌∷◌, ◌++◌, length, decimal, take, flat_map};
 ghost use Rattle.kernel_model.specs.Bytes.{hex_text};
 ghost use Rattle.kernel_model.specs.Text.{spaced, after_colon, all_spaced, data_text};
 
@@ -54,12 +54,25 @@ fn number_u64(out: &mut Buffer, n: u64)
     add(out, digits.format(n).as_bytes());
 }
 
+/// A byte and a digit.
+fn digit(out: &mut Buffer, before: u8, n: u8)
+    requires room { length out.old.items + 2 ≤ 2048 }
+    requires digit { n < 10 }
+    ensures text { out.new.items ≡ out.old.items ++ before ∷ decimal n }
+    ensures len { length out.new.items ≤ length out.old.items + 2 }
+{
+    add(out, [before, b'0' + n].as_slice());
+}
+
 /// A space and a number.
 pub(crate) fn spaced_u8(out: &mut Buffer, n: u8)
     requires { length out.old.items + 4 ≤ 2048 }
     ensures text { out.new.items ≡ out.old.items ++ spaced n }
     ensures len { length out.new.items ≤ length out.old.items + 4 }
 {
+    if n < 10 {
+        return digit(out, b' ', n);
+    }
     add(out, b" ".as_slice());
     number_u8(out, n);
 }
@@ -70,6 +83,9 @@ pub(crate) fn spaced_u32(out: &mut Buffer, n: u32)
     ensures text { out.new.items ≡ out.old.items ++ spaced n }
     ensures len { length out.new.items ≤ length out.old.items + 11 }
 {
+    if n < 10 {
+        return digit(out, b' ', n as u8);
+    }
     add(out, b" ".as_slice());
     number_u32(out, n);
 }
@@ -80,6 +96,9 @@ pub(crate) fn spaced_u64(out: &mut Buffer, n: u64)
     ensures text { out.new.items ≡ out.old.items ++ spaced n }
     ensures len { length out.new.items ≤ length out.old.items + 21 }
 {
+    if n < 10 {
+        return digit(out, b' ', n as u8);
+    }
     add(out, b" ".as_slice());
     number_u64(out, n);
 }
@@ -90,6 +109,9 @@ pub(crate) fn colon_u8(out: &mut Buffer, n: u8)
     ensures text { out.new.items ≡ out.old.items ++ after_colon n }
     ensures len { length out.new.items ≤ length out.old.items + 4 }
 {
+    if n < 10 {
+        return digit(out, b':', n);
+    }
     add(out, b":".as_slice());
     number_u8(out, n);
 }
@@ -100,6 +122,9 @@ pub(crate) fn colon_u32(out: &mut Buffer, n: u32)
     ensures text { out.new.items ≡ out.old.items ++ after_colon n }
     ensures len { length out.new.items ≤ length out.old.items + 11 }
 {
+    if n < 10 {
+        return digit(out, b':', n as u8);
+    }
     add(out, b":".as_slice());
     number_u32(out, n);
 }

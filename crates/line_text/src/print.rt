@@ -1,11 +1,12 @@
 //! `print_note`: the line of a note.
 
 ghost use Rattle.std.specs.Prelude.{◌≡◌, ◌≤◌, ◌<◌, ◌+◌, [], ◌++◌, length};
+ghost use Rattle.kernel_model.specs.Bare.{note_with};
 ghost use Rattle.kernel_model.specs.Text.{spaced, pair_text, single_text, object_text, reply_text, refusal_text, cause_text, note_text, line};
 
 use crate::append::{Buffer, add, data, number_u8, number_u32, spaced_u8, spaced_u32, spaced_u64};
 use crate::text::Text;
-use kernel_model::{Cause, Note, Object, Refusal, Reply};
+use kernel_model::{BareNote, Cause, Object, Refusal, Reply};
 
 /// Two numbers in parentheses.
 fn pair(out: &mut Buffer, a: u8, b: u8)
@@ -163,66 +164,68 @@ fn cause(out: &mut Buffer, c: Cause)
 }
 
 /// The text of a note, without its newline.
-fn note_bytes(note: &Note, out: &mut Buffer)
-    requires { out.old.items ≡ [] }
-    ensures text { out.new.items ≡ note_text note.now }
+fn note_bytes(note: BareNote, bytes: &[u8], out: &mut Buffer)
+    requires empty { out.old.items ≡ [] }
+    requires block { length bytes.now ≤ 512 }
+    ensures text { out.new.items ≡ note_text (note_with note bytes.now) }
     ensures len { length out.new.items < 2048 }
 {
     match note {
-        Note::Ticked(n, clock) => {
-            number_u32(out, *n);
+        BareNote::Ticked(n, clock) => {
+            number_u32(out, n);
             add(out, b" tick".as_slice());
-            spaced_u32(out, *clock)
+            spaced_u32(out, clock)
         }
-        Note::Ended(m, r) => {
-            number_u32(out, *m);
+        BareNote::Ended(m, r) => {
+            number_u32(out, m);
             add(out, b" ok".as_slice());
-            reply(out, *r)
+            reply(out, r)
         }
-        Note::Refused(m, r) => {
-            number_u32(out, *m);
+        BareNote::Refused(m, r) => {
+            number_u32(out, m);
             add(out, b" ".as_slice());
-            refusal(out, *r)
+            refusal(out, r)
         }
-        Note::Gave(m, bytes) => {
-            number_u32(out, *m);
+        BareNote::Gave(m, _) => {
+            number_u32(out, m);
             add(out, b" data".as_slice());
-            data(out, bytes.as_slice())
+            data(out, bytes)
         }
-        Note::Dropped(m, q, pt, c) => {
-            number_u32(out, *m);
+        BareNote::Dropped(m, q, pt, c) => {
+            number_u32(out, m);
             add(out, b" drop".as_slice());
-            spaced_u8(out, *q);
-            spaced_u8(out, *pt);
+            spaced_u8(out, q);
+            spaced_u8(out, pt);
             add(out, b" ".as_slice());
-            cause(out, *c)
+            cause(out, c)
         }
-        Note::Ran(n, taken) => {
-            number_u32(out, *n);
+        BareNote::Ran(n, taken) => {
+            number_u32(out, n);
             add(out, b" ran".as_slice());
-            spaced_u32(out, *taken)
+            spaced_u32(out, taken)
         }
-        Note::Waits(m, o, holder) => {
-            number_u32(out, *m);
+        BareNote::Waits(m, o, holder) => {
+            number_u32(out, m);
             add(out, b" waits ".as_slice());
-            object(out, *o);
-            spaced_u8(out, *holder)
+            object(out, o);
+            spaced_u8(out, holder)
         }
-        Note::InGraft(m, q, pt, depth) => {
-            number_u32(out, *m);
+        BareNote::InGraft(m, q, pt, depth) => {
+            number_u32(out, m);
             add(out, b" graft".as_slice());
-            spaced_u8(out, *q);
-            spaced_u8(out, *pt);
-            spaced_u8(out, *depth)
+            spaced_u8(out, q);
+            spaced_u8(out, pt);
+            spaced_u8(out, depth)
         }
     }
 }
 
-/// `out` becomes the line of a note, with its newline.
-pub fn print_note(note: &Note, out: &mut Text)
-    ensures { out.new ≡ line (note_text note.now) }
+/// `out` becomes the line of a note with the bytes that it gives, with its newline.
+pub fn print_note(note: BareNote, bytes: &[u8], out: &mut Text)
+    requires block { length bytes.now ≤ 512 }
+    ensures { out.new ≡ line (note_text (note_with note bytes.now)) }
 {
     out.bytes.clear();
-    note_bytes(note, &mut out.bytes);
+    note_bytes(note, bytes, &mut out.bytes);
     add(&mut out.bytes, b"\n".as_slice());
 }

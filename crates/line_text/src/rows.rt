@@ -1,7 +1,8 @@
-//! `print_row`: the line of a raw row.
+//! `print_row` and `print_lent`: the line of a raw row.
 
 ghost use Rattle.std.specs.Prelude.{◌≡◌, ◌≤◌, ◌<◌, ◌+◌, ◌*◌, ◌++◌, length, codes, decimal, flat_map, Option};
 ghost use Rattle.kernel_model.specs.Text.{spaced, bit, queue_text, frame_text, param_text, wait_text, top_text, inverse_text, open_text, row_text, line};
+ghost use Rattle.line_text.specs.Rows.{row_lent, FitsLine};
 
 use crate::append::{
     Buffer, add, all_u32, all_u64, colon_u8, colon_u32, number_u32, spaced_u8, spaced_u32,
@@ -9,6 +10,24 @@ use crate::append::{
 use crate::print::object;
 use crate::text::Text;
 use kernel_model::{FrameRow, Inverse, OpenRow, QueueRow, RawRow, TopRow, WaitRow};
+
+/// A row of a kernel's whole state whose lists and amounts stand elsewhere, so that it is small.
+/// Contracts see it by `row_lent` as the row.
+#[derive(Clone, Copy)]
+pub enum LentRow<'a> {
+    Clock(u32),
+    Queue(&'a [QueueRow]),
+    Acct(u8, &'a [u64; 6]),
+    Cells(u8, &'a [u32; 4]),
+    OpenFile(u8, u8, &'a [u8], OpenRow),
+    Graft(u8, u8, u8, u32, bool, &'a [u64; 3]),
+    Pol(u8, u8, Option<u32>),
+    Lru(&'a [FrameRow]),
+    Lock(u8, u8),
+    Call(u8, u32, Option<WaitRow>, Option<TopRow>),
+    Level(u8, u8, u8, u8, u32),
+    Undo(u8, u8, Inverse),
+}
 
 /// 1 or 0.
 fn bit_of(b: bool) -> u8
@@ -161,90 +180,122 @@ fn inverse(out: &mut Buffer, i: Inverse)
 }
 
 /// The text of a row, without the number of its event.
-fn row_bytes(row: &RawRow, out: &mut Buffer)
-    requires { length out.old.items ≤ 15 }
-    ensures text { out.new.items ≡ out.old.items ++ row_text row.now }
+fn row_bytes(row: &LentRow, out: &mut Buffer)
+    requires room { length out.old.items ≤ 15 }
+    requires lists { FitsLine row.now }
+    ensures text { out.new.items ≡ out.old.items ++ row_text (row_lent row.now) }
     ensures len { length out.new.items < 2048 }
 {
-    match row {
-        RawRow::Clock(t) => {
+    match *row {
+        LentRow::Clock(t) => {
             add(out, b"clock".as_slice());
-            spaced_u32(out, *t)
+            spaced_u32(out, t)
         }
-        RawRow::Queue(rows) => {
+        LentRow::Queue(rows) => {
             add(out, b"queue".as_slice());
-            queue_rows(out, rows.as_slice())
+            queue_rows(out, rows)
         }
-        RawRow::Acct(p, amounts) => {
+        LentRow::Acct(p, amounts) => {
             add(out, b"acct".as_slice());
-            spaced_u8(out, *p);
+            spaced_u8(out, p);
             all_u64(out, amounts)
         }
-        RawRow::Cells(p, cells) => {
+        LentRow::Cells(p, cells) => {
             add(out, b"cells".as_slice());
-            spaced_u8(out, *p);
+            spaced_u8(out, p);
             all_u32(out, cells)
         }
-        RawRow::OpenFile(p, fd, name, o) => {
+        LentRow::OpenFile(p, fd, name, o) => {
             add(out, b"open".as_slice());
-            spaced_u8(out, *p);
-            spaced_u8(out, *fd);
+            spaced_u8(out, p);
+            spaced_u8(out, fd);
             add(out, b" ".as_slice());
-            add(out, name.as_slice());
-            open_file(out, *o)
+            add(out, name);
+            open_file(out, o)
         }
-        RawRow::Graft(q, pt, image, limit, billed, amounts) => {
+        LentRow::Graft(q, pt, image, limit, billed, amounts) => {
             add(out, b"graft".as_slice());
-            spaced_u8(out, *q);
-            spaced_u8(out, *pt);
-            spaced_u8(out, *image);
-            spaced_u32(out, *limit);
-            spaced_u8(out, bit_of(*billed));
+            spaced_u8(out, q);
+            spaced_u8(out, pt);
+            spaced_u8(out, image);
+            spaced_u32(out, limit);
+            spaced_u8(out, bit_of(billed));
             all_u64(out, amounts)
         }
-        RawRow::Pol(kind, j, v) => {
+        LentRow::Pol(kind, j, v) => {
             add(out, b"pol".as_slice());
-            spaced_u8(out, *kind);
-            spaced_u8(out, *j);
-            param(out, *v)
+            spaced_u8(out, kind);
+            spaced_u8(out, j);
+            param(out, v)
         }
-        RawRow::Lru(rows) => {
+        LentRow::Lru(rows) => {
             add(out, b"lru".as_slice());
-            frame_rows(out, rows.as_slice())
+            frame_rows(out, rows)
         }
-        RawRow::Lock(u, p) => {
+        LentRow::Lock(u, p) => {
             add(out, b"lock".as_slice());
-            spaced_u8(out, *u);
-            spaced_u8(out, *p)
+            spaced_u8(out, u);
+            spaced_u8(out, p)
         }
-        RawRow::Call(p, m, w, t) => {
+        LentRow::Call(p, m, w, t) => {
             add(out, b"call".as_slice());
-            spaced_u8(out, *p);
-            spaced_u32(out, *m);
-            wait(out, *w);
-            top(out, *t)
+            spaced_u8(out, p);
+            spaced_u32(out, m);
+            wait(out, w);
+            top(out, t)
         }
-        RawRow::Level(p, d, q, pt, taken) => {
+        LentRow::Level(p, d, q, pt, taken) => {
             add(out, b"level".as_slice());
-            spaced_u8(out, *p);
-            spaced_u8(out, *d);
-            spaced_u8(out, *q);
-            spaced_u8(out, *pt);
-            spaced_u32(out, *taken)
+            spaced_u8(out, p);
+            spaced_u8(out, d);
+            spaced_u8(out, q);
+            spaced_u8(out, pt);
+            spaced_u32(out, taken)
         }
-        RawRow::Undo(p, d, i) => {
+        LentRow::Undo(p, d, i) => {
             add(out, b"undo".as_slice());
-            spaced_u8(out, *p);
-            spaced_u8(out, *d);
+            spaced_u8(out, p);
+            spaced_u8(out, d);
             add(out, b" ".as_slice());
-            inverse(out, *i)
+            inverse(out, i)
         }
+    }
+}
+
+/// A row, lent.
+fn lent(row: &RawRow) -> LentRow<'_>
+    ensures value { row_lent result ≡ row.now }
+    ensures lists { FitsLine result }
+{
+    match row {
+        RawRow::Clock(t) => LentRow::Clock(*t),
+        RawRow::Queue(rows) => LentRow::Queue(rows.as_slice()),
+        RawRow::Acct(p, amounts) => LentRow::Acct(*p, amounts),
+        RawRow::Cells(p, cells) => LentRow::Cells(*p, cells),
+        RawRow::OpenFile(p, fd, name, o) => LentRow::OpenFile(*p, *fd, name.as_slice(), *o),
+        RawRow::Graft(q, pt, image, limit, billed, amounts) => {
+            LentRow::Graft(*q, *pt, *image, *limit, *billed, amounts)
+        }
+        RawRow::Pol(kind, j, v) => LentRow::Pol(*kind, *j, *v),
+        RawRow::Lru(rows) => LentRow::Lru(rows.as_slice()),
+        RawRow::Lock(u, p) => LentRow::Lock(*u, *p),
+        RawRow::Call(p, m, w, t) => LentRow::Call(*p, *m, *w, *t),
+        RawRow::Level(p, d, q, pt, taken) => LentRow::Level(*p, *d, *q, *pt, *taken),
+        RawRow::Undo(p, d, i) => LentRow::Undo(*p, *d, *i),
     }
 }
 
 /// `out` becomes the line of a raw row, for event n, with its newline.
 pub fn print_row(n: u32, row: &RawRow, out: &mut Text)
     ensures { out.new ≡ line (decimal n ++ codes " raw " ++ row_text row.now) }
+{
+    print_lent(n, &lent(row), out);
+}
+
+/// `out` becomes the line of a raw row that is lent, for event n, with its newline.
+pub fn print_lent(n: u32, row: &LentRow, out: &mut Text)
+    requires { FitsLine row.now }
+    ensures { out.new ≡ line (decimal n ++ codes " raw " ++ row_text (row_lent row.now)) }
 {
     out.bytes.clear();
     number_u32(&mut out.bytes, n);

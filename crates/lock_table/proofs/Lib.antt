@@ -4,3 +4,4 @@ mod Used
 mod NotedLemmas
 mod Places
 mod Views
+mod Ends

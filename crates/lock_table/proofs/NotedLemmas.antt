@@ -247,3 +247,12 @@ ends f old new numbers k le free noted c n e = go (is_used (holds_at old n)) ref
         let none : times n numbers ≡ 0 = noted.once n ∙ ap (λ (b : Bool). cond b 1 0) h in
         let nothing = free_levels (holds_at old n) h in
         ap (λ (x : Holds). held_by x e) (c.rest n (rw all none)) ∙ nothing e ∙ sym (free (levels_at old n) nothing e)
+
+-- where nothing is noted nothing is held
+pub none_noted : (masks : List Holds) (numbers : List ℕ) → IsNoted masks numbers → length numbers ≡ 0 → (n e : ℕ) → levels_at masks n e ≡ Held.Free
+none_noted masks [] noted empty n e = free_levels (holds_at masks n) (free (is_used (holds_at masks n)) (noted.once n)) e
+  where
+    free : (b : Bool) → ◌≡◌ {A = ℕ} 0 (cond b 1 0) → b ≡ false
+    free true h = absurd (omega (arith, h))
+    free false h = refl
+none_noted masks (x ∷ xs) noted empty n e = absurd (omega (arith, empty))

@@ -76,10 +76,13 @@ search_finds f q lt h c =
     let one : 16 - q ≡ suc (16 - (q + 1)) = omega (arith, lt) in
     sym (here f (16 - (q + 1)) q h) ∙ ap (λ n. find f (from_on n q)) (sym one) ∙ c.rest
 
-pub search_ends : (f : ℕ → Bool) (q : ℕ) → 16 ≤ q → HasCome f q → None ≡ find f processes
-search_ends f q le c =
-    let no : 16 - q ≡ 0 = omega (arith, le) in
-    ap (λ n. find f (from_on n q)) (sym no) ∙ c.rest
+-- none from here on is found
+pub search_ends_at : (f : ℕ → Bool) (q : ℕ) → ((k : ℕ) → q ≤ k → f k ≡ false) → HasCome f q → None ≡ find f processes
+search_ends_at f q none c = sym (go (16 - q) q none) ∙ c.rest
+  where
+    go : (n k : ℕ) → ((j : ℕ) → k ≤ j → f j ≡ false) → find f (from_on n k) ≡ None
+    go zero k past = refl
+    go (suc n) k past = rw (past k (omega arith)) (go n (k + 1) (λ j le. past j (omega (arith, le))))
 
 -- another process that hinders, and a process that is passed by
 pub found : (q p : ℕ) (b : Bool) → q ≢ p → b ≡ true → (not (q == p) && b) ≡ true

@@ -25,10 +25,10 @@ nothing calls free = fun_ext (λ p. fun_ext (λ e. fun_ext (λ o. rw (free p (nu
     go false = refl
 
 -- the masks of the other processes stay
-others : (calls : List (List Holds)) (p q : ℕ) (masks : List Holds) → (q == p) ≡ false → masks_of (set calls p masks) q ≡ masks_of calls q
+pub others : (calls : List (List Holds)) (p q : ℕ) (masks : List Holds) → (q == p) ≡ false → masks_of (set calls p masks) q ≡ masks_of calls q
 others calls p q masks h = get_or-set_other calls p q masks [] (λ (same : q ≡ p). grind (arith, nat_tests, h, same))
 
-its_own : (calls : List (List Holds)) (p q : ℕ) (masks : List Holds) → p < length calls → (q == p) ≡ true → masks_of (set calls p masks) q ≡ masks
+pub its_own : (calls : List (List Holds)) (p q : ℕ) (masks : List Holds) → p < length calls → (q == p) ≡ true → masks_of (set calls p masks) q ≡ masks
 its_own calls p q masks lt h = let same : q ≡ p = grind (arith, nat_tests, h) in rw same (get_or-set_same calls p masks [] lt)
 
 -- one level's part of a process changes

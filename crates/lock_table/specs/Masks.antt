@@ -1,5 +1,5 @@
 -- The table of holds as masks, and what each level of each process holds by them.
-use Rattle.std.specs.Prelude.{ℕ, ◌-◌, Bool, cond, not, ◌&&◌, ◌||◌, ◌==◌, nat_lt, nat_le, List, [], ◌∷◌, slice_index_or, Option, find, is_some}
+use Rattle.std.specs.Prelude.{◌≡◌, ◌≤◌, ℕ, ◌-◌, Bool, cond, not, ◌&&◌, ◌||◌, ◌==◌, nat_lt, nat_le, List, [], ◌∷◌, slice_index_or, Option, find, is_some}
 use Rattle.std.specs.Int.{bit_at}
 use Rattle.kernel_model.specs.declared.Held.{Held}
 use Rattle.kernel_model.specs.declared.Mode.{Mode}
@@ -62,3 +62,7 @@ conflicting_level masks n mode =
 abbrev pub is_other_hindering : List (List Holds) → (p n : ℕ) → Mode → ℕ → Bool
 is_other_hindering calls p n mode q =
     not (q == p) && is_some (conflicting_level (masks_of calls q) n mode)
+
+-- from process p on, the calls of the processes hold nothing
+pub record IsFreeFrom (p : ℕ) (calls : List (List Holds)) : Type 0 where
+  pub free : (q n e : ℕ) → p ≤ q → levels_at (masks_of calls q) n e ≡ Held.Free

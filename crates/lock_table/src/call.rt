@@ -1,6 +1,6 @@
 //! `CallHolds`.
 
-ghost use Rattle.std.specs.Prelude.{◌≡◌, ℕ, ◌<◌, ◌&&◌, ◌==◌, cond, length, IfOk};
+ghost use Rattle.std.specs.Prelude.{◌≡◌, ℕ, ◌<◌, ◌&&◌, ◌==◌, cond, length, IfOk, IsTrue};
 ghost use Rattle.kernel_model.specs.Locks.{held_as, stronger};
 ghost use Rattle.kernel_model.specs.declared.Held.TheVariants.{Free};
 
@@ -48,6 +48,13 @@ impl CallHolds {
             masks,
             numbers: ArrayVec::new(),
         })
+    }
+
+    /// Whether nothing is held.
+    pub(crate) fn is_free(&self) -> bool
+        ensures { IsTrue result → (n e : ℕ) → levels_at self.now n e ≡ Free }
+    {
+        self.numbers.is_empty()
     }
 
     /// The levels that hold an object.

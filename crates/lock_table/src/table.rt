@@ -1,11 +1,11 @@
 //! `LockTable`.
 
-ghost use Rattle.std.specs.Prelude.{◌≡◌, ℕ, ◌<◌, length, find, is_some, IfOk};
+ghost use Rattle.std.specs.Prelude.{◌≡◌, ℕ, ◌<◌, ◌≤◌, length, find, is_some, IfOk};
 ghost use Rattle.kernel_model.specs.World.{processes};
 ghost use Rattle.kernel_model.specs.Laws.{IsInRange};
 ghost use Rattle.kernel_model.specs.Locks.{is_held, no_locks, lowest_holder, outermost_holding, with_touch, merge_level as level_merged, release_from as released_inward};
 ghost use Rattle.kernel_model.specs.declared.Held.TheVariants.{Free};
-ghost use Rattle.lock_table.specs.Masks.{conflicting_level, held_by, is_other_hindering, levels_at, masks_of};
+ghost use Rattle.lock_table.specs.Masks.{conflicting_level, held_by, is_other_hindering, levels_at, masks_of, IsFreeFrom};
 
 use crate::Holds;
 use crate::call::CallHolds;
@@ -22,17 +22,20 @@ use std::marker::Model;
 #[derive(Drop)]
 pub struct LockTable {
     calls: Vec<CallHolds>,
+    /// Only the calls of the processes below this one hold something, so no other is looked at.
+    end: u8,
 }
 
 impl Model for LockTable {
-    ghost use Rattle.std.specs.Prelude.{◌≡◌, List, length};
+    ghost use Rattle.std.specs.Prelude.{◌≡◌, ◌≤◌, List, length};
     ghost use Rattle.lock_table.specs.declared.Holds.{Holds};
+    ghost use Rattle.lock_table.specs.Masks.{IsFreeFrom};
 
     ghost Value = { List (List Holds) };
 
     ghost view = { λ t. t.calls.items };
 
-    ghost invariant = { λ t. length t.calls.items ≡ 16 };
+    ghost invariant = { λ t. (length t.calls.items ≡ 16) × (t.end ≤ 16) × IsFreeFrom t.end t.calls.items };
 }
 
 /// So many calls that hold nothing.
@@ -56,18 +59,35 @@ fn hinders(calls: &[CallHolds], q: u8, number: u16, mode: Mode) -> bool
     calls[q as usize].level_of(number, mode).is_some()
 }
 
-/// The lowest process but one of which some level hinders.
-fn lowest_other(calls: &[CallHolds], p: u8, number: u16, mode: Mode) -> Option<u8>
+/// The lowest process but one of which some level hinders, where those from `end` on hold nothing.
+fn lowest_other(calls: &[CallHolds], end: u8, p: u8, number: u16, mode: Mode) -> Option<u8>
     requires size { length calls.now ≡ 16 }
+    requires end { end ≤ 16 }
+    requires free { IsFreeFrom end calls.now }
     requires number { number < 421 }
     ensures { result ≡ find (is_other_hindering calls.now p number mode) processes }
 {
-    for q in 0..PROCESSES as u8 {
+    for q in 0..end {
         if q != p && hinders(calls, q, number, mode) {
             return Some(q);
         }
     }
     None
+}
+
+/// The end of the processes that hold something, of which none from `end` on does.
+fn end_of(calls: &[CallHolds], end: u8) -> u8
+    requires size { length calls.now ≡ 16 }
+    requires end { end ≤ 16 }
+    requires free { IsFreeFrom end calls.now }
+    ensures less { result ≤ end }
+    ensures free { IsFreeFrom result calls.now }
+{
+    let mut least = end;
+    while least > 0 && calls[least as usize - 1].is_free() {
+        least -= 1;
+    }
+    least
 }
 
 impl LockTable {
@@ -78,18 +98,18 @@ impl LockTable {
         ensures { IfOk result (λ t. held t ≡ no_locks) }
     {
         match no_calls(alloc, PROCESSES) {
-            Ok(calls) => Ok(LockTable { calls }),
+            Ok(calls) => Ok(LockTable { calls, end: 0 }),
             Err(_) => Err(NoMemory),
         }
     }
 
     /// The lowest other process whose hold on an object conflicts with a mode. Looks at one pair of
-    /// masks of each process.
+    /// masks of each process up to the last one that holds something.
     pub fn ask(&self, p: u8, o: Object, mode: Mode) -> Option<u8>
         requires range { IsInRange o }
         ensures { result ≡ lowest_holder (held self.now) p o mode }
     {
-        lowest_other(&self.calls, p, object_number(&o), mode)
+        lowest_other(&self.calls, self.end, p, object_number(&o), mode)
     }
 
     /// The outermost level of process p whose hold on an object conflicts with a mode.
@@ -132,6 +152,7 @@ impl LockTable {
     {
         let call = &mut self.calls[p as usize];
         call.touch(object_number(&o), level, mode);
+        self.end = self.end.max(p + 1);
     }
 
     /// What a level of process p above level 0 holds goes to the level outside it. Where both hold
@@ -154,5 +175,6 @@ impl LockTable {
     {
         let call = &mut self.calls[p as usize];
         call.release_from(level);
+        self.end = end_of(&self.calls, self.end);
     }
 }

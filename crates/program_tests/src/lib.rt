@@ -140,10 +140,9 @@ mod tests {
 
     impl Source for Trickle {
         ghost use Rattle.std.specs.Prelude.{None};
+        ghost use Rattle.vino_base.specs.Memory.{source_seen};
 
-        ghost faults = { λ s. s.inner.faults };
-
-        ghost rest = { λ s. None };
+        ghost seen = { λ s. record { rest = None; device = (source_seen s.inner).device } };
 
         fn read(&mut self, buf: &mut [u8]) -> Result<usize, Failed> {
             let room = buf.len().min(40);

@@ -23,9 +23,7 @@ impl<R> StreamSource<R> {
 }
 
 impl<R: Read> Source for StreamSource<R> {
-    ghost faults = { λ s. s.faults };
-
-    ghost rest = { λ s. None };
+    ghost seen = { λ s. record { rest = None; device = record { faults = s.faults; health = None } } };
 
     fn read(&mut self, buf: &mut [u8]) -> Result<usize, Failed> {
         match self.inner.read(buf) {
@@ -56,9 +54,7 @@ impl<W> StreamSink<W> {
 }
 
 impl<W: Write> Sink for StreamSink<W> {
-    ghost faults = { λ s. s.faults };
-
-    ghost got = { λ s. None };
+    ghost seen = { λ s. record { got = None; device = record { faults = s.faults; health = None } } };
 
     fn write(&mut self, buf: &[u8]) -> Result<usize, Failed> {
         match self.inner.write(buf) {

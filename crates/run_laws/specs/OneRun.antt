@@ -3,6 +3,7 @@
 use Rattle.std.specs.Prelude.{◌≡◌, ℕ, Bool, List, length, flat_map, Option, Some}
 use Rattle.std.specs.Io.KnownBytes.{Appends}
 use Rattle.vino_base.specs.Calls.{Plan}
+use Rattle.vino_base.specs.Streams.{SourceSeen, SinkSeen}
 use Rattle.disk_log.specs.Calls.{Knows, planned}
 use Rattle.disk_log.specs.Seen.{DiskSeen}
 use Rattle.kernel_model.specs.World.{Blocks}
@@ -26,15 +27,12 @@ CallsAreOne =
     UsesAll c a lines jos
     → ArePlanned p (all_calls ios) → ArePlanned p (all_calls jos) → ios ≡ jos
 
--- what is seen of a run: of its source what was left and the count of faults, before and after it;
--- of its sink what it had got; of its disk; and the status
+-- what is seen of a run: its source, its sink and its disk, before and after it, and the status
 pub record RunSeen : Type 0 where
-  pub rest : Option (List ℕ)
-  pub rest_new : Option (List ℕ)
-  pub faults : ℕ
-  pub faults_new : ℕ
-  pub got : Option (List ℕ)
-  pub got_new : Option (List ℕ)
+  pub source : SourceSeen
+  pub source_new : SourceSeen
+  pub sink : SinkSeen
+  pub sink_new : SinkSeen
   pub disk : DiskSeen
   pub disk_new : DiskSeen
   pub status : ℕ
@@ -42,7 +40,7 @@ pub record RunSeen : Type 0 where
 -- it is what the contract of the top call says of a run that neither lacked memory nor had a sink
 -- that failed
 abbrev pub IsRun : Place → RunSeen → Type 0
-IsRun c x = Ran c x.rest x.rest_new x.faults x.faults_new x.got x.got_new x.disk x.disk_new x.status
+IsRun c x = Ran c x.source x.source_new x.sink x.sink_new x.disk x.disk_new x.status
 
 -- it began over a disk that tells these blocks and this plan
 pub record BeginsOver (blocks : List (List ℕ)) (p : Plan) (x : RunSeen) : Type 0 where
@@ -54,8 +52,8 @@ pub record EndAlike (x y : RunSeen) : Type 0 where
   pub status : x.status ≡ y.status
   -- the bytes that each wrote
   pub bytes : List ℕ
-  pub first : Appends x.got x.got_new bytes
-  pub second : Appends y.got y.got_new bytes
+  pub first : Appends x.sink.got x.sink_new.got bytes
+  pub second : Appends y.sink.got y.sink_new.got bytes
   -- the blocks that each left
   pub blocks : Blocks
   pub first_blocks : Knows x.disk_new.known blocks

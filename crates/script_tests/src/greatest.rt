@@ -1,14 +1,14 @@
 //! Lines of notes and rows with the greatest numbers that their types have.
 
-use kernel_model::{Cause, FrameRow, FrameRows, Note, Object, RawRow, Refusal};
+use kernel_model::{BareNote, Cause, FrameRow, FrameRows, Object, RawRow, Refusal};
 use line_text::{Text, print_note, print_row};
 use std::process::Abort;
 
 const MOST: u32 = 4294967295;
 
-fn prints(rt: &impl Abort, note: Note, want: &str) {
+fn prints(rt: &impl Abort, note: BareNote, want: &str) {
     let mut out = Text::new();
-    print_note(&note, &mut out);
+    print_note(note, &[], &mut out);
     assert_eq!(rt; out.as_slice(), want.as_bytes(), "{want}");
 }
 
@@ -17,19 +17,19 @@ fn prints_the_greatest_numbers(rt: HostRuntime) {
     let short = Refusal::Short(18446744073709551615);
     prints(
         &rt,
-        Note::Refused(MOST, short),
+        BareNote::Refused(MOST, short),
         "4294967295 E12 18446744073709551615\n",
     );
     let late = Refusal::TimedOut(Object::OpenFile(255, 255), 255);
     prints(
         &rt,
-        Note::Refused(MOST, late),
+        BareNote::Refused(MOST, late),
         "4294967295 E17 Open(255,255) 255\n",
     );
     let cause = Cause::TimeOut(Object::Graft(255, 255), 255);
     prints(
         &rt,
-        Note::Dropped(MOST, 255, 255, cause),
+        BareNote::Dropped(MOST, 255, 255, cause),
         "4294967295 drop 255 255 C13 Graft(255,255) 255\n",
     );
 }

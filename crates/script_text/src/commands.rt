@@ -1,41 +1,58 @@
 //! The commands of a script: their words, their places and the forms of their further words.
 
-ghost use Rattle.std.specs.Prelude.{◌≡◌, ◌≤◌, ◌∷◌, length, find};
+ghost use Rattle.std.specs.Prelude.{◌≡◌, ℕ, ◌≤◌, List, ◌∷◌, length, find};
 ghost use Rattle.kernel_model.specs.World.{same_bytes};
 ghost use Rattle.kernel_model.specs.Script.{call_word, command_word, command_named, is_setup, call_forms, forms_of};
 
 use kernel_model::{CallName, Command, Form};
 
-/// All commands.
-const COMMANDS: [Command; 27] = [
-    Command::Frames,
-    Command::Patience,
-    Command::Grant,
-    Command::Boot,
-    Command::Tick,
-    Command::Step,
-    Command::Raw,
-    Command::Image,
-    Command::Call(CallName::Spawn),
-    Command::Call(CallName::Exit),
-    Command::Call(CallName::Yield),
-    Command::Call(CallName::Sync),
-    Command::Call(CallName::Open),
-    Command::Call(CallName::Close),
-    Command::Call(CallName::Read),
-    Command::Call(CallName::Write),
-    Command::Call(CallName::Lock),
-    Command::Call(CallName::Unlock),
-    Command::Call(CallName::Poke),
-    Command::Call(CallName::Peek),
-    Command::Call(CallName::Tune),
-    Command::Call(CallName::Default),
-    Command::Call(CallName::Give),
-    Command::Call(CallName::Install),
-    Command::Call(CallName::Remove),
-    Command::Call(CallName::Fund),
-    Command::Call(CallName::Bill),
-];
+/// The commands whose words begin with this byte, in order.
+fn beginning_with(first: u8) -> &'static [Command]
+    ensures { (rest : List ℕ) →
+        find (λ c. same_bytes (command_word c) (first ∷ rest)) result.now
+        ≡ command_named (first ∷ rest) }
+{
+    match first {
+        b'b' => [Command::Boot, Command::Call(CallName::Bill)].as_slice(),
+        b'c' => [Command::Call(CallName::Close)].as_slice(),
+        b'd' => [Command::Call(CallName::Default)].as_slice(),
+        b'e' => [Command::Call(CallName::Exit)].as_slice(),
+        b'f' => [Command::Frames, Command::Call(CallName::Fund)].as_slice(),
+        b'g' => [Command::Grant, Command::Call(CallName::Give)].as_slice(),
+        b'i' => [Command::Image, Command::Call(CallName::Install)].as_slice(),
+        b'l' => [Command::Call(CallName::Lock)].as_slice(),
+        b'o' => [Command::Call(CallName::Open)].as_slice(),
+        b'p' => {
+            [
+                Command::Patience,
+                Command::Call(CallName::Poke),
+                Command::Call(CallName::Peek),
+            ]
+            .as_slice()
+        }
+        b'r' => {
+            [
+                Command::Raw,
+                Command::Call(CallName::Read),
+                Command::Call(CallName::Remove),
+            ]
+            .as_slice()
+        }
+        b's' => {
+            [
+                Command::Step,
+                Command::Call(CallName::Spawn),
+                Command::Call(CallName::Sync),
+            ]
+            .as_slice()
+        }
+        b't' => [Command::Tick, Command::Call(CallName::Tune)].as_slice(),
+        b'u' => [Command::Call(CallName::Unlock)].as_slice(),
+        b'w' => [Command::Call(CallName::Write)].as_slice(),
+        b'y' => [Command::Call(CallName::Yield)].as_slice(),
+        _ => [].as_slice(),
+    }
+}
 
 /// The word of a system call.
 fn word_of_call(name: CallName) -> &'static [u8]
@@ -97,7 +114,10 @@ fn find_command(commands: &[Command], word: &[u8]) -> Option<Command>
 pub(crate) fn named(word: &[u8]) -> Option<Command>
     ensures { result ≡ command_named word.now }
 {
-    find_command(&COMMANDS, word)
+    match word.split_first() {
+        Some((first, _)) => find_command(beginning_with(*first), word),
+        None => None,
+    }
 }
 
 /// Whether a command stands before `boot`.

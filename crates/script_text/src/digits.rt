@@ -4,8 +4,10 @@ ghost use Rattle.std.specs.Prelude.{◌≡◌, ◌≤◌, true, length};
 ghost use Rattle.std.specs.List.{list_all};
 ghost use Rattle.kernel_model.specs.Bytes.{is_digit, is_name_byte, number_of, digits_value};
 ghost use Rattle.kernel_model.specs.Script.{name_word};
+ghost use Rattle.script_text.specs.Words.{decoded};
 
-use kernel_model::{NAME_BYTES, Name};
+use arrayvec::ArrayVec;
+use kernel_model::{BLOCK_BYTES, NAME_BYTES};
 
 /// The most digits of a number.
 const DIGITS: usize = 10;
@@ -55,24 +57,22 @@ fn all_in_name(word: &[u8]) -> bool
     word.iter().all(|byte| stands_in_name(*byte))
 }
 
-/// The bytes as a name.
-fn name_from(word: &[u8]) -> Name
-    requires { length word.now ≤ 16 }
-    ensures { result ≡ word.now }
-{
-    let mut name = Name::new();
-    for byte in word {
-        let _ = name.push(*byte);
-    }
-    name
-}
-
-/// A name of 1 to 16 bytes.
-pub(crate) fn name(word: &[u8]) -> Option<Name>
-    ensures { result ≡ name_word word.now }
+/// A name of 1 to 16 bytes, which go to `bytes`. Whether the word is one.
+pub(crate) fn name(word: &[u8], bytes: &mut ArrayVec<u8, BLOCK_BYTES>) -> bool
+    ensures { decoded result bytes.new.items ≡ name_word word.now }
 {
     if word.is_empty() || word.len() > NAME_BYTES || !all_in_name(word) {
-        return None;
+        return false;
     }
-    Some(name_from(word))
+    put_bytes(word, bytes);
+    true
+}
+
+/// These bytes take the place of what there was.
+pub(crate) fn put_bytes(word: &[u8], bytes: &mut ArrayVec<u8, BLOCK_BYTES>)
+    requires { length word.now ≤ 512 }
+    ensures { bytes.new.items ≡ word.now }
+{
+    bytes.clear();
+    let _ = bytes.try_extend_from_slice(word);
 }

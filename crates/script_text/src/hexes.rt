@@ -7,7 +7,9 @@ ghost use Rattle.kernel_model.specs.Script.{WRITE_DIGITS, IMAGE_DIGITS};
 ghost use Rattle.script_text.specs.Words.{decoded, is_hex_digit};
 
 use crate::ImageBytes;
-use kernel_model::{BLOCK_BYTES, Bytes};
+use crate::digits::put_bytes;
+use arrayvec::ArrayVec;
+use kernel_model::BLOCK_BYTES;
 
 /// The most hex digits of a `write`.
 const MOST_WRITTEN: usize = 2 * BLOCK_BYTES;
@@ -23,31 +25,21 @@ fn decode_all(word: &[u8], to: &mut [u8]) -> bool
     hex::decode_to_slice(word, to).is_ok()
 }
 
-/// The bytes as a list for a call.
-fn bytes_from(from: &[u8]) -> Bytes
-    requires { length from.now ≤ 512 }
-    ensures { result ≡ from.now }
-{
-    let mut bytes = Bytes::new();
-    for byte in from {
-        let _ = bytes.push(*byte);
-    }
-    bytes
-}
-
-/// The bytes that a `write` carries: 2 to 1,024 hex digits, an even number.
-pub(crate) fn written(word: &[u8]) -> Option<Bytes>
-    ensures { result ≡ hex_word WRITE_DIGITS word.now }
+/// The bytes that a `write` carries, which go to `bytes`: 2 to 1,024 hex digits, an even number.
+/// Whether the word is such.
+pub(crate) fn written(word: &[u8], bytes: &mut ArrayVec<u8, BLOCK_BYTES>) -> bool
+    ensures { decoded result bytes.new.items ≡ hex_word WRITE_DIGITS word.now }
 {
     if word.len() < 2 || word.len() > MOST_WRITTEN || word.len() % 2 == 1 {
-        return None;
+        return false;
     }
-    let mut bytes = [0; BLOCK_BYTES];
-    let to = &mut bytes[..word.len() / 2];
+    let mut block = [0; BLOCK_BYTES];
+    let to = &mut block[..word.len() / 2];
     if decode_all(word, to) {
-        Some(bytes_from(to))
+        put_bytes(to, bytes);
+        true
     } else {
-        None
+        false
     }
 }
 

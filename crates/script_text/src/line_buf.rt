@@ -1,6 +1,7 @@
 //! `LineBuf`: a line of a script, byte by byte.
 
-ghost use Rattle.std.specs.Prelude.{◌≡◌, ◌≤◌, [], IfOk};
+ghost use Rattle.std.specs.Prelude.{◌≡◌, ◌≤◌, ◌==◌, [], length, position, IfOk};
+ghost use Rattle.std.specs.List.{position_or_len};
 
 use kernel_model::NoMemory;
 use std::alloc::Global;
@@ -40,8 +41,27 @@ impl Model for LineBuf {
     ghost invariant = { λ l. (65536 ≤ vec_capacity l.bytes) × (vec_len l.bytes ≤ 65536) };
 }
 
+/// The place of the first newline.
+fn first_newline(bytes: &[u8]) -> Option<usize>
+    ensures { result ≡ position (λ byte. byte == 10) bytes.now }
+{
+    bytes.iter().position(|byte| *byte == NEWLINE)
+}
+
+/// How many bytes stand before the first newline.
+fn plain_length(bytes: &[u8]) -> usize
+    ensures value { result ≡ position_or_len (λ byte. byte == 10) bytes.now }
+    ensures within { result ≤ length bytes.now }
+{
+    match first_newline(bytes) {
+        Some(end) => end,
+        None => bytes.len(),
+    }
+}
+
 impl LineBuf {
-    ghost use Rattle.std.specs.Prelude.{length};
+    ghost use Rattle.std.specs.Prelude.{length, take};
+    ghost use Rattle.kernel_model.specs.Outcome.{lines_after, rest_after};
     ghost use Rattle.script_text.specs.Words.{fed, line_with};
 
     /// An empty line, with room for 65,536 bytes.
@@ -67,6 +87,19 @@ impl LineBuf {
         }
         let _ = self.bytes.push(byte);
         Fed::More
+    }
+
+    /// Puts the bytes before the first newline to the line, as far as it has room for them. How
+    /// many: no line ends among these.
+    pub fn put_plain(&mut self, bytes: &[u8]) -> usize
+        ensures most { result ≤ length bytes.now }
+        ensures no_line { lines_after self.old (take result bytes.now) ≡ [] }
+        ensures line { rest_after self.old (take result bytes.now) ≡ self.new }
+    {
+        let room = LINE_BYTES - self.bytes.len();
+        let n = plain_length(bytes).min(room);
+        let _ = self.bytes.extend_from_slice(&bytes[..n]);
+        n
     }
 
     /// The bytes so far.

@@ -1,7 +1,8 @@
 //! `parse_line`: what a line of a script says.
 
-ghost use Rattle.std.specs.Prelude.{◌≡◌, ◌≤◌, ◌<◌, [], ◌∷◌, length, slice_index};
+ghost use Rattle.std.specs.Prelude.{◌≡◌, ℕ, ◌≤◌, ◌<◌, List, [], ◌∷◌, length, option_map, slice_index};
 ghost use Rattle.kernel_model.specs.declared.Command.TheVariants as command_is;
+ghost use Rattle.kernel_model.specs.Bare.{call_with};
 ghost use Rattle.kernel_model.specs.Bytes.{hex_word};
 ghost use Rattle.kernel_model.specs.Script.{WRITE_DIGITS, IMAGE_DIGITS, amount_at, name_word, open_by, write_by, call_of, happens_by, loads_by, entry_of, is_blank, parsed_line};
 ghost use Rattle.script_text.specs.Answers.{Answers, SetsWithin};
@@ -12,7 +13,7 @@ use crate::hexes::{loaded, written};
 use crate::image_bytes::ImageBytes;
 use crate::words::{Reading, read_words, skip, word_end};
 use arrayvec::ArrayVec;
-use kernel_model::{CallName, Command, Event, Kind, SysCall};
+use kernel_model::{BLOCK_BYTES, BareCall, BareEvent, CallName, Command, Kind};
 
 /// What a line says.
 #[derive(Drop)]
@@ -28,8 +29,8 @@ pub enum Entry<'a> {
     Grant(u32),
     /// The kernel begins.
     Boot,
-    /// An event of the kernel.
-    Happens(Event),
+    /// An event of the kernel. The bytes of its system call stand in the buffer beside.
+    Happens(BareEvent),
     /// A slot, and the bytes of a sealed image for it.
     Image(u32, ImageBytes<'a>),
     /// All rows of the kernel's state are asked for.
@@ -75,55 +76,70 @@ fn amount(place: u32) -> Kind
 }
 
 /// The file that `open` names.
-fn open(last: &[u8]) -> Option<SysCall>
-    ensures { result ≡ open_by (name_word last.now) }
+fn open(last: &[u8], bytes: &mut ArrayVec<u8, BLOCK_BYTES>) -> Option<BareCall>
+    ensures { option_map (λ c. call_with c bytes.new.items) result ≡ open_by (name_word last.now) }
 {
-    match name(last) {
-        Some(name) => Some(SysCall::OpenName(name)),
-        None => None,
+    if name(last, bytes) {
+        Some(BareCall::OpenName)
+    } else {
+        None
     }
 }
 
 /// The bytes that `write` puts into block i of a file, from off on.
-fn write(fd: u32, i: u32, off: u32, last: &[u8]) -> Option<SysCall>
-    ensures { result ≡ write_by fd i off (hex_word WRITE_DIGITS last.now) }
+fn write(
+    fd: u32,
+    i: u32,
+    off: u32,
+    last: &[u8],
+    bytes: &mut ArrayVec<u8, BLOCK_BYTES>,
+) -> Option<BareCall>
+    ensures { option_map (λ c. call_with c bytes.new.items) result
+        ≡ write_by fd i off (hex_word WRITE_DIGITS last.now) }
 {
-    match written(last) {
-        Some(bytes) => Some(SysCall::Write(fd, i, off, bytes)),
-        None => None,
+    if written(last, bytes) {
+        Some(BareCall::Write(fd, i, off))
+    } else {
+        None
     }
 }
 
 /// A system call by its numbers, of which the first is the process, and by its last word.
-fn call(verb: CallName, n: &[u32], last: &[u8]) -> Option<SysCall>
-    ensures { result ≡ call_of verb n.now last.now }
+fn call(
+    verb: CallName,
+    n: &[u32],
+    last: &[u8],
+    bytes: &mut ArrayVec<u8, BLOCK_BYTES>,
+) -> Option<BareCall>
+    ensures { option_map (λ c. call_with c bytes.new.items) result ≡ call_of verb n.now last.now }
 {
     match verb {
-        CallName::Spawn => Some(SysCall::Spawn),
-        CallName::Exit => Some(SysCall::Exit),
-        CallName::Yield => Some(SysCall::Yield),
-        CallName::Sync => Some(SysCall::Sync),
-        CallName::Open => open(last),
-        CallName::Close => Some(SysCall::CloseFd(at(n, 1))),
-        CallName::Read => Some(SysCall::Read(at(n, 1), at(n, 2), at(n, 3), at(n, 4))),
-        CallName::Write => write(at(n, 1), at(n, 2), at(n, 3), last),
-        CallName::Lock => Some(SysCall::TakeLock(at(n, 1))),
-        CallName::Unlock => Some(SysCall::FreeLock(at(n, 1))),
-        CallName::Poke => Some(SysCall::Poke(at(n, 1), at(n, 2))),
-        CallName::Peek => Some(SysCall::Peek(at(n, 1))),
-        CallName::Tune => Some(SysCall::Tune(at(n, 1), at(n, 2), at(n, 3))),
-        CallName::Default => Some(SysCall::Choose(at(n, 1), at(n, 2))),
-        CallName::Give => Some(SysCall::Give(at(n, 1), amount(at(n, 2)), at(n, 3))),
-        CallName::Install => Some(SysCall::Install(at(n, 1), at(n, 2), at(n, 3))),
-        CallName::Remove => Some(SysCall::Remove(at(n, 1))),
-        CallName::Fund => Some(SysCall::Fund(at(n, 1), amount(at(n, 2)), at(n, 3))),
-        CallName::Bill => Some(SysCall::Bill(at(n, 1))),
+        CallName::Spawn => Some(BareCall::Spawn),
+        CallName::Exit => Some(BareCall::Exit),
+        CallName::Yield => Some(BareCall::Yield),
+        CallName::Sync => Some(BareCall::Sync),
+        CallName::Open => open(last, bytes),
+        CallName::Close => Some(BareCall::CloseFd(at(n, 1))),
+        CallName::Read => Some(BareCall::Read(at(n, 1), at(n, 2), at(n, 3), at(n, 4))),
+        CallName::Write => write(at(n, 1), at(n, 2), at(n, 3), last, bytes),
+        CallName::Lock => Some(BareCall::TakeLock(at(n, 1))),
+        CallName::Unlock => Some(BareCall::FreeLock(at(n, 1))),
+        CallName::Poke => Some(BareCall::Poke(at(n, 1), at(n, 2))),
+        CallName::Peek => Some(BareCall::Peek(at(n, 1))),
+        CallName::Tune => Some(BareCall::Tune(at(n, 1), at(n, 2), at(n, 3))),
+        CallName::Default => Some(BareCall::Choose(at(n, 1), at(n, 2))),
+        CallName::Give => Some(BareCall::Give(at(n, 1), amount(at(n, 2)), at(n, 3))),
+        CallName::Install => Some(BareCall::Install(at(n, 1), at(n, 2), at(n, 3))),
+        CallName::Remove => Some(BareCall::Remove(at(n, 1))),
+        CallName::Fund => Some(BareCall::Fund(at(n, 1), amount(at(n, 2)), at(n, 3))),
+        CallName::Bill => Some(BareCall::Bill(at(n, 1))),
     }
 }
 
 /// `frames n`.
 fn frames(n: u32) -> Result<Entry<'static>, ScriptFault>
-    ensures answer { Answers result (entry_of command_is.Frames (n ∷ []) []) }
+    ensures answer { (bytes : List ℕ) →
+        Answers result bytes (entry_of command_is.Frames (n ∷ []) []) }
     ensures limits { SetsWithin result }
 {
     if n >= 2 && n <= 64 {
@@ -136,7 +152,8 @@ fn frames(n: u32) -> Result<Entry<'static>, ScriptFault>
 /// `patience K n`.
 fn patience(kind: u32, n: u32) -> Result<Entry<'static>, ScriptFault>
     requires { kind < 8 }
-    ensures answer { Answers result (entry_of command_is.Patience (kind ∷ n ∷ []) []) }
+    ensures answer { (bytes : List ℕ) →
+        Answers result bytes (entry_of command_is.Patience (kind ∷ n ∷ []) []) }
     ensures limits { SetsWithin result }
 {
     if n >= 1 && n <= 1000 {
@@ -147,20 +164,25 @@ fn patience(kind: u32, n: u32) -> Result<Entry<'static>, ScriptFault>
 }
 
 /// A system call as an event.
-fn happens(verb: CallName, n: &[u32], last: &[u8]) -> Result<Entry<'static>, ScriptFault>
-    ensures answer { Answers result
+fn happens(
+    verb: CallName,
+    n: &[u32],
+    last: &[u8],
+    bytes: &mut ArrayVec<u8, BLOCK_BYTES>,
+) -> Result<Entry<'static>, ScriptFault>
+    ensures answer { Answers result bytes.new.items
         (happens_by (slice_index n.now 0) (call_of verb n.now last.now)) }
     ensures limits { SetsWithin result }
 {
-    let Some(call) = call(verb, n, last) else {
+    let Some(call) = call(verb, n, last, bytes) else {
         return Err(ScriptFault::BadNumber);
     };
-    Ok(Entry::Happens(Event::Sys(at(n, 0), call)))
+    Ok(Entry::Happens(BareEvent::Sys(at(n, 0), call)))
 }
 
 /// `image k HEX`.
 fn image<'a>(slot: u32, last: &'a [u8]) -> Result<Entry<'a>, ScriptFault>
-    ensures answer { Answers result (loads_by slot (hex_word IMAGE_DIGITS last.now)) }
+    ensures answer { (bytes : List ℕ) → Answers result bytes (loads_by slot (hex_word IMAGE_DIGITS last.now)) }
     ensures limits { SetsWithin result }
 {
     match loaded(last) {
@@ -170,9 +192,14 @@ fn image<'a>(slot: u32, last: &'a [u8]) -> Result<Entry<'a>, ScriptFault>
 }
 
 /// A command by its numbers and its last word.
-fn entry_said<'a>(command: Command, n: &[u32], last: &'a [u8]) -> Result<Entry<'a>, ScriptFault>
+fn entry_said<'a>(
+    command: Command,
+    n: &[u32],
+    last: &'a [u8],
+    bytes: &mut ArrayVec<u8, BLOCK_BYTES>,
+) -> Result<Entry<'a>, ScriptFault>
     requires { command ≡ command_is.Patience → slice_index n.now 0 < 8 }
-    ensures answer { Answers result (entry_of command n.now last.now) }
+    ensures answer { Answers result bytes.new.items (entry_of command n.now last.now) }
     ensures limits { SetsWithin result }
 {
     match command {
@@ -180,23 +207,29 @@ fn entry_said<'a>(command: Command, n: &[u32], last: &'a [u8]) -> Result<Entry<'
         Command::Patience => patience(at(n, 0), at(n, 1)),
         Command::Grant => Ok(Entry::Grant(at(n, 0))),
         Command::Boot => Ok(Entry::Boot),
-        Command::Tick => Ok(Entry::Happens(Event::Tick)),
-        Command::Step => Ok(Entry::Happens(Event::Step(at(n, 0), at(n, 1)))),
+        Command::Tick => Ok(Entry::Happens(BareEvent::Tick)),
+        Command::Step => Ok(Entry::Happens(BareEvent::Step(at(n, 0), at(n, 1)))),
         Command::Raw => Ok(Entry::Raw),
         Command::Image => image(at(n, 0), last),
-        Command::Call(name) => happens(name, n, last),
+        Command::Call(name) => happens(name, n, last, bytes),
     }
 }
 
 /// What a line says, before or after `boot`, or why it is refused. The line stands without its
 /// newline.
 ///
+/// The name of an `open` and the bytes of a `write` go to `bytes`, which has none for other lines.
 /// No memory is taken: the bytes of an image are decoded later.
-pub fn parse_line<'a>(line: &'a [u8], booted: bool) -> Result<Entry<'a>, ScriptFault>
+pub fn parse_line<'a>(
+    line: &'a [u8],
+    booted: bool,
+    bytes: &mut ArrayVec<u8, BLOCK_BYTES>,
+) -> Result<Entry<'a>, ScriptFault>
     requires { length line.now ≤ 65536 }
-    ensures answer { Answers result (parsed_line booted line.now) }
+    ensures answer { Answers result bytes.new.items (parsed_line booted line.now) }
     ensures limits { SetsWithin result }
 {
+    bytes.clear();
     if is_blank_line(line) {
         return Ok(Entry::Blank);
     }
@@ -211,6 +244,6 @@ pub fn parse_line<'a>(line: &'a [u8], booted: bool) -> Result<Entry<'a>, ScriptF
     match read_words(forms(command), skip(line, end), &line[..0], &mut numbers) {
         Reading::BadWord => Err(ScriptFault::BadWord),
         Reading::BadNumber => Err(ScriptFault::BadNumber),
-        Reading::Said(last) => entry_said(command, numbers.as_slice(), last),
+        Reading::Said(last) => entry_said(command, numbers.as_slice(), last, bytes),
     }
 }

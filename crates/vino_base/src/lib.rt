@@ -7,11 +7,13 @@
 
 mod calls;
 mod disk;
+mod health;
 mod memory;
 mod streams;
 
 pub use calls::CallPlan;
 pub use disk::Disk;
+pub use health::Health;
 pub use memory::{MemSink, MemSource};
 pub use streams::{Failed, Sink, Source};
 

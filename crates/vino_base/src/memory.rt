@@ -4,11 +4,13 @@ ghost use Rattle.std.specs.Prelude.{◌≡◌, ◌<◌, ◌≤◌, ◌++◌, tru
 ghost use Rattle.std.specs.Result.{is_err, IsErr};
 ghost use Rattle.std.specs.Bool.{IsTrue};
 ghost use Rattle.std.specs.Io.KnownBytes.{ReadConsumes, WriteAppends};
-ghost use Rattle.vino_base.specs.Faults.{HasCause};
+ghost use Rattle.vino_base.specs.Streams.{IsUsed};
+ghost use Rattle.vino_base.specs.declared.health.Health.TheVariants.{Sound};
 ghost use Rattle.vino_base.specs.Calls.{call_fails};
-ghost use Rattle.vino_base.specs.Memory.{given, source_after, buffer_after, sink_after};
+ghost use Rattle.vino_base.specs.Memory.{given, source_after, source_seen, buffer_after, sink_after, sink_seen};
 
 use crate::calls::{CallPlan, counted_up};
+use crate::health::Health;
 use crate::streams::{Failed, Sink, Source};
 use std::alloc::Global;
 use std::marker::Model;
@@ -20,6 +22,7 @@ pub struct MemSource {
     at: usize,
     plan: CallPlan,
     faults: u64,
+    health: Health,
 }
 
 impl Model for MemSource {
@@ -28,7 +31,12 @@ impl Model for MemSource {
 
     ghost Value = { SourceState };
 
-    ghost view = { λ s. record { rest = drop s.at s.bytes.items; plan = s.plan; faults = s.faults } };
+    ghost view = { λ s. record {
+      rest = drop s.at s.bytes.items;
+      plan = s.plan;
+      faults = s.faults;
+      health = s.health;
+    } };
 
     ghost invariant = { λ s. s.at ≤ vec_len s.bytes };
 }
@@ -41,6 +49,7 @@ impl MemSource {
           rest = bytes.items;
           plan = record { made = 0; failing = fails.items };
           faults = 0;
+          health = Sound;
         } }
     {
         MemSource {
@@ -48,25 +57,26 @@ impl MemSource {
             at: 0,
             plan: CallPlan::new(fails),
             faults: 0,
+            health: Health::Sound,
         }
     }
 }
 
 impl Source for MemSource {
-    ghost faults = { λ s. s.faults };
-
-    ghost rest = { λ s. Some s.rest };
+    ghost seen = { source_seen };
 
     fn read(&mut self, buf: &mut [u8]) -> Result<usize, Failed>
         ensures bound { IfOk result (λ n. n ≤ length buf.old) }
-        ensures contents { ReadConsumes (Some self.old.rest) (Some self.new.rest) result buf.new }
-        ensures cause { HasCause self.old.faults self.new.faults result }
+        ensures contents { ReadConsumes (source_seen self.old).rest (source_seen self.new).rest result buf.new }
+        ensures used { IsUsed (source_seen self.old).device (source_seen self.new).device (is_err result) }
         ensures fails { is_err result ≡ call_fails self.old.plan }
         ensures taken { IfOk result (λ n. n ≡ given (length buf.old) self.old) }
         ensures buffer { buf.new ≡ buffer_after buf.old self.old }
         ensures after { self.new ≡ source_after (length buf.old) self.old }
     {
-        if self.plan.next_fails() {
+        let fails = self.plan.next_fails();
+        self.health = self.health.after(fails);
+        if fails {
             self.faults = counted_up(self.faults);
             return Err(Failed);
         }
@@ -94,6 +104,7 @@ pub struct MemSink {
     got: Vec<u8>,
     plan: CallPlan,
     faults: u64,
+    health: Health,
 }
 
 impl Model for MemSink {
@@ -101,7 +112,12 @@ impl Model for MemSink {
 
     ghost Value = { SinkState };
 
-    ghost view = { λ s. record { got = s.got.items; plan = s.plan; faults = s.faults } };
+    ghost view = { λ s. record {
+      got = s.got.items;
+      plan = s.plan;
+      faults = s.faults;
+      health = s.health;
+    } };
 }
 
 impl MemSink {
@@ -112,12 +128,14 @@ impl MemSink {
           got = [];
           plan = record { made = 0; failing = fails.items };
           faults = 0;
+          health = Sound;
         } }
     {
         MemSink {
             got: Vec::new(alloc),
             plan: CallPlan::new(fails),
             faults: 0,
+            health: Health::Sound,
         }
     }
 
@@ -130,20 +148,20 @@ impl MemSink {
 }
 
 impl Sink for MemSink {
-    ghost faults = { λ s. s.faults };
-
-    ghost got = { λ s. Some s.got };
+    ghost seen = { sink_seen };
 
     fn write(&mut self, buf: &[u8]) -> Result<usize, Failed>
         ensures bound { IfOk result (λ n. n ≤ length buf.now) }
         ensures moves { 0 < length buf.now → IfOk result (λ n. 0 < n) }
-        ensures contents { WriteAppends (Some self.old.got) (Some self.new.got) result buf.now }
-        ensures cause { HasCause self.old.faults self.new.faults result }
+        ensures contents { WriteAppends (sink_seen self.old).got (sink_seen self.new).got result buf.now }
+        ensures used { IsUsed (sink_seen self.old).device (sink_seen self.new).device (is_err result) }
         ensures fails { call_fails self.old.plan ≡ true → IsErr result }
         ensures whole { IfOk result (λ n. n ≡ length buf.now) }
         ensures after { self.new ≡ sink_after (is_ok result) buf.now self.old }
     {
-        if !self.plan.next_fails() && self.got.extend_from_slice(buf).is_ok() {
+        let takes = !self.plan.next_fails() && self.got.extend_from_slice(buf).is_ok();
+        self.health = self.health.after(!takes);
+        if takes {
             return Ok(buf.len());
         }
         self.faults = counted_up(self.faults);

@@ -4,8 +4,8 @@ use Rattle.std.specs.List.{concat}
 use Rattle.std.proofs.lemmas.List.Folds.{concat-append}
 use Rattle.std.specs.Io.KnownBytes.{Appends, Consumes, Keeps, IsAtEnd}
 use Rattle.std.proofs.KnownBytes.{Appends-nil, Appends-trans, Consumes-nil, Consumes-trans, Consumes-kept}
-use Rattle.vino_base.specs.Faults.{Rose}
-use Rattle.std.specs.Prelude.{flat_map, cond}
+use Rattle.std.specs.Prelude.{◌==◌, flat_map, cond, Err}
+use Rattle.std.proofs.lemmas.Bool.Decides.{nat_tests}
 use Rattle.std.proofs.Math.Path.{fun_ext}
 use Rattle.kernel_model.specs.World.{processes}
 use Rattle.kernel_model.specs.Pieces.{plain}
@@ -19,8 +19,9 @@ use Rattle.disk_log.specs.Seen.{DiskSeen}
 use Rattle.kernel_model.specs.Outcome.{SCRIPT_BYTES, Ending, End, Fault, Over, Outcome, lines_after, rest_after, left_line, left_lines, at_end, at_ending, outcome_of, ends_as, ends_with, written}
 use Rattle.kernel_model.specs.Text.{line}
 use Rattle.vino_top.specs.Standing.{Seen, StandsFor, IsBegun, placed_left_line, placed_left_lines, last_bytes, last_status}
+use Rattle.vino_base.specs.Streams.{DeviceSeen, SourceSeen, SinkSeen, IsUsed, not_used, used_then}
 use Rattle.filters.specs.Filtered.{AppendsPart, HasEnded}
-use Rattle.vino_top.specs.Run.{Place, first_on, script_lines, lines_run, pieces_run, outcome_at, IsFirst, Feeds, StopsAt, stop_status, Reached, Ran, Broke, Lacked}
+use Rattle.vino_top.specs.Run.{Place, first_on, script_lines, lines_run, pieces_run, outcome_at, IsFirst, Feeds, StopsAt, stop_status, is_sink_failed, Reached, Ran, Broke, Lacked}
 use Rattle.vino_top.specs.declared.run.Stop.{Stop}
 use Rattle.vino_top.specs.declared.run.Stop.TheVariants.{SinkFailed, NoMemory}
 use Rattle.vino_top.proofs.LineLemmas.{script_more}
@@ -104,12 +105,12 @@ ends_last status a pieces last =
     record { status_is = refl; bytes = concat-append pieces (last ∷ []) ∙ ap (λ x. concat pieces ++ x) (append-nil last); blocks = refl }
 
 -- How a run ends, by how its outcome does.
-ran_by : (c : Place) (s t : Seen) (r r2 r3 : Option (List ℕ)) (f f2 : ℕ) (g g2 g3 : Option (List ℕ)) (d e : DiskSeen) (l : List ℕ) (left status : ℕ) (ending : Ending) (last : List ℕ) →
-    IsBegun s → (p : Reached c s t r r2 g g2 d e l left) → Consumes r2 r3 [] → Appends g2 g3 last →
-    (t.refused ≡ true) ⊎ HasEnded ending p.taken r3 f f2 →
+ran_by : (c : Place) (s t : Seen) (x y : SourceSeen) (r2 : Option (List ℕ)) (k m : SinkSeen) (g2 : Option (List ℕ)) (d e : DiskSeen) (l : List ℕ) (left status : ℕ) (ending : Ending) (last : List ℕ) →
+    IsBegun s → (p : Reached c s t x.rest r2 k.got g2 d e l left) → Consumes r2 y.rest [] → Appends g2 m.got last →
+    (t.refused ≡ true) ⊎ HasEnded ending p.taken x y →
     ((a : Session) (pieces : List (List ℕ)) → StandsFor t e.known a → EndsSo (outcome_of ending a pieces l) a pieces status last) →
-    Ran c r r3 f f2 g g3 d e status
-ran_by c s t r r2 r3 f f2 g g2 g3 d e l left status ending last begun p kept more ended out =
+    Ran c x y k m d e status
+ran_by c s t x y r2 k m g2 d e l left status ending last begun p kept more ended out =
     let lines = script_lines p.taken in
     let from = λ (a : Session) (first : IsFirst c.size d.known a). begun_stands c.size s d.known a begun first in
     let is = λ (a : Session) (first : IsFirst c.size d.known a).
@@ -157,27 +158,29 @@ left_by t known a true stands h =
     let has = stands.booted h in left_is t.placed has.kernel has.stands ∙ ap left_lines (sym has.is)
 
 -- a failed read
-pub ran_fault : (c : Place) (s t : Seen) (r r2 r3 : Option (List ℕ)) (f f2 f3 : ℕ) (g g2 : Option (List ℕ)) (d e : DiskSeen) (l : List ℕ) (left : ℕ) →
-    IsBegun s → Reached c s t r r2 g g2 d e l left → t.refused ≡ false → 0 < left → Keeps r2 r3 → f ≤ f2 → Rose f2 f3 → Ran c r r3 f f3 g g2 d e 3
-ran_fault c s t r r2 r3 f f2 f3 g g2 d e l left begun p going some kept before rose =
-    ran_by c s t r r2 r3 f f3 g g2 g2 d e l left 3 Fault [] begun p (keeps_consumes r2 r3 kept) (Appends-nil g2) (inr (omega (arith, p.count), omega arith))
+pub ran_fault : (c : Place) (s t : Seen) (x y z : SourceSeen) (k m : SinkSeen) (d e : DiskSeen) (l : List ℕ) (left : ℕ) →
+    IsBegun s → Reached c s t x.rest y.rest k.got m.got d e l left → t.refused ≡ false → 0 < left → Keeps y.rest z.rest →
+    IsUsed x.device y.device false → IsUsed y.device z.device true → Ran c x z k m d e 3
+ran_fault c s t x y z k m d e l left begun p going some kept before failed =
+    ran_by c s t x z y.rest k m m.got d e l left 3 Fault [] begun p (keeps_consumes y.rest z.rest kept) (Appends-nil m.got)
+    (inr (omega (arith, p.count), (used_then before failed).rose refl))
     (λ a pieces stands. rw (going_outcome Fault a pieces l (refused_as t e.known a false stands going)) (ends_plain 3 a pieces))
   where
     keeps_consumes : (r r2 : Option (List ℕ)) → Keeps r r2 → Consumes r r2 []
     keeps_consumes r r2 kept = Consumes-kept _ _ _ _ (Consumes-nil r) kept
 
 -- more than a script may have
-pub ran_over : (c : Place) (s t : Seen) (r r2 : Option (List ℕ)) (f f2 : ℕ) (g g2 : Option (List ℕ)) (d e : DiskSeen) (l : List ℕ) (left : ℕ) →
-    IsBegun s → Reached c s t r r2 g g2 d e l left → left ≡ 0 → t.refused ≡ false → Ran c r r2 f f2 g g2 d e 7
-ran_over c s t r r2 f f2 g g2 d e l left begun p none going =
-    ran_by c s t r r2 r2 f f2 g g2 g2 d e l left 7 Over [] begun p (Consumes-nil r2) (Appends-nil g2) (inr (omega (arith, p.count, none)))
+pub ran_over : (c : Place) (s t : Seen) (x y : SourceSeen) (k m : SinkSeen) (d e : DiskSeen) (l : List ℕ) (left : ℕ) →
+    IsBegun s → Reached c s t x.rest y.rest k.got m.got d e l left → left ≡ 0 → t.refused ≡ false → Ran c x y k m d e 7
+ran_over c s t x y k m d e l left begun p none going =
+    ran_by c s t x y y.rest k m m.got d e l left 7 Over [] begun p (Consumes-nil y.rest) (Appends-nil m.got) (inr (omega (arith, p.count, none)))
     (λ a pieces stands. rw (going_outcome Over a pieces l (refused_as t e.known a false stands going)) (ends_plain 7 a pieces))
 
 -- a refused line
-pub ran_stopped : (c : Place) (s t : Seen) (r r2 : Option (List ℕ)) (f f2 : ℕ) (g g2 : Option (List ℕ)) (d e : DiskSeen) (l : List ℕ) (left : ℕ) →
-    IsBegun s → Reached c s t r r2 g g2 d e l left → t.refused ≡ true → Ran c r r2 f f2 g g2 d e 2
-ran_stopped c s t r r2 f f2 g g2 d e l left begun p refused =
-    ran_by c s t r r2 r2 f f2 g g2 g2 d e l left 2 Fault [] begun p (Consumes-nil r2) (Appends-nil g2) (inl refused)
+pub ran_stopped : (c : Place) (s t : Seen) (x y : SourceSeen) (k m : SinkSeen) (d e : DiskSeen) (l : List ℕ) (left : ℕ) →
+    IsBegun s → Reached c s t x.rest y.rest k.got m.got d e l left → t.refused ≡ true → Ran c x y k m d e 2
+ran_stopped c s t x y k m d e l left begun p refused =
+    ran_by c s t x y y.rest k m m.got d e l left 2 Fault [] begun p (Consumes-nil y.rest) (Appends-nil m.got) (inl refused)
     (λ a pieces stands. rw (refused_outcome Fault a pieces l (refused_as t e.known a true stands refused)) (ends_plain 2 a pieces))
 
 -- the end of the input: behind a newline, or behind other bytes
@@ -188,13 +191,13 @@ end_so t known a pieces (x ∷ l) stands =
     subst (λ (n : ℕ). EndsSo (at_end a pieces (x ∷ l)) a pieces 2 (line (fault_text (suc n) Unfinished))) stands.lines (ends_last 2 a pieces (line (fault_text (suc a.lines) Unfinished)))
 
 -- how the last lines end a run
-pub ran_finish : (c : Place) (s t : Seen) (r r2 r3 : Option (List ℕ)) (f f2 : ℕ) (g g2 g3 : Option (List ℕ)) (d e : DiskSeen) (l : List ℕ) (left status : ℕ) →
-    IsBegun s → Reached c s t r r2 g g2 d e l left → t.refused ≡ false → 0 < left → Consumes r2 r3 [] → IsAtEnd r3 →
-    (status ≢ 4 → (status ≡ last_status l) × Appends g2 g3 (last_bytes t l)) → status ≢ 4 → Ran c r r3 f f2 g g3 d e status
-ran_finish c s t r r2 r3 f f2 g g2 g3 d e l left status begun p going some kept end done other =
+pub ran_finish : (c : Place) (s t : Seen) (x y : SourceSeen) (r2 : Option (List ℕ)) (k m : SinkSeen) (g2 : Option (List ℕ)) (d e : DiskSeen) (l : List ℕ) (left status : ℕ) →
+    IsBegun s → Reached c s t x.rest r2 k.got g2 d e l left → t.refused ≡ false → 0 < left → Consumes r2 y.rest [] → IsAtEnd y.rest →
+    (status ≢ 4 → (status ≡ last_status l) × Appends g2 m.got (last_bytes t l)) → status ≢ 4 → Ran c x y k m d e status
+ran_finish c s t x y r2 k m g2 d e l left status begun p going some kept end done other =
     let last = done other in
     rw last.0
-    (ran_by c s t r r2 r3 f f2 g g2 g3 d e l left (last_status l) End (last_bytes t l) begun p kept last.1 (inr (omega (arith, p.count), end))
+    (ran_by c s t x y r2 k m g2 d e l left (last_status l) End (last_bytes t l) begun p kept last.1 (inr (omega (arith, p.count), end))
     (λ a pieces stands. rw (going_outcome End a pieces l (refused_as t e.known a false stands going)) (end_so t e.known a pieces l stands)))
 
 -- ---- runs that stop
@@ -211,36 +214,36 @@ stopped c s t r r2 r3 g g2 g3 d e f l left n given stop begun p some q =
     (stops_from c (StandsFor s d.known) (IsFirst c.size d.known) (lines_after [] ((take SCRIPT_BYTES p.taken ++ take (left - 1) given) ++ [])) g g3 d f stop (λ a first. begun_stands c.size s d.known a begun first) all))
 
 -- the sink failed at a line
-pub broke_fed : (c : Place) (s t : Seen) (r r2 r3 g g2 g3 : Option (List ℕ)) (d e f : DiskSeen) (l : List ℕ) (left n : ℕ) (given script : List ℕ) (stop : Stop) →
-    IsBegun s → Reached c s t r r2 g g2 d e l left → 0 < left → length given ≡ n → n ≤ left → Consumes r2 r3 given →
-    script ≡ take (left - 1) given → stop_status stop ≡ 4 → StopsAt c (StandsFor t e.known) (lines_after l script) g2 g3 e f stop → Broke c r r3 g g3 d f
-broke_fed c s t r r2 r3 g g2 g3 d e f l left n given script SinkFailed begun p some count most consumed is four q =
+pub broke_fed : (c : Place) (s t : Seen) (x y : SourceSeen) (k m : SinkSeen) (r2 g2 : Option (List ℕ)) (d e f : DiskSeen) (l : List ℕ) (left n : ℕ) (given script : List ℕ) (stop : Stop) →
+    IsBegun s → Reached c s t x.rest r2 k.got g2 d e l left → 0 < left → length given ≡ n → n ≤ left → Consumes r2 y.rest given →
+    script ≡ take (left - 1) given → stop_status stop ≡ 4 → StopsAt c (StandsFor t e.known) (lines_after l script) g2 m.got e f stop → Broke c x y k m d f
+broke_fed c s t x y k m r2 g2 d e f l left n given script SinkFailed begun p some count most consumed is four q =
     record {
       taken = p.taken ++ given;
       within = omega (arith, p.count, length-append p.taken given);
       consumed = Consumes-trans _ _ _ _ _ p.consumed consumed;
-      short = inl (stopped c s t r r2 r3 g g2 g3 d e f l left n given SinkFailed begun p some (rw is at q));
+      short = inl (stopped c s t x.rest r2 y.rest k.got g2 m.got d e f l left n given SinkFailed begun p some (rw is at q));
     }
-broke_fed c s t r r2 r3 g g2 g3 d e f l left n given script NoMemory begun p some count most consumed is four q = absurd (omega (arith, four))
+broke_fed c s t x y k m r2 g2 d e f l left n given script NoMemory begun p some count most consumed is four q = absurd (omega (arith, four))
 
 -- there was no memory for a line
-pub lacked_fed : (c : Place) (s t : Seen) (r r2 r3 g g2 g3 : Option (List ℕ)) (d e f : DiskSeen) (l : List ℕ) (left n : ℕ) (given script : List ℕ) (stop : Stop) →
-    IsBegun s → Reached c s t r r2 g g2 d e l left → 0 < left → length given ≡ n → n ≤ left → Consumes r2 r3 given →
-    script ≡ take (left - 1) given → stop_status stop ≡ 5 → StopsAt c (StandsFor t e.known) (lines_after l script) g2 g3 e f stop → Lacked c r r3 g g3 d f
-lacked_fed c s t r r2 r3 g g2 g3 d e f l left n given script SinkFailed begun p some count most consumed is five q = absurd (omega (arith, five))
-lacked_fed c s t r r2 r3 g g2 g3 d e f l left n given script NoMemory begun p some count most consumed is five q =
+pub lacked_fed : (c : Place) (s t : Seen) (x y : SourceSeen) (k m : SinkSeen) (r2 g2 : Option (List ℕ)) (d e f : DiskSeen) (l : List ℕ) (left n : ℕ) (given script : List ℕ) (stop : Stop) →
+    IsBegun s → Reached c s t x.rest r2 k.got g2 d e l left → 0 < left → length given ≡ n → n ≤ left → Consumes r2 y.rest given →
+    script ≡ take (left - 1) given → stop_status stop ≡ 5 → StopsAt c (StandsFor t e.known) (lines_after l script) g2 m.got e f stop → Lacked c x y k m d f
+lacked_fed c s t x y k m r2 g2 d e f l left n given script SinkFailed begun p some count most consumed is five q = absurd (omega (arith, five))
+lacked_fed c s t x y k m r2 g2 d e f l left n given script NoMemory begun p some count most consumed is five q =
     record {
       taken = p.taken ++ given;
       within = omega (arith, p.count, length-append p.taken given);
       consumed = Consumes-trans _ _ _ _ _ p.consumed consumed;
-      lacks = stopped c s t r r2 r3 g g2 g3 d e f l left n given NoMemory begun p some (rw is at q);
+      lacks = stopped c s t x.rest r2 y.rest k.got g2 m.got d e f l left n given NoMemory begun p some (rw is at q);
     }
 
 -- the sink failed at the last lines
-pub broke_finish : (c : Place) (s t : Seen) (r r2 r3 g g2 g3 : Option (List ℕ)) (d e : DiskSeen) (l : List ℕ) (left : ℕ) →
-    IsBegun s → (p : Reached c s t r r2 g g2 d e l left) → t.refused ≡ false → 0 < left → Consumes r2 r3 [] → IsAtEnd r3 →
-    AppendsPart g2 g3 (last_bytes t l) → Broke c r r3 g g3 d e
-broke_finish c s t r r2 r3 g g2 g3 d e l left begun p going some kept end cut =
+pub broke_finish : (c : Place) (s t : Seen) (x y : SourceSeen) (k m : SinkSeen) (r2 g2 : Option (List ℕ)) (d e : DiskSeen) (l : List ℕ) (left : ℕ) →
+    IsBegun s → (p : Reached c s t x.rest r2 k.got g2 d e l left) → t.refused ≡ false → 0 < left → Consumes r2 y.rest [] → IsAtEnd y.rest →
+    AppendsPart g2 m.got (last_bytes t l) → Broke c x y k m d e
+broke_finish c s t x y k m r2 g2 d e l left begun p going some kept end cut =
     let lines = script_lines p.taken in
     let from = λ (a : Session) (first : IsFirst c.size d.known a). begun_stands c.size s d.known a begun first in
     let so = λ (a : Session) (first : IsFirst c.size d.known a).
@@ -265,7 +268,7 @@ broke_finish c s t r r2 r3 g g2 g3 d e l left begun p going some kept end cut =
         more = cut.more;
         lacks = cut.lacks;
         used = λ a first. p.fed.used a (from a first);
-        bytes = λ a first. ap written (is a first) ∙ (so a first).bytes ∙ ap (λ x. concat (pieces_run c a lines p.fed.ios) ++ x) cut.whole ∙ sym (append_assoc (concat (pieces_run c a lines p.fed.ios)) cut.part cut.more);
+        bytes = λ a first. ap written (is a first) ∙ (so a first).bytes ∙ ap (λ bytes. concat (pieces_run c a lines p.fed.ios) ++ bytes) cut.whole ∙ sym (append_assoc (concat (pieces_run c a lines p.fed.ios)) cut.part cut.more);
         appended = λ a first. Appends-trans _ _ _ _ _ (p.fed.appended a (from a first)) cut.appended;
         blocks = λ a first. rw (is a first, (so a first).blocks) (p.fed.stands a (from a first)).blocks;
       });
@@ -281,3 +284,44 @@ kept (Some xs) = refl
 -- the statuses of a run aren't that of the usage line
 pub known_run : (status : ℕ) → (status ≡ 0) ⊎ (status ≡ 2) ⊎ (status ≡ 3) ⊎ (status ≡ 4) ⊎ (status ≡ 5) ⊎ (status ≡ 7) → status ≢ 1
 known_run status cases = λ is. grind (arith, cases, is)
+
+-- a source that wasn't read, where the status isn't that of one that failed
+pub not_read : (a : DeviceSeen) (status : ℕ) → (status == 3) ≡ false → IsUsed a a (status == 3)
+not_read a status other = subst (IsUsed a a) (sym other) (not_used a)
+
+-- neither `demo` nor the usage line have that status
+pub demo_reads : (status : ℕ) → (status ≡ 0) ⊎ (status ≡ 4) ⊎ (status ≡ 5) → (status == 3) ≡ false
+demo_reads status cases = grind (arith, nat_tests, cases)
+
+pub usage_reads : {A B : Type 0} (status : ℕ) → (status ≡ 1) × A ⊎ (status ≡ 4) × B → (status == 3) ≡ false
+usage_reads status (inl one) = grind (arith, nat_tests, one.0)
+usage_reads status (inr four) = grind (arith, nat_tests, four.0)
+
+-- a run that stopped for its sink has the status of that
+pub stop_is : (stop : Stop) → is_sink_failed {A = Unit {0}} (Err stop) ≡ (stop_status stop == 4)
+stop_is SinkFailed = refl
+stop_is NoMemory = refl
+
+-- and never that of its source
+pub stop_reads : (stop : Stop) → (stop_status stop == 3) ≡ false
+stop_reads SinkFailed = refl
+stop_reads NoMemory = refl
+
+-- reading ended well, and the last lines were written or not
+pub finish_read : (a b : DeviceSeen) (status : ℕ) → (status ≡ 0) ⊎ (status ≡ 2) ⊎ (status ≡ 4) → IsUsed a b false →
+    IsUsed a b (status == 3)
+finish_read a b status cases used = subst (IsUsed a b) (sym (other status cases)) used
+  where
+    other : (n : ℕ) → (n ≡ 0) ⊎ (n ≡ 2) ⊎ (n ≡ 4) → (n == 3) ≡ false
+    other n cases = grind (arith, nat_tests, cases)
+
+-- a run stopped within a script: its source didn't fail, its sink where the status says so
+pub stop_read : (a b : DeviceSeen) (stop : Stop) (status : ℕ) → status ≡ stop_status stop → IsUsed a b false →
+    IsUsed a b (status == 3)
+stop_read a b stop status is used = subst (IsUsed a b) (sym (ap (λ n. n == 3) is ∙ stop_reads stop)) used
+
+pub stop_written : (a b d : DeviceSeen) (stop : Stop) (status : ℕ) → status ≡ stop_status stop → IsUsed a b false →
+    IsUsed b d (is_sink_failed {A = Unit {0}} (Err stop)) → IsUsed a d (status == 4)
+stop_written a b d stop status is before used =
+    subst (IsUsed a d) (stop_is stop ∙ ap (λ n. n == 4) (sym is))
+    (used_then {failed = is_sink_failed {A = Unit {0}} (Err stop)} before used)

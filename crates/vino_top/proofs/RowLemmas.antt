@@ -1,6 +1,6 @@
 -- The lines of rows, and of calls that are left, one after another.
-use Rattle.std.proofs.Common.{◌≡◌, ◌≤◌, ℕ, ◌+◌, ◌*◌, List, [], ◌∷◌, ◌++◌, Option, Some, None, drop, length, codes, decimal, arith, refl, sym, ap, ◌∙◌, append-nil, append_assoc}
-use Rattle.std.specs.Prelude.{slice_get, map, option_map}
+use Rattle.std.proofs.Common.{◌≡◌, ◌≤◌, ◌<◌, ℕ, zero, suc, ◌+◌, ◌*◌, List, [], ◌∷◌, ◌++◌, Option, Some, None, drop, length, codes, decimal, arith, refl, sym, ap, ◌∙◌, append-nil, append_assoc}
+use Rattle.std.specs.Prelude.{IfSome, slice_get, map, option_map}
 use Rattle.std.specs.List.{concat, range_with_len}
 use Rattle.std.proofs.lemmas.List.Folds.{concat-append}
 use Rattle.std.proofs.lemmas.List.FromFn.{map-range_with_len_more}
@@ -26,6 +26,26 @@ row_more n (x ∷ rows) rest r old new text all before is behind said more =
     ∙ append_assoc old (line (decimal n ++ codes " raw " ++ row_text x)) (row_lines n rest)
     ∙ ap (λ ys. old ++ (line (decimal n ++ codes " raw " ++ row_text x) ++ row_lines n ys)) behind
     ∙ before
+
+-- a list has what lies before its end
+pub some_row : {T : Type 0} (xs : List T) (i : ℕ) → i < length xs → slice_get xs i ≡ None → ⊥
+some_row [] i below h = omega (arith, below)
+some_row (x ∷ xs) zero below h = differ h
+  where
+    differ : Some x ≡ None → ⊥
+    differ e = cc
+some_row (x ∷ xs) (suc i) below h = some_row xs i (omega (arith, below)) h
+
+-- a row more, where one was found
+pub found_more : (n : ℕ) (rows rest : List RawRow) (found : Option RawRow) (old new text all : List ℕ) → (found ≡ None → ⊥) → old ++ row_lines n rows ≡ all → found ≡ slice_get rows 0 → rest ≡ drop 1 rows →
+    IfSome found (λ (r : RawRow). text ≡ line (decimal n ++ codes " raw " ++ row_text r)) → new ≡ old ++ text → new ++ row_lines n rest ≡ all
+found_more n rows rest None old new text all some before is behind said more = absurd (some refl)
+found_more n rows rest (Some r) old new text all some before is behind said more = row_more n rows rest r old new text all before is behind said more
+
+-- and then fewer are left
+pub found_fewer : (found : Option RawRow) (a b : ℕ) → (found ≡ None → ⊥) → IfSome found (λ (r : RawRow). a < b) → a < b
+found_fewer None a b some less = absurd (some refl)
+found_fewer (Some r) a b some less = less
 
 -- no row is left
 pub row_end : (n : ℕ) (rows : List RawRow) (found : Option RawRow) (old all : List ℕ) → old ++ row_lines n rows ≡ all → found ≡ slice_get rows 0 → found ≡ None → old ≡ all

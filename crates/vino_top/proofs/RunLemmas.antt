@@ -1,5 +1,5 @@
 -- How the run of a script goes on, line after line, and why it stops.
-use Rattle.std.proofs.Common.{subst, MatchResult, OnOk, get_or, take, drop, Result, Ok, Err, ◌<◌, ◌≡◌, ℕ, suc, ◌+◌, ◌≤◌, Bool, true, false, List, [], ◌∷◌, ◌++◌, Option, Some, arith, length, refl, sym, ap, ◌∙◌, length-append, append_assoc, append-nil}
+use Rattle.std.proofs.Common.{subst, zero, MatchResult, OnOk, get_or, take, drop, Result, Ok, Err, ◌<◌, ◌≡◌, ℕ, suc, ◌+◌, ◌≤◌, Bool, true, false, List, [], ◌∷◌, ◌++◌, Option, Some, arith, length, refl, sym, ap, ◌∙◌, length-append, length-drop, append_assoc, append-nil}
 use Rattle.std.specs.List.{concat}
 use Rattle.std.specs.Prelude.{flat_map}
 use Rattle.std.proofs.lemmas.List.Folds.{concat-append}
@@ -178,6 +178,49 @@ pub fed_next : (c : Place) (s t u : Seen) (l m n bytes : List ℕ) (i : ℕ) (g 
     Feeds c s t l m (take i bytes) g h d e → Feeds c t u m n (get_or bytes i 0 ∷ []) h k e f → Feeds c s u l n (take (i + 1) bytes) g k d f
 fed_next c s t u l m n bytes i g h k d e f below p q =
     rw (take_more bytes i 0 below) (fed_more c s t u l m n (take i bytes) (get_or bytes i 0 ∷ []) g h k d e f p q)
+
+-- bytes among which no line ends
+fed_plain : (c : Place) (s : Seen) (l m xs : List ℕ) (g : Option (List ℕ)) (d : DiskSeen) → lines_after l xs ≡ [] → rest_after l xs ≡ m →
+    Feeds c s s l m xs g g d d
+fed_plain c s l m xs g d none rest =
+    record {
+      ios = [];
+      one_each = rw none refl;
+      calls = all_made_none d;
+      line_is = sym rest;
+      lines = omega arith;
+      stands = λ a from. rw none from;
+      used = λ a from. rw none tt;
+      appended = λ a from. rw none (Appends-nil g);
+    }
+
+-- a front, and a front of what is behind it
+take_both : (i n : ℕ) (xs : List ℕ) → take (i + n) xs ≡ take i xs ++ take n (drop i xs)
+take_both zero n xs = let same : 0 + n ≡ n = omega arith in ap (λ k. take k xs) same
+take_both (suc i) n [] = let more : suc i + n ≡ suc (i + n) = omega arith in rw more (sym (none_of n))
+  where
+    none_of : (k : ℕ) → take k (let e : List ℕ = [] in e) ≡ []
+    none_of zero = refl
+    none_of (suc k) = refl
+take_both (suc i) n (x ∷ xs) = let more : suc i + n ≡ suc (i + n) = omega arith in rw more (ap (λ ys. x ∷ ys) (take_both i n xs))
+
+-- the bytes from a place on are fed, as far as no line ends
+fed_on : (c : Place) (s t : Seen) (l m k bytes : List ℕ) (i n : ℕ) (g h : Option (List ℕ)) (d e : DiskSeen) →
+    Feeds c s t l m (take i bytes) g h d e → lines_after m (take n (drop i bytes)) ≡ [] → rest_after m (take n (drop i bytes)) ≡ k →
+    Feeds c s t l k (take (i + n) bytes) g h d e
+fed_on c s t l m k bytes i n g h d e p none rest =
+    rw (take_both i n bytes) (fed_more c s t t l m k (take i bytes) (take n (drop i bytes)) g h h d e e p (fed_plain c t m k (take n (drop i bytes)) h e none rest))
+
+-- the same of these bytes by another name
+pub fed_from : (c : Place) (s t : Seen) (l m k bytes part : List ℕ) (i n : ℕ) (g h : Option (List ℕ)) (d e : DiskSeen) → part ≡ drop i bytes →
+    Feeds c s t l m (take i bytes) g h d e → lines_after m (take n part) ≡ [] → rest_after m (take n part) ≡ k →
+    Feeds c s t l k (take (i + n) bytes) g h d e
+fed_from c s t l m k bytes part i n g h d e is p none rest =
+    fed_on c s t l m k bytes i n g h d e p (subst (λ (x : List ℕ). lines_after m (take n x) ≡ []) is none) (subst (λ (x : List ℕ). rest_after m (take n x) ≡ k) is rest)
+
+-- a place behind such bytes is within
+pub place_within : (bytes part : List ℕ) (i n : ℕ) → part ≡ drop i bytes → n ≤ length part → i ≤ length bytes → i + n ≤ length bytes
+place_within bytes part i n is most inside = omega (arith, ap (λ (x : List ℕ). length x) is, length-drop i bytes, most, inside)
 
 -- all bytes were fed
 pub fed_whole : (c : Place) (s t : Seen) (l m bytes : List ℕ) (i : ℕ) (g h : Option (List ℕ)) (d e : DiskSeen) → length bytes ≤ i →

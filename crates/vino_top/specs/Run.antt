@@ -1,7 +1,8 @@
 -- What a call of `vino` does to its source, its sink and its disk.
-use Rattle.std.specs.Prelude.{◌≡◌, ℕ, ◌+◌, ◌<◌, ◌≤◌, ◌⊎◌, ⊤, Bool, true, false, List, [], ◌∷◌, ◌++◌, length, take, flat_map, Option, Some, None, is_some, Ok, codes}
+use Rattle.std.specs.Prelude.{◌≡◌, ℕ, ◌+◌, ◌<◌, ◌≤◌, ◌⊎◌, ⊤, Bool, true, false, List, [], ◌∷◌, ◌++◌, length, take, flat_map, Option, Some, None, is_some, Result, Ok, Err, codes}
 use Rattle.std.specs.List.{concat}
 use Rattle.std.specs.Io.KnownBytes.{Appends, Consumes, IsAtEnd}
+use Rattle.vino_base.specs.Streams.{SourceSeen, SinkSeen}
 use Rattle.filters.specs.Filtered.{HasEnded}
 use Rattle.disk_log.specs.Calls.{Knows, Made}
 use Rattle.disk_log.specs.Seen.{DiskSeen}
@@ -86,7 +87,7 @@ pub record Left : Type 0 where
 
 -- what stands in the buffers
 abbrev pub left_in : Buffers → Left
-left_in b = record { bytes = b.lines; notes = b.notes }
+left_in b = record { bytes = b.lines; notes = b.trace.notes }
 
 -- these bytes are left behind, and no note
 pub record LeavesText (out : Left) (bytes : List ℕ) : Type 0 where
@@ -215,6 +216,11 @@ abbrev pub stop_status : Stop → ℕ
 stop_status SinkFailed = 4
 stop_status NoMemory = 5
 
+-- a run stopped for its sink
+abbrev pub is_sink_failed : {A : Type 0} → Result A Stop → Bool
+is_sink_failed (Err SinkFailed) = true
+is_sink_failed _ = false
+
 -- why the run stopped among these lines
 abbrev pub StopsAt : Place → (Session → Type 0) → List (List ℕ) → (got got_new : Option (List ℕ)) →
     (d e : DiskSeen) → Stop → Type 0
@@ -244,23 +250,23 @@ script_lines taken = lines_after [] (take SCRIPT_BYTES taken)
 -- or stopped behind a refused line. Over the blocks that the disk told: each line makes the calls
 -- of its list, the status is that of the outcome, the sink took its bytes, and the disk tells its
 -- blocks.
-pub record Ran (c : Place) (rest rest_new : Option (List ℕ)) (before now : ℕ)
-    (got got_new : Option (List ℕ)) (d e : DiskSeen) (status : ℕ) : Type 0 where
+pub record Ran (c : Place) (s t : SourceSeen) (k m : SinkSeen) (d e : DiskSeen)
+    (status : ℕ) : Type 0 where
   pub taken : List ℕ
   pub ending : Ending
   pub within : length taken ≤ SCRIPT_BYTES + 1
-  pub consumed : Consumes rest rest_new taken
+  pub consumed : Consumes s.rest t.rest taken
   pub ios : List (List Bool)
   pub one_each : length ios ≡ length (script_lines taken)
   pub calls : MadeAll d e ios
   pub ended : ForEachSession c (IsFirst c.size d.known)
       (λ c a. (lines_run c a (script_lines taken) ios).refused ≡ true)
-      ⊎ HasEnded ending taken rest_new before now
+      ⊎ HasEnded ending taken s t
   pub used : ForEachSession c (IsFirst c.size d.known) (λ c a. UsesAll c a (script_lines taken) ios)
   pub status_is : ForEachSession c (IsFirst c.size d.known)
       (λ c a. status ≡ (outcome_at c a.blocks taken ending ios).status)
   pub appended : ForEachSession c (IsFirst c.size d.known)
-      (λ c a. Appends got got_new (written (outcome_at c a.blocks taken ending ios)))
+      (λ c a. Appends k.got m.got (written (outcome_at c a.blocks taken ending ios)))
   pub blocks : ForEachSession c (IsFirst c.size d.known)
       (λ c a. Knows e.known (outcome_at c a.blocks taken ending ios).blocks)
 
@@ -285,21 +291,19 @@ pub record CutsLast (c : Place) (taken : List ℕ) (rest_new got got_new : Optio
       (λ c a. Knows e.known (outcome_at c a.blocks taken End ios).blocks)
 
 -- The source gave some bytes, and what a line of them writes was cut short, or the last lines were.
-pub record Broke (c : Place) (rest rest_new got got_new : Option (List ℕ))
-    (d e : DiskSeen) : Type 0 where
+pub record Broke (c : Place) (s t : SourceSeen) (k m : SinkSeen) (d e : DiskSeen) : Type 0 where
   pub taken : List ℕ
   pub within : length taken ≤ SCRIPT_BYTES + 1
-  pub consumed : Consumes rest rest_new taken
-  pub short : CutsShort c (IsFirst c.size d.known) (script_lines taken) got got_new d e
-      ⊎ CutsLast c taken rest_new got got_new d e
+  pub consumed : Consumes s.rest t.rest taken
+  pub short : CutsShort c (IsFirst c.size d.known) (script_lines taken) k.got m.got d e
+      ⊎ CutsLast c taken t.rest k.got m.got d e
 
 -- The source gave some bytes, and for one of their lines there was no memory.
-pub record Lacked (c : Place) (rest rest_new got got_new : Option (List ℕ))
-    (d e : DiskSeen) : Type 0 where
+pub record Lacked (c : Place) (s t : SourceSeen) (k m : SinkSeen) (d e : DiskSeen) : Type 0 where
   pub taken : List ℕ
   pub within : length taken ≤ SCRIPT_BYTES + 1
-  pub consumed : Consumes rest rest_new taken
-  pub lacks : Lacks c (IsFirst c.size d.known) (script_lines taken) got got_new d e
+  pub consumed : Consumes s.rest t.rest taken
+  pub lacks : Lacks c (IsFirst c.size d.known) (script_lines taken) k.got m.got d e
 
 -- ---- the steps of a run
 

@@ -1,8 +1,8 @@
 //! The word `demo`: the generated script is run, and one line tells of it.
 
-ghost use Rattle.std.specs.Prelude.{◌≡◌, ◌⊎◌, ◌≤◌, ◌<◌, ◌+◌, ◌-◌, ◌^◌, ◌++◌, ℕ, [], length, map, OnOk, OnErr, IfOk};
+ghost use Rattle.std.specs.Prelude.{◌≡◌, ◌==◌, ◌⊎◌, ◌≤◌, ◌<◌, ◌+◌, ◌-◌, ◌^◌, ◌++◌, ℕ, [], length, map, OnOk, OnErr, IfOk};
 ghost use Rattle.std.specs.Io.KnownBytes.{Appends, Keeps};
-ghost use Rattle.vino_base.specs.Faults.{Rose};
+ghost use Rattle.vino_base.specs.Streams.{IsUsed};
 ghost use Rattle.disk_log.specs.Seen.{disk_seen};
 ghost use Rattle.kernel_model.specs.Demo.{demo_lines, summary_of};
 ghost use Rattle.kernel_model.specs.Opening.{opening_policy};
@@ -82,8 +82,8 @@ fn run_one<B: Policy, D: Disk>(
 {
     run.session
         .run_line(alloc, &KEYS, text, size, disk, &mut run.out)?;
-    run.tally
-        .add(run.out.lines.as_slice(), run.out.notes.list());
+    let (notes, _) = run.out.trace.notes.parts();
+    run.tally.add(run.out.lines.as_slice(), notes);
     Ok(())
 }
 
@@ -152,18 +152,17 @@ fn run_demo<B: Policy, K: Sink, D: Disk>(
     ensures ran { result ≡ 0 → DemoRan n (D.block_count disk.old)
         (disk_seen (D.blocks disk.old) (D.plan disk.old) (D.faults disk.old))
         (disk_seen (D.blocks disk.new) (D.plan disk.new) (D.faults disk.new))
-        (λ known. Appends (K.got sink.old) (K.got sink.new) known) }
+        (λ known. Appends (K.seen sink.old).got (K.seen sink.new).got known) }
     ensures broke { result ≡ 4 → DemoRan n (D.block_count disk.old)
         (disk_seen (D.blocks disk.old) (D.plan disk.old) (D.faults disk.old))
         (disk_seen (D.blocks disk.new) (D.plan disk.new) (D.faults disk.new))
-        (λ known. AppendsPart (K.got sink.old) (K.got sink.new) known) }
-    ensures memory { result ≡ 5 → Keeps (K.got sink.old) (K.got sink.new)
+        (λ known. AppendsPart (K.seen sink.old).got (K.seen sink.new).got known) }
+    ensures memory { result ≡ 5 → Keeps (K.seen sink.old).got (K.seen sink.new).got
         × DemoLacked n (D.block_count disk.old)
         (disk_seen (D.blocks disk.old) (D.plan disk.old) (D.faults disk.old))
         (disk_seen (D.blocks disk.new) (D.plan disk.new) (D.faults disk.new)) }
     ensures statuses { (result ≡ 0) ⊎ (result ≡ 4) ⊎ (result ≡ 5) }
-    ensures sink_failed { result ≡ 4 → Rose (K.faults sink.old) (K.faults sink.new) }
-    ensures sink_later { K.faults sink.old ≤ K.faults sink.new }
+    ensures sink { IsUsed (K.seen sink.old).device (K.seen sink.new).device (result == 4) }
 {
     let size = disk.size();
     if let Err(_) = run_all(alloc, &mut run, &mut lines, size, disk) {
@@ -191,20 +190,19 @@ pub fn demo<B: Policy, K: Sink, D: Disk>(
     ensures ran { result ≡ 0 → DemoRan n (D.block_count disk.old)
         (disk_seen (D.blocks disk.old) (D.plan disk.old) (D.faults disk.old))
         (disk_seen (D.blocks disk.new) (D.plan disk.new) (D.faults disk.new))
-        (λ known. Appends (K.got sink.old) (K.got sink.new) known) }
+        (λ known. Appends (K.seen sink.old).got (K.seen sink.new).got known) }
     ensures broke { result ≡ 4 → DemoRan n (D.block_count disk.old)
         (disk_seen (D.blocks disk.old) (D.plan disk.old) (D.faults disk.old))
         (disk_seen (D.blocks disk.new) (D.plan disk.new) (D.faults disk.new))
-        (λ known. AppendsPart (K.got sink.old) (K.got sink.new) known) }
-    ensures memory { result ≡ 5 → Keeps (K.got sink.old) (K.got sink.new)
+        (λ known. AppendsPart (K.seen sink.old).got (K.seen sink.new).got known) }
+    ensures memory { result ≡ 5 → Keeps (K.seen sink.old).got (K.seen sink.new).got
         × ((disk_seen (D.blocks disk.new) (D.plan disk.new) (D.faults disk.new)
         ≡ disk_seen (D.blocks disk.old) (D.plan disk.old) (D.faults disk.old))
         ⊎ DemoLacked n (D.block_count disk.old)
         (disk_seen (D.blocks disk.old) (D.plan disk.old) (D.faults disk.old))
         (disk_seen (D.blocks disk.new) (D.plan disk.new) (D.faults disk.new))) }
     ensures statuses { (result ≡ 0) ⊎ (result ≡ 4) ⊎ (result ≡ 5) }
-    ensures sink_failed { result ≡ 4 → Rose (K.faults sink.old) (K.faults sink.new) }
-    ensures sink_later { K.faults sink.old ≤ K.faults sink.new }
+    ensures sink { IsUsed (K.seen sink.old).device (K.seen sink.new).device (result == 4) }
 {
     let Ok(lines) = DemoLines::new(alloc, n) else {
         return 5;

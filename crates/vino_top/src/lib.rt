@@ -4,9 +4,9 @@
 //! clauses aloud.
 #![tactic(auto)]
 
-ghost use Rattle.std.specs.Prelude.{◌≡◌, ◌≢◌, ◌⊎◌, ◌≤◌, true, false, List, [], ℕ, String, Vec, map, string_bytes};
+ghost use Rattle.std.specs.Prelude.{◌≡◌, ◌≢◌, ◌==◌, ◌⊎◌, true, false, List, [], ℕ, String, Vec, map, string_bytes};
 ghost use Rattle.std.specs.Io.KnownBytes.{Appends, Keeps};
-ghost use Rattle.vino_base.specs.Faults.{Rose};
+ghost use Rattle.vino_base.specs.Streams.{IsUsed};
 ghost use Rattle.kernel_model.specs.Text.{line, usage_text};
 ghost use Rattle.kernel_model.specs.Opening.{opening_policy};
 ghost use Rattle.graft_points.specs.Shelf.{IsShelf, pol_of, first_choice};
@@ -21,6 +21,7 @@ ghost use Rattle.disk_log.specs.Seen.{disk_seen};
 mod demo;
 mod lines;
 mod loading;
+mod rows;
 mod run;
 mod session;
 mod words;
@@ -62,18 +63,17 @@ pub fn vino<S: Source, K: Sink, D: Disk>(
     // What is done for what the words ask: the status, the bytes read and written, and the disk.
     ensures does { Does (asked_by (map (λ (w : _). string_bytes w) words.now))
         (D.block_count disk.old)
-        (S.rest src.old) (S.rest src.new) (S.faults src.old) (S.faults src.new) (K.got out.old)
-        (K.got out.new)
+        (S.seen src.old) (S.seen src.new) (K.seen out.old)
+        (K.seen out.new)
         (disk_seen (D.blocks disk.old) (D.plan disk.old) (D.faults disk.old))
         (disk_seen (D.blocks disk.new) (D.plan disk.new) (D.faults disk.new)) result }
     // No other status comes.
     ensures statuses { (result ≡ 0) ⊎ (result ≡ 1) ⊎ (result ≡ 2) ⊎ (result ≡ 3) ⊎ (result ≡ 4)
         ⊎ (result ≡ 5) ⊎ (result ≡ 6) ⊎ (result ≡ 7) }
-    // A source or a sink is blamed only where its count of faults rose.
-    ensures source_failed { result ≡ 3 → Rose (S.faults src.old) (S.faults src.new) }
-    ensures sink_failed { result ≡ 4 → Rose (K.faults out.old) (K.faults out.new) }
-    ensures source_later { S.faults src.old ≤ S.faults src.new }
-    ensures sink_later { K.faults out.old ≤ K.faults out.new }
+    // A source or a sink is blamed only where its count of faults rose, and none is called again
+    // behind a call that failed.
+    ensures source { IsUsed (S.seen src.old).device (S.seen src.new).device (result == 3) }
+    ensures sink { IsUsed (K.seen out.old).device (K.seen out.new).device (result == 4) }
 {
     match words::read_words(words) {
         Asked::Run(keys) => run_script(alloc, &keys, src, out, disk, shelf),
@@ -100,28 +100,26 @@ fn run_script<B: Policy, S: Source, K: Sink, D: Disk>(
     requires shelf { IsShelf (map B.seen shelf.items) }
     requires stock { pol_of (map B.seen shelf.items) first_choice ≡ opening_policy }
     ensures ran { result ≢ 4 → result ≢ 5 →
-        Ran (place keys.now (D.block_count disk.old)) (S.rest src.old) (S.rest src.new)
-        (S.faults src.old) (S.faults src.new) (K.got out.old) (K.got out.new)
+        Ran (place keys.now (D.block_count disk.old)) (S.seen src.old) (S.seen src.new) (K.seen out.old)
+        (K.seen out.new)
         (disk_seen (D.blocks disk.old) (D.plan disk.old) (D.faults disk.old))
         (disk_seen (D.blocks disk.new) (D.plan disk.new) (D.faults disk.new)) result }
-    ensures broke { result ≡ 4 → Broke (place keys.now (D.block_count disk.old)) (S.rest src.old)
-        (S.rest src.new) (K.got out.old) (K.got out.new)
+    ensures broke { result ≡ 4 → Broke (place keys.now (D.block_count disk.old)) (S.seen src.old)
+        (S.seen src.new) (K.seen out.old) (K.seen out.new)
         (disk_seen (D.blocks disk.old) (D.plan disk.old) (D.faults disk.old))
         (disk_seen (D.blocks disk.new) (D.plan disk.new) (D.faults disk.new)) }
-    ensures memory { result ≡ 5 → Keeps (S.rest src.old) (S.rest src.new)
-        × Keeps (K.got out.old) (K.got out.new)
+    ensures memory { result ≡ 5 → Keeps (S.seen src.old).rest (S.seen src.new).rest
+        × Keeps (K.seen out.old).got (K.seen out.new).got
         × (disk_seen (D.blocks disk.new) (D.plan disk.new) (D.faults disk.new)
         ≡ disk_seen (D.blocks disk.old) (D.plan disk.old) (D.faults disk.old))
-        ⊎ Lacked (place keys.now (D.block_count disk.old)) (S.rest src.old) (S.rest src.new)
-        (K.got out.old) (K.got out.new)
+        ⊎ Lacked (place keys.now (D.block_count disk.old)) (S.seen src.old)
+        (S.seen src.new) (K.seen out.old) (K.seen out.new)
         (disk_seen (D.blocks disk.old) (D.plan disk.old) (D.faults disk.old))
         (disk_seen (D.blocks disk.new) (D.plan disk.new) (D.faults disk.new)) }
     ensures statuses { (result ≡ 0) ⊎ (result ≡ 2) ⊎ (result ≡ 3) ⊎ (result ≡ 4) ⊎ (result ≡ 5)
         ⊎ (result ≡ 7) }
-    ensures source_later { S.faults src.old ≤ S.faults src.new }
-    ensures sink_later { K.faults out.old ≤ K.faults out.new }
-    ensures source_failed { result ≡ 3 → Rose (S.faults src.old) (S.faults src.new) }
-    ensures sink_failed { result ≡ 4 → Rose (K.faults out.old) (K.faults out.new) }
+    ensures source { IsUsed (S.seen src.old).device (S.seen src.new).device (result == 3) }
+    ensures sink { IsUsed (K.seen out.old).device (K.seen out.new).device (result == 4) }
 {
     match run::ScriptRun::new(alloc, shelf) {
         Err(_) => 5,
@@ -131,10 +129,9 @@ fn run_script<B: Policy, S: Source, K: Sink, D: Disk>(
 
 /// Writes the usage line.
 fn write_usage<K: Sink>(out: &mut K) -> u8
-    ensures cases { (result ≡ 1) × Appends (K.got out.old) (K.got out.new) (line usage_text)
-        ⊎ (result ≡ 4) × AppendsPart (K.got out.old) (K.got out.new) (line usage_text) }
-    ensures sink_failed { result ≡ 4 → Rose (K.faults out.old) (K.faults out.new) }
-    ensures sink_later { K.faults out.old ≤ K.faults out.new }
+    ensures cases { (result ≡ 1) × Appends (K.seen out.old).got (K.seen out.new).got (line usage_text)
+        ⊎ (result ≡ 4) × AppendsPart (K.seen out.old).got (K.seen out.new).got (line usage_text) }
+    ensures sink { IsUsed (K.seen out.old).device (K.seen out.new).device (result == 4) }
 {
     match write_all(out, line_text::usage()) {
         Ok(()) => 1,
@@ -155,28 +152,26 @@ fn start<B: Policy, S: Source, K: Sink, D: Disk>(
     requires within { (size : ℕ) → IsSessionWithin size reader.session }
     requires line { reader.line ≡ [] }
     ensures ran { result ≢ 4 → result ≢ 5 →
-        Ran (place keys.now (D.block_count disk.old)) (S.rest src.old) (S.rest src.new)
-        (S.faults src.old) (S.faults src.new) (K.got out.old) (K.got out.new)
+        Ran (place keys.now (D.block_count disk.old)) (S.seen src.old) (S.seen src.new) (K.seen out.old)
+        (K.seen out.new)
         (disk_seen (D.blocks disk.old) (D.plan disk.old) (D.faults disk.old))
         (disk_seen (D.blocks disk.new) (D.plan disk.new) (D.faults disk.new)) result }
-    ensures broke { result ≡ 4 → Broke (place keys.now (D.block_count disk.old)) (S.rest src.old)
-        (S.rest src.new) (K.got out.old) (K.got out.new)
+    ensures broke { result ≡ 4 → Broke (place keys.now (D.block_count disk.old)) (S.seen src.old)
+        (S.seen src.new) (K.seen out.old) (K.seen out.new)
         (disk_seen (D.blocks disk.old) (D.plan disk.old) (D.faults disk.old))
         (disk_seen (D.blocks disk.new) (D.plan disk.new) (D.faults disk.new)) }
-    ensures memory { result ≡ 5 → Keeps (S.rest src.old) (S.rest src.new)
-        × Keeps (K.got out.old) (K.got out.new)
+    ensures memory { result ≡ 5 → Keeps (S.seen src.old).rest (S.seen src.new).rest
+        × Keeps (K.seen out.old).got (K.seen out.new).got
         × (disk_seen (D.blocks disk.new) (D.plan disk.new) (D.faults disk.new)
         ≡ disk_seen (D.blocks disk.old) (D.plan disk.old) (D.faults disk.old))
-        ⊎ Lacked (place keys.now (D.block_count disk.old)) (S.rest src.old) (S.rest src.new)
-        (K.got out.old) (K.got out.new)
+        ⊎ Lacked (place keys.now (D.block_count disk.old)) (S.seen src.old)
+        (S.seen src.new) (K.seen out.old) (K.seen out.new)
         (disk_seen (D.blocks disk.old) (D.plan disk.old) (D.faults disk.old))
         (disk_seen (D.blocks disk.new) (D.plan disk.new) (D.faults disk.new)) }
     ensures statuses { (result ≡ 0) ⊎ (result ≡ 2) ⊎ (result ≡ 3) ⊎ (result ≡ 4) ⊎ (result ≡ 5)
         ⊎ (result ≡ 7) }
-    ensures source_later { S.faults src.old ≤ S.faults src.new }
-    ensures sink_later { K.faults out.old ≤ K.faults out.new }
-    ensures source_failed { result ≡ 3 → Rose (S.faults src.old) (S.faults src.new) }
-    ensures sink_failed { result ≡ 4 → Rose (K.faults out.old) (K.faults out.new) }
+    ensures source { IsUsed (S.seen src.old).device (S.seen src.new).device (result == 3) }
+    ensures sink { IsUsed (K.seen out.old).device (K.seen out.new).device (result == 4) }
 {
     match run::zeros(alloc, READ_BYTES) {
         Err(_) => 5,

@@ -1,17 +1,20 @@
 //! The lines that are written of an event.
 
 ghost use Rattle.std.specs.Prelude.{◌≡◌, ◌+◌, ◌*◌, ◌<◌, ◌≤◌, ◌++◌, [], length, IfOk};
+ghost use Rattle.kernel_model.specs.Bare.{given_count, notes_with};
 ghost use Rattle.kernel_model.specs.Text.{note_lines, row_lines};
 ghost use Rattle.call_pieces.specs.Works.{stage_of};
 ghost use Rattle.placed_laws.specs.PlacedRows.{placed_rows};
+ghost use Rattle.kernel_steps.specs.Noting.{AreGiven};
 ghost use Rattle.kernel_steps.specs.Views.{placed_of, IsRunning};
 ghost use Rattle.vino_top.specs.Standing.{caller_of, placed_left_line, placed_left_lines};
 
+use crate::rows::print_found;
 use call_pieces::Plain;
 use graft_points::Policy;
 use kernel_core::{Kernel, Notes, RowPlace};
-use kernel_model::{NoMemory, PROCESSES};
-use line_text::{Text, print_left, print_note, print_row};
+use kernel_model::{BareNote, NoMemory, PROCESSES};
+use line_text::{Text, print_left, print_note};
 use std::alloc::Global;
 use std::marker::Model;
 
@@ -33,6 +36,16 @@ impl Model for Lines {
     ghost view = { λ l. l.bytes.items };
 
     ghost invariant = { λ l. (length l.bytes.items ≤ 3028992) × (3028992 ≤ vec_capacity l.bytes) };
+}
+
+/// How many bytes a note gives.
+fn count_given(note: BareNote) -> usize
+    ensures { result ≡ given_count note }
+{
+    match note {
+        BareNote::Gave(_, count) => count as usize,
+        _ => 0,
+    }
 }
 
 impl Lines {
@@ -75,10 +88,23 @@ impl Lines {
         requires { self.old ≡ [] }
         ensures { self.new ≡ note_lines notes.now }
     {
-        for note in notes.list() {
-            print_note(note, text);
-            self.add(text);
-        }
+        let (list, bytes) = notes.parts();
+        self.add_each(list, bytes, text);
+    }
+
+    /// The lines of these notes, which gave these bytes, one behind the other.
+    fn add_each(&mut self, list: &[BareNote], bytes: &[u8], text: &mut Text)
+        requires given { AreGiven list.now bytes.now }
+        requires room { length self.old + 2048 * length list.now ≤ 3028992 }
+        ensures { self.new ≡ self.old ++ note_lines (notes_with list.now bytes.now) }
+    {
+        let Some((note, rest)) = list.split_first() else {
+            return;
+        };
+        let (given, others) = bytes.split_at(count_given(*note));
+        print_note(*note, given, text);
+        self.add(text);
+        self.add_each(rest, others, text);
     }
 
     /// The line of process p's call, if it has one in flight.
@@ -111,8 +137,8 @@ impl Lines {
         ensures { self.new ≡ row_lines n (placed_rows (placed_of stage_of kernel.now.running)) }
     {
         let mut at = RowPlace::first();
-        while let Some(row) = kernel.next_row(&mut at) {
-            print_row(n, &row, text);
+        while let Some(found) = kernel.find_row(&mut at) {
+            print_found(kernel, n, &found, text);
             self.add(text);
         }
     }

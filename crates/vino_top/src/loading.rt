@@ -7,7 +7,7 @@ ghost use Rattle.kernel_core.specs.AddedImages.{has_memory, image_said};
 
 use graft_loader::{FaultCode, LoadFault};
 use kernel_core::ImageRefusal;
-use kernel_model::{Note, Refusal};
+use kernel_model::{BareNote, Refusal};
 use line_text::{Text, print_loaded, print_note, print_unloaded, print_unloaded_at};
 
 /// The line of event n about bytes that are refused: the code of the fault, and its place.
@@ -39,8 +39,12 @@ pub fn say_image(n: u32, answer: Result<(u32, u32), ImageRefusal>, text: &mut Te
 {
     match answer {
         Ok((instructions, data)) => print_loaded(n, instructions, data, text),
-        Err(ImageRefusal::BadSlot) => print_note(&Note::Refused(n, Refusal::BadIndex), text),
-        Err(ImageRefusal::Taken) => print_note(&Note::Refused(n, Refusal::Taken), text),
+        Err(ImageRefusal::BadSlot) => print_note(
+            BareNote::Refused(n, Refusal::BadIndex),
+            &[],
+            text,
+        ),
+        Err(ImageRefusal::Taken) => print_note(BareNote::Refused(n, Refusal::Taken), &[], text),
         Err(ImageRefusal::Unloaded(fault)) => say_fault(n, fault, text),
     }
 }

@@ -1,14 +1,14 @@
 //! The run loop.
 
-ghost use Rattle.std.specs.Prelude.{◌≡◌, ◌≢◌, ◌+◌, ◌-◌, ◌<◌, ◌≤◌, ◌^◌, ℕ, List, [], ◌∷◌, ◌++◌, length, false, Err, OnOk, IfOk, MatchResult, map, vec_len, ◌⊎◌};
+ghost use Rattle.std.specs.Prelude.{◌≡◌, ◌≢◌, ◌==◌, ◌+◌, ◌-◌, ◌<◌, ◌≤◌, ◌^◌, ℕ, List, [], ◌∷◌, ◌++◌, length, false, Err, OnOk, IfOk, MatchResult, map, vec_len, ◌⊎◌, drop};
 ghost use Rattle.std.specs.Io.KnownBytes.{Appends, Consumes, IsAtEnd};
-ghost use Rattle.vino_base.specs.Faults.{HasCause, Rose};
+ghost use Rattle.vino_base.specs.Streams.{IsUsed};
 ghost use Rattle.kernel_model.specs.Script.{LINE_BYTES};
 ghost use Rattle.kernel_model.specs.Outcome.{lines_after};
 ghost use Rattle.filters.specs.Filtered.{AppendsPart};
 ghost use Rattle.vino_top.specs.Bounds.{IsSessionWithin};
 ghost use Rattle.vino_top.specs.declared.run.Stop.TheVariants.{SinkFailed};
-ghost use Rattle.vino_top.specs.Run.{Place, place, TakesLine, Feeds, StopsAt, Ran, Broke, Lacked, stop_status};
+ghost use Rattle.vino_top.specs.Run.{Place, place, TakesLine, Feeds, StopsAt, Ran, Broke, Lacked, stop_status, is_sink_failed};
 ghost use Rattle.vino_top.specs.Standing.{seen_of, StandsFor, IsBegun, last_bytes, last_status};
 ghost use Rattle.disk_log.specs.Seen.{DiskSeen, disk_seen};
 ghost use Rattle.kernel_model.specs.Opening.{opening_policy};
@@ -72,12 +72,11 @@ pub fn zeros(alloc: Global, n: usize) -> Result<Vec<u8>, NoMemory>
 
 /// What a line writes is written.
 fn write_lines<B: Policy, K: Sink>(reader: &ScriptRun<B>, out: &mut K) -> Result<(), Stop>
-    ensures later { K.faults out.old ≤ K.faults out.new }
-    ensures sink_failed { result ≡ Err SinkFailed → Rose (K.faults out.old) (K.faults out.new) }
+    ensures sink { IsUsed (K.seen out.old).device (K.seen out.new).device (is_sink_failed result) }
     ensures contents { MatchResult result
-        (λ _. Appends (K.got out.old) (K.got out.new) reader.now.out.lines)
+        (λ _. Appends (K.seen out.old).got (K.seen out.new).got reader.now.out.lines)
         (λ stop. (stop ≡ SinkFailed)
-        × AppendsPart (K.got out.old) (K.got out.new) reader.now.out.lines) }
+        × AppendsPart (K.seen out.old).got (K.seen out.new).got reader.now.out.lines) }
 {
     match write_all(out, reader.out.lines.as_slice()) {
         Ok(()) => Ok(()),
@@ -102,15 +101,14 @@ fn end_line<B: Policy, K: Sink, D: Disk>(
     ensures line { OnOk result (reader.new.line ≡ []) }
     ensures contents { MatchResult result
         (λ _. TakesLine (place keys.now size) reader.old.line (seen_of reader.old.session)
-        (seen_of reader.new.session) (K.got out.old) (K.got out.new)
+        (seen_of reader.new.session) (K.seen out.old).got (K.seen out.new).got
         (disk_seen (D.blocks disk.old) (D.plan disk.old) (D.faults disk.old))
         (disk_seen (D.blocks disk.new) (D.plan disk.new) (D.faults disk.new)))
         (StopsAt (place keys.now size) (StandsFor (seen_of reader.old.session) (D.blocks disk.old))
-        (reader.old.line ∷ []) (K.got out.old) (K.got out.new)
+        (reader.old.line ∷ []) (K.seen out.old).got (K.seen out.new).got
         (disk_seen (D.blocks disk.old) (D.plan disk.old) (D.faults disk.old))
         (disk_seen (D.blocks disk.new) (D.plan disk.new) (D.faults disk.new))) }
-    ensures later { K.faults out.old ≤ K.faults out.new }
-    ensures sink_failed { result ≡ Err SinkFailed → Rose (K.faults out.old) (K.faults out.new) }
+    ensures sink { IsUsed (K.seen out.old).device (K.seen out.new).device (is_sink_failed result) }
     ensures same_size { D.block_count disk.new ≡ size }
 {
     if let Err(_) = reader.session.run_line(
@@ -140,11 +138,10 @@ fn end_long<B: Policy, K: Sink>(
     ensures line { OnOk result (reader.new.line ≡ []) }
     ensures contents { (c : Place) (d : DiskSeen) → MatchResult result
         (λ _. TakesLine c (reader.old.line ++ byte ∷ []) (seen_of reader.old.session)
-        (seen_of reader.new.session) (K.got out.old) (K.got out.new) d d)
+        (seen_of reader.new.session) (K.seen out.old).got (K.seen out.new).got d d)
         (StopsAt c (StandsFor (seen_of reader.old.session) d.known)
-        ((reader.old.line ++ byte ∷ []) ∷ []) (K.got out.old) (K.got out.new) d d) }
-    ensures later { K.faults out.old ≤ K.faults out.new }
-    ensures sink_failed { result ≡ Err SinkFailed → Rose (K.faults out.old) (K.faults out.new) }
+        ((reader.old.line ++ byte ∷ []) ∷ []) (K.seen out.old).got (K.seen out.new).got d d) }
+    ensures sink { IsUsed (K.seen out.old).device (K.seen out.new).device (is_sink_failed result) }
 {
     reader.session.refuse_long(&mut reader.out);
     reader.line.clear();
@@ -168,16 +165,15 @@ fn take_byte<B: Policy, K: Sink, D: Disk>(
     ensures within { IsSessionWithin size reader.new.session }
     ensures contents { MatchResult result
         (λ _. Feeds (place keys.now size) (seen_of reader.old.session)
-        (seen_of reader.new.session) reader.old.line reader.new.line (byte ∷ []) (K.got out.old)
-        (K.got out.new)
+        (seen_of reader.new.session) reader.old.line reader.new.line (byte ∷ []) (K.seen out.old).got
+        (K.seen out.new).got
         (disk_seen (D.blocks disk.old) (D.plan disk.old) (D.faults disk.old))
         (disk_seen (D.blocks disk.new) (D.plan disk.new) (D.faults disk.new)))
         (StopsAt (place keys.now size) (StandsFor (seen_of reader.old.session) (D.blocks disk.old))
-        (lines_after reader.old.line (byte ∷ [])) (K.got out.old) (K.got out.new)
+        (lines_after reader.old.line (byte ∷ [])) (K.seen out.old).got (K.seen out.new).got
         (disk_seen (D.blocks disk.old) (D.plan disk.old) (D.faults disk.old))
         (disk_seen (D.blocks disk.new) (D.plan disk.new) (D.faults disk.new))) }
-    ensures later { K.faults out.old ≤ K.faults out.new }
-    ensures sink_failed { result ≡ Err SinkFailed → Rose (K.faults out.old) (K.faults out.new) }
+    ensures sink { IsUsed (K.seen out.old).device (K.seen out.new).device (is_sink_failed result) }
     ensures same_size { D.block_count disk.new ≡ size }
 {
     match reader.line.push(byte) {
@@ -187,7 +183,15 @@ fn take_byte<B: Policy, K: Sink, D: Disk>(
     }
 }
 
-/// Some bytes of the script, one after another.
+/// The bytes from a place on.
+fn behind(bytes: &[u8], at: usize) -> &[u8]
+    requires { at ≤ length bytes.now }
+    ensures { result.now ≡ drop at bytes.now }
+{
+    &bytes[at..]
+}
+
+/// Some bytes of the script: those of a line at once, and what ends it.
 fn feed<B: Policy, K: Sink, D: Disk>(
     alloc: Global,
     keys: &Keys,
@@ -204,22 +208,27 @@ fn feed<B: Policy, K: Sink, D: Disk>(
     ensures within { IsSessionWithin size reader.new.session }
     ensures contents { MatchResult result
         (λ _. Feeds (place keys.now size) (seen_of reader.old.session)
-        (seen_of reader.new.session) reader.old.line reader.new.line bytes.now (K.got out.old)
-        (K.got out.new)
+        (seen_of reader.new.session) reader.old.line reader.new.line bytes.now (K.seen out.old).got
+        (K.seen out.new).got
         (disk_seen (D.blocks disk.old) (D.plan disk.old) (D.faults disk.old))
         (disk_seen (D.blocks disk.new) (D.plan disk.new) (D.faults disk.new)))
         (StopsAt (place keys.now size) (StandsFor (seen_of reader.old.session) (D.blocks disk.old))
-        (lines_after reader.old.line bytes.now) (K.got out.old) (K.got out.new)
+        (lines_after reader.old.line bytes.now) (K.seen out.old).got (K.seen out.new).got
         (disk_seen (D.blocks disk.old) (D.plan disk.old) (D.faults disk.old))
         (disk_seen (D.blocks disk.new) (D.plan disk.new) (D.faults disk.new))) }
-    ensures later { K.faults out.old ≤ K.faults out.new }
-    ensures sink_failed { result ≡ Err SinkFailed → Rose (K.faults out.old) (K.faults out.new) }
+    ensures sink { IsUsed (K.seen out.old).device (K.seen out.new).device (is_sink_failed result) }
     ensures same_size { D.block_count disk.new ≡ size }
 {
-    for byte in bytes {
-        if let Err(stop) = take_byte(alloc, keys, reader, *byte, size, out, disk) {
+    let mut at = 0;
+    while at < bytes.len() {
+        at += reader.line.put_plain(behind(bytes, at));
+        if at == bytes.len() {
+            continue;
+        }
+        if let Err(stop) = take_byte(alloc, keys, reader, bytes[at], size, out, disk) {
             return Err(stop);
         }
+        at += 1;
     }
     Ok(())
 }
@@ -228,11 +237,10 @@ fn feed<B: Policy, K: Sink, D: Disk>(
 fn write_last<B: Policy, K: Sink>(reader: &ScriptRun<B>, status: u8, out: &mut K) -> u8
     requires { (status ≡ 0) ⊎ (status ≡ 2) }
     ensures done { result ≢ 4 → (result ≡ status)
-        × Appends (K.got out.old) (K.got out.new) reader.now.out.lines }
-    ensures broken { result ≡ 4 → AppendsPart (K.got out.old) (K.got out.new) reader.now.out.lines }
+        × Appends (K.seen out.old).got (K.seen out.new).got reader.now.out.lines }
+    ensures broken { result ≡ 4 → AppendsPart (K.seen out.old).got (K.seen out.new).got reader.now.out.lines }
     ensures statuses { (result ≡ 0) ⊎ (result ≡ 2) ⊎ (result ≡ 4) }
-    ensures later { K.faults out.old ≤ K.faults out.new }
-    ensures sink_failed { result ≡ 4 → Rose (K.faults out.old) (K.faults out.new) }
+    ensures sink { IsUsed (K.seen out.old).device (K.seen out.new).device (result == 4) }
 {
     match write_all(out, reader.out.lines.as_slice()) {
         Ok(()) => status,
@@ -246,13 +254,12 @@ fn finish<B: Policy, K: Sink>(reader: &mut ScriptRun<B>, out: &mut K) -> u8
     requires lines { reader.old.session.lines < 2 ^ 32 - 2 }
     requires within { (size : ℕ) × IsSessionWithin size reader.old.session }
     ensures done { result ≢ 4 → (result ≡ last_status reader.old.line)
-        × Appends (K.got out.old) (K.got out.new)
+        × Appends (K.seen out.old).got (K.seen out.new).got
         (last_bytes (seen_of reader.old.session) reader.old.line) }
-    ensures broken { result ≡ 4 → AppendsPart (K.got out.old) (K.got out.new)
+    ensures broken { result ≡ 4 → AppendsPart (K.seen out.old).got (K.seen out.new).got
         (last_bytes (seen_of reader.old.session) reader.old.line) }
     ensures statuses { (result ≡ 0) ⊎ (result ≡ 2) ⊎ (result ≡ 4) }
-    ensures later { K.faults out.old ≤ K.faults out.new }
-    ensures sink_failed { result ≡ 4 → Rose (K.faults out.old) (K.faults out.new) }
+    ensures sink { IsUsed (K.seen out.old).device (K.seen out.new).device (result == 4) }
 {
     if reader.line.line().is_empty() {
         reader.session.left(&mut reader.out);
@@ -288,24 +295,22 @@ pub fn run<B: Policy, S: Source, K: Sink, D: Disk>(
     requires line { reader.old.line ≡ [] }
     requires room { 0 < length buf.old }
     ensures ran { result ≢ 4 → result ≢ 5 →
-        Ran (place keys.now (D.block_count disk.old)) (S.rest src.old) (S.rest src.new)
-        (S.faults src.old) (S.faults src.new) (K.got out.old) (K.got out.new)
+        Ran (place keys.now (D.block_count disk.old)) (S.seen src.old) (S.seen src.new) (K.seen out.old)
+        (K.seen out.new)
         (disk_seen (D.blocks disk.old) (D.plan disk.old) (D.faults disk.old))
         (disk_seen (D.blocks disk.new) (D.plan disk.new) (D.faults disk.new)) result }
-    ensures broke { result ≡ 4 → Broke (place keys.now (D.block_count disk.old)) (S.rest src.old)
-        (S.rest src.new) (K.got out.old) (K.got out.new)
+    ensures broke { result ≡ 4 → Broke (place keys.now (D.block_count disk.old)) (S.seen src.old)
+        (S.seen src.new) (K.seen out.old) (K.seen out.new)
         (disk_seen (D.blocks disk.old) (D.plan disk.old) (D.faults disk.old))
         (disk_seen (D.blocks disk.new) (D.plan disk.new) (D.faults disk.new)) }
-    ensures lacked { result ≡ 5 → Lacked (place keys.now (D.block_count disk.old)) (S.rest src.old)
-        (S.rest src.new) (K.got out.old) (K.got out.new)
+    ensures lacked { result ≡ 5 → Lacked (place keys.now (D.block_count disk.old)) (S.seen src.old)
+        (S.seen src.new) (K.seen out.old) (K.seen out.new)
         (disk_seen (D.blocks disk.old) (D.plan disk.old) (D.faults disk.old))
         (disk_seen (D.blocks disk.new) (D.plan disk.new) (D.faults disk.new)) }
     ensures statuses { (result ≡ 0) ⊎ (result ≡ 2) ⊎ (result ≡ 3) ⊎ (result ≡ 4) ⊎ (result ≡ 5)
         ⊎ (result ≡ 7) }
-    ensures source_failed { result ≡ 3 → Rose (S.faults src.old) (S.faults src.new) }
-    ensures source_later { S.faults src.old ≤ S.faults src.new }
-    ensures sink_later { K.faults out.old ≤ K.faults out.new }
-    ensures sink_failed { result ≡ 4 → Rose (K.faults out.old) (K.faults out.new) }
+    ensures source { IsUsed (S.seen src.old).device (S.seen src.new).device (result == 3) }
+    ensures sink { IsUsed (K.seen out.old).device (K.seen out.new).device (result == 4) }
 {
     let size = disk.size();
     let mut left = SCRIPT_BYTES + 1;

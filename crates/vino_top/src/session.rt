@@ -3,6 +3,7 @@
 ghost use Rattle.std.specs.Prelude.{◌≡◌, ℕ, ◌+◌, ◌<◌, ◌≤◌, ◌-◌, ◌++◌, ◌^◌, true, false, List, [], length, map, codes, decimal, slice_index_or, None, Ok, Err, IfOk, OnOk, OnErr};
 ghost use Rattle.disk_log.specs.Seen.{DiskSeen, disk_seen};
 ghost use Rattle.kernel_model.specs.declared.Keys.{Keys};
+ghost use Rattle.kernel_model.specs.Bare.{event_with};
 ghost use Rattle.kernel_model.specs.Objects.{at};
 ghost use Rattle.kernel_model.specs.Text.{line, spaced};
 ghost use Rattle.kernel_model.specs.Opening.{opening_policy};
@@ -25,11 +26,12 @@ ghost use Rattle.vino_top.specs.Run.{Place, place, LoadsFree, WantsAt, RunsLine,
 
 use crate::lines::Lines;
 use crate::loading::say_image;
+use arrayvec::ArrayVec;
 use call_pieces::Plain;
 use graft_loader::{Images, Keys, LoadFault};
 use graft_points::Policy;
-use kernel_core::{BootNote, ImageRefusal, Kernel, Notes, Setup};
-use kernel_model::{Event, NoMemory, Note, Refusal};
+use kernel_core::{BootNote, ImageRefusal, Kernel, Setup, Trace};
+use kernel_model::{BLOCK_BYTES, BareEvent, BareNote, NoMemory, Refusal};
 use line_text::{Text, print_boot, print_fault, print_note};
 use placed_laws::agreeing;
 use plain_rules::PlainRules;
@@ -38,11 +40,13 @@ use script_text::{Entry, ImageBytes, ScriptFault, parse_line};
 use std::alloc::Global;
 use vino_base::Disk;
 
-/// What a line leaves behind: the notes of its event, and the bytes that are written. Memory is
-/// taken once, before the first line.
+/// What a line leaves behind: the notes of its event, and the bytes that are written. Beside them
+/// stand the bytes of its call. Memory is taken once, before the first line.
 #[derive(Drop)]
 pub struct Buffers {
-    pub notes: Notes,
+    pub trace: Trace,
+    /// The name of an `open`, or what a `write` writes.
+    pub bytes: ArrayVec<u8, BLOCK_BYTES>,
     pub text: Text,
     pub lines: Lines,
 }
@@ -51,7 +55,8 @@ impl Buffers {
     /// Empty ones.
     pub fn new(alloc: Global) -> Result<Buffers, NoMemory> {
         Ok(Buffers {
-            notes: Notes::new(alloc)?,
+            trace: Trace::new(alloc)?,
+            bytes: ArrayVec::new(),
             text: Text::new(),
             lines: Lines::new(alloc)?,
         })
@@ -59,10 +64,10 @@ impl Buffers {
 
     /// Forgets what the last line left.
     fn clear(&mut self)
-        ensures notes { self.new.notes ≡ [] }
+        ensures notes { self.new.trace.notes ≡ [] }
         ensures lines { self.new.lines ≡ [] }
     {
-        self.notes.clear();
+        self.trace.notes.clear();
         self.lines.clear();
     }
 }
@@ -148,7 +153,7 @@ impl<B: Policy> Session<B> {
         if self.refused {
             return Ok(());
         }
-        match parse_line(text, self.booted) {
+        match parse_line(text, self.booted, &mut out.bytes) {
             Err(fault) => {
                 self.lines += 1;
                 self.refuse(fault_code(fault), out);
@@ -186,7 +191,7 @@ impl<B: Policy> Session<B> {
     fn refuse(&mut self, code: u8, out: &mut Buffers)
         requires empty { out.old.lines ≡ [] }
         ensures state { self.new ≡ record self.old { refused = true } }
-        ensures notes { out.new.notes ≡ out.old.notes }
+        ensures notes { out.new.trace.notes ≡ out.old.trace.notes }
         ensures text { out.new.lines
             ≡ line (codes "script" ++ spaced self.old.lines ++ codes " S" ++ decimal code) }
     {
@@ -211,19 +216,19 @@ impl<B: Policy> Session<B> {
         requires within { IsSessionWithin size self.old }
         requires disk { D.block_count disk.old ≡ size }
         requires limits { SetsWithin (Ok entry.now) }
-        requires place { entry_seen entry.now ≡ Boot → self.old.booted ≡ false }
-        requires no_notes { out.old.notes ≡ [] }
+        requires place { entry_seen entry.now out.old.bytes.items ≡ Boot → self.old.booted ≡ false }
+        requires no_notes { out.old.trace.notes ≡ [] }
         requires empty { out.old.lines ≡ [] }
         ensures within { IsSessionWithin size self.new }
         ensures counted { self.new.lines ≡ self.old.lines }
         ensures same_size { D.block_count disk.new ≡ size }
-        ensures runs { OnOk result (RunsEntry (place keys.now size) (entry_seen entry.now)
+        ensures runs { OnOk result (RunsEntry (place keys.now size) (entry_seen entry.now out.old.bytes.items)
             (seen_of self.old) (seen_of self.new)
             (disk_seen (D.blocks disk.old) (D.plan disk.old) (D.faults disk.old))
             (disk_seen (D.blocks disk.new) (D.plan disk.new) (D.faults disk.new))
             (left_in out.new)) }
         ensures err { OnErr result ((self.new ≡ self.old)
-            × LoadsFree (seen_of self.old) (entry_seen entry.now)) }
+            × LoadsFree (seen_of self.old) (entry_seen entry.now out.old.bytes.items)) }
         ensures same_disk { OnErr result (disk_seen (D.blocks disk.new) (D.plan disk.new)
             (D.faults disk.new) ≡ disk_seen (D.blocks disk.old) (D.plan disk.old)
             (D.faults disk.old)) }
@@ -247,7 +252,7 @@ impl<B: Policy> Session<B> {
                 Ok(())
             }
             Entry::Happens(event) => {
-                self.happen(event, size, disk, out);
+                self.happen(*event, size, disk, out);
                 Ok(())
             }
             Entry::Image(slot, bytes) => self.image(alloc, keys, *slot, bytes, out),
@@ -263,7 +268,7 @@ impl<B: Policy> Session<B> {
         requires first { self.old.booted ≡ false }
         requires within { IsSessionWithin size self.old }
         requires disk { D.block_count disk.old ≡ size }
-        requires no_notes { out.old.notes ≡ [] }
+        requires no_notes { out.old.trace.notes ≡ [] }
         requires empty { out.old.lines ≡ [] }
         ensures within { IsSessionWithin size self.new }
         ensures counted { self.new.lines ≡ self.old.lines }
@@ -326,7 +331,7 @@ impl<B: Policy> Session<B> {
         requires room { self.old.lines < 2 ^ 32 - 1 }
         requires fresh { self.old.events < self.old.lines }
         requires within { (size : ℕ) × IsSessionWithin size self.old }
-        requires no_notes { out.old.notes ≡ [] }
+        requires no_notes { out.old.trace.notes ≡ [] }
         requires empty { out.old.lines ≡ [] }
         ensures within { (size : ℕ) → IsSessionWithin size self.old →
             IsSessionWithin size self.new }
@@ -376,7 +381,7 @@ impl<B: Policy> Session<B> {
         requires room { self.old.events < 2 ^ 32 - 1 }
         requires empty { out.old.lines ≡ [] }
         ensures state { self.new ≡ record self.old { events = self.old.events + 1 } }
-        ensures notes { out.new.notes ≡ out.old.notes }
+        ensures notes { out.new.trace.notes ≡ out.old.trace.notes }
         ensures text { out.new.lines ≡ out.old.text }
     {
         self.events += 1;
@@ -387,7 +392,7 @@ impl<B: Policy> Session<B> {
     fn raw(&mut self, out: &mut Buffers)
         requires room { self.old.lines < 2 ^ 32 - 1 }
         requires fresh { self.old.events < self.old.lines }
-        requires no_notes { out.old.notes ≡ [] }
+        requires no_notes { out.old.trace.notes ≡ [] }
         requires empty { out.old.lines ≡ [] }
         requires within { (size : ℕ) × IsSessionWithin size self.old }
         ensures within { (size : ℕ) → IsSessionWithin size self.old →
@@ -404,17 +409,18 @@ impl<B: Policy> Session<B> {
     }
 
     /// An event of the kernel.
-    fn happen<D: Disk>(&mut self, event: &Event, size: u32, disk: &mut D, out: &mut Buffers)
+    fn happen<D: Disk>(&mut self, event: BareEvent, size: u32, disk: &mut D, out: &mut Buffers)
         requires room { self.old.lines < 2 ^ 32 - 1 }
         requires fresh { self.old.events < self.old.lines }
         requires within { IsSessionWithin size self.old }
         requires disk { D.block_count disk.old ≡ size }
-        requires no_notes { out.old.notes ≡ [] }
+        requires no_notes { out.old.trace.notes ≡ [] }
         requires empty { out.old.lines ≡ [] }
         ensures within { IsSessionWithin size self.new }
         ensures counted { self.new.lines ≡ self.old.lines }
         ensures same_size { D.block_count disk.new ≡ size }
-        ensures runs { (keys : Keys) → RunsEntry (place keys size) (Happens event.now)
+        ensures runs { (keys : Keys) → RunsEntry (place keys size)
+            (Happens (event_with event out.old.bytes.items))
             (seen_of self.old) (seen_of self.new)
             (disk_seen (D.blocks disk.old) (D.plan disk.old) (D.faults disk.old))
             (disk_seen (D.blocks disk.new) (D.plan disk.new) (D.faults disk.new))
@@ -422,8 +428,10 @@ impl<B: Policy> Session<B> {
     {
         if self.booted {
             self.events += 1;
-            self.kernel.event(self.events, event, disk, &mut out.notes);
-            out.lines.add_notes(&out.notes, &mut out.text);
+            let n = self.events;
+            self.kernel
+                .event(n, event, &out.bytes, disk, &mut out.trace);
+            out.lines.add_notes(&out.trace.notes, &mut out.text);
         }
     }
 }
@@ -447,7 +455,7 @@ fn say_boot(note: BootNote, text: &mut Text)
 {
     match note {
         BootNote::Up(frames, size, files) => print_boot(frames, size, u32::from(files), text),
-        BootNote::Fault => print_note(&Note::Refused(0, Refusal::DiskFault), text),
+        BootNote::Fault => print_note(BareNote::Refused(0, Refusal::DiskFault), &[], text),
     }
 }
 

@@ -1,6 +1,6 @@
 -- What is done for what the words ask.
 use Rattle.std.proofs.Common.{◌≡◌, ◌≢◌, ◌⊎◌, ℕ, sym, ◌∙◌, refl, arith, inl, inr}
-use Rattle.vino_top.proofs.EndLemmas.{kept, known_run}
+use Rattle.vino_top.proofs.EndLemmas.{known_run, not_read, demo_reads, usage_reads}
 use Rattle.vino_top.proofs.vino.Goals as goal
 
 -- the statuses of a filter of images aren't that of the usage line
@@ -20,9 +20,7 @@ pub returns-in-Asm-clause-does : goal.returns-in-Asm-clause-does
 returns-in-Asm-clause-does g c =
     rw (sym c.read_words.ensures ∙ c.in-Asm.is) (record {
       known = known_run c.asm.result c.asm.ensures.statuses;
-      ran = c.asm.ensures.ran;
-      broke = c.asm.ensures.broke;
-      memory = c.asm.ensures.memory;
+      answered = c.asm.ensures.filtered;
       disk = refl;
     })
 
@@ -30,9 +28,7 @@ pub returns-in-Dis-clause-does : goal.returns-in-Dis-clause-does
 returns-in-Dis-clause-does g c =
     rw (sym c.read_words.ensures ∙ c.in-Dis.is) (record {
       known = known_run c.dis.result c.dis.ensures.statuses;
-      ran = c.dis.ensures.ran;
-      broke = c.dis.ensures.broke;
-      memory = c.dis.ensures.memory;
+      answered = c.dis.ensures.filtered;
       disk = refl;
     })
 
@@ -40,9 +36,7 @@ pub returns-in-Lang-clause-does : goal.returns-in-Lang-clause-does
 returns-in-Lang-clause-does g c =
     rw (sym c.read_words.ensures ∙ c.in-Lang.is) (record {
       known = known_run c.lang.result c.lang.ensures.statuses;
-      ran = c.lang.ensures.ran;
-      broke = c.lang.ensures.broke;
-      memory = c.lang.ensures.memory;
+      answered = c.lang.ensures.filtered;
       disk = refl;
     })
 
@@ -50,9 +44,7 @@ pub returns-in-Box-clause-does : goal.returns-in-Box-clause-does
 returns-in-Box-clause-does g c =
     rw (sym c.read_words.ensures ∙ c.in-Box.is) (record {
       known = known_image c.box_image.result c.box_image.ensures.statuses;
-      ran = c.box_image.ensures.ran;
-      broke = c.box_image.ensures.broke;
-      memory = c.box_image.ensures.memory;
+      answered = c.box_image.ensures.filtered;
       disk = refl;
     })
 
@@ -60,9 +52,7 @@ pub returns-in-Check-clause-does : goal.returns-in-Check-clause-does
 returns-in-Check-clause-does g c =
     rw (sym c.read_words.ensures ∙ c.in-Check.is) (record {
       known = known_image c.check_image.result c.check_image.ensures.statuses;
-      ran = c.check_image.ensures.ran;
-      broke = c.check_image.ensures.broke;
-      memory = c.check_image.ensures.memory;
+      answered = c.check_image.ensures.filtered;
       disk = refl;
     })
 
@@ -70,9 +60,7 @@ pub returns-in-Reseal-clause-does : goal.returns-in-Reseal-clause-does
 returns-in-Reseal-clause-does g c =
     rw (sym c.read_words.ensures ∙ c.in-Reseal.is) (record {
       known = known_image c.reseal_image.result c.reseal_image.ensures.statuses;
-      ran = c.reseal_image.ensures.ran;
-      broke = c.reseal_image.ensures.broke;
-      memory = c.reseal_image.ensures.memory;
+      answered = c.reseal_image.ensures.filtered;
       disk = refl;
     })
 
@@ -80,7 +68,7 @@ pub returns-in-Demo-clause-does : goal.returns-in-Demo-clause-does
 returns-in-Demo-clause-does g c =
     let demo = c.demo.ensures in
     rw (sym c.read_words.ensures ∙ c.in-Demo.is) (
-      kept (g.S.Source.rest c.args.src.now),
+      refl,
       elim demo.statuses [
         | inl done ↦ inl (done, demo.ran done)
         | inr others ↦ inr (elim others [
@@ -92,4 +80,46 @@ returns-in-Demo-clause-does g c =
 
 pub returns-in-Nothing-clause-does : goal.returns-in-Nothing-clause-does
 returns-in-Nothing-clause-does g c =
-    rw (sym c.read_words.ensures ∙ c.in-Nothing.is) (kept (g.S.Source.rest c.args.src.now), refl, c.write_usage.ensures.cases)
+    rw (sym c.read_words.ensures ∙ c.in-Nothing.is) (refl, refl, c.write_usage.ensures.cases)
+
+pub returns-in-Asm-clause-source : goal.returns-in-Asm-clause-source
+returns-in-Asm-clause-source g c = c.asm.ensures.filtered.source
+
+pub returns-in-Asm-clause-sink : goal.returns-in-Asm-clause-sink
+returns-in-Asm-clause-sink g c = c.asm.ensures.filtered.sink
+
+pub returns-in-Dis-clause-source : goal.returns-in-Dis-clause-source
+returns-in-Dis-clause-source g c = c.dis.ensures.filtered.source
+
+pub returns-in-Dis-clause-sink : goal.returns-in-Dis-clause-sink
+returns-in-Dis-clause-sink g c = c.dis.ensures.filtered.sink
+
+pub returns-in-Lang-clause-source : goal.returns-in-Lang-clause-source
+returns-in-Lang-clause-source g c = c.lang.ensures.filtered.source
+
+pub returns-in-Lang-clause-sink : goal.returns-in-Lang-clause-sink
+returns-in-Lang-clause-sink g c = c.lang.ensures.filtered.sink
+
+pub returns-in-Box-clause-source : goal.returns-in-Box-clause-source
+returns-in-Box-clause-source g c = c.box_image.ensures.filtered.source
+
+pub returns-in-Box-clause-sink : goal.returns-in-Box-clause-sink
+returns-in-Box-clause-sink g c = c.box_image.ensures.filtered.sink
+
+pub returns-in-Check-clause-source : goal.returns-in-Check-clause-source
+returns-in-Check-clause-source g c = c.check_image.ensures.filtered.source
+
+pub returns-in-Check-clause-sink : goal.returns-in-Check-clause-sink
+returns-in-Check-clause-sink g c = c.check_image.ensures.filtered.sink
+
+pub returns-in-Reseal-clause-source : goal.returns-in-Reseal-clause-source
+returns-in-Reseal-clause-source g c = c.reseal_image.ensures.filtered.source
+
+pub returns-in-Reseal-clause-sink : goal.returns-in-Reseal-clause-sink
+returns-in-Reseal-clause-sink g c = c.reseal_image.ensures.filtered.sink
+
+pub returns-in-Demo-clause-source : goal.returns-in-Demo-clause-source
+returns-in-Demo-clause-source g c = not_read _ c.demo.result (demo_reads c.demo.result c.demo.ensures.statuses)
+
+pub returns-in-Nothing-clause-source : goal.returns-in-Nothing-clause-source
+returns-in-Nothing-clause-source g c = not_read _ c.write_usage.result (usage_reads c.write_usage.result c.write_usage.ensures.cases)

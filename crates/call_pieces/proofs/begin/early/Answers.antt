@@ -1,9 +1,12 @@
-use Rattle.std.proofs.Common.{◌∙◌, sym}
+use Rattle.std.proofs.Common.{List, ℕ, ◌∙◌, sym, ap}
+use Rattle.kernel_model.specs.Bare.{call_with}
 use Rattle.kernel_state.specs.Stores.{world_of_store, objects_of}
 use Rattle.call_pieces.proofs.Granting.{may_come}
 use Rattle.call_pieces.proofs.begin.early.Goals as goal
 
 pub returns-clause-ready : goal.returns-clause-ready
 returns-clause-ready g c =
-    may_come (world_of_store c.args.store.now) (objects_of c.args.store.now) c.args.images c.args.p c.args.call.now c.copy_call.result c.copy_call.ensures c.requires.alive
+    let same = ap (λ (x : List ℕ). call_with c.args.call x) (sym c.as_slice.ensures.value) in
+    let copied = ap (λ (x : List ℕ). call_with c.args.call x) c.copy_bytes.ensures in
+    may_come (world_of_store c.args.store.now) (objects_of c.args.store.now) c.args.images c.args.p (call_with c.args.call c.as_slice.result.now) _ (copied ∙ same) c.requires.alive
     (λ table tells. sym c.in_default.is ∙ c.refusal.ensures table tells)

@@ -1,4 +1,4 @@
-use Rattle.std.proofs.Common.{ℕ, ◌++◌, List, length, refl, ap, sym, subst}
+use Rattle.std.proofs.Common.{ℕ, ◌++◌, List, None, length, refl, ap, sym, subst}
 use Rattle.kernel_model.specs.declared.SysCall.{SysCall}
 use Rattle.kernel_model.specs.declared.SysCall.TheVariants.{Spawn, Exit, OpenName, CloseFd, Write, Sync, TakeLock, FreeLock, Poke, Peek, Tune, Choose, Give, Install, Remove, Fund, Bill}
 use Rattle.kernel_model.specs.World.{file_named}
@@ -7,108 +7,112 @@ use Rattle.kernel_model.specs.Needs.{file_block}
 use Rattle.kernel_model.specs.FilePieces.{open_piece, free_descriptor, write_piece, sync_from}
 use Rattle.kernel_model.specs.Pieces.{piece_of, yield_piece}
 use Rattle.kernel_state.specs.Stores.{world_of_store, objects_of}
-use Rattle.call_pieces.specs.Works.{comes_after}
+use Rattle.call_pieces.specs.Works.{comes_after, call_of}
 use Rattle.call_pieces.specs.Matching.{PieceMatches, PieceMatchesSome}
-use Rattle.call_pieces.proofs.Grants.{exit_granted, close_granted, take_granted, free_granted, poke_granted, peek_granted, tune_granted, choose_granted, give_granted, install_granted, remove_granted, fund_granted, bill_granted, read_granted, write_granted, came_named}
+use Rattle.call_pieces.proofs.Grants.{exit_granted, close_granted, take_granted, free_granted, poke_granted, peek_granted, tune_granted, choose_granted, give_granted, install_granted, remove_granted, fund_granted, bill_granted, read_granted, write_granted, came_named, named}
 use Rattle.call_pieces.proofs.LeftLaws.{some_of_all, some_quick, some_named}
 use Rattle.call_pieces.proofs.pieces.piece.Goals as goal
 
 pub exit-requires-clause-granted : goal.exit-requires-clause-granted
-exit-requires-clause-granted g c = exit_granted (world_of_store c.args.store.now) c.args.work.now.caller c.args.work.now.call (c.requires.ready.images, c.requires.ready.granted) c.in-Exit.is
+exit-requires-clause-granted g c = exit_granted (world_of_store c.args.store.now) c.args.work.now.caller (call_of c.args.work.now) (c.requires.ready.images, c.requires.ready.granted) (named c.args.work.now _ c.in-Exit.is)
 
 pub close-requires-clause-granted : goal.close-requires-clause-granted
-close-requires-clause-granted g c = close_granted (world_of_store c.args.store.now) c.args.work.now.caller c.args.work.now.call c.in-CloseFd.fd (c.requires.ready.images, c.requires.ready.granted) c.in-CloseFd.is
+close-requires-clause-granted g c = close_granted (world_of_store c.args.store.now) c.args.work.now.caller (call_of c.args.work.now) c.in-CloseFd.fd (c.requires.ready.images, c.requires.ready.granted) (named c.args.work.now _ c.in-CloseFd.is)
 
 pub read-requires-clause-descriptor : goal.read-requires-clause-descriptor
-read-requires-clause-descriptor g c = (read_granted (world_of_store c.args.store.now) c.args.work.now.caller c.args.work.now.call c.in-Read.fd c.in-Read.i c.in-Read.off c.in-Read.len (c.requires.ready.images, c.requires.ready.granted) c.in-Read.is).0
+read-requires-clause-descriptor g c = (read_granted (world_of_store c.args.store.now) c.args.work.now.caller (call_of c.args.work.now) c.in-Read.fd c.in-Read.i c.in-Read.off c.in-Read.len (c.requires.ready.images, c.requires.ready.granted) (named c.args.work.now _ c.in-Read.is)).0
 
 pub read-requires-clause-inside : goal.read-requires-clause-inside
-read-requires-clause-inside g c = (read_granted (world_of_store c.args.store.now) c.args.work.now.caller c.args.work.now.call c.in-Read.fd c.in-Read.i c.in-Read.off c.in-Read.len (c.requires.ready.images, c.requires.ready.granted) c.in-Read.is).1
+read-requires-clause-inside g c = (read_granted (world_of_store c.args.store.now) c.args.work.now.caller (call_of c.args.work.now) c.in-Read.fd c.in-Read.i c.in-Read.off c.in-Read.len (c.requires.ready.images, c.requires.ready.granted) (named c.args.work.now _ c.in-Read.is)).1
 
 pub write-requires-clause-descriptor : goal.write-requires-clause-descriptor
-write-requires-clause-descriptor g c = (write_granted (world_of_store c.args.store.now) c.args.work.now.caller c.args.work.now.call c.in-Write.fd c.in-Write.i c.in-Write.off c.in-Write.bytes (c.requires.ready.images, c.requires.ready.granted) c.in-Write.is).0
+write-requires-clause-descriptor g c = (write_granted (world_of_store c.args.store.now) c.args.work.now.caller (call_of c.args.work.now) c.in-Write.fd c.in-Write.i c.in-Write.off c.args.work.now.bytes.items (c.requires.ready.images, c.requires.ready.granted) (named c.args.work.now _ c.in-Write.is)).0
 
 pub write-requires-clause-inside : goal.write-requires-clause-inside
-write-requires-clause-inside g c = rw c.as_slice-in-Write.ensures.value ((write_granted (world_of_store c.args.store.now) c.args.work.now.caller c.args.work.now.call c.in-Write.fd c.in-Write.i c.in-Write.off c.in-Write.bytes (c.requires.ready.images, c.requires.ready.granted) c.in-Write.is).1)
+write-requires-clause-inside g c = rw c.as_slice-in-Write.ensures.value ((write_granted (world_of_store c.args.store.now) c.args.work.now.caller (call_of c.args.work.now) c.in-Write.fd c.in-Write.i c.in-Write.off c.args.work.now.bytes.items (c.requires.ready.images, c.requires.ready.granted) (named c.args.work.now _ c.in-Write.is)).1)
 
 pub take_lock-requires-clause-granted : goal.take_lock-requires-clause-granted
-take_lock-requires-clause-granted g c = take_granted (world_of_store c.args.store.now) c.args.work.now.caller c.args.work.now.call c.in-TakeLock.u (c.requires.ready.images, c.requires.ready.granted) c.in-TakeLock.is
+take_lock-requires-clause-granted g c = take_granted (world_of_store c.args.store.now) c.args.work.now.caller (call_of c.args.work.now) c.in-TakeLock.u (c.requires.ready.images, c.requires.ready.granted) (named c.args.work.now _ c.in-TakeLock.is)
 
 pub free_lock-requires : goal.free_lock-requires
-free_lock-requires g c = record { granted = free_granted (world_of_store c.args.store.now) c.args.work.now.caller c.args.work.now.call c.in-FreeLock.u (c.requires.ready.images, c.requires.ready.granted) c.in-FreeLock.is }
+free_lock-requires g c = record { granted = free_granted (world_of_store c.args.store.now) c.args.work.now.caller (call_of c.args.work.now) c.in-FreeLock.u (c.requires.ready.images, c.requires.ready.granted) (named c.args.work.now _ c.in-FreeLock.is) }
 
 pub poke-requires-clause-granted : goal.poke-requires-clause-granted
-poke-requires-clause-granted g c = poke_granted (world_of_store c.args.store.now) c.args.work.now.caller c.args.work.now.call c.in-Poke.k c.in-Poke.v (c.requires.ready.images, c.requires.ready.granted) c.in-Poke.is
+poke-requires-clause-granted g c = poke_granted (world_of_store c.args.store.now) c.args.work.now.caller (call_of c.args.work.now) c.in-Poke.k c.in-Poke.v (c.requires.ready.images, c.requires.ready.granted) (named c.args.work.now _ c.in-Poke.is)
 
 pub peek-requires-clause-granted : goal.peek-requires-clause-granted
-peek-requires-clause-granted g c = peek_granted (world_of_store c.args.store.now) c.args.work.now.caller c.args.work.now.call c.in-Peek.k (c.requires.ready.images, c.requires.ready.granted) c.in-Peek.is
+peek-requires-clause-granted g c = peek_granted (world_of_store c.args.store.now) c.args.work.now.caller (call_of c.args.work.now) c.in-Peek.k (c.requires.ready.images, c.requires.ready.granted) (named c.args.work.now _ c.in-Peek.is)
 
 pub tune-requires : goal.tune-requires
-tune-requires g c = record { granted = tune_granted (world_of_store c.args.store.now) c.args.work.now.caller c.args.work.now.call c.in-Tune.kind c.in-Tune.k c.in-Tune.v (c.requires.ready.images, c.requires.ready.granted) c.in-Tune.is }
+tune-requires g c = record { granted = tune_granted (world_of_store c.args.store.now) c.args.work.now.caller (call_of c.args.work.now) c.in-Tune.kind c.in-Tune.k c.in-Tune.v (c.requires.ready.images, c.requires.ready.granted) (named c.args.work.now _ c.in-Tune.is) }
 
 pub choose-requires-clause-kind : goal.choose-requires-clause-kind
-choose-requires-clause-kind g c = (choose_granted (world_of_store c.args.store.now) c.args.work.now.caller c.args.work.now.call c.in-Choose.kind c.in-Choose.j (c.requires.ready.images, c.requires.ready.granted) c.in-Choose.is).0
+choose-requires-clause-kind g c = (choose_granted (world_of_store c.args.store.now) c.args.work.now.caller (call_of c.args.work.now) c.in-Choose.kind c.in-Choose.j (c.requires.ready.images, c.requires.ready.granted) (named c.args.work.now _ c.in-Choose.is)).0
 
 pub choose-requires-clause-granted : goal.choose-requires-clause-granted
-choose-requires-clause-granted g c = (choose_granted (world_of_store c.args.store.now) c.args.work.now.caller c.args.work.now.call c.in-Choose.kind c.in-Choose.j (c.requires.ready.images, c.requires.ready.granted) c.in-Choose.is).1
+choose-requires-clause-granted g c = (choose_granted (world_of_store c.args.store.now) c.args.work.now.caller (call_of c.args.work.now) c.in-Choose.kind c.in-Choose.j (c.requires.ready.images, c.requires.ready.granted) (named c.args.work.now _ c.in-Choose.is)).1
 
 pub give-requires-clause-granted : goal.give-requires-clause-granted
-give-requires-clause-granted g c = give_granted (world_of_store c.args.store.now) c.args.work.now.caller c.args.work.now.call c.in-Give.q c.in-Give.kind c.in-Give.n (c.requires.ready.images, c.requires.ready.granted) c.in-Give.is
+give-requires-clause-granted g c = give_granted (world_of_store c.args.store.now) c.args.work.now.caller (call_of c.args.work.now) c.in-Give.q c.in-Give.kind c.in-Give.n (c.requires.ready.images, c.requires.ready.granted) (named c.args.work.now _ c.in-Give.is)
 
 pub install-requires-clause-point : goal.install-requires-clause-point
-install-requires-clause-point g c = (install_granted (world_of_store c.args.store.now) c.args.work.now.caller c.args.work.now.call c.in-Install.pt c.in-Install.image c.in-Install.limit (c.requires.ready.images, c.requires.ready.granted) c.in-Install.is).point
+install-requires-clause-point g c = (install_granted (world_of_store c.args.store.now) c.args.work.now.caller (call_of c.args.work.now) c.in-Install.pt c.in-Install.image c.in-Install.limit (c.requires.ready.images, c.requires.ready.granted) (named c.args.work.now _ c.in-Install.is)).point
 
 pub install-requires-clause-image : goal.install-requires-clause-image
-install-requires-clause-image g c = (install_granted (world_of_store c.args.store.now) c.args.work.now.caller c.args.work.now.call c.in-Install.pt c.in-Install.image c.in-Install.limit (c.requires.ready.images, c.requires.ready.granted) c.in-Install.is).number
+install-requires-clause-image g c = (install_granted (world_of_store c.args.store.now) c.args.work.now.caller (call_of c.args.work.now) c.in-Install.pt c.in-Install.image c.in-Install.limit (c.requires.ready.images, c.requires.ready.granted) (named c.args.work.now _ c.in-Install.is)).number
 
 pub install-requires-clause-some : goal.install-requires-clause-some
-install-requires-clause-some g c = (install_granted (world_of_store c.args.store.now) c.args.work.now.caller c.args.work.now.call c.in-Install.pt c.in-Install.image c.in-Install.limit (c.requires.ready.images, c.requires.ready.granted) c.in-Install.is).some
+install-requires-clause-some g c = (install_granted (world_of_store c.args.store.now) c.args.work.now.caller (call_of c.args.work.now) c.in-Install.pt c.in-Install.image c.in-Install.limit (c.requires.ready.images, c.requires.ready.granted) (named c.args.work.now _ c.in-Install.is)).some
 
 pub install-requires-clause-most : goal.install-requires-clause-most
-install-requires-clause-most g c = (install_granted (world_of_store c.args.store.now) c.args.work.now.caller c.args.work.now.call c.in-Install.pt c.in-Install.image c.in-Install.limit (c.requires.ready.images, c.requires.ready.granted) c.in-Install.is).most
+install-requires-clause-most g c = (install_granted (world_of_store c.args.store.now) c.args.work.now.caller (call_of c.args.work.now) c.in-Install.pt c.in-Install.image c.in-Install.limit (c.requires.ready.images, c.requires.ready.granted) (named c.args.work.now _ c.in-Install.is)).most
 
 pub remove-requires-clause-point : goal.remove-requires-clause-point
-remove-requires-clause-point g c = remove_granted (world_of_store c.args.store.now) c.args.work.now.caller c.args.work.now.call c.in-Remove.pt (c.requires.ready.images, c.requires.ready.granted) c.in-Remove.is
+remove-requires-clause-point g c = remove_granted (world_of_store c.args.store.now) c.args.work.now.caller (call_of c.args.work.now) c.in-Remove.pt (c.requires.ready.images, c.requires.ready.granted) (named c.args.work.now _ c.in-Remove.is)
 
 pub fund-requires-clause-point : goal.fund-requires-clause-point
-fund-requires-clause-point g c = fund_granted (world_of_store c.args.store.now) c.args.work.now.caller c.args.work.now.call c.in-Fund.pt c.in-Fund.kind c.in-Fund.n (c.requires.ready.images, c.requires.ready.granted) c.in-Fund.is
+fund-requires-clause-point g c = fund_granted (world_of_store c.args.store.now) c.args.work.now.caller (call_of c.args.work.now) c.in-Fund.pt c.in-Fund.kind c.in-Fund.n (c.requires.ready.images, c.requires.ready.granted) (named c.args.work.now _ c.in-Fund.is)
 
 pub bill-requires-clause-point : goal.bill-requires-clause-point
-bill-requires-clause-point g c = bill_granted (world_of_store c.args.store.now) c.args.work.now.caller c.args.work.now.call c.in-Bill.pt (c.requires.ready.images, c.requires.ready.granted) c.in-Bill.is
+bill-requires-clause-point g c = bill_granted (world_of_store c.args.store.now) c.args.work.now.caller (call_of c.args.work.now) c.in-Bill.pt (c.requires.ready.images, c.requires.ready.granted) (named c.args.work.now _ c.in-Bill.is)
 
 pub returns-in-Spawn-clause-does : goal.returns-in-Spawn-clause-does
 returns-in-Spawn-clause-does g c =
-    λ blocks rest tells.
+    rw c.clear.ensures
+    (λ blocks rest tells.
     let s = objects_of c.args.store.now in
     let w = c.args.work.now in
-    came_named (λ (k : SysCall). piece_of k w.piece (world_of_store c.args.store.now) s blocks w.caller c.args.answer (c.args.log.now ++ rest)) w.call Spawn (objects_of c.spawn.new.store)
-    (g.D.Disk.blocks c.args.disk.now) _ _ (length c.args.log.now) 0 c.in-Spawn.is (ap length c.requires.fresh) (c.spawn.ensures.does blocks _ (stage w.call w.piece) tells)
+    came_named (λ (k : SysCall). piece_of k w.piece (world_of_store c.args.store.now) s blocks w.caller c.args.answer (c.args.log.now ++ rest)) (call_of w) Spawn (objects_of c.spawn.new.store)
+    (g.D.Disk.blocks c.args.disk.now) _ _ (length c.args.log.now) 0 (named c.args.work.now _ c.in-Spawn.is) (ap length c.requires.fresh) (c.spawn.ensures.does blocks _ (stage (call_of w) w.piece) tells))
 
 pub returns-in-Exit-clause-does : goal.returns-in-Exit-clause-does
 returns-in-Exit-clause-does g c =
-    λ blocks rest tells.
+    rw c.clear.ensures
+    (λ blocks rest tells.
     let s = objects_of c.args.store.now in
     let w = c.args.work.now in
-    came_named (λ (k : SysCall). piece_of k w.piece (world_of_store c.args.store.now) s blocks w.caller c.args.answer (c.args.log.now ++ rest)) w.call Exit (objects_of c.exit.new.store)
-    (g.D.Disk.blocks c.args.disk.now) _ _ (length c.args.log.now) 0 c.in-Exit.is (ap length c.requires.fresh) (c.exit.ensures.does blocks _ (stage w.call w.piece) tells)
+    came_named (λ (k : SysCall). piece_of k w.piece (world_of_store c.args.store.now) s blocks w.caller c.args.answer (c.args.log.now ++ rest)) (call_of w) Exit (objects_of c.exit.new.store)
+    (g.D.Disk.blocks c.args.disk.now) _ _ (length c.args.log.now) 0 (named c.args.work.now _ c.in-Exit.is) (ap length c.requires.fresh) (c.exit.ensures.does blocks _ (stage (call_of w) w.piece) tells))
 
 pub returns-in-OpenName-clause-does : goal.returns-in-OpenName-clause-does
 returns-in-OpenName-clause-does g c =
-    λ blocks rest tells.
+    rw c.clear.ensures
+    (λ blocks rest tells.
     let s = objects_of c.args.store.now in
     let w = c.args.work.now in
-    came_named (λ (k : SysCall). piece_of k w.piece (world_of_store c.args.store.now) s blocks w.caller c.args.answer (c.args.log.now ++ rest)) w.call (OpenName c.in-OpenName.name) (objects_of c.open.new.store) (g.D.Disk.blocks c.args.disk.now)
-    _ _ (length c.args.log.now) 0 c.in-OpenName.is (ap length c.requires.fresh)
-    (subst (λ (name : List ℕ). PieceMatches (open_piece s w.caller (file_named (world_of_store c.args.store.now) name) (free_descriptor s.things w.caller 4 0) blocks) (objects_of c.open.new.store) (g.D.Disk.blocks c.args.disk.now) c.open.result.gave (comes_after c.open.result.next (stage w.call w.piece)) 0) c.as_slice.ensures.value
-    (c.open.ensures.does blocks _ (stage w.call w.piece) tells))
+    came_named (λ (k : SysCall). piece_of k w.piece (world_of_store c.args.store.now) s blocks w.caller c.args.answer (c.args.log.now ++ rest)) (call_of w) (OpenName c.args.work.now.bytes.items) (objects_of c.open.new.store) (g.D.Disk.blocks c.args.disk.now)
+    _ _ (length c.args.log.now) 0 (named c.args.work.now _ c.in-OpenName.is) (ap length c.requires.fresh)
+    (subst (λ (name : List ℕ). PieceMatches (open_piece s w.caller (file_named (world_of_store c.args.store.now) name) (free_descriptor s.things w.caller 4 0) blocks) (objects_of c.open.new.store) (g.D.Disk.blocks c.args.disk.now) None (comes_after c.open.result (stage (call_of w) w.piece)) 0) c.as_slice.ensures.value
+    (c.open.ensures.does blocks _ (stage (call_of w) w.piece) tells)))
 
 pub returns-in-CloseFd-clause-does : goal.returns-in-CloseFd-clause-does
 returns-in-CloseFd-clause-does g c =
-    λ blocks rest tells.
+    rw c.clear.ensures
+    (λ blocks rest tells.
     let s = objects_of c.args.store.now in
     let w = c.args.work.now in
-    came_named (λ (k : SysCall). piece_of k w.piece (world_of_store c.args.store.now) s blocks w.caller c.args.answer (c.args.log.now ++ rest)) w.call (CloseFd c.in-CloseFd.fd) (objects_of c.close.new.store)
-    (g.D.Disk.blocks c.args.disk.now) _ _ (length c.args.log.now) 0 c.in-CloseFd.is (ap length c.requires.fresh) (c.close.ensures.does blocks _ (stage w.call w.piece) tells)
+    came_named (λ (k : SysCall). piece_of k w.piece (world_of_store c.args.store.now) s blocks w.caller c.args.answer (c.args.log.now ++ rest)) (call_of w) (CloseFd c.in-CloseFd.fd) (objects_of c.close.new.store)
+    (g.D.Disk.blocks c.args.disk.now) _ _ (length c.args.log.now) 0 (named c.args.work.now _ c.in-CloseFd.is) (ap length c.requires.fresh) (c.close.ensures.does blocks _ (stage (call_of w) w.piece) tells))
 
 pub returns-in-Read-clause-does : goal.returns-in-Read-clause-does
 returns-in-Read-clause-does g c =
@@ -116,269 +120,300 @@ returns-in-Read-clause-does g c =
     let s = objects_of c.args.store.now in
     let w = c.args.work.now in
     subst (λ (k : SysCall). PieceMatches (piece_of k w.piece (world_of_store c.args.store.now) s blocks w.caller c.args.answer (c.read.new.log ++ rest)) (objects_of c.read.new.store) (g.D.Disk.blocks c.read.new.disk)
-    c.read.result.gave (comes_after c.read.result.next (stage k c.read.new.piece)) (length c.read.new.log)) (sym c.in-Read.is) (c.read.ensures.does blocks rest tells)
+    c.read.new.gave (comes_after c.read.result (stage k c.read.new.piece)) (length c.read.new.log)) (sym (named c.args.work.now _ c.in-Read.is)) (c.read.ensures.does blocks rest tells)
 
 pub returns-in-Write-clause-does : goal.returns-in-Write-clause-does
 returns-in-Write-clause-does g c =
-    λ blocks rest tells.
+    rw c.clear.ensures
+    (λ blocks rest tells.
     let s = objects_of c.args.store.now in
     let v = world_of_store c.args.store.now in
     let w = c.args.work.now in
     let x = c.in-Write in
-    came_named (λ (k : SysCall). piece_of k w.piece v s blocks w.caller c.args.answer (c.write.new.log ++ rest)) w.call (Write x.fd x.i x.off x.bytes) (objects_of c.write.new.store)
-    (g.D.Disk.blocks c.write.new.disk) _ _ (length c.write.new.log) (length c.write.new.log) x.is refl
+    came_named (λ (k : SysCall). piece_of k w.piece v s blocks w.caller c.args.answer (c.write.new.log ++ rest)) (call_of w) (Write x.fd x.i x.off w.bytes.items) (objects_of c.write.new.store)
+    (g.D.Disk.blocks c.write.new.disk) _ _ (length c.write.new.log) (length c.write.new.log) (named w _ x.is) refl
     (subst (λ (bytes : List ℕ). PieceMatches (write_piece (file_block v (s.things.file w.caller x.fd) x.i x.off (length bytes)) v s blocks w.caller x.off bytes c.args.answer (c.write.new.log ++ rest)) (objects_of c.write.new.store)
-    (g.D.Disk.blocks c.write.new.disk) c.write.result.gave (comes_after c.write.result.next (stage w.call w.piece)) (length c.write.new.log)) c.as_slice-in-Write.ensures.value (c.write.ensures.does (stage w.call w.piece) blocks rest tells))
+    (g.D.Disk.blocks c.write.new.disk) None (comes_after c.write.result (stage (call_of w) w.piece)) (length c.write.new.log)) c.as_slice-in-Write.ensures.value (c.write.ensures.does (stage (call_of w) w.piece) blocks rest tells)))
 
 pub returns-in-Sync-clause-does : goal.returns-in-Sync-clause-does
 returns-in-Sync-clause-does g c =
-    λ blocks rest tells.
+    rw c.clear.ensures
+    (λ blocks rest tells.
     let s = objects_of c.args.store.now in
     let w = c.args.work.now in
-    came_named (λ (k : SysCall). piece_of k w.piece (world_of_store c.args.store.now) s blocks w.caller c.args.answer (c.sync.new.log ++ rest)) w.call Sync (objects_of c.sync.new.store)
-    (g.D.Disk.blocks c.sync.new.disk) _ _ (length c.sync.new.log) (length c.sync.new.log) c.in-Sync.is refl (c.sync.ensures.does blocks rest (stage w.call w.piece) tells)
+    came_named (λ (k : SysCall). piece_of k w.piece (world_of_store c.args.store.now) s blocks w.caller c.args.answer (c.sync.new.log ++ rest)) (call_of w) Sync (objects_of c.sync.new.store)
+    (g.D.Disk.blocks c.sync.new.disk) _ _ (length c.sync.new.log) (length c.sync.new.log) (named c.args.work.now _ c.in-Sync.is) refl (c.sync.ensures.does blocks rest (stage (call_of w) w.piece) tells))
 
 pub returns-in-TakeLock-clause-does : goal.returns-in-TakeLock-clause-does
 returns-in-TakeLock-clause-does g c =
-    λ blocks rest tells.
+    rw c.clear.ensures
+    (λ blocks rest tells.
     let s = objects_of c.args.store.now in
     let w = c.args.work.now in
-    came_named (λ (k : SysCall). piece_of k w.piece (world_of_store c.args.store.now) s blocks w.caller c.args.answer (c.args.log.now ++ rest)) w.call (TakeLock c.in-TakeLock.u) (objects_of c.take_lock.new.store)
-    (g.D.Disk.blocks c.args.disk.now) _ _ (length c.args.log.now) 0 c.in-TakeLock.is (ap length c.requires.fresh) (c.take_lock.ensures.does blocks _ (stage w.call w.piece) tells)
+    came_named (λ (k : SysCall). piece_of k w.piece (world_of_store c.args.store.now) s blocks w.caller c.args.answer (c.args.log.now ++ rest)) (call_of w) (TakeLock c.in-TakeLock.u) (objects_of c.take_lock.new.store)
+    (g.D.Disk.blocks c.args.disk.now) _ _ (length c.args.log.now) 0 (named c.args.work.now _ c.in-TakeLock.is) (ap length c.requires.fresh) (c.take_lock.ensures.does blocks _ (stage (call_of w) w.piece) tells))
 
 pub returns-in-FreeLock-clause-does : goal.returns-in-FreeLock-clause-does
 returns-in-FreeLock-clause-does g c =
-    λ blocks rest tells.
+    rw c.clear.ensures
+    (λ blocks rest tells.
     let s = objects_of c.args.store.now in
     let w = c.args.work.now in
-    came_named (λ (k : SysCall). piece_of k w.piece (world_of_store c.args.store.now) s blocks w.caller c.args.answer (c.args.log.now ++ rest)) w.call (FreeLock c.in-FreeLock.u) (objects_of c.free_lock.new.store)
-    (g.D.Disk.blocks c.args.disk.now) _ _ (length c.args.log.now) 0 c.in-FreeLock.is (ap length c.requires.fresh) (c.free_lock.ensures.does blocks _ (stage w.call w.piece) tells)
+    came_named (λ (k : SysCall). piece_of k w.piece (world_of_store c.args.store.now) s blocks w.caller c.args.answer (c.args.log.now ++ rest)) (call_of w) (FreeLock c.in-FreeLock.u) (objects_of c.free_lock.new.store)
+    (g.D.Disk.blocks c.args.disk.now) _ _ (length c.args.log.now) 0 (named c.args.work.now _ c.in-FreeLock.is) (ap length c.requires.fresh) (c.free_lock.ensures.does blocks _ (stage (call_of w) w.piece) tells))
 
 pub returns-in-Poke-clause-does : goal.returns-in-Poke-clause-does
 returns-in-Poke-clause-does g c =
-    λ blocks rest tells.
+    rw c.clear.ensures
+    (λ blocks rest tells.
     let s = objects_of c.args.store.now in
     let w = c.args.work.now in
-    came_named (λ (k : SysCall). piece_of k w.piece (world_of_store c.args.store.now) s blocks w.caller c.args.answer (c.args.log.now ++ rest)) w.call (Poke c.in-Poke.k c.in-Poke.v) (objects_of c.poke.new.store)
-    (g.D.Disk.blocks c.args.disk.now) _ _ (length c.args.log.now) 0 c.in-Poke.is (ap length c.requires.fresh) (c.poke.ensures.does blocks _ (stage w.call w.piece) tells)
+    came_named (λ (k : SysCall). piece_of k w.piece (world_of_store c.args.store.now) s blocks w.caller c.args.answer (c.args.log.now ++ rest)) (call_of w) (Poke c.in-Poke.k c.in-Poke.v) (objects_of c.poke.new.store)
+    (g.D.Disk.blocks c.args.disk.now) _ _ (length c.args.log.now) 0 (named c.args.work.now _ c.in-Poke.is) (ap length c.requires.fresh) (c.poke.ensures.does blocks _ (stage (call_of w) w.piece) tells))
 
 pub returns-in-Peek-clause-does : goal.returns-in-Peek-clause-does
 returns-in-Peek-clause-does g c =
-    λ blocks rest tells.
+    rw c.clear.ensures
+    (λ blocks rest tells.
     let s = objects_of c.args.store.now in
     let w = c.args.work.now in
-    came_named (λ (k : SysCall). piece_of k w.piece (world_of_store c.args.store.now) s blocks w.caller c.args.answer (c.args.log.now ++ rest)) w.call (Peek c.in-Peek.k) (objects_of c.args.store.now)
-    (g.D.Disk.blocks c.args.disk.now) _ _ (length c.args.log.now) 0 c.in-Peek.is (ap length c.requires.fresh) (c.peek.ensures.does blocks _ (stage w.call w.piece) tells)
+    came_named (λ (k : SysCall). piece_of k w.piece (world_of_store c.args.store.now) s blocks w.caller c.args.answer (c.args.log.now ++ rest)) (call_of w) (Peek c.in-Peek.k) (objects_of c.args.store.now)
+    (g.D.Disk.blocks c.args.disk.now) _ _ (length c.args.log.now) 0 (named c.args.work.now _ c.in-Peek.is) (ap length c.requires.fresh) (c.peek.ensures.does blocks _ (stage (call_of w) w.piece) tells))
 
 pub returns-in-Tune-clause-does : goal.returns-in-Tune-clause-does
 returns-in-Tune-clause-does g c =
-    λ blocks rest tells.
+    rw c.clear.ensures
+    (λ blocks rest tells.
     let s = objects_of c.args.store.now in
     let w = c.args.work.now in
-    came_named (λ (k : SysCall). piece_of k w.piece (world_of_store c.args.store.now) s blocks w.caller c.args.answer (c.args.log.now ++ rest)) w.call (Tune c.in-Tune.kind c.in-Tune.k c.in-Tune.v) (objects_of c.tune.new.store)
-    (g.D.Disk.blocks c.args.disk.now) _ _ (length c.args.log.now) 0 c.in-Tune.is (ap length c.requires.fresh) (c.tune.ensures.does blocks _ (stage w.call w.piece) tells)
+    came_named (λ (k : SysCall). piece_of k w.piece (world_of_store c.args.store.now) s blocks w.caller c.args.answer (c.args.log.now ++ rest)) (call_of w) (Tune c.in-Tune.kind c.in-Tune.k c.in-Tune.v) (objects_of c.tune.new.store)
+    (g.D.Disk.blocks c.args.disk.now) _ _ (length c.args.log.now) 0 (named c.args.work.now _ c.in-Tune.is) (ap length c.requires.fresh) (c.tune.ensures.does blocks _ (stage (call_of w) w.piece) tells))
 
 pub returns-in-Choose-clause-does : goal.returns-in-Choose-clause-does
 returns-in-Choose-clause-does g c =
-    λ blocks rest tells.
+    rw c.clear.ensures
+    (λ blocks rest tells.
     let s = objects_of c.args.store.now in
     let w = c.args.work.now in
-    came_named (λ (k : SysCall). piece_of k w.piece (world_of_store c.args.store.now) s blocks w.caller c.args.answer (c.args.log.now ++ rest)) w.call (Choose c.in-Choose.kind c.in-Choose.j) (objects_of c.choose.new.store)
-    (g.D.Disk.blocks c.args.disk.now) _ _ (length c.args.log.now) 0 c.in-Choose.is (ap length c.requires.fresh) (c.choose.ensures.does blocks _ (stage w.call w.piece) tells)
+    came_named (λ (k : SysCall). piece_of k w.piece (world_of_store c.args.store.now) s blocks w.caller c.args.answer (c.args.log.now ++ rest)) (call_of w) (Choose c.in-Choose.kind c.in-Choose.j) (objects_of c.choose.new.store)
+    (g.D.Disk.blocks c.args.disk.now) _ _ (length c.args.log.now) 0 (named c.args.work.now _ c.in-Choose.is) (ap length c.requires.fresh) (c.choose.ensures.does blocks _ (stage (call_of w) w.piece) tells))
 
 pub returns-in-Give-clause-does : goal.returns-in-Give-clause-does
 returns-in-Give-clause-does g c =
-    λ blocks rest tells.
+    rw c.clear.ensures
+    (λ blocks rest tells.
     let s = objects_of c.args.store.now in
     let w = c.args.work.now in
-    came_named (λ (k : SysCall). piece_of k w.piece (world_of_store c.args.store.now) s blocks w.caller c.args.answer (c.args.log.now ++ rest)) w.call (Give c.in-Give.q c.in-Give.kind c.in-Give.n) (objects_of c.give.new.store)
-    (g.D.Disk.blocks c.args.disk.now) _ _ (length c.args.log.now) 0 c.in-Give.is (ap length c.requires.fresh) (c.give.ensures.does blocks _ (stage w.call w.piece) tells)
+    came_named (λ (k : SysCall). piece_of k w.piece (world_of_store c.args.store.now) s blocks w.caller c.args.answer (c.args.log.now ++ rest)) (call_of w) (Give c.in-Give.q c.in-Give.kind c.in-Give.n) (objects_of c.give.new.store)
+    (g.D.Disk.blocks c.args.disk.now) _ _ (length c.args.log.now) 0 (named c.args.work.now _ c.in-Give.is) (ap length c.requires.fresh) (c.give.ensures.does blocks _ (stage (call_of w) w.piece) tells))
 
 pub returns-in-Install-clause-does : goal.returns-in-Install-clause-does
 returns-in-Install-clause-does g c =
-    λ blocks rest tells.
+    rw c.clear.ensures
+    (λ blocks rest tells.
     let s = objects_of c.args.store.now in
     let w = c.args.work.now in
-    came_named (λ (k : SysCall). piece_of k w.piece (world_of_store c.args.store.now) s blocks w.caller c.args.answer (c.args.log.now ++ rest)) w.call (Install c.in-Install.pt c.in-Install.image c.in-Install.limit) (objects_of c.install.new.store)
-    (g.D.Disk.blocks c.args.disk.now) _ _ (length c.args.log.now) 0 c.in-Install.is (ap length c.requires.fresh) (c.install.ensures.does blocks _ (stage w.call w.piece) tells)
+    came_named (λ (k : SysCall). piece_of k w.piece (world_of_store c.args.store.now) s blocks w.caller c.args.answer (c.args.log.now ++ rest)) (call_of w) (Install c.in-Install.pt c.in-Install.image c.in-Install.limit) (objects_of c.install.new.store)
+    (g.D.Disk.blocks c.args.disk.now) _ _ (length c.args.log.now) 0 (named c.args.work.now _ c.in-Install.is) (ap length c.requires.fresh) (c.install.ensures.does blocks _ (stage (call_of w) w.piece) tells))
 
 pub returns-in-Remove-clause-does : goal.returns-in-Remove-clause-does
 returns-in-Remove-clause-does g c =
-    λ blocks rest tells.
+    rw c.clear.ensures
+    (λ blocks rest tells.
     let s = objects_of c.args.store.now in
     let w = c.args.work.now in
-    came_named (λ (k : SysCall). piece_of k w.piece (world_of_store c.args.store.now) s blocks w.caller c.args.answer (c.args.log.now ++ rest)) w.call (Remove c.in-Remove.pt) (objects_of c.remove.new.store)
-    (g.D.Disk.blocks c.args.disk.now) _ _ (length c.args.log.now) 0 c.in-Remove.is (ap length c.requires.fresh) (c.remove.ensures.does blocks _ (stage w.call w.piece) tells)
+    came_named (λ (k : SysCall). piece_of k w.piece (world_of_store c.args.store.now) s blocks w.caller c.args.answer (c.args.log.now ++ rest)) (call_of w) (Remove c.in-Remove.pt) (objects_of c.remove.new.store)
+    (g.D.Disk.blocks c.args.disk.now) _ _ (length c.args.log.now) 0 (named c.args.work.now _ c.in-Remove.is) (ap length c.requires.fresh) (c.remove.ensures.does blocks _ (stage (call_of w) w.piece) tells))
 
 pub returns-in-Fund-clause-does : goal.returns-in-Fund-clause-does
 returns-in-Fund-clause-does g c =
-    λ blocks rest tells.
+    rw c.clear.ensures
+    (λ blocks rest tells.
     let s = objects_of c.args.store.now in
     let w = c.args.work.now in
-    came_named (λ (k : SysCall). piece_of k w.piece (world_of_store c.args.store.now) s blocks w.caller c.args.answer (c.args.log.now ++ rest)) w.call (Fund c.in-Fund.pt c.in-Fund.kind c.in-Fund.n) (objects_of c.fund.new.store)
-    (g.D.Disk.blocks c.args.disk.now) _ _ (length c.args.log.now) 0 c.in-Fund.is (ap length c.requires.fresh) (c.fund.ensures.does blocks _ (stage w.call w.piece) tells)
+    came_named (λ (k : SysCall). piece_of k w.piece (world_of_store c.args.store.now) s blocks w.caller c.args.answer (c.args.log.now ++ rest)) (call_of w) (Fund c.in-Fund.pt c.in-Fund.kind c.in-Fund.n) (objects_of c.fund.new.store)
+    (g.D.Disk.blocks c.args.disk.now) _ _ (length c.args.log.now) 0 (named c.args.work.now _ c.in-Fund.is) (ap length c.requires.fresh) (c.fund.ensures.does blocks _ (stage (call_of w) w.piece) tells))
 
 pub returns-in-Bill-clause-does : goal.returns-in-Bill-clause-does
 returns-in-Bill-clause-does g c =
-    λ blocks rest tells.
+    rw c.clear.ensures
+    (λ blocks rest tells.
     let s = objects_of c.args.store.now in
     let w = c.args.work.now in
-    came_named (λ (k : SysCall). piece_of k w.piece (world_of_store c.args.store.now) s blocks w.caller c.args.answer (c.args.log.now ++ rest)) w.call (Bill c.in-Bill.pt) (objects_of c.bill.new.store)
-    (g.D.Disk.blocks c.args.disk.now) _ _ (length c.args.log.now) 0 c.in-Bill.is (ap length c.requires.fresh) (c.bill.ensures.does blocks _ (stage w.call w.piece) tells)
+    came_named (λ (k : SysCall). piece_of k w.piece (world_of_store c.args.store.now) s blocks w.caller c.args.answer (c.args.log.now ++ rest)) (call_of w) (Bill c.in-Bill.pt) (objects_of c.bill.new.store)
+    (g.D.Disk.blocks c.args.disk.now) _ _ (length c.args.log.now) 0 (named c.args.work.now _ c.in-Bill.is) (ap length c.requires.fresh) (c.bill.ensures.does blocks _ (stage (call_of w) w.piece) tells))
 
 pub returns-in-Spawn-clause-some : goal.returns-in-Spawn-clause-some
 returns-in-Spawn-clause-some g c =
-    let v = world_of_store c.args.store.now in
+    rw c.clear.ensures
+    (let v = world_of_store c.args.store.now in
     let s = objects_of c.args.store.now in
     let w = c.args.work.now in
-    some_named v (λ k blocks io. piece_of k w.piece v s blocks w.caller c.args.answer io) w.call Spawn (objects_of c.spawn.new.store) _ _ c.args.log.now c.in-Spawn.is c.requires.fresh
-    (λ blocks known io tells. c.spawn.ensures.does blocks known (stage w.call w.piece) tells)
+    some_named v (λ k blocks io. piece_of k w.piece v s blocks w.caller c.args.answer io) (call_of w) Spawn (objects_of c.spawn.new.store) _ _ c.args.log.now (named c.args.work.now _ c.in-Spawn.is) c.requires.fresh
+    (λ blocks known io tells. c.spawn.ensures.does blocks known (stage (call_of w) w.piece) tells))
 
 pub returns-in-Exit-clause-some : goal.returns-in-Exit-clause-some
 returns-in-Exit-clause-some g c =
-    let v = world_of_store c.args.store.now in
+    rw c.clear.ensures
+    (let v = world_of_store c.args.store.now in
     let s = objects_of c.args.store.now in
     let w = c.args.work.now in
-    some_named v (λ k blocks io. piece_of k w.piece v s blocks w.caller c.args.answer io) w.call Exit (objects_of c.exit.new.store) _ _ c.args.log.now c.in-Exit.is c.requires.fresh
-    (λ blocks known io tells. c.exit.ensures.does blocks known (stage w.call w.piece) tells)
+    some_named v (λ k blocks io. piece_of k w.piece v s blocks w.caller c.args.answer io) (call_of w) Exit (objects_of c.exit.new.store) _ _ c.args.log.now (named c.args.work.now _ c.in-Exit.is) c.requires.fresh
+    (λ blocks known io tells. c.exit.ensures.does blocks known (stage (call_of w) w.piece) tells))
 
 pub returns-in-CloseFd-clause-some : goal.returns-in-CloseFd-clause-some
 returns-in-CloseFd-clause-some g c =
-    let v = world_of_store c.args.store.now in
+    rw c.clear.ensures
+    (let v = world_of_store c.args.store.now in
     let s = objects_of c.args.store.now in
     let w = c.args.work.now in
-    some_named v (λ k blocks io. piece_of k w.piece v s blocks w.caller c.args.answer io) w.call (CloseFd c.in-CloseFd.fd) (objects_of c.close.new.store) _ _ c.args.log.now c.in-CloseFd.is c.requires.fresh
-    (λ blocks known io tells. c.close.ensures.does blocks known (stage w.call w.piece) tells)
+    some_named v (λ k blocks io. piece_of k w.piece v s blocks w.caller c.args.answer io) (call_of w) (CloseFd c.in-CloseFd.fd) (objects_of c.close.new.store) _ _ c.args.log.now (named c.args.work.now _ c.in-CloseFd.is) c.requires.fresh
+    (λ blocks known io tells. c.close.ensures.does blocks known (stage (call_of w) w.piece) tells))
 
 pub returns-in-TakeLock-clause-some : goal.returns-in-TakeLock-clause-some
 returns-in-TakeLock-clause-some g c =
-    let v = world_of_store c.args.store.now in
+    rw c.clear.ensures
+    (let v = world_of_store c.args.store.now in
     let s = objects_of c.args.store.now in
     let w = c.args.work.now in
-    some_named v (λ k blocks io. piece_of k w.piece v s blocks w.caller c.args.answer io) w.call (TakeLock c.in-TakeLock.u) (objects_of c.take_lock.new.store) _ _ c.args.log.now c.in-TakeLock.is c.requires.fresh
-    (λ blocks known io tells. c.take_lock.ensures.does blocks known (stage w.call w.piece) tells)
+    some_named v (λ k blocks io. piece_of k w.piece v s blocks w.caller c.args.answer io) (call_of w) (TakeLock c.in-TakeLock.u) (objects_of c.take_lock.new.store) _ _ c.args.log.now (named c.args.work.now _ c.in-TakeLock.is) c.requires.fresh
+    (λ blocks known io tells. c.take_lock.ensures.does blocks known (stage (call_of w) w.piece) tells))
 
 pub returns-in-FreeLock-clause-some : goal.returns-in-FreeLock-clause-some
 returns-in-FreeLock-clause-some g c =
-    let v = world_of_store c.args.store.now in
+    rw c.clear.ensures
+    (let v = world_of_store c.args.store.now in
     let s = objects_of c.args.store.now in
     let w = c.args.work.now in
-    some_named v (λ k blocks io. piece_of k w.piece v s blocks w.caller c.args.answer io) w.call (FreeLock c.in-FreeLock.u) (objects_of c.free_lock.new.store) _ _ c.args.log.now c.in-FreeLock.is c.requires.fresh
-    (λ blocks known io tells. c.free_lock.ensures.does blocks known (stage w.call w.piece) tells)
+    some_named v (λ k blocks io. piece_of k w.piece v s blocks w.caller c.args.answer io) (call_of w) (FreeLock c.in-FreeLock.u) (objects_of c.free_lock.new.store) _ _ c.args.log.now (named c.args.work.now _ c.in-FreeLock.is) c.requires.fresh
+    (λ blocks known io tells. c.free_lock.ensures.does blocks known (stage (call_of w) w.piece) tells))
 
 pub returns-in-Poke-clause-some : goal.returns-in-Poke-clause-some
 returns-in-Poke-clause-some g c =
-    let v = world_of_store c.args.store.now in
+    rw c.clear.ensures
+    (let v = world_of_store c.args.store.now in
     let s = objects_of c.args.store.now in
     let w = c.args.work.now in
-    some_named v (λ k blocks io. piece_of k w.piece v s blocks w.caller c.args.answer io) w.call (Poke c.in-Poke.k c.in-Poke.v) (objects_of c.poke.new.store) _ _ c.args.log.now c.in-Poke.is c.requires.fresh
-    (λ blocks known io tells. c.poke.ensures.does blocks known (stage w.call w.piece) tells)
+    some_named v (λ k blocks io. piece_of k w.piece v s blocks w.caller c.args.answer io) (call_of w) (Poke c.in-Poke.k c.in-Poke.v) (objects_of c.poke.new.store) _ _ c.args.log.now (named c.args.work.now _ c.in-Poke.is) c.requires.fresh
+    (λ blocks known io tells. c.poke.ensures.does blocks known (stage (call_of w) w.piece) tells))
 
 pub returns-in-Peek-clause-some : goal.returns-in-Peek-clause-some
 returns-in-Peek-clause-some g c =
-    let v = world_of_store c.args.store.now in
+    rw c.clear.ensures
+    (let v = world_of_store c.args.store.now in
     let s = objects_of c.args.store.now in
     let w = c.args.work.now in
-    some_named v (λ k blocks io. piece_of k w.piece v s blocks w.caller c.args.answer io) w.call (Peek c.in-Peek.k) (objects_of c.args.store.now) _ _ c.args.log.now c.in-Peek.is c.requires.fresh
-    (λ blocks known io tells. c.peek.ensures.does blocks known (stage w.call w.piece) tells)
+    some_named v (λ k blocks io. piece_of k w.piece v s blocks w.caller c.args.answer io) (call_of w) (Peek c.in-Peek.k) (objects_of c.args.store.now) _ _ c.args.log.now (named c.args.work.now _ c.in-Peek.is) c.requires.fresh
+    (λ blocks known io tells. c.peek.ensures.does blocks known (stage (call_of w) w.piece) tells))
 
 pub returns-in-Tune-clause-some : goal.returns-in-Tune-clause-some
 returns-in-Tune-clause-some g c =
-    let v = world_of_store c.args.store.now in
+    rw c.clear.ensures
+    (let v = world_of_store c.args.store.now in
     let s = objects_of c.args.store.now in
     let w = c.args.work.now in
-    some_named v (λ k blocks io. piece_of k w.piece v s blocks w.caller c.args.answer io) w.call (Tune c.in-Tune.kind c.in-Tune.k c.in-Tune.v) (objects_of c.tune.new.store) _ _ c.args.log.now c.in-Tune.is c.requires.fresh
-    (λ blocks known io tells. c.tune.ensures.does blocks known (stage w.call w.piece) tells)
+    some_named v (λ k blocks io. piece_of k w.piece v s blocks w.caller c.args.answer io) (call_of w) (Tune c.in-Tune.kind c.in-Tune.k c.in-Tune.v) (objects_of c.tune.new.store) _ _ c.args.log.now (named c.args.work.now _ c.in-Tune.is) c.requires.fresh
+    (λ blocks known io tells. c.tune.ensures.does blocks known (stage (call_of w) w.piece) tells))
 
 pub returns-in-Choose-clause-some : goal.returns-in-Choose-clause-some
 returns-in-Choose-clause-some g c =
-    let v = world_of_store c.args.store.now in
+    rw c.clear.ensures
+    (let v = world_of_store c.args.store.now in
     let s = objects_of c.args.store.now in
     let w = c.args.work.now in
-    some_named v (λ k blocks io. piece_of k w.piece v s blocks w.caller c.args.answer io) w.call (Choose c.in-Choose.kind c.in-Choose.j) (objects_of c.choose.new.store) _ _ c.args.log.now c.in-Choose.is c.requires.fresh
-    (λ blocks known io tells. c.choose.ensures.does blocks known (stage w.call w.piece) tells)
+    some_named v (λ k blocks io. piece_of k w.piece v s blocks w.caller c.args.answer io) (call_of w) (Choose c.in-Choose.kind c.in-Choose.j) (objects_of c.choose.new.store) _ _ c.args.log.now (named c.args.work.now _ c.in-Choose.is) c.requires.fresh
+    (λ blocks known io tells. c.choose.ensures.does blocks known (stage (call_of w) w.piece) tells))
 
 pub returns-in-Give-clause-some : goal.returns-in-Give-clause-some
 returns-in-Give-clause-some g c =
-    let v = world_of_store c.args.store.now in
+    rw c.clear.ensures
+    (let v = world_of_store c.args.store.now in
     let s = objects_of c.args.store.now in
     let w = c.args.work.now in
-    some_named v (λ k blocks io. piece_of k w.piece v s blocks w.caller c.args.answer io) w.call (Give c.in-Give.q c.in-Give.kind c.in-Give.n) (objects_of c.give.new.store) _ _ c.args.log.now c.in-Give.is c.requires.fresh
-    (λ blocks known io tells. c.give.ensures.does blocks known (stage w.call w.piece) tells)
+    some_named v (λ k blocks io. piece_of k w.piece v s blocks w.caller c.args.answer io) (call_of w) (Give c.in-Give.q c.in-Give.kind c.in-Give.n) (objects_of c.give.new.store) _ _ c.args.log.now (named c.args.work.now _ c.in-Give.is) c.requires.fresh
+    (λ blocks known io tells. c.give.ensures.does blocks known (stage (call_of w) w.piece) tells))
 
 pub returns-in-Install-clause-some : goal.returns-in-Install-clause-some
 returns-in-Install-clause-some g c =
-    let v = world_of_store c.args.store.now in
+    rw c.clear.ensures
+    (let v = world_of_store c.args.store.now in
     let s = objects_of c.args.store.now in
     let w = c.args.work.now in
-    some_named v (λ k blocks io. piece_of k w.piece v s blocks w.caller c.args.answer io) w.call (Install c.in-Install.pt c.in-Install.image c.in-Install.limit) (objects_of c.install.new.store) _ _ c.args.log.now c.in-Install.is c.requires.fresh
-    (λ blocks known io tells. c.install.ensures.does blocks known (stage w.call w.piece) tells)
+    some_named v (λ k blocks io. piece_of k w.piece v s blocks w.caller c.args.answer io) (call_of w) (Install c.in-Install.pt c.in-Install.image c.in-Install.limit) (objects_of c.install.new.store) _ _ c.args.log.now (named c.args.work.now _ c.in-Install.is) c.requires.fresh
+    (λ blocks known io tells. c.install.ensures.does blocks known (stage (call_of w) w.piece) tells))
 
 pub returns-in-Remove-clause-some : goal.returns-in-Remove-clause-some
 returns-in-Remove-clause-some g c =
-    let v = world_of_store c.args.store.now in
+    rw c.clear.ensures
+    (let v = world_of_store c.args.store.now in
     let s = objects_of c.args.store.now in
     let w = c.args.work.now in
-    some_named v (λ k blocks io. piece_of k w.piece v s blocks w.caller c.args.answer io) w.call (Remove c.in-Remove.pt) (objects_of c.remove.new.store) _ _ c.args.log.now c.in-Remove.is c.requires.fresh
-    (λ blocks known io tells. c.remove.ensures.does blocks known (stage w.call w.piece) tells)
+    some_named v (λ k blocks io. piece_of k w.piece v s blocks w.caller c.args.answer io) (call_of w) (Remove c.in-Remove.pt) (objects_of c.remove.new.store) _ _ c.args.log.now (named c.args.work.now _ c.in-Remove.is) c.requires.fresh
+    (λ blocks known io tells. c.remove.ensures.does blocks known (stage (call_of w) w.piece) tells))
 
 pub returns-in-Fund-clause-some : goal.returns-in-Fund-clause-some
 returns-in-Fund-clause-some g c =
-    let v = world_of_store c.args.store.now in
+    rw c.clear.ensures
+    (let v = world_of_store c.args.store.now in
     let s = objects_of c.args.store.now in
     let w = c.args.work.now in
-    some_named v (λ k blocks io. piece_of k w.piece v s blocks w.caller c.args.answer io) w.call (Fund c.in-Fund.pt c.in-Fund.kind c.in-Fund.n) (objects_of c.fund.new.store) _ _ c.args.log.now c.in-Fund.is c.requires.fresh
-    (λ blocks known io tells. c.fund.ensures.does blocks known (stage w.call w.piece) tells)
+    some_named v (λ k blocks io. piece_of k w.piece v s blocks w.caller c.args.answer io) (call_of w) (Fund c.in-Fund.pt c.in-Fund.kind c.in-Fund.n) (objects_of c.fund.new.store) _ _ c.args.log.now (named c.args.work.now _ c.in-Fund.is) c.requires.fresh
+    (λ blocks known io tells. c.fund.ensures.does blocks known (stage (call_of w) w.piece) tells))
 
 pub returns-in-Bill-clause-some : goal.returns-in-Bill-clause-some
 returns-in-Bill-clause-some g c =
-    let v = world_of_store c.args.store.now in
+    rw c.clear.ensures
+    (let v = world_of_store c.args.store.now in
     let s = objects_of c.args.store.now in
     let w = c.args.work.now in
-    some_named v (λ k blocks io. piece_of k w.piece v s blocks w.caller c.args.answer io) w.call (Bill c.in-Bill.pt) (objects_of c.bill.new.store) _ _ c.args.log.now c.in-Bill.is c.requires.fresh
-    (λ blocks known io tells. c.bill.ensures.does blocks known (stage w.call w.piece) tells)
+    some_named v (λ k blocks io. piece_of k w.piece v s blocks w.caller c.args.answer io) (call_of w) (Bill c.in-Bill.pt) (objects_of c.bill.new.store) _ _ c.args.log.now (named c.args.work.now _ c.in-Bill.is) c.requires.fresh
+    (λ blocks known io tells. c.bill.ensures.does blocks known (stage (call_of w) w.piece) tells))
 
 pub returns-in-Yield-clause-some : goal.returns-in-Yield-clause-some
 returns-in-Yield-clause-some g c =
-    let v = world_of_store c.args.store.now in
+    rw c.clear.ensures
+    (let v = world_of_store c.args.store.now in
     let s = objects_of c.args.store.now in
     let w = c.args.work.now in
-    subst (λ (k : SysCall). PieceMatchesSome v (λ blocks io. piece_of k w.piece v s blocks w.caller c.args.answer io) (objects_of c.yield_turn.new.store) c.yield_turn.result.gave (comes_after c.yield_turn.result.next (stage k c.yield_turn.new.piece)) c.args.log.now) (sym c.in-Yield.is)
-    (some_quick v (λ blocks io. yield_piece w.piece s w.caller c.args.answer blocks) (objects_of c.yield_turn.new.store) _ _ c.args.log.now c.requires.fresh (λ blocks known io tells. c.yield_turn.ensures.does blocks known tells))
+    subst (λ (k : SysCall). PieceMatchesSome v (λ blocks io. piece_of k w.piece v s blocks w.caller c.args.answer io) (objects_of c.yield_turn.new.store) None (comes_after c.yield_turn.result (stage k c.yield_turn.new.piece)) c.args.log.now) (sym (named c.args.work.now _ c.in-Yield.is))
+    (some_quick v (λ blocks io. yield_piece w.piece s w.caller c.args.answer blocks) (objects_of c.yield_turn.new.store) _ _ c.args.log.now c.requires.fresh (λ blocks known io tells. c.yield_turn.ensures.does blocks known tells)))
 
 pub returns-in-OpenName-clause-some : goal.returns-in-OpenName-clause-some
 returns-in-OpenName-clause-some g c =
-    let v = world_of_store c.args.store.now in
+    rw c.clear.ensures
+    (let v = world_of_store c.args.store.now in
     let s = objects_of c.args.store.now in
     let w = c.args.work.now in
     let after = objects_of c.open.new.store in
-    some_named v (λ k blocks io. piece_of k w.piece v s blocks w.caller c.args.answer io) w.call (OpenName c.in-OpenName.name) after _ _ c.args.log.now c.in-OpenName.is c.requires.fresh
+    some_named v (λ k blocks io. piece_of k w.piece v s blocks w.caller c.args.answer io) (call_of w) (OpenName c.args.work.now.bytes.items) after _ _ c.args.log.now (named c.args.work.now _ c.in-OpenName.is) c.requires.fresh
     (λ blocks known io tells.
-    subst (λ (name : List ℕ). PieceMatches (open_piece s w.caller (file_named v name) (free_descriptor s.things w.caller 4 0) blocks) after known c.open.result.gave (comes_after c.open.result.next (stage w.call w.piece)) 0) c.as_slice.ensures.value
-    (c.open.ensures.does blocks known (stage w.call w.piece) tells))
+    subst (λ (name : List ℕ). PieceMatches (open_piece s w.caller (file_named v name) (free_descriptor s.things w.caller 4 0) blocks) after known None (comes_after c.open.result (stage (call_of w) w.piece)) 0) c.as_slice.ensures.value
+    (c.open.ensures.does blocks known (stage (call_of w) w.piece) tells)))
 
 pub returns-in-Read-clause-some : goal.returns-in-Read-clause-some
 returns-in-Read-clause-some g c =
     let v = world_of_store c.args.store.now in
     let s = objects_of c.args.store.now in
     let w = c.args.work.now in
-    subst (λ (k : SysCall). PieceMatchesSome v (λ blocks io. piece_of k w.piece v s blocks w.caller c.args.answer io) (objects_of c.read.new.store) c.read.result.gave (comes_after c.read.result.next (stage k c.read.new.piece)) c.read.new.log) (sym c.in-Read.is)
+    subst (λ (k : SysCall). PieceMatchesSome v (λ blocks io. piece_of k w.piece v s blocks w.caller c.args.answer io) (objects_of c.read.new.store) c.read.new.gave (comes_after c.read.result (stage k c.read.new.piece)) c.read.new.log) (sym (named c.args.work.now _ c.in-Read.is))
     c.read.ensures.some
 
 pub returns-in-Write-clause-some : goal.returns-in-Write-clause-some
 returns-in-Write-clause-some g c =
-    let v = world_of_store c.args.store.now in
+    rw c.clear.ensures
+    (let v = world_of_store c.args.store.now in
     let s = objects_of c.args.store.now in
     let w = c.args.work.now in
     let x = c.in-Write in
-    subst (λ (k : SysCall). PieceMatchesSome v (λ blocks io. piece_of k w.piece v s blocks w.caller c.args.answer io) (objects_of c.write.new.store) c.write.result.gave (comes_after c.write.result.next (stage w.call w.piece)) c.write.new.log) (sym x.is)
-    (subst (λ (bytes : List ℕ). PieceMatchesSome v (λ blocks io. write_piece (file_block v (s.things.file w.caller x.fd) x.i x.off (length bytes)) v s blocks w.caller x.off bytes c.args.answer io) (objects_of c.write.new.store) c.write.result.gave (comes_after c.write.result.next (stage w.call w.piece)) c.write.new.log)
-    c.as_slice-in-Write.ensures.value (c.write.ensures.some (stage w.call w.piece)))
+    subst (λ (k : SysCall). PieceMatchesSome v (λ blocks io. piece_of k w.piece v s blocks w.caller c.args.answer io) (objects_of c.write.new.store) None (comes_after c.write.result (stage (call_of w) w.piece)) c.write.new.log) (sym (named w _ x.is))
+    (subst (λ (bytes : List ℕ). PieceMatchesSome v (λ blocks io. write_piece (file_block v (s.things.file w.caller x.fd) x.i x.off (length bytes)) v s blocks w.caller x.off bytes c.args.answer io) (objects_of c.write.new.store) None (comes_after c.write.result (stage (call_of w) w.piece)) c.write.new.log)
+    c.as_slice-in-Write.ensures.value (c.write.ensures.some (stage (call_of w) w.piece))))
 
 pub returns-in-Sync-clause-some : goal.returns-in-Sync-clause-some
 returns-in-Sync-clause-some g c =
-    let v = world_of_store c.args.store.now in
+    rw c.clear.ensures
+    (let v = world_of_store c.args.store.now in
     let s = objects_of c.args.store.now in
     let w = c.args.work.now in
-    subst (λ (k : SysCall). PieceMatchesSome v (λ blocks io. piece_of k w.piece v s blocks w.caller c.args.answer io) (objects_of c.sync.new.store) c.sync.result.gave (comes_after c.sync.result.next (stage w.call w.piece)) c.sync.new.log) (sym c.in-Sync.is)
-    (some_of_all v (λ blocks io. sync_from v.frames 0 0 s blocks io) (objects_of c.sync.new.store) _ _ c.sync.new.log (λ blocks rest. c.sync.ensures.left blocks rest (stage w.call w.piece)))
+    subst (λ (k : SysCall). PieceMatchesSome v (λ blocks io. piece_of k w.piece v s blocks w.caller c.args.answer io) (objects_of c.sync.new.store) None (comes_after c.sync.result (stage (call_of w) w.piece)) c.sync.new.log) (sym (named c.args.work.now _ c.in-Sync.is))
+    (some_of_all v (λ blocks io. sync_from v.frames 0 0 s blocks io) (objects_of c.sync.new.store) _ _ c.sync.new.log (λ blocks rest. c.sync.ensures.left blocks rest (stage (call_of w) w.piece))))

@@ -4,7 +4,7 @@ use Rattle.kernel_model.specs.declared.Refusal.{Refusal}
 use Rattle.kernel_model.specs.FilePieces.{read_first_at}
 use Rattle.kernel_model.specs.Needs.{file_block}
 use Rattle.kernel_state.specs.Stores.{world_of_store, objects_of}
-use Rattle.call_pieces.proofs.LeftLaws.{some_came, some_refused}
+use Rattle.call_pieces.proofs.LeftLaws.{some_refused}
 use Rattle.call_pieces.proofs.ReadLaws.{first_block}
 use Rattle.call_pieces.proofs.reads.first.Goals as goal
 
@@ -22,11 +22,11 @@ returns-in-Ok-clause-does g c =
 
 pub returns-in-Err-clause-some : goal.returns-in-Err-clause-some
 returns-in-Err-clause-some g c =
-    let s = c.args.store.now in
+    rw c.requires.nothing
+    (let s = c.args.store.now in
     let r = c.args.r in
     let v = world_of_store s in
     let o = objects_of s in
     let block : Err c.in-Err.refusal ≡ file_block v (Some c.args.opened) r.i r.off r.len = c.in-Err.ensures.value ∙ ap (λ (x : Option OpenRow). file_block v x r.i r.off r.len) c.requires.file in
-    some_came v (λ blocks w. read_first_at (file_block v (Some c.args.opened) r.i r.off r.len) v o blocks c.args.p r.fd r.i r.off r.len c.args.opened c.args.answer w) c.came.result _ o _ c.args.log.now c.came.ensures
     (some_refused v (λ blocks w. read_first_at (file_block v (Some c.args.opened) r.i r.off r.len) v o blocks c.args.p r.fd r.i r.off r.len c.args.opened c.args.answer w) o c.in-Err.refusal c.args.log.now c.requires.fresh
-    (λ blocks w. ap (λ (x : Result ℕ Refusal). read_first_at x v o blocks c.args.p r.fd r.i r.off r.len c.args.opened c.args.answer w) (sym block)))
+    (λ blocks w. ap (λ (x : Result ℕ Refusal). read_first_at x v o blocks c.args.p r.fd r.i r.off r.len c.args.opened c.args.answer w) (sym block))))

@@ -5,7 +5,6 @@ use Rattle.kernel_model.specs.Needs.{ahead_block}
 use Rattle.kernel_model.specs.Fetch.{fetch_ahead}
 use Rattle.kernel_model.specs.FilePieces.{read_third}
 use Rattle.kernel_state.specs.Stores.{world_of_store, objects_of, cache_of}
-use Rattle.call_pieces.proofs.SyncLaws.{came_of}
 use Rattle.call_pieces.proofs.ReadLaws.{file_here, goes_later, third_came, third_block, none_ahead, some_ahead}
 use Rattle.call_pieces.proofs.WriteLaws.{fetch_failed}
 use Rattle.call_pieces.proofs.reads.later.Goals as goal
@@ -24,7 +23,6 @@ returns-in_default-clause-does g c =
     let o = objects_of s in
     let io = c.fetch_ahead.new.log ++ rest in
     let n = length c.fetch_ahead.new.log in
-    came_of _ c.came.result _ (objects_of c.fetch_ahead.new.store) (g.D.Disk.blocks c.fetch_ahead.new.disk) _ n c.came.ensures
     (third_block (ahead_block v (Some c.args.opened)) c.block_ahead-b.result v o (objects_of c.fetch_ahead.new.store) blocks c.args.p r.fd r.i r.off r.len n c.args.opened c.args.answer io (g.D.Disk.blocks c.fetch_ahead.new.disk) _ _
     c.block_ahead-b.ensures.value
     (fetch_failed (read_third o blocks c.args.p r.fd r.i r.off r.len c.args.opened) (fetch_ahead v (o.things.pol 1) c.args.p c.block_ahead-b.result c.args.answer o.things.cache blocks io) o
@@ -39,7 +37,6 @@ returns-then-row-eq0-clause-does g c =
     let o = objects_of s in
     let io = c.fetch_ahead.new.log ++ rest in
     let n = length c.fetch_ahead.new.log in
-    came_of _ c.came-then-row-eq0.result _ (objects_of c.put_file.new.self) (g.D.Disk.blocks c.fetch_ahead.new.disk) _ n c.came-then-row-eq0.ensures
     (third_block (ahead_block v (Some c.args.opened)) c.block_ahead-b.result v o (objects_of c.put_file.new.self) blocks c.args.p r.fd r.i r.off r.len n c.args.opened c.args.answer io (g.D.Disk.blocks c.fetch_ahead.new.disk) _ _
     c.block_ahead-b.ensures.value
     (third_came o (objects_of c.fetch_ahead.new.store) (objects_of c.put_file.new.self) blocks c.args.p r.fd r.i r.off r.len c.in-Ok.field-0 n c.args.opened
@@ -55,7 +52,6 @@ returns-clause-does g c =
     let o = objects_of s in
     let io = c.fetch_ahead.new.log ++ rest in
     let n = length c.fetch_ahead.new.log in
-    came_of _ c.came-2.result _ (objects_of c.put_file.new.self) (g.D.Disk.blocks c.fetch_ahead.new.disk) _ n c.came-2.ensures
     (third_block (ahead_block v (Some c.args.opened)) c.block_ahead-b.result v o (objects_of c.put_file.new.self) blocks c.args.p r.fd r.i r.off r.len n c.args.opened c.args.answer io (g.D.Disk.blocks c.fetch_ahead.new.disk) _ _
     c.block_ahead-b.ensures.value
     (third_came o (objects_of c.fetch_ahead.new.store) (objects_of c.put_file.new.self) blocks c.args.p r.fd r.i r.off r.len c.in-Ok.field-0 n c.args.opened

@@ -1,4 +1,4 @@
-use Rattle.std.proofs.Common.{◌≡◌, ℕ, arith, ◌++◌, Option, Some, length, sym, ap, ◌∙◌, subst}
+use Rattle.std.proofs.Common.{◌≡◌, ℕ, arith, ◌++◌, Option, Some, None, length, sym, ap, ◌∙◌, subst}
 use Rattle.kernel_model.specs.declared.SysCall.TheVariants.{Read}
 use Rattle.kernel_model.specs.declared.OpenRow.{OpenRow}
 use Rattle.kernel_model.specs.declared.Refusal.TheVariants.{BadFd}
@@ -10,7 +10,7 @@ use Rattle.kernel_state.specs.Stores.{world_of_store, objects_of}
 use Rattle.call_pieces.specs.Works.{comes_after}
 use Rattle.call_pieces.specs.Matching.{PieceMatches}
 use Rattle.call_pieces.proofs.ReadLaws.{read_zero, read_one, read_later, few_kinds}
-use Rattle.call_pieces.proofs.LeftLaws.{some_as, some_came, some_quick, some_refused}
+use Rattle.call_pieces.proofs.LeftLaws.{some_as, some_quick, some_refused}
 use Rattle.call_pieces.proofs.SyncLaws.{came_as}
 use Rattle.call_pieces.proofs.reads.read.Goals as goal
 
@@ -25,7 +25,8 @@ returns-in-0-clause-does g c =
 
 pub returns-in_default-piece-clause-does : goal.returns-in_default-piece-clause-does
 returns-in_default-piece-clause-does g c =
-    λ blocks rest tells.
+    rw c.requires.nothing
+    (λ blocks rest tells.
     let r = c.args.r in
     let s = c.args.store.now in
     let o = objects_of s in
@@ -36,21 +37,22 @@ returns-in_default-piece-clause-does g c =
     came_as _ _ (objects_of c.later.new.store) (g.D.Disk.blocks c.later.new.disk) _ _ (length c.later.new.log)
     (read_later c.args.piece.now v o blocks c.args.p r.fd r.i r.off r.len _ opened c.args.answer (c.later.new.log ++ rest) third (sym c.file.ensures.value ∙ c.in-Some.is))
     (subst (λ (k : ℕ). PieceMatches (read_third_at (ahead_block v (Some opened)) v o blocks c.args.p r.fd r.i r.off r.len opened c.args.answer (c.later.new.log ++ rest)) (objects_of c.later.new.store)
-    (g.D.Disk.blocks c.later.new.disk) c.later.result.gave (comes_after c.later.result.next (stage (Read r.fd r.i r.off r.len) k)) (length c.later.new.log)) (sym third) (c.later.ensures.does blocks rest tells))
+    (g.D.Disk.blocks c.later.new.disk) None (comes_after c.later.result (stage (Read r.fd r.i r.off r.len) k)) (length c.later.new.log)) (sym third) (c.later.ensures.does blocks rest tells)))
 
 pub returns-in_default-clause-some : goal.returns-in_default-clause-some
 returns-in_default-clause-some g c =
-    let s = c.args.store.now in
+    rw c.requires.nothing
+    (let s = c.args.store.now in
     let r = c.args.r in
     let v = world_of_store s in
     let o = objects_of s in
-    some_came v (λ blocks w. read_piece c.args.piece.now v o blocks c.args.p r.fd r.i r.off r.len (o.things.file c.args.p r.fd) c.args.answer w) c.came.result _ o _ c.args.log.now c.came.ensures
     (some_refused v (λ blocks w. read_piece c.args.piece.now v o blocks c.args.p r.fd r.i r.off r.len (o.things.file c.args.p r.fd) c.args.answer w) o BadFd c.args.log.now c.requires.fresh
-    (λ blocks w. ap (λ (x : Option OpenRow). read_piece c.args.piece.now v o blocks c.args.p r.fd r.i r.off r.len x c.args.answer w) (sym c.file.ensures.value ∙ c.in_default.is)))
+    (λ blocks w. ap (λ (x : Option OpenRow). read_piece c.args.piece.now v o blocks c.args.p r.fd r.i r.off r.len x c.args.answer w) (sym c.file.ensures.value ∙ c.in_default.is))))
 
 pub returns-in-1-clause-some : goal.returns-in-1-clause-some
 returns-in-1-clause-some g c =
-    let s = c.args.store.now in
+    rw c.requires.nothing
+    (let s = c.args.store.now in
     let r = c.args.r in
     let v = world_of_store s in
     let o = objects_of s in
@@ -60,4 +62,4 @@ returns-in-1-clause-some g c =
     (λ blocks w. read_second o blocks c.args.p r.fd r.i r.off r.len opened ahead) _ _ _ c.args.log.now
     (λ blocks w. read_one c.args.piece.now v o blocks c.args.p r.fd r.i r.off r.len _ opened c.args.answer w c.in-1.is (sym c.file.ensures.value ∙ c.in-Some.is))
     (some_quick v (λ blocks w. read_second o blocks c.args.p r.fd r.i r.off r.len opened ahead) _ _ _ c.args.log.now c.requires.fresh
-    (λ blocks known w tells. c.second.ensures.does blocks known tells))
+    (λ blocks known w tells. c.second.ensures.does blocks known tells)))

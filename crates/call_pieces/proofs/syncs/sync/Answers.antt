@@ -6,7 +6,7 @@ use Rattle.kernel_model.specs.FilePieces.{with_cache}
 use Rattle.disk_log.specs.Calls.{Knows}
 use Rattle.std.specs.Result.{is_err}
 use Rattle.kernel_state.specs.Stores.{objects_of, cache_of}
-use Rattle.call_pieces.proofs.SyncLaws.{Midway, begins, past_clean, past_written, ends_failed, ends_well, left_failed, left_well, came_of, left_of, of_err, of_ok}
+use Rattle.call_pieces.proofs.SyncLaws.{Midway, begins, past_clean, past_written, ends_failed, ends_well, left_failed, left_well, of_err, of_ok}
 use Rattle.call_pieces.proofs.syncs.sync.Goals as goal
 
 pub loop-f-init : goal.loop-f-init
@@ -65,7 +65,6 @@ returns-then-is_err-clause-does g c =
     let w = c.write_back.ensures in
     let ill = c.if-is_err.ensures.negation in
     let cache = cache_of c.loop-f.store in
-    came_of _ c.came.result _ (objects_of c.write_back.new.store) (g.D.Disk.blocks c.write_back.new.disk) t _ c.came.ensures
     (ends_failed c.args.store.now.setup.frames c.loop-f.f c.in-Some.b c.loop-f.written (objects_of c.args.store.now) (objects_of c.loop-f.store) (objects_of c.write_back.new.store)
     (g.D.Disk.blocks c.args.disk.now) (g.D.Disk.blocks c.loop-f.disk) (g.D.Disk.blocks c.write_back.new.disk) c.loop-f.log c.write_back.new.log (is_err c.write_back.result) c.loop-f-test.true l.so_far
     (sym c.in-Some.ensures.value) w.noted (sym c.if-is_err.ensures.value)
@@ -78,7 +77,6 @@ returns-then-is_err-clause-calls g c = λ f p made. c.write_back.ensures.calls f
 pub returns-clause-does : goal.returns-clause-does
 returns-clause-does g c =
     λ blocks rest t tells.
-    came_of _ c.came-2.result _ (objects_of c.loop-f.store) (g.D.Disk.blocks c.loop-f.disk) t _ c.came-2.ensures
     (ends_well c.args.store.now.setup.frames c.loop-f.f c.loop-f.written (objects_of c.args.store.now) (objects_of c.loop-f.store) (g.D.Disk.blocks c.args.disk.now) (g.D.Disk.blocks c.loop-f.disk)
     c.loop-f.log (omega arith) c.loop-f.invariant.so_far blocks rest tells)
 
@@ -88,7 +86,6 @@ returns-then-is_err-clause-left g c =
     let l = c.loop-f.invariant in
     let w = c.write_back.ensures in
     let cache = cache_of c.loop-f.store in
-    left_of _ c.came.result _ (objects_of c.write_back.new.store) t _ c.came.ensures
     (left_failed c.args.store.now.setup.frames c.loop-f.f c.in-Some.b c.loop-f.written (objects_of c.args.store.now) (objects_of c.loop-f.store) (objects_of c.write_back.new.store)
     (g.D.Disk.blocks c.args.disk.now) (g.D.Disk.blocks c.loop-f.disk) c.loop-f.log c.write_back.new.log (is_err c.write_back.result) c.loop-f-test.true l.so_far
     (sym c.in-Some.ensures.value) w.noted (sym c.if-is_err.ensures.value)
@@ -98,6 +95,5 @@ returns-then-is_err-clause-left g c =
 pub returns-clause-left : goal.returns-clause-left
 returns-clause-left g c =
     λ blocks rest t.
-    left_of _ c.came-2.result _ (objects_of c.loop-f.store) t _ c.came-2.ensures
     (left_well c.args.store.now.setup.frames c.loop-f.f c.loop-f.written (objects_of c.args.store.now) (objects_of c.loop-f.store) (g.D.Disk.blocks c.args.disk.now) (g.D.Disk.blocks c.loop-f.disk)
     c.loop-f.log (omega arith) c.loop-f.invariant.so_far blocks rest)

@@ -1,5 +1,4 @@
 use Rattle.std.proofs.Common.{rules}
-use Rattle.kernel_model.specs.Text.{line}
 use Rattle.demo_text.proofs.LineLemmas.{one_more}
 use Rattle.demo_text.proofs.lines.demo_script.Goals as goal
 

@@ -1,4 +1,4 @@
-use Rattle.std.proofs.Common.{◌≡◌, ◌++◌, List, ℕ, length, flat_map}
+use Rattle.std.proofs.Common.{◌≡◌, ◌++◌, length, flat_map}
 use Rattle.kernel_model.specs.Text.{line}
 use Rattle.demo_text.proofs.lines.demo_script.Given as goal
 

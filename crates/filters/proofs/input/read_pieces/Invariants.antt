@@ -1,15 +1,16 @@
 -- The source gave what was taken so far.
-use Rattle.std.proofs.Common.{◌+◌, ◌-◌, ◌<◌, ◌≤◌, length}
+use Rattle.std.proofs.Common.{◌+◌, ◌-◌, ◌<◌, ◌≤◌, false, length}
 use Rattle.std.specs.Io.KnownBytes.{Consumes}
 use Rattle.kernel_model.specs.Outcome.{SCRIPT_BYTES}
+use Rattle.vino_base.specs.Streams.{IsUsed}
 use Rattle.filters.proofs.input.read_pieces.Given as goal
 
 abbrev pub invariant-loop-input : goal.invariant-loop-input
 invariant-loop-input g l =
     record {
       within : length l.input.items ≤ SCRIPT_BYTES + 1;
-      consumed : Consumes (g.S.Source.rest l.fn.src) (g.S.Source.rest l.src) l.input.items;
-      later : g.S.Source.faults l.fn.src ≤ g.S.Source.faults l.src;
+      consumed : Consumes (g.S.Source.seen l.fn.src).rest (g.S.Source.seen l.src).rest l.input.items;
+      used : IsUsed (g.S.Source.seen l.fn.src).device (g.S.Source.seen l.src).device false;
       room : 0 < length l.buf;
     }
 

@@ -1,8 +1,9 @@
 -- What a write takes stands after what was taken before.
-use Rattle.std.proofs.Common.{arith, drop, length, ◌≤◌, ◌-◌, length-drop}
+use Rattle.std.proofs.Common.{arith, false, drop, length, ◌≤◌, ◌-◌, length-drop}
 use Rattle.std.proofs.lemmas.List.{take_all}
 use Rattle.std.proofs.KnownBytes.{Appends-trans}
 use Rattle.std.proofs.Math.Seq.{take-add}
+use Rattle.vino_base.specs.Streams.{used_then}
 use Rattle.filters.proofs.output.write_all.Goals as goal
 
 pub loop-at-preserved : goal.loop-at-preserved
@@ -13,6 +14,6 @@ loop-at-preserved g c =
     let bound = rw (take_all (length c.args.bytes.now - c.loop-at.at) rest short) at c.in_ok-at.ensures.bound in
     record {
       within = omega (arith, bound, length-drop c.loop-at.at c.args.bytes.now, c.loop-at-test.true);
-      later = omega (arith, c.loop-at.invariant.later, c.in_ok-at.ensures.cause.later);
+      used = used_then {failed = false} c.loop-at.invariant.used c.in_ok-at.ensures.used;
       appended = rw (take-add c.loop-at.at c.in_ok-at.field-0 c.args.bytes.now) (Appends-trans _ _ _ _ _ c.loop-at.invariant.appended moved);
     }

@@ -9,7 +9,7 @@ use Rattle.kernel_core.proofs.stepping.steps.Given as goal
 abbrev pub invariant-loop-going : goal.invariant-loop-going
 invariant-loop-going g l = record {
   come : HasReached g.C.Meaning.Rules.meaning (steps_said g.C.Meaning.Rules.meaning l.initial.number l.initial.p l.initial.n 0) (steps_left g.C.Meaning.Rules.meaning l.initial.number l.initial.p (l.initial.n - l.taken) l.taken l.going)
-      (placed_of g.C.Calls.stage l.initial.running) (placed_of g.C.Calls.stage l.running) l.initial.notes l.notes
+      (placed_of g.C.Calls.stage l.initial.running) (placed_of g.C.Calls.stage l.running) l.initial.trace.notes l.trace.notes
       (disk_seen (g.D.Disk.blocks l.initial.disk) (g.D.Disk.plan l.initial.disk) (g.D.Disk.faults l.initial.disk)) (disk_seen (g.D.Disk.blocks l.disk) (g.D.Disk.plan l.disk) (g.D.Disk.faults l.disk));
   running : IsRunning g.C.Calls.caller l.running;
   abstraction : HasAbstraction g.C.Meaning.Rules.meaning (placed_of g.C.Calls.stage l.running);

@@ -29,4 +29,4 @@ returns-in-Said-clause-answer c =
     let said =
     parsed-first c.args.booted _ _ _ c.requires (sym c.is_blank_line.ensures ∙ c.if-is_blank_line.false)
     c.word_end-end.ensures.value (sym c.named.ensures ∙ c.in-Some.is) in
-    subst (Answers c.entry_said.result) (sym said) (grind (arith, nat_tests, c.entry_said.ensures.answer))
+    subst (Answers c.entry_said.result c.entry_said.new.bytes.items) (sym said) (grind (arith, nat_tests, c.entry_said.ensures.answer))

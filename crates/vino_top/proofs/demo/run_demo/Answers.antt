@@ -11,7 +11,7 @@ run_all-requires-clause-within g c = c.requires.within c.size-size.result
 
 pub returns-in-Err-clause-memory : goal.returns-in-Err-clause-memory
 returns-in-Err-clause-memory g c = λ is.
-    (kept (g.K.Sink.got c.args.sink.now), lacked_over c.args.n _ _ _ _ _ _ c.size-size.ensures.count c.requires.script c.requires.begun c.in-Err.ensures.err)
+    (kept (g.K.Sink.seen c.args.sink.now).got, lacked_over c.args.n _ _ _ _ _ _ c.size-size.ensures.count c.requires.script c.requires.begun c.in-Err.ensures.err)
 
 pub tell-requires : goal.tell-requires
 tell-requires g c = record { tally = has_room _ _ _ _ _ _ _ _ (few_lines c.args.n c.args.lines c.requires.script) c.in_default.ensures.ok }

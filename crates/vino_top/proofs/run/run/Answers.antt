@@ -1,9 +1,10 @@
 -- Each turn of the run goes on from what was reached, or ends it.
 use Rattle.vino_top.specs.Run.{place}
 use Rattle.vino_top.specs.Standing.{seen_of}
-use Rattle.std.proofs.Common.{arith, length, take, drop, ◌≤◌, ◌≡◌, ◌-◌, ◌++◌, ◌∙◌, sym, refl, length-append, length-take}
+use Rattle.vino_base.specs.Streams.{not_used, used_then}
+use Rattle.std.proofs.Common.{arith, true, false, ◌==◌, length, take, drop, ◌≤◌, ◌≡◌, ◌-◌, ◌++◌, ◌∙◌, sym, refl, length-append, length-take}
 use Rattle.vino_top.proofs.LineLemmas.{piece_is}
-use Rattle.vino_top.proofs.EndLemmas.{reached_first, reached_lines, reached_short, reached_more, ran_fault, ran_over, ran_stopped, ran_finish, broke_finish, broke_fed, lacked_fed}
+use Rattle.vino_top.proofs.EndLemmas.{reached_first, reached_lines, reached_short, reached_more, ran_fault, ran_over, ran_stopped, ran_finish, broke_finish, broke_fed, lacked_fed, finish_read, stop_read, stop_written}
 use Rattle.vino_top.proofs.run.run.Goals as goal
 
 pub loop-left-init : goal.loop-left-init
@@ -12,8 +13,8 @@ loop-left-init g c =
       reached = reached_first (place c.args.keys.now c.size-size.result) (seen_of c.args.reader.now.session) _ _ _ c.args.reader.now.line c.requires.line;
       within = rw c.size-size.ensures.count c.requires.within;
       going = c.requires.begun.refused;
-      source = omega arith;
-      sink = omega arith;
+      source = not_used _;
+      sink = not_used _;
       room = c.requires.room;
       same_size = sym c.size-size.ensures.count;
     }
@@ -31,19 +32,19 @@ feed-requires-clause-short g c = reached_short _ _ _ _ _ _ _ _ _ _ _ c.loop-left
 pub returns-in-Err-clause-ran : goal.returns-in-Err-clause-ran
 returns-in-Err-clause-ran g c = λ other more.
     rw (← c.size-size.ensures.count)
-    (ran_fault (place c.args.keys.now c.size-size.result) (seen_of c.args.reader.now.session) (seen_of c.loop-left.reader.session) _ _ _ _ _ _ _ _ _ _ c.loop-left.reader.line c.loop-left.left c.requires.begun c.loop-left.invariant.reached c.loop-left.invariant.going c.loop-left-test.true
-    c.in-Err.ensures.contents c.loop-left.invariant.source c.in-Err.ensures.cause.failed)
+    (ran_fault (place c.args.keys.now c.size-size.result) (seen_of c.args.reader.now.session) (seen_of c.loop-left.reader.session) _ (g.S.Source.seen c.loop-left.src) _ _ _ _ _ c.loop-left.reader.line c.loop-left.left c.requires.begun c.loop-left.invariant.reached c.loop-left.invariant.going c.loop-left-test.true
+    c.in-Err.ensures.contents c.loop-left.invariant.source c.in-Err.ensures.used)
 
 pub returns-clause-ran : goal.returns-clause-ran
 returns-clause-ran g c = λ other more.
     rw (← c.size-size.ensures.count)
-    (ran_over (place c.args.keys.now c.size-size.result) (seen_of c.args.reader.now.session) (seen_of c.loop-left.reader.session) _ _ _ _ _ _ _ _ c.loop-left.reader.line c.loop-left.left c.requires.begun c.loop-left.invariant.reached (omega (arith, c.loop-left-test.false)) c.loop-left.invariant.going)
+    (ran_over (place c.args.keys.now c.size-size.result) (seen_of c.args.reader.now.session) (seen_of c.loop-left.reader.session) _ _ _ _ _ _ c.loop-left.reader.line c.loop-left.left c.requires.begun c.loop-left.invariant.reached (omega (arith, c.loop-left-test.false)) c.loop-left.invariant.going)
 
 pub returns-in-Ok-eq0-clause-ran : goal.returns-in-Ok-eq0-clause-ran
 returns-in-Ok-eq0-clause-ran g c = λ other more.
     let none = rw c.in-Ok-eq0.field-0-test at c.in-Ok-eq0.ensures.contents in
     rw (← c.size-size.ensures.count)
-    (ran_finish (place c.args.keys.now c.size-size.result) (seen_of c.args.reader.now.session) (seen_of c.loop-left.reader.session) _ _ _ _ _ _ _ _ _ _ c.loop-left.reader.line c.loop-left.left c.finish.result c.requires.begun c.loop-left.invariant.reached c.loop-left.invariant.going c.loop-left-test.true none.0
+    (ran_finish (place c.args.keys.now c.size-size.result) (seen_of c.args.reader.now.session) (seen_of c.loop-left.reader.session) _ _ _ _ _ _ _ _ c.loop-left.reader.line c.loop-left.left c.finish.result c.requires.begun c.loop-left.invariant.reached c.loop-left.invariant.going c.loop-left-test.true none.0
     (none.1 refl (omega (arith, c.read.auto.buf, length-take c.min-room.result c.loop-left.buf, c.min-room.ensures, c.loop-left.invariant.room, c.loop-left-test.true)))
     c.finish.ensures.done other)
 
@@ -66,8 +67,8 @@ loop-left-preserved g c =
           c.loop-left.invariant.reached c.loop-left-test.true size most c.in-Ok.ensures.contents.0 fed;
       within = c.feed.ensures.within;
       going = c.if-reader.false;
-      source = omega (arith, c.loop-left.invariant.source, c.in-Ok.ensures.cause.later);
-      sink = omega (arith, c.loop-left.invariant.sink, c.feed.ensures.later);
+      source = used_then {failed = false} c.loop-left.invariant.source c.in-Ok.ensures.used;
+      sink = used_then {failed = false} c.loop-left.invariant.sink c.in_default.ensures.sink;
       room = omega (arith, c.loop-left.invariant.room, c.read.auto.buf, length-take c.min-room.result c.loop-left.buf, c.min-room.ensures, c.loop-left-test.true, length-append c.read.new.buf (drop c.min-room.result c.loop-left.buf));
       same_size = c.feed.ensures.same_size;
     }
@@ -101,4 +102,41 @@ returns-then-reader-clause-ran g c = λ other more.
     let reached = reached_more (place c.args.keys.now c.size-size.result) (seen_of c.args.reader.now.session) (seen_of c.loop-left.reader.session) (seen_of c.feed.new.reader.session) _ _ _ _ _ _ _ _ _ c.loop-left.reader.line c.feed.new.reader.line c.loop-left.left c.in-Ok.n (take c.in-Ok.n c.read.new.buf)
     c.loop-left.invariant.reached c.loop-left-test.true size most c.in-Ok.ensures.contents.0 (rw piece at c.in_default.ensures.contents) in
     rw (← c.size-size.ensures.count)
-    (ran_stopped (place c.args.keys.now c.size-size.result) (seen_of c.args.reader.now.session) (seen_of c.feed.new.reader.session) _ _ _ _ _ _ _ _ c.feed.new.reader.line (c.loop-left.left - c.in-Ok.n) c.requires.begun reached c.if-reader.true)
+    (ran_stopped (place c.args.keys.now c.size-size.result) (seen_of c.args.reader.now.session) (seen_of c.feed.new.reader.session) _ _ _ _ _ _ c.feed.new.reader.line (c.loop-left.left - c.in-Ok.n) c.requires.begun reached c.if-reader.true)
+
+-- ---- the devices
+
+pub returns-in-Err-clause-source : goal.returns-in-Err-clause-source
+returns-in-Err-clause-source g c = used_then {failed = true} c.loop-left.invariant.source c.in-Err.ensures.used
+
+pub returns-in-Err-clause-sink : goal.returns-in-Err-clause-sink
+returns-in-Err-clause-sink g c = c.loop-left.invariant.sink
+
+pub returns-in-Ok-eq0-clause-source : goal.returns-in-Ok-eq0-clause-source
+returns-in-Ok-eq0-clause-source g c =
+    finish_read _ _ c.finish.result c.finish.ensures.statuses
+    (used_then {failed = false} c.loop-left.invariant.source c.in-Ok-eq0.ensures.used)
+
+pub returns-in-Ok-eq0-clause-sink : goal.returns-in-Ok-eq0-clause-sink
+returns-in-Ok-eq0-clause-sink g c = used_then {failed = c.finish.result == 4} c.loop-left.invariant.sink c.finish.ensures.sink
+
+pub returns-in-Err-feed-clause-source : goal.returns-in-Err-feed-clause-source
+returns-in-Err-feed-clause-source g c =
+    stop_read _ _ c.in-Err-feed.stop c.status_of.result c.status_of.ensures
+    (used_then {failed = false} c.loop-left.invariant.source c.in-Ok.ensures.used)
+
+pub returns-in-Err-feed-clause-sink : goal.returns-in-Err-feed-clause-sink
+returns-in-Err-feed-clause-sink g c =
+    stop_written _ _ _ c.in-Err-feed.stop c.status_of.result c.status_of.ensures c.loop-left.invariant.sink c.in-Err-feed.ensures.sink
+
+pub returns-then-reader-clause-source : goal.returns-then-reader-clause-source
+returns-then-reader-clause-source g c = used_then {failed = false} c.loop-left.invariant.source c.in-Ok.ensures.used
+
+pub returns-then-reader-clause-sink : goal.returns-then-reader-clause-sink
+returns-then-reader-clause-sink g c = used_then {failed = false} c.loop-left.invariant.sink c.in_default.ensures.sink
+
+pub returns-clause-source : goal.returns-clause-source
+returns-clause-source g c = c.loop-left.invariant.source
+
+pub returns-clause-sink : goal.returns-clause-sink
+returns-clause-sink g c = c.loop-left.invariant.sink

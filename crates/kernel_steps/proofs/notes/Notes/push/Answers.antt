@@ -1,12 +1,27 @@
-use Rattle.std.proofs.Common.{rules, ◌≡◌, ◌++◌, [], ◌∷◌, ◌∙◌, ◌<◌, ◌≤◌, length, ap, subst}
+use Rattle.std.proofs.Common.{sym, ◌++◌, [], ◌∷◌, ◌∙◌, arith, ap}
+use Rattle.kernel_model.specs.declared.Note.{Note}
+use Rattle.kernel_model.specs.Bare.{note_with, notes_with}
 use Rattle.kernel_steps.specs.Kept.{kept_more, kept_full}
+use Rattle.kernel_steps.proofs.NotingLemmas.{as_many, notes_added}
 use Rattle.kernel_steps.proofs.notes.Notes.push.Goals as goal
 
-pub returns-then-list-lt-NOTES : goal.returns-then-list-lt-NOTES
-returns-then-list-lt-NOTES c =
+pub returns-then-len-lt-NOTES : goal.returns-then-len-lt-NOTES
+returns-then-len-lt-NOTES c =
     λ all is.
-    let pushed : c.push.new.self.items ≡ c.args.self.now ++ c.args.note ∷ [] = search rules in
-    pushed ∙ kept_more c.args.self.now all c.args.note is (subst (λ n. n < 530) (ap length c.list.ensures.value) c.if-list-lt-NOTES.true)
+    let l = c.self.inside.list.items in
+    let b = c.self.inside.bytes.items in
+    let w = c.without_bytes.result in
+    let many = as_many l b in
+    ap (λ xs. notes_with xs c.add.new.bytes.items) c.add.ensures.list
+    ∙ ap (λ bs. notes_with (l ++ w ∷ []) bs) c.add.ensures.bytes
+    ∙ notes_added l b w [] c.self.invariant.given c.without_bytes.ensures.count
+    ∙ ap (λ (n : Note). notes_with l b ++ n ∷ []) c.without_bytes.ensures.same
+    ∙ kept_more (notes_with l b) all (note_with c.args.note []) (c.self.view_is ∙ is) (omega (arith, many, c.if-len-lt-NOTES.true))
 
-pub returns-else-list-lt-NOTES : goal.returns-else-list-lt-NOTES
-returns-else-list-lt-NOTES c = λ all is. kept_full c.args.self.now all c.args.note is (subst (λ n. 530 ≤ n) (ap length c.list.ensures.value) c.if-list-lt-NOTES.false)
+pub returns-else-len-lt-NOTES : goal.returns-else-len-lt-NOTES
+returns-else-len-lt-NOTES c =
+    λ all is.
+    let l = c.self.inside.list.items in
+    let b = c.self.inside.bytes.items in
+    let many = as_many l b in
+    sym c.self.view_is ∙ kept_full (notes_with l b) all (note_with c.args.note []) (c.self.view_is ∙ is) (omega (arith, many, c.if-len-lt-NOTES.false))

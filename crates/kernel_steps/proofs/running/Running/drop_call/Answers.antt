@@ -32,7 +32,7 @@ returns-clause-done g c =
     λ pc is.
     let a = c.args in
     let x = a.self.now in
-    drop_done g.C.Meaning.Rules.meaning g.C.Calls.stage g.C.Calls.caller x c.fall-said.new.self c.follow.new.self a.p a.d a.cause pc c.fall-said.result a.notes.now c.follow.new.notes
+    drop_done g.C.Meaning.Rules.meaning g.C.Calls.stage g.C.Calls.caller x c.fall-said.new.self c.follow.new.self a.p a.d a.cause pc c.fall-said.result a.trace.now.notes c.follow.new.trace.notes
     (disk_seen (g.D.Disk.blocks a.disk.now) (g.D.Disk.plan a.disk.now) (g.D.Disk.faults a.disk.now)) (disk_seen (g.D.Disk.blocks c.follow.new.disk) (g.D.Disk.plan c.follow.new.disk) (g.D.Disk.faults c.follow.new.disk))
     c.fall-said.ensures.moved c.fall-said.ensures.config c.fall-said.ensures.said
     (c.follow.ensures.done pc (ap (option_map (call_in_place g.C.Calls.stage)) (c.fall-said.ensures.moved.calls a.p) ∙ is))

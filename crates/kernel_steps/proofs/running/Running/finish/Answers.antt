@@ -34,7 +34,7 @@ returns-clause-done g c =
     let y : Running g.row.C.Denot g.row.B.Denot g.row.C-Meaning.Denot g.row.C-Work.Denot _ = record { store = c.do_piece.new.store; clock = x.clock; images = x.images; locks = x.locks; calls = with_item x.calls a.p (record { call = c.do_piece.new.slot; chain = c.index_mut-flight.result.now.chain }); order = x.order } in
     let t = call_there g.C.Calls.stage (flight_of x.calls.items a.p).call pc is in
     let there = ap (λ (l : Flight g.row.C-Work.Denot). l.call) fl ∙ t.is in
-    finish_done g.C.Meaning.Rules.meaning g.C.Calls.stage g.C.Calls.caller x y a.p pc t.flight c.do_piece.new.slot a.answer a.notes.now c.do_piece.new.notes
+    finish_done g.C.Meaning.Rules.meaning g.C.Calls.stage g.C.Calls.caller x y a.p pc t.flight c.do_piece.new.slot a.answer a.trace.now.notes c.do_piece.new.trace.notes
     (disk_seen (g.D.Disk.blocks a.disk.now) (g.D.Disk.plan a.disk.now) (g.D.Disk.faults a.disk.now)) (disk_seen (g.D.Disk.blocks c.do_piece.new.disk) (g.D.Disk.plan c.do_piece.new.disk) (g.D.Disk.faults c.do_piece.new.disk))
     alone c.requires.none c.requires.process t.is t.stands
     (ap (λ (l : Flight g.row.C-Work.Denot). with_call_of x.calls.items a.p c.do_piece.new.slot l) fl)

@@ -34,7 +34,7 @@ returns-clause-done g c =
     λ pc is.
     let a = c.args in
     let x = a.self.now in
-    micro_done g.C.Meaning.Rules.meaning g.C.Calls.stage g.C.Calls.caller x c.instruct-said.new.self c.follow.new.self a.p pc c.instruct-said.result a.notes.now c.follow.new.notes
+    micro_done g.C.Meaning.Rules.meaning g.C.Calls.stage g.C.Calls.caller x c.instruct-said.new.self c.follow.new.self a.p pc c.instruct-said.result a.trace.now.notes c.follow.new.trace.notes
     (disk_seen (g.D.Disk.blocks a.disk.now) (g.D.Disk.plan a.disk.now) (g.D.Disk.faults a.disk.now)) (disk_seen (g.D.Disk.blocks c.follow.new.disk) (g.D.Disk.plan c.follow.new.disk) (g.D.Disk.faults c.follow.new.disk))
     c.instruct-said.ensures.moved c.instruct-said.ensures.config c.instruct-said.ensures.said
     (c.follow.ensures.done pc (ap (option_map (call_in_place g.C.Calls.stage)) (c.instruct-said.ensures.moved.calls a.p) ∙ is))

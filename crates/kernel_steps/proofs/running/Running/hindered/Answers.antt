@@ -9,6 +9,7 @@ use Rattle.kernel_state.specs.Stores.{world_of_store, objects_of}
 use Rattle.kernel_steps.specs.declared.running.Flight.{Flight}
 use Rattle.kernel_steps.specs.Views.{flight_of}
 use Rattle.kernel_steps.proofs.HinderLemmas.{stands, may_come, piece_hindered, graft_hindered}
+use Rattle.std.specs.Prelude.{option_copied}
 use Rattle.kernel_steps.proofs.running.Running.hindered.Goals as goal
 
 pub piece_hindrance-requires-clause-ready : goal.piece_hindrance-requires-clause-ready
@@ -16,18 +17,18 @@ piece_hindrance-requires-clause-ready g c =
     let x = c.args.self.now in
     let m = g.C.Meaning.Rules.meaning in
     let fl : c.flight-flight.result.now ≡ flight_of x.calls.items c.args.p = c.flight-flight.ensures ∙ ap (λ fs. flight_of fs c.args.p) c.deref.ensures.value in
-    may_come m g.C.Meaning.Rules.laws (world_of_store x.store) (table_of x.images) (objects_of x.store) (g.C.Calls.caller c.in-Some.call.work) (g.C.Calls.stage c.in-Some.call.work)
-    (stands m c.sound_in_place.ensures g.C.Calls.stage g.C.Calls.caller x c.args.p c.in-Some.call c.requires.running c.requires.abstraction
-    (sym (ap (λ (f : Flight g.row.C-Work.Denot). f.call) fl) ∙ c.in-Some.is))
+    may_come m g.C.Meaning.Rules.laws (world_of_store x.store) (table_of x.images) (objects_of x.store) (g.C.Calls.caller c.in-Some.call.now.work) (g.C.Calls.stage c.in-Some.call.now.work)
+    (stands m c.sound_in_place.ensures g.C.Calls.stage g.C.Calls.caller x c.args.p c.in-Some.call.now c.requires.running c.requires.abstraction
+    (sym (ap (λ (f : Flight g.row.C-Work.Denot). f.call) fl) ∙ (sym c.get.ensures ∙ ap option_copied c.in-Some.is)))
 
 pub piece_hindrance-requires-clause-range : goal.piece_hindrance-requires-clause-range
 piece_hindrance-requires-clause-range g c =
     let x = c.args.self.now in
     let m = g.C.Meaning.Rules.meaning in
     let fl : c.flight-flight.result.now ≡ flight_of x.calls.items c.args.p = c.flight-flight.ensures ∙ ap (λ fs. flight_of fs c.args.p) c.deref.ensures.value in
-    λ n has. g.C.Meaning.Rules.laws.need.ranges (world_of_store x.store) (table_of x.images) (objects_of x.store) (g.C.Calls.caller c.in-Some.call.work) (g.C.Calls.stage c.in-Some.call.work) n
-    (stands m c.sound_in_place.ensures g.C.Calls.stage g.C.Calls.caller x c.args.p c.in-Some.call c.requires.running c.requires.abstraction
-    (sym (ap (λ (f : Flight g.row.C-Work.Denot). f.call) fl) ∙ c.in-Some.is)) has
+    λ n has. g.C.Meaning.Rules.laws.need.ranges (world_of_store x.store) (table_of x.images) (objects_of x.store) (g.C.Calls.caller c.in-Some.call.now.work) (g.C.Calls.stage c.in-Some.call.now.work) n
+    (stands m c.sound_in_place.ensures g.C.Calls.stage g.C.Calls.caller x c.args.p c.in-Some.call.now c.requires.running c.requires.abstraction
+    (sym (ap (λ (f : Flight g.row.C-Work.Denot). f.call) fl) ∙ (sym c.get.ensures ∙ ap option_copied c.in-Some.is))) has
 
 pub returns-then-count-eq0 : goal.returns-then-count-eq0
 returns-then-count-eq0 g c =
@@ -35,8 +36,8 @@ returns-then-count-eq0 g c =
     let m = g.C.Meaning.Rules.meaning in
     let fl : c.flight-flight.result.now ≡ flight_of x.calls.items c.args.p = c.flight-flight.ensures ∙ ap (λ fs. flight_of fs c.args.p) c.deref.ensures.value in
     c.piece_hindrance.ensures
-    ∙ piece_hindered m g.C.Calls.stage g.C.Calls.caller x c.args.p c.in-Some.call c.requires.running
-    (sym (ap (λ (f : Flight g.row.C-Work.Denot). f.call) fl) ∙ c.in-Some.is)
+    ∙ piece_hindered m g.C.Calls.stage g.C.Calls.caller x c.args.p c.in-Some.call.now c.requires.running
+    (sym (ap (λ (f : Flight g.row.C-Work.Denot). f.call) fl) ∙ (sym c.get.ensures ∙ ap option_copied c.in-Some.is))
     (sym (ap (λ (f : Flight g.row.C-Work.Denot). length f.chain.levels) fl) ∙ sym c.count.ensures.value ∙ c.if-count-eq0.true)
 
 pub returns : goal.returns
@@ -50,5 +51,5 @@ returns g c =
     c.graft_hindrance.ensures x.store.ram (held x.locks) c.flight-flight.result.now.chain.undo s.things
     ∙ ap (λ (f : Flight g.row.C-Work.Denot). let ls = levels_in c.args.p x.store.ram (held x.locks) f.chain.levels f.chain.undo s.things in
     first_hindrance (held x.locks) s.things.lock c.args.p (lock_user c.args.p ls) (next_needs (world_of_store x.store) (table_of x.images) s.accounts ls)) fl
-    ∙ graft_hindered m g.C.Calls.stage g.C.Calls.caller x c.args.p c.in-Some.call c.requires.running
-    (sym (ap (λ (f : Flight g.row.C-Work.Denot). f.call) fl) ∙ c.in-Some.is) some
+    ∙ graft_hindered m g.C.Calls.stage g.C.Calls.caller x c.args.p c.in-Some.call.now c.requires.running
+    (sym (ap (λ (f : Flight g.row.C-Work.Denot). f.call) fl) ∙ (sym c.get.ensures ∙ ap option_copied c.in-Some.is)) some

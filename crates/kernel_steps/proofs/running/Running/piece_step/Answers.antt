@@ -14,15 +14,16 @@ use Rattle.kernel_steps.specs.Views.{placed_of, flight_of, call_in_place}
 use Rattle.kernel_steps.proofs.HinderLemmas.{all_of, may_come, stands}
 use Rattle.kernel_steps.proofs.StepLemmas.{alone_at, done_as, same_call}
 use Rattle.kernel_steps.proofs.AskLemmas.{asked_lives, asks_empty, asks_none, entered_done, not_there, ready_at_once, there_is}
+use Rattle.std.specs.Prelude.{option_copied}
 use Rattle.kernel_steps.proofs.running.Running.piece_step.Goals as goal
 
 pub asks-requires : goal.asks-requires
 asks-requires g c =
     let a = c.args in
     let x = a.self.now in
-    let call = c.in-Some.call in
+    let call = c.in-Some.call.now in
     let fl : c.flight-flight.result.now ≡ flight_of x.calls.items a.p = c.flight-flight.ensures ∙ ap (λ fs. flight_of fs a.p) c.deref.ensures.value in
-    let there = sym (ap (λ (f : Flight g.row.C-Work.Denot). f.call) fl) ∙ c.in-Some.is in
+    let there = sym (ap (λ (f : Flight g.row.C-Work.Denot). f.call) fl) ∙ (sym c.get.ensures ∙ ap option_copied c.in-Some.is) in
     record { ready = may_come g.C.Meaning.Rules.meaning g.C.Meaning.Rules.laws (world_of_store x.store) (table_of x.images) (objects_of x.store) (g.C.Calls.caller call.work) (g.C.Calls.stage call.work) (stands g.C.Meaning.Rules.meaning c.sound_in_place.ensures g.C.Calls.stage g.C.Calls.caller x a.p call c.requires.running c.requires.abstraction there) }
 
 pub finish-requires-clause-alone : goal.finish-requires-clause-alone
@@ -36,20 +37,20 @@ returns-in_default-asks-clause-done g c =
     λ pc is.
     let a = c.args in
     let x = a.self.now in
-    let call = c.in-Some.call in
+    let call = c.in-Some.call.now in
     let fl : c.flight-flight.result.now ≡ flight_of x.calls.items a.p = c.flight-flight.ensures ∙ ap (λ fs. flight_of fs a.p) c.deref.ensures.value in
-    let there = sym (ap (λ (f : Flight g.row.C-Work.Denot). f.call) fl) ∙ c.in-Some.is in
+    let there = sym (ap (λ (f : Flight g.row.C-Work.Denot). f.call) fl) ∙ (sym c.get.ensures ∙ ap option_copied c.in-Some.is) in
     let t : call_in_place g.C.Calls.stage call ≡ pc = same_call g.C.Calls.stage call pc (ap (option_map (call_in_place g.C.Calls.stage)) (sym there) ∙ is) in
-    done_as g.C.Calls.stage g.C.Calls.caller (λ r. placed_call_step g.C.Meaning.Rules.meaning a.p (Some pc) r) (finishes g.C.Meaning.Rules.meaning a.p pc None) x c.finish.new.self a.p a.notes.now c.finish.new.notes (disk_seen (g.D.Disk.blocks a.disk.now) (g.D.Disk.plan a.disk.now) (g.D.Disk.faults a.disk.now)) (disk_seen (g.D.Disk.blocks c.finish.new.disk) (g.D.Disk.plan c.finish.new.disk) (g.D.Disk.faults c.finish.new.disk))
+    done_as g.C.Calls.stage g.C.Calls.caller (λ r. placed_call_step g.C.Meaning.Rules.meaning a.p (Some pc) r) (finishes g.C.Meaning.Rules.meaning a.p pc None) x c.finish.new.self a.p a.trace.now.notes c.finish.new.trace.notes (disk_seen (g.D.Disk.blocks a.disk.now) (g.D.Disk.plan a.disk.now) (g.D.Disk.faults a.disk.now)) (disk_seen (g.D.Disk.blocks c.finish.new.disk) (g.D.Disk.plan c.finish.new.disk) (g.D.Disk.faults c.finish.new.disk))
     (asks_none g.C.Meaning.Rules.meaning g.C.Calls.stage x a.p pc c.requires.none (ap (λ (e : PlacedCall). g.C.Meaning.Rules.meaning.asks (world_of_store x.store) (objects_of x.store) a.p e.stage) (sym t) ∙ ap (λ q. g.C.Meaning.Rules.meaning.asks (world_of_store x.store) (objects_of x.store) q (g.C.Calls.stage call.work)) (sym (c.requires.running.callers a.p call there)) ∙ sym c.asks.ensures ∙ c.in_default-asks.is)) (c.finish.ensures.done pc is)
 
 pub has_graft-requires : goal.has_graft-requires
 has_graft-requires g c =
     let a = c.args in
     let x = a.self.now in
-    let call = c.in-Some.call in
+    let call = c.in-Some.call.now in
     let fl : c.flight-flight.result.now ≡ flight_of x.calls.items a.p = c.flight-flight.ensures ∙ ap (λ fs. flight_of fs a.p) c.deref.ensures.value in
-    let there = sym (ap (λ (f : Flight g.row.C-Work.Denot). f.call) fl) ∙ c.in-Some.is in
+    let there = sym (ap (λ (f : Flight g.row.C-Work.Denot). f.call) fl) ∙ (sym c.get.ensures ∙ ap option_copied c.in-Some.is) in
     (g.C.Meaning.Rules.laws.ask.ranges (world_of_store x.store) (table_of x.images) (objects_of x.store) (g.C.Calls.caller call.work) (g.C.Calls.stage call.work) c.in-Some-asks.point (stands g.C.Meaning.Rules.meaning c.sound_in_place.ensures g.C.Calls.stage g.C.Calls.caller x a.p call c.requires.running c.requires.abstraction there) (sym c.asks.ensures ∙ c.in-Some-asks.is)).graft.1
 
 pub finish-requires-then-not-has_graft-clause-alone : goal.finish-requires-then-not-has_graft-clause-alone
@@ -63,11 +64,11 @@ returns-then-not-has_graft-clause-done g c =
     λ pc is.
     let a = c.args in
     let x = a.self.now in
-    let call = c.in-Some.call in
+    let call = c.in-Some.call.now in
     let fl : c.flight-flight.result.now ≡ flight_of x.calls.items a.p = c.flight-flight.ensures ∙ ap (λ fs. flight_of fs a.p) c.deref.ensures.value in
-    let there = sym (ap (λ (f : Flight g.row.C-Work.Denot). f.call) fl) ∙ c.in-Some.is in
+    let there = sym (ap (λ (f : Flight g.row.C-Work.Denot). f.call) fl) ∙ (sym c.get.ensures ∙ ap option_copied c.in-Some.is) in
     let t : call_in_place g.C.Calls.stage call ≡ pc = same_call g.C.Calls.stage call pc (ap (option_map (call_in_place g.C.Calls.stage)) (sym there) ∙ is) in
-    done_as g.C.Calls.stage g.C.Calls.caller (λ r. placed_call_step g.C.Meaning.Rules.meaning a.p (Some pc) r) (finishes g.C.Meaning.Rules.meaning a.p pc None) x c.finish-then-not-has_graft.new.self a.p a.notes.now c.finish-then-not-has_graft.new.notes (disk_seen (g.D.Disk.blocks a.disk.now) (g.D.Disk.plan a.disk.now) (g.D.Disk.faults a.disk.now)) (disk_seen (g.D.Disk.blocks c.finish-then-not-has_graft.new.disk) (g.D.Disk.plan c.finish-then-not-has_graft.new.disk) (g.D.Disk.faults c.finish-then-not-has_graft.new.disk))
+    done_as g.C.Calls.stage g.C.Calls.caller (λ r. placed_call_step g.C.Meaning.Rules.meaning a.p (Some pc) r) (finishes g.C.Meaning.Rules.meaning a.p pc None) x c.finish-then-not-has_graft.new.self a.p a.trace.now.notes c.finish-then-not-has_graft.new.trace.notes (disk_seen (g.D.Disk.blocks a.disk.now) (g.D.Disk.plan a.disk.now) (g.D.Disk.faults a.disk.now)) (disk_seen (g.D.Disk.blocks c.finish-then-not-has_graft.new.disk) (g.D.Disk.plan c.finish-then-not-has_graft.new.disk) (g.D.Disk.faults c.finish-then-not-has_graft.new.disk))
     (asks_empty g.C.Meaning.Rules.meaning g.C.Calls.stage x a.p pc c.requires.none c.in-Some-asks.point (ap (λ (e : PlacedCall). g.C.Meaning.Rules.meaning.asks (world_of_store x.store) (objects_of x.store) a.p e.stage) (sym t) ∙ ap (λ q. g.C.Meaning.Rules.meaning.asks (world_of_store x.store) (objects_of x.store) q (g.C.Calls.stage call.work)) (sym (c.requires.running.callers a.p call there)) ∙ sym c.asks.ensures ∙ c.in-Some-asks.is)
     (not_there c.has_graft.result ((objects_of x.store).accounts.graft c.in-Some-asks.point.installer c.in-Some-asks.point.point) c.has_graft.ensures c.if-not-has_graft.true)) (c.finish-then-not-has_graft.ensures.done pc is)
 
@@ -75,27 +76,27 @@ pub need-requires : goal.need-requires
 need-requires g c =
     let a = c.args in
     let x = a.self.now in
-    let call = c.in-Some.call in
+    let call = c.in-Some.call.now in
     let fl : c.flight-flight.result.now ≡ flight_of x.calls.items a.p = c.flight-flight.ensures ∙ ap (λ fs. flight_of fs a.p) c.deref.ensures.value in
-    let there = sym (ap (λ (f : Flight g.row.C-Work.Denot). f.call) fl) ∙ c.in-Some.is in
+    let there = sym (ap (λ (f : Flight g.row.C-Work.Denot). f.call) fl) ∙ (sym c.get.ensures ∙ ap option_copied c.in-Some.is) in
     record { ready = may_come g.C.Meaning.Rules.meaning g.C.Meaning.Rules.laws (world_of_store x.store) (table_of x.images) (objects_of x.store) (g.C.Calls.caller call.work) (g.C.Calls.stage call.work) (stands g.C.Meaning.Rules.meaning c.sound_in_place.ensures g.C.Calls.stage g.C.Calls.caller x a.p call c.requires.running c.requires.abstraction there) }
 
 pub enter-requires-clause-owner : goal.enter-requires-clause-owner
 enter-requires-clause-owner g c =
     let a = c.args in
     let x = a.self.now in
-    let call = c.in-Some.call in
+    let call = c.in-Some.call.now in
     let fl : c.flight-flight.result.now ≡ flight_of x.calls.items a.p = c.flight-flight.ensures ∙ ap (λ fs. flight_of fs a.p) c.deref.ensures.value in
-    let there = sym (ap (λ (f : Flight g.row.C-Work.Denot). f.call) fl) ∙ c.in-Some.is in
+    let there = sym (ap (λ (f : Flight g.row.C-Work.Denot). f.call) fl) ∙ (sym c.get.ensures ∙ ap option_copied c.in-Some.is) in
     (g.C.Meaning.Rules.laws.ask.ranges (world_of_store x.store) (table_of x.images) (objects_of x.store) (g.C.Calls.caller call.work) (g.C.Calls.stage call.work) c.in-Some-asks.point (stands g.C.Meaning.Rules.meaning c.sound_in_place.ensures g.C.Calls.stage g.C.Calls.caller x a.p call c.requires.running c.requires.abstraction there) (sym c.asks.ensures ∙ c.in-Some-asks.is)).graft.0
 
 pub enter-requires-clause-lives : goal.enter-requires-clause-lives
 enter-requires-clause-lives g c =
     let a = c.args in
     let x = a.self.now in
-    let call = c.in-Some.call in
+    let call = c.in-Some.call.now in
     let fl : c.flight-flight.result.now ≡ flight_of x.calls.items a.p = c.flight-flight.ensures ∙ ap (λ fs. flight_of fs a.p) c.deref.ensures.value in
-    let there = sym (ap (λ (f : Flight g.row.C-Work.Denot). f.call) fl) ∙ c.in-Some.is in
+    let there = sym (ap (λ (f : Flight g.row.C-Work.Denot). f.call) fl) ∙ (sym c.get.ensures ∙ ap option_copied c.in-Some.is) in
     asked_lives (world_of_store x.store) (objects_of x.store) c.in-Some-asks.point.installer c.in-Some-asks.point.point (stands g.C.Meaning.Rules.meaning c.sound_in_place.ensures g.C.Calls.stage g.C.Calls.caller x a.p call c.requires.running c.requires.abstraction there).store
     (there_is c.has_graft.result ((objects_of x.store).accounts.graft c.in-Some-asks.point.installer c.in-Some-asks.point.point) c.has_graft.ensures c.if-not-has_graft.false)
 
@@ -103,9 +104,9 @@ pub enter-requires-clause-range : goal.enter-requires-clause-range
 enter-requires-clause-range g c =
     let a = c.args in
     let x = a.self.now in
-    let call = c.in-Some.call in
+    let call = c.in-Some.call.now in
     let fl : c.flight-flight.result.now ≡ flight_of x.calls.items a.p = c.flight-flight.ensures ∙ ap (λ fs. flight_of fs a.p) c.deref.ensures.value in
-    let there = sym (ap (λ (f : Flight g.row.C-Work.Denot). f.call) fl) ∙ c.in-Some.is in
+    let there = sym (ap (λ (f : Flight g.row.C-Work.Denot). f.call) fl) ∙ (sym c.get.ensures ∙ ap option_copied c.in-Some.is) in
     all_of c.as_slice.result.now (g.C.Meaning.Rules.meaning.need (world_of_store x.store) (objects_of x.store) (g.C.Calls.caller call.work) (g.C.Calls.stage call.work)) (c.as_slice.ensures ∙ c.need.ensures)
     (λ n has. g.C.Meaning.Rules.laws.need.ranges (world_of_store x.store) (table_of x.images) (objects_of x.store) (g.C.Calls.caller call.work) (g.C.Calls.stage call.work) n (stands g.C.Meaning.Rules.meaning c.sound_in_place.ensures g.C.Calls.stage g.C.Calls.caller x a.p call c.requires.running c.requires.abstraction there) has)
 
@@ -114,13 +115,13 @@ returns-clause-done g c =
     λ pc is.
     let a = c.args in
     let x = a.self.now in
-    let call = c.in-Some.call in
+    let call = c.in-Some.call.now in
     let fl : c.flight-flight.result.now ≡ flight_of x.calls.items a.p = c.flight-flight.ensures ∙ ap (λ fs. flight_of fs a.p) c.deref.ensures.value in
-    let there = sym (ap (λ (f : Flight g.row.C-Work.Denot). f.call) fl) ∙ c.in-Some.is in
+    let there = sym (ap (λ (f : Flight g.row.C-Work.Denot). f.call) fl) ∙ (sym c.get.ensures ∙ ap option_copied c.in-Some.is) in
     let y = c.enter.new.self in
     let t : call_in_place g.C.Calls.stage call ≡ pc = same_call g.C.Calls.stage call pc (ap (option_map (call_in_place g.C.Calls.stage)) (sym there) ∙ is) in
     let needs : c.as_slice.result.now ≡ g.C.Meaning.Rules.meaning.need (world_of_store x.store) (objects_of x.store) a.p pc.stage = c.as_slice.ensures ∙ c.need.ensures ∙ ap (λ q. g.C.Meaning.Rules.meaning.need (world_of_store x.store) (objects_of x.store) q (g.C.Calls.stage call.work)) (c.requires.running.callers a.p call there) ∙ ap (λ (e : PlacedCall). g.C.Meaning.Rules.meaning.need (world_of_store x.store) (objects_of x.store) a.p e.stage) t in
-    entered_done g.C.Meaning.Rules.meaning c.owners_stay.ensures g.C.Calls.stage g.C.Calls.caller x y a.p pc c.in-Some-asks.point a.notes.now (disk_seen (g.D.Disk.blocks a.disk.now) (g.D.Disk.plan a.disk.now) (g.D.Disk.faults a.disk.now)) c.requires.running c.requires.process c.requires.none
+    entered_done g.C.Meaning.Rules.meaning c.owners_stay.ensures g.C.Calls.stage g.C.Calls.caller x y a.p pc c.in-Some-asks.point a.trace.now.notes (disk_seen (g.D.Disk.blocks a.disk.now) (g.D.Disk.plan a.disk.now) (g.D.Disk.faults a.disk.now)) c.requires.running c.requires.process c.requires.none
     (ap (λ (e : PlacedCall). g.C.Meaning.Rules.meaning.asks (world_of_store x.store) (objects_of x.store) a.p e.stage) (sym t) ∙ ap (λ q. g.C.Meaning.Rules.meaning.asks (world_of_store x.store) (objects_of x.store) q (g.C.Calls.stage call.work)) (sym (c.requires.running.callers a.p call there)) ∙ sym c.asks.ensures ∙ c.in-Some-asks.is)
     (there_is c.has_graft.result ((objects_of x.store).accounts.graft c.in-Some-asks.point.installer c.in-Some-asks.point.point) c.has_graft.ensures c.if-not-has_graft.false) c.enter.ensures.moved
     (c.enter.ensures.config ∙ ap (λ (ns : List Need). come_to a.p (begin_at (table_of x.images) (objects_of x.store) a.p ns c.in-Some-asks.point) (placed_of g.C.Calls.stage x)) needs)

@@ -8,7 +8,7 @@ use Rattle.lock_table.proofs.table.LockTable.holds.Goals as goal
 
 pub returns : goal.returns
 returns c d =
-    let inside : c.args.p < length c.self.inside.calls.items = omega (arith, c.requires.process, c.self.invariant) in
+    let inside : c.args.p < length c.self.inside.calls.items = omega (arith, c.requires.process, c.self.invariant.0) in
     ap (λ (h : Holds). held_by h d) c.holds.ensures
     ∙ ap (λ (n : ℕ). levels_at c.index-call.result.now n d) c.object_number.ensures.value
     ∙ ap (λ (xs : List Holds). levels_at xs (number_of c.args.o) d) (element c.self.inside.calls.items c.args.p c.index-call.result.now inside c.index-call.ensures)

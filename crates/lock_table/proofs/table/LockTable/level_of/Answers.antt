@@ -8,7 +8,7 @@ use Rattle.lock_table.proofs.table.LockTable.level_of.Goals as goal
 
 pub returns : goal.returns
 returns c =
-    let inside : c.args.p < length c.self.inside.calls.items = omega (arith, c.requires.process, c.self.invariant) in
+    let inside : c.args.p < length c.self.inside.calls.items = omega (arith, c.requires.process, c.self.invariant.0) in
     c.level_of.ensures ∙
     ap (λ (n : ℕ). conflicting_level c.index-call.result.now n c.args.wanted) c.object_number.ensures.value ∙
     ap (λ (xs : List Holds). conflicting_level xs (number_of c.args.o) c.args.wanted) (element c.self.inside.calls.items c.args.p c.index-call.result.now inside c.index-call.ensures) ∙

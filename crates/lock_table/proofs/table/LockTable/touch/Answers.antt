@@ -9,9 +9,9 @@ use Rattle.lock_table.proofs.table.LockTable.touch.Goals as goal
 
 pub returns : goal.returns
 returns c =
-    let inside : c.args.p < length c.self.inside.calls.items = omega (arith, c.requires.process, c.self.invariant) in
+    let inside : c.args.p < length c.self.inside.calls.items = omega (arith, c.requires.process, c.self.invariant.0) in
     let own = element c.self.inside.calls.items c.args.p c.index_mut-call.result.now inside c.index_mut-call.ensures.value in
     let now = λ (number : ℕ) (xs : List Holds) (n e : ℕ). cond (n == number && e == c.args.level) (stronger (levels_at xs n e) (held_as c.args.mode)) (levels_at xs n e) in
-    touch_view c.self.inside.calls.items c.touch.new.self c.args.p c.args.level c.args.o c.args.mode c.requires.process c.self.invariant c.requires.range
+    touch_view c.self.inside.calls.items c.touch.new.self c.args.p c.args.level c.args.o c.args.mode c.requires.process c.self.invariant.0 c.requires.range
     (λ n e. c.touch.ensures n e ∙ ap (λ (i : ℕ). now i c.index_mut-call.result.now n e) c.object_number.ensures.value ∙ ap (λ (xs : List Holds). now (number_of c.args.o) xs n e) own)
     ∙ ap (λ (xs : List (List Holds)). with_touch c.args.p c.args.level c.args.o c.args.mode (held xs)) c.self.view_is

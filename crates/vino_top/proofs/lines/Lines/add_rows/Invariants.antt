@@ -7,8 +7,8 @@ use Rattle.kernel_steps.specs.Views.{placed_of}
 use Rattle.kernel_core.specs.PlacedSections.{most_left, rows_left}
 use Rattle.vino_top.proofs.lines.Lines.add_rows.Given as goal
 
-abbrev pub invariant-loop-row : goal.invariant-loop-row
-invariant-loop-row g l =
+abbrev pub invariant-loop-found : goal.invariant-loop-found
+invariant-loop-found g l =
     record {
       lines :
           l.self ++ row_lines l.n (rows_left (placed_of stage_of l.kernel.running) l.at)
@@ -16,5 +16,5 @@ invariant-loop-row g l =
       room : length l.self + 2048 * most_left l.at ≤ 3026944;
     }
 
-abbrev pub decreases-loop-row : goal.decreases-loop-row
-decreases-loop-row g l = most_left l.at
+abbrev pub decreases-loop-found : goal.decreases-loop-found
+decreases-loop-found g l = most_left l.at

@@ -2,7 +2,7 @@
 use Rattle.std.proofs.Common.{◌+◌, ◌-◌, ◌*◌}
 use Rattle.kernel_steps.specs.Views.{placed_of}
 use Rattle.kernel_core.proofs.RowPlaceLemmas.{IsAlike}
-use Rattle.kernel_core.proofs.placed_rows.next_row.Given as goal
+use Rattle.kernel_core.proofs.placed_rows.find_row.Given as goal
 
 abbrev pub invariant-loop-at : goal.invariant-loop-at
 invariant-loop-at g l = IsAlike (placed_of g.C.Calls.stage l.running) l.initial.at l.at

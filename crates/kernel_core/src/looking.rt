@@ -1,0 +1,34 @@
+//! Looking at the innermost level of a call in flight, for who shows a run. Nothing changes.
+
+ghost use Rattle.std.specs.Prelude.{◌≡◌, ◌<◌, option_map};
+ghost use Rattle.placed_laws.specs.Placed.{PlacedLevel};
+ghost use Rattle.kernel_steps.specs.Looking.{innermost_level};
+ghost use Rattle.kernel_steps.specs.Views.{placed_of, IsRunning};
+
+use crate::kernel::Kernel;
+use call_pieces::Calls;
+use graft_points::Policy;
+
+impl<C: Calls, B: Policy> Kernel<C, B> {
+    /// Register i of the innermost level of process p's call, if that is in a graft.
+    pub fn innermost_register(&self, p: u8, i: u8) -> Option<u32>
+        requires process { p < 16 }
+        requires register { i < 16 }
+        requires running { IsRunning C.caller self.now.running }
+        ensures { result ≡ option_map (λ (l : PlacedLevel). l.machine.regs i)
+            (innermost_level ((placed_of C.stage self.now.running).levels p)) }
+    {
+        self.running.innermost_register(p, i)
+    }
+
+    /// Byte `at` of the segment of the innermost level of process p's call, if that is in a graft.
+    pub fn innermost_byte(&self, p: u8, at: u32) -> Option<u8>
+        requires process { p < 16 }
+        requires inside { at < 4096 }
+        requires running { IsRunning C.caller self.now.running }
+        ensures { result ≡ option_map (λ (l : PlacedLevel). l.machine.memory at)
+            (innermost_level ((placed_of C.stage self.now.running).levels p)) }
+    {
+        self.running.innermost_byte(p, at)
+    }
+}

@@ -1,0 +1,75 @@
+-- How a call begins, or is refused at once.
+use Rattle.std.specs.Prelude.{◌≡◌, ℕ, List, Option, Some, None, Result, Ok, Err, slice_set}
+use Rattle.kernel_model.specs.declared.SysCall.{SysCall}
+use Rattle.kernel_model.specs.declared.Refusal.{Refusal}
+use Rattle.kernel_model.specs.World.{World, ImageTable}
+use Rattle.kernel_model.specs.Meaning.{Meaning, Stage}
+use Rattle.kernel_state.specs.Stores.{world_of_store}
+use Rattle.graft_loader.specs.Slots.{table_of}
+use Rattle.placed_laws.specs.Keeping.{first_placed}
+use Rattle.placed_laws.specs.PlacedSteps.{placed_joins, with_placed_call}
+use Rattle.kernel_steps.specs.declared.running.InFlight.{InFlight}
+use Rattle.kernel_steps.specs.declared.running.Flight.{Flight}
+use Rattle.kernel_steps.specs.declared.running.Running.{Running}
+use Rattle.kernel_steps.specs.Views.{flight_of, placed_of, IsRunning, Simulates}
+
+-- ---- in its place
+
+-- a call of p was granted, and stands there
+pub record GrantedIn {W : Type 0} (m : Meaning) (stage : W → Stage) (caller : W → ℕ) (v : World)
+    (images : ImageTable) (p number : ℕ) (call : SysCall) (slot : Option (InFlight W)) : Type 0 where
+  pub work : W
+  pub granted : m.early v images p call ≡ Ok (stage work)
+  pub caller_is : caller work ≡ p
+  pub stands : slot ≡ Some (record { number = number; work = work })
+
+-- a call of p was refused, and none stands there
+pub record RefusedIn {W : Type 0} (m : Meaning) (v : World) (images : ImageTable) (p : ℕ)
+    (call : SysCall) (why : Refusal) (slot : Option (InFlight W)) : Type 0 where
+  pub refused : m.early v images p call ≡ Err why
+  pub none : slot ≡ None
+
+abbrev pub SlotBegins : {W A : Type 0} → (m : Meaning) → (W → Stage) → (W → ℕ) → World → ImageTable →
+    (p number : ℕ) → SysCall → Option (InFlight W) → Result A Refusal → Type 0
+SlotBegins m stage caller v images p number call slot (Ok _) =
+    GrantedIn m stage caller v images p number call slot
+SlotBegins m stage caller v images p number call slot (Err why) =
+    RefusedIn m v images p call why slot
+
+-- ---- among the flights
+
+-- p's place has this now, and all else stays
+pub record PlaceHas {W : Type 0} (old new : List (Flight W)) (p : ℕ)
+    (Says : Option (InFlight W) → Type 0) : Type 0 where
+  pub slot : Option (InFlight W)
+  pub flights : new ≡ slice_set old p (record (flight_of old p) { call = slot })
+  pub says : Says slot
+
+abbrev pub FlightBegins : {W A : Type 0} → (m : Meaning) → (W → Stage) → (W → ℕ) → World →
+    ImageTable → (p number : ℕ) → SysCall → (old new : List (Flight W)) → Result A Refusal → Type 0
+FlightBegins m stage caller v images p number call old new result =
+    PlaceHas old new p (λ slot. SlotBegins m stage caller v images p number call slot result)
+
+-- ---- in the running kernel
+
+-- A call of p was granted, and joined the order.
+pub record Begun {C B M W : Type 0} {P : _} (m : Meaning) (stage : W → Stage) (caller : W → ℕ)
+    (p number : ℕ) (call : SysCall) (x y : Running C B M W P) : Type 0 where
+  pub first : Stage
+  pub granted : m.early (world_of_store x.store) (table_of x.images) p call ≡ Ok first
+  pub value : Simulates
+      (λ r. placed_joins p (with_placed_call p (Some (first_placed number first)) r))
+      (placed_of stage x) (placed_of stage y)
+  pub running : IsRunning caller y
+
+-- A call of p was refused, and nothing changed.
+pub record NotBegun {C B M W : Type 0} {P : _} (m : Meaning) (stage : W → Stage) (caller : W → ℕ)
+    (p : ℕ) (call : SysCall) (why : Refusal) (x y : Running C B M W P) : Type 0 where
+  pub refused : m.early (world_of_store x.store) (table_of x.images) p call ≡ Err why
+  pub placed : placed_of stage y ≡ placed_of stage x
+  pub running : IsRunning caller y
+
+abbrev pub CallBegins : {C B M W A : Type 0} {P : _} → (m : Meaning) → (W → Stage) → (W → ℕ) →
+    (p number : ℕ) → SysCall → (x y : Running C B M W P) → Result A Refusal → Type 0
+CallBegins m stage caller p number call x y (Ok _) = Begun m stage caller p number call x y
+CallBegins m stage caller p number call x y (Err why) = NotBegun m stage caller p call why x y

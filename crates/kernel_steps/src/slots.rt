@@ -1,0 +1,81 @@
+//! Where a process's call stands while it is in flight.
+
+ghost use Rattle.std.specs.Prelude.{◌≡◌, true, None, Some, option_copied};
+ghost use Rattle.kernel_model.specs.Bare.{call_with};
+ghost use Rattle.kernel_model.specs.Policies.{lives};
+ghost use Rattle.kernel_state.specs.Stores.{world_of_store, queue_of};
+ghost use Rattle.graft_loader.specs.Slots.{table_of};
+ghost use Rattle.kernel_steps.specs.Begins.{SlotBegins};
+
+use crate::running::InFlight;
+use arrayvec::ArrayVec;
+use call_pieces::Calls;
+use graft_loader::Images;
+use graft_points::Policy;
+use kernel_model::{BLOCK_BYTES, BareCall, Refusal};
+use kernel_state::Store;
+use std::marker::Model;
+
+/// A place for a call in flight, which contracts see as the call, if it has one. A call begins and
+/// ends where it stands: none is moved.
+#[derive(Drop)]
+pub struct Slot<W> {
+    pub(crate) taken: bool,
+    pub(crate) call: InFlight<W>,
+}
+
+impl<W> Model for Slot<W> {
+    ghost use Rattle.std.specs.Prelude.{Option, Some, None, cond};
+    ghost use Rattle.kernel_steps.specs.declared.running.InFlight.{InFlight as Flying};
+
+    ghost Value = { Option (Flying W) };
+
+    ghost view = { λ s. cond s.taken (Some s.call) None };
+}
+
+impl<W> Slot<W> {
+    /// A place without a call, in which some work stands that will be written over.
+    pub(crate) fn empty(work: W) -> Slot<W>
+        ensures { result ≡ None }
+    {
+        Slot {
+            taken: false,
+            call: InFlight { number: 0, work },
+        }
+    }
+
+    /// The call that stands here, if one does.
+    pub fn get(&self) -> Option<&InFlight<W>>
+        ensures { option_copied result ≡ self.now }
+    {
+        if self.taken { Some(&self.call) } else { None }
+    }
+
+    /// The call has ended.
+    pub(crate) fn end(&mut self)
+        ensures { self.new ≡ None }
+    {
+        self.taken = false;
+    }
+}
+
+/// A call of process p, which lives, begins here, unless it is refused at once.
+pub(crate) fn begin_in<C: Calls, B: Policy>(
+    slot: &mut Slot<C::Work>,
+    store: &Store<B>,
+    images: &Images,
+    p: u8,
+    number: u32,
+    call: BareCall,
+    bytes: &ArrayVec<u8, BLOCK_BYTES>,
+) -> Result<(), Refusal>
+    requires alive { lives (queue_of store.now) p ≡ true }
+    ensures { SlotBegins C.Meaning.meaning C.stage C.caller (world_of_store store.now)
+        (table_of images.now) p number (call_with call bytes.now.items) slot.new result }
+{
+    slot.taken = false;
+    C::early(store, images.mask(), p, call, bytes, &mut slot.call.work)?;
+    slot.call.number = number;
+    slot.taken = true;
+    Ok(())
+}

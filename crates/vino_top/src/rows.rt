@@ -1,0 +1,46 @@
+//! The line of a row that was found.
+
+ghost use Rattle.std.specs.Prelude.{◌≡◌, ◌++◌, codes, decimal, IfSome};
+ghost use Rattle.kernel_model.specs.declared.RawRow.{RawRow as Row};
+ghost use Rattle.kernel_model.specs.Text.{line, row_text};
+ghost use Rattle.call_pieces.specs.Works.{stage_of};
+ghost use Rattle.kernel_core.specs.PlacedSections.{row_found, IsRow};
+ghost use Rattle.kernel_steps.specs.Views.{placed_of, IsRunning};
+ghost use Rattle.vino_top.specs.Standing.{caller_of};
+
+use call_pieces::Plain;
+use graft_points::Policy;
+use kernel_core::{FoundRow, Kernel, Section};
+use line_text::{LentRow, Text, print_lent, print_row};
+
+/// `text` becomes the line of the row that stands there, for event n.
+pub fn print_found<B: Policy>(kernel: &Kernel<Plain, B>, n: u32, found: &FoundRow, text: &mut Text)
+    requires running { IsRunning caller_of kernel.now.running }
+    requires found { IsRow (placed_of stage_of kernel.now.running) found.now }
+    ensures { IfSome (row_found (placed_of stage_of kernel.now.running) found.now)
+        (λ (row : Row). text.new ≡ line (decimal n ++ codes " raw " ++ row_text row)) }
+{
+    let store = &kernel.running.store;
+    let p = found.place as u8;
+    match found.section {
+        Section::Queue => print_lent(n, &LentRow::Queue(store.procs.rows()), text),
+        Section::Accounts => print_lent(n, &LentRow::Acct(p, &store.amounts(p)), text),
+        Section::Cells => print_lent(n, &LentRow::Cells(p, &store.cells(p)), text),
+        Section::Policies => {
+            print_lent(n, &LentRow::Pol(p, store.chosen(p), store.param(p)), text)
+        }
+        _ => print_whole(kernel, n, found, text),
+    }
+}
+
+/// `text` becomes the line of the row that stands there, for event n, by way of the whole row.
+fn print_whole<B: Policy>(kernel: &Kernel<Plain, B>, n: u32, found: &FoundRow, text: &mut Text)
+    requires running { IsRunning caller_of kernel.now.running }
+    requires found { IsRow (placed_of stage_of kernel.now.running) found.now }
+    ensures { IfSome (row_found (placed_of stage_of kernel.now.running) found.now)
+        (λ (row : Row). text.new ≡ line (decimal n ++ codes " raw " ++ row_text row)) }
+{
+    if let Some(row) = kernel.row_at(found) {
+        print_row(n, &row, text);
+    }
+}
