@@ -1,0 +1,36 @@
+//! The program `lab`: lab files are run, tested, lowered and looked at.
+#![tactic(auto)]
+
+mod boxing;
+mod command;
+mod edge;
+mod explain;
+mod files;
+mod picture;
+mod run;
+mod script;
+mod stock;
+mod test;
+
+use crate::command::obey;
+use crate::edge::{NO_MEMORY, REFUSED};
+use std::process::ExitCode;
+use std::{env, io};
+
+fn main(rt: HostRuntime) -> ExitCode {
+    ExitCode::from(match words(&rt) {
+        Ok(words) => obey(&rt, words.as_slice()),
+        // A word that isn't UTF-8 is in no grammar.
+        Err(fault) if fault.kind() == io::ErrorKind::InvalidData => REFUSED,
+        Err(_) => NO_MEMORY,
+    })
+}
+
+/// The words of the command line, the program's own name first.
+fn words(rt: &HostRuntime) -> io::Result<Vec<String>> {
+    let mut words = Vec::new(rt.alloc());
+    for word in env::args(rt)? {
+        words.push(word)?;
+    }
+    Ok(words)
+}

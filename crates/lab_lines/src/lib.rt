@@ -1,0 +1,14 @@
+//! What a run of a lab file wrote, told line by line and compared with wanted lines.
+#![tactic(auto)]
+
+mod pieces;
+mod sink;
+mod telling;
+mod testing;
+mod text;
+
+pub use crate::pieces::{Piece, pieces_of};
+pub use crate::sink::LineSink;
+pub use crate::telling::told;
+pub use crate::testing::{Compared, compare, is_wanted};
+pub use kernel_model::NoMemory;

@@ -1,0 +1,223 @@
+//! How the lines of a graft are read.
+
+ghost use Rattle.std.specs.Prelude.{◌≡◌, ◌<◌, ◌==◌, [], length, map, Ok, IfOk, IfErr, OnOk, IfSome};
+ghost use Rattle.lab_text.specs.Faults.{Refuses};
+ghost use Rattle.lab_text.specs.Grafts as spec;
+ghost use Rattle.lab_text.specs.Words.{parts_of, words_before, joined, plain_word};
+ghost use Rattle.std.specs.List.{slice_split};
+
+use crate::faults::{LabFault, LabKind};
+use crate::graft::{Graft, Notation};
+use crate::settings::text_of;
+use crate::text::{Text, add, put};
+use crate::words::{add_plain_word, add_word, is_hex, next_word};
+use kernel_model::NoMemory;
+use std::alloc::Global;
+use text_words::{Parts, is_label};
+
+impl Graft {
+    /// No graft.
+    pub(crate) fn none(alloc: Global) -> Graft
+        ensures { result ≡ spec.new_graft [] Notation.Assembler 0 }
+    {
+        Graft::begin(alloc, Text::new(Vec::new(alloc)), Notation::Assembler, 0)
+    }
+
+    /// A graft with no text yet.
+    pub(crate) fn begin(alloc: Global, name: Text, notation: Notation, begun: usize) -> Graft
+        ensures { result ≡ spec.new_graft name notation begun }
+    {
+        Graft {
+            name,
+            notation,
+            begun,
+            text: Vec::new(alloc),
+            lines: Vec::new(alloc),
+        }
+    }
+
+    /// Its name.
+    pub fn name(&self) -> &[u8]
+        ensures { result.now ≡ self.now.name }
+    {
+        self.name.bytes()
+    }
+
+    /// What it is written in.
+    pub fn notation(&self) -> Notation
+        ensures { result ≡ self.now.notation }
+    {
+        self.notation
+    }
+
+    /// The line that begins it.
+    pub fn begun(&self) -> usize
+        ensures { result ≡ self.now.begun }
+    {
+        self.begun
+    }
+
+    /// Its text, in plain lines.
+    pub fn text(&self) -> &[u8]
+        ensures { result.now ≡ self.now.text }
+    {
+        self.text.as_slice()
+    }
+
+    /// For each line of its text the line of the file that it comes from.
+    pub fn lines(&self) -> &[usize]
+        ensures { result.now ≡ self.now.lines }
+    {
+        self.lines.as_slice()
+    }
+
+    /// One more line of the text, which this line of the file wrote.
+    fn add_line(&mut self, n: usize, line: &[u8]) -> Result<(), NoMemory>
+        ensures { OnOk result (self.new ≡ spec.with_line n self.old line.now) }
+    {
+        add(&mut self.text, line)?;
+        add(&mut self.text, b"\n")?;
+        put(&mut self.lines, n)
+    }
+
+    /// One more statement, if there is one.
+    fn add_statement(&mut self, n: usize, statement: &[u8]) -> Result<(), NoMemory>
+        ensures { OnOk result (self.new ≡ spec.with_statement n self.old statement.now) }
+    {
+        if statement.is_empty() {
+            return Ok(());
+        }
+        self.add_line(n, statement)
+    }
+
+    /// The statements of a line of assembler text.
+    fn add_statements(&mut self, alloc: Global, n: usize, code: &[u8]) -> Result<(), NoMemory>
+        ensures { OnOk result (self.new
+            ≡ spec.with_statements n self.old (slice_split (λ b. b == 59) code.now)) }
+    {
+        let mut parts = Parts::new(code, b';');
+        while let Some(part) = parts.next() {
+            let statement = statement_of(alloc, part)?;
+            self.add_statement(n, statement.as_slice())?;
+        }
+        Ok(())
+    }
+
+    /// What a line adds to it.
+    pub(crate) fn add_code(&mut self, alloc: Global, n: usize, code: &[u8]) -> Result<(), NoMemory>
+        ensures { OnOk result (self.new ≡ spec.with_code n self.old.notation self.old code.now) }
+    {
+        match self.notation {
+            Notation::Assembler => self.add_statements(alloc, n, code),
+            Notation::Language => self.add_line(n, code),
+        }
+    }
+}
+
+/// Whether the words of a part are data, which is hex digits as they stand.
+fn is_data(part: &[u8]) -> bool
+    ensures { result ≡ spec.is_data (words_before (parts_of part.now)) }
+{
+    let mut words = Parts::new(part, b' ');
+    match next_word(&mut words) {
+        None => false,
+        Some(first) => first == b".bytes".as_slice(),
+    }
+}
+
+/// Words as they stand.
+fn kept(alloc: Global, mut words: Parts) -> Result<Vec<u8>, NoMemory>
+    ensures { IfOk result (λ text. text.items ≡ joined (words_before words.entry)) }
+{
+    let mut text = Vec::new(alloc);
+    while let Some(word) = next_word(&mut words) {
+        add_word(&mut text, word)?;
+    }
+    Ok(text)
+}
+
+/// Words with numbers in decimal.
+fn in_decimal(alloc: Global, mut words: Parts) -> Result<Vec<u8>, NoMemory>
+    ensures { IfOk result (λ text. text.items ≡ joined (map plain_word (words_before words.entry))) }
+{
+    let mut text = Vec::new(alloc);
+    while let Some(word) = next_word(&mut words) {
+        add_plain_word(&mut text, word)?;
+    }
+    Ok(text)
+}
+
+/// An instruction, a label or data as the assembler reads it.
+pub fn statement_of(alloc: Global, part: &[u8]) -> Result<Vec<u8>, NoMemory>
+    ensures { IfOk result (λ statement. statement.items ≡ spec.statement_of part.now) }
+{
+    if is_data(part) {
+        kept(alloc, Parts::new(part, b' '))
+    } else {
+        in_decimal(alloc, Parts::new(part, b' '))
+    }
+}
+
+/// The place of the graft of this name.
+pub fn place_of(name: &[u8], grafts: &[Graft]) -> Option<usize>
+    ensures place { result ≡ spec.place_of name.now grafts.now }
+    ensures within { IfSome result (λ i. i < length grafts.now) }
+{
+    grafts.iter().position(|graft| name == graft.name())
+}
+
+/// What keeps a name from being that of a new graft.
+fn name_fault(name: &[u8], grafts: &[Graft]) -> Option<LabKind>
+    ensures { result ≡ spec.name_fault name.now grafts.now }
+{
+    if !is_label(name) {
+        Some(LabKind::BadName)
+    } else if is_hex(name) {
+        Some(LabKind::NameIsHex)
+    } else if place_of(name, grafts).is_some() {
+        Some(LabKind::GraftTwice)
+    } else {
+        None
+    }
+}
+
+/// A graft of this name, unless it is none.
+fn begun_by(
+    alloc: Global,
+    n: usize,
+    name: &[u8],
+    notation: Notation,
+    grafts: &[Graft],
+) -> Result<Graft, LabFault>
+    ensures ok { IfOk result (λ graft.
+        spec.begun_by n name.now notation (spec.name_fault name.now grafts.now) ≡ Ok graft) }
+    ensures err { IfErr result (λ e. Refuses e
+        (spec.begun_by n name.now notation (spec.name_fault name.now grafts.now))) }
+{
+    match name_fault(name, grafts) {
+        Some(kind) => Err(LabFault::At(n, kind)),
+        None => Ok(Graft::begin(alloc, text_of(alloc, name)?, notation, n)),
+    }
+}
+
+/// The graft that the words behind `graft` begin.
+pub(crate) fn begun_of(
+    alloc: Global,
+    n: usize,
+    grafts: &[Graft],
+    mut words: Parts,
+) -> Result<Graft, LabFault>
+    ensures ok { IfOk result (λ graft. spec.begun_of n grafts.now words.entry ≡ Ok graft) }
+    ensures err { IfErr result (λ e. Refuses e (spec.begun_of n grafts.now words.entry)) }
+{
+    let Some(name) = words.next() else {
+        return Err(LabFault::At(n, LabKind::BadGraft));
+    };
+    let Some(word) = words.next() else {
+        return begun_by(alloc, n, name, Notation::Assembler, grafts);
+    };
+    if words.next().is_some() || word != b"language".as_slice() {
+        return Err(LabFault::At(n, LabKind::BadGraft));
+    }
+    begun_by(alloc, n, name, Notation::Language, grafts)
+}

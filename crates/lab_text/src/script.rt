@@ -1,0 +1,160 @@
+//! The script of a lab file.
+
+ghost use Rattle.std.specs.Prelude.{◌≡◌, ◌≤◌, ◌++◌, [], ◌∷◌, true, length, Ok, IfOk, IfErr, OnOk};
+ghost use Rattle.std.specs.List.{list_all};
+ghost use Rattle.kernel_model.specs.Bytes.{hex_text};
+ghost use Rattle.kernel_model.specs.Instructions.{fits};
+ghost use Rattle.kernel_model.specs.Boxed.{rewrite};
+ghost use Rattle.lab_text.specs.Faults.{Refuses};
+ghost use Rattle.lab_text.specs.Lowering as spec;
+
+use crate::faults::{LabFault, LabKind};
+use crate::lab::Lab;
+use crate::sheet::Item;
+use crate::text::add;
+use box_rewriter::{RewriteFault, rewrite};
+use filters::read_keys;
+use gm_image::RawImage;
+use gm_isa::Instr;
+use graft_loader::{Keys, seal_under};
+use kernel_model::NoMemory;
+use std::alloc::Global;
+
+/// Appends the line that loads sealed code and data into a slot.
+#[tactic(auto, unfolding(crate::specs::Lowering::image_line))]
+fn add_sealed(
+    alloc: Global,
+    out: &mut Vec<u8>,
+    keys: &Keys,
+    slot: u32,
+    code: &[Instr],
+    body: &[u8],
+) -> Result<(), NoMemory>
+    requires code_len { length code.now ≤ 1024 }
+    requires code_fits { list_all fits code.now ≡ true }
+    requires body_len { length body.now ≤ 4096 }
+    ensures { OnOk result (out.new.items
+        ≡ out.old.items ++ (spec.image_line keys.now slot code.now body.now ++ 10 ∷ [])) }
+{
+    let mut digits = itoa::Buffer::new();
+    let sealed = seal_under(alloc, keys, code, body)?;
+    let hex = hex_of(alloc, sealed.as_slice())?;
+    add(out, b"image ")?;
+    add(out, digits.format(slot).as_bytes())?;
+    add(out, b" ")?;
+    add(out, hex.as_slice())?;
+    add(out, b"\n")
+}
+
+/// The hex digits of bytes, in lower case.
+fn hex_of(alloc: Global, bytes: &[u8]) -> Result<Vec<u8>, NoMemory>
+    ensures { IfOk result (λ digits. digits.items ≡ hex_text bytes.now) }
+{
+    match hex::encode(alloc, bytes) {
+        Ok(digits) => Ok(digits.into_bytes()),
+        Err(_) => Err(NoMemory),
+    }
+}
+
+/// Appends the line of an image as it stands, which line n of the file asks for.
+fn add_raw(
+    alloc: Global,
+    out: &mut Vec<u8>,
+    keys: &Keys,
+    slot: u32,
+    image: &RawImage,
+) -> Result<(), NoMemory>
+    ensures { OnOk result (out.new.items ≡ out.old.items
+        ++ (spec.image_line keys.now slot image.now.code image.now.body ++ 10 ∷ [])) }
+{
+    add_sealed(alloc, out, keys, slot, image.code(), image.body())
+}
+
+/// Appends the line of an image that is boxed first, which line n of the file asks for.
+fn add_boxed(
+    alloc: Global,
+    out: &mut Vec<u8>,
+    n: usize,
+    keys: &Keys,
+    slot: u32,
+    image: &RawImage,
+) -> Result<(), LabFault>
+    ensures ok { OnOk result (spec.with_line n out.old.items (spec.boxed_line keys.now slot
+        image.now.body (rewrite image.now.code)) ≡ Ok out.new.items) }
+    ensures err { IfErr result (λ e. Refuses e (spec.with_line n out.old.items
+        (spec.boxed_line keys.now slot image.now.body (rewrite image.now.code)))) }
+{
+    match rewrite(alloc, image) {
+        Ok(boxed) => Ok(add_sealed(alloc, out, keys, slot, boxed.code(), boxed.body())?),
+        Err(RewriteFault::Register(pc)) => Err(LabFault::At(n, LabKind::BoxRegister(pc))),
+        Err(RewriteFault::Jump(pc)) => Err(LabFault::At(n, LabKind::BoxJump(pc))),
+        Err(RewriteFault::Call(pc)) => Err(LabFault::At(n, LabKind::BoxCall(pc))),
+        Err(RewriteFault::End) => Err(LabFault::At(n, LabKind::BoxEnd)),
+        Err(RewriteFault::TooLarge) => Err(LabFault::At(n, LabKind::BoxTooLong)),
+        Err(RewriteFault::NoMemory) => Err(LabFault::NoMemory),
+    }
+}
+
+/// Appends a line as it stands.
+fn add_plain(out: &mut Vec<u8>, text: &[u8]) -> Result<(), NoMemory>
+    ensures { OnOk result (out.new.items ≡ out.old.items ++ (text.now ++ 10 ∷ [])) }
+{
+    add(out, text)?;
+    add(out, b"\n")
+}
+
+/// Appends the line of the script that line n of the file becomes.
+fn add_item(
+    alloc: Global,
+    out: &mut Vec<u8>,
+    n: usize,
+    keys: &Keys,
+    images: &[RawImage],
+    item: &Item,
+) -> Result<(), LabFault>
+    ensures ok { OnOk result (spec.with_line n out.old.items
+        (spec.item_line keys.now images.now item.now) ≡ Ok out.new.items) }
+    ensures err { IfErr result (λ e. Refuses e (spec.with_line n out.old.items
+        (spec.item_line keys.now images.now item.now))) }
+{
+    match item {
+        Item::Plain(text) => Ok(add_plain(out, text.bytes())?),
+        Item::Sealed { slot, graft, raw } => match images.get(*graft) {
+            None => Err(LabFault::At(n, LabKind::UnknownGraft)),
+            Some(image) if *raw => Ok(add_raw(alloc, out, keys, *slot, image)?),
+            Some(image) => add_boxed(alloc, out, n, keys, *slot, image),
+        },
+    }
+}
+
+/// The script of these items under keys.
+fn script_under(
+    alloc: Global,
+    keys: &Keys,
+    images: &[RawImage],
+    items: &[Item],
+) -> Result<Vec<u8>, LabFault>
+    ensures ok { IfOk result
+        (λ script. spec.script_after 1 keys.now images.now [] items.now ≡ Ok script.items) }
+    ensures err { IfErr result
+        (λ e. Refuses e (spec.script_after 1 keys.now images.now [] items.now)) }
+{
+    let mut script = Vec::new(alloc);
+    for (i, item) in items.iter().enumerate() {
+        if let Err(fault) = add_item(alloc, &mut script, i + 1, keys, images, item) {
+            return Err(fault);
+        }
+    }
+    Ok(script)
+}
+
+/// The script of a lab file whose grafts have these images.
+pub fn script_of(alloc: Global, lab: &Lab, images: &[RawImage]) -> Result<Vec<u8>, LabFault>
+    ensures ok { IfOk result (λ script. spec.script_of lab.now images.now ≡ Ok script.items) }
+    ensures err { IfErr result (λ e. Refuses e (spec.script_of lab.now images.now)) }
+{
+    match read_keys(lab.settings().word()) {
+        None => Err(LabFault::At(0, LabKind::BadKey)),
+        Some(keys) => script_under(alloc, &keys, images, lab.sheet().items()),
+    }
+}

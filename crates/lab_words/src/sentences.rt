@@ -1,0 +1,264 @@
+//! A written line in words.
+
+ghost use Rattle.std.specs.Prelude.{◌≡◌, is_some, IfOk};
+ghost use Rattle.lab_words.specs.Forms as spec;
+
+use crate::code::{CallCode, Code, DropCode, ImageCode, RewriterCode};
+use crate::entry::words_of;
+use crate::explain::append;
+use crate::form::{Form, form_is_told, form_of};
+use crate::slot::before_parenthesis;
+use kernel_model::NoMemory;
+use std::alloc::Global;
+use text_words::Parts;
+
+/// The k-th word of a line, from 0; nothing past their end.
+pub fn word_at(line: &[u8], k: usize) -> &[u8] {
+    part_at(line, b' ', k)
+}
+
+/// The k-th part of a text between separators; nothing past their end.
+fn part_at(text: &[u8], separator: u8, k: usize) -> &[u8] {
+    let mut parts = Parts::new(text, separator);
+    for _ in 0..k {
+        let _ = parts.next();
+    }
+    match parts.next() {
+        Some(part) => part,
+        None => [].as_slice(),
+    }
+}
+
+/// The numbers of an object, as `1,0` of `Cell(1,0)`.
+fn numbers_of(object: &[u8]) -> &[u8] {
+    part_at(part_at(object, b'(', 1), b')', 0)
+}
+
+/// Appends `name`, the second number, ` of process ` and the first one.
+fn append_owned(out: &mut Vec<u8>, name: &[u8], object: &[u8]) -> Result<(), NoMemory> {
+    let numbers = numbers_of(object);
+    append(out, name)?;
+    append(out, part_at(numbers, b',', 1))?;
+    append(out, b" of process ")?;
+    append(out, part_at(numbers, b',', 0))
+}
+
+/// Appends `name` and the number of an object.
+fn append_single(out: &mut Vec<u8>, name: &[u8], object: &[u8]) -> Result<(), NoMemory> {
+    append(out, name)?;
+    append(out, numbers_of(object))
+}
+
+/// Appends an object in words, as `cell 0 of process 1`.
+pub fn append_object(out: &mut Vec<u8>, object: &[u8]) -> Result<(), NoMemory> {
+    match before_parenthesis(object) {
+        b"Graft" => append_owned(out, b"point ", object),
+        b"Acct" => append_single(out, b"the account of process ", object),
+        b"Cell" => append_owned(out, b"cell ", object),
+        b"Open" => append_owned(out, b"descriptor ", object),
+        b"Queue" => append(out, b"the queue"),
+        b"Cache" => append(out, b"the cache"),
+        b"Lock" => append_single(out, b"user lock ", object),
+        b"Pol" => append_single(out, b"the policy of kind ", object),
+        other => append(out, other),
+    }
+}
+
+/// Appends a text and the k-th word of a line.
+fn append_word(out: &mut Vec<u8>, text: &[u8], line: &[u8], k: usize) -> Result<(), NoMemory> {
+    append(out, text)?;
+    append(out, word_at(line, k))
+}
+
+/// Appends the meaning of a code.
+fn append_meaning(out: &mut Vec<u8>, code: Code) -> Result<(), NoMemory> {
+    append(out, words_of(code).meaning.as_bytes())
+}
+
+/// A refused call: `m E..`. Event 0 is `boot`.
+fn tell_call(out: &mut Vec<u8>, code: CallCode, line: &[u8]) -> Result<(), NoMemory> {
+    if word_at(line, 0) == b"0".as_slice() {
+        return append(
+            out,
+            b"booted, but block 0 of the disk can't be read: no files",
+        );
+    }
+    append(out, b"REFUSED: ")?;
+    append_meaning(out, Code::Call(code))?;
+    match code {
+        CallCode::Busy => append_word(out, b": call ", line, 2),
+        CallCode::Short => append_word(out, b": it has ", line, 2),
+        CallCode::TimedOut => {
+            append(out, b" for ")?;
+            append_object(out, word_at(line, 2))?;
+            append_word(out, b", which process ", line, 3)?;
+            append(out, b" has")
+        }
+        _ => Ok(()),
+    }
+}
+
+/// Appends the graft of a line `m drop Q PT ..`.
+fn append_graft(out: &mut Vec<u8>, line: &[u8]) -> Result<(), NoMemory> {
+    append_word(out, b"the graft of process ", line, 2)?;
+    append_word(out, b" at point ", line, 3)
+}
+
+/// A graft that was dropped for a time-out. At a user lock the line doesn't say which of the two
+/// had it.
+fn tell_time_out(out: &mut Vec<u8>, line: &[u8]) -> Result<(), NoMemory> {
+    let object = word_at(line, 5);
+    if before_parenthesis(object) == b"Lock".as_slice() {
+        append_graft(out, line)?;
+        append_word(out, b" and process ", line, 6)?;
+        append(out, b" were in each other's way too long at ")?;
+        return append_object(out, object);
+    }
+    append_word(out, b"process ", line, 6)?;
+    append(out, b" waited too long for ")?;
+    append_object(out, object)?;
+    append(out, b", which ")?;
+    append_graft(out, line)?;
+    append(out, b" held")
+}
+
+/// What a dropped graft did, but for a time-out.
+fn tell_cause(out: &mut Vec<u8>, code: DropCode, line: &[u8]) -> Result<(), NoMemory> {
+    append_graft(out, line)?;
+    append(out, b" ")?;
+    append_meaning(out, Code::Drop(code))?;
+    match code {
+        DropCode::Trap => append_word(out, b" with code ", line, 5),
+        DropCode::NotCallable | DropCode::BadArgument | DropCode::NotYours | DropCode::NotAllowed =>
+            append_word(out, b": callable ", line, 5),
+        DropCode::RefusedAnswer => {
+            append_word(out, b": r0 is ", line, 5)?;
+            append_word(out, b", r1 is ", line, 6)
+        }
+        _ => Ok(()),
+    }
+}
+
+/// A dropped graft: `m drop Q PT C..`.
+fn tell_drop(out: &mut Vec<u8>, code: DropCode, line: &[u8]) -> Result<(), NoMemory> {
+    append(out, b"DROPPED: ")?;
+    match code {
+        DropCode::TimeOut => tell_time_out(out, line)?,
+        _ => tell_cause(out, code, line)?,
+    }
+    append(out, b"; undone")
+}
+
+/// An image that isn't loaded: `N L..`.
+fn tell_image(out: &mut Vec<u8>, code: ImageCode, line: &[u8]) -> Result<(), NoMemory> {
+    append(out, b"NOT LOADED: ")?;
+    append_meaning(out, Code::Image(code))?;
+    match code {
+        ImageCode::BadInstruction
+        | ImageCode::Register
+        | ImageCode::Jump
+        | ImageCode::Access
+        | ImageCode::DirectCall => append_word(out, b", at instruction ", line, 2),
+        _ => Ok(()),
+    }
+}
+
+/// Raw code that isn't boxed: `Register PC` and its like.
+fn tell_rewriter(out: &mut Vec<u8>, code: RewriterCode, line: &[u8]) -> Result<(), NoMemory> {
+    append(out, b"NOT BOXED: ")?;
+    append_meaning(out, Code::Rewriter(code))?;
+    match code {
+        RewriterCode::Register | RewriterCode::Jump | RewriterCode::Call => {
+            append_word(out, b", at instruction ", line, 1)
+        }
+        RewriterCode::End | RewriterCode::TooLarge => Ok(()),
+    }
+}
+
+/// A refused line of a text, whose number is the second word.
+fn tell_line(out: &mut Vec<u8>, of: &[u8], code: Code, line: &[u8]) -> Result<(), NoMemory> {
+    append_word(out, b"REFUSED: line ", line, 1)?;
+    append(out, of)?;
+    append(out, b": ")?;
+    append_meaning(out, code)
+}
+
+/// The line of a code.
+fn tell_code(out: &mut Vec<u8>, code: Code, line: &[u8]) -> Result<(), NoMemory> {
+    match code {
+        Code::Script(_) => {
+            tell_line(out, b"", code, line)?;
+            append(out, b". Nothing behind it is run")
+        }
+        Code::Call(code) => tell_call(out, code, line),
+        Code::Drop(code) => tell_drop(out, code, line),
+        Code::Image(code) => tell_image(out, code, line),
+        Code::Assembler(_) => tell_line(out, b" of the assembler text", code, line),
+        Code::Language(_) => tell_line(out, b" of the program", code, line),
+        Code::Rewriter(code) => tell_rewriter(out, code, line),
+        Code::Input(_) | Code::Status(_) => append_meaning(out, code),
+    }
+}
+
+/// Three numbers behind the second word.
+fn tell_boot(out: &mut Vec<u8>, line: &[u8]) -> Result<(), NoMemory> {
+    append_word(out, b"booted: frames ", line, 2)?;
+    append_word(out, b", blocks of the disk ", line, 3)?;
+    append_word(out, b", files ", line, 4)
+}
+
+/// A call that runs a graft: `m graft Q PT D`.
+fn tell_graft(out: &mut Vec<u8>, line: &[u8]) -> Result<(), NoMemory> {
+    append(out, b"RUNS ")?;
+    append_graft(out, line)?;
+    append_word(out, b", level ", line, 4)?;
+    append(out, b"; `step` takes it on")
+}
+
+/// A call that waits: `m waits OBJ H`.
+fn tell_wait(out: &mut Vec<u8>, line: &[u8]) -> Result<(), NoMemory> {
+    append(out, b"WAITS for ")?;
+    append_object(out, word_at(line, 2))?;
+    append_word(out, b", which process ", line, 3)?;
+    append(out, b" has")
+}
+
+/// A line of this form.
+fn tell_form(out: &mut Vec<u8>, form: Form, line: &[u8]) -> Result<(), NoMemory> {
+    match form {
+        Form::Booted => tell_boot(out, line),
+        Form::Loaded => {
+            append_word(out, b"loaded: instructions ", line, 2)?;
+            append_word(out, b", data bytes ", line, 3)
+        }
+        Form::Ran => append_word(out, b"instructions taken: ", line, 2),
+        Form::Waits => tell_wait(out, line),
+        Form::InGraft => tell_graft(out, line),
+        Form::Left => {
+            append_word(out, b"LEFT: call ", line, 2)?;
+            append_word(out, b" of process ", line, 1)?;
+            append(out, b" didn't end")
+        }
+        Form::Coded(code) => tell_code(out, code, line),
+        Form::Ticked | Form::Done | Form::Answered | Form::GaveNothing | Form::Gave => Ok(()),
+    }
+}
+
+/// A written line without its newline in words, as `DROPPED: the graft of process 1 at point 5
+/// divided by zero; undone`. None for a line that has no form, and for one that says it itself
+/// (`form_is_told`).
+pub fn tell(alloc: Global, line: &[u8]) -> Result<Option<Vec<u8>>, NoMemory>
+    ensures { IfOk result (λ told. is_some told ≡ spec.is_told (spec.form_of line.now)) }
+{
+    match form_of(line) {
+        None => Ok(None),
+        Some(form) => {
+            if !form_is_told(form) {
+                return Ok(None);
+            }
+            let mut out = Vec::new(alloc);
+            tell_form(&mut out, form, line)?;
+            Ok(Some(out))
+        }
+    }
+}

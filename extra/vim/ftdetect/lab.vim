@@ -1,0 +1,1 @@
+autocmd BufRead,BufNewFile *.lab,*.vino setfiletype lab
