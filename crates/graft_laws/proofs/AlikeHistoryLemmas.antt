@@ -8,7 +8,7 @@ use Rattle.kernel_model.specs.declared.Object.TheVariants.{Graft}
 use Rattle.kernel_model.specs.declared.Point.{Point}
 use Rattle.kernel_model.specs.World.{World, ImageTable}
 use Rattle.kernel_model.specs.Objects.{Objects, Things, GraftValue, SameAt}
-use Rattle.kernel_model.specs.Machine.{first_machine}
+use Rattle.kernel_model.specs.Machine.{first_machine, fed}
 use Rattle.kernel_model.specs.Meaning.{Meaning, Stage}
 use Rattle.kernel_model.specs.Policies.{default_of, or_zero}
 use Rattle.kernel_model.specs.Locks.{Touched, is_held, touch_all, untouched}
@@ -197,13 +197,13 @@ needs_same m laws v s u p t first second agree =
     right a b = omega arith
 
 -- a level that has just begun on each state
-begun_same : (images : ImageTable) (s u : Objects) (p q pt : ℕ) (args : List ℕ) (t : Touched) → s.accounts.graft q pt ≡ u.accounts.graft q pt →
-    record (new_level images s p 0 q pt args t) { kept = u.things } ≡ new_level images u p 0 q pt args t
-begun_same images s u p q pt args t graft =
+begun_same : (images : ImageTable) (s u : Objects) (p q pt : ℕ) (args feed : List ℕ) (t : Touched) → s.accounts.graft q pt ≡ u.accounts.graft q pt →
+    record (new_level images s p 0 q pt args feed t) { kept = u.things } ≡ new_level images u p 0 q pt args feed t
+begun_same images s u p q pt args feed t graft =
     ap (λ (g : Option GraftValue). record {
       owner = q;
       point = pt;
-      machine = first_machine (base_of p 0) args (λ i. or_zero (slice_get (body_in (image_of images g)) i));
+      machine = first_machine (base_of p 0) args (fed feed (λ i. or_zero (slice_get (body_in (image_of images g)) i)));
       count = 0;
       touched = t;
       args = args;
@@ -213,25 +213,25 @@ begun_same images s u p q pt args t graft =
 
 -- where a graft call begins on the other state
 begin_alike : (m : Meaning) (laws : Laws m) (owns : NeedsGraftsExclusively m) (v : World) (images : ImageTable) (s u : Objects) (p : ℕ) (t : Stage) (a : Point) →
-    IsStanding m v images s p t → IsStanding m v images u p t → m.asks v s p t ≡ Some a → IsReplayed v s (begin_at images s p (m.need v s p t) a) →
-    ((o : Object) → is_held_in (begin_at images s p (m.need v s p t) a).levels o ≡ true → SameAt o s u) →
-    (c : Config) × (begin m v images u p t ≡ Some c) × ConfigsAlike (begin_at images s p (m.need v s p t) a) c × IsReplayed v u c
+    IsStanding m v images s p t → IsStanding m v images u p t → m.asks v s p t ≡ Some a → IsReplayed v s (begin_at images s p (m.need v s p t) (m.feed t) a) →
+    ((o : Object) → is_held_in (begin_at images s p (m.need v s p t) (m.feed t) a).levels o ≡ true → SameAt o s u) →
+    (c : Config) × (begin m v images u p t ≡ Some c) × ConfigsAlike (begin_at images s p (m.need v s p t) (m.feed t) a) c × IsReplayed v u c
 begin_alike m laws owns v images s u p t a first second asks replayed same =
     let base = m.need v s p t in
     let agree : AgreeOn base s u = λ o h. same o (or_left (is_held (touch_all base untouched o)) false (touch_all_gives base untouched o h)) in
     let needs = needs_same m laws v s u p t first.fits second.fits agree in
     let asked = sym (laws.ask.looks v s u p t first.fits second.fits agree) ∙ asks in
-    let before = begin_at images s p base a in
-    let after = begin_at images u p base a in
+    let before = begin_at images s p base (m.feed t) a in
+    let after = begin_at images u p base (m.feed t) a in
     let is : begin m v images u p t ≡ Some after =
-    ap (λ ns. begin_with images u p ns (m.asks v u p t)) (sym needs) ∙ ap (begin_with images u p base) asked in
+    ap (λ ns. begin_with images u p ns (m.feed t) (m.asks v u p t)) (sym needs) ∙ ap (begin_with images u p base (m.feed t)) asked in
     let graft = (same (Graft a.installer a.point) (outermost_held before.levels (Graft a.installer a.point) (replayed.sound.paid (only before.levels) (0, below_suc 0, refl)).0)).0 in
-    let levels : LevelsAlike before.levels after.levels = (begun_same images s u p a.installer a.point a.args (touch_all base untouched) graft, tt) in
+    let levels : LevelsAlike before.levels after.levels = (begun_same images s u p a.installer a.point a.args (m.feed t) (touch_all base untouched) graft, tt) in
     let two = beginnings_stand m laws owns v images u p t after second is (stand_other v s u before after replayed levels same) in
     (after, is, alike_from v s u before after replayed two levels same, two)
   where
     only : List Level → Level
-    only ls = new_level images s p 0 a.installer a.point a.args (touch_all (m.need v s p t) untouched)
+    only ls = new_level images s p 0 a.installer a.point a.args (m.feed t) (touch_all (m.need v s p t) untouched)
 
     below_suc : (n : ℕ) → 0 < suc n
     below_suc n = omega arith
@@ -253,11 +253,11 @@ histories_alike m v images s u p t ks z laws first second e stand same =
         let leads = marks_alike v images p s u ks (first_trace c) (first_trace d.0) z marks one d.3 (record { config = d.2; marks = refl; pasts = refl }) all same in
         (leads.trace, replay_join m v images u p t ks d.0 d.1 ∙ leads.is, leads.alike)
 
-    by_asks : (x : Option Point) → m.asks v s p t ≡ x → (c : Config) → begin_with images s p (m.need v s p t) x ≡ Some c → IsReplayed v s c →
+    by_asks : (x : Option Point) → m.asks v s p t ≡ x → (c : Config) → begin_with images s p (m.need v s p t) (m.feed t) x ≡ Some c → IsReplayed v s c →
         marks_on v images p ks (first_trace c) ≡ Some z → AllStand z.config.now.accounts z.config.levels → (other : Trace) × (replay m v images u p t ks ≡ Some other) × TracesAlike z other
     by_asks None f c h one marks all = absurd cc
     by_asks (Some a) f c h one marks all =
-        let begun = begin_at images s p (m.need v s p t) a in
+        let begun = begin_at images s p (m.need v s p t) (m.feed t) a in
         let here = is_it begun c h in
         let own = subst (IsReplayed v s) (sym here) one in
         let on = subst (λ (x : Config). marks_on v images p ks (first_trace x) ≡ Some z) (sym here) marks in

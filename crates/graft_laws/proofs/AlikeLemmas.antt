@@ -167,7 +167,7 @@ module _ (v : World) where
 
     -- a new level of the same graft, with the same arguments
     new_same : (w u : Objects) (n q pt : ℕ) (args : List ℕ) → w.accounts.graft q pt ≡ u.accounts.graft q pt →
-        record (new_level images w p n q pt args untouched) { kept = u.things } ≡ new_level images u p n q pt args untouched
+        record (new_level images w p n q pt args [] untouched) { kept = u.things } ≡ new_level images u p n q pt args [] untouched
     new_same w u n q pt args graft =
         ap (λ (g : Option GraftValue). record {
           owner = q;
@@ -188,10 +188,10 @@ module _ (v : World) where
         (goes_same w u w u (answer_innermost pt d.0 d.1 ls) (answer_innermost pt d.0 d.1 ks) (answer_alike pt d.0 d.1 ls ks levels) (λ o e. e))
     answered_same w u q pt ls ks (Some g) levels same graft =
         let args = args_by (kind_of pt) v w.things q pt in
-        let l = new_level images w p (length ls) q pt args untouched in
-        subst (λ n. AreSameOutcomes w u (goes_on w (l ∷ ls)) (goes_on u (new_level images u p n q pt (args_by (kind_of pt) v u.things q pt) untouched ∷ ks))) (length_alike ls ks levels)
-        (subst (λ a. AreSameOutcomes w u (goes_on w (l ∷ ls)) (goes_on u (new_level images u p (length ls) q pt a untouched ∷ ks))) (args_same (kind_of pt) v q pt w.things u.things same)
-        (goes_same w u w u (l ∷ ls) (new_level images u p (length ls) q pt args untouched ∷ ks) (new_same w u (length ls) q pt args graft, levels) (λ o e. e)))
+        let l = new_level images w p (length ls) q pt args [] untouched in
+        subst (λ n. AreSameOutcomes w u (goes_on w (l ∷ ls)) (goes_on u (new_level images u p n q pt (args_by (kind_of pt) v u.things q pt) [] untouched ∷ ks))) (length_alike ls ks levels)
+        (subst (λ a. AreSameOutcomes w u (goes_on w (l ∷ ls)) (goes_on u (new_level images u p (length ls) q pt a [] untouched ∷ ks))) (args_same (kind_of pt) v q pt w.things u.things same)
+        (goes_same w u w u (l ∷ ls) (new_level images u p (length ls) q pt args [] untouched ∷ ks) (new_same w u (length ls) q pt args graft, levels) (λ o e. e)))
 
     ask_same : (w u : Objects) (l : Level) (x : Things) (ls ks : List Level) (m : Machine) (id pt : ℕ) (c : Option Cause) → IsAlike v w u l x ls ks →
         AreSame (point_objects (kind_of pt) l.owner pt) w.things u.things → w.accounts.graft l.owner pt ≡ u.accounts.graft l.owner pt →

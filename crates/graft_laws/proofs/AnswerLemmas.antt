@@ -28,11 +28,11 @@ use Rattle.graft_laws.proofs.HistoryReplayLemmas.{effects_stood}
 
 -- where a graft call begins
 begin_holds : (m : Meaning) (needs : NeedsAnswers m) (v : World) (images : ImageTable) (s : Objects) (p : ℕ) (t : Stage) (x : Option Point) (c : Config) → IsStanding m v images s p t →
-    m.asks v s p t ≡ x → begin_with images s p (m.need v s p t) x ≡ Some c → AnswerIsHeld c.levels
+    m.asks v s p t ≡ x → begin_with images s p (m.need v s p t) (m.feed t) x ≡ Some c → AnswerIsHeld c.levels
 begin_holds m needs v images s p t None c standing e f = absurd cc
 begin_holds m needs v images s p t (Some a) c standing e f =
-    subst (λ (d : Config). AnswerIsHeld d.levels) (is_it (begin_at images s p (m.need v s p t) a) c f)
-    (each_held (m.need v s p t) (new_level images s p 0 a.installer a.point a.args (touch_all (m.need v s p t) untouched)) refl (answer_objects (kind_of a.point)) (needs v images s p t a standing e))
+    subst (λ (d : Config). AnswerIsHeld d.levels) (is_it (begin_at images s p (m.need v s p t) (m.feed t) a) c f)
+    (each_held (m.need v s p t) (new_level images s p 0 a.installer a.point a.args (m.feed t) (touch_all (m.need v s p t) untouched)) refl (answer_objects (kind_of a.point)) (needs v images s p t a standing e))
   where
     is_it : (c d : Config) → Some c ≡ Some d → c ≡ d
     is_it c d h = cc

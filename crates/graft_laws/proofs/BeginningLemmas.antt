@@ -62,10 +62,10 @@ in_range (Lock u) h = h
 in_range (Pol k) h = h
 
 begin_replays : (m : Meaning) (laws : Laws m) (owns : NeedsGraftsExclusively m) (v : World) (images : ImageTable) (s : Objects) (p : ℕ) (t : Stage) (a : Point) → IsStanding m v images s p t →
-    m.asks v s p t ≡ Some a → is_some (s.accounts.graft a.installer a.point) ≡ true → IsReplayed v s (begin_at images s p (m.need v s p t) a)
+    m.asks v s p t ≡ Some a → is_some (s.accounts.graft a.installer a.point) ≡ true → IsReplayed v s (begin_at images s p (m.need v s p t) (m.feed t) a)
 begin_replays m laws owns v images s p t a standing asks stands =
     let base = m.need v s p t in
-    let l = new_level images s p 0 a.installer a.point a.args (touch_all base untouched) in
+    let l = new_level images s p 0 a.installer a.point a.args (m.feed t) (touch_all base untouched) in
     let parts = laws.need.point v s p t a standing.fits asks in
     let taken = λ (o : Object) (h : is_needed_exclusively o (needs_of_point s a) ≡ true).
     touch_all_takes base untouched o
@@ -139,10 +139,10 @@ beginnings_stand m laws owns v images s p t c standing e stand = by_asks (m.asks
     is_it : (c d : Config) → Some c ≡ Some d → c ≡ d
     is_it c d h = cc
 
-    by_asks : (x : Option Point) → m.asks v s p t ≡ x → begin_with images s p (m.need v s p t) x ≡ Some c → IsReplayed v s c
+    by_asks : (x : Option Point) → m.asks v s p t ≡ x → begin_with images s p (m.need v s p t) (m.feed t) x ≡ Some c → IsReplayed v s c
     by_asks None f e = absurd cc
     by_asks (Some a) f e =
-        let same = is_it (begin_at images s p (m.need v s p t) a) c e in
+        let same = is_it (begin_at images s p (m.need v s p t) (m.feed t) a) c e in
         subst (IsReplayed v s) same
         (begin_replays m laws owns v images s p t a standing f (subst (λ (d : Config). AllStand d.now.accounts d.levels) (sym same) stand).0)
 

@@ -1,5 +1,5 @@
 -- What the end of a piece commits, and what it leaves to the other calls.
-use Rattle.std.specs.Prelude.{◌≡◌, ◌≢◌, ℕ, zero, suc, ◌<◌, ◌&&◌, nat_lt, Bool, true, false, List, [], ◌∷◌, ◌++◌, slice_index, Option, Some, None, ⊤}
+use Rattle.std.specs.Prelude.{◌≡◌, ◌≢◌, ℕ, zero, suc, ◌<◌, ◌≤◌, ◌&&◌, nat_lt, Bool, true, false, List, [], ◌∷◌, ◌++◌, length, slice_index, Option, Some, None, ⊤}
 use Rattle.std.proofs.Common.{arith, refl, subst, sym, ap, ◌∙◌, inl, inr}
 use Rattle.std.proofs.lemmas.Bool.{cases_Bool, and_parts}
 use Rattle.std.proofs.lemmas.Bool.Decides.{nat_tests}
@@ -12,8 +12,8 @@ use Rattle.kernel_model.specs.declared.Point.{Point}
 use Rattle.kernel_model.specs.World.{World, ImageTable, Blocks}
 use Rattle.kernel_model.specs.Objects.{Objects, GraftValue, SameAt}
 use Rattle.kernel_model.specs.Policies.{lives, valid}
-use Rattle.kernel_model.specs.Meaning.{Meaning, Stage, Answer, bare_answer}
-use Rattle.kernel_model.specs.Levels.{Outcome}
+use Rattle.kernel_model.specs.Meaning.{Meaning, Stage, Answer}
+use Rattle.kernel_model.specs.Levels.{Outcome, answer_of}
 use Rattle.kernel_model.specs.History.{Mark, Stepped, Trace, fallen}
 use Rattle.kernel_model.specs.Kernel.{Call, Run, call_after, noted, with_marks}
 use Rattle.kernel_model.specs.Settle.{lost_objects, finish_on, after_outcome}
@@ -22,6 +22,7 @@ use Rattle.kernel_model.specs.Alike.{AreAlike, SameFiles, windowless, is_needed_
 use Rattle.kernel_model.specs.Laws.{Laws, IsReady, IsStanding, IsInRange, SameKindOfPoint, before_point}
 use Rattle.plain_rules.specs.Ledgers.{at_other}
 use Rattle.kernel_laws.specs.Soundness.{IsGraftsWork}
+use Rattle.kernel_laws.proofs.BodyLemmas.{answer_whole, answer_right}
 use Rattle.kernel_laws.proofs.StepLemmas.{niceless_lives, alike_disk, right_answer, others_files}
 use Rattle.graft_laws.specs.Histories.{HasRange}
 use Rattle.graft_laws.proofs.EffectLemmas.{same_self, same_then, same_back}
@@ -164,7 +165,7 @@ module _ (m : Meaning) (laws : Laws m) where
       Commits p (λ o. is_needed_exclusively o (m.need r.kernel.world r.kernel.objects p c.stage) ≡ false) r (finish_on m p c r.kernel.objects None r)
   default_commits p c r h =
       let s = r.kernel.objects in
-      let ready : IsReady m r.kernel.world r.kernel.images s p c.stage None = record { standing = h.standing; disk = h.disk; right = tt } in
+      let ready : IsReady m r.kernel.world r.kernel.images s p c.stage None = record { standing = h.standing; disk = h.disk; right = tt; body = tt } in
       finish_commits p c s None (λ o. is_needed_exclusively o (m.need r.kernel.world s p c.stage) ≡ false) r h ready (alike_self s) (λ o e. same_self o s)
       (λ o within e. laws.footprint.changes r.kernel.world r.kernel.images s r.blocks p c.stage None r.io o ready within e)
 
@@ -191,34 +192,35 @@ module _ (m : Meaning) (laws : Laws m) where
   pub outcome_commits : (p : ℕ) (c : Call) (t : Trace) (ks : List Mark) (a : Point) (o : Outcome) (said : Micro) (free : Object → Type 0) (r : Run) → Stands m p c r →
       m.asks r.kernel.world r.kernel.objects p c.stage ≡ Some a →
       ((b : Object) → free b → is_needed_exclusively b (before_point r.kernel.objects a (m.need r.kernel.world r.kernel.objects p c.stage)) ≡ false) →
-      EndsWell r.kernel.world r.kernel.objects a free o said → Commits p free r (after_outcome m p c t ks o said r)
-  outcome_commits p c t ks a o Micro.Went free r h asks base ends = marks_commit p c (ks ++ Stepped ∷ []) free r h
-  outcome_commits p c t ks a o (Micro.Blocked object holder by_user) free r h asks base ends = nothing_commits p c free r h
-  outcome_commits p c t ks a o (Micro.Completed answer) free r h asks base ends =
+      1 ≤ length t.config.levels → EndsWell r.kernel.world r.kernel.objects a free o said → Commits p free r (after_outcome m p c t ks o said r)
+  outcome_commits p c t ks a o Micro.Went free r h asks base some ends = marks_commit p c (ks ++ Stepped ∷ []) free r h
+  outcome_commits p c t ks a o (Micro.Blocked object holder by_user) free r h asks base some ends = nothing_commits p c free r h
+  outcome_commits p c t ks a o (Micro.Completed answer) free r h asks base some ends =
       let v = r.kernel.world in
       let s = r.kernel.objects in
       let w = o.config.now in
-      let ready : IsReady m v r.kernel.images w p c.stage (Some (bare_answer answer)) =
+      let ready : IsReady m v r.kernel.images w p c.stage (Some (answer_of answer t.config.levels)) =
       record {
         standing = stands_on v r.kernel.images s w p c.stage h.standing ends.0.store ends.0.alike;
         disk = alike_disk v s w ends.0.alike h.disk;
-        right = right_answer m laws v s w p c.stage a answer h.standing.fits ends.0.alike asks ends.1;
+        right = answer_right w (m.asks v w p c.stage) answer t.config.levels (right_answer m laws v s w p c.stage a answer h.standing.fits ends.0.alike asks ends.1);
+        body = answer_whole answer t.config.levels some;
       } in
-      finish_commits p c w (Some (bare_answer answer)) free r h ready ends.0.alike ends.2
-      (λ b within e. asked_changes v r.kernel.images s w r.blocks p c.stage (Some (bare_answer answer)) r.io a (m.asks v w p c.stage) b ready h.standing.fits ends.0.alike asks refl
+      finish_commits p c w (Some (answer_of answer t.config.levels)) free r h ready ends.0.alike ends.2
+      (λ b within e. asked_changes v r.kernel.images s w r.blocks p c.stage (Some (answer_of answer t.config.levels)) r.io a (m.asks v w p c.stage) b ready h.standing.fits ends.0.alike asks refl
       (subst (λ x. SameKindOfPoint x (m.asks v w p c.stage)) asks (laws.ask.alike v s w p c.stage h.standing.fits ends.0.alike)) within (base b e))
-  outcome_commits p c t ks a o (Micro.Dropped zero q pt cause) free r h asks base ends =
+  outcome_commits p c t ks a o (Micro.Dropped zero q pt cause) free r h asks base some ends =
       let v = r.kernel.world in
       let s = r.kernel.objects in
       let w = lost_objects o.config.now s in
       let said = Dropped c.number q pt cause in
       let ready : IsReady m v r.kernel.images w p c.stage None =
-      record { standing = stands_on v r.kernel.images s w p c.stage h.standing ends.0.store ends.0.alike; disk = h.disk; right = tt } in
+      record { standing = stands_on v r.kernel.images s w p c.stage h.standing ends.0.store ends.0.alike; disk = h.disk; right = tt; body = tt } in
       noted_commits p said free r (finish_on m p c w None (noted said r))
       (finish_commits p c w None free (noted said r) (record { standing = h.standing; disk = h.disk; whole = h.whole }) ready ends.0.alike ends.1
       (λ b within e. asked_changes v r.kernel.images s w r.blocks p c.stage None r.io a (m.asks v w p c.stage) b ready h.standing.fits ends.0.alike asks refl
       (subst (λ x. SameKindOfPoint x (m.asks v w p c.stage)) asks (laws.ask.alike v s w p c.stage h.standing.fits ends.0.alike)) within (base b e)))
-  outcome_commits p c t ks a o (Micro.Dropped (suc d) q pt cause) free r h asks base ends =
+  outcome_commits p c t ks a o (Micro.Dropped (suc d) q pt cause) free r h asks base some ends =
       let said = Dropped c.number q pt cause in
       let marks = fallen t ks o.effects (suc d) in
       noted_commits p said free r (with_marks p c marks (noted said r))

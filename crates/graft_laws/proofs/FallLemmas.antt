@@ -107,10 +107,10 @@ module _ (m : Meaning) (laws : Laws m) (owns : NeedsGraftsExclusively m) (v : Wo
       first_rooted : (c : Config) → begin m v images s p t ≡ Some c → IsRooted v images p (first_trace c) [] (first_trace c)
       first_rooted c e = by_asks (m.asks v s p t) e
         where
-          by_asks : (x : Option Point) → begin_with images s p (m.need v s p t) x ≡ Some c → IsRooted v images p (first_trace c) [] (first_trace c)
+          by_asks : (x : Option Point) → begin_with images s p (m.need v s p t) (m.feed t) x ≡ Some c → IsRooted v images p (first_trace c) [] (first_trace c)
           by_asks None e = absurd cc
           by_asks (Some a) e =
-              subst (λ (d : Config). IsRooted v images p (first_trace d) [] (first_trace d)) (is_it (begin_at images s p (m.need v s p t) a) c e)
+              subst (λ (d : Config). IsRooted v images p (first_trace d) [] (first_trace d)) (is_it (begin_at images s p (m.need v s p t) (m.feed t) a) c e)
               (record { marks = refl; prefix = refl; rooted = tt; owner = a.installer; of = (refl, tt) })
 
   -- effects after those since level l began, and then its end

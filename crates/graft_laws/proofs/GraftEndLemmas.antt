@@ -121,11 +121,11 @@ module _ (m : Meaning) (laws : Laws m) (owns : NeedsGraftsExclusively m) where
       is_it : (c d : Config) → Some c ≡ Some d → c ≡ d
       is_it c d h = cc
 
-      by_asks : (x : Option Point) → m.asks v s p t ≡ x → (c : Config) → begin_with images s p (m.need v s p t) x ≡ Some c → marks_on v images p ks (first_trace c) ≡ Some now →
+      by_asks : (x : Option Point) → m.asks v s p t ≡ x → (c : Config) → begin_with images s p (m.need v s p t) (m.feed t) x ≡ Some c → marks_on v images p ks (first_trace c) ≡ Some now →
           IsInGraft m v images s p t now
       by_asks None f c h marks = absurd cc
       by_asks (Some a) f c h marks =
-          let begun = begin_at images s p (m.need v s p t) a in
+          let begun = begin_at images s p (m.need v s p t) (m.feed t) a in
           let on = subst (λ (x : Config). marks_on v images p ks (first_trace x) ≡ Some now) (sym (is_it begun c h)) marks in
           record {
             point = a;

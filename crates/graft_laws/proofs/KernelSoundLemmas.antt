@@ -12,9 +12,9 @@ use Rattle.kernel_model.specs.declared.Object.{Object}
 use Rattle.kernel_model.specs.declared.Point.{Point}
 use Rattle.kernel_model.specs.World.{World, ImageTable}
 use Rattle.kernel_model.specs.Objects.{Objects, GraftValue}
-use Rattle.kernel_model.specs.Meaning.{Meaning, Stage, Answer, bare_answer}
+use Rattle.kernel_model.specs.Meaning.{Meaning, Stage, Answer}
 use Rattle.kernel_model.specs.Locks.{is_held, is_held_exclusively, touch_all, untouched}
-use Rattle.kernel_model.specs.Levels.{Level, Config, Outcome, is_going_on}
+use Rattle.kernel_model.specs.Levels.{Level, Config, Outcome, is_going_on, answer_of}
 use Rattle.kernel_model.specs.GraftStep.{micro, micro_on, next_needs}
 use Rattle.kernel_model.specs.History.{Mark, Stepped, Trace, trace_after, begin_at, begin_with, fallen, first_trace, replay, marks_on}
 use Rattle.kernel_model.specs.Kernel.{Call, Run, noted, with_marks, requeue}
@@ -24,6 +24,7 @@ use Rattle.kernel_model.specs.InPlace.{is_changed_in}
 use Rattle.kernel_model.specs.Sound.{IsSoundKernel, HasWholeBlocks}
 use Rattle.kernel_model.specs.Alike.{is_held_in, is_needed, is_needed_exclusively}
 use Rattle.kernel_model.specs.Laws.{Laws, IsReady, continues, NeedsGraftsExclusively}
+use Rattle.kernel_laws.proofs.BodyLemmas.{answer_whole, answer_right}
 use Rattle.kernel_laws.proofs.LevelLemmas.{each_contains}
 use Rattle.kernel_laws.proofs.StepLemmas.{alike_disk, right_answer}
 use Rattle.kernel_laws.proofs.SoundConfigLemmas.{configs_stay_sound}
@@ -97,7 +98,7 @@ module _ (m : Meaning) (laws : Laws m) (owns : NeedsGraftsExclusively m) where
       Kept m q ns r (finish_on m q c r.kernel.objects None r)
   default_kept q c ns r h whole e =
       let stands = stands_in m laws owns r q c h whole e in
-      finish_kept q c r.kernel.objects None ns r h (record { standing = stands.standing; disk = stands.disk; right = tt }) (come_self r.kernel.objects.accounts)
+      finish_kept q c r.kernel.objects None ns r h (record { standing = stands.standing; disk = stands.disk; right = tt; body = tt }) (come_self r.kernel.objects.accounts)
 
   -- a history begins
   begun_kept : (q : ℕ) (c : Call) (a : Point) (g : GraftValue) (r : Run) → IsSoundKernel m r.kernel → r.kernel.call q ≡ Some c → m.asks r.kernel.world r.kernel.objects q c.stage ≡ Some a →
@@ -105,9 +106,9 @@ module _ (m : Meaning) (laws : Laws m) (owns : NeedsGraftsExclusively m) where
   begun_kept q c a g r h e asks stands =
       let k = r.kernel in
       let base = m.need k.world k.objects q c.stage in
-      let z = begin_at k.images k.objects q base a in
+      let z = begin_at k.images k.objects q base (m.feed c.stage) a in
       marks_kept q c [] z base r h e
-      (ap (λ x. config_in (elim (begin_with k.images k.objects q base x) as (λ _. Option Trace) [ None ↦ None | Some d ↦ marks_on k.world k.images q [] (first_trace d) ])) asks)
+      (ap (λ x. config_in (elim (begin_with k.images k.objects q base (m.feed c.stage) x) as (λ _. Option Trace) [ None ↦ None | Some d ↦ marks_on k.world k.images q [] (first_trace d) ])) asks)
       (λ l i. each_contains (λ (x : Level). is_some (z.now.accounts.graft x.owner x.point) ≡ true) z.levels l (ap is_some stands, tt) i)
       (λ o held. inr (needed_of base o (touch_all_from base untouched o (only_held (touch_all base untouched o) held))))
       (λ o changed. inr (taken_of base o (touch_all_changed base untouched o (only_changed (touch_all base untouched o) changed))))
@@ -163,35 +164,37 @@ module _ (m : Meaning) (laws : Laws m) (owns : NeedsGraftsExclusively m) where
       let all = all_stand t.config g.replayed.sound.grafts in
       let one = beginnings_stand m laws owns k.world k.images k.objects q c.stage split.0 (stands_in m laws owns r q c h whole e).standing split.1
       (marks_stood k.world k.images q ks (first_trace split.0) t split.2 all) in
-      subst (λ (x : Objects). ComeFrom x.accounts t.config.now.accounts) (begins_on k.images k.objects q (m.need k.world k.objects q c.stage) (m.asks k.world k.objects q c.stage) split.0 split.1)
+      subst (λ (x : Objects). ComeFrom x.accounts t.config.now.accounts) (begins_on k.images k.objects q (m.need k.world k.objects q c.stage) (m.feed c.stage) (m.asks k.world k.objects q c.stage) split.0 split.1)
       (marks_come k.world k.images q k.objects ks (first_trace split.0) t split.2 one all)
     where
-      begins_on : (images : ImageTable) (s : Objects) (p : ℕ) (base : List Need) (x : Option Point) (c : Config) → begin_with images s p base x ≡ Some c → c.now ≡ s
-      begins_on images s p base None c e = absurd cc
-      begins_on images s p base (Some a) c e = sym (ap (λ (d : Config). d.now) (is_it (begin_at images s p base a) c e))
+      begins_on : (images : ImageTable) (s : Objects) (p : ℕ) (base : List Need) (feed : List ℕ) (x : Option Point) (c : Config) → begin_with images s p base feed x ≡ Some c → c.now ≡ s
+      begins_on images s p base feed None c e = absurd cc
+      begins_on images s p base feed (Some a) c e = sym (ap (λ (d : Config). d.now) (is_it (begin_at images s p base feed a) c e))
         where
           is_it : (x y : Config) → Some x ≡ Some y → x ≡ y
           is_it x y e = cc
 
   -- level 0 ended
   pub ended_kept : (q : ℕ) (c : Call) (t : Trace) (ks : List Mark) (a : Point) (o : Outcome) (ns : List Need) (free : Object → Type 0) (r : Run) → IsSoundKernel m r.kernel →
-      Stands m q c r → m.asks r.kernel.world r.kernel.objects q c.stage ≡ Some a → ComeFrom r.kernel.objects.accounts o.config.now.accounts →
-      ((answer : List ℕ) → EndsWell m laws r.kernel.world r.kernel.objects a free o (Micro.Completed answer) → Kept m q ns r (finish_on m q c o.config.now (Some (bare_answer answer)) r))
+      Stands m q c r → m.asks r.kernel.world r.kernel.objects q c.stage ≡ Some a → 1 ≤ length t.config.levels → ComeFrom r.kernel.objects.accounts o.config.now.accounts →
+      ((answer : List ℕ) → EndsWell m laws r.kernel.world r.kernel.objects a free o (Micro.Completed answer) → Kept m q ns r (finish_on m q c o.config.now (Some (answer_of answer t.config.levels)) r))
       × ((g pt : ℕ) (cause : Cause) → EndsWell m laws r.kernel.world r.kernel.objects a free o (Micro.Dropped zero g pt cause) →
       Kept m q ns r (finish_on m q c (lost_objects o.config.now r.kernel.objects) None (noted (Dropped c.number g pt cause) r)))
-  ended_kept q c t ks a o ns free r h stands asks come =
+  ended_kept q c t ks a o ns free r h stands asks some come =
       let k = r.kernel in (
-        λ answer ends. finish_kept q c o.config.now (Some (bare_answer answer)) ns r h (record {
+        λ answer ends. finish_kept q c o.config.now (Some (answer_of answer t.config.levels)) ns r h (record {
           standing = stands_on m laws k.world k.images k.objects o.config.now q c.stage stands.standing ends.0.store ends.0.alike;
           disk = alike_disk k.world k.objects o.config.now ends.0.alike stands.disk;
-          right = right_answer m laws k.world k.objects o.config.now q c.stage a answer stands.standing.fits ends.0.alike asks ends.1;
+          right = answer_right o.config.now (m.asks k.world o.config.now q c.stage) answer t.config.levels
+              (right_answer m laws k.world k.objects o.config.now q c.stage a answer stands.standing.fits ends.0.alike asks ends.1);
+          body = answer_whole answer t.config.levels some;
         }) come,
         λ g pt cause ends.
             let said = Dropped c.number g pt cause in
             let w = lost_objects o.config.now k.objects in
             noted_kept q said ns r (finish_on m q c w None (noted said r))
             (finish_kept q c w None ns (noted said r) h
-            (record { standing = stands_on m laws k.world k.images k.objects w q c.stage stands.standing ends.0.store ends.0.alike; disk = stands.disk; right = tt }) come),
+            (record { standing = stands_on m laws k.world k.images k.objects w q c.stage stands.standing ends.0.store ends.0.alike; disk = stands.disk; right = tt; body = tt }) come),
       )
 
   -- an instruction
@@ -268,13 +271,13 @@ module _ (m : Meaning) (laws : Laws m) (owns : NeedsGraftsExclusively m) where
           let k = r.kernel in
           let free = λ (b : Object). is_changed_in t.config.levels b ≡ false in
           let o = micro k.world k.images q t.config in
-          (ended_kept q c t ks g.point o (next_needs k.world k.images t.config.now.accounts t.config.levels) free r h (stands_in m laws owns r q c h whole e) g.asks come).0 answer
+          (ended_kept q c t ks g.point o (next_needs k.world k.images t.config.now.accounts t.config.levels) free r h (stands_in m laws owns r q c h whole e) g.asks g.replayed.sound.some come).0 answer
           (subst (EndsWell m laws k.world k.objects g.point free o) said ends)
       by_said (Micro.Dropped zero i pt cause) said g ends come =
           let k = r.kernel in
           let free = λ (b : Object). is_changed_in t.config.levels b ≡ false in
           let o = micro k.world k.images q t.config in
-          (ended_kept q c t ks g.point o (next_needs k.world k.images t.config.now.accounts t.config.levels) free r h (stands_in m laws owns r q c h whole e) g.asks come).1 i pt cause
+          (ended_kept q c t ks g.point o (next_needs k.world k.images t.config.now.accounts t.config.levels) free r h (stands_in m laws owns r q c h whole e) g.asks g.replayed.sound.some come).1 i pt cause
           (subst (EndsWell m laws k.world k.objects g.point free o) said ends)
       by_said (Micro.Dropped (suc d) i pt cause) said g ends come =
           let k = r.kernel in

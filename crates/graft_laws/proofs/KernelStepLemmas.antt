@@ -111,7 +111,7 @@ module _ (m : Meaning) (laws : Laws m) (owns : NeedsGraftsExclusively m) where
           (drop_innermost r.kernel.world t.config.now l rest cause).said →
           Kept m q [] r (after_outcome m q c t ks (drop_innermost r.kernel.world t.config.now l rest cause) (drop_innermost r.kernel.world t.config.now l rest cause).said r)
       by_rest g l [] is number held changed come ends =
-          (ended_kept m laws owns q c t ks g.point (drop_innermost r.kernel.world t.config.now l [] cause) [] (λ b. is_changed_in t.config.levels b ≡ false) r h (stands_in m laws owns r q c h whole e) g.asks come).1
+          (ended_kept m laws owns q c t ks g.point (drop_innermost r.kernel.world t.config.now l [] cause) [] (λ b. is_changed_in t.config.levels b ≡ false) r h (stands_in m laws owns r q c h whole e) g.asks g.replayed.sound.some come).1
           l.owner l.point cause ends
       by_rest g l (x ∷ rest) is number held changed come ends =
           let k = r.kernel in

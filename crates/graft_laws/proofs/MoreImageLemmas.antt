@@ -9,7 +9,7 @@ use Rattle.kernel_model.specs.declared.Refusal.{Refusal}
 use Rattle.kernel_model.specs.declared.SysCall.{SysCall}
 use Rattle.kernel_model.specs.World.{World, Image, ImageTable, processes}
 use Rattle.kernel_model.specs.Objects.{Objects, Accounts, GraftValue}
-use Rattle.kernel_model.specs.Machine.{first_machine, next_call}
+use Rattle.kernel_model.specs.Machine.{first_machine, fed, next_call}
 use Rattle.kernel_model.specs.Policies.{or_zero}
 use Rattle.kernel_model.specs.Meaning.{Meaning, Stage}
 use Rattle.kernel_model.specs.Locks.{touch_all, untouched}
@@ -33,9 +33,9 @@ use Rattle.graft_laws.proofs.StepCommitLemmas.{stands_in, trace_is, config_is}
 use Rattle.graft_laws.proofs.StabilityLemmas.{has_graft}
 
 -- where a call begins the state is the committed one
-begin_now : (images : ImageTable) (s : Objects) (p : ℕ) (ns : List Need) (x : Option Point) (c : Config) → begin_with images s p ns x ≡ Some c → s ≡ c.now
-begin_now images s p ns None c e = absurd cc
-begin_now images s p ns (Some a) c e = cc
+begin_now : (images : ImageTable) (s : Objects) (p : ℕ) (ns : List Need) (feed : List ℕ) (x : Option Point) (c : Config) → begin_with images s p ns feed x ≡ Some c → s ≡ c.now
+begin_now images s p ns feed None c e = absurd cc
+begin_now images s p ns feed (Some a) c e = cc
 
 -- ---- histories
 
@@ -54,15 +54,15 @@ module _ (v : World) (images more : ImageTable) (extends : Extends images more) 
       by_graft (Some g) e = loaded_same g.image (images g.image) refl (loaded q pt g e)
 
   -- where a call begins
-  begin_same : (s : Objects) (p : ℕ) (ns : List Need) (x : Option Point) → ImagesAreLoaded images s.accounts → begin_with more s p ns x ≡ begin_with images s p ns x
-  begin_same s p ns None loaded = refl
-  begin_same s p ns (Some a) loaded =
+  begin_same : (s : Objects) (p : ℕ) (ns : List Need) (feed : List ℕ) (x : Option Point) → ImagesAreLoaded images s.accounts → begin_with more s p ns feed x ≡ begin_with images s p ns feed x
+  begin_same s p ns feed None loaded = refl
+  begin_same s p ns feed (Some a) loaded =
       ap (λ (y : Option Image). Some (record {
         now = s;
         levels = record {
           owner = a.installer;
           point = a.point;
-          machine = first_machine (base_of p 0) a.args (λ i. or_zero (slice_get (body_in y) i));
+          machine = first_machine (base_of p 0) a.args (fed feed (λ i. or_zero (slice_get (body_in y) i)));
           count = 0;
           touched = touch_all ns untouched;
           args = a.args;
@@ -103,10 +103,10 @@ leads_on : (m : Meaning) (laws : Laws m) (owns : NeedsGraftsExclusively m) (v : 
 leads_on m laws owns v images more extends s p t ks z standing e stand loaded =
     let f = replay_split m v images s p t ks z e in
     let first = beginnings_stand m laws owns v images s p t f.0 standing f.1 (marks_stood v images p ks (first_trace f.0) z f.2 stand) in
-    let begun = subst (λ (w : Objects). ImagesAreLoaded images w.accounts) (begin_now images s p (m.need v s p t) (m.asks v s p t) f.0 f.1) loaded in
+    let begun = subst (λ (w : Objects). ImagesAreLoaded images w.accounts) (begin_now images s p (m.need v s p t) (m.feed t) (m.asks v s p t) f.0 f.1) loaded in
     record {
       same = ap (λ (x : Option Config). elim x as (λ _. Option Trace) [ None ↦ None | Some c ↦ marks_on v more p ks (first_trace c) ])
-          (begin_same v images more extends s p (m.need v s p t) (m.asks v s p t) loaded ∙ f.1)
+          (begin_same v images more extends s p (m.need v s p t) (m.feed t) (m.asks v s p t) loaded ∙ f.1)
           ∙ marks_same v images more extends p s ks (first_trace f.0) z f.2 first stand begun;
       loaded = images_from images f.0.now.accounts z.config.now.accounts (marks_come v images p s ks (first_trace f.0) z f.2 first stand) begun;
     }

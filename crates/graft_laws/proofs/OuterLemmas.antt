@@ -184,7 +184,7 @@ module _ (v : World) where
         let d = default_of v w.things l.owner pt in
         Stays (with_machine (answered (kind_of pt) d.0 d.1 b.machine) b) refl (ap (answer_innermost pt d.0 d.1) e) (record { owner = same.owner; point = same.point; kept = same.kept })
     answered_outer w l b ls ks pt (Some g) e same =
-        let n = new_level images w p (length ks) l.owner pt (args_by (kind_of pt) v w.things l.owner pt) untouched in
+        let n = new_level images w p (length ks) l.owner pt (args_by (kind_of pt) v w.things l.owner pt) [] untouched in
         Starts n b refl (ap (λ xs. n ∷ xs) e) same refl refl
 
     answered_said : (w : Objects) (q pt : ℕ) (ks : List Level) (g : Option GraftValue) → (ask_answered v images w p q pt ks g).effects ≡ []

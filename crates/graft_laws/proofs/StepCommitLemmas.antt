@@ -95,7 +95,7 @@ module _ (m : Meaning) (laws : Laws m) (owns : NeedsGraftsExclusively m) where
       let stands = stands_in r p c h whole e in
       commits_less p (λ b. is_changed_in t.config.levels b ≡ false) (λ b. is_changed_in (levels_of m k p) b ≡ false) r (after_outcome m p c t ks o o.said r) (λ b none. free_levels k p c t b e f none)
       (outcome_commits m laws p c t ks g.point o o.said (λ b. is_changed_in t.config.levels b ≡ false) r stands g.asks
-      (λ b none. before_free m laws owns k.world k.images k.objects p c.stage t b stands.standing.fits g none) (micro_ends m laws owns k.world k.images k.objects p c.stage t g))
+      (λ b none. before_free m laws owns k.world k.images k.objects p c.stage t b stands.standing.fits g none) g.replayed.sound.some (micro_ends m laws owns k.world k.images k.objects p c.stage t g))
 
   piece_at_commits : (r : Run) (p : ℕ) (c : Call) (g : Option GraftValue) → Stands m p c r →
       Commits p (λ o. is_needed_exclusively o (m.need r.kernel.world r.kernel.objects p c.stage) ≡ false) r (piece_at m p c g r)
@@ -141,7 +141,7 @@ module _ (m : Meaning) (laws : Laws m) (owns : NeedsGraftsExclusively m) where
       let stands = stands_in r p c h whole e in
       commits_less p (λ b. is_changed_in t.config.levels b ≡ false) (λ b. is_changed_in (levels_of m k p) b ≡ false) r (after_outcome m p c t ks o o.said r) (λ b none. free_levels k p c t b e f none)
       (outcome_commits m laws p c t ks g.point o o.said (λ b. is_changed_in t.config.levels b ≡ false) r stands g.asks
-      (λ b none. before_free m laws owns k.world k.images k.objects p c.stage t b stands.standing.fits g none) (drop_ends m laws owns k.world k.images k.objects p c.stage t n cause g))
+      (λ b none. before_free m laws owns k.world k.images k.objects p c.stage t b stands.standing.fits g none) g.replayed.sound.some (drop_ends m laws owns k.world k.images k.objects p c.stage t n cause g))
 
   drop_at_commits : (r : Run) (p : ℕ) (c : Call) (ks : List Mark) (t : Trace) (d : Option ℕ) (cause : Cause) → IsSoundKernel m r.kernel → HasWholeBlocks r.kernel.world r.blocks → r.kernel.call p ≡ Some c →
       c.marks ≡ Some ks → trace_of m r.kernel p (Some c) ≡ Some t → Commits p (λ o. is_changed_in (levels_of m r.kernel p) o ≡ false) r (drop_at m p c ks t d cause r)

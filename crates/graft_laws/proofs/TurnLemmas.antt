@@ -118,12 +118,12 @@ module _ (v : World) where
         answered_held pt r0 r1 (k ∷ ls) o h = h
     answered_turn w l ls ks ns q pt (Some g) grown from held gets changed outer =
         record {
-          shape = Begins (new_level images w p (length ks) q pt (args_by (kind_of pt) v w.things q pt) untouched) ks refl refl grown (record { touched = refl; records = refl; kept = refl }) held;
+          shape = Begins (new_level images w p (length ks) q pt (args_by (kind_of pt) v w.things q pt) [] untouched) ks refl refl grown (record { touched = refl; records = refl; kept = refl }) held;
           held = λ o h. from o h;
           stands = λ r pu h. h;
           gets = λ e o h. gets o h;
           changed = λ o h. changed o h;
-          outer = λ e r pu h. outermost_inside (new_level images w p (length ks) q pt (args_by (kind_of pt) v w.things q pt) untouched) ks (Graft r pu) (outer r pu h);
+          outer = λ e r pu h. outermost_inside (new_level images w p (length ks) q pt (args_by (kind_of pt) v w.things q pt) [] untouched) ks (Graft r pu) (outer r pu h);
           ends = tt;
         }
 

@@ -252,7 +252,7 @@ module _ (v : World) (t : Touched) where
         let o = Graft l.owner pt in
         let xs = touch_outermost o (asker ∷ ls) in
         let first = touch_inside o asker ls in
-        let n = new_level images w p (length xs) l.owner pt (args_by (kind_of pt) v w.things l.owner pt) untouched in
+        let n = new_level images w p (length xs) l.owner pt (args_by (kind_of pt) v w.things l.owner pt) [] untouched in
         inr (inl (record {
           inner = n;
           own = first.0;

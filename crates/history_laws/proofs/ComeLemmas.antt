@@ -223,7 +223,7 @@ base_held m laws v s p t a g fits asked stands =
 
 -- a call begins so
 begins_come : (m : Meaning) → Laws m → (v : World) (images : ImageTable) (s : Objects) (p : ℕ) (t : Stage) (a : Point) (g : GraftValue) → m.fits v s p t ≡ true →
-    m.asks v s p t ≡ Some a → s.accounts.graft a.installer a.point ≡ Some g → HasCome s.accounts a.installer (begin_at images s p (m.need v s p t) a)
+    m.asks v s p t ≡ Some a → s.accounts.graft a.installer a.point ≡ Some g → HasCome s.accounts a.installer (begin_at images s p (m.need v s p t) (m.feed t) a)
 begins_come m laws v images s p t a g fits asked stands =
     let held = base_held m laws v s p t a g fits asked stands in
     record {
@@ -260,10 +260,10 @@ replay_comes m laws v images s p t ks u fits e = comes_by (m.asks v s p t) refl 
         some_more n = omega arith
 
     comes_by : (ask : Option Point) → m.asks v s p t ≡ ask →
-        elim (begin_with images s p (m.need v s p t) ask) as (λ _. Option Trace) [ None ↦ None | Some c ↦ marks_on v images p ks (first_trace c) ] ≡ Some u → Comes m v s p t u.config
+        elim (begin_with images s p (m.need v s p t) (m.feed t) ask) as (λ _. Option Trace) [ None ↦ None | Some c ↦ marks_on v images p ks (first_trace c) ] ≡ Some u → Comes m v s p t u.config
     comes_by None asked e = absurd (no_trace u e)
     comes_by (Some a) asked e =
-        let first = first_trace (begin_at images s p (m.need v s p t) a) in
+        let first = first_trace (begin_at images s p (m.need v s p t) (m.feed t) a) in
         record {
           point = a;
           asked = asked;

@@ -267,18 +267,18 @@ module _ (v : World) (images : ImageTable) (p : ℕ) (first : Trace) (q : ℕ) w
       (drop_replays ks now.config.now now.config.levels now.marks now.pasts d r pt cause why h (ap (λ (x : Outcome). x.said) (sym e) ∙ said) stands)
 
 -- by the point that is asked
-replay_by : (v : World) (images : ImageTable) (s : Objects) (p : ℕ) (base : List Need) (ask : Option Point) (ks : List Mark) (now : Trace) (o : Outcome) (d q pt : ℕ) (cause why : Cause) →
-    let start = λ (marks : List Mark). elim (begin_with images s p base ask) as (λ _. Option Trace) [ None ↦ None | Some c ↦ marks_on v images p marks (first_trace c) ] in
+replay_by : (v : World) (images : ImageTable) (s : Objects) (p : ℕ) (base : List Need) (feed : List ℕ) (ask : Option Point) (ks : List Mark) (now : Trace) (o : Outcome) (d q pt : ℕ) (cause why : Cause) →
+    let start = λ (marks : List Mark). elim (begin_with images s p base feed ask) as (λ _. Option Trace) [ None ↦ None | Some c ↦ marks_on v images p marks (first_trace c) ] in
     start ks ≡ Some now → (o ≡ micro v images p now.config) ⊎ (o ≡ drop_level v now.config.now now.config.levels (suc d) why) →
     o.said ≡ Micro.Dropped (suc d) q pt cause → is_some (now.config.now.accounts.graft q pt) ≡ true →
     config_in (start (fallen now ks o.effects (suc d))) ≡ Some o.config
-replay_by v images s p base None ks now o d q pt cause why leads by said stands = absurd (no_trace now leads)
-replay_by v images s p base (Some a) ks now o d q pt cause why leads by said stands =
-    let first = first_trace (begin_at images s p base a) in
+replay_by v images s p base feed None ks now o d q pt cause why leads by said stands = absurd (no_trace now leads)
+replay_by v images s p base feed (Some a) ks now o d q pt cause why leads by said stands =
+    let first = first_trace (begin_at images s p base feed a) in
     let led = marks_lead v images p first a.installer [] ks first now (record { leads = refl; marks = refl; pasts = refl }) leads in
     leads_to_drop v images p first a.installer ks now o d q pt cause why led.pasts by said stands
 
 -- the history after the drop of a level above the outermost leads to the config that the drop gave, if its graft stood
 pub falls_replay : (m : Meaning) → FallsReplay m
 falls_replay m v images s p t ks now o d q pt cause why leads by said stands =
-    replay_by v images s p (m.need v s p t) (m.asks v s p t) ks now o d q pt cause why leads by said stands
+    replay_by v images s p (m.need v s p t) (m.feed t) (m.asks v s p t) ks now o d q pt cause why leads by said stands

@@ -56,10 +56,10 @@ pub replay_more : (m : Meaning) (v : World) (images : ImageTable) (s : Objects) 
 replay_more m v images s p t ks more u e = more_by (m.asks v s p t) e
   where
     more_by : (ask : Option Point) →
-        elim (begin_with images s p (m.need v s p t) ask) as (λ _. Option Trace) [ None ↦ None | Some c ↦ marks_on v images p ks (first_trace c) ] ≡ Some u →
-        elim (begin_with images s p (m.need v s p t) ask) as (λ _. Option Trace) [ None ↦ None | Some c ↦ marks_on v images p (ks ++ more) (first_trace c) ] ≡ marks_on v images p more u
+        elim (begin_with images s p (m.need v s p t) (m.feed t) ask) as (λ _. Option Trace) [ None ↦ None | Some c ↦ marks_on v images p ks (first_trace c) ] ≡ Some u →
+        elim (begin_with images s p (m.need v s p t) (m.feed t) ask) as (λ _. Option Trace) [ None ↦ None | Some c ↦ marks_on v images p (ks ++ more) (first_trace c) ] ≡ marks_on v images p more u
     more_by None e = absurd (no_trace u e)
-    more_by (Some a) e = marks_more v images p ks more (first_trace (begin_at images s p (m.need v s p t) a)) u e
+    more_by (Some a) e = marks_more v images p ks more (first_trace (begin_at images s p (m.need v s p t) (m.feed t) a)) u e
 
 module _ (m : Meaning) (know : Known m) (r : Run) (sound : IsSoundKernel m r.kernel) (p : ℕ) where
   -- others' replays stay alike in the kernel after a change of p's call and its new place in the order

@@ -12,8 +12,8 @@ use Rattle.kernel_model.specs.World.{World, ImageTable}
 use Rattle.kernel_model.specs.Objects.{Objects}
 use Rattle.kernel_model.specs.Policies.{default_of}
 use Rattle.kernel_model.specs.Charges.{removed}
-use Rattle.kernel_model.specs.Meaning.{Meaning, bare_answer}
-use Rattle.kernel_model.specs.Levels.{Level, Config, Outcome, is_going_on, drop_innermost, drop_level}
+use Rattle.kernel_model.specs.Meaning.{Meaning}
+use Rattle.kernel_model.specs.Levels.{Level, Config, Outcome, is_going_on, answer_of, drop_innermost, drop_level}
 use Rattle.kernel_model.specs.GraftStep.{micro, micro_on, next_needs}
 use Rattle.kernel_model.specs.History.{Mark, Stepped, Trace, trace_after, stepped, replay, fallen}
 use Rattle.kernel_model.specs.Kernel.{Call, Run}
@@ -28,6 +28,7 @@ use Rattle.history_laws.proofs.HoldLemmas.{AllOk, NeedsOk, level_drop_ok, instru
 use Rattle.history_laws.proofs.FallenLemmas.{one_mark}
 use Rattle.history_laws.proofs.DropLemmas.{falls_replay}
 use Rattle.history_laws.proofs.MoveLemmas.{StandsAt}
+use Rattle.kernel_laws.proofs.BodyLemmas.{micro_wholly}
 use Rattle.kernel_laws.proofs.StepLemmas.{alike_disk}
 use Rattle.history_laws.proofs.StepMoveLemmas.{WhereCompleted, alike_lost, stands_on, completes, dropped_base, none_completes}
 use Rattle.history_laws.proofs.ComeLemmas.{went_accounts}
@@ -123,7 +124,7 @@ module _ (m : Meaning) (know : Known m) (r : Run) (sound : IsSoundKernel m r.ker
   pub record IsLikely (o : Outcome) : Type 0 where
     pub grafts_from : GraftsFrom r.kernel.objects.accounts o.config.now.accounts
     pub base : IsSoundStore r.kernel.world (lost_objects o.config.now r.kernel.objects)
-    pub completed : WhereCompleted m r.kernel.world r.kernel.objects p c o.config.now o.said
+    pub completed : WhereCompleted m r.kernel.world r.kernel.objects p c t.config.levels o.config.now o.said
     pub ok : AllOk (May m know r sound p) o.config.levels
     pub went : o.said ≡ Micro.Went → config_in (replay m r.kernel.world r.kernel.images r.kernel.objects p c.stage (ks ++ Stepped ∷ [])) ≡ Some o.config
     pub went_stands : o.said ≡ Micro.Went → Standing o.config
@@ -137,14 +138,14 @@ module _ (m : Meaning) (know : Known m) (r : Run) (sound : IsSoundKernel m r.ker
   outcome_sound o (Micro.Blocked object holder by_user) e h = stay_sound m know r sound p r.notes
   outcome_sound o (Micro.Completed answer) e h =
       let w = o.config.now in
-      let done = subst (WhereCompleted m r.kernel.world r.kernel.objects p c w) e h.completed in
-      finish_sound m know r sound p c w (Some (bare_answer answer)) r.notes
-      (record { standing = stands_on m know.laws p c w r stands is done.0 done.1; disk = alike_disk r.kernel.world r.kernel.objects w done.1 stands.disk; right = done.2 })
+      let done = subst (WhereCompleted m r.kernel.world r.kernel.objects p c t.config.levels w) e h.completed in
+      finish_sound m know r sound p c w (Some (answer_of answer t.config.levels)) r.notes
+      (record { standing = stands_on m know.laws p c w r stands is done.0 done.1; disk = alike_disk r.kernel.world r.kernel.objects w done.1 stands.disk; right = done.2; body = done.3 })
       (loaded_from r.kernel.images r.kernel.objects.accounts w.accounts h.grafts_from sound.state.images_loaded)
   outcome_sound o (Micro.Dropped zero q pt cause) e h =
       let w = lost_objects o.config.now r.kernel.objects in
       finish_sound m know r sound p c w None (r.notes ++ Dropped c.number q pt cause ∷ [])
-      (record { standing = stands_on m know.laws p c w r stands is h.base (alike_lost o.config.now r.kernel.objects); disk = stands.disk; right = tt })
+      (record { standing = stands_on m know.laws p c w r stands is h.base (alike_lost o.config.now r.kernel.objects); disk = stands.disk; right = tt; body = tt })
       (loaded_from r.kernel.images r.kernel.objects.accounts w.accounts h.grafts_from sound.state.images_loaded)
   outcome_sound o (Micro.Dropped (suc d) q pt cause) e h =
       marks_sound m know r sound p c (fallen t ks o.effects (suc d)) (r.notes ++ Dropped c.number q pt cause ∷ []) o.config (h.fell d q pt cause e) (h.fell_stands d q pt cause e) h.ok
@@ -189,7 +190,7 @@ module _ (m : Meaning) (know : Known m) (r : Run) (sound : IsSoundKernel m r.ker
       record {
         grafts_from = went_accounts v r.kernel.images p s.accounts t.config.now t.config.levels x.grafts_from;
         base = after.0.works.0.store;
-        completed = completes m know.laws p c x.point o o.said r stands is x.asked after.0 after.1;
+        completed = completes m know.laws p c x.point t.config.levels o o.said r stands is x.asked after.0 after.1 (micro_wholly v r.kernel.images p t.config);
         ok = instruction_ok (May m know r sound p) (may_hold m know.laws know.histories r.kernel sound p) v r.kernel.images p t.config.now t.config.levels own_levels_ok
             (subst (NeedsOk (May m know r sound p)) needed (unblocked_ok m know.laws know.histories r.kernel sound p free));
         went = λ e. ap config_in (replay_more m v r.kernel.images s p c.stage ks (Stepped ∷ []) t leads ∙ one_mark v r.kernel.images p Stepped t ∙ stepped_on o e);
@@ -227,7 +228,7 @@ module _ (m : Meaning) (know : Known m) (r : Run) (sound : IsSoundKernel m r.ker
       record {
         grafts_from = subst (GraftsFrom s.accounts) (sym f.accounts) (removed_from s.accounts t.config.now.accounts f.level.owner f.level.point x.grafts_from);
         base = dropped_base m know.laws know.instructions know.histories know.effects v t.config.now t.config.levels d cause s.things works.works.0.store;
-        completed = none_completes m know.laws know.instructions know.histories know.effects v t.config.now s o.config.now p c t.config.levels d cause;
+        completed = none_completes m know.laws know.instructions know.histories know.effects v t.config.now s o.config.now p c t.config.levels t.config.levels d cause;
         ok = level_drop_ok (May m know r sound p) (may_hold m know.laws know.histories r.kernel sound p) v t.config.now t.config.levels d cause own_levels_ok;
         went = λ e. absurd (not_went d f.level.owner f.level.point cause (sym e ∙ f.said));
         went_stands = λ e. absurd (not_went d f.level.owner f.level.point cause (sym e ∙ f.said));

@@ -10,8 +10,8 @@ use Rattle.kernel_model.specs.declared.Object.TheVariants.{Graft}
 use Rattle.kernel_model.specs.declared.Point.{Point}
 use Rattle.kernel_model.specs.Objects.{GraftValue}
 use Rattle.kernel_model.specs.Locks.{is_held}
-use Rattle.kernel_model.specs.Meaning.{Meaning, bare_answer}
-use Rattle.kernel_model.specs.Levels.{Level, Config, Outcome, touched_at, drop_level}
+use Rattle.kernel_model.specs.Meaning.{Meaning}
+use Rattle.kernel_model.specs.Levels.{Level, Config, Outcome, touched_at, answer_of, drop_level}
 use Rattle.kernel_model.specs.GraftStep.{micro}
 use Rattle.kernel_model.specs.History.{Mark, Stepped, Trace, begin_at, begin_with, first_trace, replay, fallen}
 use Rattle.kernel_model.specs.Kernel.{Call, Run, requeue}
@@ -120,16 +120,16 @@ module _ (m : Meaning) (know : Known m) (r : Run) (sound : IsSoundKernel m r.ker
     outcome_pays o (Micro.Blocked object holder by_user) e h paid steady = same_most (note_count is_drop r.notes + drops_left m r.kernel)
     outcome_pays o (Micro.Completed answer) e h paid steady =
         let w = o.config.now in
-        let done = subst (WhereCompleted m r.kernel.world r.kernel.objects p c w) e h.completed in
-        finish_pays m know.laws know.histories r sound p c is w (Some (bare_answer answer))
-        (record { standing = stands_on m know.laws p c w r here is done.0 done.1; disk = alike_disk r.kernel.world r.kernel.objects w done.1 here.disk; right = done.2 })
+        let done = subst (WhereCompleted m r.kernel.world r.kernel.objects p c t.config.levels w) e h.completed in
+        finish_pays m know.laws know.histories r sound p c is w (Some (answer_of answer t.config.levels))
+        (record { standing = stands_on m know.laws p c w r here is done.0 done.1; disk = alike_disk r.kernel.world r.kernel.objects w done.1 here.disk; right = done.2; body = done.3 })
         h.grafts_from (own_from o paid) r.notes steady refl
     outcome_pays o (Micro.Dropped zero q pt cause) e h paid steady =
         let w = lost_objects o.config.now r.kernel.objects in
         let f = paid.fell 0 q pt cause e in
         let low = level_low f.0 f.1 in
         finish_pays_drop m know.laws know.histories r sound p c is w None
-        (record { standing = stands_on m know.laws p c w r here is h.base (alike_lost o.config.now r.kernel.objects); disk = here.disk; right = tt })
+        (record { standing = stands_on m know.laws p c w r here is h.base (alike_lost o.config.now r.kernel.objects); disk = here.disk; right = tt; body = tt })
         h.grafts_from (own_from o paid) (r.notes ++ Dropped c.number q pt cause ∷ []) steady q pt f.4
         (ap (λ i. stands_for_all m r.kernel i pt) f.2 ∙ ap (λ i. stands_for_all m r.kernel f.0.owner i) f.3 ∙ level_stood f.0 f.1) (subst (λ i. i < 16) (sym f.2) low.0)
         (subst (λ i. i < 16) (sym f.3) low.1) (one_drop c.number q pt cause)
@@ -188,14 +188,14 @@ module _ (m : Meaning) (know : Known m) (r : Run) (sound : IsSoundKernel m r.ker
       default_pays : Steady (finish_on m p c r.kernel.objects None r) → PaysFor (finish_on m p c r.kernel.objects None r)
       default_pays steady =
           finish_pays m know.laws know.histories r sound p c is r.kernel.objects None
-          (record { standing = stands_on m know.laws p c r.kernel.objects r here is sound.state.store (alike_self r.kernel.objects); disk = sound.state.disk; right = tt })
+          (record { standing = stands_on m know.laws p c r.kernel.objects r here is sound.state.store (alike_self r.kernel.objects); disk = sound.state.disk; right = tt; body = tt })
           (λ q pt. graft_self (r.kernel.objects.accounts.graft q pt)) (λ q pt h. own q pt (is_some (r.kernel.objects.accounts.graft q pt)) h) r.notes steady refl
 
       by_graft : (a : Point) (g : Option GraftValue) → m.asks r.kernel.world r.kernel.objects p c.stage ≡ Some a → Steady (piece_at m p c g r) → PaysFor (piece_at m p c g r)
       by_graft a None asked steady = default_pays steady
       by_graft a (Some g) asked steady =
-          marks_pays m know.laws know.histories r sound p c is [] (begin_at r.kernel.images r.kernel.objects p (m.need r.kernel.world r.kernel.objects p c.stage) a)
-          (ap (λ x. config_in (elim (begin_with r.kernel.images r.kernel.objects p (m.need r.kernel.world r.kernel.objects p c.stage) x) as (λ _. Option Trace) [ None ↦ None | Some y ↦ Some (first_trace y) ])) asked)
+          marks_pays m know.laws know.histories r sound p c is [] (begin_at r.kernel.images r.kernel.objects p (m.need r.kernel.world r.kernel.objects p c.stage) (m.feed c.stage) a)
+          (ap (λ x. config_in (elim (begin_with r.kernel.images r.kernel.objects p (m.need r.kernel.world r.kernel.objects p c.stage) (m.feed c.stage) x) as (λ _. Option Trace) [ None ↦ None | Some y ↦ Some (first_trace y) ])) asked)
           (λ q pt h. own q pt (is_some (r.kernel.objects.accounts.graft q pt)) h)
 
       by_ask : (ask : Option Point) → m.asks r.kernel.world r.kernel.objects p c.stage ≡ ask → Steady (piece_step m p c ask r) → PaysFor (piece_step m p c ask r)

@@ -246,7 +246,7 @@ module _ (v : World) where
         none_some : 1 ≤ 0 → ⊥
         none_some h = omega arith
     answered_shape w q pt (k ∷ ks) (Some g) h held other room =
-        new_shape q (new_level images w p (length (k ∷ ks)) q pt (args_by (kind_of pt) v w.things q pt) untouched) k ks h refl refl held other (one_more (length (k ∷ ks)) h.most room)
+        new_shape q (new_level images w p (length (k ∷ ks)) q pt (args_by (kind_of pt) v w.things q pt) [] untouched) k ks h refl refl held other (one_more (length (k ∷ ks)) h.most room)
       where
         one_more : (n : ℕ) → n ≤ 4 → (n == 4) ≡ false → suc n ≤ 4
         one_more n h room = grind (arith, nat_tests)

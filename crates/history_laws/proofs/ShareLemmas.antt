@@ -10,8 +10,8 @@ use Rattle.kernel_model.specs.declared.Object.{Object}
 use Rattle.kernel_model.specs.declared.Point.{Point}
 use Rattle.kernel_model.specs.World.{World, ImageTable}
 use Rattle.kernel_model.specs.Objects.{Objects, GraftValue}
-use Rattle.kernel_model.specs.Meaning.{Meaning, After, Continues, EndsWith, Fails, Answer, bare_answer}
-use Rattle.kernel_model.specs.Levels.{Level, Config, Outcome, drop_level}
+use Rattle.kernel_model.specs.Meaning.{Meaning, After, Continues, EndsWith, Fails, Answer}
+use Rattle.kernel_model.specs.Levels.{Level, Config, Outcome, answer_of, drop_level}
 use Rattle.kernel_model.specs.GraftStep.{micro, micro_on}
 use Rattle.kernel_model.specs.History.{Mark, Stepped, Trace, begin_at, begin_with, first_trace, replay, fallen}
 use Rattle.kernel_model.specs.Kernel.{Call, Kernel, Run, has_level, call_after, with_marks, requeue}
@@ -176,10 +176,10 @@ module _ (m : Meaning) (know : Known m) (r : Run) (sound : IsSoundKernel m r.ker
         within x a b n e h = omega arith
     outcome_share o (Micro.Completed answer) most e h went fell stay =
         let w = o.config.now in
-        let done = subst (WhereCompleted m r.kernel.world r.kernel.objects p c w) e h.completed in
-        more (suc (own_share m p (finish_on m p c w (Some (bare_answer answer)) r))) left_now most
-        (finish_share w (Some (bare_answer answer)) r.notes
-        (record { standing = stands_on m know.laws p c w r here is done.0 done.1; disk = alike_disk r.kernel.world r.kernel.objects w done.1 here.disk; right = done.2 }) done.1)
+        let done = subst (WhereCompleted m r.kernel.world r.kernel.objects p c t.config.levels w) e h.completed in
+        more (suc (own_share m p (finish_on m p c w (Some (answer_of answer t.config.levels)) r))) left_now most
+        (finish_share w (Some (answer_of answer t.config.levels)) r.notes
+        (record { standing = stands_on m know.laws p c w r here is done.0 done.1; disk = alike_disk r.kernel.world r.kernel.objects w done.1 here.disk; right = done.2; body = done.3 }) done.1)
       where
         more : (x a n : ℕ) → x ≤ a → x ≤ a + n
         more x a n h = omega arith
@@ -188,7 +188,7 @@ module _ (m : Meaning) (know : Known m) (r : Run) (sound : IsSoundKernel m r.ker
         let ns = r.notes ++ Dropped c.number q pt cause ∷ [] in
         more (suc (own_share m p (finish_on m p c w None (record r { notes = ns })))) left_now most
         (finish_share w None ns
-        (record { standing = stands_on m know.laws p c w r here is h.base (alike_lost o.config.now r.kernel.objects); disk = here.disk; right = tt }) (alike_lost o.config.now r.kernel.objects))
+        (record { standing = stands_on m know.laws p c w r here is h.base (alike_lost o.config.now r.kernel.objects); disk = here.disk; right = tt; body = tt }) (alike_lost o.config.now r.kernel.objects))
       where
         more : (x a n : ℕ) → x ≤ a → x ≤ a + n
         more x a n h = omega arith
@@ -279,7 +279,7 @@ module _ (m : Meaning) (know : Known m) (r : Run) (sound : IsSoundKernel m r.ker
     piece_default : suc (own_share m p (finish_on m p c r.kernel.objects None r)) ≤ left_now
     piece_default =
         finish_share r.kernel.objects None r.notes
-        (record { standing = stands_on m know.laws p c r.kernel.objects r here is sound.state.store (alike_self r.kernel.objects); disk = sound.state.disk; right = tt }) (alike_self r.kernel.objects)
+        (record { standing = stands_on m know.laws p c r.kernel.objects r here is sound.state.store (alike_self r.kernel.objects); disk = sound.state.disk; right = tt; body = tt }) (alike_self r.kernel.objects)
 
     -- a piece leaves no more than the pieces that were left
     pub piece_share : own_share m p (piece_step m p c (m.asks r.kernel.world r.kernel.objects p c.stage) r) ≤ left_now
@@ -295,8 +295,8 @@ module _ (m : Meaning) (know : Known m) (r : Run) (sound : IsSoundKernel m r.ker
         by_graft a None asked = one_less (own_share m p (finish_on m p c r.kernel.objects None r)) left_now piece_default
         by_graft a (Some g) asked =
             same_most (own_share m p (with_marks p c [] r)) left_now
-            (marks_share [] r.notes (begin_at r.kernel.images r.kernel.objects p (m.need r.kernel.world r.kernel.objects p c.stage) a)
-            (ap (λ ask. config_in (elim (begin_with r.kernel.images r.kernel.objects p (m.need r.kernel.world r.kernel.objects p c.stage) ask) as (λ _. Option Trace) [ None ↦ None | Some x ↦ Some (first_trace x) ])) asked))
+            (marks_share [] r.notes (begin_at r.kernel.images r.kernel.objects p (m.need r.kernel.world r.kernel.objects p c.stage) (m.feed c.stage) a)
+            (ap (λ ask. config_in (elim (begin_with r.kernel.images r.kernel.objects p (m.need r.kernel.world r.kernel.objects p c.stage) (m.feed c.stage) ask) as (λ _. Option Trace) [ None ↦ None | Some x ↦ Some (first_trace x) ])) asked))
 
         by_ask : (ask : Option Point) → m.asks r.kernel.world r.kernel.objects p c.stage ≡ ask → own_share m p (piece_step m p c ask r) ≤ left_now
         by_ask None asked = one_less (own_share m p (finish_on m p c r.kernel.objects None r)) left_now piece_default

@@ -36,7 +36,7 @@ module _ (m : Meaning) (know : Known m) where
     default_sound : StaysSound m know r sound p (finish_on m p c r.kernel.objects None r)
     default_sound =
         finish_sound m know r sound p c r.kernel.objects None r.notes
-        (record { standing = stands_on m know.laws p c r.kernel.objects r here is sound.state.store (alike_self r.kernel.objects); disk = sound.state.disk; right = tt })
+        (record { standing = stands_on m know.laws p c r.kernel.objects r here is sound.state.store (alike_self r.kernel.objects); disk = sound.state.disk; right = tt; body = tt })
         sound.state.images_loaded
 
     module _ (free : blocker m r.kernel p ≡ None) where
@@ -46,11 +46,11 @@ module _ (m : Meaning) (know : Known m) where
       begins_sound a g marked asked stands =
           let v = r.kernel.world in
           let s = r.kernel.objects in
-          let f = begin_at r.kernel.images s p (m.need v s p c.stage) a in
+          let f = begin_at r.kernel.images s p (m.need v s p c.stage) (m.feed c.stage) a in
           let needed : needs m r.kernel p ≡ m.need v s p c.stage =
           ap (needs_in m r.kernel p) is ∙ ap (λ (y : Option (List Mark)). elim y as (λ _. List Need) [ None ↦ m.need v s p c.stage | Some z ↦ needs_of z ]) marked in
           marks_sound m know r sound p c [] r.notes f
-          (ap (λ ask. config_in (elim (begin_with r.kernel.images s p (m.need v s p c.stage) ask) as (λ _. Option Trace) [ None ↦ None | Some x ↦ Some (first_trace x) ])) asked)
+          (ap (λ ask. config_in (elim (begin_with r.kernel.images s p (m.need v s p c.stage) (m.feed c.stage) ask) as (λ _. Option Trace) [ None ↦ None | Some x ↦ Some (first_trace x) ])) asked)
           (ap is_some stands, tt) (
             touch_all_ok (May m know r sound p) (may_hold m know.laws know.histories r.kernel sound p) (m.need v s p c.stage) untouched
                 ((may_hold m know.laws know.histories r.kernel sound p).free)

@@ -11,8 +11,8 @@ use Rattle.kernel_model.specs.World.{World}
 use Rattle.kernel_model.specs.Objects.{Objects, Things, GraftValue, with_accounts}
 use Rattle.kernel_model.specs.Machine.{first_machine}
 use Rattle.kernel_model.specs.Charges.{removed, removed_by}
-use Rattle.kernel_model.specs.Meaning.{Meaning, bare_answer}
-use Rattle.kernel_model.specs.Levels.{Level, Config, Removed, Outcome, drop_innermost, drop_level}
+use Rattle.kernel_model.specs.Meaning.{Meaning, Answer, HasWholeBody, registers_of}
+use Rattle.kernel_model.specs.Levels.{Level, Config, Removed, Outcome, answer_of, drop_innermost, drop_level}
 use Rattle.kernel_model.specs.GraftStep.{micro}
 use Rattle.kernel_model.specs.History.{Mark, Stepped, Trace, config_if, effect, fallen, replay}
 use Rattle.kernel_model.specs.Kernel.{Call, Run, has_level, with_marks}
@@ -23,6 +23,7 @@ use Rattle.kernel_model.specs.Alike.{AreAlike}
 use Rattle.kernel_model.specs.Laws.{Laws, IsStanding, IsRightAnswer}
 use Rattle.kernel_model.specs.Claims.{EffectsStaySound}
 use Rattle.kernel_laws.specs.Soundness.{WorksOn, AnswersRightly, ReplayWorks, InstructionsWork, HistoriesWork}
+use Rattle.kernel_laws.proofs.BodyLemmas.{AnswersWholly, answer_right, micro_wholly}
 use Rattle.kernel_laws.proofs.StepLemmas.{niceless_lives, alike_disk, right_answer}
 use Rattle.history_laws.proofs.MoveLemmas.{ArePartOf, no_part, StandsAt, Moves, alike_self, marks_move, stays, finish_moves}
 
@@ -60,9 +61,11 @@ pub alike_lost : (w s : Objects) → AreAlike s (lost_objects w s)
 alike_lost w s = record { files = λ p fd. refl; queue = refl; handlers = refl; lru = refl; frames = λ f. refl; locks = λ l. refl; policies = λ kind. refl }
 
 -- where a call completed, its working state is sound and alike, and its answer a right one
-abbrev pub WhereCompleted : (m : Meaning) (v : World) (s : Objects) (p : ℕ) (c : Call) (w : Objects) → Micro → Type 0
-WhereCompleted m v s p c w (Micro.Completed answer) = IsSoundStore v w × AreAlike s w × IsRightAnswer w (m.asks v w p c.stage) (Some answer)
-WhereCompleted m v s p c w said = ⊤
+abbrev pub WhereCompleted : (m : Meaning) (v : World) (s : Objects) (p : ℕ) (c : Call) (ls : List Level) (w : Objects) → Micro → Type 0
+WhereCompleted m v s p c ls w (Micro.Completed answer) =
+    let whole : Option Answer = Some (answer_of answer ls) in
+    IsSoundStore v w × AreAlike s w × IsRightAnswer w (m.asks v w p c.stage) (registers_of whole) × HasWholeBody whole
+WhereCompleted m v s p c ls w said = ⊤
 
 module _ (m : Meaning) (laws : Laws m) where
   -- ---- steps
@@ -87,7 +90,7 @@ module _ (m : Meaning) (laws : Laws m) where
   default_moves p c r h e =
       plain_run p r (finish_on m p c r.kernel.objects None)
       (finish_moves m laws p c r.kernel.objects None r [] h e (no_part (once_if (has_level (r.kernel.call p))))
-      (record { standing = stands_on p c r.kernel.objects r h e h.store (alike_self r.kernel.objects); disk = h.disk; right = tt }) (alike_self r.kernel.objects))
+      (record { standing = stands_on p c r.kernel.objects r h e h.store (alike_self r.kernel.objects); disk = h.disk; right = tt; body = tt }) (alike_self r.kernel.objects))
 
   marks_moves : (p : ℕ) (c : Call) (ks : List Mark) (r : Run) → StandsAt m r → r.kernel.call p ≡ Some c → Moves m p r (with_marks p c ks r)
   marks_moves p c ks r h e = plain_run p r (with_marks p c ks) (marks_move m laws p c ks r [] h e (no_part (once_if (has_level (r.kernel.call p)))))
@@ -117,36 +120,38 @@ module _ (m : Meaning) (laws : Laws m) where
 
   -- an outcome
   pub outcome_moves : (p : ℕ) (c : Call) (t : Trace) (ks : List Mark) (o : Outcome) (said : Micro) (r : Run) → StandsAt m r → r.kernel.call p ≡ Some c → c.marks ≡ Some ks →
-      IsSoundStore r.kernel.world (lost_objects o.config.now r.kernel.objects) → WhereCompleted m r.kernel.world r.kernel.objects p c o.config.now said →
+      IsSoundStore r.kernel.world (lost_objects o.config.now r.kernel.objects) → WhereCompleted m r.kernel.world r.kernel.objects p c t.config.levels o.config.now said →
       Moves m p r (after_outcome m p c t ks o said r)
   outcome_moves p c t ks o Micro.Went r h e marked base completed = marks_moves p c (ks ++ Stepped ∷ []) r h e
   outcome_moves p c t ks o (Micro.Blocked object holder by_user) r h e marked base completed = stays m laws p c r h e
   outcome_moves p c t ks o (Micro.Completed answer) r h e marked base completed =
       let w = o.config.now in
-      plain_run p r (finish_on m p c w (Some (bare_answer answer)))
-      (finish_moves m laws p c w (Some (bare_answer answer)) r [] h e (no_part (once_if (has_level (r.kernel.call p))))
+      plain_run p r (finish_on m p c w (Some (answer_of answer t.config.levels)))
+      (finish_moves m laws p c w (Some (answer_of answer t.config.levels)) r [] h e (no_part (once_if (has_level (r.kernel.call p))))
       (record {
         standing = stands_on p c w r h e completed.0 completed.1;
         disk = alike_disk r.kernel.world r.kernel.objects w completed.1 h.disk;
         right = completed.2;
+        body = completed.3;
       }) completed.1)
   outcome_moves p c t ks o (Micro.Dropped zero q pt cause) r h e marked base completed =
       let w = lost_objects o.config.now r.kernel.objects in
       finish_moves m laws p c w None r (Dropped c.number q pt cause ∷ []) h e (drop_part p c ks c.number q pt cause r e marked)
-      (record { standing = stands_on p c w r h e base (alike_lost o.config.now r.kernel.objects); disk = h.disk; right = tt }) (alike_lost o.config.now r.kernel.objects)
+      (record { standing = stands_on p c w r h e base (alike_lost o.config.now r.kernel.objects); disk = h.disk; right = tt; body = tt }) (alike_lost o.config.now r.kernel.objects)
   outcome_moves p c t ks o (Micro.Dropped (suc d) q pt cause) r h e marked base completed =
       marks_move m laws p c (fallen t ks o.effects (suc d)) r (Dropped c.number q pt cause ∷ []) h e (drop_part p c ks c.number q pt cause r e marked)
 
   -- what a right answer of an instruction is to the call
-  pub completes : (p : ℕ) (c : Call) (a : Point) (o : Outcome) (said : Micro) (r : Run) → StandsAt m r → r.kernel.call p ≡ Some c →
+  pub completes : (p : ℕ) (c : Call) (a : Point) (ls : List Level) (o : Outcome) (said : Micro) (r : Run) → StandsAt m r → r.kernel.call p ≡ Some c →
       m.asks r.kernel.world r.kernel.objects p c.stage ≡ Some a → WorksOn r.kernel.world r.kernel.objects a o.config → AnswersRightly a o.config.now.things said →
-      WhereCompleted m r.kernel.world r.kernel.objects p c o.config.now said
-  completes p c a o Micro.Went r h e asked works right = tt
-  completes p c a o (Micro.Blocked object holder by_user) r h e asked works right = tt
-  completes p c a o (Micro.Dropped d q pt cause) r h e asked works right = tt
-  completes p c a o (Micro.Completed answer) r h e asked works right =
+      AnswersWholly ls said → WhereCompleted m r.kernel.world r.kernel.objects p c ls o.config.now said
+  completes p c a ls o Micro.Went r h e asked works right whole = tt
+  completes p c a ls o (Micro.Blocked object holder by_user) r h e asked works right whole = tt
+  completes p c a ls o (Micro.Dropped d q pt cause) r h e asked works right whole = tt
+  completes p c a ls o (Micro.Completed answer) r h e asked works right whole =
       let now = works.works.1.0 in
-      (now.store, now.alike, right_answer m laws r.kernel.world r.kernel.objects o.config.now p c.stage a answer (h.fit p c e) now.alike asked right)
+      let registers = right_answer m laws r.kernel.world r.kernel.objects o.config.now p c.stage a answer (h.fit p c e) now.alike asked right in
+      (now.store, now.alike, answer_right o.config.now (m.asks r.kernel.world o.config.now p c.stage) answer ls registers, whole)
 
   module _ (instructions : InstructionsWork) (histories : HistoriesWork m) where
     graft_moves : (p : ℕ) (c : Call) (ks : List Mark) (x : Option Trace) (ask : Option Point) (r : Run) → StandsAt m r → r.kernel.call p ≡ Some c →
@@ -157,7 +162,7 @@ module _ (m : Meaning) (laws : Laws m) where
     graft_moves p c ks (Some t) (Some a) r h e marked asked works =
         let o = micro r.kernel.world r.kernel.images p t.config in
         let k = instructions r.kernel.world r.kernel.images p r.kernel.objects a t.config works in
-        outcome_moves p c t ks o o.said r h e marked k.0.works.0.store (completes p c a o o.said r h e asked k.0 k.1)
+        outcome_moves p c t ks o o.said r h e marked k.0.works.0.store (completes p c a t.config.levels o o.said r h e asked k.0 k.1 (micro_wholly r.kernel.world r.kernel.images p t.config))
 
     -- where the history of a call leads
     trace_works : (p : ℕ) (c : Call) (ks : List Mark) (r : Run) → StandsAt m r → c.marks ≡ Some ks →
@@ -194,12 +199,12 @@ module _ (m : Meaning) (laws : Laws m) where
           base_by false further = further
 
       -- nothing completes by a drop
-      pub none_completes : (v : World) (w s u : Objects) (p : ℕ) (c : Call) (ls : List Level) (d : ℕ) (cause : Cause) → WhereCompleted m v s p c u (drop_level v w ls d cause).said
-      none_completes v w s u p c [] d cause = tt
-      none_completes v w s u p c (l ∷ ls) d cause = none_by (length ls == d) (none_completes v w s u p c ls d cause)
+      pub none_completes : (v : World) (w s u : Objects) (p : ℕ) (c : Call) (xs ls : List Level) (d : ℕ) (cause : Cause) → WhereCompleted m v s p c xs u (drop_level v w ls d cause).said
+      none_completes v w s u p c xs [] d cause = tt
+      none_completes v w s u p c xs (l ∷ ls) d cause = none_by (length ls == d) (none_completes v w s u p c xs ls d cause)
         where
-          none_by : (b : Bool) → WhereCompleted m v s p c u (drop_level v w ls d cause).said →
-              WhereCompleted m v s p c u (elim b as (λ _. Outcome) [ true ↦ drop_innermost v w l ls cause | false ↦ drop_level v w ls d cause ]).said
+          none_by : (b : Bool) → WhereCompleted m v s p c xs u (drop_level v w ls d cause).said →
+              WhereCompleted m v s p c xs u (elim b as (λ _. Outcome) [ true ↦ drop_innermost v w l ls cause | false ↦ drop_level v w ls d cause ]).said
           none_by true further = tt
           none_by false further = further
 
@@ -219,4 +224,4 @@ module _ (m : Meaning) (laws : Laws m) where
           let works = subst (ReplayWorks v s (m.asks v s p c.stage)) is (trace_works p c ks r h marked) in
           outcome_moves p c t ks o o.said r h e marked
           (dropped_base v t.config.now t.config.levels d cause s.things (base_of r (m.asks v s p c.stage) t works))
-          (none_completes v t.config.now s o.config.now p c t.config.levels d cause)
+          (none_completes v t.config.now s o.config.now p c t.config.levels t.config.levels d cause)

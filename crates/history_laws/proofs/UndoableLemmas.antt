@@ -75,12 +75,12 @@ module _ (undoes : InversesUndo) (own : ChangesAreOfOneObject) (v : World) (imag
       at_most_once false = omega arith
 
   -- by the point that is asked
-  begun_undoable : (s : Objects) (base : List Need) (ask : Option Point) (ks : List Mark) (u : Trace) → IsSoundStore v s →
-      elim (begin_with images s p base ask) as (λ _. Option Trace) [ None ↦ None | Some c ↦ marks_on v images p ks (first_trace c) ] ≡ Some u → Undoable u.config
-  begun_undoable s base None ks u h e = absurd (no_trace u e)
-  begun_undoable s base (Some a) ks u h e =
-      marks_undoable ks (first_trace (begin_at images s p base a)) u (record { found = (refl, tt, tt); once = sound_once s h }) e
+  begun_undoable : (s : Objects) (base : List Need) (feed : List ℕ) (ask : Option Point) (ks : List Mark) (u : Trace) → IsSoundStore v s →
+      elim (begin_with images s p base feed ask) as (λ _. Option Trace) [ None ↦ None | Some c ↦ marks_on v images p ks (first_trace c) ] ≡ Some u → Undoable u.config
+  begun_undoable s base feed None ks u h e = absurd (no_trace u e)
+  begun_undoable s base feed (Some a) ks u h e =
+      marks_undoable ks (first_trace (begin_at images s p base feed a)) u (record { found = (refl, tt, tt); once = sound_once s h }) e
 
   -- wherever a history leads from a sound store, the call can be undone
   pub replay_undoable : (m : Meaning) (s : Objects) (t : Stage) (ks : List Mark) (u : Trace) → IsSoundStore v s → replay m v images s p t ks ≡ Some u → Undoable u.config
-  replay_undoable m s t ks u h e = begun_undoable s (m.need v s p t) (m.asks v s p t) ks u h e
+  replay_undoable m s t ks u h e = begun_undoable s (m.need v s p t) (m.feed t) (m.asks v s p t) ks u h e

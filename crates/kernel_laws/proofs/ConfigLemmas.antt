@@ -287,7 +287,7 @@ module _ (v : World) (images : ImageTable) (p : ℕ) where
       let d = default_of v w.things q pt in
       held_on w (answer_innermost pt d.0 d.1 ks) ks (keep_answer pt d.0 d.1 ks) h
   answered_held w q pt ks (Some g) e some h graft acct other room =
-      new_held w (new_level images w p (length ks) q pt (args_by (kind_of pt) v w.things q pt) untouched) ks some h refl refl (ap is_some e) graft acct other
+      new_held w (new_level images w p (length ks) q pt (args_by (kind_of pt) v w.things q pt) [] untouched) ks some h refl refl (ap is_some e) graft acct other
       (one_more (length ks) h.most room)
     where
       one_more : (n : ℕ) → n ≤ 4 → (n == 4) ≡ false → suc n ≤ 4

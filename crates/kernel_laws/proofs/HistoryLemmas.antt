@@ -134,11 +134,11 @@ own_work v s h =
     }
 
 -- by the point that is asked
-replay_by : (v : World) (images : ImageTable) (s : Objects) (p : ℕ) (ks : List Mark) (base : List Need) (ask : Option Point) → IsSoundStore v s →
-    ReplayWorks v s ask (elim (begin_with images s p base ask) as (λ _. Option Trace) [ None ↦ None | Some c ↦ marks_on v images p ks (first_trace c) ])
-replay_by v images s p ks base None h = tt
-replay_by v images s p ks base (Some a) h =
-    let c = begin_at images s p base a in
+replay_by : (v : World) (images : ImageTable) (s : Objects) (p : ℕ) (ks : List Mark) (base : List Need) (feed : List ℕ) (ask : Option Point) → IsSoundStore v s →
+    ReplayWorks v s ask (elim (begin_with images s p base feed ask) as (λ _. Option Trace) [ None ↦ None | Some c ↦ marks_on v images p ks (first_trace c) ])
+replay_by v images s p ks base feed None h = tt
+replay_by v images s p ks base feed (Some a) h =
+    let c = begin_at images s p base feed a in
     let own = own_work v s h in
     asked_works (marks_on v images p ks (first_trace c))
     (marks_work v images p s a ks (first_trace c) (record { works = (own, (own, (own, tt))); asked = (refl, refl, refl) }))
@@ -149,4 +149,4 @@ replay_by v images s p ks base (Some a) h =
 
 -- wherever a history leads, the graft call works on the state
 pub histories_work : (m : Meaning) → HistoriesWork m
-histories_work m v images s p t ks h = replay_by v images s p ks (m.need v s p t) (m.asks v s p t) h
+histories_work m v images s p t ks h = replay_by v images s p ks (m.need v s p t) (m.feed t) (m.asks v s p t) h

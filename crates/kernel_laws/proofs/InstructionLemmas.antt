@@ -186,7 +186,7 @@ module _ (v : World) (s : Objects) (a : Point) where
   answered_work images w p q pt ls (Some g) some h = (
     record {
       works = (h.works.0, (h.works.1.0, (h.works.1.0, h.works.1.1)));
-      asked = asked_inside a (new_level images w p (length ls) q pt (args_by (kind_of pt) v w.things q pt) untouched) ls some h.asked;
+      asked = asked_inside a (new_level images w p (length ls) q pt (args_by (kind_of pt) v w.things q pt) [] untouched) ls some h.asked;
     },
     tt,
   )

@@ -1,5 +1,6 @@
 pub mod AccessLemmas
 pub mod AmountLemmas
+pub mod BodyLemmas
 pub mod ClockLemmas
 pub mod ConfigLemmas
 pub mod FrameLemmas

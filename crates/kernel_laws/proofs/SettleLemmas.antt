@@ -15,8 +15,8 @@ use Rattle.kernel_model.specs.Objects.{Objects, GraftValue}
 use Rattle.kernel_model.specs.SameObject.{same_object_is}
 use Rattle.kernel_model.specs.Objects.{same_object}
 use Rattle.kernel_model.specs.Policies.{lives}
-use Rattle.kernel_model.specs.Meaning.{Meaning, After, Continues, EndsWith, Fails, Answer, bare_answer}
-use Rattle.kernel_model.specs.Levels.{Outcome}
+use Rattle.kernel_model.specs.Meaning.{Meaning, After, Continues, EndsWith, Fails, Answer}
+use Rattle.kernel_model.specs.Levels.{Outcome, answer_of}
 use Rattle.kernel_model.specs.Locks.{LockTable}
 use Rattle.kernel_model.specs.GraftStep.{micro}
 use Rattle.kernel_model.specs.History.{Mark, Stepped, Trace, fallen, replay}
@@ -31,6 +31,7 @@ use Rattle.plain_rules.specs.Ledgers.{at_here, at_other, sum_one}
 use Rattle.kernel_laws.specs.Rest.{SettlesToRest}
 use Rattle.kernel_laws.specs.Soundness.{WorksOn, AnswersRightly, ReplayWorks}
 use Rattle.kernel_laws.proofs.InstructionLemmas.{instructions_work}
+use Rattle.kernel_laws.proofs.BodyLemmas.{AnswersWholly, answer_right, micro_wholly}
 use Rattle.kernel_laws.proofs.HistoryLemmas.{histories_work}
 use Rattle.kernel_laws.proofs.StepLemmas.{niceless_lives, alike_disk, right_answer, others_files}
 
@@ -177,7 +178,7 @@ module _ (m : Meaning) (laws : Laws m) where
       HasStepped m p (m.left r.kernel.world r.kernel.objects p c.stage) r (finish_on m p c r.kernel.objects None r)
   default_after p c r h e =
       finish_after p c r.kernel.objects None r h
-      (record { standing = stands_on p c r.kernel.objects r h e h.store (alike_self r.kernel.objects); disk = h.disk; right = tt }) (alike_self r.kernel.objects)
+      (record { standing = stands_on p c r.kernel.objects r h e h.store (alike_self r.kernel.objects); disk = h.disk; right = tt; body = tt }) (alike_self r.kernel.objects)
 
   piece_at_after : (p : ℕ) (c : Call) (g : Option GraftValue) (r : Run) → GoesOn m r → r.kernel.call p ≡ Some c →
       HasStepped m p (m.left r.kernel.world r.kernel.objects p c.stage) r (piece_at m p c g r)
@@ -208,27 +209,29 @@ module _ (m : Meaning) (laws : Laws m) where
   -- an instruction's outcome
   outcome_after : (p : ℕ) (c : Call) (a : Point) (t : Trace) (ks : List Mark) (o : Outcome) (said : Micro) (r : Run) → GoesOn m r → r.kernel.call p ≡ Some c →
       c.marks ≡ Some ks → m.asks r.kernel.world r.kernel.objects p c.stage ≡ Some a → WorksOn r.kernel.world r.kernel.objects a o.config →
-      AnswersRightly a o.config.now.things said →
+      AnswersRightly a o.config.now.things said → AnswersWholly t.config.levels said →
       HasStepped m p (m.left r.kernel.world r.kernel.objects p c.stage) r (after_outcome m p c t ks o said r)
-  outcome_after p c a t ks o Micro.Went r h e marked asked works right = marks_after p (m.left r.kernel.world r.kernel.objects p c.stage) c (ks ++ Stepped ∷ []) r h e
-  outcome_after p c a t ks o (Micro.Blocked object holder by_user) r h e marked asked works right =
+  outcome_after p c a t ks o Micro.Went r h e marked asked works right whole = marks_after p (m.left r.kernel.world r.kernel.objects p c.stage) c (ks ++ Stepped ∷ []) r h e
+  outcome_after p c a t ks o (Micro.Blocked object holder by_user) r h e marked asked works right whole =
       stays p (m.left r.kernel.world r.kernel.objects p c.stage) c r h e (ap (λ (x : Option (List Mark)). elim x as (λ _. Bool) [ None ↦ true | Some y ↦ false ]) marked)
-  outcome_after p c a t ks o (Micro.Completed answer) r h e marked asked works right =
+  outcome_after p c a t ks o (Micro.Completed answer) r h e marked asked works right whole =
       let now = works.works.1.0 in
-      finish_after p c o.config.now (Some (bare_answer answer)) r h
+      finish_after p c o.config.now (Some (answer_of answer t.config.levels)) r h
       (record {
         standing = stands_on p c o.config.now r h e now.store now.alike;
         disk = alike_disk r.kernel.world r.kernel.objects o.config.now now.alike h.disk;
-        right = right_answer m laws r.kernel.world r.kernel.objects o.config.now p c.stage a answer (h.fit p c e) now.alike asked right;
+        right = answer_right o.config.now (m.asks r.kernel.world o.config.now p c.stage) answer t.config.levels
+            (right_answer m laws r.kernel.world r.kernel.objects o.config.now p c.stage a answer (h.fit p c e) now.alike asked right);
+        body = whole;
       }) now.alike
-  outcome_after p c a t ks o (Micro.Dropped zero q pt cause) r h e marked asked works right =
+  outcome_after p c a t ks o (Micro.Dropped zero q pt cause) r h e marked asked works right whole =
       let base = works.works.0 in
       let w = lost_objects o.config.now r.kernel.objects in
       let said = Dropped c.number q pt cause in
       after_note_of p (m.left r.kernel.world r.kernel.objects p c.stage) said r (finish_on m p c w None (noted said r))
       (finish_after p c w None (noted said r) h
-      (record { standing = stands_on p c w r h e base.store base.alike; disk = h.disk; right = tt }) base.alike)
-  outcome_after p c a t ks o (Micro.Dropped (suc d) q pt cause) r h e marked asked works right =
+      (record { standing = stands_on p c w r h e base.store base.alike; disk = h.disk; right = tt; body = tt }) base.alike)
+  outcome_after p c a t ks o (Micro.Dropped (suc d) q pt cause) r h e marked asked works right whole =
       let said = Dropped c.number q pt cause in
       let marks = fallen t ks o.effects (suc d) in
       after_note_of p (m.left r.kernel.world r.kernel.objects p c.stage) said r (with_marks p c marks (noted said r))
@@ -243,7 +246,7 @@ module _ (m : Meaning) (laws : Laws m) where
   graft_after p c ks (Some t) (Some a) r h e marked asked works =
       let o = micro r.kernel.world r.kernel.images p t.config in
       let k = instructions_work r.kernel.world r.kernel.images p r.kernel.objects a t.config works in
-      outcome_after p c a t ks o o.said r h e marked asked k.0 k.1
+      outcome_after p c a t ks o o.said r h e marked asked k.0 k.1 (micro_wholly r.kernel.world r.kernel.images p t.config)
 
   marked_after : (p : ℕ) (c : Call) (ks : Option (List Mark)) (r : Run) → GoesOn m r → r.kernel.call p ≡ Some c → c.marks ≡ ks →
       HasStepped m p (m.left r.kernel.world r.kernel.objects p c.stage) r (marked_step m p c ks r)

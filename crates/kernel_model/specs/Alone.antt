@@ -215,6 +215,7 @@ module _ (m : Meaning) where
           };
           disk = laws.piece.disk v images s blocks p t None io h.ready;
           right = tt;
+          body = tt;
         };
         whole = laws.piece.whole_blocks v images s blocks p t None io h.ready h.whole;
         no_graft = λ r pt. still_none s q.objects r pt (h.no_graft r pt)
@@ -359,6 +360,7 @@ may_begin m laws v images s blocks p c t h =
         };
         disk = h.disk;
         right = tt;
+        body = tt;
       };
       whole = h.whole;
       no_graft = h.no_graft;

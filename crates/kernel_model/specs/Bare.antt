@@ -11,7 +11,7 @@ use Rattle.kernel_model.specs.declared.Event.TheVariants.{Tick, Step, Sys}
 use Rattle.kernel_model.specs.declared.Note.{Note}
 use Rattle.kernel_model.specs.declared.Note.TheVariants.{Ticked, Ended, Refused, Gave, Dropped, Ran, Waits, InGraft}
 use Rattle.kernel_model.specs.declared.SysCall.{SysCall}
-use Rattle.kernel_model.specs.declared.SysCall.TheVariants.{Spawn, Exit, Yield, OpenName, CloseFd, Read, Write, Sync, TakeLock, FreeLock, Poke, Peek, Tune, Choose, Give, Install, Remove, Fund, Bill}
+use Rattle.kernel_model.specs.declared.SysCall.TheVariants.{Spawn, Exit, Yield, OpenName, CloseFd, Read, Write, Sync, TakeLock, FreeLock, Poke, Peek, Tune, Choose, Give, Install, Remove, Fund, Bill, Serve, StreamRead, StreamWrite}
 
 -- the call with its bytes
 abbrev pub call_with : BareCall → (bytes : List ℕ) → SysCall
@@ -34,6 +34,9 @@ call_with (bare.Install pt image limit) bytes = Install pt image limit
 call_with (bare.Remove pt) bytes = Remove pt
 call_with (bare.Fund pt kind n) bytes = Fund pt kind n
 call_with (bare.Bill pt) bytes = Bill pt
+call_with (bare.Serve port) bytes = Serve port bytes
+call_with (bare.StreamRead fd i off len) bytes = StreamRead fd i off len
+call_with (bare.StreamWrite fd i off) bytes = StreamWrite fd i off bytes
 
 -- the event with the bytes of its call
 abbrev pub event_with : BareEvent → (bytes : List ℕ) → Event

@@ -2,7 +2,7 @@
 -- the least number first.
 use Rattle.std.specs.Prelude.{ℕ, ◌+◌, ◌==◌, Bool, cond, not, ◌||◌, nat_le, nat_lt, length, is_some, Option, Some, None, Result, Ok, Err}
 use Rattle.kernel_model.specs.declared.SysCall.{SysCall}
-use Rattle.kernel_model.specs.declared.SysCall.TheVariants.{Exit, OpenName, CloseFd, Read, Write, TakeLock, FreeLock, Poke, Peek, Tune, Choose, Give, Install, Remove, Fund, Bill}
+use Rattle.kernel_model.specs.declared.SysCall.TheVariants.{Exit, OpenName, CloseFd, Read, Write, TakeLock, FreeLock, Poke, Peek, Tune, Choose, Give, Install, Remove, Fund, Bill, Serve, StreamRead, StreamWrite}
 use Rattle.kernel_model.specs.declared.Refusal.{Refusal}
 use Rattle.kernel_model.specs.declared.Refusal.TheVariants.{NoProcess, Denied, BadPoint, BadFd, NoFile, BadIndex, NoImage}
 use Rattle.kernel_model.specs.World.{World, ImageTable, file_named}
@@ -21,7 +21,8 @@ abbrev pub refused : Bool → Refusal → Option Refusal → Option Refusal
 refused holds refusal next = cond holds (Some refusal) next
 
 -- the refusal of least number of a call of process p that needs no object, where points go up to
--- this one; docs/CALLS.md lists them, call by call
+-- this one; docs/CALLS.md lists them, call by call. Calls of event points and of streams are of
+-- other tables, and refused here.
 abbrev pub call_refusal : (top : ℕ) → World → ImageTable → ℕ → SysCall → Option Refusal
 call_refusal top v images p Exit = refused (p == 0) Denied None
 call_refusal top v images p (OpenName name) =
@@ -48,6 +49,9 @@ call_refusal top v images p (Install pt i limit) =
 call_refusal top v images p (Remove pt) = refused (nat_lt top pt) BadPoint None
 call_refusal top v images p (Fund pt kind n) = refused (nat_lt top pt) BadPoint None
 call_refusal top v images p (Bill pt) = refused (nat_lt top pt) BadPoint None
+call_refusal top v images p (Serve port bytes) = Some BadPoint
+call_refusal top v images p (StreamRead fd i off len) = Some BadPoint
+call_refusal top v images p (StreamWrite fd i off bytes) = Some BadPoint
 call_refusal top v images p c = None
 
 -- a call begins before its first piece, or is refused

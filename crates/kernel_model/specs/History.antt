@@ -38,23 +38,24 @@ pub record Trace : Type 0 where
 -- ---- the beginning
 
 -- the config whose only level has just begun, with the base objects
-abbrev pub begin_at : ImageTable → Objects → ℕ → List Need → Point → Config
-begin_at images s p base a =
+abbrev pub begin_at : ImageTable → Objects → ℕ → List Need → (feed : List ℕ) → Point → Config
+begin_at images s p base feed a =
     record {
       now = s;
-      levels = new_level images s p 0 a.installer a.point a.args (touch_all base untouched)
+      levels = new_level images s p 0 a.installer a.point a.args feed (touch_all base untouched)
           ∷ [];
     }
 
 -- the same where a point is asked
-abbrev pub begin_with : ImageTable → Objects → ℕ → List Need → Option Point → Option Config
-begin_with images s p base None = None
-begin_with images s p base (Some a) = Some (begin_at images s p base a)
+abbrev pub begin_with : ImageTable → Objects → ℕ → List Need → (feed : List ℕ) → Option Point →
+    Option Config
+begin_with images s p base feed None = None
+begin_with images s p base feed (Some a) = Some (begin_at images s p base feed a)
 
 -- A graft call begins on the committed state with level 0 at the asked point, which holds the
--- objects of the piece.
+-- objects of the piece and is fed the piece's bytes.
 abbrev pub begin : Meaning → World → ImageTable → Objects → ℕ → Stage → Option Config
-begin m v images s p t = begin_with images s p (m.need v s p t) (m.asks v s p t)
+begin m v images s p t = begin_with images s p (m.need v s p t) (m.feed t) (m.asks v s p t)
 
 -- a trace of no marks
 abbrev pub first_trace : Config → Trace

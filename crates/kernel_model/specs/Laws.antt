@@ -16,7 +16,7 @@ use Rattle.kernel_model.specs.declared.QueueRow.{QueueRow}
 use Rattle.kernel_model.specs.World.{World, ImageTable, Blocks}
 use Rattle.kernel_model.specs.Objects.{Objects, SameAt}
 use Rattle.kernel_model.specs.Policies.{PointKind, Ahead, Victim, Next, Serve, Stream, kind_of, lives}
-use Rattle.kernel_model.specs.Meaning.{Meaning, Stage, Answer, registers_of, Piece, After, Continues, Fails}
+use Rattle.kernel_model.specs.Meaning.{Meaning, Stage, Answer, HasWholeBody, registers_of, Piece, After, Continues, Fails}
 use Rattle.kernel_model.specs.Needs.{point_needs}
 use Rattle.kernel_model.specs.Sound.{IsSoundStore, ImagesAreLoaded, FitsDisk, HasWholeBlocks}
 use Rattle.kernel_model.specs.Events.{wanted}
@@ -129,6 +129,7 @@ pub record IsReady (m : Meaning) (v : World) (images : ImageTable) (s : Objects)
   pub standing : IsStanding m v images s p t
   pub disk : FitsDisk v s.things.cache
   pub right : IsRightAnswer s (m.asks v s p t) (registers_of answer)
+  pub body : HasWholeBody answer
 
 -- the objects that tell whether an answer of a point is valid
 abbrev pub answer_objects : PointKind → List Object

@@ -1,6 +1,6 @@
 -- A graft call is a working state and one to four levels, innermost first. This says how a level
 -- begins, how its answer goes to its asker, and how it is dropped.
-use Rattle.std.specs.Prelude.{ℕ, ◌+◌, ◌*◌, Bool, true, false, ◌==◌, List, [], ◌∷◌, Option, Some, None, length, slice_get}
+use Rattle.std.specs.Prelude.{ℕ, ◌+◌, ◌*◌, min, Bool, true, false, ◌==◌, List, [], ◌∷◌, Option, Some, None, length, slice_get, slice_index}
 use Rattle.kernel_model.specs.declared.Object.{Object}
 use Rattle.kernel_model.specs.declared.Mode.{Mode}
 use Rattle.kernel_model.specs.declared.Kind.{Kind}
@@ -10,10 +10,11 @@ use Rattle.kernel_model.specs.declared.Micro.{Micro}
 use Rattle.kernel_model.specs.declared.Instr.{Instr}
 use Rattle.kernel_model.specs.Objects.{Objects, Things, Accounts, GraftValue, at}
 use Rattle.kernel_model.specs.World.{World, Image, ImageTable}
-use Rattle.kernel_model.specs.Machine.{Machine, first_machine, segment_base}
+use Rattle.kernel_model.specs.Machine.{Machine, first_machine, segment_base, fed, bytes_given}
 use Rattle.kernel_model.specs.Policies.{PointKind, Ahead, Victim, Next, Serve, Stream, kind_of, default_of, or_zero}
 use Rattle.kernel_model.specs.Locks.{Touched, touch, touch_all, untouched}
 use Rattle.kernel_model.specs.Access.{Found}
+use Rattle.kernel_model.specs.Meaning.{Answer, bare_answer}
 use Rattle.kernel_model.specs.Charges.{removed}
 
 -- ---- levels, configs, outcomes
@@ -102,16 +103,17 @@ abbrev pub base_of : (p d : ℕ) → ℕ
 base_of p d = segment_base (4 * p + d)
 
 -- A level begins with its arguments in r0 to r3, its segment's base in r15 and zeros elsewhere, its
--- image's data at the start of its segment and zeros behind, at instruction 0, with no instruction
--- taken and no record, and keeps the things as it found them. A segment that is kept between calls
--- would begin with its kept bytes here.
-abbrev pub new_level : ImageTable → Objects → (p d q pt : ℕ) → List ℕ → Touched → Level
-new_level images w p d q pt args touched =
+-- image's data at the start of its segment, zeros behind and then the bytes that it is fed, at
+-- instruction 0, with no instruction taken and no record, and keeps the things as it found them. A
+-- segment that is kept between calls would begin with its kept bytes here.
+abbrev pub new_level : ImageTable → Objects → (p d q pt : ℕ) → (args feed : List ℕ) → Touched →
+    Level
+new_level images w p d q pt args feed touched =
     record {
       owner = q;
       point = pt;
       machine = first_machine (base_of p d) args
-          (λ i. or_zero (slice_get (body_of images w.accounts q pt) i));
+          (fed feed (λ i. or_zero (slice_get (body_of images w.accounts q pt) i)));
       count = 0;
       touched = touched;
       args = args;
@@ -167,6 +169,18 @@ answered Stream r0 r1 m = record { regs = at 0 r0 m.regs; pc = m.pc; memory = m.
 abbrev pub answer_innermost : (pt r0 r1 : ℕ) → List Level → List Level
 answer_innermost pt r0 r1 [] = []
 answer_innermost pt r0 r1 (l ∷ ls) = with_machine (answered (kind_of pt) r0 r1 l.machine) l ∷ ls
+
+-- ---- an answer
+
+-- the bytes that an answer gives: as many as its r0 says, and at most 512
+abbrev pub body_in_segment : List ℕ → (ℕ → ℕ) → List ℕ
+body_in_segment registers memory = bytes_given (min (slice_index registers 0) 512) memory
+
+-- the answer of the innermost level, which are these registers, and what its segment gives
+abbrev pub answer_of : List ℕ → List Level → Answer
+answer_of registers [] = bare_answer registers
+answer_of registers (l ∷ ls) =
+    record { registers = registers; body = body_in_segment registers l.machine.memory }
 
 -- ---- a drop
 

@@ -14,6 +14,10 @@ pub mod Needs
 pub mod Fetch
 pub mod FilePieces
 pub mod Pieces
+pub mod Beside
+pub mod EventPoints
+pub mod StreamPoints
+pub mod AllCalls
 pub mod Instructions
 pub mod Machine
 pub mod Boxed

@@ -1,6 +1,6 @@
--- What a table of system calls is to the kernel: six functions. The kernel is defined over any such
+-- What a table of system calls is to the kernel: seven functions. The kernel is defined over any such
 -- table, so later calls are a new table and not a new kernel.
-use Rattle.std.specs.Prelude.{ℕ, Bool, false, List, [], Option, option_map, Result, slice_index_or}
+use Rattle.std.specs.Prelude.{◌≡◌, ℕ, min, Bool, false, List, [], length, Option, None, Some, option_map, Result, slice_index, slice_index_or, ⊤}
 use Rattle.kernel_model.specs.declared.Need.{Need}
 use Rattle.kernel_model.specs.declared.Point.{Point}
 use Rattle.kernel_model.specs.declared.SysCall.{SysCall}
@@ -9,8 +9,8 @@ use Rattle.kernel_model.specs.declared.Reply.{Reply}
 use Rattle.kernel_model.specs.Objects.{Objects}
 use Rattle.kernel_model.specs.World.{World, ImageTable, Blocks}
 
--- where a call stands, and what it carries from piece to piece; the calls that are built carry
--- nothing
+-- where a call stands, and what it carries from piece to piece: only those of event points and
+-- streams carry something
 pub record Stage : Type 0 where
   pub call : SysCall
   -- the number of its next piece, from 0
@@ -34,6 +34,11 @@ pub record Answer : Type 0 where
 -- the answer of these registers that gives no bytes
 abbrev pub bare_answer : List ℕ → Answer
 bare_answer registers = record { registers = registers; body = [] }
+
+-- an answer gives as many bytes as its r0 says, and at most 512
+abbrev pub HasWholeBody : Option Answer → Type 0
+HasWholeBody None = ⊤
+HasWholeBody (Some a) = length a.body ≡ min (slice_index a.registers 0) 512
 
 -- the registers of an answer, if there is one
 abbrev pub registers_of : Option Answer → Option (List ℕ)
@@ -70,6 +75,8 @@ pub record Meaning : Type 0 where
   pub need : World → Objects → ℕ → Stage → List Need
   -- the point that the next piece asks
   pub asks : World → Objects → ℕ → Stage → Option Point
+  -- the bytes that the graft is fed which the next piece asks
+  pub feed : Stage → List ℕ
   -- the next piece in one step, with an answer or by default, and with what the calls of the disk
   -- from here on will do
   pub piece : World → ImageTable → Objects → Blocks → ℕ → Stage → Option Answer → List Bool → Piece

@@ -10,7 +10,7 @@ use Rattle.kernel_model.specs.declared.Object.TheVariants.{Graft, Acct, OpenFile
 use Rattle.kernel_model.specs.declared.Mode.TheVariants.{Shared, Exclusive}
 use Rattle.kernel_model.specs.declared.Kind.{Kind}
 use Rattle.kernel_model.specs.declared.SysCall.{SysCall}
-use Rattle.kernel_model.specs.declared.SysCall.TheVariants.{Spawn, Exit, Yield, OpenName, CloseFd, Read, Write, Sync, TakeLock, FreeLock, Poke, Peek, Tune, Choose, Give, Install, Remove, Fund, Bill}
+use Rattle.kernel_model.specs.declared.SysCall.TheVariants.{Spawn, Exit, Yield, OpenName, CloseFd, Read, Write, Sync, TakeLock, FreeLock, Poke, Peek, Tune, Choose, Give, Install, Remove, Fund, Bill, Serve, StreamRead, StreamWrite}
 use Rattle.kernel_model.specs.declared.Refusal.{Refusal}
 use Rattle.kernel_model.specs.declared.Refusal.TheVariants.{BadFd, BadIndex}
 use Rattle.kernel_model.specs.declared.OpenRow.{OpenRow}
@@ -197,6 +197,9 @@ piece_needs (Install pt i limit) n v s p = exclusive (Graft p pt) ∷ []
 piece_needs (Remove pt) n v s p = point_needs s.accounts p pt
 piece_needs (Fund pt kind x) n v s p = point_needs s.accounts p pt
 piece_needs (Bill pt) n v s p = exclusive (Graft p pt) ∷ []
+piece_needs (Serve port bytes) n v s p = []
+piece_needs (StreamRead fd i off len) n v s p = []
+piece_needs (StreamWrite fd i off bytes) n v s p = []
 
 -- ---- the points that pieces ask
 

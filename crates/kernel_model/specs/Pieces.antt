@@ -3,9 +3,9 @@
 use Rattle.std.specs.Prelude.{ℕ, zero, suc, ◌+◌, ◌-◌, ◌==◌, Bool, true, false, cond, not, ◌&&◌, nat_le, nat_lt, List, [], ◌∷◌, ◌++◌, Option, Some, None, map, filter, length}
 use Rattle.kernel_model.specs.declared.Kind.{Kind}
 use Rattle.kernel_model.specs.declared.SysCall.{SysCall}
-use Rattle.kernel_model.specs.declared.SysCall.TheVariants.{Spawn, Exit, Yield, OpenName, CloseFd, Read, Write, Sync, TakeLock, FreeLock, Poke, Peek, Tune, Choose, Give, Install, Remove, Fund, Bill}
+use Rattle.kernel_model.specs.declared.SysCall.TheVariants.{Spawn, Exit, Yield, OpenName, CloseFd, Read, Write, Sync, TakeLock, FreeLock, Poke, Peek, Tune, Choose, Give, Install, Remove, Fund, Bill, Serve, StreamRead, StreamWrite}
 use Rattle.kernel_model.specs.declared.Refusal.{Refusal}
-use Rattle.kernel_model.specs.declared.Refusal.TheVariants.{NoProcess, BadIndex, Taken, NoGraft, Short, Full, NotHeld}
+use Rattle.kernel_model.specs.declared.Refusal.TheVariants.{NoProcess, BadPoint, BadIndex, Taken, NoGraft, Short, Full, NotHeld}
 use Rattle.kernel_model.specs.declared.Reply.TheVariants.{One}
 use Rattle.kernel_model.specs.declared.QueueRow.{QueueRow}
 use Rattle.kernel_model.specs.declared.OpenRow.{OpenRow}
@@ -252,6 +252,9 @@ piece_of (Remove pt) n v s blocks p answer io = remove_piece s p pt (s.accounts.
 piece_of (Fund pt k x) n v s blocks p answer io =
     fund_piece s p pt k x (s.accounts.graft p pt) blocks
 piece_of (Bill pt) n v s blocks p answer io = bill_piece s p pt (s.accounts.graft p pt) blocks
+piece_of (Serve port bytes) n v s blocks p answer io = refuses s blocks BadPoint
+piece_of (StreamRead fd i off len) n v s blocks p answer io = refuses s blocks BadPoint
+piece_of (StreamWrite fd i off bytes) n v s blocks p answer io = refuses s blocks BadPoint
 
 -- the later pieces of a read have its file open, and from the third on there is something to read
 -- ahead
@@ -288,6 +291,7 @@ plain_upto top =
       early = plain_early top;
       need = λ v s p t. piece_needs t.call t.piece v s p;
       asks = λ v s p t. piece_ask t.call t.piece v s.things p;
+      feed = λ t. [];
       piece = λ v images s blocks p t answer io.
           piece_of t.call t.piece v s blocks p (registers_of answer) io;
       fits = λ v s p t. piece_fits t.call t.piece s.things p;

@@ -111,7 +111,7 @@ pub data PointKind : Type 0 where
   Stream : PointKind
 
 -- Points 0 to 3 read ahead, 4 evicts, 5 chooses a process, 6 to 13 serve events, and those above
--- change streams. No call of those that are built asks a point above 5.
+-- change streams.
 abbrev pub kind_of : ℕ → PointKind
 kind_of pt =
     cond (nat_lt pt 4) Ahead

@@ -5,7 +5,7 @@ use Rattle.std.specs.List.{list_all}
 use Rattle.kernel_model.specs.declared.Kind.{Kind}
 use Rattle.kernel_model.specs.declared.Kind.TheVariants.{Steps, Records, Locks}
 use Rattle.kernel_model.specs.declared.SysCall.{SysCall}
-use Rattle.kernel_model.specs.declared.SysCall.TheVariants.{OpenName, CloseFd, TakeLock, FreeLock, Choose}
+use Rattle.kernel_model.specs.declared.SysCall.TheVariants.{OpenName, CloseFd, TakeLock, FreeLock, Choose, StreamRead, StreamWrite}
 use Rattle.kernel_model.specs.declared.Event.{Event}
 use Rattle.kernel_model.specs.declared.Event.TheVariants.{Tick, Step, Sys}
 use Rattle.kernel_model.specs.declared.CallName.{CallName}
@@ -155,7 +155,7 @@ is_file_name text = nat_le 1 (length text) && nat_le (length text) 16 && list_al
 abbrev pub name_word : List ℕ → Option (List ℕ)
 name_word text = cond (is_file_name text) (Some text) None
 
--- the most hex digits of a `write`, which carries a block at most
+-- the most hex digits of a `write`, a `swrite` and a `serve`, which carry a block at most
 abbrev pub WRITE_DIGITS : ℕ
 WRITE_DIGITS = 1024
 
@@ -186,6 +186,9 @@ call_word CallName.Install = codes "install"
 call_word CallName.Remove = codes "remove"
 call_word CallName.Fund = codes "fund"
 call_word CallName.Bill = codes "bill"
+call_word CallName.Serve = codes "serve"
+call_word CallName.StreamRead = codes "sread"
+call_word CallName.StreamWrite = codes "swrite"
 
 -- the word of a command
 abbrev pub command_word : Command → List ℕ
@@ -210,7 +213,8 @@ all_commands =
     ∷ Call CallName.Poke ∷ Call CallName.Peek
     ∷ Call CallName.Tune ∷ Call CallName.Default ∷ Call CallName.Give ∷ Call CallName.Install
     ∷ Call CallName.Remove ∷ Call CallName.Fund
-    ∷ Call CallName.Bill ∷ []
+    ∷ Call CallName.Bill ∷ Call CallName.Serve ∷ Call CallName.StreamRead
+    ∷ Call CallName.StreamWrite ∷ []
 
 -- a command stands before `boot`
 abbrev pub is_setup : Command → Bool
@@ -241,6 +245,9 @@ call_forms CallName.Install = Number ∷ Number ∷ Number ∷ []
 call_forms CallName.Remove = Number ∷ []
 call_forms CallName.Fund = Number ∷ Amount ∷ Number ∷ []
 call_forms CallName.Bill = Number ∷ []
+call_forms CallName.Serve = Number ∷ Text ∷ []
+call_forms CallName.StreamRead = Number ∷ Number ∷ Number ∷ Number ∷ []
+call_forms CallName.StreamWrite = Number ∷ Number ∷ Number ∷ Text ∷ []
 
 -- the words of a command after its own; a system call begins with its process
 abbrev pub forms_of : Command → List Form
@@ -263,6 +270,16 @@ open_by (Some name) = Some (OpenName name)
 abbrev pub write_by : (fd i off : ℕ) → Option (List ℕ) → Option SysCall
 write_by fd i off None = None
 write_by fd i off (Some bytes) = Some (SysCall.Write fd i off bytes)
+
+-- the bytes that `serve` hands to the handlers of a port
+abbrev pub serve_by : ℕ → Option (List ℕ) → Option SysCall
+serve_by port None = None
+serve_by port (Some bytes) = Some (SysCall.Serve port bytes)
+
+-- the bytes that `swrite` hands to the point of stream writes
+abbrev pub stream_write_by : (fd i off : ℕ) → Option (List ℕ) → Option SysCall
+stream_write_by fd i off None = None
+stream_write_by fd i off (Some bytes) = Some (StreamWrite fd i off bytes)
 
 -- a system call by the numbers of its words, of which the first is the process, and by its last
 -- word
@@ -292,6 +309,12 @@ call_of CallName.Remove n last = Some (SysCall.Remove (slice_index n 1))
 call_of CallName.Fund n last =
     Some (SysCall.Fund (slice_index n 1) (amount_at (slice_index n 2)) (slice_index n 3))
 call_of CallName.Bill n last = Some (SysCall.Bill (slice_index n 1))
+call_of CallName.Serve n last = serve_by (slice_index n 1) (hex_word WRITE_DIGITS last)
+call_of CallName.StreamRead n last =
+    Some (StreamRead (slice_index n 1) (slice_index n 2) (slice_index n 3) (slice_index n 4))
+call_of CallName.StreamWrite n last =
+    stream_write_by (slice_index n 1) (slice_index n 2) (slice_index n 3)
+    (hex_word WRITE_DIGITS last)
 
 -- a system call of process p
 abbrev pub happens_by : ℕ → Option SysCall → Result Entry ScriptFault

@@ -11,7 +11,7 @@ use Rattle.kernel_model.specs.Images.{LoadFault, load}
 use Rattle.kernel_model.specs.Meaning.{Meaning, disk_fails}
 use Rattle.kernel_model.specs.Kernel.{Kernel, Run}
 use Rattle.kernel_model.specs.Events.{event}
-use Rattle.kernel_model.specs.Pieces.{plain}
+use Rattle.kernel_model.specs.AllCalls.{all_calls}
 use Rattle.kernel_model.specs.Opening.{opening_kernel}
 use Rattle.kernel_model.specs.RawRows.{raw_rows}
 use Rattle.kernel_model.specs.Text.{spaced, line, note_lines, row_lines, load_fault_text, image_text, boot_text}
@@ -27,7 +27,7 @@ pub record Build : Type 0 where
 
 -- all calls, and all of the callable list
 abbrev pub whole : Build
-whole = record { meaning = plain; callable = LAST_CALLABLE }
+whole = record { meaning = all_calls; callable = LAST_CALLABLE }
 
 -- what set-up lines set
 pub record Setup : Type 0 where

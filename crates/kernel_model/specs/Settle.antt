@@ -5,9 +5,9 @@ use Rattle.kernel_model.specs.declared.Point.{Point}
 use Rattle.kernel_model.specs.declared.Micro.{Micro}
 use Rattle.kernel_model.specs.declared.Note.TheVariants.{Dropped}
 use Rattle.kernel_model.specs.Objects.{Objects, GraftValue}
-use Rattle.kernel_model.specs.Meaning.{Meaning, Answer, bare_answer}
+use Rattle.kernel_model.specs.Meaning.{Meaning, Answer}
 use Rattle.kernel_model.specs.Locks.{LockTable}
-use Rattle.kernel_model.specs.Levels.{Outcome}
+use Rattle.kernel_model.specs.Levels.{Outcome, answer_of}
 use Rattle.kernel_model.specs.GraftStep.{micro}
 use Rattle.kernel_model.specs.History.{Mark, Stepped, Trace, fallen}
 use Rattle.kernel_model.specs.Kernel.{Call, Blocker, Entry, Kernel, Run, finish, noted, requeue, with_marks}
@@ -56,7 +56,7 @@ module _ (m : Meaning) where
   after_outcome p c t ks o Micro.Went r = with_marks p c (ks ++ Stepped ∷ []) r
   after_outcome p c t ks o (Micro.Blocked object holder by_user) r = r
   after_outcome p c t ks o (Micro.Completed answer) r =
-      finish_on p c o.config.now (Some (bare_answer answer)) r
+      finish_on p c o.config.now (Some (answer_of answer t.config.levels)) r
   after_outcome p c t ks o (Micro.Dropped d q pt cause) r =
       after_drop p c t ks o d (noted (Dropped c.number q pt cause) r)
 

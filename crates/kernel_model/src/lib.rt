@@ -106,6 +106,9 @@ pub enum SysCall {
     Remove(u32),
     Fund(u32, Kind, u32),
     Bill(u32),
+    Serve(u32, Bytes),
+    StreamRead(u32, u32, u32, u32),
+    StreamWrite(u32, u32, u32, Bytes),
 }
 
 /// What happens to a kernel.
@@ -116,8 +119,9 @@ pub enum Event {
     Sys(u32, SysCall),
 }
 
-/// A system call without its bytes, which stand beside it: the name of `OpenName`, and what `Write`
-/// writes. All others have none (`call_with`, `specs/Bare.antt`).
+/// A system call without its bytes, which stand beside it: the name of `OpenName`, what `Write` and
+/// `StreamWrite` write, and the event of `Serve`. All others have none (`call_with`,
+/// `specs/Bare.antt`).
 #[derive(Clone, Copy)]
 pub enum BareCall {
     Spawn,
@@ -139,6 +143,9 @@ pub enum BareCall {
     Remove(u32),
     Fund(u32, Kind, u32),
     Bill(u32),
+    Serve(u32),
+    StreamRead(u32, u32, u32, u32),
+    StreamWrite(u32, u32, u32),
 }
 
 /// What happens to a kernel, without the bytes of a system call, which stand beside it.
@@ -177,6 +184,7 @@ pub enum Refusal {
     NotHeld,
     DiskFault,
     TimedOut(Object, u8),
+    PortFull,
 }
 
 /// Why a level is dropped, in the order of the codes.
@@ -470,6 +478,9 @@ pub enum CallName {
     Remove,
     Fund,
     Bill,
+    Serve,
+    StreamRead,
+    StreamWrite,
 }
 
 /// A command of the script, which the first word of a line names.

@@ -59,10 +59,10 @@ needs_held m v images s p t ks now o e need =
     is_it : (c d : Config) → Some c ≡ Some d → c ≡ d
     is_it c d h = cc
 
-    by_asks : (x : Option Point) (c : Config) → begin_with images s p (m.need v s p t) x ≡ Some c → marks_on v images p ks (first_trace c) ≡ Some now → is_held_in now.config.levels o ≡ true
+    by_asks : (x : Option Point) (c : Config) → begin_with images s p (m.need v s p t) (m.feed t) x ≡ Some c → marks_on v images p ks (first_trace c) ≡ Some now → is_held_in now.config.levels o ≡ true
     by_asks None c h marks = absurd cc
     by_asks (Some a) c h marks =
-        let begun = begin_at images s p (m.need v s p t) a in
+        let begun = begin_at images s p (m.need v s p t) (m.feed t) a in
         marks_hold v images p ks (first_trace begun) now o (subst (λ (x : Config). marks_on v images p ks (first_trace x) ≡ Some now) (sym (is_it begun c h)) marks)
         (or_left (is_held (touch_all (m.need v s p t) untouched o)) false (touch_all_gives (m.need v s p t) untouched o need))
 

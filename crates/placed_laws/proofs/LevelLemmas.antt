@@ -1,8 +1,8 @@
 -- Levels laid over a store.
-use Rattle.std.specs.Prelude.{suc, length, ◌≡◌, List, [], ◌∷◌, map}
+use Rattle.std.specs.Prelude.{ℕ, suc, length, ◌≡◌, List, [], ◌∷◌, map}
 use Rattle.std.proofs.Common.{refl, subst, sym, ap, ◌∙◌}
 use Rattle.kernel_model.specs.Objects.{Things}
-use Rattle.kernel_model.specs.Levels.{Level}
+use Rattle.kernel_model.specs.Levels.{Level, answer_of}
 use Rattle.kernel_model.specs.UndoLog.{undo_log, undo_all, kept_by_log}
 use Rattle.kernel_model.specs.Alike.{LevelsAlike}
 use Rattle.kernel_laws.specs.Soundness.{found_by}
@@ -16,6 +16,11 @@ relaid w ls = levels_with w (map bare ls)
 pub relaid_alike : (w : Things) (ls : List Level) → LevelsAlike ls (relaid w ls)
 relaid_alike w [] = tt
 relaid_alike w (l ∷ ls) = (refl, relaid_alike (undo_all l.records w) ls)
+
+-- and answer the same
+pub answer_laid : (answer : List ℕ) (w : Things) (ls : List Level) → answer_of answer (relaid w ls) ≡ answer_of answer ls
+answer_laid answer w [] = refl
+answer_laid answer w (l ∷ ls) = refl
 
 -- what each found is what undoing gives
 pub laid_kept : (w : Things) (ls : List PlacedLevel) → found_by (levels_with w ls) ≡ kept_by_log w (undo_log (levels_with w ls))

@@ -55,7 +55,7 @@ one_graft =
 
 -- a graft call of process 0 that asked process 1's graft
 abbrev asked_beside : Config
-asked_beside = begin_at setting one_graft 0 [] (record { installer = 1; point = 5; args = [] })
+asked_beside = begin_at setting one_graft 0 [] [] (record { installer = 1; point = 5; args = [] })
 
 -- what it records is the installer's, and not the caller's: the cell that process 1 had
 records_are_owners :

@@ -211,7 +211,7 @@ module _ (v : World) (images : ImageTable) (p q : ℕ) where
 pub owners_stay : OwnersStay
 owners_stay =
     record {
-      begins = λ images s p needs a. (refl, tt, tt);
+      begins = λ images s p needs feed a. (refl, tt, tt);
       instructions = λ v images p q c h. instruction_owned v images p q c.now c.levels h;
       drops = λ v w ls d q cause h. level_owned v (λ slot. None) 0 q w ls d cause h;
     }

@@ -9,7 +9,7 @@ use Rattle.kernel_model.specs.declared.Point.{Point}
 use Rattle.kernel_model.specs.World.{World, ImageTable}
 use Rattle.kernel_model.specs.Objects.{Objects, GraftValue, SameAt, same_object}
 use Rattle.kernel_model.specs.Needs.{exclusive, payer_needs}
-use Rattle.kernel_model.specs.Machine.{first_machine}
+use Rattle.kernel_model.specs.Machine.{first_machine, fed}
 use Rattle.kernel_model.specs.Policies.{or_zero}
 use Rattle.kernel_model.specs.Meaning.{Meaning, Stage}
 use Rattle.kernel_model.specs.Locks.{touch_all, untouched, is_held_exclusively}
@@ -74,8 +74,8 @@ module _ (m : Meaning) (laws : Laws m) (k : Kernel) (w : Objects) (here : IsPlac
   piece_ends =
       let v = k.world in
       let s = k.objects in
-      let first : IsReady m v k.images s p c.stage None = record { standing = call_stands m k p c here.kernel e; disk = here.kernel.state.disk; right = tt } in
-      let second : IsReady m v k.images w p c.stage None = record { standing = store_stands m laws k w here p c e; disk = fits_disk m laws k w here; right = tt } in
+      let first : IsReady m v k.images s p c.stage None = record { standing = call_stands m k p c here.kernel e; disk = here.kernel.state.disk; right = tt; body = tt } in
+      let second : IsReady m v k.images w p c.stage None = record { standing = store_stands m laws k w here p c e; disk = fits_disk m laws k w here; right = tt; body = tt } in
       record {
         first = first;
         second = second;
@@ -106,17 +106,17 @@ module _ (m : Meaning) (laws : Laws m) (k : Kernel) (w : Objects) (here : IsPlac
 
 -- where a history of no marks leads
 begun_config : (m : Meaning) (v : World) (images : ImageTable) (s : Objects) (p : ℕ) (t : Stage) (a : Point) → m.asks v s p t ≡ Some a →
-    config_in (replay m v images s p t []) ≡ Some (begin_at images s p (m.need v s p t) a)
+    config_in (replay m v images s p t []) ≡ Some (begin_at images s p (m.need v s p t) (m.feed t) a)
 begun_config m v images s p t a asks =
-    ap (λ (x : Option Point). config_in (elim (begin_with images s p (m.need v s p t) x) as (λ _. Option Trace) [ None ↦ None | Some c ↦ marks_on v images p [] (first_trace c) ])) asks
+    ap (λ (x : Option Point). config_in (elim (begin_with images s p (m.need v s p t) (m.feed t) x) as (λ _. Option Trace) [ None ↦ None | Some c ↦ marks_on v images p [] (first_trace c) ])) asks
 
 -- level 0 without what it found, by its graft and its needs
-abbrev begun_level : ImageTable → ℕ → Point → Option GraftValue → List Need → PlacedLevel
-begun_level images p a g ns =
+abbrev begun_level : ImageTable → ℕ → (feed : List ℕ) → Point → Option GraftValue → List Need → PlacedLevel
+begun_level images p feed a g ns =
     record {
       owner = a.installer;
       point = a.point;
-      machine = first_machine (base_of p 0) a.args (λ i. or_zero (slice_get (body_in (image_of images g)) i));
+      machine = first_machine (base_of p 0) a.args (fed feed (λ i. or_zero (slice_get (body_in (image_of images g)) i)));
       count = 0;
       touched = touch_all ns untouched;
       args = a.args;
@@ -126,19 +126,19 @@ begun_level images p a g ns =
 pub begin_stands : (m : Meaning) (laws : Laws m) (u : Run) (w : Objects) → (here : IsPlaced m u.kernel w) → (p : ℕ) (c : Call) → u.kernel.call p ≡ Some c → levels_of m u.kernel p ≡ [] →
     needs m u.kernel p ≡ m.need u.kernel.world u.kernel.objects p c.stage → blocker m u.kernel p ≡ None → (a : Point) → m.asks u.kernel.world u.kernel.objects p c.stage ≡ Some a →
     IsSoundRun m (requeue p (with_marks p c [] u)) → ((q : ℕ) → q ≢ p → IsStable m u.kernel (requeue p (with_marks p c [] u)).kernel q) →
-    RunStandsFor m (placed_requeue p (with_config p (begin_at u.kernel.images w p (m.need u.kernel.world w p c.stage) a) (run_over m w u))) (requeue p (with_marks p c [] u))
+    RunStandsFor m (placed_requeue p (with_config p (begin_at u.kernel.images w p (m.need u.kernel.world w p c.stage) (m.feed c.stage) a) (run_over m w u))) (requeue p (with_marks p c [] u))
 begin_stands m laws u w here p c e none needed unblocked a asks sound stable =
     let k = u.kernel in
     let n = with_marks p c [] u in
     let l = (requeue p n).kernel in
-    let begun = begin_at k.images k.objects p (m.need k.world k.objects p c.stage) a in
-    let placed = begin_at k.images w p (m.need k.world w p c.stage) a in
+    let begun = begin_at k.images k.objects p (m.need k.world k.objects p c.stage) (m.feed c.stage) a in
+    let placed = begin_at k.images w p (m.need k.world w p c.stage) (m.feed c.stage) a in
     let calls = λ (q : ℕ) (ne : q ≢ p). at_other p q (Some (record c { marks = Some [] })) k.call ne in
     let leads : config_of m n.kernel p ≡ Some begun =
     ap (λ x. config_in (trace_of m n.kernel p x)) (at_here p (Some (record c { marks = Some [] })) k.call) ∙ begun_config m k.world k.images k.objects p c.stage a asks in
     let leads_then = config_same m n.kernel n.kernel.clock l.order p ∙ leads in
-    let level = ap (λ g. begun_level k.images p a g (m.need k.world w p c.stage)) (graft_is m laws k w here p c e none needed unblocked a asks)
-    ∙ ap (begun_level k.images p a (k.objects.accounts.graft a.installer a.point)) (sym (needs_are m laws k w here p c e none needed unblocked)) in
+    let level = ap (λ g. begun_level k.images p (m.feed c.stage) a g (m.need k.world w p c.stage)) (graft_is m laws k w here p c e none needed unblocked a asks)
+    ∙ ap (begun_level k.images p (m.feed c.stage) a (k.objects.accounts.graft a.installer a.point)) (sym (needs_are m laws k w here p c e none needed unblocked)) in
     stands_after m laws k w here p (with_config p placed (run_over m w u)) n
     (record {
       world = refl;

@@ -12,9 +12,9 @@ use Rattle.kernel_model.specs.declared.Object.{Object}
 use Rattle.kernel_model.specs.Objects.{Things, at, same_object}
 use Rattle.kernel_model.specs.UndoLog.{undo_all}
 use Rattle.kernel_model.specs.SameObject.{same_object_self}
-use Rattle.kernel_model.specs.Meaning.{Meaning, After, Continues, EndsWith, Fails, bare_answer}
+use Rattle.kernel_model.specs.Meaning.{Meaning, After, Continues, EndsWith, Fails}
 use Rattle.kernel_model.specs.Locks.{LockTable, Hindrance, first_hindrance}
-use Rattle.kernel_model.specs.Levels.{Level, Outcome, touched_at}
+use Rattle.kernel_model.specs.Levels.{Level, Outcome, answer_of, touched_at}
 use Rattle.kernel_model.specs.GraftStep.{next_needs, lock_user, micro}
 use Rattle.kernel_model.specs.History.{Mark, Stepped, Trace, fallen}
 use Rattle.kernel_model.specs.Kernel.{Call, Blocker, Entry, Kernel, Run, call_after, has_level, is_at_piece, less_entry, new_entry, requeue, with_marks}
@@ -211,7 +211,7 @@ module _ (m : Meaning) (r : Run) (p : ℕ) (c : Call) (there : r.kernel.call p �
   outcome_history t ks o Micro.Went level = marked_history (ks ++ Stepped ∷ [])
   outcome_history t ks o (Micro.Blocked object holder by_user) level = record { call = r.kernel.call; is = refl; same = λ q ne. refl; number = refl }
   outcome_history t ks o (Micro.Completed answer) level =
-      let a = (m.piece r.kernel.world r.kernel.images o.config.now r.blocks p c.stage (Some (bare_answer answer)) r.io).after in
+      let a = (m.piece r.kernel.world r.kernel.images o.config.now r.blocks p c.stage (Some (answer_of answer t.config.levels)) r.io).after in
       contrary (sym level ∙ ap has_level (at_here p (call_after c a) r.kernel.call) ∙ after_level c a)
   outcome_history t ks o (Micro.Dropped zero q pt cause) level =
       let a = (m.piece r.kernel.world r.kernel.images (lost_objects o.config.now r.kernel.objects) r.blocks p c.stage None r.io).after in

@@ -5,8 +5,8 @@ use Rattle.kernel_model.specs.declared.Cause.{Cause}
 use Rattle.kernel_model.specs.declared.Micro.{Micro}
 use Rattle.kernel_model.specs.declared.Object.TheVariants.{Graft}
 use Rattle.kernel_model.specs.Objects.{Objects, Things}
-use Rattle.kernel_model.specs.Meaning.{Meaning, Stage, bare_answer}
-use Rattle.kernel_model.specs.Levels.{Level, Config, drop_level}
+use Rattle.kernel_model.specs.Meaning.{Meaning, Stage}
+use Rattle.kernel_model.specs.Levels.{Level, Config, answer_of, drop_level}
 use Rattle.kernel_model.specs.GraftStep.{micro}
 use Rattle.kernel_model.specs.UndoLog.{undo_all}
 use Rattle.kernel_model.specs.Kernel.{Call, Kernel, Run}
@@ -15,6 +15,7 @@ use Rattle.kernel_model.specs.Sound.{IsSoundStore, FitsDisk, ImagesAreLoaded, Ha
 use Rattle.kernel_model.specs.Alike.{AreAlike}
 use Rattle.kernel_model.specs.Laws.{Laws, IsStanding, IsReady}
 use Rattle.kernel_laws.specs.Soundness.{AnswersRightly}
+use Rattle.kernel_laws.proofs.BodyLemmas.{AnswersWholly, answer_right, micro_wholly}
 use Rattle.kernel_laws.proofs.InstructionLemmas.{instructions_work}
 use Rattle.kernel_laws.proofs.StepLemmas.{alike_disk}
 use Rattle.graft_laws.proofs.GraftOriginLemmas.{images_from}
@@ -55,10 +56,10 @@ module _ (m : Meaning) (laws : Laws m) (k : Kernel) (w : Objects) (here : IsPlac
   -- a state that is alike to the store
   alike_ready : (p : ℕ) (c : Call) → k.call p ≡ Some c → (d : Objects) → IsSoundStore k.world d → AreAlike w d → IsReady m k.world k.images d p c.stage None
   alike_ready p c e d sound alike =
-      record { standing = alike_stands m laws k w here p c e d sound alike; disk = alike_disk k.world w d alike (fits_disk m laws k w here); right = tt }
+      record { standing = alike_stands m laws k w here p c e d sound alike; disk = alike_disk k.world w d alike (fits_disk m laws k w here); right = tt; body = tt }
 
   at_once : (p : ℕ) (c : Call) → k.call p ≡ Some c → IsReady m k.world k.images w p c.stage None
-  at_once p c e = record { standing = store_stands m laws k w here p c e; disk = fits_disk m laws k w here; right = tt }
+  at_once p c e = record { standing = store_stands m laws k w here p c e; disk = fits_disk m laws k w here; right = tt; body = tt }
 
   -- after an instruction
   lost : (p : ℕ) (c : Call) → k.call p ≡ Some c → (f : Config) → config_of m k p ≡ Some f → IsReady m k.world k.images (micro k.world k.images p (laid_over w f)).config.now p c.stage None
@@ -68,7 +69,7 @@ module _ (m : Meaning) (laws : Laws m) (k : Kernel) (w : Objects) (here : IsPlac
       alike_ready p c e (micro k.world k.images p (laid_over w f)).config.now work.store work.alike
 
   completed : (p : ℕ) (c : Call) → k.call p ≡ Some c → (f : Config) → config_of m k p ≡ Some f → (answer : List ℕ) → (micro k.world k.images p (laid_over w f)).said ≡ Micro.Completed answer →
-      IsReady m k.world k.images (micro k.world k.images p (laid_over w f)).config.now p c.stage (Some (bare_answer answer))
+      IsReady m k.world k.images (micro k.world k.images p (laid_over w f)).config.now p c.stage (Some (answer_of answer (laid_over w f).levels))
   completed p c e f is answer said =
       let g = grafted m laws k here.kernel p f is in
       let works = instructions_work k.world k.images p w g.point (laid_over w f) (laid_works m laws k w here p f is) in
@@ -77,7 +78,12 @@ module _ (m : Meaning) (laws : Laws m) (k : Kernel) (w : Objects) (here : IsPlac
       let ready = lost p c e f is in
       let asks = subst (λ (y : Call). m.asks k.world k.objects p y.stage ≡ Some g.point) (is_it g.has.call c (sym g.has.is ∙ e)) g.asks in
       let point = point_on m laws k.world k.images k.objects d p c.stage g.point (here.kernel.fit p c e) asks (near_after m laws k w here d work.alike) ready.standing in
-      record { standing = ready.standing; disk = ready.disk; right = point.right answer (subst (AnswersRightly g.point d.things) said works.1) }
+      record {
+        standing = ready.standing;
+        disk = ready.disk;
+        right = answer_right d (m.asks k.world d p c.stage) answer (laid_over w f).levels (point.right answer (subst (AnswersRightly g.point d.things) said works.1));
+        body = subst (AnswersWholly (laid_over w f).levels) said (micro_wholly k.world k.images p (laid_over w f));
+      }
     where
       is_it : (a b : Call) → Some a ≡ Some b → a ≡ b
       is_it a b h = cc
@@ -153,9 +159,9 @@ ready_in_place m laws =
           let f = config_there m laws k x.objects here p (ap has_some (sym (h.levels p)) ∙ some) in
           let there = placed_is m laws k x.objects here p f.0 f.1 in
           let same = aligned m x k h in
-          subst (λ (y : Placed). IsReady m y.world y.images (micro y.world y.images p (placed_config y p)).config.now p c.stage (Some (bare_answer answer))) (sym same)
-          (subst (λ (z : Config). IsReady m k.world k.images (micro k.world k.images p z).config.now p c.stage (Some (bare_answer answer))) (sym there)
-          (subst (λ t. IsReady m k.world k.images (micro k.world k.images p (laid_over x.objects f.0)).config.now p t (Some (bare_answer answer))) d.2
+          subst (λ (y : Placed). IsReady m y.world y.images (micro y.world y.images p (placed_config y p)).config.now p c.stage (Some (answer_of answer (placed_levels y p)))) (sym same)
+          (subst (λ (z : Config). IsReady m k.world k.images (micro k.world k.images p z).config.now p c.stage (Some (answer_of answer z.levels))) (sym there)
+          (subst (λ t. IsReady m k.world k.images (micro k.world k.images p (laid_over x.objects f.0)).config.now p t (Some (answer_of answer (laid_over x.objects f.0).levels))) d.2
           (completed m laws k x.objects here p d.0 d.1 f.0 f.1 answer
           (ap (λ (z : Config). (micro k.world k.images p z).said) (sym there) ∙ ap (λ (y : Placed). (micro y.world y.images p (placed_config y p)).said) (sym same) ∙ said))));
       lost = λ x k p c h e some.

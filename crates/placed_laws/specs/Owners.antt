@@ -39,8 +39,8 @@ AreOfOwner q (l ∷ ls) = (l.owner ≡ q) × AreOwn q l.records × AreOfOwner q 
 -- and so are their records.
 pub record OwnersStay : Type 0 where
   -- the first level begins
-  pub begins : (images : ImageTable) (s : Objects) (p : ℕ) (needs : List Need) (a : Point) →
-      AreOfOwner a.installer (begin_at images s p needs a).levels
+  pub begins : (images : ImageTable) (s : Objects) (p : ℕ) (needs : List Need) (feed : List ℕ)
+      (a : Point) → AreOfOwner a.installer (begin_at images s p needs feed a).levels
   -- an instruction: an ask begins a level of the asker's own process, and an accessor changes what
   -- the level's owner has
   pub instructions : (v : World) (images : ImageTable) (p q : ℕ) (c : Config) →

@@ -7,15 +7,15 @@ use Rattle.kernel_model.specs.declared.Note.TheVariants.{Dropped, Ticked}
 use Rattle.kernel_model.specs.declared.Point.{Point}
 use Rattle.kernel_model.specs.World.{ImageTable}
 use Rattle.kernel_model.specs.Objects.{Objects, GraftValue, at}
-use Rattle.kernel_model.specs.Meaning.{Meaning, Piece, After, Continues, EndsWith, Fails, Answer, bare_answer}
-use Rattle.kernel_model.specs.Levels.{Config, Outcome, drop_level}
+use Rattle.kernel_model.specs.Meaning.{Meaning, Piece, After, Continues, EndsWith, Fails, Answer}
+use Rattle.kernel_model.specs.Levels.{Config, Outcome, answer_of, drop_level}
 use Rattle.kernel_model.specs.GraftStep.{micro}
 use Rattle.kernel_model.specs.History.{begin_at}
 use Rattle.kernel_model.specs.Kernel.{Entry, gave_note, after_note, new_entry, less_entry}
 use Rattle.kernel_model.specs.Settle.{entry_with}
 use Rattle.kernel_model.specs.Locks.{LockTable}
 use Rattle.kernel_model.specs.Events.{counted}
-use Rattle.placed_laws.specs.Placed.{PlacedCall, PlacedLevel, Placed, PlacedRun, bare, placed_config, placed_holds, placed_blocker_in}
+use Rattle.placed_laws.specs.Placed.{PlacedCall, PlacedLevel, Placed, PlacedRun, bare, placed_levels, placed_config, placed_holds, placed_blocker_in}
 
 -- ---- changes
 
@@ -115,7 +115,7 @@ module _ (m : Meaning) where
   placed_piece_at p c a None r = placed_finish_on p c r.placed.objects None r
   placed_piece_at p c a (Some g) r =
       with_config p (begin_at r.placed.images r.placed.objects p
-      (m.need r.placed.world r.placed.objects p c.stage) a) r
+      (m.need r.placed.world r.placed.objects p c.stage) (m.feed c.stage) a) r
 
   -- a piece, by the point that it asks, if it asks one
   abbrev pub placed_piece_step : ℕ → PlacedCall → Option Point → PlacedRun → PlacedRun
@@ -135,7 +135,7 @@ module _ (m : Meaning) where
   placed_after_outcome p c f Micro.Went r = with_config p f r
   placed_after_outcome p c f (Micro.Blocked object holder by_user) r = r
   placed_after_outcome p c f (Micro.Completed answer) r =
-      placed_finish_on p c f.now (Some (bare_answer answer)) r
+      placed_finish_on p c f.now (Some (answer_of answer (placed_levels r.placed p))) r
   placed_after_outcome p c f (Micro.Dropped d q pt cause) r =
       placed_after_drop p c f d (placed_noted (Dropped c.number q pt cause) r)
 

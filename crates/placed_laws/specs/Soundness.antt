@@ -2,8 +2,8 @@
 use Rattle.std.specs.Prelude.{◌≡◌, ◌<◌, ℕ, true, List, length, Some, None}
 use Rattle.kernel_model.specs.declared.Cause.{Cause}
 use Rattle.kernel_model.specs.declared.Micro.{Micro}
-use Rattle.kernel_model.specs.Meaning.{Meaning, bare_answer}
-use Rattle.kernel_model.specs.Levels.{drop_level}
+use Rattle.kernel_model.specs.Meaning.{Meaning}
+use Rattle.kernel_model.specs.Levels.{answer_of, drop_level}
 use Rattle.kernel_model.specs.GraftStep.{micro}
 use Rattle.kernel_model.specs.Kernel.{Kernel, Run}
 use Rattle.kernel_model.specs.Sound.{FitsDisk, ImagesAreLoaded, IsSoundConfig}
@@ -34,7 +34,7 @@ pub record ReadyInPlace (m : Meaning) : Type 0 where
       StandsFor m x k → x.call p ≡ Some c → has_some (x.levels p) ≡ true →
       (micro x.world x.images p (placed_config x p)).said ≡ Micro.Completed answer →
       IsReady m x.world x.images (micro x.world x.images p (placed_config x p)).config.now p c.stage
-      (Some (bare_answer answer))
+      (Some (answer_of answer (placed_levels x p)))
   pub lost : (x : Placed) (k : Kernel) (p : ℕ) (c : PlacedCall) → StandsFor m x k →
       x.call p ≡ Some c → has_some (x.levels p) ≡ true →
       IsReady m x.world x.images

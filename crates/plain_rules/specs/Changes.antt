@@ -215,3 +215,5 @@ piece_changes (Fund pt kind x) n v s blocks p answer io o r h =
     fund_changes n pt kind x v s blocks p answer io o h
 piece_changes (Bill pt) n v s blocks p answer io o r h =
     bill_changes s p pt (s.accounts.graft p pt) blocks o h
+-- the calls of other tables are refused
+piece_changes c n v s blocks p answer io o r h = same_self o s

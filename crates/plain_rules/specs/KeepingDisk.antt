@@ -292,3 +292,5 @@ disk_by (Fund pt k x) n v images s blocks p answer io h =
     keeps_by v s blocks _ (fund_disk s p pt k x (s.accounts.graft p pt) blocks)
 disk_by (Bill pt) n v images s blocks p answer io h =
     keeps_by v s blocks _ (bill_disk s p pt (s.accounts.graft p pt) blocks)
+-- the calls of other tables are refused
+disk_by c n v images s blocks p answer io h = record { fits = λ a. a; whole = λ a. a }

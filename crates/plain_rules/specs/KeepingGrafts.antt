@@ -122,6 +122,8 @@ keeps_images (Fund pu k x) n v s blocks p answer io q pt h =
     fund_image s p pu k x (s.accounts.graft p pu) blocks q pt refl
 keeps_images (Bill pu) n v s blocks p answer io q pt h =
     bill_image s p pu (s.accounts.graft p pu) blocks q pt refl
+-- the calls of other tables are refused
+keeps_images c n v s blocks p answer io q pt h = record { same = λ e. refl }
 
 -- what keeps its image isn't new
 not_new : (s u : Objects) (q pt : ℕ) → KeepsImage (s.accounts.graft q pt) (u.accounts.graft q pt) →

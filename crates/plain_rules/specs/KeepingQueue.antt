@@ -181,6 +181,8 @@ leaves_queue (Fund pt k x) n v s blocks p answer io h =
     ap (λ (w : Things). w.queue) (fund_queue s p pt k x (s.accounts.graft p pt) blocks)
 leaves_queue (Bill pt) n v s blocks p answer io h =
     ap (λ (w : Things). w.queue) (bill_queue s p pt (s.accounts.graft p pt) blocks)
+-- the calls of other tables are refused
+leaves_queue c n v s blocks p answer io h = refl
 
 -- who lives after a piece
 pub keeps_living : (c : SysCall) (n : ℕ) (v : World) (s : Objects) (blocks : Blocks) (p : ℕ)

@@ -151,3 +151,5 @@ store_by (Fund pt k x) n v images s blocks p answer io h whole =
 store_by (Bill pt) n v images s blocks p answer io h whole =
     bill_store v s p pt (s.accounts.graft p pt) blocks refl h.store h.caller
     (bill_granted v images p pt h.granted)
+-- the calls of other tables are refused
+store_by c n v images s blocks p answer io h whole = h.store

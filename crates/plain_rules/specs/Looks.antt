@@ -13,6 +13,7 @@ use Rattle.kernel_model.specs.declared.Kind.{Kind}
 use Rattle.kernel_model.specs.declared.Need.{Need}
 use Rattle.kernel_model.specs.declared.Point.{Point}
 use Rattle.kernel_model.specs.declared.Refusal.{Refusal}
+use Rattle.kernel_model.specs.declared.Refusal.TheVariants.{BadPoint}
 use Rattle.kernel_model.specs.declared.OpenRow.{OpenRow}
 use Rattle.kernel_model.specs.World.{World, Blocks, file_named}
 use Rattle.kernel_model.specs.Objects.{Objects, Things, Accounts, GraftValue, CacheValue, SameAt, same_object}
@@ -26,7 +27,7 @@ use Rattle.kernel_model.specs.Laws.{before_point}
 use Rattle.plain_rules.specs.Exits.{in_family, needed_from_exclusively, needs_graft}
 use Rattle.plain_rules.specs.FileChanges.{read_leaves, ahead_leaves, write_leaves}
 use Rattle.plain_rules.specs.Changes.{slice_leaves}
-use Rattle.plain_rules.specs.SamePieces.{SamePiece, spawn_same, yield_same, open_same, close_same, take_same, free_same, poke_same, peek_same, tune_same, choose_same, give_same, install_same, remove_same, fund_same, bill_same}
+use Rattle.plain_rules.specs.SamePieces.{SamePiece, same_refusal, spawn_same, yield_same, open_same, close_same, take_same, free_same, poke_same, peek_same, tune_same, choose_same, give_same, install_same, remove_same, fund_same, bill_same}
 use Rattle.plain_rules.specs.SameFetches.{FetchAgrees, ReadAgrees, read_piece_same, write_piece_same, sync_same, exit_same}
 
 -- ---- agreement on a list
@@ -303,6 +304,8 @@ looks_by (Fund pt kind x) n v s u blocks p answer io h =
     fund_same s u p pt kind x blocks _ _ ((first_agrees h).0)
     (payer_agrees p (s.accounts.graft p pt) s u (rest_agrees h))
 looks_by (Bill pt) n v s u blocks p answer io h = bill_same s u p pt _ _ blocks ((first_agrees h).0)
+-- the calls of other tables are refused
+looks_by c n v s u blocks p answer io h = same_refusal s u blocks BadPoint BadPoint refl
 
 -- a piece does the same on states that agree on what it needs
 pub piece_looks : (c : SysCall) (n : ℕ) (v : World) (s u : Objects) (blocks : Blocks) (p : ℕ)

@@ -13,7 +13,7 @@ use Rattle.kernel_model.specs.declared.Point.{Point}
 use Rattle.kernel_model.specs.declared.Refusal.{Refusal}
 use Rattle.kernel_model.specs.declared.Refusal.TheVariants.{BadFd, BadIndex}
 use Rattle.kernel_model.specs.declared.SysCall.{SysCall}
-use Rattle.kernel_model.specs.declared.SysCall.TheVariants.{Spawn, Exit, Yield, OpenName, CloseFd, Read, Write, Sync, TakeLock, FreeLock, Poke, Peek, Tune, Choose, Give, Install, Remove, Fund, Bill}
+use Rattle.kernel_model.specs.declared.SysCall.TheVariants.{Yield, Read, Write}
 use Rattle.kernel_model.specs.World.{World, ImageTable}
 use Rattle.kernel_model.specs.Objects.{Objects, same_object}
 use Rattle.kernel_model.specs.Policies.{Ahead, Victim, Next, Serve, Stream, kind_of, next_process}
@@ -103,45 +103,15 @@ piece_needed : (top : ℕ) (c : SysCall) (n : ℕ) (v : World) (images : ImageTa
     (p : ℕ) (a : Point) → is_ok (plain_early top v images p c) ≡ true →
     piece_ask c n v s.things p ≡ Some a →
     AreNeeded (piece_needs c n v s p) a.point
-piece_needed top Spawn n v images s p a granted e =
-    absurd_none a (AreNeeded (piece_needs Spawn n v s p) a.point) e
-piece_needed top Exit n v images s p a granted e =
-    absurd_none a (AreNeeded (piece_needs Exit n v s p) a.point) e
 piece_needed top Yield n v images s p a granted e = yield_needed n v s a e
-piece_needed top (OpenName name) n v images s p a granted e =
-    absurd_none a (AreNeeded (piece_needs (OpenName name) n v s p) a.point) e
-piece_needed top (CloseFd fd) n v images s p a granted e =
-    absurd_none a (AreNeeded (piece_needs (CloseFd fd) n v s p) a.point) e
 piece_needed top (Read fd i off len) n v images s p a granted e =
     read_needed n v s p fd i off len a
     (file_low fd (Read fd i off len) (refused (nat_lt 512 (off + len)) BadIndex None) granted) e
 piece_needed top (Write fd i off bytes) n v images s p a granted e =
     fetch_needed v s (shared (OpenFile p fd))
     (file_block v (s.things.file p fd) i off (length bytes)) a e
-piece_needed top Sync n v images s p a granted e =
-    absurd_none a (AreNeeded (piece_needs Sync n v s p) a.point) e
-piece_needed top (TakeLock u) n v images s p a granted e =
-    absurd_none a (AreNeeded (piece_needs (TakeLock u) n v s p) a.point) e
-piece_needed top (FreeLock u) n v images s p a granted e =
-    absurd_none a (AreNeeded (piece_needs (FreeLock u) n v s p) a.point) e
-piece_needed top (Poke k x) n v images s p a granted e =
-    absurd_none a (AreNeeded (piece_needs (Poke k x) n v s p) a.point) e
-piece_needed top (Peek k) n v images s p a granted e =
-    absurd_none a (AreNeeded (piece_needs (Peek k) n v s p) a.point) e
-piece_needed top (Tune kind k x) n v images s p a granted e =
-    absurd_none a (AreNeeded (piece_needs (Tune kind k x) n v s p) a.point) e
-piece_needed top (Choose kind j) n v images s p a granted e =
-    absurd_none a (AreNeeded (piece_needs (Choose kind j) n v s p) a.point) e
-piece_needed top (Give q kind x) n v images s p a granted e =
-    absurd_none a (AreNeeded (piece_needs (Give q kind x) n v s p) a.point) e
-piece_needed top (Install pt i limit) n v images s p a granted e =
-    absurd_none a (AreNeeded (piece_needs (Install pt i limit) n v s p) a.point) e
-piece_needed top (Remove pt) n v images s p a granted e =
-    absurd_none a (AreNeeded (piece_needs (Remove pt) n v s p) a.point) e
-piece_needed top (Fund pt kind x) n v images s p a granted e =
-    absurd_none a (AreNeeded (piece_needs (Fund pt kind x) n v s p) a.point) e
-piece_needed top (Bill pt) n v images s p a granted e =
-    absurd_none a (AreNeeded (piece_needs (Bill pt) n v s p) a.point) e
+piece_needed top c n v images s p a granted e =
+    absurd_none a (AreNeeded (piece_needs c n v s p) a.point) e
 
 pub calls_need_answers : (top : ℕ) → NeedsAnswers (plain_upto top)
 calls_need_answers top v images s p t a standing e =

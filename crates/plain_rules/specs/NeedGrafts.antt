@@ -103,6 +103,8 @@ taken_piece (Install pt i limit) n v s p = (refl, tt)
 taken_piece (Remove pt) n v s p = each_of_point TakesGraft s.accounts p pt refl tt
 taken_piece (Fund pt kind x) n v s p = each_of_point TakesGraft s.accounts p pt refl tt
 taken_piece (Bill pt) n v s p = (refl, tt)
+-- the calls of other tables are refused
+taken_piece c n v s p = tt
 
 -- a graft of such a list
 graft_taken : (q pt : ℕ) (ns : List Need) → Each TakesGraft ns → is_needed (Graft q pt) ns ≡ true →

@@ -141,6 +141,8 @@ own_piece (Fund pt kind x) n v s p =
     each_of_point (IsOwnNeed (Fund pt kind x) p) s.accounts p pt
     (own (Fund pt kind x) p _ refl refl tt) (own (Fund pt kind x) p _ refl refl tt)
 own_piece (Bill pt) n v s p = (own (Bill pt) p _ refl refl tt, tt)
+-- the calls of other tables are refused
+own_piece c n v s p = tt
 
 -- ---- how many
 

@@ -233,6 +233,8 @@ call_modes (Fund pt kind x) n v s p =
     kind_modes all_exclusive (piece_needs (Fund pt kind x) n v s p)
     (point_kind all_exclusive s.accounts p pt refl refl)
 call_modes (Bill pt) n v s p = (first_wanted (exclusive (Graft p pt)) [], tt)
+-- the calls of other tables are refused
+call_modes c n v s p = tt
 
 -- the system calls need each object in one mode
 pub plain_needs_have_one_mode : (top : ℕ) → NeedsHaveOneMode (plain_upto top)

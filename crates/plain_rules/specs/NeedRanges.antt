@@ -151,3 +151,5 @@ piece_ranges v images s p (Bill pt) n c =
     let l = c.store.numbers p c.caller in let m =
     granted_below (Bill pt) c.granted.top pt BadPoint None c.granted.granted in
     (let most = c.granted.most in omega (arith, l, m, most), tt)
+-- the calls of other tables are refused
+piece_ranges v images s p call n c = tt

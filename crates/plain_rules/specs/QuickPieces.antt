@@ -164,6 +164,9 @@ quick_piece (Remove pt) n v s blocks p answer io h =
 quick_piece (Fund pt k x) n v s blocks p answer io h =
     quick_fund s p pt k x (s.accounts.graft p pt) blocks
 quick_piece (Bill pt) n v s blocks p answer io h = quick_bill s p pt (s.accounts.graft p pt) blocks
+-- the calls of other tables are refused
+quick_piece c n v s blocks p answer io h =
+    record { stops = refl; calls = refl; faultless = refl }
 
 -- and looks at no call of the disk
 pub quick_piece_disk : (c : SysCall) (n : ℕ) (v : World) (s : Objects) (blocks : Blocks) (p : ℕ)

@@ -3,7 +3,7 @@ use Rattle.std.specs.Prelude.{◌≡◌, ◌≢◌, ℕ, zero, suc, ◌-◌, Boo
 use Rattle.std.proofs.Common.{refl, subst, sym}
 use Rattle.kernel_model.specs.declared.Kind.{Kind}
 use Rattle.kernel_model.specs.declared.Refusal.{Refusal}
-use Rattle.kernel_model.specs.declared.Refusal.TheVariants.{BadIndex, NotHeld, Short}
+use Rattle.kernel_model.specs.declared.Refusal.TheVariants.{BadPoint, BadIndex, NotHeld, Short}
 use Rattle.kernel_model.specs.declared.SysCall.{SysCall}
 use Rattle.kernel_model.specs.declared.SysCall.TheVariants.{Spawn, Exit, Yield, OpenName, CloseFd, Read, Write, Sync, TakeLock, FreeLock, Poke, Peek, Tune, Choose, Give, Install, Remove, Fund, Bill}
 use Rattle.kernel_model.specs.declared.OpenRow.{OpenRow}
@@ -205,6 +205,8 @@ module _ (s : Objects) (blocks : Blocks) where
   piece_keeps (Remove pt) n v p answer io ne = remove_keeps p pt (s.accounts.graft p pt)
   piece_keeps (Fund pt k x) n v p answer io ne = fund_keeps p pt k x (s.accounts.graft p pt)
   piece_keeps (Bill pt) n v p answer io ne = bill_keeps p pt (s.accounts.graft p pt)
+  -- the calls of other tables are refused
+  piece_keeps c n v p answer io ne = kept BadPoint
 
 -- the same by the refusal
 pub refused_by : (c : SysCall) (n : ℕ) (v : World) (s : Objects) (blocks : Blocks) (p : ℕ)

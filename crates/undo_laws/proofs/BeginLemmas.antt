@@ -250,12 +250,12 @@ module _ (v : World) (images : ImageTable) (p : ℕ) (base : Things) where
 
 -- by the point that is asked
 replay_began : (v : World) (images : ImageTable) (s : Objects) (p : ℕ) (ks : List Mark) (base : List Need)
-    (ask : Option Point) →
-    TraceBegan s.things (elim (begin_with images s p base ask) as
+    (feed : List ℕ) (ask : Option Point) →
+    TraceBegan s.things (elim (begin_with images s p base feed ask) as
     (λ _. Option Trace) [ None ↦ None | Some c ↦ marks_on v images p ks (first_trace c) ])
-replay_began v images s p ks base None = tt
-replay_began v images s p ks base (Some a) =
-    marks_began v images p s.things ks (first_trace (begin_at images s p base a)) refl
+replay_began v images s p ks base feed None = tt
+replay_began v images s p ks base feed (Some a) =
+    marks_began v images p s.things ks (first_trace (begin_at images s p base feed a)) refl
 
 call_began_with : (m : Meaning) (k : Kernel) (p : ℕ) (call : Option Call) → TraceBegan k.objects.things (trace_of m k p call)
 call_began_with m k p None = tt
@@ -263,13 +263,13 @@ call_began_with m k p (Some c) = by_marks c.marks
   where
     by_marks : (ks : Option (List Mark)) → TraceBegan k.objects.things (elim ks as (λ _. Option Trace) [
       | None ↦ None
-      | Some ks ↦ elim (begin_with k.images k.objects p (m.need k.world k.objects p c.stage)
+      | Some ks ↦ elim (begin_with k.images k.objects p (m.need k.world k.objects p c.stage) (m.feed c.stage)
           (m.asks k.world k.objects p c.stage)) as (λ _. Option Trace)
           [ None ↦ None | Some f ↦ marks_on k.world k.images p ks (first_trace f) ]
     ])
     by_marks None = tt
     by_marks (Some ks) =
-        replay_began k.world k.images k.objects p ks (m.need k.world k.objects p c.stage)
+        replay_began k.world k.images k.objects p ks (m.need k.world k.objects p c.stage) (m.feed c.stage)
         (m.asks k.world k.objects p c.stage)
 
 config_began : (w : Things) (x : Option Trace) → TraceBegan w x → ConfigBegan w (config_in x)

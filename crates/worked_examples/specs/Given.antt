@@ -1,6 +1,7 @@
 -- Runs of scripts for worked examples: an image line may be given by what its bytes load to, so
 -- that no seal is computed.
-use Rattle.std.specs.Prelude.{ℕ, suc, Bool, List, [], ◌∷◌, Option, None, Some, Result, Ok}
+use Rattle.std.specs.Prelude.{ℕ, suc, Bool, List, [], ◌∷◌, Option, None, Some, Result, Ok, flat_map}
+use Rattle.kernel_model.specs.declared.TheConstants.{LAST_CALLABLE}
 use Rattle.kernel_model.specs.declared.Instr.{Instr}
 use Rattle.kernel_model.specs.declared.Keys.{Keys}
 use Rattle.kernel_model.specs.World.{Image}
@@ -9,6 +10,9 @@ use Rattle.kernel_model.specs.Images.{LoadFault}
 use Rattle.kernel_model.specs.Kernel.{Kernel}
 use Rattle.kernel_model.specs.Session.{Build, whole, Session, Written, silent, first_session, image_line_run, after_line, and_then}
 use Rattle.kernel_model.specs.Outcome.{End, lines_after, outcome_of, written}
+use Rattle.kernel_model.specs.AllCalls.{all_calls}
+use Rattle.kernel_model.specs.Boxed.{boxed_code}
+use Rattle.kernel_model.specs.Text.{line}
 
 -- lines as they stand, or an image line by what its bytes load to
 pub data Given : Type 0 where
@@ -18,6 +22,14 @@ pub data Given : Type 0 where
 -- an image that loads
 abbrev pub image : List Instr → List ℕ → Result Image LoadFault
 image code body = Ok (record { code = code; body = body })
+
+-- an image of the boxed form of this code, without data
+abbrev pub boxed_image : List Instr → Result Image LoadFault
+boxed_image code = image (boxed_code code) []
+
+-- the bytes of lines
+abbrev pub lines_of : List (List ℕ) → List ℕ
+lines_of texts = flat_map line texts
 
 -- an image line after `boot`
 abbrev pub image_given : Session → ℕ → Result Image LoadFault → Option Kernel → List Bool → Written
@@ -57,3 +69,11 @@ module _ (b : Build) (keys : Keys) where
 -- the same with all that the product has
 abbrev pub given_run : List Bool → List Given → ℕ × List ℕ
 given_run io gs = run_of whole no_keys io gs
+
+-- what is built where all calls of the program are, and all of the callable list
+abbrev pub all_built : Build
+all_built = record { meaning = all_calls; callable = LAST_CALLABLE }
+
+-- the same with all calls of the program
+abbrev pub all_calls_run : List Bool → List Given → ℕ × List ℕ
+all_calls_run io gs = run_of all_built no_keys io gs

@@ -3,3 +3,5 @@ pub mod GraftExamples
 pub mod AskExamples
 pub mod WaitingExamples
 pub mod RunExamples
+pub mod PortExamples
+pub mod StreamExamples
