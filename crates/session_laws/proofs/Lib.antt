@@ -1,11 +1,19 @@
+pub mod ActionLemmas
+pub mod AnswerLemmas
+pub mod AnsweringLemmas
 pub mod ClockLemmas
 pub mod CountLemmas
 pub mod DirectoryLemmas
 pub mod EventCountLemmas
+pub mod ImageRestLemmas
+pub mod LineLemmas
 mod NeededPremises
+pub mod PlaceLemmas
+pub mod RunAnswerLemmas
 pub mod SessionLemmas
 pub mod SetupLemmas
 pub mod SliceLemmas
+pub mod TellingLemmas
 pub mod TickLineLemmas
 pub mod TraceCountLemmas
 pub mod SpendingLemmas

@@ -1,6 +1,12 @@
 -- Premises of the laws that can't be left out: for each the smallest example in which the law would be false.
-use Rattle.std.specs.Prelude.{◌≡◌, ℕ, ◌≤◌, ◌==◌, cond, nat_lt, List, [], ◌∷◌, codes, Option, Some, None, true, false}
+use Rattle.std.specs.Prelude.{◌≡◌, ℕ, ◌≤◌, ◌==◌, Bool, cond, nat_lt, List, [], ◌∷◌, ◌++◌, codes, replicate, Option, Some, None, true, false}
 use Rattle.std.proofs.Common.{arith, refl, ap, subst, inl, inr}
+use Rattle.std.proofs.lemmas.Bool.{cases_eq}
+use Rattle.std.proofs.lemmas.List.{length-replicate}
+use Rattle.kernel_model.specs.declared.Event.TheVariants.{Sys}
+use Rattle.kernel_model.specs.declared.Note.{Note}
+use Rattle.kernel_model.specs.declared.Note.TheVariants.{Refused, Ran}
+use Rattle.kernel_model.specs.declared.Refusal.TheVariants.{Busy}
 use Rattle.kernel_model.specs.World.{World, Blocks}
 use Rattle.kernel_model.specs.Objects.{Objects, Accounts, FrameValue}
 use Rattle.kernel_model.specs.Locks.{untouched}
@@ -8,13 +14,23 @@ use Rattle.kernel_model.specs.Directory.{Disk, directory_of}
 use Rattle.kernel_model.specs.declared.Keys.{Keys}
 use Rattle.kernel_model.specs.Levels.{Level, Config}
 use Rattle.kernel_model.specs.GraftStep.{micro}
-use Rattle.kernel_model.specs.Kernel.{Kernel}
+use Rattle.kernel_model.specs.Kernel.{Call, Kernel, Run, joins, with_call}
 use Rattle.kernel_model.specs.Opening.{opening_things, opening_kernel}
 use Rattle.kernel_model.specs.Session.{Session, first_setup, world_of, session_after, whole}
-use Rattle.kernel_model.specs.Sound.{IsSoundKernel}
+use Rattle.kernel_model.specs.Sound.{IsSoundKernel, HasWholeBlocks}
+use Rattle.kernel_model.specs.declared.SysCall.{SysCall}
 use Rattle.kernel_model.specs.declared.SysCall.TheVariants.{Sync}
+use Rattle.kernel_model.specs.Events.{event}
 use Rattle.kernel_model.specs.Fetch.{dirty_value}
-use Rattle.kernel_model.specs.Pieces.{piece_of}
+use Rattle.kernel_model.specs.Meaning.{stage}
+use Rattle.kernel_model.specs.Pieces.{plain, piece_of}
+use Rattle.plain_rules.specs.Ledgers.{at_other}
+use Rattle.plain_rules.specs.PlainLaws.{laws_of_plain}
+use Rattle.kernel_laws.proofs.OpeningLemmas.{opening_kernel_is_sound}
+use Rattle.graft_laws.specs.Kernels.{IsSoundRun}
+use Rattle.graft_laws.proofs.SettleSoundLemmas.{joined_call_sound}
+use Rattle.history_laws.specs.Notes.{is_end}
+use Rattle.session_laws.specs.Answers.{has_call, Answers, IsAnswered}
 use Rattle.session_laws.specs.Sessions.{run_of}
 use Rattle.session_laws.specs.Syncs.{WritesBackAlone}
 
@@ -152,3 +168,108 @@ doubles_lose h = elim ((h doubled (λ b. [])).frames 0) [
         (piece_of Sync 0 small_world doubled (λ b. []) 0 None []).blocks v.block ≡ v.bytes → ⊥
     other_bytes v is e = apart ((piece_of Sync 0 small_world doubled (λ b. []) 0 None []).blocks first_value.block) first_value.bytes refl refl
         (subst (λ (x : FrameValue). (piece_of Sync 0 small_world doubled (λ b. []) 0 None []).blocks x.block ≡ x.bytes) is e)
+
+-- ---- answers
+
+-- blocks of zeros
+abbrev zero_blocks : Blocks
+zero_blocks = λ b. replicate 512 0
+
+-- the call of event 1, a `sync` of process 0
+abbrev first_call : Call
+first_call = record { number = 1; stage = stage Sync 0; marks = None }
+
+-- it has joined the order of a kernel after boot, which hasn't settled yet
+abbrev unsettled : Run
+unsettled =
+    joins 0 (with_call 0 (Some first_call)
+    (record { kernel = opening_kernel small_world; blocks = zero_blocks; notes = []; io = [] }))
+
+-- such a kernel is sound
+unsettled_sound : IsSoundRun plain unsettled
+unsettled_sound =
+    joined_call_sound plain laws_of_plain laws_of_plain.need.grafts 1 0 Sync (stage Sync 0)
+    (record { kernel = opening_kernel small_world; blocks = zero_blocks; notes = []; io = [] })
+    (record {
+      kernel = opening_kernel_is_sound plain small_world
+          (record {
+            frames_some = two_two;
+            frames_most = two_most;
+            entries = none_few;
+            files = λ n r is. absurd cc;
+            callable = fifteen;
+          })
+          (record {
+            some = one_one;
+            most = one_most;
+            files = λ n r is. absurd cc;
+            frames = λ f x is. absurd cc;
+          });
+      blocks = λ b low. length-replicate {A = ℕ} 512 0;
+    }) refl refl refl
+  where
+    two_two : 2 ≤ 2
+    two_two = omega arith
+
+    two_most : 2 ≤ 64
+    two_most = omega arith
+
+    none_few : 0 ≤ 16
+    none_few = omega arith
+
+    fifteen : 15 ≤ 15
+    fifteen = omega arith
+
+    one_one : 1 ≤ 1
+    one_one = omega arith
+
+    one_most : 1 ≤ 4096
+    one_most = omega arith
+
+-- a kernel that doesn't rest: behind the number of instructions nothing is said of its call
+unrested_is_silent :
+    ((k : Kernel) (blocks : Blocks) (n : ℕ) → IsSoundKernel plain k → HasWholeBlocks k.world blocks →
+    ((p : ℕ) → has_call k p n ≡ false) → Answers plain k blocks n) →
+    ⊥
+unrested_is_silent h =
+    let answers = h unsettled.kernel zero_blocks 2 unsettled_sound.kernel unsettled_sound.blocks fresh in
+    let told = answers.steps 0 1 [] refl one_one one_most in
+    let place = told.stands first_call refl in
+    too_many told.before told.behind (Ran 2 0) (Ran 2 told.count) place.0 told.notes place.1
+  where
+    one_one : 1 ≤ 1
+    one_one = omega arith
+
+    one_most : 1 ≤ 65536
+    one_most = omega arith
+
+    fresh : (p : ℕ) → has_call unsettled.kernel p 2 ≡ false
+    fresh p = elim (cases_eq p 0) [
+      | inl same ↦ ap (λ q. has_call unsettled.kernel q 2) same
+      | inr ne ↦ ap (λ (x : Option Call). has_call (record (opening_kernel small_world) { call = λ q. x }) p 2)
+          (at_other 0 p (Some first_call) (opening_kernel small_world).call ne)
+    ]
+
+    -- one note isn't one with another behind it
+    too_many : (before behind : List Note) (x y z : Note) → x ∷ [] ≡ before ++ y ∷ behind →
+        behind ≡ z ∷ [] → ⊥
+    too_many [] behind x y z e f = cc
+    too_many (b ∷ []) behind x y z e f = cc
+    too_many (b ∷ c ∷ before) behind x y z e f = cc
+
+-- a number that a call in flight has: the answer is a refusal, while a call of that number is in
+-- flight
+used_number_lies :
+    ((k : Kernel) (blocks : Blocks) (n : ℕ) → IsSoundKernel plain k → HasWholeBlocks k.world blocks →
+    (p : ℕ) (call : SysCall) (io : List Bool) →
+    IsAnswered plain p n (event plain k blocks n (Sys p call) io)) →
+    ⊥
+used_number_lies h =
+    let a = h unsettled.kernel zero_blocks 1 unsettled_sound.kernel unsettled_sound.blocks 0 Sync [] in
+    both (is_end a.answer) (ap is_end (same_first a.answer a.once)) a.over
+  where
+    same_first : (x : Note) → Refused 1 (Busy 1) ∷ [] ≡ x ∷ [] → Refused 1 (Busy 1) ≡ x
+    same_first x e = cc
+
+    both : (b : Bool) → true ≡ b → b ≡ false → ⊥
+    both b e f = cc

@@ -57,7 +57,7 @@ module _ (m : Meaning) (laws : Laws m) where
   -- ---- the last line
 
   -- it leaves the kernel
-  last_kernel : (p : ℕ) (x : Option Call) (r : Run) → (last_note m p x r).kernel ≡ r.kernel
+  pub last_kernel : (p : ℕ) (x : Option Call) (r : Run) → (last_note m p x r).kernel ≡ r.kernel
   last_kernel p None r = refl
   last_kernel p (Some c) r = by_place (in_order p r.kernel.order)
     where

@@ -124,17 +124,17 @@ module _ (v : World) (images : ImageTable) (p : ℕ) where
 
 -- by the point that is asked
 replay_by : (v : World) (images : ImageTable) (s : Objects) (p : ℕ) (ks : List Mark) (base : List Need)
-    (ask : Option Point) →
-    TraceFits (elim (begin_with images s p base ask) as
+    (feed : List ℕ) (ask : Option Point) →
+    TraceFits (elim (begin_with images s p base feed ask) as
     (λ _. Option Trace) [ None ↦ None | Some c ↦ marks_on v images p ks (first_trace c) ])
-replay_by v images s p ks base None = tt
-replay_by v images s p ks base (Some a) =
-    marks_fit v images p ks (first_trace (begin_at images s p base a))
+replay_by v images s p ks base feed None = tt
+replay_by v images s p ks base feed (Some a) =
+    marks_fit v images p ks (first_trace (begin_at images s p base feed a))
     (none_fits (s.accounts.graft a.installer a.point), tt)
 
 pub histories_keep_counts : (m : Meaning) → HistoriesKeepCounts m
 histories_keep_counts m v images s p t ks now e =
-    counts_fit now.config (subst TraceFits e (replay_by v images s p ks (m.need v s p t) (m.asks v s p t)))
+    counts_fit now.config (subst TraceFits e (replay_by v images s p ks (m.need v s p t) (m.feed t) (m.asks v s p t)))
 
 -- ---- the calls of a kernel
 
@@ -145,13 +145,13 @@ call_fits m k p (Some c) = by_marks c.marks
   where
     by_marks : (ks : Option (List Mark)) → TraceFits (elim ks as (λ _. Option Trace) [
       | None ↦ None
-      | Some ks ↦ elim (begin_with k.images k.objects p (m.need k.world k.objects p c.stage)
+      | Some ks ↦ elim (begin_with k.images k.objects p (m.need k.world k.objects p c.stage) (m.feed c.stage)
           (m.asks k.world k.objects p c.stage)) as (λ _. Option Trace)
           [ None ↦ None | Some f ↦ marks_on k.world k.images p ks (first_trace f) ]
     ])
     by_marks None = tt
     by_marks (Some ks) =
-        replay_by k.world k.images k.objects p ks (m.need k.world k.objects p c.stage)
+        replay_by k.world k.images k.objects p ks (m.need k.world k.objects p c.stage) (m.feed c.stage)
         (m.asks k.world k.objects p c.stage)
 
 config_fits : (x : Option Trace) → TraceFits x → ConfigFits (config_in x)
