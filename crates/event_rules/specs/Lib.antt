@@ -1,0 +1,10 @@
+pub mod Granted
+pub mod HandlerLists
+pub mod Needs
+pub mod Asks
+pub mod Footprint
+pub mod Pieces
+pub mod Keeping
+pub mod DiskCalls
+pub mod Stages
+pub mod EventLaws

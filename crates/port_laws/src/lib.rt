@@ -1,0 +1,4 @@
+//! Laws of the ports: what a `serve` sends, and with which number it ends.
+#![tactic(auto)]
+
+pub mod served;

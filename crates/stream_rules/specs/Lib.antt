@@ -1,0 +1,16 @@
+pub mod PlainStages
+pub mod NeededObjects
+pub mod AskedPoints
+pub mod Needs
+pub mod Asks
+pub mod OwnPieces
+pub mod DiskCalls
+pub mod Carried
+pub mod Stages
+pub mod Keeping
+pub mod Footprint
+pub mod StreamLaws
+pub mod FetchedFrames
+pub mod PiecesInARow
+pub mod StreamReads
+pub mod StreamWrites
