@@ -6,3 +6,4 @@ pub mod Grants
 pub mod Granting
 pub mod WriteLaws
 pub mod LeftLaws
+pub mod BodyLaws

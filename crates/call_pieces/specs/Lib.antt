@@ -1,3 +1,4 @@
 pub mod Works
 pub mod Matching
 pub mod Shared
+pub mod Masks

@@ -75,7 +75,7 @@ pub(crate) fn remove<B: Policy>(store: &mut Store<B>, p: u8, pt: u32) -> Next
 }
 
 /// Process p gives n to its graft at point pt, if one stands there.
-pub(crate) fn fund<B: Policy>(store: &mut Store<B>, p: u8, pt: u32, k: Kind, n: u32) -> Next
+pub fn fund<B: Policy>(store: &mut Store<B>, p: u8, pt: u32, k: Kind, n: u32) -> Next
     requires alive { lives (queue_of store.old) p ≡ true }
     requires point { pt < 16 }
     ensures does { CameAtOnce (λ blocks.
@@ -94,7 +94,7 @@ pub(crate) fn fund<B: Policy>(store: &mut Store<B>, p: u8, pt: u32, k: Kind, n: 
 }
 
 /// From here on process p pays for its graft at point pt, if one stands there.
-pub(crate) fn bill<B: Policy>(store: &mut Store<B>, p: u8, pt: u32) -> Next
+pub fn bill<B: Policy>(store: &mut Store<B>, p: u8, pt: u32) -> Next
     requires alive { lives (queue_of store.old) p ≡ true }
     requires point { pt < 16 }
     ensures does { CameAtOnce (λ blocks.

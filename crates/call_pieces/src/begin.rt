@@ -6,10 +6,10 @@ ghost use Rattle.kernel_model.specs.World.{ImageTable};
 ghost use Rattle.kernel_model.specs.ImageMask.{TellsImages, has_bit};
 ghost use Rattle.kernel_model.specs.Bare.{call_with};
 ghost use Rattle.kernel_model.specs.Policies.{lives};
-ghost use Rattle.kernel_model.specs.Pieces.{plain};
-ghost use Rattle.kernel_model.specs.Early.{plain_early, call_refusal, refused, policy_count, TOP_POINT};
+ghost use Rattle.kernel_model.specs.Pieces.{plain_upto};
+ghost use Rattle.kernel_model.specs.Early.{plain_early, call_refusal, refused, policy_count};
 ghost use Rattle.kernel_state.specs.Stores.{world_of_store, objects_of, queue_of};
-ghost use Rattle.call_pieces.specs.Works.{IsDue, stage_of, stage_granted};
+ghost use Rattle.call_pieces.specs.Works.{IsDue, begun, stage_of, stage_granted};
 
 use crate::Work;
 use arrayvec::ArrayVec;
@@ -17,13 +17,13 @@ use graft_points::Policy;
 use kernel_model::{BLOCK_BYTES, BareCall, Refusal};
 use kernel_state::Store;
 
-/// The highest point at which a graft may stand.
-const TOP_POINT: u32 = 5;
+/// The highest point at which a graft may stand by the plain table.
+pub const TOP_POINT: u32 = 5;
 
 /// A call of process p, which lives, before its first piece; or its refusal of least number that
-/// needs no object, and the work stays as it was. Bit k of `images` tells whether image k is
-/// loaded. Only the bytes that there are are copied.
-pub fn early<B: Policy>(
+/// needs no object, where points go up to `TOP`, and the work stays as it was. Bit k of `images`
+/// tells whether image k is loaded.
+pub fn early_upto<const TOP: u32, B: Policy>(
     store: &Store<B>,
     images: u32,
     p: u8,
@@ -34,34 +34,22 @@ pub fn early<B: Policy>(
     requires alive { lives (queue_of store.now) p ≡ true }
     ensures value { (table : ImageTable) → TellsImages images table →
         stage_granted (stage_of work.new) result
-        ≡ plain_early TOP_POINT (world_of_store store.now) table p
-        (call_with call bytes.now.items) }
-    ensures ready { IfOk result (λ _. IsDue plain (world_of_store store.now)
+        ≡ plain_early TOP (world_of_store store.now) table p (call_with call bytes.now.items) }
+    ensures ready { IfOk result (λ _. IsDue (plain_upto TOP) (world_of_store store.now)
         (objects_of store.now) work.new.caller (stage_of work.new)) }
-    ensures work { IfOk result (λ _. work.new ≡
-        record { caller = p; call = call; bytes = bytes.now; piece = 0 }) }
+    ensures work { IfOk result (λ _. work.new ≡ begun p call bytes.now) }
     ensures kept { IfErr result (λ _. work.new ≡ work.old) }
 {
-    if let Some(refusal) = refusal(store, images, p, call, bytes.as_slice()) {
+    if let Some(refusal) = refusal_upto::<TOP, B>(store, images, p, call, bytes.as_slice()) {
         return Err(refusal);
     }
-    work.caller = p;
-    work.call = call;
-    work.piece = 0;
-    copy_bytes(&mut work.bytes, bytes);
+    work.begin(p, call, bytes);
     Ok(())
 }
 
-/// The same bytes once more.
-fn copy_bytes(to: &mut ArrayVec<u8, BLOCK_BYTES>, from: &ArrayVec<u8, BLOCK_BYTES>)
-    ensures { to.new.items ≡ from.now.items }
-{
-    to.clear();
-    let _ = to.try_extend_from_slice(from.as_slice());
-}
-
-/// The refusal of least number of a call that needs no object.
-fn refusal<B: Policy>(
+/// The refusal of least number of a call of process p that needs no object, where points go up to
+/// `TOP`. Bit k of `images` tells whether image k is loaded.
+pub fn refusal_upto<const TOP: u32, B: Policy>(
     store: &Store<B>,
     images: u32,
     p: u8,
@@ -70,8 +58,7 @@ fn refusal<B: Policy>(
 ) -> Option<Refusal>
     requires few { length bytes.now ≤ 512 }
     ensures { (table : ImageTable) → TellsImages images table →
-        result ≡ call_refusal TOP_POINT (world_of_store store.now) table p
-        (call_with call bytes.now) }
+        result ≡ call_refusal TOP (world_of_store store.now) table p (call_with call bytes.now) }
 {
     match call {
         BareCall::Exit => unless(p != 0, Refusal::Denied),
@@ -84,9 +71,12 @@ fn refusal<B: Policy>(
         BareCall::Tune(kind, _, _) => policy_refusal(p, kind <= 2),
         BareCall::Choose(kind, j) => policy_refusal(p, kind <= 2 && j < policies_of_kind(kind)),
         BareCall::Give(q, _, _) => unless(q <= 15, Refusal::NoProcess),
-        BareCall::Install(pt, image, limit) => install_refusal(images, pt, image, limit),
+        BareCall::Install(pt, image, limit) => install_refusal::<TOP>(images, pt, image, limit),
         BareCall::Remove(pt) | BareCall::Fund(pt, _, _) | BareCall::Bill(pt) => {
-            unless(pt <= TOP_POINT, Refusal::BadPoint)
+            unless(pt <= TOP, Refusal::BadPoint)
+        }
+        BareCall::Serve(_) | BareCall::StreamRead(_, _, _, _) | BareCall::StreamWrite(_, _, _) => {
+            Some(Refusal::BadPoint)
         }
         BareCall::Spawn | BareCall::Yield | BareCall::Sync => None,
     }
@@ -141,13 +131,13 @@ fn is_loaded(images: u32, k: u32) -> bool
 }
 
 /// The refusal of a graft that is to be installed: its point, its limit, its image.
-fn install_refusal(images: u32, pt: u32, image: u32, limit: u32) -> Option<Refusal>
+fn install_refusal<const TOP: u32>(images: u32, pt: u32, image: u32, limit: u32) -> Option<Refusal>
     ensures { (table : ImageTable) → TellsImages images table →
-        result ≡ refused (nat_lt TOP_POINT pt) BadPoint
+        result ≡ refused (nat_lt TOP pt) BadPoint
         (refused (limit == 0 || nat_lt 65536 limit) BadIndex
         (refused (nat_lt 31 image || not (is_some (table image))) NoImage None)) }
 {
-    if pt > TOP_POINT {
+    if pt > TOP {
         Some(Refusal::BadPoint)
     } else if limit == 0 || limit > 65536 {
         Some(Refusal::BadIndex)

@@ -1,6 +1,6 @@
 //! What a kernel runs: a table of calls.
 
-use crate::{Gift, Needs, Next, Work, asks, early, need, piece};
+use crate::{Gift, Needs, Next, TOP_POINT, Work, asks, early_upto, need, piece};
 use arrayvec::ArrayVec;
 use disk_log::DiskLog;
 use graft_points::Policy;
@@ -13,30 +13,25 @@ use vino_base::Disk;
 pub trait Calls {
     ghost use Rattle.std.specs.Prelude.{◌≡◌, ℕ, ◌<◌, ◌≤◌, ◌+◌, true, List, Bool, [], ◌++◌, None, length, IfOk, IfErr};
     ghost use Rattle.kernel_model.specs.World.{ImageTable, Blocks};
-    ghost use Rattle.kernel_model.specs.Meaning.{Stage};
+    ghost use Rattle.kernel_model.specs.declared.SysCall.{SysCall};
     ghost use Rattle.kernel_model.specs.Laws.{IsRightAnswer};
     ghost use Rattle.kernel_model.specs.Bare.{call_with};
     ghost use Rattle.kernel_model.specs.Policies.{lives};
     ghost use Rattle.disk_log.specs.Calls.{Knows, CallsExtend};
     ghost use Rattle.kernel_state.specs.Stores.{world_of_store, objects_of, queue_of, SegmentsStay};
     ghost use Rattle.kernel_model.specs.ImageMask.{TellsImages};
-    ghost use Rattle.call_pieces.specs.Works.{IsDue, stage_granted, answer_seen, comes_after};
+    ghost use Rattle.call_pieces.specs.Works.{IsDue, stage_of, stage_granted, answer_seen, comes_after};
     ghost use Rattle.call_pieces.specs.Matching.{PieceMatches, PieceMatchesSome, ContinuesFrom, has_failed, is_fault, goes_on};
 
     /// What the calls mean.
     type Meaning: Rules;
 
-    /// A call in flight.
-    type Work: Drop;
+    /// The calls that are this table's own.
+    ghost owns: { SysCall → Bool };
 
-    /// Where a call in flight stands.
-    ghost stage: { Self.Work → Stage };
-
-    /// The process that made it.
-    ghost caller: { Self.Work → ℕ };
-
-    /// Some call, to be written over by the next that is granted.
-    fn some_work() -> Self::Work;
+    /// Whether a call is this table's own, whatever bytes it has.
+    fn owns(call: BareCall) -> bool
+        ensures { (bytes : List ℕ) → result ≡ owns (call_with call bytes) };
 
     /// A call of process p, which lives, before its first piece; or its refusal of least number
     /// that needs no object, and the work stays as it was. Bit k of `images` tells whether image k
@@ -47,44 +42,45 @@ pub trait Calls {
         p: u8,
         call: BareCall,
         bytes: &ArrayVec<u8, BLOCK_BYTES>,
-        work: &mut Self::Work,
+        work: &mut Work,
     ) -> Result<(), Refusal>
         requires alive { lives (queue_of store.now) p ≡ true }
         ensures value { (table : ImageTable) → TellsImages images table →
-            stage_granted (stage work.new) result
+            stage_granted (stage_of work.new) result
             ≡ Self.Meaning.meaning.early (world_of_store store.now) table p
             (call_with call bytes.now.items) }
         ensures ready { IfOk result (λ _. IsDue Self.Meaning.meaning (world_of_store store.now)
-            (objects_of store.now) (caller work.new) (stage work.new)) }
-        ensures caller { IfOk result (λ _. caller work.new ≡ p) }
+            (objects_of store.now) work.new.caller (stage_of work.new)) }
+        ensures caller { IfOk result (λ _. work.new.caller ≡ p) }
         ensures few { IfOk result (λ _. Self.Meaning.meaning.left (world_of_store store.now)
-            (objects_of store.now) (caller work.new) (stage work.new) ≤ 15) }
+            (objects_of store.now) work.new.caller (stage_of work.new) ≤ 15) }
         ensures kept { IfErr result (λ _. work.new ≡ work.old) };
 
     /// The objects that the next piece of a call needs, in order. They take the place of what the
     /// list had.
-    fn need<B: Policy>(work: &Self::Work, store: &Store<B>, needs: &mut Needs)
+    fn need<B: Policy>(work: &Work, store: &Store<B>, needs: &mut Needs)
         requires ready { IsDue Self.Meaning.meaning (world_of_store store.now)
-            (objects_of store.now)
-            (caller work.now) (stage work.now) }
+            (objects_of store.now) work.now.caller (stage_of work.now) }
         ensures { needs.new ≡ Self.Meaning.meaning.need (world_of_store store.now)
-            (objects_of store.now)
-            (caller work.now) (stage work.now) };
+            (objects_of store.now) work.now.caller (stage_of work.now) };
 
     /// The point that the next piece of a call asks, with its arguments.
-    fn asks<B: Policy>(work: &Self::Work, store: &Store<B>) -> Option<Point>
+    fn asks<B: Policy>(work: &Work, store: &Store<B>) -> Option<Point>
         requires ready { IsDue Self.Meaning.meaning (world_of_store store.now)
-            (objects_of store.now)
-            (caller work.now) (stage work.now) }
+            (objects_of store.now) work.now.caller (stage_of work.now) }
         ensures { result ≡ Self.Meaning.meaning.asks (world_of_store store.now)
-            (objects_of store.now)
-            (caller work.now) (stage work.now) };
+            (objects_of store.now) work.now.caller (stage_of work.now) };
+
+    /// The bytes that the graft is fed which the next piece of a call asks.
+    fn feed(work: &Work) -> &[u8]
+        ensures value { result.now ≡ Self.Meaning.meaning.feed (stage_of work.now) }
+        ensures few { length result.now ≤ 512 };
 
     /// The next piece of a call, with an answer that the point accepts which it asks, or by
-    /// default. The log starts empty and has this piece's calls of the disk then; the gift has what
-    /// the piece gave, whatever it had.
+    /// default. What an answer gives stands in memory still (`copy_body`). The log starts empty and
+    /// has this piece's calls of the disk then; the gift has what the piece gave, whatever it had.
     fn piece<B: Policy, D: Disk>(
-        work: &mut Self::Work,
+        work: &mut Work,
         store: &mut Store<B>,
         answer: Option<[u32; 4]>,
         disk: &mut D,
@@ -92,32 +88,30 @@ pub trait Calls {
         gave: &mut Gift,
     ) -> Next
         requires ready { IsDue Self.Meaning.meaning (world_of_store store.old)
-            (objects_of store.old)
-            (caller work.old) (stage work.old) }
+            (objects_of store.old) work.old.caller (stage_of work.old) }
         requires right { IsRightAnswer (objects_of store.old)
             (Self.Meaning.meaning.asks (world_of_store store.old) (objects_of store.old)
-            (caller work.old)
-            (stage work.old)) answer }
+            work.old.caller (stage_of work.old)) answer }
         requires disk { store.old.size ≡ D.block_count disk.old }
         requires fresh { log.old ≡ [] }
         ensures does { (images : ImageTable) (blocks : Blocks) (rest : List Bool) →
             Knows (D.blocks disk.old) blocks →
             PieceMatches (Self.Meaning.meaning.piece (world_of_store store.old) images
-            (objects_of store.old) blocks
-            (caller work.old) (stage work.old) (answer_seen answer) (log.new ++ rest))
+            (objects_of store.old) blocks work.old.caller (stage_of work.old)
+            (answer_seen store.old.ram work.old.caller answer) (log.new ++ rest))
             (objects_of store.new) (D.blocks disk.new) gave.new
-            (comes_after result (stage work.new)) (length log.new) }
+            (comes_after result (stage_of work.new)) (length log.new) }
         ensures some { (images : ImageTable) →
             PieceMatchesSome (world_of_store store.old) (λ blocks io.
             Self.Meaning.meaning.piece (world_of_store store.old) images
-            (objects_of store.old) blocks
-            (caller work.old) (stage work.old) (answer_seen answer) io)
+            (objects_of store.old) blocks work.old.caller (stage_of work.old)
+            (answer_seen store.old.ram work.old.caller answer) io)
             (objects_of store.new) gave.new
-            (comes_after result (stage work.new)) log.new }
+            (comes_after result (stage_of work.new)) log.new }
         ensures gone { goes_on result ≡ true →
             ContinuesFrom Self.Meaning.meaning (world_of_store store.old) (objects_of store.old)
-            (objects_of store.new)
-            (caller work.old) (caller work.new) (stage work.old) (stage work.new) }
+            (objects_of store.new) work.old.caller work.new.caller (stage_of work.old)
+            (stage_of work.new) }
         ensures failed { is_fault result ≡ true → has_failed log.new ≡ true }
         ensures world { world_of_store store.new ≡ world_of_store store.old }
         ensures memory { SegmentsStay store.old.ram store.new.ram }
@@ -134,21 +128,12 @@ pub struct Plain;
 impl Calls for Plain {
     type Meaning = PlainRules;
 
-    type Work = Work;
+    ghost use Rattle.std.specs.Prelude.{true};
 
-    ghost use Rattle.call_pieces.specs.Works.{stage_of};
+    ghost owns = { λ c. true };
 
-    ghost stage = { stage_of };
-
-    ghost caller = { λ w. w.caller };
-
-    fn some_work() -> Work {
-        Work {
-            caller: 0,
-            call: BareCall::Sync,
-            bytes: ArrayVec::new(),
-            piece: 0,
-        }
+    fn owns(_call: BareCall) -> bool {
+        true
     }
 
     fn early<B: Policy>(
@@ -159,7 +144,7 @@ impl Calls for Plain {
         bytes: &ArrayVec<u8, BLOCK_BYTES>,
         work: &mut Work,
     ) -> Result<(), Refusal> {
-        early(store, images, p, call, bytes, work)
+        early_upto::<TOP_POINT, B>(store, images, p, call, bytes, work)
     }
 
     fn need<B: Policy>(work: &Work, store: &Store<B>, needs: &mut Needs) {
@@ -168,6 +153,10 @@ impl Calls for Plain {
 
     fn asks<B: Policy>(work: &Work, store: &Store<B>) -> Option<Point> {
         asks(work, store)
+    }
+
+    fn feed(_work: &Work) -> &[u8] {
+        &[]
     }
 
     fn piece<B: Policy, D: Disk>(

@@ -1,10 +1,11 @@
 //! The bytes that a piece gives.
 
-ghost use Rattle.std.specs.Prelude.{◌≡◌, ◌≤◌, ◌+◌, true, Some, None, length, slice_range, IfSome, IfNone};
+ghost use Rattle.std.specs.Prelude.{◌≡◌, ◌≤◌, ◌<◌, ◌+◌, ◌++◌, true, Some, None, drop, length, slice_range, IfSome, IfNone};
 ghost use Rattle.kernel_model.specs.Fetch.{bytes_of};
 ghost use Rattle.buffer_cache.specs.Frames.{in_use};
-ghost use Rattle.kernel_state.specs.Stores.{cache_of};
+ghost use Rattle.kernel_state.specs.Stores.{body_at, cache_of};
 
+use crate::bodies::{body_len, body_place};
 use graft_points::Policy;
 use kernel_model::BLOCK_BYTES;
 use kernel_state::Store;
@@ -63,8 +64,30 @@ impl Gift {
         }
     }
 
+    /// Gives these bytes.
+    pub fn give_bytes(&mut self, bytes: &[u8])
+        requires { length bytes.now ≤ 512 }
+        ensures { self.new ≡ Some bytes.now }
+    {
+        put_first(&mut self.block, bytes);
+        self.given = true;
+        self.start = 0;
+        self.end = bytes.len();
+    }
+
+    /// Gives the bytes that an answer of process p gives.
+    pub fn give_body<B: Policy>(&mut self, store: &Store<B>, p: u8, answer: [u32; 4])
+        requires process { p < 16 }
+        ensures { self.new ≡ Some (body_at store.now.ram p answer) }
+    {
+        store.ram.copy_out(body_place(p), &mut self.block);
+        self.given = true;
+        self.start = 0;
+        self.end = body_len(answer) as usize;
+    }
+
     /// Gives bytes off to off + len of frame f, which is in use.
-    pub(crate) fn give<B: Policy>(&mut self, store: &Store<B>, f: u8, off: u32, len: u32)
+    pub fn give<B: Policy>(&mut self, store: &Store<B>, f: u8, off: u32, len: u32)
         requires in_cache { in_use f store.now.cache ≡ true }
         requires inside { off + len ≤ 512 }
         ensures { self.new ≡ Some (slice_range (bytes_of (cache_of store.now) f) off (off + len)) }
@@ -74,4 +97,12 @@ impl Gift {
         self.start = off as usize;
         self.end = (off + len) as usize;
     }
+}
+
+/// Puts bytes in place of as many from the first on.
+fn put_first(block: &mut [u8], bytes: &[u8])
+    requires { length bytes.now ≤ length block.old }
+    ensures { block.new ≡ bytes.now ++ drop (length bytes.now) block.old }
+{
+    block[..bytes.len()].copy_from_slice(bytes);
 }

@@ -5,11 +5,11 @@ ghost use Rattle.std.specs.List.{range_with_len};
 ghost use Rattle.kernel_model.specs.declared.Object.TheVariants.{Graft, OpenFile, Cell, Lock};
 ghost use Rattle.kernel_model.specs.declared.Mode.TheVariants.{Exclusive};
 ghost use Rattle.kernel_model.specs.Policies.{lives};
-ghost use Rattle.kernel_model.specs.Pieces.{plain, read_fits};
+ghost use Rattle.kernel_model.specs.Pieces.{read_fits};
 ghost use Rattle.kernel_model.specs.Needs as spec;
 ghost use Rattle.buffer_cache.specs.Frames.{in_use};
 ghost use Rattle.kernel_state.specs.Stores.{world_of_store, objects_of, cache_of, queue_of, policies_of};
-ghost use Rattle.call_pieces.specs.Works.{IsDue, call_of, stage_of};
+ghost use Rattle.call_pieces.specs.Works.{IsPlainDue, call_of, stage_of};
 
 use crate::Work;
 use crate::reads::Range;
@@ -62,7 +62,7 @@ impl Needs {
     }
 
     /// One more object, which a piece needs exclusively.
-    fn exclusive(&mut self, object: Object)
+    pub fn exclusive(&mut self, object: Object)
         requires { length self.old < NEEDS }
         ensures { self.new ≡ self.old ++ spec.exclusive object ∷ [] }
     {
@@ -74,7 +74,7 @@ impl Needs {
     }
 
     /// One more object, which a piece needs shared.
-    fn shared(&mut self, object: Object)
+    pub fn shared(&mut self, object: Object)
         requires { length self.old < NEEDS }
         ensures { self.new ≡ self.old ++ spec.shared object ∷ [] }
     {
@@ -141,7 +141,7 @@ impl Needs {
     }
 
     /// The graft at point pt of process q, and its installer's account where one stands.
-    fn point<B: Policy>(&mut self, store: &Store<B>, q: u8, pt: u8)
+    pub fn point<B: Policy>(&mut self, store: &Store<B>, q: u8, pt: u8)
         requires room { length self.old + 2 ≤ NEEDS }
         requires number { pt < 16 }
         ensures { self.new ≡ self.old ++ spec.point_needs (objects_of store.now).accounts q pt }
@@ -168,7 +168,7 @@ impl Needs {
 
     /// What a fetch of block i of an open file needs, of which bytes off to off + len are meant.
     /// Nothing where that is refused.
-    fn block<B: Policy>(&mut self, store: &Store<B>, p: u8, fd: u8, i: u32, off: u32, len: u32)
+    pub fn block<B: Policy>(&mut self, store: &Store<B>, p: u8, fd: u8, i: u32, off: u32, len: u32)
         requires alive { lives (queue_of store.now) p ≡ true }
         requires descriptor { fd < 4 }
         requires room { length self.old + 4 ≤ NEEDS }
@@ -215,7 +215,7 @@ pub(crate) fn candidate_for<B: Policy>(store: &Store<B>, b: u32) -> Option<u8>
 /// The objects that the next piece of a call needs, in order. They take the place of what the list
 /// had.
 pub fn need<B: Policy>(work: &Work, store: &Store<B>, needs: &mut Needs)
-    requires ready { IsDue plain (world_of_store store.now) (objects_of store.now) work.now.caller
+    requires ready { IsPlainDue (world_of_store store.now) (objects_of store.now) work.now.caller
         (stage_of work.now) }
     ensures { needs.new ≡ spec.piece_needs (call_of work.now) work.now.piece (world_of_store store.now)
         (objects_of store.now) work.now.caller }
@@ -256,6 +256,7 @@ pub fn need<B: Policy>(work: &Work, store: &Store<B>, needs: &mut Needs)
             needs.exclusive(Object::Graft(p, pt as u8))
         }
         BareCall::Remove(pt) | BareCall::Fund(pt, _, _) => needs.point(store, p, pt as u8),
+        BareCall::Serve(_) | BareCall::StreamRead(_, _, _, _) | BareCall::StreamWrite(_, _, _) => {}
     }
 }
 

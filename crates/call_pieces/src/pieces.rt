@@ -2,12 +2,12 @@
 
 ghost use Rattle.std.specs.Prelude.{◌≡◌, ℕ, ◌<◌, true, false, List, Bool, [], ◌++◌, Some, None, length, ◌≤◌};
 ghost use Rattle.kernel_model.specs.World.{Blocks};
-ghost use Rattle.kernel_model.specs.Pieces.{plain, piece_of};
+ghost use Rattle.kernel_model.specs.Pieces.{piece_of};
 ghost use Rattle.kernel_model.specs.Needs.{piece_ask};
 ghost use Rattle.kernel_model.specs.Laws.{IsRightAnswer};
 ghost use Rattle.disk_log.specs.Calls.{Knows, CallsExtend};
 ghost use Rattle.kernel_state.specs.Stores.{world_of_store, objects_of, queue_of, policies_of, SegmentsStay};
-ghost use Rattle.call_pieces.specs.Works.{call_of, stage_of, comes_after, queue_after, IsDue};
+ghost use Rattle.call_pieces.specs.Works.{bare_stage_of, call_of, stage_of, comes_after, queue_after, IsPlainDue};
 ghost use Rattle.call_pieces.specs.Matching.{PieceMatches, PieceMatchesSome, HasContinued, has_failed, is_fault, goes_on};
 
 use crate::amounts::{bill, fund, give, install, remove};
@@ -20,14 +20,14 @@ use crate::writes::write;
 use crate::{Gift, Next, Work};
 use disk_log::DiskLog;
 use graft_points::Policy;
-use kernel_model::BareCall;
+use kernel_model::{BareCall, Refusal};
 use kernel_state::Store;
 use vino_base::Disk;
 
 /// The next piece of a call, with an answer to the point that it asks, or by default.
 ///
 /// The log starts empty and has this piece's calls of the disk then; the gift has what the piece
-/// gave, whatever it had.
+/// gave, whatever it had. Where the call goes on, it carries nothing.
 pub fn piece<B: Policy, D: Disk>(
     work: &mut Work,
     store: &mut Store<B>,
@@ -36,7 +36,7 @@ pub fn piece<B: Policy, D: Disk>(
     log: &mut DiskLog,
     gave: &mut Gift,
 ) -> Next
-    requires ready { IsDue plain (world_of_store store.old) (objects_of store.old) work.old.caller
+    requires ready { IsPlainDue (world_of_store store.old) (objects_of store.old) work.old.caller
         (stage_of work.old) }
     requires right { IsRightAnswer (objects_of store.old)
         (piece_ask (call_of work.old) work.old.piece (world_of_store store.old)
@@ -55,6 +55,52 @@ pub fn piece<B: Policy, D: Disk>(
         work.old.caller answer io)
         (objects_of store.new) gave.new
         (comes_after result (stage_of work.new)) log.new }
+    ensures queue { queue_of store.new ≡ queue_after
+        (policies_of store.old 2) answer (call_of work.old) work.old.piece work.old.caller
+        (queue_of store.old) }
+    ensures gone { goes_on result ≡ true →
+        HasContinued work.old work.new (objects_of store.old) (objects_of store.new) }
+    ensures failed { is_fault result ≡ true → has_failed log.new ≡ true }
+    ensures world { world_of_store store.new ≡ world_of_store store.old }
+    ensures same_size { D.block_count disk.new ≡ D.block_count disk.old }
+    ensures calls { CallsExtend (D.faults disk.old) (D.faults disk.new) (D.plan disk.old)
+        (D.plan disk.new) log.old log.new }
+    ensures few { length log.new ≤ 256 }
+    ensures memory { SegmentsStay store.old.ram store.new.ram }
+{
+    let next = bare_piece(work, store, answer, disk, log, gave);
+    work.carry_nothing();
+    next
+}
+
+/// The same, but for what the call carries, which stays.
+fn bare_piece<B: Policy, D: Disk>(
+    work: &mut Work,
+    store: &mut Store<B>,
+    answer: Option<[u32; 4]>,
+    disk: &mut D,
+    log: &mut DiskLog,
+    gave: &mut Gift,
+) -> Next
+    requires ready { IsPlainDue (world_of_store store.old) (objects_of store.old) work.old.caller
+        (stage_of work.old) }
+    requires right { IsRightAnswer (objects_of store.old)
+        (piece_ask (call_of work.old) work.old.piece (world_of_store store.old)
+        (objects_of store.old).things work.old.caller) answer }
+    requires disk { store.old.size ≡ D.block_count disk.old }
+    requires fresh { log.old ≡ [] }
+    ensures does { (blocks : Blocks) (rest : List Bool) → Knows (D.blocks disk.old) blocks →
+        PieceMatches (piece_of (call_of work.old) work.old.piece (world_of_store store.old)
+        (objects_of store.old) blocks work.old.caller answer
+        (log.new ++ rest))
+        (objects_of store.new) (D.blocks disk.new) gave.new
+        (comes_after result (bare_stage_of work.new)) (length log.new) }
+    ensures some { PieceMatchesSome (world_of_store store.old)
+        (λ blocks io. piece_of (call_of work.old) work.old.piece
+        (world_of_store store.old) (objects_of store.old) blocks
+        work.old.caller answer io)
+        (objects_of store.new) gave.new
+        (comes_after result (bare_stage_of work.new)) log.new }
     ensures queue { queue_of store.new ≡ queue_after
         (policies_of store.old 2) answer (call_of work.old) work.old.piece work.old.caller
         (queue_of store.old) }
@@ -105,5 +151,8 @@ pub fn piece<B: Policy, D: Disk>(
         BareCall::Remove(pt) => remove(store, p, pt),
         BareCall::Fund(pt, kind, n) => fund(store, p, pt, kind, n),
         BareCall::Bill(pt) => bill(store, p, pt),
+        BareCall::Serve(_) | BareCall::StreamRead(_, _, _, _) | BareCall::StreamWrite(_, _, _) => {
+            Next::Fails(Refusal::BadPoint)
+        }
     }
 }

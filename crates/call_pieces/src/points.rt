@@ -2,11 +2,11 @@
 
 ghost use Rattle.std.specs.Prelude.{◌≡◌, ◌<◌, true, Some, Ok, length, option_map};
 ghost use Rattle.kernel_model.specs.Policies.{lives, frames_of};
-ghost use Rattle.kernel_model.specs.Pieces.{plain, read_fits};
+ghost use Rattle.kernel_model.specs.Pieces.{read_fits};
 ghost use Rattle.kernel_model.specs.Needs as spec;
 ghost use Rattle.buffer_cache.specs.Frames.{in_use};
 ghost use Rattle.kernel_state.specs.Stores.{world_of_store, objects_of, cache_of, queue_of, policies_of};
-ghost use Rattle.call_pieces.specs.Works.{IsDue, call_of, stage_of};
+ghost use Rattle.call_pieces.specs.Works.{IsPlainDue, call_of, stage_of};
 
 use crate::Work;
 use crate::needs::candidate_for;
@@ -17,7 +17,7 @@ use kernel_state::Store;
 
 /// The point that the next piece of a call asks, with its arguments.
 pub fn asks<B: Policy>(work: &Work, store: &Store<B>) -> Option<Point>
-    requires ready { IsDue plain (world_of_store store.now) (objects_of store.now) work.now.caller
+    requires ready { IsPlainDue (world_of_store store.now) (objects_of store.now) work.now.caller
         (stage_of work.now) }
     ensures { result ≡ spec.piece_ask (call_of work.now) work.now.piece (world_of_store store.now)
         (objects_of store.now).things work.now.caller }
@@ -97,7 +97,7 @@ fn file_ask<B: Policy>(store: &Store<B>, p: u8, fd: u8) -> Option<Point>
 
 /// The point that a fetch of block i of an open file asks, of which bytes off to off + len are
 /// meant.
-fn block_ask<B: Policy>(
+pub fn block_ask<B: Policy>(
     store: &Store<B>,
     p: u8,
     fd: u8,

@@ -16,7 +16,7 @@ ghost use Rattle.call_pieces.specs.Shared.{CameBy, CameBySome, Serves, read_stag
 ghost use Rattle.call_pieces.specs.Works.{comes_after};
 ghost use Rattle.call_pieces.specs.Matching.{PieceMatches, ReadContinues, is_fault, goes_on};
 
-use crate::fetch::{fetch, fetch_ahead};
+use crate::fetches::{fetch, fetch_ahead};
 use crate::{Gift, Next};
 use disk_log::DiskLog;
 use graft_points::Policy;

@@ -11,7 +11,7 @@ ghost use Rattle.call_pieces.specs.Shared.{CameBy, CameBySome, Serves, block_wri
 ghost use Rattle.call_pieces.specs.Matching.{goes_on};
 
 use crate::Next;
-use crate::fetch::fetch;
+use crate::fetches::fetch;
 use disk_log::DiskLog;
 use graft_points::Policy;
 use kernel_model::{Refusal, Reply};
@@ -19,7 +19,7 @@ use kernel_state::Store;
 use vino_base::Disk;
 
 /// Process p writes bytes into block i of the file at descriptor fd, from a place in it on.
-pub(crate) fn write<B: Policy, D: Disk>(
+pub fn write<B: Policy, D: Disk>(
     store: &mut Store<B>,
     disk: &mut D,
     log: &mut DiskLog,

@@ -95,7 +95,7 @@ stands_by (Some g) r is none = refl
 
 -- where a graft stands a level begins
 pub asked_begins : (v : World) (images : ImageTable) (w : Objects) (p q pt : ℕ) (ls : List Level) (x : Option GraftValue) → is_some x ≡ true →
-    ask_answered v images w p q pt ls x ≡ goes_on w (new_level images w p (length ls) q pt (args_by (kind_of pt) v w.things q pt) untouched ∷ ls)
+    ask_answered v images w p q pt ls x ≡ goes_on w (new_level images w p (length ls) q pt (args_by (kind_of pt) v w.things q pt) [] untouched ∷ ls)
 asked_begins v images w p q pt ls None some = absurd (cc)
 asked_begins v images w p q pt ls (Some g) some = refl
 

@@ -1,14 +1,9 @@
 -- A level that begins.
-use Rattle.std.proofs.Common.{◌≡◌, ℕ, ◌+◌, ◌*◌, ◌<◌, ◌≤◌, Bool, true, false, cond, nat_lt, List, [], ◌∷◌, length, slice_index, slice_get, Option, Some, None, arith, refl, sym, ◌∙◌, ap, subst, ◌⊎◌}
-use Rattle.std.proofs.Math.Path.{fun_ext}
-use Rattle.std.proofs.lemmas.Bool.Decides.{nat_tests}
-use Rattle.std.proofs.lemmas.List.{get_or_past}
-use Rattle.std.proofs.lemmas.Option.{unwrap_or-slice_get}
-use Rattle.std.specs.Option.{unwrap_or}
+use Rattle.std.proofs.Common.{◌≡◌, ℕ, ◌+◌, ◌*◌, ◌<◌, ◌≤◌, List, [], ◌∷◌, length, slice_index, slice_get, Option, Some, None, arith, refl, sym, ◌∙◌, ap, subst, ◌⊎◌}
 use Rattle.kernel_model.specs.declared.FrameRow.{FrameRow}
 use Rattle.kernel_model.specs.declared.Inverse.{Inverse}
 use Rattle.kernel_model.specs.declared.Instr.{Instr}
-use Rattle.kernel_model.specs.Machine.{first_machine, segment_base}
+use Rattle.kernel_model.specs.Machine.{first_machine, segment_base, fed}
 use Rattle.kernel_model.specs.Objects.{Objects, Accounts, CacheValue, FrameValue}
 use Rattle.kernel_model.specs.World.{Image, ImageTable}
 use Rattle.kernel_model.specs.Policies.{or_zero}
@@ -27,42 +22,28 @@ use Rattle.buffer_cache.specs.Frames.{IsFrames, row_at}
 use Rattle.graft_calls.specs.declared.GraftLevel.{GraftLevel}
 use Rattle.graft_calls.specs.Chains.{level_in, levels_in}
 use Rattle.graft_calls.specs.Calls.{AreInside, HasOtherMemory}
+use Rattle.graft_calls.proofs.Feeding.{segment_is}
 use Rattle.graft_calls.proofs.Memory.{same_cache, same_segment}
 use Rattle.graft_calls.proofs.Views.{glued, levels_alike}
 
-zero_past : (o : Option ℕ) → or_zero o ≡ unwrap_or o 0
-zero_past None = refl
-zero_past (Some x) = refl
-
-byte_of : (body : List ℕ) (i : ℕ) → or_zero (slice_get body i) ≡ slice_index body i
-byte_of body i = zero_past (slice_get body i) ∙ unwrap_or-slice_get body i 0
-
--- a segment that has data bytes, and zeros behind them
-segment_is : (mem body : List ℕ) (base : ℕ) → length body ≤ 4096 → ((i : ℕ) → i < 4096 → slice_index mem (base + i) ≡ slice_index body i) →
-    segment_of base (by_place mem) ≡ (λ i. or_zero (slice_get body i))
-segment_is mem body base few same = fun_ext (λ i. at_place i (nat_lt i 4096) refl)
-  where
-    at_place : (i : ℕ) (b : Bool) → nat_lt i 4096 ≡ b → cond b (slice_index mem (base + i)) 0 ≡ or_zero (slice_get body i)
-    at_place i true e = let less : i < 4096 = grind (arith, nat_tests, e) in same i less ∙ sym (byte_of body i)
-    at_place i false e = let past : length body ≤ i = let above : 4096 ≤ i = grind (arith, nat_tests, e) in omega (arith, few, above) in sym (byte_of body i ∙ get_or_past body i 0 past)
-
 -- the level that begins, and the levels outside it
-pub begun_levels : (images : ImageTable) (image : Image) (w : Objects) (p base q pt : ℕ) (args : List ℕ) (ram mem : List ℕ) (t : LockTable) (cpu : Cpu) (gs news : List GraftLevel) (log more : List (List Inverse)) →
+pub begun_levels : (images : ImageTable) (image : Image) (w : Objects) (p base q pt : ℕ) (args feed : List ℕ) (ram mem : List ℕ) (t : LockTable) (cpu : Cpu) (gs news : List GraftLevel) (log more : List (List Inverse)) →
     news ≡ record { owner = q; point = pt; count = 0; args = args; machine = cpu } ∷ gs → more ≡ [] ∷ log → base ≡ base_of p (length gs) →
-    machine_of cpu mem ≡ first_machine base args (by_place mem) → length image.body ≤ 4096 → ((i : ℕ) → i < 4096 → slice_index mem (base + i) ≡ slice_index image.body i) →
+    machine_of cpu mem ≡ first_machine base args (by_place mem) → length image.body ≤ 4096 → length feed ≤ 512 → ((i : ℕ) → i < 4096 → slice_index mem (base + i) ≡ fed feed (λ k. slice_index image.body k) i) →
     ((a : ℕ) → (a < base) ⊎ (base + 4096 ≤ a) → slice_index mem a ≡ slice_index ram a) → image_of images (w.accounts.graft q pt) ≡ Some image →
-    levels_in p mem t news more w.things ≡ new_level images w p (length gs) q pt args (t p (length gs)) ∷ levels_in p ram t gs log w.things
-begun_levels images image w p base q pt args ram mem t cpu gs news log more is_news is_more is_base begins few same beyond loaded =
+    levels_in p mem t news more w.things ≡ new_level images w p (length gs) q pt args feed (t p (length gs)) ∷ levels_in p ram t gs log w.things
+begun_levels images image w p base q pt args feed ram mem t cpu gs news log more is_news is_more is_base begins few short same beyond loaded =
     let g : GraftLevel = record { owner = q; point = pt; count = 0; args = args; machine = cpu } in
     let l = level_in p (length gs) mem t g [] w.things in
     let body : body_of images w.accounts q pt ≡ image.body = ap body_in loaded in
-    let memory : segment_of base (by_place mem) ≡ (λ i. or_zero (slice_get (body_of images w.accounts q pt) i)) =
-    segment_is mem image.body base few same ∙ ap (λ (b : List ℕ). λ i. or_zero (slice_get b i)) (sym body) in
-    let machine : on_segment (base_of p (length gs)) (machine_of cpu mem) ≡ first_machine (base_of p (length gs)) args (λ i. or_zero (slice_get (body_of images w.accounts q pt) i)) =
+    let segment : ℕ → ℕ = fed feed (λ i. or_zero (slice_get (body_of images w.accounts q pt) i)) in
+    let memory : segment_of base (by_place mem) ≡ segment =
+    segment_is mem image.body feed base few short same ∙ ap (λ (b : List ℕ). fed feed (λ i. or_zero (slice_get b i))) (sym body) in
+    let machine : on_segment (base_of p (length gs)) (machine_of cpu mem) ≡ first_machine (base_of p (length gs)) args segment =
     ap (on_segment (base_of p (length gs))) begins
     ∙ ap (λ b. on_segment b (first_machine base args (by_place mem))) (sym is_base)
     ∙ ap (λ f. first_machine base args f) memory
-    ∙ ap (λ b. first_machine b args (λ i. or_zero (slice_get (body_of images w.accounts q pt) i))) is_base in
+    ∙ ap (λ b. first_machine b args segment) is_base in
     ap (λ xs. levels_in p mem t xs more w.things) is_news ∙ ap (λ xs. levels_in p mem t (g ∷ gs) xs w.things) is_more
     ∙ glued l _ (t p (length gs)) _ _ machine refl
     (levels_alike p mem ram t t gs log w.things (λ e lt. refl)

@@ -1,20 +1,26 @@
 -- A level that ends with an answer of its own.
-use Rattle.std.proofs.Common.{◌≡◌, ◌≢◌, ℕ, suc, ◌-◌, ◌≤◌, ◌==◌, ◌&&◌, Bool, true, false, cond, List, [], ◌∷◌, ◌++◌, length, arith, refl, sym, ◌∙◌, ap, subst, slice_index, map}
+use Rattle.std.proofs.Common.{◌≡◌, ◌≢◌, ℕ, suc, ◌-◌, ◌≤◌, ◌==◌, ◌&&◌, Bool, true, false, cond, List, [], ◌∷◌, ◌++◌, length, arith, refl, sym, ◌∙◌, ap, subst, slice_index, map, Option, Some, None}
 use Rattle.std.proofs.lemmas.Bool.Decides.{nat_tests}
 use Rattle.std.proofs.lemmas.List.{map-append}
-use Rattle.kernel_model.specs.Access.{bare_found}
+use Rattle.std.specs.Bool.{⊤}
+use Rattle.kernel_model.specs.Access.{bare_found, Access, Gives, Changes, Refuses, access, is_ask, asked_point, asked_graft, asked_objects}
 use Rattle.kernel_model.specs.declared.Held.{Held}
 use Rattle.kernel_model.specs.declared.Inverse.{Inverse}
 use Rattle.kernel_model.specs.declared.Object.{Object}
 use Rattle.kernel_model.specs.declared.Micro.{Micro}
 use Rattle.kernel_model.specs.Machine.{Machine}
-use Rattle.kernel_model.specs.Objects.{Objects, Things}
+use Rattle.kernel_model.specs.Objects.{Objects, Things, GraftValue}
 use Rattle.kernel_model.specs.Policies.{kind_of}
 use Rattle.kernel_model.specs.Locks.{LockTable, merge_level, joined, untouched}
-use Rattle.kernel_model.specs.Levels.{answered, with_machine, base_of, goes_on}
-use Rattle.kernel_model.specs.GraftStep.{completed, first_registers}
+use Rattle.kernel_model.specs.declared.Cause.{Cause}
+use Rattle.kernel_model.specs.declared.Kind.TheVariants.{Locks}
+use Rattle.kernel_model.specs.Charges.{funds}
+use Rattle.kernel_model.specs.World.{World, ImageTable}
+use Rattle.kernel_model.specs.Levels.{Level, Config, answered, with_machine, with_touched, touch_outermost, base_of, goes_on, answer_of}
+use Rattle.kernel_model.specs.GraftStep.{completed, first_registers, after_call, granted_call, after_ask, ask_answered, after_accessor, after_result, lock_paid, after_change, is_lock_due, is_record_spent, ask_refusal}
 use Rattle.kernel_model.specs.Runs.{on_segment}
 use Rattle.undo_calls.specs.UndoLevels.{innermost, merged}
+use Rattle.kernel_state.specs.Stores.{body_at}
 use Rattle.graft_machine.specs.Cpu.{Cpu, machine_of}
 use Rattle.graft_calls.specs.declared.GraftLevel.{GraftLevel}
 use Rattle.graft_calls.specs.Chains.{level_in, levels_in, outer, came, put_back}
@@ -133,3 +139,54 @@ completed_call p ram t r g gs hs log less w answer before after is =
     let kept = put_back (innermost log) w.things in
     ap (λ xs. came (completed w (level_in p (length gs) ram t g (innermost log) kept) (levels_in p ram t xs (outer log) kept))) before
     ∙ pair _ _ _ _ (ap Micro.Completed (sym (is ram))) (configs w w _ _ refl (ap (λ xs. levels_in p ram r xs less w.things) (sym after)))
+
+-- ---- answers
+
+-- what is said of an instruction that ends no call with an answer
+abbrev pub IsNoAnswer : Micro → Type 0
+IsNoAnswer (Micro.Completed registers) = ⊥
+IsNoAnswer said = ⊤
+
+pub unanswered : (a said : Micro) (y x : Config) (registers : List ℕ) → IsNoAnswer a → ◌≡◌ {A = Micro × Config} (a, y) (said, x) → said ≡ Micro.Completed registers → ⊥
+unanswered a said y x registers none is ends = subst IsNoAnswer (ap (λ (z : Micro × Config). z.0) is ∙ ends) none
+
+-- a call ends nothing with an answer: it goes on, or a level is dropped
+pub call_unanswered : (v : World) (images : ImageTable) (w : Objects) (p : ℕ) (l : Level) (ls : List Level) (m : Machine) (id : ℕ) (refusal : Option Cause) → IsNoAnswer (after_call v images w p l ls m id refusal).said
+call_unanswered v images w p l ls m id (Some cause) = tt
+call_unanswered v images w p l ls m id None = granted (is_ask id)
+  where
+    answered_by : (q pt : ℕ) (ks : List Level) (x : Option GraftValue) → IsNoAnswer (ask_answered v images w p q pt ks x).said
+    answered_by q pt ks None = tt
+    answered_by q pt ks (Some g) = tt
+
+    asked : (pt : ℕ) (cause : Option Cause) → IsNoAnswer (after_ask v images w p l ls m id pt cause).said
+    asked pt (Some cause) = tt
+    asked pt None =
+        answered_by l.owner pt (touch_outermost (asked_graft id (l.machine.regs 0) l.owner).object (with_touched (asked_objects id (l.machine.regs 0) l.owner) (with_machine m l) ∷ ls))
+        (w.accounts.graft l.owner pt)
+
+    paid : (result : ℕ) (spent : Bool) → IsNoAnswer (lock_paid v w l ls m id result spent).said
+    paid result true = tt
+    paid result false = tt
+
+    given : (result : ℕ) (due : Bool) → IsNoAnswer (after_result v w l ls m id result due).said
+    given result true = paid result (funds w.accounts l.owner l.point Locks == 0)
+    given result false = tt
+
+    changed : (result : ℕ) (i : Inverse) (things : Things) (spent : Bool) → IsNoAnswer (after_change v w l ls m id result i things spent).said
+    changed result i things true = tt
+    changed result i things false = tt
+
+    accessed_by : (a : Access) → IsNoAnswer (after_accessor v w l ls m id a).said
+    accessed_by (Refuses cause) = tt
+    accessed_by (Gives result) = given result (is_lock_due id (l.machine.regs 0) (l ∷ ls))
+    accessed_by (Changes result i things) = changed result i things (is_record_spent w.accounts l ls)
+
+    granted : (ask : Bool) → IsNoAnswer (granted_call v images w p l ls m id ask).said
+    granted true = let pt = asked_point id (l.machine.regs 0) in asked pt (ask_refusal w l.owner pt id (l ∷ ls))
+    granted false = accessed_by (access id (l.machine.regs 0) (l.machine.regs 1) (l.machine.regs 2) l.owner w.things)
+
+-- level 0 answers, and its segment is in this memory
+pub outermost_answers : (p : ℕ) (ram : List ℕ) (t : LockTable) (g : GraftLevel) (gs : List GraftLevel) (log : List (List Inverse)) (w : Things) (registers : List ℕ) → gs ≡ [] →
+    answer_of registers (levels_in p ram t (g ∷ gs) log w) ≡ record { registers = registers; body = body_at ram p registers }
+outermost_answers p ram t g gs log w registers alone = ap (λ xs. answer_of registers (levels_in p ram t (g ∷ xs) log w)) alone

@@ -12,6 +12,7 @@ mod GoingOn
 mod Looking
 mod Completing
 mod Memory
+mod Feeding
 mod Beginning
 mod Needing
 mod Asking

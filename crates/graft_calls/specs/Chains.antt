@@ -1,5 +1,5 @@
 -- Which graft call a chain of levels is in place: on a store, with the lock table and an undo log.
-use Rattle.std.specs.Prelude.{ℕ, Bool, ◌&&◌, ◌==◌, List, [], ◌∷◌, length, map, Option, Some, None}
+use Rattle.std.specs.Prelude.{◌≡◌, ℕ, Bool, ◌&&◌, ◌==◌, List, [], ◌∷◌, length, map, Option, Some, None}
 use Rattle.std.specs.List.{list_any}
 use Rattle.kernel_model.specs.declared.Inverse.{Inverse}
 use Rattle.kernel_model.specs.declared.Micro.{Micro}
@@ -7,14 +7,14 @@ use Rattle.kernel_model.specs.Objects.{Objects, Things}
 use Rattle.kernel_model.specs.Locks.{LockTable}
 use Rattle.kernel_model.specs.Access.{bare_found}
 use Rattle.kernel_model.specs.UndoLog.{undo_all}
-use Rattle.kernel_model.specs.Levels.{Level, Config, Outcome, base_of}
+use Rattle.kernel_model.specs.Levels.{Level, Config, Outcome, base_of, answer_of}
 use Rattle.kernel_model.specs.Runs.{on_segment}
 use Rattle.lock_table.specs.declared.Holds.{Holds}
 use Rattle.lock_table.specs.Masks.{held}
 use Rattle.undo_calls.specs.UndoLevels.{innermost}
 use Rattle.graft_machine.specs.Cpu.{machine_of}
 use Rattle.kernel_state.specs.declared.Store.{Store}
-use Rattle.kernel_state.specs.Stores.{objects_of}
+use Rattle.kernel_state.specs.Stores.{objects_of, body_at}
 use Rattle.graft_calls.specs.declared.GraftLevel.{GraftLevel}
 use Rattle.graft_calls.specs.declared.Chain.{Chain}
 
@@ -94,3 +94,11 @@ outer_of s t c p =
 -- what an outcome says, and the graft call after it; its effects aren't kept
 abbrev pub came : Outcome → Micro × Config
 came o = (o.said, o.config)
+
+-- Where the levels of process p gave an answer, this memory has what the answer gives: the body
+-- stands in it.
+abbrev pub HasAnswer : Micro → (ram : List ℕ) → (p : ℕ) → List Level → Type 0
+HasAnswer said ram p levels =
+    (registers : List ℕ) → said ≡ Micro.Completed registers →
+    answer_of registers levels
+    ≡ record { registers = registers; body = body_at ram p registers }

@@ -189,7 +189,7 @@ fn answer_ask<B: Policy>(
         point: pt,
         args,
     };
-    begin_level(chain, p, store, image, &at);
+    begin_level(chain, p, store, image, &at, &[]);
     Micro::Went
 }
 

@@ -37,22 +37,25 @@ pub(crate) fn touch_needs(needs: &[Need], p: u8, d: u8, locks: &mut LockTable)
     }
 }
 
-/// A new innermost level begins on this image, which is that of the graft at the asked point.
+/// A new innermost level begins on this image, which is that of the graft at the asked point, and
+/// is fed these bytes.
 pub(crate) fn begin_level<B: Policy>(
     chain: &mut Chain,
     p: u8,
     store: &mut Store<B>,
     image: &Loaded,
     at: &Point,
+    feed: &[u8],
 )
     requires process { p < 16 }
     requires few { length chain.old.levels < 4 }
     requires as_many { length chain.old.undo ≡ length chain.old.levels }
+    requires short { length feed.now ≤ 512 }
     ensures levels { (images : ImageTable) (t : Table) → let s = objects_of store.old in
         image_of images (s.accounts.graft at.now.installer at.now.point) ≡ Some image.now →
         levels_in p store.new.ram t chain.new.levels chain.new.undo s.things
         ≡ new_level images s p (length chain.old.levels) at.now.installer at.now.point at.now.args
-        (t p (length chain.old.levels)) ∷ levels_in p store.old.ram t chain.old.levels
+        feed.now (t p (length chain.old.levels)) ∷ levels_in p store.old.ram t chain.old.levels
         chain.old.undo s.things }
     ensures objects { objects_of store.new ≡ objects_of store.old }
     ensures log { chain.new.undo ≡ [] ∷ chain.old.undo }
@@ -68,7 +71,7 @@ pub(crate) fn begin_level<B: Policy>(
 {
     store.cache.lru();
     let base = base_of(p, chain.levels.count());
-    fill(&mut store.ram, base, image.body());
+    fill(&mut store.ram, base, image.body(), feed);
     image.code();
     chain.undo.begin_level();
     chain.levels.push(GraftLevel {
@@ -80,35 +83,49 @@ pub(crate) fn begin_level<B: Policy>(
     });
 }
 
+/// What a piece asks of a graft.
+#[derive(Clone, Copy)]
+pub struct PieceAsk<'a> {
+    /// The point that it asks, at which a graft stands.
+    pub at: &'a Point,
+    /// The objects that it needs.
+    pub needs: &'a [Need],
+    /// The bytes that the graft is fed, at most 512.
+    pub feed: &'a [u8],
+}
+
 impl Chain {
     /// The graft call of a process begins, where a piece asks a point at which a graft stands:
-    /// level 0 holds what the piece needs. The process holds nothing before.
+    /// level 0 holds what the piece needs, and is fed the piece's bytes. The process holds nothing
+    /// before.
     pub fn begin<B: Policy>(
         &mut self,
         p: u8,
         store: &mut Store<B>,
         locks: &mut LockTable,
         images: &Images,
-        needs: &[Need],
-        at: &Point,
+        ask: PieceAsk<'_>,
     )
         requires none { self.old.levels ≡ [] }
         requires placed { IsPlaced store.old locks.old p self.old.levels self.old.undo }
-        requires owner { at.now.installer < 16 }
-        requires point { at.now.point < 16 }
-        requires lives { lives (queue_of store.old) at.now.installer ≡ true }
+        requires owner { ask.at.now.installer < 16 }
+        requires point { ask.at.now.point < 16 }
+        requires lives { lives (queue_of store.old) ask.at.now.installer ≡ true }
         requires stands { is_some
-            ((objects_of store.old).accounts.graft at.now.installer at.now.point) ≡ true }
+            ((objects_of store.old).accounts.graft ask.at.now.installer ask.at.now.point) ≡ true }
         requires loaded { ImagesAreLoaded (table_of images.now) (objects_of store.old).accounts }
-        requires range { All (λ (n : Needed). IsInRange n.object) needs.now }
+        requires range { All (λ (n : Needed). IsInRange n.object) ask.needs.now }
+        requires short { length ask.feed.now ≤ 512 }
         ensures value { call_of store.new locks.new self.new p
-            ≡ begin_at (table_of images.now) (objects_of store.old) p needs.now at.now }
+            ≡ begin_at (table_of images.now) (objects_of store.old) p ask.entry.needs.now
+            ask.entry.feed.now ask.entry.at.now }
         ensures in_place { IsInPlace store.new locks.new
             (table_of images.now) p self.new.levels self.new.undo }
         ensures elsewhere { IsElsewhereSame store.old store.new locks.old locks.new p }
     {
+        let at = ask.at;
         let image = image_at(images, &store.accounts, at.installer, at.point);
-        touch_needs(needs, p, 0, locks);
-        begin_level(self, p, store, image, at);
+        touch_needs(ask.needs, p, 0, locks);
+        begin_level(self, p, store, image, at, ask.feed);
     }
 }

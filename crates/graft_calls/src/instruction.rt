@@ -1,12 +1,12 @@
 //! One instruction of the innermost level.
 
-ghost use Rattle.std.specs.Prelude.{◌≡◌, ℕ, ◌<◌, ◌≤◌, ◌∷◌, [], length, slice_index, true, false, None};
+ghost use Rattle.std.specs.Prelude.{◌≡◌, ℕ, ◌<◌, ◌≤◌, ◌∷◌, [], length, slice_index, true, false, None, List};
 ghost use Rattle.kernel_model.specs.Access.{early_refusal};
 ghost use Rattle.kernel_model.specs.GraftStep.{micro, micro_on, after_machine as after_step, after_call};
 ghost use Rattle.kernel_state.specs.Stores.{world_of_store, objects_of};
 ghost use Rattle.graft_machine.specs.Cpu.{done_of};
 ghost use Rattle.graft_loader.specs.Slots.{table_of};
-ghost use Rattle.graft_calls.specs.Chains.{came, call_of, level_of, outer_of};
+ghost use Rattle.graft_calls.specs.Chains.{came, call_of, levels_of, HasAnswer, level_of, outer_of};
 ghost use Rattle.graft_calls.specs.Calls.{IsInPlace, IsElsewhereSame};
 
 use crate::accessors::{Accessed, access};
@@ -76,6 +76,11 @@ fn after_machine<B: Policy>(
         came (after_step (world_of_store store.old) (table_of images.now) p (objects_of store.old) l
         (outer_of store.old locks.old chain.old p) (done_of done l.machine))
         ≡ (result, call_of store.new locks.new chain.new p) }
+    ensures answer { HasAnswer result store.new.ram p
+        (level_of store.old locks.old chain.old p level
+        ∷ outer_of store.old locks.old chain.old p) }
+    ensures returned { (registers : List ℕ) → result ≡ Micro.Completed registers →
+        done ≡ Outcome.Returned }
     ensures in_place { IsInPlace store.new locks.new
         (table_of images.now) p chain.new.levels chain.new.undo }
     ensures elsewhere { IsElsewhereSame store.old store.new locks.old locks.new p }
@@ -112,6 +117,9 @@ fn run<B: Policy>(
         (objects_of store.old) (level_of store.old locks.old chain.old p level
         ∷ outer_of store.old locks.old chain.old p))
         ≡ (result, call_of store.new locks.new chain.new p) }
+    ensures answer { HasAnswer result store.new.ram p
+        (level_of store.old locks.old chain.old p level
+        ∷ outer_of store.old locks.old chain.old p) }
     ensures in_place { IsInPlace store.new locks.new
         (table_of images.now) p chain.new.levels chain.new.undo }
     ensures elsewhere { IsElsewhereSame store.old store.new locks.old locks.new p }
@@ -132,8 +140,9 @@ fn run<B: Policy>(
 
 impl Chain {
     /// One instruction of the innermost level, whatever another call holds. `Completed` has the
-    /// answer of level 0, and then no level is left; `Dropped` has the number of the level that was
-    /// dropped, its graft and the cause. `Blocked` isn't answered.
+    /// answer of level 0, and then no level is left, but its segment stays as it was in memory,
+    /// where the answer's body stands. `Dropped` has the number of the level that was dropped, its
+    /// graft and the cause. `Blocked` isn't answered.
     pub fn instruction<B: Policy>(
         &mut self,
         p: u8,
@@ -146,6 +155,8 @@ impl Chain {
         ensures step { came (micro (world_of_store store.old) (table_of images.now) p
             (call_of store.old locks.old self.old p))
             ≡ (result, call_of store.new locks.new self.new p) }
+        ensures answer { HasAnswer result store.new.ram p
+            (levels_of store.old locks.old self.old p) }
         ensures in_place { IsInPlace store.new locks.new
             (table_of images.now) p self.new.levels self.new.undo }
         ensures elsewhere { IsElsewhereSame store.old store.new locks.old locks.new p }

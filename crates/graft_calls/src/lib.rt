@@ -21,6 +21,7 @@ mod segments;
 mod stretch;
 mod watched;
 
+pub use begin::PieceAsk;
 use graft_machine::Machine;
 pub use levels::{Levels, MOST_LEVELS};
 pub use needs::Needs;

@@ -16,7 +16,7 @@ ghost use Rattle.kernel_state.specs.Stores.{world_of_store, objects_of};
 ghost use Rattle.lock_table.specs.Masks.{held};
 ghost use Rattle.undo_calls.specs.UndoLevels.{innermost, merged};
 ghost use Rattle.graft_machine.specs.Cpu.{machine_of};
-ghost use Rattle.graft_calls.specs.Chains.{came, call_of, level_of, outer_of, level_in, levels_in, outer, put_back};
+ghost use Rattle.graft_calls.specs.Chains.{came, call_of, HasAnswer, level_of, outer_of, level_in, levels_in, outer, put_back};
 ghost use Rattle.graft_calls.specs.Calls.{AreSound, AreInside, IsPlaced, IsElsewhereSame};
 
 use crate::answers::answer;
@@ -91,6 +91,8 @@ fn complete(level: GraftLevel, chain: &mut Chain, p: u8, locks: &mut LockTable) 
                 (held locks.new) chain.new.levels chain.new.undo w.things;
           },
         ) }
+    ensures outermost { (registers : List ℕ) → result ≡ Micro.Completed registers →
+        chain.old.levels ≡ [] }
     ensures log { chain.new.undo ≡ merged chain.old.undo }
     ensures count { length chain.new.levels ≡ length chain.old.levels }
     ensures unheld { (d : ℕ) (o : Objects) → length chain.old.levels ≤ d →
@@ -116,7 +118,7 @@ fn complete(level: GraftLevel, chain: &mut Chain, p: u8, locks: &mut LockTable) 
 }
 
 /// A level that was taken out of a chain offers the answer in r0 to r3. It is dropped where its
-/// point doesn't accept that.
+/// point doesn't accept that. Where level 0 answers, the memory stays as it was.
 pub(crate) fn offer<B: Policy>(
     level: GraftLevel,
     chain: &mut Chain,
@@ -131,6 +133,9 @@ pub(crate) fn offer<B: Policy>(
         (valid (objects_of store.old).things l.owner l.point l.args (l.machine.regs 0)
         (l.machine.regs 1)))
         ≡ (result, call_of store.new locks.new chain.new p) }
+    ensures answer { HasAnswer result store.new.ram p
+        (level_of store.old locks.old chain.old p level
+        ∷ outer_of store.old locks.old chain.old p) }
     ensures placed { IsPlaced store.new locks.new p chain.new.levels chain.new.undo }
     ensures inside { (images : ImageTable) →
         AreInside images (objects_of store.old).accounts p (level ∷ chain.old.levels) →

@@ -2,9 +2,13 @@
 
 ghost use Rattle.std.specs.Prelude.{◌≡◌, ℕ, ◌+◌, ◌*◌, ◌%◌, ◌<◌, ◌≤◌, ◌&&◌, cond, nat_le, nat_lt, List, length, slice_index, ◌⊎◌};
 ghost use Rattle.kernel_model.specs.Levels as model;
+ghost use Rattle.kernel_model.specs.Machine.{fed};
 
 use graft_machine::{FIRST_SEGMENT, SEGMENT_BYTES};
 use ram_space::Ram;
+
+/// Where in a segment the bytes begin that its level is fed.
+const FED_AT: u32 = 2048;
 
 /// Where the segment of level d of process p begins.
 pub(crate) fn base_of(p: u8, d: u8) -> u32
@@ -37,7 +41,7 @@ fn whole(ram: &Ram)
 }
 
 /// The segment at this base gets data bytes, and zeros behind them. Every other byte stays.
-pub(crate) fn fill(ram: &mut Ram, base: u32, body: &[u8])
+fn fill_data(ram: &mut Ram, base: u32, body: &[u8])
     requires inside { base + SEGMENT_BYTES ≤ 524288 }
     requires few { length body.now ≤ 4096 }
     ensures segment { (i : ℕ) → i < 4096 → slice_index ram.new (base + i) ≡ slice_index body.now i }
@@ -50,4 +54,21 @@ pub(crate) fn fill(ram: &mut Ram, base: u32, body: &[u8])
     clear(ram, base, base + SEGMENT_BYTES);
     whole(ram);
     ram.copy_in(base, body);
+}
+
+/// The segment at this base gets data bytes, zeros behind them, and at their place the bytes that
+/// its level is fed. Every other byte stays.
+pub(crate) fn fill(ram: &mut Ram, base: u32, body: &[u8], feed: &[u8])
+    requires inside { base + SEGMENT_BYTES ≤ 524288 }
+    requires few { length body.now ≤ 4096 }
+    requires short { length feed.now ≤ 512 }
+    ensures segment { (i : ℕ) → i < 4096 →
+        slice_index ram.new (base + i) ≡ fed feed.now (λ k. slice_index body.now k) i }
+    ensures outside { (a : ℕ) → (a < base) ⊎ (base + 4096 ≤ a) →
+        slice_index ram.new a ≡ slice_index ram.old a }
+    ensures size { length ram.new ≡ 524288 }
+    ensures same_size { length ram.old ≡ 524288 }
+{
+    fill_data(ram, base, body);
+    ram.copy_in(base + FED_AT, feed);
 }

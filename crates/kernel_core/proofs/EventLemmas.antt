@@ -141,12 +141,12 @@ module _ (m : Meaning) (x : Placed) (number p : ℕ) where
   step_taken n h some few blocks notes io = step_living n true h (grind (arith, nat_tests, some, few)) blocks notes io
 
 -- a refusal, which is all that an event comes to
-pub went_refused : {C B M W : Type 0} {P : _} (m : Meaning) (stage : W → Stage) (caller : W → ℕ) (f : PlacedRun → PlacedRun) (x : Running C B M W P) (note : Note) (kept kept_new : List Note) (d : DiskSeen) → IsRunning caller x → HasAbstraction m (placed_of stage x) →
-    ((blocks : Blocks) (notes : List Note) (io : List Bool) → f (run_of (placed_of stage x) blocks notes io) ≡ placed_noted note (run_of (placed_of stage x) blocks notes io)) →
-    ((all : List Note) → kept ≡ first_notes all → kept_new ≡ first_notes (all ++ note ∷ [])) → RefinesAndKeeps m stage caller f x x kept kept_new d d
-went_refused m stage caller f x note kept kept_new d running abstraction same adds =
+pub went_refused : {C B M : Type 0} {P : _} (m : Meaning) (f : PlacedRun → PlacedRun) (x : Running C B M P) (note : Note) (kept kept_new : List Note) (d : DiskSeen) → IsRunning x → HasAbstraction m (placed_of x) →
+    ((blocks : Blocks) (notes : List Note) (io : List Bool) → f (run_of (placed_of x) blocks notes io) ≡ placed_noted note (run_of (placed_of x) blocks notes io)) →
+    ((all : List Note) → kept ≡ first_notes all → kept_new ≡ first_notes (all ++ note ∷ [])) → RefinesAndKeeps m f x x kept kept_new d d
+went_refused m f x note kept kept_new d running abstraction same adds =
     record {
-      refines = did_as f (placed_noted note) (placed_of stage x) (placed_of stage x) kept kept_new d d same (did_note (placed_of stage x) note kept kept_new d adds);
+      refines = did_as f (placed_noted note) (placed_of x) (placed_of x) kept kept_new d d same (did_note (placed_of x) note kept kept_new d adds);
       running = running;
       abstraction = abstraction;
       world = refl;
@@ -154,13 +154,13 @@ went_refused m stage caller f x note kept kept_new d running abstraction same ad
     }
 
 -- the same where the kernel was looked at, and stands as it did
-pub went_refused_at : {C B M W : Type 0} {P : _} (m : Meaning) (stage : W → Stage) (caller : W → ℕ) (f : PlacedRun → PlacedRun) (x y : Running C B M W P) (note : Note) (kept kept_new : List Note) (d : DiskSeen) → IsRunning caller y → HasAbstraction m (placed_of stage x) →
-    placed_of stage y ≡ placed_of stage x →
-    ((blocks : Blocks) (notes : List Note) (io : List Bool) → f (run_of (placed_of stage x) blocks notes io) ≡ placed_noted note (run_of (placed_of stage x) blocks notes io)) →
-    ((all : List Note) → kept ≡ first_notes all → kept_new ≡ first_notes (all ++ note ∷ [])) → RefinesAndKeeps m stage caller f x y kept kept_new d d
-went_refused_at m stage caller f x y note kept kept_new d running abstraction is same adds =
+pub went_refused_at : {C B M : Type 0} {P : _} (m : Meaning) (f : PlacedRun → PlacedRun) (x y : Running C B M P) (note : Note) (kept kept_new : List Note) (d : DiskSeen) → IsRunning y → HasAbstraction m (placed_of x) →
+    placed_of y ≡ placed_of x →
+    ((blocks : Blocks) (notes : List Note) (io : List Bool) → f (run_of (placed_of x) blocks notes io) ≡ placed_noted note (run_of (placed_of x) blocks notes io)) →
+    ((all : List Note) → kept ≡ first_notes all → kept_new ≡ first_notes (all ++ note ∷ [])) → RefinesAndKeeps m f x y kept kept_new d d
+went_refused_at m f x y note kept kept_new d running abstraction is same adds =
     record {
-      refines = subst (λ z. Refines f (placed_of stage x) z kept kept_new d d) (sym is) (did_as f (placed_noted note) (placed_of stage x) (placed_of stage x) kept kept_new d d same (did_note (placed_of stage x) note kept kept_new d adds));
+      refines = subst (λ z. Refines f (placed_of x) z kept kept_new d d) (sym is) (did_as f (placed_noted note) (placed_of x) (placed_of x) kept kept_new d d same (did_note (placed_of x) note kept kept_new d adds));
       running = running;
       abstraction = subst (HasAbstraction m) (sym is) abstraction;
       world = ap (λ (z : Placed). z.world) is;
@@ -168,10 +168,10 @@ went_refused_at m stage caller f x y note kept kept_new d running abstraction is
     }
 
 -- how a call begins, by whether it does
-pub starts_by : {C B M W A : Type 0} {P : _} (m : Meaning) (stage : W → Stage) (caller : W → ℕ) (p number : ℕ) (call : SysCall) (x y : Running C B M W P) (result : Result A Refusal) → CallBegins m stage caller p number call x y result →
-    (Begun m stage caller p number call x y → Started m stage caller p number call x y) → Starts m stage caller p number call x y result
-starts_by m stage caller p number call x y (Ok t) h begun = begun h
-starts_by m stage caller p number call x y (Err why) h begun = h
+pub starts_by : {C B M A : Type 0} {P : _} (m : Meaning) (p number : ℕ) (call : SysCall) (x y : Running C B M P) (result : Result A Refusal) → CallBegins m p number call x y result →
+    (Begun m p number call x y → Started m p number call x y) → Starts m p number call x y result
+starts_by m p number call x y (Ok t) h begun = begun h
+starts_by m p number call x y (Err why) h begun = h
 
 -- ---- what happened
 

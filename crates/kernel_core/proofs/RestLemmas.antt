@@ -3,7 +3,7 @@ use Rattle.std.proofs.Common.{append_assoc, ◌≡◌, ℕ, true, false, Bool, L
 use Rattle.std.specs.Prelude.{is_some}
 use Rattle.kernel_model.specs.declared.Note.{Note}
 use Rattle.kernel_model.specs.World.{Blocks}
-use Rattle.kernel_model.specs.Meaning.{Meaning, Stage}
+use Rattle.kernel_model.specs.Meaning.{Meaning}
 use Rattle.kernel_model.specs.Kernel.{Blocker, Run, joins}
 use Rattle.kernel_model.specs.Settle.{settled, step}
 use Rattle.kernel_model.specs.Events.{in_order}
@@ -23,9 +23,9 @@ use Rattle.kernel_core.specs.RefinesAndKeeps.{RefinesFromRest, RefinesToRest, Ke
 
 -- ---- what always holds
 
-pub on_went : {C B M W : Type 0} {P : _} (m : Meaning) (stage : W → Stage) (caller : W → ℕ) (f : PlacedRun → PlacedRun) (x y : Running C B M W P) (kept kept_new : List Note) (d e : DiskSeen) →
-    RefinesAndKeeps m stage caller f x y kept kept_new d e → KeepsRunning m stage caller x y
-on_went m stage caller f x y kept kept_new d e h = record { running = h.running; abstraction = h.abstraction; world = h.world; clock = h.clock }
+pub on_went : {C B M : Type 0} {P : _} (m : Meaning) (f : PlacedRun → PlacedRun) (x y : Running C B M P) (kept kept_new : List Note) (d e : DiskSeen) →
+    RefinesAndKeeps m f x y kept kept_new d e → KeepsRunning m x y
+on_went m f x y kept kept_new d e h = record { running = h.running; abstraction = h.abstraction; world = h.world; clock = h.clock }
 
 -- ---- what was done
 

@@ -3,7 +3,7 @@ use Rattle.std.proofs.Common.{append-nil, ◌≡◌, ℕ, ◌≤◌, ◌<◌, Bo
 use Rattle.std.specs.Prelude.{Contains, is_some}
 use Rattle.kernel_model.specs.declared.Note.{Note}
 use Rattle.kernel_model.specs.World.{Blocks}
-use Rattle.kernel_model.specs.Meaning.{Meaning, Stage}
+use Rattle.kernel_model.specs.Meaning.{Meaning}
 use Rattle.kernel_model.specs.Kernel.{Call, Entry, Run, has_level, is_at_piece}
 use Rattle.kernel_model.specs.Blocking.{levels_of}
 use Rattle.disk_log.specs.Seen.{DiskSeen}
@@ -31,16 +31,16 @@ stood_as m y t r h is = record { kernel = r.kernel; stands = subst (λ z. Stands
 
 -- ---- parts
 
-pub went_as : {C B M W : Type 0} {P : _} (m : Meaning) (stage : W → Stage) (caller : W → ℕ) (f g : PlacedRun → PlacedRun) (x y : Running C B M W P) (kept kept_new : List Note) (d e : DiskSeen) →
-    ((blocks : Blocks) (notes : List Note) (io : List Bool) → f (run_of (placed_of stage x) blocks notes io) ≡ g (run_of (placed_of stage x) blocks notes io)) → RefinesAndKeeps m stage caller g x y kept kept_new d e → RefinesAndKeeps m stage caller f x y kept kept_new d e
-went_as m stage caller f g x y kept kept_new d e same h =
-    record { refines = did_as f g (placed_of stage x) (placed_of stage y) kept kept_new d e same h.refines; running = h.running; abstraction = h.abstraction; world = h.world; clock = h.clock }
+pub went_as : {C B M : Type 0} {P : _} (m : Meaning) (f g : PlacedRun → PlacedRun) (x y : Running C B M P) (kept kept_new : List Note) (d e : DiskSeen) →
+    ((blocks : Blocks) (notes : List Note) (io : List Bool) → f (run_of (placed_of x) blocks notes io) ≡ g (run_of (placed_of x) blocks notes io)) → RefinesAndKeeps m g x y kept kept_new d e → RefinesAndKeeps m f x y kept kept_new d e
+went_as m f g x y kept kept_new d e same h =
+    record { refines = did_as f g (placed_of x) (placed_of y) kept kept_new d e same h.refines; running = h.running; abstraction = h.abstraction; world = h.world; clock = h.clock }
 
-pub went_then : {C B M W : Type 0} {P : _} (m : Meaning) (stage : W → Stage) (caller : W → ℕ) (f g : PlacedRun → PlacedRun) (x y z : Running C B M W P) (a b c : List Note) (d e l : DiskSeen) →
-    RefinesAndKeeps m stage caller f x y a b d e → RefinesAndKeeps m stage caller g y z b c e l → RefinesAndKeeps m stage caller (λ r. g (f r)) x z a c d l
-went_then m stage caller f g x y z a b c d e l first second =
+pub went_then : {C B M : Type 0} {P : _} (m : Meaning) (f g : PlacedRun → PlacedRun) (x y z : Running C B M P) (a b c : List Note) (d e l : DiskSeen) →
+    RefinesAndKeeps m f x y a b d e → RefinesAndKeeps m g y z b c e l → RefinesAndKeeps m (λ r. g (f r)) x z a c d l
+went_then m f g x y z a b c d e l first second =
     record {
-      refines = did_then f g (placed_of stage x) (placed_of stage y) (placed_of stage z) a b c d e l first.refines second.refines;
+      refines = did_then f g (placed_of x) (placed_of y) (placed_of z) a b c d e l first.refines second.refines;
       running = second.running;
       abstraction = second.abstraction;
       world = second.world ∙ first.world;
@@ -48,25 +48,25 @@ went_then m stage caller f g x y z a b c d e l first second =
     }
 
 -- a change without a call of the disk, which adds these notes
-pub went_purely : {C B M W : Type 0} {P : _} (m : Meaning) (stage : W → Stage) (caller : W → ℕ) (f : PlacedRun → PlacedRun) (x y : Running C B M W P) (kept kept_new more : List Note) (d : DiskSeen) →
-    ((blocks : Blocks) (notes : List Note) (io : List Bool) → f (run_of (placed_of stage x) blocks notes io) ≡ run_of (placed_of stage y) blocks (notes ++ more) io) →
-    ((notes : List Note) → kept ≡ first_notes notes → kept_new ≡ first_notes (notes ++ more)) → IsRunning caller y → HasAbstraction m (placed_of stage y) → world_of_store y.store ≡ world_of_store x.store → y.clock ≡ x.clock →
-    RefinesAndKeeps m stage caller f x y kept kept_new d d
-went_purely m stage caller f x y kept kept_new more d same adds running abstraction world clock =
-    record { refines = did_purely f (placed_of stage x) (placed_of stage y) kept kept_new more d same adds; running = running; abstraction = abstraction; world = world; clock = clock }
+pub went_purely : {C B M : Type 0} {P : _} (m : Meaning) (f : PlacedRun → PlacedRun) (x y : Running C B M P) (kept kept_new more : List Note) (d : DiskSeen) →
+    ((blocks : Blocks) (notes : List Note) (io : List Bool) → f (run_of (placed_of x) blocks notes io) ≡ run_of (placed_of y) blocks (notes ++ more) io) →
+    ((notes : List Note) → kept ≡ first_notes notes → kept_new ≡ first_notes (notes ++ more)) → IsRunning y → HasAbstraction m (placed_of y) → world_of_store y.store ≡ world_of_store x.store → y.clock ≡ x.clock →
+    RefinesAndKeeps m f x y kept kept_new d d
+went_purely m f x y kept kept_new more d same adds running abstraction world clock =
+    record { refines = did_purely f (placed_of x) (placed_of y) kept kept_new more d same adds; running = running; abstraction = abstraction; world = world; clock = clock }
 
 -- the same without notes
-pub went_silently : {C B M W : Type 0} {P : _} (m : Meaning) (stage : W → Stage) (caller : W → ℕ) (f : PlacedRun → PlacedRun) (x y : Running C B M W P) (kept : List Note) (d : DiskSeen) →
-    ((notes : List Note) (blocks : Blocks) (io : List Bool) → f (run_of (placed_of stage x) blocks notes io) ≡ run_of (placed_of stage y) blocks notes io) →
-    IsRunning caller y → HasAbstraction m (placed_of stage y) → world_of_store y.store ≡ world_of_store x.store → y.clock ≡ x.clock → RefinesAndKeeps m stage caller f x y kept kept d d
-went_silently m stage caller f x y kept d same running abstraction world clock =
-    went_purely m stage caller f x y kept kept [] d (λ blocks notes io. same notes blocks io ∙ ap (λ ns. run_of (placed_of stage y) blocks ns io) (sym (append-nil notes)))
+pub went_silently : {C B M : Type 0} {P : _} (m : Meaning) (f : PlacedRun → PlacedRun) (x y : Running C B M P) (kept : List Note) (d : DiskSeen) →
+    ((notes : List Note) (blocks : Blocks) (io : List Bool) → f (run_of (placed_of x) blocks notes io) ≡ run_of (placed_of y) blocks notes io) →
+    IsRunning y → HasAbstraction m (placed_of y) → world_of_store y.store ≡ world_of_store x.store → y.clock ≡ x.clock → RefinesAndKeeps m f x y kept kept d d
+went_silently m f x y kept d same running abstraction world clock =
+    went_purely m f x y kept kept [] d (λ blocks notes io. same notes blocks io ∙ ap (λ ns. run_of (placed_of y) blocks ns io) (sym (append-nil notes)))
     (λ notes k. k ∙ ap first_notes (sym (append-nil notes))) running abstraction world clock
 
 -- nothing
-pub went_nothing : {C B M W : Type 0} {P : _} (m : Meaning) (stage : W → Stage) (caller : W → ℕ) (x : Running C B M W P) (kept : List Note) (d : DiskSeen) → IsRunning caller x → HasAbstraction m (placed_of stage x) →
-    RefinesAndKeeps m stage caller (λ r. r) x x kept kept d d
-went_nothing m stage caller x kept d running abstraction = record { refines = did_nothing (placed_of stage x) kept d; running = running; abstraction = abstraction; world = refl; clock = refl }
+pub went_nothing : {C B M : Type 0} {P : _} (m : Meaning) (x : Running C B M P) (kept : List Note) (d : DiskSeen) → IsRunning x → HasAbstraction m (placed_of x) →
+    RefinesAndKeeps m (λ r. r) x x kept kept d d
+went_nothing m x kept d running abstraction = record { refines = did_nothing (placed_of x) kept d; running = running; abstraction = abstraction; world = refl; clock = refl }
 
 -- ---- who stands in the order
 

@@ -5,7 +5,7 @@ use Rattle.disk_log.specs.Seen.{DiskSeen}
 use Rattle.kernel_model.specs.declared.Event.{Event}
 use Rattle.kernel_model.specs.declared.Note.{Note}
 use Rattle.kernel_model.specs.World.{Blocks}
-use Rattle.kernel_model.specs.Meaning.{Meaning, Stage}
+use Rattle.kernel_model.specs.Meaning.{Meaning}
 use Rattle.kernel_model.specs.Kernel.{Kernel, Run}
 use Rattle.kernel_model.specs.Events.{event}
 use Rattle.kernel_model.specs.Sound.{IsAtRest}
@@ -15,10 +15,10 @@ use Rattle.kernel_steps.specs.declared.running.Running.{Running}
 use Rattle.kernel_steps.specs.Views.{placed_of, IsRunning, HasAbstraction}
 
 -- A kernel runs, stands for some abstract kernel, and had at most so many ticks.
-pub record IsKernel {C B M W : Type 0} {P : _} (m : Meaning) (stage : W → Stage) (caller : W → ℕ)
-    (most : ℕ) (x : Running C B M W P) : Type 0 where
-  pub running : IsRunning caller x
-  pub abstraction : HasAbstraction m (placed_of stage x)
+pub record IsKernel {C B M : Type 0} {P : _} (m : Meaning) (most : ℕ) (x : Running C B M P) :
+    Type 0 where
+  pub running : IsRunning x
+  pub abstraction : HasAbstraction m (placed_of x)
   pub clock : x.clock ≤ most
 
 -- what is left of the definitions' event is what the code left: the kernel stands for the abstract

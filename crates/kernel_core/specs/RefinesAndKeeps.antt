@@ -5,7 +5,7 @@ use Rattle.disk_log.specs.Seen.{DiskSeen}
 use Rattle.kernel_model.specs.declared.Note.{Note}
 use Rattle.kernel_model.specs.declared.Note.TheVariants.{Ran}
 use Rattle.kernel_model.specs.World.{Blocks}
-use Rattle.kernel_model.specs.Meaning.{Meaning, Stage}
+use Rattle.kernel_model.specs.Meaning.{Meaning}
 use Rattle.kernel_model.specs.Events.{in_order}
 use Rattle.kernel_model.specs.Kernel.{Kernel}
 use Rattle.kernel_model.specs.Sound.{HasWholeBlocks, IsAtRest}
@@ -20,22 +20,20 @@ use Rattle.kernel_steps.specs.Views.{placed_of, run_of, IsRunning, HasAbstractio
 
 -- A change of an event under way was made: the kernel runs on, and stands for some abstract kernel
 -- again. The set-up and the clock stay.
-pub record RefinesAndKeeps {C B M W : Type 0} {P : _} (m : Meaning) (stage : W → Stage) (caller : W → ℕ)
-    (f : PlacedRun → PlacedRun) (x y : Running C B M W P) (kept kept_new : List Note)
-    (d e : DiskSeen) : Type 0 where
-  pub refines : Refines f (placed_of stage x) (placed_of stage y) kept kept_new d e
-  pub running : IsRunning caller y
-  pub abstraction : HasAbstraction m (placed_of stage y)
+pub record RefinesAndKeeps {C B M : Type 0} {P : _} (m : Meaning) (f : PlacedRun → PlacedRun)
+    (x y : Running C B M P) (kept kept_new : List Note) (d e : DiskSeen) : Type 0 where
+  pub refines : Refines f (placed_of x) (placed_of y) kept kept_new d e
+  pub running : IsRunning y
+  pub abstraction : HasAbstraction m (placed_of y)
   pub world : world_of_store y.store ≡ world_of_store x.store
   pub clock : y.clock ≡ x.clock
 
 -- the same of a change with which the clock rises by one
-pub record Ticked {C B M W : Type 0} {P : _} (m : Meaning) (stage : W → Stage) (caller : W → ℕ)
-    (f : PlacedRun → PlacedRun) (x y : Running C B M W P) (kept kept_new : List Note)
-    (d e : DiskSeen) : Type 0 where
-  pub refines : Refines f (placed_of stage x) (placed_of stage y) kept kept_new d e
-  pub running : IsRunning caller y
-  pub abstraction : HasAbstraction m (placed_of stage y)
+pub record Ticked {C B M : Type 0} {P : _} (m : Meaning) (f : PlacedRun → PlacedRun)
+    (x y : Running C B M P) (kept kept_new : List Note) (d e : DiskSeen) : Type 0 where
+  pub refines : Refines f (placed_of x) (placed_of y) kept kept_new d e
+  pub running : IsRunning y
+  pub abstraction : HasAbstraction m (placed_of y)
   pub world : world_of_store y.store ≡ world_of_store x.store
   pub clock : y.clock ≡ suc x.clock
 
@@ -69,10 +67,10 @@ pub record RefinesToRest (m : Meaning) (f : PlacedRun → PlacedRun) (x y : Plac
 
 -- What always holds after a change: the kernel runs on, and stands for some abstract kernel. The
 -- set-up and the clock stay.
-pub record KeepsRunning {C B M W : Type 0} {P : _} (m : Meaning) (stage : W → Stage) (caller : W → ℕ)
-    (x y : Running C B M W P) : Type 0 where
-  pub running : IsRunning caller y
-  pub abstraction : HasAbstraction m (placed_of stage y)
+pub record KeepsRunning {C B M : Type 0} {P : _} (m : Meaning) (x y : Running C B M P) :
+    Type 0 where
+  pub running : IsRunning y
+  pub abstraction : HasAbstraction m (placed_of y)
   pub world : world_of_store y.store ≡ world_of_store x.store
   pub clock : y.clock ≡ x.clock
 

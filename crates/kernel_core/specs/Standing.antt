@@ -21,9 +21,8 @@ use Rattle.kernel_core.specs.declared.kernel.BootNote.TheVariants.{Up, Fault}
 
 -- A kernel before `boot`: no call is in flight, none waits, no tick came, and the policies are
 -- those of the opening state.
-pub record IsBlank {C B M W : Type 0} {P : _} (caller : W →
-    ℕ) (x : Running C B M W P) : Type 0 where
-  pub running : IsRunning caller x
+pub record IsBlank {C B M : Type 0} {P : _} (x : Running C B M P) : Type 0 where
+  pub running : IsRunning x
   pub quiet : IsQuiet x
   pub clock : x.clock ≡ 0
   pub stock : pol_of (views_of x.store) first_choice ≡ opening_policy

@@ -14,14 +14,15 @@ use Rattle.kernel_steps.specs.Begins.{NotBegun}
 use Rattle.kernel_core.specs.RefinesAndKeeps.{RefinesAndKeeps}
 
 -- A call of p was granted, and joined the order.
-pub record Started {C B M W : Type 0} {P : _} (m : Meaning) (stage : W → Stage) (caller : W → ℕ)
-    (p number : ℕ) (call : SysCall) (x y : Running C B M W P) : Type 0 where
+pub record Started {C B M : Type 0} {P : _} (m : Meaning) (p number : ℕ) (call : SysCall)
+    (x y : Running C B M P) : Type 0 where
   pub first : Stage
   pub granted : m.early (world_of_store x.store) (table_of x.images) p call ≡ Ok first
-  pub went : (kept : List Note) (d : DiskSeen) → RefinesAndKeeps m stage caller
+  pub went : (kept : List Note) (d : DiskSeen) → RefinesAndKeeps m
       (λ r. placed_joins p (with_placed_call p (Some (first_placed number first)) r)) x y kept kept d d
 
-abbrev pub Starts : {C B M W A : Type 0} {P : _} → (m : Meaning) → (W → Stage) → (W → ℕ) →
-    (p number : ℕ) → SysCall → (x y : Running C B M W P) → Result A Refusal → Type 0
-Starts m stage caller p number call x y (Ok _) = Started m stage caller p number call x y
-Starts m stage caller p number call x y (Err why) = NotBegun m stage caller p call why x y
+-- a call of p starts, or is refused at once
+abbrev pub Starts : {C B M A : Type 0} {P : _} → Meaning → (p number : ℕ) → SysCall →
+    (x y : Running C B M P) → Result A Refusal → Type 0
+Starts m p number call x y (Ok _) = Started m p number call x y
+Starts m p number call x y (Err why) = NotBegun m p call why x y

@@ -39,10 +39,10 @@ fn begin<C: Calls, B: Policy>(
 ) -> Result<(), Refusal>
     requires process { p < 16 }
     requires alive { lives (queue_of running.old.store) p ≡ true }
-    requires none { (placed_of C.stage running.old).call p ≡ None }
-    requires running { IsRunning C.caller running.old }
-    requires abstraction { HasAbstraction C.Meaning.meaning (placed_of C.stage running.old) }
-    ensures { Starts C.Meaning.meaning C.stage C.caller p number (call_with call bytes.now.items)
+    requires none { (placed_of running.old).call p ≡ None }
+    requires running { IsRunning running.old }
+    requires abstraction { HasAbstraction C.Meaning.meaning (placed_of running.old) }
+    ensures { Starts C.Meaning.meaning p number (call_with call bytes.now.items)
         running.old running.new result }
 {
     agreeing::same_shown::<C::Meaning>();
@@ -58,10 +58,10 @@ fn run<C: Calls, B: Policy, D: Disk>(
     trace: &mut Trace,
 )
     requires process { p < 16 }
-    requires running { IsRunning C.caller running.old }
-    requires abstraction { HasAbstraction C.Meaning.meaning (placed_of C.stage running.old) }
+    requires running { IsRunning running.old }
+    requires abstraction { HasAbstraction C.Meaning.meaning (placed_of running.old) }
     requires disk { running.old.store.size ≡ D.block_count disk.old }
-    ensures went { RefinesAndKeeps C.Meaning.meaning C.stage C.caller
+    ensures went { RefinesAndKeeps C.Meaning.meaning
         (λ r. placed_last C.Meaning.meaning p (placed_settled C.Meaning.meaning r))
         running.old running.new trace.old.notes trace.new.notes
         (disk_seen (D.blocks disk.old) (D.plan disk.old) (D.faults disk.old))
@@ -82,10 +82,10 @@ fn system<C: Calls, B: Policy, D: Disk>(
     disk: &mut D,
     trace: &mut Trace,
 )
-    requires running { IsRunning C.caller running.old }
-    requires abstraction { HasAbstraction C.Meaning.meaning (placed_of C.stage running.old) }
+    requires running { IsRunning running.old }
+    requires abstraction { HasAbstraction C.Meaning.meaning (placed_of running.old) }
     requires disk { running.old.store.size ≡ D.block_count disk.old }
-    ensures went { RefinesAndKeeps C.Meaning.meaning C.stage C.caller
+    ensures went { RefinesAndKeeps C.Meaning.meaning
         (placed_event_on C.Meaning.meaning number (Sys p (call_with call bytes.now.items)))
         running.old running.new trace.old.notes trace.new.notes
         (disk_seen (D.blocks disk.old) (D.plan disk.old) (D.faults disk.old))
@@ -117,15 +117,15 @@ fn stepped<C: Calls, B: Policy, D: Disk>(
     disk: &mut D,
     trace: &mut Trace,
 )
-    requires running { IsRunning C.caller running.old }
-    requires abstraction { HasAbstraction C.Meaning.meaning (placed_of C.stage running.old) }
+    requires running { IsRunning running.old }
+    requires abstraction { HasAbstraction C.Meaning.meaning (placed_of running.old) }
     requires disk { running.old.store.size ≡ D.block_count disk.old }
     ensures refines { RefinesFromRest C.Meaning.meaning
-        (placed_event_on C.Meaning.meaning number (Step p n)) (placed_of C.stage running.old)
-        (placed_of C.stage running.new) trace.old.notes trace.new.notes
+        (placed_event_on C.Meaning.meaning number (Step p n)) (placed_of running.old)
+        (placed_of running.new) trace.old.notes trace.new.notes
         (disk_seen (D.blocks disk.old) (D.plan disk.old) (D.faults disk.old))
         (disk_seen (D.blocks disk.new) (D.plan disk.new) (D.faults disk.new)) }
-    ensures on { KeepsRunning C.Meaning.meaning C.stage C.caller running.old running.new }
+    ensures on { KeepsRunning C.Meaning.meaning running.old running.new }
     ensures same_size { D.block_count disk.new ≡ D.block_count disk.old }
 {
     if !running.store.living(p) {
@@ -158,14 +158,14 @@ pub fn event<C: Calls, B: Policy, D: Disk>(
 )
     requires first { 0 < number }
     requires room { number < 2 ^ 32 - 1 }
-    requires kernel { IsKernel C.Meaning.meaning C.stage C.caller (number - 1) running.old }
+    requires kernel { IsKernel C.Meaning.meaning (number - 1) running.old }
     requires disk { running.old.store.size ≡ D.block_count disk.old }
     requires no_notes { trace.old.notes ≡ [] }
-    ensures happened { EventRefines C.Meaning.meaning (placed_of C.stage running.old)
-        (placed_of C.stage running.new) number (event_with what bytes.now.items) trace.new.notes
+    ensures happened { EventRefines C.Meaning.meaning (placed_of running.old)
+        (placed_of running.new) number (event_with what bytes.now.items) trace.new.notes
         (disk_seen (D.blocks disk.old) (D.plan disk.old) (D.faults disk.old))
         (disk_seen (D.blocks disk.new) (D.plan disk.new) (D.faults disk.new)) }
-    ensures kernel { IsKernel C.Meaning.meaning C.stage C.caller number running.new }
+    ensures kernel { IsKernel C.Meaning.meaning number running.new }
     ensures world { world_of_store running.new.store ≡ world_of_store running.old.store }
     ensures same_size { D.block_count disk.new ≡ D.block_count disk.old }
 {

@@ -34,13 +34,13 @@ pub enum ImageRefusal {
 impl<C: Calls, B: Policy> Kernel<C, B> {
     /// Why no image can stand in a slot, if it can't: `BadSlot` above 31, `Taken` where it has one.
     pub fn slot_refusal(&self, slot: u32) -> Option<ImageRefusal>
-        ensures value { result ≡ slot_refused (placed_of C.stage self.now.running).images slot }
+        ensures value { result ≡ slot_refused (placed_of self.now.running).images slot }
         ensures refused { IfSome result
             (λ refusal. (k : Abstract) (loaded : Result Image images.LoadFault) →
-            StandsFor C.Meaning.meaning (placed_of C.stage self.now.running) k →
+            StandsFor C.Meaning.meaning (placed_of self.now.running) k →
             IsAtRest C.Meaning.meaning k →
             ImageIsAdded C.Meaning.meaning slot loaded k
-            (placed_of C.stage self.now.running) (refusal_said refusal)) }
+            (placed_of self.now.running) (refusal_said refusal)) }
     {
         if slot > LAST_SLOT {
             return Some(ImageRefusal::BadSlot);
@@ -61,17 +61,17 @@ impl<C: Calls, B: Policy> Kernel<C, B> {
         slot: u32,
         bytes: &[u8],
     ) -> Result<(u32, u32), ImageRefusal>
-        requires running { IsRunning C.caller self.old.running }
-        requires abstraction { HasAbstraction C.Meaning.meaning (placed_of C.stage self.old.running) }
+        requires running { IsRunning self.old.running }
+        requires abstraction { HasAbstraction C.Meaning.meaning (placed_of self.old.running) }
         ensures added { has_memory result ≡ true → (k : Abstract) →
-            StandsFor C.Meaning.meaning (placed_of C.stage self.old.running) k →
+            StandsFor C.Meaning.meaning (placed_of self.old.running) k →
             IsAtRest C.Meaning.meaning k →
             ImageIsAdded C.Meaning.meaning slot (images.load keys.now bytes.now) k
-            (placed_of C.stage self.new.running) (image_said result) }
+            (placed_of self.new.running) (image_said result) }
         ensures memory { result ≡ Err (Unloaded NoMemory) → (self.new ≡ self.old)
-            × (slot_refused (placed_of C.stage self.old.running).images slot ≡ None) }
-        ensures running { IsRunning C.caller self.new.running }
-        ensures abstraction { HasAbstraction C.Meaning.meaning (placed_of C.stage self.new.running) }
+            × (slot_refused (placed_of self.old.running).images slot ≡ None) }
+        ensures running { IsRunning self.new.running }
+        ensures abstraction { HasAbstraction C.Meaning.meaning (placed_of self.new.running) }
         ensures store { self.new.running.store ≡ self.old.running.store }
         ensures clock { self.new.running.clock ≡ self.old.running.clock }
     {

@@ -65,7 +65,7 @@ impl<C: Calls, B: Policy> Kernel<C, B> {
         requires frames_most { setup.frames ≤ 64 }
         requires shelf { IsShelf (map B.seen shelf.items) }
         requires stock { pol_of (map B.seen shelf.items) first_choice ≡ opening_policy }
-        ensures blank { IfOk result (λ k. IsBlank C.caller k.running) }
+        ensures blank { IfOk result (λ k. IsBlank k.running) }
     {
         let store = Store::new(setup, 1, Directory::empty(), ram, Shelf::of(shelf));
         match Running::new(alloc, store, images) {
@@ -82,12 +82,12 @@ impl<C: Calls, B: Policy> Kernel<C, B> {
     pub fn boot<D: Disk>(&mut self, setup: Setup, disk: &mut D) -> BootNote
         requires frames_least { 2 ≤ setup.frames }
         requires frames_most { setup.frames ≤ 64 }
-        requires blank { IsBlank C.caller self.old.running }
+        requires blank { IsBlank self.old.running }
         ensures booted { Booted C.Meaning.meaning setup (D.block_count disk.old)
-            (placed_of C.stage self.new.running) result
+            (placed_of self.new.running) result
             (disk_seen (D.blocks disk.old) (D.plan disk.old) (D.faults disk.old))
             (disk_seen (D.blocks disk.new) (D.plan disk.new) (D.faults disk.new)) }
-        ensures kernel { IsKernel C.Meaning.meaning C.stage C.caller 0 self.new.running }
+        ensures kernel { IsKernel C.Meaning.meaning 0 self.new.running }
         ensures size { self.new.running.store.size ≡ D.block_count disk.old }
         ensures same_size { D.block_count disk.new ≡ D.block_count disk.old }
     {
@@ -111,7 +111,7 @@ impl<C: Calls, B: Policy> Kernel<C, B> {
     /// Whether a slot has an image.
     pub(crate) fn has_image(&self, slot: u32) -> bool
         requires { slot < 32 }
-        ensures { result ≡ is_some ((placed_of C.stage self.now.running).images slot) }
+        ensures { result ≡ is_some ((placed_of self.now.running).images slot) }
     {
         self.running.has_image(slot)
     }
@@ -119,18 +119,18 @@ impl<C: Calls, B: Policy> Kernel<C, B> {
     /// A slot that is free has this image from now on. No memory is taken.
     pub(crate) fn put_image(&mut self, slot: u32, image: Loaded)
         requires slot { slot < 32 }
-        requires free { (placed_of C.stage self.old.running).images slot ≡ None }
-        requires running { IsRunning C.caller self.old.running }
-        requires abstraction { HasAbstraction C.Meaning.meaning (placed_of C.stage self.old.running) }
+        requires free { (placed_of self.old.running).images slot ≡ None }
+        requires running { IsRunning self.old.running }
+        requires abstraction { HasAbstraction C.Meaning.meaning (placed_of self.old.running) }
         ensures stands { (k : Abstract) →
-            StandsFor C.Meaning.meaning (placed_of C.stage self.old.running) k →
-            StandsFor C.Meaning.meaning (placed_of C.stage self.new.running)
+            StandsFor C.Meaning.meaning (placed_of self.old.running) k →
+            StandsFor C.Meaning.meaning (placed_of self.new.running)
             (session.add_image slot image k) }
         ensures rests { (k : Abstract) → StandsFor C.Meaning.meaning
-            (placed_of C.stage self.old.running) k → IsAtRest C.Meaning.meaning k →
+            (placed_of self.old.running) k → IsAtRest C.Meaning.meaning k →
             IsAtRest C.Meaning.meaning (session.add_image slot image k) }
-        ensures running { IsRunning C.caller self.new.running }
-        ensures abstraction { HasAbstraction C.Meaning.meaning (placed_of C.stage self.new.running) }
+        ensures running { IsRunning self.new.running }
+        ensures abstraction { HasAbstraction C.Meaning.meaning (placed_of self.new.running) }
         ensures store { self.new.running.store ≡ self.old.running.store }
         ensures clock { self.new.running.clock ≡ self.old.running.clock }
     {
@@ -140,7 +140,7 @@ impl<C: Calls, B: Policy> Kernel<C, B> {
     /// The number of the call that process p has in flight. None past the last process.
     pub fn left(&self, p: u8) -> Option<u32>
         ensures { result ≡ option_map (λ (c : PlacedCall). c.number)
-            ((placed_of C.stage self.now.running).call p) }
+            ((placed_of self.now.running).call p) }
     {
         self.running.call_number(p)
     }
@@ -157,16 +157,15 @@ impl<C: Calls, B: Policy> Kernel<C, B> {
     )
         requires first { 0 < number }
         requires room { number < 2 ^ 32 - 1 }
-        requires kernel { IsKernel C.Meaning.meaning C.stage C.caller
-            (number - 1) self.old.running }
+        requires kernel { IsKernel C.Meaning.meaning (number - 1) self.old.running }
         requires disk { self.old.running.store.size ≡ D.block_count disk.old }
         requires no_notes { trace.old.notes ≡ [] }
-        ensures happened { EventRefines C.Meaning.meaning (placed_of C.stage self.old.running)
-            (placed_of C.stage self.new.running) number (event_with what bytes.now.items)
+        ensures happened { EventRefines C.Meaning.meaning (placed_of self.old.running)
+            (placed_of self.new.running) number (event_with what bytes.now.items)
             trace.new.notes
             (disk_seen (D.blocks disk.old) (D.plan disk.old) (D.faults disk.old))
             (disk_seen (D.blocks disk.new) (D.plan disk.new) (D.faults disk.new)) }
-        ensures kernel { IsKernel C.Meaning.meaning C.stage C.caller number self.new.running }
+        ensures kernel { IsKernel C.Meaning.meaning number self.new.running }
         ensures world { world_of_store self.new.running.store
             ≡ world_of_store self.old.running.store }
         ensures same_size { D.block_count disk.new ≡ D.block_count disk.old }
@@ -176,8 +175,8 @@ impl<C: Calls, B: Policy> Kernel<C, B> {
 
     /// The i-th of the rows that show the whole state. None past the last.
     pub fn raw(&self, i: u32) -> Option<RawRow>
-        requires running { IsRunning C.caller self.now.running }
-        ensures value { result ≡ slice_get (placed_rows (placed_of C.stage self.now.running)) i }
+        requires running { IsRunning self.now.running }
+        ensures value { result ≡ slice_get (placed_rows (placed_of self.now.running)) i }
         ensures few { 1478 ≤ i → result ≡ None }
     {
         placed_rows::raw(&self.running, i)
@@ -185,28 +184,27 @@ impl<C: Calls, B: Policy> Kernel<C, B> {
 
     /// The next row from a place on, which then is behind that row. None where no row is left.
     pub fn next_row(&self, at: &mut RowPlace) -> Option<RawRow>
-        requires running { IsRunning C.caller self.now.running }
-        ensures { TakesRow (placed_of C.stage self.now.running)
-            at.old at.new result }
+        requires running { IsRunning self.now.running }
+        ensures { TakesRow (placed_of self.now.running) at.old at.new result }
     {
         placed_rows::next_row(&self.running, at)
     }
     /// Where the next row from a place on stands, which then is behind that row. None where no row
     /// is left.
     pub fn find_row(&self, at: &mut RowPlace) -> Option<FoundRow>
-        requires running { IsRunning C.caller self.now.running }
-        ensures taken { TakesRow (placed_of C.stage self.now.running) at.old at.new
-            (row_if_found (placed_of C.stage self.now.running) result) }
-        ensures found { IfSome result (IsRow (placed_of C.stage self.now.running)) }
+        requires running { IsRunning self.now.running }
+        ensures taken { TakesRow (placed_of self.now.running) at.old at.new
+            (row_if_found (placed_of self.now.running) result) }
+        ensures found { IfSome result (IsRow (placed_of self.now.running)) }
     {
         placed_rows::find_row(&self.running, at)
     }
 
     /// The row that stands there.
     pub fn row_at(&self, found: &FoundRow) -> Option<RawRow>
-        requires running { IsRunning C.caller self.now.running }
-        requires found { IsRow (placed_of C.stage self.now.running) found.now }
-        ensures { result ≡ row_found (placed_of C.stage self.now.running) found.now }
+        requires running { IsRunning self.now.running }
+        requires found { IsRow (placed_of self.now.running) found.now }
+        ensures { result ≡ row_found (placed_of self.now.running) found.now }
     {
         placed_rows::row_at(&self.running, found)
     }

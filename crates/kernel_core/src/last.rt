@@ -15,9 +15,9 @@ use kernel_steps::{Notes, Running};
 /// Says for what process p's call of this number waits, if something blocks it.
 fn say_wait<C: Calls, B: Policy>(running: &Running<C, B>, p: u8, number: u32, notes: &mut Notes)
     requires process { p < 16 }
-    requires running { IsRunning C.caller running.now }
-    requires abstraction { HasAbstraction C.Meaning.meaning (placed_of C.stage running.now) }
-    ensures said { (d : DiskSeen) → let x = placed_of C.stage running.now in
+    requires running { IsRunning running.now }
+    requires abstraction { HasAbstraction C.Meaning.meaning (placed_of running.now) }
+    ensures said { (d : DiskSeen) → let x = placed_of running.now in
         Refines (placed_waits_note number (placed_blocker C.Meaning.meaning x p)) x x notes.old
         notes.new d d }
 {
@@ -29,9 +29,9 @@ fn say_wait<C: Calls, B: Policy>(running: &Running<C, B>, p: u8, number: u32, no
 /// Says where process p's call stands, if it is still in flight: it waits, or it is in a graft.
 pub(crate) fn say_last<C: Calls, B: Policy>(running: &Running<C, B>, p: u8, notes: &mut Notes)
     requires process { p < 16 }
-    requires running { IsRunning C.caller running.now }
-    requires abstraction { HasAbstraction C.Meaning.meaning (placed_of C.stage running.now) }
-    ensures said { (d : DiskSeen) → let x = placed_of C.stage running.now in
+    requires running { IsRunning running.now }
+    requires abstraction { HasAbstraction C.Meaning.meaning (placed_of running.now) }
+    ensures said { (d : DiskSeen) → let x = placed_of running.now in
         Refines (placed_last C.Meaning.meaning p) x x notes.old notes.new d d }
 {
     let Some(number) = running.call_number(p) else {

@@ -14,9 +14,9 @@ impl<C: Calls, B: Policy> Kernel<C, B> {
     pub fn innermost_register(&self, p: u8, i: u8) -> Option<u32>
         requires process { p < 16 }
         requires register { i < 16 }
-        requires running { IsRunning C.caller self.now.running }
+        requires running { IsRunning self.now.running }
         ensures { result ≡ option_map (λ (l : PlacedLevel). l.machine.regs i)
-            (innermost_level ((placed_of C.stage self.now.running).levels p)) }
+            (innermost_level ((placed_of self.now.running).levels p)) }
     {
         self.running.innermost_register(p, i)
     }
@@ -25,9 +25,9 @@ impl<C: Calls, B: Policy> Kernel<C, B> {
     pub fn innermost_byte(&self, p: u8, at: u32) -> Option<u8>
         requires process { p < 16 }
         requires inside { at < 4096 }
-        requires running { IsRunning C.caller self.now.running }
+        requires running { IsRunning self.now.running }
         ensures { result ≡ option_map (λ (l : PlacedLevel). l.machine.memory at)
-            (innermost_level ((placed_of C.stage self.now.running).levels p)) }
+            (innermost_level ((placed_of self.now.running).levels p)) }
     {
         self.running.innermost_byte(p, at)
     }

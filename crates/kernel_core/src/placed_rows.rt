@@ -143,8 +143,8 @@ impl RowPlace {
 
 /// The i-th of the rows that show the whole state. None past the last.
 pub fn raw<C: Calls, B: Policy>(running: &Running<C, B>, i: u32) -> Option<RawRow>
-    requires running { IsRunning C.caller running.now }
-    ensures value { result ≡ slice_get (placed_rows (placed_of C.stage running.now)) i }
+    requires running { IsRunning running.now }
+    ensures value { result ≡ slice_get (placed_rows (placed_of running.now)) i }
     ensures few { 1478 ≤ i → result ≡ None }
 {
     let mut at = RowPlace::first();
@@ -156,8 +156,8 @@ pub fn raw<C: Calls, B: Policy>(running: &Running<C, B>, i: u32) -> Option<RawRo
 
 /// The next row from a place on, which then is behind that row. None where no row is left.
 pub fn next_row<C: Calls, B: Policy>(running: &Running<C, B>, at: &mut RowPlace) -> Option<RawRow>
-    requires running { IsRunning C.caller running.now }
-    ensures { TakesRow (placed_of C.stage running.now) at.old at.new result }
+    requires running { IsRunning running.now }
+    ensures { TakesRow (placed_of running.now) at.old at.new result }
 {
     let found = find_row(running, at)?;
     row_at(running, &found)
@@ -166,10 +166,10 @@ pub fn next_row<C: Calls, B: Policy>(running: &Running<C, B>, at: &mut RowPlace)
 /// Where the next row from a place on stands, which then is behind that row. None where no row is
 /// left.
 pub fn find_row<C: Calls, B: Policy>(running: &Running<C, B>, at: &mut RowPlace) -> Option<FoundRow>
-    requires running { IsRunning C.caller running.now }
-    ensures taken { TakesRow (placed_of C.stage running.now) at.old at.new
-        (row_if_found (placed_of C.stage running.now) result) }
-    ensures found { IfSome result (IsRow (placed_of C.stage running.now)) }
+    requires running { IsRunning running.now }
+    ensures taken { TakesRow (placed_of running.now) at.old at.new
+        (row_if_found (placed_of running.now) result) }
+    ensures found { IfSome result (IsRow (placed_of running.now)) }
 {
     while at.section < SECTIONS.len() {
         let section = SECTIONS[at.section];
@@ -195,12 +195,11 @@ pub fn find_row<C: Calls, B: Policy>(running: &Running<C, B>, at: &mut RowPlace)
 /// On to the next place of this section. Where it is that of the files or of the grafts, of which
 /// few places have one, on from there to the next place with one.
 fn pass_place<C: Calls, B: Policy>(running: &Running<C, B>, section: Section, at: &mut RowPlace)
-    requires running { IsRunning C.caller running.now }
+    requires running { IsRunning running.now }
     requires section { slice_get sections at.old.section ≡ Some section }
     requires place { at.old.place < places section }
-    requires none { length (rows_at (placed_of C.stage running.now) section at.old.place)
-        ≤ at.old.index }
-    ensures passed { IsPassed (placed_of C.stage running.now) section at.old at.new }
+    requires none { length (rows_at (placed_of running.now) section at.old.place) ≤ at.old.index }
+    ensures passed { IsPassed (placed_of running.now) section at.old at.new }
     ensures further { at.old.place < at.new.place }
 {
     at.pass_place();
@@ -214,7 +213,7 @@ fn pass_place<C: Calls, B: Policy>(running: &Running<C, B>, section: Section, at
 /// Whether a file is open at a place of the files.
 fn has_file<C: Calls, B: Policy>(running: &Running<C, B>, n: u16) -> bool
     requires { n < 64 }
-    ensures { length (rows_at (placed_of C.stage running.now) Files n) ≡ (if result then 1 else 0) }
+    ensures { length (rows_at (placed_of running.now) Files n) ≡ (if result then 1 else 0) }
 {
     let file = running.store.procs.file((n / 4) as u8, (n % 4) as u8);
     file.is_some()
@@ -223,17 +222,17 @@ fn has_file<C: Calls, B: Policy>(running: &Running<C, B>, n: u16) -> bool
 /// Whether a graft stands at a place of the grafts.
 fn has_graft<C: Calls, B: Policy>(running: &Running<C, B>, n: u16) -> bool
     requires { n < 256 }
-    ensures { length (rows_at (placed_of C.stage running.now) Grafts n) ≡ (if result then 1 else 0) }
+    ensures { length (rows_at (placed_of running.now) Grafts n) ≡ (if result then 1 else 0) }
 {
     running.store.has_graft((n / 16) as u8, (n % 16) as u8)
 }
 
 /// On past places without an open file.
 fn pass_no_file<C: Calls, B: Policy>(running: &Running<C, B>, at: &mut RowPlace)
-    requires running { IsRunning C.caller running.now }
+    requires running { IsRunning running.now }
     requires section { slice_get sections at.old.section ≡ Some Files }
     requires place { at.old.place ≤ 64 }
-    ensures { IsPassed (placed_of C.stage running.now) Files at.old at.new }
+    ensures { IsPassed (placed_of running.now) Files at.old at.new }
 {
     while at.place < 64 && !has_file(running, at.place) {
         at.pass_place();
@@ -242,10 +241,10 @@ fn pass_no_file<C: Calls, B: Policy>(running: &Running<C, B>, at: &mut RowPlace)
 
 /// On past places without a graft.
 fn pass_no_graft<C: Calls, B: Policy>(running: &Running<C, B>, at: &mut RowPlace)
-    requires running { IsRunning C.caller running.now }
+    requires running { IsRunning running.now }
     requires section { slice_get sections at.old.section ≡ Some Grafts }
     requires place { at.old.place ≤ 256 }
-    ensures { IsPassed (placed_of C.stage running.now) Grafts at.old at.new }
+    ensures { IsPassed (placed_of running.now) Grafts at.old at.new }
 {
     while at.place < 256 && !has_graft(running, at.place) {
         at.pass_place();
@@ -254,10 +253,9 @@ fn pass_no_graft<C: Calls, B: Policy>(running: &Running<C, B>, at: &mut RowPlace
 
 /// How many rows there are at a place of a section.
 fn count_at<C: Calls, B: Policy>(running: &Running<C, B>, section: Section, n: u16) -> u32
-    requires running { IsRunning C.caller running.now }
+    requires running { IsRunning running.now }
     requires place { n < places section }
-    ensures value { result ≡
-        length (rows_at (placed_of C.stage running.now) section n) }
+    ensures value { result ≡ length (rows_at (placed_of running.now) section n) }
     ensures few { result ≤ most_at section }
 {
     let store = &running.store;
@@ -275,9 +273,9 @@ fn count_at<C: Calls, B: Policy>(running: &Running<C, B>, section: Section, n: u
 
 /// The row that stands there.
 pub fn row_at<C: Calls, B: Policy>(running: &Running<C, B>, found: &FoundRow) -> Option<RawRow>
-    requires running { IsRunning C.caller running.now }
-    requires found { IsRow (placed_of C.stage running.now) found.now }
-    ensures { result ≡ row_found (placed_of C.stage running.now) found.now }
+    requires running { IsRunning running.now }
+    requires found { IsRow (placed_of running.now) found.now }
+    ensures { result ≡ row_found (placed_of running.now) found.now }
 {
     let store = &running.store;
     let n = found.place;

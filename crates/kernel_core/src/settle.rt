@@ -18,11 +18,11 @@ const STEPS: u16 = 256;
 
 /// The order is told its blockers.
 fn rest<C: Calls, B: Policy>(running: &mut Running<C, B>)
-    requires running { IsRunning C.caller running.old }
-    requires abstraction { HasAbstraction C.Meaning.meaning (placed_of C.stage running.old) }
+    requires running { IsRunning running.old }
+    requires abstraction { HasAbstraction C.Meaning.meaning (placed_of running.old) }
     ensures went { (kept : List Told) (d : DiskSeen) →
-        RefinesAndKeeps C.Meaning.meaning C.stage C.caller
-        (placed_rested C.Meaning.meaning) running.old running.new kept kept d d }
+        RefinesAndKeeps C.Meaning.meaning (placed_rested C.Meaning.meaning) running.old running.new
+        kept kept d d }
 {
     keeping::others_stand::<C::Meaning>();
     running.rest();
@@ -35,11 +35,11 @@ fn settle<C: Calls, B: Policy, D: Disk>(
     disk: &mut D,
     trace: &mut Trace,
 )
-    requires running { IsRunning C.caller running.old }
-    requires abstraction { HasAbstraction C.Meaning.meaning (placed_of C.stage running.old) }
+    requires running { IsRunning running.old }
+    requires abstraction { HasAbstraction C.Meaning.meaning (placed_of running.old) }
     requires disk { running.old.store.size ≡ D.block_count disk.old }
-    ensures went { RefinesAndKeeps C.Meaning.meaning C.stage C.caller
-        (placed_settle C.Meaning.meaning turns) running.old running.new trace.old.notes trace.new.notes
+    ensures went { RefinesAndKeeps C.Meaning.meaning (placed_settle C.Meaning.meaning turns)
+        running.old running.new trace.old.notes trace.new.notes
         (disk_seen (D.blocks disk.old) (D.plan disk.old) (D.faults disk.old))
         (disk_seen (D.blocks disk.new) (D.plan disk.new) (D.faults disk.new)) }
     ensures same_size { D.block_count disk.new ≡ D.block_count disk.old }
@@ -61,11 +61,11 @@ pub(crate) fn settle_all<C: Calls, B: Policy, D: Disk>(
     disk: &mut D,
     trace: &mut Trace,
 )
-    requires running { IsRunning C.caller running.old }
-    requires abstraction { HasAbstraction C.Meaning.meaning (placed_of C.stage running.old) }
+    requires running { IsRunning running.old }
+    requires abstraction { HasAbstraction C.Meaning.meaning (placed_of running.old) }
     requires disk { running.old.store.size ≡ D.block_count disk.old }
-    ensures went { RefinesAndKeeps C.Meaning.meaning C.stage C.caller
-        (placed_settled C.Meaning.meaning) running.old running.new trace.old.notes trace.new.notes
+    ensures went { RefinesAndKeeps C.Meaning.meaning (placed_settled C.Meaning.meaning)
+        running.old running.new trace.old.notes trace.new.notes
         (disk_seen (D.blocks disk.old) (D.plan disk.old) (D.faults disk.old))
         (disk_seen (D.blocks disk.new) (D.plan disk.new) (D.faults disk.new)) }
     ensures same_size { D.block_count disk.new ≡ D.block_count disk.old }

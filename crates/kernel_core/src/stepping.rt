@@ -24,15 +24,13 @@ use vino_base::Disk;
 /// Process p's call, which is in a graft, blocked, and not in the order, joins it.
 fn join<C: Calls, B: Policy>(running: &mut Running<C, B>, p: u8)
     requires process { p < 16 }
-    requires level { has_some ((placed_of C.stage running.old).levels p) ≡ true }
-    requires new { in_order p (placed_of C.stage running.old).order ≡ false }
-    requires blocked { is_some (placed_blocker C.Meaning.meaning (placed_of C.stage running.old) p)
-        ≡ true }
-    requires running { IsRunning C.caller running.old }
-    requires abstraction { HasAbstraction C.Meaning.meaning (placed_of C.stage running.old) }
+    requires level { has_some ((placed_of running.old).levels p) ≡ true }
+    requires new { in_order p (placed_of running.old).order ≡ false }
+    requires blocked { is_some (placed_blocker C.Meaning.meaning (placed_of running.old) p) ≡ true }
+    requires running { IsRunning running.old }
+    requires abstraction { HasAbstraction C.Meaning.meaning (placed_of running.old) }
     ensures went { (kept : List Told) (d : DiskSeen) →
-        RefinesAndKeeps C.Meaning.meaning C.stage C.caller
-        (placed_joins p) running.old running.new kept kept d d }
+        RefinesAndKeeps C.Meaning.meaning (placed_joins p) running.old running.new kept kept d d }
 {
     keeping::others_stand::<C::Meaning>();
     running.join(p);
@@ -48,15 +46,15 @@ fn take_up<C: Calls, B: Policy, D: Disk>(
     trace: &mut Trace,
 ) -> bool
     requires process { p < 16 }
-    requires running { IsRunning C.caller running.old }
-    requires abstraction { HasAbstraction C.Meaning.meaning (placed_of C.stage running.old) }
+    requires running { IsRunning running.old }
+    requires abstraction { HasAbstraction C.Meaning.meaning (placed_of running.old) }
     requires disk { running.old.store.size ≡ D.block_count disk.old }
-    ensures took { result ≡ takes_up C.Meaning.meaning (placed_of C.stage running.old) p }
+    ensures took { result ≡ takes_up C.Meaning.meaning (placed_of running.old) p }
     ensures refines { RefinesToRest C.Meaning.meaning (taken_up C.Meaning.meaning p)
-        (placed_of C.stage running.old) (placed_of C.stage running.new) trace.old.notes trace.new.notes
+        (placed_of running.old) (placed_of running.new) trace.old.notes trace.new.notes
         (disk_seen (D.blocks disk.old) (D.plan disk.old) (D.faults disk.old))
         (disk_seen (D.blocks disk.new) (D.plan disk.new) (D.faults disk.new)) }
-    ensures on { KeepsRunning C.Meaning.meaning C.stage C.caller running.old running.new }
+    ensures on { KeepsRunning C.Meaning.meaning running.old running.new }
     ensures same_size { D.block_count disk.new ≡ D.block_count disk.old }
 {
     agreeing::same_shown::<C::Meaning>();
@@ -101,14 +99,14 @@ fn steps<C: Calls, B: Policy, D: Disk>(
 )
     requires process { p < 16 }
     requires few { n ≤ 65536 }
-    requires running { IsRunning C.caller running.old }
-    requires abstraction { HasAbstraction C.Meaning.meaning (placed_of C.stage running.old) }
+    requires running { IsRunning running.old }
+    requires abstraction { HasAbstraction C.Meaning.meaning (placed_of running.old) }
     requires disk { running.old.store.size ≡ D.block_count disk.old }
     ensures refines { RefinesFromRest C.Meaning.meaning (steps_said C.Meaning.meaning number p n 0)
-        (placed_of C.stage running.old) (placed_of C.stage running.new) trace.old.notes trace.new.notes
+        (placed_of running.old) (placed_of running.new) trace.old.notes trace.new.notes
         (disk_seen (D.blocks disk.old) (D.plan disk.old) (D.faults disk.old))
         (disk_seen (D.blocks disk.new) (D.plan disk.new) (D.faults disk.new)) }
-    ensures on { KeepsRunning C.Meaning.meaning C.stage C.caller running.old running.new }
+    ensures on { KeepsRunning C.Meaning.meaning running.old running.new }
     ensures same_size { D.block_count disk.new ≡ D.block_count disk.old }
 {
     let mut taken = 0;
@@ -136,14 +134,14 @@ pub(crate) fn step_event<C: Calls, B: Policy, D: Disk>(
 )
     requires process { p < 16 }
     requires few { n ≤ 65536 }
-    requires running { IsRunning C.caller running.old }
-    requires abstraction { HasAbstraction C.Meaning.meaning (placed_of C.stage running.old) }
+    requires running { IsRunning running.old }
+    requires abstraction { HasAbstraction C.Meaning.meaning (placed_of running.old) }
     requires disk { running.old.store.size ≡ D.block_count disk.old }
     ensures refines { RefinesFromRest C.Meaning.meaning (placed_step_event C.Meaning.meaning number p n)
-        (placed_of C.stage running.old) (placed_of C.stage running.new) trace.old.notes trace.new.notes
+        (placed_of running.old) (placed_of running.new) trace.old.notes trace.new.notes
         (disk_seen (D.blocks disk.old) (D.plan disk.old) (D.faults disk.old))
         (disk_seen (D.blocks disk.new) (D.plan disk.new) (D.faults disk.new)) }
-    ensures on { KeepsRunning C.Meaning.meaning C.stage C.caller running.old running.new }
+    ensures on { KeepsRunning C.Meaning.meaning running.old running.new }
     ensures same_size { D.block_count disk.new ≡ D.block_count disk.old }
 {
     steps(running, number, p, n, disk, trace);

@@ -14,13 +14,12 @@ use placed_laws::{agreeing, stretching};
 /// already. How many there were. They leave no step to take.
 pub(crate) fn stretch<C: Calls, B: Policy>(running: &mut Running<C, B>, p: u8, n: u32) -> u32
     requires process { p < 16 }
-    requires running { IsRunning C.caller running.old }
-    requires abstraction { HasAbstraction C.Meaning.meaning (placed_of C.stage running.old) }
+    requires running { IsRunning running.old }
+    requires abstraction { HasAbstraction C.Meaning.meaning (placed_of running.old) }
     ensures most { result ≤ n }
-    ensures leads { let x = placed_of C.stage running.old in
-        Leads C.Meaning.meaning p result x (placed_of C.stage running.new) }
-    ensures on { KeepsRunning C.Meaning.meaning C.stage C.caller
-        running.old running.new }
+    ensures leads { let x = placed_of running.old in
+        Leads C.Meaning.meaning p result x (placed_of running.new) }
+    ensures on { KeepsRunning C.Meaning.meaning running.old running.new }
 {
     agreeing::same_shown::<C::Meaning>();
     stretching::stretches::<C::Meaning>();

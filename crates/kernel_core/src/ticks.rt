@@ -30,13 +30,12 @@ fn refuse<C: Calls, B: Policy>(
     notes: &mut Notes,
 )
     requires process { p < 16 }
-    requires call { Some number
-        ≡ option_map (λ c. c.number) ((placed_of C.stage running.old).call p) }
-    requires none { (placed_of C.stage running.old).levels p ≡ [] }
-    requires running { IsRunning C.caller running.old }
-    requires abstraction { HasAbstraction C.Meaning.meaning (placed_of C.stage running.old) }
+    requires call { Some number ≡ option_map (λ c. c.number) ((placed_of running.old).call p) }
+    requires none { (placed_of running.old).levels p ≡ [] }
+    requires running { IsRunning running.old }
+    requires abstraction { HasAbstraction C.Meaning.meaning (placed_of running.old) }
     ensures went { (d : DiskSeen) →
-        RefinesAndKeeps C.Meaning.meaning C.stage C.caller
+        RefinesAndKeeps C.Meaning.meaning
         (λ r. placed_requeue p (placed_noted (Refused number why) (with_placed_call p None r)))
         running.old running.new notes.old notes.new d d }
 {
@@ -53,10 +52,10 @@ fn time_out_waiter<C: Calls, B: Policy, D: Disk>(
     trace: &mut Trace,
 )
     requires process { p < 16 }
-    requires running { IsRunning C.caller running.old }
-    requires abstraction { HasAbstraction C.Meaning.meaning (placed_of C.stage running.old) }
+    requires running { IsRunning running.old }
+    requires abstraction { HasAbstraction C.Meaning.meaning (placed_of running.old) }
     requires disk { running.old.store.size ≡ D.block_count disk.old }
-    ensures went { RefinesAndKeeps C.Meaning.meaning C.stage C.caller
+    ensures went { RefinesAndKeeps C.Meaning.meaning
         (λ r. placed_waiter C.Meaning.meaning p (blocker_of found) (r.placed.call p) r) running.old
         running.new trace.old.notes trace.new.notes
         (disk_seen (D.blocks disk.old) (D.plan disk.old) (D.faults disk.old))
@@ -85,12 +84,12 @@ fn time_out_holder<C: Calls, B: Policy, D: Disk>(
     trace: &mut Trace,
 )
     requires process { p < 16 }
-    requires running { IsRunning C.caller running.old }
-    requires abstraction { HasAbstraction C.Meaning.meaning (placed_of C.stage running.old) }
+    requires running { IsRunning running.old }
+    requires abstraction { HasAbstraction C.Meaning.meaning (placed_of running.old) }
     requires disk { running.old.store.size ≡ D.block_count disk.old }
-    ensures went { RefinesAndKeeps C.Meaning.meaning C.stage C.caller
-        (placed_holder C.Meaning.meaning p (blocker_of found)) running.old running.new trace.old.notes
-        trace.new.notes
+    ensures went { RefinesAndKeeps C.Meaning.meaning
+        (placed_holder C.Meaning.meaning p (blocker_of found)) running.old running.new
+        trace.old.notes trace.new.notes
         (disk_seen (D.blocks disk.old) (D.plan disk.old) (D.faults disk.old))
         (disk_seen (D.blocks disk.new) (D.plan disk.new) (D.faults disk.new)) }
     ensures same_size { D.block_count disk.new ≡ D.block_count disk.old }
@@ -110,10 +109,10 @@ fn act<C: Calls, B: Policy, D: Disk>(
     trace: &mut Trace,
 )
     requires process { waiting.process < 16 }
-    requires running { IsRunning C.caller running.old }
-    requires abstraction { HasAbstraction C.Meaning.meaning (placed_of C.stage running.old) }
+    requires running { IsRunning running.old }
+    requires abstraction { HasAbstraction C.Meaning.meaning (placed_of running.old) }
     requires disk { running.old.store.size ≡ D.block_count disk.old }
-    ensures went { RefinesAndKeeps C.Meaning.meaning C.stage C.caller
+    ensures went { RefinesAndKeeps C.Meaning.meaning
         (placed_entry_action C.Meaning.meaning (entry_of waiting) (entry_of waiting).blocker)
         running.old running.new trace.old.notes trace.new.notes
         (disk_seen (D.blocks disk.old) (D.plan disk.old) (D.faults disk.old))
@@ -137,11 +136,11 @@ fn actions<C: Calls, B: Policy, D: Disk>(
     disk: &mut D,
     trace: &mut Trace,
 )
-    requires running { IsRunning C.caller running.old }
-    requires abstraction { HasAbstraction C.Meaning.meaning (placed_of C.stage running.old) }
+    requires running { IsRunning running.old }
+    requires abstraction { HasAbstraction C.Meaning.meaning (placed_of running.old) }
     requires disk { running.old.store.size ≡ D.block_count disk.old }
-    ensures went { RefinesAndKeeps C.Meaning.meaning C.stage C.caller
-        (placed_actions C.Meaning.meaning turns) running.old running.new trace.old.notes trace.new.notes
+    ensures went { RefinesAndKeeps C.Meaning.meaning (placed_actions C.Meaning.meaning turns)
+        running.old running.new trace.old.notes trace.new.notes
         (disk_seen (D.blocks disk.old) (D.plan disk.old) (D.faults disk.old))
         (disk_seen (D.blocks disk.new) (D.plan disk.new) (D.faults disk.new)) }
     ensures same_size { D.block_count disk.new ≡ D.block_count disk.old }
@@ -161,10 +160,10 @@ fn actions<C: Calls, B: Policy, D: Disk>(
 /// The clock and the counts rise.
 fn raise<C: Calls, B: Policy>(running: &mut Running<C, B>, number: u32, notes: &mut Notes)
     requires clock { running.old.clock < 2 ^ 32 - 1 }
-    requires running { IsRunning C.caller running.old }
-    requires abstraction { HasAbstraction C.Meaning.meaning (placed_of C.stage running.old) }
-    ensures ticked { (d : DiskSeen) → Ticked C.Meaning.meaning C.stage C.caller
-        (placed_ticked number) running.old running.new notes.old notes.new d d }
+    requires running { IsRunning running.old }
+    requires abstraction { HasAbstraction C.Meaning.meaning (placed_of running.old) }
+    ensures ticked { (d : DiskSeen) → Ticked C.Meaning.meaning (placed_ticked number)
+        running.old running.new notes.old notes.new d d }
 {
     keeping::others_stand::<C::Meaning>();
     running.tick(number, notes);
@@ -178,11 +177,11 @@ pub(crate) fn tick_event<C: Calls, B: Policy, D: Disk>(
     trace: &mut Trace,
 )
     requires clock { running.old.clock < 2 ^ 32 - 1 }
-    requires running { IsRunning C.caller running.old }
-    requires abstraction { HasAbstraction C.Meaning.meaning (placed_of C.stage running.old) }
+    requires running { IsRunning running.old }
+    requires abstraction { HasAbstraction C.Meaning.meaning (placed_of running.old) }
     requires disk { running.old.store.size ≡ D.block_count disk.old }
-    ensures ticked { Ticked C.Meaning.meaning C.stage C.caller
-        (placed_tick_event C.Meaning.meaning number) running.old running.new trace.old.notes trace.new.notes
+    ensures ticked { Ticked C.Meaning.meaning (placed_tick_event C.Meaning.meaning number)
+        running.old running.new trace.old.notes trace.new.notes
         (disk_seen (D.blocks disk.old) (D.plan disk.old) (D.faults disk.old))
         (disk_seen (D.blocks disk.new) (D.plan disk.new) (D.faults disk.new)) }
     ensures same_size { D.block_count disk.new ≡ D.block_count disk.old }

@@ -3,6 +3,8 @@ use Rattle.std.specs.Prelude.{◌≡◌, ℕ, ◌≤◌, List, [], ◌∷◌, �
 use Rattle.kernel_model.specs.declared.QueueRow.{QueueRow}
 use Rattle.kernel_model.specs.World.{World}
 use Rattle.kernel_model.specs.Objects.{Objects, Accounts, CacheValue, PolValue}
+use Rattle.kernel_model.specs.Levels.{base_of, body_in_segment}
+use Rattle.kernel_model.specs.Runs.{segment_of}
 use Rattle.process_table.specs.Processes.{Processes, processes_of}
 use Rattle.graft_accounts.specs.Table.{accounts_of}
 use Rattle.graft_points.specs.Views.{PolicyView}
@@ -50,3 +52,9 @@ objects_of s =
 -- memory beyond the frames stays, where the segments of grafts are
 abbrev pub SegmentsStay : (old new : List ℕ) → Type 0
 SegmentsStay old new = (a : ℕ) → 262144 ≤ a → slice_index new a ≡ slice_index old a
+
+-- the bytes that an answer of process p gives which has these registers: those that stand in this
+-- memory, in the segment of its outermost level
+abbrev pub body_at : (ram : List ℕ) → (p : ℕ) → (registers : List ℕ) → List ℕ
+body_at ram p registers =
+    body_in_segment registers (segment_of (base_of p 0) (λ a. slice_index ram a))

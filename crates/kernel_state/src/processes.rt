@@ -1,11 +1,13 @@
 //! The queue and the cells of a store.
 
-ghost use Rattle.std.specs.Prelude.{◌≡◌, ℕ, ◌<◌, ◌==◌, ◌&&◌, not, true, Some, None, IfSome};
+ghost use Rattle.std.specs.Prelude.{◌≡◌, ℕ, ◌<◌, ◌≤◌, ◌==◌, ◌&&◌, not, true, Some, None, IfSome};
 ghost use Rattle.kernel_model.specs.Needs.{free_process};
 ghost use Rattle.kernel_model.specs.Queue.{queue_without};
 ghost use Rattle.kernel_model.specs.Policies.{lives, next_process};
 ghost use Rattle.kernel_model.specs.Pieces.{with_queue, to_back as queue_to_back, add_slice as queue_with_slice, with_holder, things_without, account_closed, without_grafts};
 ghost use Rattle.kernel_model.specs.Objects.{with_things};
+ghost use Rattle.kernel_model.specs.Handlers.{has_room, handlers_with, handlers_without};
+ghost use Rattle.kernel_model.specs.EventPoints.{with_handlers};
 ghost use Rattle.kernel_model.specs.Access.{set_cell as cell_set};
 ghost use Rattle.kernel_state.specs.Stores.{world_of_store, objects_of, queue_of, queue_joined, policies_of};
 
@@ -138,6 +140,35 @@ impl<B: Policy> Store<B> {
         ensures memory { self.new.ram ≡ self.old.ram }
     {
         self.procs.set_holder(u, holder);
+    }
+
+    /// Puts the handler of process p at point pt last, taking it out first where it stood. False,
+    /// with nothing changed, exactly where it doesn't stand and 8 others stand at the point.
+    pub fn add_handler(&mut self, p: u8, pt: u8) -> bool
+        requires process { p < 16 }
+        requires first { 6 ≤ pt }
+        requires last { pt ≤ 13 }
+        ensures answer { result ≡ has_room p pt (objects_of self.old).things.handlers }
+        ensures objects { objects_of self.new ≡
+            with_handlers (handlers_with p pt (objects_of self.old).things.handlers)
+            (objects_of self.old) }
+        ensures queue { queue_of self.new ≡ queue_of self.old }
+        ensures world { world_of_store self.new ≡ world_of_store self.old }
+        ensures memory { self.new.ram ≡ self.old.ram }
+    {
+        self.procs.add_handler(p, pt)
+    }
+
+    /// Takes out the handler of process p at point pt. Nothing changes where it doesn't stand.
+    pub fn drop_handler(&mut self, p: u8, pt: u8)
+        ensures objects { objects_of self.new ≡
+            with_handlers (handlers_without p pt (objects_of self.old).things.handlers)
+            (objects_of self.old) }
+        ensures queue { queue_of self.new ≡ queue_of self.old }
+        ensures world { world_of_store self.new ≡ world_of_store self.old }
+        ensures memory { self.new.ram ≡ self.old.ram }
+    {
+        self.procs.drop_handler(p, pt);
     }
 }
 

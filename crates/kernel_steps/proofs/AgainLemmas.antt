@@ -11,7 +11,7 @@ use Rattle.kernel_model.specs.declared.QueueRow.{QueueRow}
 use Rattle.kernel_model.specs.World.{World, ImageTable}
 use Rattle.kernel_model.specs.Objects.{Objects, Accounts, Things, GraftValue}
 use Rattle.kernel_model.specs.Policies.{lives}
-use Rattle.kernel_model.specs.Meaning.{Meaning, Stage}
+use Rattle.kernel_model.specs.Meaning.{Meaning}
 use Rattle.kernel_model.specs.Access.{changed_by}
 use Rattle.kernel_model.specs.Locks.{LockTable}
 use Rattle.kernel_model.specs.Levels.{Level, Config, outermost_touched}
@@ -83,11 +83,11 @@ none_sound queue [] h = tt
 none_sound queue (g ∷ gs) h = absurd (omega (arith, h))
 
 -- a graft call is sound on what stands for a kernel, whatever the order of waiting
-config_of : {C B M W : Type 0} {P : _} (m : Meaning) → SoundInPlace m → (stage : W → Stage) (x : Running C B M W P) (es : List Entry) (q : ℕ) → HasAbstraction m (record (placed_of stage x) { order = es }) →
+config_of : {C B M : Type 0} {P : _} (m : Meaning) → SoundInPlace m → (x : Running C B M P) (es : List Entry) (q : ℕ) → HasAbstraction m (record (placed_of x) { order = es }) →
     0 < length (chain_of x q).levels → IsSoundConfig (world_of_store x.store) (call_of x.store x.locks (chain_of x q) q)
-config_of m sound stage x es q abstraction some =
-    subst (IsSoundConfig (world_of_store x.store)) (config_in_place stage x q)
-    (sound.configs (record (placed_of stage x) { order = es }) abstraction.kernel q abstraction.stands
+config_of m sound x es q abstraction some =
+    subst (IsSoundConfig (world_of_store x.store)) (config_in_place x q)
+    (sound.configs (record (placed_of x) { order = es }) abstraction.kernel q abstraction.stands
     (some_levels q x.store.ram (held x.locks) (chain_of x q).levels (chain_of x q).undo (objects_of x.store).things some))
 
 -- the graft of a level stands, so its installer lives
@@ -108,9 +108,9 @@ owner_lives v s o q ram t (g ∷ gs) log h own some =
     ∙ installer_lives v (record { now = s; levels = levels_in q ram t (g ∷ gs) log s.things }) l h (0, omega arith, refl)
 
 -- with no level there is nothing to keep
-stays_without : {C B M W : Type 0} {P : _} (x y : Running C B M W P) (q : ℕ) (caller : W → ℕ) → IsRunning caller x → chain_of y q ≡ chain_of x q → q < 16 →
+stays_without : {C B M : Type 0} {P : _} (x y : Running C B M P) (q : ℕ) → IsRunning x → chain_of y q ≡ chain_of x q → q < 16 →
     length (chain_of x q).levels ≡ 0 → StaysInPlace y q
-stays_without x y q caller r chain small none =
+stays_without x y q r chain small none =
     let few : length (chain_of y q).levels ≡ 0 = ap (λ (c : Chain). length c.levels) chain ∙ none in
     record {
       levels = none_sound (queue_of y.store) (chain_of y q).levels few;
@@ -119,18 +119,18 @@ stays_without x y q caller r chain small none =
     }
 
 -- with levels, what it holds exclusively stays
-stays_with : {C B M W : Type 0} {P : _} (m : Meaning) → SoundInPlace m → (stage : W → Stage) (x y : Running C B M W P) (es : List Entry) (q : ℕ) (caller : W → ℕ) → IsRunning caller x →
-    HasAbstraction m (placed_of stage x) → HasAbstraction m (record (placed_of stage y) { order = es }) → chain_of y q ≡ chain_of x q → y.images ≡ x.images → q < 16 → HeldStays x y q → 0 < length (chain_of x q).levels → StaysInPlace y q
-stays_with m sound stage x y es q caller r abstraction after chain images small stays some =
+stays_with : {C B M : Type 0} {P : _} (m : Meaning) → SoundInPlace m → (x y : Running C B M P) (es : List Entry) (q : ℕ) → IsRunning x →
+    HasAbstraction m (placed_of x) → HasAbstraction m (record (placed_of y) { order = es }) → chain_of y q ≡ chain_of x q → y.images ≡ x.images → q < 16 → HeldStays x y q → 0 < length (chain_of x q).levels → StaysInPlace y q
+stays_with m sound x y es q r abstraction after chain images small stays some =
     let gs = (chain_of x q).levels in
     let log = (chain_of x q).undo in
     let s = objects_of x.store in
     let u = objects_of y.store in
     let t = held x.locks in
     let old = r.placed q small in
-    let config = config_of m sound stage x (order_of x.order) q abstraction some in
+    let config = config_of m sound x (order_of x.order) q abstraction some in
     let later = subst (λ (c : Chain). IsSoundConfig (world_of_store y.store) (call_of y.store y.locks c q)) chain
-    (config_of m sound stage y es q after (subst (λ (c : Chain). 0 < length c.levels) (sym chain) some)) in
+    (config_of m sound y es q after (subst (λ (c : Chain). 0 < length c.levels) (sym chain) some)) in
     let live = owner_lives (world_of_store y.store) u (r.owner q) q y.store.ram (held y.locks) gs log later (r.own q small) some in
     record {
       levels = subst (λ (c : Chain). AreSound (queue_of y.store) c.levels) (sym chain) (sound_still (r.owner q) (queue_of x.store) (queue_of y.store) gs log (r.own q small) live old.levels);
@@ -143,11 +143,11 @@ stays_with m sound stage x y es q caller r abstraction after chain images small 
           (λ l has. (stays 0 (Graft l.owner l.point) (sym (ap (λ f. f (Graft l.owner l.point)) (outermost_is q x.store.ram t gs log s.things some)) ∙ (config.paid l has).0)).0) (r.inside q small)));
     }
 
-stays_in_place : {C B M W : Type 0} {P : _} (m : Meaning) → SoundInPlace m → (stage : W → Stage) (x y : Running C B M W P) (es : List Entry) (q : ℕ) (caller : W → ℕ) → IsRunning caller x →
-    HasAbstraction m (placed_of stage x) → HasAbstraction m (record (placed_of stage y) { order = es }) → chain_of y q ≡ chain_of x q → y.images ≡ x.images → q < 16 → HeldStays x y q → (b : Bool) → nat_lt 0 (length (chain_of x q).levels) ≡ b → StaysInPlace y q
-stays_in_place m sound stage x y es q caller r abstraction after chain images small stays true h =
-    stays_with m sound stage x y es q caller r abstraction after chain images small stays (grind (arith, nat_tests, h))
-stays_in_place m sound stage x y es q caller r abstraction after chain images small stays false h = stays_without x y q caller r chain small (grind (arith, nat_tests, h))
+stays_in_place : {C B M : Type 0} {P : _} (m : Meaning) → SoundInPlace m → (x y : Running C B M P) (es : List Entry) (q : ℕ) → IsRunning x →
+    HasAbstraction m (placed_of x) → HasAbstraction m (record (placed_of y) { order = es }) → chain_of y q ≡ chain_of x q → y.images ≡ x.images → q < 16 → HeldStays x y q → (b : Bool) → nat_lt 0 (length (chain_of x q).levels) ≡ b → StaysInPlace y q
+stays_in_place m sound x y es q r abstraction after chain images small stays true h =
+    stays_with m sound x y es q r abstraction after chain images small stays (grind (arith, nat_tests, h))
+stays_in_place m sound x y es q r abstraction after chain images small stays false h = stays_without x y q r chain small (grind (arith, nat_tests, h))
 
 -- ---- the kernel runs again
 
@@ -161,9 +161,9 @@ pub owners_at : (p o : ℕ) (f : ℕ → ℕ) (P : ℕ → ℕ → Type 0) → P
 owners_at p o f P own others q true h = subst (P o) (sym (eqb-true q p h)) own
 owners_at p o f P own others q false h = others q (grind (arith, nat_tests, h))
 
-placed_again : {C B M W : Type 0} {P : _} (x y : Running C B M W P) (p q : ℕ) (caller : W → ℕ) → IsRunning caller x → Stepped caller x y p → q < 16 → q ≢ p → StaysInPlace y q →
+placed_again : {C B M : Type 0} {P : _} (x y : Running C B M P) (p q : ℕ) → IsRunning x → Stepped x y p → q < 16 → q ≢ p → StaysInPlace y q →
     IsPlaced y.store y.locks q (chain_of y q).levels (chain_of y q).undo
-placed_again x y p q caller r step small other stay =
+placed_again x y p q r step small other stay =
     let chain : chain_of y q ≡ chain_of x q = step.chains q other in
     let old = r.placed q small in
     record {
@@ -181,20 +181,20 @@ loaded_of m sound x es abstraction =
     sound.images_loaded (run_of (record x { order = es }) some_blocks [] []) (record { kernel = abstraction.kernel; blocks = some_blocks; notes = []; io = [] })
     (record { kernel = abstraction.stands; blocks = refl; notes = refl; io = refl; whole = blocks_are_whole abstraction.kernel.world })
 
-pub runs_again : {C B M W : Type 0} {P : _} (m : Meaning) → SoundInPlace m → (stage : W → Stage) (caller : W → ℕ) (x y : Running C B M W P) (es : List Entry) (p o : ℕ) → IsRunning caller x → p < 16 →
-    HasAbstraction m (placed_of stage x) → HasAbstraction m (record (placed_of stage y) { order = es }) → Stepped caller x y p → AreOwned o (chain_of y p).levels (chain_of y p).undo → ((q : ℕ) → q ≢ p → HeldStays x y q) → IsRunning caller y
-runs_again {W = W} m sound stage caller x y es p o r low abstraction after step own held =
+pub runs_again : {C B M : Type 0} {P : _} (m : Meaning) → SoundInPlace m → (x y : Running C B M P) (es : List Entry) (p o : ℕ) → IsRunning x → p < 16 →
+    HasAbstraction m (placed_of x) → HasAbstraction m (record (placed_of y) { order = es }) → Stepped x y p → AreOwned o (chain_of y p).levels (chain_of y p).undo → ((q : ℕ) → q ≢ p → HeldStays x y q) → IsRunning y
+runs_again m sound x y es p o r low abstraction after step own held =
     let stay : (q : ℕ) → q ≢ p → q < 16 → StaysInPlace y q =
-    λ q other small. stays_in_place m sound stage x y es q caller r abstraction after (step.chains q other) step.images small (held q other) (nat_lt 0 (length (chain_of x q).levels)) refl in
+    λ q other small. stays_in_place m sound x y es q r abstraction after (step.chains q other) step.images small (held q other) (nat_lt 0 (length (chain_of x q).levels)) refl in
     record {
       sixteen = step.sixteen ∙ r.sixteen;
-      callers = λ q f is. all_hold p (λ q. (f : InFlight W) → (flight_of y.calls.items q).call ≡ Some f → caller f.work ≡ q) step.caller_is (λ q other f is. r.callers q f (sym (step.calls q other) ∙ is)) q (q == p) refl f is;
-      placed = λ q small. all_hold p (λ q. q < 16 → IsPlaced y.store y.locks q (chain_of y q).levels (chain_of y q).undo) (λ small. step.placed) (λ q other small. placed_again x y p q caller r step small other (stay q other small)) q (q == p) refl small;
+      callers = λ q f is. all_hold p (λ q. (f : InFlight) → (flight_of y.calls.items q).call ≡ Some f → f.work.caller ≡ q) step.caller_is (λ q other f is. r.callers q f (sym (step.calls q other) ∙ is)) q (q == p) refl f is;
+      placed = λ q small. all_hold p (λ q. q < 16 → IsPlaced y.store y.locks q (chain_of y q).levels (chain_of y q).undo) (λ small. step.placed) (λ q other small. placed_again x y p q r step small other (stay q other small)) q (q == p) refl small;
       inside = λ q small. all_hold p (λ q. q < 16 → AreInside (table_of y.images) (objects_of y.store).accounts q (chain_of y q).levels) (λ small. step.inside) (λ q other small. (stay q other small).inside) q (q == p) refl small;
       counts = ap (λ n. counts_within n y.order) step.clock ∙ ap (counts_within x.clock) step.order ∙ r.counts;
       order = ap are_processes step.order ∙ r.order;
       once = ap (λ ws. are_once (numbers_of ws)) step.order ∙ r.once;
-      loaded = loaded_of m sound (placed_of stage y) es after;
+      loaded = loaded_of m sound (placed_of y) es after;
       owner = λ q. cond (q == p) o (r.owner q);
       own = λ q small. owners_at p o r.owner (λ n q. q < 16 → AreOwned n (chain_of y q).levels (chain_of y q).undo) (λ small. own)
           (λ q other small. subst (λ (c : Chain). AreOwned (r.owner q) c.levels c.undo) (sym (step.chains q other)) (r.own q small)) q (q == p) refl small;

@@ -6,7 +6,7 @@ use Rattle.kernel_model.specs.declared.Point.{Point}
 use Rattle.kernel_model.specs.World.{World, Blocks}
 use Rattle.kernel_model.specs.Objects.{Objects, GraftValue}
 use Rattle.kernel_model.specs.Policies.{lives}
-use Rattle.kernel_model.specs.Meaning.{Meaning, Stage}
+use Rattle.kernel_model.specs.Meaning.{Meaning}
 use Rattle.kernel_model.specs.Laws.{IsReady}
 use Rattle.kernel_model.specs.Levels.{Config}
 use Rattle.kernel_model.specs.History.{begin_at}
@@ -18,6 +18,7 @@ use Rattle.placed_laws.specs.Owners.{OwnersStay}
 use Rattle.placed_laws.specs.Placed.{PlacedCall}
 use Rattle.placed_laws.specs.PlacedSteps.{placed_call_step, placed_piece_at, placed_piece_step, placed_step_by, with_config}
 use Rattle.placed_laws.specs.Soundness.{ReadyInPlace}
+use Rattle.call_pieces.specs.Works.{stage_of}
 use Rattle.kernel_steps.specs.declared.running.InFlight.{InFlight}
 use Rattle.kernel_steps.specs.declared.running.Running.{Running}
 use Rattle.kernel_steps.specs.Moves.{come_to, Moved}
@@ -28,27 +29,27 @@ use Rattle.kernel_steps.proofs.StepLemmas.{alone_moved, done_as, moved_done, not
 
 -- ---- what the definitions say
 
-module _ {C B M W : Type 0} {P : _} (m : Meaning) (stage : W → Stage) (x : Running C B M W P) (p : ℕ) (c : PlacedCall) (none : (chain_of x p).levels ≡ []) where
+module _ {C B M : Type 0} {P : _} (m : Meaning) (x : Running C B M P) (p : ℕ) (c : PlacedCall) (none : (chain_of x p).levels ≡ []) where
   -- the step of a call without levels is a piece
-  piece_is : (blocks : Blocks) (notes : List Note) (io : List Bool) → let r = run_of (placed_of stage x) blocks notes io in
+  piece_is : (blocks : Blocks) (notes : List Note) (io : List Bool) → let r = run_of (placed_of x) blocks notes io in
       placed_call_step m p (Some c) r ≡ placed_piece_step m p c (m.asks (world_of_store x.store) (objects_of x.store) p c.stage) r
-  piece_is blocks notes io = ap (λ ls. placed_step_by m p c ls (run_of (placed_of stage x) blocks notes io)) (none_at x p none)
+  piece_is blocks notes io = ap (λ ls. placed_step_by m p c ls (run_of (placed_of x) blocks notes io)) (none_at x p none)
 
   -- it asks no point
-  pub asks_none : m.asks (world_of_store x.store) (objects_of x.store) p c.stage ≡ None → (blocks : Blocks) (notes : List Note) (io : List Bool) → let r = run_of (placed_of stage x) blocks notes io in
+  pub asks_none : m.asks (world_of_store x.store) (objects_of x.store) p c.stage ≡ None → (blocks : Blocks) (notes : List Note) (io : List Bool) → let r = run_of (placed_of x) blocks notes io in
       placed_call_step m p (Some c) r ≡ finishes m p c None r
-  asks_none asks blocks notes io = piece_is blocks notes io ∙ ap (λ o. placed_piece_step m p c o (run_of (placed_of stage x) blocks notes io)) asks
+  asks_none asks blocks notes io = piece_is blocks notes io ∙ ap (λ o. placed_piece_step m p c o (run_of (placed_of x) blocks notes io)) asks
 
   -- it asks one where this stands
   asks_there : (a : Point) (g : Option GraftValue) → m.asks (world_of_store x.store) (objects_of x.store) p c.stage ≡ Some a → (objects_of x.store).accounts.graft a.installer a.point ≡ g →
-      (blocks : Blocks) (notes : List Note) (io : List Bool) → let r = run_of (placed_of stage x) blocks notes io in placed_call_step m p (Some c) r ≡ placed_piece_at m p c a g r
+      (blocks : Blocks) (notes : List Note) (io : List Bool) → let r = run_of (placed_of x) blocks notes io in placed_call_step m p (Some c) r ≡ placed_piece_at m p c a g r
   asks_there a g asks stands blocks notes io =
-      piece_is blocks notes io ∙ ap (λ o. placed_piece_step m p c o (run_of (placed_of stage x) blocks notes io)) asks
-      ∙ ap (λ o. placed_piece_at m p c a o (run_of (placed_of stage x) blocks notes io)) stands
+      piece_is blocks notes io ∙ ap (λ o. placed_piece_step m p c o (run_of (placed_of x) blocks notes io)) asks
+      ∙ ap (λ o. placed_piece_at m p c a o (run_of (placed_of x) blocks notes io)) stands
 
   -- no graft stands there
   pub asks_empty : (a : Point) → m.asks (world_of_store x.store) (objects_of x.store) p c.stage ≡ Some a → is_some ((objects_of x.store).accounts.graft a.installer a.point) ≡ false →
-      (blocks : Blocks) (notes : List Note) (io : List Bool) → let r = run_of (placed_of stage x) blocks notes io in placed_call_step m p (Some c) r ≡ finishes m p c None r
+      (blocks : Blocks) (notes : List Note) (io : List Bool) → let r = run_of (placed_of x) blocks notes io in placed_call_step m p (Some c) r ≡ finishes m p c None r
   asks_empty a asks empty blocks notes io = asks_there a None asks (none_is ((objects_of x.store).accounts.graft a.installer a.point) empty) blocks notes io
     where
       none_is : (g : Option GraftValue) → is_some g ≡ false → g ≡ None
@@ -57,13 +58,13 @@ module _ {C B M W : Type 0} {P : _} (m : Meaning) (stage : W → Stage) (x : Run
 
   -- a graft stands there
   pub asks_graft : (a : Point) → m.asks (world_of_store x.store) (objects_of x.store) p c.stage ≡ Some a → is_some ((objects_of x.store).accounts.graft a.installer a.point) ≡ true →
-      (blocks : Blocks) (notes : List Note) (io : List Bool) → let r = run_of (placed_of stage x) blocks notes io in
-      placed_call_step m p (Some c) r ≡ with_config p (begin_at (table_of x.images) (objects_of x.store) p (m.need (world_of_store x.store) (objects_of x.store) p c.stage) a) r
+      (blocks : Blocks) (notes : List Note) (io : List Bool) → let r = run_of (placed_of x) blocks notes io in
+      placed_call_step m p (Some c) r ≡ with_config p (begin_at (table_of x.images) (objects_of x.store) p (m.need (world_of_store x.store) (objects_of x.store) p c.stage) (m.feed c.stage) a) r
   asks_graft a asks there blocks notes io = by_value ((objects_of x.store).accounts.graft a.installer a.point) there (λ g stands. asks_there a g asks stands blocks notes io) refl
     where
-      by_value : (g : Option GraftValue) → is_some g ≡ true → ((h : Option GraftValue) → (objects_of x.store).accounts.graft a.installer a.point ≡ h → let r = run_of (placed_of stage x) blocks notes io in placed_call_step m p (Some c) r ≡ placed_piece_at m p c a h r) →
-          g ≡ (objects_of x.store).accounts.graft a.installer a.point → let r = run_of (placed_of stage x) blocks notes io in
-          placed_call_step m p (Some c) r ≡ with_config p (begin_at (table_of x.images) (objects_of x.store) p (m.need (world_of_store x.store) (objects_of x.store) p c.stage) a) r
+      by_value : (g : Option GraftValue) → is_some g ≡ true → ((h : Option GraftValue) → (objects_of x.store).accounts.graft a.installer a.point ≡ h → let r = run_of (placed_of x) blocks notes io in placed_call_step m p (Some c) r ≡ placed_piece_at m p c a h r) →
+          g ≡ (objects_of x.store).accounts.graft a.installer a.point → let r = run_of (placed_of x) blocks notes io in
+          placed_call_step m p (Some c) r ≡ with_config p (begin_at (table_of x.images) (objects_of x.store) p (m.need (world_of_store x.store) (objects_of x.store) p c.stage) (m.feed c.stage) a) r
       by_value None h then is = grind (arith, h)
       by_value (Some g) h then is = then (Some g) (sym is)
 
@@ -78,22 +79,22 @@ asked_lives v s q pt sound there = by_value (s.accounts.graft q pt) refl there
     by_value (Some g) e h = (sound.grafts q pt g e).1
 
 -- a piece is ready by default
-pub ready_at_once : {C B M W : Type 0} {P : _} (m : Meaning) → ReadyInPlace m → (stage : W → Stage) (x : Running C B M W P) (p : ℕ) (f : InFlight W) → HasAbstraction m (placed_of stage x) → (flight_of x.calls.items p).call ≡ Some f →
-    IsReady m (world_of_store x.store) (table_of x.images) (objects_of x.store) p (stage f.work) None
-ready_at_once m ready stage x p f abstraction is =
-    ready.at_once (placed_of stage x) abstraction.kernel p (call_in_place stage f) abstraction.stands (ap (option_map (call_in_place stage)) is)
+pub ready_at_once : {C B M : Type 0} {P : _} (m : Meaning) → ReadyInPlace m → (x : Running C B M P) (p : ℕ) (f : InFlight) → HasAbstraction m (placed_of x) → (flight_of x.calls.items p).call ≡ Some f →
+    IsReady m (world_of_store x.store) (table_of x.images) (objects_of x.store) p (stage_of f.work) None
+ready_at_once m ready x p f abstraction is =
+    ready.at_once (placed_of x) abstraction.kernel p (call_in_place f) abstraction.stands (ap (option_map call_in_place) is)
 
 -- the call entered a graft
-pub entered_done : {C B M W : Type 0} {P : _} (m : Meaning) → OwnersStay → (stage : W → Stage) (caller : W → ℕ) (x y : Running C B M W P) (p : ℕ) (c : PlacedCall) (a : Point) (kept : List Note) (d : DiskSeen) → IsRunning caller x → p < 16 →
+pub entered_done : {C B M : Type 0} {P : _} (m : Meaning) → OwnersStay → (x y : Running C B M P) (p : ℕ) (c : PlacedCall) (a : Point) (kept : List Note) (d : DiskSeen) → IsRunning x → p < 16 →
     (chain_of x p).levels ≡ [] → m.asks (world_of_store x.store) (objects_of x.store) p c.stage ≡ Some a → is_some ((objects_of x.store).accounts.graft a.installer a.point) ≡ true → Moved x y p →
-    placed_of stage y ≡ come_to p (begin_at (table_of x.images) (objects_of x.store) p (m.need (world_of_store x.store) (objects_of x.store) p c.stage) a) (placed_of stage x) →
-    StepDone stage caller (λ r. placed_call_step m p (Some c) r) x y p kept kept d d
-entered_done m law stage caller x y p c a kept d r small none asks there moved come =
+    placed_of y ≡ come_to p (begin_at (table_of x.images) (objects_of x.store) p (m.need (world_of_store x.store) (objects_of x.store) p c.stage) (m.feed c.stage) a) (placed_of x) →
+    StepDone (λ r. placed_call_step m p (Some c) r) x y p kept kept d d
+entered_done m law x y p c a kept d r small none asks there moved come =
     let ns = m.need (world_of_store x.store) (objects_of x.store) p c.stage in
-    let f : Config = begin_at (table_of x.images) (objects_of x.store) p ns a in
-    let own = of_one y p a.installer f.levels (levels_come stage x y p f come) (law.begins (table_of x.images) (objects_of x.store) p ns a) in
-    done_as stage caller (λ r. placed_call_step m p (Some c) r) (λ r. with_config p f r) x y p kept kept d d (asks_graft m stage x p c none a asks there)
-    (moved_done stage caller f (λ r. r) x y y p kept kept d d moved come (nothing_done stage caller y p kept d (alone_moved caller x y p r small moved own)))
+    let f : Config = begin_at (table_of x.images) (objects_of x.store) p ns (m.feed c.stage) a in
+    let own = of_one y p a.installer f.levels (levels_come x y p f come) (law.begins (table_of x.images) (objects_of x.store) p ns (m.feed c.stage) a) in
+    done_as (λ r. placed_call_step m p (Some c) r) (λ r. with_config p f r) x y p kept kept d d (asks_graft m x p c none a asks there)
+    (moved_done f (λ r. r) x y y p kept kept d d moved come (nothing_done y p kept d (alone_moved x y p r small moved own)))
 
 -- what is told of a graft by a test
 pub there_is : {A : Type 0} (b : Bool) (g : Option A) → b ≡ is_some g → b ≡ true → is_some g ≡ true

@@ -11,6 +11,8 @@ use Rattle.kernel_model.specs.Charges.{charge}
 use Rattle.kernel_model.specs.Machine.{seg_step, Machine, Done, Called, Returned, Trapped, Outside, PastEnd}
 use Rattle.kernel_model.specs.Levels.{code_of, Level, Outcome, answer_innermost, drop_innermost, drop_level}
 use Rattle.kernel_model.specs.GraftStep.{after_accessor, after_ask, after_call, after_change, after_machine, after_result, after_return, ask_answered, charged_step, completed, granted_call, lock_paid, micro_on}
+use Rattle.graft_calls.specs.Chains.{HasAnswer}
+use Rattle.kernel_model.specs.declared.Micro.{Micro}
 use Rattle.kernel_steps.specs.Steps.{answer_of_drop, answer_said}
 use Rattle.kernel_steps.proofs.StepLemmas.{EndsAs}
 
@@ -90,6 +92,16 @@ drop_ends v w [] d cause = tt
 drop_ends v w (l ∷ ls) d cause =
     elim (length ls == d) as (λ b. Ends (elim b as (λ _. Outcome) [ true ↦ drop_innermost v w l ls cause | false ↦ drop_level v w ls d cause ]))
     [ true ↦ dropped v w l ls cause | false ↦ drop_ends v w ls d cause ]
+
+-- nor does it complete
+pub drop_has_answer : (v : World) (w : Objects) (ls : List Level) (d : ℕ) (cause : Cause) (ram : List ℕ) (p : ℕ) → HasAnswer (drop_level v w ls d cause).said ram p ls
+drop_has_answer v w ls d cause ram p = λ registers is. absurd (not_completed ls registers is)
+  where
+    not_completed : (ls : List Level) (registers : List ℕ) → (drop_level v w ls d cause).said ≡ Micro.Completed registers → ⊥
+    not_completed [] registers h = grind (arith, h)
+    not_completed (l ∷ ls) registers h =
+        elim (length ls == d) as (λ b. (elim b as (λ _. Outcome) [ true ↦ drop_innermost v w l ls cause | false ↦ drop_level v w ls d cause ]).said ≡ Micro.Completed registers → ⊥)
+        [ true ↦ λ e. grind (arith, e) | false ↦ λ e. not_completed ls registers e ] h
 
 -- what some are equal by
 pub same_inner : (a b : Option (List ℕ)) → Some a ≡ Some b → a ≡ b

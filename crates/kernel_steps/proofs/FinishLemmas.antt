@@ -7,12 +7,11 @@ use Rattle.kernel_model.specs.declared.Inverse.{Inverse}
 use Rattle.kernel_model.specs.declared.Note.{Note}
 use Rattle.kernel_model.specs.World.{World, ImageTable, Blocks}
 use Rattle.kernel_model.specs.Objects.{Objects, Things, at}
-use Rattle.kernel_model.specs.Meaning.{Meaning, Stage, Piece}
+use Rattle.kernel_model.specs.Meaning.{Meaning, Piece, Answer}
 use Rattle.kernel_model.specs.Locks.{LockTable}
 use Rattle.kernel_model.specs.Levels.{base_of}
 use Rattle.kernel_model.specs.Runs.{segment_of}
 use Rattle.kernel_model.specs.Kernel.{Entry}
-use Rattle.call_pieces.specs.Works.{answer_seen}
 use Rattle.undo_calls.specs.UndoLevels.{innermost}
 use Rattle.lock_table.specs.Masks.{held}
 use Rattle.graft_machine.specs.Cpu.{by_place}
@@ -60,7 +59,7 @@ levels_stay q s u t (g ∷ gs) log w z same =
 abbrev pub finished : ℕ → Option PlacedCall → Objects → Placed → Placed
 finished p call u x = record x { objects = u; call = at p call x.call; levels = at p [] x.levels }
 
-levels_after : {C B M W : Type 0} {P : _} (x y : Running C B M W P) (p : ℕ) (v : Option (InFlight W)) → p < length x.calls.items → chain_of x p ≡ no_chain →
+levels_after : {C B M : Type 0} {P : _} (x y : Running C B M P) (p : ℕ) (v : Option InFlight) → p < length x.calls.items → chain_of x p ≡ no_chain →
     y.calls.items ≡ with_call x.calls.items p v → y.locks ≡ x.locks → SegmentsStay x.store.ram y.store.ram → (q : ℕ) (b : Bool) → (q == p) ≡ b →
     levels_at y q ≡ at p [] (levels_at x) q
 levels_after x y p v within none calls locks memory q b h =
@@ -76,20 +75,20 @@ levels_after x y p v within none calls locks memory q b h =
         ∙ sym (ap (λ c. cond c [] (levels_at x q)) e)
     own false e = sym (ap (λ c. cond c [] (levels_at x q)) e)
 
-pub placed_finished : {C B M W : Type 0} {P : _} (stage : W → Stage) (x y : Running C B M W P) (p : ℕ) (v : Option (InFlight W)) → p < length x.calls.items → chain_of x p ≡ no_chain →
+pub placed_finished : {C B M : Type 0} {P : _} (x y : Running C B M P) (p : ℕ) (v : Option InFlight) → p < length x.calls.items → chain_of x p ≡ no_chain →
     y.calls.items ≡ with_call x.calls.items p v → y.locks ≡ x.locks → SegmentsStay x.store.ram y.store.ram → world_of_store y.store ≡ world_of_store x.store → y.images ≡ x.images → y.clock ≡ x.clock → y.order ≡ x.order →
-    placed_of stage y ≡ finished p (option_map (call_in_place stage) v) (objects_of y.store) (placed_of stage x)
-placed_finished stage x y p v within none calls locks memory world images clock order =
-    let z = placed_of stage y in
-    let o = placed_of stage x in
+    placed_of y ≡ finished p (option_map call_in_place v) (objects_of y.store) (placed_of x)
+placed_finished x y p v within none calls locks memory world images clock order =
+    let z = placed_of y in
+    let o = placed_of x in
     ap (λ (v : World). record z { world = v }) world
     ∙ ap (λ (i : ImageTable). record z { world = o.world; images = i }) (ap table_of images)
     ∙ ap (λ (n : ℕ). record z { world = o.world; images = o.images; clock = n }) clock
     ∙ ap (λ (cs : ℕ → Option PlacedCall). record z { world = o.world; images = o.images; clock = o.clock; call = cs })
-    (ap (λ fs q. option_map (call_in_place stage) (flight_of fs q).call) calls ∙ calls_changed stage x.calls.items p v within)
-    ∙ ap (λ (ls : ℕ → List PlacedLevel). record z { world = o.world; images = o.images; clock = o.clock; call = at p (option_map (call_in_place stage) v) o.call; levels = ls })
+    (ap (λ fs q. option_map call_in_place (flight_of fs q).call) calls ∙ calls_changed x.calls.items p v within)
+    ∙ ap (λ (ls : ℕ → List PlacedLevel). record z { world = o.world; images = o.images; clock = o.clock; call = at p (option_map call_in_place v) o.call; levels = ls })
     (fun_ext (λ q. levels_after x y p v within none calls locks memory q (q == p) refl))
-    ∙ ap (λ (es : List Entry). record z { world = o.world; images = o.images; clock = o.clock; call = at p (option_map (call_in_place stage) v) o.call; levels = at p [] o.levels; order = es }) (ap order_of order)
+    ∙ ap (λ (es : List Entry). record z { world = o.world; images = o.images; clock = o.clock; call = at p (option_map call_in_place v) o.call; levels = at p [] o.levels; order = es }) (ap order_of order)
 
 -- ---- what it comes to
 
@@ -113,7 +112,7 @@ piece_came m x p c q blocks notes kept_new io rest u call known l =
       io = ap (λ n. drop n (io ++ rest)) (sym l.all_made) ∙ drop_front io rest;
     }
 
-pub finish_did : (m : Meaning) (x y : Placed) (p : ℕ) (c : PlacedCall) (u : Objects) (call : Option PlacedCall) (answer : Option (List ℕ)) (kept kept_new : List Note) (d e : DiskSeen) → y ≡ finished p call u x →
+pub finish_did : (m : Meaning) (x y : Placed) (p : ℕ) (c : PlacedCall) (u : Objects) (call : Option PlacedCall) (answer : Option Answer) (kept kept_new : List Note) (d e : DiskSeen) → y ≡ finished p call u x →
     PieceDone m x.world x.objects u p c call answer kept kept_new d e → Refines (finishes m p c answer) x y kept kept_new d e
 finish_did m x y p c u call answer kept kept_new d e is h =
     record {
@@ -121,14 +120,14 @@ finish_did m x y p c u call answer kept kept_new d e is h =
       made = h.made;
       goes = λ blocks notes rest tells k.
           subst (λ z. RunMatches (finishes m p c answer (run_of x blocks notes (h.io ++ rest))) z kept_new e.known rest) (sym is)
-          (piece_came m x p c (m.piece x.world x.images x.objects blocks p c.stage (answer_seen answer) (h.io ++ rest)) blocks notes kept_new h.io rest u call e.known (h.goes x.images blocks notes rest tells k));
+          (piece_came m x p c (m.piece x.world x.images x.objects blocks p c.stage answer (h.io ++ rest)) blocks notes kept_new h.io rest u call e.known (h.goes x.images blocks notes rest tells k));
     }
 
-pub finish_reaches : (m : Meaning) (x y : Placed) (p : ℕ) (c : PlacedCall) (u : Objects) (call : Option PlacedCall) (answer : Option (List ℕ)) (kept kept_new : List Note) (d e : DiskSeen) → y ≡ finished p call u x →
+pub finish_reaches : (m : Meaning) (x y : Placed) (p : ℕ) (c : PlacedCall) (u : Objects) (call : Option PlacedCall) (answer : Option Answer) (kept kept_new : List Note) (d e : DiskSeen) → y ≡ finished p call u x →
     PieceDone m x.world x.objects u p c call answer kept kept_new d e → Reaches (finishes m p c answer) x y
 finish_reaches m x y p c u call answer kept kept_new d e is h =
     let l = h.some x.images in
-    let q : Piece = m.piece x.world x.images x.objects l.blocks p c.stage (answer_seen answer) l.io in
+    let q : Piece = m.piece x.world x.images x.objects l.blocks p c.stage answer l.io in
     record {
       blocks = l.blocks;
       whole = l.whole;

@@ -13,7 +13,7 @@ use Rattle.kernel_model.specs.Levels.{Level}
 use Rattle.kernel_model.specs.GraftStep.{next_needs, lock_user}
 use Rattle.lock_table.specs.Masks.{held}
 use Rattle.kernel_state.specs.Stores.{world_of_store, objects_of}
-use Rattle.call_pieces.specs.Works.{IsDue}
+use Rattle.call_pieces.specs.Works.{IsDue, stage_of}
 use Rattle.graft_loader.specs.Slots.{table_of}
 use Rattle.graft_calls.specs.declared.GraftLevel.{GraftLevel}
 use Rattle.graft_calls.specs.Chains.{levels_in, levels_of}
@@ -30,12 +30,12 @@ use Rattle.kernel_steps.proofs.ViewLemmas.{levels_in_place, holds_in_place}
 -- ---- the next piece
 
 -- a call in flight stands at its stage
-pub stands : {C B M W : Type 0} {P : _} (m : Meaning) → SoundInPlace m → (stage : W → Stage) (caller : W → ℕ) (x : Running C B M W P) (p : ℕ) (f : InFlight W) →
-    IsRunning caller x → HasAbstraction m (placed_of stage x) → (flight_of x.calls.items p).call ≡ Some f →
-    IsStanding m (world_of_store x.store) (table_of x.images) (objects_of x.store) (caller f.work) (stage f.work)
-stands m sound stage caller x p f r abstraction is =
-    subst (λ q. IsStanding m (world_of_store x.store) (table_of x.images) (objects_of x.store) q (stage f.work)) (sym (r.callers p f is))
-    (sound.standing (placed_of stage x) abstraction.kernel p (call_in_place stage f) abstraction.stands (ap (option_map (call_in_place stage)) is))
+pub stands : {C B M : Type 0} {P : _} (m : Meaning) → SoundInPlace m → (x : Running C B M P) (p : ℕ) (f : InFlight) →
+    IsRunning x → HasAbstraction m (placed_of x) → (flight_of x.calls.items p).call ≡ Some f →
+    IsStanding m (world_of_store x.store) (table_of x.images) (objects_of x.store) f.work.caller (stage_of f.work)
+stands m sound x p f r abstraction is =
+    subst (λ q. IsStanding m (world_of_store x.store) (table_of x.images) (objects_of x.store) q (stage_of f.work)) (sym (r.callers p f is))
+    (sound.standing (placed_of x) abstraction.kernel p (call_in_place f) abstraction.stands (ap (option_map call_in_place) is))
 
 -- so its next piece may come
 pub may_come : (m : Meaning) → Laws m → (v : World) (images : ImageTable) (s : Objects) (p : ℕ) (t : Stage) → IsStanding m v images s p t → IsDue m v s p t
@@ -64,53 +64,53 @@ graft_needs m x p c (l ∷ ls) h = refl
 
 -- ---- what the next step needs
 
-pub piece_needs : {C B M W : Type 0} {P : _} (m : Meaning) (stage : W → Stage) (caller : W → ℕ) (x : Running C B M W P) (p : ℕ) (f : InFlight W) →
-    IsRunning caller x → (flight_of x.calls.items p).call ≡ Some f → length (chain_of x p).levels ≡ 0 →
-    m.need (world_of_store x.store) (objects_of x.store) (caller f.work) (stage f.work) ≡ placed_needs m (placed_of stage x) p
-piece_needs m stage caller x p f r is none =
-    let y = placed_of stage x in
+pub piece_needs : {C B M : Type 0} {P : _} (m : Meaning) (x : Running C B M P) (p : ℕ) (f : InFlight) →
+    IsRunning x → (flight_of x.calls.items p).call ≡ Some f → length (chain_of x p).levels ≡ 0 →
+    m.need (world_of_store x.store) (objects_of x.store) f.work.caller (stage_of f.work) ≡ placed_needs m (placed_of x) p
+piece_needs m x p f r is none =
+    let y = placed_of x in
     let bare_none : y.levels p ≡ [] = no_levels p x.store.ram (held x.locks) (chain_of x p).levels (chain_of x p).undo (objects_of x.store).things none in
-    ap (λ q. m.need (world_of_store x.store) (objects_of x.store) q (stage f.work)) (r.callers p f is)
-    ∙ sym (ap (placed_needs_in m y p) (ap (option_map (call_in_place stage)) is) ∙ ap (placed_needs_at m y p (call_in_place stage f)) bare_none)
+    ap (λ q. m.need (world_of_store x.store) (objects_of x.store) q (stage_of f.work)) (r.callers p f is)
+    ∙ sym (ap (placed_needs_in m y p) (ap (option_map call_in_place) is) ∙ ap (placed_needs_at m y p (call_in_place f)) bare_none)
 
-pub graft_needs_are : {C B M W : Type 0} {P : _} (m : Meaning) (stage : W → Stage) (x : Running C B M W P) (p : ℕ) (f : InFlight W) →
+pub graft_needs_are : {C B M : Type 0} {P : _} (m : Meaning) (x : Running C B M P) (p : ℕ) (f : InFlight) →
     (flight_of x.calls.items p).call ≡ Some f → 0 < length (chain_of x p).levels →
-    next_needs (world_of_store x.store) (table_of x.images) (objects_of x.store).accounts (levels_of x.store x.locks (chain_of x p) p) ≡ placed_needs m (placed_of stage x) p
-graft_needs_are m stage x p f is some =
-    let y = placed_of stage x in
+    next_needs (world_of_store x.store) (table_of x.images) (objects_of x.store).accounts (levels_of x.store x.locks (chain_of x p) p) ≡ placed_needs m (placed_of x) p
+graft_needs_are m x p f is some =
+    let y = placed_of x in
     let s = objects_of x.store in
     let has : has_some (y.levels p) ≡ true = some_levels p x.store.ram (held x.locks) (chain_of x p).levels (chain_of x p).undo s.things some in
-    ap (λ (ks : List Level). next_needs (world_of_store x.store) (table_of x.images) s.accounts ks) (sym (levels_in_place stage x p))
-    ∙ sym (ap (placed_needs_in m y p) (ap (option_map (call_in_place stage)) is) ∙ graft_needs m y p (call_in_place stage f) (y.levels p) has)
+    ap (λ (ks : List Level). next_needs (world_of_store x.store) (table_of x.images) s.accounts ks) (sym (levels_in_place x p))
+    ∙ sym (ap (placed_needs_in m y p) (ap (option_map call_in_place) is) ∙ graft_needs m y p (call_in_place f) (y.levels p) has)
 
 -- ---- what hinders
 
-pub piece_hindered : {C B M W : Type 0} {P : _} (m : Meaning) (stage : W → Stage) (caller : W → ℕ) (x : Running C B M W P) (p : ℕ) (f : InFlight W) →
-    IsRunning caller x → (flight_of x.calls.items p).call ≡ Some f → length (chain_of x p).levels ≡ 0 →
-    first_hindrance (held x.locks) (objects_of x.store).things.lock p p (m.need (world_of_store x.store) (objects_of x.store) (caller f.work) (stage f.work))
-    ≡ first_hindrance (placed_holds (placed_of stage x)) (objects_of x.store).things.lock p (lock_user p (placed_levels (placed_of stage x) p)) (placed_needs m (placed_of stage x) p)
-piece_hindered m stage caller x p f r is none =
-    let y = placed_of stage x in
+pub piece_hindered : {C B M : Type 0} {P : _} (m : Meaning) (x : Running C B M P) (p : ℕ) (f : InFlight) →
+    IsRunning x → (flight_of x.calls.items p).call ≡ Some f → length (chain_of x p).levels ≡ 0 →
+    first_hindrance (held x.locks) (objects_of x.store).things.lock p p (m.need (world_of_store x.store) (objects_of x.store) f.work.caller (stage_of f.work))
+    ≡ first_hindrance (placed_holds (placed_of x)) (objects_of x.store).things.lock p (lock_user p (placed_levels (placed_of x) p)) (placed_needs m (placed_of x) p)
+piece_hindered m x p f r is none =
+    let y = placed_of x in
     let users = (objects_of x.store).things.lock in
     let h = placed_holds y in
     let v = world_of_store x.store in
     let s = objects_of x.store in
-    let t = stage f.work in
+    let t = stage_of f.work in
     let bare_none : y.levels p ≡ [] = no_levels p x.store.ram (held x.locks) (chain_of x p).levels (chain_of x p).undo s.things none in
-    let needs_are : placed_needs m y p ≡ m.need v s p t = ap (placed_needs_in m y p) (ap (option_map (call_in_place stage)) is) ∙ ap (placed_needs_at m y p (call_in_place stage f)) bare_none in
+    let needs_are : placed_needs m y p ≡ m.need v s p t = ap (placed_needs_in m y p) (ap (option_map call_in_place) is) ∙ ap (placed_needs_at m y p (call_in_place f)) bare_none in
     let user : lock_user p (placed_levels y p) ≡ p = ap (λ ls. lock_user p (levels_with s.things ls)) bare_none in
-    ap (λ (table : LockTable). first_hindrance table users p p (m.need v s (caller f.work) t)) (sym (holds_in_place stage caller x r))
+    ap (λ (table : LockTable). first_hindrance table users p p (m.need v s f.work.caller t)) (sym (holds_in_place x r))
     ∙ ap (λ q. first_hindrance h users p p (m.need v s q t)) (r.callers p f is)
     ∙ ap (λ q. first_hindrance h users p q (m.need v s p t)) (sym user)
     ∙ ap (first_hindrance h users p (lock_user p (placed_levels y p))) (sym needs_are)
 
-pub graft_hindered : {C B M W : Type 0} {P : _} (m : Meaning) (stage : W → Stage) (caller : W → ℕ) (x : Running C B M W P) (p : ℕ) (f : InFlight W) →
-    IsRunning caller x → (flight_of x.calls.items p).call ≡ Some f → 0 < length (chain_of x p).levels →
+pub graft_hindered : {C B M : Type 0} {P : _} (m : Meaning) (x : Running C B M P) (p : ℕ) (f : InFlight) →
+    IsRunning x → (flight_of x.calls.items p).call ≡ Some f → 0 < length (chain_of x p).levels →
     let ls = levels_of x.store x.locks (chain_of x p) p in
     first_hindrance (held x.locks) (objects_of x.store).things.lock p (lock_user p ls) (next_needs (world_of_store x.store) (table_of x.images) (objects_of x.store).accounts ls)
-    ≡ first_hindrance (placed_holds (placed_of stage x)) (objects_of x.store).things.lock p (lock_user p (placed_levels (placed_of stage x) p)) (placed_needs m (placed_of stage x) p)
-graft_hindered m stage caller x p f r is some =
-    let y = placed_of stage x in
+    ≡ first_hindrance (placed_holds (placed_of x)) (objects_of x.store).things.lock p (lock_user p (placed_levels (placed_of x) p)) (placed_needs m (placed_of x) p)
+graft_hindered m x p f r is some =
+    let y = placed_of x in
     let users = (objects_of x.store).things.lock in
     let h = placed_holds y in
     let v = world_of_store x.store in
@@ -118,38 +118,38 @@ graft_hindered m stage caller x p f r is some =
     let ls = levels_of x.store x.locks (chain_of x p) p in
     let has : has_some (y.levels p) ≡ true = some_levels p x.store.ram (held x.locks) (chain_of x p).levels (chain_of x p).undo s.things some in
     let needs_are : placed_needs m y p ≡ next_needs v (table_of x.images) s.accounts (placed_levels y p) =
-    ap (placed_needs_in m y p) (ap (option_map (call_in_place stage)) is) ∙ graft_needs m y p (call_in_place stage f) (y.levels p) has in
-    ap (λ (table : LockTable). first_hindrance table users p (lock_user p ls) (next_needs v (table_of x.images) s.accounts ls)) (sym (holds_in_place stage caller x r))
-    ∙ ap (λ (ks : List Level). first_hindrance h users p (lock_user p ks) (next_needs v (table_of x.images) s.accounts ks)) (sym (levels_in_place stage x p))
+    ap (placed_needs_in m y p) (ap (option_map call_in_place) is) ∙ graft_needs m y p (call_in_place f) (y.levels p) has in
+    ap (λ (table : LockTable). first_hindrance table users p (lock_user p ls) (next_needs v (table_of x.images) s.accounts ls)) (sym (holds_in_place x r))
+    ∙ ap (λ (ks : List Level). first_hindrance h users p (lock_user p ks) (next_needs v (table_of x.images) s.accounts ks)) (sym (levels_in_place x p))
     ∙ ap (first_hindrance h users p (lock_user p (placed_levels y p))) (sym needs_are)
 
 -- what hinders an instruction, by what it needs and whose user locks don't hinder it
-pub needs_hinder : {C B M W : Type 0} {P : _} (m : Meaning) (stage : W → Stage) (caller : W → ℕ) (x : Running C B M W P) (p user : ℕ) (needs : List Need) (f : Flight W) →
-    IsRunning caller x → f ≡ flight_of x.calls.items p → user ≡ lock_user p (levels_of x.store x.locks f.chain p) → needs ≡ placed_needs m (placed_of stage x) p →
+pub needs_hinder : {C B M : Type 0} {P : _} (m : Meaning) (x : Running C B M P) (p user : ℕ) (needs : List Need) (f : Flight) →
+    IsRunning x → f ≡ flight_of x.calls.items p → user ≡ lock_user p (levels_of x.store x.locks f.chain p) → needs ≡ placed_needs m (placed_of x) p →
     first_hindrance (held x.locks) (objects_of x.store).things.lock p user needs
-    ≡ first_hindrance (placed_holds (placed_of stage x)) (objects_of x.store).things.lock p (lock_user p (placed_levels (placed_of stage x) p)) (placed_needs m (placed_of stage x) p)
-needs_hinder {W = W} m stage caller x p user needs f r is user_is needs_are =
-    let y = placed_of stage x in
+    ≡ first_hindrance (placed_holds (placed_of x)) (objects_of x.store).things.lock p (lock_user p (placed_levels (placed_of x) p)) (placed_needs m (placed_of x) p)
+needs_hinder m x p user needs f r is user_is needs_are =
+    let y = placed_of x in
     let users = (objects_of x.store).things.lock in
-    let chain = ap (λ (l : Flight W). lock_user p (levels_of x.store x.locks l.chain p)) is in
-    let levels = ap (λ (ls : List Level). lock_user p ls) (sym (levels_in_place stage x p)) in
-    ap (λ (table : LockTable). first_hindrance table users p user needs) (sym (holds_in_place stage caller x r))
+    let chain = ap (λ (l : Flight). lock_user p (levels_of x.store x.locks l.chain p)) is in
+    let levels = ap (λ (ls : List Level). lock_user p ls) (sym (levels_in_place x p)) in
+    ap (λ (table : LockTable). first_hindrance table users p user needs) (sym (holds_in_place x r))
     ∙ ap (λ q. first_hindrance (placed_holds y) users p q needs) (user_is ∙ chain ∙ levels)
     ∙ ap (first_hindrance (placed_holds y) users p (lock_user p (placed_levels y p))) needs_are
 
 -- nothing hinders where there is no call
-pub none_hindered : {C B M W : Type 0} {P : _} (m : Meaning) (stage : W → Stage) (x : Running C B M W P) (p : ℕ) → (flight_of x.calls.items p).call ≡ None →
-    placed_needs m (placed_of stage x) p ≡ []
-none_hindered m stage x p is = ap (placed_needs_in m (placed_of stage x) p) (ap (option_map (call_in_place stage)) is)
+pub none_hindered : {C B M : Type 0} {P : _} (m : Meaning) (x : Running C B M P) (p : ℕ) → (flight_of x.calls.items p).call ≡ None →
+    placed_needs m (placed_of x) p ≡ []
+none_hindered m x p is = ap (placed_needs_in m (placed_of x) p) (ap (option_map call_in_place) is)
 
 -- ---- what blocks
 
-numbers_same : {W : Type 0} (stage : W → Stage) (o : Option (InFlight W)) →
-    option_map (λ (f : InFlight W). f.number) o ≡ option_map (λ (c : PlacedCall). c.number) (option_map (call_in_place stage) o)
-numbers_same stage None = refl
-numbers_same stage (Some f) = refl
+numbers_same : (o : Option InFlight) →
+    option_map (λ (f : InFlight). f.number) o ≡ option_map (λ (c : PlacedCall). c.number) (option_map call_in_place o)
+numbers_same None = refl
+numbers_same (Some f) = refl
 
-pub blocking_in_place : {C B M W : Type 0} {P : _} (stage : W → Stage) (x : Running C B M W P) (h : Hindrance) →
-    blocking_by x.calls.items h ≡ placed_blocker_from (placed_of stage x) (hindrance_of h)
-blocking_in_place stage x h =
-    ap (λ (call : Option ℕ). record { object = h.object; holder = h.holder; call = cond h.by_user None call }) (numbers_same stage (flight_of x.calls.items h.holder).call)
+pub blocking_in_place : {C B M : Type 0} {P : _} (x : Running C B M P) (h : Hindrance) →
+    blocking_by x.calls.items h ≡ placed_blocker_from (placed_of x) (hindrance_of h)
+blocking_in_place x h =
+    ap (λ (call : Option ℕ). record { object = h.object; holder = h.holder; call = cond h.by_user None call }) (numbers_same (flight_of x.calls.items h.holder).call)

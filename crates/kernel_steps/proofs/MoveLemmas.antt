@@ -9,9 +9,8 @@ use Rattle.kernel_model.specs.declared.Inverse.{Inverse}
 use Rattle.kernel_model.specs.World.{World, ImageTable}
 use Rattle.kernel_model.specs.Objects.{Objects, Things, at}
 use Rattle.kernel_model.specs.Sound.{ImagesAreLoaded}
-use Rattle.kernel_model.specs.Meaning.{Stage}
 use Rattle.kernel_model.specs.Locks.{LockTable, Touched}
-use Rattle.kernel_model.specs.Levels.{Config, Outcome, base_of}
+use Rattle.kernel_model.specs.Levels.{Level, Config, Outcome, base_of}
 use Rattle.kernel_model.specs.Kernel.{Entry}
 use Rattle.kernel_model.specs.Runs.{segment_of}
 use Rattle.undo_calls.specs.UndoLevels.{innermost}
@@ -23,9 +22,9 @@ use Rattle.graft_calls.specs.declared.GraftLevel.{GraftLevel}
 use Rattle.graft_calls.specs.declared.Chain.{Chain}
 use Rattle.kernel_model.specs.declared.Micro.{Micro}
 use Rattle.kernel_model.specs.Access.{bare_found}
-use Rattle.graft_calls.specs.Chains.{came, levels_in, outer, levels_of, call_of, put_back}
+use Rattle.graft_calls.specs.Chains.{came, levels_in, outer, levels_of, call_of, put_back, HasAnswer}
 use Rattle.graft_calls.specs.Calls.{IsBeyond, IsPlaced, AreInside, IsInPlace, IsElsewhereSame}
-use Rattle.placed_laws.specs.Placed.{PlacedCall, PlacedLevel, bare, placed_config}
+use Rattle.placed_laws.specs.Placed.{PlacedCall, PlacedLevel, bare, placed_config, placed_levels}
 use Rattle.kernel_steps.specs.declared.running.Flight.{Flight}
 use Rattle.kernel_steps.specs.declared.running.Running.{Running}
 use Rattle.kernel_steps.specs.Orders.{order_of}
@@ -84,55 +83,55 @@ others_same p q s u t r (g ∷ gs) log w z other few holds memory =
 -- ---- the whole
 
 -- a process that can't be has no level
-no_chain : {W : Type 0} (fs : List (Flight W)) (q : ℕ) → length fs ≡ 16 → 16 ≤ q → length (flight_of fs q).chain.levels ≡ 0
+no_chain : (fs : List Flight) (q : ℕ) → length fs ≡ 16 → 16 ≤ q → length (flight_of fs q).chain.levels ≡ 0
 no_chain fs q n h = grind (arith, common_steps, n, h)
 
 -- so each has few
-pub few_levels : {C B M W : Type 0} {P : _} (caller : W → ℕ) (x : Running C B M W P) → IsRunning caller x → (q : ℕ) → (b : Bool) → nat_lt q 16 ≡ b → length (chain_of x q).levels ≤ 4
-few_levels caller x r q true h = (r.placed q (grind (arith, nat_tests, h))).few
-few_levels caller x r q false h = omega (arith, no_chain x.calls.items q r.sixteen (grind (arith, nat_tests, h)))
+pub few_levels : {C B M : Type 0} {P : _} (x : Running C B M P) → IsRunning x → (q : ℕ) → (b : Bool) → nat_lt q 16 ≡ b → length (chain_of x q).levels ≤ 4
+few_levels x r q true h = (r.placed q (grind (arith, nat_tests, h))).few
+few_levels x r q false h = omega (arith, no_chain x.calls.items q r.sixteen (grind (arith, nat_tests, h)))
 
 -- the levels of a process after a move
-levels_moved : {C B M W : Type 0} {P : _} (caller : W → ℕ) (x y : Running C B M W P) (p : ℕ) (c : Config) → IsRunning caller x → Moved x y p →
+levels_moved : {C B M : Type 0} {P : _} (x y : Running C B M P) (p : ℕ) (c : Config) → IsRunning x → Moved x y p →
     call_of y.store y.locks (chain_of y p) p ≡ c → (q : ℕ) (b : Bool) → (q == p) ≡ b →
     levels_at y q ≡ at p (map bare c.levels) (levels_at x) q
-levels_moved caller x y p c r moved is q true h =
+levels_moved x y p c r moved is q true h =
     ap (levels_at y) (eqb-true q p h) ∙ ap (λ (f : Config). map bare f.levels) is
     ∙ sym (ap (λ b. cond b (map bare c.levels) (levels_at x q)) h)
-levels_moved caller x y p c r moved is q false h =
+levels_moved x y p c r moved is q false h =
     let other : q ≢ p = grind (arith, nat_tests, h) in
     ap (λ (chain : Chain). map bare (levels_of y.store y.locks chain q)) (moved.chains q other)
     ∙ others_same p q x.store.ram y.store.ram (held x.locks) (held y.locks) (chain_of x q).levels (chain_of x q).undo (objects_of x.store).things (objects_of y.store).things
-    other (few_levels caller x r q (nat_lt q 16) refl) (λ d. moved.elsewhere.others q d other) moved.elsewhere.memory
+    other (few_levels x r q (nat_lt q 16) refl) (λ d. moved.elsewhere.others q d other) moved.elsewhere.memory
     ∙ sym (ap (λ b. cond b (map bare c.levels) (levels_at x q)) h)
 
 -- the kernel in place after a move
-pub placed_moved : {C B M W : Type 0} {P : _} (stage : W → Stage) (caller : W → ℕ) (x y : Running C B M W P) (p : ℕ) (c : Config) → IsRunning caller x → Moved x y p →
-    call_of y.store y.locks (chain_of y p) p ≡ c → placed_of stage y ≡ come_to p c (placed_of stage x)
-placed_moved {W = W} stage caller x y p c r moved is =
-    let z = placed_of stage y in
-    let o = placed_of stage x in
+pub placed_moved : {C B M : Type 0} {P : _} (x y : Running C B M P) (p : ℕ) (c : Config) → IsRunning x → Moved x y p →
+    call_of y.store y.locks (chain_of y p) p ≡ c → placed_of y ≡ come_to p c (placed_of x)
+placed_moved x y p c r moved is =
+    let z = placed_of y in
+    let o = placed_of x in
     ap (λ (v : World). record z { world = v }) moved.elsewhere.world
     ∙ ap (λ (i : ImageTable). record z { world = o.world; images = i }) (ap table_of moved.images)
     ∙ ap (λ (s : Objects). record z { world = o.world; images = o.images; objects = s }) (ap (λ (f : Config). f.now) is)
     ∙ ap (λ (n : ℕ). record z { world = o.world; images = o.images; objects = c.now; clock = n }) moved.clock
     ∙ ap (λ (calls : ℕ → Option PlacedCall). record z { world = o.world; images = o.images; objects = c.now; clock = o.clock; call = calls })
-    (fun_ext (λ q. ap (option_map (call_in_place stage)) (moved.calls q)))
+    (fun_ext (λ q. ap (option_map call_in_place) (moved.calls q)))
     ∙ ap (λ (levels : ℕ → List PlacedLevel). record z { world = o.world; images = o.images; objects = c.now; clock = o.clock; call = o.call; levels = levels })
-    (fun_ext (λ q. levels_moved caller x y p c r moved is q (q == p) refl))
+    (fun_ext (λ q. levels_moved x y p c r moved is q (q == p) refl))
     ∙ ap (λ (es : List Entry). record z { world = o.world; images = o.images; objects = c.now; clock = o.clock; call = o.call; levels = at p (map bare c.levels) o.levels; order = es }) (ap order_of moved.order)
 
 -- ---- a list of flights in which one chain changed
 
-pub calls_of_chain : {W : Type 0} (fs : List (Flight W)) (p : ℕ) (c : Chain) → p < length fs → (q : ℕ) →
+pub calls_of_chain : (fs : List Flight) (p : ℕ) (c : Chain) → p < length fs → (q : ℕ) →
     (flight_of (slice_set fs p (record (flight_of fs p) { chain = c })) q).call ≡ (flight_of fs q).call
 calls_of_chain fs p c h q = grind (arith, nat_tests, common_steps)
 
-pub chains_of_chain : {W : Type 0} (fs : List (Flight W)) (p : ℕ) (c : Chain) → p < length fs → (q : ℕ) → q ≢ p →
+pub chains_of_chain : (fs : List Flight) (p : ℕ) (c : Chain) → p < length fs → (q : ℕ) → q ≢ p →
     (flight_of (slice_set fs p (record (flight_of fs p) { chain = c })) q).chain ≡ (flight_of fs q).chain
 chains_of_chain fs p c h q other = grind (arith, nat_tests, common_steps, other)
 
-pub chain_of_chain : {W : Type 0} (fs : List (Flight W)) (p : ℕ) (c : Chain) → p < length fs →
+pub chain_of_chain : (fs : List Flight) (p : ℕ) (c : Chain) → p < length fs →
     (flight_of (slice_set fs p (record (flight_of fs p) { chain = c })) p).chain ≡ c
 chain_of_chain fs p c h = grind (arith, nat_tests, common_steps)
 
@@ -142,21 +141,21 @@ still_long fs gs p v is = grind (arith, common_steps, is)
 -- ---- a move of one chain
 
 -- the chain after the move
-pub chain_by : {C B M W : Type 0} {P : _} (x y : Running C B M W P) (p : ℕ) (fl : Flight W) (ch : Chain) → length x.calls.items ≡ 16 → p < 16 →
+pub chain_by : {C B M : Type 0} {P : _} (x y : Running C B M P) (p : ℕ) (fl : Flight) (ch : Chain) → length x.calls.items ≡ 16 → p < 16 →
     fl ≡ flight_of x.calls.items p → y.calls.items ≡ slice_set x.calls.items p (record { call = fl.call; chain = ch }) → chain_of y p ≡ ch
-chain_by {W = W} x y p fl ch n small fl_is is =
-    ap (λ fs. (flight_of fs p).chain) (is ∙ ap (λ (f : Flight W). slice_set x.calls.items p (record { call = f.call; chain = ch })) fl_is)
+chain_by x y p fl ch n small fl_is is =
+    ap (λ fs. (flight_of fs p).chain) (is ∙ ap (λ (f : Flight). slice_set x.calls.items p (record { call = f.call; chain = ch })) fl_is)
     ∙ chain_of_chain x.calls.items p ch (omega (arith, n, small))
 
 -- what was moved
-pub moved_by : {C B M W : Type 0} {P : _} (x y : Running C B M W P) (p : ℕ) (fl : Flight W) (ch : Chain) → length x.calls.items ≡ 16 → p < 16 →
+pub moved_by : {C B M : Type 0} {P : _} (x y : Running C B M P) (p : ℕ) (fl : Flight) (ch : Chain) → length x.calls.items ≡ 16 → p < 16 →
     fl ≡ flight_of x.calls.items p → y.calls.items ≡ slice_set x.calls.items p (record { call = fl.call; chain = ch }) →
     IsElsewhereSame x.store y.store x.locks y.locks p → IsPlaced y.store y.locks p ch.levels ch.undo → AreInside (table_of y.images) (objects_of y.store).accounts p ch.levels →
     ImagesAreLoaded (table_of y.images) (objects_of y.store).accounts → y.images ≡ x.images → y.clock ≡ x.clock → y.order ≡ x.order → Moved x y p
-moved_by {W = W} x y p fl ch n small fl_is is elsewhere placed inside loaded images clock order =
+moved_by x y p fl ch n small fl_is is elsewhere placed inside loaded images clock order =
     let within : p < length x.calls.items = omega (arith, n, small) in
     let whole : y.calls.items ≡ slice_set x.calls.items p (record (flight_of x.calls.items p) { chain = ch }) =
-    is ∙ ap (λ (f : Flight W). slice_set x.calls.items p (record { call = f.call; chain = ch })) fl_is in
+    is ∙ ap (λ (f : Flight). slice_set x.calls.items p (record { call = f.call; chain = ch })) fl_is in
     let own : chain_of y p ≡ ch = chain_by x y p fl ch n small fl_is is in
     record {
       elsewhere = elsewhere;
@@ -172,19 +171,26 @@ moved_by {W = W} x y p fl ch n small fl_is is elsewhere placed inside loaded ima
     }
 
 -- the config to which it came, where the chain before it was that of p
-pub came_by : {C B M W : Type 0} {P : _} (stage : W → Stage) (x : Running C B M W P) (p : ℕ) (fl : Flight W) (f : Config → Outcome) (said : Micro) (c : Config) →
-    fl ≡ flight_of x.calls.items p → came (f (call_of x.store x.locks fl.chain p)) ≡ (said, c) → came (f (placed_config (placed_of stage x) p)) ≡ (said, c)
-came_by {W = W} stage x p fl f said c fl_is step =
-    ap (λ (e : Config). came (f e)) (config_in_place stage x p) ∙ sym (ap (λ (l : Flight W). came (f (call_of x.store x.locks l.chain p))) fl_is) ∙ step
+pub came_by : {C B M : Type 0} {P : _} (x : Running C B M P) (p : ℕ) (fl : Flight) (f : Config → Outcome) (said : Micro) (c : Config) →
+    fl ≡ flight_of x.calls.items p → came (f (call_of x.store x.locks fl.chain p)) ≡ (said, c) → came (f (placed_config (placed_of x) p)) ≡ (said, c)
+came_by x p fl f said c fl_is step =
+    ap (λ (e : Config). came (f e)) (config_in_place x p) ∙ sym (ap (λ (l : Flight). came (f (call_of x.store x.locks l.chain p))) fl_is) ∙ step
 
 -- what was said, and the kernel in place
 pub said_by : (o : Outcome) (said : Micro) (c : Config) → came o ≡ (said, c) → said ≡ o.said
 said_by o said c h = sym (ap (λ (z : Micro × Config). z.0) h)
 
-pub config_by : {C B M W : Type 0} {P : _} (stage : W → Stage) (caller : W → ℕ) (x y : Running C B M W P) (p : ℕ) (ch : Chain) (o : Outcome) (said : Micro) → IsRunning caller x → Moved x y p →
-    chain_of y p ≡ ch → came o ≡ (said, call_of y.store y.locks ch p) → placed_of stage y ≡ come_to p o.config (placed_of stage x)
-config_by stage caller x y p ch o said r moved own h =
-    placed_moved stage caller x y p o.config r moved
+-- what an answer gives, where the chain that gave it was that of p
+pub answer_by : {C B M : Type 0} {P : _} (x : Running C B M P) (p : ℕ) (fl : Flight) (said : Micro) (ram : List ℕ) → fl ≡ flight_of x.calls.items p →
+    HasAnswer said ram p (levels_of x.store x.locks fl.chain p) → HasAnswer said ram p (placed_levels (placed_of x) p)
+answer_by x p fl said ram is gives =
+    subst (λ (ls : List Level). HasAnswer said ram p ls)
+    (ap (λ (l : Flight). levels_of x.store x.locks l.chain p) is ∙ sym (ap (λ (c : Config). c.levels) (config_in_place x p))) gives
+
+pub config_by : {C B M : Type 0} {P : _} (x y : Running C B M P) (p : ℕ) (ch : Chain) (o : Outcome) (said : Micro) → IsRunning x → Moved x y p →
+    chain_of y p ≡ ch → came o ≡ (said, call_of y.store y.locks ch p) → placed_of y ≡ come_to p o.config (placed_of x)
+config_by x y p ch o said r moved own h =
+    placed_moved x y p o.config r moved
     (ap (λ (chain : Chain). call_of y.store y.locks chain p) own ∙ sym (ap (λ (z : Micro × Config). z.1) h))
 
 -- a flight that was found at a place, whatever stands for none
@@ -193,11 +199,11 @@ any_default [] i d e h = absurd (omega (arith, h))
 any_default (x ∷ xs) zero d e h = refl
 any_default (x ∷ xs) (suc i) d e h = any_default xs i d e (omega (arith, h))
 
-pub fetched : {W : Type 0} (fs : List (Flight W)) (p : ℕ) (f : Flight W) → length fs ≡ 16 → p < 16 → f ≡ slice_index_or fs p f → f ≡ flight_of fs p
+pub fetched : (fs : List Flight) (p : ℕ) (f : Flight) → length fs ≡ 16 → p < 16 → f ≡ slice_index_or fs p f → f ≡ flight_of fs p
 fetched fs p f n small is = is ∙ any_default fs p f no_flight (omega (arith, n, small))
 
 -- a call in place goes on from its chain
-pub in_place_of : {C B M W : Type 0} {P : _} (caller : W → ℕ) (x : Running C B M W P) (p : ℕ) (f : Flight W) → IsRunning caller x → p < 16 → f ≡ flight_of x.calls.items p →
+pub in_place_of : {C B M : Type 0} {P : _} (x : Running C B M P) (p : ℕ) (f : Flight) → IsRunning x → p < 16 → f ≡ flight_of x.calls.items p →
     IsInPlace x.store x.locks (table_of x.images) p f.chain.levels f.chain.undo
-in_place_of {W = W} caller x p f r small is =
-    subst (λ (l : Flight W). IsInPlace x.store x.locks (table_of x.images) p l.chain.levels l.chain.undo) (sym is) (record { placed = r.placed p small; inside = r.inside p small; loaded = r.loaded })
+in_place_of x p f r small is =
+    subst (λ (l : Flight). IsInPlace x.store x.locks (table_of x.images) p l.chain.levels l.chain.undo) (sym is) (record { placed = r.placed p small; inside = r.inside p small; loaded = r.loaded })

@@ -9,7 +9,7 @@ use Rattle.kernel_model.specs.declared.FileRow.{FileRow}
 use Rattle.kernel_model.specs.World.{World, Image, ImageTable, file_row}
 use Rattle.kernel_model.specs.Objects.{Objects, at, Accounts, GraftValue}
 use Rattle.kernel_model.specs.Directory.{lies_on_disk}
-use Rattle.kernel_model.specs.Meaning.{Meaning, Stage}
+use Rattle.kernel_model.specs.Meaning.{Meaning}
 use Rattle.kernel_model.specs.Kernel.{Kernel, Entry}
 use Rattle.kernel_model.specs.Opening.{opening_kernel, opening_objects, opening_things}
 use Rattle.kernel_model.specs.Session as session
@@ -44,13 +44,13 @@ parts_of v images s n call levels order k v_is images_are s_is n_is call_is leve
     rw (v_is, images_are, s_is, n_is, call_is, levels_are, order_is) refl
 
 -- a kernel in which no call is in flight
-pub quiet_is : {C B M W : Type 0} {P : _} (stage : W → Stage) (x : Running C B M W P) (k : Kernel) →
+pub quiet_is : {C B M : Type 0} {P : _} (x : Running C B M P) (k : Kernel) →
     world_of_store x.store ≡ k.world → table_of x.images ≡ k.images → objects_of x.store ≡ k.objects → x.clock ≡ k.clock →
-    ((p : ℕ) → flight_of x.calls.items p ≡ no_flight) → order_of x.order ≡ k.order → placed_of stage x ≡ quietly_placed k
-quiet_is {W = W} stage x k v_is images_are s_is n_is none order_is =
-    parts_of (world_of_store x.store) (table_of x.images) (objects_of x.store) x.clock (call_at stage x) (levels_at x) (order_of x.order) k v_is images_are s_is n_is
-    (fun_ext (λ p. ap (λ (f : Flight W). option_map (call_in_place stage) f.call) (none p)))
-    (fun_ext (λ p. ap (λ (f : Flight W). map bare (levels_of x.store x.locks f.chain p)) (none p)))
+    ((p : ℕ) → flight_of x.calls.items p ≡ no_flight) → order_of x.order ≡ k.order → placed_of x ≡ quietly_placed k
+quiet_is x k v_is images_are s_is n_is none order_is =
+    parts_of (world_of_store x.store) (table_of x.images) (objects_of x.store) x.clock (call_at x) (levels_at x) (order_of x.order) k v_is images_are s_is n_is
+    (fun_ext (λ p. ap (λ (f : Flight). option_map call_in_place f.call) (none p)))
+    (fun_ext (λ p. ap (λ (f : Flight). map bare (levels_of x.store x.locks f.chain p)) (none p)))
     order_is
 
 -- a file of the directory ends on the disk
@@ -58,24 +58,24 @@ ends_on : (size : ℕ) (r : FileRow) → lies_on_disk size r ≡ true → r.star
 ends_on size r h = grind (arith, nat_tests, h)
 
 -- the kernel after boot stands
-pub opened : {C B M W : Type 0} {P : _} (m : Meaning) → OpeningKernelIsSound m → QuietKernelsStand m → (stage : W → Stage) (x : Running C B M W P) (v : World) →
+pub opened : {C B M : Type 0} {P : _} (m : Meaning) → OpeningKernelIsSound m → QuietKernelsStand m → (x : Running C B M P) (v : World) →
     2 ≤ v.frames → v.frames ≤ 64 → length v.directory ≤ 16 → 1 ≤ v.disk_size → v.disk_size ≤ 4096 → v.callable ≡ 15 → ((n : ℕ) (r : FileRow) → file_row v n ≡ Some r → lies_on_disk v.disk_size r ≡ true) →
     world_of_store x.store ≡ v → (table_of x.images ≡ λ slot. None) → objects_of x.store ≡ opening_objects v.grant → x.clock ≡ 0 →
-    ((p : ℕ) → flight_of x.calls.items p ≡ no_flight) → x.order ≡ [] → StandsFor m (placed_of stage x) (opening_kernel v)
-opened m sound stand stage x v least most rows some size callable files v_is images_are s_is n_is none order =
+    ((p : ℕ) → flight_of x.calls.items p ≡ no_flight) → x.order ≡ [] → StandsFor m (placed_of x) (opening_kernel v)
+opened m sound stand x v least most rows some size callable files v_is images_are s_is n_is none order =
     let world : IsSoundWorld v = record { frames_some = least; frames_most = most; entries = rows; files = λ n r is. omega (arith, ends_on v.disk_size r (files n r is), size); callable = omega (arith, callable) } in
     let disk : FitsDisk v opening_things.cache = record { some = some; most = size; files = λ n r is. ends_on v.disk_size r (files n r is); frames = λ f b is. absurd cc } in
-    subst (λ (y : Placed). StandsFor m y (opening_kernel v)) (sym (quiet_is stage x (opening_kernel v) v_is images_are s_is n_is none (ap order_of order)))
+    subst (λ (y : Placed). StandsFor m y (opening_kernel v)) (sym (quiet_is x (opening_kernel v) v_is images_are s_is n_is none (ap order_of order)))
     (stand (opening_kernel v) (sound v world disk) (λ p. refl))
 
 -- and it runs
-pub runs_again : {C B M W : Type 0} {P : _} (caller : W → ℕ) (x y : Running C B M W P) (grant : ℕ) →
-    IsRunning caller x → ((p : ℕ) → flight_of x.calls.items p ≡ no_flight) → y.calls ≡ x.calls → y.locks ≡ x.locks → y.order ≡ [] →
-    objects_of y.store ≡ opening_objects grant → IsRunning caller y
-runs_again {W = W} caller x y grant r none calls locks order s_is =
-    let before : (p : ℕ) → chain_of x p ≡ record { levels = []; undo = [] } = λ p. ap (λ (f : Flight W). f.chain) (none p) in
+pub runs_again : {C B M : Type 0} {P : _} (x y : Running C B M P) (grant : ℕ) →
+    IsRunning x → ((p : ℕ) → flight_of x.calls.items p ≡ no_flight) → y.calls ≡ x.calls → y.locks ≡ x.locks → y.order ≡ [] →
+    objects_of y.store ≡ opening_objects grant → IsRunning y
+runs_again x y grant r none calls locks order s_is =
+    let before : (p : ℕ) → chain_of x p ≡ record { levels = []; undo = [] } = λ p. ap (λ (f : Flight). f.chain) (none p) in
     let flight : (p : ℕ) → flight_of y.calls.items p ≡ no_flight = λ p. ap (λ fs. flight_of fs.items p) calls ∙ none p in
-    let now : (p : ℕ) → chain_of y p ≡ record { levels = []; undo = [] } = λ p. ap (λ (f : Flight W). f.chain) (flight p) in
+    let now : (p : ℕ) → chain_of y p ≡ record { levels = []; undo = [] } = λ p. ap (λ (f : Flight). f.chain) (flight p) in
     record {
       sixteen = ap (λ fs. length fs.items) calls ∙ r.sixteen;
       callers = λ p f is. grind (arith, is, flight p);
@@ -140,9 +140,9 @@ still_loaded images more a extends loaded = λ q pt g is. found (images g.image)
     found (Some i) g is some = ap is_some (extends g.image i is)
 
 -- a running kernel runs with more images
-pub runs_with_more : {C B M W : Type 0} {P : _} (caller : W → ℕ) (x : Running C B M W P) (slots : List (Option Image)) →
-    IsRunning caller x → Extends (table_of x.images) (table_of slots) → IsRunning caller (record x { images = slots })
-runs_with_more caller x slots r extends =
+pub runs_with_more : {C B M : Type 0} {P : _} (x : Running C B M P) (slots : List (Option Image)) →
+    IsRunning x → Extends (table_of x.images) (table_of slots) → IsRunning (record x { images = slots })
+runs_with_more x slots r extends =
     record {
       sixteen = r.sixteen;
       callers = r.callers;

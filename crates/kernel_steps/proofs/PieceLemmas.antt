@@ -3,7 +3,7 @@ use Rattle.std.proofs.Common.{append-nil, ◌≡◌, ℕ, Bool, List, [], ◌++�
 use Rattle.kernel_model.specs.declared.Note.{Note}
 use Rattle.kernel_model.specs.World.{World, ImageTable, Blocks}
 use Rattle.kernel_model.specs.Objects.{Objects}
-use Rattle.kernel_model.specs.Meaning.{Meaning, Stage, After, Piece}
+use Rattle.kernel_model.specs.Meaning.{Meaning, After, Piece, Answer}
 use Rattle.kernel_model.specs.Kernel.{gave_note, after_note}
 use Rattle.std.specs.Prelude.{option_map}
 use Rattle.vino_base.specs.Calls.{Plan}
@@ -14,15 +14,16 @@ use Rattle.call_pieces.specs.Matching.{PieceMatches, PieceMatchesSome}
 use Rattle.placed_laws.specs.Placed.{PlacedCall}
 use Rattle.placed_laws.specs.PlacedSteps.{placed_after}
 use Rattle.call_pieces.specs.declared.Next.{Next}
-use Rattle.call_pieces.specs.Works.{comes_after, answer_seen}
+use Rattle.call_pieces.specs.Works.{comes_after, stage_of}
+use Rattle.call_pieces.specs.declared.Work.{Work}
 use Rattle.kernel_steps.specs.declared.running.InFlight.{InFlight}
 use Rattle.kernel_steps.specs.Views.{call_in_place}
 use Rattle.kernel_steps.specs.Refines.{first_notes, PieceDone}
 
-pub piece_done : (m : Meaning) (v : World) (s u : Objects) (p : ℕ) (c : PlacedCall) (call : Option PlacedCall) (answer : Option (List ℕ)) (kept mid kept_new : List Note) (known told_new : Option (List (List ℕ)))
+pub piece_done : (m : Meaning) (v : World) (s u : Objects) (p : ℕ) (c : PlacedCall) (call : Option PlacedCall) (answer : Option Answer) (kept mid kept_new : List Note) (known told_new : Option (List (List ℕ)))
     (plan plan_new : Option Plan) (faults faults_new : ℕ) (io : List Bool) (gave : Option (List ℕ)) (after : After) →
-    ((images : ImageTable) (blocks : Blocks) (rest : List Bool) → Knows known blocks → PieceMatches (m.piece v images s blocks p c.stage (answer_seen answer) (io ++ rest)) u told_new gave after (length io)) →
-    ((images : ImageTable) → PieceMatchesSome v (λ blocks io. m.piece v images s blocks p c.stage (answer_seen answer) io) u gave after io) →
+    ((images : ImageTable) (blocks : Blocks) (rest : List Bool) → Knows known blocks → PieceMatches (m.piece v images s blocks p c.stage answer (io ++ rest)) u told_new gave after (length io)) →
+    ((images : ImageTable) → PieceMatchesSome v (λ blocks io. m.piece v images s blocks p c.stage answer io) u gave after io) →
     CallsExtend faults faults_new plan plan_new [] io → call ≡ placed_after c after →
     ((all : List Note) → kept ≡ first_notes all → mid ≡ first_notes (all ++ gave_note c.number gave)) →
     ((all : List Note) → mid ≡ first_notes all → kept_new ≡ first_notes (all ++ after_note c.number after)) →
@@ -32,7 +33,7 @@ piece_done m v s u p c call answer kept mid kept_new known told_new plan plan_ne
       io = io;
       made = made faults plan (made_none faults plan);
       goes = λ images blocks notes rest tells k.
-          let q : Piece = m.piece v images s blocks p c.stage (answer_seen answer) (io ++ rest) in
+          let q : Piece = m.piece v images s blocks p c.stage answer (io ++ rest) in
           let came = does images blocks rest tells in
           record {
             objects = came.objects;
@@ -55,19 +56,19 @@ piece_done m v s u p c call answer kept mid kept_new known told_new plan plan_ne
     }
 
 -- the same of a call in flight, by what came next
-pub flight_done : {W : Type 0} (m : Meaning) (stage : W → Stage) (caller : W → ℕ) (v : World) (s u : Objects) (call f : InFlight W) (new : W) (left : Option (InFlight W)) (answer : Option (List ℕ)) (kept mid kept_new : List Note) (known told_new : Option (List (List ℕ)))
+pub flight_done : (m : Meaning) (v : World) (s u : Objects) (call f : InFlight) (new : Work) (left : Option InFlight) (answer : Option Answer) (kept mid kept_new : List Note) (known told_new : Option (List (List ℕ)))
     (plan plan_new : Option Plan) (faults faults_new : ℕ) (io : List Bool) (gave : Option (List ℕ)) (next n : Next) → call ≡ f → next ≡ n →
-    ((images : ImageTable) (blocks : Blocks) (rest : List Bool) → Knows known blocks → PieceMatches (m.piece v images s blocks (caller call.work) (stage call.work) (answer_seen answer) (io ++ rest)) u told_new gave (comes_after next (stage new)) (length io)) →
-    ((images : ImageTable) → PieceMatchesSome v (λ blocks io. m.piece v images s blocks (caller call.work) (stage call.work) (answer_seen answer) io) u gave (comes_after next (stage new)) io) →
-    CallsExtend faults faults_new plan plan_new [] io → option_map (call_in_place stage) left ≡ placed_after (call_in_place stage call) (comes_after n (stage new)) →
+    ((images : ImageTable) (blocks : Blocks) (rest : List Bool) → Knows known blocks → PieceMatches (m.piece v images s blocks call.work.caller (stage_of call.work) answer (io ++ rest)) u told_new gave (comes_after next (stage_of new)) (length io)) →
+    ((images : ImageTable) → PieceMatchesSome v (λ blocks io. m.piece v images s blocks call.work.caller (stage_of call.work) answer io) u gave (comes_after next (stage_of new)) io) →
+    CallsExtend faults faults_new plan plan_new [] io → option_map call_in_place left ≡ placed_after (call_in_place call) (comes_after n (stage_of new)) →
     ((all : List Note) → kept ≡ first_notes all → mid ≡ first_notes (all ++ gave_note call.number gave)) →
-    ((all : List Note) → mid ≡ first_notes all → kept_new ≡ first_notes (all ++ after_note call.number (comes_after n (stage new)))) →
-    PieceDone m v s u (caller f.work) (call_in_place stage f) (option_map (call_in_place stage) left) answer kept kept_new (disk_seen known plan faults) (disk_seen told_new plan_new faults_new)
-flight_done {W = W} m stage caller v s u call f new left answer kept mid kept_new known told_new plan plan_new faults faults_new io gave next n same is does some made left_is first second =
-    subst (λ (h : InFlight W). PieceDone m v s u (caller h.work) (call_in_place stage h) (option_map (call_in_place stage) left) answer kept kept_new (disk_seen known plan faults) (disk_seen told_new plan_new faults_new)) same
-    (piece_done m v s u (caller call.work) (call_in_place stage call) (option_map (call_in_place stage) left) answer kept mid kept_new known told_new plan plan_new faults faults_new io gave (comes_after n (stage new))
-    (subst (λ k. (images : ImageTable) (blocks : Blocks) (rest : List Bool) → Knows known blocks → PieceMatches (m.piece v images s blocks (caller call.work) (stage call.work) (answer_seen answer) (io ++ rest)) u told_new gave (comes_after k (stage new)) (length io)) is does)
-    (subst (λ k. (images : ImageTable) → PieceMatchesSome v (λ blocks io. m.piece v images s blocks (caller call.work) (stage call.work) (answer_seen answer) io) u gave (comes_after k (stage new)) io) is some)
+    ((all : List Note) → mid ≡ first_notes all → kept_new ≡ first_notes (all ++ after_note call.number (comes_after n (stage_of new)))) →
+    PieceDone m v s u f.work.caller (call_in_place f) (option_map call_in_place left) answer kept kept_new (disk_seen known plan faults) (disk_seen told_new plan_new faults_new)
+flight_done m v s u call f new left answer kept mid kept_new known told_new plan plan_new faults faults_new io gave next n same is does some made left_is first second =
+    subst (λ (h : InFlight). PieceDone m v s u h.work.caller (call_in_place h) (option_map call_in_place left) answer kept kept_new (disk_seen known plan faults) (disk_seen told_new plan_new faults_new)) same
+    (piece_done m v s u call.work.caller (call_in_place call) (option_map call_in_place left) answer kept mid kept_new known told_new plan plan_new faults faults_new io gave (comes_after n (stage_of new))
+    (subst (λ k. (images : ImageTable) (blocks : Blocks) (rest : List Bool) → Knows known blocks → PieceMatches (m.piece v images s blocks call.work.caller (stage_of call.work) answer (io ++ rest)) u told_new gave (comes_after k (stage_of new)) (length io)) is does)
+    (subst (λ k. (images : ImageTable) → PieceMatchesSome v (λ blocks io. m.piece v images s blocks call.work.caller (stage_of call.work) answer io) u gave (comes_after k (stage_of new)) io) is some)
     made left_is first second)
 
 -- no more notes

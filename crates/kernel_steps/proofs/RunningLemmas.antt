@@ -7,7 +7,6 @@ use Rattle.kernel_model.specs.declared.Note.{Note}
 use Rattle.kernel_model.specs.declared.Note.TheVariants.{Ticked}
 use Rattle.kernel_model.specs.World.{Blocks}
 use Rattle.kernel_model.specs.Objects.{at, Things}
-use Rattle.kernel_model.specs.Meaning.{Stage}
 use Rattle.kernel_model.specs.Kernel.{Entry, new_entry, less_entry}
 use Rattle.kernel_model.specs.Events.{counted}
 use Rattle.graft_calls.specs.declared.Chain.{Chain}
@@ -27,95 +26,95 @@ use Rattle.kernel_steps.proofs.OrderLemmas.{order_joined, less_entries, counted_
 use Rattle.kernel_steps.proofs.CallLemmas.{with_call, calls_changed, chain_of_changed}
 
 -- the kernel in place with these calls and this order
-abbrev pub flying : {C B M W : Type 0} {P : _} → (W → Stage) → Running C B M W P → List (Flight W) → List Entry → Placed
-flying stage x fs es =
-    record (placed_of stage x) {
-      call = λ q. option_map (call_in_place stage) (flight_of fs q).call;
+abbrev pub flying : {C B M : Type 0} {P : _} → Running C B M P → List Flight → List Entry → Placed
+flying x fs es =
+    record (placed_of x) {
+      call = λ q. option_map call_in_place (flight_of fs q).call;
       levels = λ q. map bare (levels_of x.store x.locks (flight_of fs q).chain q);
       order = es;
     }
 
 -- a process's call changes
-flying_changed : {C B M W : Type 0} {P : _} (stage : W → Stage) (x : Running C B M W P) (p : ℕ) (v : Option (InFlight W)) (es : List Entry) →
+flying_changed : {C B M : Type 0} {P : _} (x : Running C B M P) (p : ℕ) (v : Option InFlight) (es : List Entry) →
     p < length x.calls.items →
-    (λ (y : Placed). record y { call = at p (option_map (call_in_place stage) v) y.call; order = es }) (placed_of stage x) ≡ flying stage x (with_call x.calls.items p v) es
-flying_changed stage x p v es h =
-    ap (λ call. record (placed_of stage x) { call = call; order = es }) (sym (calls_changed stage x.calls.items p v h))
-    ∙ ap (λ levels. record (placed_of stage x) { call = λ q. option_map (call_in_place stage) (flight_of (with_call x.calls.items p v) q).call; levels = levels; order = es })
+    (λ (y : Placed). record y { call = at p (option_map call_in_place v) y.call; order = es }) (placed_of x) ≡ flying x (with_call x.calls.items p v) es
+flying_changed x p v es h =
+    ap (λ call. record (placed_of x) { call = call; order = es }) (sym (calls_changed x.calls.items p v h))
+    ∙ ap (λ levels. record (placed_of x) { call = λ q. option_map call_in_place (flight_of (with_call x.calls.items p v) q).call; levels = levels; order = es })
     (fun_ext (λ q. ap (λ (chain : Chain). map bare (levels_of x.store x.locks chain q)) (sym (chain_of_changed x.calls.items p v h q))))
 
 -- a call began
-pub call_begun : {C B M W : Type 0} {P : _} (stage : W → Stage) (x : Running C B M W P) (p : ℕ) (f : InFlight W) (fs : List (Flight W)) (w : Waiting) (ws : List Waiting) →
+pub call_begun : {C B M : Type 0} {P : _} (x : Running C B M P) (p : ℕ) (f : InFlight) (fs : List Flight) (w : Waiting) (ws : List Waiting) →
     p < length x.calls.items → fs ≡ with_call x.calls.items p (Some f) → w ≡ joined p → ws ≡ x.order ++ w ∷ [] →
     (blocks : Blocks) (notes : List Note) (io : List Bool) →
-    placed_joins p (with_placed_call p (Some (call_in_place stage f)) (run_of (placed_of stage x) blocks notes io)) ≡ run_of (flying stage x fs (order_of ws)) blocks notes io
-call_begun stage x p f fs w ws h fs_is w_is ws_is blocks notes io =
+    placed_joins p (with_placed_call p (Some (call_in_place f)) (run_of (placed_of x) blocks notes io)) ≡ run_of (flying x fs (order_of ws)) blocks notes io
+call_begun x p f fs w ws h fs_is w_is ws_is blocks notes io =
     let es : order_of x.order ++ new_entry p ∷ [] ≡ order_of ws = sym (ap order_of ws_is ∙ order_joined x.order w ∙ ap (λ (u : Waiting). order_of x.order ++ entry_of u ∷ []) w_is) in
     ap (λ y. run_of y blocks notes io)
-    (flying_changed stage x p (Some f) (order_of x.order ++ new_entry p ∷ []) h ∙ ap (λ gs. flying stage x gs (order_of x.order ++ new_entry p ∷ [])) (sym fs_is)
-    ∙ ap (flying stage x fs) es)
+    (flying_changed x p (Some f) (order_of x.order ++ new_entry p ∷ []) h ∙ ap (λ gs. flying x gs (order_of x.order ++ new_entry p ∷ [])) (sym fs_is)
+    ∙ ap (flying x fs) es)
 
 -- where a process has no call, none is put there
 none_at : {A : Type 0} (p q : ℕ) (calls : ℕ → Option A) → calls p ≡ None → at p None calls q ≡ calls q
 none_at p q calls none = grind (arith, nat_tests, none)
 
-pub call_kept : {C B M W : Type 0} {P : _} (stage : W → Stage) (x : Running C B M W P) (p : ℕ) (fs : List (Flight W)) →
-    p < length x.calls.items → fs ≡ with_call x.calls.items p None → (placed_of stage x).call p ≡ None →
-    flying stage x fs (order_of x.order) ≡ placed_of stage x
-call_kept stage x p fs h fs_is none =
-    ap (λ gs. flying stage x gs (order_of x.order)) fs_is
-    ∙ sym (flying_changed stage x p None (order_of x.order) h)
-    ∙ ap (λ call. record (placed_of stage x) { call = call }) (fun_ext (λ q. none_at p q (placed_of stage x).call none))
+pub call_kept : {C B M : Type 0} {P : _} (x : Running C B M P) (p : ℕ) (fs : List Flight) →
+    p < length x.calls.items → fs ≡ with_call x.calls.items p None → (placed_of x).call p ≡ None →
+    flying x fs (order_of x.order) ≡ placed_of x
+call_kept x p fs h fs_is none =
+    ap (λ gs. flying x gs (order_of x.order)) fs_is
+    ∙ sym (flying_changed x p None (order_of x.order) h)
+    ∙ ap (λ call. record (placed_of x) { call = call }) (fun_ext (λ q. none_at p q (placed_of x).call none))
 
 -- a number is itself
 self : (p : ℕ) → (p == p) ≡ true
 self p = grind (arith, nat_tests)
 
 -- a call ended
-pub call_ended : {C B M W : Type 0} {P : _} (stage : W → Stage) (x : Running C B M W P) (p : ℕ) (n : Note) (fs : List (Flight W)) (ws : List Waiting) (notes notes_new : List Note) →
+pub call_ended : {C B M : Type 0} {P : _} (x : Running C B M P) (p : ℕ) (n : Note) (fs : List Flight) (ws : List Waiting) (notes notes_new : List Note) →
     p < length x.calls.items → fs ≡ with_call x.calls.items p None → ws ≡ filter (λ (w : Waiting). not (w.process == p)) x.order → notes_new ≡ notes ++ n ∷ [] →
     (blocks : Blocks) (io : List Bool) →
-    placed_requeue p (placed_noted n (with_placed_call p None (run_of (placed_of stage x) blocks notes io))) ≡ run_of (flying stage x fs (order_of ws)) blocks notes_new io
-call_ended stage x p n fs ws notes notes_new h fs_is ws_is notes_is blocks io =
-    let y = placed_of stage x in
+    placed_requeue p (placed_noted n (with_placed_call p None (run_of (placed_of x) blocks notes io))) ≡ run_of (flying x fs (order_of ws)) blocks notes_new io
+call_ended x p n fs ws notes notes_new h fs_is ws_is notes_is blocks io =
+    let y = placed_of x in
     let es : List Entry = less_entry p y.order ++ cond (is_placed_at_piece (at p None y.call p) (y.levels p)) (new_entry p ∷ []) [] in
     let es_is : es ≡ order_of ws =
     ap (λ b. less_entry p y.order ++ cond (is_placed_at_piece (cond b None (y.call p)) (y.levels p)) (new_entry p ∷ []) []) (self p)
     ∙ append-nil (less_entry p y.order) ∙ sym (less_entries p x.order) ∙ ap order_of (sym ws_is) in
     ap (λ z. run_of z blocks (notes ++ n ∷ []) io)
-    (flying_changed stage x p None es h ∙ ap (λ gs. flying stage x gs es) (sym fs_is) ∙ ap (flying stage x fs) es_is)
-    ∙ ap (λ ns. run_of (flying stage x fs (order_of ws)) blocks ns io) (sym notes_is)
+    (flying_changed x p None es h ∙ ap (λ gs. flying x gs es) (sym fs_is) ∙ ap (flying x fs) es_is)
+    ∙ ap (λ ns. run_of (flying x fs (order_of ws)) blocks ns io) (sym notes_is)
 
 -- a tick
-pub ticked_on : {C B M W : Type 0} {P : _} (stage : W → Stage) (x : Running C B M W P) (number clock : ℕ) (ws : List Waiting) (notes notes_new : List Note) →
+pub ticked_on : {C B M : Type 0} {P : _} (x : Running C B M P) (number clock : ℕ) (ws : List Waiting) (notes notes_new : List Note) →
     clock ≡ suc x.clock → counts_within x.clock x.order ≡ true → x.clock < 2 ^ 32 - 1 → ws ≡ map later x.order → notes_new ≡ notes ++ Ticked number clock ∷ [] →
     (blocks : Blocks) (io : List Bool) →
-    placed_ticked number (run_of (placed_of stage x) blocks notes io) ≡ run_of (record (placed_of stage x) { clock = clock; order = order_of ws }) blocks notes_new io
-ticked_on stage x number clock ws notes notes_new clock_is within small ws_is notes_is blocks io =
-    ap (λ n. run_of (record (placed_of stage x) { clock = n; order = counted (order_of x.order) }) blocks (notes ++ Ticked number n ∷ []) io) (sym clock_is)
-    ∙ ap (λ es. run_of (record (placed_of stage x) { clock = clock; order = es }) blocks (notes ++ Ticked number clock ∷ []) io) (sym (ap order_of ws_is ∙ counted_is x.clock x.order within small))
-    ∙ ap (λ ns. run_of (record (placed_of stage x) { clock = clock; order = order_of ws }) blocks ns io) (sym notes_is)
+    placed_ticked number (run_of (placed_of x) blocks notes io) ≡ run_of (record (placed_of x) { clock = clock; order = order_of ws }) blocks notes_new io
+ticked_on x number clock ws notes notes_new clock_is within small ws_is notes_is blocks io =
+    ap (λ n. run_of (record (placed_of x) { clock = n; order = counted (order_of x.order) }) blocks (notes ++ Ticked number n ∷ []) io) (sym clock_is)
+    ∙ ap (λ es. run_of (record (placed_of x) { clock = clock; order = es }) blocks (notes ++ Ticked number clock ∷ []) io) (sym (ap order_of ws_is ∙ counted_is x.clock x.order within small))
+    ∙ ap (λ ns. run_of (record (placed_of x) { clock = clock; order = order_of ws }) blocks ns io) (sym notes_is)
 
 -- each process has a place
-pub within_flights : {W : Type 0} (fs : List (Flight W)) (p : ℕ) → length fs ≡ 16 → p < 16 → p < length fs
+pub within_flights : (fs : List Flight) (p : ℕ) → length fs ≡ 16 → p < 16 → p < length fs
 within_flights fs p n h = omega (arith, n, h)
 
 -- ---- after a step
 
 -- whether the next step is a piece
-pub at_piece_is : {W : Type 0} (stage : W → Stage) (o : Option (InFlight W)) (p : ℕ) (ram : List ℕ) (t : LockTable) (gs : List GraftLevel) (log : List (List Inverse)) (w : Things) → (b : Bool) → (length gs == 0) ≡ b →
-    is_placed_at_piece (option_map (call_in_place stage) o) (map bare (levels_in p ram t gs log w)) ≡ (is_some o && b)
-at_piece_is stage None p ram t gs log w b h = refl
-at_piece_is stage (Some f) p ram t [] log w b h = h
-at_piece_is stage (Some f) p ram t (g ∷ gs) log w b h = grind (arith, nat_tests, h)
+pub at_piece_is : (o : Option InFlight) (p : ℕ) (ram : List ℕ) (t : LockTable) (gs : List GraftLevel) (log : List (List Inverse)) (w : Things) → (b : Bool) → (length gs == 0) ≡ b →
+    is_placed_at_piece (option_map call_in_place o) (map bare (levels_in p ram t gs log w)) ≡ (is_some o && b)
+at_piece_is None p ram t gs log w b h = refl
+at_piece_is (Some f) p ram t [] log w b h = h
+at_piece_is (Some f) p ram t (g ∷ gs) log w b h = grind (arith, nat_tests, h)
 
 -- the call takes its place
-pub requeued : {C B M W : Type 0} {P : _} (stage : W → Stage) (x : Running C B M W P) (p : ℕ) (b : Bool) (ws : List Waiting) →
-    b ≡ is_placed_at_piece ((placed_of stage x).call p) ((placed_of stage x).levels p) → order_of ws ≡ less_entry p (order_of x.order) ++ cond b (new_entry p ∷ []) [] →
+pub requeued : {C B M : Type 0} {P : _} (x : Running C B M P) (p : ℕ) (b : Bool) (ws : List Waiting) →
+    b ≡ is_placed_at_piece ((placed_of x).call p) ((placed_of x).levels p) → order_of ws ≡ less_entry p (order_of x.order) ++ cond b (new_entry p ∷ []) [] →
     (notes : List Note) (blocks : Blocks) (io : List Bool) →
-    placed_requeue p (run_of (placed_of stage x) blocks notes io) ≡ run_of (record (placed_of stage x) { order = order_of ws }) blocks notes io
-requeued stage x p b ws b_is ws_is notes blocks io =
-    ap (λ es. run_of (record (placed_of stage x) { order = es }) blocks notes io)
+    placed_requeue p (run_of (placed_of x) blocks notes io) ≡ run_of (record (placed_of x) { order = order_of ws }) blocks notes io
+requeued x p b ws b_is ws_is notes blocks io =
+    ap (λ es. run_of (record (placed_of x) { order = es }) blocks notes io)
     (ap (λ c. less_entry p (order_of x.order) ++ cond c (new_entry p ∷ []) []) (sym b_is) ∙ sym ws_is)
 
 pub left_order : (p : ℕ) (ws new : List Waiting) (b : Bool) → b ≡ false → new ≡ filter (λ (w : Waiting). not (w.process == p)) ws → order_of new ≡ less_entry p (order_of ws) ++ cond b (new_entry p ∷ []) []

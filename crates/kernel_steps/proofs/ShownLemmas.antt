@@ -11,7 +11,6 @@ use Rattle.kernel_model.specs.declared.WaitRow.{WaitRow}
 use Rattle.kernel_model.specs.Objects.{Things}
 use Rattle.kernel_model.specs.Locks.{LockTable}
 use Rattle.kernel_model.specs.Levels.{Level}
-use Rattle.kernel_model.specs.Meaning.{Stage}
 use Rattle.kernel_model.specs.UndoLog.{undo_log, numbered_log, found_log}
 use Rattle.kernel_model.specs.RawRows.{top_of, rows_of_levels, undo_row}
 use Rattle.kernel_model.specs.Access.{bare_found}
@@ -133,41 +132,41 @@ record_row_is p log rs i owner d rs_is small owner_is =
 -- ---- a running kernel
 
 -- how many levels are shown
-pub levels_many : {C B M W : Type 0} {P : _} (stage : W → Stage) (x : Running C B M W P) (p : ℕ) → length (placed_level_rows (placed_of stage x) p) ≡ length (chain_of x p).levels
-levels_many stage x p =
+pub levels_many : {C B M : Type 0} {P : _} (x : Running C B M P) (p : ℕ) → length (placed_level_rows (placed_of x) p) ≡ length (chain_of x p).levels
+levels_many x p =
     let ls = levels_of x.store x.locks (chain_of x p) p in
-    ap (λ ks. length (reverse (rows_of_levels p ks))) (levels_in_place stage x p)
+    ap (λ ks. length (reverse (rows_of_levels p ks))) (levels_in_place x p)
     ∙ length-reverse (rows_of_levels p ls) ∙ level_rows_many p ls
     ∙ as_many p x.store.ram (held x.locks) (chain_of x p).levels (chain_of x p).undo (objects_of x.store).things
 
 -- the rows of its records
-pub records_in_place : {C B M W : Type 0} {P : _} (stage : W → Stage) (caller : W → ℕ) (x : Running C B M W P) (p : ℕ) → p < 16 → IsRunning caller x →
-    placed_undo_rows (placed_of stage x) p ≡ map (undo_row p) (numbered_log (found_log (chain_of x p).undo))
-records_in_place stage caller x p small r =
-    ap (λ ks. map (undo_row p) (numbered_log (undo_log ks))) (levels_in_place stage x p)
+pub records_in_place : {C B M : Type 0} {P : _} (x : Running C B M P) (p : ℕ) → p < 16 → IsRunning x →
+    placed_undo_rows (placed_of x) p ≡ map (undo_row p) (numbered_log (found_log (chain_of x p).undo))
+records_in_place x p small r =
+    ap (λ ks. map (undo_row p) (numbered_log (undo_log ks))) (levels_in_place x p)
     ∙ ap (λ l. map (undo_row p) (numbered_log l)) (log_is p x.store.ram (held x.locks) (chain_of x p).levels (chain_of x p).undo (objects_of x.store).things (r.placed p small).as_many)
 
 -- the rows of its levels
-pub level_rows_in_place : {C B M W : Type 0} {P : _} (stage : W → Stage) (x : Running C B M W P) (p : ℕ) →
-    placed_level_rows (placed_of stage x) p ≡ reverse (rows_of_levels p (levels_of x.store x.locks (chain_of x p) p))
-level_rows_in_place stage x p = ap (λ ks. reverse (rows_of_levels p ks)) (levels_in_place stage x p)
+pub level_rows_in_place : {C B M : Type 0} {P : _} (x : Running C B M P) (p : ℕ) →
+    placed_level_rows (placed_of x) p ≡ reverse (rows_of_levels p (levels_of x.store x.locks (chain_of x p) p))
+level_rows_in_place x p = ap (λ ks. reverse (rows_of_levels p ks)) (levels_in_place x p)
 
 -- how many records are shown
-pub records_many : {C B M W : Type 0} {P : _} (stage : W → Stage) (caller : W → ℕ) (x : Running C B M W P) (p : ℕ) → p < 16 → IsRunning caller x →
-    length (placed_undo_rows (placed_of stage x) p) ≡ length (numbered_log (chain_of x p).undo)
-records_many stage caller x p small r = ap length (records_in_place stage caller x p small r) ∙ ap length (rows_of_inverses p (chain_of x p).undo) ∙ length-map (numbered_log (chain_of x p).undo) (inverse_row p)
+pub records_many : {C B M : Type 0} {P : _} (x : Running C B M P) (p : ℕ) → p < 16 → IsRunning x →
+    length (placed_undo_rows (placed_of x) p) ≡ length (numbered_log (chain_of x p).undo)
+records_many x p small r = ap length (records_in_place x p small r) ∙ ap length (rows_of_inverses p (chain_of x p).undo) ∙ length-map (numbered_log (chain_of x p).undo) (inverse_row p)
 
 -- as many as there are records
 pub as_many_records : (log : List (List Inverse)) → length (records_of log) ≡ length (numbered_log log)
 as_many_records log = length-map (reverse (numbered_log log)) (λ r. r.1) ∙ length-reverse (numbered_log log)
 
 -- the row of a call
-pub call_row_is : {C B M W : Type 0} {P : _} (stage : W → Stage) (x : Running C B M W P) (p : ℕ) (f : InFlight W) (waits : Option WaitRow) (top : Option TopRow) →
-    (flight_of x.calls.items p).call ≡ Some f → waits ≡ placed_wait_row (placed_of stage x) p → top ≡ top_of (levels_of x.store x.locks (chain_of x p) p) →
-    Some (RawRow.Call p f.number waits top) ≡ placed_call_row (placed_of stage x) p
-call_row_is {W = W} stage x p f waits top is waits_is innermost_is =
-    let y = placed_of stage x in
+pub call_row_is : {C B M : Type 0} {P : _} (x : Running C B M P) (p : ℕ) (f : InFlight) (waits : Option WaitRow) (top : Option TopRow) →
+    (flight_of x.calls.items p).call ≡ Some f → waits ≡ placed_wait_row (placed_of x) p → top ≡ top_of (levels_of x.store x.locks (chain_of x p) p) →
+    Some (RawRow.Call p f.number waits top) ≡ placed_call_row (placed_of x) p
+call_row_is x p f waits top is waits_is innermost_is =
+    let y = placed_of x in
     let row : PlacedCall → RawRow = λ c. RawRow.Call p c.number (placed_wait_row y p) (top_of (placed_levels y p)) in
     ap (λ (o : Option WaitRow). Some (RawRow.Call p f.number o top)) waits_is
-    ∙ ap (λ (o : Option TopRow). Some (RawRow.Call p f.number (placed_wait_row y p) o)) (innermost_is ∙ ap top_of (sym (levels_in_place stage x p)))
-    ∙ sym (ap (λ (o : Option (InFlight W)). option_map row (option_map (call_in_place stage) o)) is)
+    ∙ ap (λ (o : Option TopRow). Some (RawRow.Call p f.number (placed_wait_row y p) o)) (innermost_is ∙ ap top_of (sym (levels_in_place x p)))
+    ∙ sym (ap (λ (o : Option InFlight). option_map row (option_map call_in_place o)) is)

@@ -16,13 +16,13 @@ use Rattle.kernel_steps.specs.Owned.{AreOwned}
 use Rattle.kernel_steps.specs.Orders.{counts_within, are_processes, are_once, numbers_of}
 
 -- each process has nothing in flight
-pub none_of_sixteen : {W : Type 0} (fs : List (Flight W)) (n p : ℕ) → fs ≡ replicate n no_flight → flight_of fs p ≡ no_flight
+pub none_of_sixteen : (fs : List Flight) (n p : ℕ) → fs ≡ replicate n no_flight → flight_of fs p ≡ no_flight
 none_of_sixteen fs n p is = grind (arith, common_steps, is)
 
-pub just_begun : {C B M W : Type 0} {P : _} (caller : W → ℕ) (x : Running C B M W P) →
-    x.calls.items ≡ replicate 16 no_flight → held x.locks ≡ no_locks → x.order ≡ [] → ImagesAreLoaded (table_of x.images) (objects_of x.store).accounts → IsRunning caller x
-just_begun {W = W} caller x calls free order loaded =
-    let none : (p : ℕ) → chain_of x p ≡ record { levels = []; undo = [] } = λ p. ap (λ (f : Flight W). f.chain) (none_of_sixteen x.calls.items 16 p calls) in
+pub just_begun : {C B M : Type 0} {P : _} (x : Running C B M P) →
+    x.calls.items ≡ replicate 16 no_flight → held x.locks ≡ no_locks → x.order ≡ [] → ImagesAreLoaded (table_of x.images) (objects_of x.store).accounts → IsRunning x
+just_begun x calls free order loaded =
+    let none : (p : ℕ) → chain_of x p ≡ record { levels = []; undo = [] } = λ p. ap (λ (f : Flight). f.chain) (none_of_sixteen x.calls.items 16 p calls) in
     record {
       sixteen = grind (arith, common_steps, calls);
       callers = λ p f is. grind (arith, is, none_of_sixteen x.calls.items 16 p calls);

@@ -10,7 +10,7 @@ use Rattle.kernel_model.specs.declared.Note.{Note}
 use Rattle.kernel_model.specs.declared.Note.TheVariants.{Dropped}
 use Rattle.kernel_model.specs.World.{Blocks}
 use Rattle.kernel_model.specs.Objects.{Things, at}
-use Rattle.kernel_model.specs.Meaning.{Meaning, Stage, Piece}
+use Rattle.kernel_model.specs.Meaning.{Meaning, Answer, Piece}
 use Rattle.kernel_model.specs.Levels.{Level, Config, Outcome}
 use Rattle.kernel_model.specs.Locks.{LockTable}
 use Rattle.call_pieces.specs.Works.{answer_seen}
@@ -22,9 +22,9 @@ use Rattle.graft_loader.specs.Slots.{table_of}
 use Rattle.graft_calls.specs.declared.GraftLevel.{GraftLevel}
 use Rattle.graft_calls.specs.declared.Chain.{Chain}
 use Rattle.graft_calls.specs.Calls.{IsPlaced, AreInside}
-use Rattle.graft_calls.specs.Chains.{levels_in, outer, put_back}
+use Rattle.graft_calls.specs.Chains.{levels_in, outer, put_back, HasAnswer}
 use Rattle.placed_laws.specs.Owners.{AreOwn, AreOfOwner}
-use Rattle.placed_laws.specs.Placed.{PlacedCall, PlacedLevel, PlacedRun, bare}
+use Rattle.placed_laws.specs.Placed.{PlacedCall, PlacedLevel, PlacedRun, bare, placed_levels}
 use Rattle.placed_laws.specs.PlacedSteps.{placed_finish, placed_finish_on, placed_noted, placed_after_outcome, placed_outcome, with_config}
 use Rattle.kernel_steps.specs.declared.running.InFlight.{InFlight}
 use Rattle.kernel_steps.specs.declared.running.Running.{Running}
@@ -46,37 +46,37 @@ no_records [] h = refl
 no_records (is ∷ log) h = absurd (omega (arith, h))
 
 -- a chain without levels has no records
-pub none_in : {C B M W : Type 0} {P : _} (x : Running C B M W P) (p : ℕ) → IsPlaced x.store x.locks p (chain_of x p).levels (chain_of x p).undo → (chain_of x p).levels ≡ [] → chain_of x p ≡ no_chain
+pub none_in : {C B M : Type 0} {P : _} (x : Running C B M P) (p : ℕ) → IsPlaced x.store x.locks p (chain_of x p).levels (chain_of x p).undo → (chain_of x p).levels ≡ [] → chain_of x p ≡ no_chain
 none_in x p placed none =
     ap (λ gs. record { levels = gs; undo = (chain_of x p).undo }) none
     ∙ ap (λ log. record { levels = []; undo = log }) (no_records (chain_of x p).undo (placed.as_many ∙ ap length none))
 
 -- the call of another process
-other_call : {W : Type 0} (v w : Option (InFlight W)) (p q : ℕ) → q ≢ p → cond (q == p) v w ≡ w
+other_call : (v w : Option InFlight) (p q : ℕ) → q ≢ p → cond (q == p) v w ≡ w
 other_call v w p q other = grind (arith, nat_tests, other)
 
-own_call : {W : Type 0} (v w : Option (InFlight W)) (p : ℕ) → cond (p == p) v w ≡ v
+own_call : (v w : Option InFlight) (p : ℕ) → cond (p == p) v w ≡ v
 own_call v w p = grind (arith, nat_tests)
 
-pub finish_done : {C B M W : Type 0} {P : _} (m : Meaning) (stage : W → Stage) (caller : W → ℕ) (x y : Running C B M W P) (p : ℕ) (c : PlacedCall) (f : InFlight W) (v : Option (InFlight W)) (answer : Option (List ℕ)) (kept kept_new : List Note) (d e : DiskSeen) →
-    StepsAlone caller x p → (chain_of x p).levels ≡ [] → p < 16 → (flight_of x.calls.items p).call ≡ Some f → call_in_place stage f ≡ c →
+pub finish_done : {C B M : Type 0} {P : _} (m : Meaning) (x y : Running C B M P) (p : ℕ) (c : PlacedCall) (f : InFlight) (v : Option InFlight) (answer : Option Answer) (kept kept_new : List Note) (d e : DiskSeen) →
+    StepsAlone x p → (chain_of x p).levels ≡ [] → p < 16 → (flight_of x.calls.items p).call ≡ Some f → call_in_place f ≡ c →
     y.calls.items ≡ with_call x.calls.items p v → y.locks ≡ x.locks → y.images ≡ x.images → y.clock ≡ x.clock → y.order ≡ x.order →
-    world_of_store y.store ≡ world_of_store x.store → SegmentsStay x.store.ram y.store.ram → ((g : InFlight W) → v ≡ Some g → caller g.work ≡ caller f.work) →
-    PieceDone m (world_of_store x.store) (objects_of x.store) (objects_of y.store) (caller f.work) (call_in_place stage f) (option_map (call_in_place stage) v) answer kept kept_new d e →
-    StepDone stage caller (finishes m p c answer) x y p kept kept_new d e
-finish_done {W = W} m stage caller x y p c f v answer kept kept_new d e alone none small is c_is calls locks images clock order world memory caller_is done =
+    world_of_store y.store ≡ world_of_store x.store → SegmentsStay x.store.ram y.store.ram → ((g : InFlight) → v ≡ Some g → g.work.caller ≡ f.work.caller) →
+    PieceDone m (world_of_store x.store) (objects_of x.store) (objects_of y.store) f.work.caller (call_in_place f) (option_map call_in_place v) answer kept kept_new d e →
+    StepDone (finishes m p c answer) x y p kept kept_new d e
+finish_done m x y p c f v answer kept kept_new d e alone none small is c_is calls locks images clock order world memory caller_is done =
     let within : p < length x.calls.items = omega (arith, alone.sixteen, small) in
     let nothing = none_in x p alone.placed none in
-    let here = placed_finished stage x y p v within nothing calls locks memory world images clock order in
-    let whole : PieceDone m (world_of_store x.store) (objects_of x.store) (objects_of y.store) p c (option_map (call_in_place stage) v) answer kept kept_new d e =
-    subst (λ b. PieceDone m (world_of_store x.store) (objects_of x.store) (objects_of y.store) p b (option_map (call_in_place stage) v) answer kept kept_new d e) c_is
-    (subst (λ q. PieceDone m (world_of_store x.store) (objects_of x.store) (objects_of y.store) q (call_in_place stage f) (option_map (call_in_place stage) v) answer kept kept_new d e) (alone.caller_is f is) done) in
+    let here = placed_finished x y p v within nothing calls locks memory world images clock order in
+    let whole : PieceDone m (world_of_store x.store) (objects_of x.store) (objects_of y.store) p c (option_map call_in_place v) answer kept kept_new d e =
+    subst (λ b. PieceDone m (world_of_store x.store) (objects_of x.store) (objects_of y.store) p b (option_map call_in_place v) answer kept kept_new d e) c_is
+    (subst (λ q. PieceDone m (world_of_store x.store) (objects_of x.store) (objects_of y.store) q (call_in_place f) (option_map call_in_place v) answer kept kept_new d e) (alone.caller_is f is) done) in
     let chains : (q : ℕ) → chain_of y q ≡ chain_of x q = λ q. ap (λ fs. (flight_of fs q).chain) calls ∙ chain_of_changed x.calls.items p v within q in
     let own : chain_of y p ≡ no_chain = chains p ∙ nothing in
     let call_then : (q : ℕ) → (flight_of y.calls.items q).call ≡ at p v (λ r. (flight_of x.calls.items r).call) q = λ q. ap (λ fs. (flight_of fs q).call) calls ∙ call_of_changed x.calls.items p v within q in
     record {
-      refines = finish_did m (placed_of stage x) (placed_of stage y) p c (objects_of y.store) (option_map (call_in_place stage) v) answer kept kept_new d e here whole;
-      reaches = finish_reaches m (placed_of stage x) (placed_of stage y) p c (objects_of y.store) (option_map (call_in_place stage) v) answer kept kept_new d e here whole;
+      refines = finish_did m (placed_of x) (placed_of y) p c (objects_of y.store) (option_map call_in_place v) answer kept kept_new d e here whole;
+      reaches = finish_reaches m (placed_of x) (placed_of y) p c (objects_of y.store) (option_map call_in_place v) answer kept kept_new d e here whole;
       stepped = record {
         world = world;
         sixteen = still_sixteen x.calls.items p v y.calls.items calls;
@@ -104,8 +104,8 @@ finish_done {W = W} m stage caller x y p c f v answer kept kept_new d e alone no
 -- ---- what was said
 
 -- nothing is left to do
-stepped_same : {C B M W : Type 0} {P : _} (caller : W → ℕ) (x : Running C B M W P) (p : ℕ) → StepsAlone caller x p → Stepped caller x x p
-stepped_same caller x p alone =
+stepped_same : {C B M : Type 0} {P : _} (x : Running C B M P) (p : ℕ) → StepsAlone x p → Stepped x x p
+stepped_same x p alone =
     record {
       world = refl;
       sixteen = refl;
@@ -120,27 +120,27 @@ stepped_same caller x p alone =
       order = refl;
     }
 
-pub nothing_done : {C B M W : Type 0} {P : _} (stage : W → Stage) (caller : W → ℕ) (x : Running C B M W P) (p : ℕ) (kept : List Note) (d : DiskSeen) → StepsAlone caller x p →
-    StepDone stage caller (λ r. r) x x p kept kept d d
-nothing_done stage caller x p kept d alone =
+pub nothing_done : {C B M : Type 0} {P : _} (x : Running C B M P) (p : ℕ) (kept : List Note) (d : DiskSeen) → StepsAlone x p →
+    StepDone (λ r. r) x x p kept kept d d
+nothing_done x p kept d alone =
     record {
-      refines = did_nothing (placed_of stage x) kept d;
-      reaches = reaches_purely (λ r. r) (placed_of stage x) (placed_of stage x) [] some_blocks (blocks_are_whole (world_of_store x.store)) (λ blocks notes io. nil_right blocks notes io);
-      stepped = stepped_same caller x p alone;
+      refines = did_nothing (placed_of x) kept d;
+      reaches = reaches_purely (λ r. r) (placed_of x) (placed_of x) [] some_blocks (blocks_are_whole (world_of_store x.store)) (λ blocks notes io. nil_right blocks notes io);
+      stepped = stepped_same x p alone;
       own = alone.own;
     }
   where
-    nil_right : (blocks : Blocks) (notes : List Note) (io : List Bool) → run_of (placed_of stage x) blocks notes io ≡ run_of (placed_of stage x) blocks (notes ++ []) io
-    nil_right blocks notes io = ap (λ ns. run_of (placed_of stage x) blocks ns io) (sym (append-nil notes))
+    nil_right : (blocks : Blocks) (notes : List Note) (io : List Bool) → run_of (placed_of x) blocks notes io ≡ run_of (placed_of x) blocks (notes ++ []) io
+    nil_right blocks notes io = ap (λ ns. run_of (placed_of x) blocks ns io) (sym (append-nil notes))
 
 -- a note, and then this
-pub noted_done : {C B M W : Type 0} {P : _} (stage : W → Stage) (caller : W → ℕ) (g : PlacedRun → PlacedRun) (x y : Running C B M W P) (p : ℕ) (note : Note) (kept mid kept_new : List Note) (d e : DiskSeen) →
-    ((all : List Note) → kept ≡ first_notes all → mid ≡ first_notes (all ++ note ∷ [])) → StepDone stage caller g x y p mid kept_new d e → StepDone stage caller (λ r. g (placed_noted note r)) x y p kept kept_new d e
-noted_done stage caller g x y p note kept mid kept_new d e adds h =
-    let o = placed_of stage x in
+pub noted_done : {C B M : Type 0} {P : _} (g : PlacedRun → PlacedRun) (x y : Running C B M P) (p : ℕ) (note : Note) (kept mid kept_new : List Note) (d e : DiskSeen) →
+    ((all : List Note) → kept ≡ first_notes all → mid ≡ first_notes (all ++ note ∷ [])) → StepDone g x y p mid kept_new d e → StepDone (λ r. g (placed_noted note r)) x y p kept kept_new d e
+noted_done g x y p note kept mid kept_new d e adds h =
+    let o = placed_of x in
     record {
-      refines = did_then (placed_noted note) g o o (placed_of stage y) kept mid kept_new d d e (did_purely (placed_noted note) o o kept mid (note ∷ []) d (λ blocks notes io. refl) adds) h.refines;
-      reaches = reaches_behind (placed_noted note) g o o (placed_of stage y) (note ∷ []) refl (λ blocks notes io. refl) h.reaches;
+      refines = did_then (placed_noted note) g o o (placed_of y) kept mid kept_new d d e (did_purely (placed_noted note) o o kept mid (note ∷ []) d (λ blocks notes io. refl) adds) h.refines;
+      reaches = reaches_behind (placed_noted note) g o o (placed_of y) (note ∷ []) refl (λ blocks notes io. refl) h.reaches;
       stepped = h.stepped;
       own = h.own;
     }
@@ -163,20 +163,23 @@ pub same_place : {A : Type 0} (p : ℕ) (a : A) (f : ℕ → A) → at p a f p �
 same_place p a f = elim (p == p) as (λ b. b ≡ true → cond b a (f p) ≡ a) [ true ↦ λ h. refl | false ↦ λ h. grind (arith, h) ] (grind (arith, nat_tests))
 
 -- the piece finishes on the config as it does behind it
-finish_behind : (m : Meaning) (p : ℕ) (c : PlacedCall) (f : Config) (answer : Option (List ℕ)) (r : PlacedRun) → placed_finish_on m p c f.now (answer_seen answer) r ≡ finishes m p c answer (with_config p f r)
+finish_behind : (m : Meaning) (p : ℕ) (c : PlacedCall) (f : Config) (answer : Option Answer) (r : PlacedRun) → placed_finish_on m p c f.now answer r ≡ finishes m p c answer (with_config p f r)
 finish_behind m p c f answer r =
-    let q : Piece = m.piece r.placed.world r.placed.images f.now r.blocks p c.stage (answer_seen answer) r.io in
+    let q : Piece = m.piece r.placed.world r.placed.images f.now r.blocks p c.stage answer r.io in
     ap (λ ls. record (placed_finish p c q r) { placed = record ((placed_finish p c q r).placed) { levels = ls } }) (sym (twice p [] (map bare f.levels) r.placed.levels))
 
-outcome_by : (m : Meaning) (p : ℕ) (c : PlacedCall) (f : Config) (r : PlacedRun) (s : Micro) → EndsAs s f.levels → placed_after_outcome m p c f s r ≡ after_said m p c s (with_config p f r)
-outcome_by m p c f r Micro.Went ends = refl
-outcome_by m p c f r (Micro.Blocked object holder by_user) ends = absurd ends
-outcome_by m p c f r (Micro.Completed answer) ends = finish_behind m p c f (Some answer) r
-outcome_by m p c f r (Micro.Dropped zero q pt cause) ends = finish_behind m p c f None (placed_noted (Dropped c.number q pt cause) r)
-outcome_by m p c f r (Micro.Dropped (suc d) q pt cause) ends = refl
+outcome_by : (m : Meaning) (ram : List ℕ) (p : ℕ) (c : PlacedCall) (f : Config) (r : PlacedRun) (s : Micro) → EndsAs s f.levels → HasAnswer s ram p (placed_levels r.placed p) →
+    placed_after_outcome m p c f s r ≡ after_said m ram p c s (with_config p f r)
+outcome_by m ram p c f r Micro.Went ends has = refl
+outcome_by m ram p c f r (Micro.Blocked object holder by_user) ends has = absurd ends
+outcome_by m ram p c f r (Micro.Completed answer) ends has =
+    ap (λ (a : Answer). placed_finish_on m p c f.now (Some a) r) (has answer refl) ∙ finish_behind m p c f (answer_seen ram p (Some answer)) r
+outcome_by m ram p c f r (Micro.Dropped zero q pt cause) ends has = finish_behind m p c f None (placed_noted (Dropped c.number q pt cause) r)
+outcome_by m ram p c f r (Micro.Dropped (suc d) q pt cause) ends has = refl
 
-pub outcome_behind : (m : Meaning) (p : ℕ) (c : PlacedCall) (o : Outcome) (r : PlacedRun) → EndsAs o.said o.config.levels → placed_outcome m p c o r ≡ after_said m p c o.said (with_config p o.config r)
-outcome_behind m p c o r ends = outcome_by m p c o.config r o.said ends
+pub outcome_behind : (m : Meaning) (ram : List ℕ) (p : ℕ) (c : PlacedCall) (o : Outcome) (r : PlacedRun) → EndsAs o.said o.config.levels → HasAnswer o.said ram p (placed_levels r.placed p) →
+    placed_outcome m p c o r ≡ after_said m ram p c o.said (with_config p o.config r)
+outcome_behind m ram p c o r ends has = outcome_by m ram p c o.config r o.said ends has
 
 -- with an answer the call has no level
 pub ends_bare : (s : Micro) (ls : List Level) (answer : Option (List ℕ)) → EndsAs s ls → answer_said s ≡ Some answer → ls ≡ []
@@ -197,7 +200,7 @@ no_levels p ram t [] log w h = refl
 no_levels p ram t (g ∷ gs) log w h = grind (arith, h)
 
 -- a chain whose levels are none has none
-pub none_of_bare : {C B M W : Type 0} {P : _} (x : Running C B M W P) (p : ℕ) → levels_at x p ≡ [] → (chain_of x p).levels ≡ []
+pub none_of_bare : {C B M : Type 0} {P : _} (x : Running C B M P) (p : ℕ) → levels_at x p ≡ [] → (chain_of x p).levels ≡ []
 none_of_bare x p h = no_levels p x.store.ram (held x.locks) (chain_of x p).levels (chain_of x p).undo (objects_of x.store).things h
 
 -- what two equal lists begin with
@@ -215,7 +218,7 @@ owned_by q p ram t (g ∷ gs) log w (l ∷ ls) h own =
       owned_by q p ram t gs (outer log) (put_back (innermost log) w) ls both.1 own.2,
     )
 
-pub of_one : {C B M W : Type 0} {P : _} (x : Running C B M W P) (p q : ℕ) (ls : List Level) → levels_at x p ≡ map bare ls → AreOfOwner q ls → IsOfOne (chain_of x p)
+pub of_one : {C B M : Type 0} {P : _} (x : Running C B M P) (p q : ℕ) (ls : List Level) → levels_at x p ≡ map bare ls → AreOfOwner q ls → IsOfOne (chain_of x p)
 of_one x p q ls h own =
     record { owner = q; own = owned_by q p x.store.ram (held x.locks) (chain_of x p).levels (chain_of x p).undo (objects_of x.store).things ls h own }
 
@@ -227,35 +230,35 @@ owner_of q p ram t (g ∷ gs) log w own = (own.0, own.1, owner_of q p ram t gs (
 -- ---- a move
 
 -- what must hold of p's call for the rest of its step
-pub alone_at : {C B M W : Type 0} {P : _} (caller : W → ℕ) (x : Running C B M W P) (p : ℕ) → IsRunning caller x → p < 16 → StepsAlone caller x p
-alone_at caller x p r small =
+pub alone_at : {C B M : Type 0} {P : _} (x : Running C B M P) (p : ℕ) → IsRunning x → p < 16 → StepsAlone x p
+alone_at x p r small =
     record {
       sixteen = r.sixteen;
-      few = λ q. few_levels caller x r q (nat_lt q 16) refl;
+      few = λ q. few_levels x r q (nat_lt q 16) refl;
       caller_is = λ f is. r.callers p f is;
       placed = r.placed p small;
       inside = r.inside p small;
       own = record { owner = r.owner p; own = r.own p small };
     }
 
-few_moved : {C B M W : Type 0} {P : _} (caller : W → ℕ) (x y : Running C B M W P) (p : ℕ) → IsRunning caller x → Moved x y p → (q : ℕ) (b : Bool) → (q == p) ≡ b → length (chain_of y q).levels ≤ 4
-few_moved caller x y p r moved q true h = subst (λ k. length (chain_of y k).levels ≤ 4) (sym (eqb-true q p h)) moved.placed.few
-few_moved caller x y p r moved q false h =
-    subst (λ (c : Chain). length c.levels ≤ 4) (sym (moved.chains q (grind (arith, nat_tests, h)))) (few_levels caller x r q (nat_lt q 16) refl)
+few_moved : {C B M : Type 0} {P : _} (x y : Running C B M P) (p : ℕ) → IsRunning x → Moved x y p → (q : ℕ) (b : Bool) → (q == p) ≡ b → length (chain_of y q).levels ≤ 4
+few_moved x y p r moved q true h = subst (λ k. length (chain_of y k).levels ≤ 4) (sym (eqb-true q p h)) moved.placed.few
+few_moved x y p r moved q false h =
+    subst (λ (c : Chain). length c.levels ≤ 4) (sym (moved.chains q (grind (arith, nat_tests, h)))) (few_levels x r q (nat_lt q 16) refl)
 
-pub alone_moved : {C B M W : Type 0} {P : _} (caller : W → ℕ) (x y : Running C B M W P) (p : ℕ) → IsRunning caller x → p < 16 → Moved x y p → IsOfOne (chain_of y p) → StepsAlone caller y p
-alone_moved caller x y p r small moved own =
+pub alone_moved : {C B M : Type 0} {P : _} (x y : Running C B M P) (p : ℕ) → IsRunning x → p < 16 → Moved x y p → IsOfOne (chain_of y p) → StepsAlone y p
+alone_moved x y p r small moved own =
     record {
       sixteen = moved.sixteen ∙ r.sixteen;
-      few = λ q. few_moved caller x y p r moved q (q == p) refl;
+      few = λ q. few_moved x y p r moved q (q == p) refl;
       caller_is = λ f is. r.callers p f (sym (moved.calls p) ∙ is);
       placed = moved.placed;
       inside = moved.inside;
       own = own;
     }
 
-stepped_moved : {C B M W : Type 0} {P : _} (caller : W → ℕ) (x y z : Running C B M W P) (p : ℕ) → Moved x y p → Stepped caller y z p → Stepped caller x z p
-stepped_moved caller x y z p moved step =
+stepped_moved : {C B M : Type 0} {P : _} (x y z : Running C B M P) (p : ℕ) → Moved x y p → Stepped y z p → Stepped x z p
+stepped_moved x y z p moved step =
     record {
       world = step.world ∙ moved.elsewhere.world;
       sixteen = step.sixteen ∙ moved.sixteen;
@@ -271,61 +274,61 @@ stepped_moved caller x y z p moved step =
     }
 
 -- a move to a config, and then this
-pub moved_done : {C B M W : Type 0} {P : _} (stage : W → Stage) (caller : W → ℕ) (f : Config) (g : PlacedRun → PlacedRun) (x y z : Running C B M W P) (p : ℕ) (kept kept_new : List Note) (d e : DiskSeen) →
-    Moved x y p → placed_of stage y ≡ come_to p f (placed_of stage x) → StepDone stage caller g y z p kept kept_new d e → StepDone stage caller (λ r. g (with_config p f r)) x z p kept kept_new d e
-moved_done stage caller f g x y z p kept kept_new d e moved come h =
-    let o = placed_of stage x in
-    let same : (blocks : Blocks) (notes : List Note) (io : List Bool) → with_config p f (run_of o blocks notes io) ≡ run_of (placed_of stage y) blocks (notes ++ []) io =
-    λ blocks notes io. ap (λ w. run_of w blocks notes io) (sym come) ∙ ap (λ ns. run_of (placed_of stage y) blocks ns io) (sym (append-nil notes)) in
+pub moved_done : {C B M : Type 0} {P : _} (f : Config) (g : PlacedRun → PlacedRun) (x y z : Running C B M P) (p : ℕ) (kept kept_new : List Note) (d e : DiskSeen) →
+    Moved x y p → placed_of y ≡ come_to p f (placed_of x) → StepDone g y z p kept kept_new d e → StepDone (λ r. g (with_config p f r)) x z p kept kept_new d e
+moved_done f g x y z p kept kept_new d e moved come h =
+    let o = placed_of x in
+    let same : (blocks : Blocks) (notes : List Note) (io : List Bool) → with_config p f (run_of o blocks notes io) ≡ run_of (placed_of y) blocks (notes ++ []) io =
+    λ blocks notes io. ap (λ w. run_of w blocks notes io) (sym come) ∙ ap (λ ns. run_of (placed_of y) blocks ns io) (sym (append-nil notes)) in
     record {
-      refines = did_then (with_config p f) g o (placed_of stage y) (placed_of stage z) kept kept kept_new d d e
-          (did_purely (with_config p f) o (placed_of stage y) kept kept [] d same (λ notes k. k ∙ ap first_notes (sym (append-nil notes)))) h.refines;
-      reaches = reaches_behind (with_config p f) g o (placed_of stage y) (placed_of stage z) [] moved.elsewhere.world same h.reaches;
-      stepped = stepped_moved caller x y z p moved h.stepped;
+      refines = did_then (with_config p f) g o (placed_of y) (placed_of z) kept kept kept_new d d e
+          (did_purely (with_config p f) o (placed_of y) kept kept [] d same (λ notes k. k ∙ ap first_notes (sym (append-nil notes)))) h.refines;
+      reaches = reaches_behind (with_config p f) g o (placed_of y) (placed_of z) [] moved.elsewhere.world same h.reaches;
+      stepped = stepped_moved x y z p moved h.stepped;
       own = h.own;
     }
 
 -- another change that comes to the same from here
-pub done_as : {C B M W : Type 0} {P : _} (stage : W → Stage) (caller : W → ℕ) (f g : PlacedRun → PlacedRun) (x y : Running C B M W P) (p : ℕ) (kept kept_new : List Note) (d e : DiskSeen) →
-    ((blocks : Blocks) (notes : List Note) (io : List Bool) → f (run_of (placed_of stage x) blocks notes io) ≡ g (run_of (placed_of stage x) blocks notes io)) → StepDone stage caller g x y p kept kept_new d e → StepDone stage caller f x y p kept kept_new d e
-done_as stage caller f g x y p kept kept_new d e same h =
+pub done_as : {C B M : Type 0} {P : _} (f g : PlacedRun → PlacedRun) (x y : Running C B M P) (p : ℕ) (kept kept_new : List Note) (d e : DiskSeen) →
+    ((blocks : Blocks) (notes : List Note) (io : List Bool) → f (run_of (placed_of x) blocks notes io) ≡ g (run_of (placed_of x) blocks notes io)) → StepDone g x y p kept kept_new d e → StepDone f x y p kept kept_new d e
+done_as f g x y p kept kept_new d e same h =
     record {
-      refines = did_as f g (placed_of stage x) (placed_of stage y) kept kept_new d e same h.refines;
-      reaches = reaches_as f g (placed_of stage x) (placed_of stage y) same h.reaches;
+      refines = did_as f g (placed_of x) (placed_of y) kept kept_new d e same h.refines;
+      reaches = reaches_as f g (placed_of x) (placed_of y) same h.reaches;
       stepped = h.stepped;
       own = h.own;
     }
 
 -- the call that stands in place is one in flight
-pub record CallThere {W : Type 0} (stage : W → Stage) (o : Option (InFlight W)) (c : PlacedCall) : Type 0 where
-  pub flight : InFlight W
+pub record CallThere (o : Option InFlight) (c : PlacedCall) : Type 0 where
+  pub flight : InFlight
   pub is : o ≡ Some flight
-  pub stands : call_in_place stage flight ≡ c
+  pub stands : call_in_place flight ≡ c
 
-pub call_there : {W : Type 0} (stage : W → Stage) (o : Option (InFlight W)) (c : PlacedCall) → option_map (call_in_place stage) o ≡ Some c → CallThere stage o c
-call_there stage None c h = grind (arith, h)
-call_there stage (Some f) c h = record { flight = f; is = refl; stands = same_one (call_in_place stage f) c h }
+pub call_there : (o : Option InFlight) (c : PlacedCall) → option_map call_in_place o ≡ Some c → CallThere o c
+call_there None c h = grind (arith, h)
+call_there (Some f) c h = record { flight = f; is = refl; stands = same_one (call_in_place f) c h }
   where
     same_one : (a b : PlacedCall) → Some a ≡ Some b → a ≡ b
     same_one a b h = cc
 
 -- no call, or one
-pub no_call : {W : Type 0} (stage : W → Stage) (o : Option (InFlight W)) (c : PlacedCall) → o ≡ None → option_map (call_in_place stage) o ≡ Some c → ⊥
-no_call stage None c e h = grind (arith, h)
-no_call stage (Some f) c e h = grind (arith, e)
+pub no_call : (o : Option InFlight) (c : PlacedCall) → o ≡ None → option_map call_in_place o ≡ Some c → ⊥
+no_call None c e h = grind (arith, h)
+no_call (Some f) c e h = grind (arith, e)
 
 -- ---- the drop of a level
 
-pub drop_noted : {C B M W : Type 0} {P : _} (m : Meaning) (stage : W → Stage) (caller : W → ℕ) (x : Running C B M W P) (p d : ℕ) (c : PlacedCall) (note : Note) (kept mid : List Note) (e : DiskSeen) → 0 < d →
-    ((all : List Note) → kept ≡ first_notes all → mid ≡ first_notes (all ++ note ∷ [])) → StepsAlone caller x p → StepDone stage caller (λ r. after_drop m p c d (placed_noted note r)) x x p kept mid e e
-drop_noted m stage caller x p zero c note kept mid e h adds alone = absurd (omega (arith, h))
-drop_noted m stage caller x p (suc d) c note kept mid e h adds alone =
-    noted_done stage caller (λ r. r) x x p note kept mid mid e e adds (nothing_done stage caller x p mid e alone)
+pub drop_noted : {C B M : Type 0} {P : _} (m : Meaning) (x : Running C B M P) (p d : ℕ) (c : PlacedCall) (note : Note) (kept mid : List Note) (e : DiskSeen) → 0 < d →
+    ((all : List Note) → kept ≡ first_notes all → mid ≡ first_notes (all ++ note ∷ [])) → StepsAlone x p → StepDone (λ r. after_drop m p c d (placed_noted note r)) x x p kept mid e e
+drop_noted m x p zero c note kept mid e h adds alone = absurd (omega (arith, h))
+drop_noted m x p (suc d) c note kept mid e h adds alone =
+    noted_done (λ r. r) x x p note kept mid mid e e adds (nothing_done x p mid e alone)
 
-pub drop_finished : {C B M W : Type 0} {P : _} (m : Meaning) (stage : W → Stage) (caller : W → ℕ) (x y : Running C B M W P) (p d : ℕ) (c : PlacedCall) (note : Note) (kept mid kept_new : List Note) (e l : DiskSeen) → d ≤ 0 →
-    ((all : List Note) → kept ≡ first_notes all → mid ≡ first_notes (all ++ note ∷ [])) → StepDone stage caller (finishes m p c None) x y p mid kept_new e l → StepDone stage caller (λ r. after_drop m p c d (placed_noted note r)) x y p kept kept_new e l
-drop_finished m stage caller x y p zero c note kept mid kept_new e l h adds done = noted_done stage caller (finishes m p c None) x y p note kept mid kept_new e l adds done
-drop_finished m stage caller x y p (suc d) c note kept mid kept_new e l h adds done = absurd (omega (arith, h))
+pub drop_finished : {C B M : Type 0} {P : _} (m : Meaning) (x y : Running C B M P) (p d : ℕ) (c : PlacedCall) (note : Note) (kept mid kept_new : List Note) (e l : DiskSeen) → d ≤ 0 →
+    ((all : List Note) → kept ≡ first_notes all → mid ≡ first_notes (all ++ note ∷ [])) → StepDone (finishes m p c None) x y p mid kept_new e l → StepDone (λ r. after_drop m p c d (placed_noted note r)) x y p kept kept_new e l
+drop_finished m x y p zero c note kept mid kept_new e l h adds done = noted_done (finishes m p c None) x y p note kept mid kept_new e l adds done
+drop_finished m x y p (suc d) c note kept mid kept_new e l h adds done = absurd (omega (arith, h))
 
 -- with level 0 the piece finishes by default
 pub answer_zero : (d : ℕ) → d ≤ 0 → answer_of_drop d ≡ Some None
@@ -333,14 +336,14 @@ answer_zero zero h = refl
 answer_zero (suc d) h = absurd (omega (arith, h))
 
 -- by what was said
-pub said_done : {C B M W : Type 0} {P : _} (m : Meaning) (stage : W → Stage) (caller : W → ℕ) (x y : Running C B M W P) (p : ℕ) (c : PlacedCall) (s t : Micro) (kept kept_new : List Note) (d e : DiskSeen) → s ≡ t →
-    StepDone stage caller (after_said m p c t) x y p kept kept_new d e → StepDone stage caller (after_said m p c s) x y p kept kept_new d e
-said_done m stage caller x y p c s t kept kept_new d e is h = subst (λ u. StepDone stage caller (after_said m p c u) x y p kept kept_new d e) (sym is) h
+pub said_done : {C B M : Type 0} {P : _} (m : Meaning) (ram : List ℕ) (x y : Running C B M P) (p : ℕ) (c : PlacedCall) (s t : Micro) (kept kept_new : List Note) (d e : DiskSeen) → s ≡ t →
+    StepDone (after_said m ram p c t) x y p kept kept_new d e → StepDone (after_said m ram p c s) x y p kept kept_new d e
+said_done m ram x y p c s t kept kept_new d e is h = subst (λ u. StepDone (after_said m ram p c u) x y p kept kept_new d e) (sym is) h
 
 -- the number of a call that stands in place
-pub number_is : {W : Type 0} (stage : W → Stage) (o : Option (InFlight W)) (c : PlacedCall) (n : ℕ) → Some n ≡ option_map (λ (f : InFlight W). f.number) o → option_map (call_in_place stage) o ≡ Some c → n ≡ c.number
-number_is stage None c n h is = grind (arith, h)
-number_is stage (Some f) c n h is = same_one n f.number h ∙ ap number_or (is)
+pub number_is : (o : Option InFlight) (c : PlacedCall) (n : ℕ) → Some n ≡ option_map (λ (f : InFlight). f.number) o → option_map call_in_place o ≡ Some c → n ≡ c.number
+number_is None c n h is = grind (arith, h)
+number_is (Some f) c n h is = same_one n f.number h ∙ ap number_or (is)
   where
     same_one : (a b : ℕ) → Some a ≡ Some b → a ≡ b
     same_one a b e = cc
@@ -354,5 +357,5 @@ same_placed : (a b : PlacedCall) → Some a ≡ Some b → a ≡ b
 same_placed a b h = cc
 
 -- the call in place is that of the one in flight
-pub same_call : {W : Type 0} (stage : W → Stage) (f : InFlight W) (c : PlacedCall) → option_map (call_in_place stage) (Some f) ≡ Some c → call_in_place stage f ≡ c
-same_call stage f c h = same_placed (call_in_place stage f) c h
+pub same_call : (f : InFlight) (c : PlacedCall) → option_map call_in_place (Some f) ≡ Some c → call_in_place f ≡ c
+same_call f c h = same_placed (call_in_place f) c h

@@ -10,7 +10,7 @@ use Rattle.kernel_model.specs.SameObject.{same_object_is}
 use Rattle.kernel_model.specs.Alike.{is_needed}
 use Rattle.kernel_model.specs.GraftStep.{next_needs}
 use Rattle.kernel_model.specs.Locks.{LockTable, Touched}
-use Rattle.kernel_model.specs.Meaning.{Meaning, Stage}
+use Rattle.kernel_model.specs.Meaning.{Meaning}
 use Rattle.lock_table.specs.declared.Holds.{Holds}
 use Rattle.lock_table.specs.Masks.{held}
 use Rattle.kernel_state.specs.Stores.{world_of_store, objects_of}
@@ -59,32 +59,32 @@ module _ (t u : ℕ → Touched) (d : ℕ) (o : Object) where
       too_many n h = omega (arith, h)
 
 -- a running kernel after a step of which the grips before and after are one
-pub keeps_holds : {C B M W : Type 0} {P : _} (m : Meaning) (stage : W → Stage) (caller : W → ℕ) (x y : Running C B M W P) (p : ℕ) (ns : List Need) (before after : HoldSnapshot) →
-    IsRunning caller x → IsRunning caller y → ns ≡ placed_needs m (placed_of stage x) p → length ns ≤ 3 → IsGrip (held x.locks p) ns before → IsGrip (held y.locks p) ns after → before ≡ after →
-    length ((placed_of stage y).levels p) ≡ length ((placed_of stage x).levels p) → KeepsHolds m (placed_of stage x) (placed_of stage y) p
-keeps_holds m stage caller x y p ns before after rx ry is few gx gy same many =
+pub keeps_holds : {C B M : Type 0} {P : _} (m : Meaning) (x y : Running C B M P) (p : ℕ) (ns : List Need) (before after : HoldSnapshot) →
+    IsRunning x → IsRunning y → ns ≡ placed_needs m (placed_of x) p → length ns ≤ 3 → IsGrip (held x.locks p) ns before → IsGrip (held y.locks p) ns after → before ≡ after →
+    length ((placed_of y).levels p) ≡ length ((placed_of x).levels p) → KeepsHolds m (placed_of x) (placed_of y) p
+keeps_holds m x y p ns before after rx ry is few gx gy same many =
     record {
       levels = many;
       holds = λ d o needed.
-          ap (λ t. t p d o) (holds_in_place stage caller y ry)
+          ap (λ t. t p d o) (holds_in_place y ry)
           ∙ same_grip (held x.locks p) (held y.locks p) d o ns before few gx (subst (IsGrip (held y.locks p) ns) (sym same) gy) (ap (is_needed o) is ∙ needed)
-          ∙ sym (ap (λ t. t p d o) (holds_in_place stage caller x rx));
+          ∙ sym (ap (λ t. t p d o) (holds_in_place x rx));
     }
 
 -- ---- what the next instruction needs
 
 -- a call in flight that there is
-flying : {W : Type 0} (stage : W → Stage) (o : Option (InFlight W)) → is_some (option_map (call_in_place stage) o) ≡ true → (f : InFlight W) × (o ≡ Some f)
-flying stage None h = absurd cc
-flying stage (Some f) h = (f, refl)
+flying : (o : Option InFlight) → is_some (option_map call_in_place o) ≡ true → (f : InFlight) × (o ≡ Some f)
+flying None h = absurd cc
+flying (Some f) h = (f, refl)
 
 -- levels in place are levels of the chain
 some_levels_there : (p : ℕ) (ram : List ℕ) (t : LockTable) (gs : List GraftLevel) (log : List (List Inverse)) (w : Things) → has_some (map bare (levels_in p ram t gs log w)) ≡ true → 0 < length gs
 some_levels_there p ram t [] log w h = absurd cc
 some_levels_there p ram t (g ∷ gs) log w h = omega arith
 
-pub needs_there : {C B M W : Type 0} {P : _} (m : Meaning) (stage : W → Stage) (x : Running C B M W P) (p : ℕ) → is_some (call_at stage x p) ≡ true → has_some (levels_at x p) ≡ true →
-    next_needs (world_of_store x.store) (table_of x.images) (objects_of x.store).accounts (levels_of x.store x.locks (chain_of x p) p) ≡ placed_needs m (placed_of stage x) p
-needs_there m stage x p call some =
-    let f = flying stage (flight_of x.calls.items p).call call in
-    graft_needs_are m stage x p f.0 f.1 (some_levels_there p x.store.ram (held x.locks) (chain_of x p).levels (chain_of x p).undo (objects_of x.store).things some)
+pub needs_there : {C B M : Type 0} {P : _} (m : Meaning) (x : Running C B M P) (p : ℕ) → is_some (call_at x p) ≡ true → has_some (levels_at x p) ≡ true →
+    next_needs (world_of_store x.store) (table_of x.images) (objects_of x.store).accounts (levels_of x.store x.locks (chain_of x p) p) ≡ placed_needs m (placed_of x) p
+needs_there m x p call some =
+    let f = flying (flight_of x.calls.items p).call call in
+    graft_needs_are m x p f.0 f.1 (some_levels_there p x.store.ram (held x.locks) (chain_of x p).levels (chain_of x p).undo (objects_of x.store).things some)

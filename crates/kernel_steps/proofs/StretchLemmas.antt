@@ -5,7 +5,7 @@ use Rattle.kernel_model.specs.declared.QueueRow.{QueueRow}
 use Rattle.kernel_model.specs.Events.{in_order}
 use Rattle.kernel_model.specs.Objects.{Things}
 use Rattle.kernel_model.specs.Policies.{lives}
-use Rattle.kernel_model.specs.Meaning.{Meaning, Stage}
+use Rattle.kernel_model.specs.Meaning.{Meaning}
 use Rattle.kernel_model.specs.Levels.{Config}
 use Rattle.kernel_model.specs.Locks.{LockTable}
 use Rattle.lock_table.specs.Masks.{held}
@@ -45,27 +45,27 @@ some_in : (p : ℕ) (ram : List ℕ) (t : LockTable) (gs : List GraftLevel) (log
 some_in p ram t [] log w h = absurd cc
 some_in p ram t (g ∷ gs) log w h = omega arith
 
-pub some_chain : {C B M W : Type 0} {P : _} (x : Running C B M W P) (p : ℕ) → has_some (levels_at x p) ≡ true → 0 < length (chain_of x p).levels
+pub some_chain : {C B M : Type 0} {P : _} (x : Running C B M P) (p : ℕ) → has_some (levels_at x p) ≡ true → 0 < length (chain_of x p).levels
 some_chain x p h = some_in p x.store.ram (held x.locks) (chain_of x p).levels (chain_of x p).undo (objects_of x.store).things h
 
 -- the graft call of p went on, where the chain before was that of p, and so is the one after
-pub gone_by : {C B M W : Type 0} {P : _} (x y : Running C B M W P) (p n : ℕ) (fl : Flight W) (ch : Chain) → fl ≡ flight_of x.calls.items p → chain_of y p ≡ ch →
+pub gone_by : {C B M : Type 0} {P : _} (x y : Running C B M P) (p n : ℕ) (fl : Flight) (ch : Chain) → fl ≡ flight_of x.calls.items p → chain_of y p ≡ ch →
     HasGoneOn (world_of_store x.store) (table_of x.images) n (call_of x.store x.locks fl.chain p) (call_of y.store y.locks ch p) → HasGoneOn (world_of_store x.store) (table_of x.images) n (call_of x.store x.locks (chain_of x p) p) (call_of y.store y.locks (chain_of y p) p)
-gone_by {W = W} x y p n fl ch fl_is own h =
-    subst (λ (l : Flight W). HasGoneOn (world_of_store x.store) (table_of x.images) n (call_of x.store x.locks l.chain p) (call_of y.store y.locks (chain_of y p) p)) fl_is
+gone_by x y p n fl ch fl_is own h =
+    subst (λ (l : Flight). HasGoneOn (world_of_store x.store) (table_of x.images) n (call_of x.store x.locks l.chain p) (call_of y.store y.locks (chain_of y p) p)) fl_is
     (subst (λ (c : Chain). HasGoneOn (world_of_store x.store) (table_of x.images) n (call_of x.store x.locks fl.chain p) (call_of y.store y.locks c p)) (sym own) h)
 
-module _ {C B M W : Type 0} {P : _} (stage : W → Stage) (caller : W → ℕ) (x y : Running C B M W P) (p n : ℕ) (r : IsRunning caller x) (small : p < 16)
+module _ {C B M : Type 0} {P : _} (x y : Running C B M P) (p n : ℕ) (r : IsRunning x) (small : p < 16)
     (moved : Moved x y p) (gone : HasGoneOn (world_of_store x.store) (table_of x.images) n (call_of x.store x.locks (chain_of x p) p) (call_of y.store y.locks (chain_of y p) p))
     (locks : y.locks ≡ x.locks) (still : StillRun (table_of x.images) (objects_of x.store).accounts (objects_of y.store).accounts) where
   abbrev far : Config
   far = gone_on n gone.machine gone.level gone.outer (call_of x.store x.locks (chain_of x p) p)
 
-  come : placed_of stage y ≡ come_to p far (placed_of stage x)
-  come = placed_moved stage caller x y p far r moved gone.is
+  come : placed_of y ≡ come_to p far (placed_of x)
+  come = placed_moved x y p far r moved gone.is
 
   -- the kernel in place has gone on
-  pub is_stretched : IsStretched (placed_of stage x) (placed_of stage y) p n
+  pub is_stretched : IsStretched (placed_of x) (placed_of y) p n
   is_stretched =
       record {
         process = small;
@@ -84,7 +84,7 @@ module _ {C B M W : Type 0} {P : _} (stage : W → Stage) (caller : W → ℕ) (
 
   owned : IsOfOne (chain_of y p)
   owned =
-      of_one y p (r.owner p) far.levels (levels_come stage x y p far come)
+      of_one y p (r.owner p) far.levels (levels_come x y p far come)
       (same_owner (subst (AreOfOwner (r.owner p)) gone.levels (owner_of (r.owner p) p x.store.ram (held x.locks) (chain_of x p).levels (chain_of x p).undo (objects_of x.store).things (r.own p small))))
     where
       same_owner : AreOfOwner (r.owner p) (gone.level ∷ gone.outer) → AreOfOwner (r.owner p) far.levels
@@ -108,7 +108,7 @@ module _ {C B M W : Type 0} {P : _} (stage : W → Stage) (caller : W → ℕ) (
       (subst (λ i. AreInside (table_of i) (objects_of y.store).accounts q (chain_of x q).levels) (sym moved.images) (still q (chain_of x q).levels (r.inside q low)))
 
   -- the kernel runs
-  pub runs_stretched : IsRunning caller y
+  pub runs_stretched : IsRunning y
   runs_stretched =
       record {
         sixteen = moved.sixteen ∙ r.sixteen;

@@ -19,7 +19,6 @@ use Rattle.lock_table.specs.declared.Holds.{Holds}
 use Rattle.lock_table.specs.Masks.{held, levels_at, masks_of}
 use Rattle.lock_table.specs.Numbers.{number_of, is_in_range}
 use Rattle.kernel_state.specs.Stores.{objects_of}
-use Rattle.kernel_model.specs.Meaning.{Stage}
 use Rattle.kernel_steps.specs.declared.running.Running.{Running}
 use Rattle.kernel_steps.specs.Views.{placed_of, chain_of, IsRunning}
 use Rattle.std.proofs.lemmas.Bool.Decides.{nat_tests}
@@ -80,21 +79,21 @@ none_held t p d h = let no : nat_lt p 16 ≡ false = grind (arith, nat_tests) in
 -- ---- a running kernel
 
 -- a process's graft call
-pub config_in_place : {C B M W : Type 0} {P : _} (stage : W → Stage) (x : Running C B M W P) (p : ℕ) →
-    placed_config (placed_of stage x) p ≡ call_of x.store x.locks (chain_of x p) p
-config_in_place stage x p =
+pub config_in_place : {C B M : Type 0} {P : _} (x : Running C B M P) (p : ℕ) →
+    placed_config (placed_of x) p ≡ call_of x.store x.locks (chain_of x p) p
+config_in_place x p =
     ap (λ ls. record { now = objects_of x.store; levels = ls }) (levels_again p x.store.ram (held x.locks) (chain_of x p).levels (chain_of x p).undo (objects_of x.store).things)
 
 -- its levels
-pub levels_in_place : {C B M W : Type 0} {P : _} (stage : W → Stage) (x : Running C B M W P) (p : ℕ) →
-    placed_levels (placed_of stage x) p ≡ levels_of x.store x.locks (chain_of x p) p
-levels_in_place stage x p = levels_again p x.store.ram (held x.locks) (chain_of x p).levels (chain_of x p).undo (objects_of x.store).things
+pub levels_in_place : {C B M : Type 0} {P : _} (x : Running C B M P) (p : ℕ) →
+    placed_levels (placed_of x) p ≡ levels_of x.store x.locks (chain_of x p) p
+levels_in_place x p = levels_again p x.store.ram (held x.locks) (chain_of x p).levels (chain_of x p).undo (objects_of x.store).things
 
 -- what all calls hold
-pub holds_in_place : {C B M W : Type 0} {P : _} (stage : W → Stage) (caller : W → ℕ) (x : Running C B M W P) → IsRunning caller x →
-    placed_holds (placed_of stage x) ≡ held x.locks
-holds_in_place stage caller x r = fun_ext (λ p. fun_ext (λ d.
-    holds_at (held x.locks) (placed_levels (placed_of stage x)) p d
-    (λ small. ap (λ ls. touched_at ls d) (levels_in_place stage x p)
+pub holds_in_place : {C B M : Type 0} {P : _} (x : Running C B M P) → IsRunning x →
+    placed_holds (placed_of x) ≡ held x.locks
+holds_in_place x r = fun_ext (λ p. fun_ext (λ d.
+    holds_at (held x.locks) (placed_levels (placed_of x)) p d
+    (λ small. ap (λ ls. touched_at ls d) (levels_in_place x p)
     ∙ chain_holds p d x.store.ram (held x.locks) (chain_of x p).levels (chain_of x p).undo (objects_of x.store).things (r.placed p small).unheld (nat_lt d (length (chain_of x p).levels)) refl)
     (λ large. none_held x.locks p d large) (nat_lt p 16) refl))

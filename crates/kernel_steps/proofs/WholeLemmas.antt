@@ -5,7 +5,7 @@ use Rattle.kernel_model.specs.declared.Cause.{Cause}
 use Rattle.kernel_model.specs.declared.Note.{Note}
 use Rattle.kernel_model.specs.World.{Blocks}
 use Rattle.kernel_model.specs.Objects.{SameAt}
-use Rattle.kernel_model.specs.Meaning.{Meaning, Stage}
+use Rattle.kernel_model.specs.Meaning.{Meaning}
 use Rattle.kernel_model.specs.Kernel.{Call, Entry, Run, new_entry, less_entry, has_level}
 use Rattle.kernel_model.specs.Settle.{step}
 use Rattle.kernel_model.specs.Events.{drop_call}
@@ -52,23 +52,23 @@ stood_dropped m law x y p d cause s low reach =
 
 -- ---- what others hold
 
-held_stepped : {C B M W : Type 0} {P : _} (m : Meaning) → HeldStaysInPlace m → (stage : W → Stage) (caller : W → ℕ) (x y : Running C B M W P) (es : List Entry) (p q : ℕ) (c : PlacedCall) → IsRunning caller x →
-    HasAbstraction m (placed_of stage x) → call_at stage x p ≡ Some c → placed_blocker m (placed_of stage x) p ≡ None → q ≢ p →
-    Reaches (placed_step m p) (placed_of stage x) (record (placed_of stage y) { order = es }) → HeldStays x y q
-held_stepped m law stage caller x y es p q c r s is free other reach d o own =
-    let z = placed_of stage x in
+held_stepped : {C B M : Type 0} {P : _} (m : Meaning) → HeldStaysInPlace m → (x y : Running C B M P) (es : List Entry) (p q : ℕ) (c : PlacedCall) → IsRunning x →
+    HasAbstraction m (placed_of x) → call_at x p ≡ Some c → placed_blocker m (placed_of x) p ≡ None → q ≢ p →
+    Reaches (placed_step m p) (placed_of x) (record (placed_of y) { order = es }) → HeldStays x y q
+held_stepped m law x y es p q c r s is free other reach d o own =
+    let z = placed_of x in
     subst (λ (w : Placed). SameAt o w.objects z.objects) (reach.goes [])
     (law.steps (run_of z reach.blocks [] reach.io) (record { kernel = s.kernel; blocks = reach.blocks; notes = []; io = reach.io }) p q d c o (run_stands m z s reach.blocks reach.io reach.whole) is free other
-    (ap (λ t. t q d o) (holds_in_place stage caller x r) ∙ own))
+    (ap (λ t. t q d o) (holds_in_place x r) ∙ own))
 
-held_dropped : {C B M W : Type 0} {P : _} (m : Meaning) → HeldStaysInPlace m → (stage : W → Stage) (caller : W → ℕ) (x y : Running C B M W P) (es : List Entry) (p q n : ℕ) (cause : Cause) → IsRunning caller x →
-    HasAbstraction m (placed_of stage x) → n < length (levels_at x p) → q ≢ p →
-    Reaches (placed_drop m p n cause) (placed_of stage x) (record (placed_of stage y) { order = es }) → HeldStays x y q
-held_dropped m law stage caller x y es p q n cause r s low other reach d o own =
-    let z = placed_of stage x in
+held_dropped : {C B M : Type 0} {P : _} (m : Meaning) → HeldStaysInPlace m → (x y : Running C B M P) (es : List Entry) (p q n : ℕ) (cause : Cause) → IsRunning x →
+    HasAbstraction m (placed_of x) → n < length (levels_at x p) → q ≢ p →
+    Reaches (placed_drop m p n cause) (placed_of x) (record (placed_of y) { order = es }) → HeldStays x y q
+held_dropped m law x y es p q n cause r s low other reach d o own =
+    let z = placed_of x in
     subst (λ (w : Placed). SameAt o w.objects z.objects) (reach.goes [])
     (law.drops (run_of z reach.blocks [] reach.io) (record { kernel = s.kernel; blocks = reach.blocks; notes = []; io = reach.io }) p q d n cause o (run_stands m z s reach.blocks reach.io reach.whole) low other
-    (ap (λ t. t q d o) (holds_in_place stage caller x r) ∙ own))
+    (ap (λ t. t q d o) (holds_in_place x r) ∙ own))
 
 -- ---- the order
 
@@ -90,21 +90,21 @@ step_reaches m x y p h =
     reaches_as (placed_step m p) (λ r. placed_requeue p (placed_call_step m p (x.call p) r)) x (record y { order = requeued_order p y }) (λ blocks notes io. refl)
     (reaches_before (placed_call_step m p (x.call p)) (placed_requeue p) x y (record y { order = requeued_order p y }) (λ r is. requeue_same p r y is) h)
 
-pub stood_after_step : {C B M W : Type 0} {P : _} (m : Meaning) → StepsStand m → (stage : W → Stage) (caller : W → ℕ) (x y : Running C B M W P) (p : ℕ) (c : PlacedCall) (kept kept_new : List Note) (d e : DiskSeen) →
-    HasAbstraction m (placed_of stage x) → call_at stage x p ≡ Some c → placed_blocker m (placed_of stage x) p ≡ None →
-    StepDone stage caller (placed_call_step m p (call_at stage x p)) x y p kept kept_new d e → HasAbstraction m (record (placed_of stage y) { order = requeued_order p (placed_of stage y) })
-stood_after_step m law stage caller x y p c kept kept_new d e s is free h =
-    let o = placed_of stage x in
-    let z = placed_of stage y in
+pub stood_after_step : {C B M : Type 0} {P : _} (m : Meaning) → StepsStand m → (x y : Running C B M P) (p : ℕ) (c : PlacedCall) (kept kept_new : List Note) (d e : DiskSeen) →
+    HasAbstraction m (placed_of x) → call_at x p ≡ Some c → placed_blocker m (placed_of x) p ≡ None →
+    StepDone (placed_call_step m p (call_at x p)) x y p kept kept_new d e → HasAbstraction m (record (placed_of y) { order = requeued_order p (placed_of y) })
+stood_after_step m law x y p c kept kept_new d e s is free h =
+    let o = placed_of x in
+    let z = placed_of y in
     stood_stepped m law o (record z { order = requeued_order p z }) p c s is free (step_reaches m o z p h.reaches)
 
-pub running_after_step : {C B M W : Type 0} {P : _} (m : Meaning) → SoundInPlace m → StepsStand m → HeldStaysInPlace m → (stage : W → Stage) (caller : W → ℕ) (x y : Running C B M W P) (p : ℕ) (c : PlacedCall) (kept kept_new : List Note) (d e : DiskSeen) →
-    IsRunning caller x → p < 16 → HasAbstraction m (placed_of stage x) → call_at stage x p ≡ Some c → placed_blocker m (placed_of stage x) p ≡ None →
-    StepDone stage caller (placed_call_step m p (call_at stage x p)) x y p kept kept_new d e → IsRunning caller y
-running_after_step m sound law held stage caller x y p c kept kept_new d e r small s is free h =
-    let z = placed_of stage y in
-    runs_again m sound stage caller x y (requeued_order p z) p h.own.owner r small s (stood_after_step m law stage caller x y p c kept kept_new d e s is free h) h.stepped h.own.own
-    (λ q other. held_stepped m held stage caller x y (requeued_order p z) p q c r s is free other (step_reaches m (placed_of stage x) z p h.reaches))
+pub running_after_step : {C B M : Type 0} {P : _} (m : Meaning) → SoundInPlace m → StepsStand m → HeldStaysInPlace m → (x y : Running C B M P) (p : ℕ) (c : PlacedCall) (kept kept_new : List Note) (d e : DiskSeen) →
+    IsRunning x → p < 16 → HasAbstraction m (placed_of x) → call_at x p ≡ Some c → placed_blocker m (placed_of x) p ≡ None →
+    StepDone (placed_call_step m p (call_at x p)) x y p kept kept_new d e → IsRunning y
+running_after_step m sound law held x y p c kept kept_new d e r small s is free h =
+    let z = placed_of y in
+    runs_again m sound x y (requeued_order p z) p h.own.owner r small s (stood_after_step m law x y p c kept kept_new d e s is free h) h.stepped h.own.own
+    (λ q other. held_stepped m held x y (requeued_order p z) p q c r s is free other (step_reaches m (placed_of x) z p h.reaches))
 
 -- once the call took its place
 pub stood_requeued : (m : Meaning) (p : ℕ) (y z : Placed) → Simulates (placed_requeue p) y z → HasAbstraction m (record y { order = requeued_order p y }) → HasAbstraction m z
@@ -144,21 +144,21 @@ drop_reaches m x y p n c cause is some h =
     reaches_as (placed_drop m p n cause) (λ r. placed_requeue p (drop_change m p n c cause r)) x (record y { order = requeued_order p y }) (drop_as m x p n c cause is some)
     (reaches_before (drop_change m p n c cause) (placed_requeue p) x y (record y { order = requeued_order p y }) (λ r is. requeue_same p r y is) h)
 
-pub stood_after_drop : {C B M W : Type 0} {P : _} (m : Meaning) → DropsStand m → (stage : W → Stage) (caller : W → ℕ) (x y : Running C B M W P) (p n : ℕ) (c : PlacedCall) (cause : Cause) (kept kept_new : List Note) (d e : DiskSeen) →
-    HasAbstraction m (placed_of stage x) → call_at stage x p ≡ Some c → n < length (levels_at x p) → has_some (levels_at x p) ≡ true →
-    StepDone stage caller (drop_change m p n c cause) x y p kept kept_new d e → HasAbstraction m (record (placed_of stage y) { order = requeued_order p (placed_of stage y) })
-stood_after_drop m law stage caller x y p n c cause kept kept_new d e s is low some h =
-    let o = placed_of stage x in
-    let z = placed_of stage y in
+pub stood_after_drop : {C B M : Type 0} {P : _} (m : Meaning) → DropsStand m → (x y : Running C B M P) (p n : ℕ) (c : PlacedCall) (cause : Cause) (kept kept_new : List Note) (d e : DiskSeen) →
+    HasAbstraction m (placed_of x) → call_at x p ≡ Some c → n < length (levels_at x p) → has_some (levels_at x p) ≡ true →
+    StepDone (drop_change m p n c cause) x y p kept kept_new d e → HasAbstraction m (record (placed_of y) { order = requeued_order p (placed_of y) })
+stood_after_drop m law x y p n c cause kept kept_new d e s is low some h =
+    let o = placed_of x in
+    let z = placed_of y in
     stood_dropped m law o (record z { order = requeued_order p z }) p n cause s low (drop_reaches m o z p n c cause is some h.reaches)
 
-pub running_after_drop : {C B M W : Type 0} {P : _} (m : Meaning) → SoundInPlace m → DropsStand m → HeldStaysInPlace m → (stage : W → Stage) (caller : W → ℕ) (x y : Running C B M W P) (p n : ℕ) (c : PlacedCall) (cause : Cause) (kept kept_new : List Note) (d e : DiskSeen) →
-    IsRunning caller x → p < 16 → HasAbstraction m (placed_of stage x) → call_at stage x p ≡ Some c → n < length (levels_at x p) → has_some (levels_at x p) ≡ true →
-    StepDone stage caller (drop_change m p n c cause) x y p kept kept_new d e → IsRunning caller y
-running_after_drop m sound law held stage caller x y p n c cause kept kept_new d e r small s is low some h =
-    let z = placed_of stage y in
-    runs_again m sound stage caller x y (requeued_order p z) p h.own.owner r small s (stood_after_drop m law stage caller x y p n c cause kept kept_new d e s is low some h) h.stepped h.own.own
-    (λ q other. held_dropped m held stage caller x y (requeued_order p z) p q n cause r s low other (drop_reaches m (placed_of stage x) z p n c cause is some h.reaches))
+pub running_after_drop : {C B M : Type 0} {P : _} (m : Meaning) → SoundInPlace m → DropsStand m → HeldStaysInPlace m → (x y : Running C B M P) (p n : ℕ) (c : PlacedCall) (cause : Cause) (kept kept_new : List Note) (d e : DiskSeen) →
+    IsRunning x → p < 16 → HasAbstraction m (placed_of x) → call_at x p ≡ Some c → n < length (levels_at x p) → has_some (levels_at x p) ≡ true →
+    StepDone (drop_change m p n c cause) x y p kept kept_new d e → IsRunning y
+running_after_drop m sound law held x y p n c cause kept kept_new d e r small s is low some h =
+    let z = placed_of y in
+    runs_again m sound x y (requeued_order p z) p h.own.owner r small s (stood_after_drop m law x y p n c cause kept kept_new d e s is low some h) h.stepped h.own.own
+    (λ q other. held_dropped m held x y (requeued_order p z) p q n cause r s low other (drop_reaches m (placed_of x) z p n c cause is some h.reaches))
 
 pub did_drop : (m : Meaning) (x z : Placed) (p n : ℕ) (c : PlacedCall) (cause : Cause) (kept kept_new : List Note) (d e : DiskSeen) → x.call p ≡ Some c → has_some (x.levels p) ≡ true →
     Refines (λ r. placed_requeue p (drop_change m p n c cause r)) x z kept kept_new d e → Refines (placed_drop m p n cause) x z kept kept_new d e

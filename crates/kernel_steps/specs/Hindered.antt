@@ -12,11 +12,11 @@ abbrev pub hindrance_of : Hindrance → table.Hindrance
 hindrance_of h = record { object = h.object; holder = h.holder; by_user = h.by_user }
 
 -- what blocks a call, of a hindrance
-abbrev pub blocking_by : {W : Type 0} → List (Flight W) → Hindrance → Blocker
-blocking_by {W = W} flights h =
+abbrev pub blocking_by : List Flight → Hindrance → Blocker
+blocking_by flights h =
     record {
       object = h.object;
       holder = h.holder;
       call = cond h.by_user None
-          (option_map (λ (f : InFlight W). f.number) (flight_of flights h.holder).call);
+          (option_map (λ (f : InFlight). f.number) (flight_of flights h.holder).call);
     }

@@ -1,16 +1,19 @@
 -- What a move of one call's levels makes of a running kernel: a level begins, an instruction, or
 -- the drop of a level.
-use Rattle.std.specs.Prelude.{◌≡◌, ◌≢◌, ℕ, map, length}
+use Rattle.std.specs.Prelude.{◌≡◌, ◌≢◌, ℕ, List, [], Option, Some, None, map, length}
 use Rattle.kernel_model.specs.declared.Held.{Held}
 use Rattle.kernel_model.specs.declared.Object.{Object}
 use Rattle.lock_table.specs.Masks.{held}
-use Rattle.kernel_model.specs.Objects.{at, SameAt}
+use Rattle.kernel_model.specs.declared.Need.{Need}
+use Rattle.kernel_model.specs.World.{World}
+use Rattle.kernel_model.specs.Objects.{Objects, at, SameAt}
 use Rattle.kernel_model.specs.Levels.{Config}
 use Rattle.kernel_model.specs.Sound.{ImagesAreLoaded}
 use Rattle.kernel_state.specs.Stores.{objects_of, queue_of}
 use Rattle.graft_loader.specs.Slots.{table_of}
 use Rattle.graft_calls.specs.Calls.{IsPlaced, AreSound, AreInside, AllUndoable, IsElsewhereSame}
-use Rattle.placed_laws.specs.Placed.{Placed, bare}
+use Rattle.kernel_model.specs.Meaning.{Meaning}
+use Rattle.placed_laws.specs.Placed.{Placed, PlacedCall, bare}
 use Rattle.kernel_steps.specs.declared.running.Running.{Running}
 use Rattle.kernel_steps.specs.Views.{flight_of, chain_of}
 
@@ -18,10 +21,20 @@ use Rattle.kernel_steps.specs.Views.{flight_of, chain_of}
 abbrev pub come_to : ℕ → Config → Placed → Placed
 come_to p c x = record x { objects = c.now; levels = at p (map bare c.levels) x.levels }
 
+-- the objects that a piece needs of a call of process p, if it has one
+abbrev pub needed_by : Meaning → World → Objects → ℕ → Option PlacedCall → List Need
+needed_by m v s p None = []
+needed_by m v s p (Some c) = m.need v s p c.stage
+
+-- the bytes that the graft is fed which the piece asks of a call, if there is one
+abbrev pub fed_by : Meaning → Option PlacedCall → List ℕ
+fed_by m None = []
+fed_by m (Some c) = m.feed c.stage
+
 -- The levels of p's call moved. They are in place again, and of all else the store has the same but
 -- for its objects: the calls, the other chains and what they hold, the memory of other processes'
 -- levels, who lives, images, clock and order.
-pub record Moved {C B M W : Type 0} {P : _} (x y : Running C B M W P) (p : ℕ) : Type 0 where
+pub record Moved {C B M : Type 0} {P : _} (x y : Running C B M P) (p : ℕ) : Type 0 where
   pub elsewhere : IsElsewhereSame x.store y.store x.locks y.locks p
   pub placed : IsPlaced y.store y.locks p (chain_of y p).levels (chain_of y p).undo
   pub inside : AreInside (table_of y.images) (objects_of y.store).accounts p (chain_of y p).levels
@@ -35,13 +48,13 @@ pub record Moved {C B M W : Type 0} {P : _} (x y : Running C B M W P) (p : ℕ) 
 
 -- The levels of another call q stay in place, though the store changed: their owner lives, their
 -- records can still be undone, and their grafts stand as they did.
-pub record StaysInPlace {C B M W : Type 0} {P : _} (y : Running C B M W P) (q : ℕ) : Type 0 where
+pub record StaysInPlace {C B M : Type 0} {P : _} (y : Running C B M P) (q : ℕ) : Type 0 where
   pub levels : AreSound (queue_of y.store) (chain_of y q).levels
   pub undoable : AllUndoable (chain_of y q).undo (objects_of y.store).things
   pub inside : AreInside (table_of y.images) (objects_of y.store).accounts q (chain_of y q).levels
 
 -- what a call q holds exclusively has the same values after a change
-abbrev pub HeldStays : {C B M W : Type 0} {P : _} → Running C B M W P → Running C B M W P → ℕ →
+abbrev pub HeldStays : {C B M : Type 0} {P : _} → Running C B M P → Running C B M P → ℕ →
     Type 0
 HeldStays x y q = (d : ℕ) (o : Object) → held x.locks q d o ≡ Held.Exclusive →
     SameAt o (objects_of y.store) (objects_of x.store)

@@ -6,9 +6,8 @@ use Rattle.kernel_model.specs.declared.Note.{Note}
 use Rattle.kernel_model.specs.World.{World, ImageTable, Blocks}
 use Rattle.kernel_model.specs.Objects.{Objects}
 use Rattle.kernel_model.specs.Sound.{HasWholeBlocks}
-use Rattle.kernel_model.specs.Meaning.{Meaning, Piece}
+use Rattle.kernel_model.specs.Meaning.{Meaning, Answer, Piece}
 use Rattle.kernel_model.specs.Kernel.{gave_note, after_note}
-use Rattle.call_pieces.specs.Works.{answer_seen}
 use Rattle.placed_laws.specs.Placed.{Placed, PlacedCall, PlacedRun}
 use Rattle.placed_laws.specs.PlacedSteps.{placed_after}
 use Rattle.kernel_steps.specs.Views.{run_of}
@@ -81,13 +80,13 @@ pub record PieceMayLeave (v : World) (piece : Blocks → List Bool → Piece) (c
 
 -- a piece of the call c of process p over the objects s, with an answer or by default, was done
 pub record PieceDone (m : Meaning) (v : World) (s u : Objects) (p : ℕ) (c : PlacedCall)
-    (call : Option PlacedCall) (answer : Option (List ℕ)) (kept kept_new : List Note)
+    (call : Option PlacedCall) (answer : Option Answer) (kept kept_new : List Note)
     (d e : DiskSeen) : Type 0 where
   pub io : List Bool
   pub made : Made d.faults e.faults d.plan e.plan io
   pub goes : (images : ImageTable) (blocks : Blocks) (notes : List Note) (rest : List Bool) →
       Knows d.known blocks → kept ≡ first_notes notes →
-      PieceLeft c (m.piece v images s blocks p c.stage (answer_seen answer) (io
-      ++ rest)) u call notes kept_new e.known (length io)
+      PieceLeft c (m.piece v images s blocks p c.stage answer (io ++ rest)) u call notes kept_new
+      e.known (length io)
   pub some : (images : ImageTable) → PieceMayLeave v
-      (λ blocks io. m.piece v images s blocks p c.stage (answer_seen answer) io) c u call
+      (λ blocks io. m.piece v images s blocks p c.stage answer io) c u call

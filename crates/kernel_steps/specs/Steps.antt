@@ -3,7 +3,7 @@ use Rattle.std.specs.Prelude.{◌≡◌, ◌≢◌, ℕ, zero, suc, ◌≤◌, L
 use Rattle.kernel_model.specs.declared.Note.{Note}
 use Rattle.kernel_model.specs.declared.Micro.{Micro}
 use Rattle.kernel_model.specs.declared.Note.TheVariants.{Dropped}
-use Rattle.kernel_model.specs.Meaning.{Meaning, Stage}
+use Rattle.kernel_model.specs.Meaning.{Meaning, Answer}
 use Rattle.call_pieces.specs.Works.{answer_seen}
 use Rattle.disk_log.specs.Seen.{DiskSeen}
 use Rattle.lock_table.specs.Masks.{held}
@@ -23,20 +23,21 @@ use Rattle.kernel_steps.specs.Views.{placed_of, flight_of, chain_of}
 
 module _ (m : Meaning) where
   -- the piece of a call is done on the store as it is, with an answer or by default
-  abbrev pub finishes : ℕ → PlacedCall → Option (List ℕ) → PlacedRun → PlacedRun
-  finishes p c answer r = placed_finish_on m p c r.placed.objects (answer_seen answer) r
+  abbrev pub finishes : ℕ → PlacedCall → Option Answer → PlacedRun → PlacedRun
+  finishes p c answer r = placed_finish_on m p c r.placed.objects answer r
 
   -- level d of a call was dropped: with level 0 the default finishes the piece
   abbrev pub after_drop : ℕ → PlacedCall → (d : ℕ) → PlacedRun → PlacedRun
   after_drop p c zero r = finishes p c None r
   after_drop p c (suc d) r = r
 
-  -- an instruction, or the drop of a level, said this
-  abbrev pub after_said : ℕ → PlacedCall → Micro → PlacedRun → PlacedRun
-  after_said p c Micro.Went r = r
-  after_said p c (Micro.Blocked object holder by_user) r = r
-  after_said p c (Micro.Completed answer) r = finishes p c (Some answer) r
-  after_said p c (Micro.Dropped d q pt cause) r =
+  -- an instruction, or the drop of a level, said this, and left this memory, in which stands what an
+  -- answer gives
+  abbrev pub after_said : (ram : List ℕ) → ℕ → PlacedCall → Micro → PlacedRun → PlacedRun
+  after_said ram p c Micro.Went r = r
+  after_said ram p c (Micro.Blocked object holder by_user) r = r
+  after_said ram p c (Micro.Completed answer) r = finishes p c (answer_seen ram p (Some answer)) r
+  after_said ram p c (Micro.Dropped d q pt cause) r =
       after_drop p c d (placed_noted (Dropped c.number q pt cause) r)
 
 -- the answer with which what was said finishes the piece of a call, if it does
@@ -59,11 +60,10 @@ pub record IsOfOne (c : Chain) : Type 0 where
 
 -- What must hold of p's call for a step of it, of whatever else is in flight: its levels are in
 -- place.
-pub record StepsAlone {C B M W : Type 0} {P : _} (caller : W →
-    ℕ) (x : Running C B M W P) (p : ℕ) : Type 0 where
+pub record StepsAlone {C B M : Type 0} {P : _} (x : Running C B M P) (p : ℕ) : Type 0 where
   pub sixteen : length x.calls.items ≡ 16
   pub few : (q : ℕ) → length (chain_of x q).levels ≤ 4
-  pub caller_is : (f : InFlight W) → (flight_of x.calls.items p).call ≡ Some f → caller f.work ≡ p
+  pub caller_is : (f : InFlight) → (flight_of x.calls.items p).call ≡ Some f → f.work.caller ≡ p
   pub placed : IsPlaced x.store x.locks p (chain_of x p).levels (chain_of x p).undo
   pub inside : AreInside (table_of x.images) (objects_of x.store).accounts p (chain_of x p).levels
   pub own : IsOfOne (chain_of x p)
@@ -71,11 +71,10 @@ pub record StepsAlone {C B M W : Type 0} {P : _} (caller : W →
 -- A step of the call of p. Of all that is in flight p's alone has changed, the memory of grafts but
 -- for p's own, what the others hold, images, clock and order stay; and p's levels are in place
 -- again.
-pub record Stepped {C B M W : Type 0} {P : _} (caller : W →
-    ℕ) (x y : Running C B M W P) (p : ℕ) : Type 0 where
+pub record Stepped {C B M : Type 0} {P : _} (x y : Running C B M P) (p : ℕ) : Type 0 where
   pub world : world_of_store y.store ≡ world_of_store x.store
   pub sixteen : length y.calls.items ≡ length x.calls.items
-  pub caller_is : (f : InFlight W) → (flight_of y.calls.items p).call ≡ Some f → caller f.work ≡ p
+  pub caller_is : (f : InFlight) → (flight_of y.calls.items p).call ≡ Some f → f.work.caller ≡ p
   pub calls : (q : ℕ) → q ≢ p → (flight_of y.calls.items q).call ≡ (flight_of x.calls.items q).call
   pub chains : (q : ℕ) → q ≢ p → chain_of y q ≡ chain_of x q
   pub locks : (q d : ℕ) → q ≢ p → held y.locks q d ≡ held x.locks q d
@@ -87,10 +86,9 @@ pub record Stepped {C B M W : Type 0} {P : _} (caller : W →
 
 -- A step of the call of p, or a part of one, did what the definitions say; and p's levels are of
 -- one owner again.
-pub record StepDone {C B M W : Type 0} {P : _} (stage : W → Stage) (caller : W → ℕ)
-    (f : PlacedRun → PlacedRun) (x y : Running C B M W P) (p : ℕ) (kept kept_new : List Note)
-    (d e : DiskSeen) : Type 0 where
-  pub refines : Refines f (placed_of stage x) (placed_of stage y) kept kept_new d e
-  pub reaches : Reaches f (placed_of stage x) (placed_of stage y)
-  pub stepped : Stepped caller x y p
+pub record StepDone {C B M : Type 0} {P : _} (f : PlacedRun → PlacedRun) (x y : Running C B M P)
+    (p : ℕ) (kept kept_new : List Note) (d e : DiskSeen) : Type 0 where
+  pub refines : Refines f (placed_of x) (placed_of y) kept kept_new d e
+  pub reaches : Reaches f (placed_of x) (placed_of y)
+  pub stepped : Stepped x y p
   pub own : IsOfOne (chain_of y p)

@@ -4,7 +4,8 @@ use Rattle.kernel_model.specs.declared.Note.{Note}
 use Rattle.kernel_model.specs.World.{Blocks}
 use Rattle.kernel_model.specs.Kernel.{Kernel}
 use Rattle.kernel_model.specs.Sound.{ImagesAreLoaded}
-use Rattle.kernel_model.specs.Meaning.{Meaning, Stage}
+use Rattle.kernel_model.specs.Meaning.{Meaning}
+use Rattle.call_pieces.specs.Works.{stage_of}
 use Rattle.kernel_state.specs.Stores.{world_of_store, objects_of}
 use Rattle.graft_calls.specs.declared.Chain.{Chain}
 use Rattle.graft_loader.specs.Slots.{table_of}
@@ -25,39 +26,39 @@ abbrev pub no_chain : Chain
 no_chain = record { levels = []; undo = [] }
 
 -- no call, and no level
-abbrev pub no_flight : {W : Type 0} → Flight W
+abbrev pub no_flight : Flight
 no_flight = record { call = None; chain = no_chain }
 
 -- what a process has in flight
-abbrev pub flight_of : {W : Type 0} → List (Flight W) → ℕ → Flight W
+abbrev pub flight_of : List Flight → ℕ → Flight
 flight_of flights p = slice_index_or flights p no_flight
 
 -- a call in flight
-abbrev pub call_in_place : {W : Type 0} → (W → Stage) → InFlight W → PlacedCall
-call_in_place at f = record { number = f.number; stage = at f.work }
+abbrev pub call_in_place : InFlight → PlacedCall
+call_in_place f = record { number = f.number; stage = stage_of f.work }
 
 -- the chain of a process
-abbrev pub chain_of : {C B M W : Type 0} {P : _} → Running C B M W P → ℕ → Chain
+abbrev pub chain_of : {C B M : Type 0} {P : _} → Running C B M P → ℕ → Chain
 chain_of x p = (flight_of x.calls.items p).chain
 
 -- the levels of a process over the store, without what they found
-abbrev pub levels_at : {C B M W : Type 0} {P : _} → Running C B M W P → ℕ → List PlacedLevel
+abbrev pub levels_at : {C B M : Type 0} {P : _} → Running C B M P → ℕ → List PlacedLevel
 levels_at x p = map bare (levels_of x.store x.locks (chain_of x p) p)
 
 -- the call of a process
-abbrev pub call_at : {C B M W : Type 0} {P : _} → (W → Stage) → Running C B M W P → ℕ →
+abbrev pub call_at : {C B M : Type 0} {P : _} → Running C B M P → ℕ →
     Option PlacedCall
-call_at at x p = option_map (call_in_place at) (flight_of x.calls.items p).call
+call_at x p = option_map call_in_place (flight_of x.calls.items p).call
 
 -- the kernel in place
-abbrev pub placed_of : {C B M W : Type 0} {P : _} → (W → Stage) → Running C B M W P → Placed
-placed_of at x =
+abbrev pub placed_of : {C B M : Type 0} {P : _} → Running C B M P → Placed
+placed_of x =
     record {
       world = world_of_store x.store;
       images = table_of x.images;
       objects = objects_of x.store;
       clock = x.clock;
-      call = call_at at x;
+      call = call_at x;
       levels = levels_at x;
       order = order_of x.order;
     }
@@ -65,11 +66,10 @@ placed_of at x =
 -- ---- what always holds
 
 -- The calls of a running kernel are its own, and the levels of each are in place on the store.
-pub record IsRunning {C B M W : Type 0} {P : _} (caller : W →
-    ℕ) (x : Running C B M W P) : Type 0 where
+pub record IsRunning {C B M : Type 0} {P : _} (x : Running C B M P) : Type 0 where
   pub sixteen : length x.calls.items ≡ 16
-  pub callers : (p : ℕ) (f : InFlight W) → (flight_of x.calls.items p).call ≡ Some f →
-      caller f.work ≡ p
+  pub callers : (p : ℕ) (f : InFlight) → (flight_of x.calls.items p).call ≡ Some f →
+      f.work.caller ≡ p
   pub placed : (p : ℕ) → p < 16 →
       IsPlaced x.store x.locks p (chain_of x p).levels (chain_of x p).undo
   pub inside : (p : ℕ) → p < 16 →
@@ -83,7 +83,7 @@ pub record IsRunning {C B M W : Type 0} {P : _} (caller : W →
   pub own : (p : ℕ) → p < 16 → AreOwned (owner p) (chain_of x p).levels (chain_of x p).undo
 
 -- No call is in flight, and none waits.
-pub record IsQuiet {C B M W : Type 0} {P : _} (x : Running C B M W P) : Type 0 where
+pub record IsQuiet {C B M : Type 0} {P : _} (x : Running C B M P) : Type 0 where
   pub calls : (p : ℕ) → flight_of x.calls.items p ≡ no_flight
   pub order : x.order ≡ []
 

@@ -6,7 +6,7 @@ ghost use Rattle.kernel_model.specs.GraftStep.{next_needs, lock_user};
 ghost use Rattle.kernel_model.specs.Locks.{LockTable as Table};
 ghost use Rattle.kernel_model.specs.Objects.{Things};
 ghost use Rattle.kernel_state.specs.Stores.{world_of_store, queue_of};
-ghost use Rattle.call_pieces.specs.Works.{IsDue};
+ghost use Rattle.call_pieces.specs.Works.{IsDue, stage_of};
 ghost use Rattle.graft_calls.specs.Calls.{AreSound};
 ghost use Rattle.graft_calls.specs.Chains.{levels_in};
 ghost use Rattle.graft_loader.specs.Slots.{table_of};
@@ -22,7 +22,7 @@ ghost use Rattle.kernel_steps.specs.Hindered.{hindrance_of, blocking_by};
 
 use crate::order::Blocking;
 use crate::running::{Flight, Running};
-use call_pieces::{Calls, Needs};
+use call_pieces::{Calls, Needs, Work};
 use graft_calls::Chain;
 use graft_loader::Images;
 use graft_points::Policy;
@@ -112,17 +112,17 @@ fn piece_hindrance<C: Calls, B: Policy>(
     locks: &LockTable,
     store: &Store<B>,
     p: u8,
-    work: &C::Work,
+    work: &Work,
 ) -> Option<Hindrance>
     requires ready { IsDue C.Meaning.meaning (world_of_store store.now) (objects_of store.now)
-        (C.caller work.now) (C.stage work.now) }
+        work.now.caller (stage_of work.now) }
     requires range { (n : Needed) → Contains
         (C.Meaning.meaning.need (world_of_store store.now) (objects_of store.now)
-        (C.caller work.now) (C.stage work.now)) n → IsInRange n.object }
+        work.now.caller (stage_of work.now)) n → IsInRange n.object }
     ensures { option_map hindrance_of result
         ≡ first_of (held locks.now) (objects_of store.now).things.lock p p
         (C.Meaning.meaning.need (world_of_store store.now) (objects_of store.now)
-        (C.caller work.now) (C.stage work.now)) }
+        work.now.caller (stage_of work.now)) }
 {
     let mut needs = Needs::new();
     C::need(work, store, &mut needs);
@@ -150,7 +150,7 @@ fn graft_hindrance<B: Policy>(
 }
 
 /// The number of a process's call, if it has one.
-pub(crate) fn number_of<W: Drop>(flights: &[Flight<W>], p: u8) -> Option<u32>
+pub(crate) fn number_of(flights: &[Flight], p: u8) -> Option<u32>
     ensures { result ≡ option_map (λ f. f.number) (flight_of flights.now p).call }
 {
     match flights.get(p as usize) {
@@ -163,7 +163,7 @@ pub(crate) fn number_of<W: Drop>(flights: &[Flight<W>], p: u8) -> Option<u32>
 }
 
 /// What blocks a call, of what hinders its step.
-fn blocking_of<W: Drop>(flights: &[Flight<W>], found: Hindrance) -> Blocking
+fn blocking_of(flights: &[Flight], found: Hindrance) -> Blocking
     ensures { blocker_of result ≡ blocking_by flights.now found }
 {
     Blocking {
@@ -178,7 +178,7 @@ fn blocking_of<W: Drop>(flights: &[Flight<W>], found: Hindrance) -> Blocking
 }
 
 /// What a process has in flight.
-pub(crate) fn flight<W: Drop>(flights: &[Flight<W>], p: u8) -> &Flight<W>
+pub(crate) fn flight(flights: &[Flight], p: u8) -> &Flight
     requires { p < length flights.now }
     ensures { result.now ≡ flight_of flights.now p }
 {
@@ -189,9 +189,9 @@ impl<C: Calls, B: Policy> Running<C, B> {
     /// What hinders the next step of process p's call.
     fn hindered(&self, p: u8) -> Option<Hindrance>
         requires process { p < 16 }
-        requires running { IsRunning C.caller self.now }
-        requires abstraction { HasAbstraction C.Meaning.meaning (placed_of C.stage self.now) }
-        ensures { let x = placed_of C.stage self.now in
+        requires running { IsRunning self.now }
+        requires abstraction { HasAbstraction C.Meaning.meaning (placed_of self.now) }
+        ensures { let x = placed_of self.now in
             option_map hindrance_of result ≡ first_of (placed_holds x) x.objects.things.lock p
             (lock_user p (placed_levels x p)) (placed_needs C.Meaning.meaning x p) }
     {
@@ -209,11 +209,11 @@ impl<C: Calls, B: Policy> Running<C, B> {
     /// What hinders the next instruction of process p's call, which is in a graft and needs this.
     fn hindered_by(&self, p: u8, needs: &[Need]) -> Option<Hindrance>
         requires process { p < 16 }
-        requires running { IsRunning C.caller self.now }
-        requires needs { let x = placed_of C.stage self.now in
+        requires running { IsRunning self.now }
+        requires needs { let x = placed_of self.now in
             needs.now ≡ placed_needs C.Meaning.meaning x p }
         requires range { All (λ (n : Needed). IsInRange n.object) needs.now }
-        ensures { let x = placed_of C.stage self.now in
+        ensures { let x = placed_of self.now in
             let user = lock_user p (placed_levels x p) in
             option_map hindrance_of result
             ≡ first_of (placed_holds x) x.objects.things.lock p user (placed_needs C.Meaning.meaning x p) }
@@ -226,11 +226,11 @@ impl<C: Calls, B: Policy> Running<C, B> {
     /// something does.
     pub fn blocked_by(&self, p: u8, needs: &[Need]) -> Option<Blocking>
         requires process { p < 16 }
-        requires running { IsRunning C.caller self.now }
-        requires needs { let x = placed_of C.stage self.now in
+        requires running { IsRunning self.now }
+        requires needs { let x = placed_of self.now in
             needs.now ≡ placed_needs C.Meaning.meaning x p }
         requires range { All (λ (n : Needed). IsInRange n.object) needs.now }
-        ensures { let x = placed_of C.stage self.now in
+        ensures { let x = placed_of self.now in
             option_map blocker_of result ≡ placed_blocker C.Meaning.meaning x p }
     {
         match self.hindered_by(p, needs) {
@@ -243,10 +243,10 @@ impl<C: Calls, B: Policy> Running<C, B> {
     /// doesn't grow with what is held.
     pub fn blocker(&self, p: u8) -> Option<Blocking>
         requires process { p < 16 }
-        requires running { IsRunning C.caller self.now }
-        requires abstraction { HasAbstraction C.Meaning.meaning (placed_of C.stage self.now) }
+        requires running { IsRunning self.now }
+        requires abstraction { HasAbstraction C.Meaning.meaning (placed_of self.now) }
         ensures { option_map blocker_of result
-            ≡ placed_blocker C.Meaning.meaning (placed_of C.stage self.now) p }
+            ≡ placed_blocker C.Meaning.meaning (placed_of self.now) p }
     {
         match self.hindered(p) {
             Some(found) => Some(blocking_of(&self.calls, found)),

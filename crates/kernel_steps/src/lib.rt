@@ -6,6 +6,7 @@
 #![tactic(auto)]
 
 mod blocking;
+mod entering;
 mod levels;
 mod looking;
 mod notes;

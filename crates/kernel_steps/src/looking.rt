@@ -21,9 +21,9 @@ impl<C: Calls, B: Policy> Running<C, B> {
     pub fn innermost_register(&self, p: u8, i: u8) -> Option<u32>
         requires process { p < 16 }
         requires register { i < 16 }
-        requires running { IsRunning C.caller self.now }
+        requires running { IsRunning self.now }
         ensures { result ≡ option_map (λ (l : PlacedLevel). l.machine.regs i)
-            (innermost_level ((placed_of C.stage self.now).levels p)) }
+            (innermost_level ((placed_of self.now).levels p)) }
     {
         flight(&self.calls, p).chain.innermost_register(i)
     }
@@ -32,9 +32,9 @@ impl<C: Calls, B: Policy> Running<C, B> {
     pub fn innermost_byte(&self, p: u8, at: u32) -> Option<u8>
         requires process { p < 16 }
         requires inside { at < 4096 }
-        requires running { IsRunning C.caller self.now }
+        requires running { IsRunning self.now }
         ensures { result ≡ option_map (λ (l : PlacedLevel). l.machine.memory at)
-            (innermost_level ((placed_of C.stage self.now).levels p)) }
+            (innermost_level ((placed_of self.now).levels p)) }
     {
         let count = flight(&self.calls, p).chain.levels.count();
         if count == 0 {

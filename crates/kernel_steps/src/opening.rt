@@ -35,11 +35,11 @@ impl<C: Calls, B: Policy> Running<C, B> {
         requires files { (n : ℕ) (r : Row) → slice_index_or dir n None ≡ Some r →
             lies_on_disk size r ≡ true }
         requires stock { pol_of (views_of self.old.store) first_choice ≡ opening_policy }
-        requires running { IsRunning C.caller self.old }
+        requires running { IsRunning self.old }
         requires quiet { IsQuiet self.old }
-        ensures stands { StandsFor C.Meaning.meaning (placed_of C.stage self.new)
+        ensures stands { StandsFor C.Meaning.meaning (placed_of self.new)
             (opening_kernel (world_for setup size dir)) }
-        ensures running { IsRunning C.caller self.new }
+        ensures running { IsRunning self.new }
         ensures quiet { IsQuiet self.new }
         ensures clock { self.new.clock ≡ 0 }
         ensures world { world_of_store self.new.store ≡ world_for setup size dir }
@@ -55,7 +55,7 @@ impl<C: Calls, B: Policy> Running<C, B> {
     /// Whether a slot has an image.
     pub fn has_image(&self, slot: u32) -> bool
         requires { slot < 32 }
-        ensures { result ≡ is_some ((placed_of C.stage self.now).images slot) }
+        ensures { result ≡ is_some ((placed_of self.now).images slot) }
     {
         !self.images.is_free(slot)
     }
@@ -64,17 +64,17 @@ impl<C: Calls, B: Policy> Running<C, B> {
     /// blocks it. No memory is taken.
     pub fn add_image(&mut self, slot: u32, image: Loaded)
         requires slot { slot < 32 }
-        requires free { (placed_of C.stage self.old).images slot ≡ None }
-        requires running { IsRunning C.caller self.old }
-        requires abstraction { HasAbstraction C.Meaning.meaning (placed_of C.stage self.old) }
-        ensures stands { (k : Kernel) → StandsFor C.Meaning.meaning (placed_of C.stage self.old) k →
-            StandsFor C.Meaning.meaning (placed_of C.stage self.new)
+        requires free { (placed_of self.old).images slot ≡ None }
+        requires running { IsRunning self.old }
+        requires abstraction { HasAbstraction C.Meaning.meaning (placed_of self.old) }
+        ensures stands { (k : Kernel) → StandsFor C.Meaning.meaning (placed_of self.old) k →
+            StandsFor C.Meaning.meaning (placed_of self.new)
             (session.add_image slot image k) }
-        ensures rests { (k : Kernel) → StandsFor C.Meaning.meaning (placed_of C.stage self.old) k →
+        ensures rests { (k : Kernel) → StandsFor C.Meaning.meaning (placed_of self.old) k →
             IsAtRest C.Meaning.meaning k →
             IsAtRest C.Meaning.meaning (session.add_image slot image k) }
-        ensures running { IsRunning C.caller self.new }
-        ensures abstraction { HasAbstraction C.Meaning.meaning (placed_of C.stage self.new) }
+        ensures running { IsRunning self.new }
+        ensures abstraction { HasAbstraction C.Meaning.meaning (placed_of self.new) }
         ensures store { self.new.store ≡ self.old.store }
         ensures clock { self.new.clock ≡ self.old.clock }
     {

@@ -4,7 +4,7 @@ ghost use Rattle.std.specs.Prelude.{◌≡◌, true, Some, None, cond, option_ma
 ghost use Rattle.disk_log.specs.Seen.{disk_seen};
 ghost use Rattle.kernel_model.specs.Laws.{IsReady};
 ghost use Rattle.kernel_model.specs.World.{ImageTable};
-ghost use Rattle.call_pieces.specs.Works.{answer_seen};
+ghost use Rattle.call_pieces.specs.Works.{answer_seen, stage_of};
 ghost use Rattle.kernel_state.specs.Stores.{world_of_store, objects_of, SegmentsStay};
 ghost use Rattle.kernel_steps.specs.declared.running.InFlight.{InFlight as Flying};
 ghost use Rattle.kernel_steps.specs.Refines.{PieceDone};
@@ -22,23 +22,23 @@ use vino_base::Disk;
 /// The next piece of a call in flight, with an answer to the point that it asks, or by default.
 /// Whether the call goes on; it ends with a note. The log has this piece's calls of the disk then.
 fn run_piece<C: Calls, B: Policy, D: Disk>(
-    call: &mut InFlight<C::Work>,
+    call: &mut InFlight,
     store: &mut Store<B>,
     answer: Option<[u32; 4]>,
     disk: &mut D,
     trace: &mut Trace,
 ) -> bool
     requires ready { (images : ImageTable) × IsReady C.Meaning.meaning (world_of_store store.old)
-        images (objects_of store.old) (C.caller call.old.work) (C.stage call.old.work)
-        (answer_seen answer) }
+        images (objects_of store.old) call.old.work.caller (stage_of call.old.work)
+        (answer_seen store.old.ram call.old.work.caller answer) }
     requires disk { store.old.size ≡ D.block_count disk.old }
     ensures done { PieceDone C.Meaning.meaning (world_of_store store.old) (objects_of store.old)
-        (objects_of store.new) (C.caller call.old.work) (call_in_place C.stage call.old)
-        (option_map (call_in_place C.stage) (cond result (Some call.new) None)) answer
-        trace.old.notes trace.new.notes
+        (objects_of store.new) call.old.work.caller (call_in_place call.old)
+        (option_map call_in_place (cond result (Some call.new) None))
+        (answer_seen store.old.ram call.old.work.caller answer) trace.old.notes trace.new.notes
         (disk_seen (D.blocks disk.old) (D.plan disk.old) (D.faults disk.old))
         (disk_seen (D.blocks disk.new) (D.plan disk.new) (D.faults disk.new)) }
-    ensures caller { result ≡ true → C.caller call.new.work ≡ C.caller call.old.work }
+    ensures caller { result ≡ true → call.new.work.caller ≡ call.old.work.caller }
     ensures world { world_of_store store.new ≡ world_of_store store.old }
     ensures size { store.new.size ≡ store.old.size }
     ensures memory { SegmentsStay store.old.ram store.new.ram }
@@ -71,25 +71,26 @@ fn run_piece<C: Calls, B: Policy, D: Disk>(
 /// The next piece of the call in flight that stands here, with an answer to the point that it asks,
 /// or by default. The call goes on, or it ends with a note.
 pub(crate) fn do_piece<C: Calls, B: Policy, D: Disk>(
-    slot: &mut Slot<C::Work>,
+    slot: &mut Slot,
     store: &mut Store<B>,
     answer: Option<[u32; 4]>,
     disk: &mut D,
     trace: &mut Trace,
 )
-    requires ready { (f : Flying C.Work) → slot.old ≡ Some f →
+    requires ready { (f : Flying) → slot.old ≡ Some f →
         (images : ImageTable) × IsReady C.Meaning.meaning (world_of_store store.old) images
-        (objects_of store.old) (C.caller f.work) (C.stage f.work) (answer_seen answer) }
+        (objects_of store.old) f.work.caller (stage_of f.work)
+        (answer_seen store.old.ram f.work.caller answer) }
     requires disk { store.old.size ≡ D.block_count disk.old }
-    ensures done { (f : Flying C.Work) → slot.old ≡ Some f →
+    ensures done { (f : Flying) → slot.old ≡ Some f →
         PieceDone C.Meaning.meaning (world_of_store store.old) (objects_of store.old)
-        (objects_of store.new) (C.caller f.work)
-        (call_in_place C.stage f)
-        (option_map (call_in_place C.stage) slot.new) answer trace.old.notes trace.new.notes
+        (objects_of store.new) f.work.caller (call_in_place f)
+        (option_map call_in_place slot.new) (answer_seen store.old.ram f.work.caller answer)
+        trace.old.notes trace.new.notes
         (disk_seen (D.blocks disk.old) (D.plan disk.old) (D.faults disk.old))
         (disk_seen (D.blocks disk.new) (D.plan disk.new) (D.faults disk.new)) }
-    ensures caller { (f g : Flying C.Work) → slot.old ≡ Some f → slot.new ≡ Some g →
-        C.caller g.work ≡ C.caller f.work }
+    ensures caller { (f g : Flying) → slot.old ≡ Some f → slot.new ≡ Some g →
+        g.work.caller ≡ f.work.caller }
     ensures world { world_of_store store.new ≡ world_of_store store.old }
     ensures size { store.new.size ≡ store.old.size }
     ensures memory { SegmentsStay store.old.ram store.new.ram }

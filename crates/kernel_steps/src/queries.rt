@@ -61,7 +61,7 @@ fn note_of(innermost: &GraftLevel, number: u32, count: u8) -> BareNote
 impl<C: Calls, B: Policy> Running<C, B> {
     /// Whether process p stands in the order.
     pub fn waits(&self, p: u8) -> bool
-        ensures { result ≡ in_order p (placed_of C.stage self.now).order }
+        ensures { result ≡ in_order p (placed_of self.now).order }
     {
         self.order.has(p)
     }
@@ -69,18 +69,17 @@ impl<C: Calls, B: Policy> Running<C, B> {
     /// Process p, which isn't in the order, joins it at its end.
     pub fn join(&mut self, p: u8)
         requires process { p < 16 }
-        requires new { in_order p (placed_of C.stage self.old).order ≡ false }
-        requires running { IsRunning C.caller self.old }
-        ensures value { Simulates (placed_joins p) (placed_of C.stage self.old)
-            (placed_of C.stage self.new) }
-        ensures running { IsRunning C.caller self.new }
+        requires new { in_order p (placed_of self.old).order ≡ false }
+        requires running { IsRunning self.old }
+        ensures value { Simulates (placed_joins p) (placed_of self.old) (placed_of self.new) }
+        ensures running { IsRunning self.new }
     {
         self.order.push(Waiting::joined(p));
     }
 
     /// The number of the call that process p has in flight.
     pub fn call_number(&self, p: u8) -> Option<u32>
-        ensures { result ≡ option_map (λ c. c.number) ((placed_of C.stage self.now).call p) }
+        ensures { result ≡ option_map (λ c. c.number) ((placed_of self.now).call p) }
     {
         number_of(&self.calls, p)
     }
@@ -88,8 +87,8 @@ impl<C: Calls, B: Policy> Running<C, B> {
     /// How many levels process p's call has.
     pub fn level_count(&self, p: u8) -> u8
         requires process { p < 16 }
-        requires running { IsRunning C.caller self.now }
-        ensures value { result ≡ length ((placed_of C.stage self.now).levels p) }
+        requires running { IsRunning self.now }
+        ensures value { result ≡ length ((placed_of self.now).levels p) }
         ensures chain { result ≡ length (chain_of self.now p).levels }
     {
         flight(&self.calls, p).chain.levels.count()
@@ -98,8 +97,8 @@ impl<C: Calls, B: Policy> Running<C, B> {
     /// Whether process p's call is in a graft.
     pub fn in_graft(&self, p: u8) -> bool
         requires process { p < 16 }
-        requires running { IsRunning C.caller self.now }
-        ensures { result ≡ has_some ((placed_of C.stage self.now).levels p) }
+        requires running { IsRunning self.now }
+        ensures { result ≡ has_some ((placed_of self.now).levels p) }
     {
         flight(&self.calls, p).chain.levels.count() != 0
     }
@@ -107,9 +106,9 @@ impl<C: Calls, B: Policy> Running<C, B> {
     /// The note that process p's call, of this number, is in a graft, if it is.
     pub fn graft_note(&self, p: u8, number: u32) -> Option<BareNote>
         requires process { p < 16 }
-        requires running { IsRunning C.caller self.now }
+        requires running { IsRunning self.now }
         ensures { option_map (λ n. note_with n []) result
-            ≡ note_in_graft number ((placed_of C.stage self.now).levels p) }
+            ≡ note_in_graft number ((placed_of self.now).levels p) }
     {
         let chain = &flight(&self.calls, p).chain;
         match chain.levels.innermost() {
@@ -122,10 +121,9 @@ impl<C: Calls, B: Policy> Running<C, B> {
     /// doesn't.
     fn wanted(&self, p: u8, object: Object) -> Mode
         requires process { p < 16 }
-        requires running { IsRunning C.caller self.now }
-        requires abstraction { HasAbstraction C.Meaning.meaning (placed_of C.stage self.now) }
-        ensures { result
-            ≡ wanted object (placed_needs C.Meaning.meaning (placed_of C.stage self.now) p) }
+        requires running { IsRunning self.now }
+        requires abstraction { HasAbstraction C.Meaning.meaning (placed_of self.now) }
+        ensures { result ≡ wanted object (placed_needs C.Meaning.meaning (placed_of self.now) p) }
     {
         soundness::sound_in_place::<C::Meaning>();
         let flight = flight(&self.calls, p);
@@ -145,9 +143,9 @@ impl<C: Calls, B: Policy> Running<C, B> {
     /// which process p needs it.
     pub fn level_in_the_way(&self, p: u8, object: Object, holder: u8) -> Option<u8>
         requires process { p < 16 }
-        requires running { IsRunning C.caller self.now }
-        requires abstraction { HasAbstraction C.Meaning.meaning (placed_of C.stage self.now) }
-        ensures value { let x = placed_of C.stage self.now in
+        requires running { IsRunning self.now }
+        requires abstraction { HasAbstraction C.Meaning.meaning (placed_of self.now) }
+        ensures value { let x = placed_of self.now in
             result ≡ outermost_holding object (wanted object (placed_needs C.Meaning.meaning x p))
             (placed_holds x holder) }
         ensures there { IfSome result (λ d. (holder < 16)

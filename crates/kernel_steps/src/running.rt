@@ -18,7 +18,7 @@ use crate::notes::Notes;
 use crate::order::{Order, Waiting};
 use crate::slots::{Slot, begin_in};
 use arrayvec::ArrayVec;
-use call_pieces::Calls;
+use call_pieces::{Calls, Work};
 use graft_calls::{Chain, Levels};
 use graft_loader::Images;
 use graft_points::Policy;
@@ -26,22 +26,23 @@ use kernel_model::{BLOCK_BYTES, BareCall, BareNote, NoMemory, PROCESSES, Refusal
 use kernel_state::Store;
 use lock_table::LockTable;
 use std::alloc::{AllocError, Global};
+use std::marker::PhantomData;
 use undo_calls::UndoStack;
 
 /// A call in flight.
 #[derive(Drop)]
-pub struct InFlight<W> {
+pub struct InFlight {
     /// The number of the event that began it.
     pub number: u32,
     /// Where it stands.
-    pub work: W,
+    pub work: Work,
 }
 
 /// What a process has in flight.
 #[derive(Drop)]
-pub struct Flight<W> {
+pub struct Flight {
     /// Its call, if it has one.
-    pub call: Slot<W>,
+    pub call: Slot,
     /// The levels of its call, if that is in a graft.
     pub chain: Chain,
 }
@@ -57,16 +58,17 @@ pub struct Running<C: Calls, B: Policy> {
     /// The images that are loaded.
     pub images: Images,
     pub(crate) locks: LockTable,
-    pub(crate) calls: Vec<Flight<C::Work>>,
+    pub(crate) calls: Vec<Flight>,
     pub(crate) order: Order,
+    pub(crate) table: PhantomData<C>,
 }
 
 /// No call, and no level.
-fn no_flight<C: Calls>() -> Flight<C::Work>
+fn no_flight() -> Flight
     ensures { result ≡ no_flight }
 {
     Flight {
-        call: Slot::empty(C::some_work()),
+        call: Slot::empty(),
         chain: Chain {
             levels: Levels::new(),
             undo: UndoStack::new(),
@@ -75,19 +77,19 @@ fn no_flight<C: Calls>() -> Flight<C::Work>
 }
 
 /// So many processes without a call.
-fn no_flights<C: Calls>(alloc: Global, count: usize) -> Result<Vec<Flight<C::Work>>, AllocError>
+fn no_flights(alloc: Global, count: usize) -> Result<Vec<Flight>, AllocError>
     ensures { IfOk result (λ v. v.items ≡ replicate count no_flight) }
 {
     let mut flights = Vec::with_capacity(alloc, count)?;
     for _ in 0..count {
-        flights.push(no_flight::<C>())?;
+        flights.push(no_flight())?;
     }
     Ok(flights)
 }
 
 /// A call of process p, which lives, begins in its place, unless it is refused at once.
 fn begin_call<C: Calls, B: Policy>(
-    flights: &mut Vec<Flight<C::Work>>,
+    flights: &mut Vec<Flight>,
     store: &Store<B>,
     images: &Images,
     p: u8,
@@ -97,7 +99,7 @@ fn begin_call<C: Calls, B: Policy>(
 ) -> Result<(), Refusal>
     requires process { p < length flights.old.items }
     requires alive { lives (queue_of store.now) p ≡ true }
-    ensures { FlightBegins C.Meaning.meaning C.stage C.caller (world_of_store store.now)
+    ensures { FlightBegins C.Meaning.meaning (world_of_store store.now)
         (table_of images.now) p number (call_with call bytes.now.items) flights.old.items
         flights.new.items result }
 {
@@ -106,7 +108,7 @@ fn begin_call<C: Calls, B: Policy>(
 }
 
 /// A process has no call.
-fn end_call<W: Drop>(flights: &mut Vec<Flight<W>>, p: u8)
+fn end_call(flights: &mut Vec<Flight>, p: u8)
     requires { p < length flights.old.items }
     ensures { flights.new.items ≡ slice_set flights.old.items p
         (record (flight_of flights.old.items p) { call = None }) }
@@ -125,12 +127,12 @@ impl<C: Calls, B: Policy> Running<C, B> {
         ensures order { IfOk result (λ x. x.order ≡ []) }
         ensures calls { IfOk result (λ x. (p : ℕ) → flight_of x.calls.items p ≡ no_flight) }
         ensures quiet { IfOk result (λ x. IsQuiet x) }
-        ensures running { IfOk result (λ x. IsRunning C.caller x) }
+        ensures running { IfOk result (λ x. IsRunning x) }
     {
         let Ok(locks) = LockTable::new(alloc) else {
             return Err(NoMemory);
         };
-        match no_flights::<C>(alloc, PROCESSES) {
+        match no_flights(alloc, PROCESSES) {
             Ok(calls) => Ok(Running {
                 store,
                 clock: 0,
@@ -138,6 +140,7 @@ impl<C: Calls, B: Policy> Running<C, B> {
                 locks,
                 calls,
                 order: Order::new(),
+                table: PhantomData,
             }),
             Err(_) => Err(NoMemory),
         }
@@ -154,10 +157,10 @@ impl<C: Calls, B: Policy> Running<C, B> {
     ) -> Result<(), Refusal>
         requires process { p < 16 }
         requires alive { lives (queue_of self.old.store) p ≡ true }
-        requires none { (placed_of C.stage self.old).call p ≡ None }
+        requires none { (placed_of self.old).call p ≡ None }
         requires new { has_number p (numbers_of self.old.order) ≡ false }
-        requires running { IsRunning C.caller self.old }
-        ensures { CallBegins C.Meaning.meaning C.stage C.caller p number
+        requires running { IsRunning self.old }
+        ensures { CallBegins C.Meaning.meaning p number
             (call_with call bytes.now.items) self.old self.new result }
     {
         let calls = &mut self.calls;
@@ -173,12 +176,12 @@ impl<C: Calls, B: Policy> Running<C, B> {
     /// The call of process p ends with this note; it has no level.
     pub fn end(&mut self, p: u8, note: BareNote, notes: &mut Notes)
         requires process { p < 16 }
-        requires running { IsRunning C.caller self.old }
+        requires running { IsRunning self.old }
         ensures value { SimulatesNoting
             (λ r. placed_requeue p (placed_noted (note_with note []) (with_placed_call p None r)))
-            (placed_of C.stage self.old) (placed_of C.stage self.new)
+            (placed_of self.old) (placed_of self.new)
             (note_with note [] ∷ []) notes.old notes.new }
-        ensures running { IsRunning C.caller self.new }
+        ensures running { IsRunning self.new }
     {
         end_call(&mut self.calls, p);
         self.order.leave(p);
@@ -188,8 +191,8 @@ impl<C: Calls, B: Policy> Running<C, B> {
     /// Whether the next step of process p's call is a piece.
     pub fn is_at_piece(&self, p: u8) -> bool
         requires process { p < 16 }
-        requires running { IsRunning C.caller self.now }
-        ensures { let x = placed_of C.stage self.now in
+        requires running { IsRunning self.now }
+        ensures { let x = placed_of self.now in
             result ≡ is_placed_at_piece (x.call p) (x.levels p) }
     {
         let flight = flight(&self.calls, p);
@@ -203,10 +206,9 @@ impl<C: Calls, B: Policy> Running<C, B> {
     /// is a piece.
     pub fn requeue(&mut self, p: u8)
         requires process { p < 16 }
-        requires running { IsRunning C.caller self.old }
-        ensures value { Simulates (placed_requeue p) (placed_of C.stage self.old)
-            (placed_of C.stage self.new) }
-        ensures running { IsRunning C.caller self.new }
+        requires running { IsRunning self.old }
+        ensures value { Simulates (placed_requeue p) (placed_of self.old) (placed_of self.new) }
+        ensures running { IsRunning self.new }
     {
         let waits = self.is_at_piece(p);
         self.order.leave(p);
@@ -219,11 +221,11 @@ impl<C: Calls, B: Policy> Running<C, B> {
     /// The clock and the count of each entry rise by one.
     pub fn tick(&mut self, number: u32, notes: &mut Notes)
         requires clock { self.old.clock < 2 ^ 32 - 1 }
-        requires running { IsRunning C.caller self.old }
-        ensures value { SimulatesNoting (placed_ticked number) (placed_of C.stage self.old)
-            (placed_of C.stage self.new) (Ticked number (suc self.old.clock) ∷ []) notes.old
+        requires running { IsRunning self.old }
+        ensures value { SimulatesNoting (placed_ticked number) (placed_of self.old)
+            (placed_of self.new) (Ticked number (suc self.old.clock) ∷ []) notes.old
             notes.new }
-        ensures running { IsRunning C.caller self.new }
+        ensures running { IsRunning self.new }
     {
         self.clock += 1;
         self.order.count_up();

@@ -67,10 +67,10 @@ impl<C: Calls, B: Policy> Running<C, B> {
     /// What the next instruction of process p's call needs, which is in a graft.
     pub fn instruction_needs(&self, p: u8) -> Needs
         requires process { p < 16 }
-        requires call { is_some (call_at C.stage self.now p) ≡ true }
-        requires level { has_some ((placed_of C.stage self.now).levels p) ≡ true }
-        requires running { IsRunning C.caller self.now }
-        ensures value { result ≡ placed_needs C.Meaning.meaning (placed_of C.stage self.now) p }
+        requires call { is_some (call_at self.now p) ≡ true }
+        requires level { has_some ((placed_of self.now).levels p) ≡ true }
+        requires running { IsRunning self.now }
+        ensures value { result ≡ placed_needs C.Meaning.meaning (placed_of self.now) p }
         ensures range { All (λ (n : Needed). IsInRange n.object) result }
     {
         flight(&self.calls, p)
@@ -88,24 +88,24 @@ impl<C: Calls, B: Policy> Running<C, B> {
         trace: &mut Trace,
     ) -> bool
         requires process { p < 16 }
-        requires call { is_some (call_at C.stage self.old p) ≡ true }
-        requires level { has_some ((placed_of C.stage self.old).levels p) ≡ true }
-        requires free { placed_blocker C.Meaning.meaning (placed_of C.stage self.old) p ≡ None }
-        requires running { IsRunning C.caller self.old }
-        requires abstraction { HasAbstraction C.Meaning.meaning (placed_of C.stage self.old) }
+        requires call { is_some (call_at self.old p) ≡ true }
+        requires level { has_some ((placed_of self.old).levels p) ≡ true }
+        requires free { placed_blocker C.Meaning.meaning (placed_of self.old) p ≡ None }
+        requires running { IsRunning self.old }
+        requires abstraction { HasAbstraction C.Meaning.meaning (placed_of self.old) }
         requires disk { self.old.store.size ≡ D.block_count disk.old }
-        requires needs { let x = placed_of C.stage self.old in
+        requires needs { let x = placed_of self.old in
             needs.now ≡ placed_needs C.Meaning.meaning x p }
         requires range { All (λ (n : Needed). IsInRange n.object) needs.now }
         requires few { length needs.now ≤ 3 }
-        ensures kept { result ≡ true → KeepsHolds C.Meaning.meaning (placed_of C.stage self.old)
-            (placed_of C.stage self.new) p }
-        ensures refines { Refines (placed_step C.Meaning.meaning p) (placed_of C.stage self.old)
-            (placed_of C.stage self.new) trace.old.notes trace.new.notes
+        ensures kept { result ≡ true → KeepsHolds C.Meaning.meaning (placed_of self.old)
+            (placed_of self.new) p }
+        ensures refines { Refines (placed_step C.Meaning.meaning p) (placed_of self.old)
+            (placed_of self.new) trace.old.notes trace.new.notes
             (disk_seen (D.blocks disk.old) (D.plan disk.old) (D.faults disk.old))
             (disk_seen (D.blocks disk.new) (D.plan disk.new) (D.faults disk.new)) }
-        ensures running { IsRunning C.caller self.new }
-        ensures abstraction { HasAbstraction C.Meaning.meaning (placed_of C.stage self.new) }
+        ensures running { IsRunning self.new }
+        ensures abstraction { HasAbstraction C.Meaning.meaning (placed_of self.new) }
         ensures world { world_of_store self.new.store ≡ world_of_store self.old.store }
         ensures clock { self.new.clock ≡ self.old.clock }
         ensures same_size { D.block_count disk.new ≡ D.block_count disk.old }

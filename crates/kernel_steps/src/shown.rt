@@ -83,8 +83,8 @@ impl<C: Calls, B: Policy> Running<C, B> {
     /// level.
     pub fn call_row(&self, p: u8) -> Option<RawRow>
         requires process { p < 16 }
-        requires running { IsRunning C.caller self.now }
-        ensures { result ≡ placed_call_row (placed_of C.stage self.now) p }
+        requires running { IsRunning self.now }
+        ensures { result ≡ placed_call_row (placed_of self.now) p }
     {
         let flight = flight(&self.calls, p);
         let Some(call) = flight.call.get() else {
@@ -97,8 +97,8 @@ impl<C: Calls, B: Policy> Running<C, B> {
     /// How many levels the call of process p has.
     pub fn shown_levels(&self, p: u8) -> u8
         requires process { p < 16 }
-        requires running { IsRunning C.caller self.now }
-        ensures value { result ≡ length (placed_level_rows (placed_of C.stage self.now) p) }
+        requires running { IsRunning self.now }
+        ensures value { result ≡ length (placed_level_rows (placed_of self.now) p) }
         ensures few { result ≤ 4 }
     {
         flight(&self.calls, p).chain.levels.count()
@@ -107,9 +107,9 @@ impl<C: Calls, B: Policy> Running<C, B> {
     /// Level d of process p's call, 0 being the outermost.
     pub fn level_row(&self, p: u8, d: u8) -> RawRow
         requires process { p < 16 }
-        requires running { IsRunning C.caller self.now }
-        requires level { d < length (placed_level_rows (placed_of C.stage self.now) p) }
-        ensures { slice_get (placed_level_rows (placed_of C.stage self.now) p) d ≡ Some result }
+        requires running { IsRunning self.now }
+        requires level { d < length (placed_level_rows (placed_of self.now) p) }
+        ensures { slice_get (placed_level_rows (placed_of self.now) p) d ≡ Some result }
     {
         row_of_level(&flight(&self.calls, p).chain.levels, p, d)
     }
@@ -117,8 +117,8 @@ impl<C: Calls, B: Policy> Running<C, B> {
     /// How many records the call of process p has, over all its levels.
     pub fn shown_records(&self, p: u8) -> u8
         requires process { p < 16 }
-        requires running { IsRunning C.caller self.now }
-        ensures value { result ≡ length (placed_undo_rows (placed_of C.stage self.now) p) }
+        requires running { IsRunning self.now }
+        ensures value { result ≡ length (placed_undo_rows (placed_of self.now) p) }
         ensures few { result ≤ 64 }
     {
         flight(&self.calls, p).chain.undo.list().len() as u8
@@ -127,9 +127,9 @@ impl<C: Calls, B: Policy> Running<C, B> {
     /// Record i of process p's call with the level that owns it, 0 being the newest.
     pub fn undo_row(&self, p: u8, i: u8) -> RawRow
         requires process { p < 16 }
-        requires running { IsRunning C.caller self.now }
-        requires recorded { i < length (placed_undo_rows (placed_of C.stage self.now) p) }
-        ensures { slice_get (placed_undo_rows (placed_of C.stage self.now) p) i ≡ Some result }
+        requires running { IsRunning self.now }
+        requires recorded { i < length (placed_undo_rows (placed_of self.now) p) }
+        ensures { slice_get (placed_undo_rows (placed_of self.now) p) i ≡ Some result }
     {
         row_of_record(&flight(&self.calls, p).chain.undo, p, i)
     }

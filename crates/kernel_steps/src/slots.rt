@@ -9,7 +9,7 @@ ghost use Rattle.kernel_steps.specs.Begins.{SlotBegins};
 
 use crate::running::InFlight;
 use arrayvec::ArrayVec;
-use call_pieces::Calls;
+use call_pieces::{Calls, Work};
 use graft_loader::Images;
 use graft_points::Policy;
 use kernel_model::{BLOCK_BYTES, BareCall, Refusal};
@@ -19,33 +19,36 @@ use std::marker::Model;
 /// A place for a call in flight, which contracts see as the call, if it has one. A call begins and
 /// ends where it stands: none is moved.
 #[derive(Drop)]
-pub struct Slot<W> {
+pub struct Slot {
     pub(crate) taken: bool,
-    pub(crate) call: InFlight<W>,
+    pub(crate) call: InFlight,
 }
 
-impl<W> Model for Slot<W> {
+impl Model for Slot {
     ghost use Rattle.std.specs.Prelude.{Option, Some, None, cond};
     ghost use Rattle.kernel_steps.specs.declared.running.InFlight.{InFlight as Flying};
 
-    ghost Value = { Option (Flying W) };
+    ghost Value = { Option Flying };
 
     ghost view = { λ s. cond s.taken (Some s.call) None };
 }
 
-impl<W> Slot<W> {
+impl Slot {
     /// A place without a call, in which some work stands that will be written over.
-    pub(crate) fn empty(work: W) -> Slot<W>
+    pub(crate) fn empty() -> Slot
         ensures { result ≡ None }
     {
         Slot {
             taken: false,
-            call: InFlight { number: 0, work },
+            call: InFlight {
+                number: 0,
+                work: Work::new(),
+            },
         }
     }
 
     /// The call that stands here, if one does.
-    pub fn get(&self) -> Option<&InFlight<W>>
+    pub fn get(&self) -> Option<&InFlight>
         ensures { option_copied result ≡ self.now }
     {
         if self.taken { Some(&self.call) } else { None }
@@ -61,7 +64,7 @@ impl<W> Slot<W> {
 
 /// A call of process p, which lives, begins here, unless it is refused at once.
 pub(crate) fn begin_in<C: Calls, B: Policy>(
-    slot: &mut Slot<C::Work>,
+    slot: &mut Slot,
     store: &Store<B>,
     images: &Images,
     p: u8,
@@ -70,7 +73,7 @@ pub(crate) fn begin_in<C: Calls, B: Policy>(
     bytes: &ArrayVec<u8, BLOCK_BYTES>,
 ) -> Result<(), Refusal>
     requires alive { lives (queue_of store.now) p ≡ true }
-    ensures { SlotBegins C.Meaning.meaning C.stage C.caller (world_of_store store.now)
+    ensures { SlotBegins C.Meaning.meaning (world_of_store store.now)
         (table_of images.now) p number (call_with call bytes.now.items) slot.new result }
 {
     slot.taken = false;

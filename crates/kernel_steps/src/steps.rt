@@ -10,7 +10,7 @@ ghost use Rattle.kernel_state.specs.Stores.{world_of_store, objects_of};
 ghost use Rattle.graft_loader.specs.Slots.{table_of};
 ghost use Rattle.placed_laws.specs.Placed.{PlacedCall, placed_blocker, placed_config};
 ghost use Rattle.placed_laws.specs.PlacedSteps.{placed_call_step, placed_drop, placed_noted, placed_outcome, placed_step};
-ghost use Rattle.call_pieces.specs.Works.{answer_seen};
+ghost use Rattle.call_pieces.specs.Works.{answer_seen, stage_of};
 ghost use Rattle.kernel_steps.specs.declared.running.InFlight.{InFlight as Flying};
 ghost use Rattle.kernel_steps.specs.Refines.{Refines};
 ghost use Rattle.kernel_steps.specs.Steps.{answer_said, answer_of_drop, after_drop, after_said, finishes, StepDone, StepsAlone};
@@ -20,7 +20,7 @@ use crate::blocking::{flight, number_of};
 use crate::pieces::do_piece;
 use crate::running::Running;
 use crate::trace::Trace;
-use call_pieces::{Calls, Needs};
+use call_pieces::Calls;
 use graft_points::Policy;
 use kernel_model::{BareNote, Cause, Micro};
 use placed_laws::{agreeing, keeping, owners, soundness};
@@ -31,15 +31,16 @@ impl<C: Calls, B: Policy> Running<C, B> {
     /// it asks, or by default.
     fn finish<D: Disk>(&mut self, p: u8, answer: Option<[u32; 4]>, disk: &mut D, trace: &mut Trace)
         requires process { p < 16 }
-        requires alone { StepsAlone C.caller self.old p }
+        requires alone { StepsAlone self.old p }
         requires none { (chain_of self.old p).levels ≡ [] }
-        requires ready { (f : Flying C.Work) → (flight_of self.old.calls.items p).call ≡ Some f →
+        requires ready { (f : Flying) → (flight_of self.old.calls.items p).call ≡ Some f →
             IsReady C.Meaning.meaning (world_of_store self.old.store) (table_of self.old.images)
-            (objects_of self.old.store) p (C.stage f.work) (answer_seen answer) }
+            (objects_of self.old.store) p (stage_of f.work)
+            (answer_seen self.old.store.ram p answer) }
         requires disk { self.old.store.size ≡ D.block_count disk.old }
-        ensures done { (c : PlacedCall) → call_at C.stage self.old p ≡ Some c →
-            StepDone C.stage C.caller
-            (finishes C.Meaning.meaning p c answer) self.old self.new p trace.old.notes trace.new.notes
+        ensures done { (c : PlacedCall) → call_at self.old p ≡ Some c →
+            StepDone (finishes C.Meaning.meaning p c (answer_seen self.old.store.ram p answer))
+            self.old self.new p trace.old.notes trace.new.notes
             (disk_seen (D.blocks disk.old) (D.plan disk.old) (D.faults disk.old))
             (disk_seen (D.blocks disk.new) (D.plan disk.new) (D.faults disk.new)) }
         ensures same_size { D.block_count disk.new ≡ D.block_count disk.old }
@@ -59,16 +60,17 @@ impl<C: Calls, B: Policy> Running<C, B> {
         trace: &mut Trace,
     )
         requires process { p < 16 }
-        requires alone { StepsAlone C.caller self.old p }
+        requires alone { StepsAlone self.old p }
         requires none { (answer : Option (List ℕ)) → answer_of_drop d ≡ Some answer →
             (chain_of self.old p).levels ≡ [] }
-        requires ready { (answer : Option (List ℕ)) (f : Flying C.Work) →
+        requires ready { (answer : Option (List ℕ)) (f : Flying) →
             answer_of_drop d ≡ Some answer → (flight_of self.old.calls.items p).call ≡ Some f →
             IsReady C.Meaning.meaning (world_of_store self.old.store) (table_of self.old.images)
-            (objects_of self.old.store) p (C.stage f.work) (answer_seen answer) }
+            (objects_of self.old.store) p (stage_of f.work)
+            (answer_seen self.old.store.ram p answer) }
         requires disk { self.old.store.size ≡ D.block_count disk.old }
-        ensures done { (c : PlacedCall) → call_at C.stage self.old p ≡ Some c →
-            StepDone C.stage C.caller (λ r. after_drop C.Meaning.meaning p c d
+        ensures done { (c : PlacedCall) → call_at self.old p ≡ Some c →
+            StepDone (λ r. after_drop C.Meaning.meaning p c d
             (placed_noted (note_with note []) r)) self.old self.new p trace.old.notes trace.new.notes
             (disk_seen (D.blocks disk.old) (D.plan disk.old) (D.faults disk.old))
             (disk_seen (D.blocks disk.new) (D.plan disk.new) (D.faults disk.new)) }
@@ -82,20 +84,21 @@ impl<C: Calls, B: Policy> Running<C, B> {
     }
 
     /// What is left to do of a step of process p's call, once an instruction or the drop of a level
-    /// said this.
+    /// said this. What an answer gives stands in memory.
     fn follow<D: Disk>(&mut self, p: u8, said: Micro, disk: &mut D, trace: &mut Trace)
         requires process { p < 16 }
-        requires alone { StepsAlone C.caller self.old p }
+        requires alone { StepsAlone self.old p }
         requires none { (answer : Option (List ℕ)) → answer_said said ≡ Some answer →
             (chain_of self.old p).levels ≡ [] }
-        requires ready { (answer : Option (List ℕ)) (f : Flying C.Work) →
+        requires ready { (answer : Option (List ℕ)) (f : Flying) →
             answer_said said ≡ Some answer → (flight_of self.old.calls.items p).call ≡ Some f →
             IsReady C.Meaning.meaning (world_of_store self.old.store) (table_of self.old.images)
-            (objects_of self.old.store) p (C.stage f.work) (answer_seen answer) }
+            (objects_of self.old.store) p (stage_of f.work)
+            (answer_seen self.old.store.ram p answer) }
         requires disk { self.old.store.size ≡ D.block_count disk.old }
-        ensures done { (c : PlacedCall) → call_at C.stage self.old p ≡ Some c →
-            StepDone C.stage C.caller
-            (after_said C.Meaning.meaning p c said) self.old self.new p trace.old.notes trace.new.notes
+        ensures done { (c : PlacedCall) → call_at self.old p ≡ Some c →
+            StepDone (after_said C.Meaning.meaning self.old.store.ram p c said) self.old self.new p
+            trace.old.notes trace.new.notes
             (disk_seen (D.blocks disk.old) (D.plan disk.old) (D.faults disk.old))
             (disk_seen (D.blocks disk.new) (D.plan disk.new) (D.faults disk.new)) }
         ensures same_size { D.block_count disk.new ≡ D.block_count disk.old }
@@ -116,11 +119,11 @@ impl<C: Calls, B: Policy> Running<C, B> {
     fn graft_step<D: Disk>(&mut self, p: u8, disk: &mut D, trace: &mut Trace)
         requires process { p < 16 }
         requires level { 0 < length (chain_of self.old p).levels }
-        requires running { IsRunning C.caller self.old }
-        requires abstraction { HasAbstraction C.Meaning.meaning (placed_of C.stage self.old) }
+        requires running { IsRunning self.old }
+        requires abstraction { HasAbstraction C.Meaning.meaning (placed_of self.old) }
         requires disk { self.old.store.size ≡ D.block_count disk.old }
-        ensures done { (c : PlacedCall) → call_at C.stage self.old p ≡ Some c →
-            StepDone C.stage C.caller (λ r. placed_outcome C.Meaning.meaning p c
+        ensures done { (c : PlacedCall) → call_at self.old p ≡ Some c →
+            StepDone (λ r. placed_outcome C.Meaning.meaning p c
             (micro r.placed.world r.placed.images p (placed_config r.placed p)) r) self.old self.new
             p trace.old.notes trace.new.notes
             (disk_seen (D.blocks disk.old) (D.plan disk.old) (D.faults disk.old))
@@ -138,11 +141,11 @@ impl<C: Calls, B: Policy> Running<C, B> {
     fn piece_step<D: Disk>(&mut self, p: u8, disk: &mut D, trace: &mut Trace)
         requires process { p < 16 }
         requires none { (chain_of self.old p).levels ≡ [] }
-        requires running { IsRunning C.caller self.old }
-        requires abstraction { HasAbstraction C.Meaning.meaning (placed_of C.stage self.old) }
+        requires running { IsRunning self.old }
+        requires abstraction { HasAbstraction C.Meaning.meaning (placed_of self.old) }
         requires disk { self.old.store.size ≡ D.block_count disk.old }
-        ensures done { (c : PlacedCall) → call_at C.stage self.old p ≡ Some c →
-            StepDone C.stage C.caller (λ r. placed_call_step C.Meaning.meaning p (Some c) r)
+        ensures done { (c : PlacedCall) → call_at self.old p ≡ Some c →
+            StepDone (λ r. placed_call_step C.Meaning.meaning p (Some c) r)
             self.old self.new p trace.old.notes trace.new.notes
             (disk_seen (D.blocks disk.old) (D.plan disk.old) (D.faults disk.old))
             (disk_seen (D.blocks disk.new) (D.plan disk.new) (D.faults disk.new)) }
@@ -161,20 +164,18 @@ impl<C: Calls, B: Policy> Running<C, B> {
         if !self.store.has_graft(point.installer, point.point) {
             return self.finish(p, None, disk, trace);
         }
-        let mut needs = Needs::new();
-        C::need(&call.work, &self.store, &mut needs);
-        self.enter(p, needs.as_slice(), &point);
+        self.enter(p, &point);
     }
 
     /// A step of process p's call, but for its place in the order.
     fn step_call<D: Disk>(&mut self, p: u8, disk: &mut D, trace: &mut Trace)
         requires process { p < 16 }
-        requires call { is_some (call_at C.stage self.old p) ≡ true }
-        requires running { IsRunning C.caller self.old }
-        requires abstraction { HasAbstraction C.Meaning.meaning (placed_of C.stage self.old) }
+        requires call { is_some (call_at self.old p) ≡ true }
+        requires running { IsRunning self.old }
+        requires abstraction { HasAbstraction C.Meaning.meaning (placed_of self.old) }
         requires disk { self.old.store.size ≡ D.block_count disk.old }
-        ensures done { StepDone C.stage C.caller
-            (placed_call_step C.Meaning.meaning p (call_at C.stage self.old p)) self.old self.new p
+        ensures done { StepDone
+            (placed_call_step C.Meaning.meaning p (call_at self.old p)) self.old self.new p
             trace.old.notes trace.new.notes
             (disk_seen (D.blocks disk.old) (D.plan disk.old) (D.faults disk.old))
             (disk_seen (D.blocks disk.new) (D.plan disk.new) (D.faults disk.new)) }
@@ -191,17 +192,17 @@ impl<C: Calls, B: Policy> Running<C, B> {
     /// where its next step is a piece. The log is for the calls of the disk of one piece.
     pub fn step<D: Disk>(&mut self, p: u8, disk: &mut D, trace: &mut Trace)
         requires process { p < 16 }
-        requires call { is_some (call_at C.stage self.old p) ≡ true }
-        requires free { placed_blocker C.Meaning.meaning (placed_of C.stage self.old) p ≡ None }
-        requires running { IsRunning C.caller self.old }
-        requires abstraction { HasAbstraction C.Meaning.meaning (placed_of C.stage self.old) }
+        requires call { is_some (call_at self.old p) ≡ true }
+        requires free { placed_blocker C.Meaning.meaning (placed_of self.old) p ≡ None }
+        requires running { IsRunning self.old }
+        requires abstraction { HasAbstraction C.Meaning.meaning (placed_of self.old) }
         requires disk { self.old.store.size ≡ D.block_count disk.old }
-        ensures refines { Refines (placed_step C.Meaning.meaning p) (placed_of C.stage self.old)
-            (placed_of C.stage self.new) trace.old.notes trace.new.notes
+        ensures refines { Refines (placed_step C.Meaning.meaning p) (placed_of self.old)
+            (placed_of self.new) trace.old.notes trace.new.notes
             (disk_seen (D.blocks disk.old) (D.plan disk.old) (D.faults disk.old))
             (disk_seen (D.blocks disk.new) (D.plan disk.new) (D.faults disk.new)) }
-        ensures running { IsRunning C.caller self.new }
-        ensures abstraction { HasAbstraction C.Meaning.meaning (placed_of C.stage self.new) }
+        ensures running { IsRunning self.new }
+        ensures abstraction { HasAbstraction C.Meaning.meaning (placed_of self.new) }
         ensures world { world_of_store self.new.store ≡ world_of_store self.old.store }
         ensures clock { self.new.clock ≡ self.old.clock }
         ensures same_size { D.block_count disk.new ≡ D.block_count disk.old }
@@ -217,11 +218,11 @@ impl<C: Calls, B: Policy> Running<C, B> {
     fn drop_call<D: Disk>(&mut self, p: u8, d: u8, cause: Cause, disk: &mut D, trace: &mut Trace)
         requires process { p < 16 }
         requires level { d < length (chain_of self.old p).levels }
-        requires running { IsRunning C.caller self.old }
-        requires abstraction { HasAbstraction C.Meaning.meaning (placed_of C.stage self.old) }
+        requires running { IsRunning self.old }
+        requires abstraction { HasAbstraction C.Meaning.meaning (placed_of self.old) }
         requires disk { self.old.store.size ≡ D.block_count disk.old }
-        ensures done { (c : PlacedCall) → call_at C.stage self.old p ≡ Some c →
-            StepDone C.stage C.caller (λ r. placed_outcome C.Meaning.meaning p c
+        ensures done { (c : PlacedCall) → call_at self.old p ≡ Some c →
+            StepDone (λ r. placed_outcome C.Meaning.meaning p c
             (level_dropped r.placed.world r.placed.objects
             (placed_config r.placed p).levels d cause) r) self.old self.new p trace.old.notes trace.new.notes
             (disk_seen (D.blocks disk.old) (D.plan disk.old) (D.faults disk.old))
@@ -247,15 +248,15 @@ impl<C: Calls, B: Policy> Running<C, B> {
     )
         requires process { p < 16 }
         requires level { d < length (chain_of self.old p).levels }
-        requires running { IsRunning C.caller self.old }
-        requires abstraction { HasAbstraction C.Meaning.meaning (placed_of C.stage self.old) }
+        requires running { IsRunning self.old }
+        requires abstraction { HasAbstraction C.Meaning.meaning (placed_of self.old) }
         requires disk { self.old.store.size ≡ D.block_count disk.old }
-        ensures refines { Refines (placed_drop C.Meaning.meaning p d cause) (placed_of C.stage self.old)
-            (placed_of C.stage self.new) trace.old.notes trace.new.notes
+        ensures refines { Refines (placed_drop C.Meaning.meaning p d cause) (placed_of self.old)
+            (placed_of self.new) trace.old.notes trace.new.notes
             (disk_seen (D.blocks disk.old) (D.plan disk.old) (D.faults disk.old))
             (disk_seen (D.blocks disk.new) (D.plan disk.new) (D.faults disk.new)) }
-        ensures running { IsRunning C.caller self.new }
-        ensures abstraction { HasAbstraction C.Meaning.meaning (placed_of C.stage self.new) }
+        ensures running { IsRunning self.new }
+        ensures abstraction { HasAbstraction C.Meaning.meaning (placed_of self.new) }
         ensures world { world_of_store self.new.store ≡ world_of_store self.old.store }
         ensures clock { self.new.clock ≡ self.old.clock }
         ensures same_size { D.block_count disk.new ≡ D.block_count disk.old }

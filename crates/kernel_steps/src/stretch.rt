@@ -18,16 +18,16 @@ impl<C: Calls, B: Policy> Running<C, B> {
     /// holds already. How many there were. It may stop early, even at none.
     pub fn stretch(&mut self, p: u8, n: u32) -> u32
         requires process { p < 16 }
-        requires level { let x = placed_of C.stage self.old in
+        requires level { let x = placed_of self.old in
             has_some (x.levels p) ≡ true }
-        requires away { in_order p (placed_of C.stage self.old).order ≡ false }
-        requires running { IsRunning C.caller self.old }
-        requires abstraction { HasAbstraction C.Meaning.meaning (placed_of C.stage self.old) }
+        requires away { in_order p (placed_of self.old).order ≡ false }
+        requires running { IsRunning self.old }
+        requires abstraction { HasAbstraction C.Meaning.meaning (placed_of self.old) }
         ensures most { result ≤ n }
-        ensures is { let x = placed_of C.stage self.old in
-            IsStretched x (placed_of C.stage self.new) p result }
-        ensures running { IsRunning C.caller self.new }
-        ensures abstraction { HasAbstraction C.Meaning.meaning (placed_of C.stage self.new) }
+        ensures is { let x = placed_of self.old in
+            IsStretched x (placed_of self.new) p result }
+        ensures running { IsRunning self.new }
+        ensures abstraction { HasAbstraction C.Meaning.meaning (placed_of self.new) }
         ensures world { world_of_store self.new.store ≡ world_of_store self.old.store }
         ensures clock { self.new.clock ≡ self.old.clock }
     {

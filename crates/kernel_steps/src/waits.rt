@@ -117,9 +117,9 @@ impl<C: Calls, B: Policy> Running<C, B> {
     /// The first of these entries that nothing blocks.
     fn first_free_of(&self, entries: &[Waiting]) -> Option<u8>
         requires processes { are_processes entries.now ≡ true }
-        requires running { IsRunning C.caller self.now }
-        requires abstraction { HasAbstraction C.Meaning.meaning (placed_of C.stage self.now) }
-        ensures { result ≡ placed_first_free C.Meaning.meaning (placed_of C.stage self.now)
+        requires running { IsRunning self.now }
+        requires abstraction { HasAbstraction C.Meaning.meaning (placed_of self.now) }
+        ensures { result ≡ placed_first_free C.Meaning.meaning (placed_of self.now)
             (order_of entries.now) }
     {
         let Some((first, rest)) = entries.split_first() else {
@@ -135,10 +135,10 @@ impl<C: Calls, B: Policy> Running<C, B> {
     fn rested_from(&self, entries: &[Waiting], done: Order) -> Order
         requires processes { are_processes entries.now ≡ true }
         requires room { length done + length entries.now ≤ 16 }
-        requires running { IsRunning C.caller self.now }
-        requires abstraction { HasAbstraction C.Meaning.meaning (placed_of C.stage self.now) }
+        requires running { IsRunning self.now }
+        requires abstraction { HasAbstraction C.Meaning.meaning (placed_of self.now) }
         ensures value { order_of result ≡ order_of done
-            ++ placed_rested_order C.Meaning.meaning (placed_of C.stage self.now)
+            ++ placed_rested_order C.Meaning.meaning (placed_of self.now)
             (order_of entries.now) }
         ensures counts { counts_within self.now.clock done ≡ true →
             counts_within self.now.clock entries.now ≡ true →
@@ -156,9 +156,9 @@ impl<C: Calls, B: Policy> Running<C, B> {
 
     /// The process of the first call in the order that nothing blocks.
     pub fn first_free(&self) -> Option<u8>
-        requires running { IsRunning C.caller self.now }
-        requires abstraction { HasAbstraction C.Meaning.meaning (placed_of C.stage self.now) }
-        ensures { let x = placed_of C.stage self.now in
+        requires running { IsRunning self.now }
+        requires abstraction { HasAbstraction C.Meaning.meaning (placed_of self.now) }
+        ensures { let x = placed_of self.now in
             result ≡ placed_first_free C.Meaning.meaning x x.order }
     {
         self.first_free_of(self.order.entries())
@@ -166,12 +166,12 @@ impl<C: Calls, B: Policy> Running<C, B> {
 
     /// The order is told its blockers.
     pub fn rest(&mut self)
-        requires running { IsRunning C.caller self.old }
-        requires abstraction { HasAbstraction C.Meaning.meaning (placed_of C.stage self.old) }
-        ensures value { let x = placed_of C.stage self.old in
+        requires running { IsRunning self.old }
+        requires abstraction { HasAbstraction C.Meaning.meaning (placed_of self.old) }
+        ensures value { let x = placed_of self.old in
             Simulates (with_placed_order (placed_rested_order C.Meaning.meaning x x.order)) x
-            (placed_of C.stage self.new) }
-        ensures running { IsRunning C.caller self.new }
+            (placed_of self.new) }
+        ensures running { IsRunning self.new }
     {
         if self.order.is_empty() {
             return;
@@ -183,7 +183,7 @@ impl<C: Calls, B: Policy> Running<C, B> {
     /// The first entry of the order whose count has reached the patience with its blocker's kind of
     /// object.
     pub fn expired(&self) -> Option<Waiting>
-        ensures { let x = placed_of C.stage self.now in
+        ensures { let x = placed_of self.now in
             option_map entry_of result ≡ expired_by x.world x.order }
     {
         first_over(&self.store.setup.patience, self.order.entries())

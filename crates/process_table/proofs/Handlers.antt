@@ -1,5 +1,5 @@
 -- Lemmas on handlers.
-use Rattle.std.proofs.Common.{◌≡◌, ℕ, ◌+◌, ◌<◌, ◌≤◌, Bool, true, List, [], ◌∷◌, ◌++◌, length, filter, not, ◌&&◌, ◌==◌, nat_le, refl, arith, length-append}
+use Rattle.std.proofs.Common.{◌≡◌, ℕ, ◌+◌, ◌<◌, ◌≤◌, Bool, true, List, [], ◌∷◌, ◌++◌, length, filter, not, ◌&&◌, ◌==◌, nat_le, nat_lt, refl, arith, length-append}
 use Rattle.std.specs.List.{list_any, list_all}
 use Rattle.std.proofs.lemmas.Bool.Decides.{nat_tests}
 use Rattle.std.proofs.lemmas.List.Elements.{filter-append}
@@ -51,3 +51,16 @@ added q pt hs low high has h =
       points = rw list_all-append (grind (arith, nat_tests, kept.points));
       most = λ pu. rw filter-append (rw length-append (grind (arith, nat_tests, room-at q pt hs has h, kept.most pu)));
     }
+
+-- handlers that pass a test are of processes below 16, where all are
+pub low_pass : (p : ℕ × ℕ → Bool) (hs : List (ℕ × ℕ)) → list_all (λ (h : ℕ × ℕ). nat_lt h.0 16) hs ≡ true
+    → list_all (λ (h : ℕ × ℕ). nat_lt h.0 16) (filter p hs) ≡ true
+low_pass p [] h = refl
+low_pass p (x ∷ hs) h = grind (arith, nat_tests, low_pass p hs)
+
+-- and so they are where one of such a process is put last
+pub low_added : (q pt : ℕ) (hs : List (ℕ × ℕ)) → q < 16 → list_all (λ (h : ℕ × ℕ). nat_lt h.0 16) hs ≡ true
+    → list_all (λ (h : ℕ × ℕ). nat_lt h.0 16) (handlers_without q pt hs ++ (q, pt) ∷ []) ≡ true
+low_added q pt hs low h =
+    let kept = low_pass (λ x. not (is_handler q pt x)) hs h in
+    rw list_all-append (grind (arith, nat_tests, kept))

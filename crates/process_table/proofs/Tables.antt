@@ -1,5 +1,6 @@
 -- Lemmas on the arrays: what always holds of them stays.
-use Rattle.std.proofs.Common.{◌≡◌, ◌≢◌, ℕ, ◌+◌, ◌*◌, ◌<◌, true, cond, Option, None, List, [], ◌∷◌, length, map, not, ◌==◌, get_or, set, refl, arith, ◌∙◌, IfSome}
+use Rattle.std.proofs.Common.{◌≡◌, ◌≢◌, ℕ, ◌+◌, ◌*◌, ◌<◌, true, cond, Option, None, List, [], ◌∷◌, length, map, not, ◌==◌, nat_lt, get_or, set, refl, arith, ◌∙◌, IfSome}
+use Rattle.std.specs.List.{list_all}
 use Rattle.std.proofs.lemmas.Bool.Decides.{nat_tests}
 use Rattle.std.proofs.lemmas.Grind.{common_steps}
 use Rattle.std.proofs.lemmas.List.{get_or-set_same, get_or-set_other}
@@ -11,6 +12,7 @@ use Rattle.kernel_model.specs.Policies.{lives}
 use Rattle.kernel_model.specs.Pieces.{freed_by}
 use Rattle.kernel_model.specs.Handlers.{AreHandlers, handlers_without_process, handlers_pass}
 use Rattle.process_table.specs.Processes.{Table, IsTable, IsQueue, is_of}
+use Rattle.process_table.proofs.Handlers.{low_pass}
 use Rattle.process_table.proofs.Queue.{opening-queue, without-queue, living-without}
 
 -- the queue changes, and whoever lived lives
@@ -27,16 +29,18 @@ requeued t rows h queue lives = record {
     files = λ p fd dead. h.sound.files p fd (grind (arith, lives p));
     locks = λ u p held. lives p (h.sound.locks u p held);
     handlers = h.sound.handlers;
+    processes = h.sound.processes;
   };
 }
 
 -- the handlers change
-pub handled : (t : Table) (hs : List (ℕ × ℕ)) → IsTable t → AreHandlers hs → IsTable (record t { handlers = hs })
-handled t hs h are = record {
+pub handled : (t : Table) (hs : List (ℕ × ℕ)) → IsTable t → AreHandlers hs → list_all (λ (x : ℕ × ℕ). nat_lt x.0 16) hs ≡ true
+    → IsTable (record t { handlers = hs })
+handled t hs h are low = record {
   cells = h.cells;
   files = h.files;
   holders = h.holders;
-  sound = record { queue = h.sound.queue; cells = h.sound.cells; files = h.sound.files; locks = h.sound.locks; handlers = are };
+  sound = record { queue = h.sound.queue; cells = h.sound.cells; files = h.sound.files; locks = h.sound.locks; handlers = are; processes = low };
 }
 
 -- a cell of a living process changes
@@ -54,6 +58,7 @@ with_cell t p k v lt lives h = record {
     files = h.sound.files;
     locks = h.sound.locks;
     handlers = h.sound.handlers;
+    processes = h.sound.processes;
   };
 }
 
@@ -81,6 +86,7 @@ with_file t p fd row le lt lives h = record {
         );
     locks = h.sound.locks;
     handlers = h.sound.handlers;
+    processes = h.sound.processes;
   };
 }
 
@@ -98,6 +104,7 @@ with_holder t u p lt lives h = record {
     locks = λ w q held.
         grind (arith, nat_tests, h.holders, lives, held, h.sound.locks w q, get_or-set_other t.holders u w p None, get_or-set_same t.holders u p None);
     handlers = h.sound.handlers;
+    processes = h.sound.processes;
   };
 }
 
@@ -124,6 +131,7 @@ left t p cells files pos long wide cleared closed h = record {
         let freed = get_or-map (freed_by p) t.holders u None in
         grind (arith, nat_tests, h.sound.locks u q, living-without q p t.queue);
     handlers = handlers_pass (λ (x : ℕ × ℕ). not (x.0 == p)) t.handlers h.sound.handlers;
+    processes = low_pass (λ (x : ℕ × ℕ). not (x.0 == p)) t.handlers h.sound.processes;
   };
 }
 
@@ -141,5 +149,6 @@ opened cells files holders a b d zeros closed free = record {
     files = λ p fd dead. grind (arith, nat_tests, closed (4 * p + fd));
     locks = λ u p held. grind (arith, free u, held);
     handlers = record { once = λ q pt. omega arith; points = refl; most = λ pt. omega arith };
+    processes = refl;
   };
 }

@@ -101,13 +101,15 @@ pub record IsQueue (rows : List QueueRow) : Type 0 where
   pub nices : list_all (λ (r : QueueRow). nat_le r.nice 39) rows ≡ true
   pub root : lives rows 0 ≡ true
 
--- what always holds of the processes: what isn't living has nothing
+-- what always holds of the processes: what isn't living has nothing, and handlers are of numbers
+-- that processes have
 pub record IsSound (s : Processes) : Type 0 where
   pub queue : IsQueue s.queue
   pub cells : (p k : ℕ) → lives s.queue p ≡ false → s.cell p k ≡ 0
   pub files : (p fd : ℕ) → lives s.queue p ≡ false → s.file p fd ≡ None
   pub locks : (u p : ℕ) → s.lock u ≡ Some p → lives s.queue p ≡ true
   pub handlers : AreHandlers s.handlers
+  pub processes : list_all (λ (h : ℕ × ℕ). nat_lt h.0 16) s.handlers ≡ true
 
 -- what always holds of the arrays
 pub record IsTable (t : Table) : Type 0 where

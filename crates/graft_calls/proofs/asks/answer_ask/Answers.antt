@@ -1,4 +1,4 @@
-use Rattle.std.proofs.Common.{◌≡◌, ◌∷◌, Option, Some, None, true, length, refl, ap, sym, subst, arith, ◌∙◌}
+use Rattle.std.proofs.Common.{◌≡◌, [], ◌∷◌, Option, Some, None, true, length, refl, ap, sym, subst, arith, ◌∙◌}
 use Rattle.std.specs.Option.{is_some}
 use Rattle.kernel_model.specs.Objects.{Objects, GraftValue}
 use Rattle.kernel_model.specs.Levels.{new_level}
@@ -49,9 +49,9 @@ returns-clause-step g c =
     let none : t c.args.p (length gs) ≡ untouched = nothing_held t c.args.p (length gs) (λ o. c.requires.in_place.placed.unheld (length gs) o (omega arith)) in
     ap came (asked_begins v images w c.args.p c.args.q c.args.pt ls (a.graft c.args.q c.args.pt) some)
     ∙ pair _ _ _ _ refl (configs w _ _ _ (sym c.begin_level.ensures.objects)
-    (ap (λ n. new_level images w c.args.p n c.args.q c.args.pt (args_by (kind_of c.args.pt) v w.things c.args.q c.args.pt) untouched ∷ ls) (level_count c.args.p s.ram t gs c.args.chain.now.undo w.things)
-    ∙ ap (λ x. new_level images w c.args.p (length gs) c.args.q c.args.pt x untouched ∷ ls) (sym c.args_of-args.ensures)
-    ∙ ap (λ (x : Touched). new_level images w c.args.p (length gs) c.args.q c.args.pt c.args_of-args.result x ∷ ls) (sym none)
+    (ap (λ n. new_level images w c.args.p n c.args.q c.args.pt (args_by (kind_of c.args.pt) v w.things c.args.q c.args.pt) [] untouched ∷ ls) (level_count c.args.p s.ram t gs c.args.chain.now.undo w.things)
+    ∙ ap (λ x. new_level images w c.args.p (length gs) c.args.q c.args.pt x [] untouched ∷ ls) (sym c.args_of-args.ensures)
+    ∙ ap (λ (x : Touched). new_level images w c.args.p (length gs) c.args.q c.args.pt c.args_of-args.result [] x ∷ ls) (sym none)
     ∙ sym (c.begin_level.ensures.levels images t c.image_of-image.ensures)
     ∙ ap (λ (x : Objects). levels_in c.args.p c.begin_level.new.store.ram t c.begin_level.new.chain.levels c.begin_level.new.chain.undo x.things) (sym c.begin_level.ensures.objects)))
 

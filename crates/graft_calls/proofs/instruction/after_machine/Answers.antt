@@ -1,4 +1,8 @@
+use Rattle.kernel_model.specs.Access.{early_refusal}
+use Rattle.kernel_state.specs.Stores.{world_of_store, objects_of}
+use Rattle.graft_calls.specs.Chains.{level_of, outer_of}
 use Rattle.graft_loader.specs.Slots.{table_of}
+use Rattle.graft_calls.proofs.Completing.{unanswered, call_unanswered}
 use Rattle.graft_calls.proofs.instruction.after_machine.Goals as goal
 
 pub returns-in-Returned-clause-in_place : goal.returns-in-Returned-clause-in_place
@@ -27,3 +31,35 @@ returns-in-Trapped-clause-in_place g c =
       inside = c.drop_innermost-in-Trapped.ensures.inside (table_of c.args.images.now) h.inside;
       loaded = c.drop_innermost-in-Trapped.ensures.loaded (table_of c.args.images.now) h.loaded;
     }
+
+pub returns-in-Called-clause-answer : goal.returns-in-Called-clause-answer
+returns-in-Called-clause-answer g c = λ registers is.
+    let s = c.args.store.now in
+    let v = world_of_store s in
+    let l = level_of s c.args.locks.now c.args.chain.now c.args.p c.args.level in
+    let id = c.in-Called.id in
+    let goes_on =
+    call_unanswered v (table_of c.args.images.now) (objects_of s) c.args.p l (outer_of s c.args.locks.now c.args.chain.now c.args.p) l.machine id (early_refusal v.callable id (l.machine.regs 0) (l.machine.regs 1) l.owner) in
+    absurd (unanswered _ _ _ _ registers goes_on c.call.ensures.step is)
+
+pub returns-in-Called-clause-returned : goal.returns-in-Called-clause-returned
+returns-in-Called-clause-returned g c = λ registers is.
+    let s = c.args.store.now in
+    let v = world_of_store s in
+    let l = level_of s c.args.locks.now c.args.chain.now c.args.p c.args.level in
+    let id = c.in-Called.id in
+    let goes_on =
+    call_unanswered v (table_of c.args.images.now) (objects_of s) c.args.p l (outer_of s c.args.locks.now c.args.chain.now c.args.p) l.machine id (early_refusal v.callable id (l.machine.regs 0) (l.machine.regs 1) l.owner) in
+    absurd (unanswered _ _ _ _ registers goes_on c.call.ensures.step is)
+
+pub returns-in-DividedByZero-clause-answer : goal.returns-in-DividedByZero-clause-answer
+returns-in-DividedByZero-clause-answer g c = λ registers is. absurd (unanswered _ _ _ _ registers tt c.drop_innermost.ensures.step is)
+
+pub returns-in-DividedByZero-clause-returned : goal.returns-in-DividedByZero-clause-returned
+returns-in-DividedByZero-clause-returned g c = λ registers is. absurd (unanswered _ _ _ _ registers tt c.drop_innermost.ensures.step is)
+
+pub returns-in-Trapped-clause-answer : goal.returns-in-Trapped-clause-answer
+returns-in-Trapped-clause-answer g c = λ registers is. absurd (unanswered _ _ _ _ registers tt c.drop_innermost-in-Trapped.ensures.step is)
+
+pub returns-in-Trapped-clause-returned : goal.returns-in-Trapped-clause-returned
+returns-in-Trapped-clause-returned g c = λ registers is. absurd (unanswered _ _ _ _ registers tt c.drop_innermost-in-Trapped.ensures.step is)

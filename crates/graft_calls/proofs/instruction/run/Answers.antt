@@ -1,19 +1,20 @@
-use Rattle.std.proofs.Common.{◌≡◌, ◌+◌, ◌*◌, ◌<◌, ◌==◌, ◌∷◌, ℕ, List, length, refl, ap, sym, subst, arith, ◌∙◌}
+use Rattle.std.proofs.Common.{◌≡◌, false, ◌+◌, ◌*◌, ◌<◌, ◌==◌, ◌∷◌, ℕ, List, length, refl, ap, sym, subst, arith, ◌∙◌}
 use Rattle.kernel_model.specs.declared.Kind.TheVariants.{Steps}
 use Rattle.kernel_model.specs.declared.Cause.TheVariants.{SpentSteps}
 use Rattle.kernel_model.specs.declared.Instr.{Instr}
 use Rattle.kernel_model.specs.Boxed.{IsInside, IsBoxed}
 use Rattle.kernel_model.specs.Charges.{charge, funds}
 use Rattle.kernel_model.specs.GraftStep.{after_machine, is_spent}
-use Rattle.kernel_model.specs.Levels.{Level, base_of, code_of, limit_in, drop_innermost}
+use Rattle.kernel_model.specs.Levels.{Level, base_of, body_in_segment, code_of, limit_in, drop_innermost}
 use Rattle.kernel_model.specs.Machine.{Done, seg_step}
 use Rattle.kernel_model.specs.Objects.{Objects, Accounts, with_accounts}
-use Rattle.kernel_model.specs.Runs.{on_segment}
+use Rattle.kernel_model.specs.Meaning.{Answer}
+use Rattle.kernel_model.specs.Runs.{on_segment, segment_of}
 use Rattle.kernel_model.specs.Sound.{ImagesAreLoaded}
 use Rattle.lock_table.specs.Masks.{held}
 use Rattle.undo_calls.specs.UndoLevels.{innermost}
 use Rattle.graft_accounts.specs.Table.{accounts_of}
-use Rattle.graft_machine.specs.Cpu.{Cpu, machine_of, done_of, by_place}
+use Rattle.graft_machine.specs.Cpu.{Cpu, machine_of, done_of, by_place, goes_on}
 use Rattle.kernel_state.specs.Stores.{world_of_store, objects_of, queue_of}
 use Rattle.graft_loader.specs.Slots.{table_of}
 use Rattle.graft_calls.specs.declared.GraftLevel.{GraftLevel}
@@ -21,6 +22,7 @@ use Rattle.graft_calls.specs.Chains.{came, level_of, outer_of, level_in, levels_
 use Rattle.graft_calls.specs.Calls.{AreInside, AllUndoable}
 use Rattle.graft_calls.proofs.Beginning.{objects_over, same_objects, memory_fits}
 use Rattle.graft_calls.proofs.Conditions.{loaded_charged}
+use Rattle.graft_calls.proofs.Completing.{unanswered}
 use Rattle.graft_calls.proofs.Memory.{same_segment}
 use Rattle.graft_calls.proofs.Placing.{elsewhere_twice}
 use Rattle.graft_calls.proofs.Stepping.{after_done, machine_inside, spent_step, paid_step, done_alone, beyond_outside, frames_outside, count_rises, stepped_sound, stepped_inside}
@@ -177,3 +179,13 @@ returns-clause-elsewhere g c =
       memory = λ a beyond. c.step-done.ensures.contained (4 * p + n) a (inside s.ram) (beyond_outside p n a (omega (arith, c.requires.in_place.placed.few)) beyond);
     })
     c.after_machine.ensures.elsewhere
+
+pub returns-then-not-charge_step-clause-answer : goal.returns-then-not-charge_step-clause-answer
+returns-then-not-charge_step-clause-answer g c = λ registers is. absurd (unanswered _ _ _ _ registers tt c.drop_innermost.ensures.step is)
+
+pub returns-clause-answer : goal.returns-clause-answer
+returns-clause-answer g c = λ registers is.
+    let ended : goes_on c.step-done.result ≡ false = ap goes_on (c.after_machine.ensures.returned registers is) in
+    let base = base_of c.args.p (length c.args.chain.now.levels) in
+    ap (λ (x : List ℕ). let a : Answer = record { registers = registers; body = body_in_segment registers (segment_of base (by_place x)) } in a) (sym (c.step-done.ensures.memory ended))
+    ∙ c.after_machine.ensures.answer registers is

@@ -1,7 +1,8 @@
 use Rattle.std.proofs.Common.{length, sym, arith, ◌∙◌}
 use Rattle.kernel_state.specs.Stores.{objects_of, queue_of}
+use Rattle.lock_table.specs.Masks.{held}
 use Rattle.graft_accounts.specs.Table.{accounts_of}
-use Rattle.graft_calls.proofs.Completing.{merged_undoable, merged_length}
+use Rattle.graft_calls.proofs.Completing.{merged_undoable, merged_length, unanswered, outermost_answers}
 use Rattle.graft_calls.proofs.returns.offer.Goals as goal
 
 pub returns-clause-placed : goal.returns-clause-placed
@@ -20,3 +21,11 @@ returns-clause-placed g c =
 
 pub returns-clause-inside : goal.returns-clause-inside
 returns-clause-inside g c = λ images h. c.complete.ensures.inside images (accounts_of c.args.store.now.accounts) c.args.p h.1
+
+pub returns-then-not-is_valid-clause-answer : goal.returns-then-not-is_valid-clause-answer
+returns-then-not-is_valid-clause-answer g c = λ registers is. absurd (unanswered _ _ _ _ registers tt c.drop_innermost.ensures.step is)
+
+pub returns-clause-answer : goal.returns-clause-answer
+returns-clause-answer g c = λ registers is.
+    let s = c.args.store.now in
+    outermost_answers c.args.p s.ram (held c.args.locks.now) c.args.level c.args.chain.now.levels c.args.chain.now.undo (objects_of s).things registers (c.complete.ensures.outermost registers is)

@@ -1,9 +1,13 @@
-use Rattle.std.proofs.Common.{arith}
-use Rattle.graft_calls.proofs.Memory.{filled_within, filled_apart}
+use Rattle.std.proofs.Common.{arith, ◌∙◌}
+use Rattle.graft_calls.proofs.Feeding.{fed_within, fed_apart}
 use Rattle.graft_calls.proofs.segments.fill.Goals as goal
 
 pub returns-clause-segment : goal.returns-clause-segment
-returns-clause-segment c = λ i lt. filled_within c.args.ram.now c.clear.new.ram c.copy_in.new.self c.args.body.now c.args.base i (omega (arith, c.whole-2.ensures, c.requires.inside)) c.requires.few lt c.clear.ensures c.copy_in.ensures.value
+returns-clause-segment c = λ i lt.
+    fed_within c.fill_data.new.ram c.copy_in.new.self c.args.body.now c.args.feed.now c.args.base i (omega (arith, c.fill_data.ensures.size, c.requires.inside)) c.requires.short lt
+    c.fill_data.ensures.segment c.copy_in.ensures.value
 
 pub returns-clause-outside : goal.returns-clause-outside
-returns-clause-outside c = λ a beyond. filled_apart c.args.ram.now c.clear.new.ram c.copy_in.new.self c.args.body.now c.args.base a (omega (arith, c.whole-2.ensures, c.requires.inside)) c.requires.few beyond c.clear.ensures c.copy_in.ensures.value
+returns-clause-outside c = λ a beyond.
+    fed_apart c.fill_data.new.ram c.copy_in.new.self c.args.feed.now c.args.base a (omega (arith, c.fill_data.ensures.size, c.requires.inside)) c.requires.short beyond c.copy_in.ensures.value
+    ∙ c.fill_data.ensures.outside a beyond

@@ -5,7 +5,7 @@ use Rattle.kernel_core.proofs.RowPlaceLemmas.{IsAlike}
 use Rattle.kernel_core.proofs.placed_rows.find_row.Given as goal
 
 abbrev pub invariant-loop-at : goal.invariant-loop-at
-invariant-loop-at g l = IsAlike (placed_of g.C.Calls.stage l.running) l.initial.at l.at
+invariant-loop-at g l = IsAlike (placed_of l.running) l.initial.at l.at
 
 abbrev pub decreases-loop-at : goal.decreases-loop-at
 decreases-loop-at g l = 257 * (12 - l.at.section) + (256 - l.at.place)

@@ -6,7 +6,7 @@ use Rattle.kernel_core.specs.PlacedSections.{IsPassed}
 use Rattle.kernel_core.proofs.placed_rows.pass_no_graft.Given as goal
 
 abbrev pub invariant-loop-at : goal.invariant-loop-at
-invariant-loop-at g l = IsPassed (placed_of g.C.Calls.stage l.running) Grafts l.initial.at l.at
+invariant-loop-at g l = IsPassed (placed_of l.running) Grafts l.initial.at l.at
 
 abbrev pub decreases-loop-at : goal.decreases-loop-at
 decreases-loop-at g l = 256 - l.at.place

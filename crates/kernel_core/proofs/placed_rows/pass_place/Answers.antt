@@ -10,7 +10,7 @@ use Rattle.kernel_core.proofs.placed_rows.pass_place.Goals as goal
 
 pub returns-in-Files-clause-passed : goal.returns-in-Files-clause-passed
 returns-in-Files-clause-passed g c =
-    let x = placed_of g.C.Calls.stage c.args.running.now in
+    let x = placed_of c.args.running.now in
     let at = c.args.at.now in
     let mid = c.pass_place.new.self in
     let new = c.pass_no_file.new.at in
@@ -20,7 +20,7 @@ returns-in-Files-clause-passed g c =
 
 pub returns-in-Grafts-clause-passed : goal.returns-in-Grafts-clause-passed
 returns-in-Grafts-clause-passed g c =
-    let x = placed_of g.C.Calls.stage c.args.running.now in
+    let x = placed_of c.args.running.now in
     let at = c.args.at.now in
     let mid = c.pass_place.new.self in
     let new = c.pass_no_graft.new.at in
@@ -30,7 +30,7 @@ returns-in-Grafts-clause-passed g c =
 
 pub returns-in_default : goal.returns-in_default
 returns-in_default g c =
-    let x = placed_of g.C.Calls.stage c.args.running.now in
+    let x = placed_of c.args.running.now in
     let at = c.args.at.now in
     let mid = c.pass_place.new.self in
     record {

@@ -6,20 +6,20 @@ use Rattle.kernel_core.proofs.placed_rows.raw.Goals as goal
 
 pub loop-before-init : goal.loop-before-init
 loop-before-init g c =
-    let x = placed_of g.C.Calls.stage c.args.running.now in
+    let x = placed_of c.args.running.now in
     record { rows = c.first-at.ensures.rows x; most = omega (arith, c.first-at.ensures.most) }
 
 pub loop-before-preserved : goal.loop-before-preserved
 loop-before-preserved g c =
-    let x = placed_of g.C.Calls.stage c.args.running.now in
+    let x = placed_of c.args.running.now in
     behind_more x c.loop-before.before c.loop-before.at c.next_row.new.at c.loop-before.invariant c.next_row.ensures.rest c.in_ok-next_row.ensures.fewer
 
 pub returns-in_err-next_row-clause-value : goal.returns-in_err-next_row-clause-value
 returns-in_err-next_row-clause-value g c =
-    let x = placed_of g.C.Calls.stage c.args.running.now in
+    let x = placed_of c.args.running.now in
     c.from_residual.ensures ∙ row_past x c.loop-before.before c.args.i c.loop-before.at c.next_row.result c.loop-before.invariant c.next_row.ensures.first c.in_err-next_row.was (omega arith)
 
 pub returns-clause-value : goal.returns-clause-value
 returns-clause-value g c =
-    let x = placed_of g.C.Calls.stage c.args.running.now in
+    let x = placed_of c.args.running.now in
     row_behind x c.loop-before.before c.args.i c.loop-before.at c.next_row-2.result c.loop-before.invariant c.next_row-2.ensures.first (omega (arith, c.loop-before-test.false))

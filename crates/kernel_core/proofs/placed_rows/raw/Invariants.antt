@@ -4,4 +4,4 @@ use Rattle.kernel_core.proofs.RowPlaceLemmas.{IsBehind}
 use Rattle.kernel_core.proofs.placed_rows.raw.Given as goal
 
 abbrev pub invariant-loop-before : goal.invariant-loop-before
-invariant-loop-before g l = IsBehind (placed_of g.C.Calls.stage l.running) l.before l.at
+invariant-loop-before g l = IsBehind (placed_of l.running) l.before l.at

@@ -10,11 +10,11 @@ use Rattle.kernel_core.proofs.settle.rest.Goals as goal
 pub returns : goal.returns
 returns g c = record {
   went = λ kept d.
-      let x = placed_of g.C.Calls.stage c.args.running.now in
-      let y = placed_of g.C.Calls.stage c.rest.new.self in
+      let x = placed_of c.args.running.now in
+      let y = placed_of c.rest.new.self in
       let s = c.requires.abstraction in
       let here = ap (λ (r : PlacedRun). r.placed) (c.rest.ensures.value [] some_blocks []) in
-      went_silently g.C.Meaning.Rules.meaning g.C.Calls.stage g.C.Calls.caller (placed_rested g.C.Meaning.Rules.meaning) c.args.running.now c.rest.new.self kept d (λ notes blocks io. c.rest.ensures.value notes blocks io) c.rest.ensures.running
+      went_silently g.C.Meaning.Rules.meaning (placed_rested g.C.Meaning.Rules.meaning) c.args.running.now c.rest.new.self kept d (λ notes blocks io. c.rest.ensures.value notes blocks io) c.rest.ensures.running
       (stood_as g.C.Meaning.Rules.meaning y (placed_rested g.C.Meaning.Rules.meaning (run_of x some_blocks [] [])) (rested g.C.Meaning.Rules.meaning (record { kernel = s.kernel; blocks = some_blocks; notes = []; io = [] }))
       (c.others_stand.ensures.resting (run_of x some_blocks [] []) (record { kernel = s.kernel; blocks = some_blocks; notes = []; io = [] }) (run_at g.C.Meaning.Rules.meaning x s)) here)
       (sym (ap (λ (z : Placed). z.world) here)) (sym (ap (λ (z : Placed). z.clock) here));

@@ -15,7 +15,7 @@ loop-going-init g c =
     let a = c.args in
     let all : a.n ≡ a.n - 0 = omega arith in
     record {
-      come = subst (λ k. HasReached g.C.Meaning.Rules.meaning (steps_said g.C.Meaning.Rules.meaning a.number a.p a.n 0) (steps_left g.C.Meaning.Rules.meaning a.number a.p k 0 true) (placed_of g.C.Calls.stage a.running.now) (placed_of g.C.Calls.stage a.running.now) a.trace.now.notes a.trace.now.notes (disk_seen (g.D.Disk.blocks a.disk.now) (g.D.Disk.plan a.disk.now) (g.D.Disk.faults a.disk.now)) (disk_seen (g.D.Disk.blocks a.disk.now) (g.D.Disk.plan a.disk.now) (g.D.Disk.faults a.disk.now))) all (come_first g.C.Meaning.Rules.meaning (steps_said g.C.Meaning.Rules.meaning a.number a.p a.n 0) (placed_of g.C.Calls.stage a.running.now) a.trace.now.notes (disk_seen (g.D.Disk.blocks a.disk.now) (g.D.Disk.plan a.disk.now) (g.D.Disk.faults a.disk.now)));
+      come = subst (λ k. HasReached g.C.Meaning.Rules.meaning (steps_said g.C.Meaning.Rules.meaning a.number a.p a.n 0) (steps_left g.C.Meaning.Rules.meaning a.number a.p k 0 true) (placed_of a.running.now) (placed_of a.running.now) a.trace.now.notes a.trace.now.notes (disk_seen (g.D.Disk.blocks a.disk.now) (g.D.Disk.plan a.disk.now) (g.D.Disk.faults a.disk.now)) (disk_seen (g.D.Disk.blocks a.disk.now) (g.D.Disk.plan a.disk.now) (g.D.Disk.faults a.disk.now))) all (come_first g.C.Meaning.Rules.meaning (steps_said g.C.Meaning.Rules.meaning a.number a.p a.n 0) (placed_of a.running.now) a.trace.now.notes (disk_seen (g.D.Disk.blocks a.disk.now) (g.D.Disk.plan a.disk.now) (g.D.Disk.faults a.disk.now)));
       running = c.requires.running;
       abstraction = c.requires.abstraction;
       world = refl;
@@ -34,8 +34,8 @@ loop-going-preserved-then-taken-n-2 g c =
     let on = s.ensures.on in
     let next = l.taken + s.result in
     record {
-      come = subst (λ b. HasReached g.C.Meaning.Rules.meaning (steps_said g.C.Meaning.Rules.meaning a.number a.p a.n 0) (steps_left g.C.Meaning.Rules.meaning a.number a.p (a.n - next) next b) (placed_of g.C.Calls.stage a.running.now) (placed_of g.C.Calls.stage s.new.running) a.trace.now.notes l.trace.notes (disk_seen (g.D.Disk.blocks a.disk.now) (g.D.Disk.plan a.disk.now) (g.D.Disk.faults a.disk.now)) (disk_seen (g.D.Disk.blocks l.disk) (g.D.Disk.plan l.disk) (g.D.Disk.faults l.disk))) (sym c.loop-going-test.true)
-          (come_stretched g.C.Meaning.Rules.meaning a.number a.p a.n s.result l.taken l.going (steps_said g.C.Meaning.Rules.meaning a.number a.p a.n 0) (placed_of g.C.Calls.stage a.running.now) (placed_of g.C.Calls.stage l.running) (placed_of g.C.Calls.stage s.new.running) a.trace.now.notes l.trace.notes (disk_seen (g.D.Disk.blocks a.disk.now) (g.D.Disk.plan a.disk.now) (g.D.Disk.faults a.disk.now)) (disk_seen (g.D.Disk.blocks l.disk) (g.D.Disk.plan l.disk) (g.D.Disk.faults l.disk)) c.loop-going-test.true c.if-taken-n.true s.ensures.most i.come s.ensures.leads);
+      come = subst (λ b. HasReached g.C.Meaning.Rules.meaning (steps_said g.C.Meaning.Rules.meaning a.number a.p a.n 0) (steps_left g.C.Meaning.Rules.meaning a.number a.p (a.n - next) next b) (placed_of a.running.now) (placed_of s.new.running) a.trace.now.notes l.trace.notes (disk_seen (g.D.Disk.blocks a.disk.now) (g.D.Disk.plan a.disk.now) (g.D.Disk.faults a.disk.now)) (disk_seen (g.D.Disk.blocks l.disk) (g.D.Disk.plan l.disk) (g.D.Disk.faults l.disk))) (sym c.loop-going-test.true)
+          (come_stretched g.C.Meaning.Rules.meaning a.number a.p a.n s.result l.taken l.going (steps_said g.C.Meaning.Rules.meaning a.number a.p a.n 0) (placed_of a.running.now) (placed_of l.running) (placed_of s.new.running) a.trace.now.notes l.trace.notes (disk_seen (g.D.Disk.blocks a.disk.now) (g.D.Disk.plan a.disk.now) (g.D.Disk.faults a.disk.now)) (disk_seen (g.D.Disk.blocks l.disk) (g.D.Disk.plan l.disk) (g.D.Disk.faults l.disk)) c.loop-going-test.true c.if-taken-n.true s.ensures.most i.come s.ensures.leads);
       running = on.running;
       abstraction = on.abstraction;
       world = on.world ∙ i.world;
@@ -61,11 +61,11 @@ loop-going-preserved g c =
     let left : a.n - taken ≡ suc k = omega (arith, less) in
     record {
       come = come_on g.C.Meaning.Rules.meaning (steps_said g.C.Meaning.Rules.meaning a.number a.p a.n 0) (steps_left g.C.Meaning.Rules.meaning a.number a.p (a.n - taken) taken true) (steps_left g.C.Meaning.Rules.meaning a.number a.p (a.n - next) next t.result) (taken_up g.C.Meaning.Rules.meaning a.p)
-          (placed_of g.C.Calls.stage a.running.now) (placed_of g.C.Calls.stage s.new.running) (placed_of g.C.Calls.stage t.new.running) a.trace.now.notes l.trace.notes t.new.trace.notes (disk_seen (g.D.Disk.blocks a.disk.now) (g.D.Disk.plan a.disk.now) (g.D.Disk.faults a.disk.now)) (disk_seen (g.D.Disk.blocks l.disk) (g.D.Disk.plan l.disk) (g.D.Disk.faults l.disk)) (disk_seen (g.D.Disk.blocks c.take_up-going.new.disk) (g.D.Disk.plan c.take_up-going.new.disk) (g.D.Disk.faults c.take_up-going.new.disk))
-          (come_stretched g.C.Meaning.Rules.meaning a.number a.p a.n s.result l.taken l.going (steps_said g.C.Meaning.Rules.meaning a.number a.p a.n 0) (placed_of g.C.Calls.stage a.running.now) (placed_of g.C.Calls.stage l.running) (placed_of g.C.Calls.stage s.new.running) a.trace.now.notes l.trace.notes (disk_seen (g.D.Disk.blocks a.disk.now) (g.D.Disk.plan a.disk.now) (g.D.Disk.faults a.disk.now)) (disk_seen (g.D.Disk.blocks l.disk) (g.D.Disk.plan l.disk) (g.D.Disk.faults l.disk)) c.loop-going-test.true c.if-taken-n.true s.ensures.most i.come s.ensures.leads)
+          (placed_of a.running.now) (placed_of s.new.running) (placed_of t.new.running) a.trace.now.notes l.trace.notes t.new.trace.notes (disk_seen (g.D.Disk.blocks a.disk.now) (g.D.Disk.plan a.disk.now) (g.D.Disk.faults a.disk.now)) (disk_seen (g.D.Disk.blocks l.disk) (g.D.Disk.plan l.disk) (g.D.Disk.faults l.disk)) (disk_seen (g.D.Disk.blocks c.take_up-going.new.disk) (g.D.Disk.plan c.take_up-going.new.disk) (g.D.Disk.faults c.take_up-going.new.disk))
+          (come_stretched g.C.Meaning.Rules.meaning a.number a.p a.n s.result l.taken l.going (steps_said g.C.Meaning.Rules.meaning a.number a.p a.n 0) (placed_of a.running.now) (placed_of l.running) (placed_of s.new.running) a.trace.now.notes l.trace.notes (disk_seen (g.D.Disk.blocks a.disk.now) (g.D.Disk.plan a.disk.now) (g.D.Disk.faults a.disk.now)) (disk_seen (g.D.Disk.blocks l.disk) (g.D.Disk.plan l.disk) (g.D.Disk.faults l.disk)) c.loop-going-test.true c.if-taken-n.true s.ensures.most i.come s.ensures.leads)
           t.ensures.refines
-          (λ blocks notes io. steps_next g.C.Meaning.Rules.meaning (placed_of g.C.Calls.stage s.new.running) a.p a.number (a.n - taken) k taken next t.result left t.ensures.took c.more-taken.ensures blocks notes io
-          ∙ steps_again g.C.Meaning.Rules.meaning a.number a.p k (a.n - next) next t.result (taken_up g.C.Meaning.Rules.meaning a.p (run_of (placed_of g.C.Calls.stage s.new.running) blocks notes io)) (one_less a.n taken next t.result c.more-taken.ensures));
+          (λ blocks notes io. steps_next g.C.Meaning.Rules.meaning (placed_of s.new.running) a.p a.number (a.n - taken) k taken next t.result left t.ensures.took c.more-taken.ensures blocks notes io
+          ∙ steps_again g.C.Meaning.Rules.meaning a.number a.p k (a.n - next) next t.result (taken_up g.C.Meaning.Rules.meaning a.p (run_of (placed_of s.new.running) blocks notes io)) (one_less a.n taken next t.result c.more-taken.ensures));
       running = on.running;
       abstraction = on.abstraction;
       world = on.world ∙ s.ensures.on.world ∙ i.world;
@@ -84,9 +84,9 @@ returns-clause-refines g c =
       | goal.then-loop-going-test+else-taken-n w ↦ all_taken a.n l.taken l.going w.if-taken-n.false
       | goal.else-loop-going-test w ↦ not_going a.n l.taken l.going w.loop-going-test.false
     ] in
-    come_last g.C.Meaning.Rules.meaning (steps_said g.C.Meaning.Rules.meaning a.number a.p a.n 0) (steps_left g.C.Meaning.Rules.meaning a.number a.p (a.n - l.taken) l.taken l.going) (placed_of g.C.Calls.stage a.running.now) (placed_of g.C.Calls.stage l.running) (placed_of g.C.Calls.stage l.running) a.trace.now.notes l.trace.notes c.push.new.self (disk_seen (g.D.Disk.blocks a.disk.now) (g.D.Disk.plan a.disk.now) (g.D.Disk.faults a.disk.now)) (disk_seen (g.D.Disk.blocks l.disk) (g.D.Disk.plan l.disk) (g.D.Disk.faults l.disk)) (disk_seen (g.D.Disk.blocks l.disk) (g.D.Disk.plan l.disk) (g.D.Disk.faults l.disk)) i.come
-    (did_as (steps_left g.C.Meaning.Rules.meaning a.number a.p (a.n - l.taken) l.taken l.going) (placed_noted (Ran a.number l.taken)) (placed_of g.C.Calls.stage l.running) (placed_of g.C.Calls.stage l.running) l.trace.notes c.push.new.self (disk_seen (g.D.Disk.blocks l.disk) (g.D.Disk.plan l.disk) (g.D.Disk.faults l.disk)) (disk_seen (g.D.Disk.blocks l.disk) (g.D.Disk.plan l.disk) (g.D.Disk.faults l.disk))
-    (λ blocks notes io. steps_over g.C.Meaning.Rules.meaning a.number a.p (a.n - l.taken) l.taken l.going (run_of (placed_of g.C.Calls.stage l.running) blocks notes io) over) (did_note (placed_of g.C.Calls.stage l.running) (Ran a.number l.taken) l.trace.notes c.push.new.self (disk_seen (g.D.Disk.blocks l.disk) (g.D.Disk.plan l.disk) (g.D.Disk.faults l.disk)) c.push.ensures))
+    come_last g.C.Meaning.Rules.meaning (steps_said g.C.Meaning.Rules.meaning a.number a.p a.n 0) (steps_left g.C.Meaning.Rules.meaning a.number a.p (a.n - l.taken) l.taken l.going) (placed_of a.running.now) (placed_of l.running) (placed_of l.running) a.trace.now.notes l.trace.notes c.push.new.self (disk_seen (g.D.Disk.blocks a.disk.now) (g.D.Disk.plan a.disk.now) (g.D.Disk.faults a.disk.now)) (disk_seen (g.D.Disk.blocks l.disk) (g.D.Disk.plan l.disk) (g.D.Disk.faults l.disk)) (disk_seen (g.D.Disk.blocks l.disk) (g.D.Disk.plan l.disk) (g.D.Disk.faults l.disk)) i.come
+    (did_as (steps_left g.C.Meaning.Rules.meaning a.number a.p (a.n - l.taken) l.taken l.going) (placed_noted (Ran a.number l.taken)) (placed_of l.running) (placed_of l.running) l.trace.notes c.push.new.self (disk_seen (g.D.Disk.blocks l.disk) (g.D.Disk.plan l.disk) (g.D.Disk.faults l.disk)) (disk_seen (g.D.Disk.blocks l.disk) (g.D.Disk.plan l.disk) (g.D.Disk.faults l.disk))
+    (λ blocks notes io. steps_over g.C.Meaning.Rules.meaning a.number a.p (a.n - l.taken) l.taken l.going (run_of (placed_of l.running) blocks notes io) over) (did_note (placed_of l.running) (Ran a.number l.taken) l.trace.notes c.push.new.self (disk_seen (g.D.Disk.blocks l.disk) (g.D.Disk.plan l.disk) (g.D.Disk.faults l.disk)) c.push.ensures))
 
 pub returns-clause-on : goal.returns-clause-on
 returns-clause-on g c = let i = c.loop-going.invariant in record { running = i.running; abstraction = i.abstraction; world = i.world; clock = i.clock }

@@ -9,10 +9,10 @@ use Rattle.kernel_core.proofs.stepping.steps.Given as goal
 abbrev pub invariant-loop-going : goal.invariant-loop-going
 invariant-loop-going g l = record {
   come : HasReached g.C.Meaning.Rules.meaning (steps_said g.C.Meaning.Rules.meaning l.initial.number l.initial.p l.initial.n 0) (steps_left g.C.Meaning.Rules.meaning l.initial.number l.initial.p (l.initial.n - l.taken) l.taken l.going)
-      (placed_of g.C.Calls.stage l.initial.running) (placed_of g.C.Calls.stage l.running) l.initial.trace.notes l.trace.notes
+      (placed_of l.initial.running) (placed_of l.running) l.initial.trace.notes l.trace.notes
       (disk_seen (g.D.Disk.blocks l.initial.disk) (g.D.Disk.plan l.initial.disk) (g.D.Disk.faults l.initial.disk)) (disk_seen (g.D.Disk.blocks l.disk) (g.D.Disk.plan l.disk) (g.D.Disk.faults l.disk));
-  running : IsRunning g.C.Calls.caller l.running;
-  abstraction : HasAbstraction g.C.Meaning.Rules.meaning (placed_of g.C.Calls.stage l.running);
+  running : IsRunning l.running;
+  abstraction : HasAbstraction g.C.Meaning.Rules.meaning (placed_of l.running);
   world : world_of_store l.running.store ≡ world_of_store l.initial.running.store;
   clock : l.running.clock ≡ l.initial.running.clock;
   disk : l.running.store.size ≡ g.D.Disk.block_count l.disk;

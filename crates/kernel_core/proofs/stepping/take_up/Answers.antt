@@ -16,8 +16,8 @@ use Rattle.kernel_core.proofs.stepping.take_up.Goals as goal
 pub returns-then-not-in_graft-clause-refines : goal.returns-then-not-in_graft-clause-refines
 returns-then-not-in_graft-clause-refines g c =
     let a = c.args in
-    did_to_rest g.C.Meaning.Rules.meaning (taken_up g.C.Meaning.Rules.meaning a.p) (λ r. r) (placed_of g.C.Calls.stage a.running.now) (placed_of g.C.Calls.stage a.running.now) a.trace.now.notes a.trace.now.notes (disk_seen (g.D.Disk.blocks a.disk.now) (g.D.Disk.plan a.disk.now) (g.D.Disk.faults a.disk.now)) (disk_seen (g.D.Disk.blocks a.disk.now) (g.D.Disk.plan a.disk.now) (g.D.Disk.faults a.disk.now)) (did_nothing (placed_of g.C.Calls.stage a.running.now) a.trace.now.notes (disk_seen (g.D.Disk.blocks a.disk.now) (g.D.Disk.plan a.disk.now) (g.D.Disk.faults a.disk.now)))
-    (λ blocks notes io s is. rested_same g.C.Meaning.Rules.meaning (placed_of g.C.Calls.stage a.running.now) (taken_up g.C.Meaning.Rules.meaning a.p) (taken_none g.C.Meaning.Rules.meaning (placed_of g.C.Calls.stage a.running.now) a.p (not_first (has_some ((placed_of g.C.Calls.stage a.running.now).levels a.p)) (in_order a.p (placed_of g.C.Calls.stage a.running.now).order) (sym c.in_graft.ensures ∙ c.if-not-in_graft.true))).1 blocks notes io s)
+    did_to_rest g.C.Meaning.Rules.meaning (taken_up g.C.Meaning.Rules.meaning a.p) (λ r. r) (placed_of a.running.now) (placed_of a.running.now) a.trace.now.notes a.trace.now.notes (disk_seen (g.D.Disk.blocks a.disk.now) (g.D.Disk.plan a.disk.now) (g.D.Disk.faults a.disk.now)) (disk_seen (g.D.Disk.blocks a.disk.now) (g.D.Disk.plan a.disk.now) (g.D.Disk.faults a.disk.now)) (did_nothing (placed_of a.running.now) a.trace.now.notes (disk_seen (g.D.Disk.blocks a.disk.now) (g.D.Disk.plan a.disk.now) (g.D.Disk.faults a.disk.now)))
+    (λ blocks notes io s is. rested_same g.C.Meaning.Rules.meaning (placed_of a.running.now) (taken_up g.C.Meaning.Rules.meaning a.p) (taken_none g.C.Meaning.Rules.meaning (placed_of a.running.now) a.p (not_first (has_some ((placed_of a.running.now).levels a.p)) (in_order a.p (placed_of a.running.now).order) (sym c.in_graft.ensures ∙ c.if-not-in_graft.true))).1 blocks notes io s)
 
 pub returns-then-not-in_graft-clause-on : goal.returns-then-not-in_graft-clause-on
 returns-then-not-in_graft-clause-on g c = record { running = c.requires.running; abstraction = c.requires.abstraction; world = refl; clock = refl }
@@ -25,8 +25,8 @@ returns-then-not-in_graft-clause-on g c = record { running = c.requires.running;
 pub returns-then-waits-clause-refines : goal.returns-then-waits-clause-refines
 returns-then-waits-clause-refines g c =
     let a = c.args in
-    did_to_rest g.C.Meaning.Rules.meaning (taken_up g.C.Meaning.Rules.meaning a.p) (λ r. r) (placed_of g.C.Calls.stage a.running.now) (placed_of g.C.Calls.stage a.running.now) a.trace.now.notes a.trace.now.notes (disk_seen (g.D.Disk.blocks a.disk.now) (g.D.Disk.plan a.disk.now) (g.D.Disk.faults a.disk.now)) (disk_seen (g.D.Disk.blocks a.disk.now) (g.D.Disk.plan a.disk.now) (g.D.Disk.faults a.disk.now)) (did_nothing (placed_of g.C.Calls.stage a.running.now) a.trace.now.notes (disk_seen (g.D.Disk.blocks a.disk.now) (g.D.Disk.plan a.disk.now) (g.D.Disk.faults a.disk.now)))
-    (λ blocks notes io s is. rested_same g.C.Meaning.Rules.meaning (placed_of g.C.Calls.stage a.running.now) (taken_up g.C.Meaning.Rules.meaning a.p) (taken_none g.C.Meaning.Rules.meaning (placed_of g.C.Calls.stage a.running.now) a.p (not_second (has_some ((placed_of g.C.Calls.stage a.running.now).levels a.p)) (in_order a.p (placed_of g.C.Calls.stage a.running.now).order) (sym c.waits.ensures ∙ c.if-waits.true))).1 blocks notes io s)
+    did_to_rest g.C.Meaning.Rules.meaning (taken_up g.C.Meaning.Rules.meaning a.p) (λ r. r) (placed_of a.running.now) (placed_of a.running.now) a.trace.now.notes a.trace.now.notes (disk_seen (g.D.Disk.blocks a.disk.now) (g.D.Disk.plan a.disk.now) (g.D.Disk.faults a.disk.now)) (disk_seen (g.D.Disk.blocks a.disk.now) (g.D.Disk.plan a.disk.now) (g.D.Disk.faults a.disk.now)) (did_nothing (placed_of a.running.now) a.trace.now.notes (disk_seen (g.D.Disk.blocks a.disk.now) (g.D.Disk.plan a.disk.now) (g.D.Disk.faults a.disk.now)))
+    (λ blocks notes io s is. rested_same g.C.Meaning.Rules.meaning (placed_of a.running.now) (taken_up g.C.Meaning.Rules.meaning a.p) (taken_none g.C.Meaning.Rules.meaning (placed_of a.running.now) a.p (not_second (has_some ((placed_of a.running.now).levels a.p)) (in_order a.p (placed_of a.running.now).order) (sym c.waits.ensures ∙ c.if-waits.true))).1 blocks notes io s)
 
 pub returns-then-waits-clause-on : goal.returns-then-waits-clause-on
 returns-then-waits-clause-on g c = record { running = c.requires.running; abstraction = c.requires.abstraction; world = refl; clock = refl }
@@ -43,12 +43,12 @@ settle_all-requires-clause-disk g c = let a = c.args in ap (λ (v : World). v.di
 pub returns-then-is_some-clause-refines : goal.returns-then-is_some-clause-refines
 returns-then-is_some-clause-refines g c =
     let a = c.args in
-    let can = can_step (has_some ((placed_of g.C.Calls.stage a.running.now).levels a.p)) (in_order a.p (placed_of g.C.Calls.stage a.running.now).order) (sym c.in_graft.ensures ∙ c.if-not-in_graft.false) (sym c.waits.ensures ∙ c.if-waits.false) in
-    let b = some_is (placed_blocker g.C.Meaning.Rules.meaning (placed_of g.C.Calls.stage a.running.now) a.p) (blocker_told c.blocked_by.result (placed_blocker g.C.Meaning.Rules.meaning (placed_of g.C.Calls.stage a.running.now) a.p) c.blocked_by.ensures (sym c.is_some.ensures ∙ c.if-is_some.true)) in
-    did_to_rest g.C.Meaning.Rules.meaning (taken_up g.C.Meaning.Rules.meaning a.p) (λ r. placed_settled g.C.Meaning.Rules.meaning (placed_joins a.p r)) (placed_of g.C.Calls.stage a.running.now) (placed_of g.C.Calls.stage c.settle_all.new.running) a.trace.now.notes c.settle_all.new.trace.notes (disk_seen (g.D.Disk.blocks a.disk.now) (g.D.Disk.plan a.disk.now) (g.D.Disk.faults a.disk.now)) (disk_seen (g.D.Disk.blocks c.settle_all.new.disk) (g.D.Disk.plan c.settle_all.new.disk) (g.D.Disk.faults c.settle_all.new.disk))
-    (did_then (placed_joins a.p) (placed_settled g.C.Meaning.Rules.meaning) (placed_of g.C.Calls.stage a.running.now) (placed_of g.C.Calls.stage c.join.new.running) (placed_of g.C.Calls.stage c.settle_all.new.running) a.trace.now.notes a.trace.now.notes c.settle_all.new.trace.notes (disk_seen (g.D.Disk.blocks a.disk.now) (g.D.Disk.plan a.disk.now) (g.D.Disk.faults a.disk.now)) (disk_seen (g.D.Disk.blocks a.disk.now) (g.D.Disk.plan a.disk.now) (g.D.Disk.faults a.disk.now)) (disk_seen (g.D.Disk.blocks c.settle_all.new.disk) (g.D.Disk.plan c.settle_all.new.disk) (g.D.Disk.faults c.settle_all.new.disk)) (c.join.ensures.went a.trace.now.notes (disk_seen (g.D.Disk.blocks a.disk.now) (g.D.Disk.plan a.disk.now) (g.D.Disk.faults a.disk.now))).refines c.settle_all.ensures.went.refines)
-    (λ blocks notes io s is. rested_joined g.C.Meaning.Rules.meaning (placed_of g.C.Calls.stage a.running.now) c.others_stand.ensures c.resting.ensures a.p b.0 (sym c.in_graft.ensures ∙ c.if-not-in_graft.false) (sym c.waits.ensures ∙ c.if-waits.false) b.1
-    (taken_by g.C.Meaning.Rules.meaning (placed_of g.C.Calls.stage a.running.now) a.p (Some b.0) can b.1).1 blocks notes io s)
+    let can = can_step (has_some ((placed_of a.running.now).levels a.p)) (in_order a.p (placed_of a.running.now).order) (sym c.in_graft.ensures ∙ c.if-not-in_graft.false) (sym c.waits.ensures ∙ c.if-waits.false) in
+    let b = some_is (placed_blocker g.C.Meaning.Rules.meaning (placed_of a.running.now) a.p) (blocker_told c.blocked_by.result (placed_blocker g.C.Meaning.Rules.meaning (placed_of a.running.now) a.p) c.blocked_by.ensures (sym c.is_some.ensures ∙ c.if-is_some.true)) in
+    did_to_rest g.C.Meaning.Rules.meaning (taken_up g.C.Meaning.Rules.meaning a.p) (λ r. placed_settled g.C.Meaning.Rules.meaning (placed_joins a.p r)) (placed_of a.running.now) (placed_of c.settle_all.new.running) a.trace.now.notes c.settle_all.new.trace.notes (disk_seen (g.D.Disk.blocks a.disk.now) (g.D.Disk.plan a.disk.now) (g.D.Disk.faults a.disk.now)) (disk_seen (g.D.Disk.blocks c.settle_all.new.disk) (g.D.Disk.plan c.settle_all.new.disk) (g.D.Disk.faults c.settle_all.new.disk))
+    (did_then (placed_joins a.p) (placed_settled g.C.Meaning.Rules.meaning) (placed_of a.running.now) (placed_of c.join.new.running) (placed_of c.settle_all.new.running) a.trace.now.notes a.trace.now.notes c.settle_all.new.trace.notes (disk_seen (g.D.Disk.blocks a.disk.now) (g.D.Disk.plan a.disk.now) (g.D.Disk.faults a.disk.now)) (disk_seen (g.D.Disk.blocks a.disk.now) (g.D.Disk.plan a.disk.now) (g.D.Disk.faults a.disk.now)) (disk_seen (g.D.Disk.blocks c.settle_all.new.disk) (g.D.Disk.plan c.settle_all.new.disk) (g.D.Disk.faults c.settle_all.new.disk)) (c.join.ensures.went a.trace.now.notes (disk_seen (g.D.Disk.blocks a.disk.now) (g.D.Disk.plan a.disk.now) (g.D.Disk.faults a.disk.now))).refines c.settle_all.ensures.went.refines)
+    (λ blocks notes io s is. rested_joined g.C.Meaning.Rules.meaning (placed_of a.running.now) c.others_stand.ensures c.resting.ensures a.p b.0 (sym c.in_graft.ensures ∙ c.if-not-in_graft.false) (sym c.waits.ensures ∙ c.if-waits.false) b.1
+    (taken_by g.C.Meaning.Rules.meaning (placed_of a.running.now) a.p (Some b.0) can b.1).1 blocks notes io s)
 
 pub returns-then-is_some-clause-on : goal.returns-then-is_some-clause-on
 returns-then-is_some-clause-on g c =
@@ -60,12 +60,12 @@ returns-then-is_some-clause-on g c =
 pub returns-then-step_in_graft-clause-refines : goal.returns-then-step_in_graft-clause-refines
 returns-then-step_in_graft-clause-refines g c =
     let a = c.args in
-    let can = can_step (has_some ((placed_of g.C.Calls.stage a.running.now).levels a.p)) (in_order a.p (placed_of g.C.Calls.stage a.running.now).order) (sym c.in_graft.ensures ∙ c.if-not-in_graft.false) (sym c.waits.ensures ∙ c.if-waits.false) in
-    let none = no_blocker_told c.blocked_by.result (placed_blocker g.C.Meaning.Rules.meaning (placed_of g.C.Calls.stage a.running.now) a.p) c.blocked_by.ensures (sym c.is_some.ensures ∙ c.if-is_some.false) in
-    let call = called ((placed_of g.C.Calls.stage a.running.now).call a.p) (levels_called g.C.Meaning.Rules.meaning c.same_shown.ensures (placed_of g.C.Calls.stage a.running.now) a.p c.requires.abstraction (sym c.in_graft.ensures ∙ c.if-not-in_graft.false)) in
-    did_to_rest g.C.Meaning.Rules.meaning (taken_up g.C.Meaning.Rules.meaning a.p) (placed_step g.C.Meaning.Rules.meaning a.p) (placed_of g.C.Calls.stage a.running.now) (placed_of g.C.Calls.stage c.step_in_graft.new.self) a.trace.now.notes c.step_in_graft.new.trace.notes (disk_seen (g.D.Disk.blocks a.disk.now) (g.D.Disk.plan a.disk.now) (g.D.Disk.faults a.disk.now)) (disk_seen (g.D.Disk.blocks c.step_in_graft.new.disk) (g.D.Disk.plan c.step_in_graft.new.disk) (g.D.Disk.faults c.step_in_graft.new.disk)) c.step_in_graft.ensures.refines
-    (rested_still g.C.Meaning.Rules.meaning (placed_of g.C.Calls.stage a.running.now) c.steps_stand.ensures c.resting.ensures a.p call.0 (placed_of g.C.Calls.stage c.step_in_graft.new.self) call.1 none (sym c.in_graft.ensures ∙ c.if-not-in_graft.false) (sym c.waits.ensures ∙ c.if-waits.false) (c.step_in_graft.ensures.kept c.if-step_in_graft.true)
-    (taken_by g.C.Meaning.Rules.meaning (placed_of g.C.Calls.stage a.running.now) a.p None can none).1)
+    let can = can_step (has_some ((placed_of a.running.now).levels a.p)) (in_order a.p (placed_of a.running.now).order) (sym c.in_graft.ensures ∙ c.if-not-in_graft.false) (sym c.waits.ensures ∙ c.if-waits.false) in
+    let none = no_blocker_told c.blocked_by.result (placed_blocker g.C.Meaning.Rules.meaning (placed_of a.running.now) a.p) c.blocked_by.ensures (sym c.is_some.ensures ∙ c.if-is_some.false) in
+    let call = called ((placed_of a.running.now).call a.p) (levels_called g.C.Meaning.Rules.meaning c.same_shown.ensures (placed_of a.running.now) a.p c.requires.abstraction (sym c.in_graft.ensures ∙ c.if-not-in_graft.false)) in
+    did_to_rest g.C.Meaning.Rules.meaning (taken_up g.C.Meaning.Rules.meaning a.p) (placed_step g.C.Meaning.Rules.meaning a.p) (placed_of a.running.now) (placed_of c.step_in_graft.new.self) a.trace.now.notes c.step_in_graft.new.trace.notes (disk_seen (g.D.Disk.blocks a.disk.now) (g.D.Disk.plan a.disk.now) (g.D.Disk.faults a.disk.now)) (disk_seen (g.D.Disk.blocks c.step_in_graft.new.disk) (g.D.Disk.plan c.step_in_graft.new.disk) (g.D.Disk.faults c.step_in_graft.new.disk)) c.step_in_graft.ensures.refines
+    (rested_still g.C.Meaning.Rules.meaning (placed_of a.running.now) c.steps_stand.ensures c.resting.ensures a.p call.0 (placed_of c.step_in_graft.new.self) call.1 none (sym c.in_graft.ensures ∙ c.if-not-in_graft.false) (sym c.waits.ensures ∙ c.if-waits.false) (c.step_in_graft.ensures.kept c.if-step_in_graft.true)
+    (taken_by g.C.Meaning.Rules.meaning (placed_of a.running.now) a.p None can none).1)
 
 pub returns-then-step_in_graft-clause-on : goal.returns-then-step_in_graft-clause-on
 returns-then-step_in_graft-clause-on g c = let s = c.step_in_graft.ensures in record { running = s.running; abstraction = s.abstraction; world = s.world; clock = s.clock }
@@ -73,12 +73,12 @@ returns-then-step_in_graft-clause-on g c = let s = c.step_in_graft.ensures in re
 pub returns-clause-refines : goal.returns-clause-refines
 returns-clause-refines g c =
     let a = c.args in
-    let can = can_step (has_some ((placed_of g.C.Calls.stage a.running.now).levels a.p)) (in_order a.p (placed_of g.C.Calls.stage a.running.now).order) (sym c.in_graft.ensures ∙ c.if-not-in_graft.false) (sym c.waits.ensures ∙ c.if-waits.false) in
-    let none = no_blocker_told c.blocked_by.result (placed_blocker g.C.Meaning.Rules.meaning (placed_of g.C.Calls.stage a.running.now) a.p) c.blocked_by.ensures (sym c.is_some.ensures ∙ c.if-is_some.false) in
-    let call = called ((placed_of g.C.Calls.stage a.running.now).call a.p) (levels_called g.C.Meaning.Rules.meaning c.same_shown.ensures (placed_of g.C.Calls.stage a.running.now) a.p c.requires.abstraction (sym c.in_graft.ensures ∙ c.if-not-in_graft.false)) in
-    did_to_rest g.C.Meaning.Rules.meaning (taken_up g.C.Meaning.Rules.meaning a.p) (λ r. placed_settled g.C.Meaning.Rules.meaning (placed_step g.C.Meaning.Rules.meaning a.p r)) (placed_of g.C.Calls.stage a.running.now) (placed_of g.C.Calls.stage c.settle_all-2.new.running) a.trace.now.notes c.settle_all-2.new.trace.notes (disk_seen (g.D.Disk.blocks a.disk.now) (g.D.Disk.plan a.disk.now) (g.D.Disk.faults a.disk.now)) (disk_seen (g.D.Disk.blocks c.settle_all-2.new.disk) (g.D.Disk.plan c.settle_all-2.new.disk) (g.D.Disk.faults c.settle_all-2.new.disk))
-    (did_then (placed_step g.C.Meaning.Rules.meaning a.p) (placed_settled g.C.Meaning.Rules.meaning) (placed_of g.C.Calls.stage a.running.now) (placed_of g.C.Calls.stage c.step_in_graft.new.self) (placed_of g.C.Calls.stage c.settle_all-2.new.running) a.trace.now.notes c.step_in_graft.new.trace.notes c.settle_all-2.new.trace.notes (disk_seen (g.D.Disk.blocks a.disk.now) (g.D.Disk.plan a.disk.now) (g.D.Disk.faults a.disk.now)) (disk_seen (g.D.Disk.blocks c.step_in_graft.new.disk) (g.D.Disk.plan c.step_in_graft.new.disk) (g.D.Disk.faults c.step_in_graft.new.disk)) (disk_seen (g.D.Disk.blocks c.settle_all-2.new.disk) (g.D.Disk.plan c.settle_all-2.new.disk) (g.D.Disk.faults c.settle_all-2.new.disk)) c.step_in_graft.ensures.refines c.settle_all-2.ensures.went.refines)
-    (λ blocks notes io s is. rested_stepped g.C.Meaning.Rules.meaning (placed_of g.C.Calls.stage a.running.now) c.steps_stand.ensures c.resting.ensures a.p call.0 call.1 none (taken_by g.C.Meaning.Rules.meaning (placed_of g.C.Calls.stage a.running.now) a.p None can none).1 blocks notes io s)
+    let can = can_step (has_some ((placed_of a.running.now).levels a.p)) (in_order a.p (placed_of a.running.now).order) (sym c.in_graft.ensures ∙ c.if-not-in_graft.false) (sym c.waits.ensures ∙ c.if-waits.false) in
+    let none = no_blocker_told c.blocked_by.result (placed_blocker g.C.Meaning.Rules.meaning (placed_of a.running.now) a.p) c.blocked_by.ensures (sym c.is_some.ensures ∙ c.if-is_some.false) in
+    let call = called ((placed_of a.running.now).call a.p) (levels_called g.C.Meaning.Rules.meaning c.same_shown.ensures (placed_of a.running.now) a.p c.requires.abstraction (sym c.in_graft.ensures ∙ c.if-not-in_graft.false)) in
+    did_to_rest g.C.Meaning.Rules.meaning (taken_up g.C.Meaning.Rules.meaning a.p) (λ r. placed_settled g.C.Meaning.Rules.meaning (placed_step g.C.Meaning.Rules.meaning a.p r)) (placed_of a.running.now) (placed_of c.settle_all-2.new.running) a.trace.now.notes c.settle_all-2.new.trace.notes (disk_seen (g.D.Disk.blocks a.disk.now) (g.D.Disk.plan a.disk.now) (g.D.Disk.faults a.disk.now)) (disk_seen (g.D.Disk.blocks c.settle_all-2.new.disk) (g.D.Disk.plan c.settle_all-2.new.disk) (g.D.Disk.faults c.settle_all-2.new.disk))
+    (did_then (placed_step g.C.Meaning.Rules.meaning a.p) (placed_settled g.C.Meaning.Rules.meaning) (placed_of a.running.now) (placed_of c.step_in_graft.new.self) (placed_of c.settle_all-2.new.running) a.trace.now.notes c.step_in_graft.new.trace.notes c.settle_all-2.new.trace.notes (disk_seen (g.D.Disk.blocks a.disk.now) (g.D.Disk.plan a.disk.now) (g.D.Disk.faults a.disk.now)) (disk_seen (g.D.Disk.blocks c.step_in_graft.new.disk) (g.D.Disk.plan c.step_in_graft.new.disk) (g.D.Disk.faults c.step_in_graft.new.disk)) (disk_seen (g.D.Disk.blocks c.settle_all-2.new.disk) (g.D.Disk.plan c.settle_all-2.new.disk) (g.D.Disk.faults c.settle_all-2.new.disk)) c.step_in_graft.ensures.refines c.settle_all-2.ensures.went.refines)
+    (λ blocks notes io s is. rested_stepped g.C.Meaning.Rules.meaning (placed_of a.running.now) c.steps_stand.ensures c.resting.ensures a.p call.0 call.1 none (taken_by g.C.Meaning.Rules.meaning (placed_of a.running.now) a.p None can none).1 blocks notes io s)
 
 pub returns-clause-on : goal.returns-clause-on
 returns-clause-on g c =
@@ -88,4 +88,4 @@ returns-clause-on g c =
 
 pub instruction_needs-needs-requires-clause-call : goal.instruction_needs-needs-requires-clause-call
 instruction_needs-needs-requires-clause-call g c =
-    levels_called g.C.Meaning.Rules.meaning c.same_shown.ensures (placed_of g.C.Calls.stage c.args.running.now) c.args.p c.requires.abstraction (sym c.in_graft.ensures ∙ c.if-not-in_graft.false)
+    levels_called g.C.Meaning.Rules.meaning c.same_shown.ensures (placed_of c.args.running.now) c.args.p c.requires.abstraction (sym c.in_graft.ensures ∙ c.if-not-in_graft.false)

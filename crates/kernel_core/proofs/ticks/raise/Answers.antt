@@ -13,8 +13,8 @@ pub returns : goal.returns
 returns g c = record {
   ticked = λ d.
       let a = c.args in
-      let x = (placed_of g.C.Calls.stage a.running.now) in
-      let y = placed_of g.C.Calls.stage c.tick.new.self in
+      let x = (placed_of a.running.now) in
+      let y = placed_of c.tick.new.self in
       let s = c.requires.abstraction in
       let value = c.tick.ensures.value in
       let here = ap (λ (r : PlacedRun). r.placed) (value.0 [] some_blocks []) in

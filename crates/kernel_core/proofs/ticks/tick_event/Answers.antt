@@ -22,7 +22,7 @@ returns-clause-ticked g c =
     let t = c.raise.ensures.ticked (disk_seen (g.D.Disk.blocks a.disk.now) (g.D.Disk.plan a.disk.now) (g.D.Disk.faults a.disk.now)) in
     let w = c.actions.ensures.went in
     record {
-      refines = did_then (placed_ticked a.number) (placed_actions g.C.Meaning.Rules.meaning 288) (placed_of g.C.Calls.stage a.running.now) (placed_of g.C.Calls.stage c.raise.new.running) (placed_of g.C.Calls.stage c.actions.new.running) a.trace.now.notes c.raise.new.notes c.actions.new.trace.notes (disk_seen (g.D.Disk.blocks a.disk.now) (g.D.Disk.plan a.disk.now) (g.D.Disk.faults a.disk.now)) (disk_seen (g.D.Disk.blocks a.disk.now) (g.D.Disk.plan a.disk.now) (g.D.Disk.faults a.disk.now)) (disk_seen (g.D.Disk.blocks c.actions.new.disk) (g.D.Disk.plan c.actions.new.disk) (g.D.Disk.faults c.actions.new.disk)) t.refines w.refines;
+      refines = did_then (placed_ticked a.number) (placed_actions g.C.Meaning.Rules.meaning 288) (placed_of a.running.now) (placed_of c.raise.new.running) (placed_of c.actions.new.running) a.trace.now.notes c.raise.new.notes c.actions.new.trace.notes (disk_seen (g.D.Disk.blocks a.disk.now) (g.D.Disk.plan a.disk.now) (g.D.Disk.faults a.disk.now)) (disk_seen (g.D.Disk.blocks a.disk.now) (g.D.Disk.plan a.disk.now) (g.D.Disk.faults a.disk.now)) (disk_seen (g.D.Disk.blocks c.actions.new.disk) (g.D.Disk.plan c.actions.new.disk) (g.D.Disk.faults c.actions.new.disk)) t.refines w.refines;
       running = w.running;
       abstraction = w.abstraction;
       world = w.world ∙ t.world;

@@ -1,5 +1,6 @@
 use Rattle.std.proofs.Common.{◌∙◌}
 use Rattle.kernel_state.specs.Stores.{world_of_store, objects_of}
+use Rattle.call_pieces.specs.Works.{stage_of}
 use Rattle.kernel_steps.proofs.HinderLemmas.{all_of}
 use Rattle.kernel_steps.proofs.blocking.piece_hindrance.Goals as goal
 
@@ -7,6 +8,6 @@ pub first_hindrance-requires : goal.first_hindrance-requires
 first_hindrance-requires g c =
     record {
       range = all_of c.as_slice.result.now
-          (g.C.Meaning.Rules.meaning.need (world_of_store c.args.store.now) (objects_of c.args.store.now) (g.C.Calls.caller c.args.work.now) (g.C.Calls.stage c.args.work.now))
+          (g.C.Meaning.Rules.meaning.need (world_of_store c.args.store.now) (objects_of c.args.store.now) c.args.work.now.caller (stage_of c.args.work.now))
           (c.as_slice.ensures ∙ c.need.ensures) c.requires.range;
     }

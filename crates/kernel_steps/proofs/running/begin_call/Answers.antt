@@ -12,6 +12,6 @@ returns g c =
     let fl : l ≡ flight_of fs c.args.p = c.index_mut-flight.ensures.value ∙ any_default fs c.args.p l no_flight c.requires.process in
     record {
       slot = c.begin_in.new.slot;
-      flights = ap (λ (f : Flight g.row.C-Work.Denot). with_call_of fs c.args.p c.begin_in.new.slot f) fl;
+      flights = ap (λ (f : Flight). with_call_of fs c.args.p c.begin_in.new.slot f) fl;
       says = c.begin_in.ensures;
     }

@@ -2,4 +2,6 @@ use Rattle.call_pieces.specs.Works.{registers_seen}
 use Rattle.call_pieces.proofs.calls.PlainCalls.piece.Goals as goal
 
 pub returns-clause-does : goal.returns-clause-does
-returns-clause-does g c = λ images blocks rest tells. rw (registers_seen c.args.answer) (c.piece.ensures.does blocks rest tells)
+returns-clause-does g c =
+    λ images blocks rest tells.
+    rw (registers_seen c.args.store.now.ram c.args.work.now.caller c.args.answer) (c.piece.ensures.does blocks rest tells)

@@ -3,6 +3,7 @@ use Rattle.graft_calls.specs.declared.Chain.{Chain}
 use Rattle.graft_loader.specs.Slots.{table_of}
 use Rattle.graft_calls.specs.Calls.{IsPlaced, AreInside}
 use Rattle.kernel_state.specs.Stores.{objects_of}
+use Rattle.call_pieces.specs.Works.{stage_of}
 use Rattle.kernel_steps.specs.declared.running.InFlight.{InFlight}
 use Rattle.kernel_steps.specs.Owned.{AreOwned}
 use Rattle.kernel_steps.proofs.OnceLemmas.{once_joined, room_for}
@@ -28,10 +29,10 @@ returns-in-Err g c =
     let same = chains_stay x.calls.items c.args.p None new small set in
     record {
       refused = e.says.refused;
-      placed = call_kept g.C.Calls.stage x c.args.p new small set c.requires.none;
+      placed = call_kept x c.args.p new small set c.requires.none;
       running = record {
         sixteen = still_sixteen x.calls.items c.args.p None new set ∙ r.sixteen;
-        callers = callers_set g.C.Calls.caller x.calls.items c.args.p None new small set r.callers (λ f is. grind (arith, is));
+        callers = callers_set x.calls.items c.args.p None new small set r.callers (λ f is. grind (arith, is));
         placed = λ q h. subst (λ (chain : Chain). IsPlaced x.store x.locks q chain.levels chain.undo) (sym (same q)) (r.placed q h);
         inside = λ q h. subst (λ (chain : Chain). AreInside (table_of x.images) (objects_of x.store).accounts q chain.levels) (sym (same q)) (r.inside q h);
         counts = r.counts;
@@ -50,19 +51,19 @@ returns-in-Ok g c =
     let e = c.in-Ok.ensures in
     let s = e.says in
     let new = c.begin_call.new.flights.items in
-    let f : InFlight g.row.C-Work.Denot = record { number = c.args.number; work = s.work } in
+    let f : InFlight = record { number = c.args.number; work = s.work } in
     let small = within_flights x.calls.items c.args.p r.sixteen c.requires.process in
     let set : new ≡ with_call x.calls.items c.args.p (Some f) = e.flights ∙ ap (with_call x.calls.items c.args.p) s.stands in
     let same = chains_stay x.calls.items c.args.p (Some f) new small set in
     let caller_is = s.caller_is in
     record {
-      first = g.C.Calls.stage s.work;
+      first = stage_of s.work;
       granted = s.granted;
       value = λ notes blocks io.
-          call_begun g.C.Calls.stage x c.args.p f new c.joined.result c.push.new.self small set c.joined.ensures c.push.ensures blocks notes io;
+          call_begun x c.args.p f new c.joined.result c.push.new.self small set c.joined.ensures c.push.ensures blocks notes io;
       running = record {
         sixteen = still_sixteen x.calls.items c.args.p (Some f) new set ∙ r.sixteen;
-        callers = callers_set g.C.Calls.caller x.calls.items c.args.p (Some f) new small set r.callers (λ e is. grind (arith, is, caller_is));
+        callers = callers_set x.calls.items c.args.p (Some f) new small set r.callers (λ e is. grind (arith, is, caller_is));
         placed = λ q h. subst (λ (chain : Chain). IsPlaced x.store x.locks q chain.levels chain.undo) (sym (same q)) (r.placed q h);
         inside = λ q h. subst (λ (chain : Chain). AreInside (table_of x.images) (objects_of x.store).accounts q chain.levels) (sym (same q)) (r.inside q h);
         counts = counts_joined x.clock c.args.p x.order c.joined.result c.push.new.self c.joined.ensures c.push.ensures r.counts;

@@ -12,20 +12,20 @@ requeue-requires-clause-running g c =
     let m = g.C.Meaning.Rules.meaning in
     let low = subst (λ n. a.d < n) (sym (levels_many a.self.now a.p)) c.requires.level in
     let some = some_by_more (levels_at a.self.now a.p) a.d low in
-    let t = call_is (call_at g.C.Calls.stage a.self.now a.p) (has_call m c.same_shown.ensures (placed_of g.C.Calls.stage a.self.now) a.p c.requires.abstraction some) in
-    running_after_drop m c.sound_in_place.ensures c.drops_stand.ensures c.held_stays.ensures g.C.Calls.stage g.C.Calls.caller a.self.now c.drop_call.new.self a.p a.d t.0 a.cause a.trace.now.notes c.drop_call.new.trace.notes (disk_seen (g.D.Disk.blocks a.disk.now) (g.D.Disk.plan a.disk.now) (g.D.Disk.faults a.disk.now)) (disk_seen (g.D.Disk.blocks c.drop_call.new.disk) (g.D.Disk.plan c.drop_call.new.disk) (g.D.Disk.faults c.drop_call.new.disk))
+    let t = call_is (call_at a.self.now a.p) (has_call m c.same_shown.ensures (placed_of a.self.now) a.p c.requires.abstraction some) in
+    running_after_drop m c.sound_in_place.ensures c.drops_stand.ensures c.held_stays.ensures a.self.now c.drop_call.new.self a.p a.d t.0 a.cause a.trace.now.notes c.drop_call.new.trace.notes (disk_seen (g.D.Disk.blocks a.disk.now) (g.D.Disk.plan a.disk.now) (g.D.Disk.faults a.disk.now)) (disk_seen (g.D.Disk.blocks c.drop_call.new.disk) (g.D.Disk.plan c.drop_call.new.disk) (g.D.Disk.faults c.drop_call.new.disk))
     c.requires.running c.requires.process c.requires.abstraction t.1 low some (c.drop_call.ensures.done t.0 t.1)
 
 pub returns-clause-refines : goal.returns-clause-refines
 returns-clause-refines g c =
     let a = c.args in
     let m = g.C.Meaning.Rules.meaning in
-    let x = placed_of g.C.Calls.stage a.self.now in
-    let y = placed_of g.C.Calls.stage c.drop_call.new.self in
-    let z = placed_of g.C.Calls.stage c.requeue.new.self in
+    let x = placed_of a.self.now in
+    let y = placed_of c.drop_call.new.self in
+    let z = placed_of c.requeue.new.self in
     let low = subst (λ n. a.d < n) (sym (levels_many a.self.now a.p)) c.requires.level in
     let some = some_by_more (levels_at a.self.now a.p) a.d low in
-    let t = call_is (call_at g.C.Calls.stage a.self.now a.p) (has_call m c.same_shown.ensures x a.p c.requires.abstraction some) in
+    let t = call_is (call_at a.self.now a.p) (has_call m c.same_shown.ensures x a.p c.requires.abstraction some) in
     did_drop m x z a.p a.d t.0 a.cause a.trace.now.notes c.drop_call.new.trace.notes (disk_seen (g.D.Disk.blocks a.disk.now) (g.D.Disk.plan a.disk.now) (g.D.Disk.faults a.disk.now)) (disk_seen (g.D.Disk.blocks c.drop_call.new.disk) (g.D.Disk.plan c.drop_call.new.disk) (g.D.Disk.faults c.drop_call.new.disk)) t.1 some
     (did_requeued (drop_change m a.p a.d t.0 a.cause) x y z a.p a.trace.now.notes c.drop_call.new.trace.notes (disk_seen (g.D.Disk.blocks a.disk.now) (g.D.Disk.plan a.disk.now) (g.D.Disk.faults a.disk.now)) (disk_seen (g.D.Disk.blocks c.drop_call.new.disk) (g.D.Disk.plan c.drop_call.new.disk) (g.D.Disk.faults c.drop_call.new.disk)) (c.drop_call.ensures.done t.0 t.1).refines c.requeue.ensures.value)
 
@@ -35,9 +35,9 @@ returns-clause-abstraction g c =
     let m = g.C.Meaning.Rules.meaning in
     let low = subst (λ n. a.d < n) (sym (levels_many a.self.now a.p)) c.requires.level in
     let some = some_by_more (levels_at a.self.now a.p) a.d low in
-    let t = call_is (call_at g.C.Calls.stage a.self.now a.p) (has_call m c.same_shown.ensures (placed_of g.C.Calls.stage a.self.now) a.p c.requires.abstraction some) in
-    stood_requeued m a.p (placed_of g.C.Calls.stage c.drop_call.new.self) (placed_of g.C.Calls.stage c.requeue.new.self) c.requeue.ensures.value
-    (stood_after_drop m c.drops_stand.ensures g.C.Calls.stage g.C.Calls.caller a.self.now c.drop_call.new.self a.p a.d t.0 a.cause a.trace.now.notes c.drop_call.new.trace.notes (disk_seen (g.D.Disk.blocks a.disk.now) (g.D.Disk.plan a.disk.now) (g.D.Disk.faults a.disk.now)) (disk_seen (g.D.Disk.blocks c.drop_call.new.disk) (g.D.Disk.plan c.drop_call.new.disk) (g.D.Disk.faults c.drop_call.new.disk)) c.requires.abstraction t.1 low some (c.drop_call.ensures.done t.0 t.1))
+    let t = call_is (call_at a.self.now a.p) (has_call m c.same_shown.ensures (placed_of a.self.now) a.p c.requires.abstraction some) in
+    stood_requeued m a.p (placed_of c.drop_call.new.self) (placed_of c.requeue.new.self) c.requeue.ensures.value
+    (stood_after_drop m c.drops_stand.ensures a.self.now c.drop_call.new.self a.p a.d t.0 a.cause a.trace.now.notes c.drop_call.new.trace.notes (disk_seen (g.D.Disk.blocks a.disk.now) (g.D.Disk.plan a.disk.now) (g.D.Disk.faults a.disk.now)) (disk_seen (g.D.Disk.blocks c.drop_call.new.disk) (g.D.Disk.plan c.drop_call.new.disk) (g.D.Disk.faults c.drop_call.new.disk)) c.requires.abstraction t.1 low some (c.drop_call.ensures.done t.0 t.1))
 
 pub returns-clause-world : goal.returns-clause-world
 returns-clause-world g c =
@@ -45,8 +45,8 @@ returns-clause-world g c =
     let m = g.C.Meaning.Rules.meaning in
     let low = subst (λ n. a.d < n) (sym (levels_many a.self.now a.p)) c.requires.level in
     let some = some_by_more (levels_at a.self.now a.p) a.d low in
-    let t = call_is (call_at g.C.Calls.stage a.self.now a.p) (has_call m c.same_shown.ensures (placed_of g.C.Calls.stage a.self.now) a.p c.requires.abstraction some) in
-    ap (λ (z : Placed). z.world) (requeue_keeps a.p (placed_of g.C.Calls.stage c.drop_call.new.self) (placed_of g.C.Calls.stage c.requeue.new.self) c.requeue.ensures.value) ∙ (c.drop_call.ensures.done t.0 t.1).stepped.world
+    let t = call_is (call_at a.self.now a.p) (has_call m c.same_shown.ensures (placed_of a.self.now) a.p c.requires.abstraction some) in
+    ap (λ (z : Placed). z.world) (requeue_keeps a.p (placed_of c.drop_call.new.self) (placed_of c.requeue.new.self) c.requeue.ensures.value) ∙ (c.drop_call.ensures.done t.0 t.1).stepped.world
 
 pub returns-clause-clock : goal.returns-clause-clock
 returns-clause-clock g c =
@@ -54,5 +54,5 @@ returns-clause-clock g c =
     let m = g.C.Meaning.Rules.meaning in
     let low = subst (λ n. a.d < n) (sym (levels_many a.self.now a.p)) c.requires.level in
     let some = some_by_more (levels_at a.self.now a.p) a.d low in
-    let t = call_is (call_at g.C.Calls.stage a.self.now a.p) (has_call m c.same_shown.ensures (placed_of g.C.Calls.stage a.self.now) a.p c.requires.abstraction some) in
-    ap (λ (z : Placed). z.clock) (requeue_keeps a.p (placed_of g.C.Calls.stage c.drop_call.new.self) (placed_of g.C.Calls.stage c.requeue.new.self) c.requeue.ensures.value) ∙ (c.drop_call.ensures.done t.0 t.1).stepped.clock
+    let t = call_is (call_at a.self.now a.p) (has_call m c.same_shown.ensures (placed_of a.self.now) a.p c.requires.abstraction some) in
+    ap (λ (z : Placed). z.clock) (requeue_keeps a.p (placed_of c.drop_call.new.self) (placed_of c.requeue.new.self) c.requeue.ensures.value) ∙ (c.drop_call.ensures.done t.0 t.1).stepped.clock

@@ -16,7 +16,7 @@ use Rattle.kernel_steps.proofs.running.Running.end.Goals as goal
 pub returns-clause-value : goal.returns-clause-value
 returns-clause-value g c =
     let x = c.args.self.now in (
-      λ notes blocks io. call_ended g.C.Calls.stage x c.args.p (note_with c.args.note []) c.end_call.new.flights.items c.leave.new.self notes (notes ++ (note_with c.args.note []) ∷ [])
+      λ notes blocks io. call_ended x c.args.p (note_with c.args.note []) c.end_call.new.flights.items c.leave.new.self notes (notes ++ (note_with c.args.note []) ∷ [])
           (within_flights x.calls.items c.args.p c.requires.running.sixteen c.requires.process) c.end_call.ensures c.leave.ensures refl blocks io,
       c.push.ensures,
     )
@@ -29,7 +29,7 @@ returns-clause-running g c =
     let same = chains_stay x.calls.items c.args.p None c.end_call.new.flights.items small c.end_call.ensures in
     record {
       sixteen = still_sixteen x.calls.items c.args.p None c.end_call.new.flights.items c.end_call.ensures ∙ r.sixteen;
-      callers = callers_set g.C.Calls.caller x.calls.items c.args.p None c.end_call.new.flights.items small c.end_call.ensures r.callers (λ e is. grind (arith, is));
+      callers = callers_set x.calls.items c.args.p None c.end_call.new.flights.items small c.end_call.ensures r.callers (λ e is. grind (arith, is));
       placed = λ q h. subst (λ (chain : Chain). IsPlaced x.store x.locks q chain.levels chain.undo) (sym (same q)) (r.placed q h);
       inside = λ q h. subst (λ (chain : Chain). AreInside (table_of x.images) (objects_of x.store).accounts q chain.levels) (sym (same q)) (r.inside q h);
       counts = ap (counts_within x.clock) c.leave.ensures ∙ counts_less x.clock c.args.p x.order r.counts;

@@ -27,17 +27,17 @@ returns-in-Went-clause-done g c =
     λ pc is.
     let a = c.args in
     let d = disk_seen (g.D.Disk.blocks a.disk.now) (g.D.Disk.plan a.disk.now) (g.D.Disk.faults a.disk.now) in
-    let same = nothing_done g.C.Calls.stage g.C.Calls.caller a.self.now a.p a.trace.now.notes d c.requires.alone in
+    let same = nothing_done a.self.now a.p a.trace.now.notes d c.requires.alone in
     elim c.in-Went.is [
-      | inl went ↦ said_done g.C.Meaning.Rules.meaning g.C.Calls.stage g.C.Calls.caller a.self.now a.self.now a.p pc a.said Micro.Went a.trace.now.notes a.trace.now.notes d d went same
-      | inr b ↦ said_done g.C.Meaning.Rules.meaning g.C.Calls.stage g.C.Calls.caller a.self.now a.self.now a.p pc a.said (Micro.Blocked b.0 b.1 b.2) a.trace.now.notes a.trace.now.notes d d b.3 same
+      | inl went ↦ said_done g.C.Meaning.Rules.meaning a.self.now.store.ram a.self.now a.self.now a.p pc a.said Micro.Went a.trace.now.notes a.trace.now.notes d d went same
+      | inr b ↦ said_done g.C.Meaning.Rules.meaning a.self.now.store.ram a.self.now a.self.now a.p pc a.said (Micro.Blocked b.0 b.1 b.2) a.trace.now.notes a.trace.now.notes d d b.3 same
     ]
 
 pub returns-in-Completed-clause-done : goal.returns-in-Completed-clause-done
 returns-in-Completed-clause-done g c =
     λ pc is.
     let a = c.args in
-    said_done g.C.Meaning.Rules.meaning g.C.Calls.stage g.C.Calls.caller a.self.now c.finish.new.self a.p pc a.said (Micro.Completed c.in-Completed.answer) a.trace.now.notes c.finish.new.trace.notes
+    said_done g.C.Meaning.Rules.meaning a.self.now.store.ram a.self.now c.finish.new.self a.p pc a.said (Micro.Completed c.in-Completed.answer) a.trace.now.notes c.finish.new.trace.notes
     (disk_seen (g.D.Disk.blocks a.disk.now) (g.D.Disk.plan a.disk.now) (g.D.Disk.faults a.disk.now)) (disk_seen (g.D.Disk.blocks c.finish.new.disk) (g.D.Disk.plan c.finish.new.disk) (g.D.Disk.faults c.finish.new.disk))
     c.in-Completed.is (c.finish.ensures.done pc is)
 
@@ -48,9 +48,9 @@ returns-in-Some-clause-done g c =
     let dr = c.in-Dropped in
     let d = disk_seen (g.D.Disk.blocks a.disk.now) (g.D.Disk.plan a.disk.now) (g.D.Disk.faults a.disk.now) in
     let e = disk_seen (g.D.Disk.blocks c.follow_drop.new.disk) (g.D.Disk.plan c.follow_drop.new.disk) (g.D.Disk.faults c.follow_drop.new.disk) in
-    let n : c.in-Some.number ≡ pc.number = number_is g.C.Calls.stage (flight_of a.self.now.calls.items a.p).call pc c.in-Some.number
-    (sym c.in-Some.is ∙ c.number_of.ensures ∙ ap (λ fs. option_map (λ (f : InFlight g.row.C-Work.Denot). f.number) (flight_of fs a.p).call) c.deref.ensures.value) is in
-    said_done g.C.Meaning.Rules.meaning g.C.Calls.stage g.C.Calls.caller a.self.now c.follow_drop.new.self a.p pc a.said (Micro.Dropped dr.d dr.q dr.pt dr.cause) a.trace.now.notes c.follow_drop.new.trace.notes d e
+    let n : c.in-Some.number ≡ pc.number = number_is (flight_of a.self.now.calls.items a.p).call pc c.in-Some.number
+    (sym c.in-Some.is ∙ c.number_of.ensures ∙ ap (λ fs. option_map (λ (f : InFlight). f.number) (flight_of fs a.p).call) c.deref.ensures.value) is in
+    said_done g.C.Meaning.Rules.meaning a.self.now.store.ram a.self.now c.follow_drop.new.self a.p pc a.said (Micro.Dropped dr.d dr.q dr.pt dr.cause) a.trace.now.notes c.follow_drop.new.trace.notes d e
     dr.is
-    (subst (λ k. StepDone g.C.Calls.stage g.C.Calls.caller (λ r. after_drop g.C.Meaning.Rules.meaning a.p pc dr.d (placed_noted (Dropped k dr.q dr.pt dr.cause) r)) a.self.now c.follow_drop.new.self a.p a.trace.now.notes c.follow_drop.new.trace.notes d e) n
+    (subst (λ k. StepDone (λ r. after_drop g.C.Meaning.Rules.meaning a.p pc dr.d (placed_noted (Dropped k dr.q dr.pt dr.cause) r)) a.self.now c.follow_drop.new.self a.p a.trace.now.notes c.follow_drop.new.trace.notes d e) n
     (c.follow_drop.ensures.done pc is))

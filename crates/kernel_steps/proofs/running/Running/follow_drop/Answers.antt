@@ -8,7 +8,7 @@ pub returns-then-d-gt0-clause-done : goal.returns-then-d-gt0-clause-done
 returns-then-d-gt0-clause-done g c =
     λ pc is.
     let a = c.args in
-    drop_noted g.C.Meaning.Rules.meaning g.C.Calls.stage g.C.Calls.caller a.self.now a.p a.d pc (note_with a.note []) a.trace.now.notes c.push.new.self
+    drop_noted g.C.Meaning.Rules.meaning a.self.now a.p a.d pc (note_with a.note []) a.trace.now.notes c.push.new.self
     (disk_seen (g.D.Disk.blocks a.disk.now) (g.D.Disk.plan a.disk.now) (g.D.Disk.faults a.disk.now)) c.if-d-gt0.true c.push.ensures c.requires.alone
 
 pub finish-requires-clause-none : goal.finish-requires-clause-none
@@ -21,6 +21,6 @@ pub returns-clause-done : goal.returns-clause-done
 returns-clause-done g c =
     λ pc is.
     let a = c.args in
-    drop_finished g.C.Meaning.Rules.meaning g.C.Calls.stage g.C.Calls.caller a.self.now c.finish.new.self a.p a.d pc (note_with a.note []) a.trace.now.notes c.push.new.self c.finish.new.trace.notes
+    drop_finished g.C.Meaning.Rules.meaning a.self.now c.finish.new.self a.p a.d pc (note_with a.note []) a.trace.now.notes c.push.new.self c.finish.new.trace.notes
     (disk_seen (g.D.Disk.blocks a.disk.now) (g.D.Disk.plan a.disk.now) (g.D.Disk.faults a.disk.now)) (disk_seen (g.D.Disk.blocks c.finish.new.disk) (g.D.Disk.plan c.finish.new.disk) (g.D.Disk.faults c.finish.new.disk))
     c.if-d-gt0.false c.push.ensures (c.finish.ensures.done pc is)

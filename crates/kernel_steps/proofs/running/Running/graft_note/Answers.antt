@@ -16,6 +16,6 @@ returns-in-Some g c =
     let ch = (flight_of x.calls.items c.args.p).chain in
     let l = c.in-Some.level.now in
     ap (λ n. Some n) c.note_of.ensures
-    ∙ ap (λ n. Some (InGraft c.args.number l.owner l.point n)) (c.count.ensures.value ∙ ap (λ (f : Flight g.row.C-Work.Denot). length f.chain.levels) fl)
+    ∙ ap (λ n. Some (InGraft c.args.number l.owner l.point n)) (c.count.ensures.value ∙ ap (λ (f : Flight). length f.chain.levels) fl)
     ∙ note_of_first c.args.number c.args.p x.store.ram (held x.locks) l ch.levels ch.undo (objects_of x.store).things
-    (sym (ap option_copied c.in-Some.is) ∙ c.innermost.ensures ∙ ap (λ (f : Flight g.row.C-Work.Denot). first_level f.chain.levels) fl)
+    (sym (ap option_copied c.in-Some.is) ∙ c.innermost.ensures ∙ ap (λ (f : Flight). first_level f.chain.levels) fl)

@@ -14,27 +14,27 @@ use Rattle.kernel_steps.proofs.running.Running.graft_step.Goals as goal
 pub follow-requires-clause-alone : goal.follow-requires-clause-alone
 follow-requires-clause-alone g c =
     let x = c.args.self.now in
-    micro_alone c.owners_stay.ensures g.C.Calls.stage g.C.Calls.caller x c.instruct-said.new.self c.args.p c.requires.running c.requires.process c.instruct-said.ensures.moved c.instruct-said.ensures.config
+    micro_alone c.owners_stay.ensures x c.instruct-said.new.self c.args.p c.requires.running c.requires.process c.instruct-said.ensures.moved c.instruct-said.ensures.config
 
 pub follow-requires-clause-none : goal.follow-requires-clause-none
 follow-requires-clause-none g c =
     λ answer h.
     let x = c.args.self.now in
-    let o : Outcome = micro (world_of_store x.store) (table_of x.images) c.args.p (placed_config (placed_of g.C.Calls.stage x) c.args.p) in
-    move_ends g.C.Calls.stage x c.instruct-said.new.self c.args.p o c.instruct-said.result answer c.instruct-said.ensures.config c.instruct-said.ensures.said (micro_ends (world_of_store x.store) (table_of x.images) c.args.p (objects_of x.store) (placed_config (placed_of g.C.Calls.stage x) c.args.p).levels) h
+    let o : Outcome = micro (world_of_store x.store) (table_of x.images) c.args.p (placed_config (placed_of x) c.args.p) in
+    move_ends x c.instruct-said.new.self c.args.p o c.instruct-said.result answer c.instruct-said.ensures.config c.instruct-said.ensures.said (micro_ends (world_of_store x.store) (table_of x.images) c.args.p (objects_of x.store) (placed_config (placed_of x) c.args.p).levels) h
 
 pub follow-requires-clause-ready : goal.follow-requires-clause-ready
 follow-requires-clause-ready g c =
     λ answer f h is.
     let x = c.args.self.now in
-    micro_ready g.C.Meaning.Rules.meaning c.ready_in_place.ensures g.C.Calls.stage x c.instruct-said.new.self c.args.p f c.instruct-said.result answer c.requires.abstraction c.requires.level c.instruct-said.ensures.moved c.instruct-said.ensures.config c.instruct-said.ensures.said h is
+    micro_ready g.C.Meaning.Rules.meaning c.ready_in_place.ensures x c.instruct-said.new.self c.args.p f c.instruct-said.result answer c.requires.abstraction c.requires.level c.instruct-said.ensures.moved c.instruct-said.ensures.config c.instruct-said.ensures.said h c.instruct-said.ensures.answer is
 
 pub returns-clause-done : goal.returns-clause-done
 returns-clause-done g c =
     λ pc is.
     let a = c.args in
     let x = a.self.now in
-    micro_done g.C.Meaning.Rules.meaning g.C.Calls.stage g.C.Calls.caller x c.instruct-said.new.self c.follow.new.self a.p pc c.instruct-said.result a.trace.now.notes c.follow.new.trace.notes
+    micro_done g.C.Meaning.Rules.meaning x c.instruct-said.new.self c.follow.new.self a.p pc c.instruct-said.result a.trace.now.notes c.follow.new.trace.notes
     (disk_seen (g.D.Disk.blocks a.disk.now) (g.D.Disk.plan a.disk.now) (g.D.Disk.faults a.disk.now)) (disk_seen (g.D.Disk.blocks c.follow.new.disk) (g.D.Disk.plan c.follow.new.disk) (g.D.Disk.faults c.follow.new.disk))
-    c.instruct-said.ensures.moved c.instruct-said.ensures.config c.instruct-said.ensures.said
-    (c.follow.ensures.done pc (ap (option_map (call_in_place g.C.Calls.stage)) (c.instruct-said.ensures.moved.calls a.p) ∙ is))
+    c.instruct-said.ensures.moved c.instruct-said.ensures.config c.instruct-said.ensures.said c.instruct-said.ensures.answer
+    (c.follow.ensures.done pc (ap (option_map call_in_place) (c.instruct-said.ensures.moved.calls a.p) ∙ is))

@@ -11,5 +11,5 @@ returns g c =
     let fl : c.flight.result.now ≡ flight_of x.calls.items c.args.p = c.flight.ensures ∙ ap (λ fs. flight_of fs c.args.p) c.deref.ensures.value in
     let s = objects_of x.store in
     c.first_hindrance.ensures
-    ∙ needs_hinder g.C.Meaning.Rules.meaning g.C.Calls.stage g.C.Calls.caller x c.args.p c.lock_user-user.result c.args.needs.now c.flight.result.now
+    ∙ needs_hinder g.C.Meaning.Rules.meaning x c.args.p c.lock_user-user.result c.args.needs.now c.flight.result.now
     c.requires.running fl (c.lock_user-user.ensures c.args.p x.store.ram (held x.locks) c.flight.result.now.chain.undo s.things) c.requires.needs

@@ -11,5 +11,5 @@ returns g c =
     let x = c.args.self.now in
     let fl : c.flight.result.now ≡ flight_of x.calls.items c.args.p = c.flight.ensures ∙ ap (λ fs. flight_of fs c.args.p) c.deref.ensures.value in
     let ch = (flight_of x.calls.items c.args.p).chain in
-    ap (λ n. not (n == 0)) (c.count.ensures.value ∙ ap (λ (f : Flight g.row.C-Work.Denot). length f.chain.levels) fl)
+    ap (λ n. not (n == 0)) (c.count.ensures.value ∙ ap (λ (f : Flight). length f.chain.levels) fl)
     ∙ some_in_place c.args.p x.store.ram (held x.locks) ch.levels ch.undo (objects_of x.store).things

@@ -15,5 +15,5 @@ returns-clause-value g c =
     let s = objects_of x.store in
     let fl : c.flight.result.now ≡ flight_of x.calls.items c.args.p = c.flight.ensures ∙ ap (λ fs. flight_of fs c.args.p) c.deref.ensures.value in
     c.needs.ensures.value c.args.p x.store.ram (held x.locks) c.flight.result.now.chain.undo s.things
-    ∙ ap (λ (f : Flight g.row.C-Work.Denot). next_needs (world_of_store x.store) (table_of x.images) s.accounts (levels_in c.args.p x.store.ram (held x.locks) f.chain.levels f.chain.undo s.things)) fl
-    ∙ needs_there g.C.Meaning.Rules.meaning g.C.Calls.stage x c.args.p c.requires.call c.requires.level
+    ∙ ap (λ (f : Flight). next_needs (world_of_store x.store) (table_of x.images) s.accounts (levels_in c.args.p x.store.ram (held x.locks) f.chain.levels f.chain.undo s.things)) fl
+    ∙ needs_there g.C.Meaning.Rules.meaning x c.args.p c.requires.call c.requires.level

@@ -11,11 +11,11 @@ returns-clause-value g c =
     let x = c.args.self.now in
     let fl : c.flight.result.now ≡ flight_of x.calls.items c.args.p = c.flight.ensures ∙ ap (λ fs. flight_of fs c.args.p) c.deref.ensures.value in
     let ch = (flight_of x.calls.items c.args.p).chain in
-    c.count.ensures.value ∙ ap (λ (f : Flight g.row.C-Work.Denot). length f.chain.levels) fl
+    c.count.ensures.value ∙ ap (λ (f : Flight). length f.chain.levels) fl
     ∙ sym (many_bare c.args.p x.store.ram (held x.locks) ch.levels ch.undo (objects_of x.store).things)
 
 pub returns-clause-chain : goal.returns-clause-chain
 returns-clause-chain g c =
     let x = c.args.self.now in
     let fl : c.flight.result.now ≡ flight_of x.calls.items c.args.p = c.flight.ensures ∙ ap (λ fs. flight_of fs c.args.p) c.deref.ensures.value in
-    c.count.ensures.value ∙ ap (λ (f : Flight g.row.C-Work.Denot). length f.chain.levels) fl
+    c.count.ensures.value ∙ ap (λ (f : Flight). length f.chain.levels) fl

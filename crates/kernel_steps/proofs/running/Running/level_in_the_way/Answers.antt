@@ -11,15 +11,15 @@ use Rattle.kernel_steps.proofs.running.Running.level_in_the_way.Goals as goal
 pub returns-then-holder-ge16-clause-value : goal.returns-then-holder-ge16-clause-value
 returns-then-holder-ge16-clause-value g c =
     let x = c.args.self.now in
-    let mode = wanted c.args.object (placed_needs g.C.Meaning.Rules.meaning (placed_of g.C.Calls.stage x) c.args.p) in
-    sym (ap (λ t. outermost_holding c.args.object mode (t c.args.holder)) (holds_in_place g.C.Calls.stage g.C.Calls.caller x c.requires.running)
+    let mode = wanted c.args.object (placed_needs g.C.Meaning.Rules.meaning (placed_of x) c.args.p) in
+    sym (ap (λ t. outermost_holding c.args.object mode (t c.args.holder)) (holds_in_place x c.requires.running)
     ∙ nobody_in_the_way x.locks c.args.holder c.args.object mode c.if-holder-ge16.true)
 
 pub returns-then-not-is_in_range-clause-value : goal.returns-then-not-is_in_range-clause-value
 returns-then-not-is_in_range-clause-value g c =
     let x = c.args.self.now in
-    let mode = wanted c.args.object (placed_needs g.C.Meaning.Rules.meaning (placed_of g.C.Calls.stage x) c.args.p) in
-    sym (ap (λ t. outermost_holding c.args.object mode (t c.args.holder)) (holds_in_place g.C.Calls.stage g.C.Calls.caller x c.requires.running)
+    let mode = wanted c.args.object (placed_needs g.C.Meaning.Rules.meaning (placed_of x) c.args.p) in
+    sym (ap (λ t. outermost_holding c.args.object mode (t c.args.holder)) (holds_in_place x c.requires.running)
     ∙ none_in_the_way x.locks c.args.holder c.args.object mode (sym c.is_in_range.ensures ∙ c.if-not-is_in_range.true))
 
 pub level_of-requires-clause-range : goal.level_of-requires-clause-range
@@ -29,7 +29,7 @@ pub returns-clause-value : goal.returns-clause-value
 returns-clause-value g c =
     let x = c.args.self.now in
     c.level_of.ensures ∙ ap (λ m. outermost_holding c.args.object m (held x.locks c.args.holder)) c.wanted-mode.ensures
-    ∙ sym (ap (λ t. outermost_holding c.args.object (wanted c.args.object (placed_needs g.C.Meaning.Rules.meaning (placed_of g.C.Calls.stage x) c.args.p)) (t c.args.holder)) (holds_in_place g.C.Calls.stage g.C.Calls.caller x c.requires.running))
+    ∙ sym (ap (λ t. outermost_holding c.args.object (wanted c.args.object (placed_needs g.C.Meaning.Rules.meaning (placed_of x) c.args.p)) (t c.args.holder)) (holds_in_place x c.requires.running))
 
 pub returns-clause-there : goal.returns-clause-there
 returns-clause-there g c = level_is c.level_of.result c.args.holder (chain_of c.args.self.now c.args.holder).levels c.if-holder-ge16.false

@@ -15,14 +15,14 @@ pub row_of_level-requires : goal.row_of_level-requires
 row_of_level-requires g c =
     let x = c.args.self.now in
     let fl : c.flight.result.now ≡ flight_of x.calls.items c.args.p = c.flight.ensures ∙ ap (λ fs. flight_of fs c.args.p) c.deref.ensures.value in
-    let many : length c.flight.result.now.chain.levels ≡ length (flight_of x.calls.items c.args.p).chain.levels = ap (λ (f : Flight g.row.C-Work.Denot). length f.chain.levels) fl in
-    omega (arith, c.requires.level, many, levels_many g.C.Calls.stage x c.args.p)
+    let many : length c.flight.result.now.chain.levels ≡ length (flight_of x.calls.items c.args.p).chain.levels = ap (λ (f : Flight). length f.chain.levels) fl in
+    omega (arith, c.requires.level, many, levels_many x c.args.p)
 
 pub returns : goal.returns
 returns g c =
     let x = c.args.self.now in
     let fl : c.flight.result.now ≡ flight_of x.calls.items c.args.p = c.flight.ensures ∙ ap (λ fs. flight_of fs c.args.p) c.deref.ensures.value in
     let s = objects_of x.store in
-    ap (λ (rows : List RawRow). slice_get rows c.args.d) (level_rows_in_place g.C.Calls.stage x c.args.p
-    ∙ sym (ap (λ (f : Flight g.row.C-Work.Denot). reverse (rows_of_levels c.args.p (levels_in c.args.p x.store.ram (held x.locks) f.chain.levels f.chain.undo s.things))) fl))
+    ap (λ (rows : List RawRow). slice_get rows c.args.d) (level_rows_in_place x c.args.p
+    ∙ sym (ap (λ (f : Flight). reverse (rows_of_levels c.args.p (levels_in c.args.p x.store.ram (held x.locks) f.chain.levels f.chain.undo s.things))) fl))
     ∙ c.row_of_level.ensures x.store.ram (held x.locks) c.flight.result.now.chain.undo s.things

@@ -1,17 +1,17 @@
-use Rattle.std.proofs.Common.{◌≡◌, ◌∙◌, ap, sym, List, Some, None}
+use Rattle.std.proofs.Common.{◌≡◌, ◌∙◌, ap, sym, Option, Some, None}
 use Rattle.std.specs.Prelude.{option_map}
 use Rattle.disk_log.specs.Seen.{disk_seen}
-use Rattle.kernel_model.specs.declared.Need.{Need}
 use Rattle.kernel_model.specs.History.{begin_at}
 use Rattle.kernel_state.specs.Stores.{world_of_store, objects_of}
 use Rattle.graft_loader.specs.Slots.{table_of}
 use Rattle.placed_laws.specs.Placed.{PlacedCall}
+use Rattle.call_pieces.specs.Works.{stage_of}
 use Rattle.kernel_steps.specs.declared.running.Flight.{Flight}
-use Rattle.kernel_steps.specs.Moves.{come_to}
+use Rattle.kernel_steps.specs.Moves.{come_to, fed_by, needed_by}
 use Rattle.kernel_steps.specs.Steps.{finishes}
 use Rattle.placed_laws.specs.PlacedSteps.{placed_call_step}
 use Rattle.kernel_steps.specs.Views.{placed_of, flight_of, call_in_place}
-use Rattle.kernel_steps.proofs.HinderLemmas.{all_of, may_come, stands}
+use Rattle.kernel_steps.proofs.HinderLemmas.{may_come, stands}
 use Rattle.kernel_steps.proofs.StepLemmas.{alone_at, done_as, same_call}
 use Rattle.kernel_steps.proofs.AskLemmas.{asked_lives, asks_empty, asks_none, entered_done, not_there, ready_at_once, there_is}
 use Rattle.std.specs.Prelude.{option_copied}
@@ -23,14 +23,14 @@ asks-requires g c =
     let x = a.self.now in
     let call = c.in-Some.call.now in
     let fl : c.flight-flight.result.now ≡ flight_of x.calls.items a.p = c.flight-flight.ensures ∙ ap (λ fs. flight_of fs a.p) c.deref.ensures.value in
-    let there = sym (ap (λ (f : Flight g.row.C-Work.Denot). f.call) fl) ∙ (sym c.get.ensures ∙ ap option_copied c.in-Some.is) in
-    record { ready = may_come g.C.Meaning.Rules.meaning g.C.Meaning.Rules.laws (world_of_store x.store) (table_of x.images) (objects_of x.store) (g.C.Calls.caller call.work) (g.C.Calls.stage call.work) (stands g.C.Meaning.Rules.meaning c.sound_in_place.ensures g.C.Calls.stage g.C.Calls.caller x a.p call c.requires.running c.requires.abstraction there) }
+    let there = sym (ap (λ (f : Flight). f.call) fl) ∙ (sym c.get.ensures ∙ ap option_copied c.in-Some.is) in
+    record { ready = may_come g.C.Meaning.Rules.meaning g.C.Meaning.Rules.laws (world_of_store x.store) (table_of x.images) (objects_of x.store) call.work.caller (stage_of call.work) (stands g.C.Meaning.Rules.meaning c.sound_in_place.ensures x a.p call c.requires.running c.requires.abstraction there) }
 
 pub finish-requires-clause-alone : goal.finish-requires-clause-alone
-finish-requires-clause-alone g c = alone_at g.C.Calls.caller c.args.self.now c.args.p c.requires.running c.requires.process
+finish-requires-clause-alone g c = alone_at c.args.self.now c.args.p c.requires.running c.requires.process
 
 pub finish-requires-clause-ready : goal.finish-requires-clause-ready
-finish-requires-clause-ready g c = λ f is. ready_at_once g.C.Meaning.Rules.meaning c.ready_in_place.ensures g.C.Calls.stage c.args.self.now c.args.p f c.requires.abstraction is
+finish-requires-clause-ready g c = λ f is. ready_at_once g.C.Meaning.Rules.meaning c.ready_in_place.ensures c.args.self.now c.args.p f c.requires.abstraction is
 
 pub returns-in_default-asks-clause-done : goal.returns-in_default-asks-clause-done
 returns-in_default-asks-clause-done g c =
@@ -39,10 +39,10 @@ returns-in_default-asks-clause-done g c =
     let x = a.self.now in
     let call = c.in-Some.call.now in
     let fl : c.flight-flight.result.now ≡ flight_of x.calls.items a.p = c.flight-flight.ensures ∙ ap (λ fs. flight_of fs a.p) c.deref.ensures.value in
-    let there = sym (ap (λ (f : Flight g.row.C-Work.Denot). f.call) fl) ∙ (sym c.get.ensures ∙ ap option_copied c.in-Some.is) in
-    let t : call_in_place g.C.Calls.stage call ≡ pc = same_call g.C.Calls.stage call pc (ap (option_map (call_in_place g.C.Calls.stage)) (sym there) ∙ is) in
-    done_as g.C.Calls.stage g.C.Calls.caller (λ r. placed_call_step g.C.Meaning.Rules.meaning a.p (Some pc) r) (finishes g.C.Meaning.Rules.meaning a.p pc None) x c.finish.new.self a.p a.trace.now.notes c.finish.new.trace.notes (disk_seen (g.D.Disk.blocks a.disk.now) (g.D.Disk.plan a.disk.now) (g.D.Disk.faults a.disk.now)) (disk_seen (g.D.Disk.blocks c.finish.new.disk) (g.D.Disk.plan c.finish.new.disk) (g.D.Disk.faults c.finish.new.disk))
-    (asks_none g.C.Meaning.Rules.meaning g.C.Calls.stage x a.p pc c.requires.none (ap (λ (e : PlacedCall). g.C.Meaning.Rules.meaning.asks (world_of_store x.store) (objects_of x.store) a.p e.stage) (sym t) ∙ ap (λ q. g.C.Meaning.Rules.meaning.asks (world_of_store x.store) (objects_of x.store) q (g.C.Calls.stage call.work)) (sym (c.requires.running.callers a.p call there)) ∙ sym c.asks.ensures ∙ c.in_default-asks.is)) (c.finish.ensures.done pc is)
+    let there = sym (ap (λ (f : Flight). f.call) fl) ∙ (sym c.get.ensures ∙ ap option_copied c.in-Some.is) in
+    let t : call_in_place call ≡ pc = same_call call pc (ap (option_map call_in_place) (sym there) ∙ is) in
+    done_as (λ r. placed_call_step g.C.Meaning.Rules.meaning a.p (Some pc) r) (finishes g.C.Meaning.Rules.meaning a.p pc None) x c.finish.new.self a.p a.trace.now.notes c.finish.new.trace.notes (disk_seen (g.D.Disk.blocks a.disk.now) (g.D.Disk.plan a.disk.now) (g.D.Disk.faults a.disk.now)) (disk_seen (g.D.Disk.blocks c.finish.new.disk) (g.D.Disk.plan c.finish.new.disk) (g.D.Disk.faults c.finish.new.disk))
+    (asks_none g.C.Meaning.Rules.meaning x a.p pc c.requires.none (ap (λ (e : PlacedCall). g.C.Meaning.Rules.meaning.asks (world_of_store x.store) (objects_of x.store) a.p e.stage) (sym t) ∙ ap (λ q. g.C.Meaning.Rules.meaning.asks (world_of_store x.store) (objects_of x.store) q (stage_of call.work)) (sym (c.requires.running.callers a.p call there)) ∙ sym c.asks.ensures ∙ c.in_default-asks.is)) (c.finish.ensures.done pc is)
 
 pub has_graft-requires : goal.has_graft-requires
 has_graft-requires g c =
@@ -50,14 +50,14 @@ has_graft-requires g c =
     let x = a.self.now in
     let call = c.in-Some.call.now in
     let fl : c.flight-flight.result.now ≡ flight_of x.calls.items a.p = c.flight-flight.ensures ∙ ap (λ fs. flight_of fs a.p) c.deref.ensures.value in
-    let there = sym (ap (λ (f : Flight g.row.C-Work.Denot). f.call) fl) ∙ (sym c.get.ensures ∙ ap option_copied c.in-Some.is) in
-    (g.C.Meaning.Rules.laws.ask.ranges (world_of_store x.store) (table_of x.images) (objects_of x.store) (g.C.Calls.caller call.work) (g.C.Calls.stage call.work) c.in-Some-asks.point (stands g.C.Meaning.Rules.meaning c.sound_in_place.ensures g.C.Calls.stage g.C.Calls.caller x a.p call c.requires.running c.requires.abstraction there) (sym c.asks.ensures ∙ c.in-Some-asks.is)).graft.1
+    let there = sym (ap (λ (f : Flight). f.call) fl) ∙ (sym c.get.ensures ∙ ap option_copied c.in-Some.is) in
+    (g.C.Meaning.Rules.laws.ask.ranges (world_of_store x.store) (table_of x.images) (objects_of x.store) call.work.caller (stage_of call.work) c.in-Some-asks.point (stands g.C.Meaning.Rules.meaning c.sound_in_place.ensures x a.p call c.requires.running c.requires.abstraction there) (sym c.asks.ensures ∙ c.in-Some-asks.is)).graft.1
 
 pub finish-requires-then-not-has_graft-clause-alone : goal.finish-requires-then-not-has_graft-clause-alone
-finish-requires-then-not-has_graft-clause-alone g c = alone_at g.C.Calls.caller c.args.self.now c.args.p c.requires.running c.requires.process
+finish-requires-then-not-has_graft-clause-alone g c = alone_at c.args.self.now c.args.p c.requires.running c.requires.process
 
 pub finish-requires-then-not-has_graft-clause-ready : goal.finish-requires-then-not-has_graft-clause-ready
-finish-requires-then-not-has_graft-clause-ready g c = λ f is. ready_at_once g.C.Meaning.Rules.meaning c.ready_in_place.ensures g.C.Calls.stage c.args.self.now c.args.p f c.requires.abstraction is
+finish-requires-then-not-has_graft-clause-ready g c = λ f is. ready_at_once g.C.Meaning.Rules.meaning c.ready_in_place.ensures c.args.self.now c.args.p f c.requires.abstraction is
 
 pub returns-then-not-has_graft-clause-done : goal.returns-then-not-has_graft-clause-done
 returns-then-not-has_graft-clause-done g c =
@@ -66,20 +66,11 @@ returns-then-not-has_graft-clause-done g c =
     let x = a.self.now in
     let call = c.in-Some.call.now in
     let fl : c.flight-flight.result.now ≡ flight_of x.calls.items a.p = c.flight-flight.ensures ∙ ap (λ fs. flight_of fs a.p) c.deref.ensures.value in
-    let there = sym (ap (λ (f : Flight g.row.C-Work.Denot). f.call) fl) ∙ (sym c.get.ensures ∙ ap option_copied c.in-Some.is) in
-    let t : call_in_place g.C.Calls.stage call ≡ pc = same_call g.C.Calls.stage call pc (ap (option_map (call_in_place g.C.Calls.stage)) (sym there) ∙ is) in
-    done_as g.C.Calls.stage g.C.Calls.caller (λ r. placed_call_step g.C.Meaning.Rules.meaning a.p (Some pc) r) (finishes g.C.Meaning.Rules.meaning a.p pc None) x c.finish-then-not-has_graft.new.self a.p a.trace.now.notes c.finish-then-not-has_graft.new.trace.notes (disk_seen (g.D.Disk.blocks a.disk.now) (g.D.Disk.plan a.disk.now) (g.D.Disk.faults a.disk.now)) (disk_seen (g.D.Disk.blocks c.finish-then-not-has_graft.new.disk) (g.D.Disk.plan c.finish-then-not-has_graft.new.disk) (g.D.Disk.faults c.finish-then-not-has_graft.new.disk))
-    (asks_empty g.C.Meaning.Rules.meaning g.C.Calls.stage x a.p pc c.requires.none c.in-Some-asks.point (ap (λ (e : PlacedCall). g.C.Meaning.Rules.meaning.asks (world_of_store x.store) (objects_of x.store) a.p e.stage) (sym t) ∙ ap (λ q. g.C.Meaning.Rules.meaning.asks (world_of_store x.store) (objects_of x.store) q (g.C.Calls.stage call.work)) (sym (c.requires.running.callers a.p call there)) ∙ sym c.asks.ensures ∙ c.in-Some-asks.is)
+    let there = sym (ap (λ (f : Flight). f.call) fl) ∙ (sym c.get.ensures ∙ ap option_copied c.in-Some.is) in
+    let t : call_in_place call ≡ pc = same_call call pc (ap (option_map call_in_place) (sym there) ∙ is) in
+    done_as (λ r. placed_call_step g.C.Meaning.Rules.meaning a.p (Some pc) r) (finishes g.C.Meaning.Rules.meaning a.p pc None) x c.finish-then-not-has_graft.new.self a.p a.trace.now.notes c.finish-then-not-has_graft.new.trace.notes (disk_seen (g.D.Disk.blocks a.disk.now) (g.D.Disk.plan a.disk.now) (g.D.Disk.faults a.disk.now)) (disk_seen (g.D.Disk.blocks c.finish-then-not-has_graft.new.disk) (g.D.Disk.plan c.finish-then-not-has_graft.new.disk) (g.D.Disk.faults c.finish-then-not-has_graft.new.disk))
+    (asks_empty g.C.Meaning.Rules.meaning x a.p pc c.requires.none c.in-Some-asks.point (ap (λ (e : PlacedCall). g.C.Meaning.Rules.meaning.asks (world_of_store x.store) (objects_of x.store) a.p e.stage) (sym t) ∙ ap (λ q. g.C.Meaning.Rules.meaning.asks (world_of_store x.store) (objects_of x.store) q (stage_of call.work)) (sym (c.requires.running.callers a.p call there)) ∙ sym c.asks.ensures ∙ c.in-Some-asks.is)
     (not_there c.has_graft.result ((objects_of x.store).accounts.graft c.in-Some-asks.point.installer c.in-Some-asks.point.point) c.has_graft.ensures c.if-not-has_graft.true)) (c.finish-then-not-has_graft.ensures.done pc is)
-
-pub need-requires : goal.need-requires
-need-requires g c =
-    let a = c.args in
-    let x = a.self.now in
-    let call = c.in-Some.call.now in
-    let fl : c.flight-flight.result.now ≡ flight_of x.calls.items a.p = c.flight-flight.ensures ∙ ap (λ fs. flight_of fs a.p) c.deref.ensures.value in
-    let there = sym (ap (λ (f : Flight g.row.C-Work.Denot). f.call) fl) ∙ (sym c.get.ensures ∙ ap option_copied c.in-Some.is) in
-    record { ready = may_come g.C.Meaning.Rules.meaning g.C.Meaning.Rules.laws (world_of_store x.store) (table_of x.images) (objects_of x.store) (g.C.Calls.caller call.work) (g.C.Calls.stage call.work) (stands g.C.Meaning.Rules.meaning c.sound_in_place.ensures g.C.Calls.stage g.C.Calls.caller x a.p call c.requires.running c.requires.abstraction there) }
 
 pub enter-requires-clause-owner : goal.enter-requires-clause-owner
 enter-requires-clause-owner g c =
@@ -87,8 +78,8 @@ enter-requires-clause-owner g c =
     let x = a.self.now in
     let call = c.in-Some.call.now in
     let fl : c.flight-flight.result.now ≡ flight_of x.calls.items a.p = c.flight-flight.ensures ∙ ap (λ fs. flight_of fs a.p) c.deref.ensures.value in
-    let there = sym (ap (λ (f : Flight g.row.C-Work.Denot). f.call) fl) ∙ (sym c.get.ensures ∙ ap option_copied c.in-Some.is) in
-    (g.C.Meaning.Rules.laws.ask.ranges (world_of_store x.store) (table_of x.images) (objects_of x.store) (g.C.Calls.caller call.work) (g.C.Calls.stage call.work) c.in-Some-asks.point (stands g.C.Meaning.Rules.meaning c.sound_in_place.ensures g.C.Calls.stage g.C.Calls.caller x a.p call c.requires.running c.requires.abstraction there) (sym c.asks.ensures ∙ c.in-Some-asks.is)).graft.0
+    let there = sym (ap (λ (f : Flight). f.call) fl) ∙ (sym c.get.ensures ∙ ap option_copied c.in-Some.is) in
+    (g.C.Meaning.Rules.laws.ask.ranges (world_of_store x.store) (table_of x.images) (objects_of x.store) call.work.caller (stage_of call.work) c.in-Some-asks.point (stands g.C.Meaning.Rules.meaning c.sound_in_place.ensures x a.p call c.requires.running c.requires.abstraction there) (sym c.asks.ensures ∙ c.in-Some-asks.is)).graft.0
 
 pub enter-requires-clause-lives : goal.enter-requires-clause-lives
 enter-requires-clause-lives g c =
@@ -96,19 +87,9 @@ enter-requires-clause-lives g c =
     let x = a.self.now in
     let call = c.in-Some.call.now in
     let fl : c.flight-flight.result.now ≡ flight_of x.calls.items a.p = c.flight-flight.ensures ∙ ap (λ fs. flight_of fs a.p) c.deref.ensures.value in
-    let there = sym (ap (λ (f : Flight g.row.C-Work.Denot). f.call) fl) ∙ (sym c.get.ensures ∙ ap option_copied c.in-Some.is) in
-    asked_lives (world_of_store x.store) (objects_of x.store) c.in-Some-asks.point.installer c.in-Some-asks.point.point (stands g.C.Meaning.Rules.meaning c.sound_in_place.ensures g.C.Calls.stage g.C.Calls.caller x a.p call c.requires.running c.requires.abstraction there).store
+    let there = sym (ap (λ (f : Flight). f.call) fl) ∙ (sym c.get.ensures ∙ ap option_copied c.in-Some.is) in
+    asked_lives (world_of_store x.store) (objects_of x.store) c.in-Some-asks.point.installer c.in-Some-asks.point.point (stands g.C.Meaning.Rules.meaning c.sound_in_place.ensures x a.p call c.requires.running c.requires.abstraction there).store
     (there_is c.has_graft.result ((objects_of x.store).accounts.graft c.in-Some-asks.point.installer c.in-Some-asks.point.point) c.has_graft.ensures c.if-not-has_graft.false)
-
-pub enter-requires-clause-range : goal.enter-requires-clause-range
-enter-requires-clause-range g c =
-    let a = c.args in
-    let x = a.self.now in
-    let call = c.in-Some.call.now in
-    let fl : c.flight-flight.result.now ≡ flight_of x.calls.items a.p = c.flight-flight.ensures ∙ ap (λ fs. flight_of fs a.p) c.deref.ensures.value in
-    let there = sym (ap (λ (f : Flight g.row.C-Work.Denot). f.call) fl) ∙ (sym c.get.ensures ∙ ap option_copied c.in-Some.is) in
-    all_of c.as_slice.result.now (g.C.Meaning.Rules.meaning.need (world_of_store x.store) (objects_of x.store) (g.C.Calls.caller call.work) (g.C.Calls.stage call.work)) (c.as_slice.ensures ∙ c.need.ensures)
-    (λ n has. g.C.Meaning.Rules.laws.need.ranges (world_of_store x.store) (table_of x.images) (objects_of x.store) (g.C.Calls.caller call.work) (g.C.Calls.stage call.work) n (stands g.C.Meaning.Rules.meaning c.sound_in_place.ensures g.C.Calls.stage g.C.Calls.caller x a.p call c.requires.running c.requires.abstraction there) has)
 
 pub returns-clause-done : goal.returns-clause-done
 returns-clause-done g c =
@@ -117,11 +98,11 @@ returns-clause-done g c =
     let x = a.self.now in
     let call = c.in-Some.call.now in
     let fl : c.flight-flight.result.now ≡ flight_of x.calls.items a.p = c.flight-flight.ensures ∙ ap (λ fs. flight_of fs a.p) c.deref.ensures.value in
-    let there = sym (ap (λ (f : Flight g.row.C-Work.Denot). f.call) fl) ∙ (sym c.get.ensures ∙ ap option_copied c.in-Some.is) in
+    let there = sym (ap (λ (f : Flight). f.call) fl) ∙ (sym c.get.ensures ∙ ap option_copied c.in-Some.is) in
     let y = c.enter.new.self in
-    let t : call_in_place g.C.Calls.stage call ≡ pc = same_call g.C.Calls.stage call pc (ap (option_map (call_in_place g.C.Calls.stage)) (sym there) ∙ is) in
-    let needs : c.as_slice.result.now ≡ g.C.Meaning.Rules.meaning.need (world_of_store x.store) (objects_of x.store) a.p pc.stage = c.as_slice.ensures ∙ c.need.ensures ∙ ap (λ q. g.C.Meaning.Rules.meaning.need (world_of_store x.store) (objects_of x.store) q (g.C.Calls.stage call.work)) (c.requires.running.callers a.p call there) ∙ ap (λ (e : PlacedCall). g.C.Meaning.Rules.meaning.need (world_of_store x.store) (objects_of x.store) a.p e.stage) t in
-    entered_done g.C.Meaning.Rules.meaning c.owners_stay.ensures g.C.Calls.stage g.C.Calls.caller x y a.p pc c.in-Some-asks.point a.trace.now.notes (disk_seen (g.D.Disk.blocks a.disk.now) (g.D.Disk.plan a.disk.now) (g.D.Disk.faults a.disk.now)) c.requires.running c.requires.process c.requires.none
-    (ap (λ (e : PlacedCall). g.C.Meaning.Rules.meaning.asks (world_of_store x.store) (objects_of x.store) a.p e.stage) (sym t) ∙ ap (λ q. g.C.Meaning.Rules.meaning.asks (world_of_store x.store) (objects_of x.store) q (g.C.Calls.stage call.work)) (sym (c.requires.running.callers a.p call there)) ∙ sym c.asks.ensures ∙ c.in-Some-asks.is)
+    let t : call_in_place call ≡ pc = same_call call pc (ap (option_map call_in_place) (sym there) ∙ is) in
+    entered_done g.C.Meaning.Rules.meaning c.owners_stay.ensures x y a.p pc c.in-Some-asks.point a.trace.now.notes (disk_seen (g.D.Disk.blocks a.disk.now) (g.D.Disk.plan a.disk.now) (g.D.Disk.faults a.disk.now)) c.requires.running c.requires.process c.requires.none
+    (ap (λ (e : PlacedCall). g.C.Meaning.Rules.meaning.asks (world_of_store x.store) (objects_of x.store) a.p e.stage) (sym t) ∙ ap (λ q. g.C.Meaning.Rules.meaning.asks (world_of_store x.store) (objects_of x.store) q (stage_of call.work)) (sym (c.requires.running.callers a.p call there)) ∙ sym c.asks.ensures ∙ c.in-Some-asks.is)
     (there_is c.has_graft.result ((objects_of x.store).accounts.graft c.in-Some-asks.point.installer c.in-Some-asks.point.point) c.has_graft.ensures c.if-not-has_graft.false) c.enter.ensures.moved
-    (c.enter.ensures.config ∙ ap (λ (ns : List Need). come_to a.p (begin_at (table_of x.images) (objects_of x.store) a.p ns c.in-Some-asks.point) (placed_of g.C.Calls.stage x)) needs)
+    (c.enter.ensures.config
+    ∙ ap (λ (o : Option PlacedCall). come_to a.p (begin_at (table_of x.images) (objects_of x.store) a.p (needed_by g.C.Meaning.Rules.meaning (world_of_store x.store) (objects_of x.store) a.p o) (fed_by g.C.Meaning.Rules.meaning o) c.in-Some-asks.point) (placed_of x)) is)

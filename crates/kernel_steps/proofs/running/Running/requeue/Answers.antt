@@ -16,7 +16,7 @@ push-requires g c =
 pub returns-clause-value : goal.returns-clause-value
 returns-clause-value g c = λ notes blocks io.
     let x = c.args.self.now in
-    requeued g.C.Calls.stage x c.args.p c.is_at_piece-waits.result c.push.new.self c.is_at_piece-waits.ensures
+    requeued x c.args.p c.is_at_piece-waits.result c.push.new.self c.is_at_piece-waits.ensures
     (joined_order c.args.p x.order c.leave.new.self c.push.new.self c.joined.result c.is_at_piece-waits.result (grind (arith, c.if-not-waits.false)) c.leave.ensures c.joined.ensures c.push.ensures) notes blocks io
 
 pub returns-clause-running : goal.returns-clause-running
@@ -41,7 +41,7 @@ returns-clause-running g c =
 pub returns-then-not-waits-clause-value : goal.returns-then-not-waits-clause-value
 returns-then-not-waits-clause-value g c = λ notes blocks io.
     let x = c.args.self.now in
-    requeued g.C.Calls.stage x c.args.p c.is_at_piece-waits.result c.leave.new.self c.is_at_piece-waits.ensures
+    requeued x c.args.p c.is_at_piece-waits.result c.leave.new.self c.is_at_piece-waits.ensures
     (left_order c.args.p x.order c.leave.new.self c.is_at_piece-waits.result (grind (arith, c.if-not-waits.true)) c.leave.ensures) notes blocks io
 
 pub returns-then-not-waits-clause-running : goal.returns-then-not-waits-clause-running

@@ -10,7 +10,7 @@ use Rattle.kernel_steps.proofs.running.Running.rest.Goals as goal
 pub returns-clause-value : goal.returns-clause-value
 returns-clause-value g c = λ notes blocks io.
     let m = g.C.Meaning.Rules.meaning in
-    let x = placed_of g.C.Calls.stage c.args.self.now in
+    let x = placed_of c.args.self.now in
     let rested : order_of c.rested_from-rested.result ≡ placed_rested_order m x x.order =
     c.rested_from-rested.ensures.value
     ∙ ap (λ (ws : List Waiting). order_of ws ++ placed_rested_order m x (order_of c.entries.result.now)) c.new.ensures

@@ -7,9 +7,9 @@ use Rattle.kernel_steps.proofs.running.Running.restart.Goals as goal
 pub returns-clause-stands : goal.returns-clause-stands
 returns-clause-stands g c =
     let a = c.args in
-    let y : Running g.row.C.Denot g.row.B.Denot g.row.C-Meaning.Denot g.row.C-Work.Denot _ =
-    record { store = c.restart.new.self; clock = 0; images = c.clear.new.self; locks = a.self.now.locks; calls = a.self.now.calls; order = a.self.now.order } in
-    opened g.C.Meaning.Rules.meaning c.opening_kernel_is_sound.ensures c.quiet_kernels_stand.ensures g.C.Calls.stage
+    let y : Running g.row.C.Denot g.row.B.Denot g.row.C-Meaning.Denot _ =
+    record { store = c.restart.new.self; clock = 0; images = c.clear.new.self; locks = a.self.now.locks; calls = a.self.now.calls; order = a.self.now.order; table = a.self.now.table } in
+    opened g.C.Meaning.Rules.meaning c.opening_kernel_is_sound.ensures c.quiet_kernels_stand.ensures
     y (world_for a.setup a.size a.dir)
     c.requires.frames_least c.requires.frames_most c.requires.rows c.requires.size_least c.requires.size_most refl c.requires.files
     c.restart.ensures.world c.clear.ensures.table c.restart.ensures.objects refl c.requires.quiet.calls c.requires.quiet.order
@@ -17,6 +17,6 @@ returns-clause-stands g c =
 pub returns-clause-running : goal.returns-clause-running
 returns-clause-running g c =
     let a = c.args in
-    runs_again g.C.Calls.caller a.self.now
-    (record { store = c.restart.new.self; clock = 0; images = c.clear.new.self; locks = a.self.now.locks; calls = a.self.now.calls; order = a.self.now.order }) a.setup.grant
+    runs_again a.self.now
+    (record { store = c.restart.new.self; clock = 0; images = c.clear.new.self; locks = a.self.now.locks; calls = a.self.now.calls; order = a.self.now.order; table = a.self.now.table }) a.setup.grant
     c.requires.running c.requires.quiet.calls refl refl c.requires.quiet.order c.restart.ensures.objects

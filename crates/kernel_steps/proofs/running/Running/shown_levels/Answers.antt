@@ -9,5 +9,5 @@ pub returns-clause-value : goal.returns-clause-value
 returns-clause-value g c =
     let x = c.args.self.now in
     let fl : c.flight.result.now ≡ flight_of x.calls.items c.args.p = c.flight.ensures ∙ ap (λ fs. flight_of fs c.args.p) c.deref.ensures.value in
-    c.count.ensures.value ∙ ap (λ (f : Flight g.row.C-Work.Denot). length f.chain.levels) fl
-    ∙ sym (levels_many g.C.Calls.stage x c.args.p)
+    c.count.ensures.value ∙ ap (λ (f : Flight). length f.chain.levels) fl
+    ∙ sym (levels_many x c.args.p)

@@ -10,17 +10,17 @@ pub requeue-requires-clause-running : goal.requeue-requires-clause-running
 requeue-requires-clause-running g c =
     let a = c.args in
     let m = g.C.Meaning.Rules.meaning in
-    let t = call_is (call_at g.C.Calls.stage a.self.now a.p) c.requires.call in
-    running_after_step m c.sound_in_place.ensures c.steps_stand.ensures c.held_stays.ensures g.C.Calls.stage g.C.Calls.caller a.self.now c.step_call.new.self a.p t.0 a.trace.now.notes c.step_call.new.trace.notes (disk_seen (g.D.Disk.blocks a.disk.now) (g.D.Disk.plan a.disk.now) (g.D.Disk.faults a.disk.now)) (disk_seen (g.D.Disk.blocks c.step_call.new.disk) (g.D.Disk.plan c.step_call.new.disk) (g.D.Disk.faults c.step_call.new.disk))
+    let t = call_is (call_at a.self.now a.p) c.requires.call in
+    running_after_step m c.sound_in_place.ensures c.steps_stand.ensures c.held_stays.ensures a.self.now c.step_call.new.self a.p t.0 a.trace.now.notes c.step_call.new.trace.notes (disk_seen (g.D.Disk.blocks a.disk.now) (g.D.Disk.plan a.disk.now) (g.D.Disk.faults a.disk.now)) (disk_seen (g.D.Disk.blocks c.step_call.new.disk) (g.D.Disk.plan c.step_call.new.disk) (g.D.Disk.faults c.step_call.new.disk))
     c.requires.running c.requires.process c.requires.abstraction t.1 c.requires.free c.step_call.ensures.done
 
 pub returns-clause-refines : goal.returns-clause-refines
 returns-clause-refines g c =
     let a = c.args in
     let m = g.C.Meaning.Rules.meaning in
-    let x = placed_of g.C.Calls.stage a.self.now in
-    let y = placed_of g.C.Calls.stage c.step_call.new.self in
-    let z = placed_of g.C.Calls.stage c.requeue.new.self in
+    let x = placed_of a.self.now in
+    let y = placed_of c.step_call.new.self in
+    let z = placed_of c.requeue.new.self in
     did_step m x z a.p a.trace.now.notes c.step_call.new.trace.notes (disk_seen (g.D.Disk.blocks a.disk.now) (g.D.Disk.plan a.disk.now) (g.D.Disk.faults a.disk.now)) (disk_seen (g.D.Disk.blocks c.step_call.new.disk) (g.D.Disk.plan c.step_call.new.disk) (g.D.Disk.faults c.step_call.new.disk))
     (did_requeued (λ r. placed_call_step m a.p (x.call a.p) r) x y z a.p a.trace.now.notes c.step_call.new.trace.notes (disk_seen (g.D.Disk.blocks a.disk.now) (g.D.Disk.plan a.disk.now) (g.D.Disk.faults a.disk.now)) (disk_seen (g.D.Disk.blocks c.step_call.new.disk) (g.D.Disk.plan c.step_call.new.disk) (g.D.Disk.faults c.step_call.new.disk)) c.step_call.ensures.done.refines c.requeue.ensures.value)
 
@@ -28,16 +28,16 @@ pub returns-clause-abstraction : goal.returns-clause-abstraction
 returns-clause-abstraction g c =
     let a = c.args in
     let m = g.C.Meaning.Rules.meaning in
-    let t = call_is (call_at g.C.Calls.stage a.self.now a.p) c.requires.call in
-    stood_requeued m a.p (placed_of g.C.Calls.stage c.step_call.new.self) (placed_of g.C.Calls.stage c.requeue.new.self) c.requeue.ensures.value
-    (stood_after_step m c.steps_stand.ensures g.C.Calls.stage g.C.Calls.caller a.self.now c.step_call.new.self a.p t.0 a.trace.now.notes c.step_call.new.trace.notes (disk_seen (g.D.Disk.blocks a.disk.now) (g.D.Disk.plan a.disk.now) (g.D.Disk.faults a.disk.now)) (disk_seen (g.D.Disk.blocks c.step_call.new.disk) (g.D.Disk.plan c.step_call.new.disk) (g.D.Disk.faults c.step_call.new.disk)) c.requires.abstraction t.1 c.requires.free c.step_call.ensures.done)
+    let t = call_is (call_at a.self.now a.p) c.requires.call in
+    stood_requeued m a.p (placed_of c.step_call.new.self) (placed_of c.requeue.new.self) c.requeue.ensures.value
+    (stood_after_step m c.steps_stand.ensures a.self.now c.step_call.new.self a.p t.0 a.trace.now.notes c.step_call.new.trace.notes (disk_seen (g.D.Disk.blocks a.disk.now) (g.D.Disk.plan a.disk.now) (g.D.Disk.faults a.disk.now)) (disk_seen (g.D.Disk.blocks c.step_call.new.disk) (g.D.Disk.plan c.step_call.new.disk) (g.D.Disk.faults c.step_call.new.disk)) c.requires.abstraction t.1 c.requires.free c.step_call.ensures.done)
 
 pub returns-clause-world : goal.returns-clause-world
 returns-clause-world g c =
     let a = c.args in
-    ap (λ (z : Placed). z.world) (requeue_keeps a.p (placed_of g.C.Calls.stage c.step_call.new.self) (placed_of g.C.Calls.stage c.requeue.new.self) c.requeue.ensures.value) ∙ c.step_call.ensures.done.stepped.world
+    ap (λ (z : Placed). z.world) (requeue_keeps a.p (placed_of c.step_call.new.self) (placed_of c.requeue.new.self) c.requeue.ensures.value) ∙ c.step_call.ensures.done.stepped.world
 
 pub returns-clause-clock : goal.returns-clause-clock
 returns-clause-clock g c =
     let a = c.args in
-    ap (λ (z : Placed). z.clock) (requeue_keeps a.p (placed_of g.C.Calls.stage c.step_call.new.self) (placed_of g.C.Calls.stage c.requeue.new.self) c.requeue.ensures.value) ∙ c.step_call.ensures.done.stepped.clock
+    ap (λ (z : Placed). z.clock) (requeue_keeps a.p (placed_of c.step_call.new.self) (placed_of c.requeue.new.self) c.requeue.ensures.value) ∙ c.step_call.ensures.done.stepped.clock

@@ -10,26 +10,26 @@ use Rattle.kernel_steps.proofs.running.Running.step_call.Goals as goal
 pub piece_step-requires-clause-none : goal.piece_step-requires-clause-none
 piece_step-requires-clause-none g c =
     let fl : c.flight.result.now ≡ flight_of c.args.self.now.calls.items c.args.p = c.flight.ensures ∙ ap (λ fs. flight_of fs c.args.p) c.deref.ensures.value in
-    at_none (flight_of c.args.self.now.calls.items c.args.p).chain.levels (sym (ap (λ (f : Flight g.row.C-Work.Denot). length f.chain.levels) fl) ∙ sym c.count.ensures.value ∙ c.if-count-eq0.true)
+    at_none (flight_of c.args.self.now.calls.items c.args.p).chain.levels (sym (ap (λ (f : Flight). length f.chain.levels) fl) ∙ sym c.count.ensures.value ∙ c.if-count-eq0.true)
 
 pub graft_step-requires-clause-level : goal.graft_step-requires-clause-level
 graft_step-requires-clause-level g c =
     let fl : c.flight.result.now ≡ flight_of c.args.self.now.calls.items c.args.p = c.flight.ensures ∙ ap (λ fs. flight_of fs c.args.p) c.deref.ensures.value in
-    let many = ap (λ (f : Flight g.row.C-Work.Denot). length f.chain.levels) fl in
+    let many = ap (λ (f : Flight). length f.chain.levels) fl in
     grind (arith, nat_tests, many, c.count.ensures.value, c.if-count-eq0.false)
 
 pub returns-then-count-eq0-clause-done : goal.returns-then-count-eq0-clause-done
 returns-then-count-eq0-clause-done g c =
     let a = c.args in
-    let t = call_is (call_at g.C.Calls.stage a.self.now a.p) c.requires.call in
-    at_call g.C.Meaning.Rules.meaning g.C.Calls.stage g.C.Calls.caller a.self.now c.piece_step.new.self a.p t.0 a.trace.now.notes c.piece_step.new.trace.notes (disk_seen (g.D.Disk.blocks a.disk.now) (g.D.Disk.plan a.disk.now) (g.D.Disk.faults a.disk.now)) (disk_seen (g.D.Disk.blocks c.piece_step.new.disk) (g.D.Disk.plan c.piece_step.new.disk) (g.D.Disk.faults c.piece_step.new.disk)) t.1 (c.piece_step.ensures.done t.0 t.1)
+    let t = call_is (call_at a.self.now a.p) c.requires.call in
+    at_call g.C.Meaning.Rules.meaning a.self.now c.piece_step.new.self a.p t.0 a.trace.now.notes c.piece_step.new.trace.notes (disk_seen (g.D.Disk.blocks a.disk.now) (g.D.Disk.plan a.disk.now) (g.D.Disk.faults a.disk.now)) (disk_seen (g.D.Disk.blocks c.piece_step.new.disk) (g.D.Disk.plan c.piece_step.new.disk) (g.D.Disk.faults c.piece_step.new.disk)) t.1 (c.piece_step.ensures.done t.0 t.1)
 
 pub returns-clause-done : goal.returns-clause-done
 returns-clause-done g c =
     let a = c.args in
-    let t = call_is (call_at g.C.Calls.stage a.self.now a.p) c.requires.call in
+    let t = call_is (call_at a.self.now a.p) c.requires.call in
     let fl : c.flight.result.now ≡ flight_of a.self.now.calls.items a.p = c.flight.ensures ∙ ap (λ fs. flight_of fs a.p) c.deref.ensures.value in
-    let many = ap (λ (f : Flight g.row.C-Work.Denot). length f.chain.levels) fl in
+    let many = ap (λ (f : Flight). length f.chain.levels) fl in
     let some : 0 < length (flight_of a.self.now.calls.items a.p).chain.levels = grind (arith, nat_tests, many, c.count.ensures.value, c.if-count-eq0.false) in
-    at_call g.C.Meaning.Rules.meaning g.C.Calls.stage g.C.Calls.caller a.self.now c.graft_step.new.self a.p t.0 a.trace.now.notes c.graft_step.new.trace.notes (disk_seen (g.D.Disk.blocks a.disk.now) (g.D.Disk.plan a.disk.now) (g.D.Disk.faults a.disk.now)) (disk_seen (g.D.Disk.blocks c.graft_step.new.disk) (g.D.Disk.plan c.graft_step.new.disk) (g.D.Disk.faults c.graft_step.new.disk)) t.1
-    (at_graft g.C.Meaning.Rules.meaning g.C.Calls.stage g.C.Calls.caller a.self.now c.graft_step.new.self a.p t.0 a.trace.now.notes c.graft_step.new.trace.notes (disk_seen (g.D.Disk.blocks a.disk.now) (g.D.Disk.plan a.disk.now) (g.D.Disk.faults a.disk.now)) (disk_seen (g.D.Disk.blocks c.graft_step.new.disk) (g.D.Disk.plan c.graft_step.new.disk) (g.D.Disk.faults c.graft_step.new.disk)) some (c.graft_step.ensures.done t.0 t.1))
+    at_call g.C.Meaning.Rules.meaning a.self.now c.graft_step.new.self a.p t.0 a.trace.now.notes c.graft_step.new.trace.notes (disk_seen (g.D.Disk.blocks a.disk.now) (g.D.Disk.plan a.disk.now) (g.D.Disk.faults a.disk.now)) (disk_seen (g.D.Disk.blocks c.graft_step.new.disk) (g.D.Disk.plan c.graft_step.new.disk) (g.D.Disk.faults c.graft_step.new.disk)) t.1
+    (at_graft g.C.Meaning.Rules.meaning a.self.now c.graft_step.new.self a.p t.0 a.trace.now.notes c.graft_step.new.trace.notes (disk_seen (g.D.Disk.blocks a.disk.now) (g.D.Disk.plan a.disk.now) (g.D.Disk.faults a.disk.now)) (disk_seen (g.D.Disk.blocks c.graft_step.new.disk) (g.D.Disk.plan c.graft_step.new.disk) (g.D.Disk.faults c.graft_step.new.disk)) some (c.graft_step.ensures.done t.0 t.1))

@@ -12,7 +12,7 @@ pub returns-clause-value : goal.returns-clause-value
 returns-clause-value g c =
     let x = c.args.self.now in
     let next : x.clock + 1 ≡ suc x.clock = omega arith in (
-      λ notes blocks io. ticked_on g.C.Calls.stage x c.args.number (x.clock + 1) c.count_up.new.self notes (notes ++ Ticked c.args.number (suc x.clock) ∷ [])
+      λ notes blocks io. ticked_on x c.args.number (x.clock + 1) c.count_up.new.self notes (notes ++ Ticked c.args.number (suc x.clock) ∷ [])
           next c.requires.running.counts c.requires.clock c.count_up.ensures (ap (λ n. notes ++ Ticked c.args.number n ∷ []) (sym next)) blocks io,
       λ all is. c.push.ensures all is ∙ ap (λ n. first_notes (all ++ Ticked c.args.number n ∷ [])) next,
     )

@@ -14,13 +14,13 @@ row_of_record-requires g c =
     let x = c.args.self.now in
     let fl : c.flight.result.now ≡ flight_of x.calls.items c.args.p = c.flight.ensures ∙ ap (λ fs. flight_of fs c.args.p) c.deref.ensures.value in
     let many : length (numbered_log c.flight.result.now.chain.undo) ≡ length (numbered_log (flight_of x.calls.items c.args.p).chain.undo) =
-    ap (λ (f : Flight g.row.C-Work.Denot). length (numbered_log f.chain.undo)) fl in
-    omega (arith, c.requires.recorded, many, records_many g.C.Calls.stage g.C.Calls.caller x c.args.p c.requires.process c.requires.running)
+    ap (λ (f : Flight). length (numbered_log f.chain.undo)) fl in
+    omega (arith, c.requires.recorded, many, records_many x c.args.p c.requires.process c.requires.running)
 
 pub returns : goal.returns
 returns g c =
     let x = c.args.self.now in
     let fl : c.flight.result.now ≡ flight_of x.calls.items c.args.p = c.flight.ensures ∙ ap (λ fs. flight_of fs c.args.p) c.deref.ensures.value in
-    ap (λ (rows : List RawRow). slice_get rows c.args.i) (records_in_place g.C.Calls.stage g.C.Calls.caller x c.args.p c.requires.process c.requires.running
-    ∙ sym (ap (λ (f : Flight g.row.C-Work.Denot). map (undo_row c.args.p) (numbered_log (found_log f.chain.undo))) fl))
+    ap (λ (rows : List RawRow). slice_get rows c.args.i) (records_in_place x c.args.p c.requires.process c.requires.running
+    ∙ sym (ap (λ (f : Flight). map (undo_row c.args.p) (numbered_log (found_log f.chain.undo))) fl))
     ∙ c.row_of_record.ensures

@@ -11,70 +11,70 @@ use Rattle.call_pieces.specs.Works.{comes_after, call_of}
 use Rattle.call_pieces.specs.Matching.{PieceMatches, PieceMatchesSome}
 use Rattle.call_pieces.proofs.Grants.{exit_granted, close_granted, take_granted, free_granted, poke_granted, peek_granted, tune_granted, choose_granted, give_granted, install_granted, remove_granted, fund_granted, bill_granted, read_granted, write_granted, came_named, named}
 use Rattle.call_pieces.proofs.LeftLaws.{some_of_all, some_quick, some_named}
-use Rattle.call_pieces.proofs.pieces.piece.Goals as goal
+use Rattle.call_pieces.proofs.pieces.bare_piece.Goals as goal
 
 pub exit-requires-clause-granted : goal.exit-requires-clause-granted
-exit-requires-clause-granted g c = exit_granted (world_of_store c.args.store.now) c.args.work.now.caller (call_of c.args.work.now) (c.requires.ready.images, c.requires.ready.granted) (named c.args.work.now _ c.in-Exit.is)
+exit-requires-clause-granted g c = exit_granted c.requires.ready.top (world_of_store c.args.store.now) c.args.work.now.caller (call_of c.args.work.now) (c.requires.ready.due.images, c.requires.ready.due.granted) (named c.args.work.now _ c.in-Exit.is)
 
 pub close-requires-clause-granted : goal.close-requires-clause-granted
-close-requires-clause-granted g c = close_granted (world_of_store c.args.store.now) c.args.work.now.caller (call_of c.args.work.now) c.in-CloseFd.fd (c.requires.ready.images, c.requires.ready.granted) (named c.args.work.now _ c.in-CloseFd.is)
+close-requires-clause-granted g c = close_granted c.requires.ready.top (world_of_store c.args.store.now) c.args.work.now.caller (call_of c.args.work.now) c.in-CloseFd.fd (c.requires.ready.due.images, c.requires.ready.due.granted) (named c.args.work.now _ c.in-CloseFd.is)
 
 pub read-requires-clause-descriptor : goal.read-requires-clause-descriptor
-read-requires-clause-descriptor g c = (read_granted (world_of_store c.args.store.now) c.args.work.now.caller (call_of c.args.work.now) c.in-Read.fd c.in-Read.i c.in-Read.off c.in-Read.len (c.requires.ready.images, c.requires.ready.granted) (named c.args.work.now _ c.in-Read.is)).0
+read-requires-clause-descriptor g c = (read_granted c.requires.ready.top (world_of_store c.args.store.now) c.args.work.now.caller (call_of c.args.work.now) c.in-Read.fd c.in-Read.i c.in-Read.off c.in-Read.len (c.requires.ready.due.images, c.requires.ready.due.granted) (named c.args.work.now _ c.in-Read.is)).0
 
 pub read-requires-clause-inside : goal.read-requires-clause-inside
-read-requires-clause-inside g c = (read_granted (world_of_store c.args.store.now) c.args.work.now.caller (call_of c.args.work.now) c.in-Read.fd c.in-Read.i c.in-Read.off c.in-Read.len (c.requires.ready.images, c.requires.ready.granted) (named c.args.work.now _ c.in-Read.is)).1
+read-requires-clause-inside g c = (read_granted c.requires.ready.top (world_of_store c.args.store.now) c.args.work.now.caller (call_of c.args.work.now) c.in-Read.fd c.in-Read.i c.in-Read.off c.in-Read.len (c.requires.ready.due.images, c.requires.ready.due.granted) (named c.args.work.now _ c.in-Read.is)).1
 
 pub write-requires-clause-descriptor : goal.write-requires-clause-descriptor
-write-requires-clause-descriptor g c = (write_granted (world_of_store c.args.store.now) c.args.work.now.caller (call_of c.args.work.now) c.in-Write.fd c.in-Write.i c.in-Write.off c.args.work.now.bytes.items (c.requires.ready.images, c.requires.ready.granted) (named c.args.work.now _ c.in-Write.is)).0
+write-requires-clause-descriptor g c = (write_granted c.requires.ready.top (world_of_store c.args.store.now) c.args.work.now.caller (call_of c.args.work.now) c.in-Write.fd c.in-Write.i c.in-Write.off c.args.work.now.bytes.items (c.requires.ready.due.images, c.requires.ready.due.granted) (named c.args.work.now _ c.in-Write.is)).0
 
 pub write-requires-clause-inside : goal.write-requires-clause-inside
-write-requires-clause-inside g c = rw c.as_slice-in-Write.ensures.value ((write_granted (world_of_store c.args.store.now) c.args.work.now.caller (call_of c.args.work.now) c.in-Write.fd c.in-Write.i c.in-Write.off c.args.work.now.bytes.items (c.requires.ready.images, c.requires.ready.granted) (named c.args.work.now _ c.in-Write.is)).1)
+write-requires-clause-inside g c = rw c.as_slice-in-Write.ensures.value ((write_granted c.requires.ready.top (world_of_store c.args.store.now) c.args.work.now.caller (call_of c.args.work.now) c.in-Write.fd c.in-Write.i c.in-Write.off c.args.work.now.bytes.items (c.requires.ready.due.images, c.requires.ready.due.granted) (named c.args.work.now _ c.in-Write.is)).1)
 
 pub take_lock-requires-clause-granted : goal.take_lock-requires-clause-granted
-take_lock-requires-clause-granted g c = take_granted (world_of_store c.args.store.now) c.args.work.now.caller (call_of c.args.work.now) c.in-TakeLock.u (c.requires.ready.images, c.requires.ready.granted) (named c.args.work.now _ c.in-TakeLock.is)
+take_lock-requires-clause-granted g c = take_granted c.requires.ready.top (world_of_store c.args.store.now) c.args.work.now.caller (call_of c.args.work.now) c.in-TakeLock.u (c.requires.ready.due.images, c.requires.ready.due.granted) (named c.args.work.now _ c.in-TakeLock.is)
 
 pub free_lock-requires : goal.free_lock-requires
-free_lock-requires g c = record { granted = free_granted (world_of_store c.args.store.now) c.args.work.now.caller (call_of c.args.work.now) c.in-FreeLock.u (c.requires.ready.images, c.requires.ready.granted) (named c.args.work.now _ c.in-FreeLock.is) }
+free_lock-requires g c = record { granted = free_granted c.requires.ready.top (world_of_store c.args.store.now) c.args.work.now.caller (call_of c.args.work.now) c.in-FreeLock.u (c.requires.ready.due.images, c.requires.ready.due.granted) (named c.args.work.now _ c.in-FreeLock.is) }
 
 pub poke-requires-clause-granted : goal.poke-requires-clause-granted
-poke-requires-clause-granted g c = poke_granted (world_of_store c.args.store.now) c.args.work.now.caller (call_of c.args.work.now) c.in-Poke.k c.in-Poke.v (c.requires.ready.images, c.requires.ready.granted) (named c.args.work.now _ c.in-Poke.is)
+poke-requires-clause-granted g c = poke_granted c.requires.ready.top (world_of_store c.args.store.now) c.args.work.now.caller (call_of c.args.work.now) c.in-Poke.k c.in-Poke.v (c.requires.ready.due.images, c.requires.ready.due.granted) (named c.args.work.now _ c.in-Poke.is)
 
 pub peek-requires-clause-granted : goal.peek-requires-clause-granted
-peek-requires-clause-granted g c = peek_granted (world_of_store c.args.store.now) c.args.work.now.caller (call_of c.args.work.now) c.in-Peek.k (c.requires.ready.images, c.requires.ready.granted) (named c.args.work.now _ c.in-Peek.is)
+peek-requires-clause-granted g c = peek_granted c.requires.ready.top (world_of_store c.args.store.now) c.args.work.now.caller (call_of c.args.work.now) c.in-Peek.k (c.requires.ready.due.images, c.requires.ready.due.granted) (named c.args.work.now _ c.in-Peek.is)
 
 pub tune-requires : goal.tune-requires
-tune-requires g c = record { granted = tune_granted (world_of_store c.args.store.now) c.args.work.now.caller (call_of c.args.work.now) c.in-Tune.kind c.in-Tune.k c.in-Tune.v (c.requires.ready.images, c.requires.ready.granted) (named c.args.work.now _ c.in-Tune.is) }
+tune-requires g c = record { granted = tune_granted c.requires.ready.top (world_of_store c.args.store.now) c.args.work.now.caller (call_of c.args.work.now) c.in-Tune.kind c.in-Tune.k c.in-Tune.v (c.requires.ready.due.images, c.requires.ready.due.granted) (named c.args.work.now _ c.in-Tune.is) }
 
 pub choose-requires-clause-kind : goal.choose-requires-clause-kind
-choose-requires-clause-kind g c = (choose_granted (world_of_store c.args.store.now) c.args.work.now.caller (call_of c.args.work.now) c.in-Choose.kind c.in-Choose.j (c.requires.ready.images, c.requires.ready.granted) (named c.args.work.now _ c.in-Choose.is)).0
+choose-requires-clause-kind g c = (choose_granted c.requires.ready.top (world_of_store c.args.store.now) c.args.work.now.caller (call_of c.args.work.now) c.in-Choose.kind c.in-Choose.j (c.requires.ready.due.images, c.requires.ready.due.granted) (named c.args.work.now _ c.in-Choose.is)).0
 
 pub choose-requires-clause-granted : goal.choose-requires-clause-granted
-choose-requires-clause-granted g c = (choose_granted (world_of_store c.args.store.now) c.args.work.now.caller (call_of c.args.work.now) c.in-Choose.kind c.in-Choose.j (c.requires.ready.images, c.requires.ready.granted) (named c.args.work.now _ c.in-Choose.is)).1
+choose-requires-clause-granted g c = (choose_granted c.requires.ready.top (world_of_store c.args.store.now) c.args.work.now.caller (call_of c.args.work.now) c.in-Choose.kind c.in-Choose.j (c.requires.ready.due.images, c.requires.ready.due.granted) (named c.args.work.now _ c.in-Choose.is)).1
 
 pub give-requires-clause-granted : goal.give-requires-clause-granted
-give-requires-clause-granted g c = give_granted (world_of_store c.args.store.now) c.args.work.now.caller (call_of c.args.work.now) c.in-Give.q c.in-Give.kind c.in-Give.n (c.requires.ready.images, c.requires.ready.granted) (named c.args.work.now _ c.in-Give.is)
+give-requires-clause-granted g c = give_granted c.requires.ready.top (world_of_store c.args.store.now) c.args.work.now.caller (call_of c.args.work.now) c.in-Give.q c.in-Give.kind c.in-Give.n (c.requires.ready.due.images, c.requires.ready.due.granted) (named c.args.work.now _ c.in-Give.is)
 
 pub install-requires-clause-point : goal.install-requires-clause-point
-install-requires-clause-point g c = (install_granted (world_of_store c.args.store.now) c.args.work.now.caller (call_of c.args.work.now) c.in-Install.pt c.in-Install.image c.in-Install.limit (c.requires.ready.images, c.requires.ready.granted) (named c.args.work.now _ c.in-Install.is)).point
+install-requires-clause-point g c = (install_granted c.requires.ready.top (world_of_store c.args.store.now) c.args.work.now.caller (call_of c.args.work.now) c.in-Install.pt c.in-Install.image c.in-Install.limit c.requires.ready.few (c.requires.ready.due.images, c.requires.ready.due.granted) (named c.args.work.now _ c.in-Install.is)).point
 
 pub install-requires-clause-image : goal.install-requires-clause-image
-install-requires-clause-image g c = (install_granted (world_of_store c.args.store.now) c.args.work.now.caller (call_of c.args.work.now) c.in-Install.pt c.in-Install.image c.in-Install.limit (c.requires.ready.images, c.requires.ready.granted) (named c.args.work.now _ c.in-Install.is)).number
+install-requires-clause-image g c = (install_granted c.requires.ready.top (world_of_store c.args.store.now) c.args.work.now.caller (call_of c.args.work.now) c.in-Install.pt c.in-Install.image c.in-Install.limit c.requires.ready.few (c.requires.ready.due.images, c.requires.ready.due.granted) (named c.args.work.now _ c.in-Install.is)).number
 
 pub install-requires-clause-some : goal.install-requires-clause-some
-install-requires-clause-some g c = (install_granted (world_of_store c.args.store.now) c.args.work.now.caller (call_of c.args.work.now) c.in-Install.pt c.in-Install.image c.in-Install.limit (c.requires.ready.images, c.requires.ready.granted) (named c.args.work.now _ c.in-Install.is)).some
+install-requires-clause-some g c = (install_granted c.requires.ready.top (world_of_store c.args.store.now) c.args.work.now.caller (call_of c.args.work.now) c.in-Install.pt c.in-Install.image c.in-Install.limit c.requires.ready.few (c.requires.ready.due.images, c.requires.ready.due.granted) (named c.args.work.now _ c.in-Install.is)).some
 
 pub install-requires-clause-most : goal.install-requires-clause-most
-install-requires-clause-most g c = (install_granted (world_of_store c.args.store.now) c.args.work.now.caller (call_of c.args.work.now) c.in-Install.pt c.in-Install.image c.in-Install.limit (c.requires.ready.images, c.requires.ready.granted) (named c.args.work.now _ c.in-Install.is)).most
+install-requires-clause-most g c = (install_granted c.requires.ready.top (world_of_store c.args.store.now) c.args.work.now.caller (call_of c.args.work.now) c.in-Install.pt c.in-Install.image c.in-Install.limit c.requires.ready.few (c.requires.ready.due.images, c.requires.ready.due.granted) (named c.args.work.now _ c.in-Install.is)).most
 
 pub remove-requires-clause-point : goal.remove-requires-clause-point
-remove-requires-clause-point g c = remove_granted (world_of_store c.args.store.now) c.args.work.now.caller (call_of c.args.work.now) c.in-Remove.pt (c.requires.ready.images, c.requires.ready.granted) (named c.args.work.now _ c.in-Remove.is)
+remove-requires-clause-point g c = remove_granted c.requires.ready.top (world_of_store c.args.store.now) c.args.work.now.caller (call_of c.args.work.now) c.in-Remove.pt c.requires.ready.few (c.requires.ready.due.images, c.requires.ready.due.granted) (named c.args.work.now _ c.in-Remove.is)
 
 pub fund-requires-clause-point : goal.fund-requires-clause-point
-fund-requires-clause-point g c = fund_granted (world_of_store c.args.store.now) c.args.work.now.caller (call_of c.args.work.now) c.in-Fund.pt c.in-Fund.kind c.in-Fund.n (c.requires.ready.images, c.requires.ready.granted) (named c.args.work.now _ c.in-Fund.is)
+fund-requires-clause-point g c = fund_granted c.requires.ready.top (world_of_store c.args.store.now) c.args.work.now.caller (call_of c.args.work.now) c.in-Fund.pt c.in-Fund.kind c.in-Fund.n c.requires.ready.few (c.requires.ready.due.images, c.requires.ready.due.granted) (named c.args.work.now _ c.in-Fund.is)
 
 pub bill-requires-clause-point : goal.bill-requires-clause-point
-bill-requires-clause-point g c = bill_granted (world_of_store c.args.store.now) c.args.work.now.caller (call_of c.args.work.now) c.in-Bill.pt (c.requires.ready.images, c.requires.ready.granted) (named c.args.work.now _ c.in-Bill.is)
+bill-requires-clause-point g c = bill_granted c.requires.ready.top (world_of_store c.args.store.now) c.args.work.now.caller (call_of c.args.work.now) c.in-Bill.pt c.requires.ready.few (c.requires.ready.due.images, c.requires.ready.due.granted) (named c.args.work.now _ c.in-Bill.is)
 
 pub returns-in-Spawn-clause-does : goal.returns-in-Spawn-clause-does
 returns-in-Spawn-clause-does g c =

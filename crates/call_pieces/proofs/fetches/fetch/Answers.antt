@@ -4,7 +4,7 @@ use Rattle.kernel_model.specs.Fetch.{fetch, fetch_by, used}
 use Rattle.kernel_state.specs.Stores.{world_of_store, cache_of, policies_of}
 use Rattle.call_pieces.specs.Matching.{FetchMatchesSome}
 use Rattle.call_pieces.proofs.LeftLaws.{fetch_held}
-use Rattle.call_pieces.proofs.fetch.fetch.Goals as goal
+use Rattle.call_pieces.proofs.fetches.fetch.Goals as goal
 
 pub returns-in-Some-clause-some : goal.returns-in-Some-clause-some
 returns-in-Some-clause-some g c =

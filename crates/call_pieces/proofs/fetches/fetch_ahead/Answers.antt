@@ -2,7 +2,7 @@ use Rattle.std.proofs.Common.{ℕ, Option, sym, ap}
 use Rattle.kernel_model.specs.Fetch.{fetch_ahead, fetch_ahead_by}
 use Rattle.kernel_state.specs.Stores.{world_of_store, cache_of, policies_of}
 use Rattle.call_pieces.proofs.LeftLaws.{fetch_held}
-use Rattle.call_pieces.proofs.fetch.fetch_ahead.Goals as goal
+use Rattle.call_pieces.proofs.fetches.fetch_ahead.Goals as goal
 
 pub returns-in-Some-clause-some : goal.returns-in-Some-clause-some
 returns-in-Some-clause-some g c =

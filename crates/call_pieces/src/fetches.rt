@@ -21,7 +21,7 @@ use vino_base::{Disk, Failed};
 
 /// Block b for process p: the frame that holds it becomes the newest, or the block is read into a
 /// frame. An answer names the frame in use that is to be evicted where none is free.
-pub(crate) fn fetch<B: Policy, D: Disk>(
+pub fn fetch<B: Policy, D: Disk>(
     store: &mut Store<B>,
     disk: &mut D,
     log: &mut DiskLog,

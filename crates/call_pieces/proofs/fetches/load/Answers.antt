@@ -4,7 +4,7 @@ use Rattle.kernel_state.specs.Stores.{world_of_store, cache_of, policies_of}
 use Rattle.call_pieces.specs.Matching.{FetchLeft, blocks_after}
 use Rattle.disk_log.specs.Calls.{Knows}
 use Rattle.call_pieces.proofs.LeftLaws.{fetch_some, fetch_alike, read_is, read_failed}
-use Rattle.call_pieces.proofs.fetch.load.Goals as goal
+use Rattle.call_pieces.proofs.fetches.load.Goals as goal
 
 pub returns-in-Ok-clause-calls : goal.returns-in-Ok-clause-calls
 returns-in-Ok-clause-calls g c = λ f p made. c.place.ensures.calls f p (c.read.ensures.calls f p made)

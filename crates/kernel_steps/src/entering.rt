@@ -1,0 +1,103 @@
+//! How a call enters the graft that its piece asks.
+
+ghost use Rattle.std.specs.Prelude.{◌≡◌, ◌<◌, ◌≤◌, [], true, Some, is_some, length, option_map, All};
+ghost use Rattle.kernel_model.specs.declared.Need.{Need as Needed};
+ghost use Rattle.kernel_model.specs.History.{begin_at};
+ghost use Rattle.kernel_model.specs.Laws.{IsInRange, IsStanding};
+ghost use Rattle.kernel_model.specs.Policies.{lives};
+ghost use Rattle.kernel_model.specs.Sound.{ImagesAreLoaded};
+ghost use Rattle.kernel_model.specs.World.{ImageTable};
+ghost use Rattle.kernel_state.specs.Stores.{world_of_store, objects_of, queue_of};
+ghost use Rattle.call_pieces.specs.Works.{stage_of};
+ghost use Rattle.graft_loader.specs.Slots.{table_of};
+ghost use Rattle.graft_calls.specs.Chains.{call_of};
+ghost use Rattle.graft_calls.specs.Calls.{IsPlaced, IsInPlace, IsElsewhereSame};
+ghost use Rattle.kernel_steps.specs.declared.running.InFlight.{InFlight as Flying};
+ghost use Rattle.kernel_steps.specs.Views.{call_in_place};
+ghost use Rattle.kernel_steps.specs.Moves.{fed_by, needed_by};
+
+use crate::running::Flight;
+use crate::slots::Slot;
+use call_pieces::{Calls, Needs};
+use graft_calls::PieceAsk;
+use graft_loader::Images;
+use graft_points::Policy;
+use kernel_model::Point;
+use kernel_state::Store;
+use lock_table::LockTable;
+
+/// The objects that the piece needs of the call of process p that stands here, if one does.
+fn needs_of<C: Calls, B: Policy>(slot: &Slot, p: u8, store: &Store<B>, needs: &mut Needs)
+    requires own { (f : Flying) → slot.now ≡ Some f → f.work.caller ≡ p }
+    requires stands { (f : Flying) → slot.now ≡ Some f → (images : ImageTable)
+        × IsStanding C.Meaning.meaning (world_of_store store.now) images (objects_of store.now) p
+        (stage_of f.work) }
+    requires empty { needs.old ≡ [] }
+    ensures value { needs.new ≡ needed_by C.Meaning.meaning (world_of_store store.now)
+        (objects_of store.now) p (option_map call_in_place slot.now) }
+    ensures range { All (λ (n : Needed). IsInRange n.object) needs.new }
+{
+    if let Some(call) = slot.get() {
+        C::need(&call.work, store, needs);
+    }
+}
+
+/// The bytes that the graft is fed which the piece asks of the call that stands here, if one does.
+fn feed_of<C: Calls>(slot: &Slot) -> &[u8]
+    ensures value { result.now ≡ fed_by C.Meaning.meaning (option_map call_in_place slot.now) }
+    ensures few { length result.now ≤ 512 }
+{
+    match slot.get() {
+        Some(call) => C::feed(&call.work),
+        None => &[],
+    }
+}
+
+/// The graft call of process p begins, which has a call in flight without levels, whose piece asks a
+/// point at which a graft stands.
+pub(crate) fn begin_graft<C: Calls, B: Policy>(
+    flight: &mut Flight,
+    p: u8,
+    store: &mut Store<B>,
+    locks: &mut LockTable,
+    images: &Images,
+    at: &Point,
+)
+    requires own { (f : Flying) → flight.old.call ≡ Some f → f.work.caller ≡ p }
+    requires due { (f : Flying) → flight.old.call ≡ Some f → (images : ImageTable)
+        × IsStanding C.Meaning.meaning (world_of_store store.old) images (objects_of store.old) p
+        (stage_of f.work) }
+    requires none { flight.old.chain.levels ≡ [] }
+    requires placed { IsPlaced store.old locks.old p flight.old.chain.levels
+        flight.old.chain.undo }
+    requires owner { at.now.installer < 16 }
+    requires point { at.now.point < 16 }
+    requires lives { lives (queue_of store.old) at.now.installer ≡ true }
+    requires stands { is_some
+        ((objects_of store.old).accounts.graft at.now.installer at.now.point) ≡ true }
+    requires loaded { ImagesAreLoaded (table_of images.now) (objects_of store.old).accounts }
+    ensures value { let call = option_map call_in_place flight.old.call in
+        call_of store.new locks.new flight.new.chain p
+        ≡ begin_at (table_of images.now) (objects_of store.old) p
+        (needed_by C.Meaning.meaning (world_of_store store.old) (objects_of store.old) p call)
+        (fed_by C.Meaning.meaning call) at.now }
+    ensures same_call { flight.new.call ≡ flight.old.call }
+    ensures in_place { IsInPlace store.new locks.new (table_of images.now) p
+        flight.new.chain.levels flight.new.chain.undo }
+    ensures elsewhere { IsElsewhereSame store.old store.new locks.old locks.new p }
+{
+    let mut needs = Needs::new();
+    needs_of::<C, B>(&flight.call, p, store, &mut needs);
+    let at = *at;
+    flight.chain.begin(
+        p,
+        store,
+        locks,
+        images,
+        PieceAsk {
+            at: &at,
+            needs: needs.as_slice(),
+            feed: feed_of::<C>(&flight.call),
+        },
+    );
+}
