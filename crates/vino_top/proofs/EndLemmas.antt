@@ -8,7 +8,7 @@ use Rattle.std.specs.Prelude.{◌==◌, flat_map, cond, Err}
 use Rattle.std.proofs.lemmas.Bool.Decides.{nat_tests}
 use Rattle.std.proofs.Math.Path.{fun_ext}
 use Rattle.kernel_model.specs.World.{processes}
-use Rattle.kernel_model.specs.Pieces.{plain}
+use Rattle.kernel_model.specs.AllCalls.{all_calls}
 use Rattle.kernel_model.specs.Script.{LINE_BYTES, Unfinished}
 use Rattle.kernel_model.specs.Session.{Session, fault_text}
 use Rattle.kernel_model.specs.Kernel.{Kernel, Call}
@@ -146,7 +146,7 @@ left_line_is p None = refl
 left_line_is p (Some c) = refl
 
 -- the lines of all that are left
-left_is : (x : Placed) (k : Kernel) → kernels.StandsFor plain x k → placed_left_lines x ≡ flat_map (λ p. left_line p (k.call p)) processes
+left_is : (x : Placed) (k : Kernel) → kernels.StandsFor all_calls x k → placed_left_lines x ≡ flat_map (λ p. left_line p (k.call p)) processes
 left_is x k stands =
     ap (λ (f : ℕ → List ℕ). flat_map f processes)
     (fun_ext (λ p. ap (placed_left_line p) (stands.calls p) ∙ left_line_is p (k.call p)))

@@ -3,10 +3,9 @@ use Rattle.std.proofs.Common.{decimal, is_some, Ok, ◌≡◌, ◌<◌, ℕ, suc
 use Rattle.std.specs.Prelude.{nat_lt}
 use Rattle.std.proofs.lemmas.Bool.Decides.{nat_tests}
 use Rattle.kernel_model.specs.World.{Image, ImageTable}
-use Rattle.kernel_model.specs.Pieces.{plain}
+use Rattle.kernel_model.specs.AllCalls.{all_calls}
 use Rattle.kernel_model.specs.Sound.{IsAtRest}
 use Rattle.disk_log.specs.Seen.{DiskSeen}
-use Rattle.call_pieces.specs.Works.{stage_of}
 use Rattle.kernel_core.specs.declared.images.ImageRefusal.TheVariants.{BadSlot, Taken}
 use Rattle.kernel_core.specs.AddedImages.{slot_refused, ImageIsAdded}
 use Rattle.kernel_core.specs.EventRefines.{IsKernel}
@@ -18,7 +17,7 @@ use Rattle.kernel_model.specs.Script.{Entry, Loads, parsed_line}
 use Rattle.kernel_model.specs.Session.{image_answer, after_image, after_entry, running_in}
 use Rattle.kernel_model.specs.Text.{line}
 use Rattle.vino_top.specs.Built.{present_build}
-use Rattle.vino_top.specs.Standing.{Seen, caller_of}
+use Rattle.vino_top.specs.Standing.{Seen}
 use Rattle.vino_top.specs.Run.{Place, Left, LeavesText, LineMatches, LoadsFree, WantsAt, RunsEntry}
 use Rattle.vino_top.specs.Bounds.{IsSessionWithin}
 use Rattle.vino_top.specs.declared.session.Session.{Session as CodeSession}
@@ -35,7 +34,7 @@ pub free_slot : (images : ImageTable) (slot : ℕ) → slot_refused images slot 
 free_slot images slot free = slot_is_free (nat_lt 31 slot) (is_some (images slot)) images slot refl refl free
 
 -- a slot of a kernel in place has an image where that of the abstract one has
-pub same_slot : (x : Placed) (k : abstract.Kernel) (slot : ℕ) (b : Bool) → kernels.StandsFor plain x k → is_some (x.images slot) ≡ b → is_some (k.images slot) ≡ b
+pub same_slot : (x : Placed) (k : abstract.Kernel) (slot : ℕ) (b : Bool) → kernels.StandsFor all_calls x k → is_some (x.images slot) ≡ b → is_some (k.images slot) ≡ b
 same_slot x k slot b stands h = ap (λ (t : ImageTable). is_some (t slot)) (sym stands.images) ∙ h
 
 -- a slot that is free has no image
@@ -62,7 +61,7 @@ wants_free s text e going is loads = λ known a stands.
 -- a session goes on by an image line
 pub image_runs : (c : Place) (s t : Seen) (slot : ℕ) (bytes : List ℕ) (y : Placed) (answer : List ℕ) (out : Left) (d : DiskSeen) →
     s.booted ≡ true → t ≡ record s { placed = y; events = s.events + 1 } →
-    ((k : abstract.Kernel) → kernels.StandsFor plain s.placed k → IsAtRest plain k → ImageIsAdded plain slot (load c.keys bytes) k y answer) →
+    ((k : abstract.Kernel) → kernels.StandsFor all_calls s.placed k → IsAtRest all_calls k → ImageIsAdded all_calls slot (load c.keys bytes) k y answer) →
     LeavesText out (line (decimal (s.events + 1) ++ 32 ∷ answer)) → RunsEntry c (Loads slot bytes) s t d d out
 image_runs c s t slot bytes y answer out d booted state said written =
     let u = record s { placed = y; events = s.events + 1 } in
@@ -92,7 +91,7 @@ image_runs c s t slot bytes y answer out d booted state said written =
 
 -- one event more, in a session whose kernel runs and has the same store
 pub one_later : {B : Type 0} {P : _} (size : ℕ) (s t u : CodeSession B P) → s.booted ≡ true → s.events < s.lines →
-    t ≡ record s { kernel = u.kernel; events = s.events + 1 } → u.kernel.running.store ≡ s.kernel.running.store → IsKernel plain stage_of caller_of s.events u.kernel.running →
+    t ≡ record s { kernel = u.kernel; events = s.events + 1 } → u.kernel.running.store ≡ s.kernel.running.store → IsKernel all_calls s.events u.kernel.running →
     IsSessionWithin size s → IsSessionWithin size t
 one_later size s t u up fresh state store kernel within =
     subst (λ (x : CodeSession _ _). IsSessionWithin size x) (sym state) (record {

@@ -19,7 +19,7 @@ use Rattle.kernel_model.specs.Kernel as abstract
 use Rattle.kernel_model.specs.Session.{Session, Setup, first_setup, Written, world_of, with_patience, after_parse, after_entry, after_event, running_in, says, silent}
 use Rattle.kernel_model.specs.Events.{event}
 use Rattle.kernel_model.specs.RawRows.{raw_rows}
-use Rattle.kernel_model.specs.Pieces.{plain}
+use Rattle.kernel_model.specs.AllCalls.{all_calls}
 use Rattle.std.proofs.lemmas.Fmt.{decimal_digit}
 use Rattle.kernel_model.specs.declared.Note.TheVariants.{Refused}
 use Rattle.kernel_model.specs.declared.Refusal.TheVariants.{DiskFault}
@@ -71,7 +71,7 @@ next_number s known a stands = add-one s.events ∙ ap suc (sym stands.events)
 
 -- a session goes on by an event, and writes the lines of its notes
 pub event_runs : (c : Place) (s : Seen) (x : Placed) (what : Event) (notes : List Note) (out : Left) (d e : DiskSeen) →
-    s.booted ≡ true → EventRefines plain s.placed x (s.events + 1) what notes d e → out.bytes ≡ note_lines notes → out.notes ≡ notes →
+    s.booted ≡ true → EventRefines all_calls s.placed x (s.events + 1) what notes d e → out.bytes ≡ note_lines notes → out.notes ≡ notes →
     RunsEntry c (Happens what) s (record s { placed = x; events = s.events + 1 }) d e out
 event_runs c s x what notes out d e booted h text kept =
     record {
@@ -82,9 +82,9 @@ event_runs c s x what notes out d e booted h text kept =
           let io = h.io ++ rest in
           let n = suc a.events in
           let number = next_number s d.known a stands in
-          let r = event plain has.kernel a.blocks n what io in
-          let is : EventIs plain r x notes e.known rest =
-          subst (λ (m : ℕ). EventIs plain (event plain has.kernel a.blocks m what io) x notes e.known rest) number (h.is has.kernel a.blocks rest has.stands has.rests stands.blocks) in
+          let r = event all_calls has.kernel a.blocks n what io in
+          let is : EventIs all_calls r x notes e.known rest =
+          subst (λ (m : ℕ). EventIs all_calls (event all_calls has.kernel a.blocks m what io) x notes e.known rest) number (h.is has.kernel a.blocks rest has.stands has.rests stands.blocks) in
           let run : after_entry present_build c.keys c.size a (Happens what) io ≡ after_event a n r =
           ap (λ (o : Option abstract.Kernel). running_in present_build c.keys c.size a (Happens what) o io) has.is in
           subst (λ w. LineMatches (record s { placed = x; events = s.events + 1 }) e.known out w rest) (sym run) (record {
@@ -105,7 +105,7 @@ event_runs c s x what notes out d e booted h text kept =
 
 -- what comes of a boot: block 0 was read, or that failed
 boot_comes : (c : Place) (s : Seen) (x : Placed) (io : List Bool) (note : BootNote) (out : Left) (known told_new : Option (List (List ℕ))) (a : Session) (rest : List Bool) →
-    length io ≡ 1 → StandsFor s known a → BootIs plain s.setup c.size a.blocks io x note told_new → LeavesText out (line (boot_line note)) →
+    length io ≡ 1 → StandsFor s known a → BootIs all_calls s.setup c.size a.blocks io x note told_new → LeavesText out (line (boot_line note)) →
     LineMatches (record s { placed = x; booted = true }) told_new out (after_entry present_build c.keys c.size a Boot (io ++ rest)) rest
 boot_comes c s x (true ∷ []) note out known told_new a rest one stands is said =
     record {
@@ -153,7 +153,7 @@ boot_comes c s x (y ∷ z ∷ io) note out known told_new a rest one stands is s
 
 -- a session once the kernel began
 pub boot_runs : (c : Place) (s : Seen) (x : Placed) (note : BootNote) (out : Left) (d e : DiskSeen) →
-    Booted plain s.setup c.size x note d e → LeavesText out (line (boot_line note)) → RunsEntry c Boot s (record s { placed = x; booted = true }) d e out
+    Booted all_calls s.setup c.size x note d e → LeavesText out (line (boot_line note)) → RunsEntry c Boot s (record s { placed = x; booted = true }) d e out
 boot_runs c s x note out d e h said =
     record { io = h.io; made = h.made; comes = λ a rest stands. boot_comes c s x h.io note out d.known e.known a rest h.one stands (h.is a.blocks stands.blocks) said }
 
@@ -211,7 +211,7 @@ unbooted_runs c entry s out d runs booted said =
     subst (λ w. LineMatches s d.known out w rest) (sym run) (record { stands = stands; left = refl; bytes = said.bytes_are; notes = said.no_notes }))
 
 -- the rows of the kernel's whole state
-pub raw_runs : SameShown plain → (c : Place) (s : Seen) (out : Left) (d : DiskSeen) → s.booted ≡ true →
+pub raw_runs : SameShown all_calls → (c : Place) (s : Seen) (out : Left) (d : DiskSeen) → s.booted ≡ true →
     LeavesText out (row_lines (s.events + 1) (placed_rows s.placed)) →
     RunsEntry c Raw s (record s { events = s.events + 1 }) d d out
 raw_runs shown c s out d booted said =
@@ -219,7 +219,7 @@ raw_runs shown c s out d booted said =
     let has = stands.booted booted in
     let n = suc a.events in
     let number = next_number s d.known a stands in
-    let run : after_entry present_build c.keys c.size a Raw rest ≡ says (record a { events = n }) (row_lines n (raw_rows plain has.kernel)) rest =
+    let run : after_entry present_build c.keys c.size a Raw rest ≡ says (record a { events = n }) (row_lines n (raw_rows all_calls has.kernel)) rest =
     ap (λ (o : Option abstract.Kernel). running_in present_build c.keys c.size a Raw o rest) has.is in
     subst (λ w. LineMatches (record s { events = s.events + 1 }) d.known out w rest) (sym run) (record {
       stands = record {

@@ -2,7 +2,7 @@
 use Rattle.std.specs.Prelude.{◌≡◌, ℕ, suc, Bool, true, false, cond, List, [], ◌∷◌, Option, Some, None, slice_index_or, flat_map}
 use Rattle.disk_log.specs.Calls.{Knows}
 use Rattle.kernel_model.specs.World.{processes}
-use Rattle.kernel_model.specs.Pieces.{plain}
+use Rattle.kernel_model.specs.AllCalls.{all_calls}
 use Rattle.kernel_model.specs.Kernel as abstract
 use Rattle.kernel_model.specs.Script.{Unfinished}
 use Rattle.kernel_model.specs.Session as script
@@ -10,8 +10,6 @@ use Rattle.kernel_model.specs.Sound.{IsAtRest}
 use Rattle.kernel_model.specs.Text.{line, left_text}
 use Rattle.script_text.specs.declared.parse.ScriptFault.{ScriptFault}
 use Rattle.script_text.specs.declared.parse.ScriptFault.TheVariants.{BadWord, BadNumber, WrongPlace, UnknownCommand}
-use Rattle.call_pieces.specs.declared.Work.{Work}
-use Rattle.call_pieces.specs.Works.{stage_of}
 use Rattle.kernel_state.specs.declared.Setup.{Setup}
 use Rattle.placed_laws.specs.Placed.{Placed, PlacedCall}
 use Rattle.placed_laws.specs.Stands as kernels
@@ -29,17 +27,13 @@ pub record Seen : Type 0 where
   pub events : ℕ
   pub refused : Bool
 
--- who calls, in the table of the system calls
-abbrev pub caller_of : Work → ℕ
-caller_of w = w.caller
-
 -- the same of a session of the code, by what is seen of a policy
 abbrev pub seen_of : {B : Type 0} {P : _} → Session B P → Seen
 seen_of s =
     record {
       setup = s.setup;
       booted = s.booted;
-      placed = placed_of stage_of s.kernel.running;
+      placed = placed_of s.kernel.running;
       lines = s.lines;
       events = s.events;
       refused = s.refused;
@@ -59,8 +53,8 @@ setup_of u = record {
 pub record HasKernel (x : Placed) (o : Option abstract.Kernel) : Type 0 where
   pub kernel : abstract.Kernel
   pub is : o ≡ Some kernel
-  pub stands : kernels.StandsFor plain x kernel
-  pub rests : IsAtRest plain kernel
+  pub stands : kernels.StandsFor all_calls x kernel
+  pub rests : IsAtRest all_calls kernel
 
 -- What is seen of a session stands for an abstract one, whose blocks the disk tells: that has no
 -- kernel before `boot`, and after it one that rests, for which the kernel in place stands.

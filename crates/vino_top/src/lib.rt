@@ -26,13 +26,22 @@ mod run;
 mod session;
 mod words;
 
+pub use crate::lines::Lines;
+pub use crate::session::{Buffers, Session};
 use crate::words::Asked;
+use call_pieces::Plain;
+use call_tables::Beside;
 pub use demo_text::demo_script;
+use event_points::EventPoints;
 use filters::write_all;
 use graft_loader::Keys;
 use graft_points::Policy;
 use std::alloc::Global;
+use stream_points::StreamPoints;
 use vino_base::{Disk, Sink, Source};
+
+/// All calls of the program: those of stream points and of event points, beside all others.
+pub type AllCalls = Beside<StreamPoints, Beside<EventPoints, Plain>>;
 
 /// How many bytes are read at once, at most.
 const READ_BYTES: usize = 65_536;

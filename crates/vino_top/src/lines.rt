@@ -3,14 +3,13 @@
 ghost use Rattle.std.specs.Prelude.{◌≡◌, ◌+◌, ◌*◌, ◌<◌, ◌≤◌, ◌++◌, [], length, IfOk};
 ghost use Rattle.kernel_model.specs.Bare.{given_count, notes_with};
 ghost use Rattle.kernel_model.specs.Text.{note_lines, row_lines};
-ghost use Rattle.call_pieces.specs.Works.{stage_of};
 ghost use Rattle.placed_laws.specs.PlacedRows.{placed_rows};
 ghost use Rattle.kernel_steps.specs.Noting.{AreGiven};
 ghost use Rattle.kernel_steps.specs.Views.{placed_of, IsRunning};
-ghost use Rattle.vino_top.specs.Standing.{caller_of, placed_left_line, placed_left_lines};
+ghost use Rattle.vino_top.specs.Standing.{placed_left_line, placed_left_lines};
 
+use crate::AllCalls;
 use crate::rows::print_found;
-use call_pieces::Plain;
 use graft_points::Policy;
 use kernel_core::{Kernel, Notes, RowPlace};
 use kernel_model::{BareNote, NoMemory, PROCESSES};
@@ -108,10 +107,10 @@ impl Lines {
     }
 
     /// The line of process p's call, if it has one in flight.
-    fn add_left_of<B: Policy>(&mut self, kernel: &Kernel<Plain, B>, p: u8, text: &mut Text)
+    fn add_left_of<B: Policy>(&mut self, kernel: &Kernel<AllCalls, B>, p: u8, text: &mut Text)
         requires room { length self.old + 2048 ≤ 3028992 }
         ensures value { self.new ≡ self.old
-            ++ placed_left_line p ((placed_of stage_of kernel.now.running).call p) }
+            ++ placed_left_line p ((placed_of kernel.now.running).call p) }
         ensures fits { length self.new ≤ length self.old + 2048 }
     {
         if let Some(number) = kernel.left(p) {
@@ -121,9 +120,9 @@ impl Lines {
     }
 
     /// The lines of the calls that a kernel has left in flight, one for each.
-    pub fn add_left<B: Policy>(&mut self, kernel: &Kernel<Plain, B>, text: &mut Text)
+    pub fn add_left<B: Policy>(&mut self, kernel: &Kernel<AllCalls, B>, text: &mut Text)
         requires { self.old ≡ [] }
-        ensures { self.new ≡ placed_left_lines (placed_of stage_of kernel.now.running) }
+        ensures { self.new ≡ placed_left_lines (placed_of kernel.now.running) }
     {
         for p in 0..PROCESSES as u8 {
             self.add_left_of(kernel, p, text);
@@ -131,10 +130,10 @@ impl Lines {
     }
 
     /// The lines of the rows that show a kernel's whole state, for event n.
-    pub fn add_rows<B: Policy>(&mut self, kernel: &Kernel<Plain, B>, n: u32, text: &mut Text)
+    pub fn add_rows<B: Policy>(&mut self, kernel: &Kernel<AllCalls, B>, n: u32, text: &mut Text)
         requires empty { self.old ≡ [] }
-        requires running { IsRunning caller_of kernel.now.running }
-        ensures { self.new ≡ row_lines n (placed_rows (placed_of stage_of kernel.now.running)) }
+        requires running { IsRunning kernel.now.running }
+        ensures { self.new ≡ row_lines n (placed_rows (placed_of kernel.now.running)) }
     {
         let mut at = RowPlace::first();
         while let Some(found) = kernel.find_row(&mut at) {

@@ -3,21 +3,24 @@
 ghost use Rattle.std.specs.Prelude.{◌≡◌, ◌++◌, codes, decimal, IfSome};
 ghost use Rattle.kernel_model.specs.declared.RawRow.{RawRow as Row};
 ghost use Rattle.kernel_model.specs.Text.{line, row_text};
-ghost use Rattle.call_pieces.specs.Works.{stage_of};
 ghost use Rattle.kernel_core.specs.PlacedSections.{row_found, IsRow};
 ghost use Rattle.kernel_steps.specs.Views.{placed_of, IsRunning};
-ghost use Rattle.vino_top.specs.Standing.{caller_of};
 
-use call_pieces::Plain;
+use crate::AllCalls;
 use graft_points::Policy;
 use kernel_core::{FoundRow, Kernel, Section};
 use line_text::{LentRow, Text, print_lent, print_row};
 
 /// `text` becomes the line of the row that stands there, for event n.
-pub fn print_found<B: Policy>(kernel: &Kernel<Plain, B>, n: u32, found: &FoundRow, text: &mut Text)
-    requires running { IsRunning caller_of kernel.now.running }
-    requires found { IsRow (placed_of stage_of kernel.now.running) found.now }
-    ensures { IfSome (row_found (placed_of stage_of kernel.now.running) found.now)
+pub fn print_found<B: Policy>(
+    kernel: &Kernel<AllCalls, B>,
+    n: u32,
+    found: &FoundRow,
+    text: &mut Text,
+)
+    requires running { IsRunning kernel.now.running }
+    requires found { IsRow (placed_of kernel.now.running) found.now }
+    ensures { IfSome (row_found (placed_of kernel.now.running) found.now)
         (λ (row : Row). text.new ≡ line (decimal n ++ codes " raw " ++ row_text row)) }
 {
     let store = &kernel.running.store;
@@ -34,10 +37,10 @@ pub fn print_found<B: Policy>(kernel: &Kernel<Plain, B>, n: u32, found: &FoundRo
 }
 
 /// `text` becomes the line of the row that stands there, for event n, by way of the whole row.
-fn print_whole<B: Policy>(kernel: &Kernel<Plain, B>, n: u32, found: &FoundRow, text: &mut Text)
-    requires running { IsRunning caller_of kernel.now.running }
-    requires found { IsRow (placed_of stage_of kernel.now.running) found.now }
-    ensures { IfSome (row_found (placed_of stage_of kernel.now.running) found.now)
+fn print_whole<B: Policy>(kernel: &Kernel<AllCalls, B>, n: u32, found: &FoundRow, text: &mut Text)
+    requires running { IsRunning kernel.now.running }
+    requires found { IsRow (placed_of kernel.now.running) found.now }
+    ensures { IfSome (row_found (placed_of kernel.now.running) found.now)
         (λ (row : Row). text.new ≡ line (decimal n ++ codes " raw " ++ row_text row)) }
 {
     if let Some(row) = kernel.row_at(found) {

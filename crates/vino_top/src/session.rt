@@ -12,29 +12,27 @@ ghost use Rattle.kernel_model.specs.Session.{fault_text};
 ghost use Rattle.script_text.specs.Answers.{entry_seen, SetsWithin};
 ghost use Rattle.kernel_model.specs.Images as images;
 ghost use Rattle.kernel_model.specs.Kernel.{Kernel as Abstract};
-ghost use Rattle.kernel_model.specs.Pieces.{plain};
+ghost use Rattle.kernel_model.specs.AllCalls.{all_calls};
 ghost use Rattle.kernel_model.specs.Sound.{IsAtRest};
-ghost use Rattle.call_pieces.specs.Works.{stage_of};
 ghost use Rattle.kernel_steps.specs.Views.{placed_of, IsRunning, HasAbstraction};
 ghost use Rattle.placed_laws.specs.Stands as kernels;
 ghost use Rattle.kernel_core.specs.declared.images.ImageRefusal.TheVariants.{Unloaded};
 ghost use Rattle.kernel_core.specs.AddedImages.{slot_refused, has_memory, image_said, ImageIsAdded};
 ghost use Rattle.vino_top.specs.Bounds.{IsSessionWithin};
 ghost use Rattle.graft_points.specs.Shelf.{IsShelf, pol_of, first_choice};
-ghost use Rattle.vino_top.specs.Standing.{caller_of, seen_of, IsBegun, last_bytes, code_seen};
+ghost use Rattle.vino_top.specs.Standing.{seen_of, IsBegun, last_bytes, code_seen};
 ghost use Rattle.vino_top.specs.Run.{Place, place, LoadsFree, WantsAt, RunsLine, RunsEntry, boot_line, left_in};
 
+use crate::AllCalls;
 use crate::lines::Lines;
 use crate::loading::say_image;
 use arrayvec::ArrayVec;
-use call_pieces::Plain;
 use graft_loader::{Images, Keys, LoadFault};
 use graft_points::Policy;
 use kernel_core::{BootNote, ImageRefusal, Kernel, Setup, Trace};
 use kernel_model::{BLOCK_BYTES, BareEvent, BareNote, NoMemory, Refusal};
 use line_text::{Text, print_boot, print_fault, print_note};
 use placed_laws::agreeing;
-use plain_rules::PlainRules;
 use ram_space::Ram;
 use script_text::{Entry, ImageBytes, ScriptFault, parse_line};
 use std::alloc::Global;
@@ -80,7 +78,7 @@ pub struct Session<B: Policy> {
     /// Whether `boot` was run.
     pub booted: bool,
     /// What `boot` begins anew.
-    pub kernel: Kernel<Plain, B>,
+    pub kernel: Kernel<AllCalls, B>,
     /// How many lines were taken.
     pub lines: u32,
     /// How many events were counted.
@@ -293,18 +291,18 @@ impl<B: Policy> Session<B> {
         slot: u32,
         bytes: &ImageBytes,
     ) -> Result<Result<(u32, u32), ImageRefusal>, NoMemory>
-        requires running { IsRunning caller_of self.old.kernel.running }
-        requires abstraction { HasAbstraction plain (placed_of stage_of self.old.kernel.running) }
+        requires running { IsRunning self.old.kernel.running }
+        requires abstraction { HasAbstraction all_calls (placed_of self.old.kernel.running) }
         ensures memory { IfOk result (λ answer. has_memory answer ≡ true) }
         ensures added { IfOk result (λ answer. (k : Abstract) →
-            kernels.StandsFor plain (placed_of stage_of self.old.kernel.running) k → IsAtRest plain k →
-            ImageIsAdded plain slot (images.load keys.now bytes.now) k
-            (placed_of stage_of self.new.kernel.running) (image_said answer)) }
+            kernels.StandsFor all_calls (placed_of self.old.kernel.running) k → IsAtRest all_calls k →
+            ImageIsAdded all_calls slot (images.load keys.now bytes.now) k
+            (placed_of self.new.kernel.running) (image_said answer)) }
         ensures err { OnErr result ((self.new ≡ self.old)
-            × (slot_refused (placed_of stage_of self.old.kernel.running).images slot ≡ None)) }
+            × (slot_refused (placed_of self.old.kernel.running).images slot ≡ None)) }
         ensures state { self.new ≡ record self.old { kernel = self.new.kernel } }
-        ensures running { IsRunning caller_of self.new.kernel.running }
-        ensures abstraction { HasAbstraction plain (placed_of stage_of self.new.kernel.running) }
+        ensures running { IsRunning self.new.kernel.running }
+        ensures abstraction { HasAbstraction all_calls (placed_of self.new.kernel.running) }
         ensures store { self.new.kernel.running.store ≡ self.old.kernel.running.store }
         ensures clock { self.new.kernel.running.clock ≡ self.old.kernel.running.clock }
     {
@@ -401,7 +399,7 @@ impl<B: Policy> Session<B> {
         ensures runs { (c : Place) (d : DiskSeen) →
             RunsEntry c Raw (seen_of self.old) (seen_of self.new) d d (left_in out.new) }
     {
-        agreeing::same_shown::<PlainRules>();
+        agreeing::same_shown::<AllCalls>();
         if self.booted {
             self.events += 1;
             out.lines.add_rows(&self.kernel, self.events, &mut out.text);

@@ -1,7 +1,6 @@
 -- The lines so far, and those of the rows that are left.
 use Rattle.std.proofs.Common.{◌≡◌, ◌≤◌, ◌+◌, ◌*◌, ◌++◌, length}
 use Rattle.kernel_model.specs.Text.{row_lines}
-use Rattle.call_pieces.specs.Works.{stage_of}
 use Rattle.placed_laws.specs.PlacedRows.{placed_rows}
 use Rattle.kernel_steps.specs.Views.{placed_of}
 use Rattle.kernel_core.specs.PlacedSections.{most_left, rows_left}
@@ -11,8 +10,8 @@ abbrev pub invariant-loop-found : goal.invariant-loop-found
 invariant-loop-found g l =
     record {
       lines :
-          l.self ++ row_lines l.n (rows_left (placed_of stage_of l.kernel.running) l.at)
-          ≡ row_lines l.n (placed_rows (placed_of stage_of l.kernel.running));
+          l.self ++ row_lines l.n (rows_left (placed_of l.kernel.running) l.at)
+          ≡ row_lines l.n (placed_rows (placed_of l.kernel.running));
       room : length l.self + 2048 * most_left l.at ≤ 3026944;
     }
 

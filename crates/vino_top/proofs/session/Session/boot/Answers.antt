@@ -1,7 +1,6 @@
 -- The kernel begins as the opening one does, and the note of its boot is written.
 use Rattle.std.proofs.Common.{◌∙◌, arith}
 use Rattle.disk_log.specs.Seen.{disk_seen}
-use Rattle.call_pieces.specs.Works.{stage_of}
 use Rattle.kernel_steps.specs.Views.{placed_of}
 use Rattle.vino_top.specs.Run.{place}
 use Rattle.vino_top.specs.Standing.{seen_of}
@@ -22,7 +21,7 @@ returns-clause-within g c =
 
 pub returns-clause-runs : goal.returns-clause-runs
 returns-clause-runs g c = λ keys.
-    boot_runs (place keys c.args.size) (seen_of c.args.self.now) (placed_of stage_of c.boot-note.new.self.running) c.boot-note.result _
+    boot_runs (place keys c.args.size) (seen_of c.args.self.now) (placed_of c.boot-note.new.self.running) c.boot-note.result _
     (disk_seen (g.D.Disk.blocks c.args.disk.now) (g.D.Disk.plan c.args.disk.now) (g.D.Disk.faults c.args.disk.now)) (disk_seen (g.D.Disk.blocks c.boot-note.new.disk) (g.D.Disk.plan c.boot-note.new.disk) (g.D.Disk.faults c.boot-note.new.disk))
     (rw c.requires.disk at c.boot-note.ensures.booted)
     (record { bytes_are = c.add.ensures.value ∙ rw c.requires.empty c.say_boot.ensures; no_notes = c.requires.no_notes })

@@ -3,7 +3,6 @@ use Rattle.std.proofs.Common.{refl}
 use Rattle.disk_log.specs.Seen.{disk_seen}
 use Rattle.kernel_model.specs.Bare.{event_with}
 use Rattle.kernel_model.specs.Script.{Happens}
-use Rattle.call_pieces.specs.Works.{stage_of}
 use Rattle.kernel_steps.specs.Views.{placed_of}
 use Rattle.vino_top.specs.Run.{place}
 use Rattle.vino_top.specs.Standing.{seen_of}
@@ -12,7 +11,7 @@ use Rattle.vino_top.proofs.session.Session.happen.Goals as goal
 
 pub returns-then-self-clause-runs : goal.returns-then-self-clause-runs
 returns-then-self-clause-runs g c = λ keys.
-    event_runs (place keys c.args.size) (seen_of c.args.self.now) (placed_of stage_of c.event.new.self.running) (event_with c.args.event c.args.out.now.bytes.items) c.event.new.trace.notes _
+    event_runs (place keys c.args.size) (seen_of c.args.self.now) (placed_of c.event.new.self.running) (event_with c.args.event c.args.out.now.bytes.items) c.event.new.trace.notes _
     (disk_seen (g.D.Disk.blocks c.args.disk.now) (g.D.Disk.plan c.args.disk.now) (g.D.Disk.faults c.args.disk.now)) (disk_seen (g.D.Disk.blocks c.event.new.disk) (g.D.Disk.plan c.event.new.disk) (g.D.Disk.faults c.event.new.disk))
     c.if-self.true c.event.ensures.happened c.add_notes.ensures refl
 

@@ -1,7 +1,6 @@
 -- The line of an image: before `boot`; want of memory; and what is said of the image.
 use Rattle.std.proofs.Common.{◌+◌, refl, ap, ◌∙◌}
 use Rattle.kernel_model.specs.Script.{Loads}
-use Rattle.call_pieces.specs.Works.{stage_of}
 use Rattle.kernel_steps.specs.Views.{placed_of}
 use Rattle.kernel_core.specs.AddedImages.{image_said}
 use Rattle.vino_top.specs.Run.{place}
@@ -25,7 +24,7 @@ returns-then-not-self-clause-runs g c = λ size d.
 pub returns-in-Err-clause-err : goal.returns-in-Err-clause-err
 returns-in-Err-clause-err g c =
     let lacks = c.in-Err.ensures.err in
-    let free = free_slot (placed_of stage_of c.args.self.now.kernel.running).images c.args.slot lacks.1 in (
+    let free = free_slot (placed_of c.args.self.now.kernel.running).images c.args.slot lacks.1 in (
       lacks.0,
       record {
         booted = c.if-not-self.false;
@@ -40,7 +39,7 @@ returns-in-Err-clause-err g c =
 pub returns-in-Ok-clause-runs : goal.returns-in-Ok-clause-runs
 returns-in-Ok-clause-runs g c = λ size d.
     image_runs (place c.args.keys.now size) (seen_of c.args.self.now) (seen_of c.answer_image.new.self) c.args.slot c.args.bytes.now
-    (placed_of stage_of c.add_image.new.self.kernel.running) (image_said c.in-Ok.answer) _ d c.if-not-self.false
+    (placed_of c.add_image.new.self.kernel.running) (image_said c.in-Ok.answer) _ d c.if-not-self.false
     (ap (λ s. seen_of s) c.answer_image.ensures.state
     ∙ ap (λ (s : CodeSession _ _). seen_of (record s { events = s.events + 1 })) c.add_image.ensures.state)
     c.in-Ok.ensures.added

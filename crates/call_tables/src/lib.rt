@@ -1,0 +1,89 @@
+//! Two tables of calls as one.
+#![tactic(auto)]
+
+ghost use Rattle.std.specs.Prelude.{◌||◌};
+ghost use Rattle.kernel_model.specs.Beside.{beside};
+ghost use Rattle.table_rules.specs.BesideLaws.{laws_of_beside};
+
+use arrayvec::ArrayVec;
+use call_pieces::{Calls, Gift, Needs, Next, Work};
+use disk_log::DiskLog;
+use graft_points::Policy;
+use kernel_model::{BLOCK_BYTES, BareCall, Point, Refusal, Rules};
+use kernel_state::Store;
+use std::marker::PhantomData;
+use vino_base::Disk;
+
+/// Two tables of calls as one: the calls that `A` owns are `A`'s, all others `B`'s.
+#[derive(Clone, Copy, Drop)]
+pub struct Beside<A, B>(PhantomData<(A, B)>);
+
+impl<A: Calls, B: Calls> Rules for Beside<A, B> {
+    ghost meaning = { beside A.owns A.Meaning.meaning B.Meaning.meaning };
+
+    ghost laws = { laws_of_beside A.owns A.Meaning.meaning B.Meaning.meaning A.Meaning.laws B.Meaning.laws };
+}
+
+impl<A: Calls, B: Calls> Calls for Beside<A, B> {
+    type Meaning = Beside<A, B>;
+
+    ghost owns = { λ c. A.owns c || B.owns c };
+
+    fn owns(call: BareCall) -> bool {
+        A::owns(call) || B::owns(call)
+    }
+
+    fn early<P: Policy>(
+        store: &Store<P>,
+        images: u32,
+        p: u8,
+        call: BareCall,
+        bytes: &ArrayVec<u8, BLOCK_BYTES>,
+        work: &mut Work,
+    ) -> Result<(), Refusal> {
+        if A::owns(call) {
+            A::early(store, images, p, call, bytes, work)
+        } else {
+            B::early(store, images, p, call, bytes, work)
+        }
+    }
+
+    fn need<P: Policy>(work: &Work, store: &Store<P>, needs: &mut Needs) {
+        if A::owns(work.call) {
+            A::need(work, store, needs);
+        } else {
+            B::need(work, store, needs);
+        }
+    }
+
+    fn asks<P: Policy>(work: &Work, store: &Store<P>) -> Option<Point> {
+        if A::owns(work.call) {
+            A::asks(work, store)
+        } else {
+            B::asks(work, store)
+        }
+    }
+
+    fn feed(work: &Work) -> &[u8] {
+        if A::owns(work.call) {
+            A::feed(work)
+        } else {
+            B::feed(work)
+        }
+    }
+
+    fn piece<P: Policy, D: Disk>(
+        work: &mut Work,
+        store: &mut Store<P>,
+        answer: Option<[u32; 4]>,
+        disk: &mut D,
+        log: &mut DiskLog,
+        gave: &mut Gift,
+    ) -> Next {
+        if A::owns(work.call) {
+            A::piece(work, store, answer, disk, log, gave)
+        } else {
+            B::piece(work, store, answer, disk, log, gave)
+        }
+    }
+}

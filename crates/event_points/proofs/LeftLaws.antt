@@ -1,0 +1,71 @@
+-- What a piece left, by the call that it is one of, and for some whole blocks of the disk.
+use Rattle.std.proofs.Common.{◌≡◌, ℕ, Bool, List, [], replicate, length, Option, None, Some, refl, sym, ap, subst, ◌∙◌}
+use Rattle.std.proofs.lemmas.List.{length-replicate, get_or-replicate}
+use Rattle.kernel_model.specs.declared.BareCall.{BareCall}
+use Rattle.kernel_model.specs.Bare.{call_with}
+use Rattle.kernel_model.specs.World.{World, Blocks}
+use Rattle.kernel_model.specs.Objects.{Objects}
+use Rattle.kernel_model.specs.Meaning.{Answer, Piece, After}
+use Rattle.kernel_model.specs.EventPoints.{event_piece}
+use Rattle.kernel_model.specs.Sound.{HasWholeBlocks}
+use Rattle.disk_log.specs.Calls.{Knows, blocks_in}
+use Rattle.call_pieces.specs.declared.Work.{Work}
+use Rattle.call_pieces.specs.Works.{call_of, stage_of}
+use Rattle.call_pieces.specs.Matching.{PieceMatches, PieceMatchesSome}
+
+-- a piece of a call, by which call it is
+pub of_call : (w : Work) (k : BareCall) (s u : Objects) (blocks : Blocks) (answer : Option Answer)
+    (known : Option (List (List ℕ))) (gave : Option (List ℕ)) (after : After) → w.call ≡ k →
+    PieceMatches (event_piece (call_with k w.bytes.items) (stage_of w) s blocks w.caller answer) u
+    known gave after 0 →
+    PieceMatches (event_piece (call_of w) (stage_of w) s blocks w.caller answer) u known gave after 0
+of_call w k s u blocks answer known gave after is came =
+    subst (λ (x : BareCall). PieceMatches (event_piece (call_with x w.bytes.items) (stage_of w) s
+    blocks w.caller answer) u known gave after 0) (sym is) came
+
+-- the same where it gave nothing
+pub gives_none : (w : Work) (k : BareCall) (s u : Objects) (blocks : Blocks)
+    (answer : Option Answer) (known : Option (List (List ℕ))) (gave : Option (List ℕ))
+    (after : After) → w.call ≡ k → gave ≡ None →
+    PieceMatches (event_piece (call_with k w.bytes.items) (stage_of w) s blocks w.caller answer) u
+    known None after 0 →
+    PieceMatches (event_piece (call_of w) (stage_of w) s blocks w.caller answer) u known gave after 0
+gives_none w k s u blocks answer known gave after is none came =
+    subst (λ (x : Option (List ℕ)). PieceMatches (event_piece (call_of w) (stage_of w) s blocks
+    w.caller answer) u known x after 0) (sym none)
+    (of_call w k s u blocks answer known None after is came)
+
+-- ---- some whole blocks
+
+-- a list of so many bytes
+some_bytes : (n : ℕ) → (bytes : List ℕ) × (length bytes ≡ n)
+some_bytes n = (replicate n 0, length-replicate n 0)
+
+-- what a disk of whole blocks could tell
+some_told : (v : World) → (bs : List (List ℕ)) × HasWholeBlocks v (blocks_in bs)
+some_told v =
+    let block = some_bytes 512 in (
+      replicate v.disk_size block.0,
+      λ b below. ap (λ (x : List ℕ). length x) (get_or-replicate v.disk_size b block.0 [] below)
+          ∙ block.1,
+    )
+
+-- a piece that makes no call of the disk leaves what it does for some whole blocks
+pub some_at_once : (v : World) (q : Blocks → Piece) (s : Objects) (gave : Option (List ℕ))
+    (after : After) (io : List Bool) → io ≡ [] →
+    ((blocks : Blocks) (known : Option (List (List ℕ))) → Knows known blocks →
+    PieceMatches (q blocks) s known gave after 0) →
+    PieceMatchesSome v (λ blocks rest. q blocks) s gave after io
+some_at_once v q s gave after io none came =
+    let there = some_told v in
+    let so = came (blocks_in there.0) (Some there.0) refl in
+    record {
+      blocks = blocks_in there.0;
+      whole = there.1;
+      left = λ rest. record {
+        objects = so.objects;
+        bytes = so.bytes;
+        next = so.next;
+        calls_made = ap (λ (w : List Bool). length w) none ∙ so.calls_made;
+      };
+    }

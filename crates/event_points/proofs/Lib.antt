@@ -1,0 +1,3 @@
+pub mod HandlerLists
+pub mod Granting
+pub mod LeftLaws

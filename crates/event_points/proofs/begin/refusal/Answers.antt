@@ -1,0 +1,12 @@
+use Rattle.std.proofs.Common.{sym, ◌∙◌}
+use Rattle.kernel_state.specs.Stores.{world_of_store}
+use Rattle.event_points.proofs.Granting.{refused_as_plain}
+use Rattle.event_points.proofs.begin.refusal.Goals as goal
+
+pub returns-in_default : goal.returns-in_default
+returns-in_default g c =
+    λ table tells.
+    let bytes = c.args.bytes.now in
+    c.refusal_upto.ensures table tells
+    ∙ refused_as_plain (world_of_store c.args.store.now) table c.args.p c.args.call bytes
+    (sym (c.is_event_call.ensures bytes) ∙ c.if-is_event_call.true) c.in_default.not-Serve

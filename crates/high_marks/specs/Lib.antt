@@ -1,0 +1,2 @@
+pub mod HighMarks
+pub mod MarkLaws

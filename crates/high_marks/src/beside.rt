@@ -1,0 +1,44 @@
+//! The high marks beside the plain calls, and a call of theirs from beginning to end.
+
+ghost use Rattle.std.specs.Prelude.{◌≡◌, ◌<◌, true, IfOk, IfErr};
+ghost use Rattle.kernel_model.specs.Policies.{lives};
+ghost use Rattle.kernel_model.specs.declared.Reply.TheVariants.{One};
+ghost use Rattle.kernel_state.specs.Stores.{objects_of, queue_of};
+ghost use Rattle.call_pieces.specs.declared.Next.TheVariants.{Ends};
+ghost use Rattle.high_marks.specs.HighMarks.{mark, marked};
+
+use crate::HighMarks;
+use arrayvec::ArrayVec;
+use call_pieces::{Calls, Gift, Next, Plain, Work};
+use call_tables::Beside;
+use disk_log::DiskLog;
+use graft_points::Policy;
+use kernel_model::{BareCall, Refusal};
+use kernel_state::Store;
+use vino_base::Disk;
+
+/// The high marks beside the plain calls: a table as any other.
+pub type MarkedCalls = Beside<HighMarks, Plain>;
+
+/// Process p, which lives, pokes cell k by the two tables as one: the call begins, and its one
+/// piece raises the cell.
+pub fn poke_once<B: Policy, D: Disk>(
+    store: &mut Store<B>,
+    disk: &mut D,
+    p: u8,
+    k: u32,
+    x: u32,
+) -> Result<Next, Refusal>
+    requires alive { lives (queue_of store.old) p ≡ true }
+    requires disk { store.old.size ≡ D.block_count disk.old }
+    ensures raised { IfOk result (λ _. objects_of store.new ≡
+        marked p k (mark p k x (objects_of store.old)) (objects_of store.old)) }
+    ensures told { IfOk result (λ next. next ≡ Ends (One (mark p k x (objects_of store.old)))) }
+    ensures refused { IfErr result (λ _. 3 < k) }
+{
+    let mut work = Work::new();
+    let call = BareCall::Poke(k, x);
+    MarkedCalls::early(store, 0, p, call, &ArrayVec::new(), &mut work)?;
+    let mut log = DiskLog::new();
+    Ok(MarkedCalls::piece(&mut work, store, None, disk, &mut log, &mut Gift::new()))
+}

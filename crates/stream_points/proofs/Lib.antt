@@ -1,0 +1,4 @@
+pub mod Granting
+pub mod GraftCalls
+pub mod Continuing
+pub mod StreamPieces

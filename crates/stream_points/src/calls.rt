@@ -1,0 +1,64 @@
+//! `StreamPoints`.
+
+ghost use Rattle.kernel_model.specs.StreamPoints.{is_stream_call};
+
+use crate::begin::{begin, is_stream_call};
+use crate::needs::{asks, feed, need};
+use crate::pieces::piece;
+use arrayvec::ArrayVec;
+use call_pieces::{Calls, Gift, Needs, Next, Work};
+use disk_log::DiskLog;
+use graft_points::Policy;
+use kernel_model::{BLOCK_BYTES, BareCall, Point, Refusal};
+use kernel_state::Store;
+use stream_rules::StreamRules;
+use vino_base::Disk;
+
+/// The table of stream points: `sread` and `swrite`, and `install`, `remove`, `fund` and `bill` at
+/// points 14 and 15.
+#[derive(Clone, Copy, Drop)]
+pub struct StreamPoints;
+
+impl Calls for StreamPoints {
+    type Meaning = StreamRules;
+
+    ghost owns = { is_stream_call };
+
+    fn owns(call: BareCall) -> bool {
+        is_stream_call(call)
+    }
+
+    fn early<B: Policy>(
+        store: &Store<B>,
+        images: u32,
+        p: u8,
+        call: BareCall,
+        bytes: &ArrayVec<u8, BLOCK_BYTES>,
+        work: &mut Work,
+    ) -> Result<(), Refusal> {
+        begin(store, images, p, call, bytes, work)
+    }
+
+    fn need<B: Policy>(work: &Work, store: &Store<B>, needs: &mut Needs) {
+        need(work, store, needs);
+    }
+
+    fn asks<B: Policy>(work: &Work, store: &Store<B>) -> Option<Point> {
+        asks(work, store)
+    }
+
+    fn feed(work: &Work) -> &[u8] {
+        feed(work)
+    }
+
+    fn piece<B: Policy, D: Disk>(
+        work: &mut Work,
+        store: &mut Store<B>,
+        answer: Option<[u32; 4]>,
+        disk: &mut D,
+        log: &mut DiskLog,
+        gave: &mut Gift,
+    ) -> Next {
+        piece(work, store, answer, disk, log, gave)
+    }
+}
