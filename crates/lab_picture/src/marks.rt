@@ -187,6 +187,18 @@ fn is_open(bars: &[Bar], call: u32, level: u32) -> bool {
     })
 }
 
+/// Whether an open bar of a level names another graft than this one: a call asks several, one after
+/// the other.
+fn runs_other(bars: &[Bar], texts: &[&[u8]], call: u32, level: u32, graft: &[u8]) -> bool {
+    for bar in bars {
+        if bar.call == call && bar.end == End::Open && bar.kind == Kind::Level(level) {
+            let named = text_of_number(texts, bar.text);
+            return !named.is_empty() && named != graft;
+        }
+    }
+    false
+}
+
 /// Puts a level of a call over the others.
 fn begin_level<'a>(
     story: &mut Story<'a>,
@@ -222,13 +234,12 @@ fn run_graft<'a>(story: &mut Story<'a>, event: u32, line: &'a [u8]) -> Result<()
     let Some(process) = process_of(&story.bars, call) else {
         return Ok(());
     };
-    end_bars(
-        &mut story.bars,
-        call,
-        depth.saturating_add(1),
-        event,
-        End::Done,
-    );
+    let ended = if runs_other(&story.bars, &story.texts, call, depth, graft_in(line)) {
+        depth
+    } else {
+        depth.saturating_add(1)
+    };
+    end_bars(&mut story.bars, call, ended, event, End::Done);
     for level in 1..LEVELS + 1 {
         if level <= depth && !is_open(&story.bars, call, level) {
             begin_level(story, event, line, process, level)?;

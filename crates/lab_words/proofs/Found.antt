@@ -44,6 +44,7 @@ calls-are-found refusal.Held = refl
 calls-are-found refusal.NotHeld = refl
 calls-are-found refusal.DiskFault = refl
 calls-are-found (refusal.TimedOut o h) = refl
+calls-are-found refusal.PortFull = refl
 
 pub drops-are-found : DropsAreFound
 drops-are-found cause.DivideByZero = refl
@@ -122,6 +123,7 @@ codes-are-found (code.Call call.Held) = refl
 codes-are-found (code.Call call.NotHeld) = refl
 codes-are-found (code.Call call.DiskFault) = refl
 codes-are-found (code.Call call.TimedOut) = refl
+codes-are-found (code.Call call.PortFull) = refl
 codes-are-found (code.Drop drop.DivideByZero) = refl
 codes-are-found (code.Drop drop.Trap) = refl
 codes-are-found (code.Drop drop.NotCallable) = refl

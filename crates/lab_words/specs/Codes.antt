@@ -48,6 +48,7 @@ call_text call.Held = codes "E14"
 call_text call.NotHeld = codes "E15"
 call_text call.DiskFault = codes "E16"
 call_text call.TimedOut = codes "E17"
+call_text call.PortFull = codes "E18"
 
 -- dropped grafts
 abbrev pub drop_text : DropCode → List ℕ

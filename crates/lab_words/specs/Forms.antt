@@ -112,6 +112,7 @@ behind_call call.Held = []
 behind_call call.NotHeld = []
 behind_call call.DiskFault = []
 behind_call call.TimedOut = ObjectName ∷ Number ∷ []
+behind_call call.PortFull = []
 
 -- the words behind a code: dropped grafts
 abbrev pub behind_drop : DropCode → List Slot

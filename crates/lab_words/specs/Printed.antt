@@ -57,6 +57,7 @@ refusal_code refusal.Held = call.Held
 refusal_code refusal.NotHeld = call.NotHeld
 refusal_code refusal.DiskFault = call.DiskFault
 refusal_code (refusal.TimedOut o h) = call.TimedOut
+refusal_code refusal.PortFull = call.PortFull
 
 -- the code of a dropped graft
 abbrev pub cause_code : Cause → DropCode

@@ -38,6 +38,7 @@ pub enum CallCode {
     NotHeld,
     DiskFault,
     TimedOut,
+    PortFull,
 }
 
 /// Dropped grafts, in the order of the codes.
@@ -122,7 +123,7 @@ pub enum Code {
 }
 
 /// All codes, in the order in which they are listed.
-pub const CODES: [Code; 77] = [
+pub const CODES: [Code; 78] = [
     Code::Script(ScriptCode::BadWord),
     Code::Script(ScriptCode::BadNumber),
     Code::Script(ScriptCode::TooLong),
@@ -146,6 +147,7 @@ pub const CODES: [Code; 77] = [
     Code::Call(CallCode::NotHeld),
     Code::Call(CallCode::DiskFault),
     Code::Call(CallCode::TimedOut),
+    Code::Call(CallCode::PortFull),
     Code::Drop(DropCode::DivideByZero),
     Code::Drop(DropCode::Trap),
     Code::Drop(DropCode::NotCallable),
@@ -238,6 +240,7 @@ fn call_text(code: CallCode) -> &'static [u8]
         CallCode::NotHeld => b"E15".as_slice(),
         CallCode::DiskFault => b"E16".as_slice(),
         CallCode::TimedOut => b"E17".as_slice(),
+        CallCode::PortFull => b"E18".as_slice(),
     }
 }
 

@@ -54,7 +54,7 @@ pub(crate) const SCRIPT: [Words; 6] = [
     },
 ];
 
-pub(crate) const CALL: [Words; 17] = [
+pub(crate) const CALL: [Words; 18] = [
     Words {
         code: "E1",
         meaning: "no such process",
@@ -76,7 +76,7 @@ pub(crate) const CALL: [Words; 17] = [
     Words {
         code: "E4",
         meaning: "no such point, kind or policy",
-        cause: "Points are 0 to 5, kinds of policies 0 to 2. Kind 0 has the policies 0 to 2, the others 0 and 1.",
+        cause: "Points are 0 to 15, kinds of policies 0 to 2. Kind 0 has the policies 0 to 2, the others 0 and 1.",
         example: "cases/policies.case",
     },
     Words {
@@ -100,7 +100,7 @@ pub(crate) const CALL: [Words; 17] = [
     Words {
         code: "E8",
         meaning: "a number is out of its range",
-        cause: "Cells are 0 to 3, user locks 0 to 15, slots 0 to 31; a limit and the number of `step` are 1 to 65,536; offset and length together are at most 512, and block and bytes lie in the file; a parameter has the range of its policy.",
+        cause: "Cells are 0 to 3, ports 0 to 7, user locks 0 to 15, slots 0 to 31; a limit and the number of `step` are 1 to 65,536; offset and length together are at most 512, and block and bytes lie in the file; a parameter has the range of its policy.",
         example: "examples/cells.vino",
     },
     Words {
@@ -156,6 +156,12 @@ pub(crate) const CALL: [Words; 17] = [
         meaning: "it waited too long",
         cause: "Another process held the user lock for as many ticks as a call waits for one: 10, unless `patience lock` says another number.",
         example: "cases/locks.case",
+    },
+    Words {
+        code: "E18",
+        meaning: "eight handlers stand at the port",
+        cause: "Points 6 to 13 are those of the ports 0 to 7, and grafts of at most eight processes stand at one of them. `remove` makes room.",
+        example: "examples/labs/port-full.lab",
     },
 ];
 
@@ -229,7 +235,7 @@ pub(crate) const DROP: [Words; 13] = [
     Words {
         code: "C12",
         meaning: "gave an answer that its point refuses",
-        cause: "r0 and r1 are not what the point accepts: too many blocks or past the file's end, a frame of another process, or a process that isn't living. The numbers behind the code are r0 and r1.",
+        cause: "r0 and r1 are not what the point accepts: too many blocks or past the file's end, a frame of another process, a process that isn't living, more than 512 bytes for an event, or another number of bytes than a stream handed in. The numbers behind the code are r0 and r1.",
         example: "examples/misbehaving-grafts.vino",
     },
     Words {

@@ -134,6 +134,7 @@ fn refusal(out: &mut Buffer, r: Refusal)
         Refusal::NotHeld => add(out, b"E15".as_slice()),
         Refusal::DiskFault => add(out, b"E16".as_slice()),
         Refusal::TimedOut(o, holder) => object_after(out, b"E17 ".as_slice(), o, holder),
+        Refusal::PortFull => add(out, b"E18".as_slice()),
     }
 }
 

@@ -6,6 +6,23 @@ ghost use Rattle.kernel_model.specs.Script.{call_word, command_word, command_nam
 
 use kernel_model::{CallName, Command, Form};
 
+/// The commands whose words begin with `s`, in order.
+fn beginning_with_s() -> &'static [Command]
+    ensures { (rest : List ℕ) →
+        find (λ c. same_bytes (command_word c) (115 ∷ rest)) result.now
+        ≡ command_named (115 ∷ rest) }
+{
+    [
+        Command::Step,
+        Command::Call(CallName::Spawn),
+        Command::Call(CallName::Sync),
+        Command::Call(CallName::Serve),
+        Command::Call(CallName::StreamRead),
+        Command::Call(CallName::StreamWrite),
+    ]
+    .as_slice()
+}
+
 /// The commands whose words begin with this byte, in order.
 fn beginning_with(first: u8) -> &'static [Command]
     ensures { (rest : List ℕ) →
@@ -38,14 +55,7 @@ fn beginning_with(first: u8) -> &'static [Command]
             ]
             .as_slice()
         }
-        b's' => {
-            [
-                Command::Step,
-                Command::Call(CallName::Spawn),
-                Command::Call(CallName::Sync),
-            ]
-            .as_slice()
-        }
+        b's' => beginning_with_s(),
         b't' => [Command::Tick, Command::Call(CallName::Tune)].as_slice(),
         b'u' => [Command::Call(CallName::Unlock)].as_slice(),
         b'w' => [Command::Call(CallName::Write)].as_slice(),
@@ -78,6 +88,9 @@ fn word_of_call(name: CallName) -> &'static [u8]
         CallName::Remove => b"remove".as_slice(),
         CallName::Fund => b"fund".as_slice(),
         CallName::Bill => b"bill".as_slice(),
+        CallName::Serve => b"serve".as_slice(),
+        CallName::StreamRead => b"sread".as_slice(),
+        CallName::StreamWrite => b"swrite".as_slice(),
     }
 }
 
@@ -140,8 +153,9 @@ fn forms_of_call(name: CallName) -> &'static [Form]
             Form::Number,
         ].as_slice(),
         CallName::Open => [Form::Number, Form::Text].as_slice(),
-        CallName::Read => [Form::Number; 5].as_slice(),
-        CallName::Write => {
+        CallName::Serve => [Form::Number, Form::Number, Form::Text].as_slice(),
+        CallName::Read | CallName::StreamRead => [Form::Number; 5].as_slice(),
+        CallName::Write | CallName::StreamWrite => {
             [
                 Form::Number,
                 Form::Number,

@@ -11,7 +11,7 @@ use crate::digits::put_bytes;
 use arrayvec::ArrayVec;
 use kernel_model::BLOCK_BYTES;
 
-/// The most hex digits of a `write`.
+/// The most hex digits of a `write`, a `swrite` and a `serve`.
 const MOST_WRITTEN: usize = 2 * BLOCK_BYTES;
 
 /// The most hex digits of an `image`.
@@ -25,8 +25,8 @@ fn decode_all(word: &[u8], to: &mut [u8]) -> bool
     hex::decode_to_slice(word, to).is_ok()
 }
 
-/// The bytes that a `write` carries, which go to `bytes`: 2 to 1,024 hex digits, an even number.
-/// Whether the word is such.
+/// The bytes that a `write`, a `swrite` or a `serve` carries, which go to `bytes`: 2 to 1,024 hex
+/// digits, an even number. Whether the word is such.
 pub(crate) fn written(word: &[u8], bytes: &mut ArrayVec<u8, BLOCK_BYTES>) -> bool
     ensures { decoded result bytes.new.items ≡ hex_word WRITE_DIGITS word.now }
 {

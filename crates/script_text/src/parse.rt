@@ -4,7 +4,7 @@ ghost use Rattle.std.specs.Prelude.{◌≡◌, ℕ, ◌≤◌, ◌<◌, List, []
 ghost use Rattle.kernel_model.specs.declared.Command.TheVariants as command_is;
 ghost use Rattle.kernel_model.specs.Bare.{call_with};
 ghost use Rattle.kernel_model.specs.Bytes.{hex_word};
-ghost use Rattle.kernel_model.specs.Script.{WRITE_DIGITS, IMAGE_DIGITS, amount_at, name_word, open_by, write_by, call_of, happens_by, loads_by, entry_of, is_blank, parsed_line};
+ghost use Rattle.kernel_model.specs.Script.{WRITE_DIGITS, IMAGE_DIGITS, amount_at, name_word, open_by, write_by, serve_by, stream_write_by, call_of, happens_by, loads_by, entry_of, is_blank, parsed_line};
 ghost use Rattle.script_text.specs.Answers.{Answers, SetsWithin};
 
 use crate::commands::{forms, named, sets_up};
@@ -104,6 +104,36 @@ fn write(
     }
 }
 
+/// The bytes that `serve` hands to the handlers of a port.
+fn serve(port: u32, last: &[u8], bytes: &mut ArrayVec<u8, BLOCK_BYTES>) -> Option<BareCall>
+    ensures { option_map (λ c. call_with c bytes.new.items) result
+        ≡ serve_by port (hex_word WRITE_DIGITS last.now) }
+{
+    if written(last, bytes) {
+        Some(BareCall::Serve(port))
+    } else {
+        None
+    }
+}
+
+/// The bytes that `swrite` hands to the point of stream writes.
+fn stream_write(
+    fd: u32,
+    i: u32,
+    off: u32,
+    last: &[u8],
+    bytes: &mut ArrayVec<u8, BLOCK_BYTES>,
+) -> Option<BareCall>
+    ensures { option_map (λ c. call_with c bytes.new.items) result
+        ≡ stream_write_by fd i off (hex_word WRITE_DIGITS last.now) }
+{
+    if written(last, bytes) {
+        Some(BareCall::StreamWrite(fd, i, off))
+    } else {
+        None
+    }
+}
+
 /// A system call by its numbers, of which the first is the process, and by its last word.
 fn call(
     verb: CallName,
@@ -133,6 +163,9 @@ fn call(
         CallName::Remove => Some(BareCall::Remove(at(n, 1))),
         CallName::Fund => Some(BareCall::Fund(at(n, 1), amount(at(n, 2)), at(n, 3))),
         CallName::Bill => Some(BareCall::Bill(at(n, 1))),
+        CallName::Serve => serve(at(n, 1), last, bytes),
+        CallName::StreamRead => Some(BareCall::StreamRead(at(n, 1), at(n, 2), at(n, 3), at(n, 4))),
+        CallName::StreamWrite => stream_write(at(n, 1), at(n, 2), at(n, 3), last, bytes),
     }
 }
 
@@ -218,7 +251,8 @@ fn entry_said<'a>(
 /// What a line says, before or after `boot`, or why it is refused. The line stands without its
 /// newline.
 ///
-/// The name of an `open` and the bytes of a `write` go to `bytes`, which has none for other lines.
+/// The name of an `open` and the bytes of a `write`, a `swrite` and a `serve` go to `bytes`, which
+/// has none for other lines.
 /// No memory is taken: the bytes of an image are decoded later.
 pub fn parse_line<'a>(
     line: &'a [u8],

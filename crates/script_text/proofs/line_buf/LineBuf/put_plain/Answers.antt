@@ -1,4 +1,4 @@
-use Rattle.std.proofs.Common.{rules, ◌≡◌, ◌+◌, ◌≤◌, ◌++◌, ◌∙◌, ◌==◌, length, take, arith, ap, sym, subst}
+use Rattle.std.proofs.Common.{rules, ◌≡◌, ◌+◌, ◌≤◌, ◌++◌, ◌∙◌, ◌==◌, length, take, arith, sym}
 use Rattle.std.specs.List.{position_or_len}
 use Rattle.script_text.proofs.Plain.{plain_lines}
 use Rattle.script_text.proofs.line_buf.LineBuf.put_plain.Goals as goal
