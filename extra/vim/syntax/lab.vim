@@ -10,7 +10,7 @@ syntax sync minlines=200
 syntax keyword labSetup frames patience grant boot key disk fail contained
 syntax keyword labEvent tick step raw image contained
 syntax keyword labCall spawn exit yield sync open close read write lock unlock poke peek contained
-syntax keyword labCall tune default give install remove fund bill contained
+syntax keyword labCall tune default give install remove fund bill serve sread swrite contained
 syntax match labFirst "^\s*\zs[a-z]\+\ze\(\s\|$\)" contains=labSetup,labEvent,labCall
 syntax keyword labKind steps records locks graft acct cell queue cache pol
 syntax match labNumber "\<\(0x\x\+\|\d\+\)\>"

@@ -1,0 +1,3 @@
+# Gives the bytes that it was fed: as many as r1 says.
+mov r0 r1
+ret

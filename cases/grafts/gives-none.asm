@@ -1,0 +1,3 @@
+# Gives no bytes.
+li r0 0
+ret
