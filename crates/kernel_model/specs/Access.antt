@@ -9,10 +9,10 @@ use Rattle.kernel_model.specs.declared.Need.{Need}
 use Rattle.kernel_model.specs.declared.Cause.{Cause}
 use Rattle.kernel_model.specs.declared.Cause.TheVariants.{NotCallable, BadArgument, NotYours, NotAllowed}
 use Rattle.kernel_model.specs.declared.Inverse.{Inverse}
-use Rattle.kernel_model.specs.declared.Inverse.TheVariants.{Nice, Window, Mark, Tune}
+use Rattle.kernel_model.specs.declared.Inverse.TheVariants.{Nice, Window, Mark, Tune, Segment}
 use Rattle.kernel_model.specs.declared.QueueRow.{QueueRow}
 use Rattle.kernel_model.specs.declared.OpenRow.{OpenRow}
-use Rattle.kernel_model.specs.Objects.{Things, FrameValue, PolValue, at, at2, nothing_kept}
+use Rattle.kernel_model.specs.Objects.{Things, FrameValue, PolValue, at, at2}
 use Rattle.kernel_model.specs.Policies.{frames_of, nice_of}
 
 -- ---- refusals and objects
@@ -114,6 +114,10 @@ set_mark f v w =
 abbrev pub set_param : ℕ → ℕ → Things → Things
 set_param kind v w = record w { pol = at kind (with_param v (w.pol kind)) w.pol }
 
+-- these bytes, or none, are kept for the graft at (q, pt)
+abbrev pub set_segment : (q pt : ℕ) → Option (ℕ → ℕ) → Things → Things
+set_segment q pt bytes w = record w { segment = at2 q pt bytes w.segment }
+
 -- the highest value of a policy's parameter, if it has one: 8 for reading ahead, 255 for eviction,
 -- 39 for scheduling; policy 0 of each kind has none
 abbrev pub param_top : (kind policy : ℕ) → Option ℕ
@@ -200,23 +204,28 @@ access id r0 r1 r2 q w = access_by (callable id) id r0 r1 r2 q w
 
 -- ---- undoing
 
--- what a change found: its inverse, and the bytes that the inverse puts back, if it is one that has
--- any
+-- what a change found: its inverse, and for a kept segment the bytes that were kept before, if
+-- there were any
 pub record Found : Type 0 where
   pub inverse : Inverse
-  pub bytes : ℕ → ℕ
+  pub bytes : Option (ℕ → ℕ)
 
--- what a change found whose inverse has no bytes
+-- what the change of an accessor found
 abbrev pub bare_found : Inverse → Found
-bare_found i = record { inverse = i; bytes = nothing_kept }
+bare_found i = record { inverse = i; bytes = None }
 
--- puts the value back that an inverse names
-abbrev pub undo_by : Inverse → (bytes : ℕ → ℕ) → Things → Things
+-- what keeping the segment of the graft at (q, pt) found
+abbrev pub found_segment : (q pt : ℕ) → Things → Found
+found_segment q pt w = record { inverse = Segment q pt; bytes = w.segment q pt }
+
+-- puts the value back that an inverse names, and for a kept segment these bytes
+abbrev pub undo_by : Inverse → (bytes : Option (ℕ → ℕ)) → Things → Things
 undo_by (Inverse.Cell q k v) bytes w = set_cell q k v w
 undo_by (Nice q v) bytes w = set_nice q v w
 undo_by (Window q fd v) bytes w = set_window q fd v w
 undo_by (Mark f v) bytes w = set_mark f v w
 undo_by (Tune kind k v) bytes w = set_param kind v w
+undo_by (Segment q pt) bytes w = set_segment q pt bytes w
 
 -- undoing a record puts back what its change found
 abbrev pub undo : Found → Things → Things
@@ -229,6 +238,7 @@ object_of_inverse (Nice q v) = Queue
 object_of_inverse (Window q fd v) = OpenFile q fd
 object_of_inverse (Mark f v) = Cache
 object_of_inverse (Tune kind k v) = Pol kind
+object_of_inverse (Segment q pt) = Graft q pt
 
 -- the object that a record's change is of
 abbrev pub changed_by : Found → Object

@@ -8,7 +8,7 @@ use Rattle.kernel_model.specs.declared.Instr.{Instr}
 use Rattle.kernel_model.specs.declared.Op.{Op}
 use Rattle.kernel_model.specs.declared.Op.TheVariants.{Jmp, Jz, Jnz, Call}
 use Rattle.kernel_model.specs.Bytes.{number_of, hex_word, hex_text, is_letter, is_digit}
-use Rattle.kernel_model.specs.World.{Image, same_bytes}
+use Rattle.kernel_model.specs.World.{Image, plain_image, same_bytes}
 use Rattle.kernel_model.specs.Instructions.{row_of, op_named}
 
 -- ---- the callable list
@@ -352,7 +352,7 @@ linked labels (p ∷ ps) = before_code (linked_by labels p p.label) (linked labe
 -- an image of this code, or the refusal
 abbrev pub image_by : List ℕ → Result (List Instr) LineFault → Result Image LineFault
 image_by body (Err fault) = Err fault
-image_by body (Ok code) = Ok (record { code = code; body = body })
+image_by body (Ok code) = Ok (plain_image code body)
 
 -- the image of an assembly
 abbrev pub image_of : Result Assembly LineFault → Result Image LineFault

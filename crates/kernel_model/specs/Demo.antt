@@ -8,6 +8,7 @@ use Rattle.kernel_model.specs.declared.Note.TheVariants.{Ended, Refused, Dropped
 use Rattle.kernel_model.specs.Bytes.{hex_text}
 use Rattle.kernel_model.specs.Boxed.{instr}
 use Rattle.kernel_model.specs.declared.Keys.{Keys}
+use Rattle.kernel_model.specs.World.{plain_image}
 use Rattle.kernel_model.specs.Images.{sealed_under}
 use Rattle.kernel_model.specs.Directory.{Disk}
 use Rattle.kernel_model.specs.Text.{spaced, line}
@@ -33,7 +34,7 @@ newest_frame = instr Call 0 0 0 6 ∷ instr Addi 0 0 0 4294967295 ∷ instr Call
 -- a line that loads code
 abbrev pub image_line : ℕ → List Instr → List ℕ
 image_line slot code = codes "image" ++ spaced slot
-    ++ 32 ∷ hex_text (sealed_under demo_keys code [])
+    ++ 32 ∷ hex_text (sealed_under demo_keys (plain_image code []))
 
 -- both grafts of a process
 abbrev pub graft_lines : ℕ → List (List ℕ)

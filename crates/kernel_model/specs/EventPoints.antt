@@ -20,7 +20,7 @@ use Rattle.kernel_model.specs.Charges.{removed}
 use Rattle.kernel_model.specs.Early.{refused, call_refusal, begins_unless}
 use Rattle.kernel_model.specs.Needs.{shared, exclusive, point_needs}
 use Rattle.kernel_model.specs.FilePieces.{leaves, refuses, well}
-use Rattle.kernel_model.specs.Pieces.{new_graft, with_graft, fund_piece, bill_piece}
+use Rattle.kernel_model.specs.Pieces.{new_graft, with_new_graft, fund_piece, bill_piece}
 
 -- ---- ports and their points
 
@@ -119,7 +119,7 @@ handler_joins s p pt g None blocks =
     elim (has_room p pt s.things.handlers) [
       | false ↦ refuses s blocks PortFull
       | true ↦ leaves (with_handlers (handlers_with p pt s.things.handlers)
-          (record s { accounts = with_graft p pt g s.accounts })) blocks well
+          (with_new_graft p pt g s)) blocks well
     ]
 
 -- a graft is taken out, with its handler

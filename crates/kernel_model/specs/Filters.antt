@@ -1,6 +1,6 @@
 -- What `box`, `check`, `reseal`, `asm`, `dis` and `lang` write about their input, and with which
 -- status they end.
-use Rattle.std.specs.Prelude.{◌≡◌, ℕ, ◌==◌, true, false, List, [], ◌∷◌, ◌++◌, codes, Option, None, Some, Result, Ok, Err}
+use Rattle.std.specs.Prelude.{◌≡◌, ℕ, ◌==◌, Bool, true, false, List, [], ◌∷◌, ◌++◌, codes, Option, None, Some, Result, Ok, Err}
 use Rattle.kernel_model.specs.declared.Instr.{Instr}
 use Rattle.kernel_model.specs.Bytes.{hex_text, hex_word}
 use Rattle.kernel_model.specs.World.{Image}
@@ -20,7 +20,7 @@ use Rattle.kernel_model.specs.LanguageImages.{IsCompiled}
 
 -- what is asked of the input, under which keys
 pub data Filter : Type 0 where
-  Box : Keys → Filter
+  Box : Keys → (keep : Bool) → Filter
   Check : Keys → Filter
   Reseal : Keys → Filter
   Asm : Filter
@@ -62,14 +62,15 @@ rewrite_fault_text NoEnd = codes "End"
 rewrite_fault_text TooLong = codes "TooLarge"
 
 -- an image sealed under the last key as hex, or why the code can't be boxed
-abbrev pub boxed_answer : Keys → List ℕ → Result (List Instr) RewriteFault → Answer
-boxed_answer keys body (Err fault) = answer 6 (line (rewrite_fault_text fault))
-boxed_answer keys body (Ok code) = answer 0 (line (hex_text (sealed_under keys code body)))
+abbrev pub boxed_answer : Keys → (keep : Bool) → List ℕ → Result (List Instr) RewriteFault → Answer
+boxed_answer keys keep body (Err fault) = answer 6 (line (rewrite_fault_text fault))
+boxed_answer keys keep body (Ok code) =
+    answer 0 (line (hex_text (sealed_under keys (record { code = code; body = body; keep = keep }))))
 
--- what `box` answers to a raw image
-abbrev pub box_answer : Keys → Result Image LoadFault → Answer
-box_answer keys (Err fault) = answer 6 (line (load_fault_text fault))
-box_answer keys (Ok i) = boxed_answer keys i.body (rewrite i.code)
+-- what `box` answers to a raw image: its image keeps the segments of its grafts where that is asked
+abbrev pub box_answer : Keys → (keep : Bool) → Result Image LoadFault → Answer
+box_answer keys keep (Err fault) = answer 6 (line (load_fault_text fault))
+box_answer keys keep (Ok i) = boxed_answer keys keep i.body (rewrite i.code)
 
 -- the sizes of an image, or the refusal
 abbrev pub check_answer : Result Image LoadFault → Answer
@@ -110,7 +111,7 @@ asm_answer (Ok i) = raw_answer i
 
 -- the answer to the bytes of the input
 abbrev pub bytes_answer : Filter → List ℕ → Answer
-bytes_answer (Box keys) bytes = box_answer keys (read_raw bytes)
+bytes_answer (Box keys keep) bytes = box_answer keys keep (read_raw bytes)
 bytes_answer (Check keys) bytes = check_answer (load keys bytes)
 bytes_answer (Reseal keys) bytes = reseal_answer (reseal keys bytes)
 bytes_answer Dis bytes = dis_answer (read_raw bytes)

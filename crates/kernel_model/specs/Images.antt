@@ -1,5 +1,5 @@
 -- Raw and sealed images, the keys, the seal, and what the loader makes of bytes.
-use Rattle.std.specs.Prelude.{◌≡◌, ◌≤◌, ℕ, zero, suc, ◌+◌, ◌-◌, ◌*◌, ◌==◌, cond, Bool, true, false, ◌||◌, nat_lt, List, [], ◌∷◌, ◌++◌, length, take, drop, map, replicate, flat_map, bit_xor, codes, Option, None, Some, Result, Ok, Err}
+use Rattle.std.specs.Prelude.{◌≡◌, ◌≤◌, ℕ, zero, suc, ◌+◌, ◌-◌, ◌*◌, ◌==◌, cond, Bool, true, false, ◌||◌, nat_le, nat_lt, List, [], ◌∷◌, ◌++◌, length, take, drop, map, replicate, flat_map, bit_xor, codes, Option, None, Some, Result, Ok, Err}
 use Rattle.std.specs.List.{list_all}
 use Rattle.sha2.specs.Sha256.{sha256}
 use Rattle.kernel_model.specs.declared.Instr.{Instr}
@@ -64,9 +64,14 @@ first_sealed_image key code body = with_seal key (first_head code body ++ code_b
 abbrev pub sealed_image : (key : List ℕ) → (number flags : ℕ) → List Instr → List ℕ → List ℕ
 sealed_image key number flags code body = with_seal key (sealed_text number flags code body)
 
--- the bytes of an image sealed under the last key, with no flag
-abbrev pub sealed_under : Keys → List Instr → List ℕ → List ℕ
-sealed_under keys code body = let last = last_key keys in sealed_image last.1 last.0 0 code body
+-- the flags of an image: 1 where it keeps the segments of its grafts
+abbrev pub flags_with : (keep : Bool) → ℕ
+flags_with keep = cond keep 1 0
+
+-- the bytes of an image sealed under the last key, with its flags
+abbrev pub sealed_under : Keys → Image → List ℕ
+sealed_under keys i =
+    let last = last_key keys in sealed_image last.1 last.0 (flags_with i.keep) i.code i.body
 
 -- what an image may be: at most 1,024 instructions whose fields fit, and at most 4,096 data bytes
 pub record IsRawImage (i : Image) : Type 0 where
@@ -111,13 +116,14 @@ decoded zero pc bytes = Ok []
 decoded (suc n) pc bytes = with_first (decode (take 8 bytes)) pc (decoded n (suc pc) (drop 8 bytes))
 
 -- an image of this code and data, or the refusal
-abbrev pub image_with : List ℕ → Result (List Instr) LoadFault → Result Image LoadFault
-image_with body (Err fault) = Err fault
-image_with body (Ok code) = Ok (record { code = code; body = body })
+abbrev pub image_with : (keep : Bool) → List ℕ → Result (List Instr) LoadFault →
+    Result Image LoadFault
+image_with keep body (Err fault) = Err fault
+image_with keep body (Ok code) = Ok (record { code = code; body = body; keep = keep })
 
--- the image of n instructions and the data behind them
+-- the image of n instructions and the data behind them; a raw image keeps nothing
 abbrev pub parts_of : ℕ → List ℕ → Result Image LoadFault
-parts_of n bytes = image_with (drop (8 * n) bytes) (decoded n 0 (take (8 * n) bytes))
+parts_of n bytes = image_with false (drop (8 * n) bytes) (decoded n 0 (take (8 * n) bytes))
 
 -- more instructions or data bytes than an image may have
 abbrev pub is_too_large : ℕ → ℕ → Bool
@@ -171,6 +177,10 @@ head_of bytes = head_length (word_at bytes 4)
 abbrev pub flags_of : List ℕ → ℕ
 flags_of bytes = cond (word_at bytes 4 == 2) (word_at bytes 16) 0
 
+-- a sealed image says that the segments of its grafts are kept
+abbrev pub keep_of : List ℕ → Bool
+keep_of bytes = flags_of bytes == 1
+
 -- the number of the key of a sealed image: that of version 1 is the first
 abbrev pub number_of : List ℕ → ℕ
 number_of bytes = cond (word_at bytes 4 == 2) (word_at bytes 20) 0
@@ -203,9 +213,9 @@ head_fault bytes =
     ]
 
 -- the image of n instructions behind a head of so many bytes, where the seal is right
-abbrev pub unsealed : (head n : ℕ) → List ℕ → Result Image LoadFault
-unsealed head n text =
-    verified (image_with (drop (head + 8 * n) text) (decoded n 0 (drop head text)))
+abbrev pub unsealed : (keep : Bool) → (head n : ℕ) → List ℕ → Result Image LoadFault
+unsealed keep head n text =
+    verified (image_with keep (drop (head + 8 * n) text) (decoded n 0 (drop head text)))
 
 -- the image of sealed bytes whose head is right, under a key
 abbrev pub load_by_seal : List ℕ → List ℕ → Result Image LoadFault
@@ -213,7 +223,7 @@ load_by_seal key bytes =
     let text = take (length bytes - 32) bytes in
     elim (same_bytes (hmac key text) (drop (length bytes - 32) bytes)) [
       | false ↦ Err Seal
-      | true ↦ unsealed (head_of bytes) (word_at bytes 8) text
+      | true ↦ unsealed (keep_of bytes) (head_of bytes) (word_at bytes 8) text
     ]
 
 -- the same, if there is the key
@@ -225,7 +235,7 @@ load_by_key (Some key) bytes = load_by_seal key bytes
 abbrev pub load_by_head : Keys → List ℕ → Option LoadFault → Result Image LoadFault
 load_by_head keys bytes (Some fault) = Err fault
 load_by_head keys bytes None =
-    elim (flags_of bytes == 0) [
+    elim (nat_le (flags_of bytes) 1) [
       | false ↦ Err BadFlags
       | true ↦ load_by_key (key_of keys (number_of bytes)) bytes
     ]
@@ -239,7 +249,7 @@ load keys bytes = load_by_head keys bytes (head_fault bytes)
 -- the bytes of what was loaded, sealed anew, or why it wasn't
 abbrev pub resealed : Keys → Result Image LoadFault → Result (List ℕ) LoadFault
 resealed keys (Err fault) = Err fault
-resealed keys (Ok i) = Ok (sealed_under keys i.code i.body)
+resealed keys (Ok i) = Ok (sealed_under keys i)
 
 -- the bytes of a sealed image as one of version 2 under the last key, or why they don't load
 abbrev pub reseal : Keys → List ℕ → Result (List ℕ) LoadFault

@@ -93,6 +93,28 @@ code_of images w q pt = code_in (image_of images (w.graft q pt))
 abbrev pub body_of : ImageTable → Accounts → (q pt : ℕ) → List ℕ
 body_of images w q pt = body_in (image_of images (w.graft q pt))
 
+-- an image keeps the segments of its grafts
+abbrev pub keeps_in : Option Image → Bool
+keeps_in None = false
+keeps_in (Some i) = i.keep
+
+-- the data bytes of an image by place, and zeros behind them
+abbrev pub data_of : Option Image → ℕ → ℕ
+data_of image i = or_zero (slice_get (body_in image) i)
+
+-- what a segment begins as: the bytes that were kept, where the image keeps segments and there are
+-- some, and else the image's data
+abbrev pub segment_with : Option Image → (keeps : Bool) → (kept : Option (ℕ → ℕ)) → ℕ → ℕ
+segment_with image true (Some bytes) = bytes
+segment_with image true None = data_of image
+segment_with image false kept = data_of image
+
+-- what the segment of the graft at (q, pt) begins as
+abbrev pub first_segment : ImageTable → Objects → (q pt : ℕ) → ℕ → ℕ
+first_segment images w q pt =
+    let image = image_of images (w.accounts.graft q pt) in
+    segment_with image (keeps_in image) (w.things.segment q pt)
+
 -- the limit of a graft
 abbrev pub limit_in : Option GraftValue → ℕ
 limit_in None = 0
@@ -103,9 +125,9 @@ abbrev pub base_of : (p d : ℕ) → ℕ
 base_of p d = segment_base (4 * p + d)
 
 -- A level begins with its arguments in r0 to r3, its segment's base in r15 and zeros elsewhere, its
--- image's data at the start of its segment, zeros behind and then the bytes that it is fed, at
--- instruction 0, with no instruction taken and no record, and keeps the things as it found them. A
--- segment that is kept between calls would begin with its kept bytes here.
+-- segment as what was kept or its image's data with zeros behind, and over that the bytes that it
+-- is fed, at instruction 0, with no instruction taken and no record, and keeps the things as it
+-- found them.
 abbrev pub new_level : ImageTable → Objects → (p d q pt : ℕ) → (args feed : List ℕ) → Touched →
     Level
 new_level images w p d q pt args feed touched =
@@ -113,7 +135,7 @@ new_level images w p d q pt args feed touched =
       owner = q;
       point = pt;
       machine = first_machine (base_of p d) args
-          (fed feed (λ i. or_zero (slice_get (body_of images w.accounts q pt) i)));
+          (fed feed (first_segment images w q pt));
       count = 0;
       touched = touched;
       args = args;

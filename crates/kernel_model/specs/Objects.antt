@@ -57,16 +57,12 @@ pub record Things : Type 0 where
   pub cache : CacheValue
   pub lock : ℕ → Option ℕ
   pub pol : ℕ → PolValue
-  -- what is kept for the graft at each point, by place: it counts where a graft stands whose image
-  -- keeps its segment
-  pub seg : ℕ → ℕ → ℕ → ℕ
+  -- the bytes that were kept for the graft at each point since it was installed, by place, if there
+  -- were any: they count where its image keeps its segment
+  pub segment : ℕ → ℕ → Option (ℕ → ℕ)
   -- the handlers of the event points, each a process and a point, in the order in which they were
   -- put last
   pub handlers : List (ℕ × ℕ)
-
--- what is kept where nothing is
-abbrev pub nothing_kept : ℕ → ℕ
-nothing_kept i = 0
 
 -- a state: one value for each object
 pub record Objects : Type 0 where
@@ -119,7 +115,7 @@ same_object _ _ = false
 -- two states have the same value of an object
 abbrev pub SameAt : Object → Objects → Objects → Type 0
 SameAt (Graft q pt) s t = (s.accounts.graft q pt ≡ t.accounts.graft q pt)
-    × (s.things.seg q pt ≡ t.things.seg q pt)
+    × (s.things.segment q pt ≡ t.things.segment q pt)
 SameAt (Acct q) s t = s.accounts.acct q ≡ t.accounts.acct q
 SameAt (Cell q k) s t = s.things.cell q k ≡ t.things.cell q k
 SameAt (OpenFile q fd) s t = s.things.file q fd ≡ t.things.file q fd
@@ -130,7 +126,7 @@ SameAt (Pol k) s t = s.things.pol k ≡ t.things.pol k
 
 -- the same where accounts and grafts are left out
 abbrev pub SameThing : Object → Things → Things → Type 0
-SameThing (Graft q pt) s t = s.seg q pt ≡ t.seg q pt
+SameThing (Graft q pt) s t = s.segment q pt ≡ t.segment q pt
 SameThing (Acct q) s t = ⊤
 SameThing (Cell q k) s t = s.cell q k ≡ t.cell q k
 SameThing (OpenFile q fd) s t = s.file q fd ≡ t.file q fd
@@ -157,7 +153,7 @@ mix_things test w s =
       cache = cond (test Cache) w.cache s.cache;
       lock = λ u. cond (test (Lock u)) (w.lock u) (s.lock u);
       pol = λ k. cond (test (Pol k)) (w.pol k) (s.pol k);
-      seg = λ q pt. cond (test (Graft q pt)) (w.seg q pt) (s.seg q pt);
+      segment = λ q pt. cond (test (Graft q pt)) (w.segment q pt) (s.segment q pt);
       handlers = cond (test Queue) w.handlers s.handlers;
     }
 

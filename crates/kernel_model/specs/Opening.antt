@@ -1,7 +1,7 @@
 -- The state after boot.
 use Rattle.std.specs.Prelude.{ℕ, ◌==◌, cond, [], ◌∷◌, None}
 use Rattle.kernel_model.specs.World.{World}
-use Rattle.kernel_model.specs.Objects.{nothing_kept, Objects, Accounts, Things, AcctValue, PolValue}
+use Rattle.kernel_model.specs.Objects.{Objects, Accounts, Things, AcctValue, PolValue}
 use Rattle.kernel_model.specs.Kernel.{Kernel}
 
 -- root has the whole grant, and nothing is spent
@@ -31,7 +31,7 @@ opening_things =
       cache = record { frame = λ f. None; lru = [] };
       lock = λ u. None;
       pol = opening_policy;
-      seg = λ q pt. nothing_kept;
+      segment = λ q pt. None;
       handlers = [];
     }
 

@@ -14,7 +14,7 @@ use Rattle.kernel_model.specs.Objects.{Objects, Accounts, Things, GraftValue, Ac
 use Rattle.kernel_model.specs.Policies.{lives, next_process, or_zero}
 use Rattle.kernel_model.specs.Queue.{one_more_slice}
 use Rattle.kernel_model.specs.Handlers.{handlers_without_process}
-use Rattle.kernel_model.specs.Access.{set_cell, set_param, param_top, in_range}
+use Rattle.kernel_model.specs.Access.{set_cell, set_param, set_segment, param_top, in_range}
 use Rattle.kernel_model.specs.Charges.{removed}
 use Rattle.kernel_model.specs.Meaning.{Meaning, Piece, Continues, EndsWith, stage, registers_of}
 use Rattle.kernel_model.specs.Early.{TOP_POINT, plain_early}
@@ -77,7 +77,7 @@ things_without p w =
       cache = record (w.cache) { frame = λ f. handed_over p 0 (w.cache.frame f) };
       lock = λ u. freed_by p (w.lock u);
       pol = w.pol;
-      seg = w.seg;
+      segment = w.segment;
       handlers = handlers_without_process p w.handlers;
     }
 
@@ -183,11 +183,19 @@ new_graft i limit = record { image = i; limit = limit; billed = false; balance =
 abbrev pub with_graft : (p pt : ℕ) → GraftValue → Accounts → Accounts
 with_graft p pt g a = record a { graft = at2 p pt (Some g) a.graft }
 
+-- a graft is put at a point; nothing is kept for it yet
+abbrev pub with_new_graft : (p pt : ℕ) → GraftValue → Objects → Objects
+with_new_graft p pt g s =
+    record {
+      accounts = with_graft p pt g s.accounts;
+      things = set_segment p pt None s.things;
+    }
+
 -- a graft is put at a point where none stands
 abbrev pub install_piece : Objects → (p pt : ℕ) → GraftValue → Option GraftValue → Blocks → Piece
 install_piece s p pt g (Some h) blocks = refuses s blocks Taken
 install_piece s p pt g None blocks =
-    leaves (with_accounts (with_graft p pt g s.accounts) s) blocks well
+    leaves (with_new_graft p pt g s) blocks well
 
 -- a graft is taken out, and its balances go back
 abbrev pub remove_piece : Objects → (p pt : ℕ) → Option GraftValue → Blocks → Piece

@@ -11,7 +11,7 @@ use Rattle.kernel_model.specs.declared.QueueRow.{QueueRow}
 use Rattle.kernel_model.specs.declared.OpenRow.{OpenRow}
 use Rattle.kernel_model.specs.declared.FileRow.{FileRow}
 use Rattle.kernel_model.specs.World.{World, ImageTable, Blocks, file_row, blocks_of}
-use Rattle.kernel_model.specs.Objects.{nothing_kept, Objects, Accounts, GraftValue, FrameValue, CacheValue, PolValue}
+use Rattle.kernel_model.specs.Objects.{Objects, Accounts, GraftValue, FrameValue, CacheValue, PolValue}
 use Rattle.kernel_model.specs.Policies.{lives}
 use Rattle.kernel_model.specs.Handlers.{is_handler, AreHandlers}
 use Rattle.kernel_model.specs.Access.{Found, param_top, changed_by}
@@ -20,6 +20,7 @@ use Rattle.kernel_model.specs.Meaning.{Meaning}
 use Rattle.kernel_model.specs.Levels.{Level, Config, level_at, outermost_touched}
 use Rattle.kernel_model.specs.GraftStep.{record_count}
 use Rattle.kernel_model.specs.UndoLog.{undo_log, kept_by_log}
+use Rattle.kernel_model.specs.InPlace.{is_changed_in}
 use Rattle.kernel_model.specs.History.{Mark}
 use Rattle.kernel_model.specs.Kernel.{Call, Entry, Kernel, is_at_piece}
 use Rattle.kernel_model.specs.Blocking.{trace_of, config_of, levels_of, holds, needs, blocker}
@@ -129,7 +130,7 @@ pub record IsSoundStore (v : World) (s : Objects) : Type 0 where
   pub handlers_live : (q pt : ℕ) → list_any (is_handler q pt) s.things.handlers ≡ true →
       lives s.things.queue q ≡ true
   -- nothing is kept at points that there aren't
-  pub segs : (q pt : ℕ) → (nat_lt q 16 && nat_lt pt 16) ≡ false → s.things.seg q pt ≡ nothing_kept
+  pub segments : (q pt : ℕ) → (nat_lt q 16 && nat_lt pt 16) ≡ false → s.things.segment q pt ≡ None
   -- nothing of any kind is made or lost: the ledgers add up to the grant
   pub ledgers : (k : Kind) → sum_below 16 (ledger s.accounts k) ≡ v.grant
 
@@ -157,10 +158,18 @@ HasWholeBlocks v blocks = (b : ℕ) → b < v.disk_size → length (blocks b) �
 
 -- ---- sound graft calls
 
+-- the object of each record of these levels is held exclusively by the level that owns the record,
+-- or by one outside it
+abbrev pub AreRecorded : List Level → Type 0
+AreRecorded [] = ⊤
+AreRecorded (l ∷ ls) =
+    ((i : Found) → Contains l.records i → is_changed_in (l ∷ ls) (changed_by i) ≡ true)
+    × AreRecorded ls
+
 -- A graft call on a sound state: one to four levels, whose grafts stand and are different ones;
 -- level 0 holds each level's graft and its installer's account exclusively, so that charges can
--- always be made again; each record's object is held exclusively by the level that owns the record;
--- and what a level found is sound, and what the undo log tells.
+-- always be made again; each record's object is held exclusively by the level that owns the record
+-- or by one outside it; and what a level found is sound, and what the undo log tells.
 pub record IsSoundConfig (v : World) (c : Config) : Type 0 where
   pub now : IsSoundStore v c.now
   pub some : 1 ≤ length c.levels
@@ -173,8 +182,7 @@ pub record IsSoundConfig (v : World) (c : Config) : Type 0 where
   pub paid : (l : Level) → Contains c.levels l →
       (outermost_touched c.levels (Graft l.owner l.point) ≡ Held.Exclusive)
       × (outermost_touched c.levels (Acct l.owner) ≡ Held.Exclusive)
-  pub recorded : (l : Level) (i : Found) → Contains c.levels l → Contains l.records i →
-      l.touched (changed_by i) ≡ Held.Exclusive
+  pub recorded : AreRecorded c.levels
   pub few : record_count c.levels ≤ 64
   pub found : (l : Level) → Contains c.levels l →
       IsSoundStore v (record (c.now) { things = l.kept })

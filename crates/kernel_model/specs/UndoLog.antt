@@ -2,9 +2,8 @@
 -- of lists: innermost level first, newest first within a level. What a level found when it began is
 -- what is left when the log is undone on the way outwards.
 use Rattle.std.specs.Prelude.{ℕ, List, [], ◌∷◌, ◌++◌, true, false, nat_le, length, map}
-use Rattle.kernel_model.specs.declared.Inverse.{Inverse}
 use Rattle.kernel_model.specs.Objects.{Objects, Things}
-use Rattle.kernel_model.specs.Access.{Found, bare_found, undo}
+use Rattle.kernel_model.specs.Access.{Found, undo}
 use Rattle.kernel_model.specs.Levels.{Level}
 
 -- the undo log: the records of each level, innermost level first, newest first within a level
@@ -25,10 +24,6 @@ undo_on is s = record s { things = undo_all is s.things }
 abbrev pub kept_by_log : Things → List (List Found) → List Things
 kept_by_log w [] = []
 kept_by_log w (is ∷ log) = let kept = undo_all is w in kept ∷ kept_by_log kept log
-
--- the log of records that are inverses alone
-abbrev pub found_log : List (List Inverse) → List (List Found)
-found_log log = map (map bare_found) log
 
 -- the records with the number of the level that owns each, newest first
 abbrev pub numbered_log : {A : Type 0} → List (List A) → List (ℕ × A)

@@ -6,10 +6,16 @@ use Rattle.std.specs.Cmp.Lexicographic.{pointwise}
 use Rattle.kernel_model.specs.declared.FileRow.{FileRow}
 use Rattle.kernel_model.specs.declared.Instr.{Instr}
 
--- an image that was loaded; what a later version of images carries besides becomes a field here
+-- an image that was loaded
 pub record Image : Type 0 where
   pub code : List Instr
   pub body : List ℕ
+  -- its grafts keep their segments from one completed call to the next
+  pub keep : Bool
+
+-- an image of this code and data that keeps nothing
+abbrev pub plain_image : List Instr → List ℕ → Image
+plain_image code body = record { code = code; body = body; keep = false }
 
 -- the loaded images by slot
 abbrev pub ImageTable : Type 0

@@ -232,7 +232,8 @@ pub enum BareNote {
     InGraft(u32, u8, u8, u8),
 }
 
-/// The value that undoes a change of an accessor.
+/// What undoes a change of a graft: the value from before, or for a kept segment its installer and
+/// its point, the bytes from before standing beside it.
 #[derive(Clone, Copy)]
 pub enum Inverse {
     Cell(u8, u8, u32),
@@ -240,6 +241,7 @@ pub enum Inverse {
     Window(u8, u8, u8),
     Mark(u8, u8),
     Tune(u8, u8, u32),
+    Segment(u8, u8),
 }
 
 impl Default for Inverse {
