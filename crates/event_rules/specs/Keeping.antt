@@ -12,7 +12,7 @@ use Rattle.kernel_model.specs.Handlers.{is_handler, AreHandlers, handlers_with, 
 use Rattle.kernel_model.specs.Policies.{lives}
 use Rattle.kernel_model.specs.Meaning.{Stage, Answer, Piece}
 use Rattle.kernel_model.specs.Charges.{removed}
-use Rattle.kernel_model.specs.Pieces.{new_graft, with_graft}
+use Rattle.kernel_model.specs.Pieces.{new_graft, with_new_graft}
 use Rattle.kernel_model.specs.Sound.{IsSoundStore, ImagesAreLoaded, FitsDisk, HasWholeBlocks}
 use Rattle.kernel_model.specs.Laws.{PieceLaws, is_new_graft, slices_in, continues}
 use Rattle.kernel_model.specs.EventPoints.{is_event_point, with_handlers, handler_joins, handler_leaves, serve_piece, event_piece, event_fits, event_points}
@@ -52,7 +52,7 @@ store_with_handlers v s hs h handlers live = record {
   policies = h.policies;
   handlers = handlers;
   handlers_live = live;
-  segs = h.segs;
+  segments = h.segments;
   ledgers = h.ledgers;
 }
 
@@ -80,10 +80,10 @@ joined_store : (v : World) (s : Objects) (p pt i limit : ℕ) (blocks : Blocks) 
     s.accounts.graft p pt ≡ None → IsSoundStore v s → lives s.things.queue p ≡ true →
     is_event_point pt ≡ true →
     IsSoundStore v (with_handlers (handlers_with p pt s.things.handlers)
-    (with_accounts (with_graft p pt (new_graft i limit) s.accounts) s))
+    (with_new_graft p pt (new_graft i limit) s))
 joined_store v s p pt i limit blocks none h alive event =
     let at = event_point_is pt event in
-    store_with_handlers v (with_accounts (with_graft p pt (new_graft i limit) s.accounts) s)
+    store_with_handlers v (with_new_graft p pt (new_graft i limit) s)
     (handlers_with p pt s.things.handlers)
     (install_store v s p pt i limit None blocks none h alive (omega (arith, at.1)))
     (are_handlers_with p pt s.things.handlers h.handlers at.0 at.1)

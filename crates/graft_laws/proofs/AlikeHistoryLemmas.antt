@@ -1,5 +1,5 @@
 -- A history from two states that agree on what the call holds in the end.
-use Rattle.std.specs.Prelude.{◌≡◌, ℕ, suc, ◌+◌, ◌<◌, ◌≤◌, ◌||◌, true, false, List, [], ◌∷◌, length, slice_get, Option, Some, None}
+use Rattle.std.specs.Prelude.{◌≡◌, ℕ, suc, ◌+◌, ◌<◌, ◌≤◌, ◌||◌, true, false, List, [], ◌∷◌, length, Option, Some, None}
 use Rattle.std.proofs.Common.{arith, refl, subst, sym, ap, ◌∙◌}
 use Rattle.std.proofs.lemmas.List.{take_all}
 use Rattle.kernel_model.specs.declared.Held.{Held}
@@ -10,9 +10,9 @@ use Rattle.kernel_model.specs.World.{World, ImageTable}
 use Rattle.kernel_model.specs.Objects.{Objects, Things, GraftValue, SameAt}
 use Rattle.kernel_model.specs.Machine.{first_machine, fed}
 use Rattle.kernel_model.specs.Meaning.{Meaning, Stage}
-use Rattle.kernel_model.specs.Policies.{default_of, or_zero}
+use Rattle.kernel_model.specs.Policies.{default_of}
 use Rattle.kernel_model.specs.Locks.{Touched, is_held, touch_all, untouched}
-use Rattle.kernel_model.specs.Levels.{Level, Config, Effect, is_going_on, image_of, body_in, base_of, new_level, answer_innermost}
+use Rattle.kernel_model.specs.Levels.{Level, Config, Effect, is_going_on, image_of, keeps_in, segment_with, base_of, new_level, answer_innermost}
 use Rattle.kernel_model.specs.GraftStep.{micro, micro_on}
 use Rattle.kernel_model.specs.History.{Mark, Stepped, Fell, Trace, with_effects, first_trace, trace_after, trace_fallen, level_ends, outer_pasts, effects_on, owner_among, mark_on, marks_on, begin, begin_at, begin_with, replay}
 use Rattle.kernel_model.specs.Alike.{LevelsAlike, ConfigsAlike, AgreeOn, is_held_in}
@@ -197,19 +197,22 @@ needs_same m laws v s u p t first second agree =
     right a b = omega arith
 
 -- a level that has just begun on each state
-begun_same : (images : ImageTable) (s u : Objects) (p q pt : ℕ) (args feed : List ℕ) (t : Touched) → s.accounts.graft q pt ≡ u.accounts.graft q pt →
+begun_same : (images : ImageTable) (s u : Objects) (p q pt : ℕ) (args feed : List ℕ) (t : Touched) → SameAt (Graft q pt) s u →
     record (new_level images s p 0 q pt args feed t) { kept = u.things } ≡ new_level images u p 0 q pt args feed t
 begun_same images s u p q pt args feed t graft =
-    ap (λ (g : Option GraftValue). record {
+    ap (λ g. first g (s.things.segment q pt)) graft.0 ∙ ap (first (u.accounts.graft q pt)) graft.1
+  where
+    first : Option GraftValue → Option (ℕ → ℕ) → Level
+    first g kept = record {
       owner = q;
       point = pt;
-      machine = first_machine (base_of p 0) args (fed feed (λ i. or_zero (slice_get (body_in (image_of images g)) i)));
+      machine = first_machine (base_of p 0) args (fed feed (segment_with (image_of images g) (keeps_in (image_of images g)) kept));
       count = 0;
       touched = t;
       args = args;
       records = [];
       kept = u.things;
-    }) graft
+    }
 
 -- where a graft call begins on the other state
 begin_alike : (m : Meaning) (laws : Laws m) (owns : NeedsGraftsExclusively m) (v : World) (images : ImageTable) (s u : Objects) (p : ℕ) (t : Stage) (a : Point) →
@@ -225,7 +228,7 @@ begin_alike m laws owns v images s u p t a first second asks replayed same =
     let after = begin_at images u p base (m.feed t) a in
     let is : begin m v images u p t ≡ Some after =
     ap (λ ns. begin_with images u p ns (m.feed t) (m.asks v u p t)) (sym needs) ∙ ap (begin_with images u p base (m.feed t)) asked in
-    let graft = (same (Graft a.installer a.point) (outermost_held before.levels (Graft a.installer a.point) (replayed.sound.paid (only before.levels) (0, below_suc 0, refl)).0)).0 in
+    let graft = same (Graft a.installer a.point) (outermost_held before.levels (Graft a.installer a.point) (replayed.sound.paid (only before.levels) (0, below_suc 0, refl)).0) in
     let levels : LevelsAlike before.levels after.levels = (begun_same images s u p a.installer a.point a.args (m.feed t) (touch_all base untouched) graft, tt) in
     let two = beginnings_stand m laws owns v images u p t after second is (stand_other v s u before after replayed levels same) in
     (after, is, alike_from v s u before after replayed two levels same, two)

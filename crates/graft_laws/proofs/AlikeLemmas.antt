@@ -1,5 +1,5 @@
 -- An instruction of two graft calls that are alike comes to the same.
-use Rattle.std.specs.Prelude.{◌≡◌, ℕ, suc, ◌+◌, ◌==◌, ◌&&◌, ◌||◌, not, Bool, true, false, cond, List, [], ◌∷◌, ◌++◌, length, slice_get, Option, Some, None, is_some, ⊤}
+use Rattle.std.specs.Prelude.{◌≡◌, ℕ, suc, ◌+◌, ◌==◌, ◌&&◌, ◌||◌, not, Bool, true, false, cond, List, [], ◌∷◌, ◌++◌, length, Option, Some, None, is_some, ⊤}
 use Rattle.std.proofs.Common.{refl, subst, sym, ap, ◌∙◌}
 use Rattle.kernel_model.specs.declared.Kind.{Kind}
 use Rattle.kernel_model.specs.declared.Kind.TheVariants.{Steps, Records, Locks}
@@ -7,21 +7,22 @@ use Rattle.kernel_model.specs.declared.Cause.{Cause}
 use Rattle.kernel_model.specs.declared.Cause.TheVariants.{BadArgument, Reentered, TooDeep, SpentSteps, SpentRecords, SpentLocks, RefusedAnswer}
 use Rattle.kernel_model.specs.declared.Instr.{Instr}
 use Rattle.kernel_model.specs.declared.Inverse.{Inverse}
+use Rattle.kernel_model.specs.declared.Inverse.TheVariants.{Segment}
 use Rattle.kernel_model.specs.declared.Micro.{Micro}
 use Rattle.kernel_model.specs.declared.Object.{Object}
 use Rattle.kernel_model.specs.declared.Object.TheVariants.{Graft, Acct, Lock}
 use Rattle.kernel_model.specs.World.{World, ImageTable}
-use Rattle.kernel_model.specs.Objects.{Objects, Accounts, Things, GraftValue, AcctValue, SameThing, with_accounts}
-use Rattle.kernel_model.specs.Machine.{Machine, Done, Called, Returned, Trapped, Outside, PastEnd, seg_step, next_call, first_machine}
-use Rattle.kernel_model.specs.Policies.{valid, kind_of, default_of, args_by, or_zero}
+use Rattle.kernel_model.specs.Objects.{Objects, Accounts, Things, GraftValue, AcctValue, SameAt, SameThing, with_accounts}
+use Rattle.kernel_model.specs.Machine.{Machine, Done, Called, Returned, Trapped, Outside, PastEnd, seg_step, next_call, first_machine, fed}
+use Rattle.kernel_model.specs.Policies.{valid, kind_of, default_of, args_by}
 use Rattle.kernel_model.specs.Charges.{funds, payer_balance, charge}
-use Rattle.kernel_model.specs.Access.{Access, Gives, Changes, Refuses, access, callable, early_refusal, is_ask, accessed, asked_point, asked_objects, asked_graft}
+use Rattle.kernel_model.specs.Access.{Access, Gives, Changes, Refuses, found_segment, set_segment, access, callable, early_refusal, is_ask, accessed, asked_point, asked_objects, asked_graft}
 use Rattle.kernel_model.specs.Locks.{is_held, joined, untouched}
-use Rattle.kernel_model.specs.Levels.{Level, Effect, Asked, Charged, Outcome, image_of, code_in, body_in, code_of, base_of, limit_in, goes_on, with_effect, new_level, with_machine, with_touched, touch_outermost, answered, answer_innermost, drop_innermost}
-use Rattle.kernel_model.specs.GraftStep.{is_lock_due, lock_paid, after_result, record_count, is_record_spent, after_change, after_accessor, is_vain_ask, is_running, ask_refusal, ask_answered, after_ask, granted_call, after_call, completed, after_return, after_machine, is_spent, charged_step, micro_on, call_needs, instruction_needs, next_needs}
+use Rattle.kernel_model.specs.Levels.{Level, Effect, Asked, Charged, Outcome, image_of, code_in, keeps_in, segment_with, code_of, base_of, limit_in, goes_on, with_effect, new_level, with_machine, with_touched, touch_outermost, answered, answer_innermost, drop_innermost}
+use Rattle.kernel_model.specs.GraftStep.{is_lock_due, lock_paid, after_result, record_count, is_record_spent, after_change, after_accessor, is_vain_ask, is_running, ask_refusal, ask_answered, after_ask, granted_call, after_call, completed, after_keeping, after_answer, after_return, after_machine, is_spent, charged_step, micro_on, call_needs, instruction_needs, next_needs}
 use Rattle.kernel_model.specs.Alike.{AgreeOn, Keeps, LevelsAlike}
 use Rattle.graft_laws.specs.Alike.{point_objects}
-use Rattle.graft_laws.proofs.ObjectLemmas.{charge_keeps, remove_keeps, same_thing, same_parts}
+use Rattle.graft_laws.proofs.ObjectLemmas.{charge_keeps, remove_keeps, same_thing, same_parts, segment_keeps}
 use Rattle.graft_laws.proofs.PointLemmas.{AreSame, default_same, args_same, vain_same, needed_here, needed_before, needed_last, asked_each}
 use Rattle.graft_laws.proofs.AccessSameLemmas.{accessed_object, DoSame, access_same}
 use Rattle.graft_laws.proofs.LevelsAlikeLemmas.{length_alike, records_alike, any_alike, running_alike, answer_alike, touch_alike}
@@ -59,7 +60,7 @@ DefaultsAlike v kept x q pt (l ∷ ls) = default_of v kept q pt ≡ default_of v
 pub record IsAlike (v : World) (w u : Objects) (l : Level) (x : Things) (ls ks : List Level) : Type 0 where
   pub levels : LevelsAlike ls ks
   pub graft : w.accounts.graft l.owner l.point ≡ u.accounts.graft l.owner l.point
-  pub seg : w.things.seg l.owner l.point ≡ u.things.seg l.owner l.point
+  pub segment : w.things.segment l.owner l.point ≡ u.things.segment l.owner l.point
   pub acct : w.accounts.acct l.owner ≡ u.accounts.acct l.owner
   pub kept : (o : Object) → SameThing o w.things u.things → SameThing o l.kept x
   pub default : DefaultsAlike v l.kept x l.owner l.point ls
@@ -106,7 +107,7 @@ module _ (v : World) where
       IsAlike v (with_accounts (charge k l.owner l.point w.accounts) w) (with_accounts (charge k l.owner l.point u.accounts) u) l x ls ks
   charged_still k w u l x ls ks h =
       let keeps = charged_alike k w u l x ls ks h in
-      record { levels = h.levels; graft = (keeps (Graft l.owner l.point) (h.graft, h.seg)).0; seg = h.seg; acct = keeps (Acct l.owner) h.acct; kept = h.kept; default = h.default }
+      record { levels = h.levels; graft = (keeps (Graft l.owner l.point) (h.graft, h.segment)).0; segment = h.segment; acct = keeps (Acct l.owner) h.acct; kept = h.kept; default = h.default }
 
   -- ---- accessors
 
@@ -137,6 +138,12 @@ module _ (v : World) where
             (charged_alike Records w u l x ls ks h o e) (same o (same_thing o w u e));
       }
 
+  -- a record can be made on both sides or on none
+  record_same : (w u : Objects) (l : Level) (x : Things) (ls ks : List Level) → IsAlike v w u l x ls ks → is_record_spent w.accounts l ls ≡ is_record_spent u.accounts (record l { kept = x }) ks
+  record_same w u l x ls ks h =
+      ap (λ n. n == 0 || record_count (l ∷ ls) == 64) (funds_same w.accounts u.accounts l.owner l.point Records h.graft h.acct)
+      ∙ ap (λ n. funds u.accounts l.owner l.point Records == 0 || length l.records + n == 64) (records_alike ls ks h.levels)
+
   accessor_same : (w u : Objects) (l : Level) (x : Things) (ls ks : List Level) (m : Machine) (id : ℕ) (a b : Access) → IsAlike v w u l x ls ks →
       DoSame w.things u.things a b → AreSameOutcomes w u (after_accessor v w l ls m id a) (after_accessor v u (record l { kept = x }) ks m id b)
   accessor_same w u l x ls ks m id (Refuses a) (Refuses b) h same =
@@ -147,13 +154,10 @@ module _ (v : World) where
       (subst (λ c. AreSameOutcomes w u (after_accessor v w l ls m id (Gives a)) (after_result v u (record l { kept = x }) ks m id a (id == 12 && not c))) due
       (result_same w u l x ls ks m id a (is_lock_due id (l.machine.regs 0) (l ∷ ls)) h))
   accessor_same w u l x ls ks m id (Changes a i y) (Changes b j z) h same =
-      let spent = ap (λ n. n == 0) (funds_same w.accounts u.accounts l.owner l.point Records h.graft h.acct) in
-      let count = ap (λ n. length l.records + n == 64) (records_alike ls ks h.levels) in
       let k = record l { kept = x } in
       subst (λ c. AreSameOutcomes w u (after_accessor v w l ls m id (Changes a i y)) (after_accessor v u k ks m id (Changes c j z))) same.0
       (subst (λ c. AreSameOutcomes w u (after_accessor v w l ls m id (Changes a i y)) (after_accessor v u k ks m id (Changes a c z))) same.1
-      (subst (λ c. AreSameOutcomes w u (after_accessor v w l ls m id (Changes a i y)) (after_change v u k ks m id a i z c))
-      (ap (λ c. c || record_count (l ∷ ls) == 64) spent ∙ ap (λ c. funds u.accounts l.owner l.point Records == 0 || c) count)
+      (subst (λ c. AreSameOutcomes w u (after_accessor v w l ls m id (Changes a i y)) (after_change v u k ks m id a i z c)) (record_same w u l x ls ks h)
       (change_same w u l x ls ks m id a i y z (is_record_spent w.accounts l ls) h same.2)))
   accessor_same w u l x ls ks m id (Refuses a) (Gives b) h same = absurd same
   accessor_same w u l x ls ks m id (Refuses a) (Changes b j z) h same = absurd same
@@ -166,22 +170,24 @@ module _ (v : World) where
     -- ---- asks
 
     -- a new level of the same graft, with the same arguments
-    new_same : (w u : Objects) (n q pt : ℕ) (args : List ℕ) → w.accounts.graft q pt ≡ u.accounts.graft q pt →
+    new_same : (w u : Objects) (n q pt : ℕ) (args : List ℕ) → SameAt (Graft q pt) w u →
         record (new_level images w p n q pt args [] untouched) { kept = u.things } ≡ new_level images u p n q pt args [] untouched
-    new_same w u n q pt args graft =
-        ap (λ (g : Option GraftValue). record {
+    new_same w u n q pt args graft = ap (λ g. first g (w.things.segment q pt)) graft.0 ∙ ap (first (u.accounts.graft q pt)) graft.1
+      where
+        first : Option GraftValue → Option (ℕ → ℕ) → Level
+        first g kept = record {
           owner = q;
           point = pt;
-          machine = first_machine (base_of p n) args (λ i. or_zero (slice_get (body_in (image_of images g)) i));
+          machine = first_machine (base_of p n) args (fed [] (segment_with (image_of images g) (keeps_in (image_of images g)) kept));
           count = 0;
           touched = untouched;
           args = args;
           records = [];
           kept = u.things;
-        }) graft
+        }
 
     answered_same : (w u : Objects) (q pt : ℕ) (ls ks : List Level) (g : Option GraftValue) → LevelsAlike ls ks → AreSame (point_objects (kind_of pt) q pt) w.things u.things →
-        w.accounts.graft q pt ≡ u.accounts.graft q pt → AreSameOutcomes w u (ask_answered v images w p q pt ls g) (ask_answered v images u p q pt ks g)
+        SameAt (Graft q pt) w u → AreSameOutcomes w u (ask_answered v images w p q pt ls g) (ask_answered v images u p q pt ks g)
     answered_same w u q pt ls ks None levels same graft =
         let d = default_of v w.things q pt in
         subst (λ (e : ℕ × ℕ). AreSameOutcomes w u (goes_on w (answer_innermost pt d.0 d.1 ls)) (goes_on u (answer_innermost pt e.0 e.1 ks))) (default_same (kind_of pt) v q pt w.things u.things same)
@@ -194,7 +200,7 @@ module _ (v : World) where
         (goes_same w u w u (l ∷ ls) (new_level images u p (length ls) q pt args [] untouched ∷ ks) (new_same w u (length ls) q pt args graft, levels) (λ o e. e)))
 
     ask_same : (w u : Objects) (l : Level) (x : Things) (ls ks : List Level) (m : Machine) (id pt : ℕ) (c : Option Cause) → IsAlike v w u l x ls ks →
-        AreSame (point_objects (kind_of pt) l.owner pt) w.things u.things → w.accounts.graft l.owner pt ≡ u.accounts.graft l.owner pt →
+        AreSame (point_objects (kind_of pt) l.owner pt) w.things u.things → SameAt (Graft l.owner pt) w u →
         AreSameOutcomes w u (after_ask v images w p l ls m id pt c) (after_ask v images u p (record l { kept = x }) ks m id pt c)
     ask_same w u l x ls ks m id pt (Some cause) h same graft = drop_same w u l x ls ks cause h
     ask_same w u l x ls ks m id pt None h same graft =
@@ -204,7 +210,7 @@ module _ (v : World) where
         let other = with_touched (asked_objects id (l.machine.regs 0) l.owner) (with_machine m k) in
         let xs = touch_outermost o (asker ∷ ls) in
         let ys = touch_outermost o (other ∷ ks) in
-        subst (λ g. AreSameOutcomes w u (after_ask v images w p l ls m id pt None) (with_effect (Asked pt) (ask_answered v images u p l.owner pt ys g))) graft
+        subst (λ g. AreSameOutcomes w u (after_ask v images w p l ls m id pt None) (with_effect (Asked pt) (ask_answered v images u p l.owner pt ys g))) graft.0
         (effect_same (Asked pt) w u (ask_answered v images w p l.owner pt xs (w.accounts.graft l.owner pt)) (ask_answered v images u p l.owner pt ys (w.accounts.graft l.owner pt))
         (answered_same w u l.owner pt xs ys (w.accounts.graft l.owner pt) (touch_alike o (asker ∷ ls) (other ∷ ks) (refl, h.levels)) same graft))
 
@@ -237,8 +243,8 @@ module _ (v : World) where
         let g = asked_graft id r0 l.owner in
         let objects = asked_objects id r0 l.owner in
         let same = asked_each (λ o. SameThing o w.things u.things) v.callable id r0 (l.machine.regs 1) l.owner early (λ o k. same_thing o w u (agree o (needed_before o objects g k))) in
-        let graft = (agree g.object (needed_last objects g)).0 in
-        subst (λ c. AreSameOutcomes w u (granted_call v images w p l ls m id true) (after_ask v images u p (record l { kept = x }) ks m id pt c)) (refusal_same w u l x ls ks pt id h.levels same graft)
+        let graft = agree g.object (needed_last objects g) in
+        subst (λ c. AreSameOutcomes w u (granted_call v images w p l ls m id true) (after_ask v images u p (record l { kept = x }) ks m id pt c)) (refusal_same w u l x ls ks pt id h.levels same graft.0)
         (ask_same w u l x ls ks m id pt (ask_refusal w l.owner pt id (l ∷ ls)) h same graft)
     granted_same w u l x ls ks m id false e h early agree =
         let r0 = l.machine.regs 0 in
@@ -272,9 +278,40 @@ module _ (v : World) where
     completed_same w u l x [] (b ∷ ks) levels = absurd levels
     completed_same w u l x (a ∷ ls) [] levels = absurd levels
 
+    -- the segment is kept, or no record can be made
+    keeping_same : (w u : Objects) (l : Level) (x : Things) (ls ks : List Level) (spent : Bool) → IsAlike v w u l x ls ks →
+        AreSameOutcomes w u (after_keeping v w l ls spent) (after_keeping v u (record l { kept = x }) ks spent)
+    keeping_same w u l x ls ks true h = drop_same w u l x ls ks SpentRecords h
+    keeping_same w u l x ls ks false h =
+        let q = l.owner in
+        let pt = l.point in
+        let bytes = Some l.machine.memory in
+        let y : Objects = record { accounts = charge Records q pt w.accounts; things = set_segment q pt bytes w.things } in
+        let z : Objects = record { accounts = charge Records q pt u.accounts; things = set_segment q pt bytes u.things } in
+        let n = record l { records = found_segment q pt w.things ∷ l.records } in
+        let k = record n { kept = x } in
+        let first = completed y n ls in
+        subst (λ (b : Option (ℕ → ℕ)). AreSameOutcomes w u (with_effect (Charged pt Records) first)
+        (with_effect (Charged pt Records) (completed z (record k { records = record { inverse = Segment q pt; bytes = b } ∷ l.records }) ks))) h.segment
+        (effect_same (Charged pt Records) w u first (completed z k ks)
+        (since_same w u y z first (completed z k ks)
+        (λ o e. same_parts o y.accounts z.accounts w.things u.things y.things z.things (charged_alike Records w u l x ls ks h o e)
+        (segment_keeps q pt bytes o w.things u.things (same_thing o w u e)))
+        (completed_same y z n x ls ks h.levels)))
+
+    -- an answer that the point accepts
+    answer_same : (w u : Objects) (l : Level) (x : Things) (ls ks : List Level) (keeps : Bool) → IsAlike v w u l x ls ks →
+        AreSameOutcomes w u (after_answer v w l ls keeps) (after_answer v u (record l { kept = x }) ks keeps)
+    answer_same w u l x ls ks true h =
+        subst (λ b. AreSameOutcomes w u (after_answer v w l ls true) (after_keeping v u (record l { kept = x }) ks b)) (record_same w u l x ls ks h)
+        (keeping_same w u l x ls ks (is_record_spent w.accounts l ls) h)
+    answer_same w u l x ls ks false h = completed_same w u l x ls ks h.levels
+
     return_same : (w u : Objects) (l : Level) (x : Things) (ls ks : List Level) (b : Bool) → IsAlike v w u l x ls ks →
-        AreSameOutcomes w u (after_return v w l ls b) (after_return v u (record l { kept = x }) ks b)
-    return_same w u l x ls ks true h = completed_same w u l x ls ks h.levels
+        AreSameOutcomes w u (after_return v images w l ls b) (after_return v images u (record l { kept = x }) ks b)
+    return_same w u l x ls ks true h =
+        subst (λ (g : Option GraftValue). AreSameOutcomes w u (after_return v images w l ls true) (after_answer v u (record l { kept = x }) ks (keeps_in (image_of images g)))) h.graft
+        (answer_same w u l x ls ks (keeps_in (image_of images (w.accounts.graft l.owner l.point))) h)
     return_same w u l x ls ks false h = drop_same w u l x ls ks (RefusedAnswer (l.machine.regs 0) (l.machine.regs 1)) h
 
     -- ---- one instruction
@@ -286,7 +323,7 @@ module _ (v : World) where
     machine_same w u l x ls ks (Called id m) h agree answer =
         call_same w u l x ls ks m id (early_refusal v.callable id (l.machine.regs 0) (l.machine.regs 1) l.owner) h refl agree
     machine_same w u l x ls ks Returned h agree answer =
-        subst (λ b. AreSameOutcomes w u (after_machine v images p w l ls Returned) (after_return v u (record l { kept = x }) ks b)) answer
+        subst (λ b. AreSameOutcomes w u (after_machine v images p w l ls Returned) (after_return v images u (record l { kept = x }) ks b)) answer
         (return_same w u l x ls ks (valid w.things l.owner l.point l.args (l.machine.regs 0) (l.machine.regs 1)) h)
     machine_same w u l x ls ks Done.DividedByZero h agree answer = drop_same w u l x ls ks Cause.DivideByZero h
     machine_same w u l x ls ks (Trapped code) h agree answer = drop_same w u l x ls ks (Cause.Trap code) h
@@ -311,7 +348,7 @@ module _ (v : World) where
         (ap (λ (g : Option GraftValue). code_in (image_of images g)) h.graft)
         (effect_same (Charged l.point Steps) w u (after_machine v images p y n ls d) (after_machine v images p z k ks d)
         (since_same w u y z (after_machine v images p y n ls d) (after_machine v images p z k ks d) keeps
-        (machine_same y z n x ls ks d (record { levels = still.levels; graft = still.graft; seg = still.seg; acct = still.acct; kept = still.kept; default = still.default })
+        (machine_same y z n x ls ks d (record { levels = still.levels; graft = still.graft; segment = still.segment; acct = still.acct; kept = still.kept; default = still.default })
         (subst (λ c. AgreeOn (instruction_needs v n c) y z) (sym (step_calls code l.machine)) (λ o e. keeps o (agree o e))) (answered_still d answer))))
       where
         answered_still : (d : Done) → IsAnsweredAlike d w u l →

@@ -12,8 +12,8 @@ use Rattle.kernel_model.specs.Policies.{kind_of, default_of, valid}
 use Rattle.kernel_model.specs.declared.Kind.TheVariants.{Steps}
 use Rattle.kernel_model.specs.Charges.{charge}
 use Rattle.kernel_model.specs.Locks.{is_held}
-use Rattle.kernel_model.specs.Levels.{Level, Config, Effect, Outcome, is_going_on, code_of, outermost_touched, answer_innermost}
-use Rattle.kernel_model.specs.GraftStep.{micro, micro_on, charged_step, is_spent, after_machine, after_return}
+use Rattle.kernel_model.specs.Levels.{Level, Config, Effect, Outcome, is_going_on, image_of, keeps_in, code_of, outermost_touched, answer_innermost}
+use Rattle.kernel_model.specs.GraftStep.{micro, micro_on, charged_step, is_spent, after_machine, is_record_spent, after_keeping, after_answer, after_return}
 use Rattle.kernel_model.specs.History.{Trace, pasts_after, with_effects, trace_after, level_ends, effects_on}
 use Rattle.kernel_model.specs.InPlace.{is_changed_in}
 use Rattle.kernel_model.specs.Alike.{LevelsAlike, ConfigsAlike, is_held_in}
@@ -77,8 +77,16 @@ module _ (v : World) (images : ImageTable) (p : ℕ) where
       is_going_on (micro_on v images p w (l ∷ [])).said ≡ true → ⊥
   answer_ends w l d e f went = by_spent (is_spent w.accounts l) went
     where
-      by_valid : (x : Objects) (n : Level) (b : Bool) → is_going_on (after_return v x n [] b).said ≡ true → ⊥
-      by_valid x n true h = not_going h
+      by_record : (x : Objects) (n : Level) (b : Bool) → is_going_on (after_keeping v x n [] b).said ≡ true → ⊥
+      by_record x n true h = not_going h
+      by_record x n false h = not_going h
+
+      by_keep : (x : Objects) (n : Level) (b : Bool) → is_going_on (after_answer v x n [] b).said ≡ true → ⊥
+      by_keep x n true h = by_record x n (is_record_spent x.accounts n []) h
+      by_keep x n false h = not_going h
+
+      by_valid : (x : Objects) (n : Level) (b : Bool) → is_going_on (after_return v images x n [] b).said ≡ true → ⊥
+      by_valid x n true h = by_keep x n (keeps_in (image_of images (x.accounts.graft n.owner n.point))) h
       by_valid x n false h = not_going h
 
       returned : (x : Objects) (n : Level) (d : Done) → d ≡ Returned → is_going_on (after_machine v images p x n [] d).said ≡ true → ⊥

@@ -74,8 +74,9 @@ begin_replays m laws owns v images s p t a standing asks stands =
     record {
       sound = sound_from v s (l ∷ []) standing.store (some_not_none l)
           (record {
-            each = (record { stands = stands; graft = taken (Graft a.installer a.point) (graft_taken s a); acct = taken (Acct a.installer) (acct_taken s a stands); recorded = λ i c. absurd (nothing i c) }, tt);
+            each = (record { stands = stands; graft = taken (Graft a.installer a.point) (graft_taken s a); acct = taken (Acct a.installer) (acct_taken s a stands) }, tt);
             apart = (refl, tt);
+            recorded = (λ i c. absurd (nothing i c), tt);
             few = omega arith;
             most = omega arith;
             kept = refl;

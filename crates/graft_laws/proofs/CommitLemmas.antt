@@ -64,7 +64,7 @@ graft_out v s q pt (Some g) h e out =
 pub in_range_enough : (v : World) (s u : Objects) (o : Object) → IsSoundStore v s → IsSoundStore v u → (IsInRange o → SameAt o s u) → HasRange o → SameAt o s u
 in_range_enough v s u (Graft q pt) first second h range = elim (cases_Bool (nat_lt q 16 && nat_lt pt 16)) [
   | inl within ↦ let b = and_parts (nat_lt q 16) (nat_lt pt 16) within in h (below q b.0, below pt b.1)
-  | inr out ↦ (graft_out v s q pt (s.accounts.graft q pt) first refl out ∙ sym (graft_out v u q pt (u.accounts.graft q pt) second refl out), first.segs q pt out ∙ sym (second.segs q pt out))
+  | inr out ↦ (graft_out v s q pt (s.accounts.graft q pt) first refl out ∙ sym (graft_out v u q pt (u.accounts.graft q pt) second refl out), first.segments q pt out ∙ sym (second.segments q pt out))
 ]
   where
     below : (x : ℕ) → nat_lt x 16 ≡ true → x < 16

@@ -101,7 +101,7 @@ innermost_alike v w u x y l k ls ks h =
     record {
       levels = h.levels.1;
       graft = (h.held (Graft l.owner l.point) (outermost_held (l ∷ ls) (Graft l.owner l.point) h.first.each.0.graft)).0;
-      seg = (h.held (Graft l.owner l.point) (outermost_held (l ∷ ls) (Graft l.owner l.point) h.first.each.0.graft)).1;
+      segment = (h.held (Graft l.owner l.point) (outermost_held (l ∷ ls) (Graft l.owner l.point) h.first.each.0.graft)).1;
       acct = h.held (Acct l.owner) (outermost_held (l ∷ ls) (Acct l.owner) h.first.each.0.acct);
       kept = found;
       default = default_by ls h.held h.asks found;
@@ -252,7 +252,7 @@ drop_from v w (l ∷ ls) n cause o h = or_right (is_held (l.touched o)) (is_held
 -- levels are held after a drop
 drops_held : (v : World) (w : Objects) (x : Things) (ls : List Level) (n : ℕ) (cause : Cause) → AreHeld (record { accounts = w.accounts; things = x }) ls →
     AreHeld (drop_level v w ls n cause).config.now (drop_level v w ls n cause).config.levels
-drops_held v w x [] n cause h = record { each = tt; apart = tt; few = h.few; most = h.most; kept = refl }
+drops_held v w x [] n cause h = record { each = tt; apart = tt; recorded = tt; few = h.few; most = h.most; kept = refl }
 drops_held v w x (l ∷ ls) n cause h =
     held_by (length ls == n) (drops_held v w l.kept ls n cause (outside_held (record { accounts = w.accounts; things = x }) l ls h))
   where

@@ -1,5 +1,5 @@
 -- A sound kernel stays sound, and its calls in grafts where they are, once more images are loaded.
-use Rattle.std.specs.Prelude.{◌≡◌, ℕ, ◌≤◌, cond, true, List, [], ◌∷◌, length, map, slice_get, Option, Some, None, Ok, Err, Result, is_some}
+use Rattle.std.specs.Prelude.{◌≡◌, ℕ, ◌≤◌, cond, true, List, [], ◌∷◌, length, map, Option, Some, None, Ok, Err, Result, is_some}
 use Rattle.std.specs.Result.{is_ok}
 use Rattle.std.proofs.Common.{refl, subst, sym, ap, ◌∙◌}
 use Rattle.kernel_model.specs.declared.Object.{Object}
@@ -10,10 +10,9 @@ use Rattle.kernel_model.specs.declared.SysCall.{SysCall}
 use Rattle.kernel_model.specs.World.{World, Image, ImageTable, processes}
 use Rattle.kernel_model.specs.Objects.{Objects, Accounts, GraftValue}
 use Rattle.kernel_model.specs.Machine.{first_machine, fed, next_call}
-use Rattle.kernel_model.specs.Policies.{or_zero}
 use Rattle.kernel_model.specs.Meaning.{Meaning, Stage}
 use Rattle.kernel_model.specs.Locks.{touch_all, untouched}
-use Rattle.kernel_model.specs.Levels.{Level, Config, image_of, code_in, body_in, base_of}
+use Rattle.kernel_model.specs.Levels.{Level, Config, image_of, code_in, keeps_in, segment_with, base_of}
 use Rattle.kernel_model.specs.GraftStep.{is_spent, instruction_needs, next_needs}
 use Rattle.kernel_model.specs.History.{Mark, Stepped, Fell, Trace, begin_with, first_trace, stepped, fell_on, mark_on, marks_on, replay}
 use Rattle.kernel_model.specs.Kernel.{Call, Kernel, Run}
@@ -62,7 +61,7 @@ module _ (v : World) (images more : ImageTable) (extends : Extends images more) 
         levels = record {
           owner = a.installer;
           point = a.point;
-          machine = first_machine (base_of p 0) a.args (fed feed (λ i. or_zero (slice_get (body_in y) i)));
+          machine = first_machine (base_of p 0) a.args (fed feed (segment_with y (keeps_in y) (s.things.segment a.installer a.point)));
           count = 0;
           touched = touch_all ns untouched;
           args = a.args;

@@ -8,7 +8,7 @@ use Rattle.kernel_model.specs.declared.Micro.{Micro}
 use Rattle.kernel_model.specs.declared.Op.{Op}
 use Rattle.kernel_model.specs.declared.Op.TheVariants.{Call, Ret}
 use Rattle.kernel_model.specs.declared.QueueRow.{QueueRow}
-use Rattle.kernel_model.specs.World.{World, ImageTable}
+use Rattle.kernel_model.specs.World.{World, ImageTable, plain_image}
 use Rattle.kernel_model.specs.Objects.{Objects, Things, FrameValue, same_object}
 use Rattle.kernel_model.specs.Locks.{touch, untouched}
 use Rattle.kernel_model.specs.Opening.{opening_things}
@@ -39,7 +39,7 @@ instr op imm = record { op = op; a = 0; b = 0; c = 0; imm = imm }
 
 -- one image of one instruction
 abbrev image_of_one : Instr → ImageTable
-image_of_one i slot = Some (record { code = i ∷ []; body = [] })
+image_of_one i slot = Some (plain_image (i ∷ []) [])
 
 -- grafts of process 0 at every point, which can pay for 10 of each kind, over these things
 abbrev with_grafts : Things → Objects
@@ -142,6 +142,48 @@ steps_left (Some c) = funds c.now.accounts 0 1 Steps
 shared_graft_is_charged : (steps_left (effect 0 (Charged 1 Steps) shares_graft) ≡ 9) × (is_changed_in shares_graft.levels (Graft 0 1) ≡ false)
 unfolding same_object
 shared_graft_is_charged = (refl, refl)
+
+-- ---- kept segments
+
+-- each byte of what is kept for each graft is this number
+abbrev with_segments : ℕ → Things
+with_segments b = record opening_things { segment = λ q pt. Some (λ a. b) }
+
+-- one image of one instruction whose grafts keep their segments
+abbrev keeping_image_of_one : Instr → ImageTable
+keeping_image_of_one i slot = Some (record { code = i ∷ []; body = []; keep = true })
+
+-- a level that asks another point
+abbrev asks_kept : ℕ → Config
+asks_kept b = record { now = with_grafts (with_segments b); levels = level 4 0 (with_segments b) ∷ [] }
+
+-- byte 0 of the innermost level's segment
+abbrev first_byte : List Level → ℕ
+first_byte [] = 0
+first_byte (l ∷ ls) = l.machine.memory 0
+
+-- the level that begins finds what was kept, on which the states don't agree
+needed_segment_differs : (first_byte (micro small_world (keeping_image_of_one (instr Call 15)) 0 (asks_kept 7)).config.levels ≡ 7)
+    × (first_byte (micro small_world (keeping_image_of_one (instr Call 15)) 0 (asks_kept 8)).config.levels ≡ 8)
+needed_segment_differs = (refl, refl)
+
+-- byte 0 of what is kept
+abbrev kept_byte : Option (ℕ → ℕ) → ℕ
+kept_byte None = 0
+kept_byte (Some bytes) = bytes 0
+
+-- a level whose graft keeps its segment answers a level that holds neither graft exclusively
+abbrev answers_unheld : Config
+answers_unheld =
+    record {
+      now = with_grafts (with_segments 7);
+      levels = level 5 0 (with_segments 7) ∷ level 4 0 (with_segments 7) ∷ [];
+    }
+
+-- its segment changes, though no level holds it
+unheld_segment_changes : (kept_byte ((micro small_world (keeping_image_of_one (instr Ret 0)) 0 answers_unheld).config.now.things.segment 0 5) ≡ 0)
+    × (is_changed_in answers_unheld.levels (Graft 0 5) ≡ false)
+unheld_segment_changes = (refl, refl)
 
 -- ---- calls beside each other
 

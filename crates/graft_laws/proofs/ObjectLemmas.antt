@@ -3,13 +3,13 @@ use Rattle.std.specs.Prelude.{◌≡◌, ℕ, ◌==◌, ◌&&◌, Bool, true, fa
 use Rattle.std.proofs.Common.{arith, refl, ap, ◌∙◌}
 use Rattle.std.proofs.lemmas.Bool.Decides.{nat_tests}
 use Rattle.kernel_model.specs.declared.Inverse.{Inverse}
-use Rattle.kernel_model.specs.declared.Inverse.TheVariants.{Nice, Window, Mark, Tune}
+use Rattle.kernel_model.specs.declared.Inverse.TheVariants.{Nice, Window, Mark, Tune, Segment}
 use Rattle.kernel_model.specs.declared.Kind.{Kind}
 use Rattle.kernel_model.specs.declared.OpenRow.{OpenRow}
 use Rattle.kernel_model.specs.declared.Object.{Object}
 use Rattle.kernel_model.specs.declared.Object.TheVariants.{Graft, Acct, Cell, OpenFile, Queue, Cache, Lock, Pol}
 use Rattle.kernel_model.specs.Objects.{Objects, Accounts, Things, GraftValue, CacheValue, PolValue, SameAt, SameThing, with_accounts, at, at2}
-use Rattle.kernel_model.specs.Access.{Found, undo_by, undo, with_nice, with_window, with_mark, with_param}
+use Rattle.kernel_model.specs.Access.{Found, undo_by, undo, set_segment, with_nice, with_window, with_mark, with_param}
 use Rattle.kernel_model.specs.Charges.{pay, spend, taken_from, returned, charge, charge_by, charge_account, charge_graft, removed, removed_by}
 use Rattle.kernel_model.specs.UndoLog.{undo_all}
 
@@ -126,7 +126,8 @@ param_both : (q v r : ℕ) (f g : ℕ → PolValue) → f r ≡ g r → at q (wi
 param_both q v r f g h = grind (arith, nat_tests)
 
 -- things that agree on an object do so after an inverse on both
-keeps_by : (i : Inverse) (b : ℕ → ℕ) (o : Object) (w u : Things) → SameThing o w u → SameThing o (undo_by i b w) (undo_by i b u)
+keeps_by : (i : Inverse) (b : Option (ℕ → ℕ)) (o : Object) (w u : Things) → SameThing o w u → SameThing o (undo_by i b w) (undo_by i b u)
+keeps_by (Segment q pt) b (Graft r pu) w u h = at2_both q pt r pu b b w.segment u.segment refl h
 keeps_by i b (Graft q pt) w u h = grind arith
 keeps_by i b (Acct q) w u h = tt
 keeps_by (Inverse.Cell q k v) b (Cell r l) w u h = at2_both q k r l v v w.cell u.cell refl h
@@ -139,10 +140,15 @@ keeps_by (Nice q v) b (Lock j) w u h = h
 keeps_by (Window q fd v) b (Lock j) w u h = h
 keeps_by (Mark f v) b (Lock j) w u h = h
 keeps_by (Tune kind k v) b (Lock j) w u h = h
+keeps_by (Segment q pt) b (Lock j) w u h = h
 keeps_by _ b _ w u h = h
 
 pub undo_keeps : (i : Found) (o : Object) (w u : Things) → SameThing o w u → SameThing o (undo i w) (undo i u)
 undo_keeps i o w u h = keeps_by i.inverse i.bytes o w u h
+
+-- and after the same bytes were kept on both sides
+pub segment_keeps : (q pt : ℕ) (b : Option (ℕ → ℕ)) (o : Object) (w u : Things) → SameThing o w u → SameThing o (set_segment q pt b w) (set_segment q pt b u)
+segment_keeps q pt b o w u h = keeps_by (Segment q pt) b o w u h
 
 -- and after several
 pub undo_all_keeps : (is : List Found) (o : Object) (w u : Things) → SameThing o w u → SameThing o (undo_all is w) (undo_all is u)

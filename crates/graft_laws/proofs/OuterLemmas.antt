@@ -15,11 +15,11 @@ use Rattle.kernel_model.specs.Objects.{Objects, Accounts, Things, GraftValue, wi
 use Rattle.kernel_model.specs.Machine.{Machine, Done, Called, Returned, Trapped, Outside, PastEnd, seg_step}
 use Rattle.kernel_model.specs.Policies.{valid, kind_of, default_of, args_by}
 use Rattle.kernel_model.specs.Charges.{funds, taken_from, charge, charge_by, charge_account, charge_graft, removed}
-use Rattle.kernel_model.specs.Access.{bare_found, Access, Gives, Changes, Refuses, access, early_refusal, is_ask, asked_point, asked_objects, asked_graft}
+use Rattle.kernel_model.specs.Access.{Found, bare_found, found_segment, set_segment, Access, Gives, Changes, Refuses, access, early_refusal, is_ask, asked_point, asked_objects, asked_graft}
 use Rattle.kernel_model.specs.declared.Mode.{Mode}
 use Rattle.kernel_model.specs.Locks.{touch, is_held, joined, untouched}
-use Rattle.kernel_model.specs.Levels.{Level, Config, Effect, Asked, Charged, Removed, Outcome, code_of, limit_in, goes_on, with_effect, new_level, with_machine, with_touched, touch_outermost, outermost_touched, answered, answer_innermost, drop_innermost}
-use Rattle.kernel_model.specs.GraftStep.{after_access, is_lock_due, lock_paid, after_result, record_count, is_record_spent, after_change, after_accessor, ask_refusal, ask_answered, after_ask, granted_call, after_call, completed, after_return, after_machine, is_spent, charged_step, micro_on}
+use Rattle.kernel_model.specs.Levels.{Level, Config, Effect, Asked, Charged, Removed, Outcome, image_of, keeps_in, code_of, limit_in, goes_on, with_effect, new_level, with_machine, with_touched, touch_outermost, outermost_touched, answered, answer_innermost, drop_innermost}
+use Rattle.kernel_model.specs.GraftStep.{after_access, is_lock_due, lock_paid, after_result, record_count, is_record_spent, after_change, after_accessor, ask_refusal, ask_answered, after_ask, granted_call, after_call, completed, after_keeping, after_answer, after_return, after_machine, is_spent, charged_step, micro_on}
 use Rattle.kernel_model.specs.History.{is_found, config_if, with_accounts_of, effect, effects_on}
 use Rattle.kernel_laws.proofs.StoreLemmas.{found_at}
 
@@ -127,6 +127,11 @@ stays_replay v w x l n ls same grafts =
       outer = Stays n refl refl grafts;
     }
 
+-- the first of two tests fails where neither passes
+first_fails : (a b : Bool) → (a || b) ≡ false → a ≡ false
+first_fails true b e = absurd cc
+first_fails false b e = refl
+
 module _ (v : World) where
   drop_replays : (w : Objects) (l : Level) (ls : List Level) (cause : Cause) → is_some (w.accounts.graft l.owner l.point) ≡ true → Replays v w l ls (drop_innermost v w l ls cause)
   drop_replays w l ls cause stands =
@@ -163,10 +168,6 @@ module _ (v : World) where
       let n = record (after_access l m id result) { records = bare_found i ∷ l.records } in
       charged_replays v w l ls Records (goes_on z (n ∷ ls)) stands (first_fails (funds w.accounts l.owner l.point Records == 0) (record_count (l ∷ ls) == 64) e)
       (stays_replay v x z l n ls refl (record { owner = refl; point = refl; kept = refl }))
-    where
-      first_fails : (a b : Bool) → (a || b) ≡ false → a ≡ false
-      first_fails true b e = absurd cc
-      first_fails false b e = refl
 
   accessor_replays : (w : Objects) (l : Level) (ls : List Level) (m : Machine) (id : ℕ) (a : Access) → is_some (w.accounts.graft l.owner l.point) ≡ true →
       Replays v w l ls (after_accessor v w l ls m id a)
@@ -236,8 +237,35 @@ module _ (v : World) where
         } in
         record { asked = None; effects = λ x n k ks held. refl; outer = Answers a b rest refl refl refl refl (record { owner = refl; point = refl; kept = refl }) }
 
-    return_replays : (w : Objects) (l : Level) (ls : List Level) (b : Bool) → is_some (w.accounts.graft l.owner l.point) ≡ true → Replays v w l ls (after_return v w l ls b)
-    return_replays w l ls true stands = completed_replays w l ls
+    -- other counts and records of the level don't matter
+    like_outer : (l : Level) (c : ℕ) (is : List Found) (ls : List Level) (asked : Option ℕ) (said : Micro) (d : Config) →
+        Outer v (record l { count = c; records = is }) ls asked said d → Outer v l ls asked said d
+    like_outer l c is ls asked said d (Stays n e f same) = Stays n e f (record { owner = same.owner; point = same.point; kept = same.kept })
+    like_outer l c is ls asked said d (Starts n b e f same owner kept) = Starts n b e f (record { owner = same.owner; point = same.point; kept = same.kept }) owner kept
+    like_outer l c is ls asked said d (Answers a b rest e f g h same) = Answers a b rest e f g h same
+    like_outer l c is ls asked said d (Lost cause e f g) = Lost cause e f g
+    like_outer l c is ls asked said d (Over answer e) = Over answer e
+
+    -- the segment is kept, or no record can be made
+    keeping_replays : (w : Objects) (l : Level) (ls : List Level) (spent : Bool) → is_record_spent w.accounts l ls ≡ spent → is_some (w.accounts.graft l.owner l.point) ≡ true →
+        Replays v w l ls (after_keeping v w l ls spent)
+    keeping_replays w l ls true e stands = drop_replays w l ls SpentRecords stands
+    keeping_replays w l ls false e stands =
+        let x : Objects = record { accounts = charge Records l.owner l.point w.accounts; things = set_segment l.owner l.point (Some l.machine.memory) w.things } in
+        let is = found_segment l.owner l.point w.things ∷ l.records in
+        let n = record l { records = is } in
+        let o = completed x n ls in
+        let h = completed_replays x n ls in
+        charged_replays v w l ls Records o stands (first_fails (funds w.accounts l.owner l.point Records == 0) (record_count (l ∷ ls) == 64) e)
+        (record { asked = h.asked; effects = h.effects; outer = like_outer l l.count is ls h.asked o.said o.config h.outer })
+
+    -- an answer that the point accepts
+    answer_replays : (w : Objects) (l : Level) (ls : List Level) (keeps : Bool) → is_some (w.accounts.graft l.owner l.point) ≡ true → Replays v w l ls (after_answer v w l ls keeps)
+    answer_replays w l ls true stands = keeping_replays w l ls (is_record_spent w.accounts l ls) refl stands
+    answer_replays w l ls false stands = completed_replays w l ls
+
+    return_replays : (w : Objects) (l : Level) (ls : List Level) (b : Bool) → is_some (w.accounts.graft l.owner l.point) ≡ true → Replays v w l ls (after_return v images w l ls b)
+    return_replays w l ls true stands = answer_replays w l ls (keeps_in (image_of images (w.accounts.graft l.owner l.point))) stands
     return_replays w l ls false stands = drop_replays w l ls (RefusedAnswer (l.machine.regs 0) (l.machine.regs 1)) stands
 
     -- ---- one instruction
@@ -251,14 +279,6 @@ module _ (v : World) where
     machine_replays w l ls Outside stands = drop_replays w l ls Cause.DivideByZero stands
     machine_replays w l ls PastEnd stands = drop_replays w l ls Cause.DivideByZero stands
 
-    -- the count of a level doesn't matter
-    count_outer : (l : Level) (c : ℕ) (ls : List Level) (asked : Option ℕ) (said : Micro) (d : Config) → Outer v (record l { count = c }) ls asked said d → Outer v l ls asked said d
-    count_outer l c ls asked said d (Stays n e f same) = Stays n e f (record { owner = same.owner; point = same.point; kept = same.kept })
-    count_outer l c ls asked said d (Starts n b e f same owner kept) = Starts n b e f (record { owner = same.owner; point = same.point; kept = same.kept }) owner kept
-    count_outer l c ls asked said d (Answers a b rest e f g h same) = Answers a b rest e f g h same
-    count_outer l c ls asked said d (Lost cause e f g) = Lost cause e f g
-    count_outer l c ls asked said d (Over answer e) = Over answer e
-
     step_replays : (w : Objects) (l : Level) (ls : List Level) (spent : Bool) → is_spent w.accounts l ≡ spent → is_some (w.accounts.graft l.owner l.point) ≡ true →
         Replays v w l ls (charged_step v images p w l ls spent)
     step_replays w l ls true e stands = drop_replays w l ls SpentSteps stands
@@ -269,7 +289,7 @@ module _ (v : World) where
         let h = machine_replays x n ls d (charge_stands w.accounts l.owner l.point l.owner l.point Steps stands) in
         let o = after_machine v images p x n ls d in
         charged_replays v w l ls Steps o stands (second_fails (l.count == limit_in (w.accounts.graft l.owner l.point)) (funds w.accounts l.owner l.point Steps == 0) e)
-        (record { asked = h.asked; effects = h.effects; outer = count_outer l (l.count + 1) ls h.asked o.said o.config h.outer })
+        (record { asked = h.asked; effects = h.effects; outer = like_outer l (l.count + 1) l.records ls h.asked o.said o.config h.outer })
       where
         second_fails : (a b : Bool) → (a || b) ≡ false → b ≡ false
         second_fails true b e = absurd cc

@@ -122,7 +122,7 @@ sound_from v w ls store some held different found =
       grafts = λ l k. (each l k).stands;
       different = different;
       paid = λ l k. ((each l k).graft, (each l k).acct);
-      recorded = λ l i k j. (each l k).recorded i j;
+      recorded = held.recorded;
       few = held.few;
       found = λ l k. each_contains (λ (x : Level). IsSoundStore v (record { accounts = w.accounts; things = x.kept })) ls l found k;
       kept = held.kept;
@@ -139,7 +139,7 @@ sound_from v w ls store some held different found =
 each_standing : (t : Touched) (a b : Accounts) (ls : List Level) → Each (IsHeld t a) ls → AllStand b ls → Each (IsHeld t b) ls
 each_standing t a b [] each stand = tt
 each_standing t a b (l ∷ ls) each stand =
-    (record { stands = stand.0; graft = each.0.graft; acct = each.0.acct; recorded = each.0.recorded }, each_standing t a b ls each.1 stand.1)
+    (record { stands = stand.0; graft = each.0.graft; acct = each.0.acct }, each_standing t a b ls each.1 stand.1)
 
 -- what levels that go on found
 each_sound : (P : Things → Type 0) (ns ls : List Level) → AreGrown ns ls → Each (λ (l : Level). P l.kept) ls → Each (λ (l : Level). P l.kept) ns
@@ -174,6 +174,7 @@ fallen_replays v s w x n k ks js pt r0 r1 h new affected stand =
           (record {
             each = each_standing (outermost_touched rs) w.accounts x.accounts rs held.each stand;
             apart = held.apart;
+            recorded = held.recorded;
             few = held.few;
             most = held.most;
             kept = held.kept ∙ ap (λ y. kept_by_log y (undo_log rs)) (sym affected.things);

@@ -15,17 +15,17 @@ use Rattle.kernel_model.specs.SameObject.{same_object_is}
 use Rattle.kernel_model.specs.Machine.{Machine, Done, Called, Returned, Trapped, Outside, PastEnd, seg_step, next_call}
 use Rattle.kernel_model.specs.Policies.{valid, kind_of, default_of, args_by}
 use Rattle.kernel_model.specs.Charges.{funds, charge}
-use Rattle.kernel_model.specs.Access.{Found, bare_found, Access, Gives, Changes, Refuses, access, early_refusal, is_ask, accessed, asked_point, asked_objects, asked_graft}
+use Rattle.kernel_model.specs.Access.{Found, bare_found, found_segment, set_segment, Access, Gives, Changes, Refuses, access, early_refusal, is_ask, accessed, asked_point, asked_objects, asked_graft}
 use Rattle.kernel_model.specs.Locks.{is_held_exclusively, Touched, is_held, joined, untouched}
-use Rattle.kernel_model.specs.Levels.{Level, Asked, Charged, is_going_on, code_of, goes_on, new_level, with_machine, with_touched, touch_outermost, outermost_touched, answered, answer_innermost, drop_innermost}
-use Rattle.kernel_model.specs.GraftStep.{after_access, is_lock_due, lock_paid, after_result, is_record_spent, after_change, after_accessor, ask_refusal, ask_answered, after_ask, granted_call, after_call, completed, after_return, after_machine, is_spent, charged_step, micro_on, call_needs, instruction_needs, next_needs}
+use Rattle.kernel_model.specs.Levels.{Level, Asked, Charged, is_going_on, image_of, keeps_in, code_of, goes_on, new_level, with_machine, with_touched, touch_outermost, outermost_touched, answered, answer_innermost, drop_innermost}
+use Rattle.kernel_model.specs.GraftStep.{after_access, is_lock_due, lock_paid, after_result, is_record_spent, after_change, after_accessor, ask_refusal, ask_answered, after_ask, granted_call, after_call, completed, after_keeping, after_answer, after_return, after_machine, is_spent, charged_step, micro_on, call_needs, instruction_needs, next_needs}
 use Rattle.kernel_model.specs.InPlace.{is_changed_in}
 use Rattle.kernel_model.specs.Alike.{is_needed, is_needed_exclusively, is_held_in}
 use Rattle.kernel_laws.proofs.LevelLemmas.{stronger_left, stronger_right}
 use Rattle.graft_laws.specs.Alike.{point_objects, AreHeldBy}
 use Rattle.graft_laws.proofs.PointLemmas.{or_cases, or_left, or_right, needed_before, needed_last, taken_before, taken_last, needed_cases, asked_each}
 use Rattle.graft_laws.proofs.HoldLemmas.{stronger_held, stronger_with, stronger_from, touch_all_gives, stronger_changed, touch_all_from, touch_all_changed, touch_outermost_from, touch_outermost_changed, touch_outermost_takes, touch_outermost_outer, outermost_inside, changed_held}
-use Rattle.graft_laws.proofs.GrownLemmas.{AreGrown, holds_self, grown_self, grown_then, grown_answer, grown_touch, grown_held, grown_outermost}
+use Rattle.graft_laws.proofs.GrownLemmas.{GrowsFrom, AreGrown, holds_self, grown_self, grown_then, grown_answer, grown_touch, grown_held, grown_outermost}
 use Rattle.graft_laws.proofs.RangeLemmas.{no_graft, no_graft_asked}
 use Rattle.graft_laws.proofs.CalledLemmas.{called_in, step_calls}
 use Rattle.graft_laws.proofs.TurnParts.{Shape, Goes, Begins, Joins, Ends, Falls, IsHeldFrom, IsChangedFrom, StandsFrom, Turn, charged_stood, removed_stood, effect_turn, charged_turn, goes_turn, not_going, touches, touched_from}
@@ -227,8 +227,40 @@ module _ (v : World) where
           ends = tt;
         }
 
-    return_turn : (w : Objects) (l : Level) (ls : List Level) (b : Bool) → Turn w l ls [] (after_return v w l ls b)
-    return_turn w l ls true = completed_turn w l ls
+    -- from a level like it, of the same graft
+    like_shape : (l n : Level) (t : Touched) (ls : List Level) (w : Things) (went : Bool) (after : List Level) → GrowsFrom n l → Shape n t ls w went after → Shape l t ls w went after
+    like_shape l n t ls w went after like (Goes g h) = Goes g (grown_then after (n ∷ ls) (l ∷ ls) h (like, grown_self ls))
+    like_shape l n t ls w went after like (Begins m ks g e h new held) = Begins m ks g e (grown_then ks (n ∷ ls) (l ∷ ls) h (like, grown_self ls)) new held
+    like_shape l n t ls w went after like (Joins a b rest g e f h more) = Joins a b rest g e f h more
+    like_shape l n t ls w went after like (Ends g e) = Ends g e
+    like_shape l n t ls w went after like (Falls g h) = Falls g h
+
+    -- the segment is kept, or no record can be made
+    keeping_turn : (w : Objects) (l : Level) (ls : List Level) (spent : Bool) → Turn w l ls [] (after_keeping v w l ls spent)
+    keeping_turn w l ls true = drop_turn w l ls [] SpentRecords
+    keeping_turn w l ls false =
+        let x : Objects = record { accounts = charge Records l.owner l.point w.accounts; things = set_segment l.owner l.point (Some l.machine.memory) w.things } in
+        let n = record l { records = found_segment l.owner l.point w.things ∷ l.records } in
+        let o = completed x n ls in
+        let h = completed_turn x n ls in
+        effect_turn (Charged l.point Records) w l ls [] o
+        (record {
+          shape = like_shape l n l.touched ls o.config.now.things (is_going_on o.said) o.config.levels (record { owner = refl; point = refl; args = refl; kept = refl; holds = holds_self l.touched }) h.shape;
+          held = h.held;
+          stands = λ q pt e. charged_stood Records l.owner l.point w.accounts q pt (h.stands q pt e);
+          changed = h.changed;
+          gets = h.gets;
+          outer = h.outer;
+          ends = h.ends;
+        })
+
+    -- an answer that the point accepts
+    answer_turn : (w : Objects) (l : Level) (ls : List Level) (keeps : Bool) → Turn w l ls [] (after_answer v w l ls keeps)
+    answer_turn w l ls true = keeping_turn w l ls (is_record_spent w.accounts l ls)
+    answer_turn w l ls false = completed_turn w l ls
+
+    return_turn : (w : Objects) (l : Level) (ls : List Level) (b : Bool) → Turn w l ls [] (after_return v images w l ls b)
+    return_turn w l ls true = answer_turn w l ls (keeps_in (image_of images (w.accounts.graft l.owner l.point)))
     return_turn w l ls false = drop_turn w l ls [] (RefusedAnswer (l.machine.regs 0) (l.machine.regs 1))
 
     -- ---- one instruction
@@ -242,20 +274,6 @@ module _ (v : World) where
     machine_turn w l ls (Trapped code) = drop_turn w l ls [] (Cause.Trap code)
     machine_turn w l ls Outside = drop_turn w l ls [] Cause.DivideByZero
     machine_turn w l ls PastEnd = drop_turn w l ls [] Cause.DivideByZero
-
-    -- the count of a level doesn't matter
-    count_shape : (l : Level) (c : ℕ) (t : Touched) (ls : List Level) (w : Things) (went : Bool) (after : List Level) → Shape (record l { count = c }) t ls w went after → Shape l t ls w went after
-    count_shape l c t ls w went after (Goes g h) = Goes g (grown_then after (record l { count = c } ∷ ls) (l ∷ ls) h (counted l c ls))
-      where
-        counted : (l : Level) (c : ℕ) (ls : List Level) → AreGrown (record l { count = c } ∷ ls) (l ∷ ls)
-        counted l c ls = (record { owner = refl; point = refl; args = refl; kept = refl; holds = holds_self l.touched }, grown_self ls)
-    count_shape l c t ls w went after (Begins n ks g e h new held) = Begins n ks g e (grown_then ks (record l { count = c } ∷ ls) (l ∷ ls) h (counted l c ls)) new held
-      where
-        counted : (l : Level) (c : ℕ) (ls : List Level) → AreGrown (record l { count = c } ∷ ls) (l ∷ ls)
-        counted l c ls = (record { owner = refl; point = refl; args = refl; kept = refl; holds = holds_self l.touched }, grown_self ls)
-    count_shape l c t ls w went after (Joins a b rest g e f h more) = Joins a b rest g e f h more
-    count_shape l c t ls w went after (Ends g e) = Ends g e
-    count_shape l c t ls w went after (Falls g h) = Falls g h
 
     step_turn : (w : Objects) (l : Level) (ls : List Level) (spent : Bool) →
         Turn w l ls (cond spent [] (instruction_needs v l (next_call (code_of images w.accounts l.owner l.point) l.machine))) (charged_step v images p w l ls spent)
@@ -271,7 +289,7 @@ module _ (v : World) where
         subst (λ c. Turn w l ls (instruction_needs v l c) (charged_step v images p w l ls false)) (step_calls code l.machine)
         (effect_turn (Charged l.point Steps) w l ls ns o
         (charged_turn Steps w l ls ns o
-        (record { shape = count_shape l (l.count + 1) l.touched ls o.config.now.things (is_going_on o.said) o.config.levels h.shape; held = h.held; stands = h.stands; changed = h.changed; gets = h.gets; outer = h.outer; ends = h.ends })))
+        (record { shape = like_shape l n l.touched ls o.config.now.things (is_going_on o.said) o.config.levels (record { owner = refl; point = refl; args = refl; kept = refl; holds = holds_self l.touched }) h.shape; held = h.held; stands = h.stands; changed = h.changed; gets = h.gets; outer = h.outer; ends = h.ends })))
 
     -- what one instruction makes of levels
     pub levels_turn : (w : Objects) (l : Level) (ls : List Level) → Turn w l ls (next_needs v images w.accounts (l ∷ ls)) (micro_on v images p w (l ∷ ls))

@@ -14,11 +14,11 @@ use Rattle.kernel_model.specs.World.{World, ImageTable}
 use Rattle.kernel_model.specs.Objects.{Objects, Accounts, Things, GraftValue, with_accounts}
 use Rattle.kernel_model.specs.Machine.{Machine, Done, Called, Returned, Trapped, Outside, PastEnd, seg_step}
 use Rattle.kernel_model.specs.Policies.{valid, kind_of, default_of, args_by}
-use Rattle.kernel_model.specs.Access.{Access, Gives, Changes, Refuses, access, early_refusal, is_ask, accessed, asked_point, asked_objects, bare_found}
+use Rattle.kernel_model.specs.Access.{Access, Gives, Changes, Refuses, access, early_refusal, is_ask, accessed, asked_point, asked_objects, bare_found, found_segment, set_segment}
 use Rattle.kernel_model.specs.Charges.{payer_balance, funds, charge, charge_by, charge_account, charge_graft, taken_from, removed, removed_by}
 use Rattle.kernel_model.specs.Locks.{Touched, untouched, is_held}
-use Rattle.kernel_model.specs.Levels.{Level, Config, Effect, Asked, Charged, Removed, Outcome, with_effect, code_of, new_level, with_machine, with_touched, touch_outermost, outermost_touched, answered, answer_innermost, drop_innermost}
-use Rattle.kernel_model.specs.GraftStep.{after_access, is_lock_due, lock_paid, after_result, is_record_spent, after_change, after_accessor, ask_refusal, ask_answered, after_ask, granted_call, after_call, completed, after_return, after_machine, is_spent, charged_step, micro_on}
+use Rattle.kernel_model.specs.Levels.{Level, Config, Effect, Asked, Charged, Removed, Outcome, with_effect, code_of, new_level, with_machine, with_touched, touch_outermost, outermost_touched, answered, answer_innermost, drop_innermost, image_of, keeps_in}
+use Rattle.kernel_model.specs.GraftStep.{after_access, is_lock_due, lock_paid, after_result, is_record_spent, after_change, after_accessor, ask_refusal, ask_answered, after_ask, granted_call, after_call, completed, after_keeping, after_answer, after_return, after_machine, is_spent, charged_step, micro_on}
 use Rattle.history_laws.proofs.EffectLemmas.{levels_by, accounts_by, CanBeMade, is_standing, IsOf, touch_inside, outermost_touch, touch_here, touch_all_held, stronger_held_right, first_held}
 
 -- ---- the levels after an instruction
@@ -302,8 +302,21 @@ module _ (v : World) (t : Touched) where
           none = tt;
         }
 
-    return_acts : (w : Objects) (l : Level) (ls : List Level) (b : Bool) → HoldsGraft l → ActsAs l w.accounts ls (after_return v w l ls b)
-    return_acts w l ls true held = completed_acts w l ls
+    keeping_acts : (w : Objects) (l : Level) (ls : List Level) (spent : Bool) → is_record_spent w.accounts l ls ≡ spent → HoldsGraft l →
+        ActsAs l w.accounts ls (after_keeping v w l ls spent)
+    keeping_acts w l ls true e held = drop_acts w l ls SpentRecords held
+    keeping_acts w l ls false e held =
+        let u : Objects = record { accounts = charge Records l.owner l.point w.accounts; things = set_segment l.owner l.point (Some l.machine.memory) w.things } in
+        let n = record l { records = found_segment l.owner l.point w.things ∷ l.records } in
+        charged_acts v t l.owner l.point l.kept l.touched w.accounts ls Records (completed u n ls) held
+        (neither (funds w.accounts l.owner l.point Records == 0) _ e).0 (completed_acts u n ls)
+
+    answer_acts : (w : Objects) (l : Level) (ls : List Level) (keeps : Bool) → HoldsGraft l → ActsAs l w.accounts ls (after_answer v w l ls keeps)
+    answer_acts w l ls true held = keeping_acts w l ls (is_record_spent w.accounts l ls) refl held
+    answer_acts w l ls false held = completed_acts w l ls
+
+    return_acts : (w : Objects) (l : Level) (ls : List Level) (b : Bool) → HoldsGraft l → ActsAs l w.accounts ls (after_return v images w l ls b)
+    return_acts w l ls true held = answer_acts w l ls (keeps_in (image_of images (w.accounts.graft l.owner l.point))) held
     return_acts w l ls false held = drop_acts w l ls (RefusedAnswer (l.machine.regs 0) (l.machine.regs 1)) held
 
     -- ---- one instruction

@@ -207,17 +207,25 @@ touch_more : (xs ys : List Need) (t : Touched) → touch_all (xs ++ ys) t ≡ to
 touch_more [] ys t = refl
 touch_more (x ∷ xs) ys t = touch_more xs ys (touch x.object x.mode t)
 
+-- level 0 holds the graft of the point
+pub graft_held : (m : Meaning) → Laws m → (v : World) (s : Objects) (p : ℕ) (t : Stage) (a : Point) → m.fits v s p t ≡ true → m.asks v s p t ≡ Some a →
+    touch_all (m.need v s p t) untouched (Graft a.installer a.point) ≡ Held.Exclusive
+graft_held m laws v s p t a fits asked =
+    let xs = before_point s a (m.need v s p t) in
+    let o = Graft a.installer a.point in
+    let u = touch o Mode.Exclusive (touch_all xs untouched) in
+    ap (λ ns. touch_all ns untouched o) (laws.need.point v s p t a fits asked) ∙ ap (λ (x : Touched). x o) (touch_more xs (needs_of_point s a) untouched)
+    ∙ touch_all_holds (payer_needs a.installer (s.accounts.graft a.installer a.point)) u o (touch_here o (touch_all xs untouched))
+
 -- level 0 holds the graft of the point and its installer's account, where the graft stands
 base_held : (m : Meaning) → Laws m → (v : World) (s : Objects) (p : ℕ) (t : Stage) (a : Point) (g : GraftValue) → m.fits v s p t ≡ true → m.asks v s p t ≡ Some a →
     s.accounts.graft a.installer a.point ≡ Some g →
     (touch_all (m.need v s p t) untouched (Graft a.installer a.point) ≡ Held.Exclusive) × (touch_all (m.need v s p t) untouched (Acct a.installer) ≡ Held.Exclusive)
 base_held m laws v s p t a g fits asked stands =
     let xs = before_point s a (m.need v s p t) in
-    let rest = payer_needs a.installer (s.accounts.graft a.installer a.point) in
     let all = ap (λ ns. touch_all ns untouched) (laws.need.point v s p t a fits asked) ∙ touch_more xs (needs_of_point s a) untouched in
     let u = touch (Graft a.installer a.point) Mode.Exclusive (touch_all xs untouched) in (
-      ap (λ (x : Touched). x (Graft a.installer a.point)) all
-          ∙ touch_all_holds rest u (Graft a.installer a.point) (touch_here (Graft a.installer a.point) (touch_all xs untouched)),
+      graft_held m laws v s p t a fits asked,
       ap (λ (x : Touched). x (Acct a.installer)) all ∙ ap (λ y. touch_all (payer_needs a.installer y) u (Acct a.installer)) stands ∙ touch_here (Acct a.installer) u,
     )
 

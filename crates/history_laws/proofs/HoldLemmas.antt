@@ -6,7 +6,7 @@ use Rattle.kernel_model.specs.declared.Cause.TheVariants.{SpentSteps, SpentRecor
 use Rattle.kernel_model.specs.declared.Held.{Held}
 use Rattle.kernel_model.specs.declared.Instr.{Instr}
 use Rattle.kernel_model.specs.declared.Inverse.{Inverse}
-use Rattle.kernel_model.specs.declared.Kind.TheVariants.{Steps, Locks}
+use Rattle.kernel_model.specs.declared.Kind.TheVariants.{Steps, Records, Locks}
 use Rattle.kernel_model.specs.declared.Mode.{Mode}
 use Rattle.kernel_model.specs.declared.Need.{Need}
 use Rattle.kernel_model.specs.declared.Object.{Object}
@@ -17,11 +17,11 @@ use Rattle.kernel_model.specs.Objects.{Objects, Things, GraftValue, same_object,
 use Rattle.kernel_model.specs.SameObject.{same_object_is}
 use Rattle.kernel_model.specs.Machine.{Machine, Done, Went, Called, Returned, DividedByZero, Trapped, Outside, PastEnd, Width, Word, Byte, segment_place, exec, sets, reads, writes, jumps, seg_step, called_id, next_call}
 use Rattle.kernel_model.specs.Policies.{valid, default_of}
-use Rattle.kernel_model.specs.Access.{Access, Gives, Changes, Refuses, access, early_refusal, is_ask, accessed, asked_point, asked_objects, asked_graft}
+use Rattle.kernel_model.specs.Access.{Access, Gives, Changes, Refuses, access, early_refusal, is_ask, accessed, asked_point, asked_objects, asked_graft, found_segment, set_segment}
 use Rattle.kernel_model.specs.Charges.{funds, charge}
 use Rattle.kernel_model.specs.Locks.{Touched, touch, touch_all, held_as, stronger}
-use Rattle.kernel_model.specs.Levels.{Level, Outcome, code_of, level_at, touched_in, touched_at, with_machine, with_touched, touch_outermost, answer_innermost, drop_innermost, drop_level}
-use Rattle.kernel_model.specs.GraftStep.{after_access, is_lock_due, lock_paid, after_result, is_record_spent, after_change, after_accessor, ask_refusal, ask_answered, after_ask, granted_call, after_call, completed, after_return, after_machine, is_spent, charged_step, micro_on, call_needs, instruction_needs, next_needs}
+use Rattle.kernel_model.specs.Levels.{Level, Outcome, code_of, level_at, touched_in, touched_at, with_machine, with_touched, touch_outermost, answer_innermost, drop_innermost, drop_level, image_of, keeps_in}
+use Rattle.kernel_model.specs.GraftStep.{after_access, is_lock_due, lock_paid, after_result, is_record_spent, after_change, after_accessor, ask_refusal, ask_answered, after_ask, granted_call, after_call, completed, after_keeping, after_answer, after_return, after_machine, is_spent, charged_step, micro_on, call_needs, instruction_needs, next_needs}
 
 -- ---- calls of the machine
 
@@ -213,8 +213,18 @@ module _ (Ok : Object → Held → Type 0) (allows : AllowsHolds Ok) where
       completed_ok w l [] h = tt
       completed_ok w l (asker ∷ rest) h = (λ o. allows.both o (l.touched o) (asker.touched o) (h.0 o) (h.1.0 o), h.1.1)
 
-      return_ok : (w : Objects) (l : Level) (ls : List Level) (b : Bool) → AllOk Ok (l ∷ ls) → AllOk Ok (after_return v w l ls b).config.levels
-      return_ok w l ls true h = completed_ok w l ls h
+      keeping_ok : (w : Objects) (l : Level) (ls : List Level) (spent : Bool) → AllOk Ok (l ∷ ls) → AllOk Ok (after_keeping v w l ls spent).config.levels
+      keeping_ok w l ls true h = drop_ok w l ls SpentRecords h
+      keeping_ok w l ls false h =
+          let u : Objects = record { accounts = charge Records l.owner l.point w.accounts; things = set_segment l.owner l.point (Some l.machine.memory) w.things } in
+          completed_ok u (record l { records = found_segment l.owner l.point w.things ∷ l.records }) ls h
+
+      answer_ok_by : (w : Objects) (l : Level) (ls : List Level) (keeps : Bool) → AllOk Ok (l ∷ ls) → AllOk Ok (after_answer v w l ls keeps).config.levels
+      answer_ok_by w l ls true h = keeping_ok w l ls (is_record_spent w.accounts l ls) h
+      answer_ok_by w l ls false h = completed_ok w l ls h
+
+      return_ok : (w : Objects) (l : Level) (ls : List Level) (b : Bool) → AllOk Ok (l ∷ ls) → AllOk Ok (after_return v images w l ls b).config.levels
+      return_ok w l ls true h = answer_ok_by w l ls (keeps_in (image_of images (w.accounts.graft l.owner l.point))) h
       return_ok w l ls false h = drop_ok w l ls (RefusedAnswer (l.machine.regs 0) (l.machine.regs 1)) h
 
       -- ---- one instruction

@@ -18,16 +18,13 @@ use Rattle.kernel_model.specs.Blocking.{config_in, levels_in, trace_of, config_o
 use Rattle.kernel_model.specs.InPlace.{Cut, no_cut, is_changed_in, cut_state, over, store_with}
 use Rattle.kernel_model.specs.Sound.{IsSoundKernel, clash}
 use Rattle.kernel_model.specs.Claims.{InPlaceReads}
+use Rattle.kernel_model.specs.Laws.{Laws}
 use Rattle.kernel_laws.specs.Undoing.{InversesUndo, ChangesAreOfOneObject}
+use Rattle.kernel_laws.proofs.LevelLemmas.{held_so}
 use Rattle.history_laws.proofs.InverseLemmas.{at_self, at_then}
 use Rattle.history_laws.proofs.UndoableLemmas.{Undoable, replay_undoable}
 
 -- ---- what a level holds exclusively
-
-exclusive_is : (h : Held) → is_held_exclusively h ≡ true → h ≡ Held.Exclusive
-exclusive_is Held.Free e = absurd cc
-exclusive_is Held.Shared e = absurd cc
-exclusive_is Held.Exclusive e = refl
 
 -- what some level holds exclusively is held so at its number
 changed_at : (ls : List Level) (o : Object) → is_changed_in ls o ≡ true → (d : ℕ) × (d < length ls) × (touched_at ls d o ≡ Held.Exclusive)
@@ -36,7 +33,7 @@ changed_at (l ∷ ls) o h = elim (cases_Bool (is_held_exclusively (l.touched o))
   | inl own ↦ (
     length ls,
     below_next (length ls),
-    ap (λ b. touched_in (elim b as (λ _. Option Level) [ true ↦ Some l | false ↦ level_at (length ls) ls ]) o) (is_itself (length ls)) ∙ exclusive_is (l.touched o) own,
+    ap (λ b. touched_in (elim b as (λ _. Option Level) [ true ↦ Some l | false ↦ level_at (length ls) ls ]) o) (is_itself (length ls)) ∙ held_so (l.touched o) own,
   )
   | inr other ↦
       let f = changed_at ls o (sym (ap (λ b. b || is_changed_in ls o) other) ∙ h) in (
@@ -138,7 +135,7 @@ low_stands p low = in_from 0 processes p processes_from (at_least p) (within p l
 -- ---- mixed states
 
 mix_here : (o : Object) (test : Object → Bool) (w s : Objects) → test o ≡ true → SameAt o (mix test w s) w
-mix_here (Graft q pt) test w s h = (ap (λ b. cond b (w.accounts.graft q pt) (s.accounts.graft q pt)) h, ap (λ b. cond b (w.things.seg q pt) (s.things.seg q pt)) h)
+mix_here (Graft q pt) test w s h = (ap (λ b. cond b (w.accounts.graft q pt) (s.accounts.graft q pt)) h, ap (λ b. cond b (w.things.segment q pt) (s.things.segment q pt)) h)
 mix_here (Acct q) test w s h = ap (λ b. cond b (w.accounts.acct q) (s.accounts.acct q)) h
 mix_here (Cell q k) test w s h = ap (λ b. cond b (w.things.cell q k) (s.things.cell q k)) h
 mix_here (OpenFile q fd) test w s h = ap (λ b. cond b (w.things.file q fd) (s.things.file q fd)) h
@@ -148,7 +145,7 @@ mix_here (Lock u) test w s h = ap (λ b. cond b (w.things.lock u) (s.things.lock
 mix_here (Pol k) test w s h = ap (λ b. cond b (w.things.pol k) (s.things.pol k)) h
 
 mix_other : (o : Object) (test : Object → Bool) (w s : Objects) → test o ≡ false → SameAt o (mix test w s) s
-mix_other (Graft q pt) test w s h = (ap (λ b. cond b (w.accounts.graft q pt) (s.accounts.graft q pt)) h, ap (λ b. cond b (w.things.seg q pt) (s.things.seg q pt)) h)
+mix_other (Graft q pt) test w s h = (ap (λ b. cond b (w.accounts.graft q pt) (s.accounts.graft q pt)) h, ap (λ b. cond b (w.things.segment q pt) (s.things.segment q pt)) h)
 mix_other (Acct q) test w s h = ap (λ b. cond b (w.accounts.acct q) (s.accounts.acct q)) h
 mix_other (Cell q k) test w s h = ap (λ b. cond b (w.things.cell q k) (s.things.cell q k)) h
 mix_other (OpenFile q fd) test w s h = ap (λ b. cond b (w.things.file q fd) (s.things.file q fd)) h
@@ -213,19 +210,20 @@ module _ (m : Meaning) (k : Kernel) where
         low_by (Some call) e h = sound.state.store.numbers p (sound.callers p call e)
 
     -- a call with a level can be undone
-    pub call_undoable : InversesUndo → ChangesAreOfOneObject → (p : ℕ) (c : Config) → config_of m k p ≡ Some c → Undoable c
-    call_undoable undoes own p c h = by_call (k.call p) h
+    pub call_undoable : Laws m → InversesUndo → ChangesAreOfOneObject → (p : ℕ) (c : Config) → config_of m k p ≡ Some c → Undoable c
+    call_undoable laws undoes own p c h = by_call (k.call p) refl h
       where
-        by_marks : (call : Call) (x : Option (List Mark)) →
+        by_marks : (call : Call) (x : Option (List Mark)) → k.call p ≡ Some call →
             config_in (elim x as (λ _. Option Trace) [ None ↦ None | Some ks ↦ replay m k.world k.images k.objects p call.stage ks ]) ≡ Some c → Undoable c
-        by_marks call None h = absurd (no_config c h)
-        by_marks call (Some ks) h =
+        by_marks call None is h = absurd (no_config c h)
+        by_marks call (Some ks) is h =
             let f = config_is (replay m k.world k.images k.objects p call.stage ks) c h in
-            subst Undoable f.2 (replay_undoable undoes own k.world k.images p m k.objects call.stage ks f.0 sound.state.store f.1)
+            subst Undoable f.2
+            (replay_undoable undoes own k.world k.images p m laws k.objects call.stage ks f.0 (sound.fit p call is) sound.state.store f.1)
 
-        by_call : (x : Option Call) → config_in (trace_of m k p x) ≡ Some c → Undoable c
-        by_call None h = absurd (no_config c h)
-        by_call (Some call) h = by_marks call call.marks h
+        by_call : (x : Option Call) → k.call p ≡ x → config_in (trace_of m k p x) ≡ Some c → Undoable c
+        by_call None is h = absurd (no_config c h)
+        by_call (Some call) is h = by_marks call call.marks is h
 
     -- a call has a config where it changed an object
     pub changer_config : (p : ℕ) (o : Object) → is_changed_in (levels_of m k p) o ≡ true → (c : Config) × (config_of m k p ≡ Some c) × (is_changed_in c.levels o ≡ true)

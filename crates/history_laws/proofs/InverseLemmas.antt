@@ -93,6 +93,11 @@ pub pass_both : (test : Object → Bool) (is js : List Found) → AllPass test i
 pass_both test [] js h k = k
 pass_both test (i ∷ is) js h k = (h.0, pass_both test is js h.1 k)
 
+-- inverses whose objects pass one test pass another
+pub pass_more : (f g : Object → Bool) (is : List Found) → ((o : Object) → f o ≡ true → g o ≡ true) → AllPass f is → AllPass g is
+pass_more f g [] more h = tt
+pass_more f g (i ∷ is) more h = (more (changed_by i) h.0, pass_more f g is more h.1)
+
 -- inverses of other objects leave an object
 pub undo_all_other : InversesChangeOneObject → (test : Object → Bool) (is : List Found) (o : Object) (w : Things) → AllPass test is → test o ≡ false →
     SameThing o (undo_all is w) w

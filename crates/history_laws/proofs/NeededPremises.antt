@@ -13,7 +13,7 @@ use Rattle.kernel_model.specs.declared.Object.TheVariants.{Cell}
 use Rattle.kernel_model.specs.declared.QueueRow.{QueueRow}
 use Rattle.kernel_model.specs.Access.{needed}
 use Rattle.kernel_model.specs.Events.{expired, tick_event}
-use Rattle.kernel_model.specs.World.{World, ImageTable}
+use Rattle.kernel_model.specs.World.{World, ImageTable, plain_image}
 use Rattle.kernel_model.specs.Objects.{Objects, same_object}
 use Rattle.kernel_model.specs.Meaning.{Meaning, stage}
 use Rattle.kernel_model.specs.Levels.{Config, Charged, Removed}
@@ -42,7 +42,7 @@ one_file =
 
 -- an image that asks to read ahead in the file of the descriptor in r0
 abbrev asking : ImageTable
-asking slot = cond (slot == 0) (Some (record { code = instr Call 0 0 0 13 ∷ []; body = [] })) None
+asking slot = cond (slot == 0) (Some (plain_image (instr Call 0 0 0 13 ∷ []) [])) None
 
 -- grafts of process 0 at its slice and at two open files, which are read to their ends
 abbrev three_grafts : Objects
@@ -109,7 +109,7 @@ newest_first_leads_nowhere = refl
 
 -- an image that sets cell 0 to 20, and then to 9
 abbrev setting_twice : ImageTable
-setting_twice slot = cond (slot == 0) (Some (record { code = instr Call 0 0 0 1 ∷ instr Li 0 0 0 0 ∷ instr Li 1 0 0 9 ∷ instr Call 0 0 0 1 ∷ []; body = [] })) None
+setting_twice slot = cond (slot == 0) (Some (plain_image (instr Call 0 0 0 1 ∷ instr Li 0 0 0 0 ∷ instr Li 1 0 0 9 ∷ instr Call 0 0 0 1 ∷ []) [])) None
 
 -- the calls of processes 0 and 1 that have taken so many instructions, in the slice's graft of process 0
 abbrev in_flight : (ks : ℕ → Option (List Mark)) → Kernel
@@ -168,7 +168,7 @@ row p = record { process = p; nice = 20; slices = 0 }
 
 -- an image that reads cell 0
 abbrev reading : ImageTable
-reading slot = cond (slot == 0) (Some (record { code = instr Call 0 0 0 0 ∷ []; body = [] })) None
+reading slot = cond (slot == 0) (Some (plain_image (instr Call 0 0 0 0 ∷ []) [])) None
 
 -- a call of process 1 that needs a cell which the graft of process 0 read
 abbrev needing : List Need → Meaning

@@ -16,11 +16,11 @@ use Rattle.kernel_model.specs.World.{World, ImageTable}
 use Rattle.kernel_model.specs.Objects.{Objects, Things, GraftValue, with_accounts}
 use Rattle.kernel_model.specs.Machine.{Machine, Done, Called, Returned, Trapped, Outside, PastEnd, seg_step}
 use Rattle.kernel_model.specs.Policies.{valid, kind_of, default_of, args_by}
-use Rattle.kernel_model.specs.Access.{Access, Gives, Changes, Refuses, access, early_refusal, is_ask, accessed, asked_point, asked_objects, Found, bare_found}
+use Rattle.kernel_model.specs.Access.{Access, Gives, Changes, Refuses, access, early_refusal, is_ask, accessed, asked_point, asked_objects, Found, bare_found, found_segment, set_segment}
 use Rattle.kernel_model.specs.Charges.{funds, charge}
 use Rattle.kernel_model.specs.Locks.{Touched, joined, untouched}
-use Rattle.kernel_model.specs.Levels.{Level, Config, Effect, Asked, Charged, Removed, Outcome, code_of, new_level, with_machine, with_touched, touch_outermost, outermost_touched, answered, answer_innermost}
-use Rattle.kernel_model.specs.GraftStep.{after_access, is_lock_due, lock_paid, after_result, record_count, is_record_spent, after_change, after_accessor, is_vain_ask, is_running, ask_refusal, ask_answered, after_ask, granted_call, after_call, completed, after_return, after_machine, is_spent, charged_step, micro_on}
+use Rattle.kernel_model.specs.Levels.{Level, Config, Effect, Asked, Charged, Removed, Outcome, code_of, new_level, with_machine, with_touched, touch_outermost, outermost_touched, answered, answer_innermost, image_of, keeps_in}
+use Rattle.kernel_model.specs.GraftStep.{after_access, is_lock_due, lock_paid, after_result, record_count, is_record_spent, after_change, after_accessor, is_vain_ask, is_running, ask_refusal, ask_answered, after_ask, granted_call, after_call, completed, after_keeping, after_answer, after_return, after_machine, is_spent, charged_step, micro_on}
 use Rattle.history_laws.proofs.EffectLemmas.{levels_by, outermost_touch}
 use Rattle.history_laws.proofs.ActLemmas.{neither}
 use Rattle.history_laws.proofs.RecordLemmas.{HoldsOn, stronger_right, touch_holds, touch_all_holds, touch_here}
@@ -211,13 +211,13 @@ module _ (v : World) where
   result_shape w l ls m id result false h = access_shape w l ls m id result h
 
   -- a record more
-  recorded_shape : (q : ℕ) (l : Level) (ls : List Level) (i : Inverse) → HasShape q (l ∷ ls) → (record_count (l ∷ ls) == 64) ≡ false → HasShape q (record l { records = bare_found i ∷ l.records } ∷ ls)
+  recorded_shape : (q : ℕ) (l : Level) (ls : List Level) (i : Found) → HasShape q (l ∷ ls) → (record_count (l ∷ ls) == 64) ≡ false → HasShape q (record l { records = i ∷ l.records } ∷ ls)
   recorded_shape q l ls i h room = by_levels ls h room
     where
       one_more : (a b : ℕ) → a + b ≤ 64 → (a + b == 64) ≡ false → suc a + b ≤ 64
       one_more a b h room = grind (arith, nat_tests)
 
-      by_levels : (ls : List Level) → HasShape q (l ∷ ls) → (record_count (l ∷ ls) == 64) ≡ false → HasShape q (record l { records = bare_found i ∷ l.records } ∷ ls)
+      by_levels : (ls : List Level) → HasShape q (l ∷ ls) → (record_count (l ∷ ls) == 64) ≡ false → HasShape q (record l { records = i ∷ l.records } ∷ ls)
       by_levels [] h room =
           record { grafts = h.grafts; acct = h.acct; few = one_more (length l.records) (record_count []) h.few room; most = h.most; some = h.some }
       by_levels (k ∷ ls) h room =
@@ -227,7 +227,7 @@ module _ (v : World) where
       HasShape l.owner (l ∷ ls) → KeepsShape l (after_change v w l ls m id result i u spent)
   change_shape w l ls m id result i u true e h = tt
   change_shape w l ls m id result i u false e h =
-      recorded_shape l.owner (after_access l m id result) ls i (access_shape w l ls m id result h) (neither (funds w.accounts l.owner l.point Records == 0) (record_count (l ∷ ls) == 64) e).1
+      recorded_shape l.owner (after_access l m id result) ls (bare_found i) (access_shape w l ls m id result h) (neither (funds w.accounts l.owner l.point Records == 0) (record_count (l ∷ ls) == 64) e).1
 
   accessor_shape : (w : Objects) (l : Level) (ls : List Level) (m : Machine) (id : ℕ) (x : Access) → HasShape l.owner (l ∷ ls) → KeepsShape l (after_accessor v w l ls m id x)
   accessor_shape w l ls m id (Refuses cause) h = tt
@@ -298,8 +298,21 @@ module _ (v : World) where
         with_records n [] is h few = record { grafts = h.grafts; acct = h.acct; few = few; most = h.most; some = h.some }
         with_records n (k ∷ ks) is h few = record { grafts = h.grafts; acct = h.acct; few = few; most = h.most; some = h.some }
 
-    return_shape : (w : Objects) (l : Level) (ls : List Level) (b : Bool) → HasShape l.owner (l ∷ ls) → KeepsShape l (after_return v w l ls b)
-    return_shape w l ls true h = completed_shape w l ls h
+    keeping_shape : (w : Objects) (l : Level) (ls : List Level) (spent : Bool) → is_record_spent w.accounts l ls ≡ spent → HasShape l.owner (l ∷ ls) →
+        KeepsShape l (after_keeping v w l ls spent)
+    keeping_shape w l ls true e h = tt
+    keeping_shape w l ls false e h =
+        let i = found_segment l.owner l.point w.things in
+        let u : Objects = record { accounts = charge Records l.owner l.point w.accounts; things = set_segment l.owner l.point (Some l.machine.memory) w.things } in
+        completed_shape u (record l { records = i ∷ l.records }) ls
+        (recorded_shape l.owner l ls i h (neither (funds w.accounts l.owner l.point Records == 0) (record_count (l ∷ ls) == 64) e).1)
+
+    answer_shape : (w : Objects) (l : Level) (ls : List Level) (keeps : Bool) → HasShape l.owner (l ∷ ls) → KeepsShape l (after_answer v w l ls keeps)
+    answer_shape w l ls true h = keeping_shape w l ls (is_record_spent w.accounts l ls) refl h
+    answer_shape w l ls false h = completed_shape w l ls h
+
+    return_shape : (w : Objects) (l : Level) (ls : List Level) (b : Bool) → HasShape l.owner (l ∷ ls) → KeepsShape l (after_return v images w l ls b)
+    return_shape w l ls true h = answer_shape w l ls (keeps_in (image_of images (w.accounts.graft l.owner l.point))) h
     return_shape w l ls false h = tt
 
     -- ---- one instruction

@@ -6,6 +6,7 @@ use Rattle.std.proofs.lemmas.Bool.{cases_Bool}
 use Rattle.std.proofs.lemmas.Bool.Decides.{nat_tests}
 use Rattle.std.proofs.lemmas.List.Elements.{Contains-append_right, All-contains, All-from_recursion}
 use Rattle.kernel_model.specs.declared.Held.{Held}
+use Rattle.kernel_model.specs.declared.Object.{Object}
 use Rattle.kernel_model.specs.declared.Object.TheVariants.{Graft, Acct}
 use Rattle.kernel_model.specs.declared.Point.{Point}
 use Rattle.kernel_model.specs.World.{World}
@@ -15,15 +16,17 @@ use Rattle.kernel_model.specs.Locks.{Touched}
 use Rattle.kernel_model.specs.Meaning.{Meaning}
 use Rattle.kernel_model.specs.Levels.{Level, Config, level_at, outermost_touched}
 use Rattle.kernel_model.specs.GraftStep.{is_running}
+use Rattle.kernel_model.specs.InPlace.{is_changed_in}
 use Rattle.kernel_model.specs.History.{Mark, Trace, replay}
 use Rattle.kernel_model.specs.UndoLog.{undo_log, kept_by_log}
 use Rattle.kernel_model.specs.Kernel.{Call, Kernel}
 use Rattle.kernel_model.specs.Blocking.{config_in, trace_of, config_of}
-use Rattle.kernel_model.specs.Sound.{IsSoundStore, IsSoundConfig, IsSoundKernel}
+use Rattle.kernel_model.specs.Sound.{AreRecorded, IsSoundStore, IsSoundConfig, IsSoundKernel}
 use Rattle.kernel_model.specs.Laws.{Laws}
 use Rattle.kernel_laws.specs.Soundness.{AreGraftsWork, found_by, IsAskedAt, WorksOn, ReplayWorks, HistoriesWork}
 use Rattle.kernel_laws.specs.Undoing.{InversesUndo, ChangesAreOfOneObject}
-use Rattle.history_laws.proofs.RecordLemmas.{AreHeldBy, FoundByUndoing}
+use Rattle.history_laws.proofs.InverseLemmas.{AllPass}
+use Rattle.history_laws.proofs.RecordLemmas.{FoundByUndoing}
 use Rattle.history_laws.proofs.ShapeLemmas.{AreGrafts}
 use Rattle.history_laws.proofs.ComeLemmas.{HasCome, Comes, replay_comes}
 use Rattle.history_laws.proofs.GraftLemmas.{from_stands}
@@ -120,13 +123,16 @@ paid_each q t (l ∷ ls) h acct = (
   paid_each q t ls h.3 acct,
 )
 
-held_each : (t : Touched) (is : List Found) → AreHeldBy t is → Each (λ i. t (changed_by i) ≡ Held.Exclusive) is
-held_each t [] h = tt
-held_each t (i ∷ is) h = (h.0, held_each t is h.1)
+pass_each : (test : Object → Bool) (is : List Found) → AllPass test is → Each (λ i. test (changed_by i) ≡ true) is
+pass_each test [] h = tt
+pass_each test (i ∷ is) h = (h.0, pass_each test is h.1)
 
-recorded_each : (w : Things) (ls : List Level) → FoundByUndoing w ls → Each (λ (l : Level). Each (λ i. l.touched (changed_by i) ≡ Held.Exclusive) l.records) ls
-recorded_each w [] h = tt
-recorded_each w (l ∷ ls) h = (held_each l.touched l.records h.1, recorded_each l.kept ls h.2)
+recorded_all : (w : Things) (ls : List Level) → FoundByUndoing w ls → AreRecorded ls
+recorded_all w [] h = tt
+recorded_all w (l ∷ ls) h = (
+  λ i among. each_contains (λ i. is_changed_in (l ∷ ls) (changed_by i) ≡ true) l.records i (pass_each (is_changed_in (l ∷ ls)) l.records h.1) among,
+  recorded_all l.kept ls h.2,
+)
 
 kept_told : (w : Things) (ls : List Level) → FoundByUndoing w ls → map (λ (l : Level). l.kept) ls ≡ kept_by_log w (undo_log ls)
 kept_told w [] h = refl
@@ -214,7 +220,7 @@ module _ (m : Meaning) (laws : Laws m) (histories : HistoriesWork m) (k : Kernel
       let x = call_comes i in
       let come = call_has_come i x in
       let works = call_works i x.point x.asked in
-      let undo = call_undoable m k sound undoes own p c is in
+      let undo = call_undoable m k sound laws undoes own p c is in
       let q = x.point.installer in
       record {
         now = works.works.1.0.store;
@@ -224,8 +230,7 @@ module _ (m : Meaning) (laws : Laws m) (histories : HistoriesWork m) (k : Kernel
         different = different_from q (outermost_touched c.levels) c.levels come.shape.grafts;
         paid = λ l contained. each_contains (λ (l : Level). (outermost_touched c.levels (Graft l.owner l.point) ≡ Held.Exclusive) × (outermost_touched c.levels (Acct l.owner) ≡ Held.Exclusive))
             c.levels l (paid_each q (outermost_touched c.levels) c.levels come.shape.grafts come.shape.acct) contained;
-        recorded = λ l i contained has. each_contains (λ i. l.touched (changed_by i) ≡ Held.Exclusive) l.records i
-            (each_contains (λ (l : Level). Each (λ i. l.touched (changed_by i) ≡ Held.Exclusive) l.records) c.levels l (recorded_each c.now.things c.levels undo.found) contained) has;
+        recorded = recorded_all c.now.things c.levels undo.found;
         few = come.shape.few;
         found = λ l contained. each_contains (λ (l : Level). IsSoundStore k.world (record { accounts = c.now.accounts; things = l.kept })) c.levels l
             (found_each k.world k.objects c.now.accounts c.levels works.works.1.1) contained;

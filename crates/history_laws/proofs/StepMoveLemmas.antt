@@ -41,7 +41,7 @@ holds_all =
       args = [];
       records = [];
       kept =
-          record { cell = λ q k. 0; file = λ q k. None; queue = []; cache = record { frame = λ f. None; lru = [] }; lock = λ u. None; pol = λ k. record { chosen = 0; param = λ j. 0 }; seg = λ q pt i. 0; handlers = [] };
+          record { cell = λ q k. 0; file = λ q k. None; queue = []; cache = record { frame = λ f. None; lru = [] }; lock = λ u. None; pol = λ k. record { chosen = 0; param = λ j. 0 }; segment = λ q pt. None; handlers = [] };
     }
 
 -- a store without a graft is sound

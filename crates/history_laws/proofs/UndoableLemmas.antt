@@ -1,20 +1,26 @@
 -- Wherever a history leads, what each level found is what undoing gives.
 use Rattle.std.specs.Prelude.{◌≡◌, ℕ, suc, ◌≤◌, Bool, true, false, List, [], ◌∷◌, length, Option, Some, None}
 use Rattle.std.proofs.Common.{arith, refl, subst, sym, ap, ◌∙◌}
+use Rattle.kernel_model.specs.declared.Held.{Held}
 use Rattle.kernel_model.specs.declared.Need.{Need}
+use Rattle.kernel_model.specs.declared.Object.TheVariants.{Graft}
 use Rattle.kernel_model.specs.declared.Point.{Point}
 use Rattle.kernel_model.specs.World.{World, ImageTable}
 use Rattle.kernel_model.specs.Objects.{Objects}
 use Rattle.kernel_model.specs.Policies.{lives, default_of}
 use Rattle.kernel_model.specs.Meaning.{Meaning, Stage}
+use Rattle.kernel_model.specs.Laws.{Laws}
+use Rattle.kernel_model.specs.Locks.{touch_all, untouched}
 use Rattle.kernel_model.specs.Levels.{Level, Config, Effect}
 use Rattle.kernel_model.specs.GraftStep.{micro}
 use Rattle.kernel_model.specs.History.{Mark, Stepped, Fell, Trace, begin_at, begin_with, first_trace, stepped, effects_on, level_ends, owner_among, mark_on, marks_on, replay}
 use Rattle.kernel_model.specs.Sound.{IsSoundStore, once_if}
 use Rattle.kernel_laws.specs.Undoing.{InversesUndo, ChangesAreOfOneObject, IsOnceIn}
+use Rattle.graft_laws.proofs.HoldLemmas.{outermost_changed}
+use Rattle.history_laws.proofs.ComeLemmas.{graft_held}
 use Rattle.history_laws.proofs.EffectLemmas.{levels_by, accounts_by, levels_inside, config_with, have_been_made}
 use Rattle.history_laws.proofs.FallenLemmas.{no_trace, same_trace, went_where, fell_where}
-use Rattle.history_laws.proofs.RecordLemmas.{FoundByUndoing, StartsAt, CanBeUndone, CanBeUndoneAfter, WhereWent, found_answer, found_effects, instruction_well}
+use Rattle.history_laws.proofs.RecordLemmas.{FoundByUndoing, StartsAt, CanBeUndone, CanBeUndoneAfter, WhereWent, HoldGrafts, found_answer, found_effects, grafts_answer, grafts_effects, instruction_well}
 
 -- a config of a graft call that can be undone
 abbrev pub Undoable : Config → Type 0
@@ -41,9 +47,14 @@ module _ (undoes : InversesUndo) (own : ChangesAreOfOneObject) (v : World) (imag
       let first = levels_inside q es l ls in
       let found = subst (FoundByUndoing w.things) first.1 (found_effects q es w.things (l ∷ ls) h.found) in
       let outer = subst (λ x. FoundByUndoing x (levels_by q es ls)) (first.2.found ∙ starts) found.2 in
+      let grafts = subst HoldGrafts first.1 (grafts_effects q es (l ∷ ls) h.grafts) in
       let d = default_of v w.things first.0.owner first.0.point in
       subst (λ (x : Config). Undoable (level_ends v x.now x.levels)) (sym (made.leads ∙ ap (config_with (accounts_by q es w.accounts) w.things) first.1))
-      (record { found = found_answer first.0.point d.0 d.1 w.things (levels_by q es ls) outer; once = h.once })
+      (record {
+        found = found_answer first.0.point d.0 d.1 w.things (levels_by q es ls) outer;
+        grafts = grafts_answer first.0.point d.0 d.1 (levels_by q es ls) grafts.1;
+        once = h.once;
+      })
 
   mark_undoable : (k : Mark) (t u : Trace) → Undoable t.config → mark_on v images p k t ≡ Some u → Undoable u.config
   mark_undoable Stepped t u h e = (stepped_undoable t u h e).can
@@ -76,11 +87,19 @@ module _ (undoes : InversesUndo) (own : ChangesAreOfOneObject) (v : World) (imag
 
   -- by the point that is asked
   begun_undoable : (s : Objects) (base : List Need) (feed : List ℕ) (ask : Option Point) (ks : List Mark) (u : Trace) → IsSoundStore v s →
+      ((a : Point) → ask ≡ Some a → touch_all base untouched (Graft a.installer a.point) ≡ Held.Exclusive) →
       elim (begin_with images s p base feed ask) as (λ _. Option Trace) [ None ↦ None | Some c ↦ marks_on v images p ks (first_trace c) ] ≡ Some u → Undoable u.config
-  begun_undoable s base feed None ks u h e = absurd (no_trace u e)
-  begun_undoable s base feed (Some a) ks u h e =
-      marks_undoable ks (first_trace (begin_at images s p base feed a)) u (record { found = (refl, tt, tt); once = sound_once s h }) e
+  begun_undoable s base feed None ks u h held e = absurd (no_trace u e)
+  begun_undoable s base feed (Some a) ks u h held e =
+      let c = begin_at images s p base feed a in
+      marks_undoable ks (first_trace c) u (record {
+        found = (refl, tt, tt);
+        grafts = (outermost_changed c.levels (Graft a.installer a.point) (held a refl), tt);
+        once = sound_once s h;
+      }) e
 
   -- wherever a history leads from a sound store, the call can be undone
-  pub replay_undoable : (m : Meaning) (s : Objects) (t : Stage) (ks : List Mark) (u : Trace) → IsSoundStore v s → replay m v images s p t ks ≡ Some u → Undoable u.config
-  replay_undoable m s t ks u h e = begun_undoable s (m.need v s p t) (m.feed t) (m.asks v s p t) ks u h e
+  pub replay_undoable : (m : Meaning) → Laws m → (s : Objects) (t : Stage) (ks : List Mark) (u : Trace) → m.fits v s p t ≡ true → IsSoundStore v s →
+      replay m v images s p t ks ≡ Some u → Undoable u.config
+  replay_undoable m laws s t ks u fits h e =
+      begun_undoable s (m.need v s p t) (m.feed t) (m.asks v s p t) ks u h (λ a asked. graft_held m laws v s p t a fits asked) e

@@ -6,11 +6,10 @@ use Rattle.std.proofs.lemmas.Bool.{cases_Bool, eqb-true}
 use Rattle.std.proofs.lemmas.Bool.Decides.{nat_tests}
 use Rattle.std.proofs.lemmas.List.{append-nil}
 use Rattle.std.proofs.lemmas.List.Elements.{All-contains, All-from_recursion}
-use Rattle.kernel_model.specs.declared.Held.{Held}
 use Rattle.kernel_model.specs.declared.Object.{Object}
 use Rattle.kernel_model.specs.World.{processes}
 use Rattle.kernel_model.specs.Objects.{Objects, Things, SameThing, mix_accounts}
-use Rattle.kernel_model.specs.Access.{changed_by, Found}
+use Rattle.kernel_model.specs.Access.{Found}
 use Rattle.kernel_model.specs.Locks.{is_held_exclusively}
 use Rattle.kernel_model.specs.Meaning.{Meaning}
 use Rattle.kernel_model.specs.Levels.{Level, Config, level_at}
@@ -20,10 +19,11 @@ use Rattle.kernel_model.specs.Blocking.{levels_in, config_of, levels_of}
 use Rattle.kernel_model.specs.InPlace.{Cut, no_cut, is_changed_in, kept_of, cut_state, over, undo_cut, store_with, store_below, in_place, undone}
 use Rattle.kernel_model.specs.Sound.{IsSoundKernel, count_of}
 use Rattle.kernel_model.specs.Claims.{UndoneIsBelow}
+use Rattle.kernel_model.specs.Laws.{Laws}
 use Rattle.kernel_laws.specs.Undoing.{InversesUndo, InversesChangeOneObject, ChangesAreOfOneObject}
 use Rattle.graft_laws.proofs.ObjectLemmas.{undo_all_keeps}
-use Rattle.history_laws.proofs.InverseLemmas.{thing_self, thing_then, thing_back, thing_of, at_of, AllPass, pass_both, undo_all_other}
-use Rattle.history_laws.proofs.RecordLemmas.{AreHeldBy, FoundByUndoing, undo_both}
+use Rattle.history_laws.proofs.InverseLemmas.{thing_self, thing_then, thing_back, thing_of, at_of, AllPass, pass_both, pass_more, undo_all_other}
+use Rattle.history_laws.proofs.RecordLemmas.{FoundByUndoing, undo_both}
 use Rattle.history_laws.proofs.UndoableLemmas.{Undoable}
 use Rattle.history_laws.proofs.InPlaceLemmas.{store_other, store_own, caller_stands, call_undoable, changer_config, others_apart, changer}
 
@@ -116,22 +116,10 @@ cut_undone (Some d) c h = elim (cases_Bool (nat_le (length c.levels) d)) [
 
 -- ---- records change what is held exclusively
 
--- inverses whose objects pass one test pass another
-pass_more : (f g : Object → Bool) (is : List Found) → ((o : Object) → f o ≡ true → g o ≡ true) → AllPass f is → AllPass g is
-pass_more f g [] more h = tt
-pass_more f g (i ∷ is) more h = (more (changed_by i) h.0, pass_more f g is more h.1)
-
-own_pass : (l : Level) (ls : List Level) (is : List Found) → AreHeldBy l.touched is → AllPass (is_changed_in (l ∷ ls)) is
-own_pass l ls [] h = tt
-own_pass l ls (i ∷ is) h = (held_changed (l.touched (changed_by i)) (is_changed_in ls (changed_by i)) h.0, own_pass l ls is h.1)
-  where
-    held_changed : (x : Held) (b : Bool) → x ≡ Held.Exclusive → (is_held_exclusively x || b) ≡ true
-    held_changed x b e = ap (λ y. is_held_exclusively y || b) e
-
 records_pass : (d : ℕ) (ls : List Level) (w : Things) → FoundByUndoing w ls → AllPass (is_changed_in ls) (records_from d (undo_log ls))
 records_pass d [] w h = tt
 records_pass d (l ∷ ls) w h = pass_by (nat_le d (length (undo_log ls)))
-    (pass_both (is_changed_in (l ∷ ls)) l.records (records_from d (undo_log ls)) (own_pass l ls l.records h.1)
+    (pass_both (is_changed_in (l ∷ ls)) l.records (records_from d (undo_log ls)) h.1
     (pass_more (is_changed_in ls) (is_changed_in (l ∷ ls)) (records_from d (undo_log ls)) (λ o e. or_passes (is_held_exclusively (l.touched o)) (is_changed_in ls o) e) (records_pass d ls l.kept h.2)))
   where
     or_passes : (a b : Bool) → b ≡ true → (a || b) ≡ true
@@ -201,7 +189,7 @@ module _ (m : Meaning) (k : Kernel) (cut : Cut) where
       over_by (Some c) d h =
           ap (λ a. mix_accounts (is_changed_in c.levels) a (store_with m k cut ps).accounts) (now_accounts d c) ∙ ap (mix_accounts (is_changed_in c.levels) c.now.accounts) h
 
-  module _ (undoes : InversesUndo) (one : InversesChangeOneObject) (own : ChangesAreOfOneObject) (sound : IsSoundKernel m k) where
+  module _ (laws : Laws m) (undoes : InversesUndo) (one : InversesChangeOneObject) (own : ChangesAreOfOneObject) (sound : IsSoundKernel m k) where
     -- ---- things
 
     -- undoing a call that didn't change an object leaves it
@@ -210,7 +198,7 @@ module _ (m : Meaning) (k : Kernel) (cut : Cut) where
       where
         other_by : (x : Option Config) → config_of m k p ≡ x → is_changed_in (levels_in x) o ≡ false → SameThing o (undo_cut (cut p) (levels_in x) s).things s.things
         other_by None e none = cut_other one (cut p) [] s.things o s tt none
-        other_by (Some c) e none = cut_other one (cut p) c.levels c.now.things o s (call_undoable m k sound undoes own p c e).found none
+        other_by (Some c) e none = cut_other one (cut p) c.levels c.now.things o s (call_undoable m k sound laws undoes own p c e).found none
 
     -- what no call changed is as in place
     undone_none : (ps : List ℕ) (o : Object) → ((p : ℕ) → is_changed_in (levels_of m k p) o ≡ false) → SameThing o (undone m k cut ps).things (in_place m k).things
@@ -284,7 +272,7 @@ module _ (m : Meaning) (k : Kernel) (cut : Cut) where
         let placed = thing_of o (in_place m k) c.now (store_own m k o no_cut processes p c stands f.1 f.2 others) in
         let below = thing_of o (store_below m k cut) (cut_state (cut p) c) (store_own m k o cut processes p c stands f.1 f.2 others) in
         let records = cut_same (cut p) c.levels o (in_place m k) c.now placed in
-        let led = subst (SameThing o (undo_cut (cut p) c.levels (in_place m k)).things) (cut_undone (cut p) c (call_undoable m k sound undoes own p c f.1)) records in
+        let led = subst (SameThing o (undo_cut (cut p) c.levels (in_place m k)).things) (cut_undone (cut p) c (call_undoable m k sound laws undoes own p c f.1)) records in
         let gone = subst (λ x. SameThing o (undone m k cut ps).things (undo_cut (cut p) (levels_in x) (in_place m k)).things) f.1 (undone_own ps p o changed most cuts) in
         thing_then o (undone m k cut ps).things (undo_cut (cut p) c.levels (in_place m k)).things (store_below m k cut).things gone
         (thing_then o (undo_cut (cut p) c.levels (in_place m k)).things (cut_state (cut p) c).things (store_below m k cut).things led
@@ -309,4 +297,4 @@ module _ (m : Meaning) (k : Kernel) (cut : Cut) where
 pub undone_is_below : InversesUndo → InversesChangeOneObject → ChangesAreOfOneObject → (m : Meaning) → UndoneIsBelow m
 undone_is_below undoes one own m k cut ps o laws sound most cuts =
     at_of o (undone m k cut ps) (store_below m k cut) (undone_accounts m k cut ps ∙ sym (below_accounts m k cut processes))
-    (things_below m k cut undoes one own sound ps o most cuts)
+    (things_below m k cut laws undoes one own sound ps o most cuts)

@@ -11,14 +11,14 @@ use Rattle.kernel_model.specs.declared.OpenRow.{OpenRow}
 use Rattle.kernel_model.specs.World.{World}
 use Rattle.kernel_model.specs.Objects.{Objects, Accounts, Things, FrameValue, PolValue, at, at2}
 use Rattle.kernel_model.specs.Policies.{lives, frames_of}
-use Rattle.kernel_model.specs.Access.{Access, Gives, Changes, Refuses, Callable, CellGet, CellSet, NiceGet, NiceSet, WindowGet, WindowSet, FramesMine, FrameAt, FrameBlock, FrameMark, TuneGet, TuneSet, TakeLock, callable, access_by, early_refusal, with_nice, with_window, with_mark, with_param, set_cell, set_nice, set_window, set_mark, set_param, own_frame, window_change, tune_change, param_top, in_range, chosen_param}
+use Rattle.kernel_model.specs.Access.{Access, Gives, Changes, Refuses, Callable, CellGet, CellSet, NiceGet, NiceSet, WindowGet, WindowSet, FramesMine, FrameAt, FrameBlock, FrameMark, TuneGet, TuneSet, TakeLock, callable, access_by, early_refusal, with_nice, with_window, with_mark, with_param, set_cell, set_nice, set_window, set_mark, set_param, set_segment, own_frame, window_change, tune_change, param_top, in_range, chosen_param}
 use Rattle.kernel_model.specs.Sound.{IsSoundFile, IsSoundFrame}
 use Rattle.kernel_model.specs.Alike.{windowless, markless, niceless}
 use Rattle.plain_rules.specs.Rows.{NicesFit}
 use Rattle.plain_rules.specs.SoundStores.{store_with_cell, store_with_file, store_with_cache, store_with_policy, store_with_queue}
 use Rattle.plain_rules.specs.SoundCaches.{cache_of_store, sound_reframed, block_at}
 use Rattle.plain_rules.specs.KeepingStore.{tuned_policy}
-use Rattle.kernel_laws.proofs.StoreLemmas.{found_at}
+use Rattle.kernel_laws.proofs.StoreLemmas.{found_at, segment_store}
 use Rattle.kernel_laws.proofs.UndoingLemmas.{nice_count}
 use Rattle.kernel_laws.specs.Soundness.{IsGraftsWork}
 
@@ -221,6 +221,15 @@ module _ (v : World) (s : Objects) (a : Accounts) where
           locks = l.locks;
           policies = λ i. l.policies i ∙ sym (param_alike kind n i w.pol);
         };
+      }
+
+  -- another segment is kept
+  pub segment_work : (q pt : ℕ) (bytes : Option (ℕ → ℕ)) (w : Things) → IsGraftsWork v s a w → q < 16 → pt < 16 → IsGraftsWork v s a (set_segment q pt bytes w)
+  segment_work q pt bytes w h process point =
+      let l = h.alike in
+      record {
+        store = segment_store v (record { accounts = a; things = w }) q pt bytes h.store process point;
+        alike = record { files = l.files; queue = l.queue; handlers = l.handlers; lru = l.lru; frames = l.frames; locks = l.locks; policies = l.policies };
       }
 
   gives_work : (o : Option OpenRow) (id : ℕ) →

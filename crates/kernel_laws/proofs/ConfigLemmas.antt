@@ -21,16 +21,17 @@ use Rattle.kernel_model.specs.Objects.{Objects, Accounts, Things, GraftValue, wi
 use Rattle.kernel_model.specs.Machine.{Machine, Done, Called, Returned, Trapped, Outside, PastEnd, seg_step}
 use Rattle.kernel_model.specs.Policies.{valid, kind_of, default_of, args_by}
 use Rattle.kernel_model.specs.Charges.{funds, charge, charge_by, charge_account, charge_graft, taken_from, removed, removed_by}
-use Rattle.kernel_model.specs.Access.{Found, bare_found, object_of_inverse, Access, Gives, Changes, Refuses, access, early_refusal, is_ask, accessed, needed, asked_point, asked_objects, changed_by, undo}
+use Rattle.kernel_model.specs.Access.{Found, bare_found, found_segment, set_segment, object_of_inverse, Access, Gives, Changes, Refuses, access, early_refusal, is_ask, accessed, needed, asked_point, asked_objects, changed_by, undo}
 use Rattle.kernel_model.specs.UndoLog.{undo_all, undo_log, kept_by_log}
-use Rattle.kernel_model.specs.Locks.{Touched, touch, joined, untouched}
-use Rattle.kernel_model.specs.Levels.{Level, Outcome, code_of, new_level, with_machine, with_touched, touch_outermost, outermost_touched, answered, answer_innermost, state_without, drop_innermost}
-use Rattle.kernel_model.specs.GraftStep.{after_access, is_lock_due, lock_paid, after_result, record_count, is_record_spent, after_change, after_accessor, is_vain_ask, is_running, ask_refusal, ask_answered, after_ask, granted_call, after_call, completed, after_return, after_machine, is_spent, charged_step, micro_on}
+use Rattle.kernel_model.specs.Locks.{Touched, touch, joined, untouched, is_held_exclusively}
+use Rattle.kernel_model.specs.Levels.{Level, Outcome, code_of, image_of, keeps_in, new_level, with_machine, with_touched, touch_outermost, outermost_touched, answered, answer_innermost, state_without, drop_innermost}
+use Rattle.kernel_model.specs.GraftStep.{after_access, is_lock_due, lock_paid, after_result, record_count, is_record_spent, after_change, after_accessor, is_vain_ask, is_running, ask_refusal, ask_answered, after_ask, granted_call, after_call, completed, after_keeping, after_answer, after_return, after_machine, is_spent, charged_step, micro_on}
+use Rattle.kernel_model.specs.InPlace.{is_changed_in}
 use Rattle.kernel_laws.specs.Soundness.{found_by}
 use Rattle.kernel_laws.specs.Undoing.{IsOnceIn, LeadsBack, ChangesItsObject}
 use Rattle.kernel_laws.proofs.StoreLemmas.{found_at}
-use Rattle.kernel_laws.proofs.UndoingLemmas.{inverses_undo, changes_are_of_one_object}
-use Rattle.kernel_laws.proofs.LevelLemmas.{IsHeld, AreHeld, KeepOn, keep_self, keep_touch, keep_answer, keep_then, keep_outermost, held_on, each_on, running_on, length_on, stronger_left, stronger_right, touch_all_holds, touch_here, each_contains}
+use Rattle.kernel_laws.proofs.UndoingLemmas.{inverses_undo, changes_are_of_one_object, segment_back}
+use Rattle.kernel_laws.proofs.LevelLemmas.{IsHeld, AreHeld, KeepOn, keep_self, keep_touch, keep_answer, keep_then, keep_outermost, held_on, each_on, running_on, length_on, stronger_left, stronger_right, touch_all_holds, touch_here, each_contains, either, held_so, inner_changed, outside_changed, outer_changed, changed_on}
 
 -- ---- accounts
 
@@ -60,7 +61,7 @@ each_standing : (t : Touched) (a b : Accounts) (ls : List Level) → ((q pt : �
     Each (IsHeld t a) ls → Each (IsHeld t b) ls
 each_standing t a b [] h each = tt
 each_standing t a b (l ∷ ls) h each =
-    (record { stands = h l.owner l.point each.0.stands; graft = each.0.graft; acct = each.0.acct; recorded = each.0.recorded }, each_standing t a b ls h each.1)
+    (record { stands = h l.owner l.point each.0.stands; graft = each.0.graft; acct = each.0.acct }, each_standing t a b ls h each.1)
 
 -- neither of two tests passes
 neither : (b c : Bool) → (b || c) ≡ false → (b ≡ false) × (c ≡ false)
@@ -72,7 +73,7 @@ each_left : (t : Touched) (a : Accounts) (q pt : ℕ) (ls : List Level) → is_r
 each_left t a q pt [] other each = tt
 each_left t a q pt (l ∷ ls) other each =
     let both = neither (l.owner == q && l.point == pt) (is_running ls q pt) other in (
-      record { stands = remove_stands a q pt l.owner l.point both.0 each.0.stands; graft = each.0.graft; acct = each.0.acct; recorded = each.0.recorded },
+      record { stands = remove_stands a q pt l.owner l.point both.0 each.0.stands; graft = each.0.graft; acct = each.0.acct },
       each_left t a q pt ls both.1 each.1,
     )
 
@@ -142,6 +143,7 @@ outside_held w l ls h =
     record {
       each = each_outside w.accounts l ls h.each.1;
       apart = h.apart.1;
+      recorded = h.recorded.1;
       few = fewer (length l.records) (record_count ls) h.few;
       most = one_less (length ls) h.most;
       kept = rest ∙ ap (λ x. kept_by_log x (undo_log ls)) (sym first);
@@ -161,6 +163,7 @@ drop_held v w l ls cause h =
     held_on (state_without l w) (answer_innermost l.point d.0 d.1 ls) ls (keep_answer l.point d.0 d.1 ls) (record {
       each = each_left (outermost_touched ls) w.accounts l.owner l.point ls h.apart.0 k.each;
       apart = k.apart;
+      recorded = k.recorded;
       few = k.few;
       most = k.most;
       kept = k.kept;
@@ -172,6 +175,7 @@ charged_held w ls q pt k h =
     record {
       each = each_standing (outermost_touched ls) w.accounts (charge k q pt w.accounts) ls (λ r pu. charge_stands w.accounts q pt r pu k) h.each;
       apart = h.apart;
+      recorded = h.recorded;
       few = h.few;
       most = h.most;
       kept = h.kept;
@@ -189,7 +193,7 @@ machine_keeps l ls m = (record { owner = refl; point = refl; records = refl; kep
 
 -- a record more of the innermost level
 recorded_held : (a : Accounts) (w u : Things) (l : Level) (ls : List Level) (i : Found) → AreHeld (record { accounts = a; things = w }) (l ∷ ls) → undo i u ≡ w →
-    l.touched (changed_by i) ≡ Held.Exclusive → (record_count (l ∷ ls) == 64) ≡ false → AreHeld (record { accounts = a; things = u }) (record l { records = i ∷ l.records } ∷ ls)
+    is_changed_in (l ∷ ls) (changed_by i) ≡ true → (record_count (l ∷ ls) == 64) ≡ false → AreHeld (record { accounts = a; things = u }) (record l { records = i ∷ l.records } ∷ ls)
 recorded_held a w u l ls i h leads held room =
     record {
       each = subst (λ t. Each (IsHeld t a) (record l { records = i ∷ l.records } ∷ ls)) (sym (outermost_records l (i ∷ l.records) ls)) (
@@ -197,14 +201,17 @@ recorded_held a w u l ls i h leads held room =
           stands = h.each.0.stands;
           graft = h.each.0.graft;
           acct = h.each.0.acct;
-          recorded = λ j c. elim (Contains-append_cases (i ∷ []) l.records j c) [
-            | inl one ↦ ap (λ x. l.touched (changed_by x)) (sym (only_one i j one)) ∙ held
-            | inr old ↦ h.each.0.recorded j old
-          ];
         },
         h.each.1,
       );
       apart = h.apart;
+      recorded = (
+        λ j c. elim (Contains-append_cases (i ∷ []) l.records j c) [
+          | inl one ↦ ap (λ x. is_changed_in (l ∷ ls) (changed_by x)) (sym (only_one i j one)) ∙ held
+          | inr old ↦ h.recorded.0 j old
+        ],
+        h.recorded.1,
+      );
       few = one_more (length l.records) (record_count ls) h.few room;
       most = h.most;
       kept = h.kept ∙ ap (λ x. kept_by_log x (l.records ∷ undo_log ls)) (sym leads);
@@ -237,7 +244,8 @@ module _ (v : World) where
       let a = charge Records l.owner l.point w.accounts in
       let k = held_on (record { accounts = a; things = w.things }) (n ∷ ls) (l ∷ ls) (access_keeps l ls m id result) (charged_held w (l ∷ ls) l.owner l.point Records h) in
       recorded_held a w.things u n ls (bare_found i) k leads
-      (subst (λ (x : Need). touch x.object x.mode l.touched (object_of_inverse i) ≡ Held.Exclusive) (sym needs) (touch_here (object_of_inverse i) l.touched))
+      (inner_changed n ls (object_of_inverse i)
+      (subst (λ (x : Need). touch x.object x.mode l.touched (object_of_inverse i) ≡ Held.Exclusive) (sym needs) (touch_here (object_of_inverse i) l.touched)))
       (neither (funds w.accounts l.owner l.point Records == 0) (record_count (l ∷ ls) == 64) e).1
 
   accessor_held : (w : Objects) (l : Level) (ls : List Level) (m : Machine) (id : ℕ) (x : Access) → AreHeld w (l ∷ ls) → LeadsBack w.things x →
@@ -255,8 +263,9 @@ new_held : (w : Objects) (n : Level) (ks : List Level) → 1 ≤ length ks → A
 new_held w n ks some h none found stands graft acct other room =
     record {
       each = subst (λ t. Each (IsHeld t w.accounts) (n ∷ ks)) (sym (outermost_inside n ks some))
-          (record { stands = stands; graft = graft; acct = acct; recorded = λ i c. absurd (nothing i (subst (λ is. Contains is i) none c)) }, h.each);
+          (record { stands = stands; graft = graft; acct = acct }, h.each);
       apart = (other, h.apart);
+      recorded = (λ i c. absurd (nothing i (subst (λ is. Contains is i) none c)), h.recorded);
       few = subst (λ (is : List Found). length is + record_count ks ≤ 64) (sym none) (same_count (record_count ks) h.few);
       most = room;
       kept = ap (λ x. x ∷ found_by ks) found ∙ ap (λ ws. w.things ∷ ws) h.kept ∙ ap (λ is. kept_by_log w.things (is ∷ undo_log ks)) (sym none);
@@ -329,10 +338,21 @@ module _ (v : World) (images : ImageTable) (p : ℕ) where
   call_held w l ls m id (Some cause) h once = drop_held v w l ls cause h
   call_held w l ls m id None h once = granted_held w l ls m id (is_ask id) h once
 
+  -- what the innermost level or one outside it held exclusively is held so by its asker, or one outside that
+  joined_changed : (l asker n : Level) (rest : List Level) (o : Object) → n.touched o ≡ joined l.touched asker.touched o → is_changed_in (l ∷ asker ∷ rest) o ≡ true →
+      is_changed_in (n ∷ rest) o ≡ true
+  joined_changed l asker n rest o same h = elim (either (is_held_exclusively (l.touched o)) (is_changed_in (asker ∷ rest) o) h) [
+    | inl own ↦ inner_changed n rest o (same ∙ stronger_left (l.touched o) (asker.touched o) (held_so (l.touched o) own))
+    | inr outside ↦ elim (either (is_held_exclusively (asker.touched o)) (is_changed_in rest o) outside) [
+      | inl old ↦ inner_changed n rest o (same ∙ stronger_right (l.touched o) (asker.touched o) (held_so (asker.touched o) old))
+      | inr further ↦ outside_changed n rest o further
+    ]
+  ]
+
   -- the innermost level's records and holds go to its asker
   completed_held : (w : Objects) (l : Level) (ls : List Level) → AreHeld w (l ∷ ls) → HeldAfter (completed w l ls)
   completed_held w l [] h =
-      record { each = tt; apart = tt; few = zero_few; most = zero_most; kept = refl }
+      record { each = tt; apart = tt; recorded = tt; few = zero_few; most = zero_most; kept = refl }
     where
       zero_few : 0 ≤ 64
       zero_few = omega arith
@@ -354,14 +374,17 @@ module _ (v : World) (images : ImageTable) (p : ℕ) where
             stands = each.0.stands;
             graft = each.0.graft;
             acct = each.0.acct;
-            recorded = λ i c. elim (Contains-append_cases l.records asker.records i c) [
-              | inl own ↦ stronger_left (l.touched (changed_by i)) (asker.touched (changed_by i)) (h.each.0.recorded i own)
-              | inr old ↦ stronger_right (l.touched (changed_by i)) (asker.touched (changed_by i)) (h.each.1.0.recorded i old)
-            ];
           },
           each.1,
         );
         apart = h.apart.1;
+        recorded = (
+          λ i c. elim (Contains-append_cases l.records asker.records i c) [
+            | inl own ↦ joined_changed l asker n rest (changed_by i) refl (h.recorded.0 i own)
+            | inr old ↦ changed_on (n ∷ rest) (asker ∷ rest) (changed_by i) keep (h.recorded.1.0 i old)
+          ],
+          h.recorded.1.1,
+        );
         few = both_few (length l.records) (length asker.records) (length (l.records ++ asker.records)) (record_count rest) (length-append l.records asker.records) h.few;
         most = one_less (length rest) h.most;
         kept = rest_found ∙ ap (λ x. x ∷ kept_by_log x log) (sym (undo_both l.records asker.records w.things));
@@ -373,8 +396,24 @@ module _ (v : World) (images : ImageTable) (p : ℕ) where
       one_less : (n : ℕ) → suc (suc n) ≤ 4 → suc n ≤ 4
       one_less n h = omega arith
 
-  return_held : (w : Objects) (l : Level) (ls : List Level) (b : Bool) → AreHeld w (l ∷ ls) → HeldAfter (after_return v w l ls b)
-  return_held w l ls true h = completed_held w l ls h
+  -- the segment is kept, and a record made of what was kept before
+  keeping_held : (w : Objects) (l : Level) (ls : List Level) (spent : Bool) → is_record_spent w.accounts l ls ≡ spent → AreHeld w (l ∷ ls) → HeldAfter (after_keeping v w l ls spent)
+  keeping_held w l ls true e h = drop_held v w l ls SpentRecords h
+  keeping_held w l ls false e h =
+      let a = charge Records l.owner l.point w.accounts in
+      let u = set_segment l.owner l.point (Some l.machine.memory) w.things in
+      let i = found_segment l.owner l.point w.things in
+      completed_held (record { accounts = a; things = u }) (record l { records = i ∷ l.records }) ls
+      (recorded_held a w.things u l ls i (charged_held w (l ∷ ls) l.owner l.point Records h) (segment_back l.owner l.point (Some l.machine.memory) w.things)
+      (outer_changed (l ∷ ls) (Graft l.owner l.point) h.each.0.graft)
+      (neither (funds w.accounts l.owner l.point Records == 0) (record_count (l ∷ ls) == 64) e).1)
+
+  answer_held : (w : Objects) (l : Level) (ls : List Level) (keeps : Bool) → AreHeld w (l ∷ ls) → HeldAfter (after_answer v w l ls keeps)
+  answer_held w l ls true h = keeping_held w l ls (is_record_spent w.accounts l ls) refl h
+  answer_held w l ls false h = completed_held w l ls h
+
+  return_held : (w : Objects) (l : Level) (ls : List Level) (b : Bool) → AreHeld w (l ∷ ls) → HeldAfter (after_return v images w l ls b)
+  return_held w l ls true h = answer_held w l ls (keeps_in (image_of images (w.accounts.graft l.owner l.point))) h
   return_held w l ls false h = drop_held v w l ls (RefusedAnswer (l.machine.regs 0) (l.machine.regs 1)) h
 
   -- ---- one instruction

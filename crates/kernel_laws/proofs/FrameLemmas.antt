@@ -1,5 +1,5 @@
 -- An instruction changes nothing but what some level holds exclusively.
-use Rattle.std.specs.Prelude.{◌≡◌, ◌≢◌, ℕ, suc, ◌+◌, ◌<◌, ◌==◌, ◌||◌, Bool, true, false, List, [], ◌∷◌, length, Option, Some, None, Contains}
+use Rattle.std.specs.Prelude.{◌≡◌, ◌≢◌, ℕ, suc, ◌+◌, ◌<◌, ◌==◌, Bool, true, false, List, [], ◌∷◌, length, Option, Some, None, Contains}
 use Rattle.std.proofs.Common.{arith, refl, subst, sym, ap, ◌∙◌, inl, inr}
 use Rattle.std.proofs.lemmas.List.Elements.{Contains-append_right}
 use Rattle.kernel_model.specs.declared.Held.{Held}
@@ -8,6 +8,7 @@ use Rattle.kernel_model.specs.declared.Kind.TheVariants.{Steps, Records, Locks}
 use Rattle.kernel_model.specs.declared.Cause.{Cause}
 use Rattle.kernel_model.specs.declared.Cause.TheVariants.{SpentSteps, SpentRecords, SpentLocks, RefusedAnswer}
 use Rattle.kernel_model.specs.declared.Inverse.{Inverse}
+use Rattle.kernel_model.specs.declared.Inverse.TheVariants.{Segment}
 use Rattle.kernel_model.specs.declared.Mode.{Mode}
 use Rattle.kernel_model.specs.declared.Need.{Need}
 use Rattle.kernel_model.specs.declared.Object.{Object}
@@ -17,11 +18,11 @@ use Rattle.kernel_model.specs.Objects.{Objects, Accounts, Things, GraftValue, Sa
 use Rattle.kernel_model.specs.Machine.{Machine, Done, Called, Returned, Trapped, Outside, PastEnd, seg_step}
 use Rattle.kernel_model.specs.Policies.{valid}
 use Rattle.kernel_model.specs.Charges.{funds, pay, spend, taken_from, returned, charge, charge_by, charge_account, charge_graft, removed, removed_by}
-use Rattle.kernel_model.specs.Access.{Found, bare_found, object_of_inverse, Access, Gives, Changes, Refuses, access, early_refusal, is_ask, accessed, needed, asked_point, asked_objects, asked_graft, changed_by, undo}
+use Rattle.kernel_model.specs.Access.{Found, bare_found, found_segment, set_segment, object_of_inverse, Access, Gives, Changes, Refuses, access, early_refusal, is_ask, accessed, needed, asked_point, asked_objects, asked_graft, changed_by, undo}
 use Rattle.kernel_model.specs.UndoLog.{undo_all, undo_log, kept_by_log}
-use Rattle.kernel_model.specs.Locks.{touch, is_held_exclusively}
-use Rattle.kernel_model.specs.Levels.{Level, Outcome, code_of, with_machine, with_touched, touch_outermost, outermost_touched, drop_innermost}
-use Rattle.kernel_model.specs.GraftStep.{after_access, is_lock_due, lock_paid, after_result, is_record_spent, after_change, after_accessor, ask_refusal, ask_answered, after_ask, granted_call, after_call, completed, after_return, after_machine, is_spent, charged_step, micro_on}
+use Rattle.kernel_model.specs.Locks.{touch}
+use Rattle.kernel_model.specs.Levels.{Level, Outcome, code_of, image_of, keeps_in, with_machine, with_touched, touch_outermost, drop_innermost}
+use Rattle.kernel_model.specs.GraftStep.{after_access, is_lock_due, lock_paid, after_result, is_record_spent, after_change, after_accessor, ask_refusal, ask_answered, after_ask, granted_call, after_call, completed, after_keeping, after_answer, after_return, after_machine, is_spent, charged_step, micro_on}
 use Rattle.kernel_model.specs.InPlace.{is_changed_in}
 use Rattle.kernel_model.specs.Claims.{ChangesWhatIsHeld}
 use Rattle.plain_rules.specs.Ledgers.{at_other}
@@ -29,7 +30,7 @@ use Rattle.kernel_laws.specs.Undoing.{ChangesItsObject}
 use Rattle.kernel_laws.specs.Soundness.{found_by}
 use Rattle.kernel_laws.proofs.StoreLemmas.{found_at}
 use Rattle.kernel_laws.proofs.UndoingLemmas.{inverses_change_one_object, changes_are_of_one_object}
-use Rattle.kernel_laws.proofs.LevelLemmas.{AreHeld, touch_here, held_on, keep_self}
+use Rattle.kernel_laws.proofs.LevelLemmas.{AreHeld, touch_here, held_on, keep_self, inner_changed, outer_changed}
 use Rattle.kernel_laws.proofs.ConfigLemmas.{first_of_found, charged_held}
 use Rattle.kernel_laws.proofs.SoundConfigLemmas.{sound_held}
 
@@ -137,22 +138,6 @@ remove_differs q pt a = differs_by (a.graft q pt)
 contrary : true ≡ false → ⊥
 contrary h = cc
 
--- what the innermost level, or level 0, holds exclusively is changed
-inner_changed : (l : Level) (ls : List Level) (o : Object) → l.touched o ≡ Held.Exclusive → is_changed_in (l ∷ ls) o ≡ true
-inner_changed l ls o h = ap (λ x. is_held_exclusively x || is_changed_in ls o) h
-
-outer_changed : (ls : List Level) (o : Object) → outermost_touched ls o ≡ Held.Exclusive → is_changed_in ls o ≡ true
-outer_changed [] o h = absurd (free_not h)
-  where
-    free_not : Held.Free ≡ Held.Exclusive → ⊥
-    free_not h = cc
-outer_changed (l ∷ []) o h = inner_changed l [] o h
-outer_changed (l ∷ k ∷ ls) o h = ap (λ b. is_held_exclusively (l.touched o) || b) (outer_changed (k ∷ ls) o h) ∙ or_true (is_held_exclusively (l.touched o))
-  where
-    or_true : (b : Bool) → (b || true) ≡ true
-    or_true true = refl
-    or_true false = refl
-
 -- what isn't changed is another object
 other_than : (ls : List Level) (o x : Object) → is_changed_in ls o ≡ false → is_changed_in ls x ≡ true → o ≢ x
 other_than ls o x none some e = contrary (sym some ∙ ap (is_changed_in ls) (sym e) ∙ none)
@@ -191,7 +176,7 @@ module _ (v : World) (o : Object) where
       (other_than (l ∷ ls) o (Graft l.owner l.point) none (outer_changed (l ∷ ls) (Graft l.owner l.point) h.each.0.graft))
       (other_than (l ∷ ls) o (Acct l.owner) none (outer_changed (l ∷ ls) (Acct l.owner) h.each.0.acct)))
       (subst (λ x. SameThing o x w.things) (sym first)
-      (undo_frame l.records w.things o (λ i c. other_than (l ∷ ls) o (changed_by i) none (inner_changed l ls (changed_by i) (h.each.0.recorded i c)))))
+      (undo_frame l.records w.things o (λ i c. other_than (l ∷ ls) o (changed_by i) none (h.recorded.0 i c))))
 
   lock_leaves : (w : Objects) (l : Level) (ls : List Level) (m : Machine) (id result : ℕ) (spent : Bool) → AreHeld w (l ∷ ls) → is_changed_in (l ∷ ls) o ≡ false →
       Leaves o w (lock_paid v w l ls m id result spent)
@@ -252,8 +237,26 @@ module _ (v : World) (o : Object) where
     completed_leaves w l [] = λ after. same_self o w
     completed_leaves w l (asker ∷ rest) = λ after. same_self o w
 
-    return_leaves : (w : Objects) (l : Level) (ls : List Level) (b : Bool) → AreHeld w (l ∷ ls) → is_changed_in (l ∷ ls) o ≡ false → Leaves o w (after_return v w l ls b)
-    return_leaves w l ls true h none = completed_leaves w l ls
+    keeping_leaves : (w : Objects) (l : Level) (ls : List Level) (spent : Bool) → AreHeld w (l ∷ ls) → is_changed_in (l ∷ ls) o ≡ false → Leaves o w (after_keeping v w l ls spent)
+    keeping_leaves w l ls true h none = drop_leaves w l ls SpentRecords h none
+    keeping_leaves w l ls false h none = λ after.
+        let a = charge Records l.owner l.point w.accounts in
+        let u = set_segment l.owner l.point (Some l.machine.memory) w.things in
+        let n = record l { records = found_segment l.owner l.point w.things ∷ l.records } in
+        let graft = other_than (l ∷ ls) o (Graft l.owner l.point) none (outer_changed (l ∷ ls) (Graft l.owner l.point) h.each.0.graft) in
+        let acct = other_than (l ∷ ls) o (Acct l.owner) none (outer_changed (l ∷ ls) (Acct l.owner) h.each.0.acct) in
+        same_then o (completed (record { accounts = a; things = u }) n ls).config.now (record { accounts = a; things = u }) w
+        (completed_leaves (record { accounts = a; things = u }) n ls after)
+        (same_parts o a w.accounts u w.things
+        (differ_frame l.owner l.point a w.accounts u o (charge_differs Records l.owner l.point w.accounts) graft acct)
+        (inverses_change_one_object (record { inverse = Segment l.owner l.point; bytes = Some l.machine.memory }) o w.things graft))
+
+    answer_leaves : (w : Objects) (l : Level) (ls : List Level) (keeps : Bool) → AreHeld w (l ∷ ls) → is_changed_in (l ∷ ls) o ≡ false → Leaves o w (after_answer v w l ls keeps)
+    answer_leaves w l ls true h none = keeping_leaves w l ls (is_record_spent w.accounts l ls) h none
+    answer_leaves w l ls false h none = completed_leaves w l ls
+
+    return_leaves : (w : Objects) (l : Level) (ls : List Level) (b : Bool) → AreHeld w (l ∷ ls) → is_changed_in (l ∷ ls) o ≡ false → Leaves o w (after_return v images w l ls b)
+    return_leaves w l ls true h none = answer_leaves w l ls (keeps_in (image_of images (w.accounts.graft l.owner l.point))) h none
     return_leaves w l ls false h none = drop_leaves w l ls (RefusedAnswer (l.machine.regs 0) (l.machine.regs 1)) h none
 
     machine_leaves : (w : Objects) (l : Level) (ls : List Level) (x : Done) → AreHeld w (l ∷ ls) → is_changed_in (l ∷ ls) o ≡ false →

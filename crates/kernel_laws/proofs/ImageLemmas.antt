@@ -1,5 +1,5 @@
 -- An instruction is the same once more images are loaded.
-use Rattle.std.specs.Prelude.{◌≡◌, ℕ, ◌+◌, Bool, true, false, List, [], ◌∷◌, length, slice_get, Option, Some, None, is_some}
+use Rattle.std.specs.Prelude.{◌≡◌, ℕ, ◌+◌, Bool, true, false, List, [], ◌∷◌, length, Option, Some, None, is_some}
 use Rattle.std.proofs.Common.{refl, sym, ap, ◌∙◌, inl, inr}
 use Rattle.kernel_model.specs.declared.Kind.{Kind}
 use Rattle.kernel_model.specs.declared.Kind.TheVariants.{Steps}
@@ -7,13 +7,13 @@ use Rattle.kernel_model.specs.declared.Cause.{Cause}
 use Rattle.kernel_model.specs.declared.Instr.{Instr}
 use Rattle.kernel_model.specs.World.{World, Image, ImageTable}
 use Rattle.kernel_model.specs.Objects.{Objects, Accounts, GraftValue, with_accounts}
-use Rattle.kernel_model.specs.Machine.{Machine, Done, Called, Returned, Trapped, Outside, PastEnd, seg_step, first_machine}
-use Rattle.kernel_model.specs.Policies.{kind_of, args_by, or_zero}
+use Rattle.kernel_model.specs.Machine.{Machine, Done, Called, Returned, Trapped, Outside, PastEnd, seg_step, first_machine, fed}
+use Rattle.kernel_model.specs.Policies.{kind_of, args_by, valid}
 use Rattle.kernel_model.specs.Charges.{taken_from, charge, charge_by, charge_account, charge_graft}
 use Rattle.kernel_model.specs.Access.{early_refusal, is_ask, asked_point, asked_objects, asked_graft}
 use Rattle.kernel_model.specs.Locks.{untouched}
-use Rattle.kernel_model.specs.Levels.{Level, image_of, code_in, body_in, code_of, base_of, with_machine, with_touched, touch_outermost, goes_on, with_effect, Asked, Charged}
-use Rattle.kernel_model.specs.GraftStep.{ask_refusal, ask_answered, after_ask, granted_call, after_call, after_machine, is_spent, charged_step, micro_on}
+use Rattle.kernel_model.specs.Levels.{Level, image_of, code_in, code_of, keeps_in, segment_with, base_of, with_machine, with_touched, touch_outermost, goes_on, with_effect, Asked, Charged}
+use Rattle.kernel_model.specs.GraftStep.{ask_refusal, ask_answered, after_ask, granted_call, after_call, after_answer, after_return, after_machine, is_spent, charged_step, micro_on}
 use Rattle.kernel_model.specs.Alike.{Extends}
 use Rattle.kernel_model.specs.Sound.{ImagesAreLoaded}
 use Rattle.kernel_model.specs.Claims.{MoreImages}
@@ -57,7 +57,8 @@ module _ (v : World) (images more : ImageTable) (p : ℕ) (extends : Extends ima
       ap (λ (x : Option Image). goes_on w (record {
         owner = q;
         point = pt;
-        machine = first_machine (base_of p (length ks)) (args_by (kind_of pt) v w.things q pt) (λ i. or_zero (slice_get (body_in x) i));
+        machine = first_machine (base_of p (length ks)) (args_by (kind_of pt) v w.things q pt)
+            (fed [] (segment_with x (keeps_in x) (w.things.segment q pt)));
         count = 0;
         touched = untouched;
         args = args_by (kind_of pt) v w.things q pt;
@@ -85,11 +86,18 @@ module _ (v : World) (images more : ImageTable) (p : ℕ) (extends : Extends ima
   call_same w l ls m id (Some cause) loaded = refl
   call_same w l ls m id None loaded = granted_same w l ls m id (is_ask id) loaded
 
+  -- an answer
+  return_same : (w : Objects) (l : Level) (ls : List Level) (is_valid : Bool) → ImagesAreLoaded images w.accounts →
+      after_return v more w l ls is_valid ≡ after_return v images w l ls is_valid
+  return_same w l ls true loaded =
+      ap (λ (x : Option Image). after_answer v w l ls (keeps_in x)) (image_same w.accounts l.owner l.point (w.accounts.graft l.owner l.point) refl loaded)
+  return_same w l ls false loaded = refl
+
   machine_same : (w : Objects) (l : Level) (ls : List Level) (x : Done) → ImagesAreLoaded images w.accounts →
       after_machine v more p w l ls x ≡ after_machine v images p w l ls x
   machine_same w l ls (Called id m) loaded = call_same w l ls m id (early_refusal v.callable id (l.machine.regs 0) (l.machine.regs 1) l.owner) loaded
   machine_same w l ls (Done.Went m) loaded = refl
-  machine_same w l ls Returned loaded = refl
+  machine_same w l ls Returned loaded = return_same w l ls (valid w.things l.owner l.point l.args (l.machine.regs 0) (l.machine.regs 1)) loaded
   machine_same w l ls Done.DividedByZero loaded = refl
   machine_same w l ls (Trapped code) loaded = refl
   machine_same w l ls Outside loaded = refl

@@ -1,5 +1,5 @@
 -- An instruction of a graft call that works on a state leaves one.
-use Rattle.std.specs.Prelude.{◌≡◌, ℕ, suc, ◌+◌, ◌≤◌, ◌==◌, ◌||◌, Bool, true, false, List, [], ◌∷◌, ◌++◌, length, Option, Some, None}
+use Rattle.std.specs.Prelude.{◌≡◌, ℕ, suc, ◌+◌, ◌<◌, ◌≤◌, ◌==◌, ◌||◌, Bool, true, false, List, [], ◌∷◌, ◌++◌, length, Option, Some, None}
 use Rattle.std.proofs.Common.{arith, refl, subst, sym, ap, ◌∙◌}
 use Rattle.std.proofs.lemmas.Bool.Decides.{nat_tests}
 use Rattle.kernel_model.specs.declared.Kind.{Kind}
@@ -12,16 +12,16 @@ use Rattle.kernel_model.specs.declared.Object.{Object}
 use Rattle.kernel_model.specs.World.{World, ImageTable}
 use Rattle.kernel_model.specs.Objects.{Objects, Things, GraftValue, with_accounts}
 use Rattle.kernel_model.specs.Machine.{Machine, Done, Called, Returned, Trapped, Outside, PastEnd, seg_step}
-use Rattle.kernel_model.specs.Policies.{lives, valid, kind_of, default_of, args_by}
+use Rattle.kernel_model.specs.Policies.{PointKind, Ahead, Victim, Next, Serve, Stream, lives, valid, valid_by, kind_of, default_of, args_by}
 use Rattle.kernel_model.specs.Charges.{payer_balance, funds, charge, removed}
-use Rattle.kernel_model.specs.Access.{bare_found, Access, Gives, Changes, Refuses, access, callable, early_refusal, is_ask, asked_point, asked_objects, asked_graft}
+use Rattle.kernel_model.specs.Access.{bare_found, found_segment, set_segment, Access, Gives, Changes, Refuses, access, callable, early_refusal, is_ask, asked_point, asked_objects, asked_graft}
 use Rattle.kernel_model.specs.Locks.{joined, untouched}
-use Rattle.kernel_model.specs.Levels.{Level, Outcome, goes_on, code_of, limit_in, new_level, with_machine, with_touched, touch_outermost, answered, answer_innermost, drop_innermost}
-use Rattle.kernel_model.specs.GraftStep.{after_access, is_lock_due, lock_paid, after_result, record_count, is_record_spent, after_change, after_accessor, ask_refusal, ask_answered, after_ask, granted_call, after_call, completed, after_return, after_machine, is_spent, charged_step, micro_on}
+use Rattle.kernel_model.specs.Levels.{Level, Outcome, goes_on, code_of, image_of, keeps_in, limit_in, new_level, with_machine, with_touched, touch_outermost, answered, answer_innermost, drop_innermost}
+use Rattle.kernel_model.specs.GraftStep.{after_access, is_lock_due, lock_paid, after_result, record_count, is_record_spent, after_change, after_accessor, ask_refusal, ask_answered, after_ask, granted_call, after_call, completed, after_keeping, after_answer, after_return, after_machine, is_spent, charged_step, micro_on}
 use Rattle.kernel_model.specs.Sound.{IsSoundStore}
 use Rattle.kernel_laws.specs.Soundness.{IsGraftsWork, AreGraftsWork, found_by, IsAskedAt, WorksOn, AnswersRightly, InstructionsWork}
 use Rattle.kernel_laws.proofs.StoreLemmas.{charge_work, remove_work}
-use Rattle.kernel_laws.proofs.AccessLemmas.{LeavesWork, access_work}
+use Rattle.kernel_laws.proofs.AccessLemmas.{LeavesWork, access_work, segment_work}
 
 -- ---- levels that found the same, and were asked at the same point
 
@@ -98,6 +98,24 @@ IsWork v s a o = WorksOn v s a o.config × AnswersRightly a o.config.now.things 
 neither : (b c : Bool) → (b || c) ≡ false → (b ≡ false) × (c ≡ false)
 neither true c h = absurd cc
 neither false c h = (refl, h)
+
+-- the place of a graft that can pay
+payer_place : (v : World) (w : Objects) (q pt : ℕ) (k : Kind) (g : Option GraftValue) → w.accounts.graft q pt ≡ g → IsSoundStore v w →
+    (payer_balance k (w.accounts.acct q) g == 0) ≡ false → (q < 16) × (pt < 16)
+payer_place v w q pt k None e h some = absurd (zero_is_zero some)
+  where
+    zero_is_zero : (0 == 0) ≡ false → ⊥
+    zero_is_zero h = cc
+payer_place v w q pt k (Some g) e h some = let stands = h.grafts q pt g e in (h.numbers q stands.1, stands.0)
+
+-- an answer is as valid whatever is kept
+valid_kept : (k : PointKind) (q pt : ℕ) (bytes : Option (ℕ → ℕ)) (w : Things) (r : ℕ) (args : List ℕ) (r0 r1 : ℕ) →
+    valid_by k (set_segment q pt bytes w) r args r0 r1 ≡ valid_by k w r args r0 r1
+valid_kept Ahead q pt bytes w r args r0 r1 = refl
+valid_kept Victim q pt bytes w r args r0 r1 = refl
+valid_kept Next q pt bytes w r args r0 r1 = refl
+valid_kept Serve q pt bytes w r args r0 r1 = refl
+valid_kept Stream q pt bytes w r args r0 r1 = refl
 
 -- whose graft can pay lives
 payer_lives : (v : World) (w : Objects) (q pt : ℕ) (k : Kind) (g : Option GraftValue) → w.accounts.graft q pt ≡ g → IsSoundStore v w →
@@ -241,10 +259,32 @@ module _ (v : World) (s : Objects) (a : Point) where
       on_same w (after ∷ rest) (asker ∷ rest) (same_level after asker rest refl refl refl refl)
       (record { works = (h.works.0, (h.works.1.0, h.works.1.1.1)); asked = asked_outside a l (asker ∷ rest) h.asked })
 
-  return_work : (w : Objects) (l : Level) (ls : List Level) (b : Bool) → WorksOn v s a (record { now = w; levels = l ∷ ls }) →
-      valid w.things l.owner l.point l.args (l.machine.regs 0) (l.machine.regs 1) ≡ b → IsWork v s a (after_return v w l ls b)
-  return_work w l ls true h e = completed_work w l ls h e
-  return_work w l ls false h e = drop_work w l ls (RefusedAnswer (l.machine.regs 0) (l.machine.regs 1)) h
+  -- the segment is kept, where a record can be made
+  keeping_work : (w : Objects) (l : Level) (ls : List Level) (spent : Bool) → is_record_spent w.accounts l ls ≡ spent → WorksOn v s a (record { now = w; levels = l ∷ ls }) →
+      valid w.things l.owner l.point l.args (l.machine.regs 0) (l.machine.regs 1) ≡ true → IsWork v s a (after_keeping v w l ls spent)
+  keeping_work w l ls true e h right = drop_work w l ls SpentRecords h
+  keeping_work w l ls false e h right =
+      let u = set_segment l.owner l.point (Some l.machine.memory) w.things in
+      let some = (neither (funds w.accounts l.owner l.point Records == 0) (record_count (l ∷ ls) == 64) e).0 in
+      let place = payer_place v w l.owner l.point Records (w.accounts.graft l.owner l.point) refl h.works.1.0.store some in
+      let new = segment_work v s w.accounts l.owner l.point (Some l.machine.memory) w.things h.works.1.0 place.0 place.1 in
+      let changed : WorksOn v s a (record { now = record { accounts = w.accounts; things = u }; levels = l ∷ ls }) =
+      record { works = (h.works.0, (new, h.works.1.1)); asked = h.asked } in
+      let k = charged_work (record { accounts = w.accounts; things = u }) (l ∷ ls) l.owner l.point Records some changed in
+      let n = record l { records = found_segment l.owner l.point w.things ∷ l.records } in
+      let c : Objects = record { accounts = charge Records l.owner l.point w.accounts; things = u } in
+      completed_work c n ls (on_same c (n ∷ ls) (l ∷ ls) (same_level n l ls refl refl refl refl) k).0
+      (valid_kept (kind_of l.point) l.owner l.point (Some l.machine.memory) w.things l.owner l.args (l.machine.regs 0) (l.machine.regs 1) ∙ right)
+
+  answer_work : (w : Objects) (l : Level) (ls : List Level) (keeps : Bool) → WorksOn v s a (record { now = w; levels = l ∷ ls }) →
+      valid w.things l.owner l.point l.args (l.machine.regs 0) (l.machine.regs 1) ≡ true → IsWork v s a (after_answer v w l ls keeps)
+  answer_work w l ls true h right = keeping_work w l ls (is_record_spent w.accounts l ls) refl h right
+  answer_work w l ls false h right = completed_work w l ls h right
+
+  return_work : (images : ImageTable) (w : Objects) (l : Level) (ls : List Level) (b : Bool) → WorksOn v s a (record { now = w; levels = l ∷ ls }) →
+      valid w.things l.owner l.point l.args (l.machine.regs 0) (l.machine.regs 1) ≡ b → IsWork v s a (after_return v images w l ls b)
+  return_work images w l ls true h e = answer_work w l ls (keeps_in (image_of images (w.accounts.graft l.owner l.point))) h e
+  return_work images w l ls false h e = drop_work w l ls (RefusedAnswer (l.machine.regs 0) (l.machine.regs 1)) h
 
   -- ---- one instruction
 
@@ -254,7 +294,7 @@ module _ (v : World) (s : Objects) (a : Point) where
   machine_work images p w l ls (Called id m) h alive =
       call_work images p w l ls m id (early_refusal v.callable id (l.machine.regs 0) (l.machine.regs 1) l.owner) h alive refl
   machine_work images p w l ls Returned h alive =
-      return_work w l ls (valid w.things l.owner l.point l.args (l.machine.regs 0) (l.machine.regs 1)) h refl
+      return_work images w l ls (valid w.things l.owner l.point l.args (l.machine.regs 0) (l.machine.regs 1)) h refl
   machine_work images p w l ls Done.DividedByZero h alive = drop_work w l ls Cause.DivideByZero h
   machine_work images p w l ls (Trapped code) h alive = drop_work w l ls (Cause.Trap code) h
   machine_work images p w l ls Outside h alive = drop_work w l ls Cause.DivideByZero h

@@ -1,7 +1,7 @@
 -- What the levels of a sound graft call keep: their grafts, payers, records and what each found.
 use Rattle.std.specs.Prelude.{◌≡◌, ℕ, suc, ◌+◌, ◌<◌, ◌≤◌, ◌==◌, ◌&&◌, ◌||◌, Bool, true, false, cond, List, [], ◌∷◌, length, is_some, Contains, ⊤}
 use Rattle.std.specs.List.{AllByRecursion as Each}
-use Rattle.std.proofs.Common.{arith, refl, subst, sym, ap, ◌∙◌}
+use Rattle.std.proofs.Common.{◌⊎◌, arith, refl, subst, sym, ap, ◌∙◌, inl, inr}
 use Rattle.std.proofs.lemmas.List.Elements.{Contains-append_right, All-contains, All-from_recursion}
 use Rattle.kernel_model.specs.declared.Held.{Held}
 use Rattle.kernel_model.specs.Access.{Found}
@@ -13,9 +13,11 @@ use Rattle.kernel_model.specs.Objects.{Objects, Accounts, same_object}
 use Rattle.kernel_model.specs.SameObject.{same_object_self}
 use Rattle.kernel_model.specs.Access.{changed_by}
 use Rattle.kernel_model.specs.UndoLog.{undo_log, kept_by_log}
-use Rattle.kernel_model.specs.Locks.{Touched, touch, touch_all, held_as, stronger}
+use Rattle.kernel_model.specs.Locks.{Touched, touch, touch_all, held_as, stronger, is_held_exclusively}
 use Rattle.kernel_model.specs.Levels.{Level, touch_outermost, outermost_touched, answer_innermost}
 use Rattle.kernel_model.specs.GraftStep.{record_count, is_running}
+use Rattle.kernel_model.specs.InPlace.{is_changed_in}
+use Rattle.kernel_model.specs.Sound.{AreRecorded}
 use Rattle.kernel_laws.specs.Soundness.{found_by}
 
 -- ---- lists
@@ -62,6 +64,38 @@ touch_all_holds (n ∷ ns) t a e = touch_all_holds ns (touch n.object n.mode t) 
 -- what was touched exclusively is held so
 pub touch_here : (o : Object) (t : Touched) → touch o Mode.Exclusive t o ≡ Held.Exclusive
 touch_here o t = ap (λ b. cond b (stronger (t o) Held.Exclusive) (t o)) (same_object_self o) ∙ stronger_right (t o) Held.Exclusive refl
+
+-- ---- what levels hold
+
+-- the two cases of a test that is passed
+pub either : (b c : Bool) → (b || c) ≡ true → (b ≡ true) ⊎ (c ≡ true)
+either true c h = inl refl
+either false c h = inr h
+
+pub or_true : (b : Bool) → (b || true) ≡ true
+or_true true = refl
+or_true false = refl
+
+-- what is held so
+pub held_so : (h : Held) → is_held_exclusively h ≡ true → h ≡ Held.Exclusive
+held_so Held.Free e = absurd cc
+held_so Held.Shared e = absurd cc
+held_so Held.Exclusive e = refl
+
+-- what the innermost level, one outside it, or level 0 holds exclusively is changed
+pub inner_changed : (l : Level) (ls : List Level) (o : Object) → l.touched o ≡ Held.Exclusive → is_changed_in (l ∷ ls) o ≡ true
+inner_changed l ls o h = ap (λ x. is_held_exclusively x || is_changed_in ls o) h
+
+pub outside_changed : (l : Level) (ls : List Level) (o : Object) → is_changed_in ls o ≡ true → is_changed_in (l ∷ ls) o ≡ true
+outside_changed l ls o h = ap (λ b. is_held_exclusively (l.touched o) || b) h ∙ or_true (is_held_exclusively (l.touched o))
+
+pub outer_changed : (ls : List Level) (o : Object) → outermost_touched ls o ≡ Held.Exclusive → is_changed_in ls o ≡ true
+outer_changed [] o h = absurd (free_not h)
+  where
+    free_not : Held.Free ≡ Held.Exclusive → ⊥
+    free_not h = cc
+outer_changed (l ∷ []) o h = inner_changed l [] o h
+outer_changed (l ∷ k ∷ ls) o h = outside_changed l (k ∷ ls) o (outer_changed (k ∷ ls) o h)
 
 -- ---- levels that keep what they have
 
@@ -124,12 +158,11 @@ keep_outermost (l ∷ m ∷ ls) (k ∷ []) h o e = absurd h.1
 
 -- ---- what levels have
 
--- a level's graft stands, level 0 holds it and its installer's account, and the level holds what its records changed
+-- a level's graft stands, and level 0 holds it and its installer's account
 pub record IsHeld (t : Touched) (a : Accounts) (l : Level) : Type 0 where
   pub stands : is_some (a.graft l.owner l.point) ≡ true
   pub graft : t (Graft l.owner l.point) ≡ Held.Exclusive
   pub acct : t (Acct l.owner) ≡ Held.Exclusive
-  pub recorded : (i : Found) → Contains l.records i → l.touched (changed_by i) ≡ Held.Exclusive
 
 -- the grafts of levels are different ones
 abbrev pub AreApart : List Level → Type 0
@@ -140,6 +173,7 @@ AreApart (l ∷ ls) = (is_running ls l.owner l.point ≡ false) × AreApart ls
 pub record AreHeld (w : Objects) (ls : List Level) : Type 0 where
   pub each : Each (IsHeld (outermost_touched ls) w.accounts) ls
   pub apart : AreApart ls
+  pub recorded : AreRecorded ls
   pub few : record_count ls ≤ 64
   pub most : length ls ≤ 4
   pub kept : found_by ls ≡ kept_by_log w.things (undo_log ls)
@@ -156,7 +190,6 @@ each_on t u a (l ∷ ls) (k ∷ ks) more h each =
         stands = ap (λ q. is_some (a.graft q l.point)) y.owner ∙ ap (λ pt. is_some (a.graft k.owner pt)) y.point ∙ x.stands;
         graft = ap (λ q. t (Graft q l.point)) y.owner ∙ ap (λ pt. t (Graft k.owner pt)) y.point ∙ more (Graft k.owner k.point) x.graft;
         acct = ap (λ q. t (Acct q)) y.owner ∙ more (Acct k.owner) x.acct;
-        recorded = λ i c. y.touched (changed_by i) (x.recorded i (subst (λ is. Contains is i) y.records c));
       },
       each_on t u a ls ks more h.1 each.1,
     )
@@ -204,12 +237,31 @@ log_on (l ∷ ls) (k ∷ ks) h = ap (λ is. is ∷ undo_log ls) h.0.records ∙ 
 log_on [] (k ∷ ks) h = absurd h
 log_on (l ∷ ls) [] h = absurd h
 
+-- what is changed is so still
+pub changed_on : (ls ks : List Level) (o : Object) → KeepOn ls ks → is_changed_in ks o ≡ true → is_changed_in ls o ≡ true
+changed_on [] [] o h e = e
+changed_on (l ∷ ls) (k ∷ ks) o h e = elim (either (is_held_exclusively (k.touched o)) (is_changed_in ks o) e) [
+  | inl own ↦ inner_changed l ls o (h.0.touched o (held_so (k.touched o) own))
+  | inr outside ↦ outside_changed l ls o (changed_on ls ks o h.1 outside)
+]
+changed_on [] (k ∷ ks) o h e = absurd h
+changed_on (l ∷ ls) [] o h e = absurd h
+
+-- so are the objects of the records
+pub recorded_on : (ls ks : List Level) → KeepOn ls ks → AreRecorded ks → AreRecorded ls
+recorded_on [] [] h recorded = tt
+recorded_on (l ∷ ls) (k ∷ ks) h recorded =
+    (λ i c. changed_on (l ∷ ls) (k ∷ ks) (changed_by i) h (recorded.0 i (subst (λ is. Contains is i) h.0.records c)), recorded_on ls ks h.1 recorded.1)
+recorded_on [] (k ∷ ks) h recorded = absurd h
+recorded_on (l ∷ ls) [] h recorded = absurd h
+
 -- so they are held on
 pub held_on : (w : Objects) (ls ks : List Level) → KeepOn ls ks → AreHeld w ks → AreHeld w ls
 held_on w ls ks keep h =
     record {
       each = each_on (outermost_touched ls) (outermost_touched ks) w.accounts ls ks (keep_outermost ls ks keep) keep h.each;
       apart = apart_on ls ks keep h.apart;
+      recorded = recorded_on ls ks keep h.recorded;
       few = subst (λ n. n ≤ 64) (sym (count_on ls ks keep)) h.few;
       most = subst (λ n. n ≤ 4) (sym (length_on ls ks keep)) h.most;
       kept = found_on ls ks keep ∙ h.kept ∙ ap (kept_by_log w.things) (sym (log_on ls ks keep));

@@ -89,7 +89,7 @@ opening_is_sound v images world disk =
         policies = first_policies;
         handlers = record { once = λ q pt. omega arith; points = refl; most = λ pt. omega arith };
         handlers_live = λ q pt e. absurd (not_some e);
-        segs = λ q pt out. refl;
+        segments = λ q pt out. refl;
         ledgers = first_ledgers v.grant;
       };
       images_loaded = λ q pt g e. absurd (none_some g e);

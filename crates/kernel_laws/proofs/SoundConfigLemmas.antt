@@ -5,7 +5,7 @@ use Rattle.std.proofs.Common.{arith, refl, subst, sym, ap, ◌∙◌, inl, inr}
 use Rattle.std.proofs.lemmas.Bool.{cases_Bool, and_parts, eqb-true}
 use Rattle.std.proofs.lemmas.Bool.Decides.{nat_tests}
 use Rattle.kernel_model.specs.declared.Inverse.{Inverse}
-use Rattle.kernel_model.specs.declared.Inverse.TheVariants.{Nice, Window, Mark, Tune}
+use Rattle.kernel_model.specs.declared.Inverse.TheVariants.{Nice, Window, Mark, Tune, Segment}
 use Rattle.kernel_model.specs.declared.Point.{Point}
 use Rattle.kernel_model.specs.World.{World}
 use Rattle.kernel_model.specs.Objects.{Objects, Accounts, Things}
@@ -155,7 +155,7 @@ different_from (k ∷ ks) h d e l n hd he o p = elim (cases_Bool (length ks == d
 -- ---- a state and what its records lead to
 
 -- what an inverse changes grafts may change
-alike_by : (s : Objects) (a : Accounts) (i : Inverse) (b : ℕ → ℕ) (w : Things) → AreAlike s (record { accounts = a; things = w }) → AreAlike s (record { accounts = a; things = undo_by i b w })
+alike_by : (s : Objects) (a : Accounts) (i : Inverse) (b : Option (ℕ → ℕ)) (w : Things) → AreAlike s (record { accounts = a; things = w }) → AreAlike s (record { accounts = a; things = undo_by i b w })
 alike_by s a (Inverse.Cell q k v) b w l = record { files = l.files; queue = l.queue; handlers = l.handlers; lru = l.lru; frames = l.frames; locks = l.locks; policies = l.policies }
 alike_by s a (Nice q v) b w l =
     record { files = l.files; queue = l.queue ∙ sym (nice_alike q v w.queue); handlers = l.handlers; lru = l.lru; frames = l.frames; locks = l.locks; policies = l.policies }
@@ -165,6 +165,7 @@ alike_by s a (Mark f v) b w l =
     record { files = l.files; queue = l.queue; handlers = l.handlers; lru = l.lru; frames = λ g. l.frames g ∙ sym (mark_alike f v g w.cache.frame); locks = l.locks; policies = l.policies }
 alike_by s a (Tune kind k v) b w l =
     record { files = l.files; queue = l.queue; handlers = l.handlers; lru = l.lru; frames = l.frames; locks = l.locks; policies = λ i. l.policies i ∙ sym (param_alike kind v i w.pol) }
+alike_by s a (Segment q pt) b w l = record { files = l.files; queue = l.queue; handlers = l.handlers; lru = l.lru; frames = l.frames; locks = l.locks; policies = l.policies }
 
 undo_alike : (s : Objects) (a : Accounts) (i : Found) (w : Things) → AreAlike s (record { accounts = a; things = w }) →
     AreAlike s (record { accounts = a; things = undo i w })
@@ -223,8 +224,9 @@ pub sound_held : (v : World) (c : Config) → IsSoundConfig v c → AreHeld c.no
 sound_held v c h =
     record {
       each = each_from (IsHeld (outermost_touched c.levels) c.now.accounts) c.levels
-          (λ l k. record { stands = h.grafts l k; graft = (h.paid l k).0; acct = (h.paid l k).1; recorded = λ i j. h.recorded l i k j });
+          (λ l k. record { stands = h.grafts l k; graft = (h.paid l k).0; acct = (h.paid l k).1 });
       apart = apart_from c.levels h.different;
+      recorded = h.recorded;
       few = h.few;
       most = h.most;
       kept = h.kept;
@@ -249,7 +251,7 @@ held_sound v s a c work held some =
       grafts = λ l k. (each l k).stands;
       different = different_from c.levels held.apart;
       paid = λ l k. ((each l k).graft, (each l k).acct);
-      recorded = λ l i k j. (each l k).recorded i j;
+      recorded = held.recorded;
       few = held.few;
       found = λ l k. each_contains (λ (x : Level). IsSoundStore v (record { accounts = c.now.accounts; things = x.kept })) c.levels l
           (works_sound v s c.now.accounts c.levels work.works.1.1) k;
@@ -276,7 +278,7 @@ configs_stay_sound v images p c h some =
 -- on a state whose working things don't matter
 drops_held : (v : World) (w : Objects) (x : Things) (ls : List Level) (d : ℕ) (cause : Cause) → AreHeld (record { accounts = w.accounts; things = x }) ls →
     AreHeld (drop_level v w ls d cause).config.now (drop_level v w ls d cause).config.levels
-drops_held v w x [] d cause h = record { each = tt; apart = tt; few = h.few; most = h.most; kept = refl }
+drops_held v w x [] d cause h = record { each = tt; apart = tt; recorded = tt; few = h.few; most = h.most; kept = refl }
 drops_held v w x (l ∷ ls) d cause h =
     drops_by (length ls == d) (drops_held v w l.kept ls d cause (outside_held (record { accounts = w.accounts; things = x }) l ls h))
   where

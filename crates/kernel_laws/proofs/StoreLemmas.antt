@@ -1,11 +1,13 @@
 -- What charges, removals and accessors keep sound.
-use Rattle.std.specs.Prelude.{◌≡◌, ◌≢◌, ℕ, ◌<◌, ◌≤◌, ◌==◌, ◌&&◌, Bool, true, false, List, [], ◌∷◌, Option, Some, None}
-use Rattle.std.proofs.Common.{◌⊎◌, refl, subst, sym, ap, ◌∙◌, inl, inr}
+use Rattle.std.specs.Prelude.{◌≡◌, ◌≢◌, ℕ, ◌<◌, ◌≤◌, ◌==◌, ◌&&◌, nat_lt, Bool, true, false, List, [], ◌∷◌, Option, Some, None}
+use Rattle.std.proofs.Common.{◌⊎◌, arith, refl, subst, sym, ap, ◌∙◌, inl, inr}
 use Rattle.std.proofs.lemmas.Bool.{cases_Bool, cond-true, cond-false, and_parts, eqb-true}
+use Rattle.std.proofs.lemmas.Bool.Decides.{nat_tests}
 use Rattle.kernel_model.specs.declared.Kind.{Kind}
 use Rattle.kernel_model.specs.World.{World}
 use Rattle.kernel_model.specs.Objects.{Objects, Accounts, Things, GraftValue, at2}
 use Rattle.kernel_model.specs.Policies.{lives}
+use Rattle.kernel_model.specs.Access.{set_segment}
 use Rattle.kernel_model.specs.Charges.{payer_balance, funds, pay, spend, taken_from, charge_account, charge_graft, charge_by, charge, removed, removed_by}
 use Rattle.kernel_model.specs.Sound.{IsSoundStore}
 use Rattle.plain_rules.specs.SoundStores.{not_gone, store_with_accounts}
@@ -65,6 +67,39 @@ remove_store_by v s q pt (Some g) e h = let here = h.grafts q pt g e in remove_s
 -- a graft taken out keeps a store sound
 pub removed_store : (v : World) (s : Objects) (q pt : ℕ) → IsSoundStore v s → IsSoundStore v (record { accounts = removed q pt s.accounts; things = s.things })
 removed_store v s q pt h = remove_store_by v s q pt (s.accounts.graft q pt) refl h
+
+-- ---- kept segments
+
+-- another segment is kept at a point that there is
+pub segment_store : (v : World) (s : Objects) (q pt : ℕ) (bytes : Option (ℕ → ℕ)) → IsSoundStore v s → q < 16 → pt < 16 →
+    IsSoundStore v (record { accounts = s.accounts; things = set_segment q pt bytes s.things })
+segment_store v s q pt bytes h process point =
+    record {
+      world = h.world;
+      root = h.root;
+      once = h.once;
+      numbers = h.numbers;
+      nices = h.nices;
+      in_use = h.in_use;
+      frame_numbers = h.frame_numbers;
+      one_frame = h.one_frame;
+      frames = h.frames;
+      holders = h.holders;
+      grafts = h.grafts;
+      gone = λ p e. record { cells = (h.gone p e).cells; files = (h.gone p e).files; balances = (h.gone p e).balances; spent = (h.gone p e).spent };
+      files = h.files;
+      policies = h.policies;
+      handlers = h.handlers;
+      handlers_live = h.handlers_live;
+      segments = λ r pu out. elim (found_at q pt r pu bytes s.things.segment) [
+        | inl here ↦ absurd (within r pu q pt here.0 here.1 process point out)
+        | inr other ↦ other ∙ h.segments r pu out
+      ];
+      ledgers = h.ledgers;
+    }
+  where
+    within : (r pu q pt : ℕ) → r ≡ q → pu ≡ pt → q < 16 → pt < 16 → (nat_lt r 16 && nat_lt pu 16) ≡ false → ⊥
+    within r pu q pt a b c d out = grind (arith, nat_tests)
 
 -- ---- what grafts work on
 

@@ -9,12 +9,12 @@ use Rattle.kernel_model.specs.declared.Object.TheVariants.{Graft, Acct, Cell, Op
 use Rattle.kernel_model.specs.declared.Mode.TheVariants.{Exclusive}
 use Rattle.kernel_model.specs.declared.Cause.TheVariants.{BadArgument, NotYours}
 use Rattle.kernel_model.specs.declared.Inverse.{Inverse}
-use Rattle.kernel_model.specs.declared.Inverse.TheVariants.{Nice, Window, Mark, Tune}
+use Rattle.kernel_model.specs.declared.Inverse.TheVariants.{Nice, Window, Mark, Tune, Segment}
 use Rattle.kernel_model.specs.declared.QueueRow.{QueueRow}
 use Rattle.kernel_model.specs.declared.OpenRow.{OpenRow}
 use Rattle.kernel_model.specs.Objects.{Things, SameThing, FrameValue, PolValue, at, at2}
 use Rattle.kernel_model.specs.Policies.{nice_of, frames_of}
-use Rattle.kernel_model.specs.Access.{Access, Gives, Changes, Refuses, Callable, CellGet, CellSet, NiceGet, NiceSet, WindowGet, WindowSet, FramesMine, FrameAt, FrameBlock, FrameMark, TuneGet, TuneSet, TakeLock, callable, access, access_by, accessed, needed, Found, bare_found, object_of_inverse, undo_by, undo, with_nice, with_window, with_mark, with_param, set_window, set_mark, set_param, own_frame, window_change, tune_change, param_top, in_range, chosen_param}
+use Rattle.kernel_model.specs.Access.{Access, Gives, Changes, Refuses, Callable, CellGet, CellSet, NiceGet, NiceSet, WindowGet, WindowSet, FramesMine, FrameAt, FrameBlock, FrameMark, TuneGet, TuneSet, TakeLock, callable, access, access_by, accessed, needed, Found, bare_found, object_of_inverse, undo_by, undo, with_nice, with_window, with_mark, with_param, set_window, set_mark, set_param, set_segment, found_segment, own_frame, window_change, tune_change, param_top, in_range, chosen_param}
 use Rattle.kernel_model.specs.Sound.{count_of, in_queue}
 use Rattle.kernel_model.specs.UndoLog.{undo_all}
 use Rattle.kernel_laws.specs.Undoing.{AccessorCall, recorded, after_calls, RecordsLeadBack, IsOnceIn, LeadsBack, ChangesItsObject, InversesCommute, InversesUndo, InversesChangeOneObject, ChangesAreOfOneObject}
@@ -69,6 +69,13 @@ files_apart q k r l h = elim (cases_Bool (q == r && k == l)) [
   | inr e ↦ e
 ]
 
+-- two grafts that aren't one
+grafts_apart : (q k r l : ℕ) → Graft q k ≢ Graft r l → (q == r && k == l) ≡ false
+grafts_apart q k r l h = elim (cases_Bool (q == r && k == l)) [
+  | inl e ↦ let b = and_parts (q == r) (k == l) e in absurd (h (ap (λ x. Graft x k) (eqb-true q r b.0) ∙ ap (λ x. Graft r x) (eqb-true k l b.1)))
+  | inr e ↦ e
+]
+
 -- two policies that aren't one
 policies_apart : (q r : ℕ) → Pol q ≢ Pol r → (q == r) ≡ false
 policies_apart q r h = elim (cases_Bool (q == r)) [ inl e ↦ absurd (h (ap Pol (eqb-true q r e))) | inr e ↦ e ]
@@ -98,7 +105,7 @@ params_commute q v r x f e d =
     ∙ ap (λ o. at r (with_param x o) h) (sym (other1 q r (with_param v (f q)) f d))
 
 -- inverses of distinct objects commute, whatever bytes they have
-commute_by : (i j : Inverse) (b d : ℕ → ℕ) (w : Things) → object_of_inverse i ≢ object_of_inverse j →
+commute_by : (i j : Inverse) (b d : Option (ℕ → ℕ)) (w : Things) → object_of_inverse i ≢ object_of_inverse j →
     undo_by i b (undo_by j d w) ≡ undo_by j d (undo_by i b w)
 commute_by (Inverse.Cell q k v) (Inverse.Cell r l x) b d w h =
     ap (λ c. record w { cell = c }) (swap2 q k r l v x w.cell (cells_apart q k r l h))
@@ -108,6 +115,8 @@ commute_by (Window q k v) (Window r l x) b d w h =
 commute_by (Mark f v) (Mark g x) b d w h = absurd (h refl)
 commute_by (Tune q k v) (Tune r l x) b d w h =
     ap (λ c. record w { pol = c }) (params_commute q v r x w.pol (policies_apart q r h) (policies_apart r q (λ e. h (sym e))))
+commute_by (Segment q k) (Segment r l) b d w h =
+    ap (λ c. record w { segment = c }) (swap2 q k r l b d w.segment (grafts_apart q k r l h))
 commute_by _ _ b d w h = refl
 
 -- inverses of distinct objects commute
@@ -117,14 +126,15 @@ inverses_commute i j w h = commute_by i.inverse j.inverse i.bytes j.bytes w h
 -- ---- an inverse changes its object alone
 
 -- of things alone the inverse of a cell changes that cell, and so on
-changes_one_by : (i : Inverse) (b : ℕ → ℕ) (o : Object) (w : Things) → o ≢ object_of_inverse i → SameThing o (undo_by i b w) w
-changes_one_by i b (Graft q pt) w h = grind arith
+changes_one_by : (i : Inverse) (b : Option (ℕ → ℕ)) (o : Object) (w : Things) → o ≢ object_of_inverse i → SameThing o (undo_by i b w) w
 changes_one_by i b (Acct q) w h = tt
 changes_one_by (Inverse.Cell q k v) b (Cell r l) w h = other2 q k r l v w.cell (cells_apart r l q k h)
 changes_one_by (Nice q v) b Queue w h = absurd (h refl)
 changes_one_by (Window q k v) b (OpenFile r l) w h = other2 q k r l (with_window v (w.file q k)) w.file (files_apart r l q k h)
 changes_one_by (Mark f v) b Cache w h = absurd (h refl)
 changes_one_by (Tune q k v) b (Pol r) w h = other1 q r (with_param v (w.pol q)) w.pol (policies_apart r q h)
+changes_one_by (Segment q k) b (Graft r l) w h = other2 q k r l b w.segment (grafts_apart r l q k h)
+changes_one_by i b (Graft r l) w h = grind arith
 changes_one_by i b (Cell r l) w h = grind arith
 changes_one_by i b (OpenFile r l) w h = grind arith
 changes_one_by i b Queue w h = (grind arith, grind arith)
@@ -216,6 +226,10 @@ param_back kind k v w =
     let same : with_param (chosen_param p) (at kind x w.pol kind) ≡ p =
     ap (with_param (chosen_param p)) (here1 kind x w.pol) ∙ ap (λ f. record p { param = f }) (back1 p.chosen (chosen_param p) v p.param refl) in
     ap (λ c. record w { pol = c }) (back1 kind (with_param (chosen_param p) (at kind x w.pol kind)) x w.pol same)
+
+-- a kept segment changed back
+pub segment_back : (q pt : ℕ) (bytes : Option (ℕ → ℕ)) (w : Things) → undo (found_segment q pt w) (set_segment q pt bytes w) ≡ w
+segment_back q pt bytes w = ap (λ c. record w { segment = c }) (back2 q pt (w.segment q pt) bytes w.segment refl)
 
 -- ---- by accessors
 
@@ -309,12 +323,13 @@ nice_count p n [] q = refl
 nice_count p n (r ∷ rows) q = grind (arith, nat_tests, nice_count p n rows q)
 
 -- the same by the inverse
-count_by : (i : Inverse) (b : ℕ → ℕ) (q : ℕ) (w : Things) → count_of q (in_queue (undo_by i b w).queue) ≡ count_of q (in_queue w.queue)
+count_by : (i : Inverse) (b : Option (ℕ → ℕ)) (q : ℕ) (w : Things) → count_of q (in_queue (undo_by i b w).queue) ≡ count_of q (in_queue w.queue)
 count_by (Inverse.Cell p k v) b q w = refl
 count_by (Nice p v) b q w = nice_count p v w.queue q
 count_by (Window p fd v) b q w = refl
 count_by (Mark f v) b q w = refl
 count_by (Tune kind k v) b q w = refl
+count_by (Segment p pt) b q w = refl
 
 -- an inverse leaves that as it is
 pub undo_count : (i : Found) (q : ℕ) (w : Things) → count_of q (in_queue (undo i w).queue) ≡ count_of q (in_queue w.queue)

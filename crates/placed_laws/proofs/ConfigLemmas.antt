@@ -5,7 +5,6 @@ use Rattle.std.proofs.Common.{subst, sym, ap, ◌∙◌, inl, inr}
 use Rattle.std.proofs.lemmas.Bool.{cases_Bool}
 use Rattle.kernel_model.specs.declared.Held.{Held}
 use Rattle.kernel_model.specs.declared.Object.TheVariants.{Graft, Acct, Queue}
-use Rattle.kernel_model.specs.Access.{changed_by}
 use Rattle.kernel_model.specs.Objects.{Objects}
 use Rattle.kernel_model.specs.Policies.{lives}
 use Rattle.kernel_model.specs.Meaning.{Meaning}
@@ -24,7 +23,7 @@ use Rattle.graft_laws.proofs.LevelsAlikeLemmas.{length_alike, records_alike}
 use Rattle.graft_laws.proofs.ConfigAlikeLemmas.{kept_alike}
 use Rattle.history_laws.proofs.InverseLemmas.{thing_self, thing_back}
 use Rattle.history_laws.proofs.SoundCallLemmas.{each_contains}
-use Rattle.placed_laws.proofs.LevelLemmas.{relaid, relaid_alike, laid_kept}
+use Rattle.placed_laws.proofs.LevelLemmas.{relaid, relaid_alike, laid_kept, laid_recorded}
 use Rattle.placed_laws.proofs.GraftedLemmas.{Grafted, grafted}
 use Rattle.placed_laws.proofs.MixedLemmas.{mixed_sound}
 use Rattle.placed_laws.proofs.PairLemmas.{IsAlike, FoundAs, pair_each, alike_pairs, alike_at, outermost_alike, laid_found}
@@ -124,10 +123,7 @@ module _ (m : Meaning) (laws : Laws m) (k : Kernel) (x : Objects) (here : IsPlac
               sym (outermost_alike c.levels ks (Graft l.0.owner l.0.point) alike) ∙ paid.0,
               sym (outermost_alike c.levels ks (Acct l.0.owner) alike) ∙ paid.1,
             );
-        recorded = λ n i among has.
-            let l = of_level n among in
-            ap (λ (y : Level). y.touched (changed_by i)) (sym l.2)
-            ∙ s.recorded l.0 i l.1 (subst (λ (y : Level). Contains y.records i) (sym l.2) has);
+        recorded = laid_recorded x.things c.levels s.recorded;
         few = subst (λ n. n ≤ 64) (records_alike c.levels ks alike) s.few;
         found = found_sound;
         kept = laid_kept x.things (map bare c.levels);

@@ -85,6 +85,6 @@ module _ (m : Meaning) (laws : Laws m) (k : Kernel) (sound : IsSoundKernel m k) 
         base = λ o need. subst (λ (x : Config). is_changed_in x.levels o ≡ true) g.config (i.base o need);
         needed = λ o need. subst (λ (x : Config). is_held_in x.levels o ≡ true) g.config (needs_held m k.world k.images k.objects p g.call.stage g.marks g.trace o leads need);
         answer = subst (λ (x : Config). AnswerIsHeld x.levels) g.config (histories_hold_answers m k.world k.images k.objects p g.call.stage g.marks g.trace laws standing leads);
-        undoable = (call_undoable m k sound inverses_undo changes_are_of_one_object p c is).found;
+        undoable = (call_undoable m k sound laws inverses_undo changes_are_of_one_object p c is).found;
         low = sound.state.store.numbers p standing.caller;
       }

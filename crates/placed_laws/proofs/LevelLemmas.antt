@@ -1,9 +1,14 @@
 -- Levels laid over a store.
-use Rattle.std.specs.Prelude.{ℕ, suc, length, ◌≡◌, List, [], ◌∷◌, map}
+use Rattle.std.specs.Prelude.{ℕ, suc, length, ◌≡◌, ◌||◌, List, [], ◌∷◌, map}
 use Rattle.std.proofs.Common.{refl, subst, sym, ap, ◌∙◌}
+use Rattle.kernel_model.specs.declared.Object.{Object}
 use Rattle.kernel_model.specs.Objects.{Things}
+use Rattle.kernel_model.specs.Access.{changed_by}
+use Rattle.kernel_model.specs.Locks.{is_held_exclusively}
 use Rattle.kernel_model.specs.Levels.{Level, answer_of}
 use Rattle.kernel_model.specs.UndoLog.{undo_log, undo_all, kept_by_log}
+use Rattle.kernel_model.specs.InPlace.{is_changed_in}
+use Rattle.kernel_model.specs.Sound.{AreRecorded}
 use Rattle.kernel_model.specs.Alike.{LevelsAlike}
 use Rattle.kernel_laws.specs.Soundness.{found_by}
 use Rattle.placed_laws.specs.Placed.{PlacedLevel, levels_with, bare}
@@ -16,6 +21,17 @@ relaid w ls = levels_with w (map bare ls)
 pub relaid_alike : (w : Things) (ls : List Level) → LevelsAlike ls (relaid w ls)
 relaid_alike w [] = tt
 relaid_alike w (l ∷ ls) = (refl, relaid_alike (undo_all l.records w) ls)
+
+-- hold the same exclusively
+pub laid_changed : (w : Things) (ls : List Level) (o : Object) → is_changed_in (relaid w ls) o ≡ is_changed_in ls o
+laid_changed w [] o = refl
+laid_changed w (l ∷ ls) o = ap (λ b. is_held_exclusively (l.touched o) || b) (laid_changed (undo_all l.records w) ls o)
+
+-- so too the objects of their records
+pub laid_recorded : (w : Things) (ls : List Level) → AreRecorded ls → AreRecorded (relaid w ls)
+laid_recorded w [] h = tt
+laid_recorded w (l ∷ ls) h =
+    (λ i among. laid_changed w (l ∷ ls) (changed_by i) ∙ h.0 i among, laid_recorded (undo_all l.records w) ls h.1)
 
 -- and answer the same
 pub answer_laid : (answer : List ℕ) (w : Things) (ls : List Level) → answer_of answer (relaid w ls) ≡ answer_of answer ls

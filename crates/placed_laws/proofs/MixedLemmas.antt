@@ -47,6 +47,6 @@ mixed_sound v s t sound living source =
       handlers = subst AreHandlers (source Queue).same.1 (source Queue).store.handlers;
       handlers_live = λ q pt e.
           sym ((source Queue).living q) ∙ (source Queue).store.handlers_live q pt (ap (λ hs. list_any (is_handler q pt) hs) (source Queue).same.1 ∙ e);
-      segs = λ q pt out. sym (source (Graft q pt)).same ∙ (source (Graft q pt)).store.segs q pt out;
+      segments = λ q pt out. sym (source (Graft q pt)).same ∙ (source (Graft q pt)).store.segments q pt out;
       ledgers = sound.ledgers;
     }

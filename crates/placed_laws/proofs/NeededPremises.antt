@@ -12,7 +12,7 @@ use Rattle.kernel_model.specs.declared.Op.TheVariants.{Call, Ret}
 use Rattle.kernel_model.specs.declared.QueueRow.{QueueRow}
 use Rattle.kernel_model.specs.declared.Reply.{Reply}
 use Rattle.kernel_model.specs.declared.SysCall.TheVariants.{Yield, Peek, Poke}
-use Rattle.kernel_model.specs.World.{World, ImageTable}
+use Rattle.kernel_model.specs.World.{World, ImageTable, plain_image}
 use Rattle.kernel_model.specs.Objects.{Objects, same_object}
 use Rattle.kernel_model.specs.Meaning.{stage}
 use Rattle.kernel_model.specs.UndoLog.{undo_log}
@@ -37,7 +37,7 @@ small_world = record { frames = 2; patience = λ kind. 10; grant = 0; disk_size 
 
 -- an image that sets a cell
 abbrev setting : ImageTable
-setting slot = cond (slot == 0) (Some (record { code = instr Call 0 0 0 1 ∷ instr Ret 0 0 0 0 ∷ []; body = [] })) None
+setting slot = cond (slot == 0) (Some (plain_image (instr Call 0 0 0 1 ∷ instr Ret 0 0 0 0 ∷ []) [])) None
 
 -- a row of the queue
 abbrev row : ℕ → QueueRow
@@ -127,7 +127,7 @@ absent_drop_differs = (refl, refl)
 
 -- a graft that takes lock 1
 abbrev locking : ImageTable
-locking slot = cond (slot == 0) (Some (record { code = instr Call 0 0 0 12 ∷ instr Ret 0 0 0 0 ∷ []; body = [] })) None
+locking slot = cond (slot == 0) (Some (plain_image (instr Call 0 0 0 12 ∷ instr Ret 0 0 0 0 ∷ []) [])) None
 
 -- process 0's user lock 1
 abbrev user_lock : Blocker

@@ -5,7 +5,7 @@ use Rattle.kernel_model.specs.declared.Cause.{Cause}
 use Rattle.kernel_model.specs.declared.Cause.TheVariants.{BadArgument, NotYours, SpentSteps, SpentRecords, SpentLocks, RefusedAnswer}
 use Rattle.kernel_model.specs.declared.Inverse.{Inverse}
 use Rattle.kernel_model.specs.declared.Inverse.TheVariants.{Mark}
-use Rattle.kernel_model.specs.declared.Kind.TheVariants.{Steps, Locks}
+use Rattle.kernel_model.specs.declared.Kind.TheVariants.{Steps, Records, Locks}
 use Rattle.kernel_model.specs.declared.Object.TheVariants.{Graft}
 use Rattle.kernel_model.specs.declared.OpenRow.{OpenRow}
 use Rattle.kernel_model.specs.World.{World, ImageTable}
@@ -13,9 +13,9 @@ use Rattle.kernel_model.specs.Objects.{Objects, Things, FrameValue, GraftValue, 
 use Rattle.kernel_model.specs.Machine.{Machine, Done, Called, Returned, Trapped, Outside, PastEnd, seg_step}
 use Rattle.kernel_model.specs.Policies.{valid, default_of, frames_of}
 use Rattle.kernel_model.specs.Charges.{funds, charge}
-use Rattle.kernel_model.specs.Access.{Access, Gives, Changes, Refuses, Callable, CellGet, CellSet, NiceGet, NiceSet, WindowGet, WindowSet, FramesMine, FrameAt, FrameBlock, FrameMark, TuneGet, TuneSet, TakeLock, callable, access, access_by, early_refusal, is_ask, asked_point, asked_objects, set_mark, own_frame, window_change, tune_change, param_top, in_range, chosen_param, Found}
-use Rattle.kernel_model.specs.Levels.{Level, Outcome, code_of, with_machine, with_touched, touch_outermost, answer_innermost, drop_innermost, drop_level}
-use Rattle.kernel_model.specs.GraftStep.{is_lock_due, lock_paid, after_result, is_record_spent, after_change, after_accessor, ask_refusal, ask_answered, after_ask, granted_call, after_call, completed, after_return, after_machine, is_spent, charged_step, micro_on}
+use Rattle.kernel_model.specs.Access.{Access, Gives, Changes, Refuses, Callable, CellGet, CellSet, NiceGet, NiceSet, WindowGet, WindowSet, FramesMine, FrameAt, FrameBlock, FrameMark, TuneGet, TuneSet, TakeLock, callable, access, access_by, early_refusal, is_ask, asked_point, asked_objects, set_mark, own_frame, window_change, tune_change, param_top, in_range, chosen_param, Found, found_segment, set_segment}
+use Rattle.kernel_model.specs.Levels.{Level, Outcome, code_of, image_of, keeps_in, with_machine, with_touched, touch_outermost, answer_innermost, drop_innermost, drop_level}
+use Rattle.kernel_model.specs.GraftStep.{is_lock_due, lock_paid, after_result, is_record_spent, after_change, after_accessor, ask_refusal, ask_answered, after_ask, granted_call, after_call, completed, after_keeping, after_answer, after_return, after_machine, is_spent, charged_step, micro_on}
 use Rattle.kernel_laws.proofs.LevelLemmas.{KeepOn, keep_touch, keep_answer}
 use Rattle.placed_laws.specs.Owners.{IsOwn, AreOwn, AreOfOwner, OwnersStay}
 
@@ -170,8 +170,19 @@ module _ (v : World) (images : ImageTable) (p q : ℕ) where
   completed_owned w l [] h = tt
   completed_owned w l (asker ∷ rest) h = (h.2.0, both_own q l.records asker.records h.1 h.2.1, h.2.2)
 
-  return_owned : (w : Objects) (l : Level) (ls : List Level) (b : Bool) → AreOfOwner q (l ∷ ls) → OwnedAfter q (after_return v w l ls b)
-  return_owned w l ls true h = completed_owned w l ls h
+  -- the segment that is kept is of the level's own graft
+  keeping_owned : (w : Objects) (l : Level) (ls : List Level) (spent : Bool) → AreOfOwner q (l ∷ ls) → OwnedAfter q (after_keeping v w l ls spent)
+  keeping_owned w l ls true h = drop_owned w l ls SpentRecords h
+  keeping_owned w l ls false h =
+      let u : Objects = record { accounts = charge Records l.owner l.point w.accounts; things = set_segment l.owner l.point (Some l.machine.memory) w.things } in
+      completed_owned u (record l { records = found_segment l.owner l.point w.things ∷ l.records }) ls (h.0, (h.0, h.1), h.2)
+
+  answer_owned : (w : Objects) (l : Level) (ls : List Level) (keeps : Bool) → AreOfOwner q (l ∷ ls) → OwnedAfter q (after_answer v w l ls keeps)
+  answer_owned w l ls true h = keeping_owned w l ls (is_record_spent w.accounts l ls) h
+  answer_owned w l ls false h = completed_owned w l ls h
+
+  return_owned : (w : Objects) (l : Level) (ls : List Level) (b : Bool) → AreOfOwner q (l ∷ ls) → OwnedAfter q (after_return v images w l ls b)
+  return_owned w l ls true h = answer_owned w l ls (keeps_in (image_of images (w.accounts.graft l.owner l.point))) h
   return_owned w l ls false h = drop_owned w l ls (RefusedAnswer (l.machine.regs 0) (l.machine.regs 1)) h
 
   -- ---- one instruction

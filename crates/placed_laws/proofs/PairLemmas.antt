@@ -2,21 +2,19 @@
 use Rattle.std.specs.Prelude.{◌≡◌, ℕ, ◌==◌, Bool, true, false, List, [], ◌∷◌, length, Option, Some, Contains, ⊤}
 use Rattle.std.specs.List.{AllByRecursion as Each}
 use Rattle.std.proofs.Common.{refl, subst, sym, ap}
-use Rattle.kernel_model.specs.declared.Held.{Held}
 use Rattle.kernel_model.specs.declared.Object.{Object}
-use Rattle.kernel_model.specs.Access.{changed_by, Found}
 use Rattle.kernel_model.specs.Objects.{Things, SameThing}
-use Rattle.kernel_model.specs.Locks.{Touched, is_held_exclusively}
+use Rattle.kernel_model.specs.Locks.{is_held_exclusively}
 use Rattle.kernel_model.specs.Levels.{Level, level_at, outermost_touched}
 use Rattle.kernel_model.specs.UndoLog.{undo_all}
 use Rattle.kernel_model.specs.InPlace.{is_changed_in}
 use Rattle.kernel_model.specs.Alike.{LevelsAlike}
 use Rattle.kernel_laws.proofs.UndoingLemmas.{inverses_change_one_object}
-use Rattle.graft_laws.proofs.PointLemmas.{or_left, or_right}
+use Rattle.graft_laws.proofs.PointLemmas.{or_right}
 use Rattle.graft_laws.proofs.LevelsAlikeLemmas.{length_alike}
 use Rattle.graft_laws.proofs.ObjectLemmas.{undo_all_keeps}
-use Rattle.history_laws.proofs.InverseLemmas.{AllPass, undo_all_other, thing_then}
-use Rattle.history_laws.proofs.RecordLemmas.{AreHeldBy, FoundByUndoing}
+use Rattle.history_laws.proofs.InverseLemmas.{AllPass, pass_more, undo_all_other, thing_then}
+use Rattle.history_laws.proofs.RecordLemmas.{FoundByUndoing}
 use Rattle.history_laws.proofs.SoundCallLemmas.{contains_first, contains_later}
 use Rattle.placed_laws.proofs.LevelLemmas.{relaid}
 
@@ -81,10 +79,6 @@ pub record FoundAs (test : Object → Bool) (x : Things) (l n : Level) : Type 0 
   pub own : (o : Object) → test o ≡ true → SameThing o l.kept n.kept
   pub other : (o : Object) → test o ≡ false → SameThing o n.kept x
 
-records_pass : (test : Object → Bool) (t : Touched) (is : List Found) → ((o : Object) → t o ≡ Held.Exclusive → test o ≡ true) → AreHeldBy t is → AllPass test is
-records_pass test t [] into h = tt
-records_pass test t (i ∷ is) into h = (into (changed_by i) h.0, records_pass test t is into h.1)
-
 -- levels laid over a store that agrees on what they hold exclusively
 pub laid_found : (test : Object → Bool) (x w u : Things) (ls : List Level) → FoundByUndoing w ls → ((o : Object) → is_changed_in ls o ≡ true → test o ≡ true) →
     ((o : Object) → test o ≡ true → SameThing o w u) → ((o : Object) → test o ≡ false → SameThing o u x) → Pairwise (FoundAs test x) ls (relaid u ls)
@@ -95,7 +89,7 @@ laid_found test x w u (l ∷ ls) found into own other = (
 )
   where
     pass : AllPass test l.records
-    pass = records_pass test l.touched l.records (λ o e. into o (or_left (is_held_exclusively (l.touched o)) (is_changed_in ls o) (ap is_held_exclusively e))) found.1
+    pass = pass_more (is_changed_in (l ∷ ls)) test l.records into found.1
 
     inner : (o : Object) → test o ≡ true → SameThing o l.kept (undo_all l.records u)
     inner o h = subst (λ y. SameThing o y (undo_all l.records u)) (sym found.0) (undo_all_keeps l.records o w u (own o h))

@@ -1,5 +1,5 @@
 -- A piece in place: it ends, or a graft call begins.
-use Rattle.std.specs.Prelude.{◌≡◌, ◌≢◌, ℕ, ◌≤◌, ◌||◌, true, false, List, [], ◌∷◌, ◌++◌, length, map, Option, Some, None, slice_get}
+use Rattle.std.specs.Prelude.{◌≡◌, ◌≢◌, ℕ, ◌≤◌, ◌||◌, true, false, List, [], ◌∷◌, ◌++◌, length, map, Option, Some, None}
 use Rattle.std.proofs.Common.{refl, subst, sym, ap, ◌∙◌, inl, inr}
 use Rattle.std.proofs.lemmas.Bool.{cases_Bool}
 use Rattle.kernel_model.specs.declared.Need.{Need}
@@ -10,10 +10,9 @@ use Rattle.kernel_model.specs.World.{World, ImageTable}
 use Rattle.kernel_model.specs.Objects.{Objects, GraftValue, SameAt, same_object}
 use Rattle.kernel_model.specs.Needs.{exclusive, payer_needs}
 use Rattle.kernel_model.specs.Machine.{first_machine, fed}
-use Rattle.kernel_model.specs.Policies.{or_zero}
 use Rattle.kernel_model.specs.Meaning.{Meaning, Stage}
 use Rattle.kernel_model.specs.Locks.{touch_all, untouched, is_held_exclusively}
-use Rattle.kernel_model.specs.Levels.{Config, image_of, body_in, base_of}
+use Rattle.kernel_model.specs.Levels.{Config, image_of, keeps_in, segment_with, base_of}
 use Rattle.kernel_model.specs.History.{Trace, first_trace, begin_at, begin_with, replay, marks_on}
 use Rattle.kernel_model.specs.Kernel.{Call, Kernel, Run, requeue, with_marks}
 use Rattle.kernel_model.specs.Blocking.{config_in, levels_in, config_of, levels_of, trace_of, needs, blocker}
@@ -89,11 +88,11 @@ module _ (m : Meaning) (laws : Laws m) (k : Kernel) (w : Objects) (here : IsPlac
         free = other_free;
       }
 
-  -- the graft of the point that is asked
-  pub graft_is : (a : Point) → m.asks k.world k.objects p c.stage ≡ Some a → w.accounts.graft a.installer a.point ≡ k.objects.accounts.graft a.installer a.point
+  -- the graft of the point that is asked, and what is kept for it
+  pub graft_is : (a : Point) → m.asks k.world k.objects p c.stage ≡ Some a → SameAt (Graft a.installer a.point) w k.objects
   graft_is a asks =
-      sym ((agrees (Graft a.installer a.point) (subst (λ ns. is_needed (Graft a.installer a.point) ns ≡ true) (sym (laws.need.point k.world k.objects p c.stage a (here.kernel.fit p c e) asks))
-      (later_needed (before_point k.objects a (m.need k.world k.objects p c.stage)) (needs_of_point k.objects a) (Graft a.installer a.point) (first_of_point a)))).0)
+      same_back (Graft a.installer a.point) k.objects w (agrees (Graft a.installer a.point) (subst (λ ns. is_needed (Graft a.installer a.point) ns ≡ true) (sym (laws.need.point k.world k.objects p c.stage a (here.kernel.fit p c e) asks))
+      (later_needed (before_point k.objects a (m.need k.world k.objects p c.stage)) (needs_of_point k.objects a) (Graft a.installer a.point) (first_of_point a))))
     where
       first_of_point : (a : Point) → is_needed (Graft a.installer a.point) (needs_of_point k.objects a) ≡ true
       first_of_point a = needed_here (exclusive (Graft a.installer a.point)) (payer_needs a.installer (k.objects.accounts.graft a.installer a.point))
@@ -110,13 +109,13 @@ begun_config : (m : Meaning) (v : World) (images : ImageTable) (s : Objects) (p 
 begun_config m v images s p t a asks =
     ap (λ (x : Option Point). config_in (elim (begin_with images s p (m.need v s p t) (m.feed t) x) as (λ _. Option Trace) [ None ↦ None | Some c ↦ marks_on v images p [] (first_trace c) ])) asks
 
--- level 0 without what it found, by its graft and its needs
-abbrev begun_level : ImageTable → ℕ → (feed : List ℕ) → Point → Option GraftValue → List Need → PlacedLevel
-begun_level images p feed a g ns =
+-- level 0 without what it found, by its graft, what is kept for that and its needs
+abbrev begun_level : ImageTable → ℕ → (feed : List ℕ) → Point → Option GraftValue → Option (ℕ → ℕ) → List Need → PlacedLevel
+begun_level images p feed a g kept ns =
     record {
       owner = a.installer;
       point = a.point;
-      machine = first_machine (base_of p 0) a.args (fed feed (λ i. or_zero (slice_get (body_in (image_of images g)) i)));
+      machine = first_machine (base_of p 0) a.args (fed feed (segment_with (image_of images g) (keeps_in (image_of images g)) kept));
       count = 0;
       touched = touch_all ns untouched;
       args = a.args;
@@ -137,8 +136,12 @@ begin_stands m laws u w here p c e none needed unblocked a asks sound stable =
     let leads : config_of m n.kernel p ≡ Some begun =
     ap (λ x. config_in (trace_of m n.kernel p x)) (at_here p (Some (record c { marks = Some [] })) k.call) ∙ begun_config m k.world k.images k.objects p c.stage a asks in
     let leads_then = config_same m n.kernel n.kernel.clock l.order p ∙ leads in
-    let level = ap (λ g. begun_level k.images p (m.feed c.stage) a g (m.need k.world w p c.stage)) (graft_is m laws k w here p c e none needed unblocked a asks)
-    ∙ ap (begun_level k.images p (m.feed c.stage) a (k.objects.accounts.graft a.installer a.point)) (sym (needs_are m laws k w here p c e none needed unblocked)) in
+    let same = graft_is m laws k w here p c e none needed unblocked a asks in
+    let g = k.objects.accounts.graft a.installer a.point in
+    let kept = k.objects.things.segment a.installer a.point in
+    let level = ap (λ x. begun_level k.images p (m.feed c.stage) a x (w.things.segment a.installer a.point) (m.need k.world w p c.stage)) same.0
+    ∙ ap (λ x. begun_level k.images p (m.feed c.stage) a g x (m.need k.world w p c.stage)) same.1
+    ∙ ap (begun_level k.images p (m.feed c.stage) a g kept) (sym (needs_are m laws k w here p c e none needed unblocked)) in
     stands_after m laws k w here p (with_config p placed (run_over m w u)) n
     (record {
       world = refl;

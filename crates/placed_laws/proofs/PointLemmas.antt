@@ -62,7 +62,7 @@ shown_sound v s y h =
       policies = λ kind low. subst (IsSoundPolicy kind) (same_back (Pol kind) (shown s y) y (shown_same s y (Pol kind) low)) (h.policies kind low);
       handlers = h.handlers;
       handlers_live = h.handlers_live;
-      segs = h.segs;
+      segments = h.segments;
       ledgers = h.ledgers;
     }
 

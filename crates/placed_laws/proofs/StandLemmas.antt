@@ -169,7 +169,7 @@ module _ (m : Meaning) (laws : Laws m) (r : Run) (w : Objects) (here : IsPlaced 
     ask_stands None asks sound stable = finish_stands m laws r w here whole p c None k.objects w (m.need k.world k.objects p c.stage) (piece_ends m laws k w here p c e none needed unblocked) sound stable
     ask_stands (Some a) asks sound stable =
         subst (λ y. RunStandsFor m (placed_requeue p (placed_piece_at m p pc a y x)) (requeue p (piece_at m p c (k.objects.accounts.graft a.installer a.point) r)))
-        (sym (graft_is m laws k w here p c e none needed unblocked a asks)) (by_graft (k.objects.accounts.graft a.installer a.point) sound stable)
+        (sym (graft_is m laws k w here p c e none needed unblocked a asks).0) (by_graft (k.objects.accounts.graft a.installer a.point) sound stable)
       where
         by_graft : (y : Option GraftValue) → IsSoundRun m (requeue p (piece_at m p c y r)) → ((i : ℕ) → i ≢ p → IsStable m k (requeue p (piece_at m p c y r)).kernel i) →
             RunStandsFor m (placed_requeue p (placed_piece_at m p pc a y x)) (requeue p (piece_at m p c y r))

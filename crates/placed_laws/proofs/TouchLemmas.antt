@@ -5,18 +5,18 @@ use Rattle.kernel_model.specs.declared.Cause.{Cause}
 use Rattle.kernel_model.specs.declared.Cause.TheVariants.{RefusedAnswer, SpentSteps, SpentRecords, SpentLocks}
 use Rattle.kernel_model.specs.declared.Instr.{Instr}
 use Rattle.kernel_model.specs.declared.Mode.{Mode}
-use Rattle.kernel_model.specs.declared.Kind.TheVariants.{Steps, Locks}
+use Rattle.kernel_model.specs.declared.Kind.TheVariants.{Steps, Records, Locks}
 use Rattle.kernel_model.specs.declared.Need.{Need}
 use Rattle.kernel_model.specs.declared.Object.{Object}
 use Rattle.kernel_model.specs.World.{World, ImageTable}
 use Rattle.kernel_model.specs.Objects.{Objects, GraftValue, same_object, with_accounts}
 use Rattle.kernel_model.specs.Machine.{Machine, Done, Called, Returned, Trapped, Outside, PastEnd, seg_step, next_call}
-use Rattle.kernel_model.specs.Access.{Access, Gives, Changes, Refuses, access, early_refusal, is_ask, accessed, asked_point, asked_objects, asked_graft, bare_found}
+use Rattle.kernel_model.specs.Access.{Access, Gives, Changes, Refuses, access, early_refusal, is_ask, accessed, asked_point, asked_objects, asked_graft, bare_found, found_segment, set_segment}
 use Rattle.kernel_model.specs.Policies.{kind_of, default_of, valid}
 use Rattle.kernel_model.specs.Locks.{Touched, stronger, held_as, touch, touch_all}
 use Rattle.kernel_model.specs.Charges.{charge, funds}
-use Rattle.kernel_model.specs.Levels.{Level, Config, answered, level_at, touched_in, touched_at, with_machine, with_touched, touch_outermost, answer_innermost, code_of, drop_innermost}
-use Rattle.kernel_model.specs.GraftStep.{after_access, lock_paid, is_lock_due, after_result, is_record_spent, after_change, after_accessor, ask_refusal, ask_answered, after_ask, granted_call, after_call, after_return, after_machine, is_spent, charged_step, micro, micro_on, call_needs, instruction_needs, next_needs}
+use Rattle.kernel_model.specs.Levels.{Level, Config, answered, level_at, touched_in, touched_at, with_machine, with_touched, touch_outermost, answer_innermost, code_of, image_of, keeps_in, drop_innermost}
+use Rattle.kernel_model.specs.GraftStep.{after_access, lock_paid, is_lock_due, after_result, is_record_spent, after_change, after_accessor, ask_refusal, ask_answered, after_ask, granted_call, after_call, completed, after_keeping, after_answer, after_return, after_machine, is_spent, charged_step, micro, micro_on, call_needs, instruction_needs, next_needs}
 use Rattle.kernel_model.specs.Alike.{is_needed}
 use Rattle.history_laws.proofs.HoldLemmas.{called_next}
 
@@ -147,16 +147,30 @@ module _ (v : World) (images : ImageTable) (p : ℕ) (o : Object) where
       by_ask true h = asked_alike w l ls m id h (ask_refusal w l.owner (asked_point id (l.machine.regs 0)) id (l ∷ ls))
       by_ask false h = accessed_alike w l ls m id (access id (l.machine.regs 0) (l.machine.regs 1) (l.machine.regs 2) l.owner w.things) h
 
-  returned_alike : (w : Objects) (l : Level) (ls : List Level) (b : Bool) → HoldAlike o (after_return v w l ls b).config.levels (l ∷ ls)
+  -- a level that ends is gone
+  completed_alike : (w : Objects) (n l : Level) (ls : List Level) → HoldAlike o (completed w n ls).config.levels (l ∷ ls)
+  completed_alike w n l [] = λ e. absurd (no_less 0 e)
+    where
+      no_less : (n : ℕ) → n ≡ suc n → ⊥
+      no_less n h = omega arith
+  completed_alike w n l (k ∷ ks) = λ e. absurd (no_less (suc (length ks)) e)
+    where
+      no_less : (n : ℕ) → n ≡ suc n → ⊥
+      no_less n h = omega arith
+
+  returned_alike : (w : Objects) (l : Level) (ls : List Level) (b : Bool) → HoldAlike o (after_return v images w l ls b).config.levels (l ∷ ls)
   returned_alike w l ls false = fewer v w l l ls (RefusedAnswer (l.machine.regs 0) (l.machine.regs 1)) o
-  returned_alike w l [] true = λ e. absurd (no_less 0 e)
+  returned_alike w l ls true = by_keeps (keeps_in (image_of images (w.accounts.graft l.owner l.point)))
     where
-      no_less : (n : ℕ) → n ≡ suc n → ⊥
-      no_less n h = omega arith
-  returned_alike w l (k ∷ ks) true = λ e. absurd (no_less (suc (length ks)) e)
-    where
-      no_less : (n : ℕ) → n ≡ suc n → ⊥
-      no_less n h = omega arith
+      by_spent : (b : Bool) → HoldAlike o (after_keeping v w l ls b).config.levels (l ∷ ls)
+      by_spent true = fewer v w l l ls SpentRecords o
+      by_spent false =
+          completed_alike (record { accounts = charge Records l.owner l.point w.accounts; things = set_segment l.owner l.point (Some l.machine.memory) w.things })
+          (record l { records = found_segment l.owner l.point w.things ∷ l.records }) l ls
+
+      by_keeps : (b : Bool) → HoldAlike o (after_answer v w l ls b).config.levels (l ∷ ls)
+      by_keeps true = by_spent (is_record_spent w.accounts l ls)
+      by_keeps false = completed_alike w l l ls
 
   done_alike : (w : Objects) (l : Level) (ls : List Level) (code : List Instr) (x : Done) → seg_step code l.machine ≡ x → is_needed o (instruction_needs v l (next_call code l.machine)) ≡ false →
       HoldAlike o (after_machine v images p w l ls x).config.levels (l ∷ ls)

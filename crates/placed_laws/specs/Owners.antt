@@ -3,7 +3,7 @@ use Rattle.std.specs.Prelude.{◌≡◌, ℕ, List, [], ◌∷◌, ⊤}
 use Rattle.kernel_model.specs.Access.{Found}
 use Rattle.kernel_model.specs.declared.Cause.{Cause}
 use Rattle.kernel_model.specs.declared.Inverse.{Inverse}
-use Rattle.kernel_model.specs.declared.Inverse.TheVariants.{Nice, Window, Mark, Tune}
+use Rattle.kernel_model.specs.declared.Inverse.TheVariants.{Nice, Window, Mark, Tune, Segment}
 use Rattle.kernel_model.specs.declared.Need.{Need}
 use Rattle.kernel_model.specs.declared.Point.{Point}
 use Rattle.kernel_model.specs.Objects.{Objects}
@@ -22,6 +22,7 @@ IsOwn q (Nice r v) = r ≡ q
 IsOwn q (Window r fd v) = r ≡ q
 IsOwn q (Mark f v) = ⊤
 IsOwn q (Tune kind k v) = ⊤
+IsOwn q (Segment r pt) = r ≡ q
 
 -- the same of each of some records (by recursion, so that it computes)
 abbrev pub AreOwn : ℕ → List Found → Type 0

@@ -117,7 +117,7 @@ give_queue s p q k n blocks l = grind arith
 
 -- an install
 install_queue : (s : Objects) (p pt : ℕ) (new : GraftValue) (old : Option GraftValue)
-    (blocks : Blocks) → (install_piece s p pt new old blocks).objects.things ≡ s.things
+    (blocks : Blocks) → (install_piece s p pt new old blocks).objects.things.queue ≡ s.things.queue
 install_queue s p pt new None blocks = refl
 install_queue s p pt new (Some g) blocks = refl
 
@@ -173,8 +173,7 @@ leaves_queue (Choose kind j) n v s blocks p answer io h = refl
 leaves_queue (Give r k x) n v s blocks p answer io h =
     ap (λ (w : Things). w.queue) (give_queue s p r k x blocks (lives s.things.queue r))
 leaves_queue (Install pt i limit) n v s blocks p answer io h =
-    ap (λ (w : Things). w.queue)
-    (install_queue s p pt (new_graft i limit) (s.accounts.graft p pt) blocks)
+    install_queue s p pt (new_graft i limit) (s.accounts.graft p pt) blocks
 leaves_queue (Remove pt) n v s blocks p answer io h =
     ap (λ (w : Things). w.queue) (remove_queue s p pt (s.accounts.graft p pt) blocks)
 leaves_queue (Fund pt k x) n v s blocks p answer io h =

@@ -13,7 +13,7 @@ use Rattle.kernel_model.specs.Meaning.{Piece}
 use Rattle.kernel_model.specs.FilePieces.{leaves, refuses, well}
 use Rattle.kernel_model.specs.Pieces.{give_piece, pay_piece, install_piece, remove_piece, fund_piece, bill_piece, less, more, accounts_after, funded, accounts_funded, with_graft, new_graft}
 use Rattle.kernel_model.specs.Sound.{IsSoundStore, ledger, graft_balance}
-use Rattle.plain_rules.specs.SoundStores.{store_with_accounts, not_gone}
+use Rattle.plain_rules.specs.SoundStores.{store_with_accounts, store_without_segment, not_gone}
 use Rattle.plain_rules.specs.Ledgers.{sum_same, less_balance, more_balance, give_ledger, graft_ledger, exchange_ledger, at_other}
 
 -- ---- gifts
@@ -94,7 +94,9 @@ pub install_store : (v : World) (s : Objects) (p pt i limit : ℕ) (old : Option
     IsSoundStore v (install_piece s p pt (new_graft i limit) old blocks).objects
 install_store v s p pt i limit (Some g) blocks e h alive low = h
 install_store v s p pt i limit None blocks e h alive low =
-    graft_store v s p pt (new_graft i limit) h alive low (λ k. sym (ap (graft_balance k) e))
+    let g = new_graft i limit in
+    store_without_segment v (with_accounts (with_graft p pt g s.accounts) s) p pt
+    (graft_store v s p pt g h alive low (λ k. sym (ap (graft_balance k) e)))
 
 -- a graft billed
 pub bill_store : (v : World) (s : Objects) (p pt : ℕ) (old : Option GraftValue) (blocks : Blocks) →

@@ -105,7 +105,7 @@ store_with_new v s c h free = record {
   policies = h.policies;
   handlers = h.handlers;
   handlers_live = λ q pt e. still_lives s.things.queue c q (h.handlers_live q pt e);
-  segs = h.segs;
+  segments = h.segments;
   ledgers = h.ledgers;
 }
 
@@ -323,6 +323,6 @@ exit_store v s p blocks h alive ne =
       handlers = handlers_pass (λ (x : ℕ × ℕ). not (x.0 == p)) s.things.handlers h.handlers;
       handlers_live = λ q pt e. let k = handler_left p q pt s.things.handlers e in
           lives_on p s.things.queue q k.1 (h.handlers_live q pt k.0);
-      segs = h.segs;
+      segments = h.segments;
       ledgers = λ k. exit_ledger p s.accounts k (h.numbers p alive) ne ∙ h.ledgers k;
     }

@@ -1,6 +1,6 @@
 -- The changes of one part of a store that keep it sound: the queue, the cache, an open file, a
--- cell, a lock, a policy, accounts and grafts.
-use Rattle.std.specs.Prelude.{◌≡◌, ◌≢◌, ℕ, ◌<◌, ◌==◌, ◌&&◌, true, false, List, Option, Some}
+-- cell, a lock, a policy, a kept segment, accounts and grafts.
+use Rattle.std.specs.Prelude.{◌≡◌, ◌≢◌, ℕ, ◌<◌, ◌==◌, ◌&&◌, true, false, List, Option, None, Some}
 use Rattle.std.proofs.Common.{◌⊎◌, arith, subst, sym, ap, ◌∙◌, inl, inr}
 use Rattle.std.proofs.lemmas.Bool.{cases_Bool, cases_eq, cond-true, cond-false, eqb-true, eq-eqb, ne_eqb, true≢false, and_parts}
 use Rattle.std.proofs.lemmas.Bool.Decides.{nat_tests}
@@ -9,7 +9,7 @@ use Rattle.kernel_model.specs.declared.QueueRow.{QueueRow}
 use Rattle.kernel_model.specs.declared.OpenRow.{OpenRow}
 use Rattle.kernel_model.specs.World.{World}
 use Rattle.kernel_model.specs.Objects.{Objects, Accounts, GraftValue, AcctValue, CacheValue, PolValue, at, at2, with_accounts, with_things}
-use Rattle.kernel_model.specs.Access.{set_cell}
+use Rattle.kernel_model.specs.Access.{set_cell, set_segment}
 use Rattle.kernel_model.specs.Policies.{lives}
 use Rattle.kernel_model.specs.FilePieces.{with_cache, with_file}
 use Rattle.kernel_model.specs.Pieces.{with_queue, with_holder}
@@ -49,7 +49,7 @@ store_with_cache v s c h k = record {
   policies = h.policies;
   handlers = h.handlers;
   handlers_live = h.handlers_live;
-  segs = h.segs;
+  segments = h.segments;
   ledgers = h.ledgers;
 }
 
@@ -96,7 +96,7 @@ store_with_file v s p fd row h alive low sound = record {
   policies = h.policies;
   handlers = h.handlers;
   handlers_live = h.handlers_live;
-  segs = h.segs;
+  segments = h.segments;
   ledgers = h.ledgers;
 }
 
@@ -128,7 +128,7 @@ store_with_cell v s p k x h alive = record {
   policies = h.policies;
   handlers = h.handlers;
   handlers_live = h.handlers_live;
-  segs = h.segs;
+  segments = h.segments;
   ledgers = h.ledgers;
 }
   where
@@ -171,7 +171,7 @@ store_with_holder v s u holder h low alive = record {
   policies = h.policies;
   handlers = h.handlers;
   handlers_live = h.handlers_live;
-  segs = h.segs;
+  segments = h.segments;
   ledgers = h.ledgers;
 }
 
@@ -209,7 +209,42 @@ store_with_policy v s kind pol h sound = record {
   ];
   handlers = h.handlers;
   handlers_live = h.handlers_live;
-  segs = h.segs;
+  segments = h.segments;
+  ledgers = h.ledgers;
+}
+
+-- ---- a kept segment
+
+-- nothing is kept for a graft any more
+pub store_without_segment : (v : World) (s : Objects) (p pt : ℕ) → IsSoundStore v s →
+    IsSoundStore v (with_things (set_segment p pt None s.things) s)
+store_without_segment v s p pt h = record {
+  world = h.world;
+  root = h.root;
+  once = h.once;
+  numbers = h.numbers;
+  nices = h.nices;
+  in_use = h.in_use;
+  frame_numbers = h.frame_numbers;
+  one_frame = h.one_frame;
+  frames = h.frames;
+  holders = h.holders;
+  grafts = h.grafts;
+  gone = λ q e. record {
+    cells = (h.gone q e).cells;
+    files = (h.gone q e).files;
+    balances = (h.gone q e).balances;
+    spent = (h.gone q e).spent;
+  };
+  files = h.files;
+  policies = h.policies;
+  handlers = h.handlers;
+  handlers_live = h.handlers_live;
+  segments = λ q pu e. elim (cases_Bool (q == p && pu == pt)) [
+    | inl same ↦ cond-true (q == p && pu == pt) None (s.things.segment q pu) same
+    | inr ne ↦ cond-false (q == p && pu == pt) None (s.things.segment q pu) ne
+        ∙ h.segments q pu e
+  ];
   ledgers = h.ledgers;
 }
 
@@ -248,7 +283,7 @@ store_with_queue v s queue h k = record {
   policies = h.policies;
   handlers = h.handlers;
   handlers_live = λ q pt e. k.living q ∙ h.handlers_live q pt e;
-  segs = h.segs;
+  segments = h.segments;
   ledgers = h.ledgers;
 }
 
@@ -286,6 +321,6 @@ store_with_accounts v s a h k = record {
   policies = h.policies;
   handlers = h.handlers;
   handlers_live = h.handlers_live;
-  segs = h.segs;
+  segments = h.segments;
   ledgers = λ j. k.ledgers j ∙ h.ledgers j;
 }

@@ -6,7 +6,7 @@ use Rattle.kernel_model.specs.declared.Event.{Event}
 use Rattle.kernel_model.specs.declared.Event.TheVariants.{Sys, Step}
 use Rattle.kernel_model.specs.declared.Op.TheVariants.{Ret}
 use Rattle.kernel_model.specs.declared.SysCall.TheVariants.{Serve}
-use Rattle.kernel_model.specs.World.{World, ImageTable}
+use Rattle.kernel_model.specs.World.{World, ImageTable, plain_image}
 use Rattle.kernel_model.specs.Objects.{Objects, at, at2}
 use Rattle.kernel_model.specs.Meaning.{stage}
 use Rattle.kernel_model.specs.Kernel.{Kernel, new_entry}
@@ -22,7 +22,7 @@ small_world = record { frames = 2; patience = λ kind. 10; grant = 0; disk_size 
 
 -- each image answers at once with its arguments: the number of the port, and so as many bytes of what it is fed
 abbrev answering : ImageTable
-answering slot = Some (record { code = record { op = Ret; a = 0; b = 0; c = 0; imm = 0 } ∷ []; body = [] })
+answering slot = Some (plain_image (record { op = Ret; a = 0; b = 0; c = 0; imm = 0 } ∷ []) [])
 
 -- process 0 has a handler at port 1, which can pay for ten steps
 abbrev with_handler : Objects

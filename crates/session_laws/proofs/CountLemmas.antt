@@ -13,10 +13,10 @@ use Rattle.kernel_model.specs.World.{World, ImageTable}
 use Rattle.kernel_model.specs.Objects.{Objects, Accounts, Things, GraftValue, with_accounts}
 use Rattle.kernel_model.specs.Machine.{Machine, Done, Called, Returned, Trapped, Outside, PastEnd, seg_step}
 use Rattle.kernel_model.specs.Policies.{valid, default_of}
-use Rattle.kernel_model.specs.Access.{Access, Gives, Changes, Refuses, access, early_refusal, is_ask, asked_point, asked_objects, asked_graft}
+use Rattle.kernel_model.specs.Access.{found_segment, set_segment, Access, Gives, Changes, Refuses, access, early_refusal, is_ask, asked_point, asked_objects, asked_graft}
 use Rattle.kernel_model.specs.Charges.{funds, charge, charge_by, charge_account, charge_graft, taken_from, removed, removed_by}
-use Rattle.kernel_model.specs.Levels.{Level, Config, Outcome, code_of, limit_in, with_machine, with_touched, touch_outermost, answer_innermost, drop_innermost}
-use Rattle.kernel_model.specs.GraftStep.{is_lock_due, lock_paid, after_result, is_record_spent, after_change, after_accessor, ask_refusal, ask_answered, after_ask, granted_call, after_call, completed, after_return, after_machine, is_spent, charged_step, micro_on, micro}
+use Rattle.kernel_model.specs.Levels.{Level, Config, Outcome, code_of, image_of, keeps_in, limit_in, with_machine, with_touched, touch_outermost, answer_innermost, drop_innermost}
+use Rattle.kernel_model.specs.GraftStep.{is_lock_due, lock_paid, after_result, is_record_spent, after_change, after_accessor, ask_refusal, ask_answered, after_ask, granted_call, after_call, completed, after_keeping, after_answer, after_return, after_machine, is_spent, charged_step, micro_on, micro}
 use Rattle.kernel_laws.proofs.LevelLemmas.{each_from, each_contains}
 use Rattle.kernel_laws.proofs.StoreLemmas.{found_at}
 use Rattle.session_laws.specs.Counts.{CountsFit, InstructionsKeepCounts}
@@ -165,9 +165,25 @@ module _ (v : World) (images : ImageTable) (p : ℕ) where
   completed_fits w l [] h = tt
   completed_fits w l (k ∷ ls) h = h.1
 
+  keeping_fits : (w : Objects) (l : Level) (ls : List Level) (spent : Bool) → AllFit w.accounts (l ∷ ls) →
+      OutcomeFits (after_keeping v w l ls spent)
+  keeping_fits w l ls true h = drop_fits w l ls SpentRecords h
+  keeping_fits w l ls false h =
+      completed_fits
+      (record {
+        accounts = charge Records l.owner l.point w.accounts;
+        things = set_segment l.owner l.point (Some l.machine.memory) w.things;
+      })
+      (record l { records = found_segment l.owner l.point w.things ∷ l.records }) ls (charged_fits Records w l ls h)
+
+  kept_fits : (w : Objects) (l : Level) (ls : List Level) (keeps : Bool) → AllFit w.accounts (l ∷ ls) →
+      OutcomeFits (after_answer v w l ls keeps)
+  kept_fits w l ls true h = keeping_fits w l ls (is_record_spent w.accounts l ls) h
+  kept_fits w l ls false h = completed_fits w l ls h
+
   return_fits : (w : Objects) (l : Level) (ls : List Level) (is_valid : Bool) → AllFit w.accounts (l ∷ ls) →
-      OutcomeFits (after_return v w l ls is_valid)
-  return_fits w l ls true h = completed_fits w l ls h
+      OutcomeFits (after_return v images w l ls is_valid)
+  return_fits w l ls true h = kept_fits w l ls (keeps_in (image_of images (w.accounts.graft l.owner l.point))) h
   return_fits w l ls false h = drop_fits w l ls (RefusedAnswer (l.machine.regs 0) (l.machine.regs 1)) h
 
   machine_fits : (w : Objects) (l : Level) (ls : List Level) (d : Done) → AllFit w.accounts (l ∷ ls) →

@@ -12,8 +12,8 @@ use Rattle.kernel_model.specs.Machine.{Machine, Done, Went, Called, Returned, Tr
 use Rattle.kernel_model.specs.Policies.{valid}
 use Rattle.kernel_model.specs.Access.{Access, Gives, Changes, Refuses, access, early_refusal, is_ask, asked_point}
 use Rattle.kernel_model.specs.Charges.{funds, spend, pay, returned, charge_account, charge_graft, charge_by, charge, removed, removed_by}
-use Rattle.kernel_model.specs.Levels.{Level, Outcome, code_of, limit_in, drop_innermost}
-use Rattle.kernel_model.specs.GraftStep.{is_lock_due, lock_paid, after_result, is_record_spent, after_change, after_accessor, ask_refusal, ask_answered, after_ask, granted_call, after_call, completed, after_return, after_machine, is_spent, charged_step, record_count}
+use Rattle.kernel_model.specs.Levels.{Level, Outcome, code_of, image_of, keeps_in, limit_in, drop_innermost}
+use Rattle.kernel_model.specs.GraftStep.{is_lock_due, lock_paid, after_result, is_record_spent, after_change, after_accessor, ask_refusal, ask_answered, after_ask, granted_call, after_call, completed, after_keeping, after_answer, after_return, after_machine, is_spent, charged_step, record_count}
 use Rattle.kernel_model.specs.declared.Inverse.{Inverse}
 use Rattle.kernel_laws.proofs.AmountLemmas.{charge_ledger, ledgers_stay}
 use Rattle.plain_rules.specs.Ledgers.{at_here, at_other}
@@ -172,10 +172,27 @@ completed_stays : (w : Objects) (l : Level) (ls : List Level) → StepsStay w.ac
 completed_stays w l [] = none_stays w.accounts
 completed_stays w l (asker ∷ rest) = none_stays w.accounts
 
-return_stays : (v : World) (w : Objects) (l : Level) (ls : List Level) (is_valid : Bool) → l.point < 16 →
-    StepsStay w.accounts (left (after_return v w l ls is_valid))
-return_stays v w l ls true low = completed_stays w l ls
-return_stays v w l ls false low = drop_stays v w l ls (Cause.RefusedAnswer (l.machine.regs 0) (l.machine.regs 1)) low
+-- a segment that is kept costs a record
+keeping_stays : (v : World) (w : Objects) (l : Level) (ls : List Level) (spent : Bool) → l.point < 16 →
+    is_record_spent w.accounts l ls ≡ spent → StepsStay w.accounts (left (after_keeping v w l ls spent))
+keeping_stays v w l ls true low is = drop_stays v w l ls Cause.SpentRecords low
+keeping_stays v w l [] false low is =
+    charge_stays Records w.accounts l.owner l.point of_records low
+    (pays (funds w.accounts l.owner l.point Records == 0) (record_count (l ∷ []) == 64) is)
+keeping_stays v w l (asker ∷ rest) false low is =
+    charge_stays Records w.accounts l.owner l.point of_records low
+    (pays (funds w.accounts l.owner l.point Records == 0) (record_count (l ∷ asker ∷ rest) == 64) is)
+
+answer_stays : (v : World) (w : Objects) (l : Level) (ls : List Level) (keeps : Bool) → l.point < 16 →
+    StepsStay w.accounts (left (after_answer v w l ls keeps))
+answer_stays v w l ls true low = keeping_stays v w l ls (is_record_spent w.accounts l ls) low refl
+answer_stays v w l ls false low = completed_stays w l ls
+
+return_stays : (v : World) (images : ImageTable) (w : Objects) (l : Level) (ls : List Level) (is_valid : Bool) → l.point < 16 →
+    StepsStay w.accounts (left (after_return v images w l ls is_valid))
+return_stays v images w l ls true low =
+    answer_stays v w l ls (keeps_in (image_of images (w.accounts.graft l.owner l.point))) low
+return_stays v images w l ls false low = drop_stays v w l ls (Cause.RefusedAnswer (l.machine.regs 0) (l.machine.regs 1)) low
 
 machine_stays : (v : World) (images : ImageTable) (p : ℕ) (w : Objects) (l : Level) (ls : List Level) (done : Done) → l.point < 16 →
     StepsStay w.accounts (left (after_machine v images p w l ls done))
@@ -183,7 +200,7 @@ machine_stays v images p w l ls (Went m) low = none_stays w.accounts
 machine_stays v images p w l ls (Called id m) low =
     call_stays v images w p l ls m id (early_refusal v.callable id (l.machine.regs 0) (l.machine.regs 1) l.owner) low
 machine_stays v images p w l ls Returned low =
-    return_stays v w l ls (valid w.things l.owner l.point l.args (l.machine.regs 0) (l.machine.regs 1)) low
+    return_stays v images w l ls (valid w.things l.owner l.point l.args (l.machine.regs 0) (l.machine.regs 1)) low
 machine_stays v images p w l ls Done.DividedByZero low = drop_stays v w l ls Cause.DivideByZero low
 machine_stays v images p w l ls (Trapped code) low = drop_stays v w l ls (Cause.Trap code) low
 machine_stays v images p w l ls Outside low = drop_stays v w l ls Cause.DivideByZero low

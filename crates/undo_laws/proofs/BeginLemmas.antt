@@ -12,8 +12,8 @@ use Rattle.kernel_model.specs.Machine.{Machine, Done, Called, Returned, Trapped,
 use Rattle.kernel_model.specs.Policies.{valid, default_of}
 use Rattle.kernel_model.specs.Access.{Access, Gives, Changes, Refuses, access, early_refusal, is_ask, asked_point, asked_objects, asked_graft}
 use Rattle.kernel_model.specs.Charges.{funds, charge, removed}
-use Rattle.kernel_model.specs.Levels.{Level, Config, Outcome, code_of, with_machine, with_touched, touch_outermost, answer_innermost, drop_innermost}
-use Rattle.kernel_model.specs.GraftStep.{is_lock_due, lock_paid, after_result, is_record_spent, after_change, after_accessor, ask_refusal, ask_answered, after_ask, granted_call, after_call, completed, after_return, after_machine, is_spent, charged_step, micro_on, micro}
+use Rattle.kernel_model.specs.Levels.{Level, Config, Outcome, image_of, keeps_in, code_of, with_machine, with_touched, touch_outermost, answer_innermost, drop_innermost}
+use Rattle.kernel_model.specs.GraftStep.{is_lock_due, lock_paid, after_result, is_record_spent, after_change, after_accessor, ask_refusal, ask_answered, after_ask, granted_call, after_call, completed, after_keeping, after_answer, after_return, after_machine, is_spent, charged_step, micro_on, micro}
 use Rattle.kernel_model.specs.declared.Need.{Need}
 use Rattle.kernel_model.specs.declared.Object.TheVariants.{Graft}
 use Rattle.kernel_model.specs.declared.Point.{Point}
@@ -136,9 +136,21 @@ module _ (v : World) (images : ImageTable) (p : ℕ) (base : Things) where
   completed_began w l (k ∷ []) h = h
   completed_began w l (k ∷ j ∷ ls) h = h
 
+  keeping_began : (w : Objects) (l : Level) (ls : List Level) (spent : Bool) → BeganWith base (l ∷ ls) →
+      OutcomeBegan (after_keeping v w l ls spent)
+  keeping_began w l ls true h = drop_began w l ls SpentRecords h
+  keeping_began w l [] false h = tt
+  keeping_began w l (k ∷ []) false h = h
+  keeping_began w l (k ∷ j ∷ ls) false h = h
+
+  answer_began : (w : Objects) (l : Level) (ls : List Level) (keeps : Bool) → BeganWith base (l ∷ ls) →
+      OutcomeBegan (after_answer v w l ls keeps)
+  answer_began w l ls true h = keeping_began w l ls (is_record_spent w.accounts l ls) h
+  answer_began w l ls false h = completed_began w l ls h
+
   return_began : (w : Objects) (l : Level) (ls : List Level) (is_valid : Bool) → BeganWith base (l ∷ ls) →
-      OutcomeBegan (after_return v w l ls is_valid)
-  return_began w l ls true h = completed_began w l ls h
+      OutcomeBegan (after_return v images w l ls is_valid)
+  return_began w l ls true h = answer_began w l ls (keeps_in (image_of images (w.accounts.graft l.owner l.point))) h
   return_began w l ls false h = drop_began w l ls (RefusedAnswer (l.machine.regs 0) (l.machine.regs 1)) h
 
   machine_began : (w : Objects) (l : Level) (ls : List Level) (d : Done) → BeganWith base (l ∷ ls) →

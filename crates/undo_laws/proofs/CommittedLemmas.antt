@@ -44,7 +44,7 @@ either false x y z h k = k
 -- what two states have alike, their mixture has
 mixed_alike : (o : Object) (test : Object → Bool) (u s : Objects) (w : Things) → SameThing o u.things w →
     SameThing o s.things w → SameThing o (mix test u s).things w
-mixed_alike (Graft q pt) test u s w h k = either (test (Graft q pt)) (u.things.seg q pt) (s.things.seg q pt) (w.seg q pt) h k
+mixed_alike (Graft q pt) test u s w h k = either (test (Graft q pt)) (u.things.segment q pt) (s.things.segment q pt) (w.segment q pt) h k
 mixed_alike (Acct q) test u s w h k = tt
 mixed_alike (Cell q i) test u s w h k = either (test (Cell q i)) (u.things.cell q i) (s.things.cell q i) (w.cell q i) h k
 mixed_alike (OpenFile q fd) test u s w h k = either (test (OpenFile q fd)) (u.things.file q fd) (s.things.file q fd) (w.file q fd) h k

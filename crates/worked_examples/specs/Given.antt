@@ -1,10 +1,10 @@
 -- Runs of scripts for worked examples: an image line may be given by what its bytes load to, so
 -- that no seal is computed.
-use Rattle.std.specs.Prelude.{ℕ, suc, Bool, List, [], ◌∷◌, Option, None, Some, Result, Ok, flat_map}
+use Rattle.std.specs.Prelude.{ℕ, suc, Bool, true, List, [], ◌∷◌, Option, None, Some, Result, Ok, flat_map}
 use Rattle.kernel_model.specs.declared.TheConstants.{LAST_CALLABLE}
 use Rattle.kernel_model.specs.declared.Instr.{Instr}
 use Rattle.kernel_model.specs.declared.Keys.{Keys}
-use Rattle.kernel_model.specs.World.{Image}
+use Rattle.kernel_model.specs.World.{Image, plain_image}
 use Rattle.kernel_model.specs.Directory.{sample_disk}
 use Rattle.kernel_model.specs.Images.{LoadFault}
 use Rattle.kernel_model.specs.Kernel.{Kernel}
@@ -19,9 +19,13 @@ pub data Given : Type 0 where
   Lines : List ℕ → Given
   ImageLine : (slot : ℕ) → Result Image LoadFault → Given
 
--- an image that loads
+-- an image that loads, and keeps nothing
 abbrev pub image : List Instr → List ℕ → Result Image LoadFault
-image code body = Ok (record { code = code; body = body })
+image code body = Ok (plain_image code body)
+
+-- one that keeps the segments of its grafts
+abbrev pub keeping_image : List Instr → List ℕ → Result Image LoadFault
+keeping_image code body = Ok (record { code = code; body = body; keep = true })
 
 -- an image of the boxed form of this code, without data
 abbrev pub boxed_image : List Instr → Result Image LoadFault

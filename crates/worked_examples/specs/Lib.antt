@@ -5,3 +5,4 @@ pub mod WaitingExamples
 pub mod RunExamples
 pub mod PortExamples
 pub mod StreamExamples
+pub mod KeptExamples
