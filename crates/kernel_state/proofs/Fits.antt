@@ -134,13 +134,13 @@ row_fits c m size f r was is = was f (value_with (frame_bytes m f) r) (ap (λ (o
 -- ---- a store with another cache
 
 pub stands_so : {B : Type 0} {P : _} (s : Store B P) (c : Frames) (m : List ℕ) (x : CacheValue) → cache_value c m ≡ x
-    → objects_with (accounts_of s.accounts) (processes_of s.procs) (cache_value c m) (policies_of s) ≡ with_cache x (objects_of s)
-stands_so s c m x is = ap (λ (w : CacheValue). objects_with (accounts_of s.accounts) (processes_of s.procs) w (policies_of s)) is
+    → objects_with (accounts_of s.accounts) (processes_of s.procs) (cache_value c m) (policies_of s) s.kept ≡ with_cache x (objects_of s)
+stands_so s c m x is = ap (λ (w : CacheValue). objects_with (accounts_of s.accounts) (processes_of s.procs) w (policies_of s) s.kept) is
 
 -- a store with other processes
 pub stands_by : {B : Type 0} {P : _} (s : Store B P) (t : Table) (x : Processes) → processes_of t ≡ x
-    → objects_with (accounts_of s.accounts) (processes_of t) (cache_of s) (policies_of s) ≡ objects_with (accounts_of s.accounts) x (cache_of s) (policies_of s)
-stands_by s t x is = ap (λ (w : Processes). objects_with (accounts_of s.accounts) w (cache_of s) (policies_of s)) is
+    → objects_with (accounts_of s.accounts) (processes_of t) (cache_of s) (policies_of s) s.kept ≡ objects_with (accounts_of s.accounts) x (cache_of s) (policies_of s) s.kept
+stands_by s t x is = ap (λ (w : Processes). objects_with (accounts_of s.accounts) w (cache_of s) (policies_of s) s.kept) is
 
 -- ---- a store after boot
 

@@ -13,6 +13,7 @@ use Rattle.kernel_model.specs.Pieces.{handed_over, things_without, account_close
 use Rattle.kernel_model.specs.World.{World}
 use Rattle.buffer_cache.specs.Frames as frames
 use Rattle.buffer_cache.specs.Frames.{Frames, handed, row_at}
+use Rattle.segments.specs.Tables.{Table}
 use Rattle.process_table.specs.Processes.{Processes, without}
 use Rattle.kernel_state.specs.CacheViews.{frame_value, cache_value}
 use Rattle.kernel_state.specs.Stores.{objects_with}
@@ -40,13 +41,13 @@ cache_handed c d m p q is =
 -- ---- objects
 
 -- the objects once a process left
-pub objects_left : (p : ℕ) (a b : Accounts) (s t : Processes) (c d : CacheValue) (pol : ℕ → PolValue) → b ≡ account_closed p (without_grafts p 16 a) → t ≡ without p s →
+pub objects_left : (p : ℕ) (a b : Accounts) (s t : Processes) (c d : CacheValue) (pol : ℕ → PolValue) (kept : Table) → b ≡ account_closed p (without_grafts p 16 a) → t ≡ without p s →
     d ≡ record c { frame = λ f. handed_over p 0 (c.frame f) } →
-    objects_with b t d pol ≡ record { accounts = account_closed p (without_grafts p 16 a); things = things_without p (objects_with a s c pol).things }
-objects_left p a b s t c d pol accounts procs cache =
-    ap (λ (x : Accounts). objects_with x t d pol) accounts
-    ∙ ap (λ (x : Processes). objects_with (account_closed p (without_grafts p 16 a)) x d pol) procs
-    ∙ ap (λ (x : CacheValue). objects_with (account_closed p (without_grafts p 16 a)) (without p s) x pol) cache
+    objects_with b t d pol kept ≡ record { accounts = account_closed p (without_grafts p 16 a); things = things_without p (objects_with a s c pol kept).things }
+objects_left p a b s t c d pol kept accounts procs cache =
+    ap (λ (x : Accounts). objects_with x t d pol kept) accounts
+    ∙ ap (λ (x : Processes). objects_with (account_closed p (without_grafts p 16 a)) x d pol kept) procs
+    ∙ ap (λ (x : CacheValue). objects_with (account_closed p (without_grafts p 16 a)) (without p s) x pol kept) cache
 
 -- ---- who lives
 

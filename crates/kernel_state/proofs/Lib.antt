@@ -10,3 +10,4 @@ pub mod Leaving
 pub mod Accessing
 pub mod Undoing
 pub mod Params
+pub mod Keeping

@@ -4,10 +4,10 @@ use Rattle.std.specs.Option.{is_some}
 use Rattle.std.proofs.lemmas.Bool.Decides.{nat_tests}
 use Rattle.std.proofs.Common.{arith}
 use Rattle.kernel_model.specs.declared.Inverse.{Inverse}
-use Rattle.kernel_model.specs.declared.Inverse.TheVariants.{Cell, Nice, Window, Mark, Tune}
+use Rattle.kernel_model.specs.declared.Inverse.TheVariants.{Cell, Nice, Window, Mark, Tune, Segment}
 use Rattle.kernel_model.specs.declared.Cause.{Cause}
 use Rattle.kernel_model.specs.declared.OpenRow.{OpenRow}
-use Rattle.kernel_model.specs.Access.{Callable, CellGet, CellSet, NiceGet, NiceSet, WindowGet, WindowSet, FramesMine, FrameAt, FrameBlock, FrameMark, TuneGet, TuneSet, TakeLock, access, access_by, callable, own_frame, window_change, with_window, with_mark, with_param, set_cell, set_nice, set_window, set_mark, set_param, in_range, param_top, tune_change, chosen_param, bare_found, undo, Access as Accessed, Gives, Changes, Refuses}
+use Rattle.kernel_model.specs.Access.{Callable, CellGet, CellSet, NiceGet, NiceSet, WindowGet, WindowSet, FramesMine, FrameAt, FrameBlock, FrameMark, TuneGet, TuneSet, TakeLock, access, access_by, callable, own_frame, window_change, with_window, with_mark, with_param, set_cell, set_nice, set_window, set_mark, set_param, set_segment, in_range, param_top, tune_change, chosen_param, undo, Access as Accessed, Gives, Changes, Refuses}
 use Rattle.kernel_model.specs.Objects.{Things, FrameValue, PolValue}
 use Rattle.kernel_model.specs.Policies.{frames_of}
 use Rattle.kernel_state.specs.declared.Access.{Access}
@@ -21,6 +21,7 @@ keeps_cell p l x (Nice q v) w h = h
 keeps_cell p l x (Window q fd v) w h = h
 keeps_cell p l x (Mark f v) w h = h
 keeps_cell p l x (Tune kind k v) w h = h
+keeps_cell p l x (Segment q pt) w h = h
 
 -- a nice changes
 keeps_nice : (p x : ℕ) (i : Inverse) (w : Things) → CanBeUndone i w → CanBeUndone i (set_nice p x w)
@@ -29,6 +30,7 @@ keeps_nice p x (Nice q v) w h = (lives_nice p x q w.queue ∙ h.0, h.1)
 keeps_nice p x (Window q fd v) w h = (lives_nice p x q w.queue ∙ h.0, h.1, h.2, h.3)
 keeps_nice p x (Mark f v) w h = h
 keeps_nice p x (Tune kind k v) w h = h
+keeps_nice p x (Segment q pt) w h = h
 
 -- a window changes
 still_open : (b : Bool) (x : ℕ) (o r : Option OpenRow) → (b ≡ true → o ≡ r) → is_some (cond b (with_window x o) r) ≡ is_some r
@@ -48,6 +50,7 @@ keeps_window p l x (Nice q v) w h = h
 keeps_window p l x (Window q fd v) w h = (h.0, h.1, still_open (q == p && fd == l) x (w.file p l) (w.file q fd) (window_place p l q fd w) ∙ h.2, h.3)
 keeps_window p l x (Mark f v) w h = h
 keeps_window p l x (Tune kind k v) w h = h
+keeps_window p l x (Segment q pt) w h = h
 
 -- a mark changes
 still_used : (b : Bool) (x : ℕ) (o r : Option FrameValue) → (b ≡ true → o ≡ r) → is_some (cond b (with_mark x o) r) ≡ is_some r
@@ -62,6 +65,7 @@ keeps_mark g x (Window q fd v) w h = h
 keeps_mark g x (Mark f v) w h =
     still_used (f == g) x (w.cache.frame g) (w.cache.frame f) (λ is. let one : f ≡ g = grind (arith, nat_tests, is) in ap (λ n. w.cache.frame n) (sym one)) ∙ h
 keeps_mark g x (Tune kind k v) w h = h
+keeps_mark g x (Segment q pt) w h = h
 
 -- a parameter changes
 same_chosen : (b : Bool) (x : ℕ) (o r : PolValue) → (b ≡ true → o ≡ r) → (cond b (with_param x o) r).chosen ≡ r.chosen
@@ -75,14 +79,25 @@ keeps_param n x (Window q fd v) w h = h
 keeps_param n x (Mark f v) w h = h
 keeps_param n x (Tune kind k v) w h =
     (h.0, ap (λ j. in_range (param_top kind j) k v) (same_chosen (kind == n) x (w.pol n) (w.pol kind) (λ is. let one : kind ≡ n = grind (arith, nat_tests, is) in ap (λ m. w.pol m) (sym one))) ∙ h.1)
+keeps_param n x (Segment q pt) w h = h
+
+-- a kept segment changes
+keeps_segment : (p pu : ℕ) (bytes : Option (ℕ → ℕ)) (i : Inverse) (w : Things) → CanBeUndone i w → CanBeUndone i (set_segment p pu bytes w)
+keeps_segment p pu bytes (Cell q k v) w h = h
+keeps_segment p pu bytes (Nice q v) w h = h
+keeps_segment p pu bytes (Window q fd v) w h = h
+keeps_segment p pu bytes (Mark f v) w h = h
+keeps_segment p pu bytes (Tune kind k v) w h = h
+keeps_segment p pu bytes (Segment q pt) w h = h
 
 -- another record is undone
-pub kept_by_undo : (j i : Inverse) (w : Things) → CanBeUndone i w → CanBeUndone i (undo (bare_found j) w)
-kept_by_undo (Cell q k v) i w h = keeps_cell q k v i w h
-kept_by_undo (Nice q v) i w h = keeps_nice q v i w h
-kept_by_undo (Window q fd v) i w h = keeps_window q fd v i w h
-kept_by_undo (Mark f v) i w h = keeps_mark f v i w h
-kept_by_undo (Tune kind k v) i w h = keeps_param kind v i w h
+pub kept_by_undo : (j i : Inverse) (bytes : Option (ℕ → ℕ)) (w : Things) → CanBeUndone i w → CanBeUndone i (undo (record { inverse = j; bytes = bytes }) w)
+kept_by_undo (Cell q k v) i bytes w h = keeps_cell q k v i w h
+kept_by_undo (Nice q v) i bytes w h = keeps_nice q v i w h
+kept_by_undo (Window q fd v) i bytes w h = keeps_window q fd v i w h
+kept_by_undo (Mark f v) i bytes w h = keeps_mark f v i w h
+kept_by_undo (Tune kind k v) i bytes w h = keeps_param kind v i w h
+kept_by_undo (Segment q pt) i bytes w h = keeps_segment q pt bytes i w h
 
 -- an accessor's frame, whatever is done with it
 by_frame : (id q : ℕ) (o : Option FrameValue) (then : FrameValue → Accessed) (i : Inverse) (w : Things) → CanBeUndone i w → ((f : FrameValue) → CanBeUndone i (things_after (then f) w))

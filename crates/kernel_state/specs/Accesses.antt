@@ -1,11 +1,13 @@
 -- What the accessors of grafts do to a store, and which of their changes can be undone on it.
 use Rattle.std.specs.Prelude.{◌≡◌, ℕ, ◌<◌, ◌≤◌, true, List, Some, None, Result, Ok, Err, is_some, slice_index}
 use Rattle.kernel_model.specs.declared.Inverse.{Inverse}
-use Rattle.kernel_model.specs.declared.Inverse.TheVariants.{Cell, Nice, Window, Mark, Tune}
+use Rattle.kernel_model.specs.declared.Inverse.TheVariants.{Cell, Nice, Window, Mark, Tune, Segment}
 use Rattle.kernel_model.specs.declared.Cause.{Cause}
 use Rattle.kernel_model.specs.Access.{Access as Accessed, access, Gives, Changes, Refuses, in_range, param_top}
 use Rattle.kernel_model.specs.Objects.{Things}
 use Rattle.kernel_model.specs.Policies.{lives}
+use Rattle.graft_points.specs.Views.{PolicyView}
+use Rattle.graft_points.specs.Shelf.{code_of, shelf_with}
 use Rattle.kernel_state.specs.declared.Access.{Access}
 
 -- what the accessor of an id does with its three arguments, for a graft of process q
@@ -25,8 +27,8 @@ things_after (Gives result) w = w
 things_after (Changes result inverse u) w = u
 things_after (Refuses cause) w = w
 
--- a record can be undone: the process lives, the cell, open file, frame or parameter is there, and
--- the value is in its range
+-- a record can be undone: the process lives, the cell, open file, frame, parameter or point is
+-- there, and the value is in its range
 abbrev pub CanBeUndone : Inverse → Things → Type 0
 CanBeUndone (Cell q k v) w = (lives w.queue q ≡ true) × (k < 4)
 CanBeUndone (Nice q v) w = (lives w.queue q ≡ true) × (v ≤ 39)
@@ -35,3 +37,15 @@ CanBeUndone (Window q fd v) w = (lives w.queue q ≡ true) × (fd < 4) × (is_so
 CanBeUndone (Mark f v) w = is_some (w.cache.frame f) ≡ true
 CanBeUndone (Tune kind k v) w = (kind < 3)
     × (in_range (param_top kind (w.pol kind).chosen) k v ≡ true)
+CanBeUndone (Segment q pt) w = (q < 16) × (pt < 16)
+
+-- the policies once a record was undone: a parameter is put back in the policy that is chosen of
+-- its kind, and no other policy changes
+abbrev pub views_after : Inverse → (choice : List ℕ) → List PolicyView → List PolicyView
+views_after (Cell q k v) choice views = views
+views_after (Nice q v) choice views = views
+views_after (Window q fd v) choice views = views
+views_after (Mark f v) choice views = views
+views_after (Tune kind k v) choice views =
+    shelf_with (code_of kind (slice_index choice kind)) v views
+views_after (Segment q pt) choice views = views

@@ -1,12 +1,13 @@
 -- The world and the things of a store, and what always holds of them.
-use Rattle.std.specs.Prelude.{◌≡◌, ℕ, ◌<◌, ◌≤◌, true, List, Option, Some, slice_index_or}
+use Rattle.std.specs.Prelude.{◌≡◌, ℕ, ◌+◌, ◌*◌, ◌<◌, ◌≤◌, ◌&&◌, nat_lt, true, cond, List, Option, Some, None, slice_index_or}
 use Rattle.kernel_model.specs.declared.TheConstants.{LAST_CALLABLE}
 use Rattle.kernel_model.specs.declared.FileRow.{FileRow}
 use Rattle.kernel_model.specs.declared.OpenRow.{OpenRow}
 use Rattle.kernel_model.specs.World.{World, file_row}
-use Rattle.kernel_model.specs.Objects.{Things, CacheValue, FrameValue, PolValue, nothing_kept}
+use Rattle.kernel_model.specs.Objects.{Things, CacheValue, FrameValue, PolValue}
 use Rattle.kernel_model.specs.Directory.{lies_on_disk}
 use Rattle.kernel_model.specs.Sound.{IsSoundFile}
+use Rattle.segments.specs.Tables.{Table, segment_at}
 use Rattle.process_table.specs.Processes.{Processes}
 use Rattle.kernel_state.specs.declared.Setup.{Setup}
 
@@ -23,9 +24,18 @@ world_for u size directory =
       callable = LAST_CALLABLE;
     }
 
--- processes, cache and policies: nothing is kept for any graft
-abbrev pub things_with : Processes → CacheValue → (ℕ → PolValue) → Things
-things_with s cache pol =
+-- the number of the segment of the graft at (q, pt)
+abbrev pub segment_number : (q pt : ℕ) → ℕ
+segment_number q pt = 16 * q + pt
+
+-- what is kept for the graft at each point of each process
+abbrev pub kept_by : Table → (q pt : ℕ) → Option (ℕ → ℕ)
+kept_by kept q pt =
+    cond (nat_lt q 16 && nat_lt pt 16) (segment_at kept (segment_number q pt)) None
+
+-- processes, cache, policies and kept segments
+abbrev pub things_with : Processes → CacheValue → (ℕ → PolValue) → (kept : Table) → Things
+things_with s cache pol kept =
     record {
       cell = s.cell;
       file = s.file;
@@ -33,7 +43,7 @@ things_with s cache pol =
       cache = cache;
       lock = s.lock;
       pol = pol;
-      seg = λ q pt. nothing_kept;
+      segment = kept_by kept;
       handlers = s.handlers;
     }
 

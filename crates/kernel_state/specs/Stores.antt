@@ -5,6 +5,7 @@ use Rattle.kernel_model.specs.World.{World}
 use Rattle.kernel_model.specs.Objects.{Objects, Accounts, CacheValue, PolValue}
 use Rattle.kernel_model.specs.Levels.{base_of, body_in_segment}
 use Rattle.kernel_model.specs.Runs.{segment_of}
+use Rattle.segments.specs.Tables.{Table}
 use Rattle.process_table.specs.Processes.{Processes, processes_of}
 use Rattle.graft_accounts.specs.Table.{accounts_of}
 use Rattle.graft_points.specs.Views.{PolicyView}
@@ -13,9 +14,11 @@ use Rattle.kernel_state.specs.CacheViews.{cache_value}
 use Rattle.kernel_state.specs.Sound.{world_for, things_with}
 use Rattle.kernel_state.specs.declared.Store.{Store}
 
--- the objects of these accounts, processes, cache and policies
-abbrev pub objects_with : Accounts → Processes → CacheValue → (ℕ → PolValue) → Objects
-objects_with accounts s cache pol = record { accounts = accounts; things = things_with s cache pol }
+-- the objects of these accounts, processes, cache, policies and kept segments
+abbrev pub objects_with : Accounts → Processes → CacheValue → (ℕ → PolValue) → (kept : Table) →
+    Objects
+objects_with accounts s cache pol kept =
+    record { accounts = accounts; things = things_with s cache pol kept }
 
 -- the queue with a process that has just joined, if one has
 abbrev pub queue_joined : Option ℕ → List QueueRow → List QueueRow
@@ -45,7 +48,7 @@ policies_of s = pol_of (views_of s) s.choice
 -- the objects
 abbrev pub objects_of : {B : Type 0} {P : _} → Store B P → Objects
 objects_of s =
-    objects_with (accounts_of s.accounts) (processes_of s.procs) (cache_of s) (policies_of s)
+    objects_with (accounts_of s.accounts) (processes_of s.procs) (cache_of s) (policies_of s) s.kept
 
 -- ---- memory
 

@@ -1,14 +1,16 @@
 //! The plain accessors of grafts, and the undoing of their changes.
 
-ghost use Rattle.std.specs.Prelude.{◌≡◌, ℕ, ◌<◌, ◌≤◌, true, None, Some, Ok, map, slice_get, slice_index, IfOk, IfSome};
+ghost use Rattle.std.specs.Prelude.{◌≡◌, ℕ, ◌<◌, ◌≤◌, true, None, Some, Ok, map, length, slice_get, slice_index, IfOk, IfSome};
+ghost use Rattle.std.specs.Option.{option_copied};
 ghost use Rattle.std.specs.Result.{is_ok};
 ghost use Rattle.kernel_model.specs.declared.FrameRow.{FrameRow as Row};
 ghost use Rattle.kernel_model.specs.declared.Inverse.{Inverse as Inverses};
-ghost use Rattle.kernel_model.specs.Access.{access as accessed, early_refusal, bare_found, undo as undone};
+ghost use Rattle.kernel_model.specs.Access.{access as accessed, early_refusal, undo as undone};
 ghost use Rattle.kernel_model.specs.Objects.{with_things};
 ghost use Rattle.kernel_model.specs.Policies.{lives};
-ghost use Rattle.kernel_state.specs.Accesses.{accessed_with, answer_of, things_after, CanBeUndone};
-ghost use Rattle.kernel_state.specs.Stores.{world_of_store, objects_of, queue_of};
+ghost use Rattle.segments.specs.Tables.{by_place};
+ghost use Rattle.kernel_state.specs.Accesses.{accessed_with, answer_of, things_after, CanBeUndone, views_after};
+ghost use Rattle.kernel_state.specs.Stores.{world_of_store, objects_of, queue_of, views_of};
 
 use crate::{Access, Store};
 use accessor_list::ids;
@@ -42,23 +44,31 @@ impl<B: Policy> Store<B> {
         answer
     }
 
-    /// Puts the value back that a record names.
-    pub fn undo(&mut self, inverse: Inverse)
-        requires fits { CanBeUndone inverse (objects_of self.old).things }
+    /// Puts the value back that a record names, and for a kept segment these 4,096 bytes, or none.
+    /// A parameter is put back in the chosen policy, and no other policy is touched.
+    pub fn undo(&mut self, inverse_is: Inverse, bytes: Option<&[u8]>)
+        requires fits { CanBeUndone inverse_is (objects_of self.old).things }
+        requires whole { IfSome bytes (λ b. length b.now ≡ 4096) }
         ensures objects { let s = objects_of self.old in objects_of self.new ≡
-            with_things (undone (bare_found inverse) s.things) s }
+            with_things (undone (record {
+              inverse = inverse_is;
+              bytes = by_place (option_copied bytes.entry);
+            }) s.things) s }
+        ensures views { views_of self.new ≡
+            views_after inverse_is self.old.choice (views_of self.old) }
         ensures living { (p : ℕ) → lives (queue_of self.new) p ≡ lives (queue_of self.old) p }
         ensures world { world_of_store self.new ≡ world_of_store self.old }
         ensures memory { self.new.ram ≡ self.old.ram }
         ensures kept { (i : Inverses) → CanBeUndone i (objects_of self.old).things →
             CanBeUndone i (objects_of self.new).things }
     {
-        match inverse {
+        match inverse_is {
             Inverse::Cell(q, k, v) => self.set_cell(q, k, v),
             Inverse::Nice(q, v) => self.set_nice(q, v),
             Inverse::Window(q, fd, v) => self.set_window(q, fd, v),
             Inverse::Mark(f, v) => self.set_mark(u32::from(f), v),
             Inverse::Tune(kind, _, v) => self.set_param(kind, v),
+            Inverse::Segment(q, pt) => self.put_segment(q, pt, bytes),
         }
     }
 

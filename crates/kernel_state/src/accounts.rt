@@ -4,7 +4,7 @@ ghost use Rattle.std.specs.Prelude.{◌≡◌, ◌<◌, ◌≤◌, true, None, i
 ghost use Rattle.kernel_model.specs.Charges.{removed};
 ghost use Rattle.kernel_model.specs.Objects.{with_accounts};
 ghost use Rattle.kernel_model.specs.Policies.{lives};
-ghost use Rattle.kernel_model.specs.Pieces.{with_graft, new_graft};
+ghost use Rattle.kernel_model.specs.Pieces.{with_new_graft, new_graft};
 ghost use Rattle.graft_accounts.specs.Table.{short_of, after_give, after_fund, after_bill};
 ghost use Rattle.kernel_state.specs.Stores.{world_of_store, objects_of, queue_of};
 
@@ -37,7 +37,8 @@ impl<B: Policy> Store<B> {
         self.accounts.stands(p, pt)
     }
 
-    /// Puts a graft at point pt of process p, where none stands. It has nothing, and isn't billed.
+    /// Puts a graft at point pt of process p, where none stands. It has nothing, isn't billed, and
+    /// nothing is kept for it.
     pub fn install(&mut self, p: u8, pt: u8, image: u8, limit: u32)
         requires lives { lives (queue_of self.old) p ≡ true }
         requires point { pt < 16 }
@@ -46,14 +47,14 @@ impl<B: Policy> Store<B> {
         requires most { limit ≤ 65536 }
         requires free { (objects_of self.old).accounts.graft p pt ≡ None }
         ensures objects { objects_of self.new ≡
-            with_accounts (with_graft p pt (new_graft image limit) (objects_of self.old).accounts)
-            (objects_of self.old) }
+            with_new_graft p pt (new_graft image limit) (objects_of self.old) }
         ensures queue { queue_of self.new ≡ queue_of self.old }
         ensures world { world_of_store self.new ≡ world_of_store self.old }
         ensures memory { self.new.ram ≡ self.old.ram }
     {
         self.procs.rows();
         self.accounts.install(p, pt, image, limit);
+        self.forget_segment(p, pt);
     }
 
     /// Takes out the graft at point pt of process p, if one stands, and gives what it has back to

@@ -1,6 +1,6 @@
 //! A store after boot.
 
-ghost use Rattle.std.specs.Prelude.{◌≡◌, ℕ, ◌≤◌, true, Some, None, slice_index_or};
+ghost use Rattle.std.specs.Prelude.{◌≡◌, ℕ, ◌≤◌, true, Some, None, replicate, slice_index_or};
 ghost use Rattle.kernel_model.specs.declared.FileRow.{FileRow as Row};
 ghost use Rattle.kernel_model.specs.Directory.{lies_on_disk};
 ghost use Rattle.kernel_model.specs.Opening.{opening_objects, opening_policy};
@@ -15,18 +15,27 @@ use graft_points::{Choice, Policy, Shelf};
 use mem_disk::Directory;
 use process_table::Procs;
 use ram_space::Ram;
+use segments::Segments;
 
 impl<B: Policy> Store<B> {
     /// The store after boot, on a disk of 1 to 4,096 blocks with this directory: process 0 lives
-    /// alone and has the whole grant, and nothing is open, held, installed or in a frame. The shelf
-    /// has the stock policies.
-    pub fn new(setup: Setup, size: u32, dir: Directory, ram: Ram, shelf: Shelf<B>) -> Store<B>
+    /// alone and has the whole grant, and nothing is open, held, installed, kept or in a frame. The
+    /// shelf has the stock policies.
+    pub fn new(
+        setup: Setup,
+        size: u32,
+        dir: Directory,
+        ram: Ram,
+        kept: Segments,
+        shelf: Shelf<B>,
+    ) -> Store<B>
         requires frames_least { 2 ≤ setup.frames }
         requires frames_most { setup.frames ≤ 64 }
         requires size_least { 1 ≤ size }
         requires size_most { size ≤ 4096 }
         requires files { (n : ℕ) (r : Row) → slice_index_or dir n None ≡ Some r →
             lies_on_disk size r ≡ true }
+        requires room { kept ≡ replicate 256 None }
         requires shelf { IsShelf shelf }
         requires stock { pol_of shelf first_choice ≡ opening_policy }
         ensures objects { objects_of result ≡ opening_objects setup.grant }
@@ -42,6 +51,7 @@ impl<B: Policy> Store<B> {
             accounts: Accounts::new(setup.grant),
             cache: Cache::new(setup.frames),
             ram,
+            kept,
             dir,
             choice: Choice::new(),
             shelf,
@@ -69,6 +79,7 @@ impl<B: Policy> Store<B> {
         self.procs = Procs::new();
         self.accounts = Accounts::new(setup.grant);
         self.cache = Cache::new(setup.frames);
+        self.kept.clear();
         self.dir = dir;
         self.choice = Choice::new();
     }

@@ -7,7 +7,7 @@ ghost use Rattle.kernel_model.specs.Policies.{lives, ahead_default};
 ghost use Rattle.kernel_model.specs.Needs.{file_block, ahead_block, is_within};
 ghost use Rattle.kernel_model.specs.FilePieces.{with_file, free_descriptor as lowest_free, new_file};
 ghost use Rattle.kernel_model.specs.Sound.{IsSoundFile};
-ghost use Rattle.kernel_state.specs.Stores.{world_of_store, objects_of, queue_of, policies_of};
+ghost use Rattle.kernel_state.specs.Stores.{world_of_store, objects_of, queue_of, policies_of, views_of};
 
 use crate::{Ahead, Store};
 use graft_points::Policy;
@@ -54,6 +54,7 @@ impl<B: Policy> Store<B> {
         requires number { fd < 4 }
         requires file { IfSome row (λ o. IsSoundFile (world_of_store self.old) o) }
         ensures objects { objects_of self.new ≡ with_file p fd row (objects_of self.old) }
+        ensures views { views_of self.new ≡ views_of self.old }
         ensures world { world_of_store self.new ≡ world_of_store self.old }
         ensures memory { self.new.ram ≡ self.old.ram }
     {

@@ -9,7 +9,7 @@ ghost use Rattle.kernel_model.specs.Access.{set_nice as nice_set, set_window as 
 ghost use Rattle.kernel_model.specs.Objects.{with_things};
 ghost use Rattle.kernel_model.specs.Policies.{lives, nice_of, is_owned, frames_of, victim_among};
 ghost use Rattle.buffer_cache.specs.Frames.{in_use, row_at};
-ghost use Rattle.kernel_state.specs.Stores.{world_of_store, objects_of, cache_of, queue_of, policies_of};
+ghost use Rattle.kernel_state.specs.Stores.{world_of_store, objects_of, cache_of, queue_of, policies_of, views_of};
 
 use crate::Store;
 use graft_points::Policy;
@@ -31,6 +31,7 @@ impl<B: Policy> Store<B> {
         ensures objects { objects_of self.new ≡
             with_things (nice_set q v (objects_of self.old).things) (objects_of self.old) }
         ensures living { (p : ℕ) → lives (queue_of self.new) p ≡ lives (queue_of self.old) p }
+        ensures views { views_of self.new ≡ views_of self.old }
         ensures world { world_of_store self.new ≡ world_of_store self.old }
         ensures memory { self.new.ram ≡ self.old.ram }
     {
@@ -46,6 +47,7 @@ impl<B: Policy> Store<B> {
         ensures objects { objects_of self.new ≡
             with_things (window_set q fd v (objects_of self.old).things) (objects_of self.old) }
         ensures queue { queue_of self.new ≡ queue_of self.old }
+        ensures views { views_of self.new ≡ views_of self.old }
         ensures world { world_of_store self.new ≡ world_of_store self.old }
         ensures memory { self.new.ram ≡ self.old.ram }
     {
@@ -60,6 +62,7 @@ impl<B: Policy> Store<B> {
         ensures objects { objects_of self.new ≡
             with_things (mark_set f v (objects_of self.old).things) (objects_of self.old) }
         ensures queue { queue_of self.new ≡ queue_of self.old }
+        ensures views { views_of self.new ≡ views_of self.old }
         ensures world { world_of_store self.new ≡ world_of_store self.old }
         ensures memory { self.new.ram ≡ self.old.ram }
     {

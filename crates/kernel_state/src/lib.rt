@@ -1,10 +1,11 @@
-//! The kernel's state as one store: set-up, processes, accounts, cache, memory, policies and the
-//! disk's directory.
+//! The kernel's state as one store: set-up, processes, accounts, cache, memory, kept segments,
+//! policies and the disk's directory.
 //!
 //! Contracts see a store as the objects and the world of the definitions, and each change of it as
 //! a change of objects.
 #![tactic(auto)]
 
+ghost use Rattle.std.specs.Prelude.{◌≡◌, length};
 ghost use Rattle.kernel_state.specs.Sound.{StoreFits, world_for, things_with};
 ghost use Rattle.process_table.specs.Processes.{processes_of};
 ghost use Rattle.graft_points.specs.Shelf.{IsShelf, pol_of};
@@ -16,6 +17,7 @@ mod boot;
 mod cache;
 mod files;
 mod graft_values;
+mod kept;
 mod policies;
 mod processes;
 mod shown;
@@ -27,6 +29,7 @@ use kernel_model::Inverse;
 use mem_disk::Directory;
 use process_table::Procs;
 use ram_space::Ram;
+use segments::Segments;
 
 /// What the set-up lines of a script set.
 #[derive(Clone, Copy)]
@@ -54,6 +57,8 @@ pub struct Store<B: Policy> {
     pub cache: Cache,
     /// The bytes of the frames, from 0 on.
     pub ram: Ram,
+    /// What is kept for the graft at each point of each process.
+    pub kept: Segments,
     /// The files of the disk.
     pub dir: Directory,
     /// Which policy of each kind is chosen.
@@ -61,8 +66,9 @@ pub struct Store<B: Policy> {
     /// The policies, in the order of their codes, with their parameters.
     pub shelf: Shelf<B>,
     ghost fits: { StoreFits cache.count (world_for setup size dir)
-        (things_with (processes_of procs) (cache_value cache ram) (pol_of shelf choice)) },
+        (things_with (processes_of procs) (cache_value cache ram) (pol_of shelf choice) kept) },
     ghost stock: { IsShelf shelf },
+    ghost room: { length kept ≡ 256 },
 }
 
 /// What a process is to read ahead: this many blocks of its file, from a block on.

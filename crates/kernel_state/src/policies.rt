@@ -1,11 +1,12 @@
 //! The policies of a store: which one of each kind is chosen, and its parameter.
 
-ghost use Rattle.std.specs.Prelude.{◌≡◌, ◌<◌, true, IfSome};
+ghost use Rattle.std.specs.Prelude.{◌≡◌, ◌<◌, true, slice_index, IfSome};
 ghost use Rattle.kernel_model.specs.Objects.{at, with_things};
 ghost use Rattle.kernel_model.specs.Access.{in_range, param_top, set_param as param_set};
 ghost use Rattle.kernel_model.specs.Early.{policy_count};
 ghost use Rattle.kernel_model.specs.RawRows.{shown_param};
-ghost use Rattle.kernel_state.specs.Stores.{world_of_store, objects_of, queue_of};
+ghost use Rattle.graft_points.specs.Shelf.{code_of, shelf_with};
+ghost use Rattle.kernel_state.specs.Stores.{world_of_store, objects_of, queue_of, views_of};
 
 use crate::Store;
 use graft_points::Policy;
@@ -68,6 +69,8 @@ impl<B: Policy> Store<B> {
         ensures objects { objects_of self.new ≡
             with_things (param_set kind v (objects_of self.old).things) (objects_of self.old) }
         ensures queue { queue_of self.new ≡ queue_of self.old }
+        ensures views { views_of self.new ≡
+            shelf_with (code_of kind (slice_index self.old.choice kind)) v (views_of self.old) }
         ensures world { world_of_store self.new ≡ world_of_store self.old }
         ensures memory { self.new.ram ≡ self.old.ram }
     {

@@ -9,7 +9,7 @@ ghost use Rattle.kernel_model.specs.Objects.{with_things};
 ghost use Rattle.kernel_model.specs.Handlers.{has_room, handlers_with, handlers_without};
 ghost use Rattle.kernel_model.specs.EventPoints.{with_handlers};
 ghost use Rattle.kernel_model.specs.Access.{set_cell as cell_set};
-ghost use Rattle.kernel_state.specs.Stores.{world_of_store, objects_of, queue_of, queue_joined, policies_of};
+ghost use Rattle.kernel_state.specs.Stores.{world_of_store, objects_of, queue_of, queue_joined, policies_of, views_of};
 
 use crate::Store;
 use graft_points::Policy;
@@ -116,6 +116,7 @@ impl<B: Policy> Store<B> {
         requires number { k < 4 }
         ensures objects { objects_of self.new ≡
             with_things (cell_set p k v (objects_of self.old).things) (objects_of self.old) }
+        ensures views { views_of self.new ≡ views_of self.old }
         ensures world { world_of_store self.new ≡ world_of_store self.old }
         ensures memory { self.new.ram ≡ self.old.ram }
     {

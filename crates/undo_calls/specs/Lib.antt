@@ -1,1 +1,2 @@
 pub mod UndoLevels
+pub mod Views

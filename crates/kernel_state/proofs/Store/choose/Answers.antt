@@ -8,4 +8,4 @@ use Rattle.kernel_state.proofs.Store.choose.Goals as goal
 pub returns-clause-objects : goal.returns-clause-objects
 returns-clause-objects g c =
     let s = c.args.self.now in
-    ap (λ (pol : ℕ → PolValue). objects_with (accounts_of s.accounts) (processes_of s.procs) (cache_of s) pol) (c.choose.ensures.policies _)
+    ap (λ (pol : ℕ → PolValue). objects_with (accounts_of s.accounts) (processes_of s.procs) (cache_of s) pol s.kept) (c.choose.ensures.policies _)

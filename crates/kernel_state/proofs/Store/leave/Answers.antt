@@ -12,7 +12,7 @@ use Rattle.kernel_state.proofs.Store.leave.Goals as goal
 pub returns-clause-objects : goal.returns-clause-objects
 returns-clause-objects g c =
     let s = c.args.self.now in
-    objects_left c.args.p (accounts_of s.accounts) (accounts_of c.close.new.self) (processes_of s.procs) (processes_of c.leave.new.self) (cache_of s) (cache_value c.hand_over.new.self s.ram) (policies_of s)
+    objects_left c.args.p (accounts_of s.accounts) (accounts_of c.close.new.self) (processes_of s.procs) (processes_of c.leave.new.self) (cache_of s) (cache_value c.hand_over.new.self s.ram) (policies_of s) s.kept
     c.close.ensures.value c.leave.ensures (cache_handed s.cache c.hand_over.new.self s.ram c.args.p 0 c.hand_over.ensures.value)
 
 pub returns-clause-living : goal.returns-clause-living
@@ -21,7 +21,7 @@ returns-clause-living g c = λ q. ap (λ (x : Processes). lives x.queue q) c.lea
 pub invariant_of-self-clause-fits : goal.invariant_of-self-clause-fits
 invariant_of-self-clause-fits g c =
     let s = c.args.self.now in
-    let left = objects_left c.args.p (accounts_of s.accounts) (accounts_of c.close.new.self) (processes_of s.procs) (processes_of c.leave.new.self) (cache_of s) (cache_value c.hand_over.new.self s.ram) (policies_of s)
+    let left = objects_left c.args.p (accounts_of s.accounts) (accounts_of c.close.new.self) (processes_of s.procs) (processes_of c.leave.new.self) (cache_of s) (cache_value c.hand_over.new.self s.ram) (policies_of s) s.kept
     c.close.ensures.value c.leave.ensures (cache_handed s.cache c.hand_over.new.self s.ram c.args.p 0 c.hand_over.ensures.value) in
     fits_left s.cache.count c.hand_over.new.self.count (world_of_store s) c.args.p (objects_of s).things _ c.args.self.now.fits
     (ap (λ (w : Frames). w.count) c.hand_over.ensures.value) (ap (λ (o : Objects). o.things) left)

@@ -11,5 +11,5 @@ invariant_of-result-clause-fits g c =
 
 pub returns-clause-objects : goal.returns-clause-objects
 returns-clause-objects g c =
-    opens_with _ _ c.new-3.result c.args.ram _ c.args.setup.frames c.args.setup.grant c.new-2.ensures.value c.new.ensures c.new-3.ensures
-    (ap (λ (choice : List ℕ). pol_of c.args.shelf choice) c.new-4.ensures ∙ c.requires.stock)
+    opens_with _ _ c.new-3.result c.args.ram _ c.args.kept c.args.setup.frames c.args.setup.grant 256 c.new-2.ensures.value c.new.ensures c.new-3.ensures
+    (ap (λ (choice : List ℕ). pol_of c.args.shelf choice) c.new-4.ensures ∙ c.requires.stock) c.requires.room
