@@ -1,7 +1,6 @@
 -- An answer that goes to a level.
 use Rattle.std.proofs.Common.{◌≡◌, ℕ, ◌<◌, ◌≤◌, ◌==◌, Bool, true, false, cond, nat_lt, List, ◌∷◌, arith, refl, sym, ◌∙◌, ap, subst, length}
 use Rattle.std.proofs.lemmas.Bool.Decides.{nat_tests}
-use Rattle.kernel_model.specs.declared.Inverse.{Inverse}
 use Rattle.kernel_model.specs.declared.Instr.{Instr}
 use Rattle.kernel_model.specs.Machine.{Machine}
 use Rattle.kernel_model.specs.Objects.{Accounts, Things, at}
@@ -11,10 +10,10 @@ use Rattle.kernel_model.specs.Policies.{PointKind, Ahead, Victim, Next, Serve, S
 use Rattle.kernel_model.specs.Levels.{answered, answer_innermost, with_machine, base_of}
 use Rattle.kernel_model.specs.Locks.{LockTable}
 use Rattle.kernel_model.specs.Runs.{on_segment}
-use Rattle.undo_calls.specs.UndoLevels.{innermost}
+use Rattle.undo_calls.specs.UndoLevels.{Logged, innermost}
 use Rattle.graft_machine.specs.Cpu.{Cpu, machine_of}
 use Rattle.graft_calls.specs.declared.GraftLevel.{GraftLevel}
-use Rattle.graft_calls.specs.Chains.{level_in, levels_in, outer, put_back}
+use Rattle.graft_calls.specs.Chains.{put_back, level_in, levels_in, outer}
 use Rattle.graft_calls.specs.Calls.{AreInside}
 
 ahead_kind : (pt : ℕ) → pt < 4 → kind_of pt ≡ Ahead
@@ -51,7 +50,7 @@ answered_on Stream base r0 r1 m = refl
 -- the innermost level with another machine
 pub answered_levels : (pt r0 r1 : ℕ) (g : GraftLevel) (cpu : Cpu) (rest before after : List GraftLevel) → before ≡ g ∷ rest → after ≡ record g { machine = cpu } ∷ rest →
     ((ram : List ℕ) → machine_of cpu ram ≡ answered (kind_of pt) r0 r1 (machine_of g.machine ram)) →
-    (p : ℕ) (ram : List ℕ) (t : LockTable) (log : List (List Inverse)) (w : Things) →
+    (p : ℕ) (ram : List ℕ) (t : LockTable) (log : List (List Logged)) (w : Things) →
     levels_in p ram t after log w ≡ answer_innermost pt r0 r1 (levels_in p ram t before log w)
 answered_levels pt r0 r1 g cpu rest before after was is machine p ram t log w =
     let l = level_in p (length rest) ram t g (innermost log) (put_back (innermost log) w) in

@@ -1,11 +1,9 @@
 -- An ask that is refused, or answered.
-use Rattle.std.proofs.Common.{◌≡◌, ℕ, suc, ◌<◌, ◌==◌, ◌&&◌, ◌||◌, Bool, true, false, cond, List, [], ◌∷◌, Option, Some, None, length, arith, refl, sym, ◌∙◌, ap}
 use Rattle.std.specs.Option.{is_some}
-use Rattle.std.proofs.Common.{option_map}
+use Rattle.std.proofs.Common.{◌≡◌, ℕ, suc, ◌<◌, ◌==◌, ◌&&◌, ◌||◌, Bool, true, false, cond, List, [], ◌∷◌, Option, Some, None, length, arith, refl, sym, ◌∙◌, ap, option_map}
 use Rattle.graft_accounts.specs.declared.rows.GraftRow.{GraftRow}
 use Rattle.graft_accounts.specs.Table.{row_of}
 use Rattle.std.proofs.lemmas.Bool.Decides.{nat_tests}
-use Rattle.kernel_model.specs.declared.Inverse.{Inverse}
 use Rattle.kernel_model.specs.declared.Need.{Need}
 use Rattle.kernel_model.specs.declared.Mode.{Mode}
 use Rattle.kernel_model.specs.declared.Object.{Object}
@@ -18,9 +16,9 @@ use Rattle.kernel_model.specs.Policies.{kind_of, args_by}
 use Rattle.kernel_model.specs.Locks.{LockTable, touch_all, with_touch, touch, untouched}
 use Rattle.kernel_model.specs.Levels.{Level, with_touched, touch_outermost, goes_on, new_level, drop_innermost}
 use Rattle.kernel_model.specs.GraftStep.{ask_refusal, is_vain_ask, is_running, after_ask, ask_answered}
-use Rattle.undo_calls.specs.UndoLevels.{innermost}
+use Rattle.undo_calls.specs.UndoLevels.{Logged, innermost}
 use Rattle.graft_calls.specs.declared.GraftLevel.{GraftLevel}
-use Rattle.graft_calls.specs.Chains.{level_in, levels_in, outer, is_running_in, came, put_back}
+use Rattle.graft_calls.specs.Chains.{put_back, level_in, levels_in, outer, is_running_in, came}
 use Rattle.graft_calls.specs.Calls.{needs_touched}
 use Rattle.graft_calls.proofs.Holding.{touched_here, touched_apart}
 use Rattle.graft_calls.proofs.Needing.{needs_here, needs_apart}
@@ -28,12 +26,12 @@ use Rattle.graft_calls.proofs.Views.{level_count, levels_alike, glued}
 
 -- ---- refusals
 
-running_is : (p : ℕ) (ram : List ℕ) (t : LockTable) (gs : List GraftLevel) (log : List (List Inverse)) (w : Things) (q pt : ℕ) → is_running (levels_in p ram t gs log w) q pt ≡ is_running_in gs q pt
+running_is : (p : ℕ) (ram : List ℕ) (t : LockTable) (gs : List GraftLevel) (log : List (List Logged)) (w : Things) (q pt : ℕ) → is_running (levels_in p ram t gs log w) q pt ≡ is_running_in gs q pt
 running_is p ram t [] log w q pt = refl
 running_is p ram t (g ∷ gs) log w q pt = ap (λ b. (g.owner == q && g.point == pt) || b) (running_is p ram t gs (outer log) (put_back (innermost log) w) q pt)
 
 -- whether an ask is refused, by what the code looks at
-pub refused_is : (s : Objects) (q pt id p : ℕ) (ram : List ℕ) (t : LockTable) (g : GraftLevel) (gs : List GraftLevel) (log : List (List Inverse)) (w : Things) (vain running deep : Bool) →
+pub refused_is : (s : Objects) (q pt id p : ℕ) (ram : List ℕ) (t : LockTable) (g : GraftLevel) (gs : List GraftLevel) (log : List (List Logged)) (w : Things) (vain running deep : Bool) →
     vain ≡ is_vain_ask (kind_of pt) s.things q pt → running ≡ is_running_in (g ∷ gs) q pt → deep ≡ (is_some (s.accounts.graft q pt) && length gs == 3) →
     cond vain (Some (BadArgument id)) (cond running (Some Reentered) (cond deep (Some TooDeep) None)) ≡ ask_refusal s q pt id (levels_in p ram t (g ∷ gs) log w)
 refused_is s q pt id p ram t g gs log w vain running deep is_vain is_in is_deep =
@@ -50,14 +48,14 @@ asks_file id r0 r1 q granted is = grind (arith, nat_tests, granted, is)
 
 -- ---- touches
 
-needs_levels : (p : ℕ) (ram : List ℕ) (t : LockTable) (ns : List Need) (g : GraftLevel) (gs : List GraftLevel) (log : List (List Inverse)) (w : Things) →
+needs_levels : (p : ℕ) (ram : List ℕ) (t : LockTable) (ns : List Need) (g : GraftLevel) (gs : List GraftLevel) (log : List (List Logged)) (w : Things) →
     levels_in p ram (needs_touched p (length gs) ns t) (g ∷ gs) log w
     ≡ with_touched ns (level_in p (length gs) ram t g (innermost log) (put_back (innermost log) w)) ∷ levels_in p ram t gs (outer log) (put_back (innermost log) w)
 needs_levels p ram t ns g gs log w =
     glued (level_in p (length gs) ram (needs_touched p (length gs) ns t) g (innermost log) (put_back (innermost log) w)) _ (touch_all ns (t p (length gs))) _ _ refl (needs_here p (length gs) ns t)
     (levels_alike p ram ram (needs_touched p (length gs) ns t) t gs (outer log) (put_back (innermost log) w) (λ e lt. needs_apart p (length gs) p e ns t (grind (arith, nat_tests, lt))) (λ e cpu lt. refl))
 
-outermost_levels : (p : ℕ) (ram : List ℕ) (t : LockTable) (o : Object) (g : GraftLevel) (gs : List GraftLevel) (log : List (List Inverse)) (w : Things) →
+outermost_levels : (p : ℕ) (ram : List ℕ) (t : LockTable) (o : Object) (g : GraftLevel) (gs : List GraftLevel) (log : List (List Logged)) (w : Things) →
     levels_in p ram (with_touch p 0 o Mode.Exclusive t) (g ∷ gs) log w ≡ touch_outermost o (levels_in p ram t (g ∷ gs) log w)
 outermost_levels p ram t o g [] log w =
     let l = level_in p 0 ram (with_touch p 0 o Mode.Exclusive t) g (innermost log) (put_back (innermost log) w) in
@@ -68,7 +66,7 @@ outermost_levels p ram t o g (k ∷ ks) log w =
     (outermost_levels p ram t o k ks (outer log) (put_back (innermost log) w))
 
 -- the levels once an ask touched what it needs
-pub asked_levels : (id r0 p n : ℕ) (ram : List ℕ) (t r : LockTable) (g : GraftLevel) (gs hs : List GraftLevel) (log : List (List Inverse)) (w : Things) → hs ≡ g ∷ gs → n ≡ length gs →
+pub asked_levels : (id r0 p n : ℕ) (ram : List ℕ) (t r : LockTable) (g : GraftLevel) (gs hs : List GraftLevel) (log : List (List Logged)) (w : Things) → hs ≡ g ∷ gs → n ≡ length gs →
     r ≡ with_touch p 0 (asked_graft id r0 g.owner).object Mode.Exclusive (needs_touched p n (asked_objects id r0 g.owner) t) →
     levels_in p ram r hs log w
     ≡ touch_outermost (asked_graft id r0 g.owner).object

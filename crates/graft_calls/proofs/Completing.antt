@@ -3,7 +3,7 @@ use Rattle.std.proofs.Common.{◌≡◌, ◌≢◌, ℕ, suc, ◌-◌, ◌≤◌
 use Rattle.std.proofs.lemmas.Bool.Decides.{nat_tests}
 use Rattle.std.proofs.lemmas.List.{map-append}
 use Rattle.std.specs.Bool.{⊤}
-use Rattle.kernel_model.specs.Access.{bare_found, Access, Gives, Changes, Refuses, access, is_ask, asked_point, asked_graft, asked_objects}
+use Rattle.kernel_model.specs.Access.{Access, Gives, Changes, Refuses, access, is_ask, asked_point, asked_graft, asked_objects}
 use Rattle.kernel_model.specs.declared.Held.{Held}
 use Rattle.kernel_model.specs.declared.Inverse.{Inverse}
 use Rattle.kernel_model.specs.declared.Object.{Object}
@@ -19,11 +19,11 @@ use Rattle.kernel_model.specs.World.{World, ImageTable}
 use Rattle.kernel_model.specs.Levels.{Level, Config, answered, with_machine, with_touched, touch_outermost, base_of, goes_on, answer_of}
 use Rattle.kernel_model.specs.GraftStep.{completed, first_registers, after_call, granted_call, after_ask, ask_answered, after_accessor, after_result, lock_paid, after_change, is_lock_due, is_record_spent, ask_refusal}
 use Rattle.kernel_model.specs.Runs.{on_segment}
-use Rattle.undo_calls.specs.UndoLevels.{innermost, merged}
+use Rattle.undo_calls.specs.UndoLevels.{Logged, found_of, innermost, merged}
 use Rattle.kernel_state.specs.Stores.{body_at}
 use Rattle.graft_machine.specs.Cpu.{Cpu, machine_of}
 use Rattle.graft_calls.specs.declared.GraftLevel.{GraftLevel}
-use Rattle.graft_calls.specs.Chains.{level_in, levels_in, outer, came, put_back}
+use Rattle.graft_calls.specs.Chains.{put_back, level_in, levels_in, outer, came}
 use Rattle.graft_calls.specs.Calls.{AreUndoable, AllUndoable}
 use Rattle.graft_calls.proofs.Answering.{answered_on}
 use Rattle.graft_calls.proofs.Dropping.{pair, configs}
@@ -33,7 +33,7 @@ use Rattle.graft_calls.proofs.Views.{levels_alike, glued}
 -- the level that asked, with its answer
 pub joined_levels : (pt r0 r1 : ℕ) (g : GraftLevel) (cpu : Cpu) (rest after : List GraftLevel) → after ≡ record g { machine = cpu } ∷ rest →
     ((ram : List ℕ) → machine_of cpu ram ≡ answered (kind_of pt) r0 r1 (machine_of g.machine ram)) →
-    (p : ℕ) (ram : List ℕ) (t : LockTable) (log : List (List Inverse)) (w : Things) →
+    (p : ℕ) (ram : List ℕ) (t : LockTable) (log : List (List Logged)) (w : Things) →
     let k = level_in p (length rest) ram t g (innermost log) (put_back (innermost log) w) in
     levels_in p ram t after log w ≡ record k { machine = answered (kind_of pt) r0 r1 k.machine } ∷ levels_in p ram t rest (outer log) (put_back (innermost log) w)
 joined_levels pt r0 r1 g cpu rest after is machine p ram t log w =
@@ -69,28 +69,28 @@ merged_free p n d t u o is le free = ap (λ (x : LockTable). x p d o) is ∙ by_
 -- ---- records that go outwards
 
 -- a log of two levels or more, whose innermost level ends
-record Merged (log : List (List Inverse)) : Type 0 where
+record Merged (log : List (List Logged)) : Type 0 where
   first : innermost (merged log) ≡ innermost log ++ innermost (outer log)
   rest : outer (merged log) ≡ outer (outer log)
 
-merged_log : (log : List (List Inverse)) → 2 ≤ length log → Merged log
+merged_log : (log : List (List Logged)) → 2 ≤ length log → Merged log
 merged_log [] some = absurd (omega arith)
 merged_log (is ∷ []) some = absurd (omega arith)
 merged_log (is ∷ js ∷ log) some = record { first = refl; rest = refl }
 
-both_undoable : (is js : List Inverse) (w : Things) → AreUndoable is w → AreUndoable js w → AreUndoable (is ++ js) w
+both_undoable : (is js : List Logged) (w : Things) → AreUndoable is w → AreUndoable js w → AreUndoable (is ++ js) w
 both_undoable [] js w h k = k
 both_undoable (i ∷ is) js w h k = (h.0, both_undoable is js w h.1 k)
 
-pub merged_undoable : (log rest : List (List Inverse)) (w : Things) → rest ≡ merged log → AllUndoable log w → AllUndoable rest w
+pub merged_undoable : (log rest : List (List Logged)) (w : Things) → rest ≡ merged log → AllUndoable log w → AllUndoable rest w
 merged_undoable log rest w is h = subst (λ x. AllUndoable x w) (sym is) (by_log log h)
   where
-    by_log : (log : List (List Inverse)) → AllUndoable log w → AllUndoable (merged log) w
+    by_log : (log : List (List Logged)) → AllUndoable log w → AllUndoable (merged log) w
     by_log [] h = tt
     by_log (is ∷ []) h = tt
     by_log (is ∷ js ∷ log) h = (both_undoable is js w h.0 h.1.0, h.1.1)
 
-pub merged_length : (log rest : List (List Inverse)) (n : ℕ) → rest ≡ merged log → length log ≡ suc n → length rest ≡ n
+pub merged_length : (log rest : List (List Logged)) (n : ℕ) → rest ≡ merged log → length log ≡ suc n → length rest ≡ n
 merged_length [] rest n is h = absurd (omega arith)
 merged_length (is ∷ []) rest n merged_is h = ap length merged_is ∙ omega (arith, h)
 merged_length (is ∷ js ∷ log) rest n merged_is h = ap length merged_is ∙ omega (arith, h)
@@ -98,7 +98,7 @@ merged_length (is ∷ js ∷ log) rest n merged_is h = ap length merged_is ∙ o
 -- ---- outcomes
 
 -- a level that isn't level 0 ends: gs are the levels outside it, the first of which asked
-pub joined_call : (pt r0 r1 p : ℕ) (ram : List ℕ) (t r : LockTable) (g asker : GraftLevel) (gs rest hs : List GraftLevel) (log less : List (List Inverse)) (w : Objects) →
+pub joined_call : (pt r0 r1 p : ℕ) (ram : List ℕ) (t r : LockTable) (g asker : GraftLevel) (gs rest hs : List GraftLevel) (log less : List (List Logged)) (w : Objects) →
     g.point ≡ pt → slice_index g.machine.regs 0 ≡ r0 → slice_index g.machine.regs 1 ≡ r1 → gs ≡ asker ∷ rest → length log ≡ suc (length gs) → less ≡ merged log → r ≡ merge_level p (suc (length rest)) t →
     (levels_in p ram r hs less w.things ≡
     let k = level_in p (length rest) ram r asker (innermost less) (put_back (innermost less) w.things) in
@@ -113,9 +113,9 @@ joined_call pt r0 r1 p ram t r g asker gs rest hs log less w point first second 
     let ls = levels_in p ram t rest (outer (outer log)) k.kept in
     let m = answered (kind_of pt) r0 r1 k.machine in
     ap (λ xs. came (completed w (level_in p (length xs) ram t g (innermost log) kept) (levels_in p ram t xs (outer log) kept))) all
-    ∙ ap (λ x. came (goes_on w (record k { machine = answered (kind_of x) (slice_index g.machine.regs 0) (slice_index g.machine.regs 1) k.machine; touched = joined (t p (suc (length rest))) k.touched; records = map bare_found (innermost log) ++ k.records } ∷ ls))) point
-    ∙ ap (λ x. came (goes_on w (record k { machine = answered (kind_of pt) x (slice_index g.machine.regs 1) k.machine; touched = joined (t p (suc (length rest))) k.touched; records = map bare_found (innermost log) ++ k.records } ∷ ls))) first
-    ∙ ap (λ x. came (goes_on w (record k { machine = answered (kind_of pt) r0 x k.machine; touched = joined (t p (suc (length rest))) k.touched; records = map bare_found (innermost log) ++ k.records } ∷ ls))) second
+    ∙ ap (λ x. came (goes_on w (record k { machine = answered (kind_of x) (slice_index g.machine.regs 0) (slice_index g.machine.regs 1) k.machine; touched = joined (t p (suc (length rest))) k.touched; records = map found_of (innermost log) ++ k.records } ∷ ls))) point
+    ∙ ap (λ x. came (goes_on w (record k { machine = answered (kind_of pt) x (slice_index g.machine.regs 1) k.machine; touched = joined (t p (suc (length rest))) k.touched; records = map found_of (innermost log) ++ k.records } ∷ ls))) first
+    ∙ ap (λ x. came (goes_on w (record k { machine = answered (kind_of pt) r0 x k.machine; touched = joined (t p (suc (length rest))) k.touched; records = map found_of (innermost log) ++ k.records } ∷ ls))) second
     ∙ pair _ _ _ _ refl (configs w w _ _ refl (sym
     (view
     ∙ ap (λ x. record (level_in p (length rest) ram r asker (innermost x) (put_back (innermost x) w.things)) { machine = m } ∷ levels_in p ram r rest (outer x) (put_back (innermost x) w.things)) is_less
@@ -127,10 +127,10 @@ joined_call pt r0 r1 p ram t r g asker gs rest hs log less w point first second 
     (levels_alike p ram ram r t rest (outer (outer log)) k.kept
     (λ e lt. ap (λ (x : LockTable). x p e) held ∙ merged_apart p (length rest) p e t (grind (arith, nat_tests, lt)) (grind (arith, nat_tests, lt))) (λ e cpu lt. refl))
     ∙ ap (λ x. record k { machine = m; touched = joined (t p (suc (length rest))) k.touched; records = x } ∷ ls)
-    (map-append bare_found (innermost log) (innermost (outer log))))))
+    (map-append found_of (innermost log) (innermost (outer log))))))
 
 -- level 0 ends: the call is complete
-pub completed_call : (p : ℕ) (ram : List ℕ) (t r : LockTable) (g : GraftLevel) (gs hs : List GraftLevel) (log less : List (List Inverse)) (w : Objects) (answer : List ℕ) →
+pub completed_call : (p : ℕ) (ram : List ℕ) (t r : LockTable) (g : GraftLevel) (gs hs : List GraftLevel) (log less : List (List Logged)) (w : Objects) (answer : List ℕ) →
     gs ≡ [] → hs ≡ [] → ((mem : List ℕ) → answer ≡ first_registers (machine_of g.machine mem)) →
     let kept = put_back (innermost log) w.things in
     came (completed w (level_in p (length gs) ram t g (innermost log) kept) (levels_in p ram t gs (outer log) kept))
@@ -187,6 +187,6 @@ call_unanswered v images w p l ls m id None = granted (is_ask id)
     granted false = accessed_by (access id (l.machine.regs 0) (l.machine.regs 1) (l.machine.regs 2) l.owner w.things)
 
 -- level 0 answers, and its segment is in this memory
-pub outermost_answers : (p : ℕ) (ram : List ℕ) (t : LockTable) (g : GraftLevel) (gs : List GraftLevel) (log : List (List Inverse)) (w : Things) (registers : List ℕ) → gs ≡ [] →
+pub outermost_answers : (p : ℕ) (ram : List ℕ) (t : LockTable) (g : GraftLevel) (gs : List GraftLevel) (log : List (List Logged)) (w : Things) (registers : List ℕ) → gs ≡ [] →
     answer_of registers (levels_in p ram t (g ∷ gs) log w) ≡ record { registers = registers; body = body_at ram p registers }
 outermost_answers p ram t g gs log w registers alone = ap (λ xs. answer_of registers (levels_in p ram t (g ∷ xs) log w)) alone

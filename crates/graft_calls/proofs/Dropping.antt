@@ -1,7 +1,6 @@
 -- What is said of a drop, and the graft call after it.
 use Rattle.std.proofs.Common.{◌≡◌, ◌≢◌, ℕ, ◌<◌, ◌==◌, Bool, true, false, List, [], ◌∷◌, length, arith, refl, sym, ◌∙◌, ap}
 use Rattle.std.proofs.lemmas.Bool.Decides.{nat_tests}
-use Rattle.kernel_model.specs.declared.Inverse.{Inverse}
 use Rattle.kernel_model.specs.declared.Cause.{Cause}
 use Rattle.kernel_model.specs.declared.Micro.{Micro}
 use Rattle.kernel_model.specs.Objects.{Objects, Accounts, with_accounts}
@@ -10,9 +9,9 @@ use Rattle.kernel_model.specs.Charges.{removed}
 use Rattle.kernel_model.specs.Policies.{default_of}
 use Rattle.kernel_model.specs.Locks.{LockTable, release_from}
 use Rattle.kernel_model.specs.Levels.{Level, Config, answer_innermost, drop_innermost, drop_level, Outcome}
-use Rattle.undo_calls.specs.UndoLevels.{innermost}
+use Rattle.undo_calls.specs.UndoLevels.{Logged, innermost}
 use Rattle.graft_calls.specs.declared.GraftLevel.{GraftLevel}
-use Rattle.graft_calls.specs.Chains.{level_in, levels_in, outer, came, put_back, put_back_on}
+use Rattle.graft_calls.specs.Chains.{put_back, put_back_on, level_in, levels_in, outer, came}
 use Rattle.graft_calls.proofs.Views.{level_count, levels_released}
 
 -- two pairs
@@ -25,7 +24,7 @@ configs w u ls ks now levels =
     ap (λ (x : Objects). let c : Config = record { now = x; levels = ls } in c) now ∙ ap (λ (x : List Level). let c : Config = record { now = u; levels = x } in c) levels
 
 -- a level is dropped: u is the state then, with levels hs and their log
-pub dropped : (v : World) (w u : Objects) (p n : ℕ) (ram mem : List ℕ) (t r : LockTable) (g : GraftLevel) (gs hs : List GraftLevel) (log rest : List (List Inverse)) (cause : Cause) (d : ℕ × ℕ) →
+pub dropped : (v : World) (w u : Objects) (p n : ℕ) (ram mem : List ℕ) (t r : LockTable) (g : GraftLevel) (gs hs : List GraftLevel) (log rest : List (List Logged)) (cause : Cause) (d : ℕ × ℕ) →
     u ≡ with_accounts (removed g.owner g.point w.accounts) (put_back_on (innermost log) w) → d ≡ default_of v (put_back (innermost log) w.things) g.owner g.point →
     mem ≡ ram → r ≡ release_from p (length gs) t → rest ≡ outer log → n ≡ length gs →
     levels_in p mem r hs rest u.things ≡ answer_innermost g.point d.0 d.1 (levels_in p mem r gs rest u.things) →
@@ -44,7 +43,7 @@ dropped v w u p n ram mem t r g gs hs log rest cause d state default memory lock
     (ap (λ (e : ℕ × ℕ). answer_innermost g.point e.0 e.1 ls) (sym default) ∙ ap (answer_innermost g.point d.0 d.1) (sym outside) ∙ sym levels))
 
 -- a graft is taken out once records were undone
-pub removed_after : (q pt : ℕ) (is : List Inverse) (w one : Objects) (a : Accounts) → one ≡ put_back_on is w → a ≡ removed q pt one.accounts →
+pub removed_after : (q pt : ℕ) (is : List Logged) (w one : Objects) (a : Accounts) → one ≡ put_back_on is w → a ≡ removed q pt one.accounts →
     with_accounts a one ≡ with_accounts (removed q pt w.accounts) (put_back_on is w)
 removed_after q pt is w one a undone is_removed = ap (λ x. with_accounts x one) is_removed ∙ ap (λ (x : Objects). with_accounts (removed q pt x.accounts) x) undone
 
@@ -62,7 +61,7 @@ same_drop v w u (l ∷ ls) d cause same lt =
     chosen (length ls == d) v w u l ls d cause same (λ no. same_drop v w u ls d cause same (grind (arith, nat_tests, lt, no)))
 
 -- a level inside the one that is dropped ends: the drop goes on with those that are left
-pub dropped_further : (v next : World) (w one : Objects) (p d n : ℕ) (ram mem : List ℕ) (t r : LockTable) (g : GraftLevel) (gs hs : List GraftLevel) (log rest : List (List Inverse)) (cause : Cause) →
+pub dropped_further : (v next : World) (w one : Objects) (p d n : ℕ) (ram mem : List ℕ) (t r : LockTable) (g : GraftLevel) (gs hs : List GraftLevel) (log rest : List (List Logged)) (cause : Cause) →
     next ≡ v → hs ≡ g ∷ gs → n ≡ length gs → n ≢ d → d < length hs → one ≡ put_back_on (innermost log) w → mem ≡ ram → r ≡ release_from p n t → rest ≡ outer log →
     drop_level v w (levels_in p ram t hs log w.things) d cause ≡ drop_level next one (levels_in p mem r gs rest one.things) d cause
 dropped_further v next w one p d n ram mem t r g gs hs log rest cause world all count other within state memory locks left =
@@ -83,7 +82,7 @@ dropped_further v next w one p d n ram mem t r g gs hs log rest cause world all 
     ∙ ap (λ ks. drop_level v one ks d cause) (sym outside) ∙ ap (λ x. drop_level x one (levels_in p mem r gs rest one.things) d cause) (sym world)
 
 -- it is the innermost one that is dropped
-pub dropped_here : (v : World) (w : Objects) (p d n : ℕ) (ram : List ℕ) (t : LockTable) (g : GraftLevel) (gs hs : List GraftLevel) (log : List (List Inverse)) (cause : Cause) →
+pub dropped_here : (v : World) (w : Objects) (p d n : ℕ) (ram : List ℕ) (t : LockTable) (g : GraftLevel) (gs hs : List GraftLevel) (log : List (List Logged)) (cause : Cause) →
     hs ≡ g ∷ gs → n ≡ length gs → n ≡ d →
     drop_level v w (levels_in p ram t hs log w.things) d cause
     ≡ drop_innermost v w (level_in p (length gs) ram t g (innermost log) (put_back (innermost log) w.things)) (levels_in p ram t gs (outer log) (put_back (innermost log) w.things)) cause

@@ -55,13 +55,13 @@ zero_past : (o : Option ℕ) → or_zero o ≡ unwrap_or o 0
 zero_past None = refl
 zero_past (Some x) = refl
 
-byte_of : (body : List ℕ) (i : ℕ) → or_zero (slice_get body i) ≡ slice_index body i
+pub byte_of : (body : List ℕ) (i : ℕ) → or_zero (slice_get body i) ≡ slice_index body i
 byte_of body i = zero_past (slice_get body i) ∙ unwrap_or-slice_get body i 0
 
--- a segment that has data bytes, zeros behind them, and the fed bytes
+-- a segment that has these bytes, zeros behind them, and the fed bytes
 pub segment_is : (mem body feed : List ℕ) (base : ℕ) → length body ≤ 4096 → length feed ≤ 512 → ((i : ℕ) → i < 4096 → slice_index mem (base + i) ≡ fed feed (λ k. slice_index body k) i) →
-    segment_of base (by_place mem) ≡ fed feed (λ i. or_zero (slice_get body i))
-segment_is mem body feed base few short same = fun_ext (λ i. at_place i (nat_lt i 4096) refl) ∙ ap (fed feed) (fun_ext (λ i. sym (byte_of body i)))
+    segment_of base (by_place mem) ≡ fed feed (λ i. slice_index body i)
+segment_is mem body feed base few short same = fun_ext (λ i. at_place i (nat_lt i 4096) refl)
   where
     at_place : (i : ℕ) (b : Bool) → nat_lt i 4096 ≡ b → cond b (slice_index mem (base + i)) 0 ≡ fed feed (λ k. slice_index body k) i
     at_place i true e = let less : i < 4096 = grind (arith, nat_tests, e) in same i less

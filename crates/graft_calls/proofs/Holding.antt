@@ -3,7 +3,6 @@ use Rattle.std.proofs.Common.{◌≡◌, ℕ, zero, suc, ◌≤◌, ◌==◌, �
 use Rattle.std.proofs.lemmas.Bool.Decides.{nat_tests}
 use Rattle.std.specs.List.{list_any}
 use Rattle.std.specs.Option.{is_some}
-use Rattle.kernel_model.specs.declared.Inverse.{Inverse}
 use Rattle.kernel_model.specs.declared.Object.{Object}
 use Rattle.kernel_model.specs.declared.Object.TheVariants.{Lock}
 use Rattle.kernel_model.specs.declared.Mode.{Mode}
@@ -12,9 +11,9 @@ use Rattle.kernel_model.specs.Objects.{Things}
 use Rattle.kernel_model.specs.Locks.{LockTable, Touched, touch, with_touch, is_held, conflicts, outermost_holding}
 use Rattle.kernel_model.specs.Levels.{Level}
 use Rattle.kernel_model.specs.GraftStep.{is_lock_due}
-use Rattle.undo_calls.specs.UndoLevels.{innermost}
+use Rattle.undo_calls.specs.UndoLevels.{Logged, innermost}
 use Rattle.graft_calls.specs.declared.GraftLevel.{GraftLevel}
-use Rattle.graft_calls.specs.Chains.{levels_in, outer, put_back}
+use Rattle.graft_calls.specs.Chains.{put_back, levels_in, outer}
 
 -- ---- a touch
 
@@ -31,7 +30,7 @@ abbrev any_below : ℕ → (ℕ → Bool) → Bool
 any_below zero f = false
 any_below (suc n) f = f n || any_below n f
 
-any_level : (p : ℕ) (ram : List ℕ) (t : LockTable) (gs : List GraftLevel) (log : List (List Inverse)) (w : Things) (o : Object) →
+any_level : (p : ℕ) (ram : List ℕ) (t : LockTable) (gs : List GraftLevel) (log : List (List Logged)) (w : Things) (o : Object) →
     list_any (λ (l : Level). is_held (l.touched o)) (levels_in p ram t gs log w) ≡ any_below (length gs) (λ d. is_held (t p d o))
 any_level p ram t [] log w o = refl
 any_level p ram t (g ∷ gs) log w o = ap (λ b. is_held (t p (length gs) o) || b) (any_level p ram t gs (outer log) (put_back (innermost log) w) o)
@@ -67,7 +66,7 @@ of_four (suc (suc (suc (suc zero)))) f le free = grind arith
 of_four (suc (suc (suc (suc (suc n))))) f le free = absurd (omega arith)
 
 -- whether a lock is due, by the table
-pub due_is : (id u p : ℕ) (ram : List ℕ) (t : LockTable) (gs : List GraftLevel) (log : List (List Inverse)) (w : Things) → length gs ≤ 4 → ((d : ℕ) (o : Object) → length gs ≤ d → t p d o ≡ Held.Free) →
+pub due_is : (id u p : ℕ) (ram : List ℕ) (t : LockTable) (gs : List GraftLevel) (log : List (List Logged)) (w : Things) → length gs ≤ 4 → ((d : ℕ) (o : Object) → length gs ≤ d → t p d o ≡ Held.Free) →
     (o : Object) → (id ≡ 12 → o ≡ Lock u) → (id == 12 && not (is_some (outermost_holding o Mode.Exclusive (t p)))) ≡ is_lock_due id u (levels_in p ram t gs log w)
 due_is id u p ram t gs log w few unheld o is = by_id (id == 12) refl
   where

@@ -7,6 +7,7 @@ mod Placing
 mod Dropping
 mod Holding
 mod Recording
+mod KeptSegments
 mod Charging
 mod GoingOn
 mod Looking

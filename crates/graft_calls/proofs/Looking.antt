@@ -1,11 +1,11 @@
 -- What an accessor's answer says of it.
-use Rattle.std.proofs.Common.{◌≡◌, ℕ, suc, ◌≤◌, ◌==◌, Bool, true, false, cond, List, [], ◌∷◌, length, filter, Some, None, Ok, Err, arith, refl, sym, ◌∙◌, ap, subst}
+use Rattle.std.proofs.Common.{◌≡◌, ℕ, suc, ◌≤◌, ◌==◌, Bool, true, false, cond, List, [], ◌∷◌, length, filter, slice_get, Option, Some, None, Ok, Err, arith, refl, sym, ◌∙◌, ap, subst}
 use Rattle.kernel_model.specs.declared.Inverse.{Inverse}
 use Rattle.kernel_model.specs.declared.Cause.{Cause}
 use Rattle.kernel_model.specs.declared.QueueRow.{QueueRow}
-use Rattle.kernel_model.specs.Access.{Access as Accessed, Gives, Changes, Refuses, undo, bare_found}
+use Rattle.kernel_model.specs.Access.{Access as Accessed, Gives, Changes, Refuses, Callable, CellGet, CellSet, NiceGet, NiceSet, WindowGet, WindowSet, FramesMine, FrameAt, FrameBlock, FrameMark, TuneGet, TuneSet, TakeLock, access, access_by, callable, own_frame, window_change, tune_change, set_mark, in_range, param_top, chosen_param, undo, bare_found}
 use Rattle.kernel_model.specs.Machine.{Machine}
-use Rattle.kernel_model.specs.Objects.{Objects, Things}
+use Rattle.kernel_model.specs.Objects.{Objects, Things, FrameValue}
 use Rattle.kernel_model.specs.World.{World}
 use Rattle.kernel_model.specs.Sound.{count_of, in_queue}
 use Rattle.kernel_model.specs.Levels.{Level, drop_innermost}
@@ -13,7 +13,12 @@ use Rattle.kernel_model.specs.GraftStep.{after_accessor, after_result, after_cha
 use Rattle.kernel_laws.specs.Undoing.{LeadsBack, IsOnceIn}
 use Rattle.kernel_state.specs.declared.Access.{Access}
 use Rattle.kernel_state.specs.Accesses.{answer_of, things_after, CanBeUndone}
-use Rattle.undo_calls.specs.UndoLevels.{recorded}
+use Rattle.undo_calls.specs.UndoLevels.{Logged, is_bare, recorded}
+use Rattle.std.specs.Bool.{⊤}
+use Rattle.kernel_model.specs.Policies.{frames_of}
+use Rattle.kernel_model.specs.declared.Inverse.TheVariants.{Mark}
+use Rattle.kernel_model.specs.declared.Cause.TheVariants.{BadArgument, NotYours}
+use Rattle.kernel_model.specs.declared.OpenRow.{OpenRow}
 use Rattle.graft_calls.specs.Calls.{AllUndoable}
 
 -- its inverse leads back
@@ -61,9 +66,60 @@ pub stands_once : (q : ℕ) (rows : List QueueRow) → length (filter (λ (r : Q
 stands_once q rows few = subst (λ n. n ≤ 1) (sym (once q rows)) few
 
 -- one more record can be undone
-pub more_undoable : (i : Inverse) (log rest : List (List Inverse)) (w : Things) → rest ≡ recorded i log → CanBeUndone i w → AllUndoable log w → AllUndoable rest w
+pub more_undoable : (i : Logged) (log rest : List (List Logged)) (w : Things) → rest ≡ recorded i log → CanBeUndone i.inverse w → AllUndoable log w → AllUndoable rest w
 more_undoable i log rest w is can all = subst (λ x. AllUndoable x w) (sym is) (by_log log all)
   where
-    by_log : (log : List (List Inverse)) → AllUndoable log w → AllUndoable (recorded i log) w
+    by_log : (log : List (List Logged)) → AllUndoable log w → AllUndoable (recorded i log) w
     by_log [] h = tt
     by_log (js ∷ log) h = ((can, h.0), h.1)
+
+-- ---- no accessor's change is of a kept segment
+
+abbrev IsBareChange : Accessed → Type 0
+IsBareChange (Gives x) = ⊤
+IsBareChange (Changes x i u) = is_bare i ≡ true
+IsBareChange (Refuses cause) = ⊤
+
+either : (b : Bool) (a c : Accessed) → IsBareChange a → IsBareChange c → IsBareChange (cond b a c)
+either true a c first second = first
+either false a c first second = second
+
+own_bare : (id q : ℕ) (then : FrameValue → Accessed) → ((f : FrameValue) → IsBareChange (then f)) → (o : Option FrameValue) → IsBareChange (own_frame id q o then)
+own_bare id q then each None = tt
+own_bare id q then each (Some f) = either (f.owner == q) (then f) (Refuses (NotYours id)) (each f) tt
+
+window_got : (id : ℕ) (o : Option OpenRow) → IsBareChange (elim o as (λ _. Accessed) [ None ↦ Refuses (BadArgument id) | Some r ↦ Gives r.window ])
+window_got id None = tt
+window_got id (Some r) = tt
+
+frame_got : (id : ℕ) (o : Option ℕ) → IsBareChange (elim o as (λ _. Accessed) [ None ↦ Refuses (BadArgument id) | Some f ↦ Gives f ])
+frame_got id None = tt
+frame_got id (Some f) = tt
+
+window_set : (id fd v q : ℕ) (o : Option OpenRow) (w : Things) → IsBareChange (window_change id fd v q o w)
+window_set id fd v q None w = tt
+window_set id fd v q (Some r) w = refl
+
+bare_by : (c : Callable) (id r0 r1 r2 q : ℕ) (w : Things) → IsBareChange (access_by c id r0 r1 r2 q w)
+bare_by CellGet id r0 r1 r2 q w = tt
+bare_by CellSet id r0 r1 r2 q w = refl
+bare_by NiceGet id r0 r1 r2 q w = tt
+bare_by NiceSet id r0 r1 r2 q w = refl
+bare_by WindowGet id r0 r1 r2 q w = window_got id (w.file q r0)
+bare_by WindowSet id r0 r1 r2 q w = window_set id r0 r1 q (w.file q r0) w
+bare_by FramesMine id r0 r1 r2 q w = tt
+bare_by FrameAt id r0 r1 r2 q w = frame_got id (slice_get (frames_of w.cache q) r0)
+bare_by FrameBlock id r0 r1 r2 q w = own_bare id q (λ f. Gives f.block) (λ f. tt) (w.cache.frame r0)
+bare_by FrameMark id r0 r1 r2 q w = own_bare id q (λ f. Changes f.mark (Mark r0 f.mark) (set_mark r0 r1 w)) (λ f. refl) (w.cache.frame r0)
+bare_by TuneGet id r0 r1 r2 q w = either (in_range (param_top r0 (w.pol r0).chosen) r1 0) (Gives (chosen_param (w.pol r0))) (Refuses (BadArgument id)) tt tt
+bare_by TuneSet id r0 r1 r2 q w =
+    either (in_range (param_top r0 (w.pol r0).chosen) r1 r2) (tune_change r0 r1 r2 (chosen_param (w.pol r0)) w) (Refuses (BadArgument id)) refl tt
+bare_by TakeLock id r0 r1 r2 q w = tt
+
+of_change : (a : Accessed) (x : ℕ) (i : Inverse) → answer_of a ≡ Ok (record { result = x; inverse = Some i }) → IsBareChange a → is_bare i ≡ true
+of_change (Gives result) x i is bare = absurd (grind (arith, is))
+of_change (Changes result j u) x i is bare = let same : i ≡ j = grind (arith, is) in ap is_bare same ∙ bare
+of_change (Refuses cause) x i is bare = absurd (cc)
+
+pub change_is_bare : (id r0 r1 r2 q : ℕ) (w : Things) (x : ℕ) (i : Inverse) → answer_of (access id r0 r1 r2 q w) ≡ Ok (record { result = x; inverse = Some i }) → is_bare i ≡ true
+change_is_bare id r0 r1 r2 q w x i is = of_change (access id r0 r1 r2 q w) x i is (bare_by (callable id) id r0 r1 r2 q w)

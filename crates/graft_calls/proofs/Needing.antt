@@ -3,10 +3,10 @@ use Rattle.std.proofs.Common.{◌≡◌, ◌≢◌, ℕ, suc, ◌<◌, ◌≤◌
 use Rattle.std.proofs.Math.Path.{fun_ext}
 use Rattle.kernel_model.specs.declared.Held.{Held}
 use Rattle.kernel_model.specs.declared.Need.{Need}
-use Rattle.kernel_model.specs.declared.Inverse.{Inverse}
 use Rattle.kernel_model.specs.declared.Object.{Object}
 use Rattle.kernel_model.specs.Locks.{LockTable, touch_all, with_touch, untouched}
 use Rattle.kernel_model.specs.Objects.{Objects}
+use Rattle.undo_calls.specs.UndoLevels.{Logged}
 use Rattle.lock_table.specs.declared.Holds.{Holds}
 use Rattle.lock_table.specs.Masks.{held}
 use Rattle.kernel_state.specs.declared.Store.{Store}
@@ -28,7 +28,7 @@ pub nothing_held : (t : LockTable) (p d : ℕ) → ((o : Object) → t p d o ≡
 nothing_held t p d free = fun_ext (λ o. free o)
 
 -- a level began, and what it needs is touched
-pub begun_placed : {B : Type 0} {P : _} (s u : Store B P) (t r : List (List Holds)) (p : ℕ) (gs hs : List GraftLevel) (log more : List (List Inverse)) →
+pub begun_placed : {B : Type 0} {P : _} (s u : Store B P) (t r : List (List Holds)) (p : ℕ) (gs hs : List GraftLevel) (log more : List (List Logged)) →
     IsPlaced s t p gs log → length gs < 4 → objects_of u ≡ objects_of s → length hs ≡ suc (length gs) → more ≡ [] ∷ log → AreSound (queue_of u) hs →
     ((d : ℕ) (o : Object) → suc (length gs) ≤ d → held r p d o ≡ Held.Free) → IsPlaced u r p hs more
 begun_placed s u t r p gs hs log more h few same count is sound free =

@@ -1,11 +1,9 @@
 -- What the next instruction of the innermost level needs.
-use Rattle.std.proofs.Common.{◌≡◌, ◌≤◌, ◌==◌, ◌++◌, arith, ℕ, false, cond, List, [], ◌∷◌, length, Option, Some, None, refl, sym, ◌∙◌, ap}
-use Rattle.kernel_model.specs.declared.Inverse.{Inverse}
 use Rattle.std.proofs.lemmas.Bool.Decides.{nat_tests}
 use Rattle.kernel_model.specs.declared.Object.{Object}
 use Rattle.kernel_model.specs.declared.Mode.{Mode}
 use Rattle.kernel_model.specs.declared.Need.{Need}
-use Rattle.std.proofs.Common.{slice_get}
+use Rattle.std.proofs.Common.{◌≡◌, ◌≤◌, ◌==◌, ◌++◌, arith, ℕ, false, cond, List, [], ◌∷◌, length, Option, Some, None, refl, sym, ◌∙◌, ap, slice_get}
 use Rattle.kernel_model.specs.declared.Instr.{Instr}
 use Rattle.kernel_model.specs.declared.Op.{Op}
 use Rattle.kernel_model.specs.declared.Op.TheVariants.{Call, Callr}
@@ -17,9 +15,9 @@ use Rattle.kernel_model.specs.Access.{early_refusal, is_ask, accessed, asked_obj
 use Rattle.kernel_model.specs.Locks.{LockTable}
 use Rattle.kernel_model.specs.Levels.{Level, code_of}
 use Rattle.kernel_model.specs.GraftStep.{is_spent, call_needs, instruction_needs, next_needs}
-use Rattle.undo_calls.specs.UndoLevels.{innermost}
+use Rattle.undo_calls.specs.UndoLevels.{Logged, innermost}
 use Rattle.graft_calls.specs.declared.GraftLevel.{GraftLevel}
-use Rattle.graft_calls.specs.Chains.{level_in, levels_in, outer, first_level, put_back}
+use Rattle.graft_calls.specs.Chains.{put_back, level_in, levels_in, outer, first_level}
 
 -- a call
 pub calling : (v : World) (images : ImageTable) (a : Accounts) (l : Level) (ls : List Level) (id : ℕ) (needs : List Need) → false ≡ is_spent a l → next_call (code_of images a l.owner l.point) l.machine ≡ Some id →
@@ -35,8 +33,8 @@ plain v images a l ls needs spent next is =
 
 -- of the innermost level of a chain
 pub of_first : (v : World) (images : ImageTable) (a : Accounts) (g : GraftLevel) (gs : List GraftLevel) (needs : List Need) → Some g ≡ first_level gs →
-    ((p d : ℕ) (ram : List ℕ) (t : LockTable) (is : List Inverse) (w : Things) (ls : List Level) → needs ≡ next_needs v images a (level_in p d ram t g is w ∷ ls)) →
-    (p : ℕ) (ram : List ℕ) (t : LockTable) (log : List (List Inverse)) (w : Things) → needs ≡ next_needs v images a (levels_in p ram t gs log w)
+    ((p d : ℕ) (ram : List ℕ) (t : LockTable) (is : List Logged) (w : Things) (ls : List Level) → needs ≡ next_needs v images a (level_in p d ram t g is w ∷ ls)) →
+    (p : ℕ) (ram : List ℕ) (t : LockTable) (log : List (List Logged)) (w : Things) → needs ≡ next_needs v images a (levels_in p ram t gs log w)
 of_first v images a g [] needs is each p ram t log w = absurd (cc)
 of_first v images a g (x ∷ gs) needs is each p ram t log w =
     let same : g ≡ x = cc in

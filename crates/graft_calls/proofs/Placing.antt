@@ -14,6 +14,8 @@ use Rattle.kernel_state.specs.Accesses.{CanBeUndone}
 use Rattle.graft_calls.specs.declared.GraftLevel.{GraftLevel}
 use Rattle.graft_calls.specs.Chains.{outer}
 use Rattle.graft_calls.specs.Calls.{AreSound, AllUndoable, IsPlaced, IsElsewhereSame}
+use Rattle.undo_calls.specs.UndoLevels.{Logged, merged}
+use Rattle.graft_calls.proofs.Completing.{merged_undoable, merged_length}
 use Rattle.graft_calls.proofs.Undoing.{all_kept, of_outer, outer_length}
 use Rattle.graft_calls.proofs.Conditions.{still_sound}
 use Rattle.graft_calls.proofs.Views.{released_free, released_others}
@@ -21,7 +23,7 @@ use Rattle.graft_calls.proofs.Holding.{touched_apart}
 use Rattle.std.proofs.lemmas.Bool.Decides.{nat_tests}
 
 -- a level was undone, and let go
-pub ended_placed : {B : Type 0} {P : _} (s u : Store B P) (t r : List (List Holds)) (p n : ℕ) (gs : List GraftLevel) (log rest : List (List Inverse)) →
+pub ended_placed : {B : Type 0} {P : _} (s u : Store B P) (t r : List (List Holds)) (p n : ℕ) (gs : List GraftLevel) (log rest : List (List Logged)) →
     p < 16 → length gs < 4 → length log ≡ suc (length gs) → AreSound (queue_of s) gs → AllUndoable log (objects_of s).things →
     ((q : ℕ) → lives (queue_of u) q ≡ lives (queue_of s) q) →
     ((i : Inverse) → CanBeUndone i (objects_of s).things → CanBeUndone i (objects_of u).things) → rest ≡ outer log →
@@ -37,7 +39,7 @@ ended_placed s u t r p n gs log rest process few as_many sound undoable living k
     }
 
 -- other levels, as many
-pub levels_placed : {B : Type 0} {P : _} (s : Store B P) (t : List (List Holds)) (p : ℕ) (gs hs : List GraftLevel) (log : List (List Inverse)) →
+pub levels_placed : {B : Type 0} {P : _} (s : Store B P) (t : List (List Holds)) (p : ℕ) (gs hs : List GraftLevel) (log : List (List Logged)) →
     IsPlaced s t p gs log → length hs ≡ length gs → AreSound (queue_of s) hs → IsPlaced s t p hs log
 levels_placed s t p gs hs log h count sound =
     record {
@@ -72,7 +74,7 @@ elsewhere_twice s u v t r l p h k =
 
 -- ---- a level goes on and touched an object
 
-pub touched_placed : {B : Type 0} {P : _} (s u : Store B P) (t r : List (List Holds)) (p n : ℕ) (o : Object) (m : Mode) (g : GraftLevel) (gs hs : List GraftLevel) (log rest : List (List Inverse)) →
+pub touched_placed : {B : Type 0} {P : _} (s u : Store B P) (t r : List (List Holds)) (p n : ℕ) (o : Object) (m : Mode) (g : GraftLevel) (gs hs : List GraftLevel) (log rest : List (List Logged)) →
     IsPlaced s t p (g ∷ gs) log → ((q : ℕ) → lives (queue_of u) q ≡ lives (queue_of s) q) → length hs ≡ suc (length gs) → AreSound (queue_of s) hs →
     held r ≡ with_touch p n o m (held t) → n ≡ length gs → length rest ≡ length log → AllUndoable rest (objects_of u).things → IsPlaced u r p hs rest
 touched_placed s u t r p n o m g gs hs log rest h living many sound held_is count same undoable =
@@ -97,7 +99,7 @@ touched_elsewhere s u t r p n o m world living memory held_is =
 
 -- ---- the locks of this process alone change
 
-pub locks_placed : {B : Type 0} {P : _} (s : Store B P) (t r : List (List Holds)) (p : ℕ) (gs hs : List GraftLevel) (log : List (List Inverse)) →
+pub locks_placed : {B : Type 0} {P : _} (s : Store B P) (t r : List (List Holds)) (p : ℕ) (gs hs : List GraftLevel) (log : List (List Logged)) →
     IsPlaced s t p gs log → hs ≡ gs → ((d : ℕ) (o : Object) → length gs ≤ d → held r p d o ≡ Held.Free) → IsPlaced s r p hs log
 locks_placed s t r p gs hs log h same free =
     subst (λ xs. IsPlaced s r p xs log) (sym same)
@@ -105,3 +107,18 @@ locks_placed s t r p gs hs log h same free =
 
 pub before_elsewhere : {B : Type 0} {P : _} (s u : Store B P) (t r : List (List Holds)) (p : ℕ) → IsElsewhereSame s u r r p → ((q d : ℕ) → q ≢ p → held r q d ≡ held t q d) → IsElsewhereSame s u t r p
 before_elsewhere s u t r p h others = record { world = h.world; living = h.living; others = others; memory = h.memory }
+
+-- ---- a level ends with its answer, whose records go outwards
+
+pub completed_placed : {B : Type 0} {P : _} (s u : Store B P) (t r : List (List Holds)) (p : ℕ) (g : GraftLevel) (gs hs : List GraftLevel) (log more less : List (List Logged)) →
+    IsPlaced s t p (g ∷ gs) log → queue_of u ≡ queue_of s → length hs ≡ length gs → AreSound (queue_of s) hs →
+    ((d : ℕ) (o : Object) → length gs ≤ d → held r p d o ≡ Held.Free) → length more ≡ length log → AllUndoable more (objects_of u).things → less ≡ merged more → IsPlaced u r p hs less
+completed_placed s u t r p g gs hs log more less h queue count sound free same undoable is =
+    record {
+      process = h.process;
+      few = omega (arith, h.few, count);
+      as_many = merged_length more less (length gs) is (same ∙ h.as_many) ∙ sym count;
+      unheld = λ d o le. free d o (omega (arith, le, count));
+      levels = subst (λ rows. AreSound rows hs) (sym queue) sound;
+      undoable = merged_undoable more less (objects_of u).things is undoable;
+    }

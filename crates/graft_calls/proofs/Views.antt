@@ -1,7 +1,6 @@
 -- What the levels of a chain are once locks, memory or records changed.
 use Rattle.std.proofs.Common.{◌≡◌, ◌≢◌, ℕ, suc, ◌<◌, ◌≤◌, ◌==◌, ◌&&◌, true, false, cond, nat_le, List, [], ◌∷◌, length, arith, refl, ◌∙◌, ap}
 use Rattle.std.proofs.lemmas.Bool.Decides.{nat_tests}
-use Rattle.kernel_model.specs.declared.Inverse.{Inverse}
 use Rattle.kernel_model.specs.declared.Object.{Object}
 use Rattle.kernel_model.specs.declared.Held.{Held}
 use Rattle.kernel_model.specs.Machine.{Machine}
@@ -9,13 +8,13 @@ use Rattle.kernel_model.specs.Objects.{Things}
 use Rattle.kernel_model.specs.Locks.{LockTable, Touched, release_from, untouched}
 use Rattle.kernel_model.specs.Levels.{Level, base_of}
 use Rattle.kernel_model.specs.Runs.{on_segment}
-use Rattle.undo_calls.specs.UndoLevels.{innermost}
+use Rattle.undo_calls.specs.UndoLevels.{Logged, innermost}
 use Rattle.graft_machine.specs.Cpu.{Cpu, machine_of}
 use Rattle.graft_calls.specs.declared.GraftLevel.{GraftLevel}
-use Rattle.graft_calls.specs.Chains.{level_in, levels_in, outer, put_back}
+use Rattle.graft_calls.specs.Chains.{put_back, level_in, levels_in, outer}
 
 -- there are as many levels as the chain has
-pub level_count : (p : ℕ) (ram : List ℕ) (t : LockTable) (gs : List GraftLevel) (log : List (List Inverse)) (w : Things) → length (levels_in p ram t gs log w) ≡ length gs
+pub level_count : (p : ℕ) (ram : List ℕ) (t : LockTable) (gs : List GraftLevel) (log : List (List Logged)) (w : Things) → length (levels_in p ram t gs log w) ≡ length gs
 level_count p ram t [] log w = refl
 level_count p ram t (g ∷ gs) log w = ap suc (level_count p ram t gs (outer log) (put_back (innermost log) w))
 
@@ -25,7 +24,7 @@ glued l m x ls ks machine touched rest =
     ap (λ (n : Machine). record l { machine = n } ∷ ls) machine ∙ ap (λ (y : Touched). record l { machine = m; touched = y } ∷ ls) touched ∙ ap (λ k. record l { machine = m; touched = x } ∷ k) rest
 
 -- levels are the same where what they hold and their segments are
-pub levels_alike : (p : ℕ) (ram mem : List ℕ) (t u : LockTable) (gs : List GraftLevel) (log : List (List Inverse)) (w : Things) →
+pub levels_alike : (p : ℕ) (ram mem : List ℕ) (t u : LockTable) (gs : List GraftLevel) (log : List (List Logged)) (w : Things) →
     ((e : ℕ) → e < length gs → t p e ≡ u p e) →
     ((e : ℕ) (cpu : Cpu) → e < length gs → on_segment (base_of p e) (machine_of cpu ram) ≡ on_segment (base_of p e) (machine_of cpu mem)) →
     levels_in p ram t gs log w ≡ levels_in p mem u gs log w
@@ -39,7 +38,7 @@ levels_alike p ram mem t u (g ∷ gs) log w holds segments =
 pub released_apart : (p n e : ℕ) (t : LockTable) → e < n → release_from p n t p e ≡ t p e
 released_apart p n e t lt = let no : (p == p && nat_le n e) ≡ false = grind (arith, nat_tests) in ap (λ b. cond b untouched (t p e)) no
 
-pub levels_released : (p : ℕ) (ram : List ℕ) (t : LockTable) (gs : List GraftLevel) (log : List (List Inverse)) (w : Things) →
+pub levels_released : (p : ℕ) (ram : List ℕ) (t : LockTable) (gs : List GraftLevel) (log : List (List Logged)) (w : Things) →
     levels_in p ram (release_from p (length gs) t) gs log w ≡ levels_in p ram t gs log w
 levels_released p ram t gs log w =
     levels_alike p ram ram (release_from p (length gs) t) t gs log w (λ e lt. released_apart p (length gs) e t lt) (λ e cpu lt. refl)

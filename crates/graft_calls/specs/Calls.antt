@@ -1,7 +1,6 @@
 -- What must hold of a graft call in place for its next instruction, and what an instruction leaves
 -- as it was.
 use Rattle.std.specs.Prelude.{◌≡◌, ◌≢◌, ℕ, ◌+◌, ◌*◌, ◌<◌, ◌≤◌, false, true, List, [], ◌∷◌, length, slice_index, ⊤, ◌⊎◌}
-use Rattle.kernel_model.specs.declared.Inverse.{Inverse}
 use Rattle.kernel_model.specs.declared.Object.{Object}
 use Rattle.kernel_model.specs.declared.Held.{Held}
 use Rattle.kernel_model.specs.declared.Need.{Need}
@@ -13,6 +12,7 @@ use Rattle.kernel_model.specs.Policies.{lives}
 use Rattle.kernel_model.specs.Levels.{base_of, code_of, limit_in}
 use Rattle.kernel_model.specs.Boxed.{IsInside}
 use Rattle.kernel_model.specs.Sound.{ImagesAreLoaded}
+use Rattle.undo_calls.specs.UndoLevels.{Logged}
 use Rattle.lock_table.specs.declared.Holds.{Holds}
 use Rattle.lock_table.specs.Masks.{held}
 use Rattle.graft_machine.specs.Cpu.{machine_of}
@@ -50,19 +50,19 @@ AreInside images a p [] = ⊤
 AreInside images a p (g ∷ gs) = RunsInside images a p (length gs) g × AreInside images a p gs
 
 -- each of some records can be undone
-abbrev pub AreUndoable : List Inverse → Things → Type 0
+abbrev pub AreUndoable : List Logged → Things → Type 0
 AreUndoable [] w = ⊤
-AreUndoable (i ∷ is) w = CanBeUndone i w × AreUndoable is w
+AreUndoable (i ∷ is) w = CanBeUndone i.inverse w × AreUndoable is w
 
 -- so can each record of a log
-abbrev pub AllUndoable : List (List Inverse) → Things → Type 0
+abbrev pub AllUndoable : List (List Logged) → Things → Type 0
 AllUndoable [] w = ⊤
 AllUndoable (is ∷ log) w = AreUndoable is w × AllUndoable log w
 
 -- Levels of process p with this undo log stand in place on a store: there are at most four, each
 -- with its records, the process holds nothing further inward, and all records can be undone.
 pub record IsPlaced {B : Type 0} {P : _} (s : Store B P) (t : List (List Holds)) (p : ℕ)
-    (gs : List GraftLevel) (log : List (List Inverse)) : Type 0 where
+    (gs : List GraftLevel) (log : List (List Logged)) : Type 0 where
   pub process : p < 16
   pub few : length gs ≤ 4
   pub as_many : length log ≡ length gs
@@ -73,7 +73,7 @@ pub record IsPlaced {B : Type 0} {P : _} (s : Store B P) (t : List (List Holds))
 -- A graft call in place: nothing more is needed for its next instruction, nor for a drop, and both
 -- keep it.
 pub record IsInPlace {B : Type 0} {P : _} (s : Store B P) (t : List (List Holds))
-    (images : ImageTable) (p : ℕ) (gs : List GraftLevel) (log : List (List Inverse)) : Type 0 where
+    (images : ImageTable) (p : ℕ) (gs : List GraftLevel) (log : List (List Logged)) : Type 0 where
   pub placed : IsPlaced s t p gs log
   pub inside : AreInside images (objects_of s).accounts p gs
   -- an ask begins a level on the image of any graft that stands
@@ -91,6 +91,7 @@ pub record HasOtherMemory {B : Type 0} {P : _} (s u : Store B P) : Type 0 where
   pub dir : u.dir ≡ s.dir
   pub choice : u.choice ≡ s.choice
   pub shelf : u.shelf ≡ s.shelf
+  pub kept : u.kept ≡ s.kept
 
 -- ---- what stays
 

@@ -1,41 +1,44 @@
 -- Which graft call a chain of levels is in place: on a store, with the lock table and an undo log.
-use Rattle.std.specs.Prelude.{◌≡◌, ℕ, Bool, ◌&&◌, ◌==◌, List, [], ◌∷◌, length, map, Option, Some, None}
+use Rattle.std.specs.Prelude.{◌≡◌, ℕ, Bool, ◌&&◌, ◌==◌, List, [], ◌∷◌, length, map, slice_index, slice_index_or, Option, Some, None}
+use Rattle.kernel_model.specs.Access.{set_segment}
+use Rattle.kernel_model.specs.Charges.{charge}
+use Rattle.kernel_model.specs.declared.Kind.TheVariants.{Records}
 use Rattle.std.specs.List.{list_any}
-use Rattle.kernel_model.specs.declared.Inverse.{Inverse}
 use Rattle.kernel_model.specs.declared.Micro.{Micro}
 use Rattle.kernel_model.specs.Objects.{Objects, Things}
 use Rattle.kernel_model.specs.Locks.{LockTable}
-use Rattle.kernel_model.specs.Access.{bare_found}
 use Rattle.kernel_model.specs.UndoLog.{undo_all}
 use Rattle.kernel_model.specs.Levels.{Level, Config, Outcome, base_of, answer_of}
-use Rattle.kernel_model.specs.Runs.{on_segment}
+use Rattle.kernel_model.specs.Runs.{on_segment, segment_of}
 use Rattle.lock_table.specs.declared.Holds.{Holds}
 use Rattle.lock_table.specs.Masks.{held}
-use Rattle.undo_calls.specs.UndoLevels.{innermost}
+use Rattle.undo_calls.specs.UndoLevels.{Logged, found_of, innermost}
 use Rattle.graft_machine.specs.Cpu.{machine_of}
 use Rattle.kernel_state.specs.declared.Store.{Store}
+use Rattle.kernel_state.specs.Sound.{segment_number}
 use Rattle.kernel_state.specs.Stores.{objects_of, body_at}
+use Rattle.segments.specs.Tables.{Table}
 use Rattle.graft_calls.specs.declared.GraftLevel.{GraftLevel}
 use Rattle.graft_calls.specs.declared.Chain.{Chain}
 
 -- ---- levels
 
--- what inverses put back, the first one first
-abbrev pub put_back : List Inverse → Things → Things
-put_back is w = undo_all (map bare_found is) w
+-- what records put back, the first one first
+abbrev pub put_back : List Logged → Things → Things
+put_back is w = undo_all (map found_of is) w
 
 -- the same on a whole state
-abbrev pub put_back_on : List Inverse → Objects → Objects
+abbrev pub put_back_on : List Logged → Objects → Objects
 put_back_on is s = record s { things = put_back is s.things }
 
 -- the log without the records of the innermost level
-abbrev pub outer : List (List Inverse) → List (List Inverse)
+abbrev pub outer : List (List Logged) → List (List Logged)
 outer [] = []
 outer (is ∷ log) = log
 
 -- level d of process p, whose segment is in this memory and which holds what the table says; it has
 -- these records, and found these things when it began
-abbrev pub level_in : (p d : ℕ) → List ℕ → LockTable → GraftLevel → List Inverse → Things → Level
+abbrev pub level_in : (p d : ℕ) → List ℕ → LockTable → GraftLevel → List Logged → Things → Level
 level_in p d ram t g is kept =
     record {
       owner = g.owner;
@@ -44,18 +47,31 @@ level_in p d ram t g is kept =
       count = g.count;
       touched = t p d;
       args = g.args;
-      records = map bare_found is;
+      records = map found_of is;
       kept = kept;
     }
 
 -- The levels of process p, innermost first, where these are the things now: what a level found is
 -- what undoing its records and those further inward gives.
-abbrev pub levels_in : ℕ → List ℕ → LockTable → List GraftLevel → List (List Inverse) → Things →
+abbrev pub levels_in : ℕ → List ℕ → LockTable → List GraftLevel → List (List Logged) → Things →
     List Level
 levels_in p ram t [] log w = []
 levels_in p ram t (g ∷ gs) log w =
     level_in p (length gs) ram t g (innermost log) (put_back (innermost log) w)
     ∷ levels_in p ram t gs (outer log) (put_back (innermost log) w)
+
+-- the bytes that are kept for the graft at (q, pt), if there are some
+abbrev pub kept_bytes : Table → (q pt : ℕ) → Option (List ℕ)
+kept_bytes kept q pt = slice_index_or kept (segment_number q pt) None
+
+-- A state where the segment of the graft at (q, pt), which this memory has at this base, is kept
+-- and one of records charged.
+abbrev pub kept_on : (q pt base : ℕ) → List ℕ → Objects → Objects
+kept_on q pt base ram s =
+    record {
+      accounts = charge Records q pt s.accounts;
+      things = set_segment q pt (Some (segment_of base (λ a. slice_index ram a))) s.things;
+    }
 
 -- the innermost level, if there is one
 abbrev pub first_level : List GraftLevel → Option GraftLevel

@@ -1,7 +1,6 @@
 //! What a plain accessor comes to.
 
 ghost use Rattle.std.specs.Prelude.{◌≡◌, ◌≢◌, ℕ, suc, ◌<◌, ◌≤◌, ◌&&◌, ◌==◌, not, ◌∷◌, List, None, Some, Ok, true, length, slice_index, is_some};
-ghost use Rattle.kernel_model.specs.declared.Inverse.{Inverse as Undoing};
 ghost use Rattle.kernel_model.specs.declared.Mode.TheVariants.{Exclusive};
 ghost use Rattle.kernel_model.specs.declared.QueueRow.{QueueRow as Waiting};
 ghost use Rattle.kernel_model.specs.Access.{access as accessed_by, accessed, early_refusal};
@@ -16,8 +15,8 @@ ghost use Rattle.kernel_model.specs.World.{ImageTable};
 ghost use Rattle.kernel_state.specs.Accesses.{answer_of, things_after, CanBeUndone};
 ghost use Rattle.kernel_state.specs.Stores.{world_of_store, objects_of};
 ghost use Rattle.lock_table.specs.Masks.{held};
-ghost use Rattle.undo_calls.specs.UndoLevels.{innermost, recorded, records_of};
-ghost use Rattle.graft_calls.specs.Chains.{came, call_of, level_of, outer_of, level_in, levels_in, outer, put_back};
+ghost use Rattle.undo_calls.specs.UndoLevels.{Logged, bare, innermost, is_bare, recorded, records_of};
+ghost use Rattle.graft_calls.specs.Chains.{put_back, came, call_of, level_of, outer_of, level_in, levels_in, outer};
 ghost use Rattle.graft_calls.specs.Calls.{AreSound, AreInside, IsPlaced, IsElsewhereSame};
 
 use crate::answers::arguments;
@@ -42,7 +41,7 @@ pub(crate) struct Accessed {
 /// A level goes on with a result in r0.
 fn go_on(level: GraftLevel, r0: u32, levels: &mut Levels)
     requires { length levels.old < 4 }
-    ensures levels { (p : ℕ) (ram : List ℕ) (t : Table) (log : List (List Undoing)) (w : Things) →
+    ensures levels { (p : ℕ) (ram : List ℕ) (t : Table) (log : List (List Logged)) (w : Things) →
         let l = level_in p (length levels.old) ram t level (innermost log) (put_back (innermost log) w) in
         levels_in p ram t levels.new log w ≡ with_machine (answered spec.Victim r0 0 l.machine) l
         ∷ levels_in p ram t levels.old (outer log) (put_back (innermost log) w) }
@@ -112,7 +111,8 @@ fn give<B: Policy>(
 fn record(undo: &mut UndoStack, inverse_is: Inverse)
     requires level { 0 < length undo.old }
     requires room { length (records_of undo.old) ≢ 64 }
-    ensures { undo.new ≡ recorded inverse_is undo.old }
+    requires bare { is_bare inverse_is ≡ true }
+    ensures { undo.new ≡ recorded (bare inverse_is) undo.old }
 {
     let _ = undo.push(inverse_is);
 }

@@ -1,7 +1,6 @@
 //! How an answer goes to the level that asked.
 
 ghost use Rattle.std.specs.Prelude.{◌≡◌, ◌≤◌, ℕ, ◌∷◌, [], List, length, slice_index};
-ghost use Rattle.kernel_model.specs.declared.Inverse.{Inverse as Undoing};
 ghost use Rattle.kernel_model.specs.declared.QueueRow.{QueueRow as Waiting};
 ghost use Rattle.kernel_model.specs.Boxed.{IsInside};
 ghost use Rattle.kernel_model.specs.declared.Instr.{Instr};
@@ -10,6 +9,7 @@ ghost use Rattle.kernel_model.specs.Locks.{LockTable};
 ghost use Rattle.kernel_model.specs.Objects.{Accounts, Things};
 ghost use Rattle.kernel_model.specs.Policies.{kind_of};
 ghost use Rattle.kernel_model.specs.World.{ImageTable};
+ghost use Rattle.undo_calls.specs.UndoLevels.{Logged};
 ghost use Rattle.graft_machine.specs.Cpu.{machine_of};
 ghost use Rattle.graft_calls.specs.Chains.{levels_in};
 ghost use Rattle.graft_calls.specs.Calls.{AreSound, AreInside};
@@ -42,7 +42,7 @@ pub(crate) fn answer(machine: &mut Machine, pt: u8, r0: u32, r1: u32)
 /// The innermost level, if there is one, gets the answer of point pt.
 pub(crate) fn give_answer(levels: &mut Levels, pt: u8, r0: u32, r1: u32)
     requires { length levels.old ≤ 4 }
-    ensures levels { (p : ℕ) (ram : List ℕ) (t : LockTable) (log : List (List Undoing))
+    ensures levels { (p : ℕ) (ram : List ℕ) (t : LockTable) (log : List (List Logged))
         (w : Things) →
         levels_in p ram t levels.new log w ≡ answer_innermost pt r0 r1 (levels_in p ram t levels.old log w) }
     ensures count { length levels.new ≡ length levels.old }

@@ -1,7 +1,6 @@
 //! What the ask of another point comes to.
 
 ghost use Rattle.std.specs.Prelude.{◌≡◌, ◌≢◌, ℕ, suc, ◌<◌, ◌≤◌, ◌∷◌, ◌&&◌, ◌==◌, [], List, None, true, false, length, slice_index, is_some, All};
-ghost use Rattle.kernel_model.specs.declared.Inverse.{Inverse as Undoing};
 ghost use Rattle.kernel_model.specs.declared.Mode.TheVariants.{Exclusive, Shared};
 ghost use Rattle.kernel_model.specs.declared.Need.{Need as Needed};
 ghost use Rattle.kernel_model.specs.declared.Object.TheVariants.{Graft};
@@ -11,6 +10,7 @@ ghost use Rattle.kernel_model.specs.Laws.{IsInRange};
 ghost use Rattle.kernel_model.specs.Locks.{LockTable as Table, with_touch};
 ghost use Rattle.kernel_model.specs.Objects.{Things};
 ghost use Rattle.kernel_model.specs.Policies.{kind_of, lives};
+ghost use Rattle.undo_calls.specs.UndoLevels.{Logged};
 ghost use Rattle.graft_accounts.specs.Table.{accounts_of};
 ghost use Rattle.kernel_state.specs.Stores.{world_of_store, objects_of, queue_of};
 ghost use Rattle.lock_table.specs.Masks.{held};
@@ -117,7 +117,7 @@ fn ask_refusal<B: Policy>(
     requires owner { level.now.owner < 16 }
     requires point { pt < 16 }
     requires few { length levels.now < 4 }
-    ensures value { (p : ℕ) (ram : List ℕ) (t : Table) (log : List (List Undoing)) (w : Things) →
+    ensures value { (p : ℕ) (ram : List ℕ) (t : Table) (log : List (List Logged)) (w : Things) →
         result ≡ refusal_of_ask (objects_of store.now) level.now.owner pt id
         (levels_in p ram t (level.now ∷ levels.now) log w) }
     ensures free { result ≡ None →

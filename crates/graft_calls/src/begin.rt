@@ -16,7 +16,8 @@ ghost use Rattle.graft_calls.specs.Chains.{call_of, levels_in, is_running_in};
 ghost use Rattle.graft_calls.specs.Calls.{AreSound, AreInside, IsPlaced, IsInPlace, IsElsewhereSame, needs_touched};
 
 use crate::code::image_of as image_at;
-use crate::segments::{base_of, fill};
+use crate::filling::{base_of, fill};
+use crate::keeping::first_bytes;
 use crate::{Chain, GraftLevel};
 use graft_loader::{Images, Loaded};
 use graft_machine::Machine;
@@ -37,8 +38,8 @@ pub(crate) fn touch_needs(needs: &[Need], p: u8, d: u8, locks: &mut LockTable)
     }
 }
 
-/// A new innermost level begins on this image, which is that of the graft at the asked point, and
-/// is fed these bytes.
+/// A new innermost level begins on this image, which is that of the graft at the asked point, with
+/// what is kept for that or else the image's data, and is fed these bytes.
 pub(crate) fn begin_level<B: Policy>(
     chain: &mut Chain,
     p: u8,
@@ -50,6 +51,8 @@ pub(crate) fn begin_level<B: Policy>(
     requires process { p < 16 }
     requires few { length chain.old.levels < 4 }
     requires as_many { length chain.old.undo ≡ length chain.old.levels }
+    requires owner { at.now.installer < 16 }
+    requires point { at.now.point < 16 }
     requires short { length feed.now ≤ 512 }
     ensures levels { (images : ImageTable) (t : Table) → let s = objects_of store.old in
         image_of images (s.accounts.graft at.now.installer at.now.point) ≡ Some image.now →
@@ -60,8 +63,8 @@ pub(crate) fn begin_level<B: Policy>(
     ensures objects { objects_of store.new ≡ objects_of store.old }
     ensures log { chain.new.undo ≡ [] ∷ chain.old.undo }
     ensures count { length chain.new.levels ≡ suc (length chain.old.levels) }
-    ensures levels_sound { AreSound (queue_of store.old) chain.old.levels → at.now.installer < 16 →
-        at.now.point < 16 → lives (queue_of store.old) at.now.installer ≡ true →
+    ensures levels_sound { AreSound (queue_of store.old) chain.old.levels →
+        lives (queue_of store.old) at.now.installer ≡ true →
         is_running_in chain.old.levels at.now.installer at.now.point ≡ false →
         AreSound (queue_of store.new) chain.new.levels }
     ensures inside { (images : ImageTable) → let a = (objects_of store.old).accounts in
@@ -71,7 +74,8 @@ pub(crate) fn begin_level<B: Policy>(
 {
     store.cache.lru();
     let base = base_of(p, chain.levels.count());
-    fill(&mut store.ram, base, image.body(), feed);
+    let bytes = first_bytes(image, &store.kept, at.installer, at.point);
+    fill(&mut store.ram, base, bytes, feed);
     image.code();
     chain.undo.begin_level();
     chain.levels.push(GraftLevel {

@@ -1,6 +1,6 @@
 //! What instructions are charged.
 
-ghost use Rattle.std.specs.Prelude.{◌≡◌, ◌+◌, ◌<◌, ◌≤◌, ◌==◌, ◌||◌, ◌&&◌, not, cond, length};
+ghost use Rattle.std.specs.Prelude.{◌≡◌, ◌≢◌, ◌+◌, ◌<◌, ◌≤◌, ◌==◌, ◌||◌, ◌&&◌, not, cond, length};
 ghost use Rattle.kernel_model.specs.declared.Kind.TheVariants.{Steps, Records, Locks};
 ghost use Rattle.kernel_model.specs.Charges.{charge, funds};
 ghost use Rattle.kernel_model.specs.Levels.{limit_in};
@@ -49,6 +49,27 @@ pub(crate) fn charge_record(undo: &UndoStack, accounts: &mut Accounts, q: u8, pt
         ≡ cond result (charge Records q pt (accounts_of accounts.old)) (accounts_of accounts.old) }
 {
     undo.list().len() < RECORDS && accounts.charge(q, pt, Kind::Records)
+}
+
+/// Whether no record can be made: nobody pays for it, or the call has as many records as there may
+/// be.
+pub(crate) fn is_record_spent(undo: &UndoStack, accounts: &Accounts, q: u8, pt: u8) -> bool
+    requires owner { q < 16 }
+    requires point { pt < 16 }
+    ensures { result ≡ (funds (accounts_of accounts.now) q pt Records == 0 || length
+        (records_of undo.now) == 64) }
+{
+    accounts.funds(q, pt, Kind::Records) == 0 || undo.list().len() == RECORDS
+}
+
+/// Charges one of records, which somebody pays for.
+pub(crate) fn pay_record(accounts: &mut Accounts, q: u8, pt: u8)
+    requires owner { q < 16 }
+    requires point { pt < 16 }
+    requires paid { funds (accounts_of accounts.old) q pt Records ≢ 0 }
+    ensures { accounts_of accounts.new ≡ charge Records q pt (accounts_of accounts.old) }
+{
+    let _ = accounts.charge(q, pt, Kind::Records);
 }
 
 /// Charges one of locks where that is due. False, with nothing changed, exactly where it is due and

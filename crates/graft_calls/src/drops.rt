@@ -11,7 +11,7 @@ ghost use Rattle.kernel_state.specs.Accesses.{CanBeUndone};
 ghost use Rattle.kernel_state.specs.Stores.{world_of_store, objects_of, queue_of};
 ghost use Rattle.lock_table.specs.Masks.{held};
 ghost use Rattle.undo_calls.specs.UndoLevels.{innermost};
-ghost use Rattle.graft_calls.specs.Chains.{came, call_of, level_of, outer_of, levels_of, outer, put_back_on};
+ghost use Rattle.graft_calls.specs.Chains.{put_back_on, came, call_of, level_of, outer_of, levels_of, outer};
 ghost use Rattle.graft_calls.specs.Calls.{AreSound, AreInside, AreUndoable, AllUndoable, IsPlaced, IsElsewhereSame};
 
 use crate::answers::give_answer;
@@ -38,8 +38,9 @@ pub(crate) fn undo_records<B: Policy>(undo: &mut UndoStack, store: &mut Store<B>
     ensures kept { (i : Undoing) → CanBeUndone i (objects_of store.old).things →
         CanBeUndone i (objects_of store.new).things }
 {
-    if let Some(inverse) = undo.pop() {
-        store.undo(inverse);
+    if let Some(found) = undo.newest() {
+        store.undo(found.inverse, found.bytes);
+        undo.forget_newest();
         undo_records(undo, store);
     }
 }

@@ -91,7 +91,7 @@ fn after_machine<B: Policy>(
             Micro::Went
         }
         Outcome::Called(id) => call(id, level, chain, p, store, locks, images),
-        Outcome::Returned => offer(level, chain, p, store, locks),
+        Outcome::Returned => offer(level, chain, p, store, locks, images),
         Outcome::DividedByZero => {
             drop_innermost(level, chain, p, store, locks, Cause::DivideByZero)
         }

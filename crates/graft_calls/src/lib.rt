@@ -12,12 +12,13 @@ mod begin;
 mod charges;
 mod code;
 mod drops;
+mod filling;
 mod instruction;
+mod keeping;
 mod levels;
 mod needs;
 mod points;
 mod returns;
-mod segments;
 mod stretch;
 mod watched;
 

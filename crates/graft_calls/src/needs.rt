@@ -1,7 +1,6 @@
 //! What the next instruction needs.
 
 ghost use Rattle.std.specs.Prelude.{◌≡◌, ℕ, ◌<◌, ◌≤◌, ◌==◌, ◌||◌, ◌∷◌, ◌++◌, [], List, length, slice_index, All};
-ghost use Rattle.kernel_model.specs.declared.Inverse.{Inverse as Undoing};
 ghost use Rattle.kernel_model.specs.declared.Kind.TheVariants.{Steps};
 ghost use Rattle.kernel_model.specs.declared.Need.{Need as Needed};
 ghost use Rattle.kernel_model.specs.Access.{early_refusal, asked_objects, asked_graft};
@@ -14,6 +13,7 @@ ghost use Rattle.kernel_model.specs.Locks.{LockTable as Table};
 ghost use Rattle.kernel_model.specs.Machine as machines;
 ghost use Rattle.kernel_model.specs.Objects.{Things};
 ghost use Rattle.kernel_model.specs.World.{World};
+ghost use Rattle.undo_calls.specs.UndoLevels.{Logged};
 ghost use Rattle.graft_accounts.specs.Table.{accounts_of};
 ghost use Rattle.kernel_state.specs.Stores.{world_of_store, objects_of, queue_of};
 ghost use Rattle.graft_machine.specs.Cpu.{machine_of};
@@ -104,7 +104,7 @@ impl Needs {
 /// What a call of an id needs: nothing where it is refused by its arguments.
 fn call_needs(id: u32, level: &GraftLevel) -> Needs
     requires { level.now.owner < 16 }
-    ensures value { (v : World) (p d : ℕ) (ram : List ℕ) (t : Table) (is : List Undoing)
+    ensures value { (v : World) (p d : ℕ) (ram : List ℕ) (t : Table) (is : List Logged)
         (w : Things) → v.callable ≡ LAST_CALLABLE →
         let l = level_in p d ram t level.now is w in
         result ≡ needs_of_call v l id (early_refusal v.callable id (l.machine.regs 0) (l.machine.regs 1) l.owner) }
@@ -172,7 +172,7 @@ fn next_call(level: &GraftLevel, accounts: &Accounts, images: &Images) -> Option
 fn level_needs(level: &GraftLevel, accounts: &Accounts, images: &Images) -> Needs
     requires owner { level.now.owner < 16 }
     requires point { level.now.point < 16 }
-    ensures value { (v : World) (p d : ℕ) (ram : List ℕ) (t : Table) (is : List Undoing)
+    ensures value { (v : World) (p d : ℕ) (ram : List ℕ) (t : Table) (is : List Logged)
         (w : Things) (ls : List Level) → v.callable ≡ LAST_CALLABLE →
         result ≡ next_needs v (table_of images.now) (accounts_of accounts.now)
         (level_in p d ram t level.now is w ∷ ls) }
@@ -192,7 +192,7 @@ impl Chain {
     /// its arguments.
     pub fn needs<B: Policy>(&self, store: &Store<B>, images: &Images) -> Needs
         requires { AreSound (queue_of store.now) self.now.levels }
-        ensures value { (p : ℕ) (ram : List ℕ) (t : Table) (log : List (List Undoing))
+        ensures value { (p : ℕ) (ram : List ℕ) (t : Table) (log : List (List Logged))
             (w : Things) →
             result ≡ next_needs (world_of_store store.now) (table_of images.now)
             (objects_of store.now).accounts (levels_in p ram t self.now.levels log w) }
@@ -207,7 +207,7 @@ impl Chain {
     /// Whose user locks don't hinder the next instruction: those of the innermost level's
     /// installer, or else of process p.
     pub fn lock_user(&self, p: u8) -> u8
-        ensures { (q : ℕ) (ram : List ℕ) (t : Table) (log : List (List Undoing)) (w : Things) →
+        ensures { (q : ℕ) (ram : List ℕ) (t : Table) (log : List (List Logged)) (w : Things) →
             result ≡ user_of_locks p (levels_in q ram t self.now.levels log w) }
     {
         match self.levels.innermost() {

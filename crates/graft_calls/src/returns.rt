@@ -2,11 +2,10 @@
 
 ghost use Rattle.std.specs.Prelude.{◌≡◌, ◌≢◌, ℕ, suc, ◌<◌, ◌≤◌, ◌∷◌, [], List, length, slice_index};
 ghost use Rattle.kernel_model.specs.declared.Held.TheVariants.{Free};
-ghost use Rattle.kernel_model.specs.declared.Inverse.{Inverse as Undoing};
 ghost use Rattle.kernel_model.specs.declared.Object.{Object as Objects};
 ghost use Rattle.kernel_model.specs.declared.QueueRow.{QueueRow as Waiting};
-ghost use Rattle.kernel_model.specs.GraftStep.{completed, after_return, first_registers};
-ghost use Rattle.kernel_model.specs.Levels.{answered};
+ghost use Rattle.kernel_model.specs.GraftStep.{completed, after_answer, after_return, first_registers};
+ghost use Rattle.kernel_model.specs.Levels.{answered, image_of, keeps_in};
 ghost use Rattle.kernel_model.specs.Locks.{LockTable as Table, merge_level, release_from};
 ghost use Rattle.kernel_model.specs.Objects.{Objects as State, Accounts as Funds, Things};
 ghost use Rattle.kernel_model.specs.Policies.{kind_of, valid};
@@ -14,15 +13,20 @@ ghost use Rattle.kernel_model.specs.Sound.{ImagesAreLoaded};
 ghost use Rattle.kernel_model.specs.World.{ImageTable};
 ghost use Rattle.kernel_state.specs.Stores.{world_of_store, objects_of};
 ghost use Rattle.lock_table.specs.Masks.{held};
-ghost use Rattle.undo_calls.specs.UndoLevels.{innermost, merged};
+ghost use Rattle.undo_calls.specs.UndoLevels.{Logged, innermost, merged};
 ghost use Rattle.graft_machine.specs.Cpu.{machine_of};
-ghost use Rattle.graft_calls.specs.Chains.{came, call_of, HasAnswer, level_of, outer_of, level_in, levels_in, outer, put_back};
+ghost use Rattle.graft_loader.specs.Slots.{table_of};
+ghost use Rattle.graft_calls.specs.Chains.{put_back, came, call_of, HasAnswer, level_of, outer_of, level_in, levels_in, outer};
 ghost use Rattle.graft_calls.specs.Calls.{AreSound, AreInside, IsPlaced, IsElsewhereSame};
 
 use crate::answers::answer;
+use crate::charges::is_record_spent;
 use crate::drops::drop_innermost;
+use crate::filling::base_of;
+use crate::keeping::{keep, keeps};
 use crate::points::is_valid;
 use crate::{Chain, GraftLevel, Levels};
+use graft_loader::Images;
 use graft_machine::Machine;
 use graft_points::Policy;
 use kernel_model::{Cause, Micro};
@@ -45,7 +49,7 @@ fn registers(machine: &Machine) -> [u32; 4]
 fn join(level: GraftLevel, asker: GraftLevel, levels: &mut Levels, p: u8, locks: &mut LockTable)
     requires few { length levels.old < 3 }
     requires process { p < 16 }
-    ensures levels { (q : ℕ) (ram : List ℕ) (t : Table) (log : List (List Undoing)) (w : Things) →
+    ensures levels { (q : ℕ) (ram : List ℕ) (t : Table) (log : List (List Logged)) (w : Things) →
         let k = level_in q (length levels.old) ram t asker (innermost log) (put_back (innermost log) w) in
         levels_in q ram t levels.new log w
         ≡ record k {
@@ -117,6 +121,47 @@ fn complete(level: GraftLevel, chain: &mut Chain, p: u8, locks: &mut LockTable) 
     }
 }
 
+/// A level that was taken out of a chain ends with an answer that its point accepts. Where its
+/// image keeps segments its segment is kept, or it is dropped where no record of that can be made.
+/// The memory stays as it was.
+fn accept<B: Policy>(
+    level: GraftLevel,
+    chain: &mut Chain,
+    p: u8,
+    store: &mut Store<B>,
+    locks: &mut LockTable,
+    images: &Images,
+) -> Micro
+    requires placed { IsPlaced store.old locks.old p (level ∷ chain.old.levels) chain.old.undo }
+    ensures step { let w = objects_of store.old in
+        let l = level_of store.old locks.old chain.old p level in
+        came (after_answer (world_of_store store.old) w l
+        (outer_of store.old locks.old chain.old p)
+        (keeps_in (image_of (table_of images.now) (w.accounts.graft l.owner l.point))))
+        ≡ (result, call_of store.new locks.new chain.new p) }
+    ensures answer { HasAnswer result store.new.ram p
+        (level_of store.old locks.old chain.old p level
+        ∷ outer_of store.old locks.old chain.old p) }
+    ensures placed { IsPlaced store.new locks.new p chain.new.levels chain.new.undo }
+    ensures inside { (table : ImageTable) →
+        AreInside table (objects_of store.old).accounts p (level ∷ chain.old.levels) →
+        AreInside table (objects_of store.new).accounts p chain.new.levels }
+    ensures loaded { (table : ImageTable) →
+        ImagesAreLoaded table (objects_of store.old).accounts →
+        ImagesAreLoaded table (objects_of store.new).accounts }
+    ensures elsewhere { IsElsewhereSame store.old store.new locks.old locks.new p }
+{
+    if !keeps(images, &store.accounts, level.owner, level.point) {
+        return complete(level, chain, p, locks);
+    }
+    if is_record_spent(&chain.undo, &store.accounts, level.owner, level.point) {
+        return drop_innermost(level, chain, p, store, locks, Cause::SpentRecords);
+    }
+    let base = base_of(p, chain.levels.count());
+    keep(&level, base, &mut chain.undo, store);
+    complete(level, chain, p, locks)
+}
+
 /// A level that was taken out of a chain offers the answer in r0 to r3. It is dropped where its
 /// point doesn't accept that. Where level 0 answers, the memory stays as it was.
 pub(crate) fn offer<B: Policy>(
@@ -125,11 +170,13 @@ pub(crate) fn offer<B: Policy>(
     p: u8,
     store: &mut Store<B>,
     locks: &mut LockTable,
+    images: &Images,
 ) -> Micro
     requires placed { IsPlaced store.old locks.old p (level ∷ chain.old.levels) chain.old.undo }
     ensures step { let l = level_of store.old locks.old chain.old p level in
         let ls = outer_of store.old locks.old chain.old p in
-        came (after_return (world_of_store store.old) (objects_of store.old) l ls
+        came (after_return (world_of_store store.old) (table_of images.now)
+        (objects_of store.old) l ls
         (valid (objects_of store.old).things l.owner l.point l.args (l.machine.regs 0)
         (l.machine.regs 1)))
         ≡ (result, call_of store.new locks.new chain.new p) }
@@ -137,17 +184,17 @@ pub(crate) fn offer<B: Policy>(
         (level_of store.old locks.old chain.old p level
         ∷ outer_of store.old locks.old chain.old p) }
     ensures placed { IsPlaced store.new locks.new p chain.new.levels chain.new.undo }
-    ensures inside { (images : ImageTable) →
-        AreInside images (objects_of store.old).accounts p (level ∷ chain.old.levels) →
-        AreInside images (objects_of store.new).accounts p chain.new.levels }
-    ensures loaded { (images : ImageTable) →
-        ImagesAreLoaded images (objects_of store.old).accounts →
-        ImagesAreLoaded images (objects_of store.new).accounts }
+    ensures inside { (table : ImageTable) →
+        AreInside table (objects_of store.old).accounts p (level ∷ chain.old.levels) →
+        AreInside table (objects_of store.new).accounts p chain.new.levels }
+    ensures loaded { (table : ImageTable) →
+        ImagesAreLoaded table (objects_of store.old).accounts →
+        ImagesAreLoaded table (objects_of store.new).accounts }
     ensures elsewhere { IsElsewhereSame store.old store.new locks.old locks.new p }
 {
     if !is_valid(store, &level) {
         let cause = Cause::RefusedAnswer(level.machine.reg(0), level.machine.reg(1));
         return drop_innermost(level, chain, p, store, locks, cause);
     }
-    complete(level, chain, p, locks)
+    accept(level, chain, p, store, locks, images)
 }

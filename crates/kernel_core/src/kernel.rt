@@ -6,6 +6,7 @@ ghost use Rattle.disk_log.specs.Seen.{disk_seen};
 ghost use Rattle.kernel_model.specs.Bare.{event_with};
 ghost use Rattle.kernel_model.specs.Kernel.{Kernel as Abstract};
 ghost use Rattle.kernel_model.specs.Opening.{opening_policy};
+ghost use Rattle.kernel_model.specs.RawRows.{raw_rows};
 ghost use Rattle.kernel_model.specs.Session as session;
 ghost use Rattle.kernel_model.specs.Sound.{IsAtRest};
 ghost use Rattle.graft_points.specs.Shelf.{IsShelf, pol_of, first_choice};
@@ -29,9 +30,14 @@ use kernel_model::{BLOCK_BYTES, BareEvent, NoMemory, RawRow};
 use kernel_state::{Setup, Store};
 use kernel_steps::{Running, Trace};
 use mem_disk::{Directory, read_directory};
+use placed_laws::agreeing::same_shown;
 use ram_space::Ram;
+use segments::Segments;
 use std::alloc::Global;
 use vino_base::Disk;
+
+/// How many segments can be kept: one for each point of each process.
+const KEPT_SEGMENTS: usize = 256;
 
 /// The kernel over a table of calls.
 #[derive(Drop)]
@@ -67,7 +73,8 @@ impl<C: Calls, B: Policy> Kernel<C, B> {
         requires stock { pol_of (map B.seen shelf.items) first_choice ≡ opening_policy }
         ensures blank { IfOk result (λ k. IsBlank k.running) }
     {
-        let store = Store::new(setup, 1, Directory::empty(), ram, Shelf::of(shelf));
+        let kept = Segments::new(alloc, KEPT_SEGMENTS)?;
+        let store = Store::new(setup, 1, Directory::empty(), ram, kept, Shelf::of(shelf));
         match Running::new(alloc, store, images) {
             Ok(running) => Ok(Kernel {
                 running,
@@ -173,12 +180,17 @@ impl<C: Calls, B: Policy> Kernel<C, B> {
         event(&mut self.running, number, what, bytes, disk, trace);
     }
 
-    /// The i-th of the rows that show the whole state. None past the last.
+    /// The i-th of the rows that show the whole state, which are those of each abstract kernel that the
+    /// kernel stands for. None past the last.
     pub fn raw(&self, i: u32) -> Option<RawRow>
         requires running { IsRunning self.now.running }
         ensures value { result ≡ slice_get (placed_rows (placed_of self.now.running)) i }
+        ensures stands { (k : Abstract) →
+            StandsFor C.Meaning.meaning (placed_of self.now.running) k →
+            result ≡ slice_get (raw_rows C.Meaning.meaning k) i }
         ensures few { 1478 ≤ i → result ≡ None }
     {
+        same_shown::<C::Meaning>();
         placed_rows::raw(&self.running, i)
     }
 

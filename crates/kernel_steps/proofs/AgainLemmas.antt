@@ -1,10 +1,9 @@
 -- A running kernel is one again after a step, where what the other calls hold exclusively stays.
-use Rattle.std.proofs.Common.{◌≡◌, ◌≢◌, ℕ, suc, zero, ◌≤◌, ◌<◌, ◌==◌, Bool, true, false, nat_lt, List, [], ◌∷◌, length, refl, ap, sym, subst, ◌∙◌, arith, inl, inr, ◌⊎◌}
+use Rattle.std.proofs.Common.{◌≡◌, ◌≢◌, ℕ, suc, zero, ◌≤◌, ◌<◌, ◌==◌, ◌||◌, Bool, true, false, nat_lt, List, [], ◌∷◌, map, length, refl, ap, sym, subst, ◌∙◌, arith, inl, inr, ◌⊎◌}
 use Rattle.std.specs.Prelude.{Contains, Option, Some, None, is_some, cond}
 use Rattle.std.proofs.lemmas.Bool.{eqb-true}
 use Rattle.std.proofs.lemmas.Bool.Decides.{nat_tests}
 use Rattle.kernel_model.specs.declared.Held.{Held}
-use Rattle.kernel_model.specs.declared.Inverse.{Inverse}
 use Rattle.kernel_model.specs.declared.Object.{Object}
 use Rattle.kernel_model.specs.declared.Object.TheVariants.{Graft}
 use Rattle.kernel_model.specs.declared.QueueRow.{QueueRow}
@@ -12,18 +11,19 @@ use Rattle.kernel_model.specs.World.{World, ImageTable}
 use Rattle.kernel_model.specs.Objects.{Objects, Accounts, Things, GraftValue}
 use Rattle.kernel_model.specs.Policies.{lives}
 use Rattle.kernel_model.specs.Meaning.{Meaning}
-use Rattle.kernel_model.specs.Access.{changed_by}
-use Rattle.kernel_model.specs.Locks.{LockTable}
+use Rattle.kernel_model.specs.Access.{Found, changed_by}
+use Rattle.kernel_model.specs.InPlace.{is_changed_in}
+use Rattle.kernel_model.specs.Locks.{LockTable, is_held_exclusively}
 use Rattle.kernel_model.specs.Levels.{Level, Config, outermost_touched}
 use Rattle.kernel_model.specs.Kernel.{Entry}
-use Rattle.kernel_model.specs.Sound.{IsSoundConfig, ImagesAreLoaded}
-use Rattle.undo_calls.specs.UndoLevels.{innermost}
+use Rattle.kernel_model.specs.Sound.{AreRecorded, IsSoundConfig, ImagesAreLoaded}
+use Rattle.undo_calls.specs.UndoLevels.{Logged, found_of, innermost}
 use Rattle.lock_table.specs.Masks.{held}
 use Rattle.kernel_state.specs.Stores.{world_of_store, objects_of, queue_of}
 use Rattle.graft_loader.specs.Slots.{table_of}
 use Rattle.graft_calls.specs.declared.GraftLevel.{GraftLevel}
 use Rattle.graft_calls.specs.declared.Chain.{Chain}
-use Rattle.graft_calls.specs.Chains.{level_in, levels_in, outer, call_of, put_back}
+use Rattle.graft_calls.specs.Chains.{put_back, level_in, levels_in, outer, call_of}
 use Rattle.graft_calls.specs.Calls.{AreSound, IsPlaced, AreInside, AllUndoable}
 use Rattle.placed_laws.specs.Placed.{Placed}
 use Rattle.placed_laws.specs.Soundness.{SoundInPlace}
@@ -46,23 +46,42 @@ found_in : {A : Type 0} (x y : A) (xs : List A) → Contains (x ∷ xs) y → (x
 found_in x y xs (zero, less, is) = inl is
 found_in x y xs (suc k, less, is) = inr (k, omega (arith, less), is)
 
--- the innermost level, or one outside it
-touch_of : (q : ℕ) (ram : List ℕ) (t : LockTable) (g : GraftLevel) (gs : List GraftLevel) (log : List (List Inverse)) (w : Things) (l : Level) (o : Object) → l.touched o ≡ Held.Exclusive →
-    (Contains (levels_in q ram t gs (outer log) (put_back (innermost log) w)) l → (d : ℕ) × (t q d o ≡ Held.Exclusive)) →
-    (level_in q (length gs) ram t g (innermost log) (put_back (innermost log) w) ≡ l) ⊎ Contains (levels_in q ram t gs (outer log) (put_back (innermost log) w)) l → (d : ℕ) × (t q d o ≡ Held.Exclusive)
-touch_of q ram t g gs log w l o h further (inl is) = (length gs, ap (λ (k : Level). k.touched o) is ∙ h)
-touch_of q ram t g gs log w l o h further (inr rest) = further rest
+-- what some level holds exclusively the table has
+held_by : (h : Held) → is_held_exclusively h ≡ true → h ≡ Held.Exclusive
+held_by Held.Free is = absurd cc
+held_by Held.Shared is = absurd cc
+held_by Held.Exclusive is = refl
 
--- what a level holds exclusively the table has
-touch_at : (q : ℕ) (ram : List ℕ) (t : LockTable) (gs : List GraftLevel) (log : List (List Inverse)) (w : Things) (l : Level) (o : Object) →
-    Contains (levels_in q ram t gs log w) l → l.touched o ≡ Held.Exclusive → (d : ℕ) × (t q d o ≡ Held.Exclusive)
-touch_at q ram t [] log w l o has h = absurd (omega (arith, has.1))
-touch_at q ram t (g ∷ gs) log w l o has h =
-    touch_of q ram t g gs log w l o h (λ rest. touch_at q ram t gs (outer log) (put_back (innermost log) w) l o rest h)
+touch_of : (t : LockTable) (q n : ℕ) (o : Object) (further b : Bool) → is_held_exclusively (t q n o) ≡ b → (further ≡ true → (d : ℕ) × (t q d o ≡ Held.Exclusive)) → (b || further) ≡ true →
+    (d : ℕ) × (t q d o ≡ Held.Exclusive)
+touch_of t q n o further true is rest some = (n, held_by (t q n o) is)
+touch_of t q n o further false is rest some = rest some
+
+touch_at : (q : ℕ) (ram : List ℕ) (t : LockTable) (gs : List GraftLevel) (log : List (List Logged)) (w : Things) (o : Object) → is_changed_in (levels_in q ram t gs log w) o ≡ true → (d : ℕ) × (t q d o ≡ Held.Exclusive)
+touch_at q ram t [] log w o some = absurd cc
+touch_at q ram t (g ∷ gs) log w o some =
+    let ls = levels_in q ram t gs (outer log) (put_back (innermost log) w) in
+    touch_of t q (length gs) o (is_changed_in ls o) (is_held_exclusively (t q (length gs) o)) refl (touch_at q ram t gs (outer log) (put_back (innermost log) w) o) some
+
+-- so the table has the object of each record held exclusively
+recorded_of : (q : ℕ) (ram : List ℕ) (t : LockTable) (g : GraftLevel) (gs : List GraftLevel) (log : List (List Logged)) (w : Things) (l : Level) (i : Found) →
+    ((j : Found) → Contains (map found_of (innermost log)) j → (d : ℕ) × (t q d (changed_by j) ≡ Held.Exclusive)) →
+    (Contains (levels_in q ram t gs (outer log) (put_back (innermost log) w)) l → (d : ℕ) × (t q d (changed_by i) ≡ Held.Exclusive)) → Contains l.records i →
+    (level_in q (length gs) ram t g (innermost log) (put_back (innermost log) w) ≡ l) ⊎ Contains (levels_in q ram t gs (outer log) (put_back (innermost log) w)) l →
+    (d : ℕ) × (t q d (changed_by i) ≡ Held.Exclusive)
+recorded_of q ram t g gs log w l i here further own (inl is) = here i (subst (λ (k : Level). Contains k.records i) (sym is) own)
+recorded_of q ram t g gs log w l i here further own (inr rest) = further rest
+
+recorded_at : (q : ℕ) (ram : List ℕ) (t : LockTable) (gs : List GraftLevel) (log : List (List Logged)) (w : Things) → AreRecorded (levels_in q ram t gs log w) → (l : Level) (i : Found) →
+    Contains (levels_in q ram t gs log w) l → Contains l.records i → (d : ℕ) × (t q d (changed_by i) ≡ Held.Exclusive)
+recorded_at q ram t [] log w all l i has own = absurd (omega (arith, has.1))
+recorded_at q ram t (g ∷ gs) log w all l i has own =
+    recorded_of q ram t g gs log w l i (λ j in_it. touch_at q ram t (g ∷ gs) log w (changed_by j) (all.0 j in_it))
+    (λ rest. recorded_at q ram t gs (outer log) (put_back (innermost log) w) all.1 l i rest own) own
     (found_in (level_in q (length gs) ram t g (innermost log) (put_back (innermost log) w)) l (levels_in q ram t gs (outer log) (put_back (innermost log) w)) has)
 
 -- level 0 holds what the table says
-outermost_is : (q : ℕ) (ram : List ℕ) (t : LockTable) (gs : List GraftLevel) (log : List (List Inverse)) (w : Things) → 0 < length gs →
+outermost_is : (q : ℕ) (ram : List ℕ) (t : LockTable) (gs : List GraftLevel) (log : List (List Logged)) (w : Things) → 0 < length gs →
     outermost_touched (levels_in q ram t gs log w) ≡ t q 0
 outermost_is q ram t [] log w h = absurd (omega (arith, h))
 outermost_is q ram t (g ∷ []) log w h = refl
@@ -70,7 +89,7 @@ outermost_is q ram t (g ∷ k ∷ gs) log w h = outermost_is q ram t (k ∷ gs) 
 
 -- ---- another call stays in place
 
-none_undoable : (log : List (List Inverse)) (w : Things) → length log ≡ 0 → AllUndoable log w
+none_undoable : (log : List (List Logged)) (w : Things) → length log ≡ 0 → AllUndoable log w
 none_undoable [] w h = tt
 none_undoable (is ∷ log) w h = absurd (omega (arith, h))
 
@@ -99,7 +118,7 @@ installer_lives v c l h has = by_value (c.now.accounts.graft l.owner l.point) re
     by_value (Some g) e some = (h.now.grafts l.owner l.point g e).1
 
 -- the owner of levels lives
-owner_lives : (v : World) (s : Objects) (o q : ℕ) (ram : List ℕ) (t : LockTable) (gs : List GraftLevel) (log : List (List Inverse)) → IsSoundConfig v (record { now = s; levels = levels_in q ram t gs log s.things }) → AreOwned o gs log → 0 < length gs →
+owner_lives : (v : World) (s : Objects) (o q : ℕ) (ram : List ℕ) (t : LockTable) (gs : List GraftLevel) (log : List (List Logged)) → IsSoundConfig v (record { now = s; levels = levels_in q ram t gs log s.things }) → AreOwned o gs log → 0 < length gs →
     lives s.things.queue o ≡ true
 owner_lives v s o q ram t [] log h own some = absurd (omega (arith, some))
 owner_lives v s o q ram t (g ∷ gs) log h own some =
@@ -136,7 +155,7 @@ stays_with m sound x y es q r abstraction after chain images small stays some =
       levels = subst (λ (c : Chain). AreSound (queue_of y.store) c.levels) (sym chain) (sound_still (r.owner q) (queue_of x.store) (queue_of y.store) gs log (r.own q small) live old.levels);
       undoable = subst (λ (c : Chain). AllUndoable c.undo u.things) (sym chain)
           (all_still (r.owner q) q x.store.ram t gs log s.things s u old.as_many (r.own q small) live
-          (λ l i has own. let e = touch_at q x.store.ram t gs log s.things l (changed_by i) has (config.recorded l i has own) in stays e.0 (changed_by i) e.1) old.undoable);
+          (λ l i has own. let e = recorded_at q x.store.ram t gs log s.things config.recorded l i has own in stays e.0 (changed_by i) e.1) old.undoable);
       inside = subst (λ (c : Chain). AreInside (table_of y.images) u.accounts q c.levels) (sym chain)
           (subst (λ i. AreInside (table_of i) u.accounts q gs) (sym images)
           (inside_still (table_of x.images) s.accounts u.accounts q x.store.ram t gs log s.things

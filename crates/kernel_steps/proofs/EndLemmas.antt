@@ -3,14 +3,14 @@ use Rattle.std.proofs.Common.{◌≡◌, ℕ, zero, suc, ◌+◌, ◌==◌, Bool
 use Rattle.kernel_model.specs.declared.Cause.{Cause}
 use Rattle.kernel_model.specs.declared.Cause.TheVariants.{DivideByZero, Trap, SpentSteps, SpentRecords, SpentLocks, RefusedAnswer}
 use Rattle.kernel_model.specs.declared.Inverse.{Inverse}
-use Rattle.kernel_model.specs.declared.Kind.TheVariants.{Steps}
+use Rattle.kernel_model.specs.declared.Kind.TheVariants.{Steps, Records}
 use Rattle.kernel_model.specs.World.{World, ImageTable}
 use Rattle.kernel_model.specs.Objects.{Objects, Things, GraftValue, with_accounts}
-use Rattle.kernel_model.specs.Access.{Access, Gives, Changes, Refuses}
+use Rattle.kernel_model.specs.Access.{Access, Gives, Changes, Refuses, found_segment, set_segment}
 use Rattle.kernel_model.specs.Charges.{charge}
 use Rattle.kernel_model.specs.Machine.{seg_step, Machine, Done, Called, Returned, Trapped, Outside, PastEnd}
 use Rattle.kernel_model.specs.Levels.{code_of, Level, Outcome, answer_innermost, drop_innermost, drop_level}
-use Rattle.kernel_model.specs.GraftStep.{after_accessor, after_ask, after_call, after_change, after_machine, after_result, after_return, ask_answered, charged_step, completed, granted_call, lock_paid, micro_on}
+use Rattle.kernel_model.specs.GraftStep.{after_accessor, after_answer, after_keeping, after_ask, after_call, after_change, after_machine, after_result, after_return, ask_answered, charged_step, completed, granted_call, lock_paid, micro_on}
 use Rattle.graft_calls.specs.Chains.{HasAnswer}
 use Rattle.kernel_model.specs.declared.Micro.{Micro}
 use Rattle.kernel_steps.specs.Steps.{answer_of_drop, answer_said}
@@ -65,14 +65,24 @@ complete : (w : Objects) (l : Level) (ls : List Level) → Ends (completed w l l
 complete w l [] = refl
 complete w l (asker ∷ rest) = tt
 
-returned : (v : World) (w : Objects) (l : Level) (ls : List Level) (b : Bool) → Ends (after_return v w l ls b)
-returned v w l ls true = complete w l ls
-returned v w l ls false = dropped v w l ls (RefusedAnswer (l.machine.regs 0) (l.machine.regs 1))
+kept : (v : World) (w : Objects) (l : Level) (ls : List Level) (b : Bool) → Ends (after_keeping v w l ls b)
+kept v w l ls true = dropped v w l ls SpentRecords
+kept v w l ls false =
+    complete (record { accounts = charge Records l.owner l.point w.accounts; things = set_segment l.owner l.point (Some l.machine.memory) w.things })
+    (record l { records = found_segment l.owner l.point w.things ∷ l.records }) ls
+
+accepted : (v : World) (w : Objects) (l : Level) (ls : List Level) (b : Bool) → Ends (after_answer v w l ls b)
+accepted v w l ls true = kept v w l ls _
+accepted v w l ls false = complete w l ls
+
+returned : (v : World) (images : ImageTable) (w : Objects) (l : Level) (ls : List Level) (b : Bool) → Ends (after_return v images w l ls b)
+returned v images w l ls true = accepted v w l ls _
+returned v images w l ls false = dropped v w l ls (RefusedAnswer (l.machine.regs 0) (l.machine.regs 1))
 
 machine_did : (v : World) (images : ImageTable) (p : ℕ) (w : Objects) (l : Level) (ls : List Level) (d : Done) → Ends (after_machine v images p w l ls d)
 machine_did v images p w l ls (Done.Went m) = tt
 machine_did v images p w l ls (Called id m) = called v images w p l ls m id _
-machine_did v images p w l ls Returned = returned v w l ls _
+machine_did v images p w l ls Returned = returned v images w l ls _
 machine_did v images p w l ls Done.DividedByZero = dropped v w l ls DivideByZero
 machine_did v images p w l ls (Trapped code) = dropped v w l ls (Trap code)
 machine_did v images p w l ls Outside = dropped v w l ls DivideByZero

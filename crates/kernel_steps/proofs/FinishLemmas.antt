@@ -3,7 +3,6 @@ use Rattle.std.proofs.Common.{◌≡◌, ℕ, ◌+◌, ◌<◌, ◌==◌, Bool, 
 use Rattle.std.specs.Prelude.{option_map}
 use Rattle.std.proofs.Math.Path.{fun_ext}
 use Rattle.std.proofs.lemmas.Bool.{eqb-true}
-use Rattle.kernel_model.specs.declared.Inverse.{Inverse}
 use Rattle.kernel_model.specs.declared.Note.{Note}
 use Rattle.kernel_model.specs.World.{World, ImageTable, Blocks}
 use Rattle.kernel_model.specs.Objects.{Objects, Things, at}
@@ -12,14 +11,14 @@ use Rattle.kernel_model.specs.Locks.{LockTable}
 use Rattle.kernel_model.specs.Levels.{base_of}
 use Rattle.kernel_model.specs.Runs.{segment_of}
 use Rattle.kernel_model.specs.Kernel.{Entry}
-use Rattle.undo_calls.specs.UndoLevels.{innermost}
+use Rattle.undo_calls.specs.UndoLevels.{Logged, innermost}
 use Rattle.lock_table.specs.Masks.{held}
 use Rattle.graft_machine.specs.Cpu.{by_place}
 use Rattle.kernel_state.specs.Stores.{world_of_store, objects_of, SegmentsStay}
 use Rattle.graft_loader.specs.Slots.{table_of}
 use Rattle.graft_calls.specs.declared.GraftLevel.{GraftLevel}
 use Rattle.graft_calls.specs.declared.Chain.{Chain}
-use Rattle.graft_calls.specs.Chains.{levels_in, levels_of, outer, put_back}
+use Rattle.graft_calls.specs.Chains.{put_back, levels_in, levels_of, outer}
 use Rattle.disk_log.specs.Seen.{DiskSeen}
 use Rattle.placed_laws.specs.Placed.{Placed, PlacedCall, PlacedLevel, bare}
 use Rattle.placed_laws.specs.PlacedSteps.{placed_after, placed_finish}
@@ -45,7 +44,7 @@ segment_stays : (q d : ℕ) (s u : List ℕ) → SegmentsStay s u → segment_of
 segment_stays q d s u same = fun_ext (λ i. byte_stays q d i s u same (nat_lt i 4096) refl)
 
 -- so do levels, without what they found
-levels_stay : (q : ℕ) (s u : List ℕ) (t : LockTable) (gs : List GraftLevel) (log : List (List Inverse)) (w z : Things) → SegmentsStay s u →
+levels_stay : (q : ℕ) (s u : List ℕ) (t : LockTable) (gs : List GraftLevel) (log : List (List Logged)) (w z : Things) → SegmentsStay s u →
     map bare (levels_in q u t gs log z) ≡ map bare (levels_in q s t gs log w)
 levels_stay q s u t [] log w z same = refl
 levels_stay q s u t (g ∷ gs) log w z same =

@@ -2,7 +2,6 @@
 use Rattle.std.proofs.Common.{◌≡◌, ℕ, ◌<◌, true, cond, List, [], ◌∷◌, map, length, refl, ap, sym, subst, ◌∙◌, arith, Option, Some, None}
 use Rattle.std.specs.Prelude.{option_map, slice_index_or, Contains, All}
 use Rattle.std.proofs.lemmas.List.Elements.{All-contains_itself}
-use Rattle.kernel_model.specs.declared.Inverse.{Inverse}
 use Rattle.kernel_model.specs.declared.Need.{Need}
 use Rattle.kernel_model.specs.World.{World, ImageTable}
 use Rattle.kernel_model.specs.Objects.{Objects, Things}
@@ -11,6 +10,7 @@ use Rattle.kernel_model.specs.Laws.{Laws, IsStanding, IsInRange}
 use Rattle.kernel_model.specs.Locks.{LockTable, first_hindrance}
 use Rattle.kernel_model.specs.Levels.{Level}
 use Rattle.kernel_model.specs.GraftStep.{next_needs, lock_user}
+use Rattle.undo_calls.specs.UndoLevels.{Logged}
 use Rattle.lock_table.specs.Masks.{held}
 use Rattle.kernel_state.specs.Stores.{world_of_store, objects_of}
 use Rattle.call_pieces.specs.Works.{IsDue, stage_of}
@@ -48,11 +48,11 @@ all_of ns ms is h = subst (λ (xs : List Need). All (λ (n : Need). IsInRange n.
 
 -- ---- levels, or none
 
-no_levels : (p : ℕ) (ram : List ℕ) (t : LockTable) (gs : List GraftLevel) (log : List (List Inverse)) (w : Things) → length gs ≡ 0 → map bare (levels_in p ram t gs log w) ≡ []
+no_levels : (p : ℕ) (ram : List ℕ) (t : LockTable) (gs : List GraftLevel) (log : List (List Logged)) (w : Things) → length gs ≡ 0 → map bare (levels_in p ram t gs log w) ≡ []
 no_levels p ram t [] log w h = refl
 no_levels p ram t (g ∷ gs) log w h = absurd (omega (arith, h))
 
-pub some_levels : (p : ℕ) (ram : List ℕ) (t : LockTable) (gs : List GraftLevel) (log : List (List Inverse)) (w : Things) → 0 < length gs → has_some (map bare (levels_in p ram t gs log w)) ≡ true
+pub some_levels : (p : ℕ) (ram : List ℕ) (t : LockTable) (gs : List GraftLevel) (log : List (List Logged)) (w : Things) → 0 < length gs → has_some (map bare (levels_in p ram t gs log w)) ≡ true
 some_levels p ram t [] log w h = absurd (omega (arith, h))
 some_levels p ram t (g ∷ gs) log w h = refl
 

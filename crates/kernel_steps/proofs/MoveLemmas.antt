@@ -5,7 +5,6 @@ use Rattle.std.proofs.Math.Path.{fun_ext}
 use Rattle.std.proofs.lemmas.Bool.{eqb-true}
 use Rattle.std.proofs.lemmas.Bool.Decides.{nat_tests}
 use Rattle.std.proofs.lemmas.Grind.{common_steps}
-use Rattle.kernel_model.specs.declared.Inverse.{Inverse}
 use Rattle.kernel_model.specs.World.{World, ImageTable}
 use Rattle.kernel_model.specs.Objects.{Objects, Things, at}
 use Rattle.kernel_model.specs.Sound.{ImagesAreLoaded}
@@ -13,7 +12,7 @@ use Rattle.kernel_model.specs.Locks.{LockTable, Touched}
 use Rattle.kernel_model.specs.Levels.{Level, Config, Outcome, base_of}
 use Rattle.kernel_model.specs.Kernel.{Entry}
 use Rattle.kernel_model.specs.Runs.{segment_of}
-use Rattle.undo_calls.specs.UndoLevels.{innermost}
+use Rattle.undo_calls.specs.UndoLevels.{Logged, found_of, innermost}
 use Rattle.lock_table.specs.Masks.{held}
 use Rattle.graft_machine.specs.Cpu.{by_place}
 use Rattle.kernel_state.specs.Stores.{objects_of}
@@ -21,8 +20,7 @@ use Rattle.graft_loader.specs.Slots.{table_of}
 use Rattle.graft_calls.specs.declared.GraftLevel.{GraftLevel}
 use Rattle.graft_calls.specs.declared.Chain.{Chain}
 use Rattle.kernel_model.specs.declared.Micro.{Micro}
-use Rattle.kernel_model.specs.Access.{bare_found}
-use Rattle.graft_calls.specs.Chains.{came, levels_in, outer, levels_of, call_of, put_back, HasAnswer}
+use Rattle.graft_calls.specs.Chains.{put_back, came, levels_in, outer, levels_of, call_of, HasAnswer}
 use Rattle.graft_calls.specs.Calls.{IsBeyond, IsPlaced, AreInside, IsInPlace, IsElsewhereSame}
 use Rattle.placed_laws.specs.Placed.{PlacedCall, PlacedLevel, bare, placed_config, placed_levels}
 use Rattle.kernel_steps.specs.declared.running.Flight.{Flight}
@@ -56,7 +54,7 @@ segment_same p q d s u other few same = fun_ext (λ i. byte_same p q d i s u oth
 -- ---- the levels of other processes
 
 -- a level without what it found
-abbrev pub bare_in : (t : Touched) → (memory : ℕ → ℕ) → GraftLevel → List Inverse → PlacedLevel
+abbrev pub bare_in : (t : Touched) → (memory : ℕ → ℕ) → GraftLevel → List Logged → PlacedLevel
 bare_in t memory g is =
     record {
       owner = g.owner;
@@ -65,11 +63,11 @@ bare_in t memory g is =
       count = g.count;
       touched = t;
       args = g.args;
-      records = map bare_found is;
+      records = map found_of is;
     }
 
 -- where they hold the same and memory elsewhere is the same, the levels are the same
-pub others_same : (p q : ℕ) (s u : List ℕ) (t r : LockTable) (gs : List GraftLevel) (log : List (List Inverse)) (w z : Things) → q ≢ p → length gs ≤ 4 →
+pub others_same : (p q : ℕ) (s u : List ℕ) (t r : LockTable) (gs : List GraftLevel) (log : List (List Logged)) (w z : Things) → q ≢ p → length gs ≤ 4 →
     ((d : ℕ) → r q d ≡ t q d) → ((a : ℕ) → IsBeyond p a → slice_index u a ≡ slice_index s a) →
     map bare (levels_in q u r gs log z) ≡ map bare (levels_in q s t gs log w)
 others_same p q s u t r [] log w z other few holds memory = refl

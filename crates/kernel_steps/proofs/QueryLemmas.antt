@@ -3,7 +3,6 @@ use Rattle.std.proofs.Common.{◌≡◌, ℕ, suc, ◌≤◌, ◌<◌, ◌==◌,
 use Rattle.std.specs.Prelude.{◌||◌, find, IfSome}
 use Rattle.std.specs.List.{list_any}
 use Rattle.std.proofs.lemmas.Bool.Decides.{nat_tests}
-use Rattle.kernel_model.specs.declared.Inverse.{Inverse}
 use Rattle.kernel_model.specs.declared.Mode.{Mode}
 use Rattle.kernel_model.specs.declared.Note.TheVariants.{InGraft}
 use Rattle.kernel_model.specs.declared.Object.{Object}
@@ -11,12 +10,12 @@ use Rattle.kernel_model.specs.Events.{in_order}
 use Rattle.kernel_model.specs.declared.Held.{Held}
 use Rattle.kernel_model.specs.Locks.{LockTable, Touched, conflicts, outermost_holding}
 use Rattle.kernel_model.specs.Objects.{Things}
-use Rattle.undo_calls.specs.UndoLevels.{innermost}
+use Rattle.undo_calls.specs.UndoLevels.{Logged, innermost}
 use Rattle.lock_table.specs.declared.Holds.{Holds}
 use Rattle.lock_table.specs.Masks.{held}
 use Rattle.lock_table.specs.Numbers.{is_in_range}
 use Rattle.graft_calls.specs.declared.GraftLevel.{GraftLevel}
-use Rattle.graft_calls.specs.Chains.{first_level, levels_in, outer, put_back}
+use Rattle.graft_calls.specs.Chains.{put_back, first_level, levels_in, outer}
 use Rattle.placed_laws.specs.Placed.{bare, has_some}
 use Rattle.kernel_steps.specs.declared.order.Waiting.{Waiting}
 use Rattle.kernel_steps.specs.Orders.{order_of, numbers_of, has_number}
@@ -33,17 +32,17 @@ order_numbers p [] = refl
 order_numbers p (w ∷ ws) = ap (λ b. (w.process == p) || b) (order_numbers p ws)
 
 -- there are levels in place where there are some in the chain
-pub some_in_place : (p : ℕ) (ram : List ℕ) (t : LockTable) (gs : List GraftLevel) (log : List (List Inverse)) (w : Things) → not (length gs == 0) ≡ has_some (map bare (levels_in p ram t gs log w))
+pub some_in_place : (p : ℕ) (ram : List ℕ) (t : LockTable) (gs : List GraftLevel) (log : List (List Logged)) (w : Things) → not (length gs == 0) ≡ has_some (map bare (levels_in p ram t gs log w))
 some_in_place p ram t [] log w = refl
 some_in_place p ram t (g ∷ gs) log w = grind (arith, nat_tests)
 
 -- how many there are
-pub many_bare : (p : ℕ) (ram : List ℕ) (t : LockTable) (gs : List GraftLevel) (log : List (List Inverse)) (w : Things) → length (map bare (levels_in p ram t gs log w)) ≡ length gs
+pub many_bare : (p : ℕ) (ram : List ℕ) (t : LockTable) (gs : List GraftLevel) (log : List (List Logged)) (w : Things) → length (map bare (levels_in p ram t gs log w)) ≡ length gs
 many_bare p ram t [] log w = refl
 many_bare p ram t (g ∷ gs) log w = ap suc (many_bare p ram t gs (outer log) (put_back (innermost log) w))
 
 -- the note of a call whose innermost level is this
-pub note_of_first : (n p : ℕ) (ram : List ℕ) (t : LockTable) (g : GraftLevel) (gs : List GraftLevel) (log : List (List Inverse)) (w : Things) → Some g ≡ first_level gs →
+pub note_of_first : (n p : ℕ) (ram : List ℕ) (t : LockTable) (g : GraftLevel) (gs : List GraftLevel) (log : List (List Logged)) (w : Things) → Some g ≡ first_level gs →
     Some (InGraft n g.owner g.point (length gs)) ≡ note_in_graft n (map bare (levels_in p ram t gs log w))
 note_of_first n p ram t g [] log w is = grind (arith, is)
 note_of_first n p ram t g (h ∷ gs) log w is =

@@ -14,7 +14,7 @@ use Rattle.graft_calls.specs.Chains.{levels_of, levels_in}
 use Rattle.placed_laws.specs.Placed.{Placed, bare}
 use Rattle.placed_laws.specs.PlacedSteps.{is_placed_at_piece, placed_joins, placed_noted, placed_requeue, placed_ticked, with_placed_call}
 use Rattle.kernel_model.specs.Locks.{LockTable}
-use Rattle.kernel_model.specs.declared.Inverse.{Inverse}
+use Rattle.undo_calls.specs.UndoLevels.{Logged}
 use Rattle.graft_calls.specs.declared.GraftLevel.{GraftLevel}
 use Rattle.kernel_steps.specs.declared.order.Waiting.{Waiting}
 use Rattle.kernel_steps.specs.declared.running.InFlight.{InFlight}
@@ -102,7 +102,7 @@ within_flights fs p n h = omega (arith, n, h)
 -- ---- after a step
 
 -- whether the next step is a piece
-pub at_piece_is : (o : Option InFlight) (p : ℕ) (ram : List ℕ) (t : LockTable) (gs : List GraftLevel) (log : List (List Inverse)) (w : Things) → (b : Bool) → (length gs == 0) ≡ b →
+pub at_piece_is : (o : Option InFlight) (p : ℕ) (ram : List ℕ) (t : LockTable) (gs : List GraftLevel) (log : List (List Logged)) (w : Things) → (b : Bool) → (length gs == 0) ≡ b →
     is_placed_at_piece (option_map call_in_place o) (map bare (levels_in p ram t gs log w)) ≡ (is_some o && b)
 at_piece_is None p ram t gs log w b h = refl
 at_piece_is (Some f) p ram t [] log w b h = h

@@ -4,7 +4,6 @@ use Rattle.std.specs.Prelude.{option_map, ⊤}
 use Rattle.std.proofs.lemmas.Bool.{eqb-true}
 use Rattle.std.proofs.lemmas.Bool.Decides.{nat_tests}
 use Rattle.std.proofs.Math.Path.{fun_ext}
-use Rattle.kernel_model.specs.declared.Inverse.{Inverse}
 use Rattle.kernel_model.specs.declared.Micro.{Micro}
 use Rattle.kernel_model.specs.declared.Note.{Note}
 use Rattle.kernel_model.specs.declared.Note.TheVariants.{Dropped}
@@ -14,7 +13,7 @@ use Rattle.kernel_model.specs.Meaning.{Meaning, Answer, Piece}
 use Rattle.kernel_model.specs.Levels.{Level, Config, Outcome}
 use Rattle.kernel_model.specs.Locks.{LockTable}
 use Rattle.call_pieces.specs.Works.{answer_seen}
-use Rattle.undo_calls.specs.UndoLevels.{innermost}
+use Rattle.undo_calls.specs.UndoLevels.{Logged, innermost}
 use Rattle.lock_table.specs.Masks.{held}
 use Rattle.disk_log.specs.Seen.{DiskSeen}
 use Rattle.kernel_state.specs.Stores.{world_of_store, objects_of, SegmentsStay}
@@ -22,7 +21,7 @@ use Rattle.graft_loader.specs.Slots.{table_of}
 use Rattle.graft_calls.specs.declared.GraftLevel.{GraftLevel}
 use Rattle.graft_calls.specs.declared.Chain.{Chain}
 use Rattle.graft_calls.specs.Calls.{IsPlaced, AreInside}
-use Rattle.graft_calls.specs.Chains.{levels_in, outer, put_back, HasAnswer}
+use Rattle.graft_calls.specs.Chains.{put_back, levels_in, outer, HasAnswer}
 use Rattle.placed_laws.specs.Owners.{AreOwn, AreOfOwner}
 use Rattle.placed_laws.specs.Placed.{PlacedCall, PlacedLevel, PlacedRun, bare, placed_levels}
 use Rattle.placed_laws.specs.PlacedSteps.{placed_finish, placed_finish_on, placed_noted, placed_after_outcome, placed_outcome, with_config}
@@ -41,7 +40,7 @@ use Rattle.kernel_steps.proofs.MoveLemmas.{few_levels}
 
 -- ---- a piece
 
-no_records : (log : List (List Inverse)) → length log ≡ 0 → log ≡ []
+no_records : (log : List (List Logged)) → length log ≡ 0 → log ≡ []
 no_records [] h = refl
 no_records (is ∷ log) h = absurd (omega (arith, h))
 
@@ -195,7 +194,7 @@ ends_bare (Micro.Dropped (suc d) q pt cause) ls answer ends h = grind (arith, h)
 
 -- ---- the levels of a chain
 
-no_levels : (p : ℕ) (ram : List ℕ) (t : LockTable) (gs : List GraftLevel) (log : List (List Inverse)) (w : Things) → map bare (levels_in p ram t gs log w) ≡ [] → gs ≡ []
+no_levels : (p : ℕ) (ram : List ℕ) (t : LockTable) (gs : List GraftLevel) (log : List (List Logged)) (w : Things) → map bare (levels_in p ram t gs log w) ≡ [] → gs ≡ []
 no_levels p ram t [] log w h = refl
 no_levels p ram t (g ∷ gs) log w h = grind (arith, h)
 
@@ -208,7 +207,7 @@ same_first : {A : Type 0} (a b : A) (xs ys : List A) → a ∷ xs ≡ b ∷ ys �
 same_first a b xs ys h = (grind (arith, h), grind (arith, h))
 
 -- whose levels they are by those without what they found
-owned_by : (q p : ℕ) (ram : List ℕ) (t : LockTable) (gs : List GraftLevel) (log : List (List Inverse)) (w : Things) (ls : List Level) → map bare (levels_in p ram t gs log w) ≡ map bare ls → AreOfOwner q ls → AreOwned q gs log
+owned_by : (q p : ℕ) (ram : List ℕ) (t : LockTable) (gs : List GraftLevel) (log : List (List Logged)) (w : Things) (ls : List Level) → map bare (levels_in p ram t gs log w) ≡ map bare ls → AreOfOwner q ls → AreOwned q gs log
 owned_by q p ram t [] log w ls h own = tt
 owned_by q p ram t (g ∷ gs) log w [] h own = grind (arith, h)
 owned_by q p ram t (g ∷ gs) log w (l ∷ ls) h own =
@@ -223,7 +222,7 @@ of_one x p q ls h own =
     record { owner = q; own = owned_by q p x.store.ram (held x.locks) (chain_of x p).levels (chain_of x p).undo (objects_of x.store).things ls h own }
 
 -- and the other way round
-pub owner_of : (q p : ℕ) (ram : List ℕ) (t : LockTable) (gs : List GraftLevel) (log : List (List Inverse)) (w : Things) → AreOwned q gs log → AreOfOwner q (levels_in p ram t gs log w)
+pub owner_of : (q p : ℕ) (ram : List ℕ) (t : LockTable) (gs : List GraftLevel) (log : List (List Logged)) (w : Things) → AreOwned q gs log → AreOfOwner q (levels_in p ram t gs log w)
 owner_of q p ram t [] log w own = tt
 owner_of q p ram t (g ∷ gs) log w own = (own.0, own.1, owner_of q p ram t gs (outer log) (put_back (innermost log) w) own.2)
 

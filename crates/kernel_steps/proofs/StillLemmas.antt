@@ -2,7 +2,6 @@
 use Rattle.std.proofs.Common.{◌≡◌, ℕ, suc, ◌≤◌, ◌<◌, ◌||◌, Bool, true, false, List, [], ◌∷◌, map, length, Option, Some, None, refl, ap, sym, subst, ◌∙◌, arith, inl, inr}
 use Rattle.std.specs.Prelude.{is_some, option_map}
 use Rattle.std.proofs.lemmas.Bool.{cases_Bool}
-use Rattle.kernel_model.specs.declared.Inverse.{Inverse}
 use Rattle.kernel_model.specs.declared.Need.{Need}
 use Rattle.kernel_model.specs.declared.Object.{Object}
 use Rattle.kernel_model.specs.Objects.{Things, same_object}
@@ -11,6 +10,7 @@ use Rattle.kernel_model.specs.Alike.{is_needed}
 use Rattle.kernel_model.specs.GraftStep.{next_needs}
 use Rattle.kernel_model.specs.Locks.{LockTable, Touched}
 use Rattle.kernel_model.specs.Meaning.{Meaning}
+use Rattle.undo_calls.specs.UndoLevels.{Logged}
 use Rattle.lock_table.specs.declared.Holds.{Holds}
 use Rattle.lock_table.specs.Masks.{held}
 use Rattle.kernel_state.specs.Stores.{world_of_store, objects_of}
@@ -79,7 +79,7 @@ flying None h = absurd cc
 flying (Some f) h = (f, refl)
 
 -- levels in place are levels of the chain
-some_levels_there : (p : ℕ) (ram : List ℕ) (t : LockTable) (gs : List GraftLevel) (log : List (List Inverse)) (w : Things) → has_some (map bare (levels_in p ram t gs log w)) ≡ true → 0 < length gs
+some_levels_there : (p : ℕ) (ram : List ℕ) (t : LockTable) (gs : List GraftLevel) (log : List (List Logged)) (w : Things) → has_some (map bare (levels_in p ram t gs log w)) ≡ true → 0 < length gs
 some_levels_there p ram t [] log w h = absurd cc
 some_levels_there p ram t (g ∷ gs) log w h = omega arith
 

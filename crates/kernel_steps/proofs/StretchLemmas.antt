@@ -1,6 +1,5 @@
 -- A running kernel after a stretch of one of its calls.
 use Rattle.std.proofs.Common.{◌≡◌, ◌≢◌, ℕ, ◌<◌, ◌==◌, true, false, cond, List, [], ◌∷◌, map, length, refl, ap, sym, subst, ◌∙◌, arith}
-use Rattle.kernel_model.specs.declared.Inverse.{Inverse}
 use Rattle.kernel_model.specs.declared.QueueRow.{QueueRow}
 use Rattle.kernel_model.specs.Events.{in_order}
 use Rattle.kernel_model.specs.Objects.{Things}
@@ -8,6 +7,7 @@ use Rattle.kernel_model.specs.Policies.{lives}
 use Rattle.kernel_model.specs.Meaning.{Meaning}
 use Rattle.kernel_model.specs.Levels.{Config}
 use Rattle.kernel_model.specs.Locks.{LockTable}
+use Rattle.undo_calls.specs.UndoLevels.{Logged}
 use Rattle.lock_table.specs.Masks.{held}
 use Rattle.kernel_state.specs.Stores.{world_of_store, objects_of, queue_of}
 use Rattle.graft_loader.specs.Slots.{table_of}
@@ -41,7 +41,7 @@ still_sound queue rows (g ∷ gs) living h =
     (record { owner = h.0.owner; point = h.0.point; lives = living g.owner ∙ h.0.lives }, h.1, still_sound queue rows gs living h.2)
 
 -- where there are levels in place there are some in the chain
-some_in : (p : ℕ) (ram : List ℕ) (t : LockTable) (gs : List GraftLevel) (log : List (List Inverse)) (w : Things) → has_some (map bare (levels_in p ram t gs log w)) ≡ true → 0 < length gs
+some_in : (p : ℕ) (ram : List ℕ) (t : LockTable) (gs : List GraftLevel) (log : List (List Logged)) (w : Things) → has_some (map bare (levels_in p ram t gs log w)) ≡ true → 0 < length gs
 some_in p ram t [] log w h = absurd cc
 some_in p ram t (g ∷ gs) log w h = omega arith
 

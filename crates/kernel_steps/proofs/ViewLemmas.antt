@@ -4,7 +4,6 @@ use Rattle.std.specs.Prelude.{nat_lt, slice_index_or, ◌&&◌}
 use Rattle.std.proofs.Math.Path.{fun_ext}
 use Rattle.std.proofs.lemmas.List.FromFn.{get_or-map-range_with_len}
 use Rattle.std.proofs.lemmas.List.{get_or_past}
-use Rattle.kernel_model.specs.declared.Inverse.{Inverse}
 use Rattle.kernel_model.specs.declared.Held.{Held}
 use Rattle.kernel_model.specs.declared.Object.{Object}
 use Rattle.kernel_model.specs.Objects.{Things}
@@ -12,9 +11,9 @@ use Rattle.kernel_model.specs.World.{processes}
 use Rattle.kernel_model.specs.Locks.{LockTable, untouched}
 use Rattle.kernel_model.specs.Levels.{Level, touched_at}
 use Rattle.kernel_model.specs.Blocking.{locks_from}
-use Rattle.undo_calls.specs.UndoLevels.{innermost}
+use Rattle.undo_calls.specs.UndoLevels.{Logged, innermost}
 use Rattle.graft_calls.specs.declared.GraftLevel.{GraftLevel}
-use Rattle.graft_calls.specs.Chains.{levels_in, level_in, outer, levels_of, call_of, put_back}
+use Rattle.graft_calls.specs.Chains.{put_back, levels_in, level_in, outer, levels_of, call_of}
 use Rattle.lock_table.specs.declared.Holds.{Holds}
 use Rattle.lock_table.specs.Masks.{held, levels_at, masks_of}
 use Rattle.lock_table.specs.Numbers.{number_of, is_in_range}
@@ -25,25 +24,25 @@ use Rattle.std.proofs.lemmas.Bool.Decides.{nat_tests}
 use Rattle.placed_laws.specs.Placed.{bare, levels_with, placed_config, placed_levels, placed_holds}
 
 -- levels without what they found have found it again
-pub levels_again : (p : ℕ) (ram : List ℕ) (t : LockTable) (gs : List GraftLevel) (log : List (List Inverse)) (w : Things) →
+pub levels_again : (p : ℕ) (ram : List ℕ) (t : LockTable) (gs : List GraftLevel) (log : List (List Logged)) (w : Things) →
     levels_with w (map bare (levels_in p ram t gs log w)) ≡ levels_in p ram t gs log w
 levels_again p ram t [] log w = refl
 levels_again p ram t (g ∷ gs) log w =
     ap (λ ls. level_in p (length gs) ram t g (innermost log) (put_back (innermost log) w) ∷ ls) (levels_again p ram t gs (outer log) (put_back (innermost log) w))
 
 -- there are as many
-pub as_many : (p : ℕ) (ram : List ℕ) (t : LockTable) (gs : List GraftLevel) (log : List (List Inverse)) (w : Things) → length (levels_in p ram t gs log w) ≡ length gs
+pub as_many : (p : ℕ) (ram : List ℕ) (t : LockTable) (gs : List GraftLevel) (log : List (List Logged)) (w : Things) → length (levels_in p ram t gs log w) ≡ length gs
 as_many p ram t [] log w = refl
 as_many p ram t (g ∷ gs) log w = ap suc (as_many p ram t gs (outer log) (put_back (innermost log) w))
 
 -- a level holds what the table says
-holds_below : (p d : ℕ) (ram : List ℕ) (t : LockTable) (gs : List GraftLevel) (log : List (List Inverse)) (w : Things) → d < length gs →
+holds_below : (p d : ℕ) (ram : List ℕ) (t : LockTable) (gs : List GraftLevel) (log : List (List Logged)) (w : Things) → d < length gs →
     touched_at (levels_in p ram t gs log w) d ≡ t p d
 holds_below p d ram t [] log w h = absurd (omega (arith, h))
 holds_below p d ram t (g ∷ gs) log w h = grind (arith, nat_tests, as_many p ram t gs (outer log) (put_back (innermost log) w), holds_below p d ram t gs (outer log) (put_back (innermost log) w))
 
 -- and beyond the levels nothing is held
-holds_beyond : (p d : ℕ) (ram : List ℕ) (t : LockTable) (gs : List GraftLevel) (log : List (List Inverse)) (w : Things) → length gs ≤ d →
+holds_beyond : (p d : ℕ) (ram : List ℕ) (t : LockTable) (gs : List GraftLevel) (log : List (List Logged)) (w : Things) → length gs ≤ d →
     touched_at (levels_in p ram t gs log w) d ≡ untouched
 holds_beyond p d ram t [] log w h = refl
 holds_beyond p d ram t (g ∷ gs) log w h = grind (arith, nat_tests, as_many p ram t gs (outer log) (put_back (innermost log) w), holds_beyond p d ram t gs (outer log) (put_back (innermost log) w))
@@ -65,7 +64,7 @@ holds_at t f p d inner outer true h = let small : p < 16 = grind (arith, nat_tes
 holds_at t f p d inner outer false h = let large : 16 ≤ p = grind (arith, nat_tests) in ap (λ ls. touched_at ls d) (none_listed f p large) ∙ sym (outer large)
 
 -- the levels of a chain hold what the lock table says
-chain_holds : (p d : ℕ) (ram : List ℕ) (t : LockTable) (gs : List GraftLevel) (log : List (List Inverse)) (w : Things) →
+chain_holds : (p d : ℕ) (ram : List ℕ) (t : LockTable) (gs : List GraftLevel) (log : List (List Logged)) (w : Things) →
     ((e : ℕ) (o : Object) → length gs ≤ e → t p e o ≡ Held.Free) → (b : Bool) → nat_lt d (length gs) ≡ b → touched_at (levels_in p ram t gs log w) d ≡ t p d
 chain_holds p d ram t gs log w unheld true h = holds_below p d ram t gs log w (grind (arith, nat_tests))
 chain_holds p d ram t gs log w unheld false h =

@@ -1,11 +1,8 @@
 //! What keeps a step from being taken.
 
 ghost use Rattle.std.specs.Prelude.{◌≡◌, ℕ, ◌<◌, None, Contains, option_map, All, List, length};
-ghost use Rattle.kernel_model.specs.declared.Inverse.{Inverse as Undoing};
 ghost use Rattle.kernel_model.specs.GraftStep.{next_needs, lock_user};
-ghost use Rattle.kernel_model.specs.Locks.{LockTable as Table};
 ghost use Rattle.kernel_model.specs.Objects.{Things};
-ghost use Rattle.kernel_state.specs.Stores.{world_of_store, queue_of};
 ghost use Rattle.call_pieces.specs.Works.{IsDue, stage_of};
 ghost use Rattle.graft_calls.specs.Calls.{AreSound};
 ghost use Rattle.graft_calls.specs.Chains.{levels_in};
@@ -15,8 +12,9 @@ ghost use Rattle.kernel_steps.specs.Orders.{blocker_of};
 ghost use Rattle.kernel_steps.specs.Views.{placed_of, flight_of, IsRunning, HasAbstraction};
 ghost use Rattle.kernel_model.specs.declared.Need.{Need as Needed};
 ghost use Rattle.kernel_model.specs.Laws.{IsInRange};
-ghost use Rattle.kernel_model.specs.Locks.{first_hindrance as first_of, hindrance_by, lowest_holder, user_hindrance, user_of};
-ghost use Rattle.kernel_state.specs.Stores.{objects_of};
+ghost use Rattle.kernel_model.specs.Locks.{LockTable as Table, first_hindrance as first_of, hindrance_by, lowest_holder, user_hindrance, user_of};
+ghost use Rattle.undo_calls.specs.UndoLevels.{Logged};
+ghost use Rattle.kernel_state.specs.Stores.{world_of_store, queue_of, objects_of};
 ghost use Rattle.lock_table.specs.Masks.{held};
 ghost use Rattle.kernel_steps.specs.Hindered.{hindrance_of, blocking_by};
 
@@ -138,7 +136,7 @@ fn graft_hindrance<B: Policy>(
     chain: &Chain,
 ) -> Option<Hindrance>
     requires { AreSound (queue_of store.now) chain.now.levels }
-    ensures { (ram : List ℕ) (t : Table) (log : List (List Undoing)) (w : Things) →
+    ensures { (ram : List ℕ) (t : Table) (log : List (List Logged)) (w : Things) →
         let ls = levels_in p ram t chain.now.levels log w in
         option_map hindrance_of result ≡ first_of (held locks.now)
         (objects_of store.now).things.lock p (lock_user p ls)

@@ -25,7 +25,7 @@ use graft_points::Policy;
 use kernel_model::{BLOCK_BYTES, BareCall, BareNote, NoMemory, PROCESSES, Refusal};
 use kernel_state::Store;
 use lock_table::LockTable;
-use std::alloc::{AllocError, Global};
+use std::alloc::Global;
 use std::marker::PhantomData;
 use undo_calls::UndoStack;
 
@@ -64,25 +64,31 @@ pub struct Running<C: Calls, B: Policy> {
 }
 
 /// No call, and no level.
-fn no_flight() -> Flight
-    ensures { result ≡ no_flight }
+fn no_flight(alloc: Global) -> Result<Flight, NoMemory>
+    ensures { IfOk result (λ f. f ≡ no_flight) }
 {
-    Flight {
+    let undo = UndoStack::new(alloc)?;
+    Ok(Flight {
         call: Slot::empty(),
         chain: Chain {
             levels: Levels::new(),
-            undo: UndoStack::new(),
+            undo,
         },
-    }
+    })
 }
 
 /// So many processes without a call.
-fn no_flights(alloc: Global, count: usize) -> Result<Vec<Flight>, AllocError>
+fn no_flights(alloc: Global, count: usize) -> Result<Vec<Flight>, NoMemory>
     ensures { IfOk result (λ v. v.items ≡ replicate count no_flight) }
 {
-    let mut flights = Vec::with_capacity(alloc, count)?;
+    let Ok(mut flights) = Vec::with_capacity(alloc, count) else {
+        return Err(NoMemory);
+    };
     for _ in 0..count {
-        flights.push(no_flight())?;
+        let flight = no_flight(alloc)?;
+        if flights.push(flight).is_err() {
+            return Err(NoMemory);
+        }
     }
     Ok(flights)
 }

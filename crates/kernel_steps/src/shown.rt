@@ -1,12 +1,12 @@
 //! The rows that show the calls in flight.
 
 ghost use Rattle.std.specs.Prelude.{◌≡◌, ℕ, ◌==◌, ◌<◌, ◌≤◌, List, Some, find, length, map, option_map, reverse, slice_get};
-ghost use Rattle.kernel_model.specs.declared.Inverse.{Inverse as Undoing};
 ghost use Rattle.kernel_model.specs.Kernel.{Entry};
 ghost use Rattle.kernel_model.specs.Locks.{LockTable as Table};
 ghost use Rattle.kernel_model.specs.Objects.{Things};
 ghost use Rattle.kernel_model.specs.RawRows.{rows_of_levels, top_of, undo_row, wait_by};
-ghost use Rattle.kernel_model.specs.UndoLog.{numbered_log, found_log};
+ghost use Rattle.kernel_model.specs.UndoLog.{numbered_log};
+ghost use Rattle.undo_calls.specs.UndoLevels.{Logged, log_of};
 ghost use Rattle.graft_calls.specs.Chains.{levels_in};
 ghost use Rattle.placed_laws.specs.PlacedRows.{placed_call_row, placed_level_rows, placed_undo_rows};
 ghost use Rattle.kernel_steps.specs.Orders.{entry_of, order_of};
@@ -46,7 +46,7 @@ fn wait_row(entries: &[Waiting], p: u8) -> Option<WaitRow>
 
 /// The innermost of these levels.
 fn top_row(levels: &Levels) -> Option<TopRow>
-    ensures { (p : ℕ) (ram : List ℕ) (t : Table) (log : List (List Undoing)) (w : Things) →
+    ensures { (p : ℕ) (ram : List ℕ) (t : Table) (log : List (List Logged)) (w : Things) →
         result ≡ top_of (levels_in p ram t levels.now log w) }
 {
     let level = levels.innermost()?;
@@ -60,7 +60,7 @@ fn top_row(levels: &Levels) -> Option<TopRow>
 /// Level d of process p, 0 being the outermost.
 fn row_of_level(levels: &Levels, p: u8, d: u8) -> RawRow
     requires { d < length levels.now }
-    ensures { (ram : List ℕ) (t : Table) (log : List (List Undoing)) (w : Things) →
+    ensures { (ram : List ℕ) (t : Table) (log : List (List Logged)) (w : Things) →
         slice_get (reverse (rows_of_levels p (levels_in p ram t levels.now log w))) d
         ≡ Some result }
 {
@@ -71,7 +71,7 @@ fn row_of_level(levels: &Levels, p: u8, d: u8) -> RawRow
 /// Record i of process p, 0 being the newest.
 fn row_of_record(log: &UndoStack, p: u8, i: u8) -> RawRow
     requires { i < length (numbered_log log.now) }
-    ensures { slice_get (map (undo_row p) (numbered_log (found_log log.now))) i ≡ Some result }
+    ensures { slice_get (map (undo_row p) (numbered_log (log_of log.now))) i ≡ Some result }
 {
     let records = log.list();
     let place = records.len() - 1 - i as usize;

@@ -45,7 +45,7 @@ returns-clause-in_place g c =
       placed = begun_placed s c.begin_level.new.store c.args.locks.now c.touch_needs.new.locks c.args.p c.args.self.now.levels
           c.begin_level.new.chain.levels c.args.self.now.undo c.begin_level.new.chain.undo c.requires.placed (omega (arith, few)) c.begin_level.ensures.objects c.begin_level.ensures.count
           c.begin_level.ensures.log
-          (c.begin_level.ensures.levels_sound c.requires.placed.levels c.requires.owner c.requires.point c.requires.lives (ap (λ (x : List GraftLevel). is_running_in x q pt) c.requires.none))
+          (c.begin_level.ensures.levels_sound c.requires.placed.levels c.requires.lives (ap (λ (x : List GraftLevel). is_running_in x q pt) c.requires.none))
           (λ d o le. ap (λ (x : LockTable). x c.args.p d o) c.touch_needs.ensures
           ∙ ap (λ (x : Touched). x o) (needs_apart c.args.p 0 c.args.p d c.args.ask.needs.now (held c.args.locks.now) (grind (arith, nat_tests, le)))
           ∙ c.requires.placed.unheld d o (omega (arith, few, le)));

@@ -8,7 +8,7 @@ use Rattle.kernel_model.specs.Levels.{drop_innermost}
 use Rattle.kernel_model.specs.Objects.{Objects, Accounts, with_accounts, with_things}
 use Rattle.kernel_model.specs.Sound.{ImagesAreLoaded}
 use Rattle.lock_table.specs.Masks.{held}
-use Rattle.undo_calls.specs.UndoLevels.{records_of}
+use Rattle.undo_calls.specs.UndoLevels.{bare, records_of}
 use Rattle.graft_accounts.specs.Table.{accounts_of}
 use Rattle.kernel_state.specs.Accesses.{things_after}
 use Rattle.kernel_state.specs.Stores.{world_of_store, objects_of}
@@ -18,7 +18,7 @@ use Rattle.graft_calls.proofs.Charging.{not_recorded, is_recorded, uncharged}
 use Rattle.graft_calls.proofs.Conditions.{inside_if, loaded_if}
 use Rattle.graft_calls.proofs.Dropping.{pair, configs}
 use Rattle.graft_calls.proofs.GoingOn.{recorded_on}
-use Rattle.graft_calls.proofs.Looking.{leads_back, stands_once, more_undoable}
+use Rattle.graft_calls.proofs.Looking.{change_is_bare, leads_back, stands_once, more_undoable}
 use Rattle.graft_calls.proofs.Placing.{touched_placed, touched_elsewhere}
 use Rattle.graft_calls.proofs.Recording.{record_count_is, record_length}
 use Rattle.graft_calls.proofs.Undoing.{all_kept}
@@ -82,8 +82,8 @@ returns-clause-placed g c =
     touched_placed s c.apply.new.self c.args.locks.now c.touch.new.self c.args.p c.count.result c.args.need.object c.args.need.mode
     c.args.level c.args.chain.now.levels c.go_on.new.levels log c.record.new.undo c.requires.placed
     c.apply.ensures.living c.go_on.ensures.count (c.go_on.ensures.sound _ c.requires.placed.levels) c.touch.ensures c.count.ensures.value
-    (ap length c.record.ensures ∙ record_length c.args.inverse_is log)
-    (more_undoable c.args.inverse_is log c.record.new.undo _ c.record.ensures (c.apply.ensures.kept c.args.inverse_is c.requires.undoable)
+    (ap length c.record.ensures ∙ record_length (bare c.args.inverse_is) log)
+    (more_undoable (bare c.args.inverse_is) log c.record.new.undo _ c.record.ensures (c.apply.ensures.kept c.args.inverse_is c.requires.undoable)
     (all_kept log _ _ c.apply.ensures.kept c.requires.placed.undoable))
 
 pub returns-clause-inside : goal.returns-clause-inside
@@ -106,3 +106,8 @@ pub returns-clause-loaded : goal.returns-clause-loaded
 returns-clause-loaded g c = λ images h.
     subst (ImagesAreLoaded images) (sym (ap (λ (x : Objects). x.accounts) c.apply.ensures.objects))
     (loaded_if _ images Records c.args.level.owner c.args.level.point (accounts_of c.args.store.now.accounts) (accounts_of c.charge_record.new.accounts) c.charge_record.ensures.accounts h)
+
+pub record-requires-clause-bare : goal.record-requires-clause-bare
+record-requires-clause-bare g c =
+    let regs = c.args.level.machine.regs in
+    change_is_bare c.args.id (slice_index regs 0) (slice_index regs 1) (slice_index regs 2) c.args.level.owner (objects_of c.args.store.now).things c.args.result_is c.args.inverse_is c.requires.answer

@@ -9,7 +9,7 @@ use Rattle.lock_table.specs.Masks.{held}
 use Rattle.undo_calls.specs.UndoLevels.{innermost}
 use Rattle.graft_accounts.specs.Table.{accounts_of}
 use Rattle.kernel_state.specs.Stores.{world_of_store, objects_of}
-use Rattle.graft_calls.specs.Chains.{came, level_of, outer_of, outer, put_back}
+use Rattle.graft_calls.specs.Chains.{put_back, came, level_of, outer_of, outer}
 use Rattle.graft_calls.proofs.Charging.{not_paid, is_paid, unpaid}
 use Rattle.graft_calls.proofs.Conditions.{inside_if, loaded_if}
 use Rattle.graft_calls.proofs.Dropping.{pair, configs}

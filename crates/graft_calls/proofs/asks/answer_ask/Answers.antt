@@ -64,7 +64,7 @@ returns-clause-in_place g c =
     record {
       placed = begun_placed c.args.store.now c.begin_level.new.store c.args.locks.now c.args.locks.now c.args.p c.args.chain.now.levels c.begin_level.new.chain.levels
           c.args.chain.now.undo c.begin_level.new.chain.undo h.placed room c.begin_level.ensures.objects c.begin_level.ensures.count c.begin_level.ensures.log
-          (c.begin_level.ensures.levels_sound h.placed.levels c.requires.owner c.requires.point c.requires.lives c.requires.free)
+          (c.begin_level.ensures.levels_sound h.placed.levels c.requires.lives c.requires.free)
           (λ d o le. h.placed.unheld d o (omega (arith, le)));
       inside = subst (λ (x : Objects). AreInside (table_of c.args.images.now) x.accounts c.args.p c.begin_level.new.chain.levels) (sym c.begin_level.ensures.objects)
           (c.begin_level.ensures.inside (table_of c.args.images.now) c.image_of-image.ensures h.inside);

@@ -1,10 +1,10 @@
 use Rattle.std.proofs.Common.{◌≡◌, arith, ap, subst, sym, ◌∙◌, length}
 use Rattle.kernel_model.specs.Policies.{default_of}
 use Rattle.kernel_model.specs.Levels.{answer_innermost}
-use Rattle.graft_calls.specs.Chains.{levels_in, put_back_on}
 use Rattle.kernel_model.specs.Objects.{Objects, with_accounts}
 use Rattle.kernel_model.specs.Charges.{removed}
 use Rattle.kernel_model.specs.Sound.{ImagesAreLoaded}
+use Rattle.graft_calls.specs.Chains.{put_back_on, levels_in}
 use Rattle.lock_table.specs.Masks.{held}
 use Rattle.undo_calls.specs.UndoLevels.{innermost}
 use Rattle.graft_accounts.specs.Table.{accounts_of}

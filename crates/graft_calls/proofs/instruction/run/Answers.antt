@@ -18,7 +18,7 @@ use Rattle.graft_machine.specs.Cpu.{Cpu, machine_of, done_of, by_place, goes_on}
 use Rattle.kernel_state.specs.Stores.{world_of_store, objects_of, queue_of}
 use Rattle.graft_loader.specs.Slots.{table_of}
 use Rattle.graft_calls.specs.declared.GraftLevel.{GraftLevel}
-use Rattle.graft_calls.specs.Chains.{came, level_of, outer_of, level_in, levels_in, outer, put_back}
+use Rattle.graft_calls.specs.Chains.{put_back, came, level_of, outer_of, level_in, levels_in, outer}
 use Rattle.graft_calls.specs.Calls.{AreInside, AllUndoable}
 use Rattle.graft_calls.proofs.Beginning.{objects_over, same_objects, memory_fits}
 use Rattle.graft_calls.proofs.Conditions.{loaded_charged}

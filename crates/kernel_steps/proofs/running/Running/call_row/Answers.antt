@@ -1,6 +1,5 @@
 -- The row of a call is that of its flight.
 use Rattle.std.proofs.Common.{◌≡◌, ◌∙◌, ◌==◌, ap, sym}
-use Rattle.std.specs.Prelude.{find}
 use Rattle.kernel_model.specs.Kernel.{Entry}
 use Rattle.kernel_model.specs.RawRows.{top_of, wait_by}
 use Rattle.lock_table.specs.Masks.{held}
@@ -10,7 +9,7 @@ use Rattle.kernel_steps.specs.declared.running.Flight.{Flight}
 use Rattle.kernel_steps.specs.Orders.{order_of}
 use Rattle.kernel_steps.specs.Views.{flight_of}
 use Rattle.kernel_steps.proofs.ShownLemmas.{call_row_is}
-use Rattle.std.specs.Prelude.{option_copied}
+use Rattle.std.specs.Prelude.{find, option_copied}
 use Rattle.kernel_steps.proofs.running.Running.call_row.Goals as goal
 
 pub returns : goal.returns

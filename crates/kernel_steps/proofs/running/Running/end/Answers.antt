@@ -4,8 +4,7 @@ use Rattle.graft_loader.specs.Slots.{table_of}
 use Rattle.graft_calls.specs.Calls.{IsPlaced, AreInside}
 use Rattle.kernel_state.specs.Stores.{objects_of}
 use Rattle.kernel_steps.specs.Owned.{AreOwned}
-use Rattle.kernel_steps.specs.Orders.{counts_within, are_processes}
-use Rattle.kernel_steps.specs.Orders.{are_once, numbers_of}
+use Rattle.kernel_steps.specs.Orders.{counts_within, are_processes, are_once, numbers_of}
 use Rattle.kernel_steps.proofs.OnceLemmas.{once_less}
 use Rattle.kernel_steps.proofs.OrderLemmas.{processes_less, counts_less}
 use Rattle.kernel_steps.proofs.CallLemmas.{still_sixteen, chains_stay, callers_set}

@@ -1,11 +1,10 @@
 use Rattle.std.proofs.Common.{◌≡◌, ◌==◌, ◌∙◌, ap, sym, refl, length}
-use Rattle.std.specs.Prelude.{◌&&◌, is_some}
 use Rattle.lock_table.specs.Masks.{held}
 use Rattle.kernel_state.specs.Stores.{objects_of}
 use Rattle.kernel_steps.specs.declared.running.Flight.{Flight}
 use Rattle.kernel_steps.specs.Views.{flight_of}
 use Rattle.kernel_steps.proofs.RunningLemmas.{at_piece_is}
-use Rattle.std.specs.Prelude.{option_copied}
+use Rattle.std.specs.Prelude.{◌&&◌, is_some, option_copied}
 use Rattle.kernel_steps.proofs.running.Running.is_at_piece.Goals as goal
 
 pub returns-in-Some : goal.returns-in-Some

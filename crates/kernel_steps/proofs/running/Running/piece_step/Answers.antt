@@ -1,5 +1,4 @@
 use Rattle.std.proofs.Common.{◌≡◌, ◌∙◌, ap, sym, Option, Some, None}
-use Rattle.std.specs.Prelude.{option_map}
 use Rattle.disk_log.specs.Seen.{disk_seen}
 use Rattle.kernel_model.specs.History.{begin_at}
 use Rattle.kernel_state.specs.Stores.{world_of_store, objects_of}
@@ -14,7 +13,7 @@ use Rattle.kernel_steps.specs.Views.{placed_of, flight_of, call_in_place}
 use Rattle.kernel_steps.proofs.HinderLemmas.{may_come, stands}
 use Rattle.kernel_steps.proofs.StepLemmas.{alone_at, done_as, same_call}
 use Rattle.kernel_steps.proofs.AskLemmas.{asked_lives, asks_empty, asks_none, entered_done, not_there, ready_at_once, there_is}
-use Rattle.std.specs.Prelude.{option_copied}
+use Rattle.std.specs.Prelude.{option_map, option_copied}
 use Rattle.kernel_steps.proofs.running.Running.piece_step.Goals as goal
 
 pub asks-requires : goal.asks-requires

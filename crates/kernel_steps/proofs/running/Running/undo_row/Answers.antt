@@ -3,7 +3,8 @@ use Rattle.std.proofs.Common.{◌≡◌, ◌∙◌, ap, sym, length, arith, List
 use Rattle.std.specs.Prelude.{slice_get}
 use Rattle.kernel_model.specs.declared.RawRow.{RawRow}
 use Rattle.kernel_model.specs.RawRows.{undo_row}
-use Rattle.kernel_model.specs.UndoLog.{numbered_log, found_log}
+use Rattle.kernel_model.specs.UndoLog.{numbered_log}
+use Rattle.undo_calls.specs.UndoLevels.{log_of}
 use Rattle.kernel_steps.specs.declared.running.Flight.{Flight}
 use Rattle.kernel_steps.specs.Views.{flight_of}
 use Rattle.kernel_steps.proofs.ShownLemmas.{records_in_place, records_many}
@@ -22,5 +23,5 @@ returns g c =
     let x = c.args.self.now in
     let fl : c.flight.result.now ≡ flight_of x.calls.items c.args.p = c.flight.ensures ∙ ap (λ fs. flight_of fs c.args.p) c.deref.ensures.value in
     ap (λ (rows : List RawRow). slice_get rows c.args.i) (records_in_place x c.args.p c.requires.process c.requires.running
-    ∙ sym (ap (λ (f : Flight). map (undo_row c.args.p) (numbered_log (found_log f.chain.undo))) fl))
+    ∙ sym (ap (λ (f : Flight). map (undo_row c.args.p) (numbered_log (log_of f.chain.undo))) fl))
     ∙ c.row_of_record.ensures

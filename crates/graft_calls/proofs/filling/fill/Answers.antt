@@ -1,6 +1,6 @@
 use Rattle.std.proofs.Common.{arith, ◌∙◌}
 use Rattle.graft_calls.proofs.Feeding.{fed_within, fed_apart}
-use Rattle.graft_calls.proofs.segments.fill.Goals as goal
+use Rattle.graft_calls.proofs.filling.fill.Goals as goal
 
 pub returns-clause-segment : goal.returns-clause-segment
 returns-clause-segment c = λ i lt.

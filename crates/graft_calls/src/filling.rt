@@ -40,7 +40,7 @@ fn whole(ram: &Ram)
     ram.byte(0);
 }
 
-/// The segment at this base gets data bytes, and zeros behind them. Every other byte stays.
+/// The segment at this base gets bytes, and zeros behind them. Every other byte stays.
 fn fill_data(ram: &mut Ram, base: u32, body: &[u8])
     requires inside { base + SEGMENT_BYTES ≤ 524288 }
     requires few { length body.now ≤ 4096 }
@@ -56,8 +56,8 @@ fn fill_data(ram: &mut Ram, base: u32, body: &[u8])
     ram.copy_in(base, body);
 }
 
-/// The segment at this base gets data bytes, zeros behind them, and at their place the bytes that
-/// its level is fed. Every other byte stays.
+/// The segment at this base gets bytes, zeros behind them, and at their place the bytes that its
+/// level is fed. Every other byte stays.
 pub(crate) fn fill(ram: &mut Ram, base: u32, body: &[u8], feed: &[u8])
     requires inside { base + SEGMENT_BYTES ≤ 524288 }
     requires few { length body.now ≤ 4096 }

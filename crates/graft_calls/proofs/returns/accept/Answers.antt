@@ -1,0 +1,125 @@
+use Rattle.std.proofs.Common.{◌≡◌, ◌==◌, ◌||◌, ◌∷◌, ℕ, List, Some, length, slice_index, arith, refl, sym, ◌∙◌, ap, subst}
+use Rattle.kernel_model.specs.declared.Kind.TheVariants.{Records}
+use Rattle.kernel_model.specs.Access.{set_segment}
+use Rattle.kernel_model.specs.Charges.{charge, funds}
+use Rattle.kernel_model.specs.GraftStep.{after_answer, is_record_spent}
+use Rattle.kernel_model.specs.Levels.{image_of, keeps_in, base_of}
+use Rattle.kernel_model.specs.Meaning.{Answer}
+use Rattle.kernel_model.specs.Objects.{Objects}
+use Rattle.kernel_model.specs.Runs.{segment_of}
+use Rattle.kernel_model.specs.Sound.{ImagesAreLoaded}
+use Rattle.kernel_state.specs.Stores.{world_of_store, objects_of, queue_of, body_at}
+use Rattle.lock_table.specs.Masks.{held}
+use Rattle.undo_calls.specs.UndoLevels.{records_of, segment_logged}
+use Rattle.graft_accounts.specs.Table.{accounts_of}
+use Rattle.graft_loader.specs.Slots.{table_of}
+use Rattle.graft_calls.specs.Chains.{came, level_of, outer_of, levels_in, kept_bytes, kept_on}
+use Rattle.graft_calls.specs.Calls.{AreInside}
+use Rattle.graft_calls.proofs.Completing.{unanswered, outermost_answers}
+use Rattle.graft_calls.proofs.Conditions.{inside_charged, loaded_charged}
+use Rattle.graft_calls.proofs.Dropping.{pair, configs}
+use Rattle.graft_calls.proofs.KeptSegments.{kept_undoable, kept_then, not_kept, record_is}
+use Rattle.graft_calls.proofs.Looking.{more_undoable}
+use Rattle.graft_calls.proofs.Placing.{completed_placed}
+use Rattle.graft_calls.proofs.Recording.{record_count_is, record_length}
+use Rattle.graft_calls.proofs.Undoing.{all_kept}
+use Rattle.graft_calls.proofs.returns.accept.Goals as goal
+
+pub returns-then-not-keeps-clause-step : goal.returns-then-not-keeps-clause-step
+returns-then-not-keeps-clause-step g c =
+    let s = c.args.store.now in
+    let l = level_of s c.args.locks.now c.args.chain.now c.args.p c.args.level in
+    let ls = outer_of s c.args.locks.now c.args.chain.now c.args.p in
+    ap (λ b. came (after_answer (world_of_store s) (objects_of s) l ls b)) (sym c.if-not-keeps.ensures) ∙ c.complete.ensures.step (objects_of s) s.ram
+
+pub returns-then-not-keeps-clause-answer : goal.returns-then-not-keeps-clause-answer
+returns-then-not-keeps-clause-answer g c = λ registers is.
+    let s = c.args.store.now in
+    outermost_answers c.args.p s.ram (held c.args.locks.now) c.args.level c.args.chain.now.levels c.args.chain.now.undo (objects_of s).things registers (c.complete.ensures.outermost registers is)
+
+pub returns-then-not-keeps-clause-placed : goal.returns-then-not-keeps-clause-placed
+returns-then-not-keeps-clause-placed g c =
+    let s = c.args.store.now in
+    let h = c.requires.placed in
+    let log = c.args.chain.now.undo in
+    completed_placed s s c.args.locks.now c.complete.new.locks c.args.p c.args.level c.args.chain.now.levels c.complete.new.chain.levels log log c.complete.new.chain.undo
+    h refl c.complete.ensures.count (c.complete.ensures.sound (queue_of s) h.levels.2) (λ d o le. c.complete.ensures.unheld d o le h.unheld) refl h.undoable c.complete.ensures.log
+
+pub returns-then-not-keeps-clause-inside : goal.returns-then-not-keeps-clause-inside
+returns-then-not-keeps-clause-inside g c = λ table h. c.complete.ensures.inside table (accounts_of c.args.store.now.accounts) c.args.p h.1
+
+pub returns-then-is_record_spent-clause-step : goal.returns-then-is_record_spent-clause-step
+returns-then-is_record_spent-clause-step g c =
+    let s = c.args.store.now in
+    let v = world_of_store s in
+    let w = objects_of s in
+    let log = c.args.chain.now.undo in
+    let l = level_of s c.args.locks.now c.args.chain.now c.args.p c.args.level in
+    let ls = outer_of s c.args.locks.now c.args.chain.now c.args.p in
+    let keeps = keeps_in (image_of (table_of c.args.images.now) (w.accounts.graft l.owner l.point)) in
+    let spent = funds w.accounts l.owner l.point Records == 0 || length (records_of log) == 64 in
+    let same : is_record_spent w.accounts l ls ≡ spent =
+    ap (λ n. funds w.accounts l.owner l.point Records == 0 || n == 64)
+    (record_count_is c.args.p s.ram (held c.args.locks.now) (c.args.level ∷ c.args.chain.now.levels) log w.things c.requires.placed.as_many) in
+    ap came (not_kept v w l ls keeps spent (sym c.if-not-keeps.ensures) same c.if-is_record_spent.ensures) ∙ c.drop_innermost.ensures.step
+
+pub returns-then-is_record_spent-clause-answer : goal.returns-then-is_record_spent-clause-answer
+returns-then-is_record_spent-clause-answer g c = λ registers is. absurd (unanswered _ _ _ _ registers tt c.drop_innermost.ensures.step is)
+
+pub returns-clause-step : goal.returns-clause-step
+returns-clause-step g c =
+    let s = c.args.store.now in
+    let v = world_of_store s in
+    let w = objects_of s in
+    let u = objects_of c.keep.new.store in
+    let p = c.args.p in
+    let gs = c.args.chain.now.levels in
+    let log = c.args.chain.now.undo in
+    let l = level_of s c.args.locks.now c.args.chain.now p c.args.level in
+    let ls = outer_of s c.args.locks.now c.args.chain.now p in
+    let keeps = keeps_in (image_of (table_of c.args.images.now) (w.accounts.graft l.owner l.point)) in
+    let spent = funds w.accounts l.owner l.point Records == 0 || length (records_of log) == 64 in
+    let same : is_record_spent w.accounts l ls ≡ spent =
+    ap (λ n. funds w.accounts l.owner l.point Records == 0 || n == 64) (record_count_is p s.ram (held c.args.locks.now) (c.args.level ∷ gs) log w.things c.requires.placed.as_many) in
+    let state : u ≡ kept_on l.owner l.point (base_of p (length gs)) s.ram w =
+    c.keep.ensures.objects ∙ ap (λ b. kept_on l.owner l.point b s.ram w) (c.base_of-base.ensures.value ∙ ap (base_of p) c.count.ensures.value) in
+    kept_then v w u p s.ram (held c.args.locks.now) c.args.level gs log c.keep.new.undo (segment_logged l.owner l.point (kept_bytes s.kept l.owner l.point)) keeps spent (sym c.if-not-keeps.ensures) same c.if-is_record_spent.ensures
+    (omega (arith, c.requires.placed.as_many)) c.keep.ensures.log (record_is l.owner l.point s.kept c.requires.placed.levels.0.owner c.requires.placed.levels.0.point) state
+    ∙ c.complete-2.ensures.step u s.ram
+    ∙ pair _ _ _ _ refl (configs _ _ _ _ refl (ap (λ (m : List ℕ). levels_in p m (held c.complete-2.new.locks) c.complete-2.new.chain.levels c.complete-2.new.chain.undo u.things) (sym c.keep.ensures.memory)))
+
+pub returns-clause-answer : goal.returns-clause-answer
+returns-clause-answer g c = λ registers is.
+    let s = c.args.store.now in
+    outermost_answers c.args.p s.ram (held c.args.locks.now) c.args.level c.args.chain.now.levels c.args.chain.now.undo (objects_of s).things registers (c.complete-2.ensures.outermost registers is)
+    ∙ ap (λ (m : List ℕ). let a : Answer = record { registers = registers; body = body_at m c.args.p registers } in a) (sym c.keep.ensures.memory)
+
+pub returns-clause-placed : goal.returns-clause-placed
+returns-clause-placed g c =
+    let s = c.args.store.now in
+    let u = c.keep.new.store in
+    let w = objects_of s in
+    let h = c.requires.placed in
+    let log = c.args.chain.now.undo in
+    let q = c.args.level.owner in
+    let pt = c.args.level.point in
+    let logged = segment_logged q pt (kept_bytes s.kept q pt) in
+    let things : (objects_of u).things ≡ set_segment q pt (Some (segment_of c.base_of-base.result (λ a. slice_index s.ram a))) w.things = ap (λ (x : Objects). x.things) c.keep.ensures.objects in
+    completed_placed s u c.args.locks.now c.complete-2.new.locks c.args.p c.args.level c.args.chain.now.levels c.complete-2.new.chain.levels log c.keep.new.undo c.complete-2.new.chain.undo
+    h c.keep.ensures.queue c.complete-2.ensures.count (c.complete-2.ensures.sound (queue_of s) h.levels.2) (λ d o le. c.complete-2.ensures.unheld d o le h.unheld)
+    (ap length c.keep.ensures.log ∙ record_length logged log)
+    (more_undoable logged log c.keep.new.undo _ c.keep.ensures.log (h.levels.0.owner, h.levels.0.point) (all_kept log _ _ (kept_undoable q pt _ w.things _ things) h.undoable))
+    c.complete-2.ensures.log
+
+pub returns-clause-inside : goal.returns-clause-inside
+returns-clause-inside g c = λ table h.
+    let a = accounts_of c.args.store.now.accounts in
+    let same : accounts_of c.keep.new.store.accounts ≡ charge Records c.args.level.owner c.args.level.point a = ap (λ (x : Objects). x.accounts) c.keep.ensures.objects in
+    c.complete-2.ensures.inside table (accounts_of c.keep.new.store.accounts) c.args.p
+    (subst (λ b. AreInside table b c.args.p c.args.chain.now.levels) (sym same) (inside_charged table Records c.args.level.owner c.args.level.point c.args.p a c.args.chain.now.levels h.1))
+
+pub returns-clause-loaded : goal.returns-clause-loaded
+returns-clause-loaded g c = λ table h.
+    let a = accounts_of c.args.store.now.accounts in
+    let same : accounts_of c.keep.new.store.accounts ≡ charge Records c.args.level.owner c.args.level.point a = ap (λ (x : Objects). x.accounts) c.keep.ensures.objects in
+    subst (ImagesAreLoaded table) (sym same) (loaded_charged table Records c.args.level.owner c.args.level.point a h)
