@@ -7,6 +7,7 @@ use Rattle.std.proofs.lemmas.List.Folds.{list_all-append}
 use Rattle.kernel_model.specs.declared.Instr.{Instr}
 use Rattle.kernel_model.specs.declared.Op.{Op}
 use Rattle.kernel_model.specs.declared.Op.TheVariants.{Andi, Or, Ldw, Stw, Ldb, Stb, Jmp, Jz, Jnz}
+use Rattle.kernel_model.specs.World.{plain_image}
 use Rattle.kernel_model.specs.Instructions.{fits}
 use Rattle.kernel_model.specs.Machine.{Width, Word, Byte, mask}
 use Rattle.kernel_model.specs.Boxed.{IsBoxed, access_width, is_jump, boxed_place, boxed_access, boxed_instr, instr, rewrite}
@@ -71,7 +72,7 @@ boxed_fits code (x ∷ is) w h =
 
 -- what the rewriter gives, with data within the limits, is a boxed image
 pub boxed_image : (code boxed : List Instr) (body : List ℕ) → rewrite code ≡ Ok boxed → list_all fits code ≡ true → length body ≤ 4096
-    → IsBoxedImage (record { code = boxed; body = body })
+    → IsBoxedImage (plain_image boxed body)
 boxed_image code boxed body h fit few =
     let w = rewritten code boxed h in
     let words : AreWords code code = record {

@@ -60,14 +60,14 @@ pub struct BoxedCode {
 }
 
 impl Model for BoxedCode {
-    ghost use Rattle.kernel_model.specs.World.{Image};
+    ghost use Rattle.kernel_model.specs.World.{Image, plain_image};
     ghost use Rattle.box_rewriter.specs.Words.{IsBoxedImage};
 
     ghost Value = { Image };
 
-    ghost view = { λ i. record { code = i.code.items; body = i.body.items } };
+    ghost view = { λ i. plain_image i.code.items i.body.items };
 
-    ghost invariant = { λ i. IsBoxedImage (record { code = i.code.items; body = i.body.items }) };
+    ghost invariant = { λ i. IsBoxedImage (plain_image i.code.items i.body.items) };
 }
 
 impl BoxedCode {

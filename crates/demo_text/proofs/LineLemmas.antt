@@ -3,6 +3,7 @@ use Rattle.std.proofs.Common.{◌≡◌, ◌≤◌, ◌+◌, ◌-◌, ◌++◌, 
 use Rattle.std.proofs.Math.ListN.{length-append}
 use Rattle.sha2.proofs.Facts256.{length-sha256}
 use Rattle.kernel_model.specs.declared.Instr.{Instr}
+use Rattle.kernel_model.specs.World.{plain_image}
 use Rattle.kernel_model.specs.Images.{padded_key, sealed_text, sealed_image, sealed_under, hmac}
 use Rattle.kernel_model.specs.Demo.{demo_keys, three, newest_frame, next_draw, line_of_draw, drawn_lines}
 use Rattle.sha2.specs.Sha256.{sha256}
@@ -17,11 +18,12 @@ sealed_length key code =
     rw (length-append text (hmac key text)) (rw (length-sha256 inner) refl)
 
 -- the image of code that is short enough is short
-short : (code : List Instr) (bytes : List ℕ) → bytes ≡ sealed_under demo_keys code [] → length (sealed_text 0 0 code []) ≤ 480 → length bytes ≤ 512
+short : (code : List Instr) (bytes : List ℕ) → bytes ≡ sealed_under demo_keys (plain_image code []) → length (sealed_text 0 0 code []) ≤ 480 → length bytes ≤ 512
 short code bytes is few = let e = sealed_length demo_keys.first code in rw is (omega (arith, e, few))
 
 -- both images
-pub are_images : (first second : List ℕ) → first ≡ sealed_under demo_keys three [] → second ≡ sealed_under demo_keys newest_frame [] → AreDemoImages first second
+pub are_images : (first second : List ℕ) → first ≡ sealed_under demo_keys (plain_image three [])
+    → second ≡ sealed_under demo_keys (plain_image newest_frame []) → AreDemoImages first second
 are_images first second first_is second_is =
     record {
       first_is = first_is;

@@ -55,8 +55,8 @@ impl DemoLines {
     pub fn new(alloc: Global, n: u32) -> Result<DemoLines, NoMemory>
         ensures { IfOk result (λ lines. lines ≡ demo_lines n) }
     {
-        let three = seal_under(alloc, &KEYS, &three(), &[])?;
-        let newest = seal_under(alloc, &KEYS, &newest_frame(), &[])?;
+        let three = seal_under(alloc, &KEYS, false, &three(), &[])?;
+        let newest = seal_under(alloc, &KEYS, false, &newest_frame(), &[])?;
         Ok(DemoLines {
             head: 0,
             draws: DRAWN_LINES,

@@ -53,7 +53,7 @@ lacked_memory f s t k gave used =
 
 -- where reading failed, nothing is written
 silent : (f : Filter) (taken : List ℕ) (a : Answer) → Answers f taken Fault a → a.written ≡ []
-silent (Box keys) taken a is = ap (λ (b : Answer). b.written) is
+silent (Box keys keep) taken a is = ap (λ (b : Answer). b.written) is
 silent (Check keys) taken a is = ap (λ (b : Answer). b.written) is
 silent (Reseal keys) taken a is = ap (λ (b : Answer). b.written) is
 silent Asm taken a is = ap (λ (b : Answer). b.written) is

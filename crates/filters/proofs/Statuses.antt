@@ -21,13 +21,14 @@ is_fault End = false
 is_fault Fault = true
 is_fault Over = false
 
-boxed : (keys : Keys) (body : List ℕ) (r : Result (List Instr) RewriteFault) → IsUsual false (boxed_answer keys body r)
-boxed keys body (Err fault) = ((λ h. cc), refl)
-boxed keys body (Ok code) = ((λ h. cc), refl)
+boxed : (keys : Keys) (keep : Bool) (body : List ℕ) (r : Result (List Instr) RewriteFault)
+    → IsUsual false (boxed_answer keys keep body r)
+boxed keys keep body (Err fault) = ((λ h. cc), refl)
+boxed keys keep body (Ok code) = ((λ h. cc), refl)
 
-box_usual : (keys : Keys) (r : Result Image LoadFault) → IsUsual false (box_answer keys r)
-box_usual keys (Err fault) = ((λ h. cc), refl)
-box_usual keys (Ok i) = boxed keys i.body (rewrite i.code)
+box_usual : (keys : Keys) (keep : Bool) (r : Result Image LoadFault) → IsUsual false (box_answer keys keep r)
+box_usual keys keep (Err fault) = ((λ h. cc), refl)
+box_usual keys keep (Ok i) = boxed keys keep i.body (rewrite i.code)
 
 check_usual : (r : Result Image LoadFault) → IsUsual false (check_answer r)
 check_usual (Err fault) = ((λ h. cc), refl)
@@ -47,7 +48,7 @@ asm_usual (Ok i) = ((λ h. cc), refl)
 
 hex_usual : (f : Filter) (r : Result (List ℕ) (List ℕ)) → IsUsual false (hex_answer f r)
 hex_usual f (Err text) = ((λ h. cc), refl)
-hex_usual (Box keys) (Ok bytes) = box_usual keys (read_raw bytes)
+hex_usual (Box keys keep) (Ok bytes) = box_usual keys keep (read_raw bytes)
 hex_usual (Check keys) (Ok bytes) = check_usual (load keys bytes)
 hex_usual (Reseal keys) (Ok bytes) = reseal_usual (reseal keys bytes)
 hex_usual Asm (Ok bytes) = ((λ h. cc), refl)
@@ -59,7 +60,7 @@ filter_usual : (f : Filter) (taken : List ℕ) (e : Ending) → IsUsual (is_faul
 filter_usual f taken Fault = ((λ h. cc), refl)
 filter_usual f taken Over = ((λ h. cc), refl)
 filter_usual Asm taken End = asm_usual (assemble taken)
-filter_usual (Box keys) taken End = hex_usual (Box keys) (hex_line taken)
+filter_usual (Box keys keep) taken End = hex_usual (Box keys keep) (hex_line taken)
 filter_usual (Check keys) taken End = hex_usual (Check keys) (hex_line taken)
 filter_usual (Reseal keys) taken End = hex_usual (Reseal keys) (hex_line taken)
 filter_usual Dis taken End = hex_usual Dis (hex_line taken)
@@ -80,7 +81,7 @@ pub answers_usual : (f : Filter) (taken : List ℕ) (e : Ending) (a : Answer) �
 answers_usual Lang taken End a is = text_usual taken (read taken) a is
 answers_usual Lang taken Fault a is = subst (IsUsual true) (sym is) (filter_usual Lang taken Fault)
 answers_usual Lang taken Over a is = subst (IsUsual false) (sym is) (filter_usual Lang taken Over)
-answers_usual (Box keys) taken e a is = subst (IsUsual (is_fault e)) (sym is) (filter_usual (Box keys) taken e)
+answers_usual (Box keys keep) taken e a is = subst (IsUsual (is_fault e)) (sym is) (filter_usual (Box keys keep) taken e)
 answers_usual (Check keys) taken e a is = subst (IsUsual (is_fault e)) (sym is) (filter_usual (Check keys) taken e)
 answers_usual (Reseal keys) taken e a is = subst (IsUsual (is_fault e)) (sym is) (filter_usual (Reseal keys) taken e)
 answers_usual Asm taken e a is = subst (IsUsual (is_fault e)) (sym is) (filter_usual Asm taken e)

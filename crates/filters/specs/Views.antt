@@ -20,7 +20,7 @@ reading_failed _ = false
 
 -- what is asked of the input
 abbrev pub filter_of : Filter → spec.Filter
-filter_of (Box keys) = spec.Box keys
+filter_of (Box keys keep) = spec.Box keys keep
 filter_of (Check keys) = spec.Check keys
 filter_of (Reseal keys) = spec.Reseal keys
 filter_of Asm = spec.Asm
@@ -29,7 +29,7 @@ filter_of Lang = spec.Lang
 
 -- the filter refuses images by a status of their own
 abbrev pub is_of_images : Filter → Bool
-is_of_images (Box keys) = true
+is_of_images (Box keys keep) = true
 is_of_images (Check keys) = true
 is_of_images (Reseal keys) = true
 is_of_images Asm = false

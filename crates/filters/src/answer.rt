@@ -15,8 +15,9 @@ use std::marker::Model;
 /// What is asked of the input.
 #[derive(Clone, Copy)]
 pub(crate) enum Filter {
-    /// A raw image is boxed and sealed under the last key.
-    Box(Keys),
+    /// A raw image is boxed and sealed under the last key, as one that keeps the segments of its
+    /// grafts or doesn't.
+    Box(Keys, bool),
     /// A sealed image is loaded under its key.
     Check(Keys),
     /// A sealed image is sealed anew under the last key.

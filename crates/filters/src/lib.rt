@@ -49,7 +49,7 @@ fn answer_to(alloc: Global, word: Filter, taken: &[u8], ending: Ending) -> Resul
     ensures memory { OnErr result (ending_of ending ≡ outcome.End) }
 {
     match (ending, word) {
-        (Ending::End, Filter::Box(keys)) => box_answer(alloc, &keys, taken),
+        (Ending::End, Filter::Box(keys, keep)) => box_answer(alloc, &keys, keep, taken),
         (Ending::End, Filter::Check(keys)) => check_answer(alloc, &keys, taken),
         (Ending::End, Filter::Reseal(keys)) => reseal_answer(alloc, &keys, taken),
         (Ending::End, Filter::Asm) => asm_answer(alloc, taken),
@@ -144,22 +144,29 @@ pub fn dis<S: Source, K: Sink>(alloc: Global, src: &mut S, out: &mut K) -> u8
 }
 
 /// Reads one line of hex, the bytes of a raw image, boxes its code and writes the image sealed
-/// under the last key as one line of lower-case hex; or why the line (`input S2`, `input S6` or
+/// under the last key, as one that keeps the segments of its grafts where that is asked, as one
+/// line of lower-case hex; or why the line (`input S2`, `input S6` or
 /// `input S1`), the image (`L1`, `L2`, `L4` or `L6 PC`) or its code (`Register PC`, `Jump PC`,
 /// `Call PC`, `End` or `TooLarge`) is refused.
 ///
 /// The answer is the exit status: 0 for an image, 2 for a refused line, 3 for a source and 4 for a
 /// sink that failed, 5 for want of memory, 6 for an image or code that is refused, 7 for an input
 /// of more than 16,777,216 bytes. Nothing is written with 3, 5 and 7.
-pub fn box_image<S: Source, K: Sink>(alloc: Global, keys: &Keys, src: &mut S, out: &mut K) -> u8
+pub fn box_image<S: Source, K: Sink>(
+    alloc: Global,
+    keys: &Keys,
+    keep: bool,
+    src: &mut S,
+    out: &mut K,
+) -> u8
     // No other status comes.
     ensures statuses { (result ≡ 0) ⊎ (result ≡ 2) ⊎ (result ≡ 3) ⊎ (result ≡ 4) ⊎ (result ≡ 5)
         ⊎ (result ≡ 6) ⊎ (result ≡ 7) }
     // What it does to its source and its sink, by the status.
-    ensures filtered { Filtered (spec.Box keys.now) (S.seen src.old) (S.seen src.new) (K.seen out.old)
-        (K.seen out.new) result }
+    ensures filtered { Filtered (spec.Box keys.now keep) (S.seen src.old) (S.seen src.new)
+        (K.seen out.old) (K.seen out.new) result }
 {
-    filter(alloc, Filter::Box(*keys), src, out)
+    filter(alloc, Filter::Box(*keys, keep), src, out)
 }
 
 /// Reads one line of hex, the bytes of a sealed image, loads it under its key and writes how many
@@ -180,8 +187,8 @@ pub fn check_image<S: Source, K: Sink>(alloc: Global, keys: &Keys, src: &mut S, 
     filter(alloc, Filter::Check(*keys), src, out)
 }
 
-/// Reads one line of hex, the bytes of a sealed image, loads it under its key and writes its code
-/// and data, sealed anew under the last key, as one line of lower-case hex; or why the line (`input
+/// Reads one line of hex, the bytes of a sealed image, loads it under its key and writes its code,
+/// data and flag, sealed anew under the last key, as one line of lower-case hex; or why the line (`input
 /// S2`, `input S6` or `input S1`) or the image (`L1` to `L13`, with the place) is refused.
 ///
 /// The answer is the exit status: 0 for an image, 2 for a refused line, 3 for a source and 4 for a

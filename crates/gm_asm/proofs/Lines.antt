@@ -8,7 +8,7 @@ use Rattle.hex.proofs.HexLemmas.{decode_of-encode_lower}
 use Rattle.hex.specs.Hex.{decode_of}
 use Rattle.kernel_model.specs.declared.Instr.{Instr}
 use Rattle.kernel_model.specs.Bytes.{hex_digit as hex_glyph, hex_text, hex_bytes, hex_word}
-use Rattle.kernel_model.specs.World.{Image}
+use Rattle.kernel_model.specs.World.{Image, plain_image}
 use Rattle.kernel_model.specs.Images.{IsRawImage}
 use Rattle.kernel_model.specs.Instructions.{fits}
 use Rattle.kernel_model.specs.Assembler.{Assembly, Placed, Data, lines_of, words_of, is_empty, statement_of, instr_line, instr_text, body_text, with_line, with_lines, data_after, linked, image_of, empty_assembly, assemble, disassemble}
@@ -172,7 +172,8 @@ linked-placed line [] = refl
 linked-placed line (i ∷ is) = rw (linked-placed (suc line) is) refl
 
 -- the text of an image assembles to the image
-pub assemble-disassemble : (i : Image) → IsRawImage i → ((k : ℕ) → get_or i.body k 0 < 256) → assemble (disassemble i) ≡ Ok i
+pub assemble-disassemble : (i : Image) → IsRawImage i → ((k : ℕ) → get_or i.body k 0 < 256)
+    → assemble (disassemble i) ≡ Ok (plain_image i.code i.body)
 assemble-disassemble i h g =
     let lines : with_lines 1 empty_assembly (lines_of (disassemble i)) ≡ Ok (of_image (placed_from 1 i.code) i.body) =
     ap (with_lines 1 empty_assembly) (lines-code i.code (body_text i.body) h.code_fits)

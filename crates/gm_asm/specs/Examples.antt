@@ -1,5 +1,5 @@
 -- Texts and what they assemble to, computed.
-use Rattle.std.specs.Prelude.{◌≡◌, [], ◌∷◌, codes, refl, Ok, Err}
+use Rattle.std.specs.Prelude.{◌≡◌, false, [], ◌∷◌, codes, refl, Ok, Err}
 use Rattle.std.specs.Fmt.{digits}
 use Rattle.kernel_model.specs.declared.AsmKind.TheVariants.{UnknownMnemonic, BadOperands, LabelNotSet, LabelSetTwice}
 use Rattle.kernel_model.specs.declared.Op.TheVariants.{Li, Jmp, Ret}
@@ -22,12 +22,14 @@ forward_jump : assemble (codes "jmp b\nret\nb:\n.bytes 00fF") ≡ Ok (record {
   code = record { op = Jmp; a = 0; b = 0; c = 0; imm = 2 }
       ∷ record { op = Ret; a = 0; b = 0; c = 0; imm = 0 } ∷ [];
   body = 0 ∷ 255 ∷ [];
+  keep = false;
 })
 forward_jump = refl
 
 written : disassemble (record {
   code = record { op = Li; a = 4; b = 0; c = 0; imm = 16 } ∷ [];
   body = 10 ∷ [];
+  keep = false;
 }) ≡ codes "li r4 16\n.bytes 0a\n"
 unfolding digits
 written = refl

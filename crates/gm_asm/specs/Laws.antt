@@ -1,10 +1,10 @@
 -- The law of the assembler.
 use Rattle.std.specs.Prelude.{◌≡◌, ℕ, ◌<◌, slice_index, Ok}
-use Rattle.kernel_model.specs.World.{Image}
+use Rattle.kernel_model.specs.World.{Image, plain_image}
 use Rattle.kernel_model.specs.Images.{IsRawImage}
 use Rattle.kernel_model.specs.Assembler.{assemble, disassemble}
 
--- the text of an image assembles to the image
+-- the text of an image assembles to the image of its code and data
 abbrev pub AssembleUndoesDisassemble : Type 0
 AssembleUndoesDisassemble = (i : Image) → IsRawImage i → ((k : ℕ) → slice_index i.body k < 256) →
-    assemble (disassemble i) ≡ Ok i
+    assemble (disassemble i) ≡ Ok (plain_image i.code i.body)

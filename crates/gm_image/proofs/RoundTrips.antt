@@ -10,7 +10,7 @@ use Rattle.std.proofs.lemmas.Nat.{from_le_bytes-to_le_bytes_4, le_bytes_4}
 use Rattle.kernel_model.specs.declared.Instr.{Instr}
 use Rattle.kernel_model.specs.declared.IsaFault.{IsaFault}
 use Rattle.kernel_model.specs.Bytes.{word_bytes, word_at}
-use Rattle.kernel_model.specs.World.{Image, same_bytes}
+use Rattle.kernel_model.specs.World.{Image, plain_image, same_bytes}
 use Rattle.kernel_model.specs.Instructions.{encode, decode, fits}
 use Rattle.kernel_model.specs.Images.{IsRawImage, LoadFault, Length, Magic, TooLarge, with_first, decoded, image_with, parts_of, is_too_large, code_bytes, raw_image, read_raw}
 use Rattle.gm_isa.specs.Laws.{DecodeUndoesEncode, EncodeUndoesDecode}
@@ -47,7 +47,7 @@ word_is n h = omega (arith, from_le_bytes-to_le_bytes_4 n h)
 
 -- code and data behind each other are the parts of an image
 parts_of-code_bytes : DecodeUndoesEncode → (code : List Instr) (body : List ℕ) → list_all fits code ≡ true
-    → parts_of (length code) (code_bytes code ++ body) ≡ Ok (record { code = code; body = body })
+    → parts_of (length code) (code_bytes code ++ body) ≡ Ok (plain_image code body)
 parts_of-code_bytes law code body h =
     let taken : take (8 * length code) (code_bytes code ++ body) ≡ code_bytes code =
     rw (← length-code_bytes code) (take-append_seam (code_bytes code) body) in
@@ -56,7 +56,7 @@ parts_of-code_bytes law code body h =
     rw taken (rw dropped (rw (decoded-code_bytes law code 0 h) refl))
 
 -- the bytes of an image read back as the image
-pub read-write : DecodeUndoesEncode → (i : Image) → IsRawImage i → read_raw (raw_image i.code i.body) ≡ Ok i
+pub read-write : DecodeUndoesEncode → (i : Image) → IsRawImage i → read_raw (raw_image i.code i.body) ≡ Ok (plain_image i.code i.body)
 read-write law i h =
     let size : length (code_bytes i.code ++ i.body) ≡ 8 * length i.code + length i.body =
     omega (arith, length-append (code_bytes i.code) i.body, length-code_bytes i.code) in
@@ -185,7 +185,7 @@ body_of (Ok i) = i.body
 
 -- the code and the data of an image that is read
 with_parts : EncodeUndoesDecode → (n d : ℕ) (rest : List ℕ) (i : Image) (code : Result (List Instr) LoadFault) → length rest ≡ 8 * n + d
-    → ((k : ℕ) → get_or rest k 0 < 256) → decoded n 0 (take (8 * n) rest) ≡ code → image_with (drop (8 * n) rest) code ≡ Ok i
+    → ((k : ℕ) → get_or rest k 0 < 256) → decoded n 0 (take (8 * n) rest) ≡ code → image_with false (drop (8 * n) rest) code ≡ Ok i
     → (code_bytes i.code ++ i.body ≡ rest) × (length i.code ≡ n) × (length i.body ≡ d)
 with_parts law n d rest i (Err fault) e g c h = cc
 with_parts law n d rest i (Ok code) e g c h =

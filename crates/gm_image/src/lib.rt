@@ -5,6 +5,7 @@ ghost use Rattle.std.specs.Prelude.{◌≡◌, ◌≤◌, ◌+◌, ◌*◌, ◌+
 ghost use Rattle.std.specs.List.{list_all};
 ghost use Rattle.kernel_model.specs.Instructions.{fits};
 ghost use Rattle.kernel_model.specs.Bytes as model;
+ghost use Rattle.kernel_model.specs.World.{plain_image};
 ghost use Rattle.kernel_model.specs.Images as spec;
 ghost use Rattle.gm_image.specs.Faults.{Refuses};
 
@@ -59,7 +60,8 @@ impl From<AllocError> for ImageFault {
     }
 }
 
-/// An image as its code and its data bytes, within the limits and with code that encodes.
+/// An image as its code and its data bytes, within the limits and with code that encodes. It keeps
+/// nothing: whether the segments of grafts are kept is said where an image is sealed.
 #[derive(Drop)]
 pub struct RawImage {
     code: Vec<Instr>,
@@ -67,14 +69,14 @@ pub struct RawImage {
 }
 
 impl Model for RawImage {
-    ghost use Rattle.kernel_model.specs.World.{Image};
+    ghost use Rattle.kernel_model.specs.World.{Image, plain_image};
     ghost use Rattle.kernel_model.specs.Images.{IsRawImage};
 
     ghost Value = { Image };
 
-    ghost view = { λ i. record { code = i.code.items; body = i.body.items } };
+    ghost view = { λ i. plain_image i.code.items i.body.items };
 
-    ghost invariant = { λ i. IsRawImage (record { code = i.code.items; body = i.body.items }) };
+    ghost invariant = { λ i. IsRawImage (plain_image i.code.items i.body.items) };
 }
 
 impl RawImage {
@@ -83,7 +85,7 @@ impl RawImage {
         requires code_len { length code.items ≤ 1024 }
         requires body_len { length body.items ≤ 4096 }
         requires code_fits { list_all fits code.items ≡ true }
-        ensures { result ≡ record { code = code.items; body = body.items } }
+        ensures { result ≡ plain_image code.items body.items }
     {
         RawImage { code, body }
     }

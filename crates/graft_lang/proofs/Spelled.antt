@@ -5,7 +5,7 @@ use Rattle.std.proofs.Common.{arith, refl, subst, sym, ap, ◌∙◌}
 use Rattle.std.proofs.lemmas.Bool.Decides.{nat_tests}
 use Rattle.std.proofs.lemmas.List.{length-append, append_assoc}
 use Rattle.kernel_model.specs.declared.Instr.{Instr}
-use Rattle.kernel_model.specs.World.{Image}
+use Rattle.kernel_model.specs.World.{Image, plain_image}
 use Rattle.kernel_model.specs.Boxed.{boxed_length, boxed_code, rewrite}
 use Rattle.kernel_model.specs.declared.language.LangKind.{LangKind}
 use Rattle.kernel_model.specs.declared.language.LangKind.TheVariants.{NoProgram, TooManyTokens}
@@ -215,7 +215,7 @@ prologue_room v w u ts us w_is same few low is =
 pub compiled : (text : List ℕ) (s : Syntax) (code : List Instr) (body : List ℕ) (image : Image)
     → read text ≡ Ok s
     → (p : g.Program) × (g.spelled p ≡ s.tokens) → IsWritten s code
-    → image ≡ record { code = code; body = body } → body ≡ []
+    → image ≡ plain_image code body → body ≡ []
     → AcceptedProgramsRun → IsCompiled text image
 compiled text s code body image h found written is empty run =
     let code_is : image.code ≡ code = ap (λ (i : Image). i.code) is in

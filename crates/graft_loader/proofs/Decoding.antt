@@ -1,5 +1,5 @@
 -- Decoding words one by one, and what is said of the parts of sealed bytes.
-use Rattle.std.proofs.Common.{◌≡◌, ℕ, zero, suc, ◌+◌, ◌-◌, ◌*◌, ◌==◌, true, false, List, [], ◌∷◌, ◌++◌, length, take, drop, Option, None, Some, Result, Ok, Err, refl, sym, ap, ◌∙◌, append_assoc, add-one, arith, length-append, get_or, ◌<◌}
+use Rattle.std.proofs.Common.{◌≡◌, ℕ, zero, suc, ◌+◌, ◌-◌, ◌*◌, true, false, List, [], ◌∷◌, ◌++◌, length, take, drop, Option, None, Some, Result, Ok, Err, refl, sym, ap, ◌∙◌, append_assoc, add-one, nat_le, arith, length-append, get_or, ◌<◌}
 use Rattle.std.proofs.Math.Seq.{drop-cons}
 use Rattle.std.proofs.lemmas.List.Folds.{list_all-append}
 use Rattle.std.specs.List.{list_all}
@@ -8,7 +8,7 @@ use Rattle.kernel_model.specs.Bytes.{word_at}
 use Rattle.kernel_model.specs.World.{Image, same_bytes}
 use Rattle.kernel_model.specs.Instructions.{decode, fits}
 use Rattle.kernel_model.specs.declared.Keys.{Keys}
-use Rattle.kernel_model.specs.Images.{LoadFault, Length, Magic, Version, TooLarge, BadFlags, BadOp, Seal, with_first, hmac, key_of, head_of, flags_of, number_of, head_fault, decoded, image_with, verified, load_by_seal, load_by_key, load_by_head, load}
+use Rattle.kernel_model.specs.Images.{LoadFault, Length, Magic, Version, TooLarge, BadFlags, BadOp, Seal, with_first, hmac, key_of, head_of, flags_of, keep_of, number_of, head_fault, decoded, image_with, verified, load_by_seal, load_by_key, load_by_head, load}
 use Rattle.gm_image.specs.Sealed.{Parts, words_of, sealed_part, parts_of, parts_unless, read_sealed}
 use Rattle.gm_image.specs.declared.ImageFault.{ImageFault}
 use Rattle.gm_image.specs.Faults as image
@@ -43,7 +43,7 @@ by_seal key bytes =
     ap (λ (code : Result (List Instr) LoadFault).
     elim (same_bytes (hmac key (sealed_part bytes)) (drop (length bytes - 32) bytes)) as (λ b. Result Image LoadFault) [
       | false ↦ Err Seal
-      | true ↦ verified (image_with (drop (head_of bytes + 8 * word_at bytes 8) (sealed_part bytes)) code)
+      | true ↦ verified (image_with (keep_of bytes) (drop (head_of bytes + 8 * word_at bytes 8) (sealed_part bytes)) code)
     ])
     (decoded-words (word_at bytes 8) 0 (drop (head_of bytes) (sealed_part bytes)))
 
@@ -59,7 +59,7 @@ by_head : (keys : Keys) (bytes : List ℕ) (fault : Option LoadFault)
 by_head keys bytes (Some fault) = refl
 by_head keys bytes None =
     ap (λ (image : Result Image LoadFault).
-    elim (flags_of bytes == 0) as (λ b. Result Image LoadFault) [ false ↦ Err BadFlags | true ↦ image ])
+    elim (nat_le (flags_of bytes) 1) as (λ b. Result Image LoadFault) [ false ↦ Err BadFlags | true ↦ image ])
     (by_key (key_of keys (number_of bytes)) bytes)
 
 -- what the loader says is what is said of the parts

@@ -1,5 +1,5 @@
 -- What loads is within the limits of images, and boxed.
-use Rattle.std.proofs.Common.{◌≡◌, ℕ, zero, suc, ◌+◌, ◌-◌, ◌*◌, ◌≤◌, ◌==◌, Bool, true, false, cond, List, [], ◌∷◌, length, take, drop, codes, Option, None, Some, Result, Ok, Err, refl, sym, ap, ◌∙◌, arith, length-drop, length-take, nat_lt}
+use Rattle.std.proofs.Common.{◌≡◌, ℕ, zero, suc, ◌+◌, ◌-◌, ◌*◌, ◌≤◌, ◌==◌, Bool, true, false, cond, List, [], ◌∷◌, length, take, drop, codes, Option, None, Some, Result, Ok, Err, refl, sym, ap, ◌∙◌, arith, length-drop, length-take, nat_le, nat_lt}
 use Rattle.std.specs.List.{list_all}
 use Rattle.std.specs.Prelude.{slice_index}
 use Rattle.std.proofs.lemmas.Bool.{eqb-true}
@@ -12,7 +12,7 @@ use Rattle.kernel_model.specs.Bytes.{word_at}
 use Rattle.kernel_model.specs.World.{Image, same_bytes}
 use Rattle.kernel_model.specs.Instructions.{decode, decode_by, fits, instr_of, op_numbered}
 use Rattle.kernel_model.specs.Boxed.{BoxFault, box_fault}
-use Rattle.kernel_model.specs.Images.{LoadFault, Length, TooLarge, Magic, Version, BadFlags, Seal, hmac, key_of, last_key, head_of, flags_of, number_of, is_version, size_fault, head_fault, is_too_large, with_first, decoded, image_with, verified, boxed_image, unsealed, load_by_key, load_by_head, load, sealed_under, reseal}
+use Rattle.kernel_model.specs.Images.{LoadFault, Length, TooLarge, Magic, Version, BadFlags, Seal, hmac, key_of, last_key, head_of, flags_of, keep_of, number_of, is_version, size_fault, head_fault, is_too_large, with_first, decoded, image_with, verified, boxed_image, unsealed, load_by_key, load_by_head, load, sealed_under, reseal}
 use Rattle.gm_isa.specs.Laws.{DecodeUndoesEncode}
 use Rattle.graft_loader.specs.Laws.{IsBoxedImage}
 use Rattle.graft_loader.proofs.Sealed.{sealed_loads}
@@ -65,11 +65,11 @@ record IsSound (n d : ℕ) (i : Image) : Type 0 where
   body_count : length i.body ≡ d
   boxed : box_fault i.code ≡ None
 
-verified_sound : (n d : ℕ) (body xs : List ℕ) (i : Image) (code : Result (List Instr) LoadFault) → decoded n 0 xs ≡ code
-    → length body ≡ d → verified (image_with body code) ≡ Ok i → IsSound n d i
-verified_sound n d body xs i (Err fault) c size h = cc
-verified_sound n d body xs i (Ok code) c size h =
-    let r = boxed_is (record { code = code; body = body }) i (box_fault code) refl h in
+verified_sound : (n d : ℕ) (keep : Bool) (body xs : List ℕ) (i : Image) (code : Result (List Instr) LoadFault) → decoded n 0 xs ≡ code
+    → length body ≡ d → verified (image_with keep body code) ≡ Ok i → IsSound n d i
+verified_sound n d keep body xs i (Err fault) c size h = cc
+verified_sound n d keep body xs i (Ok code) c size h =
+    let r = boxed_is (record { code = code; body = body; keep = keep }) i (box_fault code) refl h in
     let s = decoded_sound n 0 xs code c in
     let code_is : code ≡ i.code = ap (λ (x : Image). x.code) r.0 in
     let body_is : body ≡ i.body = ap (λ (x : Image). x.body) r.0 in
@@ -84,7 +84,7 @@ verified_sound n d body xs i (Ok code) c size h =
 seal_sound : (bytes : List ℕ) (i : Image) (same : Bool) → length bytes ≡ head_of bytes + 32 + 8 * word_at bytes 8 + word_at bytes 12
     → (elim same as (λ b. Result Image LoadFault) [
       | false ↦ Err Seal
-      | true ↦ unsealed (head_of bytes) (word_at bytes 8) (take (length bytes - 32) bytes)
+      | true ↦ unsealed (keep_of bytes) (head_of bytes) (word_at bytes 8) (take (length bytes - 32) bytes)
     ]) ≡ Ok i
     → IsSound (word_at bytes 8) (word_at bytes 12) i
 seal_sound bytes i false sized h = cc
@@ -93,7 +93,7 @@ seal_sound bytes i true sized h =
     let n = word_at bytes 8 in
     let size : length (drop (head_of bytes + 8 * n) text) ≡ word_at bytes 12 =
     omega (arith, length-drop (head_of bytes + 8 * n) text, length-take (length bytes - 32) bytes, sized) in
-    verified_sound n (word_at bytes 12) (drop (head_of bytes + 8 * n) text) (drop (head_of bytes) text) i
+    verified_sound n (word_at bytes 12) (keep_of bytes) (drop (head_of bytes + 8 * n) text) (drop (head_of bytes) text) i
     (decoded n 0 (drop (head_of bytes) text)) refl size h
 
 key_sound : (found : Option (List ℕ)) (bytes : List ℕ) (i : Image)
@@ -163,7 +163,7 @@ loaded_is : (keys : Keys) (bytes : List ℕ) (i : Image) (fault : Option LoadFau
 loaded_is keys bytes i (Some fault) f h = cc
 loaded_is keys bytes i None f h =
     let p = head_passed bytes (nat_lt (length bytes) 48) (same_bytes (take 4 bytes) (codes "VGR1")) (is_version (word_at bytes 4)) f in
-    let s = flags_sound keys bytes i (flags_of bytes == 0) p.sized h in
+    let s = flags_sound keys bytes i (nat_le (flags_of bytes) 1) p.sized h in
     record {
       raw = record {
         code_len = omega (arith, s.code_count, p.few);
@@ -185,7 +185,7 @@ pub resealed_loads : DecodeUndoesEncode → (keys : Keys) (bytes : List ℕ) (i 
     → (sealed : List ℕ) × (reseal keys bytes ≡ Ok sealed) × (load keys sealed ≡ Ok i)
 resealed_loads law keys bytes i h =
     let last = last_key keys in (
-      sealed_under keys i.code i.body,
+      sealed_under keys i,
       rw h refl,
       sealed_loads law keys last.0 last.1 i (last_is_key keys keys.second refl)
           (loaded_is keys bytes i (head_fault bytes) refl h),

@@ -1,5 +1,5 @@
 -- Words of the loader's parts, and what a loaded image keeps.
-use Rattle.std.specs.Prelude.{◌≡◌, ◌≤◌, ℕ, suc, ◌==◌, true, false, List, [], ◌∷◌, length, Option, None, Some, Result, Ok, Err}
+use Rattle.std.specs.Prelude.{◌≡◌, ◌≤◌, ℕ, suc, ◌==◌, nat_le, true, false, List, [], ◌∷◌, length, Option, None, Some, Result, Ok, Err}
 use Rattle.std.specs.List.{list_all}
 use Rattle.kernel_model.specs.declared.Instr.{Instr}
 use Rattle.kernel_model.specs.Instructions.{decode, fits}
@@ -24,7 +24,7 @@ decoded_words pc (word ∷ words) = with_first (decode word) pc (decoded_words (
 
 -- the image of parts whose seal is right, or the first refusal
 abbrev pub unsealed : Parts → Result Image LoadFault
-unsealed p = verified (image_with p.body (decoded_words 0 p.words))
+unsealed p = verified (image_with (p.flags == 1) p.body (decoded_words 0 p.words))
 
 -- the image of parts, whose seal is over this text under this key, or the first refusal
 abbrev pub sealed_by : Option (List ℕ) → List ℕ → Parts → Result Image LoadFault
@@ -36,4 +36,7 @@ sealed_by (Some key) text p =
 abbrev pub loaded : Keys → List ℕ → Result Parts LoadFault → Result Image LoadFault
 loaded keys text (Err fault) = Err fault
 loaded keys text (Ok p) =
-    elim (p.flags == 0) [ false ↦ Err BadFlags | true ↦ sealed_by (key_of keys p.number) text p ]
+    elim (nat_le p.flags 1) [
+      | false ↦ Err BadFlags
+      | true ↦ sealed_by (key_of keys p.number) text p
+    ]

@@ -30,6 +30,7 @@ pub use images::Images;
 pub use kernel_model::{Keys, NoMemory};
 pub use mac::hmac;
 use mac::is_same;
+use sealing::flags_with;
 pub use sealing::{seal, seal_under};
 
 /// The bytes of a seal.
@@ -79,11 +80,13 @@ impl From<AllocError> for LoadFault {
     }
 }
 
-/// The code and data of an image that was loaded: boxed code, within the limits of images.
+/// The code and data of an image that was loaded: boxed code, within the limits of images; and
+/// whether its grafts keep their segments.
 #[derive(Drop)]
 pub struct Loaded {
     code: Verified,
     body: Vec<u8>,
+    keep: bool,
 }
 
 impl Model for Loaded {
@@ -92,9 +95,10 @@ impl Model for Loaded {
 
     ghost Value = { Image };
 
-    ghost view = { λ l. record { code = l.code; body = l.body.items } };
+    ghost view = { λ l. record { code = l.code; body = l.body.items; keep = l.keep } };
 
-    ghost invariant = { λ l. IsLoaded (record { code = l.code; body = l.body.items }) };
+    ghost invariant = { λ l.
+        IsLoaded (record { code = l.code; body = l.body.items; keep = l.keep }) };
 }
 
 impl Loaded {
@@ -106,11 +110,18 @@ impl Loaded {
         &self.code
     }
 
-    /// The flags: an image with one isn't loaded, since none is known.
-    pub fn flags(&self) -> u32
-        ensures { result ≡ 0 }
+    /// Whether its grafts keep their segments from one completed call to the next.
+    pub fn keep(&self) -> bool
+        ensures { result ≡ self.now.keep }
     {
-        0
+        self.keep
+    }
+
+    /// The flags: 1 where its grafts keep their segments, else 0.
+    pub fn flags(&self) -> u32
+        ensures { result ≡ spec.flags_with self.now.keep }
+    {
+        flags_with(self.keep)
     }
 
     /// The data bytes.
@@ -185,8 +196,9 @@ fn unseal(alloc: Global, image: &SealedImage) -> Result<Loaded, LoadFault>
 {
     let body = Vec::from_slice(alloc, image.body())?;
     let code = decode_words(alloc, image.words())?;
+    let keep = image.flags() == 1;
     match verify(code) {
-        Ok(code) => Ok(Loaded { code, body }),
+        Ok(code) => Ok(Loaded { code, body, keep }),
         Err(fault) => Err(unboxed(fault)),
     }
 }
@@ -239,7 +251,7 @@ fn check_parts(
     ensures usable { IfOk result IsLoaded }
     ensures err { IfErr result (λ e. Refuses e (loaded keys.now text.now (Ok image.now))) }
 {
-    if image.flags() != 0 {
+    if image.flags() > 1 {
         return Err(LoadFault::BadFlags);
     }
     match key_of(keys, image.number()) {
@@ -271,7 +283,7 @@ fn sealed_again(alloc: Global, keys: &Keys, image: &Loaded) -> Result<Vec<u8>, L
     ensures ok { IfOk result (λ sealed. spec.resealed keys.now (Ok image.now) ≡ Ok sealed.items) }
     ensures err { IfErr result (λ e. e ≡ LoadFault.NoMemory) }
 {
-    match seal_under(alloc, keys, image.code().code(), image.body()) {
+    match seal_under(alloc, keys, image.keep(), image.code().code(), image.body()) {
         Ok(bytes) => Ok(bytes),
         Err(_) => Err(LoadFault::NoMemory),
     }

@@ -43,6 +43,13 @@ fn append_code(out: &mut Vec<u8>, code: &[Instr]) -> Result<(), NoMemory>
     Ok(())
 }
 
+/// The flags of an image that keeps the segments of its grafts, or doesn't.
+pub(crate) fn flags_with(keep: bool) -> u32
+    ensures { result ≡ spec.flags_with keep }
+{
+    if keep { 1 } else { 0 }
+}
+
 /// What a seal is over: magic, version, sizes, flags and the number of the key, then code and data.
 fn sealed_text(
     alloc: Global,
@@ -69,7 +76,8 @@ fn sealed_text(
 }
 
 /// The bytes of the image of this code and data, sealed under a key with its number, 0 or 1.
-/// Whether the code is boxed isn't looked at. No flag is known, so there is none.
+/// Whether the code is boxed isn't looked at. The flags are 1 where the image keeps the segments of
+/// its grafts, else 0.
 pub fn seal(
     alloc: Global,
     key: &[u8; 32],
@@ -79,7 +87,7 @@ pub fn seal(
     body: &[u8],
 ) -> Result<Vec<u8>, NoMemory>
     requires number { number ≤ 1 }
-    requires flags { flags ≡ 0 }
+    requires flags { flags ≤ 1 }
     requires code_len { length code.now ≤ 1024 }
     requires code_fits { list_all fits code.now ≡ true }
     requires body_len { length body.now ≤ 4096 }
@@ -92,20 +100,24 @@ pub fn seal(
     Ok(out)
 }
 
-/// The bytes of the image of this code and data, sealed under the last key that was given.
+/// The bytes of the image of this code and data, sealed under the last key that was given. It keeps
+/// the segments of its grafts where that is asked.
 pub fn seal_under(
     alloc: Global,
     keys: &Keys,
+    keep: bool,
     code: &[Instr],
     body: &[u8],
 ) -> Result<Vec<u8>, NoMemory>
     requires code_len { length code.now ≤ 1024 }
     requires code_fits { list_all fits code.now ≡ true }
     requires body_len { length body.now ≤ 4096 }
-    ensures { IfOk result (λ bytes. bytes.items ≡ spec.sealed_under keys.now code.now body.now) }
+    ensures { IfOk result (λ bytes. bytes.items ≡
+        spec.sealed_under keys.now (record { code = code.now; body = body.now; keep = keep })) }
 {
+    let flags = flags_with(keep);
     match &keys.second {
-        Some(key) => seal(alloc, key, 1, 0, code, body),
-        None => seal(alloc, &keys.first, 0, 0, code, body),
+        Some(key) => seal(alloc, key, 1, flags, code, body),
+        None => seal(alloc, &keys.first, 0, flags, code, body),
     }
 }

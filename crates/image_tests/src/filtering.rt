@@ -83,7 +83,8 @@ fn slow_sink(alloc: Global, failing: u64) -> SlowSink {
 
 fn run<S: Source, K: Sink>(alloc: Global, word: &str, src: &mut S, out: &mut K) -> u8 {
     match word {
-        "box" => box_image(alloc, &KEYS, src, out),
+        "box" => box_image(alloc, &KEYS, false, src, out),
+        "box keep" => box_image(alloc, &KEYS, true, src, out),
         "check" => check_image(alloc, &KEYS, src, out),
         "reseal" => reseal_image(alloc, &KEYS, src, out),
         "asm" => asm(alloc, src, out),
@@ -102,6 +103,10 @@ const RET: &str = "5647523001000000000000001a00000000000000\n";
 const SEALED: &str =
     "5647523102000000010000000000000000000000000000001a00000000000000a6ced61cf85546b0e83d146af583bacfac81ca9c755132b003bd6017eada7f4e\n";
 
+/// The same with the flag keep.
+const KEEPING: &str =
+    "5647523102000000010000000000000001000000000000001a00000000000000bb439fec280afa944b1b90f1d411f393247a634d1f623949754a5f933344d1bc\n";
+
 #[test]
 fn a_failing_read_writes_nothing(rt: HostRuntime) -> Result<(), Fail> {
     let alloc = rt.alloc();
@@ -109,8 +114,10 @@ fn a_failing_read_writes_nothing(rt: HostRuntime) -> Result<(), Fail> {
         ("asm", "ret\n# and this\n", RET),
         ("dis", RET, "ret\n"),
         ("box", RET, SEALED),
+        ("box keep", RET, KEEPING),
         ("check", SEALED, "ok 1 0\n"),
         ("reseal", SEALED, SEALED),
+        ("reseal", KEEPING, KEEPING),
     ] {
         // So many calls give bytes, and one more says that there are none left.
         let calls = (input.len() as u64 + 4) / 5 + 1;

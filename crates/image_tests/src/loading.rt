@@ -22,8 +22,8 @@ fn hmac_has_the_value_of_the_standard(rt: HostRuntime) {
     assert!(rt; hmac(&[0x0b; 20], b"Hi There") == wanted);
 }
 
-/// The image of `ret` with these data bytes.
-fn image_with(rt: &impl Abort, alloc: Global, body: &[u8]) -> Loaded
+/// The image of `ret` with these data bytes, which keeps the segments of its grafts or doesn't.
+fn image_of(rt: &impl Abort, alloc: Global, keep: bool, body: &[u8]) -> Loaded
     requires { length body.now ≤ 4096 }
 {
     let ret = Instr {
@@ -33,8 +33,26 @@ fn image_with(rt: &impl Abort, alloc: Global, body: &[u8]) -> Loaded
         c: 0,
         imm: 0,
     };
-    let bytes = seal_under(alloc, &KEYS, &[ret], body).expect(rt, "memory");
+    let bytes = seal_under(alloc, &KEYS, keep, &[ret], body).expect(rt, "memory");
     load(alloc, &KEYS, bytes.as_slice()).expect(rt, "an image")
+}
+
+/// The same of one that doesn't.
+fn image_with(rt: &impl Abort, alloc: Global, body: &[u8]) -> Loaded
+    requires { length body.now ≤ 4096 }
+{
+    image_of(rt, alloc, false, body)
+}
+
+#[test]
+fn an_image_keeps_where_it_was_sealed_so(rt: HostRuntime) {
+    let alloc = rt.alloc();
+    for keep in [false, true] {
+        let image = image_of(&rt, alloc, keep, b"a");
+        assert_eq!(rt; image.keep(), keep);
+        assert_eq!(rt; image.flags(), if keep { 1 } else { 0 });
+        assert!(rt; image.body() == b"a".as_slice());
+    }
 }
 
 #[test]

@@ -141,7 +141,8 @@ fn top(out: &mut Buffer, t: Option<TopRow>)
     }
 }
 
-/// A record, with the value that it puts back.
+/// A record, with the value that it puts back; of a kept segment the graft alone, since its bytes
+/// have no place in a line.
 fn inverse(out: &mut Buffer, i: Inverse)
     requires { length out.old.items + 23 ≤ 2048 }
     ensures text { out.new.items ≡ out.old.items ++ inverse_text i }
@@ -175,6 +176,11 @@ fn inverse(out: &mut Buffer, i: Inverse)
             spaced_u8(out, kind);
             spaced_u8(out, k);
             spaced_u32(out, v)
+        }
+        Inverse::Segment(q, pt) => {
+            add(out, b"seg".as_slice());
+            spaced_u8(out, q);
+            spaced_u8(out, pt)
         }
     }
 }
