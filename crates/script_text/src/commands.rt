@@ -1,126 +1,163 @@
 //! The commands of a script: their words, their places and the forms of their further words.
 
-ghost use Rattle.std.specs.Prelude.{◌≡◌, ℕ, ◌≤◌, List, ◌∷◌, length, find};
+ghost use Rattle.std.specs.Prelude.{◌≡◌, ◌≤◌, ◌∷◌, length, cond, Some, None};
 ghost use Rattle.kernel_model.specs.World.{same_bytes};
-ghost use Rattle.kernel_model.specs.Script.{call_word, command_word, command_named, is_setup, call_forms, forms_of};
+ghost use Rattle.kernel_model.specs.declared.Command.TheVariants as command_is;
+ghost use Rattle.kernel_model.specs.Script.{command_named, is_setup, call_forms, forms_of};
 
 use kernel_model::{CallName, Command, Form};
 
-/// The commands whose words begin with `s`, in order.
-fn beginning_with_s() -> &'static [Command]
-    ensures { (rest : List ℕ) →
-        find (λ c. same_bytes (command_word c) (115 ∷ rest)) result.now
-        ≡ command_named (115 ∷ rest) }
+/// The command of a word that is `b` and goes on like this.
+fn named_b(rest: &[u8]) -> Option<Command>
+    ensures { result ≡ command_named (98 ∷ rest.now) }
 {
-    [
-        Command::Step,
-        Command::Call(CallName::Spawn),
-        Command::Call(CallName::Sync),
-        Command::Call(CallName::Serve),
-        Command::Call(CallName::StreamRead),
-        Command::Call(CallName::StreamWrite),
-    ]
-    .as_slice()
+    if b"oot".as_slice() == rest {
+        Some(Command::Boot)
+    } else if b"ill".as_slice() == rest {
+        Some(Command::Call(CallName::Bill))
+    } else {
+        None
+    }
 }
 
-/// The commands whose words begin with this byte, in order.
-fn beginning_with(first: u8) -> &'static [Command]
-    ensures { (rest : List ℕ) →
-        find (λ c. same_bytes (command_word c) (first ∷ rest)) result.now
-        ≡ command_named (first ∷ rest) }
+/// The command of a word that is `f` and goes on like this.
+fn named_f(rest: &[u8]) -> Option<Command>
+    ensures { result ≡ command_named (102 ∷ rest.now) }
+{
+    if b"rames".as_slice() == rest {
+        Some(Command::Frames)
+    } else if b"und".as_slice() == rest {
+        Some(Command::Call(CallName::Fund))
+    } else {
+        None
+    }
+}
+
+/// The command of a word that is `g` and goes on like this.
+fn named_g(rest: &[u8]) -> Option<Command>
+    ensures { result ≡ command_named (103 ∷ rest.now) }
+{
+    if b"rant".as_slice() == rest {
+        Some(Command::Grant)
+    } else if b"ive".as_slice() == rest {
+        Some(Command::Call(CallName::Give))
+    } else {
+        None
+    }
+}
+
+/// The command of a word that is `i` and goes on like this.
+fn named_i(rest: &[u8]) -> Option<Command>
+    ensures { result ≡ command_named (105 ∷ rest.now) }
+{
+    if b"mage".as_slice() == rest {
+        Some(Command::Image)
+    } else if b"nstall".as_slice() == rest {
+        Some(Command::Call(CallName::Install))
+    } else {
+        None
+    }
+}
+
+/// The command of a word that is `p` and goes on like this.
+fn named_p(rest: &[u8]) -> Option<Command>
+    ensures { result ≡ command_named (112 ∷ rest.now) }
+{
+    if b"eek".as_slice() == rest {
+        Some(Command::Call(CallName::Peek))
+    } else if b"oke".as_slice() == rest {
+        Some(Command::Call(CallName::Poke))
+    } else if b"atience".as_slice() == rest {
+        Some(Command::Patience)
+    } else {
+        None
+    }
+}
+
+/// The command of a word that is `r` and goes on like this.
+fn named_r(rest: &[u8]) -> Option<Command>
+    ensures { result ≡ command_named (114 ∷ rest.now) }
+{
+    if b"ead".as_slice() == rest {
+        Some(Command::Call(CallName::Read))
+    } else if b"aw".as_slice() == rest {
+        Some(Command::Raw)
+    } else if b"emove".as_slice() == rest {
+        Some(Command::Call(CallName::Remove))
+    } else {
+        None
+    }
+}
+
+/// The command of a word that is `s` and goes on like this.
+fn named_s(rest: &[u8]) -> Option<Command>
+    ensures { result ≡ command_named (115 ∷ rest.now) }
+{
+    if b"tep".as_slice() == rest {
+        Some(Command::Step)
+    } else if b"pawn".as_slice() == rest {
+        Some(Command::Call(CallName::Spawn))
+    } else if b"ync".as_slice() == rest {
+        Some(Command::Call(CallName::Sync))
+    } else if b"erve".as_slice() == rest {
+        Some(Command::Call(CallName::Serve))
+    } else if b"read".as_slice() == rest {
+        Some(Command::Call(CallName::StreamRead))
+    } else if b"write".as_slice() == rest {
+        Some(Command::Call(CallName::StreamWrite))
+    } else {
+        None
+    }
+}
+
+/// The command of a word that is `t` and goes on like this.
+fn named_t(rest: &[u8]) -> Option<Command>
+    ensures { result ≡ command_named (116 ∷ rest.now) }
+{
+    if b"ick".as_slice() == rest {
+        Some(Command::Tick)
+    } else if b"une".as_slice() == rest {
+        Some(Command::Call(CallName::Tune))
+    } else {
+        None
+    }
+}
+
+/// This call, where a word goes on as its word does.
+#[inline(always)]
+fn call_if(name: CallName, ending: &[u8], rest: &[u8]) -> Option<Command>
+    ensures { result ≡ cond (same_bytes ending.now rest.now) (Some (command_is.Call name)) None }
+{
+    if ending == rest {
+        Some(Command::Call(name))
+    } else {
+        None
+    }
+}
+
+/// The command of the word that begins with this byte and goes on like this.
+fn named_after(first: u8, rest: &[u8]) -> Option<Command>
+    ensures { result ≡ command_named (first ∷ rest.now) }
 {
     match first {
-        b'b' => [Command::Boot, Command::Call(CallName::Bill)].as_slice(),
-        b'c' => [Command::Call(CallName::Close)].as_slice(),
-        b'd' => [Command::Call(CallName::Default)].as_slice(),
-        b'e' => [Command::Call(CallName::Exit)].as_slice(),
-        b'f' => [Command::Frames, Command::Call(CallName::Fund)].as_slice(),
-        b'g' => [Command::Grant, Command::Call(CallName::Give)].as_slice(),
-        b'i' => [Command::Image, Command::Call(CallName::Install)].as_slice(),
-        b'l' => [Command::Call(CallName::Lock)].as_slice(),
-        b'o' => [Command::Call(CallName::Open)].as_slice(),
-        b'p' => {
-            [
-                Command::Patience,
-                Command::Call(CallName::Poke),
-                Command::Call(CallName::Peek),
-            ]
-            .as_slice()
-        }
-        b'r' => {
-            [
-                Command::Raw,
-                Command::Call(CallName::Read),
-                Command::Call(CallName::Remove),
-            ]
-            .as_slice()
-        }
-        b's' => beginning_with_s(),
-        b't' => [Command::Tick, Command::Call(CallName::Tune)].as_slice(),
-        b'u' => [Command::Call(CallName::Unlock)].as_slice(),
-        b'w' => [Command::Call(CallName::Write)].as_slice(),
-        b'y' => [Command::Call(CallName::Yield)].as_slice(),
-        _ => [].as_slice(),
+        b'b' => named_b(rest),
+        b'c' => call_if(CallName::Close, b"lose".as_slice(), rest),
+        b'd' => call_if(CallName::Default, b"efault".as_slice(), rest),
+        b'e' => call_if(CallName::Exit, b"xit".as_slice(), rest),
+        b'f' => named_f(rest),
+        b'g' => named_g(rest),
+        b'i' => named_i(rest),
+        b'l' => call_if(CallName::Lock, b"ock".as_slice(), rest),
+        b'o' => call_if(CallName::Open, b"pen".as_slice(), rest),
+        b'p' => named_p(rest),
+        b'r' => named_r(rest),
+        b's' => named_s(rest),
+        b't' => named_t(rest),
+        b'u' => call_if(CallName::Unlock, b"nlock".as_slice(), rest),
+        b'w' => call_if(CallName::Write, b"rite".as_slice(), rest),
+        b'y' => call_if(CallName::Yield, b"ield".as_slice(), rest),
+        _ => None,
     }
-}
-
-/// The word of a system call.
-fn word_of_call(name: CallName) -> &'static [u8]
-    ensures { result.now ≡ call_word name }
-{
-    match name {
-        CallName::Spawn => b"spawn".as_slice(),
-        CallName::Exit => b"exit".as_slice(),
-        CallName::Yield => b"yield".as_slice(),
-        CallName::Sync => b"sync".as_slice(),
-        CallName::Open => b"open".as_slice(),
-        CallName::Close => b"close".as_slice(),
-        CallName::Read => b"read".as_slice(),
-        CallName::Write => b"write".as_slice(),
-        CallName::Lock => b"lock".as_slice(),
-        CallName::Unlock => b"unlock".as_slice(),
-        CallName::Poke => b"poke".as_slice(),
-        CallName::Peek => b"peek".as_slice(),
-        CallName::Tune => b"tune".as_slice(),
-        CallName::Default => b"default".as_slice(),
-        CallName::Give => b"give".as_slice(),
-        CallName::Install => b"install".as_slice(),
-        CallName::Remove => b"remove".as_slice(),
-        CallName::Fund => b"fund".as_slice(),
-        CallName::Bill => b"bill".as_slice(),
-        CallName::Serve => b"serve".as_slice(),
-        CallName::StreamRead => b"sread".as_slice(),
-        CallName::StreamWrite => b"swrite".as_slice(),
-    }
-}
-
-/// The word of a command.
-fn word_of(command: Command) -> &'static [u8]
-    ensures { result.now ≡ command_word command }
-{
-    match command {
-        Command::Frames => b"frames".as_slice(),
-        Command::Patience => b"patience".as_slice(),
-        Command::Grant => b"grant".as_slice(),
-        Command::Boot => b"boot".as_slice(),
-        Command::Tick => b"tick".as_slice(),
-        Command::Step => b"step".as_slice(),
-        Command::Raw => b"raw".as_slice(),
-        Command::Image => b"image".as_slice(),
-        Command::Call(name) => word_of_call(name),
-    }
-}
-
-/// The first of these commands that has this word.
-fn find_command(commands: &[Command], word: &[u8]) -> Option<Command>
-    ensures { result ≡ find (λ c. same_bytes (command_word c) word.now) commands.now }
-{
-    for command in commands {
-        if word_of(*command) == word {
-            return Some(*command);
-        }
-    }
-    None
 }
 
 /// The command of a word.
@@ -128,7 +165,7 @@ pub(crate) fn named(word: &[u8]) -> Option<Command>
     ensures { result ≡ command_named word.now }
 {
     match word.split_first() {
-        Some((first, _)) => find_command(beginning_with(*first), word),
+        Some((first, rest)) => named_after(*first, rest),
         None => None,
     }
 }

@@ -21,10 +21,12 @@ use Rattle.kernel_model.specs.Text.{line}
 use Rattle.vino_top.specs.Standing.{Seen, StandsFor, IsBegun, placed_left_line, placed_left_lines, last_bytes, last_status}
 use Rattle.vino_base.specs.Streams.{DeviceSeen, SourceSeen, SinkSeen, IsUsed, not_used, used_then}
 use Rattle.filters.specs.Filtered.{AppendsPart, HasEnded}
-use Rattle.vino_top.specs.Run.{Place, first_on, script_lines, lines_run, pieces_run, outcome_at, IsFirst, Feeds, StopsAt, stop_status, is_sink_failed, Reached, Ran, Broke, Lacked}
+use Rattle.vino_top.specs.Parsed.{Parsed, first_parsed}
+use Rattle.vino_top.specs.Run.{Place, parsed_of, first_on, script_lines, lines_run, pieces_run, outcome_at, IsFirst, Feeds, StopsAt, stop_status, is_sink_failed, Reached, Ran, Broke, Lacked}
 use Rattle.vino_top.specs.declared.run.Stop.{Stop}
 use Rattle.vino_top.specs.declared.run.Stop.TheVariants.{SinkFailed, NoMemory}
 use Rattle.vino_top.proofs.LineLemmas.{script_more}
+use Rattle.vino_top.proofs.ParsedLemmas.{EndsAs, going_ends, refused_ends, text_ends}
 use Rattle.vino_top.proofs.SessionLemmas.{up_is_down}
 use Rattle.vino_top.proofs.RunLemmas.{fed_none, fed_more, fed_short, stops_fed, stops_from}
 
@@ -42,6 +44,10 @@ begun_stands size s known a begun first =
       booted = λ up. up_is_down (sym up ∙ begun.booted);
       blocks = first.blocks;
     }
+
+-- and no line came
+begun_parsed : (s : Seen) → IsBegun s → parsed_of s ≡ first_parsed
+begun_parsed s begun = rw (begun.booted, begun.lines, begun.refused) refl
 
 -- before the first read
 pub reached_first : (c : Place) (s : Seen) (r g : Option (List ℕ)) (d : DiskSeen) (l : List ℕ) → l ≡ [] → Reached c s s r r g g d d l (SCRIPT_BYTES + 1)
@@ -107,10 +113,10 @@ ends_last status a pieces last =
 -- How a run ends, by how its outcome does.
 ran_by : (c : Place) (s t : Seen) (x y : SourceSeen) (r2 : Option (List ℕ)) (k m : SinkSeen) (g2 : Option (List ℕ)) (d e : DiskSeen) (l : List ℕ) (left status : ℕ) (ending : Ending) (last : List ℕ) →
     IsBegun s → (p : Reached c s t x.rest r2 k.got g2 d e l left) → Consumes r2 y.rest [] → Appends g2 m.got last →
-    (t.refused ≡ true) ⊎ HasEnded ending p.taken x y →
+    (t.refused ≡ true) ⊎ HasEnded ending p.taken x y → EndsAs (parsed_of t) ending l status last →
     ((a : Session) (pieces : List (List ℕ)) → StandsFor t e.known a → EndsSo (outcome_of ending a pieces l) a pieces status last) →
     Ran c x y k m d e status
-ran_by c s t x y r2 k m g2 d e l left status ending last begun p kept more ended out =
+ran_by c s t x y r2 k m g2 d e l left status ending last begun p kept more ended ends out =
     let lines = script_lines p.taken in
     let from = λ (a : Session) (first : IsFirst c.size d.known a). begun_stands c.size s d.known a begun first in
     let is = λ (a : Session) (first : IsFirst c.size d.known a).
@@ -118,6 +124,7 @@ ran_by c s t x y r2 k m g2 d e l left status ending last begun p kept more ended
     ∙ ap (outcome_of ending (lines_run c a lines p.fed.ios) (pieces_run c a lines p.fed.ios)) (sym p.fed.line_is) in
     let so = λ (a : Session) (first : IsFirst c.size d.known a).
     out (lines_run c a lines p.fed.ios) (pieces_run c a lines p.fed.ios) (p.fed.stands a (from a first)) in
+    let text = text_ends (parsed_of s) (parsed_of t) p.taken l p.fed.out last ending status (begun_parsed s begun) p.fed.line_is p.fed.by_text ends in
     record {
       taken = p.taken;
       ending = ending;
@@ -127,9 +134,13 @@ ran_by c s t x y r2 k m g2 d e l left status ending last begun p kept more ended
       one_each = p.fed.one_each;
       calls = p.fed.calls;
       ended = elim ended [
-        | inl refused ↦ inl (λ a first. (p.fed.stands a (from a first)).refused ∙ refused)
+        | inl refused ↦ inl (ap (λ (q : Parsed). q.refused) (sym text.parsed) ∙ refused)
         | inr so ↦ inr so
       ];
+      status_by_text = text.status_is;
+      out = p.fed.out ++ last;
+      took = Appends-trans _ _ _ _ _ p.fed.took more;
+      refusal = text.refusal;
       used = λ a first. p.fed.used a (from a first);
       status_is = λ a first. (so a first).status_is ∙ ap (λ (o : Outcome). o.status) (sym (is a first));
       appended = λ a first. rw (is a first, (so a first).bytes) (Appends-trans _ _ _ _ _ (p.fed.appended a (from a first)) more);
@@ -163,7 +174,7 @@ pub ran_fault : (c : Place) (s t : Seen) (x y z : SourceSeen) (k m : SinkSeen) (
     IsUsed x.device y.device false → IsUsed y.device z.device true → Ran c x z k m d e 3
 ran_fault c s t x y z k m d e l left begun p going some kept before failed =
     ran_by c s t x z y.rest k m m.got d e l left 3 Fault [] begun p (keeps_consumes y.rest z.rest kept) (Appends-nil m.got)
-    (inr (omega (arith, p.count), (used_then before failed).rose refl))
+    (inr (omega (arith, p.count), (used_then before failed).rose refl)) (going_ends (parsed_of t) Fault l 3 [] going refl (record { before = []; is = refl }))
     (λ a pieces stands. rw (going_outcome Fault a pieces l (refused_as t e.known a false stands going)) (ends_plain 3 a pieces))
   where
     keeps_consumes : (r r2 : Option (List ℕ)) → Keeps r r2 → Consumes r r2 []
@@ -174,13 +185,14 @@ pub ran_over : (c : Place) (s t : Seen) (x y : SourceSeen) (k m : SinkSeen) (d e
     IsBegun s → Reached c s t x.rest y.rest k.got m.got d e l left → left ≡ 0 → t.refused ≡ false → Ran c x y k m d e 7
 ran_over c s t x y k m d e l left begun p none going =
     ran_by c s t x y y.rest k m m.got d e l left 7 Over [] begun p (Consumes-nil y.rest) (Appends-nil m.got) (inr (omega (arith, p.count, none)))
+    (going_ends (parsed_of t) Over l 7 [] going refl (record { before = []; is = refl }))
     (λ a pieces stands. rw (going_outcome Over a pieces l (refused_as t e.known a false stands going)) (ends_plain 7 a pieces))
 
 -- a refused line
 pub ran_stopped : (c : Place) (s t : Seen) (x y : SourceSeen) (k m : SinkSeen) (d e : DiskSeen) (l : List ℕ) (left : ℕ) →
     IsBegun s → Reached c s t x.rest y.rest k.got m.got d e l left → t.refused ≡ true → Ran c x y k m d e 2
 ran_stopped c s t x y k m d e l left begun p refused =
-    ran_by c s t x y y.rest k m m.got d e l left 2 Fault [] begun p (Consumes-nil y.rest) (Appends-nil m.got) (inl refused)
+    ran_by c s t x y y.rest k m m.got d e l left 2 Fault [] begun p (Consumes-nil y.rest) (Appends-nil m.got) (inl refused) (refused_ends (parsed_of t) Fault l refused)
     (λ a pieces stands. rw (refused_outcome Fault a pieces l (refused_as t e.known a true stands refused)) (ends_plain 2 a pieces))
 
 -- the end of the input: behind a newline, or behind other bytes
@@ -190,6 +202,11 @@ end_so t known a pieces [] stands =
 end_so t known a pieces (x ∷ l) stands =
     subst (λ (n : ℕ). EndsSo (at_end a pieces (x ∷ l)) a pieces 2 (line (fault_text (suc n) Unfinished))) stands.lines (ends_last 2 a pieces (line (fault_text (suc a.lines) Unfinished)))
 
+-- the same by the text
+end_text : (t : Seen) (l : List ℕ) → t.refused ≡ false → EndsAs (parsed_of t) End l (last_status l) (last_bytes t l)
+end_text t [] going = going_ends (parsed_of t) End [] 0 (last_bytes t []) going refl (record { before = last_bytes t []; is = sym (append-nil (last_bytes t [])) })
+end_text t (x ∷ l) going = going_ends (parsed_of t) End (x ∷ l) 2 (last_bytes t (x ∷ l)) going refl (record { before = []; is = refl })
+
 -- how the last lines end a run
 pub ran_finish : (c : Place) (s t : Seen) (x y : SourceSeen) (r2 : Option (List ℕ)) (k m : SinkSeen) (g2 : Option (List ℕ)) (d e : DiskSeen) (l : List ℕ) (left status : ℕ) →
     IsBegun s → Reached c s t x.rest r2 k.got g2 d e l left → t.refused ≡ false → 0 < left → Consumes r2 y.rest [] → IsAtEnd y.rest →
@@ -197,7 +214,7 @@ pub ran_finish : (c : Place) (s t : Seen) (x y : SourceSeen) (r2 : Option (List 
 ran_finish c s t x y r2 k m g2 d e l left status begun p going some kept end done other =
     let last = done other in
     rw last.0
-    (ran_by c s t x y r2 k m g2 d e l left (last_status l) End (last_bytes t l) begun p kept last.1 (inr (omega (arith, p.count), end))
+    (ran_by c s t x y r2 k m g2 d e l left (last_status l) End (last_bytes t l) begun p kept last.1 (inr (omega (arith, p.count), end)) (end_text t l going)
     (λ a pieces stands. rw (going_outcome End a pieces l (refused_as t e.known a false stands going)) (end_so t e.known a pieces l stands)))
 
 -- ---- runs that stop

@@ -1,4 +1,6 @@
 pub mod PlaceLemmas
+pub mod ParsedLemmas
+pub mod TextLawLemmas
 pub mod RowLemmas
 pub mod SessionLemmas
 pub mod LineLemmas

@@ -14,10 +14,11 @@ use Rattle.kernel_model.specs.Session.{Session}
 use Rattle.kernel_model.specs.Outcome.{lines_after, rest_after, ends_line, ended_line}
 use Rattle.disk_log.specs.Seen.{DiskSeen}
 use Rattle.filters.specs.Filtered.{AppendsPart}
-use Rattle.vino_top.specs.Run.{Place, line_run, lines_run, pieces_run, Uses, UsesAll, MadeAll, Left, LineMatches, RunsLine, WantsAt, Feeds, StopsAt, TakesLine}
+use Rattle.vino_top.specs.Run.{Place, line_run, lines_run, parsed_of, pieces_run, Uses, UsesAll, MadeAll, Left, LineMatches, RunsLine, WantsAt, Feeds, StopsAt, TakesLine}
 use Rattle.vino_top.specs.Standing.{Seen, StandsFor}
 use Rattle.vino_top.specs.declared.run.Stop.{Stop}
 use Rattle.vino_top.specs.declared.run.Stop.TheVariants.{SinkFailed, NoMemory}
+use Rattle.vino_top.proofs.ParsedLemmas.{goes_none, goes_more}
 use Rattle.vino_top.proofs.LineLemmas.{lines-append, rest-append, lines_ended, lines_gone, rest_ended, rest_gone, rest_short}
 
 -- ---- lists of calls
@@ -114,6 +115,9 @@ fed_none c s l g d =
       stands = λ a from. from;
       used = λ a from. tt;
       appended = λ a from. Appends-nil g;
+      out = [];
+      took = Appends-nil g;
+      by_text = goes_none (parsed_of s);
     }
 
 -- more bytes are fed
@@ -137,6 +141,9 @@ fed_more c s t u l m n xs ys g h k d e f p q =
       appended = λ a from.
           rw (lines, pieces-append c a (lines_after l xs) (lines_after (rest_after l xs) ys) p.ios second.ios p.one_each, concat-append (pieces_run c a (lines_after l xs) p.ios) (pieces_run c (lines_run c a (lines_after l xs) p.ios) (lines_after (rest_after l xs) ys) second.ios))
           (Appends-trans _ _ _ _ _ (p.appended a from) (second.appended (lines_run c a (lines_after l xs) p.ios) (p.stands a from)));
+      out = p.out ++ second.out;
+      took = Appends-trans _ _ _ _ _ p.took second.took;
+      by_text = rw lines (goes_more (parsed_of s) (parsed_of t) (parsed_of u) (lines_after l xs) (lines_after (rest_after l xs) ys) p.out second.out p.by_text second.by_text);
     }
 
 -- the line goes on at this byte
@@ -153,6 +160,9 @@ fed_byte c s l byte g d goes =
       stands = λ a from. rw gone from;
       used = λ a from. rw gone tt;
       appended = λ a from. rw gone (Appends-nil g);
+      out = [];
+      took = Appends-nil g;
+      by_text = rw gone (goes_none (parsed_of s));
     }
 
 -- a line ended at this byte
@@ -171,6 +181,9 @@ fed_line c s t l m n byte g h d e ends is empty p =
       stands = λ a from. rw (ended, is) (comes a from).stands;
       used = λ a from. rw (ended, is) (line_uses c m s t d e p.out r a from, tt);
       appended = λ a from. rw (ended, is, append-nil (line_run c a m r.io).bytes, ← (comes a from).bytes) p.appended;
+      out = p.out.bytes;
+      took = p.appended;
+      by_text = rw (ended, is) r.by_text;
     }
 
 -- the byte at a place is fed
@@ -192,6 +205,9 @@ fed_plain c s l m xs g d none rest =
       stands = λ a from. rw none from;
       used = λ a from. rw none tt;
       appended = λ a from. rw none (Appends-nil g);
+      out = [];
+      took = Appends-nil g;
+      by_text = rw none (goes_none (parsed_of s));
     }
 
 -- a front, and a front of what is behind it

@@ -16,7 +16,7 @@ use Rattle.script_text.specs.declared.parse.ScriptFault.{ScriptFault as TextFaul
 use Rattle.script_text.specs.declared.parse.ScriptFault.TheVariants as text
 use Rattle.script_text.specs.Answers.{Refuses}
 use Rattle.kernel_model.specs.Kernel as abstract
-use Rattle.kernel_model.specs.Session.{Session, Setup, first_setup, Written, world_of, with_patience, after_parse, after_entry, after_event, running_in, says, silent}
+use Rattle.kernel_model.specs.Session.{Session, fault_text, Setup, first_setup, Written, world_of, with_patience, after_parse, after_entry, after_event, running_in, says, silent}
 use Rattle.kernel_model.specs.Events.{event}
 use Rattle.kernel_model.specs.RawRows.{raw_rows}
 use Rattle.kernel_model.specs.AllCalls.{all_calls}
@@ -34,7 +34,9 @@ use Rattle.kernel_core.specs.declared.kernel.BootNote.{BootNote}
 use Rattle.kernel_core.specs.Standing.{Booted, BootIs}
 use Rattle.vino_top.specs.Built.{present_build}
 use Rattle.vino_top.specs.Standing.{Seen, StandsFor, setup_of, code_seen}
-use Rattle.vino_top.specs.Run.{Place, line_run, Left, LeavesText, LineMatches, RunsLine, RunsEntry, boot_line}
+use Rattle.vino_top.specs.Parsed.{Parsed, parsed_entry}
+use Rattle.vino_top.specs.Run.{Place, line_run, parsed_of, Left, LeavesText, LineMatches, RunsLine, RunsEntry, boot_line}
+use Rattle.vino_top.proofs.ParsedLemmas.{goes_refused, goes_entry, goes_fault}
 
 -- what is booted isn't not booted
 pub up_is_down : {A : Type 0} → true ≡ false → A
@@ -77,6 +79,7 @@ event_runs c s x what notes out d e booted h text kept =
     record {
       io = h.io;
       made = h.made;
+      parsed = refl;
       comes = λ a rest stands.
           let has = stands.booted booted in
           let io = h.io ++ rest in
@@ -155,17 +158,17 @@ boot_comes c s x (y ∷ z ∷ io) note out known told_new a rest one stands is s
 pub boot_runs : (c : Place) (s : Seen) (x : Placed) (note : BootNote) (out : Left) (d e : DiskSeen) →
     Booted all_calls s.setup c.size x note d e → LeavesText out (line (boot_line note)) → RunsEntry c Boot s (record s { placed = x; booted = true }) d e out
 boot_runs c s x note out d e h said =
-    record { io = h.io; made = h.made; comes = λ a rest stands. boot_comes c s x h.io note out d.known e.known a rest h.one stands (h.is a.blocks stands.blocks) said }
+    record { io = h.io; made = h.made; parsed = refl; comes = λ a rest stands. boot_comes c s x h.io note out d.known e.known a rest h.one stands (h.is a.blocks stands.blocks) said }
 
 -- a session went on by an entry that leaves the disk alone
-pub alone : (c : Place) (entry : Entry) (s t : Seen) (out : Left) (d : DiskSeen) →
+pub alone : (c : Place) (entry : Entry) (s t : Seen) (out : Left) (d : DiskSeen) → parsed_of t ≡ parsed_entry (parsed_of s) entry →
     ((a : Session) (rest : List Bool) → StandsFor s d.known a →
     LineMatches t d.known out (after_entry present_build c.keys c.size a entry rest) rest) → RunsEntry c entry s t d d out
-alone c entry s t out d comes = record { io = []; made = made_none d.faults d.plan; comes = comes }
+alone c entry s t out d parsed comes = record { io = []; made = made_none d.faults d.plan; parsed = parsed; comes = comes }
 
 -- a blank line
 pub blank_runs : (c : Place) (s : Seen) (out : Left) (d : DiskSeen) → LeavesText out [] → RunsEntry c Blank s s d d out
-blank_runs c s out d silent = alone c Blank s s out d (λ a rest stands. record { stands = stands; left = refl; bytes = silent.bytes_are; notes = silent.no_notes })
+blank_runs c s out d silent = alone c Blank s s out d refl (λ a rest stands. record { stands = stands; left = refl; bytes = silent.bytes_are; notes = silent.no_notes })
 
 -- a session with another set-up
 set_up : (s : Seen) (u : _) (known : Option (List (List ℕ))) (a : Session) (v : Setup) → v ≡ setup_of u → StandsFor s known a → StandsFor (record s { setup = u }) known (record a { setup = v })
@@ -176,14 +179,14 @@ set_up s u known a v is stands =
 pub frames_runs : (c : Place) (s : Seen) (n : ℕ) (out : Left) (d : DiskSeen) → LeavesText out [] →
     RunsEntry c (Frames n) s (record s { setup = record (s.setup) { frames = n } }) d d out
 frames_runs c s n out d silent =
-    alone c (Frames n) s (record s { setup = record (s.setup) { frames = n } }) out d (λ a rest stands.
+    alone c (Frames n) s (record s { setup = record (s.setup) { frames = n } }) out d refl (λ a rest stands.
     record { stands = set_up s (record (s.setup) { frames = n }) d.known a (record (a.setup) { frames = n }) (ap (λ (u : Setup). record u { frames = n }) stands.setup) stands; left = refl; bytes = silent.bytes_are; notes = silent.no_notes })
 
 -- a line that sets the grant
 pub grant_runs : (c : Place) (s : Seen) (n : ℕ) (out : Left) (d : DiskSeen) → LeavesText out [] →
     RunsEntry c (Grant n) s (record s { setup = record (s.setup) { grant = n } }) d d out
 grant_runs c s n out d silent =
-    alone c (Grant n) s (record s { setup = record (s.setup) { grant = n } }) out d (λ a rest stands.
+    alone c (Grant n) s (record s { setup = record (s.setup) { grant = n } }) out d refl (λ a rest stands.
     record { stands = set_up s (record (s.setup) { grant = n }) d.known a (record (a.setup) { grant = n }) (ap (λ (u : Setup). record u { grant = n }) stands.setup) stands; left = refl; bytes = silent.bytes_are; notes = silent.no_notes })
 
 -- a line that sets the patience with a kind of object
@@ -191,7 +194,7 @@ pub patience_runs : (c : Place) (s : Seen) (kind ticks : ℕ) (patience : List �
     (λ k. slice_index_or patience k 10) ≡ at kind ticks (λ k. slice_index_or s.setup.patience k 10) → LeavesText out [] →
     RunsEntry c (Patience kind ticks) s (record s { setup = record (s.setup) { patience = patience } }) d d out
 patience_runs c s kind ticks patience out d is silent =
-    alone c (Patience kind ticks) s (record s { setup = record (s.setup) { patience = patience } }) out d (λ a rest stands.
+    alone c (Patience kind ticks) s (record s { setup = record (s.setup) { patience = patience } }) out d refl (λ a rest stands.
     record {
       stands = set_up s (record (s.setup) { patience = patience }) d.known a (with_patience kind ticks a.setup)
           (ap (with_patience kind ticks) stands.setup ∙ ap (λ (f : ℕ → ℕ). record (setup_of s.setup) { patience = f }) (sym is)) stands;
@@ -203,9 +206,9 @@ patience_runs c s kind ticks patience out d is silent =
 -- an entry after `boot` that stands before it
 pub unbooted_runs : (c : Place) (entry : Entry) (s : Seen) (out : Left) (d : DiskSeen) → ((a : Session) (rest : List Bool) →
     after_entry present_build c.keys c.size a entry rest ≡ running_in present_build c.keys c.size a entry a.kernel rest) →
-    s.booted ≡ false → LeavesText out [] → RunsEntry c entry s s d d out
-unbooted_runs c entry s out d runs booted said =
-    alone c entry s s out d (λ a rest stands.
+    ((p : Parsed) → p ≡ parsed_entry p entry) → s.booted ≡ false → LeavesText out [] → RunsEntry c entry s s d d out
+unbooted_runs c entry s out d runs parsed booted said =
+    alone c entry s s out d (parsed (parsed_of s)) (λ a rest stands.
     let run : after_entry present_build c.keys c.size a entry rest ≡ silent a rest =
     runs a rest ∙ ap (λ (o : Option abstract.Kernel). running_in present_build c.keys c.size a entry o rest) (stands.unbooted booted) in
     subst (λ w. LineMatches s d.known out w rest) (sym run) (record { stands = stands; left = refl; bytes = said.bytes_are; notes = said.no_notes }))
@@ -215,7 +218,7 @@ pub raw_runs : SameShown all_calls → (c : Place) (s : Seen) (out : Left) (d : 
     LeavesText out (row_lines (s.events + 1) (placed_rows s.placed)) →
     RunsEntry c Raw s (record s { events = s.events + 1 }) d d out
 raw_runs shown c s out d booted said =
-    alone c Raw s (record s { events = s.events + 1 }) out d (λ a rest stands.
+    alone c Raw s (record s { events = s.events + 1 }) out d refl (λ a rest stands.
     let has = stands.booted booted in
     let n = suc a.events in
     let number = next_number s d.known a stands in
@@ -249,6 +252,7 @@ line_after_refusal c s text out d refused said =
     record {
       io = [];
       made = made_none d.faults d.plan;
+      by_text = goes_refused (parsed_of s) text out.bytes refused said.bytes_are;
       comes = λ a rest stands.
           let is : line_run c a text rest ≡ silent a rest =
           ap (λ (b : Bool). elim b as (λ _. Written) [
@@ -291,6 +295,8 @@ line_entered c s t text out entry d e going is runs =
     record {
       io = runs.io;
       made = runs.made;
+      by_text = goes_entry (parsed_of s) (parsed_of t) text out.bytes entry going is
+          (runs.parsed ∙ ap (λ (n : ℕ). parsed_entry (record (parsed_of s) { lines = n }) entry) (add-one s.lines));
       comes = λ a rest stands.
           subst (λ w. LineMatches t e.known out w rest) (sym (line_parsed c s d.known a text (Ok entry) (runs.io ++ rest) stands going is))
           (runs.comes (record a { lines = suc a.lines }) rest (counted s d.known a stands));
@@ -309,6 +315,9 @@ line_refused c s t text out fault d going is state said =
     record {
       io = [];
       made = made_none d.faults d.plan;
+      by_text = goes_fault (parsed_of s) (parsed_of t) text out.bytes fault going is
+          (ap parsed_of state ∙ ap (λ (n : ℕ). record (parsed_of s) { lines = n; refused = true }) (add-one s.lines))
+          (said.bytes_are ∙ ap (λ (n : ℕ). line (fault_text n fault)) (add-one s.lines));
       comes = λ a rest stands.
           let u = counted s d.known a stands in
           subst (λ w. LineMatches t d.known out w rest) (sym (line_parsed c s d.known a text (Err fault) rest stands going is)) (record {

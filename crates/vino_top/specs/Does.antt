@@ -53,7 +53,7 @@ DemoDoes n size s t k m d e status =
 abbrev pub Does : Asked → (size : ℕ) → (s t : SourceSeen) → (k m : SinkSeen) → (d e : DiskSeen) →
     (status : ℕ) → Type 0
 Does (Run keys) size s t k m d e status = RunDoes (place keys size) s t k m d e status
-Does (Box keys) size s t k m d e status = FilterDoes (filter.Box keys) s t k m d e status
+Does (Box keys keep) size s t k m d e status = FilterDoes (filter.Box keys keep) s t k m d e status
 Does (Check keys) size s t k m d e status = FilterDoes (filter.Check keys) s t k m d e status
 Does (Reseal keys) size s t k m d e status = FilterDoes (filter.Reseal keys) s t k m d e status
 Does Asm size s t k m d e status = FilterDoes filter.Asm s t k m d e status

@@ -1,5 +1,7 @@
 pub mod Built
 pub mod Standing
+pub mod Parsed
+pub mod TextLaw
 pub mod Bounds
 pub mod Run
 pub mod Demos

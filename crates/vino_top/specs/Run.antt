@@ -19,6 +19,7 @@ use Rattle.kernel_core.specs.declared.kernel.BootNote.TheVariants.{Up}
 use Rattle.kernel_core.specs.declared.kernel.BootNote.TheVariants as boot_is
 use Rattle.vino_top.specs.Built.{present_build}
 use Rattle.vino_top.specs.Standing.{Seen, StandsFor}
+use Rattle.vino_top.specs.Parsed.{Parsed, parsed_entry, EndsWith, GoesByText, text_parsed, text_status, text_refusal}
 use Rattle.vino_top.specs.declared.session.Buffers.{Buffers}
 use Rattle.vino_top.specs.declared.run.Stop.{Stop}
 use Rattle.vino_top.specs.declared.run.Stop.TheVariants.{SinkFailed, NoMemory}
@@ -80,6 +81,10 @@ MadeAll d e ios = Made d.faults e.faults d.plan e.plan (flat_map (λ (io : List 
 
 -- ---- a session of the code beside the abstract one
 
+-- how far the code's session has come, by the text of its lines
+abbrev pub parsed_of : Seen → Parsed
+parsed_of s = record { booted = s.booted; lines = s.lines; refused = s.refused }
+
 -- what a line leaves behind: the bytes that it writes, and the notes of its event
 pub record Left : Type 0 where
   pub bytes : List ℕ
@@ -112,6 +117,8 @@ pub record RunsLine (c : Place) (text : List ℕ) (s t : Seen) (d e : DiskSeen)
   pub made : Made d.faults e.faults d.plan e.plan io
   pub comes : (a : Session) (rest : List Bool) → StandsFor s d.known a →
       LineMatches t e.known out (line_run c a text (io ++ rest)) rest
+  -- over any disk, also one that tells nothing
+  pub by_text : GoesByText (parsed_of s) (parsed_of t) (text ∷ []) out.bytes
 
 -- The session went on by this entry, which took the disk from the one to the other and left `out`
 -- behind. Whatever calls behind its own would do, the entry comes to this, and leaves those.
@@ -122,6 +129,8 @@ pub record RunsEntry (c : Place) (entry : Entry) (s t : Seen) (d e : DiskSeen)
   pub made : Made d.faults e.faults d.plan e.plan io
   pub comes : (a : Session) (rest : List Bool) → StandsFor s d.known a →
       LineMatches t e.known out (after_entry present_build c.keys c.size a entry (io ++ rest)) rest
+  -- over any disk, also one that tells nothing
+  pub parsed : parsed_of t ≡ parsed_entry (parsed_of s) entry
 
 -- what is written of a boot
 abbrev pub boot_line : BootNote → List ℕ
@@ -172,6 +181,10 @@ pub record Feeds (c : Place) (s t : Seen) (line line_new bytes : List ℕ)
   pub used : ForEachSession c (StandsFor s d.known) (λ c a. UsesAll c a (lines_after line bytes) ios)
   pub appended : ForEachSession c (StandsFor s d.known)
       (λ c a. Appends got got_new (concat (pieces_run c a (lines_after line bytes) ios)))
+  -- over any disk, also one that tells nothing: the sink took these bytes
+  pub out : List ℕ
+  pub took : Appends got got_new out
+  pub by_text : GoesByText (parsed_of s) (parsed_of t) (lines_after line bytes) out
 
 -- Of these lines some were run, and of what the next one writes the sink took a part, not whole.
 -- The disk is as that line leaves it.
@@ -247,9 +260,10 @@ abbrev pub script_lines : List ℕ → List (List ℕ)
 script_lines taken = lines_after [] (take SCRIPT_BYTES taken)
 
 -- The source gave some bytes, at most one more than a script may have, and reading ended somehow,
--- or stopped behind a refused line. Over the blocks that the disk told: each line makes the calls
--- of its list, the status is that of the outcome, the sink took its bytes, and the disk tells its
--- blocks.
+-- or stopped behind a refused line. Over any disk, also one that tells nothing, the text of the lines
+-- says which line is refused and how the run ends. Over the blocks that the disk told: each line
+-- makes the calls of its list, the status is that of the outcome, the sink took its bytes, and the
+-- disk tells its blocks.
 pub record Ran (c : Place) (s t : SourceSeen) (k m : SinkSeen) (d e : DiskSeen)
     (status : ℕ) : Type 0 where
   pub taken : List ℕ
@@ -259,9 +273,13 @@ pub record Ran (c : Place) (s t : SourceSeen) (k m : SinkSeen) (d e : DiskSeen)
   pub ios : List (List Bool)
   pub one_each : length ios ≡ length (script_lines taken)
   pub calls : MadeAll d e ios
-  pub ended : ForEachSession c (IsFirst c.size d.known)
-      (λ c a. (lines_run c a (script_lines taken) ios).refused ≡ true)
-      ⊎ HasEnded ending taken s t
+  pub ended : ((text_parsed taken).refused ≡ true) ⊎ HasEnded ending taken s t
+  -- over any disk, also one that tells nothing: the status, and what the sink took, which ends with
+  -- the refusal, if there is one
+  pub status_by_text : status ≡ text_status taken ending
+  pub out : List ℕ
+  pub took : Appends k.got m.got out
+  pub refusal : EndsWith out (text_refusal taken ending)
   pub used : ForEachSession c (IsFirst c.size d.known) (λ c a. UsesAll c a (script_lines taken) ios)
   pub status_is : ForEachSession c (IsFirst c.size d.known)
       (λ c a. status ≡ (outcome_at c a.blocks taken ending ios).status)

@@ -13,6 +13,7 @@ ghost use Rattle.graft_points.specs.Shelf.{IsShelf, pol_of, first_choice};
 ghost use Rattle.vino_top.specs.Standing.{seen_of, IsBegun};
 ghost use Rattle.vino_top.specs.Bounds.{IsSessionWithin};
 ghost use Rattle.vino_top.specs.Words.{asked_by};
+ghost use Rattle.vino_top.specs.TextLaw.{TextDecides};
 ghost use Rattle.filters.specs.Filtered.{AppendsPart};
 ghost use Rattle.vino_top.specs.Run.{place, Ran, Broke, Lacked};
 ghost use Rattle.vino_top.specs.Does.{Does};
@@ -47,8 +48,9 @@ pub type AllCalls = Beside<StreamPoints, Beside<EventPoints, Plain>>;
 const READ_BYTES: usize = 65_536;
 
 /// Does what the words ask. `run KEYS` runs the script that the source gives, whose images are
-/// sealed under these keys; `box KEYS` boxes and seals the raw image that it gives, `check KEYS`
-/// says whether a sealed image can be used, and `reseal KEYS` seals one anew under the last key;
+/// sealed under these keys; `box KEYS` boxes and seals the raw image that it gives, with the flag
+/// keep where `keep` stands behind; `check KEYS` says whether a sealed image can be used, and
+/// `reseal KEYS` seals one anew under the last key;
 /// `asm`, `dis` and `lang` assemble, disassemble and compile what it gives; `demo N` runs the
 /// script that `demo_script` gives for N and tells of it in one line. For other words the usage
 /// line is written.
@@ -86,7 +88,7 @@ pub fn vino<S: Source, K: Sink, D: Disk>(
 {
     match words::read_words(words) {
         Asked::Run(keys) => run_script(alloc, &keys, src, out, disk, shelf),
-        Asked::Box(keys) => filters::box_image(alloc, &keys, src, out),
+        Asked::Box(keys, keep) => filters::box_image(alloc, &keys, keep, src, out),
         Asked::Check(keys) => filters::check_image(alloc, &keys, src, out),
         Asked::Reseal(keys) => filters::reseal_image(alloc, &keys, src, out),
         Asked::Asm => filters::asm(alloc, src, out),
@@ -96,6 +98,13 @@ pub fn vino<S: Source, K: Sink, D: Disk>(
         Asked::Nothing => write_usage(out),
     }
 }
+
+/// Over the definitions, too, the text of its lines alone says which line of a run is refused, with
+/// which status the run ends, and which refusal it writes last: neither keys nor blocks nor failing
+/// calls of the disk come into it.
+pub fn text_decides()
+    ensures { TextDecides }
+{}
 
 /// Runs the script that the source gives, with these keys for its images.
 fn run_script<B: Policy, S: Source, K: Sink, D: Disk>(

@@ -15,8 +15,9 @@ use std::alloc::Global;
 pub enum Asked {
     /// `run KEYS` or `run KEYS PATH`: a script is run.
     Run(Keys),
-    /// `box KEYS`: a raw image is boxed and sealed.
-    Box(Keys),
+    /// `box KEYS` or `box KEYS keep`: a raw image is boxed and sealed, and keeps the segments of its
+    /// grafts where the second says so.
+    Box(Keys, bool),
     /// `check KEYS`: a sealed image is loaded.
     Check(Keys),
     /// `reseal KEYS`: a sealed image is sealed anew.
@@ -40,7 +41,7 @@ pub fn read_words(words: &[String]) -> Asked
     match words {
         [word] => asked_one(word.as_bytes()),
         [word, other] => asked_two(word.as_bytes(), other.as_bytes()),
-        [word, keys, _] => asked_three(word.as_bytes(), keys.as_bytes()),
+        [word, keys, third] => asked_three(word.as_bytes(), keys.as_bytes(), third.as_bytes()),
         _ => Asked::Nothing,
     }
 }
@@ -89,7 +90,7 @@ fn asked_keyed(word: &[u8], keys: &[u8]) -> Asked
     if word == b"run".as_slice() {
         Asked::Run(keys)
     } else if word == b"box".as_slice() {
-        Asked::Box(keys)
+        Asked::Box(keys, false)
     } else if word == b"check".as_slice() {
         Asked::Check(keys)
     } else if word == b"reseal".as_slice() {
@@ -99,13 +100,19 @@ fn asked_keyed(word: &[u8], keys: &[u8]) -> Asked
     }
 }
 
-/// What two words and a path ask. The path isn't looked at.
+/// What a word, keys and a third word ask: that is a path, which isn't looked at, or `keep`.
 #[tactic(auto, unfolding(crate::specs::Words::asked_by_three))]
-fn asked_three(word: &[u8], keys: &[u8]) -> Asked
-    ensures { result ≡ asked_by_three word.now keys.now }
+fn asked_three(word: &[u8], keys: &[u8], third: &[u8]) -> Asked
+    ensures { result ≡ asked_by_three word.now keys.now third.now }
 {
-    match read_keys(keys) {
-        Some(keys) if word == b"run".as_slice() => Asked::Run(keys),
-        _ => Asked::Nothing,
+    let Some(keys) = read_keys(keys) else {
+        return Asked::Nothing;
+    };
+    if word == b"run".as_slice() {
+        Asked::Run(keys)
+    } else if word == b"box".as_slice() && third == b"keep".as_slice() {
+        Asked::Box(keys, true)
+    } else {
+        Asked::Nothing
     }
 }

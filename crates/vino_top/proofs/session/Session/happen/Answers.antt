@@ -17,5 +17,5 @@ returns-then-self-clause-runs g c = λ keys.
 
 pub returns-else-self-clause-runs : goal.returns-else-self-clause-runs
 returns-else-self-clause-runs g c = λ keys.
-    unbooted_runs (place keys c.args.size) (Happens (event_with c.args.event c.args.out.now.bytes.items)) (seen_of c.args.self.now) _ (disk_seen (g.D.Disk.blocks c.args.disk.now) (g.D.Disk.plan c.args.disk.now) (g.D.Disk.faults c.args.disk.now)) (λ a rest. refl) c.if-self.false
+    unbooted_runs (place keys c.args.size) (Happens (event_with c.args.event c.args.out.now.bytes.items)) (seen_of c.args.self.now) _ (disk_seen (g.D.Disk.blocks c.args.disk.now) (g.D.Disk.plan c.args.disk.now) (g.D.Disk.faults c.args.disk.now)) (λ a rest. refl) (λ p. refl) c.if-self.false
     (record { bytes_are = c.requires.empty; no_notes = c.requires.no_notes })
