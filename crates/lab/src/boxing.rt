@@ -22,7 +22,7 @@ fn show_graft(rt: &HostRuntime, opened: &Opened, name: &str) -> u8 {
     let lowered = &opened.lowered;
     match place_of(name.as_bytes(), lowered.lab.grafts()) {
         Some(graft) => match lowered.images.as_slice().get(graft) {
-            Some(image) => show_image(rt, image),
+            Some(image) => show_image(rt, image.plain()),
             None => NO_MEMORY,
         },
         None => {

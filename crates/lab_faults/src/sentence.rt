@@ -144,7 +144,8 @@ fn said_of(kind: LabKind) -> (usize, &'static str) {
     match kind {
         LabKind::BadGraft => (
             2,
-            "behind `graft` stands a name, and `language` for a graft in the graft language",
+            "behind `graft` stands a name, then `language` for the graft language, then `keep` for a \
+             segment that is kept",
         ),
         LabKind::BadName => (
             1,
@@ -195,6 +196,24 @@ fn said_of(kind: LabKind) -> (usize, &'static str) {
     }
 }
 
+/// Whether word k of a line is this one.
+fn is_word(line: &[u8], k: usize, word: &[u8]) -> bool {
+    bytes_of(line, place_of_word(line, k)) == word
+}
+
+/// Which word of a line that begins a graft is to blame: the first behind the name that isn't one
+/// of those that may stand there.
+fn blamed_of_graft(line: &[u8]) -> usize {
+    let mut k = 2;
+    if is_word(line, k, b"language") {
+        k += 1;
+    }
+    if is_word(line, k, b"keep") {
+        k += 1;
+    }
+    k
+}
+
 /// Whether the word that is to blame is named in front of what is said.
 fn names_word(kind: LabKind) -> bool {
     !matches!(
@@ -206,7 +225,10 @@ fn names_word(kind: LabKind) -> bool {
 /// What is said of another line.
 fn plain(alloc: Global, line: &[u8], kind: LabKind) -> Result<Sentence, NoMemory> {
     let (k, said) = said_of(kind);
-    let word = place_of_word(line, k);
+    let word = match kind {
+        LabKind::BadGraft => place_of_word(line, blamed_of_graft(line)),
+        _ => place_of_word(line, k),
+    };
     let mut text = Vec::new(alloc);
     if names_word(kind) {
         add(&mut text, b"'")?;

@@ -4,10 +4,10 @@ use Rattle.std.proofs.lemmas.List.{take_more}
 use Rattle.std.proofs.Math.Seq.{drop-cons}
 use Rattle.kernel_model.specs.World.{Image}
 use Rattle.lab_text.specs.Grafts.{Graft}
-use Rattle.lab_text.specs.Lowering.{AreImagesOf, IsWritten, graft_refusal, grafts_refusal}
+use Rattle.lab_text.specs.Lowering.{AreImagesOf, IsImageOf, graft_refusal, grafts_refusal}
 
 -- one more graft, and its image
-AreImagesOf-append : (gs : List Graft) (is : List Image) (g : Graft) (i : Image) → AreImagesOf gs is → IsWritten g.notation g.text i
+AreImagesOf-append : (gs : List Graft) (is : List Image) (g : Graft) (i : Image) → AreImagesOf gs is → IsImageOf g i
     → AreImagesOf (gs ++ g ∷ []) (is ++ i ∷ [])
 AreImagesOf-append [] [] g i h w = (w, tt)
 AreImagesOf-append [] (j ∷ js) g i h w = absurd h
@@ -16,7 +16,7 @@ AreImagesOf-append (k ∷ ks) (j ∷ js) g i h w = (h.0, AreImagesOf-append ks j
 
 -- the grafts up to the next one, and its image
 pub AreImagesOf-more : (gs : List Graft) (is : List Image) (k : ℕ) (g : Graft) (i : Image) → AreImagesOf (take k gs) is → k < length gs
-    → g ≡ get_or gs k g → IsWritten g.notation g.text i → AreImagesOf (take (k + 1) gs) (is ++ i ∷ [])
+    → g ≡ get_or gs k g → IsImageOf g i → AreImagesOf (take (k + 1) gs) (is ++ i ∷ [])
 AreImagesOf-more gs is k g i h within at w =
     rw (take_more gs k g within, ← at) (AreImagesOf-append (take k gs) is g i h w)
 

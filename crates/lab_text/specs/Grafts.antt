@@ -10,19 +10,20 @@ use Rattle.lab_text.specs.declared.graft.Notation.TheVariants.{Assembler, Langua
 use Rattle.lab_text.specs.Words.{is_hex, parts_of, words_before, joined, plain_word}
 use Rattle.lab_text.specs.Settings.{Refusal, refused}
 
--- A graft: its name, what it is written in, the line that begins it, its text, and for each line of
--- the text the line of the file that it comes from.
+-- A graft: its name, what it is written in, whether it keeps its segment, the line that begins it,
+-- its text, and for each line of the text the line of the file that it comes from.
 pub record Graft : Type 0 where
   pub name : List ℕ
   pub notation : Notation
+  pub keep : Bool
   pub begun : ℕ
   pub text : List ℕ
   pub lines : List ℕ
 
 -- a graft with no text yet
-abbrev pub new_graft : List ℕ → Notation → ℕ → Graft
-new_graft name notation begun =
-    record { name = name; notation = notation; begun = begun; text = []; lines = [] }
+abbrev pub new_graft : List ℕ → Notation → (keep : Bool) → ℕ → Graft
+new_graft name notation keep begun =
+    record { name = name; notation = notation; keep = keep; begun = begun; text = []; lines = [] }
 
 -- the place of the graft of this name
 abbrev pub place_of : List ℕ → List Graft → Option ℕ
@@ -44,20 +45,45 @@ name_fault name grafts =
       ]
     ]
 
+-- what one word behind the name of a graft says: what it is written in, and whether it keeps its
+-- segment
+abbrev pub style_by_one : List ℕ → Option (Notation × Bool)
+style_by_one word =
+    elim (same_bytes word (codes "language")) [
+      | true ↦ Some (Language, false)
+      | false ↦ elim (same_bytes word (codes "keep")) [
+        | true ↦ Some (Assembler, true)
+        | false ↦ None
+      ]
+    ]
+
+-- the same of all words behind the name
+abbrev pub style_of : List (List ℕ) → Option (Notation × Bool)
+style_of [] = Some (Assembler, false)
+style_of (word ∷ []) = style_by_one word
+style_of (word ∷ other ∷ []) =
+    elim (same_bytes word (codes "language") && same_bytes other (codes "keep")) [
+      | true ↦ Some (Language, true)
+      | false ↦ None
+    ]
+style_of _ = None
+
 -- a graft of this name, unless it is none
-abbrev pub begun_by : ℕ → List ℕ → Notation → Option LabKind → Result Graft Refusal
-begun_by n name notation (Some fault) = refused n fault
-begun_by n name notation None = Ok (new_graft name notation n)
+abbrev pub begun_by : ℕ → List ℕ → Notation → (keep : Bool) → Option LabKind →
+    Result Graft Refusal
+begun_by n name notation keep (Some fault) = refused n fault
+begun_by n name notation keep None = Ok (new_graft name notation keep n)
+
+-- the same, if the words behind the name are right
+abbrev pub styled_by : ℕ → List ℕ → Option LabKind → Option (Notation × Bool) →
+    Result Graft Refusal
+styled_by n name fault None = refused n kind.BadGraft
+styled_by n name fault (Some style) = begun_by n name style.0 style.1 fault
 
 -- the graft that these words behind `graft` begin
 abbrev pub begun_of : ℕ → List Graft → List (List ℕ) → Result Graft Refusal
-begun_of n grafts (name ∷ []) = begun_by n name Assembler (name_fault name grafts)
-begun_of n grafts (name ∷ word ∷ []) =
-    elim (same_bytes word (codes "language")) [
-      | true ↦ begun_by n name Language (name_fault name grafts)
-      | false ↦ refused n kind.BadGraft
-    ]
-begun_of n grafts _ = refused n kind.BadGraft
+begun_of n grafts [] = refused n kind.BadGraft
+begun_of n grafts (name ∷ words) = styled_by n name (name_fault name grafts) (style_of words)
 
 -- ---- the lines of a graft
 

@@ -20,7 +20,7 @@ pub record Lab : Type 0 where
 
 -- no graft
 abbrev pub no_graft : Graft
-no_graft = new_graft [] Assembler 0
+no_graft = new_graft [] Assembler false 0
 
 -- before the first line
 abbrev pub first_lab : Lab

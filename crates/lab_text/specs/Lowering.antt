@@ -68,12 +68,18 @@ abbrev pub IsWritten : Notation → List ℕ → Image → Type 0
 IsWritten Assembler text image = asm.assemble text ≡ Ok image
 IsWritten Language text image = IsCompiled text image
 
+-- the image of a graft: that of its text, as one that keeps where the graft does
+pub record IsImageOf (g : Graft) (i : Image) : Type 0 where
+  pub plain : Image
+  pub written : IsWritten g.notation g.text plain
+  pub is : i ≡ record { code = plain.code; body = plain.body; keep = g.keep }
+
 -- an image for each graft
 abbrev pub AreImagesOf : List Graft → List Image → Type 0
 AreImagesOf [] [] = ⊤
 AreImagesOf [] (i ∷ is) = ⊥
 AreImagesOf (g ∷ gs) [] = ⊥
-AreImagesOf (g ∷ gs) (i ∷ is) = IsWritten g.notation g.text i × AreImagesOf gs is
+AreImagesOf (g ∷ gs) (i ∷ is) = IsImageOf g i × AreImagesOf gs is
 
 -- ---- the script
 
@@ -85,24 +91,28 @@ box_kind (CallsUnknown pc) = kind.BoxCall pc
 box_kind NoEnd = kind.BoxEnd
 box_kind TooLong = kind.BoxTooLong
 
--- the line that loads sealed code and data into a slot
-unfoldable pub image_line : Keys → (slot : ℕ) → List Instr → (body : List ℕ) → List ℕ
-image_line keys slot code body =
-    codes "image " ++ decimal slot ++ codes " " ++ hex_text (sealed_under keys code body)
+-- the line that loads a sealed image into a slot
+unfoldable pub image_line : Keys → (slot : ℕ) → Image → List ℕ
+image_line keys slot i =
+    codes "image " ++ decimal slot ++ codes " " ++ hex_text (sealed_under keys i)
 
--- the same of boxed code, or why there is none
-abbrev pub boxed_line : Keys → (slot : ℕ) → (body : List ℕ) → Result (List Instr) RewriteFault →
+-- an image with this code in place of its own
+abbrev pub with_code : Image → List Instr → Image
+with_code i code = record { code = code; body = i.body; keep = i.keep }
+
+-- the line of an image with its code boxed, or why there is none
+abbrev pub boxed_line : Keys → (slot : ℕ) → Image → Result (List Instr) RewriteFault →
     Result (List ℕ) LabKind
-boxed_line keys slot body (Err fault) = Err (box_kind fault)
-boxed_line keys slot body (Ok code) = Ok (image_line keys slot code body)
+boxed_line keys slot i (Err fault) = Err (box_kind fault)
+boxed_line keys slot i (Ok code) = Ok (image_line keys slot (with_code i code))
 
 -- the line of an image, boxed or as it stands
 abbrev pub sealed_line : Keys → (slot : ℕ) → (raw : Bool) → Option Image → Result (List ℕ) LabKind
 sealed_line keys slot raw None = Err kind.UnknownGraft
 sealed_line keys slot raw (Some i) =
     elim raw [
-      | true ↦ Ok (image_line keys slot i.code i.body)
-      | false ↦ boxed_line keys slot i.body (rewrite i.code)
+      | true ↦ Ok (image_line keys slot i)
+      | false ↦ boxed_line keys slot i (rewrite i.code)
     ]
 
 -- the line of the script that an item becomes

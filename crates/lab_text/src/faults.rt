@@ -6,7 +6,7 @@ use thiserror::Error;
 /// What is wrong with a line of a lab file.
 #[derive(Clone, Copy, PartialEq, Eq, Debug)]
 pub enum LabKind {
-    /// Behind `graft` there isn't a name alone, or a name and `language`.
+    /// Behind `graft` there isn't a name, then perhaps `language`, then perhaps `keep`.
     BadGraft,
     /// The name of a graft isn't a letter a to z, then letters, digits and `_`, up to 16 bytes.
     BadName,

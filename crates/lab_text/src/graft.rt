@@ -12,12 +12,14 @@ pub enum Notation {
     Language,
 }
 
-/// A graft: its name, what it is written in, the line that begins it, its text, and for each line
-/// of the text the line of the file that it comes from.
+/// A graft: its name, what it is written in, whether it keeps its segment from one completed call
+/// to the next, the line that begins it, its text, and for each line of the text the line of the
+/// file that it comes from.
 #[derive(Drop)]
 pub struct Graft {
     pub(crate) name: Text,
     pub(crate) notation: Notation,
+    pub(crate) keep: bool,
     pub(crate) begun: usize,
     pub(crate) text: Vec<u8>,
     pub(crate) lines: Vec<usize>,
@@ -31,6 +33,7 @@ impl Model for Graft {
     ghost view = { λ g. record {
       name = g.name;
       notation = g.notation;
+      keep = g.keep;
       begun = g.begun;
       text = g.text.items;
       lines = g.lines.items;

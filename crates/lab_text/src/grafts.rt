@@ -1,6 +1,6 @@
 //! How the lines of a graft are read.
 
-ghost use Rattle.std.specs.Prelude.{◌≡◌, ◌<◌, ◌==◌, [], length, map, Ok, IfOk, IfErr, OnOk, IfSome};
+ghost use Rattle.std.specs.Prelude.{◌≡◌, ◌<◌, ◌==◌, [], ◌∷◌, false, length, map, Ok, IfOk, IfErr, OnOk, IfSome};
 ghost use Rattle.lab_text.specs.Faults.{Refuses};
 ghost use Rattle.lab_text.specs.Grafts as spec;
 ghost use Rattle.lab_text.specs.Words.{parts_of, words_before, joined, plain_word};
@@ -18,18 +18,26 @@ use text_words::{Parts, is_label};
 impl Graft {
     /// No graft.
     pub(crate) fn none(alloc: Global) -> Graft
-        ensures { result ≡ spec.new_graft [] Notation.Assembler 0 }
+        ensures { result ≡ spec.new_graft [] Notation.Assembler false 0 }
     {
-        Graft::begin(alloc, Text::new(Vec::new(alloc)), Notation::Assembler, 0)
+        let name = Text::new(Vec::new(alloc));
+        Graft::begin(alloc, name, Notation::Assembler, false, 0)
     }
 
     /// A graft with no text yet.
-    pub(crate) fn begin(alloc: Global, name: Text, notation: Notation, begun: usize) -> Graft
-        ensures { result ≡ spec.new_graft name notation begun }
+    pub(crate) fn begin(
+        alloc: Global,
+        name: Text,
+        notation: Notation,
+        keep: bool,
+        begun: usize,
+    ) -> Graft
+        ensures { result ≡ spec.new_graft name notation keep begun }
     {
         Graft {
             name,
             notation,
+            keep,
             begun,
             text: Vec::new(alloc),
             lines: Vec::new(alloc),
@@ -48,6 +56,13 @@ impl Graft {
         ensures { result ≡ self.now.notation }
     {
         self.notation
+    }
+
+    /// Whether it keeps its segment from one completed call to the next.
+    pub fn keep(&self) -> bool
+        ensures { result ≡ self.now.keep }
+    {
+        self.keep
     }
 
     /// The line that begins it.
@@ -181,22 +196,64 @@ fn name_fault(name: &[u8], grafts: &[Graft]) -> Option<LabKind>
     }
 }
 
+/// What one word behind the name of a graft says: what it is written in, and whether it keeps its
+/// segment.
+fn style_by_one(word: &[u8]) -> Option<(Notation, bool)>
+    ensures { result ≡ spec.style_by_one word.now }
+{
+    if word == b"language".as_slice() {
+        Some((Notation::Language, false))
+    } else if word == b"keep".as_slice() {
+        Some((Notation::Assembler, true))
+    } else {
+        None
+    }
+}
+
+/// The same of two words.
+fn style_by_two(word: &[u8], other: &[u8]) -> Option<(Notation, bool)>
+    ensures { result ≡ spec.style_of (word.now ∷ other.now ∷ []) }
+{
+    if word == b"language".as_slice() && other == b"keep".as_slice() {
+        Some((Notation::Language, true))
+    } else {
+        None
+    }
+}
+
+/// The same of all words behind the name.
+fn style_of(mut words: Parts) -> Option<(Notation, bool)>
+    ensures { result ≡ spec.style_of words.entry }
+{
+    let Some(word) = words.next() else {
+        return Some((Notation::Assembler, false));
+    };
+    let Some(other) = words.next() else {
+        return style_by_one(word);
+    };
+    match words.next() {
+        None => style_by_two(word, other),
+        Some(_) => None,
+    }
+}
+
 /// A graft of this name, unless it is none.
 fn begun_by(
     alloc: Global,
     n: usize,
     name: &[u8],
     notation: Notation,
+    keep: bool,
     grafts: &[Graft],
 ) -> Result<Graft, LabFault>
     ensures ok { IfOk result (λ graft.
-        spec.begun_by n name.now notation (spec.name_fault name.now grafts.now) ≡ Ok graft) }
+        spec.begun_by n name.now notation keep (spec.name_fault name.now grafts.now) ≡ Ok graft) }
     ensures err { IfErr result (λ e. Refuses e
-        (spec.begun_by n name.now notation (spec.name_fault name.now grafts.now))) }
+        (spec.begun_by n name.now notation keep (spec.name_fault name.now grafts.now))) }
 {
     match name_fault(name, grafts) {
         Some(kind) => Err(LabFault::At(n, kind)),
-        None => Ok(Graft::begin(alloc, text_of(alloc, name)?, notation, n)),
+        None => Ok(Graft::begin(alloc, text_of(alloc, name)?, notation, keep, n)),
     }
 }
 
@@ -213,11 +270,8 @@ pub(crate) fn begun_of(
     let Some(name) = words.next() else {
         return Err(LabFault::At(n, LabKind::BadGraft));
     };
-    let Some(word) = words.next() else {
-        return begun_by(alloc, n, name, Notation::Assembler, grafts);
-    };
-    if words.next().is_some() || word != b"language".as_slice() {
-        return Err(LabFault::At(n, LabKind::BadGraft));
+    match style_of(words) {
+        None => Err(LabFault::At(n, LabKind::BadGraft)),
+        Some((notation, keep)) => begun_by(alloc, n, name, notation, keep, grafts),
     }
-    begun_by(alloc, n, name, Notation::Language, grafts)
 }

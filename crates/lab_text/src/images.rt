@@ -1,6 +1,8 @@
 //! The images of grafts.
 
-ghost use Rattle.std.specs.Prelude.{◌≡◌, ◌≤◌, None, length, Ok, IfOk, IfErr, OnOk};
+ghost use Rattle.std.specs.Prelude.{◌≡◌, ◌≤◌, None, true, length, Ok, IfOk, IfErr, OnOk};
+ghost use Rattle.std.specs.List.{list_all};
+ghost use Rattle.kernel_model.specs.Instructions.{fits};
 ghost use Rattle.lab_text.specs.Faults.{RefusesWith};
 ghost use Rattle.kernel_model.specs.Assembler as asm;
 ghost use Rattle.kernel_model.specs.LanguageReading as language;
@@ -11,12 +13,69 @@ use crate::faults::{LabFault, LabKind};
 use crate::graft::{Graft, Notation};
 use crate::text::put;
 use gm_asm::{AsmFault, assemble};
-use gm_image::RawImage;
+use gm_image::{Instr, RawImage};
 use graft_lang::{LangFault, compile};
 use std::alloc::Global;
+use std::marker::Model;
 
 /// The most bytes of a text.
 pub(crate) const TEXT_BYTES: usize = 16_777_216;
+
+/// The image of a graft as it stands, before it is sealed.
+#[derive(Drop)]
+pub struct GraftImage {
+    plain: RawImage,
+    keep: bool,
+}
+
+impl Model for GraftImage {
+    ghost use Rattle.kernel_model.specs.World.{Image};
+
+    ghost Value = { Image };
+
+    ghost view = { λ i. record { code = i.plain.code; body = i.plain.body; keep = i.keep } };
+}
+
+impl GraftImage {
+    /// The image of this code and data, as one that keeps the segments of its grafts or doesn't.
+    fn new(plain: RawImage, keep: bool) -> GraftImage
+        ensures { result ≡ record { code = plain.code; body = plain.body; keep = keep } }
+    {
+        GraftImage { plain, keep }
+    }
+
+    /// Its code and data.
+    pub fn plain(&self) -> &RawImage
+        ensures code { result.now.code ≡ self.now.code }
+        ensures body { result.now.body ≡ self.now.body }
+    {
+        &self.plain
+    }
+
+    /// The instructions.
+    pub fn code(&self) -> &[Instr]
+        ensures code { result.now ≡ self.now.code }
+        ensures code_len { length result.now ≤ 1024 }
+        ensures code_fits { list_all fits result.now ≡ true }
+    {
+        self.plain.code()
+    }
+
+    /// The data bytes.
+    pub fn body(&self) -> &[u8]
+        ensures body { result.now ≡ self.now.body }
+        ensures body_len { length result.now ≤ 4096 }
+    {
+        self.plain.body()
+    }
+
+    /// Whether its grafts keep their segments from one completed call to the next.
+    pub fn keep(&self) -> bool
+        ensures { result ≡ self.now.keep }
+    {
+        self.keep
+    }
+}
 
 /// The line of the file that line n of a graft's text comes from, n from 1.
 fn file_line(graft: &Graft, n: u32) -> usize
@@ -60,8 +119,8 @@ fn compiled(alloc: Global, graft: &Graft) -> Result<RawImage, LabFault>
     }
 }
 
-/// The image of a graft.
-fn image_of(alloc: Global, graft: &Graft) -> Result<RawImage, LabFault>
+/// The image of a graft's text.
+fn plain_image(alloc: Global, graft: &Graft) -> Result<RawImage, LabFault>
     ensures ok { IfOk result
         (λ image. spec.IsWritten graft.now.notation graft.now.text image) }
     ensures taken { OnOk result (spec.graft_refusal graft.now ≡ None) }
@@ -76,8 +135,20 @@ fn image_of(alloc: Global, graft: &Graft) -> Result<RawImage, LabFault>
     }
 }
 
+/// The image of a graft, as one that keeps where the graft does.
+fn image_of(alloc: Global, graft: &Graft) -> Result<GraftImage, LabFault>
+    ensures ok { IfOk result (λ image. spec.IsImageOf graft.now image) }
+    ensures taken { OnOk result (spec.graft_refusal graft.now ≡ None) }
+    ensures err { IfErr result (λ e. RefusesWith e (spec.graft_refusal graft.now)) }
+{
+    match plain_image(alloc, graft) {
+        Err(fault) => Err(fault),
+        Ok(image) => Ok(GraftImage::new(image, graft.keep())),
+    }
+}
+
 /// The images of grafts, or the first of them that is refused.
-pub fn images_of(alloc: Global, grafts: &[Graft]) -> Result<Vec<RawImage>, LabFault>
+pub fn images_of(alloc: Global, grafts: &[Graft]) -> Result<Vec<GraftImage>, LabFault>
     ensures ok { IfOk result (λ images. spec.AreImagesOf grafts.now images.items) }
     ensures err { IfErr result (λ e. RefusesWith e (spec.grafts_refusal grafts.now)) }
 {

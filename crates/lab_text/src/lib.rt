@@ -22,6 +22,7 @@ mod words;
 pub use crate::faults::{LabFault, LabKind};
 pub use crate::graft::{Graft, Notation};
 pub use crate::grafts::{place_of, statement_of};
+pub use crate::images::GraftImage;
 use crate::images::{TEXT_BYTES, images_of};
 pub use crate::lab::Lab;
 use crate::reader::read_lab;
@@ -41,7 +42,7 @@ pub struct Lowered {
     /// What the file says.
     pub lab: Lab,
     /// The images of its grafts as they stand, in the order of the grafts.
-    pub images: Vec<RawImage>,
+    pub images: Vec<GraftImage>,
     /// The script.
     pub script: Vec<u8>,
 }
@@ -87,7 +88,7 @@ fn lower_lab(alloc: Global, lab: Lab) -> Result<Lowered, LabFault>
 }
 
 /// The same of what a file says whose grafts have these images.
-fn lower_script(alloc: Global, lab: Lab, images: Vec<RawImage>) -> Result<Lowered, LabFault>
+fn lower_script(alloc: Global, lab: Lab, images: Vec<GraftImage>) -> Result<Lowered, LabFault>
     ensures ok { IfOk result (λ l. (l.lab ≡ lab) × (l.images.items ≡ images.items)
         × (spec.script_of lab images.items ≡ Ok l.script.items)) }
     ensures err { IfErr result (λ e. Refuses e (spec.script_of lab images.items)) }

@@ -5,22 +5,38 @@ ghost use Rattle.std.specs.List.{list_all};
 ghost use Rattle.kernel_model.specs.Bytes.{hex_text};
 ghost use Rattle.kernel_model.specs.Instructions.{fits};
 ghost use Rattle.kernel_model.specs.Boxed.{rewrite};
+ghost use Rattle.kernel_model.specs.Images.{sealed_under};
 ghost use Rattle.lab_text.specs.Faults.{Refuses};
 ghost use Rattle.lab_text.specs.Lowering as spec;
 
 use crate::faults::{LabFault, LabKind};
+use crate::images::GraftImage;
 use crate::lab::Lab;
 use crate::sheet::Item;
 use crate::text::add;
 use box_rewriter::{RewriteFault, rewrite};
 use filters::read_keys;
-use gm_image::RawImage;
 use gm_isa::Instr;
 use graft_loader::{Keys, seal_under};
 use kernel_model::NoMemory;
 use std::alloc::Global;
 
-/// Appends the line that loads sealed code and data into a slot.
+/// The bytes of an image with this code in place of its own, sealed.
+fn sealed(
+    alloc: Global,
+    keys: &Keys,
+    code: &[Instr],
+    image: &GraftImage,
+) -> Result<Vec<u8>, NoMemory>
+    requires code_len { length code.now ≤ 1024 }
+    requires code_fits { list_all fits code.now ≡ true }
+    ensures { IfOk result (λ bytes. bytes.items
+        ≡ sealed_under keys.now (spec.with_code image.now code.now)) }
+{
+    seal_under(alloc, keys, image.keep(), code, image.body())
+}
+
+/// Appends the line that loads an image with this code in place of its own into a slot.
 #[tactic(auto, unfolding(crate::specs::Lowering::image_line))]
 fn add_sealed(
     alloc: Global,
@@ -28,16 +44,16 @@ fn add_sealed(
     keys: &Keys,
     slot: u32,
     code: &[Instr],
-    body: &[u8],
+    image: &GraftImage,
 ) -> Result<(), NoMemory>
     requires code_len { length code.now ≤ 1024 }
     requires code_fits { list_all fits code.now ≡ true }
-    requires body_len { length body.now ≤ 4096 }
     ensures { OnOk result (out.new.items
-        ≡ out.old.items ++ (spec.image_line keys.now slot code.now body.now ++ 10 ∷ [])) }
+        ≡ out.old.items ++ (spec.image_line keys.now slot (spec.with_code image.now code.now)
+        ++ 10 ∷ [])) }
 {
     let mut digits = itoa::Buffer::new();
-    let sealed = seal_under(alloc, keys, code, body)?;
+    let sealed = sealed(alloc, keys, code, image)?;
     let hex = hex_of(alloc, sealed.as_slice())?;
     add(out, b"image ")?;
     add(out, digits.format(slot).as_bytes())?;
@@ -62,12 +78,12 @@ fn add_raw(
     out: &mut Vec<u8>,
     keys: &Keys,
     slot: u32,
-    image: &RawImage,
+    image: &GraftImage,
 ) -> Result<(), NoMemory>
     ensures { OnOk result (out.new.items ≡ out.old.items
-        ++ (spec.image_line keys.now slot image.now.code image.now.body ++ 10 ∷ [])) }
+        ++ (spec.image_line keys.now slot image.now ++ 10 ∷ [])) }
 {
-    add_sealed(alloc, out, keys, slot, image.code(), image.body())
+    add_sealed(alloc, out, keys, slot, image.code(), image)
 }
 
 /// Appends the line of an image that is boxed first, which line n of the file asks for.
@@ -77,15 +93,15 @@ fn add_boxed(
     n: usize,
     keys: &Keys,
     slot: u32,
-    image: &RawImage,
+    image: &GraftImage,
 ) -> Result<(), LabFault>
     ensures ok { OnOk result (spec.with_line n out.old.items (spec.boxed_line keys.now slot
-        image.now.body (rewrite image.now.code)) ≡ Ok out.new.items) }
+        image.now (rewrite image.now.code)) ≡ Ok out.new.items) }
     ensures err { IfErr result (λ e. Refuses e (spec.with_line n out.old.items
-        (spec.boxed_line keys.now slot image.now.body (rewrite image.now.code)))) }
+        (spec.boxed_line keys.now slot image.now (rewrite image.now.code)))) }
 {
-    match rewrite(alloc, image) {
-        Ok(boxed) => Ok(add_sealed(alloc, out, keys, slot, boxed.code(), boxed.body())?),
+    match rewrite(alloc, image.plain()) {
+        Ok(boxed) => Ok(add_sealed(alloc, out, keys, slot, boxed.code(), image)?),
         Err(RewriteFault::Register(pc)) => Err(LabFault::At(n, LabKind::BoxRegister(pc))),
         Err(RewriteFault::Jump(pc)) => Err(LabFault::At(n, LabKind::BoxJump(pc))),
         Err(RewriteFault::Call(pc)) => Err(LabFault::At(n, LabKind::BoxCall(pc))),
@@ -109,7 +125,7 @@ fn add_item(
     out: &mut Vec<u8>,
     n: usize,
     keys: &Keys,
-    images: &[RawImage],
+    images: &[GraftImage],
     item: &Item,
 ) -> Result<(), LabFault>
     ensures ok { OnOk result (spec.with_line n out.old.items
@@ -131,7 +147,7 @@ fn add_item(
 fn script_under(
     alloc: Global,
     keys: &Keys,
-    images: &[RawImage],
+    images: &[GraftImage],
     items: &[Item],
 ) -> Result<Vec<u8>, LabFault>
     ensures ok { IfOk result
@@ -149,7 +165,7 @@ fn script_under(
 }
 
 /// The script of a lab file whose grafts have these images.
-pub fn script_of(alloc: Global, lab: &Lab, images: &[RawImage]) -> Result<Vec<u8>, LabFault>
+pub fn script_of(alloc: Global, lab: &Lab, images: &[GraftImage]) -> Result<Vec<u8>, LabFault>
     ensures ok { IfOk result (λ script. spec.script_of lab.now images.now ≡ Ok script.items) }
     ensures err { IfErr result (λ e. Refuses e (spec.script_of lab.now images.now)) }
 {
