@@ -89,10 +89,6 @@ body_in (Some i) = i.body
 abbrev pub code_of : ImageTable → Accounts → (q pt : ℕ) → List Instr
 code_of images w q pt = code_in (image_of images (w.graft q pt))
 
--- the data bytes of the graft at (q, pt)
-abbrev pub body_of : ImageTable → Accounts → (q pt : ℕ) → List ℕ
-body_of images w q pt = body_in (image_of images (w.graft q pt))
-
 -- an image keeps the segments of its grafts
 abbrev pub keeps_in : Option Image → Bool
 keeps_in None = false

@@ -353,15 +353,16 @@ pub struct Need {
 
 impl Default for Need {
     ghost use Rattle.std.specs.Prelude.{false};
-    ghost use Rattle.kernel_model.specs.declared.Object.TheVariants.{Queue};
+    ghost use Rattle.kernel_model.specs.declared.Object.TheVariants.{Graft};
     ghost use Rattle.kernel_model.specs.declared.Mode.TheVariants.{Shared};
 
-    /// The queue, shared: what stands in a place of a fixed list that isn't used.
+    /// A first point, shared: what stands in a place of a fixed list that isn't used. All its bytes
+    /// are zeros, so such a list is made at once.
     fn default() -> Need
-        ensures { result ≡ record { object = Queue; mode = Shared; by_user = false } }
+        ensures { result ≡ record { object = Graft 0 0; mode = Shared; by_user = false } }
     {
         Need {
-            object: Object::Queue,
+            object: Object::Graft(0, 0),
             mode: Mode::Shared,
             by_user: false,
         }
