@@ -9,25 +9,27 @@ use Rattle.std.proofs.lemmas.Option.{get_or_from_slice_get}
 use mathlib.Core.Path.{fun_ext}
 use Rattle.vino_base.specs.Calls.{Plan, after_call, call_fails}
 use Rattle.vino_base.specs.Faults.{HasCause}
+use Rattle.vino_base.specs.Disks.{DiskSeen, blocks_written}
 use Rattle.kernel_model.specs.World.{Blocks}
 use Rattle.kernel_model.specs.Objects.{at}
-use Rattle.disk_log.specs.Calls.{blocks_in, Knows, failures, planned, plan_after, Made}
+use Rattle.disk_log.specs.Calls.{blocks_in, Knows, failures, planned, plan_after, Made, CallsExtend}
 
 -- what an option holds
 held : {A : Type 0} {a b : A} → Some a ≡ Some b → a ≡ b
 held e = grind (arith, e)
 
 -- a read leaves the told blocks, and gives one of them
-pub read_tells : {T E : Type 0} (known told_new : Option (List (List ℕ))) (result : Result T E) (b : ℕ) (to : List ℕ) (blocks : Blocks) →
+pub read_tells : {T E : Type 0} (known known_new : Option (List (List ℕ))) (result : Result T E)
+    (b : ℕ) (to : List ℕ) (blocks : Blocks) → known_new ≡ known →
     ((bs : List (List ℕ)) → known ≡ Some bs → OnOk result (slice_get bs b ≡ Some to)) →
-    ((bs : List (List ℕ)) → known ≡ Some bs → told_new ≡ Some bs) →
-    Knows known blocks → Knows told_new blocks × OnOk result (to ≡ blocks b)
-read_tells None told_new result b to blocks given kept tells = absurd cc
-read_tells (Some bs) told_new (Ok x) b to blocks given kept tells = (
-  ap (option_map blocks_in) (kept bs refl) ∙ tells,
+    Knows known blocks → Knows known_new blocks × OnOk result (to ≡ blocks b)
+read_tells None known_new result b to blocks same given tells = absurd cc
+read_tells (Some bs) known_new (Ok x) b to blocks same given tells = (
+  ap (option_map blocks_in) same ∙ tells,
   sym (get_or_from_slice_get bs b to [] (given bs refl)) ∙ ap (λ (f : Blocks). f b) (held tells),
 )
-read_tells (Some bs) told_new (Err e) b to blocks given kept tells = (ap (option_map blocks_in) (kept bs refl) ∙ tells, given bs refl)
+read_tells (Some bs) known_new (Err e) b to blocks same given tells =
+    (ap (option_map blocks_in) same ∙ tells, given bs refl)
 
 -- a block of the list is replaced
 set_block : (bs : List (List ℕ)) (b : ℕ) (bytes : List ℕ) → b < length bs → blocks_in (slice_set bs b bytes) ≡ at b bytes (blocks_in bs)
@@ -38,15 +40,18 @@ set_block bs b bytes below = fun_ext (λ j. by_test j (j == b) refl)
     by_test j false h = grind (arith, nat_tests, get_or-set_other)
 
 -- a write that doesn't fail replaces one of the told blocks
-pub write_tells : {T E : Type 0} (known told_new : Option (List (List ℕ))) (result : Result T E) (b count : ℕ) (bytes : List ℕ) (blocks : Blocks) →
-    b < count → ((bs : List (List ℕ)) → known ≡ Some bs → length bs ≡ count) →
-    ((bs : List (List ℕ)) → known ≡ Some bs → told_new ≡ Some (cond (is_ok result) (slice_set bs b bytes) bs)) →
-    Knows known blocks → Knows told_new (cond (is_ok result) (at b bytes blocks) blocks)
-write_tells None told_new result b count bytes blocks below long replaced tells = absurd cc
-write_tells (Some bs) told_new (Ok x) b count bytes blocks below long replaced tells =
-    ap (option_map blocks_in) (replaced bs refl)
-    ∙ ap (λ (f : Blocks). Some f) (set_block bs b bytes (subst (λ n. b < n) (sym (long bs refl)) below) ∙ ap (at b bytes) (held tells))
-write_tells (Some bs) told_new (Err e) b count bytes blocks below long replaced tells = ap (option_map blocks_in) (replaced bs refl) ∙ tells
+pub write_tells : {T E : Type 0} (known known_new : Option (List (List ℕ))) (result : Result T E)
+    (b count : ℕ) (bytes : List ℕ) (blocks : Blocks) → b < count →
+    ((bs : List (List ℕ)) → known ≡ Some bs → length bs ≡ count) →
+    known_new ≡ option_map (blocks_written b bytes (is_err result)) known → Knows known blocks →
+    Knows known_new (cond (is_ok result) (at b bytes blocks) blocks)
+write_tells None known_new result b count bytes blocks below long after tells = absurd cc
+write_tells (Some bs) known_new (Ok x) b count bytes blocks below long after tells =
+    ap (option_map blocks_in) after
+    ∙ ap (λ (f : Blocks). Some f) (set_block bs b bytes (subst (λ n. b < n) (sym (long bs refl))
+    below) ∙ ap (at b bytes) (held tells))
+write_tells (Some bs) known_new (Err e) b count bytes blocks below long after tells =
+    ap (option_map blocks_in) after ∙ tells
 
 -- ---- lists of calls
 
@@ -79,24 +84,41 @@ counted_more : {T E : Type 0} (f before now n : ℕ) (result : Result T E) → m
 counted_more f before now n (Ok x) h cause = let later = cause.later in grind (arith, nat_tests)
 counted_more f before now n (Err e) h cause = let later = cause.later in let rose = cause.failed in grind (arith, nat_tests)
 
--- A list of calls with one call more.
-pub made_more : {T E : Type 0} (f before now : ℕ) (p plan plan_new : Option Plan) (io : List Bool) (result : Result T E) →
-    HasCause before now result →
-    ((q : Plan) → plan ≡ Some q → (is_err result ≡ call_fails q) × (plan_new ≡ Some (after_call q))) →
-    Made f before p plan io → Made f now p plan_new (io ++ is_err result ∷ [])
-made_more f before now p plan plan_new io result cause step made =
+-- a list of calls with one call more
+made_more : {T E : Type 0} (first d e : DiskSeen) (io : List Bool) (result : Result T E) →
+    e.size ≡ d.size → HasCause d.faults e.faults result →
+    e.plan ≡ option_map after_call d.plan →
+    ((q : Plan) → d.plan ≡ Some q → is_err result ≡ call_fails q) →
+    Made first d io → Made first e (io ++ is_err result ∷ [])
+made_more first d e io result size cause plan fails made =
     record {
+      size = size ∙ made.size;
       later = let a = made.later in let b = cause.later in grind (arith);
-      counted = subst (λ n. min (f + n) (2 ^ 64 - 1) ≤ now) (sym (failures_more io (is_err result))) (counted_more f before now (failures io) result made.counted cause);
-      calls = λ q e.
-          let next = step (plan_after (length io) q) (made.plan_is q e) in
-          ap (λ (xs : List Bool). xs ++ is_err result ∷ []) (made.calls q e)
-          ∙ ap (λ x. planned (length io) q ++ x ∷ []) next.0
+      counted =
+          subst (λ n. min (first.faults + n) (2 ^ 64 - 1) ≤ e.faults)
+          (sym (failures_more io (is_err result)))
+          (counted_more first.faults d.faults e.faults (failures io) result made.counted cause);
+      calls = λ q is.
+          let next = fails (plan_after (length io) q) (made.plan_is q is) in
+          ap (λ (xs : List Bool). xs ++ is_err result ∷ []) (made.calls q is)
+          ∙ ap (λ x. planned (length io) q ++ x ∷ []) next
           ∙ sym (planned_more (length io) q)
           ∙ ap (λ n. planned n q) (sym (length_more io (is_err result)));
-      plan_is = λ q e.
-          let next = step (plan_after (length io) q) (made.plan_is q e) in
-          next.1
+      plan_is = λ q is.
+          plan
+          ∙ ap (option_map after_call) (made.plan_is q is)
           ∙ ap (λ r. Some r) (sym (plan_after_more (length io) q))
           ∙ ap (λ n. Some (plan_after n q)) (sym (length_more io (is_err result)));
+    }
+
+-- A call of a disk and its entry in the list.
+pub call_extends : {T E : Type 0} (d e : DiskSeen) (io io_new : List Bool)
+    (result : Result T E) → io_new ≡ io ++ is_err result ∷ [] → e.size ≡ d.size →
+    HasCause d.faults e.faults result → e.plan ≡ option_map after_call d.plan →
+    ((q : Plan) → d.plan ≡ Some q → is_err result ≡ call_fails q) → CallsExtend d e io io_new
+call_extends d e io io_new result noted size cause plan fails =
+    record {
+      size = size;
+      made = λ first made. subst (λ (xs : List Bool). Made first e xs) (sym noted)
+          (made_more first d e io result size cause plan fails made);
     }

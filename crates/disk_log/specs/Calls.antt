@@ -3,6 +3,7 @@
 use Rattle.std.specs.Prelude.{◌≡◌, ℕ, zero, suc, ◌+◌, ◌-◌, ◌^◌, ◌≤◌, min, Bool, List, [], ◌∷◌, length, option_map, Option, Some, slice_index_or}
 use Rattle.std.specs.List.{count_by}
 use Rattle.vino_base.specs.Calls.{Plan, after_call, call_fails}
+use Rattle.vino_base.specs.Disks.{DiskSeen}
 use Rattle.kernel_model.specs.World.{Blocks}
 
 -- the blocks of a list by number, nothing beyond its end
@@ -27,18 +28,18 @@ abbrev pub plan_after : ℕ → Plan → Plan
 plan_after zero p = p
 plan_after (suc n) p = plan_after n (after_call p)
 
--- From one moment to another a disk had these calls: its count of faults rose by those that failed,
--- or stands at its end, and where it tells its plan they are what the plan gave.
-pub record Made (faults faults_new : ℕ) (plan plan_new : Option Plan)
-    (io : List Bool) : Type 0 where
-  pub later : faults ≤ faults_new
-  pub counted : min (faults + failures io) (2 ^ 64 - 1) ≤ faults_new
-  pub calls : (p : Plan) → plan ≡ Some p → io ≡ planned (length io) p
-  pub plan_is : (p : Plan) → plan ≡ Some p → plan_new ≡ Some (plan_after (length io) p)
+-- From one moment to another a disk had these calls: its size is the same, its count of faults rose
+-- by those that failed, or stands at its end, and where it tells its plan they are what the plan
+-- gave.
+pub record Made (d e : DiskSeen) (io : List Bool) : Type 0 where
+  pub size : e.size ≡ d.size
+  pub later : d.faults ≤ e.faults
+  pub counted : min (d.faults + failures io) (2 ^ 64 - 1) ≤ e.faults
+  pub calls : (p : Plan) → d.plan ≡ Some p → io ≡ planned (length io) p
+  pub plan_is : (p : Plan) → d.plan ≡ Some p → e.plan ≡ Some (plan_after (length io) p)
 
--- A list of calls went on with what a disk did: whenever it began, it says what the disk did from
--- there on.
-abbrev pub CallsExtend : (faults faults_new : ℕ) → (plan plan_new : Option Plan) →
-    (io io_new : List Bool) → Type 0
-CallsExtend faults faults_new plan plan_new io io_new =
-    (f : ℕ) (p : Option Plan) → Made f faults p plan io → Made f faults_new p plan_new io_new
+-- A list of calls went on with what a disk did, which kept its size: whenever the list began, it
+-- says what the disk did from there on.
+pub record CallsExtend (d e : DiskSeen) (io io_new : List Bool) : Type 0 where
+  pub size : e.size ≡ d.size
+  pub made : (first : DiskSeen) → Made first d io → Made first e io_new

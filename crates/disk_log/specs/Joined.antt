@@ -5,12 +5,14 @@ use Rattle.std.proofs.lemmas.Bool.Decides.{nat_tests}
 use Rattle.std.proofs.lemmas.List.Sums.{sum_by-append}
 use Rattle.std.specs.Prelude.{cond}
 use Rattle.vino_base.specs.Calls.{Plan, after_call, call_fails}
-use Rattle.disk_log.specs.Calls.{failures, planned, plan_after, Made}
+use Rattle.vino_base.specs.Disks.{DiskSeen}
+use Rattle.disk_log.specs.Calls.{failures, planned, plan_after, Made, CallsExtend}
 
 -- no calls
-pub made_none : (f : ℕ) (p : Option Plan) → Made f f p p []
-made_none f p =
+pub made_none : (d : DiskSeen) → Made d d []
+made_none d =
     record {
+      size = refl;
       later = grind (arith);
       counted = grind (arith, nat_tests);
       calls = λ q e. refl;
@@ -48,15 +50,17 @@ counted_joined : (f g h m n : ℕ) → min (f + m) (2 ^ 64 - 1) ≤ g → min (g
 counted_joined f g h m n first second = grind (arith, nat_tests)
 
 -- Two lists of calls, one after the other, are one list.
-pub made_joined : (f g h : ℕ) (p q r : Option Plan) (xs ys : List Bool) → Made f g p q xs →
-    Made g h q r ys → Made f h p r (xs ++ ys)
-made_joined f g h p q r xs ys first second =
+pub made_joined : (d e f : DiskSeen) (xs ys : List Bool) → Made d e xs → Made e f ys →
+    Made d f (xs ++ ys)
+made_joined d e f xs ys first second =
     record {
+      size = second.size ∙ first.size;
       later = let a = first.later in let b = second.later in grind (arith);
       counted =
-          subst (λ n. min (f + n) (2 ^ 64 - 1) ≤ h)
+          subst (λ n. min (d.faults + n) (2 ^ 64 - 1) ≤ f.faults)
           (sym (sum_by-append (λ failed. cond failed 1 0) xs ys))
-          (counted_joined f g h (failures xs) (failures ys) first.counted second.counted);
+          (counted_joined d.faults e.faults f.faults (failures xs) (failures ys) first.counted
+          second.counted);
       calls = λ x e.
           ap (λ (io : List Bool). io ++ ys) (first.calls x e)
           ∙ ap (λ (io : List Bool). planned (length xs) x
@@ -68,3 +72,21 @@ made_joined f g h p q r xs ys first second =
           ∙ ap (λ y. Some y) (sym (plan_after_joined (length xs) (length ys) x))
           ∙ ap (λ n. Some (plan_after n x)) (sym (length_joined xs ys));
     }
+
+-- A list of calls that nothing was added to goes on with a disk that wasn't called.
+pub extends_none : (d : DiskSeen) (io : List Bool) → CallsExtend d d io io
+extends_none d io = record { size = refl; made = λ first made. made }
+
+-- A list of calls goes on with what a disk did in two parts.
+pub extends_then : (d e f : DiskSeen) (x y z : List Bool) → CallsExtend d e x y →
+    CallsExtend e f y z → CallsExtend d f x z
+extends_then d e f x y z one two =
+    record {
+      size = two.size ∙ one.size;
+      made = λ first made. two.made first (one.made first made);
+    }
+
+-- A list of calls that began empty is what the disk did.
+pub made_alone : (d e : DiskSeen) (x y : List Bool) → x ≡ [] → CallsExtend d e x y → Made d e y
+made_alone d e x y empty goes =
+    goes.made d (subst (λ (io : List Bool). Made d d io) (sym empty) (made_none d))

@@ -55,13 +55,11 @@ impl DiskLog {
     /// Reads block b.
     pub fn read<D: Disk>(&mut self, disk: &mut D, b: u32, to: &mut [u8; 512]) -> Result<(), Failed>
         requires room { length self.old < CALLS }
-        requires block { b < D.block_count disk.old }
+        requires block { b < (D.seen disk.old).size }
         ensures noted { self.new ≡ self.old ++ is_err result ∷ [] }
-        ensures known { (blocks : Blocks) → Knows (D.blocks disk.old) blocks →
-            Knows (D.blocks disk.new) blocks × OnOk result (to.new ≡ blocks b) }
-        ensures same_size { D.block_count disk.new ≡ D.block_count disk.old }
-        ensures calls { CallsExtend (D.faults disk.old) (D.faults disk.new) (D.plan disk.old)
-            (D.plan disk.new) self.old self.new }
+        ensures known { (blocks : Blocks) → Knows (D.seen disk.old).known blocks →
+            Knows (D.seen disk.new).known blocks × OnOk result (to.new ≡ blocks b) }
+        ensures calls { CallsExtend (D.seen disk.old) (D.seen disk.new) self.old self.new }
     {
         let result = disk.read_block(b, to);
         note(&mut self.failed, result.is_err());
@@ -71,13 +69,11 @@ impl DiskLog {
     /// Replaces block b.
     pub fn write<D: Disk>(&mut self, disk: &mut D, b: u32, from: &[u8; 512]) -> Result<(), Failed>
         requires room { length self.old < CALLS }
-        requires block { b < D.block_count disk.old }
+        requires block { b < (D.seen disk.old).size }
         ensures noted { self.new ≡ self.old ++ is_err result ∷ [] }
-        ensures known { (blocks : Blocks) → Knows (D.blocks disk.old) blocks →
-            Knows (D.blocks disk.new) (cond (is_ok result) (at b from.now blocks) blocks) }
-        ensures same_size { D.block_count disk.new ≡ D.block_count disk.old }
-        ensures calls { CallsExtend (D.faults disk.old) (D.faults disk.new) (D.plan disk.old)
-            (D.plan disk.new) self.old self.new }
+        ensures known { (blocks : Blocks) → Knows (D.seen disk.old).known blocks →
+            Knows (D.seen disk.new).known (cond (is_ok result) (at b from.now blocks) blocks) }
+        ensures calls { CallsExtend (D.seen disk.old) (D.seen disk.new) self.old self.new }
     {
         disk.size();
         let result = disk.write_block(b, from);

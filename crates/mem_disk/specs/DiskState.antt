@@ -1,14 +1,25 @@
 -- The disk in memory, as what it holds.
-use Rattle.std.specs.Prelude.{ℕ, ◌+◌, ◌*◌, ◌/◌, cond, List, length, map, slice_range}
+use Rattle.std.specs.Prelude.{ℕ, ◌+◌, ◌*◌, ◌/◌, cond, List, Some, length, map, slice_range}
 use Rattle.std.specs.List.{range_with_len}
 use Rattle.vino_base.specs.Faults.{counted}
 use Rattle.vino_base.specs.Calls.{Plan, after_call, call_fails}
+use Rattle.vino_base.specs.Disks.{DiskSeen}
 
 -- a disk: its blocks, its calls, and its count of faults
 pub record DiskState : Type 0 where
   pub blocks : List (List ℕ)
   pub plan : Plan
   pub faults : ℕ
+
+-- what is seen of a disk in memory, which tells all
+abbrev pub disk_seen : DiskState → DiskSeen
+disk_seen d =
+    record {
+      size = length d.blocks;
+      known = Some d.blocks;
+      plan = Some d.plan;
+      faults = d.faults;
+    }
 
 -- the bytes of block b, where the blocks of 512 bytes stand one after another
 abbrev pub block_in : List ℕ → ℕ → List ℕ

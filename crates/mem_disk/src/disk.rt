@@ -5,7 +5,7 @@ ghost use Rattle.std.specs.Option.{IfSome};
 ghost use Rattle.std.specs.Result.{is_err, OnOk};
 ghost use Rattle.vino_base.specs.Faults.{HasCause, counted};
 ghost use Rattle.vino_base.specs.Calls.{Plan, after_call, call_fails};
-ghost use Rattle.mem_disk.specs.DiskState.{blocks_of, disk_after};
+ghost use Rattle.mem_disk.specs.DiskState.{blocks_of, disk_after, disk_seen};
 
 use kernel_model::BLOCK_BYTES;
 use std::marker::Model;
@@ -57,13 +57,7 @@ impl MemDisk {
 }
 
 impl Disk for MemDisk {
-    ghost faults = { λ d. d.faults };
-
-    ghost block_count = { λ d. length d.blocks };
-
-    ghost blocks = { λ d. Some d.blocks };
-
-    ghost plan = { λ d. Some d.plan };
+    ghost seen = { disk_seen };
 
     fn size(&self) -> u32 {
         self.size
@@ -72,17 +66,11 @@ impl Disk for MemDisk {
     fn read_block(&mut self, b: u32, to: &mut [u8; 512]) -> Result<(), Failed>
         requires { b < length self.old.blocks }
         ensures cause { HasCause self.old.faults self.new.faults result }
-        ensures same_size { length self.new.blocks ≡ length self.old.blocks }
-        ensures given { (bs : List (List ℕ)) → Some self.old.blocks ≡ Some bs →
-            OnOk result (slice_get bs b ≡ Some to.new) }
-        ensures kept { (bs : List (List ℕ)) → Some self.old.blocks ≡ Some bs →
-            Some self.new.blocks ≡ Some bs }
-        ensures planned { (p : Plan) → Some self.old.plan ≡ Some p → (is_err result ≡ call_fails p)
-            × (Some self.new.plan ≡ Some (after_call p)) }
         ensures fails { is_err result ≡ call_fails self.old.plan }
         ensures after { self.new ≡ disk_after self.old self.old.blocks }
         ensures buffer { to.new
             ≡ cond (call_fails self.old.plan) to.old (slice_index_or self.old.blocks b []) }
+        ensures given { OnOk result (slice_get self.old.blocks b ≡ Some to.new) }
     {
         if self.plan.next_fails() {
             self.faults = counted_up(self.faults);
@@ -95,11 +83,6 @@ impl Disk for MemDisk {
     fn write_block(&mut self, b: u32, from: &[u8; 512]) -> Result<(), Failed>
         requires { b < length self.old.blocks }
         ensures cause { HasCause self.old.faults self.new.faults result }
-        ensures same_size { length self.new.blocks ≡ length self.old.blocks }
-        ensures replaced { (bs : List (List ℕ)) → Some self.old.blocks ≡ Some bs →
-            Some self.new.blocks ≡ Some (if is_ok result then slice_set bs b from.now else bs) }
-        ensures planned { (p : Plan) → Some self.old.plan ≡ Some p → (is_err result ≡ call_fails p)
-            × (Some self.new.plan ≡ Some (after_call p)) }
         ensures fails { is_err result ≡ call_fails self.old.plan }
         ensures after { self.new ≡ disk_after self.old (slice_set self.old.blocks b from.now) }
     {

@@ -72,13 +72,7 @@ fn start_of(b: u32) -> u64
 }
 
 impl Disk for FileDisk {
-    ghost faults = { λ d. d.faults };
-
-    ghost block_count = { λ d. d.size };
-
-    ghost blocks = { λ d. None };
-
-    ghost plan = { λ d. None };
+    ghost seen = { λ d. record { size = d.size; known = None; plan = None; faults = d.faults } };
 
     fn size(&self) -> u32 {
         self.size

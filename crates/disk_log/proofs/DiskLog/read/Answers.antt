@@ -1,15 +1,19 @@
-use Rattle.std.proofs.Common.{rules}
-use Rattle.disk_log.proofs.Logs.{read_tells, made_more}
+use Rattle.std.proofs.Common.{rules, ap}
+use Rattle.vino_base.specs.Disks.{DiskSeen}
+use Rattle.disk_log.proofs.Logs.{read_tells, call_extends}
 use Rattle.disk_log.proofs.DiskLog.read.Goals as goal
 
--- src/lib.rt:56:5
 pub returns-clause-known : goal.returns-clause-known
 returns-clause-known g c blocks tells =
-    read_tells (g.D.Disk.blocks c.args.disk.now) (g.D.Disk.blocks c.read_block-result.new.self) c.read_block-result.result c.args.b c.read_block-result.new.to blocks
-    c.read_block-result.ensures.given c.read_block-result.ensures.kept tells
+    let d = g.D.Disk.seen c.args.disk.now in
+    let call = c.read_block-result in
+    read_tells d.known (g.D.Disk.seen call.new.self).known call.result c.args.b call.new.to blocks
+    (ap (λ (x : DiskSeen). x.known) call.ensures.after) call.ensures.given tells
 
--- src/lib.rt:56:5
 pub returns-clause-calls : goal.returns-clause-calls
-returns-clause-calls g c f p made =
-    let next = made_more f (g.D.Disk.faults c.args.disk.now) (g.D.Disk.faults c.read_block-result.new.self) p (g.D.Disk.plan c.args.disk.now) (g.D.Disk.plan c.read_block-result.new.self) c.args.self.now c.read_block-result.result
-    c.read_block-result.ensures.cause c.read_block-result.ensures.planned made in search rules
+returns-clause-calls g c =
+    let call = c.read_block-result in
+    let after = call.ensures.after in
+    call_extends (g.D.Disk.seen c.args.disk.now) (g.D.Disk.seen call.new.self) c.args.self.now
+    c.note.new.failed.items call.result (search rules) (ap (λ (x : DiskSeen). x.size) after)
+    call.ensures.cause (ap (λ (x : DiskSeen). x.plan) after) call.ensures.fails
