@@ -1,10 +1,13 @@
 -- A range of memory as a segment.
-use Rattle.std.proofs.Common.{◌≡◌, ℕ, ◌+◌, ◌-◌, ◌<◌, ◌≤◌, nat_lt, true, false, cond, List, length, take, drop, slice_index, slice_range, arith, sym, ◌∙◌, ap, inl, inr, length-drop, length-take-le}
+use Rattle.std.proofs.Common.{◌≡◌, ℕ, ◌+◌, ◌-◌, ◌<◌, ◌≤◌, nat_lt, true, false, cond, List, length, take, drop, Some, slice_index, slice_range, subst, arith, sym, ◌∙◌, ap, inl, inr, length-drop, length-take-le}
 use Rattle.std.proofs.Math.Path.{fun_ext}
 use Rattle.std.proofs.lemmas.Bool.{cases_lt}
 use Rattle.std.proofs.lemmas.Bool.Decides.{nat_tests}
 use Rattle.std.proofs.lemmas.List.{get_or-take, get_or-drop, get_or_past}
 use Rattle.kernel_model.specs.Runs.{segment_of}
+use Rattle.kernel_state.specs.declared.Store.{Store}
+use Rattle.kernel_state.specs.Changes.{Changes}
+use Rattle.kernel_state.specs.Stores.{with_kept}
 
 range_long : (xs : List ℕ) (a n : ℕ) → a + n ≤ length xs → length (slice_range xs a (a + n)) ≡ n
 range_long xs a n inside =
@@ -29,3 +32,9 @@ range_at xs a n i inside =
 pub range_kept : (ram bytes : List ℕ) (base : ℕ) → bytes ≡ slice_range ram base (base + 4096) → base + 4096 ≤ length ram →
     slice_index bytes ≡ segment_of base (λ a. slice_index ram a)
 range_kept ram bytes base is inside = ap slice_index is ∙ fun_ext (λ i. range_at ram base 4096 i inside)
+
+-- a store that keeps them keeps the segment there
+pub segment_kept : {B : Type 0} {P : _} (s t : Store B P) (q pt base : ℕ) (bytes : List ℕ) → bytes ≡ slice_range s.ram base (base + 4096) → base + 4096 ≤ length s.ram →
+    Changes (with_kept q pt (Some (slice_index bytes))) s t → Changes (with_kept q pt (Some (segment_of base (λ a. slice_index s.ram a)))) s t
+segment_kept s t q pt base bytes is inside kept =
+    subst (λ (x : ℕ → ℕ). Changes (with_kept q pt (Some x)) s t) (range_kept s.ram bytes base is inside) kept

@@ -1,9 +1,10 @@
 -- What the accessors of grafts do to a store, and which of their changes can be undone on it.
-use Rattle.std.specs.Prelude.{◌≡◌, ℕ, ◌<◌, ◌≤◌, true, List, Some, None, Result, Ok, Err, is_some, slice_index}
+use Rattle.std.specs.Prelude.{◌≡◌, ℕ, ◌<◌, ◌≤◌, true, List, Some, None, Result, Ok, Err, IfOk, IfSome, is_some, slice_index}
 use Rattle.kernel_model.specs.declared.Inverse.{Inverse}
 use Rattle.kernel_model.specs.declared.Inverse.TheVariants.{Cell, Nice, Window, Mark, Tune, Segment}
 use Rattle.kernel_model.specs.declared.Cause.{Cause}
-use Rattle.kernel_model.specs.Access.{Access as Accessed, access, Gives, Changes, Refuses, in_range, param_top}
+use Rattle.kernel_model.specs.declared.QueueRow.{QueueRow}
+use Rattle.kernel_model.specs.Access.{Access as Accessed, access, Gives, Changes, Refuses, early_refusal, in_range, param_top}
 use Rattle.kernel_model.specs.Objects.{Things}
 use Rattle.kernel_model.specs.Policies.{lives}
 use Rattle.graft_points.specs.Views.{PolicyView}
@@ -38,6 +39,22 @@ CanBeUndone (Mark f v) w = is_some (w.cache.frame f) ≡ true
 CanBeUndone (Tune kind k v) w = (kind < 3)
     × (in_range (param_top kind (w.pol kind).chosen) k v ≡ true)
 CanBeUndone (Segment q pt) w = (q < 16) × (pt < 16)
+
+-- id is that of a plain accessor, which the arguments alone don't refuse, for a graft of process q,
+-- which lives
+pub record IsPlainAccess (queue : List QueueRow) (id : ℕ) (args : List ℕ) (q : ℕ) : Type 0 where
+  pub lives : lives queue q ≡ true
+  pub plain : id ≤ 12
+  pub early : early_refusal 15 id (slice_index args 0) (slice_index args 1) q ≡ None
+
+-- this is the answer of an accessor, and its record can be undone on these things
+pub record Answers (accessed : Accessed) (w : Things) (result : Result Access Cause) : Type 0 where
+  pub answer : result ≡ answer_of accessed
+  pub undoable : IfOk result (λ a. IfSome a.inverse (λ i. CanBeUndone i w))
+
+-- a record that could be undone on the first things can be on the others
+abbrev pub StayUndoable : (old new : Things) → Type 0
+StayUndoable old new = (i : Inverse) → CanBeUndone i old → CanBeUndone i new
 
 -- the policies once a record was undone: a parameter is put back in the policy that is chosen of
 -- its kind, and no other policy changes

@@ -24,6 +24,16 @@ world_for u size directory =
       callable = LAST_CALLABLE;
     }
 
+-- A store can begin with this set-up, on a disk of this size with this directory: there are 2 to 64
+-- frames and 1 to 4,096 blocks, and each usable file lies on the disk.
+pub record CanBoot (u : Setup) (size : ℕ) (directory : List (Option FileRow)) : Type 0 where
+  pub frames_least : 2 ≤ u.frames
+  pub frames_most : u.frames ≤ 64
+  pub size_least : 1 ≤ size
+  pub size_most : size ≤ 4096
+  pub files : (n : ℕ) (r : FileRow) → slice_index_or directory n None ≡ Some r →
+      lies_on_disk size r ≡ true
+
 -- the number of the segment of the graft at (q, pt)
 abbrev pub segment_number : (q pt : ℕ) → ℕ
 segment_number q pt = 16 * q + pt

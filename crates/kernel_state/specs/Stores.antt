@@ -2,7 +2,8 @@
 use Rattle.std.specs.Prelude.{◌≡◌, ℕ, ◌≤◌, List, [], ◌∷◌, ◌++◌, Option, Some, None, slice_index}
 use Rattle.kernel_model.specs.declared.QueueRow.{QueueRow}
 use Rattle.kernel_model.specs.World.{World}
-use Rattle.kernel_model.specs.Objects.{Objects, Accounts, CacheValue, PolValue}
+use Rattle.kernel_model.specs.Objects.{Objects, Accounts, CacheValue, PolValue, with_things}
+use Rattle.kernel_model.specs.Access.{set_segment}
 use Rattle.kernel_model.specs.Levels.{base_of, body_in_segment}
 use Rattle.kernel_model.specs.Runs.{segment_of}
 use Rattle.segments.specs.Tables.{Table}
@@ -24,6 +25,10 @@ objects_with accounts s cache pol kept =
 abbrev pub queue_joined : Option ℕ → List QueueRow → List QueueRow
 queue_joined None queue = queue
 queue_joined (Some c) queue = queue ++ record { process = c; nice = 20; slices = 0 } ∷ []
+
+-- these bytes are kept for the graft at point pt of process q, or none
+abbrev pub with_kept : (q pt : ℕ) → Option (ℕ → ℕ) → Objects → Objects
+with_kept q pt bytes s = with_things (set_segment q pt bytes s.things) s
 
 -- what no call changes
 abbrev pub world_of_store : {B : Type 0} {P : _} → Store B P → World

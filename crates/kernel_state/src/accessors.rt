@@ -1,16 +1,16 @@
 //! The plain accessors of grafts, and the undoing of their changes.
 
-ghost use Rattle.std.specs.Prelude.{◌≡◌, ℕ, ◌<◌, ◌≤◌, true, None, Some, Ok, map, length, slice_get, slice_index, IfOk, IfSome};
+ghost use Rattle.std.specs.Prelude.{◌≡◌, ℕ, ◌<◌, true, None, Some, Ok, map, length, slice_get, IfSome};
 ghost use Rattle.std.specs.Option.{option_copied};
 ghost use Rattle.std.specs.Result.{is_ok};
 ghost use Rattle.kernel_model.specs.declared.FrameRow.{FrameRow as Row};
-ghost use Rattle.kernel_model.specs.declared.Inverse.{Inverse as Inverses};
-ghost use Rattle.kernel_model.specs.Access.{access as accessed, early_refusal, undo as undone};
-ghost use Rattle.kernel_model.specs.Objects.{with_things};
+ghost use Rattle.kernel_model.specs.Access.{access as accessed, undo as undone};
 ghost use Rattle.kernel_model.specs.Policies.{lives};
 ghost use Rattle.segments.specs.Tables.{by_place};
-ghost use Rattle.kernel_state.specs.Accesses.{accessed_with, answer_of, things_after, CanBeUndone, views_after};
-ghost use Rattle.kernel_state.specs.Stores.{world_of_store, objects_of, queue_of, views_of};
+ghost use Rattle.kernel_state.specs.Accesses.{accessed_with, answer_of, things_after, CanBeUndone, views_after, IsPlainAccess, Answers, StayUndoable};
+ghost use Rattle.kernel_state.specs.Changes.{ChangesThings};
+ghost use Rattle.kernel_state.specs.Places.{HasCell, HasDescriptor};
+ghost use Rattle.kernel_state.specs.Stores.{objects_of, queue_of, views_of};
 
 use crate::{Access, Store};
 use accessor_list::ids;
@@ -22,20 +22,12 @@ impl<B: Policy> Store<B> {
     /// place. Nothing changes where it is refused. The arguments aren't refused by themselves
     /// (`accessor_list::early`).
     pub fn access(&mut self, id: u32, args: [u32; 3], q: u8) -> Result<Access, Cause>
-        requires lives { lives (queue_of self.old) q ≡ true }
-        requires plain { id ≤ 12 }
-        requires early { early_refusal 15 id (slice_index args 0) (slice_index args 1) q ≡ None }
-        ensures answer { result ≡
-            answer_of (accessed_with id args q (objects_of self.old).things) }
-        ensures objects { let s = objects_of self.old in objects_of self.new ≡
-            with_things (things_after (accessed_with id args q s.things) s.things) s }
-        ensures living { (p : ℕ) → lives (queue_of self.new) p ≡ lives (queue_of self.old) p }
-        ensures world { world_of_store self.new ≡ world_of_store self.old }
-        ensures memory { self.new.ram ≡ self.old.ram }
-        ensures undoable { IfOk result
-            (λ a. IfSome a.inverse (λ i. CanBeUndone i (objects_of self.new).things)) }
-        ensures kept { (i : Inverses) → CanBeUndone i (objects_of self.old).things →
-            CanBeUndone i (objects_of self.new).things }
+        requires { IsPlainAccess (queue_of self.old) id args q }
+        ensures answer { Answers (accessed_with id args q (objects_of self.old).things)
+            (objects_of self.new).things result }
+        ensures changed { ChangesThings (λ w. things_after (accessed_with id args q w) w)
+            self.old self.new }
+        ensures kept { StayUndoable (objects_of self.old).things (objects_of self.new).things }
     {
         let answer = self.answer(id, args, q);
         if answer.is_ok() {
@@ -49,18 +41,13 @@ impl<B: Policy> Store<B> {
     pub fn undo(&mut self, inverse_is: Inverse, bytes: Option<&[u8]>)
         requires fits { CanBeUndone inverse_is (objects_of self.old).things }
         requires whole { IfSome bytes (λ b. length b.now ≡ 4096) }
-        ensures objects { let s = objects_of self.old in objects_of self.new ≡
-            with_things (undone (record {
-              inverse = inverse_is;
-              bytes = by_place (option_copied bytes.entry);
-            }) s.things) s }
+        ensures changed { ChangesThings (undone (record {
+          inverse = inverse_is;
+          bytes = by_place (option_copied bytes.entry);
+        })) self.old self.new }
         ensures views { views_of self.new ≡
             views_after inverse_is self.old.choice (views_of self.old) }
-        ensures living { (p : ℕ) → lives (queue_of self.new) p ≡ lives (queue_of self.old) p }
-        ensures world { world_of_store self.new ≡ world_of_store self.old }
-        ensures memory { self.new.ram ≡ self.old.ram }
-        ensures kept { (i : Inverses) → CanBeUndone i (objects_of self.old).things →
-            CanBeUndone i (objects_of self.new).things }
+        ensures kept { StayUndoable (objects_of self.old).things (objects_of self.new).things }
     {
         match inverse_is {
             Inverse::Cell(q, k, v) => self.set_cell(q, k, v),
@@ -74,13 +61,9 @@ impl<B: Policy> Store<B> {
 
     /// What an accessor answers, as `access` says. Nothing changes.
     pub fn answer(&self, id: u32, args: [u32; 3], q: u8) -> Result<Access, Cause>
-        requires lives { lives (queue_of self.now) q ≡ true }
-        requires plain { id ≤ 12 }
-        requires early { early_refusal 15 id (slice_index args 0) (slice_index args 1) q ≡ None }
-        ensures answer { result ≡
-            answer_of (accessed_with id args q (objects_of self.now).things) }
-        ensures undoable { IfOk result
-            (λ a. IfSome a.inverse (λ i. CanBeUndone i (objects_of self.now).things)) }
+        requires { IsPlainAccess (queue_of self.now) id args q }
+        ensures { let w = (objects_of self.now).things in
+            Answers (accessed_with id args q w) w result }
     {
         let [first, second, third] = args;
         match id {
@@ -102,34 +85,23 @@ impl<B: Policy> Store<B> {
 
     /// Makes the change of an accessor whose answer isn't a refusal.
     pub fn apply(&mut self, id: u32, args: [u32; 3], q: u8)
-        requires lives { lives (queue_of self.old) q ≡ true }
-        requires plain { id ≤ 12 }
-        requires early { early_refusal 15 id (slice_index args 0) (slice_index args 1) q ≡ None }
+        requires plain { IsPlainAccess (queue_of self.old) id args q }
         requires accepted { is_ok (answer_of (accessed_with id args q (objects_of self.old).things))
             ≡ true }
-        ensures objects { let s = objects_of self.old in objects_of self.new ≡
-            with_things (things_after (accessed_with id args q s.things) s.things) s }
-        ensures living { (p : ℕ) → lives (queue_of self.new) p ≡ lives (queue_of self.old) p }
-        ensures world { world_of_store self.new ≡ world_of_store self.old }
-        ensures memory { self.new.ram ≡ self.old.ram }
-        ensures kept { (i : Inverses) → CanBeUndone i (objects_of self.old).things →
-            CanBeUndone i (objects_of self.new).things }
+        ensures changed { ChangesThings (λ w. things_after (accessed_with id args q w) w)
+            self.old self.new }
+        ensures kept { StayUndoable (objects_of self.old).things (objects_of self.new).things }
     {
         self.change(id, args, q);
     }
 
     /// The change of an accessor that isn't refused.
     fn change(&mut self, id: u32, args: [u32; 3], q: u8)
-        requires lives { lives (queue_of self.old) q ≡ true }
-        requires plain { id ≤ 12 }
-        requires early { early_refusal 15 id (slice_index args 0) (slice_index args 1) q ≡ None }
+        requires plain { IsPlainAccess (queue_of self.old) id args q }
         requires accepted { is_ok (answer_of (accessed_with id args q (objects_of self.old).things))
             ≡ true }
-        ensures objects { let s = objects_of self.old in objects_of self.new ≡
-            with_things (things_after (accessed_with id args q s.things) s.things) s }
-        ensures living { (p : ℕ) → lives (queue_of self.new) p ≡ lives (queue_of self.old) p }
-        ensures world { world_of_store self.new ≡ world_of_store self.old }
-        ensures memory { self.new.ram ≡ self.old.ram }
+        ensures { ChangesThings (λ w. things_after (accessed_with id args q w) w)
+            self.old self.new }
     {
         let [first, second, third] = args;
         match id {
@@ -143,11 +115,8 @@ impl<B: Policy> Store<B> {
     }
 
     fn cell_set(&self, q: u8, k: u8) -> Result<Access, Cause>
-        requires lives { lives (queue_of self.now) q ≡ true }
-        requires number { k < 4 }
-        ensures answer { result ≡ answer_of (accessed 1 k 0 0 q (objects_of self.now).things) }
-        ensures undoable { IfOk result
-            (λ a. IfSome a.inverse (λ i. CanBeUndone i (objects_of self.now).things)) }
+        requires { HasCell (queue_of self.now) q k }
+        ensures { let w = (objects_of self.now).things in Answers (accessed 1 k 0 0 q w) w result }
     {
         let was = self.cell(q, k);
         changes(was, Inverse::Cell(q, k, was))
@@ -155,17 +124,14 @@ impl<B: Policy> Store<B> {
 
     fn nice_set(&self, q: u8) -> Result<Access, Cause>
         requires { lives (queue_of self.now) q ≡ true }
-        ensures answer { result ≡ answer_of (accessed 3 0 0 0 q (objects_of self.now).things) }
-        ensures undoable { IfOk result
-            (λ a. IfSome a.inverse (λ i. CanBeUndone i (objects_of self.now).things)) }
+        ensures { let w = (objects_of self.now).things in Answers (accessed 3 0 0 0 q w) w result }
     {
         let was = self.nice(q);
         changes(u32::from(was), Inverse::Nice(q, was))
     }
 
     fn window_get(&self, q: u8, fd: u8) -> Result<Access, Cause>
-        requires lives { lives (queue_of self.now) q ≡ true }
-        requires number { fd < 4 }
+        requires { HasDescriptor (queue_of self.now) q fd }
         ensures { result ≡ answer_of (accessed 4 fd 0 0 q (objects_of self.now).things) }
     {
         match self.file(q, fd) {
@@ -175,12 +141,9 @@ impl<B: Policy> Store<B> {
     }
 
     fn window_set(&self, q: u8, fd: u8) -> Result<Access, Cause>
-        requires lives { lives (queue_of self.now) q ≡ true }
-        requires number { fd < 4 }
-        ensures answer { (v : ℕ) →
-            result ≡ answer_of (accessed 5 fd v 0 q (objects_of self.now).things) }
-        ensures undoable { IfOk result
-            (λ a. IfSome a.inverse (λ i. CanBeUndone i (objects_of self.now).things)) }
+        requires { HasDescriptor (queue_of self.now) q fd }
+        ensures { (v : ℕ) → let w = (objects_of self.now).things in
+            Answers (accessed 5 fd v 0 q w) w result }
     {
         match self.file(q, fd) {
             Some(row) => changes(u32::from(row.window), Inverse::Window(q, fd, row.window)),
@@ -209,10 +172,8 @@ impl<B: Policy> Store<B> {
     }
 
     fn frame_mark(&self, q: u8, f: u32) -> Result<Access, Cause>
-        ensures answer { (v : ℕ) →
-            result ≡ answer_of (accessed 9 f v 0 q (objects_of self.now).things) }
-        ensures undoable { IfOk result
-            (λ a. IfSome a.inverse (λ i. CanBeUndone i (objects_of self.now).things)) }
+        ensures { (v : ℕ) → let w = (objects_of self.now).things in
+            Answers (accessed 9 f v 0 q w) w result }
     {
         match self.row(f) {
             Some(row) if row.owner == q => {
@@ -235,9 +196,8 @@ impl<B: Policy> Store<B> {
 
     fn tune_set(&self, kind: u8, k: u32, v: u32) -> Result<Access, Cause>
         requires kind { kind < 3 }
-        ensures answer { result ≡ answer_of (accessed 11 kind k v 0 (objects_of self.now).things) }
-        ensures undoable { IfOk result
-            (λ a. IfSome a.inverse (λ i. CanBeUndone i (objects_of self.now).things)) }
+        ensures { let w = (objects_of self.now).things in
+            Answers (accessed 11 kind k v 0 w) w result }
     {
         match self.param(kind) {
             Some(was) if self.takes(kind, k, v) => changes(was, Inverse::Tune(kind, 0, was)),

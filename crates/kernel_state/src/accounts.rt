@@ -6,7 +6,9 @@ ghost use Rattle.kernel_model.specs.Objects.{with_accounts};
 ghost use Rattle.kernel_model.specs.Policies.{lives};
 ghost use Rattle.kernel_model.specs.Pieces.{with_new_graft, new_graft};
 ghost use Rattle.graft_accounts.specs.Table.{short_of, after_give, after_fund, after_bill};
-ghost use Rattle.kernel_state.specs.Stores.{world_of_store, objects_of, queue_of};
+ghost use Rattle.kernel_state.specs.Changes.{Changes};
+ghost use Rattle.kernel_state.specs.Places.{HasPoint};
+ghost use Rattle.kernel_state.specs.Stores.{objects_of, queue_of};
 
 use crate::Store;
 use graft_points::Policy;
@@ -19,11 +21,8 @@ impl<B: Policy> Store<B> {
         requires from { lives (queue_of self.old) p ≡ true }
         requires to { lives (queue_of self.old) q ≡ true }
         ensures answer { result ≡ short_of (((objects_of self.old).accounts.acct p).balance k) n }
-        ensures objects { objects_of self.new ≡
-            with_accounts (after_give p q k n (objects_of self.old).accounts) (objects_of self.old) }
-        ensures queue { queue_of self.new ≡ queue_of self.old }
-        ensures world { world_of_store self.new ≡ world_of_store self.old }
-        ensures memory { self.new.ram ≡ self.old.ram }
+        ensures changed { Changes (λ s. with_accounts (after_give p q k n s.accounts) s)
+            self.old self.new }
     {
         self.procs.rows();
         self.accounts.give(p, q, k, n)
@@ -40,17 +39,12 @@ impl<B: Policy> Store<B> {
     /// Puts a graft at point pt of process p, where none stands. It has nothing, isn't billed, and
     /// nothing is kept for it.
     pub fn install(&mut self, p: u8, pt: u8, image: u8, limit: u32)
-        requires lives { lives (queue_of self.old) p ≡ true }
-        requires point { pt < 16 }
+        requires place { HasPoint (queue_of self.old) p pt }
         requires image { image < 32 }
         requires some { 1 ≤ limit }
         requires most { limit ≤ 65536 }
         requires free { (objects_of self.old).accounts.graft p pt ≡ None }
-        ensures objects { objects_of self.new ≡
-            with_new_graft p pt (new_graft image limit) (objects_of self.old) }
-        ensures queue { queue_of self.new ≡ queue_of self.old }
-        ensures world { world_of_store self.new ≡ world_of_store self.old }
-        ensures memory { self.new.ram ≡ self.old.ram }
+        ensures { Changes (with_new_graft p pt (new_graft image limit)) self.old self.new }
     {
         self.procs.rows();
         self.accounts.install(p, pt, image, limit);
@@ -60,13 +54,8 @@ impl<B: Policy> Store<B> {
     /// Takes out the graft at point pt of process p, if one stands, and gives what it has back to
     /// p.
     pub fn remove(&mut self, p: u8, pt: u8)
-        requires lives { lives (queue_of self.old) p ≡ true }
-        requires point { pt < 16 }
-        ensures objects { objects_of self.new ≡
-            with_accounts (removed p pt (objects_of self.old).accounts) (objects_of self.old) }
-        ensures queue { queue_of self.new ≡ queue_of self.old }
-        ensures world { world_of_store self.new ≡ world_of_store self.old }
-        ensures memory { self.new.ram ≡ self.old.ram }
+        requires { HasPoint (queue_of self.old) p pt }
+        ensures { Changes (λ s. with_accounts (removed p pt s.accounts) s) self.old self.new }
     {
         self.procs.rows();
         self.accounts.remove(p, pt);
@@ -75,15 +64,12 @@ impl<B: Policy> Store<B> {
     /// Moves n from process p to its graft at point pt, where one stands. Err has the balance of p,
     /// with nothing changed, exactly where it is smaller.
     pub fn fund(&mut self, p: u8, pt: u8, k: Kind, n: u32) -> Result<(), u64>
-        requires lives { lives (queue_of self.old) p ≡ true }
-        requires point { pt < 16 }
+        requires place { HasPoint (queue_of self.old) p pt }
         requires stands { is_some ((objects_of self.old).accounts.graft p pt) ≡ true }
         ensures answer { result ≡ short_of (((objects_of self.old).accounts.acct p).balance k) n }
-        ensures objects { let s = objects_of self.old in
-            objects_of self.new ≡ with_accounts (after_fund p pt k n (s.accounts.graft p pt) s.accounts) s }
-        ensures queue { queue_of self.new ≡ queue_of self.old }
-        ensures world { world_of_store self.new ≡ world_of_store self.old }
-        ensures memory { self.new.ram ≡ self.old.ram }
+        ensures changed { Changes
+            (λ s. with_accounts (after_fund p pt k n (s.accounts.graft p pt) s.accounts) s)
+            self.old self.new }
     {
         self.procs.rows();
         self.accounts.fund(p, pt, k, n)
@@ -91,14 +77,11 @@ impl<B: Policy> Store<B> {
 
     /// From here on process p pays for its graft at point pt, where one stands.
     pub fn bill(&mut self, p: u8, pt: u8)
-        requires lives { lives (queue_of self.old) p ≡ true }
-        requires point { pt < 16 }
+        requires place { HasPoint (queue_of self.old) p pt }
         requires stands { is_some ((objects_of self.old).accounts.graft p pt) ≡ true }
-        ensures objects { let s = objects_of self.old in
-            objects_of self.new ≡ with_accounts (after_bill p pt (s.accounts.graft p pt) s.accounts) s }
-        ensures queue { queue_of self.new ≡ queue_of self.old }
-        ensures world { world_of_store self.new ≡ world_of_store self.old }
-        ensures memory { self.new.ram ≡ self.old.ram }
+        ensures { Changes
+            (λ s. with_accounts (after_bill p pt (s.accounts.graft p pt) s.accounts) s)
+            self.old self.new }
     {
         self.procs.rows();
         self.accounts.bill(p, pt);

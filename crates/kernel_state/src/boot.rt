@@ -1,12 +1,10 @@
 //! A store after boot.
 
-ghost use Rattle.std.specs.Prelude.{◌≡◌, ℕ, ◌≤◌, true, Some, None, replicate, slice_index_or};
-ghost use Rattle.kernel_model.specs.declared.FileRow.{FileRow as Row};
-ghost use Rattle.kernel_model.specs.Directory.{lies_on_disk};
+ghost use Rattle.std.specs.Prelude.{◌≡◌, None, replicate};
 ghost use Rattle.kernel_model.specs.Opening.{opening_objects, opening_policy};
 ghost use Rattle.graft_points.specs.Shelf.{IsShelf, pol_of, first_choice};
 ghost use Rattle.kernel_state.specs.Stores.{world_of_store, objects_of, views_of};
-ghost use Rattle.kernel_state.specs.Sound.{world_for};
+ghost use Rattle.kernel_state.specs.Sound.{world_for, CanBoot};
 
 use crate::{Setup, Store};
 use buffer_cache::Cache;
@@ -29,12 +27,7 @@ impl<B: Policy> Store<B> {
         kept: Segments,
         shelf: Shelf<B>,
     ) -> Store<B>
-        requires frames_least { 2 ≤ setup.frames }
-        requires frames_most { setup.frames ≤ 64 }
-        requires size_least { 1 ≤ size }
-        requires size_most { size ≤ 4096 }
-        requires files { (n : ℕ) (r : Row) → slice_index_or dir n None ≡ Some r →
-            lies_on_disk size r ≡ true }
+        requires boot { CanBoot setup size dir }
         requires room { kept ≡ replicate 256 None }
         requires shelf { IsShelf shelf }
         requires stock { pol_of shelf first_choice ≡ opening_policy }
@@ -61,12 +54,7 @@ impl<B: Policy> Store<B> {
     /// Makes it the store after boot again, with another set-up, disk and directory. The memory
     /// stays as it is, and so do the policies, which have the parameters of boot.
     pub fn restart(&mut self, setup: Setup, size: u32, dir: Directory)
-        requires frames_least { 2 ≤ setup.frames }
-        requires frames_most { setup.frames ≤ 64 }
-        requires size_least { 1 ≤ size }
-        requires size_most { size ≤ 4096 }
-        requires files { (n : ℕ) (r : Row) → slice_index_or dir n None ≡ Some r →
-            lies_on_disk size r ≡ true }
+        requires boot { CanBoot setup size dir }
         requires stock { pol_of (views_of self.old) first_choice ≡ opening_policy }
         ensures objects { objects_of self.new ≡ opening_objects setup.grant }
         ensures world { world_of_store self.new ≡ world_for setup size dir }

@@ -9,7 +9,8 @@ ghost use Rattle.kernel_model.specs.FilePieces.{with_cache};
 ghost use Rattle.kernel_model.specs.RawRows.{frame_row_of};
 ghost use Rattle.kernel_model.specs.declared.FrameRow.{FrameRow as Row};
 ghost use Rattle.buffer_cache.specs.Frames.{in_use, row_at};
-ghost use Rattle.kernel_state.specs.Stores.{world_of_store, objects_of, cache_of, queue_of, policies_of, SegmentsStay};
+ghost use Rattle.kernel_state.specs.Changes.{Changes, ChangesFrames};
+ghost use Rattle.kernel_state.specs.Stores.{world_of_store, objects_of, cache_of, queue_of, policies_of};
 
 use crate::Store;
 use graft_points::Policy;
@@ -87,11 +88,8 @@ impl<B: Policy> Store<B> {
     /// Makes frame f, which is in use, the newest.
     pub fn touch(&mut self, f: u8)
         requires in_cache { in_use f self.old.cache ≡ true }
-        ensures objects { objects_of self.new
-            ≡ with_cache (used f (cache_of self.old)) (objects_of self.old) }
-        ensures world { world_of_store self.new ≡ world_of_store self.old }
+        ensures changed { Changes (λ s. with_cache (used f s.things.cache) s) self.old self.new }
         ensures kept { (g : ℕ) → in_use g self.new.cache ≡ in_use g self.old.cache }
-        ensures memory { self.new.ram ≡ self.old.ram }
     {
         self.cache.touch(f);
     }
@@ -102,11 +100,9 @@ impl<B: Policy> Store<B> {
         requires alive { lives (queue_of self.old) owner ≡ true }
         requires block { block < self.old.size }
         requires missing { frame_of_block (cache_of self.old) block ≡ None }
-        ensures objects { objects_of self.new ≡
-            with_cache (filled f (new_frame owner block bytes.now) (cache_of self.old)) (objects_of self.old) }
-        ensures world { world_of_store self.new ≡ world_of_store self.old }
+        ensures changed { ChangesFrames (filled f (new_frame owner block bytes.now))
+            self.old self.new }
         ensures in_cache { in_use f self.new.cache ≡ true }
-        ensures memory { SegmentsStay self.old.ram self.new.ram }
     {
         self.procs.rows();
         self.cache.lru();
@@ -122,12 +118,9 @@ impl<B: Policy> Store<B> {
         requires alive { lives (queue_of self.old) owner ≡ true }
         requires block { block < self.old.size }
         requires missing { frame_of_block (cache_of self.old) block ≡ None }
-        ensures objects { objects_of self.new ≡
-            with_cache (replaced f candidate (new_frame owner block bytes.now) (cache_of self.old))
-            (objects_of self.old) }
-        ensures world { world_of_store self.new ≡ world_of_store self.old }
+        ensures changed { ChangesFrames (replaced f candidate (new_frame owner block bytes.now))
+            self.old self.new }
         ensures in_cache { in_use f self.new.cache ≡ true }
-        ensures memory { SegmentsStay self.old.ram self.new.ram }
     {
         self.procs.rows();
         self.cache.lru();
@@ -141,10 +134,7 @@ impl<B: Policy> Store<B> {
     pub fn patch(&mut self, f: u8, off: u32, bytes: &[u8])
         requires in_cache { in_use f self.old.cache ≡ true }
         requires inside { off + length bytes.now ≤ 512 }
-        ensures objects { objects_of self.new ≡
-            with_cache (with_patch f off bytes.now (cache_of self.old)) (objects_of self.old) }
-        ensures world { world_of_store self.new ≡ world_of_store self.old }
-        ensures memory { SegmentsStay self.old.ram self.new.ram }
+        ensures { ChangesFrames (with_patch f off bytes.now) self.old self.new }
     {
         self.cache.lru();
         whole(&self.ram);
@@ -169,7 +159,8 @@ impl<B: Policy> Store<B> {
     pub fn clean(&mut self, f: u8)
         requires in_cache { in_use f self.old.cache ≡ true }
         ensures objects { (x : FrameValue) → (cache_of self.old).frame f ≡ Some x →
-            objects_of self.new ≡ with_cache (cleaned f x (cache_of self.old)) (objects_of self.old) }
+            objects_of self.new
+            ≡ with_cache (cleaned f x (cache_of self.old)) (objects_of self.old) }
         ensures processes { self.new.procs ≡ self.old.procs }
         ensures world { world_of_store self.new ≡ world_of_store self.old }
         ensures memory { self.new.ram ≡ self.old.ram }
@@ -184,7 +175,7 @@ impl<B: Policy> Store<B> {
         ensures { to.new ≡ bytes_of (cache_of self.now) f }
     {
         self.cache.lru();
-        self.ram.copy_out(start_of(f), to);
+        to.copy_from_slice(self.ram.bytes(start_of(f), BLOCK_BYTES as u32));
     }
 
     /// Bytes off to off + len of frame f, which is in use.
@@ -193,9 +184,9 @@ impl<B: Policy> Store<B> {
         requires inside { off + len ≤ 512 }
         ensures { result ≡ slice_range (bytes_of (cache_of self.now) f) off (off + len) }
     {
-        let mut block = [0; BLOCK_BYTES];
-        self.copy_frame(f, &mut block);
-        bytes_from(&block[off as usize..(off + len) as usize])
+        self.cache.lru();
+        let frame = self.ram.bytes(start_of(f), BLOCK_BYTES as u32);
+        bytes_from(&frame[off as usize..(off + len) as usize])
     }
 }
 

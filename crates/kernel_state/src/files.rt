@@ -1,13 +1,14 @@
 //! The open files of a store, and the blocks that they name.
 
-ghost use Rattle.std.specs.Prelude.{◌≡◌, ℕ, ◌+◌, ◌<◌, ◌≤◌, true, Some, None, Ok, IfSome, IfOk};
-ghost use Rattle.kernel_model.specs.declared.OpenRow.{OpenRow as Row};
+ghost use Rattle.std.specs.Prelude.{◌≡◌, ◌+◌, ◌<◌, ◌≤◌, true, Some, None, Ok, IfSome, IfOk};
 ghost use Rattle.kernel_model.specs.World.{file_named, blocks_of};
 ghost use Rattle.kernel_model.specs.Policies.{lives, ahead_default};
 ghost use Rattle.kernel_model.specs.Needs.{file_block, ahead_block, is_within};
 ghost use Rattle.kernel_model.specs.FilePieces.{with_file, free_descriptor as lowest_free, new_file};
 ghost use Rattle.kernel_model.specs.Sound.{IsSoundFile};
-ghost use Rattle.kernel_state.specs.Stores.{world_of_store, objects_of, queue_of, policies_of, views_of};
+ghost use Rattle.kernel_state.specs.Changes.{Changes};
+ghost use Rattle.kernel_state.specs.Places.{HasDescriptor};
+ghost use Rattle.kernel_state.specs.Stores.{world_of_store, objects_of, queue_of, policies_of};
 
 use crate::{Ahead, Store};
 use graft_points::Policy;
@@ -24,8 +25,7 @@ impl<B: Policy> Store<B> {
 
     /// The file that is open at descriptor fd of process p, which lives.
     pub fn file(&self, p: u8, fd: u8) -> Option<OpenRow>
-        requires lives { lives (queue_of self.now) p ≡ true }
-        requires number { fd < 4 }
+        requires { HasDescriptor (queue_of self.now) p fd }
         ensures value { result ≡ (objects_of self.now).things.file p fd }
         ensures sound { IfSome result (λ o. IsSoundFile (world_of_store self.now) o) }
     {
@@ -50,13 +50,9 @@ impl<B: Policy> Store<B> {
 
     /// Opens, changes or closes the file at descriptor fd of process p, which lives.
     pub fn put_file(&mut self, p: u8, fd: u8, row: Option<OpenRow>)
-        requires lives { lives (queue_of self.old) p ≡ true }
-        requires number { fd < 4 }
+        requires place { HasDescriptor (queue_of self.old) p fd }
         requires file { IfSome row (λ o. IsSoundFile (world_of_store self.old) o) }
-        ensures objects { objects_of self.new ≡ with_file p fd row (objects_of self.old) }
-        ensures views { views_of self.new ≡ views_of self.old }
-        ensures world { world_of_store self.new ≡ world_of_store self.old }
-        ensures memory { self.new.ram ≡ self.old.ram }
+        ensures { Changes (with_file p fd row) self.old self.new }
     {
         self.procs.rows();
         self.procs.put_file(p, fd, row);
@@ -66,10 +62,9 @@ impl<B: Policy> Store<B> {
     /// Refused where no file is open there, or bytes off to off + len of that block aren't all
     /// within the file.
     pub fn block_of(&self, p: u8, fd: u8, i: u32, off: u32, len: u32) -> Result<u32, Refusal>
-        requires lives { lives (queue_of self.now) p ≡ true }
-        requires number { fd < 4 }
-        ensures value { result ≡
-            file_block (world_of_store self.now) ((objects_of self.now).things.file p fd) i off len }
+        requires { HasDescriptor (queue_of self.now) p fd }
+        ensures value { let opened = (objects_of self.now).things.file p fd in
+            result ≡ file_block (world_of_store self.now) opened i off len }
         ensures on_disk { IfOk result (λ b. (b < self.now.size) × (i < 4096)) }
     {
         self.procs.rows();

@@ -1,7 +1,7 @@
 //! Values of a store that only grafts look at and change: nices, windows, marks, and the frames of
 //! one process.
 
-ghost use Rattle.std.specs.Prelude.{◌≡◌, ℕ, ◌<◌, ◌≤◌, true, Some, [], nat_le, map, is_some, IfSome, IfNone};
+ghost use Rattle.std.specs.Prelude.{◌≡◌, ◌<◌, ◌≤◌, true, Some, [], nat_le, map, is_some, IfSome, IfNone};
 ghost use Rattle.std.specs.List.{list_all};
 ghost use Rattle.kernel_model.specs.declared.FrameRow.{FrameRow as Row};
 ghost use Rattle.kernel_model.specs.declared.QueueRow.{QueueRow as Waiting};
@@ -9,7 +9,9 @@ ghost use Rattle.kernel_model.specs.Access.{set_nice as nice_set, set_window as 
 ghost use Rattle.kernel_model.specs.Objects.{with_things};
 ghost use Rattle.kernel_model.specs.Policies.{lives, nice_of, is_owned, frames_of, victim_among};
 ghost use Rattle.buffer_cache.specs.Frames.{in_use, row_at};
-ghost use Rattle.kernel_state.specs.Stores.{world_of_store, objects_of, cache_of, queue_of, policies_of, views_of};
+ghost use Rattle.kernel_state.specs.Changes.{Changes};
+ghost use Rattle.kernel_state.specs.Places.{HasDescriptor};
+ghost use Rattle.kernel_state.specs.Stores.{objects_of, cache_of, queue_of, policies_of};
 
 use crate::Store;
 use graft_points::Policy;
@@ -28,28 +30,17 @@ impl<B: Policy> Store<B> {
     pub(crate) fn set_nice(&mut self, q: u8, v: u8)
         requires lives { lives (queue_of self.old) q ≡ true }
         requires range { v ≤ 39 }
-        ensures objects { objects_of self.new ≡
-            with_things (nice_set q v (objects_of self.old).things) (objects_of self.old) }
-        ensures living { (p : ℕ) → lives (queue_of self.new) p ≡ lives (queue_of self.old) p }
-        ensures views { views_of self.new ≡ views_of self.old }
-        ensures world { world_of_store self.new ≡ world_of_store self.old }
-        ensures memory { self.new.ram ≡ self.old.ram }
+        ensures { Changes (λ s. with_things (nice_set q v s.things) s) self.old self.new }
     {
         self.procs.set_nice(q, v);
     }
 
     /// Gives the file that is open at descriptor fd of process q another window.
     pub(crate) fn set_window(&mut self, q: u8, fd: u8, v: u8)
-        requires lives { lives (queue_of self.old) q ≡ true }
-        requires number { fd < 4 }
+        requires place { HasDescriptor (queue_of self.old) q fd }
         requires opened { is_some ((objects_of self.old).things.file q fd) ≡ true }
         requires range { v ≤ 8 }
-        ensures objects { objects_of self.new ≡
-            with_things (window_set q fd v (objects_of self.old).things) (objects_of self.old) }
-        ensures queue { queue_of self.new ≡ queue_of self.old }
-        ensures views { views_of self.new ≡ views_of self.old }
-        ensures world { world_of_store self.new ≡ world_of_store self.old }
-        ensures memory { self.new.ram ≡ self.old.ram }
+        ensures { Changes (λ s. with_things (window_set q fd v s.things) s) self.old self.new }
     {
         if let Some(row) = self.file(q, fd) {
             self.put_file(q, fd, Some(OpenRow { window: v, ..row }));
@@ -59,12 +50,7 @@ impl<B: Policy> Store<B> {
     /// Gives frame f, which is in use, another mark.
     pub(crate) fn set_mark(&mut self, f: u32, v: u8)
         requires in_cache { in_use f self.old.cache ≡ true }
-        ensures objects { objects_of self.new ≡
-            with_things (mark_set f v (objects_of self.old).things) (objects_of self.old) }
-        ensures queue { queue_of self.new ≡ queue_of self.old }
-        ensures views { views_of self.new ≡ views_of self.old }
-        ensures world { world_of_store self.new ≡ world_of_store self.old }
-        ensures memory { self.new.ram ≡ self.old.ram }
+        ensures { Changes (λ s. with_things (mark_set f v s.things) s) self.old self.new }
     {
         self.cache.lru();
         if let Some(row) = self.row(f) {
@@ -126,8 +112,8 @@ impl<B: Policy> Store<B> {
     /// The candidate for eviction of process q: the frame that the chosen policy evicts of those of
     /// q, if it has some.
     pub fn candidate_of(&self, q: u8) -> Option<u8>
-        ensures value { result ≡
-            victim_among (policies_of self.now 1) (cache_of self.now) (frames_of (cache_of self.now) q) }
+        ensures value { let c = cache_of self.now in
+            result ≡ victim_among (policies_of self.now 1) c (frames_of c q) }
         ensures in_cache { IfSome result (λ f. in_use f self.now.cache ≡ true) }
         ensures owned { IfSome result (λ f. is_owned (cache_of self.now) q f ≡ true) }
         ensures none { IfNone result (frames_of (cache_of self.now) q ≡ []) }

@@ -25,6 +25,7 @@ mod shown;
 use buffer_cache::Cache;
 use graft_accounts::Accounts;
 use graft_points::{Choice, Policy, Shelf};
+pub use kept::segment_number;
 use kernel_model::Inverse;
 use mem_disk::Directory;
 use process_table::Procs;

@@ -6,7 +6,8 @@ ghost use Rattle.kernel_model.specs.Access.{in_range, param_top, set_param as pa
 ghost use Rattle.kernel_model.specs.Early.{policy_count};
 ghost use Rattle.kernel_model.specs.RawRows.{shown_param};
 ghost use Rattle.graft_points.specs.Shelf.{code_of, shelf_with};
-ghost use Rattle.kernel_state.specs.Stores.{world_of_store, objects_of, queue_of, views_of};
+ghost use Rattle.kernel_state.specs.Changes.{Changes, ChangesThings};
+ghost use Rattle.kernel_state.specs.Stores.{objects_of, views_of};
 
 use crate::Store;
 use graft_points::Policy;
@@ -48,14 +49,9 @@ impl<B: Policy> Store<B> {
     pub fn choose(&mut self, kind: u8, j: u8)
         requires kind { kind < 3 }
         requires number { j < policy_count kind }
-        ensures objects { let s = objects_of self.old in
-            objects_of self.new ≡
-            with_things (record (s.things) {
-              pol = at kind (record (s.things.pol kind) { chosen = j }) s.things.pol;
-            }) s }
-        ensures queue { queue_of self.new ≡ queue_of self.old }
-        ensures world { world_of_store self.new ≡ world_of_store self.old }
-        ensures memory { self.new.ram ≡ self.old.ram }
+        ensures { Changes (λ s. with_things (record (s.things) {
+          pol = at kind (record (s.things.pol kind) { chosen = j }) s.things.pol;
+        }) s) self.old self.new }
     {
         self.choice.choose(kind, j);
     }
@@ -66,13 +62,9 @@ impl<B: Policy> Store<B> {
         requires kind { kind < 3 }
         requires range { in_range
             (param_top kind ((objects_of self.old).things.pol kind).chosen) 0 v ≡ true }
-        ensures objects { objects_of self.new ≡
-            with_things (param_set kind v (objects_of self.old).things) (objects_of self.old) }
-        ensures queue { queue_of self.new ≡ queue_of self.old }
+        ensures changed { ChangesThings (param_set kind v) self.old self.new }
         ensures views { views_of self.new ≡
             shelf_with (code_of kind (slice_index self.old.choice kind)) v (views_of self.old) }
-        ensures world { world_of_store self.new ≡ world_of_store self.old }
-        ensures memory { self.new.ram ≡ self.old.ram }
     {
         self.shelf.set_param(&self.choice, kind, v);
     }

@@ -9,7 +9,9 @@ ghost use Rattle.kernel_model.specs.Objects.{with_things};
 ghost use Rattle.kernel_model.specs.Handlers.{has_room, handlers_with, handlers_without};
 ghost use Rattle.kernel_model.specs.EventPoints.{with_handlers};
 ghost use Rattle.kernel_model.specs.Access.{set_cell as cell_set};
-ghost use Rattle.kernel_state.specs.Stores.{world_of_store, objects_of, queue_of, queue_joined, policies_of, views_of};
+ghost use Rattle.kernel_state.specs.Changes.{Changes};
+ghost use Rattle.kernel_state.specs.Places.{HasCell};
+ghost use Rattle.kernel_state.specs.Stores.{world_of_store, objects_of, queue_of, queue_joined, policies_of};
 
 use crate::Store;
 use graft_points::Policy;
@@ -48,11 +50,7 @@ impl<B: Policy> Store<B> {
     /// Process p goes to the back of the queue.
     pub fn to_back(&mut self, p: u8)
         requires lives { lives (queue_of self.old) p ≡ true }
-        ensures objects { objects_of self.new
-            ≡ with_queue (queue_to_back p (queue_of self.old)) (objects_of self.old) }
-        ensures living { (q : ℕ) → lives (queue_of self.new) q ≡ lives (queue_of self.old) q }
-        ensures world { world_of_store self.new ≡ world_of_store self.old }
-        ensures memory { self.new.ram ≡ self.old.ram }
+        ensures { Changes (λ s. with_queue (queue_to_back p s.things.queue) s) self.old self.new }
     {
         self.procs.to_back(p);
     }
@@ -91,19 +89,15 @@ impl<B: Policy> Store<B> {
     /// Raises the slices of process p by one, up to the end of their count.
     pub fn add_slice(&mut self, p: u8)
         requires lives { lives (queue_of self.old) p ≡ true }
-        ensures objects { objects_of self.new ≡
-            with_queue (queue_with_slice p (queue_of self.old)) (objects_of self.old) }
-        ensures living { (q : ℕ) → lives (queue_of self.new) q ≡ lives (queue_of self.old) q }
-        ensures world { world_of_store self.new ≡ world_of_store self.old }
-        ensures memory { self.new.ram ≡ self.old.ram }
+        ensures { Changes (λ s. with_queue (queue_with_slice p s.things.queue) s)
+            self.old self.new }
     {
         self.procs.add_slice(p);
     }
 
     /// Cell k of process p, which lives.
     pub fn cell(&self, p: u8, k: u8) -> u32
-        requires lives { lives (queue_of self.now) p ≡ true }
-        requires number { k < 4 }
+        requires { HasCell (queue_of self.now) p k }
         ensures { result ≡ (objects_of self.now).things.cell p k }
     {
         self.procs.rows();
@@ -112,13 +106,8 @@ impl<B: Policy> Store<B> {
 
     /// Changes cell k of process p, which lives.
     pub fn set_cell(&mut self, p: u8, k: u8, v: u32)
-        requires lives { lives (queue_of self.old) p ≡ true }
-        requires number { k < 4 }
-        ensures objects { objects_of self.new ≡
-            with_things (cell_set p k v (objects_of self.old).things) (objects_of self.old) }
-        ensures views { views_of self.new ≡ views_of self.old }
-        ensures world { world_of_store self.new ≡ world_of_store self.old }
-        ensures memory { self.new.ram ≡ self.old.ram }
+        requires { HasCell (queue_of self.old) p k }
+        ensures { Changes (λ s. with_things (cell_set p k v s.things) s) self.old self.new }
     {
         self.procs.set_cell(p, k, v);
     }
@@ -135,10 +124,7 @@ impl<B: Policy> Store<B> {
     pub fn set_holder(&mut self, u: u8, holder: Option<u8>)
         requires number { u < 16 }
         requires lives { IfSome holder (λ q. lives (queue_of self.old) q ≡ true) }
-        ensures objects { objects_of self.new ≡ with_holder u holder (objects_of self.old) }
-        ensures queue { queue_of self.new ≡ queue_of self.old }
-        ensures world { world_of_store self.new ≡ world_of_store self.old }
-        ensures memory { self.new.ram ≡ self.old.ram }
+        ensures { Changes (with_holder u holder) self.old self.new }
     {
         self.procs.set_holder(u, holder);
     }
@@ -150,24 +136,16 @@ impl<B: Policy> Store<B> {
         requires first { 6 ≤ pt }
         requires last { pt ≤ 13 }
         ensures answer { result ≡ has_room p pt (objects_of self.old).things.handlers }
-        ensures objects { objects_of self.new ≡
-            with_handlers (handlers_with p pt (objects_of self.old).things.handlers)
-            (objects_of self.old) }
-        ensures queue { queue_of self.new ≡ queue_of self.old }
-        ensures world { world_of_store self.new ≡ world_of_store self.old }
-        ensures memory { self.new.ram ≡ self.old.ram }
+        ensures changed { Changes (λ s. with_handlers (handlers_with p pt s.things.handlers) s)
+            self.old self.new }
     {
         self.procs.add_handler(p, pt)
     }
 
     /// Takes out the handler of process p at point pt. Nothing changes where it doesn't stand.
     pub fn drop_handler(&mut self, p: u8, pt: u8)
-        ensures objects { objects_of self.new ≡
-            with_handlers (handlers_without p pt (objects_of self.old).things.handlers)
-            (objects_of self.old) }
-        ensures queue { queue_of self.new ≡ queue_of self.old }
-        ensures world { world_of_store self.new ≡ world_of_store self.old }
-        ensures memory { self.new.ram ≡ self.old.ram }
+        ensures { Changes (λ s. with_handlers (handlers_without p pt s.things.handlers) s)
+            self.old self.new }
     {
         self.procs.drop_handler(p, pt);
     }

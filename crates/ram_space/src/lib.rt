@@ -103,13 +103,13 @@ impl Ram {
         clear_piece(&mut self.bytes, from as usize, to as usize);
     }
 
-    /// Copies bytes out, the first from an address, as many as there is room for.
-    pub fn copy_out(&self, a: u32, to: &mut [u8])
-        requires { a + length to.old ≤ RAM_BYTES }
-        ensures value { to.new ≡ slice_range self.now a (a + length to.old) }
+    /// The bytes from an address on, so many.
+    pub fn bytes(&self, a: u32, count: u32) -> &[u8]
+        requires { a + count ≤ RAM_BYTES }
+        ensures value { result.now ≡ slice_range self.now a (a + count) }
         ensures size { length self.now ≡ RAM_BYTES }
     {
-        get_piece(&self.bytes, a as usize, to);
+        get_piece(&self.bytes, a as usize, count as usize)
     }
 }
 
@@ -154,12 +154,12 @@ fn clear_piece(bytes: &mut [u8], from: usize, to: usize)
     bytes[from..to].fill(0);
 }
 
-/// Copies the bytes from a place on, as many as there is room for.
-fn get_piece(bytes: &[u8], at: usize, to: &mut [u8])
-    requires { at + length to.old ≤ length bytes.now }
-    ensures { to.new ≡ slice_range bytes.now at (at + length to.old) }
+/// The bytes from a place on, so many.
+fn get_piece(bytes: &[u8], at: usize, count: usize) -> &[u8]
+    requires { at + count ≤ length bytes.now }
+    ensures { result.now ≡ slice_range bytes.now at (at + count) }
 {
-    to.copy_from_slice(&bytes[at..at + to.len()]);
+    &bytes[at..at + count]
 }
 
 #[cfg(test)]
@@ -176,11 +176,8 @@ mod tests {
             ram.put_word(524_284, 0x1122_3344);
             ram.put_byte(4, 0x55);
             ram.copy_in(5, b"\x66\x77");
-            let mut bytes = [9u8; 5];
-            ram.copy_out(524_283, &mut bytes);
-            assert!(rt; &bytes == b"\0\x44\x33\x22\x11");
-            ram.copy_out(3, &mut bytes);
-            assert!(rt; &bytes == b"\0\x55\x66\x77\0");
+            assert!(rt; ram.bytes(524_283, 5) == b"\0\x44\x33\x22\x11".as_slice());
+            assert!(rt; ram.bytes(3, 5) == b"\0\x55\x66\x77\0".as_slice());
             assert_eq!(rt; ram.word(4), 0x0077_6655);
             assert_eq!(rt; ram.byte(524_287), 0x11);
         }

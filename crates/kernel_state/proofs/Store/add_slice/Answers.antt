@@ -3,11 +3,20 @@ use Rattle.kernel_model.specs.Policies.{lives}
 use Rattle.process_table.specs.Processes.{Processes}
 use Rattle.kernel_state.specs.Stores.{world_of_store}
 use Rattle.kernel_state.proofs.Queues.{lives_slice}
-use Rattle.kernel_state.proofs.Fits.{fits_same}
+use Rattle.kernel_state.proofs.Fits.{fits_same, stands_by}
 use Rattle.kernel_state.proofs.Store.add_slice.Goals as goal
 
-pub returns-clause-living : goal.returns-clause-living
-returns-clause-living g c = λ q. ap (λ (x : Processes). lives x.queue q) c.add_slice.ensures ∙ lives_slice c.args.p q c.args.self.now.procs.queue
+pub returns : goal.returns
+returns g c =
+    let s = c.args.self.now in
+    record {
+      objects = stands_by s c.add_slice.new.self _ c.add_slice.ensures;
+      queue = ap (λ (x : Processes). x.queue) c.add_slice.ensures;
+      living = λ q. ap (λ (x : Processes). lives x.queue q) c.add_slice.ensures ∙ lives_slice c.args.p q s.procs.queue;
+      views = refl;
+      world = refl;
+      memory = refl;
+    }
 
 pub invariant_of-self-clause-fits : goal.invariant_of-self-clause-fits
 invariant_of-self-clause-fits g c =

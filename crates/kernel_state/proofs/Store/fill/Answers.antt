@@ -1,4 +1,5 @@
 use Rattle.std.proofs.Common.{◌≡◌, length, ap, refl, arith}
+use Rattle.std.proofs.lemmas.Grind.{common_steps}
 use Rattle.kernel_model.specs.Objects.{CacheValue}
 use Rattle.buffer_cache.specs.Frames.{Frames}
 use Rattle.kernel_state.specs.CacheViews.{cache_value}
@@ -12,13 +13,18 @@ pub fill-requires-clause-no_other : goal.fill-requires-clause-no_other
 fill-requires-clause-no_other g c =
     λ g does. none_holds c.args.self.now.cache c.args.self.now.ram c.args.block c.args.f g c.lru.ensures.sound c.requires.missing does
 
-pub returns-clause-objects : goal.returns-clause-objects
-returns-clause-objects g c =
+pub returns-clause-changed : goal.returns-clause-changed
+returns-clause-changed g c =
     let s = c.args.self.now in
     let long : length c.args.bytes.now ≡ 512 = omega arith in
-    stands_so s c.fill.new.self c.fill.new.ram _
-    (filled_is s.cache c.fill.new.self s.ram c.fill.new.ram c.args.bytes.now c.args.f c.args.owner c.args.block c.lru.ensures.sound c.whole.ensures c.requires.frame long c.fill.ensures.cache
-    c.fill.ensures.memory)
+    record {
+      objects =
+          stands_so s c.fill.new.self c.fill.new.ram _
+          (filled_is s.cache c.fill.new.self s.ram c.fill.new.ram c.args.bytes.now c.args.f c.args.owner c.args.block c.lru.ensures.sound c.whole.ensures c.requires.frame long c.fill.ensures.cache
+          c.fill.ensures.memory);
+      world = refl;
+      memory = grind (arith, common_steps);
+    }
 
 pub invariant_of-self-clause-fits : goal.invariant_of-self-clause-fits
 invariant_of-self-clause-fits g c =

@@ -7,7 +7,7 @@ use Rattle.kernel_state.proofs.Store.new.Goals as goal
 
 pub invariant_of-result-clause-fits : goal.invariant_of-result-clause-fits
 invariant_of-result-clause-fits g c =
-    fits_new (world_for c.args.setup c.args.size c.args.dir) _ c.new-3.result c.new.result c.args.ram c.new-3.ensures c.new.ensures refl refl c.requires.size_least c.requires.size_most c.requires.files
+    fits_new (world_for c.args.setup c.args.size c.args.dir) _ c.new-3.result c.new.result c.args.ram c.new-3.ensures c.new.ensures refl refl c.requires.boot.size_least c.requires.boot.size_most c.requires.boot.files
 
 pub returns-clause-objects : goal.returns-clause-objects
 returns-clause-objects g c =

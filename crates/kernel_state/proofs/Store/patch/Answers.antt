@@ -1,16 +1,22 @@
-use Rattle.std.proofs.Common.{true, ap, refl}
+use Rattle.std.proofs.Common.{true, ap, refl, arith}
+use Rattle.std.proofs.lemmas.Grind.{common_steps}
 use Rattle.buffer_cache.specs.Frames.{Frames}
 use Rattle.kernel_state.specs.Stores.{world_of_store}
 use Rattle.kernel_state.proofs.CacheLaws.{patched_is, used_below}
 use Rattle.kernel_state.proofs.Fits.{fits_frames, blocks_changed, stands_so}
 use Rattle.kernel_state.proofs.Store.patch.Goals as goal
 
-pub returns-clause-objects : goal.returns-clause-objects
-returns-clause-objects g c =
+pub returns : goal.returns
+returns g c =
     let s = c.args.self.now in
-    stands_so s c.patch.new.self c.patch.new.ram _
-    (patched_is s.cache c.patch.new.self s.ram c.patch.new.ram c.args.bytes.now c.args.f c.args.off c.lru.ensures.sound c.whole.ensures c.requires.in_cache c.requires.inside
-    c.patch.ensures.cache c.patch.ensures.memory)
+    record {
+      objects =
+          stands_so s c.patch.new.self c.patch.new.ram _
+          (patched_is s.cache c.patch.new.self s.ram c.patch.new.ram c.args.bytes.now c.args.f c.args.off c.lru.ensures.sound c.whole.ensures c.requires.in_cache c.requires.inside
+          c.patch.ensures.cache c.patch.ensures.memory);
+      world = refl;
+      memory = grind (arith, common_steps);
+    }
 
 pub invariant_of-self-clause-fits : goal.invariant_of-self-clause-fits
 invariant_of-self-clause-fits g c =

@@ -1,4 +1,5 @@
 use Rattle.std.proofs.Common.{◌≡◌, ◌∙◌, List, Option, length, ap, subst, refl, arith, true}
+use Rattle.std.proofs.lemmas.Grind.{common_steps}
 use Rattle.kernel_model.specs.declared.FrameRow.{FrameRow}
 use Rattle.kernel_model.specs.Objects.{CacheValue}
 use Rattle.buffer_cache.specs.Frames.{Frames, holds, row_at}
@@ -16,13 +17,18 @@ fill-requires-clause-no_other g c =
     none_holds c.args.self.now.cache c.args.self.now.ram c.args.block c.args.f g c.lru.ensures.sound c.requires.missing
     (subst (λ (w : List (Option FrameRow)). holds c.args.block (row_at w g) ≡ true) rows does)
 
-pub returns-clause-objects : goal.returns-clause-objects
-returns-clause-objects g c =
+pub returns-clause-changed : goal.returns-clause-changed
+returns-clause-changed g c =
     let s = c.args.self.now in
     let long : length c.args.bytes.now ≡ 512 = omega arith in
-    stands_so s c.fill.new.self c.fill.new.ram _
-    (replaced_is s.cache c.swap_places.new.self c.fill.new.self s.ram c.fill.new.ram c.args.bytes.now c.args.f c.args.candidate c.args.owner c.args.block c.lru.ensures.sound c.whole.ensures
-    c.requires.frame long c.swap_places.ensures c.lru-2.ensures.sound c.fill.ensures.cache c.fill.ensures.memory)
+    record {
+      objects =
+          stands_so s c.fill.new.self c.fill.new.ram _
+          (replaced_is s.cache c.swap_places.new.self c.fill.new.self s.ram c.fill.new.ram c.args.bytes.now c.args.f c.args.candidate c.args.owner c.args.block c.lru.ensures.sound c.whole.ensures
+          c.requires.frame long c.swap_places.ensures c.lru-2.ensures.sound c.fill.ensures.cache c.fill.ensures.memory);
+      world = refl;
+      memory = grind (arith, common_steps);
+    }
 
 pub invariant_of-self-clause-fits : goal.invariant_of-self-clause-fits
 invariant_of-self-clause-fits g c =

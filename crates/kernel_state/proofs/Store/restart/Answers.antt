@@ -5,4 +5,4 @@ use Rattle.kernel_state.proofs.Store.restart.Goals as goal
 
 pub invariant_of-self-clause-fits : goal.invariant_of-self-clause-fits
 invariant_of-self-clause-fits g c =
-    fits_new (world_for c.args.setup c.args.size c.args.dir) _ c.new-self-3.result c.new-self.result c.args.self.now.ram c.new-self-3.ensures c.new-self.ensures refl refl c.requires.size_least c.requires.size_most c.requires.files
+    fits_new (world_for c.args.setup c.args.size c.args.dir) _ c.new-self-3.result c.new-self.result c.args.self.now.ram c.new-self-3.ensures c.new-self.ensures refl refl c.requires.boot.size_least c.requires.boot.size_most c.requires.boot.files

@@ -2,12 +2,21 @@ use Rattle.std.proofs.Common.{ap, refl, ◌∙◌}
 use Rattle.kernel_model.specs.Policies.{lives}
 use Rattle.process_table.specs.Processes.{Processes}
 use Rattle.kernel_state.specs.Stores.{world_of_store}
-use Rattle.kernel_state.proofs.Fits.{fits_same}
+use Rattle.kernel_state.proofs.Fits.{fits_same, stands_by}
 use Rattle.kernel_state.proofs.Accessing.{lives_nice}
 use Rattle.kernel_state.proofs.Store.set_nice.Goals as goal
 
-pub returns-clause-living : goal.returns-clause-living
-returns-clause-living g c = λ p. ap (λ (x : Processes). lives x.queue p) c.set_nice.ensures ∙ lives_nice c.args.q c.args.v p c.args.self.now.procs.queue
+pub returns : goal.returns
+returns g c =
+    let s = c.args.self.now in
+    record {
+      objects = stands_by s c.set_nice.new.self _ c.set_nice.ensures;
+      queue = ap (λ (x : Processes). x.queue) c.set_nice.ensures;
+      living = λ p. ap (λ (x : Processes). lives x.queue p) c.set_nice.ensures ∙ lives_nice c.args.q c.args.v p s.procs.queue;
+      views = refl;
+      world = refl;
+      memory = refl;
+    }
 
 pub invariant_of-self-clause-fits : goal.invariant_of-self-clause-fits
 invariant_of-self-clause-fits g c =

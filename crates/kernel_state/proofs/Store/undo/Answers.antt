@@ -30,7 +30,7 @@ returns-in-Mark-clause-kept g c = λ i h.
 
 pub returns-in-Tune-clause-kept : goal.returns-in-Tune-clause-kept
 returns-in-Tune-clause-kept g c = λ i h.
-    subst (λ (s : Objects). CanBeUndone i s.things) (sym c.set_param.ensures.objects)
+    subst (λ (s : Objects). CanBeUndone i s.things) (sym c.set_param.ensures.changed.objects)
     (kept_by_undo (Tune c.in-Tune.kind 0 c.in-Tune.v) i (by_place (option_copied c.args.bytes)) (objects_of c.args.self.now).things h)
 
 pub returns-in-Segment-clause-kept : goal.returns-in-Segment-clause-kept
