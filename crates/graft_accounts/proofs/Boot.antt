@@ -6,9 +6,8 @@ use Rattle.kernel_model.specs.declared.Kind.{Kind}
 use Rattle.kernel_model.specs.declared.Kind.TheVariants.{Steps, Records, Locks}
 use Rattle.kernel_model.specs.Objects.{GraftValue, AcctValue}
 use Rattle.kernel_model.specs.Opening.{opening_account, opening_accounts}
-use Rattle.graft_accounts.specs.declared.amounts.Amounts.{Amounts}
 use Rattle.graft_accounts.specs.declared.rows.Standing.{Standing}
-use Rattle.graft_accounts.specs.Sums.{IsSums, IsKept, opening, more_at}
+use Rattle.graft_accounts.specs.Sums.{Sums, IsSums, IsKept, opening, more_at}
 use Rattle.graft_accounts.specs.Table.{Table, IsTable, sums_of, standing_at, account_at, graft_at, accounts_of, total}
 use Rattle.graft_accounts.proofs.Places.{set_here, set_other, at_by}
 use Rattle.graft_accounts.proofs.Seen.{accounts_by}
@@ -32,11 +31,11 @@ sums_at_boot t grant Steps b = b.steps
 sums_at_boot t grant Records b = b.records
 sums_at_boot t grant Locks b = b.locks
 
-kept_at_boot : (t : Table) (grant : ℕ) (a : Amounts) → IsBoot t grant → a ≡ opening grant → IsKept t.grafts a
+kept_at_boot : (t : Table) (grant : ℕ) (a : Sums) → IsBoot t grant → a ≡ opening grant → IsKept t.grafts a
 kept_at_boot t grant a b e =
     record {
       sums = subst IsSums (sym e) b.sound;
-      none = λ i _. ap (λ (s : Amounts). slice_index s.funds i) e ∙ all_alike 0 256 i;
+      none = λ i _. ap (λ (s : Sums). slice_index s.funds i) e ∙ all_alike 0 256 i;
     }
 
 pub boot_table : (t : Table) (grant : ℕ) → IsBoot t grant → IsTable t
@@ -57,9 +56,9 @@ account_at_boot : (t : Table) (grant r : ℕ) → IsBoot t grant → account_at 
 account_at_boot t grant r b =
     let value : (Kind → ℕ) → (Kind → ℕ) → AcctValue = λ x y. record { balance = x; spent = y } in
     ap (λ x. value x (account_at t r).spent)
-    (fun_ext (λ k. ap (λ (s : Amounts). slice_index s.balances r) (sums_at_boot t grant k b) ∙ first_balance grant r))
+    (fun_ext (λ k. ap (λ (s : Sums). slice_index s.balances r) (sums_at_boot t grant k b) ∙ first_balance grant r))
     ∙ ap (value (λ k. cond (r == 0) grant 0))
-    (fun_ext (λ k. ap (λ (s : Amounts). slice_index s.spent r) (sums_at_boot t grant k b) ∙ all_alike 0 16 r))
+    (fun_ext (λ k. ap (λ (s : Sums). slice_index s.spent r) (sums_at_boot t grant k b) ∙ all_alike 0 16 r))
 
 either_none : (b : Bool) → cond {A = Option GraftValue} b None None ≡ None
 either_none true = refl
@@ -78,4 +77,4 @@ boot_seen t grant b =
     (fun_ext (λ r. account_at_boot t grant r b))
 
 pub boot_totals : (t : Table) (grant : ℕ) → IsBoot t grant → (j : Kind) → total (accounts_of t) j ≡ grant
-boot_totals t grant b j = total_of t j (boot_table t grant b) ∙ ap (λ (a : Amounts). a.grant) (sums_at_boot t grant j b)
+boot_totals t grant b j = total_of t j (boot_table t grant b) ∙ ap (λ (a : Sums). a.grant) (sums_at_boot t grant j b)

@@ -3,8 +3,7 @@ use Rattle.std.proofs.Common.{◌≡◌, ◌≢◌, ℕ, zero, suc, ◌+◌, ◌
 use Rattle.std.proofs.lemmas.Bool.Decides.{nat_tests}
 use Rattle.kernel_model.specs.declared.Kind.{Kind}
 use Rattle.kernel_model.specs.Sound.{sum_below, ledger}
-use Rattle.graft_accounts.specs.declared.amounts.Amounts.{Amounts}
-use Rattle.graft_accounts.specs.Sums.{less_at, paid, paid_at}
+use Rattle.graft_accounts.specs.Sums.{Sums, less_at, paid, paid_at}
 use Rattle.graft_accounts.specs.Table.{Table, IsTable, sums_of, with_sums, accounts_of, total}
 use Rattle.graft_accounts.proofs.Places.{set_here, set_other, each_place}
 use Rattle.graft_accounts.proofs.Seen.{field_of, same_fields}
@@ -31,7 +30,7 @@ abbrev pub row_sum : ℕ → List ℕ → ℕ
 row_sum r fs = sum_below 16 (λ i. slice_index fs (16 * r + i))
 
 -- what a process has, has spent, and has given to its grafts, of one kind
-abbrev pub ledger_in : ℕ → Amounts → ℕ
+abbrev pub ledger_in : ℕ → Sums → ℕ
 ledger_in r a = slice_index a.balances r + slice_index a.spent r + row_sum r a.funds
 
 ledger_seen : (t : Table) (j : Kind) (r : ℕ) → IsTable t → ledger (accounts_of t) j r ≡ field_of (ledger_in r) t j
@@ -40,7 +39,7 @@ ledger_seen t j r h =
     (sum_same 16 _ _ (λ pt low. point_funds t j r pt h low))
 
 -- a process pays one
-paid_ledger : (a : Amounts) (p : ℕ) → p < length a.balances → p < length a.spent → 1 ≤ slice_index a.balances p →
+paid_ledger : (a : Sums) (p : ℕ) → p < length a.balances → p < length a.spent → 1 ≤ slice_index a.balances p →
     (r : ℕ) → ledger_in r (paid p 1 a) ≡ ledger_in r a
 paid_ledger a p h i enough =
     let P : ℕ → Type 0 = λ r. ledger_in r (paid p 1 a) ≡ ledger_in r a in
@@ -68,7 +67,7 @@ row_same fs p pt r low apart =
     (λ x less. set_other fs i (16 * r + x) (slice_index fs i - 1) (λ e. apart (omega arith)))
 
 -- a graft pays one
-paid_at_ledger : (a : Amounts) (p pt : ℕ) → pt < 16 → p < length a.spent → 16 * p + pt < length a.funds → 1 ≤ slice_index a.funds (16 * p + pt) →
+paid_at_ledger : (a : Sums) (p pt : ℕ) → pt < 16 → p < length a.spent → 16 * p + pt < length a.funds → 1 ≤ slice_index a.funds (16 * p + pt) →
     (r : ℕ) → ledger_in r (paid_at p (16 * p + pt) 1 a) ≡ ledger_in r a
 paid_at_ledger a p pt low h i enough =
     let P : ℕ → Type 0 = λ r. ledger_in r (paid_at p (16 * p + pt) 1 a) ≡ ledger_in r a in
@@ -80,7 +79,7 @@ paid_at_ledger a p pt low h i enough =
     let f = row_same a.funds p pt r low apart in omega arith)
 
 -- a move within the ledgers
-moved_ledgers : (t u : Table) (k : Kind) (s : Amounts) → IsTable t → IsTable u → ((r : ℕ) → ledger_in r s ≡ ledger_in r (sums_of t k)) →
+moved_ledgers : (t u : Table) (k : Kind) (s : Sums) → IsTable t → IsTable u → ((r : ℕ) → ledger_in r s ≡ ledger_in r (sums_of t k)) →
     u ≡ with_sums k s t → (j : Kind) (r : ℕ) → ledger (accounts_of u) j r ≡ ledger (accounts_of t) j r
 moved_ledgers t u k s h i e is j r =
     ledger_seen u j r i

@@ -8,9 +8,8 @@ use Rattle.kernel_model.specs.declared.Kind.TheVariants.{Steps, Records, Locks}
 use Rattle.kernel_model.specs.Objects.{Accounts, GraftValue, AcctValue, at, at2, at_kind}
 use Rattle.kernel_model.specs.Charges.{spend, pay, taken_from, charge_account, charge_graft, charge_by, charge, returned, removed_by, removed}
 use Rattle.kernel_model.specs.Pieces.{less, more, funded, accounts_after, accounts_funded, with_graft, new_graft, empty_account, joint_account, account_closed}
-use Rattle.graft_accounts.specs.declared.amounts.Amounts.{Amounts}
 use Rattle.graft_accounts.specs.declared.rows.Standing.{Standing}
-use Rattle.graft_accounts.specs.Sums.{less_at, more_at, given, funded_at, paid, paid_at, given_back, closed}
+use Rattle.graft_accounts.specs.Sums.{Sums, less_at, more_at, given, funded_at, paid, paid_at, given_back, closed}
 use Rattle.graft_accounts.specs.Table.{Table, IsTable, sums_of, with_sums, standing_at, put_at, taken_out, closed_all, account_at, graft_at, accounts_of, total, after_give, after_fund, after_bill}
 use Rattle.graft_accounts.proofs.Places.{set_here, set_other, each_place, at_by}
 use Rattle.graft_accounts.proofs.Seen.{field_of, with_fields, same_fields, sums_with, grafts_with, with_twice, account_same, account_balance, account_spent, account_both, graft_by, graft_alike, accounts_by, graft_point, grafts_same, grafts_but}
@@ -18,20 +17,20 @@ use Rattle.graft_accounts.proofs.Totals.{kept_of, totals_stay}
 
 -- ---- grafts that stay
 
-standing_with : (k : Kind) (s : Amounts) (t : Table) (i : ℕ) → standing_at (with_sums k s t) i ≡ standing_at t i
+standing_with : (k : Kind) (s : Sums) (t : Table) (i : ℕ) → standing_at (with_sums k s t) i ≡ standing_at t i
 standing_with k s t i = ap (λ gs. slice_index_or gs i None) (grafts_with k s t)
 
-graft_untouched : (k : Kind) (s : Amounts) (t : Table) (i : ℕ) → slice_index s.funds i ≡ slice_index (sums_of t k).funds i →
+graft_untouched : (k : Kind) (s : Sums) (t : Table) (i : ℕ) → slice_index s.funds i ≡ slice_index (sums_of t k).funds i →
     graft_at (with_sums k s t) i (standing_at (with_sums k s t) i) ≡ graft_at t i (standing_at t i)
 graft_untouched k s t i e =
     ap (graft_at (with_sums k s t) i) (standing_with k s t i)
     ∙ graft_alike (with_sums k s t) t i (standing_at t i) (same_fields (λ a. slice_index a.funds i) k s t e)
 
-grafts_untouched : (k : Kind) (s : Amounts) (t : Table) → s.funds ≡ (sums_of t k).funds → (accounts_of (with_sums k s t)).graft ≡ (accounts_of t).graft
+grafts_untouched : (k : Kind) (s : Sums) (t : Table) → s.funds ≡ (sums_of t k).funds → (accounts_of (with_sums k s t)).graft ≡ (accounts_of t).graft
 grafts_untouched k s t e = grafts_same (with_sums k s t) t (λ i. graft_untouched k s t i (ap (λ fs. slice_index fs i) e))
 
 -- a graft that stands, with another amount of the kind
-graft_touched : (k : Kind) (s : Amounts) (t : Table) (i n : ℕ) (g : Standing) → standing_at t i ≡ Some g → slice_index s.funds i ≡ n →
+graft_touched : (k : Kind) (s : Sums) (t : Table) (i n : ℕ) (g : Standing) → standing_at t i ≡ Some g → slice_index s.funds i ≡ n →
     graft_at (with_sums k s t) i (standing_at (with_sums k s t) i) ≡ graft_by g (at_kind k n (field_of (λ a. slice_index a.funds i) t))
 graft_touched k s t i n g e h =
     ap (graft_at (with_sums k s t) i) (standing_with k s t i ∙ e)
@@ -43,22 +42,22 @@ less_account : (t : Table) (k : Kind) (p n : ℕ) → p < length (sums_of t k).b
     account_at (with_sums k (record (sums_of t k) { balances = less_at p n (sums_of t k).balances }) t) ≡ at p (less k n (account_at t p)) (account_at t)
 less_account t k p n h =
     let a = sums_of t k in
-    let s : Amounts = record a { balances = less_at p n a.balances } in
+    let s : Sums = record a { balances = less_at p n a.balances } in
     at_by (account_at (with_sums k s t)) (account_at t) p (less k n (account_at t p))
     (account_balance k s t p (slice_index a.balances p - n) (set_here a.balances p (slice_index a.balances p - n) h) refl)
     (λ j apart. account_same k s t j (set_other a.balances p j (slice_index a.balances p - n) apart) refl)
 
-more_account : (t : Table) (k : Kind) (a : Amounts) (q n : ℕ) → sums_of t k ≡ a → q < length a.balances →
+more_account : (t : Table) (k : Kind) (a : Sums) (q n : ℕ) → sums_of t k ≡ a → q < length a.balances →
     account_at (with_sums k (record a { balances = more_at q n a.balances }) t) ≡ at q (more k n (account_at t q)) (account_at t)
 more_account t k a q n e h =
-    let s : Amounts = record a { balances = more_at q n a.balances } in
+    let s : Sums = record a { balances = more_at q n a.balances } in
     at_by (account_at (with_sums k s t)) (account_at t) q (more k n (account_at t q))
     (account_balance k s t q (slice_index (sums_of t k).balances q + n)
-    (set_here a.balances q (slice_index a.balances q + n) h ∙ ap (λ (b : Amounts). slice_index b.balances q + n) (sym e))
-    (ap (λ (b : Amounts). slice_index b.spent q) (sym e)))
+    (set_here a.balances q (slice_index a.balances q + n) h ∙ ap (λ (b : Sums). slice_index b.balances q + n) (sym e))
+    (ap (λ (b : Sums). slice_index b.spent q) (sym e)))
     (λ j apart. account_same k s t j
-    (set_other a.balances q j (slice_index a.balances q + n) apart ∙ ap (λ (b : Amounts). slice_index b.balances j) (sym e))
-    (ap (λ (b : Amounts). slice_index b.spent j) (sym e)))
+    (set_other a.balances q j (slice_index a.balances q + n) apart ∙ ap (λ (b : Sums). slice_index b.balances j) (sym e))
+    (ap (λ (b : Sums). slice_index b.spent j) (sym e)))
 
 length_less : (i n : ℕ) (xs : List ℕ) → length (less_at i n xs) ≡ length xs
 length_less i n xs = length-set xs i (slice_index xs i - n)
@@ -67,7 +66,7 @@ give_accounts : (t : Table) (k : Kind) (p q n : ℕ) → p < length (sums_of t k
     account_at (with_sums k (given p q n (sums_of t k)) t) ≡ accounts_after (account_at t) p q k n
 give_accounts t k p q n h i =
     let a = sums_of t k in
-    let s : Amounts = record a { balances = less_at p n a.balances } in
+    let s : Sums = record a { balances = less_at p n a.balances } in
     let r = length_less p n a.balances in
     let long : q < length s.balances = omega arith in
     ap account_at (sym (with_twice k s (given p q n a) t))
@@ -142,7 +141,7 @@ fund_seen t u k p pt n g table h low stands enough e =
 -- ---- charges
 
 -- as many places as there are processes, and points
-pub record IsLong (s : Amounts) : Type 0 where
+pub record IsLong (s : Sums) : Type 0 where
   pub balances : length s.balances ≡ 16
   pub spent : length s.spent ≡ 16
   pub funds : length s.funds ≡ 256
@@ -242,7 +241,7 @@ same_sums i g t Locks = refl
 same_accounts : (t u : Table) (r : ℕ) → ((j : Kind) → sums_of u j ≡ sums_of t j) → account_at u r ≡ account_at t r
 same_accounts t u r e =
     let amounts : (λ (j : Kind). sums_of u j) ≡ (λ (j : Kind). sums_of t j) = fun_ext e in
-    let value : (Kind → Amounts) → AcctValue = λ f. record { balance = λ k. slice_index (f k).balances r; spent = λ k. slice_index (f k).spent r } in
+    let value : (Kind → Sums) → AcctValue = λ f. record { balance = λ k. slice_index (f k).balances r; spent = λ k. slice_index (f k).spent r } in
     ap value amounts
 
 placed : (t : Table) (p pt : ℕ) (g : Standing) (x : GraftValue) → IsTable t → p < 16 → pt < 16 →
@@ -254,7 +253,7 @@ placed t p pt g x table h low same =
     let long = table.grafts in
     let inside : i < length t.grafts = omega arith in
     let amounts : (j : ℕ) → field_of (λ a. slice_index a.funds j) u ≡ field_of (λ a. slice_index a.funds j) t =
-    λ j. fun_ext (λ k. ap (λ (a : Amounts). slice_index a.funds j) (same_sums i g t k)) in
+    λ j. fun_ext (λ k. ap (λ (a : Sums). slice_index a.funds j) (same_sums i g t k)) in
     accounts_by u (at2 p pt (Some x) (accounts_of t).graft) (account_at t)
     (grafts_but u t p pt (Some x) low
     (ap (graft_at u i) (get_or-set_same t.grafts i (Some g) None inside) ∙ ap (graft_by g) (amounts i) ∙ same)
@@ -302,7 +301,7 @@ back_of t p i Records = refl
 back_of t p i Locks = refl
 
 -- a number of each kind, once a graft was taken out
-back_field : (f : Amounts → ℕ) (h : Kind → ℕ) (t : Table) (p i : ℕ) → ((k : Kind) → f (given_back p i (sums_of t k)) ≡ h k) →
+back_field : (f : Sums → ℕ) (h : Kind → ℕ) (t : Table) (p i : ℕ) → ((k : Kind) → f (given_back p i (sums_of t k)) ≡ h k) →
     field_of f (taken_out p i t) ≡ h
 back_field f h t p i e = fun_ext (λ k. ap f (back_of t p i k) ∙ e k)
 
@@ -362,7 +361,7 @@ closed_of t p Steps = refl
 closed_of t p Records = refl
 closed_of t p Locks = refl
 
-closed_field : (f : Amounts → ℕ) (h : Kind → ℕ) (t : Table) (p : ℕ) → ((k : Kind) → f (closed p (sums_of t k)) ≡ h k) → field_of f (closed_all p t) ≡ h
+closed_field : (f : Sums → ℕ) (h : Kind → ℕ) (t : Table) (p : ℕ) → ((k : Kind) → f (closed p (sums_of t k)) ≡ h k) → field_of f (closed_all p t) ≡ h
 closed_field f h t p e = fun_ext (λ k. ap f (closed_of t p k) ∙ e k)
 
 moved_from : (p : ℕ) (xs : List ℕ) → 0 < p → p < length xs → slice_index (more_at 0 (slice_index xs p) (less_at p (slice_index xs p) xs)) p ≡ 0

@@ -5,16 +5,16 @@ use Rattle.std.proofs.lemmas.Bool.Decides.{nat_tests}
 use Rattle.kernel_model.specs.declared.Kind.{Kind}
 use Rattle.kernel_model.specs.declared.Kind.TheVariants.{Steps, Records, Locks}
 use Rattle.kernel_model.specs.Objects.{Accounts, GraftValue, AcctValue, at2, at_kind}
-use Rattle.graft_accounts.specs.declared.amounts.Amounts.{Amounts}
 use Rattle.graft_accounts.specs.declared.rows.Standing.{Standing}
+use Rattle.graft_accounts.specs.Sums.{Sums}
 use Rattle.graft_accounts.specs.Table.{Table, sums_of, with_sums, standing_at, account_at, graft_at, accounts_of}
 use Rattle.graft_accounts.proofs.Places.{at2_by, at_kind_same}
 
 -- a number of each kind, by amounts
-abbrev pub field_of : (Amounts → ℕ) → Table → Kind → ℕ
+abbrev pub field_of : (Sums → ℕ) → Table → Kind → ℕ
 field_of f t k = f (sums_of t k)
 
-with_field : (f : Amounts → ℕ) (k j : Kind) (s : Amounts) (t : Table) → field_of f (with_sums k s t) j ≡ at_kind k (f s) (field_of f t) j
+with_field : (f : Sums → ℕ) (k j : Kind) (s : Sums) (t : Table) → field_of f (with_sums k s t) j ≡ at_kind k (f s) (field_of f t) j
 with_field f Steps Steps s t = refl
 with_field f Steps Records s t = refl
 with_field f Steps Locks s t = refl
@@ -26,25 +26,25 @@ with_field f Locks Records s t = refl
 with_field f Locks Locks s t = refl
 
 -- the numbers of all kinds, after one kind's amounts changed
-pub with_fields : (f : Amounts → ℕ) (k : Kind) (s : Amounts) (t : Table) → field_of f (with_sums k s t) ≡ at_kind k (f s) (field_of f t)
+pub with_fields : (f : Sums → ℕ) (k : Kind) (s : Sums) (t : Table) → field_of f (with_sums k s t) ≡ at_kind k (f s) (field_of f t)
 with_fields f k s t = fun_ext (λ j. with_field f k j s t)
 
 -- those that the change left
-pub same_fields : (f : Amounts → ℕ) (k : Kind) (s : Amounts) (t : Table) → f s ≡ f (sums_of t k) → field_of f (with_sums k s t) ≡ field_of f t
+pub same_fields : (f : Sums → ℕ) (k : Kind) (s : Sums) (t : Table) → f s ≡ f (sums_of t k) → field_of f (with_sums k s t) ≡ field_of f t
 same_fields f k s t e = with_fields f k s t ∙ ap (λ n. at_kind k n (field_of f t)) e ∙ at_kind_same k (field_of f t)
 
 -- the same amounts are of the kind, and grafts stay in place
-pub sums_with : (k : Kind) (s : Amounts) (t : Table) → sums_of (with_sums k s t) k ≡ s
+pub sums_with : (k : Kind) (s : Sums) (t : Table) → sums_of (with_sums k s t) k ≡ s
 sums_with Steps s t = refl
 sums_with Records s t = refl
 sums_with Locks s t = refl
 
-pub grafts_with : (k : Kind) (s : Amounts) (t : Table) → (with_sums k s t).grafts ≡ t.grafts
+pub grafts_with : (k : Kind) (s : Sums) (t : Table) → (with_sums k s t).grafts ≡ t.grafts
 grafts_with Steps s t = refl
 grafts_with Records s t = refl
 grafts_with Locks s t = refl
 
-pub with_twice : (k : Kind) (r s : Amounts) (t : Table) → with_sums k s (with_sums k r t) ≡ with_sums k s t
+pub with_twice : (k : Kind) (r s : Sums) (t : Table) → with_sums k s (with_sums k r t) ≡ with_sums k s t
 with_twice Steps r s t = refl
 with_twice Records r s t = refl
 with_twice Locks r s t = refl
@@ -58,13 +58,13 @@ account_alike : (b c s r : Kind → ℕ) → b ≡ c → s ≡ r → account b s
 account_alike b c s r e h = ap (λ x. account x s) e ∙ ap (account c) h
 
 -- an account that no change reached
-pub account_same : (k : Kind) (s : Amounts) (t : Table) (r : ℕ) → slice_index s.balances r ≡ slice_index (sums_of t k).balances r →
+pub account_same : (k : Kind) (s : Sums) (t : Table) (r : ℕ) → slice_index s.balances r ≡ slice_index (sums_of t k).balances r →
     slice_index s.spent r ≡ slice_index (sums_of t k).spent r → account_at (with_sums k s t) r ≡ account_at t r
 account_same k s t r e h =
     account_alike _ _ _ _ (same_fields (λ a. slice_index a.balances r) k s t e) (same_fields (λ a. slice_index a.spent r) k s t h)
 
 -- an account with another balance of the kind
-pub account_balance : (k : Kind) (s : Amounts) (t : Table) (r n : ℕ) → slice_index s.balances r ≡ n →
+pub account_balance : (k : Kind) (s : Sums) (t : Table) (r n : ℕ) → slice_index s.balances r ≡ n →
     slice_index s.spent r ≡ slice_index (sums_of t k).spent r →
     account_at (with_sums k s t) r ≡ record (account_at t r) { balance = at_kind k n (account_at t r).balance }
 account_balance k s t r n e h =
@@ -73,7 +73,7 @@ account_balance k s t r n e h =
     (same_fields (λ a. slice_index a.spent r) k s t h)
 
 -- an account with another spent amount of the kind
-pub account_spent : (k : Kind) (s : Amounts) (t : Table) (r m : ℕ) → slice_index s.balances r ≡ slice_index (sums_of t k).balances r →
+pub account_spent : (k : Kind) (s : Sums) (t : Table) (r m : ℕ) → slice_index s.balances r ≡ slice_index (sums_of t k).balances r →
     slice_index s.spent r ≡ m → account_at (with_sums k s t) r ≡ record (account_at t r) { spent = at_kind k m (account_at t r).spent }
 account_spent k s t r m e h =
     account_alike _ _ _ _
@@ -81,7 +81,7 @@ account_spent k s t r m e h =
     (with_fields (λ a. slice_index a.spent r) k s t ∙ ap (λ n. at_kind k n (account_at t r).spent) h)
 
 -- an account with another balance and another spent amount of the kind
-pub account_both : (k : Kind) (s : Amounts) (t : Table) (r n m : ℕ) → slice_index s.balances r ≡ n → slice_index s.spent r ≡ m →
+pub account_both : (k : Kind) (s : Sums) (t : Table) (r n m : ℕ) → slice_index s.balances r ≡ n → slice_index s.spent r ≡ m →
     account_at (with_sums k s t) r ≡ account (at_kind k n (account_at t r).balance) (at_kind k m (account_at t r).spent)
 account_both k s t r n m e h =
     account_alike _ _ _ _

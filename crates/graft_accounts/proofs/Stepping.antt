@@ -3,9 +3,8 @@ use Rattle.std.proofs.Common.{◌≡◌, ℕ, zero, suc, ◌+◌, ◌-◌, ◌*�
 use Rattle.std.proofs.lemmas.List.{length-set, set-set, set-get_or}
 use Rattle.kernel_model.specs.declared.Kind.TheVariants.{Steps}
 use Rattle.kernel_model.specs.Charges.{charge, charged_steps}
-use Rattle.graft_accounts.specs.declared.amounts.Amounts.{Amounts}
 use Rattle.graft_accounts.specs.declared.rows.Standing.{Standing}
-use Rattle.graft_accounts.specs.Sums.{less_at, more_at, paid, paid_at}
+use Rattle.graft_accounts.specs.Sums.{Sums, less_at, more_at, paid, paid_at}
 use Rattle.graft_accounts.specs.Table.{Table, IsTable, standing_at, with_sums, accounts_of}
 use Rattle.graft_accounts.proofs.Places.{set_here}
 use Rattle.graft_accounts.proofs.Moves.{IsLong, long_of, account_charged, graft_charged}
@@ -38,40 +37,40 @@ more_none i xs = set_itself xs i (slice_index xs i + 0) (omega arith)
 
 -- ---- the amounts
 
-long_paid : (p n : ℕ) (s : Amounts) → IsLong s → IsLong (paid p n s)
+long_paid : (p n : ℕ) (s : Sums) → IsLong s → IsLong (paid p n s)
 long_paid p n s h = record {
   balances = length-set s.balances p (slice_index s.balances p - n) ∙ h.balances;
   spent = length-set s.spent p (slice_index s.spent p + n) ∙ h.spent;
   funds = h.funds;
 }
 
-long_paid_at : (p i n : ℕ) (s : Amounts) → IsLong s → IsLong (paid_at p i n s)
+long_paid_at : (p i n : ℕ) (s : Sums) → IsLong s → IsLong (paid_at p i n s)
 long_paid_at p i n s h = record {
   balances = h.balances;
   spent = length-set s.spent p (slice_index s.spent p + n) ∙ h.spent;
   funds = length-set s.funds i (slice_index s.funds i - n) ∙ h.funds;
 }
 
-paid_more : (p n : ℕ) (s : Amounts) → IsLong s → p < 16 → paid p 1 (paid p n s) ≡ paid p (suc n) s
+paid_more : (p n : ℕ) (s : Sums) → IsLong s → p < 16 → paid p 1 (paid p n s) ≡ paid p (suc n) s
 paid_more p n s h low =
     let b = h.balances in
     let sp = h.spent in
     ap (λ (xs : List ℕ). record s { balances = xs; spent = more_at p 1 (more_at p n s.spent) }) (less_more p n s.balances (omega arith))
     ∙ ap (λ (xs : List ℕ). record s { balances = less_at p (suc n) s.balances; spent = xs }) (more_more p n s.spent (omega arith))
 
-paid_at_more : (p i n : ℕ) (s : Amounts) → IsLong s → p < 16 → i < 256 → paid_at p i 1 (paid_at p i n s) ≡ paid_at p i (suc n) s
+paid_at_more : (p i n : ℕ) (s : Sums) → IsLong s → p < 16 → i < 256 → paid_at p i 1 (paid_at p i n s) ≡ paid_at p i (suc n) s
 paid_at_more p i n s h low at =
     let f = h.funds in
     let sp = h.spent in
     ap (λ (xs : List ℕ). record s { funds = xs; spent = more_at p 1 (more_at p n s.spent) }) (less_more i n s.funds (omega arith))
     ∙ ap (λ (xs : List ℕ). record s { funds = less_at i (suc n) s.funds; spent = xs }) (more_more p n s.spent (omega arith))
 
-paid_none : (p : ℕ) (s : Amounts) → paid p 0 s ≡ s
+paid_none : (p : ℕ) (s : Sums) → paid p 0 s ≡ s
 paid_none p s =
     ap (λ (xs : List ℕ). record s { balances = xs; spent = more_at p 0 s.spent }) (less_none p s.balances)
     ∙ ap (λ (xs : List ℕ). record s { spent = xs }) (more_none p s.spent)
 
-paid_at_none : (p i : ℕ) (s : Amounts) → paid_at p i 0 s ≡ s
+paid_at_none : (p i : ℕ) (s : Sums) → paid_at p i 0 s ≡ s
 paid_at_none p i s =
     ap (λ (xs : List ℕ). record s { funds = xs; spent = more_at p 0 s.spent }) (less_none i s.funds)
     ∙ ap (λ (xs : List ℕ). record s { spent = xs }) (more_none p s.spent)
@@ -81,9 +80,9 @@ paid_at_none p i s =
 -- the account pays
 billed_steps : (n : ℕ) (t : Table) (p pt : ℕ) (g : Standing) → IsLong t.steps → p < 16 → pt < 16 → standing_at t (16 * p + pt) ≡ Some g → g.billed ≡ true
     → accounts_of (with_sums Steps (paid p n t.steps) t) ≡ charged_steps n p pt (accounts_of t)
-billed_steps zero t p pt g long h low stands billed = ap (λ (s : Amounts). accounts_of (with_sums Steps s t)) (paid_none p t.steps)
+billed_steps zero t p pt g long h low stands billed = ap (λ (s : Sums). accounts_of (with_sums Steps s t)) (paid_none p t.steps)
 billed_steps (suc n) t p pt g long h low stands billed =
-    ap (λ (s : Amounts). accounts_of (with_sums Steps s t)) (sym (paid_more p n t.steps long h))
+    ap (λ (s : Sums). accounts_of (with_sums Steps s t)) (sym (paid_more p n t.steps long h))
     ∙ account_charged (with_sums Steps (paid p n t.steps) t) Steps p pt g (long_paid p n t.steps long) h low stands billed
     ∙ ap (charge Steps p pt) (billed_steps n t p pt g long h low stands billed)
 
@@ -91,9 +90,9 @@ billed_steps (suc n) t p pt g long h low stands billed =
 funded_steps : (n : ℕ) (t : Table) (p pt : ℕ) (g : Standing) → IsLong t.steps → p < 16 → pt < 16 → standing_at t (16 * p + pt) ≡ Some g → g.billed ≡ false
     → accounts_of (with_sums Steps (paid_at p (16 * p + pt) n t.steps) t) ≡ charged_steps n p pt (accounts_of t)
 funded_steps zero t p pt g long h low stands billed =
-    ap (λ (s : Amounts). accounts_of (with_sums Steps s t)) (paid_at_none p (16 * p + pt) t.steps)
+    ap (λ (s : Sums). accounts_of (with_sums Steps s t)) (paid_at_none p (16 * p + pt) t.steps)
 funded_steps (suc n) t p pt g long h low stands billed =
-    ap (λ (s : Amounts). accounts_of (with_sums Steps s t)) (sym (paid_at_more p (16 * p + pt) n t.steps long h (omega arith)))
+    ap (λ (s : Sums). accounts_of (with_sums Steps s t)) (sym (paid_at_more p (16 * p + pt) n t.steps long h (omega arith)))
     ∙ graft_charged (with_sums Steps (paid_at p (16 * p + pt) n t.steps) t) Steps p pt g (long_paid_at p (16 * p + pt) n t.steps long) h low stands billed
     ∙ ap (charge Steps p pt) (funded_steps n t p pt g long h low stands billed)
 

@@ -4,9 +4,8 @@ use Rattle.std.proofs.lemmas.List.Sums.{sum_by-cons}
 use Rattle.kernel_model.specs.declared.Kind.{Kind}
 use Rattle.kernel_model.specs.declared.Kind.TheVariants.{Steps, Records, Locks}
 use Rattle.kernel_model.specs.Sound.{sum_below, graft_balance}
-use Rattle.graft_accounts.specs.declared.amounts.Amounts.{Amounts}
 use Rattle.graft_accounts.specs.declared.rows.Standing.{Standing}
-use Rattle.graft_accounts.specs.Sums.{IsKept}
+use Rattle.graft_accounts.specs.Sums.{Sums, IsKept}
 use Rattle.graft_accounts.specs.Table.{Table, IsTable, sums_of, with_sums, standing_at, graft_at, accounts_of, total}
 use Rattle.graft_accounts.proofs.Seen.{graft_point, same_fields}
 
@@ -101,7 +100,7 @@ pub totals_stay : (t u : Table) → IsTable t → IsTable u → ((j : Kind) → 
 totals_stay t u h k same j = total_of u j k ∙ same j ∙ sym (total_of t j h)
 
 -- and so after a move of amounts of one kind
-pub totals_with : (t u : Table) (k : Kind) (s : Amounts) → u ≡ with_sums k s t → s.grant ≡ (sums_of t k).grant → IsTable t → IsTable u →
+pub totals_with : (t u : Table) (k : Kind) (s : Sums) → u ≡ with_sums k s t → s.grant ≡ (sums_of t k).grant → IsTable t → IsTable u →
     (j : Kind) → total (accounts_of u) j ≡ total (accounts_of t) j
 totals_with t u k s e g h i j =
     totals_stay t u h i (λ j. ap (λ v. (sums_of v j).grant) e ∙ ap (λ f. f j) (same_fields (λ a. a.grant) k s t g)) j

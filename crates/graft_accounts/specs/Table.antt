@@ -1,5 +1,5 @@
 -- Accounts and grafts: as arrays, and as the kernel's state sees them.
-use Rattle.std.specs.Prelude.{◌≡◌, ℕ, ◌+◌, ◌*◌, true, false, cond, nat_lt, List, length, slice_index, slice_index_or, slice_set, Option, Some, None, option_map, Result, Ok, Err}
+use Rattle.std.specs.Prelude.{◌≡◌, ℕ, ◌+◌, ◌*◌, ◌<◌, true, false, cond, nat_lt, List, length, slice_index, slice_index_or, slice_set, Option, Some, None, option_map, Result, Ok, Err}
 use Rattle.kernel_model.specs.declared.Kind.{Kind}
 use Rattle.kernel_model.specs.declared.Kind.TheVariants.{Steps, Records, Locks}
 use Rattle.kernel_model.specs.Objects.{Accounts, GraftValue, AcctValue}
@@ -7,28 +7,31 @@ use Rattle.kernel_model.specs.Pieces.{accounts_after, accounts_funded, with_graf
 use Rattle.kernel_model.specs.Sound.{sum_below, ledger}
 use Rattle.graft_accounts.specs.declared.rows.Standing.{Standing}
 use Rattle.graft_accounts.specs.declared.rows.GraftRow.{GraftRow}
-use Rattle.graft_accounts.specs.declared.amounts.Amounts.{Amounts}
-use Rattle.graft_accounts.specs.Sums.{IsKept, given_back, closed}
+use Rattle.graft_accounts.specs.Sums.{Sums, IsKept, given_back, closed}
 
 -- the arrays
 pub record Table : Type 0 where
   -- the graft at point pt of process q stands at 16 * q + pt
   pub grafts : List (Option Standing)
-  pub steps : Amounts
-  pub records : Amounts
-  pub locks : Amounts
+  pub steps : Sums
+  pub records : Sums
+  pub locks : Sums
 
 -- the amounts of a kind
-abbrev pub sums_of : Table → Kind → Amounts
+abbrev pub sums_of : Table → Kind → Sums
 sums_of t Steps = t.steps
 sums_of t Records = t.records
 sums_of t Locks = t.locks
 
 -- with other amounts of a kind
-abbrev pub with_sums : Kind → Amounts → Table → Table
+abbrev pub with_sums : Kind → Sums → Table → Table
 with_sums Steps s t = record t { steps = s }
 with_sums Records s t = record t { records = s }
 with_sums Locks s t = record t { locks = s }
+
+-- with what f makes of the amounts of a kind
+abbrev pub within : Kind → (Sums → Sums) → Table → Table
+within k f t = with_sums k (f (sums_of t k)) t
 
 -- which graft stands at a place
 abbrev pub standing_at : Table → ℕ → Option Standing
@@ -98,6 +101,16 @@ accounts_of t =
 -- what all processes have, have spent and have given to their grafts
 abbrev pub total : Accounts → Kind → ℕ
 total a k = sum_below 16 (ledger a k)
+
+-- a point of a process
+pub record IsPoint (p pt : ℕ) : Type 0 where
+  pub process : p < 16
+  pub point : pt < 16
+
+-- what a call makes of accounts and grafts: in all there is as much of each kind as before
+pub record Balanced (old new : Table) (next : Accounts) : Type 0 where
+  pub value : accounts_of new ≡ next
+  pub sums : (j : Kind) → total (accounts_of new) j ≡ total (accounts_of old) j
 
 -- ---- what the calls answer, and make of accounts and grafts
 

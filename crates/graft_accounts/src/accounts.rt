@@ -54,8 +54,8 @@ fn no_grafts() -> [Option<Standing>; POINTS]
 
 impl Accounts {
     ghost use Rattle.kernel_model.specs.declared.Kind.TheVariants.{Steps};
-    ghost use Rattle.graft_accounts.specs.Sums.{given, funded_at, paid, paid_at};
-    ghost use Rattle.graft_accounts.specs.Table.{IsTable, sums_of, with_sums, standing_at, put_at, taken_out, closed_all, accounts_of, total, row_of, short_of, after_give, after_fund, after_bill};
+    ghost use Rattle.graft_accounts.specs.Sums.{IsPlace, Becomes, given, funded_at, paid, paid_at};
+    ghost use Rattle.graft_accounts.specs.Table.{IsTable, IsPoint, Balanced, sums_of, within, standing_at, put_at, taken_out, closed_all, accounts_of, total, row_of, short_of, after_give, after_fund, after_bill};
 
     /// Process 0 has the whole grant of each kind. Nothing is spent, and no graft stands.
     pub fn new(grant: u32) -> Accounts
@@ -113,9 +113,7 @@ impl Accounts {
         requires from { p < 16 }
         requires to { q < 16 }
         requires enough { n ≤ slice_index (sums_of self.old k).balances p }
-        ensures value { self.new ≡ with_sums k (given p q n (sums_of self.old k)) self.old }
-        ensures was { IsTable self.old }
-        ensures table { IsTable self.new }
+        ensures { Becomes IsTable self.old self.new (within k (given p q n) self.old) }
     {
         match k {
             Kind::Steps => self.steps.give(p, q, n),
@@ -126,13 +124,10 @@ impl Accounts {
 
     /// Moves n from process p to the graft at a place.
     fn fund_at(&mut self, p: u8, i: usize, k: Kind, n: u64)
-        requires process { p < 16 }
-        requires place { i < 256 }
+        requires place { IsPlace p i }
         requires stands { is_some (standing_at self.old i) ≡ true }
         requires enough { n ≤ slice_index (sums_of self.old k).balances p }
-        ensures value { self.new ≡ with_sums k (funded_at p i n (sums_of self.old k)) self.old }
-        ensures was { IsTable self.old }
-        ensures table { IsTable self.new }
+        ensures { Becomes IsTable self.old self.new (within k (funded_at p i n) self.old) }
     {
         match k {
             Kind::Steps => self.steps.fund(p, i, n),
@@ -145,9 +140,7 @@ impl Accounts {
     fn pay(&mut self, p: u8, k: Kind, n: u64)
         requires process { p < 16 }
         requires enough { n ≤ slice_index (sums_of self.old k).balances p }
-        ensures value { self.new ≡ with_sums k (paid p n (sums_of self.old k)) self.old }
-        ensures was { IsTable self.old }
-        ensures table { IsTable self.new }
+        ensures { Becomes IsTable self.old self.new (within k (paid p n) self.old) }
     {
         match k {
             Kind::Steps => self.steps.pay(p, n),
@@ -158,12 +151,9 @@ impl Accounts {
 
     /// The graft at a place, which process p installed, pays n.
     fn pay_at(&mut self, p: u8, i: usize, k: Kind, n: u64)
-        requires process { p < 16 }
-        requires place { i < 256 }
+        requires place { IsPlace p i }
         requires enough { n ≤ slice_index (sums_of self.old k).funds i }
-        ensures value { self.new ≡ with_sums k (paid_at p i n (sums_of self.old k)) self.old }
-        ensures was { IsTable self.old }
-        ensures table { IsTable self.new }
+        ensures { Becomes IsTable self.old self.new (within k (paid_at p i n) self.old) }
     {
         match k {
             Kind::Steps => self.steps.pay_at(p, i, n),
@@ -176,10 +166,8 @@ impl Accounts {
     fn charge_account(&mut self, p: u8, k: Kind) -> bool
         requires { p < 16 }
         ensures answer { result ≡ nat_le 1 (slice_index (sums_of self.old k).balances p) }
-        ensures value { self.new
-            ≡ cond result (with_sums k (paid p 1 (sums_of self.old k)) self.old) self.old }
-        ensures was { IsTable self.old }
-        ensures table { IsTable self.new }
+        ensures changed { Becomes IsTable self.old self.new
+            (cond result (within k (paid p 1) self.old) self.old) }
     {
         if self.balance(p, k) == 0 {
             return false;
@@ -190,13 +178,10 @@ impl Accounts {
 
     /// The graft at a place, which process p installed, pays one, if it has one.
     fn charge_graft(&mut self, p: u8, i: usize, k: Kind) -> bool
-        requires process { p < 16 }
-        requires place { i < 256 }
+        requires place { IsPlace p i }
         ensures answer { result ≡ nat_le 1 (slice_index (sums_of self.old k).funds i) }
-        ensures value { self.new
-            ≡ cond result (with_sums k (paid_at p i 1 (sums_of self.old k)) self.old) self.old }
-        ensures was { IsTable self.old }
-        ensures table { IsTable self.new }
+        ensures changed { Becomes IsTable self.old self.new
+            (cond result (within k (paid_at p i 1) self.old) self.old) }
     {
         if self.funds_at(i, k) == 0 {
             return false;
@@ -207,8 +192,7 @@ impl Accounts {
 
     /// The graft that stands at a place.
     fn standing(&self, i: usize) -> Option<Standing>
-        ensures value { result ≡ standing_at self.now i }
-        ensures sound { IsTable self.now }
+        ensures { result ≡ standing_at self.now i }
     {
         match self.grafts.get(i) {
             Some(found) => *found,
@@ -219,20 +203,15 @@ impl Accounts {
     /// Puts a graft at a place.
     fn put(&mut self, i: usize, standing: Standing)
         requires { i < 256 }
-        ensures value { self.new ≡ put_at i standing self.old }
-        ensures was { IsTable self.old }
-        ensures table { IsTable self.new }
+        ensures { Becomes IsTable self.old self.new (put_at i standing self.old) }
     {
         self.grafts[i] = Some(standing);
     }
 
     /// Takes out the graft at a place, which process p installed, and gives what it has back to p.
     fn take_out(&mut self, p: u8, i: usize)
-        requires process { p < 16 }
-        requires place { i < 256 }
-        ensures value { self.new ≡ taken_out p i self.old }
-        ensures was { IsTable self.old }
-        ensures table { IsTable self.new }
+        requires place { IsPlace p i }
+        ensures { Becomes IsTable self.old self.new (taken_out p i self.old) }
     {
         self.steps.give_back(p, i);
         self.records.give_back(p, i);
@@ -243,9 +222,7 @@ impl Accounts {
     /// Process 0 gets all that process p has and has spent.
     fn close_account(&mut self, p: u8)
         requires { p < 16 }
-        ensures value { self.new ≡ closed_all p self.old }
-        ensures was { IsTable self.old }
-        ensures table { IsTable self.new }
+        ensures { Becomes IsTable self.old self.new (closed_all p self.old) }
     {
         self.steps.close(p);
         self.records.close(p);
@@ -258,9 +235,7 @@ impl Accounts {
         requires from { p < 16 }
         requires to { q < 16 }
         ensures answer { result ≡ short_of (((accounts_of self.old).acct p).balance k) n }
-        ensures value { accounts_of self.new ≡ after_give p q k n (accounts_of self.old) }
-        ensures sums { (j : Kind) →
-            total (accounts_of self.new) j ≡ total (accounts_of self.old) j }
+        ensures changed { Balanced self.old self.new (after_give p q k n (accounts_of self.old)) }
     {
         let has = self.balance(p, k);
         if has < u64::from(n) {
@@ -272,8 +247,7 @@ impl Accounts {
 
     /// The graft that stands at point pt of process p.
     pub fn graft(&self, p: u8, pt: u8) -> Option<GraftRow>
-        requires process { p < 16 }
-        requires point { pt < 16 }
+        requires at { IsPoint p pt }
         ensures { result ≡ option_map row_of ((accounts_of self.now).graft p pt) }
     {
         let i = place(p, pt);
@@ -290,8 +264,7 @@ impl Accounts {
 
     /// The image of the graft that stands at point pt of process p.
     pub fn image(&self, p: u8, pt: u8) -> Option<u8>
-        requires process { p < 16 }
-        requires point { pt < 16 }
+        requires at { IsPoint p pt }
         ensures { result ≡ option_map (λ g. g.image) ((accounts_of self.now).graft p pt) }
     {
         let standing = self.standing(place(p, pt))?;
@@ -300,8 +273,7 @@ impl Accounts {
 
     /// The limit of the graft that stands at point pt of process p: 0 where none does.
     pub fn limit(&self, p: u8, pt: u8) -> u32
-        requires process { p < 16 }
-        requires point { pt < 16 }
+        requires at { IsPoint p pt }
         ensures { result ≡ limit_in ((accounts_of self.now).graft p pt) }
     {
         match self.standing(place(p, pt)) {
@@ -312,8 +284,7 @@ impl Accounts {
 
     /// What whoever pays for the graft at point pt of process p has: nothing where none stands.
     pub fn funds(&self, p: u8, pt: u8, k: Kind) -> u64
-        requires process { p < 16 }
-        requires point { pt < 16 }
+        requires at { IsPoint p pt }
         ensures { result ≡ funds (accounts_of self.now) p pt k }
     {
         let i = place(p, pt);
@@ -334,16 +305,13 @@ impl Accounts {
 
     /// Puts a graft at point pt of process p, where none stands. It has nothing, and isn't billed.
     pub fn install(&mut self, p: u8, pt: u8, image: u8, limit: u32)
-        requires process { p < 16 }
-        requires point { pt < 16 }
+        requires at { IsPoint p pt }
         requires image { image < 32 }
         requires some { 1 ≤ limit }
         requires most { limit ≤ 65536 }
         requires free { (accounts_of self.old).graft p pt ≡ None }
-        ensures value { accounts_of self.new
-            ≡ with_graft p pt (new_graft image limit) (accounts_of self.old) }
-        ensures sums { (j : Kind) →
-            total (accounts_of self.new) j ≡ total (accounts_of self.old) j }
+        ensures { Balanced self.old self.new
+            (with_graft p pt (new_graft image limit) (accounts_of self.old)) }
     {
         let standing = Standing {
             image,
@@ -356,14 +324,11 @@ impl Accounts {
     /// Moves n from process p to its graft at point pt, where one stands. Err has the balance of p,
     /// with nothing changed, exactly where it is smaller.
     pub fn fund(&mut self, p: u8, pt: u8, k: Kind, n: u32) -> Result<(), u64>
-        requires process { p < 16 }
-        requires point { pt < 16 }
+        requires at { IsPoint p pt }
         requires stands { is_some ((accounts_of self.old).graft p pt) ≡ true }
         ensures answer { result ≡ short_of (((accounts_of self.old).acct p).balance k) n }
-        ensures value { accounts_of self.new
-            ≡ after_fund p pt k n ((accounts_of self.old).graft p pt) (accounts_of self.old) }
-        ensures sums { (j : Kind) →
-            total (accounts_of self.new) j ≡ total (accounts_of self.old) j }
+        ensures changed { Balanced self.old self.new
+            (after_fund p pt k n ((accounts_of self.old).graft p pt) (accounts_of self.old)) }
     {
         let has = self.balance(p, k);
         if has < u64::from(n) {
@@ -375,13 +340,10 @@ impl Accounts {
 
     /// From here on process p pays for its graft at point pt, where one stands.
     pub fn bill(&mut self, p: u8, pt: u8)
-        requires process { p < 16 }
-        requires point { pt < 16 }
+        requires at { IsPoint p pt }
         requires stands { is_some ((accounts_of self.old).graft p pt) ≡ true }
-        ensures value { accounts_of self.new
-            ≡ after_bill p pt ((accounts_of self.old).graft p pt) (accounts_of self.old) }
-        ensures sums { (j : Kind) →
-            total (accounts_of self.new) j ≡ total (accounts_of self.old) j }
+        ensures { Balanced self.old self.new
+            (after_bill p pt ((accounts_of self.old).graft p pt) (accounts_of self.old)) }
     {
         let i = place(p, pt);
         if let Some(standing) = self.standing(i) {
@@ -396,15 +358,12 @@ impl Accounts {
     /// Moves one from whoever pays for the graft at point pt of process p to what p has spent.
     /// False, with nothing changed, exactly where the payer has none.
     pub fn charge(&mut self, p: u8, pt: u8, k: Kind) -> bool
-        requires process { p < 16 }
-        requires point { pt < 16 }
+        requires at { IsPoint p pt }
         ensures answer { result ≡ nat_le 1 (funds (accounts_of self.old) p pt k) }
-        ensures value { accounts_of self.new
-            ≡ cond result (charge k p pt (accounts_of self.old)) (accounts_of self.old) }
+        ensures changed { Balanced self.old self.new
+            (cond result (charge k p pt (accounts_of self.old)) (accounts_of self.old)) }
         ensures ledgers { (j : Kind) (r : ℕ) →
             ledger (accounts_of self.new) j r ≡ ledger (accounts_of self.old) j r }
-        ensures sums { (j : Kind) →
-            total (accounts_of self.new) j ≡ total (accounts_of self.old) j }
     {
         let i = place(p, pt);
         match self.standing(i) {
@@ -417,12 +376,9 @@ impl Accounts {
     /// Moves n steps at once from whoever pays for the graft at point pt of process p to what p has
     /// spent: the books are as if the steps had been charged one after another.
     pub fn charge_steps(&mut self, p: u8, pt: u8, n: u32)
-        requires process { p < 16 }
-        requires point { pt < 16 }
+        requires at { IsPoint p pt }
         requires enough { n ≤ funds (accounts_of self.old) p pt Steps }
-        ensures value { accounts_of self.new ≡ charged_steps n p pt (accounts_of self.old) }
-        ensures sums { (j : Kind) →
-            total (accounts_of self.new) j ≡ total (accounts_of self.old) j }
+        ensures { Balanced self.old self.new (charged_steps n p pt (accounts_of self.old)) }
     {
         let i = place(p, pt);
         match self.standing(i) {
@@ -435,11 +391,8 @@ impl Accounts {
     /// Takes out the graft at point pt of process p, if one stands, and gives what it has back to
     /// p.
     pub fn remove(&mut self, p: u8, pt: u8)
-        requires process { p < 16 }
-        requires point { pt < 16 }
-        ensures value { accounts_of self.new ≡ removed p pt (accounts_of self.old) }
-        ensures sums { (j : Kind) →
-            total (accounts_of self.new) j ≡ total (accounts_of self.old) j }
+        requires at { IsPoint p pt }
+        ensures { Balanced self.old self.new (removed p pt (accounts_of self.old)) }
     {
         let i = place(p, pt);
         if self.standing(i).is_some() {
@@ -451,9 +404,7 @@ impl Accounts {
     fn remove_first(&mut self, p: u8, points: u8)
         requires process { p < 16 }
         requires points { points ≤ 16 }
-        ensures value { accounts_of self.new ≡ without_grafts p points (accounts_of self.old) }
-        ensures sums { (j : Kind) →
-            total (accounts_of self.new) j ≡ total (accounts_of self.old) j }
+        ensures { Balanced self.old self.new (without_grafts p points (accounts_of self.old)) }
     {
         let mut left = points;
         while left > 0 {
@@ -467,10 +418,8 @@ impl Accounts {
     pub fn close(&mut self, p: u8)
         requires process { p < 16 }
         requires not_root { 0 < p }
-        ensures value { accounts_of self.new
-            ≡ account_closed p (without_grafts p 16 (accounts_of self.old)) }
-        ensures sums { (j : Kind) →
-            total (accounts_of self.new) j ≡ total (accounts_of self.old) j }
+        ensures { Balanced self.old self.new
+            (account_closed p (without_grafts p 16 (accounts_of self.old))) }
     {
         self.remove_first(p, EACH);
         self.close_account(p);

@@ -3,6 +3,8 @@
 ghost use Rattle.std.specs.Prelude.{◌≡◌, ◌+◌, ◌<◌, ◌≤◌, length, replicate, sum, slice_index};
 ghost use Rattle.graft_accounts.specs.Sums.{less_at, more_at};
 
+use std::marker::Model;
+
 /// The processes.
 pub(crate) const PROCESSES: usize = 16;
 
@@ -47,9 +49,19 @@ fn no_amounts<const N: usize>() -> [u64; N]
     [0; N]
 }
 
+impl Model for Amounts {
+    ghost use Rattle.graft_accounts.specs.Sums.{Sums, IsSums};
+
+    ghost Value = { Sums };
+
+    ghost view = { λ a. record { grant = a.grant; balances = a.balances; spent = a.spent; funds = a.funds } };
+
+    ghost invariant = { λ a. IsSums (record { grant = a.grant; balances = a.balances; spent = a.spent; funds = a.funds }) };
+}
+
 impl Amounts {
     ghost use Rattle.std.specs.Prelude.{◌*◌, nat_lt, cond, [], ◌∷◌, ◌++◌, Ok, Err};
-    ghost use Rattle.graft_accounts.specs.Sums.{IsSums, opening, given, funded_at, paid, paid_at, given_back, closed};
+    ghost use Rattle.graft_accounts.specs.Sums.{IsSums, IsPlace, Becomes, opening, given, funded_at, paid, paid_at, given_back, closed};
 
     /// Process 0 has the whole grant.
     pub(crate) fn new(grant: u32) -> Amounts
@@ -68,8 +80,7 @@ impl Amounts {
 
     /// What process p has.
     pub(crate) fn balance(&self, p: u8) -> u64
-        requires process { p < 16 }
-        requires long { length self.now.balances ≡ 16 }
+        requires { p < 16 }
         ensures { result ≡ slice_index self.now.balances p }
     {
         self.balances[p as usize]
@@ -77,8 +88,7 @@ impl Amounts {
 
     /// What process p has spent.
     pub(crate) fn spent(&self, p: u8) -> u64
-        requires process { p < 16 }
-        requires long { length self.now.spent ≡ 16 }
+        requires { p < 16 }
         ensures { result ≡ slice_index self.now.spent p }
     {
         self.spent[p as usize]
@@ -86,8 +96,7 @@ impl Amounts {
 
     /// What the graft at a place has.
     pub(crate) fn funds(&self, i: usize) -> u64
-        requires place { i < 256 }
-        requires long { length self.now.funds ≡ 256 }
+        requires { i < 256 }
         ensures { result ≡ slice_index self.now.funds i }
     {
         self.funds[i]
@@ -98,10 +107,7 @@ impl Amounts {
         requires from { p < 16 }
         requires to { q < 16 }
         requires enough { n ≤ slice_index self.old.balances p }
-        requires sound { IsSums self.old }
-        ensures value { self.new ≡ given p q n self.old }
-        ensures sound { IsSums self.new }
-        ensures funds { self.new.funds ≡ self.old.funds }
+        ensures { Becomes IsSums self.old self.new (given p q n self.old) }
     {
         take_from(&mut self.balances, p as usize, n);
         add_to(&mut self.balances, q as usize, n);
@@ -109,12 +115,9 @@ impl Amounts {
 
     /// Moves n from process p to the graft at a place.
     pub(crate) fn fund(&mut self, p: u8, i: usize, n: u64)
-        requires process { p < 16 }
-        requires place { i < 256 }
+        requires place { IsPlace p i }
         requires enough { n ≤ slice_index self.old.balances p }
-        requires sound { IsSums self.old }
-        ensures value { self.new ≡ funded_at p i n self.old }
-        ensures sound { IsSums self.new }
+        ensures { Becomes IsSums self.old self.new (funded_at p i n self.old) }
     {
         take_from(&mut self.balances, p as usize, n);
         add_to(&mut self.funds, i, n);
@@ -124,10 +127,7 @@ impl Amounts {
     pub(crate) fn pay(&mut self, p: u8, n: u64)
         requires process { p < 16 }
         requires enough { n ≤ slice_index self.old.balances p }
-        requires sound { IsSums self.old }
-        ensures value { self.new ≡ paid p n self.old }
-        ensures sound { IsSums self.new }
-        ensures funds { self.new.funds ≡ self.old.funds }
+        ensures { Becomes IsSums self.old self.new (paid p n self.old) }
     {
         take_from(&mut self.balances, p as usize, n);
         add_to(&mut self.spent, p as usize, n);
@@ -135,12 +135,9 @@ impl Amounts {
 
     /// The graft at a place, which process p installed, pays n.
     pub(crate) fn pay_at(&mut self, p: u8, i: usize, n: u64)
-        requires process { p < 16 }
-        requires place { i < 256 }
+        requires place { IsPlace p i }
         requires enough { n ≤ slice_index self.old.funds i }
-        requires sound { IsSums self.old }
-        ensures value { self.new ≡ paid_at p i n self.old }
-        ensures sound { IsSums self.new }
+        ensures { Becomes IsSums self.old self.new (paid_at p i n self.old) }
     {
         take_from(&mut self.funds, i, n);
         add_to(&mut self.spent, p as usize, n);
@@ -148,11 +145,8 @@ impl Amounts {
 
     /// Process p gets all that the graft at a place has.
     pub(crate) fn give_back(&mut self, p: u8, i: usize)
-        requires process { p < 16 }
-        requires place { i < 256 }
-        requires sound { IsSums self.old }
-        ensures value { self.new ≡ given_back p i self.old }
-        ensures sound { IsSums self.new }
+        requires place { IsPlace p i }
+        ensures { Becomes IsSums self.old self.new (given_back p i self.old) }
     {
         let n = self.funds[i];
         take_from(&mut self.funds, i, n);
@@ -161,11 +155,8 @@ impl Amounts {
 
     /// Process 0 gets all that process p has and has spent.
     pub(crate) fn close(&mut self, p: u8)
-        requires process { p < 16 }
-        requires sound { IsSums self.old }
-        ensures value { self.new ≡ closed p self.old }
-        ensures sound { IsSums self.new }
-        ensures funds { self.new.funds ≡ self.old.funds }
+        requires { p < 16 }
+        ensures { Becomes IsSums self.old self.new (closed p self.old) }
     {
         let had = self.balances[p as usize];
         let spent = self.spent[p as usize];

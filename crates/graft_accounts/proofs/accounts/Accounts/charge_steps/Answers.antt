@@ -5,24 +5,26 @@ use Rattle.graft_accounts.proofs.Stepping.{billed_seen, funded_seen}
 use Rattle.graft_accounts.proofs.Totals.{totals_with}
 use Rattle.graft_accounts.proofs.accounts.Accounts.charge_steps.Goals as goal
 
-pub returns-in-Some-clause-value : goal.returns-in-Some-clause-value
-returns-in-Some-clause-value c =
-    let stands = rw c.place-i.ensures at (sym c.standing.ensures.value ∙ c.in-Some.is) in
-    billed_seen c.args.n c.args.self.now c.pay.new.self c.args.p c.args.pt c.in-Some.standing c.pay.ensures.was
-    c.requires.process c.requires.point stands c.if-standing.true (rw c.from.ensures at c.pay.ensures.value)
+pub returns-in-Some : goal.returns-in-Some
+returns-in-Some c =
+    record {
+      value =
+          (let stands = rw c.place-i.ensures at (sym c.standing.ensures ∙ c.in-Some.is) in
+          billed_seen c.args.n c.args.self.now c.pay.new.self c.args.p c.args.pt c.in-Some.standing c.pay.ensures.was
+          c.requires.at.process c.requires.at.point stands c.if-standing.true (rw c.from.ensures at c.pay.ensures.value));
+      sums =
+          totals_with c.args.self.now c.pay.new.self Steps (paid c.args.p c.from.result c.args.self.now.steps) c.pay.ensures.value refl
+          c.pay.ensures.was c.pay.ensures.sound;
+    }
 
-pub returns-in-Some-clause-sums : goal.returns-in-Some-clause-sums
-returns-in-Some-clause-sums c =
-    totals_with c.args.self.now c.pay.new.self Steps (paid c.args.p c.from.result c.args.self.now.steps) c.pay.ensures.value refl
-    c.pay.ensures.was c.pay.ensures.table
-
-pub returns-in-Some-2-clause-value : goal.returns-in-Some-2-clause-value
-returns-in-Some-2-clause-value c =
-    let stands = rw c.place-i.ensures at (sym c.standing.ensures.value ∙ c.in-Some.is) in
-    funded_seen c.args.n c.args.self.now c.pay_at.new.self c.args.p c.args.pt c.in-Some.standing c.pay_at.ensures.was
-    c.requires.process c.requires.point stands c.if-standing.false (rw (c.place-i.ensures, c.from-in-Some-2.ensures) at c.pay_at.ensures.value)
-
-pub returns-in-Some-2-clause-sums : goal.returns-in-Some-2-clause-sums
-returns-in-Some-2-clause-sums c =
-    totals_with c.args.self.now c.pay_at.new.self Steps (paid_at c.args.p c.place-i.result c.from-in-Some-2.result c.args.self.now.steps) c.pay_at.ensures.value refl
-    c.pay_at.ensures.was c.pay_at.ensures.table
+pub returns-in-Some-2 : goal.returns-in-Some-2
+returns-in-Some-2 c =
+    record {
+      value =
+          (let stands = rw c.place-i.ensures at (sym c.standing.ensures ∙ c.in-Some.is) in
+          funded_seen c.args.n c.args.self.now c.pay_at.new.self c.args.p c.args.pt c.in-Some.standing c.pay_at.ensures.was
+          c.requires.at.process c.requires.at.point stands c.if-standing.false (rw (c.place-i.ensures, c.from-in-Some-2.ensures) at c.pay_at.ensures.value));
+      sums =
+          totals_with c.args.self.now c.pay_at.new.self Steps (paid_at c.args.p c.place-i.result c.from-in-Some-2.result c.args.self.now.steps) c.pay_at.ensures.value refl
+          c.pay_at.ensures.was c.pay_at.ensures.sound;
+    }

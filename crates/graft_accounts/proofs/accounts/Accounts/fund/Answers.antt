@@ -5,13 +5,14 @@ use Rattle.graft_accounts.proofs.Moves.{fund_stands}
 use Rattle.graft_accounts.proofs.Totals.{totals_with}
 use Rattle.graft_accounts.proofs.accounts.Accounts.fund.Goals as goal
 
-pub returns-clause-value : goal.returns-clause-value
-returns-clause-value c =
-    let moved = rw (c.from-2.ensures, c.place.ensures) at c.fund_at.ensures.value in
-    fund_stands c.args.self.now c.fund_at.new.self c.args.k c.args.p c.args.pt c.args.n c.fund_at.ensures.was
-    c.requires.process c.requires.point c.requires.stands (omega arith) moved
-
-pub returns-clause-sums : goal.returns-clause-sums
-returns-clause-sums c =
-    totals_with c.args.self.now c.fund_at.new.self c.args.k (funded_at c.args.p c.place.result c.from-2.result (sums_of c.args.self.now c.args.k))
-    c.fund_at.ensures.value refl c.fund_at.ensures.was c.fund_at.ensures.table
+pub returns-clause-changed : goal.returns-clause-changed
+returns-clause-changed c =
+    record {
+      value =
+          (let moved = rw (c.from-2.ensures, c.place.ensures) at c.fund_at.ensures.value in
+          fund_stands c.args.self.now c.fund_at.new.self c.args.k c.args.p c.args.pt c.args.n c.fund_at.ensures.was
+          c.requires.at.process c.requires.at.point c.requires.stands (omega arith) moved);
+      sums =
+          totals_with c.args.self.now c.fund_at.new.self c.args.k (funded_at c.args.p c.place.result c.from-2.result (sums_of c.args.self.now c.args.k))
+          c.fund_at.ensures.value refl c.fund_at.ensures.was c.fund_at.ensures.sound;
+    }

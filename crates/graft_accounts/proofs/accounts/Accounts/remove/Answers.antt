@@ -2,12 +2,13 @@ use Rattle.std.proofs.Common.{is_some, ap, sym, ◌∙◌}
 use Rattle.graft_accounts.proofs.Moves.{remove_stands, remove_totals}
 use Rattle.graft_accounts.proofs.accounts.Accounts.remove.Goals as goal
 
-pub returns-then-is_some-clause-value : goal.returns-then-is_some-clause-value
-returns-then-is_some-clause-value c =
-    let stands = rw c.place-i.ensures at (ap is_some (sym c.standing.ensures.value) ∙ sym c.is_some.ensures ∙ c.if-is_some.true) in
-    remove_stands c.args.self.now c.take_out.new.self c.args.p c.args.pt c.take_out.ensures.was c.requires.process c.requires.point stands
-    (rw c.place-i.ensures at c.take_out.ensures.value)
-
-pub returns-then-is_some-clause-sums : goal.returns-then-is_some-clause-sums
-returns-then-is_some-clause-sums c =
-    remove_totals c.args.self.now c.take_out.new.self _ _ c.take_out.ensures.value c.take_out.ensures.was c.take_out.ensures.table
+pub returns-then-is_some : goal.returns-then-is_some
+returns-then-is_some c =
+    record {
+      value =
+          (let stands = rw c.place-i.ensures at (ap is_some (sym c.standing.ensures) ∙ sym c.is_some.ensures ∙ c.if-is_some.true) in
+          remove_stands c.args.self.now c.take_out.new.self c.args.p c.args.pt c.take_out.ensures.was c.requires.at.process c.requires.at.point stands
+          (rw c.place-i.ensures at c.take_out.ensures.value));
+      sums =
+          remove_totals c.args.self.now c.take_out.new.self _ _ c.take_out.ensures.value c.take_out.ensures.was c.take_out.ensures.sound;
+    }
