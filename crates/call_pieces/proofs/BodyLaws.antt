@@ -54,14 +54,6 @@ pub body_is : (ram : List ℕ) (p : ℕ) (registers : List ℕ) → length ram �
 body_is ram p registers size process =
     segment_bytes ram (base_of p 0) 2048 (min (slice_index registers 0) 512) (omega arith) (omega arith)
 
--- the first of them
-pub first_of_range : (xs : List ℕ) (a n m : ℕ) → n ≤ m → slice_range (slice_range xs a (a + m)) 0 n ≡ slice_range xs a (a + n)
-first_of_range xs a n m few =
-    let all : n - 0 ≡ n = omega arith in
-    let whole : (a + m) - a ≡ m = omega arith in
-    let part : (a + n) - a ≡ n = omega arith in
-    ap (λ k. take k (slice_range xs a (a + m))) all ∙ ap (λ k. take n (take k (drop a xs))) whole ∙ take-take n m (drop a xs) few ∙ ap (λ k. take k (drop a xs)) (sym part)
-
 -- a part of a range is a range
 pub part_of_range : (xs : List ℕ) (a n off len : ℕ) → off + len ≤ n
     → slice_range (slice_range xs a (a + n)) off (off + len) ≡ slice_range xs (a + off) (a + off + len)

@@ -7,3 +7,4 @@ pub mod Granting
 pub mod WriteLaws
 pub mod LeftLaws
 pub mod BodyLaws
+pub mod ServesLaws

@@ -1,26 +1,29 @@
 -- The clauses that many functions of this crate share, and the pieces and fetches of the
 -- definitions on a store.
-use Rattle.std.specs.Prelude.{◌≡◌, ℕ, ◌<◌, ◌≤◌, Bool, true, false, List, ◌++◌, length, Option, Some, None, Result, IfOk, IfErr}
+use Rattle.std.specs.Prelude.{◌≡◌, ℕ, ◌+◌, ◌<◌, ◌≤◌, Bool, true, false, List, [], ◌++◌, length, slice_index, is_some, Option, Some, None, Result, IfOk, IfErr}
+use Rattle.std.specs.Option.{IfSome}
 use Rattle.kernel_model.specs.declared.OpenRow.{OpenRow}
+use Rattle.kernel_model.specs.declared.QueueRow.{QueueRow}
 use Rattle.kernel_model.specs.declared.SysCall.TheVariants.{Read}
 use Rattle.kernel_model.specs.declared.Refusal.{Refusal}
 use Rattle.kernel_model.specs.World.{World, Blocks}
 use Rattle.kernel_model.specs.Objects.{Objects, CacheValue}
-use Rattle.kernel_model.specs.Meaning.{Stage, Piece, stage}
-use Rattle.kernel_model.specs.Policies.{lives, or_zero, victim_among}
+use Rattle.kernel_model.specs.Meaning.{Stage, Piece, stage, disk_fails}
+use Rattle.kernel_model.specs.Policies.{lives, or_zero, victim_among, ahead_default}
 use Rattle.kernel_model.specs.Needs.{file_block, ahead_block, free_frame}
 use Rattle.kernel_model.specs.Fetch as fetches
 use Rattle.kernel_model.specs.Fetch.{Fetched, new_frame, replaced, read_block, place_block, chosen_by}
-use Rattle.kernel_model.specs.FilePieces.{read_piece, read_first_at, read_first, read_third_at, write_piece, with_cache}
+use Rattle.kernel_model.specs.FilePieces.{read_piece, read_first_at, read_first, read_second, read_third_at, ahead_by, write_piece, sync_from, with_cache}
 use Rattle.buffer_cache.specs.Frames.{in_use}
 use Rattle.vino_base.specs.declared.streams.Failed.{Failed as DiskFailed}
-use Rattle.disk_log.specs.Calls.{Knows}
+use Rattle.vino_base.specs.Disks.{DiskSeen}
+use Rattle.disk_log.specs.Calls.{Knows, CallsExtend}
 use Rattle.kernel_state.specs.declared.Store.{Store}
 use Rattle.kernel_state.specs.Stores.{world_of_store, objects_of, cache_of, queue_of, policies_of, SegmentsStay}
 use Rattle.call_pieces.specs.declared.Next.{Next}
-use Rattle.call_pieces.specs.declared.reads.Range.{Range}
+use Rattle.call_pieces.specs.declared.Access.{Access}
 use Rattle.call_pieces.specs.Works.{comes_after}
-use Rattle.call_pieces.specs.Matching.{PieceMatches, PieceMatchesSome, FetchMatches, has_failed, is_fault, goes_on}
+use Rattle.call_pieces.specs.Matching.{PieceMatches, PieceMatchesSome, FetchMatches, FetchMatchesSome, FetchLeft, blocks_after, has_failed, is_fault, goes_on}
 
 -- ---- pieces without a call of the disk
 
@@ -31,14 +34,44 @@ CameAtOnce piece s result =
     (blocks : Blocks) (known : Option (List (List ℕ))) (t : Stage) → Knows known blocks →
     PieceMatches (piece blocks) s known None (comes_after result t) 0
 
--- a call ends with this piece, and not for the disk; the world and the segments of grafts stay
-pub record EndsAtOnce {B : Type 0} {P : _} (old new : Store B P) (next : Next) : Type 0 where
+-- A call ends with this piece, and not for the disk: the piece left the objects and came out as the
+-- definitions have it. The queue is this; the world and the segments of grafts stay.
+pub record EndsWithQueue {B : Type 0} {P : _} (piece : Blocks → Piece) (queue : List QueueRow)
+    (old new : Store B P) (next : Next) : Type 0 where
+  pub does : CameAtOnce piece (objects_of new) next
+  pub queue_is : queue_of new ≡ queue
   pub ends : goes_on next ≡ false
   pub no_fault : is_fault next ≡ false
   pub world : world_of_store new ≡ world_of_store old
   pub memory : SegmentsStay old.ram new.ram
 
+-- so it is, and the queue stays
+abbrev pub EndsAtOnce : {B : Type 0} {P : _} → (piece : Blocks → Piece) → (old new : Store B P) →
+    Next → Type 0
+EndsAtOnce piece old new next = EndsWithQueue piece (queue_of old) old new next
+
+-- a piece left these objects and came out as the definitions have it, before this stage, whatever
+-- the disk tells, with no call of it; and not for the disk. The queue is this; the world and the
+-- segments of grafts stay.
+pub record ComesAtOnce {B : Type 0} {P : _} (piece : Blocks → Piece) (queue : List QueueRow)
+    (old new : Store B P) (next : Next) (t : Stage) : Type 0 where
+  pub does : (blocks : Blocks) (known : Option (List (List ℕ))) → Knows known blocks →
+      PieceMatches (piece blocks) (objects_of new) known None (comes_after next t) 0
+  pub queue_is : queue_of new ≡ queue
+  pub no_fault : is_fault next ≡ false
+  pub world : world_of_store new ≡ world_of_store old
+  pub memory : SegmentsStay old.ram new.ram
+
 -- ---- pieces with calls of the disk
+
+-- a store, a disk, and the calls of the disk that were made
+pub record Moment (S : Type 0) : Type 0 where
+  pub store : S
+  pub disk : DiskSeen
+  pub log : List Bool
+
+abbrev pub moment : {S : Type 0} → S → DiskSeen → List Bool → Moment S
+moment store disk log = record { store = store; disk = disk; log = log }
 
 -- A piece left these objects and came out as the definitions have it, where the disk told its
 -- blocks before and tells them after, and these calls of it were made, whatever the calls after
@@ -57,7 +90,7 @@ CameBySome v piece s gave result t log = PieceMatchesSome v piece s gave (comes_
 
 -- a piece fails for the disk only where a call of it failed; the queue, the world and the segments
 -- of grafts stay
-pub record Serves {B : Type 0} {P : _} (old new : Store B P) (next : Next)
+pub record PieceKeeps {B : Type 0} {P : _} (old new : Store B P) (next : Next)
     (log : List Bool) : Type 0 where
   pub failed : is_fault next ≡ true → has_failed log ≡ true
   pub few : length log ≤ 256
@@ -65,17 +98,46 @@ pub record Serves {B : Type 0} {P : _} (old new : Store B P) (next : Next)
   pub world : world_of_store new ≡ world_of_store old
   pub memory : SegmentsStay old.ram new.ram
 
+-- A piece took the one moment to the other, gave these bytes, and stands before this stage if it
+-- goes on: over the blocks that the disk told, or else over some whole ones, as the definitions have
+-- it. The log goes on with the calls of the disk that it made.
+pub record Serves {B : Type 0} {P : _} (piece : Blocks → List Bool → Piece)
+    (old new : Moment (Store B P)) (gave : Option (List ℕ)) (next : Next) (t : Stage) :
+    Type 0 where
+  pub does : CameBy piece (objects_of new.store) old.disk.known new.disk.known gave next t new.log
+  pub some : CameBySome (world_of_store old.store) piece (objects_of new.store) gave next t new.log
+  pub keeps : PieceKeeps old.store new.store next new.log
+  pub calls : CallsExtend old.disk new.disk old.log new.log
+
+-- so it is of the last piece of a call, which gives nothing
+pub record ServesLast {B : Type 0} {P : _} (piece : Blocks → List Bool → Piece)
+    (old new : Moment (Store B P)) (next : Next) : Type 0 where
+  pub does : (t : Stage) →
+      CameBy piece (objects_of new.store) old.disk.known new.disk.known None next t new.log
+  pub some : (t : Stage) →
+      CameBySome (world_of_store old.store) piece (objects_of new.store) None next t new.log
+  pub ends : goes_on next ≡ false
+  pub keeps : PieceKeeps old.store new.store next new.log
+  pub calls : CallsExtend old.disk new.disk old.log new.log
+
 -- ---- fetches
 
--- block b may be fetched for process p, on a disk of so many blocks
-pub record FetchReady {B : Type 0} {P : _} (s : Store B P) (blocks p b : ℕ) : Type 0 where
-  pub alive : lives (queue_of s) p ≡ true
-  pub block : b < s.size
-  pub disk : s.size ≡ blocks
+-- an answer names a frame in use
+abbrev pub NamesFrame : {B : Type 0} {P : _} → Store B P → Option (List ℕ) → Type 0
+NamesFrame s answer = IfSome answer (λ a. is_some ((cache_of s).frame (slice_index a 0)) ≡ true)
+
+-- block b may be fetched for process p with this answer, once these calls of the disk were made
+pub record FetchReady {B : Type 0} {P : _} (m : Moment (Store B P)) (p b : ℕ)
+    (answer : Option (List ℕ)) (calls : List Bool) : Type 0 where
+  pub alive : lives (queue_of m.store) p ≡ true
+  pub block : b < m.store.size
+  pub disk : m.store.size ≡ m.disk.size
+  pub right : NamesFrame m.store answer
+  pub made : m.log ≡ calls
 
 -- A fetch changes the cache alone, and nothing where it fails, which it does only where a call of
 -- the disk failed; the frame that it gives is in use.
-pub record FetchDone {B : Type 0} {P : _} (old new : Store B P)
+pub record FetchKeeps {B : Type 0} {P : _} (old new : Store B P)
     (result : Result ℕ DiskFailed) (log : List Bool) : Type 0 where
   pub objects : objects_of new ≡ with_cache (cache_of new) (objects_of old)
   pub in_cache : IfOk result (λ f. in_use f new.cache ≡ true)
@@ -93,6 +155,29 @@ abbrev pub FetchCameBy : (fetch : Blocks → List Bool →
 FetchCameBy fetch before after result cache log =
     (blocks : Blocks) (rest : List Bool) → Knows before blocks →
     FetchMatches (fetch blocks (log ++ rest)) blocks result cache after (length log)
+
+-- A fetch took the one moment to the other: over the blocks that the disk told, or else over some
+-- whole ones, as the definitions have it. The log goes on with the calls of the disk that it made.
+pub record FetchDone {B : Type 0} {P : _} (fetch : Blocks → List Bool → Fetched)
+    (old new : Moment (Store B P)) (result : Result ℕ DiskFailed) : Type 0 where
+  pub does : FetchCameBy fetch old.disk.known new.disk.known result (cache_of new.store) new.log
+  pub some : FetchMatchesSome (world_of_store old.store) fetch result (cache_of new.store) new.log
+  pub keeps : FetchKeeps old.store new.store result new.log
+  pub calls : CallsExtend old.disk new.disk old.log new.log
+
+-- the same of what follows the read of the block, of which all is said over whatever blocks `Holds`
+-- is true of
+pub record PlaceDone {B : Type 0} {P : _} (place : Blocks → List Bool → Fetched)
+    (Holds : Blocks → Type 0) (old new : Moment (Store B P)) (result : Result ℕ DiskFailed) :
+    Type 0 where
+  pub outcome : (blocks : Blocks) (rest : List Bool) → Holds blocks →
+      FetchLeft (place blocks (new.log ++ rest)) blocks result (cache_of new.store)
+      (length new.log)
+  pub tells : (blocks : Blocks) (rest : List Bool) → Holds blocks → Knows old.disk.known blocks →
+      Knows new.disk.known (blocks_after (place blocks (new.log ++ rest)) blocks)
+  pub first : (rest : List Bool) → disk_fails (new.log ++ rest) 0 ≡ false
+  pub keeps : FetchKeeps old.store new.store result new.log
+  pub calls : CallsExtend old.disk new.disk old.log new.log
 
 -- the definitions' fetch of block b for process p
 abbrev pub fetch_of : {B : Type 0} {P : _} → Store B P → (p b : ℕ) → Option (List ℕ) → Blocks →
@@ -133,40 +218,48 @@ evict_of s p b f candidate bytes =
 
 -- ---- pieces of reads and writes
 
--- where a read of a range stands before its piece n
-abbrev pub read_stage : Range → ℕ → Stage
+-- the process of an access may have a piece of it, with no call of the disk so far
+pub record AccessReady {B : Type 0} {P : _} (m : Moment (Store B P)) (r : Access) : Type 0 where
+  pub alive : lives (queue_of m.store) r.p ≡ true
+  pub descriptor : r.fd < 4
+  pub inside : r.off + r.len ≤ 512
+  pub disk : m.store.size ≡ m.disk.size
+  pub fresh : m.log ≡ []
+
+-- where a read stands before its piece n
+abbrev pub read_stage : Access → ℕ → Stage
 read_stage r n = stage (Read r.fd r.i r.off r.len) n
 
--- the definitions' piece n of a read of a range by process p
-abbrev pub read_of : {B : Type 0} {P : _} → Store B P → (n p : ℕ) → Range
-    → Option (List ℕ) → Blocks → List Bool → Piece
-read_of s n p r answer =
+-- the definitions' piece n of a read
+abbrev pub read_of : {B : Type 0} {P : _} → Store B P → (n : ℕ) → Access → Blocks → List Bool →
+    Piece
+read_of s n r =
     let o = objects_of s in
-    λ blocks io. read_piece n (world_of_store s) o blocks p r.fd r.i r.off r.len
-    (o.things.file p r.fd) answer io
+    λ blocks io. read_piece n (world_of_store s) o blocks r.p r.fd r.i r.off r.len
+    (o.things.file r.p r.fd) r.answer io
 
 -- the first, with the open file
-abbrev pub first_of : {B : Type 0} {P : _} → Store B P → (p : ℕ) → Range → OpenRow
-    → Option (List ℕ) → Blocks → List Bool → Piece
-first_of s p r opened answer =
+abbrev pub first_of : {B : Type 0} {P : _} → Store B P → Access → OpenRow → Blocks → List Bool →
+    Piece
+first_of s r opened =
     let block = file_block (world_of_store s) (Some opened) r.i r.off r.len in
     λ blocks io. read_first_at block (world_of_store s)
-    (objects_of s) blocks p r.fd r.i r.off r.len opened answer io
+    (objects_of s) blocks r.p r.fd r.i r.off r.len opened r.answer io
 
--- the first, with the block of the disk
-abbrev pub first_at_of : {B : Type 0} {P : _} → Store B P → (p : ℕ) → Range → OpenRow → (b : ℕ)
-    → Option (List ℕ) → Blocks → List Bool → Piece
-first_at_of s p r opened b answer =
-    λ blocks io. read_first (objects_of s) blocks p r.fd r.i r.off r.len opened
-    (fetch_of s p b answer blocks io)
+-- the second
+abbrev pub second_of : {B : Type 0} {P : _} → Store B P → Access → OpenRow → Blocks → Piece
+second_of s r opened =
+    let default = ahead_default (world_of_store s) (policies_of s 0) (Some opened) in
+    λ blocks. read_second (objects_of s) blocks r.p r.fd r.i r.off r.len opened
+    (ahead_by r.answer default)
 
 -- a later one
-abbrev pub later_of : {B : Type 0} {P : _} → Store B P → (p : ℕ) → Range → OpenRow
-    → Option (List ℕ) → Blocks → List Bool → Piece
-later_of s p r opened answer =
+abbrev pub later_of : {B : Type 0} {P : _} → Store B P → Access → OpenRow → Blocks → List Bool →
+    Piece
+later_of s r opened =
     let block = ahead_block (world_of_store s) (Some opened) in
     λ blocks io. read_third_at block (world_of_store s)
-    (objects_of s) blocks p r.fd r.i r.off r.len opened answer io
+    (objects_of s) blocks r.p r.fd r.i r.off r.len opened r.answer io
 
 -- the block of the disk that process p writes to
 abbrev pub block_written : {B : Type 0} {P : _} → Store B P → (p fd i off len : ℕ) →
@@ -174,9 +267,14 @@ abbrev pub block_written : {B : Type 0} {P : _} → Store B P → (p fd i off le
 block_written s p fd i off len =
     file_block (world_of_store s) ((objects_of s).things.file p fd) i off len
 
--- the definitions' write of bytes by process p
-abbrev pub write_of : {B : Type 0} {P : _} → Store B P → (p fd i off : ℕ) → (bytes : List ℕ)
-    → Option (List ℕ) → Blocks → List Bool → Piece
-write_of s p fd i off bytes answer =
-    let block = block_written s p fd i off (length bytes) in
-    λ blocks io. write_piece block (world_of_store s) (objects_of s) blocks p off bytes answer io
+-- the definitions' write of bytes
+abbrev pub write_of : {B : Type 0} {P : _} → Store B P → Access → (bytes : List ℕ) → Blocks →
+    List Bool → Piece
+write_of s r bytes =
+    let block = block_written s r.p r.fd r.i r.off r.len in
+    λ blocks io. write_piece block (world_of_store s) (objects_of s) blocks r.p r.off bytes
+    r.answer io
+
+-- the definitions' `sync`
+abbrev pub sync_of : {B : Type 0} {P : _} → Store B P → Blocks → List Bool → Piece
+sync_of s = λ blocks io. sync_from (world_of_store s).frames 0 0 (objects_of s) blocks io

@@ -3,8 +3,9 @@
 ghost use Rattle.std.specs.Prelude.{◌≡◌, ◌<◌, ◌≤◌, true};
 ghost use Rattle.kernel_model.specs.Policies.{lives};
 ghost use Rattle.kernel_model.specs.Pieces.{give_piece, install_piece, remove_piece, fund_piece, bill_piece, new_graft};
+ghost use Rattle.kernel_state.specs.Places.{HasPoint};
 ghost use Rattle.kernel_state.specs.Stores.{objects_of, queue_of};
-ghost use Rattle.call_pieces.specs.Shared.{CameAtOnce, EndsAtOnce};
+ghost use Rattle.call_pieces.specs.Shared.{EndsAtOnce};
 
 use crate::Next;
 use graft_points::Policy;
@@ -15,11 +16,8 @@ use kernel_state::Store;
 pub(crate) fn give<B: Policy>(store: &mut Store<B>, p: u8, q: u32, k: Kind, n: u32) -> Next
     requires alive { lives (queue_of store.old) p ≡ true }
     requires granted { q < 16 }
-    ensures does { CameAtOnce (λ blocks.
-        give_piece (objects_of store.old) p q k n blocks (lives (queue_of store.old) q))
-        (objects_of store.new) result }
-    ensures queue { queue_of store.new ≡ queue_of store.old }
-    ensures ended { EndsAtOnce store.old store.new result }
+    ensures done { EndsAtOnce (λ blocks. give_piece (objects_of store.old) p q k n blocks
+        (lives (queue_of store.old) q)) store.old store.new result }
 {
     if !store.living(q) {
         return Next::Fails(Refusal::NoProcess);
@@ -38,17 +36,12 @@ pub(crate) fn install<B: Policy>(
     image: u32,
     limit: u32,
 ) -> Next
-    requires alive { lives (queue_of store.old) p ≡ true }
-    requires point { pt < 16 }
+    requires place { HasPoint (queue_of store.old) p pt }
     requires image { image < 32 }
     requires some { 1 ≤ limit }
     requires most { limit ≤ 65536 }
-    ensures does { CameAtOnce (λ blocks.
-        install_piece (objects_of store.old) p pt (new_graft image limit)
-        ((objects_of store.old).accounts.graft p pt) blocks)
-        (objects_of store.new) result }
-    ensures queue { queue_of store.new ≡ queue_of store.old }
-    ensures ended { EndsAtOnce store.old store.new result }
+    ensures done { EndsAtOnce (install_piece (objects_of store.old) p pt (new_graft image limit)
+        ((objects_of store.old).accounts.graft p pt)) store.old store.new result }
 {
     if store.has_graft(p, pt as u8) {
         return Next::Fails(Refusal::Taken);
@@ -59,13 +52,9 @@ pub(crate) fn install<B: Policy>(
 
 /// The graft at point pt of process p is taken out, if one stands there.
 pub(crate) fn remove<B: Policy>(store: &mut Store<B>, p: u8, pt: u32) -> Next
-    requires alive { lives (queue_of store.old) p ≡ true }
-    requires point { pt < 16 }
-    ensures does { CameAtOnce (λ blocks.
-        remove_piece (objects_of store.old) p pt ((objects_of store.old).accounts.graft p pt) blocks)
-        (objects_of store.new) result }
-    ensures queue { queue_of store.new ≡ queue_of store.old }
-    ensures ended { EndsAtOnce store.old store.new result }
+    requires place { HasPoint (queue_of store.old) p pt }
+    ensures done { EndsAtOnce (remove_piece (objects_of store.old) p pt
+        ((objects_of store.old).accounts.graft p pt)) store.old store.new result }
 {
     if !store.has_graft(p, pt as u8) {
         return Next::Fails(Refusal::NoGraft);
@@ -76,13 +65,9 @@ pub(crate) fn remove<B: Policy>(store: &mut Store<B>, p: u8, pt: u32) -> Next
 
 /// Process p gives n to its graft at point pt, if one stands there.
 pub fn fund<B: Policy>(store: &mut Store<B>, p: u8, pt: u32, k: Kind, n: u32) -> Next
-    requires alive { lives (queue_of store.old) p ≡ true }
-    requires point { pt < 16 }
-    ensures does { CameAtOnce (λ blocks.
-        fund_piece (objects_of store.old) p pt k n ((objects_of store.old).accounts.graft p pt) blocks)
-        (objects_of store.new) result }
-    ensures queue { queue_of store.new ≡ queue_of store.old }
-    ensures ended { EndsAtOnce store.old store.new result }
+    requires place { HasPoint (queue_of store.old) p pt }
+    ensures done { EndsAtOnce (fund_piece (objects_of store.old) p pt k n
+        ((objects_of store.old).accounts.graft p pt)) store.old store.new result }
 {
     if !store.has_graft(p, pt as u8) {
         return Next::Fails(Refusal::NoGraft);
@@ -95,13 +80,9 @@ pub fn fund<B: Policy>(store: &mut Store<B>, p: u8, pt: u32, k: Kind, n: u32) ->
 
 /// From here on process p pays for its graft at point pt, if one stands there.
 pub fn bill<B: Policy>(store: &mut Store<B>, p: u8, pt: u32) -> Next
-    requires alive { lives (queue_of store.old) p ≡ true }
-    requires point { pt < 16 }
-    ensures does { CameAtOnce (λ blocks.
-        bill_piece (objects_of store.old) p pt ((objects_of store.old).accounts.graft p pt) blocks)
-        (objects_of store.new) result }
-    ensures queue { queue_of store.new ≡ queue_of store.old }
-    ensures ended { EndsAtOnce store.old store.new result }
+    requires place { HasPoint (queue_of store.old) p pt }
+    ensures done { EndsAtOnce (bill_piece (objects_of store.old) p pt
+        ((objects_of store.old).accounts.graft p pt)) store.old store.new result }
 {
     if !store.has_graft(p, pt as u8) {
         return Next::Fails(Refusal::NoGraft);

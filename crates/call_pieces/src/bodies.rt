@@ -76,8 +76,5 @@ fn copy_from(ram: &Ram, a: u32, count: u32, to: &mut ArrayVec<u8, BLOCK_BYTES>)
     ensures size { length ram.now ≡ RAM_BYTES }
 {
     to.clear();
-    ram.byte(0);
-    for b in a..a + count {
-        to.push(ram.byte(b));
-    }
+    let _ = to.try_extend_from_slice(ram.bytes(a, count));
 }

@@ -17,7 +17,7 @@ pub trait Calls {
     ghost use Rattle.kernel_model.specs.Laws.{IsRightAnswer};
     ghost use Rattle.kernel_model.specs.Bare.{call_with};
     ghost use Rattle.kernel_model.specs.Policies.{lives};
-    ghost use Rattle.disk_log.specs.Calls.{Knows, CallsExtend};
+    ghost use Rattle.disk_log.specs.Calls.{Knows, Made};
     ghost use Rattle.kernel_state.specs.Stores.{world_of_store, objects_of, queue_of, SegmentsStay};
     ghost use Rattle.kernel_model.specs.ImageMask.{TellsImages};
     ghost use Rattle.call_pieces.specs.Works.{IsDue, stage_of, stage_granted, answer_seen, comes_after};
@@ -92,14 +92,14 @@ pub trait Calls {
         requires right { IsRightAnswer (objects_of store.old)
             (Self.Meaning.meaning.asks (world_of_store store.old) (objects_of store.old)
             work.old.caller (stage_of work.old)) answer }
-        requires disk { store.old.size ≡ D.block_count disk.old }
+        requires disk { store.old.size ≡ (D.seen disk.old).size }
         requires fresh { log.old ≡ [] }
         ensures does { (images : ImageTable) (blocks : Blocks) (rest : List Bool) →
-            Knows (D.blocks disk.old) blocks →
+            Knows (D.seen disk.old).known blocks →
             PieceMatches (Self.Meaning.meaning.piece (world_of_store store.old) images
             (objects_of store.old) blocks work.old.caller (stage_of work.old)
             (answer_seen store.old.ram work.old.caller answer) (log.new ++ rest))
-            (objects_of store.new) (D.blocks disk.new) gave.new
+            (objects_of store.new) (D.seen disk.new).known gave.new
             (comes_after result (stage_of work.new)) (length log.new) }
         ensures some { (images : ImageTable) →
             PieceMatchesSome (world_of_store store.old) (λ blocks io.
@@ -115,9 +115,7 @@ pub trait Calls {
         ensures failed { is_fault result ≡ true → has_failed log.new ≡ true }
         ensures world { world_of_store store.new ≡ world_of_store store.old }
         ensures memory { SegmentsStay store.old.ram store.new.ram }
-        ensures same_size { D.block_count disk.new ≡ D.block_count disk.old }
-        ensures calls { CallsExtend (D.faults disk.old) (D.faults disk.new) (D.plan disk.old)
-            (D.plan disk.new) log.old log.new }
+        ensures calls { Made (D.seen disk.old) (D.seen disk.new) log.new }
         ensures few { length log.new ≤ 256 };
 }
 

@@ -80,10 +80,7 @@ impl Gift {
         requires process { p < 16 }
         ensures { self.new ≡ Some (body_at store.now.ram p answer) }
     {
-        store.ram.copy_out(body_place(p), &mut self.block);
-        self.given = true;
-        self.start = 0;
-        self.end = body_len(answer) as usize;
+        self.give_bytes(store.ram.bytes(body_place(p), body_len(answer)));
     }
 
     /// Gives bytes off to off + len of frame f, which is in use.

@@ -41,6 +41,18 @@ pub use writes::write;
 /// The most handlers that one `serve` asks: those of a port.
 pub const MOST_HANDLERS: usize = 8;
 
+/// What a piece of a read or a write of process p asks for: bytes off to off + len of block i of
+/// the file at descriptor fd. The answer is that of the point that the piece asks, or there is none.
+#[derive(Clone, Copy)]
+pub struct Access {
+    pub p: u8,
+    pub fd: u32,
+    pub i: u32,
+    pub off: u32,
+    pub len: u32,
+    pub answer: Option<[u32; 4]>,
+}
+
 /// A call in flight. It stays where it is from its first piece to its last.
 #[derive(Drop)]
 pub struct Work {
@@ -104,6 +116,9 @@ fn copy_bytes(to: &mut ArrayVec<u8, BLOCK_BYTES>, from: &ArrayVec<u8, BLOCK_BYTE
     ensures { to.new.items ≡ from.now.items }
 {
     to.clear();
+    if from.is_empty() {
+        return;
+    }
     let _ = to.try_extend_from_slice(from.as_slice());
 }
 

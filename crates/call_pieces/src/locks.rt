@@ -4,7 +4,7 @@ ghost use Rattle.std.specs.Prelude.{◌≡◌, ◌<◌, true};
 ghost use Rattle.kernel_model.specs.Policies.{lives};
 ghost use Rattle.kernel_model.specs.Pieces.{lock_piece, unlock_piece};
 ghost use Rattle.kernel_state.specs.Stores.{objects_of, queue_of};
-ghost use Rattle.call_pieces.specs.Shared.{CameAtOnce, EndsAtOnce};
+ghost use Rattle.call_pieces.specs.Shared.{EndsAtOnce};
 
 use crate::Next;
 use graft_points::Policy;
@@ -15,11 +15,8 @@ use kernel_state::Store;
 pub(crate) fn take_lock<B: Policy>(store: &mut Store<B>, p: u8, u: u32) -> Next
     requires alive { lives (queue_of store.old) p ≡ true }
     requires granted { u < 16 }
-    ensures does { CameAtOnce (λ blocks.
-        lock_piece (objects_of store.old) p u ((objects_of store.old).things.lock u) blocks)
-        (objects_of store.new) result }
-    ensures queue { queue_of store.new ≡ queue_of store.old }
-    ensures ended { EndsAtOnce store.old store.new result }
+    ensures done { EndsAtOnce (lock_piece (objects_of store.old) p u
+        ((objects_of store.old).things.lock u)) store.old store.new result }
 {
     if store.holder(u as u8).is_some() {
         return Next::Fails(Refusal::Held);
@@ -31,11 +28,8 @@ pub(crate) fn take_lock<B: Policy>(store: &mut Store<B>, p: u8, u: u32) -> Next
 /// Process p lets user lock u go, which it holds.
 pub(crate) fn free_lock<B: Policy>(store: &mut Store<B>, p: u8, u: u32) -> Next
     requires granted { u < 16 }
-    ensures does { CameAtOnce (λ blocks.
-        unlock_piece (objects_of store.old) p u ((objects_of store.old).things.lock u) blocks)
-        (objects_of store.new) result }
-    ensures queue { queue_of store.new ≡ queue_of store.old }
-    ensures ended { EndsAtOnce store.old store.new result }
+    ensures done { EndsAtOnce (unlock_piece (objects_of store.old) p u
+        ((objects_of store.old).things.lock u)) store.old store.new result }
 {
     match store.holder(u as u8) {
         Some(q) if q == p => {

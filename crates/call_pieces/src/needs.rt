@@ -8,11 +8,11 @@ ghost use Rattle.kernel_model.specs.Policies.{lives};
 ghost use Rattle.kernel_model.specs.Pieces.{read_fits};
 ghost use Rattle.kernel_model.specs.Needs as spec;
 ghost use Rattle.buffer_cache.specs.Frames.{in_use};
+ghost use Rattle.kernel_state.specs.Places.{HasDescriptor};
 ghost use Rattle.kernel_state.specs.Stores.{world_of_store, objects_of, cache_of, queue_of, policies_of};
 ghost use Rattle.call_pieces.specs.Works.{IsPlainDue, call_of, stage_of};
 
-use crate::Work;
-use crate::reads::Range;
+use crate::{Access, Work};
 use arrayvec::ArrayVec;
 use graft_points::Policy;
 use kernel_model::{BareCall, Kind, Mode, Need, Object};
@@ -166,26 +166,24 @@ impl Needs {
         }
     }
 
-    /// What a fetch of block i of an open file needs, of which bytes off to off + len are meant.
-    /// Nothing where that is refused.
-    pub fn block<B: Policy>(&mut self, store: &Store<B>, p: u8, fd: u8, i: u32, off: u32, len: u32)
-        requires alive { lives (queue_of store.now) p ≡ true }
-        requires descriptor { fd < 4 }
+    /// What a fetch of the block of an access needs. Nothing where that is refused.
+    pub fn block<B: Policy>(&mut self, store: &Store<B>, r: Access)
+        requires alive { lives (queue_of store.now) r.p ≡ true }
+        requires descriptor { r.fd < 4 }
         requires room { length self.old + 4 ≤ NEEDS }
         ensures { self.new ≡ self.old
             ++ spec.fetch_needs (world_of_store store.now) (objects_of store.now)
             (spec.file_block (world_of_store store.now)
-            ((objects_of store.now).things.file p fd) i off len) }
+            ((objects_of store.now).things.file r.p r.fd) r.i r.off r.len) }
     {
-        if let Ok(b) = store.block_of(p, fd, i, off, len) {
+        if let Ok(b) = store.block_of(r.p, r.fd as u8, r.i, r.off, r.len) {
             self.fetch(store, b);
         }
     }
 
     /// What a fetch of the block ahead of an open file needs, which has one.
     fn ahead<B: Policy>(&mut self, store: &Store<B>, p: u8, fd: u8)
-        requires alive { lives (queue_of store.now) p ≡ true }
-        requires descriptor { fd < 4 }
+        requires file { HasDescriptor (queue_of store.now) p fd }
         requires fits { read_fits 2 ((objects_of store.now).things.file p fd) ≡ true }
         requires room { length self.old + 4 ≤ NEEDS }
         ensures { self.new ≡ self.old
@@ -217,8 +215,8 @@ pub(crate) fn candidate_for<B: Policy>(store: &Store<B>, b: u32) -> Option<u8>
 pub fn need<B: Policy>(work: &Work, store: &Store<B>, needs: &mut Needs)
     requires ready { IsPlainDue (world_of_store store.now) (objects_of store.now) work.now.caller
         (stage_of work.now) }
-    ensures { needs.new ≡ spec.piece_needs (call_of work.now) work.now.piece (world_of_store store.now)
-        (objects_of store.now) work.now.caller }
+    ensures { needs.new ≡ spec.piece_needs (call_of work.now) work.now.piece
+        (world_of_store store.now) (objects_of store.now) work.now.caller }
 {
     needs.clear();
     let p = work.caller;
@@ -229,18 +227,35 @@ pub fn need<B: Policy>(work: &Work, store: &Store<B>, needs: &mut Needs)
         BareCall::OpenName => needs.files(p),
         BareCall::CloseFd(fd) => needs.exclusive(Object::OpenFile(p, fd as u8)),
         BareCall::Read(fd, i, off, len) => {
-            let range = Range { fd, i, off, len };
-            read_needs(work.piece, store, p, range, needs)
+            let answer = None;
+            read_needs(
+                work.piece,
+                store,
+                Access {
+                    p,
+                    fd,
+                    i,
+                    off,
+                    len,
+                    answer,
+                },
+                needs,
+            )
         }
         BareCall::Write(fd, i, off) => {
+            let len = work.bytes.as_slice().len() as u32;
+            let answer = None;
             needs.shared(Object::OpenFile(p, fd as u8));
             needs.block(
                 store,
-                p,
-                fd as u8,
-                i,
-                off,
-                work.bytes.as_slice().len() as u32,
+                Access {
+                    p,
+                    fd,
+                    i,
+                    off,
+                    len,
+                    answer,
+                },
             );
         }
         BareCall::Sync => needs.exclusive(Object::Cache),
@@ -299,18 +314,19 @@ fn yield_needs<B: Policy>(piece: u8, store: &Store<B>, needs: &mut Needs)
 }
 
 /// The open file, and the block that is read, the point that is asked, or the block ahead.
-fn read_needs<B: Policy>(piece: u8, store: &Store<B>, p: u8, r: Range, needs: &mut Needs)
-    requires alive { lives (queue_of store.now) p ≡ true }
+fn read_needs<B: Policy>(piece: u8, store: &Store<B>, r: Access, needs: &mut Needs)
+    requires alive { lives (queue_of store.now) r.p ≡ true }
     requires descriptor { r.fd < 4 }
-    requires fits { read_fits piece ((objects_of store.now).things.file p r.fd) ≡ true }
+    requires fits { read_fits piece ((objects_of store.now).things.file r.p r.fd) ≡ true }
     requires empty { needs.old ≡ [] }
     ensures { needs.new ≡ spec.read_needs piece (world_of_store store.now)
-        (objects_of store.now) p r.fd r.i r.off r.len }
+        (objects_of store.now) r.p r.fd r.i r.off r.len }
 {
+    let p = r.p;
     let fd = r.fd as u8;
     needs.exclusive(Object::OpenFile(p, fd));
     match piece {
-        0 => needs.block(store, p, fd, r.i, r.off, r.len),
+        0 => needs.block(store, r),
         1 => {
             needs.shared(Object::Pol(0));
             needs.point(store, p, fd);

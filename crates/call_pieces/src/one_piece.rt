@@ -14,7 +14,7 @@ ghost use Rattle.kernel_model.specs.Pieces.{spawn_piece, exit_piece, yield_piece
 ghost use Rattle.kernel_model.specs.Sound.{IsSoundFile};
 ghost use Rattle.disk_log.specs.Calls.{Knows};
 ghost use Rattle.kernel_state.specs.Stores.{world_of_store, objects_of, queue_of, queue_joined, policies_of, SegmentsStay};
-ghost use Rattle.call_pieces.specs.Shared.{CameAtOnce, EndsAtOnce};
+ghost use Rattle.call_pieces.specs.Shared.{ComesAtOnce, EndsAtOnce, EndsWithQueue};
 ghost use Rattle.call_pieces.specs.Works.{queue_yielded, next_of, comes_after};
 ghost use Rattle.call_pieces.specs.Matching.{PieceMatches, is_fault, goes_on};
 
@@ -25,14 +25,12 @@ use kernel_state::Store;
 
 /// A new process joins at the back of the queue.
 pub(crate) fn spawn<B: Policy>(store: &mut Store<B>) -> Next
-    ensures does { CameAtOnce (λ blocks.
-        spawn_piece (objects_of store.old) (free_process (queue_of store.old) 16 0) blocks)
-        (objects_of store.new) result }
-    ensures queue { queue_of store.new
-        ≡ queue_joined (free_process (queue_of store.old) 16 0) (queue_of store.old) }
+    ensures done { EndsWithQueue
+        (spawn_piece (objects_of store.old) (free_process (queue_of store.old) 16 0))
+        (queue_joined (free_process (queue_of store.old) 16 0) (queue_of store.old))
+        store.old store.new result }
     ensures living { (q : ℕ) → lives (queue_of store.old) q ≡ true →
         lives (queue_of store.new) q ≡ true }
-    ensures ended { EndsAtOnce store.old store.new result }
 {
     match store.spawn() {
         Some(c) => Next::Ends(Reply::One(u32::from(c))),
@@ -44,10 +42,8 @@ pub(crate) fn spawn<B: Policy>(store: &mut Store<B>) -> Next
 pub(crate) fn exit<B: Policy>(store: &mut Store<B>, p: u8) -> Next
     requires alive { lives (queue_of store.old) p ≡ true }
     requires granted { 0 < p }
-    ensures does { CameAtOnce (λ blocks.
-        exit_piece (objects_of store.old) p blocks) (objects_of store.new) result }
-    ensures queue { queue_of store.new ≡ queue_without p (queue_of store.old) }
-    ensures ended { EndsAtOnce store.old store.new result }
+    ensures done { EndsWithQueue (exit_piece (objects_of store.old) p)
+        (queue_without p (queue_of store.old)) store.old store.new result }
 {
     store.leave(p);
     Next::Ends(Reply::Plain)
@@ -78,17 +74,11 @@ pub(crate) fn yield_turn<B: Policy>(
     requires alive { lives (queue_of store.old) p ≡ true }
     requires fits { piece.old ≤ 1 }
     requires right { IfSome answer (λ a. lives (queue_of store.old) (slice_index a 0) ≡ true) }
-    ensures does { (blocks : Blocks) (known : Option (List (List ℕ))) → Knows known blocks →
-        PieceMatches (yield_piece piece.old (objects_of store.old) p answer blocks)
-        (objects_of store.new) known None
-        (comes_after result (stage Yield piece.new)) 0 }
-    ensures queue { queue_of store.new ≡ queue_yielded (policies_of store.old 2) answer piece.old p
-        (queue_of store.old) }
+    ensures done { ComesAtOnce (yield_piece piece.old (objects_of store.old) p answer)
+        (queue_yielded (policies_of store.old 2) answer piece.old p (queue_of store.old))
+        store.old store.new result (stage Yield piece.new) }
     ensures living { (q : ℕ) → lives (queue_of store.new) q ≡ lives (queue_of store.old) q }
-    ensures world { world_of_store store.new ≡ world_of_store store.old }
     ensures next { goes_on result ≡ true → (piece.old ≡ 0) × (piece.new ≡ 1) }
-    ensures no_fault { is_fault result ≡ false }
-    ensures memory { SegmentsStay store.old.ram store.new.ram }
 {
     if *piece == 0 {
         *piece = 1;
@@ -104,10 +94,7 @@ pub(crate) fn yield_turn<B: Policy>(
 pub(crate) fn poke<B: Policy>(store: &mut Store<B>, p: u8, k: u32, v: u32) -> Next
     requires alive { lives (queue_of store.old) p ≡ true }
     requires granted { k < 4 }
-    ensures does { CameAtOnce (λ blocks.
-        poke_piece (objects_of store.old) p k v blocks) (objects_of store.new) result }
-    ensures queue { queue_of store.new ≡ queue_of store.old }
-    ensures ended { EndsAtOnce store.old store.new result }
+    ensures done { EndsAtOnce (poke_piece (objects_of store.old) p k v) store.old store.new result }
 {
     store.set_cell(p, k as u8, v);
     Next::Ends(Reply::Plain)
@@ -117,11 +104,8 @@ pub(crate) fn poke<B: Policy>(store: &mut Store<B>, p: u8, k: u32, v: u32) -> Ne
 pub(crate) fn peek<B: Policy>(store: &Store<B>, p: u8, k: u32) -> Next
     requires alive { lives (queue_of store.now) p ≡ true }
     requires granted { k < 4 }
-    ensures does { CameAtOnce (λ blocks.
-        leaves (objects_of store.now) blocks (EndsWith (One ((objects_of store.now).things.cell p k))))
-        (objects_of store.now) result }
-    ensures ends { goes_on result ≡ false }
-    ensures no_fault { is_fault result ≡ false }
+    ensures done { EndsAtOnce (λ blocks. leaves (objects_of store.now) blocks
+        (EndsWith (One ((objects_of store.now).things.cell p k)))) store.now store.now result }
 {
     Next::Ends(Reply::One(store.cell(p, k as u8)))
 }
@@ -129,12 +113,9 @@ pub(crate) fn peek<B: Policy>(store: &Store<B>, p: u8, k: u32) -> Next
 /// The file of this name is opened at the lowest free descriptor of process p.
 pub(crate) fn open<B: Policy>(store: &mut Store<B>, p: u8, name: &[u8]) -> Next
     requires alive { lives (queue_of store.old) p ≡ true }
-    ensures does { CameAtOnce (λ blocks.
-        open_piece (objects_of store.old) p (file_named (world_of_store store.old) name.now)
-        (free_descriptor (objects_of store.old).things p 4 0) blocks)
-        (objects_of store.new) result }
-    ensures queue { queue_of store.new ≡ queue_of store.old }
-    ensures ended { EndsAtOnce store.old store.new result }
+    ensures done { EndsAtOnce (open_piece (objects_of store.old) p
+        (file_named (world_of_store store.old) name.now)
+        (free_descriptor (objects_of store.old).things p 4 0)) store.old store.new result }
 {
     let Some(file) = store.named(name) else {
         return Next::Fails(Refusal::NoFile);
@@ -150,10 +131,8 @@ fn open_at<B: Policy>(store: &mut Store<B>, p: u8, fd: u8, file: u8) -> Next
     requires alive { lives (queue_of store.old) p ≡ true }
     requires number { fd < 4 }
     requires file { IsSoundFile (world_of_store store.old) (new_file file) }
-    ensures does { CameAtOnce (λ blocks.
-        open_piece (objects_of store.old) p (Some file) (Some fd) blocks) (objects_of store.new) result }
-    ensures queue { queue_of store.new ≡ queue_of store.old }
-    ensures ended { EndsAtOnce store.old store.new result }
+    ensures done { EndsAtOnce (open_piece (objects_of store.old) p (Some file) (Some fd))
+        store.old store.new result }
 {
     let row = OpenRow {
         file,
@@ -171,11 +150,8 @@ fn open_at<B: Policy>(store: &mut Store<B>, p: u8, fd: u8, file: u8) -> Next
 pub(crate) fn close<B: Policy>(store: &mut Store<B>, p: u8, fd: u32) -> Next
     requires alive { lives (queue_of store.old) p ≡ true }
     requires granted { fd < 4 }
-    ensures does { CameAtOnce (λ blocks.
-        close_piece (objects_of store.old) p fd ((objects_of store.old).things.file p fd) blocks)
-        (objects_of store.new) result }
-    ensures queue { queue_of store.new ≡ queue_of store.old }
-    ensures ended { EndsAtOnce store.old store.new result }
+    ensures done { EndsAtOnce (close_piece (objects_of store.old) p fd
+        ((objects_of store.old).things.file p fd)) store.old store.new result }
 {
     if store.file(p, fd as u8).is_none() {
         return Next::Fails(Refusal::BadFd);

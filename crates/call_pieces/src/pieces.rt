@@ -5,7 +5,7 @@ ghost use Rattle.kernel_model.specs.World.{Blocks};
 ghost use Rattle.kernel_model.specs.Pieces.{piece_of};
 ghost use Rattle.kernel_model.specs.Needs.{piece_ask};
 ghost use Rattle.kernel_model.specs.Laws.{IsRightAnswer};
-ghost use Rattle.disk_log.specs.Calls.{Knows, CallsExtend};
+ghost use Rattle.disk_log.specs.Calls.{Knows, Made, CallsExtend};
 ghost use Rattle.kernel_state.specs.Stores.{world_of_store, objects_of, queue_of, policies_of, SegmentsStay};
 ghost use Rattle.call_pieces.specs.Works.{bare_stage_of, call_of, stage_of, comes_after, queue_after, IsPlainDue};
 ghost use Rattle.call_pieces.specs.Matching.{PieceMatches, PieceMatchesSome, HasContinued, has_failed, is_fault, goes_on};
@@ -14,10 +14,10 @@ use crate::amounts::{bill, fund, give, install, remove};
 use crate::locks::{free_lock, take_lock};
 use crate::one_piece::{close, exit, open, peek, poke, spawn, yield_turn};
 use crate::policies::{choose, tune};
-use crate::reads::{Range, read};
+use crate::reads::read;
 use crate::syncs::sync;
 use crate::writes::write;
-use crate::{Gift, Next, Work};
+use crate::{Access, Gift, Next, Work};
 use disk_log::DiskLog;
 use graft_points::Policy;
 use kernel_model::{BareCall, Refusal};
@@ -41,13 +41,13 @@ pub fn piece<B: Policy, D: Disk>(
     requires right { IsRightAnswer (objects_of store.old)
         (piece_ask (call_of work.old) work.old.piece (world_of_store store.old)
         (objects_of store.old).things work.old.caller) answer }
-    requires disk { store.old.size ≡ D.block_count disk.old }
+    requires disk { store.old.size ≡ (D.seen disk.old).size }
     requires fresh { log.old ≡ [] }
-    ensures does { (blocks : Blocks) (rest : List Bool) → Knows (D.blocks disk.old) blocks →
+    ensures does { (blocks : Blocks) (rest : List Bool) → Knows (D.seen disk.old).known blocks →
         PieceMatches (piece_of (call_of work.old) work.old.piece (world_of_store store.old)
         (objects_of store.old) blocks work.old.caller answer
         (log.new ++ rest))
-        (objects_of store.new) (D.blocks disk.new) gave.new
+        (objects_of store.new) (D.seen disk.new).known gave.new
         (comes_after result (stage_of work.new)) (length log.new) }
     ensures some { PieceMatchesSome (world_of_store store.old)
         (λ blocks io. piece_of (call_of work.old) work.old.piece
@@ -62,9 +62,7 @@ pub fn piece<B: Policy, D: Disk>(
         HasContinued work.old work.new (objects_of store.old) (objects_of store.new) }
     ensures failed { is_fault result ≡ true → has_failed log.new ≡ true }
     ensures world { world_of_store store.new ≡ world_of_store store.old }
-    ensures same_size { D.block_count disk.new ≡ D.block_count disk.old }
-    ensures calls { CallsExtend (D.faults disk.old) (D.faults disk.new) (D.plan disk.old)
-        (D.plan disk.new) log.old log.new }
+    ensures calls { Made (D.seen disk.old) (D.seen disk.new) log.new }
     ensures few { length log.new ≤ 256 }
     ensures memory { SegmentsStay store.old.ram store.new.ram }
 {
@@ -87,13 +85,13 @@ fn bare_piece<B: Policy, D: Disk>(
     requires right { IsRightAnswer (objects_of store.old)
         (piece_ask (call_of work.old) work.old.piece (world_of_store store.old)
         (objects_of store.old).things work.old.caller) answer }
-    requires disk { store.old.size ≡ D.block_count disk.old }
+    requires disk { store.old.size ≡ (D.seen disk.old).size }
     requires fresh { log.old ≡ [] }
-    ensures does { (blocks : Blocks) (rest : List Bool) → Knows (D.blocks disk.old) blocks →
+    ensures does { (blocks : Blocks) (rest : List Bool) → Knows (D.seen disk.old).known blocks →
         PieceMatches (piece_of (call_of work.old) work.old.piece (world_of_store store.old)
         (objects_of store.old) blocks work.old.caller answer
         (log.new ++ rest))
-        (objects_of store.new) (D.blocks disk.new) gave.new
+        (objects_of store.new) (D.seen disk.new).known gave.new
         (comes_after result (bare_stage_of work.new)) (length log.new) }
     ensures some { PieceMatchesSome (world_of_store store.old)
         (λ blocks io. piece_of (call_of work.old) work.old.piece
@@ -108,9 +106,7 @@ fn bare_piece<B: Policy, D: Disk>(
         HasContinued work.old work.new (objects_of store.old) (objects_of store.new) }
     ensures failed { is_fault result ≡ true → has_failed log.new ≡ true }
     ensures world { world_of_store store.new ≡ world_of_store store.old }
-    ensures same_size { D.block_count disk.new ≡ D.block_count disk.old }
-    ensures calls { CallsExtend (D.faults disk.old) (D.faults disk.new) (D.plan disk.old)
-        (D.plan disk.new) log.old log.new }
+    ensures calls { CallsExtend (D.seen disk.old) (D.seen disk.new) log.old log.new }
     ensures few { length log.new ≤ 256 }
     ensures memory { SegmentsStay store.old.ram store.new.ram }
 {
@@ -123,20 +119,32 @@ fn bare_piece<B: Policy, D: Disk>(
         BareCall::OpenName => open(store, p, work.bytes.as_slice()),
         BareCall::CloseFd(fd) => close(store, p, fd),
         BareCall::Read(fd, i, off, len) => {
-            let range = Range { fd, i, off, len };
-            read(&mut work.piece, store, disk, log, gave, p, range, answer)
-        }
-        BareCall::Write(fd, i, off) => {
-            write(
-                store,
-                disk,
-                log,
+            let access = Access {
                 p,
                 fd,
                 i,
                 off,
-                work.bytes.as_slice(),
+                len,
                 answer,
+            };
+            read(&mut work.piece, store, disk, log, gave, access)
+        }
+        BareCall::Write(fd, i, off) => {
+            let bytes = work.bytes.as_slice();
+            let len = bytes.len() as u32;
+            write(
+                store,
+                disk,
+                log,
+                Access {
+                    p,
+                    fd,
+                    i,
+                    off,
+                    len,
+                    answer,
+                },
+                bytes,
             )
         }
         BareCall::Sync => sync(store, disk, log),

@@ -5,12 +5,12 @@ ghost use Rattle.kernel_model.specs.Policies.{lives, frames_of};
 ghost use Rattle.kernel_model.specs.Pieces.{read_fits};
 ghost use Rattle.kernel_model.specs.Needs as spec;
 ghost use Rattle.buffer_cache.specs.Frames.{in_use};
+ghost use Rattle.kernel_state.specs.Places.{HasDescriptor};
 ghost use Rattle.kernel_state.specs.Stores.{world_of_store, objects_of, cache_of, queue_of, policies_of};
 ghost use Rattle.call_pieces.specs.Works.{IsPlainDue, call_of, stage_of};
 
-use crate::Work;
 use crate::needs::candidate_for;
-use crate::reads::Range;
+use crate::{Access, Work};
 use graft_points::Policy;
 use kernel_model::{BareCall, Point};
 use kernel_state::Store;
@@ -26,8 +26,16 @@ pub fn asks<B: Policy>(work: &Work, store: &Store<B>) -> Option<Point>
     match work.call {
         BareCall::Yield => turn_ask(work.piece, store),
         BareCall::Read(fd, i, off, len) => {
-            let range = Range { fd, i, off, len };
-            read_ask(work.piece, store, p, range)
+            let answer = None;
+            let access = Access {
+                p,
+                fd,
+                i,
+                off,
+                len,
+                answer,
+            };
+            read_ask(work.piece, store, access)
         }
         BareCall::Write(fd, i, off) => {
             let len = work.bytes.as_slice().len() as u32;
@@ -55,13 +63,14 @@ fn turn_ask<B: Policy>(piece: u8, store: &Store<B>) -> Option<Point>
 }
 
 /// The points of the three kinds of pieces of a read.
-fn read_ask<B: Policy>(piece: u8, store: &Store<B>, p: u8, r: Range) -> Option<Point>
-    requires alive { lives (queue_of store.now) p ≡ true }
+fn read_ask<B: Policy>(piece: u8, store: &Store<B>, r: Access) -> Option<Point>
+    requires alive { lives (queue_of store.now) r.p ≡ true }
     requires descriptor { r.fd < 4 }
-    requires fits { read_fits piece ((objects_of store.now).things.file p r.fd) ≡ true }
+    requires fits { read_fits piece ((objects_of store.now).things.file r.p r.fd) ≡ true }
     ensures { result ≡ spec.read_ask piece (world_of_store store.now)
-        (objects_of store.now).things p r.fd r.i r.off r.len }
+        (objects_of store.now).things r.p r.fd r.i r.off r.len }
 {
+    let p = r.p;
     let fd = r.fd as u8;
     match piece {
         0 => block_ask(store, p, fd, r.i, r.off, r.len),
@@ -75,8 +84,7 @@ fn read_ask<B: Policy>(piece: u8, store: &Store<B>, p: u8, r: Range) -> Option<P
 
 /// The point of an open file, which says what is to be read ahead.
 fn file_ask<B: Policy>(store: &Store<B>, p: u8, fd: u8) -> Option<Point>
-    requires alive { lives (queue_of store.now) p ≡ true }
-    requires descriptor { fd < 4 }
+    requires file { HasDescriptor (queue_of store.now) p fd }
     requires fits { read_fits 1 ((objects_of store.now).things.file p fd) ≡ true }
     ensures { result ≡ spec.read_ask 1 (world_of_store store.now)
         (objects_of store.now).things p fd 0 0 0 }
@@ -105,8 +113,7 @@ pub fn block_ask<B: Policy>(
     off: u32,
     len: u32,
 ) -> Option<Point>
-    requires alive { lives (queue_of store.now) p ≡ true }
-    requires descriptor { fd < 4 }
+    requires { HasDescriptor (queue_of store.now) p fd }
     ensures { result ≡ spec.fetch_ask (world_of_store store.now) (objects_of store.now).things
         (spec.file_block (world_of_store store.now)
         ((objects_of store.now).things.file p fd) i off len) }

@@ -4,7 +4,7 @@ ghost use Rattle.std.specs.Prelude.{◌≡◌, ◌<◌};
 ghost use Rattle.kernel_model.specs.Early.{policy_count};
 ghost use Rattle.kernel_model.specs.Pieces.{tune_piece, choose_piece};
 ghost use Rattle.kernel_state.specs.Stores.{objects_of, queue_of};
-ghost use Rattle.call_pieces.specs.Shared.{CameAtOnce, EndsAtOnce};
+ghost use Rattle.call_pieces.specs.Shared.{EndsAtOnce};
 
 use crate::Next;
 use graft_points::Policy;
@@ -14,10 +14,8 @@ use kernel_state::Store;
 /// Parameter k of the chosen policy of a kind gets a value, if it takes it.
 pub(crate) fn tune<B: Policy>(store: &mut Store<B>, kind: u32, k: u32, v: u32) -> Next
     requires granted { kind < 3 }
-    ensures does { CameAtOnce (λ blocks.
-        tune_piece (objects_of store.old) kind k v blocks) (objects_of store.new) result }
-    ensures queue { queue_of store.new ≡ queue_of store.old }
-    ensures ended { EndsAtOnce store.old store.new result }
+    ensures done { EndsAtOnce (tune_piece (objects_of store.old) kind k v)
+        store.old store.new result }
 {
     if !store.takes(kind as u8, k, v) {
         return Next::Fails(Refusal::BadIndex);
@@ -30,10 +28,8 @@ pub(crate) fn tune<B: Policy>(store: &mut Store<B>, kind: u32, k: u32, v: u32) -
 pub(crate) fn choose<B: Policy>(store: &mut Store<B>, kind: u32, j: u32) -> Next
     requires kind { kind < 3 }
     requires granted { j < policy_count kind }
-    ensures does { CameAtOnce (λ blocks.
-        choose_piece (objects_of store.old) kind j blocks) (objects_of store.new) result }
-    ensures queue { queue_of store.new ≡ queue_of store.old }
-    ensures ended { EndsAtOnce store.old store.new result }
+    ensures done { EndsAtOnce (choose_piece (objects_of store.old) kind j)
+        store.old store.new result }
 {
     store.choose(kind as u8, j as u8);
     Next::Ends(Reply::Plain)

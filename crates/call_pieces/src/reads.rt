@@ -1,159 +1,89 @@
 //! The pieces of a read: the block itself, how far to read ahead, and each block ahead.
 
-ghost use Rattle.std.specs.Prelude.{◌≡◌, ℕ, ◌+◌, ◌<◌, ◌≤◌, true, false, List, Option, [], Some, None, slice_index, is_some, IfSome};
-ghost use Rattle.kernel_model.specs.World.{Blocks, blocks_of};
+ghost use Rattle.std.specs.Prelude.{◌≡◌, ◌+◌, ◌<◌, ◌≤◌, true, Some, None, slice_index, IfSome};
+ghost use Rattle.kernel_model.specs.World.{blocks_of};
 ghost use Rattle.kernel_model.specs.declared.SysCall.TheVariants.{Read};
 ghost use Rattle.kernel_model.specs.Policies.{lives, ahead_default};
-ghost use Rattle.kernel_model.specs.FilePieces.{read_second, ahead_by};
+ghost use Rattle.kernel_model.specs.FilePieces.{ahead_by};
 ghost use Rattle.kernel_model.specs.Laws.{IsRightAnswer};
 ghost use Rattle.kernel_model.specs.Pieces.{piece_fits};
 ghost use Rattle.kernel_model.specs.Needs.{read_ask};
-ghost use Rattle.kernel_model.specs.Fetch as fetches;
 ghost use Rattle.kernel_model.specs.Sound.{IsSoundFile};
-ghost use Rattle.disk_log.specs.Calls.{Knows, CallsExtend};
-ghost use Rattle.kernel_state.specs.Stores.{world_of_store, objects_of, cache_of, queue_of, policies_of, SegmentsStay};
-ghost use Rattle.call_pieces.specs.Shared.{CameBy, CameBySome, Serves, read_stage, read_of, first_of, first_at_of, later_of};
-ghost use Rattle.call_pieces.specs.Works.{comes_after};
-ghost use Rattle.call_pieces.specs.Matching.{PieceMatches, ReadContinues, is_fault, goes_on};
+ghost use Rattle.kernel_state.specs.Stores.{world_of_store, objects_of, queue_of, policies_of};
+ghost use Rattle.call_pieces.specs.Shared.{AccessReady, ComesAtOnce, NamesFrame, Serves, moment, read_stage, read_of, first_of, second_of, later_of};
+ghost use Rattle.call_pieces.specs.Matching.{ReadContinues, goes_on};
 
 use crate::fetches::{fetch, fetch_ahead};
-use crate::{Gift, Next};
+use crate::{Access, Gift, Next};
 use disk_log::DiskLog;
 use graft_points::Policy;
 use kernel_model::{OpenRow, Refusal, Reply};
 use kernel_state::{Ahead, Store};
 use vino_base::Disk;
 
-/// What a read asks for: bytes off to off + len of block i of the file at a descriptor.
-#[derive(Clone, Copy)]
-pub(crate) struct Range {
-    pub fd: u32,
-    pub i: u32,
-    pub off: u32,
-    pub len: u32,
-}
-
-/// The next piece of a read of process p.
+/// The next piece of a read.
 pub(crate) fn read<B: Policy, D: Disk>(
     piece: &mut u8,
     store: &mut Store<B>,
     disk: &mut D,
     log: &mut DiskLog,
     gave: &mut Gift,
-    p: u8,
-    r: Range,
-    answer: Option<[u32; 4]>,
+    r: Access,
 ) -> Next
-    requires alive { lives (queue_of store.old) p ≡ true }
-    requires descriptor { r.fd < 4 }
-    requires inside { r.off + r.len ≤ 512 }
-    requires fits { piece_fits (Read r.fd r.i r.off r.len) piece.old (objects_of store.old).things p
-        ≡ true }
-    requires right { IsRightAnswer (objects_of store.old)
-        (read_ask piece.old (world_of_store store.old)
-        (objects_of store.old).things p r.fd r.i r.off r.len) answer }
-    requires disk { store.old.size ≡ D.block_count disk.old }
-    requires fresh { log.old ≡ [] }
+    requires ready { AccessReady (moment store.old (D.seen disk.old) log.old) r }
+    requires fits { piece_fits (Read r.fd r.i r.off r.len) piece.old (objects_of store.old).things
+        r.p ≡ true }
+    requires right { IsRightAnswer (objects_of store.old) (read_ask piece.old
+        (world_of_store store.old) (objects_of store.old).things r.p r.fd r.i r.off r.len)
+        r.answer }
     requires nothing { gave.old ≡ None }
-    ensures does { CameBy (read_of store.old piece.old p r answer) (objects_of store.new)
-        (D.blocks disk.old) (D.blocks disk.new) gave.new result (read_stage r piece.new) log.new }
-    ensures some { CameBySome (world_of_store store.old) (read_of store.old piece.old p r answer)
-        (objects_of store.new)
-        gave.new result (read_stage r piece.new) log.new }
+    ensures done { Serves (read_of store.old piece.old r)
+        (moment store.old (D.seen disk.old) log.old) (moment store.new (D.seen disk.new) log.new)
+        gave.new result (read_stage r piece.new) }
     ensures next { goes_on result ≡ true → ReadContinues piece.old piece.new
-        ((objects_of store.old).things.file p r.fd) ((objects_of store.new).things.file p r.fd) }
-    ensures serves { Serves store.old store.new result log.new }
-    ensures same_size { D.block_count disk.new ≡ D.block_count disk.old }
-    ensures calls { CallsExtend (D.faults disk.old) (D.faults disk.new) (D.plan disk.old)
-        (D.plan disk.new) log.old log.new }
+        ((objects_of store.old).things.file r.p r.fd)
+        ((objects_of store.new).things.file r.p r.fd) }
 {
-    let Some(opened) = store.file(p, r.fd as u8) else {
+    let Some(opened) = store.file(r.p, r.fd as u8) else {
         return Next::Fails(Refusal::BadFd);
     };
     match *piece {
-        0 => first(piece, store, disk, log, gave, p, r, answer, opened),
-        1 => second(piece, store, p, r, answer, opened),
-        _ => later(store, disk, log, p, r, answer, opened),
+        0 => {
+            *piece = 1;
+            first(store, disk, log, gave, r, opened)
+        }
+        1 => {
+            *piece = 2;
+            second(store, r, opened)
+        }
+        _ => later(store, disk, log, r, opened),
     }
 }
 
 /// The first piece: the block is fetched, and its bytes are given.
 fn first<B: Policy, D: Disk>(
-    piece: &mut u8,
     store: &mut Store<B>,
     disk: &mut D,
     log: &mut DiskLog,
     gave: &mut Gift,
-    p: u8,
-    r: Range,
-    answer: Option<[u32; 4]>,
+    r: Access,
     opened: OpenRow,
 ) -> Next
-    requires alive { lives (queue_of store.old) p ≡ true }
-    requires descriptor { r.fd < 4 }
-    requires right { IfSome answer (λ a. is_some ((cache_of store.old).frame (slice_index a 0))
-        ≡ true) }
-    requires inside { r.off + r.len ≤ 512 }
-    requires number { piece.old ≡ 0 }
-    requires file { (objects_of store.old).things.file p r.fd ≡ Some opened }
-    requires disk { store.old.size ≡ D.block_count disk.old }
-    requires fresh { log.old ≡ [] }
+    requires ready { AccessReady (moment store.old (D.seen disk.old) log.old) r }
+    requires right { NamesFrame store.old r.answer }
+    requires file { (objects_of store.old).things.file r.p r.fd ≡ Some opened }
     requires nothing { gave.old ≡ None }
-    ensures does { CameBy (first_of store.old p r opened answer) (objects_of store.new)
-        (D.blocks disk.old) (D.blocks disk.new) gave.new result (read_stage r piece.new) log.new }
-    ensures some { CameBySome (world_of_store store.old) (first_of store.old p r opened answer)
-        (objects_of store.new)
-        gave.new result (read_stage r piece.new) log.new }
+    ensures done { Serves (first_of store.old r opened)
+        (moment store.old (D.seen disk.old) log.old) (moment store.new (D.seen disk.new) log.new)
+        gave.new result (read_stage r 1) }
     ensures next { goes_on result ≡ true →
-        ReadContinues 0 piece.new (Some opened) ((objects_of store.new).things.file p r.fd) }
-    ensures serves { Serves store.old store.new result log.new }
-    ensures same_size { D.block_count disk.new ≡ D.block_count disk.old }
-    ensures calls { CallsExtend (D.faults disk.old) (D.faults disk.new) (D.plan disk.old)
-        (D.plan disk.new) log.old log.new }
+        ReadContinues 0 1 (Some opened) ((objects_of store.new).things.file r.p r.fd) }
 {
-    match store.block_of(p, r.fd as u8, r.i, r.off, r.len) {
-        Ok(b) => first_at(piece, store, disk, log, gave, p, r, answer, opened, b),
-        Err(refusal) => Next::Fails(refusal),
-    }
-}
-
-/// The first piece, for block b.
-fn first_at<B: Policy, D: Disk>(
-    piece: &mut u8,
-    store: &mut Store<B>,
-    disk: &mut D,
-    log: &mut DiskLog,
-    gave: &mut Gift,
-    p: u8,
-    r: Range,
-    answer: Option<[u32; 4]>,
-    opened: OpenRow,
-    b: u32,
-) -> Next
-    requires alive { lives (queue_of store.old) p ≡ true }
-    requires descriptor { r.fd < 4 }
-    requires right { IfSome answer (λ a. is_some ((cache_of store.old).frame (slice_index a 0))
-        ≡ true) }
-    requires inside { r.off + r.len ≤ 512 }
-    requires number { piece.old ≡ 0 }
-    requires opened { IsSoundFile (world_of_store store.old) opened }
-    requires block { b < store.old.size }
-    requires place { r.i < 4096 }
-    requires disk { store.old.size ≡ D.block_count disk.old }
-    requires fresh { log.old ≡ [] }
-    requires nothing { gave.old ≡ None }
-    ensures does { CameBy (first_at_of store.old p r opened b answer) (objects_of store.new)
-        (D.blocks disk.old) (D.blocks disk.new) gave.new result (read_stage r piece.new) log.new }
-    ensures some { CameBySome (world_of_store store.old) (first_at_of store.old p r opened b answer)
-        (objects_of store.new) gave.new result (read_stage r piece.new) log.new }
-    ensures next { goes_on result ≡ true →
-        ReadContinues 0 piece.new (Some opened) ((objects_of store.new).things.file p r.fd) }
-    ensures serves { Serves store.old store.new result log.new }
-    ensures same_size { D.block_count disk.new ≡ D.block_count disk.old }
-    ensures calls { CallsExtend (D.faults disk.old) (D.faults disk.new) (D.plan disk.old)
-        (D.plan disk.new) log.old log.new }
-{
-    let Ok(f) = fetch(store, disk, log, p, b, answer) else {
+    let b = match store.block_of(r.p, r.fd as u8, r.i, r.off, r.len) {
+        Ok(b) => b,
+        Err(refusal) => return Next::Fails(refusal),
+    };
+    let Ok(f) = fetch(store, disk, log, r.p, b, r.answer) else {
         return Next::Fails(Refusal::DiskFault);
     };
     let row = OpenRow {
@@ -162,8 +92,7 @@ fn first_at<B: Policy, D: Disk>(
         ..opened
     };
     gave.give(store, f, r.off, r.len);
-    store.put_file(p, r.fd as u8, Some(row));
-    *piece = 1;
+    store.put_file(r.p, r.fd as u8, Some(row));
     Next::Goes
 }
 
@@ -189,43 +118,27 @@ fn reach<B: Policy>(store: &Store<B>, answer: Option<[u32; 4]>, opened: &OpenRow
 }
 
 /// The second piece: the answer, or by default the policy, says what is to be read ahead.
-fn second<B: Policy>(
-    piece: &mut u8,
-    store: &mut Store<B>,
-    p: u8,
-    r: Range,
-    answer: Option<[u32; 4]>,
-    opened: OpenRow,
-) -> Next
-    requires alive { lives (queue_of store.old) p ≡ true }
+fn second<B: Policy>(store: &mut Store<B>, r: Access, opened: OpenRow) -> Next
+    requires alive { lives (queue_of store.old) r.p ≡ true }
     requires descriptor { r.fd < 4 }
     requires opened { IsSoundFile (world_of_store store.old) opened }
-    requires right { IfSome answer (λ a. (slice_index a 1 ≤ 8) ×
+    requires right { IfSome r.answer (λ a. (slice_index a 1 ≤ 8) ×
         (slice_index a 0 + slice_index a 1 ≤ blocks_of (world_of_store store.old) opened.file)) }
-    ensures does { (blocks : Blocks) (known : Option (List (List ℕ))) → Knows known blocks →
-        let pol = policies_of store.old 0 in
-        let ahead = ahead_by answer (ahead_default (world_of_store store.old) pol (Some opened)) in
-        PieceMatches (read_second (objects_of store.old) blocks p r.fd r.i r.off r.len opened ahead)
-        (objects_of store.new) known None
-        (comes_after result (read_stage r piece.new)) 0 }
-    ensures queue { queue_of store.new ≡ queue_of store.old }
+    ensures done { ComesAtOnce (second_of store.old r opened) (queue_of store.old)
+        store.old store.new result (read_stage r 2) }
     ensures next { goes_on result ≡ true →
-        ReadContinues 1 piece.new (Some opened) ((objects_of store.new).things.file p r.fd) }
-    ensures no_fault { is_fault result ≡ false }
-    ensures world { world_of_store store.new ≡ world_of_store store.old }
-    ensures memory { SegmentsStay store.old.ram store.new.ram }
+        ReadContinues 1 2 (Some opened) ((objects_of store.new).things.file r.p r.fd) }
 {
-    let ahead = reach(store, answer, &opened);
+    let ahead = reach(store, r.answer, &opened);
     let row = OpenRow {
         start: ahead.start,
         count: ahead.count,
         ..opened
     };
-    store.put_file(p, r.fd as u8, Some(row));
+    store.put_file(r.p, r.fd as u8, Some(row));
     if ahead.count == 0 {
         return Next::Ends(Reply::Plain);
     }
-    *piece = 2;
     Next::Goes
 }
 
@@ -234,33 +147,21 @@ fn later<B: Policy, D: Disk>(
     store: &mut Store<B>,
     disk: &mut D,
     log: &mut DiskLog,
-    p: u8,
-    r: Range,
-    answer: Option<[u32; 4]>,
+    r: Access,
     opened: OpenRow,
 ) -> Next
-    requires alive { lives (queue_of store.old) p ≡ true }
-    requires descriptor { r.fd < 4 }
-    requires right { IfSome answer (λ a. is_some ((cache_of store.old).frame (slice_index a 0))
-        ≡ true) }
+    requires ready { AccessReady (moment store.old (D.seen disk.old) log.old) r }
+    requires right { NamesFrame store.old r.answer }
     requires opened { IsSoundFile (world_of_store store.old) opened }
     requires some { 1 ≤ opened.count }
-    requires disk { store.old.size ≡ D.block_count disk.old }
-    requires fresh { log.old ≡ [] }
-    ensures does { CameBy (later_of store.old p r opened answer) (objects_of store.new)
-        (D.blocks disk.old) (D.blocks disk.new) None result (read_stage r 2) log.new }
-    ensures some { CameBySome (world_of_store store.old) (later_of store.old p r opened answer)
-        (objects_of store.new)
-        None result (read_stage r 2) log.new }
+    ensures done { Serves (later_of store.old r opened)
+        (moment store.old (D.seen disk.old) log.old) (moment store.new (D.seen disk.new) log.new)
+        None result (read_stage r 2) }
     ensures next { goes_on result ≡ true →
-        ReadContinues 2 2 (Some opened) ((objects_of store.new).things.file p r.fd) }
-    ensures serves { Serves store.old store.new result log.new }
-    ensures same_size { D.block_count disk.new ≡ D.block_count disk.old }
-    ensures calls { CallsExtend (D.faults disk.old) (D.faults disk.new) (D.plan disk.old)
-        (D.plan disk.new) log.old log.new }
+        ReadContinues 2 2 (Some opened) ((objects_of store.new).things.file r.p r.fd) }
 {
     let b = store.block_ahead(&opened);
-    let Ok(_) = fetch_ahead(store, disk, log, p, b, answer) else {
+    let Ok(_) = fetch_ahead(store, disk, log, r.p, b, r.answer) else {
         return Next::Fails(Refusal::DiskFault);
     };
     let row = OpenRow {
@@ -268,7 +169,7 @@ fn later<B: Policy, D: Disk>(
         count: opened.count - 1,
         ..opened
     };
-    store.put_file(p, r.fd as u8, Some(row));
+    store.put_file(r.p, r.fd as u8, Some(row));
     if row.count == 0 {
         return Next::Ends(Reply::Plain);
     }

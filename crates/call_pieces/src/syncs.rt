@@ -1,17 +1,15 @@
 //! `sync`.
 
-ghost use Rattle.std.specs.Prelude.{◌≡◌, ℕ, ◌+◌, ◌<◌, ◌≤◌, true, false, List, Bool, [], ◌∷◌, ◌++◌, Some, length, cond, is_ok, IfOk, IfErr};
+ghost use Rattle.std.specs.Prelude.{◌≡◌, ◌<◌, ◌≤◌, true, false, [], ◌∷◌, ◌++◌, Some, None, length, cond, is_ok, IfOk, IfErr};
 ghost use Rattle.kernel_model.specs.World.{Blocks};
-ghost use Rattle.kernel_model.specs.Meaning.{Stage};
-ghost use Rattle.kernel_model.specs.FilePieces.{sync_from, with_cache};
+ghost use Rattle.kernel_model.specs.FilePieces.{with_cache};
 ghost use Rattle.std.specs.Result.{is_err};
 ghost use Rattle.kernel_model.specs.Objects.{FrameValue, at};
 ghost use Rattle.kernel_model.specs.Fetch.{bytes_of, cleaned};
 ghost use Rattle.buffer_cache.specs.Frames.{in_use};
 ghost use Rattle.disk_log.specs.Calls.{Knows, CallsExtend};
 ghost use Rattle.kernel_state.specs.Stores.{world_of_store, objects_of, cache_of, queue_of};
-ghost use Rattle.call_pieces.specs.Works.{comes_after};
-ghost use Rattle.call_pieces.specs.Matching.{PieceMatches, PieceLeaves, has_failed, is_fault, goes_on};
+ghost use Rattle.call_pieces.specs.Shared.{ServesLast, moment, sync_of};
 
 use crate::Next;
 use disk_log::DiskLog;
@@ -27,27 +25,10 @@ pub(crate) fn sync<B: Policy, D: Disk>(
     disk: &mut D,
     log: &mut DiskLog,
 ) -> Next
-    requires disk { store.old.size ≡ D.block_count disk.old }
+    requires disk { store.old.size ≡ (D.seen disk.old).size }
     requires fresh { log.old ≡ [] }
-    ensures does { (blocks : Blocks) (rest : List Bool) (t : Stage) →
-        Knows (D.blocks disk.old) blocks →
-        PieceMatches (sync_from (world_of_store store.old).frames 0 0 (objects_of store.old) blocks
-        (log.new ++ rest))
-        (objects_of store.new) (D.blocks disk.new) None (comes_after result t)
-        (length log.new) }
-    ensures left { (blocks : Blocks) (rest : List Bool) (t : Stage) →
-        PieceLeaves (sync_from (world_of_store store.old).frames 0 0 (objects_of store.old) blocks
-        (log.new ++ rest))
-        (objects_of store.new) None (comes_after result t) (length log.new) }
-    ensures queue { queue_of store.new ≡ queue_of store.old }
-    ensures ends { goes_on result ≡ false }
-    ensures failed { is_fault result ≡ true → has_failed log.new ≡ true }
-    ensures world { world_of_store store.new ≡ world_of_store store.old }
-    ensures same_size { D.block_count disk.new ≡ D.block_count disk.old }
-    ensures calls { CallsExtend (D.faults disk.old) (D.faults disk.new) (D.plan disk.old)
-        (D.plan disk.new) log.old log.new }
-    ensures few { length log.new ≤ 256 }
-    ensures memory { store.new.ram ≡ store.old.ram }
+    ensures { ServesLast (sync_of store.old) (moment store.old (D.seen disk.old) log.old)
+        (moment store.new (D.seen disk.new) log.new) result }
 {
     let mut written = 0;
     for f in 0..store.setup.frames {
@@ -72,21 +53,20 @@ fn write_back<B: Policy, D: Disk>(
     b: u32,
 ) -> Result<(), Failed>
     requires block { b < store.old.size }
-    requires disk { store.old.size ≡ D.block_count disk.old }
+    requires disk { store.old.size ≡ (D.seen disk.old).size }
     requires frame { in_use f store.old.cache ≡ true }
     requires room { length log.old < 256 }
     ensures noted { log.new ≡ log.old ++ is_err result ∷ [] }
-    ensures known { (blocks : Blocks) → Knows (D.blocks disk.old) blocks →
-        Knows (D.blocks disk.new)
+    ensures known { (blocks : Blocks) → Knows (D.seen disk.old).known blocks →
+        Knows (D.seen disk.new).known
         (cond (is_ok result) (at b (bytes_of (cache_of store.old) f) blocks) blocks) }
     ensures cleaned { IfOk result (λ _. (x : FrameValue) → (cache_of store.old).frame f ≡ Some x →
-        objects_of store.new ≡ with_cache (cleaned f x (cache_of store.old)) (objects_of store.old)) }
+        objects_of store.new
+        ≡ with_cache (cleaned f x (cache_of store.old)) (objects_of store.old)) }
     ensures kept { IfErr result (λ _. objects_of store.new ≡ objects_of store.old) }
     ensures queue { queue_of store.new ≡ queue_of store.old }
     ensures world { world_of_store store.new ≡ world_of_store store.old }
-    ensures same_size { D.block_count disk.new ≡ D.block_count disk.old }
-    ensures calls { CallsExtend (D.faults disk.old) (D.faults disk.new) (D.plan disk.old)
-        (D.plan disk.new) log.old log.new }
+    ensures calls { CallsExtend (D.seen disk.old) (D.seen disk.new) log.old log.new }
     ensures few { length log.new ≤ 256 }
     ensures memory { store.new.ram ≡ store.old.ram }
 {

@@ -5,7 +5,7 @@ ghost use Rattle.kernel_model.specs.Policies.{lives};
 ghost use Rattle.kernel_model.specs.Pieces.{new_graft};
 ghost use Rattle.kernel_model.specs.EventPoints.{handler_joins, handler_leaves};
 ghost use Rattle.kernel_state.specs.Stores.{objects_of, queue_of};
-ghost use Rattle.call_pieces.specs.Shared.{CameAtOnce, EndsAtOnce};
+ghost use Rattle.call_pieces.specs.Shared.{EndsAtOnce};
 
 use call_pieces::Next;
 use graft_points::Policy;
@@ -27,12 +27,8 @@ pub(crate) fn install<B: Policy>(
     requires image { image < 32 }
     requires some { 1 ≤ limit }
     requires most { limit ≤ 65536 }
-    ensures does { CameAtOnce (λ blocks.
-        handler_joins (objects_of store.old) p pt (new_graft image limit)
-        ((objects_of store.old).accounts.graft p pt) blocks)
-        (objects_of store.new) result }
-    ensures queue { queue_of store.new ≡ queue_of store.old }
-    ensures ended { EndsAtOnce store.old store.new result }
+    ensures done { EndsAtOnce (handler_joins (objects_of store.old) p pt (new_graft image limit)
+        ((objects_of store.old).accounts.graft p pt)) store.old store.new result }
 {
     if store.has_graft(p, pt as u8) {
         return Next::Fails(Refusal::Taken);
@@ -49,11 +45,8 @@ pub(crate) fn install<B: Policy>(
 pub(crate) fn remove<B: Policy>(store: &mut Store<B>, p: u8, pt: u32) -> Next
     requires alive { lives (queue_of store.old) p ≡ true }
     requires point { pt < 16 }
-    ensures does { CameAtOnce (λ blocks.
-        handler_leaves (objects_of store.old) p pt ((objects_of store.old).accounts.graft p pt) blocks)
-        (objects_of store.new) result }
-    ensures queue { queue_of store.new ≡ queue_of store.old }
-    ensures ended { EndsAtOnce store.old store.new result }
+    ensures done { EndsAtOnce (handler_leaves (objects_of store.old) p pt
+        ((objects_of store.old).accounts.graft p pt)) store.old store.new result }
 {
     if !store.has_graft(p, pt as u8) {
         return Next::Fails(Refusal::NoGraft);

@@ -30,7 +30,7 @@ pub fn poke_once<B: Policy, D: Disk>(
     x: u32,
 ) -> Result<Next, Refusal>
     requires alive { lives (queue_of store.old) p ≡ true }
-    requires disk { store.old.size ≡ D.block_count disk.old }
+    requires disk { store.old.size ≡ (D.seen disk.old).size }
     ensures raised { IfOk result (λ _. objects_of store.new ≡
         marked p k (mark p k x (objects_of store.old)) (objects_of store.old)) }
     ensures told { IfOk result (λ next. next ≡ Ends (One (mark p k x (objects_of store.old)))) }

@@ -8,7 +8,7 @@ ghost use Rattle.call_pieces.specs.Works.{IsDue, call_of, stage_of};
 
 use crate::begin::{READ_POINT, WRITE_POINT};
 use crate::streams::Range;
-use call_pieces::{Needs, Work, block_ask};
+use call_pieces::{Access, Needs, Work, block_ask};
 use graft_points::Policy;
 use kernel_model::{BareCall, Object, Point};
 use kernel_state::Store;
@@ -49,7 +49,19 @@ fn read_needs<B: Policy>(piece: u8, store: &Store<B>, p: u8, r: Range, needs: &m
         return needs.point(store, p, READ_POINT);
     }
     needs.shared(Object::OpenFile(p, r.fd as u8));
-    needs.block(store, p, r.fd as u8, r.i, r.off, r.len);
+    let answer = None;
+    let Range { fd, i, off, len } = r;
+    needs.block(
+        store,
+        Access {
+            p,
+            fd,
+            i,
+            off,
+            len,
+            answer,
+        },
+    );
 }
 
 /// The open file and the point of stream writes, then the open file and the block that is written.
@@ -71,7 +83,18 @@ fn write_needs<B: Policy>(
     needs.shared(Object::OpenFile(p, fd as u8));
     if work.piece > 0 {
         let len = work.carried.as_slice().len() as u32;
-        return needs.block(store, p, fd as u8, i, off, len);
+        let answer = None;
+        return needs.block(
+            store,
+            Access {
+                p,
+                fd,
+                i,
+                off,
+                len,
+                answer,
+            },
+        );
     }
     let len = work.bytes.as_slice().len() as u32;
     if store.block_of(p, fd as u8, i, off, len).is_ok() {

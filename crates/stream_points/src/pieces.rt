@@ -4,13 +4,13 @@ ghost use Rattle.std.specs.Prelude.{◌≡◌, ◌≤◌, true, List, Bool, [], 
 ghost use Rattle.kernel_model.specs.World.{Blocks};
 ghost use Rattle.kernel_model.specs.Laws.{IsRightAnswer};
 ghost use Rattle.kernel_model.specs.StreamPoints.{stream_points, stream_ask, stream_piece};
-ghost use Rattle.disk_log.specs.Calls.{Knows, CallsExtend};
+ghost use Rattle.disk_log.specs.Calls.{Knows, Made};
 ghost use Rattle.kernel_state.specs.Stores.{world_of_store, objects_of, SegmentsStay};
 ghost use Rattle.call_pieces.specs.Works.{IsDue, call_of, stage_of, answer_seen, comes_after};
 ghost use Rattle.call_pieces.specs.Matching.{PieceMatches, PieceMatchesSome, ContinuesFrom, has_failed, is_fault, goes_on};
 
 use crate::streams::{Range, change, give_out, take_block};
-use call_pieces::{Gift, Next, Work, piece as plain_piece, write};
+use call_pieces::{Access, Gift, Next, Work, piece as plain_piece, write};
 use disk_log::DiskLog;
 use graft_points::Policy;
 use kernel_model::{BareCall, Reply};
@@ -33,13 +33,13 @@ pub(crate) fn piece<B: Policy, D: Disk>(
     requires right { IsRightAnswer (objects_of store.old)
         (stream_ask (call_of work.old) (stage_of work.old) (world_of_store store.old)
         (objects_of store.old).things work.old.caller) answer }
-    requires disk { store.old.size ≡ D.block_count disk.old }
+    requires disk { store.old.size ≡ (D.seen disk.old).size }
     requires fresh { log.old ≡ [] }
-    ensures does { (blocks : Blocks) (rest : List Bool) → Knows (D.blocks disk.old) blocks →
+    ensures does { (blocks : Blocks) (rest : List Bool) → Knows (D.seen disk.old).known blocks →
         PieceMatches (stream_piece (call_of work.old) (stage_of work.old)
         (world_of_store store.old) (objects_of store.old) blocks work.old.caller
         (answer_seen store.old.ram work.old.caller answer) (log.new ++ rest))
-        (objects_of store.new) (D.blocks disk.new) gave.new
+        (objects_of store.new) (D.seen disk.new).known gave.new
         (comes_after result (stage_of work.new)) (length log.new) }
     ensures some { PieceMatchesSome (world_of_store store.old) (λ blocks io.
         stream_piece (call_of work.old) (stage_of work.old)
@@ -53,9 +53,7 @@ pub(crate) fn piece<B: Policy, D: Disk>(
     ensures failed { is_fault result ≡ true → has_failed log.new ≡ true }
     ensures world { world_of_store store.new ≡ world_of_store store.old }
     ensures memory { SegmentsStay store.old.ram store.new.ram }
-    ensures same_size { D.block_count disk.new ≡ D.block_count disk.old }
-    ensures calls { CallsExtend (D.faults disk.old) (D.faults disk.new) (D.plan disk.old)
-        (D.plan disk.new) log.old log.new }
+    ensures calls { Made (D.seen disk.old) (D.seen disk.new) log.new }
     ensures few { length log.new ≤ 256 }
 {
     gave.clear();
@@ -75,7 +73,21 @@ pub(crate) fn piece<B: Policy, D: Disk>(
         }
         BareCall::StreamWrite(fd, i, off) => {
             let bytes = work.carried.as_slice();
-            write(store, disk, log, p, fd, i, off, bytes, answer)
+            let len = bytes.len() as u32;
+            write(
+                store,
+                disk,
+                log,
+                Access {
+                    p,
+                    fd,
+                    i,
+                    off,
+                    len,
+                    answer,
+                },
+                bytes,
+            )
         }
         _ => plain_piece(work, store, answer, disk, log, gave),
     }

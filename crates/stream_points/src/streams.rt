@@ -7,9 +7,9 @@ ghost use Rattle.kernel_model.specs.Needs.{fetch_ask};
 ghost use Rattle.kernel_model.specs.Laws.{IsRightAnswer};
 ghost use Rattle.kernel_model.specs.Policies.{lives};
 ghost use Rattle.kernel_model.specs.StreamPoints.{through, stream_changed, stream_write_asks};
-ghost use Rattle.disk_log.specs.Calls.{Knows, CallsExtend};
+ghost use Rattle.disk_log.specs.Calls.{Knows};
 ghost use Rattle.kernel_state.specs.Stores.{world_of_store, objects_of, queue_of};
-ghost use Rattle.call_pieces.specs.Shared.{CameBy, CameBySome, Serves, block_written};
+ghost use Rattle.call_pieces.specs.Shared.{Serves, moment, block_written};
 ghost use Rattle.call_pieces.specs.Works.{call_of, stage_of, answer_seen, comes_after};
 ghost use Rattle.call_pieces.specs.Matching.{PieceMatches, is_fault, goes_on};
 ghost use Rattle.stream_points.specs.Streams.{StreamContinues, block_read, taken_of, with_carried};
@@ -47,17 +47,12 @@ pub(crate) fn take_block<B: Policy, D: Disk>(
     requires inside { r.off + r.len ≤ 512 }
     requires right { IsRightAnswer (objects_of store.old) (fetch_ask (world_of_store store.old)
         (objects_of store.old).things (block_read store.old work.old.caller r)) answer }
-    requires disk { store.old.size ≡ D.block_count disk.old }
+    requires disk { store.old.size ≡ (D.seen disk.old).size }
     requires fresh { log.old ≡ [] }
-    ensures does { CameBy (taken_of store.old work.old r answer) (objects_of store.new)
-        (D.blocks disk.old) (D.blocks disk.new) None result (stage_of work.new) log.new }
-    ensures some { CameBySome (world_of_store store.old) (taken_of store.old work.old r answer)
-        (objects_of store.new) None result (stage_of work.new) log.new }
+    ensures done { Serves (taken_of store.old work.old r answer)
+        (moment store.old (D.seen disk.old) log.old) (moment store.new (D.seen disk.new) log.new)
+        None result (stage_of work.new) }
     ensures gone { goes_on result ≡ true → StreamContinues work.old work.new }
-    ensures serves { Serves store.old store.new result log.new }
-    ensures same_size { D.block_count disk.new ≡ D.block_count disk.old }
-    ensures calls { CallsExtend (D.faults disk.old) (D.faults disk.new) (D.plan disk.old)
-        (D.plan disk.new) log.old log.new }
 {
     let p = work.caller;
     let b = match store.block_of(p, r.fd as u8, r.i, r.off, r.len) {

@@ -1,32 +1,106 @@
-use Rattle.std.proofs.Common.{◌≡◌, ℕ, ◌++◌, length, ap, sym, Option, Some, Result, Err, ◌∙◌}
+use Rattle.std.proofs.Common.{rules, ℕ, ◌++◌, length, ap, sym, refl, Option, Some, Result, Ok, Err, ◌≡◌, ◌∙◌, subst}
 use Rattle.kernel_model.specs.declared.OpenRow.{OpenRow}
 use Rattle.kernel_model.specs.declared.Refusal.{Refusal}
-use Rattle.kernel_model.specs.FilePieces.{read_first_at}
+use Rattle.kernel_model.specs.FilePieces.{read_first_at, read_first, read_on}
+use Rattle.kernel_model.specs.World.{World}
 use Rattle.kernel_model.specs.Needs.{file_block}
-use Rattle.kernel_state.specs.Stores.{world_of_store, objects_of}
-use Rattle.call_pieces.proofs.LeftLaws.{some_refused}
-use Rattle.call_pieces.proofs.ReadLaws.{first_block}
+use Rattle.kernel_model.specs.Sound.{IsSoundFile}
+use Rattle.kernel_state.specs.Stores.{world_of_store, objects_of, cache_of}
+use Rattle.call_pieces.specs.Shared.{fetch_of, first_of, read_stage}
+use Rattle.call_pieces.proofs.ReadLaws.{first_block, first_came, file_here, goes_first}
+use Rattle.call_pieces.proofs.ServesLaws.{serves_refused}
+use Rattle.call_pieces.proofs.WriteLaws.{fetch_failed}
 use Rattle.call_pieces.proofs.reads.first.Goals as goal
 
-pub first_at-requires-clause-opened : goal.first_at-requires-clause-opened
-first_at-requires-clause-opened g c = c.args.store.now.fits.files c.args.p c.args.r.fd c.args.opened c.requires.file
-
-pub returns-in-Ok-clause-does : goal.returns-in-Ok-clause-does
-returns-in-Ok-clause-does g c =
-    λ blocks rest tells.
-    let s = c.args.store.now in
+pub put_file-requires-clause-file : goal.put_file-requires-clause-file
+put_file-requires-clause-file g c =
     let r = c.args.r in
-    first_block (file_block (world_of_store s) (Some c.args.opened) r.i r.off r.len) c.in-Ok.b (world_of_store s) (objects_of s) (objects_of c.first_at.new.store) blocks c.args.p r.fd r.i r.off r.len
-    (length c.first_at.new.log) c.args.opened c.args.answer (c.first_at.new.log ++ rest) (g.D.Disk.blocks c.first_at.new.disk) _ _
-    (c.in-Ok.ensures.value ∙ ap (λ (x : Option OpenRow). file_block (world_of_store s) x r.i r.off r.len) c.requires.file) (c.first_at.ensures.does blocks rest tells)
+    let sound = c.args.store.now.fits.files r.p r.fd c.args.opened c.requires.file in
+    subst (λ (v : World). IsSoundFile v (read_on r.i c.args.opened))
+    (sym c.in-Ok-fetch.ensures.keeps.world)
+    (record {
+      usable = sound.usable;
+      count = sound.count;
+      within = sound.within;
+      window = sound.window;
+    })
 
-pub returns-in-Err-clause-some : goal.returns-in-Err-clause-some
-returns-in-Err-clause-some g c =
+pub returns-in-Err-clause-done : goal.returns-in-Err-clause-done
+returns-in-Err-clause-done g c =
     rw c.requires.nothing
     (let s = c.args.store.now in
     let r = c.args.r in
     let v = world_of_store s in
     let o = objects_of s in
-    let block : Err c.in-Err.refusal ≡ file_block v (Some c.args.opened) r.i r.off r.len = c.in-Err.ensures.value ∙ ap (λ (x : Option OpenRow). file_block v x r.i r.off r.len) c.requires.file in
-    (some_refused v (λ blocks w. read_first_at (file_block v (Some c.args.opened) r.i r.off r.len) v o blocks c.args.p r.fd r.i r.off r.len c.args.opened c.args.answer w) o c.in-Err.refusal c.args.log.now c.requires.fresh
-    (λ blocks w. ap (λ (x : Result ℕ Refusal). read_first_at x v o blocks c.args.p r.fd r.i r.off r.len c.args.opened c.args.answer w) (sym block))))
+    let block : Err c.in-Err.refusal ≡ file_block v (Some c.args.opened) r.i r.off r.len =
+    c.in-Err.ensures.value
+    ∙ ap (λ (x : Option OpenRow). file_block v x r.i r.off r.len) c.requires.file in
+    serves_refused (first_of s r c.args.opened) s (g.D.Disk.seen c.args.disk.now) c.args.log.now
+    c.in-Err.refusal (read_stage r 1) c.requires.ready.fresh
+    (λ blocks w. ap (λ (x : Result ℕ Refusal). read_first_at x v o blocks r.p r.fd r.i r.off r.len
+    c.args.opened r.answer w) (sym block))
+    (search rules))
+
+pub returns-in_default-clause-done : goal.returns-in_default-clause-done
+returns-in_default-clause-done g c =
+    rw c.requires.nothing
+    (let s = c.args.store.now in
+    let r = c.args.r in
+    let v = world_of_store s in
+    let o = objects_of s in
+    let b = c.in-Ok.b in
+    let n = length c.fetch.new.log in
+    let known = (g.D.Disk.seen c.fetch.new.disk).known in
+    let block : Ok b ≡ file_block v (Some c.args.opened) r.i r.off r.len =
+    c.in-Ok.ensures.value
+    ∙ ap (λ (x : Option OpenRow). file_block v x r.i r.off r.len) c.requires.file in
+    let failed = c.in_default.ensures in
+    record {
+      does = λ blocks rest tells.
+          let io = c.fetch.new.log ++ rest in
+          first_block (file_block v (Some c.args.opened) r.i r.off r.len) b v o
+          (objects_of c.fetch.new.store) blocks r.p r.fd r.i r.off r.len n c.args.opened r.answer io
+          known _ _ block
+          (fetch_failed (read_first o blocks r.p r.fd r.i r.off r.len c.args.opened)
+          (fetch_of s r.p b r.answer blocks io) o (objects_of c.fetch.new.store) blocks
+          c.in_default.field-0 (cache_of c.fetch.new.store) known n refl
+          (failed.does blocks rest tells) failed.keeps.kept);
+      some = search rules;
+      keeps = search rules;
+      calls = failed.calls;
+    })
+
+pub returns-clause-done : goal.returns-clause-done
+returns-clause-done g c =
+    rw c.give.ensures
+    (let s = c.args.store.now in
+    let r = c.args.r in
+    let v = world_of_store s in
+    let o = objects_of s in
+    let b = c.in-Ok.b in
+    let n = length c.fetch.new.log in
+    let known = (g.D.Disk.seen c.fetch.new.disk).known in
+    let block : Ok b ≡ file_block v (Some c.args.opened) r.i r.off r.len =
+    c.in-Ok.ensures.value
+    ∙ ap (λ (x : Option OpenRow). file_block v x r.i r.off r.len) c.requires.file in
+    let fetched = c.in-Ok-fetch.ensures in
+    record {
+      does = λ blocks rest tells.
+          let io = c.fetch.new.log ++ rest in
+          first_block (file_block v (Some c.args.opened) r.i r.off r.len) b v o
+          (objects_of c.put_file.new.self) blocks r.p r.fd r.i r.off r.len n c.args.opened r.answer io
+          known _ _ block
+          (first_came o (objects_of c.fetch.new.store) (objects_of c.put_file.new.self) blocks r.p
+          r.fd r.i r.off r.len c.in-Ok-fetch.f n c.args.opened (fetch_of s r.p b r.answer blocks io)
+          (cache_of c.fetch.new.store) known _ (fetched.does blocks rest tells)
+          fetched.keeps.objects c.put_file.ensures.objects refl);
+      some = search rules;
+      keeps = search rules;
+      calls = fetched.calls;
+    })
+
+pub returns-clause-next : goal.returns-clause-next
+returns-clause-next g c =
+    λ _.
+    goes_first c.args.opened _ _ (file_here (objects_of c.fetch.new.store)
+    (objects_of c.put_file.new.self) c.args.r.p c.args.r.fd _ c.put_file.ensures.objects)

@@ -1,10 +1,8 @@
-use Rattle.std.proofs.Common.{◌++◌, Some, length, refl, ◌-◌}
-use Rattle.kernel_model.specs.declared.SysCall.TheVariants.{Read}
-use Rattle.kernel_model.specs.Meaning.{stage}
+use Rattle.std.proofs.Common.{rules, ◌++◌, Some, length, refl, ◌-◌}
 use Rattle.kernel_model.specs.Needs.{ahead_block}
-use Rattle.kernel_model.specs.Fetch.{fetch_ahead}
 use Rattle.kernel_model.specs.FilePieces.{read_third}
 use Rattle.kernel_state.specs.Stores.{world_of_store, objects_of, cache_of}
+use Rattle.call_pieces.specs.Shared.{fetch_ahead_of, read_stage}
 use Rattle.call_pieces.proofs.ReadLaws.{file_here, goes_later, third_came, third_block, none_ahead, some_ahead}
 use Rattle.call_pieces.proofs.WriteLaws.{fetch_failed}
 use Rattle.call_pieces.proofs.reads.later.Goals as goal
@@ -12,48 +10,83 @@ use Rattle.call_pieces.proofs.reads.later.Goals as goal
 pub returns-clause-next : goal.returns-clause-next
 returns-clause-next g c =
     λ _.
-    goes_later c.args.opened _ _ (file_here (objects_of c.fetch_ahead.new.store) (objects_of c.put_file.new.self) c.args.p c.args.r.fd _ c.put_file.ensures.objects) refl c.if-row-eq0.false
+    goes_later c.args.opened _ _ (file_here (objects_of c.fetch_ahead.new.store)
+    (objects_of c.put_file.new.self) c.args.r.p c.args.r.fd _ c.put_file.ensures.objects) refl
+    c.if-row-eq0.false
 
-pub returns-in_default-clause-does : goal.returns-in_default-clause-does
-returns-in_default-clause-does g c =
-    λ blocks rest tells.
+pub returns-in_default-clause-done : goal.returns-in_default-clause-done
+returns-in_default-clause-done g c =
     let r = c.args.r in
     let s = c.args.store.now in
     let v = world_of_store s in
     let o = objects_of s in
-    let io = c.fetch_ahead.new.log ++ rest in
+    let b = c.block_ahead-b.result in
     let n = length c.fetch_ahead.new.log in
-    (third_block (ahead_block v (Some c.args.opened)) c.block_ahead-b.result v o (objects_of c.fetch_ahead.new.store) blocks c.args.p r.fd r.i r.off r.len n c.args.opened c.args.answer io (g.D.Disk.blocks c.fetch_ahead.new.disk) _ _
-    c.block_ahead-b.ensures.value
-    (fetch_failed (read_third o blocks c.args.p r.fd r.i r.off r.len c.args.opened) (fetch_ahead v (o.things.pol 1) c.args.p c.block_ahead-b.result c.args.answer o.things.cache blocks io) o
-    (objects_of c.fetch_ahead.new.store) blocks c.in_default.field-0 (cache_of c.fetch_ahead.new.store) (g.D.Disk.blocks c.fetch_ahead.new.disk) n refl (c.in_default.ensures.does blocks rest tells) c.in_default.ensures.done.kept))
+    let known = (g.D.Disk.seen c.fetch_ahead.new.disk).known in
+    let failed = c.in_default.ensures in
+    record {
+      does = λ blocks rest tells.
+          let io = c.fetch_ahead.new.log ++ rest in
+          third_block (ahead_block v (Some c.args.opened)) b v o (objects_of c.fetch_ahead.new.store)
+          blocks r.p r.fd r.i r.off r.len n c.args.opened r.answer io known _ _
+          c.block_ahead-b.ensures.value
+          (fetch_failed (read_third o blocks r.p r.fd r.i r.off r.len c.args.opened)
+          (fetch_ahead_of s r.p b r.answer blocks io) o (objects_of c.fetch_ahead.new.store) blocks
+          c.in_default.field-0 (cache_of c.fetch_ahead.new.store) known n refl
+          (failed.does blocks rest tells) failed.keeps.kept);
+      some = search rules;
+      keeps = search rules;
+      calls = failed.calls;
+    }
 
-pub returns-then-row-eq0-clause-does : goal.returns-then-row-eq0-clause-does
-returns-then-row-eq0-clause-does g c =
-    λ blocks rest tells.
+pub returns-then-row-eq0-clause-done : goal.returns-then-row-eq0-clause-done
+returns-then-row-eq0-clause-done g c =
     let r = c.args.r in
     let s = c.args.store.now in
     let v = world_of_store s in
     let o = objects_of s in
-    let io = c.fetch_ahead.new.log ++ rest in
+    let b = c.block_ahead-b.result in
     let n = length c.fetch_ahead.new.log in
-    (third_block (ahead_block v (Some c.args.opened)) c.block_ahead-b.result v o (objects_of c.put_file.new.self) blocks c.args.p r.fd r.i r.off r.len n c.args.opened c.args.answer io (g.D.Disk.blocks c.fetch_ahead.new.disk) _ _
-    c.block_ahead-b.ensures.value
-    (third_came o (objects_of c.fetch_ahead.new.store) (objects_of c.put_file.new.self) blocks c.args.p r.fd r.i r.off r.len c.in-Ok.field-0 n c.args.opened
-    (fetch_ahead v (o.things.pol 1) c.args.p c.block_ahead-b.result c.args.answer o.things.cache blocks io) (cache_of c.fetch_ahead.new.store) (g.D.Disk.blocks c.fetch_ahead.new.disk) _
-    (c.in-Ok.ensures.does blocks rest tells) c.fetch_ahead.ensures.done.objects c.put_file.ensures.objects (none_ahead (stage (Read r.fd r.i r.off r.len) 2) (c.args.opened.count - 1) c.if-row-eq0.true)))
+    let known = (g.D.Disk.seen c.fetch_ahead.new.disk).known in
+    let fetched = c.in-Ok.ensures in
+    record {
+      does = λ blocks rest tells.
+          let io = c.fetch_ahead.new.log ++ rest in
+          third_block (ahead_block v (Some c.args.opened)) b v o (objects_of c.put_file.new.self)
+          blocks r.p r.fd r.i r.off r.len n c.args.opened r.answer io known _ _
+          c.block_ahead-b.ensures.value
+          (third_came o (objects_of c.fetch_ahead.new.store) (objects_of c.put_file.new.self) blocks
+          r.p r.fd r.i r.off r.len c.in-Ok.field-0 n c.args.opened
+          (fetch_ahead_of s r.p b r.answer blocks io) (cache_of c.fetch_ahead.new.store) known _
+          (fetched.does blocks rest tells) fetched.keeps.objects c.put_file.ensures.objects
+          (none_ahead (read_stage r 2) (c.args.opened.count - 1) c.if-row-eq0.true));
+      some = search rules;
+      keeps = search rules;
+      calls = fetched.calls;
+    }
 
-pub returns-clause-does : goal.returns-clause-does
-returns-clause-does g c =
-    λ blocks rest tells.
+pub returns-clause-done : goal.returns-clause-done
+returns-clause-done g c =
     let r = c.args.r in
     let s = c.args.store.now in
     let v = world_of_store s in
     let o = objects_of s in
-    let io = c.fetch_ahead.new.log ++ rest in
+    let b = c.block_ahead-b.result in
     let n = length c.fetch_ahead.new.log in
-    (third_block (ahead_block v (Some c.args.opened)) c.block_ahead-b.result v o (objects_of c.put_file.new.self) blocks c.args.p r.fd r.i r.off r.len n c.args.opened c.args.answer io (g.D.Disk.blocks c.fetch_ahead.new.disk) _ _
-    c.block_ahead-b.ensures.value
-    (third_came o (objects_of c.fetch_ahead.new.store) (objects_of c.put_file.new.self) blocks c.args.p r.fd r.i r.off r.len c.in-Ok.field-0 n c.args.opened
-    (fetch_ahead v (o.things.pol 1) c.args.p c.block_ahead-b.result c.args.answer o.things.cache blocks io) (cache_of c.fetch_ahead.new.store) (g.D.Disk.blocks c.fetch_ahead.new.disk) _
-    (c.in-Ok.ensures.does blocks rest tells) c.fetch_ahead.ensures.done.objects c.put_file.ensures.objects (some_ahead (stage (Read r.fd r.i r.off r.len) 2) (c.args.opened.count - 1) c.if-row-eq0.false)))
+    let known = (g.D.Disk.seen c.fetch_ahead.new.disk).known in
+    let fetched = c.in-Ok.ensures in
+    record {
+      does = λ blocks rest tells.
+          let io = c.fetch_ahead.new.log ++ rest in
+          third_block (ahead_block v (Some c.args.opened)) b v o (objects_of c.put_file.new.self)
+          blocks r.p r.fd r.i r.off r.len n c.args.opened r.answer io known _ _
+          c.block_ahead-b.ensures.value
+          (third_came o (objects_of c.fetch_ahead.new.store) (objects_of c.put_file.new.self) blocks
+          r.p r.fd r.i r.off r.len c.in-Ok.field-0 n c.args.opened
+          (fetch_ahead_of s r.p b r.answer blocks io) (cache_of c.fetch_ahead.new.store) known _
+          (fetched.does blocks rest tells) fetched.keeps.objects c.put_file.ensures.objects
+          (some_ahead (read_stage r 2) (c.args.opened.count - 1) c.if-row-eq0.false));
+      some = search rules;
+      keeps = search rules;
+      calls = fetched.calls;
+    }

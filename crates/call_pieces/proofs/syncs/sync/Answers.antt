@@ -1,11 +1,15 @@
-use Rattle.std.proofs.Common.{◌≡◌, List, Bool, ◌∙◌, Some, cond, refl, sym, ap, subst, arith}
+use Rattle.std.proofs.Common.{rules, ◌≡◌, ℕ, List, Bool, slice_index, ◌∙◌, Some, None, cond, refl, sym, ap, subst, arith}
 use Rattle.kernel_model.specs.World.{World}
 use Rattle.kernel_model.specs.Objects.{FrameValue, at}
 use Rattle.kernel_model.specs.Fetch.{bytes_of, cleaned}
 use Rattle.kernel_model.specs.FilePieces.{with_cache}
 use Rattle.disk_log.specs.Calls.{Knows}
+use Rattle.disk_log.specs.Joined.{extends_none, extends_then}
 use Rattle.std.specs.Result.{is_err}
-use Rattle.kernel_state.specs.Stores.{objects_of, cache_of}
+use Rattle.kernel_state.specs.Stores.{world_of_store, objects_of, cache_of}
+use Rattle.call_pieces.specs.Shared.{sync_of}
+use Rattle.call_pieces.proofs.Logs.{last_failed}
+use Rattle.call_pieces.proofs.LeftLaws.{some_of_all}
 use Rattle.call_pieces.proofs.SyncLaws.{Midway, begins, past_clean, past_written, ends_failed, ends_well, left_failed, left_well, of_err, of_ok}
 use Rattle.call_pieces.proofs.syncs.sync.Goals as goal
 
@@ -13,29 +17,27 @@ pub loop-f-init : goal.loop-f-init
 loop-f-init g c =
     let n = c.args.store.now.setup.frames in
     let s = objects_of c.args.store.now in
-    let known = g.D.Disk.blocks c.args.disk.now in
+    let known = (g.D.Disk.seen c.args.disk.now).known in
     record {
       so_far = subst (λ (io : List Bool). Midway n 0 0 s s known known io) (sym c.requires.fresh) (begins n s known);
-      calls = λ f p made. made;
+      calls = extends_none (g.D.Disk.seen c.args.disk.now) c.args.log.now;
       queue = refl;
       world = refl;
       disk = c.requires.disk;
       memory = refl;
-      same_size = refl;
     }
 
 pub loop-f-preserved-in_default : goal.loop-f-preserved-in_default
 loop-f-preserved-in_default g c =
     let l = c.loop-f.invariant in
     record {
-      so_far = past_clean c.args.store.now.setup.frames c.loop-f.f c.loop-f.written (objects_of c.args.store.now) (objects_of c.loop-f.store) (g.D.Disk.blocks c.args.disk.now)
-          (g.D.Disk.blocks c.loop-f.disk) c.loop-f.log c.loop-f-test.true l.so_far c.in_default.ensures.value;
+      so_far = past_clean c.args.store.now.setup.frames c.loop-f.f c.loop-f.written (objects_of c.args.store.now) (objects_of c.loop-f.store) (g.D.Disk.seen c.args.disk.now).known
+          (g.D.Disk.seen c.loop-f.disk).known c.loop-f.log c.loop-f-test.true l.so_far c.in_default.ensures.value;
       calls = l.calls;
       queue = l.queue;
       world = l.world;
       disk = l.disk;
       memory = l.memory;
-      same_size = l.same_size;
     }
 
 pub loop-f-preserved : goal.loop-f-preserved
@@ -46,54 +48,81 @@ loop-f-preserved g c =
     let cache = cache_of c.loop-f.store in
     record {
       so_far = past_written c.args.store.now.setup.frames c.loop-f.f c.in-Some.b c.loop-f.written (objects_of c.args.store.now) (objects_of c.loop-f.store) (objects_of c.write_back.new.store)
-          (g.D.Disk.blocks c.args.disk.now) (g.D.Disk.blocks c.loop-f.disk) (g.D.Disk.blocks c.write_back.new.disk) c.loop-f.log c.write_back.new.log (is_err c.write_back.result) c.loop-f-test.true l.so_far
+          (g.D.Disk.seen c.args.disk.now).known (g.D.Disk.seen c.loop-f.disk).known (g.D.Disk.seen c.write_back.new.disk).known c.loop-f.log c.write_back.new.log (is_err c.write_back.result) c.loop-f-test.true l.so_far
           (sym c.in-Some.ensures.value) w.noted (sym c.if-is_err.ensures.value)
           (of_ok c.write_back.result ((x : FrameValue) → cache.frame c.loop-f.f ≡ Some x → objects_of c.write_back.new.store ≡ with_cache (cleaned c.loop-f.f x cache) (objects_of c.loop-f.store)) well w.cleaned)
-          (λ blocks tells. subst (λ t. Knows (g.D.Disk.blocks c.write_back.new.disk) (cond t (at c.in-Some.b (bytes_of cache c.loop-f.f) blocks) blocks)) well (w.known blocks tells));
-      calls = λ f p made. w.calls f p (l.calls f p made);
+          (λ blocks tells. subst (λ t. Knows (g.D.Disk.seen c.write_back.new.disk).known (cond t (at c.in-Some.b (bytes_of cache c.loop-f.f) blocks) blocks)) well (w.known blocks tells));
+      calls = extends_then (g.D.Disk.seen c.args.disk.now) (g.D.Disk.seen c.loop-f.disk)
+          (g.D.Disk.seen c.write_back.new.disk) c.args.log.now c.loop-f.log c.write_back.new.log l.calls w.calls;
       queue = w.queue ∙ l.queue;
       world = w.world ∙ l.world;
-      disk = ap (λ (v : World). v.disk_size) w.world ∙ l.disk ∙ sym w.same_size;
+      disk = ap (λ (v : World). v.disk_size) w.world ∙ l.disk ∙ sym w.calls.size;
       memory = w.memory ∙ l.memory;
-      same_size = w.same_size ∙ l.same_size;
     }
 
-pub returns-then-is_err-clause-does : goal.returns-then-is_err-clause-does
-returns-then-is_err-clause-does g c =
-    λ blocks rest t tells.
+pub returns-then-is_err : goal.returns-then-is_err
+returns-then-is_err g c =
+    let n = c.args.store.now.setup.frames in
+    let s = objects_of c.args.store.now in
+    let mid = objects_of c.loop-f.store in
+    let after = objects_of c.write_back.new.store in
+    let d = g.D.Disk.seen c.args.disk.now in
+    let e = g.D.Disk.seen c.loop-f.disk in
     let l = c.loop-f.invariant in
     let w = c.write_back.ensures in
-    let ill = c.if-is_err.ensures.negation in
-    let cache = cache_of c.loop-f.store in
-    (ends_failed c.args.store.now.setup.frames c.loop-f.f c.in-Some.b c.loop-f.written (objects_of c.args.store.now) (objects_of c.loop-f.store) (objects_of c.write_back.new.store)
-    (g.D.Disk.blocks c.args.disk.now) (g.D.Disk.blocks c.loop-f.disk) (g.D.Disk.blocks c.write_back.new.disk) c.loop-f.log c.write_back.new.log (is_err c.write_back.result) c.loop-f-test.true l.so_far
-    (sym c.in-Some.ensures.value) w.noted (sym c.if-is_err.ensures.value)
-    (of_err c.write_back.result (objects_of c.write_back.new.store ≡ objects_of c.loop-f.store) (sym c.if-is_err.ensures.value) w.kept)
-    (λ bs known. subst (λ t. Knows (g.D.Disk.blocks c.write_back.new.disk) (cond t (at c.in-Some.b (bytes_of cache c.loop-f.f) bs) bs)) ill (w.known bs known)) blocks rest tells)
+    let failed = is_err c.write_back.result in
+    let kept = of_err c.write_back.result (after ≡ mid) (sym c.if-is_err.ensures.value) w.kept in
+    record {
+      does = λ t blocks rest tells.
+          ends_failed n c.loop-f.f c.in-Some.b c.loop-f.written s mid after d.known e.known
+          (g.D.Disk.seen c.write_back.new.disk).known c.loop-f.log c.write_back.new.log failed
+          c.loop-f-test.true l.so_far (sym c.in-Some.ensures.value) w.noted
+          (sym c.if-is_err.ensures.value) kept
+          (λ bs known. subst (λ t. Knows (g.D.Disk.seen c.write_back.new.disk).known
+          (cond t (at c.in-Some.b (bytes_of (cache_of c.loop-f.store) c.loop-f.f) bs) bs))
+          c.if-is_err.ensures.negation (w.known bs known)) blocks rest tells;
+      some = λ t. some_of_all (world_of_store c.args.store.now) (sync_of c.args.store.now) after None _
+          c.write_back.new.log
+          (left_failed n c.loop-f.f c.in-Some.b c.loop-f.written s mid after d.known e.known
+          c.loop-f.log c.write_back.new.log failed c.loop-f-test.true l.so_far
+          (sym c.in-Some.ensures.value) w.noted (sym c.if-is_err.ensures.value) kept);
+      ends = refl;
+      keeps = record {
+        failed = λ fault.
+            last_failed c.write_back.new.log c.loop-f.log failed w.noted
+            (sym c.if-is_err.ensures.value);
+        few = search rules;
+        queue = w.queue ∙ l.queue;
+        world = w.world ∙ l.world;
+        memory = λ a beyond. ap (λ (ram : List ℕ). slice_index ram a) (w.memory ∙ l.memory);
+      };
+      calls = extends_then d e (g.D.Disk.seen c.write_back.new.disk) c.args.log.now c.loop-f.log
+          c.write_back.new.log l.calls w.calls;
+    }
 
-pub returns-then-is_err-clause-calls : goal.returns-then-is_err-clause-calls
-returns-then-is_err-clause-calls g c = λ f p made. c.write_back.ensures.calls f p (c.loop-f.invariant.calls f p made)
-
-pub returns-clause-does : goal.returns-clause-does
-returns-clause-does g c =
-    λ blocks rest t tells.
-    (ends_well c.args.store.now.setup.frames c.loop-f.f c.loop-f.written (objects_of c.args.store.now) (objects_of c.loop-f.store) (g.D.Disk.blocks c.args.disk.now) (g.D.Disk.blocks c.loop-f.disk)
-    c.loop-f.log (omega arith) c.loop-f.invariant.so_far blocks rest tells)
-
-pub returns-then-is_err-clause-left : goal.returns-then-is_err-clause-left
-returns-then-is_err-clause-left g c =
-    λ blocks rest t.
+pub returns : goal.returns
+returns g c =
+    let n = c.args.store.now.setup.frames in
+    let s = objects_of c.args.store.now in
+    let after = objects_of c.loop-f.store in
+    let d = g.D.Disk.seen c.args.disk.now in
+    let e = g.D.Disk.seen c.loop-f.disk in
     let l = c.loop-f.invariant in
-    let w = c.write_back.ensures in
-    let cache = cache_of c.loop-f.store in
-    (left_failed c.args.store.now.setup.frames c.loop-f.f c.in-Some.b c.loop-f.written (objects_of c.args.store.now) (objects_of c.loop-f.store) (objects_of c.write_back.new.store)
-    (g.D.Disk.blocks c.args.disk.now) (g.D.Disk.blocks c.loop-f.disk) c.loop-f.log c.write_back.new.log (is_err c.write_back.result) c.loop-f-test.true l.so_far
-    (sym c.in-Some.ensures.value) w.noted (sym c.if-is_err.ensures.value)
-    (of_err c.write_back.result (objects_of c.write_back.new.store ≡ objects_of c.loop-f.store) (sym c.if-is_err.ensures.value) w.kept)
-    blocks rest)
-
-pub returns-clause-left : goal.returns-clause-left
-returns-clause-left g c =
-    λ blocks rest t.
-    (left_well c.args.store.now.setup.frames c.loop-f.f c.loop-f.written (objects_of c.args.store.now) (objects_of c.loop-f.store) (g.D.Disk.blocks c.args.disk.now) (g.D.Disk.blocks c.loop-f.disk)
-    c.loop-f.log (omega arith) c.loop-f.invariant.so_far blocks rest)
+    record {
+      does = λ t blocks rest tells.
+          ends_well n c.loop-f.f c.loop-f.written s after d.known e.known c.loop-f.log (omega arith)
+          l.so_far blocks rest tells;
+      some = λ t. some_of_all (world_of_store c.args.store.now) (sync_of c.args.store.now) after None _
+          c.loop-f.log
+          (left_well n c.loop-f.f c.loop-f.written s after d.known e.known c.loop-f.log
+          (omega arith) l.so_far);
+      ends = refl;
+      keeps = record {
+        failed = λ fault. absurd (cc);
+        few = search rules;
+        queue = l.queue;
+        world = l.world;
+        memory = λ a beyond. ap (λ (ram : List ℕ). slice_index ram a) l.memory;
+      };
+      calls = l.calls;
+    }

@@ -6,11 +6,10 @@ use Rattle.call_pieces.proofs.syncs.sync.Given as goal
 
 abbrev pub invariant-loop-f : goal.invariant-loop-f
 invariant-loop-f g l = record {
-  so_far : Midway l.initial.store.setup.frames l.f l.written (objects_of l.initial.store) (objects_of l.store) (g.D.Disk.blocks l.initial.disk) (g.D.Disk.blocks l.disk) l.log;
-  calls : CallsExtend (g.D.Disk.faults l.initial.disk) (g.D.Disk.faults l.disk) (g.D.Disk.plan l.initial.disk) (g.D.Disk.plan l.disk) l.initial.log l.log;
+  so_far : Midway l.initial.store.setup.frames l.f l.written (objects_of l.initial.store) (objects_of l.store) (g.D.Disk.seen l.initial.disk).known (g.D.Disk.seen l.disk).known l.log;
+  calls : CallsExtend (g.D.Disk.seen l.initial.disk) (g.D.Disk.seen l.disk) l.initial.log l.log;
   queue : queue_of l.store ≡ queue_of l.initial.store;
   world : world_of_store l.store ≡ world_of_store l.initial.store;
-  disk : l.store.size ≡ g.D.Disk.block_count l.disk;
+  disk : l.store.size ≡ (g.D.Disk.seen l.disk).size;
   memory : l.store.ram ≡ l.initial.store.ram;
-  same_size : g.D.Disk.block_count l.disk ≡ g.D.Disk.block_count l.initial.disk;
 }

@@ -5,5 +5,5 @@ use Rattle.event_points.proofs.handlers.install.Goals as goal
 
 pub install-requires-clause-free : goal.install-requires-clause-free
 install-requires-clause-free g c =
-    ap (λ (o : Objects). o.accounts.graft c.args.p c.args.pt) c.add_handler.ensures.objects
+    ap (λ (o : Objects). o.accounts.graft c.args.p c.args.pt) c.add_handler.ensures.changed.objects
     ∙ nothing_there _ (sym c.if-has_graft.false ∙ c.has_graft.ensures)

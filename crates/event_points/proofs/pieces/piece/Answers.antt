@@ -20,7 +20,7 @@ returns-in-Install-clause-does g c =
     let s = c.args.store.now in
     gives_none w (bare.Install c.in-Install.pt c.in-Install.image c.in-Install.limit) (objects_of s) _ blocks
     (answer_seen s.ram w.caller c.args.answer) known _ _ c.in-Install.is c.clear.ensures
-    (c.install.ensures.does blocks known (stage_of w) tells)
+    (c.install.ensures.done.does blocks known (stage_of w) tells)
 
 pub returns-in-Remove-clause-does : goal.returns-in-Remove-clause-does
 returns-in-Remove-clause-does g c =
@@ -29,7 +29,7 @@ returns-in-Remove-clause-does g c =
     let s = c.args.store.now in
     gives_none w (bare.Remove c.in-Remove.pt) (objects_of s) _ blocks
     (answer_seen s.ram w.caller c.args.answer) known _ _ c.in-Remove.is c.clear.ensures
-    (c.remove.ensures.does blocks known (stage_of w) tells)
+    (c.remove.ensures.done.does blocks known (stage_of w) tells)
 
 pub returns-in-Fund-clause-does : goal.returns-in-Fund-clause-does
 returns-in-Fund-clause-does g c =
@@ -38,7 +38,7 @@ returns-in-Fund-clause-does g c =
     let s = c.args.store.now in
     gives_none w (bare.Fund c.in-Fund.pt c.in-Fund.kind c.in-Fund.n) (objects_of s) _ blocks
     (answer_seen s.ram w.caller c.args.answer) known _ _ c.in-Fund.is c.clear.ensures
-    (c.fund.ensures.does blocks known (stage_of w) tells)
+    (c.fund.ensures.done.does blocks known (stage_of w) tells)
 
 pub returns-in-Bill-clause-does : goal.returns-in-Bill-clause-does
 returns-in-Bill-clause-does g c =
@@ -47,4 +47,4 @@ returns-in-Bill-clause-does g c =
     let s = c.args.store.now in
     gives_none w (bare.Bill c.in-Bill.pt) (objects_of s) _ blocks
     (answer_seen s.ram w.caller c.args.answer) known _ _ c.in-Bill.is c.clear.ensures
-    (c.bill.ensures.does blocks known (stage_of w) tells)
+    (c.bill.ensures.done.does blocks known (stage_of w) tells)

@@ -1,11 +1,13 @@
 use Rattle.std.proofs.Common.{◌++◌, ℕ, List, Some, None, length, refl, subst, ap, ◌∙◌, Option}
 use Rattle.kernel_model.specs.declared.Point.{Point}
 use Rattle.kernel_model.specs.Laws.{IsRightAnswer}
+use Rattle.kernel_model.specs.Needs.{file_block}
+use Rattle.kernel_model.specs.FilePieces.{write_piece}
 use Rattle.kernel_model.specs.StreamPoints.{through}
+use Rattle.disk_log.specs.Joined.{made_alone, extends_none}
 use Rattle.kernel_state.specs.Stores.{world_of_store, objects_of}
 use Rattle.call_pieces.specs.Works.{answer_seen, call_of, comes_after, stage_of}
 use Rattle.call_pieces.specs.Matching.{PieceMatches}
-use Rattle.call_pieces.specs.Shared.{write_of}
 use Rattle.call_pieces.proofs.LeftLaws.{some_as, some_quick}
 use Rattle.stream_points.proofs.GraftCalls.{graft_call, no_more, plain_due, same_ask, same_piece}
 use Rattle.stream_points.proofs.StreamPieces.{came_as, second_read, first_write, second_write}
@@ -68,10 +70,31 @@ returns-in-StreamWrite-2-clause-does g c =
     (second_write w x.fd x.i x.off (world_of_store s) (objects_of s) blocks s.ram c.args.answer io
     x.is c.if-work-eq0-2.false) c.clear.ensures
     (subst (λ (bytes : List ℕ). PieceMatches
-    (write_of s w.caller x.fd x.i x.off bytes c.args.answer blocks io) (objects_of c.write.new.store)
-    (g.D.Disk.blocks c.write.new.disk) None (comes_after c.write.result (stage_of w))
-    (length c.write.new.log)) c.as_slice-bytes.ensures.value
+    (write_piece (file_block (world_of_store s) ((objects_of s).things.file w.caller x.fd) x.i x.off
+    (length bytes)) (world_of_store s) (objects_of s) blocks w.caller x.off bytes c.args.answer io)
+    (objects_of c.write.new.store) (g.D.Disk.seen c.write.new.disk).known None
+    (comes_after c.write.result (stage_of w)) (length c.write.new.log)) c.as_slice-bytes.ensures.value
     (c.write.ensures.does (stage_of w) blocks rest tells))
+
+pub returns-in-StreamRead-clause-calls : goal.returns-in-StreamRead-clause-calls
+returns-in-StreamRead-clause-calls g c =
+    made_alone (g.D.Disk.seen c.args.disk.now) (g.D.Disk.seen c.take_block.new.disk)
+    c.args.log.now c.take_block.new.log c.requires.fresh c.take_block.ensures.done.calls
+
+pub returns-in-StreamRead-2-clause-calls : goal.returns-in-StreamRead-2-clause-calls
+returns-in-StreamRead-2-clause-calls g c =
+    made_alone (g.D.Disk.seen c.args.disk.now) (g.D.Disk.seen c.args.disk.now) c.args.log.now
+    c.args.log.now c.requires.fresh (extends_none (g.D.Disk.seen c.args.disk.now) c.args.log.now)
+
+pub returns-in-StreamWrite-clause-calls : goal.returns-in-StreamWrite-clause-calls
+returns-in-StreamWrite-clause-calls g c =
+    made_alone (g.D.Disk.seen c.args.disk.now) (g.D.Disk.seen c.args.disk.now) c.args.log.now
+    c.args.log.now c.requires.fresh (extends_none (g.D.Disk.seen c.args.disk.now) c.args.log.now)
+
+pub returns-in-StreamWrite-2-clause-calls : goal.returns-in-StreamWrite-2-clause-calls
+returns-in-StreamWrite-2-clause-calls g c =
+    made_alone (g.D.Disk.seen c.args.disk.now) (g.D.Disk.seen c.write.new.disk) c.args.log.now
+    c.write.new.log c.requires.fresh c.write.ensures.calls
 
 pub returns-in_default-clause-does : goal.returns-in_default-clause-does
 returns-in_default-clause-does g c =
