@@ -22,3 +22,4 @@ mod NextNeeds
 pub mod Reading
 mod Stretching
 mod Seating
+pub mod Writing

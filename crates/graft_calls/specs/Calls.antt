@@ -16,11 +16,14 @@ use Rattle.undo_calls.specs.UndoLevels.{Logged}
 use Rattle.lock_table.specs.declared.Holds.{Holds}
 use Rattle.lock_table.specs.Masks.{held}
 use Rattle.graft_machine.specs.Cpu.{machine_of}
+use Rattle.graft_machine.specs.Contained.{IsOutside}
 use Rattle.kernel_state.specs.declared.Store.{Store}
 use Rattle.kernel_state.specs.Stores.{world_of_store, objects_of, queue_of}
-use Rattle.kernel_state.specs.Accesses.{CanBeUndone}
+use Rattle.kernel_state.specs.Accesses.{CanBeUndone, StayUndoable}
 use Rattle.graft_calls.specs.declared.GraftLevel.{GraftLevel}
-use Rattle.graft_calls.specs.Chains.{is_running_in}
+use Rattle.graft_calls.specs.declared.Chain.{Chain}
+use Rattle.graft_calls.specs.declared.Innermost.{Innermost}
+use Rattle.graft_calls.specs.Chains.{is_running_in, put_back_on}
 
 -- ---- what must hold
 
@@ -79,6 +82,20 @@ pub record IsInPlace {B : Type 0} {P : _} (s : Store B P) (t : List (List Holds)
   -- an ask begins a level on the image of any graft that stands
   pub loaded : ImagesAreLoaded images (objects_of s).accounts
 
+-- the levels of a call whose innermost one was taken out of the chain
+abbrev pub with_innermost : Innermost → Chain → List GraftLevel
+with_innermost g c = g.level ∷ c.levels
+
+-- Such a call stands in place, as far as its levels go.
+abbrev pub IsTaken : {B : Type 0} {P : _} → Store B P → List (List Holds) → Innermost → Chain →
+    Type 0
+IsTaken s t g c = IsPlaced s t g.process (with_innermost g c) c.undo
+
+-- Such a call stands in place.
+abbrev pub IsTakenInPlace : {B : Type 0} {P : _} → Store B P → List (List Holds) → ImageTable →
+    Innermost → Chain → Type 0
+IsTakenInPlace s t images g c = IsInPlace s t images g.process (with_innermost g c) c.undo
+
 -- ---- other memory
 
 -- a store is another one but for what memory has
@@ -108,6 +125,49 @@ pub record IsElsewhereSame {B : Type 0} {P : _} (s u : Store B P) (t r : List (L
   pub living : (q : ℕ) → lives (queue_of u) q ≡ lives (queue_of s) q
   pub others : (q d : ℕ) → q ≢ p → held r q d ≡ held t q d
   pub memory : (a : ℕ) → IsBeyond p a → slice_index u.ram a ≡ slice_index s.ram a
+
+-- The levels of a chain of process p are what these levels of it came to: they stand in place,
+-- levels that ran go on running, loaded images stay loaded, and the memory stays as it was, and so
+-- does all that the state of objects doesn't tell.
+pub record StaysPlaced {B : Type 0} {P : _} (s u : Store B P) (t r : List (List Holds)) (p : ℕ)
+    (gs : List GraftLevel) (c : Chain) : Type 0 where
+  pub placed : IsPlaced u r p c.levels c.undo
+  pub inside : (images : ImageTable) → AreInside images (objects_of s).accounts p gs →
+      AreInside images (objects_of u).accounts p c.levels
+  pub loaded : (images : ImageTable) → ImagesAreLoaded images (objects_of s).accounts →
+      ImagesAreLoaded images (objects_of u).accounts
+  pub elsewhere : IsElsewhereSame s u t r p
+  pub memory : u.ram ≡ s.ram
+
+-- ---- what is written
+
+-- how many levels are outside the innermost one
+abbrev pub depth_of : List GraftLevel → ℕ
+depth_of [] = 0
+depth_of (g ∷ gs) = length gs
+
+-- Of memory only the segment of level n of process p is written, if that level began: these are the
+-- levels afterwards.
+abbrev pub HasWrittenBegun : (p n : ℕ) → List GraftLevel → (m k : List ℕ) → Type 0
+HasWrittenBegun p n hs m k = (a : ℕ) → (n < length hs → IsOutside (4 * p + n) a) →
+    slice_index k a ≡ slice_index m a
+
+-- Of memory only the innermost level's own segment is written, and that of a level that began:
+-- these are the levels before and afterwards.
+abbrev pub HasWrittenOwn : (p : ℕ) (gs hs : List GraftLevel) → (m k : List ℕ) → Type 0
+HasWrittenOwn p gs hs m k = (a : ℕ) → IsOutside (4 * p + depth_of gs) a →
+    (length gs < length hs → IsOutside (4 * p + length gs) a) → slice_index k a ≡ slice_index m a
+
+-- ---- undoing
+
+-- A store is what putting back these records makes of another one: the same processes live, the
+-- world and the memory stay, and what could be undone still can be.
+pub record IsPutBack {B : Type 0} {P : _} (is : List Logged) (s u : Store B P) : Type 0 where
+  pub objects : objects_of u ≡ put_back_on is (objects_of s)
+  pub memory : u.ram ≡ s.ram
+  pub world : world_of_store u ≡ world_of_store s
+  pub living : (q : ℕ) → lives (queue_of u) q ≡ lives (queue_of s) q
+  pub kept : StayUndoable (objects_of s).things (objects_of u).things
 
 -- ---- touches
 

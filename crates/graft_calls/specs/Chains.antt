@@ -20,6 +20,7 @@ use Rattle.kernel_state.specs.Stores.{objects_of, body_at}
 use Rattle.segments.specs.Tables.{Table}
 use Rattle.graft_calls.specs.declared.GraftLevel.{GraftLevel}
 use Rattle.graft_calls.specs.declared.Chain.{Chain}
+use Rattle.graft_calls.specs.declared.Innermost.{Innermost}
 
 -- ---- levels
 
@@ -60,6 +61,17 @@ levels_in p ram t (g ∷ gs) log w =
     level_in p (length gs) ram t g (innermost log) (put_back (innermost log) w)
     ∷ levels_in p ram t gs (outer log) (put_back (innermost log) w)
 
+-- a level inside these others, whose records are the innermost of the log
+abbrev pub level_on : ℕ → List ℕ → LockTable → GraftLevel → List GraftLevel →
+    List (List Logged) → Things → Level
+level_on p ram t g gs log w =
+    level_in p (length gs) ram t g (innermost log) (put_back (innermost log) w)
+
+-- those others
+abbrev pub outer_on : ℕ → List ℕ → LockTable → List GraftLevel → List (List Logged) → Things →
+    List Level
+outer_on p ram t gs log w = levels_in p ram t gs (outer log) (put_back (innermost log) w)
+
 -- the bytes that are kept for the graft at (q, pt), if there are some
 abbrev pub kept_bytes : Table → (q pt : ℕ) → Option (List ℕ)
 kept_bytes kept q pt = slice_index_or kept (segment_number q pt) None
@@ -96,14 +108,25 @@ call_of s t c p = record { now = objects_of s; levels = levels_of s t c p }
 abbrev pub level_of : {B : Type 0} {P : _} → Store B P → List (List Holds) → Chain → ℕ →
     GraftLevel → Level
 level_of s t c p g =
-    level_in p (length c.levels) s.ram (held t) g (innermost c.undo)
-    (put_back (innermost c.undo) (objects_of s).things)
+    level_on p s.ram (held t) g c.levels c.undo (objects_of s).things
 
 -- the levels outside it
 abbrev pub outer_of : {B : Type 0} {P : _} → Store B P → List (List Holds) → Chain → ℕ → List Level
-outer_of s t c p =
-    levels_in p s.ram (held t) c.levels (outer c.undo)
-    (put_back (innermost c.undo) (objects_of s).things)
+outer_of s t c p = outer_on p s.ram (held t) c.levels c.undo (objects_of s).things
+
+-- the innermost level, which was taken out of a chain, and the levels outside it
+abbrev pub level_taken : {B : Type 0} {P : _} → Store B P → List (List Holds) → Innermost → Chain →
+    Level
+level_taken s t g c = level_of s t c g.process g.level
+
+abbrev pub outer_taken : {B : Type 0} {P : _} → Store B P → List (List Holds) → Innermost → Chain →
+    List Level
+outer_taken s t g c = outer_of s t c g.process
+
+-- all these levels
+abbrev pub levels_taken : {B : Type 0} {P : _} → Store B P → List (List Holds) → Innermost →
+    Chain → List Level
+levels_taken s t g c = level_taken s t g c ∷ outer_taken s t g c
 
 -- ---- outcomes
 

@@ -1,3 +1,4 @@
 pub mod Chains
 pub mod Calls
 pub mod Stretch
+pub mod Accessors

@@ -3,7 +3,7 @@
 ghost use Rattle.std.specs.Prelude.{◌≡◌, ◌≢◌, ℕ, suc, ◌<◌, ◌≤◌, ◌&&◌, ◌==◌, not, ◌∷◌, List, None, Some, Ok, true, length, slice_index, is_some};
 ghost use Rattle.kernel_model.specs.declared.Mode.TheVariants.{Exclusive};
 ghost use Rattle.kernel_model.specs.declared.QueueRow.{QueueRow as Waiting};
-ghost use Rattle.kernel_model.specs.Access.{access as accessed_by, accessed, early_refusal};
+ghost use Rattle.kernel_model.specs.Access.{accessed};
 ghost use Rattle.kernel_model.specs.GraftStep.{after_accessor, after_result, after_change, is_lock_due as lock_due, is_record_spent};
 ghost use Rattle.kernel_model.specs.Laws.{IsInRange};
 ghost use Rattle.kernel_model.specs.Levels.{answered, with_machine};
@@ -16,13 +16,14 @@ ghost use Rattle.kernel_state.specs.Accesses.{answer_of, things_after, CanBeUndo
 ghost use Rattle.kernel_state.specs.Stores.{world_of_store, objects_of};
 ghost use Rattle.lock_table.specs.Masks.{held};
 ghost use Rattle.undo_calls.specs.UndoLevels.{Logged, bare, innermost, is_bare, recorded, records_of};
-ghost use Rattle.graft_calls.specs.Chains.{put_back, came, call_of, level_of, outer_of, level_in, levels_in, outer};
-ghost use Rattle.graft_calls.specs.Calls.{AreSound, AreInside, IsPlaced, IsElsewhereSame};
+ghost use Rattle.graft_calls.specs.Chains.{came, call_of, level_on, outer_on, levels_in, level_taken, outer_taken};
+ghost use Rattle.graft_calls.specs.Calls.{AreSound, AreInside, IsTaken, StaysPlaced, with_innermost};
+ghost use Rattle.graft_calls.specs.Accessors.{IsAccessOf, access_of, is_refused_early};
 
 use crate::answers::arguments;
 use crate::charges::{charge_lock, charge_record};
 use crate::drops::drop_innermost;
-use crate::{Chain, GraftLevel, Levels};
+use crate::{Chain, GraftLevel, Innermost, Levels};
 use accessor_list::ids;
 use graft_points::Policy;
 use kernel_laws::undoing::inverses_undo;
@@ -31,20 +32,28 @@ use kernel_state::Store;
 use lock_table::LockTable;
 use undo_calls::UndoStack;
 
-/// What a plain accessor looks at or changes, and how.
+/// A call of a plain accessor: its id, and what it looks at or changes, and how.
 #[derive(Clone, Copy)]
 pub(crate) struct Accessed {
+    pub(crate) id: u32,
     pub(crate) object: Object,
     pub(crate) mode: Mode,
+}
+
+/// What an accessor that changes something comes to: its result, and what undoes the change.
+#[derive(Clone, Copy)]
+struct Changed {
+    result: u32,
+    inverse: Inverse,
 }
 
 /// A level goes on with a result in r0.
 fn go_on(level: GraftLevel, r0: u32, levels: &mut Levels)
     requires { length levels.old < 4 }
     ensures levels { (p : ℕ) (ram : List ℕ) (t : Table) (log : List (List Logged)) (w : Things) →
-        let l = level_in p (length levels.old) ram t level (innermost log) (put_back (innermost log) w) in
+        let l = level_on p ram t level levels.old log w in
         levels_in p ram t levels.new log w ≡ with_machine (answered spec.Victim r0 0 l.machine) l
-        ∷ levels_in p ram t levels.old (outer log) (put_back (innermost log) w) }
+        ∷ outer_on p ram t levels.old log w }
     ensures count { length levels.new ≡ suc (length levels.old) }
     ensures sound { (queue : List Waiting) → AreSound queue (level ∷ levels.old) →
         AreSound queue levels.new }
@@ -68,42 +77,31 @@ fn is_lock_due(id: u32, object: Object, p: u8, locks: &LockTable) -> bool
 
 /// An accessor gives a result, where nothing changes; a lock is paid for where that is due.
 fn give<B: Policy>(
-    id: u32,
+    call: Accessed,
     result_is: u32,
-    need: Accessed,
-    level: GraftLevel,
+    inner: Innermost,
     chain: &mut Chain,
-    p: u8,
     store: &mut Store<B>,
     locks: &mut LockTable,
 ) -> Micro
-    requires placed { IsPlaced store.old locks.old p (level ∷ chain.old.levels) chain.old.undo }
-    requires object { need.object
-        ≡ (accessed id (slice_index level.machine.regs 0) level.owner).object }
-    requires mode { need.mode ≡ (accessed id (slice_index level.machine.regs 0) level.owner).mode }
-    requires range { IsInRange need.object }
-    requires plain { id ≤ 12 }
-    ensures step { let l = level_of store.old locks.old chain.old p level in
-        let ls = outer_of store.old locks.old chain.old p in
+    requires placed { IsTaken store.old locks.old inner chain.old }
+    requires access { IsAccessOf inner.level call }
+    ensures step { let l = level_taken store.old locks.old inner chain.old in
+        let ls = outer_taken store.old locks.old inner chain.old in
         came (after_result (world_of_store store.old)
-        (objects_of store.old) l ls l.machine id result_is
-        (lock_due id (l.machine.regs 0) (l ∷ ls)))
-        ≡ (result, call_of store.new locks.new chain.new p) }
-    ensures placed { IsPlaced store.new locks.new p chain.new.levels chain.new.undo }
-    ensures inside { (images : ImageTable) →
-        AreInside images (objects_of store.old).accounts p (level ∷ chain.old.levels) →
-        AreInside images (objects_of store.new).accounts p chain.new.levels }
-    ensures loaded { (images : ImageTable) →
-        ImagesAreLoaded images (objects_of store.old).accounts →
-        ImagesAreLoaded images (objects_of store.new).accounts }
-    ensures elsewhere { IsElsewhereSame store.old store.new locks.old locks.new p }
+        (objects_of store.old) l ls l.machine call.id result_is
+        (lock_due call.id (l.machine.regs 0) (l ∷ ls)))
+        ≡ (result, call_of store.new locks.new chain.new inner.process) }
+    ensures kept { StaysPlaced store.old store.new locks.old locks.new inner.process
+        (with_innermost inner chain.old) chain.new }
 {
-    let due = is_lock_due(id, need.object, p, locks);
+    let level = &inner.level;
+    let due = is_lock_due(call.id, call.object, inner.process, locks);
     if !charge_lock(due, &mut store.accounts, level.owner, level.point) {
-        return drop_innermost(level, chain, p, store, locks, Cause::SpentLocks);
+        return drop_innermost(inner, chain, store, locks, Cause::SpentLocks);
     }
-    locks.touch(p, chain.levels.count(), need.object, need.mode);
-    go_on(level, result_is, &mut chain.levels);
+    locks.touch(inner.process, chain.levels.count(), call.object, call.mode);
+    go_on(inner.level, result_is, &mut chain.levels);
     Micro::Went
 }
 
@@ -119,106 +117,74 @@ fn record(undo: &mut UndoStack, inverse_is: Inverse)
 
 /// An accessor's change is charged, recorded and made, unless no record can be made.
 fn change<B: Policy>(
-    id: u32,
-    result_is: u32,
-    inverse_is: Inverse,
-    need: Accessed,
-    level: GraftLevel,
+    call: Accessed,
+    changed: Changed,
+    inner: Innermost,
     chain: &mut Chain,
-    p: u8,
     store: &mut Store<B>,
     locks: &mut LockTable,
 ) -> Micro
-    requires placed { IsPlaced store.old locks.old p (level ∷ chain.old.levels) chain.old.undo }
-    requires object { need.object
-        ≡ (accessed id (slice_index level.machine.regs 0) level.owner).object }
-    requires mode { need.mode ≡ (accessed id (slice_index level.machine.regs 0) level.owner).mode }
-    requires range { IsInRange need.object }
-    requires plain { id ≤ 12 }
-    requires early { early_refusal 15 id (slice_index level.machine.regs 0)
-        (slice_index level.machine.regs 1) level.owner ≡ None }
-    requires answer { answer_of (accessed_by id (slice_index level.machine.regs 0)
-        (slice_index level.machine.regs 1) (slice_index level.machine.regs 2) level.owner
-        (objects_of store.old).things)
-        ≡ Ok (record { result = result_is; inverse = Some inverse_is }) }
-    requires undoable { CanBeUndone inverse_is (objects_of store.old).things }
-    ensures step { let l = level_of store.old locks.old chain.old p level in
-        let ls = outer_of store.old locks.old chain.old p in
-        came (after_change (world_of_store store.old) (objects_of store.old) l ls l.machine id result_is inverse_is
-        (things_after (accessed_by id (slice_index level.machine.regs 0)
-        (slice_index level.machine.regs 1) (slice_index level.machine.regs 2) level.owner
-        (objects_of store.old).things) (objects_of store.old).things)
-        (is_record_spent (objects_of store.old).accounts l ls))
-        ≡ (result, call_of store.new locks.new chain.new p) }
-    ensures placed { IsPlaced store.new locks.new p chain.new.levels chain.new.undo }
-    ensures inside { (images : ImageTable) →
-        AreInside images (objects_of store.old).accounts p (level ∷ chain.old.levels) →
-        AreInside images (objects_of store.new).accounts p chain.new.levels }
-    ensures loaded { (images : ImageTable) →
-        ImagesAreLoaded images (objects_of store.old).accounts →
-        ImagesAreLoaded images (objects_of store.new).accounts }
-    ensures elsewhere { IsElsewhereSame store.old store.new locks.old locks.new p }
+    requires placed { IsTaken store.old locks.old inner chain.old }
+    requires access { IsAccessOf inner.level call }
+    requires early { is_refused_early call.id inner.level ≡ None }
+    requires answer { answer_of (access_of call.id inner.level (objects_of store.old).things)
+        ≡ Ok (record { result = changed.result; inverse = Some changed.inverse }) }
+    requires undoable { CanBeUndone changed.inverse (objects_of store.old).things }
+    ensures step { let s = objects_of store.old in
+        let l = level_taken store.old locks.old inner chain.old in
+        let ls = outer_taken store.old locks.old inner chain.old in
+        came (after_change (world_of_store store.old) s l ls l.machine
+        call.id changed.result changed.inverse
+        (things_after (access_of call.id inner.level s.things) s.things)
+        (is_record_spent s.accounts l ls))
+        ≡ (result, call_of store.new locks.new chain.new inner.process) }
+    ensures kept { StaysPlaced store.old store.new locks.old locks.new inner.process
+        (with_innermost inner chain.old) chain.new }
 {
+    let level = &inner.level;
     if !charge_record(&chain.undo, &mut store.accounts, level.owner, level.point) {
-        return drop_innermost(level, chain, p, store, locks, Cause::SpentRecords);
+        return drop_innermost(inner, chain, store, locks, Cause::SpentRecords);
     }
     inverses_undo();
     store.procs.rows();
-    store.apply(id, arguments(&level.machine), level.owner);
-    record(&mut chain.undo, inverse_is);
-    locks.touch(p, chain.levels.count(), need.object, need.mode);
-    go_on(level, result_is, &mut chain.levels);
+    store.apply(call.id, arguments(&level.machine), level.owner);
+    record(&mut chain.undo, changed.inverse);
+    locks.touch(inner.process, chain.levels.count(), call.object, call.mode);
+    go_on(inner.level, changed.result, &mut chain.levels);
     Micro::Went
 }
 
 /// What a plain accessor comes to that isn't refused by its arguments.
 pub(crate) fn access<B: Policy>(
-    id: u32,
-    need: Accessed,
-    level: GraftLevel,
+    call: Accessed,
+    inner: Innermost,
     chain: &mut Chain,
-    p: u8,
     store: &mut Store<B>,
     locks: &mut LockTable,
 ) -> Micro
-    requires placed { IsPlaced store.old locks.old p (level ∷ chain.old.levels) chain.old.undo }
-    requires object { need.object
-        ≡ (accessed id (slice_index level.machine.regs 0) level.owner).object }
-    requires mode { need.mode ≡ (accessed id (slice_index level.machine.regs 0) level.owner).mode }
-    requires range { IsInRange need.object }
-    requires plain { id ≤ 12 }
-    requires early { early_refusal 15 id (slice_index level.machine.regs 0)
-        (slice_index level.machine.regs 1) level.owner ≡ None }
-    ensures step { let l = level_of store.old locks.old chain.old p level in
-        let ls = outer_of store.old locks.old chain.old p in
-        came (after_accessor (world_of_store store.old) (objects_of store.old) l ls l.machine id
-        (accessed_by id (l.machine.regs 0) (l.machine.regs 1) (l.machine.regs 2) l.owner
-        (objects_of store.old).things))
-        ≡ (result, call_of store.new locks.new chain.new p) }
-    ensures placed { IsPlaced store.new locks.new p chain.new.levels chain.new.undo }
-    ensures inside { (images : ImageTable) →
-        AreInside images (objects_of store.old).accounts p (level ∷ chain.old.levels) →
-        AreInside images (objects_of store.new).accounts p chain.new.levels }
-    ensures loaded { (images : ImageTable) →
-        ImagesAreLoaded images (objects_of store.old).accounts →
-        ImagesAreLoaded images (objects_of store.new).accounts }
-    ensures elsewhere { IsElsewhereSame store.old store.new locks.old locks.new p }
+    requires placed { IsTaken store.old locks.old inner chain.old }
+    requires access { IsAccessOf inner.level call }
+    requires early { is_refused_early call.id inner.level ≡ None }
+    ensures step { let s = objects_of store.old in
+        let l = level_taken store.old locks.old inner chain.old in
+        let ls = outer_taken store.old locks.old inner chain.old in
+        came (after_accessor (world_of_store store.old) s l ls l.machine call.id
+        (access_of call.id inner.level s.things))
+        ≡ (result, call_of store.new locks.new chain.new inner.process) }
+    ensures kept { StaysPlaced store.old store.new locks.old locks.new inner.process
+        (with_innermost inner chain.old) chain.new }
 {
-    match store.answer(id, arguments(&level.machine), level.owner) {
-        Err(cause) => drop_innermost(level, chain, p, store, locks, cause),
+    match store.answer(call.id, arguments(&inner.level.machine), inner.level.owner) {
+        Err(cause) => drop_innermost(inner, chain, store, locks, cause),
         Ok(answer) => match answer.inverse {
-            Some(inverse) => change(
-                id,
-                answer.result,
-                inverse,
-                need,
-                level,
-                chain,
-                p,
-                store,
-                locks,
-            ),
-            None => give(id, answer.result, need, level, chain, p, store, locks),
+            Some(inverse) => {
+                let changed = Changed {
+                    result: answer.result,
+                    inverse,
+                };
+                change(call, changed, inner, chain, store, locks)
+            }
+            None => give(call, answer.result, inner, chain, store, locks),
         },
     }
 }

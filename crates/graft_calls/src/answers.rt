@@ -44,7 +44,8 @@ pub(crate) fn give_answer(levels: &mut Levels, pt: u8, r0: u32, r1: u32)
     requires { length levels.old ≤ 4 }
     ensures levels { (p : ℕ) (ram : List ℕ) (t : LockTable) (log : List (List Logged))
         (w : Things) →
-        levels_in p ram t levels.new log w ≡ answer_innermost pt r0 r1 (levels_in p ram t levels.old log w) }
+        levels_in p ram t levels.new log w
+        ≡ answer_innermost pt r0 r1 (levels_in p ram t levels.old log w) }
     ensures count { length levels.new ≡ length levels.old }
     ensures sound { (queue : List Waiting) → AreSound queue levels.old → AreSound queue levels.new }
     ensures inside { (images : ImageTable) (a : Accounts) (p : ℕ) →

@@ -4,26 +4,27 @@ ghost use Rattle.std.specs.Prelude.{◌≡◌, ◌≢◌, ℕ, suc, ◌<◌, ◌
 ghost use Rattle.kernel_model.specs.declared.Mode.TheVariants.{Exclusive, Shared};
 ghost use Rattle.kernel_model.specs.declared.Need.{Need as Needed};
 ghost use Rattle.kernel_model.specs.declared.Object.TheVariants.{Graft};
-ghost use Rattle.kernel_model.specs.Access.{asked_point as point_asked, asked_objects, early_refusal, is_ask};
+ghost use Rattle.kernel_model.specs.Access.{asked_point as point_asked, asked_objects, is_ask};
 ghost use Rattle.kernel_model.specs.GraftStep.{after_ask, ask_answered, ask_refusal as refusal_of_ask, is_vain_ask};
 ghost use Rattle.kernel_model.specs.Laws.{IsInRange};
 ghost use Rattle.kernel_model.specs.Locks.{LockTable as Table, with_touch};
 ghost use Rattle.kernel_model.specs.Objects.{Things};
 ghost use Rattle.kernel_model.specs.Policies.{kind_of, lives};
 ghost use Rattle.undo_calls.specs.UndoLevels.{Logged};
-ghost use Rattle.graft_accounts.specs.Table.{accounts_of};
+ghost use Rattle.graft_accounts.specs.Table.{IsPoint, accounts_of};
 ghost use Rattle.kernel_state.specs.Stores.{world_of_store, objects_of, queue_of};
 ghost use Rattle.lock_table.specs.Masks.{held};
 ghost use Rattle.graft_loader.specs.Slots.{table_of};
-ghost use Rattle.graft_calls.specs.Chains.{came, call_of, level_of, outer_of, levels_in, levels_of, is_running_in};
-ghost use Rattle.graft_calls.specs.Calls.{IsInPlace, IsElsewhereSame, needs_touched};
+ghost use Rattle.graft_calls.specs.Chains.{came, call_of, levels_in, levels_of, is_running_in, level_taken, outer_taken};
+ghost use Rattle.graft_calls.specs.Calls.{IsInPlace, IsTakenInPlace, IsElsewhereSame, HasWrittenBegun, needs_touched};
+ghost use Rattle.graft_calls.specs.Accessors.{is_refused_early};
 
 use crate::answers::give_answer;
 use crate::begin::{begin_level, touch_needs};
 use crate::code::image_of;
 use crate::drops::drop_innermost;
 use crate::points::{args_of, default_of};
-use crate::{Chain, GraftLevel, Levels};
+use crate::{Chain, GraftLevel, Innermost, Levels};
 use accessor_list::ids;
 use graft_accounts::Accounts;
 use graft_loader::Images;
@@ -97,8 +98,7 @@ fn is_running(level: &GraftLevel, levels: &Levels, pt: u8) -> bool
 /// Whether a graft stands at point pt of process q, but there is no room for a level, as the asking
 /// level is inside three others.
 fn is_too_deep(levels: &Levels, accounts: &Accounts, q: u8, pt: u8) -> bool
-    requires owner { q < 16 }
-    requires point { pt < 16 }
+    requires at { IsPoint q pt }
     ensures { result ≡ (is_some ((accounts_of accounts.now).graft q pt) && length levels.now == 3) }
 {
     accounts.stands(q, pt) && levels.count() == 3
@@ -114,8 +114,7 @@ fn ask_refusal<B: Policy>(
     store: &Store<B>,
 ) -> Option<Cause>
     requires lives { lives (queue_of store.now) level.now.owner ≡ true }
-    requires owner { level.now.owner < 16 }
-    requires point { pt < 16 }
+    requires at { IsPoint level.now.owner pt }
     requires few { length levels.now < 4 }
     ensures value { (p : ℕ) (ram : List ℕ) (t : Table) (log : List (List Logged)) (w : Things) →
         result ≡ refusal_of_ask (objects_of store.now) level.now.owner pt id
@@ -150,11 +149,17 @@ fn touch_asked(id: u32, r0: u32, q: u8, p: u8, d: u8, locks: &mut LockTable)
     locks.touch(p, 0, Object::Graft(q, asked_point(id, r0)), Mode::Exclusive);
 }
 
+/// A point of a process, the asking level's owner, that an ask names.
+#[derive(Clone, Copy)]
+struct Asked {
+    owner: u8,
+    point: u8,
+}
+
 /// An ask that isn't refused is answered: a level begins inside the others where a graft stands,
 /// else the innermost level gets the default.
 fn answer_ask<B: Policy>(
-    pt: u8,
-    q: u8,
+    asked: Asked,
     chain: &mut Chain,
     p: u8,
     store: &mut Store<B>,
@@ -163,30 +168,33 @@ fn answer_ask<B: Policy>(
 ) -> Micro
     requires in_place { IsInPlace store.old locks.now
         (table_of images.now) p chain.old.levels chain.old.undo }
-    requires owner { q < 16 }
-    requires point { pt < 16 }
-    requires lives { lives (queue_of store.old) q ≡ true }
-    requires free { is_running_in chain.old.levels q pt ≡ false }
-    requires room { (objects_of store.old).accounts.graft q pt ≢ None →
+    requires at { IsPoint asked.owner asked.point }
+    requires lives { lives (queue_of store.old) asked.owner ≡ true }
+    requires free { is_running_in chain.old.levels asked.owner asked.point ≡ false }
+    requires room { (objects_of store.old).accounts.graft asked.owner asked.point ≢ None →
         length chain.old.levels < 4 }
     ensures step { came (ask_answered (world_of_store store.old) (table_of images.now)
-        (objects_of store.old) p q pt (levels_of store.old locks.now chain.old p)
-        ((objects_of store.old).accounts.graft q pt))
+        (objects_of store.old) p asked.owner asked.point
+        (levels_of store.old locks.now chain.old p)
+        ((objects_of store.old).accounts.graft asked.owner asked.point))
         ≡ (result, call_of store.new locks.now chain.new p) }
     ensures in_place { IsInPlace store.new locks.now
         (table_of images.now) p chain.new.levels chain.new.undo }
     ensures elsewhere { IsElsewhereSame store.old store.new locks.now locks.now p }
+    ensures memory { HasWrittenBegun p (length chain.old.levels)
+        chain.new.levels store.old.ram store.new.ram }
 {
-    if store.accounts.graft(q, pt).is_none() {
-        let (r0, r1) = default_of(store, q, pt);
-        give_answer(&mut chain.levels, pt, r0, r1);
+    let (owner, point) = (asked.owner, asked.point);
+    if store.accounts.graft(owner, point).is_none() {
+        let (r0, r1) = default_of(store, owner, point);
+        give_answer(&mut chain.levels, point, r0, r1);
         return Micro::Went;
     }
-    let args = args_of(store, q, pt);
-    let image = image_of(images, &store.accounts, q, pt);
+    let args = args_of(store, owner, point);
+    let image = image_of(images, &store.accounts, owner, point);
     let at = Point {
-        installer: q,
-        point: pt,
+        installer: owner,
+        point,
         args,
     };
     begin_level(chain, p, store, image, &at, &[]);
@@ -196,35 +204,39 @@ fn answer_ask<B: Policy>(
 /// What an ask comes to that isn't refused by its arguments.
 pub(crate) fn ask<B: Policy>(
     id: u32,
-    level: GraftLevel,
+    inner: Innermost,
     chain: &mut Chain,
-    p: u8,
     store: &mut Store<B>,
     locks: &mut LockTable,
     images: &Images,
 ) -> Micro
-    requires in_place { IsInPlace store.old locks.old (table_of images.now) p
-        (level ∷ chain.old.levels) chain.old.undo }
-    requires early { early_refusal 15 id (slice_index level.machine.regs 0)
-        (slice_index level.machine.regs 1) level.owner ≡ None }
-    ensures step { let l = level_of store.old locks.old chain.old p level in
-        let ls = outer_of store.old locks.old chain.old p in
+    requires in_place { IsTakenInPlace store.old locks.old (table_of images.now) inner chain.old }
+    requires early { is_refused_early id inner.level ≡ None }
+    ensures step { let l = level_taken store.old locks.old inner chain.old in
+        let ls = outer_taken store.old locks.old inner chain.old in
         let pt = point_asked id (l.machine.regs 0) in
         came (after_ask (world_of_store store.old) (table_of images.now)
-        (objects_of store.old) p l ls l.machine id pt
+        (objects_of store.old) inner.process l ls l.machine id pt
         (refusal_of_ask (objects_of store.old) l.owner pt id (l ∷ ls)))
-        ≡ (result, call_of store.new locks.new chain.new p) }
+        ≡ (result, call_of store.new locks.new chain.new inner.process) }
     ensures in_place { IsInPlace store.new locks.new
-        (table_of images.now) p chain.new.levels chain.new.undo }
-    ensures elsewhere { IsElsewhereSame store.old store.new locks.old locks.new p }
+        (table_of images.now) inner.process chain.new.levels chain.new.undo }
+    ensures elsewhere { IsElsewhereSame store.old store.new locks.old locks.new inner.process }
+    ensures memory { HasWrittenBegun inner.process (suc (length chain.old.levels))
+        chain.new.levels store.old.ram store.new.ram }
 {
-    let q = level.owner;
-    let r0 = level.machine.reg(0);
+    let p = inner.process;
+    let q = inner.level.owner;
+    let r0 = inner.level.machine.reg(0);
     let pt = asked_point(id, r0);
-    if let Some(cause) = ask_refusal(id, pt, &level, &chain.levels, store) {
-        return drop_innermost(level, chain, p, store, locks, cause);
+    if let Some(cause) = ask_refusal(id, pt, &inner.level, &chain.levels, store) {
+        return drop_innermost(inner, chain, store, locks, cause);
     }
     touch_asked(id, r0, q, p, chain.levels.count(), locks);
-    chain.levels.push(level);
-    answer_ask(pt, q, chain, p, store, locks, images)
+    chain.levels.push(inner.level);
+    let asked = Asked {
+        owner: q,
+        point: pt,
+    };
+    answer_ask(asked, chain, p, store, locks, images)
 }

@@ -12,8 +12,9 @@ ghost use Rattle.kernel_model.specs.World.{ImageTable};
 ghost use Rattle.kernel_state.specs.Stores.{world_of_store, objects_of, queue_of};
 ghost use Rattle.lock_table.specs.Masks.{held};
 ghost use Rattle.graft_loader.specs.Slots.{table_of};
+ghost use Rattle.graft_accounts.specs.Table.{IsPoint};
 ghost use Rattle.graft_calls.specs.Chains.{call_of, levels_in, is_running_in};
-ghost use Rattle.graft_calls.specs.Calls.{AreSound, AreInside, IsPlaced, IsInPlace, IsElsewhereSame, needs_touched};
+ghost use Rattle.graft_calls.specs.Calls.{AreSound, AreInside, IsPlaced, IsInPlace, IsElsewhereSame, HasWrittenBegun, needs_touched};
 
 use crate::code::image_of as image_at;
 use crate::filling::{base_of, fill};
@@ -51,8 +52,7 @@ pub(crate) fn begin_level<B: Policy>(
     requires process { p < 16 }
     requires few { length chain.old.levels < 4 }
     requires as_many { length chain.old.undo ≡ length chain.old.levels }
-    requires owner { at.now.installer < 16 }
-    requires point { at.now.point < 16 }
+    requires at { IsPoint at.now.installer at.now.point }
     requires short { length feed.now ≤ 512 }
     ensures levels { (images : ImageTable) (t : Table) → let s = objects_of store.old in
         image_of images (s.accounts.graft at.now.installer at.now.point) ≡ Some image.now →
@@ -71,6 +71,8 @@ pub(crate) fn begin_level<B: Policy>(
         image_of images (a.graft at.now.installer at.now.point) ≡ Some image.now →
         AreInside images a p chain.old.levels → AreInside images a p chain.new.levels }
     ensures elsewhere { (t : _) → IsElsewhereSame store.old store.new t t p }
+    ensures memory { HasWrittenBegun p (length chain.old.levels)
+        chain.new.levels store.old.ram store.new.ram }
 {
     store.cache.lru();
     let base = base_of(p, chain.levels.count());

@@ -11,12 +11,12 @@ ghost use Rattle.kernel_state.specs.Accesses.{CanBeUndone};
 ghost use Rattle.kernel_state.specs.Stores.{world_of_store, objects_of, queue_of};
 ghost use Rattle.lock_table.specs.Masks.{held};
 ghost use Rattle.undo_calls.specs.UndoLevels.{innermost};
-ghost use Rattle.graft_calls.specs.Chains.{put_back_on, came, call_of, level_of, outer_of, levels_of, outer};
-ghost use Rattle.graft_calls.specs.Calls.{AreSound, AreInside, AreUndoable, AllUndoable, IsPlaced, IsElsewhereSame};
+ghost use Rattle.graft_calls.specs.Chains.{put_back_on, came, call_of, levels_of, outer, level_taken, outer_taken};
+ghost use Rattle.graft_calls.specs.Calls.{AreSound, AreInside, AreUndoable, AllUndoable, IsPutBack, IsPlaced, IsTaken, IsElsewhereSame, StaysPlaced, with_innermost};
 
 use crate::answers::give_answer;
 use crate::points::default_of;
-use crate::{Chain, GraftLevel};
+use crate::{Chain, Innermost};
 use graft_points::Policy;
 use kernel_model::{Cause, Micro};
 use kernel_state::Store;
@@ -30,13 +30,7 @@ pub(crate) fn undo_records<B: Policy>(undo: &mut UndoStack, store: &mut Store<B>
     ensures none { innermost undo.new ≡ [] }
     ensures outer { outer undo.new ≡ outer undo.old }
     ensures level { 0 < length undo.new }
-    ensures objects { objects_of store.new
-        ≡ put_back_on (innermost undo.old) (objects_of store.old) }
-    ensures memory { store.new.ram ≡ store.old.ram }
-    ensures world { world_of_store store.new ≡ world_of_store store.old }
-    ensures living { (q : ℕ) → lives (queue_of store.new) q ≡ lives (queue_of store.old) q }
-    ensures kept { (i : Undoing) → CanBeUndone i (objects_of store.old).things →
-        CanBeUndone i (objects_of store.new).things }
+    ensures store { IsPutBack (innermost undo.old) store.old store.new }
 {
     if let Some(found) = undo.newest() {
         store.undo(found.inverse, found.bytes);
@@ -50,13 +44,7 @@ pub(crate) fn undo_level<B: Policy>(undo: &mut UndoStack, store: &mut Store<B>)
     requires level { 0 < length undo.old }
     requires undoable { AreUndoable (innermost undo.old) (objects_of store.old).things }
     ensures log { undo.new ≡ outer undo.old }
-    ensures objects { objects_of store.new
-        ≡ put_back_on (innermost undo.old) (objects_of store.old) }
-    ensures memory { store.new.ram ≡ store.old.ram }
-    ensures world { world_of_store store.new ≡ world_of_store store.old }
-    ensures living { (q : ℕ) → lives (queue_of store.new) q ≡ lives (queue_of store.old) q }
-    ensures kept { (i : Undoing) → CanBeUndone i (objects_of store.old).things →
-        CanBeUndone i (objects_of store.new).things }
+    ensures store { IsPutBack (innermost undo.old) store.old store.new }
 {
     undo_records(undo, store);
     undo.end_level();
@@ -92,28 +80,22 @@ pub(crate) fn end_level<B: Policy>(
 /// its records are undone, it lets go of what it holds, its graft is taken out, and the level that
 /// asked gets the default answer.
 pub(crate) fn drop_innermost<B: Policy>(
-    level: GraftLevel,
+    inner: Innermost,
     chain: &mut Chain,
-    p: u8,
     store: &mut Store<B>,
     locks: &mut LockTable,
     cause: Cause,
 ) -> Micro
-    requires placed { IsPlaced store.old locks.old p (level ∷ chain.old.levels) chain.old.undo }
+    requires placed { IsTaken store.old locks.old inner chain.old }
     ensures step { came (innermost_dropped (world_of_store store.old) (objects_of store.old)
-        (level_of store.old locks.old chain.old p level)
-        (outer_of store.old locks.old chain.old p) cause)
-        ≡ (result, call_of store.new locks.new chain.new p) }
-    ensures placed { IsPlaced store.new locks.new p chain.new.levels chain.new.undo }
-    ensures inside { (images : ImageTable) →
-        AreInside images (objects_of store.old).accounts p (level ∷ chain.old.levels) →
-        AreInside images (objects_of store.new).accounts p chain.new.levels }
-    ensures loaded { (images : ImageTable) →
-        ImagesAreLoaded images (objects_of store.old).accounts →
-        ImagesAreLoaded images (objects_of store.new).accounts }
-    ensures elsewhere { IsElsewhereSame store.old store.new locks.old locks.new p }
+        (level_taken store.old locks.old inner chain.old)
+        (outer_taken store.old locks.old inner chain.old) cause)
+        ≡ (result, call_of store.new locks.new chain.new inner.process) }
+    ensures kept { StaysPlaced store.old store.new locks.old locks.new inner.process
+        (with_innermost inner chain.old) chain.new }
 {
-    end_level(chain, p, store, locks);
+    let level = &inner.level;
+    end_level(chain, inner.process, store, locks);
     store.accounts.remove(level.owner, level.point);
     let (r0, r1) = default_of(store, level.owner, level.point);
     give_answer(&mut chain.levels, level.point, r0, r1);
@@ -149,7 +131,8 @@ impl Chain {
             unreachable!()
         };
         if self.levels.count() == d {
-            return drop_innermost(level, self, p, store, locks, cause);
+            let inner = Innermost { process: p, level };
+            return drop_innermost(inner, self, store, locks, cause);
         }
         end_level(self, p, store, locks);
         self.drop_level(p, store, locks, d, cause)

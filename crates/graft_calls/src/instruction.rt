@@ -1,13 +1,13 @@
 //! One instruction of the innermost level.
 
-ghost use Rattle.std.specs.Prelude.{◌≡◌, ℕ, ◌<◌, ◌≤◌, ◌∷◌, [], length, slice_index, true, false, None, List};
+ghost use Rattle.std.specs.Prelude.{◌≡◌, ℕ, suc, ◌<◌, ◌≤◌, ◌∷◌, [], length, slice_index, true, false, None, List};
 ghost use Rattle.kernel_model.specs.Access.{early_refusal};
 ghost use Rattle.kernel_model.specs.GraftStep.{micro, micro_on, after_machine as after_step, after_call};
 ghost use Rattle.kernel_state.specs.Stores.{world_of_store, objects_of};
 ghost use Rattle.graft_machine.specs.Cpu.{done_of};
 ghost use Rattle.graft_loader.specs.Slots.{table_of};
-ghost use Rattle.graft_calls.specs.Chains.{came, call_of, levels_of, HasAnswer, level_of, outer_of};
-ghost use Rattle.graft_calls.specs.Calls.{IsInPlace, IsElsewhereSame};
+ghost use Rattle.graft_calls.specs.Chains.{came, call_of, levels_of, HasAnswer, level_taken, outer_taken, levels_taken};
+ghost use Rattle.graft_calls.specs.Calls.{IsInPlace, IsTakenInPlace, IsElsewhereSame, HasWrittenBegun, HasWrittenOwn, with_innermost};
 
 use crate::accessors::{Accessed, access};
 use crate::answers::arguments;
@@ -16,7 +16,7 @@ use crate::charges::charge_step;
 use crate::code::code_of;
 use crate::drops::drop_innermost;
 use crate::returns::offer;
-use crate::{Chain, GraftLevel};
+use crate::{Chain, Innermost};
 use accessor_list::early;
 use graft_loader::Images;
 use graft_machine::{Outcome, laws};
@@ -28,114 +28,111 @@ use lock_table::LockTable;
 /// What a call comes to. The machine is behind it.
 fn call<B: Policy>(
     id: u32,
-    level: GraftLevel,
+    inner: Innermost,
     chain: &mut Chain,
-    p: u8,
     store: &mut Store<B>,
     locks: &mut LockTable,
     images: &Images,
 ) -> Micro
-    requires in_place { IsInPlace store.old locks.old (table_of images.now) p
-        (level ∷ chain.old.levels) chain.old.undo }
-    ensures step { let l = level_of store.old locks.old chain.old p level in
-        came (after_call (world_of_store store.old) (table_of images.now) (objects_of store.old) p l
-        (outer_of store.old locks.old chain.old p) l.machine id
+    requires in_place { IsTakenInPlace store.old locks.old (table_of images.now) inner chain.old }
+    ensures step { let l = level_taken store.old locks.old inner chain.old in
+        came (after_call (world_of_store store.old) (table_of images.now) (objects_of store.old)
+        inner.process l (outer_taken store.old locks.old inner chain.old) l.machine id
         (early_refusal (world_of_store store.old).callable id (l.machine.regs 0)
         (l.machine.regs 1) l.owner))
-        ≡ (result, call_of store.new locks.new chain.new p) }
+        ≡ (result, call_of store.new locks.new chain.new inner.process) }
     ensures in_place { IsInPlace store.new locks.new
-        (table_of images.now) p chain.new.levels chain.new.undo }
-    ensures elsewhere { IsElsewhereSame store.old store.new locks.old locks.new p }
+        (table_of images.now) inner.process chain.new.levels chain.new.undo }
+    ensures elsewhere { IsElsewhereSame store.old store.new locks.old locks.new inner.process }
+    ensures memory { HasWrittenBegun inner.process (suc (length chain.old.levels))
+        chain.new.levels store.old.ram store.new.ram }
 {
     if id > LAST_CALLABLE {
-        return drop_innermost(level, chain, p, store, locks, Cause::NotCallable(id));
+        return drop_innermost(inner, chain, store, locks, Cause::NotCallable(id));
     }
-    match early(id, arguments(&level.machine), level.owner) {
-        Err(cause) => drop_innermost(level, chain, p, store, locks, cause),
+    match early(id, arguments(&inner.level.machine), inner.level.owner) {
+        Err(cause) => drop_innermost(inner, chain, store, locks, cause),
         Ok(Some((object, mode))) => {
-            let need = Accessed { object, mode };
-            access(id, need, level, chain, p, store, locks)
+            access(Accessed { id, object, mode }, inner, chain, store, locks)
         }
-        Ok(None) => ask(id, level, chain, p, store, locks, images),
+        Ok(None) => ask(id, inner, chain, store, locks, images),
     }
 }
 
 /// What follows from what the machine of a level did, which was taken out of the chain.
 fn after_machine<B: Policy>(
     done: Outcome,
-    level: GraftLevel,
+    inner: Innermost,
     chain: &mut Chain,
-    p: u8,
     store: &mut Store<B>,
     locks: &mut LockTable,
     images: &Images,
 ) -> Micro
-    requires in_place { IsInPlace store.old locks.old (table_of images.now) p
-        (level ∷ chain.old.levels) chain.old.undo }
-    ensures step { let l = level_of store.old locks.old chain.old p level in
-        came (after_step (world_of_store store.old) (table_of images.now) p (objects_of store.old) l
-        (outer_of store.old locks.old chain.old p) (done_of done l.machine))
-        ≡ (result, call_of store.new locks.new chain.new p) }
-    ensures answer { HasAnswer result store.new.ram p
-        (level_of store.old locks.old chain.old p level
-        ∷ outer_of store.old locks.old chain.old p) }
+    requires in_place { IsTakenInPlace store.old locks.old (table_of images.now) inner chain.old }
+    ensures step { let l = level_taken store.old locks.old inner chain.old in
+        came (after_step (world_of_store store.old) (table_of images.now) inner.process
+        (objects_of store.old) l (outer_taken store.old locks.old inner chain.old)
+        (done_of done l.machine))
+        ≡ (result, call_of store.new locks.new chain.new inner.process) }
+    ensures answer { HasAnswer result store.new.ram inner.process
+        (levels_taken store.old locks.old inner chain.old) }
     ensures returned { (registers : List ℕ) → result ≡ Micro.Completed registers →
         done ≡ Outcome.Returned }
     ensures in_place { IsInPlace store.new locks.new
-        (table_of images.now) p chain.new.levels chain.new.undo }
-    ensures elsewhere { IsElsewhereSame store.old store.new locks.old locks.new p }
+        (table_of images.now) inner.process chain.new.levels chain.new.undo }
+    ensures elsewhere { IsElsewhereSame store.old store.new locks.old locks.new inner.process }
+    ensures memory { HasWrittenBegun inner.process (suc (length chain.old.levels))
+        chain.new.levels store.old.ram store.new.ram }
 {
     match done {
         Outcome::Went => {
-            chain.levels.push(level);
+            chain.levels.push(inner.level);
             Micro::Went
         }
-        Outcome::Called(id) => call(id, level, chain, p, store, locks, images),
-        Outcome::Returned => offer(level, chain, p, store, locks, images),
+        Outcome::Called(id) => call(id, inner, chain, store, locks, images),
+        Outcome::Returned => offer(inner, chain, store, locks, images),
         Outcome::DividedByZero => {
-            drop_innermost(level, chain, p, store, locks, Cause::DivideByZero)
+            drop_innermost(inner, chain, store, locks, Cause::DivideByZero)
         }
-        Outcome::Trapped(code) => {
-            drop_innermost(level, chain, p, store, locks, Cause::Trap(code))
-        }
+        Outcome::Trapped(code) => { drop_innermost(inner, chain, store, locks, Cause::Trap(code)) }
     }
 }
 
 /// One instruction of a level that was taken out of the chain: it is charged and done, or the level
 /// is dropped where no step is left.
 fn run<B: Policy>(
-    level: GraftLevel,
+    inner: Innermost,
     chain: &mut Chain,
-    p: u8,
     store: &mut Store<B>,
     locks: &mut LockTable,
     images: &Images,
 ) -> Micro
-    requires in_place { IsInPlace store.old locks.old (table_of images.now) p
-        (level ∷ chain.old.levels) chain.old.undo }
-    ensures step { came (micro_on (world_of_store store.old) (table_of images.now) p
-        (objects_of store.old) (level_of store.old locks.old chain.old p level
-        ∷ outer_of store.old locks.old chain.old p))
-        ≡ (result, call_of store.new locks.new chain.new p) }
-    ensures answer { HasAnswer result store.new.ram p
-        (level_of store.old locks.old chain.old p level
-        ∷ outer_of store.old locks.old chain.old p) }
+    requires in_place { IsTakenInPlace store.old locks.old (table_of images.now) inner chain.old }
+    ensures step { came (micro_on (world_of_store store.old) (table_of images.now)
+        inner.process (objects_of store.old)
+        (levels_taken store.old locks.old inner chain.old))
+        ≡ (result, call_of store.new locks.new chain.new inner.process) }
+    ensures answer { HasAnswer result store.new.ram inner.process
+        (levels_taken store.old locks.old inner chain.old) }
     ensures in_place { IsInPlace store.new locks.new
-        (table_of images.now) p chain.new.levels chain.new.undo }
-    ensures elsewhere { IsElsewhereSame store.old store.new locks.old locks.new p }
+        (table_of images.now) inner.process chain.new.levels chain.new.undo }
+    ensures elsewhere { IsElsewhereSame store.old store.new locks.old locks.new inner.process }
+    ensures memory { HasWrittenOwn inner.process (with_innermost inner chain.old)
+        chain.new.levels store.old.ram store.new.ram }
 {
-    let mut level = level;
+    let mut inner = inner;
+    let level = &mut inner.level;
     let code = code_of(images, &store.accounts, level.owner, level.point);
-    if !charge_step(&mut level, &mut store.accounts) {
-        return drop_innermost(level, chain, p, store, locks, Cause::SpentSteps);
+    if !charge_step(level, &mut store.accounts) {
+        return drop_innermost(inner, chain, store, locks, Cause::SpentSteps);
     }
     laws::stays_inside();
     store.cache.lru();
     store.ram.byte(0);
     code.code();
-    let done = level.machine.step(&mut store.ram, code);
+    let done = inner.level.machine.step(&mut store.ram, code);
     store.ram.byte(0);
-    after_machine(done, level, chain, p, store, locks, images)
+    after_machine(done, inner, chain, store, locks, images)
 }
 
 impl Chain {
@@ -160,9 +157,11 @@ impl Chain {
         ensures in_place { IsInPlace store.new locks.new
             (table_of images.now) p self.new.levels self.new.undo }
         ensures elsewhere { IsElsewhereSame store.old store.new locks.old locks.new p }
+        ensures memory { HasWrittenOwn p self.old.levels
+            self.new.levels store.old.ram store.new.ram }
     {
         match self.levels.pop() {
-            Some(level) => run(level, self, p, store, locks, images),
+            Some(level) => run(Innermost { process: p, level }, self, store, locks, images),
             None => Micro::Went,
         }
     }

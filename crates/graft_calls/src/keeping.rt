@@ -5,9 +5,8 @@ ghost use Rattle.kernel_model.specs.declared.Kind.TheVariants.{Records};
 ghost use Rattle.kernel_model.specs.Charges.{funds};
 ghost use Rattle.kernel_model.specs.Levels as model;
 ghost use Rattle.kernel_model.specs.Levels.{keeps_in, segment_with};
-ghost use Rattle.graft_accounts.specs.Table.{accounts_of};
+ghost use Rattle.graft_accounts.specs.Table.{IsPoint, accounts_of};
 ghost use Rattle.graft_loader.specs.Slots.{table_of};
-ghost use Rattle.kernel_state.specs.Sound.{segment_number};
 ghost use Rattle.kernel_state.specs.Stores.{world_of_store, objects_of, queue_of};
 ghost use Rattle.segments.specs.Tables.{by_place};
 ghost use Rattle.undo_calls.specs.UndoLevels.{recorded, records_of, segment_logged};
@@ -19,14 +18,13 @@ use crate::code::find_image;
 use graft_accounts::Accounts;
 use graft_loader::{Images, Loaded};
 use graft_points::Policy;
-use kernel_state::Store;
+use kernel_state::{Store, segment_number};
 use segments::Segments;
 use undo_calls::UndoStack;
 
 /// Whether the image of the graft at point pt of process q keeps segments.
 pub(crate) fn keeps(images: &Images, accounts: &Accounts, q: u8, pt: u8) -> bool
-    requires owner { q < 16 }
-    requires point { pt < 16 }
+    requires at { IsPoint q pt }
     ensures { result ≡ keeps_in
         (model.image_of (table_of images.now) ((accounts_of accounts.now).graft q pt)) }
 {
@@ -36,21 +34,10 @@ pub(crate) fn keeps(images: &Images, accounts: &Accounts, q: u8, pt: u8) -> bool
     }
 }
 
-/// The number of the segment that is kept for the graft at point pt of process q.
-fn number_of(q: u8, pt: u8) -> usize
-    requires owner { q < 16 }
-    requires point { pt < 16 }
-    ensures value { result ≡ segment_number q pt }
-    ensures few { result < 256 }
-{
-    16 * usize::from(q) + usize::from(pt)
-}
-
 /// What the segment of the graft at point pt of process q begins as, which has this image: the
 /// bytes that are kept, where the image keeps segments and there are some, and else its data.
 pub(crate) fn first_bytes<'a>(image: &'a Loaded, kept: &'a Segments, q: u8, pt: u8) -> &'a [u8]
-    requires owner { q < 16 }
-    requires point { pt < 16 }
+    requires at { IsPoint q pt }
     requires room { length kept.now ≡ 256 }
     ensures value { (i : ℕ) → slice_index result.now i ≡ segment_with
         (Some image.now) image.now.keep (by_place (kept_bytes kept.now q pt)) i }
@@ -59,7 +46,7 @@ pub(crate) fn first_bytes<'a>(image: &'a Loaded, kept: &'a Segments, q: u8, pt: 
     if !image.keep() {
         return image.body();
     }
-    match kept.get(number_of(q, pt)) {
+    match kept.get(segment_number(q, pt)) {
         Some(bytes) => bytes,
         None => image.body(),
     }
@@ -68,14 +55,13 @@ pub(crate) fn first_bytes<'a>(image: &'a Loaded, kept: &'a Segments, q: u8, pt: 
 /// A record of what is kept for the graft at point pt of process q comes to the innermost level of
 /// a log that has fewer than 64.
 fn record_kept(undo: &mut UndoStack, kept: &Segments, q: u8, pt: u8)
-    requires owner { q < 16 }
-    requires point { pt < 16 }
+    requires at { IsPoint q pt }
     requires segments { length kept.now ≡ 256 }
     requires level { 0 < length undo.old }
     requires room { length (records_of undo.old) ≢ 64 }
     ensures { undo.new ≡ recorded (segment_logged q pt (kept_bytes kept.now q pt)) undo.old }
 {
-    let _ = undo.push_segment(q, pt, kept.get(number_of(q, pt)));
+    let _ = undo.push_segment(q, pt, kept.get(segment_number(q, pt)));
 }
 
 /// The segment of a level, at this base, is kept for its graft: one of records is charged, which
@@ -87,8 +73,7 @@ pub(crate) fn keep<B: Policy>(
     undo: &mut UndoStack,
     store: &mut Store<B>,
 )
-    requires owner { level.now.owner < 16 }
-    requires point { level.now.point < 16 }
+    requires at { IsPoint level.now.owner level.now.point }
     requires inside { base + 4096 ≤ 524288 }
     requires level { 0 < length undo.old }
     requires room { length (records_of undo.old) ≢ 64 }

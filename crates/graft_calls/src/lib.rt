@@ -52,3 +52,11 @@ pub struct Chain {
     /// What its changing accessors found, by level.
     pub undo: UndoStack,
 }
+
+/// The innermost level of a process's graft call, taken out of the chain for an instruction.
+#[derive(Drop)]
+pub(crate) struct Innermost {
+    /// The process whose call it is.
+    pub(crate) process: u8,
+    pub(crate) level: GraftLevel,
+}

@@ -14,7 +14,7 @@ ghost use Rattle.kernel_model.specs.Machine as machines;
 ghost use Rattle.kernel_model.specs.Objects.{Things};
 ghost use Rattle.kernel_model.specs.World.{World};
 ghost use Rattle.undo_calls.specs.UndoLevels.{Logged};
-ghost use Rattle.graft_accounts.specs.Table.{accounts_of};
+ghost use Rattle.graft_accounts.specs.Table.{IsPoint, accounts_of};
 ghost use Rattle.kernel_state.specs.Stores.{world_of_store, objects_of, queue_of};
 ghost use Rattle.graft_machine.specs.Cpu.{machine_of};
 ghost use Rattle.graft_loader.specs.Slots.{table_of};
@@ -107,7 +107,8 @@ fn call_needs(id: u32, level: &GraftLevel) -> Needs
     ensures value { (v : World) (p d : ℕ) (ram : List ℕ) (t : Table) (is : List Logged)
         (w : Things) → v.callable ≡ LAST_CALLABLE →
         let l = level_in p d ram t level.now is w in
-        result ≡ needs_of_call v l id (early_refusal v.callable id (l.machine.regs 0) (l.machine.regs 1) l.owner) }
+        result ≡ needs_of_call v l id
+        (early_refusal v.callable id (l.machine.regs 0) (l.machine.regs 1) l.owner) }
     ensures range { All (λ (n : Needed). IsInRange n.object) result }
 {
     let args = arguments(&level.machine);
@@ -143,8 +144,7 @@ fn ask_needs(id: u32, r0: u32, q: u8) -> Needs
 
 /// Whether a level's count is at the limit of its graft, or its payer has no step left.
 fn is_spent(level: &GraftLevel, accounts: &Accounts) -> bool
-    requires owner { level.now.owner < 16 }
-    requires point { level.now.point < 16 }
+    requires at { IsPoint level.now.owner level.now.point }
     ensures { result ≡ (level.now.count == model.limit_in
         ((accounts_of accounts.now).graft level.now.owner level.now.point)
         || funds (accounts_of accounts.now) level.now.owner level.now.point Steps == 0) }
@@ -155,8 +155,7 @@ fn is_spent(level: &GraftLevel, accounts: &Accounts) -> bool
 
 /// The id that the next instruction of a level calls, if it is a call.
 fn next_call(level: &GraftLevel, accounts: &Accounts, images: &Images) -> Option<u32>
-    requires owner { level.now.owner < 16 }
-    requires point { level.now.point < 16 }
+    requires at { IsPoint level.now.owner level.now.point }
     ensures { (ram : List ℕ) → result ≡ machines.next_call
         (model.code_of (table_of images.now)
         (accounts_of accounts.now) level.now.owner level.now.point)
@@ -170,8 +169,7 @@ fn next_call(level: &GraftLevel, accounts: &Accounts, images: &Images) -> Option
 
 /// What the next instruction of a level needs.
 fn level_needs(level: &GraftLevel, accounts: &Accounts, images: &Images) -> Needs
-    requires owner { level.now.owner < 16 }
-    requires point { level.now.point < 16 }
+    requires at { IsPoint level.now.owner level.now.point }
     ensures value { (v : World) (p d : ℕ) (ram : List ℕ) (t : Table) (is : List Logged)
         (w : Things) (ls : List Level) → v.callable ≡ LAST_CALLABLE →
         result ≡ next_needs v (table_of images.now) (accounts_of accounts.now)

@@ -13,11 +13,11 @@ ghost use Rattle.kernel_model.specs.Sound.{ImagesAreLoaded};
 ghost use Rattle.kernel_model.specs.World.{ImageTable};
 ghost use Rattle.kernel_state.specs.Stores.{world_of_store, objects_of};
 ghost use Rattle.lock_table.specs.Masks.{held};
-ghost use Rattle.undo_calls.specs.UndoLevels.{Logged, innermost, merged};
+ghost use Rattle.undo_calls.specs.UndoLevels.{Logged, merged};
 ghost use Rattle.graft_machine.specs.Cpu.{machine_of};
 ghost use Rattle.graft_loader.specs.Slots.{table_of};
-ghost use Rattle.graft_calls.specs.Chains.{put_back, came, call_of, HasAnswer, level_of, outer_of, level_in, levels_in, outer};
-ghost use Rattle.graft_calls.specs.Calls.{AreSound, AreInside, IsPlaced, IsElsewhereSame};
+ghost use Rattle.graft_calls.specs.Chains.{came, call_of, HasAnswer, level_on, outer_on, levels_in, level_taken, outer_taken, levels_taken};
+ghost use Rattle.graft_calls.specs.Calls.{AreSound, AreInside, IsTaken, StaysPlaced, with_innermost};
 
 use crate::answers::answer;
 use crate::charges::is_record_spent;
@@ -25,7 +25,7 @@ use crate::drops::drop_innermost;
 use crate::filling::base_of;
 use crate::keeping::{keep, keeps};
 use crate::points::is_valid;
-use crate::{Chain, GraftLevel, Levels};
+use crate::{Chain, GraftLevel, Innermost, Levels};
 use graft_loader::Images;
 use graft_machine::Machine;
 use graft_points::Policy;
@@ -50,13 +50,13 @@ fn join(level: GraftLevel, asker: GraftLevel, levels: &mut Levels, p: u8, locks:
     requires few { length levels.old < 3 }
     requires process { p < 16 }
     ensures levels { (q : ℕ) (ram : List ℕ) (t : Table) (log : List (List Logged)) (w : Things) →
-        let k = level_in q (length levels.old) ram t asker (innermost log) (put_back (innermost log) w) in
+        let k = level_on q ram t asker levels.old log w in
         levels_in q ram t levels.new log w
         ≡ record k {
           machine = answered (kind_of level.point) (slice_index level.machine.regs 0)
               (slice_index level.machine.regs 1) k.machine;
         }
-        ∷ levels_in q ram t levels.old (outer log) (put_back (innermost log) w) }
+        ∷ outer_on q ram t levels.old log w }
     ensures locks { held locks.new ≡ merge_level p (suc (length levels.old)) (held locks.old) }
     ensures count { length levels.new ≡ suc (length levels.old) }
     ensures sound { (queue : List Waiting) → AreSound queue (asker ∷ levels.old) →
@@ -78,20 +78,20 @@ fn join(level: GraftLevel, asker: GraftLevel, levels: &mut Levels, p: u8, locks:
 /// A level that was taken out of a chain ends with its answer. Level 0 ends the call: what it held
 /// is let go, and its records are forgotten. Another one gives its answer, what it held and its
 /// records to the level that asked.
-fn complete(level: GraftLevel, chain: &mut Chain, p: u8, locks: &mut LockTable) -> Micro
+fn complete(inner: Innermost, chain: &mut Chain, locks: &mut LockTable) -> Micro
     requires few { length chain.old.levels < 4 }
     requires as_many { length chain.old.undo ≡ suc (length chain.old.levels) }
-    requires process { p < 16 }
+    requires process { inner.process < 16 }
     ensures step { (w : State) (ram : List ℕ) →
-        let kept = put_back (innermost chain.old.undo) w.things in
-        came (completed w (level_in p (length chain.old.levels) ram (held locks.old) level
-        (innermost chain.old.undo) kept)
-        (levels_in p ram (held locks.old) chain.old.levels (outer chain.old.undo) kept))
+        let t = held locks.old in
+        came (completed w
+        (level_on inner.process ram t inner.level chain.old.levels chain.old.undo w.things)
+        (outer_on inner.process ram t chain.old.levels chain.old.undo w.things))
         ≡ (
           result,
           record {
             now = w;
-            levels = levels_in p ram
+            levels = levels_in inner.process ram
                 (held locks.new) chain.new.levels chain.new.undo w.things;
           },
         ) }
@@ -100,9 +100,10 @@ fn complete(level: GraftLevel, chain: &mut Chain, p: u8, locks: &mut LockTable) 
     ensures log { chain.new.undo ≡ merged chain.old.undo }
     ensures count { length chain.new.levels ≡ length chain.old.levels }
     ensures unheld { (d : ℕ) (o : Objects) → length chain.old.levels ≤ d →
-        ((e : ℕ) (a : Objects) → suc (length chain.old.levels) ≤ e → held locks.old p e a ≡ Free) →
-        held locks.new p d o ≡ Free }
-    ensures others { (q d : ℕ) → q ≢ p → held locks.new q d ≡ held locks.old q d }
+        ((e : ℕ) (a : Objects) → suc (length chain.old.levels) ≤ e →
+        held locks.old inner.process e a ≡ Free) →
+        held locks.new inner.process d o ≡ Free }
+    ensures others { (q d : ℕ) → q ≢ inner.process → held locks.new q d ≡ held locks.old q d }
     ensures sound { (queue : List Waiting) → AreSound queue chain.old.levels →
         AreSound queue chain.new.levels }
     ensures inside { (images : ImageTable) (a : Funds) (q : ℕ) →
@@ -111,11 +112,11 @@ fn complete(level: GraftLevel, chain: &mut Chain, p: u8, locks: &mut LockTable) 
     chain.undo.commit_level();
     match chain.levels.pop() {
         None => {
-            locks.release_from(p, 0);
-            Micro::Completed(registers(&level.machine))
+            locks.release_from(inner.process, 0);
+            Micro::Completed(registers(&inner.level.machine))
         }
         Some(asker) => {
-            join(level, asker, &mut chain.levels, p, locks);
+            join(inner.level, asker, &mut chain.levels, inner.process, locks);
             Micro::Went
         }
     }
@@ -125,76 +126,62 @@ fn complete(level: GraftLevel, chain: &mut Chain, p: u8, locks: &mut LockTable) 
 /// image keeps segments its segment is kept, or it is dropped where no record of that can be made.
 /// The memory stays as it was.
 fn accept<B: Policy>(
-    level: GraftLevel,
+    inner: Innermost,
     chain: &mut Chain,
-    p: u8,
     store: &mut Store<B>,
     locks: &mut LockTable,
     images: &Images,
 ) -> Micro
-    requires placed { IsPlaced store.old locks.old p (level ∷ chain.old.levels) chain.old.undo }
+    requires placed { IsTaken store.old locks.old inner chain.old }
     ensures step { let w = objects_of store.old in
-        let l = level_of store.old locks.old chain.old p level in
+        let l = level_taken store.old locks.old inner chain.old in
         came (after_answer (world_of_store store.old) w l
-        (outer_of store.old locks.old chain.old p)
+        (outer_taken store.old locks.old inner chain.old)
         (keeps_in (image_of (table_of images.now) (w.accounts.graft l.owner l.point))))
-        ≡ (result, call_of store.new locks.new chain.new p) }
-    ensures answer { HasAnswer result store.new.ram p
-        (level_of store.old locks.old chain.old p level
-        ∷ outer_of store.old locks.old chain.old p) }
-    ensures placed { IsPlaced store.new locks.new p chain.new.levels chain.new.undo }
-    ensures inside { (table : ImageTable) →
-        AreInside table (objects_of store.old).accounts p (level ∷ chain.old.levels) →
-        AreInside table (objects_of store.new).accounts p chain.new.levels }
-    ensures loaded { (table : ImageTable) →
-        ImagesAreLoaded table (objects_of store.old).accounts →
-        ImagesAreLoaded table (objects_of store.new).accounts }
-    ensures elsewhere { IsElsewhereSame store.old store.new locks.old locks.new p }
+        ≡ (result, call_of store.new locks.new chain.new inner.process) }
+    ensures answer { HasAnswer result store.new.ram inner.process
+        (levels_taken store.old locks.old inner chain.old) }
+    ensures kept { StaysPlaced store.old store.new locks.old locks.new inner.process
+        (with_innermost inner chain.old) chain.new }
 {
-    if !keeps(images, &store.accounts, level.owner, level.point) {
-        return complete(level, chain, p, locks);
+    let (q, pt) = (inner.level.owner, inner.level.point);
+    if !keeps(images, &store.accounts, q, pt) {
+        return complete(inner, chain, locks);
     }
-    if is_record_spent(&chain.undo, &store.accounts, level.owner, level.point) {
-        return drop_innermost(level, chain, p, store, locks, Cause::SpentRecords);
+    if is_record_spent(&chain.undo, &store.accounts, q, pt) {
+        return drop_innermost(inner, chain, store, locks, Cause::SpentRecords);
     }
-    let base = base_of(p, chain.levels.count());
-    keep(&level, base, &mut chain.undo, store);
-    complete(level, chain, p, locks)
+    let base = base_of(inner.process, chain.levels.count());
+    keep(&inner.level, base, &mut chain.undo, store);
+    complete(inner, chain, locks)
 }
 
 /// A level that was taken out of a chain offers the answer in r0 to r3. It is dropped where its
 /// point doesn't accept that. Where level 0 answers, the memory stays as it was.
 pub(crate) fn offer<B: Policy>(
-    level: GraftLevel,
+    inner: Innermost,
     chain: &mut Chain,
-    p: u8,
     store: &mut Store<B>,
     locks: &mut LockTable,
     images: &Images,
 ) -> Micro
-    requires placed { IsPlaced store.old locks.old p (level ∷ chain.old.levels) chain.old.undo }
-    ensures step { let l = level_of store.old locks.old chain.old p level in
-        let ls = outer_of store.old locks.old chain.old p in
+    requires placed { IsTaken store.old locks.old inner chain.old }
+    ensures step { let l = level_taken store.old locks.old inner chain.old in
+        let ls = outer_taken store.old locks.old inner chain.old in
         came (after_return (world_of_store store.old) (table_of images.now)
         (objects_of store.old) l ls
         (valid (objects_of store.old).things l.owner l.point l.args (l.machine.regs 0)
         (l.machine.regs 1)))
-        ≡ (result, call_of store.new locks.new chain.new p) }
-    ensures answer { HasAnswer result store.new.ram p
-        (level_of store.old locks.old chain.old p level
-        ∷ outer_of store.old locks.old chain.old p) }
-    ensures placed { IsPlaced store.new locks.new p chain.new.levels chain.new.undo }
-    ensures inside { (table : ImageTable) →
-        AreInside table (objects_of store.old).accounts p (level ∷ chain.old.levels) →
-        AreInside table (objects_of store.new).accounts p chain.new.levels }
-    ensures loaded { (table : ImageTable) →
-        ImagesAreLoaded table (objects_of store.old).accounts →
-        ImagesAreLoaded table (objects_of store.new).accounts }
-    ensures elsewhere { IsElsewhereSame store.old store.new locks.old locks.new p }
+        ≡ (result, call_of store.new locks.new chain.new inner.process) }
+    ensures answer { HasAnswer result store.new.ram inner.process
+        (levels_taken store.old locks.old inner chain.old) }
+    ensures kept { StaysPlaced store.old store.new locks.old locks.new inner.process
+        (with_innermost inner chain.old) chain.new }
 {
-    if !is_valid(store, &level) {
-        let cause = Cause::RefusedAnswer(level.machine.reg(0), level.machine.reg(1));
-        return drop_innermost(level, chain, p, store, locks, cause);
+    if !is_valid(store, &inner.level) {
+        let machine = &inner.level.machine;
+        let cause = Cause::RefusedAnswer(machine.reg(0), machine.reg(1));
+        return drop_innermost(inner, chain, store, locks, cause);
     }
-    accept(level, chain, p, store, locks, images)
+    accept(inner, chain, store, locks, images)
 }

@@ -1,6 +1,6 @@
 //! `LockTable`.
 
-ghost use Rattle.std.specs.Prelude.{◌≡◌, ℕ, ◌<◌, ◌≤◌, length, find, is_some, IfOk};
+ghost use Rattle.std.specs.Prelude.{◌≡◌, ℕ, ◌<◌, ◌≤◌, length, find, is_some, IfOk, IsTrue};
 ghost use Rattle.kernel_model.specs.World.{processes};
 ghost use Rattle.kernel_model.specs.Laws.{IsInRange};
 ghost use Rattle.kernel_model.specs.Locks.{is_held, no_locks, lowest_holder, outermost_holding, with_touch, merge_level as level_merged, release_from as released_inward};
@@ -101,6 +101,13 @@ impl LockTable {
             Ok(calls) => Ok(LockTable { calls, end: 0 }),
             Err(_) => Err(NoMemory),
         }
+    }
+
+    /// Whether nothing is held, as far as one look tells: true only where that is so.
+    pub fn is_free(&self) -> bool
+        ensures { IsTrue result → held self.now ≡ no_locks }
+    {
+        self.end == 0
     }
 
     /// The lowest other process whose hold on an object conflicts with a mode. Looks at one pair of

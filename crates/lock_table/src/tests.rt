@@ -230,7 +230,9 @@ fn holds_go_outward_and_end(rt: HostRuntime) {
     let mut table = LockTable::new(rt.alloc()).expect(&rt, "memory");
     let (queue, cell) = (Object::Queue, Object::Cell(3, 1));
     assert_eq!(rt; table.ask(2, queue, Mode::Exclusive), None);
+    assert!(rt; table.is_free());
     table.touch(3, 1, queue, Mode::Exclusive);
+    assert!(rt; !table.is_free());
     table.touch(3, 1, queue, Mode::Shared);
     table.touch(3, 0, queue, Mode::Shared);
     table.touch(9, 2, cell, Mode::Shared);
@@ -245,7 +247,9 @@ fn holds_go_outward_and_end(rt: HostRuntime) {
     table.release_from(9, 3);
     assert_eq!(rt; table.level_of(9, cell, Mode::Exclusive), Some(2));
     table.release_from(9, 1);
+    assert!(rt; !table.is_free());
     table.release_from(3, 0);
+    assert!(rt; table.is_free());
     assert_eq!(rt; table.ask(2, queue, Mode::Exclusive), None);
     assert_eq!(rt; table.ask(2, cell, Mode::Exclusive), None);
 }

@@ -19,7 +19,7 @@ returns-then-count-d-clause-step g t c =
 
 pub returns-then-count-d-clause-inside : goal.returns-then-count-d-clause-inside
 returns-then-count-d-clause-inside g t c = λ images h.
-    c.drop_innermost.ensures.inside images (subst (λ hs. AreInside images (accounts_of c.args.store.now.accounts) c.args.p hs) c.in-Some.ensures.level h)
+    c.drop_innermost.ensures.kept.inside images (subst (λ hs. AreInside images (accounts_of c.args.store.now.accounts) c.args.p hs) c.in-Some.ensures.level h)
 
 pub returns-clause-step : goal.returns-clause-step
 returns-clause-step g t c =

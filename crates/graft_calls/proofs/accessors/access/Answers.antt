@@ -11,36 +11,36 @@ returns-in-Err-clause-step g c =
     let s = c.args.store.now in
     let v = world_of_store s in
     let w = objects_of s in
-    let l = level_of s c.args.locks.now c.args.chain.now c.args.p c.args.level in
-    let ls = outer_of s c.args.locks.now c.args.chain.now c.args.p in
-    let q = c.args.level.owner in
-    let a = access c.args.id (l.machine.regs 0) (l.machine.regs 1) (l.machine.regs 2) q w.things in
+    let l = level_of s c.args.locks.now c.args.chain.now c.args.inner.process c.args.inner.level in
+    let ls = outer_of s c.args.locks.now c.args.chain.now c.args.inner.process in
+    let q = c.args.inner.level.owner in
+    let a = access c.args.call.id (l.machine.regs 0) (l.machine.regs 1) (l.machine.regs 2) q w.things in
     let told : answer_of a ≡ c.answer.result =
-    ap (λ (xs : List ℕ). answer_of (access c.args.id (slice_index xs 0) (slice_index xs 1) (slice_index xs 2) q w.things)) (sym c.arguments.ensures) ∙ sym c.answer.ensures.answer in
-    ap came (is_refused v w l ls l.machine c.args.id a c.in-Err.cause (told ∙ c.in-Err.is)) ∙ c.drop_innermost.ensures.step
+    ap (λ (xs : List ℕ). answer_of (access c.args.call.id (slice_index xs 0) (slice_index xs 1) (slice_index xs 2) q w.things)) (sym c.arguments.ensures) ∙ sym c.answer.ensures.answer in
+    ap came (is_refused v w l ls l.machine c.args.call.id a c.in-Err.cause (told ∙ c.in-Err.is)) ∙ c.drop_innermost.ensures.step
 
 pub returns-in-Some-clause-step : goal.returns-in-Some-clause-step
 returns-in-Some-clause-step g c =
     let s = c.args.store.now in
     let v = world_of_store s in
     let w = objects_of s in
-    let l = level_of s c.args.locks.now c.args.chain.now c.args.p c.args.level in
-    let ls = outer_of s c.args.locks.now c.args.chain.now c.args.p in
-    let q = c.args.level.owner in
-    let a = access c.args.id (l.machine.regs 0) (l.machine.regs 1) (l.machine.regs 2) q w.things in
+    let l = level_of s c.args.locks.now c.args.chain.now c.args.inner.process c.args.inner.level in
+    let ls = outer_of s c.args.locks.now c.args.chain.now c.args.inner.process in
+    let q = c.args.inner.level.owner in
+    let a = access c.args.call.id (l.machine.regs 0) (l.machine.regs 1) (l.machine.regs 2) q w.things in
     let told : answer_of a ≡ c.answer.result =
-    ap (λ (xs : List ℕ). answer_of (access c.args.id (slice_index xs 0) (slice_index xs 1) (slice_index xs 2) q w.things)) (sym c.arguments.ensures) ∙ sym c.answer.ensures.answer in
-    ap came (is_changing v w l ls l.machine c.args.id a c.in-Ok.answer c.in-Some.inverse (told ∙ c.in-Ok.is) c.in-Some.is) ∙ c.change.ensures.step
+    ap (λ (xs : List ℕ). answer_of (access c.args.call.id (slice_index xs 0) (slice_index xs 1) (slice_index xs 2) q w.things)) (sym c.arguments.ensures) ∙ sym c.answer.ensures.answer in
+    ap came (is_changing v w l ls l.machine c.args.call.id a c.in-Ok.answer c.in-Some.inverse (told ∙ c.in-Ok.is) c.in-Some.is) ∙ c.change.ensures.step
 
 pub returns-in-None-clause-step : goal.returns-in-None-clause-step
 returns-in-None-clause-step g c =
     let s = c.args.store.now in
     let v = world_of_store s in
     let w = objects_of s in
-    let l = level_of s c.args.locks.now c.args.chain.now c.args.p c.args.level in
-    let ls = outer_of s c.args.locks.now c.args.chain.now c.args.p in
-    let q = c.args.level.owner in
-    let a = access c.args.id (l.machine.regs 0) (l.machine.regs 1) (l.machine.regs 2) q w.things in
+    let l = level_of s c.args.locks.now c.args.chain.now c.args.inner.process c.args.inner.level in
+    let ls = outer_of s c.args.locks.now c.args.chain.now c.args.inner.process in
+    let q = c.args.inner.level.owner in
+    let a = access c.args.call.id (l.machine.regs 0) (l.machine.regs 1) (l.machine.regs 2) q w.things in
     let told : answer_of a ≡ c.answer.result =
-    ap (λ (xs : List ℕ). answer_of (access c.args.id (slice_index xs 0) (slice_index xs 1) (slice_index xs 2) q w.things)) (sym c.arguments.ensures) ∙ sym c.answer.ensures.answer in
-    ap came (is_given v w l ls l.machine c.args.id a c.in-Ok.answer (told ∙ c.in-Ok.is) c.in-None.is) ∙ c.give.ensures.step
+    ap (λ (xs : List ℕ). answer_of (access c.args.call.id (slice_index xs 0) (slice_index xs 1) (slice_index xs 2) q w.things)) (sym c.arguments.ensures) ∙ sym c.answer.ensures.answer in
+    ap came (is_given v w l ls l.machine c.args.call.id a c.in-Ok.answer (told ∙ c.in-Ok.is) c.in-None.is) ∙ c.give.ensures.step

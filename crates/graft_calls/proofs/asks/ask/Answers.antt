@@ -1,4 +1,4 @@
-use Rattle.std.proofs.Common.{◌≡◌, ◌∷◌, List, ap, sym, subst, arith, ◌∙◌}
+use Rattle.std.proofs.Common.{◌≡◌, ◌∷◌, List, length, ap, sym, subst, arith, ◌∙◌}
 use Rattle.std.proofs.lemmas.Bool.Decides.{nat_tests}
 use Rattle.kernel_model.specs.Access.{asked_point, asked_objects, asked_graft}
 use Rattle.kernel_model.specs.GraftStep.{ask_refusal, ask_answered, after_ask}
@@ -11,32 +11,33 @@ use Rattle.kernel_state.specs.Stores.{world_of_store, objects_of}
 use Rattle.graft_loader.specs.Slots.{table_of}
 use Rattle.graft_calls.specs.declared.GraftLevel.{GraftLevel}
 use Rattle.graft_calls.specs.Chains.{came, level_of, outer_of}
-use Rattle.graft_calls.specs.Calls.{AreInside, needs_touched}
+use Rattle.graft_calls.specs.Calls.{AreInside, HasWrittenBegun, needs_touched}
 use Rattle.graft_calls.proofs.Asking.{asked_levels, asked_apart, asked_on}
 use Rattle.graft_calls.proofs.Placing.{locks_placed, before_elsewhere}
+use Rattle.graft_calls.proofs.Writing.{still_begun}
 use Rattle.graft_calls.proofs.asks.ask.Goals as goal
 
 pub returns-in-Some-clause-in_place : goal.returns-in-Some-clause-in_place
 returns-in-Some-clause-in_place g c =
     let h = c.requires.in_place in
     record {
-      placed = c.drop_innermost.ensures.placed;
-      inside = c.drop_innermost.ensures.inside (table_of c.args.images.now) h.inside;
-      loaded = c.drop_innermost.ensures.loaded (table_of c.args.images.now) h.loaded;
+      placed = c.drop_innermost.ensures.kept.placed;
+      inside = c.drop_innermost.ensures.kept.inside (table_of c.args.images.now) h.inside;
+      loaded = c.drop_innermost.ensures.kept.loaded (table_of c.args.images.now) h.loaded;
     }
 
 pub answer_ask-requires-clause-in_place : goal.answer_ask-requires-clause-in_place
 answer_ask-requires-clause-in_place g c =
     let h = c.requires.in_place in
-    let gs = c.args.level ∷ c.args.chain.now.levels in
+    let gs = c.args.inner.level ∷ c.args.chain.now.levels in
     let count = c.count.ensures.value in
     record {
-      placed = locks_placed c.args.store.now c.args.locks.now c.touch_asked.new.locks c.args.p gs c.push.new.self c.args.chain.now.undo h.placed c.push.ensures
+      placed = locks_placed c.args.store.now c.args.locks.now c.touch_asked.new.locks c.args.inner.process gs c.push.new.self c.args.chain.now.undo h.placed c.push.ensures
           (λ d o le. ap (λ (x : Touched). x o)
-          (asked_apart c.args.id c.reg-r0.result c.args.level.owner c.args.p c.count.result c.args.p d (held c.args.locks.now) (held c.touch_asked.new.locks) c.touch_asked.ensures
+          (asked_apart c.args.id c.reg-r0.result c.args.inner.level.owner c.args.inner.process c.count.result c.args.inner.process d (held c.args.locks.now) (held c.touch_asked.new.locks) c.touch_asked.ensures
           (grind (arith, nat_tests, le)) (grind (arith, nat_tests, le, count)))
           ∙ h.placed.unheld d o le);
-      inside = subst (λ (x : List GraftLevel). AreInside (table_of c.args.images.now) (accounts_of c.args.store.now.accounts) c.args.p x) (sym c.push.ensures) h.inside;
+      inside = subst (λ (x : List GraftLevel). AreInside (table_of c.args.images.now) (accounts_of c.args.store.now.accounts) c.args.inner.process x) (sym c.push.ensures) h.inside;
       loaded = h.loaded;
     }
 
@@ -47,10 +48,10 @@ returns-clause-step g c =
     let w = objects_of s in
     let images = table_of c.args.images.now in
     let t = held c.args.locks.now in
-    let p = c.args.p in
+    let p = c.args.inner.process in
     let id = c.args.id in
-    let q = c.args.level.owner in
-    let l = level_of s c.args.locks.now c.args.chain.now p c.args.level in
+    let q = c.args.inner.level.owner in
+    let l = level_of s c.args.locks.now c.args.chain.now p c.args.inner.level in
     let ls = outer_of s c.args.locks.now c.args.chain.now p in
     let pt = c.asked_point-pt.result in
     let point : pt ≡ asked_point id (l.machine.regs 0) = c.asked_point-pt.ensures.value ∙ ap (asked_point id) c.reg-r0.ensures in
@@ -58,12 +59,18 @@ returns-clause-step g c =
     ap (λ x. came (after_ask v images w p l ls l.machine id x (ask_refusal w q x id (l ∷ ls)))) (sym point)
     ∙ asked_on v images w p l ls id pt (ask_refusal w q pt id (l ∷ ls)) (sym (c.ask_refusal.ensures.value p s.ram t c.args.chain.now.undo w.things) ∙ c.in_default.is)
     ∙ ap (λ (x : List Level). came (ask_answered v images w p q pt x (w.accounts.graft q pt)))
-    (sym (asked_levels id (l.machine.regs 0) p c.count.result s.ram t (held c.touch_asked.new.locks) c.args.level c.args.chain.now.levels c.push.new.self c.args.chain.now.undo w.things c.push.ensures
+    (sym (asked_levels id (l.machine.regs 0) p c.count.result s.ram t (held c.touch_asked.new.locks) c.args.inner.level c.args.chain.now.levels c.push.new.self c.args.chain.now.undo w.things c.push.ensures
     c.count.ensures.value held_is))
     ∙ c.answer_ask.ensures.step
 
 pub returns-clause-elsewhere : goal.returns-clause-elsewhere
 returns-clause-elsewhere g c =
-    before_elsewhere c.args.store.now c.answer_ask.new.store c.args.locks.now c.touch_asked.new.locks c.args.p c.answer_ask.ensures.elsewhere
-    (λ q d apart. asked_apart c.args.id c.reg-r0.result c.args.level.owner c.args.p c.count.result q d (held c.args.locks.now) (held c.touch_asked.new.locks) c.touch_asked.ensures
+    before_elsewhere c.args.store.now c.answer_ask.new.store c.args.locks.now c.touch_asked.new.locks c.args.inner.process c.answer_ask.ensures.elsewhere
+    (λ q d apart. asked_apart c.args.id c.reg-r0.result c.args.inner.level.owner c.args.inner.process c.count.result q d (held c.args.locks.now) (held c.touch_asked.new.locks) c.touch_asked.ensures
     (grind (arith, nat_tests, apart)) (grind (arith, nat_tests, apart)))
+
+pub returns-in-Some-clause-memory : goal.returns-in-Some-clause-memory
+returns-in-Some-clause-memory g c = still_begun c.args.inner.process _ c.drop_innermost.new.chain.levels c.args.store.now.ram c.drop_innermost.new.store.ram c.drop_innermost.ensures.kept.memory
+
+pub returns-clause-memory : goal.returns-clause-memory
+returns-clause-memory g c = subst (λ (x : List GraftLevel). HasWrittenBegun c.args.inner.process (length x) c.answer_ask.new.chain.levels c.args.store.now.ram c.answer_ask.new.store.ram) c.push.ensures c.answer_ask.ensures.memory

@@ -27,6 +27,7 @@ use Rattle.graft_calls.proofs.Memory.{same_segment}
 use Rattle.graft_calls.proofs.Placing.{elsewhere_twice}
 use Rattle.graft_calls.proofs.Stepping.{after_done, machine_inside, spent_step, paid_step, done_alone, beyond_outside, frames_outside, count_rises, stepped_sound, stepped_inside}
 use Rattle.graft_calls.proofs.Views.{levels_alike}
+use Rattle.graft_calls.proofs.Writing.{still_own}
 use Rattle.graft_calls.proofs.instruction.run.Goals as goal
 
 pub code_of-code-requires-clause-some : goal.code_of-code-requires-clause-some
@@ -38,12 +39,12 @@ returns-then-not-charge_step-clause-step g c =
     let v = world_of_store s in
     let w = objects_of s in
     let images = table_of c.args.images.now in
-    let l = level_of s c.args.locks.now c.args.chain.now c.args.p c.args.level in
-    let ls = outer_of s c.args.locks.now c.args.chain.now c.args.p in
+    let l = level_of s c.args.locks.now c.args.chain.now c.args.inner.process c.args.inner.level in
+    let ls = outer_of s c.args.locks.now c.args.chain.now c.args.inner.process in
     let a = accounts_of c.charge_step.new.accounts in
-    ap came (spent_step v images c.args.p w l ls (is_spent w.accounts l) refl c.if-not-charge_step.ensures.answer)
+    ap came (spent_step v images c.args.inner.process w l ls (is_spent w.accounts l) refl c.if-not-charge_step.ensures.answer)
     ∙ ap (λ (x : Accounts). came (drop_innermost v (with_accounts x w) l ls SpentSteps)) (sym c.if-not-charge_step.ensures.accounts)
-    ∙ ap (λ (x : GraftLevel). came (drop_innermost v (with_accounts a w) (level_of s c.args.locks.now c.args.chain.now c.args.p x) ls SpentSteps)) (sym c.if-not-charge_step.ensures.level)
+    ∙ ap (λ (x : GraftLevel). came (drop_innermost v (with_accounts a w) (level_of s c.args.locks.now c.args.chain.now c.args.inner.process x) ls SpentSteps)) (sym c.if-not-charge_step.ensures.level)
     ∙ c.drop_innermost.ensures.step
 
 pub returns-then-not-charge_step-clause-in_place : goal.returns-then-not-charge_step-clause-in_place
@@ -51,18 +52,18 @@ returns-then-not-charge_step-clause-in_place g c =
     let h = c.requires.in_place in
     let images = table_of c.args.images.now in
     record {
-      placed = c.drop_innermost.ensures.placed;
-      inside = c.drop_innermost.ensures.inside images
-          (subst (λ (x : GraftLevel). AreInside images (accounts_of c.charge_step.new.accounts) c.args.p (x ∷ c.args.chain.now.levels)) (sym c.if-not-charge_step.ensures.level)
-          (subst (λ (x : Accounts). AreInside images x c.args.p (c.args.level ∷ c.args.chain.now.levels)) (sym c.if-not-charge_step.ensures.accounts) h.inside));
-      loaded = c.drop_innermost.ensures.loaded images (subst (ImagesAreLoaded images) (sym c.if-not-charge_step.ensures.accounts) h.loaded);
+      placed = c.drop_innermost.ensures.kept.placed;
+      inside = c.drop_innermost.ensures.kept.inside images
+          (subst (λ (x : GraftLevel). AreInside images (accounts_of c.charge_step.new.accounts) c.args.inner.process (x ∷ c.args.chain.now.levels)) (sym c.if-not-charge_step.ensures.level)
+          (subst (λ (x : Accounts). AreInside images x c.args.inner.process (c.args.inner.level ∷ c.args.chain.now.levels)) (sym c.if-not-charge_step.ensures.accounts) h.inside));
+      loaded = c.drop_innermost.ensures.kept.loaded images (subst (ImagesAreLoaded images) (sym c.if-not-charge_step.ensures.accounts) h.loaded);
     }
 
 pub step-done-requires : goal.step-done-requires
 step-done-requires g c =
     let h = c.requires.in_place.inside.0.inside c.args.store.now.ram in
     subst (λ (x : GraftLevel). x.machine.pc < length c.code_of-code.result.now) (sym c.if-not-charge_step.ensures.level)
-    (subst (λ (x : List Instr). c.args.level.machine.pc < length x) (sym c.code_of-code.ensures) h.place)
+    (subst (λ (x : List Instr). c.args.inner.level.machine.pc < length x) (sym c.code_of-code.ensures) h.place)
 
 pub invariant_of-store-2-clause-fits : goal.invariant_of-store-2-clause-fits
 invariant_of-store-2-clause-fits g c = memory_fits c.args.store.now c.step-done.new.ram
@@ -70,7 +71,7 @@ invariant_of-store-2-clause-fits g c = memory_fits c.args.store.now c.step-done.
 pub after_machine-requires : goal.after_machine-requires
 after_machine-requires g c =
     let s = c.args.store.now in
-    let p = c.args.p in
+    let p = c.args.inner.process in
     let gs = c.args.chain.now.levels in
     let n = length gs in
     let images = table_of c.args.images.now in
@@ -80,7 +81,7 @@ after_machine-requires g c =
     let mem = c.step-done.new.ram in
     let inside : (ram : List ℕ) → IsInside code (4 * p + n) (machine_of now.machine ram) = λ ram.
     subst (λ (x : GraftLevel). IsInside code (4 * p + n) (machine_of x.machine ram)) (sym c.if-not-charge_step.ensures.level)
-    (subst (λ (x : List Instr). IsInside x (4 * p + n) (machine_of c.args.level.machine ram)) (sym c.code_of-code.ensures) (c.requires.in_place.inside.0.inside ram)) in
+    (subst (λ (x : List Instr). IsInside x (4 * p + n) (machine_of c.args.inner.level.machine ram)) (sym c.code_of-code.ensures) (c.requires.in_place.inside.0.inside ram)) in
     let same : objects_over (record s { accounts = c.charge_step.new.accounts }) mem ≡ objects_of (record s { accounts = c.charge_step.new.accounts }) =
     same_objects (record s { accounts = c.charge_step.new.accounts }) mem c.lru.ensures.sound c.byte.ensures.size c.byte-2.ensures.size
     (λ a lt. c.step-done.ensures.contained (4 * p + n) a (inside s.ram) (frames_outside (4 * p + n) a lt)) in
@@ -93,22 +94,22 @@ after_machine-requires g c =
           few = h.placed.few;
           as_many = h.placed.as_many;
           unheld = h.placed.unheld;
-          levels = stepped_sound (queue_of s) c.args.level now cpu gs c.if-not-charge_step.ensures.level h.placed.levels;
+          levels = stepped_sound (queue_of s) c.args.inner.level now cpu gs c.if-not-charge_step.ensures.level h.placed.levels;
           undoable = subst (λ (x : Objects). AllUndoable c.args.chain.now.undo x.things) (sym same) h.placed.undoable;
         };
-        inside = stepped_inside images w.accounts (accounts_of c.charge_step.new.accounts) p c.args.level now cpu gs c.if-not-charge_step.ensures.level c.if-not-charge_step.ensures.accounts
-            (count_rises c.args.level.count (limit_in (w.accounts.graft c.args.level.owner c.args.level.point)) (funds w.accounts c.args.level.owner c.args.level.point Steps == 0) c.if-not-charge_step.ensures.answer h.inside.0.count)
+        inside = stepped_inside images w.accounts (accounts_of c.charge_step.new.accounts) p c.args.inner.level now cpu gs c.if-not-charge_step.ensures.level c.if-not-charge_step.ensures.accounts
+            (count_rises c.args.inner.level.count (limit_in (w.accounts.graft c.args.inner.level.owner c.args.inner.level.point)) (funds w.accounts c.args.inner.level.owner c.args.inner.level.point Steps == 0) c.if-not-charge_step.ensures.answer h.inside.0.count)
             (λ ram. subst (λ (x : List Instr). IsInside x (4 * p + n) (machine_of cpu ram)) c.code_of-code.ensures
             (machine_inside code (4 * p + n) c.step-done.result now.machine cpu mem inside (c.step-done.ensures.inside (4 * p + n) (inside s.ram)) c.step-done.ensures.ended ram))
             h.inside;
-        loaded = subst (ImagesAreLoaded images) (sym c.if-not-charge_step.ensures.accounts) (loaded_charged images Steps c.args.level.owner c.args.level.point w.accounts h.loaded);
+        loaded = subst (ImagesAreLoaded images) (sym c.if-not-charge_step.ensures.accounts) (loaded_charged images Steps c.args.inner.level.owner c.args.inner.level.point w.accounts h.loaded);
       };
     }
 
 pub returns-clause-step : goal.returns-clause-step
 returns-clause-step g c =
     let s = c.args.store.now in
-    let p = c.args.p in
+    let p = c.args.inner.process in
     let gs = c.args.chain.now.levels in
     let n = length gs in
     let images = table_of c.args.images.now in
@@ -118,20 +119,20 @@ returns-clause-step g c =
     let mem = c.step-done.new.ram in
     let inside : (ram : List ℕ) → IsInside code (4 * p + n) (machine_of now.machine ram) = λ ram.
     subst (λ (x : GraftLevel). IsInside code (4 * p + n) (machine_of x.machine ram)) (sym c.if-not-charge_step.ensures.level)
-    (subst (λ (x : List Instr). IsInside x (4 * p + n) (machine_of c.args.level.machine ram)) (sym c.code_of-code.ensures) (c.requires.in_place.inside.0.inside ram)) in
+    (subst (λ (x : List Instr). IsInside x (4 * p + n) (machine_of c.args.inner.level.machine ram)) (sym c.code_of-code.ensures) (c.requires.in_place.inside.0.inside ram)) in
     let same : objects_over (record s { accounts = c.charge_step.new.accounts }) mem ≡ objects_of (record s { accounts = c.charge_step.new.accounts }) =
     same_objects (record s { accounts = c.charge_step.new.accounts }) mem c.lru.ensures.sound c.byte.ensures.size c.byte-2.ensures.size
     (λ a lt. c.step-done.ensures.contained (4 * p + n) a (inside s.ram) (frames_outside (4 * p + n) a lt)) in
     let v = world_of_store s in
     let w = objects_of s in
-    let q = c.args.level.owner in
-    let pt = c.args.level.point in
+    let q = c.args.inner.level.owner in
+    let pt = c.args.inner.level.point in
     let t = held c.args.locks.now in
     let log = c.args.chain.now.undo in
     let is = innermost log in
     let kept = put_back is w.things in
     let base = base_of p n in
-    let l = level_of s c.args.locks.now c.args.chain.now p c.args.level in
+    let l = level_of s c.args.locks.now c.args.chain.now p c.args.inner.level in
     let ls = outer_of s c.args.locks.now c.args.chain.now p in
     let one = level_in p n s.ram t now is kept in
     let u = with_accounts (charge Steps q pt w.accounts) w in
@@ -157,7 +158,7 @@ returns-clause-step g c =
 pub returns-clause-elsewhere : goal.returns-clause-elsewhere
 returns-clause-elsewhere g c =
     let s = c.args.store.now in
-    let p = c.args.p in
+    let p = c.args.inner.process in
     let gs = c.args.chain.now.levels in
     let n = length gs in
     let images = table_of c.args.images.now in
@@ -167,7 +168,7 @@ returns-clause-elsewhere g c =
     let mem = c.step-done.new.ram in
     let inside : (ram : List ℕ) → IsInside code (4 * p + n) (machine_of now.machine ram) = λ ram.
     subst (λ (x : GraftLevel). IsInside code (4 * p + n) (machine_of x.machine ram)) (sym c.if-not-charge_step.ensures.level)
-    (subst (λ (x : List Instr). IsInside x (4 * p + n) (machine_of c.args.level.machine ram)) (sym c.code_of-code.ensures) (c.requires.in_place.inside.0.inside ram)) in
+    (subst (λ (x : List Instr). IsInside x (4 * p + n) (machine_of c.args.inner.level.machine ram)) (sym c.code_of-code.ensures) (c.requires.in_place.inside.0.inside ram)) in
     let same : objects_over (record s { accounts = c.charge_step.new.accounts }) mem ≡ objects_of (record s { accounts = c.charge_step.new.accounts }) =
     same_objects (record s { accounts = c.charge_step.new.accounts }) mem c.lru.ensures.sound c.byte.ensures.size c.byte-2.ensures.size
     (λ a lt. c.step-done.ensures.contained (4 * p + n) a (inside s.ram) (frames_outside (4 * p + n) a lt)) in
@@ -186,6 +187,22 @@ returns-then-not-charge_step-clause-answer g c = λ registers is. absurd (unansw
 pub returns-clause-answer : goal.returns-clause-answer
 returns-clause-answer g c = λ registers is.
     let ended : goes_on c.step-done.result ≡ false = ap goes_on (c.after_machine.ensures.returned registers is) in
-    let base = base_of c.args.p (length c.args.chain.now.levels) in
+    let base = base_of c.args.inner.process (length c.args.chain.now.levels) in
     ap (λ (x : List ℕ). let a : Answer = record { registers = registers; body = body_in_segment registers (segment_of base (by_place x)) } in a) (sym (c.step-done.ensures.memory ended))
     ∙ c.after_machine.ensures.answer registers is
+
+pub returns-then-not-charge_step-clause-memory : goal.returns-then-not-charge_step-clause-memory
+returns-then-not-charge_step-clause-memory g c =
+    still_own c.args.inner.process (c.args.inner.level ∷ c.args.chain.now.levels) c.drop_innermost.new.chain.levels c.args.store.now.ram c.drop_innermost.new.store.ram c.drop_innermost.ensures.kept.memory
+
+pub returns-clause-memory : goal.returns-clause-memory
+returns-clause-memory g c =
+    let s = c.args.store.now in
+    let p = c.args.inner.process in
+    let n = length c.args.chain.now.levels in
+    let code = c.code_of-code.result.now in
+    let now = c.charge_step.new.level in
+    let inside : (ram : List ℕ) → IsInside code (4 * p + n) (machine_of now.machine ram) = λ ram.
+    subst (λ (x : GraftLevel). IsInside code (4 * p + n) (machine_of x.machine ram)) (sym c.if-not-charge_step.ensures.level)
+    (subst (λ (x : List Instr). IsInside x (4 * p + n) (machine_of c.args.inner.level.machine ram)) (sym c.code_of-code.ensures) (c.requires.in_place.inside.0.inside ram)) in
+    λ a out apart. c.after_machine.ensures.memory a apart ∙ c.step-done.ensures.contained (4 * p + n) a (inside s.ram) out

@@ -17,7 +17,7 @@ pub returns-in-None-clause-value : goal.returns-in-None-clause-value
 returns-in-None-clause-value c = λ i.
     let image = c.args.image.now in
     let kept = c.args.kept.now in
-    let none : None ≡ kept_bytes kept c.args.q c.args.pt = c.in-None.ensures.value ∙ ap (λ n. slice_index_or kept n None) c.number_of.ensures.value in
+    let none : None ≡ kept_bytes kept c.args.q c.args.pt = c.in-None.ensures.value ∙ ap (λ n. slice_index_or kept n None) c.segment_number.ensures.value in
     ap (λ (xs : List ℕ). slice_index xs i) c.body-in-None.ensures.body ∙ sym (byte_of image.body i)
     ∙ ap (λ (o : Option (List ℕ)). segment_with (Some image) true (by_place o) i) none
     ∙ ap (λ (b : Bool). segment_with (Some image) b (by_place (kept_bytes kept c.args.q c.args.pt)) i) c.if-not-keep.ensures
