@@ -1,8 +1,8 @@
 -- What a boot leaves, whether block 0 was read or not.
 use Rattle.std.proofs.Common.{◌≡◌, ℕ, Bool, true, false, List, [], ◌∷◌, ◌++◌, length, ap, sym, ◌∙◌, subst, arith, Option}
 use Rattle.disk_log.specs.Calls.{Knows, Made, CallsExtend}
-use Rattle.disk_log.specs.Joined.{made_none}
-use Rattle.disk_log.specs.Seen.{DiskSeen}
+use Rattle.disk_log.specs.Joined.{made_alone}
+use Rattle.vino_base.specs.Disks.{DiskSeen}
 use Rattle.kernel_model.specs.declared.FileRow.{FileRow}
 use Rattle.kernel_model.specs.World.{World, ImageTable, Blocks}
 use Rattle.kernel_model.specs.Objects.{Objects}
@@ -25,17 +25,13 @@ opening_rests m v = λ e within. absurd (omega (arith, within.1))
 pub opening_loaded : (images : ImageTable) (s : Objects) (grant : ℕ) → s ≡ opening_objects grant → ImagesAreLoaded images s.accounts
 opening_loaded images s grant is = subst (λ (x : Objects). ImagesAreLoaded images x.accounts) (sym is) (λ q pt g stands. absurd cc)
 
--- the calls of a list that began empty
-pub made_from : (d e : DiskSeen) (before io : List Bool) → before ≡ [] → CallsExtend d.faults e.faults d.plan e.plan before io → Made d.faults e.faults d.plan e.plan io
-made_from d e before io empty goes = goes d.faults d.plan (subst (λ (calls : List Bool). Made d.faults d.faults d.plan d.plan calls) (sym empty) (made_none d.faults d.plan))
-
 -- one call after none
 one_call : (before io : List Bool) (failed : Bool) → before ≡ [] → io ≡ before ++ failed ∷ [] → io ≡ failed ∷ []
 one_call before io failed empty is = is ∙ ap (λ (calls : List Bool). calls ++ failed ∷ []) empty
 
 -- block 0 was read
 pub booted_read : (m : Meaning) (setup : Setup) (size size_new : ℕ) (y : Placed) (files : ℕ) (dir : List (Option FileRow)) (block : List ℕ) (before io : List Bool) (d e : DiskSeen) →
-    size_new ≡ size → before ≡ [] → io ≡ before ++ false ∷ [] → CallsExtend d.faults e.faults d.plan e.plan before io →
+    size_new ≡ size → before ≡ [] → io ≡ before ++ false ∷ [] → CallsExtend d e before io →
     ((blocks : Blocks) → Knows d.known blocks → Knows e.known blocks × (block ≡ blocks 0)) → dir ≡ directory_of size_new block → files ≡ usable_count dir →
     StandsFor m y (opening_kernel (world_for setup size_new dir)) → Booted m setup size y (Up setup.frames size_new files) d e
 booted_read m setup size size_new y files dir block before io d e size_is empty noted goes known dir_is files_are stands =
@@ -43,7 +39,7 @@ booted_read m setup size size_new y files dir block before io d e size_is empty 
     record {
       io = io;
       one = ap length one;
-      made = made_from d e before io empty goes;
+      made = made_alone d e before io empty goes;
       is = λ blocks tells.
           let read = known blocks tells in
           let dir_of : dir ≡ directory_of size (blocks 0) = dir_is ∙ ap (λ n. directory_of n block) size_is ∙ ap (directory_of size) read.1 in
@@ -62,7 +58,7 @@ booted_read m setup size size_new y files dir block before io d e size_is empty 
 
 -- that failed
 pub booted_fault : (m : Meaning) (setup : Setup) (size size_new : ℕ) (y : Placed) (dir : List (Option FileRow)) (before io : List Bool) (d e : DiskSeen) →
-    size_new ≡ size → before ≡ [] → io ≡ before ++ true ∷ [] → CallsExtend d.faults e.faults d.plan e.plan before io →
+    size_new ≡ size → before ≡ [] → io ≡ before ++ true ∷ [] → CallsExtend d e before io →
     ((blocks : Blocks) → Knows d.known blocks → Knows e.known blocks) → dir ≡ [] →
     StandsFor m y (opening_kernel (world_for setup size_new dir)) → Booted m setup size y Fault d e
 booted_fault m setup size size_new y dir before io d e size_is empty noted goes known dir_is stands =
@@ -70,7 +66,7 @@ booted_fault m setup size size_new y dir before io d e size_is empty noted goes 
     record {
       io = io;
       one = ap length one;
-      made = made_from d e before io empty goes;
+      made = made_alone d e before io empty goes;
       is = λ blocks tells.
           let same : directory_read size (blocks 0) io ≡ [] = ap (directory_read size (blocks 0)) one in
           let world : world_for setup size_new dir ≡ world_for setup size (directory_read size (blocks 0) io) =

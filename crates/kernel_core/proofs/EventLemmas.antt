@@ -17,7 +17,7 @@ use Rattle.kernel_model.specs.Kernel.{Entry, Run}
 use Rattle.kernel_model.specs.Events.{MOST_STEPS, event, in_order}
 use Rattle.kernel_model.specs.Sound.{HasWholeBlocks}
 use Rattle.disk_log.specs.Calls.{Knows, blocks_in}
-use Rattle.disk_log.specs.Seen.{DiskSeen}
+use Rattle.vino_base.specs.Disks.{DiskSeen}
 use Rattle.history_laws.specs.Notes.{EventsLeaveFewNotes}
 use Rattle.placed_laws.specs.Agreeing.{SameShown}
 use Rattle.placed_laws.specs.Keeping.{EventsStand}
@@ -28,14 +28,16 @@ use Rattle.placed_laws.specs.Stands.{StandsFor}
 use Rattle.kernel_steps.specs.declared.order.Waiting.{Waiting}
 use Rattle.kernel_steps.specs.declared.running.Running.{Running}
 use Rattle.kernel_steps.specs.Composing.{did_as}
-use Rattle.kernel_steps.specs.Refines.{Refines, first_notes}
 use Rattle.kernel_steps.specs.Kept.{kept_whole}
 use Rattle.kernel_steps.specs.Orders.{has_number, numbers_of, order_of}
 use Rattle.kernel_steps.specs.Begins.{Begun, CallBegins}
 use Rattle.kernel_core.specs.Starts.{Started, Starts}
+use Rattle.kernel_steps.specs.Moments.{moment}
+use Rattle.kernel_steps.specs.Sound.{RefinesAndKeeps}
+use Rattle.kernel_core.specs.EventParts.{RefinesFromRest}
+use Rattle.kernel_steps.specs.Refines.{first_notes, Refines}
 use Rattle.kernel_steps.specs.Views.{placed_of, run_of, IsRunning, HasAbstraction}
 use Rattle.kernel_core.specs.EventRefines.{EventRefines}
-use Rattle.kernel_core.specs.RefinesAndKeeps.{RefinesFromRest, RefinesAndKeeps}
 use Rattle.kernel_core.proofs.LastLemmas.{did_note}
 use Rattle.kernel_core.proofs.WentLemmas.{ordered_called}
 
@@ -143,7 +145,7 @@ module _ (m : Meaning) (x : Placed) (number p : ℕ) where
 -- a refusal, which is all that an event comes to
 pub went_refused : {C B M : Type 0} {P : _} (m : Meaning) (f : PlacedRun → PlacedRun) (x : Running C B M P) (note : Note) (kept kept_new : List Note) (d : DiskSeen) → IsRunning x → HasAbstraction m (placed_of x) →
     ((blocks : Blocks) (notes : List Note) (io : List Bool) → f (run_of (placed_of x) blocks notes io) ≡ placed_noted note (run_of (placed_of x) blocks notes io)) →
-    ((all : List Note) → kept ≡ first_notes all → kept_new ≡ first_notes (all ++ note ∷ [])) → RefinesAndKeeps m f x x kept kept_new d d
+    ((all : List Note) → kept ≡ first_notes all → kept_new ≡ first_notes (all ++ note ∷ [])) → RefinesAndKeeps m f (moment x kept d) (moment x kept_new d)
 went_refused m f x note kept kept_new d running abstraction same adds =
     record {
       refines = did_as f (placed_noted note) (placed_of x) (placed_of x) kept kept_new d d same (did_note (placed_of x) note kept kept_new d adds);
@@ -157,10 +159,10 @@ went_refused m f x note kept kept_new d running abstraction same adds =
 pub went_refused_at : {C B M : Type 0} {P : _} (m : Meaning) (f : PlacedRun → PlacedRun) (x y : Running C B M P) (note : Note) (kept kept_new : List Note) (d : DiskSeen) → IsRunning y → HasAbstraction m (placed_of x) →
     placed_of y ≡ placed_of x →
     ((blocks : Blocks) (notes : List Note) (io : List Bool) → f (run_of (placed_of x) blocks notes io) ≡ placed_noted note (run_of (placed_of x) blocks notes io)) →
-    ((all : List Note) → kept ≡ first_notes all → kept_new ≡ first_notes (all ++ note ∷ [])) → RefinesAndKeeps m f x y kept kept_new d d
+    ((all : List Note) → kept ≡ first_notes all → kept_new ≡ first_notes (all ++ note ∷ [])) → RefinesAndKeeps m f (moment x kept d) (moment y kept_new d)
 went_refused_at m f x y note kept kept_new d running abstraction is same adds =
     record {
-      refines = subst (λ z. Refines f (placed_of x) z kept kept_new d d) (sym is) (did_as f (placed_noted note) (placed_of x) (placed_of x) kept kept_new d d same (did_note (placed_of x) note kept kept_new d adds));
+      refines = subst (λ z. Refines f (moment (placed_of x) kept d) (moment z kept_new d)) (sym is) (did_as f (placed_noted note) (placed_of x) (placed_of x) kept kept_new d d same (did_note (placed_of x) note kept kept_new d adds));
       running = running;
       abstraction = subst (HasAbstraction m) (sym is) abstraction;
       world = ap (λ (z : Placed). z.world) is;
@@ -186,7 +188,7 @@ whole_of (Some bs) blocks size v is whole tells =
 
 pub happened_by : (m : Meaning) → EventsStand m → EventsLeaveFewNotes m → (x y : Placed) (number size : ℕ) (what : Event) (kept kept_new : List Note) (d e : DiskSeen) → x.world.disk_size ≡ size → kept ≡ [] →
     ((bs : List (List ℕ)) → d.known ≡ Some bs → (b : ℕ) → b < size → length (slice_index_or bs b []) ≡ 512) →
-    RefinesFromRest m (placed_event_on m number what) x y kept kept_new d e → EventRefines m x y number what kept_new d e
+    RefinesFromRest m (placed_event_on m number what) (moment x kept d) (moment y kept_new e) → EventRefines m x y number what kept_new d e
 happened_by m law few x y number size what kept kept_new d e size_is none whole refines =
     record {
       io = refines.io;

@@ -7,29 +7,30 @@ use Rattle.kernel_model.specs.World.{Blocks}
 use Rattle.kernel_model.specs.Meaning.{Meaning}
 use Rattle.kernel_model.specs.Kernel.{Blocker}
 use Rattle.kernel_model.specs.Events.{in_order}
-use Rattle.disk_log.specs.Seen.{DiskSeen}
+use Rattle.vino_base.specs.Disks.{DiskSeen}
 use Rattle.placed_laws.specs.Placed.{Placed, PlacedCall, PlacedLevel, PlacedRun, placed_blocker}
 use Rattle.placed_laws.specs.PlacedSteps.{placed_noted}
 use Rattle.placed_laws.specs.PlacedEvents.{placed_graft_note, placed_last, placed_last_note, placed_waits_note}
 use Rattle.kernel_steps.specs.Composing.{did_as, did_nothing, did_purely}
-use Rattle.kernel_steps.specs.Refines.{first_notes, Refines}
 use Rattle.kernel_steps.specs.Queries.{note_in_graft}
 use Rattle.kernel_steps.specs.Orders.{blocker_of}
 use Rattle.kernel_steps.specs.declared.order.Blocking.{Blocking}
+use Rattle.kernel_steps.specs.Moments.{moment}
+use Rattle.kernel_steps.specs.Refines.{first_notes, Refines}
 use Rattle.kernel_steps.specs.Views.{run_of}
 
 -- a note was said
-pub did_note : (x : Placed) (note : Note) (kept kept_new : List Note) (d : DiskSeen) → ((all : List Note) → kept ≡ first_notes all → kept_new ≡ first_notes (all ++ note ∷ [])) → Refines (placed_noted note) x x kept kept_new d d
+pub did_note : (x : Placed) (note : Note) (kept kept_new : List Note) (d : DiskSeen) → ((all : List Note) → kept ≡ first_notes all → kept_new ≡ first_notes (all ++ note ∷ [])) → Refines (placed_noted note) (moment x kept d) (moment x kept_new d)
 did_note x note kept kept_new d adds = did_purely (placed_noted note) x x kept kept_new (note ∷ []) d (λ blocks notes io. refl) adds
 
 -- what blocks, or nothing
 pub waits_said : (x : Placed) (number : ℕ) (o : Option Blocker) (b : Blocking) (kept kept_new : List Note) (d : DiskSeen) → option_map blocker_of (Some b) ≡ o →
-    ((all : List Note) → kept ≡ first_notes all → kept_new ≡ first_notes (all ++ Waits number b.object b.holder ∷ [])) → Refines (placed_waits_note number o) x x kept kept_new d d
+    ((all : List Note) → kept ≡ first_notes all → kept_new ≡ first_notes (all ++ Waits number b.object b.holder ∷ [])) → Refines (placed_waits_note number o) (moment x kept d) (moment x kept_new d)
 waits_said x number o b kept kept_new d is adds =
-    subst (λ o. Refines (placed_waits_note number o) x x kept kept_new d d) is (did_note x (Waits number b.object b.holder) kept kept_new d adds)
+    subst (λ o. Refines (placed_waits_note number o) (moment x kept d) (moment x kept_new d)) is (did_note x (Waits number b.object b.holder) kept kept_new d adds)
 
-pub waits_unsaid : (x : Placed) (number : ℕ) (o : Option Blocker) (kept : List Note) (d : DiskSeen) → None ≡ o → Refines (placed_waits_note number o) x x kept kept d d
-waits_unsaid x number o kept d is = subst (λ o. Refines (placed_waits_note number o) x x kept kept d d) is (did_nothing x kept d)
+pub waits_unsaid : (x : Placed) (number : ℕ) (o : Option Blocker) (kept : List Note) (d : DiskSeen) → None ≡ o → Refines (placed_waits_note number o) (moment x kept d) (moment x kept d)
+waits_unsaid x number o kept d is = subst (λ o. Refines (placed_waits_note number o) (moment x kept d) (moment x kept d)) is (did_nothing x kept d)
 
 -- ---- by the call
 
@@ -37,10 +38,10 @@ same_number : (a b : ℕ) → Some a ≡ Some b → a ≡ b
 same_number a b h = cc
 
 -- there is none
-pub last_none : (m : Meaning) (x : Placed) (p : ℕ) (kept : List Note) (d : DiskSeen) → None ≡ option_map (λ (c : PlacedCall). c.number) (x.call p) → Refines (placed_last m p) x x kept kept d d
+pub last_none : (m : Meaning) (x : Placed) (p : ℕ) (kept : List Note) (d : DiskSeen) → None ≡ option_map (λ (c : PlacedCall). c.number) (x.call p) → Refines (placed_last m p) (moment x kept d) (moment x kept d)
 last_none m x p kept d h = by_call (x.call p) refl h
   where
-    by_call : (o : Option PlacedCall) → x.call p ≡ o → None ≡ option_map (λ (c : PlacedCall). c.number) o → Refines (placed_last m p) x x kept kept d d
+    by_call : (o : Option PlacedCall) → x.call p ≡ o → None ≡ option_map (λ (c : PlacedCall). c.number) o → Refines (placed_last m p) (moment x kept d) (moment x kept d)
     by_call None is h = did_as (placed_last m p) (λ r. r) x x kept kept d d (λ blocks notes io. ap (λ c. placed_last_note m p c (run_of x blocks notes io)) is) (did_nothing x kept d)
     by_call (Some c) is h = grind (arith, h)
 
@@ -58,22 +59,22 @@ last_by m x p n h b stands blocks notes io = by_call (x.call p) refl h
         ∙ ap (λ k. elim b as (λ _. PlacedRun) [ true ↦ placed_waits_note k (placed_blocker m x p) (run_of x blocks notes io) | false ↦ placed_graft_note k (x.levels p) (run_of x blocks notes io) ]) (sym (same_number n c.number h))
 
 pub last_waits : (m : Meaning) (x : Placed) (p n : ℕ) (kept kept_new : List Note) (d : DiskSeen) → Some n ≡ option_map (λ (c : PlacedCall). c.number) (x.call p) → in_order p x.order ≡ true →
-    Refines (placed_waits_note n (placed_blocker m x p)) x x kept kept_new d d → Refines (placed_last m p) x x kept kept_new d d
+    Refines (placed_waits_note n (placed_blocker m x p)) (moment x kept d) (moment x kept_new d) → Refines (placed_last m p) (moment x kept d) (moment x kept_new d)
 last_waits m x p n kept kept_new d h stands refines = did_as (placed_last m p) (placed_waits_note n (placed_blocker m x p)) x x kept kept_new d d (last_by m x p n h true stands) refines
 
 pub last_graft : (m : Meaning) (x : Placed) (p n : ℕ) (kept kept_new : List Note) (d : DiskSeen) → Some n ≡ option_map (λ (c : PlacedCall). c.number) (x.call p) → in_order p x.order ≡ false →
-    Refines (placed_graft_note n (x.levels p)) x x kept kept_new d d → Refines (placed_last m p) x x kept kept_new d d
+    Refines (placed_graft_note n (x.levels p)) (moment x kept d) (moment x kept_new d) → Refines (placed_last m p) (moment x kept d) (moment x kept_new d)
 last_graft m x p n kept kept_new d h stands refines = did_as (placed_last m p) (placed_graft_note n (x.levels p)) x x kept kept_new d d (last_by m x p n h false stands) refines
 
 -- a call in a graft, or in none
 pub graft_said : (x : Placed) (n : ℕ) (ls : List PlacedLevel) (note : Note) (kept kept_new : List Note) (d : DiskSeen) → Some note ≡ note_in_graft n ls →
-    ((all : List Note) → kept ≡ first_notes all → kept_new ≡ first_notes (all ++ note ∷ [])) → Refines (placed_graft_note n ls) x x kept kept_new d d
+    ((all : List Note) → kept ≡ first_notes all → kept_new ≡ first_notes (all ++ note ∷ [])) → Refines (placed_graft_note n ls) (moment x kept d) (moment x kept_new d)
 graft_said x n [] note kept kept_new d is adds = grind (arith, is)
-graft_said x n (l ∷ ls) note kept kept_new d is adds = subst (λ k. Refines (placed_noted k) x x kept kept_new d d) (same_note note _ is) (did_note x note kept kept_new d adds)
+graft_said x n (l ∷ ls) note kept kept_new d is adds = subst (λ k. Refines (placed_noted k) (moment x kept d) (moment x kept_new d)) (same_note note _ is) (did_note x note kept kept_new d adds)
   where
     same_note : (a b : Note) → Some a ≡ Some b → a ≡ b
     same_note a b h = cc
 
-pub graft_unsaid : (x : Placed) (n : ℕ) (ls : List PlacedLevel) (kept : List Note) (d : DiskSeen) → None ≡ note_in_graft n ls → Refines (placed_graft_note n ls) x x kept kept d d
+pub graft_unsaid : (x : Placed) (n : ℕ) (ls : List PlacedLevel) (kept : List Note) (d : DiskSeen) → None ≡ note_in_graft n ls → Refines (placed_graft_note n ls) (moment x kept d) (moment x kept d)
 graft_unsaid x n [] kept d is = did_nothing x kept d
 graft_unsaid x n (l ∷ ls) kept d is = grind (arith, is)

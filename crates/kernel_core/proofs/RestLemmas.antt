@@ -9,7 +9,7 @@ use Rattle.kernel_model.specs.Settle.{settled, step}
 use Rattle.kernel_model.specs.Events.{in_order}
 use Rattle.kernel_model.specs.Sound.{HasWholeBlocks, IsAtRest}
 use Rattle.disk_log.specs.Joined.{made_joined}
-use Rattle.disk_log.specs.Seen.{DiskSeen}
+use Rattle.vino_base.specs.Disks.{DiskSeen}
 use Rattle.placed_laws.specs.Keeping.{OthersStand, StepsStand}
 use Rattle.placed_laws.specs.Placed.{Placed, PlacedCall, PlacedRun, has_some, placed_blocker}
 use Rattle.placed_laws.specs.PlacedSteps.{placed_joins, placed_step}
@@ -17,25 +17,27 @@ use Rattle.placed_laws.specs.PlacedEvents.{placed_settled}
 use Rattle.placed_laws.specs.Resting.{KeepsHolds, Resting}
 use Rattle.placed_laws.specs.Stands.{StandsFor, RunStandsFor}
 use Rattle.kernel_steps.specs.declared.running.Running.{Running}
-use Rattle.kernel_steps.specs.Refines.{RunMatches, Refines}
+use Rattle.kernel_steps.specs.Moments.{moment}
+use Rattle.kernel_steps.specs.Sound.{KeepsRunning, RefinesAndKeeps}
+use Rattle.kernel_core.specs.EventParts.{taken_up, RefinesFromRest, RefinesToRest, Rests}
+use Rattle.kernel_steps.specs.Refines.{Refines, RunMatches}
 use Rattle.kernel_steps.specs.Views.{run_of}
-use Rattle.kernel_core.specs.RefinesAndKeeps.{RefinesFromRest, RefinesToRest, KeepsRunning, Rests, RefinesAndKeeps, taken_up}
 
 -- ---- what always holds
 
 pub on_went : {C B M : Type 0} {P : _} (m : Meaning) (f : PlacedRun → PlacedRun) (x y : Running C B M P) (kept kept_new : List Note) (d e : DiskSeen) →
-    RefinesAndKeeps m f x y kept kept_new d e → KeepsRunning m x y
+    RefinesAndKeeps m f (moment x kept d) (moment y kept_new e) → KeepsRunning m x y
 on_went m f x y kept kept_new d e h = record { running = h.running; abstraction = h.abstraction; world = h.world; clock = h.clock }
 
 -- ---- what was done
 
 -- from anywhere, and so from rest
-pub from_did : (m : Meaning) (f : PlacedRun → PlacedRun) (x y : Placed) (kept kept_new : List Note) (d e : DiskSeen) → Refines f x y kept kept_new d e → RefinesFromRest m f x y kept kept_new d e
+pub from_did : (m : Meaning) (f : PlacedRun → PlacedRun) (x y : Placed) (kept kept_new : List Note) (d e : DiskSeen) → Refines f (moment x kept d) (moment y kept_new e) → RefinesFromRest m f (moment x kept d) (moment y kept_new e)
 from_did m f x y kept kept_new d e h = record { io = h.io; made = h.made; goes = λ blocks notes rest s tells k. h.goes blocks notes rest tells k }
 
 -- another change that comes to the same
 pub from_as : (m : Meaning) (f g : PlacedRun → PlacedRun) (x y : Placed) (kept kept_new : List Note) (d e : DiskSeen) → ((blocks : Blocks) (notes : List Note) (io : List Bool) → f (run_of x blocks notes io) ≡ g (run_of x blocks notes io)) →
-    RefinesFromRest m g x y kept kept_new d e → RefinesFromRest m f x y kept kept_new d e
+    RefinesFromRest m g (moment x kept d) (moment y kept_new e) → RefinesFromRest m f (moment x kept d) (moment y kept_new e)
 from_as m f g x y kept kept_new d e same h =
     record {
       io = h.io;
@@ -44,11 +46,11 @@ from_as m f g x y kept kept_new d e same h =
     }
 
 -- and another change after it
-pub from_then : (m : Meaning) (f g : PlacedRun → PlacedRun) (x y z : Placed) (a b c : List Note) (d e l : DiskSeen) → RefinesFromRest m f x y a b d e → Refines g y z b c e l → RefinesFromRest m (λ r. g (f r)) x z a c d l
+pub from_then : (m : Meaning) (f g : PlacedRun → PlacedRun) (x y z : Placed) (a b c : List Note) (d e l : DiskSeen) → RefinesFromRest m f (moment x a d) (moment y b e) → Refines g (moment y b e) (moment z c l) → RefinesFromRest m (λ r. g (f r)) (moment x a d) (moment z c l)
 from_then m f g x y z a b c d e l first second =
     record {
       io = first.io ++ second.io;
-      made = made_joined d.faults e.faults l.faults d.plan e.plan l.plan first.io second.io first.made second.made;
+      made = made_joined d e l first.io second.io first.made second.made;
       goes = λ blocks notes rest s tells k.
           let one = subst (λ io. RunMatches (f (run_of x blocks notes io)) y b e.known (second.io ++ rest)) (sym (append_assoc first.io second.io rest)) (first.goes blocks notes (second.io ++ rest) s tells k) in
           let r : PlacedRun = f (run_of x blocks notes ((first.io ++ second.io) ++ rest)) in
@@ -71,8 +73,8 @@ pub record RestedAs (m : Meaning) (f g : PlacedRun → PlacedRun) (r : PlacedRun
   pub rests : IsAtRest m run.kernel
 
 -- the change g was done, which comes to the same as f and leaves rest
-pub did_to_rest : (m : Meaning) (f g : PlacedRun → PlacedRun) (x y : Placed) (kept kept_new : List Note) (d e : DiskSeen) → Refines g x y kept kept_new d e →
-    ((blocks : Blocks) (notes : List Note) (io : List Bool) → Rests m x blocks → (g (run_of x blocks notes io)).placed ≡ y → RestedAs m f g (run_of x blocks notes io)) → RefinesToRest m f x y kept kept_new d e
+pub did_to_rest : (m : Meaning) (f g : PlacedRun → PlacedRun) (x y : Placed) (kept kept_new : List Note) (d e : DiskSeen) → Refines g (moment x kept d) (moment y kept_new e) →
+    ((blocks : Blocks) (notes : List Note) (io : List Bool) → Rests m x blocks → (g (run_of x blocks notes io)).placed ≡ y → RestedAs m f g (run_of x blocks notes io)) → RefinesToRest m f (moment x kept d) (moment y kept_new e)
 did_to_rest m f g x y kept kept_new d e refines how =
     record {
       refines = record {

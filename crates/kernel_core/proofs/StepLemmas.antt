@@ -12,14 +12,15 @@ use Rattle.kernel_model.specs.Kernel.{Blocker}
 use Rattle.kernel_model.specs.Events.{in_order}
 use Rattle.kernel_model.specs.Sound.{HasWholeBlocks}
 use Rattle.disk_log.specs.Joined.{made_none, made_joined}
-use Rattle.disk_log.specs.Seen.{DiskSeen}
+use Rattle.vino_base.specs.Disks.{DiskSeen}
 use Rattle.placed_laws.specs.Placed.{Placed, PlacedCall, PlacedRun, has_some, placed_blocker}
 use Rattle.placed_laws.specs.Stretch.{IsStretched, Stretched, Stretches}
 use Rattle.placed_laws.specs.PlacedSteps.{placed_joins, placed_noted, placed_step}
 use Rattle.placed_laws.specs.PlacedEvents.{placed_settled, placed_steps}
-use Rattle.kernel_steps.specs.Refines.{RunMatches, Refines}
+use Rattle.kernel_steps.specs.Moments.{moment}
+use Rattle.kernel_core.specs.EventParts.{steps_left, steps_said, taken_up, takes_up, HasReached, Leads, RefinesFromRest, RefinesToRest, Rests}
+use Rattle.kernel_steps.specs.Refines.{Refines, RunMatches}
 use Rattle.kernel_steps.specs.Views.{run_of}
-use Rattle.kernel_core.specs.RefinesAndKeeps.{takes_up, taken_up, steps_said, steps_left, RefinesFromRest, RefinesToRest, HasReached, Leads, Rests}
 
 -- ---- what is left of a change
 
@@ -30,24 +31,24 @@ run_is r y kept known rest h =
     ∙ ap (λ io. record { placed = y; blocks = r.blocks; notes = r.notes; io = io }) h.io
 
 -- at the beginning all is left
-pub come_first : (m : Meaning) (f : PlacedRun → PlacedRun) (x : Placed) (kept : List Note) (d : DiskSeen) → HasReached m f f x x kept kept d d
+pub come_first : (m : Meaning) (f : PlacedRun → PlacedRun) (x : Placed) (kept : List Note) (d : DiskSeen) → HasReached m f f (moment x kept d) (moment x kept d)
 come_first m f x kept d =
     record {
       io = [];
-      made = made_none d.faults d.plan;
+      made = made_none d;
       now = λ blocks notes rest. run_of x blocks notes rest;
       came = λ blocks notes rest s tells k. (record { placed = refl; notes = k; blocks = tells; io = refl }, s);
       goes = λ blocks notes rest s tells k. refl;
     }
 
 -- what is left goes on with a part of it
-pub come_on : (m : Meaning) (f left later g : PlacedRun → PlacedRun) (x y z : Placed) (a b c : List Note) (d e l : DiskSeen) → HasReached m f left x y a b d e → RefinesToRest m g y z b c e l →
-    ((blocks : Blocks) (notes : List Note) (io : List Bool) → left (run_of y blocks notes io) ≡ later (g (run_of y blocks notes io))) → HasReached m f later x z a c d l
+pub come_on : (m : Meaning) (f left later g : PlacedRun → PlacedRun) (x y z : Placed) (a b c : List Note) (d e l : DiskSeen) → HasReached m f left (moment x a d) (moment y b e) → RefinesToRest m g (moment y b e) (moment z c l) →
+    ((blocks : Blocks) (notes : List Note) (io : List Bool) → left (run_of y blocks notes io) ≡ later (g (run_of y blocks notes io))) → HasReached m f later (moment x a d) (moment z c l)
 come_on m f left later g x y z a b c d e l h part same =
     let refines = part.refines in
     record {
       io = h.io ++ refines.io;
-      made = made_joined d.faults e.faults l.faults d.plan e.plan l.plan h.io refines.io h.made refines.made;
+      made = made_joined d e l h.io refines.io h.made refines.made;
       now = λ blocks notes rest. g (h.now blocks notes (refines.io ++ rest));
       came = λ blocks notes rest s tells k.
           let one = h.came blocks notes (refines.io ++ rest) s tells k in
@@ -67,8 +68,8 @@ come_on m f left later g x y z a b c d e l h part same =
 -- ---- a stretch
 
 -- what is left goes on behind a stretch
-pub come_far : (m : Meaning) (number p d left taken : ℕ) (f : PlacedRun → PlacedRun) (x y z : Placed) (a b : List Note) (k e : DiskSeen) → HasReached m f (steps_said m number p (d + left) taken) x y a b k e → Leads m p d y z →
-    HasReached m f (steps_said m number p left (taken + d)) x z a b k e
+pub come_far : (m : Meaning) (number p d left taken : ℕ) (f : PlacedRun → PlacedRun) (x y z : Placed) (a b : List Note) (k e : DiskSeen) → HasReached m f (steps_said m number p (d + left) taken) (moment x a k) (moment y b e) → Leads m p d y z →
+    HasReached m f (steps_said m number p left (taken + d)) (moment x a k) (moment z b e)
 come_far m number p d left taken f x y z a b k e h leads =
     record {
       io = h.io;
@@ -88,12 +89,12 @@ come_far m number p d left taken f x y z a b k e h leads =
 
 -- so it does with n in all, of which so many were taken before
 pub come_stretched : (m : Meaning) (number p n d taken : ℕ) (going : Bool) (f : PlacedRun → PlacedRun) (x y z : Placed) (a b : List Note) (k e : DiskSeen) → going ≡ true → taken < n → d ≤ n - taken →
-    HasReached m f (steps_left m number p (n - taken) taken going) x y a b k e → Leads m p d y z → HasReached m f (steps_left m number p (n - (taken + d)) (taken + d) true) x z a b k e
+    HasReached m f (steps_left m number p (n - taken) taken going) (moment x a k) (moment y b e) → Leads m p d y z → HasReached m f (steps_left m number p (n - (taken + d)) (taken + d) true) (moment x a k) (moment z b e)
 come_stretched m number p n d taken going f x y z a b k e goes less most h leads =
     let parts : n - taken ≡ d + (n - (taken + d)) = omega (arith, less, most) in
     come_far m number p d (n - (taken + d)) taken f x y z a b k e
-    (subst (λ j. HasReached m f (steps_said m number p j taken) x y a b k e) parts
-    (subst (λ t. HasReached m f (steps_left m number p (n - taken) taken t) x y a b k e) goes h)) leads
+    (subst (λ j. HasReached m f (steps_said m number p j taken) (moment x a k) (moment y b e)) parts
+    (subst (λ t. HasReached m f (steps_left m number p (n - taken) taken t) (moment x a k) (moment y b e)) goes h)) leads
 
 -- no instruction leads nowhere
 pub leads_none : (m : Meaning) (p : ℕ) (x : Placed) → Leads m p 0 x x
@@ -130,11 +131,11 @@ leads_far m law x y c p n call away h =
         (record { kernel = s.stands; blocks = refl; notes = refl; io = refl; whole = s.whole }) call away h
 
 -- what is left is done
-pub come_last : (m : Meaning) (f left : PlacedRun → PlacedRun) (x y z : Placed) (a b c : List Note) (d e l : DiskSeen) → HasReached m f left x y a b d e → Refines left y z b c e l → RefinesFromRest m f x z a c d l
+pub come_last : (m : Meaning) (f left : PlacedRun → PlacedRun) (x y z : Placed) (a b c : List Note) (d e l : DiskSeen) → HasReached m f left (moment x a d) (moment y b e) → Refines left (moment y b e) (moment z c l) → RefinesFromRest m f (moment x a d) (moment z c l)
 come_last m f left x y z a b c d e l h refines =
     record {
       io = h.io ++ refines.io;
-      made = made_joined d.faults e.faults l.faults d.plan e.plan l.plan h.io refines.io h.made refines.made;
+      made = made_joined d e l h.io refines.io h.made refines.made;
       goes = λ blocks notes rest s tells k.
           let one = h.came blocks notes (refines.io ++ rest) s tells k in
           let r = h.now blocks notes (refines.io ++ rest) in

@@ -2,11 +2,11 @@
 use Rattle.std.proofs.Common.{append-nil, ◌≡◌, ℕ, ◌≤◌, ◌<◌, Bool, true, false, List, [], ◌∷◌, ◌++◌, map, length, Option, Some, None, arith, refl, ap, sym, subst, ◌∙◌}
 use Rattle.std.specs.Prelude.{Contains, is_some}
 use Rattle.kernel_model.specs.declared.Note.{Note}
-use Rattle.kernel_model.specs.World.{Blocks}
+use Rattle.kernel_model.specs.World.{Blocks, World}
 use Rattle.kernel_model.specs.Meaning.{Meaning}
 use Rattle.kernel_model.specs.Kernel.{Call, Entry, Run, has_level, is_at_piece}
 use Rattle.kernel_model.specs.Blocking.{levels_of}
-use Rattle.disk_log.specs.Seen.{DiskSeen}
+use Rattle.vino_base.specs.Disks.{DiskSeen}
 use Rattle.kernel_state.specs.Stores.{world_of_store}
 use Rattle.kernel_model.specs.Levels.{Level}
 use Rattle.placed_laws.specs.Agreeing.{SameShown}
@@ -15,9 +15,10 @@ use Rattle.placed_laws.specs.Stands.{StandsFor, RunStandsFor, without_history}
 use Rattle.kernel_steps.specs.declared.running.Running.{Running}
 use Rattle.kernel_steps.specs.Composing.{did_as, did_nothing, did_purely, did_then}
 use Rattle.kernel_steps.specs.WholeBlocks.{some_blocks, blocks_are_whole}
+use Rattle.kernel_steps.specs.Moments.{moment, Moment}
+use Rattle.kernel_steps.specs.Sound.{IsSoundOn, RefinesAndKeeps}
 use Rattle.kernel_steps.specs.Refines.{first_notes}
 use Rattle.kernel_steps.specs.Views.{placed_of, run_of, IsRunning, HasAbstraction}
-use Rattle.kernel_core.specs.RefinesAndKeeps.{RefinesAndKeeps}
 
 -- ---- a kernel goes on to stand
 
@@ -32,12 +33,12 @@ stood_as m y t r h is = record { kernel = r.kernel; stands = subst (λ z. Stands
 -- ---- parts
 
 pub went_as : {C B M : Type 0} {P : _} (m : Meaning) (f g : PlacedRun → PlacedRun) (x y : Running C B M P) (kept kept_new : List Note) (d e : DiskSeen) →
-    ((blocks : Blocks) (notes : List Note) (io : List Bool) → f (run_of (placed_of x) blocks notes io) ≡ g (run_of (placed_of x) blocks notes io)) → RefinesAndKeeps m g x y kept kept_new d e → RefinesAndKeeps m f x y kept kept_new d e
+    ((blocks : Blocks) (notes : List Note) (io : List Bool) → f (run_of (placed_of x) blocks notes io) ≡ g (run_of (placed_of x) blocks notes io)) → RefinesAndKeeps m g (moment x kept d) (moment y kept_new e) → RefinesAndKeeps m f (moment x kept d) (moment y kept_new e)
 went_as m f g x y kept kept_new d e same h =
     record { refines = did_as f g (placed_of x) (placed_of y) kept kept_new d e same h.refines; running = h.running; abstraction = h.abstraction; world = h.world; clock = h.clock }
 
 pub went_then : {C B M : Type 0} {P : _} (m : Meaning) (f g : PlacedRun → PlacedRun) (x y z : Running C B M P) (a b c : List Note) (d e l : DiskSeen) →
-    RefinesAndKeeps m f x y a b d e → RefinesAndKeeps m g y z b c e l → RefinesAndKeeps m (λ r. g (f r)) x z a c d l
+    RefinesAndKeeps m f (moment x a d) (moment y b e) → RefinesAndKeeps m g (moment y b e) (moment z c l) → RefinesAndKeeps m (λ r. g (f r)) (moment x a d) (moment z c l)
 went_then m f g x y z a b c d e l first second =
     record {
       refines = did_then f g (placed_of x) (placed_of y) (placed_of z) a b c d e l first.refines second.refines;
@@ -51,21 +52,27 @@ went_then m f g x y z a b c d e l first second =
 pub went_purely : {C B M : Type 0} {P : _} (m : Meaning) (f : PlacedRun → PlacedRun) (x y : Running C B M P) (kept kept_new more : List Note) (d : DiskSeen) →
     ((blocks : Blocks) (notes : List Note) (io : List Bool) → f (run_of (placed_of x) blocks notes io) ≡ run_of (placed_of y) blocks (notes ++ more) io) →
     ((notes : List Note) → kept ≡ first_notes notes → kept_new ≡ first_notes (notes ++ more)) → IsRunning y → HasAbstraction m (placed_of y) → world_of_store y.store ≡ world_of_store x.store → y.clock ≡ x.clock →
-    RefinesAndKeeps m f x y kept kept_new d d
+    RefinesAndKeeps m f (moment x kept d) (moment y kept_new d)
 went_purely m f x y kept kept_new more d same adds running abstraction world clock =
     record { refines = did_purely f (placed_of x) (placed_of y) kept kept_new more d same adds; running = running; abstraction = abstraction; world = world; clock = clock }
 
 -- the same without notes
 pub went_silently : {C B M : Type 0} {P : _} (m : Meaning) (f : PlacedRun → PlacedRun) (x y : Running C B M P) (kept : List Note) (d : DiskSeen) →
     ((notes : List Note) (blocks : Blocks) (io : List Bool) → f (run_of (placed_of x) blocks notes io) ≡ run_of (placed_of y) blocks notes io) →
-    IsRunning y → HasAbstraction m (placed_of y) → world_of_store y.store ≡ world_of_store x.store → y.clock ≡ x.clock → RefinesAndKeeps m f x y kept kept d d
+    IsRunning y → HasAbstraction m (placed_of y) → world_of_store y.store ≡ world_of_store x.store → y.clock ≡ x.clock → RefinesAndKeeps m f (moment x kept d) (moment y kept d)
 went_silently m f x y kept d same running abstraction world clock =
     went_purely m f x y kept kept [] d (λ blocks notes io. same notes blocks io ∙ ap (λ ns. run_of (placed_of y) blocks ns io) (sym (append-nil notes)))
     (λ notes k. k ∙ ap first_notes (sym (append-nil notes))) running abstraction world clock
 
+-- a change leaves a sound kernel on its disk
+pub still_on : {C B M : Type 0} {P : _} {m : Meaning} {f : PlacedRun → PlacedRun} {a b : Moment (Running C B M P)} → RefinesAndKeeps m f a b →
+    a.kernel.store.size ≡ a.disk.size → IsSoundOn m b.kernel b.disk
+still_on h disk =
+    record { running = h.running; abstraction = h.abstraction; disk = ap (λ (v : World). v.disk_size) h.world ∙ disk ∙ sym h.refines.made.size }
+
 -- nothing
 pub went_nothing : {C B M : Type 0} {P : _} (m : Meaning) (x : Running C B M P) (kept : List Note) (d : DiskSeen) → IsRunning x → HasAbstraction m (placed_of x) →
-    RefinesAndKeeps m (λ r. r) x x kept kept d d
+    RefinesAndKeeps m (λ r. r) (moment x kept d) (moment x kept d)
 went_nothing m x kept d running abstraction = record { refines = did_nothing (placed_of x) kept d; running = running; abstraction = abstraction; world = refl; clock = refl }
 
 -- ---- who stands in the order

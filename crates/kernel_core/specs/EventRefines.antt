@@ -1,7 +1,7 @@
 -- What an event makes of a running kernel, and what always holds of one.
 use Rattle.std.specs.Prelude.{◌≡◌, ℕ, ◌≤◌, Bool, List, ◌++◌, Option}
 use Rattle.disk_log.specs.Calls.{Knows, Made}
-use Rattle.disk_log.specs.Seen.{DiskSeen}
+use Rattle.vino_base.specs.Disks.{DiskSeen}
 use Rattle.kernel_model.specs.declared.Event.{Event}
 use Rattle.kernel_model.specs.declared.Note.{Note}
 use Rattle.kernel_model.specs.World.{Blocks}
@@ -41,7 +41,7 @@ pub record EventRefines (m : Meaning) (x y : Placed) (number : ℕ) (what : Even
     (d e : DiskSeen) : Type 0 where
   -- which of its calls of the disk failed
   pub io : List Bool
-  pub made : Made d.faults e.faults d.plan e.plan io
+  pub made : Made d e io
   pub is : (k : Kernel) (blocks : Blocks) (rest : List Bool) → StandsFor m x k → IsAtRest m k →
       Knows d.known blocks →
       EventIs m (event m k blocks number what (io ++ rest)) y notes e.known rest

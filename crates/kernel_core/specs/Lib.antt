@@ -1,5 +1,5 @@
 pub mod EventRefines
-pub mod RefinesAndKeeps
+pub mod EventParts
 pub mod Standing
 pub mod PlacedSections
 pub mod AddedImages

@@ -1,7 +1,7 @@
 -- What a kernel is before `boot`, and what a boot makes of it.
 use Rattle.std.specs.Prelude.{◌≡◌, ℕ, Bool, true, false, List, [], length, Option}
 use Rattle.disk_log.specs.Calls.{Knows, Made}
-use Rattle.disk_log.specs.Seen.{DiskSeen}
+use Rattle.vino_base.specs.Disks.{DiskSeen}
 use Rattle.kernel_model.specs.declared.FileRow.{FileRow}
 use Rattle.kernel_model.specs.World.{Blocks}
 use Rattle.kernel_model.specs.Directory.{directory_of, usable_count}
@@ -58,5 +58,5 @@ pub record Booted (m : Meaning) (setup : Setup) (size : ℕ) (y : Placed) (note 
   -- whether its one call of the disk failed
   pub io : List Bool
   pub one : length io ≡ 1
-  pub made : Made d.faults e.faults d.plan e.plan io
+  pub made : Made d e io
   pub is : (blocks : Blocks) → Knows d.known blocks → BootIs m setup size blocks io y note e.known

@@ -1,6 +1,6 @@
 -- How a call begins at its event, or is refused at once.
 use Rattle.std.specs.Prelude.{◌≡◌, ℕ, List, Some, Result, Ok, Err}
-use Rattle.disk_log.specs.Seen.{DiskSeen}
+use Rattle.vino_base.specs.Disks.{DiskSeen}
 use Rattle.kernel_model.specs.declared.Note.{Note}
 use Rattle.kernel_model.specs.declared.SysCall.{SysCall}
 use Rattle.kernel_model.specs.declared.Refusal.{Refusal}
@@ -11,7 +11,8 @@ use Rattle.placed_laws.specs.Keeping.{first_placed}
 use Rattle.placed_laws.specs.PlacedSteps.{placed_joins, with_placed_call}
 use Rattle.kernel_steps.specs.declared.running.Running.{Running}
 use Rattle.kernel_steps.specs.Begins.{NotBegun}
-use Rattle.kernel_core.specs.RefinesAndKeeps.{RefinesAndKeeps}
+use Rattle.kernel_steps.specs.Moments.{moment}
+use Rattle.kernel_steps.specs.Sound.{RefinesAndKeeps}
 
 -- A call of p was granted, and joined the order.
 pub record Started {C B M : Type 0} {P : _} (m : Meaning) (p number : ℕ) (call : SysCall)
@@ -19,7 +20,8 @@ pub record Started {C B M : Type 0} {P : _} (m : Meaning) (p number : ℕ) (call
   pub first : Stage
   pub granted : m.early (world_of_store x.store) (table_of x.images) p call ≡ Ok first
   pub went : (kept : List Note) (d : DiskSeen) → RefinesAndKeeps m
-      (λ r. placed_joins p (with_placed_call p (Some (first_placed number first)) r)) x y kept kept d d
+      (λ r. placed_joins p (with_placed_call p (Some (first_placed number first)) r))
+      (moment x kept d) (moment y kept d)
 
 -- a call of p starts, or is refused at once
 abbrev pub Starts : {C B M A : Type 0} {P : _} → Meaning → (p number : ℕ) → SysCall →

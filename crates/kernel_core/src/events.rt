@@ -1,16 +1,17 @@
 //! `event`.
 
 ghost use Rattle.std.specs.Prelude.{◌≡◌, ◌<◌, ◌-◌, ◌^◌, [], true, None};
-ghost use Rattle.disk_log.specs.Seen.{disk_seen};
 ghost use Rattle.kernel_model.specs.declared.Event.TheVariants.{Step, Sys};
 ghost use Rattle.kernel_model.specs.Bare.{call_with, event_with};
 ghost use Rattle.kernel_model.specs.Policies.{lives};
 ghost use Rattle.kernel_state.specs.Stores.{world_of_store, queue_of};
 ghost use Rattle.placed_laws.specs.PlacedEvents.{placed_event_on, placed_last, placed_settled};
-ghost use Rattle.kernel_steps.specs.Views.{placed_of, IsRunning, HasAbstraction};
+ghost use Rattle.kernel_steps.specs.Moments.{moment};
+ghost use Rattle.kernel_steps.specs.Sound.{CanRun, IsSoundFor, IsSoundOn, RefinesAndKeeps};
+ghost use Rattle.kernel_core.specs.EventParts.{RunsFromRest};
+ghost use Rattle.kernel_steps.specs.Views.{placed_of};
 ghost use Rattle.kernel_core.specs.EventRefines.{EventRefines, IsKernel};
 ghost use Rattle.kernel_core.specs.Starts.{Starts};
-ghost use Rattle.kernel_core.specs.RefinesAndKeeps.{RefinesFromRest, KeepsRunning, RefinesAndKeeps};
 
 use crate::last::say_last;
 use crate::settle::settle_all;
@@ -20,8 +21,8 @@ use arrayvec::ArrayVec;
 use call_pieces::Calls;
 use graft_points::Policy;
 use history_laws::notes as few_notes;
-use kernel_model::{BLOCK_BYTES, BareCall, BareEvent, BareNote, Refusal};
-use kernel_steps::{Running, Trace};
+use kernel_model::{BLOCK_BYTES, BareEvent, BareNote, Refusal};
+use kernel_steps::{Request, Running, Trace};
 use placed_laws::{agreeing, keeping};
 use vino_base::Disk;
 
@@ -33,21 +34,18 @@ const MOST_STEPS: u32 = 65_536;
 fn begin<C: Calls, B: Policy>(
     running: &mut Running<C, B>,
     p: u8,
-    number: u32,
-    call: BareCall,
-    bytes: &ArrayVec<u8, BLOCK_BYTES>,
+    request: Request<'_>,
 ) -> Result<(), Refusal>
-    requires process { p < 16 }
+    requires at { IsSoundFor C.Meaning.meaning running.old p }
     requires alive { lives (queue_of running.old.store) p ≡ true }
     requires none { (placed_of running.old).call p ≡ None }
-    requires running { IsRunning running.old }
-    requires abstraction { HasAbstraction C.Meaning.meaning (placed_of running.old) }
-    ensures { Starts C.Meaning.meaning p number (call_with call bytes.now.items)
+    ensures { Starts C.Meaning.meaning p request.entry.number
+        (call_with request.entry.call request.entry.bytes.now.items)
         running.old running.new result }
 {
     agreeing::same_shown::<C::Meaning>();
     keeping::others_stand::<C::Meaning>();
-    running.begin(p, number, call, bytes)
+    running.begin(p, request)
 }
 
 /// A call of process p that has begun, as far as it comes at its event.
@@ -57,16 +55,11 @@ fn run<C: Calls, B: Policy, D: Disk>(
     disk: &mut D,
     trace: &mut Trace,
 )
-    requires process { p < 16 }
-    requires running { IsRunning running.old }
-    requires abstraction { HasAbstraction C.Meaning.meaning (placed_of running.old) }
-    requires disk { running.old.store.size ≡ D.block_count disk.old }
-    ensures went { RefinesAndKeeps C.Meaning.meaning
+    requires { CanRun C.Meaning.meaning running.old (D.seen disk.old) p }
+    ensures { RefinesAndKeeps C.Meaning.meaning
         (λ r. placed_last C.Meaning.meaning p (placed_settled C.Meaning.meaning r))
-        running.old running.new trace.old.notes trace.new.notes
-        (disk_seen (D.blocks disk.old) (D.plan disk.old) (D.faults disk.old))
-        (disk_seen (D.blocks disk.new) (D.plan disk.new) (D.faults disk.new)) }
-    ensures same_size { D.block_count disk.new ≡ D.block_count disk.old }
+        (moment running.old trace.old.notes (D.seen disk.old))
+        (moment running.new trace.new.notes (D.seen disk.new)) }
 {
     settle_all(running, disk, trace);
     say_last(running, p, &mut trace.notes);
@@ -75,23 +68,19 @@ fn run<C: Calls, B: Policy, D: Disk>(
 /// A system call of process p: refused at once, or begun.
 fn system<C: Calls, B: Policy, D: Disk>(
     running: &mut Running<C, B>,
-    number: u32,
     p: u32,
-    call: BareCall,
-    bytes: &ArrayVec<u8, BLOCK_BYTES>,
+    request: Request<'_>,
     disk: &mut D,
     trace: &mut Trace,
 )
-    requires running { IsRunning running.old }
-    requires abstraction { HasAbstraction C.Meaning.meaning (placed_of running.old) }
-    requires disk { running.old.store.size ≡ D.block_count disk.old }
-    ensures went { RefinesAndKeeps C.Meaning.meaning
-        (placed_event_on C.Meaning.meaning number (Sys p (call_with call bytes.now.items)))
-        running.old running.new trace.old.notes trace.new.notes
-        (disk_seen (D.blocks disk.old) (D.plan disk.old) (D.faults disk.old))
-        (disk_seen (D.blocks disk.new) (D.plan disk.new) (D.faults disk.new)) }
-    ensures same_size { D.block_count disk.new ≡ D.block_count disk.old }
+    requires { IsSoundOn C.Meaning.meaning running.old (D.seen disk.old) }
+    ensures { RefinesAndKeeps C.Meaning.meaning
+        (placed_event_on C.Meaning.meaning request.entry.number
+        (Sys p (call_with request.entry.call request.entry.bytes.now.items)))
+        (moment running.old trace.old.notes (D.seen disk.old))
+        (moment running.new trace.new.notes (D.seen disk.new)) }
 {
+    let number = request.number;
     if !running.store.living(p) {
         return trace
             .notes
@@ -102,7 +91,7 @@ fn system<C: Calls, B: Policy, D: Disk>(
             .notes
             .push(BareNote::Refused(number, Refusal::Busy(busy)));
     }
-    match begin(running, p as u8, number, call, bytes) {
+    match begin(running, p as u8, request) {
         Err(refusal) => trace.notes.push(BareNote::Refused(number, refusal)),
         Ok(()) => run(running, p as u8, disk, trace),
     }
@@ -117,16 +106,11 @@ fn stepped<C: Calls, B: Policy, D: Disk>(
     disk: &mut D,
     trace: &mut Trace,
 )
-    requires running { IsRunning running.old }
-    requires abstraction { HasAbstraction C.Meaning.meaning (placed_of running.old) }
-    requires disk { running.old.store.size ≡ D.block_count disk.old }
-    ensures refines { RefinesFromRest C.Meaning.meaning
-        (placed_event_on C.Meaning.meaning number (Step p n)) (placed_of running.old)
-        (placed_of running.new) trace.old.notes trace.new.notes
-        (disk_seen (D.blocks disk.old) (D.plan disk.old) (D.faults disk.old))
-        (disk_seen (D.blocks disk.new) (D.plan disk.new) (D.faults disk.new)) }
-    ensures on { KeepsRunning C.Meaning.meaning running.old running.new }
-    ensures same_size { D.block_count disk.new ≡ D.block_count disk.old }
+    requires { IsSoundOn C.Meaning.meaning running.old (D.seen disk.old) }
+    ensures { RunsFromRest C.Meaning.meaning
+        (placed_event_on C.Meaning.meaning number (Step p n))
+        (moment running.old trace.old.notes (D.seen disk.old))
+        (moment running.new trace.new.notes (D.seen disk.new)) }
 {
     if !running.store.living(p) {
         return trace
@@ -159,15 +143,13 @@ pub fn event<C: Calls, B: Policy, D: Disk>(
     requires first { 0 < number }
     requires room { number < 2 ^ 32 - 1 }
     requires kernel { IsKernel C.Meaning.meaning (number - 1) running.old }
-    requires disk { running.old.store.size ≡ D.block_count disk.old }
+    requires disk { running.old.store.size ≡ (D.seen disk.old).size }
     requires no_notes { trace.old.notes ≡ [] }
     ensures happened { EventRefines C.Meaning.meaning (placed_of running.old)
         (placed_of running.new) number (event_with what bytes.now.items) trace.new.notes
-        (disk_seen (D.blocks disk.old) (D.plan disk.old) (D.faults disk.old))
-        (disk_seen (D.blocks disk.new) (D.plan disk.new) (D.faults disk.new)) }
+        (D.seen disk.old) (D.seen disk.new) }
     ensures kernel { IsKernel C.Meaning.meaning number running.new }
     ensures world { world_of_store running.new.store ≡ world_of_store running.old.store }
-    ensures same_size { D.block_count disk.new ≡ D.block_count disk.old }
 {
     keeping::events_stand::<C::Meaning>();
     few_notes::events_leave_few_notes::<C::Meaning>();
@@ -175,6 +157,13 @@ pub fn event<C: Calls, B: Policy, D: Disk>(
     match what {
         BareEvent::Tick => tick_event(running, number, disk, trace),
         BareEvent::Step(p, n) => stepped(running, number, p, n, disk, trace),
-        BareEvent::Sys(p, call) => system(running, number, p, call, bytes, disk, trace),
+        BareEvent::Sys(p, call) => {
+            let request = Request {
+                number,
+                call,
+                bytes,
+            };
+            system(running, p, request, disk, trace)
+        }
     }
 }

@@ -1,8 +1,7 @@
 //! The kernel: a running kernel over a disk. It is booted, takes events one after another, and
 //! shows what it is.
 
-ghost use Rattle.std.specs.Prelude.{◌≡◌, ℕ, ◌<◌, ◌≤◌, ◌-◌, ◌^◌, [], map, None, is_some, option_map, slice_get, IfOk, IfSome};
-ghost use Rattle.disk_log.specs.Seen.{disk_seen};
+ghost use Rattle.std.specs.Prelude.{◌≡◌, ◌<◌, ◌≤◌, ◌-◌, ◌^◌, [], map, None, is_some, option_map, slice_get, IfOk, IfSome};
 ghost use Rattle.kernel_model.specs.Bare.{event_with};
 ghost use Rattle.kernel_model.specs.Kernel.{Kernel as Abstract};
 ghost use Rattle.kernel_model.specs.Opening.{opening_policy};
@@ -14,7 +13,8 @@ ghost use Rattle.kernel_state.specs.Stores.{world_of_store};
 ghost use Rattle.placed_laws.specs.Placed.{PlacedCall};
 ghost use Rattle.placed_laws.specs.PlacedRows.{placed_rows};
 ghost use Rattle.placed_laws.specs.Stands.{StandsFor};
-ghost use Rattle.kernel_steps.specs.Views.{placed_of, IsRunning, HasAbstraction};
+ghost use Rattle.kernel_steps.specs.Sound.{IsSound};
+ghost use Rattle.kernel_steps.specs.Views.{placed_of, IsRunning};
 ghost use Rattle.kernel_core.specs.EventRefines.{EventRefines, IsKernel};
 ghost use Rattle.kernel_core.specs.PlacedSections.{row_found, row_if_found, IsRow, TakesRow};
 ghost use Rattle.kernel_core.specs.Standing.{IsBlank, Booted};
@@ -90,13 +90,11 @@ impl<C: Calls, B: Policy> Kernel<C, B> {
         requires frames_least { 2 ≤ setup.frames }
         requires frames_most { setup.frames ≤ 64 }
         requires blank { IsBlank self.old.running }
-        ensures booted { Booted C.Meaning.meaning setup (D.block_count disk.old)
+        ensures booted { Booted C.Meaning.meaning setup (D.seen disk.old).size
             (placed_of self.new.running) result
-            (disk_seen (D.blocks disk.old) (D.plan disk.old) (D.faults disk.old))
-            (disk_seen (D.blocks disk.new) (D.plan disk.new) (D.faults disk.new)) }
+            (D.seen disk.old) (D.seen disk.new) }
         ensures kernel { IsKernel C.Meaning.meaning 0 self.new.running }
-        ensures size { self.new.running.store.size ≡ D.block_count disk.old }
-        ensures same_size { D.block_count disk.new ≡ D.block_count disk.old }
+        ensures size { self.new.running.store.size ≡ (D.seen disk.old).size }
     {
         let size = disk.size();
         let mut block = [0; 512];
@@ -125,10 +123,9 @@ impl<C: Calls, B: Policy> Kernel<C, B> {
 
     /// A slot that is free has this image from now on. No memory is taken.
     pub(crate) fn put_image(&mut self, slot: u32, image: Loaded)
+        requires sound { IsSound C.Meaning.meaning self.old.running }
         requires slot { slot < 32 }
         requires free { (placed_of self.old.running).images slot ≡ None }
-        requires running { IsRunning self.old.running }
-        requires abstraction { HasAbstraction C.Meaning.meaning (placed_of self.old.running) }
         ensures stands { (k : Abstract) →
             StandsFor C.Meaning.meaning (placed_of self.old.running) k →
             StandsFor C.Meaning.meaning (placed_of self.new.running)
@@ -136,8 +133,7 @@ impl<C: Calls, B: Policy> Kernel<C, B> {
         ensures rests { (k : Abstract) → StandsFor C.Meaning.meaning
             (placed_of self.old.running) k → IsAtRest C.Meaning.meaning k →
             IsAtRest C.Meaning.meaning (session.add_image slot image k) }
-        ensures running { IsRunning self.new.running }
-        ensures abstraction { HasAbstraction C.Meaning.meaning (placed_of self.new.running) }
+        ensures sound { IsSound C.Meaning.meaning self.new.running }
         ensures store { self.new.running.store ≡ self.old.running.store }
         ensures clock { self.new.running.clock ≡ self.old.running.clock }
     {
@@ -165,23 +161,21 @@ impl<C: Calls, B: Policy> Kernel<C, B> {
         requires first { 0 < number }
         requires room { number < 2 ^ 32 - 1 }
         requires kernel { IsKernel C.Meaning.meaning (number - 1) self.old.running }
-        requires disk { self.old.running.store.size ≡ D.block_count disk.old }
+        requires disk { self.old.running.store.size ≡ (D.seen disk.old).size }
         requires no_notes { trace.old.notes ≡ [] }
         ensures happened { EventRefines C.Meaning.meaning (placed_of self.old.running)
             (placed_of self.new.running) number (event_with what bytes.now.items)
             trace.new.notes
-            (disk_seen (D.blocks disk.old) (D.plan disk.old) (D.faults disk.old))
-            (disk_seen (D.blocks disk.new) (D.plan disk.new) (D.faults disk.new)) }
+            (D.seen disk.old) (D.seen disk.new) }
         ensures kernel { IsKernel C.Meaning.meaning number self.new.running }
         ensures world { world_of_store self.new.running.store
             ≡ world_of_store self.old.running.store }
-        ensures same_size { D.block_count disk.new ≡ D.block_count disk.old }
     {
         event(&mut self.running, number, what, bytes, disk, trace);
     }
 
-    /// The i-th of the rows that show the whole state, which are those of each abstract kernel that the
-    /// kernel stands for. None past the last.
+    /// The i-th of the rows that show the whole state, which are those of each abstract kernel that
+    /// the kernel stands for. None past the last.
     pub fn raw(&self, i: u32) -> Option<RawRow>
         requires running { IsRunning self.now.running }
         ensures value { result ≡ slice_get (placed_rows (placed_of self.now.running)) i }
@@ -201,6 +195,7 @@ impl<C: Calls, B: Policy> Kernel<C, B> {
     {
         placed_rows::next_row(&self.running, at)
     }
+
     /// Where the next row from a place on stands, which then is behind that row. None where no row
     /// is left.
     pub fn find_row(&self, at: &mut RowPlace) -> Option<FoundRow>

@@ -1,11 +1,13 @@
 //! Where a call stands at the end of an event.
 
-ghost use Rattle.std.specs.Prelude.{◌≡◌, ◌<◌};
-ghost use Rattle.disk_log.specs.Seen.{DiskSeen};
+ghost use Rattle.std.specs.Prelude.{◌<◌};
+ghost use Rattle.vino_base.specs.Disks.{DiskSeen};
 ghost use Rattle.placed_laws.specs.PlacedEvents.{placed_last, placed_waits_note};
 ghost use Rattle.placed_laws.specs.Placed.{placed_blocker};
+ghost use Rattle.kernel_steps.specs.Moments.{moment};
+ghost use Rattle.kernel_steps.specs.Sound.{IsSoundFor};
 ghost use Rattle.kernel_steps.specs.Refines.{Refines};
-ghost use Rattle.kernel_steps.specs.Views.{placed_of, IsRunning, HasAbstraction};
+ghost use Rattle.kernel_steps.specs.Views.{placed_of};
 
 use call_pieces::Calls;
 use graft_points::Policy;
@@ -14,12 +16,10 @@ use kernel_steps::{Notes, Running};
 
 /// Says for what process p's call of this number waits, if something blocks it.
 fn say_wait<C: Calls, B: Policy>(running: &Running<C, B>, p: u8, number: u32, notes: &mut Notes)
-    requires process { p < 16 }
-    requires running { IsRunning running.now }
-    requires abstraction { HasAbstraction C.Meaning.meaning (placed_of running.now) }
+    requires { IsSoundFor C.Meaning.meaning running.now p }
     ensures said { (d : DiskSeen) → let x = placed_of running.now in
-        Refines (placed_waits_note number (placed_blocker C.Meaning.meaning x p)) x x notes.old
-        notes.new d d }
+        Refines (placed_waits_note number (placed_blocker C.Meaning.meaning x p))
+        (moment x notes.old d) (moment x notes.new d) }
 {
     if let Some(found) = running.blocker(p) {
         notes.push(BareNote::Waits(number, found.object, found.holder));
@@ -28,11 +28,9 @@ fn say_wait<C: Calls, B: Policy>(running: &Running<C, B>, p: u8, number: u32, no
 
 /// Says where process p's call stands, if it is still in flight: it waits, or it is in a graft.
 pub(crate) fn say_last<C: Calls, B: Policy>(running: &Running<C, B>, p: u8, notes: &mut Notes)
-    requires process { p < 16 }
-    requires running { IsRunning running.now }
-    requires abstraction { HasAbstraction C.Meaning.meaning (placed_of running.now) }
+    requires { IsSoundFor C.Meaning.meaning running.now p }
     ensures said { (d : DiskSeen) → let x = placed_of running.now in
-        Refines (placed_last C.Meaning.meaning p) x x notes.old notes.new d d }
+        Refines (placed_last C.Meaning.meaning p) (moment x notes.old d) (moment x notes.new d) }
 {
     let Some(number) = running.call_number(p) else {
         return;

@@ -1,11 +1,11 @@
 //! Steps until all calls are blocked.
 
-ghost use Rattle.std.specs.Prelude.{◌≡◌, List};
-ghost use Rattle.disk_log.specs.Seen.{DiskSeen, disk_seen};
+ghost use Rattle.std.specs.Prelude.{List};
+ghost use Rattle.vino_base.specs.Disks.{DiskSeen};
 ghost use Rattle.kernel_model.specs.declared.Note.{Note as Told};
 ghost use Rattle.placed_laws.specs.PlacedEvents.{placed_rested, placed_settle, placed_settled};
-ghost use Rattle.kernel_steps.specs.Views.{placed_of, IsRunning, HasAbstraction};
-ghost use Rattle.kernel_core.specs.RefinesAndKeeps.{RefinesAndKeeps};
+ghost use Rattle.kernel_steps.specs.Moments.{moment};
+ghost use Rattle.kernel_steps.specs.Sound.{IsSound, IsSoundOn, RefinesAndKeeps};
 
 use call_pieces::Calls;
 use graft_points::Policy;
@@ -18,11 +18,10 @@ const STEPS: u16 = 256;
 
 /// The order is told its blockers.
 fn rest<C: Calls, B: Policy>(running: &mut Running<C, B>)
-    requires running { IsRunning running.old }
-    requires abstraction { HasAbstraction C.Meaning.meaning (placed_of running.old) }
+    requires { IsSound C.Meaning.meaning running.old }
     ensures went { (kept : List Told) (d : DiskSeen) →
-        RefinesAndKeeps C.Meaning.meaning (placed_rested C.Meaning.meaning) running.old running.new
-        kept kept d d }
+        RefinesAndKeeps C.Meaning.meaning (placed_rested C.Meaning.meaning)
+        (moment running.old kept d) (moment running.new kept d) }
 {
     keeping::others_stand::<C::Meaning>();
     running.rest();
@@ -35,14 +34,10 @@ fn settle<C: Calls, B: Policy, D: Disk>(
     disk: &mut D,
     trace: &mut Trace,
 )
-    requires running { IsRunning running.old }
-    requires abstraction { HasAbstraction C.Meaning.meaning (placed_of running.old) }
-    requires disk { running.old.store.size ≡ D.block_count disk.old }
-    ensures went { RefinesAndKeeps C.Meaning.meaning (placed_settle C.Meaning.meaning turns)
-        running.old running.new trace.old.notes trace.new.notes
-        (disk_seen (D.blocks disk.old) (D.plan disk.old) (D.faults disk.old))
-        (disk_seen (D.blocks disk.new) (D.plan disk.new) (D.faults disk.new)) }
-    ensures same_size { D.block_count disk.new ≡ D.block_count disk.old }
+    requires { IsSoundOn C.Meaning.meaning running.old (D.seen disk.old) }
+    ensures { RefinesAndKeeps C.Meaning.meaning (placed_settle C.Meaning.meaning turns)
+        (moment running.old trace.old.notes (D.seen disk.old))
+        (moment running.new trace.new.notes (D.seen disk.new)) }
 {
     agreeing::same_shown::<C::Meaning>();
     if turns == 0 {
@@ -61,14 +56,10 @@ pub(crate) fn settle_all<C: Calls, B: Policy, D: Disk>(
     disk: &mut D,
     trace: &mut Trace,
 )
-    requires running { IsRunning running.old }
-    requires abstraction { HasAbstraction C.Meaning.meaning (placed_of running.old) }
-    requires disk { running.old.store.size ≡ D.block_count disk.old }
-    ensures went { RefinesAndKeeps C.Meaning.meaning (placed_settled C.Meaning.meaning)
-        running.old running.new trace.old.notes trace.new.notes
-        (disk_seen (D.blocks disk.old) (D.plan disk.old) (D.faults disk.old))
-        (disk_seen (D.blocks disk.new) (D.plan disk.new) (D.faults disk.new)) }
-    ensures same_size { D.block_count disk.new ≡ D.block_count disk.old }
+    requires { IsSoundOn C.Meaning.meaning running.old (D.seen disk.old) }
+    ensures { RefinesAndKeeps C.Meaning.meaning (placed_settled C.Meaning.meaning)
+        (moment running.old trace.old.notes (D.seen disk.old))
+        (moment running.new trace.new.notes (D.seen disk.new)) }
 {
     settle(running, STEPS, disk, trace);
 }

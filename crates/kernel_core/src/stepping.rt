@@ -1,15 +1,16 @@
 //! Instructions of a call.
 
 ghost use Rattle.std.specs.Prelude.{◌≡◌, ◌<◌, ◌≤◌, ◌+◌, ◌^◌, ◌-◌, List, false, true, cond, is_some};
-ghost use Rattle.disk_log.specs.Seen.{DiskSeen, disk_seen};
+ghost use Rattle.vino_base.specs.Disks.{DiskSeen};
 ghost use Rattle.kernel_model.specs.declared.Note.{Note as Told};
 ghost use Rattle.kernel_model.specs.Events.{in_order};
-ghost use Rattle.kernel_state.specs.Stores.{world_of_store};
 ghost use Rattle.placed_laws.specs.Placed.{has_some, placed_blocker};
 ghost use Rattle.placed_laws.specs.PlacedSteps.{placed_joins};
 ghost use Rattle.placed_laws.specs.PlacedEvents.{placed_step_event};
-ghost use Rattle.kernel_steps.specs.Views.{placed_of, IsRunning, HasAbstraction};
-ghost use Rattle.kernel_core.specs.RefinesAndKeeps.{RefinesFromRest, RefinesToRest, KeepsRunning, RefinesAndKeeps, takes_up, taken_up, steps_said};
+ghost use Rattle.kernel_steps.specs.Moments.{moment};
+ghost use Rattle.kernel_steps.specs.Sound.{CanRun, IsSoundFor, RefinesAndKeeps};
+ghost use Rattle.kernel_core.specs.EventParts.{steps_said, taken_up, takes_up, RunsFromRest, RunsToRest};
+ghost use Rattle.kernel_steps.specs.Views.{placed_of};
 
 use crate::last::say_last;
 use crate::settle::settle_all;
@@ -23,14 +24,13 @@ use vino_base::Disk;
 
 /// Process p's call, which is in a graft, blocked, and not in the order, joins it.
 fn join<C: Calls, B: Policy>(running: &mut Running<C, B>, p: u8)
-    requires process { p < 16 }
+    requires at { IsSoundFor C.Meaning.meaning running.old p }
     requires level { has_some ((placed_of running.old).levels p) ≡ true }
     requires new { in_order p (placed_of running.old).order ≡ false }
     requires blocked { is_some (placed_blocker C.Meaning.meaning (placed_of running.old) p) ≡ true }
-    requires running { IsRunning running.old }
-    requires abstraction { HasAbstraction C.Meaning.meaning (placed_of running.old) }
     ensures went { (kept : List Told) (d : DiskSeen) →
-        RefinesAndKeeps C.Meaning.meaning (placed_joins p) running.old running.new kept kept d d }
+        RefinesAndKeeps C.Meaning.meaning (placed_joins p)
+        (moment running.old kept d) (moment running.new kept d) }
 {
     keeping::others_stand::<C::Meaning>();
     running.join(p);
@@ -45,17 +45,11 @@ fn take_up<C: Calls, B: Policy, D: Disk>(
     disk: &mut D,
     trace: &mut Trace,
 ) -> bool
-    requires process { p < 16 }
-    requires running { IsRunning running.old }
-    requires abstraction { HasAbstraction C.Meaning.meaning (placed_of running.old) }
-    requires disk { running.old.store.size ≡ D.block_count disk.old }
+    requires { CanRun C.Meaning.meaning running.old (D.seen disk.old) p }
     ensures took { result ≡ takes_up C.Meaning.meaning (placed_of running.old) p }
-    ensures refines { RefinesToRest C.Meaning.meaning (taken_up C.Meaning.meaning p)
-        (placed_of running.old) (placed_of running.new) trace.old.notes trace.new.notes
-        (disk_seen (D.blocks disk.old) (D.plan disk.old) (D.faults disk.old))
-        (disk_seen (D.blocks disk.new) (D.plan disk.new) (D.faults disk.new)) }
-    ensures on { KeepsRunning C.Meaning.meaning running.old running.new }
-    ensures same_size { D.block_count disk.new ≡ D.block_count disk.old }
+    ensures went { RunsToRest C.Meaning.meaning (taken_up C.Meaning.meaning p)
+        (moment running.old trace.old.notes (D.seen disk.old))
+        (moment running.new trace.new.notes (D.seen disk.new)) }
 {
     agreeing::same_shown::<C::Meaning>();
     keeping::steps_stand::<C::Meaning>();
@@ -97,17 +91,11 @@ fn steps<C: Calls, B: Policy, D: Disk>(
     disk: &mut D,
     trace: &mut Trace,
 )
-    requires process { p < 16 }
+    requires at { CanRun C.Meaning.meaning running.old (D.seen disk.old) p }
     requires few { n ≤ 65536 }
-    requires running { IsRunning running.old }
-    requires abstraction { HasAbstraction C.Meaning.meaning (placed_of running.old) }
-    requires disk { running.old.store.size ≡ D.block_count disk.old }
-    ensures refines { RefinesFromRest C.Meaning.meaning (steps_said C.Meaning.meaning number p n 0)
-        (placed_of running.old) (placed_of running.new) trace.old.notes trace.new.notes
-        (disk_seen (D.blocks disk.old) (D.plan disk.old) (D.faults disk.old))
-        (disk_seen (D.blocks disk.new) (D.plan disk.new) (D.faults disk.new)) }
-    ensures on { KeepsRunning C.Meaning.meaning running.old running.new }
-    ensures same_size { D.block_count disk.new ≡ D.block_count disk.old }
+    ensures { RunsFromRest C.Meaning.meaning (steps_said C.Meaning.meaning number p n 0)
+        (moment running.old trace.old.notes (D.seen disk.old))
+        (moment running.new trace.new.notes (D.seen disk.new)) }
 {
     let mut taken = 0;
     let mut going = true;
@@ -132,17 +120,11 @@ pub(crate) fn step_event<C: Calls, B: Policy, D: Disk>(
     disk: &mut D,
     trace: &mut Trace,
 )
-    requires process { p < 16 }
+    requires at { CanRun C.Meaning.meaning running.old (D.seen disk.old) p }
     requires few { n ≤ 65536 }
-    requires running { IsRunning running.old }
-    requires abstraction { HasAbstraction C.Meaning.meaning (placed_of running.old) }
-    requires disk { running.old.store.size ≡ D.block_count disk.old }
-    ensures refines { RefinesFromRest C.Meaning.meaning (placed_step_event C.Meaning.meaning number p n)
-        (placed_of running.old) (placed_of running.new) trace.old.notes trace.new.notes
-        (disk_seen (D.blocks disk.old) (D.plan disk.old) (D.faults disk.old))
-        (disk_seen (D.blocks disk.new) (D.plan disk.new) (D.faults disk.new)) }
-    ensures on { KeepsRunning C.Meaning.meaning running.old running.new }
-    ensures same_size { D.block_count disk.new ≡ D.block_count disk.old }
+    ensures { RunsFromRest C.Meaning.meaning (placed_step_event C.Meaning.meaning number p n)
+        (moment running.old trace.old.notes (D.seen disk.old))
+        (moment running.new trace.new.notes (D.seen disk.new)) }
 {
     steps(running, number, p, n, disk, trace);
     say_last(running, p, &mut trace.notes);

@@ -1,8 +1,9 @@
 //! Stretches: instructions of a call that leave no step to take, one after another.
 
-ghost use Rattle.std.specs.Prelude.{◌≡◌, ◌<◌, ◌≤◌};
-ghost use Rattle.kernel_steps.specs.Views.{placed_of, IsRunning, HasAbstraction};
-ghost use Rattle.kernel_core.specs.RefinesAndKeeps.{KeepsRunning, Leads};
+ghost use Rattle.std.specs.Prelude.{◌<◌, ◌≤◌};
+ghost use Rattle.kernel_steps.specs.Sound.{IsSoundFor, KeepsRunning};
+ghost use Rattle.kernel_core.specs.EventParts.{Leads};
+ghost use Rattle.kernel_steps.specs.Views.{placed_of};
 
 use call_pieces::Calls;
 use graft_points::Policy;
@@ -13,12 +14,10 @@ use placed_laws::{agreeing, stretching};
 /// instructions, which each go on and call nothing, or only read an object that their level holds
 /// already. How many there were. They leave no step to take.
 pub(crate) fn stretch<C: Calls, B: Policy>(running: &mut Running<C, B>, p: u8, n: u32) -> u32
-    requires process { p < 16 }
-    requires running { IsRunning running.old }
-    requires abstraction { HasAbstraction C.Meaning.meaning (placed_of running.old) }
+    requires { IsSoundFor C.Meaning.meaning running.old p }
     ensures most { result ≤ n }
-    ensures leads { let x = placed_of running.old in
-        Leads C.Meaning.meaning p result x (placed_of running.new) }
+    ensures leads { Leads C.Meaning.meaning p result (placed_of running.old)
+        (placed_of running.new) }
     ensures on { KeepsRunning C.Meaning.meaning running.old running.new }
 {
     agreeing::same_shown::<C::Meaning>();

@@ -1,14 +1,15 @@
 //! The time-outs of a tick.
 
-ghost use Rattle.std.specs.Prelude.{◌≡◌, ◌<◌, ◌-◌, ◌^◌, suc, List, [], Some, None, option_map};
-ghost use Rattle.disk_log.specs.Seen.{DiskSeen, disk_seen};
-ghost use Rattle.kernel_model.specs.declared.Note.{Note as Told};
+ghost use Rattle.std.specs.Prelude.{◌≡◌, ◌<◌, ◌-◌, ◌^◌, [], Some, None, option_map};
+ghost use Rattle.vino_base.specs.Disks.{DiskSeen};
 ghost use Rattle.kernel_model.specs.declared.Note.TheVariants.{Refused};
 ghost use Rattle.placed_laws.specs.PlacedSteps.{placed_noted, placed_requeue, placed_ticked, with_placed_call};
 ghost use Rattle.placed_laws.specs.PlacedEvents.{placed_actions, placed_entry_action, placed_holder, placed_tick_event, placed_waiter};
 ghost use Rattle.kernel_steps.specs.Orders.{blocker_of, entry_of};
-ghost use Rattle.kernel_steps.specs.Views.{placed_of, IsRunning, HasAbstraction};
-ghost use Rattle.kernel_core.specs.RefinesAndKeeps.{RefinesAndKeeps, Ticked};
+ghost use Rattle.kernel_steps.specs.Moments.{moment};
+ghost use Rattle.kernel_steps.specs.Sound.{CanRun, IsSound, IsSoundFor, IsSoundOn, RefinesAndKeeps};
+ghost use Rattle.kernel_core.specs.EventParts.{RefinesAndTicks};
+ghost use Rattle.kernel_steps.specs.Views.{placed_of};
 
 use crate::settle::settle_all;
 use call_pieces::Calls;
@@ -29,15 +30,13 @@ fn refuse<C: Calls, B: Policy>(
     why: Refusal,
     notes: &mut Notes,
 )
-    requires process { p < 16 }
+    requires at { IsSoundFor C.Meaning.meaning running.old p }
     requires call { Some number ≡ option_map (λ c. c.number) ((placed_of running.old).call p) }
     requires none { (placed_of running.old).levels p ≡ [] }
-    requires running { IsRunning running.old }
-    requires abstraction { HasAbstraction C.Meaning.meaning (placed_of running.old) }
     ensures went { (d : DiskSeen) →
         RefinesAndKeeps C.Meaning.meaning
         (λ r. placed_requeue p (placed_noted (Refused number why) (with_placed_call p None r)))
-        running.old running.new notes.old notes.new d d }
+        (moment running.old notes.old d) (moment running.new notes.new d) }
 {
     keeping::others_stand::<C::Meaning>();
     running.end(p, BareNote::Refused(number, why), notes);
@@ -51,16 +50,11 @@ fn time_out_waiter<C: Calls, B: Policy, D: Disk>(
     disk: &mut D,
     trace: &mut Trace,
 )
-    requires process { p < 16 }
-    requires running { IsRunning running.old }
-    requires abstraction { HasAbstraction C.Meaning.meaning (placed_of running.old) }
-    requires disk { running.old.store.size ≡ D.block_count disk.old }
-    ensures went { RefinesAndKeeps C.Meaning.meaning
-        (λ r. placed_waiter C.Meaning.meaning p (blocker_of found) (r.placed.call p) r) running.old
-        running.new trace.old.notes trace.new.notes
-        (disk_seen (D.blocks disk.old) (D.plan disk.old) (D.faults disk.old))
-        (disk_seen (D.blocks disk.new) (D.plan disk.new) (D.faults disk.new)) }
-    ensures same_size { D.block_count disk.new ≡ D.block_count disk.old }
+    requires { CanRun C.Meaning.meaning running.old (D.seen disk.old) p }
+    ensures { RefinesAndKeeps C.Meaning.meaning
+        (λ r. placed_waiter C.Meaning.meaning p (blocker_of found) (r.placed.call p) r)
+        (moment running.old trace.old.notes (D.seen disk.old))
+        (moment running.new trace.new.notes (D.seen disk.new)) }
 {
     let Some(number) = running.call_number(p) else {
         return;
@@ -83,16 +77,11 @@ fn time_out_holder<C: Calls, B: Policy, D: Disk>(
     disk: &mut D,
     trace: &mut Trace,
 )
-    requires process { p < 16 }
-    requires running { IsRunning running.old }
-    requires abstraction { HasAbstraction C.Meaning.meaning (placed_of running.old) }
-    requires disk { running.old.store.size ≡ D.block_count disk.old }
-    ensures went { RefinesAndKeeps C.Meaning.meaning
-        (placed_holder C.Meaning.meaning p (blocker_of found)) running.old running.new
-        trace.old.notes trace.new.notes
-        (disk_seen (D.blocks disk.old) (D.plan disk.old) (D.faults disk.old))
-        (disk_seen (D.blocks disk.new) (D.plan disk.new) (D.faults disk.new)) }
-    ensures same_size { D.block_count disk.new ≡ D.block_count disk.old }
+    requires { CanRun C.Meaning.meaning running.old (D.seen disk.old) p }
+    ensures { RefinesAndKeeps C.Meaning.meaning
+        (placed_holder C.Meaning.meaning p (blocker_of found))
+        (moment running.old trace.old.notes (D.seen disk.old))
+        (moment running.new trace.new.notes (D.seen disk.new)) }
 {
     let Some(level) = running.level_in_the_way(p, found.object, found.holder) else {
         return;
@@ -109,15 +98,11 @@ fn act<C: Calls, B: Policy, D: Disk>(
     trace: &mut Trace,
 )
     requires process { waiting.process < 16 }
-    requires running { IsRunning running.old }
-    requires abstraction { HasAbstraction C.Meaning.meaning (placed_of running.old) }
-    requires disk { running.old.store.size ≡ D.block_count disk.old }
-    ensures went { RefinesAndKeeps C.Meaning.meaning
+    requires on { IsSoundOn C.Meaning.meaning running.old (D.seen disk.old) }
+    ensures { RefinesAndKeeps C.Meaning.meaning
         (placed_entry_action C.Meaning.meaning (entry_of waiting) (entry_of waiting).blocker)
-        running.old running.new trace.old.notes trace.new.notes
-        (disk_seen (D.blocks disk.old) (D.plan disk.old) (D.faults disk.old))
-        (disk_seen (D.blocks disk.new) (D.plan disk.new) (D.faults disk.new)) }
-    ensures same_size { D.block_count disk.new ≡ D.block_count disk.old }
+        (moment running.old trace.old.notes (D.seen disk.old))
+        (moment running.new trace.new.notes (D.seen disk.new)) }
 {
     let Some(found) = waiting.blocker else {
         return;
@@ -136,14 +121,10 @@ fn actions<C: Calls, B: Policy, D: Disk>(
     disk: &mut D,
     trace: &mut Trace,
 )
-    requires running { IsRunning running.old }
-    requires abstraction { HasAbstraction C.Meaning.meaning (placed_of running.old) }
-    requires disk { running.old.store.size ≡ D.block_count disk.old }
-    ensures went { RefinesAndKeeps C.Meaning.meaning (placed_actions C.Meaning.meaning turns)
-        running.old running.new trace.old.notes trace.new.notes
-        (disk_seen (D.blocks disk.old) (D.plan disk.old) (D.faults disk.old))
-        (disk_seen (D.blocks disk.new) (D.plan disk.new) (D.faults disk.new)) }
-    ensures same_size { D.block_count disk.new ≡ D.block_count disk.old }
+    requires { IsSoundOn C.Meaning.meaning running.old (D.seen disk.old) }
+    ensures { RefinesAndKeeps C.Meaning.meaning (placed_actions C.Meaning.meaning turns)
+        (moment running.old trace.old.notes (D.seen disk.old))
+        (moment running.new trace.new.notes (D.seen disk.new)) }
 {
     agreeing::same_shown::<C::Meaning>();
     if turns == 0 {
@@ -160,10 +141,9 @@ fn actions<C: Calls, B: Policy, D: Disk>(
 /// The clock and the counts rise.
 fn raise<C: Calls, B: Policy>(running: &mut Running<C, B>, number: u32, notes: &mut Notes)
     requires clock { running.old.clock < 2 ^ 32 - 1 }
-    requires running { IsRunning running.old }
-    requires abstraction { HasAbstraction C.Meaning.meaning (placed_of running.old) }
-    ensures ticked { (d : DiskSeen) → Ticked C.Meaning.meaning (placed_ticked number)
-        running.old running.new notes.old notes.new d d }
+    requires sound { IsSound C.Meaning.meaning running.old }
+    ensures ticked { (d : DiskSeen) → RefinesAndTicks C.Meaning.meaning (placed_ticked number)
+        (moment running.old notes.old d) (moment running.new notes.new d) }
 {
     keeping::others_stand::<C::Meaning>();
     running.tick(number, notes);
@@ -177,14 +157,10 @@ pub(crate) fn tick_event<C: Calls, B: Policy, D: Disk>(
     trace: &mut Trace,
 )
     requires clock { running.old.clock < 2 ^ 32 - 1 }
-    requires running { IsRunning running.old }
-    requires abstraction { HasAbstraction C.Meaning.meaning (placed_of running.old) }
-    requires disk { running.old.store.size ≡ D.block_count disk.old }
-    ensures ticked { Ticked C.Meaning.meaning (placed_tick_event C.Meaning.meaning number)
-        running.old running.new trace.old.notes trace.new.notes
-        (disk_seen (D.blocks disk.old) (D.plan disk.old) (D.faults disk.old))
-        (disk_seen (D.blocks disk.new) (D.plan disk.new) (D.faults disk.new)) }
-    ensures same_size { D.block_count disk.new ≡ D.block_count disk.old }
+    requires on { IsSoundOn C.Meaning.meaning running.old (D.seen disk.old) }
+    ensures { RefinesAndTicks C.Meaning.meaning (placed_tick_event C.Meaning.meaning number)
+        (moment running.old trace.old.notes (D.seen disk.old))
+        (moment running.new trace.new.notes (D.seen disk.new)) }
 {
     raise(running, number, &mut trace.notes);
     actions(running, ACTIONS, disk, trace);

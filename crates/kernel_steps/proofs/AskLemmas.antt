@@ -11,7 +11,7 @@ use Rattle.kernel_model.specs.Laws.{IsReady}
 use Rattle.kernel_model.specs.Levels.{Config}
 use Rattle.kernel_model.specs.History.{begin_at}
 use Rattle.kernel_model.specs.Sound.{IsSoundStore}
-use Rattle.disk_log.specs.Seen.{DiskSeen}
+use Rattle.vino_base.specs.Disks.{DiskSeen}
 use Rattle.kernel_state.specs.Stores.{world_of_store, objects_of}
 use Rattle.graft_loader.specs.Slots.{table_of}
 use Rattle.placed_laws.specs.Owners.{OwnersStay}
@@ -23,6 +23,7 @@ use Rattle.kernel_steps.specs.declared.running.InFlight.{InFlight}
 use Rattle.kernel_steps.specs.declared.running.Running.{Running}
 use Rattle.kernel_steps.specs.Moves.{come_to, Moved}
 use Rattle.kernel_steps.specs.Steps.{finishes, StepDone}
+use Rattle.kernel_steps.specs.Moments.{moment}
 use Rattle.kernel_steps.specs.Views.{placed_of, flight_of, chain_of, call_in_place, run_of, IsRunning, HasAbstraction}
 use Rattle.kernel_steps.proofs.PartLemmas.{levels_come, none_at}
 use Rattle.kernel_steps.proofs.StepLemmas.{alone_moved, done_as, moved_done, nothing_done, of_one}
@@ -88,7 +89,7 @@ ready_at_once m ready x p f abstraction is =
 pub entered_done : {C B M : Type 0} {P : _} (m : Meaning) → OwnersStay → (x y : Running C B M P) (p : ℕ) (c : PlacedCall) (a : Point) (kept : List Note) (d : DiskSeen) → IsRunning x → p < 16 →
     (chain_of x p).levels ≡ [] → m.asks (world_of_store x.store) (objects_of x.store) p c.stage ≡ Some a → is_some ((objects_of x.store).accounts.graft a.installer a.point) ≡ true → Moved x y p →
     placed_of y ≡ come_to p (begin_at (table_of x.images) (objects_of x.store) p (m.need (world_of_store x.store) (objects_of x.store) p c.stage) (m.feed c.stage) a) (placed_of x) →
-    StepDone (λ r. placed_call_step m p (Some c) r) x y p kept kept d d
+    StepDone (λ r. placed_call_step m p (Some c) r) p (moment x kept d) (moment y kept d)
 entered_done m law x y p c a kept d r small none asks there moved come =
     let ns = m.need (world_of_store x.store) (objects_of x.store) p c.stage in
     let f : Config = begin_at (table_of x.images) (objects_of x.store) p ns (m.feed c.stage) a in

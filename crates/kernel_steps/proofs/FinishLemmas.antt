@@ -19,14 +19,15 @@ use Rattle.graft_loader.specs.Slots.{table_of}
 use Rattle.graft_calls.specs.declared.GraftLevel.{GraftLevel}
 use Rattle.graft_calls.specs.declared.Chain.{Chain}
 use Rattle.graft_calls.specs.Chains.{put_back, levels_in, levels_of, outer}
-use Rattle.disk_log.specs.Seen.{DiskSeen}
+use Rattle.vino_base.specs.Disks.{DiskSeen}
 use Rattle.placed_laws.specs.Placed.{Placed, PlacedCall, PlacedLevel, bare}
 use Rattle.placed_laws.specs.PlacedSteps.{placed_after, placed_finish}
 use Rattle.kernel_steps.specs.declared.running.InFlight.{InFlight}
 use Rattle.kernel_steps.specs.declared.running.Running.{Running}
 use Rattle.kernel_steps.specs.Orders.{order_of}
-use Rattle.kernel_steps.specs.Refines.{RunMatches, Refines, Reaches, PieceLeft, PieceDone}
 use Rattle.kernel_steps.specs.Steps.{finishes}
+use Rattle.kernel_steps.specs.Moments.{moment}
+use Rattle.kernel_steps.specs.Refines.{PieceDone, PieceLeft, Reaches, Refines, RunMatches}
 use Rattle.kernel_steps.specs.Views.{placed_of, flight_of, chain_of, no_chain, levels_at, call_in_place, run_of}
 use Rattle.kernel_steps.proofs.CallLemmas.{with_call, calls_changed, chain_of_changed}
 use Rattle.kernel_steps.proofs.MoveLemmas.{bare_in}
@@ -112,7 +113,7 @@ piece_came m x p c q blocks notes kept_new io rest u call known l =
     }
 
 pub finish_did : (m : Meaning) (x y : Placed) (p : ℕ) (c : PlacedCall) (u : Objects) (call : Option PlacedCall) (answer : Option Answer) (kept kept_new : List Note) (d e : DiskSeen) → y ≡ finished p call u x →
-    PieceDone m x.world x.objects u p c call answer kept kept_new d e → Refines (finishes m p c answer) x y kept kept_new d e
+    PieceDone m x.world p c call answer (moment x.objects kept d) (moment u kept_new e) → Refines (finishes m p c answer) (moment x kept d) (moment y kept_new e)
 finish_did m x y p c u call answer kept kept_new d e is h =
     record {
       io = h.io;
@@ -123,7 +124,7 @@ finish_did m x y p c u call answer kept kept_new d e is h =
     }
 
 pub finish_reaches : (m : Meaning) (x y : Placed) (p : ℕ) (c : PlacedCall) (u : Objects) (call : Option PlacedCall) (answer : Option Answer) (kept kept_new : List Note) (d e : DiskSeen) → y ≡ finished p call u x →
-    PieceDone m x.world x.objects u p c call answer kept kept_new d e → Reaches (finishes m p c answer) x y
+    PieceDone m x.world p c call answer (moment x.objects kept d) (moment u kept_new e) → Reaches (finishes m p c answer) x y
 finish_reaches m x y p c u call answer kept kept_new d e is h =
     let l = h.some x.images in
     let q : Piece = m.piece x.world x.images x.objects l.blocks p c.stage answer l.io in

@@ -4,6 +4,7 @@ pub mod CallLemmas
 pub mod RunningLemmas
 pub mod StartLemmas
 pub mod HinderLemmas
+pub mod FreeLemmas
 pub mod MoveLemmas
 pub mod StayLemmas
 pub mod AgainLemmas

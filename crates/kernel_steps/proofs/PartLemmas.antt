@@ -10,7 +10,7 @@ use Rattle.kernel_model.specs.Laws.{IsReady}
 use Rattle.kernel_model.specs.Levels.{Level, Config, Outcome, drop_level}
 use Rattle.call_pieces.specs.Works.{answer_seen, stage_of}
 use Rattle.lock_table.specs.Masks.{held}
-use Rattle.disk_log.specs.Seen.{DiskSeen}
+use Rattle.vino_base.specs.Disks.{DiskSeen}
 use Rattle.kernel_state.specs.Stores.{world_of_store, objects_of}
 use Rattle.graft_loader.specs.Slots.{table_of}
 use Rattle.graft_calls.specs.Chains.{levels_of, HasAnswer}
@@ -22,6 +22,7 @@ use Rattle.kernel_steps.specs.declared.running.InFlight.{InFlight}
 use Rattle.kernel_steps.specs.declared.running.Running.{Running}
 use Rattle.kernel_steps.specs.Moves.{come_to, Moved}
 use Rattle.kernel_steps.specs.Steps.{after_said, answer_said, IsOfOne, StepsAlone, StepDone}
+use Rattle.kernel_steps.specs.Moments.{moment}
 use Rattle.kernel_steps.specs.Views.{placed_of, flight_of, chain_of, levels_at, call_at, call_in_place, run_of, IsRunning, HasAbstraction}
 use Rattle.kernel_steps.proofs.EndLemmas.{micro_ends, drop_ends, drop_answer, drop_has_answer, same_inner}
 use Rattle.kernel_steps.proofs.HinderLemmas.{some_levels}
@@ -100,8 +101,8 @@ micro_ready m ready x y p f said answer abstraction some moved come is h gives t
 
 pub micro_done : {C B M : Type 0} {P : _} (m : Meaning) (x y z : Running C B M P) (p : ℕ) (c : PlacedCall) (said : Micro) (kept kept_new : List Note) (d e : DiskSeen) → Moved x y p →
     placed_of y ≡ come_to p (micro (world_of_store x.store) (table_of x.images) p (placed_config (placed_of x) p)).config (placed_of x) →
-    said ≡ (micro (world_of_store x.store) (table_of x.images) p (placed_config (placed_of x) p)).said → HasAnswer said y.store.ram p (placed_levels (placed_of x) p) → StepDone (after_said m y.store.ram p c said) y z p kept kept_new d e →
-    StepDone (λ r. placed_outcome m p c (micro r.placed.world r.placed.images p (placed_config r.placed p)) r) x z p kept kept_new d e
+    said ≡ (micro (world_of_store x.store) (table_of x.images) p (placed_config (placed_of x) p)).said → HasAnswer said y.store.ram p (placed_levels (placed_of x) p) → StepDone (after_said m y.store.ram p c said) p (moment y kept d) (moment z kept_new e) →
+    StepDone (λ r. placed_outcome m p c (micro r.placed.world r.placed.images p (placed_config r.placed p)) r) p (moment x kept d) (moment z kept_new e)
 micro_done m x y z p c said kept kept_new d e moved come is gives h =
     let w = placed_of x in
     let o : Outcome = micro (world_of_store x.store) (table_of x.images) p (placed_config w p) in
@@ -132,8 +133,8 @@ drop_ready m ready x y p n cause f said answer abstraction low moved come is h t
 
 pub drop_done : {C B M : Type 0} {P : _} (m : Meaning) (x y z : Running C B M P) (p n : ℕ) (cause : Cause) (c : PlacedCall) (said : Micro) (kept kept_new : List Note) (d e : DiskSeen) → Moved x y p →
     placed_of y ≡ come_to p (drop_level (world_of_store x.store) (objects_of x.store) (placed_levels (placed_of x) p) n cause).config (placed_of x) →
-    said ≡ (drop_level (world_of_store x.store) (objects_of x.store) (placed_levels (placed_of x) p) n cause).said → StepDone (after_said m y.store.ram p c said) y z p kept kept_new d e →
-    StepDone (λ r. placed_outcome m p c (drop_level r.placed.world r.placed.objects (placed_config r.placed p).levels n cause) r) x z p kept kept_new d e
+    said ≡ (drop_level (world_of_store x.store) (objects_of x.store) (placed_levels (placed_of x) p) n cause).said → StepDone (after_said m y.store.ram p c said) p (moment y kept d) (moment z kept_new e) →
+    StepDone (λ r. placed_outcome m p c (drop_level r.placed.world r.placed.objects (placed_config r.placed p).levels n cause) r) p (moment x kept d) (moment z kept_new e)
 drop_done m x y z p n cause c said kept kept_new d e moved come is h =
     let w = placed_of x in
     let o : Outcome = drop_level (world_of_store x.store) (objects_of x.store) (placed_levels w p) n cause in
@@ -160,7 +161,7 @@ graft_is m p c [] r h = grind (arith, h)
 graft_is m p c (l ∷ ls) r h = refl
 
 pub at_graft : {C B M : Type 0} {P : _} (m : Meaning) (x y : Running C B M P) (p : ℕ) (c : PlacedCall) (kept kept_new : List Note) (d e : DiskSeen) → 0 < length (chain_of x p).levels →
-    StepDone (λ r. placed_outcome m p c (micro r.placed.world r.placed.images p (placed_config r.placed p)) r) x y p kept kept_new d e → StepDone (λ r. placed_call_step m p (Some c) r) x y p kept kept_new d e
+    StepDone (λ r. placed_outcome m p c (micro r.placed.world r.placed.images p (placed_config r.placed p)) r) p (moment x kept d) (moment y kept_new e) → StepDone (λ r. placed_call_step m p (Some c) r) p (moment x kept d) (moment y kept_new e)
 at_graft m x y p c kept kept_new d e some h =
     done_as (λ r. placed_call_step m p (Some c) r) (λ r. placed_outcome m p c (micro r.placed.world r.placed.images p (placed_config r.placed p)) r) x y p kept kept_new d e
     (λ blocks notes io. graft_is m p c (levels_at x p) (run_of (placed_of x) blocks notes io)
@@ -168,8 +169,8 @@ at_graft m x y p c kept kept_new d e some h =
 
 -- by which call it is
 pub at_call : {C B M : Type 0} {P : _} (m : Meaning) (x y : Running C B M P) (p : ℕ) (c : PlacedCall) (kept kept_new : List Note) (d e : DiskSeen) → call_at x p ≡ Some c →
-    StepDone (λ r. placed_call_step m p (Some c) r) x y p kept kept_new d e → StepDone (placed_call_step m p (call_at x p)) x y p kept kept_new d e
-at_call m x y p c kept kept_new d e is h = subst (λ o. StepDone (λ r. placed_call_step m p o r) x y p kept kept_new d e) (sym is) h
+    StepDone (λ r. placed_call_step m p (Some c) r) p (moment x kept d) (moment y kept_new e) → StepDone (placed_call_step m p (call_at x p)) p (moment x kept d) (moment y kept_new e)
+at_call m x y p c kept kept_new d e is h = subst (λ o. StepDone (λ r. placed_call_step m p o r) p (moment x kept d) (moment y kept_new e)) (sym is) h
 
 -- no element
 pub at_none : {A : Type 0} (xs : List A) → length xs ≡ 0 → xs ≡ []

@@ -15,7 +15,7 @@ use Rattle.kernel_model.specs.Locks.{LockTable}
 use Rattle.call_pieces.specs.Works.{answer_seen}
 use Rattle.undo_calls.specs.UndoLevels.{Logged, innermost}
 use Rattle.lock_table.specs.Masks.{held}
-use Rattle.disk_log.specs.Seen.{DiskSeen}
+use Rattle.vino_base.specs.Disks.{DiskSeen}
 use Rattle.kernel_state.specs.Stores.{world_of_store, objects_of, SegmentsStay}
 use Rattle.graft_loader.specs.Slots.{table_of}
 use Rattle.graft_calls.specs.declared.GraftLevel.{GraftLevel}
@@ -27,10 +27,11 @@ use Rattle.placed_laws.specs.Placed.{PlacedCall, PlacedLevel, PlacedRun, bare, p
 use Rattle.placed_laws.specs.PlacedSteps.{placed_finish, placed_finish_on, placed_noted, placed_after_outcome, placed_outcome, with_config}
 use Rattle.kernel_steps.specs.declared.running.InFlight.{InFlight}
 use Rattle.kernel_steps.specs.declared.running.Running.{Running}
-use Rattle.kernel_steps.specs.Refines.{first_notes, PieceDone}
 use Rattle.kernel_steps.specs.Moves.{come_to, Moved}
 use Rattle.kernel_steps.specs.Owned.{AreOwned}
 use Rattle.kernel_steps.specs.Steps.{finishes, after_drop, after_said, answer_of_drop, answer_said, IsOfOne, StepsAlone, Stepped, StepDone}
+use Rattle.kernel_steps.specs.Moments.{moment}
+use Rattle.kernel_steps.specs.Refines.{first_notes, PieceDone}
 use Rattle.kernel_steps.specs.Views.{placed_of, flight_of, chain_of, no_chain, levels_at, call_in_place, run_of, IsRunning}
 use Rattle.kernel_steps.proofs.CallLemmas.{with_call, call_of_changed, chain_of_changed, still_sixteen}
 use Rattle.kernel_steps.specs.Composing.{did_nothing, did_as, did_purely, did_then, reaches_as, reaches_behind, reaches_purely}
@@ -61,15 +62,15 @@ pub finish_done : {C B M : Type 0} {P : _} (m : Meaning) (x y : Running C B M P)
     StepsAlone x p → (chain_of x p).levels ≡ [] → p < 16 → (flight_of x.calls.items p).call ≡ Some f → call_in_place f ≡ c →
     y.calls.items ≡ with_call x.calls.items p v → y.locks ≡ x.locks → y.images ≡ x.images → y.clock ≡ x.clock → y.order ≡ x.order →
     world_of_store y.store ≡ world_of_store x.store → SegmentsStay x.store.ram y.store.ram → ((g : InFlight) → v ≡ Some g → g.work.caller ≡ f.work.caller) →
-    PieceDone m (world_of_store x.store) (objects_of x.store) (objects_of y.store) f.work.caller (call_in_place f) (option_map call_in_place v) answer kept kept_new d e →
-    StepDone (finishes m p c answer) x y p kept kept_new d e
+    PieceDone m (world_of_store x.store) f.work.caller (call_in_place f) (option_map call_in_place v) answer (moment (objects_of x.store) kept d) (moment (objects_of y.store) kept_new e) →
+    StepDone (finishes m p c answer) p (moment x kept d) (moment y kept_new e)
 finish_done m x y p c f v answer kept kept_new d e alone none small is c_is calls locks images clock order world memory caller_is done =
     let within : p < length x.calls.items = omega (arith, alone.sixteen, small) in
     let nothing = none_in x p alone.placed none in
     let here = placed_finished x y p v within nothing calls locks memory world images clock order in
-    let whole : PieceDone m (world_of_store x.store) (objects_of x.store) (objects_of y.store) p c (option_map call_in_place v) answer kept kept_new d e =
-    subst (λ b. PieceDone m (world_of_store x.store) (objects_of x.store) (objects_of y.store) p b (option_map call_in_place v) answer kept kept_new d e) c_is
-    (subst (λ q. PieceDone m (world_of_store x.store) (objects_of x.store) (objects_of y.store) q (call_in_place f) (option_map call_in_place v) answer kept kept_new d e) (alone.caller_is f is) done) in
+    let whole : PieceDone m (world_of_store x.store) p c (option_map call_in_place v) answer (moment (objects_of x.store) kept d) (moment (objects_of y.store) kept_new e) =
+    subst (λ b. PieceDone m (world_of_store x.store) p b (option_map call_in_place v) answer (moment (objects_of x.store) kept d) (moment (objects_of y.store) kept_new e)) c_is
+    (subst (λ q. PieceDone m (world_of_store x.store) q (call_in_place f) (option_map call_in_place v) answer (moment (objects_of x.store) kept d) (moment (objects_of y.store) kept_new e)) (alone.caller_is f is) done) in
     let chains : (q : ℕ) → chain_of y q ≡ chain_of x q = λ q. ap (λ fs. (flight_of fs q).chain) calls ∙ chain_of_changed x.calls.items p v within q in
     let own : chain_of y p ≡ no_chain = chains p ∙ nothing in
     let call_then : (q : ℕ) → (flight_of y.calls.items q).call ≡ at p v (λ r. (flight_of x.calls.items r).call) q = λ q. ap (λ fs. (flight_of fs q).call) calls ∙ call_of_changed x.calls.items p v within q in
@@ -120,7 +121,7 @@ stepped_same x p alone =
     }
 
 pub nothing_done : {C B M : Type 0} {P : _} (x : Running C B M P) (p : ℕ) (kept : List Note) (d : DiskSeen) → StepsAlone x p →
-    StepDone (λ r. r) x x p kept kept d d
+    StepDone (λ r. r) p (moment x kept d) (moment x kept d)
 nothing_done x p kept d alone =
     record {
       refines = did_nothing (placed_of x) kept d;
@@ -134,7 +135,7 @@ nothing_done x p kept d alone =
 
 -- a note, and then this
 pub noted_done : {C B M : Type 0} {P : _} (g : PlacedRun → PlacedRun) (x y : Running C B M P) (p : ℕ) (note : Note) (kept mid kept_new : List Note) (d e : DiskSeen) →
-    ((all : List Note) → kept ≡ first_notes all → mid ≡ first_notes (all ++ note ∷ [])) → StepDone g x y p mid kept_new d e → StepDone (λ r. g (placed_noted note r)) x y p kept kept_new d e
+    ((all : List Note) → kept ≡ first_notes all → mid ≡ first_notes (all ++ note ∷ [])) → StepDone g p (moment x mid d) (moment y kept_new e) → StepDone (λ r. g (placed_noted note r)) p (moment x kept d) (moment y kept_new e)
 noted_done g x y p note kept mid kept_new d e adds h =
     let o = placed_of x in
     record {
@@ -274,7 +275,7 @@ stepped_moved x y z p moved step =
 
 -- a move to a config, and then this
 pub moved_done : {C B M : Type 0} {P : _} (f : Config) (g : PlacedRun → PlacedRun) (x y z : Running C B M P) (p : ℕ) (kept kept_new : List Note) (d e : DiskSeen) →
-    Moved x y p → placed_of y ≡ come_to p f (placed_of x) → StepDone g y z p kept kept_new d e → StepDone (λ r. g (with_config p f r)) x z p kept kept_new d e
+    Moved x y p → placed_of y ≡ come_to p f (placed_of x) → StepDone g p (moment y kept d) (moment z kept_new e) → StepDone (λ r. g (with_config p f r)) p (moment x kept d) (moment z kept_new e)
 moved_done f g x y z p kept kept_new d e moved come h =
     let o = placed_of x in
     let same : (blocks : Blocks) (notes : List Note) (io : List Bool) → with_config p f (run_of o blocks notes io) ≡ run_of (placed_of y) blocks (notes ++ []) io =
@@ -289,7 +290,7 @@ moved_done f g x y z p kept kept_new d e moved come h =
 
 -- another change that comes to the same from here
 pub done_as : {C B M : Type 0} {P : _} (f g : PlacedRun → PlacedRun) (x y : Running C B M P) (p : ℕ) (kept kept_new : List Note) (d e : DiskSeen) →
-    ((blocks : Blocks) (notes : List Note) (io : List Bool) → f (run_of (placed_of x) blocks notes io) ≡ g (run_of (placed_of x) blocks notes io)) → StepDone g x y p kept kept_new d e → StepDone f x y p kept kept_new d e
+    ((blocks : Blocks) (notes : List Note) (io : List Bool) → f (run_of (placed_of x) blocks notes io) ≡ g (run_of (placed_of x) blocks notes io)) → StepDone g p (moment x kept d) (moment y kept_new e) → StepDone f p (moment x kept d) (moment y kept_new e)
 done_as f g x y p kept kept_new d e same h =
     record {
       refines = did_as f g (placed_of x) (placed_of y) kept kept_new d e same h.refines;
@@ -319,13 +320,13 @@ no_call (Some f) c e h = grind (arith, e)
 -- ---- the drop of a level
 
 pub drop_noted : {C B M : Type 0} {P : _} (m : Meaning) (x : Running C B M P) (p d : ℕ) (c : PlacedCall) (note : Note) (kept mid : List Note) (e : DiskSeen) → 0 < d →
-    ((all : List Note) → kept ≡ first_notes all → mid ≡ first_notes (all ++ note ∷ [])) → StepsAlone x p → StepDone (λ r. after_drop m p c d (placed_noted note r)) x x p kept mid e e
+    ((all : List Note) → kept ≡ first_notes all → mid ≡ first_notes (all ++ note ∷ [])) → StepsAlone x p → StepDone (λ r. after_drop m p c d (placed_noted note r)) p (moment x kept e) (moment x mid e)
 drop_noted m x p zero c note kept mid e h adds alone = absurd (omega (arith, h))
 drop_noted m x p (suc d) c note kept mid e h adds alone =
     noted_done (λ r. r) x x p note kept mid mid e e adds (nothing_done x p mid e alone)
 
 pub drop_finished : {C B M : Type 0} {P : _} (m : Meaning) (x y : Running C B M P) (p d : ℕ) (c : PlacedCall) (note : Note) (kept mid kept_new : List Note) (e l : DiskSeen) → d ≤ 0 →
-    ((all : List Note) → kept ≡ first_notes all → mid ≡ first_notes (all ++ note ∷ [])) → StepDone (finishes m p c None) x y p mid kept_new e l → StepDone (λ r. after_drop m p c d (placed_noted note r)) x y p kept kept_new e l
+    ((all : List Note) → kept ≡ first_notes all → mid ≡ first_notes (all ++ note ∷ [])) → StepDone (finishes m p c None) p (moment x mid e) (moment y kept_new l) → StepDone (λ r. after_drop m p c d (placed_noted note r)) p (moment x kept e) (moment y kept_new l)
 drop_finished m x y p zero c note kept mid kept_new e l h adds done = noted_done (finishes m p c None) x y p note kept mid kept_new e l adds done
 drop_finished m x y p (suc d) c note kept mid kept_new e l h adds done = absurd (omega (arith, h))
 
@@ -336,8 +337,8 @@ answer_zero (suc d) h = absurd (omega (arith, h))
 
 -- by what was said
 pub said_done : {C B M : Type 0} {P : _} (m : Meaning) (ram : List ℕ) (x y : Running C B M P) (p : ℕ) (c : PlacedCall) (s t : Micro) (kept kept_new : List Note) (d e : DiskSeen) → s ≡ t →
-    StepDone (after_said m ram p c t) x y p kept kept_new d e → StepDone (after_said m ram p c s) x y p kept kept_new d e
-said_done m ram x y p c s t kept kept_new d e is h = subst (λ u. StepDone (after_said m ram p c u) x y p kept kept_new d e) (sym is) h
+    StepDone (after_said m ram p c t) p (moment x kept d) (moment y kept_new e) → StepDone (after_said m ram p c s) p (moment x kept d) (moment y kept_new e)
+said_done m ram x y p c s t kept kept_new d e is h = subst (λ u. StepDone (after_said m ram p c u) p (moment x kept d) (moment y kept_new e)) (sym is) h
 
 -- the number of a call that stands in place
 pub number_is : (o : Option InFlight) (c : PlacedCall) (n : ℕ) → Some n ≡ option_map (λ (f : InFlight). f.number) o → option_map call_in_place o ≡ Some c → n ≡ c.number

@@ -11,7 +11,7 @@ use Rattle.kernel_model.specs.Settle.{step}
 use Rattle.kernel_model.specs.Events.{drop_call}
 use Rattle.kernel_model.specs.Levels.{drop_level}
 use Rattle.kernel_model.specs.Sound.{HasWholeBlocks}
-use Rattle.disk_log.specs.Seen.{DiskSeen}
+use Rattle.vino_base.specs.Disks.{DiskSeen}
 use Rattle.placed_laws.specs.Agreeing.{SameShown}
 use Rattle.placed_laws.specs.Keeping.{StepsStand, DropsStand, HeldStays as HeldStaysInPlace}
 use Rattle.placed_laws.specs.Placed.{Placed, PlacedCall, PlacedLevel, PlacedRun, has_some, placed_blocker, placed_config}
@@ -19,9 +19,10 @@ use Rattle.placed_laws.specs.PlacedSteps.{is_placed_at_piece, placed_call_step, 
 use Rattle.placed_laws.specs.Soundness.{SoundInPlace}
 use Rattle.placed_laws.specs.Stands.{StandsFor, RunStandsFor, without_history}
 use Rattle.kernel_steps.specs.declared.running.Running.{Running}
-use Rattle.kernel_steps.specs.Refines.{first_notes, Refines, Reaches}
 use Rattle.kernel_steps.specs.Moves.{HeldStays}
 use Rattle.kernel_steps.specs.Steps.{StepDone}
+use Rattle.kernel_steps.specs.Moments.{moment}
+use Rattle.kernel_steps.specs.Refines.{first_notes, Reaches, Refines}
 use Rattle.kernel_steps.specs.Views.{placed_of, levels_at, call_at, run_of, IsRunning, HasAbstraction, Simulates}
 use Rattle.kernel_steps.proofs.AgainLemmas.{runs_again}
 use Rattle.kernel_steps.specs.Composing.{did_as, did_purely, did_then, reaches_as, reaches_before}
@@ -92,7 +93,7 @@ step_reaches m x y p h =
 
 pub stood_after_step : {C B M : Type 0} {P : _} (m : Meaning) → StepsStand m → (x y : Running C B M P) (p : ℕ) (c : PlacedCall) (kept kept_new : List Note) (d e : DiskSeen) →
     HasAbstraction m (placed_of x) → call_at x p ≡ Some c → placed_blocker m (placed_of x) p ≡ None →
-    StepDone (placed_call_step m p (call_at x p)) x y p kept kept_new d e → HasAbstraction m (record (placed_of y) { order = requeued_order p (placed_of y) })
+    StepDone (placed_call_step m p (call_at x p)) p (moment x kept d) (moment y kept_new e) → HasAbstraction m (record (placed_of y) { order = requeued_order p (placed_of y) })
 stood_after_step m law x y p c kept kept_new d e s is free h =
     let o = placed_of x in
     let z = placed_of y in
@@ -100,7 +101,7 @@ stood_after_step m law x y p c kept kept_new d e s is free h =
 
 pub running_after_step : {C B M : Type 0} {P : _} (m : Meaning) → SoundInPlace m → StepsStand m → HeldStaysInPlace m → (x y : Running C B M P) (p : ℕ) (c : PlacedCall) (kept kept_new : List Note) (d e : DiskSeen) →
     IsRunning x → p < 16 → HasAbstraction m (placed_of x) → call_at x p ≡ Some c → placed_blocker m (placed_of x) p ≡ None →
-    StepDone (placed_call_step m p (call_at x p)) x y p kept kept_new d e → IsRunning y
+    StepDone (placed_call_step m p (call_at x p)) p (moment x kept d) (moment y kept_new e) → IsRunning y
 running_after_step m sound law held x y p c kept kept_new d e r small s is free h =
     let z = placed_of y in
     runs_again m sound x y (requeued_order p z) p h.own.owner r small s (stood_after_step m law x y p c kept kept_new d e s is free h) h.stepped h.own.own
@@ -111,14 +112,14 @@ pub stood_requeued : (m : Meaning) (p : ℕ) (y z : Placed) → Simulates (place
 stood_requeued m p y z goes s = subst (HasAbstraction m) (ap (λ (r : PlacedRun). r.placed) (goes [] (λ b. []) [])) s
 
 -- a change, and then its place in the order
-pub did_requeued : (f : PlacedRun → PlacedRun) (x y z : Placed) (p : ℕ) (kept kept_new : List Note) (d e : DiskSeen) → Refines f x y kept kept_new d e → Simulates (placed_requeue p) y z →
-    Refines (λ r. placed_requeue p (f r)) x z kept kept_new d e
+pub did_requeued : (f : PlacedRun → PlacedRun) (x y z : Placed) (p : ℕ) (kept kept_new : List Note) (d e : DiskSeen) → Refines f (moment x kept d) (moment y kept_new e) → Simulates (placed_requeue p) y z →
+    Refines (λ r. placed_requeue p (f r)) (moment x kept d) (moment z kept_new e)
 did_requeued f x y z p kept kept_new d e h goes =
     did_then f (placed_requeue p) x y z kept kept_new kept_new d e e h
     (did_purely (placed_requeue p) y z kept_new kept_new [] e (λ blocks notes io. goes notes blocks io ∙ ap (λ ns. run_of z blocks ns io) (sym (append-nil notes)))
     (λ notes k. k ∙ ap first_notes (sym (append-nil notes))))
 
-pub did_step : (m : Meaning) (x z : Placed) (p : ℕ) (kept kept_new : List Note) (d e : DiskSeen) → Refines (λ r. placed_requeue p (placed_call_step m p (x.call p) r)) x z kept kept_new d e → Refines (placed_step m p) x z kept kept_new d e
+pub did_step : (m : Meaning) (x z : Placed) (p : ℕ) (kept kept_new : List Note) (d e : DiskSeen) → Refines (λ r. placed_requeue p (placed_call_step m p (x.call p) r)) (moment x kept d) (moment z kept_new e) → Refines (placed_step m p) (moment x kept d) (moment z kept_new e)
 did_step m x z p kept kept_new d e h = did_as (placed_step m p) (λ r. placed_requeue p (placed_call_step m p (x.call p) r)) x z kept kept_new d e (λ blocks notes io. refl) h
 
 -- ---- the drop of a level
@@ -146,7 +147,7 @@ drop_reaches m x y p n c cause is some h =
 
 pub stood_after_drop : {C B M : Type 0} {P : _} (m : Meaning) → DropsStand m → (x y : Running C B M P) (p n : ℕ) (c : PlacedCall) (cause : Cause) (kept kept_new : List Note) (d e : DiskSeen) →
     HasAbstraction m (placed_of x) → call_at x p ≡ Some c → n < length (levels_at x p) → has_some (levels_at x p) ≡ true →
-    StepDone (drop_change m p n c cause) x y p kept kept_new d e → HasAbstraction m (record (placed_of y) { order = requeued_order p (placed_of y) })
+    StepDone (drop_change m p n c cause) p (moment x kept d) (moment y kept_new e) → HasAbstraction m (record (placed_of y) { order = requeued_order p (placed_of y) })
 stood_after_drop m law x y p n c cause kept kept_new d e s is low some h =
     let o = placed_of x in
     let z = placed_of y in
@@ -154,14 +155,14 @@ stood_after_drop m law x y p n c cause kept kept_new d e s is low some h =
 
 pub running_after_drop : {C B M : Type 0} {P : _} (m : Meaning) → SoundInPlace m → DropsStand m → HeldStaysInPlace m → (x y : Running C B M P) (p n : ℕ) (c : PlacedCall) (cause : Cause) (kept kept_new : List Note) (d e : DiskSeen) →
     IsRunning x → p < 16 → HasAbstraction m (placed_of x) → call_at x p ≡ Some c → n < length (levels_at x p) → has_some (levels_at x p) ≡ true →
-    StepDone (drop_change m p n c cause) x y p kept kept_new d e → IsRunning y
+    StepDone (drop_change m p n c cause) p (moment x kept d) (moment y kept_new e) → IsRunning y
 running_after_drop m sound law held x y p n c cause kept kept_new d e r small s is low some h =
     let z = placed_of y in
     runs_again m sound x y (requeued_order p z) p h.own.owner r small s (stood_after_drop m law x y p n c cause kept kept_new d e s is low some h) h.stepped h.own.own
     (λ q other. held_dropped m held x y (requeued_order p z) p q n cause r s low other (drop_reaches m (placed_of x) z p n c cause is some h.reaches))
 
 pub did_drop : (m : Meaning) (x z : Placed) (p n : ℕ) (c : PlacedCall) (cause : Cause) (kept kept_new : List Note) (d e : DiskSeen) → x.call p ≡ Some c → has_some (x.levels p) ≡ true →
-    Refines (λ r. placed_requeue p (drop_change m p n c cause r)) x z kept kept_new d e → Refines (placed_drop m p n cause) x z kept kept_new d e
+    Refines (λ r. placed_requeue p (drop_change m p n c cause r)) (moment x kept d) (moment z kept_new e) → Refines (placed_drop m p n cause) (moment x kept d) (moment z kept_new e)
 did_drop m x z p n c cause kept kept_new d e is some h =
     did_as (placed_drop m p n cause) (λ r. placed_requeue p (drop_change m p n c cause r)) x z kept kept_new d e (drop_as m x p n c cause is some) h
 

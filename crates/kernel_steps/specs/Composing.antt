@@ -4,10 +4,11 @@ use Rattle.std.proofs.lemmas.List.{append_assoc}
 use Rattle.kernel_model.specs.declared.Note.{Note}
 use Rattle.kernel_model.specs.World.{Blocks}
 use Rattle.kernel_model.specs.Sound.{HasWholeBlocks}
-use Rattle.disk_log.specs.Seen.{DiskSeen}
+use Rattle.vino_base.specs.Disks.{DiskSeen}
 use Rattle.disk_log.specs.Joined.{made_none, made_joined}
 use Rattle.placed_laws.specs.Placed.{Placed, PlacedRun}
-use Rattle.kernel_steps.specs.Refines.{first_notes, RunMatches, Refines, Reaches}
+use Rattle.kernel_steps.specs.Moments.{moment}
+use Rattle.kernel_steps.specs.Refines.{first_notes, Reaches, Refines, RunMatches}
 use Rattle.kernel_steps.specs.Views.{run_of}
 
 -- ---- what a change did
@@ -20,11 +21,12 @@ run_is r y kept known rest h =
     ∙ ap (λ io. record { placed = y; blocks = r.blocks; notes = r.notes; io = io }) h.io
 
 -- nothing was done
-pub did_nothing : (x : Placed) (kept : List Note) (d : DiskSeen) → Refines (λ r. r) x x kept kept d d
+pub did_nothing : (x : Placed) (kept : List Note) (d : DiskSeen) →
+    Refines (λ r. r) (moment x kept d) (moment x kept d)
 did_nothing x kept d =
     record {
       io = [];
-      made = made_none d.faults d.plan;
+      made = made_none d;
       goes = λ blocks notes rest tells k. record {
         placed = refl;
         notes = k;
@@ -37,7 +39,8 @@ did_nothing x kept d =
 pub did_as : (f g : PlacedRun → PlacedRun) (x y : Placed) (kept kept_new : List Note)
     (d e : DiskSeen) → ((blocks : Blocks) (notes : List Note) (io : List Bool) →
     f (run_of x blocks notes io) ≡ g (run_of x blocks notes io)) →
-    Refines g x y kept kept_new d e → Refines f x y kept kept_new d e
+    Refines g (moment x kept d) (moment y kept_new e) →
+    Refines f (moment x kept d) (moment y kept_new e)
 did_as f g x y kept kept_new d e same h =
     record {
       io = h.io;
@@ -51,11 +54,11 @@ pub did_purely : (f : PlacedRun → PlacedRun) (x y : Placed) (kept kept_new mor
     (d : DiskSeen) → ((blocks : Blocks) (notes : List Note) (io : List Bool) →
     f (run_of x blocks notes io) ≡ run_of y blocks (notes ++ more) io) →
     ((notes : List Note) → kept ≡ first_notes notes → kept_new ≡ first_notes (notes ++ more)) →
-    Refines f x y kept kept_new d d
+    Refines f (moment x kept d) (moment y kept_new d)
 did_purely f x y kept kept_new more d same adds =
     record {
       io = [];
-      made = made_none d.faults d.plan;
+      made = made_none d;
       goes = λ blocks notes rest tells k.
           subst (λ r. RunMatches r y kept_new d.known rest) (sym (same blocks notes rest))
           (record { placed = refl; notes = adds notes k; blocks = tells; io = refl });
@@ -63,11 +66,12 @@ did_purely f x y kept kept_new more d same adds =
 
 -- one after the other
 pub did_then : (f g : PlacedRun → PlacedRun) (x y z : Placed) (a b c : List Note)
-    (d e l : DiskSeen) → Refines f x y a b d e → Refines g y z b c e l → Refines (λ r. g (f r)) x z a c d l
+    (d e l : DiskSeen) → Refines f (moment x a d) (moment y b e) →
+    Refines g (moment y b e) (moment z c l) → Refines (λ r. g (f r)) (moment x a d) (moment z c l)
 did_then f g x y z a b c d e l first second =
     record {
       io = first.io ++ second.io;
-      made = made_joined d.faults e.faults l.faults d.plan e.plan l.plan first.io second.io
+      made = made_joined d e l first.io second.io
           first.made second.made;
       goes = λ blocks notes rest tells k.
           let one = subst (λ io. RunMatches (f (run_of x blocks notes io)) y b e.known (second.io

@@ -4,7 +4,9 @@ pub mod Orders
 pub mod Grips
 pub mod Hindered
 pub mod Moves
+pub mod Moments
 pub mod Refines
+pub mod Sound
 pub mod Steps
 pub mod Queries
 pub mod Composing

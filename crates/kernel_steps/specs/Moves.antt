@@ -1,14 +1,17 @@
 -- What a move of one call's levels makes of a running kernel: a level begins, an instruction, or
 -- the drop of a level.
-use Rattle.std.specs.Prelude.{◌≡◌, ◌≢◌, ℕ, List, [], Option, Some, None, map, length}
+use Rattle.std.specs.Prelude.{◌≡◌, ◌≢◌, ℕ, ◌<◌, true, List, [], Option, Some, None, is_some, map, length}
 use Rattle.kernel_model.specs.declared.Held.{Held}
 use Rattle.kernel_model.specs.declared.Object.{Object}
 use Rattle.lock_table.specs.Masks.{held}
 use Rattle.kernel_model.specs.declared.Need.{Need}
 use Rattle.kernel_model.specs.World.{World}
 use Rattle.kernel_model.specs.Objects.{Objects, at, SameAt}
+use Rattle.kernel_model.specs.declared.Point.{Point}
 use Rattle.kernel_model.specs.Levels.{Config}
+use Rattle.kernel_model.specs.Policies.{lives}
 use Rattle.kernel_model.specs.Sound.{ImagesAreLoaded}
+use Rattle.kernel_state.specs.declared.Store.{Store}
 use Rattle.kernel_state.specs.Stores.{objects_of, queue_of}
 use Rattle.graft_loader.specs.Slots.{table_of}
 use Rattle.graft_calls.specs.Calls.{IsPlaced, AreSound, AreInside, AllUndoable, IsElsewhereSame}
@@ -30,6 +33,13 @@ needed_by m v s p (Some c) = m.need v s p c.stage
 abbrev pub fed_by : Meaning → Option PlacedCall → List ℕ
 fed_by m None = []
 fed_by m (Some c) = m.feed c.stage
+
+-- the graft that a point is asked of stands, and its installer lives
+pub record HasGraft {B : Type 0} {P : _} (s : Store B P) (at : Point) : Type 0 where
+  pub owner : at.installer < 16
+  pub point : at.point < 16
+  pub lives : lives (queue_of s) at.installer ≡ true
+  pub stands : is_some ((objects_of s).accounts.graft at.installer at.point) ≡ true
 
 -- The levels of p's call moved. They are in place again, and of all else the store has the same but
 -- for its objects: the calls, the other chains and what they hold, the memory of other processes'

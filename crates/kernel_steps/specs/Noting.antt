@@ -11,7 +11,8 @@ AreGiven (note ∷ notes) bytes =
     × AreGiven notes (drop (given_count note) bytes)
 
 -- The bytes are those of the notes, and there is room for those of one event.
-pub record NotesFit (list : List BareNote) (bytes : List ℕ) (list_room bytes_room : ℕ) : Type 0 where
+pub record NotesFit (list : List BareNote) (bytes : List ℕ) (list_room bytes_room : ℕ) :
+    Type 0 where
   pub rows : 530 ≤ list_room
   pub few : length list ≤ 530
   pub room : 271360 ≤ bytes_room

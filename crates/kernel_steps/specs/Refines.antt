@@ -1,15 +1,17 @@
 -- What a change of an event under way did, beside what the definitions say.
 use Rattle.std.specs.Prelude.{◌≡◌, ℕ, Bool, List, ◌++◌, Option, take, length}
 use Rattle.disk_log.specs.Calls.{Knows, Made}
-use Rattle.disk_log.specs.Seen.{DiskSeen}
 use Rattle.kernel_model.specs.declared.Note.{Note}
 use Rattle.kernel_model.specs.World.{World, ImageTable, Blocks}
 use Rattle.kernel_model.specs.Objects.{Objects}
 use Rattle.kernel_model.specs.Sound.{HasWholeBlocks}
 use Rattle.kernel_model.specs.Meaning.{Meaning, Answer, Piece}
 use Rattle.kernel_model.specs.Kernel.{gave_note, after_note}
+use Rattle.kernel_state.specs.declared.Store.{Store}
+use Rattle.kernel_state.specs.Stores.{world_of_store, SegmentsStay}
 use Rattle.placed_laws.specs.Placed.{Placed, PlacedCall, PlacedRun}
 use Rattle.placed_laws.specs.PlacedSteps.{placed_after}
+use Rattle.kernel_steps.specs.Moments.{Moment}
 use Rattle.kernel_steps.specs.Views.{run_of}
 
 -- the notes that are kept of those of an event: no event of a sound kernel has more
@@ -20,8 +22,8 @@ first_notes notes = take 530 notes
 
 -- a change that makes no call of the disk took one kernel in place to another and added these
 -- notes, and the notes that are kept to those
-abbrev pub SimulatesNoting : (PlacedRun → PlacedRun) → Placed → Placed → (more kept kept_new : List Note) →
-    Type 0
+abbrev pub SimulatesNoting : (PlacedRun → PlacedRun) → Placed → Placed →
+    (more kept kept_new : List Note) → Type 0
 SimulatesNoting f x y more kept kept_new =
     ((notes : List Note) (blocks : Blocks) (io : List Bool) →
     f (run_of x blocks notes io) ≡ run_of y blocks (notes ++ more) io)
@@ -29,24 +31,22 @@ SimulatesNoting f x y more kept kept_new =
 
 -- an event under way has come to this kernel in place, of its notes these are kept, the disk tells
 -- its blocks, and its next calls will do this
-pub record RunMatches (r : PlacedRun) (y : Placed) (kept : List Note) (known : Option (List (List ℕ)))
-    (rest : List Bool) : Type 0 where
+pub record RunMatches (r : PlacedRun) (y : Placed) (kept : List Note)
+    (known : Option (List (List ℕ))) (rest : List Bool) : Type 0 where
   pub placed : r.placed ≡ y
   pub notes : kept ≡ first_notes r.notes
   pub blocks : Knows known r.blocks
   pub io : r.io ≡ rest
 
--- A change of an event under way took one kernel in place to another, the notes that are kept of it
--- to these, and the disk from the one to the other. Where the disk tells its blocks, all is as the
--- definitions have it.
-pub record Refines (f : PlacedRun →
-    PlacedRun) (x y : Placed) (kept kept_new : List Note) (d e : DiskSeen) : Type 0 where
+-- A change of an event under way took one moment to another: the kernel in place, the notes that
+-- are kept, and the disk. Where the disk tells its blocks, all is as the definitions have it.
+pub record Refines (f : PlacedRun → PlacedRun) (a b : Moment Placed) : Type 0 where
   -- which of its calls of the disk failed
   pub io : List Bool
-  pub made : Made d.faults e.faults d.plan e.plan io
-  pub goes : (blocks : Blocks) (notes : List Note) (rest : List Bool) → Knows d.known blocks →
-      kept ≡ first_notes notes →
-      RunMatches (f (run_of x blocks notes (io ++ rest))) y kept_new e.known rest
+  pub made : Made a.disk b.disk io
+  pub goes : (blocks : Blocks) (notes : List Note) (rest : List Bool) →
+      Knows a.disk.known blocks → a.notes ≡ first_notes notes →
+      RunMatches (f (run_of a.kernel blocks notes (io ++ rest))) b.kernel b.notes b.disk.known rest
 
 -- Whether the disk tells its blocks or not: over some whole ones the change takes the one kernel in
 -- place to the other.
@@ -78,15 +78,20 @@ pub record PieceMayLeave (v : World) (piece : Blocks → List Bool → Piece) (c
   pub objects : u ≡ (piece blocks io).objects
   pub call_is : call ≡ placed_after c (piece blocks io).after
 
--- a piece of the call c of process p over the objects s, with an answer or by default, was done
-pub record PieceDone (m : Meaning) (v : World) (s u : Objects) (p : ℕ) (c : PlacedCall)
-    (call : Option PlacedCall) (answer : Option Answer) (kept kept_new : List Note)
-    (d e : DiskSeen) : Type 0 where
+-- A piece of the call c of process p, with an answer or by default, was done: it took one moment to
+-- another, of which the objects are looked at, and left this call, if it goes on.
+pub record PieceDone (m : Meaning) (v : World) (p : ℕ) (c : PlacedCall)
+    (call : Option PlacedCall) (answer : Option Answer) (a b : Moment Objects) : Type 0 where
   pub io : List Bool
-  pub made : Made d.faults e.faults d.plan e.plan io
+  pub made : Made a.disk b.disk io
   pub goes : (images : ImageTable) (blocks : Blocks) (notes : List Note) (rest : List Bool) →
-      Knows d.known blocks → kept ≡ first_notes notes →
-      PieceLeft c (m.piece v images s blocks p c.stage answer (io ++ rest)) u call notes kept_new
-      e.known (length io)
+      Knows a.disk.known blocks → a.notes ≡ first_notes notes →
+      PieceLeft c (m.piece v images a.kernel blocks p c.stage answer (io ++ rest)) b.kernel call
+      notes b.notes b.disk.known (length io)
   pub some : (images : ImageTable) → PieceMayLeave v
-      (λ blocks io. m.piece v images s blocks p c.stage answer io) c u call
+      (λ blocks io. m.piece v images a.kernel blocks p c.stage answer io) c b.kernel call
+
+-- a piece leaves a store's set-up, and the segments of all levels
+pub record StoreStays {B : Type 0} {P : _} (s t : Store B P) : Type 0 where
+  pub world : world_of_store t ≡ world_of_store s
+  pub memory : SegmentsStay s.ram t.ram

@@ -1,11 +1,10 @@
 -- One step of a call, as the code takes it: a move of its levels, and what that leaves to do.
-use Rattle.std.specs.Prelude.{◌≡◌, ◌≢◌, ℕ, zero, suc, ◌≤◌, List, Option, Some, None, length}
-use Rattle.kernel_model.specs.declared.Note.{Note}
+use Rattle.std.specs.Prelude.{◌≡◌, ◌≢◌, ℕ, zero, suc, ◌≤◌, List, [], Option, Some, None, length}
 use Rattle.kernel_model.specs.declared.Micro.{Micro}
 use Rattle.kernel_model.specs.declared.Note.TheVariants.{Dropped}
+use Rattle.kernel_model.specs.Laws.{IsReady}
 use Rattle.kernel_model.specs.Meaning.{Meaning, Answer}
-use Rattle.call_pieces.specs.Works.{answer_seen}
-use Rattle.disk_log.specs.Seen.{DiskSeen}
+use Rattle.call_pieces.specs.Works.{answer_seen, stage_of}
 use Rattle.lock_table.specs.Masks.{held}
 use Rattle.kernel_state.specs.Stores.{world_of_store, objects_of}
 use Rattle.graft_loader.specs.Slots.{table_of}
@@ -15,9 +14,10 @@ use Rattle.placed_laws.specs.Placed.{PlacedCall, PlacedRun}
 use Rattle.placed_laws.specs.PlacedSteps.{placed_noted, placed_finish_on}
 use Rattle.kernel_steps.specs.declared.running.InFlight.{InFlight}
 use Rattle.kernel_steps.specs.declared.running.Running.{Running}
-use Rattle.kernel_steps.specs.Refines.{Refines, Reaches}
 use Rattle.kernel_steps.specs.Owned.{AreOwned}
-use Rattle.kernel_steps.specs.Views.{placed_of, flight_of, chain_of}
+use Rattle.kernel_steps.specs.Moments.{moment, Moment}
+use Rattle.kernel_steps.specs.Refines.{Reaches, Refines}
+use Rattle.kernel_steps.specs.Views.{placed_of, flight_of, chain_of, call_at}
 
 -- ---- what a move leaves to do
 
@@ -31,8 +31,8 @@ module _ (m : Meaning) where
   after_drop p c zero r = finishes p c None r
   after_drop p c (suc d) r = r
 
-  -- an instruction, or the drop of a level, said this, and left this memory, in which stands what an
-  -- answer gives
+  -- an instruction, or the drop of a level, said this, and left this memory, in which stands what
+  -- an answer gives
   abbrev pub after_said : (ram : List ℕ) → ℕ → PlacedCall → Micro → PlacedRun → PlacedRun
   after_said ram p c Micro.Went r = r
   after_said ram p c (Micro.Blocked object holder by_user) r = r
@@ -68,6 +68,14 @@ pub record StepsAlone {C B M : Type 0} {P : _} (x : Running C B M P) (p : ℕ) :
   pub inside : AreInside (table_of x.images) (objects_of x.store).accounts p (chain_of x p).levels
   pub own : IsOfOne (chain_of x p)
 
+-- The piece of p's call, which has no level, can be done with this answer, or by default.
+pub record CanFinish {C B M : Type 0} {P : _} (m : Meaning) (x : Running C B M P) (p : ℕ)
+    (answer : Option (List ℕ)) : Type 0 where
+  pub none : (chain_of x p).levels ≡ []
+  pub ready : (f : InFlight) → (flight_of x.calls.items p).call ≡ Some f →
+      IsReady m (world_of_store x.store) (table_of x.images) (objects_of x.store) p
+      (stage_of f.work) (answer_seen x.store.ram p answer)
+
 -- A step of the call of p. Of all that is in flight p's alone has changed, the memory of grafts but
 -- for p's own, what the others hold, images, clock and order stay; and p's levels are in place
 -- again.
@@ -84,11 +92,17 @@ pub record Stepped {C B M : Type 0} {P : _} (x y : Running C B M P) (p : ℕ) : 
   pub clock : y.clock ≡ x.clock
   pub order : y.order ≡ x.order
 
--- A step of the call of p, or a part of one, did what the definitions say; and p's levels are of
--- one owner again.
-pub record StepDone {C B M : Type 0} {P : _} (f : PlacedRun → PlacedRun) (x y : Running C B M P)
-    (p : ℕ) (kept kept_new : List Note) (d e : DiskSeen) : Type 0 where
-  pub refines : Refines f (placed_of x) (placed_of y) kept kept_new d e
-  pub reaches : Reaches f (placed_of x) (placed_of y)
-  pub stepped : Stepped x y p
-  pub own : IsOfOne (chain_of y p)
+-- A step of the call of p, or a part of one, took one moment to another as the definitions say; and
+-- p's levels are of one owner again.
+pub record StepDone {C B M : Type 0} {P : _} (f : PlacedRun → PlacedRun) (p : ℕ)
+    (a b : Moment (Running C B M P)) : Type 0 where
+  pub refines : Refines f (moment (placed_of a.kernel) a.notes a.disk)
+      (moment (placed_of b.kernel) b.notes b.disk)
+  pub reaches : Reaches f (placed_of a.kernel) (placed_of b.kernel)
+  pub stepped : Stepped a.kernel b.kernel p
+  pub own : IsOfOne (chain_of b.kernel p)
+
+-- the same of a step that is said of the call that p has
+abbrev pub CallStepDone : {C B M : Type 0} {P : _} → (PlacedCall → PlacedRun → PlacedRun) → ℕ →
+    (a b : Moment (Running C B M P)) → Type 0
+CallStepDone f p a b = (c : PlacedCall) → call_at a.kernel p ≡ Some c → StepDone (f c) p a b

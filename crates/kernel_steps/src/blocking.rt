@@ -1,17 +1,20 @@
 //! What keeps a step from being taken.
 
 ghost use Rattle.std.specs.Prelude.{◌≡◌, ℕ, ◌<◌, None, Contains, option_map, All, List, length};
+ghost use Rattle.kernel_model.specs.Bare.{call_with};
 ghost use Rattle.kernel_model.specs.GraftStep.{next_needs, lock_user};
 ghost use Rattle.kernel_model.specs.Objects.{Things};
-ghost use Rattle.call_pieces.specs.Works.{IsDue, stage_of};
+ghost use Rattle.call_pieces.specs.Works.{IsDue, call_of, stage_of};
 ghost use Rattle.graft_calls.specs.Calls.{AreSound};
 ghost use Rattle.graft_calls.specs.Chains.{levels_in};
 ghost use Rattle.graft_loader.specs.Slots.{table_of};
 ghost use Rattle.placed_laws.specs.Placed.{placed_blocker, placed_holds, placed_levels, placed_needs};
 ghost use Rattle.kernel_steps.specs.Orders.{blocker_of};
-ghost use Rattle.kernel_steps.specs.Views.{placed_of, flight_of, IsRunning, HasAbstraction};
+ghost use Rattle.kernel_steps.specs.Sound.{AreNeeds, HasProcess, IsSoundFor};
+ghost use Rattle.kernel_steps.specs.Views.{placed_of, flight_of};
 ghost use Rattle.kernel_model.specs.declared.Need.{Need as Needed};
-ghost use Rattle.kernel_model.specs.Laws.{IsInRange};
+ghost use Rattle.kernel_model.specs.declared.Object.TheVariants.{Lock};
+ghost use Rattle.kernel_model.specs.Laws.{IsInRange, waits_for_user};
 ghost use Rattle.kernel_model.specs.Locks.{LockTable as Table, first_hindrance as first_of, hindrance_by, lowest_holder, user_hindrance, user_of};
 ghost use Rattle.undo_calls.specs.UndoLevels.{Logged};
 ghost use Rattle.kernel_state.specs.Stores.{world_of_store, queue_of, objects_of};
@@ -24,7 +27,7 @@ use call_pieces::{Calls, Needs, Work};
 use graft_calls::Chain;
 use graft_loader::Images;
 use graft_points::Policy;
-use kernel_model::{Need, Object};
+use kernel_model::{BareCall, Need, Object};
 use kernel_state::Store;
 use lock_table::LockTable;
 use placed_laws::soundness;
@@ -105,8 +108,20 @@ pub(crate) fn first_hindrance<B: Policy>(
     }
 }
 
-/// What hinders the next piece of a call of process p.
-fn piece_hindrance<C: Calls, B: Policy>(
+/// Whether the holder of a user lock may hinder a call: it hinders `lock` alone.
+fn waits_for_user(call: BareCall) -> bool
+    ensures { (bytes : List ℕ) (u : ℕ) → result ≡ waits_for_user (call_with call bytes) (Lock u) }
+{
+    match call {
+        BareCall::TakeLock(_) => true,
+        _ => false,
+    }
+}
+
+/// What hinders the next piece of a call of process p, by a look at each of its needs. It stands
+/// apart since room for the most needs is cleared here.
+#[inline(never)]
+fn hindrance_by_needs<C: Calls, B: Policy>(
     locks: &LockTable,
     store: &Store<B>,
     p: u8,
@@ -125,6 +140,34 @@ fn piece_hindrance<C: Calls, B: Policy>(
     let mut needs = Needs::new();
     C::need(work, store, &mut needs);
     first_hindrance(locks, store, p, p, needs.as_slice())
+}
+
+/// What hinders the next piece of a call of process p. Where nothing is held, the needs are asked
+/// of `lock` alone.
+fn piece_hindrance<C: Calls, B: Policy>(
+    locks: &LockTable,
+    store: &Store<B>,
+    p: u8,
+    work: &Work,
+) -> Option<Hindrance>
+    requires ready { IsDue C.Meaning.meaning (world_of_store store.now) (objects_of store.now)
+        work.now.caller (stage_of work.now) }
+    requires range { (n : Needed) → Contains
+        (C.Meaning.meaning.need (world_of_store store.now) (objects_of store.now)
+        work.now.caller (stage_of work.now)) n → IsInRange n.object }
+    requires user { (n : Needed) → Contains
+        (C.Meaning.meaning.need (world_of_store store.now) (objects_of store.now)
+        work.now.caller (stage_of work.now)) n →
+        n.by_user ≡ waits_for_user (call_of work.now) n.object }
+    ensures { option_map hindrance_of result
+        ≡ first_of (held locks.now) (objects_of store.now).things.lock p p
+        (C.Meaning.meaning.need (world_of_store store.now) (objects_of store.now)
+        work.now.caller (stage_of work.now)) }
+{
+    if locks.is_free() && !waits_for_user(work.call) {
+        return None;
+    }
+    hindrance_by_needs::<C, B>(locks, store, p, work)
 }
 
 /// What hinders the next instruction of a graft call of process p.
@@ -186,9 +229,7 @@ pub(crate) fn flight(flights: &[Flight], p: u8) -> &Flight
 impl<C: Calls, B: Policy> Running<C, B> {
     /// What hinders the next step of process p's call.
     fn hindered(&self, p: u8) -> Option<Hindrance>
-        requires process { p < 16 }
-        requires running { IsRunning self.now }
-        requires abstraction { HasAbstraction C.Meaning.meaning (placed_of self.now) }
+        requires { IsSoundFor C.Meaning.meaning self.now p }
         ensures { let x = placed_of self.now in
             option_map hindrance_of result ≡ first_of (placed_holds x) x.objects.things.lock p
             (lock_user p (placed_levels x p)) (placed_needs C.Meaning.meaning x p) }
@@ -206,15 +247,11 @@ impl<C: Calls, B: Policy> Running<C, B> {
 
     /// What hinders the next instruction of process p's call, which is in a graft and needs this.
     fn hindered_by(&self, p: u8, needs: &[Need]) -> Option<Hindrance>
-        requires process { p < 16 }
-        requires running { IsRunning self.now }
-        requires needs { let x = placed_of self.now in
-            needs.now ≡ placed_needs C.Meaning.meaning x p }
-        requires range { All (λ (n : Needed). IsInRange n.object) needs.now }
+        requires at { HasProcess self.now p }
+        requires needs { AreNeeds C.Meaning.meaning self.now p needs.now }
         ensures { let x = placed_of self.now in
-            let user = lock_user p (placed_levels x p) in
-            option_map hindrance_of result
-            ≡ first_of (placed_holds x) x.objects.things.lock p user (placed_needs C.Meaning.meaning x p) }
+            option_map hindrance_of result ≡ first_of (placed_holds x) x.objects.things.lock p
+            (lock_user p (placed_levels x p)) (placed_needs C.Meaning.meaning x p) }
     {
         let user = flight(&self.calls, p).chain.lock_user(p);
         first_hindrance(&self.locks, &self.store, p, user, needs)
@@ -223,11 +260,8 @@ impl<C: Calls, B: Policy> Running<C, B> {
     /// What blocks the next instruction of process p's call, which is in a graft and needs this, if
     /// something does.
     pub fn blocked_by(&self, p: u8, needs: &[Need]) -> Option<Blocking>
-        requires process { p < 16 }
-        requires running { IsRunning self.now }
-        requires needs { let x = placed_of self.now in
-            needs.now ≡ placed_needs C.Meaning.meaning x p }
-        requires range { All (λ (n : Needed). IsInRange n.object) needs.now }
+        requires at { HasProcess self.now p }
+        requires needs { AreNeeds C.Meaning.meaning self.now p needs.now }
         ensures { let x = placed_of self.now in
             option_map blocker_of result ≡ placed_blocker C.Meaning.meaning x p }
     {
@@ -240,9 +274,7 @@ impl<C: Calls, B: Policy> Running<C, B> {
     /// What blocks the next step of process p's call, if something does. The time that this takes
     /// doesn't grow with what is held.
     pub fn blocker(&self, p: u8) -> Option<Blocking>
-        requires process { p < 16 }
-        requires running { IsRunning self.now }
-        requires abstraction { HasAbstraction C.Meaning.meaning (placed_of self.now) }
+        requires { IsSoundFor C.Meaning.meaning self.now p }
         ensures { option_map blocker_of result
             ≡ placed_blocker C.Meaning.meaning (placed_of self.now) p }
     {

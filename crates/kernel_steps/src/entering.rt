@@ -1,20 +1,19 @@
 //! How a call enters the graft that its piece asks.
 
-ghost use Rattle.std.specs.Prelude.{◌≡◌, ◌<◌, ◌≤◌, [], true, Some, is_some, length, option_map, All};
+ghost use Rattle.std.specs.Prelude.{◌≡◌, ◌≤◌, [], Some, length, option_map, All};
 ghost use Rattle.kernel_model.specs.declared.Need.{Need as Needed};
 ghost use Rattle.kernel_model.specs.History.{begin_at};
 ghost use Rattle.kernel_model.specs.Laws.{IsInRange, IsStanding};
-ghost use Rattle.kernel_model.specs.Policies.{lives};
 ghost use Rattle.kernel_model.specs.Sound.{ImagesAreLoaded};
 ghost use Rattle.kernel_model.specs.World.{ImageTable};
-ghost use Rattle.kernel_state.specs.Stores.{world_of_store, objects_of, queue_of};
+ghost use Rattle.kernel_state.specs.Stores.{world_of_store, objects_of};
 ghost use Rattle.call_pieces.specs.Works.{stage_of};
 ghost use Rattle.graft_loader.specs.Slots.{table_of};
 ghost use Rattle.graft_calls.specs.Chains.{call_of};
 ghost use Rattle.graft_calls.specs.Calls.{IsPlaced, IsInPlace, IsElsewhereSame};
 ghost use Rattle.kernel_steps.specs.declared.running.InFlight.{InFlight as Flying};
 ghost use Rattle.kernel_steps.specs.Views.{call_in_place};
-ghost use Rattle.kernel_steps.specs.Moves.{fed_by, needed_by};
+ghost use Rattle.kernel_steps.specs.Moves.{fed_by, needed_by, HasGraft};
 
 use crate::running::Flight;
 use crate::slots::Slot;
@@ -53,8 +52,8 @@ fn feed_of<C: Calls>(slot: &Slot) -> &[u8]
     }
 }
 
-/// The graft call of process p begins, which has a call in flight without levels, whose piece asks a
-/// point at which a graft stands.
+/// The graft call of process p begins, which has a call in flight without levels, whose piece asks
+/// a point at which a graft stands.
 pub(crate) fn begin_graft<C: Calls, B: Policy>(
     flight: &mut Flight,
     p: u8,
@@ -70,11 +69,7 @@ pub(crate) fn begin_graft<C: Calls, B: Policy>(
     requires none { flight.old.chain.levels ≡ [] }
     requires placed { IsPlaced store.old locks.old p flight.old.chain.levels
         flight.old.chain.undo }
-    requires owner { at.now.installer < 16 }
-    requires point { at.now.point < 16 }
-    requires lives { lives (queue_of store.old) at.now.installer ≡ true }
-    requires stands { is_some
-        ((objects_of store.old).accounts.graft at.now.installer at.now.point) ≡ true }
+    requires graft { HasGraft store.old at.now }
     requires loaded { ImagesAreLoaded (table_of images.now) (objects_of store.old).accounts }
     ensures value { let call = option_map call_in_place flight.old.call in
         call_of store.new locks.new flight.new.chain p

@@ -1,15 +1,14 @@
 //! The levels of one call move: a level begins, an instruction, the drop of a level.
 
-ghost use Rattle.std.specs.Prelude.{◌≡◌, ◌<◌, [], true, is_some, length};
+ghost use Rattle.std.specs.Prelude.{◌≡◌, ◌<◌, [], length};
 ghost use Rattle.kernel_model.specs.History.{begin_at};
-ghost use Rattle.kernel_model.specs.Policies.{lives};
-ghost use Rattle.kernel_state.specs.Stores.{objects_of, queue_of};
 ghost use Rattle.kernel_model.specs.GraftStep.{micro};
 ghost use Rattle.kernel_model.specs.Levels.{drop_level as level_dropped};
 ghost use Rattle.graft_calls.specs.Chains.{HasAnswer};
 ghost use Rattle.placed_laws.specs.Placed.{placed_config, placed_levels};
-ghost use Rattle.kernel_steps.specs.Views.{placed_of, chain_of, IsRunning, HasAbstraction};
-ghost use Rattle.kernel_steps.specs.Moves.{come_to, fed_by, needed_by, Moved};
+ghost use Rattle.kernel_steps.specs.Sound.{HasProcess, IsSoundFor};
+ghost use Rattle.kernel_steps.specs.Views.{placed_of, chain_of};
+ghost use Rattle.kernel_steps.specs.Moves.{come_to, fed_by, needed_by, HasGraft, Moved};
 
 use crate::entering::begin_graft;
 use crate::running::Running;
@@ -22,9 +21,8 @@ impl<C: Calls, B: Policy> Running<C, B> {
     /// Level d of process p's call is dropped, counted from the outermost: those further inward end
     /// with it.
     pub fn fall(&mut self, p: u8, d: u8, cause: Cause) -> Micro
-        requires process { p < 16 }
+        requires at { HasProcess self.old p }
         requires level { d < length (chain_of self.old p).levels }
-        requires running { IsRunning self.old }
         ensures said { let x = placed_of self.old in
             result ≡ (level_dropped x.world x.objects (placed_levels x p) d cause).said }
         ensures config { let x = placed_of self.old in
@@ -41,8 +39,7 @@ impl<C: Calls, B: Policy> Running<C, B> {
     /// One instruction of the innermost level of process p's call, whatever another call holds.
     /// What an answer gives stands in memory then.
     pub fn instruct(&mut self, p: u8) -> Micro
-        requires process { p < 16 }
-        requires running { IsRunning self.old }
+        requires { HasProcess self.old p }
         ensures said { let x = placed_of self.old in
             result ≡ (micro x.world x.images p (placed_config x p)).said }
         ensures config { let x = placed_of self.old in
@@ -60,15 +57,9 @@ impl<C: Calls, B: Policy> Running<C, B> {
     /// The call of process p enters a graft, where its piece asks a point at which one stands:
     /// level 0 holds what the piece needs, and is fed the piece's bytes.
     pub(crate) fn enter(&mut self, p: u8, at: &Point)
-        requires process { p < 16 }
+        requires at { IsSoundFor C.Meaning.meaning self.old p }
         requires none { (chain_of self.old p).levels ≡ [] }
-        requires owner { at.now.installer < 16 }
-        requires point { at.now.point < 16 }
-        requires lives { lives (queue_of self.old.store) at.now.installer ≡ true }
-        requires stands { is_some
-            ((objects_of self.old.store).accounts.graft at.now.installer at.now.point) ≡ true }
-        requires running { IsRunning self.old }
-        requires abstraction { HasAbstraction C.Meaning.meaning (placed_of self.old) }
+        requires graft { HasGraft self.old.store at.now }
         ensures config { let x = placed_of self.old in
             placed_of self.new ≡ come_to p (begin_at x.images x.objects p
             (needed_by C.Meaning.meaning x.world x.objects p (x.call p))

@@ -26,6 +26,6 @@ mod waits;
 pub use blocking::Hindrance;
 pub use notes::Notes;
 pub use order::{Blocking, Order, Waiting};
-pub use running::{Flight, InFlight, Running};
+pub use running::{Flight, InFlight, Request, Running};
 pub use slots::Slot;
 pub use trace::Trace;

@@ -1,11 +1,11 @@
 //! The notes of an event.
 
-ghost use Rattle.std.specs.Prelude.{◌≡◌, ◌≤◌, ◌<◌, ◌*◌, ◌+◌, ◌++◌, List, Option, None, Some, [], ◌∷◌, length, IfOk, vec_len, vec_capacity};
+ghost use Rattle.std.specs.Prelude.{◌≡◌, ◌≤◌, ◌<◌, ◌*◌, ◌+◌, ◌++◌, List, Some, [], ◌∷◌, length, IfOk, vec_capacity};
 ghost use Rattle.kernel_model.specs.declared.Note.{Note as Told};
 ghost use Rattle.kernel_model.specs.Kernel.{gave_note};
 ghost use Rattle.kernel_model.specs.Bare.{given_count, note_with, notes_with};
-ghost use Rattle.kernel_steps.specs.Refines.{first_notes};
 ghost use Rattle.kernel_steps.specs.Noting.{AreGiven, NotesFit};
+ghost use Rattle.kernel_steps.specs.Refines.{first_notes};
 
 use call_pieces::Gift;
 use kernel_model::{BLOCK_BYTES, BareNote, NoMemory};
@@ -51,6 +51,18 @@ fn without_bytes(note: BareNote) -> BareNote
     }
 }
 
+/// Bytes behind others, for which there is room. Most notes give none.
+fn append(bytes: &mut Vec<u8>, more: &[u8])
+    requires { length bytes.old.items + length more.now ≤ vec_capacity bytes.old }
+    ensures bytes { bytes.new.items ≡ bytes.old.items ++ more.now }
+    ensures room { vec_capacity bytes.old ≤ vec_capacity bytes.new }
+{
+    if more.is_empty() {
+        return;
+    }
+    let _ = bytes.extend_from_slice(more);
+}
+
 /// One more note, and its bytes, where there is room.
 fn add(list: &mut Vec<BareNote>, bytes: &mut Vec<u8>, note: BareNote, more: &[u8])
     requires fit { NotesFit list.old.items bytes.old.items (vec_capacity list.old)
@@ -64,7 +76,7 @@ fn add(list: &mut Vec<BareNote>, bytes: &mut Vec<u8>, note: BareNote, more: &[u8
     ensures bytes { bytes.new.items ≡ bytes.old.items ++ more.now }
 {
     let _ = list.push(note);
-    let _ = bytes.extend_from_slice(more);
+    append(bytes, more);
 }
 
 impl Notes {

@@ -8,11 +8,11 @@ ghost use Rattle.kernel_model.specs.Opening.{opening_kernel, opening_policy};
 ghost use Rattle.kernel_model.specs.Session as session;
 ghost use Rattle.kernel_model.specs.Sound.{IsAtRest};
 ghost use Rattle.graft_points.specs.Shelf.{pol_of, first_choice};
-ghost use Rattle.kernel_state.specs.Stores.{world_of_store, objects_of, views_of};
+ghost use Rattle.kernel_state.specs.Stores.{world_of_store, views_of};
 ghost use Rattle.kernel_state.specs.Sound.{world_for};
-ghost use Rattle.graft_loader.specs.Slots.{table_of};
 ghost use Rattle.placed_laws.specs.Stands.{StandsFor};
-ghost use Rattle.kernel_steps.specs.Views.{placed_of, IsRunning, IsQuiet, HasAbstraction};
+ghost use Rattle.kernel_steps.specs.Sound.{IsSound};
+ghost use Rattle.kernel_steps.specs.Views.{placed_of, IsRunning, IsQuiet};
 
 use crate::running::Running;
 use call_pieces::Calls;
@@ -63,18 +63,16 @@ impl<C: Calls, B: Policy> Running<C, B> {
     /// A slot that is free has this image from now on. Every call stays where it is, and what
     /// blocks it. No memory is taken.
     pub fn add_image(&mut self, slot: u32, image: Loaded)
+        requires sound { IsSound C.Meaning.meaning self.old }
         requires slot { slot < 32 }
         requires free { (placed_of self.old).images slot ≡ None }
-        requires running { IsRunning self.old }
-        requires abstraction { HasAbstraction C.Meaning.meaning (placed_of self.old) }
         ensures stands { (k : Kernel) → StandsFor C.Meaning.meaning (placed_of self.old) k →
             StandsFor C.Meaning.meaning (placed_of self.new)
             (session.add_image slot image k) }
         ensures rests { (k : Kernel) → StandsFor C.Meaning.meaning (placed_of self.old) k →
             IsAtRest C.Meaning.meaning k →
             IsAtRest C.Meaning.meaning (session.add_image slot image k) }
-        ensures running { IsRunning self.new }
-        ensures abstraction { HasAbstraction C.Meaning.meaning (placed_of self.new) }
+        ensures sound { IsSound C.Meaning.meaning self.new }
         ensures store { self.new.store ≡ self.old.store }
         ensures clock { self.new.clock ≡ self.old.clock }
     {

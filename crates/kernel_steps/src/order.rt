@@ -1,6 +1,6 @@
 //! The order of waiting.
 
-ghost use Rattle.std.specs.Prelude.{◌≡◌, ◌==◌, ◌<◌, ◌≤◌, ◌+◌, ◌++◌, ◌∷◌, ◌-◌, ◌^◌, [], true, not, map, filter, length, option_map, suc, None};
+ghost use Rattle.std.specs.Prelude.{◌≡◌, ◌==◌, ◌<◌, ◌≤◌, ◌+◌, ◌++◌, ◌∷◌, ◌-◌, [], not, map, filter, length, None};
 ghost use Rattle.std.specs.List.{list_any};
 ghost use Rattle.kernel_steps.specs.Orders.{joined, later};
 
@@ -88,6 +88,12 @@ fn count_all(list: &mut [Waiting])
 fn drop_entries(list: &mut ArrayVec<Waiting, PROCESSES>, p: u8)
     ensures { list.new.items ≡ filter (λ w. not (w.process == p)) list.old.items }
 {
+    if list.len() == 1 {
+        if !is_others(&list.as_slice()[0], p) {
+            list.clear();
+        }
+        return;
+    }
     list.retain(|waiting| is_others(waiting, p));
 }
 

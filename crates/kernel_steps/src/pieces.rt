@@ -1,13 +1,13 @@
 //! A piece of a call in flight.
 
 ghost use Rattle.std.specs.Prelude.{◌≡◌, true, Some, None, cond, option_map};
-ghost use Rattle.disk_log.specs.Seen.{disk_seen};
 ghost use Rattle.kernel_model.specs.Laws.{IsReady};
 ghost use Rattle.kernel_model.specs.World.{ImageTable};
 ghost use Rattle.call_pieces.specs.Works.{answer_seen, stage_of};
-ghost use Rattle.kernel_state.specs.Stores.{world_of_store, objects_of, SegmentsStay};
+ghost use Rattle.kernel_state.specs.Stores.{world_of_store, objects_of};
 ghost use Rattle.kernel_steps.specs.declared.running.InFlight.{InFlight as Flying};
-ghost use Rattle.kernel_steps.specs.Refines.{PieceDone};
+ghost use Rattle.kernel_steps.specs.Moments.{moment};
+ghost use Rattle.kernel_steps.specs.Refines.{PieceDone, StoreStays};
 ghost use Rattle.kernel_steps.specs.Views.{call_in_place};
 
 use crate::running::InFlight;
@@ -31,18 +31,14 @@ fn run_piece<C: Calls, B: Policy, D: Disk>(
     requires ready { (images : ImageTable) × IsReady C.Meaning.meaning (world_of_store store.old)
         images (objects_of store.old) call.old.work.caller (stage_of call.old.work)
         (answer_seen store.old.ram call.old.work.caller answer) }
-    requires disk { store.old.size ≡ D.block_count disk.old }
-    ensures done { PieceDone C.Meaning.meaning (world_of_store store.old) (objects_of store.old)
-        (objects_of store.new) call.old.work.caller (call_in_place call.old)
-        (option_map call_in_place (cond result (Some call.new) None))
-        (answer_seen store.old.ram call.old.work.caller answer) trace.old.notes trace.new.notes
-        (disk_seen (D.blocks disk.old) (D.plan disk.old) (D.faults disk.old))
-        (disk_seen (D.blocks disk.new) (D.plan disk.new) (D.faults disk.new)) }
+    requires disk { store.old.size ≡ (D.seen disk.old).size }
+    ensures done { PieceDone C.Meaning.meaning (world_of_store store.old) call.old.work.caller
+        (call_in_place call.old) (option_map call_in_place (cond result (Some call.new) None))
+        (answer_seen store.old.ram call.old.work.caller answer)
+        (moment (objects_of store.old) trace.old.notes (D.seen disk.old))
+        (moment (objects_of store.new) trace.new.notes (D.seen disk.new)) }
     ensures caller { result ≡ true → call.new.work.caller ≡ call.old.work.caller }
-    ensures world { world_of_store store.new ≡ world_of_store store.old }
-    ensures size { store.new.size ≡ store.old.size }
-    ensures memory { SegmentsStay store.old.ram store.new.ram }
-    ensures same_size { D.block_count disk.new ≡ D.block_count disk.old }
+    ensures store { StoreStays store.old store.new }
 {
     trace.log.clear();
     let next = C::piece(
@@ -81,20 +77,15 @@ pub(crate) fn do_piece<C: Calls, B: Policy, D: Disk>(
         (images : ImageTable) × IsReady C.Meaning.meaning (world_of_store store.old) images
         (objects_of store.old) f.work.caller (stage_of f.work)
         (answer_seen store.old.ram f.work.caller answer) }
-    requires disk { store.old.size ≡ D.block_count disk.old }
+    requires disk { store.old.size ≡ (D.seen disk.old).size }
     ensures done { (f : Flying) → slot.old ≡ Some f →
-        PieceDone C.Meaning.meaning (world_of_store store.old) (objects_of store.old)
-        (objects_of store.new) f.work.caller (call_in_place f)
+        PieceDone C.Meaning.meaning (world_of_store store.old) f.work.caller (call_in_place f)
         (option_map call_in_place slot.new) (answer_seen store.old.ram f.work.caller answer)
-        trace.old.notes trace.new.notes
-        (disk_seen (D.blocks disk.old) (D.plan disk.old) (D.faults disk.old))
-        (disk_seen (D.blocks disk.new) (D.plan disk.new) (D.faults disk.new)) }
+        (moment (objects_of store.old) trace.old.notes (D.seen disk.old))
+        (moment (objects_of store.new) trace.new.notes (D.seen disk.new)) }
     ensures caller { (f g : Flying) → slot.old ≡ Some f → slot.new ≡ Some g →
         g.work.caller ≡ f.work.caller }
-    ensures world { world_of_store store.new ≡ world_of_store store.old }
-    ensures size { store.new.size ≡ store.old.size }
-    ensures memory { SegmentsStay store.old.ram store.new.ram }
-    ensures same_size { D.block_count disk.new ≡ D.block_count disk.old }
+    ensures store { StoreStays store.old store.new }
 {
     if !slot.taken {
         return;

@@ -9,7 +9,8 @@ ghost use Rattle.lock_table.specs.Numbers.{is_in_range};
 ghost use Rattle.placed_laws.specs.Placed.{has_some, placed_holds, placed_needs};
 ghost use Rattle.placed_laws.specs.PlacedSteps.{placed_joins};
 ghost use Rattle.kernel_steps.specs.Queries.{note_in_graft};
-ghost use Rattle.kernel_steps.specs.Views.{placed_of, chain_of, IsRunning, HasAbstraction, Simulates};
+ghost use Rattle.kernel_steps.specs.Sound.{HasProcess, IsSoundFor};
+ghost use Rattle.kernel_steps.specs.Views.{placed_of, chain_of, IsRunning, Simulates};
 
 use crate::blocking::{flight, number_of};
 use crate::order::Waiting;
@@ -68,9 +69,8 @@ impl<C: Calls, B: Policy> Running<C, B> {
 
     /// Process p, which isn't in the order, joins it at its end.
     pub fn join(&mut self, p: u8)
-        requires process { p < 16 }
+        requires at { HasProcess self.old p }
         requires new { in_order p (placed_of self.old).order ≡ false }
-        requires running { IsRunning self.old }
         ensures value { Simulates (placed_joins p) (placed_of self.old) (placed_of self.new) }
         ensures running { IsRunning self.new }
     {
@@ -86,8 +86,7 @@ impl<C: Calls, B: Policy> Running<C, B> {
 
     /// How many levels process p's call has.
     pub fn level_count(&self, p: u8) -> u8
-        requires process { p < 16 }
-        requires running { IsRunning self.now }
+        requires { HasProcess self.now p }
         ensures value { result ≡ length ((placed_of self.now).levels p) }
         ensures chain { result ≡ length (chain_of self.now p).levels }
     {
@@ -96,8 +95,7 @@ impl<C: Calls, B: Policy> Running<C, B> {
 
     /// Whether process p's call is in a graft.
     pub fn in_graft(&self, p: u8) -> bool
-        requires process { p < 16 }
-        requires running { IsRunning self.now }
+        requires { HasProcess self.now p }
         ensures { result ≡ has_some ((placed_of self.now).levels p) }
     {
         flight(&self.calls, p).chain.levels.count() != 0
@@ -105,8 +103,7 @@ impl<C: Calls, B: Policy> Running<C, B> {
 
     /// The note that process p's call, of this number, is in a graft, if it is.
     pub fn graft_note(&self, p: u8, number: u32) -> Option<BareNote>
-        requires process { p < 16 }
-        requires running { IsRunning self.now }
+        requires { HasProcess self.now p }
         ensures { option_map (λ n. note_with n []) result
             ≡ note_in_graft number ((placed_of self.now).levels p) }
     {
@@ -120,9 +117,7 @@ impl<C: Calls, B: Policy> Running<C, B> {
     /// The mode in which the next step of process p's call needs an object: shared, where it
     /// doesn't.
     fn wanted(&self, p: u8, object: Object) -> Mode
-        requires process { p < 16 }
-        requires running { IsRunning self.now }
-        requires abstraction { HasAbstraction C.Meaning.meaning (placed_of self.now) }
+        requires { IsSoundFor C.Meaning.meaning self.now p }
         ensures { result ≡ wanted object (placed_needs C.Meaning.meaning (placed_of self.now) p) }
     {
         soundness::sound_in_place::<C::Meaning>();
@@ -142,9 +137,7 @@ impl<C: Calls, B: Policy> Running<C, B> {
     /// The outermost level of a holder's call whose hold on an object conflicts with the mode in
     /// which process p needs it.
     pub fn level_in_the_way(&self, p: u8, object: Object, holder: u8) -> Option<u8>
-        requires process { p < 16 }
-        requires running { IsRunning self.now }
-        requires abstraction { HasAbstraction C.Meaning.meaning (placed_of self.now) }
+        requires { IsSoundFor C.Meaning.meaning self.now p }
         ensures value { let x = placed_of self.now in
             result ≡ outermost_holding object (wanted object (placed_needs C.Meaning.meaning x p))
             (placed_holds x holder) }

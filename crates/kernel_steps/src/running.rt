@@ -1,6 +1,6 @@
 //! The running kernel: how it begins, and how calls begin and end.
 
-ghost use Rattle.std.specs.Prelude.{suc, true, false, ◌≡◌, ◌<◌, ◌≤◌, ◌-◌, ◌^◌, None, [], ◌++◌, ◌∷◌, length, IfOk, replicate, slice_set, ℕ};
+ghost use Rattle.std.specs.Prelude.{suc, true, false, ◌≡◌, ◌<◌, ◌-◌, ◌^◌, None, [], ◌∷◌, length, IfOk, replicate, slice_set, ℕ};
 ghost use Rattle.kernel_model.specs.Sound.{ImagesAreLoaded};
 ghost use Rattle.kernel_model.specs.Bare.{call_with, note_with};
 ghost use Rattle.kernel_model.specs.Policies.{lives};
@@ -9,8 +9,9 @@ ghost use Rattle.kernel_steps.specs.Begins.{CallBegins, FlightBegins};
 ghost use Rattle.graft_loader.specs.Slots.{table_of};
 ghost use Rattle.placed_laws.specs.PlacedSteps.{is_placed_at_piece, placed_noted, placed_requeue, placed_ticked, with_placed_call};
 ghost use Rattle.kernel_steps.specs.Orders.{has_number, numbers_of};
-ghost use Rattle.kernel_steps.specs.Views.{placed_of, flight_of, no_flight, IsRunning, IsQuiet, Simulates};
+ghost use Rattle.kernel_steps.specs.Sound.{HasProcess};
 ghost use Rattle.kernel_steps.specs.Refines.{SimulatesNoting};
+ghost use Rattle.kernel_steps.specs.Views.{placed_of, flight_of, no_flight, IsRunning, IsQuiet, Simulates};
 ghost use Rattle.kernel_model.specs.declared.Note.TheVariants.{Ticked};
 
 use crate::blocking::flight;
@@ -28,6 +29,17 @@ use lock_table::LockTable;
 use std::alloc::Global;
 use std::marker::PhantomData;
 use undo_calls::UndoStack;
+
+/// A system call that an event asks.
+#[derive(Clone, Copy)]
+pub struct Request<'a> {
+    /// The number of the event.
+    pub number: u32,
+    /// The call, without its bytes.
+    pub call: BareCall,
+    /// Its bytes.
+    pub bytes: &'a ArrayVec<u8, BLOCK_BYTES>,
+}
 
 /// A call in flight.
 #[derive(Drop)]
@@ -99,18 +111,16 @@ fn begin_call<C: Calls, B: Policy>(
     store: &Store<B>,
     images: &Images,
     p: u8,
-    number: u32,
-    call: BareCall,
-    bytes: &ArrayVec<u8, BLOCK_BYTES>,
+    request: Request<'_>,
 ) -> Result<(), Refusal>
     requires process { p < length flights.old.items }
     requires alive { lives (queue_of store.now) p ≡ true }
-    ensures { FlightBegins C.Meaning.meaning (world_of_store store.now)
-        (table_of images.now) p number (call_with call bytes.now.items) flights.old.items
-        flights.new.items result }
+    ensures { FlightBegins C.Meaning.meaning (world_of_store store.now) (table_of images.now) p
+        request.entry.number (call_with request.entry.call request.entry.bytes.now.items)
+        flights.old.items flights.new.items result }
 {
     let flight = &mut flights[p as usize];
-    begin_in::<C, B>(&mut flight.call, store, images, p, number, call, bytes)
+    begin_in::<C, B>(&mut flight.call, store, images, p, request)
 }
 
 /// A process has no call.
@@ -152,25 +162,18 @@ impl<C: Calls, B: Policy> Running<C, B> {
         }
     }
 
-    /// A call of process p begins, which lives, has none and doesn't wait: it joins the order. Or it
-    /// is refused at once, and nothing changes.
-    pub fn begin(
-        &mut self,
-        p: u8,
-        number: u32,
-        call: BareCall,
-        bytes: &ArrayVec<u8, BLOCK_BYTES>,
-    ) -> Result<(), Refusal>
-        requires process { p < 16 }
+    /// A call of process p begins, which lives, has none and doesn't wait: it joins the order. Or
+    /// it is refused at once, and nothing changes.
+    pub fn begin(&mut self, p: u8, request: Request<'_>) -> Result<(), Refusal>
+        requires at { HasProcess self.old p }
         requires alive { lives (queue_of self.old.store) p ≡ true }
         requires none { (placed_of self.old).call p ≡ None }
         requires new { has_number p (numbers_of self.old.order) ≡ false }
-        requires running { IsRunning self.old }
-        ensures { CallBegins C.Meaning.meaning p number
-            (call_with call bytes.now.items) self.old self.new result }
+        ensures { CallBegins C.Meaning.meaning p request.entry.number
+            (call_with request.entry.call request.entry.bytes.now.items) self.old self.new result }
     {
         let calls = &mut self.calls;
-        match begin_call::<C, B>(calls, &self.store, &self.images, p, number, call, bytes) {
+        match begin_call::<C, B>(calls, &self.store, &self.images, p, request) {
             Err(refusal) => Err(refusal),
             Ok(()) => {
                 self.order.push(Waiting::joined(p));
@@ -181,8 +184,7 @@ impl<C: Calls, B: Policy> Running<C, B> {
 
     /// The call of process p ends with this note; it has no level.
     pub fn end(&mut self, p: u8, note: BareNote, notes: &mut Notes)
-        requires process { p < 16 }
-        requires running { IsRunning self.old }
+        requires { HasProcess self.old p }
         ensures value { SimulatesNoting
             (λ r. placed_requeue p (placed_noted (note_with note []) (with_placed_call p None r)))
             (placed_of self.old) (placed_of self.new)
@@ -196,8 +198,7 @@ impl<C: Calls, B: Policy> Running<C, B> {
 
     /// Whether the next step of process p's call is a piece.
     pub fn is_at_piece(&self, p: u8) -> bool
-        requires process { p < 16 }
-        requires running { IsRunning self.now }
+        requires { HasProcess self.now p }
         ensures { let x = placed_of self.now in
             result ≡ is_placed_at_piece (x.call p) (x.levels p) }
     {
@@ -211,8 +212,7 @@ impl<C: Calls, B: Policy> Running<C, B> {
     /// After a step of process p: it stands in the order, at its end, exactly where its next step
     /// is a piece.
     pub fn requeue(&mut self, p: u8)
-        requires process { p < 16 }
-        requires running { IsRunning self.old }
+        requires { HasProcess self.old p }
         ensures value { Simulates (placed_requeue p) (placed_of self.old) (placed_of self.new) }
         ensures running { IsRunning self.new }
     {

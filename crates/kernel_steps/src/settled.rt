@@ -1,17 +1,16 @@
 //! An instruction that leaves what its call holds.
 
 ghost use Rattle.std.specs.Prelude.{◌≡◌, ◌<◌, ◌≤◌, true, None, is_some, length, slice_get, All};
-ghost use Rattle.disk_log.specs.Seen.{disk_seen};
 ghost use Rattle.kernel_model.specs.declared.Need.{Need as Needed};
 ghost use Rattle.kernel_model.specs.Laws.{IsInRange};
-ghost use Rattle.kernel_state.specs.Stores.{world_of_store};
 ghost use Rattle.lock_table.specs.Masks.{held};
-ghost use Rattle.placed_laws.specs.Placed.{has_some, placed_blocker, placed_needs};
+ghost use Rattle.placed_laws.specs.Placed.{has_some, placed_blocker};
 ghost use Rattle.placed_laws.specs.PlacedSteps.{placed_step};
 ghost use Rattle.placed_laws.specs.Resting.{KeepsHolds};
-ghost use Rattle.kernel_steps.specs.Refines.{Refines};
 ghost use Rattle.kernel_steps.specs.Grips.{IsHold, IsGrip};
-ghost use Rattle.kernel_steps.specs.Views.{placed_of, call_at, IsRunning, HasAbstraction};
+ghost use Rattle.kernel_steps.specs.Moments.{moment};
+ghost use Rattle.kernel_steps.specs.Sound.{AreNeeds, CanRun, HasProcess, RefinesAndKeeps};
+ghost use Rattle.kernel_steps.specs.Views.{placed_of, call_at};
 
 use crate::blocking::flight;
 use crate::running::Running;
@@ -66,12 +65,10 @@ fn is_same_grip(a: HoldSnapshot, b: HoldSnapshot) -> bool
 impl<C: Calls, B: Policy> Running<C, B> {
     /// What the next instruction of process p's call needs, which is in a graft.
     pub fn instruction_needs(&self, p: u8) -> Needs
-        requires process { p < 16 }
+        requires at { HasProcess self.now p }
         requires call { is_some (call_at self.now p) ≡ true }
         requires level { has_some ((placed_of self.now).levels p) ≡ true }
-        requires running { IsRunning self.now }
-        ensures value { result ≡ placed_needs C.Meaning.meaning (placed_of self.now) p }
-        ensures range { All (λ (n : Needed). IsInRange n.object) result }
+        ensures { AreNeeds C.Meaning.meaning self.now p result }
     {
         flight(&self.calls, p)
             .chain
@@ -87,28 +84,17 @@ impl<C: Calls, B: Policy> Running<C, B> {
         disk: &mut D,
         trace: &mut Trace,
     ) -> bool
-        requires process { p < 16 }
+        requires at { CanRun C.Meaning.meaning self.old (D.seen disk.old) p }
         requires call { is_some (call_at self.old p) ≡ true }
         requires level { has_some ((placed_of self.old).levels p) ≡ true }
         requires free { placed_blocker C.Meaning.meaning (placed_of self.old) p ≡ None }
-        requires running { IsRunning self.old }
-        requires abstraction { HasAbstraction C.Meaning.meaning (placed_of self.old) }
-        requires disk { self.old.store.size ≡ D.block_count disk.old }
-        requires needs { let x = placed_of self.old in
-            needs.now ≡ placed_needs C.Meaning.meaning x p }
-        requires range { All (λ (n : Needed). IsInRange n.object) needs.now }
+        requires needs { AreNeeds C.Meaning.meaning self.old p needs.now }
         requires few { length needs.now ≤ 3 }
         ensures kept { result ≡ true → KeepsHolds C.Meaning.meaning (placed_of self.old)
             (placed_of self.new) p }
-        ensures refines { Refines (placed_step C.Meaning.meaning p) (placed_of self.old)
-            (placed_of self.new) trace.old.notes trace.new.notes
-            (disk_seen (D.blocks disk.old) (D.plan disk.old) (D.faults disk.old))
-            (disk_seen (D.blocks disk.new) (D.plan disk.new) (D.faults disk.new)) }
-        ensures running { IsRunning self.new }
-        ensures abstraction { HasAbstraction C.Meaning.meaning (placed_of self.new) }
-        ensures world { world_of_store self.new.store ≡ world_of_store self.old.store }
-        ensures clock { self.new.clock ≡ self.old.clock }
-        ensures same_size { D.block_count disk.new ≡ D.block_count disk.old }
+        ensures went { RefinesAndKeeps C.Meaning.meaning (placed_step C.Meaning.meaning p)
+            (moment self.old trace.old.notes (D.seen disk.old))
+            (moment self.new trace.new.notes (D.seen disk.new)) }
     {
         let count = self.level_count(p);
         let before = grip_of(&self.locks, p, needs);

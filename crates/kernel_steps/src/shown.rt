@@ -1,6 +1,6 @@
 //! The rows that show the calls in flight.
 
-ghost use Rattle.std.specs.Prelude.{◌≡◌, ℕ, ◌==◌, ◌<◌, ◌≤◌, List, Some, find, length, map, option_map, reverse, slice_get};
+ghost use Rattle.std.specs.Prelude.{◌≡◌, ℕ, ◌==◌, ◌<◌, ◌≤◌, List, Some, find, length, map, reverse, slice_get};
 ghost use Rattle.kernel_model.specs.Kernel.{Entry};
 ghost use Rattle.kernel_model.specs.Locks.{LockTable as Table};
 ghost use Rattle.kernel_model.specs.Objects.{Things};
@@ -10,7 +10,8 @@ ghost use Rattle.undo_calls.specs.UndoLevels.{Logged, log_of};
 ghost use Rattle.graft_calls.specs.Chains.{levels_in};
 ghost use Rattle.placed_laws.specs.PlacedRows.{placed_call_row, placed_level_rows, placed_undo_rows};
 ghost use Rattle.kernel_steps.specs.Orders.{entry_of, order_of};
-ghost use Rattle.kernel_steps.specs.Views.{placed_of, IsRunning};
+ghost use Rattle.kernel_steps.specs.Sound.{HasProcess};
+ghost use Rattle.kernel_steps.specs.Views.{placed_of};
 
 use crate::blocking::flight;
 use crate::order::Waiting;
@@ -82,8 +83,7 @@ impl<C: Calls, B: Policy> Running<C, B> {
     /// The call of process p, if it has one: its number, what it waits for, and its innermost
     /// level.
     pub fn call_row(&self, p: u8) -> Option<RawRow>
-        requires process { p < 16 }
-        requires running { IsRunning self.now }
+        requires { HasProcess self.now p }
         ensures { result ≡ placed_call_row (placed_of self.now) p }
     {
         let flight = flight(&self.calls, p);
@@ -96,8 +96,7 @@ impl<C: Calls, B: Policy> Running<C, B> {
 
     /// How many levels the call of process p has.
     pub fn shown_levels(&self, p: u8) -> u8
-        requires process { p < 16 }
-        requires running { IsRunning self.now }
+        requires { HasProcess self.now p }
         ensures value { result ≡ length (placed_level_rows (placed_of self.now) p) }
         ensures few { result ≤ 4 }
     {
@@ -106,8 +105,7 @@ impl<C: Calls, B: Policy> Running<C, B> {
 
     /// Level d of process p's call, 0 being the outermost.
     pub fn level_row(&self, p: u8, d: u8) -> RawRow
-        requires process { p < 16 }
-        requires running { IsRunning self.now }
+        requires at { HasProcess self.now p }
         requires level { d < length (placed_level_rows (placed_of self.now) p) }
         ensures { slice_get (placed_level_rows (placed_of self.now) p) d ≡ Some result }
     {
@@ -116,8 +114,7 @@ impl<C: Calls, B: Policy> Running<C, B> {
 
     /// How many records the call of process p has, over all its levels.
     pub fn shown_records(&self, p: u8) -> u8
-        requires process { p < 16 }
-        requires running { IsRunning self.now }
+        requires { HasProcess self.now p }
         ensures value { result ≡ length (placed_undo_rows (placed_of self.now) p) }
         ensures few { result ≤ 64 }
     {
@@ -126,8 +123,7 @@ impl<C: Calls, B: Policy> Running<C, B> {
 
     /// Record i of process p's call with the level that owns it, 0 being the newest.
     pub fn undo_row(&self, p: u8, i: u8) -> RawRow
-        requires process { p < 16 }
-        requires running { IsRunning self.now }
+        requires at { HasProcess self.now p }
         requires recorded { i < length (placed_undo_rows (placed_of self.now) p) }
         ensures { slice_get (placed_undo_rows (placed_of self.now) p) i ≡ Some result }
     {

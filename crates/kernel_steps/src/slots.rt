@@ -7,12 +7,11 @@ ghost use Rattle.kernel_state.specs.Stores.{world_of_store, queue_of};
 ghost use Rattle.graft_loader.specs.Slots.{table_of};
 ghost use Rattle.kernel_steps.specs.Begins.{SlotBegins};
 
-use crate::running::InFlight;
-use arrayvec::ArrayVec;
+use crate::running::{InFlight, Request};
 use call_pieces::{Calls, Work};
 use graft_loader::Images;
 use graft_points::Policy;
-use kernel_model::{BLOCK_BYTES, BareCall, Refusal};
+use kernel_model::Refusal;
 use kernel_state::Store;
 use std::marker::Model;
 
@@ -68,17 +67,23 @@ pub(crate) fn begin_in<C: Calls, B: Policy>(
     store: &Store<B>,
     images: &Images,
     p: u8,
-    number: u32,
-    call: BareCall,
-    bytes: &ArrayVec<u8, BLOCK_BYTES>,
+    request: Request<'_>,
 ) -> Result<(), Refusal>
     requires alive { lives (queue_of store.now) p ≡ true }
-    ensures { SlotBegins C.Meaning.meaning (world_of_store store.now)
-        (table_of images.now) p number (call_with call bytes.now.items) slot.new result }
+    ensures { SlotBegins C.Meaning.meaning (world_of_store store.now) (table_of images.now) p
+        request.entry.number (call_with request.entry.call request.entry.bytes.now.items)
+        slot.new result }
 {
     slot.taken = false;
-    C::early(store, images.mask(), p, call, bytes, &mut slot.call.work)?;
-    slot.call.number = number;
+    C::early(
+        store,
+        images.mask(),
+        p,
+        request.call,
+        request.bytes,
+        &mut slot.call.work,
+    )?;
+    slot.call.number = request.number;
     slot.taken = true;
     Ok(())
 }

@@ -1,20 +1,16 @@
 //! One step of a call, and the drop of one of its levels.
 
 ghost use Rattle.std.specs.Prelude.{◌≡◌, ◌<◌, ℕ, true, [], Some, None, is_some, length, List, Option};
-ghost use Rattle.disk_log.specs.Seen.{disk_seen};
 ghost use Rattle.kernel_model.specs.Bare.{note_with};
 ghost use Rattle.kernel_model.specs.GraftStep.{micro};
-ghost use Rattle.kernel_model.specs.Laws.{IsReady};
 ghost use Rattle.kernel_model.specs.Levels.{drop_level as level_dropped};
-ghost use Rattle.kernel_state.specs.Stores.{world_of_store, objects_of};
-ghost use Rattle.graft_loader.specs.Slots.{table_of};
-ghost use Rattle.placed_laws.specs.Placed.{PlacedCall, placed_blocker, placed_config};
+ghost use Rattle.placed_laws.specs.Placed.{placed_blocker, placed_config};
 ghost use Rattle.placed_laws.specs.PlacedSteps.{placed_call_step, placed_drop, placed_noted, placed_outcome, placed_step};
-ghost use Rattle.call_pieces.specs.Works.{answer_seen, stage_of};
-ghost use Rattle.kernel_steps.specs.declared.running.InFlight.{InFlight as Flying};
-ghost use Rattle.kernel_steps.specs.Refines.{Refines};
-ghost use Rattle.kernel_steps.specs.Steps.{answer_said, answer_of_drop, after_drop, after_said, finishes, StepDone, StepsAlone};
-ghost use Rattle.kernel_steps.specs.Views.{placed_of, flight_of, chain_of, call_at, IsRunning, HasAbstraction};
+ghost use Rattle.call_pieces.specs.Works.{answer_seen};
+ghost use Rattle.kernel_steps.specs.Steps.{answer_said, answer_of_drop, after_drop, after_said, finishes, CallStepDone, CanFinish, StepDone, StepsAlone};
+ghost use Rattle.kernel_steps.specs.Moments.{moment};
+ghost use Rattle.kernel_steps.specs.Sound.{CanRun, RefinesAndKeeps};
+ghost use Rattle.kernel_steps.specs.Views.{placed_of, chain_of, call_at};
 
 use crate::blocking::{flight, number_of};
 use crate::pieces::do_piece;
@@ -30,20 +26,13 @@ impl<C: Calls, B: Policy> Running<C, B> {
     /// The piece of process p's call, which has no level, is done: with an answer to the point that
     /// it asks, or by default.
     fn finish<D: Disk>(&mut self, p: u8, answer: Option<[u32; 4]>, disk: &mut D, trace: &mut Trace)
-        requires process { p < 16 }
         requires alone { StepsAlone self.old p }
-        requires none { (chain_of self.old p).levels ≡ [] }
-        requires ready { (f : Flying) → (flight_of self.old.calls.items p).call ≡ Some f →
-            IsReady C.Meaning.meaning (world_of_store self.old.store) (table_of self.old.images)
-            (objects_of self.old.store) p (stage_of f.work)
-            (answer_seen self.old.store.ram p answer) }
-        requires disk { self.old.store.size ≡ D.block_count disk.old }
-        ensures done { (c : PlacedCall) → call_at self.old p ≡ Some c →
-            StepDone (finishes C.Meaning.meaning p c (answer_seen self.old.store.ram p answer))
-            self.old self.new p trace.old.notes trace.new.notes
-            (disk_seen (D.blocks disk.old) (D.plan disk.old) (D.faults disk.old))
-            (disk_seen (D.blocks disk.new) (D.plan disk.new) (D.faults disk.new)) }
-        ensures same_size { D.block_count disk.new ≡ D.block_count disk.old }
+        requires answer { CanFinish C.Meaning.meaning self.old p answer }
+        requires disk { self.old.store.size ≡ (D.seen disk.old).size }
+        ensures { CallStepDone (λ c. finishes C.Meaning.meaning p c
+            (answer_seen self.old.store.ram p answer)) p
+            (moment self.old trace.old.notes (D.seen disk.old))
+            (moment self.new trace.new.notes (D.seen disk.new)) }
     {
         let flight = &mut self.calls[p as usize];
         do_piece::<C, B, D>(&mut flight.call, &mut self.store, answer, disk, trace);
@@ -59,22 +48,14 @@ impl<C: Calls, B: Policy> Running<C, B> {
         disk: &mut D,
         trace: &mut Trace,
     )
-        requires process { p < 16 }
         requires alone { StepsAlone self.old p }
-        requires none { (answer : Option (List ℕ)) → answer_of_drop d ≡ Some answer →
-            (chain_of self.old p).levels ≡ [] }
-        requires ready { (answer : Option (List ℕ)) (f : Flying) →
-            answer_of_drop d ≡ Some answer → (flight_of self.old.calls.items p).call ≡ Some f →
-            IsReady C.Meaning.meaning (world_of_store self.old.store) (table_of self.old.images)
-            (objects_of self.old.store) p (stage_of f.work)
-            (answer_seen self.old.store.ram p answer) }
-        requires disk { self.old.store.size ≡ D.block_count disk.old }
-        ensures done { (c : PlacedCall) → call_at self.old p ≡ Some c →
-            StepDone (λ r. after_drop C.Meaning.meaning p c d
-            (placed_noted (note_with note []) r)) self.old self.new p trace.old.notes trace.new.notes
-            (disk_seen (D.blocks disk.old) (D.plan disk.old) (D.faults disk.old))
-            (disk_seen (D.blocks disk.new) (D.plan disk.new) (D.faults disk.new)) }
-        ensures same_size { D.block_count disk.new ≡ D.block_count disk.old }
+        requires answer { (answer : Option (List ℕ)) → answer_of_drop d ≡ Some answer →
+            CanFinish C.Meaning.meaning self.old p answer }
+        requires disk { self.old.store.size ≡ (D.seen disk.old).size }
+        ensures { CallStepDone (λ c r. after_drop C.Meaning.meaning p c d
+            (placed_noted (note_with note []) r)) p
+            (moment self.old trace.old.notes (D.seen disk.old))
+            (moment self.new trace.new.notes (D.seen disk.new)) }
     {
         trace.notes.push(note);
         if d > 0 {
@@ -86,22 +67,14 @@ impl<C: Calls, B: Policy> Running<C, B> {
     /// What is left to do of a step of process p's call, once an instruction or the drop of a level
     /// said this. What an answer gives stands in memory.
     fn follow<D: Disk>(&mut self, p: u8, said: Micro, disk: &mut D, trace: &mut Trace)
-        requires process { p < 16 }
         requires alone { StepsAlone self.old p }
-        requires none { (answer : Option (List ℕ)) → answer_said said ≡ Some answer →
-            (chain_of self.old p).levels ≡ [] }
-        requires ready { (answer : Option (List ℕ)) (f : Flying) →
-            answer_said said ≡ Some answer → (flight_of self.old.calls.items p).call ≡ Some f →
-            IsReady C.Meaning.meaning (world_of_store self.old.store) (table_of self.old.images)
-            (objects_of self.old.store) p (stage_of f.work)
-            (answer_seen self.old.store.ram p answer) }
-        requires disk { self.old.store.size ≡ D.block_count disk.old }
-        ensures done { (c : PlacedCall) → call_at self.old p ≡ Some c →
-            StepDone (after_said C.Meaning.meaning self.old.store.ram p c said) self.old self.new p
-            trace.old.notes trace.new.notes
-            (disk_seen (D.blocks disk.old) (D.plan disk.old) (D.faults disk.old))
-            (disk_seen (D.blocks disk.new) (D.plan disk.new) (D.faults disk.new)) }
-        ensures same_size { D.block_count disk.new ≡ D.block_count disk.old }
+        requires answer { (answer : Option (List ℕ)) → answer_said said ≡ Some answer →
+            CanFinish C.Meaning.meaning self.old p answer }
+        requires disk { self.old.store.size ≡ (D.seen disk.old).size }
+        ensures { CallStepDone
+            (λ c. after_said C.Meaning.meaning self.old.store.ram p c said) p
+            (moment self.old trace.old.notes (D.seen disk.old))
+            (moment self.new trace.new.notes (D.seen disk.new)) }
     {
         match said {
             Micro::Went | Micro::Blocked(..) => {}
@@ -117,18 +90,12 @@ impl<C: Calls, B: Policy> Running<C, B> {
 
     /// One instruction of process p's call, which is in a graft, and what follows from it.
     fn graft_step<D: Disk>(&mut self, p: u8, disk: &mut D, trace: &mut Trace)
-        requires process { p < 16 }
+        requires at { CanRun C.Meaning.meaning self.old (D.seen disk.old) p }
         requires level { 0 < length (chain_of self.old p).levels }
-        requires running { IsRunning self.old }
-        requires abstraction { HasAbstraction C.Meaning.meaning (placed_of self.old) }
-        requires disk { self.old.store.size ≡ D.block_count disk.old }
-        ensures done { (c : PlacedCall) → call_at self.old p ≡ Some c →
-            StepDone (λ r. placed_outcome C.Meaning.meaning p c
-            (micro r.placed.world r.placed.images p (placed_config r.placed p)) r) self.old self.new
-            p trace.old.notes trace.new.notes
-            (disk_seen (D.blocks disk.old) (D.plan disk.old) (D.faults disk.old))
-            (disk_seen (D.blocks disk.new) (D.plan disk.new) (D.faults disk.new)) }
-        ensures same_size { D.block_count disk.new ≡ D.block_count disk.old }
+        ensures { CallStepDone (λ c r. placed_outcome C.Meaning.meaning p c
+            (micro r.placed.world r.placed.images p (placed_config r.placed p)) r) p
+            (moment self.old trace.old.notes (D.seen disk.old))
+            (moment self.new trace.new.notes (D.seen disk.new)) }
     {
         soundness::ready_in_place::<C::Meaning>();
         owners::owners_stay();
@@ -139,17 +106,11 @@ impl<C: Calls, B: Policy> Running<C, B> {
     /// The next piece of process p's call, which is in no graft: where it asks a point at which a
     /// graft stands, the call enters that graft; else the piece is done by default.
     fn piece_step<D: Disk>(&mut self, p: u8, disk: &mut D, trace: &mut Trace)
-        requires process { p < 16 }
+        requires at { CanRun C.Meaning.meaning self.old (D.seen disk.old) p }
         requires none { (chain_of self.old p).levels ≡ [] }
-        requires running { IsRunning self.old }
-        requires abstraction { HasAbstraction C.Meaning.meaning (placed_of self.old) }
-        requires disk { self.old.store.size ≡ D.block_count disk.old }
-        ensures done { (c : PlacedCall) → call_at self.old p ≡ Some c →
-            StepDone (λ r. placed_call_step C.Meaning.meaning p (Some c) r)
-            self.old self.new p trace.old.notes trace.new.notes
-            (disk_seen (D.blocks disk.old) (D.plan disk.old) (D.faults disk.old))
-            (disk_seen (D.blocks disk.new) (D.plan disk.new) (D.faults disk.new)) }
-        ensures same_size { D.block_count disk.new ≡ D.block_count disk.old }
+        ensures { CallStepDone (λ c. placed_call_step C.Meaning.meaning p (Some c)) p
+            (moment self.old trace.old.notes (D.seen disk.old))
+            (moment self.new trace.new.notes (D.seen disk.new)) }
     {
         soundness::sound_in_place::<C::Meaning>();
         soundness::ready_in_place::<C::Meaning>();
@@ -169,17 +130,11 @@ impl<C: Calls, B: Policy> Running<C, B> {
 
     /// A step of process p's call, but for its place in the order.
     fn step_call<D: Disk>(&mut self, p: u8, disk: &mut D, trace: &mut Trace)
-        requires process { p < 16 }
+        requires at { CanRun C.Meaning.meaning self.old (D.seen disk.old) p }
         requires call { is_some (call_at self.old p) ≡ true }
-        requires running { IsRunning self.old }
-        requires abstraction { HasAbstraction C.Meaning.meaning (placed_of self.old) }
-        requires disk { self.old.store.size ≡ D.block_count disk.old }
-        ensures done { StepDone
-            (placed_call_step C.Meaning.meaning p (call_at self.old p)) self.old self.new p
-            trace.old.notes trace.new.notes
-            (disk_seen (D.blocks disk.old) (D.plan disk.old) (D.faults disk.old))
-            (disk_seen (D.blocks disk.new) (D.plan disk.new) (D.faults disk.new)) }
-        ensures same_size { D.block_count disk.new ≡ D.block_count disk.old }
+        ensures { StepDone (placed_call_step C.Meaning.meaning p (call_at self.old p)) p
+            (moment self.old trace.old.notes (D.seen disk.old))
+            (moment self.new trace.new.notes (D.seen disk.new)) }
     {
         if flight(&self.calls, p).chain.levels.count() == 0 {
             return self.piece_step(p, disk, trace);
@@ -191,21 +146,12 @@ impl<C: Calls, B: Policy> Running<C, B> {
     /// innermost level, with all that this ends. The call stands in the order, at its end, exactly
     /// where its next step is a piece. The log is for the calls of the disk of one piece.
     pub fn step<D: Disk>(&mut self, p: u8, disk: &mut D, trace: &mut Trace)
-        requires process { p < 16 }
+        requires at { CanRun C.Meaning.meaning self.old (D.seen disk.old) p }
         requires call { is_some (call_at self.old p) ≡ true }
         requires free { placed_blocker C.Meaning.meaning (placed_of self.old) p ≡ None }
-        requires running { IsRunning self.old }
-        requires abstraction { HasAbstraction C.Meaning.meaning (placed_of self.old) }
-        requires disk { self.old.store.size ≡ D.block_count disk.old }
-        ensures refines { Refines (placed_step C.Meaning.meaning p) (placed_of self.old)
-            (placed_of self.new) trace.old.notes trace.new.notes
-            (disk_seen (D.blocks disk.old) (D.plan disk.old) (D.faults disk.old))
-            (disk_seen (D.blocks disk.new) (D.plan disk.new) (D.faults disk.new)) }
-        ensures running { IsRunning self.new }
-        ensures abstraction { HasAbstraction C.Meaning.meaning (placed_of self.new) }
-        ensures world { world_of_store self.new.store ≡ world_of_store self.old.store }
-        ensures clock { self.new.clock ≡ self.old.clock }
-        ensures same_size { D.block_count disk.new ≡ D.block_count disk.old }
+        ensures { RefinesAndKeeps C.Meaning.meaning (placed_step C.Meaning.meaning p)
+            (moment self.old trace.old.notes (D.seen disk.old))
+            (moment self.new trace.new.notes (D.seen disk.new)) }
     {
         soundness::sound_in_place::<C::Meaning>();
         keeping::steps_stand::<C::Meaning>();
@@ -216,18 +162,13 @@ impl<C: Calls, B: Policy> Running<C, B> {
 
     /// The drop of level d of process p's call, but for the call's place in the order.
     fn drop_call<D: Disk>(&mut self, p: u8, d: u8, cause: Cause, disk: &mut D, trace: &mut Trace)
-        requires process { p < 16 }
+        requires at { CanRun C.Meaning.meaning self.old (D.seen disk.old) p }
         requires level { d < length (chain_of self.old p).levels }
-        requires running { IsRunning self.old }
-        requires abstraction { HasAbstraction C.Meaning.meaning (placed_of self.old) }
-        requires disk { self.old.store.size ≡ D.block_count disk.old }
-        ensures done { (c : PlacedCall) → call_at self.old p ≡ Some c →
-            StepDone (λ r. placed_outcome C.Meaning.meaning p c
+        ensures { CallStepDone (λ c r. placed_outcome C.Meaning.meaning p c
             (level_dropped r.placed.world r.placed.objects
-            (placed_config r.placed p).levels d cause) r) self.old self.new p trace.old.notes trace.new.notes
-            (disk_seen (D.blocks disk.old) (D.plan disk.old) (D.faults disk.old))
-            (disk_seen (D.blocks disk.new) (D.plan disk.new) (D.faults disk.new)) }
-        ensures same_size { D.block_count disk.new ≡ D.block_count disk.old }
+            (placed_config r.placed p).levels d cause) r) p
+            (moment self.old trace.old.notes (D.seen disk.old))
+            (moment self.new trace.new.notes (D.seen disk.new)) }
     {
         soundness::ready_in_place::<C::Meaning>();
         owners::owners_stay();
@@ -246,20 +187,11 @@ impl<C: Calls, B: Policy> Running<C, B> {
         disk: &mut D,
         trace: &mut Trace,
     )
-        requires process { p < 16 }
+        requires at { CanRun C.Meaning.meaning self.old (D.seen disk.old) p }
         requires level { d < length (chain_of self.old p).levels }
-        requires running { IsRunning self.old }
-        requires abstraction { HasAbstraction C.Meaning.meaning (placed_of self.old) }
-        requires disk { self.old.store.size ≡ D.block_count disk.old }
-        ensures refines { Refines (placed_drop C.Meaning.meaning p d cause) (placed_of self.old)
-            (placed_of self.new) trace.old.notes trace.new.notes
-            (disk_seen (D.blocks disk.old) (D.plan disk.old) (D.faults disk.old))
-            (disk_seen (D.blocks disk.new) (D.plan disk.new) (D.faults disk.new)) }
-        ensures running { IsRunning self.new }
-        ensures abstraction { HasAbstraction C.Meaning.meaning (placed_of self.new) }
-        ensures world { world_of_store self.new.store ≡ world_of_store self.old.store }
-        ensures clock { self.new.clock ≡ self.old.clock }
-        ensures same_size { D.block_count disk.new ≡ D.block_count disk.old }
+        ensures { RefinesAndKeeps C.Meaning.meaning (placed_drop C.Meaning.meaning p d cause)
+            (moment self.old trace.old.notes (D.seen disk.old))
+            (moment self.new trace.new.notes (D.seen disk.new)) }
     {
         agreeing::same_shown::<C::Meaning>();
         soundness::sound_in_place::<C::Meaning>();

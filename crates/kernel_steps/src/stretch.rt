@@ -1,11 +1,11 @@
 //! Stretches: quiet instructions of a call in a graft, one after another.
 
-ghost use Rattle.std.specs.Prelude.{◌≡◌, ◌<◌, ◌≤◌, true, false};
+ghost use Rattle.std.specs.Prelude.{◌≡◌, ◌≤◌, true, false};
 ghost use Rattle.kernel_model.specs.Events.{in_order};
-ghost use Rattle.kernel_state.specs.Stores.{world_of_store};
 ghost use Rattle.placed_laws.specs.Placed.{has_some};
 ghost use Rattle.placed_laws.specs.Stretch.{IsStretched};
-ghost use Rattle.kernel_steps.specs.Views.{placed_of, IsRunning, HasAbstraction};
+ghost use Rattle.kernel_steps.specs.Sound.{IsSoundFor, KeepsRunning};
+ghost use Rattle.kernel_steps.specs.Views.{placed_of};
 
 use crate::running::Running;
 use call_pieces::Calls;
@@ -17,19 +17,12 @@ impl<C: Calls, B: Policy> Running<C, B> {
     /// instructions, which each go on and call nothing, or only read an object that their level
     /// holds already. How many there were. It may stop early, even at none.
     pub fn stretch(&mut self, p: u8, n: u32) -> u32
-        requires process { p < 16 }
-        requires level { let x = placed_of self.old in
-            has_some (x.levels p) ≡ true }
+        requires at { IsSoundFor C.Meaning.meaning self.old p }
+        requires level { has_some ((placed_of self.old).levels p) ≡ true }
         requires away { in_order p (placed_of self.old).order ≡ false }
-        requires running { IsRunning self.old }
-        requires abstraction { HasAbstraction C.Meaning.meaning (placed_of self.old) }
         ensures most { result ≤ n }
-        ensures is { let x = placed_of self.old in
-            IsStretched x (placed_of self.new) p result }
-        ensures running { IsRunning self.new }
-        ensures abstraction { HasAbstraction C.Meaning.meaning (placed_of self.new) }
-        ensures world { world_of_store self.new.store ≡ world_of_store self.old.store }
-        ensures clock { self.new.clock ≡ self.old.clock }
+        ensures is { IsStretched (placed_of self.old) (placed_of self.new) p result }
+        ensures on { KeepsRunning C.Meaning.meaning self.old self.new }
     {
         agreeing::same_shown::<C::Meaning>();
         stretching::stretches::<C::Meaning>();

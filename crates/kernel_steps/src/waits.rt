@@ -1,17 +1,16 @@
 //! The order of waiting and its blockers.
 
-ghost use Rattle.std.specs.Prelude.{◌≡◌, ℕ, ◌<◌, ◌≤◌, ◌+◌, ◌++◌, true, None, option_map, length};
+ghost use Rattle.std.specs.Prelude.{◌≡◌, ◌<◌, ◌≤◌, ◌+◌, ◌++◌, true, None, option_map, length};
 ghost use Rattle.kernel_model.specs.Blocking.{same_blocker, same_call};
 ghost use Rattle.kernel_model.specs.Objects.{same_object};
 ghost use Rattle.kernel_model.specs.Events.{object_kind};
 ghost use Rattle.kernel_model.specs.Settle.{entry_with};
-ghost use Rattle.placed_laws.specs.Placed.{placed_blocker};
 ghost use Rattle.placed_laws.specs.PlacedEvents.{expired_by, is_over_by};
 ghost use Rattle.placed_laws.specs.PlacedSteps.{placed_first_free, placed_rested_order, with_placed_order};
-ghost use Rattle.kernel_state.specs.Stores.{world_of_store, objects_of};
 ghost use Rattle.kernel_model.specs.World.{World};
 ghost use Rattle.kernel_steps.specs.Orders.{blocker_of, entry_of, order_of, are_processes, counts_within, patience_of, numbers_of};
-ghost use Rattle.kernel_steps.specs.Views.{placed_of, IsRunning, HasAbstraction, Simulates};
+ghost use Rattle.kernel_steps.specs.Sound.{IsSound};
+ghost use Rattle.kernel_steps.specs.Views.{placed_of, IsRunning, Simulates};
 
 use crate::order::{Blocking, Order, Waiting};
 use crate::running::Running;
@@ -116,9 +115,8 @@ pub(crate) fn first_over(patience: &[u32; 8], entries: &[Waiting]) -> Option<Wai
 impl<C: Calls, B: Policy> Running<C, B> {
     /// The first of these entries that nothing blocks.
     fn first_free_of(&self, entries: &[Waiting]) -> Option<u8>
+        requires sound { IsSound C.Meaning.meaning self.now }
         requires processes { are_processes entries.now ≡ true }
-        requires running { IsRunning self.now }
-        requires abstraction { HasAbstraction C.Meaning.meaning (placed_of self.now) }
         ensures { result ≡ placed_first_free C.Meaning.meaning (placed_of self.now)
             (order_of entries.now) }
     {
@@ -131,33 +129,30 @@ impl<C: Calls, B: Policy> Running<C, B> {
         }
     }
 
-    /// These entries, each with its blocker, behind those of an order.
-    fn rested_from(&self, entries: &[Waiting], done: Order) -> Order
+    /// These entries, each with its blocker, come behind those of an order.
+    fn rest_behind(&self, entries: &[Waiting], done: &mut Order)
+        requires sound { IsSound C.Meaning.meaning self.now }
         requires processes { are_processes entries.now ≡ true }
-        requires room { length done + length entries.now ≤ 16 }
-        requires running { IsRunning self.now }
-        requires abstraction { HasAbstraction C.Meaning.meaning (placed_of self.now) }
-        ensures value { order_of result ≡ order_of done
+        requires room { length done.old + length entries.now ≤ 16 }
+        ensures value { order_of done.new ≡ order_of done.old
             ++ placed_rested_order C.Meaning.meaning (placed_of self.now)
             (order_of entries.now) }
-        ensures counts { counts_within self.now.clock done ≡ true →
+        ensures counts { counts_within self.now.clock done.old ≡ true →
             counts_within self.now.clock entries.now ≡ true →
-            counts_within self.now.clock result ≡ true }
-        ensures processes { are_processes done ≡ true → are_processes result ≡ true }
-        ensures numbers { numbers_of result ≡ numbers_of done ++ numbers_of entries.now }
+            counts_within self.now.clock done.new ≡ true }
+        ensures processes { are_processes done.old ≡ true → are_processes done.new ≡ true }
+        ensures numbers { numbers_of done.new ≡ numbers_of done.old ++ numbers_of entries.now }
     {
         let Some((first, rest)) = entries.split_first() else {
-            return done;
+            return;
         };
-        let mut done = done;
         done.push(with_blocker(*first, self.blocker(first.process)));
-        self.rested_from(rest, done)
+        self.rest_behind(rest, done);
     }
 
     /// The process of the first call in the order that nothing blocks.
     pub fn first_free(&self) -> Option<u8>
-        requires running { IsRunning self.now }
-        requires abstraction { HasAbstraction C.Meaning.meaning (placed_of self.now) }
+        requires { IsSound C.Meaning.meaning self.now }
         ensures { let x = placed_of self.now in
             result ≡ placed_first_free C.Meaning.meaning x x.order }
     {
@@ -166,8 +161,7 @@ impl<C: Calls, B: Policy> Running<C, B> {
 
     /// The order is told its blockers.
     pub fn rest(&mut self)
-        requires running { IsRunning self.old }
-        requires abstraction { HasAbstraction C.Meaning.meaning (placed_of self.old) }
+        requires { IsSound C.Meaning.meaning self.old }
         ensures value { let x = placed_of self.old in
             Simulates (with_placed_order (placed_rested_order C.Meaning.meaning x x.order)) x
             (placed_of self.new) }
@@ -176,7 +170,21 @@ impl<C: Calls, B: Policy> Running<C, B> {
         if self.order.is_empty() {
             return;
         }
-        let rested = self.rested_from(self.order.entries(), Order::new());
+        self.rest_all();
+    }
+
+    /// The same where the order may have entries. It stands apart since a second order is made
+    /// here, whose room is cleared.
+    #[inline(never)]
+    fn rest_all(&mut self)
+        requires { IsSound C.Meaning.meaning self.old }
+        ensures value { let x = placed_of self.old in
+            Simulates (with_placed_order (placed_rested_order C.Meaning.meaning x x.order)) x
+            (placed_of self.new) }
+        ensures running { IsRunning self.new }
+    {
+        let mut rested = Order::new();
+        self.rest_behind(self.order.entries(), &mut rested);
         self.order = rested;
     }
 

@@ -11,7 +11,7 @@ use Rattle.kernel_core.proofs.WentLemmas.{run_at, stood_as, went_silently}
 use Rattle.kernel_core.proofs.events.begin.Goals as goal
 
 pub begin-requires-clause-new : goal.begin-requires-clause-new
-begin-requires-clause-new g c = let a = c.args in uncalled_unordered g.C.Meaning.Rules.meaning c.same_shown.ensures (placed_of a.running.now) a.p a.running.now.order c.requires.abstraction refl c.requires.none
+begin-requires-clause-new g c = let a = c.args in uncalled_unordered g.C.Meaning.Rules.meaning c.same_shown.ensures (placed_of a.running.now) a.p a.running.now.order c.requires.at.abstraction refl c.requires.none
 
 pub returns : goal.returns
 returns g c =
@@ -19,9 +19,9 @@ returns g c =
     let m = g.C.Meaning.Rules.meaning in
     let x = placed_of a.running.now in
     let y = placed_of c.begin.new.self in
-    let s = c.requires.abstraction in
-    let call = call_with a.call a.bytes.now.items in
-    starts_by m a.p a.number call a.running.now c.begin.new.self c.begin.result c.begin.ensures
+    let s = c.requires.at.abstraction in
+    let call = call_with a.request.call a.request.bytes.now.items in
+    starts_by m a.p a.request.number call a.running.now c.begin.new.self c.begin.result c.begin.ensures
     (λ h.
     let t = h.first in
     let here = ap (λ (r : PlacedRun). r.placed) (h.value [] some_blocks []) in
@@ -29,8 +29,8 @@ returns g c =
       first = t;
       granted = h.granted;
       went = λ kept d.
-          went_silently m (λ r. placed_joins a.p (with_placed_call a.p (Some (first_placed a.number t)) r)) a.running.now c.begin.new.self kept d (λ notes blocks io. h.value notes blocks io) h.running
-          (stood_as m y (placed_joins a.p (with_placed_call a.p (Some (first_placed a.number t)) (run_of x some_blocks [] []))) (joins a.p (with_call a.p (Some (first_call a.number t)) (record { kernel = s.kernel; blocks = some_blocks; notes = []; io = [] })))
-          (c.others_stand.ensures.beginning (run_of x some_blocks [] []) (record { kernel = s.kernel; blocks = some_blocks; notes = []; io = [] }) a.p a.number call t (run_at m x s) c.requires.none c.requires.alive h.granted) here)
+          went_silently m (λ r. placed_joins a.p (with_placed_call a.p (Some (first_placed a.request.number t)) r)) a.running.now c.begin.new.self kept d (λ notes blocks io. h.value notes blocks io) h.running
+          (stood_as m y (placed_joins a.p (with_placed_call a.p (Some (first_placed a.request.number t)) (run_of x some_blocks [] []))) (joins a.p (with_call a.p (Some (first_call a.request.number t)) (record { kernel = s.kernel; blocks = some_blocks; notes = []; io = [] })))
+          (c.others_stand.ensures.beginning (run_of x some_blocks [] []) (record { kernel = s.kernel; blocks = some_blocks; notes = []; io = [] }) a.p a.request.number call t (run_at m x s) c.requires.none c.requires.alive h.granted) here)
           (sym (ap (λ (z : Placed). z.world) here)) (sym (ap (λ (z : Placed). z.clock) here));
     })

@@ -13,7 +13,7 @@ returns g c = record {
   went = λ kept d.
       let x = placed_of c.args.running.now in
       let y = placed_of c.join.new.self in
-      let s = c.requires.abstraction in
+      let s = c.requires.at.abstraction in
       let here = ap (λ (r : PlacedRun). r.placed) (c.join.ensures.value [] some_blocks []) in
       let b = some_is (placed_blocker g.C.Meaning.Rules.meaning x c.args.p) c.requires.blocked in
       went_silently g.C.Meaning.Rules.meaning (placed_joins c.args.p) c.args.running.now c.join.new.self kept d (λ notes blocks io. c.join.ensures.value notes blocks io) c.join.ensures.running

@@ -1,22 +1,19 @@
 -- What is left of the instructions, at each turn.
 use Rattle.std.proofs.Common.{◌≡◌, ◌+◌, ◌-◌, ◌≤◌, cond}
-use Rattle.disk_log.specs.Seen.{disk_seen}
 use Rattle.kernel_state.specs.Stores.{world_of_store}
+use Rattle.kernel_steps.specs.Moments.{moment}
+use Rattle.kernel_core.specs.EventParts.{steps_left, steps_said, HasReached}
 use Rattle.kernel_steps.specs.Views.{placed_of, IsRunning, HasAbstraction}
-use Rattle.kernel_core.specs.RefinesAndKeeps.{HasReached, steps_said, steps_left}
 use Rattle.kernel_core.proofs.stepping.steps.Given as goal
 
 abbrev pub invariant-loop-going : goal.invariant-loop-going
 invariant-loop-going g l = record {
-  come : HasReached g.C.Meaning.Rules.meaning (steps_said g.C.Meaning.Rules.meaning l.initial.number l.initial.p l.initial.n 0) (steps_left g.C.Meaning.Rules.meaning l.initial.number l.initial.p (l.initial.n - l.taken) l.taken l.going)
-      (placed_of l.initial.running) (placed_of l.running) l.initial.trace.notes l.trace.notes
-      (disk_seen (g.D.Disk.blocks l.initial.disk) (g.D.Disk.plan l.initial.disk) (g.D.Disk.faults l.initial.disk)) (disk_seen (g.D.Disk.blocks l.disk) (g.D.Disk.plan l.disk) (g.D.Disk.faults l.disk));
+  come : HasReached g.C.Meaning.Rules.meaning (steps_said g.C.Meaning.Rules.meaning l.initial.number l.initial.p l.initial.n 0) (steps_left g.C.Meaning.Rules.meaning l.initial.number l.initial.p (l.initial.n - l.taken) l.taken l.going) (moment (placed_of l.initial.running) l.initial.trace.notes (g.D.Disk.seen l.initial.disk)) (moment (placed_of l.running) l.trace.notes (g.D.Disk.seen l.disk));
   running : IsRunning l.running;
   abstraction : HasAbstraction g.C.Meaning.Rules.meaning (placed_of l.running);
   world : world_of_store l.running.store ≡ world_of_store l.initial.running.store;
   clock : l.running.clock ≡ l.initial.running.clock;
-  disk : l.running.store.size ≡ g.D.Disk.block_count l.disk;
-  same_size : g.D.Disk.block_count l.disk ≡ g.D.Disk.block_count l.initial.disk;
+  disk : l.running.store.size ≡ (g.D.Disk.seen l.disk).size;
   few : l.taken ≤ l.initial.n;
 }
 

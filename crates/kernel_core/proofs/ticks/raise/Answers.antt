@@ -15,7 +15,7 @@ returns g c = record {
       let a = c.args in
       let x = (placed_of a.running.now) in
       let y = placed_of c.tick.new.self in
-      let s = c.requires.abstraction in
+      let s = c.requires.sound.abstraction in
       let value = c.tick.ensures.value in
       let here = ap (λ (r : PlacedRun). r.placed) (value.0 [] some_blocks []) in
       record {

@@ -1,5 +1,4 @@
 use Rattle.std.proofs.Common.{◌∙◌, ap, sym}
-use Rattle.disk_log.specs.Seen.{disk_seen}
 use Rattle.kernel_model.specs.declared.Cause.TheVariants.{TimeOut}
 use Rattle.placed_laws.specs.PlacedSteps.{placed_drop}
 use Rattle.placed_laws.specs.PlacedEvents.{placed_drop_if, placed_holder}
@@ -8,16 +7,16 @@ use Rattle.kernel_steps.specs.Views.{placed_of, run_of}
 use Rattle.kernel_core.proofs.WentLemmas.{went_as, went_nothing}
 use Rattle.kernel_core.proofs.ticks.time_out_holder.Goals as goal
 
-pub returns-in_default-clause-went : goal.returns-in_default-clause-went
-returns-in_default-clause-went g c =
+pub returns-in_default : goal.returns-in_default
+returns-in_default g c =
     let a = c.args in
-    went_as g.C.Meaning.Rules.meaning (placed_holder g.C.Meaning.Rules.meaning a.p (blocker_of a.found)) (λ r. r) a.running.now a.running.now a.trace.now.notes a.trace.now.notes (disk_seen (g.D.Disk.blocks a.disk.now) (g.D.Disk.plan a.disk.now) (g.D.Disk.faults a.disk.now)) (disk_seen (g.D.Disk.blocks a.disk.now) (g.D.Disk.plan a.disk.now) (g.D.Disk.faults a.disk.now))
+    went_as g.C.Meaning.Rules.meaning (placed_holder g.C.Meaning.Rules.meaning a.p (blocker_of a.found)) (λ r. r) a.running.now a.running.now a.trace.now.notes a.trace.now.notes (g.D.Disk.seen a.disk.now) (g.D.Disk.seen a.disk.now)
     (λ blocks notes io. ap (λ o. placed_drop_if g.C.Meaning.Rules.meaning a.found.holder o (TimeOut a.found.object a.p) (run_of (placed_of a.running.now) blocks notes io)) (sym c.level_in_the_way.ensures.value ∙ c.in_default.is))
-    (went_nothing g.C.Meaning.Rules.meaning a.running.now a.trace.now.notes (disk_seen (g.D.Disk.blocks a.disk.now) (g.D.Disk.plan a.disk.now) (g.D.Disk.faults a.disk.now)) c.requires.running c.requires.abstraction)
+    (went_nothing g.C.Meaning.Rules.meaning a.running.now a.trace.now.notes (g.D.Disk.seen a.disk.now) c.requires.running c.requires.abstraction)
 
-pub returns-clause-went : goal.returns-clause-went
-returns-clause-went g c =
+pub returns : goal.returns
+returns g c =
     let a = c.args in
-    went_as g.C.Meaning.Rules.meaning (placed_holder g.C.Meaning.Rules.meaning a.p (blocker_of a.found)) (placed_drop g.C.Meaning.Rules.meaning a.found.holder c.in-Some.level (TimeOut a.found.object a.p)) a.running.now c.drop_level.new.self a.trace.now.notes c.drop_level.new.trace.notes (disk_seen (g.D.Disk.blocks a.disk.now) (g.D.Disk.plan a.disk.now) (g.D.Disk.faults a.disk.now)) (disk_seen (g.D.Disk.blocks c.drop_level.new.disk) (g.D.Disk.plan c.drop_level.new.disk) (g.D.Disk.faults c.drop_level.new.disk))
+    went_as g.C.Meaning.Rules.meaning (placed_holder g.C.Meaning.Rules.meaning a.p (blocker_of a.found)) (placed_drop g.C.Meaning.Rules.meaning a.found.holder c.in-Some.level (TimeOut a.found.object a.p)) a.running.now c.drop_level.new.self a.trace.now.notes c.drop_level.new.trace.notes (g.D.Disk.seen a.disk.now) (g.D.Disk.seen c.drop_level.new.disk)
     (λ blocks notes io. ap (λ o. placed_drop_if g.C.Meaning.Rules.meaning a.found.holder o (TimeOut a.found.object a.p) (run_of (placed_of a.running.now) blocks notes io)) (sym c.level_in_the_way.ensures.value ∙ c.in-Some.is))
-    (record { refines = c.drop_level.ensures.refines; running = c.drop_level.ensures.running; abstraction = c.drop_level.ensures.abstraction; world = c.drop_level.ensures.world; clock = c.drop_level.ensures.clock })
+    c.drop_level.ensures

@@ -1,5 +1,4 @@
 use Rattle.std.proofs.Common.{◌≡◌, ◌∙◌, ◌-◌, suc, length, None, sym, arith}
-use Rattle.disk_log.specs.Seen.{disk_seen}
 use Rattle.kernel_model.specs.declared.Cause.TheVariants.{TimeOut}
 use Rattle.kernel_model.specs.declared.Note.TheVariants.{Refused}
 use Rattle.kernel_model.specs.declared.Refusal.TheVariants.{TimedOut}
@@ -11,25 +10,25 @@ use Rattle.kernel_core.proofs.TickLemmas.{no_level, waiter_drops, waiter_ends, w
 use Rattle.kernel_core.proofs.WentLemmas.{went_as, went_nothing}
 use Rattle.kernel_core.proofs.ticks.time_out_waiter.Goals as goal
 
-pub returns-in_default-clause-went : goal.returns-in_default-clause-went
-returns-in_default-clause-went g c =
+pub returns-in_default : goal.returns-in_default
+returns-in_default g c =
     let a = c.args in
-    went_as g.C.Meaning.Rules.meaning (λ r. placed_waiter g.C.Meaning.Rules.meaning a.p (blocker_of a.found) (r.placed.call a.p) r) (λ r. r) a.running.now a.running.now a.trace.now.notes a.trace.now.notes (disk_seen (g.D.Disk.blocks a.disk.now) (g.D.Disk.plan a.disk.now) (g.D.Disk.faults a.disk.now)) (disk_seen (g.D.Disk.blocks a.disk.now) (g.D.Disk.plan a.disk.now) (g.D.Disk.faults a.disk.now))
-    (waiter_none g.C.Meaning.Rules.meaning (placed_of a.running.now) a.p (blocker_of a.found) (sym c.in_default.is ∙ c.call_number.ensures)) (went_nothing g.C.Meaning.Rules.meaning a.running.now a.trace.now.notes (disk_seen (g.D.Disk.blocks a.disk.now) (g.D.Disk.plan a.disk.now) (g.D.Disk.faults a.disk.now)) c.requires.running c.requires.abstraction)
+    went_as g.C.Meaning.Rules.meaning (λ r. placed_waiter g.C.Meaning.Rules.meaning a.p (blocker_of a.found) (r.placed.call a.p) r) (λ r. r) a.running.now a.running.now a.trace.now.notes a.trace.now.notes (g.D.Disk.seen a.disk.now) (g.D.Disk.seen a.disk.now)
+    (waiter_none g.C.Meaning.Rules.meaning (placed_of a.running.now) a.p (blocker_of a.found) (sym c.in_default.is ∙ c.call_number.ensures)) (went_nothing g.C.Meaning.Rules.meaning a.running.now a.trace.now.notes (g.D.Disk.seen a.disk.now) c.requires.running c.requires.abstraction)
 
 pub refuse-requires-clause-none : goal.refuse-requires-clause-none
 refuse-requires-clause-none g c = let a = c.args in no_level ((placed_of a.running.now).levels a.p) (sym c.level_count-count.ensures.value ∙ c.if-count-eq0.true)
 
-pub returns-then-count-eq0-clause-went : goal.returns-then-count-eq0-clause-went
-returns-then-count-eq0-clause-went g c =
+pub returns-then-count-eq0 : goal.returns-then-count-eq0
+returns-then-count-eq0 g c =
     let a = c.args in
-    went_as g.C.Meaning.Rules.meaning (λ r. placed_waiter g.C.Meaning.Rules.meaning a.p (blocker_of a.found) (r.placed.call a.p) r) (λ r. placed_requeue a.p (placed_noted (Refused c.in-Some.number (TimedOut a.found.object a.found.holder)) (with_placed_call a.p None r))) a.running.now c.refuse.new.running a.trace.now.notes c.refuse.new.notes (disk_seen (g.D.Disk.blocks a.disk.now) (g.D.Disk.plan a.disk.now) (g.D.Disk.faults a.disk.now)) (disk_seen (g.D.Disk.blocks a.disk.now) (g.D.Disk.plan a.disk.now) (g.D.Disk.faults a.disk.now))
-    (waiter_ends g.C.Meaning.Rules.meaning (placed_of a.running.now) a.p c.in-Some.number (blocker_of a.found) (sym c.in-Some.is ∙ c.call_number.ensures) (no_level ((placed_of a.running.now).levels a.p) (sym c.level_count-count.ensures.value ∙ c.if-count-eq0.true))) (c.refuse.ensures.went (disk_seen (g.D.Disk.blocks a.disk.now) (g.D.Disk.plan a.disk.now) (g.D.Disk.faults a.disk.now)))
+    went_as g.C.Meaning.Rules.meaning (λ r. placed_waiter g.C.Meaning.Rules.meaning a.p (blocker_of a.found) (r.placed.call a.p) r) (λ r. placed_requeue a.p (placed_noted (Refused c.in-Some.number (TimedOut a.found.object a.found.holder)) (with_placed_call a.p None r))) a.running.now c.refuse.new.running a.trace.now.notes c.refuse.new.notes (g.D.Disk.seen a.disk.now) (g.D.Disk.seen a.disk.now)
+    (waiter_ends g.C.Meaning.Rules.meaning (placed_of a.running.now) a.p c.in-Some.number (blocker_of a.found) (sym c.in-Some.is ∙ c.call_number.ensures) (no_level ((placed_of a.running.now).levels a.p) (sym c.level_count-count.ensures.value ∙ c.if-count-eq0.true))) (c.refuse.ensures.went (g.D.Disk.seen a.disk.now))
 
-pub returns-clause-went : goal.returns-clause-went
-returns-clause-went g c =
+pub returns : goal.returns
+returns g c =
     let a = c.args in
     let k = c.level_count-count.result - 1 in
     let many : length ((placed_of a.running.now).levels a.p) ≡ suc k = let e = c.level_count-count.ensures.value in omega (arith, e, c.if-count-eq0.false) in
-    went_as g.C.Meaning.Rules.meaning (λ r. placed_waiter g.C.Meaning.Rules.meaning a.p (blocker_of a.found) (r.placed.call a.p) r) (placed_drop g.C.Meaning.Rules.meaning a.p k (TimeOut a.found.object a.found.holder)) a.running.now c.drop_level.new.self a.trace.now.notes c.drop_level.new.trace.notes (disk_seen (g.D.Disk.blocks a.disk.now) (g.D.Disk.plan a.disk.now) (g.D.Disk.faults a.disk.now)) (disk_seen (g.D.Disk.blocks c.drop_level.new.disk) (g.D.Disk.plan c.drop_level.new.disk) (g.D.Disk.faults c.drop_level.new.disk))
-    (waiter_drops g.C.Meaning.Rules.meaning (placed_of a.running.now) a.p c.in-Some.number k (blocker_of a.found) (sym c.in-Some.is ∙ c.call_number.ensures) many) (record { refines = c.drop_level.ensures.refines; running = c.drop_level.ensures.running; abstraction = c.drop_level.ensures.abstraction; world = c.drop_level.ensures.world; clock = c.drop_level.ensures.clock })
+    went_as g.C.Meaning.Rules.meaning (λ r. placed_waiter g.C.Meaning.Rules.meaning a.p (blocker_of a.found) (r.placed.call a.p) r) (placed_drop g.C.Meaning.Rules.meaning a.p k (TimeOut a.found.object a.found.holder)) a.running.now c.drop_level.new.self a.trace.now.notes c.drop_level.new.trace.notes (g.D.Disk.seen a.disk.now) (g.D.Disk.seen c.drop_level.new.disk)
+    (waiter_drops g.C.Meaning.Rules.meaning (placed_of a.running.now) a.p c.in-Some.number k (blocker_of a.found) (sym c.in-Some.is ∙ c.call_number.ensures) many) c.drop_level.ensures

@@ -1,5 +1,4 @@
-use Rattle.std.proofs.Common.{subst, refl, List, Bool, None, Some}
-use Rattle.disk_log.specs.Calls.{CallsExtend}
+use Rattle.std.proofs.Common.{refl, None, Some}
 use Rattle.call_pieces.specs.declared.Next.{Next}
 use Rattle.kernel_state.specs.Stores.{world_of_store, objects_of}
 use Rattle.call_pieces.specs.Works.{answer_seen}
@@ -12,8 +11,8 @@ returns-in-Goes-clause-done g c =
     let a = c.args in
     let p = c.piece-next in
     flight_done g.C.Meaning.Rules.meaning (world_of_store a.store.now) (objects_of a.store.now) (objects_of p.new.store)
-    call call p.new.work (Some (record { number = call.number; work = p.new.work })) (answer_seen a.store.now.ram call.work.caller a.answer) a.trace.now.notes c.push_bytes.new.self c.push_bytes.new.self (g.D.Disk.blocks a.disk.now) (g.D.Disk.blocks p.new.disk) (g.D.Disk.plan a.disk.now) (g.D.Disk.plan p.new.disk) (g.D.Disk.faults a.disk.now) (g.D.Disk.faults p.new.disk)
-    p.new.log p.new.gave p.result Next.Goes refl c.in-Goes.is p.ensures.does p.ensures.some (subst (λ (io : List Bool). CallsExtend (g.D.Disk.faults a.disk.now) (g.D.Disk.faults p.new.disk) (g.D.Disk.plan a.disk.now) (g.D.Disk.plan p.new.disk) io p.new.log) c.clear.ensures p.ensures.calls) refl c.push_bytes.ensures (λ all k. nothing_more c.push_bytes.new.self all k)
+    call call p.new.work (Some (record { number = call.number; work = p.new.work })) (answer_seen a.store.now.ram call.work.caller a.answer) a.trace.now.notes c.push_bytes.new.self c.push_bytes.new.self (g.D.Disk.seen a.disk.now) (g.D.Disk.seen p.new.disk)
+    p.new.log p.new.gave p.result Next.Goes refl c.in-Goes.is p.ensures.does p.ensures.some p.ensures.calls refl c.push_bytes.ensures (λ all k. nothing_more c.push_bytes.new.self all k)
 
 pub returns-in-Ends-clause-done : goal.returns-in-Ends-clause-done
 returns-in-Ends-clause-done g c =
@@ -21,8 +20,8 @@ returns-in-Ends-clause-done g c =
     let a = c.args in
     let p = c.piece-next in
     flight_done g.C.Meaning.Rules.meaning (world_of_store a.store.now) (objects_of a.store.now) (objects_of p.new.store)
-    call call p.new.work None (answer_seen a.store.now.ram call.work.caller a.answer) a.trace.now.notes c.push_bytes.new.self c.push.new.self (g.D.Disk.blocks a.disk.now) (g.D.Disk.blocks p.new.disk) (g.D.Disk.plan a.disk.now) (g.D.Disk.plan p.new.disk) (g.D.Disk.faults a.disk.now) (g.D.Disk.faults p.new.disk)
-    p.new.log p.new.gave p.result (Next.Ends c.in-Ends.reply) refl c.in-Ends.is p.ensures.does p.ensures.some (subst (λ (io : List Bool). CallsExtend (g.D.Disk.faults a.disk.now) (g.D.Disk.faults p.new.disk) (g.D.Disk.plan a.disk.now) (g.D.Disk.plan p.new.disk) io p.new.log) c.clear.ensures p.ensures.calls) refl c.push_bytes.ensures c.push.ensures
+    call call p.new.work None (answer_seen a.store.now.ram call.work.caller a.answer) a.trace.now.notes c.push_bytes.new.self c.push.new.self (g.D.Disk.seen a.disk.now) (g.D.Disk.seen p.new.disk)
+    p.new.log p.new.gave p.result (Next.Ends c.in-Ends.reply) refl c.in-Ends.is p.ensures.does p.ensures.some p.ensures.calls refl c.push_bytes.ensures c.push.ensures
 
 pub returns-in-Fails-clause-done : goal.returns-in-Fails-clause-done
 returns-in-Fails-clause-done g c =
@@ -30,5 +29,5 @@ returns-in-Fails-clause-done g c =
     let a = c.args in
     let p = c.piece-next in
     flight_done g.C.Meaning.Rules.meaning (world_of_store a.store.now) (objects_of a.store.now) (objects_of p.new.store)
-    call call p.new.work None (answer_seen a.store.now.ram call.work.caller a.answer) a.trace.now.notes c.push_bytes.new.self c.push-in-Fails.new.self (g.D.Disk.blocks a.disk.now) (g.D.Disk.blocks p.new.disk) (g.D.Disk.plan a.disk.now) (g.D.Disk.plan p.new.disk) (g.D.Disk.faults a.disk.now) (g.D.Disk.faults p.new.disk)
-    p.new.log p.new.gave p.result (Next.Fails c.in-Fails.refusal) refl c.in-Fails.is p.ensures.does p.ensures.some (subst (λ (io : List Bool). CallsExtend (g.D.Disk.faults a.disk.now) (g.D.Disk.faults p.new.disk) (g.D.Disk.plan a.disk.now) (g.D.Disk.plan p.new.disk) io p.new.log) c.clear.ensures p.ensures.calls) refl c.push_bytes.ensures c.push-in-Fails.ensures
+    call call p.new.work None (answer_seen a.store.now.ram call.work.caller a.answer) a.trace.now.notes c.push_bytes.new.self c.push-in-Fails.new.self (g.D.Disk.seen a.disk.now) (g.D.Disk.seen p.new.disk)
+    p.new.log p.new.gave p.result (Next.Fails c.in-Fails.refusal) refl c.in-Fails.is p.ensures.does p.ensures.some p.ensures.calls refl c.push_bytes.ensures c.push-in-Fails.ensures

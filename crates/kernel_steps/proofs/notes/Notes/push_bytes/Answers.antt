@@ -5,9 +5,9 @@ use Rattle.kernel_model.specs.declared.Note.TheVariants.{Gave}
 use Rattle.kernel_model.specs.Bare.{notes_with}
 use Rattle.kernel_model.specs.Kernel.{gave_note}
 use Rattle.kernel_steps.specs.Kept.{kept_more, kept_full}
-use Rattle.kernel_steps.specs.Refines.{first_notes}
 use Rattle.kernel_steps.proofs.NotingLemmas.{as_many, notes_added}
 use Rattle.kernel_steps.proofs.notes.Notes.push_bytes.Goals as goal
+use Rattle.kernel_steps.specs.Refines.{first_notes}
 
 pub returns-then-len-lt-NOTES : goal.returns-then-len-lt-NOTES
 returns-then-len-lt-NOTES c =

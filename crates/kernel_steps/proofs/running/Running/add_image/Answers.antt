@@ -17,16 +17,15 @@ returns-clause-rests g c = λ k stands rests.
     let x = placed_of c.args.self.now in
     rests_added g.C.Meaning.Rules.meaning c.images_keep_rest.ensures x k c.args.slot c.args.image c.requires.free stands rests
 
-pub returns-clause-running : goal.returns-clause-running
-returns-clause-running g c =
-    runs_with_more c.args.self.now c.add.new.self c.requires.running
-    (subst (λ (t : ImageTable). Extends (table_of c.args.self.now.images) t) (sym c.add.ensures.table) (extends_at c.args.slot c.args.image (table_of c.args.self.now.images) c.requires.free))
-
-pub returns-clause-abstraction : goal.returns-clause-abstraction
-returns-clause-abstraction g c =
+pub returns-clause-sound : goal.returns-clause-sound
+returns-clause-sound g c =
     let x = placed_of c.args.self.now in
-    let k = c.requires.abstraction.kernel in
+    let k = c.requires.sound.abstraction.kernel in
     record {
-      kernel = session.add_image c.args.slot c.args.image k;
-      stands = stands_added g.C.Meaning.Rules.meaning c.others_stand.ensures x k c.args.slot c.args.image (table_of c.add.new.self) c.add.ensures.table c.requires.free c.requires.abstraction.stands;
+      running = runs_with_more c.args.self.now c.add.new.self c.requires.sound.running
+          (subst (λ (t : ImageTable). Extends (table_of c.args.self.now.images) t) (sym c.add.ensures.table) (extends_at c.args.slot c.args.image (table_of c.args.self.now.images) c.requires.free));
+      abstraction = record {
+        kernel = session.add_image c.args.slot c.args.image k;
+        stands = stands_added g.C.Meaning.Rules.meaning c.others_stand.ensures x k c.args.slot c.args.image (table_of c.add.new.self) c.add.ensures.table c.requires.free c.requires.sound.abstraction.stands;
+      };
     }

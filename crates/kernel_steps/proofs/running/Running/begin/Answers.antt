@@ -13,18 +13,18 @@ use Rattle.kernel_steps.proofs.RunningLemmas.{call_begun, call_kept, within_flig
 use Rattle.kernel_steps.proofs.running.Running.begin.Goals as goal
 
 pub begin_call-requires-clause-process : goal.begin_call-requires-clause-process
-begin_call-requires-clause-process g c = within_flights c.args.self.now.calls.items c.args.p c.requires.running.sixteen c.requires.process
+begin_call-requires-clause-process g c = within_flights c.args.self.now.calls.items c.args.p c.requires.at.running.sixteen c.requires.at.process
 
 pub push-requires : goal.push-requires
-push-requires g c = room_for c.args.p c.args.self.now.order c.requires.process c.requires.running.order c.requires.running.once c.requires.new
+push-requires g c = room_for c.args.p c.args.self.now.order c.requires.at.process c.requires.at.running.order c.requires.at.running.once c.requires.new
 
 pub returns-in-Err : goal.returns-in-Err
 returns-in-Err g c =
     let x = c.args.self.now in
-    let r = c.requires.running in
+    let r = c.requires.at.running in
     let e = c.in-Err.ensures in
     let new = c.begin_call.new.flights.items in
-    let small = within_flights x.calls.items c.args.p r.sixteen c.requires.process in
+    let small = within_flights x.calls.items c.args.p r.sixteen c.requires.at.process in
     let set : new ≡ with_call x.calls.items c.args.p None = e.flights ∙ ap (with_call x.calls.items c.args.p) e.says.none in
     let same = chains_stay x.calls.items c.args.p None new small set in
     record {
@@ -47,12 +47,12 @@ returns-in-Err g c =
 pub returns-in-Ok : goal.returns-in-Ok
 returns-in-Ok g c =
     let x = c.args.self.now in
-    let r = c.requires.running in
+    let r = c.requires.at.running in
     let e = c.in-Ok.ensures in
     let s = e.says in
     let new = c.begin_call.new.flights.items in
-    let f : InFlight = record { number = c.args.number; work = s.work } in
-    let small = within_flights x.calls.items c.args.p r.sixteen c.requires.process in
+    let f : InFlight = record { number = c.args.request.number; work = s.work } in
+    let small = within_flights x.calls.items c.args.p r.sixteen c.requires.at.process in
     let set : new ≡ with_call x.calls.items c.args.p (Some f) = e.flights ∙ ap (with_call x.calls.items c.args.p) s.stands in
     let same = chains_stay x.calls.items c.args.p (Some f) new small set in
     let caller_is = s.caller_is in
@@ -67,7 +67,7 @@ returns-in-Ok g c =
         placed = λ q h. subst (λ (chain : Chain). IsPlaced x.store x.locks q chain.levels chain.undo) (sym (same q)) (r.placed q h);
         inside = λ q h. subst (λ (chain : Chain). AreInside (table_of x.images) (objects_of x.store).accounts q chain.levels) (sym (same q)) (r.inside q h);
         counts = counts_joined x.clock c.args.p x.order c.joined.result c.push.new.self c.joined.ensures c.push.ensures r.counts;
-        order = processes_joined c.args.p x.order c.joined.result c.push.new.self c.joined.ensures c.push.ensures c.requires.process r.order;
+        order = processes_joined c.args.p x.order c.joined.result c.push.new.self c.joined.ensures c.push.ensures c.requires.at.process r.order;
         once = once_joined c.args.p x.order c.joined.result c.push.new.self c.joined.ensures c.push.ensures r.once c.requires.new;
         loaded = r.loaded;
         owner = r.owner;

@@ -1,6 +1,5 @@
 use Rattle.std.proofs.Common.{◌<◌, ◌∙◌, ap, sym, subst}
 use Rattle.std.specs.Prelude.{option_map}
-use Rattle.disk_log.specs.Seen.{disk_seen}
 use Rattle.kernel_model.specs.Levels.{Outcome, drop_level}
 use Rattle.kernel_state.specs.Stores.{world_of_store, objects_of}
 use Rattle.placed_laws.specs.Placed.{placed_levels}
@@ -12,27 +11,24 @@ use Rattle.kernel_steps.proofs.running.Running.drop_call.Goals as goal
 pub follow-requires-clause-alone : goal.follow-requires-clause-alone
 follow-requires-clause-alone g c =
     let x = c.args.self.now in
-    drop_alone c.owners_stay.ensures x c.fall-said.new.self c.args.p c.args.d c.args.cause c.requires.running c.requires.process c.fall-said.ensures.moved c.fall-said.ensures.config
+    drop_alone c.owners_stay.ensures x c.fall-said.new.self c.args.p c.args.d c.args.cause c.requires.at.running c.requires.at.process c.fall-said.ensures.moved c.fall-said.ensures.config
 
-pub follow-requires-clause-none : goal.follow-requires-clause-none
-follow-requires-clause-none g c =
+pub follow-requires-clause-answer : goal.follow-requires-clause-answer
+follow-requires-clause-answer g c =
     λ answer h.
     let x = c.args.self.now in
     let o : Outcome = drop_level (world_of_store x.store) (objects_of x.store) (placed_levels (placed_of x) c.args.p) c.args.d c.args.cause in
-    move_ends x c.fall-said.new.self c.args.p o c.fall-said.result answer c.fall-said.ensures.config c.fall-said.ensures.said (drop_ends (world_of_store x.store) (objects_of x.store) (placed_levels (placed_of x) c.args.p) c.args.d c.args.cause) h
+    record {
+      none = move_ends x c.fall-said.new.self c.args.p o c.fall-said.result answer c.fall-said.ensures.config c.fall-said.ensures.said (drop_ends (world_of_store x.store) (objects_of x.store) (placed_levels (placed_of x) c.args.p) c.args.d c.args.cause) h;
+      ready = λ f is. drop_ready g.C.Meaning.Rules.meaning c.ready_in_place.ensures x c.fall-said.new.self c.args.p c.args.d c.args.cause f c.fall-said.result answer c.requires.at.abstraction (subst (λ n. c.args.d < n) (sym (levels_many x c.args.p)) c.requires.level) c.fall-said.ensures.moved c.fall-said.ensures.config c.fall-said.ensures.said h is;
+    }
 
-pub follow-requires-clause-ready : goal.follow-requires-clause-ready
-follow-requires-clause-ready g c =
-    λ answer f h is.
-    let x = c.args.self.now in
-    drop_ready g.C.Meaning.Rules.meaning c.ready_in_place.ensures x c.fall-said.new.self c.args.p c.args.d c.args.cause f c.fall-said.result answer c.requires.abstraction (subst (λ n. c.args.d < n) (sym (levels_many x c.args.p)) c.requires.level) c.fall-said.ensures.moved c.fall-said.ensures.config c.fall-said.ensures.said h is
-
-pub returns-clause-done : goal.returns-clause-done
-returns-clause-done g c =
+pub returns : goal.returns
+returns g c =
     λ pc is.
     let a = c.args in
     let x = a.self.now in
     drop_done g.C.Meaning.Rules.meaning x c.fall-said.new.self c.follow.new.self a.p a.d a.cause pc c.fall-said.result a.trace.now.notes c.follow.new.trace.notes
-    (disk_seen (g.D.Disk.blocks a.disk.now) (g.D.Disk.plan a.disk.now) (g.D.Disk.faults a.disk.now)) (disk_seen (g.D.Disk.blocks c.follow.new.disk) (g.D.Disk.plan c.follow.new.disk) (g.D.Disk.faults c.follow.new.disk))
+    (g.D.Disk.seen a.disk.now) (g.D.Disk.seen c.follow.new.disk)
     c.fall-said.ensures.moved c.fall-said.ensures.config c.fall-said.ensures.said
-    (c.follow.ensures.done pc (ap (option_map call_in_place) (c.fall-said.ensures.moved.calls a.p) ∙ is))
+    (c.follow.ensures pc (ap (option_map call_in_place) (c.fall-said.ensures.moved.calls a.p) ∙ is))

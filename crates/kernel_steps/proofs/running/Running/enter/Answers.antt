@@ -17,10 +17,10 @@ pub begin_graft-requires-clause-due : goal.begin_graft-requires-clause-due
 begin_graft-requires-clause-due g c =
     λ f is.
     let x = c.args.self.now in
-    let fl : c.index_mut-flight.result.now ≡ flight_of x.calls.items c.args.p = fetched x.calls.items c.args.p c.index_mut-flight.result.now c.requires.running.sixteen c.requires.process c.index_mut-flight.ensures.value in
+    let fl : c.index_mut-flight.result.now ≡ flight_of x.calls.items c.args.p = fetched x.calls.items c.args.p c.index_mut-flight.result.now c.requires.at.running.sixteen c.requires.at.process c.index_mut-flight.ensures.value in
     let there = sym (ap (λ (l : Flight). l.call) fl) ∙ is in (
       table_of x.images,
-      c.sound_in_place.ensures.standing (placed_of x) c.requires.abstraction.kernel c.args.p (call_in_place f) c.requires.abstraction.stands (ap (option_map call_in_place) there),
+      c.sound_in_place.ensures.standing (placed_of x) c.requires.at.abstraction.kernel c.args.p (call_in_place f) c.requires.at.abstraction.stands (ap (option_map call_in_place) there),
     )
 
 pub returns-clause-config : goal.returns-clause-config
@@ -31,16 +31,16 @@ returns-clause-config g c =
     let b = c.begin_graft in
     let y : Running g.row.C.Denot g.row.B.Denot g.row.C-Meaning.Denot _ =
     record { store = b.new.store; clock = x.clock; images = x.images; locks = b.new.locks; calls = with_item x.calls p b.new.flight; order = x.order; table = x.table } in
-    let r = c.requires.running in
-    let fl : c.index_mut-flight.result.now ≡ flight_of x.calls.items p = fetched x.calls.items p c.index_mut-flight.result.now r.sixteen c.requires.process c.index_mut-flight.ensures.value in
+    let r = c.requires.at.running in
+    let fl : c.index_mut-flight.result.now ≡ flight_of x.calls.items p = fetched x.calls.items p c.index_mut-flight.result.now r.sixteen c.requires.at.process c.index_mut-flight.ensures.value in
     let calls : y.calls.items ≡ slice_set x.calls.items p (record { call = c.index_mut-flight.result.now.call; chain = b.new.flight.chain }) =
     ap (λ call. slice_set x.calls.items p (record { call = call; chain = b.new.flight.chain })) b.ensures.same_call in
     let begun = λ (l : Flight).
     let call = option_map call_in_place l.call in
     begin_at (table_of x.images) (objects_of x.store) p (needed_by m (world_of_store x.store) (objects_of x.store) p call) (fed_by m call) c.args.at.now in
     placed_moved x y p (begun (flight_of x.calls.items p)) r
-    (moved_by x y p c.index_mut-flight.result.now b.new.flight.chain r.sixteen c.requires.process fl calls b.ensures.elsewhere b.ensures.in_place.placed b.ensures.in_place.inside b.ensures.in_place.loaded refl refl refl)
-    (ap (λ (chain : Chain). call_of y.store y.locks chain p) (chain_by x y p c.index_mut-flight.result.now b.new.flight.chain r.sixteen c.requires.process fl calls) ∙ b.ensures.value ∙ ap begun fl)
+    (moved_by x y p c.index_mut-flight.result.now b.new.flight.chain r.sixteen c.requires.at.process fl calls b.ensures.elsewhere b.ensures.in_place.placed b.ensures.in_place.inside b.ensures.in_place.loaded refl refl refl)
+    (ap (λ (chain : Chain). call_of y.store y.locks chain p) (chain_by x y p c.index_mut-flight.result.now b.new.flight.chain r.sixteen c.requires.at.process fl calls) ∙ b.ensures.value ∙ ap begun fl)
 
 pub returns-clause-moved : goal.returns-clause-moved
 returns-clause-moved g c =
@@ -49,8 +49,8 @@ returns-clause-moved g c =
     let b = c.begin_graft in
     let y : Running g.row.C.Denot g.row.B.Denot g.row.C-Meaning.Denot _ =
     record { store = b.new.store; clock = x.clock; images = x.images; locks = b.new.locks; calls = with_item x.calls p b.new.flight; order = x.order; table = x.table } in
-    let r = c.requires.running in
-    let fl : c.index_mut-flight.result.now ≡ flight_of x.calls.items p = fetched x.calls.items p c.index_mut-flight.result.now r.sixteen c.requires.process c.index_mut-flight.ensures.value in
+    let r = c.requires.at.running in
+    let fl : c.index_mut-flight.result.now ≡ flight_of x.calls.items p = fetched x.calls.items p c.index_mut-flight.result.now r.sixteen c.requires.at.process c.index_mut-flight.ensures.value in
     let calls : y.calls.items ≡ slice_set x.calls.items p (record { call = c.index_mut-flight.result.now.call; chain = b.new.flight.chain }) =
     ap (λ call. slice_set x.calls.items p (record { call = call; chain = b.new.flight.chain })) b.ensures.same_call in
-    moved_by x y p c.index_mut-flight.result.now b.new.flight.chain r.sixteen c.requires.process fl calls b.ensures.elsewhere b.ensures.in_place.placed b.ensures.in_place.inside b.ensures.in_place.loaded refl refl refl
+    moved_by x y p c.index_mut-flight.result.now b.new.flight.chain r.sixteen c.requires.at.process fl calls b.ensures.elsewhere b.ensures.in_place.placed b.ensures.in_place.inside b.ensures.in_place.loaded refl refl refl

@@ -1,6 +1,5 @@
 use Rattle.std.proofs.Common.{◌∙◌, ap}
 use Rattle.std.specs.Prelude.{option_map}
-use Rattle.disk_log.specs.Seen.{disk_seen}
 use Rattle.kernel_model.specs.GraftStep.{micro}
 use Rattle.kernel_model.specs.Levels.{Outcome}
 use Rattle.kernel_state.specs.Stores.{world_of_store, objects_of}
@@ -14,27 +13,24 @@ use Rattle.kernel_steps.proofs.running.Running.graft_step.Goals as goal
 pub follow-requires-clause-alone : goal.follow-requires-clause-alone
 follow-requires-clause-alone g c =
     let x = c.args.self.now in
-    micro_alone c.owners_stay.ensures x c.instruct-said.new.self c.args.p c.requires.running c.requires.process c.instruct-said.ensures.moved c.instruct-said.ensures.config
+    micro_alone c.owners_stay.ensures x c.instruct-said.new.self c.args.p c.requires.at.running c.requires.at.process c.instruct-said.ensures.moved c.instruct-said.ensures.config
 
-pub follow-requires-clause-none : goal.follow-requires-clause-none
-follow-requires-clause-none g c =
+pub follow-requires-clause-answer : goal.follow-requires-clause-answer
+follow-requires-clause-answer g c =
     λ answer h.
     let x = c.args.self.now in
     let o : Outcome = micro (world_of_store x.store) (table_of x.images) c.args.p (placed_config (placed_of x) c.args.p) in
-    move_ends x c.instruct-said.new.self c.args.p o c.instruct-said.result answer c.instruct-said.ensures.config c.instruct-said.ensures.said (micro_ends (world_of_store x.store) (table_of x.images) c.args.p (objects_of x.store) (placed_config (placed_of x) c.args.p).levels) h
+    record {
+      none = move_ends x c.instruct-said.new.self c.args.p o c.instruct-said.result answer c.instruct-said.ensures.config c.instruct-said.ensures.said (micro_ends (world_of_store x.store) (table_of x.images) c.args.p (objects_of x.store) (placed_config (placed_of x) c.args.p).levels) h;
+      ready = λ f is. micro_ready g.C.Meaning.Rules.meaning c.ready_in_place.ensures x c.instruct-said.new.self c.args.p f c.instruct-said.result answer c.requires.at.abstraction c.requires.level c.instruct-said.ensures.moved c.instruct-said.ensures.config c.instruct-said.ensures.said h c.instruct-said.ensures.answer is;
+    }
 
-pub follow-requires-clause-ready : goal.follow-requires-clause-ready
-follow-requires-clause-ready g c =
-    λ answer f h is.
-    let x = c.args.self.now in
-    micro_ready g.C.Meaning.Rules.meaning c.ready_in_place.ensures x c.instruct-said.new.self c.args.p f c.instruct-said.result answer c.requires.abstraction c.requires.level c.instruct-said.ensures.moved c.instruct-said.ensures.config c.instruct-said.ensures.said h c.instruct-said.ensures.answer is
-
-pub returns-clause-done : goal.returns-clause-done
-returns-clause-done g c =
+pub returns : goal.returns
+returns g c =
     λ pc is.
     let a = c.args in
     let x = a.self.now in
     micro_done g.C.Meaning.Rules.meaning x c.instruct-said.new.self c.follow.new.self a.p pc c.instruct-said.result a.trace.now.notes c.follow.new.trace.notes
-    (disk_seen (g.D.Disk.blocks a.disk.now) (g.D.Disk.plan a.disk.now) (g.D.Disk.faults a.disk.now)) (disk_seen (g.D.Disk.blocks c.follow.new.disk) (g.D.Disk.plan c.follow.new.disk) (g.D.Disk.faults c.follow.new.disk))
+    (g.D.Disk.seen a.disk.now) (g.D.Disk.seen c.follow.new.disk)
     c.instruct-said.ensures.moved c.instruct-said.ensures.config c.instruct-said.ensures.said c.instruct-said.ensures.answer
-    (c.follow.ensures.done pc (ap (option_map call_in_place) (c.instruct-said.ensures.moved.calls a.p) ∙ is))
+    (c.follow.ensures pc (ap (option_map call_in_place) (c.instruct-said.ensures.moved.calls a.p) ∙ is))

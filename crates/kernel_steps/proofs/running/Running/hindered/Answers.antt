@@ -54,3 +54,12 @@ returns g c =
     first_hindrance (held x.locks) s.things.lock c.args.p (lock_user c.args.p ls) (next_needs (world_of_store x.store) (table_of x.images) s.accounts ls)) fl
     ∙ graft_hindered m x c.args.p c.in-Some.call.now c.requires.running
     (sym (ap (λ (f : Flight). f.call) fl) ∙ (sym c.get.ensures ∙ ap option_copied c.in-Some.is)) some
+
+pub piece_hindrance-requires-clause-user : goal.piece_hindrance-requires-clause-user
+piece_hindrance-requires-clause-user g c =
+    let x = c.args.self.now in
+    let m = g.C.Meaning.Rules.meaning in
+    let fl : c.flight-flight.result.now ≡ flight_of x.calls.items c.args.p = c.flight-flight.ensures ∙ ap (λ fs. flight_of fs c.args.p) c.deref.ensures.value in
+    let stood = stands m c.sound_in_place.ensures x c.args.p c.in-Some.call.now c.requires.running c.requires.abstraction
+    (sym (ap (λ (f : Flight). f.call) fl) ∙ (sym c.get.ensures ∙ ap option_copied c.in-Some.is)) in
+    λ n has. g.C.Meaning.Rules.laws.need.user (world_of_store x.store) (objects_of x.store) c.in-Some.call.now.work.caller (stage_of c.in-Some.call.now.work) n stood.fits has

@@ -9,11 +9,15 @@ use Rattle.kernel_steps.specs.Views.{flight_of}
 use Rattle.kernel_steps.proofs.StillLemmas.{needs_there}
 use Rattle.kernel_steps.proofs.running.Running.instruction_needs.Goals as goal
 
-pub returns-clause-value : goal.returns-clause-value
-returns-clause-value g c =
+pub returns : goal.returns
+returns g c =
     let x = c.args.self.now in
     let s = objects_of x.store in
     let fl : c.flight.result.now ≡ flight_of x.calls.items c.args.p = c.flight.ensures ∙ ap (λ fs. flight_of fs c.args.p) c.deref.ensures.value in
-    c.needs.ensures.value c.args.p x.store.ram (held x.locks) c.flight.result.now.chain.undo s.things
-    ∙ ap (λ (f : Flight). next_needs (world_of_store x.store) (table_of x.images) s.accounts (levels_in c.args.p x.store.ram (held x.locks) f.chain.levels f.chain.undo s.things)) fl
-    ∙ needs_there g.C.Meaning.Rules.meaning x c.args.p c.requires.call c.requires.level
+    record {
+      value =
+          c.needs.ensures.value c.args.p x.store.ram (held x.locks) c.flight.result.now.chain.undo s.things
+          ∙ ap (λ (f : Flight). next_needs (world_of_store x.store) (table_of x.images) s.accounts (levels_in c.args.p x.store.ram (held x.locks) f.chain.levels f.chain.undo s.things)) fl
+          ∙ needs_there g.C.Meaning.Rules.meaning x c.args.p c.requires.call c.requires.level;
+      range = c.needs.ensures.range;
+    }

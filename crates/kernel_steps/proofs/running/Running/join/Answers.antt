@@ -5,19 +5,19 @@ use Rattle.kernel_steps.proofs.QueryLemmas.{order_numbers}
 use Rattle.kernel_steps.proofs.running.Running.join.Goals as goal
 
 pub push-requires : goal.push-requires
-push-requires g c = room_for c.args.p c.args.self.now.order c.requires.process c.requires.running.order c.requires.running.once (sym (order_numbers c.args.p c.args.self.now.order) ∙ c.requires.new)
+push-requires g c = room_for c.args.p c.args.self.now.order c.requires.at.process c.requires.at.running.order c.requires.at.running.once (sym (order_numbers c.args.p c.args.self.now.order) ∙ c.requires.new)
 
 pub returns-clause-running : goal.returns-clause-running
 returns-clause-running g c =
     let x = c.args.self.now in
-    let r = c.requires.running in
+    let r = c.requires.at.running in
     record {
       sixteen = r.sixteen;
       callers = r.callers;
       placed = r.placed;
       inside = r.inside;
       counts = counts_joined x.clock c.args.p x.order c.joined.result c.push.new.self c.joined.ensures c.push.ensures r.counts;
-      order = processes_joined c.args.p x.order c.joined.result c.push.new.self c.joined.ensures c.push.ensures c.requires.process r.order;
+      order = processes_joined c.args.p x.order c.joined.result c.push.new.self c.joined.ensures c.push.ensures c.requires.at.process r.order;
       once = once_joined c.args.p x.order c.joined.result c.push.new.self c.joined.ensures c.push.ensures r.once (sym (order_numbers c.args.p x.order) ∙ c.requires.new);
       loaded = r.loaded;
       owner = r.owner;

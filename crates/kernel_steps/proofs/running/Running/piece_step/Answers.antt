@@ -1,5 +1,4 @@
 use Rattle.std.proofs.Common.{◌≡◌, ◌∙◌, ap, sym, Option, Some, None}
-use Rattle.disk_log.specs.Seen.{disk_seen}
 use Rattle.kernel_model.specs.History.{begin_at}
 use Rattle.kernel_state.specs.Stores.{world_of_store, objects_of}
 use Rattle.graft_loader.specs.Slots.{table_of}
@@ -23,16 +22,17 @@ asks-requires g c =
     let call = c.in-Some.call.now in
     let fl : c.flight-flight.result.now ≡ flight_of x.calls.items a.p = c.flight-flight.ensures ∙ ap (λ fs. flight_of fs a.p) c.deref.ensures.value in
     let there = sym (ap (λ (f : Flight). f.call) fl) ∙ (sym c.get.ensures ∙ ap option_copied c.in-Some.is) in
-    record { ready = may_come g.C.Meaning.Rules.meaning g.C.Meaning.Rules.laws (world_of_store x.store) (table_of x.images) (objects_of x.store) call.work.caller (stage_of call.work) (stands g.C.Meaning.Rules.meaning c.sound_in_place.ensures x a.p call c.requires.running c.requires.abstraction there) }
+    record { ready = may_come g.C.Meaning.Rules.meaning g.C.Meaning.Rules.laws (world_of_store x.store) (table_of x.images) (objects_of x.store) call.work.caller (stage_of call.work) (stands g.C.Meaning.Rules.meaning c.sound_in_place.ensures x a.p call c.requires.at.running c.requires.at.abstraction there) }
 
 pub finish-requires-clause-alone : goal.finish-requires-clause-alone
-finish-requires-clause-alone g c = alone_at c.args.self.now c.args.p c.requires.running c.requires.process
+finish-requires-clause-alone g c = alone_at c.args.self.now c.args.p c.requires.at.running c.requires.at.process
 
-pub finish-requires-clause-ready : goal.finish-requires-clause-ready
-finish-requires-clause-ready g c = λ f is. ready_at_once g.C.Meaning.Rules.meaning c.ready_in_place.ensures c.args.self.now c.args.p f c.requires.abstraction is
+pub finish-requires-clause-answer : goal.finish-requires-clause-answer
+finish-requires-clause-answer g c =
+    record { none = c.requires.none; ready = λ f is. ready_at_once g.C.Meaning.Rules.meaning c.ready_in_place.ensures c.args.self.now c.args.p f c.requires.at.abstraction is }
 
-pub returns-in_default-asks-clause-done : goal.returns-in_default-asks-clause-done
-returns-in_default-asks-clause-done g c =
+pub returns-in_default-asks : goal.returns-in_default-asks
+returns-in_default-asks g c =
     λ pc is.
     let a = c.args in
     let x = a.self.now in
@@ -40,8 +40,8 @@ returns-in_default-asks-clause-done g c =
     let fl : c.flight-flight.result.now ≡ flight_of x.calls.items a.p = c.flight-flight.ensures ∙ ap (λ fs. flight_of fs a.p) c.deref.ensures.value in
     let there = sym (ap (λ (f : Flight). f.call) fl) ∙ (sym c.get.ensures ∙ ap option_copied c.in-Some.is) in
     let t : call_in_place call ≡ pc = same_call call pc (ap (option_map call_in_place) (sym there) ∙ is) in
-    done_as (λ r. placed_call_step g.C.Meaning.Rules.meaning a.p (Some pc) r) (finishes g.C.Meaning.Rules.meaning a.p pc None) x c.finish.new.self a.p a.trace.now.notes c.finish.new.trace.notes (disk_seen (g.D.Disk.blocks a.disk.now) (g.D.Disk.plan a.disk.now) (g.D.Disk.faults a.disk.now)) (disk_seen (g.D.Disk.blocks c.finish.new.disk) (g.D.Disk.plan c.finish.new.disk) (g.D.Disk.faults c.finish.new.disk))
-    (asks_none g.C.Meaning.Rules.meaning x a.p pc c.requires.none (ap (λ (e : PlacedCall). g.C.Meaning.Rules.meaning.asks (world_of_store x.store) (objects_of x.store) a.p e.stage) (sym t) ∙ ap (λ q. g.C.Meaning.Rules.meaning.asks (world_of_store x.store) (objects_of x.store) q (stage_of call.work)) (sym (c.requires.running.callers a.p call there)) ∙ sym c.asks.ensures ∙ c.in_default-asks.is)) (c.finish.ensures.done pc is)
+    done_as (λ r. placed_call_step g.C.Meaning.Rules.meaning a.p (Some pc) r) (finishes g.C.Meaning.Rules.meaning a.p pc None) x c.finish.new.self a.p a.trace.now.notes c.finish.new.trace.notes (g.D.Disk.seen a.disk.now) (g.D.Disk.seen c.finish.new.disk)
+    (asks_none g.C.Meaning.Rules.meaning x a.p pc c.requires.none (ap (λ (e : PlacedCall). g.C.Meaning.Rules.meaning.asks (world_of_store x.store) (objects_of x.store) a.p e.stage) (sym t) ∙ ap (λ q. g.C.Meaning.Rules.meaning.asks (world_of_store x.store) (objects_of x.store) q (stage_of call.work)) (sym (c.requires.at.running.callers a.p call there)) ∙ sym c.asks.ensures ∙ c.in_default-asks.is)) (c.finish.ensures pc is)
 
 pub has_graft-requires : goal.has_graft-requires
 has_graft-requires g c =
@@ -50,16 +50,17 @@ has_graft-requires g c =
     let call = c.in-Some.call.now in
     let fl : c.flight-flight.result.now ≡ flight_of x.calls.items a.p = c.flight-flight.ensures ∙ ap (λ fs. flight_of fs a.p) c.deref.ensures.value in
     let there = sym (ap (λ (f : Flight). f.call) fl) ∙ (sym c.get.ensures ∙ ap option_copied c.in-Some.is) in
-    (g.C.Meaning.Rules.laws.ask.ranges (world_of_store x.store) (table_of x.images) (objects_of x.store) call.work.caller (stage_of call.work) c.in-Some-asks.point (stands g.C.Meaning.Rules.meaning c.sound_in_place.ensures x a.p call c.requires.running c.requires.abstraction there) (sym c.asks.ensures ∙ c.in-Some-asks.is)).graft.1
+    (g.C.Meaning.Rules.laws.ask.ranges (world_of_store x.store) (table_of x.images) (objects_of x.store) call.work.caller (stage_of call.work) c.in-Some-asks.point (stands g.C.Meaning.Rules.meaning c.sound_in_place.ensures x a.p call c.requires.at.running c.requires.at.abstraction there) (sym c.asks.ensures ∙ c.in-Some-asks.is)).graft.1
 
 pub finish-requires-then-not-has_graft-clause-alone : goal.finish-requires-then-not-has_graft-clause-alone
-finish-requires-then-not-has_graft-clause-alone g c = alone_at c.args.self.now c.args.p c.requires.running c.requires.process
+finish-requires-then-not-has_graft-clause-alone g c = alone_at c.args.self.now c.args.p c.requires.at.running c.requires.at.process
 
-pub finish-requires-then-not-has_graft-clause-ready : goal.finish-requires-then-not-has_graft-clause-ready
-finish-requires-then-not-has_graft-clause-ready g c = λ f is. ready_at_once g.C.Meaning.Rules.meaning c.ready_in_place.ensures c.args.self.now c.args.p f c.requires.abstraction is
+pub finish-requires-then-not-has_graft-clause-answer : goal.finish-requires-then-not-has_graft-clause-answer
+finish-requires-then-not-has_graft-clause-answer g c =
+    record { none = c.requires.none; ready = λ f is. ready_at_once g.C.Meaning.Rules.meaning c.ready_in_place.ensures c.args.self.now c.args.p f c.requires.at.abstraction is }
 
-pub returns-then-not-has_graft-clause-done : goal.returns-then-not-has_graft-clause-done
-returns-then-not-has_graft-clause-done g c =
+pub returns-then-not-has_graft : goal.returns-then-not-has_graft
+returns-then-not-has_graft g c =
     λ pc is.
     let a = c.args in
     let x = a.self.now in
@@ -67,31 +68,29 @@ returns-then-not-has_graft-clause-done g c =
     let fl : c.flight-flight.result.now ≡ flight_of x.calls.items a.p = c.flight-flight.ensures ∙ ap (λ fs. flight_of fs a.p) c.deref.ensures.value in
     let there = sym (ap (λ (f : Flight). f.call) fl) ∙ (sym c.get.ensures ∙ ap option_copied c.in-Some.is) in
     let t : call_in_place call ≡ pc = same_call call pc (ap (option_map call_in_place) (sym there) ∙ is) in
-    done_as (λ r. placed_call_step g.C.Meaning.Rules.meaning a.p (Some pc) r) (finishes g.C.Meaning.Rules.meaning a.p pc None) x c.finish-then-not-has_graft.new.self a.p a.trace.now.notes c.finish-then-not-has_graft.new.trace.notes (disk_seen (g.D.Disk.blocks a.disk.now) (g.D.Disk.plan a.disk.now) (g.D.Disk.faults a.disk.now)) (disk_seen (g.D.Disk.blocks c.finish-then-not-has_graft.new.disk) (g.D.Disk.plan c.finish-then-not-has_graft.new.disk) (g.D.Disk.faults c.finish-then-not-has_graft.new.disk))
-    (asks_empty g.C.Meaning.Rules.meaning x a.p pc c.requires.none c.in-Some-asks.point (ap (λ (e : PlacedCall). g.C.Meaning.Rules.meaning.asks (world_of_store x.store) (objects_of x.store) a.p e.stage) (sym t) ∙ ap (λ q. g.C.Meaning.Rules.meaning.asks (world_of_store x.store) (objects_of x.store) q (stage_of call.work)) (sym (c.requires.running.callers a.p call there)) ∙ sym c.asks.ensures ∙ c.in-Some-asks.is)
-    (not_there c.has_graft.result ((objects_of x.store).accounts.graft c.in-Some-asks.point.installer c.in-Some-asks.point.point) c.has_graft.ensures c.if-not-has_graft.true)) (c.finish-then-not-has_graft.ensures.done pc is)
+    done_as (λ r. placed_call_step g.C.Meaning.Rules.meaning a.p (Some pc) r) (finishes g.C.Meaning.Rules.meaning a.p pc None) x c.finish-then-not-has_graft.new.self a.p a.trace.now.notes c.finish-then-not-has_graft.new.trace.notes (g.D.Disk.seen a.disk.now) (g.D.Disk.seen c.finish-then-not-has_graft.new.disk)
+    (asks_empty g.C.Meaning.Rules.meaning x a.p pc c.requires.none c.in-Some-asks.point (ap (λ (e : PlacedCall). g.C.Meaning.Rules.meaning.asks (world_of_store x.store) (objects_of x.store) a.p e.stage) (sym t) ∙ ap (λ q. g.C.Meaning.Rules.meaning.asks (world_of_store x.store) (objects_of x.store) q (stage_of call.work)) (sym (c.requires.at.running.callers a.p call there)) ∙ sym c.asks.ensures ∙ c.in-Some-asks.is)
+    (not_there c.has_graft.result ((objects_of x.store).accounts.graft c.in-Some-asks.point.installer c.in-Some-asks.point.point) c.has_graft.ensures c.if-not-has_graft.true)) (c.finish-then-not-has_graft.ensures pc is)
 
-pub enter-requires-clause-owner : goal.enter-requires-clause-owner
-enter-requires-clause-owner g c =
+pub enter-requires-clause-graft : goal.enter-requires-clause-graft
+enter-requires-clause-graft g c =
     let a = c.args in
     let x = a.self.now in
     let call = c.in-Some.call.now in
     let fl : c.flight-flight.result.now ≡ flight_of x.calls.items a.p = c.flight-flight.ensures ∙ ap (λ fs. flight_of fs a.p) c.deref.ensures.value in
     let there = sym (ap (λ (f : Flight). f.call) fl) ∙ (sym c.get.ensures ∙ ap option_copied c.in-Some.is) in
-    (g.C.Meaning.Rules.laws.ask.ranges (world_of_store x.store) (table_of x.images) (objects_of x.store) call.work.caller (stage_of call.work) c.in-Some-asks.point (stands g.C.Meaning.Rules.meaning c.sound_in_place.ensures x a.p call c.requires.running c.requires.abstraction there) (sym c.asks.ensures ∙ c.in-Some-asks.is)).graft.0
+    let range = (g.C.Meaning.Rules.laws.ask.ranges (world_of_store x.store) (table_of x.images) (objects_of x.store) call.work.caller (stage_of call.work) c.in-Some-asks.point (stands g.C.Meaning.Rules.meaning c.sound_in_place.ensures x a.p call c.requires.at.running c.requires.at.abstraction there) (sym c.asks.ensures ∙ c.in-Some-asks.is)).graft in
+    let found = there_is c.has_graft.result ((objects_of x.store).accounts.graft c.in-Some-asks.point.installer c.in-Some-asks.point.point) c.has_graft.ensures c.if-not-has_graft.false in
+    record {
+      owner = range.0;
+      point = range.1;
+      lives = asked_lives (world_of_store x.store) (objects_of x.store) c.in-Some-asks.point.installer c.in-Some-asks.point.point (stands g.C.Meaning.Rules.meaning c.sound_in_place.ensures x a.p call c.requires.at.running c.requires.at.abstraction there).store
+          found;
+      stands = found;
+    }
 
-pub enter-requires-clause-lives : goal.enter-requires-clause-lives
-enter-requires-clause-lives g c =
-    let a = c.args in
-    let x = a.self.now in
-    let call = c.in-Some.call.now in
-    let fl : c.flight-flight.result.now ≡ flight_of x.calls.items a.p = c.flight-flight.ensures ∙ ap (λ fs. flight_of fs a.p) c.deref.ensures.value in
-    let there = sym (ap (λ (f : Flight). f.call) fl) ∙ (sym c.get.ensures ∙ ap option_copied c.in-Some.is) in
-    asked_lives (world_of_store x.store) (objects_of x.store) c.in-Some-asks.point.installer c.in-Some-asks.point.point (stands g.C.Meaning.Rules.meaning c.sound_in_place.ensures x a.p call c.requires.running c.requires.abstraction there).store
-    (there_is c.has_graft.result ((objects_of x.store).accounts.graft c.in-Some-asks.point.installer c.in-Some-asks.point.point) c.has_graft.ensures c.if-not-has_graft.false)
-
-pub returns-clause-done : goal.returns-clause-done
-returns-clause-done g c =
+pub returns : goal.returns
+returns g c =
     λ pc is.
     let a = c.args in
     let x = a.self.now in
@@ -100,8 +99,8 @@ returns-clause-done g c =
     let there = sym (ap (λ (f : Flight). f.call) fl) ∙ (sym c.get.ensures ∙ ap option_copied c.in-Some.is) in
     let y = c.enter.new.self in
     let t : call_in_place call ≡ pc = same_call call pc (ap (option_map call_in_place) (sym there) ∙ is) in
-    entered_done g.C.Meaning.Rules.meaning c.owners_stay.ensures x y a.p pc c.in-Some-asks.point a.trace.now.notes (disk_seen (g.D.Disk.blocks a.disk.now) (g.D.Disk.plan a.disk.now) (g.D.Disk.faults a.disk.now)) c.requires.running c.requires.process c.requires.none
-    (ap (λ (e : PlacedCall). g.C.Meaning.Rules.meaning.asks (world_of_store x.store) (objects_of x.store) a.p e.stage) (sym t) ∙ ap (λ q. g.C.Meaning.Rules.meaning.asks (world_of_store x.store) (objects_of x.store) q (stage_of call.work)) (sym (c.requires.running.callers a.p call there)) ∙ sym c.asks.ensures ∙ c.in-Some-asks.is)
+    entered_done g.C.Meaning.Rules.meaning c.owners_stay.ensures x y a.p pc c.in-Some-asks.point a.trace.now.notes (g.D.Disk.seen a.disk.now) c.requires.at.running c.requires.at.process c.requires.none
+    (ap (λ (e : PlacedCall). g.C.Meaning.Rules.meaning.asks (world_of_store x.store) (objects_of x.store) a.p e.stage) (sym t) ∙ ap (λ q. g.C.Meaning.Rules.meaning.asks (world_of_store x.store) (objects_of x.store) q (stage_of call.work)) (sym (c.requires.at.running.callers a.p call there)) ∙ sym c.asks.ensures ∙ c.in-Some-asks.is)
     (there_is c.has_graft.result ((objects_of x.store).accounts.graft c.in-Some-asks.point.installer c.in-Some-asks.point.point) c.has_graft.ensures c.if-not-has_graft.false) c.enter.ensures.moved
     (c.enter.ensures.config
     ∙ ap (λ (o : Option PlacedCall). come_to a.p (begin_at (table_of x.images) (objects_of x.store) a.p (needed_by g.C.Meaning.Rules.meaning (world_of_store x.store) (objects_of x.store) a.p o) (fed_by g.C.Meaning.Rules.meaning o) c.in-Some-asks.point) (placed_of x)) is)

@@ -1,43 +1,35 @@
 use Rattle.std.proofs.Common.{◌∙◌, ap}
-use Rattle.disk_log.specs.Seen.{disk_seen}
 use Rattle.placed_laws.specs.Placed.{Placed}
 use Rattle.kernel_steps.specs.Views.{placed_of, call_at}
 use Rattle.kernel_steps.proofs.WholeLemmas.{call_is, did_requeued, did_step, running_after_step, stood_after_step, stood_requeued, requeue_keeps}
 use Rattle.placed_laws.specs.PlacedSteps.{placed_call_step}
 use Rattle.kernel_steps.proofs.running.Running.step.Goals as goal
 
-pub requeue-requires-clause-running : goal.requeue-requires-clause-running
-requeue-requires-clause-running g c =
+pub requeue-requires : goal.requeue-requires
+requeue-requires g c =
     let a = c.args in
     let m = g.C.Meaning.Rules.meaning in
     let t = call_is (call_at a.self.now a.p) c.requires.call in
-    running_after_step m c.sound_in_place.ensures c.steps_stand.ensures c.held_stays.ensures a.self.now c.step_call.new.self a.p t.0 a.trace.now.notes c.step_call.new.trace.notes (disk_seen (g.D.Disk.blocks a.disk.now) (g.D.Disk.plan a.disk.now) (g.D.Disk.faults a.disk.now)) (disk_seen (g.D.Disk.blocks c.step_call.new.disk) (g.D.Disk.plan c.step_call.new.disk) (g.D.Disk.faults c.step_call.new.disk))
-    c.requires.running c.requires.process c.requires.abstraction t.1 c.requires.free c.step_call.ensures.done
+    record {
+      process = c.requires.at.process;
+      running = running_after_step m c.sound_in_place.ensures c.steps_stand.ensures c.held_stays.ensures a.self.now c.step_call.new.self a.p t.0 a.trace.now.notes c.step_call.new.trace.notes (g.D.Disk.seen a.disk.now) (g.D.Disk.seen c.step_call.new.disk)
+          c.requires.at.running c.requires.at.process c.requires.at.abstraction t.1 c.requires.free c.step_call.ensures;
+    }
 
-pub returns-clause-refines : goal.returns-clause-refines
-returns-clause-refines g c =
+pub returns : goal.returns
+returns g c =
     let a = c.args in
     let m = g.C.Meaning.Rules.meaning in
     let x = placed_of a.self.now in
     let y = placed_of c.step_call.new.self in
     let z = placed_of c.requeue.new.self in
-    did_step m x z a.p a.trace.now.notes c.step_call.new.trace.notes (disk_seen (g.D.Disk.blocks a.disk.now) (g.D.Disk.plan a.disk.now) (g.D.Disk.faults a.disk.now)) (disk_seen (g.D.Disk.blocks c.step_call.new.disk) (g.D.Disk.plan c.step_call.new.disk) (g.D.Disk.faults c.step_call.new.disk))
-    (did_requeued (λ r. placed_call_step m a.p (x.call a.p) r) x y z a.p a.trace.now.notes c.step_call.new.trace.notes (disk_seen (g.D.Disk.blocks a.disk.now) (g.D.Disk.plan a.disk.now) (g.D.Disk.faults a.disk.now)) (disk_seen (g.D.Disk.blocks c.step_call.new.disk) (g.D.Disk.plan c.step_call.new.disk) (g.D.Disk.faults c.step_call.new.disk)) c.step_call.ensures.done.refines c.requeue.ensures.value)
-
-pub returns-clause-abstraction : goal.returns-clause-abstraction
-returns-clause-abstraction g c =
-    let a = c.args in
-    let m = g.C.Meaning.Rules.meaning in
     let t = call_is (call_at a.self.now a.p) c.requires.call in
-    stood_requeued m a.p (placed_of c.step_call.new.self) (placed_of c.requeue.new.self) c.requeue.ensures.value
-    (stood_after_step m c.steps_stand.ensures a.self.now c.step_call.new.self a.p t.0 a.trace.now.notes c.step_call.new.trace.notes (disk_seen (g.D.Disk.blocks a.disk.now) (g.D.Disk.plan a.disk.now) (g.D.Disk.faults a.disk.now)) (disk_seen (g.D.Disk.blocks c.step_call.new.disk) (g.D.Disk.plan c.step_call.new.disk) (g.D.Disk.faults c.step_call.new.disk)) c.requires.abstraction t.1 c.requires.free c.step_call.ensures.done)
-
-pub returns-clause-world : goal.returns-clause-world
-returns-clause-world g c =
-    let a = c.args in
-    ap (λ (z : Placed). z.world) (requeue_keeps a.p (placed_of c.step_call.new.self) (placed_of c.requeue.new.self) c.requeue.ensures.value) ∙ c.step_call.ensures.done.stepped.world
-
-pub returns-clause-clock : goal.returns-clause-clock
-returns-clause-clock g c =
-    let a = c.args in
-    ap (λ (z : Placed). z.clock) (requeue_keeps a.p (placed_of c.step_call.new.self) (placed_of c.requeue.new.self) c.requeue.ensures.value) ∙ c.step_call.ensures.done.stepped.clock
+    record {
+      refines = did_step m x z a.p a.trace.now.notes c.step_call.new.trace.notes (g.D.Disk.seen a.disk.now) (g.D.Disk.seen c.step_call.new.disk)
+          (did_requeued (λ r. placed_call_step m a.p (x.call a.p) r) x y z a.p a.trace.now.notes c.step_call.new.trace.notes (g.D.Disk.seen a.disk.now) (g.D.Disk.seen c.step_call.new.disk) c.step_call.ensures.refines c.requeue.ensures.value);
+      running = c.requeue.ensures.running;
+      abstraction = stood_requeued m a.p (placed_of c.step_call.new.self) (placed_of c.requeue.new.self) c.requeue.ensures.value
+          (stood_after_step m c.steps_stand.ensures a.self.now c.step_call.new.self a.p t.0 a.trace.now.notes c.step_call.new.trace.notes (g.D.Disk.seen a.disk.now) (g.D.Disk.seen c.step_call.new.disk) c.requires.at.abstraction t.1 c.requires.free c.step_call.ensures);
+      world = ap (λ (z : Placed). z.world) (requeue_keeps a.p (placed_of c.step_call.new.self) (placed_of c.requeue.new.self) c.requeue.ensures.value) ∙ c.step_call.ensures.stepped.world;
+      clock = ap (λ (z : Placed). z.clock) (requeue_keeps a.p (placed_of c.step_call.new.self) (placed_of c.requeue.new.self) c.requeue.ensures.value) ∙ c.step_call.ensures.stepped.clock;
+    }

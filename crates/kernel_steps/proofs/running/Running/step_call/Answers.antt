@@ -1,6 +1,5 @@
 use Rattle.std.proofs.Common.{◌≡◌, ◌<◌, ◌∙◌, length, ap, sym, arith}
 use Rattle.std.proofs.lemmas.Bool.Decides.{nat_tests}
-use Rattle.disk_log.specs.Seen.{disk_seen}
 use Rattle.kernel_steps.specs.declared.running.Flight.{Flight}
 use Rattle.kernel_steps.specs.Views.{flight_of, call_at}
 use Rattle.kernel_steps.proofs.PartLemmas.{at_call, at_graft, at_none}
@@ -18,18 +17,18 @@ graft_step-requires-clause-level g c =
     let many = ap (λ (f : Flight). length f.chain.levels) fl in
     grind (arith, nat_tests, many, c.count.ensures.value, c.if-count-eq0.false)
 
-pub returns-then-count-eq0-clause-done : goal.returns-then-count-eq0-clause-done
-returns-then-count-eq0-clause-done g c =
+pub returns-then-count-eq0 : goal.returns-then-count-eq0
+returns-then-count-eq0 g c =
     let a = c.args in
     let t = call_is (call_at a.self.now a.p) c.requires.call in
-    at_call g.C.Meaning.Rules.meaning a.self.now c.piece_step.new.self a.p t.0 a.trace.now.notes c.piece_step.new.trace.notes (disk_seen (g.D.Disk.blocks a.disk.now) (g.D.Disk.plan a.disk.now) (g.D.Disk.faults a.disk.now)) (disk_seen (g.D.Disk.blocks c.piece_step.new.disk) (g.D.Disk.plan c.piece_step.new.disk) (g.D.Disk.faults c.piece_step.new.disk)) t.1 (c.piece_step.ensures.done t.0 t.1)
+    at_call g.C.Meaning.Rules.meaning a.self.now c.piece_step.new.self a.p t.0 a.trace.now.notes c.piece_step.new.trace.notes (g.D.Disk.seen a.disk.now) (g.D.Disk.seen c.piece_step.new.disk) t.1 (c.piece_step.ensures t.0 t.1)
 
-pub returns-clause-done : goal.returns-clause-done
-returns-clause-done g c =
+pub returns : goal.returns
+returns g c =
     let a = c.args in
     let t = call_is (call_at a.self.now a.p) c.requires.call in
     let fl : c.flight.result.now ≡ flight_of a.self.now.calls.items a.p = c.flight.ensures ∙ ap (λ fs. flight_of fs a.p) c.deref.ensures.value in
     let many = ap (λ (f : Flight). length f.chain.levels) fl in
     let some : 0 < length (flight_of a.self.now.calls.items a.p).chain.levels = grind (arith, nat_tests, many, c.count.ensures.value, c.if-count-eq0.false) in
-    at_call g.C.Meaning.Rules.meaning a.self.now c.graft_step.new.self a.p t.0 a.trace.now.notes c.graft_step.new.trace.notes (disk_seen (g.D.Disk.blocks a.disk.now) (g.D.Disk.plan a.disk.now) (g.D.Disk.faults a.disk.now)) (disk_seen (g.D.Disk.blocks c.graft_step.new.disk) (g.D.Disk.plan c.graft_step.new.disk) (g.D.Disk.faults c.graft_step.new.disk)) t.1
-    (at_graft g.C.Meaning.Rules.meaning a.self.now c.graft_step.new.self a.p t.0 a.trace.now.notes c.graft_step.new.trace.notes (disk_seen (g.D.Disk.blocks a.disk.now) (g.D.Disk.plan a.disk.now) (g.D.Disk.faults a.disk.now)) (disk_seen (g.D.Disk.blocks c.graft_step.new.disk) (g.D.Disk.plan c.graft_step.new.disk) (g.D.Disk.faults c.graft_step.new.disk)) some (c.graft_step.ensures.done t.0 t.1))
+    at_call g.C.Meaning.Rules.meaning a.self.now c.graft_step.new.self a.p t.0 a.trace.now.notes c.graft_step.new.trace.notes (g.D.Disk.seen a.disk.now) (g.D.Disk.seen c.graft_step.new.disk) t.1
+    (at_graft g.C.Meaning.Rules.meaning a.self.now c.graft_step.new.self a.p t.0 a.trace.now.notes c.graft_step.new.trace.notes (g.D.Disk.seen a.disk.now) (g.D.Disk.seen c.graft_step.new.disk) some (c.graft_step.ensures t.0 t.1))

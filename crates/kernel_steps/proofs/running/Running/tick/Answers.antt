@@ -1,11 +1,11 @@
 use Rattle.std.proofs.Common.{ap, sym, ◌≡◌, ◌∙◌, ◌+◌, suc, ◌++◌, ◌∷◌, [], arith}
 use Rattle.kernel_model.specs.declared.Note.TheVariants.{Ticked}
-use Rattle.kernel_steps.specs.Refines.{first_notes}
 use Rattle.kernel_steps.specs.Orders.{are_processes, are_once, numbers_of}
 use Rattle.kernel_steps.proofs.OnceLemmas.{same_later}
 use Rattle.kernel_steps.proofs.OrderLemmas.{processes_later, rises}
 use Rattle.kernel_steps.proofs.RunningLemmas.{ticked_on}
 use Rattle.kernel_steps.proofs.running.Running.tick.Goals as goal
+use Rattle.kernel_steps.specs.Refines.{first_notes}
 
 pub returns-clause-value : goal.returns-clause-value
 returns-clause-value g c =

@@ -1,7 +1,6 @@
 -- A part of an event of a running kernel.
 use Rattle.std.specs.Prelude.{◌≡◌, ℕ, suc, ◌+◌, Bool, true, false, not, ◌&&◌, is_some, List, ◌++◌, Some, None}
 use Rattle.disk_log.specs.Calls.{Knows, Made}
-use Rattle.disk_log.specs.Seen.{DiskSeen}
 use Rattle.kernel_model.specs.declared.Note.{Note}
 use Rattle.kernel_model.specs.declared.Note.TheVariants.{Ran}
 use Rattle.kernel_model.specs.World.{Blocks}
@@ -15,27 +14,21 @@ use Rattle.placed_laws.specs.Stands.{StandsFor}
 use Rattle.placed_laws.specs.PlacedSteps.{placed_joins, placed_noted, placed_step}
 use Rattle.placed_laws.specs.PlacedEvents.{placed_settled, placed_steps}
 use Rattle.kernel_steps.specs.declared.running.Running.{Running}
-use Rattle.kernel_steps.specs.Refines.{first_notes, RunMatches, Refines}
+use Rattle.kernel_steps.specs.Moments.{moment, Moment}
+use Rattle.kernel_steps.specs.Sound.{KeepsRunning}
+use Rattle.kernel_steps.specs.Refines.{first_notes, Refines, RunMatches}
 use Rattle.kernel_steps.specs.Views.{placed_of, run_of, IsRunning, HasAbstraction}
 
--- A change of an event under way was made: the kernel runs on, and stands for some abstract kernel
--- again. The set-up and the clock stay.
-pub record RefinesAndKeeps {C B M : Type 0} {P : _} (m : Meaning) (f : PlacedRun → PlacedRun)
-    (x y : Running C B M P) (kept kept_new : List Note) (d e : DiskSeen) : Type 0 where
-  pub refines : Refines f (placed_of x) (placed_of y) kept kept_new d e
-  pub running : IsRunning y
-  pub abstraction : HasAbstraction m (placed_of y)
-  pub world : world_of_store y.store ≡ world_of_store x.store
-  pub clock : y.clock ≡ x.clock
-
--- the same of a change with which the clock rises by one
-pub record Ticked {C B M : Type 0} {P : _} (m : Meaning) (f : PlacedRun → PlacedRun)
-    (x y : Running C B M P) (kept kept_new : List Note) (d e : DiskSeen) : Type 0 where
-  pub refines : Refines f (placed_of x) (placed_of y) kept kept_new d e
-  pub running : IsRunning y
-  pub abstraction : HasAbstraction m (placed_of y)
-  pub world : world_of_store y.store ≡ world_of_store x.store
-  pub clock : y.clock ≡ suc x.clock
+-- A change of an event under way was made with which the clock rises by one, and left a sound
+-- kernel. The set-up stays.
+pub record RefinesAndTicks {C B M : Type 0} {P : _} (m : Meaning) (f : PlacedRun → PlacedRun)
+    (a b : Moment (Running C B M P)) : Type 0 where
+  pub refines : Refines f (moment (placed_of a.kernel) a.notes a.disk)
+      (moment (placed_of b.kernel) b.notes b.disk)
+  pub running : IsRunning b.kernel
+  pub abstraction : HasAbstraction m (placed_of b.kernel)
+  pub world : world_of_store b.kernel.store ≡ world_of_store a.kernel.store
+  pub clock : b.kernel.clock ≡ suc a.kernel.clock
 
 -- ---- from rest
 
@@ -48,31 +41,36 @@ pub record Rests (m : Meaning) (x : Placed) (blocks : Blocks) : Type 0 where
 
 -- A change of an event under way did what is said of it wherever it began at rest, and left the
 -- disk and the notes as `Refines` says.
-pub record RefinesFromRest (m : Meaning) (f : PlacedRun → PlacedRun) (x y : Placed)
-    (kept kept_new : List Note) (d e : DiskSeen) : Type 0 where
+pub record RefinesFromRest (m : Meaning) (f : PlacedRun → PlacedRun) (a b : Moment Placed) :
+    Type 0 where
   -- which of its calls of the disk failed
   pub io : List Bool
-  pub made : Made d.faults e.faults d.plan e.plan io
-  pub goes : (blocks : Blocks) (notes : List Note) (rest : List Bool) → Rests m x blocks →
-      Knows d.known blocks → kept ≡ first_notes notes →
-      RunMatches (f (run_of x blocks notes (io ++ rest))) y kept_new e.known rest
+  pub made : Made a.disk b.disk io
+  pub goes : (blocks : Blocks) (notes : List Note) (rest : List Bool) → Rests m a.kernel blocks →
+      Knows a.disk.known blocks → a.notes ≡ first_notes notes →
+      RunMatches (f (run_of a.kernel blocks notes (io ++ rest))) b.kernel b.notes b.disk.known rest
 
 -- the same of one that leaves rest
-pub record RefinesToRest (m : Meaning) (f : PlacedRun → PlacedRun) (x y : Placed)
-    (kept kept_new : List Note) (d e : DiskSeen) : Type 0 where
-  pub refines : RefinesFromRest m f x y kept kept_new d e
-  pub rests : (blocks : Blocks) (notes : List Note) (rest : List Bool) → Rests m x blocks →
-      Knows d.known blocks → kept ≡ first_notes notes →
-      Rests m y (f (run_of x blocks notes (refines.io ++ rest))).blocks
-
--- What always holds after a change: the kernel runs on, and stands for some abstract kernel. The
--- set-up and the clock stay.
-pub record KeepsRunning {C B M : Type 0} {P : _} (m : Meaning) (x y : Running C B M P) :
+pub record RefinesToRest (m : Meaning) (f : PlacedRun → PlacedRun) (a b : Moment Placed) :
     Type 0 where
-  pub running : IsRunning y
-  pub abstraction : HasAbstraction m (placed_of y)
-  pub world : world_of_store y.store ≡ world_of_store x.store
-  pub clock : y.clock ≡ x.clock
+  pub refines : RefinesFromRest m f a b
+  pub rests : (blocks : Blocks) (notes : List Note) (rest : List Bool) → Rests m a.kernel blocks →
+      Knows a.disk.known blocks → a.notes ≡ first_notes notes →
+      Rests m b.kernel (f (run_of a.kernel blocks notes (refines.io ++ rest))).blocks
+
+-- a change of a running kernel that did so, and left a sound one
+pub record RunsFromRest {C B M : Type 0} {P : _} (m : Meaning) (f : PlacedRun → PlacedRun)
+    (a b : Moment (Running C B M P)) : Type 0 where
+  pub refines : RefinesFromRest m f (moment (placed_of a.kernel) a.notes a.disk)
+      (moment (placed_of b.kernel) b.notes b.disk)
+  pub on : KeepsRunning m a.kernel b.kernel
+
+-- the same of one that leaves rest
+pub record RunsToRest {C B M : Type 0} {P : _} (m : Meaning) (f : PlacedRun → PlacedRun)
+    (a b : Moment (Running C B M P)) : Type 0 where
+  pub refines : RefinesToRest m f (moment (placed_of a.kernel) a.notes a.disk)
+      (moment (placed_of b.kernel) b.notes b.disk)
+  pub on : KeepsRunning m a.kernel b.kernel
 
 -- ---- instructions
 
@@ -115,15 +113,15 @@ pub record Leads (m : Meaning) (p n : ℕ) (x y : Placed) : Type 0 where
 
 -- A change of an event under way has come, from rest, to a point of rest from which this is left of
 -- it.
-pub record HasReached (m : Meaning) (f left : PlacedRun → PlacedRun) (x y : Placed)
-    (kept kept_new : List Note) (d e : DiskSeen) : Type 0 where
+pub record HasReached (m : Meaning) (f left : PlacedRun → PlacedRun) (a b : Moment Placed) :
+    Type 0 where
   pub io : List Bool
-  pub made : Made d.faults e.faults d.plan e.plan io
+  pub made : Made a.disk b.disk io
   pub now : Blocks → List Note → List Bool → PlacedRun
-  pub came : (blocks : Blocks) (notes : List Note) (rest : List Bool) → Rests m x blocks →
-      Knows d.known blocks → kept ≡ first_notes notes →
-      RunMatches (now blocks notes rest) y kept_new e.known rest
-      × Rests m y (now blocks notes rest).blocks
-  pub goes : (blocks : Blocks) (notes : List Note) (rest : List Bool) → Rests m x blocks →
-      Knows d.known blocks → kept ≡ first_notes notes →
-      f (run_of x blocks notes (io ++ rest)) ≡ left (now blocks notes rest)
+  pub came : (blocks : Blocks) (notes : List Note) (rest : List Bool) → Rests m a.kernel blocks →
+      Knows a.disk.known blocks → a.notes ≡ first_notes notes →
+      RunMatches (now blocks notes rest) b.kernel b.notes b.disk.known rest
+      × Rests m b.kernel (now blocks notes rest).blocks
+  pub goes : (blocks : Blocks) (notes : List Note) (rest : List Bool) → Rests m a.kernel blocks →
+      Knows a.disk.known blocks → a.notes ≡ first_notes notes →
+      f (run_of a.kernel blocks notes (io ++ rest)) ≡ left (now blocks notes rest)

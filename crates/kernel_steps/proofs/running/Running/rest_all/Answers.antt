@@ -5,14 +5,14 @@ use Rattle.placed_laws.specs.PlacedSteps.{placed_rested_order}
 use Rattle.kernel_steps.specs.declared.order.Waiting.{Waiting}
 use Rattle.kernel_steps.specs.Orders.{order_of}
 use Rattle.kernel_steps.specs.Views.{placed_of, run_of}
-use Rattle.kernel_steps.proofs.running.Running.rest.Goals as goal
+use Rattle.kernel_steps.proofs.running.Running.rest_all.Goals as goal
 
 pub returns-clause-value : goal.returns-clause-value
 returns-clause-value g c = λ notes blocks io.
     let m = g.C.Meaning.Rules.meaning in
     let x = placed_of c.args.self.now in
-    let rested : order_of c.rested_from-rested.result ≡ placed_rested_order m x x.order =
-    c.rested_from-rested.ensures.value
-    ∙ ap (λ (ws : List Waiting). order_of ws ++ placed_rested_order m x (order_of c.entries.result.now)) c.new.ensures
+    let rested : order_of c.rest_behind.new.done ≡ placed_rested_order m x x.order =
+    c.rest_behind.ensures.value
+    ∙ ap (λ (ws : List Waiting). order_of ws ++ placed_rested_order m x (order_of c.entries.result.now)) c.new-rested.ensures
     ∙ ap (λ (ws : List Waiting). placed_rested_order m x (order_of ws)) c.entries.ensures.value in
     ap (λ (es : List Entry). run_of (record x { order = es }) blocks notes io) (sym rested)

@@ -1,0 +1,75 @@
+-- What must hold of a running kernel for its calls, and what a change of an event under way keeps.
+use Rattle.std.specs.Prelude.{◌≡◌, ℕ, ◌<◌, List, All}
+use Rattle.kernel_model.specs.declared.Need.{Need}
+use Rattle.kernel_model.specs.Laws.{IsInRange}
+use Rattle.kernel_model.specs.Meaning.{Meaning}
+use Rattle.kernel_state.specs.Stores.{world_of_store}
+use Rattle.placed_laws.specs.Placed.{PlacedRun, placed_needs}
+use Rattle.vino_base.specs.Disks.{DiskSeen}
+use Rattle.kernel_steps.specs.declared.running.Running.{Running}
+use Rattle.kernel_steps.specs.Moments.{moment, Moment}
+use Rattle.kernel_steps.specs.Refines.{Refines}
+use Rattle.kernel_steps.specs.Views.{placed_of, IsRunning, HasAbstraction}
+
+-- ---- a kernel
+
+-- A running kernel is sound: what always holds of it holds, and it stands for some abstract kernel.
+pub record IsSound {C B M : Type 0} {P : _} (m : Meaning) (x : Running C B M P) : Type 0 where
+  pub running : IsRunning x
+  pub abstraction : HasAbstraction m (placed_of x)
+
+-- a sound kernel, whose disk this is
+pub record IsSoundOn {C B M : Type 0} {P : _} (m : Meaning) (x : Running C B M P)
+    (seen : DiskSeen) : Type 0 where
+  pub running : IsRunning x
+  pub abstraction : HasAbstraction m (placed_of x)
+  pub disk : x.store.size ≡ seen.size
+
+-- ---- a process of it
+
+-- a running kernel, and the number of a process
+pub record HasProcess {C B M : Type 0} {P : _} (x : Running C B M P) (p : ℕ) : Type 0 where
+  pub process : p < 16
+  pub running : IsRunning x
+
+-- a sound kernel, and the number of a process
+pub record IsSoundFor {C B M : Type 0} {P : _} (m : Meaning) (x : Running C B M P) (p : ℕ) :
+    Type 0 where
+  pub process : p < 16
+  pub running : IsRunning x
+  pub abstraction : HasAbstraction m (placed_of x)
+
+-- The call of process p can run: the kernel is sound, and its disk is this one.
+pub record CanRun {C B M : Type 0} {P : _} (m : Meaning) (x : Running C B M P)
+    (seen : DiskSeen) (p : ℕ) : Type 0 where
+  pub process : p < 16
+  pub running : IsRunning x
+  pub abstraction : HasAbstraction m (placed_of x)
+  pub disk : x.store.size ≡ seen.size
+
+-- what the next step of process p's call needs
+pub record AreNeeds {C B M : Type 0} {P : _} (m : Meaning) (x : Running C B M P) (p : ℕ)
+    (needs : List Need) : Type 0 where
+  pub value : needs ≡ placed_needs m (placed_of x) p
+  pub range : All (λ (n : Need). IsInRange n.object) needs
+
+-- ---- what a change keeps
+
+-- What always holds after a change: the kernel is sound. The set-up and the clock stay.
+pub record KeepsRunning {C B M : Type 0} {P : _} (m : Meaning) (x y : Running C B M P) :
+    Type 0 where
+  pub running : IsRunning y
+  pub abstraction : HasAbstraction m (placed_of y)
+  pub world : world_of_store y.store ≡ world_of_store x.store
+  pub clock : y.clock ≡ x.clock
+
+-- A change of an event under way was made, as `Refines` says it, and left a sound kernel. The
+-- set-up and the clock stay.
+pub record RefinesAndKeeps {C B M : Type 0} {P : _} (m : Meaning) (f : PlacedRun → PlacedRun)
+    (a b : Moment (Running C B M P)) : Type 0 where
+  pub refines : Refines f (moment (placed_of a.kernel) a.notes a.disk)
+      (moment (placed_of b.kernel) b.notes b.disk)
+  pub running : IsRunning b.kernel
+  pub abstraction : HasAbstraction m (placed_of b.kernel)
+  pub world : world_of_store b.kernel.store ≡ world_of_store a.kernel.store
+  pub clock : b.kernel.clock ≡ a.kernel.clock
