@@ -1,9 +1,10 @@
 -- What a run over streams in memory comes to.
 use Rattle.std.specs.Prelude.{ℕ, List, [], ◌∷◌, codes}
-use Rattle.disk_log.specs.Seen.{DiskSeen}
+use Rattle.vino_base.specs.Disks.{DiskSeen}
 use Rattle.vino_base.specs.Memory.{SourceState, source_seen}
 use Rattle.vino_base.specs.declared.health.Health.TheVariants.{Sound}
 use Rattle.vino_top.specs.Does.{Does}
+use Rattle.vino_top.specs.Run.{devices}
 use Rattle.vino_top.specs.Words.{asked_by}
 use Rattle.lab_lines.specs.Kept.{Kept, nothing_kept, kept_seen}
 
@@ -14,8 +15,9 @@ source_of bytes =
 
 -- A call of `vino` with the words `run KEYS`, whose source held exactly this script, wrote what is
 -- kept, and ended with this status.
-abbrev pub RunsScript : (keys script : List ℕ) → (size : ℕ) → SourceState → Kept → (d e : DiskSeen) →
+abbrev pub RunsScript : (keys script : List ℕ) → SourceState → Kept → (d e : DiskSeen) →
     (status : ℕ) → Type 0
-RunsScript keys script size source kept d e status =
-    Does (asked_by (codes "run" ∷ keys ∷ [])) size (source_seen (source_of script)) (source_seen source)
-    (kept_seen nothing_kept) (kept_seen kept) d e status
+RunsScript keys script source kept d e status =
+    Does (asked_by (codes "run" ∷ keys ∷ []))
+    (devices (source_seen (source_of script)) (kept_seen nothing_kept) d)
+    (devices (source_seen source) (kept_seen kept) e) status

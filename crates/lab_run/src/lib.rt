@@ -4,7 +4,6 @@
 ghost use Rattle.std.specs.Prelude.{◌≡◌, [], ◌∷◌, map, codes, string_bytes, IfOk};
 ghost use Rattle.kernel_model.specs.Opening.{opening_policy};
 ghost use Rattle.graft_points.specs.Shelf.{IsShelf, pol_of, first_choice};
-ghost use Rattle.disk_log.specs.Seen.{disk_seen};
 ghost use Rattle.lab_run.specs.Running.{RunsScript};
 
 use graft_points::Policy;
@@ -57,10 +56,8 @@ pub fn run_script<D: Disk>(
     requires stock { pol_of (map ⟦<Box<dyn Policy> as Policy>⟧.seen shelf.items) first_choice
         ≡ opening_policy }
     // The status, the lines and the disk are those of the call.
-    ensures runs { IfOk result (λ ran. RunsScript keys.now script.items (D.block_count disk.old)
-        ran.source ran.lines
-        (disk_seen (D.blocks disk.old) (D.plan disk.old) (D.faults disk.old))
-        (disk_seen (D.blocks disk.new) (D.plan disk.new) (D.faults disk.new)) ran.status) }
+    ensures runs { IfOk result (λ ran. RunsScript keys.now script.items ran.source ran.lines
+        (D.seen disk.old) (D.seen disk.new) ran.status) }
 {
     let words = words_of(alloc, keys)?;
     let mut source = MemSource::new(script, Vec::new(alloc));

@@ -5,10 +5,10 @@ use Rattle.std.specs.Io.KnownBytes.{Appends}
 use Rattle.vino_base.specs.Calls.{Plan}
 use Rattle.vino_base.specs.Streams.{SourceSeen, SinkSeen}
 use Rattle.disk_log.specs.Calls.{Knows, planned}
-use Rattle.disk_log.specs.Seen.{DiskSeen}
+use Rattle.vino_base.specs.Disks.{DiskSeen}
 use Rattle.kernel_model.specs.World.{Blocks}
 use Rattle.kernel_model.specs.Session.{Session}
-use Rattle.vino_top.specs.Run.{Place, Ran, UsesAll}
+use Rattle.vino_top.specs.Run.{Place, devices, Ran, UsesAll}
 
 -- the calls of lines, one line after another
 abbrev pub all_calls : List (List Bool) → List Bool
@@ -40,7 +40,8 @@ pub record RunSeen : Type 0 where
 -- it is what the contract of the top call says of a run that neither lacked memory nor had a sink
 -- that failed
 abbrev pub IsRun : Place → RunSeen → Type 0
-IsRun c x = Ran c x.source x.source_new x.sink x.sink_new x.disk x.disk_new x.status
+IsRun c x =
+    Ran c (devices x.source x.sink x.disk) (devices x.source_new x.sink_new x.disk_new) x.status
 
 -- it began over a disk that tells these blocks and this plan
 pub record BeginsOver (blocks : List (List ℕ)) (p : Plan) (x : RunSeen) : Type 0 where

@@ -1,7 +1,7 @@
 -- Lines run one after another, and the script that `demo` generates.
-use Rattle.std.proofs.Common.{◌≡◌, ◌≤◌, ◌<◌, ◌+◌, ◌-◌, ◌%◌, ◌^◌, ◌++◌, ◌∙◌, ℕ, zero, suc, Bool, List, [], ◌∷◌, Option, length, refl, sym, ap, subst, arith, append_assoc, append-nil, length-append}
+use Rattle.std.proofs.Common.{◌≡◌, ◌≤◌, ◌<◌, ◌+◌, ◌-◌, ◌%◌, ◌^◌, ◌++◌, ◌∙◌, ℕ, zero, suc, Bool, List, [], ◌∷◌, Option, length, refl, sym, ap, subst, arith, append_assoc, append-nil, length-append, inl, inr}
 use Rattle.disk_log.specs.Calls.{Knows}
-use Rattle.disk_log.specs.Seen.{DiskSeen}
+use Rattle.vino_base.specs.Disks.{DiskSeen}
 use Rattle.kernel_model.specs.declared.Note.{Note}
 use Rattle.kernel_model.specs.Session.{Session, Written, and_then}
 use Rattle.kernel_model.specs.Demo.{demo_lines, drawn_lines, next_draw, head_lines, summary_of, summary_by}
@@ -10,7 +10,9 @@ use Rattle.demo_text.specs.Tallies.{IsTally}
 use Rattle.vino_top.specs.Standing.{Seen, IsBegun, last_bytes}
 use Rattle.vino_top.specs.Run.{Place, first_on, line_run, lines_run, UsesAll, WantsMemory, WantsAt, Left, LineMatches, RunsLine}
 use Rattle.vino_top.specs.Demos.{all_run, RanLines, joined, nothing_left, HasRoom, demo_place, DemoRan, DemoLacked, DemoReached, DemoTakes, DemoStops}
-use Rattle.vino_top.proofs.EndLemmas.{begun_stands, left_by}
+use Rattle.vino_base.specs.Streams.{SinkSeen, not_used}
+use Rattle.vino_top.specs.Does.{DemoAnswers}
+use Rattle.vino_top.proofs.EndLemmas.{begun_stands, kept, left_by}
 use Rattle.vino_top.proofs.RunLemmas.{all_made_none, all_made_one, all_made_joined, comes_alone, line_uses, uses-append}
 
 -- ---- what lines write in all
@@ -244,21 +246,32 @@ demo_lacked n size s d e begun p =
           (p.ran.comes a (begun_stands size s d.known a begun first)).stands.blocks;
     }
 
--- the same where the lines and the size are the code's
-pub ran_over : (n count size : ℕ) (lines : List (List ℕ)) (s t : Seen) (d e : DiskSeen) (tally : Tally) (text : List ℕ) (Writes : List ℕ → Type 0) →
-    size ≡ count → lines ≡ demo_lines n → IsBegun s → DemoReached (demo_place size) lines [] s t d e tally →
+-- the same where the lines are the code's
+pub ran_over : (n size : ℕ) (lines : List (List ℕ)) (s t : Seen) (d e : DiskSeen) (tally : Tally) (text : List ℕ) (Writes : List ℕ → Type 0) →
+    lines ≡ demo_lines n → IsBegun s → DemoReached (demo_place size) lines [] s t d e tally →
     ((so_far : Left) → IsTally tally so_far.bytes so_far.notes → text ≡ summary_of n (so_far.bytes ++ last_bytes t []) so_far.notes) → Writes text →
-    DemoRan n count d e Writes
-ran_over n count size lines s t d e tally text Writes same script begun p known wrote =
+    DemoRan n size d e Writes
+ran_over n size lines s t d e tally text Writes script begun p known wrote =
     let q = subst (λ (all : List (List ℕ)). DemoReached (demo_place size) all [] s t d e tally) script p in
-    subst (λ (k : ℕ). DemoRan n k d e Writes) same (demo_ran n size s t d e tally text Writes begun q (known q.out q.tallied) wrote)
+    demo_ran n size s t d e tally text Writes begun q (known q.out q.tallied) wrote
 
-pub lacked_over : (n count size : ℕ) (lines : List (List ℕ)) (s : Seen) (d e : DiskSeen) → size ≡ count → lines ≡ demo_lines n → IsBegun s →
-    DemoStops (demo_place size) lines s d e → DemoLacked n count d e
-lacked_over n count size lines s d e same script begun p =
+pub lacked_over : (n size : ℕ) (lines : List (List ℕ)) (s : Seen) (d e : DiskSeen) → lines ≡ demo_lines n → IsBegun s →
+    DemoStops (demo_place size) lines s d e → DemoLacked n size d e
+lacked_over n size lines s d e script begun p =
     let q = subst (λ (all : List (List ℕ)). DemoStops (demo_place size) all s d e) script p in
-    subst (λ (k : ℕ). DemoLacked n k d e) same (demo_lacked n size s d e begun q)
+    demo_lacked n size s d e begun q
 
 -- the script's lines are few
 pub few_lines : (n : ℕ) (lines : List (List ℕ)) → lines ≡ demo_lines n → length lines ≤ 5026
 few_lines n lines is = let count : length lines ≡ 5026 = ap length is ∙ script_length n in omega (arith, count)
+
+-- there was no memory before the first line
+pub nothing_run : (n : ℕ) (k : SinkSeen) (d : DiskSeen) → DemoAnswers n k k d d 5
+nothing_run n k d =
+    record {
+      ran = λ is. absurd (omega (arith, is));
+      broke = λ is. absurd (omega (arith, is));
+      memory = λ five. (kept k.got, inl refl);
+      statuses = inr (inr refl);
+      sink = not_used k.device;
+    }

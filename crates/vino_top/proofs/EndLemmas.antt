@@ -15,14 +15,15 @@ use Rattle.kernel_model.specs.Kernel.{Kernel, Call}
 use Rattle.placed_laws.specs.Placed.{Placed}
 use Rattle.placed_laws.specs.Stands as kernels
 use Rattle.placed_laws.specs.Stands.{without_history}
-use Rattle.disk_log.specs.Seen.{DiskSeen}
+use Rattle.vino_base.specs.Disks.{DiskSeen}
 use Rattle.kernel_model.specs.Outcome.{SCRIPT_BYTES, Ending, End, Fault, Over, Outcome, lines_after, rest_after, left_line, left_lines, at_end, at_ending, outcome_of, ends_as, ends_with, written}
 use Rattle.kernel_model.specs.Text.{line}
 use Rattle.vino_top.specs.Standing.{Seen, StandsFor, IsBegun, placed_left_line, placed_left_lines, last_bytes, last_status}
 use Rattle.vino_base.specs.Streams.{DeviceSeen, SourceSeen, SinkSeen, IsUsed, not_used, used_then}
 use Rattle.filters.specs.Filtered.{AppendsPart, HasEnded}
 use Rattle.vino_top.specs.Parsed.{Parsed, first_parsed}
-use Rattle.vino_top.specs.Run.{Place, parsed_of, first_on, script_lines, lines_run, pieces_run, outcome_at, IsFirst, Feeds, StopsAt, stop_status, is_sink_failed, Reached, Ran, Broke, Lacked}
+use Rattle.vino_top.specs.Run.{Place, parsed_of, first_on, script_lines, lines_run, pieces_run, outcome_at, IsFirst, Feeds, StopsAt, stop_status, is_sink_failed, Reached, WritesLast, Devices, devices, Ran, Broke, Lacked}
+use Rattle.vino_top.specs.Does.{RunAnswers}
 use Rattle.vino_top.specs.declared.run.Stop.{Stop}
 use Rattle.vino_top.specs.declared.run.Stop.TheVariants.{SinkFailed, NoMemory}
 use Rattle.vino_top.proofs.LineLemmas.{script_more}
@@ -115,7 +116,7 @@ ran_by : (c : Place) (s t : Seen) (x y : SourceSeen) (r2 : Option (List ℕ)) (k
     IsBegun s → (p : Reached c s t x.rest r2 k.got g2 d e l left) → Consumes r2 y.rest [] → Appends g2 m.got last →
     (t.refused ≡ true) ⊎ HasEnded ending p.taken x y → EndsAs (parsed_of t) ending l status last →
     ((a : Session) (pieces : List (List ℕ)) → StandsFor t e.known a → EndsSo (outcome_of ending a pieces l) a pieces status last) →
-    Ran c x y k m d e status
+    Ran c (devices x k d) (devices y m e) status
 ran_by c s t x y r2 k m g2 d e l left status ending last begun p kept more ended ends out =
     let lines = script_lines p.taken in
     let from = λ (a : Session) (first : IsFirst c.size d.known a). begun_stands c.size s d.known a begun first in
@@ -171,7 +172,7 @@ left_by t known a true stands h =
 -- a failed read
 pub ran_fault : (c : Place) (s t : Seen) (x y z : SourceSeen) (k m : SinkSeen) (d e : DiskSeen) (l : List ℕ) (left : ℕ) →
     IsBegun s → Reached c s t x.rest y.rest k.got m.got d e l left → t.refused ≡ false → 0 < left → Keeps y.rest z.rest →
-    IsUsed x.device y.device false → IsUsed y.device z.device true → Ran c x z k m d e 3
+    IsUsed x.device y.device false → IsUsed y.device z.device true → Ran c (devices x k d) (devices z m e) 3
 ran_fault c s t x y z k m d e l left begun p going some kept before failed =
     ran_by c s t x z y.rest k m m.got d e l left 3 Fault [] begun p (keeps_consumes y.rest z.rest kept) (Appends-nil m.got)
     (inr (omega (arith, p.count), (used_then before failed).rose refl)) (going_ends (parsed_of t) Fault l 3 [] going refl (record { before = []; is = refl }))
@@ -182,7 +183,7 @@ ran_fault c s t x y z k m d e l left begun p going some kept before failed =
 
 -- more than a script may have
 pub ran_over : (c : Place) (s t : Seen) (x y : SourceSeen) (k m : SinkSeen) (d e : DiskSeen) (l : List ℕ) (left : ℕ) →
-    IsBegun s → Reached c s t x.rest y.rest k.got m.got d e l left → left ≡ 0 → t.refused ≡ false → Ran c x y k m d e 7
+    IsBegun s → Reached c s t x.rest y.rest k.got m.got d e l left → left ≡ 0 → t.refused ≡ false → Ran c (devices x k d) (devices y m e) 7
 ran_over c s t x y k m d e l left begun p none going =
     ran_by c s t x y y.rest k m m.got d e l left 7 Over [] begun p (Consumes-nil y.rest) (Appends-nil m.got) (inr (omega (arith, p.count, none)))
     (going_ends (parsed_of t) Over l 7 [] going refl (record { before = []; is = refl }))
@@ -190,7 +191,7 @@ ran_over c s t x y k m d e l left begun p none going =
 
 -- a refused line
 pub ran_stopped : (c : Place) (s t : Seen) (x y : SourceSeen) (k m : SinkSeen) (d e : DiskSeen) (l : List ℕ) (left : ℕ) →
-    IsBegun s → Reached c s t x.rest y.rest k.got m.got d e l left → t.refused ≡ true → Ran c x y k m d e 2
+    IsBegun s → Reached c s t x.rest y.rest k.got m.got d e l left → t.refused ≡ true → Ran c (devices x k d) (devices y m e) 2
 ran_stopped c s t x y k m d e l left begun p refused =
     ran_by c s t x y y.rest k m m.got d e l left 2 Fault [] begun p (Consumes-nil y.rest) (Appends-nil m.got) (inl refused) (refused_ends (parsed_of t) Fault l refused)
     (λ a pieces stands. rw (refused_outcome Fault a pieces l (refused_as t e.known a true stands refused)) (ends_plain 2 a pieces))
@@ -210,7 +211,7 @@ end_text t (x ∷ l) going = going_ends (parsed_of t) End (x ∷ l) 2 (last_byte
 -- how the last lines end a run
 pub ran_finish : (c : Place) (s t : Seen) (x y : SourceSeen) (r2 : Option (List ℕ)) (k m : SinkSeen) (g2 : Option (List ℕ)) (d e : DiskSeen) (l : List ℕ) (left status : ℕ) →
     IsBegun s → Reached c s t x.rest r2 k.got g2 d e l left → t.refused ≡ false → 0 < left → Consumes r2 y.rest [] → IsAtEnd y.rest →
-    (status ≢ 4 → (status ≡ last_status l) × Appends g2 m.got (last_bytes t l)) → status ≢ 4 → Ran c x y k m d e status
+    (status ≢ 4 → (status ≡ last_status l) × Appends g2 m.got (last_bytes t l)) → status ≢ 4 → Ran c (devices x k d) (devices y m e) status
 ran_finish c s t x y r2 k m g2 d e l left status begun p going some kept end done other =
     let last = done other in
     rw last.0
@@ -233,7 +234,7 @@ stopped c s t r r2 r3 g g2 g3 d e f l left n given stop begun p some q =
 -- the sink failed at a line
 pub broke_fed : (c : Place) (s t : Seen) (x y : SourceSeen) (k m : SinkSeen) (r2 g2 : Option (List ℕ)) (d e f : DiskSeen) (l : List ℕ) (left n : ℕ) (given script : List ℕ) (stop : Stop) →
     IsBegun s → Reached c s t x.rest r2 k.got g2 d e l left → 0 < left → length given ≡ n → n ≤ left → Consumes r2 y.rest given →
-    script ≡ take (left - 1) given → stop_status stop ≡ 4 → StopsAt c (StandsFor t e.known) (lines_after l script) g2 m.got e f stop → Broke c x y k m d f
+    script ≡ take (left - 1) given → stop_status stop ≡ 4 → StopsAt c (StandsFor t e.known) (lines_after l script) g2 m.got e f stop → Broke c (devices x k d) (devices y m f)
 broke_fed c s t x y k m r2 g2 d e f l left n given script SinkFailed begun p some count most consumed is four q =
     record {
       taken = p.taken ++ given;
@@ -246,7 +247,7 @@ broke_fed c s t x y k m r2 g2 d e f l left n given script NoMemory begun p some 
 -- there was no memory for a line
 pub lacked_fed : (c : Place) (s t : Seen) (x y : SourceSeen) (k m : SinkSeen) (r2 g2 : Option (List ℕ)) (d e f : DiskSeen) (l : List ℕ) (left n : ℕ) (given script : List ℕ) (stop : Stop) →
     IsBegun s → Reached c s t x.rest r2 k.got g2 d e l left → 0 < left → length given ≡ n → n ≤ left → Consumes r2 y.rest given →
-    script ≡ take (left - 1) given → stop_status stop ≡ 5 → StopsAt c (StandsFor t e.known) (lines_after l script) g2 m.got e f stop → Lacked c x y k m d f
+    script ≡ take (left - 1) given → stop_status stop ≡ 5 → StopsAt c (StandsFor t e.known) (lines_after l script) g2 m.got e f stop → Lacked c (devices x k d) (devices y m f)
 lacked_fed c s t x y k m r2 g2 d e f l left n given script SinkFailed begun p some count most consumed is five q = absurd (omega (arith, five))
 lacked_fed c s t x y k m r2 g2 d e f l left n given script NoMemory begun p some count most consumed is five q =
     record {
@@ -259,7 +260,7 @@ lacked_fed c s t x y k m r2 g2 d e f l left n given script NoMemory begun p some
 -- the sink failed at the last lines
 pub broke_finish : (c : Place) (s t : Seen) (x y : SourceSeen) (k m : SinkSeen) (r2 g2 : Option (List ℕ)) (d e : DiskSeen) (l : List ℕ) (left : ℕ) →
     IsBegun s → (p : Reached c s t x.rest r2 k.got g2 d e l left) → t.refused ≡ false → 0 < left → Consumes r2 y.rest [] → IsAtEnd y.rest →
-    AppendsPart g2 m.got (last_bytes t l) → Broke c x y k m d e
+    AppendsPart g2 m.got (last_bytes t l) → Broke c (devices x k d) (devices y m e)
 broke_finish c s t x y k m r2 g2 d e l left begun p going some kept end cut =
     let lines = script_lines p.taken in
     let from = λ (a : Session) (first : IsFirst c.size d.known a). begun_stands c.size s d.known a begun first in
@@ -291,6 +292,38 @@ broke_finish c s t x y k m r2 g2 d e l left begun p going some kept end cut =
       });
     }
 
+-- the last bytes were written
+pub last_done : (bytes : List ℕ) (status : ℕ) (k m : SinkSeen) → (status ≡ 0) ⊎ (status ≡ 2) → Appends k.got m.got bytes →
+    IsUsed k.device m.device false → WritesLast bytes status k m status
+last_done bytes status k m cases took used =
+    record {
+      done = λ other. (refl, took);
+      broken = λ four. absurd (not_four status cases four);
+      statuses = elim cases [
+        | inl none ↦ inl none
+        | inr two ↦ inr (inl two)
+      ];
+      sink = subst (IsUsed k.device m.device) (sym (four_is status cases)) used;
+    }
+  where
+    not_four : (n : ℕ) → (n ≡ 0) ⊎ (n ≡ 2) → n ≡ 4 → ⊥
+    not_four n (inl h) is = omega (arith, h, is)
+    not_four n (inr h) is = omega (arith, h, is)
+
+    four_is : (n : ℕ) → (n ≡ 0) ⊎ (n ≡ 2) → (n == 4) ≡ false
+    four_is n cases = grind (arith, nat_tests, cases)
+
+-- or a part of them
+pub last_cut : (bytes : List ℕ) (status : ℕ) (k m : SinkSeen) → AppendsPart k.got m.got bytes →
+    IsUsed k.device m.device true → WritesLast bytes status k m 4
+last_cut bytes status k m part used =
+    record {
+      done = λ other. absurd (other refl);
+      broken = λ four. part;
+      statuses = inr (inr refl);
+      sink = used;
+    }
+
 -- ---- other words
 
 -- known bytes that stay
@@ -301,6 +334,21 @@ kept (Some xs) = refl
 -- the statuses of a run aren't that of the usage line
 pub known_run : (status : ℕ) → (status ≡ 0) ⊎ (status ≡ 2) ⊎ (status ≡ 3) ⊎ (status ≡ 4) ⊎ (status ≡ 5) ⊎ (status ≡ 7) → status ≢ 1
 known_run status cases = λ is. grind (arith, cases, is)
+
+-- there was no memory before the first byte
+pub no_memory : (c : Place) (x : Devices) → RunAnswers c x x 5
+no_memory c x =
+    record {
+      does = record {
+        known = λ is. absurd (omega (arith, is));
+        ran = λ four five. absurd (five refl);
+        broke = λ is. absurd (omega (arith, is));
+        memory = λ five. inl (kept x.source.rest, kept x.sink.got, refl);
+      };
+      statuses = inr (inr (inr (inr (inl refl))));
+      source = not_used x.source.device;
+      sink = not_used x.sink.device;
+    }
 
 -- a source that wasn't read, where the status isn't that of one that failed
 pub not_read : (a : DeviceSeen) (status : ℕ) → (status == 3) ≡ false → IsUsed a a (status == 3)

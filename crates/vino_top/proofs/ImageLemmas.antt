@@ -1,11 +1,11 @@
 -- What an image line makes of a session, and of its bounds.
-use Rattle.std.proofs.Common.{decimal, is_some, Ok, ◌≡◌, ◌<◌, ℕ, suc, ◌+◌, ◌++◌, ◌∙◌, true, false, Bool, List, ◌∷◌, Some, None, Option, arith, refl, sym, ap, subst, add-one}
+use Rattle.std.proofs.Common.{decimal, is_some, Ok, ◌≡◌, ◌<◌, ◌-◌, ◌^◌, ℕ, suc, ◌+◌, ◌++◌, ◌∙◌, true, false, Bool, List, ◌∷◌, Some, None, Option, arith, refl, sym, ap, subst, add-one}
 use Rattle.std.specs.Prelude.{nat_lt}
 use Rattle.std.proofs.lemmas.Bool.Decides.{nat_tests}
 use Rattle.kernel_model.specs.World.{Image, ImageTable}
 use Rattle.kernel_model.specs.AllCalls.{all_calls}
 use Rattle.kernel_model.specs.Sound.{IsAtRest}
-use Rattle.disk_log.specs.Seen.{DiskSeen}
+use Rattle.vino_base.specs.Disks.{DiskSeen}
 use Rattle.kernel_core.specs.declared.images.ImageRefusal.TheVariants.{BadSlot, Taken}
 use Rattle.kernel_core.specs.AddedImages.{slot_refused, ImageIsAdded}
 use Rattle.kernel_core.specs.EventRefines.{IsKernel}
@@ -19,7 +19,7 @@ use Rattle.kernel_model.specs.Text.{line}
 use Rattle.vino_top.specs.Built.{present_build}
 use Rattle.vino_top.specs.Standing.{Seen}
 use Rattle.vino_top.specs.Run.{Place, Left, LeavesText, LineMatches, LoadsFree, WantsAt, RunsEntry}
-use Rattle.vino_top.specs.Bounds.{IsSessionWithin}
+use Rattle.vino_top.specs.Bounds.{IsSessionWithin, IsOnLine}
 use Rattle.vino_top.specs.declared.session.Session.{Session as CodeSession}
 use Rattle.vino_top.proofs.SessionLemmas.{alone, up_is_down}
 
@@ -115,3 +115,20 @@ refused_later size s t state within =
       size_is = within.size_is;
       unbooted = within.unbooted;
     })
+
+-- a session whose line was counted
+pub on_line : {B : Type 0} {P : _} (size : ℕ) (s : CodeSession B P) → s.lines < 2 ^ 32 - 2 → IsSessionWithin size s →
+    IsOnLine size (record s { lines = s.lines + 1 })
+on_line size s room within =
+    record {
+      room = omega (arith, room);
+      fresh = omega (arith, within.events);
+      within = record {
+        frames_least = within.frames_least;
+        frames_most = within.frames_most;
+        events = omega (arith, within.events);
+        kernel = within.kernel;
+        size_is = within.size_is;
+        unbooted = within.unbooted;
+      };
+    }

@@ -109,6 +109,13 @@ newline_ends l m byte is line =
     let by = fed_line_by (byte == 10) (nat_lt (length l) LINE_BYTES) is in
     (rw by refl, rw by (sym (rw by at line)))
 
+-- and it is no longer than it was
+pub newline_short : (l m : List ℕ) (byte : ℕ) → fed byte l ≡ fed_is.Line → m ≡ line_with byte l → length l ≤ LINE_BYTES → length m ≤ LINE_BYTES
+newline_short l m byte is line short =
+    let by = fed_line_by (byte == 10) (nat_lt (length l) LINE_BYTES) is in
+    let same : m ≡ l = rw by at line in
+    rw same short
+
 -- a byte behind the longest line ends a line with that byte
 pub longest_ends : (l m : List ℕ) (byte : ℕ) → fed byte l ≡ fed_is.TooLong → length l ≤ LINE_BYTES → m ≡ line_with byte l →
     (ends_line l byte ≡ true) × (ended_line l byte ≡ m ++ byte ∷ [])

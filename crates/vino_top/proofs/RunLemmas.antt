@@ -12,7 +12,7 @@ use Rattle.kernel_model.specs.Script.{LINE_BYTES}
 use Rattle.kernel_model.specs.World.{Blocks}
 use Rattle.kernel_model.specs.Session.{Session}
 use Rattle.kernel_model.specs.Outcome.{lines_after, rest_after, ends_line, ended_line}
-use Rattle.disk_log.specs.Seen.{DiskSeen}
+use Rattle.vino_base.specs.Disks.{DiskSeen}
 use Rattle.filters.specs.Filtered.{AppendsPart}
 use Rattle.vino_top.specs.Run.{Place, line_run, lines_run, parsed_of, pieces_run, Uses, UsesAll, MadeAll, Left, LineMatches, RunsLine, WantsAt, Feeds, StopsAt, TakesLine}
 use Rattle.vino_top.specs.Standing.{Seen, StandsFor}
@@ -36,16 +36,16 @@ calls-append (io ∷ is) js =
 
 -- no calls
 pub all_made_none : (d : DiskSeen) → MadeAll d d []
-all_made_none d = made_none d.faults d.plan
+all_made_none d = made_none d
 
 -- the calls of one line
-pub all_made_one : (d e : DiskSeen) (io : List Bool) → Made d.faults e.faults d.plan e.plan io → MadeAll d e (io ∷ [])
+pub all_made_one : (d e : DiskSeen) (io : List Bool) → Made d e io → MadeAll d e (io ∷ [])
 all_made_one d e io made = rw (append-nil io) made
 
 -- the calls of some lines, and of more
 pub all_made_joined : (d e f : DiskSeen) (is js : List (List Bool)) → MadeAll d e is → MadeAll e f js → MadeAll d f (is ++ js)
 all_made_joined d e f is js first second =
-    rw (calls-append is js) (made_joined d.faults e.faults f.faults d.plan e.plan f.plan (flat_map (λ (io : List Bool). io) is) (flat_map (λ (io : List Bool). io) js) first second)
+    rw (calls-append is js) (made_joined d e f (flat_map (λ (io : List Bool). io) is) (flat_map (λ (io : List Bool). io) js) first second)
 
 -- ---- lines in two parts
 
@@ -364,6 +364,11 @@ stops_from c from less lines g h d e NoMemory into p =
     }
 
 -- ---- one line
+
+-- what holds anyway holds of a success
+pub ok_anyway : {T E P : Type 0} → (r : Result T E) → P → OnOk r P
+ok_anyway (Ok x) p = p
+ok_anyway (Err e) p = tt
 
 -- what a line writes was written, or a part of it
 pub line_written : {T : Type 0} → (c : Place) (text : List ℕ) (s t : Seen) (out : Left) (g h : Option (List ℕ)) (d e : DiskSeen) (r : Result T Stop) →

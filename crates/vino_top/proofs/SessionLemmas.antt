@@ -7,7 +7,7 @@ use Rattle.kernel_model.specs.declared.TheConstants.{LAST_CALLABLE}
 use Rattle.kernel_model.specs.declared.Event.{Event}
 use Rattle.kernel_model.specs.declared.Note.{Note}
 use Rattle.disk_log.specs.Joined.{made_none}
-use Rattle.disk_log.specs.Seen.{DiskSeen}
+use Rattle.vino_base.specs.Disks.{DiskSeen}
 use Rattle.kernel_model.specs.Directory.{directory_of, usable_count}
 use Rattle.kernel_model.specs.Objects.{at}
 use Rattle.kernel_model.specs.Script as script_is
@@ -164,7 +164,7 @@ boot_runs c s x note out d e h said =
 pub alone : (c : Place) (entry : Entry) (s t : Seen) (out : Left) (d : DiskSeen) → parsed_of t ≡ parsed_entry (parsed_of s) entry →
     ((a : Session) (rest : List Bool) → StandsFor s d.known a →
     LineMatches t d.known out (after_entry present_build c.keys c.size a entry rest) rest) → RunsEntry c entry s t d d out
-alone c entry s t out d parsed comes = record { io = []; made = made_none d.faults d.plan; parsed = parsed; comes = comes }
+alone c entry s t out d parsed comes = record { io = []; made = made_none d; parsed = parsed; comes = comes }
 
 -- a blank line
 pub blank_runs : (c : Place) (s : Seen) (out : Left) (d : DiskSeen) → LeavesText out [] → RunsEntry c Blank s s d d out
@@ -251,7 +251,7 @@ pub line_after_refusal : (c : Place) (s : Seen) (text : List ℕ) (out : Left) (
 line_after_refusal c s text out d refused said =
     record {
       io = [];
-      made = made_none d.faults d.plan;
+      made = made_none d;
       by_text = goes_refused (parsed_of s) text out.bytes refused said.bytes_are;
       comes = λ a rest stands.
           let is : line_run c a text rest ≡ silent a rest =
@@ -314,7 +314,7 @@ pub line_refused : (c : Place) (s t : Seen) (text : List ℕ) (out : Left) (faul
 line_refused c s t text out fault d going is state said =
     record {
       io = [];
-      made = made_none d.faults d.plan;
+      made = made_none d;
       by_text = goes_fault (parsed_of s) (parsed_of t) text out.bytes fault going is
           (ap parsed_of state ∙ ap (λ (n : ℕ). record (parsed_of s) { lines = n; refused = true }) (add-one s.lines))
           (said.bytes_are ∙ ap (λ (n : ℕ). line (fault_text n fault)) (add-one s.lines));

@@ -1,9 +1,19 @@
 -- How large the numbers of a session grow, and what always holds of its kernel.
-use Rattle.std.specs.Prelude.{◌≡◌, ℕ, ◌≤◌, true, false}
+use Rattle.std.specs.Prelude.{◌≡◌, ℕ, ◌+◌, ◌-◌, ◌^◌, ◌<◌, ◌≤◌, true, false, List, length}
 use Rattle.kernel_model.specs.AllCalls.{all_calls}
 use Rattle.kernel_core.specs.EventRefines.{IsKernel}
 use Rattle.kernel_core.specs.Standing.{IsBlank}
+use Rattle.kernel_model.specs.Opening.{opening_policy}
+use Rattle.kernel_model.specs.Script.{LINE_BYTES}
+use Rattle.graft_points.specs.Shelf.{IsShelf, pol_of, first_choice}
+use Rattle.graft_points.specs.Views.{PolicyView}
+use Rattle.vino_top.specs.declared.run.ScriptRun.{ScriptRun}
 use Rattle.vino_top.specs.declared.session.Session.{Session}
+
+-- the seven stock policies, with their parameters at boot
+pub record IsStock (views : List PolicyView) : Type 0 where
+  pub shelf : IsShelf views
+  pub stock : pol_of views first_choice ≡ opening_policy
 
 -- On a disk of this size: the set-up is within its limits, each event had a line, and the kernel
 -- had at most a tick for each event. Before `boot` nothing came yet.
@@ -14,3 +24,17 @@ pub record IsSessionWithin {B : Type 0} {P : _} (size : ℕ) (s : Session B P) :
   pub kernel : s.booted ≡ true → IsKernel all_calls s.events s.kernel.running
   pub size_is : s.booted ≡ true → s.kernel.running.store.size ≡ size
   pub unbooted : s.booted ≡ false → IsBlank s.kernel.running
+
+-- A session on a disk of this size whose line was counted, and whose event wasn't: there is room
+-- for its number.
+pub record IsOnLine {B : Type 0} {P : _} (size : ℕ) (s : Session B P) : Type 0 where
+  pub room : s.lines < 2 ^ 32 - 1
+  pub fresh : s.events < s.lines
+  pub within : IsSessionWithin size s
+
+-- A run on a disk of this size that can take so many bytes, and a line for each: there is room for
+-- their numbers, and the line that is being read is no longer than a line may be.
+pub record CanTake {B : Type 0} {P : _} (size count : ℕ) (r : ScriptRun B P) : Type 0 where
+  pub lines : r.session.lines + count < 2 ^ 32 - 1
+  pub within : IsSessionWithin size r.session
+  pub short : length r.line ≤ LINE_BYTES

@@ -1,7 +1,7 @@
 -- Lines run one after another, and what `demo` makes of the script that it generates.
 use Rattle.std.specs.Prelude.{◌≡◌, ℕ, ◌+◌, ◌*◌, ◌≤◌, Bool, List, [], ◌∷◌, ◌++◌, length}
 use Rattle.disk_log.specs.Calls.{Knows}
-use Rattle.disk_log.specs.Seen.{DiskSeen}
+use Rattle.vino_base.specs.Disks.{DiskSeen}
 use Rattle.kernel_model.specs.World.{Blocks}
 use Rattle.kernel_model.specs.Session.{Session, Written, after_lines}
 use Rattle.kernel_model.specs.Demo.{demo_keys, demo_lines, summary}
@@ -23,7 +23,8 @@ pub record RanLines (c : Place) (texts : List (List ℕ)) (s t : Seen) (d e : Di
   pub one_each : length ios ≡ length texts
   pub calls : MadeAll d e ios
   pub used : ForEachSession c (StandsFor s d.known) (λ c a. UsesAll c a texts ios)
-  pub comes : ForEachSession c (StandsFor s d.known) (λ c a. LineMatches t e.known out (all_run c a texts ios) [])
+  pub comes : ForEachSession c (StandsFor s d.known)
+      (λ c a. LineMatches t e.known out (all_run c a texts ios) [])
 
 -- both of these, in order
 abbrev pub joined : Left → Left → Left

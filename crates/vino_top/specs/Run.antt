@@ -1,11 +1,11 @@
 -- What a call of `vino` does to its source, its sink and its disk.
-use Rattle.std.specs.Prelude.{◌≡◌, ℕ, ◌+◌, ◌<◌, ◌≤◌, ◌⊎◌, ⊤, Bool, true, false, List, [], ◌∷◌, ◌++◌, length, take, flat_map, Option, Some, None, is_some, Result, Ok, Err, codes}
+use Rattle.std.specs.Prelude.{◌≡◌, ◌≢◌, ◌==◌, MatchResult, OnOk, ℕ, ◌+◌, ◌<◌, ◌≤◌, ◌⊎◌, ⊤, Bool, true, false, List, [], ◌∷◌, ◌++◌, length, take, flat_map, Option, Some, None, is_some, Result, Ok, Err, codes}
 use Rattle.std.specs.List.{concat}
 use Rattle.std.specs.Io.KnownBytes.{Appends, Consumes, IsAtEnd}
-use Rattle.vino_base.specs.Streams.{SourceSeen, SinkSeen}
-use Rattle.filters.specs.Filtered.{HasEnded}
+use Rattle.vino_base.specs.Streams.{SourceSeen, SinkSeen, IsUsed}
+use Rattle.filters.specs.Filtered.{AppendsPart, HasEnded}
 use Rattle.disk_log.specs.Calls.{Knows, Made}
-use Rattle.disk_log.specs.Seen.{DiskSeen}
+use Rattle.vino_base.specs.Disks.{DiskSeen}
 use Rattle.kernel_model.specs.declared.Keys.{Keys}
 use Rattle.kernel_model.specs.declared.Note.{Note}
 use Rattle.kernel_model.specs.World.{Blocks}
@@ -18,9 +18,10 @@ use Rattle.kernel_core.specs.declared.kernel.BootNote.{BootNote}
 use Rattle.kernel_core.specs.declared.kernel.BootNote.TheVariants.{Up}
 use Rattle.kernel_core.specs.declared.kernel.BootNote.TheVariants as boot_is
 use Rattle.vino_top.specs.Built.{present_build}
-use Rattle.vino_top.specs.Standing.{Seen, StandsFor}
+use Rattle.vino_top.specs.Standing.{Seen, seen_of, StandsFor}
 use Rattle.vino_top.specs.Parsed.{Parsed, parsed_entry, EndsWith, GoesByText, text_parsed, text_status, text_refusal}
 use Rattle.vino_top.specs.declared.session.Buffers.{Buffers}
+use Rattle.vino_top.specs.declared.run.ScriptRun.{ScriptRun}
 use Rattle.vino_top.specs.declared.run.Stop.{Stop}
 use Rattle.vino_top.specs.declared.run.Stop.TheVariants.{SinkFailed, NoMemory}
 
@@ -73,11 +74,23 @@ abbrev pub outcome_at : Place → Blocks → (taken : List ℕ) → Ending → L
 outcome_at c blocks taken e ios =
     outcome present_build c.keys taken e (record { size = c.size; block = blocks }) ios
 
+-- ---- what is seen outside
+
+-- what is seen of the source, the sink and the disk
+pub record Devices : Type 0 where
+  pub source : SourceSeen
+  pub sink : SinkSeen
+  pub disk : DiskSeen
+
+-- these three
+abbrev pub devices : SourceSeen → SinkSeen → DiskSeen → Devices
+devices s k d = record { source = s; sink = k; disk = d }
+
 -- ---- the disk
 
 -- from one moment to another the disk had the calls of these lists
 abbrev pub MadeAll : DiskSeen → DiskSeen → List (List Bool) → Type 0
-MadeAll d e ios = Made d.faults e.faults d.plan e.plan (flat_map (λ (io : List Bool). io) ios)
+MadeAll d e ios = Made d e (flat_map (λ (io : List Bool). io) ios)
 
 -- ---- a session of the code beside the abstract one
 
@@ -114,7 +127,7 @@ pub record RunsLine (c : Place) (text : List ℕ) (s t : Seen) (d e : DiskSeen)
     (out : Left) : Type 0 where
   -- which of its calls of the disk failed
   pub io : List Bool
-  pub made : Made d.faults e.faults d.plan e.plan io
+  pub made : Made d e io
   pub comes : (a : Session) (rest : List Bool) → StandsFor s d.known a →
       LineMatches t e.known out (line_run c a text (io ++ rest)) rest
   -- over any disk, also one that tells nothing
@@ -126,7 +139,7 @@ pub record RunsEntry (c : Place) (entry : Entry) (s t : Seen) (d e : DiskSeen)
     (out : Left) : Type 0 where
   -- which of its calls of the disk failed
   pub io : List Bool
-  pub made : Made d.faults e.faults d.plan e.plan io
+  pub made : Made d e io
   pub comes : (a : Session) (rest : List Bool) → StandsFor s d.known a →
       LineMatches t e.known out (after_entry present_build c.keys c.size a entry (io ++ rest)) rest
   -- over any disk, also one that tells nothing
@@ -178,7 +191,8 @@ pub record Feeds (c : Place) (s t : Seen) (line line_new bytes : List ℕ)
   pub lines : t.lines ≤ s.lines + length bytes
   pub stands : ForEachSession c (StandsFor s d.known)
       (λ c a. StandsFor t e.known (lines_run c a (lines_after line bytes) ios))
-  pub used : ForEachSession c (StandsFor s d.known) (λ c a. UsesAll c a (lines_after line bytes) ios)
+  pub used : ForEachSession c (StandsFor s d.known)
+      (λ c a. UsesAll c a (lines_after line bytes) ios)
   pub appended : ForEachSession c (StandsFor s d.known)
       (λ c a. Appends got got_new (concat (pieces_run c a (lines_after line bytes) ios)))
   -- over any disk, also one that tells nothing: the sink took these bytes
@@ -201,9 +215,10 @@ pub record CutsShort (c : Place) (from : Session → Type 0) (lines : List (List
   pub part : List ℕ
   pub more : List ℕ
   pub lacks : 0 < length more
-  pub used : ForEachSession c from (λ c a. UsesAll c a done ios × Uses c (lines_run c a done ios) next io)
-  pub bytes : ForEachSession c from (λ c a. (line_run c (lines_run c a done ios) next io).bytes ≡ part
-      ++ more)
+  pub used : ForEachSession c from
+      (λ c a. UsesAll c a done ios × Uses c (lines_run c a done ios) next io)
+  pub bytes : ForEachSession c from
+      (λ c a. (line_run c (lines_run c a done ios) next io).bytes ≡ part ++ more)
   pub appended : ForEachSession c from
       (λ c a. Appends got got_new (concat (pieces_run c a done ios) ++ part))
   pub blocks : ForEachSession c from
@@ -221,7 +236,8 @@ pub record Lacks (c : Place) (from : Session → Type 0) (lines : List (List ℕ
   pub calls : MadeAll d e ios
   pub used : ForEachSession c from (λ c a. UsesAll c a done ios)
   pub wants : ForEachSession c from (λ c a. WantsMemory (lines_run c a done ios) next)
-  pub appended : ForEachSession c from (λ c a. Appends got got_new (concat (pieces_run c a done ios)))
+  pub appended : ForEachSession c from
+      (λ c a. Appends got got_new (concat (pieces_run c a done ios)))
   pub blocks : ForEachSession c from (λ c a. Knows e.known (lines_run c a done ios).blocks)
 
 -- the status of a run that stopped
@@ -260,68 +276,71 @@ abbrev pub script_lines : List ℕ → List (List ℕ)
 script_lines taken = lines_after [] (take SCRIPT_BYTES taken)
 
 -- The source gave some bytes, at most one more than a script may have, and reading ended somehow,
--- or stopped behind a refused line. Over any disk, also one that tells nothing, the text of the lines
--- says which line is refused and how the run ends. Over the blocks that the disk told: each line
--- makes the calls of its list, the status is that of the outcome, the sink took its bytes, and the
--- disk tells its blocks.
-pub record Ran (c : Place) (s t : SourceSeen) (k m : SinkSeen) (d e : DiskSeen)
-    (status : ℕ) : Type 0 where
+-- or stopped behind a refused line. Over any disk, also one that tells nothing, the text of the
+-- lines says which line is refused and how the run ends. Over the blocks that the disk told: each
+-- line makes the calls of its list, the status is that of the outcome, the sink took its bytes, and
+-- the disk tells its blocks.
+pub record Ran (c : Place) (x y : Devices) (status : ℕ) : Type 0 where
   pub taken : List ℕ
   pub ending : Ending
   pub within : length taken ≤ SCRIPT_BYTES + 1
-  pub consumed : Consumes s.rest t.rest taken
+  pub consumed : Consumes x.source.rest y.source.rest taken
   pub ios : List (List Bool)
   pub one_each : length ios ≡ length (script_lines taken)
-  pub calls : MadeAll d e ios
-  pub ended : ((text_parsed taken).refused ≡ true) ⊎ HasEnded ending taken s t
+  pub calls : MadeAll x.disk y.disk ios
+  pub ended : ((text_parsed taken).refused ≡ true) ⊎ HasEnded ending taken x.source y.source
   -- over any disk, also one that tells nothing: the status, and what the sink took, which ends with
   -- the refusal, if there is one
   pub status_by_text : status ≡ text_status taken ending
   pub out : List ℕ
-  pub took : Appends k.got m.got out
+  pub took : Appends x.sink.got y.sink.got out
   pub refusal : EndsWith out (text_refusal taken ending)
-  pub used : ForEachSession c (IsFirst c.size d.known) (λ c a. UsesAll c a (script_lines taken) ios)
-  pub status_is : ForEachSession c (IsFirst c.size d.known)
+  pub used : ForEachSession c (IsFirst c.size x.disk.known)
+      (λ c a. UsesAll c a (script_lines taken) ios)
+  pub status_is : ForEachSession c (IsFirst c.size x.disk.known)
       (λ c a. status ≡ (outcome_at c a.blocks taken ending ios).status)
-  pub appended : ForEachSession c (IsFirst c.size d.known)
-      (λ c a. Appends k.got m.got (written (outcome_at c a.blocks taken ending ios)))
-  pub blocks : ForEachSession c (IsFirst c.size d.known)
-      (λ c a. Knows e.known (outcome_at c a.blocks taken ending ios).blocks)
+  pub appended : ForEachSession c (IsFirst c.size x.disk.known)
+      (λ c a. Appends x.sink.got y.sink.got (written (outcome_at c a.blocks taken ending ios)))
+  pub blocks : ForEachSession c (IsFirst c.size x.disk.known)
+      (λ c a. Knows y.disk.known (outcome_at c a.blocks taken ending ios).blocks)
 
 -- The input has ended. Of what the outcome writes behind the lines of the script the sink took a
 -- part, not whole.
-pub record CutsLast (c : Place) (taken : List ℕ) (rest_new got got_new : Option (List ℕ))
-    (d e : DiskSeen) : Type 0 where
-  pub ended : (length taken ≤ SCRIPT_BYTES) × IsAtEnd rest_new
+pub record CutsLast (c : Place) (taken : List ℕ) (x y : Devices) : Type 0 where
+  pub ended : (length taken ≤ SCRIPT_BYTES) × IsAtEnd y.source.rest
   pub ios : List (List Bool)
   pub one_each : length ios ≡ length (script_lines taken)
-  pub calls : MadeAll d e ios
+  pub calls : MadeAll x.disk y.disk ios
   pub part : List ℕ
   pub more : List ℕ
   pub lacks : 0 < length more
-  pub used : ForEachSession c (IsFirst c.size d.known) (λ c a. UsesAll c a (script_lines taken) ios)
-  pub bytes : ForEachSession c (IsFirst c.size d.known)
+  pub used : ForEachSession c (IsFirst c.size x.disk.known)
+      (λ c a. UsesAll c a (script_lines taken) ios)
+  pub bytes : ForEachSession c (IsFirst c.size x.disk.known)
       (λ c a. written (outcome_at c a.blocks taken End ios)
       ≡ (concat (pieces_run c a (script_lines taken) ios) ++ part) ++ more)
-  pub appended : ForEachSession c (IsFirst c.size d.known)
-      (λ c a. Appends got got_new (concat (pieces_run c a (script_lines taken) ios) ++ part))
-  pub blocks : ForEachSession c (IsFirst c.size d.known)
-      (λ c a. Knows e.known (outcome_at c a.blocks taken End ios).blocks)
+  pub appended : ForEachSession c (IsFirst c.size x.disk.known)
+      (λ c a. Appends x.sink.got y.sink.got
+      (concat (pieces_run c a (script_lines taken) ios) ++ part))
+  pub blocks : ForEachSession c (IsFirst c.size x.disk.known)
+      (λ c a. Knows y.disk.known (outcome_at c a.blocks taken End ios).blocks)
 
 -- The source gave some bytes, and what a line of them writes was cut short, or the last lines were.
-pub record Broke (c : Place) (s t : SourceSeen) (k m : SinkSeen) (d e : DiskSeen) : Type 0 where
+pub record Broke (c : Place) (x y : Devices) : Type 0 where
   pub taken : List ℕ
   pub within : length taken ≤ SCRIPT_BYTES + 1
-  pub consumed : Consumes s.rest t.rest taken
-  pub short : CutsShort c (IsFirst c.size d.known) (script_lines taken) k.got m.got d e
-      ⊎ CutsLast c taken t.rest k.got m.got d e
+  pub consumed : Consumes x.source.rest y.source.rest taken
+  pub short : CutsShort c (IsFirst c.size x.disk.known) (script_lines taken) x.sink.got y.sink.got
+      x.disk y.disk
+      ⊎ CutsLast c taken x y
 
 -- The source gave some bytes, and for one of their lines there was no memory.
-pub record Lacked (c : Place) (s t : SourceSeen) (k m : SinkSeen) (d e : DiskSeen) : Type 0 where
+pub record Lacked (c : Place) (x y : Devices) : Type 0 where
   pub taken : List ℕ
   pub within : length taken ≤ SCRIPT_BYTES + 1
-  pub consumed : Consumes s.rest t.rest taken
-  pub lacks : Lacks c (IsFirst c.size d.known) (script_lines taken) k.got m.got d e
+  pub consumed : Consumes x.source.rest y.source.rest taken
+  pub lacks : Lacks c (IsFirst c.size x.disk.known) (script_lines taken) x.sink.got y.sink.got
+      x.disk y.disk
 
 -- ---- the steps of a run
 
@@ -332,3 +351,41 @@ pub record Reached (c : Place) (s t : Seen) (rest rest_new got got_new : Option 
   pub count : length taken + left ≡ SCRIPT_BYTES + 1
   pub consumed : Consumes rest rest_new taken
   pub fed : Feeds c s t [] line (take SCRIPT_BYTES taken) got got_new d e
+
+-- where a run stands: its session, the line that is being read, its sink and its disk
+pub record Moment : Type 0 where
+  pub session : Seen
+  pub line : List ℕ
+  pub sink : SinkSeen
+  pub disk : DiskSeen
+
+-- the moment of this run, with this sink and this disk
+abbrev pub moment : {B : Type 0} {P : _} → ScriptRun B P → SinkSeen → DiskSeen → Moment
+moment r k d = record { session = seen_of r.session; line = r.line; sink = k; disk = d }
+
+-- These bytes were fed, or the run stopped among their lines. The sink is blamed where it failed.
+pub record FeedsOrStops {T : Type 0} (c : Place) (bytes : List ℕ) (x y : Moment)
+    (answer : Result T Stop) : Type 0 where
+  pub contents : MatchResult answer
+      (λ _. Feeds c x.session y.session x.line y.line bytes x.sink.got y.sink.got x.disk y.disk)
+      (StopsAt c (StandsFor x.session x.disk.known) (lines_after x.line bytes) x.sink.got y.sink.got
+      x.disk y.disk)
+  pub sink : IsUsed x.sink.device y.sink.device (is_sink_failed answer)
+
+-- The line that ended was this one. It was run, the sink took what it writes, and the next line is
+-- to come; or the run stopped at it. The sink is blamed where it failed.
+pub record TakesOrStops {T : Type 0} (c : Place) (text : List ℕ) (x y : Moment)
+    (answer : Result T Stop) : Type 0 where
+  pub line : OnOk answer (y.line ≡ [])
+  pub contents : MatchResult answer
+      (λ _. TakesLine c text x.session y.session x.sink.got y.sink.got x.disk y.disk)
+      (StopsAt c (StandsFor x.session x.disk.known) (text ∷ []) x.sink.got y.sink.got x.disk y.disk)
+  pub sink : IsUsed x.sink.device y.sink.device (is_sink_failed answer)
+
+-- The sink took the last bytes of a run, which ends with this status, or a part of them, and it
+-- ends with 4. The sink is blamed where it failed.
+pub record WritesLast (bytes : List ℕ) (status : ℕ) (k m : SinkSeen) (answer : ℕ) : Type 0 where
+  pub done : answer ≢ 4 → (answer ≡ status) × Appends k.got m.got bytes
+  pub broken : answer ≡ 4 → AppendsPart k.got m.got bytes
+  pub statuses : (answer ≡ 0) ⊎ (answer ≡ 2) ⊎ (answer ≡ 4)
+  pub sink : IsUsed k.device m.device (answer == 4)

@@ -1,18 +1,13 @@
 //! The word `demo`: the generated script is run, and one line tells of it.
 
 ghost use Rattle.std.specs.Prelude.{◌≡◌, ◌==◌, ◌⊎◌, ◌≤◌, ◌<◌, ◌+◌, ◌-◌, ◌^◌, ◌++◌, ℕ, [], length, map, OnOk, OnErr, IfOk};
-ghost use Rattle.std.specs.Io.KnownBytes.{Appends, Keeps};
-ghost use Rattle.vino_base.specs.Streams.{IsUsed};
-ghost use Rattle.disk_log.specs.Seen.{disk_seen};
 ghost use Rattle.kernel_model.specs.Demo.{demo_lines, summary_of};
-ghost use Rattle.kernel_model.specs.Opening.{opening_policy};
 ghost use Rattle.demo_text.specs.Tallies.{IsTally};
-ghost use Rattle.graft_points.specs.Shelf.{IsShelf, pol_of, first_choice};
-ghost use Rattle.filters.specs.Filtered.{AppendsPart};
-ghost use Rattle.vino_top.specs.Bounds.{IsSessionWithin};
+ghost use Rattle.vino_top.specs.Bounds.{IsStock, IsSessionWithin};
 ghost use Rattle.vino_top.specs.Standing.{seen_of, IsBegun, last_bytes};
 ghost use Rattle.vino_top.specs.Run.{WantsAt, Left};
-ghost use Rattle.vino_top.specs.Demos.{demo_place, HasRoom, DemoRan, DemoLacked, DemoTakes, DemoReached, DemoStops};
+ghost use Rattle.vino_top.specs.Does.{DemoAnswers};
+ghost use Rattle.vino_top.specs.Demos.{demo_place, HasRoom, DemoTakes, DemoReached, DemoStops};
 
 use crate::session::{Buffers, Session};
 use demo_text::{DemoLines, Tally};
@@ -41,8 +36,7 @@ struct DemoRun<B: Policy> {
 
 /// Before the first line, with the stock policies.
 fn begin<B: Policy>(alloc: Global, shelf: Vec<B>) -> Result<DemoRun<B>, NoMemory>
-    requires shelf { IsShelf (map B.seen shelf.items) }
-    requires stock { pol_of (map B.seen shelf.items) first_choice ≡ opening_policy }
+    requires { IsStock (map B.seen shelf.items) }
     ensures within { IfOk result (λ r. (size : ℕ) → IsSessionWithin size r.session) }
     ensures begun { IfOk result (λ r. IsBegun (seen_of r.session)) }
     ensures tally { IfOk result (λ r. IsTally r.tally [] []) }
@@ -59,29 +53,21 @@ fn run_one<B: Policy, D: Disk>(
     alloc: Global,
     run: &mut DemoRun<B>,
     text: &[u8],
-    size: u32,
     disk: &mut D,
 ) -> Result<(), NoMemory>
     requires room { run.old.session.lines < 2 ^ 32 - 2 }
-    requires within { IsSessionWithin size run.old.session }
+    requires within { IsSessionWithin (D.seen disk.old).size run.old.session }
     requires short { length text.now ≤ 2048 }
-    requires disk { D.block_count disk.old ≡ size }
     requires tally { HasRoom run.old.tally }
-    ensures within { IsSessionWithin size run.new.session }
-    ensures same_size { D.block_count disk.new ≡ size }
-    ensures ok { OnOk result (DemoTakes (demo_place size) text.now
-        (seen_of run.old.session)
-        (seen_of run.new.session)
-        (disk_seen (D.blocks disk.old) (D.plan disk.old) (D.faults disk.old))
-        (disk_seen (D.blocks disk.new) (D.plan disk.new) (D.faults disk.new)) run.old.tally
-        run.new.tally) }
+    ensures within { IsSessionWithin (D.seen disk.new).size run.new.session }
+    ensures ok { OnOk result (DemoTakes (demo_place (D.seen disk.old).size) text.now
+        (seen_of run.old.session) (seen_of run.new.session) (D.seen disk.old) (D.seen disk.new)
+        run.old.tally run.new.tally) }
     ensures err { OnErr result (WantsAt (seen_of run.old.session) text.now) }
-    ensures same_disk { OnErr result
-        (disk_seen (D.blocks disk.new) (D.plan disk.new) (D.faults disk.new)
-        ≡ disk_seen (D.blocks disk.old) (D.plan disk.old) (D.faults disk.old)) }
+    ensures same_disk { OnErr result (D.seen disk.new ≡ D.seen disk.old) }
 {
     run.session
-        .run_line(alloc, &KEYS, text, size, disk, &mut run.out)?;
+        .run_line(alloc, &KEYS, text, disk, &mut run.out)?;
     let (notes, _) = run.out.trace.notes.parts();
     run.tally.add(run.out.lines.as_slice(), notes);
     Ok(())
@@ -92,27 +78,21 @@ fn run_all<B: Policy, D: Disk>(
     alloc: Global,
     run: &mut DemoRun<B>,
     lines: &mut DemoLines,
-    size: u32,
     disk: &mut D,
 ) -> Result<(), NoMemory>
     requires few { length lines.old ≤ 5026 }
     requires begun { IsBegun (seen_of run.old.session) }
-    requires within { IsSessionWithin size run.old.session }
-    requires disk { D.block_count disk.old ≡ size }
+    requires within { IsSessionWithin (D.seen disk.old).size run.old.session }
     requires tally { IsTally run.old.tally [] [] }
-    ensures ok { OnOk result (DemoReached (demo_place size) lines.old []
-        (seen_of run.old.session)
-        (seen_of run.new.session)
-        (disk_seen (D.blocks disk.old) (D.plan disk.old) (D.faults disk.old))
-        (disk_seen (D.blocks disk.new) (D.plan disk.new) (D.faults disk.new)) run.new.tally) }
-    ensures err { OnErr result (DemoStops (demo_place size) lines.old
-        (seen_of run.old.session)
-        (disk_seen (D.blocks disk.old) (D.plan disk.old) (D.faults disk.old))
-        (disk_seen (D.blocks disk.new) (D.plan disk.new) (D.faults disk.new))) }
+    ensures ok { OnOk result (DemoReached (demo_place (D.seen disk.old).size) lines.old []
+        (seen_of run.old.session) (seen_of run.new.session) (D.seen disk.old) (D.seen disk.new)
+        run.new.tally) }
+    ensures err { OnErr result (DemoStops (demo_place (D.seen disk.old).size) lines.old
+        (seen_of run.old.session) (D.seen disk.old) (D.seen disk.new)) }
 {
     let mut text = Text::new();
     'lines: while lines.next(&mut text) {
-        if let Err(lacks) = run_one(alloc, run, text.as_slice(), size, disk) {
+        if let Err(lacks) = run_one(alloc, run, text.as_slice(), disk) {
             return Err(lacks);
         }
     }
@@ -149,23 +129,10 @@ fn run_demo<B: Policy, K: Sink, D: Disk>(
     requires begun { IsBegun (seen_of run.session) }
     requires within { (size : ℕ) → IsSessionWithin size run.session }
     requires tally { IsTally run.tally [] [] }
-    ensures ran { result ≡ 0 → DemoRan n (D.block_count disk.old)
-        (disk_seen (D.blocks disk.old) (D.plan disk.old) (D.faults disk.old))
-        (disk_seen (D.blocks disk.new) (D.plan disk.new) (D.faults disk.new))
-        (λ known. Appends (K.seen sink.old).got (K.seen sink.new).got known) }
-    ensures broke { result ≡ 4 → DemoRan n (D.block_count disk.old)
-        (disk_seen (D.blocks disk.old) (D.plan disk.old) (D.faults disk.old))
-        (disk_seen (D.blocks disk.new) (D.plan disk.new) (D.faults disk.new))
-        (λ known. AppendsPart (K.seen sink.old).got (K.seen sink.new).got known) }
-    ensures memory { result ≡ 5 → Keeps (K.seen sink.old).got (K.seen sink.new).got
-        × DemoLacked n (D.block_count disk.old)
-        (disk_seen (D.blocks disk.old) (D.plan disk.old) (D.faults disk.old))
-        (disk_seen (D.blocks disk.new) (D.plan disk.new) (D.faults disk.new)) }
-    ensures statuses { (result ≡ 0) ⊎ (result ≡ 4) ⊎ (result ≡ 5) }
-    ensures sink { IsUsed (K.seen sink.old).device (K.seen sink.new).device (result == 4) }
+    ensures { DemoAnswers n (K.seen sink.old) (K.seen sink.new) (D.seen disk.old)
+        (D.seen disk.new) result }
 {
-    let size = disk.size();
-    if let Err(_) = run_all(alloc, &mut run, &mut lines, size, disk) {
+    if let Err(_) = run_all(alloc, &mut run, &mut lines, disk) {
         return 5;
     }
     let mut text = Text::new();
@@ -185,24 +152,9 @@ pub fn demo<B: Policy, K: Sink, D: Disk>(
     disk: &mut D,
     shelf: Vec<B>,
 ) -> u8
-    requires shelf { IsShelf (map B.seen shelf.items) }
-    requires stock { pol_of (map B.seen shelf.items) first_choice ≡ opening_policy }
-    ensures ran { result ≡ 0 → DemoRan n (D.block_count disk.old)
-        (disk_seen (D.blocks disk.old) (D.plan disk.old) (D.faults disk.old))
-        (disk_seen (D.blocks disk.new) (D.plan disk.new) (D.faults disk.new))
-        (λ known. Appends (K.seen sink.old).got (K.seen sink.new).got known) }
-    ensures broke { result ≡ 4 → DemoRan n (D.block_count disk.old)
-        (disk_seen (D.blocks disk.old) (D.plan disk.old) (D.faults disk.old))
-        (disk_seen (D.blocks disk.new) (D.plan disk.new) (D.faults disk.new))
-        (λ known. AppendsPart (K.seen sink.old).got (K.seen sink.new).got known) }
-    ensures memory { result ≡ 5 → Keeps (K.seen sink.old).got (K.seen sink.new).got
-        × ((disk_seen (D.blocks disk.new) (D.plan disk.new) (D.faults disk.new)
-        ≡ disk_seen (D.blocks disk.old) (D.plan disk.old) (D.faults disk.old))
-        ⊎ DemoLacked n (D.block_count disk.old)
-        (disk_seen (D.blocks disk.old) (D.plan disk.old) (D.faults disk.old))
-        (disk_seen (D.blocks disk.new) (D.plan disk.new) (D.faults disk.new))) }
-    ensures statuses { (result ≡ 0) ⊎ (result ≡ 4) ⊎ (result ≡ 5) }
-    ensures sink { IsUsed (K.seen sink.old).device (K.seen sink.new).device (result == 4) }
+    requires { IsStock (map B.seen shelf.items) }
+    ensures { DemoAnswers n (K.seen sink.old) (K.seen sink.new) (D.seen disk.old)
+        (D.seen disk.new) result }
 {
     let Ok(lines) = DemoLines::new(alloc, n) else {
         return 5;

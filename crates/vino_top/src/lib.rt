@@ -4,20 +4,19 @@
 //! clauses aloud.
 #![tactic(auto)]
 
-ghost use Rattle.std.specs.Prelude.{◌≡◌, ◌≢◌, ◌==◌, ◌⊎◌, true, false, List, [], ℕ, String, Vec, map, string_bytes};
-ghost use Rattle.std.specs.Io.KnownBytes.{Appends, Keeps};
+ghost use Rattle.std.specs.Prelude.{◌≡◌, ◌==◌, ◌⊎◌, true, false, List, [], ℕ, String, Vec, map, string_bytes};
+ghost use Rattle.std.specs.Io.KnownBytes.{Appends};
 ghost use Rattle.vino_base.specs.Streams.{IsUsed};
 ghost use Rattle.kernel_model.specs.Text.{line, usage_text};
 ghost use Rattle.kernel_model.specs.Opening.{opening_policy};
 ghost use Rattle.graft_points.specs.Shelf.{IsShelf, pol_of, first_choice};
 ghost use Rattle.vino_top.specs.Standing.{seen_of, IsBegun};
-ghost use Rattle.vino_top.specs.Bounds.{IsSessionWithin};
+ghost use Rattle.vino_top.specs.Bounds.{IsStock, IsSessionWithin};
 ghost use Rattle.vino_top.specs.Words.{asked_by};
 ghost use Rattle.vino_top.specs.TextLaw.{TextDecides};
 ghost use Rattle.filters.specs.Filtered.{AppendsPart};
-ghost use Rattle.vino_top.specs.Run.{place, Ran, Broke, Lacked};
-ghost use Rattle.vino_top.specs.Does.{Does};
-ghost use Rattle.disk_log.specs.Seen.{disk_seen};
+ghost use Rattle.vino_top.specs.Run.{place, devices};
+ghost use Rattle.vino_top.specs.Does.{Does, RunAnswers};
 
 mod demo;
 mod lines;
@@ -73,11 +72,8 @@ pub fn vino<S: Source, K: Sink, D: Disk>(
         ≡ opening_policy }
     // What is done for what the words ask: the status, the bytes read and written, and the disk.
     ensures does { Does (asked_by (map (λ (w : _). string_bytes w) words.now))
-        (D.block_count disk.old)
-        (S.seen src.old) (S.seen src.new) (K.seen out.old)
-        (K.seen out.new)
-        (disk_seen (D.blocks disk.old) (D.plan disk.old) (D.faults disk.old))
-        (disk_seen (D.blocks disk.new) (D.plan disk.new) (D.faults disk.new)) result }
+        (devices (S.seen src.old) (K.seen out.old) (D.seen disk.old))
+        (devices (S.seen src.new) (K.seen out.new) (D.seen disk.new)) result }
     // No other status comes.
     ensures statuses { (result ≡ 0) ⊎ (result ≡ 1) ⊎ (result ≡ 2) ⊎ (result ≡ 3) ⊎ (result ≡ 4)
         ⊎ (result ≡ 5) ⊎ (result ≡ 6) ⊎ (result ≡ 7) }
@@ -115,29 +111,10 @@ fn run_script<B: Policy, S: Source, K: Sink, D: Disk>(
     disk: &mut D,
     shelf: Vec<B>,
 ) -> u8
-    requires shelf { IsShelf (map B.seen shelf.items) }
-    requires stock { pol_of (map B.seen shelf.items) first_choice ≡ opening_policy }
-    ensures ran { result ≢ 4 → result ≢ 5 →
-        Ran (place keys.now (D.block_count disk.old)) (S.seen src.old) (S.seen src.new) (K.seen out.old)
-        (K.seen out.new)
-        (disk_seen (D.blocks disk.old) (D.plan disk.old) (D.faults disk.old))
-        (disk_seen (D.blocks disk.new) (D.plan disk.new) (D.faults disk.new)) result }
-    ensures broke { result ≡ 4 → Broke (place keys.now (D.block_count disk.old)) (S.seen src.old)
-        (S.seen src.new) (K.seen out.old) (K.seen out.new)
-        (disk_seen (D.blocks disk.old) (D.plan disk.old) (D.faults disk.old))
-        (disk_seen (D.blocks disk.new) (D.plan disk.new) (D.faults disk.new)) }
-    ensures memory { result ≡ 5 → Keeps (S.seen src.old).rest (S.seen src.new).rest
-        × Keeps (K.seen out.old).got (K.seen out.new).got
-        × (disk_seen (D.blocks disk.new) (D.plan disk.new) (D.faults disk.new)
-        ≡ disk_seen (D.blocks disk.old) (D.plan disk.old) (D.faults disk.old))
-        ⊎ Lacked (place keys.now (D.block_count disk.old)) (S.seen src.old)
-        (S.seen src.new) (K.seen out.old) (K.seen out.new)
-        (disk_seen (D.blocks disk.old) (D.plan disk.old) (D.faults disk.old))
-        (disk_seen (D.blocks disk.new) (D.plan disk.new) (D.faults disk.new)) }
-    ensures statuses { (result ≡ 0) ⊎ (result ≡ 2) ⊎ (result ≡ 3) ⊎ (result ≡ 4) ⊎ (result ≡ 5)
-        ⊎ (result ≡ 7) }
-    ensures source { IsUsed (S.seen src.old).device (S.seen src.new).device (result == 3) }
-    ensures sink { IsUsed (K.seen out.old).device (K.seen out.new).device (result == 4) }
+    requires { IsStock (map B.seen shelf.items) }
+    ensures { RunAnswers (place keys.now (D.seen disk.old).size)
+        (devices (S.seen src.old) (K.seen out.old) (D.seen disk.old))
+        (devices (S.seen src.new) (K.seen out.new) (D.seen disk.new)) result }
 {
     match run::ScriptRun::new(alloc, shelf) {
         Err(_) => 5,
@@ -148,7 +125,8 @@ fn run_script<B: Policy, S: Source, K: Sink, D: Disk>(
 /// Writes the usage line.
 fn write_usage<K: Sink>(out: &mut K) -> u8
     ensures cases { (result ≡ 1) × Appends (K.seen out.old).got (K.seen out.new).got (line usage_text)
-        ⊎ (result ≡ 4) × AppendsPart (K.seen out.old).got (K.seen out.new).got (line usage_text) }
+        ⊎ (result ≡ 4) × AppendsPart (K.seen out.old).got (K.seen out.new).got
+        (line usage_text) }
     ensures sink { IsUsed (K.seen out.old).device (K.seen out.new).device (result == 4) }
 {
     match write_all(out, line_text::usage()) {
@@ -169,27 +147,9 @@ fn start<B: Policy, S: Source, K: Sink, D: Disk>(
     requires begun { IsBegun (seen_of reader.session) }
     requires within { (size : ℕ) → IsSessionWithin size reader.session }
     requires line { reader.line ≡ [] }
-    ensures ran { result ≢ 4 → result ≢ 5 →
-        Ran (place keys.now (D.block_count disk.old)) (S.seen src.old) (S.seen src.new) (K.seen out.old)
-        (K.seen out.new)
-        (disk_seen (D.blocks disk.old) (D.plan disk.old) (D.faults disk.old))
-        (disk_seen (D.blocks disk.new) (D.plan disk.new) (D.faults disk.new)) result }
-    ensures broke { result ≡ 4 → Broke (place keys.now (D.block_count disk.old)) (S.seen src.old)
-        (S.seen src.new) (K.seen out.old) (K.seen out.new)
-        (disk_seen (D.blocks disk.old) (D.plan disk.old) (D.faults disk.old))
-        (disk_seen (D.blocks disk.new) (D.plan disk.new) (D.faults disk.new)) }
-    ensures memory { result ≡ 5 → Keeps (S.seen src.old).rest (S.seen src.new).rest
-        × Keeps (K.seen out.old).got (K.seen out.new).got
-        × (disk_seen (D.blocks disk.new) (D.plan disk.new) (D.faults disk.new)
-        ≡ disk_seen (D.blocks disk.old) (D.plan disk.old) (D.faults disk.old))
-        ⊎ Lacked (place keys.now (D.block_count disk.old)) (S.seen src.old)
-        (S.seen src.new) (K.seen out.old) (K.seen out.new)
-        (disk_seen (D.blocks disk.old) (D.plan disk.old) (D.faults disk.old))
-        (disk_seen (D.blocks disk.new) (D.plan disk.new) (D.faults disk.new)) }
-    ensures statuses { (result ≡ 0) ⊎ (result ≡ 2) ⊎ (result ≡ 3) ⊎ (result ≡ 4) ⊎ (result ≡ 5)
-        ⊎ (result ≡ 7) }
-    ensures source { IsUsed (S.seen src.old).device (S.seen src.new).device (result == 3) }
-    ensures sink { IsUsed (K.seen out.old).device (K.seen out.new).device (result == 4) }
+    ensures { RunAnswers (place keys.now (D.seen disk.old).size)
+        (devices (S.seen src.old) (K.seen out.old) (D.seen disk.old))
+        (devices (S.seen src.new) (K.seen out.new) (D.seen disk.new)) result }
 {
     match run::zeros(alloc, READ_BYTES) {
         Err(_) => 5,

@@ -4,15 +4,12 @@ ghost use Rattle.std.specs.Prelude.{◌≡◌, ◌≢◌, ◌==◌, ◌+◌, ◌
 ghost use Rattle.std.specs.Io.KnownBytes.{Appends, Consumes, IsAtEnd};
 ghost use Rattle.vino_base.specs.Streams.{IsUsed};
 ghost use Rattle.kernel_model.specs.Script.{LINE_BYTES};
-ghost use Rattle.kernel_model.specs.Outcome.{lines_after};
 ghost use Rattle.filters.specs.Filtered.{AppendsPart};
-ghost use Rattle.vino_top.specs.Bounds.{IsSessionWithin};
+ghost use Rattle.vino_top.specs.Bounds.{IsStock, IsSessionWithin, CanTake};
 ghost use Rattle.vino_top.specs.declared.run.Stop.TheVariants.{SinkFailed};
-ghost use Rattle.vino_top.specs.Run.{Place, place, TakesLine, Feeds, StopsAt, Ran, Broke, Lacked, stop_status, is_sink_failed};
-ghost use Rattle.vino_top.specs.Standing.{seen_of, StandsFor, IsBegun, last_bytes, last_status};
-ghost use Rattle.disk_log.specs.Seen.{DiskSeen, disk_seen};
-ghost use Rattle.kernel_model.specs.Opening.{opening_policy};
-ghost use Rattle.graft_points.specs.Shelf.{IsShelf, pol_of, first_choice};
+ghost use Rattle.vino_top.specs.Run.{Place, place, moment, TakesOrStops, FeedsOrStops, WritesLast, devices, Ran, Broke, Lacked, stop_status, is_sink_failed};
+ghost use Rattle.vino_top.specs.Standing.{seen_of, IsBegun, last_bytes, last_status};
+ghost use Rattle.vino_base.specs.Disks.{DiskSeen};
 
 use crate::session::{Buffers, Session};
 use filters::write_all;
@@ -46,8 +43,7 @@ pub struct ScriptRun<B: Policy> {
 impl<B: Policy> ScriptRun<B> {
     /// Before the first byte, with the stock policies.
     pub fn new(alloc: Global, shelf: Vec<B>) -> Result<ScriptRun<B>, NoMemory>
-        requires shelf { IsShelf (map B.seen shelf.items) }
-        requires stock { pol_of (map B.seen shelf.items) first_choice ≡ opening_policy }
+        requires { IsStock (map B.seen shelf.items) }
         ensures within { IfOk result (λ r. (size : ℕ) → IsSessionWithin size r.session) }
         ensures begun { IfOk result (λ r. IsBegun (seen_of r.session)) }
         ensures line { IfOk result (λ r. r.line ≡ []) }
@@ -89,36 +85,19 @@ fn end_line<B: Policy, K: Sink, D: Disk>(
     alloc: Global,
     keys: &Keys,
     reader: &mut ScriptRun<B>,
-    size: u32,
     out: &mut K,
     disk: &mut D,
 ) -> Result<(), Stop>
-    requires lines { reader.old.session.lines < 2 ^ 32 - 2 }
-    requires within { IsSessionWithin size reader.old.session }
-    requires short { length reader.old.line ≤ LINE_BYTES }
-    requires disk { D.block_count disk.old ≡ size }
-    ensures within { IsSessionWithin size reader.new.session }
-    ensures line { OnOk result (reader.new.line ≡ []) }
-    ensures contents { MatchResult result
-        (λ _. TakesLine (place keys.now size) reader.old.line (seen_of reader.old.session)
-        (seen_of reader.new.session) (K.seen out.old).got (K.seen out.new).got
-        (disk_seen (D.blocks disk.old) (D.plan disk.old) (D.faults disk.old))
-        (disk_seen (D.blocks disk.new) (D.plan disk.new) (D.faults disk.new)))
-        (StopsAt (place keys.now size) (StandsFor (seen_of reader.old.session) (D.blocks disk.old))
-        (reader.old.line ∷ []) (K.seen out.old).got (K.seen out.new).got
-        (disk_seen (D.blocks disk.old) (D.plan disk.old) (D.faults disk.old))
-        (disk_seen (D.blocks disk.new) (D.plan disk.new) (D.faults disk.new))) }
-    ensures sink { IsUsed (K.seen out.old).device (K.seen out.new).device (is_sink_failed result) }
-    ensures same_size { D.block_count disk.new ≡ size }
+    requires { CanTake (D.seen disk.old).size 1 reader.old }
+    ensures within { IsSessionWithin (D.seen disk.new).size reader.new.session }
+    ensures taken { TakesOrStops (place keys.now (D.seen disk.old).size) reader.old.line
+        (moment reader.old (K.seen out.old) (D.seen disk.old))
+        (moment reader.new (K.seen out.new) (D.seen disk.new)) result }
 {
-    if let Err(_) = reader.session.run_line(
-        alloc,
-        keys,
-        reader.line.line(),
-        size,
-        disk,
-        &mut reader.out,
-    ) {
+    if let Err(_) = reader
+        .session
+        .run_line(alloc, keys, reader.line.line(), disk, &mut reader.out)
+    {
         return Err(Stop::NoMemory);
     }
     reader.line.clear();
@@ -135,13 +114,8 @@ fn end_long<B: Policy, K: Sink>(
     requires long { length reader.old.line ≡ LINE_BYTES }
     ensures within { (size : ℕ) → IsSessionWithin size reader.old.session →
         IsSessionWithin size reader.new.session }
-    ensures line { OnOk result (reader.new.line ≡ []) }
-    ensures contents { (c : Place) (d : DiskSeen) → MatchResult result
-        (λ _. TakesLine c (reader.old.line ++ byte ∷ []) (seen_of reader.old.session)
-        (seen_of reader.new.session) (K.seen out.old).got (K.seen out.new).got d d)
-        (StopsAt c (StandsFor (seen_of reader.old.session) d.known)
-        ((reader.old.line ++ byte ∷ []) ∷ []) (K.seen out.old).got (K.seen out.new).got d d) }
-    ensures sink { IsUsed (K.seen out.old).device (K.seen out.new).device (is_sink_failed result) }
+    ensures taken { (c : Place) (d : DiskSeen) → TakesOrStops c (reader.old.line ++ byte ∷ [])
+        (moment reader.old (K.seen out.old) d) (moment reader.new (K.seen out.new) d) result }
 {
     reader.session.refuse_long(&mut reader.out);
     reader.line.clear();
@@ -154,31 +128,18 @@ fn take_byte<B: Policy, K: Sink, D: Disk>(
     keys: &Keys,
     reader: &mut ScriptRun<B>,
     byte: u8,
-    size: u32,
     out: &mut K,
     disk: &mut D,
 ) -> Result<(), Stop>
-    requires lines { reader.old.session.lines < 2 ^ 32 - 2 }
-    requires within { IsSessionWithin size reader.old.session }
-    requires short { length reader.old.line ≤ LINE_BYTES }
-    requires disk { D.block_count disk.old ≡ size }
-    ensures within { IsSessionWithin size reader.new.session }
-    ensures contents { MatchResult result
-        (λ _. Feeds (place keys.now size) (seen_of reader.old.session)
-        (seen_of reader.new.session) reader.old.line reader.new.line (byte ∷ []) (K.seen out.old).got
-        (K.seen out.new).got
-        (disk_seen (D.blocks disk.old) (D.plan disk.old) (D.faults disk.old))
-        (disk_seen (D.blocks disk.new) (D.plan disk.new) (D.faults disk.new)))
-        (StopsAt (place keys.now size) (StandsFor (seen_of reader.old.session) (D.blocks disk.old))
-        (lines_after reader.old.line (byte ∷ [])) (K.seen out.old).got (K.seen out.new).got
-        (disk_seen (D.blocks disk.old) (D.plan disk.old) (D.faults disk.old))
-        (disk_seen (D.blocks disk.new) (D.plan disk.new) (D.faults disk.new))) }
-    ensures sink { IsUsed (K.seen out.old).device (K.seen out.new).device (is_sink_failed result) }
-    ensures same_size { D.block_count disk.new ≡ size }
+    requires { CanTake (D.seen disk.old).size 1 reader.old }
+    ensures within { IsSessionWithin (D.seen disk.new).size reader.new.session }
+    ensures fed { FeedsOrStops (place keys.now (D.seen disk.old).size) (byte ∷ [])
+        (moment reader.old (K.seen out.old) (D.seen disk.old))
+        (moment reader.new (K.seen out.new) (D.seen disk.new)) result }
 {
     match reader.line.push(byte) {
         Fed::More => Ok(()),
-        Fed::Line => end_line(alloc, keys, reader, size, out, disk),
+        Fed::Line => end_line(alloc, keys, reader, out, disk),
         Fed::TooLong => end_long(reader, byte, out),
     }
 }
@@ -197,27 +158,14 @@ fn feed<B: Policy, K: Sink, D: Disk>(
     keys: &Keys,
     reader: &mut ScriptRun<B>,
     bytes: &[u8],
-    size: u32,
     out: &mut K,
     disk: &mut D,
 ) -> Result<(), Stop>
-    requires lines { reader.old.session.lines + length bytes.now < 2 ^ 32 - 2 }
-    requires within { IsSessionWithin size reader.old.session }
-    requires short { length reader.old.line ≤ LINE_BYTES }
-    requires disk { D.block_count disk.old ≡ size }
-    ensures within { IsSessionWithin size reader.new.session }
-    ensures contents { MatchResult result
-        (λ _. Feeds (place keys.now size) (seen_of reader.old.session)
-        (seen_of reader.new.session) reader.old.line reader.new.line bytes.now (K.seen out.old).got
-        (K.seen out.new).got
-        (disk_seen (D.blocks disk.old) (D.plan disk.old) (D.faults disk.old))
-        (disk_seen (D.blocks disk.new) (D.plan disk.new) (D.faults disk.new)))
-        (StopsAt (place keys.now size) (StandsFor (seen_of reader.old.session) (D.blocks disk.old))
-        (lines_after reader.old.line bytes.now) (K.seen out.old).got (K.seen out.new).got
-        (disk_seen (D.blocks disk.old) (D.plan disk.old) (D.faults disk.old))
-        (disk_seen (D.blocks disk.new) (D.plan disk.new) (D.faults disk.new))) }
-    ensures sink { IsUsed (K.seen out.old).device (K.seen out.new).device (is_sink_failed result) }
-    ensures same_size { D.block_count disk.new ≡ size }
+    requires { CanTake (D.seen disk.old).size (length bytes.now) reader.old }
+    ensures within { IsSessionWithin (D.seen disk.new).size reader.new.session }
+    ensures fed { FeedsOrStops (place keys.now (D.seen disk.old).size) bytes.now
+        (moment reader.old (K.seen out.old) (D.seen disk.old))
+        (moment reader.new (K.seen out.new) (D.seen disk.new)) result }
 {
     let mut at = 0;
     while at < bytes.len() {
@@ -225,7 +173,7 @@ fn feed<B: Policy, K: Sink, D: Disk>(
         if at == bytes.len() {
             continue;
         }
-        if let Err(stop) = take_byte(alloc, keys, reader, bytes[at], size, out, disk) {
+        if let Err(stop) = take_byte(alloc, keys, reader, bytes[at], out, disk) {
             return Err(stop);
         }
         at += 1;
@@ -236,11 +184,7 @@ fn feed<B: Policy, K: Sink, D: Disk>(
 /// Writes the last lines of a run, which ends with this status.
 fn write_last<B: Policy, K: Sink>(reader: &ScriptRun<B>, status: u8, out: &mut K) -> u8
     requires { (status ≡ 0) ⊎ (status ≡ 2) }
-    ensures done { result ≢ 4 → (result ≡ status)
-        × Appends (K.seen out.old).got (K.seen out.new).got reader.now.out.lines }
-    ensures broken { result ≡ 4 → AppendsPart (K.seen out.old).got (K.seen out.new).got reader.now.out.lines }
-    ensures statuses { (result ≡ 0) ⊎ (result ≡ 2) ⊎ (result ≡ 4) }
-    ensures sink { IsUsed (K.seen out.old).device (K.seen out.new).device (result == 4) }
+    ensures { WritesLast reader.now.out.lines status (K.seen out.old) (K.seen out.new) result }
 {
     match write_all(out, reader.out.lines.as_slice()) {
         Ok(()) => status,
@@ -253,13 +197,8 @@ fn write_last<B: Policy, K: Sink>(reader: &ScriptRun<B>, status: u8, out: &mut K
 fn finish<B: Policy, K: Sink>(reader: &mut ScriptRun<B>, out: &mut K) -> u8
     requires lines { reader.old.session.lines < 2 ^ 32 - 2 }
     requires within { (size : ℕ) × IsSessionWithin size reader.old.session }
-    ensures done { result ≢ 4 → (result ≡ last_status reader.old.line)
-        × Appends (K.seen out.old).got (K.seen out.new).got
-        (last_bytes (seen_of reader.old.session) reader.old.line) }
-    ensures broken { result ≡ 4 → AppendsPart (K.seen out.old).got (K.seen out.new).got
-        (last_bytes (seen_of reader.old.session) reader.old.line) }
-    ensures statuses { (result ≡ 0) ⊎ (result ≡ 2) ⊎ (result ≡ 4) }
-    ensures sink { IsUsed (K.seen out.old).device (K.seen out.new).device (result == 4) }
+    ensures { WritesLast (last_bytes (seen_of reader.old.session) reader.old.line)
+        (last_status reader.old.line) (K.seen out.old) (K.seen out.new) result }
 {
     if reader.line.line().is_empty() {
         reader.session.left(&mut reader.out);
@@ -291,28 +230,23 @@ pub fn run<B: Policy, S: Source, K: Sink, D: Disk>(
     disk: &mut D,
 ) -> u8
     requires begun { IsBegun (seen_of reader.old.session) }
-    requires within { IsSessionWithin (D.block_count disk.old) reader.old.session }
+    requires within { IsSessionWithin (D.seen disk.old).size reader.old.session }
     requires line { reader.old.line ≡ [] }
     requires room { 0 < length buf.old }
-    ensures ran { result ≢ 4 → result ≢ 5 →
-        Ran (place keys.now (D.block_count disk.old)) (S.seen src.old) (S.seen src.new) (K.seen out.old)
-        (K.seen out.new)
-        (disk_seen (D.blocks disk.old) (D.plan disk.old) (D.faults disk.old))
-        (disk_seen (D.blocks disk.new) (D.plan disk.new) (D.faults disk.new)) result }
-    ensures broke { result ≡ 4 → Broke (place keys.now (D.block_count disk.old)) (S.seen src.old)
-        (S.seen src.new) (K.seen out.old) (K.seen out.new)
-        (disk_seen (D.blocks disk.old) (D.plan disk.old) (D.faults disk.old))
-        (disk_seen (D.blocks disk.new) (D.plan disk.new) (D.faults disk.new)) }
-    ensures lacked { result ≡ 5 → Lacked (place keys.now (D.block_count disk.old)) (S.seen src.old)
-        (S.seen src.new) (K.seen out.old) (K.seen out.new)
-        (disk_seen (D.blocks disk.old) (D.plan disk.old) (D.faults disk.old))
-        (disk_seen (D.blocks disk.new) (D.plan disk.new) (D.faults disk.new)) }
+    ensures ran { result ≢ 4 → result ≢ 5 → Ran (place keys.now (D.seen disk.old).size)
+        (devices (S.seen src.old) (K.seen out.old) (D.seen disk.old))
+        (devices (S.seen src.new) (K.seen out.new) (D.seen disk.new)) result }
+    ensures broke { result ≡ 4 → Broke (place keys.now (D.seen disk.old).size)
+        (devices (S.seen src.old) (K.seen out.old) (D.seen disk.old))
+        (devices (S.seen src.new) (K.seen out.new) (D.seen disk.new)) }
+    ensures lacked { result ≡ 5 → Lacked (place keys.now (D.seen disk.old).size)
+        (devices (S.seen src.old) (K.seen out.old) (D.seen disk.old))
+        (devices (S.seen src.new) (K.seen out.new) (D.seen disk.new)) }
     ensures statuses { (result ≡ 0) ⊎ (result ≡ 2) ⊎ (result ≡ 3) ⊎ (result ≡ 4) ⊎ (result ≡ 5)
         ⊎ (result ≡ 7) }
     ensures source { IsUsed (S.seen src.old).device (S.seen src.new).device (result == 3) }
     ensures sink { IsUsed (K.seen out.old).device (K.seen out.new).device (result == 4) }
 {
-    let size = disk.size();
     let mut left = SCRIPT_BYTES + 1;
     while left > 0 {
         let room = left.min(buf.len());
@@ -322,7 +256,7 @@ pub fn run<B: Policy, S: Source, K: Sink, D: Disk>(
             Ok(n) => {
                 let script = n.min(left - 1);
                 left -= n;
-                if let Err(stop) = feed(alloc, keys, reader, &buf[..script], size, out, disk) {
+                if let Err(stop) = feed(alloc, keys, reader, &buf[..script], out, disk) {
                     return status_of(stop);
                 }
                 if reader.session.refused {

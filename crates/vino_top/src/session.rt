@@ -1,12 +1,11 @@
 //! How a script runs, line by line.
 
 ghost use Rattle.std.specs.Prelude.{◌≡◌, ℕ, ◌+◌, ◌<◌, ◌≤◌, ◌-◌, ◌++◌, ◌^◌, true, false, List, [], length, map, codes, decimal, slice_index_or, None, Ok, Err, IfOk, OnOk, OnErr};
-ghost use Rattle.disk_log.specs.Seen.{DiskSeen, disk_seen};
+ghost use Rattle.vino_base.specs.Disks.{DiskSeen};
 ghost use Rattle.kernel_model.specs.declared.Keys.{Keys};
 ghost use Rattle.kernel_model.specs.Bare.{event_with};
 ghost use Rattle.kernel_model.specs.Objects.{at};
 ghost use Rattle.kernel_model.specs.Text.{line, spaced};
-ghost use Rattle.kernel_model.specs.Opening.{opening_policy};
 ghost use Rattle.kernel_model.specs.Script.{Happens, Boot, Loads, Raw, Unfinished};
 ghost use Rattle.kernel_model.specs.Session.{fault_text};
 ghost use Rattle.script_text.specs.Answers.{entry_seen, SetsWithin};
@@ -18,10 +17,9 @@ ghost use Rattle.kernel_steps.specs.Views.{placed_of, IsRunning, HasAbstraction}
 ghost use Rattle.placed_laws.specs.Stands as kernels;
 ghost use Rattle.kernel_core.specs.declared.images.ImageRefusal.TheVariants.{Unloaded};
 ghost use Rattle.kernel_core.specs.AddedImages.{slot_refused, has_memory, image_said, ImageIsAdded};
-ghost use Rattle.vino_top.specs.Bounds.{IsSessionWithin};
-ghost use Rattle.graft_points.specs.Shelf.{IsShelf, pol_of, first_choice};
+ghost use Rattle.vino_top.specs.Bounds.{IsStock, IsSessionWithin, IsOnLine};
 ghost use Rattle.vino_top.specs.Standing.{seen_of, IsBegun, last_bytes, code_seen};
-ghost use Rattle.vino_top.specs.Run.{Place, place, LoadsFree, WantsAt, RunsLine, RunsEntry, boot_line, left_in};
+ghost use Rattle.vino_top.specs.Run.{Place, place, LoadsFree, WantsAt, RunsLine, RunsEntry, LeavesText, boot_line, left_in};
 
 use crate::AllCalls;
 use crate::lines::Lines;
@@ -62,8 +60,7 @@ impl Buffers {
 
     /// Forgets what the last line left.
     fn clear(&mut self)
-        ensures notes { self.new.trace.notes ≡ [] }
-        ensures lines { self.new.lines ≡ [] }
+        ensures { LeavesText (left_in self.new) [] }
     {
         self.trace.notes.clear();
         self.lines.clear();
@@ -90,8 +87,7 @@ pub struct Session<B: Policy> {
 impl<B: Policy> Session<B> {
     /// Before the first line, with the stock policies.
     pub fn new(alloc: Global, shelf: Vec<B>) -> Result<Session<B>, NoMemory>
-        requires shelf { IsShelf (map B.seen shelf.items) }
-        requires stock { pol_of (map B.seen shelf.items) first_choice ≡ opening_policy }
+        requires { IsStock (map B.seen shelf.items) }
         ensures within { IfOk result (λ s. (size : ℕ) → IsSessionWithin size s) }
         ensures begun { IfOk result (λ s. IsBegun (seen_of s)) }
     {
@@ -117,8 +113,7 @@ impl<B: Policy> Session<B> {
         }
     }
 
-    /// Runs the next line, under the keys of the images and over a disk of so many blocks. What it
-    /// writes stands in the buffers.
+    /// Runs the next line, under the keys of the images. What it writes stands in the buffers.
     ///
     /// Memory is wanted for an image whose slot is in range and free, and for nothing else; where
     /// there is none, nothing changes.
@@ -127,25 +122,19 @@ impl<B: Policy> Session<B> {
         alloc: Global,
         keys: &Keys,
         text: &[u8],
-        size: u32,
         disk: &mut D,
         out: &mut Buffers,
     ) -> Result<(), NoMemory>
         requires room { self.old.lines < 2 ^ 32 - 2 }
-        requires within { IsSessionWithin size self.old }
+        requires within { IsSessionWithin (D.seen disk.old).size self.old }
         requires short { length text.now ≤ 65536 }
-        requires disk { D.block_count disk.old ≡ size }
-        ensures within { IsSessionWithin size self.new }
+        ensures within { IsSessionWithin (D.seen disk.new).size self.new }
         ensures counted { self.new.lines ≤ self.old.lines + 1 }
-        ensures same_size { D.block_count disk.new ≡ size }
-        ensures ok { OnOk result (RunsLine (place keys.now size) text.now (seen_of self.old)
-            (seen_of self.new) (disk_seen (D.blocks disk.old) (D.plan disk.old) (D.faults disk.old))
-            (disk_seen (D.blocks disk.new) (D.plan disk.new) (D.faults disk.new))
+        ensures ok { OnOk result (RunsLine (place keys.now (D.seen disk.old).size) text.now
+            (seen_of self.old) (seen_of self.new) (D.seen disk.old) (D.seen disk.new)
             (left_in out.new)) }
         ensures err { OnErr result ((self.new ≡ self.old) × WantsAt (seen_of self.old) text.now) }
-        ensures same_disk { OnErr result (disk_seen (D.blocks disk.new) (D.plan disk.new)
-            (D.faults disk.new) ≡ disk_seen (D.blocks disk.old) (D.plan disk.old)
-            (D.faults disk.old)) }
+        ensures same_disk { OnErr result (D.seen disk.new ≡ D.seen disk.old) }
     {
         out.clear();
         if self.refused {
@@ -158,7 +147,7 @@ impl<B: Policy> Session<B> {
             }
             Ok(entry) => {
                 self.lines += 1;
-                if let Err(lacks) = self.run_entry(alloc, keys, &entry, size, disk, out) {
+                if let Err(lacks) = self.run_entry(alloc, keys, &entry, disk, out) {
                     // A line that wanted memory isn't counted.
                     self.lines -= 1;
                     return Err(lacks);
@@ -187,11 +176,10 @@ impl<B: Policy> Session<B> {
 
     /// Refuses the line: its S code is this.
     fn refuse(&mut self, code: u8, out: &mut Buffers)
-        requires empty { out.old.lines ≡ [] }
+        requires { LeavesText (left_in out.old) [] }
         ensures state { self.new ≡ record self.old { refused = true } }
-        ensures notes { out.new.trace.notes ≡ out.old.trace.notes }
-        ensures text { out.new.lines
-            ≡ line (codes "script" ++ spaced self.old.lines ++ codes " S" ++ decimal code) }
+        ensures text { LeavesText (left_in out.new)
+            (line (codes "script" ++ spaced self.old.lines ++ codes " S" ++ decimal code)) }
     {
         self.refused = true;
         print_fault(self.lines, code, &mut out.text);
@@ -205,31 +193,22 @@ impl<B: Policy> Session<B> {
         alloc: Global,
         keys: &Keys,
         entry: &Entry,
-        size: u32,
         disk: &mut D,
         out: &mut Buffers,
     ) -> Result<(), NoMemory>
-        requires room { self.old.lines < 2 ^ 32 - 1 }
-        requires fresh { self.old.events < self.old.lines }
-        requires within { IsSessionWithin size self.old }
-        requires disk { D.block_count disk.old ≡ size }
+        requires counted { IsOnLine (D.seen disk.old).size self.old }
         requires limits { SetsWithin (Ok entry.now) }
-        requires place { entry_seen entry.now out.old.bytes.items ≡ Boot → self.old.booted ≡ false }
-        requires no_notes { out.old.trace.notes ≡ [] }
-        requires empty { out.old.lines ≡ [] }
-        ensures within { IsSessionWithin size self.new }
+        requires place { entry_seen entry.now out.old.bytes.items ≡ Boot →
+            self.old.booted ≡ false }
+        requires empty { LeavesText (left_in out.old) [] }
+        ensures within { IsSessionWithin (D.seen disk.new).size self.new }
         ensures counted { self.new.lines ≡ self.old.lines }
-        ensures same_size { D.block_count disk.new ≡ size }
-        ensures runs { OnOk result (RunsEntry (place keys.now size) (entry_seen entry.now out.old.bytes.items)
-            (seen_of self.old) (seen_of self.new)
-            (disk_seen (D.blocks disk.old) (D.plan disk.old) (D.faults disk.old))
-            (disk_seen (D.blocks disk.new) (D.plan disk.new) (D.faults disk.new))
-            (left_in out.new)) }
+        ensures runs { OnOk result (RunsEntry (place keys.now (D.seen disk.old).size)
+            (entry_seen entry.now out.old.bytes.items) (seen_of self.old) (seen_of self.new)
+            (D.seen disk.old) (D.seen disk.new) (left_in out.new)) }
         ensures err { OnErr result ((self.new ≡ self.old)
             × LoadsFree (seen_of self.old) (entry_seen entry.now out.old.bytes.items)) }
-        ensures same_disk { OnErr result (disk_seen (D.blocks disk.new) (D.plan disk.new)
-            (D.faults disk.new) ≡ disk_seen (D.blocks disk.old) (D.plan disk.old)
-            (D.faults disk.old)) }
+        ensures same_disk { OnErr result (D.seen disk.new ≡ D.seen disk.old) }
     {
         match entry {
             Entry::Blank => Ok(()),
@@ -246,11 +225,11 @@ impl<B: Policy> Session<B> {
                 Ok(())
             }
             Entry::Boot => {
-                self.boot(size, disk, out);
+                self.boot(disk, out);
                 Ok(())
             }
             Entry::Happens(event) => {
-                self.happen(*event, size, disk, out);
+                self.happen(*event, disk, out);
                 Ok(())
             }
             Entry::Image(slot, bytes) => self.image(alloc, keys, *slot, bytes, out),
@@ -262,18 +241,14 @@ impl<B: Policy> Session<B> {
     }
 
     /// The kernel begins.
-    fn boot<D: Disk>(&mut self, size: u32, disk: &mut D, out: &mut Buffers)
+    fn boot<D: Disk>(&mut self, disk: &mut D, out: &mut Buffers)
         requires first { self.old.booted ≡ false }
-        requires within { IsSessionWithin size self.old }
-        requires disk { D.block_count disk.old ≡ size }
-        requires no_notes { out.old.trace.notes ≡ [] }
-        requires empty { out.old.lines ≡ [] }
-        ensures within { IsSessionWithin size self.new }
+        requires within { IsSessionWithin (D.seen disk.old).size self.old }
+        requires empty { LeavesText (left_in out.old) [] }
+        ensures within { IsSessionWithin (D.seen disk.new).size self.new }
         ensures counted { self.new.lines ≡ self.old.lines }
-        ensures same_size { D.block_count disk.new ≡ size }
-        ensures runs { (keys : Keys) → RunsEntry (place keys size) Boot (seen_of self.old)
-            (seen_of self.new) (disk_seen (D.blocks disk.old) (D.plan disk.old) (D.faults disk.old))
-            (disk_seen (D.blocks disk.new) (D.plan disk.new) (D.faults disk.new))
+        ensures runs { (keys : Keys) → RunsEntry (place keys (D.seen disk.old).size) Boot
+            (seen_of self.old) (seen_of self.new) (D.seen disk.old) (D.seen disk.new)
             (left_in out.new) }
     {
         let note = self.kernel.boot(self.setup, disk);
@@ -295,7 +270,8 @@ impl<B: Policy> Session<B> {
         requires abstraction { HasAbstraction all_calls (placed_of self.old.kernel.running) }
         ensures memory { IfOk result (λ answer. has_memory answer ≡ true) }
         ensures added { IfOk result (λ answer. (k : Abstract) →
-            kernels.StandsFor all_calls (placed_of self.old.kernel.running) k → IsAtRest all_calls k →
+            kernels.StandsFor all_calls (placed_of self.old.kernel.running) k →
+            IsAtRest all_calls k →
             ImageIsAdded all_calls slot (images.load keys.now bytes.now) k
             (placed_of self.new.kernel.running) (image_said answer)) }
         ensures err { OnErr result ((self.new ≡ self.old)
@@ -326,11 +302,8 @@ impl<B: Policy> Session<B> {
         bytes: &ImageBytes,
         out: &mut Buffers,
     ) -> Result<(), NoMemory>
-        requires room { self.old.lines < 2 ^ 32 - 1 }
-        requires fresh { self.old.events < self.old.lines }
-        requires within { (size : ℕ) × IsSessionWithin size self.old }
-        requires no_notes { out.old.trace.notes ≡ [] }
-        requires empty { out.old.lines ≡ [] }
+        requires counted { (size : ℕ) × IsOnLine size self.old }
+        requires empty { LeavesText (left_in out.old) [] }
         ensures within { (size : ℕ) → IsSessionWithin size self.old →
             IsSessionWithin size self.new }
         ensures counted { self.new.lines ≡ self.old.lines }
@@ -377,10 +350,9 @@ impl<B: Policy> Session<B> {
     /// An image line is counted as an event, and its answer is written.
     fn answer_image(&mut self, out: &mut Buffers)
         requires room { self.old.events < 2 ^ 32 - 1 }
-        requires empty { out.old.lines ≡ [] }
+        requires empty { LeavesText (left_in out.old) [] }
         ensures state { self.new ≡ record self.old { events = self.old.events + 1 } }
-        ensures notes { out.new.trace.notes ≡ out.old.trace.notes }
-        ensures text { out.new.lines ≡ out.old.text }
+        ensures text { LeavesText (left_in out.new) out.old.text }
     {
         self.events += 1;
         out.lines.add(&out.text);
@@ -388,11 +360,8 @@ impl<B: Policy> Session<B> {
 
     /// The rows that show the kernel's whole state, as an event.
     fn raw(&mut self, out: &mut Buffers)
-        requires room { self.old.lines < 2 ^ 32 - 1 }
-        requires fresh { self.old.events < self.old.lines }
-        requires no_notes { out.old.trace.notes ≡ [] }
-        requires empty { out.old.lines ≡ [] }
-        requires within { (size : ℕ) × IsSessionWithin size self.old }
+        requires counted { (size : ℕ) × IsOnLine size self.old }
+        requires empty { LeavesText (left_in out.old) [] }
         ensures within { (size : ℕ) → IsSessionWithin size self.old →
             IsSessionWithin size self.new }
         ensures counted { self.new.lines ≡ self.old.lines }
@@ -407,22 +376,14 @@ impl<B: Policy> Session<B> {
     }
 
     /// An event of the kernel.
-    fn happen<D: Disk>(&mut self, event: BareEvent, size: u32, disk: &mut D, out: &mut Buffers)
-        requires room { self.old.lines < 2 ^ 32 - 1 }
-        requires fresh { self.old.events < self.old.lines }
-        requires within { IsSessionWithin size self.old }
-        requires disk { D.block_count disk.old ≡ size }
-        requires no_notes { out.old.trace.notes ≡ [] }
-        requires empty { out.old.lines ≡ [] }
-        ensures within { IsSessionWithin size self.new }
+    fn happen<D: Disk>(&mut self, event: BareEvent, disk: &mut D, out: &mut Buffers)
+        requires counted { IsOnLine (D.seen disk.old).size self.old }
+        requires empty { LeavesText (left_in out.old) [] }
+        ensures within { IsSessionWithin (D.seen disk.new).size self.new }
         ensures counted { self.new.lines ≡ self.old.lines }
-        ensures same_size { D.block_count disk.new ≡ size }
-        ensures runs { (keys : Keys) → RunsEntry (place keys size)
-            (Happens (event_with event out.old.bytes.items))
-            (seen_of self.old) (seen_of self.new)
-            (disk_seen (D.blocks disk.old) (D.plan disk.old) (D.faults disk.old))
-            (disk_seen (D.blocks disk.new) (D.plan disk.new) (D.faults disk.new))
-            (left_in out.new) }
+        ensures runs { (keys : Keys) → RunsEntry (place keys (D.seen disk.old).size)
+            (Happens (event_with event out.old.bytes.items)) (seen_of self.old) (seen_of self.new)
+            (D.seen disk.old) (D.seen disk.new) (left_in out.new) }
     {
         if self.booted {
             self.events += 1;

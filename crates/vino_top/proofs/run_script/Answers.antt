@@ -1,7 +1,8 @@
 -- Without memory nothing was read, written or called.
-use Rattle.std.proofs.Common.{inl, refl}
-use Rattle.vino_top.proofs.EndLemmas.{kept}
+use Rattle.vino_top.specs.Run.{devices}
+use Rattle.vino_top.proofs.EndLemmas.{no_memory}
 use Rattle.vino_top.proofs.run_script.Goals as goal
 
-pub returns-in-Err-clause-memory : goal.returns-in-Err-clause-memory
-returns-in-Err-clause-memory g c = λ five. inl (kept (g.S.Source.seen c.args.src.now).rest, kept (g.K.Sink.seen c.args.out.now).got, refl)
+pub returns-in-Err : goal.returns-in-Err
+returns-in-Err g c =
+    no_memory _ (devices (g.S.Source.seen c.args.src.now) (g.K.Sink.seen c.args.out.now) (g.D.Disk.seen c.args.disk.now))

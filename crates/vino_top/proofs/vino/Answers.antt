@@ -7,14 +7,15 @@ use Rattle.vino_top.proofs.vino.Goals as goal
 known_image : (status : ℕ) → (status ≡ 0) ⊎ (status ≡ 2) ⊎ (status ≡ 3) ⊎ (status ≡ 4) ⊎ (status ≡ 5) ⊎ (status ≡ 6) ⊎ (status ≡ 7) → status ≢ 1
 known_image status cases = λ is. grind (arith, cases, is)
 
+pub run_script-requires : goal.run_script-requires
+run_script-requires g c = record { shelf = c.requires.shelf; stock = c.requires.stock }
+
+pub demo-requires : goal.demo-requires
+demo-requires g c = record { shelf = c.requires.shelf; stock = c.requires.stock }
+
 pub returns-in-Run-clause-does : goal.returns-in-Run-clause-does
 returns-in-Run-clause-does g c =
-    rw (sym c.read_words.ensures ∙ c.in-Run.is) (record {
-      known = known_run c.run_script.result c.run_script.ensures.statuses;
-      ran = c.run_script.ensures.ran;
-      broke = c.run_script.ensures.broke;
-      memory = c.run_script.ensures.memory;
-    })
+    rw (sym c.read_words.ensures ∙ c.in-Run.is) c.run_script.ensures.does
 
 pub returns-in-Asm-clause-does : goal.returns-in-Asm-clause-does
 returns-in-Asm-clause-does g c =
@@ -73,7 +74,7 @@ returns-in-Demo-clause-does g c =
         | inl done ↦ inl (done, demo.ran done)
         | inr others ↦ inr (elim others [
           | inl broken ↦ inl (broken, demo.broke broken)
-          | inr lacking ↦ inr (lacking, (demo.memory lacking).0, (demo.memory lacking).1)
+          | inr lacking ↦ inr (lacking, demo.memory lacking)
         ])
       ],
     )

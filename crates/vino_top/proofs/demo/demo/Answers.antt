@@ -1,6 +1,9 @@
 -- Without memory before the first line nothing has changed.
-use Rattle.std.proofs.Common.{inr}
+use Rattle.vino_top.proofs.DemoLemmas.{nothing_run}
 use Rattle.vino_top.proofs.demo.demo.Goals as goal
 
-pub returns-in-Ok-begin-clause-memory : goal.returns-in-Ok-begin-clause-memory
-returns-in-Ok-begin-clause-memory g c = λ is. let lacked = c.run_demo.ensures.memory is in (lacked.0, inr lacked.1)
+pub returns-in_default : goal.returns-in_default
+returns-in_default g c = nothing_run c.args.n (g.K.Sink.seen c.args.sink.now) (g.D.Disk.seen c.args.disk.now)
+
+pub returns-in-Err : goal.returns-in-Err
+returns-in-Err g c = nothing_run c.args.n (g.K.Sink.seen c.args.sink.now) (g.D.Disk.seen c.args.disk.now)

@@ -1,6 +1,5 @@
 -- Some lines were run, and the others are to come.
-use Rattle.std.proofs.Common.{◌≡◌, length}
-use Rattle.disk_log.specs.Seen.{disk_seen}
+use Rattle.std.proofs.Common.{length}
 use Rattle.vino_top.specs.Standing.{seen_of}
 use Rattle.vino_top.specs.Bounds.{IsSessionWithin}
 use Rattle.vino_top.specs.Demos.{demo_place, DemoReached}
@@ -9,11 +8,10 @@ use Rattle.vino_top.proofs.demo.run_all.Given as goal
 abbrev pub invariant-lines : goal.invariant-lines
 invariant-lines g l =
     record {
-      reached : DemoReached (demo_place l.size) l.fn.lines l.lines (seen_of l.fn.run.session) (seen_of l.run.session)
-          (disk_seen (g.D.Disk.blocks l.fn.disk) (g.D.Disk.plan l.fn.disk) (g.D.Disk.faults l.fn.disk)) (disk_seen (g.D.Disk.blocks l.disk) (g.D.Disk.plan l.disk) (g.D.Disk.faults l.disk))
+      reached : DemoReached (demo_place (g.D.Disk.seen l.fn.disk).size) l.fn.lines l.lines (seen_of l.fn.run.session) (seen_of l.run.session)
+          (g.D.Disk.seen l.fn.disk) (g.D.Disk.seen l.disk)
           l.run.tally;
-      within : IsSessionWithin l.size l.run.session;
-      same_size : g.D.Disk.block_count l.disk ≡ l.size;
+      within : IsSessionWithin (g.D.Disk.seen l.disk).size l.run.session;
     }
 
 abbrev pub decreases-lines : goal.decreases-lines

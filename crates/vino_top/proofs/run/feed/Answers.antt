@@ -2,17 +2,16 @@
 use Rattle.vino_top.specs.Run.{place}
 use Rattle.vino_top.specs.Standing.{seen_of}
 use Rattle.vino_base.specs.Streams.{not_used, used_then}
-use Rattle.std.proofs.Common.{arith, false, ◌+◌, ◌<◌, length}
-use Rattle.vino_top.proofs.RunLemmas.{fed_from, fed_next, fed_none, fed_short, place_within, stops_next}
+use Rattle.std.proofs.Common.{arith, false, ◌+◌, ◌<◌, ◌≤◌, ◌≡◌, length, length-take, take}
+use Rattle.vino_top.proofs.RunLemmas.{fed_from, fed_next, fed_none, fed_short, fed_whole, place_within, stops_next}
 use Rattle.vino_top.proofs.run.feed.Goals as goal
 
 pub loop-at-init : goal.loop-at-init
 loop-at-init g c =
     record {
-      fed = fed_none (place c.args.keys.now c.args.size) (seen_of c.args.reader.now.session) c.args.reader.now.line _ _;
+      fed = fed_none (place c.args.keys.now (g.D.Disk.seen c.args.disk.now).size) (seen_of c.args.reader.now.session) c.args.reader.now.line _ _;
       within = c.requires.within;
       sink = not_used _;
-      same_size = c.requires.disk;
       inside = omega arith;
     }
 
@@ -24,23 +23,34 @@ loop-at-preserved-then-at-bytes g c =
       fed = fed_from _ _ _ _ _ _ c.args.bytes.now _ c.loop-at.at p.result _ _ _ _ c.behind.ensures i.fed p.ensures.no_line p.ensures.line;
       within = i.within;
       sink = i.sink;
-      same_size = i.same_size;
       inside = omega (arith, c.if-at-bytes.true);
     }
 
-pub take_byte-requires-clause-short : goal.take_byte-requires-clause-short
-take_byte-requires-clause-short g c =
-    let p = c.put_plain-at in
-    fed_short _ _ _ _ _ _ _ _ _ _ (fed_from _ _ _ _ _ _ c.args.bytes.now _ c.loop-at.at p.result _ _ _ _ c.behind.ensures c.loop-at.invariant.fed p.ensures.no_line p.ensures.line) c.requires.short
-
-pub returns-in-Err-clause-contents : goal.returns-in-Err-clause-contents
-returns-in-Err-clause-contents g c =
+pub take_byte-requires : goal.take_byte-requires
+take_byte-requires g c =
+    let i = c.loop-at.invariant in
     let p = c.put_plain-at in
     let bytes = c.args.bytes.now in
-    let within = place_within bytes _ c.loop-at.at p.result c.behind.ensures p.ensures.most c.loop-at.invariant.inside in
+    let within = place_within bytes _ c.loop-at.at p.result c.behind.ensures p.ensures.most i.inside in
+    record {
+      lines = omega (arith, i.fed.lines, c.requires.lines, length-take c.loop-at.at bytes, within, c.if-at-bytes.false);
+      within = i.within;
+      short = fed_short _ _ _ _ _ _ _ _ _ _ (fed_from _ _ _ _ _ _ bytes _ c.loop-at.at p.result _ _ _ _ c.behind.ensures i.fed p.ensures.no_line p.ensures.line) c.requires.short;
+    }
+
+pub returns-in-Err-clause-fed : goal.returns-in-Err-clause-fed
+returns-in-Err-clause-fed g c =
+    let i = c.loop-at.invariant in
+    let p = c.put_plain-at in
+    let bytes = c.args.bytes.now in
+    let within = place_within bytes _ c.loop-at.at p.result c.behind.ensures p.ensures.most i.inside in
     let below : c.loop-at.at + p.result < length bytes = omega (arith, within, c.if-at-bytes.false) in
-    stops_next _ _ _ _ _ bytes (c.loop-at.at + p.result) _ _ _ _ _ _ c.in-Err.stop below
-    (fed_from _ _ _ _ _ _ bytes _ c.loop-at.at p.result _ _ _ _ c.behind.ensures c.loop-at.invariant.fed p.ensures.no_line p.ensures.line) c.in-Err.ensures.contents
+    let size : (g.D.Disk.seen c.loop-at.disk).size ≡ (g.D.Disk.seen c.args.disk.now).size = i.fed.calls.size in
+    record {
+      contents = stops_next _ _ _ _ _ bytes (c.loop-at.at + p.result) _ _ _ _ _ _ c.in-Err.stop below
+          (fed_from _ _ _ _ _ _ bytes _ c.loop-at.at p.result _ _ _ _ c.behind.ensures i.fed p.ensures.no_line p.ensures.line) (rw size at c.in-Err.ensures.fed.contents);
+      sink = used_then i.sink c.in-Err.ensures.fed.sink;
+    }
 
 pub loop-at-preserved : goal.loop-at-preserved
 loop-at-preserved g c =
@@ -49,11 +59,18 @@ loop-at-preserved g c =
     let bytes = c.args.bytes.now in
     let within = place_within bytes _ c.loop-at.at p.result c.behind.ensures p.ensures.most i.inside in
     let below : c.loop-at.at + p.result < length bytes = omega (arith, within, c.if-at-bytes.false) in
+    let size : (g.D.Disk.seen c.loop-at.disk).size ≡ (g.D.Disk.seen c.args.disk.now).size = i.fed.calls.size in
     record {
       fed = fed_next _ _ _ _ _ _ _ bytes (c.loop-at.at + p.result) _ _ _ _ _ _ below
-          (fed_from _ _ _ _ _ _ bytes _ c.loop-at.at p.result _ _ _ _ c.behind.ensures i.fed p.ensures.no_line p.ensures.line) c.in_default.ensures.contents;
+          (fed_from _ _ _ _ _ _ bytes _ c.loop-at.at p.result _ _ _ _ c.behind.ensures i.fed p.ensures.no_line p.ensures.line) (rw size at c.in_default.ensures.fed.contents);
       within = c.take_byte.ensures.within;
-      sink = used_then {failed = false} i.sink c.in_default.ensures.sink;
-      same_size = c.take_byte.ensures.same_size;
+      sink = used_then {failed = false} i.sink c.in_default.ensures.fed.sink;
       inside = omega (arith, below);
+    }
+
+pub returns-clause-fed : goal.returns-clause-fed
+returns-clause-fed g c =
+    record {
+      contents = fed_whole _ _ _ _ _ c.args.bytes.now c.loop-at.at _ _ _ _ (omega (arith, c.loop-at-test.false)) c.loop-at.invariant.fed;
+      sink = c.loop-at.invariant.sink;
     }

@@ -1,7 +1,6 @@
 -- What was taken so far was fed, and no line was refused.
 use Rattle.vino_top.specs.Standing.{seen_of}
 use Rattle.std.proofs.Common.{◌≡◌, ◌<◌, length, false}
-use Rattle.disk_log.specs.Seen.{disk_seen}
 use Rattle.vino_base.specs.Streams.{IsUsed}
 use Rattle.vino_top.specs.Run.{place, Reached}
 use Rattle.vino_top.specs.Bounds.{IsSessionWithin}
@@ -10,15 +9,14 @@ use Rattle.vino_top.proofs.run.run.Given as goal
 abbrev pub invariant-loop-left : goal.invariant-loop-left
 invariant-loop-left g l =
     record {
-      reached : Reached (place l.keys l.size) (seen_of l.fn.reader.session) (seen_of l.reader.session) (g.S.Source.seen l.fn.src).rest (g.S.Source.seen l.src).rest (g.K.Sink.seen l.fn.out).got (g.K.Sink.seen l.out).got
-          (disk_seen (g.D.Disk.blocks l.fn.disk) (g.D.Disk.plan l.fn.disk) (g.D.Disk.faults l.fn.disk)) (disk_seen (g.D.Disk.blocks l.disk) (g.D.Disk.plan l.disk) (g.D.Disk.faults l.disk))
+      reached : Reached (place l.keys (g.D.Disk.seen l.fn.disk).size) (seen_of l.fn.reader.session) (seen_of l.reader.session) (g.S.Source.seen l.fn.src).rest (g.S.Source.seen l.src).rest (g.K.Sink.seen l.fn.out).got (g.K.Sink.seen l.out).got
+          (g.D.Disk.seen l.fn.disk) (g.D.Disk.seen l.disk)
           l.reader.line l.left;
-      within : IsSessionWithin l.size l.reader.session;
+      within : IsSessionWithin (g.D.Disk.seen l.disk).size l.reader.session;
       going : l.reader.session.refused ≡ false;
       source : IsUsed (g.S.Source.seen l.fn.src).device (g.S.Source.seen l.src).device false;
       sink : IsUsed (g.K.Sink.seen l.fn.out).device (g.K.Sink.seen l.out).device false;
       room : 0 < length l.buf;
-      same_size : g.D.Disk.block_count l.disk ≡ l.size;
     }
 
 abbrev pub decreases-loop-left : goal.decreases-loop-left

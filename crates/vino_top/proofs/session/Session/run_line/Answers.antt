@@ -1,29 +1,37 @@
 -- A line is refused, or run for what it says.
 use Rattle.std.proofs.Common.{refl, ◌∙◌, ap, Ok, arith, ◌≡◌, ◌+◌, ◌-◌}
-use Rattle.disk_log.specs.Seen.{disk_seen}
 use Rattle.script_text.specs.Answers.{entry_seen}
 use Rattle.vino_top.specs.Run.{place}
 use Rattle.vino_top.specs.Standing.{seen_of}
 use Rattle.vino_top.proofs.PlaceLemmas.{boot_is_first}
 use Rattle.vino_top.proofs.SessionLemmas.{line_after_refusal, line_refused_as, line_entered}
-use Rattle.vino_top.proofs.ImageLemmas.{refused_later, wants_free}
+use Rattle.vino_top.proofs.ImageLemmas.{on_line, refused_later, wants_free}
 use Rattle.vino_top.proofs.session.Session.run_line.Goals as goal
 
 pub run_entry-requires-clause-place : goal.run_entry-requires-clause-place
 run_entry-requires-clause-place g c = λ boot.
     boot_is_first c.args.self.now.booted c.args.text.now (c.in-Ok.ensures.answer ∙ ap (λ e. Ok e) boot)
 
+pub run_entry-requires-clause-counted : goal.run_entry-requires-clause-counted
+run_entry-requires-clause-counted g c = on_line _ c.args.self.now c.requires.room c.requires.within
+
+pub run_entry-requires-clause-empty : goal.run_entry-requires-clause-empty
+run_entry-requires-clause-empty g c = c.clear.ensures
+
+pub refuse-requires : goal.refuse-requires
+refuse-requires g c = c.clear.ensures
+
 pub returns-in-Err-clause-ok : goal.returns-in-Err-clause-ok
 returns-in-Err-clause-ok g c =
-    line_refused_as (place c.args.keys.now c.args.size) (seen_of c.args.self.now) (seen_of c.refuse.new.self) c.args.text.now _ c.in-Err.fault c.fault_code.result
-    (disk_seen (g.D.Disk.blocks c.args.disk.now) (g.D.Disk.plan c.args.disk.now) (g.D.Disk.faults c.args.disk.now)) c.if-self.false
+    line_refused_as (place c.args.keys.now (g.D.Disk.seen c.args.disk.now).size) (seen_of c.args.self.now) (seen_of c.refuse.new.self) c.args.text.now _ c.in-Err.fault c.fault_code.result
+    (g.D.Disk.seen c.args.disk.now) c.if-self.false
     c.fault_code.ensures c.in-Err.ensures.answer (ap (λ s. seen_of s) c.refuse.ensures.state)
-    (record { bytes_are = c.refuse.ensures.text; no_notes = c.refuse.ensures.notes ∙ c.clear.ensures.notes })
+    c.refuse.ensures.text
 
 pub returns-in_default-clause-ok : goal.returns-in_default-clause-ok
 returns-in_default-clause-ok g c =
-    line_entered (place c.args.keys.now c.args.size) (seen_of c.args.self.now) (seen_of c.run_entry.new.self) c.args.text.now _ (entry_seen c.in-Ok.entry c.parse_line.new.bytes.items)
-    (disk_seen (g.D.Disk.blocks c.args.disk.now) (g.D.Disk.plan c.args.disk.now) (g.D.Disk.faults c.args.disk.now)) (disk_seen (g.D.Disk.blocks c.run_entry.new.disk) (g.D.Disk.plan c.run_entry.new.disk) (g.D.Disk.faults c.run_entry.new.disk))
+    line_entered (place c.args.keys.now (g.D.Disk.seen c.args.disk.now).size) (seen_of c.args.self.now) (seen_of c.run_entry.new.self) c.args.text.now _ (entry_seen c.in-Ok.entry c.parse_line.new.bytes.items)
+    (g.D.Disk.seen c.args.disk.now) (g.D.Disk.seen c.run_entry.new.disk)
     c.if-self.false c.in-Ok.ensures.answer c.in_default.ensures.runs
 
 pub returns-in-Err-run_entry-clause-err : goal.returns-in-Err-run_entry-clause-err
@@ -33,10 +41,10 @@ returns-in-Err-run_entry-clause-err g c =
 
 pub returns-then-self-clause-ok : goal.returns-then-self-clause-ok
 returns-then-self-clause-ok g c =
-    line_after_refusal (place c.args.keys.now c.args.size) (seen_of c.args.self.now) c.args.text.now _
-    (disk_seen (g.D.Disk.blocks c.args.disk.now) (g.D.Disk.plan c.args.disk.now) (g.D.Disk.faults c.args.disk.now)) c.if-self.true
-    (record { bytes_are = c.clear.ensures.lines; no_notes = c.clear.ensures.notes })
+    line_after_refusal (place c.args.keys.now (g.D.Disk.seen c.args.disk.now).size) (seen_of c.args.self.now) c.args.text.now _
+    (g.D.Disk.seen c.args.disk.now) c.if-self.true
+    c.clear.ensures
 
 pub returns-in-Err-clause-within : goal.returns-in-Err-clause-within
 returns-in-Err-clause-within g c =
-    refused_later c.args.size c.args.self.now c.refuse.new.self c.refuse.ensures.state c.requires.within
+    refused_later (g.D.Disk.seen c.args.disk.now).size c.args.self.now c.refuse.new.self c.refuse.ensures.state c.requires.within
