@@ -1,8 +1,9 @@
 -- Where words begin and end in a line, and what becomes of a byte of a line.
-use Rattle.std.specs.Prelude.{ℕ, Bool, true, false, cond, ◌==◌, nat_lt, List, [], ◌∷◌, ◌++◌, length, is_some, Option, Some, None, Result, Ok, Err}
+use Rattle.std.specs.Prelude.{ℕ, Bool, true, false, cond, ◌≡◌, ◌≤◌, ◌==◌, nat_lt, List, [], ◌∷◌, ◌++◌, length, take, is_some, Option, Some, None, Result, Ok, Err}
 use Rattle.std.specs.List.{position_or_len}
 use Rattle.kernel_model.specs.Bytes.{hex_value}
-use Rattle.kernel_model.specs.Script.{ScriptFault, BadWord, BadNumber, words_of, LINE_BYTES}
+use Rattle.kernel_model.specs.declared.Form.{Form}
+use Rattle.kernel_model.specs.Script.{ScriptFault, BadWord, BadNumber, words_of, number_said, is_bad_word, LINE_BYTES}
 use Rattle.script_text.specs.declared.line_buf.Fed.{Fed}
 use Rattle.script_text.specs.declared.line_buf.Fed.TheVariants.{More, Line, TooLong}
 use Rattle.script_text.specs.declared.words.Reading.{Reading}
@@ -17,11 +18,18 @@ abbrev pub words_left : List ℕ → List (List ℕ)
 words_left [] = []
 words_left (space ∷ text) = words_of text
 
--- what was read of words, with these numbers
-abbrev pub said : Reading → List ℕ → Result (List ℕ × List ℕ) ScriptFault
-said (reading.Said last) numbers = Ok (numbers, last.now)
-said reading.BadNumber numbers = Err BadNumber
-said reading.BadWord numbers = Err BadWord
+-- what was read of words, with these numbers and this last word
+abbrev pub said : Reading → (numbers last : List ℕ) → Result (List ℕ × List ℕ) ScriptFault
+said reading.Said numbers last = Ok (numbers, last)
+said reading.BadNumber numbers last = Err BadNumber
+said reading.BadWord numbers last = Err BadWord
+
+-- the first word of a text has one byte, and says this number
+pub record IsFirstNumber (form : Form) (text : List ℕ) (n : ℕ) : Type 0 where
+  pub some : 1 ≤ length text
+  pub one : 1 ≡ word_length text
+  pub good : is_bad_word form (take 1 text) ≡ false
+  pub says : number_said form (take 1 text) ≡ Some n
 
 -- the refusal of a line with a word that is no number, which is the lesser one
 abbrev pub failed : Bool → Result (List ℕ × List ℕ) ScriptFault

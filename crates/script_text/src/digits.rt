@@ -1,6 +1,6 @@
 //! Numbers, names and hex digits in words.
 
-ghost use Rattle.std.specs.Prelude.{◌≡◌, ◌≤◌, true, length};
+ghost use Rattle.std.specs.Prelude.{◌≡◌, ◌≤◌, length, cond, Some, None};
 ghost use Rattle.std.specs.List.{list_all};
 ghost use Rattle.kernel_model.specs.Bytes.{is_digit, is_name_byte, number_of, digits_value};
 ghost use Rattle.kernel_model.specs.Script.{name_word};
@@ -17,30 +17,28 @@ const DIGITS: usize = 10;
 pub fn read_number(word: &[u8]) -> Option<u32>
     ensures { result ≡ number_of word.now }
 {
-    if word.is_empty() || word.len() > DIGITS || !all_digits(word) {
+    if word.is_empty() || word.len() > DIGITS {
         return None;
     }
-    u32::try_from(value(word)).ok()
+    match value(word) {
+        Some(n) => u32::try_from(n).ok(),
+        None => None,
+    }
 }
 
-/// Whether each byte is a digit.
-fn all_digits(word: &[u8]) -> bool
-    ensures { result ≡ list_all is_digit word.now }
-{
-    word.iter().all(|byte| *byte >= b'0' && *byte < b':')
-}
-
-/// The number that digits write.
-fn value(word: &[u8]) -> u64
+/// The number that digits write; none where a byte is something else.
+fn value(word: &[u8]) -> Option<u64>
     requires few { length word.now ≤ 10 }
-    requires digits { list_all is_digit word.now ≡ true }
-    ensures { result ≡ digits_value word.now }
+    ensures { result ≡ cond (list_all is_digit word.now) (Some (digits_value word.now)) None }
 {
     let mut n: u64 = 0;
     for byte in word {
+        if *byte < b'0' || *byte > b'9' {
+            return None;
+        }
         n = n * 10 + u64::from(*byte - b'0');
     }
-    n
+    Some(n)
 }
 
 /// Whether a byte may stand in a name: a to z, 0 to 9, `.`, `_` or `-`.

@@ -11,7 +11,7 @@ use crate::commands::{forms, named, sets_up};
 use crate::digits::name;
 use crate::hexes::{loaded, written};
 use crate::image_bytes::ImageBytes;
-use crate::words::{Reading, read_words, skip, word_end};
+use crate::words::{Reading, WordsRead, read_words, skip, word_end};
 use arrayvec::ArrayVec;
 use kernel_model::{BLOCK_BYTES, BareCall, BareEvent, CallName, Command, Kind};
 
@@ -274,10 +274,13 @@ pub fn parse_line<'a>(
     if sets_up(command) == booted {
         return Err(ScriptFault::WrongPlace);
     }
-    let mut numbers = ArrayVec::new();
-    match read_words(forms(command), skip(line, end), &line[..0], &mut numbers) {
+    let mut words = WordsRead {
+        numbers: ArrayVec::new(),
+        last: &line[..0],
+    };
+    match read_words(forms(command), skip(line, end), &mut words) {
         Reading::BadWord => Err(ScriptFault::BadWord),
         Reading::BadNumber => Err(ScriptFault::BadNumber),
-        Reading::Said(last) => entry_said(command, numbers.as_slice(), last, bytes),
+        Reading::Said => entry_said(command, words.numbers.as_slice(), words.last, bytes),
     }
 }

@@ -1,10 +1,10 @@
 //! The words of a line, and the numbers that they say.
 
-ghost use Rattle.std.specs.Prelude.{◌≡◌, ◌≤◌, ◌+◌, ◌==◌, ℕ, List, [], length, drop, position};
+ghost use Rattle.std.specs.Prelude.{◌≡◌, ◌≤◌, ◌+◌, ◌==◌, ℕ, List, [], length, drop, position, IfSome};
 ghost use Rattle.arrayvec.specs.ArrayVec.{array_vec_len};
 ghost use Rattle.kernel_model.specs.World.{same_bytes};
 ghost use Rattle.kernel_model.specs.Script.{object_kinds, amounts, number_said, is_unlisted, is_bad_word, is_well_formed, words_said};
-ghost use Rattle.script_text.specs.Words.{word_length, words_left, said, failed};
+ghost use Rattle.script_text.specs.Words.{word_length, words_left, said, failed, IsFirstNumber};
 
 use crate::digits::read_number;
 use arrayvec::ArrayVec;
@@ -15,11 +15,18 @@ pub(crate) const WORDS: usize = 5;
 
 const SPACE: u8 = b' ';
 
-/// What was read of the words of a line.
+/// The words of a line that were read: the numbers that they say, and the last of them.
 #[derive(Drop)]
-pub(crate) enum Reading<'a> {
-    /// Each says a number; this is the last word.
-    Said(&'a [u8]),
+pub(crate) struct WordsRead<'a> {
+    pub(crate) numbers: ArrayVec<u32, WORDS>,
+    pub(crate) last: &'a [u8],
+}
+
+/// What was read of the words of a line.
+#[derive(Clone, Copy)]
+pub(crate) enum Reading {
+    /// Each says a number.
+    Said,
     /// A word is no number.
     BadNumber,
     /// There is another number of words, an empty one, or a kind that isn't listed.
@@ -45,6 +52,7 @@ pub(crate) fn word_end(text: &[u8]) -> usize
 }
 
 /// The place of a kind of object in their list.
+#[inline(never)]
 fn object_kind(word: &[u8]) -> Option<u32>
     ensures { result ≡ position (same_bytes word.now) object_kinds }
 {
@@ -70,6 +78,7 @@ fn object_kind(word: &[u8]) -> Option<u32>
 }
 
 /// The place of a kind of amount in their list.
+#[inline(never)]
 fn amount(word: &[u8]) -> Option<u32>
     ensures { result ≡ position (same_bytes word.now) amounts }
 {
@@ -141,9 +150,10 @@ fn fits_forms(forms: &[Form], rest: &[u8]) -> bool
 }
 
 /// The refusal of a line with a word that is no number, where the words that are left may be worse.
-fn refused(forms: &[Form], rest: &[u8]) -> Reading<'static>
-    ensures { (ns : List ℕ) →
-        said result ns ≡ failed (is_well_formed forms.now (words_left rest.now)) }
+#[inline(never)]
+fn refused(forms: &[Form], rest: &[u8]) -> Reading
+    ensures { (ns last : List ℕ) →
+        said result ns last ≡ failed (is_well_formed forms.now (words_left rest.now)) }
 {
     if fits_forms(forms, rest) {
         Reading::BadNumber
@@ -153,35 +163,52 @@ fn refused(forms: &[Form], rest: &[u8]) -> Reading<'static>
 }
 
 /// What was read where no form is left.
-fn nothing_left<'a>(rest: &[u8], last: &'a [u8]) -> Reading<'a>
-    ensures { (ns : List ℕ) → said result ns ≡ words_said ns last.now [] (words_left rest.now) }
+fn nothing_left(rest: &[u8]) -> Reading
+    ensures { (ns last : List ℕ) → said result ns last ≡ words_said ns last [] (words_left rest.now) }
 {
     if rest.is_empty() {
-        Reading::Said(last)
+        Reading::Said
     } else {
         Reading::BadWord
     }
 }
 
-/// Reads the words that are left, and puts their numbers behind others. `last` is the word before
-/// them.
-pub(crate) fn read_words<'a>(
-    forms: &[Form],
-    rest: &'a [u8],
-    last: &'a [u8],
-    numbers: &mut ArrayVec<u32, WORDS>,
-) -> Reading<'a>
-    requires { array_vec_len numbers.old + length forms.now ≤ 5 }
-    ensures { said result numbers.new.items
-        ≡ words_said numbers.old.items last.now forms.now (words_left rest.now) }
+/// The digit that is the first word of a text, where that is to be a number and has one digit.
+fn one_digit(form: Form, text: &[u8]) -> Option<u32>
+    ensures { IfSome result (λ n. IsFirstNumber form text.now n) }
+{
+    let Form::Number = form else {
+        return None;
+    };
+    if text.is_empty() {
+        return None;
+    }
+    let digit = text[0];
+    if digit < b'0' || digit > b'9' || (text.len() > 1 && text[1] != SPACE) {
+        return None;
+    }
+    Some(u32::from(digit - b'0'))
+}
+
+/// Reads the words that are left, and puts their numbers behind others, and the last word in the
+/// place of the one before them.
+pub(crate) fn read_words<'a>(forms: &[Form], rest: &'a [u8], words: &mut WordsRead<'a>) -> Reading
+    requires { array_vec_len words.old.numbers + length forms.now ≤ 5 }
+    ensures { said result words.new.numbers.items words.new.last.now
+        ≡ words_said words.old.numbers.items words.old.last.now forms.now (words_left rest.now) }
 {
     if forms.is_empty() {
-        return nothing_left(rest, last);
+        return nothing_left(rest);
     }
     if rest.is_empty() {
         return Reading::BadWord;
     }
     let text = skip(rest, 1);
+    if let Some(n) = one_digit(forms[0], text) {
+        words.numbers.push(n);
+        words.last = &text[..1];
+        return read_words(skip(forms, 1), skip(text, 1), words);
+    }
     let end = word_end(text);
     let word = &text[..end];
     if is_bad(forms[0], word) {
@@ -190,8 +217,9 @@ pub(crate) fn read_words<'a>(
     match number_in(forms[0], word) {
         None => refused(skip(forms, 1), skip(text, end)),
         Some(n) => {
-            numbers.push(n);
-            read_words(skip(forms, 1), skip(text, end), word, numbers)
+            words.numbers.push(n);
+            words.last = word;
+            read_words(skip(forms, 1), skip(text, end), words)
         }
     }
 }
