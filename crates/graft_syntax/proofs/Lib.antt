@@ -1,3 +1,4 @@
-pub mod Names
-pub mod Words
+pub mod NameMap
+pub mod Knowing
+pub mod Passing
 pub mod Filling

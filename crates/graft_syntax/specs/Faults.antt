@@ -1,5 +1,5 @@
 -- What the faults of the reader stand for.
-use Rattle.std.specs.Prelude.{◌≡◌, Result, Err}
+use Rattle.std.specs.Prelude.{◌≡◌, ℕ, Result, Err}
 use Rattle.kernel_model.specs.declared.language.LangKind.{LangKind}
 use Rattle.graft_syntax.specs.declared.LangFault.{LangFault}
 use Rattle.graft_syntax.specs.declared.LangFault.TheVariants as fault
@@ -16,3 +16,8 @@ Refuses fault.NoMemory said = Unit {0}
 abbrev pub Stops : {A : Type 0} → Refusal → Result A LangKind → Type 0
 Stops (refusal.Of kind) said = said ≡ Err kind
 Stops refusal.NoMemory said = Unit {0}
+
+-- the fault of a refusal in a line
+abbrev pub fault_in : (line : ℕ) → Refusal → LangFault
+fault_in line (refusal.Of kind) = fault.At line kind
+fault_in line refusal.NoMemory = fault.NoMemory

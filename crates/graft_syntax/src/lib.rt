@@ -7,10 +7,12 @@ ghost use Rattle.kernel_model.specs.LanguageReading as spec;
 
 mod grammar;
 pub mod laws;
+mod names;
+mod program;
 mod reader;
 mod tokens;
 
-pub use crate::reader::Syntax;
+pub use crate::program::Syntax;
 use crate::reader::read_text;
 pub use crate::tokens::{arguments_of, same_symbol};
 pub use kernel_model::{LangKind, NoMemory, Operator, Symbol};

@@ -1,92 +1,30 @@
 //! Reading a text: word by word, as far as the first one that is refused.
 
-ghost use Rattle.std.specs.Prelude.{◌≡◌, ◌≤◌, ◌<◌, ◌+◌, ◌-◌, ◌==◌, ◌∷◌, ◌++◌, [], length, take, map};
-ghost use Rattle.std.specs.Prelude.{count_by, cond, nat_lt, Ok, Err, IfSome, IfOk, IfErr, OnOk, Option};
-ghost use Rattle.std.specs.Prelude.{position};
-ghost use Rattle.kernel_model.specs.World.{same_bytes};
-ghost use Rattle.graft_syntax.specs.Faults.{Refuses, Stops};
-ghost use Rattle.graft_syntax.specs.Views.{token_view, names_of};
-ghost use Rattle.kernel_model.specs.LanguageGrammar.{follow_goal};
-ghost use Rattle.kernel_model.specs.LanguageWords.{words, line_words, last_line};
-ghost use Rattle.kernel_model.specs.Assembler.{words_of};
+ghost use Rattle.std.specs.Prelude.{◌≡◌, ◌≤◌, ◌<◌, ◌+◌, ◌-◌, ◌==◌, ◌∷◌, [], length, take, count_by};
+ghost use Rattle.std.specs.Prelude.{map, cond, nat_lt, slice_index, false, Ok, Err, IfOk, IfErr, OnOk};
+ghost use Rattle.graft_syntax.specs.Faults.{Refuses, Stops, fault_in};
+ghost use Rattle.graft_syntax.specs.Views.{token_view};
+ghost use Rattle.graft_syntax.specs.Places.{is_separator, word_at, IsWord, known_names};
+ghost use Rattle.graft_syntax.specs.Readings.{reading, reading_for, IsPassed, IsStoppedBehind};
+ghost use Rattle.kernel_model.specs.LanguageWords.{words, last_line};
 ghost use Rattle.kernel_model.specs.LanguageReading as spec;
 
 use crate::grammar::{Goals, Refusal};
+use crate::names::{Known, word_at};
+use crate::program::Syntax;
 use crate::tokens::token_of;
 use crate::{LangFault, LangKind, Symbol, Token};
-use indexmap::IndexMap;
 use kernel_model::Goal;
 use std::alloc::Global;
-use std::marker::Model;
-use text_words::Parts;
-
-/// The variables that are known, in the order of their first assignments.
-type Names<'a> = IndexMap<&'a [u8], ()>;
 
 /// How far the reading has come.
 #[derive(Drop)]
 struct Reader<'a> {
     goals: Goals,
-    names: Names<'a>,
-    assigned: &'a [u8],
+    known: Known,
+    /// Where the variable of the last assignment stands that was begun.
+    assigned: u32,
     tokens: Vec<Token<'a>>,
-}
-
-impl<'a> Model for Reader<'a> {
-    ghost use Rattle.std.specs.Prelude.{map};
-    ghost use Rattle.kernel_model.specs.LanguageReading.{Reading};
-    ghost use Rattle.graft_syntax.specs.Views.{token_view, names_of};
-
-    ghost Value = { Reading };
-
-    ghost view = { λ r. record {
-      goals = r.goals;
-      names = names_of r.names.entries;
-      assigned = r.assigned.now;
-      tokens = map token_view r.tokens.items;
-    } };
-}
-
-/// What is read of a text: the tokens of its program, and the variables that are known at its end.
-#[derive(Drop)]
-pub struct Syntax<'a> {
-    tokens: Vec<Token<'a>>,
-    names: Names<'a>,
-}
-
-impl<'a> Model for Syntax<'a> {
-    ghost use Rattle.std.specs.Prelude.{map};
-    ghost use Rattle.kernel_model.specs.LanguageReading as spec;
-    ghost use Rattle.graft_syntax.specs.Views.{token_view, names_of};
-
-    ghost Value = { spec.Syntax };
-
-    ghost view = { λ s. record { tokens = map token_view s.tokens.items; names = names_of s.names.entries } };
-}
-
-impl<'a> Syntax<'a> {
-    /// The tokens.
-    pub fn tokens(&self) -> &[Token<'a>]
-        ensures { map token_view result.now ≡ self.now.tokens }
-    {
-        self.tokens.as_slice()
-    }
-
-    /// How many variables are known, the four arguments among them.
-    pub fn variables(&self) -> usize
-        ensures { result ≡ length self.now.names }
-    {
-        self.names.len()
-    }
-
-    /// The number of a variable: its place in the order of the first assignments, the arguments
-    /// first.
-    pub fn number_of(&self, name: &[u8]) -> usize
-        ensures number { result ≡ spec.number_of self.now.names name.now }
-        ensures within { result ≤ length self.now.names }
-    {
-        place_of(&self.names, name).unwrap_or(0)
-    }
 }
 
 /// The most tokens of a program.
@@ -94,43 +32,6 @@ const MAX_TOKENS: usize = 120;
 
 /// The most levels that are open.
 const MAX_LEVELS: usize = 64;
-
-fn is_known(names: &Names, name: &[u8]) -> bool
-    ensures { result ≡ spec.is_known name.now (names_of names.now.entries) }
-{
-    names.contains_key(name)
-}
-
-/// The place of a variable that is known.
-fn place_of(names: &Names, name: &[u8]) -> Option<usize>
-    ensures place { result ≡ position (same_bytes name.now) (names_of names.now.entries) }
-    ensures within { IfSome result (λ i. i < length (names_of names.now.entries)) }
-{
-    names.get_index_of(name)
-}
-
-fn learn<'a>(names: &mut Names<'a>, name: &'a [u8]) -> Result<(), Refusal>
-    ensures ok { OnOk result (names_of names.new.entries
-        ≡ spec.with_name name.now (names_of names.old.entries)) }
-    ensures err { IfErr result (λ e. e ≡ Refusal.NoMemory) }
-{
-    match names.insert(name, ()) {
-        Ok(_) => Ok(()),
-        Err(_) => Err(Refusal::NoMemory),
-    }
-}
-
-/// The arguments of a program, which are known from the beginning.
-fn learn_arguments(names: &mut Names) -> Result<(), Refusal>
-    requires { names_of names.old.entries ≡ [] }
-    ensures ok { OnOk result (names_of names.new.entries ≡ spec.arguments) }
-    ensures err { IfErr result (λ e. e ≡ Refusal.NoMemory) }
-{
-    learn(names, b"a0".as_slice())?;
-    learn(names, b"a1".as_slice())?;
-    learn(names, b"a2".as_slice())?;
-    learn(names, b"a3".as_slice())
-}
 
 /// Keeps a token, unless there are more than a program may have.
 fn keep<'a>(tokens: &mut Vec<Token<'a>>, token: Token<'a>) -> Result<(), Refusal>
@@ -173,15 +74,23 @@ fn end_fault(left: u32) -> Option<LangKind>
     room_fault(left == 0)
 }
 
+/// What a reading knows: the goals below one that was taken, and the variables of a text.
+#[derive(Clone, Copy)]
+struct Seen<'r, 't> {
+    below: &'r Goals,
+    known: &'r Known,
+    text: &'t [u8],
+}
+
 /// What is wrong with an operand that begins with a token.
-fn operand_fault(room: bool, below: &Goals, names: &Names, token: Token) -> Option<LangKind>
-    ensures { result ≡ spec.operand_fault room below.now (names_of names.now.entries)
-        (token_view token.entry) }
+fn operand_fault(room: bool, seen: Seen, token: Token) -> Option<LangKind>
+    ensures { result ≡ spec.operand_fault room seen.entry.below.now
+        (known_names seen.entry.text.now seen.entry.known.now.entries.items) (token_view token.entry) }
 {
     match token {
         Token::Number(_) => room_fault(room),
         Token::Variable(name) => {
-            if is_known(names, name) {
+            if seen.known.is_known(seen.text, name) {
                 room_fault(room)
             } else {
                 Some(LangKind::UnknownVariable)
@@ -189,7 +98,7 @@ fn operand_fault(room: bool, below: &Goals, names: &Names, token: Token) -> Opti
         }
         Token::Mark(_) => {
             if room {
-                depth_fault(below)
+                depth_fault(seen.below)
             } else {
                 Some(LangKind::WrongArguments)
             }
@@ -198,13 +107,13 @@ fn operand_fault(room: bool, below: &Goals, names: &Names, token: Token) -> Opti
     }
 }
 
-fn first_fault(left: u32, below: &Goals, names: &Names, token: Token) -> Option<LangKind>
-    ensures { result ≡ spec.first_fault left below.now (names_of names.now.entries)
-        (token_view token.entry) }
+fn first_fault(left: u32, seen: Seen, token: Token) -> Option<LangKind>
+    ensures { result ≡ spec.first_fault left seen.entry.below.now
+        (known_names seen.entry.text.now seen.entry.known.now.entries.items) (token_view token.entry) }
 {
     match token {
         Token::Mark(Symbol::CloseParenthesis) => end_fault(left),
-        _ => operand_fault(left > 0, below, names, token),
+        _ => operand_fault(left > 0, seen, token),
     }
 }
 
@@ -218,153 +127,200 @@ fn argument_fault(left: u32, token: Token) -> Option<LangKind>
 }
 
 /// What is wrong with a token that the grammar takes.
-fn fault_at(goal: Goal, below: &Goals, names: &Names, token: Token) -> Option<LangKind>
-    ensures { result ≡ spec.fault_at goal below.now (names_of names.now.entries)
-        (token_view token.entry) }
+fn fault_at(goal: Goal, seen: Seen, token: Token) -> Option<LangKind>
+    ensures { result ≡ spec.fault_at goal seen.entry.below.now
+        (known_names seen.entry.text.now seen.entry.known.now.entries.items) (token_view token.entry) }
 {
     match goal {
-        Goal::Operand | Goal::RightSide => operand_fault(true, below, names, token),
-        Goal::FirstArgument(left) => first_fault(left, below, names, token),
-        Goal::NextArgument(left) => operand_fault(left > 0, below, names, token),
+        Goal::Operand | Goal::RightSide => operand_fault(true, seen, token),
+        Goal::FirstArgument(left) => first_fault(left, seen, token),
+        Goal::NextArgument(left) => operand_fault(left > 0, seen, token),
         Goal::AfterArgument(left) => argument_fault(left, token),
-        Goal::Braces => depth_fault(below),
+        Goal::Braces => depth_fault(seen.below),
         _ => None,
     }
 }
 
 /// Learns the variable of an assignment, if one ends with this goal.
-fn learn_assigned<'a>(names: &mut Names<'a>, goal: Goal, assigned: &'a [u8]) -> Result<(), Refusal>
-    ensures ok { OnOk result (names_of names.new.entries
-        ≡ spec.names_after (goal ∷ []) assigned.now (names_of names.old.entries)) }
+fn learn_assigned(known: &mut Known, goal: Goal, text: &[u8], assigned: u32) -> Result<(), Refusal>
+    ensures ok { OnOk result (known_names text.now known.new.entries.items
+        ≡ spec.names_after (goal ∷ []) (word_at text.now assigned)
+        (known_names text.now known.old.entries.items)) }
     ensures err { IfErr result (λ e. e ≡ Refusal.NoMemory) }
 {
     match goal {
-        Goal::EndOfAssignment => learn(names, assigned),
+        Goal::EndOfAssignment => known.assign(text, assigned),
         _ => Ok(()),
     }
 }
 
-/// The variable that a statement assigns, if an assignment begins with this goal and this token.
-fn assigned_by<'a>(goal: Goal, assigned: &'a [u8], token: Token<'a>) -> &'a [u8]
-    ensures { result.now ≡ spec.assigned_after (goal ∷ []) assigned.entry.now
-        (token_view token.entry) }
+/// Where the variable stands that a statement assigns, if an assignment begins with this goal and
+/// the token that stands at `start`.
+fn assigned_by(goal: Goal, assigned: u32, token: Token, text: &[u8], start: u32) -> u32
+    requires { IsWord token (word_at text.now start) }
+    ensures { word_at text.now result
+        ≡ spec.assigned_after (goal ∷ []) (word_at text.now assigned) (token_view token.entry) }
 {
     match (goal, token) {
-        (Goal::Statements(_, _), Token::Variable(name)) => name,
+        (Goal::Statements(_, _), Token::Variable(_)) => start,
         _ => assigned,
     }
 }
 
 impl<'a> Reader<'a> {
     /// Nothing is read.
-    fn new(alloc: Global) -> Result<Reader<'a>, Refusal>
-        ensures ok { IfOk result (λ r. r ≡ spec.first_reading) }
+    fn new(alloc: Global, text: &[u8]) -> Result<Reader<'a>, Refusal>
+        requires { length text.now ≤ 16_777_216 }
+        ensures ok { IfOk result (λ r. reading text.now r ≡ spec.first_reading) }
         ensures err { IfErr result (λ e. e ≡ Refusal.NoMemory) }
     {
         let mut goals = Goals::new(alloc);
         goals.push(&[Goal::Statements(false, false)])?;
-        let mut names = IndexMap::new(alloc);
-        learn_arguments(&mut names)?;
+        let known = Known::new(alloc, text)?;
         Ok(Reader {
             goals,
-            names,
-            assigned: b"".as_slice(),
+            known,
+            assigned: text.len() as u32,
             tokens: Vec::new(alloc),
         })
     }
 
-    /// Reads a token for a goal, which was taken.
-    fn read_for(&mut self, goal: Goal, token: Token<'a>) -> Result<(), Refusal>
-        ensures ok { let before = record self.old { goals = goal ∷ self.old.goals } in
-            OnOk result (spec.read_token before (token_view token.entry) ≡ Ok self.new) }
-        ensures err { let before = record self.old { goals = goal ∷ self.old.goals } in
-            IfErr result (λ e. Stops e (spec.read_token before (token_view token.entry))) }
+    /// Reads a token, which stands at `start`, for a goal, which was taken.
+    fn read_for(
+        &mut self,
+        goal: Goal,
+        token: Token<'a>,
+        text: &[u8],
+        start: u32,
+    ) -> Result<(), Refusal>
+        requires { IsWord token (word_at text.now start) }
+        ensures ok { OnOk result (spec.read_token (reading_for goal text.now self.old)
+            (token_view token.entry) ≡ Ok (reading text.now self.new)) }
+        ensures err { IfErr result (λ e. Stops e
+            (spec.read_token (reading_for goal text.now self.old) (token_view token.entry))) }
     {
-        let fault = fault_at(goal, &self.goals, &self.names, token);
+        let seen = Seen {
+            below: &self.goals,
+            known: &self.known,
+            text,
+        };
+        let fault = fault_at(goal, seen, token);
         self.goals.follow(goal, token)?;
         if let Some(kind) = fault {
             return Err(Refusal::Of(kind));
         }
-        learn_assigned(&mut self.names, goal, self.assigned)?;
-        self.assigned = assigned_by(goal, self.assigned, token);
+        learn_assigned(&mut self.known, goal, text, self.assigned)?;
+        self.assigned = assigned_by(goal, self.assigned, token, text, start);
         keep(&mut self.tokens, token)
     }
 
-    /// Reads a token.
-    fn read_token(&mut self, token: Token<'a>) -> Result<(), Refusal>
-        ensures ok { OnOk result (spec.read_token self.old (token_view token.entry) ≡ Ok self.new) }
-        ensures err { IfErr result
-            (λ e. Stops e (spec.read_token self.old (token_view token.entry))) }
+    /// Reads a token, which stands at `start`.
+    fn read_token(&mut self, token: Token<'a>, text: &[u8], start: u32) -> Result<(), Refusal>
+        requires { IsWord token (word_at text.now start) }
+        ensures ok { OnOk result (spec.read_token (reading text.now self.old)
+            (token_view token.entry) ≡ Ok (reading text.now self.new)) }
+        ensures err { IfErr result (λ e. Stops e (spec.read_token (reading text.now self.old)
+            (token_view token.entry))) }
     {
         match self.goals.pop() {
             None => Err(Refusal::Of(LangKind::NoProgram)),
-            Some(goal) => self.read_for(goal, token),
+            Some(goal) => self.read_for(goal, token, text, start),
         }
     }
 
-    /// Reads a word.
-    fn read_word(&mut self, word: &'a [u8]) -> Result<(), Refusal>
-        ensures ok { OnOk result (spec.read_word self.old word.now ≡ Ok self.new) }
-        ensures err { IfErr result (λ e. Stops e (spec.read_word self.old word.now)) }
+    /// Reads a word, which stands at `start`.
+    fn read_word(&mut self, word: &'a [u8], text: &[u8], start: u32) -> Result<(), Refusal>
+        requires { word.now ≡ word_at text.now start }
+        ensures ok { OnOk result (spec.read_word (reading text.now self.old) word.now
+            ≡ Ok (reading text.now self.new)) }
+        ensures err { IfErr result
+            (λ e. Stops e (spec.read_word (reading text.now self.old) word.now)) }
     {
         match token_of(word) {
             None => Err(Refusal::Of(LangKind::NoToken)),
-            Some(token) => self.read_token(token),
+            Some(token) => self.read_token(token, text, start),
         }
-    }
-
-    /// Reads a part between spaces, which is a word unless it has no bytes.
-    fn read_part(&mut self, line: u32, part: &'a [u8]) -> Result<(), LangFault>
-        ensures ok { OnOk result (spec.read_words self.old (line_words line (part.now ∷ []))
-            ≡ Ok self.new) }
-        ensures err { IfErr result
-            (λ e. Refuses e (spec.read_words self.old (line_words line (part.now ∷ [])))) }
-    {
-        if part.is_empty() {
-            return Ok(());
-        }
-        match self.read_word(part) {
-            Ok(()) => Ok(()),
-            Err(Refusal::Of(kind)) => Err(LangFault::At(line, kind)),
-            Err(Refusal::NoMemory) => Err(LangFault::NoMemory),
-        }
-    }
-
-    /// Reads the words of a line.
-    fn read_line(&mut self, line: u32, text: &'a [u8]) -> Result<(), LangFault>
-        ensures ok { OnOk result (spec.read_words self.old (line_words line (words_of text.now))
-            ≡ Ok self.new) }
-        ensures err { IfErr result
-            (λ e. Refuses e (spec.read_words self.old (line_words line (words_of text.now)))) }
-    {
-        let mut parts = Parts::new(text, b' ');
-        while let Some(part) = parts.next() {
-            match self.read_part(line, part) {
-                Ok(()) => (),
-                Err(fault) => return Err(fault),
-            }
-        }
-        Ok(())
     }
 
     /// What was read, at the end of the text.
-    fn end(self, line: u32) -> Result<Syntax<'a>, LangFault>
-        ensures ok { IfOk result (λ s. spec.read_end line self.entry ≡ Ok s) }
-        ensures err { IfErr result (λ e. Refuses e (spec.read_end line self.entry)) }
+    fn end(self, alloc: Global, text: &'a [u8], line: u32) -> Result<Syntax<'a>, LangFault>
+        ensures ok { IfOk result (λ s. spec.read_end line (reading text.now self.entry) ≡ Ok s) }
+        ensures err { IfErr result
+            (λ e. Refuses e (spec.read_end line (reading text.now self.entry))) }
     {
-        let Reader {
-            goals,
-            names,
-            tokens,
-            ..
-        } = self;
-        if !goals.is_met() {
+        if !self.goals.is_met() {
             return Err(LangFault::At(line, LangKind::NoProgram));
         }
-        if tokens.len() > MAX_TOKENS {
+        if self.tokens.len() > MAX_TOKENS {
             return Err(LangFault::At(line, LangKind::TooManyTokens));
         }
-        Ok(Syntax { tokens, names })
+        match self.known.names(alloc, text) {
+            Ok(names) => Ok(Syntax::new(self.tokens, names)),
+            Err(_) => Err(LangFault::NoMemory),
+        }
+    }
+}
+
+/// The fault of a refusal in a line.
+fn fault_in(line: u32, refusal: Refusal) -> LangFault
+    ensures { result ≡ fault_in line refusal }
+{
+    match refusal {
+        Refusal::Of(kind) => LangFault::At(line, kind),
+        Refusal::NoMemory => LangFault::NoMemory,
+    }
+}
+
+/// A place in a text, and the number of the line in which it stands.
+#[derive(Clone, Copy)]
+struct Place {
+    at: usize,
+    line: u32,
+}
+
+impl Place {
+    /// Passes over a word, which is read.
+    #[tactic(auto, using(crate::proofs::Passing::word_read, crate::proofs::Passing::word_is_there))]
+    fn pass_word<'a>(&mut self, reader: &mut Reader<'a>, text: &'a [u8]) -> Result<(), LangFault>
+        requires small { length text.now ≤ 16_777_216 }
+        requires within { self.old.at < length text.now }
+        requires line { self.old.line ≤ self.old.at + 1 }
+        requires word { is_separator (slice_index text.now self.old.at) ≡ false }
+        ensures ok { OnOk result (IsPassed text.now self.old reader.old self.new reader.new) }
+        ensures err { IfErr result (IsStoppedBehind text.now self.old reader.old) }
+    {
+        let start = self.at as u32;
+        let word = word_at(text, start);
+        match reader.read_word(word, text, start) {
+            Ok(()) => {
+                self.at += word.len();
+                Ok(())
+            }
+            Err(refusal) => Err(fault_in(self.line, refusal)),
+        }
+    }
+
+    /// Passes over a newline, a space or a word, which is read.
+    #[tactic(auto, using(crate::proofs::Passing::newline_passed, crate::proofs::Passing::space_passed))]
+    fn pass<'a>(&mut self, reader: &mut Reader<'a>, text: &'a [u8]) -> Result<(), LangFault>
+        requires small { length text.now ≤ 16_777_216 }
+        requires within { self.old.at < length text.now }
+        requires line { self.old.line ≤ self.old.at + 1 }
+        ensures ok { OnOk result (IsPassed text.now self.old reader.old self.new reader.new) }
+        ensures err { IfErr result (IsStoppedBehind text.now self.old reader.old) }
+    {
+        match text[self.at] {
+            b'\n' => {
+                self.at += 1;
+                self.line += 1;
+                Ok(())
+            }
+            b' ' => {
+                self.at += 1;
+                Ok(())
+            }
+            _ => self.pass_word(reader, text),
+        }
     }
 }
 
@@ -383,25 +339,23 @@ fn last_line(text: &[u8]) -> u32
     newlines_of(&text[..end]) as u32 + 1
 }
 
-fn read_lines(alloc: Global, text: &[u8]) -> Result<Reader<'_>, LangFault>
+/// Reads the words of a text.
+#[tactic(auto, using(crate::proofs::Passing::all_read))]
+fn read_words<'a>(reader: &mut Reader<'a>, text: &'a [u8]) -> Result<(), LangFault>
     requires { length text.now ≤ 16_777_216 }
-    ensures ok { IfOk result (λ r. spec.read_words spec.first_reading (words text.now) ≡ Ok r) }
-    ensures err { IfErr result
-        (λ e. Refuses e (spec.read_words spec.first_reading (words text.now))) }
+    ensures ok { OnOk result (spec.read_words (reading text.now reader.old) (words text.now)
+        ≡ Ok (reading text.now reader.new)) }
+    ensures err { IfErr result (λ e. Refuses e
+        (spec.read_words (reading text.now reader.old) (words text.now))) }
 {
-    let mut reader = match Reader::new(alloc) {
-        Ok(reader) => reader,
-        Err(_) => return Err(LangFault::NoMemory),
-    };
-    let mut lines = Parts::new(text, b'\n');
-    let mut number = 1;
-    while let Some(line) = lines.next() {
-        match reader.read_line(number, line) {
-            Ok(()) => number += 1,
+    let mut place = Place { at: 0, line: 1 };
+    while place.at < text.len() {
+        match place.pass(reader, text) {
+            Ok(()) => (),
             Err(fault) => return Err(fault),
         }
     }
-    Ok(reader)
+    Ok(())
 }
 
 /// What a text says, or the line that is refused and why.
@@ -410,8 +364,12 @@ pub fn read_text(alloc: Global, text: &[u8]) -> Result<Syntax<'_>, LangFault>
     ensures ok { IfOk result (λ s. spec.read text.now ≡ Ok s) }
     ensures err { IfErr result (λ e. Refuses e (spec.read text.now)) }
 {
-    match read_lines(alloc, text) {
-        Ok(reader) => reader.end(last_line(text)),
+    let mut reader = match Reader::new(alloc, text) {
+        Ok(reader) => reader,
+        Err(_) => return Err(LangFault::NoMemory),
+    };
+    match read_words(&mut reader, text) {
+        Ok(()) => reader.end(alloc, text, last_line(text)),
         Err(fault) => Err(fault),
     }
 }

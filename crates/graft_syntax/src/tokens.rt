@@ -1,7 +1,8 @@
 //! The words of a text and the tokens that they spell.
 
-ghost use Rattle.std.specs.Prelude.{◌≡◌, option_map};
+ghost use Rattle.std.specs.Prelude.{◌≡◌, option_map, IfSome};
 ghost use Rattle.graft_syntax.specs.Views.{token_view};
+ghost use Rattle.graft_syntax.specs.Places.{IsWord};
 ghost use Rattle.kernel_model.specs.LanguageTokens as spec;
 ghost use Rattle.kernel_model.specs.Bytes as model;
 
@@ -81,7 +82,8 @@ fn operator_of(word: &[u8]) -> Option<Operator>
 }
 
 fn variable_of(word: &[u8]) -> Option<Token<'_>>
-    ensures { option_map token_view result ≡ spec.variable_of word.now }
+    ensures token { option_map token_view result ≡ spec.variable_of word.now }
+    ensures whole { IfSome result (λ token. IsWord token word.now) }
 {
     if is_label(word) {
         Some(Token::Variable(word))
@@ -91,7 +93,9 @@ fn variable_of(word: &[u8]) -> Option<Token<'_>>
 }
 
 fn value_of(word: &[u8]) -> Option<Token<'_>>
-    ensures { option_map token_view result ≡ spec.by_number (model.number_of word.now) word.now }
+    ensures token { option_map token_view result
+        ≡ spec.by_number (model.number_of word.now) word.now }
+    ensures whole { IfSome result (λ token. IsWord token word.now) }
 {
     match number_of(word) {
         Some(n) => Some(Token::Number(n)),
@@ -100,7 +104,9 @@ fn value_of(word: &[u8]) -> Option<Token<'_>>
 }
 
 fn named_of(word: &[u8]) -> Option<Token<'_>>
-    ensures { option_map token_view result ≡ spec.by_operator (spec.operator_of word.now) word.now }
+    ensures token { option_map token_view result
+        ≡ spec.by_operator (spec.operator_of word.now) word.now }
+    ensures whole { IfSome result (λ token. IsWord token word.now) }
 {
     if let Some(op) = operator_of(word) {
         return Some(Token::Infix(op));
@@ -113,7 +119,8 @@ fn named_of(word: &[u8]) -> Option<Token<'_>>
 
 /// The token that a word is, if it is one.
 pub fn token_of(word: &[u8]) -> Option<Token<'_>>
-    ensures { option_map token_view result ≡ spec.token_of word.now }
+    ensures token { option_map token_view result ≡ spec.token_of word.now }
+    ensures whole { IfSome result (λ token. IsWord token word.now) }
 {
     match symbol_of(word) {
         Some(s) => Some(Token::Mark(s)),
