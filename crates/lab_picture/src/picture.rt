@@ -1,46 +1,15 @@
 //! `draw`: the picture of a run.
 
-ghost use Rattle.std.specs.Prelude.{◌≡◌, ◌≤◌, IfOk, IfErr};
-ghost use Rattle.lab_picture.specs.Events.{chosen_count, event_count};
-ghost use Rattle.lab_picture.specs.Refusals.{IsRefused};
+ghost use Rattle.std.specs.Prelude.{◌≤◌, IfOk, IfErr};
+ghost use Rattle.lab_events.specs.Events.{chosen_count, event_count};
+ghost use Rattle.lab_events.specs.Refusals.{IsRefused};
 
-use crate::escape::{append, append_with};
-use crate::layout::{LEFT, PER_STRIP, Strip, TOP, count_records, lanes_of, levels_of};
-use crate::paint::paint_strip;
-use crate::reading::{count_events, read};
-use crate::shapes::{At, cross, line, rectangle, text};
-use crate::story::{Row, Story};
 use kernel_model::NoMemory;
+use lab_events::{Chosen, MOST_EVENTS, PictureFault, Row, admitted};
+use lab_story::{Story, read};
+use lab_strips::{LEFT, PER_STRIP, Strip, TOP, count_records, lanes_of, levels_of, paint_strip};
+use lab_svg::{At, append, append_with, cross, line, rectangle, text};
 use std::alloc::Global;
-
-/// The most events of a picture.
-pub const MOST_EVENTS: u32 = 2000;
-
-/// The events that are drawn: from the first to the last, numbered from 1. A last one behind the
-/// end of the run stands for the end.
-#[derive(Clone, Copy, Debug, PartialEq, Eq)]
-pub struct Chosen {
-    pub first: u32,
-    pub last: u32,
-}
-
-/// Why there is no picture.
-#[derive(Clone, Copy, Debug, PartialEq, Eq)]
-pub enum PictureFault {
-    /// So many events are more than a picture shows: a part is to be chosen.
-    TooMany(u64),
-    NoMemory,
-}
-
-impl From<NoMemory> for PictureFault {
-    ghost use Rattle.lab_picture.specs.declared.picture.PictureFault.{PictureFault};
-
-    ghost from_gives = { λ _ e. e ≡ PictureFault.NoMemory };
-
-    fn from(_: NoMemory) -> PictureFault {
-        PictureFault::NoMemory
-    }
-}
 
 /// How the classes look. The colours are those of Okabe and Ito, which colour-blind eyes tell
 /// apart; what is dropped, refused or waits has a mark or a hatching besides.
@@ -173,24 +142,6 @@ fn draw_story(alloc: Global, story: &Story, chosen: Chosen) -> Result<Vec<u8>, N
     Ok(out)
 }
 
-/// How many events are chosen of so many.
-fn count_chosen(chosen: Chosen, count: usize) -> u64
-    ensures { result ≡ chosen_count chosen.first chosen.last count }
-{
-    let last = u64::from(chosen.last).min(count as u64);
-    let first = u64::from(chosen.first).max(1);
-    (last + 1).saturating_sub(first)
-}
-
-/// The chosen events that there are, of so many.
-fn within(chosen: Chosen, count: usize) -> Chosen {
-    let last = (chosen.last as usize).min(count);
-    Chosen {
-        first: chosen.first.max(1),
-        last: last as u32,
-    }
-}
-
 /// The picture of the chosen events of a run.
 fn draw_chosen<'a>(
     alloc: Global,
@@ -221,10 +172,8 @@ pub fn draw<'a>(
     ensures refused { IfErr result (IsRefused
         (chosen_count chosen.first chosen.last (event_count rows.now))) }
 {
-    let count = count_events(rows);
-    let events = count_chosen(chosen, count);
-    if events > u64::from(MOST_EVENTS) {
-        return Err(PictureFault::TooMany(events));
+    match admitted(rows, chosen) {
+        Err(fault) => Err(fault),
+        Ok(chosen) => Ok(draw_chosen(alloc, rows, slow, chosen)?),
     }
-    Ok(draw_chosen(alloc, rows, slow, within(chosen, count))?)
 }

@@ -1,14 +1,12 @@
 //! A written line in words.
 
 ghost use Rattle.std.specs.Prelude.{◌≡◌, is_some, IfOk};
-ghost use Rattle.lab_words.specs.Forms as spec;
+ghost use Rattle.lab_forms.specs.Forms as spec;
 
-use crate::code::{CallCode, Code, DropCode, ImageCode, RewriterCode};
-use crate::entry::words_of;
-use crate::explain::append;
-use crate::form::{Form, form_is_told, form_of};
-use crate::slot::before_parenthesis;
 use kernel_model::NoMemory;
+use lab_code_words::{append, words_of};
+use lab_codes::{CallCode, Code, DropCode, ImageCode, RewriterCode};
+use lab_forms::{Form, before_parenthesis, told_form};
 use std::alloc::Global;
 use text_words::Parts;
 
@@ -250,12 +248,9 @@ fn tell_form(out: &mut Vec<u8>, form: Form, line: &[u8]) -> Result<(), NoMemory>
 pub fn tell(alloc: Global, line: &[u8]) -> Result<Option<Vec<u8>>, NoMemory>
     ensures { IfOk result (λ told. is_some told ≡ spec.is_told (spec.form_of line.now)) }
 {
-    match form_of(line) {
+    match told_form(line) {
         None => Ok(None),
         Some(form) => {
-            if !form_is_told(form) {
-                return Ok(None);
-            }
             let mut out = Vec::new(alloc);
             tell_form(&mut out, form, line)?;
             Ok(Some(out))

@@ -1,0 +1,97 @@
+//! What is said of codes, as text: of one, and the page of all of them.
+
+ghost use Rattle.std.specs.Prelude.{◌≡◌, ◌++◌, OnOk};
+
+use crate::entry::{page_of, words_of};
+use kernel_model::NoMemory;
+use lab_codes::{CODES, Code, text_of};
+use std::alloc::Global;
+
+/// What stands at the beginning of the page of all codes.
+const PAGE_HEAD: &str = "# The codes in words
+
+Every code and word by which the program refuses something or tells of a dropped graft, and its exit statuses: what it means, the usual cause, where it is described, and a file that shows it. `lab explain CODE` says the same of one; this page is what `lab explain --all` writes.
+";
+
+/// Appends bytes.
+pub fn append(out: &mut Vec<u8>, bytes: &[u8]) -> Result<(), NoMemory>
+    ensures { OnOk result (out.new.items ≡ out.old.items ++ bytes.now) }
+{
+    match out.extend_from_slice(bytes) {
+        Ok(()) => Ok(()),
+        Err(_) => Err(NoMemory),
+    }
+}
+
+/// What is said of a code, in lines: its meaning, its usual cause, its page and a file that shows it.
+pub fn explanation(alloc: Global, code: Code) -> Result<Vec<u8>, NoMemory> {
+    let words = words_of(code);
+    let mut out = Vec::new(alloc);
+    append(&mut out, text_of(code))?;
+    append(&mut out, b": ")?;
+    append(&mut out, words.meaning.as_bytes())?;
+    append(&mut out, b"\n  ")?;
+    append(&mut out, words.cause.as_bytes())?;
+    append(&mut out, b"\n  described in ")?;
+    append(&mut out, page_of(code).as_bytes())?;
+    append(&mut out, b"\n  shown by ")?;
+    append(&mut out, words.example.as_bytes())?;
+    append(&mut out, b"\n")?;
+    Ok(out)
+}
+
+/// The title of the section of a code.
+fn title_of(code: Code) -> &'static str {
+    match code {
+        Code::Script(_) => "Refused lines of a script",
+        Code::Call(_) => "Refused calls",
+        Code::Drop(_) => "Dropped grafts",
+        Code::Image(_) => "Refused images",
+        Code::Assembler(_) => "Refused lines of assembler text",
+        Code::Language(_) => "Refused lines of the graft language",
+        Code::Rewriter(_) => "Raw code that can't be boxed",
+        Code::Input(_) => "Refused input of `box`, `check`, `reseal` and `dis`",
+        Code::Status(_) => "How the program ends",
+    }
+}
+
+/// Appends the head of a section: its title, where its codes are described, and the head of a table.
+fn append_section(out: &mut Vec<u8>, code: Code) -> Result<(), NoMemory> {
+    append(out, b"\n## ")?;
+    append(out, title_of(code).as_bytes())?;
+    append(out, b"\n\nDescribed in ")?;
+    append(out, page_of(code).as_bytes())?;
+    append(
+        out,
+        b".\n\n| code | means | usual cause | shown by |\n|---|---|---|---|\n",
+    )
+}
+
+/// Appends the row of a code.
+fn append_row(out: &mut Vec<u8>, code: Code) -> Result<(), NoMemory> {
+    let words = words_of(code);
+    append(out, b"| `")?;
+    append(out, text_of(code))?;
+    append(out, b"` | ")?;
+    append(out, words.meaning.as_bytes())?;
+    append(out, b" | ")?;
+    append(out, words.cause.as_bytes())?;
+    append(out, b" | ")?;
+    append(out, words.example.as_bytes())?;
+    append(out, b" |\n")
+}
+
+/// The page of all codes, in Markdown: `docs/CODES.md`.
+pub fn codes_page(alloc: Global) -> Result<Vec<u8>, NoMemory> {
+    let mut out = Vec::new(alloc);
+    append(&mut out, PAGE_HEAD.as_bytes())?;
+    let mut title = "";
+    for code in &CODES {
+        if title_of(*code) != title {
+            title = title_of(*code);
+            append_section(&mut out, *code)?;
+        }
+        append_row(&mut out, *code)?;
+    }
+    Ok(out)
+}

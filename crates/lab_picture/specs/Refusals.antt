@@ -1,9 +1,0 @@
--- Why there is no picture.
-use Rattle.std.specs.Prelude.{◌≡◌, ℕ, ◌<◌}
-use Rattle.lab_picture.specs.declared.picture.PictureFault.{PictureFault}
-use Rattle.lab_picture.specs.declared.picture.PictureFault.TheVariants.{TooMany, NoMemory}
-
--- a refusal where so many events were chosen: those are too many, or there was no memory
-abbrev pub IsRefused : ℕ → PictureFault → Type 0
-IsRefused events (TooMany n) = (n ≡ events) × (2000 < events)
-IsRefused events NoMemory = Unit {0}

@@ -1,0 +1,315 @@
+//! What a written line adds to the story.
+
+use crate::story::{
+    Arrow, Bar, Column, DroppedGraft, End, Kind, NO_TEXT, PutBack, Record, Story, end_bars, keep,
+    put, text_of_number,
+};
+use kernel_model::NoMemory;
+use lab_words::{CallCode, Code, Form, form_of, text_of, word_at};
+use text_words::number_of;
+
+/// The most levels of a call.
+const LEVELS: u32 = 4;
+
+/// The number that the k-th word of a line says; 0 where it says none.
+pub fn number_at(line: &[u8], k: usize) -> u32 {
+    match number_of(word_at(line, k)) {
+        Some(n) => n,
+        None => 0,
+    }
+}
+
+/// The process of a call.
+fn process_of(bars: &[Bar], call: u32) -> Option<u32> {
+    for bar in bars {
+        if bar.call == call && bar.kind == Kind::Call {
+            return Some(bar.process);
+        }
+    }
+    None
+}
+
+/// What stands in a line from its k-th word on.
+fn from_word(line: &[u8], k: usize) -> &[u8] {
+    let mut rest = line;
+    for _ in 0..k {
+        rest = behind_space(rest);
+    }
+    rest
+}
+
+/// What stands behind the first space.
+fn behind_space(text: &[u8]) -> &[u8] {
+    match text.iter().position(|b| *b == b' ') {
+        Some(at) => &text[at + 1..],
+        None => [].as_slice(),
+    }
+}
+
+/// Says what became of an event that is no call.
+fn note_column<'a>(columns: &mut [Column<'a>], text: &'a [u8]) {
+    if let [.., last] = columns {
+        last.result = text;
+    }
+}
+
+/// Says how a call ended, at the bar of the call itself.
+fn note_result(bars: &mut [Bar], call: u32, said: usize) {
+    for bar in bars {
+        if bar.call == call && bar.kind == Kind::Call {
+            bar.result = said;
+        }
+    }
+}
+
+/// A call ended, with all its levels.
+fn end_call<'a>(
+    story: &mut Story<'a>,
+    event: u32,
+    line: &'a [u8],
+    end: End,
+) -> Result<(), NoMemory> {
+    let call = number_at(line, 0);
+    if process_of(&story.bars, call).is_none() {
+        note_column(&mut story.columns, from_word(line, 1));
+        return Ok(());
+    }
+    let said = keep(story, from_word(line, 1))?;
+    note_result(&mut story.bars, call, said);
+    end_bars(&mut story.bars, call, 1, event, End::Done);
+    end_bars(&mut story.bars, call, 0, event, end);
+    Ok(())
+}
+
+/// The level of an open bar of a graft; the innermost open level where no bar names the graft.
+fn level_of_graft(bars: &[Bar], texts: &[&[u8]], call: u32, graft: &[u8]) -> u32 {
+    let mut innermost = 1;
+    for bar in bars {
+        if bar.call == call && bar.end == End::Open {
+            if let Kind::Level(level) = bar.kind {
+                if text_of_number(texts, bar.text) == graft {
+                    return level;
+                }
+                innermost = level;
+            }
+        }
+    }
+    innermost
+}
+
+/// The graft of a line `m drop Q PT ..` or `m graft Q PT ..`: `Q PT`.
+fn graft_in(line: &[u8]) -> &[u8] {
+    let rest = from_word(line, 2);
+    let first = word_at(rest, 0).len();
+    let second = word_at(rest, 1).len();
+    let end = first.saturating_add(second).saturating_add(1);
+    if end <= rest.len() {
+        &rest[..end]
+    } else {
+        rest
+    }
+}
+
+/// A graft was dropped.
+fn drop_graft<'a>(
+    story: &mut Story<'a>,
+    event: u32,
+    code: Code,
+    line: &'a [u8],
+) -> Result<(), NoMemory> {
+    let call = number_at(line, 0);
+    let Some(process) = process_of(&story.bars, call) else {
+        return Ok(());
+    };
+    let level = level_of_graft(&story.bars, &story.texts, call, graft_in(line));
+    end_bars(&mut story.bars, call, level, event, End::Dropped);
+    put(
+        &mut story.drops,
+        DroppedGraft {
+            event,
+            process,
+            level,
+            code: text_of(code),
+            line,
+        },
+    )?;
+    put_back(story, process, level)
+}
+
+/// The records of the last raw rows that the last drop puts back.
+fn put_back(story: &mut Story, process: u32, level: u32) -> Result<(), NoMemory> {
+    let drop = story.drops.len().saturating_sub(1);
+    for record in &story.records {
+        if record.process == process && record.level >= level {
+            let text = record.text;
+            put(&mut story.put_back, PutBack { drop, text })?;
+        }
+    }
+    Ok(())
+}
+
+/// A call waits: a bar and an arrow.
+fn begin_wait<'a>(story: &mut Story<'a>, event: u32, line: &'a [u8]) -> Result<(), NoMemory> {
+    let call = number_at(line, 0);
+    let Some(process) = process_of(&story.bars, call) else {
+        return Ok(());
+    };
+    let object = word_at(line, 2);
+    end_bars(&mut story.bars, call, LEVELS + 1, event, End::Done);
+    put(
+        &mut story.arrows,
+        Arrow {
+            event,
+            from: process,
+            to: number_at(line, 3),
+            object,
+        },
+    )?;
+    put(
+        &mut story.bars,
+        Bar {
+            process,
+            call,
+            kind: Kind::Wait,
+            from: event,
+            to: event,
+            end: End::Open,
+            text: NO_TEXT,
+            result: NO_TEXT,
+        },
+    )
+}
+
+/// Whether a level of a call is open.
+fn is_open(bars: &[Bar], call: u32, level: u32) -> bool {
+    bars.iter().any(|bar| {
+        bar.call == call && bar.end == End::Open && bar.kind == Kind::Level(level)
+    })
+}
+
+/// Whether an open bar of a level names another graft than this one: a call asks several, one after
+/// the other.
+fn runs_other(bars: &[Bar], texts: &[&[u8]], call: u32, level: u32, graft: &[u8]) -> bool {
+    for bar in bars {
+        if bar.call == call && bar.end == End::Open && bar.kind == Kind::Level(level) {
+            let named = text_of_number(texts, bar.text);
+            return !named.is_empty() && named != graft;
+        }
+    }
+    false
+}
+
+/// Puts a level of a call over the others.
+fn begin_level<'a>(
+    story: &mut Story<'a>,
+    event: u32,
+    line: &'a [u8],
+    process: u32,
+    level: u32,
+) -> Result<(), NoMemory> {
+    let graft = if level == number_at(line, 4) {
+        keep(story, graft_in(line))?
+    } else {
+        NO_TEXT
+    };
+    put(
+        &mut story.bars,
+        Bar {
+            process,
+            call: number_at(line, 0),
+            kind: Kind::Level(level),
+            from: event,
+            to: event,
+            end: End::Open,
+            text: graft,
+            result: NO_TEXT,
+        },
+    )
+}
+
+/// A call runs a graft, in the innermost of so many levels.
+fn run_graft<'a>(story: &mut Story<'a>, event: u32, line: &'a [u8]) -> Result<(), NoMemory> {
+    let call = number_at(line, 0);
+    let depth = number_at(line, 4).min(LEVELS);
+    let Some(process) = process_of(&story.bars, call) else {
+        return Ok(());
+    };
+    let ended = if runs_other(&story.bars, &story.texts, call, depth, graft_in(line)) {
+        depth
+    } else {
+        depth.saturating_add(1)
+    };
+    end_bars(&mut story.bars, call, ended, event, End::Done);
+    for level in 1..LEVELS + 1 {
+        if level <= depth && !is_open(&story.bars, call, level) {
+            begin_level(story, event, line, process, level)?;
+        }
+    }
+    Ok(())
+}
+
+/// A record of a raw row `N raw undo P D ..` is remembered.
+fn read_raw<'a>(story: &mut Story<'a>, line: &'a [u8]) -> Result<(), NoMemory> {
+    match word_at(line, 2) {
+        b"clock" => {
+            story.records.clear();
+            Ok(())
+        }
+        b"undo" => read_record(story, from_word(line, 3)),
+        _ => Ok(()),
+    }
+}
+
+/// A record `P D I` is remembered.
+fn read_record<'a>(story: &mut Story<'a>, text: &'a [u8]) -> Result<(), NoMemory> {
+    put(
+        &mut story.records,
+        Record {
+            process: number_at(text, 0),
+            level: number_at(text, 1).saturating_add(1),
+            text: from_word(text, 2),
+        },
+    )
+}
+
+/// What a line of a form adds.
+fn read_form<'a>(
+    story: &mut Story<'a>,
+    event: u32,
+    form: Form,
+    line: &'a [u8],
+) -> Result<(), NoMemory> {
+    match form {
+        Form::Done | Form::Answered => end_call(story, event, line, End::Done),
+        Form::Loaded => {
+            note_column(&mut story.columns, from_word(line, 2));
+            Ok(())
+        }
+        Form::Coded(Code::Call(_)) | Form::Coded(Code::Image(_)) => {
+            end_call(story, event, line, End::Refused)
+        }
+        Form::Coded(Code::Drop(code)) => drop_graft(story, event, Code::Drop(code), line),
+        Form::Ticked => {
+            note_column(&mut story.columns, word_at(line, 2));
+            Ok(())
+        }
+        Form::Ran => {
+            note_column(&mut story.columns, from_word(line, 1));
+            Ok(())
+        }
+        Form::Waits => begin_wait(story, event, line),
+        Form::InGraft => run_graft(story, event, line),
+        _ => Ok(()),
+    }
+}
+
+/// What a written line adds.
+pub fn read_line<'a>(story: &mut Story<'a>, event: u32, line: &'a [u8]) -> Result<(), NoMemory> {
+    if word_at(line, 1) == b"raw".as_slice() {
+        return read_raw(story, line);
+    }
+    match form_of(line) {
+        Some(form) => read_form(story, event, form, line),
+        None => Ok(()),
+    }
+}

@@ -1,0 +1,190 @@
+//! What a run comes to as a picture: bars, marks, arrows and ticks, by the number of their event.
+
+use kernel_model::NoMemory;
+use std::alloc::Global;
+
+/// Above all levels.
+const WAIT_LEVEL: u32 = 9;
+
+/// How a bar ends.
+#[derive(Clone, Copy, PartialEq, Eq)]
+pub enum End {
+    /// It hasn't ended yet.
+    Open,
+    /// It went well.
+    Done,
+    /// The call was refused.
+    Refused,
+    /// The graft was dropped.
+    Dropped,
+}
+
+/// What a bar stands for.
+#[derive(Clone, Copy, PartialEq, Eq)]
+pub enum Kind {
+    /// A call.
+    Call,
+    /// A wait of a call.
+    Wait,
+    /// A level of grafts, from 1.
+    Level(u32),
+}
+
+/// A bar in the lane of a process, from one event to another.
+#[derive(Clone, Copy)]
+pub struct Bar {
+    /// The process whose lane it stands in.
+    pub process: u32,
+    /// The number of the call.
+    pub call: u32,
+    /// What it stands for.
+    pub kind: Kind,
+    /// The event in which it begins.
+    pub from: u32,
+    /// The event in which it ends, from `from` on.
+    pub to: u32,
+    /// How it ends.
+    pub end: End,
+    /// The number of the text of it: of a call its script line, of a level its graft.
+    pub text: usize,
+    /// The number of the text that says how it ended.
+    pub result: usize,
+}
+
+/// A dropped graft.
+#[derive(Clone, Copy)]
+pub struct DroppedGraft<'a> {
+    /// The event in which it was dropped.
+    pub event: u32,
+    /// The process whose call asked it.
+    pub process: u32,
+    /// Its level, from 1.
+    pub level: u32,
+    /// The code of the cause.
+    pub code: &'a [u8],
+    /// The line that tells it.
+    pub line: &'a [u8],
+}
+
+/// A wait of a process for another one.
+#[derive(Clone, Copy)]
+pub struct Arrow<'a> {
+    /// The event in which the wait begins.
+    pub event: u32,
+    /// The process that waits.
+    pub from: u32,
+    /// The process that has the object.
+    pub to: u32,
+    /// The object, as it is written.
+    pub object: &'a [u8],
+}
+
+/// A record of the undo log, as a raw row writes it.
+#[derive(Clone, Copy)]
+pub struct Record<'a> {
+    /// The process whose call it belongs to.
+    pub process: u32,
+    /// The level that owns it, from 1.
+    pub level: u32,
+    /// What it puts back, as it is written.
+    pub text: &'a [u8],
+}
+
+/// A record that was put back by a drop.
+#[derive(Clone, Copy)]
+pub struct PutBack<'a> {
+    /// The place of the drop among all drops.
+    pub drop: usize,
+    /// What was put back, as it is written.
+    pub text: &'a [u8],
+}
+
+/// A line of a script that is an event.
+#[derive(Clone, Copy)]
+pub struct Column<'a> {
+    /// The number of the event, from 1.
+    pub event: u32,
+    /// Its line of the script.
+    pub line: &'a [u8],
+    /// What became of it, where it is no call.
+    pub result: &'a [u8],
+}
+
+/// All of a run that is drawn.
+#[derive(Drop)]
+pub struct Story<'a> {
+    /// The bars, in the order in which they begin.
+    pub bars: Vec<Bar>,
+    /// The texts of bars.
+    pub texts: Vec<&'a [u8]>,
+    /// The dropped grafts.
+    pub drops: Vec<DroppedGraft<'a>>,
+    /// Who waited for whom.
+    pub arrows: Vec<Arrow<'a>>,
+    /// What was put back.
+    pub put_back: Vec<PutBack<'a>>,
+    /// The records of the last raw rows.
+    pub records: Vec<Record<'a>>,
+    /// The events.
+    pub columns: Vec<Column<'a>>,
+}
+
+impl<'a> Story<'a> {
+    /// Nothing yet.
+    pub fn new(alloc: Global) -> Story<'a> {
+        Story {
+            bars: Vec::new(alloc),
+            texts: Vec::new(alloc),
+            drops: Vec::new(alloc),
+            arrows: Vec::new(alloc),
+            put_back: Vec::new(alloc),
+            records: Vec::new(alloc),
+            columns: Vec::new(alloc),
+        }
+    }
+}
+
+/// Keeps a text: its number.
+pub fn keep<'a>(story: &mut Story<'a>, text: &'a [u8]) -> Result<usize, NoMemory> {
+    let number = story.texts.len();
+    put(&mut story.texts, text)?;
+    Ok(number)
+}
+
+/// The text of a number; none where there is no such text.
+pub fn text_of_number<'a>(texts: &[&'a [u8]], number: usize) -> &'a [u8] {
+    match texts.get(number) {
+        Some(text) => *text,
+        None => [].as_slice(),
+    }
+}
+
+/// The number of no text.
+pub const NO_TEXT: usize = usize::MAX;
+
+/// Puts an item behind others.
+pub fn put<T: Drop>(items: &mut Vec<T>, item: T) -> Result<(), NoMemory> {
+    match items.push(item) {
+        Ok(()) => Ok(()),
+        Err(_) => Err(NoMemory),
+    }
+}
+
+/// Ends the open bars of a call that stand at a level and above. Calls are level 0.
+pub fn end_bars(bars: &mut [Bar], call: u32, level: u32, event: u32, end: End) {
+    for bar in bars {
+        if bar.call == call && bar.end == End::Open && level_of(bar.kind) >= level {
+            bar.to = event;
+            bar.end = end;
+        }
+    }
+}
+
+/// The level of a bar: a wait goes with the innermost.
+pub fn level_of(kind: Kind) -> u32 {
+    match kind {
+        Kind::Call => 0,
+        Kind::Wait => WAIT_LEVEL,
+        Kind::Level(level) => level,
+    }
+}

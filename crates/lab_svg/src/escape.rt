@@ -1,0 +1,66 @@
+//! Text and numbers behind a text of SVG.
+
+ghost use Rattle.std.specs.Prelude.{◌≡◌, ◌++◌, decimal, flat_map, OnOk};
+ghost use Rattle.lab_svg.specs.Escapes as spec;
+
+use kernel_model::NoMemory;
+
+/// Appends bytes.
+pub fn append(out: &mut Vec<u8>, bytes: &[u8]) -> Result<(), NoMemory>
+    ensures { OnOk result (out.new.items ≡ out.old.items ++ bytes.now) }
+{
+    match out.extend_from_slice(bytes) {
+        Ok(()) => Ok(()),
+        Err(_) => Err(NoMemory),
+    }
+}
+
+/// Appends a number in decimal.
+pub fn append_number(out: &mut Vec<u8>, n: u32) -> Result<(), NoMemory>
+    ensures { OnOk result (out.new.items ≡ out.old.items ++ decimal n) }
+{
+    let mut digits = itoa::Buffer::new();
+    append(out, digits.format(n).as_bytes())
+}
+
+/// Appends a byte of a text: a sign of SVG by its name, and `?` for what is no printable sign of
+/// ASCII.
+fn append_escaped(out: &mut Vec<u8>, byte: u8) -> Result<(), NoMemory>
+    ensures { OnOk result (out.new.items ≡ out.old.items ++ spec.escaped byte) }
+{
+    match byte {
+        b'<' => append(out, b"&lt;"),
+        b'>' => append(out, b"&gt;"),
+        b'&' => append(out, b"&amp;"),
+        b'"' => append(out, b"&quot;"),
+        b' '..=b'~' => append(out, &[byte]),
+        _ => append(out, b"?"),
+    }
+}
+
+/// Appends a text, so that no byte of it is read as SVG.
+pub fn append_text(out: &mut Vec<u8>, text: &[u8]) -> Result<(), NoMemory>
+    ensures { OnOk result (out.new.items ≡ out.old.items ++ flat_map spec.escaped text.now) }
+{
+    for byte in text {
+        append_escaped(out, *byte)?;
+    }
+    Ok(())
+}
+
+/// Appends a text and a number.
+pub fn append_with(out: &mut Vec<u8>, text: &[u8], n: u32) -> Result<(), NoMemory>
+    ensures { OnOk result (out.new.items ≡ out.old.items ++ text.now ++ decimal n) }
+{
+    append(out, text)?;
+    append_number(out, n)
+}
+
+/// The first bytes of a text, at most so many.
+pub fn shortened(text: &[u8], most: usize) -> &[u8] {
+    if text.len() <= most {
+        text
+    } else {
+        &text[..most]
+    }
+}

@@ -1,5 +1,0 @@
-use Rattle.lab_words.proofs.Found.{assembler-is-found}
-use Rattle.lab_words.proofs.laws.assembler_is_found.Goals as goal
-
-pub returns : goal.returns
-returns c = assembler-is-found

@@ -1,5 +1,0 @@
-use Rattle.lab_words.proofs.Found.{drops-are-found}
-use Rattle.lab_words.proofs.laws.drops_are_found.Goals as goal
-
-pub returns : goal.returns
-returns c = drops-are-found

@@ -1,5 +1,0 @@
-use Rattle.lab_words.proofs.Found.{images-are-found}
-use Rattle.lab_words.proofs.laws.images_are_found.Goals as goal
-
-pub returns : goal.returns
-returns c = images-are-found

@@ -1,5 +1,0 @@
-use Rattle.lab_words.proofs.Found.{rewriter-is-found}
-use Rattle.lab_words.proofs.laws.rewriter_is_found.Goals as goal
-
-pub returns : goal.returns
-returns c = rewriter-is-found

@@ -1,5 +1,0 @@
-use Rattle.lab_words.proofs.Found.{script-lines-are-found}
-use Rattle.lab_words.proofs.laws.script_lines_are_found.Goals as goal
-
-pub returns : goal.returns
-returns c = script-lines-are-found
