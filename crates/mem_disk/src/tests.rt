@@ -6,8 +6,9 @@ use std::test::Fail;
 use vino_base::Disk;
 
 /// The entries of the sample disk, byte for byte.
-const ENTRIES: &[u8; 96] =
-    b"alpha\0\0\0\0\0\0\0\0\0\0\0\x01\0\0\0\x08\0\0\0\0\x10\0\0\0\0\0\0beta\0\0\0\0\0\0\0\0\0\0\0\0\x09\0\0\0\x28\0\0\0\0\x50\0\0\0\0\0\0gamma\0\0\0\0\0\0\0\0\0\0\0\x31\0\0\0\x03\0\0\0\x4c\x04\0\0\0\0\0\0";
+const ENTRIES: &[u8; 96] = b"alpha\0\0\0\0\0\0\0\0\0\0\0\x01\0\0\0\x08\0\0\0\0\x10\0\0\0\0\0\0\
+      beta\0\0\0\0\0\0\0\0\0\0\0\0\x09\0\0\0\x28\0\0\0\0\x50\0\0\0\0\0\0\
+      gamma\0\0\0\0\0\0\0\0\0\0\0\x31\0\0\0\x03\0\0\0\x4c\x04\0\0\0\0\0\0";
 
 /// Reads block b, if there is one. Whether that went well.
 fn reads(disk: &mut MemDisk, b: u32, to: &mut [u8; 512]) -> bool {

@@ -35,9 +35,21 @@ impl Model for Procs {
 
     ghost Value = { Table };
 
-    ghost view = { λ p. record { queue = p.rows.items; cells = p.cells; files = p.files; holders = p.holders; handlers = p.handlers.items } };
+    ghost view = { λ p. record {
+      queue = p.rows.items;
+      cells = p.cells;
+      files = p.files;
+      holders = p.holders;
+      handlers = p.handlers.items;
+    } };
 
-    ghost invariant = { λ p. IsTable (record { queue = p.rows.items; cells = p.cells; files = p.files; holders = p.holders; handlers = p.handlers.items }) };
+    ghost invariant = { λ p. IsTable (record {
+      queue = p.rows.items;
+      cells = p.cells;
+      files = p.files;
+      holders = p.holders;
+      handlers = p.handlers.items;
+    }) };
 }
 
 /// The place of number k of process p in an array with four numbers for each process.

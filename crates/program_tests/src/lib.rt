@@ -194,7 +194,8 @@ mod tests {
     #[test]
     fn a_failed_call_of_the_disk_is_one_refusal(rt: HostRuntime) -> Result<(), Fail> {
         let script =
-            "boot\nopen 0 gamma\nread 0 0 2 0 1\nread 0 0 2 0 1\nwrite 0 0 2 1 ff\nsync 0\nsync 0\n";
+            "boot\nopen 0 gamma\nread 0 0 2 0 1\nread 0 0 2 0 1\nwrite 0 0 2 1 ff\nsync 0\n\
+            sync 0\n";
         let cases = [
             (1u64, "0 E16\n1 E6\n2 E5\n3 E5\n4 E5\n5 ok 0\n6 ok 0\n"),
             (
@@ -222,7 +223,8 @@ mod tests {
     /// is synced. The disk is called for block 0, blocks 1 to 3, block 4, block 6 and the changed
     /// block 2, and the changed block 6.
     const EVICTIONS: &str =
-        "frames 2\nboot\nopen 0 alpha\nread 0 0 0 0 4\nwrite 0 0 1 0 7879\nread 0 0 3 0 1\nread 0 0 5 0 1\n\
+        "frames 2\nboot\nopen 0 alpha\nread 0 0 0 0 4\nwrite 0 0 1 0 7879\nread 0 0 3 0 1\n\
+        read 0 0 5 0 1\n\
         write 0 0 5 0 7a7a\nsync 0\n";
 
     #[test]
@@ -278,16 +280,25 @@ mod tests {
     /// A sequential reader with a graft that reads ahead and one that evicts, beside a plain
     /// reader: with a wait, a write, a yield and a sync. Another program computed the seals.
     const SESSION: &str = "boot\n\
-        image 0 56475231010000000800000000000000040402000000000001050000030000000d06040500000000160600000600000002010500000000001a0000000000000002010400000000001a0000000000000085a9380c0c8a998c1b2a759a5fb62bd2e24ceae40e8342b555bf816dec78f679\n\
-        image 1 5647523101000000040000000000000017000000060000000e000000ffffffff17000000070000001a000000000000007c7d7443096be342b6733039e33c1cdc0f6c2e1bf6b6684595e4d96240eca2b7\n\
-        spawn 0\nspawn 0\ngive 0 1 steps 1000\nopen 1 beta\nopen 2 alpha\ninstall 1 0 0 16\nbill 1 0\ninstall 1 4 1 16\nbill 1 4\n\
-        read 1 0 0 0 2\nstep 1 100\nread 2 0 0 0 2\nread 1 0 1 0 2\nstep 1 100\nread 1 0 2 0 2\nstep 1 100\nread 2 0 1 0 2\n\
-        read 1 0 3 0 2\ntick\nstep 2 100\nstep 1 100\nwrite 2 0 2 0 c0ffee\nstep 2 100\nyield 0\nsync 0\n";
+        image 0 56475231010000000800000000000000040402000000000001050000030000000d06040500000000\
+        160600000600000002010500000000001a0000000000000002010400000000001a0000000000000085a9380c\
+        0c8a998c1b2a759a5fb62bd2e24ceae40e8342b555bf816dec78f679\n\
+        image 1 5647523101000000040000000000000017000000060000000e000000ffffffff1700000007000000\
+        1a000000000000007c7d7443096be342b6733039e33c1cdc0f6c2e1bf6b6684595e4d96240eca2b7\n\
+        spawn 0\nspawn 0\ngive 0 1 steps 1000\nopen 1 beta\nopen 2 alpha\ninstall 1 0 0 16\n\
+        bill 1 0\ninstall 1 4 1 16\nbill 1 4\n\
+        read 1 0 0 0 2\nstep 1 100\nread 2 0 0 0 2\nread 1 0 1 0 2\nstep 1 100\nread 1 0 2 0 2\n\
+        step 1 100\nread 2 0 1 0 2\n\
+        read 1 0 3 0 2\ntick\nstep 2 100\nstep 1 100\nwrite 2 0 2 0 c0ffee\nstep 2 100\n\
+        yield 0\nsync 0\n";
 
     const SESSION_LINES: &str =
-        "0 boot 8 64 3\n1 ok 8 0\n2 ok 4 0\n3 ok 1\n4 ok 2\n5 ok\n6 ok 0\n7 ok 0\n8 ok\n9 ok\n10 ok\n11 ok\n\
-        12 data 1718\n12 graft 1 0 1\n12 ok\n13 ran 6\n14 data 1f20\n14 ok\n15 data 3637\n15 graft 1 0 1\n15 ok\n16 ran 6\n\
-        17 data 5556\n17 graft 1 0 1\n17 ok\n18 ran 10\n19 data 3e3f\n19 graft 1 4 1\n20 waits Cache 2\n21 tick 1\n19 ok\n20 data 7475\n\
+        "0 boot 8 64 3\n1 ok 8 0\n2 ok 4 0\n3 ok 1\n4 ok 2\n5 ok\n6 ok 0\n7 ok 0\n8 ok\n9 ok\n\
+        10 ok\n11 ok\n\
+        12 data 1718\n12 graft 1 0 1\n12 ok\n13 ran 6\n14 data 1f20\n14 ok\n15 data 3637\n\
+        15 graft 1 0 1\n15 ok\n16 ran 6\n\
+        17 data 5556\n17 graft 1 0 1\n17 ok\n18 ran 10\n19 data 3e3f\n19 graft 1 4 1\n\
+        20 waits Cache 2\n21 tick 1\n19 ok\n20 data 7475\n\
         22 ran 4\n20 ok\n23 ran 6\n24 graft 1 4 1\n24 ok\n25 ran 4\n26 ok 1\n27 ok 1\n";
 
     /// How many lines are refusals for the disk.
@@ -379,10 +390,11 @@ mod tests {
             return Err(AllocError.into());
         }
         let script = format!(in alloc;
-            "boot\nimage 0 {TUNES}\nopen 0 alpha\ninstall 0 0 0 50\nbill 0 0\nread 0 0 0 0 1\nstep 0 11\n"
+            "boot\nimage 0 {TUNES}\nopen 0 alpha\ninstall 0 0 0 50\nbill 0 0\nread 0 0 0 0 1\n\
+            step 0 11\n"
         )?;
-        let lines =
-            "0 boot 8 64 3\n1 ok 11 0\n2 ok 0\n3 ok\n4 ok\n5 data 1f\n5 graft 0 0 1\n5 drop 0 0 C1\n5 ok\n6 ran 10\n";
+        let lines = "0 boot 8 64 3\n1 ok 11 0\n2 ok 0\n3 ok\n4 ok\n5 data 1f\n5 graft 0 0 1\n\
+            5 drop 0 0 C1\n5 ok\n6 ran 10\n";
         let ran = run_with(alloc, &["run", KEY], script.as_str(), [0; 3], shelf)?;
         assert!(rt; ran.written.bytes() == lines.as_bytes());
         assert_eq!(rt; known.get().count, 4);
@@ -393,7 +405,10 @@ mod tests {
     /// Sets the parameter of reading ahead to 5 and to 6, then divides by zero. Another program
     /// computed the seal.
     const TUNES: &str =
-        "56475231010000000b00000000000000010000000000000001010000000000000102000005000000170000000b000000010000000000000001010000000000000102000006000000170000000b00000001070000000000000b070707000000001a000000000000008211e4388f02474685ac91110290a570ee60e9a820be0de1033cf879e02262ce";
+        "56475231010000000b000000000000000100000000000000010100000000000001020000050000001700000\
+        00b000000010000000000000001010000000000000102000006000000170000000b000000010700000000000\
+        00b070707000000001a000000000000008211e4388f02474685ac91110290a570ee60e9a820be0de1033cf87\
+        9e02262ce";
 
     #[test]
     fn a_failing_sink_or_source_gives_its_status(rt: HostRuntime) -> Result<(), Fail> {

@@ -14,7 +14,7 @@ use Rattle.kernel_model.specs.Pieces.{plain}
 use Rattle.kernel_model.specs.InPlace.{Cut, in_place, undone, store_below}
 use Rattle.kernel_model.specs.Session.{whole, first_session}
 use Rattle.kernel_model.specs.Boxed.{instr}
-use Rattle.worked_examples.specs.Given.{Given, Lines, ImageLine, image, no_keys, run_all, given_run, run_of}
+use Rattle.worked_examples.specs.Given.{Given, Lines, ImageLine, image, no_keys, run_all, given_run, run_of, lines_of}
 
 -- sets cell 0 to 7, then to 9, and divides by zero
 abbrev pub twice : Result Image LoadFault
@@ -84,10 +84,32 @@ pub oldest_value_comes_back :
     given_run ([]) (
     Lines (codes "boot\n")
     ∷ ImageLine 0 twice
-    ∷ Lines (codes
-    "spawn 0\ngive 0 1 steps 100\ngive 0 1 records 10\npoke 1 0 3\ninstall 1 5 0 100\nbill 1 5\nyield 0\nstep 0 6\nraw\nstep 0 6\npeek 1 0\nraw\n")
+    ∷ Lines (lines_of (
+    codes "spawn 0" ∷ codes "give 0 1 steps 100" ∷ codes "give 0 1 records 10"
+    ∷ codes "poke 1 0 3" ∷ codes "install 1 5 0 100" ∷ codes "bill 1 5" ∷ codes "yield 0"
+    ∷ codes "step 0 6" ∷ codes "raw" ∷ codes "step 0 6" ∷ codes "peek 1 0" ∷ codes "raw"
+    ∷ []))
     ∷ [])
-    ≡ (0, codes "0 boot 8 64 3\n1 ok 9 0\n2 ok 1\n3 ok\n4 ok\n5 ok\n6 ok\n7 ok\n8 graft 1 5 1\n9 ran 6\n8 graft 1 5 1\n10 raw clock 0\n10 raw queue 1:20:0 0:20:0\n10 raw acct 0 999900 999990 1000000 0 0 0\n10 raw acct 1 94 8 0 6 2 0\n10 raw cells 0 0 0 0 0\n10 raw cells 1 9 0 0 0\n10 raw graft 1 5 0 100 1 0 0 0\n10 raw pol 0 1 2\n10 raw pol 1 0\n10 raw pol 2 0\n10 raw lru\n10 raw call 0 8 graft 1 5 1\n10 raw level 0 0 1 5 6\n10 raw undo 0 0 cell 1 0 7\n10 raw undo 0 0 cell 1 0 3\n8 drop 1 5 C1\n8 ok 1\n11 ran 2\n12 ok 3\n13 raw clock 0\n13 raw queue 1:20:1 0:20:0\n13 raw acct 0 999900 999990 1000000 0 0 0\n13 raw acct 1 92 8 0 8 2 0\n13 raw cells 0 0 0 0 0\n13 raw cells 1 3 0 0 0\n13 raw pol 0 1 2\n13 raw pol 1 0\n13 raw pol 2 0\n13 raw lru\n")
+    ≡ (
+      0,
+      lines_of (
+          codes "0 boot 8 64 3" ∷ codes "1 ok 9 0" ∷ codes "2 ok 1" ∷ codes "3 ok" ∷ codes "4 ok"
+          ∷ codes "5 ok" ∷ codes "6 ok" ∷ codes "7 ok" ∷ codes "8 graft 1 5 1" ∷ codes "9 ran 6"
+          ∷ codes "8 graft 1 5 1" ∷ codes "10 raw clock 0" ∷ codes "10 raw queue 1:20:0 0:20:0"
+          ∷ codes "10 raw acct 0 999900 999990 1000000 0 0 0" ∷ codes "10 raw acct 1 94 8 0 6 2 0"
+          ∷ codes "10 raw cells 0 0 0 0 0" ∷ codes "10 raw cells 1 9 0 0 0"
+          ∷ codes "10 raw graft 1 5 0 100 1 0 0 0" ∷ codes "10 raw pol 0 1 2"
+          ∷ codes "10 raw pol 1 0" ∷ codes "10 raw pol 2 0" ∷ codes "10 raw lru"
+          ∷ codes "10 raw call 0 8 graft 1 5 1" ∷ codes "10 raw level 0 0 1 5 6"
+          ∷ codes "10 raw undo 0 0 cell 1 0 7" ∷ codes "10 raw undo 0 0 cell 1 0 3"
+          ∷ codes "8 drop 1 5 C1" ∷ codes "8 ok 1" ∷ codes "11 ran 2" ∷ codes "12 ok 3"
+          ∷ codes "13 raw clock 0" ∷ codes "13 raw queue 1:20:1 0:20:0"
+          ∷ codes "13 raw acct 0 999900 999990 1000000 0 0 0" ∷ codes "13 raw acct 1 92 8 0 8 2 0"
+          ∷ codes "13 raw cells 0 0 0 0 0" ∷ codes "13 raw cells 1 3 0 0 0"
+          ∷ codes "13 raw pol 0 1 2" ∷ codes "13 raw pol 1 0" ∷ codes "13 raw pol 2 0"
+          ∷ codes "13 raw lru"
+          ∷ []),
+    )
 unfolding digits same_object entries entry_row is_usable sample_directory sample_block
 oldest_value_comes_back = refl
 
@@ -99,7 +121,24 @@ pub tuned_parameter_put_back :
     ∷ Lines (codes
     "open 0 alpha\ninstall 0 0 0 50\nbill 0 0\nread 0 0 0 0 1\nstep 0 6\nraw\nstep 0 2\nraw\n")
     ∷ [])
-    ≡ (0, codes "0 boot 8 64 3\n1 ok\n2 ok 9 0\n3 ok 0\n4 ok\n5 ok\n6 data 1f\n6 graft 0 0 1\n7 ran 6\n6 graft 0 0 1\n8 raw clock 0\n8 raw queue 0:20:0\n8 raw acct 0 999994 999999 1000000 6 1 0\n8 raw cells 0 0 0 0 0\n8 raw open 0 0 alpha 1 8 1 0 0\n8 raw graft 0 0 0 50 1 0 0 0\n8 raw pol 0 1 5\n8 raw pol 1 0\n8 raw pol 2 0\n8 raw lru 0:0:1:0:0\n8 raw call 0 6 graft 0 0 1\n8 raw level 0 0 0 0 6\n8 raw undo 0 0 tune 0 0 4\n6 drop 0 0 C1\n6 ok\n9 ran 2\n10 raw clock 0\n10 raw queue 0:20:0\n10 raw acct 0 999992 999999 1000000 8 1 0\n10 raw cells 0 0 0 0 0\n10 raw open 0 0 alpha 1 8 1 5 0\n10 raw pol 0 1 4\n10 raw pol 1 0\n10 raw pol 2 0\n10 raw lru 0:0:1:0:0 1:0:2:0:0 2:0:3:0:0 3:0:4:0:0 4:0:5:0:0\n")
+    ≡ (
+      0,
+      lines_of (
+          codes "0 boot 8 64 3" ∷ codes "1 ok" ∷ codes "2 ok 9 0" ∷ codes "3 ok 0" ∷ codes "4 ok"
+          ∷ codes "5 ok" ∷ codes "6 data 1f" ∷ codes "6 graft 0 0 1" ∷ codes "7 ran 6"
+          ∷ codes "6 graft 0 0 1" ∷ codes "8 raw clock 0" ∷ codes "8 raw queue 0:20:0"
+          ∷ codes "8 raw acct 0 999994 999999 1000000 6 1 0" ∷ codes "8 raw cells 0 0 0 0 0"
+          ∷ codes "8 raw open 0 0 alpha 1 8 1 0 0" ∷ codes "8 raw graft 0 0 0 50 1 0 0 0"
+          ∷ codes "8 raw pol 0 1 5" ∷ codes "8 raw pol 1 0" ∷ codes "8 raw pol 2 0"
+          ∷ codes "8 raw lru 0:0:1:0:0" ∷ codes "8 raw call 0 6 graft 0 0 1"
+          ∷ codes "8 raw level 0 0 0 0 6" ∷ codes "8 raw undo 0 0 tune 0 0 4"
+          ∷ codes "6 drop 0 0 C1" ∷ codes "6 ok" ∷ codes "9 ran 2" ∷ codes "10 raw clock 0"
+          ∷ codes "10 raw queue 0:20:0" ∷ codes "10 raw acct 0 999992 999999 1000000 8 1 0"
+          ∷ codes "10 raw cells 0 0 0 0 0" ∷ codes "10 raw open 0 0 alpha 1 8 1 5 0"
+          ∷ codes "10 raw pol 0 1 4" ∷ codes "10 raw pol 1 0" ∷ codes "10 raw pol 2 0"
+          ∷ codes "10 raw lru 0:0:1:0:0 1:0:2:0:0 2:0:3:0:0 3:0:4:0:0 4:0:5:0:0"
+          ∷ []),
+    )
 unfolding digits same_object entries entry_row is_usable sample_directory sample_block
 tuned_parameter_put_back = refl
 
@@ -111,7 +150,17 @@ pub unfunded_graft_is_dropped :
     ∷ ImageLine 0 at_once
     ∷ Lines (codes "spawn 0\ninstall 1 5 0 100\nyield 0\nstep 0 10\nraw\n")
     ∷ [])
-    ≡ (0, codes "0 boot 8 64 3\n1 ok 1 0\n2 ok 1\n3 ok\n4 graft 1 5 1\n4 drop 1 5 C9\n4 ok 1\n5 ran 1\n6 raw clock 0\n6 raw queue 1:20:1 0:20:0\n6 raw acct 0 1000000 1000000 1000000 0 0 0\n6 raw acct 1 0 0 0 0 0 0\n6 raw cells 0 0 0 0 0\n6 raw cells 1 0 0 0 0\n6 raw pol 0 1 2\n6 raw pol 1 0\n6 raw pol 2 0\n6 raw lru\n")
+    ≡ (
+      0,
+      lines_of (
+          codes "0 boot 8 64 3" ∷ codes "1 ok 1 0" ∷ codes "2 ok 1" ∷ codes "3 ok"
+          ∷ codes "4 graft 1 5 1" ∷ codes "4 drop 1 5 C9" ∷ codes "4 ok 1" ∷ codes "5 ran 1"
+          ∷ codes "6 raw clock 0" ∷ codes "6 raw queue 1:20:1 0:20:0"
+          ∷ codes "6 raw acct 0 1000000 1000000 1000000 0 0 0" ∷ codes "6 raw acct 1 0 0 0 0 0 0"
+          ∷ codes "6 raw cells 0 0 0 0 0" ∷ codes "6 raw cells 1 0 0 0 0" ∷ codes "6 raw pol 0 1 2"
+          ∷ codes "6 raw pol 1 0" ∷ codes "6 raw pol 2 0" ∷ codes "6 raw lru"
+          ∷ []),
+    )
 unfolding digits same_object entries entry_row is_usable sample_directory sample_block
 unfunded_graft_is_dropped = refl
 
@@ -122,7 +171,13 @@ pub new_graft_has_nothing :
     ∷ ImageLine 0 at_once
     ∷ Lines (codes "install 0 5 0 100\nyield 0\nstep 0 10\nbill 0 5\n")
     ∷ [])
-    ≡ (0, codes "0 boot 8 64 3\n1 ok 1 0\n2 ok\n3 graft 0 5 1\n3 drop 0 5 C9\n3 ok 0\n4 ran 1\n5 E11\n")
+    ≡ (
+      0,
+      lines_of (
+          codes "0 boot 8 64 3" ∷ codes "1 ok 1 0" ∷ codes "2 ok" ∷ codes "3 graft 0 5 1"
+          ∷ codes "3 drop 0 5 C9" ∷ codes "3 ok 0" ∷ codes "4 ran 1" ∷ codes "5 E11"
+          ∷ []),
+    )
 unfolding digits same_object entries entry_row is_usable sample_directory sample_block
 new_graft_has_nothing = refl
 
@@ -132,10 +187,45 @@ pub nested_completes_then_asker_traps :
     Lines (codes "boot\n")
     ∷ ImageLine 0 child
     ∷ ImageLine 1 parent
-    ∷ Lines (codes
-    "spawn 0\nopen 1 alpha\ngive 0 1 steps 100\ngive 0 1 records 10\npoke 1 0 3\ninstall 1 0 0 50\nfund 1 0 steps 20\nfund 1 0 records 5\ninstall 1 5 1 50\nfund 1 5 steps 20\nyield 0\nstep 0 9\nraw\nstep 0 1\nraw\nstep 0 1\npeek 1 0\nraw\n")
+    ∷ Lines (lines_of (
+    codes "spawn 0" ∷ codes "open 1 alpha" ∷ codes "give 0 1 steps 100"
+    ∷ codes "give 0 1 records 10" ∷ codes "poke 1 0 3" ∷ codes "install 1 0 0 50"
+    ∷ codes "fund 1 0 steps 20" ∷ codes "fund 1 0 records 5" ∷ codes "install 1 5 1 50"
+    ∷ codes "fund 1 5 steps 20" ∷ codes "yield 0" ∷ codes "step 0 9" ∷ codes "raw"
+    ∷ codes "step 0 1" ∷ codes "raw" ∷ codes "step 0 1" ∷ codes "peek 1 0" ∷ codes "raw"
+    ∷ []))
     ∷ [])
-    ≡ (0, codes "0 boot 8 64 3\n1 ok 8 0\n2 ok 3 0\n3 ok 1\n4 ok 0\n5 ok\n6 ok\n7 ok\n8 ok\n9 ok\n10 ok\n11 ok\n12 ok\n13 graft 1 5 1\n14 ran 9\n13 graft 1 0 2\n15 raw clock 0\n15 raw queue 1:20:0 0:20:0\n15 raw acct 0 999900 999990 1000000 0 0 0\n15 raw acct 1 60 5 0 9 1 0\n15 raw cells 0 0 0 0 0\n15 raw cells 1 8 0 0 0\n15 raw open 1 0 alpha 0 8 0 0 0\n15 raw graft 1 0 0 50 0 13 4 0\n15 raw graft 1 5 1 50 0 18 0 0\n15 raw pol 0 1 2\n15 raw pol 1 0\n15 raw pol 2 0\n15 raw lru\n15 raw call 0 13 graft 1 0 2\n15 raw level 0 0 1 5 2\n15 raw level 0 1 1 0 7\n15 raw undo 0 1 cell 1 0 3\n16 ran 1\n13 graft 1 5 1\n17 raw clock 0\n17 raw queue 1:20:0 0:20:0\n17 raw acct 0 999900 999990 1000000 0 0 0\n17 raw acct 1 60 5 0 10 1 0\n17 raw cells 0 0 0 0 0\n17 raw cells 1 8 0 0 0\n17 raw open 1 0 alpha 0 8 0 0 0\n17 raw graft 1 0 0 50 0 12 4 0\n17 raw graft 1 5 1 50 0 18 0 0\n17 raw pol 0 1 2\n17 raw pol 1 0\n17 raw pol 2 0\n17 raw lru\n17 raw call 0 13 graft 1 5 1\n17 raw level 0 0 1 5 2\n17 raw undo 0 0 cell 1 0 3\n13 drop 1 5 C2 77\n13 ok 1\n18 ran 1\n19 ok 3\n20 raw clock 0\n20 raw queue 1:20:1 0:20:0\n20 raw acct 0 999900 999990 1000000 0 0 0\n20 raw acct 1 77 5 0 11 1 0\n20 raw cells 0 0 0 0 0\n20 raw cells 1 3 0 0 0\n20 raw open 1 0 alpha 0 8 0 0 0\n20 raw graft 1 0 0 50 0 12 4 0\n20 raw pol 0 1 2\n20 raw pol 1 0\n20 raw pol 2 0\n20 raw lru\n")
+    ≡ (
+      0,
+      lines_of (
+          codes "0 boot 8 64 3" ∷ codes "1 ok 8 0" ∷ codes "2 ok 3 0" ∷ codes "3 ok 1"
+          ∷ codes "4 ok 0" ∷ codes "5 ok" ∷ codes "6 ok" ∷ codes "7 ok" ∷ codes "8 ok"
+          ∷ codes "9 ok" ∷ codes "10 ok" ∷ codes "11 ok" ∷ codes "12 ok" ∷ codes "13 graft 1 5 1"
+          ∷ codes "14 ran 9" ∷ codes "13 graft 1 0 2" ∷ codes "15 raw clock 0"
+          ∷ codes "15 raw queue 1:20:0 0:20:0" ∷ codes "15 raw acct 0 999900 999990 1000000 0 0 0"
+          ∷ codes "15 raw acct 1 60 5 0 9 1 0" ∷ codes "15 raw cells 0 0 0 0 0"
+          ∷ codes "15 raw cells 1 8 0 0 0" ∷ codes "15 raw open 1 0 alpha 0 8 0 0 0"
+          ∷ codes "15 raw graft 1 0 0 50 0 13 4 0" ∷ codes "15 raw graft 1 5 1 50 0 18 0 0"
+          ∷ codes "15 raw pol 0 1 2" ∷ codes "15 raw pol 1 0" ∷ codes "15 raw pol 2 0"
+          ∷ codes "15 raw lru" ∷ codes "15 raw call 0 13 graft 1 0 2"
+          ∷ codes "15 raw level 0 0 1 5 2" ∷ codes "15 raw level 0 1 1 0 7"
+          ∷ codes "15 raw undo 0 1 cell 1 0 3" ∷ codes "16 ran 1" ∷ codes "13 graft 1 5 1"
+          ∷ codes "17 raw clock 0" ∷ codes "17 raw queue 1:20:0 0:20:0"
+          ∷ codes "17 raw acct 0 999900 999990 1000000 0 0 0" ∷ codes "17 raw acct 1 60 5 0 10 1 0"
+          ∷ codes "17 raw cells 0 0 0 0 0" ∷ codes "17 raw cells 1 8 0 0 0"
+          ∷ codes "17 raw open 1 0 alpha 0 8 0 0 0" ∷ codes "17 raw graft 1 0 0 50 0 12 4 0"
+          ∷ codes "17 raw graft 1 5 1 50 0 18 0 0" ∷ codes "17 raw pol 0 1 2"
+          ∷ codes "17 raw pol 1 0" ∷ codes "17 raw pol 2 0" ∷ codes "17 raw lru"
+          ∷ codes "17 raw call 0 13 graft 1 5 1" ∷ codes "17 raw level 0 0 1 5 2"
+          ∷ codes "17 raw undo 0 0 cell 1 0 3" ∷ codes "13 drop 1 5 C2 77" ∷ codes "13 ok 1"
+          ∷ codes "18 ran 1" ∷ codes "19 ok 3" ∷ codes "20 raw clock 0"
+          ∷ codes "20 raw queue 1:20:1 0:20:0" ∷ codes "20 raw acct 0 999900 999990 1000000 0 0 0"
+          ∷ codes "20 raw acct 1 77 5 0 11 1 0" ∷ codes "20 raw cells 0 0 0 0 0"
+          ∷ codes "20 raw cells 1 3 0 0 0" ∷ codes "20 raw open 1 0 alpha 0 8 0 0 0"
+          ∷ codes "20 raw graft 1 0 0 50 0 12 4 0" ∷ codes "20 raw pol 0 1 2"
+          ∷ codes "20 raw pol 1 0" ∷ codes "20 raw pol 2 0" ∷ codes "20 raw lru"
+          ∷ []),
+    )
 unfolding digits same_object entries entry_row is_usable sample_directory sample_block
 nested_completes_then_asker_traps = refl
 
@@ -146,10 +236,25 @@ pub nested_level_hands_on_what_it_holds :
     Lines (codes "boot\n")
     ∷ ImageLine 0 child
     ∷ ImageLine 1 parent
-    ∷ Lines (codes
-    "spawn 0\nopen 1 alpha\ngive 0 1 steps 100\ngive 0 1 records 10\npoke 1 0 3\ninstall 1 0 0 50\nfund 1 0 steps 20\nfund 1 0 records 5\ninstall 1 5 1 50\nfund 1 5 steps 20\nyield 0\nstep 0 10\npoke 1 0 7\nstep 0 1\npeek 1 0\n")
+    ∷ Lines (lines_of (
+    codes "spawn 0" ∷ codes "open 1 alpha" ∷ codes "give 0 1 steps 100"
+    ∷ codes "give 0 1 records 10" ∷ codes "poke 1 0 3" ∷ codes "install 1 0 0 50"
+    ∷ codes "fund 1 0 steps 20" ∷ codes "fund 1 0 records 5" ∷ codes "install 1 5 1 50"
+    ∷ codes "fund 1 5 steps 20" ∷ codes "yield 0" ∷ codes "step 0 10" ∷ codes "poke 1 0 7"
+    ∷ codes "step 0 1" ∷ codes "peek 1 0"
+    ∷ []))
     ∷ [])
-    ≡ (0, codes "0 boot 8 64 3\n1 ok 8 0\n2 ok 3 0\n3 ok 1\n4 ok 0\n5 ok\n6 ok\n7 ok\n8 ok\n9 ok\n10 ok\n11 ok\n12 ok\n13 graft 1 5 1\n14 ran 10\n13 graft 1 5 1\n15 waits Cell(1,0) 0\n13 drop 1 5 C2 77\n13 ok 1\n15 ok\n16 ran 1\n17 ok 7\n")
+    ≡ (
+      0,
+      lines_of (
+          codes "0 boot 8 64 3" ∷ codes "1 ok 8 0" ∷ codes "2 ok 3 0" ∷ codes "3 ok 1"
+          ∷ codes "4 ok 0" ∷ codes "5 ok" ∷ codes "6 ok" ∷ codes "7 ok" ∷ codes "8 ok"
+          ∷ codes "9 ok" ∷ codes "10 ok" ∷ codes "11 ok" ∷ codes "12 ok" ∷ codes "13 graft 1 5 1"
+          ∷ codes "14 ran 10" ∷ codes "13 graft 1 5 1" ∷ codes "15 waits Cell(1,0) 0"
+          ∷ codes "13 drop 1 5 C2 77" ∷ codes "13 ok 1" ∷ codes "15 ok" ∷ codes "16 ran 1"
+          ∷ codes "17 ok 7"
+          ∷ []),
+    )
 unfolding digits same_object entries entry_row is_usable sample_directory sample_block
 nested_level_hands_on_what_it_holds = refl
 
@@ -160,10 +265,23 @@ pub nested_drop_undoes_its_own_changes :
     Lines (codes "boot\n")
     ∷ ImageLine 0 trapping_child
     ∷ ImageLine 1 setter
-    ∷ Lines (codes
-    "spawn 0\nopen 1 alpha\ngive 0 1 steps 100\ngive 0 1 records 10\npoke 1 0 3\ninstall 1 0 0 50\nbill 1 0\ninstall 1 5 1 50\nbill 1 5\nyield 0\nstep 0 9\nstep 0 1\nstep 0 2\npeek 1 0\n")
+    ∷ Lines (lines_of (
+    codes "spawn 0" ∷ codes "open 1 alpha" ∷ codes "give 0 1 steps 100"
+    ∷ codes "give 0 1 records 10" ∷ codes "poke 1 0 3" ∷ codes "install 1 0 0 50"
+    ∷ codes "bill 1 0" ∷ codes "install 1 5 1 50" ∷ codes "bill 1 5" ∷ codes "yield 0"
+    ∷ codes "step 0 9" ∷ codes "step 0 1" ∷ codes "step 0 2" ∷ codes "peek 1 0"
+    ∷ []))
     ∷ [])
-    ≡ (0, codes "0 boot 8 64 3\n1 ok 4 0\n2 ok 8 0\n3 ok 1\n4 ok 0\n5 ok\n6 ok\n7 ok\n8 ok\n9 ok\n10 ok\n11 ok\n12 graft 1 5 1\n13 ran 9\n12 graft 1 0 2\n12 drop 1 0 C2 9\n14 ran 1\n12 graft 1 5 1\n12 ok 1\n15 ran 2\n16 ok 5\n")
+    ≡ (
+      0,
+      lines_of (
+          codes "0 boot 8 64 3" ∷ codes "1 ok 4 0" ∷ codes "2 ok 8 0" ∷ codes "3 ok 1"
+          ∷ codes "4 ok 0" ∷ codes "5 ok" ∷ codes "6 ok" ∷ codes "7 ok" ∷ codes "8 ok"
+          ∷ codes "9 ok" ∷ codes "10 ok" ∷ codes "11 ok" ∷ codes "12 graft 1 5 1" ∷ codes "13 ran 9"
+          ∷ codes "12 graft 1 0 2" ∷ codes "12 drop 1 0 C2 9" ∷ codes "14 ran 1"
+          ∷ codes "12 graft 1 5 1" ∷ codes "12 ok 1" ∷ codes "15 ran 2" ∷ codes "16 ok 5"
+          ∷ []),
+    )
 unfolding digits same_object entries entry_row is_usable sample_directory sample_block
 nested_drop_undoes_its_own_changes = refl
 
@@ -174,10 +292,28 @@ pub dropped_level_lets_go_what_it_read :
     Lines (codes "boot\n")
     ∷ ImageLine 0 reader
     ∷ ImageLine 1 asker
-    ∷ Lines (codes
-    "spawn 0\nopen 1 alpha\ngive 0 1 steps 100\ninstall 1 0 0 20\nbill 1 0\ninstall 1 5 1 20\nbill 1 5\nyield 0\nstep 0 7\npoke 1 0 7\nstep 0 2\nraw\n")
+    ∷ Lines (lines_of (
+    codes "spawn 0" ∷ codes "open 1 alpha" ∷ codes "give 0 1 steps 100"
+    ∷ codes "install 1 0 0 20" ∷ codes "bill 1 0" ∷ codes "install 1 5 1 20"
+    ∷ codes "bill 1 5" ∷ codes "yield 0" ∷ codes "step 0 7" ∷ codes "poke 1 0 7"
+    ∷ codes "step 0 2" ∷ codes "raw"
+    ∷ []))
     ∷ [])
-    ≡ (0, codes "0 boot 8 64 3\n1 ok 7 0\n2 ok 5 0\n3 ok 1\n4 ok 0\n5 ok\n6 ok\n7 ok\n8 ok\n9 ok\n10 graft 1 5 1\n10 drop 1 0 C1\n11 ran 7\n10 graft 1 5 1\n12 ok\n10 ok 1\n13 ran 2\n14 raw clock 0\n14 raw queue 1:20:1 0:20:0\n14 raw acct 0 999900 1000000 1000000 0 0 0\n14 raw acct 1 91 0 0 9 0 0\n14 raw cells 0 0 0 0 0\n14 raw cells 1 7 0 0 0\n14 raw open 1 0 alpha 0 8 0 0 0\n14 raw graft 1 5 1 20 1 0 0 0\n14 raw pol 0 1 2\n14 raw pol 1 0\n14 raw pol 2 0\n14 raw lru\n")
+    ≡ (
+      0,
+      lines_of (
+          codes "0 boot 8 64 3" ∷ codes "1 ok 7 0" ∷ codes "2 ok 5 0" ∷ codes "3 ok 1"
+          ∷ codes "4 ok 0" ∷ codes "5 ok" ∷ codes "6 ok" ∷ codes "7 ok" ∷ codes "8 ok"
+          ∷ codes "9 ok" ∷ codes "10 graft 1 5 1" ∷ codes "10 drop 1 0 C1" ∷ codes "11 ran 7"
+          ∷ codes "10 graft 1 5 1" ∷ codes "12 ok" ∷ codes "10 ok 1" ∷ codes "13 ran 2"
+          ∷ codes "14 raw clock 0" ∷ codes "14 raw queue 1:20:1 0:20:0"
+          ∷ codes "14 raw acct 0 999900 1000000 1000000 0 0 0" ∷ codes "14 raw acct 1 91 0 0 9 0 0"
+          ∷ codes "14 raw cells 0 0 0 0 0" ∷ codes "14 raw cells 1 7 0 0 0"
+          ∷ codes "14 raw open 1 0 alpha 0 8 0 0 0" ∷ codes "14 raw graft 1 5 1 20 1 0 0 0"
+          ∷ codes "14 raw pol 0 1 2" ∷ codes "14 raw pol 1 0" ∷ codes "14 raw pol 2 0"
+          ∷ codes "14 raw lru"
+          ∷ []),
+    )
 unfolding digits same_object entries entry_row is_usable sample_directory sample_block
 dropped_level_lets_go_what_it_read = refl
 
@@ -186,10 +322,26 @@ pub ask_without_a_graft :
     given_run ([]) (
     Lines (codes "boot\n")
     ∷ ImageLine 0 counter
-    ∷ Lines (codes
-    "spawn 0\nopen 1 alpha\ngive 0 1 steps 50\ngive 0 1 records 50\nread 1 0 0 0 1\ninstall 1 5 0 10\nbill 1 5\nyield 0\nstep 0 9\npeek 1 0\nraw\n")
+    ∷ Lines (lines_of (
+    codes "spawn 0" ∷ codes "open 1 alpha" ∷ codes "give 0 1 steps 50"
+    ∷ codes "give 0 1 records 50" ∷ codes "read 1 0 0 0 1" ∷ codes "install 1 5 0 10"
+    ∷ codes "bill 1 5" ∷ codes "yield 0" ∷ codes "step 0 9" ∷ codes "peek 1 0" ∷ codes "raw"
+    ∷ []))
     ∷ [])
-    ≡ (0, codes "0 boot 8 64 3\n1 ok 7 0\n2 ok 1\n3 ok 0\n4 ok\n5 ok\n6 data 1f\n6 ok\n7 ok\n8 ok\n9 graft 1 5 1\n9 ok 1\n10 ran 7\n11 ok 2\n12 raw clock 0\n12 raw queue 1:20:1 0:20:0\n12 raw acct 0 999950 999950 1000000 0 0 0\n12 raw acct 1 43 49 0 7 1 0\n12 raw cells 0 0 0 0 0\n12 raw cells 1 2 0 0 0\n12 raw open 1 0 alpha 1 8 1 3 0\n12 raw graft 1 5 0 10 1 0 0 0\n12 raw pol 0 1 2\n12 raw pol 1 0\n12 raw pol 2 0\n12 raw lru 0:1:1:0:0 1:1:2:0:0 2:1:3:0:0\n")
+    ≡ (
+      0,
+      lines_of (
+          codes "0 boot 8 64 3" ∷ codes "1 ok 7 0" ∷ codes "2 ok 1" ∷ codes "3 ok 0" ∷ codes "4 ok"
+          ∷ codes "5 ok" ∷ codes "6 data 1f" ∷ codes "6 ok" ∷ codes "7 ok" ∷ codes "8 ok"
+          ∷ codes "9 graft 1 5 1" ∷ codes "9 ok 1" ∷ codes "10 ran 7" ∷ codes "11 ok 2"
+          ∷ codes "12 raw clock 0" ∷ codes "12 raw queue 1:20:1 0:20:0"
+          ∷ codes "12 raw acct 0 999950 999950 1000000 0 0 0" ∷ codes "12 raw acct 1 43 49 0 7 1 0"
+          ∷ codes "12 raw cells 0 0 0 0 0" ∷ codes "12 raw cells 1 2 0 0 0"
+          ∷ codes "12 raw open 1 0 alpha 1 8 1 3 0" ∷ codes "12 raw graft 1 5 0 10 1 0 0 0"
+          ∷ codes "12 raw pol 0 1 2" ∷ codes "12 raw pol 1 0" ∷ codes "12 raw pol 2 0"
+          ∷ codes "12 raw lru 0:1:1:0:0 1:1:2:0:0 2:1:3:0:0"
+          ∷ []),
+    )
 unfolding digits same_object entries entry_row is_usable sample_directory sample_block
 ask_without_a_graft = refl
 
@@ -200,10 +352,32 @@ pub victim_of_another_owner :
     Lines (codes "frames 4\nboot\n")
     ∷ ImageLine 0 frame_2
     ∷ ImageLine 1 frame_3
-    ∷ Lines (codes
-    "spawn 0\ndefault 0 0 0\nopen 0 alpha\nopen 1 beta\nread 1 0 0 0 1\nread 1 0 1 0 1\nread 0 0 0 0 1\nread 1 0 2 0 1\ngive 0 1 steps 100\ninstall 1 4 0 10\nbill 1 4\nread 0 0 1 0 1\nstep 0 2\ninstall 1 4 1 10\nbill 1 4\nread 0 0 2 0 1\nstep 0 2\nraw\n")
+    ∷ Lines (lines_of (
+    codes "spawn 0" ∷ codes "default 0 0 0" ∷ codes "open 0 alpha" ∷ codes "open 1 beta"
+    ∷ codes "read 1 0 0 0 1" ∷ codes "read 1 0 1 0 1" ∷ codes "read 0 0 0 0 1"
+    ∷ codes "read 1 0 2 0 1" ∷ codes "give 0 1 steps 100" ∷ codes "install 1 4 0 10"
+    ∷ codes "bill 1 4" ∷ codes "read 0 0 1 0 1" ∷ codes "step 0 2" ∷ codes "install 1 4 1 10"
+    ∷ codes "bill 1 4" ∷ codes "read 0 0 2 0 1" ∷ codes "step 0 2" ∷ codes "raw"
+    ∷ []))
     ∷ [])
-    ≡ (0, codes "0 boot 4 64 3\n1 ok 2 0\n2 ok 2 0\n3 ok 1\n4 ok\n5 ok 0\n6 ok 0\n7 data 17\n7 ok\n8 data 36\n8 ok\n9 data 1f\n9 ok\n10 data 55\n10 ok\n11 ok\n12 ok\n13 ok\n14 graft 1 4 1\n14 drop 1 4 C12 2 2\n14 data 3e\n14 ok\n15 ran 2\n16 ok\n17 ok\n18 graft 1 4 1\n18 data 5d\n18 ok\n19 ran 2\n20 raw clock 0\n20 raw queue 0:20:0 1:20:0\n20 raw acct 0 999900 1000000 1000000 0 0 0\n20 raw acct 1 96 0 0 4 0 0\n20 raw cells 0 0 0 0 0\n20 raw cells 1 0 0 0 0\n20 raw open 0 0 alpha 3 8 1 3 0\n20 raw open 1 0 beta 3 8 1 3 0\n20 raw graft 1 4 1 10 1 0 0 0\n20 raw pol 0 0\n20 raw pol 1 0\n20 raw pol 2 0\n20 raw lru 2:0:1:0:0 1:1:10:0:0 0:0:2:0:0 3:0:3:0:0\n")
+    ≡ (
+      0,
+      lines_of (
+          codes "0 boot 4 64 3" ∷ codes "1 ok 2 0" ∷ codes "2 ok 2 0" ∷ codes "3 ok 1"
+          ∷ codes "4 ok" ∷ codes "5 ok 0" ∷ codes "6 ok 0" ∷ codes "7 data 17" ∷ codes "7 ok"
+          ∷ codes "8 data 36" ∷ codes "8 ok" ∷ codes "9 data 1f" ∷ codes "9 ok" ∷ codes "10 data 55"
+          ∷ codes "10 ok" ∷ codes "11 ok" ∷ codes "12 ok" ∷ codes "13 ok" ∷ codes "14 graft 1 4 1"
+          ∷ codes "14 drop 1 4 C12 2 2" ∷ codes "14 data 3e" ∷ codes "14 ok" ∷ codes "15 ran 2"
+          ∷ codes "16 ok" ∷ codes "17 ok" ∷ codes "18 graft 1 4 1" ∷ codes "18 data 5d"
+          ∷ codes "18 ok" ∷ codes "19 ran 2" ∷ codes "20 raw clock 0"
+          ∷ codes "20 raw queue 0:20:0 1:20:0" ∷ codes "20 raw acct 0 999900 1000000 1000000 0 0 0"
+          ∷ codes "20 raw acct 1 96 0 0 4 0 0" ∷ codes "20 raw cells 0 0 0 0 0"
+          ∷ codes "20 raw cells 1 0 0 0 0" ∷ codes "20 raw open 0 0 alpha 3 8 1 3 0"
+          ∷ codes "20 raw open 1 0 beta 3 8 1 3 0" ∷ codes "20 raw graft 1 4 1 10 1 0 0 0"
+          ∷ codes "20 raw pol 0 0" ∷ codes "20 raw pol 1 0" ∷ codes "20 raw pol 2 0"
+          ∷ codes "20 raw lru 2:0:1:0:0 1:1:10:0:0 0:0:2:0:0 3:0:3:0:0"
+          ∷ []),
+    )
 unfolding digits same_object entries entry_row is_usable sample_directory sample_block
 victim_of_another_owner = refl
 
@@ -214,7 +388,17 @@ pub ids_above_the_highest_are_refused :
     ∷ ImageLine 0 spinner
     ∷ Lines (codes "install 0 5 0 9\nfund 0 5 steps 5\nyield 0\nstep 0 9\nraw\n")
     ∷ [])
-    ≡ (0, codes "0 boot 8 64 3\n1 ok 3 0\n2 ok\n3 ok\n4 graft 0 5 1\n4 drop 0 5 C3 12\n4 ok 0\n5 ran 2\n6 raw clock 0\n6 raw queue 0:20:1\n6 raw acct 0 999998 1000000 1000000 2 0 0\n6 raw cells 0 0 0 0 0\n6 raw pol 0 1 2\n6 raw pol 1 0\n6 raw pol 2 0\n6 raw lru\n")
+    ≡ (
+      0,
+      lines_of (
+          codes "0 boot 8 64 3" ∷ codes "1 ok 3 0" ∷ codes "2 ok" ∷ codes "3 ok"
+          ∷ codes "4 graft 0 5 1" ∷ codes "4 drop 0 5 C3 12" ∷ codes "4 ok 0" ∷ codes "5 ran 2"
+          ∷ codes "6 raw clock 0" ∷ codes "6 raw queue 0:20:1"
+          ∷ codes "6 raw acct 0 999998 1000000 1000000 2 0 0" ∷ codes "6 raw cells 0 0 0 0 0"
+          ∷ codes "6 raw pol 0 1 2" ∷ codes "6 raw pol 1 0" ∷ codes "6 raw pol 2 0"
+          ∷ codes "6 raw lru"
+          ∷ []),
+    )
 unfolding digits same_object entries entry_row is_usable sample_directory sample_block
 ids_above_the_highest_are_refused = refl
 
@@ -243,8 +427,11 @@ pub undone_newest_first :
     cells_of (kernel_after (
     Lines (codes "boot\n")
     ∷ ImageLine 0 twice
-    ∷ Lines (codes
-    "spawn 0\ngive 0 1 steps 100\ngive 0 1 records 10\npoke 1 0 3\ninstall 1 5 0 100\nbill 1 5\nyield 0\nstep 0 6\n")
+    ∷ Lines (lines_of (
+    codes "spawn 0" ∷ codes "give 0 1 steps 100" ∷ codes "give 0 1 records 10"
+    ∷ codes "poke 1 0 3" ∷ codes "install 1 5 0 100" ∷ codes "bill 1 5" ∷ codes "yield 0"
+    ∷ codes "step 0 6"
+    ∷ []))
     ∷ []))
     ≡ 9 ∷ 3 ∷ 3 ∷ []
 unfolding digits same_object
@@ -269,8 +456,12 @@ pub each_drop_puts_back_its_own :
     Lines (codes "boot\n")
     ∷ ImageLine 0 trapping_child
     ∷ ImageLine 1 setter
-    ∷ Lines (codes
-    "spawn 0\nopen 1 alpha\ngive 0 1 steps 100\ngive 0 1 records 10\npoke 1 0 3\ninstall 1 0 0 50\nbill 1 0\ninstall 1 5 1 50\nbill 1 5\nyield 0\nstep 0 9\n")
+    ∷ Lines (lines_of (
+    codes "spawn 0" ∷ codes "open 1 alpha" ∷ codes "give 0 1 steps 100"
+    ∷ codes "give 0 1 records 10" ∷ codes "poke 1 0 3" ∷ codes "install 1 0 0 50"
+    ∷ codes "bill 1 0" ∷ codes "install 1 5 1 50" ∷ codes "bill 1 5" ∷ codes "yield 0"
+    ∷ codes "step 0 9"
+    ∷ []))
     ∷ []))
     ≡ 8 ∷ 5 ∷ 3 ∷ []
 unfolding digits same_object entries entry_row is_usable sample_directory sample_block
