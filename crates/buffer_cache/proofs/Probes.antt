@@ -1,14 +1,16 @@
 -- Probing the index.
-use Rattle.std.proofs.Common.{◌≡◌, ℕ, suc, ◌+◌, ◌-◌, ◌%◌, ◌<◌, ◌≤◌, Bool, true, false, cond, List, [], ◌∷◌, length, get_or, set, Option, Some, None, refl, arith, sym, ◌∙◌, ap, subst, inl, inr, ◌⊎◌}
+use Rattle.std.proofs.Common.{◌≡◌, ℕ, suc, ◌+◌, ◌*◌, ◌-◌, ◌%◌, ◌<◌, ◌≤◌, Bool, true, false, cond, List, [], ◌∷◌, length, get_or, set, take, Option, Some, None, refl, arith, sym, ◌∙◌, ap, subst, inl, inr, ◌⊎◌}
 use Rattle.std.specs.List.{count_by, position, position_or_len}
-use Rattle.std.specs.Option.{is_some}
+use Rattle.std.specs.Option.{is_some, is_none}
 use Rattle.std.proofs.lemmas.Bool.{cases_lt, cases_eq}
 use Rattle.std.proofs.lemmas.Bool.Decides.{nat_tests}
+use Rattle.std.proofs.lemmas.Grind.{common_steps}
 use Rattle.std.proofs.lemmas.List.{get_or-set_same, get_or-set_other}
 use Rattle.std.proofs.lemmas.List.Sums.{sum_by-set, sum_by-cons, position_or_len_is}
 use Rattle.kernel_model.specs.declared.FrameRow.{FrameRow}
-use Rattle.buffer_cache.specs.Frames.{row_at, holds}
+use Rattle.buffer_cache.specs.Frames.{Frames, IsFrames, row_at, holds}
 use Rattle.buffer_cache.specs.BlockIndex.{slot_at, IsReached, IsIndex}
+use Rattle.buffer_cache.proofs.Rows.{all-used}
 
 -- how many slots lead to a frame
 abbrev filled : List (Option ℕ) → ℕ
@@ -26,6 +28,20 @@ pub position-missing : (test : Option FrameRow → Bool) (rows : List (Option Fr
 position-missing test rows fails =
     let place : position_or_len test rows ≡ length rows = position_or_len_is test rows (length rows) None (omega arith) fails (λ past. absurd (omega arith)) in
     rw place (grind (arith, nat_tests))
+
+-- a row in use is not free
+used-not-free : (a : Option FrameRow) → is_some a ≡ true → is_none a ≡ false
+used-not-free None some = absurd (cc)
+used-not-free (Some x) some = refl
+
+-- where the order of use is as long as there are frames, none of them is free
+pub none-free : (c : Frames) → IsFrames c → length c.order ≡ c.count → position (λ (r : Option FrameRow). is_none r) (take c.count c.rows) ≡ None
+none-free c h whole =
+    position-missing (λ (r : Option FrameRow). is_none r) (take c.count c.rows) (λ k below.
+    let short : length (take c.count c.rows) ≤ c.count = grind (arith, common_steps) in
+    let inside : k < c.count = omega (arith, below, short) in
+    let same : row_at (take c.count c.rows) k ≡ row_at c.rows k = grind (arith, common_steps) in
+    ap (λ (o : Option FrameRow). is_none o) same ∙ used-not-free (row_at c.rows k) (all-used c h whole k inside))
 
 -- a frame holds a block where its row says so
 holds-row : (b : ℕ) (a : Option FrameRow) → holds b a ≡ true → (x : FrameRow) × (a ≡ Some x) × (x.block ≡ b)
@@ -94,12 +110,15 @@ full (a ∷ index) each =
     let rest : filled index ≡ length index = full index (λ s below. each (suc s) (omega arith)) in
     sum_by-cons (λ (o : Option ℕ). cond (is_some o) 1 0) a index ∙ grind (arith, nat_tests, head, rest)
 
+-- each slot is so far from a home
+goes-round : (home s : ℕ) → s < 128 → (home + (s + 128 - home % 128) % 128) % 128 ≡ s
+goes-round home s below = omega arith
+
 -- where each of 128 slots from one on leads to a frame, all do
 pub all-filled : (index : List (Option ℕ)) (b : ℕ) → length index ≡ 128 → ((e : ℕ) → e < 128 → is_some (slot_at index b e) ≡ true) → filled index ≡ 128
 all-filled index b len each =
     full index (λ s below.
-    let there : (b + (s + 128 - b % 128) % 128) % 128 ≡ s = omega arith in
-    subst (λ t. is_some (get_or index t None) ≡ true) there (each ((s + 128 - b % 128) % 128) (omega arith))) ∙ len
+    subst (λ t. is_some (get_or index t None) ≡ true) (goes-round (41 * b) s (omega arith)) (each ((s + 128 - (41 * b) % 128) % 128) (omega arith))) ∙ len
 
 -- a slot more
 pub filled-set : (index : List (Option ℕ)) (s f : ℕ) → s < length index → get_or index s None ≡ None → filled (set index s (Some f)) ≡ filled index + 1
@@ -119,25 +138,25 @@ some-set index s f t inside some =
 -- who came to a frame still does
 pub reached-set : (index : List (Option ℕ)) (s f : ℕ) → s < length index → get_or index s None ≡ None → (b g : ℕ) → IsReached index b g → IsReached (set index s (Some f)) b g
 reached-set index s f inside empty b g way =
-    let other : (b + way.distance) % 128 ≡ s → ⊥ = λ same. let none : slot_at index b way.distance ≡ None = subst (λ t. get_or index t None ≡ None) (sym same) empty in
+    let other : (41 * b + way.distance) % 128 ≡ s → ⊥ = λ same. let none : slot_at index b way.distance ≡ None = subst (λ t. get_or index t None ≡ None) (sym same) empty in
     let here : slot_at index b way.distance ≡ Some g = way.here in absurd (cc) in
     record {
       distance = way.distance;
       near = way.near;
-      here = get_or-set_other index s ((b + way.distance) % 128) (Some f) None other ∙ way.here;
-      before = λ e sooner. some-set index s f ((b + e) % 128) inside (way.before e sooner);
+      here = get_or-set_other index s ((41 * b + way.distance) % 128) (Some f) None other ∙ way.here;
+      before = λ e sooner. some-set index s f ((41 * b + e) % 128) inside (way.before e sooner);
     }
 
 -- who looks for a block comes to the frame whose slot is the first empty one
 pub reached-new : (index : List (Option ℕ)) (b d f : ℕ) → length index ≡ 128 → d < 128 → slot_at index b d ≡ None → ((e : ℕ) → e < d → is_some (slot_at index b e) ≡ true)
-    → IsReached (set index ((b + d) % 128) (Some f)) b f
+    → IsReached (set index ((41 * b + d) % 128) (Some f)) b f
 reached-new index b d f len near empty before =
-    let inside : (b + d) % 128 < length index = omega arith in
+    let inside : (41 * b + d) % 128 < length index = omega arith in
     record {
       distance = d;
       near = near;
-      here = get_or-set_same index ((b + d) % 128) (Some f) None inside;
-      before = λ e sooner. some-set index ((b + d) % 128) f ((b + e) % 128) inside (before e sooner);
+      here = get_or-set_same index ((41 * b + d) % 128) (Some f) None inside;
+      before = λ e sooner. some-set index ((41 * b + d) % 128) f ((41 * b + e) % 128) inside (before e sooner);
     }
 
 -- the frames of an index with a slot more

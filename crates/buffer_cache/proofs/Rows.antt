@@ -356,3 +356,35 @@ order-used c h i inside =
 -- another owner leaves in use what was in use
 pub handed-used : (from to : ℕ) (rows : List (Option FrameRow)) (f : ℕ) → is_some (row_at (map (λ (r : Option FrameRow). option_map (handed from to) r) rows) f) ≡ is_some (row_at rows f)
 handed-used from to rows f = same-in_use (row_at rows f) (row_at (map (λ (r : Option FrameRow). option_map (handed from to) r) rows) f) (map-same from to rows f)
+
+-- no more rows are in use than there are frames, where those in use are below
+used-below : (rows : List (Option FrameRow)) (n : ℕ) → ((g : ℕ) → is_some (row_at rows g) ≡ true → g < n) → used rows ≤ n
+used-below [] n below = grind arith
+used-below (a ∷ rows) zero below =
+    let rest : used rows ≤ 0 = used-below rows zero (λ g some. let far = below (suc g) some in absurd (omega (arith, far))) in
+    let sums = sum_by-cons (λ (o : Option FrameRow). cond (is_some o) 1 0) a rows in
+    elim (is_some a) as (λ b. is_some a ≡ b → used (a ∷ rows) ≤ 0) [
+      | true ↦ λ some. absurd (let far = below 0 some in omega (arith, far))
+      | false ↦ λ none. let one : ◌≡◌ {A = ℕ} (cond (is_some a) 1 0) 0 = ap (λ b. cond b 1 0) none in omega (arith, rest, sums, one)
+    ] refl
+used-below (a ∷ rows) (suc n) below =
+    let rest : used rows ≤ n = used-below rows n (λ g some. let far = below (suc g) some in omega (arith, far)) in
+    let sums = sum_by-cons (λ (o : Option FrameRow). cond (is_some o) 1 0) a rows in
+    elim (is_some a) as (λ b. is_some a ≡ b → used (a ∷ rows) ≤ suc n) [
+      | true ↦ λ some. let one : ◌≡◌ {A = ℕ} (cond (is_some a) 1 0) 1 = ap (λ b. cond b 1 0) some in omega (arith, rest, sums, one)
+      | false ↦ λ none. let one : ◌≡◌ {A = ℕ} (cond (is_some a) 1 0) 0 = ap (λ b. cond b 1 0) none in omega (arith, rest, sums, one)
+    ] refl
+
+-- where the order of use is as long as there are frames, each of them is in use
+pub all-used : (c : Frames) → IsFrames c → length c.order ≡ c.count → (f : ℕ) → f < c.count → in_use f c ≡ true
+all-used c h whole f below =
+    let inside : f < length c.rows = let rows = h.rows in let most = h.most in omega arith in
+    let r : FrameRow = record { frame = f; owner = 0; block = 0; dirty = false; mark = 0 } in
+    let within : used (set c.rows f (Some r)) ≤ c.count =
+    used-below (set c.rows f (Some r)) c.count (λ g some. filled-below c f g r h below (λ other. get_or-set_other c.rows f g (Some r) None other) some) in
+    let sums = used-set c.rows f r inside in
+    let order = h.order in
+    elim (in_use f c) as (λ b. in_use f c ≡ b → b ≡ true) [
+      | true ↦ λ _. refl
+      | false ↦ λ no. let none : ◌≡◌ {A = ℕ} (cond (is_some (row_at c.rows f)) 1 0) 0 = ap (λ b. cond b 1 0) no in absurd (omega (arith, within, sums, order, whole, none))
+    ] refl

@@ -1,14 +1,14 @@
--- The index from blocks to frames: a table of 128 slots, probed from a block's number on. A slot
+-- The index from blocks to frames: a table of 128 slots, probed from the home of a block on. A slot
 -- may still lead to a frame that holds another block by now.
-use Rattle.std.specs.Prelude.{◌≡◌, ℕ, ◌+◌, ◌%◌, ◌<◌, ◌≤◌, true, List, length, slice_index_or, Option, Some, None}
+use Rattle.std.specs.Prelude.{◌≡◌, ℕ, ◌+◌, ◌*◌, ◌%◌, ◌<◌, ◌≤◌, true, List, length, slice_index_or, Option, Some, None}
 use Rattle.std.specs.List.{count_by}
 use Rattle.std.specs.Option.{is_some}
 use Rattle.kernel_model.specs.declared.FrameRow.{FrameRow}
 use Rattle.buffer_cache.specs.Frames.{row_at}
 
--- slot d of those that are looked at for a block, from 0
+-- slot d of those that are looked at for a block, from 0: neighbours begin far from each other
 abbrev pub slot_at : List (Option ℕ) → (block d : ℕ) → Option ℕ
-slot_at index block d = slice_index_or index ((block + d) % 128) None
+slot_at index block d = slice_index_or index ((41 * block + d) % 128) None
 
 -- whoever looks for a block comes to frame f before an empty slot
 pub record IsReached (index : List (Option ℕ)) (block f : ℕ) : Type 0 where

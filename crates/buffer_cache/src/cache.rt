@@ -33,7 +33,10 @@ impl Model for Cache {
 
     ghost view = { λ c. record { rows = c.rows; order = c.order.items; count = c.count } };
 
-    ghost invariant = { λ c. IsFrames (record { rows = c.rows; order = c.order.items; count = c.count }) × IsIndex c.index c.rows × HasRoom c.index c.used };
+    ghost invariant = { λ c.
+        IsFrames (record { rows = c.rows; order = c.order.items; count = c.count })
+        × IsIndex c.index c.rows
+        × HasRoom c.index c.used };
 }
 
 /// Where a frame's bytes begin.
@@ -93,6 +96,9 @@ impl Cache {
         ensures unused { IfSome result (λ f. in_use f self.now ≡ false) }
         ensures full { IfNone result ((f : ℕ) → f < self.now.count → in_use f self.now ≡ true) }
     {
+        if self.order.len() == usize::from(self.count) {
+            return None;
+        }
         free_frame(&self.rows, self.count)
     }
 

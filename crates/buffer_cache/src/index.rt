@@ -1,6 +1,6 @@
 //! The index from blocks to frames.
 
-ghost use Rattle.std.specs.Prelude.{◌≡◌, ℕ, ◌+◌, ◌%◌, ◌<◌, ◌≤◌, true, false, IfSome, IfNone, length, slice_index_or, slice_set, replicate, Option, Some, None};
+ghost use Rattle.std.specs.Prelude.{◌≡◌, ℕ, ◌+◌, ◌*◌, ◌%◌, ◌<◌, ◌≤◌, true, false, IfSome, IfNone, length, slice_index_or, slice_set, replicate, Option, Some, None};
 ghost use Rattle.std.specs.List.{position, count_by};
 ghost use Rattle.std.specs.Option.{is_some};
 ghost use Rattle.kernel_model.specs.declared.FrameRow.{FrameRow as Row};
@@ -12,6 +12,10 @@ use kernel_model::{FRAMES, FrameRow};
 
 /// The slots of the index: twice as many as frames, so that few are looked at for a block.
 pub(crate) const SLOTS: usize = 128;
+
+/// How far from each other the slots of two neighbours among the blocks are: a file has neighbours,
+/// and slots that lead to a frame are seldom side by side then.
+const SPREAD: usize = 41;
 
 /// The most slots that lead to a frame. Slots of blocks that were evicted stay until then.
 const MOST_USED: u8 = 96;
@@ -26,10 +30,10 @@ pub(crate) fn no_slots() -> [Option<u8>; SLOTS]
 /// Slot d of those that are looked at for a block.
 fn slot(block: u32, d: usize) -> usize
     requires { d < 128 }
-    ensures value { result ≡ (block + d) % 128 }
+    ensures value { result ≡ (41 * block + d) % 128 }
     ensures bound { result < 128 }
 {
-    (block as usize + d) % SLOTS
+    (SPREAD * block as usize + d) % SLOTS
 }
 
 /// The frame that holds a block.

@@ -7,13 +7,30 @@ ghost use Rattle.kernel_model.specs.Script.{command_named, is_setup, call_forms,
 
 use kernel_model::{CallName, Command, Form};
 
+/// Whether a word goes on like this. It is always inlined: an ending is a constant, and takes one
+/// comparison a byte then.
+#[inline(always)]
+fn goes_on(ending: &[u8], rest: &[u8]) -> bool
+    ensures { result ≡ same_bytes ending.now rest.now }
+{
+    if ending.len() != rest.len() {
+        return false;
+    }
+    for i in 0..ending.len() {
+        if ending[i] != rest[i] {
+            return false;
+        }
+    }
+    true
+}
+
 /// The command of a word that is `b` and goes on like this.
 fn named_b(rest: &[u8]) -> Option<Command>
     ensures { result ≡ command_named (98 ∷ rest.now) }
 {
-    if b"oot".as_slice() == rest {
+    if goes_on(b"oot".as_slice(), rest) {
         Some(Command::Boot)
-    } else if b"ill".as_slice() == rest {
+    } else if goes_on(b"ill".as_slice(), rest) {
         Some(Command::Call(CallName::Bill))
     } else {
         None
@@ -24,9 +41,9 @@ fn named_b(rest: &[u8]) -> Option<Command>
 fn named_f(rest: &[u8]) -> Option<Command>
     ensures { result ≡ command_named (102 ∷ rest.now) }
 {
-    if b"rames".as_slice() == rest {
+    if goes_on(b"rames".as_slice(), rest) {
         Some(Command::Frames)
-    } else if b"und".as_slice() == rest {
+    } else if goes_on(b"und".as_slice(), rest) {
         Some(Command::Call(CallName::Fund))
     } else {
         None
@@ -37,9 +54,9 @@ fn named_f(rest: &[u8]) -> Option<Command>
 fn named_g(rest: &[u8]) -> Option<Command>
     ensures { result ≡ command_named (103 ∷ rest.now) }
 {
-    if b"rant".as_slice() == rest {
+    if goes_on(b"rant".as_slice(), rest) {
         Some(Command::Grant)
-    } else if b"ive".as_slice() == rest {
+    } else if goes_on(b"ive".as_slice(), rest) {
         Some(Command::Call(CallName::Give))
     } else {
         None
@@ -50,9 +67,9 @@ fn named_g(rest: &[u8]) -> Option<Command>
 fn named_i(rest: &[u8]) -> Option<Command>
     ensures { result ≡ command_named (105 ∷ rest.now) }
 {
-    if b"mage".as_slice() == rest {
+    if goes_on(b"mage".as_slice(), rest) {
         Some(Command::Image)
-    } else if b"nstall".as_slice() == rest {
+    } else if goes_on(b"nstall".as_slice(), rest) {
         Some(Command::Call(CallName::Install))
     } else {
         None
@@ -63,11 +80,11 @@ fn named_i(rest: &[u8]) -> Option<Command>
 fn named_p(rest: &[u8]) -> Option<Command>
     ensures { result ≡ command_named (112 ∷ rest.now) }
 {
-    if b"eek".as_slice() == rest {
+    if goes_on(b"eek".as_slice(), rest) {
         Some(Command::Call(CallName::Peek))
-    } else if b"oke".as_slice() == rest {
+    } else if goes_on(b"oke".as_slice(), rest) {
         Some(Command::Call(CallName::Poke))
-    } else if b"atience".as_slice() == rest {
+    } else if goes_on(b"atience".as_slice(), rest) {
         Some(Command::Patience)
     } else {
         None
@@ -78,11 +95,11 @@ fn named_p(rest: &[u8]) -> Option<Command>
 fn named_r(rest: &[u8]) -> Option<Command>
     ensures { result ≡ command_named (114 ∷ rest.now) }
 {
-    if b"ead".as_slice() == rest {
+    if goes_on(b"ead".as_slice(), rest) {
         Some(Command::Call(CallName::Read))
-    } else if b"aw".as_slice() == rest {
+    } else if goes_on(b"aw".as_slice(), rest) {
         Some(Command::Raw)
-    } else if b"emove".as_slice() == rest {
+    } else if goes_on(b"emove".as_slice(), rest) {
         Some(Command::Call(CallName::Remove))
     } else {
         None
@@ -93,17 +110,17 @@ fn named_r(rest: &[u8]) -> Option<Command>
 fn named_s(rest: &[u8]) -> Option<Command>
     ensures { result ≡ command_named (115 ∷ rest.now) }
 {
-    if b"tep".as_slice() == rest {
+    if goes_on(b"tep".as_slice(), rest) {
         Some(Command::Step)
-    } else if b"pawn".as_slice() == rest {
+    } else if goes_on(b"pawn".as_slice(), rest) {
         Some(Command::Call(CallName::Spawn))
-    } else if b"ync".as_slice() == rest {
+    } else if goes_on(b"ync".as_slice(), rest) {
         Some(Command::Call(CallName::Sync))
-    } else if b"erve".as_slice() == rest {
+    } else if goes_on(b"erve".as_slice(), rest) {
         Some(Command::Call(CallName::Serve))
-    } else if b"read".as_slice() == rest {
+    } else if goes_on(b"read".as_slice(), rest) {
         Some(Command::Call(CallName::StreamRead))
-    } else if b"write".as_slice() == rest {
+    } else if goes_on(b"write".as_slice(), rest) {
         Some(Command::Call(CallName::StreamWrite))
     } else {
         None
@@ -114,9 +131,9 @@ fn named_s(rest: &[u8]) -> Option<Command>
 fn named_t(rest: &[u8]) -> Option<Command>
     ensures { result ≡ command_named (116 ∷ rest.now) }
 {
-    if b"ick".as_slice() == rest {
+    if goes_on(b"ick".as_slice(), rest) {
         Some(Command::Tick)
-    } else if b"une".as_slice() == rest {
+    } else if goes_on(b"une".as_slice(), rest) {
         Some(Command::Call(CallName::Tune))
     } else {
         None
@@ -128,7 +145,7 @@ fn named_t(rest: &[u8]) -> Option<Command>
 fn call_if(name: CallName, ending: &[u8], rest: &[u8]) -> Option<Command>
     ensures { result ≡ cond (same_bytes ending.now rest.now) (Some (command_is.Call name)) None }
 {
-    if ending == rest {
+    if goes_on(ending, rest) {
         Some(Command::Call(name))
     } else {
         None
