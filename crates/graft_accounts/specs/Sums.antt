@@ -9,6 +9,11 @@ pub record Sums : Type 0 where
   pub spent : List ℕ
   pub funds : List ℕ
 
+-- these arrays
+abbrev pub sums_with : ℕ → (balances spent funds : List ℕ) → Sums
+sums_with grant balances spent funds =
+    record { grant = grant; balances = balances; spent = spent; funds = funds }
+
 -- nothing is made or lost
 pub record IsSums (s : Sums) : Type 0 where
   pub balances : length s.balances ≡ 16
@@ -16,11 +21,6 @@ pub record IsSums (s : Sums) : Type 0 where
   pub funds : length s.funds ≡ 256
   pub total : sum s.balances + sum s.spent + sum s.funds ≡ s.grant
   pub bound : s.grant < 4294967296
-
--- a process, and the place of a graft of it
-pub record IsPlace (p i : ℕ) : Type 0 where
-  pub process : p < 16
-  pub place : i < 256
 
 -- what a call makes of a value that is sound before and after
 pub record Becomes {A : Type 0} (IsSound : A → Type 0) (old new next : A) : Type 0 where

@@ -17,6 +17,11 @@ pub record Table : Type 0 where
   pub records : Sums
   pub locks : Sums
 
+-- these arrays
+abbrev pub table_with : List (Option Standing) → (steps records locks : Sums) → Table
+table_with grafts steps records locks =
+    record { grafts = grafts; steps = steps; records = records; locks = locks }
+
 -- the amounts of a kind
 abbrev pub sums_of : Table → Kind → Sums
 sums_of t Steps = t.steps
@@ -101,11 +106,6 @@ accounts_of t =
 -- what all processes have, have spent and have given to their grafts
 abbrev pub total : Accounts → Kind → ℕ
 total a k = sum_below 16 (ledger a k)
-
--- a point of a process
-pub record IsPoint (p pt : ℕ) : Type 0 where
-  pub process : p < 16
-  pub point : pt < 16
 
 -- what a call makes of accounts and grafts: in all there is as much of each kind as before
 pub record Balanced (old new : Table) (next : Accounts) : Type 0 where

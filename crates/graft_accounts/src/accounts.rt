@@ -9,6 +9,7 @@ ghost use Rattle.kernel_model.specs.Pieces.{with_graft, new_graft, without_graft
 ghost use Rattle.kernel_model.specs.Sound.{ledger};
 
 use crate::amounts::{Amounts, POINTS};
+use crate::points::GraftPoint;
 use crate::rows::{GraftRow, Standing};
 use kernel_model::Kind;
 use std::marker::Model;
@@ -29,20 +30,13 @@ pub struct Accounts {
 }
 
 impl Model for Accounts {
-    ghost use Rattle.graft_accounts.specs.Table.{Table, IsTable};
+    ghost use Rattle.graft_accounts.specs.Table.{Table, IsTable, table_with};
 
     ghost Value = { Table };
 
-    ghost view = { λ a. record { grafts = a.grafts; steps = a.steps; records = a.records; locks = a.locks } };
+    ghost view = { λ a. table_with a.grafts a.steps a.records a.locks };
 
-    ghost invariant = { λ a. IsTable (record { grafts = a.grafts; steps = a.steps; records = a.records; locks = a.locks }) };
-}
-
-/// The place of point pt of process p.
-fn place(p: u8, pt: u8) -> usize
-    ensures { result ≡ 16 * p + pt }
-{
-    16 * p as usize + pt as usize
+    ghost invariant = { λ a. IsTable (table_with a.grafts a.steps a.records a.locks) };
 }
 
 /// No graft at all.
@@ -54,8 +48,9 @@ fn no_grafts() -> [Option<Standing>; POINTS]
 
 impl Accounts {
     ghost use Rattle.kernel_model.specs.declared.Kind.TheVariants.{Steps};
-    ghost use Rattle.graft_accounts.specs.Sums.{IsPlace, Becomes, given, funded_at, paid, paid_at};
-    ghost use Rattle.graft_accounts.specs.Table.{IsTable, IsPoint, Balanced, sums_of, within, standing_at, put_at, taken_out, closed_all, accounts_of, total, row_of, short_of, after_give, after_fund, after_bill};
+    ghost use Rattle.graft_accounts.specs.Points.{place_of};
+    ghost use Rattle.graft_accounts.specs.Sums.{Becomes, given, funded_at, paid, paid_at};
+    ghost use Rattle.graft_accounts.specs.Table.{IsTable, Balanced, sums_of, within, standing_at, put_at, taken_out, closed_all, accounts_of, total, row_of, short_of, after_give, after_fund, after_bill};
 
     /// Process 0 has the whole grant of each kind. Nothing is spent, and no graft stands.
     pub fn new(grant: u32) -> Accounts
@@ -70,9 +65,8 @@ impl Accounts {
         }
     }
 
-    /// What process p has.
+    /// What process p has: nothing where p is no process.
     pub fn balance(&self, p: u8, k: Kind) -> u64
-        requires { p < 16 }
         ensures value { result ≡ ((accounts_of self.now).acct p).balance k }
         ensures sound { IsTable self.now }
     {
@@ -83,9 +77,8 @@ impl Accounts {
         }
     }
 
-    /// What process p has spent.
+    /// What process p has spent: nothing where p is no process.
     pub fn spent(&self, p: u8, k: Kind) -> u64
-        requires { p < 16 }
         ensures { result ≡ ((accounts_of self.now).acct p).spent k }
     {
         match k {
@@ -95,16 +88,15 @@ impl Accounts {
         }
     }
 
-    /// What the graft at a place has.
-    fn funds_at(&self, i: usize, k: Kind) -> u64
-        requires { i < 256 }
-        ensures value { result ≡ slice_index (sums_of self.now k).funds i }
+    /// What the graft at a point has.
+    fn funds_at(&self, at: GraftPoint, k: Kind) -> u64
+        ensures value { result ≡ slice_index (sums_of self.now k).funds (place_of at) }
         ensures sound { IsTable self.now }
     {
         match k {
-            Kind::Steps => self.steps.funds(i),
-            Kind::Records => self.records.funds(i),
-            Kind::Locks => self.locks.funds(i),
+            Kind::Steps => self.steps.funds(at),
+            Kind::Records => self.records.funds(at),
+            Kind::Locks => self.locks.funds(at),
         }
     }
 
@@ -122,71 +114,68 @@ impl Accounts {
         }
     }
 
-    /// Moves n from process p to the graft at a place.
-    fn fund_at(&mut self, p: u8, i: usize, k: Kind, n: u64)
-        requires place { IsPlace p i }
-        requires stands { is_some (standing_at self.old i) ≡ true }
-        requires enough { n ≤ slice_index (sums_of self.old k).balances p }
-        ensures { Becomes IsTable self.old self.new (within k (funded_at p i n) self.old) }
+    /// Moves n from the process of a point to the graft there.
+    fn fund_at(&mut self, at: GraftPoint, k: Kind, n: u64)
+        requires stands { is_some (standing_at self.old (place_of at)) ≡ true }
+        requires enough { n ≤ slice_index (sums_of self.old k).balances at.process }
+        ensures { Becomes IsTable self.old self.new
+            (within k (funded_at at.process (place_of at) n) self.old) }
     {
         match k {
-            Kind::Steps => self.steps.fund(p, i, n),
-            Kind::Records => self.records.fund(p, i, n),
-            Kind::Locks => self.locks.fund(p, i, n),
+            Kind::Steps => self.steps.fund(at, n),
+            Kind::Records => self.records.fund(at, n),
+            Kind::Locks => self.locks.fund(at, n),
         }
     }
 
-    /// Process p pays n.
-    fn pay(&mut self, p: u8, k: Kind, n: u64)
-        requires process { p < 16 }
-        requires enough { n ≤ slice_index (sums_of self.old k).balances p }
-        ensures { Becomes IsTable self.old self.new (within k (paid p n) self.old) }
+    /// The process of a point pays n.
+    fn pay(&mut self, at: GraftPoint, k: Kind, n: u64)
+        requires { n ≤ slice_index (sums_of self.old k).balances at.process }
+        ensures { Becomes IsTable self.old self.new (within k (paid at.process n) self.old) }
     {
         match k {
-            Kind::Steps => self.steps.pay(p, n),
-            Kind::Records => self.records.pay(p, n),
-            Kind::Locks => self.locks.pay(p, n),
+            Kind::Steps => self.steps.pay(at, n),
+            Kind::Records => self.records.pay(at, n),
+            Kind::Locks => self.locks.pay(at, n),
         }
     }
 
-    /// The graft at a place, which process p installed, pays n.
-    fn pay_at(&mut self, p: u8, i: usize, k: Kind, n: u64)
-        requires place { IsPlace p i }
-        requires enough { n ≤ slice_index (sums_of self.old k).funds i }
-        ensures { Becomes IsTable self.old self.new (within k (paid_at p i n) self.old) }
+    /// The graft at a point pays n.
+    fn pay_at(&mut self, at: GraftPoint, k: Kind, n: u64)
+        requires { n ≤ slice_index (sums_of self.old k).funds (place_of at) }
+        ensures { Becomes IsTable self.old self.new
+            (within k (paid_at at.process (place_of at) n) self.old) }
     {
         match k {
-            Kind::Steps => self.steps.pay_at(p, i, n),
-            Kind::Records => self.records.pay_at(p, i, n),
-            Kind::Locks => self.locks.pay_at(p, i, n),
+            Kind::Steps => self.steps.pay_at(at, n),
+            Kind::Records => self.records.pay_at(at, n),
+            Kind::Locks => self.locks.pay_at(at, n),
         }
     }
 
-    /// Process p pays one, if it has one.
-    fn charge_account(&mut self, p: u8, k: Kind) -> bool
-        requires { p < 16 }
-        ensures answer { result ≡ nat_le 1 (slice_index (sums_of self.old k).balances p) }
+    /// The process of a point pays one, if it has one.
+    fn charge_account(&mut self, at: GraftPoint, k: Kind) -> bool
+        ensures answer { result ≡ nat_le 1 (slice_index (sums_of self.old k).balances at.process) }
         ensures changed { Becomes IsTable self.old self.new
-            (cond result (within k (paid p 1) self.old) self.old) }
+            (cond result (within k (paid at.process 1) self.old) self.old) }
     {
-        if self.balance(p, k) == 0 {
+        if self.balance(at.process, k) == 0 {
             return false;
         }
-        self.pay(p, k, 1);
+        self.pay(at, k, 1);
         true
     }
 
-    /// The graft at a place, which process p installed, pays one, if it has one.
-    fn charge_graft(&mut self, p: u8, i: usize, k: Kind) -> bool
-        requires place { IsPlace p i }
-        ensures answer { result ≡ nat_le 1 (slice_index (sums_of self.old k).funds i) }
+    /// The graft at a point pays one, if it has one.
+    fn charge_graft(&mut self, at: GraftPoint, k: Kind) -> bool
+        ensures answer { result ≡ nat_le 1 (slice_index (sums_of self.old k).funds (place_of at)) }
         ensures changed { Becomes IsTable self.old self.new
-            (cond result (within k (paid_at p i 1) self.old) self.old) }
+            (cond result (within k (paid_at at.process (place_of at) 1) self.old) self.old) }
     {
-        if self.funds_at(i, k) == 0 {
+        if self.funds_at(at, k) == 0 {
             return false;
         }
-        self.pay_at(p, i, k, 1);
+        self.pay_at(at, k, 1);
         true
     }
 
@@ -200,23 +189,21 @@ impl Accounts {
         }
     }
 
-    /// Puts a graft at a place.
-    fn put(&mut self, i: usize, standing: Standing)
-        requires { i < 256 }
-        ensures { Becomes IsTable self.old self.new (put_at i standing self.old) }
+    /// Puts a graft at a point.
+    fn put(&mut self, at: GraftPoint, standing: Standing)
+        ensures { Becomes IsTable self.old self.new (put_at (place_of at) standing self.old) }
     {
-        self.grafts[i] = Some(standing);
+        self.grafts[at.place()] = Some(standing);
     }
 
-    /// Takes out the graft at a place, which process p installed, and gives what it has back to p.
-    fn take_out(&mut self, p: u8, i: usize)
-        requires place { IsPlace p i }
-        ensures { Becomes IsTable self.old self.new (taken_out p i self.old) }
+    /// Takes out the graft at a point, and gives what it has back to its process.
+    fn take_out(&mut self, at: GraftPoint)
+        ensures { Becomes IsTable self.old self.new (taken_out at.process (place_of at) self.old) }
     {
-        self.steps.give_back(p, i);
-        self.records.give_back(p, i);
-        self.locks.give_back(p, i);
-        self.grafts[i] = None;
+        self.steps.give_back(at);
+        self.records.give_back(at);
+        self.locks.give_back(at);
+        self.grafts[at.place()] = None;
     }
 
     /// Process 0 gets all that process p has and has spent.
@@ -245,53 +232,48 @@ impl Accounts {
         Ok(())
     }
 
-    /// The graft that stands at point pt of process p.
-    pub fn graft(&self, p: u8, pt: u8) -> Option<GraftRow>
-        requires at { IsPoint p pt }
-        ensures { result ≡ option_map row_of ((accounts_of self.now).graft p pt) }
+    /// The graft that stands at a point.
+    pub fn graft(&self, at: GraftPoint) -> Option<GraftRow>
+        ensures { result ≡ option_map row_of ((accounts_of self.now).graft at.process at.point) }
     {
-        let i = place(p, pt);
-        let standing = self.standing(i)?;
+        let standing = self.standing(at.place())?;
         Some(GraftRow {
             image: standing.image,
             limit: standing.limit,
             billed: standing.billed,
-            steps: self.funds_at(i, Kind::Steps),
-            records: self.funds_at(i, Kind::Records),
-            locks: self.funds_at(i, Kind::Locks),
+            steps: self.funds_at(at, Kind::Steps),
+            records: self.funds_at(at, Kind::Records),
+            locks: self.funds_at(at, Kind::Locks),
         })
     }
 
-    /// The image of the graft that stands at point pt of process p.
-    pub fn image(&self, p: u8, pt: u8) -> Option<u8>
-        requires at { IsPoint p pt }
-        ensures { result ≡ option_map (λ g. g.image) ((accounts_of self.now).graft p pt) }
+    /// The image of the graft that stands at a point.
+    pub fn image(&self, at: GraftPoint) -> Option<u8>
+        ensures { result ≡ option_map (λ g. g.image)
+            ((accounts_of self.now).graft at.process at.point) }
     {
-        let standing = self.standing(place(p, pt))?;
+        let standing = self.standing(at.place())?;
         Some(standing.image)
     }
 
-    /// The limit of the graft that stands at point pt of process p: 0 where none does.
-    pub fn limit(&self, p: u8, pt: u8) -> u32
-        requires at { IsPoint p pt }
-        ensures { result ≡ limit_in ((accounts_of self.now).graft p pt) }
+    /// The limit of the graft that stands at a point: 0 where none does.
+    pub fn limit(&self, at: GraftPoint) -> u32
+        ensures { result ≡ limit_in ((accounts_of self.now).graft at.process at.point) }
     {
-        match self.standing(place(p, pt)) {
+        match self.standing(at.place()) {
             None => 0,
             Some(standing) => standing.limit,
         }
     }
 
-    /// What whoever pays for the graft at point pt of process p has: nothing where none stands.
-    pub fn funds(&self, p: u8, pt: u8, k: Kind) -> u64
-        requires at { IsPoint p pt }
-        ensures { result ≡ funds (accounts_of self.now) p pt k }
+    /// What whoever pays for the graft at a point has: nothing where none stands.
+    pub fn funds(&self, at: GraftPoint, k: Kind) -> u64
+        ensures { result ≡ funds (accounts_of self.now) at.process at.point k }
     {
-        let i = place(p, pt);
-        match self.standing(i) {
+        match self.standing(at.place()) {
             None => 0,
-            Some(standing) if standing.billed => self.balance(p, k),
-            Some(_) => self.funds_at(i, k),
+            Some(standing) if standing.billed => self.balance(at.process, k),
+            Some(_) => self.funds_at(at, k),
         }
     }
 
@@ -300,103 +282,96 @@ impl Accounts {
         requires { pt < 16 }
         ensures { result ≡ is_some ((accounts_of self.now).graft p pt) }
     {
-        self.standing(place(p, pt)).is_some()
+        self.standing(16 * p as usize + pt as usize).is_some()
     }
 
-    /// Puts a graft at point pt of process p, where none stands. It has nothing, and isn't billed.
-    pub fn install(&mut self, p: u8, pt: u8, image: u8, limit: u32)
-        requires at { IsPoint p pt }
+    /// Puts a graft at a point where none stands. It has nothing, and isn't billed.
+    pub fn install(&mut self, at: GraftPoint, image: u8, limit: u32)
         requires image { image < 32 }
         requires some { 1 ≤ limit }
         requires most { limit ≤ 65536 }
-        requires free { (accounts_of self.old).graft p pt ≡ None }
+        requires free { (accounts_of self.old).graft at.process at.point ≡ None }
         ensures { Balanced self.old self.new
-            (with_graft p pt (new_graft image limit) (accounts_of self.old)) }
+            (with_graft at.process at.point (new_graft image limit) (accounts_of self.old)) }
     {
         let standing = Standing {
             image,
             limit,
             billed: false,
         };
-        self.put(place(p, pt), standing);
+        self.put(at, standing);
     }
 
-    /// Moves n from process p to its graft at point pt, where one stands. Err has the balance of p,
-    /// with nothing changed, exactly where it is smaller.
-    pub fn fund(&mut self, p: u8, pt: u8, k: Kind, n: u32) -> Result<(), u64>
-        requires at { IsPoint p pt }
-        requires stands { is_some ((accounts_of self.old).graft p pt) ≡ true }
-        ensures answer { result ≡ short_of (((accounts_of self.old).acct p).balance k) n }
+    /// Moves n from the process of a point to its graft there, where one stands. Err has the balance
+    /// of the process, with nothing changed, exactly where it is smaller.
+    pub fn fund(&mut self, at: GraftPoint, k: Kind, n: u32) -> Result<(), u64>
+        requires stands { is_some ((accounts_of self.old).graft at.process at.point) ≡ true }
+        ensures answer { result ≡ short_of (((accounts_of self.old).acct at.process).balance k) n }
         ensures changed { Balanced self.old self.new
-            (after_fund p pt k n ((accounts_of self.old).graft p pt) (accounts_of self.old)) }
+            (after_fund at.process at.point k n
+            ((accounts_of self.old).graft at.process at.point) (accounts_of self.old)) }
     {
-        let has = self.balance(p, k);
+        let has = self.balance(at.process, k);
         if has < u64::from(n) {
             return Err(has);
         }
-        self.fund_at(p, place(p, pt), k, u64::from(n));
+        self.fund_at(at, k, u64::from(n));
         Ok(())
     }
 
-    /// From here on process p pays for its graft at point pt, where one stands.
-    pub fn bill(&mut self, p: u8, pt: u8)
-        requires at { IsPoint p pt }
-        requires stands { is_some ((accounts_of self.old).graft p pt) ≡ true }
+    /// From here on the process of a point pays for its graft there, where one stands.
+    pub fn bill(&mut self, at: GraftPoint)
+        requires stands { is_some ((accounts_of self.old).graft at.process at.point) ≡ true }
         ensures { Balanced self.old self.new
-            (after_bill p pt ((accounts_of self.old).graft p pt) (accounts_of self.old)) }
+            (after_bill at.process at.point
+            ((accounts_of self.old).graft at.process at.point) (accounts_of self.old)) }
     {
-        let i = place(p, pt);
-        if let Some(standing) = self.standing(i) {
+        if let Some(standing) = self.standing(at.place()) {
             let billed = Standing {
                 billed: true,
                 ..standing
             };
-            self.put(i, billed);
+            self.put(at, billed);
         }
     }
 
-    /// Moves one from whoever pays for the graft at point pt of process p to what p has spent.
+    /// Moves one from whoever pays for the graft at a point to what its process has spent.
     /// False, with nothing changed, exactly where the payer has none.
-    pub fn charge(&mut self, p: u8, pt: u8, k: Kind) -> bool
-        requires at { IsPoint p pt }
-        ensures answer { result ≡ nat_le 1 (funds (accounts_of self.old) p pt k) }
+    pub fn charge(&mut self, at: GraftPoint, k: Kind) -> bool
+        ensures answer { result ≡ nat_le 1 (funds (accounts_of self.old) at.process at.point k) }
         ensures changed { Balanced self.old self.new
-            (cond result (charge k p pt (accounts_of self.old)) (accounts_of self.old)) }
+            (cond result (charge k at.process at.point (accounts_of self.old))
+            (accounts_of self.old)) }
         ensures ledgers { (j : Kind) (r : ℕ) →
             ledger (accounts_of self.new) j r ≡ ledger (accounts_of self.old) j r }
     {
-        let i = place(p, pt);
-        match self.standing(i) {
+        match self.standing(at.place()) {
             None => false,
-            Some(standing) if standing.billed => self.charge_account(p, k),
-            Some(_) => self.charge_graft(p, i, k),
+            Some(standing) if standing.billed => self.charge_account(at, k),
+            Some(_) => self.charge_graft(at, k),
         }
     }
 
-    /// Moves n steps at once from whoever pays for the graft at point pt of process p to what p has
+    /// Moves n steps at once from whoever pays for the graft at a point to what its process has
     /// spent: the books are as if the steps had been charged one after another.
-    pub fn charge_steps(&mut self, p: u8, pt: u8, n: u32)
-        requires at { IsPoint p pt }
-        requires enough { n ≤ funds (accounts_of self.old) p pt Steps }
-        ensures { Balanced self.old self.new (charged_steps n p pt (accounts_of self.old)) }
+    pub fn charge_steps(&mut self, at: GraftPoint, n: u32)
+        requires enough { n ≤ funds (accounts_of self.old) at.process at.point Steps }
+        ensures { Balanced self.old self.new
+            (charged_steps n at.process at.point (accounts_of self.old)) }
     {
-        let i = place(p, pt);
-        match self.standing(i) {
+        match self.standing(at.place()) {
             None => {}
-            Some(standing) if standing.billed => self.pay(p, Kind::Steps, u64::from(n)),
-            Some(_) => self.pay_at(p, i, Kind::Steps, u64::from(n)),
+            Some(standing) if standing.billed => self.pay(at, Kind::Steps, u64::from(n)),
+            Some(_) => self.pay_at(at, Kind::Steps, u64::from(n)),
         }
     }
 
-    /// Takes out the graft at point pt of process p, if one stands, and gives what it has back to
-    /// p.
-    pub fn remove(&mut self, p: u8, pt: u8)
-        requires at { IsPoint p pt }
-        ensures { Balanced self.old self.new (removed p pt (accounts_of self.old)) }
+    /// Takes out the graft at a point, if one stands, and gives what it has back to its process.
+    pub fn remove(&mut self, at: GraftPoint)
+        ensures { Balanced self.old self.new (removed at.process at.point (accounts_of self.old)) }
     {
-        let i = place(p, pt);
-        if self.standing(i).is_some() {
-            self.take_out(p, i);
+        if self.standing(at.place()).is_some() {
+            self.take_out(at);
         }
     }
 
@@ -409,7 +384,11 @@ impl Accounts {
         let mut left = points;
         while left > 0 {
             left -= 1;
-            self.remove(p, left);
+            let at = GraftPoint {
+                process: p,
+                point: left,
+            };
+            self.remove(at);
         }
     }
 

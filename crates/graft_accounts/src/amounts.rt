@@ -3,6 +3,7 @@
 ghost use Rattle.std.specs.Prelude.{◌≡◌, ◌+◌, ◌<◌, ◌≤◌, length, replicate, sum, slice_index};
 ghost use Rattle.graft_accounts.specs.Sums.{less_at, more_at};
 
+use crate::points::GraftPoint;
 use std::marker::Model;
 
 /// The processes.
@@ -19,6 +20,16 @@ pub(crate) struct Amounts {
     pub(crate) balances: [u64; PROCESSES],
     pub(crate) spent: [u64; PROCESSES],
     pub(crate) funds: [u64; POINTS],
+}
+
+/// The amount at a place: nothing beyond the last one.
+fn amount_at(xs: &[u64], i: usize) -> u64
+    ensures { result ≡ slice_index xs.now i }
+{
+    match xs.get(i) {
+        Some(n) => *n,
+        None => 0,
+    }
 }
 
 /// Takes n from the amount at a place, which has as much.
@@ -50,18 +61,19 @@ fn no_amounts<const N: usize>() -> [u64; N]
 }
 
 impl Model for Amounts {
-    ghost use Rattle.graft_accounts.specs.Sums.{Sums, IsSums};
+    ghost use Rattle.graft_accounts.specs.Sums.{Sums, IsSums, sums_with};
 
     ghost Value = { Sums };
 
-    ghost view = { λ a. record { grant = a.grant; balances = a.balances; spent = a.spent; funds = a.funds } };
+    ghost view = { λ a. sums_with a.grant a.balances a.spent a.funds };
 
-    ghost invariant = { λ a. IsSums (record { grant = a.grant; balances = a.balances; spent = a.spent; funds = a.funds }) };
+    ghost invariant = { λ a. IsSums (sums_with a.grant a.balances a.spent a.funds) };
 }
 
 impl Amounts {
     ghost use Rattle.std.specs.Prelude.{◌*◌, nat_lt, cond, [], ◌∷◌, ◌++◌, Ok, Err};
-    ghost use Rattle.graft_accounts.specs.Sums.{IsSums, IsPlace, Becomes, opening, given, funded_at, paid, paid_at, given_back, closed};
+    ghost use Rattle.graft_accounts.specs.Points.{place_of};
+    ghost use Rattle.graft_accounts.specs.Sums.{IsSums, Becomes, opening, given, funded_at, paid, paid_at, given_back, closed};
 
     /// Process 0 has the whole grant.
     pub(crate) fn new(grant: u32) -> Amounts
@@ -78,28 +90,25 @@ impl Amounts {
         }
     }
 
-    /// What process p has.
+    /// What process p has: nothing where p is no process.
     pub(crate) fn balance(&self, p: u8) -> u64
-        requires { p < 16 }
         ensures { result ≡ slice_index self.now.balances p }
     {
-        self.balances[p as usize]
+        amount_at(&self.balances, p as usize)
     }
 
-    /// What process p has spent.
+    /// What process p has spent: nothing where p is no process.
     pub(crate) fn spent(&self, p: u8) -> u64
-        requires { p < 16 }
         ensures { result ≡ slice_index self.now.spent p }
     {
-        self.spent[p as usize]
+        amount_at(&self.spent, p as usize)
     }
 
-    /// What the graft at a place has.
-    pub(crate) fn funds(&self, i: usize) -> u64
-        requires { i < 256 }
-        ensures { result ≡ slice_index self.now.funds i }
+    /// What the graft at a point has.
+    pub(crate) fn funds(&self, at: GraftPoint) -> u64
+        ensures { result ≡ slice_index self.now.funds (place_of at) }
     {
-        self.funds[i]
+        amount_at(&self.funds, at.place())
     }
 
     /// Moves n from process p to process q.
@@ -113,44 +122,41 @@ impl Amounts {
         add_to(&mut self.balances, q as usize, n);
     }
 
-    /// Moves n from process p to the graft at a place.
-    pub(crate) fn fund(&mut self, p: u8, i: usize, n: u64)
-        requires place { IsPlace p i }
-        requires enough { n ≤ slice_index self.old.balances p }
-        ensures { Becomes IsSums self.old self.new (funded_at p i n self.old) }
+    /// Moves n from the process of a point to the graft there.
+    pub(crate) fn fund(&mut self, at: GraftPoint, n: u64)
+        requires { n ≤ slice_index self.old.balances at.process }
+        ensures { Becomes IsSums self.old self.new
+            (funded_at at.process (place_of at) n self.old) }
     {
-        take_from(&mut self.balances, p as usize, n);
-        add_to(&mut self.funds, i, n);
+        take_from(&mut self.balances, at.process as usize, n);
+        add_to(&mut self.funds, at.place(), n);
     }
 
-    /// Process p pays n.
-    pub(crate) fn pay(&mut self, p: u8, n: u64)
-        requires process { p < 16 }
-        requires enough { n ≤ slice_index self.old.balances p }
-        ensures { Becomes IsSums self.old self.new (paid p n self.old) }
+    /// The process of a point pays n.
+    pub(crate) fn pay(&mut self, at: GraftPoint, n: u64)
+        requires { n ≤ slice_index self.old.balances at.process }
+        ensures { Becomes IsSums self.old self.new (paid at.process n self.old) }
     {
-        take_from(&mut self.balances, p as usize, n);
-        add_to(&mut self.spent, p as usize, n);
+        take_from(&mut self.balances, at.process as usize, n);
+        add_to(&mut self.spent, at.process as usize, n);
     }
 
-    /// The graft at a place, which process p installed, pays n.
-    pub(crate) fn pay_at(&mut self, p: u8, i: usize, n: u64)
-        requires place { IsPlace p i }
-        requires enough { n ≤ slice_index self.old.funds i }
-        ensures { Becomes IsSums self.old self.new (paid_at p i n self.old) }
+    /// The graft at a point pays n.
+    pub(crate) fn pay_at(&mut self, at: GraftPoint, n: u64)
+        requires { n ≤ slice_index self.old.funds (place_of at) }
+        ensures { Becomes IsSums self.old self.new (paid_at at.process (place_of at) n self.old) }
     {
-        take_from(&mut self.funds, i, n);
-        add_to(&mut self.spent, p as usize, n);
+        take_from(&mut self.funds, at.place(), n);
+        add_to(&mut self.spent, at.process as usize, n);
     }
 
-    /// Process p gets all that the graft at a place has.
-    pub(crate) fn give_back(&mut self, p: u8, i: usize)
-        requires place { IsPlace p i }
-        ensures { Becomes IsSums self.old self.new (given_back p i self.old) }
+    /// The process of a point gets all that the graft there has.
+    pub(crate) fn give_back(&mut self, at: GraftPoint)
+        ensures { Becomes IsSums self.old self.new (given_back at.process (place_of at) self.old) }
     {
-        let n = self.funds[i];
-        take_from(&mut self.funds, i, n);
-        add_to(&mut self.balances, p as usize, n);
+        let n = self.funds(at);
+        take_from(&mut self.funds, at.place(), n);
+        add_to(&mut self.balances, at.process as usize, n);
     }
 
     /// Process 0 gets all that process p has and has spent.

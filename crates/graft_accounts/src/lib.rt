@@ -5,9 +5,11 @@
 
 mod accounts;
 mod amounts;
+mod points;
 mod rows;
 #[cfg(test)]
 mod tests;
 
 pub use accounts::Accounts;
+pub use points::GraftPoint;
 pub use rows::GraftRow;

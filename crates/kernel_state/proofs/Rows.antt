@@ -100,3 +100,10 @@ evicted_used c f order rows slice h is same any = stands_used c f order rows h i
 -- no row, as its test says
 pub no_rows : (rows slice : List FrameRow) (test : Bool) → slice ≡ rows → test ≡ (length slice == 0) → test ≡ true → length rows ≡ 0
 no_rows rows slice test same is holds = ap (λ (xs : List FrameRow). length xs) (sym same) ∙ grind (arith, nat_tests)
+
+-- where there are no rows there is no candidate
+pub no_candidate : (c : Frames) (d : CacheValue) (pol : PolValue) (order : List ℕ) (rows : List FrameRow) → map (λ (r : FrameRow). Some r) rows ≡ map (row_at c.rows) order →
+    length rows ≡ 0 → ◌≡◌ {A = Option ℕ} None (victim_among pol d order)
+no_candidate c d pol [] rows is none = refl
+no_candidate c d pol (f ∷ order) [] is none = absurd (cc)
+no_candidate c d pol (f ∷ order) (r ∷ rows) is none = absurd (omega (arith, none))

@@ -17,8 +17,3 @@ pub record HasDescriptor (queue : List QueueRow) (p fd : ℕ) : Type 0 where
 pub record HasPoint (queue : List QueueRow) (p pt : ℕ) : Type 0 where
   pub lives : lives queue p ≡ true
   pub point : pt < 16
-
--- a graft may stand at point pt of process q
-pub record IsPlace (q pt : ℕ) : Type 0 where
-  pub process : q < 16
-  pub point : pt < 16

@@ -14,6 +14,7 @@ ghost use Rattle.kernel_state.specs.Stores.{objects_of, queue_of, views_of};
 
 use crate::{Access, Store};
 use accessor_list::ids;
+use graft_accounts::GraftPoint;
 use graft_points::Policy;
 use kernel_model::{Cause, FrameRow, Inverse};
 
@@ -55,7 +56,13 @@ impl<B: Policy> Store<B> {
             Inverse::Window(q, fd, v) => self.set_window(q, fd, v),
             Inverse::Mark(f, v) => self.set_mark(u32::from(f), v),
             Inverse::Tune(kind, _, v) => self.set_param(kind, v),
-            Inverse::Segment(q, pt) => self.put_segment(q, pt, bytes),
+            Inverse::Segment(q, pt) => {
+                let at = GraftPoint {
+                    process: q,
+                    point: pt,
+                };
+                self.put_segment(at, bytes)
+            }
         }
     }
 

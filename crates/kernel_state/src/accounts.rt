@@ -11,6 +11,7 @@ ghost use Rattle.kernel_state.specs.Places.{HasPoint};
 ghost use Rattle.kernel_state.specs.Stores.{objects_of, queue_of};
 
 use crate::Store;
+use graft_accounts::GraftPoint;
 use graft_points::Policy;
 use kernel_model::Kind;
 
@@ -47,8 +48,12 @@ impl<B: Policy> Store<B> {
         ensures { Changes (with_new_graft p pt (new_graft image limit)) self.old self.new }
     {
         self.procs.rows();
-        self.accounts.install(p, pt, image, limit);
-        self.forget_segment(p, pt);
+        let at = GraftPoint {
+            process: p,
+            point: pt,
+        };
+        self.accounts.install(at, image, limit);
+        self.forget_segment(at);
     }
 
     /// Takes out the graft at point pt of process p, if one stands, and gives what it has back to
@@ -58,7 +63,10 @@ impl<B: Policy> Store<B> {
         ensures { Changes (λ s. with_accounts (removed p pt s.accounts) s) self.old self.new }
     {
         self.procs.rows();
-        self.accounts.remove(p, pt);
+        self.accounts.remove(GraftPoint {
+            process: p,
+            point: pt,
+        });
     }
 
     /// Moves n from process p to its graft at point pt, where one stands. Err has the balance of p,
@@ -72,7 +80,14 @@ impl<B: Policy> Store<B> {
             self.old self.new }
     {
         self.procs.rows();
-        self.accounts.fund(p, pt, k, n)
+        self.accounts.fund(
+            GraftPoint {
+                process: p,
+                point: pt,
+            },
+            k,
+            n,
+        )
     }
 
     /// From here on process p pays for its graft at point pt, where one stands.
@@ -84,6 +99,9 @@ impl<B: Policy> Store<B> {
             self.old self.new }
     {
         self.procs.rows();
-        self.accounts.bill(p, pt);
+        self.accounts.bill(GraftPoint {
+            process: p,
+            point: pt,
+        });
     }
 }

@@ -1,6 +1,6 @@
 //! The cache of a store, with the bytes of its frames.
 
-ghost use Rattle.std.specs.Prelude.{◌≡◌, ℕ, ◌+◌, ◌*◌, ◌<◌, ◌≤◌, true, false, length, Some, None, IfSome, IfNone, slice_range, option_map, map, filter_map};
+ghost use Rattle.std.specs.Prelude.{◌≡◌, ℕ, ◌+◌, ◌*◌, ◌<◌, ◌≤◌, true, false, [], length, Some, None, IfSome, IfNone, slice_range, option_map, map, filter_map};
 ghost use Rattle.kernel_model.specs.Objects.{FrameValue};
 ghost use Rattle.kernel_model.specs.Needs.{frame_of_block, free_frame, owner_asked};
 ghost use Rattle.kernel_model.specs.Policies.{lives, victim_among};
@@ -9,12 +9,15 @@ ghost use Rattle.kernel_model.specs.FilePieces.{with_cache};
 ghost use Rattle.kernel_model.specs.RawRows.{frame_row_of};
 ghost use Rattle.kernel_model.specs.declared.FrameRow.{FrameRow as Row};
 ghost use Rattle.buffer_cache.specs.Frames.{in_use, row_at};
+ghost use Rattle.kernel_state.specs.CacheViews.{IsCandidate};
 ghost use Rattle.kernel_state.specs.Changes.{Changes, ChangesFrames};
 ghost use Rattle.kernel_state.specs.Stores.{world_of_store, objects_of, cache_of, queue_of, policies_of};
 
 use crate::Store;
+use arrayvec::ArrayVec;
+use buffer_cache::Cache;
 use graft_points::Policy;
-use kernel_model::{BLOCK_BYTES, Bytes, FrameRows};
+use kernel_model::{BLOCK_BYTES, Bytes, FrameRow, FrameRows};
 use ram_space::Ram;
 
 impl<B: Policy> Store<B> {
@@ -61,12 +64,35 @@ impl<B: Policy> Store<B> {
         ensures in_cache { IfSome result (λ f. in_use f self.now.cache ≡ true) }
         ensures none { IfNone result ((f : ℕ) → in_use f self.now.cache ≡ false) }
     {
-        self.cache.lru();
+        if self.cache.lru().len() > FEW {
+            return self.candidate_of_many();
+        }
+        let mut rows: ArrayVec<FrameRow, FEW> = ArrayVec::new();
+        put_rows(&self.cache, &mut rows);
+        self.evicted(rows.as_slice())
+    }
+
+    /// The same where many frames may be in use. It stands apart since room for all rows is cleared
+    /// here.
+    #[inline(never)]
+    fn candidate_of_many(&self) -> Option<u8>
+        ensures { IsCandidate (policies_of self.now 1) (cache_of self.now) self.now.cache result }
+    {
         let rows = self.frame_rows();
-        if rows.as_slice().is_empty() {
+        self.evicted(rows.as_slice())
+    }
+
+    /// The frame that the chosen policy evicts of those in use, which have these rows.
+    fn evicted(&self, rows: &[FrameRow]) -> Option<u8>
+        requires { map (λ (r : Row). Some r) rows.now
+            ≡ map (row_at self.now.cache.rows) self.now.cache.order }
+        ensures { IsCandidate (policies_of self.now 1) (cache_of self.now) self.now.cache result }
+    {
+        self.cache.lru();
+        if rows.is_empty() {
             return None;
         }
-        Some(self.shelf.victim(&self.choice, rows.as_slice()))
+        Some(self.shelf.victim(&self.choice, rows))
     }
 
     /// Whether frame f is in use.
@@ -187,6 +213,22 @@ impl<B: Policy> Store<B> {
         self.cache.lru();
         let frame = self.ram.bytes(start_of(f), BLOCK_BYTES as u32);
         bytes_from(&frame[off as usize..(off + len) as usize])
+    }
+}
+
+/// So many frames in use have few rows, which are clear at once. The cache has so many frames where
+/// no line says otherwise.
+const FEW: usize = 8;
+
+/// The rows of the frames in use, oldest first.
+fn put_rows<const N: usize>(cache: &Cache, rows: &mut ArrayVec<FrameRow, N>)
+    requires empty { rows.old.items ≡ [] }
+    requires room { length cache.now.order ≤ N }
+    ensures { map (λ (r : Row). Some r) rows.new.items
+        ≡ map (row_at cache.now.rows) cache.now.order }
+{
+    for f in cache.lru() {
+        rows.push(cache.row(*f));
     }
 }
 

@@ -6,6 +6,7 @@ ghost use Rattle.kernel_model.specs.declared.RawRow.TheVariants.{Acct, Cells, Qu
 ghost use Rattle.kernel_state.specs.Stores.{world_of_store, objects_of, queue_of};
 
 use crate::Store;
+use graft_accounts::GraftPoint;
 use graft_points::Policy;
 use kernel_model::{Kind, QueueRow, QueueRows, RawRow};
 
@@ -19,7 +20,6 @@ impl<B: Policy> Store<B> {
 
     /// What process p has and has spent of each kind.
     pub fn shown_account(&self, p: u8) -> RawRow
-        requires { p < 16 }
         ensures { result ≡ acct_row (objects_of self.now) p }
     {
         RawRow::Acct(p, self.amounts(p))
@@ -27,7 +27,6 @@ impl<B: Policy> Store<B> {
 
     /// The amounts of process p, balances first.
     pub fn amounts(&self, p: u8) -> [u64; 6]
-        requires { p < 16 }
         ensures { Acct p result ≡ acct_row (objects_of self.now) p }
     {
         [
@@ -78,7 +77,10 @@ impl<B: Policy> Store<B> {
         requires point { pt < 16 }
         ensures { result ≡ graft_row (objects_of self.now) p pt }
     {
-        let graft = self.accounts.graft(p, pt)?;
+        let graft = self.accounts.graft(GraftPoint {
+            process: p,
+            point: pt,
+        })?;
         let balance = [graft.steps, graft.records, graft.locks];
         Some(RawRow::Graft(p, pt, graft.image, graft.limit, graft.billed, balance))
     }

@@ -8,7 +8,7 @@ use Rattle.std.proofs.lemmas.Map.Keys.{IsDistinct-cons}
 use Rattle.std.proofs.lemmas.Map.Steps.{length-le_from_distinct_below}
 use Rattle.kernel_model.specs.declared.Held.{Held}
 use Rattle.lock_table.specs.declared.Holds.{Holds}
-use Rattle.lock_table.specs.Masks.{no_holds, held_by, holds_at, levels_at, is_used, merged, released}
+use Rattle.lock_table.specs.Masks.{no_holds, held_by, holds_at, levels_at, is_used, merged, released, HoldsSome}
 use Rattle.lock_table.specs.Noted.{times, IsNoted}
 use Rattle.lock_table.proofs.Places.{written}
 use Rattle.lock_table.proofs.Used.{free_levels, no_holds-unused, merge-used, release-unused}
@@ -256,3 +256,15 @@ none_noted masks [] noted empty n e = free_levels (holds_at masks n) (free (is_u
     free true h = absurd (omega (arith, h))
     free false h = refl
 none_noted masks (x ∷ xs) noted empty n e = absurd (omega (arith, empty))
+
+-- where something is noted it is held
+pub some_noted : (masks : List Holds) (numbers : List ℕ) → IsNoted masks numbers → length masks ≡ 421 → 0 < length numbers → HoldsSome masks
+some_noted masks numbers noted size some =
+    record {
+      number = get_or numbers 0 0;
+      below = rw (sym size) (noted_inside masks numbers 0 noted some);
+      used =
+          let there = stands_there numbers 0 some in
+          let within = times-take (get_or numbers 0 0) numbers 1 in
+          listed_used masks numbers (get_or numbers 0 0) noted (omega (arith, there, within));
+    }

@@ -1,10 +1,11 @@
 //! `CallHolds`.
 
-ghost use Rattle.std.specs.Prelude.{◌≡◌, ℕ, ◌<◌, ◌&&◌, ◌==◌, cond, length, IfOk, IsTrue};
+ghost use Rattle.std.specs.Prelude.{◌≡◌, ℕ, ◌<◌, ◌&&◌, ◌==◌, cond, length, true, false, IfOk};
 ghost use Rattle.kernel_model.specs.Locks.{held_as, stronger};
 ghost use Rattle.kernel_model.specs.declared.Held.TheVariants.{Free};
 
 use crate::Holds;
+use crate::holder::Depth;
 use crate::rows::{
     OBJECTS, conflicting_at, forget_unused, holding_at, merge_all, note, nothing_held, release_all,
     touch_at,
@@ -37,7 +38,7 @@ impl Model for CallHolds {
 }
 
 impl CallHolds {
-    ghost use Rattle.lock_table.specs.Masks.{conflicting_level, holds_at, levels_at, merged, released};
+    ghost use Rattle.lock_table.specs.Masks.{HoldsSome, conflicting_level, holds_at, levels_at, merged, released};
 
     /// Nothing is held.
     pub(crate) fn new(alloc: Global) -> Result<CallHolds, AllocError>
@@ -52,7 +53,8 @@ impl CallHolds {
 
     /// Whether nothing is held.
     pub(crate) fn is_free(&self) -> bool
-        ensures { IsTrue result → (n e : ℕ) → levels_at self.now n e ≡ Free }
+        ensures free { result ≡ true → (n e : ℕ) → levels_at self.now n e ≡ Free }
+        ensures held { result ≡ false → HoldsSome self.now }
     {
         self.numbers.is_empty()
     }
@@ -74,32 +76,30 @@ impl CallHolds {
     }
 
     /// A level holds an object in a mode; where it held, the stronger way stays.
-    pub(crate) fn touch(&mut self, number: u16, level: u8, mode: Mode)
-        requires number { number < 421 }
-        requires depth { level < 4 }
+    pub(crate) fn touch(&mut self, number: u16, depth: Depth, mode: Mode)
+        requires { number < 421 }
         ensures { (n e : ℕ) →
-            levels_at self.new n e ≡ cond (n == number && e == level)
+            levels_at self.new n e ≡ cond (n == number && e == depth.level)
             (stronger (levels_at self.old n e) (held_as mode)) (levels_at self.old n e) }
     {
         note(&mut self.numbers, &self.masks, number);
-        touch_at(&mut self.masks, number, level, mode);
+        touch_at(&mut self.masks, number, depth, mode);
     }
 
     /// What a level above 0 holds goes to the level outside it.
-    pub(crate) fn merge_level(&mut self, level: u8)
-        requires inner { 0 < level }
-        requires depth { level < 4 }
-        ensures { (n e : ℕ) → levels_at self.new n e ≡ merged level (levels_at self.old n) e }
+    pub(crate) fn merge_level(&mut self, depth: Depth)
+        requires { 0 < depth.level }
+        ensures { (n e : ℕ) → levels_at self.new n e ≡ merged depth.level (levels_at self.old n) e }
     {
-        merge_all(&mut self.masks, &self.numbers, level);
+        merge_all(&mut self.masks, &self.numbers, depth);
     }
 
     /// A level and those further inward let go.
-    pub(crate) fn release_from(&mut self, level: u8)
-        requires { level < 4 }
-        ensures { (n e : ℕ) → levels_at self.new n e ≡ released level (levels_at self.old n) e }
+    pub(crate) fn release_from(&mut self, depth: Depth)
+        ensures { (n e : ℕ) →
+            levels_at self.new n e ≡ released depth.level (levels_at self.old n) e }
     {
-        release_all(&mut self.masks, &self.numbers, level);
+        release_all(&mut self.masks, &self.numbers, depth);
         forget_unused(&mut self.numbers, &self.masks);
     }
 }

@@ -1,12 +1,13 @@
 //! What the levels of one process hold of one object.
 
-ghost use Rattle.std.specs.Prelude.{◌≡◌, ℕ, ◌-◌, ◌<◌, ◌==◌, ◌&&◌, not, find, [], ◌∷◌};
+ghost use Rattle.std.specs.Prelude.{◌≡◌, ℕ, ◌-◌, ◌==◌, ◌&&◌, not, find, [], ◌∷◌};
 ghost use Rattle.std.specs.Prelude.{◌||◌};
 ghost use Rattle.kernel_model.specs.Locks.{conflicts, held_as, is_held, stronger};
 ghost use Rattle.kernel_model.specs.Objects.{at};
 ghost use Rattle.lock_table.specs.Masks.{has_level, held_by, is_used, merged, released};
 
 use crate::Holds;
+use crate::holder::Depth;
 use crate::masks::{has, outermost, outside, union, with, without};
 use kernel_model::Mode;
 
@@ -24,11 +25,10 @@ pub(crate) fn any_holds(holds: Holds) -> bool
 }
 
 /// Whether a level holds.
-pub(crate) fn is_holding(holds: Holds, level: u8) -> bool
-    requires depth { level < 4 }
-    ensures { result ≡ is_held (held_by holds level) }
+pub(crate) fn is_holding(holds: Holds, depth: Depth) -> bool
+    ensures { result ≡ is_held (held_by holds depth.level) }
 {
-    has(holds.exclusive, level) || has(holds.shared, level)
+    has(holds.exclusive, depth) || has(holds.shared, depth)
 }
 
 /// The outermost level whose hold conflicts with a mode.
@@ -42,57 +42,56 @@ pub(crate) fn conflicting(holds: Holds, mode: Mode) -> Option<u8>
 }
 
 /// A level holds in a mode; where it held, the stronger way stays.
-pub(crate) fn touched(holds: Holds, level: u8, mode: Mode) -> Holds
-    requires depth { level < 4 }
+pub(crate) fn touched(holds: Holds, depth: Depth, mode: Mode) -> Holds
     ensures { (e : ℕ) → held_by result e
-        ≡ at level (stronger (held_by holds level) (held_as mode)) (held_by holds) e }
+        ≡ at depth.level (stronger (held_by holds depth.level) (held_as mode)) (held_by holds) e }
 {
     match mode {
         Mode::Shared => Holds {
-            shared: with(holds.shared, level),
+            shared: with(holds.shared, depth),
             ..holds
         },
         Mode::Exclusive => Holds {
-            exclusive: with(holds.exclusive, level),
+            exclusive: with(holds.exclusive, depth),
             ..holds
         },
     }
 }
 
-/// A mask in which a level above 0 has gone to the level outside it.
-fn moved_out(mask: u8, level: u8) -> u8
-    requires inner { 0 < level }
-    requires depth { level < 4 }
+/// A mask in which a level has gone to the level outside it, and level 0 is let go.
+fn moved_out(mask: u8, depth: Depth) -> u8
     ensures { (e : ℕ) → has_level result e
-        ≡ (not (e == level) && (has_level mask e || (e == level - 1 && has_level mask level))) }
+        ≡ (not (e == depth.level)
+        && (has_level mask e || (e == depth.level - 1 && has_level mask depth.level))) }
 {
-    if has(mask, level) {
-        with(without(mask, level), level - 1)
+    let rest = without(mask, depth);
+    if depth.level > 0 && has(mask, depth) {
+        let outer = Depth {
+            level: depth.level - 1,
+        };
+        with(rest, outer)
     } else {
-        mask
+        rest
     }
 }
 
-/// What a level above 0 holds goes to the level outside it; where both hold, the stronger way
-/// stays.
-pub(crate) fn merged_out(holds: Holds, level: u8) -> Holds
-    requires inner { 0 < level }
-    requires depth { level < 4 }
-    ensures { (e : ℕ) → held_by result e ≡ merged level (held_by holds) e }
+/// What a level holds goes to the level outside it; where both hold, the stronger way stays. What
+/// level 0 holds is let go.
+pub(crate) fn merged_out(holds: Holds, depth: Depth) -> Holds
+    ensures { (e : ℕ) → held_by result e ≡ merged depth.level (held_by holds) e }
 {
     Holds {
-        shared: moved_out(holds.shared, level),
-        exclusive: moved_out(holds.exclusive, level),
+        shared: moved_out(holds.shared, depth),
+        exclusive: moved_out(holds.exclusive, depth),
     }
 }
 
 /// A level and those further inward let go.
-pub(crate) fn released_from(holds: Holds, level: u8) -> Holds
-    requires depth { level < 4 }
-    ensures { (e : ℕ) → held_by result e ≡ released level (held_by holds) e }
+pub(crate) fn released_from(holds: Holds, depth: Depth) -> Holds
+    ensures { (e : ℕ) → held_by result e ≡ released depth.level (held_by holds) e }
 {
     Holds {
-        shared: outside(holds.shared, level),
-        exclusive: outside(holds.exclusive, level),
+        shared: outside(holds.shared, depth),
+        exclusive: outside(holds.exclusive, depth),
     }
 }

@@ -3,6 +3,7 @@
 #![tactic(auto)]
 
 mod call;
+mod holder;
 pub mod laws;
 mod levels;
 mod masks;
@@ -12,6 +13,7 @@ mod table;
 #[cfg(test)]
 mod tests;
 
+pub use holder::Holder;
 pub use kernel_model::{Mode, NoMemory, Object};
 pub use numbers::object_number;
 pub use table::LockTable;

@@ -7,6 +7,7 @@ ghost use Rattle.lock_table.specs.Masks.{conflicting_level, holds_at, is_used, l
 ghost use Rattle.lock_table.specs.Noted.{IsNoted};
 
 use crate::Holds;
+use crate::holder::Depth;
 use crate::levels::{NO_HOLDS, any_holds, conflicting, merged_out, released_from, touched};
 use arrayvec::ArrayVec;
 use kernel_model::Mode;
@@ -40,17 +41,16 @@ pub(crate) fn conflicting_at(masks: &[Holds], number: u16, mode: Mode) -> Option
 }
 
 /// A level holds an object in a mode; where it held, the stronger way stays.
-pub(crate) fn touch_at(masks: &mut [Holds], number: u16, level: u8, mode: Mode)
-    requires size { number < length masks.old }
-    requires depth { level < 4 }
+pub(crate) fn touch_at(masks: &mut [Holds], number: u16, depth: Depth, mode: Mode)
+    requires { number < length masks.old }
     ensures touched { (n e : ℕ) →
-        levels_at masks.new n e ≡ cond (n == number && e == level)
+        levels_at masks.new n e ≡ cond (n == number && e == depth.level)
         (stronger (levels_at masks.old n e) (held_as mode)) (levels_at masks.old n e) }
     ensures used { (n : ℕ) →
         is_used (holds_at masks.new n) ≡ cond (n == number) true (is_used (holds_at masks.old n)) }
 {
     let holds = &mut masks[number as usize];
-    *holds = touched(*holds, level, mode);
+    *holds = touched(*holds, depth, mode);
 }
 
 /// Notes an object, unless some level holds it already.
@@ -67,28 +67,27 @@ pub(crate) fn note(numbers: &mut ArrayVec<u16, OBJECTS>, masks: &[Holds], number
 }
 
 /// What a level above 0 holds goes to the level outside it. All that is held is noted.
-pub(crate) fn merge_all(masks: &mut [Holds], numbers: &[u16], level: u8)
+pub(crate) fn merge_all(masks: &mut [Holds], numbers: &[u16], depth: Depth)
     requires noted { IsNoted masks.old numbers.now }
-    requires inner { 0 < level }
-    requires depth { level < 4 }
-    ensures merged { (n e : ℕ) → levels_at masks.new n e ≡ merged level (levels_at masks.old n) e }
+    requires inner { 0 < depth.level }
+    ensures merged { (n e : ℕ) →
+        levels_at masks.new n e ≡ merged depth.level (levels_at masks.old n) e }
     ensures noted { IsNoted masks.new numbers.now }
 {
     for number in numbers {
         let holds = &mut masks[*number as usize];
-        *holds = merged_out(*holds, level);
+        *holds = merged_out(*holds, depth);
     }
 }
 
 /// A level and those further inward let go. All that is held is noted.
-pub(crate) fn release_all(masks: &mut [Holds], numbers: &[u16], level: u8)
+pub(crate) fn release_all(masks: &mut [Holds], numbers: &[u16], depth: Depth)
     requires noted { IsNoted masks.old numbers.now }
-    requires depth { level < 4 }
-    ensures { (n e : ℕ) → levels_at masks.new n e ≡ released level (levels_at masks.old n) e }
+    ensures { (n e : ℕ) → levels_at masks.new n e ≡ released depth.level (levels_at masks.old n) e }
 {
     for number in numbers {
         let holds = &mut masks[*number as usize];
-        *holds = released_from(*holds, level);
+        *holds = released_from(*holds, depth);
     }
 }
 

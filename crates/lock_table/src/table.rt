@@ -1,15 +1,16 @@
 //! `LockTable`.
 
-ghost use Rattle.std.specs.Prelude.{◌≡◌, ℕ, ◌<◌, ◌≤◌, length, find, is_some, IfOk, IsTrue};
+ghost use Rattle.std.specs.Prelude.{◌≡◌, ℕ, ◌<◌, ◌≤◌, ◌↔◌, true, length, find, is_some, IfOk};
 ghost use Rattle.kernel_model.specs.World.{processes};
 ghost use Rattle.kernel_model.specs.Laws.{IsInRange};
 ghost use Rattle.kernel_model.specs.Locks.{is_held, no_locks, lowest_holder, outermost_holding, with_touch, merge_level as level_merged, release_from as released_inward};
 ghost use Rattle.kernel_model.specs.declared.Held.TheVariants.{Free};
-ghost use Rattle.lock_table.specs.Masks.{conflicting_level, held_by, is_other_hindering, levels_at, masks_of, IsFreeFrom};
+ghost use Rattle.lock_table.specs.Masks.{conflicting_level, held_by, is_other_hindering, levels_at, masks_of, IsEnd, IsFreeFrom};
 
 use crate::Holds;
 use crate::call::CallHolds;
-use crate::levels::is_holding;
+use crate::holder::{Depth, Holder};
+use crate::levels::{NO_HOLDS, is_holding};
 use crate::numbers::object_number;
 use kernel_model::{Mode, NoMemory, Object, PROCESSES};
 use std::alloc::{AllocError, Global};
@@ -22,20 +23,21 @@ use std::marker::Model;
 #[derive(Drop)]
 pub struct LockTable {
     calls: Vec<CallHolds>,
-    /// Only the calls of the processes below this one hold something, so no other is looked at.
+    /// Only the calls of the processes below this one hold something, so no other is looked at. It
+    /// is 0 exactly where nothing is held.
     end: u8,
 }
 
 impl Model for LockTable {
-    ghost use Rattle.std.specs.Prelude.{◌≡◌, ◌≤◌, List, length};
+    ghost use Rattle.std.specs.Prelude.{◌≡◌, List, length};
     ghost use Rattle.lock_table.specs.declared.Holds.{Holds};
-    ghost use Rattle.lock_table.specs.Masks.{IsFreeFrom};
+    ghost use Rattle.lock_table.specs.Masks.{IsEnd};
 
     ghost Value = { List (List Holds) };
 
     ghost view = { λ t. t.calls.items };
 
-    ghost invariant = { λ t. (length t.calls.items ≡ 16) × (t.end ≤ 16) × IsFreeFrom t.end t.calls.items };
+    ghost invariant = { λ t. (length t.calls.items ≡ 16) × IsEnd t.end t.calls.items };
 }
 
 /// So many calls that hold nothing.
@@ -80,11 +82,13 @@ fn end_of(calls: &[CallHolds], end: u8) -> u8
     requires size { length calls.now ≡ 16 }
     requires end { end ≤ 16 }
     requires free { IsFreeFrom end calls.now }
-    ensures less { result ≤ end }
-    ensures free { IsFreeFrom result calls.now }
+    ensures { IsEnd result calls.now }
 {
     let mut least = end;
-    while least > 0 && calls[least as usize - 1].is_free() {
+    while least > 0 {
+        if !calls[least as usize - 1].is_free() {
+            return least;
+        }
         least -= 1;
     }
     least
@@ -103,9 +107,9 @@ impl LockTable {
         }
     }
 
-    /// Whether nothing is held, as far as one look tells: true only where that is so.
+    /// Whether nothing is held. Looks at none of the masks.
     pub fn is_free(&self) -> bool
-        ensures { IsTrue result → held self.now ≡ no_locks }
+        ensures { (result ≡ true) ↔ (held self.now ≡ no_locks) }
     {
         self.end == 0
     }
@@ -121,67 +125,61 @@ impl LockTable {
 
     /// The outermost level of process p whose hold on an object conflicts with a mode.
     pub fn level_of(&self, p: u8, o: Object, wanted: Mode) -> Option<u8>
-        requires process { p < 16 }
         requires range { IsInRange o }
         ensures { result ≡ outermost_holding o wanted (held self.now p) }
     {
-        let call = &self.calls[p as usize];
-        call.level_of(object_number(&o), wanted)
+        match self.calls.get(p as usize) {
+            Some(call) => call.level_of(object_number(&o), wanted),
+            None => None,
+        }
     }
 
     /// The levels of process p that hold an object, and how. Looks at one pair of masks.
     pub fn holds(&self, p: u8, o: Object) -> Holds
-        requires process { p < 16 }
         requires range { IsInRange o }
         ensures { (d : ℕ) → held_by result d ≡ held self.now p d o }
     {
-        let call = &self.calls[p as usize];
-        call.holds(object_number(&o))
+        match self.calls.get(p as usize) {
+            Some(call) => call.holds(object_number(&o)),
+            None => NO_HOLDS,
+        }
     }
 
-    /// Whether a level of process p holds an object, in either mode.
-    pub fn is_held(&self, p: u8, level: u8, o: Object) -> bool
-        requires process { p < 16 }
-        requires depth { level < 4 }
+    /// Whether a level holds an object, in either mode.
+    pub fn is_held(&self, by: Holder, o: Object) -> bool
         requires range { IsInRange o }
-        ensures { result ≡ is_held (held self.now p level o) }
+        ensures { result ≡ is_held (held self.now by.process by.level o) }
     {
-        is_holding(self.holds(p, o), level)
+        is_holding(self.holds(by.process, o), Depth { level: by.level })
     }
 
-    /// A level of process p holds an object in a mode. Where it holds the object already, the
-    /// stronger way stays.
-    pub fn touch(&mut self, p: u8, level: u8, o: Object, mode: Mode)
-        requires process { p < 16 }
-        requires depth { level < 4 }
+    /// A level holds an object in a mode. Where it holds the object already, the stronger way
+    /// stays.
+    pub fn touch(&mut self, by: Holder, o: Object, mode: Mode)
         requires range { IsInRange o }
-        ensures { held self.new ≡ with_touch p level o mode (held self.old) }
+        ensures { held self.new ≡ with_touch by.process by.level o mode (held self.old) }
     {
-        let call = &mut self.calls[p as usize];
-        call.touch(object_number(&o), level, mode);
-        self.end = self.end.max(p + 1);
+        let call = &mut self.calls[by.process as usize];
+        call.touch(object_number(&o), Depth { level: by.level }, mode);
+        self.end = self.end.max(by.process + 1);
     }
 
-    /// What a level of process p above level 0 holds goes to the level outside it. Where both hold
-    /// an object, the stronger way stays.
-    pub fn merge_level(&mut self, p: u8, level: u8)
-        requires process { p < 16 }
-        requires inner { 0 < level }
-        requires depth { level < 4 }
-        ensures { held self.new ≡ level_merged p level (held self.old) }
+    /// What a level above level 0 holds goes to the level outside it. Where both hold an object,
+    /// the stronger way stays.
+    pub fn merge_level(&mut self, by: Holder)
+        requires { 0 < by.level }
+        ensures { held self.new ≡ level_merged by.process by.level (held self.old) }
     {
-        let call = &mut self.calls[p as usize];
-        call.merge_level(level);
+        let call = &mut self.calls[by.process as usize];
+        call.merge_level(Depth { level: by.level });
     }
 
-    /// A level of process p and those further inward hold nothing.
-    pub fn release_from(&mut self, p: u8, level: u8)
-        requires process { p < 16 }
-        requires depth { level < 4 }
-        ensures { held self.new ≡ released_inward p level (held self.old) }
+    /// A level and those further inward hold nothing.
+    pub fn release_from(&mut self, by: Holder)
+        ensures { held self.new ≡ released_inward by.process by.level (held self.old) }
     {
-        let call = &mut self.calls[p as usize];
-        call.release_from(level);
+        let call = &mut self.calls[by.process as usize];
+        call.release_from(Depth { level: by.level });
         self.end = end_of(&self.calls, self.end);
     }
 }

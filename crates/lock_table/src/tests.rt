@@ -1,7 +1,7 @@
 //! The table beside a plain list of rows, over a fixed sequence of pseudo-random calls, and the
 //! numbers at the edges.
 
-ghost use Rattle.std.specs.Prelude.{◌<◌, ◌≤◌};
+ghost use Rattle.std.specs.Prelude.{◌≡◌, ◌<◌, ◌≤◌};
 ghost use Rattle.kernel_model.specs.Laws.{IsInRange};
 
 use super::*;
@@ -138,15 +138,15 @@ fn change(
     let level = numbers.below(4);
     let what = numbers.below(16);
     if what == 0 {
-        table.release_from(process, level);
+        table.release_from(Holder { process, level });
         rows.release_from(process, level);
     } else if what < 4 && level > 0 {
-        table.merge_level(process, level);
+        table.merge_level(Holder { process, level });
         rows.merge_level(rt, alloc, process, level);
     } else {
         let object = numbers.object();
         let mode = numbers.mode();
-        table.touch(process, level, object, mode);
+        table.touch(Holder { process, level }, object, mode);
         rows.touch(
             rt,
             Row {
@@ -184,21 +184,30 @@ fn does_what_a_list_of_rows_does(rt: HostRuntime) {
     assert!(rt; hindered > 1_000 && hindered < 3_900, "{hindered}");
 }
 
+/// A level of a process's call.
+fn level(process: u8, level: u8) -> Holder
+    requires process { process < 16 }
+    requires level { level < 4 }
+    ensures { result.level ≡ level }
+{
+    Holder { process, level }
+}
+
 #[test]
 fn what_is_held_changes_with_new_holds_alone(rt: HostRuntime) {
     let mut table = LockTable::new(rt.alloc()).expect(&rt, "memory");
     let cell = Object::Cell(3, 1);
     let none = table.holds(3, cell);
-    table.touch(3, 1, cell, Mode::Shared);
+    table.touch(level(3, 1), cell, Mode::Shared);
     let shared = table.holds(3, cell);
     assert!(rt; shared != none);
-    table.touch(3, 1, cell, Mode::Shared);
-    table.touch(4, 1, cell, Mode::Exclusive);
-    table.touch(3, 1, Object::Queue, Mode::Exclusive);
+    table.touch(level(3, 1), cell, Mode::Shared);
+    table.touch(level(4, 1), cell, Mode::Exclusive);
+    table.touch(level(3, 1), Object::Queue, Mode::Exclusive);
     assert!(rt; table.holds(3, cell) == shared);
-    table.touch(3, 1, cell, Mode::Exclusive);
+    table.touch(level(3, 1), cell, Mode::Exclusive);
     assert!(rt; table.holds(3, cell) != shared);
-    table.release_from(3, 1);
+    table.release_from(level(3, 1));
     assert!(rt; table.holds(3, cell) == none);
 }
 
@@ -231,24 +240,24 @@ fn holds_go_outward_and_end(rt: HostRuntime) {
     let (queue, cell) = (Object::Queue, Object::Cell(3, 1));
     assert_eq!(rt; table.ask(2, queue, Mode::Exclusive), None);
     assert!(rt; table.is_free());
-    table.touch(3, 1, queue, Mode::Exclusive);
+    table.touch(level(3, 1), queue, Mode::Exclusive);
     assert!(rt; !table.is_free());
-    table.touch(3, 1, queue, Mode::Shared);
-    table.touch(3, 0, queue, Mode::Shared);
-    table.touch(9, 2, cell, Mode::Shared);
+    table.touch(level(3, 1), queue, Mode::Shared);
+    table.touch(level(3, 0), queue, Mode::Shared);
+    table.touch(level(9, 2), cell, Mode::Shared);
     assert_eq!(rt; table.ask(2, queue, Mode::Shared), Some(3));
     assert_eq!(rt; table.ask(3, queue, Mode::Exclusive), None);
     assert_eq!(rt; table.ask(2, cell, Mode::Shared), None);
     assert_eq!(rt; table.ask(2, cell, Mode::Exclusive), Some(9));
     assert_eq!(rt; table.level_of(3, queue, Mode::Shared), Some(1));
     assert_eq!(rt; table.level_of(3, queue, Mode::Exclusive), Some(0));
-    table.merge_level(3, 1);
+    table.merge_level(level(3, 1));
     assert_eq!(rt; table.level_of(3, queue, Mode::Shared), Some(0));
-    table.release_from(9, 3);
+    table.release_from(level(9, 3));
     assert_eq!(rt; table.level_of(9, cell, Mode::Exclusive), Some(2));
-    table.release_from(9, 1);
+    table.release_from(level(9, 1));
     assert!(rt; !table.is_free());
-    table.release_from(3, 0);
+    table.release_from(level(3, 0));
     assert!(rt; table.is_free());
     assert_eq!(rt; table.ask(2, queue, Mode::Exclusive), None);
     assert_eq!(rt; table.ask(2, cell, Mode::Exclusive), None);

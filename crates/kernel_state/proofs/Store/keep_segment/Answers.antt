@@ -5,5 +5,5 @@ use Rattle.kernel_state.proofs.Store.keep_segment.Goals as goal
 pub returns : goal.returns
 returns g c =
     let s = c.args.self.now in
-    segment_kept s _ c.args.q c.args.pt c.args.base c.bytes-bytes.result.now c.bytes-bytes.ensures.value
-    (omega (arith, c.bytes-bytes.ensures.size, c.requires.inside)) (search rules)
+    segment_kept s _ c.args.at.process c.args.at.point c.args.base c.bytes-bytes.result.now c.bytes-bytes.ensures.value
+    (omega (arith, c.bytes-bytes.ensures.size, c.requires)) (search rules)

@@ -9,9 +9,9 @@ bounds-masks-number c = rw c.loop-number.auto.masks (noted_inside c.args.masks.n
 
 pub loop-number-preserved : goal.loop-number-preserved
 loop-number-preserved c =
-    goes_on (released c.args.level) c.args.masks.now c.loop-number.masks c.args.numbers.now c.loop-number.number-index _ c.released_from.result c.requires.noted c.loop-number.auto.masks
+    goes_on (released c.args.depth.level) c.args.masks.now c.loop-number.masks c.args.numbers.now c.loop-number.number-index _ c.released_from.result c.requires.noted c.loop-number.auto.masks
     c.loop-number-test.true refl c.released_from.ensures c.loop-number.invariant
 
 pub returns : goal.returns
 returns c =
-    ends (released c.args.level) c.args.masks.now c.loop-number.masks c.args.numbers.now c.loop-number.number-index c.loop-number-test.false (release-free c.args.level) c.requires.noted c.loop-number.invariant
+    ends (released c.args.depth.level) c.args.masks.now c.loop-number.masks c.args.numbers.now c.loop-number.number-index c.loop-number-test.false (release-free c.args.depth.level) c.requires.noted c.loop-number.invariant

@@ -6,9 +6,9 @@ pub returns-in-Some : goal.returns-in-Some
 returns-in-Some c =
     record {
       value =
-          (let stands = rw c.place-i.ensures at (sym c.standing.ensures ∙ c.in-Some.is) in
-          bill_seen c.args.self.now c.put.new.self c.args.p c.args.pt c.in-Some.standing c.put.ensures.was
-          c.requires.at.process c.requires.at.point stands (rw c.place-i.ensures at c.put.ensures.value));
+          (let stands = rw c.place.ensures.value at (sym c.standing.ensures ∙ c.in-Some.is) in
+          bill_seen c.args.self.now c.put.new.self c.args.at.process c.args.at.point c.in-Some.standing c.put.ensures.was
+          c.args.at.is_process c.args.at.is_point stands c.put.ensures.value);
       sums =
           put_totals c.args.self.now c.put.new.self _ _ c.put.ensures.value c.put.ensures.was c.put.ensures.sound;
     }
