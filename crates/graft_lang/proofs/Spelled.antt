@@ -23,7 +23,7 @@ use Rattle.graft_syntax.specs.Laws.{IsMet}
 use Rattle.graft_lang.specs.Sizes.{program_tokens, semicolons}
 use Rattle.graft_lang.specs.Code.{puts, zeros_code, prologue, program_code}
 use Rattle.graft_lang.specs.Accepted.{AcceptedProgramsRun}
-use Rattle.graft_lang.specs.Writing.{Writing, appended, IsWritten}
+use Rattle.graft_lang.specs.Writing.{Writing, HasRoom, appended, IsWritten}
 use Rattle.graft_lang.proofs.Sizes.{programs_are_short, prologue_short, total, boxed_place-total}
 use Rattle.graft_lang.proofs.Accepted.{accepted, ends_in, program_counts}
 
@@ -199,17 +199,16 @@ zeros_more v i w u low is =
 -- there is room for statements behind what comes before them
 pub prologue_room : (v : ℕ) (w u : Writing) (ts us : List Token)
     → w ≡ record { tokens = ts; code = [] } → ts ≡ us → length us ≤ 120
-    → v ≤ 124 → u ≡ appended (prologue v) w → length u.code + 16 * length u.tokens ≤ 4096
+    → v ≤ 124 → u ≡ appended (prologue v) w → HasRoom 16 v u
 prologue_room v w u ts us w_is same few low is =
     let all = is ∙ ap (appended (prologue v)) w_is in
-    omega (
-      arith,
-      few,
-      ap (λ xs. length xs) same,
-      prologue_long v low,
-      ap (λ (x : Writing). length x.code) all,
-      ap (λ (x : Writing). length x.tokens) all,
-    )
+    let same_length = ap (λ xs. length xs) same in
+    let tokens = ap (λ (x : Writing). length x.tokens) all in
+    let code = ap (λ (x : Writing). length x.code) all in
+    record {
+      slots = omega (arith, few, low, same_length, tokens);
+      code = omega (arith, few, same_length, prologue_long v low, code, tokens);
+    }
 
 -- the image of written code
 pub compiled : (text : List ℕ) (s : Syntax) (code : List Instr) (body : List ℕ) (image : Image)

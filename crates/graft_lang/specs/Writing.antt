@@ -52,6 +52,12 @@ pub record Uses (each beside : ℕ) (old new : Writing) : Type 0 where
   pub room : length new.code + each * length new.tokens ≤ length old.code + each * length old.tokens
       + beside
 
+-- There is room for the tokens that are left: a slot from `top` on for each, and 16 instructions
+-- for each in code of at most 4,080 and so many more.
+pub record HasRoom (beside top : ℕ) (w : Writing) : Type 0 where
+  pub slots : top + length w.tokens ≤ 1020
+  pub code : length w.code + 16 * length w.tokens ≤ 4080 + beside
+
 -- ---- expressions
 
 -- the operator that a token is

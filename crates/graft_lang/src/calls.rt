@@ -4,18 +4,18 @@ ghost use Rattle.std.specs.Prelude.{◌≡◌, ◌+◌, ◌<◌, ◌≤◌, leng
 ghost use Rattle.graft_lang.specs.Writing.{Uses, appended, register_code, WritesArguments};
 ghost use Rattle.graft_lang.specs.Writing.{WritesCall};
 
+use crate::variables::Variables;
 use crate::writer::{VALUE, Writer, instr, load_number};
 use gm_isa::Op;
-use graft_syntax::{NoMemory, Symbol, Syntax};
+use graft_syntax::{NoMemory, Symbol};
 
 impl<'t, 'a> Writer<'t, 'a> {
     /// Takes the arguments of a call and their end, and tells their number. Their values come to
     /// the slots from `top` on.
-    fn arguments(&mut self, syntax: &Syntax, top: u32) -> Result<u32, NoMemory>
-        requires few { length syntax.now.names ≤ 1024 }
-        requires room { top + length self.old.tokens ≤ 1024 }
+    fn arguments(&mut self, names: &Variables, top: u32) -> Result<u32, NoMemory>
+        requires { top + length self.old.tokens ≤ 1024 }
         ensures writes { IfOk result
-            (λ n. WritesArguments syntax.now.names top self.old self.new n) }
+            (λ n. WritesArguments names.now top self.old self.new n) }
         ensures count { IfOk result (λ n. n ≤ length self.old.tokens) }
         ensures uses { OnOk result (Uses 16 0 self.old self.new) }
     {
@@ -25,10 +25,10 @@ impl<'t, 'a> Writer<'t, 'a> {
         if self.is_done() {
             return Ok(0);
         }
-        self.expression(syntax, top)?;
+        self.expression(names, top)?;
         self.put(VALUE, top)?;
         self.takes(Symbol::Comma);
-        let others = self.arguments(syntax, top + 1)?;
+        let others = self.arguments(names, top + 1)?;
         Ok(others + 1)
     }
 
@@ -48,15 +48,14 @@ impl<'t, 'a> Writer<'t, 'a> {
 
     /// Takes the arguments of a callable, which is called, and the semicolon behind them. The
     /// answer goes to the slot `to`.
-    pub fn call(&mut self, syntax: &Syntax, top: u32, to: u32, id: u32) -> Result<(), NoMemory>
-        requires few { length syntax.now.names ≤ 1024 }
+    pub fn call(&mut self, names: &Variables, top: u32, to: u32, id: u32) -> Result<(), NoMemory>
         requires room { top + length self.old.tokens ≤ 1020 }
         requires to { to ≤ 1024 }
-        ensures writes { OnOk result (WritesCall syntax.now.names top to id self.old self.new) }
+        ensures writes { OnOk result (WritesCall names.now top to id self.old self.new) }
         ensures uses { OnOk result (Uses 16 9 self.old self.new) }
     {
         self.skip();
-        let count = self.arguments(syntax, top)?;
+        let count = self.arguments(names, top)?;
         self.load_argument(0, top, count)?;
         self.load_argument(1, top, count)?;
         self.load_argument(2, top, count)?;

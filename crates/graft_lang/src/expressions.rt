@@ -4,8 +4,9 @@ ghost use Rattle.std.specs.Prelude.{◌≡◌, ◌+◌, ◌-◌, ◌≤◌, leng
 ghost use Rattle.graft_lang.specs.Writing.{Uses, skipped, operator_of, WritesExpression};
 ghost use Rattle.graft_lang.specs.Writing.{WritesOperation};
 
+use crate::variables::Variables;
 use crate::writer::{LEFT, VALUE, Writer, load_number};
-use graft_syntax::{NoMemory, Operator, Syntax, Token};
+use graft_syntax::{NoMemory, Operator, Token};
 
 impl<'t, 'a> Writer<'t, 'a> {
     /// Takes an operator.
@@ -22,16 +23,15 @@ impl<'t, 'a> Writer<'t, 'a> {
     /// Takes two operands, the operator between them and the parenthesis behind them. The left
     /// operand waits in the slot `top`.
     #[cycle(expression)]
-    fn operation(&mut self, syntax: &Syntax, top: u32) -> Result<(), NoMemory>
-        requires few { length syntax.now.names ≤ 1024 }
-        requires room { top + length self.old.tokens ≤ 1024 }
-        ensures writes { OnOk result (WritesOperation syntax.now.names top self.old self.new) }
+    fn operation(&mut self, names: &Variables, top: u32) -> Result<(), NoMemory>
+        requires { top + length self.old.tokens ≤ 1024 }
+        ensures writes { OnOk result (WritesOperation names.now top self.old self.new) }
         ensures uses { OnOk result (Uses 8 7 self.old self.new) }
     {
-        self.expression(syntax, top)?;
+        self.expression(names, top)?;
         self.put(VALUE, top)?;
         let op = self.operator();
-        self.expression(syntax, top + 1)?;
+        self.expression(names, top + 1)?;
         self.fetch(LEFT, top)?;
         self.apply(op)?;
         self.skip();
@@ -41,10 +41,9 @@ impl<'t, 'a> Writer<'t, 'a> {
     /// Takes an expression, whose value comes to the register of values. The slots from `top` on
     /// are free.
     #[cycle(expression)]
-    pub fn expression(&mut self, syntax: &Syntax, top: u32) -> Result<(), NoMemory>
-        requires few { length syntax.now.names ≤ 1024 }
-        requires room { top + length self.old.tokens ≤ 1025 }
-        ensures writes { OnOk result (WritesExpression syntax.now.names top self.old self.new) }
+    pub fn expression(&mut self, names: &Variables, top: u32) -> Result<(), NoMemory>
+        requires { top + length self.old.tokens ≤ 1025 }
+        ensures writes { OnOk result (WritesExpression names.now top self.old self.new) }
         ensures takes { OnOk result (length self.new.tokens ≤ length self.old.tokens - 1) }
         ensures uses { OnOk result (Uses 8 0 self.old self.new) }
     {
@@ -53,8 +52,8 @@ impl<'t, 'a> Writer<'t, 'a> {
         };
         match token {
             Token::Number(n) => self.append(&[load_number(VALUE, n)]),
-            Token::Variable(name) => self.fetch(VALUE, syntax.number_of(name) as u32),
-            _ => self.operation(syntax, top),
+            Token::Variable(name) => self.fetch(VALUE, names.number_of(name)),
+            _ => self.operation(names, top),
         }
     }
 }

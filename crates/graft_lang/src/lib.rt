@@ -10,6 +10,7 @@ mod calls;
 mod expressions;
 pub mod laws;
 mod program;
+mod variables;
 mod writer;
 
 use crate::laws::{accepted_programs_run, accepted_texts_are_spelled};

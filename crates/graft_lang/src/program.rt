@@ -5,12 +5,14 @@ ghost use Rattle.kernel_model.specs.Boxed.{instr};
 ghost use Rattle.kernel_model.specs.Instructions.{fits};
 ghost use Rattle.graft_syntax.specs.Views.{token_view};
 ghost use Rattle.kernel_model.specs.LanguageTokens as token;
-ghost use Rattle.graft_lang.specs.Writing.{Uses, with_first, closes_block, WritesValue, WritesTrap};
+ghost use Rattle.graft_lang.specs.Writing.{Uses, HasRoom, with_first, closes_block, WritesValue};
+ghost use Rattle.graft_lang.specs.Writing.{WritesTrap};
 ghost use Rattle.graft_lang.specs.Writing.{WritesAnswer, WritesStatements, WritesBlock, WritesElse};
 ghost use Rattle.graft_lang.specs.Writing.{WritesIf, WritesWhile, LeadsOn, appended, IsWritten};
 ghost use Rattle.graft_lang.specs.Code.{zeros_code, prologue, epilogue};
 ghost use Rattle.std.specs.List.{list_all};
 
+use crate::variables::Variables;
 use crate::writer::{VALUE, Writer, instr, load_number};
 use gm_isa::{Instr, Op};
 use graft_syntax::{NoMemory, Symbol, Syntax, Token};
@@ -34,32 +36,30 @@ fn jump(to: u32) -> Instr
 
 impl<'t, 'a> Writer<'t, 'a> {
     /// Takes a value and the semicolon behind it. The value goes to the slot `to`.
-    fn assign(&mut self, syntax: &Syntax, top: u32, to: u32) -> Result<(), NoMemory>
-        requires few { length syntax.now.names ≤ 1024 }
+    fn assign(&mut self, names: &Variables, top: u32, to: u32) -> Result<(), NoMemory>
         requires room { top + length self.old.tokens ≤ 1020 }
         requires to { to ≤ 1024 }
-        ensures writes { OnOk result (WritesValue syntax.now.names top to self.old self.new) }
+        ensures writes { OnOk result (WritesValue names.now top to self.old self.new) }
         ensures uses { OnOk result (Uses 16 2 self.old self.new) }
     {
-        self.expression(syntax, top)?;
+        self.expression(names, top)?;
         self.put(VALUE, to)?;
         self.skip();
         Ok(())
     }
 
     /// Takes what is behind the variable of an assignment.
-    fn assignment(&mut self, syntax: &Syntax, top: u32, name: &[u8]) -> Result<(), NoMemory>
-        requires few { length syntax.now.names ≤ 1024 }
-        requires room { top + length self.old.tokens ≤ 1020 }
+    fn assignment(&mut self, names: &Variables, top: u32, name: &[u8]) -> Result<(), NoMemory>
+        requires { top + length self.old.tokens ≤ 1020 }
         ensures leads { let begun = with_first (token.Variable name.now) self.old in
-            OnOk result (LeadsOn syntax.now.names top begun self.new) }
+            OnOk result (LeadsOn names.now top begun self.new) }
         ensures uses { OnOk result (Uses 16 9 self.old self.new) }
     {
-        let to = syntax.number_of(name) as u32;
+        let to = names.number_of(name);
         self.skip();
         match self.takes_callable() {
-            Some(id) => self.call(syntax, top, to, id),
-            None => self.assign(syntax, top, to),
+            Some(id) => self.call(names, top, to, id),
+            None => self.assign(names, top, to),
         }
     }
 
@@ -75,16 +75,15 @@ impl<'t, 'a> Writer<'t, 'a> {
     }
 
     /// Takes what is behind `answer`. The first value waits in the slot `top`.
-    fn answer(&mut self, syntax: &Syntax, top: u32) -> Result<(), NoMemory>
-        requires few { length syntax.now.names ≤ 1024 }
-        requires room { top + length self.old.tokens ≤ 1020 }
-        ensures writes { OnOk result (WritesAnswer syntax.now.names top self.old self.new) }
+    fn answer(&mut self, names: &Variables, top: u32) -> Result<(), NoMemory>
+        requires { top + length self.old.tokens ≤ 1020 }
+        ensures writes { OnOk result (WritesAnswer names.now top self.old self.new) }
         ensures uses { OnOk result (Uses 16 6 self.old self.new) }
     {
-        self.expression(syntax, top)?;
+        self.expression(names, top)?;
         self.put(VALUE, top)?;
         self.skip();
-        self.expression(syntax, top + 1)?;
+        self.expression(names, top + 1)?;
         self.append(&[instr(Op::Mov, 1, VALUE, 0, 0)])?;
         self.fetch(0, top)?;
         self.append(&[instr(Op::Ret, 0, 0, 0, 0)])?;
@@ -94,33 +93,29 @@ impl<'t, 'a> Writer<'t, 'a> {
 
     /// Takes statements in braces.
     #[cycle(statements)]
-    fn block(&mut self, syntax: &Syntax, top: u32) -> Result<(), NoMemory>
-        requires few { length syntax.now.names ≤ 1024 }
-        requires room { top + length self.old.tokens ≤ 1020 }
-        requires short { length self.old.code + 16 * length self.old.tokens ≤ 4096 }
-        ensures writes { OnOk result (WritesBlock syntax.now.names top self.old self.new) }
+    fn block(&mut self, names: &Variables, top: u32) -> Result<(), NoMemory>
+        requires { HasRoom 16 top self.old }
+        ensures writes { OnOk result (WritesBlock names.now top self.old self.new) }
         ensures uses { OnOk result (Uses 16 0 self.old self.new) }
     {
         self.skip();
-        self.statements(syntax, top)?;
+        self.statements(names, top)?;
         self.skip();
         Ok(())
     }
 
     /// Takes what is behind `else`. The jump of the test stands at `test`.
     #[cycle(statements)]
-    fn alternative(&mut self, syntax: &Syntax, top: u32, test: u32) -> Result<(), NoMemory>
-        requires few { length syntax.now.names ≤ 1024 }
-        requires room { top + length self.old.tokens ≤ 1020 }
-        requires short { length self.old.code + 16 * length self.old.tokens ≤ 4095 }
+    fn alternative(&mut self, names: &Variables, top: u32, test: u32) -> Result<(), NoMemory>
+        requires room { HasRoom 15 top self.old }
         requires test { test < length self.old.code }
-        ensures writes { OnOk result (WritesElse syntax.now.names top test self.old self.new) }
+        ensures writes { OnOk result (WritesElse names.now top test self.old self.new) }
         ensures uses { OnOk result (Uses 16 1 self.old self.new) }
     {
         let end = self.hole()?;
         let begin = self.place();
         self.patch(test, jump_unless(begin));
-        self.block(syntax, top)?;
+        self.block(names, top)?;
         let behind = self.place();
         self.patch(end, jump(behind));
         Ok(())
@@ -128,18 +123,16 @@ impl<'t, 'a> Writer<'t, 'a> {
 
     /// Takes what is behind `if`.
     #[cycle(statements)]
-    fn conditional(&mut self, syntax: &Syntax, top: u32) -> Result<(), NoMemory>
-        requires few { length syntax.now.names ≤ 1024 }
-        requires room { top + length self.old.tokens ≤ 1020 }
-        requires short { length self.old.code + 16 * length self.old.tokens ≤ 4080 }
-        ensures writes { OnOk result (WritesIf syntax.now.names top self.old self.new) }
+    fn conditional(&mut self, names: &Variables, top: u32) -> Result<(), NoMemory>
+        requires { HasRoom 0 top self.old }
+        ensures writes { OnOk result (WritesIf names.now top self.old self.new) }
         ensures uses { OnOk result (Uses 16 2 self.old self.new) }
     {
-        self.expression(syntax, top)?;
+        self.expression(names, top)?;
         let test = self.hole()?;
-        self.block(syntax, top)?;
+        self.block(names, top)?;
         if self.takes(Symbol::Else) {
-            return self.alternative(syntax, top, test);
+            return self.alternative(names, top, test);
         }
         let behind = self.place();
         self.patch(test, jump_unless(behind));
@@ -148,17 +141,15 @@ impl<'t, 'a> Writer<'t, 'a> {
 
     /// Takes what is behind `while`.
     #[cycle(statements)]
-    fn repetition(&mut self, syntax: &Syntax, top: u32) -> Result<(), NoMemory>
-        requires few { length syntax.now.names ≤ 1024 }
-        requires room { top + length self.old.tokens ≤ 1020 }
-        requires short { length self.old.code + 16 * length self.old.tokens ≤ 4080 }
-        ensures writes { OnOk result (WritesWhile syntax.now.names top self.old self.new) }
+    fn repetition(&mut self, names: &Variables, top: u32) -> Result<(), NoMemory>
+        requires { HasRoom 0 top self.old }
+        ensures writes { OnOk result (WritesWhile names.now top self.old self.new) }
         ensures uses { OnOk result (Uses 16 2 self.old self.new) }
     {
         let begin = self.place();
-        self.expression(syntax, top)?;
+        self.expression(names, top)?;
         let test = self.hole()?;
-        self.block(syntax, top)?;
+        self.block(names, top)?;
         self.append(&[jump(begin)])?;
         let behind = self.place();
         self.patch(test, jump_unless(behind));
@@ -167,53 +158,47 @@ impl<'t, 'a> Writer<'t, 'a> {
 
     /// Takes what is behind the keyword of a statement.
     #[cycle(statements)]
-    fn command(&mut self, syntax: &Syntax, top: u32, keyword: Symbol) -> Result<(), NoMemory>
-        requires few { length syntax.now.names ≤ 1024 }
-        requires room { top + length self.old.tokens ≤ 1020 }
-        requires short { length self.old.code + 16 * length self.old.tokens ≤ 4080 }
+    fn command(&mut self, names: &Variables, top: u32, keyword: Symbol) -> Result<(), NoMemory>
+        requires room { HasRoom 0 top self.old }
         requires begins { closes_block (token.Mark keyword) ≡ false }
         ensures leads { let begun = with_first (token.Mark keyword) self.old in
-            OnOk result (LeadsOn syntax.now.names top begun self.new) }
+            OnOk result (LeadsOn names.now top begun self.new) }
         ensures uses { OnOk result (Uses 16 9 self.old self.new) }
     {
         match keyword {
-            Symbol::If => self.conditional(syntax, top),
-            Symbol::While => self.repetition(syntax, top),
+            Symbol::If => self.conditional(names, top),
+            Symbol::While => self.repetition(names, top),
             Symbol::Trap => self.trap(),
-            Symbol::Answer => self.answer(syntax, top),
+            Symbol::Answer => self.answer(names, top),
             _ => Ok(()),
         }
     }
 
     /// Takes what is behind the first token of a statement.
     #[cycle(statements)]
-    fn statement(&mut self, syntax: &Syntax, top: u32, first: Token) -> Result<(), NoMemory>
-        requires few { length syntax.now.names ≤ 1024 }
-        requires room { top + length self.old.tokens ≤ 1020 }
-        requires short { length self.old.code + 16 * length self.old.tokens ≤ 4080 }
+    fn statement(&mut self, names: &Variables, top: u32, first: Token) -> Result<(), NoMemory>
+        requires room { HasRoom 0 top self.old }
         requires begins { closes_block (token_view first) ≡ false }
         ensures leads { let begun = with_first (token_view first.entry) self.old in
-            OnOk result (LeadsOn syntax.now.names top begun self.new) }
+            OnOk result (LeadsOn names.now top begun self.new) }
         ensures uses { OnOk result (Uses 16 9 self.old self.new) }
     {
         match first {
-            Token::Variable(name) => self.assignment(syntax, top, name),
-            Token::Mark(s) => self.command(syntax, top, s),
+            Token::Variable(name) => self.assignment(names, top, name),
+            Token::Mark(s) => self.command(names, top, s),
             _ => Ok(()),
         }
     }
 
     /// Takes statements as far as the end of their block. The slots from `top` on are free.
     #[cycle(statements)]
-    pub fn statements(&mut self, syntax: &Syntax, top: u32) -> Result<(), NoMemory>
-        requires few { length syntax.now.names ≤ 1024 }
-        requires room { top + length self.old.tokens ≤ 1020 }
-        requires short { length self.old.code + 16 * length self.old.tokens ≤ 4096 }
-        ensures writes { OnOk result (WritesStatements syntax.now.names top self.old self.new) }
+    pub fn statements(&mut self, names: &Variables, top: u32) -> Result<(), NoMemory>
+        requires { HasRoom 16 top self.old }
+        ensures writes { OnOk result (WritesStatements names.now top self.old self.new) }
         ensures uses { OnOk result (Uses 16 0 self.old self.new) }
     {
         while let Some(first) = self.next_statement() {
-            self.statement(syntax, top, first)?;
+            self.statement(names, top, first)?;
         }
         Ok(())
     }
@@ -261,10 +246,11 @@ pub fn write_program(alloc: Global, syntax: &Syntax) -> Result<Vec<Instr>, NoMem
     ensures written { IfOk result (λ code. IsWritten syntax.now code.items) }
     ensures fits { IfOk result (λ code. list_all fits code.items ≡ true) }
 {
-    let variables = syntax.variables() as u32;
+    let names = Variables::new(syntax);
+    let top = names.count();
     let mut writer = Writer::new(alloc, syntax.tokens());
-    writer.prologue(variables)?;
-    writer.statements(syntax, variables)?;
+    writer.prologue(top)?;
+    writer.statements(&names, top)?;
     writer.epilogue()?;
     Ok(writer.into_code())
 }

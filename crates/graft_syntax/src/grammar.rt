@@ -1,14 +1,14 @@
 //! Which tokens may come next: the goals of the grammar that are still to be met.
 
 ghost use Rattle.std.specs.Prelude.{◌≡◌, ◌-◌, ◌<◌, ◌∷◌, ◌++◌, [], length, reverse, count_by, true, false};
-ghost use Rattle.std.specs.Prelude.{Ok, Err, IsTrue, IfErr, OnOk, MatchOption};
-ghost use Rattle.graft_syntax.specs.Faults.{Stops};
+ghost use Rattle.std.specs.Prelude.{Ok, Err, IsTrue, OnOk, MatchOption};
+ghost use Rattle.graft_syntax.specs.Faults.{StepsAs};
 ghost use Rattle.graft_syntax.specs.Views.{token_view};
 ghost use Rattle.kernel_model.specs.LanguageGrammar as spec;
 ghost use Rattle.kernel_model.specs.LanguageReading.{is_level};
 
 use crate::tokens::{arguments_of, same_symbol};
-use crate::{LangKind, Symbol, Token};
+use crate::{LangKind, NoMemory, Symbol, Token};
 use kernel_model::Goal;
 use std::alloc::Global;
 use std::marker::Model;
@@ -18,6 +18,16 @@ use std::marker::Model;
 pub enum Refusal {
     Of(LangKind),
     NoMemory,
+}
+
+impl From<NoMemory> for Refusal {
+    ghost use Rattle.graft_syntax.specs.declared.grammar.Refusal.{Refusal};
+
+    ghost from_gives = { λ _ e. e ≡ Refusal.NoMemory };
+
+    fn from(_: NoMemory) -> Refusal {
+        Refusal::NoMemory
+    }
 }
 
 /// The goals, the next one last.
@@ -69,13 +79,22 @@ impl Goals {
     }
 
     /// Puts goals before the others, the last one given first.
-    pub fn push(&mut self, goals: &[Goal]) -> Result<(), Refusal>
-        ensures ok { OnOk result (self.new ≡ reverse goals.now ++ self.old) }
-        ensures err { IfErr result (λ e. e ≡ Refusal.NoMemory) }
+    pub fn push(&mut self, goals: &[Goal]) -> Result<(), NoMemory>
+        ensures { OnOk result (self.new ≡ reverse goals.now ++ self.old) }
     {
         match self.stack.extend_from_slice(goals) {
             Ok(()) => Ok(()),
-            Err(_) => Err(Refusal::NoMemory),
+            Err(_) => Err(NoMemory),
+        }
+    }
+
+    /// Goes on with goals before the others, the last one given first.
+    fn go_on(&mut self, goals: &[Goal]) -> Result<(), Refusal>
+        ensures { StepsAs result self.new (Ok (reverse goals.now ++ self.old)) }
+    {
+        match self.push(goals) {
+            Ok(()) => Ok(()),
+            Err(NoMemory) => Err(Refusal::NoMemory),
         }
     }
 
@@ -106,23 +125,22 @@ impl Goals {
     }
 
     fn follow_mark(&mut self, in_block: bool, after_if: bool, s: Symbol) -> Result<(), Refusal>
-        ensures ok { OnOk result (spec.follow_mark in_block after_if self.old s ≡ Ok self.new) }
-        ensures err { IfErr result (λ e. Stops e (spec.follow_mark in_block after_if self.old s)) }
+        ensures { StepsAs result self.new (spec.follow_mark in_block after_if self.old s) }
     {
         let next = Goal::Statements(in_block, false);
         let end = Goal::Awaits(Symbol::Semicolon);
         match s {
-            Symbol::If => self.push(&[
+            Symbol::If => self.go_on(&[
                 Goal::Statements(in_block, true),
                 Goal::Braces,
                 Goal::Operand,
             ]),
-            Symbol::Else if after_if => self.push(&[next, Goal::Braces]),
-            Symbol::While => self.push(&[next, Goal::Braces, Goal::Operand]),
-            Symbol::Trap => self.push(&[next, end, Goal::Constant]),
+            Symbol::Else if after_if => self.go_on(&[next, Goal::Braces]),
+            Symbol::While => self.go_on(&[next, Goal::Braces, Goal::Operand]),
+            Symbol::Trap => self.go_on(&[next, end, Goal::Constant]),
             Symbol::Answer => {
                 let comma = Goal::Awaits(Symbol::Comma);
-                self.push(&[next, end, Goal::Operand, comma, Goal::Operand])
+                self.go_on(&[next, end, Goal::Operand, comma, Goal::Operand])
             }
             Symbol::CloseBrace if in_block => Ok(()),
             _ => refused(),
@@ -135,15 +153,11 @@ impl Goals {
         after_if: bool,
         token: Token,
     ) -> Result<(), Refusal>
-        ensures ok { OnOk result
-            (spec.follow_statement in_block after_if self.old (token_view token.entry)
-            ≡ Ok self.new) }
-        ensures err { IfErr result
-            (λ e. Stops e (spec.follow_statement in_block after_if self.old
-            (token_view token.entry))) }
+        ensures { StepsAs result self.new (spec.follow_statement in_block after_if self.old
+            (token_view token.entry)) }
     {
         match token {
-            Token::Variable(_) => self.push(&[
+            Token::Variable(_) => self.go_on(&[
                 Goal::Statements(in_block, false),
                 Goal::EndOfAssignment,
                 Goal::RightSide,
@@ -155,14 +169,11 @@ impl Goals {
     }
 
     fn follow_operand(&mut self, token: Token) -> Result<(), Refusal>
-        ensures ok { OnOk result (spec.follow_operand self.old (token_view token.entry)
-            ≡ Ok self.new) }
-        ensures err { IfErr result
-            (λ e. Stops e (spec.follow_operand self.old (token_view token.entry))) }
+        ensures { StepsAs result self.new (spec.follow_operand self.old (token_view token.entry)) }
     {
         match token {
             Token::Number(_) | Token::Variable(_) => Ok(()),
-            Token::Mark(Symbol::OpenParenthesis) => self.push(&[
+            Token::Mark(Symbol::OpenParenthesis) => self.go_on(&[
                 Goal::Awaits(Symbol::CloseParenthesis),
                 Goal::Operand,
                 Goal::InfixOperator,
@@ -173,13 +184,11 @@ impl Goals {
     }
 
     fn follow_right_side(&mut self, token: Token) -> Result<(), Refusal>
-        ensures ok { OnOk result (spec.follow_right_side self.old (token_view token.entry)
-            ≡ Ok self.new) }
-        ensures err { IfErr result
-            (λ e. Stops e (spec.follow_right_side self.old (token_view token.entry))) }
+        ensures { StepsAs result self.new (spec.follow_right_side self.old
+            (token_view token.entry)) }
     {
         match token {
-            Token::Callable(id) => self.push(&[
+            Token::Callable(id) => self.go_on(&[
                 Goal::FirstArgument(arguments_of(id)),
                 Goal::Awaits(Symbol::OpenParenthesis),
             ]),
@@ -189,22 +198,16 @@ impl Goals {
 
     /// An argument, behind which one argument less is left.
     fn follow_next(&mut self, left: u32, token: Token) -> Result<(), Refusal>
-        ensures ok { OnOk result
-            (spec.follow_goal (Goal.NextArgument left) self.old (token_view token.entry)
-            ≡ Ok self.new) }
-        ensures err { IfErr result
-            (λ e. Stops e (spec.follow_goal (Goal.NextArgument left) self.old
-            (token_view token.entry))) }
+        ensures { StepsAs result self.new (spec.follow_goal
+            (Goal.NextArgument left) self.old (token_view token.entry)) }
     {
         self.push(&[Goal::AfterArgument(left.saturating_sub(1))])?;
         self.follow_operand(token)
     }
 
     fn follow_first(&mut self, left: u32, token: Token) -> Result<(), Refusal>
-        ensures ok { OnOk result (spec.follow_first left self.old (token_view token.entry)
-            ≡ Ok self.new) }
-        ensures err { IfErr result
-            (λ e. Stops e (spec.follow_first left self.old (token_view token.entry))) }
+        ensures { StepsAs result self.new (spec.follow_first left self.old
+            (token_view token.entry)) }
     {
         match token {
             Token::Mark(Symbol::CloseParenthesis) => Ok(()),
@@ -213,13 +216,11 @@ impl Goals {
     }
 
     fn follow_argument(&mut self, left: u32, token: Token) -> Result<(), Refusal>
-        ensures ok { OnOk result (spec.follow_argument left self.old (token_view token.entry)
-            ≡ Ok self.new) }
-        ensures err { IfErr result
-            (λ e. Stops e (spec.follow_argument left self.old (token_view token.entry))) }
+        ensures { StepsAs result self.new (spec.follow_argument left self.old
+            (token_view token.entry)) }
     {
         match token {
-            Token::Mark(Symbol::Comma) => self.push(&[Goal::NextArgument(left)]),
+            Token::Mark(Symbol::Comma) => self.go_on(&[Goal::NextArgument(left)]),
             Token::Mark(Symbol::CloseParenthesis) => Ok(()),
             _ => refused(),
         }
@@ -227,10 +228,8 @@ impl Goals {
 
     /// This symbol and no other.
     fn follow_awaited(&mut self, awaited: Symbol, token: Token) -> Result<(), Refusal>
-        ensures ok { OnOk result (spec.follow_awaited awaited self.old (token_view token.entry)
-            ≡ Ok self.new) }
-        ensures err { IfErr result
-            (λ e. Stops e (spec.follow_awaited awaited self.old (token_view token.entry))) }
+        ensures { StepsAs result self.new (spec.follow_awaited awaited self.old
+            (token_view token.entry)) }
     {
         match token {
             Token::Mark(s) if same_symbol(awaited, s) => Ok(()),
@@ -239,22 +238,17 @@ impl Goals {
     }
 
     fn follow_braces(&mut self, token: Token) -> Result<(), Refusal>
-        ensures ok { OnOk result (spec.follow_goal Goal.Braces self.old (token_view token.entry)
-            ≡ Ok self.new) }
-        ensures err { IfErr result
-            (λ e. Stops e (spec.follow_goal Goal.Braces self.old (token_view token.entry))) }
+        ensures { StepsAs result self.new (spec.follow_goal Goal.Braces self.old
+            (token_view token.entry)) }
     {
         match token {
-            Token::Mark(Symbol::OpenBrace) => self.push(&[Goal::Statements(true, false)]),
+            Token::Mark(Symbol::OpenBrace) => self.go_on(&[Goal::Statements(true, false)]),
             _ => refused(),
         }
     }
 
     fn follow_constant(&mut self, token: Token) -> Result<(), Refusal>
-        ensures ok { OnOk result (spec.follow_constant self.old (token_view token.entry)
-            ≡ Ok self.new) }
-        ensures err { IfErr result
-            (λ e. Stops e (spec.follow_constant self.old (token_view token.entry))) }
+        ensures { StepsAs result self.new (spec.follow_constant self.old (token_view token.entry)) }
     {
         match token {
             Token::Number(_) => Ok(()),
@@ -263,10 +257,7 @@ impl Goals {
     }
 
     fn follow_infix(&mut self, token: Token) -> Result<(), Refusal>
-        ensures ok { OnOk result (spec.follow_infix self.old (token_view token.entry)
-            ≡ Ok self.new) }
-        ensures err { IfErr result
-            (λ e. Stops e (spec.follow_infix self.old (token_view token.entry))) }
+        ensures { StepsAs result self.new (spec.follow_infix self.old (token_view token.entry)) }
     {
         match token {
             Token::Infix(_) => Ok(()),
@@ -276,10 +267,8 @@ impl Goals {
 
     /// Meets a goal, which was taken, by what begins with a token.
     pub fn follow(&mut self, goal: Goal, token: Token) -> Result<(), Refusal>
-        ensures ok { OnOk result (spec.follow_goal goal self.old (token_view token.entry)
-            ≡ Ok self.new) }
-        ensures err { IfErr result
-            (λ e. Stops e (spec.follow_goal goal self.old (token_view token.entry))) }
+        ensures { StepsAs result self.new (spec.follow_goal goal self.old
+            (token_view token.entry)) }
     {
         match goal {
             Goal::Statements(in_block, after_if) => {

@@ -1,14 +1,14 @@
 //! The variables that were assigned. Each is kept as the place of a word in the text, so that a
 //! text of 16 MiB with as many variables as it can have takes 12 MB for them.
 
-ghost use Rattle.std.specs.Prelude.{◌≡◌, ◌<◌, ◌∷◌, ◌++◌, [], length, position, true, IsTrue, IfSome, IfOk, IfErr, OnOk};
+ghost use Rattle.std.specs.Prelude.{◌≡◌, ◌<◌, ◌∷◌, ◌++◌, [], length, position, true, IsTrue, IfSome, IfOk, OnOk};
 ghost use Rattle.std.specs.List.{list_any};
 ghost use Rattle.kernel_model.specs.World.{same_bytes};
 ghost use Rattle.kernel_model.specs.LanguageReading as spec;
 ghost use Rattle.graft_syntax.specs.Views.{names_of};
 ghost use Rattle.graft_syntax.specs.Places.{is_separator, first_word, word_at, words_at, known_names};
 
-use crate::grammar::Refusal;
+use crate::NoMemory;
 use crate::program::{Names, learn, learn_arguments};
 use indexmap::IndexMap;
 use std::alloc::Global;
@@ -131,28 +131,26 @@ fn set_last(last: &mut Vec<u32>, chain: usize, number: u32) {
     }
 }
 
-fn push(entries: &mut Vec<Entry>, entry: Entry) -> Result<(), Refusal>
-    ensures ok { OnOk result (entries.new.items ≡ entries.old.items ++ entry ∷ []) }
-    ensures err { IfErr result (λ e. e ≡ Refusal.NoMemory) }
+fn push(entries: &mut Vec<Entry>, entry: Entry) -> Result<(), NoMemory>
+    ensures { OnOk result (entries.new.items ≡ entries.old.items ++ entry ∷ []) }
 {
     match entries.push(entry) {
         Ok(()) => Ok(()),
-        Err(_) => Err(Refusal::NoMemory),
+        Err(_) => Err(NoMemory),
     }
 }
 
 impl Known {
     /// No variable was assigned.
-    pub fn new(alloc: Global, text: &[u8]) -> Result<Known, Refusal>
-        ensures ok { IfOk result (λ known. known.entries.items ≡ []) }
-        ensures err { IfErr result (λ e. e ≡ Refusal.NoMemory) }
+    pub fn new(alloc: Global, text: &[u8]) -> Result<Known, NoMemory>
+        ensures { IfOk result (λ known. known.entries.items ≡ []) }
     {
         let Ok(entries) = Vec::with_capacity(alloc, text.len() / NAME_BYTES) else {
-            return Err(Refusal::NoMemory);
+            return Err(NoMemory);
         };
         match vec![in alloc; NONE; text.len() / CHAIN_BYTES + 1] {
             Ok(last) => Ok(Known { entries, last }),
-            Err(_) => Err(Refusal::NoMemory),
+            Err(_) => Err(NoMemory),
         }
     }
 
@@ -175,11 +173,10 @@ impl Known {
 
     /// Adds the variable whose name begins at a place, unless it is found in its chain.
     #[tactic(auto, using(crate::proofs::Knowing::known_names_same, crate::proofs::Knowing::known_names_push))]
-    pub fn assign(&mut self, text: &[u8], start: u32) -> Result<(), Refusal>
-        ensures ok { OnOk result (known_names text.now self.new.entries.items
+    pub fn assign(&mut self, text: &[u8], start: u32) -> Result<(), NoMemory>
+        ensures { OnOk result (known_names text.now self.new.entries.items
             ≡ spec.with_name (word_at text.now start)
             (known_names text.now self.old.entries.items)) }
-        ensures err { IfErr result (λ e. e ≡ Refusal.NoMemory) }
     {
         let name = word_at(text, start);
         let chain = chain_of(name, self.last.len());
@@ -194,10 +191,9 @@ impl Known {
 
     /// The variables, in the order of their first assignments, the arguments first.
     #[tactic(auto, using(crate::proofs::Knowing::known_names_more))]
-    pub fn names<'a>(&self, alloc: Global, text: &'a [u8]) -> Result<Names<'a>, Refusal>
-        ensures ok { IfOk result (λ names. names_of names.entries
+    pub fn names<'a>(&self, alloc: Global, text: &'a [u8]) -> Result<Names<'a>, NoMemory>
+        ensures { IfOk result (λ names. names_of names.entries
             ≡ known_names text.now self.now.entries.items) }
-        ensures err { IfErr result (λ e. e ≡ Refusal.NoMemory) }
     {
         let mut names = IndexMap::new(alloc);
         learn_arguments(&mut names)?;

@@ -1,12 +1,11 @@
 //! What is read of a text.
 
-ghost use Rattle.std.specs.Prelude.{◌≡◌, ◌≤◌, ◌<◌, [], length, map, position, IfSome, IfErr, OnOk};
+ghost use Rattle.std.specs.Prelude.{◌≡◌, ◌≤◌, ◌<◌, [], length, map, position, IfSome, OnOk};
 ghost use Rattle.kernel_model.specs.World.{same_bytes};
 ghost use Rattle.graft_syntax.specs.Views.{token_view, names_of};
 ghost use Rattle.kernel_model.specs.LanguageReading as spec;
 
-use crate::Token;
-use crate::grammar::Refusal;
+use crate::{NoMemory, Token};
 use indexmap::IndexMap;
 use std::alloc::Global;
 use std::marker::Model;
@@ -75,22 +74,20 @@ fn place_of(names: &Names, name: &[u8]) -> Option<usize>
 }
 
 /// Puts a variable behind the others, unless it is known.
-pub fn learn<'a>(names: &mut Names<'a>, name: &'a [u8]) -> Result<(), Refusal>
-    ensures ok { OnOk result (names_of names.new.entries
+pub fn learn<'a>(names: &mut Names<'a>, name: &'a [u8]) -> Result<(), NoMemory>
+    ensures { OnOk result (names_of names.new.entries
         ≡ spec.with_name name.now (names_of names.old.entries)) }
-    ensures err { IfErr result (λ e. e ≡ Refusal.NoMemory) }
 {
     match names.insert(name, ()) {
         Ok(_) => Ok(()),
-        Err(_) => Err(Refusal::NoMemory),
+        Err(_) => Err(NoMemory),
     }
 }
 
 /// The arguments of a program, which are known from the beginning.
-pub fn learn_arguments(names: &mut Names) -> Result<(), Refusal>
+pub fn learn_arguments(names: &mut Names) -> Result<(), NoMemory>
     requires { names_of names.old.entries ≡ [] }
-    ensures ok { OnOk result (names_of names.new.entries ≡ spec.arguments) }
-    ensures err { IfErr result (λ e. e ≡ Refusal.NoMemory) }
+    ensures { OnOk result (names_of names.new.entries ≡ spec.arguments) }
 {
     learn(names, b"a0".as_slice())?;
     learn(names, b"a1".as_slice())?;

@@ -2,7 +2,7 @@
 
 ghost use Rattle.std.specs.Prelude.{◌≡◌, ◌≤◌, ◌<◌, ◌+◌, ◌-◌, ◌==◌, ◌∷◌, [], length, take, count_by};
 ghost use Rattle.std.specs.Prelude.{map, cond, nat_lt, slice_index, false, Ok, Err, IfOk, IfErr, OnOk};
-ghost use Rattle.graft_syntax.specs.Faults.{Refuses, Stops, fault_in};
+ghost use Rattle.graft_syntax.specs.Faults.{Refuses, StepsAs, ReadsAs, fault_in};
 ghost use Rattle.graft_syntax.specs.Views.{token_view};
 ghost use Rattle.graft_syntax.specs.Places.{is_separator, word_at, IsWord, known_names};
 ghost use Rattle.graft_syntax.specs.Readings.{reading, reading_for, IsPassed, IsStoppedBehind};
@@ -13,7 +13,7 @@ use crate::grammar::{Goals, Refusal};
 use crate::names::{Known, word_at};
 use crate::program::Syntax;
 use crate::tokens::token_of;
-use crate::{LangFault, LangKind, Symbol, Token};
+use crate::{LangFault, LangKind, NoMemory, Symbol, Token};
 use kernel_model::Goal;
 use std::alloc::Global;
 
@@ -34,17 +34,16 @@ const MAX_TOKENS: usize = 120;
 const MAX_LEVELS: usize = 64;
 
 /// Keeps a token, unless there are more than a program may have.
-fn keep<'a>(tokens: &mut Vec<Token<'a>>, token: Token<'a>) -> Result<(), Refusal>
-    ensures ok { OnOk result (map token_view tokens.new.items
+fn keep<'a>(tokens: &mut Vec<Token<'a>>, token: Token<'a>) -> Result<(), NoMemory>
+    ensures { OnOk result (map token_view tokens.new.items
         ≡ spec.with_token (map token_view tokens.old.items) (token_view token.entry)) }
-    ensures err { IfErr result (λ e. e ≡ Refusal.NoMemory) }
 {
     if tokens.len() > MAX_TOKENS {
         return Ok(());
     }
     match tokens.push(token) {
         Ok(()) => Ok(()),
-        Err(_) => Err(Refusal::NoMemory),
+        Err(_) => Err(NoMemory),
     }
 }
 
@@ -142,11 +141,10 @@ fn fault_at(goal: Goal, seen: Seen, token: Token) -> Option<LangKind>
 }
 
 /// Learns the variable of an assignment, if one ends with this goal.
-fn learn_assigned(known: &mut Known, goal: Goal, text: &[u8], assigned: u32) -> Result<(), Refusal>
-    ensures ok { OnOk result (known_names text.now known.new.entries.items
+fn learn_assigned(known: &mut Known, goal: Goal, text: &[u8], assigned: u32) -> Result<(), NoMemory>
+    ensures { OnOk result (known_names text.now known.new.entries.items
         ≡ spec.names_after (goal ∷ []) (word_at text.now assigned)
         (known_names text.now known.old.entries.items)) }
-    ensures err { IfErr result (λ e. e ≡ Refusal.NoMemory) }
 {
     match goal {
         Goal::EndOfAssignment => known.assign(text, assigned),
@@ -169,10 +167,9 @@ fn assigned_by(goal: Goal, assigned: u32, token: Token, text: &[u8], start: u32)
 
 impl<'a> Reader<'a> {
     /// Nothing is read.
-    fn new(alloc: Global, text: &[u8]) -> Result<Reader<'a>, Refusal>
+    fn new(alloc: Global, text: &[u8]) -> Result<Reader<'a>, NoMemory>
         requires { length text.now ≤ 16_777_216 }
-        ensures ok { IfOk result (λ r. reading text.now r ≡ spec.first_reading) }
-        ensures err { IfErr result (λ e. e ≡ Refusal.NoMemory) }
+        ensures { IfOk result (λ r. reading text.now r ≡ spec.first_reading) }
     {
         let mut goals = Goals::new(alloc);
         goals.push(&[Goal::Statements(false, false)])?;
@@ -194,10 +191,8 @@ impl<'a> Reader<'a> {
         start: u32,
     ) -> Result<(), Refusal>
         requires { IsWord token (word_at text.now start) }
-        ensures ok { OnOk result (spec.read_token (reading_for goal text.now self.old)
-            (token_view token.entry) ≡ Ok (reading text.now self.new)) }
-        ensures err { IfErr result (λ e. Stops e
-            (spec.read_token (reading_for goal text.now self.old) (token_view token.entry))) }
+        ensures { StepsAs result (reading text.now self.new)
+            (spec.read_token (reading_for goal text.now self.old) (token_view token.entry)) }
     {
         let seen = Seen {
             below: &self.goals,
@@ -211,16 +206,15 @@ impl<'a> Reader<'a> {
         }
         learn_assigned(&mut self.known, goal, text, self.assigned)?;
         self.assigned = assigned_by(goal, self.assigned, token, text, start);
-        keep(&mut self.tokens, token)
+        keep(&mut self.tokens, token)?;
+        Ok(())
     }
 
     /// Reads a token, which stands at `start`.
     fn read_token(&mut self, token: Token<'a>, text: &[u8], start: u32) -> Result<(), Refusal>
         requires { IsWord token (word_at text.now start) }
-        ensures ok { OnOk result (spec.read_token (reading text.now self.old)
-            (token_view token.entry) ≡ Ok (reading text.now self.new)) }
-        ensures err { IfErr result (λ e. Stops e (spec.read_token (reading text.now self.old)
-            (token_view token.entry))) }
+        ensures { StepsAs result (reading text.now self.new)
+            (spec.read_token (reading text.now self.old) (token_view token.entry)) }
     {
         match self.goals.pop() {
             None => Err(Refusal::Of(LangKind::NoProgram)),
@@ -231,10 +225,8 @@ impl<'a> Reader<'a> {
     /// Reads a word, which stands at `start`.
     fn read_word(&mut self, word: &'a [u8], text: &[u8], start: u32) -> Result<(), Refusal>
         requires { word.now ≡ word_at text.now start }
-        ensures ok { OnOk result (spec.read_word (reading text.now self.old) word.now
-            ≡ Ok (reading text.now self.new)) }
-        ensures err { IfErr result
-            (λ e. Stops e (spec.read_word (reading text.now self.old) word.now)) }
+        ensures { StepsAs result (reading text.now self.new)
+            (spec.read_word (reading text.now self.old) word.now) }
     {
         match token_of(word) {
             None => Err(Refusal::Of(LangKind::NoToken)),
@@ -244,9 +236,7 @@ impl<'a> Reader<'a> {
 
     /// What was read, at the end of the text.
     fn end(self, alloc: Global, text: &'a [u8], line: u32) -> Result<Syntax<'a>, LangFault>
-        ensures ok { IfOk result (λ s. spec.read_end line (reading text.now self.entry) ≡ Ok s) }
-        ensures err { IfErr result
-            (λ e. Refuses e (spec.read_end line (reading text.now self.entry))) }
+        ensures { ReadsAs result (spec.read_end line (reading text.now self.entry)) }
     {
         if !self.goals.is_met() {
             return Err(LangFault::At(line, LangKind::NoProgram));
@@ -361,8 +351,7 @@ fn read_words<'a>(reader: &mut Reader<'a>, text: &'a [u8]) -> Result<(), LangFau
 /// What a text says, or the line that is refused and why.
 pub fn read_text(alloc: Global, text: &[u8]) -> Result<Syntax<'_>, LangFault>
     requires { length text.now ≤ 16_777_216 }
-    ensures ok { IfOk result (λ s. spec.read text.now ≡ Ok s) }
-    ensures err { IfErr result (λ e. Refuses e (spec.read text.now)) }
+    ensures { ReadsAs result (spec.read text.now) }
 {
     let mut reader = match Reader::new(alloc, text) {
         Ok(reader) => reader,

@@ -80,7 +80,7 @@ repetition-returns-clause-writes t c =
 pub statements-loop-first-preserved : goal.statements-loop-first-preserved
 statements-loop-first-preserved t c = record {
   leads = λ w h. c.loop-first.invariant.leads w
-      (subst (λ x. WritesStatements c.args.syntax.now.names c.args.top x w)
+      (subst (λ x. WritesStatements c.args.names.now c.args.top x w)
       (sym c.in-Some.ensures.1)
       (c.in_ok-statement.ensures.leads w h));
   uses = search rules;
@@ -91,5 +91,5 @@ statements-returns-clause-writes t c =
     let l = c.loop-first in
     let at = c.in_default.ensures in
     l.invariant.leads _
-    (subst (WritesStatements c.args.syntax.now.names c.args.top l.self) (sym at.1)
-    (none_left c.args.syntax.now.names c.args.top l.self at.0))
+    (subst (WritesStatements c.args.names.now c.args.top l.self) (sym at.1)
+    (none_left c.args.names.now c.args.top l.self at.0))

@@ -25,8 +25,8 @@ decreases-statement l = 8 * length l.self.now.tokens + 5
 
 abbrev pub invariant-statements-loop-first : goal.invariant-statements-loop-first
 invariant-statements-loop-first l = record {
-  leads : (w : Writing) → WritesStatements l.syntax.names l.top l.self w
-      → WritesStatements l.syntax.names l.top l.initial.self w;
+  leads : (w : Writing) → WritesStatements l.names l.top l.self w
+      → WritesStatements l.names l.top l.initial.self w;
   uses : Uses 16 0 l.initial.self l.self;
 }
 
