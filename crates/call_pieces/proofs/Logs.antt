@@ -2,7 +2,7 @@
 use Rattle.std.proofs.Common.{◌≡◌, ℕ, ◌+◌, Bool, true, false, List, [], ◌∷◌, ◌++◌, length, refl, ◌∙◌, ap, append_assoc, length-append}
 use Rattle.std.proofs.lemmas.List.{get_or_at}
 use Rattle.kernel_model.specs.Meaning.{disk_fails}
-use Rattle.call_pieces.specs.Matching.{has_failed}
+use Rattle.call_needs.specs.Fetching.{has_failed}
 
 -- what the next call of the disk does
 pub fails_is : (log old rest : List Bool) (b : Bool) (n : ℕ) → log ≡ old ++ b ∷ [] → length old ≡ n → disk_fails (log ++ rest) n ≡ b

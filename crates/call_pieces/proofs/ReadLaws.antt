@@ -13,7 +13,8 @@ use Rattle.kernel_model.specs.Fetch.{Fetched, Got, bytes_of, fetch, fetch_ahead}
 use Rattle.kernel_model.specs.FilePieces.{with_cache, with_file, with_ahead, well, unless_zero, read_on, read_first, read_third, read_second, ahead_by, read_first_at, read_third_at, read_piece}
 use Rattle.kernel_model.specs.Policies.{ahead_default}
 use Rattle.kernel_model.specs.Pieces.{read_fits}
-use Rattle.call_pieces.specs.Matching.{PieceMatches, FetchMatches, ReadContinues, blocks_after}
+use Rattle.call_needs.specs.Fetching.{FetchMatches, blocks_after}
+use Rattle.call_pieces.specs.Matching.{PieceMatches, ReadContinues}
 
 -- the first piece, once the block is fetched
 pub first_came : (s mid new : Objects) (blocks : Blocks) (p fd i off len f n : ℕ) (o : OpenRow) (q : Fetched) (cache : CacheValue) (known : Option (List (List ℕ))) (bytes : List ℕ)

@@ -1,24 +1,30 @@
 -- Pieces that are served, in other words.
-use Rattle.std.proofs.Common.{◌≡◌, ℕ, ◌≤◌, arith, Bool, true, false, List, [], ◌++◌, length, Option, None, refl, sym, ◌∙◌, ap, subst}
+use Rattle.std.proofs.Common.{◌≡◌, ℕ, arith, Bool, List, [], ◌++◌, length, Option, None, refl, sym, ◌∙◌, ap, subst}
+use Rattle.kernel_model.specs.declared.QueueRow.{QueueRow}
 use Rattle.kernel_model.specs.declared.Refusal.{Refusal}
+use Rattle.kernel_model.specs.declared.SysCall.{SysCall}
 use Rattle.kernel_model.specs.World.{Blocks}
-use Rattle.kernel_model.specs.Meaning.{Stage, Piece, Fails}
+use Rattle.kernel_model.specs.Meaning.{Stage, Piece}
+use Rattle.kernel_model.specs.Pieces.{piece_of}
 use Rattle.kernel_model.specs.FilePieces.{refuses}
 use Rattle.vino_base.specs.Disks.{DiskSeen}
 use Rattle.disk_log.specs.Calls.{Knows}
 use Rattle.disk_log.specs.Joined.{extends_none}
 use Rattle.kernel_state.specs.declared.Store.{Store}
-use Rattle.kernel_state.specs.Stores.{world_of_store, objects_of, queue_of}
+use Rattle.kernel_state.specs.Stores.{world_of_store, objects_of, queue_of, policies_of}
+use Rattle.call_needs.specs.declared.Work.{Work}
+use Rattle.call_needs.specs.Fetching.{Moment, moment}
+use Rattle.call_needs.specs.Works.{bare_stage_of, call_of}
 use Rattle.call_pieces.specs.declared.Next.{Next}
-use Rattle.call_pieces.specs.Matching.{PieceMatches, has_failed, is_fault}
-use Rattle.call_pieces.specs.Shared.{Moment, moment, ComesAtOnce, PieceKeeps, Serves, ServesLast}
+use Rattle.call_pieces.specs.Queues.{queue_after}
+use Rattle.call_pieces.specs.Shared.{ComesAtOnce, EndsWithQueue, PieceKeeps, Serves, ServesLast, ServesWithQueue, piece_on, queue_on}
 use Rattle.call_pieces.proofs.LeftLaws.{some_as, some_quick, some_refused}
 
 -- a piece by an equal one
-pub serves_as : {B : Type 0} {P : _} (q r : Blocks → List Bool → Piece)
+pub serves_as : {B : Type 0} {P : _} {queue : List QueueRow} (q r : Blocks → List Bool → Piece)
     (old new : Moment (Store B P)) (gave : Option (List ℕ)) (next : Next) (t : Stage) →
-    ((blocks : Blocks) (w : List Bool) → q blocks w ≡ r blocks w) → Serves r old new gave next t →
-    Serves q old new gave next t
+    ((blocks : Blocks) (w : List Bool) → q blocks w ≡ r blocks w) →
+    ServesWithQueue r queue old new gave next t → ServesWithQueue q queue old new gave next t
 serves_as q r old new gave next t is served =
     record {
       does = λ blocks rest tells.
@@ -38,24 +44,24 @@ serves_as q r old new gave next t is served =
     }
 
 -- a piece that fails not for the disk, with no call of it
-keeps_at_once : {B : Type 0} {P : _} (old new : Store B P) (next : Next) (log : List Bool)
-    (r : Blocks → Piece) (t : Stage) → log ≡ [] → ComesAtOnce r (queue_of old) old new next t →
-    PieceKeeps old new next log
+keeps_at_once : {B : Type 0} {P : _} {queue : List QueueRow} (old new : Store B P) (next : Next)
+    (log : List Bool) (r : Blocks → Piece) (t : Stage) → log ≡ [] →
+    ComesAtOnce r queue old new next t → PieceKeeps queue old new next log
 keeps_at_once old new next log r t none came =
     record {
       failed = λ fault. let well = came.no_fault in absurd (cc);
       few = let n = ap (λ (w : List Bool). length w) none in omega (arith, n);
-      queue = came.queue_is;
+      queue_is = came.queue_is;
       world = came.world;
       memory = came.memory;
     }
 
 -- a piece without a call of the disk
-pub serves_at_once : {B : Type 0} {P : _} (q : Blocks → List Bool → Piece) (r : Blocks → Piece)
-    (old new : Store B P) (d : DiskSeen) (log : List Bool) (next : Next) (t : Stage) → log ≡ [] →
-    ((blocks : Blocks) (w : List Bool) → q blocks w ≡ r blocks) →
-    ComesAtOnce r (queue_of old) old new next t →
-    Serves q (moment old d log) (moment new d log) None next t
+pub serves_at_once : {B : Type 0} {P : _} {queue : List QueueRow} (q : Blocks → List Bool → Piece)
+    (r : Blocks → Piece) (old new : Store B P) (d : DiskSeen) (log : List Bool) (next : Next)
+    (t : Stage) → log ≡ [] → ((blocks : Blocks) (w : List Bool) → q blocks w ≡ r blocks) →
+    ComesAtOnce r queue old new next t →
+    ServesWithQueue q queue (moment old d log) (moment new d log) None next t
 serves_at_once q r old new d log next t none is came =
     serves_as q (λ blocks w. r blocks) (moment old d log) (moment new d log) None next t is
     (record {
@@ -78,7 +84,7 @@ serves_at_once q r old new d log next t none is came =
 pub serves_refused : {B : Type 0} {P : _} (q : Blocks → List Bool → Piece) (s : Store B P)
     (d : DiskSeen) (log : List Bool) (why : Refusal) (t : Stage) → log ≡ [] →
     ((blocks : Blocks) (w : List Bool) → q blocks w ≡ refuses (objects_of s) blocks why) →
-    PieceKeeps s s (Next.Fails why) log →
+    PieceKeeps (queue_of s) s s (Next.Fails why) log →
     Serves q (moment s d log) (moment s d log) None (Next.Fails why) t
 serves_refused q s d log why t none is keeps =
     serves_as q (λ blocks w. refuses (objects_of s) blocks why) (moment s d log) (moment s d log)
@@ -102,7 +108,7 @@ serves_refused q s d log why t none is keeps =
 pub last_refused : {B : Type 0} {P : _} (q : Blocks → List Bool → Piece) (s : Store B P)
     (d : DiskSeen) (log : List Bool) (why : Refusal) → log ≡ [] →
     ((blocks : Blocks) (w : List Bool) → q blocks w ≡ refuses (objects_of s) blocks why) →
-    PieceKeeps s s (Next.Fails why) log →
+    PieceKeeps (queue_of s) s s (Next.Fails why) log →
     ServesLast q (moment s d log) (moment s d log) (Next.Fails why)
 last_refused q s d log why none is keeps =
     record {
@@ -112,3 +118,59 @@ last_refused q s d log why none is keeps =
       keeps = keeps;
       calls = extends_none d log;
     }
+
+-- the last piece of a call, before any stage
+pub serves_last : {B : Type 0} {P : _} (q : Blocks → List Bool → Piece)
+    (old new : Moment (Store B P)) (next : Next) (t : Stage) → ServesLast q old new next →
+    Serves q old new None next t
+serves_last q old new next t last =
+    record { does = last.does t; some = last.some t; keeps = last.keeps; calls = last.calls }
+
+-- a piece that ends its call at once, before any stage
+comes_of_ends : {B : Type 0} {P : _} {queue : List QueueRow} (r : Blocks → Piece)
+    (old new : Store B P) (next : Next) (t : Stage) → EndsWithQueue r queue old new next →
+    ComesAtOnce r queue old new next t
+comes_of_ends r old new next t ended =
+    record {
+      does = λ blocks known tells. ended.does blocks known t tells;
+      queue_is = ended.queue_is;
+      no_fault = ended.no_fault;
+      world = ended.world;
+      memory = ended.memory;
+    }
+
+-- ---- pieces by the name of their call
+
+-- the piece of a call of this name, where this work stands
+abbrev pub NamedServes : {B : Type 0} {P : _} → Work → Option (List ℕ) →
+    (old new : Moment (Store B P)) → Option (List ℕ) → Next → SysCall → Stage → Type 0
+NamedServes w answer old new gave next k t =
+    let s = old.store in
+    ServesWithQueue (λ blocks io. piece_of k w.piece (world_of_store s) (objects_of s) blocks
+    w.caller answer io) (queue_after (policies_of s 2) answer k w.piece w.caller (queue_of s))
+    old new gave next t
+
+-- a piece of a call by its name
+pub by_name : {B : Type 0} {P : _} (w : Work) (answer : Option (List ℕ))
+    (old new : Moment (Store B P)) (gave : Option (List ℕ)) (next : Next) (k : SysCall)
+    (t : SysCall → Stage) → call_of w ≡ k → NamedServes w answer old new gave next k (t k) →
+    ServesWithQueue (piece_on w old.store answer) (queue_on w old.store answer) old new gave next
+    (t (call_of w))
+by_name w answer old new gave next k t named served =
+    subst (λ (x : SysCall). NamedServes w answer old new gave next x (t x)) (sym named) served
+
+-- a piece that ends its call at once, by the name of the call
+pub ends_by_name : {B : Type 0} {P : _} (w : Work) (answer : Option (List ℕ)) (old new : Store B P)
+    (d : DiskSeen) (log : List Bool) (next : Next) (k : SysCall) (r : Blocks → Piece) →
+    call_of w ≡ k → log ≡ [] →
+    ((blocks : Blocks) (io : List Bool) → piece_of k w.piece (world_of_store old) (objects_of old)
+    blocks w.caller answer io ≡ r blocks) →
+    EndsWithQueue r (queue_after (policies_of old 2) answer k w.piece w.caller (queue_of old)) old
+    new next →
+    ServesWithQueue (piece_on w old answer) (queue_on w old answer) (moment old d log)
+    (moment new d log) None next (bare_stage_of w)
+ends_by_name w answer old new d log next k r named none is ended =
+    by_name w answer (moment old d log) (moment new d log) None next k (λ _. bare_stage_of w) named
+    (serves_at_once (λ blocks io. piece_of k w.piece (world_of_store old) (objects_of old) blocks
+    w.caller answer io) r old new d log next (bare_stage_of w) none is
+    (comes_of_ends r old new next (bare_stage_of w) ended))

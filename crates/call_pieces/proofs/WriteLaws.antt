@@ -9,7 +9,8 @@ use Rattle.kernel_model.specs.Fetch.{Fetched, Got, Failed, fetch, with_patch}
 use Rattle.kernel_model.specs.FilePieces.{with_cache, write_fetched, write_piece, disk_failed, well}
 use Rattle.vino_base.specs.declared.streams.Failed.{Failed as DiskFailed}
 use Rattle.disk_log.specs.Calls.{Knows}
-use Rattle.call_pieces.specs.Matching.{PieceMatches, FetchMatches, blocks_after}
+use Rattle.call_needs.specs.Fetching.{FetchMatches, blocks_after}
+use Rattle.call_pieces.specs.Matching.{PieceMatches}
 
 -- what a failed fetch tells of the blocks
 pub tells_failed : (q : Fetched) (blocks : Blocks) (e : DiskFailed) (cache : CacheValue) (known : Option (List (List ℕ))) (n : ℕ) → FetchMatches q blocks (Err e) cache known n → Knows known blocks

@@ -1,4 +1,6 @@
-pub mod Works
+pub mod EarlyFaults
 pub mod Matching
+pub mod Callers
+pub mod Queues
 pub mod Shared
-pub mod Masks
+pub use Rattle.call_needs.specs.Works

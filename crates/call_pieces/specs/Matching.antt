@@ -1,20 +1,17 @@
 -- What came of a piece, in the code's terms, beside what the definitions say.
-use Rattle.std.specs.Prelude.{◌≡◌, ℕ, ◌<◌, Bool, true, false, List, ◌++◌, length, Option, Result, Ok, Err, nat_le}
-use Rattle.std.specs.List.{list_any}
+use Rattle.std.specs.Prelude.{◌≡◌, ℕ, ◌<◌, Bool, true, false, List, ◌++◌, length, Option, nat_le}
 use Rattle.kernel_model.specs.declared.Refusal.TheVariants.{DiskFault}
 use Rattle.kernel_model.specs.declared.OpenRow.{OpenRow}
 use Rattle.kernel_model.specs.World.{World, Blocks}
-use Rattle.kernel_model.specs.Objects.{Objects, CacheValue}
-use Rattle.kernel_model.specs.Meaning.{Meaning, Stage, Piece, After}
-use Rattle.kernel_model.specs.Fetch.{Fetched, Got, Failed}
+use Rattle.kernel_model.specs.Objects.{Objects}
+use Rattle.kernel_model.specs.Meaning.{Meaning, Stage, Piece, After, Continues, EndsWith, Fails}
 use Rattle.kernel_model.specs.Policies.{lives}
 use Rattle.kernel_model.specs.Pieces.{piece_fits, pieces_left, read_fits, read_left}
 use Rattle.kernel_model.specs.Sound.{HasWholeBlocks}
-use Rattle.vino_base.specs.declared.streams.Failed.{Failed as DiskFailed}
 use Rattle.disk_log.specs.Calls.{Knows}
-use Rattle.call_pieces.specs.declared.Work.{Work}
+use Rattle.call_needs.specs.declared.Work.{Work}
+use Rattle.call_needs.specs.Works.{IsDue, call_of}
 use Rattle.call_pieces.specs.declared.Next.{Next}
-use Rattle.call_pieces.specs.Works.{IsDue, call_of}
 
 -- A piece left these objects, the disk tells this, these bytes were given, this comes next, and so
 -- many calls of the disk were made: all as the definitions' piece has it.
@@ -43,46 +40,16 @@ pub record PieceMatchesSome (v : World) (piece : Blocks → List Bool → Piece)
   pub whole : HasWholeBlocks v blocks
   pub left : (rest : List Bool) → PieceLeaves (piece blocks (io ++ rest)) s gave after (length io)
 
--- the blocks after a fetch, where they were these
-abbrev pub blocks_after : Fetched → Blocks → Blocks
-blocks_after (Got cache after frame calls) blocks = after
-blocks_after (Failed calls) blocks = blocks
-
--- a fetch that left this cache and these blocks, with so many calls of the disk: it gave a frame or
--- failed
-abbrev pub fetched_so : Result ℕ DiskFailed → CacheValue → Blocks → ℕ → Fetched
-fetched_so (Ok f) cache blocks calls = Got cache blocks f calls
-fetched_so (Err e) cache blocks calls = Failed calls
-
--- a fetch left this cache, and so many calls of the disk were made: as the definitions' fetch has
--- it
-abbrev pub FetchLeft : Fetched → Blocks → Result ℕ DiskFailed → CacheValue → ℕ → Type 0
-FetchLeft q blocks result cache calls = fetched_so result cache (blocks_after q blocks) calls ≡ q
-
--- a fetch left this cache, the disk tells this, and so many calls were made: all as the
--- definitions' fetch has it
-pub record FetchMatches (q : Fetched) (blocks : Blocks) (result : Result ℕ DiskFailed)
-    (cache : CacheValue) (known : Option (List (List ℕ))) (calls : ℕ) : Type 0 where
-  pub outcome : FetchLeft q blocks result cache calls
-  pub tells : Knows known (blocks_after q blocks)
-
--- so it is with a fetch for some whole blocks, where these calls of the disk were made
-pub record FetchMatchesSome (v : World) (fetch : Blocks → List Bool →
-    Fetched) (result : Result ℕ DiskFailed)
-    (cache : CacheValue) (io : List Bool) : Type 0 where
-  pub blocks : Blocks
-  pub whole : HasWholeBlocks v blocks
-  pub outcome : (rest : List Bool) →
-      FetchLeft (fetch blocks (io ++ rest)) blocks result cache (length io)
-
--- one of these calls of the disk failed
-abbrev pub has_failed : List Bool → Bool
-has_failed io = list_any (λ failed. failed) io
-
 -- a call was refused for the disk
 abbrev pub is_fault : Next → Bool
 is_fault (Next.Fails DiskFault) = true
 is_fault _ = false
+
+-- what comes after a piece, where the call stands so now
+abbrev pub comes_after : Next → Stage → After
+comes_after Next.Goes t = Continues t
+comes_after (Next.Ends reply) t = EndsWith reply
+comes_after (Next.Fails refusal) t = Fails refusal
 
 -- a call goes on
 abbrev pub goes_on : Next → Bool

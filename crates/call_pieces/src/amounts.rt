@@ -5,6 +5,7 @@ ghost use Rattle.kernel_model.specs.Policies.{lives};
 ghost use Rattle.kernel_model.specs.Pieces.{give_piece, install_piece, remove_piece, fund_piece, bill_piece, new_graft};
 ghost use Rattle.kernel_state.specs.Places.{HasPoint};
 ghost use Rattle.kernel_state.specs.Stores.{objects_of, queue_of};
+ghost use Rattle.call_pieces.specs.Callers.{CanGive};
 ghost use Rattle.call_pieces.specs.Shared.{EndsAtOnce};
 
 use crate::Next;
@@ -14,8 +15,7 @@ use kernel_state::Store;
 
 /// Process p gives n to process q, if that lives.
 pub(crate) fn give<B: Policy>(store: &mut Store<B>, p: u8, q: u32, k: Kind, n: u32) -> Next
-    requires alive { lives (queue_of store.old) p ≡ true }
-    requires granted { q < 16 }
+    requires { CanGive (queue_of store.old) p q }
     ensures done { EndsAtOnce (λ blocks. give_piece (objects_of store.old) p q k n blocks
         (lives (queue_of store.old) q)) store.old store.new result }
 {

@@ -1,7 +1,8 @@
 //! What a kernel runs: a table of calls.
 
-use crate::{Gift, Needs, Next, TOP_POINT, Work, asks, early_upto, need, piece};
+use crate::{Next, piece};
 use arrayvec::ArrayVec;
+use call_needs::{Gift, Needs, TOP_POINT, Work, asks, early_upto, need};
 use disk_log::DiskLog;
 use graft_points::Policy;
 use kernel_model::{BLOCK_BYTES, BareCall, Point, Refusal, Rules};
@@ -19,9 +20,11 @@ pub trait Calls {
     ghost use Rattle.kernel_model.specs.Policies.{lives};
     ghost use Rattle.disk_log.specs.Calls.{Knows, Made};
     ghost use Rattle.kernel_state.specs.Stores.{world_of_store, objects_of, queue_of, SegmentsStay};
+    ghost use Rattle.call_needs.specs.Fetching.{has_failed};
     ghost use Rattle.kernel_model.specs.ImageMask.{TellsImages};
-    ghost use Rattle.call_pieces.specs.Works.{IsDue, stage_of, stage_granted, answer_seen, comes_after};
-    ghost use Rattle.call_pieces.specs.Matching.{PieceMatches, PieceMatchesSome, ContinuesFrom, has_failed, is_fault, goes_on};
+    ghost use Rattle.call_pieces.specs.EarlyFaults.{HasNoEarlyFault};
+    ghost use Rattle.call_needs.specs.Works.{IsDue, stage_of, stage_granted, answer_seen};
+    ghost use Rattle.call_pieces.specs.Matching.{PieceMatches, PieceMatchesSome, ContinuesFrom, comes_after, is_fault, goes_on};
 
     /// What the calls mean.
     type Meaning: Rules;
@@ -117,6 +120,9 @@ pub trait Calls {
         ensures memory { SegmentsStay store.old.ram store.new.ram }
         ensures calls { Made (D.seen disk.old) (D.seen disk.new) log.new }
         ensures few { length log.new ≤ 256 };
+
+    /// No call is refused at once because the disk failed.
+    ghost no_early_fault: { HasNoEarlyFault Self.Meaning.meaning };
 }
 
 /// The table of the system calls.
@@ -127,8 +133,11 @@ impl Calls for Plain {
     type Meaning = PlainRules;
 
     ghost use Rattle.std.specs.Prelude.{true};
+    ghost use Rattle.call_pieces.specs.EarlyFaults.{plain_has_no_early_fault};
 
     ghost owns = { λ c. true };
+
+    ghost no_early_fault = { plain_has_no_early_fault 5 };
 
     fn owns(_call: BareCall) -> bool {
         true

@@ -1,9 +1,9 @@
 //! User locks.
 
-ghost use Rattle.std.specs.Prelude.{◌≡◌, ◌<◌, true};
-ghost use Rattle.kernel_model.specs.Policies.{lives};
+ghost use Rattle.std.specs.Prelude.{◌<◌};
 ghost use Rattle.kernel_model.specs.Pieces.{lock_piece, unlock_piece};
 ghost use Rattle.kernel_state.specs.Stores.{objects_of, queue_of};
+ghost use Rattle.call_pieces.specs.Callers.{CanLock};
 ghost use Rattle.call_pieces.specs.Shared.{EndsAtOnce};
 
 use crate::Next;
@@ -13,8 +13,7 @@ use kernel_state::Store;
 
 /// Process p takes user lock u, unless it is held.
 pub(crate) fn take_lock<B: Policy>(store: &mut Store<B>, p: u8, u: u32) -> Next
-    requires alive { lives (queue_of store.old) p ≡ true }
-    requires granted { u < 16 }
+    requires { CanLock (queue_of store.old) p u }
     ensures done { EndsAtOnce (lock_piece (objects_of store.old) p u
         ((objects_of store.old).things.lock u)) store.old store.new result }
 {

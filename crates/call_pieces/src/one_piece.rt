@@ -14,9 +14,11 @@ ghost use Rattle.kernel_model.specs.Pieces.{spawn_piece, exit_piece, yield_piece
 ghost use Rattle.kernel_model.specs.Sound.{IsSoundFile};
 ghost use Rattle.disk_log.specs.Calls.{Knows};
 ghost use Rattle.kernel_state.specs.Stores.{world_of_store, objects_of, queue_of, queue_joined, policies_of, SegmentsStay};
+ghost use Rattle.kernel_state.specs.Places.{HasCell, HasDescriptor};
+ghost use Rattle.call_pieces.specs.Callers.{CanExit, CanYield};
 ghost use Rattle.call_pieces.specs.Shared.{ComesAtOnce, EndsAtOnce, EndsWithQueue};
-ghost use Rattle.call_pieces.specs.Works.{queue_yielded, next_of, comes_after};
-ghost use Rattle.call_pieces.specs.Matching.{PieceMatches, is_fault, goes_on};
+ghost use Rattle.call_pieces.specs.Queues.{queue_yielded, next_of};
+ghost use Rattle.call_pieces.specs.Matching.{PieceMatches, comes_after, is_fault, goes_on};
 
 use crate::Next;
 use graft_points::Policy;
@@ -40,8 +42,7 @@ pub(crate) fn spawn<B: Policy>(store: &mut Store<B>) -> Next
 
 /// Process p leaves, which isn't 0.
 pub(crate) fn exit<B: Policy>(store: &mut Store<B>, p: u8) -> Next
-    requires alive { lives (queue_of store.old) p ≡ true }
-    requires granted { 0 < p }
+    requires { CanExit (queue_of store.old) p }
     ensures done { EndsWithQueue (exit_piece (objects_of store.old) p)
         (queue_without p (queue_of store.old)) store.old store.new result }
 {
@@ -71,9 +72,7 @@ pub(crate) fn yield_turn<B: Policy>(
     p: u8,
     answer: Option<[u32; 4]>,
 ) -> Next
-    requires alive { lives (queue_of store.old) p ≡ true }
-    requires fits { piece.old ≤ 1 }
-    requires right { IfSome answer (λ a. lives (queue_of store.old) (slice_index a 0) ≡ true) }
+    requires { CanYield (queue_of store.old) p piece.old answer }
     ensures done { ComesAtOnce (yield_piece piece.old (objects_of store.old) p answer)
         (queue_yielded (policies_of store.old 2) answer piece.old p (queue_of store.old))
         store.old store.new result (stage Yield piece.new) }
@@ -92,8 +91,7 @@ pub(crate) fn yield_turn<B: Policy>(
 
 /// Cell k of process p gets a value.
 pub(crate) fn poke<B: Policy>(store: &mut Store<B>, p: u8, k: u32, v: u32) -> Next
-    requires alive { lives (queue_of store.old) p ≡ true }
-    requires granted { k < 4 }
+    requires { HasCell (queue_of store.old) p k }
     ensures done { EndsAtOnce (poke_piece (objects_of store.old) p k v) store.old store.new result }
 {
     store.set_cell(p, k as u8, v);
@@ -102,8 +100,7 @@ pub(crate) fn poke<B: Policy>(store: &mut Store<B>, p: u8, k: u32, v: u32) -> Ne
 
 /// Cell k of process p is told.
 pub(crate) fn peek<B: Policy>(store: &Store<B>, p: u8, k: u32) -> Next
-    requires alive { lives (queue_of store.now) p ≡ true }
-    requires granted { k < 4 }
+    requires { HasCell (queue_of store.now) p k }
     ensures done { EndsAtOnce (λ blocks. leaves (objects_of store.now) blocks
         (EndsWith (One ((objects_of store.now).things.cell p k)))) store.now store.now result }
 {
@@ -128,8 +125,7 @@ pub(crate) fn open<B: Policy>(store: &mut Store<B>, p: u8, name: &[u8]) -> Next
 
 /// A file is opened at descriptor fd of process p, which is free.
 fn open_at<B: Policy>(store: &mut Store<B>, p: u8, fd: u8, file: u8) -> Next
-    requires alive { lives (queue_of store.old) p ≡ true }
-    requires number { fd < 4 }
+    requires place { HasDescriptor (queue_of store.old) p fd }
     requires file { IsSoundFile (world_of_store store.old) (new_file file) }
     ensures done { EndsAtOnce (open_piece (objects_of store.old) p (Some file) (Some fd))
         store.old store.new result }
@@ -148,8 +144,7 @@ fn open_at<B: Policy>(store: &mut Store<B>, p: u8, fd: u8, file: u8) -> Next
 
 /// The file at descriptor fd of process p is closed.
 pub(crate) fn close<B: Policy>(store: &mut Store<B>, p: u8, fd: u32) -> Next
-    requires alive { lives (queue_of store.old) p ≡ true }
-    requires granted { fd < 4 }
+    requires { HasDescriptor (queue_of store.old) p fd }
     ensures done { EndsAtOnce (close_piece (objects_of store.old) p fd
         ((objects_of store.old).things.file p fd)) store.old store.new result }
 {

@@ -1,15 +1,16 @@
 //! `piece`.
 
-ghost use Rattle.std.specs.Prelude.{◌≡◌, ℕ, ◌<◌, true, false, List, Bool, [], ◌++◌, Some, None, length, ◌≤◌};
-ghost use Rattle.kernel_model.specs.World.{Blocks};
-ghost use Rattle.kernel_model.specs.Pieces.{piece_of};
+ghost use Rattle.std.specs.Prelude.{◌≡◌, true};
 ghost use Rattle.kernel_model.specs.Needs.{piece_ask};
 ghost use Rattle.kernel_model.specs.Laws.{IsRightAnswer};
-ghost use Rattle.disk_log.specs.Calls.{Knows, Made, CallsExtend};
-ghost use Rattle.kernel_state.specs.Stores.{world_of_store, objects_of, queue_of, policies_of, SegmentsStay};
-ghost use Rattle.call_pieces.specs.Works.{bare_stage_of, call_of, stage_of, comes_after, queue_after, IsPlainDue};
-ghost use Rattle.call_pieces.specs.Matching.{PieceMatches, PieceMatchesSome, HasContinued, has_failed, is_fault, goes_on};
+ghost use Rattle.disk_log.specs.Calls.{Made};
+ghost use Rattle.kernel_state.specs.Stores.{world_of_store, objects_of};
+ghost use Rattle.call_needs.specs.Fetching.{moment};
+ghost use Rattle.call_needs.specs.Works.{bare_stage_of, call_of, stage_of, IsPlainDue};
+ghost use Rattle.call_pieces.specs.Shared.{DiskReady, ServesWithQueue, piece_on, queue_on};
+ghost use Rattle.call_pieces.specs.Matching.{HasContinued, goes_on};
 
+use crate::Next;
 use crate::amounts::{bill, fund, give, install, remove};
 use crate::locks::{free_lock, take_lock};
 use crate::one_piece::{close, exit, open, peek, poke, spawn, yield_turn};
@@ -17,7 +18,7 @@ use crate::policies::{choose, tune};
 use crate::reads::read;
 use crate::syncs::sync;
 use crate::writes::write;
-use crate::{Access, Gift, Next, Work};
+use call_needs::{Access, Gift, Work};
 use disk_log::DiskLog;
 use graft_points::Policy;
 use kernel_model::{BareCall, Refusal};
@@ -41,30 +42,13 @@ pub fn piece<B: Policy, D: Disk>(
     requires right { IsRightAnswer (objects_of store.old)
         (piece_ask (call_of work.old) work.old.piece (world_of_store store.old)
         (objects_of store.old).things work.old.caller) answer }
-    requires disk { store.old.size ≡ (D.seen disk.old).size }
-    requires fresh { log.old ≡ [] }
-    ensures does { (blocks : Blocks) (rest : List Bool) → Knows (D.seen disk.old).known blocks →
-        PieceMatches (piece_of (call_of work.old) work.old.piece (world_of_store store.old)
-        (objects_of store.old) blocks work.old.caller answer
-        (log.new ++ rest))
-        (objects_of store.new) (D.seen disk.new).known gave.new
-        (comes_after result (stage_of work.new)) (length log.new) }
-    ensures some { PieceMatchesSome (world_of_store store.old)
-        (λ blocks io. piece_of (call_of work.old) work.old.piece
-        (world_of_store store.old) (objects_of store.old) blocks
-        work.old.caller answer io)
-        (objects_of store.new) gave.new
-        (comes_after result (stage_of work.new)) log.new }
-    ensures queue { queue_of store.new ≡ queue_after
-        (policies_of store.old 2) answer (call_of work.old) work.old.piece work.old.caller
-        (queue_of store.old) }
+    requires disk { DiskReady (moment store.old (D.seen disk.old) log.old) }
+    ensures done { ServesWithQueue (piece_on work.old store.old answer)
+        (queue_on work.old store.old answer) (moment store.old (D.seen disk.old) log.old)
+        (moment store.new (D.seen disk.new) log.new) gave.new result (stage_of work.new) }
     ensures gone { goes_on result ≡ true →
         HasContinued work.old work.new (objects_of store.old) (objects_of store.new) }
-    ensures failed { is_fault result ≡ true → has_failed log.new ≡ true }
-    ensures world { world_of_store store.new ≡ world_of_store store.old }
     ensures calls { Made (D.seen disk.old) (D.seen disk.new) log.new }
-    ensures few { length log.new ≤ 256 }
-    ensures memory { SegmentsStay store.old.ram store.new.ram }
 {
     let next = bare_piece(work, store, answer, disk, log, gave);
     work.carry_nothing();
@@ -85,30 +69,12 @@ fn bare_piece<B: Policy, D: Disk>(
     requires right { IsRightAnswer (objects_of store.old)
         (piece_ask (call_of work.old) work.old.piece (world_of_store store.old)
         (objects_of store.old).things work.old.caller) answer }
-    requires disk { store.old.size ≡ (D.seen disk.old).size }
-    requires fresh { log.old ≡ [] }
-    ensures does { (blocks : Blocks) (rest : List Bool) → Knows (D.seen disk.old).known blocks →
-        PieceMatches (piece_of (call_of work.old) work.old.piece (world_of_store store.old)
-        (objects_of store.old) blocks work.old.caller answer
-        (log.new ++ rest))
-        (objects_of store.new) (D.seen disk.new).known gave.new
-        (comes_after result (bare_stage_of work.new)) (length log.new) }
-    ensures some { PieceMatchesSome (world_of_store store.old)
-        (λ blocks io. piece_of (call_of work.old) work.old.piece
-        (world_of_store store.old) (objects_of store.old) blocks
-        work.old.caller answer io)
-        (objects_of store.new) gave.new
-        (comes_after result (bare_stage_of work.new)) log.new }
-    ensures queue { queue_of store.new ≡ queue_after
-        (policies_of store.old 2) answer (call_of work.old) work.old.piece work.old.caller
-        (queue_of store.old) }
+    requires disk { DiskReady (moment store.old (D.seen disk.old) log.old) }
+    ensures done { ServesWithQueue (piece_on work.old store.old answer)
+        (queue_on work.old store.old answer) (moment store.old (D.seen disk.old) log.old)
+        (moment store.new (D.seen disk.new) log.new) gave.new result (bare_stage_of work.new) }
     ensures gone { goes_on result ≡ true →
         HasContinued work.old work.new (objects_of store.old) (objects_of store.new) }
-    ensures failed { is_fault result ≡ true → has_failed log.new ≡ true }
-    ensures world { world_of_store store.new ≡ world_of_store store.old }
-    ensures calls { CallsExtend (D.seen disk.old) (D.seen disk.new) log.old log.new }
-    ensures few { length log.new ≤ 256 }
-    ensures memory { SegmentsStay store.old.ram store.new.ram }
 {
     gave.clear();
     let p = work.caller;

@@ -3,18 +3,20 @@
 ghost use Rattle.std.specs.Prelude.{◌≡◌, ◌+◌, ◌<◌, ◌≤◌, true, Some, None, slice_index, IfSome};
 ghost use Rattle.kernel_model.specs.World.{blocks_of};
 ghost use Rattle.kernel_model.specs.declared.SysCall.TheVariants.{Read};
-ghost use Rattle.kernel_model.specs.Policies.{lives, ahead_default};
+ghost use Rattle.kernel_model.specs.Policies.{ahead_default};
 ghost use Rattle.kernel_model.specs.FilePieces.{ahead_by};
 ghost use Rattle.kernel_model.specs.Laws.{IsRightAnswer};
 ghost use Rattle.kernel_model.specs.Pieces.{piece_fits};
 ghost use Rattle.kernel_model.specs.Needs.{read_ask};
 ghost use Rattle.kernel_model.specs.Sound.{IsSoundFile};
+ghost use Rattle.kernel_state.specs.Places.{HasDescriptor};
 ghost use Rattle.kernel_state.specs.Stores.{world_of_store, objects_of, queue_of, policies_of};
-ghost use Rattle.call_pieces.specs.Shared.{AccessReady, ComesAtOnce, NamesFrame, Serves, moment, read_stage, read_of, first_of, second_of, later_of};
+ghost use Rattle.call_needs.specs.Fetching.{NamesFrame, moment};
+ghost use Rattle.call_pieces.specs.Shared.{AccessReady, ComesAtOnce, Serves, read_stage, read_of, first_of, second_of, later_of};
 ghost use Rattle.call_pieces.specs.Matching.{ReadContinues, goes_on};
 
-use crate::fetches::{fetch, fetch_ahead};
-use crate::{Access, Gift, Next};
+use crate::Next;
+use call_needs::{Access, Gift, fetch, fetch_ahead};
 use disk_log::DiskLog;
 use graft_points::Policy;
 use kernel_model::{OpenRow, Refusal, Reply};
@@ -119,8 +121,7 @@ fn reach<B: Policy>(store: &Store<B>, answer: Option<[u32; 4]>, opened: &OpenRow
 
 /// The second piece: the answer, or by default the policy, says what is to be read ahead.
 fn second<B: Policy>(store: &mut Store<B>, r: Access, opened: OpenRow) -> Next
-    requires alive { lives (queue_of store.old) r.p ≡ true }
-    requires descriptor { r.fd < 4 }
+    requires file { HasDescriptor (queue_of store.old) r.p r.fd }
     requires opened { IsSoundFile (world_of_store store.old) opened }
     requires right { IfSome r.answer (λ a. (slice_index a 1 ≤ 8) ×
         (slice_index a 0 + slice_index a 1 ≤ blocks_of (world_of_store store.old) opened.file)) }

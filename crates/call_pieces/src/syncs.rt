@@ -9,7 +9,8 @@ ghost use Rattle.kernel_model.specs.Fetch.{bytes_of, cleaned};
 ghost use Rattle.buffer_cache.specs.Frames.{in_use};
 ghost use Rattle.disk_log.specs.Calls.{Knows, CallsExtend};
 ghost use Rattle.kernel_state.specs.Stores.{world_of_store, objects_of, cache_of, queue_of};
-ghost use Rattle.call_pieces.specs.Shared.{ServesLast, moment, sync_of};
+ghost use Rattle.call_needs.specs.Fetching.{moment};
+ghost use Rattle.call_pieces.specs.Shared.{DiskReady, ServesLast, sync_of};
 
 use crate::Next;
 use disk_log::DiskLog;
@@ -19,16 +20,16 @@ use kernel_state::Store;
 use vino_base::{Disk, Failed};
 
 /// Writes the dirty frames in the order of their numbers; each is clean then. Where a call of the
-/// disk fails, what was written before stays written.
+/// disk fails, what was written before stays written. No byte of memory changes.
 pub(crate) fn sync<B: Policy, D: Disk>(
     store: &mut Store<B>,
     disk: &mut D,
     log: &mut DiskLog,
 ) -> Next
-    requires disk { store.old.size ≡ (D.seen disk.old).size }
-    requires fresh { log.old ≡ [] }
-    ensures { ServesLast (sync_of store.old) (moment store.old (D.seen disk.old) log.old)
+    requires { DiskReady (moment store.old (D.seen disk.old) log.old) }
+    ensures done { ServesLast (sync_of store.old) (moment store.old (D.seen disk.old) log.old)
         (moment store.new (D.seen disk.new) log.new) result }
+    ensures ram { store.new.ram ≡ store.old.ram }
 {
     let mut written = 0;
     for f in 0..store.setup.frames {
@@ -68,7 +69,7 @@ fn write_back<B: Policy, D: Disk>(
     ensures world { world_of_store store.new ≡ world_of_store store.old }
     ensures calls { CallsExtend (D.seen disk.old) (D.seen disk.new) log.old log.new }
     ensures few { length log.new ≤ 256 }
-    ensures memory { store.new.ram ≡ store.old.ram }
+    ensures ram { store.new.ram ≡ store.old.ram }
 {
     let mut bytes = [0; BLOCK_BYTES];
     store.copy_frame(f, &mut bytes);

@@ -1,13 +1,14 @@
 //! A write.
 
 ghost use Rattle.std.specs.Prelude.{◌≡◌, length};
-ghost use Rattle.kernel_model.specs.Needs.{fetch_ask};
 ghost use Rattle.kernel_model.specs.Laws.{IsRightAnswer};
-ghost use Rattle.kernel_state.specs.Stores.{world_of_store, objects_of};
-ghost use Rattle.call_pieces.specs.Shared.{AccessReady, ServesLast, moment, block_written, write_of};
+ghost use Rattle.kernel_state.specs.Stores.{objects_of};
+ghost use Rattle.call_needs.specs.Fetching.{moment};
+ghost use Rattle.call_needs.specs.Needing.{block_meant, fetch_ask_of};
+ghost use Rattle.call_pieces.specs.Shared.{AccessReady, ServesLast, write_of};
 
-use crate::fetches::fetch;
-use crate::{Access, Next};
+use crate::Next;
+use call_needs::{Access, fetch};
 use disk_log::DiskLog;
 use graft_points::Policy;
 use kernel_model::{Refusal, Reply};
@@ -24,8 +25,8 @@ pub fn write<B: Policy, D: Disk>(
 ) -> Next
     requires ready { AccessReady (moment store.old (D.seen disk.old) log.old) r }
     requires len { r.len ≡ length bytes.now }
-    requires right { IsRightAnswer (objects_of store.old) (fetch_ask (world_of_store store.old)
-        (objects_of store.old).things (block_written store.old r.p r.fd r.i r.off r.len)) r.answer }
+    requires right { IsRightAnswer (objects_of store.old) (fetch_ask_of store.old
+        (block_meant store.old r.p r.fd r.i r.off r.len)) r.answer }
     ensures { ServesLast (write_of store.old r bytes.now)
         (moment store.old (D.seen disk.old) log.old)
         (moment store.new (D.seen disk.new) log.new) result }

@@ -9,8 +9,8 @@ use Rattle.kernel_model.specs.Meaning.{Meaning, Stage, Piece, After}
 use Rattle.kernel_model.specs.Beside.{beside}
 use Rattle.kernel_model.specs.ImageMask.{TellsImages}
 use Rattle.kernel_model.specs.Laws.{Laws}
-use Rattle.call_pieces.specs.Masks.{table_of_mask, mask_tells}
-use Rattle.call_pieces.specs.Works.{IsDue, stage_granted}
+use Rattle.call_needs.specs.Masks.{table_of_mask, mask_tells}
+use Rattle.call_needs.specs.Works.{IsDue, stage_granted}
 use Rattle.call_pieces.specs.Matching.{PieceMatchesSome}
 
 -- ---- calls that are granted

@@ -6,7 +6,8 @@ ghost use Rattle.kernel_model.specs.Beside.{beside};
 ghost use Rattle.table_rules.specs.BesideLaws.{laws_of_beside};
 
 use arrayvec::ArrayVec;
-use call_pieces::{Calls, Gift, Needs, Next, Work};
+use call_needs::{Gift, Needs, Work};
+use call_pieces::{Calls, Next};
 use disk_log::DiskLog;
 use graft_points::Policy;
 use kernel_model::{BLOCK_BYTES, BareCall, Point, Refusal, Rules};
@@ -27,7 +28,13 @@ impl<A: Calls, B: Calls> Rules for Beside<A, B> {
 impl<A: Calls, B: Calls> Calls for Beside<A, B> {
     type Meaning = Beside<A, B>;
 
+    ghost use Rattle.call_pieces.specs.EarlyFaults.{one_has_no_early_fault};
+
     ghost owns = { λ c. A.owns c || B.owns c };
+
+    ghost no_early_fault = { λ v images p c. one_has_no_early_fault (A.owns c)
+        (A.Meaning.meaning.early v images p c) (B.Meaning.meaning.early v images p c)
+        (A.no_early_fault v images p c) (B.no_early_fault v images p c) };
 
     fn owns(call: BareCall) -> bool {
         A::owns(call) || B::owns(call)

@@ -1,1 +1,2 @@
+pub mod EarlyFaults
 pub mod Serving

@@ -7,10 +7,10 @@ ghost use Rattle.kernel_model.specs.Bare.{call_with};
 ghost use Rattle.kernel_model.specs.EventPoints as spec;
 ghost use Rattle.kernel_model.specs.Policies.{lives};
 ghost use Rattle.kernel_state.specs.Stores.{world_of_store, objects_of, queue_of};
-ghost use Rattle.call_pieces.specs.Works.{IsDue, begun, stage_of, stage_granted};
+ghost use Rattle.call_needs.specs.Works.{IsDue, begun, stage_of, stage_granted};
 
 use arrayvec::ArrayVec;
-use call_pieces::{Work, refusal_upto};
+use call_needs::{Work, refusal_upto};
 use graft_points::Policy;
 use kernel_model::{BLOCK_BYTES, BareCall, Refusal};
 use kernel_state::Store;

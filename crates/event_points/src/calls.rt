@@ -6,7 +6,8 @@ use crate::begin::{begin, is_event_call};
 use crate::needs::{asks, feed, need};
 use crate::pieces::piece;
 use arrayvec::ArrayVec;
-use call_pieces::{Calls, Gift, Needs, Next, Work};
+use call_needs::{Gift, Needs, Work};
+use call_pieces::{Calls, Next};
 use disk_log::DiskLog;
 use event_rules::EventRules;
 use graft_points::Policy;
@@ -22,7 +23,11 @@ pub struct EventPoints;
 impl Calls for EventPoints {
     type Meaning = EventRules;
 
+    ghost use Rattle.event_points.specs.EarlyFaults.{events_have_no_early_fault};
+
     ghost owns = { is_event_call };
+
+    ghost no_early_fault = { events_have_no_early_fault };
 
     fn owns(call: BareCall) -> bool {
         is_event_call(call)

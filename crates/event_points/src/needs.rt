@@ -6,9 +6,9 @@ ghost use Rattle.kernel_model.specs.declared.Object.TheVariants.{Graft};
 ghost use Rattle.kernel_model.specs.Needs.{exclusive, point_needs};
 ghost use Rattle.kernel_model.specs.EventPoints as spec;
 ghost use Rattle.kernel_state.specs.Stores.{world_of_store, objects_of};
-ghost use Rattle.call_pieces.specs.Works.{IsDue, call_of, stage_of};
+ghost use Rattle.call_needs.specs.Works.{IsDue, call_of, stage_of};
 
-use call_pieces::{Needs, Work};
+use call_needs::{Needs, Work};
 use graft_points::Policy;
 use kernel_model::{BareCall, Object, Point};
 use kernel_state::Store;

@@ -5,12 +5,13 @@ ghost use Rattle.kernel_model.specs.World.{Blocks};
 ghost use Rattle.kernel_model.specs.EventPoints.{event_points, event_piece};
 ghost use Rattle.disk_log.specs.Calls.{Knows};
 ghost use Rattle.kernel_state.specs.Stores.{world_of_store, objects_of, SegmentsStay};
-ghost use Rattle.call_pieces.specs.Works.{IsDue, call_of, stage_of, answer_seen, comes_after};
-ghost use Rattle.call_pieces.specs.Matching.{PieceMatches, ContinuesFrom, is_fault, goes_on};
+ghost use Rattle.call_needs.specs.Works.{IsDue, call_of, stage_of, answer_seen};
+ghost use Rattle.call_pieces.specs.Matching.{comes_after, PieceMatches, ContinuesFrom, is_fault, goes_on};
 
 use crate::handlers::{install, remove};
 use crate::serving::serve;
-use call_pieces::{Gift, Next, Work, bill, fund};
+use call_needs::{Gift, Work};
+use call_pieces::{Next, bill, fund};
 use graft_points::Policy;
 use kernel_model::{BareCall, Refusal};
 use kernel_state::Store;

@@ -14,10 +14,9 @@ use Rattle.kernel_model.specs.Meaning.{Meaning, Stage, stage, Answer, Piece, Aft
 use Rattle.kernel_model.specs.Early.{refused, begins_unless}
 use Rattle.call_pieces.specs.declared.Next.{Next}
 use Rattle.call_pieces.specs.declared.Next.TheVariants.{Ends}
-use Rattle.call_pieces.specs.Works.{comes_after}
+use Rattle.call_pieces.specs.Matching.{comes_after, PieceMatchesSome}
 use Rattle.kernel_model.specs.Pieces.{plain, piece_of}
 use Rattle.kernel_model.specs.Beside.{beside}
-use Rattle.call_pieces.specs.Matching.{PieceMatchesSome}
 use Rattle.high_marks.specs.HighMarks.{is_mark_call, mark, marked, as_plain, told_after, told, high_marks}
 
 -- with the answer, where only that differs

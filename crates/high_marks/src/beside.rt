@@ -9,7 +9,8 @@ ghost use Rattle.high_marks.specs.HighMarks.{mark, marked};
 
 use crate::HighMarks;
 use arrayvec::ArrayVec;
-use call_pieces::{Calls, Gift, Next, Plain, Work};
+use call_needs::{Gift, Work};
+use call_pieces::{Calls, Next, Plain};
 use call_tables::Beside;
 use disk_log::DiskLog;
 use graft_points::Policy;

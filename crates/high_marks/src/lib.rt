@@ -10,7 +10,8 @@ mod marks;
 
 use arrayvec::ArrayVec;
 pub use beside::{MarkedCalls, poke_once};
-use call_pieces::{Calls, Gift, Needs, Next, TOP_POINT, Work, asks, early_upto, need, piece};
+use call_needs::{Gift, Needs, TOP_POINT, Work, asks, early_upto, need};
+use call_pieces::{Calls, Next, piece};
 use disk_log::DiskLog;
 use graft_points::Policy;
 use kernel_model::{BLOCK_BYTES, BareCall, Point, Refusal, Rules};
@@ -32,9 +33,12 @@ impl Rules for HighMarks {
 impl Calls for HighMarks {
     type Meaning = HighMarks;
 
+    ghost use Rattle.call_pieces.specs.EarlyFaults.{plain_has_no_early_fault};
     ghost use Rattle.high_marks.specs.HighMarks.{is_mark_call};
 
     ghost owns = { is_mark_call };
+
+    ghost no_early_fault = { plain_has_no_early_fault 5 };
 
     fn owns(call: BareCall) -> bool {
         matches!(call, BareCall::Poke(_, _) | BareCall::Peek(_))

@@ -4,11 +4,12 @@ ghost use Rattle.std.specs.Prelude.{◌≡◌, ℕ, true, List};
 ghost use Rattle.kernel_model.specs.Bare.{call_with};
 ghost use Rattle.kernel_model.specs.Meaning.{Stage};
 ghost use Rattle.kernel_state.specs.Stores.{world_of_store, objects_of};
-ghost use Rattle.call_pieces.specs.Works.{IsDue, call_of, stage_of, comes_after};
-ghost use Rattle.call_pieces.specs.Matching.{is_fault, goes_on};
+ghost use Rattle.call_needs.specs.Works.{IsDue, call_of, stage_of};
+ghost use Rattle.call_pieces.specs.Matching.{comes_after, is_fault, goes_on};
 ghost use Rattle.high_marks.specs.HighMarks as spec;
 
-use call_pieces::{Next, Work};
+use call_needs::Work;
+use call_pieces::Next;
 use graft_points::Policy;
 use kernel_model::{BareCall, Reply};
 use kernel_state::Store;

@@ -13,8 +13,8 @@ use Rattle.kernel_model.specs.Meaning.{HasWholeBody}
 use Rattle.kernel_model.specs.Laws.{IsRightAnswer}
 use Rattle.kernel_model.specs.StreamPoints.{WRITE_POINT, through, stream_point, stream_write_asks, stream_fits, stream_left}
 use Rattle.stream_rules.specs.Carried.{through_length}
-use Rattle.call_pieces.specs.declared.Work.{Work}
-use Rattle.call_pieces.specs.Works.{call_of, stage_of, answer_seen, registers_seen}
+use Rattle.call_needs.specs.declared.Work.{Work}
+use Rattle.call_needs.specs.Works.{call_of, stage_of, answer_seen, registers_seen}
 use Rattle.stream_points.specs.Streams.{StreamContinues, with_carried}
 
 -- ---- what comes out of a point

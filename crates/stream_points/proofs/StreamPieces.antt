@@ -9,8 +9,8 @@ use Rattle.kernel_model.specs.Meaning.{Stage, Answer, Piece, After, registers_of
 use Rattle.kernel_model.specs.Needs.{file_block}
 use Rattle.kernel_model.specs.FilePieces.{leaves, well, write_piece}
 use Rattle.kernel_model.specs.StreamPoints.{through, stream_read_piece, stream_write_piece, stream_piece, stream_changed}
-use Rattle.call_pieces.specs.declared.Work.{Work}
-use Rattle.call_pieces.specs.Works.{call_of, stage_of, answer_seen, registers_seen}
+use Rattle.call_needs.specs.declared.Work.{Work}
+use Rattle.call_needs.specs.Works.{call_of, stage_of, answer_seen, registers_seen}
 use Rattle.call_pieces.specs.Matching.{PieceMatches}
 
 -- ---- stream reads

@@ -7,9 +7,9 @@ use Rattle.kernel_model.specs.Meaning.{Piece}
 use Rattle.kernel_model.specs.StreamPoints.{stream_fetches, stream_fits, stream_left}
 use Rattle.kernel_state.specs.declared.Store.{Store}
 use Rattle.kernel_state.specs.Stores.{world_of_store, objects_of}
-use Rattle.call_pieces.specs.declared.Work.{Work}
-use Rattle.call_pieces.specs.Shared.{block_written}
-use Rattle.call_pieces.specs.Works.{call_of, stage_of, answer_seen}
+use Rattle.call_needs.specs.declared.Work.{Work}
+use Rattle.call_needs.specs.Needing.{block_meant}
+use Rattle.call_needs.specs.Works.{call_of, stage_of, answer_seen}
 use Rattle.stream_points.specs.declared.streams.Range.{Range}
 
 -- a call after its first piece, which took these bytes into it
@@ -33,7 +33,7 @@ pub record StreamContinues (old new : Work) : Type 0 where
 
 -- the block of the disk of which process p reads a range, or the refusal
 abbrev pub block_read : {B : Type 0} {P : _} → Store B P → (p : ℕ) → Range → Result ℕ Refusal
-block_read s p r = block_written s p r.fd r.i r.off r.len
+block_read s p r = block_meant s p r.fd r.i r.off r.len
 
 -- the definitions' first piece of a stream read of a range
 abbrev pub taken_of : {B : Type 0} {P : _} → Store B P → Work → Range → Option (List ℕ) →

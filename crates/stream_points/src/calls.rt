@@ -6,7 +6,8 @@ use crate::begin::{begin, is_stream_call};
 use crate::needs::{asks, feed, need};
 use crate::pieces::piece;
 use arrayvec::ArrayVec;
-use call_pieces::{Calls, Gift, Needs, Next, Work};
+use call_needs::{Gift, Needs, Work};
+use call_pieces::{Calls, Next};
 use disk_log::DiskLog;
 use graft_points::Policy;
 use kernel_model::{BLOCK_BYTES, BareCall, Point, Refusal};
@@ -22,7 +23,11 @@ pub struct StreamPoints;
 impl Calls for StreamPoints {
     type Meaning = StreamRules;
 
+    ghost use Rattle.stream_points.specs.EarlyFaults.{streams_have_no_early_fault};
+
     ghost owns = { is_stream_call };
+
+    ghost no_early_fault = { streams_have_no_early_fault };
 
     fn owns(call: BareCall) -> bool {
         is_stream_call(call)

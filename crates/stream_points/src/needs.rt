@@ -4,11 +4,11 @@ ghost use Rattle.std.specs.Prelude.{◌≡◌, ◌<◌, ◌≤◌, true, [], Som
 ghost use Rattle.kernel_model.specs.StreamPoints as spec;
 ghost use Rattle.kernel_model.specs.Policies.{lives};
 ghost use Rattle.kernel_state.specs.Stores.{world_of_store, objects_of, queue_of};
-ghost use Rattle.call_pieces.specs.Works.{IsDue, call_of, stage_of};
+ghost use Rattle.call_needs.specs.Works.{IsDue, call_of, stage_of};
 
 use crate::begin::{READ_POINT, WRITE_POINT};
 use crate::streams::Range;
-use call_pieces::{Access, Needs, Work, block_ask};
+use call_needs::{Access, Needs, Work, block_ask};
 use graft_points::Policy;
 use kernel_model::{BareCall, Object, Point};
 use kernel_state::Store;

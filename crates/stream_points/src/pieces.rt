@@ -6,11 +6,13 @@ ghost use Rattle.kernel_model.specs.Laws.{IsRightAnswer};
 ghost use Rattle.kernel_model.specs.StreamPoints.{stream_points, stream_ask, stream_piece};
 ghost use Rattle.disk_log.specs.Calls.{Knows, Made};
 ghost use Rattle.kernel_state.specs.Stores.{world_of_store, objects_of, SegmentsStay};
-ghost use Rattle.call_pieces.specs.Works.{IsDue, call_of, stage_of, answer_seen, comes_after};
-ghost use Rattle.call_pieces.specs.Matching.{PieceMatches, PieceMatchesSome, ContinuesFrom, has_failed, is_fault, goes_on};
+ghost use Rattle.call_needs.specs.Works.{IsDue, call_of, stage_of, answer_seen};
+ghost use Rattle.call_pieces.specs.Matching.{comes_after, PieceMatches, PieceMatchesSome, ContinuesFrom, is_fault, goes_on};
+ghost use Rattle.call_needs.specs.Fetching.{has_failed};
 
 use crate::streams::{Range, change, give_out, take_block};
-use call_pieces::{Access, Gift, Next, Work, piece as plain_piece, write};
+use call_needs::{Access, Gift, Work};
+use call_pieces::{Next, piece as plain_piece, write};
 use disk_log::DiskLog;
 use graft_points::Policy;
 use kernel_model::{BareCall, Reply};

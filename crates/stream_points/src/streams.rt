@@ -9,13 +9,16 @@ ghost use Rattle.kernel_model.specs.Policies.{lives};
 ghost use Rattle.kernel_model.specs.StreamPoints.{through, stream_changed, stream_write_asks};
 ghost use Rattle.disk_log.specs.Calls.{Knows};
 ghost use Rattle.kernel_state.specs.Stores.{world_of_store, objects_of, queue_of};
-ghost use Rattle.call_pieces.specs.Shared.{Serves, moment, block_written};
-ghost use Rattle.call_pieces.specs.Works.{call_of, stage_of, answer_seen, comes_after};
-ghost use Rattle.call_pieces.specs.Matching.{PieceMatches, is_fault, goes_on};
+ghost use Rattle.call_pieces.specs.Shared.{Serves};
+ghost use Rattle.call_needs.specs.Needing.{block_meant};
+ghost use Rattle.call_needs.specs.Fetching.{moment};
+ghost use Rattle.call_needs.specs.Works.{call_of, stage_of, answer_seen};
+ghost use Rattle.call_pieces.specs.Matching.{comes_after, PieceMatches, is_fault, goes_on};
 ghost use Rattle.stream_points.specs.Streams.{StreamContinues, block_read, taken_of, with_carried};
 
 use arrayvec::ArrayVec;
-use call_pieces::{Gift, Next, Work, copy_body, copy_bytes_of, fetch};
+use call_needs::{Gift, Work, copy_body, copy_bytes_of, fetch};
+use call_pieces::Next;
 use disk_log::DiskLog;
 use graft_points::Policy;
 use kernel_model::{BLOCK_BYTES, Refusal};
@@ -105,10 +108,10 @@ pub(crate) fn change<B: Policy>(
     requires descriptor { fd < 4 }
     requires inside { off + length work.old.bytes.items ≤ 512 }
     requires right { IsRightAnswer (objects_of store.now) (stream_write_asks work.old.caller fd i off
-        (length work.old.bytes.items) (block_written store.now work.old.caller fd i off
+        (length work.old.bytes.items) (block_meant store.now work.old.caller fd i off
         (length work.old.bytes.items))) answer }
     ensures does { (blocks : Blocks) (known : Option (List (List ℕ))) → Knows known blocks →
-        PieceMatches (stream_changed (block_written store.now work.old.caller fd i off
+        PieceMatches (stream_changed (block_meant store.now work.old.caller fd i off
         (length work.old.bytes.items)) (call_of work.old) (objects_of store.now) blocks
         (through (answer_seen store.now.ram work.old.caller answer) work.old.bytes.items))
         (objects_of store.now) known None (comes_after result (stage_of work.new)) 0 }

@@ -8,8 +8,7 @@ use Rattle.kernel_model.specs.FilePieces.{open_piece, free_descriptor, refuses}
 use Rattle.disk_log.specs.Calls.{Knows}
 use Rattle.call_pieces.specs.declared.Next.{Next}
 use Rattle.kernel_state.specs.Stores.{objects_of}
-use Rattle.call_pieces.specs.Works.{comes_after}
-use Rattle.call_pieces.specs.Matching.{PieceMatches}
+use Rattle.call_pieces.specs.Matching.{PieceMatches, comes_after}
 use Rattle.call_pieces.proofs.one_piece.open.Goals as goal
 
 -- a piece that is refused, and leaves all as it was

@@ -6,7 +6,8 @@ use Rattle.kernel_model.specs.World.{World}
 use Rattle.kernel_model.specs.Needs.{file_block}
 use Rattle.kernel_model.specs.Sound.{IsSoundFile}
 use Rattle.kernel_state.specs.Stores.{world_of_store, objects_of, cache_of}
-use Rattle.call_pieces.specs.Shared.{fetch_of, first_of, read_stage}
+use Rattle.call_needs.specs.Fetching.{fetch_of}
+use Rattle.call_pieces.specs.Shared.{first_of, read_stage}
 use Rattle.call_pieces.proofs.ReadLaws.{first_block, first_came, file_here, goes_first}
 use Rattle.call_pieces.proofs.ServesLaws.{serves_refused}
 use Rattle.call_pieces.proofs.WriteLaws.{fetch_failed}

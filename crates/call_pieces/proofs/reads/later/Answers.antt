@@ -2,7 +2,8 @@ use Rattle.std.proofs.Common.{rules, ◌++◌, Some, length, refl, ◌-◌}
 use Rattle.kernel_model.specs.Needs.{ahead_block}
 use Rattle.kernel_model.specs.FilePieces.{read_third}
 use Rattle.kernel_state.specs.Stores.{world_of_store, objects_of, cache_of}
-use Rattle.call_pieces.specs.Shared.{fetch_ahead_of, read_stage}
+use Rattle.call_needs.specs.Fetching.{fetch_ahead_of}
+use Rattle.call_pieces.specs.Shared.{read_stage}
 use Rattle.call_pieces.proofs.ReadLaws.{file_here, goes_later, third_came, third_block, none_ahead, some_ahead}
 use Rattle.call_pieces.proofs.WriteLaws.{fetch_failed}
 use Rattle.call_pieces.proofs.reads.later.Goals as goal

@@ -3,7 +3,8 @@ use Rattle.kernel_model.specs.declared.OpenRow.{OpenRow}
 use Rattle.kernel_model.specs.declared.Refusal.TheVariants.{BadFd}
 use Rattle.kernel_model.specs.FilePieces.{read_piece}
 use Rattle.kernel_state.specs.Stores.{world_of_store, objects_of}
-use Rattle.call_pieces.specs.Shared.{Serves, moment, read_stage, read_of, first_of, second_of, later_of}
+use Rattle.call_needs.specs.Fetching.{moment}
+use Rattle.call_pieces.specs.Shared.{Serves, read_stage, read_of, first_of, second_of, later_of}
 use Rattle.call_pieces.proofs.ReadLaws.{read_zero, read_one, read_later, few_kinds}
 use Rattle.call_pieces.proofs.ServesLaws.{serves_as, serves_at_once, serves_refused}
 use Rattle.call_pieces.proofs.reads.read.Goals as goal

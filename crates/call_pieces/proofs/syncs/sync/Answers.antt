@@ -24,7 +24,7 @@ loop-f-init g c =
       queue = refl;
       world = refl;
       disk = c.requires.disk;
-      memory = refl;
+      ram = refl;
     }
 
 pub loop-f-preserved-in_default : goal.loop-f-preserved-in_default
@@ -37,7 +37,7 @@ loop-f-preserved-in_default g c =
       queue = l.queue;
       world = l.world;
       disk = l.disk;
-      memory = l.memory;
+      ram = l.ram;
     }
 
 pub loop-f-preserved : goal.loop-f-preserved
@@ -57,7 +57,7 @@ loop-f-preserved g c =
       queue = w.queue ∙ l.queue;
       world = w.world ∙ l.world;
       disk = ap (λ (v : World). v.disk_size) w.world ∙ l.disk ∙ sym w.calls.size;
-      memory = w.memory ∙ l.memory;
+      ram = w.ram ∙ l.ram;
     }
 
 pub returns-then-is_err : goal.returns-then-is_err
@@ -73,31 +73,34 @@ returns-then-is_err g c =
     let failed = is_err c.write_back.result in
     let kept = of_err c.write_back.result (after ≡ mid) (sym c.if-is_err.ensures.value) w.kept in
     record {
-      does = λ t blocks rest tells.
-          ends_failed n c.loop-f.f c.in-Some.b c.loop-f.written s mid after d.known e.known
-          (g.D.Disk.seen c.write_back.new.disk).known c.loop-f.log c.write_back.new.log failed
-          c.loop-f-test.true l.so_far (sym c.in-Some.ensures.value) w.noted
-          (sym c.if-is_err.ensures.value) kept
-          (λ bs known. subst (λ t. Knows (g.D.Disk.seen c.write_back.new.disk).known
-          (cond t (at c.in-Some.b (bytes_of (cache_of c.loop-f.store) c.loop-f.f) bs) bs))
-          c.if-is_err.ensures.negation (w.known bs known)) blocks rest tells;
-      some = λ t. some_of_all (world_of_store c.args.store.now) (sync_of c.args.store.now) after None _
-          c.write_back.new.log
-          (left_failed n c.loop-f.f c.in-Some.b c.loop-f.written s mid after d.known e.known
-          c.loop-f.log c.write_back.new.log failed c.loop-f-test.true l.so_far
-          (sym c.in-Some.ensures.value) w.noted (sym c.if-is_err.ensures.value) kept);
-      ends = refl;
-      keeps = record {
-        failed = λ fault.
-            last_failed c.write_back.new.log c.loop-f.log failed w.noted
-            (sym c.if-is_err.ensures.value);
-        few = search rules;
-        queue = w.queue ∙ l.queue;
-        world = w.world ∙ l.world;
-        memory = λ a beyond. ap (λ (ram : List ℕ). slice_index ram a) (w.memory ∙ l.memory);
+      done = record {
+        does = λ t blocks rest tells.
+            ends_failed n c.loop-f.f c.in-Some.b c.loop-f.written s mid after d.known e.known
+            (g.D.Disk.seen c.write_back.new.disk).known c.loop-f.log c.write_back.new.log failed
+            c.loop-f-test.true l.so_far (sym c.in-Some.ensures.value) w.noted
+            (sym c.if-is_err.ensures.value) kept
+            (λ bs known. subst (λ t. Knows (g.D.Disk.seen c.write_back.new.disk).known
+            (cond t (at c.in-Some.b (bytes_of (cache_of c.loop-f.store) c.loop-f.f) bs) bs))
+            c.if-is_err.ensures.negation (w.known bs known)) blocks rest tells;
+        some = λ t. some_of_all (world_of_store c.args.store.now) (sync_of c.args.store.now) after None _
+            c.write_back.new.log
+            (left_failed n c.loop-f.f c.in-Some.b c.loop-f.written s mid after d.known e.known
+            c.loop-f.log c.write_back.new.log failed c.loop-f-test.true l.so_far
+            (sym c.in-Some.ensures.value) w.noted (sym c.if-is_err.ensures.value) kept);
+        ends = refl;
+        keeps = record {
+          failed = λ fault.
+              last_failed c.write_back.new.log c.loop-f.log failed w.noted
+              (sym c.if-is_err.ensures.value);
+          few = search rules;
+          queue_is = w.queue ∙ l.queue;
+          world = w.world ∙ l.world;
+          memory = λ a beyond. ap (λ (ram : List ℕ). slice_index ram a) (w.ram ∙ l.ram);
+        };
+        calls = extends_then d e (g.D.Disk.seen c.write_back.new.disk) c.args.log.now c.loop-f.log
+            c.write_back.new.log l.calls w.calls;
       };
-      calls = extends_then d e (g.D.Disk.seen c.write_back.new.disk) c.args.log.now c.loop-f.log
-          c.write_back.new.log l.calls w.calls;
+      ram = w.ram ∙ l.ram;
     }
 
 pub returns : goal.returns
@@ -109,20 +112,23 @@ returns g c =
     let e = g.D.Disk.seen c.loop-f.disk in
     let l = c.loop-f.invariant in
     record {
-      does = λ t blocks rest tells.
-          ends_well n c.loop-f.f c.loop-f.written s after d.known e.known c.loop-f.log (omega arith)
-          l.so_far blocks rest tells;
-      some = λ t. some_of_all (world_of_store c.args.store.now) (sync_of c.args.store.now) after None _
-          c.loop-f.log
-          (left_well n c.loop-f.f c.loop-f.written s after d.known e.known c.loop-f.log
-          (omega arith) l.so_far);
-      ends = refl;
-      keeps = record {
-        failed = λ fault. absurd (cc);
-        few = search rules;
-        queue = l.queue;
-        world = l.world;
-        memory = λ a beyond. ap (λ (ram : List ℕ). slice_index ram a) l.memory;
+      done = record {
+        does = λ t blocks rest tells.
+            ends_well n c.loop-f.f c.loop-f.written s after d.known e.known c.loop-f.log (omega arith)
+            l.so_far blocks rest tells;
+        some = λ t. some_of_all (world_of_store c.args.store.now) (sync_of c.args.store.now) after None _
+            c.loop-f.log
+            (left_well n c.loop-f.f c.loop-f.written s after d.known e.known c.loop-f.log
+            (omega arith) l.so_far);
+        ends = refl;
+        keeps = record {
+          failed = λ fault. absurd (cc);
+          few = search rules;
+          queue_is = l.queue;
+          world = l.world;
+          memory = λ a beyond. ap (λ (ram : List ℕ). slice_index ram a) l.ram;
+        };
+        calls = l.calls;
       };
-      calls = l.calls;
+      ram = l.ram;
     }

@@ -11,5 +11,5 @@ invariant-loop-f g l = record {
   queue : queue_of l.store ≡ queue_of l.initial.store;
   world : world_of_store l.store ≡ world_of_store l.initial.store;
   disk : l.store.size ≡ (g.D.Disk.seen l.disk).size;
-  memory : l.store.ram ≡ l.initial.store.ram;
+  ram : l.store.ram ≡ l.initial.store.ram;
 }

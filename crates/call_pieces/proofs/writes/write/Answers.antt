@@ -2,7 +2,8 @@ use Rattle.std.proofs.Common.{rules, ℕ, ◌++◌, length, Result, refl, sym, a
 use Rattle.kernel_model.specs.declared.Refusal.{Refusal}
 use Rattle.kernel_model.specs.FilePieces.{write_fetched, write_piece}
 use Rattle.kernel_state.specs.Stores.{world_of_store, objects_of, cache_of}
-use Rattle.call_pieces.specs.Shared.{fetch_of, write_of}
+use Rattle.call_needs.specs.Fetching.{fetch_of}
+use Rattle.call_pieces.specs.Shared.{write_of}
 use Rattle.call_pieces.proofs.ServesLaws.{last_refused}
 use Rattle.call_pieces.proofs.WriteLaws.{write_came, write_at, fetch_failed}
 use Rattle.call_pieces.proofs.writes.write.Goals as goal

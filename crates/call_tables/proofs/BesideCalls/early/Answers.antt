@@ -1,7 +1,7 @@
 use Rattle.std.proofs.Common.{true, false, sym, ◌∙◌}
 use Rattle.kernel_model.specs.Bare.{call_with}
 use Rattle.kernel_state.specs.Stores.{world_of_store, objects_of}
-use Rattle.call_pieces.specs.Works.{stage_of}
+use Rattle.call_needs.specs.Works.{stage_of}
 use Rattle.call_tables.proofs.Sides.{due, few}
 use Rattle.call_tables.proofs.BesideCalls.early.Goals as goal
 

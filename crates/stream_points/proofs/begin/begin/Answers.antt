@@ -2,8 +2,8 @@ use Rattle.std.proofs.Common.{List, ℕ, sym, ap, subst, ◌∙◌}
 use Rattle.kernel_model.specs.Bare.{call_with}
 use Rattle.kernel_model.specs.StreamPoints.{stream_points, stream_refusal}
 use Rattle.kernel_state.specs.Stores.{world_of_store, objects_of}
-use Rattle.call_pieces.specs.declared.Work.{Work}
-use Rattle.call_pieces.specs.Works.{IsDue, stage_of}
+use Rattle.call_needs.specs.declared.Work.{Work}
+use Rattle.call_needs.specs.Works.{IsDue, stage_of}
 use Rattle.stream_points.proofs.Granting.{may_come}
 use Rattle.stream_points.proofs.begin.begin.Goals as goal
 

@@ -6,8 +6,8 @@ use Rattle.kernel_model.specs.FilePieces.{write_piece}
 use Rattle.kernel_model.specs.StreamPoints.{through}
 use Rattle.disk_log.specs.Joined.{made_alone, extends_none}
 use Rattle.kernel_state.specs.Stores.{world_of_store, objects_of}
-use Rattle.call_pieces.specs.Works.{answer_seen, call_of, comes_after, stage_of}
-use Rattle.call_pieces.specs.Matching.{PieceMatches}
+use Rattle.call_needs.specs.Works.{answer_seen, call_of, stage_of}
+use Rattle.call_pieces.specs.Matching.{comes_after, PieceMatches}
 use Rattle.call_pieces.proofs.LeftLaws.{some_as, some_quick}
 use Rattle.stream_points.proofs.GraftCalls.{graft_call, no_more, plain_due, same_ask, same_piece}
 use Rattle.stream_points.proofs.StreamPieces.{came_as, second_read, first_write, second_write}
@@ -106,7 +106,7 @@ returns-in_default-clause-does g c =
     came_as _ _ _ _ _ _ _ (length c.piece.new.log)
     (same_piece (call_of w) (stage_of w) (world_of_store s) (objects_of s) blocks w.caller s.ram
     c.args.answer (c.piece.new.log ++ rest) named) refl
-    (c.piece.ensures.does blocks rest tells)
+    (c.piece.ensures.done.does blocks rest tells)
 
 pub returns-in_default-clause-some : goal.returns-in_default-clause-some
 returns-in_default-clause-some g c =
@@ -118,7 +118,7 @@ returns-in_default-clause-some g c =
     (λ blocks io.
     same_piece (call_of w) (stage_of w) (world_of_store s) (objects_of s) blocks w.caller s.ram
     c.args.answer io named)
-    c.piece.ensures.some
+    c.piece.ensures.done.some
 
 pub returns-in_default-clause-gone : goal.returns-in_default-clause-gone
 returns-in_default-clause-gone g c =

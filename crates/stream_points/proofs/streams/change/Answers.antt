@@ -1,8 +1,8 @@
 use Rattle.std.proofs.Common.{◌≡◌, ℕ, List, length, ap, ◌∙◌, arith}
 use Rattle.kernel_model.specs.StreamPoints.{through}
 use Rattle.kernel_state.specs.Stores.{objects_of}
-use Rattle.call_pieces.specs.Shared.{block_written}
-use Rattle.call_pieces.specs.Works.{answer_seen}
+use Rattle.call_needs.specs.Needing.{block_meant}
+use Rattle.call_needs.specs.Works.{answer_seen}
 use Rattle.stream_points.proofs.Continuing.{out_length, write_continues}
 use Rattle.stream_points.proofs.streams.change.Goals as goal
 
@@ -16,11 +16,11 @@ returns-clause-gone g c =
     let out = through (answer_seen s.ram w.caller c.args.answer) given in
     let same : length out ≡ length given =
     out_length (objects_of s)
-    (block_written s w.caller c.args.fd c.args.i c.args.off (length given)) _ w.caller c.args.i
+    (block_meant s w.caller c.args.fd c.args.i c.args.off (length given)) _ w.caller c.args.i
     c.args.off c.args.fd given s.ram c.args.answer (omega (arith, within))
     (c.in_default.ensures.value
     ∙ ap (λ (xs : List ℕ).
-    block_written s w.caller c.args.fd c.args.i c.args.off (length xs)) c.as_slice.ensures.value)
+    block_meant s w.caller c.args.fd c.args.i c.args.off (length xs)) c.as_slice.ensures.value)
     c.requires.right in
     write_continues w _ c.args.fd c.args.i c.args.off given out c.requires.call c.requires.first
     (omega (arith, within, same)) c.carry_out.ensures

@@ -2,7 +2,7 @@ use Rattle.std.proofs.Common.{rules, ℕ, Result, sym, ap}
 use Rattle.kernel_model.specs.declared.Refusal.{Refusal}
 use Rattle.kernel_model.specs.StreamPoints.{stream_fetches}
 use Rattle.kernel_state.specs.Stores.{world_of_store, objects_of}
-use Rattle.call_pieces.specs.Works.{call_of, answer_seen, stage_of}
+use Rattle.call_needs.specs.Works.{call_of, answer_seen, stage_of}
 use Rattle.call_pieces.proofs.ServesLaws.{serves_refused}
 use Rattle.stream_points.specs.Streams.{taken_of}
 use Rattle.stream_points.proofs.streams.take_block.Goals as goal

@@ -1,0 +1,4 @@
+pub mod Works
+pub mod Masks
+pub mod Needing
+pub mod Fetching

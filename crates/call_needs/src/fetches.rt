@@ -1,0 +1,173 @@
+//! How a block comes into the cache.
+
+ghost use Rattle.std.specs.Prelude.{◌≡◌, true, false, [], ◌∷◌, None, ⊤};
+ghost use Rattle.kernel_model.specs.Needs.{frame_of_block};
+ghost use Rattle.kernel_model.specs.Fetch.{chosen_by};
+ghost use Rattle.buffer_cache.specs.Frames.{in_use};
+ghost use Rattle.kernel_state.specs.Stores.{cache_of};
+ghost use Rattle.call_needs.specs.Fetching.{FetchReady, FetchDone, PlaceDone, NamesFrame, moment, fetch_of, fetch_ahead_of, load_of, place_of, evict_of};
+
+use disk_log::DiskLog;
+use graft_points::Policy;
+use kernel_model::BLOCK_BYTES;
+use kernel_state::Store;
+use vino_base::{Disk, Failed};
+
+/// Block b for process p: the frame that holds it becomes the newest, or the block is read into a
+/// frame. An answer names the frame in use that is to be evicted where none is free.
+pub fn fetch<B: Policy, D: Disk>(
+    store: &mut Store<B>,
+    disk: &mut D,
+    log: &mut DiskLog,
+    p: u8,
+    b: u32,
+    answer: Option<[u32; 4]>,
+) -> Result<u8, Failed>
+    requires { FetchReady (moment store.old (D.seen disk.old) log.old) p b answer [] }
+    ensures { FetchDone (fetch_of store.old p b answer) (moment store.old (D.seen disk.old) log.old)
+        (moment store.new (D.seen disk.new) log.new) result }
+{
+    match store.find(b) {
+        Some(f) => {
+            store.touch(f);
+            Ok(f)
+        }
+        None => load(store, disk, log, p, b, answer),
+    }
+}
+
+/// Block b, ahead of a read of process p: where a frame holds it already, nothing changes.
+pub fn fetch_ahead<B: Policy, D: Disk>(
+    store: &mut Store<B>,
+    disk: &mut D,
+    log: &mut DiskLog,
+    p: u8,
+    b: u32,
+    answer: Option<[u32; 4]>,
+) -> Result<u8, Failed>
+    requires { FetchReady (moment store.old (D.seen disk.old) log.old) p b answer [] }
+    ensures { FetchDone (fetch_ahead_of store.old p b answer)
+        (moment store.old (D.seen disk.old) log.old)
+        (moment store.new (D.seen disk.new) log.new) result }
+{
+    match store.find(b) {
+        Some(f) => Ok(f),
+        None => load(store, disk, log, p, b, answer),
+    }
+}
+
+/// Reads block b, which no frame holds, into a frame.
+fn load<B: Policy, D: Disk>(
+    store: &mut Store<B>,
+    disk: &mut D,
+    log: &mut DiskLog,
+    p: u8,
+    b: u32,
+    answer: Option<[u32; 4]>,
+) -> Result<u8, Failed>
+    requires ready { FetchReady (moment store.old (D.seen disk.old) log.old) p b answer [] }
+    requires missing { frame_of_block (cache_of store.old) b ≡ None }
+    ensures { FetchDone (load_of store.old p b answer) (moment store.old (D.seen disk.old) log.old)
+        (moment store.new (D.seen disk.new) log.new) result }
+{
+    let mut bytes = [0; BLOCK_BYTES];
+    match log.read(disk, b, &mut bytes) {
+        Ok(()) => place(store, disk, log, Wanted { p, b, answer }, &bytes),
+        Err(failed) => Err(failed),
+    }
+}
+
+/// A block for a process, with an answer as for `fetch`.
+#[derive(Clone, Copy)]
+struct Wanted {
+    p: u8,
+    b: u32,
+    answer: Option<[u32; 4]>,
+}
+
+/// Puts a block that no frame holds, with these bytes, into the lowest free frame, or else into the
+/// one that the answer chooses, or by default into the candidate.
+fn place<B: Policy, D: Disk>(
+    store: &mut Store<B>,
+    disk: &mut D,
+    log: &mut DiskLog,
+    w: Wanted,
+    bytes: &[u8; 512],
+) -> Result<u8, Failed>
+    requires ready { FetchReady (moment store.old (D.seen disk.old) log.old) w.p w.b w.answer
+        (false ∷ []) }
+    requires missing { frame_of_block (cache_of store.old) w.b ≡ None }
+    ensures { PlaceDone (place_of store.old w.p w.b w.answer) (λ blocks. blocks w.b ≡ bytes.now)
+        (moment store.old (D.seen disk.old) log.old)
+        (moment store.new (D.seen disk.new) log.new) result }
+{
+    if let Some(f) = store.free() {
+        store.fill(f, w.p, w.b, bytes);
+        return Ok(f);
+    }
+    match store.candidate() {
+        Some(candidate) => {
+            let frame = chosen(store, w.answer, candidate);
+            evict(store, disk, log, w, Victim { frame, candidate }, bytes)
+        }
+        None => unreachable!(),
+    }
+}
+
+/// The frame that an answer chooses, which is in use, or else the candidate.
+fn chosen<B: Policy>(store: &Store<B>, answer: Option<[u32; 4]>, candidate: u8) -> u8
+    requires right { NamesFrame store.now answer }
+    requires candidate { in_use candidate store.now.cache ≡ true }
+    ensures value { result ≡ chosen_by answer candidate }
+    ensures in_cache { in_use result store.now.cache ≡ true }
+{
+    match answer {
+        Some(a) => store.frame_number(a[0]),
+        None => candidate,
+    }
+}
+
+/// The frame that is evicted, and the one that the policy would evict.
+#[derive(Clone, Copy)]
+struct Victim {
+    frame: u8,
+    candidate: u8,
+}
+
+/// Puts a block that no frame holds, with these bytes, into a frame that is in use: what that held
+/// is written first, if it is dirty.
+fn evict<B: Policy, D: Disk>(
+    store: &mut Store<B>,
+    disk: &mut D,
+    log: &mut DiskLog,
+    w: Wanted,
+    v: Victim,
+    bytes: &[u8; 512],
+) -> Result<u8, Failed>
+    requires ready { FetchReady (moment store.old (D.seen disk.old) log.old) w.p w.b w.answer
+        (false ∷ []) }
+    requires missing { frame_of_block (cache_of store.old) w.b ≡ None }
+    requires frame { in_use v.frame store.old.cache ≡ true }
+    requires candidate { in_use v.candidate store.old.cache ≡ true }
+    ensures { PlaceDone (evict_of store.old w.p w.b v.frame v.candidate bytes.now) (λ blocks. ⊤)
+        (moment store.old (D.seen disk.old) log.old)
+        (moment store.new (D.seen disk.new) log.new) result }
+{
+    match store.dirty_block(v.frame) {
+        Some(old) => {
+            let mut evicted = [0; BLOCK_BYTES];
+            store.copy_frame(v.frame, &mut evicted);
+            match log.write(disk, old, &evicted) {
+                Ok(()) => {
+                    store.replace(v.frame, v.candidate, w.p, w.b, bytes);
+                    Ok(v.frame)
+                }
+                Err(failed) => Err(failed),
+            }
+        }
+        None => {
+            store.replace(v.frame, v.candidate, w.p, w.b, bytes);
+            Ok(v.frame)
+        }
+    }
+}

@@ -1,0 +1,105 @@
+//! The bytes that a piece gives.
+
+ghost use Rattle.std.specs.Prelude.{◌≡◌, ◌≤◌, ◌<◌, ◌+◌, ◌++◌, true, Some, None, drop, length, slice_range, IfSome, IfNone};
+ghost use Rattle.kernel_model.specs.Fetch.{bytes_of};
+ghost use Rattle.buffer_cache.specs.Frames.{in_use};
+ghost use Rattle.kernel_state.specs.Stores.{body_at, cache_of};
+
+use crate::bodies::{body_len, body_place};
+use graft_points::Policy;
+use kernel_model::BLOCK_BYTES;
+use kernel_state::Store;
+use std::marker::Model;
+
+/// The bytes that a piece gave, if it gave some: a part of a block. Contracts see their list, or
+/// none.
+#[derive(Drop)]
+pub struct Gift {
+    given: bool,
+    block: [u8; BLOCK_BYTES],
+    start: usize,
+    end: usize,
+}
+
+impl Model for Gift {
+    ghost use Rattle.std.specs.Prelude.{ℕ, ◌≤◌, List, Option, Some, None, cond, slice_range};
+
+    ghost Value = { Option (List ℕ) };
+
+    ghost view = { λ g. cond g.given (Some (slice_range g.block g.start g.end)) None };
+
+    ghost invariant = { λ g. (g.start ≤ g.end) × (g.end ≤ 512) };
+}
+
+impl Gift {
+    /// No bytes.
+    pub fn new() -> Gift
+        ensures { result ≡ None }
+    {
+        Gift {
+            given: false,
+            block: [0; BLOCK_BYTES],
+            start: 0,
+            end: 0,
+        }
+    }
+
+    /// Forgets what was given. Takes a store of one byte.
+    pub fn clear(&mut self)
+        ensures { self.new ≡ None }
+    {
+        self.given = false;
+    }
+
+    /// The bytes, if some were given.
+    pub fn bytes(&self) -> Option<&[u8]>
+        ensures some { IfSome result (λ b. self.now ≡ Some b.now) }
+        ensures none { IfNone result (self.now ≡ None) }
+        ensures few { IfSome result (λ b. length b.now ≤ 512) }
+    {
+        if self.given {
+            Some(&self.block[self.start..self.end])
+        } else {
+            None
+        }
+    }
+
+    /// Gives these bytes.
+    pub fn give_bytes(&mut self, bytes: &[u8])
+        requires { length bytes.now ≤ 512 }
+        ensures { self.new ≡ Some bytes.now }
+    {
+        put_first(&mut self.block, bytes);
+        self.given = true;
+        self.start = 0;
+        self.end = bytes.len();
+    }
+
+    /// Gives the bytes that an answer of process p gives.
+    pub fn give_body<B: Policy>(&mut self, store: &Store<B>, p: u8, answer: [u32; 4])
+        requires process { p < 16 }
+        ensures { self.new ≡ Some (body_at store.now.ram p answer) }
+    {
+        self.give_bytes(store.ram.bytes(body_place(p), body_len(answer)));
+    }
+
+    /// Gives bytes off to off + len of frame f, which is in use.
+    pub fn give<B: Policy>(&mut self, store: &Store<B>, f: u8, off: u32, len: u32)
+        requires in_cache { in_use f store.now.cache ≡ true }
+        requires inside { off + len ≤ 512 }
+        ensures { self.new ≡ Some (slice_range (bytes_of (cache_of store.now) f) off (off + len)) }
+    {
+        store.copy_frame(f, &mut self.block);
+        self.given = true;
+        self.start = off as usize;
+        self.end = (off + len) as usize;
+    }
+}
+
+/// Puts bytes in place of as many from the first on.
+fn put_first(block: &mut [u8], bytes: &[u8])
+    requires { length bytes.now ≤ length block.old }
+    ensures { block.new ≡ bytes.now ++ drop (length bytes.now) block.old }
+{
+    block[..bytes.len()].copy_from_slice(bytes);
+}
