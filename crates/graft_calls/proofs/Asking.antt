@@ -17,12 +17,12 @@ use Rattle.kernel_model.specs.Locks.{LockTable, touch_all, with_touch, touch, un
 use Rattle.kernel_model.specs.Levels.{Level, with_touched, touch_outermost, goes_on, new_level, drop_innermost}
 use Rattle.kernel_model.specs.GraftStep.{ask_refusal, is_vain_ask, is_running, after_ask, ask_answered}
 use Rattle.undo_calls.specs.UndoLevels.{Logged, innermost}
-use Rattle.graft_calls.specs.declared.GraftLevel.{GraftLevel}
-use Rattle.graft_calls.specs.Chains.{put_back, level_in, levels_in, outer, is_running_in, came}
-use Rattle.graft_calls.specs.Calls.{needs_touched}
-use Rattle.graft_calls.proofs.Holding.{touched_here, touched_apart}
-use Rattle.graft_calls.proofs.Needing.{needs_here, needs_apart}
-use Rattle.graft_calls.proofs.Views.{level_count, levels_alike, glued}
+use Rattle.graft_levels.specs.declared.GraftLevel.{GraftLevel}
+use Rattle.graft_levels.specs.Chains.{put_back, level_in, levels_in, outer, is_running_in, came}
+use Rattle.graft_levels.specs.Calls.{needs_touched}
+use Rattle.graft_levels.proofs.Holding.{touched_here, touched_apart}
+use Rattle.graft_levels.proofs.Needing.{needs_here, needs_apart}
+use Rattle.graft_levels.proofs.Views.{level_count, levels_alike, glued}
 
 -- ---- refusals
 

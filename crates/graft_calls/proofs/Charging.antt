@@ -10,7 +10,7 @@ use Rattle.kernel_model.specs.World.{World}
 use Rattle.kernel_model.specs.Charges.{charge, funds}
 use Rattle.kernel_model.specs.Levels.{Level, drop_innermost, goes_on}
 use Rattle.kernel_model.specs.GraftStep.{after_result, lock_paid, read_done, after_change, after_access, is_record_spent}
-use Rattle.graft_calls.specs.Chains.{came}
+use Rattle.graft_levels.specs.Chains.{came}
 
 -- ---- locks
 

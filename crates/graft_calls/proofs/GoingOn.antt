@@ -15,10 +15,10 @@ use Rattle.kernel_model.specs.Runs.{on_segment}
 use Rattle.graft_machine.specs.Cpu.{machine_of}
 use Rattle.graft_calls.proofs.Recording.{record_more, record_outer}
 use Rattle.undo_calls.specs.UndoLevels.{Logged, bare, innermost, recorded}
-use Rattle.graft_calls.specs.declared.GraftLevel.{GraftLevel}
-use Rattle.graft_calls.specs.Chains.{put_back, level_in, levels_in, outer}
-use Rattle.graft_calls.proofs.Views.{levels_alike, glued}
-use Rattle.graft_calls.proofs.Holding.{touched_here, touched_apart}
+use Rattle.graft_levels.specs.declared.GraftLevel.{GraftLevel}
+use Rattle.graft_levels.specs.Chains.{put_back, level_in, levels_in, outer}
+use Rattle.graft_levels.proofs.Views.{levels_alike, glued}
+use Rattle.graft_levels.proofs.Holding.{touched_here, touched_apart}
 
 -- a level that touched an object, and the levels outside it
 pub touched_levels : (p n : ℕ) (o : Object) (mode : Mode) (ram : List ℕ) (t : LockTable) (g : GraftLevel) (gs : List GraftLevel) (is : List Logged) (log : List (List Logged)) (w : Things) (m : Machine) →

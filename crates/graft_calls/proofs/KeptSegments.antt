@@ -17,11 +17,11 @@ use Rattle.kernel_model.specs.World.{World}
 use Rattle.kernel_model.specs.declared.Micro.{Micro}
 use Rattle.segments.specs.Tables.{Table}
 use Rattle.kernel_state.specs.Sound.{kept_by}
-use Rattle.graft_calls.proofs.Beginning.{kept_within}
+use Rattle.graft_levels.proofs.Beginning.{kept_within}
 use Rattle.undo_calls.specs.UndoLevels.{Logged, found_of, innermost, recorded, segment_logged}
 use Rattle.kernel_state.specs.Accesses.{CanBeUndone}
-use Rattle.graft_calls.specs.declared.GraftLevel.{GraftLevel}
-use Rattle.graft_calls.specs.Chains.{put_back, level_in, levels_in, outer, came, kept_bytes, kept_on}
+use Rattle.graft_levels.specs.declared.GraftLevel.{GraftLevel}
+use Rattle.graft_levels.specs.Chains.{put_back, level_in, levels_in, outer, came, kept_bytes, kept_on}
 use Rattle.graft_calls.proofs.Recording.{record_more, record_outer}
 
 -- putting back what was kept before

@@ -19,7 +19,7 @@ use Rattle.kernel_model.specs.Policies.{frames_of}
 use Rattle.kernel_model.specs.declared.Inverse.TheVariants.{Mark}
 use Rattle.kernel_model.specs.declared.Cause.TheVariants.{BadArgument, NotYours}
 use Rattle.kernel_model.specs.declared.OpenRow.{OpenRow}
-use Rattle.graft_calls.specs.Calls.{AllUndoable}
+use Rattle.graft_levels.specs.Calls.{AllUndoable}
 
 -- its inverse leads back
 pub leads_back : (a : Accessed) (x : ℕ) (i : Inverse) (w : Things) → answer_of a ≡ Ok (record { result = x; inverse = Some i }) → LeadsBack w a → undo (bare_found i) (things_after a w) ≡ w

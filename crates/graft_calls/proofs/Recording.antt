@@ -6,8 +6,8 @@ use Rattle.kernel_model.specs.Locks.{LockTable}
 use Rattle.kernel_model.specs.GraftStep.{record_count}
 use Rattle.kernel_model.specs.UndoLog.{numbered_log}
 use Rattle.undo_calls.specs.UndoLevels.{Logged, found_of, innermost, recorded, records_of, by_age}
-use Rattle.graft_calls.specs.declared.GraftLevel.{GraftLevel}
-use Rattle.graft_calls.specs.Chains.{put_back, levels_in, outer}
+use Rattle.graft_levels.specs.declared.GraftLevel.{GraftLevel}
+use Rattle.graft_levels.specs.Chains.{put_back, levels_in, outer}
 
 numbered : (log : List (List Logged)) → length (records_of log) ≡ length (numbered_log log)
 numbered log = length-map (by_age log) (λ (r : ℕ × Logged). r.1) ∙ length-reverse (numbered_log log)

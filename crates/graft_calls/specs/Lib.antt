@@ -1,4 +1,2 @@
-pub mod Chains
-pub mod Calls
 pub mod Stretch
 pub mod Accessors

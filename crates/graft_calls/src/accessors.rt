@@ -16,20 +16,21 @@ ghost use Rattle.kernel_state.specs.Accesses.{answer_of, things_after, CanBeUndo
 ghost use Rattle.kernel_state.specs.Stores.{world_of_store, objects_of};
 ghost use Rattle.lock_table.specs.Masks.{held};
 ghost use Rattle.undo_calls.specs.UndoLevels.{Logged, bare, innermost, is_bare, recorded, records_of};
-ghost use Rattle.graft_calls.specs.Chains.{came, call_of, level_on, outer_on, levels_in, level_taken, outer_taken};
-ghost use Rattle.graft_calls.specs.Calls.{AreSound, AreInside, IsTaken, StaysPlaced, with_innermost};
-ghost use Rattle.graft_calls.specs.Accessors.{IsAccessOf, access_of, is_refused_early};
+ghost use Rattle.graft_levels.specs.Chains.{level_on, outer_on, levels_in};
+ghost use Rattle.graft_levels.specs.Calls.{AreSound, AreInside};
+ghost use Rattle.graft_levels.specs.Moments.{Comes, HasRoom, moment};
+ghost use Rattle.graft_calls.specs.Accessors.{CanAccess, access_of, is_refused_early};
 
-use crate::answers::arguments;
-use crate::charges::{charge_lock, charge_record};
-use crate::drops::drop_innermost;
-use crate::{Chain, GraftLevel, Innermost, Levels};
 use accessor_list::ids;
+use graft_accounts::GraftPoint;
+use graft_levels::answers::arguments;
+use graft_levels::charges::{charge_lock, charge_record};
+use graft_levels::{Chain, GraftLevel, Innermost, Levels, drop_innermost};
 use graft_points::Policy;
 use kernel_laws::undoing::inverses_undo;
 use kernel_model::{Cause, Inverse, Micro, Mode, Object};
 use kernel_state::Store;
-use lock_table::LockTable;
+use lock_table::{Holder, LockTable};
 use undo_calls::UndoStack;
 
 /// A call of a plain accessor: its id, and what it looks at or changes, and how.
@@ -67,8 +68,7 @@ fn go_on(level: GraftLevel, r0: u32, levels: &mut Levels)
 
 /// Whether one of locks is to be paid for: a user lock is taken that no level of the call holds.
 fn is_lock_due(id: u32, object: Object, p: u8, locks: &LockTable) -> bool
-    requires process { p < 16 }
-    requires range { IsInRange object }
+    requires { IsInRange object }
     ensures { result
         ≡ (id == 12 && not (is_some (outermost_holding object Exclusive (held locks.now p)))) }
 {
@@ -84,31 +84,33 @@ fn give<B: Policy>(
     store: &mut Store<B>,
     locks: &mut LockTable,
 ) -> Micro
-    requires placed { IsTaken store.old locks.old inner chain.old }
-    requires access { IsAccessOf inner.level call }
-    ensures step { let l = level_taken store.old locks.old inner chain.old in
-        let ls = outer_taken store.old locks.old inner chain.old in
-        came (after_result (world_of_store store.old)
-        (objects_of store.old) l ls l.machine call.id result_is
-        (lock_due call.id (l.machine.regs 0) (l ∷ ls)))
-        ≡ (result, call_of store.new locks.new chain.new inner.process) }
-    ensures kept { StaysPlaced store.old store.new locks.old locks.new inner.process
-        (with_innermost inner chain.old) chain.new }
+    requires call { CanAccess store.old locks.old inner chain.old call }
+    ensures { Comes inner (moment store.old locks.old chain.old)
+        (moment store.new locks.new chain.new) result
+        (λ v w l ls. after_result v w l ls l.machine call.id result_is
+        (lock_due call.id (l.machine.regs 0) (l ∷ ls))) }
 {
     let level = &inner.level;
     let due = is_lock_due(call.id, call.object, inner.process, locks);
-    if !charge_lock(due, &mut store.accounts, level.owner, level.point) {
+    let at = GraftPoint {
+        process: level.owner,
+        point: level.point,
+    };
+    if !charge_lock(due, &mut store.accounts, at) {
         return drop_innermost(inner, chain, store, locks, Cause::SpentLocks);
     }
-    locks.touch(inner.process, chain.levels.count(), call.object, call.mode);
+    let by = Holder {
+        process: inner.process,
+        level: chain.levels.count(),
+    };
+    locks.touch(by, call.object, call.mode);
     go_on(inner.level, result_is, &mut chain.levels);
     Micro::Went
 }
 
 /// A record comes to the innermost level of a log that has fewer than 64.
 fn record(undo: &mut UndoStack, inverse_is: Inverse)
-    requires level { 0 < length undo.old }
-    requires room { length (records_of undo.old) ≢ 64 }
+    requires room { HasRoom undo.old }
     requires bare { is_bare inverse_is ≡ true }
     ensures { undo.new ≡ recorded (bare inverse_is) undo.old }
 {
@@ -124,32 +126,34 @@ fn change<B: Policy>(
     store: &mut Store<B>,
     locks: &mut LockTable,
 ) -> Micro
-    requires placed { IsTaken store.old locks.old inner chain.old }
-    requires access { IsAccessOf inner.level call }
+    requires call { CanAccess store.old locks.old inner chain.old call }
     requires early { is_refused_early call.id inner.level ≡ None }
     requires answer { answer_of (access_of call.id inner.level (objects_of store.old).things)
         ≡ Ok (record { result = changed.result; inverse = Some changed.inverse }) }
     requires undoable { CanBeUndone changed.inverse (objects_of store.old).things }
-    ensures step { let s = objects_of store.old in
-        let l = level_taken store.old locks.old inner chain.old in
-        let ls = outer_taken store.old locks.old inner chain.old in
-        came (after_change (world_of_store store.old) s l ls l.machine
-        call.id changed.result changed.inverse
-        (things_after (access_of call.id inner.level s.things) s.things)
-        (is_record_spent s.accounts l ls))
-        ≡ (result, call_of store.new locks.new chain.new inner.process) }
-    ensures kept { StaysPlaced store.old store.new locks.old locks.new inner.process
-        (with_innermost inner chain.old) chain.new }
+    ensures { Comes inner (moment store.old locks.old chain.old)
+        (moment store.new locks.new chain.new) result
+        (λ v w l ls. after_change v w l ls l.machine call.id changed.result changed.inverse
+        (things_after (access_of call.id inner.level w.things) w.things)
+        (is_record_spent w.accounts l ls)) }
 {
     let level = &inner.level;
-    if !charge_record(&chain.undo, &mut store.accounts, level.owner, level.point) {
+    let at = GraftPoint {
+        process: level.owner,
+        point: level.point,
+    };
+    if !charge_record(&chain.undo, &mut store.accounts, at) {
         return drop_innermost(inner, chain, store, locks, Cause::SpentRecords);
     }
     inverses_undo();
     store.procs.rows();
     store.apply(call.id, arguments(&level.machine), level.owner);
     record(&mut chain.undo, changed.inverse);
-    locks.touch(inner.process, chain.levels.count(), call.object, call.mode);
+    let by = Holder {
+        process: inner.process,
+        level: chain.levels.count(),
+    };
+    locks.touch(by, call.object, call.mode);
     go_on(inner.level, changed.result, &mut chain.levels);
     Micro::Went
 }
@@ -162,17 +166,12 @@ pub(crate) fn access<B: Policy>(
     store: &mut Store<B>,
     locks: &mut LockTable,
 ) -> Micro
-    requires placed { IsTaken store.old locks.old inner chain.old }
-    requires access { IsAccessOf inner.level call }
+    requires call { CanAccess store.old locks.old inner chain.old call }
     requires early { is_refused_early call.id inner.level ≡ None }
-    ensures step { let s = objects_of store.old in
-        let l = level_taken store.old locks.old inner chain.old in
-        let ls = outer_taken store.old locks.old inner chain.old in
-        came (after_accessor (world_of_store store.old) s l ls l.machine call.id
-        (access_of call.id inner.level s.things))
-        ≡ (result, call_of store.new locks.new chain.new inner.process) }
-    ensures kept { StaysPlaced store.old store.new locks.old locks.new inner.process
-        (with_innermost inner chain.old) chain.new }
+    ensures { Comes inner (moment store.old locks.old chain.old)
+        (moment store.new locks.new chain.new) result
+        (λ v w l ls. after_accessor v w l ls l.machine call.id
+        (access_of call.id inner.level w.things)) }
 {
     match store.answer(call.id, arguments(&inner.level.machine), inner.level.owner) {
         Err(cause) => drop_innermost(inner, chain, store, locks, cause),

@@ -11,68 +11,26 @@ ghost use Rattle.kernel_model.specs.Locks.{LockTable as Table, with_touch};
 ghost use Rattle.kernel_model.specs.Objects.{Things};
 ghost use Rattle.kernel_model.specs.Policies.{kind_of, lives};
 ghost use Rattle.undo_calls.specs.UndoLevels.{Logged};
-ghost use Rattle.graft_accounts.specs.Table.{IsPoint, accounts_of};
+ghost use Rattle.graft_accounts.specs.Table.{accounts_of};
 ghost use Rattle.kernel_state.specs.Stores.{world_of_store, objects_of, queue_of};
 ghost use Rattle.lock_table.specs.Masks.{held};
 ghost use Rattle.graft_loader.specs.Slots.{table_of};
-ghost use Rattle.graft_calls.specs.Chains.{came, call_of, levels_in, levels_of, is_running_in, level_taken, outer_taken};
-ghost use Rattle.graft_calls.specs.Calls.{IsInPlace, IsTakenInPlace, IsElsewhereSame, HasWrittenBegun, needs_touched};
+ghost use Rattle.graft_levels.specs.Chains.{came, call_of, levels_in, levels_of, is_running_in};
+ghost use Rattle.graft_levels.specs.Calls.{IsInPlace, IsTakenInPlace, IsElsewhereSame, HasWrittenBegun, needs_touched};
+ghost use Rattle.graft_levels.specs.Moments.{StaysInPlace, moment, part_at};
 ghost use Rattle.graft_calls.specs.Accessors.{is_refused_early};
 
-use crate::answers::give_answer;
-use crate::begin::{begin_level, touch_needs};
-use crate::code::image_of;
-use crate::drops::drop_innermost;
-use crate::points::{args_of, default_of};
-use crate::{Chain, GraftLevel, Innermost, Levels};
-use accessor_list::ids;
-use graft_accounts::Accounts;
+use graft_accounts::{Accounts, GraftPoint};
+use graft_levels::answers::give_answer;
+use graft_levels::{
+    Chain, GraftLevel, Innermost, Levels, args_of, asked_needs, asked_point, begin_level,
+    default_of, drop_innermost, image_of, touch_needs,
+};
 use graft_loader::Images;
 use graft_points::Policy;
-use kernel_model::{Cause, Micro, Mode, Need, Object, Point};
+use kernel_model::{Cause, Micro, Mode, Object, Point};
 use kernel_state::Store;
-use lock_table::LockTable;
-
-/// The point that an ask names, of the asker's own process.
-pub(crate) fn asked_point(id: u32, r0: u32) -> u8
-    requires { id ≡ 13 → r0 < 4 }
-    ensures value { result ≡ point_asked id r0 }
-    ensures range { result < 16 }
-{
-    match id {
-        ids::ASK_RA => r0 as u8,
-        ids::ASK_VICTIM => 4,
-        _ => 5,
-    }
-}
-
-/// An object that is looked at.
-fn shared(object: Object) -> Need
-    ensures { result ≡ record { object = object; mode = Shared; by_user = false } }
-{
-    Need {
-        object,
-        mode: Mode::Shared,
-        by_user: false,
-    }
-}
-
-/// The objects that an ask needs, before the graft of its point.
-pub(crate) fn asked_needs(id: u32, r0: u32, q: u8) -> [Need; 2]
-    requires process { q < 16 }
-    requires descriptor { id ≡ 13 → r0 < 4 }
-    ensures value { result ≡ asked_objects id r0 q }
-    ensures range { All (λ (n : Needed). IsInRange n.object) result }
-{
-    match id {
-        ids::ASK_RA => [
-            shared(Object::OpenFile(q, r0 as u8)),
-            shared(Object::Pol(0)),
-        ],
-        ids::ASK_VICTIM => [shared(Object::Cache), shared(Object::Pol(1))],
-        _ => [shared(Object::Queue), shared(Object::Pol(2))],
-    }
-}
+use lock_table::{Holder, LockTable};
 
 /// Whether a point can't be asked, as the values show: its file isn't open, or process q has no
 /// frame.
@@ -98,7 +56,7 @@ fn is_running(level: &GraftLevel, levels: &Levels, pt: u8) -> bool
 /// Whether a graft stands at point pt of process q, but there is no room for a level, as the asking
 /// level is inside three others.
 fn is_too_deep(levels: &Levels, accounts: &Accounts, q: u8, pt: u8) -> bool
-    requires at { IsPoint q pt }
+    requires { pt < 16 }
     ensures { result ≡ (is_some ((accounts_of accounts.now).graft q pt) && length levels.now == 3) }
 {
     accounts.stands(q, pt) && levels.count() == 3
@@ -114,7 +72,7 @@ fn ask_refusal<B: Policy>(
     store: &Store<B>,
 ) -> Option<Cause>
     requires lives { lives (queue_of store.now) level.now.owner ≡ true }
-    requires at { IsPoint level.now.owner pt }
+    requires point { pt < 16 }
     requires few { length levels.now < 4 }
     ensures value { (p : ℕ) (ram : List ℕ) (t : Table) (log : List (List Logged)) (w : Things) →
         result ≡ refusal_of_ask (objects_of store.now) level.now.owner pt id
@@ -137,29 +95,28 @@ fn ask_refusal<B: Policy>(
 }
 
 /// The asking level holds what the ask needs, and level 0 the graft of the point.
-fn touch_asked(id: u32, r0: u32, q: u8, p: u8, d: u8, locks: &mut LockTable)
+fn touch_asked(id: u32, r0: u32, q: u8, by: Holder, locks: &mut LockTable)
     requires asker { q < 16 }
-    requires process { p < 16 }
-    requires depth { d < 4 }
     requires descriptor { id ≡ 13 → r0 < 4 }
-    ensures { held locks.new ≡ with_touch p 0 (Graft q (point_asked id r0)) Exclusive
-        (needs_touched p d (asked_objects id r0 q) (held locks.old)) }
+    ensures { held locks.new ≡ with_touch by.process 0 (Graft q (point_asked id r0)) Exclusive
+        (needs_touched by.process by.level (asked_objects id r0 q) (held locks.old)) }
 {
-    touch_needs(&asked_needs(id, r0, q), p, d, locks);
-    locks.touch(p, 0, Object::Graft(q, asked_point(id, r0)), Mode::Exclusive);
-}
-
-/// A point of a process, the asking level's owner, that an ask names.
-#[derive(Clone, Copy)]
-struct Asked {
-    owner: u8,
-    point: u8,
+    touch_needs(&asked_needs(id, r0, q), by, locks);
+    let outermost = Holder {
+        process: by.process,
+        level: 0,
+    };
+    locks.touch(
+        outermost,
+        Object::Graft(q, asked_point(id, r0)),
+        Mode::Exclusive,
+    );
 }
 
 /// An ask that isn't refused is answered: a level begins inside the others where a graft stands,
 /// else the innermost level gets the default.
 fn answer_ask<B: Policy>(
-    asked: Asked,
+    asked: GraftPoint,
     chain: &mut Chain,
     p: u8,
     store: &mut Store<B>,
@@ -168,15 +125,14 @@ fn answer_ask<B: Policy>(
 ) -> Micro
     requires in_place { IsInPlace store.old locks.now
         (table_of images.now) p chain.old.levels chain.old.undo }
-    requires at { IsPoint asked.owner asked.point }
-    requires lives { lives (queue_of store.old) asked.owner ≡ true }
-    requires free { is_running_in chain.old.levels asked.owner asked.point ≡ false }
-    requires room { (objects_of store.old).accounts.graft asked.owner asked.point ≢ None →
+    requires lives { lives (queue_of store.old) asked.process ≡ true }
+    requires free { is_running_in chain.old.levels asked.process asked.point ≡ false }
+    requires room { (objects_of store.old).accounts.graft asked.process asked.point ≢ None →
         length chain.old.levels < 4 }
     ensures step { came (ask_answered (world_of_store store.old) (table_of images.now)
-        (objects_of store.old) p asked.owner asked.point
+        (objects_of store.old) p asked.process asked.point
         (levels_of store.old locks.now chain.old p)
-        ((objects_of store.old).accounts.graft asked.owner asked.point))
+        ((objects_of store.old).accounts.graft asked.process asked.point))
         ≡ (result, call_of store.new locks.now chain.new p) }
     ensures in_place { IsInPlace store.new locks.now
         (table_of images.now) p chain.new.levels chain.new.undo }
@@ -184,14 +140,14 @@ fn answer_ask<B: Policy>(
     ensures memory { HasWrittenBegun p (length chain.old.levels)
         chain.new.levels store.old.ram store.new.ram }
 {
-    let (owner, point) = (asked.owner, asked.point);
-    if store.accounts.graft(owner, point).is_none() {
+    let (owner, point) = (asked.process, asked.point);
+    if store.accounts.graft(asked).is_none() {
         let (r0, r1) = default_of(store, owner, point);
         give_answer(&mut chain.levels, point, r0, r1);
         return Micro::Went;
     }
     let args = args_of(store, owner, point);
-    let image = image_of(images, &store.accounts, owner, point);
+    let image = image_of(images, &store.accounts, asked);
     let at = Point {
         installer: owner,
         point,
@@ -212,18 +168,12 @@ pub(crate) fn ask<B: Policy>(
 ) -> Micro
     requires in_place { IsTakenInPlace store.old locks.old (table_of images.now) inner chain.old }
     requires early { is_refused_early id inner.level ≡ None }
-    ensures step { let l = level_taken store.old locks.old inner chain.old in
-        let ls = outer_taken store.old locks.old inner chain.old in
-        let pt = point_asked id (l.machine.regs 0) in
-        came (after_ask (world_of_store store.old) (table_of images.now)
-        (objects_of store.old) inner.process l ls l.machine id pt
-        (refusal_of_ask (objects_of store.old) l.owner pt id (l ∷ ls)))
+    ensures step { came (part_at (λ v w l ls. let pt = point_asked id (l.machine.regs 0) in
+        after_ask v (table_of images.now) w inner.process l ls l.machine id pt
+        (refusal_of_ask w l.owner pt id (l ∷ ls))) inner (moment store.old locks.old chain.old))
         ≡ (result, call_of store.new locks.new chain.new inner.process) }
-    ensures in_place { IsInPlace store.new locks.new
-        (table_of images.now) inner.process chain.new.levels chain.new.undo }
-    ensures elsewhere { IsElsewhereSame store.old store.new locks.old locks.new inner.process }
-    ensures memory { HasWrittenBegun inner.process (suc (length chain.old.levels))
-        chain.new.levels store.old.ram store.new.ram }
+    ensures kept { StaysInPlace (table_of images.now) inner
+        (moment store.old locks.old chain.old) (moment store.new locks.new chain.new) }
 {
     let p = inner.process;
     let q = inner.level.owner;
@@ -232,10 +182,14 @@ pub(crate) fn ask<B: Policy>(
     if let Some(cause) = ask_refusal(id, pt, &inner.level, &chain.levels, store) {
         return drop_innermost(inner, chain, store, locks, cause);
     }
-    touch_asked(id, r0, q, p, chain.levels.count(), locks);
+    let by = Holder {
+        process: p,
+        level: chain.levels.count(),
+    };
+    touch_asked(id, r0, q, by, locks);
     chain.levels.push(inner.level);
-    let asked = Asked {
-        owner: q,
+    let asked = GraftPoint {
+        process: q,
         point: pt,
     };
     answer_ask(asked, chain, p, store, locks, images)

@@ -16,22 +16,22 @@ ghost use Rattle.lock_table.specs.Masks.{held};
 ghost use Rattle.undo_calls.specs.UndoLevels.{Logged, merged};
 ghost use Rattle.graft_machine.specs.Cpu.{machine_of};
 ghost use Rattle.graft_loader.specs.Slots.{table_of};
-ghost use Rattle.graft_calls.specs.Chains.{came, call_of, HasAnswer, level_on, outer_on, levels_in, level_taken, outer_taken, levels_taken};
-ghost use Rattle.graft_calls.specs.Calls.{AreSound, AreInside, IsTaken, StaysPlaced, with_innermost};
+ghost use Rattle.graft_levels.specs.Chains.{came, HasAnswer, level_on, outer_on, levels_in, levels_taken};
+ghost use Rattle.graft_levels.specs.Calls.{AreSound, AreInside, IsTaken};
+ghost use Rattle.graft_levels.specs.Moments.{Comes, moment};
 
-use crate::answers::answer;
-use crate::charges::is_record_spent;
-use crate::drops::drop_innermost;
-use crate::filling::base_of;
-use crate::keeping::{keep, keeps};
-use crate::points::is_valid;
-use crate::{Chain, GraftLevel, Innermost, Levels};
+use graft_accounts::GraftPoint;
+use graft_levels::answers::answer;
+use graft_levels::charges::is_record_spent;
+use graft_levels::{
+    Chain, GraftLevel, Innermost, Levels, base_of, drop_innermost, is_valid, keep, keeps,
+};
 use graft_loader::Images;
 use graft_machine::Machine;
 use graft_points::Policy;
 use kernel_model::{Cause, Micro};
 use kernel_state::Store;
-use lock_table::LockTable;
+use lock_table::{Holder, LockTable};
 
 /// The answer of a level: r0 to r3.
 fn registers(machine: &Machine) -> [u32; 4]
@@ -71,7 +71,11 @@ fn join(level: GraftLevel, asker: GraftLevel, levels: &mut Levels, p: u8, locks:
         level.machine.reg(0),
         level.machine.reg(1),
     );
-    locks.merge_level(p, levels.count() + 1);
+    let by = Holder {
+        process: p,
+        level: levels.count() + 1,
+    };
+    locks.merge_level(by);
     levels.push(asker);
 }
 
@@ -112,7 +116,11 @@ fn complete(inner: Innermost, chain: &mut Chain, locks: &mut LockTable) -> Micro
     chain.undo.commit_level();
     match chain.levels.pop() {
         None => {
-            locks.release_from(inner.process, 0);
+            let by = Holder {
+                process: inner.process,
+                level: 0,
+            };
+            locks.release_from(by);
             Micro::Completed(registers(&inner.level.machine))
         }
         Some(asker) => {
@@ -133,25 +141,27 @@ fn accept<B: Policy>(
     images: &Images,
 ) -> Micro
     requires placed { IsTaken store.old locks.old inner chain.old }
-    ensures step { let w = objects_of store.old in
-        let l = level_taken store.old locks.old inner chain.old in
-        came (after_answer (world_of_store store.old) w l
-        (outer_taken store.old locks.old inner chain.old)
-        (keeps_in (image_of (table_of images.now) (w.accounts.graft l.owner l.point))))
-        ≡ (result, call_of store.new locks.new chain.new inner.process) }
+    ensures comes { Comes inner (moment store.old locks.old chain.old)
+        (moment store.new locks.new chain.new) result
+        (λ v w l ls. after_answer v w l ls
+        (keeps_in (image_of (table_of images.now) (w.accounts.graft l.owner l.point)))) }
     ensures answer { HasAnswer result store.new.ram inner.process
         (levels_taken store.old locks.old inner chain.old) }
-    ensures kept { StaysPlaced store.old store.new locks.old locks.new inner.process
-        (with_innermost inner chain.old) chain.new }
 {
-    let (q, pt) = (inner.level.owner, inner.level.point);
-    if !keeps(images, &store.accounts, q, pt) {
+    let at = GraftPoint {
+        process: inner.level.owner,
+        point: inner.level.point,
+    };
+    if !keeps(images, &store.accounts, at) {
         return complete(inner, chain, locks);
     }
-    if is_record_spent(&chain.undo, &store.accounts, q, pt) {
+    if is_record_spent(&chain.undo, &store.accounts, at) {
         return drop_innermost(inner, chain, store, locks, Cause::SpentRecords);
     }
-    let base = base_of(inner.process, chain.levels.count());
+    let base = base_of(Holder {
+        process: inner.process,
+        level: chain.levels.count(),
+    });
     keep(&inner.level, base, &mut chain.undo, store);
     complete(inner, chain, locks)
 }
@@ -166,17 +176,12 @@ pub(crate) fn offer<B: Policy>(
     images: &Images,
 ) -> Micro
     requires placed { IsTaken store.old locks.old inner chain.old }
-    ensures step { let l = level_taken store.old locks.old inner chain.old in
-        let ls = outer_taken store.old locks.old inner chain.old in
-        came (after_return (world_of_store store.old) (table_of images.now)
-        (objects_of store.old) l ls
-        (valid (objects_of store.old).things l.owner l.point l.args (l.machine.regs 0)
-        (l.machine.regs 1)))
-        ≡ (result, call_of store.new locks.new chain.new inner.process) }
+    ensures comes { Comes inner (moment store.old locks.old chain.old)
+        (moment store.new locks.new chain.new) result
+        (λ v w l ls. after_return v (table_of images.now) w l ls
+        (valid w.things l.owner l.point l.args (l.machine.regs 0) (l.machine.regs 1))) }
     ensures answer { HasAnswer result store.new.ram inner.process
         (levels_taken store.old locks.old inner chain.old) }
-    ensures kept { StaysPlaced store.old store.new locks.old locks.new inner.process
-        (with_innermost inner chain.old) chain.new }
 {
     if !is_valid(store, &inner.level) {
         let machine = &inner.level.machine;

@@ -9,21 +9,25 @@ use Rattle.lock_table.specs.Masks.{held}
 use Rattle.graft_accounts.specs.Table.{accounts_of}
 use Rattle.kernel_state.specs.Stores.{world_of_store, objects_of}
 use Rattle.graft_loader.specs.Slots.{table_of}
-use Rattle.graft_calls.specs.declared.GraftLevel.{GraftLevel}
-use Rattle.graft_calls.specs.Chains.{came, level_of, outer_of}
-use Rattle.graft_calls.specs.Calls.{AreInside, HasWrittenBegun, needs_touched}
+use Rattle.graft_levels.specs.declared.GraftLevel.{GraftLevel}
+use Rattle.graft_levels.specs.Chains.{came, level_of, outer_of}
+use Rattle.graft_levels.specs.Calls.{AreInside, HasWrittenBegun, needs_touched}
 use Rattle.graft_calls.proofs.Asking.{asked_levels, asked_apart, asked_on}
-use Rattle.graft_calls.proofs.Placing.{locks_placed, before_elsewhere}
-use Rattle.graft_calls.proofs.Writing.{still_begun}
+use Rattle.graft_levels.proofs.Placing.{locks_placed, before_elsewhere}
+use Rattle.graft_levels.proofs.Writing.{still_begun}
 use Rattle.graft_calls.proofs.asks.ask.Goals as goal
 
-pub returns-in-Some-clause-in_place : goal.returns-in-Some-clause-in_place
-returns-in-Some-clause-in_place g c =
-    let h = c.requires.in_place in
+pub returns-in-Some-clause-kept : goal.returns-in-Some-clause-kept
+returns-in-Some-clause-kept g c =
     record {
-      placed = c.drop_innermost.ensures.kept.placed;
-      inside = c.drop_innermost.ensures.kept.inside (table_of c.args.images.now) h.inside;
-      loaded = c.drop_innermost.ensures.kept.loaded (table_of c.args.images.now) h.loaded;
+      in_place = (let h = c.requires.in_place in
+          record {
+            placed = c.drop_innermost.ensures.kept.placed;
+            inside = c.drop_innermost.ensures.kept.inside (table_of c.args.images.now) h.inside;
+            loaded = c.drop_innermost.ensures.kept.loaded (table_of c.args.images.now) h.loaded;
+          });
+      elsewhere = (record { world = c.drop_innermost.ensures.kept.elsewhere.world; living = c.drop_innermost.ensures.kept.elsewhere.living; others = c.drop_innermost.ensures.kept.elsewhere.others; memory = c.drop_innermost.ensures.kept.elsewhere.memory });
+      memory = (still_begun c.args.inner.process _ c.drop_innermost.new.chain.levels c.args.store.now.ram c.drop_innermost.new.store.ram c.drop_innermost.ensures.kept.memory);
     }
 
 pub answer_ask-requires-clause-in_place : goal.answer_ask-requires-clause-in_place
@@ -63,14 +67,12 @@ returns-clause-step g c =
     c.count.ensures.value held_is))
     ∙ c.answer_ask.ensures.step
 
-pub returns-clause-elsewhere : goal.returns-clause-elsewhere
-returns-clause-elsewhere g c =
-    before_elsewhere c.args.store.now c.answer_ask.new.store c.args.locks.now c.touch_asked.new.locks c.args.inner.process c.answer_ask.ensures.elsewhere
-    (λ q d apart. asked_apart c.args.id c.reg-r0.result c.args.inner.level.owner c.args.inner.process c.count.result q d (held c.args.locks.now) (held c.touch_asked.new.locks) c.touch_asked.ensures
-    (grind (arith, nat_tests, apart)) (grind (arith, nat_tests, apart)))
-
-pub returns-in-Some-clause-memory : goal.returns-in-Some-clause-memory
-returns-in-Some-clause-memory g c = still_begun c.args.inner.process _ c.drop_innermost.new.chain.levels c.args.store.now.ram c.drop_innermost.new.store.ram c.drop_innermost.ensures.kept.memory
-
-pub returns-clause-memory : goal.returns-clause-memory
-returns-clause-memory g c = subst (λ (x : List GraftLevel). HasWrittenBegun c.args.inner.process (length x) c.answer_ask.new.chain.levels c.args.store.now.ram c.answer_ask.new.store.ram) c.push.ensures c.answer_ask.ensures.memory
+pub returns-clause-kept : goal.returns-clause-kept
+returns-clause-kept g c =
+    record {
+      in_place = (c.answer_ask.ensures.in_place);
+      elsewhere = (before_elsewhere c.args.store.now c.answer_ask.new.store c.args.locks.now c.touch_asked.new.locks c.args.inner.process c.answer_ask.ensures.elsewhere
+          (λ q d apart. asked_apart c.args.id c.reg-r0.result c.args.inner.level.owner c.args.inner.process c.count.result q d (held c.args.locks.now) (held c.touch_asked.new.locks) c.touch_asked.ensures
+          (grind (arith, nat_tests, apart)) (grind (arith, nat_tests, apart))));
+      memory = (subst (λ (x : List GraftLevel). HasWrittenBegun c.args.inner.process (length x) c.answer_ask.new.chain.levels c.args.store.now.ram c.answer_ask.new.store.ram) c.push.ensures c.answer_ask.ensures.memory);
+    }

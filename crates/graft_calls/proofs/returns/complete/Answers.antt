@@ -1,8 +1,8 @@
 use Rattle.std.proofs.Common.{◌≡◌, suc, length, refl, ap, subst, arith, slice_index}
 use Rattle.lock_table.specs.Masks.{held}
-use Rattle.graft_calls.specs.Calls.{AreInside}
-use Rattle.graft_calls.proofs.Completing.{joined_call, completed_call, merged_free, merged_others}
-use Rattle.graft_calls.proofs.Views.{released_free, released_others}
+use Rattle.graft_levels.specs.Calls.{AreInside}
+use Rattle.graft_levels.proofs.Completing.{joined_call, completed_call, merged_free, merged_others}
+use Rattle.graft_levels.proofs.Views.{released_free, released_others}
 use Rattle.graft_calls.proofs.returns.complete.Goals as goal
 
 pub returns-in-None-clause-step : goal.returns-in-None-clause-step

@@ -1,4 +1,4 @@
-use Rattle.graft_calls.proofs.Completing.{unanswered}
+use Rattle.graft_levels.proofs.Completing.{unanswered}
 use Rattle.graft_calls.proofs.returns.offer.Goals as goal
 
 pub returns-then-not-is_valid-clause-answer : goal.returns-then-not-is_valid-clause-answer

@@ -1,7 +1,0 @@
-use Rattle.std.proofs.Common.{◌≡◌, drop}
-use Rattle.lock_table.specs.Masks.{held}
-use Rattle.graft_calls.specs.Calls.{needs_touched}
-use Rattle.graft_calls.proofs.begin.touch_needs.Given as goal
-
-abbrev pub invariant-loop-need : goal.invariant-loop-need
-invariant-loop-need l = needs_touched l.p l.d (drop l.need-index l.needs) (held l.locks) ≡ needs_touched l.p l.d l.needs (held l.initial.locks)

@@ -1,0 +1,15 @@
+pub mod Answering
+pub mod Listed
+pub mod Undoing
+pub mod Conditions
+pub mod Views
+pub mod Dropping
+pub mod Completing
+pub mod Holding
+pub mod Placing
+pub mod Memory
+pub mod Feeding
+pub mod Beginning
+pub mod Needing
+pub mod NextNeeds
+pub mod Writing
