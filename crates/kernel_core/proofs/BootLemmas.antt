@@ -7,7 +7,7 @@ use Rattle.kernel_model.specs.declared.FileRow.{FileRow}
 use Rattle.kernel_model.specs.World.{World, ImageTable, Blocks}
 use Rattle.kernel_model.specs.Objects.{Objects}
 use Rattle.kernel_model.specs.Directory.{directory_of, usable_count}
-use Rattle.kernel_model.specs.Meaning.{Meaning}
+use Rattle.kernel_model.specs.Meaning.{Meaning, disk_fails}
 use Rattle.kernel_model.specs.Opening.{opening_kernel, opening_objects}
 use Rattle.kernel_model.specs.Sound.{IsAtRest, ImagesAreLoaded}
 use Rattle.kernel_state.specs.declared.Setup.{Setup}
@@ -40,6 +40,7 @@ booted_read m setup size size_new y files dir block before io d e size_is empty 
       io = io;
       one = ap length one;
       made = made_alone d e before io empty goes;
+      faulted = sym (ap (λ (calls : List Bool). disk_fails calls 0) one);
       is = λ blocks tells.
           let read = known blocks tells in
           let dir_of : dir ≡ directory_of size (blocks 0) = dir_is ∙ ap (λ n. directory_of n block) size_is ∙ ap (directory_of size) read.1 in
@@ -67,6 +68,7 @@ booted_fault m setup size size_new y dir before io d e size_is empty noted goes 
       io = io;
       one = ap length one;
       made = made_alone d e before io empty goes;
+      faulted = sym (ap (λ (calls : List Bool). disk_fails calls 0) one);
       is = λ blocks tells.
           let same : directory_read size (blocks 0) io ≡ [] = ap (directory_read size (blocks 0)) one in
           let world : world_for setup size_new dir ≡ world_for setup size (directory_read size (blocks 0) io) =

@@ -1,6 +1,8 @@
 -- A whole event.
 use Rattle.std.proofs.Common.{◌≡◌, ℕ, suc, ◌≤◌, ◌<◌, ◌==◌, ◌&&◌, Bool, true, false, nat_le, List, [], ◌∷◌, ◌++◌, length, Option, Some, None, Result, Ok, Err, arith, refl, ap, sym, subst, ◌∙◌}
-use Rattle.std.specs.Prelude.{Contains, is_some, option_map, slice_index_or, ◌||◌}
+use Rattle.call_pieces.specs.EarlyFaults.{is_early_fault}
+use Rattle.plain_rules.specs.QuickPieces.{is_disk_fault}
+use Rattle.std.specs.Prelude.{◌+◌, cond, Contains, is_some, option_map, slice_index_or, ◌||◌}
 use Rattle.std.proofs.lemmas.Bool.{eqb-true}
 use Rattle.std.proofs.lemmas.Bool.Decides.{nat_tests}
 use Rattle.kernel_model.specs.declared.Event.{Event}
@@ -35,7 +37,8 @@ use Rattle.kernel_core.specs.Starts.{Started, Starts}
 use Rattle.kernel_steps.specs.Moments.{moment}
 use Rattle.kernel_steps.specs.Sound.{RefinesAndKeeps}
 use Rattle.kernel_core.specs.EventParts.{RefinesFromRest}
-use Rattle.kernel_steps.specs.Refines.{first_notes, Refines}
+use Rattle.kernel_steps.specs.Faults.{fault_notes}
+use Rattle.kernel_steps.specs.Refines.{first_notes, Adds, Refines}
 use Rattle.kernel_steps.specs.Views.{placed_of, run_of, IsRunning, HasAbstraction}
 use Rattle.kernel_core.specs.EventRefines.{EventRefines}
 use Rattle.kernel_core.proofs.LastLemmas.{did_note}
@@ -142,13 +145,21 @@ module _ (m : Meaning) (x : Placed) (number p : ℕ) where
       placed_event_on m number (Step p n) (run_of x blocks notes io) ≡ placed_step_event m number p n (run_of x blocks notes io)
   step_taken n h some few blocks notes io = step_living n true h (grind (arith, nat_tests, some, few)) blocks notes io
 
+-- a refusal that isn't for the disk
+pub refused_elsewise : (number : ℕ) (why : Refusal) → is_disk_fault why ≡ false → fault_notes (Refused number why ∷ []) ≡ 0
+refused_elsewise number why h = ap {B = ℕ} (λ b. 0 + cond b 1 0) h
+
+-- a refusal at once
+pub refused_early : (why : Refusal) (r : Result Stage Refusal) → r ≡ Err why → is_early_fault r ≡ false → is_disk_fault why ≡ false
+refused_early why r is h = sym (ap is_early_fault is) ∙ h
+
 -- a refusal, which is all that an event comes to
 pub went_refused : {C B M : Type 0} {P : _} (m : Meaning) (f : PlacedRun → PlacedRun) (x : Running C B M P) (note : Note) (kept kept_new : List Note) (d : DiskSeen) → IsRunning x → HasAbstraction m (placed_of x) →
     ((blocks : Blocks) (notes : List Note) (io : List Bool) → f (run_of (placed_of x) blocks notes io) ≡ placed_noted note (run_of (placed_of x) blocks notes io)) →
-    ((all : List Note) → kept ≡ first_notes all → kept_new ≡ first_notes (all ++ note ∷ [])) → RefinesAndKeeps m f (moment x kept d) (moment x kept_new d)
-went_refused m f x note kept kept_new d running abstraction same adds =
+    Adds (note ∷ []) kept kept_new → fault_notes (note ∷ []) ≡ 0 → RefinesAndKeeps m f (moment x kept d) (moment x kept_new d)
+went_refused m f x note kept kept_new d running abstraction same adds none =
     record {
-      refines = did_as f (placed_noted note) (placed_of x) (placed_of x) kept kept_new d d same (did_note (placed_of x) note kept kept_new d adds);
+      refines = did_as f (placed_noted note) (placed_of x) (placed_of x) kept kept_new d d same (did_note (placed_of x) note kept kept_new d adds none);
       running = running;
       abstraction = abstraction;
       world = refl;
@@ -159,10 +170,10 @@ went_refused m f x note kept kept_new d running abstraction same adds =
 pub went_refused_at : {C B M : Type 0} {P : _} (m : Meaning) (f : PlacedRun → PlacedRun) (x y : Running C B M P) (note : Note) (kept kept_new : List Note) (d : DiskSeen) → IsRunning y → HasAbstraction m (placed_of x) →
     placed_of y ≡ placed_of x →
     ((blocks : Blocks) (notes : List Note) (io : List Bool) → f (run_of (placed_of x) blocks notes io) ≡ placed_noted note (run_of (placed_of x) blocks notes io)) →
-    ((all : List Note) → kept ≡ first_notes all → kept_new ≡ first_notes (all ++ note ∷ [])) → RefinesAndKeeps m f (moment x kept d) (moment y kept_new d)
-went_refused_at m f x y note kept kept_new d running abstraction is same adds =
+    Adds (note ∷ []) kept kept_new → fault_notes (note ∷ []) ≡ 0 → RefinesAndKeeps m f (moment x kept d) (moment y kept_new d)
+went_refused_at m f x y note kept kept_new d running abstraction is same adds none =
     record {
-      refines = subst (λ z. Refines f (moment (placed_of x) kept d) (moment z kept_new d)) (sym is) (did_as f (placed_noted note) (placed_of x) (placed_of x) kept kept_new d d same (did_note (placed_of x) note kept kept_new d adds));
+      refines = subst (λ z. Refines f (moment (placed_of x) kept d) (moment z kept_new d)) (sym is) (did_as f (placed_noted note) (placed_of x) (placed_of x) kept kept_new d d same (did_note (placed_of x) note kept kept_new d adds none));
       running = running;
       abstraction = subst (HasAbstraction m) (sym is) abstraction;
       world = ap (λ (z : Placed). z.world) is;
@@ -206,6 +217,10 @@ happened_by m law few x y number size what kept kept_new d e size_is none whole 
             notes_are = came.notes ∙ ap first_notes after.0.notes ∙ kept_whole (event m k blocks number what io).notes (few k blocks number what io stands.kernel all).all;
             left = sym after.0.io ∙ came.io;
           };
+      faulted =
+          let few = refines.faulted in
+          let no_notes = ap fault_notes none in
+          omega (arith, few, no_notes);
     }
 
 -- by the event that it is

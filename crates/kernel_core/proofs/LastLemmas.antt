@@ -16,18 +16,19 @@ use Rattle.kernel_steps.specs.Queries.{note_in_graft}
 use Rattle.kernel_steps.specs.Orders.{blocker_of}
 use Rattle.kernel_steps.specs.declared.order.Blocking.{Blocking}
 use Rattle.kernel_steps.specs.Moments.{moment}
-use Rattle.kernel_steps.specs.Refines.{first_notes, Refines}
+use Rattle.kernel_steps.specs.Faults.{fault_notes}
+use Rattle.kernel_steps.specs.Refines.{Adds, Refines}
 use Rattle.kernel_steps.specs.Views.{run_of}
 
 -- a note was said
-pub did_note : (x : Placed) (note : Note) (kept kept_new : List Note) (d : DiskSeen) → ((all : List Note) → kept ≡ first_notes all → kept_new ≡ first_notes (all ++ note ∷ [])) → Refines (placed_noted note) (moment x kept d) (moment x kept_new d)
-did_note x note kept kept_new d adds = did_purely (placed_noted note) x x kept kept_new (note ∷ []) d (λ blocks notes io. refl) adds
+pub did_note : (x : Placed) (note : Note) (kept kept_new : List Note) (d : DiskSeen) → Adds (note ∷ []) kept kept_new → fault_notes (note ∷ []) ≡ 0 → Refines (placed_noted note) (moment x kept d) (moment x kept_new d)
+did_note x note kept kept_new d adds none = did_purely (placed_noted note) x x kept kept_new (note ∷ []) d (λ blocks notes io. refl) adds none
 
 -- what blocks, or nothing
 pub waits_said : (x : Placed) (number : ℕ) (o : Option Blocker) (b : Blocking) (kept kept_new : List Note) (d : DiskSeen) → option_map blocker_of (Some b) ≡ o →
-    ((all : List Note) → kept ≡ first_notes all → kept_new ≡ first_notes (all ++ Waits number b.object b.holder ∷ [])) → Refines (placed_waits_note number o) (moment x kept d) (moment x kept_new d)
+    Adds (Waits number b.object b.holder ∷ []) kept kept_new → Refines (placed_waits_note number o) (moment x kept d) (moment x kept_new d)
 waits_said x number o b kept kept_new d is adds =
-    subst (λ o. Refines (placed_waits_note number o) (moment x kept d) (moment x kept_new d)) is (did_note x (Waits number b.object b.holder) kept kept_new d adds)
+    subst (λ o. Refines (placed_waits_note number o) (moment x kept d) (moment x kept_new d)) is (did_note x (Waits number b.object b.holder) kept kept_new d adds refl)
 
 pub waits_unsaid : (x : Placed) (number : ℕ) (o : Option Blocker) (kept : List Note) (d : DiskSeen) → None ≡ o → Refines (placed_waits_note number o) (moment x kept d) (moment x kept d)
 waits_unsaid x number o kept d is = subst (λ o. Refines (placed_waits_note number o) (moment x kept d) (moment x kept d)) is (did_nothing x kept d)
@@ -68,9 +69,9 @@ last_graft m x p n kept kept_new d h stands refines = did_as (placed_last m p) (
 
 -- a call in a graft, or in none
 pub graft_said : (x : Placed) (n : ℕ) (ls : List PlacedLevel) (note : Note) (kept kept_new : List Note) (d : DiskSeen) → Some note ≡ note_in_graft n ls →
-    ((all : List Note) → kept ≡ first_notes all → kept_new ≡ first_notes (all ++ note ∷ [])) → Refines (placed_graft_note n ls) (moment x kept d) (moment x kept_new d)
+    Adds (note ∷ []) kept kept_new → Refines (placed_graft_note n ls) (moment x kept d) (moment x kept_new d)
 graft_said x n [] note kept kept_new d is adds = grind (arith, is)
-graft_said x n (l ∷ ls) note kept kept_new d is adds = subst (λ k. Refines (placed_noted k) (moment x kept d) (moment x kept_new d)) (same_note note _ is) (did_note x note kept kept_new d adds)
+graft_said x n (l ∷ ls) note kept kept_new d is adds = subst (λ k. Refines (placed_noted k) (moment x kept d) (moment x kept_new d)) (same_note note _ is) (did_note x note kept kept_new d adds (ap (λ k. fault_notes (k ∷ [])) (same_note note _ is)))
   where
     same_note : (a b : Note) → Some a ≡ Some b → a ≡ b
     same_note a b h = cc

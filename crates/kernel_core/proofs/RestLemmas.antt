@@ -17,6 +17,8 @@ use Rattle.placed_laws.specs.PlacedEvents.{placed_settled}
 use Rattle.placed_laws.specs.Resting.{KeepsHolds, Resting}
 use Rattle.placed_laws.specs.Stands.{StandsFor, RunStandsFor}
 use Rattle.kernel_steps.specs.declared.running.Running.{Running}
+use Rattle.kernel_steps.specs.Composing.{faults_joined}
+use Rattle.kernel_steps.specs.Faults.{fault_notes}
 use Rattle.kernel_steps.specs.Moments.{moment}
 use Rattle.kernel_steps.specs.Sound.{KeepsRunning, RefinesAndKeeps}
 use Rattle.kernel_core.specs.EventParts.{taken_up, RefinesFromRest, RefinesToRest, Rests}
@@ -33,7 +35,7 @@ on_went m f x y kept kept_new d e h = record { running = h.running; abstraction 
 
 -- from anywhere, and so from rest
 pub from_did : (m : Meaning) (f : PlacedRun → PlacedRun) (x y : Placed) (kept kept_new : List Note) (d e : DiskSeen) → Refines f (moment x kept d) (moment y kept_new e) → RefinesFromRest m f (moment x kept d) (moment y kept_new e)
-from_did m f x y kept kept_new d e h = record { io = h.io; made = h.made; goes = λ blocks notes rest s tells k. h.goes blocks notes rest tells k }
+from_did m f x y kept kept_new d e h = record { io = h.io; made = h.made; goes = λ blocks notes rest s tells k. h.goes blocks notes rest tells k; faulted = h.faulted }
 
 -- another change that comes to the same
 pub from_as : (m : Meaning) (f g : PlacedRun → PlacedRun) (x y : Placed) (kept kept_new : List Note) (d e : DiskSeen) → ((blocks : Blocks) (notes : List Note) (io : List Bool) → f (run_of x blocks notes io) ≡ g (run_of x blocks notes io)) →
@@ -43,6 +45,7 @@ from_as m f g x y kept kept_new d e same h =
       io = h.io;
       made = h.made;
       goes = λ blocks notes rest s tells k. subst (λ r. RunMatches r y kept_new e.known rest) (sym (same blocks notes (h.io ++ rest))) (h.goes blocks notes rest s tells k);
+      faulted = h.faulted;
     }
 
 -- and another change after it
@@ -56,6 +59,7 @@ from_then m f g x y z a b c d e l first second =
           let r : PlacedRun = f (run_of x blocks notes ((first.io ++ second.io) ++ rest)) in
           subst (λ q. RunMatches (g q) z c l.known rest) (sym (run_is r y b e.known (second.io ++ rest) one))
           (second.goes r.blocks r.notes rest one.blocks one.notes);
+      faulted = faults_joined (fault_notes a) (fault_notes b) (fault_notes c) first.io second.io first.faulted second.faulted;
     }
   where
     run_is : (r : PlacedRun) (y : Placed) (kept : List Note) (known : Option (List (List ℕ))) (rest : List Bool) → RunMatches r y kept known rest → r ≡ run_of y r.blocks r.notes rest
@@ -83,6 +87,7 @@ did_to_rest m f g x y kept kept_new d e refines how =
         goes = λ blocks notes rest s tells k.
             let came = refines.goes blocks notes rest tells k in
             subst (λ r. RunMatches r y kept_new e.known rest) (sym (how blocks notes (refines.io ++ rest) s came.placed).same) came;
+        faulted = refines.faulted;
       };
       rests = λ blocks notes rest s tells k.
           let came = refines.goes blocks notes rest tells k in

@@ -17,6 +17,8 @@ use Rattle.placed_laws.specs.Placed.{Placed, PlacedCall, PlacedRun, has_some, pl
 use Rattle.placed_laws.specs.Stretch.{IsStretched, Stretched, Stretches}
 use Rattle.placed_laws.specs.PlacedSteps.{placed_joins, placed_noted, placed_step}
 use Rattle.placed_laws.specs.PlacedEvents.{placed_settled, placed_steps}
+use Rattle.kernel_steps.specs.Composing.{faults_joined}
+use Rattle.kernel_steps.specs.Faults.{fault_notes}
 use Rattle.kernel_steps.specs.Moments.{moment}
 use Rattle.kernel_core.specs.EventParts.{steps_left, steps_said, taken_up, takes_up, HasReached, Leads, RefinesFromRest, RefinesToRest, Rests}
 use Rattle.kernel_steps.specs.Refines.{Refines, RunMatches}
@@ -39,6 +41,7 @@ come_first m f x kept d =
       now = λ blocks notes rest. run_of x blocks notes rest;
       came = λ blocks notes rest s tells k. (record { placed = refl; notes = k; blocks = tells; io = refl }, s);
       goes = λ blocks notes rest s tells k. refl;
+      faulted = omega arith;
     }
 
 -- what is left goes on with a part of it
@@ -63,6 +66,7 @@ come_on m f left later g x y z a b c d e l h part same =
           let is = run_is r y b e.known (refines.io ++ rest) one.0 in
           ap (λ io. f (run_of x blocks notes io)) (append_assoc h.io refines.io rest) ∙ h.goes blocks notes (refines.io ++ rest) s tells k
           ∙ ap left is ∙ same r.blocks r.notes (refines.io ++ rest) ∙ ap (λ q. later (g q)) (sym is);
+      faulted = faults_joined (fault_notes a) (fault_notes b) (fault_notes c) h.io refines.io h.faulted refines.faulted;
     }
 
 -- ---- a stretch
@@ -85,6 +89,7 @@ come_far m number p d left taken f x y z a b k e h leads =
           ∙ ap (steps_said m number p (d + left) taken) (run_is r y b e.known rest one.0)
           ∙ ap (λ (q : ℕ × PlacedRun). placed_noted (Ran number q.0) q.1) (leads.steps left taken r.blocks r.notes rest one.1)
           ∙ ap (λ io. steps_said m number p left (taken + d) (run_of z r.blocks r.notes io)) (sym one.0.io);
+      faulted = h.faulted;
     }
 
 -- so it does with n in all, of which so many were taken before
@@ -142,6 +147,7 @@ come_last m f left x y z a b c d e l h refines =
           let is = run_is r y b e.known (refines.io ++ rest) one.0 in
           subst (λ q. RunMatches q z c l.known rest) (sym (ap (λ io. f (run_of x blocks notes io)) (append_assoc h.io refines.io rest) ∙ h.goes blocks notes (refines.io ++ rest) s tells k ∙ ap left is))
           (refines.goes r.blocks r.notes rest one.0.blocks one.0.notes);
+      faulted = faults_joined (fault_notes a) (fault_notes b) (fault_notes c) h.io refines.io h.faulted refines.faulted;
     }
 
 -- ---- one instruction

@@ -13,11 +13,12 @@ use Rattle.placed_laws.specs.Agreeing.{SameShown}
 use Rattle.placed_laws.specs.Placed.{Placed, PlacedRun, bare, has_some}
 use Rattle.placed_laws.specs.Stands.{StandsFor, RunStandsFor, without_history}
 use Rattle.kernel_steps.specs.declared.running.Running.{Running}
-use Rattle.kernel_steps.specs.Composing.{did_as, did_nothing, did_purely, did_then}
+use Rattle.kernel_steps.specs.Composing.{adds_none, did_as, did_nothing, did_purely, did_then}
 use Rattle.kernel_steps.specs.WholeBlocks.{some_blocks, blocks_are_whole}
 use Rattle.kernel_steps.specs.Moments.{moment, Moment}
 use Rattle.kernel_steps.specs.Sound.{IsSoundOn, RefinesAndKeeps}
-use Rattle.kernel_steps.specs.Refines.{first_notes}
+use Rattle.kernel_steps.specs.Faults.{fault_notes}
+use Rattle.kernel_steps.specs.Refines.{Adds}
 use Rattle.kernel_steps.specs.Views.{placed_of, run_of, IsRunning, HasAbstraction}
 
 -- ---- a kernel goes on to stand
@@ -51,10 +52,10 @@ went_then m f g x y z a b c d e l first second =
 -- a change without a call of the disk, which adds these notes
 pub went_purely : {C B M : Type 0} {P : _} (m : Meaning) (f : PlacedRun → PlacedRun) (x y : Running C B M P) (kept kept_new more : List Note) (d : DiskSeen) →
     ((blocks : Blocks) (notes : List Note) (io : List Bool) → f (run_of (placed_of x) blocks notes io) ≡ run_of (placed_of y) blocks (notes ++ more) io) →
-    ((notes : List Note) → kept ≡ first_notes notes → kept_new ≡ first_notes (notes ++ more)) → IsRunning y → HasAbstraction m (placed_of y) → world_of_store y.store ≡ world_of_store x.store → y.clock ≡ x.clock →
+    Adds more kept kept_new → fault_notes more ≡ 0 → IsRunning y → HasAbstraction m (placed_of y) → world_of_store y.store ≡ world_of_store x.store → y.clock ≡ x.clock →
     RefinesAndKeeps m f (moment x kept d) (moment y kept_new d)
-went_purely m f x y kept kept_new more d same adds running abstraction world clock =
-    record { refines = did_purely f (placed_of x) (placed_of y) kept kept_new more d same adds; running = running; abstraction = abstraction; world = world; clock = clock }
+went_purely m f x y kept kept_new more d same adds none running abstraction world clock =
+    record { refines = did_purely f (placed_of x) (placed_of y) kept kept_new more d same adds none; running = running; abstraction = abstraction; world = world; clock = clock }
 
 -- the same without notes
 pub went_silently : {C B M : Type 0} {P : _} (m : Meaning) (f : PlacedRun → PlacedRun) (x y : Running C B M P) (kept : List Note) (d : DiskSeen) →
@@ -62,7 +63,7 @@ pub went_silently : {C B M : Type 0} {P : _} (m : Meaning) (f : PlacedRun → Pl
     IsRunning y → HasAbstraction m (placed_of y) → world_of_store y.store ≡ world_of_store x.store → y.clock ≡ x.clock → RefinesAndKeeps m f (moment x kept d) (moment y kept d)
 went_silently m f x y kept d same running abstraction world clock =
     went_purely m f x y kept kept [] d (λ blocks notes io. same notes blocks io ∙ ap (λ ns. run_of (placed_of y) blocks ns io) (sym (append-nil notes)))
-    (λ notes k. k ∙ ap first_notes (sym (append-nil notes))) running abstraction world clock
+    (adds_none kept) refl running abstraction world clock
 
 -- a change leaves a sound kernel on its disk
 pub still_on : {C B M : Type 0} {P : _} {m : Meaning} {f : PlacedRun → PlacedRun} {a b : Moment (Running C B M P)} → RefinesAndKeeps m f a b →

@@ -1,6 +1,6 @@
 -- A part of an event of a running kernel.
-use Rattle.std.specs.Prelude.{◌≡◌, ℕ, suc, ◌+◌, Bool, true, false, not, ◌&&◌, is_some, List, ◌++◌, Some, None}
-use Rattle.disk_log.specs.Calls.{Knows, Made}
+use Rattle.std.specs.Prelude.{◌≡◌, ℕ, suc, ◌+◌, ◌≤◌, Bool, true, false, not, ◌&&◌, is_some, List, ◌++◌, Some, None}
+use Rattle.disk_log.specs.Calls.{Knows, Made, failures}
 use Rattle.kernel_model.specs.declared.Note.{Note}
 use Rattle.kernel_model.specs.declared.Note.TheVariants.{Ran}
 use Rattle.kernel_model.specs.World.{Blocks}
@@ -14,6 +14,7 @@ use Rattle.placed_laws.specs.Stands.{StandsFor}
 use Rattle.placed_laws.specs.PlacedSteps.{placed_joins, placed_noted, placed_step}
 use Rattle.placed_laws.specs.PlacedEvents.{placed_settled, placed_steps}
 use Rattle.kernel_steps.specs.declared.running.Running.{Running}
+use Rattle.kernel_steps.specs.Faults.{fault_notes}
 use Rattle.kernel_steps.specs.Moments.{moment, Moment}
 use Rattle.kernel_steps.specs.Sound.{KeepsRunning}
 use Rattle.kernel_steps.specs.Refines.{first_notes, Refines, RunMatches}
@@ -49,6 +50,7 @@ pub record RefinesFromRest (m : Meaning) (f : PlacedRun → PlacedRun) (a b : Mo
   pub goes : (blocks : Blocks) (notes : List Note) (rest : List Bool) → Rests m a.kernel blocks →
       Knows a.disk.known blocks → a.notes ≡ first_notes notes →
       RunMatches (f (run_of a.kernel blocks notes (io ++ rest))) b.kernel b.notes b.disk.known rest
+  pub faulted : fault_notes b.notes ≤ fault_notes a.notes + failures io
 
 -- the same of one that leaves rest
 pub record RefinesToRest (m : Meaning) (f : PlacedRun → PlacedRun) (a b : Moment Placed) :
@@ -125,3 +127,4 @@ pub record HasReached (m : Meaning) (f left : PlacedRun → PlacedRun) (a b : Mo
   pub goes : (blocks : Blocks) (notes : List Note) (rest : List Bool) → Rests m a.kernel blocks →
       Knows a.disk.known blocks → a.notes ≡ first_notes notes →
       f (run_of a.kernel blocks notes (io ++ rest)) ≡ left (now blocks notes rest)
+  pub faulted : fault_notes b.notes ≤ fault_notes a.notes + failures io

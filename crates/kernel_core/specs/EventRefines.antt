@@ -1,6 +1,6 @@
 -- What an event makes of a running kernel, and what always holds of one.
 use Rattle.std.specs.Prelude.{◌≡◌, ℕ, ◌≤◌, Bool, List, ◌++◌, Option}
-use Rattle.disk_log.specs.Calls.{Knows, Made}
+use Rattle.disk_log.specs.Calls.{Knows, Made, failures}
 use Rattle.vino_base.specs.Disks.{DiskSeen}
 use Rattle.kernel_model.specs.declared.Event.{Event}
 use Rattle.kernel_model.specs.declared.Note.{Note}
@@ -12,6 +12,7 @@ use Rattle.kernel_model.specs.Sound.{IsAtRest}
 use Rattle.placed_laws.specs.Placed.{Placed}
 use Rattle.placed_laws.specs.Stands.{StandsFor}
 use Rattle.kernel_steps.specs.declared.running.Running.{Running}
+use Rattle.kernel_steps.specs.Faults.{fault_notes}
 use Rattle.kernel_steps.specs.Views.{placed_of, IsRunning, HasAbstraction}
 
 -- A kernel runs, stands for some abstract kernel, and had at most so many ticks.
@@ -45,3 +46,6 @@ pub record EventRefines (m : Meaning) (x y : Placed) (number : ℕ) (what : Even
   pub is : (k : Kernel) (blocks : Blocks) (rest : List Bool) → StandsFor m x k → IsAtRest m k →
       Knows d.known blocks →
       EventIs m (event m k blocks number what (io ++ rest)) y notes e.known rest
+  -- Whatever the disk tells: each note of a refusal because the disk failed has a failed call of its
+  -- own, so the disk's count of faults rose by as many or more, up to its end.
+  pub faulted : fault_notes notes ≤ failures io

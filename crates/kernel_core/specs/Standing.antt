@@ -41,6 +41,11 @@ boot_note frames size block io =
       | false ↦ Up frames size (usable_count (directory_of size block))
     ]
 
+-- a boot says that the disk failed
+abbrev pub is_boot_fault : BootNote → Bool
+is_boot_fault Fault = true
+is_boot_fault (Up frames size files) = false
+
 -- what a boot leaves stands for the kernel after boot, which rests, the note is that of the boot,
 -- and the disk tells its blocks
 pub record BootIs (m : Meaning) (setup : Setup) (size : ℕ) (blocks : Blocks) (io : List Bool)
@@ -59,4 +64,6 @@ pub record Booted (m : Meaning) (setup : Setup) (size : ℕ) (y : Placed) (note 
   pub io : List Bool
   pub one : length io ≡ 1
   pub made : Made d e io
+  -- whatever the disk tells: it says so exactly where that call failed
+  pub faulted : is_boot_fault note ≡ disk_fails io 0
   pub is : (blocks : Blocks) → Knows d.known blocks → BootIs m setup size blocks io y note e.known

@@ -15,6 +15,7 @@ ghost use Rattle.placed_laws.specs.PlacedRows.{placed_rows};
 ghost use Rattle.placed_laws.specs.Stands.{StandsFor};
 ghost use Rattle.kernel_steps.specs.Sound.{IsSound};
 ghost use Rattle.kernel_steps.specs.Views.{placed_of, IsRunning};
+ghost use Rattle.undo_laws.specs.Undone.{UndoesToCommitted};
 ghost use Rattle.kernel_core.specs.EventRefines.{EventRefines, IsKernel};
 ghost use Rattle.kernel_core.specs.PlacedSections.{row_found, row_if_found, IsRow, TakesRow};
 ghost use Rattle.kernel_core.specs.Standing.{IsBlank, Booted};
@@ -34,6 +35,7 @@ use placed_laws::agreeing::same_shown;
 use ram_space::Ram;
 use segments::Segments;
 use std::alloc::Global;
+use undo_laws::undoing;
 use vino_base::Disk;
 
 /// How many segments can be kept: one for each point of each process.
@@ -149,7 +151,8 @@ impl<C: Calls, B: Policy> Kernel<C, B> {
     }
 
     /// One event, which has this number, and the bytes of its system call. Its notes are left
-    /// behind. No memory is taken.
+    /// behind. No memory is taken. Undoing the calls in flight then would lead back to what is
+    /// committed.
     pub fn event<D: Disk>(
         &mut self,
         number: u32,
@@ -167,10 +170,12 @@ impl<C: Calls, B: Policy> Kernel<C, B> {
             (placed_of self.new.running) number (event_with what bytes.now.items)
             trace.new.notes
             (D.seen disk.old) (D.seen disk.new) }
+        ensures undone { UndoesToCommitted C.Meaning.meaning (placed_of self.new.running) }
         ensures kernel { IsKernel C.Meaning.meaning number self.new.running }
         ensures world { world_of_store self.new.running.store
             ≡ world_of_store self.old.running.store }
     {
+        undoing::calls_undo_to_committed::<C::Meaning>();
         event(&mut self.running, number, what, bytes, disk, trace);
     }
 
@@ -185,7 +190,11 @@ impl<C: Calls, B: Policy> Kernel<C, B> {
         ensures few { 1478 ≤ i → result ≡ None }
     {
         same_shown::<C::Meaning>();
-        placed_rows::raw(&self.running, i)
+        let mut at = RowPlace::first();
+        for before in 0..i {
+            self.next_row(&mut at)?;
+        }
+        self.next_row(&mut at)
     }
 
     /// The next row from a place on, which then is behind that row. None where no row is left.

@@ -3,7 +3,8 @@
 ghost use Rattle.std.specs.Prelude.{◌≡◌, ◌<◌, option_map};
 ghost use Rattle.placed_laws.specs.Placed.{PlacedLevel};
 ghost use Rattle.kernel_steps.specs.Looking.{innermost_level};
-ghost use Rattle.kernel_steps.specs.Views.{placed_of, IsRunning};
+ghost use Rattle.kernel_steps.specs.Sound.{HasProcess};
+ghost use Rattle.kernel_steps.specs.Views.{placed_of};
 
 use crate::kernel::Kernel;
 use call_pieces::Calls;
@@ -12,9 +13,8 @@ use graft_points::Policy;
 impl<C: Calls, B: Policy> Kernel<C, B> {
     /// Register i of the innermost level of process p's call, if that is in a graft.
     pub fn innermost_register(&self, p: u8, i: u8) -> Option<u32>
-        requires process { p < 16 }
+        requires at { HasProcess self.now.running p }
         requires register { i < 16 }
-        requires running { IsRunning self.now.running }
         ensures { result ≡ option_map (λ (l : PlacedLevel). l.machine.regs i)
             (innermost_level ((placed_of self.now.running).levels p)) }
     {
@@ -23,9 +23,8 @@ impl<C: Calls, B: Policy> Kernel<C, B> {
 
     /// Byte `at` of the segment of the innermost level of process p's call, if that is in a graft.
     pub fn innermost_byte(&self, p: u8, at: u32) -> Option<u8>
-        requires process { p < 16 }
+        requires at { HasProcess self.now.running p }
         requires inside { at < 4096 }
-        requires running { IsRunning self.now.running }
         ensures { result ≡ option_map (λ (l : PlacedLevel). l.machine.memory at)
             (innermost_level ((placed_of self.now.running).levels p)) }
     {

@@ -141,19 +141,6 @@ impl RowPlace {
     }
 }
 
-/// The i-th of the rows that show the whole state. None past the last.
-pub fn raw<C: Calls, B: Policy>(running: &Running<C, B>, i: u32) -> Option<RawRow>
-    requires running { IsRunning running.now }
-    ensures value { result ≡ slice_get (placed_rows (placed_of running.now)) i }
-    ensures few { 1478 ≤ i → result ≡ None }
-{
-    let mut at = RowPlace::first();
-    for before in 0..i {
-        next_row(running, &mut at)?;
-    }
-    next_row(running, &mut at)
-}
-
 /// The next row from a place on, which then is behind that row. None where no row is left.
 pub fn next_row<C: Calls, B: Policy>(running: &Running<C, B>, at: &mut RowPlace) -> Option<RawRow>
     requires running { IsRunning running.now }
@@ -195,7 +182,6 @@ pub fn find_row<C: Calls, B: Policy>(running: &Running<C, B>, at: &mut RowPlace)
 /// On to the next place of this section. Where it is that of the files or of the grafts, of which
 /// few places have one, on from there to the next place with one.
 fn pass_place<C: Calls, B: Policy>(running: &Running<C, B>, section: Section, at: &mut RowPlace)
-    requires running { IsRunning running.now }
     requires section { slice_get sections at.old.section ≡ Some section }
     requires place { at.old.place < places section }
     requires none { length (rows_at (placed_of running.now) section at.old.place) ≤ at.old.index }
@@ -229,7 +215,6 @@ fn has_graft<C: Calls, B: Policy>(running: &Running<C, B>, n: u16) -> bool
 
 /// On past places without an open file.
 fn pass_no_file<C: Calls, B: Policy>(running: &Running<C, B>, at: &mut RowPlace)
-    requires running { IsRunning running.now }
     requires section { slice_get sections at.old.section ≡ Some Files }
     requires place { at.old.place ≤ 64 }
     ensures { IsPassed (placed_of running.now) Files at.old at.new }
@@ -241,7 +226,6 @@ fn pass_no_file<C: Calls, B: Policy>(running: &Running<C, B>, at: &mut RowPlace)
 
 /// On past places without a graft.
 fn pass_no_graft<C: Calls, B: Policy>(running: &Running<C, B>, at: &mut RowPlace)
-    requires running { IsRunning running.now }
     requires section { slice_get sections at.old.section ≡ Some Grafts }
     requires place { at.old.place ≤ 256 }
     ensures { IsPassed (placed_of running.now) Grafts at.old at.new }

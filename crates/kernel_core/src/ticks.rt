@@ -1,6 +1,7 @@
 //! The time-outs of a tick.
 
-ghost use Rattle.std.specs.Prelude.{◌≡◌, ◌<◌, ◌-◌, ◌^◌, [], Some, None, option_map};
+ghost use Rattle.std.specs.Prelude.{◌≡◌, ◌<◌, ◌-◌, ◌^◌, false, [], Some, None, option_map};
+ghost use Rattle.plain_rules.specs.QuickPieces.{is_disk_fault};
 ghost use Rattle.vino_base.specs.Disks.{DiskSeen};
 ghost use Rattle.kernel_model.specs.declared.Note.TheVariants.{Refused};
 ghost use Rattle.placed_laws.specs.PlacedSteps.{placed_noted, placed_requeue, placed_ticked, with_placed_call};
@@ -33,6 +34,7 @@ fn refuse<C: Calls, B: Policy>(
     requires at { IsSoundFor C.Meaning.meaning running.old p }
     requires call { Some number ≡ option_map (λ c. c.number) ((placed_of running.old).call p) }
     requires none { (placed_of running.old).levels p ≡ [] }
+    requires why { is_disk_fault why ≡ false }
     ensures went { (d : DiskSeen) →
         RefinesAndKeeps C.Meaning.meaning
         (λ r. placed_requeue p (placed_noted (Refused number why) (with_placed_call p None r)))

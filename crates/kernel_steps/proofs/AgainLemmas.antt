@@ -21,10 +21,10 @@ use Rattle.undo_calls.specs.UndoLevels.{Logged, found_of, innermost}
 use Rattle.lock_table.specs.Masks.{held}
 use Rattle.kernel_state.specs.Stores.{world_of_store, objects_of, queue_of}
 use Rattle.graft_loader.specs.Slots.{table_of}
-use Rattle.graft_calls.specs.declared.GraftLevel.{GraftLevel}
-use Rattle.graft_calls.specs.declared.Chain.{Chain}
-use Rattle.graft_calls.specs.Chains.{put_back, level_in, levels_in, outer, call_of}
-use Rattle.graft_calls.specs.Calls.{AreSound, IsPlaced, AreInside, AllUndoable}
+use Rattle.graft_levels.specs.declared.GraftLevel.{GraftLevel}
+use Rattle.graft_levels.specs.declared.Chain.{Chain}
+use Rattle.graft_levels.specs.Chains.{put_back, level_in, levels_in, outer, call_of}
+use Rattle.graft_levels.specs.Calls.{AreSound, IsPlaced, AreInside, AllUndoable}
 use Rattle.placed_laws.specs.Placed.{Placed}
 use Rattle.placed_laws.specs.Soundness.{SoundInPlace}
 use Rattle.kernel_steps.specs.declared.running.InFlight.{InFlight}

@@ -11,7 +11,7 @@ use Rattle.kernel_model.specs.Charges.{charge}
 use Rattle.kernel_model.specs.Machine.{seg_step, Machine, Done, Called, Returned, Trapped, Outside, PastEnd}
 use Rattle.kernel_model.specs.Levels.{code_of, Level, Outcome, answer_innermost, drop_innermost, drop_level}
 use Rattle.kernel_model.specs.GraftStep.{after_accessor, after_answer, after_keeping, after_ask, after_call, after_change, after_machine, after_result, after_return, ask_answered, charged_step, completed, granted_call, lock_paid, micro_on}
-use Rattle.graft_calls.specs.Chains.{HasAnswer}
+use Rattle.graft_levels.specs.Chains.{HasAnswer}
 use Rattle.kernel_model.specs.declared.Micro.{Micro}
 use Rattle.kernel_steps.specs.Steps.{answer_of_drop, answer_said}
 use Rattle.kernel_steps.proofs.StepLemmas.{EndsAs}

@@ -16,9 +16,9 @@ use Rattle.lock_table.specs.Masks.{held}
 use Rattle.graft_machine.specs.Cpu.{by_place}
 use Rattle.kernel_state.specs.Stores.{world_of_store, objects_of, SegmentsStay}
 use Rattle.graft_loader.specs.Slots.{table_of}
-use Rattle.graft_calls.specs.declared.GraftLevel.{GraftLevel}
-use Rattle.graft_calls.specs.declared.Chain.{Chain}
-use Rattle.graft_calls.specs.Chains.{put_back, levels_in, levels_of, outer}
+use Rattle.graft_levels.specs.declared.GraftLevel.{GraftLevel}
+use Rattle.graft_levels.specs.declared.Chain.{Chain}
+use Rattle.graft_levels.specs.Chains.{put_back, levels_in, levels_of, outer}
 use Rattle.vino_base.specs.Disks.{DiskSeen}
 use Rattle.placed_laws.specs.Placed.{Placed, PlacedCall, PlacedLevel, bare}
 use Rattle.placed_laws.specs.PlacedSteps.{placed_after, placed_finish}
@@ -121,6 +121,7 @@ finish_did m x y p c u call answer kept kept_new d e is h =
       goes = λ blocks notes rest tells k.
           subst (λ z. RunMatches (finishes m p c answer (run_of x blocks notes (h.io ++ rest))) z kept_new e.known rest) (sym is)
           (piece_came m x p c (m.piece x.world x.images x.objects blocks p c.stage answer (h.io ++ rest)) blocks notes kept_new h.io rest u call e.known (h.goes x.images blocks notes rest tells k));
+      faulted = h.faulted;
     }
 
 pub finish_reaches : (m : Meaning) (x y : Placed) (p : ℕ) (c : PlacedCall) (u : Objects) (call : Option PlacedCall) (answer : Option Answer) (kept kept_new : List Note) (d e : DiskSeen) → y ≡ finished p call u x →

@@ -15,8 +15,8 @@ use Rattle.lock_table.specs.Masks.{held}
 use Rattle.kernel_state.specs.Stores.{world_of_store, objects_of}
 use Rattle.call_pieces.specs.Works.{IsDue, stage_of}
 use Rattle.graft_loader.specs.Slots.{table_of}
-use Rattle.graft_calls.specs.declared.GraftLevel.{GraftLevel}
-use Rattle.graft_calls.specs.Chains.{levels_in, levels_of}
+use Rattle.graft_levels.specs.declared.GraftLevel.{GraftLevel}
+use Rattle.graft_levels.specs.Chains.{levels_in, levels_of}
 use Rattle.placed_laws.specs.Placed.{PlacedCall, PlacedLevel, Placed, bare, has_some, levels_with, placed_levels, placed_holds, placed_needs, placed_needs_in, placed_needs_at, placed_blocker_from}
 use Rattle.placed_laws.specs.Soundness.{SoundInPlace}
 use Rattle.kernel_steps.specs.declared.blocking.Hindrance.{Hindrance}

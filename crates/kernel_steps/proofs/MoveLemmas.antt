@@ -17,11 +17,11 @@ use Rattle.lock_table.specs.Masks.{held}
 use Rattle.graft_machine.specs.Cpu.{by_place}
 use Rattle.kernel_state.specs.Stores.{objects_of}
 use Rattle.graft_loader.specs.Slots.{table_of}
-use Rattle.graft_calls.specs.declared.GraftLevel.{GraftLevel}
-use Rattle.graft_calls.specs.declared.Chain.{Chain}
+use Rattle.graft_levels.specs.declared.GraftLevel.{GraftLevel}
+use Rattle.graft_levels.specs.declared.Chain.{Chain}
 use Rattle.kernel_model.specs.declared.Micro.{Micro}
-use Rattle.graft_calls.specs.Chains.{put_back, came, levels_in, outer, levels_of, call_of, HasAnswer}
-use Rattle.graft_calls.specs.Calls.{IsBeyond, IsPlaced, AreInside, IsInPlace, IsElsewhereSame}
+use Rattle.graft_levels.specs.Chains.{put_back, came, levels_in, outer, levels_of, call_of, HasAnswer}
+use Rattle.graft_levels.specs.Calls.{IsBeyond, IsPlaced, AreInside, IsInPlace, IsElsewhereSame}
 use Rattle.placed_laws.specs.Placed.{PlacedCall, PlacedLevel, bare, placed_config, placed_levels}
 use Rattle.kernel_steps.specs.declared.running.Flight.{Flight}
 use Rattle.kernel_steps.specs.declared.running.Running.{Running}

@@ -1,10 +1,16 @@
 -- One more note of those that are kept as rows and bytes.
 use Rattle.std.proofs.Common.{◌≡◌, ℕ, zero, suc, ◌≤◌, List, [], ◌∷◌, ◌++◌, take, length, refl, ap, sym, ◌∙◌, arith, subst}
-use Rattle.std.specs.Prelude.{drop}
+use Rattle.std.specs.Prelude.{cond, drop, ◌<◌, Option, None}
+use Rattle.std.proofs.lemmas.List.Sums.{sum_by-append}
 use Rattle.kernel_model.specs.declared.BareNote.{BareNote}
 use Rattle.kernel_model.specs.declared.Note.{Note}
 use Rattle.kernel_model.specs.Bare.{given_count, note_with, notes_with}
+use Rattle.kernel_model.specs.Kernel.{gave_note}
+use Rattle.kernel_steps.specs.Composing.{adds_none}
+use Rattle.kernel_steps.specs.Faults.{fault_notes, is_fault_note}
+use Rattle.kernel_steps.specs.Kept.{kept_full, kept_more}
 use Rattle.kernel_steps.specs.Noting.{AreGiven}
+use Rattle.kernel_steps.specs.Refines.{Adds}
 
 -- the whole of a list
 take_all : (xs : List ℕ) → take (length xs) xs ≡ xs
@@ -58,3 +64,26 @@ given_added (x ∷ list) bytes note more given count few =
 pub as_many : (list : List BareNote) (bytes : List ℕ) → length (notes_with list bytes) ≡ length list
 as_many [] bytes = refl
 as_many (x ∷ list) bytes = ap suc (as_many list (drop (given_count x) bytes))
+
+-- ---- what was added to the notes that are kept
+
+-- one more, where there is room
+pub added_more : (old kept new : List Note) (note : Note) → kept ≡ old → new ≡ kept ++ note ∷ [] → length kept < 530 → Adds (note ∷ []) old new
+added_more old kept new note same is room =
+    record {
+      first = λ all k. is ∙ kept_more kept all note (same ∙ k) room;
+      faults =
+          let a = ap fault_notes is in
+          let b = ap fault_notes same in
+          let parts = sum_by-append (λ n. cond (is_fault_note n) 1 0) kept (note ∷ []) in
+          omega (arith, a, b, parts);
+    }
+
+-- and where there is none
+pub added_full : (old kept : List Note) (note : Note) → kept ≡ old → 530 ≤ length kept → Adds (note ∷ []) old old
+added_full old kept note same full =
+    record { first = λ all k. sym same ∙ kept_full kept all note (same ∙ k) full; faults = omega arith }
+
+-- nothing was given
+pub added_nothing : (old : List Note) (number : ℕ) (gave : Option (List ℕ)) → gave ≡ None → Adds (gave_note number gave) old old
+added_nothing old number gave is = subst (λ g. Adds (gave_note number g) old old) (sym is) (adds_none old)

@@ -18,11 +18,11 @@ use Rattle.kernel_model.specs.Alike.{Extends}
 use Rattle.lock_table.specs.Masks.{held}
 use Rattle.kernel_state.specs.Stores.{world_of_store, objects_of}
 use Rattle.kernel_laws.specs.Soundness.{OpeningKernelIsSound}
-use Rattle.graft_calls.specs.declared.Chain.{Chain}
-use Rattle.graft_calls.specs.declared.GraftLevel.{GraftLevel}
+use Rattle.graft_levels.specs.declared.Chain.{Chain}
+use Rattle.graft_levels.specs.declared.GraftLevel.{GraftLevel}
 use Rattle.graft_machine.specs.Cpu.{machine_of}
-use Rattle.graft_calls.specs.Calls.{IsPlaced, AreInside, RunsInside}
-use Rattle.graft_calls.specs.Chains.{levels_of}
+use Rattle.graft_levels.specs.Calls.{IsPlaced, AreInside, RunsInside}
+use Rattle.graft_levels.specs.Chains.{levels_of}
 use Rattle.graft_loader.specs.Slots.{table_of}
 use Rattle.placed_laws.specs.Placed.{Placed, PlacedCall, PlacedLevel, bare}
 use Rattle.placed_laws.specs.Keeping.{QuietKernelsStand, OthersStand, ImagesKeepRest, quietly_placed}

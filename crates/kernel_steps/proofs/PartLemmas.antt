@@ -13,7 +13,7 @@ use Rattle.lock_table.specs.Masks.{held}
 use Rattle.vino_base.specs.Disks.{DiskSeen}
 use Rattle.kernel_state.specs.Stores.{world_of_store, objects_of}
 use Rattle.graft_loader.specs.Slots.{table_of}
-use Rattle.graft_calls.specs.Chains.{levels_of, HasAnswer}
+use Rattle.graft_levels.specs.Chains.{levels_of, HasAnswer}
 use Rattle.placed_laws.specs.Owners.{AreOfOwner, OwnersStay}
 use Rattle.placed_laws.specs.Placed.{Placed, PlacedCall, PlacedLevel, PlacedRun, bare, has_some, placed_config, placed_levels}
 use Rattle.placed_laws.specs.PlacedSteps.{placed_call_step, placed_outcome, placed_step_by, with_config}

@@ -14,8 +14,8 @@ use Rattle.undo_calls.specs.UndoLevels.{Logged, innermost}
 use Rattle.lock_table.specs.declared.Holds.{Holds}
 use Rattle.lock_table.specs.Masks.{held}
 use Rattle.lock_table.specs.Numbers.{is_in_range}
-use Rattle.graft_calls.specs.declared.GraftLevel.{GraftLevel}
-use Rattle.graft_calls.specs.Chains.{put_back, first_level, levels_in, outer}
+use Rattle.graft_levels.specs.declared.GraftLevel.{GraftLevel}
+use Rattle.graft_levels.specs.Chains.{put_back, first_level, levels_in, outer}
 use Rattle.placed_laws.specs.Placed.{bare, has_some}
 use Rattle.kernel_steps.specs.declared.order.Waiting.{Waiting}
 use Rattle.kernel_steps.specs.Orders.{order_of, numbers_of, has_number}

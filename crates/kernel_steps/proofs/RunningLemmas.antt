@@ -9,13 +9,13 @@ use Rattle.kernel_model.specs.World.{Blocks}
 use Rattle.kernel_model.specs.Objects.{at, Things}
 use Rattle.kernel_model.specs.Kernel.{Entry, new_entry, less_entry}
 use Rattle.kernel_model.specs.Events.{counted}
-use Rattle.graft_calls.specs.declared.Chain.{Chain}
-use Rattle.graft_calls.specs.Chains.{levels_of, levels_in}
+use Rattle.graft_levels.specs.declared.Chain.{Chain}
+use Rattle.graft_levels.specs.Chains.{levels_of, levels_in}
 use Rattle.placed_laws.specs.Placed.{Placed, bare}
 use Rattle.placed_laws.specs.PlacedSteps.{is_placed_at_piece, placed_joins, placed_noted, placed_requeue, placed_ticked, with_placed_call}
 use Rattle.kernel_model.specs.Locks.{LockTable}
 use Rattle.undo_calls.specs.UndoLevels.{Logged}
-use Rattle.graft_calls.specs.declared.GraftLevel.{GraftLevel}
+use Rattle.graft_levels.specs.declared.GraftLevel.{GraftLevel}
 use Rattle.kernel_steps.specs.declared.order.Waiting.{Waiting}
 use Rattle.kernel_steps.specs.declared.running.InFlight.{InFlight}
 use Rattle.kernel_steps.specs.declared.running.Flight.{Flight}
@@ -107,6 +107,14 @@ pub at_piece_is : (o : Option InFlight) (p : ℕ) (ram : List ℕ) (t : LockTabl
 at_piece_is None p ram t gs log w b h = refl
 at_piece_is (Some f) p ram t [] log w b h = h
 at_piece_is (Some f) p ram t (g ∷ gs) log w b h = grind (arith, nat_tests, h)
+
+-- a call joins the order
+pub joined_run : {C B M : Type 0} {P : _} (x : Running C B M P) (p : ℕ) (new : List Waiting) (w : Waiting) → w ≡ joined p → new ≡ x.order ++ w ∷ [] →
+    (notes : List Note) (blocks : Blocks) (io : List Bool) →
+    placed_joins p (run_of (placed_of x) blocks notes io) ≡ run_of (record (placed_of x) { order = order_of new }) blocks notes io
+joined_run x p new w w_is new_is notes blocks io =
+    ap (λ es. run_of (record (placed_of x) { order = es }) blocks notes io)
+    (sym (ap order_of new_is ∙ order_joined x.order w ∙ ap (λ (u : Waiting). order_of x.order ++ entry_of u ∷ []) w_is))
 
 -- the call takes its place
 pub requeued : {C B M : Type 0} {P : _} (x : Running C B M P) (p : ℕ) (b : Bool) (ws : List Waiting) →

@@ -4,8 +4,8 @@ use Rattle.std.proofs.lemmas.Bool.Decides.{nat_tests}
 use Rattle.kernel_model.specs.Locks.{LockTable}
 use Rattle.kernel_model.specs.Objects.{Things}
 use Rattle.undo_calls.specs.UndoLevels.{Logged}
-use Rattle.graft_calls.specs.declared.GraftLevel.{GraftLevel}
-use Rattle.graft_calls.specs.Chains.{levels_in}
+use Rattle.graft_levels.specs.declared.GraftLevel.{GraftLevel}
+use Rattle.graft_levels.specs.Chains.{levels_in}
 use Rattle.placed_laws.specs.Placed.{PlacedLevel, bare}
 use Rattle.kernel_steps.specs.Looking.{innermost_level}
 

@@ -16,10 +16,11 @@ use Rattle.kernel_model.specs.RawRows.{top_of, rows_of_levels, undo_row}
 use Rattle.undo_calls.specs.UndoLevels.{Logged, bare, found_of, inverses_of, log_of, innermost, records_of, owners_of}
 use Rattle.kernel_state.specs.Stores.{objects_of}
 use Rattle.lock_table.specs.Masks.{held}
-use Rattle.graft_calls.specs.declared.GraftLevel.{GraftLevel}
-use Rattle.graft_calls.specs.Chains.{put_back, first_level, levels_in, levels_of, outer}
+use Rattle.graft_levels.specs.declared.GraftLevel.{GraftLevel}
+use Rattle.graft_levels.specs.Chains.{put_back, first_level, levels_in, levels_of, outer}
 use Rattle.placed_laws.specs.Placed.{PlacedCall, placed_levels}
 use Rattle.placed_laws.specs.PlacedRows.{placed_call_row, placed_level_rows, placed_undo_rows, placed_wait_row}
+use Rattle.kernel_steps.specs.declared.running.Flight.{Flight}
 use Rattle.kernel_steps.specs.declared.running.InFlight.{InFlight}
 use Rattle.kernel_steps.specs.declared.running.Running.{Running}
 use Rattle.kernel_steps.specs.Views.{placed_of, flight_of, chain_of, call_in_place, IsRunning}
@@ -175,3 +176,9 @@ call_row_is x p f waits top is waits_is innermost_is =
     ap (λ (o : Option WaitRow). Some (RawRow.Call p f.number o top)) waits_is
     ∙ ap (λ (o : Option TopRow). Some (RawRow.Call p f.number (placed_wait_row y p) o)) (innermost_is ∙ ap top_of (sym (levels_in_place x p)))
     ∙ sym (ap (λ (o : Option InFlight). option_map row (option_map call_in_place o)) is)
+
+-- a process whose call has levels has a place
+pub flight_there : (fs : List Flight) (p d : ℕ) → d < length (flight_of fs p).chain.levels → p < length fs
+flight_there [] p d h = absurd (omega (arith, h))
+flight_there (f ∷ fs) zero d h = omega arith
+flight_there (f ∷ fs) (suc p) d h = let further = flight_there fs p d h in omega (arith, further)

@@ -6,9 +6,9 @@ use Rattle.kernel_model.specs.Sound.{ImagesAreLoaded}
 use Rattle.kernel_model.specs.Locks.{no_locks}
 use Rattle.lock_table.specs.Masks.{held}
 use Rattle.kernel_state.specs.Stores.{objects_of}
-use Rattle.graft_calls.specs.declared.Chain.{Chain}
+use Rattle.graft_levels.specs.declared.Chain.{Chain}
 use Rattle.graft_loader.specs.Slots.{table_of}
-use Rattle.graft_calls.specs.Calls.{IsPlaced, AreInside}
+use Rattle.graft_levels.specs.Calls.{IsPlaced, AreInside}
 use Rattle.kernel_steps.specs.declared.running.Flight.{Flight}
 use Rattle.kernel_steps.specs.declared.running.Running.{Running}
 use Rattle.kernel_steps.specs.Views.{flight_of, no_flight, chain_of, IsRunning}

@@ -14,11 +14,11 @@ use Rattle.kernel_model.specs.Levels.{Level, code_in, image_of, limit_in}
 use Rattle.undo_calls.specs.UndoLevels.{Logged, found_of, innermost}
 use Rattle.graft_machine.specs.Cpu.{machine_of}
 use Rattle.kernel_state.specs.Accesses.{CanBeUndone}
-use Rattle.graft_calls.specs.declared.GraftLevel.{GraftLevel}
-use Rattle.graft_calls.specs.Chains.{put_back, level_in, levels_in, outer}
+use Rattle.graft_levels.specs.declared.GraftLevel.{GraftLevel}
+use Rattle.graft_levels.specs.Chains.{put_back, level_in, levels_in, outer}
 use Rattle.placed_laws.specs.Owners.{IsOwn, AreOwn}
 use Rattle.kernel_steps.specs.Owned.{AreOwned}
-use Rattle.graft_calls.specs.Calls.{AreSound, AreInside, AreUndoable, AllUndoable, RunsInside}
+use Rattle.graft_levels.specs.Calls.{AreSound, AreInside, AreUndoable, AllUndoable, RunsInside}
 
 -- ---- elements
 
@@ -82,4 +82,4 @@ inside_still images a b q ram t (g ∷ gs) log w same h =
 pub sound_still : (o : ℕ) (queue rows : List QueueRow) (gs : List GraftLevel) (log : List (List Logged)) → AreOwned o gs log → lives rows o ≡ true → AreSound queue gs → AreSound rows gs
 sound_still o queue rows [] log own live h = tt
 sound_still o queue rows (g ∷ gs) log own live h =
-    (record { owner = h.0.owner; point = h.0.point; lives = ap (lives rows) own.0 ∙ live }, h.1, sound_still o queue rows gs (outer log) own.2 live h.2)
+    (record { lives = ap (lives rows) own.0 ∙ live }, h.1, sound_still o queue rows gs (outer log) own.2 live h.2)

@@ -18,10 +18,10 @@ use Rattle.lock_table.specs.Masks.{held}
 use Rattle.vino_base.specs.Disks.{DiskSeen}
 use Rattle.kernel_state.specs.Stores.{world_of_store, objects_of, SegmentsStay}
 use Rattle.graft_loader.specs.Slots.{table_of}
-use Rattle.graft_calls.specs.declared.GraftLevel.{GraftLevel}
-use Rattle.graft_calls.specs.declared.Chain.{Chain}
-use Rattle.graft_calls.specs.Calls.{IsPlaced, AreInside}
-use Rattle.graft_calls.specs.Chains.{put_back, levels_in, outer, HasAnswer}
+use Rattle.graft_levels.specs.declared.GraftLevel.{GraftLevel}
+use Rattle.graft_levels.specs.declared.Chain.{Chain}
+use Rattle.graft_levels.specs.Calls.{IsPlaced, AreInside}
+use Rattle.graft_levels.specs.Chains.{put_back, levels_in, outer, HasAnswer}
 use Rattle.placed_laws.specs.Owners.{AreOwn, AreOfOwner}
 use Rattle.placed_laws.specs.Placed.{PlacedCall, PlacedLevel, PlacedRun, bare, placed_levels}
 use Rattle.placed_laws.specs.PlacedSteps.{placed_finish, placed_finish_on, placed_noted, placed_after_outcome, placed_outcome, with_config}
@@ -31,10 +31,11 @@ use Rattle.kernel_steps.specs.Moves.{come_to, Moved}
 use Rattle.kernel_steps.specs.Owned.{AreOwned}
 use Rattle.kernel_steps.specs.Steps.{finishes, after_drop, after_said, answer_of_drop, answer_said, IsOfOne, StepsAlone, Stepped, StepDone}
 use Rattle.kernel_steps.specs.Moments.{moment}
-use Rattle.kernel_steps.specs.Refines.{first_notes, PieceDone}
+use Rattle.kernel_steps.specs.Faults.{fault_notes}
+use Rattle.kernel_steps.specs.Refines.{Adds, PieceDone}
 use Rattle.kernel_steps.specs.Views.{placed_of, flight_of, chain_of, no_chain, levels_at, call_in_place, run_of, IsRunning}
 use Rattle.kernel_steps.proofs.CallLemmas.{with_call, call_of_changed, chain_of_changed, still_sixteen}
-use Rattle.kernel_steps.specs.Composing.{did_nothing, did_as, did_purely, did_then, reaches_as, reaches_behind, reaches_purely}
+use Rattle.kernel_steps.specs.Composing.{adds_none, did_nothing, did_as, did_purely, did_then, reaches_as, reaches_behind, reaches_purely}
 use Rattle.kernel_steps.specs.WholeBlocks.{some_blocks, blocks_are_whole}
 use Rattle.kernel_steps.proofs.FinishLemmas.{placed_finished, finish_did, finish_reaches}
 use Rattle.kernel_steps.proofs.MoveLemmas.{few_levels}
@@ -135,11 +136,11 @@ nothing_done x p kept d alone =
 
 -- a note, and then this
 pub noted_done : {C B M : Type 0} {P : _} (g : PlacedRun → PlacedRun) (x y : Running C B M P) (p : ℕ) (note : Note) (kept mid kept_new : List Note) (d e : DiskSeen) →
-    ((all : List Note) → kept ≡ first_notes all → mid ≡ first_notes (all ++ note ∷ [])) → StepDone g p (moment x mid d) (moment y kept_new e) → StepDone (λ r. g (placed_noted note r)) p (moment x kept d) (moment y kept_new e)
-noted_done g x y p note kept mid kept_new d e adds h =
+    Adds (note ∷ []) kept mid → fault_notes (note ∷ []) ≡ 0 → StepDone g p (moment x mid d) (moment y kept_new e) → StepDone (λ r. g (placed_noted note r)) p (moment x kept d) (moment y kept_new e)
+noted_done g x y p note kept mid kept_new d e adds none h =
     let o = placed_of x in
     record {
-      refines = did_then (placed_noted note) g o o (placed_of y) kept mid kept_new d d e (did_purely (placed_noted note) o o kept mid (note ∷ []) d (λ blocks notes io. refl) adds) h.refines;
+      refines = did_then (placed_noted note) g o o (placed_of y) kept mid kept_new d d e (did_purely (placed_noted note) o o kept mid (note ∷ []) d (λ blocks notes io. refl) adds none) h.refines;
       reaches = reaches_behind (placed_noted note) g o o (placed_of y) (note ∷ []) refl (λ blocks notes io. refl) h.reaches;
       stepped = h.stepped;
       own = h.own;
@@ -282,7 +283,7 @@ moved_done f g x y z p kept kept_new d e moved come h =
     λ blocks notes io. ap (λ w. run_of w blocks notes io) (sym come) ∙ ap (λ ns. run_of (placed_of y) blocks ns io) (sym (append-nil notes)) in
     record {
       refines = did_then (with_config p f) g o (placed_of y) (placed_of z) kept kept kept_new d d e
-          (did_purely (with_config p f) o (placed_of y) kept kept [] d same (λ notes k. k ∙ ap first_notes (sym (append-nil notes)))) h.refines;
+          (did_purely (with_config p f) o (placed_of y) kept kept [] d same (adds_none kept) refl) h.refines;
       reaches = reaches_behind (with_config p f) g o (placed_of y) (placed_of z) [] moved.elsewhere.world same h.reaches;
       stepped = stepped_moved x y z p moved h.stepped;
       own = h.own;
@@ -320,15 +321,15 @@ no_call (Some f) c e h = grind (arith, e)
 -- ---- the drop of a level
 
 pub drop_noted : {C B M : Type 0} {P : _} (m : Meaning) (x : Running C B M P) (p d : ℕ) (c : PlacedCall) (note : Note) (kept mid : List Note) (e : DiskSeen) → 0 < d →
-    ((all : List Note) → kept ≡ first_notes all → mid ≡ first_notes (all ++ note ∷ [])) → StepsAlone x p → StepDone (λ r. after_drop m p c d (placed_noted note r)) p (moment x kept e) (moment x mid e)
-drop_noted m x p zero c note kept mid e h adds alone = absurd (omega (arith, h))
-drop_noted m x p (suc d) c note kept mid e h adds alone =
-    noted_done (λ r. r) x x p note kept mid mid e e adds (nothing_done x p mid e alone)
+    Adds (note ∷ []) kept mid → fault_notes (note ∷ []) ≡ 0 → StepsAlone x p → StepDone (λ r. after_drop m p c d (placed_noted note r)) p (moment x kept e) (moment x mid e)
+drop_noted m x p zero c note kept mid e h adds none alone = absurd (omega (arith, h))
+drop_noted m x p (suc d) c note kept mid e h adds none alone =
+    noted_done (λ r. r) x x p note kept mid mid e e adds none (nothing_done x p mid e alone)
 
 pub drop_finished : {C B M : Type 0} {P : _} (m : Meaning) (x y : Running C B M P) (p d : ℕ) (c : PlacedCall) (note : Note) (kept mid kept_new : List Note) (e l : DiskSeen) → d ≤ 0 →
-    ((all : List Note) → kept ≡ first_notes all → mid ≡ first_notes (all ++ note ∷ [])) → StepDone (finishes m p c None) p (moment x mid e) (moment y kept_new l) → StepDone (λ r. after_drop m p c d (placed_noted note r)) p (moment x kept e) (moment y kept_new l)
-drop_finished m x y p zero c note kept mid kept_new e l h adds done = noted_done (finishes m p c None) x y p note kept mid kept_new e l adds done
-drop_finished m x y p (suc d) c note kept mid kept_new e l h adds done = absurd (omega (arith, h))
+    Adds (note ∷ []) kept mid → fault_notes (note ∷ []) ≡ 0 → StepDone (finishes m p c None) p (moment x mid e) (moment y kept_new l) → StepDone (λ r. after_drop m p c d (placed_noted note r)) p (moment x kept e) (moment y kept_new l)
+drop_finished m x y p zero c note kept mid kept_new e l h adds none done = noted_done (finishes m p c None) x y p note kept mid kept_new e l adds none done
+drop_finished m x y p (suc d) c note kept mid kept_new e l h adds none done = absurd (omega (arith, h))
 
 -- with level 0 the piece finishes by default
 pub answer_zero : (d : ℕ) → d ≤ 0 → answer_of_drop d ≡ Some None

@@ -15,8 +15,8 @@ use Rattle.lock_table.specs.declared.Holds.{Holds}
 use Rattle.lock_table.specs.Masks.{held}
 use Rattle.kernel_state.specs.Stores.{world_of_store, objects_of}
 use Rattle.graft_loader.specs.Slots.{table_of}
-use Rattle.graft_calls.specs.declared.GraftLevel.{GraftLevel}
-use Rattle.graft_calls.specs.Chains.{levels_in, levels_of}
+use Rattle.graft_levels.specs.declared.GraftLevel.{GraftLevel}
+use Rattle.graft_levels.specs.Chains.{levels_in, levels_of}
 use Rattle.placed_laws.specs.Placed.{bare, has_some, placed_needs}
 use Rattle.placed_laws.specs.Resting.{KeepsHolds}
 use Rattle.kernel_steps.specs.declared.running.InFlight.{InFlight}

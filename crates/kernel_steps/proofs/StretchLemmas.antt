@@ -11,10 +11,10 @@ use Rattle.undo_calls.specs.UndoLevels.{Logged}
 use Rattle.lock_table.specs.Masks.{held}
 use Rattle.kernel_state.specs.Stores.{world_of_store, objects_of, queue_of}
 use Rattle.graft_loader.specs.Slots.{table_of}
-use Rattle.graft_calls.specs.declared.GraftLevel.{GraftLevel}
-use Rattle.graft_calls.specs.declared.Chain.{Chain}
-use Rattle.graft_calls.specs.Chains.{levels_in, call_of}
-use Rattle.graft_calls.specs.Calls.{AreSound, IsPlaced, AreInside, AllUndoable}
+use Rattle.graft_levels.specs.declared.GraftLevel.{GraftLevel}
+use Rattle.graft_levels.specs.declared.Chain.{Chain}
+use Rattle.graft_levels.specs.Chains.{levels_in, call_of}
+use Rattle.graft_levels.specs.Calls.{AreSound, IsPlaced, AreInside, AllUndoable}
 use Rattle.graft_calls.specs.Stretch.{gone_on, HasGoneOn, StillRun}
 use Rattle.placed_laws.specs.Agreeing.{SameShown}
 use Rattle.placed_laws.specs.Owners.{AreOfOwner}
@@ -38,7 +38,7 @@ use Rattle.kernel_steps.proofs.WholeLemmas.{has_call, call_is}
 still_sound : (queue rows : List QueueRow) (gs : List GraftLevel) → ((q : ℕ) → lives rows q ≡ lives queue q) → AreSound queue gs → AreSound rows gs
 still_sound queue rows [] living h = tt
 still_sound queue rows (g ∷ gs) living h =
-    (record { owner = h.0.owner; point = h.0.point; lives = living g.owner ∙ h.0.lives }, h.1, still_sound queue rows gs living h.2)
+    (record { lives = living g.owner ∙ h.0.lives }, h.1, still_sound queue rows gs living h.2)
 
 -- where there are levels in place there are some in the chain
 some_in : (p : ℕ) (ram : List ℕ) (t : LockTable) (gs : List GraftLevel) (log : List (List Logged)) (w : Things) → has_some (map bare (levels_in p ram t gs log w)) ≡ true → 0 < length gs

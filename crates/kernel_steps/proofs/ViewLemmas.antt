@@ -12,8 +12,8 @@ use Rattle.kernel_model.specs.Locks.{LockTable, untouched}
 use Rattle.kernel_model.specs.Levels.{Level, touched_at}
 use Rattle.kernel_model.specs.Blocking.{locks_from}
 use Rattle.undo_calls.specs.UndoLevels.{Logged, innermost}
-use Rattle.graft_calls.specs.declared.GraftLevel.{GraftLevel}
-use Rattle.graft_calls.specs.Chains.{put_back, levels_in, level_in, outer, levels_of, call_of}
+use Rattle.graft_levels.specs.declared.GraftLevel.{GraftLevel}
+use Rattle.graft_levels.specs.Chains.{put_back, levels_in, level_in, outer, levels_of, call_of}
 use Rattle.lock_table.specs.declared.Holds.{Holds}
 use Rattle.lock_table.specs.Masks.{held, levels_at, masks_of}
 use Rattle.lock_table.specs.Numbers.{number_of, is_in_range}

@@ -22,10 +22,10 @@ use Rattle.kernel_steps.specs.declared.running.Running.{Running}
 use Rattle.kernel_steps.specs.Moves.{HeldStays}
 use Rattle.kernel_steps.specs.Steps.{StepDone}
 use Rattle.kernel_steps.specs.Moments.{moment}
-use Rattle.kernel_steps.specs.Refines.{first_notes, Reaches, Refines}
+use Rattle.kernel_steps.specs.Refines.{Reaches, Refines}
 use Rattle.kernel_steps.specs.Views.{placed_of, levels_at, call_at, run_of, IsRunning, HasAbstraction, Simulates}
 use Rattle.kernel_steps.proofs.AgainLemmas.{runs_again}
-use Rattle.kernel_steps.specs.Composing.{did_as, did_purely, did_then, reaches_as, reaches_before}
+use Rattle.kernel_steps.specs.Composing.{adds_none, did_as, did_purely, did_then, reaches_as, reaches_before}
 use Rattle.kernel_steps.proofs.ViewLemmas.{holds_in_place}
 
 -- ---- what stands for a kernel goes on to
@@ -117,7 +117,7 @@ pub did_requeued : (f : PlacedRun → PlacedRun) (x y z : Placed) (p : ℕ) (kep
 did_requeued f x y z p kept kept_new d e h goes =
     did_then f (placed_requeue p) x y z kept kept_new kept_new d e e h
     (did_purely (placed_requeue p) y z kept_new kept_new [] e (λ blocks notes io. goes notes blocks io ∙ ap (λ ns. run_of z blocks ns io) (sym (append-nil notes)))
-    (λ notes k. k ∙ ap first_notes (sym (append-nil notes))))
+    (adds_none kept_new) refl)
 
 pub did_step : (m : Meaning) (x z : Placed) (p : ℕ) (kept kept_new : List Note) (d e : DiskSeen) → Refines (λ r. placed_requeue p (placed_call_step m p (x.call p) r)) (moment x kept d) (moment z kept_new e) → Refines (placed_step m p) (moment x kept d) (moment z kept_new e)
 did_step m x z p kept kept_new d e h = did_as (placed_step m p) (λ r. placed_requeue p (placed_call_step m p (x.call p) r)) x z kept kept_new d e (λ blocks notes io. refl) h

@@ -9,7 +9,7 @@ use Rattle.graft_loader.specs.Slots.{table_of}
 use Rattle.placed_laws.specs.Keeping.{first_placed}
 use Rattle.placed_laws.specs.PlacedSteps.{placed_joins, with_placed_call}
 use Rattle.call_pieces.specs.Works.{stage_of}
-use Rattle.call_pieces.specs.declared.Work.{Work}
+use Rattle.call_needs.specs.declared.Work.{Work}
 use Rattle.kernel_steps.specs.declared.running.InFlight.{InFlight}
 use Rattle.kernel_steps.specs.declared.running.Flight.{Flight}
 use Rattle.kernel_steps.specs.declared.running.Running.{Running}

@@ -1,15 +1,40 @@
 -- How changes of an event under way follow each other.
-use Rattle.std.proofs.Common.{◌≡◌, ℕ, Bool, List, [], ◌++◌, Option, ap, sym, subst, ◌∙◌, refl}
+use Rattle.std.proofs.Common.{append-nil, arith, cond, ◌≡◌, ℕ, ◌+◌, ◌≤◌, Bool, List, [], ◌++◌, Option, ap, sym, subst, ◌∙◌, refl}
 use Rattle.std.proofs.lemmas.List.{append_assoc}
+use Rattle.std.proofs.lemmas.List.Sums.{sum_by-append}
 use Rattle.kernel_model.specs.declared.Note.{Note}
 use Rattle.kernel_model.specs.World.{Blocks}
 use Rattle.kernel_model.specs.Sound.{HasWholeBlocks}
 use Rattle.vino_base.specs.Disks.{DiskSeen}
+use Rattle.disk_log.specs.Calls.{failures}
 use Rattle.disk_log.specs.Joined.{made_none, made_joined}
 use Rattle.placed_laws.specs.Placed.{Placed, PlacedRun}
 use Rattle.kernel_steps.specs.Moments.{moment}
-use Rattle.kernel_steps.specs.Refines.{first_notes, Reaches, Refines, RunMatches}
+use Rattle.kernel_steps.specs.Faults.{fault_notes}
+use Rattle.kernel_steps.specs.Refines.{first_notes, Adds, Reaches, Refines, RunMatches}
 use Rattle.kernel_steps.specs.Views.{run_of}
+
+-- ---- notes that tell of a failed disk
+
+-- no note was added
+pub adds_none : (kept : List Note) → Adds [] kept kept
+adds_none kept =
+    record {
+      first = λ notes k. k ∙ ap first_notes (sym (append-nil notes));
+      faults = omega arith;
+    }
+
+-- those of two changes, one after the other
+pub faults_joined : (a b c : ℕ) (xs ys : List Bool) → b ≤ a + failures xs → c ≤ b + failures ys →
+    c ≤ a + failures (xs ++ ys)
+faults_joined a b c xs ys first second =
+    let both = sum_by-append (λ failed. cond failed 1 0) xs ys in
+    omega (arith, first, second, both)
+
+-- added notes none of which tells of one
+pub faults_same : (kept kept_new more : List Note) → Adds more kept kept_new →
+    fault_notes more ≡ 0 → fault_notes kept_new ≤ fault_notes kept + 0
+faults_same kept kept_new more adds none = let few = adds.faults in omega (arith, few, none)
 
 -- ---- what a change did
 
@@ -33,6 +58,7 @@ did_nothing x kept d =
         blocks = tells;
         io = refl;
       };
+      faulted = omega arith;
     }
 
 -- another change that comes to the same from here
@@ -47,21 +73,23 @@ did_as f g x y kept kept_new d e same h =
       made = h.made;
       goes = λ blocks notes rest tells k. subst (λ r. RunMatches r y kept_new e.known rest)
           (sym (same blocks notes (h.io ++ rest))) (h.goes blocks notes rest tells k);
+      faulted = h.faulted;
     }
 
--- a change without a call of the disk, which adds these notes
+-- a change without a call of the disk, which adds these notes, none of a failed disk
 pub did_purely : (f : PlacedRun → PlacedRun) (x y : Placed) (kept kept_new more : List Note)
     (d : DiskSeen) → ((blocks : Blocks) (notes : List Note) (io : List Bool) →
     f (run_of x blocks notes io) ≡ run_of y blocks (notes ++ more) io) →
-    ((notes : List Note) → kept ≡ first_notes notes → kept_new ≡ first_notes (notes ++ more)) →
+    Adds more kept kept_new → fault_notes more ≡ 0 →
     Refines f (moment x kept d) (moment y kept_new d)
-did_purely f x y kept kept_new more d same adds =
+did_purely f x y kept kept_new more d same adds none =
     record {
       io = [];
       made = made_none d;
       goes = λ blocks notes rest tells k.
           subst (λ r. RunMatches r y kept_new d.known rest) (sym (same blocks notes rest))
-          (record { placed = refl; notes = adds notes k; blocks = tells; io = refl });
+          (record { placed = refl; notes = adds.first notes k; blocks = tells; io = refl });
+      faulted = faults_same kept kept_new more adds none;
     }
 
 -- one after the other
@@ -81,6 +109,8 @@ did_then f g x y z a b c d e l first second =
           subst (λ s. RunMatches (g s) z c l.known rest)
           (sym (run_is r y b e.known (second.io ++ rest) one))
           (second.goes r.blocks r.notes rest one.blocks one.notes);
+      faulted = faults_joined (fault_notes a) (fault_notes b) (fault_notes c) first.io second.io
+          first.faulted second.faulted;
     }
 
 -- ---- what a change may reach

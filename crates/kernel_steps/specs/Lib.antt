@@ -5,6 +5,7 @@ pub mod Grips
 pub mod Hindered
 pub mod Moves
 pub mod Moments
+pub mod Faults
 pub mod Refines
 pub mod Sound
 pub mod Steps

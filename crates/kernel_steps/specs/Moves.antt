@@ -14,7 +14,7 @@ use Rattle.kernel_model.specs.Sound.{ImagesAreLoaded}
 use Rattle.kernel_state.specs.declared.Store.{Store}
 use Rattle.kernel_state.specs.Stores.{objects_of, queue_of}
 use Rattle.graft_loader.specs.Slots.{table_of}
-use Rattle.graft_calls.specs.Calls.{IsPlaced, AreSound, AreInside, AllUndoable, IsElsewhereSame}
+use Rattle.graft_levels.specs.Calls.{IsPlaced, AreSound, AreInside, AllUndoable, IsElsewhereSame}
 use Rattle.kernel_model.specs.Meaning.{Meaning}
 use Rattle.placed_laws.specs.Placed.{Placed, PlacedCall, bare}
 use Rattle.kernel_steps.specs.declared.running.Running.{Running}

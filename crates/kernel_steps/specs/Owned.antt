@@ -1,8 +1,8 @@
 -- Whose the levels of a chain are.
 use Rattle.std.specs.Prelude.{◌≡◌, ℕ, List, [], ◌∷◌, map, ⊤}
 use Rattle.undo_calls.specs.UndoLevels.{Logged, found_of, innermost}
-use Rattle.graft_calls.specs.declared.GraftLevel.{GraftLevel}
-use Rattle.graft_calls.specs.Chains.{outer}
+use Rattle.graft_levels.specs.declared.GraftLevel.{GraftLevel}
+use Rattle.graft_levels.specs.Chains.{outer}
 use Rattle.placed_laws.specs.Owners.{AreOwn}
 
 -- levels, innermost first, are all of this owner, and so are their records

@@ -1,6 +1,6 @@
 -- What a change of an event under way did, beside what the definitions say.
-use Rattle.std.specs.Prelude.{◌≡◌, ℕ, Bool, List, ◌++◌, Option, take, length}
-use Rattle.disk_log.specs.Calls.{Knows, Made}
+use Rattle.std.specs.Prelude.{◌≡◌, ℕ, ◌+◌, ◌≤◌, Bool, List, ◌++◌, Option, take, length}
+use Rattle.disk_log.specs.Calls.{Knows, Made, failures}
 use Rattle.kernel_model.specs.declared.Note.{Note}
 use Rattle.kernel_model.specs.World.{World, ImageTable, Blocks}
 use Rattle.kernel_model.specs.Objects.{Objects}
@@ -11,12 +11,20 @@ use Rattle.kernel_state.specs.declared.Store.{Store}
 use Rattle.kernel_state.specs.Stores.{world_of_store, SegmentsStay}
 use Rattle.placed_laws.specs.Placed.{Placed, PlacedCall, PlacedRun}
 use Rattle.placed_laws.specs.PlacedSteps.{placed_after}
+use Rattle.kernel_steps.specs.Faults.{fault_notes}
 use Rattle.kernel_steps.specs.Moments.{Moment}
 use Rattle.kernel_steps.specs.Views.{run_of}
 
 -- the notes that are kept of those of an event: no event of a sound kernel has more
 unfoldable pub first_notes : List Note → List Note
 first_notes notes = take 530 notes
+
+-- These notes were added to those that are kept: of all notes the first are kept, and none tells of
+-- a failed disk that didn't before, or is one of these.
+pub record Adds (more kept kept_new : List Note) : Type 0 where
+  pub first : (notes : List Note) → kept ≡ first_notes notes →
+      kept_new ≡ first_notes (notes ++ more)
+  pub faults : fault_notes kept_new ≤ fault_notes kept + fault_notes more
 
 -- ---- a change of an event under way
 
@@ -27,7 +35,7 @@ abbrev pub SimulatesNoting : (PlacedRun → PlacedRun) → Placed → Placed →
 SimulatesNoting f x y more kept kept_new =
     ((notes : List Note) (blocks : Blocks) (io : List Bool) →
     f (run_of x blocks notes io) ≡ run_of y blocks (notes ++ more) io)
-    × ((notes : List Note) → kept ≡ first_notes notes → kept_new ≡ first_notes (notes ++ more))
+    × Adds more kept kept_new
 
 -- an event under way has come to this kernel in place, of its notes these are kept, the disk tells
 -- its blocks, and its next calls will do this
@@ -47,6 +55,8 @@ pub record Refines (f : PlacedRun → PlacedRun) (a b : Moment Placed) : Type 0 
   pub goes : (blocks : Blocks) (notes : List Note) (rest : List Bool) →
       Knows a.disk.known blocks → a.notes ≡ first_notes notes →
       RunMatches (f (run_of a.kernel blocks notes (io ++ rest))) b.kernel b.notes b.disk.known rest
+  -- whatever the disk tells: each note of a refusal because it failed has a failed call of its own
+  pub faulted : fault_notes b.notes ≤ fault_notes a.notes + failures io
 
 -- Whether the disk tells its blocks or not: over some whole ones the change takes the one kernel in
 -- place to the other.
@@ -88,6 +98,7 @@ pub record PieceDone (m : Meaning) (v : World) (p : ℕ) (c : PlacedCall)
       Knows a.disk.known blocks → a.notes ≡ first_notes notes →
       PieceLeft c (m.piece v images a.kernel blocks p c.stage answer (io ++ rest)) b.kernel call
       notes b.notes b.disk.known (length io)
+  pub faulted : fault_notes b.notes ≤ fault_notes a.notes + failures io
   pub some : (images : ImageTable) → PieceMayLeave v
       (λ blocks io. m.piece v images a.kernel blocks p c.stage answer io) c b.kernel call
 

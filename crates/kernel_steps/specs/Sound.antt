@@ -1,6 +1,7 @@
 -- What must hold of a running kernel for its calls, and what a change of an event under way keeps.
-use Rattle.std.specs.Prelude.{◌≡◌, ℕ, ◌<◌, List, All}
+use Rattle.std.specs.Prelude.{◌≡◌, ℕ, ◌<◌, List, All, length}
 use Rattle.kernel_model.specs.declared.Need.{Need}
+use Rattle.kernel_model.specs.declared.Note.{Note}
 use Rattle.kernel_model.specs.Laws.{IsInRange}
 use Rattle.kernel_model.specs.Meaning.{Meaning}
 use Rattle.kernel_state.specs.Stores.{world_of_store}
@@ -8,8 +9,8 @@ use Rattle.placed_laws.specs.Placed.{PlacedRun, placed_needs}
 use Rattle.vino_base.specs.Disks.{DiskSeen}
 use Rattle.kernel_steps.specs.declared.running.Running.{Running}
 use Rattle.kernel_steps.specs.Moments.{moment, Moment}
-use Rattle.kernel_steps.specs.Refines.{Refines}
-use Rattle.kernel_steps.specs.Views.{placed_of, IsRunning, HasAbstraction}
+use Rattle.kernel_steps.specs.Refines.{Refines, SimulatesNoting}
+use Rattle.kernel_steps.specs.Views.{placed_of, chain_of, IsRunning, HasAbstraction, Simulates}
 
 -- ---- a kernel
 
@@ -47,13 +48,30 @@ pub record CanRun {C B M : Type 0} {P : _} (m : Meaning) (x : Running C B M P)
   pub abstraction : HasAbstraction m (placed_of x)
   pub disk : x.store.size ≡ seen.size
 
--- what the next step of process p's call needs
+-- The call of process p can run, and has level d, counted from the outermost.
+pub record HasLevel {C B M : Type 0} {P : _} (m : Meaning) (x : Running C B M P)
+    (seen : DiskSeen) (p d : ℕ) : Type 0 where
+  pub process : p < 16
+  pub running : IsRunning x
+  pub abstraction : HasAbstraction m (placed_of x)
+  pub disk : x.store.size ≡ seen.size
+  pub level : d < length (chain_of x p).levels
+
+-- what the next step of the call of process p needs, in a running kernel
 pub record AreNeeds {C B M : Type 0} {P : _} (m : Meaning) (x : Running C B M P) (p : ℕ)
     (needs : List Need) : Type 0 where
+  pub process : p < 16
+  pub running : IsRunning x
   pub value : needs ≡ placed_needs m (placed_of x) p
   pub range : All (λ (n : Need). IsInRange n.object) needs
 
 -- ---- what a change keeps
+
+-- A change that makes no call of the disk, and says nothing, was made, and the kernel runs on.
+pub record ChangesTo {C B M : Type 0} {P : _} (f : PlacedRun → PlacedRun)
+    (x y : Running C B M P) : Type 0 where
+  pub value : Simulates f (placed_of x) (placed_of y)
+  pub running : IsRunning y
 
 -- What always holds after a change: the kernel is sound. The set-up and the clock stay.
 pub record KeepsRunning {C B M : Type 0} {P : _} (m : Meaning) (x y : Running C B M P) :
@@ -62,6 +80,13 @@ pub record KeepsRunning {C B M : Type 0} {P : _} (m : Meaning) (x y : Running C 
   pub abstraction : HasAbstraction m (placed_of y)
   pub world : world_of_store y.store ≡ world_of_store x.store
   pub clock : y.clock ≡ x.clock
+
+-- A change that makes no call of the disk was made, which added these notes to those that are kept,
+-- and the kernel runs on.
+pub record ChangesNoting {C B M : Type 0} {P : _} (f : PlacedRun → PlacedRun) (more : List Note)
+    (x y : Running C B M P) (kept kept_new : List Note) : Type 0 where
+  pub value : SimulatesNoting f (placed_of x) (placed_of y) more kept kept_new
+  pub running : IsRunning y
 
 -- A change of an event under way was made, as `Refines` says it, and left a sound kernel. The
 -- set-up and the clock stay.

@@ -8,8 +8,8 @@ use Rattle.call_pieces.specs.Works.{answer_seen, stage_of}
 use Rattle.lock_table.specs.Masks.{held}
 use Rattle.kernel_state.specs.Stores.{world_of_store, objects_of}
 use Rattle.graft_loader.specs.Slots.{table_of}
-use Rattle.graft_calls.specs.declared.Chain.{Chain}
-use Rattle.graft_calls.specs.Calls.{IsPlaced, AreInside}
+use Rattle.graft_levels.specs.declared.Chain.{Chain}
+use Rattle.graft_levels.specs.Calls.{IsPlaced, AreInside}
 use Rattle.placed_laws.specs.Placed.{PlacedCall, PlacedRun}
 use Rattle.placed_laws.specs.PlacedSteps.{placed_noted, placed_finish_on}
 use Rattle.kernel_steps.specs.declared.running.InFlight.{InFlight}

@@ -7,10 +7,10 @@ use Rattle.kernel_model.specs.Sound.{ImagesAreLoaded}
 use Rattle.kernel_model.specs.Meaning.{Meaning}
 use Rattle.call_pieces.specs.Works.{stage_of}
 use Rattle.kernel_state.specs.Stores.{world_of_store, objects_of}
-use Rattle.graft_calls.specs.declared.Chain.{Chain}
+use Rattle.graft_levels.specs.declared.Chain.{Chain}
 use Rattle.graft_loader.specs.Slots.{table_of}
-use Rattle.graft_calls.specs.Chains.{levels_of}
-use Rattle.graft_calls.specs.Calls.{IsPlaced, AreInside}
+use Rattle.graft_levels.specs.Chains.{levels_of}
+use Rattle.graft_levels.specs.Calls.{IsPlaced, AreInside}
 use Rattle.placed_laws.specs.Placed.{PlacedCall, PlacedLevel, Placed, PlacedRun, bare}
 use Rattle.placed_laws.specs.Stands.{StandsFor}
 use Rattle.kernel_steps.specs.declared.running.InFlight.{InFlight}

@@ -1,30 +1,30 @@
 //! What keeps a step from being taken.
 
-ghost use Rattle.std.specs.Prelude.{◌≡◌, ℕ, ◌<◌, None, Contains, option_map, All, List, length};
+ghost use Rattle.std.specs.Prelude.{◌≡◌, ℕ, ◌<◌, ◌≤◌, None, Contains, option_map, All, List, length};
 ghost use Rattle.kernel_model.specs.Bare.{call_with};
 ghost use Rattle.kernel_model.specs.GraftStep.{next_needs, lock_user};
 ghost use Rattle.kernel_model.specs.Objects.{Things};
 ghost use Rattle.call_pieces.specs.Works.{IsDue, call_of, stage_of};
-ghost use Rattle.graft_calls.specs.Calls.{AreSound};
-ghost use Rattle.graft_calls.specs.Chains.{levels_in};
+ghost use Rattle.graft_levels.specs.Calls.{AreSound};
+ghost use Rattle.graft_levels.specs.Chains.{levels_in};
 ghost use Rattle.graft_loader.specs.Slots.{table_of};
-ghost use Rattle.placed_laws.specs.Placed.{placed_blocker, placed_holds, placed_levels, placed_needs};
+ghost use Rattle.placed_laws.specs.Placed.{placed_blocker};
 ghost use Rattle.kernel_steps.specs.Orders.{blocker_of};
-ghost use Rattle.kernel_steps.specs.Sound.{AreNeeds, HasProcess, IsSoundFor};
+ghost use Rattle.kernel_steps.specs.Sound.{AreNeeds, IsSoundFor};
 ghost use Rattle.kernel_steps.specs.Views.{placed_of, flight_of};
 ghost use Rattle.kernel_model.specs.declared.Need.{Need as Needed};
 ghost use Rattle.kernel_model.specs.declared.Object.TheVariants.{Lock};
 ghost use Rattle.kernel_model.specs.Laws.{IsInRange, waits_for_user};
-ghost use Rattle.kernel_model.specs.Locks.{LockTable as Table, first_hindrance as first_of, hindrance_by, lowest_holder, user_hindrance, user_of};
+ghost use Rattle.kernel_model.specs.Locks.{LockTable as Table, hindrance_by, lowest_holder, user_hindrance, user_of};
 ghost use Rattle.undo_calls.specs.UndoLevels.{Logged};
 ghost use Rattle.kernel_state.specs.Stores.{world_of_store, queue_of, objects_of};
 ghost use Rattle.lock_table.specs.Masks.{held};
-ghost use Rattle.kernel_steps.specs.Hindered.{hindrance_of, blocking_by};
+ghost use Rattle.kernel_steps.specs.Hindered.{hindrance_of, blocking_by, IsFirstHindrance, IsStepHindrance};
 
 use crate::order::Blocking;
 use crate::running::{Flight, Running};
 use call_pieces::{Calls, Needs, Work};
-use graft_calls::Chain;
+use graft_levels::Chain;
 use graft_loader::Images;
 use graft_points::Policy;
 use kernel_model::{BareCall, Need, Object};
@@ -96,8 +96,7 @@ pub(crate) fn first_hindrance<B: Policy>(
     needs: &[Need],
 ) -> Option<Hindrance>
     requires range { All (λ (n : Needed). IsInRange n.object) needs.now }
-    ensures { option_map hindrance_of result
-        ≡ first_of (held locks.now) (objects_of store.now).things.lock p q needs.now }
+    ensures { IsFirstHindrance (held locks.now) (objects_of store.now) p q needs.now result }
 {
     let Some((need, rest)) = needs.split_first() else {
         return None;
@@ -132,10 +131,9 @@ fn hindrance_by_needs<C: Calls, B: Policy>(
     requires range { (n : Needed) → Contains
         (C.Meaning.meaning.need (world_of_store store.now) (objects_of store.now)
         work.now.caller (stage_of work.now)) n → IsInRange n.object }
-    ensures { option_map hindrance_of result
-        ≡ first_of (held locks.now) (objects_of store.now).things.lock p p
+    ensures { IsFirstHindrance (held locks.now) (objects_of store.now) p p
         (C.Meaning.meaning.need (world_of_store store.now) (objects_of store.now)
-        work.now.caller (stage_of work.now)) }
+        work.now.caller (stage_of work.now)) result }
 {
     let mut needs = Needs::new();
     C::need(work, store, &mut needs);
@@ -159,10 +157,9 @@ fn piece_hindrance<C: Calls, B: Policy>(
         (C.Meaning.meaning.need (world_of_store store.now) (objects_of store.now)
         work.now.caller (stage_of work.now)) n →
         n.by_user ≡ waits_for_user (call_of work.now) n.object }
-    ensures { option_map hindrance_of result
-        ≡ first_of (held locks.now) (objects_of store.now).things.lock p p
+    ensures { IsFirstHindrance (held locks.now) (objects_of store.now) p p
         (C.Meaning.meaning.need (world_of_store store.now) (objects_of store.now)
-        work.now.caller (stage_of work.now)) }
+        work.now.caller (stage_of work.now)) result }
 {
     if locks.is_free() && !waits_for_user(work.call) {
         return None;
@@ -181,10 +178,9 @@ fn graft_hindrance<B: Policy>(
     requires { AreSound (queue_of store.now) chain.now.levels }
     ensures { (ram : List ℕ) (t : Table) (log : List (List Logged)) (w : Things) →
         let ls = levels_in p ram t chain.now.levels log w in
-        option_map hindrance_of result ≡ first_of (held locks.now)
-        (objects_of store.now).things.lock p (lock_user p ls)
+        IsFirstHindrance (held locks.now) (objects_of store.now) p (lock_user p ls)
         (next_needs (world_of_store store.now) (table_of images.now)
-        (objects_of store.now).accounts ls) }
+        (objects_of store.now).accounts ls) result }
 {
     let needs = chain.needs(store, images);
     first_hindrance(locks, store, p, chain.lock_user(p), needs.as_slice())
@@ -200,6 +196,17 @@ pub(crate) fn number_of(flights: &[Flight], p: u8) -> Option<u32>
             None => None,
         },
         None => None,
+    }
+}
+
+/// How many levels a process's call has: none, where it has no call.
+pub(crate) fn count_of(flights: &[Flight], p: u8) -> u8
+    ensures value { result ≡ length (flight_of flights.now p).chain.levels }
+    ensures few { result ≤ 4 }
+{
+    match flights.get(p as usize) {
+        Some(flight) => flight.chain.levels.count(),
+        None => 0,
     }
 }
 
@@ -230,9 +237,7 @@ impl<C: Calls, B: Policy> Running<C, B> {
     /// What hinders the next step of process p's call.
     fn hindered(&self, p: u8) -> Option<Hindrance>
         requires { IsSoundFor C.Meaning.meaning self.now p }
-        ensures { let x = placed_of self.now in
-            option_map hindrance_of result ≡ first_of (placed_holds x) x.objects.things.lock p
-            (lock_user p (placed_levels x p)) (placed_needs C.Meaning.meaning x p) }
+        ensures { IsStepHindrance C.Meaning.meaning (placed_of self.now) p result }
     {
         soundness::sound_in_place::<C::Meaning>();
         let flight = flight(&self.calls, p);
@@ -247,11 +252,8 @@ impl<C: Calls, B: Policy> Running<C, B> {
 
     /// What hinders the next instruction of process p's call, which is in a graft and needs this.
     fn hindered_by(&self, p: u8, needs: &[Need]) -> Option<Hindrance>
-        requires at { HasProcess self.now p }
-        requires needs { AreNeeds C.Meaning.meaning self.now p needs.now }
-        ensures { let x = placed_of self.now in
-            option_map hindrance_of result ≡ first_of (placed_holds x) x.objects.things.lock p
-            (lock_user p (placed_levels x p)) (placed_needs C.Meaning.meaning x p) }
+        requires { AreNeeds C.Meaning.meaning self.now p needs.now }
+        ensures { IsStepHindrance C.Meaning.meaning (placed_of self.now) p result }
     {
         let user = flight(&self.calls, p).chain.lock_user(p);
         first_hindrance(&self.locks, &self.store, p, user, needs)
@@ -260,8 +262,7 @@ impl<C: Calls, B: Policy> Running<C, B> {
     /// What blocks the next instruction of process p's call, which is in a graft and needs this, if
     /// something does.
     pub fn blocked_by(&self, p: u8, needs: &[Need]) -> Option<Blocking>
-        requires at { HasProcess self.now p }
-        requires needs { AreNeeds C.Meaning.meaning self.now p needs.now }
+        requires { AreNeeds C.Meaning.meaning self.now p needs.now }
         ensures { let x = placed_of self.now in
             option_map blocker_of result ≡ placed_blocker C.Meaning.meaning x p }
     {

@@ -4,8 +4,10 @@ ghost use Rattle.std.specs.Prelude.{◌≡◌, ◌<◌, [], length};
 ghost use Rattle.kernel_model.specs.History.{begin_at};
 ghost use Rattle.kernel_model.specs.GraftStep.{micro};
 ghost use Rattle.kernel_model.specs.Levels.{drop_level as level_dropped};
-ghost use Rattle.graft_calls.specs.Chains.{HasAnswer};
+ghost use Rattle.graft_levels.specs.Chains.{HasAnswer};
+ghost use Rattle.kernel_state.specs.Stores.{objects_of};
 ghost use Rattle.placed_laws.specs.Placed.{placed_config, placed_levels};
+ghost use Rattle.undo_laws.specs.Undone.{LeadsToStoreBelow};
 ghost use Rattle.kernel_steps.specs.Sound.{HasProcess, IsSoundFor};
 ghost use Rattle.kernel_steps.specs.Views.{placed_of, chain_of};
 ghost use Rattle.kernel_steps.specs.Moves.{come_to, fed_by, needed_by, HasGraft, Moved};
@@ -13,13 +15,15 @@ ghost use Rattle.kernel_steps.specs.Moves.{come_to, fed_by, needed_by, HasGraft,
 use crate::entering::begin_graft;
 use crate::running::Running;
 use call_pieces::Calls;
+use graft_calls::instruction;
 use graft_points::Policy;
 use kernel_model::{Cause, Micro, Point};
 use placed_laws::soundness;
+use undo_laws::undoing;
 
 impl<C: Calls, B: Policy> Running<C, B> {
     /// Level d of process p's call is dropped, counted from the outermost: those further inward end
-    /// with it.
+    /// with it. The store is what it was below that level, without the level's graft.
     pub fn fall(&mut self, p: u8, d: u8, cause: Cause) -> Micro
         requires at { HasProcess self.old p }
         requires level { d < length (chain_of self.old p).levels }
@@ -28,8 +32,11 @@ impl<C: Calls, B: Policy> Running<C, B> {
         ensures config { let x = placed_of self.old in
             placed_of self.new ≡ come_to p
             (level_dropped x.world x.objects (placed_levels x p) d cause).config x }
+        ensures below { LeadsToStoreBelow C.Meaning.meaning (placed_of self.old) p d
+            (objects_of self.new.store) }
         ensures moved { Moved self.old self.new p }
     {
+        undoing::drops_lead_to_store_below::<C::Meaning>();
         let flight = &mut self.calls[p as usize];
         flight
             .chain
@@ -49,9 +56,13 @@ impl<C: Calls, B: Policy> Running<C, B> {
         ensures moved { Moved self.old self.new p }
     {
         let flight = &mut self.calls[p as usize];
-        flight
-            .chain
-            .instruction(p, &mut self.store, &mut self.locks, &self.images)
+        instruction(
+            &mut flight.chain,
+            p,
+            &mut self.store,
+            &mut self.locks,
+            &self.images,
+        )
     }
 
     /// The call of process p enters a graft, where its piece asks a point at which one stands:

@@ -1,11 +1,10 @@
 //! The notes of an event.
 
-ghost use Rattle.std.specs.Prelude.{◌≡◌, ◌≤◌, ◌<◌, ◌*◌, ◌+◌, ◌++◌, List, Some, [], ◌∷◌, length, IfOk, vec_capacity};
-ghost use Rattle.kernel_model.specs.declared.Note.{Note as Told};
+ghost use Rattle.std.specs.Prelude.{◌≡◌, ◌≤◌, ◌<◌, ◌*◌, ◌+◌, ◌++◌, Some, [], ◌∷◌, length, IfOk, vec_capacity};
 ghost use Rattle.kernel_model.specs.Kernel.{gave_note};
 ghost use Rattle.kernel_model.specs.Bare.{given_count, note_with, notes_with};
 ghost use Rattle.kernel_steps.specs.Noting.{AreGiven, NotesFit};
-ghost use Rattle.kernel_steps.specs.Refines.{first_notes};
+ghost use Rattle.kernel_steps.specs.Refines.{Adds};
 
 use call_pieces::Gift;
 use kernel_model::{BLOCK_BYTES, BareNote, NoMemory};
@@ -114,8 +113,7 @@ impl Notes {
     /// One more note, without bytes. No event of a sound kernel has more than 530; of more
     /// the first are kept.
     pub fn push(&mut self, note: BareNote)
-        ensures { (all : List Told) → self.old ≡ first_notes all →
-            self.new ≡ first_notes (all ++ note_with note [] ∷ []) }
+        ensures { Adds (note_with note [] ∷ []) self.old self.new }
     {
         if self.list.len() < NOTES {
             add(&mut self.list, &mut self.bytes, without_bytes(note), &[]);
@@ -124,8 +122,7 @@ impl Notes {
 
     /// The note of bytes that a piece gave, if it gave some.
     pub fn push_bytes(&mut self, number: u32, gave: &Gift)
-        ensures { (all : List Told) → self.old ≡ first_notes all →
-            self.new ≡ first_notes (all ++ gave_note number gave.now) }
+        ensures { Adds (gave_note number gave.now) self.old self.new }
     {
         let Some(bytes) = gave.bytes() else {
             return;

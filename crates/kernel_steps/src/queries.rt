@@ -9,15 +9,15 @@ ghost use Rattle.lock_table.specs.Numbers.{is_in_range};
 ghost use Rattle.placed_laws.specs.Placed.{has_some, placed_holds, placed_needs};
 ghost use Rattle.placed_laws.specs.PlacedSteps.{placed_joins};
 ghost use Rattle.kernel_steps.specs.Queries.{note_in_graft};
-ghost use Rattle.kernel_steps.specs.Sound.{HasProcess, IsSoundFor};
+ghost use Rattle.kernel_steps.specs.Sound.{ChangesTo, HasProcess, IsSoundFor};
 ghost use Rattle.kernel_steps.specs.Views.{placed_of, chain_of, IsRunning, Simulates};
 
-use crate::blocking::{flight, number_of};
+use crate::blocking::{count_of, flight, number_of};
 use crate::order::Waiting;
 use crate::running::Running;
 use crate::waits::is_same_object;
 use call_pieces::{Calls, Needs};
-use graft_calls::GraftLevel;
+use graft_levels::GraftLevel;
 use graft_points::Policy;
 use kernel_model::{BareNote, Mode, Need, Object};
 use lock_table::laws;
@@ -71,8 +71,7 @@ impl<C: Calls, B: Policy> Running<C, B> {
     pub fn join(&mut self, p: u8)
         requires at { HasProcess self.old p }
         requires new { in_order p (placed_of self.old).order ≡ false }
-        ensures value { Simulates (placed_joins p) (placed_of self.old) (placed_of self.new) }
-        ensures running { IsRunning self.new }
+        ensures { ChangesTo (placed_joins p) self.old self.new }
     {
         self.order.push(Waiting::joined(p));
     }
@@ -86,19 +85,17 @@ impl<C: Calls, B: Policy> Running<C, B> {
 
     /// How many levels process p's call has.
     pub fn level_count(&self, p: u8) -> u8
-        requires { HasProcess self.now p }
         ensures value { result ≡ length ((placed_of self.now).levels p) }
         ensures chain { result ≡ length (chain_of self.now p).levels }
     {
-        flight(&self.calls, p).chain.levels.count()
+        count_of(&self.calls, p)
     }
 
     /// Whether process p's call is in a graft.
     pub fn in_graft(&self, p: u8) -> bool
-        requires { HasProcess self.now p }
         ensures { result ≡ has_some ((placed_of self.now).levels p) }
     {
-        flight(&self.calls, p).chain.levels.count() != 0
+        count_of(&self.calls, p) != 0
     }
 
     /// The note that process p's call, of this number, is in a graft, if it is.

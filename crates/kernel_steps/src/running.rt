@@ -9,8 +9,7 @@ ghost use Rattle.kernel_steps.specs.Begins.{CallBegins, FlightBegins};
 ghost use Rattle.graft_loader.specs.Slots.{table_of};
 ghost use Rattle.placed_laws.specs.PlacedSteps.{is_placed_at_piece, placed_noted, placed_requeue, placed_ticked, with_placed_call};
 ghost use Rattle.kernel_steps.specs.Orders.{has_number, numbers_of};
-ghost use Rattle.kernel_steps.specs.Sound.{HasProcess};
-ghost use Rattle.kernel_steps.specs.Refines.{SimulatesNoting};
+ghost use Rattle.kernel_steps.specs.Sound.{ChangesNoting, ChangesTo, HasProcess};
 ghost use Rattle.kernel_steps.specs.Views.{placed_of, flight_of, no_flight, IsRunning, IsQuiet, Simulates};
 ghost use Rattle.kernel_model.specs.declared.Note.TheVariants.{Ticked};
 
@@ -20,7 +19,7 @@ use crate::order::{Order, Waiting};
 use crate::slots::{Slot, begin_in};
 use arrayvec::ArrayVec;
 use call_pieces::{Calls, Work};
-use graft_calls::{Chain, Levels};
+use graft_levels::{Chain, Levels};
 use graft_loader::Images;
 use graft_points::Policy;
 use kernel_model::{BLOCK_BYTES, BareCall, BareNote, NoMemory, PROCESSES, Refusal};
@@ -185,11 +184,9 @@ impl<C: Calls, B: Policy> Running<C, B> {
     /// The call of process p ends with this note; it has no level.
     pub fn end(&mut self, p: u8, note: BareNote, notes: &mut Notes)
         requires { HasProcess self.old p }
-        ensures value { SimulatesNoting
+        ensures { ChangesNoting
             (λ r. placed_requeue p (placed_noted (note_with note []) (with_placed_call p None r)))
-            (placed_of self.old) (placed_of self.new)
-            (note_with note [] ∷ []) notes.old notes.new }
-        ensures running { IsRunning self.new }
+            (note_with note [] ∷ []) self.old self.new notes.old notes.new }
     {
         end_call(&mut self.calls, p);
         self.order.leave(p);
@@ -213,8 +210,7 @@ impl<C: Calls, B: Policy> Running<C, B> {
     /// is a piece.
     pub fn requeue(&mut self, p: u8)
         requires { HasProcess self.old p }
-        ensures value { Simulates (placed_requeue p) (placed_of self.old) (placed_of self.new) }
-        ensures running { IsRunning self.new }
+        ensures { ChangesTo (placed_requeue p) self.old self.new }
     {
         let waits = self.is_at_piece(p);
         self.order.leave(p);
@@ -228,10 +224,8 @@ impl<C: Calls, B: Policy> Running<C, B> {
     pub fn tick(&mut self, number: u32, notes: &mut Notes)
         requires clock { self.old.clock < 2 ^ 32 - 1 }
         requires running { IsRunning self.old }
-        ensures value { SimulatesNoting (placed_ticked number) (placed_of self.old)
-            (placed_of self.new) (Ticked number (suc self.old.clock) ∷ []) notes.old
-            notes.new }
-        ensures running { IsRunning self.new }
+        ensures { ChangesNoting (placed_ticked number) (Ticked number (suc self.old.clock) ∷ [])
+            self.old self.new notes.old notes.new }
     {
         self.clock += 1;
         self.order.count_up();

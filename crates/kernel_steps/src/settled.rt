@@ -16,7 +16,7 @@ use crate::blocking::flight;
 use crate::running::Running;
 use crate::trace::Trace;
 use call_pieces::Calls;
-use graft_calls::Needs;
+use graft_levels::Needs;
 use graft_points::Policy;
 use kernel_model::Need;
 use lock_table::{Holds, LockTable};
@@ -32,8 +32,7 @@ struct HoldSnapshot {
 
 /// How the levels of process p's call hold the object of need i, if there is this need.
 fn hold_at(locks: &LockTable, p: u8, needs: &[Need], i: usize) -> Option<Holds>
-    requires process { p < 16 }
-    requires range { All (λ (n : Needed). IsInRange n.object) needs.now }
+    requires { All (λ (n : Needed). IsInRange n.object) needs.now }
     ensures { IsHold (held locks.now p) (slice_get needs.now i) result }
 {
     match needs.get(i) {
@@ -44,8 +43,7 @@ fn hold_at(locks: &LockTable, p: u8, needs: &[Need], i: usize) -> Option<Holds>
 
 /// How the levels of process p's call hold the objects of the first three needs.
 fn grip_of(locks: &LockTable, p: u8, needs: &[Need]) -> HoldSnapshot
-    requires process { p < 16 }
-    requires range { All (λ (n : Needed). IsInRange n.object) needs.now }
+    requires { All (λ (n : Needed). IsInRange n.object) needs.now }
     ensures { IsGrip (held locks.now p) needs.now result }
 {
     HoldSnapshot {

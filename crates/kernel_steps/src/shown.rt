@@ -7,17 +7,17 @@ ghost use Rattle.kernel_model.specs.Objects.{Things};
 ghost use Rattle.kernel_model.specs.RawRows.{rows_of_levels, top_of, undo_row, wait_by};
 ghost use Rattle.kernel_model.specs.UndoLog.{numbered_log};
 ghost use Rattle.undo_calls.specs.UndoLevels.{Logged, log_of};
-ghost use Rattle.graft_calls.specs.Chains.{levels_in};
+ghost use Rattle.graft_levels.specs.Chains.{levels_in};
 ghost use Rattle.placed_laws.specs.PlacedRows.{placed_call_row, placed_level_rows, placed_undo_rows};
 ghost use Rattle.kernel_steps.specs.Orders.{entry_of, order_of};
 ghost use Rattle.kernel_steps.specs.Sound.{HasProcess};
 ghost use Rattle.kernel_steps.specs.Views.{placed_of};
 
-use crate::blocking::flight;
+use crate::blocking::{count_of, flight};
 use crate::order::Waiting;
 use crate::running::Running;
 use call_pieces::Calls;
-use graft_calls::Levels;
+use graft_levels::Levels;
 use graft_points::Policy;
 use kernel_model::{RawRow, TopRow, WaitRow};
 use undo_calls::UndoStack;
@@ -96,17 +96,15 @@ impl<C: Calls, B: Policy> Running<C, B> {
 
     /// How many levels the call of process p has.
     pub fn shown_levels(&self, p: u8) -> u8
-        requires { HasProcess self.now p }
         ensures value { result ≡ length (placed_level_rows (placed_of self.now) p) }
         ensures few { result ≤ 4 }
     {
-        flight(&self.calls, p).chain.levels.count()
+        count_of(&self.calls, p)
     }
 
     /// Level d of process p's call, 0 being the outermost.
     pub fn level_row(&self, p: u8, d: u8) -> RawRow
-        requires at { HasProcess self.now p }
-        requires level { d < length (placed_level_rows (placed_of self.now) p) }
+        requires { d < length (placed_level_rows (placed_of self.now) p) }
         ensures { slice_get (placed_level_rows (placed_of self.now) p) d ≡ Some result }
     {
         row_of_level(&flight(&self.calls, p).chain.levels, p, d)

@@ -1,6 +1,6 @@
 //! One step of a call, and the drop of one of its levels.
 
-ghost use Rattle.std.specs.Prelude.{◌≡◌, ◌<◌, ℕ, true, [], Some, None, is_some, length, List, Option};
+ghost use Rattle.std.specs.Prelude.{◌≡◌, ◌<◌, ℕ, true, [], ◌∷◌, Some, None, is_some, length, List, Option};
 ghost use Rattle.kernel_model.specs.Bare.{note_with};
 ghost use Rattle.kernel_model.specs.GraftStep.{micro};
 ghost use Rattle.kernel_model.specs.Levels.{drop_level as level_dropped};
@@ -8,8 +8,9 @@ ghost use Rattle.placed_laws.specs.Placed.{placed_blocker, placed_config};
 ghost use Rattle.placed_laws.specs.PlacedSteps.{placed_call_step, placed_drop, placed_noted, placed_outcome, placed_step};
 ghost use Rattle.call_pieces.specs.Works.{answer_seen};
 ghost use Rattle.kernel_steps.specs.Steps.{answer_said, answer_of_drop, after_drop, after_said, finishes, CallStepDone, CanFinish, StepDone, StepsAlone};
+ghost use Rattle.kernel_steps.specs.Faults.{fault_notes};
 ghost use Rattle.kernel_steps.specs.Moments.{moment};
-ghost use Rattle.kernel_steps.specs.Sound.{CanRun, RefinesAndKeeps};
+ghost use Rattle.kernel_steps.specs.Sound.{CanRun, HasLevel, RefinesAndKeeps};
 ghost use Rattle.kernel_steps.specs.Views.{placed_of, chain_of, call_at};
 
 use crate::blocking::{flight, number_of};
@@ -51,6 +52,7 @@ impl<C: Calls, B: Policy> Running<C, B> {
         requires alone { StepsAlone self.old p }
         requires answer { (answer : Option (List ℕ)) → answer_of_drop d ≡ Some answer →
             CanFinish C.Meaning.meaning self.old p answer }
+        requires note { fault_notes (note_with note [] ∷ []) ≡ 0 }
         requires disk { self.old.store.size ≡ (D.seen disk.old).size }
         ensures { CallStepDone (λ c r. after_drop C.Meaning.meaning p c d
             (placed_noted (note_with note []) r)) p
@@ -90,8 +92,7 @@ impl<C: Calls, B: Policy> Running<C, B> {
 
     /// One instruction of process p's call, which is in a graft, and what follows from it.
     fn graft_step<D: Disk>(&mut self, p: u8, disk: &mut D, trace: &mut Trace)
-        requires at { CanRun C.Meaning.meaning self.old (D.seen disk.old) p }
-        requires level { 0 < length (chain_of self.old p).levels }
+        requires { HasLevel C.Meaning.meaning self.old (D.seen disk.old) p 0 }
         ensures { CallStepDone (λ c r. placed_outcome C.Meaning.meaning p c
             (micro r.placed.world r.placed.images p (placed_config r.placed p)) r) p
             (moment self.old trace.old.notes (D.seen disk.old))
@@ -162,8 +163,7 @@ impl<C: Calls, B: Policy> Running<C, B> {
 
     /// The drop of level d of process p's call, but for the call's place in the order.
     fn drop_call<D: Disk>(&mut self, p: u8, d: u8, cause: Cause, disk: &mut D, trace: &mut Trace)
-        requires at { CanRun C.Meaning.meaning self.old (D.seen disk.old) p }
-        requires level { d < length (chain_of self.old p).levels }
+        requires { HasLevel C.Meaning.meaning self.old (D.seen disk.old) p d }
         ensures { CallStepDone (λ c r. placed_outcome C.Meaning.meaning p c
             (level_dropped r.placed.world r.placed.objects
             (placed_config r.placed p).levels d cause) r) p
@@ -187,8 +187,7 @@ impl<C: Calls, B: Policy> Running<C, B> {
         disk: &mut D,
         trace: &mut Trace,
     )
-        requires at { CanRun C.Meaning.meaning self.old (D.seen disk.old) p }
-        requires level { d < length (chain_of self.old p).levels }
+        requires { HasLevel C.Meaning.meaning self.old (D.seen disk.old) p d }
         ensures { RefinesAndKeeps C.Meaning.meaning (placed_drop C.Meaning.meaning p d cause)
             (moment self.old trace.old.notes (D.seen disk.old))
             (moment self.new trace.new.notes (D.seen disk.new)) }

@@ -9,6 +9,7 @@ ghost use Rattle.kernel_steps.specs.Views.{placed_of};
 
 use crate::running::Running;
 use call_pieces::Calls;
+use graft_calls::stretch;
 use graft_points::Policy;
 use placed_laws::{agreeing, stretching};
 
@@ -27,8 +28,13 @@ impl<C: Calls, B: Policy> Running<C, B> {
         agreeing::same_shown::<C::Meaning>();
         stretching::stretches::<C::Meaning>();
         let flight = &mut self.calls[p as usize];
-        flight
-            .chain
-            .stretch(p, &mut self.store, &self.locks, &self.images, n)
+        stretch(
+            &mut flight.chain,
+            p,
+            &mut self.store,
+            &self.locks,
+            &self.images,
+            n,
+        )
     }
 }

@@ -1,5 +1,6 @@
 -- Undoing all that the calls in flight did leads back to what is committed.
-use Rattle.std.specs.Prelude.{◌≡◌, ℕ, suc, ◌==◌, Bool, true, false, cond, List, [], ◌∷◌, length, Option, Some, None}
+use Rattle.std.specs.Prelude.{◌≡◌, ℕ, suc, ◌<◌, ◌==◌, Bool, true, false, cond, nat_lt, List, [], ◌∷◌, length, Option, Some, None, is_some}
+use Rattle.std.specs.List.{list_all}
 use Rattle.std.proofs.Common.{arith, refl, sym, ap, subst, ◌∙◌}
 use Rattle.std.proofs.lemmas.Bool.Decides.{nat_tests}
 use Rattle.kernel_model.specs.declared.Object.{Object}
@@ -9,9 +10,12 @@ use Rattle.kernel_model.specs.Objects.{Objects, Things, SameThing, mix}
 use Rattle.kernel_model.specs.Levels.{Level, Config, level_at}
 use Rattle.kernel_model.specs.Meaning.{Meaning}
 use Rattle.kernel_model.specs.Blocking.{config_of}
-use Rattle.kernel_model.specs.InPlace.{is_changed_in, kept_of, cut_state, over, store_with}
-use Rattle.history_laws.proofs.InverseLemmas.{thing_self, thing_then}
-use Rattle.undo_laws.specs.Undone.{cut_all, UndoneIsCommitted}
+use Rattle.kernel_model.specs.InPlace.{is_changed_in, kept_of, cut_state, over, store_below, store_with, undo_cut}
+use Rattle.kernel_model.specs.Kernel.{Kernel}
+use Rattle.kernel_model.specs.Laws.{Laws}
+use Rattle.history_laws.proofs.InverseLemmas.{thing_of, thing_self, thing_then}
+use Rattle.placed_laws.specs.Placed.{Placed, placed_levels}
+use Rattle.undo_laws.specs.Undone.{cut_all, cut_calls, placed_undone, CallsUndoToCommitted, UndoneInPlace, UndoneIsCommitted}
 use Rattle.undo_laws.proofs.BeginLemmas.{BeganWith, ConfigBegan, calls_began}
 
 -- the outermost level is level 0
@@ -76,3 +80,43 @@ undone_is_committed m k o = all processes
     all : (ps : List ℕ) → SameThing o (store_with m k cut_all ps).things k.objects.things
     all [] = thing_self o k.objects.things
     all (p ∷ ps) = cut_call o (config_of m k p) (store_with m k cut_all ps) k.objects.things (calls_began m k p) (all ps)
+
+-- ---- in the one store
+
+-- the calls of processes that can be are cut alike
+same_cuts : (m : Meaning) (k : Kernel) (ps : List ℕ) → list_all (λ p. nat_lt p 16) ps ≡ true →
+    store_with m k cut_calls ps ≡ store_with m k cut_all ps
+same_cuts m k [] h = refl
+same_cuts m k (p ∷ ps) h =
+    ap (λ b. over (config_of m k p) (cond b (Some 0) None) (store_with m k cut_calls ps)) first
+    ∙ ap (over (config_of m k p) (Some 0)) (same_cuts m k ps further)
+  where
+    first : nat_lt p 16 ≡ true
+    first = grind (arith, h)
+
+    further : list_all (λ q. nat_lt q 16) ps ≡ true
+    further = grind (arith, h)
+
+-- a process whose call is cut can be
+cut_can_be : (p : ℕ) → is_some (cut_calls p) ≡ true → p < 16
+cut_can_be p h = grind (arith, nat_tests, h)
+
+-- undoing changes no account
+accounts_stay : (x : Placed) (ps : List ℕ) → (placed_undone x cut_calls ps).accounts ≡ x.objects.accounts
+accounts_stay x [] = refl
+accounts_stay x (p ∷ ps) = by_cut (cut_calls p) ∙ accounts_stay x ps
+  where
+    by_cut : (d : Option ℕ) → (undo_cut d (placed_levels x p) (placed_undone x cut_calls ps)).accounts ≡ (placed_undone x cut_calls ps).accounts
+    by_cut None = refl
+    by_cut (Some d) = refl
+
+-- undoing all calls leads back to what is committed
+pub undoes_to_committed : (m : Meaning) → Laws m → UndoneInPlace m → UndoneIsCommitted m → CallsUndoToCommitted m
+undoes_to_committed m laws in_place committed x =
+    record {
+      things = λ k ps o stands range once all.
+          thing_then o (placed_undone x cut_calls ps).things (store_below m k cut_calls).things k.objects.things
+          (thing_of o (placed_undone x cut_calls ps) (store_below m k cut_calls) (in_place x k cut_calls ps o laws stands range once (λ p cut. all p (cut_can_be p cut))))
+          (subst (λ (s : Objects). SameThing o s.things k.objects.things) (sym (same_cuts m k processes refl)) (committed k o));
+      accounts = accounts_stay x;
+    }

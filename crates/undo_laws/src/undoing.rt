@@ -1,6 +1,6 @@
 //! Laws of undoing in the one store. A call of one brings its statement into a proof.
 
-ghost use Rattle.undo_laws.specs.Undone.{UndoneInPlace, UndoneIsCommitted, DropsLeaveTheStoreBelow};
+ghost use Rattle.undo_laws.specs.Undone.{UndoneInPlace, UndoneIsCommitted, CallsUndoToCommitted, DropsLeadToStoreBelow, DropsLeaveTheStoreBelow};
 
 use history_laws::store;
 use kernel_model::Rules;
@@ -26,3 +26,20 @@ pub fn drops_undo<R: Rules>()
 pub fn undone_is_committed<R: Rules>()
     ensures { UndoneIsCommitted R.meaning }
 {}
+
+/// Undoing all calls in flight in the one store, one after another in any order, leads back to the
+/// committed things; accounts and grafts stay as they are.
+pub fn calls_undo_to_committed<R: Rules>()
+    ensures { CallsUndoToCommitted R.meaning }
+{
+    undone_in_place::<R>();
+    undone_is_committed::<R>();
+}
+
+/// What a drop leaves in the one store is the abstract kernel's store below the level, and the
+/// accounts, without the level's graft.
+pub fn drops_lead_to_store_below<R: Rules>()
+    ensures { DropsLeadToStoreBelow R.meaning }
+{
+    drops_undo::<R>();
+}

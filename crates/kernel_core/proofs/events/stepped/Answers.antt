@@ -13,7 +13,7 @@ returns-then-not-living g c =
     let a = c.args in
     record {
       refines = from_did g.C.Meaning.Rules.meaning (placed_event_on g.C.Meaning.Rules.meaning a.number (Step a.p a.n)) (placed_of a.running.now) (placed_of a.running.now) a.trace.now.notes c.push.new.self (g.D.Disk.seen a.disk.now) (g.D.Disk.seen a.disk.now)
-          (went_refused g.C.Meaning.Rules.meaning (placed_event_on g.C.Meaning.Rules.meaning a.number (Step a.p a.n)) a.running.now (Refused a.number NoProcess) a.trace.now.notes c.push.new.self (g.D.Disk.seen a.disk.now) c.requires.running c.requires.abstraction (step_unliving g.C.Meaning.Rules.meaning (placed_of a.running.now) a.number a.p a.n (sym c.living.ensures.value ∙ c.if-not-living.true)) c.push.ensures).refines;
+          (went_refused g.C.Meaning.Rules.meaning (placed_event_on g.C.Meaning.Rules.meaning a.number (Step a.p a.n)) a.running.now (Refused a.number NoProcess) a.trace.now.notes c.push.new.self (g.D.Disk.seen a.disk.now) c.requires.running c.requires.abstraction (step_unliving g.C.Meaning.Rules.meaning (placed_of a.running.now) a.number a.p a.n (sym c.living.ensures.value ∙ c.if-not-living.true)) c.push.ensures refl).refines;
       on = record { running = c.requires.running; abstraction = c.requires.abstraction; world = refl; clock = refl };
     }
 
@@ -22,7 +22,7 @@ returns-then-n-eq0 g c =
     let a = c.args in
     record {
       refines = from_did g.C.Meaning.Rules.meaning (placed_event_on g.C.Meaning.Rules.meaning a.number (Step a.p a.n)) (placed_of a.running.now) (placed_of a.running.now) a.trace.now.notes c.push-then-n-eq0.new.self (g.D.Disk.seen a.disk.now) (g.D.Disk.seen a.disk.now)
-          (went_refused g.C.Meaning.Rules.meaning (placed_event_on g.C.Meaning.Rules.meaning a.number (Step a.p a.n)) a.running.now (Refused a.number BadIndex) a.trace.now.notes c.push-then-n-eq0.new.self (g.D.Disk.seen a.disk.now) c.requires.running c.requires.abstraction (step_zero g.C.Meaning.Rules.meaning (placed_of a.running.now) a.number a.p a.n (sym c.living.ensures.value ∙ c.if-not-living.false) (c.if-n-eq0.true)) c.push-then-n-eq0.ensures).refines;
+          (went_refused g.C.Meaning.Rules.meaning (placed_event_on g.C.Meaning.Rules.meaning a.number (Step a.p a.n)) a.running.now (Refused a.number BadIndex) a.trace.now.notes c.push-then-n-eq0.new.self (g.D.Disk.seen a.disk.now) c.requires.running c.requires.abstraction (step_zero g.C.Meaning.Rules.meaning (placed_of a.running.now) a.number a.p a.n (sym c.living.ensures.value ∙ c.if-not-living.false) (c.if-n-eq0.true)) c.push-then-n-eq0.ensures refl).refines;
       on = record { running = c.requires.running; abstraction = c.requires.abstraction; world = refl; clock = refl };
     }
 
@@ -31,7 +31,7 @@ returns-then-n-gt-MOST_STEPS g c =
     let a = c.args in
     record {
       refines = from_did g.C.Meaning.Rules.meaning (placed_event_on g.C.Meaning.Rules.meaning a.number (Step a.p a.n)) (placed_of a.running.now) (placed_of a.running.now) a.trace.now.notes c.push-then-n-gt-MOST_STEPS.new.self (g.D.Disk.seen a.disk.now) (g.D.Disk.seen a.disk.now)
-          (went_refused g.C.Meaning.Rules.meaning (placed_event_on g.C.Meaning.Rules.meaning a.number (Step a.p a.n)) a.running.now (Refused a.number BadIndex) a.trace.now.notes c.push-then-n-gt-MOST_STEPS.new.self (g.D.Disk.seen a.disk.now) c.requires.running c.requires.abstraction (step_many g.C.Meaning.Rules.meaning (placed_of a.running.now) a.number a.p a.n (sym c.living.ensures.value ∙ c.if-not-living.false) (c.if-n-gt-MOST_STEPS.true)) c.push-then-n-gt-MOST_STEPS.ensures).refines;
+          (went_refused g.C.Meaning.Rules.meaning (placed_event_on g.C.Meaning.Rules.meaning a.number (Step a.p a.n)) a.running.now (Refused a.number BadIndex) a.trace.now.notes c.push-then-n-gt-MOST_STEPS.new.self (g.D.Disk.seen a.disk.now) c.requires.running c.requires.abstraction (step_many g.C.Meaning.Rules.meaning (placed_of a.running.now) a.number a.p a.n (sym c.living.ensures.value ∙ c.if-not-living.false) (c.if-n-gt-MOST_STEPS.true)) c.push-then-n-gt-MOST_STEPS.ensures refl).refines;
       on = record { running = c.requires.running; abstraction = c.requires.abstraction; world = refl; clock = refl };
     }
 

@@ -95,6 +95,6 @@ returns g c =
     record {
       refines = come_last g.C.Meaning.Rules.meaning (steps_said g.C.Meaning.Rules.meaning a.number a.p a.n 0) (steps_left g.C.Meaning.Rules.meaning a.number a.p (a.n - l.taken) l.taken l.going) (placed_of a.running.now) (placed_of l.running) (placed_of l.running) a.trace.now.notes l.trace.notes c.push.new.self (g.D.Disk.seen a.disk.now) (g.D.Disk.seen l.disk) (g.D.Disk.seen l.disk) i.come
           (did_as (steps_left g.C.Meaning.Rules.meaning a.number a.p (a.n - l.taken) l.taken l.going) (placed_noted (Ran a.number l.taken)) (placed_of l.running) (placed_of l.running) l.trace.notes c.push.new.self (g.D.Disk.seen l.disk) (g.D.Disk.seen l.disk)
-          (λ blocks notes io. steps_over g.C.Meaning.Rules.meaning a.number a.p (a.n - l.taken) l.taken l.going (run_of (placed_of l.running) blocks notes io) over) (did_note (placed_of l.running) (Ran a.number l.taken) l.trace.notes c.push.new.self (g.D.Disk.seen l.disk) c.push.ensures));
+          (λ blocks notes io. steps_over g.C.Meaning.Rules.meaning a.number a.p (a.n - l.taken) l.taken l.going (run_of (placed_of l.running) blocks notes io) over) (did_note (placed_of l.running) (Ran a.number l.taken) l.trace.notes c.push.new.self (g.D.Disk.seen l.disk) c.push.ensures refl));
       on = record { running = i.running; abstraction = i.abstraction; world = i.world; clock = i.clock };
     }

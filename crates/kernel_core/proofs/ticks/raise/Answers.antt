@@ -1,4 +1,4 @@
-use Rattle.std.proofs.Common.{suc, [], ◌∷◌, ap, sym}
+use Rattle.std.proofs.Common.{refl, suc, [], ◌∷◌, ap, sym}
 use Rattle.kernel_model.specs.declared.Note.TheVariants.{Ticked}
 use Rattle.kernel_model.specs.Events.{ticked}
 use Rattle.placed_laws.specs.Placed.{Placed, PlacedRun}
@@ -19,7 +19,7 @@ returns g c = record {
       let value = c.tick.ensures.value in
       let here = ap (λ (r : PlacedRun). r.placed) (value.0 [] some_blocks []) in
       record {
-        refines = did_purely (placed_ticked a.number) x y a.notes.now c.tick.new.notes (Ticked a.number (suc a.running.now.clock) ∷ []) d (λ blocks notes io. value.0 notes blocks io) value.1;
+        refines = did_purely (placed_ticked a.number) x y a.notes.now c.tick.new.notes (Ticked a.number (suc a.running.now.clock) ∷ []) d (λ blocks notes io. value.0 notes blocks io) value.1 refl;
         running = c.tick.ensures.running;
         abstraction = stood_as g.C.Meaning.Rules.meaning y (placed_ticked a.number (run_of x some_blocks [] [])) (ticked a.number (record { kernel = s.kernel; blocks = some_blocks; notes = []; io = [] })) (c.others_stand.ensures.ticking (run_of x some_blocks [] []) (record { kernel = s.kernel; blocks = some_blocks; notes = []; io = [] }) a.number (run_at g.C.Meaning.Rules.meaning x s)) here;
         world = sym (ap (λ (z : Placed). z.world) here);

@@ -14,4 +14,4 @@ returns-then-not-waits_for_user g c =
     let plain : waits_for_user (call_of work) (Lock 0) ≡ false = sym (c.waits_for_user.ensures work.bytes.items 0) ∙ c.if-not-waits_for_user.true in
     none_hinders (held c.args.locks.now) s.things.lock c.args.p c.args.p (call_of work)
     (g.C.Meaning.Rules.meaning.need (world_of_store c.args.store.now) s work.caller (stage_of work))
-    (c.is_free.ensures c.if-is_free.true) plain c.requires.user
+    (c.is_free.ensures.0 c.if-is_free.true) plain c.requires.user

@@ -1,7 +1,7 @@
 use Rattle.std.proofs.Common.{◌≡◌, sym, subst, ap, ◌∙◌, arith, Some, None}
-use Rattle.graft_calls.specs.declared.Chain.{Chain}
+use Rattle.graft_levels.specs.declared.Chain.{Chain}
 use Rattle.graft_loader.specs.Slots.{table_of}
-use Rattle.graft_calls.specs.Calls.{IsPlaced, AreInside}
+use Rattle.graft_levels.specs.Calls.{IsPlaced, AreInside}
 use Rattle.kernel_state.specs.Stores.{objects_of}
 use Rattle.call_pieces.specs.Works.{stage_of}
 use Rattle.kernel_steps.specs.declared.running.InFlight.{InFlight}

@@ -3,7 +3,7 @@ use Rattle.std.proofs.Common.{◌≡◌, ◌∙◌, ◌==◌, ap, sym}
 use Rattle.kernel_model.specs.Kernel.{Entry}
 use Rattle.kernel_model.specs.RawRows.{top_of, wait_by}
 use Rattle.lock_table.specs.Masks.{held}
-use Rattle.graft_calls.specs.Chains.{levels_in}
+use Rattle.graft_levels.specs.Chains.{levels_in}
 use Rattle.kernel_state.specs.Stores.{objects_of}
 use Rattle.kernel_steps.specs.declared.running.Flight.{Flight}
 use Rattle.kernel_steps.specs.Orders.{order_of}

@@ -11,11 +11,11 @@ requeue-requires g c =
     let m = g.C.Meaning.Rules.meaning in
     let low = subst (λ n. a.d < n) (sym (levels_many a.self.now a.p)) c.requires.level in
     let some = some_by_more (levels_at a.self.now a.p) a.d low in
-    let t = call_is (call_at a.self.now a.p) (has_call m c.same_shown.ensures (placed_of a.self.now) a.p c.requires.at.abstraction some) in
+    let t = call_is (call_at a.self.now a.p) (has_call m c.same_shown.ensures (placed_of a.self.now) a.p c.requires.abstraction some) in
     record {
-      process = c.requires.at.process;
+      process = c.requires.process;
       running = running_after_drop m c.sound_in_place.ensures c.drops_stand.ensures c.held_stays.ensures a.self.now c.drop_call.new.self a.p a.d t.0 a.cause a.trace.now.notes c.drop_call.new.trace.notes (g.D.Disk.seen a.disk.now) (g.D.Disk.seen c.drop_call.new.disk)
-          c.requires.at.running c.requires.at.process c.requires.at.abstraction t.1 low some (c.drop_call.ensures t.0 t.1);
+          c.requires.running c.requires.process c.requires.abstraction t.1 low some (c.drop_call.ensures t.0 t.1);
     }
 
 pub returns : goal.returns
@@ -27,14 +27,14 @@ returns g c =
     let z = placed_of c.requeue.new.self in
     let low = subst (λ n. a.d < n) (sym (levels_many a.self.now a.p)) c.requires.level in
     let some = some_by_more (levels_at a.self.now a.p) a.d low in
-    let t = call_is (call_at a.self.now a.p) (has_call m c.same_shown.ensures x a.p c.requires.at.abstraction some) in
-    let t = call_is (call_at a.self.now a.p) (has_call m c.same_shown.ensures (placed_of a.self.now) a.p c.requires.at.abstraction some) in
+    let t = call_is (call_at a.self.now a.p) (has_call m c.same_shown.ensures x a.p c.requires.abstraction some) in
+    let t = call_is (call_at a.self.now a.p) (has_call m c.same_shown.ensures (placed_of a.self.now) a.p c.requires.abstraction some) in
     record {
       refines = did_drop m x z a.p a.d t.0 a.cause a.trace.now.notes c.drop_call.new.trace.notes (g.D.Disk.seen a.disk.now) (g.D.Disk.seen c.drop_call.new.disk) t.1 some
           (did_requeued (drop_change m a.p a.d t.0 a.cause) x y z a.p a.trace.now.notes c.drop_call.new.trace.notes (g.D.Disk.seen a.disk.now) (g.D.Disk.seen c.drop_call.new.disk) (c.drop_call.ensures t.0 t.1).refines c.requeue.ensures.value);
       running = c.requeue.ensures.running;
       abstraction = stood_requeued m a.p (placed_of c.drop_call.new.self) (placed_of c.requeue.new.self) c.requeue.ensures.value
-          (stood_after_drop m c.drops_stand.ensures a.self.now c.drop_call.new.self a.p a.d t.0 a.cause a.trace.now.notes c.drop_call.new.trace.notes (g.D.Disk.seen a.disk.now) (g.D.Disk.seen c.drop_call.new.disk) c.requires.at.abstraction t.1 low some (c.drop_call.ensures t.0 t.1));
+          (stood_after_drop m c.drops_stand.ensures a.self.now c.drop_call.new.self a.p a.d t.0 a.cause a.trace.now.notes c.drop_call.new.trace.notes (g.D.Disk.seen a.disk.now) (g.D.Disk.seen c.drop_call.new.disk) c.requires.abstraction t.1 low some (c.drop_call.ensures t.0 t.1));
       world = ap (λ (z : Placed). z.world) (requeue_keeps a.p (placed_of c.drop_call.new.self) (placed_of c.requeue.new.self) c.requeue.ensures.value) ∙ (c.drop_call.ensures t.0 t.1).stepped.world;
       clock = ap (λ (z : Placed). z.clock) (requeue_keeps a.p (placed_of c.drop_call.new.self) (placed_of c.requeue.new.self) c.requeue.ensures.value) ∙ (c.drop_call.ensures t.0 t.1).stepped.clock;
     }

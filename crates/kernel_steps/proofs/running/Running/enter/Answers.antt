@@ -2,8 +2,8 @@ use Rattle.std.proofs.Common.{◌≡◌, ◌∙◌, ap, sym, refl}
 use Rattle.std.specs.Prelude.{option_map, slice_set}
 use Rattle.std.specs.Vec.{with_item}
 use Rattle.kernel_model.specs.History.{begin_at}
-use Rattle.graft_calls.specs.declared.Chain.{Chain}
-use Rattle.graft_calls.specs.Chains.{call_of}
+use Rattle.graft_levels.specs.declared.Chain.{Chain}
+use Rattle.graft_levels.specs.Chains.{call_of}
 use Rattle.kernel_state.specs.Stores.{world_of_store, objects_of}
 use Rattle.graft_loader.specs.Slots.{table_of}
 use Rattle.kernel_steps.specs.declared.running.Flight.{Flight}

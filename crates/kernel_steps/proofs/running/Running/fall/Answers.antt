@@ -1,10 +1,12 @@
-use Rattle.std.proofs.Common.{◌≡◌, sym, subst, refl}
+use Rattle.std.proofs.Common.{◌≡◌, ◌<◌, ap, sym, subst, refl}
 use Rattle.std.specs.Vec.{with_item}
 use Rattle.kernel_model.specs.Levels.{Config, Outcome, drop_level}
 use Rattle.kernel_state.specs.Stores.{world_of_store, objects_of}
 use Rattle.graft_loader.specs.Slots.{table_of}
-use Rattle.graft_calls.specs.Calls.{AreInside}
-use Rattle.placed_laws.specs.Placed.{placed_config}
+use Rattle.graft_levels.specs.Calls.{AreInside}
+use Rattle.placed_laws.specs.Placed.{Placed, placed_config}
+use Rattle.undo_laws.specs.Undone.{LeadsToStoreBelow}
+use Rattle.kernel_steps.proofs.PartLemmas.{levels_many}
 use Rattle.kernel_steps.specs.declared.running.Flight.{Flight}
 use Rattle.kernel_steps.specs.declared.running.Running.{Running}
 use Rattle.kernel_steps.specs.Views.{placed_of, flight_of}
@@ -43,3 +45,11 @@ returns-clause-moved g c =
     let f : Config → Outcome = λ (e : Config). drop_level (world_of_store x.store) e.now e.levels c.args.d c.args.cause in
     let o : Outcome = f (placed_config (placed_of x) c.args.p) in
     moved_by x y c.args.p c.index_mut-flight.result.now c.drop_level.new.self r.sixteen c.requires.at.process fl refl c.drop_level.ensures.elsewhere c.drop_level.ensures.placed (c.drop_level.ensures.inside (table_of x.images) (subst (λ (f : Flight). AreInside (table_of x.images) (objects_of x.store).accounts c.args.p f.chain.levels) (sym fl) (r.inside c.args.p c.requires.at.process))) (c.drop_level.ensures.loaded (table_of x.images) r.loaded) refl refl refl
+
+pub returns-clause-below : goal.returns-clause-below
+returns-clause-below g c =
+    let x = placed_of c.args.self.now in
+    let left = ap (λ (y : Placed). y.objects) (returns-clause-config g c) in
+    subst (LeadsToStoreBelow g.C.Meaning.Rules.meaning x c.args.p c.args.d) (sym left)
+    (c.drops_lead_to_store_below.ensures x c.args.p c.args.d c.args.cause
+    (subst (λ n. c.args.d < n) (sym (levels_many c.args.self.now c.args.p)) c.requires.level))

@@ -3,7 +3,7 @@ use Rattle.std.specs.Option.{option_copied}
 use Rattle.kernel_model.specs.declared.Note.TheVariants.{InGraft}
 use Rattle.lock_table.specs.Masks.{held}
 use Rattle.kernel_state.specs.Stores.{objects_of}
-use Rattle.graft_calls.specs.Chains.{first_level}
+use Rattle.graft_levels.specs.Chains.{first_level}
 use Rattle.kernel_steps.specs.declared.running.Flight.{Flight}
 use Rattle.kernel_steps.specs.Views.{flight_of}
 use Rattle.kernel_steps.proofs.QueryLemmas.{note_of_first}

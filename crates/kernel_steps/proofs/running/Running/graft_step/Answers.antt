@@ -13,7 +13,7 @@ use Rattle.kernel_steps.proofs.running.Running.graft_step.Goals as goal
 pub follow-requires-clause-alone : goal.follow-requires-clause-alone
 follow-requires-clause-alone g c =
     let x = c.args.self.now in
-    micro_alone c.owners_stay.ensures x c.instruct-said.new.self c.args.p c.requires.at.running c.requires.at.process c.instruct-said.ensures.moved c.instruct-said.ensures.config
+    micro_alone c.owners_stay.ensures x c.instruct-said.new.self c.args.p c.requires.running c.requires.process c.instruct-said.ensures.moved c.instruct-said.ensures.config
 
 pub follow-requires-clause-answer : goal.follow-requires-clause-answer
 follow-requires-clause-answer g c =
@@ -22,7 +22,7 @@ follow-requires-clause-answer g c =
     let o : Outcome = micro (world_of_store x.store) (table_of x.images) c.args.p (placed_config (placed_of x) c.args.p) in
     record {
       none = move_ends x c.instruct-said.new.self c.args.p o c.instruct-said.result answer c.instruct-said.ensures.config c.instruct-said.ensures.said (micro_ends (world_of_store x.store) (table_of x.images) c.args.p (objects_of x.store) (placed_config (placed_of x) c.args.p).levels) h;
-      ready = λ f is. micro_ready g.C.Meaning.Rules.meaning c.ready_in_place.ensures x c.instruct-said.new.self c.args.p f c.instruct-said.result answer c.requires.at.abstraction c.requires.level c.instruct-said.ensures.moved c.instruct-said.ensures.config c.instruct-said.ensures.said h c.instruct-said.ensures.answer is;
+      ready = λ f is. micro_ready g.C.Meaning.Rules.meaning c.ready_in_place.ensures x c.instruct-said.new.self c.args.p f c.instruct-said.result answer c.requires.abstraction c.requires.level c.instruct-said.ensures.moved c.instruct-said.ensures.config c.instruct-said.ensures.said h c.instruct-said.ensures.answer is;
     }
 
 pub returns : goal.returns

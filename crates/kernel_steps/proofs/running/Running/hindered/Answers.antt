@@ -4,7 +4,7 @@ use Rattle.kernel_model.specs.GraftStep.{next_needs, lock_user}
 use Rattle.kernel_model.specs.Locks.{first_hindrance}
 use Rattle.lock_table.specs.Masks.{held}
 use Rattle.graft_loader.specs.Slots.{table_of}
-use Rattle.graft_calls.specs.Chains.{levels_in}
+use Rattle.graft_levels.specs.Chains.{levels_in}
 use Rattle.kernel_state.specs.Stores.{world_of_store, objects_of}
 use Rattle.call_pieces.specs.Works.{stage_of}
 use Rattle.kernel_steps.specs.declared.running.Flight.{Flight}

@@ -12,4 +12,4 @@ returns g c =
     let s = objects_of x.store in
     c.first_hindrance.ensures
     ∙ needs_hinder g.C.Meaning.Rules.meaning x c.args.p c.lock_user-user.result c.args.needs.now c.flight.result.now
-    c.requires.at.running fl (c.lock_user-user.ensures c.args.p x.store.ram (held x.locks) c.flight.result.now.chain.undo s.things) c.requires.needs.value
+    c.requires.running fl (c.lock_user-user.ensures c.args.p x.store.ram (held x.locks) c.flight.result.now.chain.undo s.things) c.requires.value

@@ -1,4 +1,4 @@
-use Rattle.std.proofs.Common.{◌≡◌, ◌∙◌, ◌==◌, not, length, ap}
+use Rattle.std.proofs.Common.{List, ◌≡◌, ◌∙◌, ◌==◌, not, length, ap}
 use Rattle.lock_table.specs.Masks.{held}
 use Rattle.kernel_state.specs.Stores.{objects_of}
 use Rattle.kernel_steps.specs.declared.running.Flight.{Flight}
@@ -9,7 +9,6 @@ use Rattle.kernel_steps.proofs.running.Running.in_graft.Goals as goal
 pub returns : goal.returns
 returns g c =
     let x = c.args.self.now in
-    let fl : c.flight.result.now ≡ flight_of x.calls.items c.args.p = c.flight.ensures ∙ ap (λ fs. flight_of fs c.args.p) c.deref.ensures.value in
     let ch = (flight_of x.calls.items c.args.p).chain in
-    ap (λ n. not (n == 0)) (c.count.ensures.value ∙ ap (λ (f : Flight). length f.chain.levels) fl)
+    ap (λ n. not (n == 0)) (c.count_of.ensures.value ∙ ap (λ (fs : List Flight). length (flight_of fs c.args.p).chain.levels) c.deref.ensures.value)
     ∙ some_in_place c.args.p x.store.ram (held x.locks) ch.levels ch.undo (objects_of x.store).things

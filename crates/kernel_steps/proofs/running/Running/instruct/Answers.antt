@@ -13,7 +13,7 @@ use Rattle.kernel_steps.proofs.running.Running.instruct.Goals as goal
 pub returns-clause-said : goal.returns-clause-said
 returns-clause-said g c =
     let x = c.args.self.now in
-    let y : Running g.row.C.Denot g.row.B.Denot g.row.C-Meaning.Denot _ = record { store = c.instruction.new.store; clock = x.clock; images = x.images; locks = c.instruction.new.locks; calls = with_item x.calls c.args.p (record { call = c.index_mut-flight.result.now.call; chain = c.instruction.new.self }); order = x.order; table = x.table } in
+    let y : Running g.row.C.Denot g.row.B.Denot g.row.C-Meaning.Denot _ = record { store = c.instruction.new.store; clock = x.clock; images = x.images; locks = c.instruction.new.locks; calls = with_item x.calls c.args.p (record { call = c.index_mut-flight.result.now.call; chain = c.instruction.new.chain }); order = x.order; table = x.table } in
     let r = c.requires.running in
     let fl : c.index_mut-flight.result.now ≡ flight_of x.calls.items c.args.p = fetched x.calls.items c.args.p c.index_mut-flight.result.now r.sixteen c.requires.process c.index_mut-flight.ensures.value in
     let f : Config → Outcome = λ (e : Config). micro (world_of_store x.store) (table_of x.images) c.args.p e in
@@ -23,14 +23,14 @@ returns-clause-said g c =
 pub returns-clause-config : goal.returns-clause-config
 returns-clause-config g c =
     let x = c.args.self.now in
-    let y : Running g.row.C.Denot g.row.B.Denot g.row.C-Meaning.Denot _ = record { store = c.instruction.new.store; clock = x.clock; images = x.images; locks = c.instruction.new.locks; calls = with_item x.calls c.args.p (record { call = c.index_mut-flight.result.now.call; chain = c.instruction.new.self }); order = x.order; table = x.table } in
+    let y : Running g.row.C.Denot g.row.B.Denot g.row.C-Meaning.Denot _ = record { store = c.instruction.new.store; clock = x.clock; images = x.images; locks = c.instruction.new.locks; calls = with_item x.calls c.args.p (record { call = c.index_mut-flight.result.now.call; chain = c.instruction.new.chain }); order = x.order; table = x.table } in
     let r = c.requires.running in
     let fl : c.index_mut-flight.result.now ≡ flight_of x.calls.items c.args.p = fetched x.calls.items c.args.p c.index_mut-flight.result.now r.sixteen c.requires.process c.index_mut-flight.ensures.value in
     let f : Config → Outcome = λ (e : Config). micro (world_of_store x.store) (table_of x.images) c.args.p e in
     let o : Outcome = f (placed_config (placed_of x) c.args.p) in
-    config_by x y c.args.p c.instruction.new.self o c.instruction.result r
-    (moved_by x y c.args.p c.index_mut-flight.result.now c.instruction.new.self r.sixteen c.requires.process fl refl c.instruction.ensures.elsewhere c.instruction.ensures.in_place.placed c.instruction.ensures.in_place.inside c.instruction.ensures.in_place.loaded refl refl refl)
-    (chain_by x y c.args.p c.index_mut-flight.result.now c.instruction.new.self r.sixteen c.requires.process fl refl)
+    config_by x y c.args.p c.instruction.new.chain o c.instruction.result r
+    (moved_by x y c.args.p c.index_mut-flight.result.now c.instruction.new.chain r.sixteen c.requires.process fl refl c.instruction.ensures.elsewhere c.instruction.ensures.in_place.placed c.instruction.ensures.in_place.inside c.instruction.ensures.in_place.loaded refl refl refl)
+    (chain_by x y c.args.p c.index_mut-flight.result.now c.instruction.new.chain r.sixteen c.requires.process fl refl)
     (came_by x c.args.p c.index_mut-flight.result.now f c.instruction.result _ fl c.instruction.ensures.step)
 
 pub returns-clause-answer : goal.returns-clause-answer
@@ -42,12 +42,12 @@ returns-clause-answer g c =
 pub returns-clause-moved : goal.returns-clause-moved
 returns-clause-moved g c =
     let x = c.args.self.now in
-    let y : Running g.row.C.Denot g.row.B.Denot g.row.C-Meaning.Denot _ = record { store = c.instruction.new.store; clock = x.clock; images = x.images; locks = c.instruction.new.locks; calls = with_item x.calls c.args.p (record { call = c.index_mut-flight.result.now.call; chain = c.instruction.new.self }); order = x.order; table = x.table } in
+    let y : Running g.row.C.Denot g.row.B.Denot g.row.C-Meaning.Denot _ = record { store = c.instruction.new.store; clock = x.clock; images = x.images; locks = c.instruction.new.locks; calls = with_item x.calls c.args.p (record { call = c.index_mut-flight.result.now.call; chain = c.instruction.new.chain }); order = x.order; table = x.table } in
     let r = c.requires.running in
     let fl : c.index_mut-flight.result.now ≡ flight_of x.calls.items c.args.p = fetched x.calls.items c.args.p c.index_mut-flight.result.now r.sixteen c.requires.process c.index_mut-flight.ensures.value in
     let f : Config → Outcome = λ (e : Config). micro (world_of_store x.store) (table_of x.images) c.args.p e in
     let o : Outcome = f (placed_config (placed_of x) c.args.p) in
-    moved_by x y c.args.p c.index_mut-flight.result.now c.instruction.new.self r.sixteen c.requires.process fl refl c.instruction.ensures.elsewhere c.instruction.ensures.in_place.placed c.instruction.ensures.in_place.inside c.instruction.ensures.in_place.loaded refl refl refl
+    moved_by x y c.args.p c.index_mut-flight.result.now c.instruction.new.chain r.sixteen c.requires.process fl refl c.instruction.ensures.elsewhere c.instruction.ensures.in_place.placed c.instruction.ensures.in_place.inside c.instruction.ensures.in_place.loaded refl refl refl
 
 pub instruction-requires : goal.instruction-requires
 instruction-requires g c =

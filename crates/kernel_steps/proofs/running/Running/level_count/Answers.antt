@@ -1,4 +1,4 @@
-use Rattle.std.proofs.Common.{◌≡◌, ◌∙◌, length, ap, sym}
+use Rattle.std.proofs.Common.{List, ◌≡◌, ◌∙◌, length, ap, sym}
 use Rattle.lock_table.specs.Masks.{held}
 use Rattle.kernel_state.specs.Stores.{objects_of}
 use Rattle.kernel_steps.specs.declared.running.Flight.{Flight}
@@ -9,13 +9,11 @@ use Rattle.kernel_steps.proofs.running.Running.level_count.Goals as goal
 pub returns-clause-value : goal.returns-clause-value
 returns-clause-value g c =
     let x = c.args.self.now in
-    let fl : c.flight.result.now ≡ flight_of x.calls.items c.args.p = c.flight.ensures ∙ ap (λ fs. flight_of fs c.args.p) c.deref.ensures.value in
     let ch = (flight_of x.calls.items c.args.p).chain in
-    c.count.ensures.value ∙ ap (λ (f : Flight). length f.chain.levels) fl
+    c.count_of.ensures.value ∙ ap (λ (fs : List Flight). length (flight_of fs c.args.p).chain.levels) c.deref.ensures.value
     ∙ sym (many_bare c.args.p x.store.ram (held x.locks) ch.levels ch.undo (objects_of x.store).things)
 
 pub returns-clause-chain : goal.returns-clause-chain
 returns-clause-chain g c =
     let x = c.args.self.now in
-    let fl : c.flight.result.now ≡ flight_of x.calls.items c.args.p = c.flight.ensures ∙ ap (λ fs. flight_of fs c.args.p) c.deref.ensures.value in
-    c.count.ensures.value ∙ ap (λ (f : Flight). length f.chain.levels) fl
+    c.count_of.ensures.value ∙ ap (λ (fs : List Flight). length (flight_of fs c.args.p).chain.levels) c.deref.ensures.value

@@ -22,8 +22,8 @@ returns-then-not-is_in_range-clause-value g c =
     sym (ap (λ t. outermost_holding c.args.object mode (t c.args.holder)) (holds_in_place x c.requires.running)
     ∙ none_in_the_way x.locks c.args.holder c.args.object mode (sym c.is_in_range.ensures ∙ c.if-not-is_in_range.true))
 
-pub level_of-requires-clause-range : goal.level_of-requires-clause-range
-level_of-requires-clause-range g c = (c.test_is_range.ensures c.args.object).0 (sym c.is_in_range.ensures ∙ c.if-not-is_in_range.false)
+pub level_of-requires : goal.level_of-requires
+level_of-requires g c = record { range = (c.test_is_range.ensures c.args.object).0 (sym c.is_in_range.ensures ∙ c.if-not-is_in_range.false) }
 
 pub returns-clause-value : goal.returns-clause-value
 returns-clause-value g c =

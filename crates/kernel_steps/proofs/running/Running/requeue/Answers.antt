@@ -13,50 +13,50 @@ push-requires g c =
     (ap (λ ws. are_once (numbers_of ws)) c.leave.ensures ∙ once_less c.args.p x.order r.once)
     (ap (λ ws. has_number c.args.p (numbers_of ws)) c.leave.ensures ∙ has_left c.args.p x.order)
 
-pub returns-clause-value : goal.returns-clause-value
-returns-clause-value g c = λ notes blocks io.
-    let x = c.args.self.now in
-    requeued x c.args.p c.is_at_piece-waits.result c.push.new.self c.is_at_piece-waits.ensures
-    (joined_order c.args.p x.order c.leave.new.self c.push.new.self c.joined.result c.is_at_piece-waits.result (grind (arith, c.if-not-waits.false)) c.leave.ensures c.joined.ensures c.push.ensures) notes blocks io
-
-pub returns-clause-running : goal.returns-clause-running
-returns-clause-running g c =
+pub returns : goal.returns
+returns g c =
     let x = c.args.self.now in
     let r = c.requires.running in
     record {
-      sixteen = r.sixteen;
-      callers = r.callers;
-      placed = r.placed;
-      inside = r.inside;
-      counts = counts_joined x.clock c.args.p c.leave.new.self c.joined.result c.push.new.self c.joined.ensures c.push.ensures (ap (counts_within x.clock) c.leave.ensures ∙ counts_less x.clock c.args.p x.order r.counts);
-      order = processes_joined c.args.p c.leave.new.self c.joined.result c.push.new.self c.joined.ensures c.push.ensures c.requires.process (ap are_processes c.leave.ensures ∙ processes_less c.args.p x.order r.order);
-      once = once_joined c.args.p c.leave.new.self c.joined.result c.push.new.self c.joined.ensures c.push.ensures
-          (ap (λ ws. are_once (numbers_of ws)) c.leave.ensures ∙ once_less c.args.p x.order r.once)
-          (ap (λ ws. has_number c.args.p (numbers_of ws)) c.leave.ensures ∙ has_left c.args.p x.order);
-      loaded = r.loaded;
-      owner = r.owner;
-      own = r.own;
+      value = λ notes blocks io.
+          requeued x c.args.p c.is_at_piece-waits.result c.push.new.self c.is_at_piece-waits.ensures
+          (joined_order c.args.p x.order c.leave.new.self c.push.new.self c.joined.result c.is_at_piece-waits.result (grind (arith, c.if-not-waits.false)) c.leave.ensures c.joined.ensures c.push.ensures) notes blocks io;
+      running =
+          record {
+            sixteen = r.sixteen;
+            callers = r.callers;
+            placed = r.placed;
+            inside = r.inside;
+            counts = counts_joined x.clock c.args.p c.leave.new.self c.joined.result c.push.new.self c.joined.ensures c.push.ensures (ap (counts_within x.clock) c.leave.ensures ∙ counts_less x.clock c.args.p x.order r.counts);
+            order = processes_joined c.args.p c.leave.new.self c.joined.result c.push.new.self c.joined.ensures c.push.ensures c.requires.process (ap are_processes c.leave.ensures ∙ processes_less c.args.p x.order r.order);
+            once = once_joined c.args.p c.leave.new.self c.joined.result c.push.new.self c.joined.ensures c.push.ensures
+                (ap (λ ws. are_once (numbers_of ws)) c.leave.ensures ∙ once_less c.args.p x.order r.once)
+                (ap (λ ws. has_number c.args.p (numbers_of ws)) c.leave.ensures ∙ has_left c.args.p x.order);
+            loaded = r.loaded;
+            owner = r.owner;
+            own = r.own;
+          };
     }
 
-pub returns-then-not-waits-clause-value : goal.returns-then-not-waits-clause-value
-returns-then-not-waits-clause-value g c = λ notes blocks io.
-    let x = c.args.self.now in
-    requeued x c.args.p c.is_at_piece-waits.result c.leave.new.self c.is_at_piece-waits.ensures
-    (left_order c.args.p x.order c.leave.new.self c.is_at_piece-waits.result (grind (arith, c.if-not-waits.true)) c.leave.ensures) notes blocks io
-
-pub returns-then-not-waits-clause-running : goal.returns-then-not-waits-clause-running
-returns-then-not-waits-clause-running g c =
+pub returns-then-not-waits : goal.returns-then-not-waits
+returns-then-not-waits g c =
     let x = c.args.self.now in
     let r = c.requires.running in
     record {
-      sixteen = r.sixteen;
-      callers = r.callers;
-      placed = r.placed;
-      inside = r.inside;
-      counts = ap (counts_within x.clock) c.leave.ensures ∙ counts_less x.clock c.args.p x.order r.counts;
-      order = ap are_processes c.leave.ensures ∙ processes_less c.args.p x.order r.order;
-      once = ap (λ ws. are_once (numbers_of ws)) c.leave.ensures ∙ once_less c.args.p x.order r.once;
-      loaded = r.loaded;
-      owner = r.owner;
-      own = r.own;
+      value = λ notes blocks io.
+          requeued x c.args.p c.is_at_piece-waits.result c.leave.new.self c.is_at_piece-waits.ensures
+          (left_order c.args.p x.order c.leave.new.self c.is_at_piece-waits.result (grind (arith, c.if-not-waits.true)) c.leave.ensures) notes blocks io;
+      running =
+          record {
+            sixteen = r.sixteen;
+            callers = r.callers;
+            placed = r.placed;
+            inside = r.inside;
+            counts = ap (counts_within x.clock) c.leave.ensures ∙ counts_less x.clock c.args.p x.order r.counts;
+            order = ap are_processes c.leave.ensures ∙ processes_less c.args.p x.order r.order;
+            once = ap (λ ws. are_once (numbers_of ws)) c.leave.ensures ∙ once_less c.args.p x.order r.once;
+            loaded = r.loaded;
+            owner = r.owner;
+            own = r.own;
+          };
     }

@@ -11,11 +11,18 @@ piece_step-requires-clause-none g c =
     let fl : c.flight.result.now ≡ flight_of c.args.self.now.calls.items c.args.p = c.flight.ensures ∙ ap (λ fs. flight_of fs c.args.p) c.deref.ensures.value in
     at_none (flight_of c.args.self.now.calls.items c.args.p).chain.levels (sym (ap (λ (f : Flight). length f.chain.levels) fl) ∙ sym c.count.ensures.value ∙ c.if-count-eq0.true)
 
-pub graft_step-requires-clause-level : goal.graft_step-requires-clause-level
-graft_step-requires-clause-level g c =
+pub graft_step-requires : goal.graft_step-requires
+graft_step-requires g c =
+    let at = c.requires.at in
     let fl : c.flight.result.now ≡ flight_of c.args.self.now.calls.items c.args.p = c.flight.ensures ∙ ap (λ fs. flight_of fs c.args.p) c.deref.ensures.value in
     let many = ap (λ (f : Flight). length f.chain.levels) fl in
-    grind (arith, nat_tests, many, c.count.ensures.value, c.if-count-eq0.false)
+    record {
+      process = at.process;
+      running = at.running;
+      abstraction = at.abstraction;
+      disk = at.disk;
+      level = grind (arith, nat_tests, many, c.count.ensures.value, c.if-count-eq0.false);
+    }
 
 pub returns-then-count-eq0 : goal.returns-then-count-eq0
 returns-then-count-eq0 g c =
