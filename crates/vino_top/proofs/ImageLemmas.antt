@@ -65,7 +65,7 @@ pub image_runs : (c : Place) (s t : Seen) (slot : ℕ) (bytes : List ℕ) (y : P
     LeavesText out (line (decimal (s.events + 1) ++ 32 ∷ answer)) → RunsEntry c (Loads slot bytes) s t d d out
 image_runs c s t slot bytes y answer out d booted state said written =
     let u = record s { placed = y; events = s.events + 1 } in
-    subst (λ (x : Seen). RunsEntry c (Loads slot bytes) s x d d out) (sym state) (alone c (Loads slot bytes) s u out d refl (λ a rest stands.
+    subst (λ (x : Seen). RunsEntry c (Loads slot bytes) s x d d out) (sym state) (alone c (Loads slot bytes) s u out d refl written.no_notes (λ a rest stands.
     let has = stands.booted booted in
     let n = suc a.events in
     let number : s.events + 1 ≡ n = add-one s.events ∙ ap suc (sym stands.events) in

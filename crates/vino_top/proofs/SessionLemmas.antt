@@ -1,12 +1,14 @@
 -- What the lines and the entries of a session make of it.
 use Rattle.std.proofs.Common.{length, codes, decimal, is_some, Result, Ok, Err, ◌≡◌, ℕ, suc, ◌+◌, ◌++◌, ◌∙◌, true, false, Bool, List, [], ◌∷◌, Some, Option, arith, refl, sym, ap, subst, add-one}
-use Rattle.std.specs.Prelude.{OnOk, slice_index_or, replicate, zero, nat_lt, ◌<◌}
+use Rattle.std.specs.Prelude.{OnOk, slice_index_or, replicate, zero, nat_lt, ◌<◌, ◌≤◌}
 use Rattle.std.proofs.lemmas.Bool.Decides.{nat_tests}
 use Rattle.std.proofs.Math.Path.{fun_ext}
 use Rattle.kernel_model.specs.declared.TheConstants.{LAST_CALLABLE}
 use Rattle.kernel_model.specs.declared.Event.{Event}
 use Rattle.kernel_model.specs.declared.Note.{Note}
+use Rattle.disk_log.specs.Calls.{failures}
 use Rattle.disk_log.specs.Joined.{made_none}
+use Rattle.kernel_steps.specs.Faults.{fault_notes}
 use Rattle.vino_base.specs.Disks.{DiskSeen}
 use Rattle.kernel_model.specs.Directory.{directory_of, usable_count}
 use Rattle.kernel_model.specs.Objects.{at}
@@ -35,7 +37,7 @@ use Rattle.kernel_core.specs.Standing.{Booted, BootIs}
 use Rattle.vino_top.specs.Built.{present_build}
 use Rattle.vino_top.specs.Standing.{Seen, StandsFor, setup_of, code_seen}
 use Rattle.vino_top.specs.Parsed.{Parsed, parsed_entry}
-use Rattle.vino_top.specs.Run.{Place, line_run, parsed_of, Left, LeavesText, LineMatches, RunsLine, RunsEntry, boot_line}
+use Rattle.vino_top.specs.Run.{Place, line_run, parsed_of, Left, LeavesText, LineMatches, RunsLine, RunsEntry, TellsFailures, boot_line}
 use Rattle.vino_top.proofs.ParsedLemmas.{goes_refused, goes_entry, goes_fault}
 
 -- what is booted isn't not booted
@@ -80,6 +82,7 @@ event_runs c s x what notes out d e booted h text kept =
       io = h.io;
       made = h.made;
       parsed = refl;
+      told = (text ∙ ap note_lines (sym kept), subst (λ ns. fault_notes ns ≤ failures h.io) (sym kept) h.faulted);
       comes = λ a rest stands.
           let has = stands.booted booted in
           let io = h.io ++ rest in
@@ -158,17 +161,17 @@ boot_comes c s x (y ∷ z ∷ io) note out known told_new a rest one stands is s
 pub boot_runs : (c : Place) (s : Seen) (x : Placed) (note : BootNote) (out : Left) (d e : DiskSeen) →
     Booted all_calls s.setup c.size x note d e → LeavesText out (line (boot_line note)) → RunsEntry c Boot s (record s { placed = x; booted = true }) d e out
 boot_runs c s x note out d e h said =
-    record { io = h.io; made = h.made; parsed = refl; comes = λ a rest stands. boot_comes c s x h.io note out d.known e.known a rest h.one stands (h.is a.blocks stands.blocks) said }
+    record { io = h.io; made = h.made; parsed = refl; told = record { note = note; bytes_are = said.bytes_are; faulted = h.faulted }; comes = λ a rest stands. boot_comes c s x h.io note out d.known e.known a rest h.one stands (h.is a.blocks stands.blocks) said }
 
 -- a session went on by an entry that leaves the disk alone
-pub alone : (c : Place) (entry : Entry) (s t : Seen) (out : Left) (d : DiskSeen) → parsed_of t ≡ parsed_entry (parsed_of s) entry →
+pub alone : (c : Place) (entry : Entry) (s t : Seen) (out : Left) (d : DiskSeen) → parsed_of t ≡ parsed_entry (parsed_of s) entry → TellsFailures entry out [] →
     ((a : Session) (rest : List Bool) → StandsFor s d.known a →
     LineMatches t d.known out (after_entry present_build c.keys c.size a entry rest) rest) → RunsEntry c entry s t d d out
-alone c entry s t out d parsed comes = record { io = []; made = made_none d; parsed = parsed; comes = comes }
+alone c entry s t out d parsed told comes = record { io = []; made = made_none d; parsed = parsed; told = told; comes = comes }
 
 -- a blank line
 pub blank_runs : (c : Place) (s : Seen) (out : Left) (d : DiskSeen) → LeavesText out [] → RunsEntry c Blank s s d d out
-blank_runs c s out d silent = alone c Blank s s out d refl (λ a rest stands. record { stands = stands; left = refl; bytes = silent.bytes_are; notes = silent.no_notes })
+blank_runs c s out d silent = alone c Blank s s out d refl silent.no_notes (λ a rest stands. record { stands = stands; left = refl; bytes = silent.bytes_are; notes = silent.no_notes })
 
 -- a session with another set-up
 set_up : (s : Seen) (u : _) (known : Option (List (List ℕ))) (a : Session) (v : Setup) → v ≡ setup_of u → StandsFor s known a → StandsFor (record s { setup = u }) known (record a { setup = v })
@@ -179,14 +182,14 @@ set_up s u known a v is stands =
 pub frames_runs : (c : Place) (s : Seen) (n : ℕ) (out : Left) (d : DiskSeen) → LeavesText out [] →
     RunsEntry c (Frames n) s (record s { setup = record (s.setup) { frames = n } }) d d out
 frames_runs c s n out d silent =
-    alone c (Frames n) s (record s { setup = record (s.setup) { frames = n } }) out d refl (λ a rest stands.
+    alone c (Frames n) s (record s { setup = record (s.setup) { frames = n } }) out d refl silent.no_notes (λ a rest stands.
     record { stands = set_up s (record (s.setup) { frames = n }) d.known a (record (a.setup) { frames = n }) (ap (λ (u : Setup). record u { frames = n }) stands.setup) stands; left = refl; bytes = silent.bytes_are; notes = silent.no_notes })
 
 -- a line that sets the grant
 pub grant_runs : (c : Place) (s : Seen) (n : ℕ) (out : Left) (d : DiskSeen) → LeavesText out [] →
     RunsEntry c (Grant n) s (record s { setup = record (s.setup) { grant = n } }) d d out
 grant_runs c s n out d silent =
-    alone c (Grant n) s (record s { setup = record (s.setup) { grant = n } }) out d refl (λ a rest stands.
+    alone c (Grant n) s (record s { setup = record (s.setup) { grant = n } }) out d refl silent.no_notes (λ a rest stands.
     record { stands = set_up s (record (s.setup) { grant = n }) d.known a (record (a.setup) { grant = n }) (ap (λ (u : Setup). record u { grant = n }) stands.setup) stands; left = refl; bytes = silent.bytes_are; notes = silent.no_notes })
 
 -- a line that sets the patience with a kind of object
@@ -194,7 +197,7 @@ pub patience_runs : (c : Place) (s : Seen) (kind ticks : ℕ) (patience : List �
     (λ k. slice_index_or patience k 10) ≡ at kind ticks (λ k. slice_index_or s.setup.patience k 10) → LeavesText out [] →
     RunsEntry c (Patience kind ticks) s (record s { setup = record (s.setup) { patience = patience } }) d d out
 patience_runs c s kind ticks patience out d is silent =
-    alone c (Patience kind ticks) s (record s { setup = record (s.setup) { patience = patience } }) out d refl (λ a rest stands.
+    alone c (Patience kind ticks) s (record s { setup = record (s.setup) { patience = patience } }) out d refl silent.no_notes (λ a rest stands.
     record {
       stands = set_up s (record (s.setup) { patience = patience }) d.known a (with_patience kind ticks a.setup)
           (ap (with_patience kind ticks) stands.setup ∙ ap (λ (f : ℕ → ℕ). record (setup_of s.setup) { patience = f }) (sym is)) stands;
@@ -203,12 +206,18 @@ patience_runs c s kind ticks patience out d is silent =
       notes = silent.no_notes;
     })
 
+-- an event that leaves nothing behind says nothing of the disk
+pub silent_event : (out : Left) (what : Event) → LeavesText out [] → TellsFailures (Happens what) out []
+silent_event out what said =
+    let none = ap fault_notes said.no_notes in
+    (said.bytes_are ∙ ap note_lines (sym said.no_notes), omega (arith, none))
+
 -- an entry after `boot` that stands before it
 pub unbooted_runs : (c : Place) (entry : Entry) (s : Seen) (out : Left) (d : DiskSeen) → ((a : Session) (rest : List Bool) →
     after_entry present_build c.keys c.size a entry rest ≡ running_in present_build c.keys c.size a entry a.kernel rest) →
-    ((p : Parsed) → p ≡ parsed_entry p entry) → s.booted ≡ false → LeavesText out [] → RunsEntry c entry s s d d out
-unbooted_runs c entry s out d runs parsed booted said =
-    alone c entry s s out d (parsed (parsed_of s)) (λ a rest stands.
+    ((p : Parsed) → p ≡ parsed_entry p entry) → s.booted ≡ false → LeavesText out [] → TellsFailures entry out [] → RunsEntry c entry s s d d out
+unbooted_runs c entry s out d runs parsed booted said told =
+    alone c entry s s out d (parsed (parsed_of s)) told (λ a rest stands.
     let run : after_entry present_build c.keys c.size a entry rest ≡ silent a rest =
     runs a rest ∙ ap (λ (o : Option abstract.Kernel). running_in present_build c.keys c.size a entry o rest) (stands.unbooted booted) in
     subst (λ w. LineMatches s d.known out w rest) (sym run) (record { stands = stands; left = refl; bytes = said.bytes_are; notes = said.no_notes }))
@@ -218,7 +227,7 @@ pub raw_runs : SameShown all_calls → (c : Place) (s : Seen) (out : Left) (d : 
     LeavesText out (row_lines (s.events + 1) (placed_rows s.placed)) →
     RunsEntry c Raw s (record s { events = s.events + 1 }) d d out
 raw_runs shown c s out d booted said =
-    alone c Raw s (record s { events = s.events + 1 }) out d refl (λ a rest stands.
+    alone c Raw s (record s { events = s.events + 1 }) out d refl said.no_notes (λ a rest stands.
     let has = stands.booted booted in
     let n = suc a.events in
     let number = next_number s d.known a stands in
@@ -253,6 +262,7 @@ line_after_refusal c s text out d refused said =
       io = [];
       made = made_none d;
       by_text = goes_refused (parsed_of s) text out.bytes refused said.bytes_are;
+      told = λ entry going is. absurd (up_is_down (sym refused ∙ going));
       comes = λ a rest stands.
           let is : line_run c a text rest ≡ silent a rest =
           ap (λ (b : Bool). elim b as (λ _. Written) [
@@ -288,6 +298,14 @@ counted s known a stands =
       blocks = stands.blocks;
     }
 
+-- what is parsed is one entry
+one_entry : (x y : Entry) → ◌≡◌ {A = Result Entry ScriptFault} (Ok x) (Ok y) → x ≡ y
+one_entry x y h = cc
+
+-- what is refused is none
+no_entry : (fault : ScriptFault) (x : Entry) → ◌≡◌ {A = Result Entry ScriptFault} (Err fault) (Ok x) → ⊥
+no_entry fault x h = cc
+
 -- a line is run for what it says
 pub line_entered : (c : Place) (s t : Seen) (text : List ℕ) (out : Left) (entry : Entry) (d e : DiskSeen) → s.refused ≡ false →
     parsed_line s.booted text ≡ Ok entry → RunsEntry c entry (record s { lines = s.lines + 1 }) t d e out → RunsLine c text s t d e out
@@ -297,6 +315,7 @@ line_entered c s t text out entry d e going is runs =
       made = runs.made;
       by_text = goes_entry (parsed_of s) (parsed_of t) text out.bytes entry going is
           (runs.parsed ∙ ap (λ (n : ℕ). parsed_entry (record (parsed_of s) { lines = n }) entry) (add-one s.lines));
+      told = λ other still says. subst (λ (x : Entry). TellsFailures x out runs.io) (one_entry entry other (sym is ∙ says)) runs.told;
       comes = λ a rest stands.
           subst (λ w. LineMatches t e.known out w rest) (sym (line_parsed c s d.known a text (Ok entry) (runs.io ++ rest) stands going is))
           (runs.comes (record a { lines = suc a.lines }) rest (counted s d.known a stands));
@@ -318,6 +337,7 @@ line_refused c s t text out fault d going is state said =
       by_text = goes_fault (parsed_of s) (parsed_of t) text out.bytes fault going is
           (ap parsed_of state ∙ ap (λ (n : ℕ). record (parsed_of s) { lines = n; refused = true }) (add-one s.lines))
           (said.bytes_are ∙ ap (λ (n : ℕ). line (fault_text n fault)) (add-one s.lines));
+      told = λ entry still says. absurd (no_entry fault entry (sym is ∙ says));
       comes = λ a rest stands.
           let u = counted s d.known a stands in
           subst (λ w. LineMatches t d.known out w rest) (sym (line_parsed c s d.known a text (Err fault) rest stands going is)) (record {

@@ -1,5 +1,5 @@
 -- How large the numbers of a session grow, and what always holds of its kernel.
-use Rattle.std.specs.Prelude.{◌≡◌, ℕ, ◌+◌, ◌-◌, ◌^◌, ◌<◌, ◌≤◌, true, false, List, length}
+use Rattle.std.specs.Prelude.{◌≡◌, ℕ, ◌+◌, ◌-◌, ◌^◌, ◌<◌, ◌≤◌, true, false, List, [], length}
 use Rattle.kernel_model.specs.AllCalls.{all_calls}
 use Rattle.kernel_core.specs.EventRefines.{IsKernel}
 use Rattle.kernel_core.specs.Standing.{IsBlank}
@@ -8,6 +8,8 @@ use Rattle.kernel_model.specs.Script.{LINE_BYTES}
 use Rattle.graft_points.specs.Shelf.{IsShelf, pol_of, first_choice}
 use Rattle.graft_points.specs.Views.{PolicyView}
 use Rattle.vino_top.specs.declared.run.ScriptRun.{ScriptRun}
+use Rattle.vino_top.specs.declared.session.Buffers.{Buffers}
+use Rattle.vino_top.specs.Run.{LeavesText, left_in}
 use Rattle.vino_top.specs.declared.session.Session.{Session}
 
 -- the seven stock policies, with their parameters at boot
@@ -31,6 +33,12 @@ pub record IsOnLine {B : Type 0} {P : _} (size : ℕ) (s : Session B P) : Type 0
   pub room : s.lines < 2 ^ 32 - 1
   pub fresh : s.events < s.lines
   pub within : IsSessionWithin size s
+
+-- An entry of the line that was counted can be run: nothing was left behind yet.
+pub record CanRunEntry {B : Type 0} {P : _} (size : ℕ) (s : Session B P) (out : Buffers) :
+    Type 0 where
+  pub counted : IsOnLine size s
+  pub empty : LeavesText (left_in out) []
 
 -- A run on a disk of this size that can take so many bytes, and a line for each: there is room for
 -- their numbers, and the line that is being read is no longer than a line may be.

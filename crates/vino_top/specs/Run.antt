@@ -4,16 +4,19 @@ use Rattle.std.specs.List.{concat}
 use Rattle.std.specs.Io.KnownBytes.{Appends, Consumes, IsAtEnd}
 use Rattle.vino_base.specs.Streams.{SourceSeen, SinkSeen, IsUsed}
 use Rattle.filters.specs.Filtered.{AppendsPart, HasEnded}
-use Rattle.disk_log.specs.Calls.{Knows, Made}
+use Rattle.disk_log.specs.Calls.{Knows, Made, failures}
 use Rattle.vino_base.specs.Disks.{DiskSeen}
 use Rattle.kernel_model.specs.declared.Keys.{Keys}
 use Rattle.kernel_model.specs.declared.Note.{Note}
 use Rattle.kernel_model.specs.World.{Blocks}
 use Rattle.kernel_model.specs.Session.{Session, Written, first_session, after_line, after_entry, session_after, pieces_of, first_io, later_io}
 use Rattle.kernel_model.specs.Kernel.{Kernel}
-use Rattle.kernel_model.specs.Script.{Entry, Loads, parsed_line}
+use Rattle.kernel_model.specs.Script.{Entry, Boot, Happens, Loads, parsed_line}
 use Rattle.kernel_model.specs.Outcome.{SCRIPT_BYTES, Ending, End, Outcome, outcome, written, lines_after, rest_after}
-use Rattle.kernel_model.specs.Text.{boot_text}
+use Rattle.kernel_model.specs.Meaning.{disk_fails}
+use Rattle.kernel_model.specs.Text.{boot_text, line, note_lines}
+use Rattle.kernel_steps.specs.Faults.{fault_notes}
+use Rattle.kernel_core.specs.Standing.{is_boot_fault}
 use Rattle.kernel_core.specs.declared.kernel.BootNote.{BootNote}
 use Rattle.kernel_core.specs.declared.kernel.BootNote.TheVariants.{Up}
 use Rattle.kernel_core.specs.declared.kernel.BootNote.TheVariants as boot_is
@@ -121,6 +124,26 @@ pub record LineMatches (t : Seen) (known : Option (List (List ℕ))) (out : Left
   pub bytes : out.bytes ≡ w.bytes
   pub notes : out.notes ≡ w.notes
 
+-- what is written of a boot
+abbrev pub boot_line : BootNote → List ℕ
+boot_line (Up frames size files) = boot_text frames size files
+boot_line boot_is.Fault = codes "0 E16"
+
+-- A boot's line was written, and says that the disk failed exactly where the boot's call did.
+pub record TellsBoot (out : Left) (io : List Bool) : Type 0 where
+  pub note : BootNote
+  pub bytes_are : out.bytes ≡ line (boot_line note)
+  pub faulted : is_boot_fault note ≡ disk_fails io 0
+
+-- What an entry with these calls of the disk leaves behind says that the disk failed only where a
+-- call did. An event writes the lines of its notes, of which each that says so has a failed call of
+-- its own; a boot writes its line; other entries say nothing of the disk.
+abbrev pub TellsFailures : Entry → Left → List Bool → Type 0
+TellsFailures (Happens what) out io =
+    (out.bytes ≡ note_lines out.notes) × (fault_notes out.notes ≤ failures io)
+TellsFailures Boot out io = TellsBoot out io
+TellsFailures entry out io = out.notes ≡ []
+
 -- The session went on by this line, which took the disk from the one to the other and left `out`
 -- behind. Whatever calls behind its own would do, the line comes to this, and leaves those.
 pub record RunsLine (c : Place) (text : List ℕ) (s t : Seen) (d e : DiskSeen)
@@ -132,6 +155,8 @@ pub record RunsLine (c : Place) (text : List ℕ) (s t : Seen) (d e : DiskSeen)
       LineMatches t e.known out (line_run c a text (io ++ rest)) rest
   -- over any disk, also one that tells nothing
   pub by_text : GoesByText (parsed_of s) (parsed_of t) (text ∷ []) out.bytes
+  pub told : (entry : Entry) → s.refused ≡ false → parsed_line s.booted text ≡ Ok entry →
+      TellsFailures entry out io
 
 -- The session went on by this entry, which took the disk from the one to the other and left `out`
 -- behind. Whatever calls behind its own would do, the entry comes to this, and leaves those.
@@ -144,11 +169,7 @@ pub record RunsEntry (c : Place) (entry : Entry) (s t : Seen) (d e : DiskSeen)
       LineMatches t e.known out (after_entry present_build c.keys c.size a entry (io ++ rest)) rest
   -- over any disk, also one that tells nothing
   pub parsed : parsed_of t ≡ parsed_entry (parsed_of s) entry
-
--- what is written of a boot
-abbrev pub boot_line : BootNote → List ℕ
-boot_line (Up frames size files) = boot_text frames size files
-boot_line boot_is.Fault = codes "0 E16"
+  pub told : TellsFailures entry out io
 
 -- The entry loads an image into a slot that is in range and free. Only such an entry wants memory.
 pub record LoadsFree (s : Seen) (e : Entry) : Type 0 where

@@ -27,6 +27,7 @@ mod session;
 mod words;
 
 pub use crate::lines::Lines;
+use crate::run::Loading;
 pub use crate::session::{Buffers, Session};
 use crate::words::Asked;
 use call_pieces::Plain;
@@ -116,9 +117,12 @@ fn run_script<B: Policy, S: Source, K: Sink, D: Disk>(
         (devices (S.seen src.old) (K.seen out.old) (D.seen disk.old))
         (devices (S.seen src.new) (K.seen out.new) (D.seen disk.new)) result }
 {
-    match run::ScriptRun::new(alloc, shelf) {
+    let Ok(session) = Session::new(alloc, shelf) else {
+        return 5;
+    };
+    match run::ScriptRun::new(alloc, session) {
         Err(_) => 5,
-        Ok(reader) => start(alloc, keys, reader, src, out, disk),
+        Ok(reader) => start(Loading { alloc, keys }, reader, src, out, disk),
     }
 }
 
@@ -137,8 +141,7 @@ fn write_usage<K: Sink>(out: &mut K) -> u8
 
 /// Runs a script from its beginning.
 fn start<B: Policy, S: Source, K: Sink, D: Disk>(
-    alloc: Global,
-    keys: &Keys,
+    loading: Loading<'_>,
     mut reader: run::ScriptRun<B>,
     src: &mut S,
     out: &mut K,
@@ -147,12 +150,12 @@ fn start<B: Policy, S: Source, K: Sink, D: Disk>(
     requires begun { IsBegun (seen_of reader.session) }
     requires within { (size : ℕ) → IsSessionWithin size reader.session }
     requires line { reader.line ≡ [] }
-    ensures { RunAnswers (place keys.now (D.seen disk.old).size)
+    ensures { RunAnswers (place loading.entry.keys.now (D.seen disk.old).size)
         (devices (S.seen src.old) (K.seen out.old) (D.seen disk.old))
         (devices (S.seen src.new) (K.seen out.new) (D.seen disk.new)) result }
 {
-    match run::zeros(alloc, READ_BYTES) {
+    match run::zeros(loading.alloc, READ_BYTES) {
         Err(_) => 5,
-        Ok(mut buf) => run::run(alloc, keys, &mut reader, &mut buf, src, out, disk),
+        Ok(mut buf) => run::run(loading, &mut reader, &mut buf, src, out, disk),
     }
 }

@@ -1,11 +1,11 @@
 //! The run loop.
 
-ghost use Rattle.std.specs.Prelude.{◌≡◌, ◌≢◌, ◌==◌, ◌+◌, ◌-◌, ◌<◌, ◌≤◌, ◌^◌, ℕ, List, [], ◌∷◌, ◌++◌, length, false, Err, OnOk, IfOk, MatchResult, map, vec_len, ◌⊎◌, drop};
+ghost use Rattle.std.specs.Prelude.{◌≡◌, ◌≢◌, ◌==◌, ◌+◌, ◌-◌, ◌<◌, ◌≤◌, ◌^◌, ℕ, List, [], ◌∷◌, ◌++◌, length, false, Err, OnOk, IfOk, MatchResult, vec_len, ◌⊎◌, drop};
 ghost use Rattle.std.specs.Io.KnownBytes.{Appends, Consumes, IsAtEnd};
 ghost use Rattle.vino_base.specs.Streams.{IsUsed};
 ghost use Rattle.kernel_model.specs.Script.{LINE_BYTES};
 ghost use Rattle.filters.specs.Filtered.{AppendsPart};
-ghost use Rattle.vino_top.specs.Bounds.{IsStock, IsSessionWithin, CanTake};
+ghost use Rattle.vino_top.specs.Bounds.{IsSessionWithin, CanTake};
 ghost use Rattle.vino_top.specs.declared.run.Stop.TheVariants.{SinkFailed};
 ghost use Rattle.vino_top.specs.Run.{Place, place, moment, TakesOrStops, FeedsOrStops, WritesLast, devices, Ran, Broke, Lacked, stop_status, is_sink_failed};
 ghost use Rattle.vino_top.specs.Standing.{seen_of, IsBegun, last_bytes, last_status};
@@ -32,6 +32,13 @@ pub enum Stop {
     NoMemory,
 }
 
+/// With what the images of a script are loaded: where memory is taken, and the keys of their seals.
+#[derive(Clone, Copy)]
+pub struct Loading<'a> {
+    pub alloc: Global,
+    pub keys: &'a Keys,
+}
+
 /// The run of a script: its session, the line that is being read, and what a line leaves behind.
 #[derive(Drop)]
 pub struct ScriptRun<B: Policy> {
@@ -41,15 +48,13 @@ pub struct ScriptRun<B: Policy> {
 }
 
 impl<B: Policy> ScriptRun<B> {
-    /// Before the first byte, with the stock policies.
-    pub fn new(alloc: Global, shelf: Vec<B>) -> Result<ScriptRun<B>, NoMemory>
-        requires { IsStock (map B.seen shelf.items) }
-        ensures within { IfOk result (λ r. (size : ℕ) → IsSessionWithin size r.session) }
-        ensures begun { IfOk result (λ r. IsBegun (seen_of r.session)) }
+    /// Before the first byte, over this session.
+    pub fn new(alloc: Global, session: Session<B>) -> Result<ScriptRun<B>, NoMemory>
+        ensures session { IfOk result (λ r. r.session ≡ session) }
         ensures line { IfOk result (λ r. r.line ≡ []) }
     {
         Ok(ScriptRun {
-            session: Session::new(alloc, shelf)?,
+            session,
             line: LineBuf::new(alloc)?,
             out: Buffers::new(alloc)?,
         })
@@ -221,8 +226,7 @@ fn status_of(stop: Stop) -> u8
 /// Runs the script that the source gives, to its end or to the first thing that stops it. The
 /// status.
 pub fn run<B: Policy, S: Source, K: Sink, D: Disk>(
-    alloc: Global,
-    keys: &Keys,
+    loading: Loading<'_>,
     reader: &mut ScriptRun<B>,
     buf: &mut [u8],
     src: &mut S,
@@ -233,13 +237,14 @@ pub fn run<B: Policy, S: Source, K: Sink, D: Disk>(
     requires within { IsSessionWithin (D.seen disk.old).size reader.old.session }
     requires line { reader.old.line ≡ [] }
     requires room { 0 < length buf.old }
-    ensures ran { result ≢ 4 → result ≢ 5 → Ran (place keys.now (D.seen disk.old).size)
+    ensures ran { result ≢ 4 → result ≢ 5 →
+        Ran (place loading.entry.keys.now (D.seen disk.old).size)
         (devices (S.seen src.old) (K.seen out.old) (D.seen disk.old))
         (devices (S.seen src.new) (K.seen out.new) (D.seen disk.new)) result }
-    ensures broke { result ≡ 4 → Broke (place keys.now (D.seen disk.old).size)
+    ensures broke { result ≡ 4 → Broke (place loading.entry.keys.now (D.seen disk.old).size)
         (devices (S.seen src.old) (K.seen out.old) (D.seen disk.old))
         (devices (S.seen src.new) (K.seen out.new) (D.seen disk.new)) }
-    ensures lacked { result ≡ 5 → Lacked (place keys.now (D.seen disk.old).size)
+    ensures lacked { result ≡ 5 → Lacked (place loading.entry.keys.now (D.seen disk.old).size)
         (devices (S.seen src.old) (K.seen out.old) (D.seen disk.old))
         (devices (S.seen src.new) (K.seen out.new) (D.seen disk.new)) }
     ensures statuses { (result ≡ 0) ⊎ (result ≡ 2) ⊎ (result ≡ 3) ⊎ (result ≡ 4) ⊎ (result ≡ 5)
@@ -256,7 +261,8 @@ pub fn run<B: Policy, S: Source, K: Sink, D: Disk>(
             Ok(n) => {
                 let script = n.min(left - 1);
                 left -= n;
-                if let Err(stop) = feed(alloc, keys, reader, &buf[..script], out, disk) {
+                let bytes = &buf[..script];
+                if let Err(stop) = feed(loading.alloc, loading.keys, reader, bytes, out, disk) {
                     return status_of(stop);
                 }
                 if reader.session.refused {

@@ -17,7 +17,7 @@ ghost use Rattle.kernel_steps.specs.Views.{placed_of, IsRunning, HasAbstraction}
 ghost use Rattle.placed_laws.specs.Stands as kernels;
 ghost use Rattle.kernel_core.specs.declared.images.ImageRefusal.TheVariants.{Unloaded};
 ghost use Rattle.kernel_core.specs.AddedImages.{slot_refused, has_memory, image_said, ImageIsAdded};
-ghost use Rattle.vino_top.specs.Bounds.{IsStock, IsSessionWithin, IsOnLine};
+ghost use Rattle.vino_top.specs.Bounds.{IsStock, IsSessionWithin, IsOnLine, CanRunEntry};
 ghost use Rattle.vino_top.specs.Standing.{seen_of, IsBegun, last_bytes, code_seen};
 ghost use Rattle.vino_top.specs.Run.{Place, place, LoadsFree, WantsAt, RunsLine, RunsEntry, LeavesText, boot_line, left_in};
 
@@ -196,11 +196,10 @@ impl<B: Policy> Session<B> {
         disk: &mut D,
         out: &mut Buffers,
     ) -> Result<(), NoMemory>
-        requires counted { IsOnLine (D.seen disk.old).size self.old }
+        requires can { CanRunEntry (D.seen disk.old).size self.old out.old }
         requires limits { SetsWithin (Ok entry.now) }
         requires place { entry_seen entry.now out.old.bytes.items ≡ Boot →
             self.old.booted ≡ false }
-        requires empty { LeavesText (left_in out.old) [] }
         ensures within { IsSessionWithin (D.seen disk.new).size self.new }
         ensures counted { self.new.lines ≡ self.old.lines }
         ensures runs { OnOk result (RunsEntry (place keys.now (D.seen disk.old).size)
@@ -246,7 +245,6 @@ impl<B: Policy> Session<B> {
         requires within { IsSessionWithin (D.seen disk.old).size self.old }
         requires empty { LeavesText (left_in out.old) [] }
         ensures within { IsSessionWithin (D.seen disk.new).size self.new }
-        ensures counted { self.new.lines ≡ self.old.lines }
         ensures runs { (keys : Keys) → RunsEntry (place keys (D.seen disk.old).size) Boot
             (seen_of self.old) (seen_of self.new) (D.seen disk.old) (D.seen disk.new)
             (left_in out.new) }
@@ -377,10 +375,8 @@ impl<B: Policy> Session<B> {
 
     /// An event of the kernel.
     fn happen<D: Disk>(&mut self, event: BareEvent, disk: &mut D, out: &mut Buffers)
-        requires counted { IsOnLine (D.seen disk.old).size self.old }
-        requires empty { LeavesText (left_in out.old) [] }
+        requires { CanRunEntry (D.seen disk.old).size self.old out.old }
         ensures within { IsSessionWithin (D.seen disk.new).size self.new }
-        ensures counted { self.new.lines ≡ self.old.lines }
         ensures runs { (keys : Keys) → RunsEntry (place keys (D.seen disk.old).size)
             (Happens (event_with event out.old.bytes.items)) (seen_of self.old) (seen_of self.new)
             (D.seen disk.old) (D.seen disk.new) (left_in out.new) }

@@ -10,7 +10,7 @@ use Rattle.vino_top.proofs.run.run.Goals as goal
 pub loop-left-init : goal.loop-left-init
 loop-left-init g c =
     record {
-      reached = reached_first (place c.args.keys.now (g.D.Disk.seen c.args.disk.now).size) (seen_of c.args.reader.now.session) _ _ _ c.args.reader.now.line c.requires.line;
+      reached = reached_first (place c.args.loading.keys.now (g.D.Disk.seen c.args.disk.now).size) (seen_of c.args.reader.now.session) _ _ _ c.args.reader.now.line c.requires.line;
       within = c.requires.within;
       going = c.requires.begun.refused;
       source = not_used _;
@@ -32,24 +32,24 @@ feed-requires g c =
 
 pub returns-in-Err-clause-ran : goal.returns-in-Err-clause-ran
 returns-in-Err-clause-ran g c = λ other more.
-    (ran_fault (place c.args.keys.now (g.D.Disk.seen c.args.disk.now).size) (seen_of c.args.reader.now.session) (seen_of c.loop-left.reader.session) _ (g.S.Source.seen c.loop-left.src) _ _ _ _ _ c.loop-left.reader.line c.loop-left.left c.requires.begun c.loop-left.invariant.reached c.loop-left.invariant.going c.loop-left-test.true
+    (ran_fault (place c.args.loading.keys.now (g.D.Disk.seen c.args.disk.now).size) (seen_of c.args.reader.now.session) (seen_of c.loop-left.reader.session) _ (g.S.Source.seen c.loop-left.src) _ _ _ _ _ c.loop-left.reader.line c.loop-left.left c.requires.begun c.loop-left.invariant.reached c.loop-left.invariant.going c.loop-left-test.true
     c.in-Err.ensures.contents c.loop-left.invariant.source c.in-Err.ensures.used)
 
 pub returns-clause-ran : goal.returns-clause-ran
 returns-clause-ran g c = λ other more.
-    (ran_over (place c.args.keys.now (g.D.Disk.seen c.args.disk.now).size) (seen_of c.args.reader.now.session) (seen_of c.loop-left.reader.session) _ _ _ _ _ _ c.loop-left.reader.line c.loop-left.left c.requires.begun c.loop-left.invariant.reached (omega (arith, c.loop-left-test.false)) c.loop-left.invariant.going)
+    (ran_over (place c.args.loading.keys.now (g.D.Disk.seen c.args.disk.now).size) (seen_of c.args.reader.now.session) (seen_of c.loop-left.reader.session) _ _ _ _ _ _ c.loop-left.reader.line c.loop-left.left c.requires.begun c.loop-left.invariant.reached (omega (arith, c.loop-left-test.false)) c.loop-left.invariant.going)
 
 pub returns-in-Ok-eq0-clause-ran : goal.returns-in-Ok-eq0-clause-ran
 returns-in-Ok-eq0-clause-ran g c = λ other more.
     let none = rw c.in-Ok-eq0.field-0-test at c.in-Ok-eq0.ensures.contents in
-    (ran_finish (place c.args.keys.now (g.D.Disk.seen c.args.disk.now).size) (seen_of c.args.reader.now.session) (seen_of c.loop-left.reader.session) _ _ _ _ _ _ _ _ c.loop-left.reader.line c.loop-left.left c.finish.result c.requires.begun c.loop-left.invariant.reached c.loop-left.invariant.going c.loop-left-test.true none.0
+    (ran_finish (place c.args.loading.keys.now (g.D.Disk.seen c.args.disk.now).size) (seen_of c.args.reader.now.session) (seen_of c.loop-left.reader.session) _ _ _ _ _ _ _ _ c.loop-left.reader.line c.loop-left.left c.finish.result c.requires.begun c.loop-left.invariant.reached c.loop-left.invariant.going c.loop-left-test.true none.0
     (none.1 refl (omega (arith, c.read.auto.buf, length-take c.min-room.result c.loop-left.buf, c.min-room.ensures, c.loop-left.invariant.room, c.loop-left-test.true)))
     c.finish.ensures.done other)
 
 pub returns-in-Ok-eq0-clause-broke : goal.returns-in-Ok-eq0-clause-broke
 returns-in-Ok-eq0-clause-broke g c = λ four.
     let none = rw c.in-Ok-eq0.field-0-test at c.in-Ok-eq0.ensures.contents in
-    (broke_finish (place c.args.keys.now (g.D.Disk.seen c.args.disk.now).size) (seen_of c.args.reader.now.session) (seen_of c.loop-left.reader.session) _ _ _ _ _ _ _ _ c.loop-left.reader.line c.loop-left.left c.requires.begun c.loop-left.invariant.reached c.loop-left.invariant.going c.loop-left-test.true none.0
+    (broke_finish (place c.args.loading.keys.now (g.D.Disk.seen c.args.disk.now).size) (seen_of c.args.reader.now.session) (seen_of c.loop-left.reader.session) _ _ _ _ _ _ _ _ c.loop-left.reader.line c.loop-left.left c.requires.begun c.loop-left.invariant.reached c.loop-left.invariant.going c.loop-left-test.true none.0
     (none.1 refl (omega (arith, c.read.auto.buf, length-take c.min-room.result c.loop-left.buf, c.min-room.ensures, c.loop-left.invariant.room, c.loop-left-test.true)))
     (c.finish.ensures.broken four))
 
@@ -62,7 +62,7 @@ loop-left-preserved g c =
     let same : (g.D.Disk.seen c.loop-left.disk).size ≡ (g.D.Disk.seen c.args.disk.now).size = c.loop-left.invariant.reached.fed.calls.size in
     let fed = rw (piece, same) at c.in_default.ensures.fed.contents in
     record {
-      reached = reached_more (place c.args.keys.now (g.D.Disk.seen c.args.disk.now).size) (seen_of c.args.reader.now.session) (seen_of c.loop-left.reader.session) (seen_of c.feed.new.reader.session) _ _ _ _ _ _ _ _ _ c.loop-left.reader.line c.feed.new.reader.line c.loop-left.left c.in-Ok.n (take c.in-Ok.n c.read.new.buf)
+      reached = reached_more (place c.args.loading.keys.now (g.D.Disk.seen c.args.disk.now).size) (seen_of c.args.reader.now.session) (seen_of c.loop-left.reader.session) (seen_of c.feed.new.reader.session) _ _ _ _ _ _ _ _ _ c.loop-left.reader.line c.feed.new.reader.line c.loop-left.left c.in-Ok.n (take c.in-Ok.n c.read.new.buf)
           c.loop-left.invariant.reached c.loop-left-test.true size most c.in-Ok.ensures.contents.0 fed;
       within = c.feed.ensures.within;
       going = c.if-reader.false;
@@ -78,7 +78,7 @@ returns-in-Err-feed-clause-broke g c = λ is.
     let most : c.in-Ok.n ≤ c.loop-left.left = omega (arith, c.in-Ok.ensures.bound, length-take c.min-room.result c.loop-left.buf, c.min-room.ensures) in
     let size : length (take c.in-Ok.n c.read.new.buf) ≡ c.in-Ok.n = omega (arith, length-take c.in-Ok.n c.read.new.buf) in
     let piece = piece_is c.in-Ok.n c.loop-left.left c.min-script.result c.read.new.buf (drop c.min-room.result c.loop-left.buf) c.min-script.ensures within in
-    (broke_fed (place c.args.keys.now (g.D.Disk.seen c.args.disk.now).size) (seen_of c.args.reader.now.session) (seen_of c.loop-left.reader.session) _ _ _ _ _ _ _ _ _ c.loop-left.reader.line c.loop-left.left c.in-Ok.n (take c.in-Ok.n c.read.new.buf) _ c.in-Err-feed.stop
+    (broke_fed (place c.args.loading.keys.now (g.D.Disk.seen c.args.disk.now).size) (seen_of c.args.reader.now.session) (seen_of c.loop-left.reader.session) _ _ _ _ _ _ _ _ _ c.loop-left.reader.line c.loop-left.left c.in-Ok.n (take c.in-Ok.n c.read.new.buf) _ c.in-Err-feed.stop
     c.requires.begun c.loop-left.invariant.reached c.loop-left-test.true size most c.in-Ok.ensures.contents.0 piece (sym c.status_of.ensures ∙ is) (rw same at c.in-Err-feed.ensures.fed.contents))
 
 pub returns-in-Err-feed-clause-lacked : goal.returns-in-Err-feed-clause-lacked
@@ -88,7 +88,7 @@ returns-in-Err-feed-clause-lacked g c = λ is.
     let most : c.in-Ok.n ≤ c.loop-left.left = omega (arith, c.in-Ok.ensures.bound, length-take c.min-room.result c.loop-left.buf, c.min-room.ensures) in
     let size : length (take c.in-Ok.n c.read.new.buf) ≡ c.in-Ok.n = omega (arith, length-take c.in-Ok.n c.read.new.buf) in
     let piece = piece_is c.in-Ok.n c.loop-left.left c.min-script.result c.read.new.buf (drop c.min-room.result c.loop-left.buf) c.min-script.ensures within in
-    (lacked_fed (place c.args.keys.now (g.D.Disk.seen c.args.disk.now).size) (seen_of c.args.reader.now.session) (seen_of c.loop-left.reader.session) _ _ _ _ _ _ _ _ _ c.loop-left.reader.line c.loop-left.left c.in-Ok.n (take c.in-Ok.n c.read.new.buf) _ c.in-Err-feed.stop
+    (lacked_fed (place c.args.loading.keys.now (g.D.Disk.seen c.args.disk.now).size) (seen_of c.args.reader.now.session) (seen_of c.loop-left.reader.session) _ _ _ _ _ _ _ _ _ c.loop-left.reader.line c.loop-left.left c.in-Ok.n (take c.in-Ok.n c.read.new.buf) _ c.in-Err-feed.stop
     c.requires.begun c.loop-left.invariant.reached c.loop-left-test.true size most c.in-Ok.ensures.contents.0 piece (sym c.status_of.ensures ∙ is) (rw same at c.in-Err-feed.ensures.fed.contents))
 
 pub returns-then-reader-clause-ran : goal.returns-then-reader-clause-ran
@@ -98,9 +98,9 @@ returns-then-reader-clause-ran g c = λ other more.
     let most : c.in-Ok.n ≤ c.loop-left.left = omega (arith, c.in-Ok.ensures.bound, length-take c.min-room.result c.loop-left.buf, c.min-room.ensures) in
     let size : length (take c.in-Ok.n c.read.new.buf) ≡ c.in-Ok.n = omega (arith, length-take c.in-Ok.n c.read.new.buf) in
     let piece = piece_is c.in-Ok.n c.loop-left.left c.min-script.result c.read.new.buf (drop c.min-room.result c.loop-left.buf) c.min-script.ensures within in
-    let reached = reached_more (place c.args.keys.now (g.D.Disk.seen c.args.disk.now).size) (seen_of c.args.reader.now.session) (seen_of c.loop-left.reader.session) (seen_of c.feed.new.reader.session) _ _ _ _ _ _ _ _ _ c.loop-left.reader.line c.feed.new.reader.line c.loop-left.left c.in-Ok.n (take c.in-Ok.n c.read.new.buf)
+    let reached = reached_more (place c.args.loading.keys.now (g.D.Disk.seen c.args.disk.now).size) (seen_of c.args.reader.now.session) (seen_of c.loop-left.reader.session) (seen_of c.feed.new.reader.session) _ _ _ _ _ _ _ _ _ c.loop-left.reader.line c.feed.new.reader.line c.loop-left.left c.in-Ok.n (take c.in-Ok.n c.read.new.buf)
     c.loop-left.invariant.reached c.loop-left-test.true size most c.in-Ok.ensures.contents.0 (rw (piece, same) at c.in_default.ensures.fed.contents) in
-    (ran_stopped (place c.args.keys.now (g.D.Disk.seen c.args.disk.now).size) (seen_of c.args.reader.now.session) (seen_of c.feed.new.reader.session) _ _ _ _ _ _ c.feed.new.reader.line (c.loop-left.left - c.in-Ok.n) c.requires.begun reached c.if-reader.true)
+    (ran_stopped (place c.args.loading.keys.now (g.D.Disk.seen c.args.disk.now).size) (seen_of c.args.reader.now.session) (seen_of c.feed.new.reader.session) _ _ _ _ _ _ c.feed.new.reader.line (c.loop-left.left - c.in-Ok.n) c.requires.begun reached c.if-reader.true)
 
 -- ---- the devices
 

@@ -9,7 +9,7 @@ use Rattle.vino_top.proofs.run.run.Given as goal
 abbrev pub invariant-loop-left : goal.invariant-loop-left
 invariant-loop-left g l =
     record {
-      reached : Reached (place l.keys (g.D.Disk.seen l.fn.disk).size) (seen_of l.fn.reader.session) (seen_of l.reader.session) (g.S.Source.seen l.fn.src).rest (g.S.Source.seen l.src).rest (g.K.Sink.seen l.fn.out).got (g.K.Sink.seen l.out).got
+      reached : Reached (place l.loading.keys.now (g.D.Disk.seen l.fn.disk).size) (seen_of l.fn.reader.session) (seen_of l.reader.session) (g.S.Source.seen l.fn.src).rest (g.S.Source.seen l.src).rest (g.K.Sink.seen l.fn.out).got (g.K.Sink.seen l.out).got
           (g.D.Disk.seen l.fn.disk) (g.D.Disk.seen l.disk)
           l.reader.line l.left;
       within : IsSessionWithin (g.D.Disk.seen l.disk).size l.reader.session;

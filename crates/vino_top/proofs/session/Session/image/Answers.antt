@@ -19,7 +19,7 @@ add_image-requires-clause-abstraction g c = (c.requires.counted.1.within.kernel 
 pub returns-then-not-self-clause-runs : goal.returns-then-not-self-clause-runs
 returns-then-not-self-clause-runs g c = λ size d.
     unbooted_runs (place c.args.keys.now size) (Loads c.args.slot c.args.bytes.now) (seen_of c.args.self.now) _ d (λ a rest. refl) (λ p. refl) c.if-not-self.true
-    c.requires.empty
+    c.requires.empty c.requires.empty.no_notes
 
 pub returns-in-Err-clause-err : goal.returns-in-Err-clause-err
 returns-in-Err-clause-err g c =

@@ -19,7 +19,7 @@ returns-then-self-clause-runs g c = λ place d.
 pub returns-else-self-clause-runs : goal.returns-else-self-clause-runs
 returns-else-self-clause-runs g c = λ place d.
     unbooted_runs place Raw (seen_of c.args.self.now) _ d (λ a rest. refl) (λ p. refl) c.if-self.false
-    c.requires.empty
+    c.requires.empty c.requires.empty.no_notes
 
 pub returns-then-self-clause-within : goal.returns-then-self-clause-within
 returns-then-self-clause-within g c = λ size within.

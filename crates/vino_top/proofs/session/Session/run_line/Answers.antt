@@ -12,11 +12,8 @@ pub run_entry-requires-clause-place : goal.run_entry-requires-clause-place
 run_entry-requires-clause-place g c = λ boot.
     boot_is_first c.args.self.now.booted c.args.text.now (c.in-Ok.ensures.answer ∙ ap (λ e. Ok e) boot)
 
-pub run_entry-requires-clause-counted : goal.run_entry-requires-clause-counted
-run_entry-requires-clause-counted g c = on_line _ c.args.self.now c.requires.room c.requires.within
-
-pub run_entry-requires-clause-empty : goal.run_entry-requires-clause-empty
-run_entry-requires-clause-empty g c = c.clear.ensures
+pub run_entry-requires-clause-can : goal.run_entry-requires-clause-can
+run_entry-requires-clause-can g c = record { counted = on_line _ c.args.self.now c.requires.room c.requires.within; empty = c.clear.ensures }
 
 pub refuse-requires : goal.refuse-requires
 refuse-requires g c = c.clear.ensures
