@@ -3,7 +3,7 @@
 use crate::operands::{Wrong, check_statement};
 use crate::spans::{Span, bytes_of, code_end, column_of, next_part, next_word, word_span};
 use kernel_model::NoMemory;
-use lab_text::{AsmKind, LabFault, LabKind};
+use lab_tokens::{AsmKind, LabFault, LabKind};
 use lab_words::{Code, text_of, words_of};
 use std::alloc::Global;
 use text_words::Parts;

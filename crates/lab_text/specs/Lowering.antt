@@ -12,17 +12,17 @@ use Rattle.kernel_model.specs.Assembler as asm
 use Rattle.kernel_model.specs.LanguageReading as language
 use Rattle.kernel_model.specs.LanguageImages.{IsCompiled}
 use Rattle.filters.specs.Keys.{keys_of}
-use Rattle.lab_text.specs.declared.faults.LabKind.{LabKind}
-use Rattle.lab_text.specs.declared.faults.LabKind.TheVariants as kind
-use Rattle.lab_text.specs.declared.graft.Notation.{Notation}
-use Rattle.lab_text.specs.declared.graft.Notation.TheVariants.{Assembler, Language}
-use Rattle.lab_text.specs.declared.sheet.Item.{Item}
-use Rattle.lab_text.specs.declared.sheet.Item.TheVariants.{Plain, Sealed}
-use Rattle.lab_text.specs.Settings.{Refusal, refused}
-use Rattle.lab_text.specs.Grafts.{Graft}
-use Rattle.lab_text.specs.Lab.{Lab, lab_of}
-use Rattle.lab_text.specs.declared.faults.LabFault.{LabFault}
-use Rattle.lab_text.specs.declared.faults.LabFault.TheVariants as fault_is
+use Rattle.lab_tokens.specs.declared.faults.LabKind.{LabKind}
+use Rattle.lab_tokens.specs.declared.faults.LabKind.TheVariants as kind
+use Rattle.lab_sheet.specs.declared.graft.Notation.{Notation}
+use Rattle.lab_sheet.specs.declared.graft.Notation.TheVariants.{Assembler, Language}
+use Rattle.lab_sheet.specs.declared.sheet.Item.{Item}
+use Rattle.lab_sheet.specs.declared.sheet.Item.TheVariants.{Plain, Sealed}
+use Rattle.lab_tokens.specs.Faults.{Refusal, refused}
+use Rattle.lab_sheet.specs.Grafts.{Graft}
+use Rattle.lab_reader.specs.Lab.{Lab, lab_of}
+use Rattle.lab_tokens.specs.declared.faults.LabFault.{LabFault}
+use Rattle.lab_tokens.specs.declared.faults.LabFault.TheVariants as fault_is
 use Rattle.std.specs.Str.{IsUtf8}
 use Rattle.std.specs.Str.Lossy.{utf8_valid_len}
 
@@ -91,10 +91,13 @@ box_kind (CallsUnknown pc) = kind.BoxCall pc
 box_kind NoEnd = kind.BoxEnd
 box_kind TooLong = kind.BoxTooLong
 
--- the line that loads a sealed image into a slot
+-- the line that loads an image with these bytes into a slot
+abbrev pub load_line : (slot : ℕ) → List ℕ → List ℕ
+load_line slot bytes = codes "image " ++ decimal slot ++ codes " " ++ hex_text bytes
+
+-- the line that loads an image, sealed, into a slot
 unfoldable pub image_line : Keys → (slot : ℕ) → Image → List ℕ
-image_line keys slot i =
-    codes "image " ++ decimal slot ++ codes " " ++ hex_text (sealed_under keys i)
+image_line keys slot i = load_line slot (sealed_under keys i)
 
 -- an image with this code in place of its own
 abbrev pub with_code : Image → List Instr → Image
@@ -121,11 +124,15 @@ item_line keys images (Plain text) = Ok text
 item_line keys images (Sealed slot graft raw) =
     sealed_line keys slot raw (slice_get images graft)
 
--- a script with a line behind it, which line n of the file asks for
+-- a script with a line behind it
+abbrev pub line_added : (script line : List ℕ) → List ℕ
+line_added script line = script ++ (line ++ 10 ∷ [])
+
+-- the same of a line that line n of the file asks for, if there is one
 abbrev pub with_line : (n : ℕ) → (script : List ℕ) → Result (List ℕ) LabKind →
     Result (List ℕ) Refusal
 with_line n script (Err fault) = refused n fault
-with_line n script (Ok line) = Ok (script ++ (line ++ 10 ∷ []))
+with_line n script (Ok line) = Ok (line_added script line)
 
 -- a script with the lines of these items behind it, the first of which is that of this line of the
 -- file; the first that is refused decides

@@ -3,18 +3,17 @@
 ghost use Rattle.std.specs.Prelude.{◌≡◌, ◌≤◌, None, true, length, Ok, IfOk, IfErr, OnOk};
 ghost use Rattle.std.specs.List.{list_all};
 ghost use Rattle.kernel_model.specs.Instructions.{fits};
-ghost use Rattle.lab_text.specs.Faults.{RefusesWith};
+ghost use Rattle.lab_tokens.specs.Faults.{RefusesWith};
 ghost use Rattle.kernel_model.specs.Assembler as asm;
 ghost use Rattle.kernel_model.specs.LanguageReading as language;
 ghost use Rattle.kernel_model.specs.LanguageImages.{IsCompiled};
 ghost use Rattle.lab_text.specs.Lowering as spec;
 
-use crate::faults::{LabFault, LabKind};
-use crate::graft::{Graft, Notation};
-use crate::text::put;
 use gm_asm::{AsmFault, assemble};
 use gm_image::{Instr, RawImage};
 use graft_lang::{LangFault, compile};
+use lab_sheet::{Graft, Notation};
+use lab_tokens::{LabFault, LabKind, put};
 use std::alloc::Global;
 use std::marker::Model;
 

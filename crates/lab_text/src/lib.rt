@@ -3,36 +3,22 @@
 #![tactic(auto)]
 
 ghost use Rattle.std.specs.Prelude.{◌≡◌, ◌≤◌, length, Ok, IfOk, IfErr};
-ghost use Rattle.lab_text.specs.Faults.{Refuses};
+ghost use Rattle.lab_tokens.specs.Faults.{Refuses};
 ghost use Rattle.lab_text.specs.Lowering as spec;
 
-mod faults;
-mod graft;
-mod grafts;
 mod images;
-mod lab;
-mod reader;
 mod script;
-mod settings;
-mod sheet;
-mod sheets;
-mod text;
-mod words;
 
-pub use crate::faults::{LabFault, LabKind};
-pub use crate::graft::{Graft, Notation};
-pub use crate::grafts::{place_of, statement_of};
 pub use crate::images::GraftImage;
 use crate::images::{TEXT_BYTES, images_of};
-pub use crate::lab::Lab;
-use crate::reader::read_lab;
 use crate::script::script_of;
-pub use crate::settings::Settings;
-pub use crate::sheet::{Item, Sheet, Want};
-pub use crate::text::Text;
-use crate::words::with_spaces;
 pub use gm_image::RawImage;
 pub use kernel_model::{AsmKind, LangKind};
+use lab_reader::read_lab;
+pub use lab_reader::{Lab, Settings};
+pub use lab_sheet::{Graft, Item, Notation, Sheet, Want, place_of, statement_of};
+use lab_tokens::with_spaces;
+pub use lab_tokens::{LabFault, LabKind, Text};
 use std::alloc::Global;
 
 /// What a lab file says, the images of its grafts, and the script that it stands for, which has a

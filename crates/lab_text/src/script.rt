@@ -1,24 +1,23 @@
 //! The script of a lab file.
 
-ghost use Rattle.std.specs.Prelude.{◌≡◌, ◌≤◌, ◌++◌, [], ◌∷◌, true, length, Ok, IfOk, IfErr, OnOk};
+ghost use Rattle.std.specs.Prelude.{◌≡◌, ◌≤◌, [], true, length, Ok, IfOk, IfErr, OnOk};
 ghost use Rattle.std.specs.List.{list_all};
 ghost use Rattle.kernel_model.specs.Bytes.{hex_text};
 ghost use Rattle.kernel_model.specs.Instructions.{fits};
 ghost use Rattle.kernel_model.specs.Boxed.{rewrite};
 ghost use Rattle.kernel_model.specs.Images.{sealed_under};
-ghost use Rattle.lab_text.specs.Faults.{Refuses};
+ghost use Rattle.lab_tokens.specs.Faults.{Refuses, StepsAs};
 ghost use Rattle.lab_text.specs.Lowering as spec;
 
-use crate::faults::{LabFault, LabKind};
 use crate::images::GraftImage;
-use crate::lab::Lab;
-use crate::sheet::Item;
-use crate::text::add;
-use box_rewriter::{RewriteFault, rewrite};
+use box_rewriter::{BoxedCode, RewriteFault, rewrite};
 use filters::read_keys;
 use gm_isa::Instr;
 use graft_loader::{Keys, seal_under};
 use kernel_model::NoMemory;
+use lab_reader::Lab;
+use lab_sheet::Item;
+use lab_tokens::{LabFault, LabKind, add};
 use std::alloc::Global;
 
 /// The bytes of an image with this code in place of its own, sealed.
@@ -36,25 +35,13 @@ fn sealed(
     seal_under(alloc, keys, image.keep(), code, image.body())
 }
 
-/// Appends the line that loads an image with this code in place of its own into a slot.
-#[tactic(auto, unfolding(crate::specs::Lowering::image_line))]
-fn add_sealed(
-    alloc: Global,
-    out: &mut Vec<u8>,
-    keys: &Keys,
-    slot: u32,
-    code: &[Instr],
-    image: &GraftImage,
-) -> Result<(), NoMemory>
-    requires code_len { length code.now ≤ 1024 }
-    requires code_fits { list_all fits code.now ≡ true }
-    ensures { OnOk result (out.new.items
-        ≡ out.old.items ++ (spec.image_line keys.now slot (spec.with_code image.now code.now)
-        ++ 10 ∷ [])) }
+/// Appends the line that loads an image, which is sealed, into a slot.
+fn add_image(alloc: Global, out: &mut Vec<u8>, slot: u32, sealed: &[u8]) -> Result<(), NoMemory>
+    ensures { OnOk result (out.new.items ≡ spec.line_added out.old.items
+        (spec.load_line slot sealed.now)) }
 {
     let mut digits = itoa::Buffer::new();
-    let sealed = sealed(alloc, keys, code, image)?;
-    let hex = hex_of(alloc, sealed.as_slice())?;
+    let hex = hex_of(alloc, sealed)?;
     add(out, b"image ")?;
     add(out, digits.format(slot).as_bytes())?;
     add(out, b" ")?;
@@ -72,7 +59,8 @@ fn hex_of(alloc: Global, bytes: &[u8]) -> Result<Vec<u8>, NoMemory>
     }
 }
 
-/// Appends the line of an image as it stands, which line n of the file asks for.
+/// Appends the line of an image as it stands.
+#[tactic(auto, unfolding(crate::specs::Lowering::image_line))]
 fn add_raw(
     alloc: Global,
     out: &mut Vec<u8>,
@@ -80,10 +68,28 @@ fn add_raw(
     slot: u32,
     image: &GraftImage,
 ) -> Result<(), NoMemory>
-    ensures { OnOk result (out.new.items ≡ out.old.items
-        ++ (spec.image_line keys.now slot image.now ++ 10 ∷ [])) }
+    ensures { OnOk result (out.new.items ≡ spec.line_added out.old.items
+        (spec.image_line keys.now slot image.now)) }
 {
-    add_sealed(alloc, out, keys, slot, image.code(), image)
+    let bytes = sealed(alloc, keys, image.code(), image)?;
+    add_image(alloc, out, slot, bytes.as_slice())
+}
+
+/// Appends the line of an image with boxed code in place of its own.
+#[tactic(auto, unfolding(crate::specs::Lowering::image_line))]
+fn add_boxed_code(
+    alloc: Global,
+    out: &mut Vec<u8>,
+    keys: &Keys,
+    slot: u32,
+    boxed: &BoxedCode,
+    image: &GraftImage,
+) -> Result<(), NoMemory>
+    ensures { OnOk result (out.new.items ≡ spec.line_added out.old.items
+        (spec.image_line keys.now slot (spec.with_code image.now boxed.now.code))) }
+{
+    let bytes = sealed(alloc, keys, boxed.code(), image)?;
+    add_image(alloc, out, slot, bytes.as_slice())
 }
 
 /// Appends the line of an image that is boxed first, which line n of the file asks for.
@@ -95,13 +101,11 @@ fn add_boxed(
     slot: u32,
     image: &GraftImage,
 ) -> Result<(), LabFault>
-    ensures ok { OnOk result (spec.with_line n out.old.items (spec.boxed_line keys.now slot
-        image.now (rewrite image.now.code)) ≡ Ok out.new.items) }
-    ensures err { IfErr result (λ e. Refuses e (spec.with_line n out.old.items
-        (spec.boxed_line keys.now slot image.now (rewrite image.now.code)))) }
+    ensures { StepsAs result out.new.items (spec.with_line n out.old.items
+        (spec.boxed_line keys.now slot image.now (rewrite image.now.code))) }
 {
     match rewrite(alloc, image.plain()) {
-        Ok(boxed) => Ok(add_sealed(alloc, out, keys, slot, boxed.code(), image)?),
+        Ok(boxed) => Ok(add_boxed_code(alloc, out, keys, slot, &boxed, image)?),
         Err(RewriteFault::Register(pc)) => Err(LabFault::At(n, LabKind::BoxRegister(pc))),
         Err(RewriteFault::Jump(pc)) => Err(LabFault::At(n, LabKind::BoxJump(pc))),
         Err(RewriteFault::Call(pc)) => Err(LabFault::At(n, LabKind::BoxCall(pc))),
@@ -113,7 +117,7 @@ fn add_boxed(
 
 /// Appends a line as it stands.
 fn add_plain(out: &mut Vec<u8>, text: &[u8]) -> Result<(), NoMemory>
-    ensures { OnOk result (out.new.items ≡ out.old.items ++ (text.now ++ 10 ∷ [])) }
+    ensures { OnOk result (out.new.items ≡ spec.line_added out.old.items text.now) }
 {
     add(out, text)?;
     add(out, b"\n")
@@ -128,10 +132,8 @@ fn add_item(
     images: &[GraftImage],
     item: &Item,
 ) -> Result<(), LabFault>
-    ensures ok { OnOk result (spec.with_line n out.old.items
-        (spec.item_line keys.now images.now item.now) ≡ Ok out.new.items) }
-    ensures err { IfErr result (λ e. Refuses e (spec.with_line n out.old.items
-        (spec.item_line keys.now images.now item.now))) }
+    ensures { StepsAs result out.new.items
+        (spec.with_line n out.old.items (spec.item_line keys.now images.now item.now)) }
 {
     match item {
         Item::Plain(text) => Ok(add_plain(out, text.bytes())?),

@@ -1,0 +1,2 @@
+pub mod Grafts
+pub mod Sheet
