@@ -1,5 +1,9 @@
 //! Which line of a script wrote what.
 
+ghost use Rattle.std.specs.Prelude.{◌≡◌, ◌≤◌, ◌++◌, length, slice_range, true, IfOk, OnOk};
+ghost use Rattle.lab_lines.specs.Told as spec;
+ghost use Rattle.lab_lines.specs.Told.{lines_in, lines_of};
+
 use crate::sink::LineSink;
 use kernel_model::NoMemory;
 use std::alloc::Global;
@@ -70,34 +74,62 @@ fn owner_of(piece: &[u8], ahead: &mut Ahead) -> usize {
     }
 }
 
-/// The bytes between two places, where they stand in the text.
-fn between(text: &[u8], from: usize, to: usize) -> &[u8] {
-    if from <= to && to <= text.len() {
-        &text[from..to]
-    } else {
-        &[]
+/// Whether the last byte of a text is a newline.
+fn ends_line(text: &[u8]) -> bool
+    ensures { result ≡ spec.ends_line text.now }
+{
+    !text.is_empty() && text[text.len() - 1] == b'\n'
+}
+
+/// Whether a write that ended here, behind pieces that end there, is a piece by itself.
+fn is_piece(text: &[u8], from: usize, to: usize) -> bool
+    requires { from ≤ length text.now }
+    ensures order { result ≡ true → (from ≤ to) × (to ≤ length text.now) }
+    ensures ends { result ≡ true → spec.ends_line (slice_range text.now from to) ≡ true }
+{
+    from <= to && to <= text.len() && ends_line(&text[from..to])
+}
+
+#[tactic(auto, using(crate::proofs::Lines::one_more))]
+/// Puts a piece behind others.
+fn put<'a>(pieces: &mut Vec<Piece<'a>>, owner: usize, bytes: &'a [u8]) -> Result<(), NoMemory>
+    ensures { OnOk result (lines_in pieces.new.items
+        ≡ lines_in pieces.old.items ++ lines_of bytes.now) }
+{
+    match pieces.push(Piece { owner, bytes }) {
+        Ok(()) => Ok(()),
+        Err(_) => Err(NoMemory),
     }
 }
 
-/// What each write took, with the line that wrote it.
+#[tactic(auto, using(crate::proofs::Lines::piece_behind, crate::proofs::Lines::at_last, crate::proofs::Lines::no_more))]
+/// What each write took, with the line that wrote it. A write that doesn't end a line is a piece
+/// with what follows.
 pub fn pieces_of<'a>(
     alloc: Global,
     script: &[u8],
     written: &'a LineSink,
-) -> Result<Vec<Piece<'a>>, NoMemory> {
+) -> Result<Vec<Piece<'a>>, NoMemory>
+    // The lines of the pieces are those of all that was written, in their order.
+    ensures { IfOk result (λ pieces. lines_in pieces.items ≡ lines_of written.now.got) }
+{
     let mut pieces = Vec::new(alloc);
     let mut ahead = Ahead {
         lines: Parts::new(script, b'\n'),
         number: 0,
     };
+    let text = written.bytes();
     let mut from = 0;
     for to in written.ends() {
-        let bytes = between(written.bytes(), from, *to);
-        let owner = owner_of(bytes, &mut ahead);
-        if pieces.push(Piece { owner, bytes }).is_err() {
-            return Err(NoMemory);
+        if is_piece(text, from, *to) {
+            let bytes = &text[from..*to];
+            let owner = owner_of(bytes, &mut ahead);
+            put(&mut pieces, owner, bytes)?;
+            from = *to;
         }
-        from = *to;
+    }
+    if from < text.len() {
+        put(&mut pieces, 0, &text[from..])?;
     }
     Ok(pieces)
 }

@@ -1,6 +1,11 @@
 //! A run told line by line.
 
-use crate::pieces::Piece;
+ghost use Rattle.std.specs.Prelude.{◌≡◌, ◌++◌, ◌∷◌, [], drop, IfOk, None, OnOk, Some};
+ghost use Rattle.lab_lines.specs.Told as spec;
+ghost use Rattle.lab_lines.specs.Told.{End, FileLine, RowHead, Tells, TellsAll, Wrote, lines_in, lines_of};
+
+use crate::pieces::{Piece, pieces_of};
+use crate::sink::LineSink;
 use crate::text::{add, add_number, add_number_right};
 use kernel_model::NoMemory;
 use lab_text::{Graft, Item, Lab};
@@ -8,51 +13,105 @@ use lab_words::tell as words_of;
 use std::alloc::Global;
 use text_words::Parts;
 
-/// Appends a written line, with words beside it where there are some.
-fn add_written(alloc: Global, out: &mut Vec<u8>, line: &[u8]) -> Result<(), NoMemory> {
+/// A text that may stand in a line.
+fn one_line(text: &[u8]) -> &[u8]
+    ensures { result.now ≡ spec.one_line text.now }
+{
+    if text.contains(&b'\n') { b"?" } else { text }
+}
+
+/// Appends a written line alone.
+fn add_alone(out: &mut Vec<u8>, line: &[u8]) -> Result<(), NoMemory>
+    ensures { OnOk result (out.new.items ≡ out.old.items ++ spec.shown (Wrote line.now None)) }
+{
     add(out, b"        ")?;
     add(out, line)?;
-    if let Some(words) = words_of(alloc, line)? {
-        add(out, b"    -- ")?;
-        add(out, words.as_slice())?;
-    }
     add(out, b"\n")
 }
 
+/// Appends a written line with words beside it.
+fn add_with_words(out: &mut Vec<u8>, line: &[u8], words: &[u8]) -> Result<(), NoMemory>
+    ensures { OnOk result (out.new.items
+        ≡ out.old.items ++ spec.shown (Wrote line.now (Some words.now))) }
+{
+    add(out, b"        ")?;
+    add(out, line)?;
+    add(out, b"    -- ")?;
+    add(out, one_line(words))?;
+    add(out, b"\n")
+}
+
+/// Appends a written line, with words beside it where there are some.
+fn add_written(alloc: Global, out: &mut Vec<u8>, line: &[u8]) -> Result<(), NoMemory>
+    ensures { OnOk result (Tells out.old.items out.new.items (line.now ∷ []) []) }
+{
+    match words_of(alloc, line)? {
+        None => add_alone(out, line),
+        Some(words) => add_with_words(out, line, words.as_slice()),
+    }
+}
+
+#[tactic(auto, using(crate::proofs::Lines::behind))]
+/// Appends a written line, with a head above it where one is asked and the line above is no row of
+/// its kind; the kind of row that it is.
+fn add_told<'a>(
+    alloc: Global,
+    out: &mut Vec<u8>,
+    line: &'a [u8],
+    above: &'a [u8],
+    heads: bool,
+) -> Result<&'a [u8], NoMemory>
+    ensures { OnOk result (Tells out.old.items out.new.items (line.now ∷ []) []) }
+{
+    if !heads {
+        add_written(alloc, out, line)?;
+        return Ok(above);
+    }
+    let kind = add_head_of(out, line, above)?;
+    add_written(alloc, out, line)?;
+    Ok(kind)
+}
+
+#[tactic(auto, using(crate::proofs::Lines::nothing, crate::proofs::Lines::line_told, crate::proofs::Lines::line_left))]
 /// Appends the lines of a piece, with a head above the rows of each kind where it is asked.
-fn add_piece(alloc: Global, out: &mut Vec<u8>, piece: &[u8], heads: bool) -> Result<(), NoMemory> {
+fn add_piece(alloc: Global, out: &mut Vec<u8>, piece: &[u8], heads: bool) -> Result<(), NoMemory>
+    ensures { OnOk result (Tells out.old.items out.new.items (lines_of piece.now) []) }
+{
     let mut lines = Parts::new(piece, b'\n');
     let mut above: &[u8] = &[];
     while let Some(line) = lines.next() {
         if !line.is_empty() {
-            above = if heads {
-                add_head_of(out, line, above)?
-            } else {
-                above
-            };
-            add_written(alloc, out, line)?;
+            above = add_told(alloc, out, line, above, heads)?;
         }
     }
     Ok(())
 }
 
+#[tactic(auto, using(crate::proofs::Lines::row_head, crate::proofs::Lines::nothing))]
 /// Appends the head of a row of `raw`, where a row of another kind stands above it; the kind of the
 /// row.
-fn add_head_of<'a>(
-    out: &mut Vec<u8>,
-    line: &'a [u8],
-    above: &'a [u8],
-) -> Result<&'a [u8], NoMemory> {
+fn add_head_of<'a>(out: &mut Vec<u8>, line: &'a [u8], above: &'a [u8]) -> Result<&'a [u8], NoMemory>
+    ensures { OnOk result (Tells out.old.items out.new.items [] []) }
+{
     let Some(kind) = row_kind(line) else {
         return Ok(b"");
     };
-    if kind != above {
-        add(out, b"        -- ")?;
-        add(out, kind)?;
-        add(out, row_head(kind))?;
-        add(out, b"\n")?;
+    if kind == above {
+        return Ok(kind);
     }
+    add_row_head(out, kind, row_head(kind))?;
     Ok(kind)
+}
+
+/// Appends the head of the rows of a kind, with what stands behind the kind.
+fn add_row_head(out: &mut Vec<u8>, kind: &[u8], about: &[u8]) -> Result<(), NoMemory>
+    ensures { OnOk result (out.new.items
+        ≡ out.old.items ++ spec.shown (RowHead kind.now about.now)) }
+{
+    add(out, b"        -- ")?;
+    add(out, one_line(kind))?;
+    add(out, one_line(about))?;
+    add(out, b"\n")
 }
 
 /// The kind of a row of `raw`.
@@ -85,6 +144,7 @@ fn row_head(kind: &[u8]) -> &'static [u8] {
     }
 }
 
+#[tactic(auto, using(crate::proofs::Lines::nothing, crate::proofs::Lines::piece_told))]
 /// Appends the pieces of a line, from this one on; the number of the first one that isn't its.
 fn add_pieces(
     alloc: Global,
@@ -93,7 +153,11 @@ fn add_pieces(
     pieces: &[Piece],
     first: usize,
     heads: bool,
-) -> Result<usize, NoMemory> {
+) -> Result<usize, NoMemory>
+    ensures { IfOk result (λ next. Tells out.old.items out.new.items
+        (lines_in (drop first pieces.now))
+        (lines_in (drop next pieces.now))) }
+{
     let mut k = first;
     while k < pieces.len() && pieces[k].owner == owner {
         add_piece(alloc, out, pieces[k].bytes, heads)?;
@@ -102,57 +166,130 @@ fn add_pieces(
     Ok(k)
 }
 
-/// Appends the name of a graft.
-fn add_name(out: &mut Vec<u8>, grafts: &[Graft], graft: usize) -> Result<(), NoMemory> {
-    match grafts.get(graft) {
-        Some(graft) => add(out, graft.name()),
-        None => Ok(()),
+#[tactic(auto, using(crate::proofs::Lines::nothing, crate::proofs::Lines::piece_told))]
+/// Appends all pieces from this one on, which belong to no line of the file.
+fn add_rest(
+    alloc: Global,
+    out: &mut Vec<u8>,
+    pieces: &[Piece],
+    first: usize,
+    heads: bool,
+) -> Result<(), NoMemory>
+    ensures { OnOk result (Tells out.old.items out.new.items
+        (lines_in (drop first pieces.now)) []) }
+{
+    if first >= pieces.len() {
+        return Ok(());
+    }
+    add_end(out)?;
+    let mut k = first;
+    while k < pieces.len() {
+        add_piece(alloc, out, pieces[k].bytes, heads)?;
+        k += 1;
+    }
+    Ok(())
+}
+
+/// Appends what stands above the lines that belong to no line of the file.
+fn add_end(out: &mut Vec<u8>) -> Result<(), NoMemory>
+    ensures { OnOk result (out.new.items ≡ out.old.items ++ spec.shown End) }
+{
+    add(out, b" end\n")
+}
+
+/// The line of the script that seals a graft of this number, in words of the file.
+fn sealed_text(
+    alloc: Global,
+    grafts: &[Graft],
+    slot: u32,
+    graft: usize,
+    raw: bool,
+) -> Result<Vec<u8>, NoMemory> {
+    let mut text = Vec::new(alloc);
+    add(&mut text, b"image ")?;
+    add_number(&mut text, slot as usize)?;
+    add(&mut text, b" ")?;
+    if let Some(graft) = grafts.get(graft) {
+        add(&mut text, graft.name())?;
+    }
+    if raw {
+        add(&mut text, b" raw")?;
+    }
+    Ok(text)
+}
+
+/// Appends a line of the file.
+fn add_file_line(out: &mut Vec<u8>, number: usize, text: &[u8]) -> Result<(), NoMemory>
+    ensures { OnOk result (out.new.items
+        ≡ out.old.items ++ spec.shown (FileLine number text.now)) }
+{
+    add_number_right(out, number)?;
+    add(out, b"  ")?;
+    add(out, one_line(text))?;
+    add(out, b"\n")
+}
+
+/// Whether a line of the script says nothing.
+fn is_blank(line: &[u8]) -> bool {
+    line.is_empty() || line[0] == b'#'
+}
+
+#[tactic(auto, using(crate::proofs::Lines::nothing))]
+/// Appends the number and the text of a line that says something in the script.
+fn add_head(
+    alloc: Global,
+    out: &mut Vec<u8>,
+    lab: &Lab,
+    number: usize,
+    item: &Item,
+) -> Result<(), NoMemory>
+    ensures { OnOk result (Tells out.old.items out.new.items [] []) }
+{
+    match item {
+        Item::Plain(text) => {
+            if is_blank(text.bytes()) {
+                return Ok(());
+            }
+            add_file_line(out, number, text.bytes())
+        }
+        Item::Sealed { slot, graft, raw } => {
+            let text = sealed_text(alloc, lab.grafts(), *slot, *graft, *raw)?;
+            add_file_line(out, number, text.as_slice())
+        }
     }
 }
 
-/// Appends the number and the text of a line that says something in the script.
-fn add_head(out: &mut Vec<u8>, lab: &Lab, n: usize, item: &Item) -> Result<(), NoMemory> {
-    match item {
-        Item::Plain(text) => {
-            if text.bytes().is_empty() || text.bytes()[0] == b'#' {
-                return Ok(());
-            }
-            add_number_right(out, n)?;
-            add(out, b"  ")?;
-            add(out, text.bytes())?;
-        }
-        Item::Sealed { slot, graft, raw } => {
-            add_number_right(out, n)?;
-            add(out, b"  image ")?;
-            add_number(out, *slot as usize)?;
-            add(out, b" ")?;
-            add_name(out, lab.grafts(), *graft)?;
-            add(
-                out,
-                if *raw {
-                    b" raw".as_slice()
-                } else {
-                    b"".as_slice()
-                },
-            )?;
-        }
+#[tactic(auto, using(crate::proofs::Lines::nothing, crate::proofs::Lines::joined))]
+/// Each line of the file that says something, with the lines of its pieces below it; at the end the
+/// lines of the pieces that are left.
+fn told_pieces(alloc: Global, lab: &Lab, pieces: &[Piece], heads: bool) -> Result<Vec<u8>, NoMemory>
+    ensures { IfOk result (λ text. Tells [] text.items
+        (lines_in pieces.now) []) }
+{
+    let mut out = Vec::new(alloc);
+    let mut next = 0;
+    for (i, item) in lab.sheet().items().iter().enumerate() {
+        let number = i.saturating_add(1);
+        add_head(alloc, &mut out, lab, number, item)?;
+        next = add_pieces(alloc, &mut out, number, pieces, next, heads)?;
     }
-    add(out, b"\n")
+    add_rest(alloc, &mut out, pieces, next, heads)?;
+    Ok(out)
 }
 
 /// Each line of the file that says something in the script, with its number, and below it the lines
 /// that it wrote, with words beside those that want them; at the end the lines of calls that were
 /// left. With `heads` the rows of `raw` have a head above each kind.
-pub fn told(alloc: Global, lab: &Lab, pieces: &[Piece], heads: bool) -> Result<Vec<u8>, NoMemory> {
-    let mut out = Vec::new(alloc);
-    let mut next = 0;
-    for (i, item) in lab.sheet().items().iter().enumerate() {
-        add_head(&mut out, lab, i + 1, item)?;
-        next = add_pieces(alloc, &mut out, i + 1, pieces, next, heads)?;
-    }
-    if next < pieces.len() {
-        add(&mut out, b" end\n")?;
-    }
-    add_pieces(alloc, &mut out, 0, pieces, next, heads)?;
-    Ok(out)
+pub fn told(
+    alloc: Global,
+    lab: &Lab,
+    script: &[u8],
+    written: &LineSink,
+    heads: bool,
+) -> Result<Vec<u8>, NoMemory>
+    // Each line that was written, as it is and in their order, and lines of `lab` by their marks.
+    ensures { IfOk result (λ text. TellsAll text.items written.now.got) }
+{
+    let pieces = pieces_of(alloc, script, written)?;
+    told_pieces(alloc, lab, pieces.as_slice(), heads)
 }

@@ -1,6 +1,7 @@
 //! Text that grows.
 
-ghost use Rattle.std.specs.Prelude.{◌≡◌, ◌++◌, OnOk};
+ghost use Rattle.std.specs.Prelude.{◌≡◌, ◌++◌, decimal, OnOk};
+ghost use Rattle.lab_lines.specs.Told as spec;
 
 use kernel_model::NoMemory;
 
@@ -15,21 +16,32 @@ pub(crate) fn add(out: &mut Vec<u8>, bytes: &[u8]) -> Result<(), NoMemory>
 }
 
 /// Appends a number.
-pub(crate) fn add_number(out: &mut Vec<u8>, n: usize) -> Result<(), NoMemory> {
+pub(crate) fn add_number(out: &mut Vec<u8>, n: usize) -> Result<(), NoMemory>
+    ensures { OnOk result (out.new.items ≡ out.old.items ++ decimal n) }
+{
     let mut digits = itoa::Buffer::new();
     add(out, digits.format(n).as_bytes())
 }
 
-/// Appends spaces, up to so many bytes in all of a number that follows.
-pub(crate) fn add_number_right(out: &mut Vec<u8>, n: usize) -> Result<(), NoMemory> {
-    if n < 1000 {
-        add(out, b" ")?;
-    }
-    if n < 100 {
-        add(out, b" ")?;
-    }
+/// Spaces before a number, up to four bytes in all.
+fn spaces_before(n: usize) -> &'static [u8]
+    ensures { result.now ≡ spec.spaces_before n }
+{
     if n < 10 {
-        add(out, b" ")?;
+        b"   "
+    } else if n < 100 {
+        b"  "
+    } else if n < 1000 {
+        b" "
+    } else {
+        b""
     }
+}
+
+/// Appends a number, with spaces before it up to four bytes in all.
+pub(crate) fn add_number_right(out: &mut Vec<u8>, n: usize) -> Result<(), NoMemory>
+    ensures { OnOk result (out.new.items ≡ out.old.items ++ spec.spaces_before n ++ decimal n) }
+{
+    add(out, spaces_before(n))?;
     add_number(out, n)
 }
