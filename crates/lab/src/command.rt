@@ -1,43 +1,16 @@
 //! The command line.
 
 use crate::boxing;
-use crate::edge::{NO_MEMORY, REFUSED, write_error, write_out};
+use crate::edge::{NO_MEMORY, write_out};
 use crate::explain::explain;
+use crate::help::{help, help_of, no_words, wrong_words};
 use crate::picture::picture;
 use crate::run::{Telling, run};
 use crate::script::script;
 use crate::test::test;
+use crate::watch::watch;
 use kernel_model::NoMemory;
 use std::alloc::Global;
-
-/// What `lab --help` writes.
-const HELP: &[u8] =
-    b"lab runs lab files: scripts for the simulated kernel, with grafts and wanted lines
-
-lab run FILE [--plain] [--raw-heads] [--disk PATH]
-    each line with its number, and below it what it wrote, in words
-    --plain      the written lines alone, as `vino run` writes them
-    --raw-heads  a head above each kind of row of `raw`
-    --disk PATH  take this file as the disk
-lab test FILE..
-    the wanted lines of the files are compared with those that are written
-lab script FILE [--key]
-    the plain script of a lab file, for `vino run`; or its key
-lab box FILE NAME
-    the code of a graft, and beside it what runs in the sandbox
-lab picture FILE [--from N] [--to N]
-    a timeline of the run as SVG, at most 2,000 events of it
-lab explain CODE.. , lab explain --all
-    what codes, or a written line, mean; the page of all codes
-lab --version
-
-Statuses: 0; 1 a wanted line didn't come; 2 a refused file or command line;
-3 and 7 as of `vino run`; 4 failed output; 5 no memory.
-docs/LAB.md says what a lab file may say.
-";
-
-/// What is told of words that are in no command.
-const USAGE: &[u8] = b"lab: these words are no command; `lab --help` lists them\n";
 
 /// The words behind the name of a command: flags, the value of `--disk`, and others.
 #[derive(Drop)]
@@ -92,17 +65,11 @@ fn read<'a>(alloc: Global, words: &'a [String]) -> Result<Given<'a>, NoMemory> {
     Ok(given)
 }
 
-/// Tells that these words are no command.
-fn usage(rt: &HostRuntime) -> u8 {
-    write_error(rt, USAGE);
-    REFUSED
-}
-
 /// Does what a command asks with these words behind its name: the status.
 fn obey_given(rt: &HostRuntime, name: &str, given: &Given) -> u8 {
     let runs = given.plain || given.raw_heads || given.disk.is_some();
     if given.wrong || (runs && name != "run") || (given.key && name != "script") {
-        return usage(rt);
+        return wrong_words(rt, name);
     }
     match (name, given.others.as_slice()) {
         ("run", [path]) => {
@@ -115,23 +82,31 @@ fn obey_given(rt: &HostRuntime, name: &str, given: &Given) -> u8 {
         ("test", [_, ..]) => test(rt, given.others.as_slice()),
         ("script", [path]) => script(rt, path, given.key),
         ("box", [path, graft]) => boxing::show(rt, path, graft),
-        _ => usage(rt),
+        ("watch", [path]) => watch(rt, path),
+        _ => wrong_words(rt, name),
+    }
+}
+
+/// Does what a command asks with these words behind its name: the status.
+fn obey_command(rt: &HostRuntime, name: &str, words: &[String]) -> u8 {
+    match (name, words) {
+        ("--help", []) | ("help", []) => help(rt),
+        ("--version", []) => write_out(rt, b"lab 0.1.0\n", 0),
+        (_, [word]) if word.as_str() == "--help" => help_of(rt, name),
+        ("help", [command]) => help_of(rt, command.as_str()),
+        ("explain", _) => explain(rt, words),
+        ("picture", _) => picture(rt, words),
+        _ => match read(rt.alloc(), words) {
+            Ok(given) => obey_given(rt, name, &given),
+            Err(_) => NO_MEMORY,
+        },
     }
 }
 
 /// Does what the words of the command line ask, the program's own name first: the status.
 pub fn obey(rt: &HostRuntime, words: &[String]) -> u8 {
     match words {
-        [_, name] if name.as_str() == "--help" || name.as_str() == "help" => {
-            write_out(rt, HELP, 0)
-        }
-        [_, name] if name.as_str() == "--version" => write_out(rt, b"lab 0.1.0\n", 0),
-        [_, name, rest @ ..] if name.as_str() == "explain" => explain(rt, rest),
-        [_, name, rest @ ..] if name.as_str() == "picture" => picture(rt, rest),
-        [_, name, rest @ ..] => match read(rt.alloc(), rest) {
-            Ok(given) => obey_given(rt, name.as_str(), &given),
-            Err(_) => NO_MEMORY,
-        },
-        _ => usage(rt),
+        [_, name, rest @ ..] => obey_command(rt, name.as_str(), rest),
+        _ => no_words(rt),
     }
 }

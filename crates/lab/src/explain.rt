@@ -1,6 +1,7 @@
 //! `lab explain`.
 
 use crate::edge::{NO_MEMORY, REFUSED, write_error, write_out};
+use crate::help::wrong_words;
 use kernel_model::NoMemory;
 use lab_words::{Code, Form, code_of, codes_page, explanation, form_of, tell};
 use std::alloc::Global;
@@ -91,13 +92,7 @@ fn explain_all(rt: &HostRuntime) -> Result<u8, NoMemory> {
 /// `lab explain CODE..` and `lab explain --all`, with the words behind it: the status.
 pub fn explain(rt: &HostRuntime, words: &[String]) -> u8 {
     let done = match words {
-        [] => {
-            write_error(
-                rt,
-                b"lab: `explain` wants a code or a written line, or --all\n",
-            );
-            Ok(REFUSED)
-        }
+        [] => Ok(wrong_words(rt, "explain")),
         [word] if word.as_str() == "--all" => explain_all(rt),
         _ => explain_words(rt, words),
     };

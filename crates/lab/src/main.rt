@@ -6,14 +6,16 @@ mod command;
 mod edge;
 mod explain;
 mod files;
+mod help;
 mod picture;
 mod run;
 mod script;
 mod stock;
 mod test;
+mod watch;
 
 use crate::command::obey;
-use crate::edge::{NO_MEMORY, REFUSED};
+use crate::edge::{NO_MEMORY, REFUSED, write_error};
 use std::process::ExitCode;
 use std::{env, io};
 
@@ -21,7 +23,10 @@ fn main(rt: HostRuntime) -> ExitCode {
     ExitCode::from(match words(&rt) {
         Ok(words) => obey(&rt, words.as_slice()),
         // A word that isn't UTF-8 is in no grammar.
-        Err(fault) if fault.kind() == io::ErrorKind::InvalidData => REFUSED,
+        Err(fault) if fault.kind() == io::ErrorKind::InvalidData => {
+            write_error(&rt, b"lab: a word of the command line isn't UTF-8\n");
+            REFUSED
+        }
         Err(_) => NO_MEMORY,
     })
 }

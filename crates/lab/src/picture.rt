@@ -2,6 +2,7 @@
 
 use crate::edge::{NO_MEMORY, REFUSED, write_error, write_out};
 use crate::files::{Opened, open};
+use crate::help::wrong_words;
 use crate::stock::run_lab;
 use kernel_model::NoMemory;
 use lab_lines::pieces_of;
@@ -122,12 +123,6 @@ fn asked(words: &[String]) -> Option<(&str, Chosen)> {
 pub fn picture(rt: &HostRuntime, words: &[String]) -> u8 {
     match asked(words) {
         Some((path, chosen)) => picture_of(rt, path, chosen),
-        None => {
-            write_error(
-                rt,
-                b"lab: `picture` wants a lab file; --from and --to take numbers of events\n",
-            );
-            REFUSED
-        }
+        None => wrong_words(rt, "picture"),
     }
 }

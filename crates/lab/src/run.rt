@@ -4,7 +4,7 @@ use crate::edge::{NO_MEMORY, OUTPUT_FAILED, write_out};
 use crate::files::{Opened, open};
 use crate::stock::run_lab;
 use kernel_model::NoMemory;
-use lab_lines::{pieces_of, told};
+use lab_lines::told;
 use lab_run::Ran;
 
 /// How a run is told.
@@ -44,11 +44,11 @@ fn run_opened(
     if telling.plain {
         return Ok(write_out(rt, ran.lines.bytes(), status));
     }
-    let pieces = pieces_of(rt.alloc(), opened.lowered.script.as_slice(), &ran.lines)?;
     let text = told(
         rt.alloc(),
         &opened.lowered.lab,
-        pieces.as_slice(),
+        opened.lowered.script.as_slice(),
+        &ran.lines,
         telling.raw_heads,
     )?;
     Ok(write_out(rt, text.as_slice(), status))

@@ -6,6 +6,7 @@ use graft_points::{
 use kernel_model::NoMemory;
 use lab_run::{Ran, run_script};
 use lab_text::{Lab, Lowered};
+use lab_watch::tell;
 use mem_disk::MemDisk;
 use real_edge::FileDisk;
 use std::alloc::{AllocError, Global};
@@ -83,6 +84,7 @@ fn run_over<D: Disk>(alloc: Global, lowered: &Lowered, disk: &mut D) -> Result<R
     }
 }
 
+/// Runs the script over the stock policies, with their parameters at boot.
 fn run_stock<D: Disk>(
     alloc: Global,
     lowered: &Lowered,
@@ -102,4 +104,89 @@ fn run_stock<D: Disk>(
     }
     let keys = str::from_utf8(lowered.lab.settings().word()).unwrap_or("");
     Ok(run_script(alloc, keys, script, disk, shelf))
+}
+
+/// A disk beside the one of a run.
+#[derive(Drop)]
+pub enum Spare {
+    /// A disk in memory.
+    Memory(MemDisk),
+    /// A closed disk.
+    Closed,
+}
+
+/// A disk with what the disk of a lab file's run holds before the run.
+pub fn spare_disk(rt: &HostRuntime, lowered: &Lowered) -> Result<Spare, NoMemory> {
+    match lowered.lab.settings().disk() {
+        None => Ok(Spare::Memory(memory_disk(rt.alloc(), &lowered.lab)?)),
+        Some(path) => {
+            let path = str::from_utf8(path.bytes()).unwrap_or("");
+            let bytes = bytes_of(rt.alloc(), &mut file_disk(rt, path))?;
+            if bytes.is_empty() || bytes.len() % 512 != 0 || bytes.len() > 512 * 4096 {
+                return Ok(Spare::Closed);
+            }
+            Ok(Spare::Memory(MemDisk::from_bytes(bytes, Vec::new(rt.alloc()))))
+        }
+    }
+}
+
+/// The blocks of a disk, one behind another; none where one can't be read.
+fn bytes_of(alloc: Global, disk: &mut FileDisk) -> Result<Vec<u8>, NoMemory> {
+    let mut bytes = Vec::new(alloc);
+    for b in 0..disk.size() {
+        let mut block = [0; 512];
+        if b >= disk.size() || disk.read_block(b, &mut block).is_err() {
+            return Ok(Vec::new(alloc));
+        }
+        if bytes.extend_from_slice(&block).is_err() {
+            return Err(NoMemory);
+        }
+    }
+    Ok(bytes)
+}
+
+/// What a run wrote, and where its grafts stood, seen over a spare disk.
+pub fn tell_lab(
+    alloc: Global,
+    lowered: &Lowered,
+    ran: &Ran,
+    spare: Spare,
+) -> Result<Vec<u8>, NoMemory> {
+    match spare {
+        Spare::Memory(disk) => tell_over(alloc, lowered, ran, disk),
+        Spare::Closed => tell_over(alloc, lowered, ran, FileDisk::closed()),
+    }
+}
+
+fn tell_over<D: Disk + Drop>(
+    alloc: Global,
+    lowered: &Lowered,
+    ran: &Ran,
+    disk: D,
+) -> Result<Vec<u8>, NoMemory> {
+    match tell_stock(alloc, lowered, ran, disk) {
+        Ok(told) => told,
+        Err(_) => Err(NoMemory),
+    }
+}
+
+/// Tells it over the stock policies, with their parameters at boot.
+fn tell_stock<D: Disk + Drop>(
+    alloc: Global,
+    lowered: &Lowered,
+    ran: &Ran,
+    disk: D,
+) -> Result<Result<Vec<u8>, NoMemory>, AllocError> {
+    let mut shelf: Vec<Box<dyn Policy>> = Vec::new(alloc);
+    put_last(&mut shelf, Box::new(alloc, RaNone::new())?, 0, None)?;
+    put_last(&mut shelf, Box::new(alloc, RaSeq::new())?, 1, Some(2))?;
+    put_last(&mut shelf, Box::new(alloc, RaNext::new())?, 2, Some(1))?;
+    put_last(&mut shelf, Box::new(alloc, VictimLru::new())?, 3, None)?;
+    put_last(&mut shelf, Box::new(alloc, VictimMark::new())?, 4, Some(0))?;
+    put_last(&mut shelf, Box::new(alloc, SchedRound::new())?, 5, None)?;
+    put_last(&mut shelf, Box::new(alloc, SchedNice::new())?, 6, Some(0))?;
+    if !is_stock(&shelf) {
+        unreachable!()
+    }
+    Ok(tell(alloc, lowered, &ran.lines, disk, shelf))
 }

@@ -1,0 +1,24 @@
+//! `lab watch`.
+
+use crate::edge::{NO_MEMORY, write_out};
+use crate::files::open;
+use crate::run::status_of;
+use crate::stock::{run_lab, spare_disk, tell_lab};
+use kernel_model::NoMemory;
+use lab_text::Lowered;
+
+/// Runs a lab file and tells where its grafts stood before each of their instructions: the status.
+pub fn watch(rt: &HostRuntime, path: &str) -> u8 {
+    match open(rt, path) {
+        Err(status) => status,
+        Ok(opened) => watch_lab(rt, &opened.lowered).unwrap_or(NO_MEMORY),
+    }
+}
+
+/// The spare disk is made first, since a run changes its disk.
+fn watch_lab(rt: &HostRuntime, lowered: &Lowered) -> Result<u8, NoMemory> {
+    let spare = spare_disk(rt, lowered)?;
+    let ran = run_lab(rt, lowered, None)?;
+    let text = tell_lab(rt.alloc(), lowered, &ran, spare)?;
+    Ok(write_out(rt, text.as_slice(), status_of(&ran)))
+}

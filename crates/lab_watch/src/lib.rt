@@ -1,0 +1,9 @@
+//! A run told step by step: where each graft stands before each of its instructions.
+#![tactic(auto)]
+
+mod looks;
+mod slow;
+mod steps;
+mod watch;
+
+pub use watch::tell;
