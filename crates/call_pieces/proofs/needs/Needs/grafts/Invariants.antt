@@ -1,9 +1,0 @@
--- So many of these objects were added.
-use Rattle.std.proofs.Common.{◌≡◌, ◌++◌, map}
-use Rattle.std.specs.List.{range_with_len}
-use Rattle.kernel_model.specs.declared.Object.TheVariants.{Graft}
-use Rattle.kernel_model.specs.Needs.{exclusive}
-use Rattle.call_pieces.proofs.needs.Needs.grafts.Given as goal
-
-abbrev pub invariant-loop-pt : goal.invariant-loop-pt
-invariant-loop-pt l = l.self ≡ l.fn.self ++ map (λ pt. exclusive (Graft l.p pt)) (range_with_len 0 l.pt)

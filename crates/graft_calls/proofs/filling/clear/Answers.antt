@@ -1,6 +1,0 @@
-use Rattle.std.proofs.Common.{◌-◌, replicate, refl, arith}
-use Rattle.graft_calls.proofs.Memory.{cleared}
-use Rattle.graft_calls.proofs.filling.clear.Goals as goal
-
-pub returns : goal.returns
-returns c = cleared c.args.ram.now c.clear.new.self (replicate (c.args.to - c.args.from) 0) c.args.from c.args.to c.requires.order (omega (arith, c.whole.ensures, c.requires.inside)) refl c.clear.ensures.value

@@ -1,7 +1,0 @@
--- So many rows are passed.
-use Rattle.kernel_steps.specs.Views.{placed_of}
-use Rattle.kernel_core.proofs.RowPlaceLemmas.{IsBehind}
-use Rattle.kernel_core.proofs.placed_rows.raw.Given as goal
-
-abbrev pub invariant-loop-before : goal.invariant-loop-before
-invariant-loop-before g l = IsBehind (placed_of l.running) l.before l.at
