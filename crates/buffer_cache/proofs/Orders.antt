@@ -1,7 +1,10 @@
 -- The order of use.
-use Rattle.std.proofs.Common.{◌≡◌, ℕ, zero, suc, ◌+◌, ◌<◌, ◌≤◌, ◌==◌, Bool, cond, not, List, [], ◌∷◌, ◌++◌, length, filter, map, get_or, set, take, drop, refl, arith, sym, ◌∙◌, ap}
+use Rattle.std.proofs.Common.{◌≡◌, ℕ, zero, suc, ◌+◌, ◌<◌, ◌≤◌, ◌==◌, Bool, true, false, cond, not, List, [], ◌∷◌, ◌++◌, length, filter, map, get_or, remove, set, take, drop, refl, arith, sym, ◌∙◌, ap}
 use Rattle.std.proofs.lemmas.Bool.Decides.{nat_tests}
 use Rattle.std.proofs.lemmas.Grind.{common_steps}
+use Rattle.std.proofs.lemmas.List.{append-nil, take_all, take_more}
+use Rattle.std.proofs.Math.ListN.{drop_of_length-le}
+use Rattle.std.specs.List.{refill}
 use Rattle.std.proofs.lemmas.List.Edits.{map_over_more}
 use Rattle.buffer_cache.specs.Frames.{newest, exchanged, uses}
 
@@ -67,3 +70,52 @@ pub uses-at : (order : List ℕ) (i : ℕ) → i < length order → 1 ≤ uses (
 uses-at [] i inside = absurd (omega arith)
 uses-at (x ∷ order) zero inside = grind (arith, nat_tests)
 uses-at (x ∷ order) (suc i) inside = let rest = uses-at order i (omega arith) in let one = uses-cons (get_or order i 0) x order in omega (arith, rest, one)
+
+-- a frame changes places with itself
+pub exchanged-same : (f g : ℕ) (order : List ℕ) → f ≡ g → map (exchanged f g) order ≡ order
+exchanged-same f g [] e = refl
+exchanged-same f g (h ∷ order) e = grind (arith, nat_tests, exchanged-same f g order e)
+
+-- uses once one more frame was looked at, which is another
+pub uses-past : (f : ℕ) (order : List ℕ) (i : ℕ) → i < length order → (get_or order i 0 == f) ≡ false → uses f (take i order) ≡ 0 → uses f (take (i + 1) order) ≡ 0
+uses-past f order i lt other none =
+    ap (uses f) (take_more order i 0 lt) ∙ uses-append f (take i order) (get_or order i 0 ∷ []) ∙ grind (arith, nat_tests)
+
+-- a frame without uses is in no place
+pub without-unused : (f : ℕ) (order : List ℕ) → uses f order ≡ 0 → filter (λ g. not (g == f)) order ≡ order
+without-unused f [] none = refl
+without-unused f (h ∷ order) none = grind (arith, nat_tests, without-unused f order)
+
+-- the frame at its first place goes behind all others, and so it is the newest
+pub newest-placed : (f : ℕ) (order : List ℕ) (at : ℕ) → at < length order → uses f (take at order) ≡ 0 → get_or order at 0 ≡ f → uses f order ≤ 1 →
+    remove order at ++ get_or order at 0 ∷ [] ≡ newest f order
+newest-placed f [] at lt none here once = absurd (omega arith)
+newest-placed f (h ∷ order) zero lt none here once =
+    let rest : uses f order ≡ 0 = grind (arith, nat_tests) in
+    grind (arith, nat_tests, without-unused f order rest)
+newest-placed f (h ∷ order) (suc at) lt none here once =
+    let other : (h == f) ≡ false = grind (arith, nat_tests) in
+    let fewer : uses f (take at order) ≡ 0 = grind (arith, nat_tests) in
+    let few : uses f order ≤ 1 = grind (arith, nat_tests) in
+    let rest = newest-placed f order at (omega arith) fewer here few in
+    rw other (ap (λ (xs : List ℕ). h ∷ xs) rest)
+
+-- a frame that stands nowhere is put last, and so it is the newest
+pub newest-pushed : (f : ℕ) (order : List ℕ) (at : ℕ) → length order ≤ at → uses f (take at order) ≡ 0 → order ++ f ∷ [] ≡ newest f order
+newest-pushed f order at le none =
+    let unused : uses f order ≡ 0 = ap (uses f) (sym (take_all at order le)) ∙ none in
+    ap (λ (xs : List ℕ). xs ++ f ∷ []) (sym (without-unused f order unused))
+
+-- and it is one more than those without it
+pub length-pushed : (f : ℕ) (order : List ℕ) (at : ℕ) → length order ≤ at → uses f (take at order) ≡ 0 → length (filter (λ g. not (g == f)) order) ≡ length order
+length-pushed f order at le none = ap length (without-unused f order (ap (uses f) (sym (take_all at order le)) ∙ none))
+
+-- a list that is written over one as long
+pub refilled : (xs ws : List ℕ) → length ws ≡ length xs → refill (length xs) xs ws ≡ ws
+refilled xs ws e =
+    ap (λ (zs : List ℕ). take (length xs) (ws ++ zs)) (drop_of_length-le xs (omega (arith, e))) ∙ ap (take (length xs)) (append-nil ws) ∙ take_all (length xs) ws (omega (arith, e))
+
+-- a frame has a use or none
+pub uses-most : (b : Bool) (n : ℕ) → n ≡ cond b 1 0 → n ≤ 1
+uses-most true n e = omega (arith, e)
+uses-most false n e = omega (arith, e)

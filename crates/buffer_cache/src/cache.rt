@@ -6,7 +6,9 @@ ghost use Rattle.std.specs.Option.{is_none};
 ghost use Rattle.kernel_model.specs.declared.FrameRow.{FrameRow as Row};
 ghost use Rattle.buffer_cache.specs.Frames.{filled_row};
 
-use crate::frames::{change_owner, exchange, free_frame, make_newest, no_rows, put_row, row_of};
+use crate::frames::{
+    change_owner, exchange, free_frame, held_in, make_newest, no_rows, put_row, row_of,
+};
 use crate::index::{SLOTS, find_frame, lead, no_slots};
 use arrayvec::ArrayVec;
 use kernel_model::{BLOCK_BYTES, FRAMES, FrameRow};
@@ -112,6 +114,13 @@ impl Cache {
         self.order.as_slice()
     }
 
+    /// What frame f holds, if it is in use.
+    pub fn held(&self, f: u8) -> Option<FrameRow>
+        ensures { result ≡ row_at self.now.rows f }
+    {
+        held_in(&self.rows, f)
+    }
+
     /// What frame f holds, which is in use.
     pub fn row(&self, f: u8) -> FrameRow
         requires { in_use f self.now ≡ true }
@@ -134,7 +143,7 @@ impl Cache {
     {
         put_row(&mut self.rows, f, new_row(f, owner, block));
         make_newest(&mut self.order, f);
-        let used = lead(&mut self.index, self.used, &self.rows, f);
+        let used = lead(&mut self.index, self.used, &self.rows, self.count, f);
         self.used = used;
         ram.copy_in(start_of(f), bytes);
     }

@@ -1,10 +1,10 @@
 //! The work on rows and on the order of use, as functions over plain lists.
 
-ghost use Rattle.std.specs.Prelude.{◌≡◌, ℕ, true, false, IfSome, IfNone, ◌<◌, ◌≤◌, ◌==◌, not, length, take, filter, map, cond, Some, None, Option, replicate, slice_set, option_map};
+ghost use Rattle.std.specs.Prelude.{◌≡◌, ℕ, true, false, IfSome, IfNone, ◌<◌, ◌≤◌, ◌==◌, not, length, take, filter, map, cond, Some, None, Option, replicate, slice_index, slice_set, option_map, remove, [], ◌∷◌, ◌++◌};
 ghost use Rattle.std.specs.List.{position};
 ghost use Rattle.std.specs.Option.{is_none, is_some};
 ghost use Rattle.kernel_model.specs.declared.FrameRow.{FrameRow as Row};
-ghost use Rattle.buffer_cache.specs.Frames.{newest, exchanged, handed, holds, row_at};
+ghost use Rattle.buffer_cache.specs.Frames.{newest, uses, exchanged, handed, holds, row_at};
 
 use arrayvec::ArrayVec;
 use kernel_model::{FRAMES, FrameRow};
@@ -42,6 +42,16 @@ pub(crate) fn free_frame(rows: &[Option<FrameRow>], count: u8) -> Option<u8>
     None
 }
 
+/// What a frame holds, if it is in use.
+pub(crate) fn held_in(rows: &[Option<FrameRow>], f: u8) -> Option<FrameRow>
+    ensures { result ≡ row_at rows.now f }
+{
+    match rows.get(f as usize) {
+        Some(row) => *row,
+        None => None,
+    }
+}
+
 /// What a frame in use holds.
 pub(crate) fn row_of(rows: &[Option<FrameRow>], f: u8) -> FrameRow
     requires { is_some (row_at rows.now f) ≡ true }
@@ -53,20 +63,40 @@ pub(crate) fn row_of(rows: &[Option<FrameRow>], f: u8) -> FrameRow
     }
 }
 
-/// Makes a frame the newest.
-pub(crate) fn make_newest(order: &mut ArrayVec<u8, FRAMES>, f: u8)
-    requires { length (filter (λ g. not (g == f)) order.old.items) < 64 }
-    ensures { order.new.items ≡ newest f order.old.items }
+/// Where a frame stands first in the order of use; behind all, where it doesn't.
+fn place_of(order: &[u8], f: u8) -> usize
+    ensures within { result ≤ length order.now }
+    ensures before { uses f (take result order.now) ≡ 0 }
+    ensures here { result < length order.now → slice_index order.now result ≡ f }
 {
-    remove(order, f);
-    order.push(f);
+    for (i, g) in order.iter().enumerate() {
+        if *g == f {
+            return i;
+        }
+    }
+    order.len()
 }
 
-/// Takes a frame out of the order of use.
-fn remove(order: &mut ArrayVec<u8, FRAMES>, f: u8)
-    ensures { order.new.items ≡ filter (λ g. not (g == f)) order.old.items }
+/// The frame at a place goes behind all others.
+fn put_last(order: &mut [u8], at: usize)
+    requires { at < length order.old }
+    ensures { order.new ≡ remove order.old at ++ slice_index order.old at ∷ [] }
 {
-    order.retain(|g| *g != f);
+    order[at..].rotate_left(1);
+}
+
+/// Makes a frame the newest, which stands once at most in the order of use.
+pub(crate) fn make_newest(order: &mut ArrayVec<u8, FRAMES>, f: u8)
+    requires room { length (filter (λ g. not (g == f)) order.old.items) < 64 }
+    requires once { uses f order.old.items ≤ 1 }
+    ensures { order.new.items ≡ newest f order.old.items }
+{
+    let at = place_of(order.as_slice(), f);
+    if at < order.len() {
+        put_last(order.as_mut_slice(), at);
+    } else {
+        order.push(f);
+    }
 }
 
 /// A frame, or the other one of two.
@@ -82,10 +112,13 @@ fn other(h: u8, f: u8, g: u8) -> u8
     }
 }
 
-/// Two frames change places in the order of use.
+/// Two frames change places in the order of use. A frame and itself do at once.
 pub(crate) fn exchange(order: &mut ArrayVec<u8, FRAMES>, f: u8, g: u8)
     ensures { order.new.items ≡ map (exchanged f g) order.old.items }
 {
+    if f == g {
+        return;
+    }
     exchange_all(order.as_mut_slice(), f, g);
 }
 

@@ -8,7 +8,7 @@ ghost use Rattle.buffer_cache.specs.Frames.{holds, row_at};
 ghost use Rattle.buffer_cache.specs.BlockIndex.{slot_at, IsReached, IsIndex, HasRoom};
 
 use crate::frames::is_holding;
-use kernel_model::{FRAMES, FrameRow};
+use kernel_model::FrameRow;
 
 /// The slots of the index: twice as many as frames, so that few are looked at for a block.
 pub(crate) const SLOTS: usize = 128;
@@ -17,8 +17,9 @@ pub(crate) const SLOTS: usize = 128;
 /// and slots that lead to a frame are seldom side by side then.
 const SPREAD: usize = 41;
 
-/// The most slots that lead to a frame. Slots of blocks that were evicted stay until then.
-const MOST_USED: u8 = 96;
+/// So many slots more than there are frames lead to one at most. Slots of blocks that were evicted
+/// stay until then; the fewer there are, the fewer are looked at for a block.
+const STALE: u8 = 32;
 
 /// An index that leads to no frame.
 pub(crate) fn no_slots() -> [Option<u8>; SLOTS]
@@ -119,37 +120,48 @@ fn clear(index: &mut [Option<u8>])
     index.fill(None);
 }
 
-/// Makes the index lead from the block of each frame in use to that frame, and nowhere else.
-fn rebuild(index: &mut [Option<u8>], rows: &[Option<FrameRow>])
+/// Makes the index lead from the block of each frame in use to that frame, and nowhere else. Only
+/// the first frames are in use, so many at most.
+fn rebuild(index: &mut [Option<u8>], rows: &[Option<FrameRow>], count: u8)
     requires slots { length index.old ≡ 128 }
     requires rows { length rows.now ≡ 64 }
+    requires few { count ≤ 64 }
+    requires below { (g : ℕ) (r : Row) → row_at rows.now g ≡ Some r → g < count }
     ensures index { IsIndex index.new rows.now }
-    ensures count { count_by (λ (s : Option ℕ). is_some s) index.new ≤ 64 }
+    ensures count { count_by (λ (s : Option ℕ). is_some s) index.new ≤ count }
 {
     clear(index);
-    for (f, row) in rows.iter().enumerate() {
-        insert_row(index, row, f as u8);
+    for f in 0..count {
+        insert_row(index, &rows[f as usize], f);
     }
 }
 
 /// Makes the index of the rows but for frame f that of all rows, and says how many slots may lead
-/// to a frame then.
-pub(crate) fn lead(index: &mut [Option<u8>], used: u8, rows: &[Option<FrameRow>], f: u8) -> u8
+/// to a frame then. Only the first frames are in use, so many at most.
+pub(crate) fn lead(
+    index: &mut [Option<u8>],
+    used: u8,
+    rows: &[Option<FrameRow>],
+    count: u8,
+    f: u8,
+) -> u8
     requires slots { length index.old ≡ 128 }
     requires room { HasRoom index.old used }
     requires range { f < 64 }
     requires rows { length rows.now ≡ 64 }
+    requires few { count ≤ 64 }
+    requires below { (g : ℕ) (r : Row) → row_at rows.now g ≡ Some r → g < count }
     requires frames { (s g : ℕ) → slice_index_or index.old s None ≡ Some g → g < 64 }
     requires reached { (g : ℕ) (r : Row) → (g ≡ f → ⊥) → row_at rows.now g ≡ Some r →
         IsReached index.old r.block g }
     ensures index { IsIndex index.new rows.now }
     ensures room { HasRoom index.new result }
 {
-    if used < MOST_USED {
+    if used < count + STALE {
         insert_row(index, &rows[f as usize], f);
         used + 1
     } else {
-        rebuild(index, rows);
-        FRAMES as u8
+        rebuild(index, rows, count);
+        count
     }
 }

@@ -5,3 +5,4 @@ pub mod Moves
 pub mod Boot
 pub mod Ledgers
 pub mod Stepping
+pub mod Empty

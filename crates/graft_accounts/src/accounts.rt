@@ -1,6 +1,6 @@
 //! `Accounts`.
 
-ghost use Rattle.std.specs.Prelude.{◌≡◌, ◌+◌, ◌*◌, ◌<◌, ◌≤◌, ℕ, None, true, replicate, is_some, option_map, nat_le, cond, slice_index, slice_set};
+ghost use Rattle.std.specs.Prelude.{◌≡◌, ◌↔◌, ◌+◌, ◌*◌, ◌<◌, ◌≤◌, ℕ, None, true, false, replicate, is_some, option_map, nat_le, cond, slice_index, slice_set};
 ghost use Rattle.kernel_model.specs.declared.Kind.{Kind};
 ghost use Rattle.kernel_model.specs.Charges.{charge, charged_steps, removed, funds};
 ghost use Rattle.kernel_model.specs.Levels.{limit_in};
@@ -8,9 +8,9 @@ ghost use Rattle.kernel_model.specs.Opening.{opening_accounts};
 ghost use Rattle.kernel_model.specs.Pieces.{with_graft, new_graft, without_grafts, account_closed};
 ghost use Rattle.kernel_model.specs.Sound.{ledger};
 
-use crate::amounts::{Amounts, POINTS};
+use crate::amounts::Amounts;
 use crate::points::GraftPoint;
-use crate::rows::{GraftRow, Standing};
+use crate::rows::{GraftRow, Standing, Standings};
 use kernel_model::Kind;
 use std::marker::Model;
 
@@ -23,7 +23,7 @@ const EACH: u8 = 16;
 /// grafts.
 #[derive(Drop)]
 pub struct Accounts {
-    grafts: [Option<Standing>; POINTS],
+    grafts: Standings,
     steps: Amounts,
     records: Amounts,
     locks: Amounts,
@@ -39,13 +39,6 @@ impl Model for Accounts {
     ghost invariant = { λ a. IsTable (table_with a.grafts a.steps a.records a.locks) };
 }
 
-/// No graft at all.
-fn no_grafts() -> [Option<Standing>; POINTS]
-    ensures { result ≡ replicate 256 None }
-{
-    [None; POINTS]
-}
-
 impl Accounts {
     ghost use Rattle.kernel_model.specs.declared.Kind.TheVariants.{Steps};
     ghost use Rattle.graft_accounts.specs.Points.{place_of};
@@ -58,7 +51,7 @@ impl Accounts {
         ensures sums { (j : Kind) → total (accounts_of result) j ≡ grant }
     {
         Accounts {
-            grafts: no_grafts(),
+            grafts: Standings::new(),
             steps: Amounts::new(grant),
             records: Amounts::new(grant),
             locks: Amounts::new(grant),
@@ -183,17 +176,14 @@ impl Accounts {
     fn standing(&self, i: usize) -> Option<Standing>
         ensures { result ≡ standing_at self.now i }
     {
-        match self.grafts.get(i) {
-            Some(found) => *found,
-            None => None,
-        }
+        self.grafts.get(i)
     }
 
     /// Puts a graft at a point.
     fn put(&mut self, at: GraftPoint, standing: Standing)
         ensures { Becomes IsTable self.old self.new (put_at (place_of at) standing self.old) }
     {
-        self.grafts[at.place()] = Some(standing);
+        self.grafts.set(at.place(), Some(standing));
     }
 
     /// Takes out the graft at a point, and gives what it has back to its process.
@@ -203,7 +193,7 @@ impl Accounts {
         self.steps.give_back(at);
         self.records.give_back(at);
         self.locks.give_back(at);
-        self.grafts[at.place()] = None;
+        self.grafts.set(at.place(), None);
     }
 
     /// Process 0 gets all that process p has and has spent.
@@ -283,6 +273,14 @@ impl Accounts {
         ensures { result ≡ is_some ((accounts_of self.now).graft p pt) }
     {
         self.standing(16 * p as usize + pt as usize).is_some()
+    }
+
+    /// Whether any graft stands. Looks at no point.
+    pub fn any_stands(&self) -> bool
+        ensures exact { (result ≡ false) ↔ ((i : ℕ) → standing_at self.now i ≡ None) }
+        ensures none { result ≡ false → (q pt : ℕ) → (accounts_of self.now).graft q pt ≡ None }
+    {
+        self.grafts.any()
     }
 
     /// Puts a graft at a point where none stands. It has nothing, and isn't billed.

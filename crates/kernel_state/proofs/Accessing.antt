@@ -1,11 +1,10 @@
 -- What the accessors of grafts look at and change.
-use Rattle.std.proofs.Common.{◌≡◌, ℕ, zero, suc, ◌+◌, ◌<◌, ◌≤◌, ◌==◌, ◌||◌, Bool, true, false, cond, List, [], ◌∷◌, length, get_or, drop, map, filter, Option, Some, None, option_map, slice_get, nat_le, refl, arith, sym, ◌∙◌, ap}
+use Rattle.std.proofs.Common.{◌≡◌, ℕ, zero, suc, ◌+◌, ◌<◌, ◌≤◌, ◌==◌, ◌||◌, Bool, true, false, cond, List, [], ◌∷◌, length, get_or, drop, map, filter, Option, Some, None, nat_le, refl, arith, sym, ◌∙◌, ap}
 use Rattle.std.specs.List.{list_any, list_all}
 use Rattle.std.specs.Option.{is_some}
 use Rattle.std.specs.Result.{is_ok}
 use Rattle.std.proofs.lemmas.Bool.Decides.{nat_tests}
 use Rattle.std.proofs.lemmas.List.{get_or_past}
-use Rattle.std.proofs.lemmas.Option.{slice_get-map}
 use Rattle.kernel_model.specs.declared.FrameRow.{FrameRow}
 use Rattle.kernel_model.specs.declared.QueueRow.{QueueRow}
 use Rattle.kernel_model.specs.Access.{Access as Accessed, Gives, Changes, Refuses}
@@ -71,10 +70,6 @@ no_row c f is = go (row_at c.rows f) is
 -- nor has a number that no frame has
 pub row_past : (c : Frames) (f : ℕ) → IsFrames c → 64 ≤ f → row_at c.rows f ≡ None
 row_past c f h le = get_or_past c.rows f None (let len = h.rows in omega arith)
-
--- the frame of a row at a place
-pub frame_got : (rows : List FrameRow) (n : ℕ) → slice_get (map (λ (r : FrameRow). r.frame) rows) n ≡ option_map (λ (r : FrameRow). r.frame) (slice_get rows n)
-frame_got rows n = slice_get-map (λ (r : FrameRow). r.frame) rows n
 
 -- a frame that a test lets through passes it
 passes : (p : ℕ → Bool) (fs : List ℕ) (f : ℕ) → list_any (λ g. g == f) (filter p fs) ≡ true → p f ≡ true

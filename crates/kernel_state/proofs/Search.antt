@@ -1,6 +1,6 @@
 -- The frames that are looked for: the one that holds a block, and the lowest one that isn't in use.
-use Rattle.std.proofs.Common.{◌≡◌, ℕ, zero, suc, ◌≤◌, ◌==◌, Bool, true, false, cond, List, [], ◌∷◌, length, take, drop, get_or, Option, Some, None, IfSome, IfNone, refl, arith, sym, ◌∙◌, ap, add-one}
-use Rattle.std.specs.List.{position, position_from, list_any}
+use Rattle.std.proofs.Common.{◌≡◌, ℕ, zero, suc, ◌≤◌, ◌==◌, true, false, cond, List, [], ◌∷◌, length, take, drop, get_or, Option, Some, None, IfSome, IfNone, refl, arith, sym, ◌∙◌, ap, add-one}
+use Rattle.std.specs.List.{position, position_from}
 use Rattle.std.specs.Option.{is_some, is_none}
 use Rattle.std.proofs.lemmas.Bool.Decides.{nat_tests}
 use Rattle.std.proofs.lemmas.List.{get_or-drop, drop-drop}
@@ -102,14 +102,3 @@ free_is c m n x h count is =
     let inside : c.count ≤ length c.rows = let len = h.rows in let most = h.most in omega arith in
     is ∙ position_from-zero (λ (r : Option FrameRow). is_none r) (take c.count c.rows) ∙ sym (free_from c m c.rows c.count 0 refl inside)
     ∙ ap (λ k. free_frame (cache_value c m) k 0) count
-
--- ---- whether a frame is in use
-
-listed : (f : ℕ) (order : List ℕ) → list_any (λ g. g == f) order ≡ cond (0 == uses f order) false true
-listed f [] = refl
-listed f (g ∷ order) = grind (arith, nat_tests, listed f order)
-
-pub is_listed : (c : Frames) (f : ℕ) (x : Bool) → IsFrames c → x ≡ list_any (λ g. g == f) c.order → x ≡ in_use f c
-is_listed c f x h is =
-    is ∙ listed f c.order ∙ ap (λ n. cond (0 == n) false true) (h.once f)
-    ∙ (elim (in_use f c) as (λ t. cond (0 == cond t 1 0) false true ≡ t) [ true ↦ refl | false ↦ refl ])

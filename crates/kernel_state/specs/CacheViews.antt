@@ -1,8 +1,8 @@
 -- The rows of the frames and the memory as one cache of the kernel's state.
-use Rattle.std.specs.Prelude.{◌≡◌, ℕ, ◌+◌, ◌*◌, true, false, List, Option, IfSome, IfNone, option_map, slice_range}
+use Rattle.std.specs.Prelude.{◌≡◌, ℕ, ◌+◌, ◌*◌, ◌≤◌, true, false, List, Option, IfSome, IfNone, option_map, slice_range}
 use Rattle.kernel_model.specs.declared.FrameRow.{FrameRow}
 use Rattle.kernel_model.specs.Objects.{FrameValue, CacheValue, PolValue}
-use Rattle.kernel_model.specs.Policies.{victim_among}
+use Rattle.kernel_model.specs.Policies.{victim_key, victim_among}
 use Rattle.buffer_cache.specs.Frames.{Frames, row_at, in_use}
 
 -- the bytes of frame f
@@ -27,3 +27,7 @@ pub record IsCandidate (p : PolValue) (c : CacheValue) (frames : Frames) (answer
   pub value : answer ≡ victim_among p c c.lru
   pub in_cache : IfSome answer (λ f. in_use f frames ≡ true)
   pub none : IfNone answer ((f : ℕ) → in_use f frames ≡ false)
+
+-- no frame has a lesser key than this one
+pub record IsLeastKey (p : PolValue) (c : CacheValue) (f : ℕ) : Type 0 where
+  pub least : (g : ℕ) → victim_key p c f ≤ victim_key p c g

@@ -1,9 +1,8 @@
 //! The plain accessors of grafts, and the undoing of their changes.
 
-ghost use Rattle.std.specs.Prelude.{◌≡◌, ℕ, ◌<◌, true, None, Some, Ok, map, length, slice_get, IfSome};
+ghost use Rattle.std.specs.Prelude.{◌≡◌, ℕ, ◌<◌, true, None, Some, Ok, length, IfSome};
 ghost use Rattle.std.specs.Option.{option_copied};
 ghost use Rattle.std.specs.Result.{is_ok};
-ghost use Rattle.kernel_model.specs.declared.FrameRow.{FrameRow as Row};
 ghost use Rattle.kernel_model.specs.Access.{access as accessed, undo as undone};
 ghost use Rattle.kernel_model.specs.Policies.{lives};
 ghost use Rattle.segments.specs.Tables.{by_place};
@@ -16,7 +15,7 @@ use crate::{Access, Store};
 use accessor_list::ids;
 use graft_accounts::GraftPoint;
 use graft_points::Policy;
-use kernel_model::{Cause, FrameRow, Inverse};
+use kernel_model::{Cause, Inverse};
 
 impl<B: Policy> Store<B> {
     /// What the plain accessor of an id does for a graft of process q, which lives: the change in
@@ -80,7 +79,7 @@ impl<B: Policy> Store<B> {
             ids::NICE_SET => self.nice_set(q),
             ids::WINDOW_GET => self.window_get(q, first as u8),
             ids::WINDOW_SET => self.window_set(q, first as u8),
-            ids::FRAMES_MINE => gives(self.owned_rows(q).as_slice().len() as u32),
+            ids::FRAMES_MINE => gives(self.owned_count(q)),
             ids::FRAME_AT => self.frame_at(q, first),
             ids::FRAME_BLOCK => self.frame_block(q, first),
             ids::FRAME_MARK => self.frame_mark(q, first),
@@ -161,8 +160,7 @@ impl<B: Policy> Store<B> {
     fn frame_at(&self, q: u8, n: u32) -> Result<Access, Cause>
         ensures { result ≡ answer_of (accessed 7 n 0 0 q (objects_of self.now).things) }
     {
-        let rows = self.owned_rows(q);
-        match nth_frame(rows.as_slice(), n) {
+        match self.owned_frame(q, n) {
             Some(f) => gives(u32::from(f)),
             None => Err(Cause::BadArgument(ids::FRAME_AT)),
         }
@@ -211,14 +209,6 @@ impl<B: Policy> Store<B> {
             _ => Err(Cause::BadArgument(ids::TUNE_SET)),
         }
     }
-}
-
-/// The frame of the n-th row, from 0.
-#[tactic(auto, using(crate::proofs::Accessing::frame_got))]
-fn nth_frame(rows: &[FrameRow], n: u32) -> Option<u8>
-    ensures { result ≡ slice_get (map (λ (r : Row). r.frame) rows.now) n }
-{
-    rows.get(n as usize).map(|row| row.frame)
 }
 
 /// A result where nothing changes.

@@ -1,11 +1,11 @@
 //! The accounts and the grafts of a store.
 
-ghost use Rattle.std.specs.Prelude.{◌≡◌, ◌<◌, ◌≤◌, true, None, is_some};
+ghost use Rattle.std.specs.Prelude.{◌≡◌, ◌↔◌, ◌<◌, ◌≤◌, ℕ, true, false, None, is_some};
 ghost use Rattle.kernel_model.specs.Charges.{removed};
 ghost use Rattle.kernel_model.specs.Objects.{with_accounts};
 ghost use Rattle.kernel_model.specs.Policies.{lives};
 ghost use Rattle.kernel_model.specs.Pieces.{with_new_graft, new_graft};
-ghost use Rattle.graft_accounts.specs.Table.{short_of, after_give, after_fund, after_bill};
+ghost use Rattle.graft_accounts.specs.Table.{standing_at, short_of, after_give, after_fund, after_bill};
 ghost use Rattle.kernel_state.specs.Changes.{Changes};
 ghost use Rattle.kernel_state.specs.Places.{HasPoint};
 ghost use Rattle.kernel_state.specs.Stores.{objects_of, queue_of};
@@ -35,6 +35,16 @@ impl<B: Policy> Store<B> {
         ensures { result ≡ is_some ((objects_of self.now).accounts.graft p pt) }
     {
         self.accounts.stands(p, pt)
+    }
+
+    /// Whether any graft stands. Looks at no point.
+    pub fn has_grafts(&self) -> bool
+        ensures exact { (result ≡ false)
+            ↔ ((i : ℕ) → standing_at self.now.accounts i ≡ None) }
+        ensures none { result ≡ false →
+            (q pt : ℕ) → (objects_of self.now).accounts.graft q pt ≡ None }
+    {
+        self.accounts.any_stands()
     }
 
     /// Puts a graft at point pt of process p, where none stands. It has nothing, isn't billed, and

@@ -1,6 +1,6 @@
 //! The cache of a store, with the bytes of its frames.
 
-ghost use Rattle.std.specs.Prelude.{◌≡◌, ℕ, ◌+◌, ◌*◌, ◌<◌, ◌≤◌, true, false, [], length, Some, None, IfSome, IfNone, slice_range, option_map, map, filter_map};
+ghost use Rattle.std.specs.Prelude.{◌≡◌, ℕ, ◌+◌, ◌*◌, ◌<◌, ◌≤◌, true, false, length, Some, None, IfSome, IfNone, slice_range, option_map, map, filter_map};
 ghost use Rattle.kernel_model.specs.Objects.{FrameValue};
 ghost use Rattle.kernel_model.specs.Needs.{frame_of_block, free_frame, owner_asked};
 ghost use Rattle.kernel_model.specs.Policies.{lives, victim_among};
@@ -9,12 +9,11 @@ ghost use Rattle.kernel_model.specs.FilePieces.{with_cache};
 ghost use Rattle.kernel_model.specs.RawRows.{frame_row_of};
 ghost use Rattle.kernel_model.specs.declared.FrameRow.{FrameRow as Row};
 ghost use Rattle.buffer_cache.specs.Frames.{in_use, row_at};
-ghost use Rattle.kernel_state.specs.CacheViews.{IsCandidate};
+ghost use Rattle.kernel_state.specs.CacheViews.{IsCandidate, IsLeastKey};
 ghost use Rattle.kernel_state.specs.Changes.{Changes, ChangesFrames};
 ghost use Rattle.kernel_state.specs.Stores.{world_of_store, objects_of, cache_of, queue_of, policies_of};
 
 use crate::Store;
-use arrayvec::ArrayVec;
 use buffer_cache::Cache;
 use graft_points::Policy;
 use kernel_model::{BLOCK_BYTES, Bytes, FrameRow, FrameRows};
@@ -64,18 +63,43 @@ impl<B: Policy> Store<B> {
         ensures in_cache { IfSome result (λ f. in_use f self.now.cache ≡ true) }
         ensures none { IfNone result ((f : ℕ) → in_use f self.now.cache ≡ false) }
     {
-        if self.cache.lru().len() > FEW {
-            return self.candidate_of_many();
+        if let Some(f) = self.oldest() {
+            return Some(f);
         }
-        let mut rows: ArrayVec<FrameRow, FEW> = ArrayVec::new();
-        put_rows(&self.cache, &mut rows);
-        self.evicted(rows.as_slice())
+        self.candidate_of_all()
     }
 
-    /// The same where many frames may be in use. It stands apart since room for all rows is cleared
+    /// Whether the chosen policy would rather evict frame f than a newer one, whatever that is: it
+    /// goes by the order of use alone, or the mark of f isn't above the policy's floor.
+    fn is_least(&self, f: u8) -> bool
+        requires { in_use f self.now.cache ≡ true }
+        ensures { result ≡ true → IsLeastKey (policies_of self.now 1) (cache_of self.now) f }
+    {
+        if self.choice.of(1) == 0 {
+            return true;
+        }
+        match self.param(1) {
+            Some(floor) => u32::from(self.cache.row(f).mark) <= floor,
+            None => false,
+        }
+    }
+
+    /// The oldest frame in use, where it is the candidate whatever the others are, so that no row
+    /// of theirs is looked at.
+    fn oldest(&self) -> Option<u8>
+        ensures { IfSome result (λ f. IsCandidate (policies_of self.now 1) (cache_of self.now)
+            self.now.cache (Some f)) }
+    {
+        match self.cache.lru() {
+            [f, ..] if self.is_least(*f) => Some(*f),
+            _ => None,
+        }
+    }
+
+    /// The same by a look at all frames in use. It stands apart since room for their rows is cleared
     /// here.
     #[inline(never)]
-    fn candidate_of_many(&self) -> Option<u8>
+    fn candidate_of_all(&self) -> Option<u8>
         ensures { IsCandidate (policies_of self.now 1) (cache_of self.now) self.now.cache result }
     {
         let rows = self.frame_rows();
@@ -99,7 +123,7 @@ impl<B: Policy> Store<B> {
     pub fn is_used(&self, f: u8) -> bool
         ensures { result ≡ in_use f self.now.cache }
     {
-        self.cache.lru().contains(&f)
+        self.cache.held(f).is_some()
     }
 
     /// The process of frame f, which is in use.
@@ -213,22 +237,6 @@ impl<B: Policy> Store<B> {
         self.cache.lru();
         let frame = self.ram.bytes(start_of(f), BLOCK_BYTES as u32);
         bytes_from(&frame[off as usize..(off + len) as usize])
-    }
-}
-
-/// So many frames in use have few rows, which are clear at once. The cache has so many frames where
-/// no line says otherwise.
-const FEW: usize = 8;
-
-/// The rows of the frames in use, oldest first.
-fn put_rows<const N: usize>(cache: &Cache, rows: &mut ArrayVec<FrameRow, N>)
-    requires empty { rows.old.items ≡ [] }
-    requires room { length cache.now.order ≤ N }
-    ensures { map (λ (r : Row). Some r) rows.new.items
-        ≡ map (row_at cache.now.rows) cache.now.order }
-{
-    for f in cache.lru() {
-        rows.push(cache.row(*f));
     }
 }
 

@@ -71,8 +71,8 @@ impl<B: Policy> Store<B> {
         let Some(opened) = self.procs.file(p, fd) else {
             return Err(Refusal::BadFd);
         };
-        let row = self.dir.file(opened.file);
-        if !has_bytes(&row, i, off, len) {
+        let row = self.dir.row(opened.file);
+        if !has_bytes(row, i, off, len) {
             return Err(Refusal::BadIndex);
         }
         Ok(row.start + i)
@@ -86,7 +86,7 @@ impl<B: Policy> Store<B> {
         ensures value { ahead_block (world_of_store self.now) (Some opened.now) ≡ Ok result }
         ensures on_disk { result < self.now.size }
     {
-        self.dir.file(opened.file).start + opened.start
+        self.dir.row(opened.file).start + opened.start
     }
 
     /// How many blocks the file has that is open here.
@@ -94,7 +94,7 @@ impl<B: Policy> Store<B> {
         requires { IsSoundFile (world_of_store self.now) opened.now }
         ensures { result ≡ blocks_of (world_of_store self.now) opened.now.file }
     {
-        self.dir.file(opened.file).blocks
+        self.dir.row(opened.file).blocks
     }
 
     /// What is to be read ahead of an open file by default, as the chosen policy has it.
@@ -106,7 +106,7 @@ impl<B: Policy> Store<B> {
         ensures sound { IsSoundFile (world_of_store self.now)
             (record (opened.now) { start = result.start; count = result.count }) }
     {
-        let blocks = self.dir.file(opened.file).blocks;
+        let blocks = self.dir.row(opened.file).blocks;
         let (start, count) = self.shelf.ahead(&self.choice, opened, blocks);
         Ahead {
             start,

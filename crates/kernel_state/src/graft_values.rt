@@ -1,7 +1,7 @@
 //! Values of a store that only grafts look at and change: nices, windows, marks, and the frames of
 //! one process.
 
-ghost use Rattle.std.specs.Prelude.{◌≡◌, ◌<◌, ◌≤◌, true, Some, [], nat_le, map, is_some, IfSome, IfNone};
+ghost use Rattle.std.specs.Prelude.{◌≡◌, ◌<◌, ◌≤◌, true, Some, [], length, nat_le, map, is_some, slice_get, IfSome, IfNone};
 ghost use Rattle.std.specs.List.{list_all};
 ghost use Rattle.kernel_model.specs.declared.FrameRow.{FrameRow as Row};
 ghost use Rattle.kernel_model.specs.declared.QueueRow.{QueueRow as Waiting};
@@ -97,6 +97,36 @@ impl<B: Policy> Store<B> {
             }
         }
         rows
+    }
+
+    /// How many frames process q has.
+    pub fn owned_count(&self, q: u8) -> u32
+        ensures { result ≡ length (frames_of (cache_of self.now) q) }
+    {
+        let mut count = 0;
+        for f in self.cache.lru() {
+            if self.cache.row(*f).owner == q {
+                count += 1;
+            }
+        }
+        count
+    }
+
+    /// Frame n of process q, from 0, oldest first. None where it has no more than n.
+    pub fn owned_frame(&self, q: u8, n: u32) -> Option<u8>
+        ensures { result ≡ slice_get (frames_of (cache_of self.now) q) n }
+    {
+        let mut left = n;
+        for f in self.cache.lru() {
+            if self.cache.row(*f).owner != q {
+                continue;
+            }
+            if left == 0 {
+                return Some(*f);
+            }
+            left -= 1;
+        }
+        None
     }
 
     /// Whether frame f is in use and of process q.

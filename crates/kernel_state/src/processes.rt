@@ -83,7 +83,19 @@ impl<B: Policy> Store<B> {
         ensures value { next_process (policies_of self.now 2) (queue_of self.now) ≡ Some result }
         ensures lives { lives (queue_of self.now) result ≡ true }
     {
+        if self.choice.of(2) == 0 {
+            return self.front();
+        }
         self.shelf.next(&self.choice, self.procs.rows())
+    }
+
+    /// The same where the chosen policy goes by the queue alone, so that it needn't be asked.
+    fn front(&self) -> u8
+        requires { (policies_of self.now 2).chosen ≡ 0 }
+        ensures value { next_process (policies_of self.now 2) (queue_of self.now) ≡ Some result }
+        ensures lives { lives (queue_of self.now) result ≡ true }
+    {
+        self.procs.rows()[0].process
     }
 
     /// Raises the slices of process p by one, up to the end of their count.

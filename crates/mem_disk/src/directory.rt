@@ -67,6 +67,14 @@ impl Directory {
         requires { IsSome (slice_index_or self.now n None) }
         ensures { slice_index_or self.now n None ≡ Some result }
     {
+        copy_of(self.row(n))
+    }
+
+    /// The same where it stands, so that its name isn't copied.
+    pub fn row(&self, n: u8) -> &FileRow
+        requires { IsSome (slice_index_or self.now n None) }
+        ensures { slice_index_or self.now n None ≡ Some result.now }
+    {
         usable_entry(self.rows.as_slice(), n)
     }
 
@@ -250,12 +258,12 @@ fn find_entry(rows: &[Option<FileRow>], name: &[u8]) -> Option<u8>
 }
 
 /// Entry n, which is usable.
-fn usable_entry(rows: &[Option<FileRow>], n: u8) -> FileRow
+fn usable_entry(rows: &[Option<FileRow>], n: u8) -> &FileRow
     requires { IsSome (slice_index_or rows.now n None) }
-    ensures { slice_index_or rows.now n None ≡ Some result }
+    ensures { slice_index_or rows.now n None ≡ Some result.now }
 {
     match &rows[n as usize] {
-        Some(row) => copy_of(row),
+        Some(row) => row,
         None => unreachable!(),
     }
 }

@@ -1,7 +1,10 @@
 -- Lemmas on the rows of the queue.
-use Rattle.std.proofs.Common.{◌≡◌, ℕ, zero, suc, ◌+◌, ◌<◌, ◌≤◌, Bool, true, false, Some, None, List, [], ◌∷◌, ◌++◌, length, filter, not, ◌&&◌, ◌==◌, nat_le, refl, arith, subst, sym, ◌∙◌, add-one, length-append}
+use Rattle.std.proofs.Common.{◌≡◌, ℕ, zero, suc, ◌+◌, ◌-◌, ◌<◌, ◌≤◌, Bool, true, false, cond, Some, None, List, [], ◌∷◌, ◌++◌, length, filter, take, drop, get_or, remove, not, ◌&&◌, ◌==◌, nat_le, refl, arith, subst, sym, ◌∙◌, add-one, append_assoc, length-append}
 use Rattle.std.specs.List.{list_all}
 use Rattle.std.proofs.lemmas.Bool.Decides.{nat_tests}
+use Rattle.std.proofs.lemmas.List.{append-nil, take_more, drop_more}
+use Rattle.std.proofs.lemmas.List.Edits.{remove-append_right}
+use Rattle.std.proofs.Math.Seq.{get_or-append_seam}
 use Rattle.std.proofs.lemmas.List.Elements.{filter-append}
 use Rattle.std.proofs.lemmas.List.Folds.{list_any-append, list_all-append}
 use Rattle.kernel_model.specs.declared.QueueRow.{QueueRow}
@@ -87,6 +90,61 @@ rows_of-parted q p (r ∷ rows) = grind (arith, nat_tests, rows_of-parted q p ro
 
 pub rows_of-append : (q : ℕ) (xs ys : List QueueRow) → length (rows_of q (xs ++ ys)) ≡ length (rows_of q xs) + length (rows_of q ys)
 rows_of-append q xs ys = rw filter-append (length-append (rows_of q xs) (rows_of q ys))
+
+-- the rows once the first k were looked at: those that were passed, those that are left, and those
+-- that went to the back
+pub record IsTurned (p k : ℕ) (rows now : List QueueRow) (place : ℕ) : Type 0 where
+  pub rows_are : now ≡ queue_without p (take k rows) ++ (drop k rows ++ rows_of p (take k rows))
+  pub place_is : place ≡ length (queue_without p (take k rows))
+
+-- none was looked at
+pub turned_none : (p : ℕ) (rows : List QueueRow) → IsTurned p 0 rows rows 0
+turned_none p rows = record { rows_are = sym (append-nil rows); place_is = refl }
+
+-- a row of the process goes to the back
+turned_back : (p : ℕ) (row : QueueRow) (seen left : List QueueRow) → (row.process == p) ≡ true →
+    remove (queue_without p seen ++ (row ∷ (left ++ rows_of p seen))) (length (queue_without p seen)) ++ row ∷ []
+    ≡ queue_without p (seen ++ row ∷ []) ++ (left ++ rows_of p (seen ++ row ∷ []))
+turned_back p row seen left e =
+    let gone = remove-append_right (queue_without p seen) (row ∷ (left ++ rows_of p seen)) (length (queue_without p seen)) (length (queue_without p seen)) refl (omega arith) in
+    let none : length (queue_without p seen) - length (queue_without p seen) ≡ 0 = omega arith in
+    rw (gone, none, filter-append, filter-append, e) (simp (append_assoc, append-nil))
+
+-- any other is passed
+turned_past : (p : ℕ) (row : QueueRow) (seen left : List QueueRow) → (row.process == p) ≡ false →
+    queue_without p seen ++ (row ∷ (left ++ rows_of p seen))
+    ≡ queue_without p (seen ++ row ∷ []) ++ (left ++ rows_of p (seen ++ row ∷ []))
+turned_past p row seen left e =
+    rw (filter-append, filter-append, e) (simp (append_assoc, append-nil))
+
+-- how many were passed
+turned_place : (p : ℕ) (row : QueueRow) (seen : List QueueRow) →
+    length (queue_without p (seen ++ row ∷ []))
+    ≡ cond (row.process == p) (length (queue_without p seen)) (length (queue_without p seen) + 1)
+turned_place p row seen = rw (filter-append, length-append) (grind (arith, nat_tests))
+
+-- one more is looked at
+pub turned_more : (p k : ℕ) (rows now new : List QueueRow) (place next : ℕ) → k < length rows → IsTurned p k rows now place
+    → ((row : QueueRow) → get_or now place row ≡ row → new ≡ cond (row.process == p) (remove now place ++ row ∷ []) now)
+    → ((row : QueueRow) → get_or now place row ≡ row → next ≡ cond (row.process == p) place (place + 1))
+    → IsTurned p (k + 1) rows new next
+turned_more p k rows now new place next lt t goes on =
+    let row : QueueRow = get_or rows k (new_row 0) in
+    let seen : List QueueRow = take k rows in
+    let left : List QueueRow = drop (k + 1) rows in
+    let parted : now ≡ queue_without p seen ++ (row ∷ (left ++ rows_of p seen)) =
+    rw (drop_more rows k (new_row 0) lt) at t.rows_are in
+    let is : get_or now place row ≡ row =
+    rw (parted, t.place_is) (get_or-append_seam (queue_without p seen) row (left ++ rows_of p seen) row) in
+    let more : take (k + 1) rows ≡ seen ++ row ∷ [] = take_more rows k (new_row 0) lt in
+    record {
+      rows_are =
+          elim (row.process == p) as (λ b. (row.process == p) ≡ b → new ≡ queue_without p (take (k + 1) rows) ++ (left ++ rows_of p (take (k + 1) rows))) [
+            | true ↦ λ e. rw (more, goes row is, e, parted, t.place_is) (turned_back p row seen left e)
+            | false ↦ λ e. rw (more, goes row is, e, parted) (turned_past p row seen left e)
+          ] refl;
+      place_is = rw (more, on row is, t.place_is) (sym (turned_place p row seen));
+    }
 
 -- ---- with changed rows
 

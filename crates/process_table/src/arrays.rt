@@ -1,6 +1,6 @@
 //! The work on each array, as functions over plain lists.
 
-ghost use Rattle.std.specs.Prelude.{◌≡◌, ℕ, ◌+◌, ◌*◌, ◌<◌, ◌≤◌, ◌==◌, true, cond, not, length, map, filter, IfSome, IfNone, slice_index, slice_index_or, None, [], ◌∷◌, ◌++◌};
+ghost use Rattle.std.specs.Prelude.{◌≡◌, ℕ, ◌+◌, ◌*◌, ◌<◌, ◌≤◌, ◌==◌, true, cond, not, length, map, filter, IfSome, IfNone, slice_index, slice_index_or, remove, None, [], ◌∷◌, ◌++◌};
 ghost use Rattle.std.specs.List.{list_any};
 ghost use Rattle.kernel_model.specs.declared.QueueRow.{QueueRow as Row};
 ghost use Rattle.kernel_model.specs.Queue.{IsLeastFree, new_row, queue_without, one_more_slice};
@@ -72,32 +72,37 @@ pub(crate) fn join(rows: &mut ArrayVec<QueueRow, PROCESSES>, process: u8)
     rows.push(QueueRow { process, ..NEW });
 }
 
-/// Puts rows at the back.
-fn append(rows: &mut ArrayVec<QueueRow, PROCESSES>, more: &[QueueRow])
-    requires { length rows.old.items + length more.now ≤ 16 }
-    ensures { rows.new.items ≡ rows.old.items ++ more.now }
+/// Looks at the row at a place: that of the process goes behind all others, and any other is
+/// passed. Where the row stands that is to be looked at next.
+fn pass(rows: &mut [QueueRow], at: usize, p: u8) -> usize
+    requires { at < length rows.old }
+    ensures place { (row : Row) → slice_index_or rows.old at row ≡ row →
+        result ≡ cond (row.process == p) at (at + 1) }
+    ensures rows { (row : Row) → slice_index_or rows.old at row ≡ row →
+        rows.new ≡ cond (row.process == p) (remove rows.old at ++ row ∷ []) rows.old }
 {
-    let _ = rows.try_extend_from_slice(more);
+    if rows[at].process != p {
+        return at + 1;
+    }
+    rows[at..].rotate_left(1);
+    at
 }
 
-/// The rows of a process.
-fn rows_of(rows: &[QueueRow], p: u8) -> ArrayVec<QueueRow, PROCESSES>
-    requires { length rows.now ≤ 16 }
-    ensures { result.items ≡ filter (λ (r : Row). r.process == p) rows.now }
+/// Moves a process behind all others, in place.
+fn put_behind(rows: &mut [QueueRow], p: u8)
+    ensures { rows.new ≡ queue_to_back p rows.old }
 {
-    let mut of = ArrayVec::new();
-    append(&mut of, rows);
-    of.retain(|r| r.process == p);
-    of
+    let mut at = 0;
+    for _ in 0..rows.len() {
+        at = pass(rows, at, p);
+    }
 }
 
 /// Moves a process to the back of the queue.
 pub(crate) fn move_back(rows: &mut ArrayVec<QueueRow, PROCESSES>, p: u8)
     ensures { rows.new.items ≡ queue_to_back p rows.old.items }
 {
-    let moved = rows_of(rows.as_slice(), p);
-    take_out(rows, p);
-    append(rows, moved.as_slice());
+    put_behind(rows.as_mut_slice(), p);
 }
 
 /// The queue of process 0 alone.

@@ -1,6 +1,7 @@
 use Rattle.std.proofs.Common.{◌≡◌, ◌<◌, ap, subst, true, refl, sym, ◌∙◌, Some, set}
 use Rattle.kernel_model.specs.declared.FrameRow.{FrameRow}
-use Rattle.buffer_cache.specs.Frames.{Frames, row_at, holds, filled_row}
+use Rattle.buffer_cache.specs.Frames.{Frames, row_at, in_use, holds, filled_row}
+use Rattle.buffer_cache.proofs.Orders.{uses-most}
 use Rattle.buffer_cache.proofs.Rows.{newest-room, filled-new}
 use Rattle.buffer_cache.proofs.cache.Cache.fill.Goals as goal
 
@@ -8,7 +9,10 @@ pub make_newest-requires : goal.make_newest-requires
 make_newest-requires c =
     let cache : Frames = record { rows = c.self.inside.rows; order = c.self.inside.order.items; count = c.self.inside.count } in
     let below : c.args.f < c.self.inside.count = subst (λ (v : Frames). c.args.f < v.count) (sym c.self.view_is) c.requires.frame in
-    newest-room cache c.args.f c.self.invariant.0 below
+    record {
+      room = newest-room cache c.args.f c.self.invariant.0 below;
+      once = uses-most (in_use c.args.f cache) _ (c.self.invariant.0.once c.args.f);
+    }
 
 pub invariant_of-self : goal.invariant_of-self
 invariant_of-self c =

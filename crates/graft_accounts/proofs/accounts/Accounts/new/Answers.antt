@@ -3,14 +3,14 @@ use Rattle.std.proofs.Common.{subst}
 use Rattle.graft_accounts.specs.Sums.{IsSums}
 use Rattle.graft_accounts.proofs.accounts.Accounts.new.Goals as goal
 
-boot : (c : goal.After-new-3) → IsBoot (record { grafts = c.no_grafts.result; steps = c.new.result; records = c.new-2.result; locks = c.new-3.result }) c.args.grant
+boot : (c : goal.After-new-4) → IsBoot (record { grafts = c.new.result; steps = c.new-2.result; records = c.new-3.result; locks = c.new-4.result }) c.args.grant
 boot c =
     record {
-      grafts = c.no_grafts.ensures;
-      steps = c.new.ensures.value;
-      records = c.new-2.ensures.value;
-      locks = c.new-3.ensures.value;
-      sound = subst IsSums c.new.ensures.value c.new.ensures.sound;
+      grafts = c.new.ensures;
+      steps = c.new-2.ensures.value;
+      records = c.new-3.ensures.value;
+      locks = c.new-4.ensures.value;
+      sound = subst IsSums c.new-2.ensures.value c.new-2.ensures.sound;
     }
 
 pub invariant_of-result : goal.invariant_of-result

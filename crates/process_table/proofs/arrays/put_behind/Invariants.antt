@@ -1,0 +1,5 @@
+use Rattle.process_table.proofs.Queue.{IsTurned}
+use Rattle.process_table.proofs.arrays.put_behind.Given as goal
+
+abbrev pub invariant-loop : goal.invariant-loop
+invariant-loop l = record { turned : IsTurned l.p l.counter l.initial.rows l.rows l.at }
