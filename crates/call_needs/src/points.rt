@@ -128,7 +128,7 @@ fn victim_ask<B: Policy>(store: &Store<B>, b: u32) -> Option<Point>
 {
     let f = candidate_for(store, b)?;
     let owner = store.owner(f);
-    let frames = store.owned_rows(owner).as_slice().len() as u32;
+    let frames = store.owned_count(owner);
     Some(Point {
         installer: owner,
         point: 4,

@@ -40,7 +40,7 @@ fn is_vain<B: Policy>(store: &Store<B>, q: u8, pt: u8) -> bool
 {
     match pt {
         0..=3 => store.file(q, pt).is_none(),
-        4 => store.owned_rows(q).as_slice().is_empty(),
+        4 => store.owned_count(q) == 0,
         _ => false,
     }
 }

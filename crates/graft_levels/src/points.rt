@@ -76,7 +76,7 @@ pub fn args_of<B: Policy>(store: &Store<B>, q: u8, pt: u8) -> [u32; 4]
             [start, count, blocks, u32::from(pt)]
         }
         4 => {
-            let frames = store.owned_rows(q).as_slice().len() as u32;
+            let frames = store.owned_count(q);
             [victim(store, q), 0, frames, 0]
         }
         5 => {
