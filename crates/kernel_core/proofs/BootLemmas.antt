@@ -1,6 +1,6 @@
 -- What a boot leaves, whether block 0 was read or not.
 use Rattle.std.proofs.Common.{◌≡◌, ℕ, Bool, true, false, List, [], ◌∷◌, ◌++◌, length, ap, sym, ◌∙◌, subst, arith, Option}
-use Rattle.disk_log.specs.Calls.{Knows, Made, CallsExtend}
+use Rattle.disk_log.specs.Calls.{Knows, CallsExtend}
 use Rattle.disk_log.specs.Joined.{made_alone}
 use Rattle.vino_base.specs.Disks.{DiskSeen}
 use Rattle.kernel_model.specs.declared.FileRow.{FileRow}

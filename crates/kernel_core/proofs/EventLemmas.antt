@@ -27,19 +27,19 @@ use Rattle.placed_laws.specs.Placed.{Placed, PlacedCall, PlacedRun}
 use Rattle.placed_laws.specs.PlacedSteps.{placed_noted}
 use Rattle.placed_laws.specs.PlacedEvents.{placed_begun, placed_event_on, placed_last, placed_last_note, placed_step_event, placed_sys_event}
 use Rattle.placed_laws.specs.Stands.{StandsFor}
-use Rattle.kernel_steps.specs.declared.order.Waiting.{Waiting}
-use Rattle.kernel_steps.specs.declared.running.Running.{Running}
+use Rattle.running_kernel.specs.declared.order.Waiting.{Waiting}
+use Rattle.running_kernel.specs.declared.running.Running.{Running}
 use Rattle.kernel_steps.specs.Composing.{did_as}
 use Rattle.kernel_steps.specs.Kept.{kept_whole}
-use Rattle.kernel_steps.specs.Orders.{has_number, numbers_of, order_of}
+use Rattle.running_kernel.specs.Orders.{has_number, numbers_of, order_of}
 use Rattle.kernel_steps.specs.Begins.{Begun, CallBegins}
 use Rattle.kernel_core.specs.Starts.{Started, Starts}
 use Rattle.kernel_steps.specs.Moments.{moment}
-use Rattle.kernel_steps.specs.Sound.{RefinesAndKeeps}
+use Rattle.kernel_steps.specs.Runs.{RefinesAndKeeps}
 use Rattle.kernel_core.specs.EventParts.{RefinesFromRest}
 use Rattle.kernel_steps.specs.Faults.{fault_notes}
 use Rattle.kernel_steps.specs.Refines.{first_notes, Adds, Refines}
-use Rattle.kernel_steps.specs.Views.{placed_of, run_of, IsRunning, HasAbstraction}
+use Rattle.running_kernel.specs.Views.{placed_of, run_of, IsRunning, HasAbstraction}
 use Rattle.kernel_core.specs.EventRefines.{EventRefines}
 use Rattle.kernel_core.proofs.LastLemmas.{did_note}
 use Rattle.kernel_core.proofs.WentLemmas.{ordered_called}

@@ -1,5 +1,5 @@
 -- Where a call stands at the end of an event.
-use Rattle.std.proofs.Common.{◌≡◌, ℕ, Bool, true, false, List, [], ◌∷◌, ◌++◌, Option, Some, None, arith, refl, ap, sym, subst, ◌∙◌}
+use Rattle.std.proofs.Common.{◌≡◌, ℕ, Bool, true, false, List, [], ◌∷◌, Option, Some, None, arith, refl, ap, sym, subst, ◌∙◌}
 use Rattle.std.specs.Prelude.{option_map}
 use Rattle.kernel_model.specs.declared.Note.{Note}
 use Rattle.kernel_model.specs.declared.Note.TheVariants.{Waits}
@@ -12,13 +12,13 @@ use Rattle.placed_laws.specs.Placed.{Placed, PlacedCall, PlacedLevel, PlacedRun,
 use Rattle.placed_laws.specs.PlacedSteps.{placed_noted}
 use Rattle.placed_laws.specs.PlacedEvents.{placed_graft_note, placed_last, placed_last_note, placed_waits_note}
 use Rattle.kernel_steps.specs.Composing.{did_as, did_nothing, did_purely}
-use Rattle.kernel_steps.specs.Queries.{note_in_graft}
-use Rattle.kernel_steps.specs.Orders.{blocker_of}
-use Rattle.kernel_steps.specs.declared.order.Blocking.{Blocking}
+use Rattle.running_kernel.specs.Queries.{note_in_graft}
+use Rattle.running_kernel.specs.Orders.{blocker_of}
+use Rattle.running_kernel.specs.declared.order.Blocking.{Blocking}
 use Rattle.kernel_steps.specs.Moments.{moment}
 use Rattle.kernel_steps.specs.Faults.{fault_notes}
 use Rattle.kernel_steps.specs.Refines.{Adds, Refines}
-use Rattle.kernel_steps.specs.Views.{run_of}
+use Rattle.running_kernel.specs.Views.{run_of}
 
 -- a note was said
 pub did_note : (x : Placed) (note : Note) (kept kept_new : List Note) (d : DiskSeen) → Adds (note ∷ []) kept kept_new → fault_notes (note ∷ []) ≡ 0 → Refines (placed_noted note) (moment x kept d) (moment x kept_new d)

@@ -16,14 +16,14 @@ use Rattle.placed_laws.specs.PlacedSteps.{placed_joins, placed_step}
 use Rattle.placed_laws.specs.PlacedEvents.{placed_settled}
 use Rattle.placed_laws.specs.Resting.{KeepsHolds, Resting}
 use Rattle.placed_laws.specs.Stands.{StandsFor, RunStandsFor}
-use Rattle.kernel_steps.specs.declared.running.Running.{Running}
+use Rattle.running_kernel.specs.declared.running.Running.{Running}
 use Rattle.kernel_steps.specs.Composing.{faults_joined}
 use Rattle.kernel_steps.specs.Faults.{fault_notes}
 use Rattle.kernel_steps.specs.Moments.{moment}
-use Rattle.kernel_steps.specs.Sound.{KeepsRunning, RefinesAndKeeps}
+use Rattle.kernel_steps.specs.Runs.{KeepsRunning, RefinesAndKeeps}
 use Rattle.kernel_core.specs.EventParts.{taken_up, RefinesFromRest, RefinesToRest, Rests}
 use Rattle.kernel_steps.specs.Refines.{Refines, RunMatches}
-use Rattle.kernel_steps.specs.Views.{run_of}
+use Rattle.running_kernel.specs.Views.{run_of}
 
 -- ---- what always holds
 

@@ -1,5 +1,5 @@
 -- Steps until all calls are blocked.
-use Rattle.std.proofs.Common.{◌≡◌, ℕ, zero, suc, ◌<◌, Bool, true, List, [], ◌∷◌, Option, Some, None, arith, refl, ap, sym, ◌∙◌}
+use Rattle.std.proofs.Common.{◌≡◌, ℕ, zero, suc, ◌<◌, Bool, true, List, [], ◌∷◌, Option, Some, None, arith, refl, ap, subst, sym, ◌∙◌}
 use Rattle.std.specs.Prelude.{Contains, is_some}
 use Rattle.kernel_model.specs.declared.Note.{Note}
 use Rattle.kernel_model.specs.World.{Blocks}
@@ -10,7 +10,11 @@ use Rattle.placed_laws.specs.Agreeing.{SameShown}
 use Rattle.placed_laws.specs.Placed.{Placed, PlacedRun, placed_blocker, placed_blocker_in, placed_holds}
 use Rattle.placed_laws.specs.PlacedSteps.{placed_first_free, placed_first_free_in, placed_step}
 use Rattle.placed_laws.specs.PlacedEvents.{placed_rested, placed_settle}
-use Rattle.kernel_steps.specs.Views.{run_of, HasAbstraction}
+use Rattle.vino_base.specs.Disks.{DiskSeen}
+use Rattle.running_kernel.specs.declared.running.Running.{Running}
+use Rattle.kernel_steps.specs.Moments.{moment}
+use Rattle.kernel_steps.specs.Runs.{CanRun, RefinesAndKeeps}
+use Rattle.running_kernel.specs.Views.{placed_of, call_at, run_of, IsRunning, HasAbstraction}
 use Rattle.kernel_core.proofs.WentLemmas.{called_small, ordered_called}
 
 -- ---- the first that nothing blocks
@@ -70,3 +74,24 @@ pub settle_free : (m : Meaning) (n k : ℕ) (x : Placed) (p : ℕ) → n ≡ suc
 settle_free m n k x p is h blocks notes io =
     ap (λ j. placed_settle m j (run_of x blocks notes io)) is
     ∙ ap (λ o. elim o as (λ _. PlacedRun) [ None ↦ placed_rested m (run_of x blocks notes io) | Some q ↦ placed_settle m k (placed_step m q (run_of x blocks notes io)) ]) h
+
+-- ---- where nothing changed
+
+-- a call of what it was before can run
+pub can_run : {C B M : Type 0} {P : _} (m : Meaning) (x y : Running C B M P) (seen : DiskSeen) (p : ℕ) → y ≡ x → p < 16 → IsRunning x → HasAbstraction m (placed_of x) → x.store.size ≡ seen.size →
+    CanRun m y seen p
+can_run m x y seen p same small running stands disk =
+    subst (λ z. CanRun m z seen p) (sym same) (record { process = small; running = running; abstraction = stands; disk = disk })
+
+-- it has a call
+pub called_still : {C B M : Type 0} {P : _} (x y : Running C B M P) (p : ℕ) → y ≡ x → is_some (call_at x p) ≡ true → is_some (call_at y p) ≡ true
+called_still x y p same h = subst (λ z. is_some (call_at z p) ≡ true) (sym same) h
+
+-- nothing blocks it
+pub unblocked_still : {C B M : Type 0} {P : _} (m : Meaning) (x y : Running C B M P) (p : ℕ) → y ≡ x → placed_blocker m (placed_of x) p ≡ None → placed_blocker m (placed_of y) p ≡ None
+unblocked_still m x y p same h = subst (λ z. placed_blocker m (placed_of z) p ≡ None) (sym same) h
+
+-- what follows from it follows from what it was before
+pub went_from : {C B M : Type 0} {P : _} (m : Meaning) (f : PlacedRun → PlacedRun) (x y z : Running C B M P) (kept kept_new : List Note) (d e : DiskSeen) → y ≡ x →
+    RefinesAndKeeps m f (moment y kept d) (moment z kept_new e) → RefinesAndKeeps m f (moment x kept d) (moment z kept_new e)
+went_from m f x y z kept kept_new d e same h = subst (λ v. RefinesAndKeeps m f (moment v kept d) (moment z kept_new e)) same h

@@ -1,8 +1,8 @@
 -- Instructions of a call, one after the other.
 use Rattle.std.proofs.Common.{append_assoc, ◌≡◌, ℕ, zero, suc, ◌+◌, ◌-◌, ◌≤◌, ◌<◌, ◌&&◌, Bool, true, false, cond, not, nat_lt, List, [], ◌++◌, Option, Some, None, arith, refl, ap, sym, subst, ◌∙◌}
 use Rattle.std.specs.Prelude.{is_some, option_map}
-use Rattle.kernel_steps.specs.declared.order.Blocking.{Blocking}
-use Rattle.kernel_steps.specs.Orders.{blocker_of}
+use Rattle.running_kernel.specs.declared.order.Blocking.{Blocking}
+use Rattle.running_kernel.specs.Orders.{blocker_of}
 use Rattle.std.proofs.lemmas.Bool.Decides.{nat_tests}
 use Rattle.kernel_model.specs.declared.Note.{Note}
 use Rattle.kernel_model.specs.declared.Note.TheVariants.{Ran}
@@ -22,7 +22,7 @@ use Rattle.kernel_steps.specs.Faults.{fault_notes}
 use Rattle.kernel_steps.specs.Moments.{moment}
 use Rattle.kernel_core.specs.EventParts.{steps_left, steps_said, taken_up, takes_up, HasReached, Leads, RefinesFromRest, RefinesToRest, Rests}
 use Rattle.kernel_steps.specs.Refines.{Refines, RunMatches}
-use Rattle.kernel_steps.specs.Views.{run_of}
+use Rattle.running_kernel.specs.Views.{run_of}
 
 -- ---- what is left of a change
 

@@ -13,7 +13,7 @@ use Rattle.placed_laws.specs.Agreeing.{SameShown}
 use Rattle.placed_laws.specs.Placed.{Placed, PlacedCall, PlacedLevel, PlacedRun}
 use Rattle.placed_laws.specs.PlacedSteps.{placed_drop, placed_noted, placed_requeue, with_placed_call}
 use Rattle.placed_laws.specs.PlacedEvents.{expired_by, is_over_by, placed_actions, placed_drop_if, placed_entry_action, placed_settled, placed_waiter, placed_waiter_by}
-use Rattle.kernel_steps.specs.Views.{run_of, HasAbstraction}
+use Rattle.running_kernel.specs.Views.{run_of, HasAbstraction}
 use Rattle.kernel_core.proofs.WentLemmas.{called_small, ordered_called}
 
 -- ---- who has waited too long

@@ -12,14 +12,14 @@ use Rattle.kernel_model.specs.Levels.{Level}
 use Rattle.placed_laws.specs.Agreeing.{SameShown}
 use Rattle.placed_laws.specs.Placed.{Placed, PlacedRun, bare, has_some}
 use Rattle.placed_laws.specs.Stands.{StandsFor, RunStandsFor, without_history}
-use Rattle.kernel_steps.specs.declared.running.Running.{Running}
+use Rattle.running_kernel.specs.declared.running.Running.{Running}
 use Rattle.kernel_steps.specs.Composing.{adds_none, did_as, did_nothing, did_purely, did_then}
-use Rattle.kernel_steps.specs.WholeBlocks.{some_blocks, blocks_are_whole}
+use Rattle.running_kernel.specs.WholeBlocks.{some_blocks, blocks_are_whole}
 use Rattle.kernel_steps.specs.Moments.{moment, Moment}
-use Rattle.kernel_steps.specs.Sound.{IsSoundOn, RefinesAndKeeps}
+use Rattle.kernel_steps.specs.Runs.{IsSoundOn, RefinesAndKeeps}
 use Rattle.kernel_steps.specs.Faults.{fault_notes}
 use Rattle.kernel_steps.specs.Refines.{Adds}
-use Rattle.kernel_steps.specs.Views.{placed_of, run_of, IsRunning, HasAbstraction}
+use Rattle.running_kernel.specs.Views.{placed_of, run_of, IsRunning, HasAbstraction}
 
 -- ---- a kernel goes on to stand
 

@@ -13,12 +13,12 @@ use Rattle.placed_laws.specs.Placed.{Placed, PlacedRun, has_some, placed_blocker
 use Rattle.placed_laws.specs.Stands.{StandsFor}
 use Rattle.placed_laws.specs.PlacedSteps.{placed_joins, placed_noted, placed_step}
 use Rattle.placed_laws.specs.PlacedEvents.{placed_settled, placed_steps}
-use Rattle.kernel_steps.specs.declared.running.Running.{Running}
+use Rattle.running_kernel.specs.declared.running.Running.{Running}
 use Rattle.kernel_steps.specs.Faults.{fault_notes}
 use Rattle.kernel_steps.specs.Moments.{moment, Moment}
-use Rattle.kernel_steps.specs.Sound.{KeepsRunning}
+use Rattle.kernel_steps.specs.Runs.{KeepsRunning}
 use Rattle.kernel_steps.specs.Refines.{first_notes, Refines, RunMatches}
-use Rattle.kernel_steps.specs.Views.{placed_of, run_of, IsRunning, HasAbstraction}
+use Rattle.running_kernel.specs.Views.{placed_of, run_of, IsRunning, HasAbstraction}
 
 -- A change of an event under way was made with which the clock rises by one, and left a sound
 -- kernel. The set-up stays.

@@ -11,9 +11,9 @@ use Rattle.kernel_model.specs.Events.{event}
 use Rattle.kernel_model.specs.Sound.{IsAtRest}
 use Rattle.placed_laws.specs.Placed.{Placed}
 use Rattle.placed_laws.specs.Stands.{StandsFor}
-use Rattle.kernel_steps.specs.declared.running.Running.{Running}
+use Rattle.running_kernel.specs.declared.running.Running.{Running}
 use Rattle.kernel_steps.specs.Faults.{fault_notes}
-use Rattle.kernel_steps.specs.Views.{placed_of, IsRunning, HasAbstraction}
+use Rattle.running_kernel.specs.Views.{placed_of, IsRunning, HasAbstraction}
 
 -- A kernel runs, stands for some abstract kernel, and had at most so many ticks.
 pub record IsKernel {C B M : Type 0} {P : _} (m : Meaning) (most : ℕ) (x : Running C B M P) :

@@ -14,8 +14,8 @@ use Rattle.kernel_state.specs.Stores.{views_of}
 use Rattle.kernel_state.specs.Sound.{world_for}
 use Rattle.placed_laws.specs.Placed.{Placed}
 use Rattle.placed_laws.specs.Stands.{StandsFor}
-use Rattle.kernel_steps.specs.declared.running.Running.{Running}
-use Rattle.kernel_steps.specs.Views.{IsRunning, IsQuiet}
+use Rattle.running_kernel.specs.declared.running.Running.{Running}
+use Rattle.running_kernel.specs.Views.{IsRunning, IsQuiet}
 use Rattle.kernel_core.specs.declared.kernel.BootNote.{BootNote}
 use Rattle.kernel_core.specs.declared.kernel.BootNote.TheVariants.{Up, Fault}
 

@@ -9,10 +9,10 @@ use Rattle.kernel_state.specs.Stores.{world_of_store}
 use Rattle.graft_loader.specs.Slots.{table_of}
 use Rattle.placed_laws.specs.Keeping.{first_placed}
 use Rattle.placed_laws.specs.PlacedSteps.{placed_joins, with_placed_call}
-use Rattle.kernel_steps.specs.declared.running.Running.{Running}
+use Rattle.running_kernel.specs.declared.running.Running.{Running}
 use Rattle.kernel_steps.specs.Begins.{NotBegun}
 use Rattle.kernel_steps.specs.Moments.{moment}
-use Rattle.kernel_steps.specs.Sound.{RefinesAndKeeps}
+use Rattle.kernel_steps.specs.Runs.{RefinesAndKeeps}
 
 -- A call of p was granted, and joined the order.
 pub record Started {C B M : Type 0} {P : _} (m : Meaning) (p number : ℕ) (call : SysCall)

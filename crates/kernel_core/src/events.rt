@@ -7,9 +7,10 @@ ghost use Rattle.kernel_model.specs.Policies.{lives};
 ghost use Rattle.kernel_state.specs.Stores.{world_of_store, queue_of};
 ghost use Rattle.placed_laws.specs.PlacedEvents.{placed_event_on, placed_last, placed_settled};
 ghost use Rattle.kernel_steps.specs.Moments.{moment};
-ghost use Rattle.kernel_steps.specs.Sound.{CanRun, IsSoundFor, IsSoundOn, RefinesAndKeeps};
+ghost use Rattle.running_kernel.specs.Sound.{IsSoundFor};
+ghost use Rattle.kernel_steps.specs.Runs.{CanRun, IsSoundOn, RefinesAndKeeps};
 ghost use Rattle.kernel_core.specs.EventParts.{RunsFromRest};
-ghost use Rattle.kernel_steps.specs.Views.{placed_of};
+ghost use Rattle.running_kernel.specs.Views.{placed_of};
 ghost use Rattle.kernel_core.specs.EventRefines.{EventRefines, IsKernel};
 ghost use Rattle.kernel_core.specs.Starts.{Starts};
 
@@ -22,8 +23,9 @@ use call_pieces::Calls;
 use graft_points::Policy;
 use history_laws::notes as few_notes;
 use kernel_model::{BLOCK_BYTES, BareEvent, BareNote, Refusal};
-use kernel_steps::{Request, Running, Trace};
+use kernel_steps::{Request, Trace};
 use placed_laws::{agreeing, keeping};
+use running_kernel::Running;
 use vino_base::Disk;
 
 /// The most instructions of one event.
@@ -45,7 +47,7 @@ fn begin<C: Calls, B: Policy>(
 {
     agreeing::same_shown::<C::Meaning>();
     keeping::others_stand::<C::Meaning>();
-    running.begin(p, request)
+    kernel_steps::begin(running, p, request)
 }
 
 /// A call of process p that has begun, as far as it comes at its event.

@@ -7,7 +7,7 @@ ghost use Rattle.kernel_model.specs.Kernel.{Kernel as Abstract};
 ghost use Rattle.kernel_model.specs.Sound.{IsAtRest};
 ghost use Rattle.graft_loader.specs.declared.LoadFault.TheVariants.{NoMemory};
 ghost use Rattle.placed_laws.specs.Stands.{StandsFor};
-ghost use Rattle.kernel_steps.specs.Views.{placed_of, IsRunning, HasAbstraction};
+ghost use Rattle.running_kernel.specs.Views.{placed_of, IsRunning, HasAbstraction};
 ghost use Rattle.kernel_core.specs.declared.images.ImageRefusal.TheVariants.{Unloaded};
 ghost use Rattle.kernel_core.specs.AddedImages.{slot_refused, has_memory, refusal_said, image_said, ImageIsAdded};
 

@@ -5,14 +5,15 @@ ghost use Rattle.vino_base.specs.Disks.{DiskSeen};
 ghost use Rattle.placed_laws.specs.PlacedEvents.{placed_last, placed_waits_note};
 ghost use Rattle.placed_laws.specs.Placed.{placed_blocker};
 ghost use Rattle.kernel_steps.specs.Moments.{moment};
-ghost use Rattle.kernel_steps.specs.Sound.{IsSoundFor};
+ghost use Rattle.running_kernel.specs.Sound.{IsSoundFor};
 ghost use Rattle.kernel_steps.specs.Refines.{Refines};
-ghost use Rattle.kernel_steps.specs.Views.{placed_of};
+ghost use Rattle.running_kernel.specs.Views.{placed_of};
 
 use call_pieces::Calls;
 use graft_points::Policy;
 use kernel_model::BareNote;
-use kernel_steps::{Notes, Running};
+use kernel_steps::Notes;
+use running_kernel::Running;
 
 /// Says for what process p's call of this number waits, if something blocks it.
 fn say_wait<C: Calls, B: Policy>(running: &Running<C, B>, p: u8, number: u32, notes: &mut Notes)

@@ -2,9 +2,9 @@
 
 ghost use Rattle.std.specs.Prelude.{◌≡◌, ◌<◌, option_map};
 ghost use Rattle.placed_laws.specs.Placed.{PlacedLevel};
-ghost use Rattle.kernel_steps.specs.Looking.{innermost_level};
-ghost use Rattle.kernel_steps.specs.Sound.{HasProcess};
-ghost use Rattle.kernel_steps.specs.Views.{placed_of};
+ghost use Rattle.running_kernel.specs.Looking.{innermost_level};
+ghost use Rattle.running_kernel.specs.Sound.{HasProcess};
+ghost use Rattle.running_kernel.specs.Views.{placed_of};
 
 use crate::kernel::Kernel;
 use call_pieces::Calls;

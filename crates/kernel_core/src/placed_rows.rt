@@ -3,14 +3,14 @@
 ghost use Rattle.std.specs.Prelude.{◌≡◌, if◌then◌else◌, ◌-◌, ◌^◌, ◌<◌, ◌≤◌, ◌+◌, None, Some, IfSome, length, slice_get};
 ghost use Rattle.placed_laws.specs.Placed.{Placed};
 ghost use Rattle.placed_laws.specs.PlacedRows.{placed_rows};
-ghost use Rattle.kernel_steps.specs.Views.{placed_of, IsRunning};
+ghost use Rattle.running_kernel.specs.Views.{placed_of, IsRunning};
 ghost use Rattle.kernel_core.specs.declared.placed_rows.Section.TheVariants.{Files, Grafts};
 ghost use Rattle.kernel_core.specs.PlacedSections.{most_at, most_left, places, row_found, row_if_found, row_passed, rows_at, rows_left, sections, IsPassed, IsRow, TakesRow};
 
 use call_pieces::Calls;
 use graft_points::Policy;
 use kernel_model::RawRow;
-use kernel_steps::Running;
+use running_kernel::Running;
 
 /// A section of the rows.
 #[derive(Clone, Copy)]

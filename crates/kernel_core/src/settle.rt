@@ -1,16 +1,20 @@
 //! Steps until all calls are blocked.
 
-ghost use Rattle.std.specs.Prelude.{List};
+ghost use Rattle.std.specs.Prelude.{◌≡◌, List, IfSome, IfNone};
 ghost use Rattle.vino_base.specs.Disks.{DiskSeen};
 ghost use Rattle.kernel_model.specs.declared.Note.{Note as Told};
+ghost use Rattle.placed_laws.specs.PlacedSteps.{placed_first_free};
 ghost use Rattle.placed_laws.specs.PlacedEvents.{placed_rested, placed_settle, placed_settled};
 ghost use Rattle.kernel_steps.specs.Moments.{moment};
-ghost use Rattle.kernel_steps.specs.Sound.{IsSound, IsSoundOn, RefinesAndKeeps};
+ghost use Rattle.running_kernel.specs.Sound.{IsSound};
+ghost use Rattle.running_kernel.specs.Views.{placed_of};
+ghost use Rattle.kernel_steps.specs.Runs.{IsSoundOn, RefinesAndKeeps};
 
 use call_pieces::Calls;
 use graft_points::Policy;
-use kernel_steps::{Running, Trace};
+use kernel_steps::{Trace, step};
 use placed_laws::{agreeing, keeping};
+use running_kernel::Running;
 use vino_base::Disk;
 
 /// The most steps that can be taken (`kernel_laws::rest`).
@@ -25,6 +29,24 @@ fn rest<C: Calls, B: Policy>(running: &mut Running<C, B>)
 {
     keeping::others_stand::<C::Meaning>();
     running.rest();
+}
+
+/// The process of the first call in the order that nothing blocks. Where there is none, the order
+/// is told its blockers.
+fn next_or_rest<C: Calls, B: Policy>(running: &mut Running<C, B>) -> Option<u8>
+    requires { IsSound C.Meaning.meaning running.old }
+    ensures next { let x = placed_of running.old in
+        result ≡ placed_first_free C.Meaning.meaning x x.order }
+    ensures kept { IfSome result (λ _. running.new ≡ running.old) }
+    ensures went { IfNone result ((kept : List Told) (d : DiskSeen) →
+        RefinesAndKeeps C.Meaning.meaning (placed_rested C.Meaning.meaning)
+        (moment running.old kept d) (moment running.new kept d)) }
+{
+    keeping::others_stand::<C::Meaning>();
+    match running.next_or_rest() {
+        Some(p) => Some(p),
+        None => None,
+    }
 }
 
 /// At most so many steps, each of the first call in the order that nothing blocks, and then rest.
@@ -43,10 +65,10 @@ fn settle<C: Calls, B: Policy, D: Disk>(
     if turns == 0 {
         return rest(running);
     }
-    let Some(p) = running.first_free() else {
-        return rest(running);
+    let Some(p) = next_or_rest(running) else {
+        return;
     };
-    running.step(p, disk, trace);
+    step(running, p, disk, trace);
     settle(running, turns - 1, disk, trace);
 }
 

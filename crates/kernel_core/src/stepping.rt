@@ -8,9 +8,10 @@ ghost use Rattle.placed_laws.specs.Placed.{has_some, placed_blocker};
 ghost use Rattle.placed_laws.specs.PlacedSteps.{placed_joins};
 ghost use Rattle.placed_laws.specs.PlacedEvents.{placed_step_event};
 ghost use Rattle.kernel_steps.specs.Moments.{moment};
-ghost use Rattle.kernel_steps.specs.Sound.{CanRun, IsSoundFor, RefinesAndKeeps};
+ghost use Rattle.running_kernel.specs.Sound.{IsSoundFor};
+ghost use Rattle.kernel_steps.specs.Runs.{CanRun, RefinesAndKeeps};
 ghost use Rattle.kernel_core.specs.EventParts.{steps_said, taken_up, takes_up, RunsFromRest, RunsToRest};
-ghost use Rattle.kernel_steps.specs.Views.{placed_of};
+ghost use Rattle.running_kernel.specs.Views.{placed_of};
 
 use crate::last::say_last;
 use crate::settle::settle_all;
@@ -18,8 +19,9 @@ use crate::stretch::stretch;
 use call_pieces::Calls;
 use graft_points::Policy;
 use kernel_model::BareNote;
-use kernel_steps::{Running, Trace};
+use kernel_steps::{Trace, step_in_graft};
 use placed_laws::{agreeing, keeping, resting};
+use running_kernel::Running;
 use vino_base::Disk;
 
 /// Process p's call, which is in a graft, blocked, and not in the order, joins it.
@@ -33,7 +35,7 @@ fn join<C: Calls, B: Policy>(running: &mut Running<C, B>, p: u8)
         (moment running.old kept d) (moment running.new kept d) }
 {
     keeping::others_stand::<C::Meaning>();
-    running.join(p);
+    kernel_steps::join(running, p);
 }
 
 /// Takes up an instruction of process p's call, and all steps that can be taken then: none where
@@ -67,7 +69,7 @@ fn take_up<C: Calls, B: Policy, D: Disk>(
         settle_all(running, disk, trace);
         return false;
     }
-    if running.step_in_graft(p, needs.as_slice(), disk, trace) {
+    if step_in_graft(running, p, needs.as_slice(), disk, trace) {
         return true;
     }
     settle_all(running, disk, trace);

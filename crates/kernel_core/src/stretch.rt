@@ -1,14 +1,15 @@
 //! Stretches: instructions of a call that leave no step to take, one after another.
 
 ghost use Rattle.std.specs.Prelude.{◌<◌, ◌≤◌};
-ghost use Rattle.kernel_steps.specs.Sound.{IsSoundFor, KeepsRunning};
+ghost use Rattle.running_kernel.specs.Sound.{IsSoundFor};
+ghost use Rattle.kernel_steps.specs.Runs.{KeepsRunning};
 ghost use Rattle.kernel_core.specs.EventParts.{Leads};
-ghost use Rattle.kernel_steps.specs.Views.{placed_of};
+ghost use Rattle.running_kernel.specs.Views.{placed_of};
 
 use call_pieces::Calls;
 use graft_points::Policy;
-use kernel_steps::Running;
 use placed_laws::{agreeing, stretching};
+use running_kernel::Running;
 
 /// A stretch of process p's call, where it is in a graft and doesn't wait: at most n quiet
 /// instructions, which each go on and call nothing, or only read an object that their level holds
@@ -28,5 +29,5 @@ pub(crate) fn stretch<C: Calls, B: Policy>(running: &mut Running<C, B>, p: u8, n
     if running.waits(p) {
         return 0;
     }
-    running.stretch(p, n)
+    kernel_steps::stretch(running, p, n)
 }

@@ -6,18 +6,20 @@ ghost use Rattle.vino_base.specs.Disks.{DiskSeen};
 ghost use Rattle.kernel_model.specs.declared.Note.TheVariants.{Refused};
 ghost use Rattle.placed_laws.specs.PlacedSteps.{placed_noted, placed_requeue, placed_ticked, with_placed_call};
 ghost use Rattle.placed_laws.specs.PlacedEvents.{placed_actions, placed_entry_action, placed_holder, placed_tick_event, placed_waiter};
-ghost use Rattle.kernel_steps.specs.Orders.{blocker_of, entry_of};
+ghost use Rattle.running_kernel.specs.Orders.{blocker_of, entry_of};
 ghost use Rattle.kernel_steps.specs.Moments.{moment};
-ghost use Rattle.kernel_steps.specs.Sound.{CanRun, IsSound, IsSoundFor, IsSoundOn, RefinesAndKeeps};
+ghost use Rattle.running_kernel.specs.Sound.{IsSound, IsSoundFor};
+ghost use Rattle.kernel_steps.specs.Runs.{CanRun, IsSoundOn, RefinesAndKeeps};
 ghost use Rattle.kernel_core.specs.EventParts.{RefinesAndTicks};
-ghost use Rattle.kernel_steps.specs.Views.{placed_of};
+ghost use Rattle.running_kernel.specs.Views.{placed_of};
 
 use crate::settle::settle_all;
 use call_pieces::Calls;
 use graft_points::Policy;
 use kernel_model::{BareNote, Cause, Refusal};
-use kernel_steps::{Blocking, Notes, Running, Trace, Waiting};
+use kernel_steps::{Notes, Trace, drop_level, end, tick};
 use placed_laws::{agreeing, keeping};
+use running_kernel::{Blocking, Running, Waiting};
 use vino_base::Disk;
 
 /// The most actions of a tick (`history_laws::ticks`).
@@ -41,7 +43,7 @@ fn refuse<C: Calls, B: Policy>(
         (moment running.old notes.old d) (moment running.new notes.new d) }
 {
     keeping::others_stand::<C::Meaning>();
-    running.end(p, BareNote::Refused(number, why), notes);
+    end(running, p, BareNote::Refused(number, why), notes);
 }
 
 /// Process p has waited too long for a user lock: its innermost level is dropped, or its call ends.
@@ -67,7 +69,7 @@ fn time_out_waiter<C: Calls, B: Policy, D: Disk>(
         return refuse(running, p, number, why, &mut trace.notes);
     }
     let cause = Cause::TimeOut(found.object, found.holder);
-    running.drop_level(p, count - 1, cause, disk, trace);
+    drop_level(running, p, count - 1, cause, disk, trace);
 }
 
 /// A call has been in process p's way for too long: it loses the outermost level whose hold
@@ -89,7 +91,7 @@ fn time_out_holder<C: Calls, B: Policy, D: Disk>(
         return;
     };
     let cause = Cause::TimeOut(found.object, p);
-    running.drop_level(found.holder, level, cause, disk, trace);
+    drop_level(running, found.holder, level, cause, disk, trace);
 }
 
 /// The action for an entry that has waited too long.
@@ -148,7 +150,7 @@ fn raise<C: Calls, B: Policy>(running: &mut Running<C, B>, number: u32, notes: &
         (moment running.old notes.old d) (moment running.new notes.new d) }
 {
     keeping::others_stand::<C::Meaning>();
-    running.tick(number, notes);
+    tick(running, number, notes);
 }
 
 /// A tick: the clock and the counts rise, and calls that have waited too long time out.

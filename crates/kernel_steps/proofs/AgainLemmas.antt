@@ -27,16 +27,16 @@ use Rattle.graft_levels.specs.Chains.{put_back, level_in, levels_in, outer, call
 use Rattle.graft_levels.specs.Calls.{AreSound, IsPlaced, AreInside, AllUndoable}
 use Rattle.placed_laws.specs.Placed.{Placed}
 use Rattle.placed_laws.specs.Soundness.{SoundInPlace}
-use Rattle.kernel_steps.specs.declared.running.InFlight.{InFlight}
-use Rattle.kernel_steps.specs.declared.running.Running.{Running}
-use Rattle.kernel_steps.specs.Orders.{order_of, counts_within, are_processes, are_once, numbers_of}
-use Rattle.kernel_steps.specs.Views.{placed_of, flight_of, chain_of, run_of, IsRunning, HasAbstraction}
-use Rattle.kernel_steps.specs.WholeBlocks.{some_blocks, blocks_are_whole}
+use Rattle.running_kernel.specs.declared.running.InFlight.{InFlight}
+use Rattle.running_kernel.specs.declared.running.Running.{Running}
+use Rattle.running_kernel.specs.Orders.{order_of, counts_within, are_processes, are_once, numbers_of}
+use Rattle.running_kernel.specs.Views.{placed_of, flight_of, chain_of, run_of, IsRunning, HasAbstraction}
+use Rattle.running_kernel.specs.WholeBlocks.{some_blocks, blocks_are_whole}
 use Rattle.kernel_steps.specs.Moves.{StaysInPlace, HeldStays}
-use Rattle.kernel_steps.specs.Owned.{AreOwned}
+use Rattle.running_kernel.specs.Owned.{AreOwned}
 use Rattle.kernel_steps.specs.Steps.{Stepped}
-use Rattle.kernel_steps.proofs.ViewLemmas.{config_in_place}
-use Rattle.kernel_steps.proofs.HinderLemmas.{some_levels}
+use Rattle.running_kernel.proofs.ViewLemmas.{config_in_place}
+use Rattle.running_kernel.proofs.HinderLemmas.{some_levels}
 use Rattle.kernel_steps.proofs.StayLemmas.{all_still, inside_still, sound_still}
 
 -- ---- what levels hold

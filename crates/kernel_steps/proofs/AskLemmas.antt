@@ -19,12 +19,12 @@ use Rattle.placed_laws.specs.Placed.{PlacedCall}
 use Rattle.placed_laws.specs.PlacedSteps.{placed_call_step, placed_piece_at, placed_piece_step, placed_step_by, with_config}
 use Rattle.placed_laws.specs.Soundness.{ReadyInPlace}
 use Rattle.call_pieces.specs.Works.{stage_of}
-use Rattle.kernel_steps.specs.declared.running.InFlight.{InFlight}
-use Rattle.kernel_steps.specs.declared.running.Running.{Running}
+use Rattle.running_kernel.specs.declared.running.InFlight.{InFlight}
+use Rattle.running_kernel.specs.declared.running.Running.{Running}
 use Rattle.kernel_steps.specs.Moves.{come_to, Moved}
 use Rattle.kernel_steps.specs.Steps.{finishes, StepDone}
 use Rattle.kernel_steps.specs.Moments.{moment}
-use Rattle.kernel_steps.specs.Views.{placed_of, flight_of, chain_of, call_in_place, run_of, IsRunning, HasAbstraction}
+use Rattle.running_kernel.specs.Views.{placed_of, flight_of, chain_of, call_in_place, run_of, IsRunning, HasAbstraction}
 use Rattle.kernel_steps.proofs.PartLemmas.{levels_come, none_at}
 use Rattle.kernel_steps.proofs.StepLemmas.{alone_moved, done_as, moved_done, nothing_done, of_one}
 
@@ -56,6 +56,15 @@ module _ {C B M : Type 0} {P : _} (m : Meaning) (x : Running C B M P) (p : ℕ) 
       none_is : (g : Option GraftValue) → is_some g ≡ false → g ≡ None
       none_is None h = refl
       none_is (Some g) h = grind (arith, h)
+
+  -- no graft stands anywhere
+  pub asks_nowhere : ((q pt : ℕ) → (objects_of x.store).accounts.graft q pt ≡ None) → (blocks : Blocks) (notes : List Note) (io : List Bool) → let r = run_of (placed_of x) blocks notes io in
+      placed_call_step m p (Some c) r ≡ finishes m p c None r
+  asks_nowhere nowhere blocks notes io = by_value (m.asks (world_of_store x.store) (objects_of x.store) p c.stage) refl
+    where
+      by_value : (o : Option Point) → m.asks (world_of_store x.store) (objects_of x.store) p c.stage ≡ o → let r = run_of (placed_of x) blocks notes io in placed_call_step m p (Some c) r ≡ finishes m p c None r
+      by_value None asks = asks_none asks blocks notes io
+      by_value (Some a) asks = asks_there a None asks (nowhere a.installer a.point) blocks notes io
 
   -- a graft stands there
   pub asks_graft : (a : Point) → m.asks (world_of_store x.store) (objects_of x.store) p c.stage ≡ Some a → is_some ((objects_of x.store).accounts.graft a.installer a.point) ≡ true →

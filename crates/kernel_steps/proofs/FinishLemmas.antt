@@ -22,13 +22,13 @@ use Rattle.graft_levels.specs.Chains.{put_back, levels_in, levels_of, outer}
 use Rattle.vino_base.specs.Disks.{DiskSeen}
 use Rattle.placed_laws.specs.Placed.{Placed, PlacedCall, PlacedLevel, bare}
 use Rattle.placed_laws.specs.PlacedSteps.{placed_after, placed_finish}
-use Rattle.kernel_steps.specs.declared.running.InFlight.{InFlight}
-use Rattle.kernel_steps.specs.declared.running.Running.{Running}
-use Rattle.kernel_steps.specs.Orders.{order_of}
+use Rattle.running_kernel.specs.declared.running.InFlight.{InFlight}
+use Rattle.running_kernel.specs.declared.running.Running.{Running}
+use Rattle.running_kernel.specs.Orders.{order_of}
 use Rattle.kernel_steps.specs.Steps.{finishes}
 use Rattle.kernel_steps.specs.Moments.{moment}
 use Rattle.kernel_steps.specs.Refines.{PieceDone, PieceLeft, Reaches, Refines, RunMatches}
-use Rattle.kernel_steps.specs.Views.{placed_of, flight_of, chain_of, no_chain, levels_at, call_in_place, run_of}
+use Rattle.running_kernel.specs.Views.{placed_of, flight_of, chain_of, no_chain, levels_at, call_in_place, run_of}
 use Rattle.kernel_steps.proofs.CallLemmas.{with_call, calls_changed, chain_of_changed}
 use Rattle.kernel_steps.proofs.MoveLemmas.{bare_in}
 

@@ -1,10 +1,5 @@
-pub mod OrderLemmas
-pub mod ViewLemmas
 pub mod CallLemmas
 pub mod RunningLemmas
-pub mod StartLemmas
-pub mod HinderLemmas
-pub mod FreeLemmas
 pub mod MoveLemmas
 pub mod StayLemmas
 pub mod AgainLemmas
@@ -16,10 +11,6 @@ pub mod EndLemmas
 pub mod WholeLemmas
 pub mod PartLemmas
 pub mod AskLemmas
-pub mod QueryLemmas
-pub mod ShownLemmas
-pub mod OpeningLemmas
 pub mod StillLemmas
 pub mod StretchLemmas
 mod NotingLemmas
-pub mod SegmentLemmas

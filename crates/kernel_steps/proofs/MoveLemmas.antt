@@ -23,12 +23,12 @@ use Rattle.kernel_model.specs.declared.Micro.{Micro}
 use Rattle.graft_levels.specs.Chains.{put_back, came, levels_in, outer, levels_of, call_of, HasAnswer}
 use Rattle.graft_levels.specs.Calls.{IsBeyond, IsPlaced, AreInside, IsInPlace, IsElsewhereSame}
 use Rattle.placed_laws.specs.Placed.{PlacedCall, PlacedLevel, bare, placed_config, placed_levels}
-use Rattle.kernel_steps.specs.declared.running.Flight.{Flight}
-use Rattle.kernel_steps.specs.declared.running.Running.{Running}
-use Rattle.kernel_steps.specs.Orders.{order_of}
-use Rattle.kernel_steps.specs.Views.{placed_of, flight_of, no_flight, chain_of, levels_at, call_in_place, IsRunning}
+use Rattle.running_kernel.specs.declared.running.Flight.{Flight}
+use Rattle.running_kernel.specs.declared.running.Running.{Running}
+use Rattle.running_kernel.specs.Orders.{order_of}
+use Rattle.running_kernel.specs.Views.{placed_of, flight_of, no_flight, chain_of, levels_at, call_in_place, IsRunning}
 use Rattle.kernel_steps.specs.Moves.{come_to, Moved}
-use Rattle.kernel_steps.proofs.ViewLemmas.{config_in_place}
+use Rattle.running_kernel.proofs.ViewLemmas.{config_in_place}
 
 -- ---- the memory of other processes' levels
 

@@ -3,8 +3,8 @@ use Rattle.std.proofs.Common.{◌≡◌, ℕ, suc, ◌≤◌, ◌<◌, ◌==◌,
 use Rattle.std.specs.List.{list_any, IsDistinct, AllByRecursion}
 use Rattle.std.proofs.lemmas.Bool.Decides.{nat_tests}
 use Rattle.std.proofs.lemmas.Map.Steps.{length-le_from_distinct_below}
-use Rattle.kernel_steps.specs.declared.order.Waiting.{Waiting}
-use Rattle.kernel_steps.specs.Orders.{are_processes, joined, later, numbers_of, has_number, are_once}
+use Rattle.running_kernel.specs.declared.order.Waiting.{Waiting}
+use Rattle.running_kernel.specs.Orders.{are_processes, joined, later, numbers_of, has_number, are_once}
 
 -- ---- room
 

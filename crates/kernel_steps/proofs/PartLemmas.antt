@@ -18,15 +18,15 @@ use Rattle.placed_laws.specs.Owners.{AreOfOwner, OwnersStay}
 use Rattle.placed_laws.specs.Placed.{Placed, PlacedCall, PlacedLevel, PlacedRun, bare, has_some, placed_config, placed_levels}
 use Rattle.placed_laws.specs.PlacedSteps.{placed_call_step, placed_outcome, placed_step_by, with_config}
 use Rattle.placed_laws.specs.Soundness.{ReadyInPlace}
-use Rattle.kernel_steps.specs.declared.running.InFlight.{InFlight}
-use Rattle.kernel_steps.specs.declared.running.Running.{Running}
+use Rattle.running_kernel.specs.declared.running.InFlight.{InFlight}
+use Rattle.running_kernel.specs.declared.running.Running.{Running}
 use Rattle.kernel_steps.specs.Moves.{come_to, Moved}
 use Rattle.kernel_steps.specs.Steps.{after_said, answer_said, IsOfOne, StepsAlone, StepDone}
 use Rattle.kernel_steps.specs.Moments.{moment}
-use Rattle.kernel_steps.specs.Views.{placed_of, flight_of, chain_of, levels_at, call_at, call_in_place, run_of, IsRunning, HasAbstraction}
+use Rattle.running_kernel.specs.Views.{placed_of, flight_of, chain_of, levels_at, call_at, call_in_place, run_of, IsRunning, HasAbstraction}
 use Rattle.kernel_steps.proofs.EndLemmas.{micro_ends, drop_ends, drop_answer, drop_has_answer, same_inner}
-use Rattle.kernel_steps.proofs.HinderLemmas.{some_levels}
-use Rattle.kernel_steps.proofs.ViewLemmas.{as_many, config_in_place}
+use Rattle.running_kernel.proofs.HinderLemmas.{some_levels}
+use Rattle.running_kernel.proofs.ViewLemmas.{as_many, config_in_place}
 use Rattle.kernel_steps.proofs.StepLemmas.{EndsAs, alone_moved, done_as, ends_bare, moved_done, none_of_bare, of_one, outcome_behind, owner_of, same_place}
 
 -- ---- a move to a config

@@ -1,5 +1,5 @@
 -- What a piece of a call in flight comes to.
-use Rattle.std.proofs.Common.{arith, ◌≡◌, ℕ, ◌+◌, ◌≤◌, Bool, true, false, List, [], ◌∷◌, ◌++◌, Option, Some, None, length, ap, refl, sym, subst, ◌∙◌}
+use Rattle.std.proofs.Common.{arith, ◌≡◌, ℕ, ◌+◌, ◌≤◌, Bool, true, false, List, [], ◌∷◌, ◌++◌, Option, Some, None, length, ap, refl, subst, ◌∙◌}
 use Rattle.kernel_model.specs.declared.Note.{Note}
 use Rattle.kernel_model.specs.World.{World, ImageTable, Blocks}
 use Rattle.kernel_model.specs.Objects.{Objects}
@@ -17,11 +17,11 @@ use Rattle.placed_laws.specs.PlacedSteps.{placed_after}
 use Rattle.call_pieces.specs.declared.Next.{Next}
 use Rattle.call_pieces.specs.Works.{stage_of}
 use Rattle.call_needs.specs.declared.Work.{Work}
-use Rattle.kernel_steps.specs.declared.running.InFlight.{InFlight}
+use Rattle.running_kernel.specs.declared.running.InFlight.{InFlight}
 use Rattle.kernel_steps.specs.Moments.{moment}
 use Rattle.kernel_steps.specs.Faults.{fault_notes}
 use Rattle.kernel_steps.specs.Refines.{first_notes, Adds, PieceDone}
-use Rattle.kernel_steps.specs.Views.{call_in_place}
+use Rattle.running_kernel.specs.Views.{call_in_place}
 
 -- ---- notes that tell of a failed disk
 

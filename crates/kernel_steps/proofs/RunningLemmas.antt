@@ -1,28 +1,25 @@
 -- What becomes of a running kernel where a call begins or ends, and with a tick.
-use Rattle.std.proofs.Common.{◌≡◌, ℕ, suc, ◌<◌, ◌-◌, ◌==◌, Bool, true, not, cond, List, [], ◌∷◌, ◌++◌, map, filter, length, ap, sym, ◌∙◌, arith, Option, Some, None, append-nil, false, refl}
-use Rattle.std.specs.Prelude.{option_map, ◌^◌, is_some, ◌&&◌}
+use Rattle.std.proofs.Common.{◌≡◌, ℕ, suc, ◌<◌, ◌-◌, ◌==◌, Bool, true, not, cond, List, [], ◌∷◌, ◌++◌, map, filter, length, ap, sym, ◌∙◌, arith, Option, Some, None, append-nil, false}
+use Rattle.std.specs.Prelude.{option_map, ◌^◌}
 use Rattle.std.proofs.Math.Path.{fun_ext}
 use Rattle.std.proofs.lemmas.Bool.Decides.{nat_tests}
 use Rattle.kernel_model.specs.declared.Note.{Note}
 use Rattle.kernel_model.specs.declared.Note.TheVariants.{Ticked}
 use Rattle.kernel_model.specs.World.{Blocks}
-use Rattle.kernel_model.specs.Objects.{at, Things}
+use Rattle.kernel_model.specs.Objects.{at}
 use Rattle.kernel_model.specs.Kernel.{Entry, new_entry, less_entry}
 use Rattle.kernel_model.specs.Events.{counted}
 use Rattle.graft_levels.specs.declared.Chain.{Chain}
-use Rattle.graft_levels.specs.Chains.{levels_of, levels_in}
+use Rattle.graft_levels.specs.Chains.{levels_of}
 use Rattle.placed_laws.specs.Placed.{Placed, bare}
 use Rattle.placed_laws.specs.PlacedSteps.{is_placed_at_piece, placed_joins, placed_noted, placed_requeue, placed_ticked, with_placed_call}
-use Rattle.kernel_model.specs.Locks.{LockTable}
-use Rattle.undo_calls.specs.UndoLevels.{Logged}
-use Rattle.graft_levels.specs.declared.GraftLevel.{GraftLevel}
-use Rattle.kernel_steps.specs.declared.order.Waiting.{Waiting}
-use Rattle.kernel_steps.specs.declared.running.InFlight.{InFlight}
-use Rattle.kernel_steps.specs.declared.running.Flight.{Flight}
-use Rattle.kernel_steps.specs.declared.running.Running.{Running}
-use Rattle.kernel_steps.specs.Orders.{entry_of, order_of, counts_within, joined, later}
-use Rattle.kernel_steps.specs.Views.{placed_of, flight_of, call_in_place, run_of}
-use Rattle.kernel_steps.proofs.OrderLemmas.{order_joined, less_entries, counted_is}
+use Rattle.running_kernel.specs.declared.order.Waiting.{Waiting}
+use Rattle.running_kernel.specs.declared.running.InFlight.{InFlight}
+use Rattle.running_kernel.specs.declared.running.Flight.{Flight}
+use Rattle.running_kernel.specs.declared.running.Running.{Running}
+use Rattle.running_kernel.specs.Orders.{entry_of, order_of, counts_within, joined, later}
+use Rattle.running_kernel.specs.Views.{placed_of, flight_of, call_in_place, run_of}
+use Rattle.running_kernel.proofs.OrderLemmas.{order_joined, less_entries, counted_is}
 use Rattle.kernel_steps.proofs.CallLemmas.{with_call, calls_changed, chain_of_changed}
 
 -- the kernel in place with these calls and this order
@@ -100,13 +97,6 @@ pub within_flights : (fs : List Flight) (p : ℕ) → length fs ≡ 16 → p < 1
 within_flights fs p n h = omega (arith, n, h)
 
 -- ---- after a step
-
--- whether the next step is a piece
-pub at_piece_is : (o : Option InFlight) (p : ℕ) (ram : List ℕ) (t : LockTable) (gs : List GraftLevel) (log : List (List Logged)) (w : Things) → (b : Bool) → (length gs == 0) ≡ b →
-    is_placed_at_piece (option_map call_in_place o) (map bare (levels_in p ram t gs log w)) ≡ (is_some o && b)
-at_piece_is None p ram t gs log w b h = refl
-at_piece_is (Some f) p ram t [] log w b h = h
-at_piece_is (Some f) p ram t (g ∷ gs) log w b h = grind (arith, nat_tests, h)
 
 -- a call joins the order
 pub joined_run : {C B M : Type 0} {P : _} (x : Running C B M P) (p : ℕ) (new : List Waiting) (w : Waiting) → w ≡ joined p → new ≡ x.order ++ w ∷ [] →

@@ -17,7 +17,7 @@ use Rattle.kernel_state.specs.Accesses.{CanBeUndone}
 use Rattle.graft_levels.specs.declared.GraftLevel.{GraftLevel}
 use Rattle.graft_levels.specs.Chains.{put_back, level_in, levels_in, outer}
 use Rattle.placed_laws.specs.Owners.{IsOwn, AreOwn}
-use Rattle.kernel_steps.specs.Owned.{AreOwned}
+use Rattle.running_kernel.specs.Owned.{AreOwned}
 use Rattle.graft_levels.specs.Calls.{AreSound, AreInside, AreUndoable, AllUndoable, RunsInside}
 
 -- ---- elements

@@ -25,18 +25,18 @@ use Rattle.graft_levels.specs.Chains.{put_back, levels_in, outer, HasAnswer}
 use Rattle.placed_laws.specs.Owners.{AreOwn, AreOfOwner}
 use Rattle.placed_laws.specs.Placed.{PlacedCall, PlacedLevel, PlacedRun, bare, placed_levels}
 use Rattle.placed_laws.specs.PlacedSteps.{placed_finish, placed_finish_on, placed_noted, placed_after_outcome, placed_outcome, with_config}
-use Rattle.kernel_steps.specs.declared.running.InFlight.{InFlight}
-use Rattle.kernel_steps.specs.declared.running.Running.{Running}
+use Rattle.running_kernel.specs.declared.running.InFlight.{InFlight}
+use Rattle.running_kernel.specs.declared.running.Running.{Running}
 use Rattle.kernel_steps.specs.Moves.{come_to, Moved}
-use Rattle.kernel_steps.specs.Owned.{AreOwned}
+use Rattle.running_kernel.specs.Owned.{AreOwned}
 use Rattle.kernel_steps.specs.Steps.{finishes, after_drop, after_said, answer_of_drop, answer_said, IsOfOne, StepsAlone, Stepped, StepDone}
 use Rattle.kernel_steps.specs.Moments.{moment}
 use Rattle.kernel_steps.specs.Faults.{fault_notes}
 use Rattle.kernel_steps.specs.Refines.{Adds, PieceDone}
-use Rattle.kernel_steps.specs.Views.{placed_of, flight_of, chain_of, no_chain, levels_at, call_in_place, run_of, IsRunning}
+use Rattle.running_kernel.specs.Views.{placed_of, flight_of, chain_of, no_chain, levels_at, call_in_place, run_of, IsRunning}
 use Rattle.kernel_steps.proofs.CallLemmas.{with_call, call_of_changed, chain_of_changed, still_sixteen}
 use Rattle.kernel_steps.specs.Composing.{adds_none, did_nothing, did_as, did_purely, did_then, reaches_as, reaches_behind, reaches_purely}
-use Rattle.kernel_steps.specs.WholeBlocks.{some_blocks, blocks_are_whole}
+use Rattle.running_kernel.specs.WholeBlocks.{some_blocks, blocks_are_whole}
 use Rattle.kernel_steps.proofs.FinishLemmas.{placed_finished, finish_did, finish_reaches}
 use Rattle.kernel_steps.proofs.MoveLemmas.{few_levels}
 

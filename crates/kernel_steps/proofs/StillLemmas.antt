@@ -1,31 +1,22 @@
 -- Where the grips on what an instruction needed are the same, that is held as before.
-use Rattle.std.proofs.Common.{◌≡◌, ℕ, suc, ◌≤◌, ◌<◌, ◌||◌, Bool, true, false, List, [], ◌∷◌, map, length, Option, Some, None, refl, ap, sym, subst, ◌∙◌, arith, inl, inr}
-use Rattle.std.specs.Prelude.{is_some, option_map}
+use Rattle.std.proofs.Common.{◌≡◌, ℕ, suc, ◌≤◌, ◌||◌, Bool, true, false, List, [], ◌∷◌, length, Option, Some, None, ap, sym, subst, ◌∙◌, arith, inl, inr}
 use Rattle.std.proofs.lemmas.Bool.{cases_Bool}
 use Rattle.kernel_model.specs.declared.Need.{Need}
 use Rattle.kernel_model.specs.declared.Object.{Object}
-use Rattle.kernel_model.specs.Objects.{Things, same_object}
+use Rattle.kernel_model.specs.Objects.{same_object}
 use Rattle.kernel_model.specs.SameObject.{same_object_is}
 use Rattle.kernel_model.specs.Alike.{is_needed}
-use Rattle.kernel_model.specs.GraftStep.{next_needs}
-use Rattle.kernel_model.specs.Locks.{LockTable, Touched}
+use Rattle.kernel_model.specs.Locks.{Touched}
 use Rattle.kernel_model.specs.Meaning.{Meaning}
-use Rattle.undo_calls.specs.UndoLevels.{Logged}
 use Rattle.lock_table.specs.declared.Holds.{Holds}
 use Rattle.lock_table.specs.Masks.{held}
-use Rattle.kernel_state.specs.Stores.{world_of_store, objects_of}
-use Rattle.graft_loader.specs.Slots.{table_of}
-use Rattle.graft_levels.specs.declared.GraftLevel.{GraftLevel}
-use Rattle.graft_levels.specs.Chains.{levels_in, levels_of}
-use Rattle.placed_laws.specs.Placed.{bare, has_some, placed_needs}
+use Rattle.placed_laws.specs.Placed.{placed_needs}
 use Rattle.placed_laws.specs.Resting.{KeepsHolds}
-use Rattle.kernel_steps.specs.declared.running.InFlight.{InFlight}
-use Rattle.kernel_steps.specs.declared.running.Running.{Running}
+use Rattle.running_kernel.specs.declared.running.Running.{Running}
 use Rattle.kernel_steps.specs.declared.settled.HoldSnapshot.{HoldSnapshot}
 use Rattle.kernel_steps.specs.Grips.{IsHold, IsGrip}
-use Rattle.kernel_steps.specs.Views.{placed_of, call_at, call_in_place, chain_of, flight_of, levels_at, IsRunning}
-use Rattle.kernel_steps.proofs.HinderLemmas.{graft_needs_are}
-use Rattle.kernel_steps.proofs.ViewLemmas.{holds_in_place}
+use Rattle.running_kernel.specs.Views.{placed_of, IsRunning}
+use Rattle.running_kernel.proofs.ViewLemmas.{holds_in_place}
 
 module _ (t u : ℕ → Touched) (d : ℕ) (o : Object) where
   -- one hold is a hold before and after
@@ -70,21 +61,3 @@ keeps_holds m x y p ns before after rx ry is few gx gy same many =
           ∙ same_grip (held x.locks p) (held y.locks p) d o ns before few gx (subst (IsGrip (held y.locks p) ns) (sym same) gy) (ap (is_needed o) is ∙ needed)
           ∙ sym (ap (λ t. t p d o) (holds_in_place x rx));
     }
-
--- ---- what the next instruction needs
-
--- a call in flight that there is
-flying : (o : Option InFlight) → is_some (option_map call_in_place o) ≡ true → (f : InFlight) × (o ≡ Some f)
-flying None h = absurd cc
-flying (Some f) h = (f, refl)
-
--- levels in place are levels of the chain
-some_levels_there : (p : ℕ) (ram : List ℕ) (t : LockTable) (gs : List GraftLevel) (log : List (List Logged)) (w : Things) → has_some (map bare (levels_in p ram t gs log w)) ≡ true → 0 < length gs
-some_levels_there p ram t [] log w h = absurd cc
-some_levels_there p ram t (g ∷ gs) log w h = omega arith
-
-pub needs_there : {C B M : Type 0} {P : _} (m : Meaning) (x : Running C B M P) (p : ℕ) → is_some (call_at x p) ≡ true → has_some (levels_at x p) ≡ true →
-    next_needs (world_of_store x.store) (table_of x.images) (objects_of x.store).accounts (levels_of x.store x.locks (chain_of x p) p) ≡ placed_needs m (placed_of x) p
-needs_there m x p call some =
-    let f = flying (flight_of x.calls.items p).call call in
-    graft_needs_are m x p f.0 f.1 (some_levels_there p x.store.ram (held x.locks) (chain_of x p).levels (chain_of x p).undo (objects_of x.store).things some)

@@ -20,14 +20,14 @@ use Rattle.placed_laws.specs.Agreeing.{SameShown}
 use Rattle.placed_laws.specs.Owners.{AreOfOwner}
 use Rattle.placed_laws.specs.Placed.{Placed, bare, has_some}
 use Rattle.placed_laws.specs.Stretch.{IsStretched, Stretches}
-use Rattle.kernel_steps.specs.declared.running.Flight.{Flight}
-use Rattle.kernel_steps.specs.declared.running.Running.{Running}
+use Rattle.running_kernel.specs.declared.running.Flight.{Flight}
+use Rattle.running_kernel.specs.declared.running.Running.{Running}
 use Rattle.kernel_steps.specs.Moves.{come_to, Moved}
-use Rattle.kernel_steps.specs.Orders.{counts_within, are_processes, are_once, numbers_of}
-use Rattle.kernel_steps.specs.Owned.{AreOwned}
+use Rattle.running_kernel.specs.Orders.{counts_within, are_processes, are_once, numbers_of}
+use Rattle.running_kernel.specs.Owned.{AreOwned}
 use Rattle.kernel_steps.specs.Steps.{IsOfOne}
-use Rattle.kernel_steps.specs.Views.{placed_of, flight_of, chain_of, levels_at, run_of, IsRunning, HasAbstraction}
-use Rattle.kernel_steps.specs.WholeBlocks.{some_blocks, blocks_are_whole}
+use Rattle.running_kernel.specs.Views.{placed_of, flight_of, chain_of, levels_at, run_of, IsRunning, HasAbstraction}
+use Rattle.running_kernel.specs.WholeBlocks.{some_blocks, blocks_are_whole}
 use Rattle.kernel_steps.proofs.AgainLemmas.{all_hold, owners_at}
 use Rattle.kernel_steps.proofs.MoveLemmas.{placed_moved}
 use Rattle.kernel_steps.proofs.PartLemmas.{levels_come}

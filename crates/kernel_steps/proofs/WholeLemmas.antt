@@ -18,15 +18,15 @@ use Rattle.placed_laws.specs.Placed.{Placed, PlacedCall, PlacedLevel, PlacedRun,
 use Rattle.placed_laws.specs.PlacedSteps.{is_placed_at_piece, placed_call_step, placed_drop, placed_drop_by, placed_outcome, placed_requeue, placed_step}
 use Rattle.placed_laws.specs.Soundness.{SoundInPlace}
 use Rattle.placed_laws.specs.Stands.{StandsFor, RunStandsFor, without_history}
-use Rattle.kernel_steps.specs.declared.running.Running.{Running}
+use Rattle.running_kernel.specs.declared.running.Running.{Running}
 use Rattle.kernel_steps.specs.Moves.{HeldStays}
 use Rattle.kernel_steps.specs.Steps.{StepDone}
 use Rattle.kernel_steps.specs.Moments.{moment}
 use Rattle.kernel_steps.specs.Refines.{Reaches, Refines}
-use Rattle.kernel_steps.specs.Views.{placed_of, levels_at, call_at, run_of, IsRunning, HasAbstraction, Simulates}
+use Rattle.running_kernel.specs.Views.{placed_of, levels_at, call_at, run_of, IsRunning, HasAbstraction, Simulates}
 use Rattle.kernel_steps.proofs.AgainLemmas.{runs_again}
 use Rattle.kernel_steps.specs.Composing.{adds_none, did_as, did_purely, did_then, reaches_as, reaches_before}
-use Rattle.kernel_steps.proofs.ViewLemmas.{holds_in_place}
+use Rattle.running_kernel.proofs.ViewLemmas.{holds_in_place}
 
 -- ---- what stands for a kernel goes on to
 

@@ -10,10 +10,10 @@ use Rattle.placed_laws.specs.Keeping.{first_placed}
 use Rattle.placed_laws.specs.PlacedSteps.{placed_joins, with_placed_call}
 use Rattle.call_pieces.specs.Works.{stage_of}
 use Rattle.call_needs.specs.declared.Work.{Work}
-use Rattle.kernel_steps.specs.declared.running.InFlight.{InFlight}
-use Rattle.kernel_steps.specs.declared.running.Flight.{Flight}
-use Rattle.kernel_steps.specs.declared.running.Running.{Running}
-use Rattle.kernel_steps.specs.Views.{flight_of, placed_of, IsRunning, Simulates}
+use Rattle.running_kernel.specs.declared.running.InFlight.{InFlight}
+use Rattle.running_kernel.specs.declared.running.Flight.{Flight}
+use Rattle.running_kernel.specs.declared.running.Running.{Running}
+use Rattle.running_kernel.specs.Views.{flight_of, placed_of, IsRunning, Simulates}
 
 -- ---- in its place
 

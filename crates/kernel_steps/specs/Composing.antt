@@ -12,7 +12,7 @@ use Rattle.placed_laws.specs.Placed.{Placed, PlacedRun}
 use Rattle.kernel_steps.specs.Moments.{moment}
 use Rattle.kernel_steps.specs.Faults.{fault_notes}
 use Rattle.kernel_steps.specs.Refines.{first_notes, Adds, Reaches, Refines, RunMatches}
-use Rattle.kernel_steps.specs.Views.{run_of}
+use Rattle.running_kernel.specs.Views.{run_of}
 
 -- ---- notes that tell of a failed disk
 

@@ -17,8 +17,8 @@ use Rattle.graft_loader.specs.Slots.{table_of}
 use Rattle.graft_levels.specs.Calls.{IsPlaced, AreSound, AreInside, AllUndoable, IsElsewhereSame}
 use Rattle.kernel_model.specs.Meaning.{Meaning}
 use Rattle.placed_laws.specs.Placed.{Placed, PlacedCall, bare}
-use Rattle.kernel_steps.specs.declared.running.Running.{Running}
-use Rattle.kernel_steps.specs.Views.{flight_of, chain_of}
+use Rattle.running_kernel.specs.declared.running.Running.{Running}
+use Rattle.running_kernel.specs.Views.{flight_of, chain_of}
 
 -- a kernel in place in which the call of p has come to this config
 abbrev pub come_to : ℕ → Config → Placed → Placed

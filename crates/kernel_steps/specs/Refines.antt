@@ -13,7 +13,7 @@ use Rattle.placed_laws.specs.Placed.{Placed, PlacedCall, PlacedRun}
 use Rattle.placed_laws.specs.PlacedSteps.{placed_after}
 use Rattle.kernel_steps.specs.Faults.{fault_notes}
 use Rattle.kernel_steps.specs.Moments.{Moment}
-use Rattle.kernel_steps.specs.Views.{run_of}
+use Rattle.running_kernel.specs.Views.{run_of}
 
 -- the notes that are kept of those of an event: no event of a sound kernel has more
 unfoldable pub first_notes : List Note → List Note

@@ -12,12 +12,12 @@ use Rattle.graft_levels.specs.declared.Chain.{Chain}
 use Rattle.graft_levels.specs.Calls.{IsPlaced, AreInside}
 use Rattle.placed_laws.specs.Placed.{PlacedCall, PlacedRun}
 use Rattle.placed_laws.specs.PlacedSteps.{placed_noted, placed_finish_on}
-use Rattle.kernel_steps.specs.declared.running.InFlight.{InFlight}
-use Rattle.kernel_steps.specs.declared.running.Running.{Running}
-use Rattle.kernel_steps.specs.Owned.{AreOwned}
+use Rattle.running_kernel.specs.declared.running.InFlight.{InFlight}
+use Rattle.running_kernel.specs.declared.running.Running.{Running}
+use Rattle.running_kernel.specs.Owned.{AreOwned}
 use Rattle.kernel_steps.specs.Moments.{moment, Moment}
 use Rattle.kernel_steps.specs.Refines.{Reaches, Refines}
-use Rattle.kernel_steps.specs.Views.{placed_of, flight_of, chain_of, call_at}
+use Rattle.running_kernel.specs.Views.{placed_of, flight_of, chain_of, call_at}
 
 -- ---- what a move leaves to do
 

@@ -11,12 +11,10 @@ ghost use Rattle.call_pieces.specs.Works.{stage_of};
 ghost use Rattle.graft_loader.specs.Slots.{table_of};
 ghost use Rattle.graft_levels.specs.Chains.{call_of};
 ghost use Rattle.graft_levels.specs.Calls.{IsPlaced, IsInPlace, IsElsewhereSame};
-ghost use Rattle.kernel_steps.specs.declared.running.InFlight.{InFlight as Flying};
-ghost use Rattle.kernel_steps.specs.Views.{call_in_place};
+ghost use Rattle.running_kernel.specs.declared.running.InFlight.{InFlight as Flying};
+ghost use Rattle.running_kernel.specs.Views.{call_in_place};
 ghost use Rattle.kernel_steps.specs.Moves.{fed_by, needed_by, HasGraft};
 
-use crate::running::Flight;
-use crate::slots::Slot;
 use call_pieces::{Calls, Needs};
 use graft_levels::PieceAsk;
 use graft_loader::Images;
@@ -24,6 +22,7 @@ use graft_points::Policy;
 use kernel_model::Point;
 use kernel_state::Store;
 use lock_table::LockTable;
+use running_kernel::{Flight, Slot};
 
 /// The objects that the piece needs of the call of process p that stands here, if one does.
 fn needs_of<C: Calls, B: Policy>(slot: &Slot, p: u8, store: &Store<B>, needs: &mut Needs)

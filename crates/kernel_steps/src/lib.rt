@@ -1,31 +1,24 @@
-//! The running kernel: what is in flight, who blocks whom, the order of waiting, and the moves of
-//! one call's levels.
+//! What moves a running kernel: how calls begin and end, the moves of their levels, whole steps,
+//! and the notes that these leave.
 //!
-//! A running kernel changes its one store as it goes. Contracts see the kernel in place of the
-//! definitions that it is (`placed_of`).
+//! Each is a function over a running kernel (`running_kernel`), which contracts see as the kernel
+//! in place of the definitions (`placed_of`).
 #![tactic(auto)]
 
-mod blocking;
+mod calls;
 mod entering;
 mod levels;
-mod looking;
 mod notes;
-mod opening;
-mod order;
 mod pieces;
-mod queries;
-mod running;
 mod settled;
-mod shown;
-mod slots;
 mod steps;
-mod stretch;
+mod stretches;
 mod trace;
-mod waits;
 
-pub use blocking::Hindrance;
+pub use calls::{Request, begin, end, join, requeue, tick};
+pub use levels::{fall, instruct};
 pub use notes::Notes;
-pub use order::{Blocking, Order, Waiting};
-pub use running::{Flight, InFlight, Request, Running};
-pub use slots::Slot;
+pub use settled::step_in_graft;
+pub use steps::{drop_level, step};
+pub use stretches::stretch;
 pub use trace::Trace;

@@ -5,18 +5,17 @@ ghost use Rattle.kernel_model.specs.Laws.{IsReady};
 ghost use Rattle.kernel_model.specs.World.{ImageTable};
 ghost use Rattle.call_pieces.specs.Works.{answer_seen, stage_of};
 ghost use Rattle.kernel_state.specs.Stores.{world_of_store, objects_of};
-ghost use Rattle.kernel_steps.specs.declared.running.InFlight.{InFlight as Flying};
+ghost use Rattle.running_kernel.specs.declared.running.InFlight.{InFlight as Flying};
 ghost use Rattle.kernel_steps.specs.Moments.{moment};
 ghost use Rattle.kernel_steps.specs.Refines.{PieceDone, StoreStays};
-ghost use Rattle.kernel_steps.specs.Views.{call_in_place};
+ghost use Rattle.running_kernel.specs.Views.{call_in_place};
 
-use crate::running::InFlight;
-use crate::slots::Slot;
 use crate::trace::Trace;
 use call_pieces::{Calls, Next};
 use graft_points::Policy;
 use kernel_model::BareNote;
 use kernel_state::Store;
+use running_kernel::{InFlight, Slot};
 use vino_base::Disk;
 
 /// The next piece of a call in flight, with an answer to the point that it asks, or by default.

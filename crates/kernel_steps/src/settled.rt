@@ -9,17 +9,17 @@ ghost use Rattle.placed_laws.specs.PlacedSteps.{placed_step};
 ghost use Rattle.placed_laws.specs.Resting.{KeepsHolds};
 ghost use Rattle.kernel_steps.specs.Grips.{IsHold, IsGrip};
 ghost use Rattle.kernel_steps.specs.Moments.{moment};
-ghost use Rattle.kernel_steps.specs.Sound.{AreNeeds, CanRun, HasProcess, RefinesAndKeeps};
-ghost use Rattle.kernel_steps.specs.Views.{placed_of, call_at};
+ghost use Rattle.running_kernel.specs.Sound.{AreNeeds};
+ghost use Rattle.kernel_steps.specs.Runs.{CanRun, RefinesAndKeeps};
+ghost use Rattle.running_kernel.specs.Views.{placed_of, call_at};
 
-use crate::blocking::flight;
-use crate::running::Running;
+use crate::steps::step;
 use crate::trace::Trace;
 use call_pieces::Calls;
-use graft_levels::Needs;
 use graft_points::Policy;
 use kernel_model::Need;
 use lock_table::{Holds, LockTable};
+use running_kernel::Running;
 use vino_base::Disk;
 
 /// How the levels of a call hold up to three objects.
@@ -60,44 +60,30 @@ fn is_same_grip(a: HoldSnapshot, b: HoldSnapshot) -> bool
     a == b
 }
 
-impl<C: Calls, B: Policy> Running<C, B> {
-    /// What the next instruction of process p's call needs, which is in a graft.
-    pub fn instruction_needs(&self, p: u8) -> Needs
-        requires at { HasProcess self.now p }
-        requires call { is_some (call_at self.now p) ≡ true }
-        requires level { has_some ((placed_of self.now).levels p) ≡ true }
-        ensures { AreNeeds C.Meaning.meaning self.now p result }
-    {
-        flight(&self.calls, p)
-            .chain
-            .needs(&self.store, &self.images)
-    }
-
-    /// One step of process p's call, which is in a graft, needs this, and which nothing blocks.
-    /// Whether it left the call's levels, and how these hold what it needed.
-    pub fn step_in_graft<D: Disk>(
-        &mut self,
-        p: u8,
-        needs: &[Need],
-        disk: &mut D,
-        trace: &mut Trace,
-    ) -> bool
-        requires at { CanRun C.Meaning.meaning self.old (D.seen disk.old) p }
-        requires call { is_some (call_at self.old p) ≡ true }
-        requires level { has_some ((placed_of self.old).levels p) ≡ true }
-        requires free { placed_blocker C.Meaning.meaning (placed_of self.old) p ≡ None }
-        requires needs { AreNeeds C.Meaning.meaning self.old p needs.now }
-        requires few { length needs.now ≤ 3 }
-        ensures kept { result ≡ true → KeepsHolds C.Meaning.meaning (placed_of self.old)
-            (placed_of self.new) p }
-        ensures went { RefinesAndKeeps C.Meaning.meaning (placed_step C.Meaning.meaning p)
-            (moment self.old trace.old.notes (D.seen disk.old))
-            (moment self.new trace.new.notes (D.seen disk.new)) }
-    {
-        let count = self.level_count(p);
-        let before = grip_of(&self.locks, p, needs);
-        self.step(p, disk, trace);
-        let after = grip_of(&self.locks, p, needs);
-        self.level_count(p) == count && is_same_grip(before, after)
-    }
+/// One step of process p's call, which is in a graft, needs this, and which nothing blocks. Whether
+/// it left the call's levels, and how these hold what it needed.
+pub fn step_in_graft<C: Calls, B: Policy, D: Disk>(
+    running: &mut Running<C, B>,
+    p: u8,
+    needs: &[Need],
+    disk: &mut D,
+    trace: &mut Trace,
+) -> bool
+    requires at { CanRun C.Meaning.meaning running.old (D.seen disk.old) p }
+    requires call { is_some (call_at running.old p) ≡ true }
+    requires level { has_some ((placed_of running.old).levels p) ≡ true }
+    requires free { placed_blocker C.Meaning.meaning (placed_of running.old) p ≡ None }
+    requires needs { AreNeeds C.Meaning.meaning running.old p needs.now }
+    requires few { length needs.now ≤ 3 }
+    ensures kept { result ≡ true → KeepsHolds C.Meaning.meaning (placed_of running.old)
+        (placed_of running.new) p }
+    ensures went { RefinesAndKeeps C.Meaning.meaning (placed_step C.Meaning.meaning p)
+        (moment running.old trace.old.notes (D.seen disk.old))
+        (moment running.new trace.new.notes (D.seen disk.new)) }
+{
+    let count = running.level_count(p);
+    let before = grip_of(&running.locks, p, needs);
+    step(running, p, disk, trace);
+    let after = grip_of(&running.locks, p, needs);
+    running.level_count(p) == count && is_same_grip(before, after)
 }

@@ -10,193 +10,242 @@ ghost use Rattle.call_pieces.specs.Works.{answer_seen};
 ghost use Rattle.kernel_steps.specs.Steps.{answer_said, answer_of_drop, after_drop, after_said, finishes, CallStepDone, CanFinish, StepDone, StepsAlone};
 ghost use Rattle.kernel_steps.specs.Faults.{fault_notes};
 ghost use Rattle.kernel_steps.specs.Moments.{moment};
-ghost use Rattle.kernel_steps.specs.Sound.{CanRun, HasLevel, RefinesAndKeeps};
-ghost use Rattle.kernel_steps.specs.Views.{placed_of, chain_of, call_at};
+ghost use Rattle.kernel_steps.specs.Runs.{CanRun, HasLevel, RefinesAndKeeps};
+ghost use Rattle.running_kernel.specs.Views.{placed_of, chain_of, call_at};
 
-use crate::blocking::{flight, number_of};
+use crate::calls::requeue;
+use crate::levels::{enter, fall, instruct};
 use crate::pieces::do_piece;
-use crate::running::Running;
 use crate::trace::Trace;
 use call_pieces::Calls;
 use graft_points::Policy;
 use kernel_model::{BareNote, Cause, Micro};
 use placed_laws::{agreeing, keeping, owners, soundness};
+use running_kernel::{Running, flight, number_of};
 use vino_base::Disk;
 
-impl<C: Calls, B: Policy> Running<C, B> {
-    /// The piece of process p's call, which has no level, is done: with an answer to the point that
-    /// it asks, or by default.
-    fn finish<D: Disk>(&mut self, p: u8, answer: Option<[u32; 4]>, disk: &mut D, trace: &mut Trace)
-        requires alone { StepsAlone self.old p }
-        requires answer { CanFinish C.Meaning.meaning self.old p answer }
-        requires disk { self.old.store.size ≡ (D.seen disk.old).size }
-        ensures { CallStepDone (λ c. finishes C.Meaning.meaning p c
-            (answer_seen self.old.store.ram p answer)) p
-            (moment self.old trace.old.notes (D.seen disk.old))
-            (moment self.new trace.new.notes (D.seen disk.new)) }
-    {
-        let flight = &mut self.calls[p as usize];
-        do_piece::<C, B, D>(&mut flight.call, &mut self.store, answer, disk, trace);
-    }
+/// The piece of process p's call, which has no level, is done: with an answer to the point that it
+/// asks, or by default.
+fn finish<C: Calls, B: Policy, D: Disk>(
+    running: &mut Running<C, B>,
+    p: u8,
+    answer: Option<[u32; 4]>,
+    disk: &mut D,
+    trace: &mut Trace,
+)
+    requires alone { StepsAlone running.old p }
+    requires answer { CanFinish C.Meaning.meaning running.old p answer }
+    requires disk { running.old.store.size ≡ (D.seen disk.old).size }
+    ensures { CallStepDone (λ c. finishes C.Meaning.meaning p c
+        (answer_seen running.old.store.ram p answer)) p
+        (moment running.old trace.old.notes (D.seen disk.old))
+        (moment running.new trace.new.notes (D.seen disk.new)) }
+{
+    let flight = &mut running.calls[p as usize];
+    do_piece::<C, B, D>(&mut flight.call, &mut running.store, answer, disk, trace);
+}
 
-    /// Level d of process p's call was dropped, which is noted. With level 0 the default finishes
-    /// the piece.
-    fn follow_drop<D: Disk>(
-        &mut self,
-        p: u8,
-        d: u8,
-        note: BareNote,
-        disk: &mut D,
-        trace: &mut Trace,
-    )
-        requires alone { StepsAlone self.old p }
-        requires answer { (answer : Option (List ℕ)) → answer_of_drop d ≡ Some answer →
-            CanFinish C.Meaning.meaning self.old p answer }
-        requires note { fault_notes (note_with note [] ∷ []) ≡ 0 }
-        requires disk { self.old.store.size ≡ (D.seen disk.old).size }
-        ensures { CallStepDone (λ c r. after_drop C.Meaning.meaning p c d
-            (placed_noted (note_with note []) r)) p
-            (moment self.old trace.old.notes (D.seen disk.old))
-            (moment self.new trace.new.notes (D.seen disk.new)) }
-    {
-        trace.notes.push(note);
-        if d > 0 {
-            return;
+/// Level d of process p's call was dropped, which is noted. With level 0 the default finishes the
+/// piece.
+fn follow_drop<C: Calls, B: Policy, D: Disk>(
+    running: &mut Running<C, B>,
+    p: u8,
+    d: u8,
+    note: BareNote,
+    disk: &mut D,
+    trace: &mut Trace,
+)
+    requires alone { StepsAlone running.old p }
+    requires answer { (answer : Option (List ℕ)) → answer_of_drop d ≡ Some answer →
+        CanFinish C.Meaning.meaning running.old p answer }
+    requires note { fault_notes (note_with note [] ∷ []) ≡ 0 }
+    requires disk { running.old.store.size ≡ (D.seen disk.old).size }
+    ensures { CallStepDone (λ c r. after_drop C.Meaning.meaning p c d
+        (placed_noted (note_with note []) r)) p
+        (moment running.old trace.old.notes (D.seen disk.old))
+        (moment running.new trace.new.notes (D.seen disk.new)) }
+{
+    trace.notes.push(note);
+    if d > 0 {
+        return;
+    }
+    finish(running, p, None, disk, trace);
+}
+
+/// What is left to do of a step of process p's call, once an instruction or the drop of a level
+/// said this. What an answer gives stands in memory.
+fn follow<C: Calls, B: Policy, D: Disk>(
+    running: &mut Running<C, B>,
+    p: u8,
+    said: Micro,
+    disk: &mut D,
+    trace: &mut Trace,
+)
+    requires alone { StepsAlone running.old p }
+    requires answer { (answer : Option (List ℕ)) → answer_said said ≡ Some answer →
+        CanFinish C.Meaning.meaning running.old p answer }
+    requires disk { running.old.store.size ≡ (D.seen disk.old).size }
+    ensures { CallStepDone
+        (λ c. after_said C.Meaning.meaning running.old.store.ram p c said) p
+        (moment running.old trace.old.notes (D.seen disk.old))
+        (moment running.new trace.new.notes (D.seen disk.new)) }
+{
+    match said {
+        Micro::Went | Micro::Blocked(..) => {}
+        Micro::Completed(answer) => finish(running, p, Some(answer), disk, trace),
+        Micro::Dropped(d, q, pt, cause) => {
+            let Some(number) = number_of(&running.calls, p) else {
+                return;
+            };
+            follow_drop(
+                running,
+                p,
+                d,
+                BareNote::Dropped(number, q, pt, cause),
+                disk,
+                trace,
+            )
         }
-        self.finish(p, None, disk, trace);
     }
+}
 
-    /// What is left to do of a step of process p's call, once an instruction or the drop of a level
-    /// said this. What an answer gives stands in memory.
-    fn follow<D: Disk>(&mut self, p: u8, said: Micro, disk: &mut D, trace: &mut Trace)
-        requires alone { StepsAlone self.old p }
-        requires answer { (answer : Option (List ℕ)) → answer_said said ≡ Some answer →
-            CanFinish C.Meaning.meaning self.old p answer }
-        requires disk { self.old.store.size ≡ (D.seen disk.old).size }
-        ensures { CallStepDone
-            (λ c. after_said C.Meaning.meaning self.old.store.ram p c said) p
-            (moment self.old trace.old.notes (D.seen disk.old))
-            (moment self.new trace.new.notes (D.seen disk.new)) }
-    {
-        match said {
-            Micro::Went | Micro::Blocked(..) => {}
-            Micro::Completed(answer) => self.finish(p, Some(answer), disk, trace),
-            Micro::Dropped(d, q, pt, cause) => {
-                let Some(number) = number_of(&self.calls, p) else {
-                    return;
-                };
-                self.follow_drop(p, d, BareNote::Dropped(number, q, pt, cause), disk, trace)
-            }
-        }
-    }
+/// One instruction of process p's call, which is in a graft, and what follows from it.
+fn graft_step<C: Calls, B: Policy, D: Disk>(
+    running: &mut Running<C, B>,
+    p: u8,
+    disk: &mut D,
+    trace: &mut Trace,
+)
+    requires { HasLevel C.Meaning.meaning running.old (D.seen disk.old) p 0 }
+    ensures { CallStepDone (λ c r. placed_outcome C.Meaning.meaning p c
+        (micro r.placed.world r.placed.images p (placed_config r.placed p)) r) p
+        (moment running.old trace.old.notes (D.seen disk.old))
+        (moment running.new trace.new.notes (D.seen disk.new)) }
+{
+    soundness::ready_in_place::<C::Meaning>();
+    owners::owners_stay();
+    let said = instruct(running, p);
+    follow(running, p, said, disk, trace);
+}
 
-    /// One instruction of process p's call, which is in a graft, and what follows from it.
-    fn graft_step<D: Disk>(&mut self, p: u8, disk: &mut D, trace: &mut Trace)
-        requires { HasLevel C.Meaning.meaning self.old (D.seen disk.old) p 0 }
-        ensures { CallStepDone (λ c r. placed_outcome C.Meaning.meaning p c
-            (micro r.placed.world r.placed.images p (placed_config r.placed p)) r) p
-            (moment self.old trace.old.notes (D.seen disk.old))
-            (moment self.new trace.new.notes (D.seen disk.new)) }
-    {
-        soundness::ready_in_place::<C::Meaning>();
-        owners::owners_stay();
-        let said = self.instruct(p);
-        self.follow(p, said, disk, trace);
+/// The next piece of process p's call, which is in no graft: where it asks a point at which a graft
+/// stands, the call enters that graft; else the piece is done by default. Where no graft stands
+/// anywhere, what it asks isn't looked for.
+fn piece_step<C: Calls, B: Policy, D: Disk>(
+    running: &mut Running<C, B>,
+    p: u8,
+    disk: &mut D,
+    trace: &mut Trace,
+)
+    requires at { CanRun C.Meaning.meaning running.old (D.seen disk.old) p }
+    requires none { (chain_of running.old p).levels ≡ [] }
+    ensures { CallStepDone (λ c. placed_call_step C.Meaning.meaning p (Some c)) p
+        (moment running.old trace.old.notes (D.seen disk.old))
+        (moment running.new trace.new.notes (D.seen disk.new)) }
+{
+    soundness::sound_in_place::<C::Meaning>();
+    soundness::ready_in_place::<C::Meaning>();
+    owners::owners_stay();
+    if !running.store.has_grafts() {
+        return finish(running, p, None, disk, trace);
     }
+    let flight = flight(&running.calls, p);
+    let Some(call) = flight.call.get() else {
+        return;
+    };
+    let Some(point) = C::asks(&call.work, &running.store) else {
+        return finish(running, p, None, disk, trace);
+    };
+    if !running.store.has_graft(point.installer, point.point) {
+        return finish(running, p, None, disk, trace);
+    }
+    enter(running, p, &point);
+}
 
-    /// The next piece of process p's call, which is in no graft: where it asks a point at which a
-    /// graft stands, the call enters that graft; else the piece is done by default.
-    fn piece_step<D: Disk>(&mut self, p: u8, disk: &mut D, trace: &mut Trace)
-        requires at { CanRun C.Meaning.meaning self.old (D.seen disk.old) p }
-        requires none { (chain_of self.old p).levels ≡ [] }
-        ensures { CallStepDone (λ c. placed_call_step C.Meaning.meaning p (Some c)) p
-            (moment self.old trace.old.notes (D.seen disk.old))
-            (moment self.new trace.new.notes (D.seen disk.new)) }
-    {
-        soundness::sound_in_place::<C::Meaning>();
-        soundness::ready_in_place::<C::Meaning>();
-        owners::owners_stay();
-        let flight = flight(&self.calls, p);
-        let Some(call) = flight.call.get() else {
-            return;
-        };
-        let Some(point) = C::asks(&call.work, &self.store) else {
-            return self.finish(p, None, disk, trace);
-        };
-        if !self.store.has_graft(point.installer, point.point) {
-            return self.finish(p, None, disk, trace);
-        }
-        self.enter(p, &point);
+/// A step of process p's call, but for its place in the order.
+fn step_call<C: Calls, B: Policy, D: Disk>(
+    running: &mut Running<C, B>,
+    p: u8,
+    disk: &mut D,
+    trace: &mut Trace,
+)
+    requires at { CanRun C.Meaning.meaning running.old (D.seen disk.old) p }
+    requires call { is_some (call_at running.old p) ≡ true }
+    ensures { StepDone (placed_call_step C.Meaning.meaning p (call_at running.old p)) p
+        (moment running.old trace.old.notes (D.seen disk.old))
+        (moment running.new trace.new.notes (D.seen disk.new)) }
+{
+    if flight(&running.calls, p).chain.levels.count() == 0 {
+        return piece_step(running, p, disk, trace);
     }
+    graft_step(running, p, disk, trace);
+}
 
-    /// A step of process p's call, but for its place in the order.
-    fn step_call<D: Disk>(&mut self, p: u8, disk: &mut D, trace: &mut Trace)
-        requires at { CanRun C.Meaning.meaning self.old (D.seen disk.old) p }
-        requires call { is_some (call_at self.old p) ≡ true }
-        ensures { StepDone (placed_call_step C.Meaning.meaning p (call_at self.old p)) p
-            (moment self.old trace.old.notes (D.seen disk.old))
-            (moment self.new trace.new.notes (D.seen disk.new)) }
-    {
-        if flight(&self.calls, p).chain.levels.count() == 0 {
-            return self.piece_step(p, disk, trace);
-        }
-        self.graft_step(p, disk, trace);
-    }
+/// One step of process p's call, which nothing blocks: its next piece, or an instruction of its
+/// innermost level, with all that this ends. The call stands in the order, at its end, exactly
+/// where its next step is a piece. The log is for the calls of the disk of one piece.
+pub fn step<C: Calls, B: Policy, D: Disk>(
+    running: &mut Running<C, B>,
+    p: u8,
+    disk: &mut D,
+    trace: &mut Trace,
+)
+    requires at { CanRun C.Meaning.meaning running.old (D.seen disk.old) p }
+    requires call { is_some (call_at running.old p) ≡ true }
+    requires free { placed_blocker C.Meaning.meaning (placed_of running.old) p ≡ None }
+    ensures { RefinesAndKeeps C.Meaning.meaning (placed_step C.Meaning.meaning p)
+        (moment running.old trace.old.notes (D.seen disk.old))
+        (moment running.new trace.new.notes (D.seen disk.new)) }
+{
+    soundness::sound_in_place::<C::Meaning>();
+    keeping::steps_stand::<C::Meaning>();
+    keeping::held_stays::<C::Meaning>();
+    step_call(running, p, disk, trace);
+    requeue(running, p);
+}
 
-    /// One step of process p's call, which nothing blocks: its next piece, or an instruction of its
-    /// innermost level, with all that this ends. The call stands in the order, at its end, exactly
-    /// where its next step is a piece. The log is for the calls of the disk of one piece.
-    pub fn step<D: Disk>(&mut self, p: u8, disk: &mut D, trace: &mut Trace)
-        requires at { CanRun C.Meaning.meaning self.old (D.seen disk.old) p }
-        requires call { is_some (call_at self.old p) ≡ true }
-        requires free { placed_blocker C.Meaning.meaning (placed_of self.old) p ≡ None }
-        ensures { RefinesAndKeeps C.Meaning.meaning (placed_step C.Meaning.meaning p)
-            (moment self.old trace.old.notes (D.seen disk.old))
-            (moment self.new trace.new.notes (D.seen disk.new)) }
-    {
-        soundness::sound_in_place::<C::Meaning>();
-        keeping::steps_stand::<C::Meaning>();
-        keeping::held_stays::<C::Meaning>();
-        self.step_call(p, disk, trace);
-        self.requeue(p);
-    }
+/// The drop of level d of process p's call, but for the call's place in the order.
+fn drop_call<C: Calls, B: Policy, D: Disk>(
+    running: &mut Running<C, B>,
+    p: u8,
+    d: u8,
+    cause: Cause,
+    disk: &mut D,
+    trace: &mut Trace,
+)
+    requires { HasLevel C.Meaning.meaning running.old (D.seen disk.old) p d }
+    ensures { CallStepDone (λ c r. placed_outcome C.Meaning.meaning p c
+        (level_dropped r.placed.world r.placed.objects
+        (placed_config r.placed p).levels d cause) r) p
+        (moment running.old trace.old.notes (D.seen disk.old))
+        (moment running.new trace.new.notes (D.seen disk.new)) }
+{
+    soundness::ready_in_place::<C::Meaning>();
+    owners::owners_stay();
+    let said = fall(running, p, d, cause);
+    follow(running, p, said, disk, trace);
+}
 
-    /// The drop of level d of process p's call, but for the call's place in the order.
-    fn drop_call<D: Disk>(&mut self, p: u8, d: u8, cause: Cause, disk: &mut D, trace: &mut Trace)
-        requires { HasLevel C.Meaning.meaning self.old (D.seen disk.old) p d }
-        ensures { CallStepDone (λ c r. placed_outcome C.Meaning.meaning p c
-            (level_dropped r.placed.world r.placed.objects
-            (placed_config r.placed p).levels d cause) r) p
-            (moment self.old trace.old.notes (D.seen disk.old))
-            (moment self.new trace.new.notes (D.seen disk.new)) }
-    {
-        soundness::ready_in_place::<C::Meaning>();
-        owners::owners_stay();
-        let said = self.fall(p, d, cause);
-        self.follow(p, said, disk, trace);
-    }
-
-    /// Level d of process p's call is dropped, counted from the outermost, with all that this ends:
-    /// with level 0 the default finishes the piece, and else the asking level gets the default
-    /// answer. The call takes its place in the order.
-    pub fn drop_level<D: Disk>(
-        &mut self,
-        p: u8,
-        d: u8,
-        cause: Cause,
-        disk: &mut D,
-        trace: &mut Trace,
-    )
-        requires { HasLevel C.Meaning.meaning self.old (D.seen disk.old) p d }
-        ensures { RefinesAndKeeps C.Meaning.meaning (placed_drop C.Meaning.meaning p d cause)
-            (moment self.old trace.old.notes (D.seen disk.old))
-            (moment self.new trace.new.notes (D.seen disk.new)) }
-    {
-        agreeing::same_shown::<C::Meaning>();
-        soundness::sound_in_place::<C::Meaning>();
-        keeping::drops_stand::<C::Meaning>();
-        keeping::held_stays::<C::Meaning>();
-        self.drop_call(p, d, cause, disk, trace);
-        self.requeue(p);
-    }
+/// Level d of process p's call is dropped, counted from the outermost, with all that this ends:
+/// with level 0 the default finishes the piece, and else the asking level gets the default answer.
+/// The call takes its place in the order.
+pub fn drop_level<C: Calls, B: Policy, D: Disk>(
+    running: &mut Running<C, B>,
+    p: u8,
+    d: u8,
+    cause: Cause,
+    disk: &mut D,
+    trace: &mut Trace,
+)
+    requires { HasLevel C.Meaning.meaning running.old (D.seen disk.old) p d }
+    ensures { RefinesAndKeeps C.Meaning.meaning (placed_drop C.Meaning.meaning p d cause)
+        (moment running.old trace.old.notes (D.seen disk.old))
+        (moment running.new trace.new.notes (D.seen disk.new)) }
+{
+    agreeing::same_shown::<C::Meaning>();
+    soundness::sound_in_place::<C::Meaning>();
+    keeping::drops_stand::<C::Meaning>();
+    keeping::held_stays::<C::Meaning>();
+    drop_call(running, p, d, cause, disk, trace);
+    requeue(running, p);
 }

@@ -4,8 +4,8 @@ use Rattle.kernel_model.specs.Kernel.{joins, with_call}
 use Rattle.placed_laws.specs.Keeping.{first_call, first_placed}
 use Rattle.placed_laws.specs.Placed.{Placed, PlacedRun}
 use Rattle.placed_laws.specs.PlacedSteps.{placed_joins, with_placed_call}
-use Rattle.kernel_steps.specs.WholeBlocks.{some_blocks}
-use Rattle.kernel_steps.specs.Views.{placed_of, run_of}
+use Rattle.running_kernel.specs.WholeBlocks.{some_blocks}
+use Rattle.running_kernel.specs.Views.{placed_of, run_of}
 use Rattle.kernel_core.proofs.EventLemmas.{starts_by, uncalled_unordered}
 use Rattle.kernel_core.proofs.WentLemmas.{run_at, stood_as, went_silently}
 use Rattle.kernel_core.proofs.events.begin.Goals as goal
@@ -18,10 +18,10 @@ returns g c =
     let a = c.args in
     let m = g.C.Meaning.Rules.meaning in
     let x = placed_of a.running.now in
-    let y = placed_of c.begin.new.self in
+    let y = placed_of c.begin.new.running in
     let s = c.requires.at.abstraction in
     let call = call_with a.request.call a.request.bytes.now.items in
-    starts_by m a.p a.request.number call a.running.now c.begin.new.self c.begin.result c.begin.ensures
+    starts_by m a.p a.request.number call a.running.now c.begin.new.running c.begin.result c.begin.ensures
     (λ h.
     let t = h.first in
     let here = ap (λ (r : PlacedRun). r.placed) (h.value [] some_blocks []) in
@@ -29,7 +29,7 @@ returns g c =
       first = t;
       granted = h.granted;
       went = λ kept d.
-          went_silently m (λ r. placed_joins a.p (with_placed_call a.p (Some (first_placed a.request.number t)) r)) a.running.now c.begin.new.self kept d (λ notes blocks io. h.value notes blocks io) h.running
+          went_silently m (λ r. placed_joins a.p (with_placed_call a.p (Some (first_placed a.request.number t)) r)) a.running.now c.begin.new.running kept d (λ notes blocks io. h.value notes blocks io) h.running
           (stood_as m y (placed_joins a.p (with_placed_call a.p (Some (first_placed a.request.number t)) (run_of x some_blocks [] []))) (joins a.p (with_call a.p (Some (first_call a.request.number t)) (record { kernel = s.kernel; blocks = some_blocks; notes = []; io = [] })))
           (c.others_stand.ensures.beginning (run_of x some_blocks [] []) (record { kernel = s.kernel; blocks = some_blocks; notes = []; io = [] }) a.p a.request.number call t (run_at m x s) c.requires.none c.requires.alive h.granted) here)
           (sym (ap (λ (z : Placed). z.world) here)) (sym (ap (λ (z : Placed). z.clock) here));

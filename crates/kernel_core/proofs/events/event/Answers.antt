@@ -2,7 +2,7 @@ use Rattle.std.proofs.Common.{◌∙◌, ap, sym}
 use Rattle.kernel_model.specs.Bare.{call_with, event_with}
 use Rattle.kernel_model.specs.declared.BareEvent.{BareEvent}
 use Rattle.kernel_model.specs.declared.Event.TheVariants.{Tick, Step, Sys}
-use Rattle.kernel_steps.specs.Views.{placed_of}
+use Rattle.running_kernel.specs.Views.{placed_of}
 use Rattle.placed_laws.specs.PlacedEvents.{placed_event_on}
 use Rattle.kernel_core.proofs.EventLemmas.{happened_as, happened_by}
 use Rattle.kernel_core.proofs.RestLemmas.{from_did}

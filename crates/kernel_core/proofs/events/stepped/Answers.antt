@@ -3,7 +3,7 @@ use Rattle.kernel_model.specs.declared.Event.TheVariants.{Step}
 use Rattle.kernel_model.specs.declared.Note.TheVariants.{Refused}
 use Rattle.kernel_model.specs.declared.Refusal.TheVariants.{NoProcess, BadIndex}
 use Rattle.placed_laws.specs.PlacedEvents.{placed_event_on, placed_step_event}
-use Rattle.kernel_steps.specs.Views.{placed_of}
+use Rattle.running_kernel.specs.Views.{placed_of}
 use Rattle.kernel_core.proofs.EventLemmas.{step_many, step_taken, step_unliving, step_zero, went_refused}
 use Rattle.kernel_core.proofs.RestLemmas.{from_as, from_did}
 use Rattle.kernel_core.proofs.events.stepped.Goals as goal

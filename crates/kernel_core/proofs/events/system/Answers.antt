@@ -9,7 +9,7 @@ use Rattle.kernel_model.specs.declared.Refusal.TheVariants.{NoProcess, Busy}
 use Rattle.placed_laws.specs.Keeping.{first_placed}
 use Rattle.placed_laws.specs.PlacedSteps.{placed_joins, with_placed_call}
 use Rattle.placed_laws.specs.PlacedEvents.{placed_begun, placed_event_on, placed_last, placed_settled}
-use Rattle.kernel_steps.specs.Views.{placed_of}
+use Rattle.running_kernel.specs.Views.{placed_of}
 use Rattle.kernel_core.proofs.EventLemmas.{refused_early, refused_elsewise, no_call_told, sys_begun, sys_busy, sys_refused, sys_unliving, went_refused, went_refused_at}
 use Rattle.kernel_core.proofs.WentLemmas.{went_as, went_then}
 use Rattle.kernel_core.proofs.events.system.Goals as goal

@@ -2,7 +2,7 @@ use Rattle.std.proofs.Common.{◌∙◌, [], ap, sym}
 use Rattle.std.specs.Prelude.{option_map}
 use Rattle.kernel_model.specs.declared.BareNote.{BareNote}
 use Rattle.kernel_model.specs.Bare.{note_with}
-use Rattle.kernel_steps.specs.Views.{placed_of}
+use Rattle.running_kernel.specs.Views.{placed_of}
 use Rattle.kernel_core.proofs.LastLemmas.{graft_said, graft_unsaid, last_graft, last_none, last_waits}
 use Rattle.kernel_core.proofs.last.say_last.Goals as goal
 

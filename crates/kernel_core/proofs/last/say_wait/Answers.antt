@@ -1,8 +1,8 @@
 use Rattle.std.proofs.Common.{◌∙◌, ap, sym}
 use Rattle.std.specs.Prelude.{option_map}
 use Rattle.placed_laws.specs.Placed.{placed_blocker}
-use Rattle.kernel_steps.specs.Orders.{blocker_of}
-use Rattle.kernel_steps.specs.Views.{placed_of}
+use Rattle.running_kernel.specs.Orders.{blocker_of}
+use Rattle.running_kernel.specs.Views.{placed_of}
 use Rattle.kernel_core.proofs.LastLemmas.{waits_said, waits_unsaid}
 use Rattle.kernel_core.proofs.last.say_wait.Goals as goal
 

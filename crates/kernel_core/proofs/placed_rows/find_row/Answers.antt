@@ -1,7 +1,7 @@
 -- A row is found at the place, or the place or its section is passed.
 use Rattle.std.proofs.Common.{get_or, arith, refl}
 use Rattle.std.proofs.lemmas.Option.{slice_get-get_or}
-use Rattle.kernel_steps.specs.Views.{placed_of}
+use Rattle.running_kernel.specs.Views.{placed_of}
 use Rattle.kernel_core.specs.declared.placed_rows.Section.TheVariants.{Clock}
 use Rattle.kernel_core.specs.PlacedSections.{sections, row_found}
 use Rattle.kernel_core.proofs.RowPlaceLemmas.{alike_passed, none_taken, row_taken_of, section_passed}

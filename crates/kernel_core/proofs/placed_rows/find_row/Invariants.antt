@@ -1,6 +1,6 @@
 -- The same rows are left as from the first place on. Each step passes a place or a section.
 use Rattle.std.proofs.Common.{◌+◌, ◌-◌, ◌*◌}
-use Rattle.kernel_steps.specs.Views.{placed_of}
+use Rattle.running_kernel.specs.Views.{placed_of}
 use Rattle.kernel_core.proofs.RowPlaceLemmas.{IsAlike}
 use Rattle.kernel_core.proofs.placed_rows.find_row.Given as goal
 

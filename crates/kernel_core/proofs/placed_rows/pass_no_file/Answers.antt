@@ -1,7 +1,7 @@
 -- Nothing is passed yet, or a place without a row.
 use Rattle.std.proofs.Common.{arith}
 use Rattle.std.proofs.lemmas.Bool.Decides.{nat_tests}
-use Rattle.kernel_steps.specs.Views.{placed_of}
+use Rattle.running_kernel.specs.Views.{placed_of}
 use Rattle.kernel_core.specs.declared.placed_rows.Section.TheVariants.{Files}
 use Rattle.kernel_core.proofs.RowPlaceLemmas.{none_passed, nothing_passed}
 use Rattle.kernel_core.proofs.placed_rows.pass_no_file.Goals as goal

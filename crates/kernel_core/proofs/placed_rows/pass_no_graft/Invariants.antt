@@ -1,6 +1,6 @@
 -- The places so far had no row.
 use Rattle.std.proofs.Common.{◌-◌}
-use Rattle.kernel_steps.specs.Views.{placed_of}
+use Rattle.running_kernel.specs.Views.{placed_of}
 use Rattle.kernel_core.specs.declared.placed_rows.Section.TheVariants.{Grafts}
 use Rattle.kernel_core.specs.PlacedSections.{IsPassed}
 use Rattle.kernel_core.proofs.placed_rows.pass_no_graft.Given as goal

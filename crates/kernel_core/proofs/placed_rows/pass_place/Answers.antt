@@ -1,6 +1,6 @@
 -- The place is passed, and those without a file or a graft behind it.
 use Rattle.std.proofs.Common.{arith, ap, subst, sym}
-use Rattle.kernel_steps.specs.Views.{placed_of}
+use Rattle.running_kernel.specs.Views.{placed_of}
 use Rattle.kernel_core.specs.declared.placed_rows.RowPlace.{RowPlace}
 use Rattle.kernel_core.specs.declared.placed_rows.Section.{Section}
 use Rattle.kernel_core.specs.declared.placed_rows.Section.TheVariants.{Files, Grafts}

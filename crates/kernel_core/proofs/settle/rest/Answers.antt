@@ -2,8 +2,8 @@ use Rattle.std.proofs.Common.{[], ap, sym}
 use Rattle.kernel_model.specs.Settle.{rested}
 use Rattle.placed_laws.specs.Placed.{Placed, PlacedRun}
 use Rattle.placed_laws.specs.PlacedEvents.{placed_rested}
-use Rattle.kernel_steps.specs.WholeBlocks.{some_blocks}
-use Rattle.kernel_steps.specs.Views.{placed_of, run_of}
+use Rattle.running_kernel.specs.WholeBlocks.{some_blocks}
+use Rattle.running_kernel.specs.Views.{placed_of, run_of}
 use Rattle.kernel_core.proofs.WentLemmas.{run_at, stood_as, went_silently}
 use Rattle.kernel_core.proofs.settle.rest.Goals as goal
 

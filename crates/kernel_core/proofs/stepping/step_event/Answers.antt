@@ -1,7 +1,7 @@
 use Rattle.std.proofs.Common.{refl}
 use Rattle.placed_laws.specs.PlacedEvents.{placed_last, placed_step_event}
 use Rattle.kernel_core.specs.EventParts.{steps_said}
-use Rattle.kernel_steps.specs.Views.{placed_of}
+use Rattle.running_kernel.specs.Views.{placed_of}
 use Rattle.kernel_core.proofs.RestLemmas.{from_as, from_then}
 use Rattle.kernel_core.proofs.stepping.step_event.Goals as goal
 

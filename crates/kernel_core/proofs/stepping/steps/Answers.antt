@@ -5,7 +5,7 @@ use Rattle.placed_laws.specs.PlacedSteps.{placed_noted}
 use Rattle.kernel_steps.specs.Composing.{did_as}
 use Rattle.kernel_steps.specs.Moments.{moment}
 use Rattle.kernel_core.specs.EventParts.{steps_left, steps_said, taken_up, HasReached}
-use Rattle.kernel_steps.specs.Views.{placed_of, run_of}
+use Rattle.running_kernel.specs.Views.{placed_of, run_of}
 use Rattle.kernel_core.proofs.LastLemmas.{did_note}
 use Rattle.kernel_core.proofs.StepLemmas.{all_taken, come_first, come_last, come_on, come_stretched, not_going, one_less, steps_again, steps_next, steps_over, still_few}
 use Rattle.kernel_core.proofs.stepping.steps.Goals as goal

@@ -3,7 +3,7 @@ use Rattle.std.proofs.Common.{◌≡◌, ◌+◌, ◌-◌, ◌≤◌, cond}
 use Rattle.kernel_state.specs.Stores.{world_of_store}
 use Rattle.kernel_steps.specs.Moments.{moment}
 use Rattle.kernel_core.specs.EventParts.{steps_left, steps_said, HasReached}
-use Rattle.kernel_steps.specs.Views.{placed_of, IsRunning, HasAbstraction}
+use Rattle.running_kernel.specs.Views.{placed_of, IsRunning, HasAbstraction}
 use Rattle.kernel_core.proofs.stepping.steps.Given as goal
 
 abbrev pub invariant-loop-going : goal.invariant-loop-going

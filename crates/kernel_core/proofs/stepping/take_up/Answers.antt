@@ -6,7 +6,7 @@ use Rattle.placed_laws.specs.PlacedSteps.{placed_joins, placed_step}
 use Rattle.placed_laws.specs.PlacedEvents.{placed_settled}
 use Rattle.kernel_steps.specs.Composing.{did_nothing, did_then}
 use Rattle.kernel_core.specs.EventParts.{taken_up}
-use Rattle.kernel_steps.specs.Views.{placed_of}
+use Rattle.running_kernel.specs.Views.{placed_of}
 use Rattle.kernel_core.proofs.RestLemmas.{called, did_to_rest, rested_joined, rested_same, rested_stepped, rested_still}
 use Rattle.kernel_core.proofs.StepLemmas.{blocker_told, can_step, no_blocker_told, not_first, not_second, some_is, taken_by, taken_none}
 use Rattle.kernel_core.proofs.WentLemmas.{levels_called}
@@ -58,8 +58,8 @@ returns-then-step_in_graft-clause-went g c =
     let call = called ((placed_of a.running.now).call a.p) (levels_called g.C.Meaning.Rules.meaning c.same_shown.ensures (placed_of a.running.now) a.p c.requires.abstraction (sym c.in_graft.ensures ∙ c.if-not-in_graft.false)) in
     let s = c.step_in_graft.ensures.went in
     record {
-      refines = did_to_rest g.C.Meaning.Rules.meaning (taken_up g.C.Meaning.Rules.meaning a.p) (placed_step g.C.Meaning.Rules.meaning a.p) (placed_of a.running.now) (placed_of c.step_in_graft.new.self) a.trace.now.notes c.step_in_graft.new.trace.notes (g.D.Disk.seen a.disk.now) (g.D.Disk.seen c.step_in_graft.new.disk) c.step_in_graft.ensures.went.refines
-          (rested_still g.C.Meaning.Rules.meaning (placed_of a.running.now) c.steps_stand.ensures c.resting.ensures a.p call.0 (placed_of c.step_in_graft.new.self) call.1 none (sym c.in_graft.ensures ∙ c.if-not-in_graft.false) (sym c.waits.ensures ∙ c.if-waits.false) (c.step_in_graft.ensures.kept c.if-step_in_graft.true)
+      refines = did_to_rest g.C.Meaning.Rules.meaning (taken_up g.C.Meaning.Rules.meaning a.p) (placed_step g.C.Meaning.Rules.meaning a.p) (placed_of a.running.now) (placed_of c.step_in_graft.new.running) a.trace.now.notes c.step_in_graft.new.trace.notes (g.D.Disk.seen a.disk.now) (g.D.Disk.seen c.step_in_graft.new.disk) c.step_in_graft.ensures.went.refines
+          (rested_still g.C.Meaning.Rules.meaning (placed_of a.running.now) c.steps_stand.ensures c.resting.ensures a.p call.0 (placed_of c.step_in_graft.new.running) call.1 none (sym c.in_graft.ensures ∙ c.if-not-in_graft.false) (sym c.waits.ensures ∙ c.if-waits.false) (c.step_in_graft.ensures.kept c.if-step_in_graft.true)
           (taken_by g.C.Meaning.Rules.meaning (placed_of a.running.now) a.p None can none).1);
       on = record { running = s.running; abstraction = s.abstraction; world = s.world; clock = s.clock };
     }
@@ -74,7 +74,7 @@ returns-clause-went g c =
     let w = c.settle_all-2.ensures in
     record {
       refines = did_to_rest g.C.Meaning.Rules.meaning (taken_up g.C.Meaning.Rules.meaning a.p) (λ r. placed_settled g.C.Meaning.Rules.meaning (placed_step g.C.Meaning.Rules.meaning a.p r)) (placed_of a.running.now) (placed_of c.settle_all-2.new.running) a.trace.now.notes c.settle_all-2.new.trace.notes (g.D.Disk.seen a.disk.now) (g.D.Disk.seen c.settle_all-2.new.disk)
-          (did_then (placed_step g.C.Meaning.Rules.meaning a.p) (placed_settled g.C.Meaning.Rules.meaning) (placed_of a.running.now) (placed_of c.step_in_graft.new.self) (placed_of c.settle_all-2.new.running) a.trace.now.notes c.step_in_graft.new.trace.notes c.settle_all-2.new.trace.notes (g.D.Disk.seen a.disk.now) (g.D.Disk.seen c.step_in_graft.new.disk) (g.D.Disk.seen c.settle_all-2.new.disk) c.step_in_graft.ensures.went.refines c.settle_all-2.ensures.refines)
+          (did_then (placed_step g.C.Meaning.Rules.meaning a.p) (placed_settled g.C.Meaning.Rules.meaning) (placed_of a.running.now) (placed_of c.step_in_graft.new.running) (placed_of c.settle_all-2.new.running) a.trace.now.notes c.step_in_graft.new.trace.notes c.settle_all-2.new.trace.notes (g.D.Disk.seen a.disk.now) (g.D.Disk.seen c.step_in_graft.new.disk) (g.D.Disk.seen c.settle_all-2.new.disk) c.step_in_graft.ensures.went.refines c.settle_all-2.ensures.refines)
           (λ blocks notes io s is. rested_stepped g.C.Meaning.Rules.meaning (placed_of a.running.now) c.steps_stand.ensures c.resting.ensures a.p call.0 call.1 none (taken_by g.C.Meaning.Rules.meaning (placed_of a.running.now) a.p None can none).1 blocks notes io s);
       on = record { running = w.running; abstraction = w.abstraction; world = w.world ∙ s.world; clock = w.clock ∙ s.clock };
     }

@@ -1,5 +1,5 @@
 use Rattle.std.proofs.Common.{◌∙◌, sym}
-use Rattle.kernel_steps.specs.Views.{placed_of}
+use Rattle.running_kernel.specs.Views.{placed_of}
 use Rattle.kernel_core.proofs.WentLemmas.{levels_called}
 use Rattle.kernel_core.proofs.RestLemmas.{called}
 use Rattle.kernel_core.proofs.StepLemmas.{leads_far, leads_none}
@@ -15,4 +15,4 @@ pub returns-clause-leads : goal.returns-clause-leads
 returns-clause-leads g c =
     let x = placed_of c.args.running.now in
     let call = called (x.call c.args.p) (levels_called g.C.Meaning.Rules.meaning c.same_shown.ensures x c.args.p c.requires.abstraction (sym c.in_graft.ensures ∙ c.if-not-in_graft.false)) in
-    leads_far g.C.Meaning.Rules.meaning c.stretches.ensures x (placed_of c.stretch.new.self) call.0 c.args.p c.stretch.result call.1 (sym c.waits.ensures ∙ c.if-waits.false) c.stretch.ensures.is
+    leads_far g.C.Meaning.Rules.meaning c.stretches.ensures x (placed_of c.stretch.new.running) call.0 c.args.p c.stretch.result call.1 (sym c.waits.ensures ∙ c.if-waits.false) c.stretch.ensures.is

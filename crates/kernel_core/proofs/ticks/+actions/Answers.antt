@@ -1,7 +1,7 @@
 use Rattle.std.proofs.Common.{◌≡◌, ◌-◌, suc, ◌∙◌, ap, sym, arith}
 use Rattle.std.specs.Prelude.{option_map}
 use Rattle.placed_laws.specs.PlacedEvents.{placed_actions, placed_entry_action, placed_settled}
-use Rattle.kernel_steps.specs.Orders.{entry_of}
+use Rattle.running_kernel.specs.Orders.{entry_of}
 use Rattle.kernel_core.proofs.TickLemmas.{actions_none, actions_some, actions_zero, expired_small}
 use Rattle.kernel_core.proofs.WentLemmas.{still_on, went_as, went_nothing, went_then}
 use Rattle.kernel_core.proofs.ticks.+actions.Goals as goal

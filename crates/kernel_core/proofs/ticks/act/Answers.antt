@@ -1,8 +1,8 @@
 use Rattle.std.proofs.Common.{◌∙◌, ap}
 use Rattle.std.specs.Prelude.{option_map}
 use Rattle.placed_laws.specs.PlacedEvents.{placed_action, placed_entry_action, placed_holder, placed_waiter}
-use Rattle.kernel_steps.specs.Orders.{blocker_of, entry_of}
-use Rattle.kernel_steps.specs.Views.{placed_of, run_of}
+use Rattle.running_kernel.specs.Orders.{blocker_of, entry_of}
+use Rattle.running_kernel.specs.Views.{placed_of, run_of}
 use Rattle.kernel_core.proofs.WentLemmas.{went_as, went_nothing}
 use Rattle.kernel_core.proofs.ticks.act.Goals as goal
 

@@ -4,8 +4,8 @@ use Rattle.kernel_model.specs.Events.{ticked}
 use Rattle.placed_laws.specs.Placed.{Placed, PlacedRun}
 use Rattle.placed_laws.specs.PlacedSteps.{placed_ticked}
 use Rattle.kernel_steps.specs.Composing.{did_purely}
-use Rattle.kernel_steps.specs.WholeBlocks.{some_blocks}
-use Rattle.kernel_steps.specs.Views.{placed_of, run_of}
+use Rattle.running_kernel.specs.WholeBlocks.{some_blocks}
+use Rattle.running_kernel.specs.Views.{placed_of, run_of}
 use Rattle.kernel_core.proofs.WentLemmas.{run_at, stood_as}
 use Rattle.kernel_core.proofs.ticks.raise.Goals as goal
 
@@ -14,7 +14,7 @@ returns g c = record {
   ticked = λ d.
       let a = c.args in
       let x = (placed_of a.running.now) in
-      let y = placed_of c.tick.new.self in
+      let y = placed_of c.tick.new.running in
       let s = c.requires.sound.abstraction in
       let value = c.tick.ensures.value in
       let here = ap (λ (r : PlacedRun). r.placed) (value.0 [] some_blocks []) in

@@ -3,7 +3,7 @@ use Rattle.kernel_model.specs.World.{World}
 use Rattle.placed_laws.specs.PlacedSteps.{placed_ticked}
 use Rattle.placed_laws.specs.PlacedEvents.{placed_actions}
 use Rattle.kernel_steps.specs.Composing.{did_then}
-use Rattle.kernel_steps.specs.Views.{placed_of}
+use Rattle.running_kernel.specs.Views.{placed_of}
 use Rattle.kernel_core.proofs.ticks.tick_event.Goals as goal
 
 pub actions-requires : goal.actions-requires

@@ -2,8 +2,8 @@ use Rattle.std.proofs.Common.{◌∙◌, ap, sym}
 use Rattle.kernel_model.specs.declared.Cause.TheVariants.{TimeOut}
 use Rattle.placed_laws.specs.PlacedSteps.{placed_drop}
 use Rattle.placed_laws.specs.PlacedEvents.{placed_drop_if, placed_holder}
-use Rattle.kernel_steps.specs.Orders.{blocker_of}
-use Rattle.kernel_steps.specs.Views.{placed_of, run_of}
+use Rattle.running_kernel.specs.Orders.{blocker_of}
+use Rattle.running_kernel.specs.Views.{placed_of, run_of}
 use Rattle.kernel_core.proofs.WentLemmas.{went_as, went_nothing}
 use Rattle.kernel_core.proofs.ticks.time_out_holder.Goals as goal
 
@@ -17,6 +17,6 @@ returns-in_default g c =
 pub returns : goal.returns
 returns g c =
     let a = c.args in
-    went_as g.C.Meaning.Rules.meaning (placed_holder g.C.Meaning.Rules.meaning a.p (blocker_of a.found)) (placed_drop g.C.Meaning.Rules.meaning a.found.holder c.in-Some.level (TimeOut a.found.object a.p)) a.running.now c.drop_level.new.self a.trace.now.notes c.drop_level.new.trace.notes (g.D.Disk.seen a.disk.now) (g.D.Disk.seen c.drop_level.new.disk)
+    went_as g.C.Meaning.Rules.meaning (placed_holder g.C.Meaning.Rules.meaning a.p (blocker_of a.found)) (placed_drop g.C.Meaning.Rules.meaning a.found.holder c.in-Some.level (TimeOut a.found.object a.p)) a.running.now c.drop_level.new.running a.trace.now.notes c.drop_level.new.trace.notes (g.D.Disk.seen a.disk.now) (g.D.Disk.seen c.drop_level.new.disk)
     (λ blocks notes io. ap (λ o. placed_drop_if g.C.Meaning.Rules.meaning a.found.holder o (TimeOut a.found.object a.p) (run_of (placed_of a.running.now) blocks notes io)) (sym c.level_in_the_way.ensures.value ∙ c.in-Some.is))
     c.drop_level.ensures

@@ -4,8 +4,8 @@ use Rattle.kernel_model.specs.declared.Note.TheVariants.{Refused}
 use Rattle.kernel_model.specs.declared.Refusal.TheVariants.{TimedOut}
 use Rattle.placed_laws.specs.PlacedSteps.{placed_drop, placed_noted, placed_requeue, with_placed_call}
 use Rattle.placed_laws.specs.PlacedEvents.{placed_waiter}
-use Rattle.kernel_steps.specs.Orders.{blocker_of}
-use Rattle.kernel_steps.specs.Views.{placed_of}
+use Rattle.running_kernel.specs.Orders.{blocker_of}
+use Rattle.running_kernel.specs.Views.{placed_of}
 use Rattle.kernel_core.proofs.TickLemmas.{no_level, waiter_drops, waiter_ends, waiter_none}
 use Rattle.kernel_core.proofs.WentLemmas.{went_as, went_nothing}
 use Rattle.kernel_core.proofs.ticks.time_out_waiter.Goals as goal
@@ -30,5 +30,5 @@ returns g c =
     let a = c.args in
     let k = c.level_count-count.result - 1 in
     let many : length ((placed_of a.running.now).levels a.p) ≡ suc k = let e = c.level_count-count.ensures.value in omega (arith, e, c.if-count-eq0.false) in
-    went_as g.C.Meaning.Rules.meaning (λ r. placed_waiter g.C.Meaning.Rules.meaning a.p (blocker_of a.found) (r.placed.call a.p) r) (placed_drop g.C.Meaning.Rules.meaning a.p k (TimeOut a.found.object a.found.holder)) a.running.now c.drop_level.new.self a.trace.now.notes c.drop_level.new.trace.notes (g.D.Disk.seen a.disk.now) (g.D.Disk.seen c.drop_level.new.disk)
+    went_as g.C.Meaning.Rules.meaning (λ r. placed_waiter g.C.Meaning.Rules.meaning a.p (blocker_of a.found) (r.placed.call a.p) r) (placed_drop g.C.Meaning.Rules.meaning a.p k (TimeOut a.found.object a.found.holder)) a.running.now c.drop_level.new.running a.trace.now.notes c.drop_level.new.trace.notes (g.D.Disk.seen a.disk.now) (g.D.Disk.seen c.drop_level.new.disk)
     (waiter_drops g.C.Meaning.Rules.meaning (placed_of a.running.now) a.p c.in-Some.number k (blocker_of a.found) (sym c.in-Some.is ∙ c.call_number.ensures) many) c.drop_level.ensures

@@ -1,7 +1,7 @@
 use Rattle.std.proofs.Common.{ap, length, sym, ◌∙◌}
 use Rattle.kernel_model.specs.Images.{load}
 use Rattle.graft_loader.specs.Faults.{refusal_of}
-use Rattle.kernel_steps.specs.Views.{placed_of}
+use Rattle.running_kernel.specs.Views.{placed_of}
 use Rattle.kernel_core.proofs.AddedImageLemmas.{bytes_are_refused, image_is_added, known_fault}
 use Rattle.kernel_core.proofs.kernel.Kernel.add_image.Goals as goal
 

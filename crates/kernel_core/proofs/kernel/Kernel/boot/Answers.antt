@@ -1,5 +1,5 @@
 -- Block 0 was read, or that failed.
-use Rattle.kernel_steps.specs.Views.{placed_of}
+use Rattle.running_kernel.specs.Views.{placed_of}
 use Rattle.kernel_core.proofs.BootLemmas.{booted_read, booted_fault}
 use Rattle.kernel_core.proofs.kernel.Kernel.boot.Goals as goal
 

@@ -1,6 +1,6 @@
 -- The rows are passed one by one.
 use Rattle.std.proofs.Common.{◌∙◌, ap, arith, slice_get}
-use Rattle.kernel_steps.specs.Views.{placed_of}
+use Rattle.running_kernel.specs.Views.{placed_of}
 use Rattle.kernel_core.proofs.RowPlaceLemmas.{behind_more, row_behind, row_past}
 use Rattle.kernel_core.proofs.kernel.Kernel.raw.Goals as goal
 

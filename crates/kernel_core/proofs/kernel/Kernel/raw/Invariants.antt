@@ -1,5 +1,5 @@
 -- So many rows are passed.
-use Rattle.kernel_steps.specs.Views.{placed_of}
+use Rattle.running_kernel.specs.Views.{placed_of}
 use Rattle.kernel_core.proofs.RowPlaceLemmas.{IsBehind}
 use Rattle.kernel_core.proofs.kernel.Kernel.raw.Given as goal
 

@@ -1,5 +1,5 @@
 use Rattle.std.proofs.Common.{arith, sym, ◌∙◌}
-use Rattle.kernel_steps.specs.Views.{placed_of}
+use Rattle.running_kernel.specs.Views.{placed_of}
 use Rattle.kernel_core.specs.declared.images.ImageRefusal.TheVariants.{BadSlot, Taken}
 use Rattle.kernel_core.proofs.AddedImageLemmas.{slot_is_refused, high_slot, used_slot}
 use Rattle.kernel_core.proofs.kernel.Kernel.slot_refusal.Goals as goal

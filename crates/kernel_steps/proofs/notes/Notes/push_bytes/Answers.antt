@@ -5,7 +5,7 @@ use Rattle.kernel_model.specs.declared.Note.TheVariants.{Gave}
 use Rattle.kernel_model.specs.Bare.{notes_with}
 use Rattle.kernel_model.specs.Kernel.{gave_note}
 use Rattle.kernel_steps.specs.Refines.{Adds}
-use Rattle.kernel_steps.proofs.NotingLemmas.{added_full, added_more, added_nothing, as_many, notes_added}
+use Rattle.kernel_steps.proofs.NotingLemmas.{added_full, added_more, as_many, notes_added}
 use Rattle.kernel_steps.proofs.notes.Notes.push_bytes.Goals as goal
 
 pub returns-then-len-lt-NOTES : goal.returns-then-len-lt-NOTES

@@ -1,8 +1,0 @@
-use Rattle.std.proofs.Common.{arith}
-use Rattle.std.proofs.lemmas.Grind.{common_steps}
-use Rattle.std.proofs.lemmas.List.Edits.{map_over_more}
-use Rattle.kernel_steps.specs.Orders.{later}
-use Rattle.kernel_steps.proofs.order.count_all.Goals as goal
-
-pub loop-waiting-preserved : goal.loop-waiting-preserved
-loop-waiting-preserved c = grind (arith, common_steps, map_over_more later)

@@ -1,6 +1,0 @@
--- Each turn has one entry less.
-use Rattle.std.proofs.Common.{length}
-use Rattle.kernel_steps.proofs.shown.+wait_row.Given as goal
-
-abbrev pub decreases-wait_row : goal.decreases-wait_row
-decreases-wait_row l = length l.entries.now

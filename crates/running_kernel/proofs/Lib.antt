@@ -1,0 +1,10 @@
+pub mod OrderLemmas
+pub mod ViewLemmas
+pub mod StartLemmas
+pub mod HinderLemmas
+pub mod FreeLemmas
+pub mod QueryLemmas
+pub mod ShownLemmas
+pub mod OpeningLemmas
+pub mod SegmentLemmas
+pub mod RestLemmas

@@ -1,0 +1,9 @@
+pub mod Owned
+pub mod Orders
+pub mod Views
+pub mod Sound
+pub mod Hindered
+pub mod Queries
+pub mod Looking
+pub mod WholeBlocks
+pub mod Rests
