@@ -1,1 +1,2 @@
 mod Encoding
+mod Lengths

@@ -4,71 +4,62 @@ ghost use Rattle.std.specs.Prelude.{◌≡◌, ◌<◌, ◌≤◌, ◌+◌, ◌*
 ghost use Rattle.kernel_model.specs.Bytes.{hex_text};
 ghost use Rattle.kernel_model.specs.Text.{spaced, after_colon, all_spaced, data_text};
 
-use arrayvec::ArrayVec;
-
-/// The most bytes of a text.
-pub(crate) const TEXT_BYTES: usize = 2048;
-
-/// The bytes of a text.
-pub(crate) type Buffer = ArrayVec<u8, TEXT_BYTES>;
+use crate::buffer::Buffer;
 
 /// The most hex digits of a note: those of a block.
 const DATA_DIGITS: usize = 1024;
 
 /// Bytes.
 pub(crate) fn add(out: &mut Buffer, bytes: &[u8])
-    requires { length out.old.items + length bytes.now ≤ 2048 }
-    ensures text { out.new.items ≡ out.old.items ++ bytes.now }
-    ensures len { length out.new.items ≡ length out.old.items + length bytes.now }
+    requires { length out.old + length bytes.now ≤ 2048 }
+    ensures text { out.new ≡ out.old ++ bytes.now }
+    ensures len { length out.new ≡ length out.old + length bytes.now }
 {
-    let _ = out.try_extend_from_slice(bytes);
+    out.add(bytes);
 }
 
 /// A number of at most 3 digits.
 pub(crate) fn number_u8(out: &mut Buffer, n: u8)
-    requires { length out.old.items + 3 ≤ 2048 }
-    ensures text { out.new.items ≡ out.old.items ++ decimal n }
-    ensures len { length out.new.items ≤ length out.old.items + 3 }
+    requires { length out.old + 3 ≤ 2048 }
+    ensures text { out.new ≡ out.old ++ decimal n }
+    ensures len { length out.new ≤ length out.old + 3 }
 {
-    let mut digits = itoa::Buffer::new();
-    add(out, digits.format(n).as_bytes());
+    out.add_number(u64::from(n));
 }
 
 /// A number of at most 10 digits.
 pub(crate) fn number_u32(out: &mut Buffer, n: u32)
-    requires { length out.old.items + 10 ≤ 2048 }
-    ensures text { out.new.items ≡ out.old.items ++ decimal n }
-    ensures len { length out.new.items ≤ length out.old.items + 10 }
+    requires { length out.old + 10 ≤ 2048 }
+    ensures text { out.new ≡ out.old ++ decimal n }
+    ensures len { length out.new ≤ length out.old + 10 }
 {
-    let mut digits = itoa::Buffer::new();
-    add(out, digits.format(n).as_bytes());
+    out.add_number(u64::from(n));
 }
 
 /// A number of at most 20 digits.
 fn number_u64(out: &mut Buffer, n: u64)
-    requires { length out.old.items + 20 ≤ 2048 }
-    ensures text { out.new.items ≡ out.old.items ++ decimal n }
-    ensures len { length out.new.items ≤ length out.old.items + 20 }
+    requires { length out.old + 20 ≤ 2048 }
+    ensures text { out.new ≡ out.old ++ decimal n }
+    ensures len { length out.new ≤ length out.old + 20 }
 {
-    let mut digits = itoa::Buffer::new();
-    add(out, digits.format(n).as_bytes());
+    out.add_number(n);
 }
 
 /// A byte and a digit.
 fn digit(out: &mut Buffer, before: u8, n: u8)
-    requires room { length out.old.items + 2 ≤ 2048 }
+    requires room { length out.old + 2 ≤ 2048 }
     requires digit { n < 10 }
-    ensures text { out.new.items ≡ out.old.items ++ before ∷ decimal n }
-    ensures len { length out.new.items ≤ length out.old.items + 2 }
+    ensures text { out.new ≡ out.old ++ before ∷ decimal n }
+    ensures len { length out.new ≤ length out.old + 2 }
 {
     add(out, [before, b'0' + n].as_slice());
 }
 
 /// A space and a number.
 pub(crate) fn spaced_u8(out: &mut Buffer, n: u8)
-    requires { length out.old.items + 4 ≤ 2048 }
-    ensures text { out.new.items ≡ out.old.items ++ spaced n }
-    ensures len { length out.new.items ≤ length out.old.items + 4 }
+    requires { length out.old + 4 ≤ 2048 }
+    ensures text { out.new ≡ out.old ++ spaced n }
+    ensures len { length out.new ≤ length out.old + 4 }
 {
     if n < 10 {
         return digit(out, b' ', n);
@@ -79,9 +70,9 @@ pub(crate) fn spaced_u8(out: &mut Buffer, n: u8)
 
 /// A space and a number.
 pub(crate) fn spaced_u32(out: &mut Buffer, n: u32)
-    requires { length out.old.items + 11 ≤ 2048 }
-    ensures text { out.new.items ≡ out.old.items ++ spaced n }
-    ensures len { length out.new.items ≤ length out.old.items + 11 }
+    requires { length out.old + 11 ≤ 2048 }
+    ensures text { out.new ≡ out.old ++ spaced n }
+    ensures len { length out.new ≤ length out.old + 11 }
 {
     if n < 10 {
         return digit(out, b' ', n as u8);
@@ -92,9 +83,9 @@ pub(crate) fn spaced_u32(out: &mut Buffer, n: u32)
 
 /// A space and a number.
 pub(crate) fn spaced_u64(out: &mut Buffer, n: u64)
-    requires { length out.old.items + 21 ≤ 2048 }
-    ensures text { out.new.items ≡ out.old.items ++ spaced n }
-    ensures len { length out.new.items ≤ length out.old.items + 21 }
+    requires { length out.old + 21 ≤ 2048 }
+    ensures text { out.new ≡ out.old ++ spaced n }
+    ensures len { length out.new ≤ length out.old + 21 }
 {
     if n < 10 {
         return digit(out, b' ', n as u8);
@@ -105,9 +96,9 @@ pub(crate) fn spaced_u64(out: &mut Buffer, n: u64)
 
 /// A colon and a number.
 pub(crate) fn colon_u8(out: &mut Buffer, n: u8)
-    requires { length out.old.items + 4 ≤ 2048 }
-    ensures text { out.new.items ≡ out.old.items ++ after_colon n }
-    ensures len { length out.new.items ≤ length out.old.items + 4 }
+    requires { length out.old + 4 ≤ 2048 }
+    ensures text { out.new ≡ out.old ++ after_colon n }
+    ensures len { length out.new ≤ length out.old + 4 }
 {
     if n < 10 {
         return digit(out, b':', n);
@@ -118,9 +109,9 @@ pub(crate) fn colon_u8(out: &mut Buffer, n: u8)
 
 /// A colon and a number.
 pub(crate) fn colon_u32(out: &mut Buffer, n: u32)
-    requires { length out.old.items + 11 ≤ 2048 }
-    ensures text { out.new.items ≡ out.old.items ++ after_colon n }
-    ensures len { length out.new.items ≤ length out.old.items + 11 }
+    requires { length out.old + 11 ≤ 2048 }
+    ensures text { out.new ≡ out.old ++ after_colon n }
+    ensures len { length out.new ≤ length out.old + 11 }
 {
     if n < 10 {
         return digit(out, b':', n as u8);
@@ -131,9 +122,9 @@ pub(crate) fn colon_u32(out: &mut Buffer, n: u32)
 
 /// Numbers, each after a space.
 pub(crate) fn all_u32(out: &mut Buffer, ns: &[u32])
-    requires { length out.old.items + 11 * length ns.now ≤ 2048 }
-    ensures text { out.new.items ≡ out.old.items ++ all_spaced ns.now }
-    ensures len { length out.new.items ≤ length out.old.items + 11 * length ns.now }
+    requires { length out.old + 11 * length ns.now ≤ 2048 }
+    ensures text { out.new ≡ out.old ++ all_spaced ns.now }
+    ensures len { length out.new ≤ length out.old + 11 * length ns.now }
 {
     for n in ns {
         spaced_u32(out, *n);
@@ -142,9 +133,9 @@ pub(crate) fn all_u32(out: &mut Buffer, ns: &[u32])
 
 /// Numbers, each after a space.
 pub(crate) fn all_u64(out: &mut Buffer, ns: &[u64])
-    requires { length out.old.items + 21 * length ns.now ≤ 2048 }
-    ensures text { out.new.items ≡ out.old.items ++ all_spaced ns.now }
-    ensures len { length out.new.items ≤ length out.old.items + 21 * length ns.now }
+    requires { length out.old + 21 * length ns.now ≤ 2048 }
+    ensures text { out.new ≡ out.old ++ all_spaced ns.now }
+    ensures len { length out.new ≤ length out.old + 21 * length ns.now }
 {
     for n in ns {
         spaced_u64(out, *n);
@@ -153,10 +144,10 @@ pub(crate) fn all_u64(out: &mut Buffer, ns: &[u64])
 
 /// Bytes as hex digits of lower case.
 pub(crate) fn hex_digits(out: &mut Buffer, bytes: &[u8])
-    requires room { length out.old.items + 2 * length bytes.now ≤ 2048 }
+    requires room { length out.old + 2 * length bytes.now ≤ 2048 }
     requires block { length bytes.now ≤ 512 }
-    ensures text { out.new.items ≡ out.old.items ++ hex_text bytes.now }
-    ensures len { length out.new.items ≡ length out.old.items + 2 * length bytes.now }
+    ensures text { out.new ≡ out.old ++ hex_text bytes.now }
+    ensures len { length out.new ≡ length out.old + 2 * length bytes.now }
 {
     let mut digits = [0; DATA_DIGITS];
     let to = &mut digits[..2 * bytes.len()];
@@ -166,10 +157,10 @@ pub(crate) fn hex_digits(out: &mut Buffer, bytes: &[u8])
 
 /// A space and bytes as hex digits, or nothing where there are no bytes.
 pub(crate) fn data(out: &mut Buffer, bytes: &[u8])
-    requires room { length out.old.items ≤ 1000 }
+    requires room { length out.old ≤ 1000 }
     requires block { length bytes.now ≤ 512 }
-    ensures text { out.new.items ≡ out.old.items ++ data_text bytes.now }
-    ensures len { length out.new.items ≤ length out.old.items + 1025 }
+    ensures text { out.new ≡ out.old ++ data_text bytes.now }
+    ensures len { length out.new ≤ length out.old + 1025 }
 {
     if bytes.is_empty() {
         return;

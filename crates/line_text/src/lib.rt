@@ -4,6 +4,8 @@
 #![tactic(auto)]
 
 mod append;
+mod buffer;
+mod digits;
 mod ends;
 mod print;
 mod rows;

@@ -4,15 +4,16 @@ ghost use Rattle.std.specs.Prelude.{◌≡◌, ◌≤◌, ◌<◌, ◌+◌, [], 
 ghost use Rattle.kernel_model.specs.Bare.{note_with};
 ghost use Rattle.kernel_model.specs.Text.{spaced, pair_text, single_text, object_text, reply_text, refusal_text, cause_text, note_text, line};
 
-use crate::append::{Buffer, add, data, number_u8, number_u32, spaced_u8, spaced_u32, spaced_u64};
+use crate::append::{add, data, number_u8, number_u32, spaced_u8, spaced_u32, spaced_u64};
+use crate::buffer::Buffer;
 use crate::text::Text;
 use kernel_model::{BareNote, Cause, Object, Refusal, Reply};
 
 /// Two numbers in parentheses.
 fn pair(out: &mut Buffer, a: u8, b: u8)
-    requires { length out.old.items + 9 ≤ 2048 }
-    ensures text { out.new.items ≡ out.old.items ++ pair_text a b }
-    ensures len { length out.new.items ≤ length out.old.items + 9 }
+    requires { length out.old + 9 ≤ 2048 }
+    ensures text { out.new ≡ out.old ++ pair_text a b }
+    ensures len { length out.new ≤ length out.old + 9 }
 {
     add(out, b"(".as_slice());
     number_u8(out, a);
@@ -23,9 +24,9 @@ fn pair(out: &mut Buffer, a: u8, b: u8)
 
 /// A number in parentheses.
 fn single(out: &mut Buffer, a: u8)
-    requires { length out.old.items + 5 ≤ 2048 }
-    ensures text { out.new.items ≡ out.old.items ++ single_text a }
-    ensures len { length out.new.items ≤ length out.old.items + 5 }
+    requires { length out.old + 5 ≤ 2048 }
+    ensures text { out.new ≡ out.old ++ single_text a }
+    ensures len { length out.new ≤ length out.old + 5 }
 {
     add(out, b"(".as_slice());
     number_u8(out, a);
@@ -34,9 +35,9 @@ fn single(out: &mut Buffer, a: u8)
 
 /// The name of an object.
 pub(crate) fn object(out: &mut Buffer, o: Object)
-    requires { length out.old.items + 14 ≤ 2048 }
-    ensures text { out.new.items ≡ out.old.items ++ object_text o }
-    ensures len { length out.new.items ≤ length out.old.items + 14 }
+    requires { length out.old + 14 ≤ 2048 }
+    ensures text { out.new ≡ out.old ++ object_text o }
+    ensures len { length out.new ≤ length out.old + 14 }
 {
     match o {
         Object::Graft(q, pt) => {
@@ -70,9 +71,9 @@ pub(crate) fn object(out: &mut Buffer, o: Object)
 
 /// What a reply adds to `ok`.
 fn reply(out: &mut Buffer, r: Reply)
-    requires { length out.old.items + 22 ≤ 2048 }
-    ensures text { out.new.items ≡ out.old.items ++ reply_text r }
-    ensures len { length out.new.items ≤ length out.old.items + 22 }
+    requires { length out.old + 22 ≤ 2048 }
+    ensures text { out.new ≡ out.old ++ reply_text r }
+    ensures len { length out.new ≤ length out.old + 22 }
 {
     match r {
         Reply::Plain => {}
@@ -86,10 +87,10 @@ fn reply(out: &mut Buffer, r: Reply)
 
 /// A code, an object and a process.
 fn object_after(out: &mut Buffer, code: &[u8], o: Object, p: u8)
-    requires room { length out.old.items + 22 ≤ 2048 }
+    requires room { length out.old + 22 ≤ 2048 }
     requires short { length code.now ≤ 4 }
-    ensures text { out.new.items ≡ out.old.items ++ (code.now ++ object_text o ++ spaced p) }
-    ensures len { length out.new.items ≤ length out.old.items + 22 }
+    ensures text { out.new ≡ out.old ++ (code.now ++ object_text o ++ spaced p) }
+    ensures len { length out.new ≤ length out.old + 22 }
 {
     add(out, code);
     object(out, o);
@@ -98,10 +99,10 @@ fn object_after(out: &mut Buffer, code: &[u8], o: Object, p: u8)
 
 /// A code and a number.
 fn number_after(out: &mut Buffer, code: &[u8], n: u32)
-    requires room { length out.old.items + 15 ≤ 2048 }
+    requires room { length out.old + 15 ≤ 2048 }
     requires short { length code.now ≤ 4 }
-    ensures text { out.new.items ≡ out.old.items ++ (code.now ++ spaced n) }
-    ensures len { length out.new.items ≤ length out.old.items + 15 }
+    ensures text { out.new ≡ out.old ++ (code.now ++ spaced n) }
+    ensures len { length out.new ≤ length out.old + 15 }
 {
     add(out, code);
     spaced_u32(out, n);
@@ -109,9 +110,9 @@ fn number_after(out: &mut Buffer, code: &[u8], n: u32)
 
 /// The code of a refusal, and what it adds.
 fn refusal(out: &mut Buffer, r: Refusal)
-    requires { length out.old.items + 24 ≤ 2048 }
-    ensures text { out.new.items ≡ out.old.items ++ refusal_text r }
-    ensures len { length out.new.items ≤ length out.old.items + 24 }
+    requires { length out.old + 24 ≤ 2048 }
+    ensures text { out.new ≡ out.old ++ refusal_text r }
+    ensures len { length out.new ≤ length out.old + 24 }
 {
     match r {
         Refusal::NoProcess => add(out, b"E1".as_slice()),
@@ -140,9 +141,9 @@ fn refusal(out: &mut Buffer, r: Refusal)
 
 /// The code of a cause, and what it adds.
 fn cause(out: &mut Buffer, c: Cause)
-    requires { length out.old.items + 26 ≤ 2048 }
-    ensures text { out.new.items ≡ out.old.items ++ cause_text c }
-    ensures len { length out.new.items ≤ length out.old.items + 26 }
+    requires { length out.old + 26 ≤ 2048 }
+    ensures text { out.new ≡ out.old ++ cause_text c }
+    ensures len { length out.new ≤ length out.old + 26 }
 {
     match c {
         Cause::DivideByZero => add(out, b"C1".as_slice()),
@@ -165,13 +166,13 @@ fn cause(out: &mut Buffer, c: Cause)
 }
 
 /// The text of a note, without its newline.
-fn note_bytes(note: BareNote, bytes: &[u8], out: &mut Buffer)
-    requires empty { out.old.items ≡ [] }
+fn note_bytes(note: &BareNote, bytes: &[u8], out: &mut Buffer)
+    requires empty { out.old ≡ [] }
     requires block { length bytes.now ≤ 512 }
-    ensures text { out.new.items ≡ note_text (note_with note bytes.now) }
-    ensures len { length out.new.items < 2048 }
+    ensures text { out.new ≡ note_text (note_with note.now bytes.now) }
+    ensures len { length out.new < 2048 }
 {
-    match note {
+    match *note {
         BareNote::Ticked(n, clock) => {
             number_u32(out, n);
             add(out, b" tick".as_slice());
@@ -222,9 +223,9 @@ fn note_bytes(note: BareNote, bytes: &[u8], out: &mut Buffer)
 }
 
 /// `out` becomes the line of a note with the bytes that it gives, with its newline.
-pub fn print_note(note: BareNote, bytes: &[u8], out: &mut Text)
+pub fn print_note(note: &BareNote, bytes: &[u8], out: &mut Text)
     requires block { length bytes.now ≤ 512 }
-    ensures { out.new ≡ line (note_text (note_with note bytes.now)) }
+    ensures { out.new ≡ line (note_text (note_with note.now bytes.now)) }
 {
     out.bytes.clear();
     note_bytes(note, bytes, &mut out.bytes);

@@ -5,8 +5,9 @@ ghost use Rattle.kernel_model.specs.Text.{spaced, bit, queue_text, frame_text, p
 ghost use Rattle.line_text.specs.Rows.{row_lent, FitsLine};
 
 use crate::append::{
-    Buffer, add, all_u32, all_u64, colon_u8, colon_u32, number_u32, spaced_u8, spaced_u32,
+    add, all_u32, all_u64, colon_u8, colon_u32, number_u32, spaced_u8, spaced_u32,
 };
+use crate::buffer::Buffer;
 use crate::print::object;
 use crate::text::Text;
 use kernel_model::{FrameRow, Inverse, OpenRow, QueueRow, RawRow, TopRow, WaitRow};
@@ -38,9 +39,9 @@ fn bit_of(b: bool) -> u8
 
 /// A process of the queue.
 fn queue_row(out: &mut Buffer, r: QueueRow)
-    requires { length out.old.items + 19 ≤ 2048 }
-    ensures text { out.new.items ≡ out.old.items ++ queue_text r }
-    ensures len { length out.new.items ≤ length out.old.items + 19 }
+    requires { length out.old + 19 ≤ 2048 }
+    ensures text { out.new ≡ out.old ++ queue_text r }
+    ensures len { length out.new ≤ length out.old + 19 }
 {
     spaced_u8(out, r.process);
     colon_u8(out, r.nice);
@@ -49,9 +50,9 @@ fn queue_row(out: &mut Buffer, r: QueueRow)
 
 /// The processes of the queue, front first.
 fn queue_rows(out: &mut Buffer, rows: &[QueueRow])
-    requires { length out.old.items + 19 * length rows.now ≤ 2048 }
-    ensures text { out.new.items ≡ out.old.items ++ flat_map queue_text rows.now }
-    ensures len { length out.new.items ≤ length out.old.items + 19 * length rows.now }
+    requires { length out.old + 19 * length rows.now ≤ 2048 }
+    ensures text { out.new ≡ out.old ++ flat_map queue_text rows.now }
+    ensures len { length out.new ≤ length out.old + 19 * length rows.now }
 {
     for r in rows {
         queue_row(out, *r);
@@ -60,9 +61,9 @@ fn queue_rows(out: &mut Buffer, rows: &[QueueRow])
 
 /// A frame of the cache.
 fn frame_row(out: &mut Buffer, r: FrameRow)
-    requires { length out.old.items + 27 ≤ 2048 }
-    ensures text { out.new.items ≡ out.old.items ++ frame_text r }
-    ensures len { length out.new.items ≤ length out.old.items + 27 }
+    requires { length out.old + 27 ≤ 2048 }
+    ensures text { out.new ≡ out.old ++ frame_text r }
+    ensures len { length out.new ≤ length out.old + 27 }
 {
     spaced_u8(out, r.frame);
     colon_u8(out, r.owner);
@@ -73,9 +74,9 @@ fn frame_row(out: &mut Buffer, r: FrameRow)
 
 /// The frames in use, oldest first.
 fn frame_rows(out: &mut Buffer, rows: &[FrameRow])
-    requires { length out.old.items + 27 * length rows.now ≤ 2048 }
-    ensures text { out.new.items ≡ out.old.items ++ flat_map frame_text rows.now }
-    ensures len { length out.new.items ≤ length out.old.items + 27 * length rows.now }
+    requires { length out.old + 27 * length rows.now ≤ 2048 }
+    ensures text { out.new ≡ out.old ++ flat_map frame_text rows.now }
+    ensures len { length out.new ≤ length out.old + 27 * length rows.now }
 {
     for r in rows {
         frame_row(out, *r);
@@ -84,9 +85,9 @@ fn frame_rows(out: &mut Buffer, rows: &[FrameRow])
 
 /// An open file.
 fn open_file(out: &mut Buffer, o: OpenRow)
-    requires { length out.old.items + 34 ≤ 2048 }
-    ensures text { out.new.items ≡ out.old.items ++ open_text o }
-    ensures len { length out.new.items ≤ length out.old.items + 34 }
+    requires { length out.old + 34 ≤ 2048 }
+    ensures text { out.new ≡ out.old ++ open_text o }
+    ensures len { length out.new ≤ length out.old + 34 }
 {
     spaced_u32(out, o.next);
     spaced_u8(out, o.window);
@@ -97,9 +98,9 @@ fn open_file(out: &mut Buffer, o: OpenRow)
 
 /// A parameter, if there is one.
 fn param(out: &mut Buffer, v: Option<u32>)
-    requires { length out.old.items + 11 ≤ 2048 }
-    ensures text { out.new.items ≡ out.old.items ++ param_text v }
-    ensures len { length out.new.items ≤ length out.old.items + 11 }
+    requires { length out.old + 11 ≤ 2048 }
+    ensures text { out.new ≡ out.old ++ param_text v }
+    ensures len { length out.new ≤ length out.old + 11 }
 {
     match v {
         None => {}
@@ -109,9 +110,9 @@ fn param(out: &mut Buffer, v: Option<u32>)
 
 /// What a call waits for, if it waits.
 fn wait(out: &mut Buffer, w: Option<WaitRow>)
-    requires { length out.old.items + 36 ≤ 2048 }
-    ensures text { out.new.items ≡ out.old.items ++ wait_text w }
-    ensures len { length out.new.items ≤ length out.old.items + 36 }
+    requires { length out.old + 36 ≤ 2048 }
+    ensures text { out.new ≡ out.old ++ wait_text w }
+    ensures len { length out.new ≤ length out.old + 36 }
 {
     match w {
         None => {}
@@ -126,9 +127,9 @@ fn wait(out: &mut Buffer, w: Option<WaitRow>)
 
 /// The innermost level, if there is one.
 fn top(out: &mut Buffer, t: Option<TopRow>)
-    requires { length out.old.items + 18 ≤ 2048 }
-    ensures text { out.new.items ≡ out.old.items ++ top_text t }
-    ensures len { length out.new.items ≤ length out.old.items + 18 }
+    requires { length out.old + 18 ≤ 2048 }
+    ensures text { out.new ≡ out.old ++ top_text t }
+    ensures len { length out.new ≤ length out.old + 18 }
 {
     match t {
         None => {}
@@ -144,9 +145,9 @@ fn top(out: &mut Buffer, t: Option<TopRow>)
 /// A record, with the value that it puts back; of a kept segment the graft alone, since its bytes
 /// have no place in a line.
 fn inverse(out: &mut Buffer, i: Inverse)
-    requires { length out.old.items + 23 ≤ 2048 }
-    ensures text { out.new.items ≡ out.old.items ++ inverse_text i }
-    ensures len { length out.new.items ≤ length out.old.items + 23 }
+    requires { length out.old + 23 ≤ 2048 }
+    ensures text { out.new ≡ out.old ++ inverse_text i }
+    ensures len { length out.new ≤ length out.old + 23 }
 {
     match i {
         Inverse::Cell(q, k, v) => {
@@ -187,10 +188,10 @@ fn inverse(out: &mut Buffer, i: Inverse)
 
 /// The text of a row, without the number of its event.
 fn row_bytes(row: &LentRow, out: &mut Buffer)
-    requires room { length out.old.items ≤ 15 }
+    requires room { length out.old ≤ 15 }
     requires lists { FitsLine row.now }
-    ensures text { out.new.items ≡ out.old.items ++ row_text (row_lent row.now) }
-    ensures len { length out.new.items < 2048 }
+    ensures text { out.new ≡ out.old ++ row_text (row_lent row.now) }
+    ensures len { length out.new < 2048 }
 {
     match *row {
         LentRow::Clock(t) => {

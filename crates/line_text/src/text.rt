@@ -4,8 +4,8 @@ ghost use Rattle.std.specs.Prelude.{◌≡◌, ◌≤◌, ◌+◌, ◌*◌, [], 
 ghost use Rattle.kernel_model.specs.Bytes.{hex_text};
 ghost use Rattle.kernel_model.specs.Text.{spaced};
 
-use crate::append::{Buffer, TEXT_BYTES, add, hex_digits, spaced_u64};
-use arrayvec::ArrayVec;
+use crate::append::{add, hex_digits, spaced_u64};
+use crate::buffer::{Buffer, TEXT_BYTES};
 use std::marker::Model;
 
 /// At most 2,048 bytes, which lie in the value itself: no call takes memory. Contracts see their
@@ -20,7 +20,7 @@ impl Model for Text {
 
     ghost Value = { List ℕ };
 
-    ghost view = { λ t. t.bytes.items };
+    ghost view = { λ t. t.bytes };
 }
 
 impl Text {
@@ -29,7 +29,7 @@ impl Text {
         ensures { result ≡ [] }
     {
         Text {
-            bytes: ArrayVec::new(),
+            bytes: Buffer::new(),
         }
     }
 
@@ -38,7 +38,7 @@ impl Text {
         ensures fits { result ≡ nat_lt (length self.old) TEXT_BYTES }
         ensures value { self.new ≡ (if result then self.old ++ v ∷ [] else self.old) }
     {
-        self.bytes.try_push(v).is_ok()
+        self.bytes.push(v)
     }
 
     /// Appends bytes.
@@ -88,8 +88,8 @@ impl Text {
     pub fn copy(&self) -> Text
         ensures { result ≡ self.now }
     {
-        let mut bytes = ArrayVec::new();
-        let _ = bytes.try_extend_from_slice(self.bytes.as_slice());
+        let mut bytes = Buffer::new();
+        bytes.add(self.bytes.as_slice());
         Text { bytes }
     }
 }

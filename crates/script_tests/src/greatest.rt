@@ -8,7 +8,7 @@ const MOST: u32 = 4294967295;
 
 fn prints(rt: &impl Abort, note: BareNote, want: &str) {
     let mut out = Text::new();
-    print_note(note, &[], &mut out);
+    print_note(&note, &[], &mut out);
     assert_eq!(rt; out.as_slice(), want.as_bytes(), "{want}");
 }
 

@@ -1,7 +1,10 @@
 -- Bytes without a newline go on with a line.
-use Rattle.std.proofs.Common.{◌≡◌, ℕ, zero, suc, ◌+◌, ◌≤◌, ◌==◌, ◌||◌, not, Bool, true, false, cond, List, [], ◌∷◌, ◌++◌, length, take, refl, arith, sym, ap, ◌∙◌, append-nil, append_assoc, length-append}
-use Rattle.std.specs.List.{position_or_len}
+use Rattle.std.proofs.Common.{◌≡◌, ℕ, zero, suc, ◌+◌, ◌≤◌, ◌==◌, ◌||◌, not, Bool, true, false, Some, cond, List, [], ◌∷◌, ◌++◌, length, take, refl, arith, sym, ap, ◌∙◌, append-nil, append_assoc, length-append}
+use Rattle.std.specs.List.{position, position_or_len}
+use Rattle.std.proofs.lemmas.List.Quantifiers.{position-Some}
+use Rattle.std.proofs.lemmas.List.Sums.{position_or_len_is}
 use Rattle.std.proofs.lemmas.Bool.Decides.{nat_tests}
+use Rattle.script_text.specs.Words.{IsWholeLine}
 use Rattle.kernel_model.specs.Outcome.{ends_line, ended_line, lines_after, rest_after}
 
 pub plain_lines : (l xs : List ℕ) (n : ℕ) → n ≤ position_or_len (λ b. b == 10) xs → length l + n ≤ 65536 →
@@ -22,3 +25,19 @@ plain_lines l (b ∷ bs) (suc n) h few =
           ap (λ t. elim t as (λ _. List (List ℕ)) [ true ↦ ended_line l b ∷ lines_after [] (take n bs) | false ↦ lines_after (l ++ b ∷ []) (take n bs) ]) goes ∙ more.0,
           ap (λ t. elim t as (λ _. List ℕ) [ true ↦ rest_after [] (take n bs) | false ↦ rest_after (l ++ b ∷ []) (take n bs) ]) goes ∙ more.1 ∙ append_assoc l (b ∷ []) (take n bs),
         )
+
+-- a text up to its first newline, as the next line
+pub whole_line : (line bytes : List ℕ) (n : ℕ) → length line ≡ 0 → position (λ b. b == 10) bytes ≡ Some n → n ≤ 65536 → IsWholeLine line bytes n
+whole_line (x ∷ xs) bytes n fresh found short = absurd (omega arith)
+whole_line [] bytes n fresh found short =
+    let at = position-Some (λ b. b == 10) bytes n 0 found in
+    let is = position_or_len_is (λ b. b == 10) bytes n 0 (omega (arith, at.0)) at.2 (λ below. at.1) in
+    let plain = plain_lines [] bytes n (omega (arith, is)) (omega (arith, short)) in
+    record {
+      fresh = refl;
+      before = at.0;
+      short = short;
+      ends = grind (arith, nat_tests, at.1);
+      none = plain.0;
+      rest = plain.1;
+    }

@@ -1,9 +1,10 @@
 -- Where words begin and end in a line, and what becomes of a byte of a line.
-use Rattle.std.specs.Prelude.{ℕ, Bool, true, false, cond, ◌≡◌, ◌≤◌, ◌==◌, nat_lt, List, [], ◌∷◌, ◌++◌, length, take, is_some, Option, Some, None, Result, Ok, Err}
+use Rattle.std.specs.Prelude.{ℕ, Bool, true, false, cond, ◌≡◌, ◌≤◌, ◌<◌, ◌==◌, get_or, nat_lt, List, [], ◌∷◌, ◌++◌, length, take, is_some, Option, Some, None, Result, Ok, Err}
 use Rattle.std.specs.List.{position_or_len}
 use Rattle.kernel_model.specs.Bytes.{hex_value}
 use Rattle.kernel_model.specs.declared.Form.{Form}
 use Rattle.kernel_model.specs.Script.{ScriptFault, BadWord, BadNumber, words_of, number_said, is_bad_word, LINE_BYTES}
+use Rattle.kernel_model.specs.Outcome.{lines_after, rest_after}
 use Rattle.script_text.specs.declared.line_buf.Fed.{Fed}
 use Rattle.script_text.specs.declared.line_buf.Fed.TheVariants.{More, Line, TooLong}
 use Rattle.script_text.specs.declared.words.Reading.{Reading}
@@ -53,6 +54,15 @@ decoded false bytes = None
 -- what a byte makes of a line: a newline ends it, and beyond its most bytes it is too long
 abbrev pub fed : ℕ → List ℕ → Fed
 fed byte line = cond (byte == 10) Line (cond (nat_lt (length line) LINE_BYTES) More TooLong)
+
+-- the next line has so many bytes, where none has begun, and stands whole at the front of these
+pub record IsWholeLine (line bytes : List ℕ) (n : ℕ) : Type 0 where
+  pub fresh : line ≡ []
+  pub before : n < length bytes
+  pub short : n ≤ LINE_BYTES
+  pub ends : get_or bytes n 0 ≡ 10
+  pub none : lines_after line (take n bytes) ≡ []
+  pub rest : rest_after line (take n bytes) ≡ take n bytes
 
 -- the line after a byte
 abbrev pub line_with : ℕ → List ℕ → List ℕ

@@ -1,6 +1,6 @@
 //! `LineBuf`: a line of a script, byte by byte.
 
-ghost use Rattle.std.specs.Prelude.{◌≡◌, ◌≤◌, ◌==◌, [], length, position, IfOk};
+ghost use Rattle.std.specs.Prelude.{◌≡◌, ◌≤◌, ◌==◌, [], length, position, IfOk, IfSome};
 ghost use Rattle.std.specs.List.{position_or_len};
 
 use kernel_model::NoMemory;
@@ -62,7 +62,7 @@ fn plain_length(bytes: &[u8]) -> usize
 impl LineBuf {
     ghost use Rattle.std.specs.Prelude.{length, take};
     ghost use Rattle.kernel_model.specs.Outcome.{lines_after, rest_after};
-    ghost use Rattle.script_text.specs.Words.{fed, line_with};
+    ghost use Rattle.script_text.specs.Words.{fed, line_with, IsWholeLine};
 
     /// An empty line, with room for 65,536 bytes.
     pub fn new(alloc: Global) -> Result<LineBuf, NoMemory>
@@ -100,6 +100,20 @@ impl LineBuf {
         let n = plain_length(bytes).min(room);
         let _ = self.bytes.extend_from_slice(&bytes[..n]);
         n
+    }
+
+    /// How many bytes the next line has, where none has begun and it stands whole at the front of
+    /// these bytes, with its newline.
+    pub fn next_whole(&self, bytes: &[u8]) -> Option<usize>
+        ensures { IfSome result (λ n. IsWholeLine self.now bytes.now n) }
+    {
+        if !self.bytes.is_empty() {
+            return None;
+        }
+        match first_newline(bytes) {
+            Some(end) if end <= LINE_BYTES => Some(end),
+            _ => None,
+        }
     }
 
     /// The bytes so far.

@@ -4,7 +4,7 @@ use Rattle.std.specs.List.{concat}
 use Rattle.std.specs.Prelude.{flat_map}
 use Rattle.std.proofs.lemmas.List.Folds.{concat-append}
 use Rattle.std.specs.Io.KnownBytes.{Appends}
-use Rattle.std.proofs.lemmas.List.{take_more, take-append-drop, take_all}
+use Rattle.std.proofs.lemmas.List.{take_more, take-append-drop, take_all, get_or-drop}
 use Rattle.std.proofs.KnownBytes.{Appends-nil, Appends-trans}
 use Rattle.disk_log.specs.Calls.{Knows, Made}
 use Rattle.disk_log.specs.Joined.{made_none, made_joined}
@@ -13,6 +13,7 @@ use Rattle.kernel_model.specs.World.{Blocks}
 use Rattle.kernel_model.specs.Session.{Session}
 use Rattle.kernel_model.specs.Outcome.{lines_after, rest_after, ends_line, ended_line}
 use Rattle.vino_base.specs.Disks.{DiskSeen}
+use Rattle.script_text.specs.Words.{IsWholeLine}
 use Rattle.filters.specs.Filtered.{AppendsPart}
 use Rattle.vino_top.specs.Run.{Place, line_run, lines_run, parsed_of, pieces_run, Uses, UsesAll, MadeAll, Left, LineMatches, RunsLine, WantsAt, Feeds, StopsAt, TakesLine}
 use Rattle.vino_top.specs.Standing.{Seen, StandsFor}
@@ -420,3 +421,34 @@ pub line_ended : {T : Type 0} → (c : Place) (l m n : List ℕ) (byte : ℕ) (s
     MatchResult r (λ _. Feeds c s t l n (byte ∷ []) g h d e) (StopsAt c (StandsFor s d.known) (lines_after l (byte ∷ [])) g h d e)
 line_ended c l m n byte s t g h d e (Ok x) ends is empty p = fed_line c s t l m n byte g h d e ends is empty p
 line_ended c l m n byte s t g h d e (Err stop) ends is empty p = rw (lines_ended l byte [] ends, is) p
+
+-- ---- a line that stands whole in what was read
+
+-- the bytes of a line were fed, where it stands whole behind a place
+whole_before : (c : Place) (s t : Seen) (l m bytes part : List ℕ) (i n : ℕ) (g h : Option (List ℕ)) (d e : DiskSeen) → part ≡ drop i bytes → IsWholeLine m part n →
+    Feeds c s t l m (take i bytes) g h d e → Feeds c s t l (take n part) (take (i + n) bytes) g h d e
+whole_before c s t l m bytes part i n g h d e is whole p = fed_from c s t l m (take n part) bytes part i n g h d e is p whole.none whole.rest
+
+-- the place of its newline
+pub whole_inside : (m bytes part : List ℕ) (i n : ℕ) → part ≡ drop i bytes → IsWholeLine m part n → i + n < length bytes
+whole_inside m bytes part i n is whole = omega (arith, ap (λ (x : List ℕ). length x) is, length-drop i bytes, whole.before)
+
+-- and what stands there
+whole_byte : (m bytes part : List ℕ) (i n : ℕ) → part ≡ drop i bytes → IsWholeLine m part n → get_or bytes (i + n) 0 ≡ 10
+whole_byte m bytes part i n is whole = sym (get_or-drop i bytes n 0) ∙ ap (λ (x : List ℕ). get_or x n 0) (sym is) ∙ whole.ends
+
+-- such a line was run
+pub whole_fed : (c : Place) (s t u : Seen) (l m k bytes part : List ℕ) (i n : ℕ) (g h v : Option (List ℕ)) (d e f : DiskSeen) → part ≡ drop i bytes → IsWholeLine m part n →
+    Feeds c s t l m (take i bytes) g h d e → k ≡ [] → TakesLine c (take n part) t u h v e f → Feeds c s u l k (take (i + (n + 1)) bytes) g v d f
+whole_fed c s t u l m k bytes part i n g h v d e f is whole p empty q =
+    let line = fed_line c t u (take n part) (take n part) k 10 h v e f refl refl empty q in
+    let at : i + (n + 1) ≡ (i + n) + 1 = omega arith in
+    rw at (fed_next c s t u l (take n part) k bytes (i + n) g h v d e f (whole_inside m bytes part i n is whole) (whole_before c s t l m bytes part i n g h d e is whole p)
+    (rw (whole_byte m bytes part i n is whole) line))
+
+-- or the run stopped at it
+pub whole_stops : (c : Place) (s t : Seen) (l m bytes part : List ℕ) (i n : ℕ) (g h v : Option (List ℕ)) (d e f : DiskSeen) (stop : Stop) → part ≡ drop i bytes → IsWholeLine m part n →
+    Feeds c s t l m (take i bytes) g h d e → StopsAt c (StandsFor t e.known) (take n part ∷ []) h v e f stop → StopsAt c (StandsFor s d.known) (lines_after l bytes) g v d f stop
+whole_stops c s t l m bytes part i n g h v d e f stop is whole p q =
+    stops_next c s t l (take n part) bytes (i + n) g h v d e f stop (whole_inside m bytes part i n is whole) (whole_before c s t l m bytes part i n g h d e is whole p)
+    (rw (whole_byte m bytes part i n is whole, lines_ended (take n part) 10 [] refl) q)

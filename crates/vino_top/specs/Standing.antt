@@ -13,7 +13,7 @@ use Rattle.script_text.specs.declared.parse.ScriptFault.TheVariants.{BadWord, Ba
 use Rattle.kernel_state.specs.declared.Setup.{Setup}
 use Rattle.placed_laws.specs.Placed.{Placed, PlacedCall}
 use Rattle.placed_laws.specs.Stands as kernels
-use Rattle.kernel_steps.specs.Views.{placed_of}
+use Rattle.running_kernel.specs.Views.{placed_of}
 use Rattle.vino_top.specs.declared.session.Session.{Session}
 
 -- ---- what is seen

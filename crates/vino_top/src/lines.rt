@@ -5,7 +5,7 @@ ghost use Rattle.kernel_model.specs.Bare.{given_count, notes_with};
 ghost use Rattle.kernel_model.specs.Text.{note_lines, row_lines};
 ghost use Rattle.placed_laws.specs.PlacedRows.{placed_rows};
 ghost use Rattle.kernel_steps.specs.Noting.{AreGiven};
-ghost use Rattle.kernel_steps.specs.Views.{placed_of, IsRunning};
+ghost use Rattle.running_kernel.specs.Views.{placed_of, IsRunning};
 ghost use Rattle.vino_top.specs.Standing.{placed_left_line, placed_left_lines};
 
 use crate::AllCalls;
@@ -101,7 +101,7 @@ impl Lines {
             return;
         };
         let (given, others) = bytes.split_at(count_given(*note));
-        print_note(*note, given, text);
+        print_note(note, given, text);
         self.add(text);
         self.add_each(rest, others, text);
     }

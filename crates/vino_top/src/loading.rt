@@ -40,11 +40,11 @@ pub fn say_image(n: u32, answer: Result<(u32, u32), ImageRefusal>, text: &mut Te
     match answer {
         Ok((instructions, data)) => print_loaded(n, instructions, data, text),
         Err(ImageRefusal::BadSlot) => print_note(
-            BareNote::Refused(n, Refusal::BadIndex),
+            &BareNote::Refused(n, Refusal::BadIndex),
             &[],
             text,
         ),
-        Err(ImageRefusal::Taken) => print_note(BareNote::Refused(n, Refusal::Taken), &[], text),
+        Err(ImageRefusal::Taken) => print_note(&BareNote::Refused(n, Refusal::Taken), &[], text),
         Err(ImageRefusal::Unloaded(fault)) => say_fault(n, fault, text),
     }
 }

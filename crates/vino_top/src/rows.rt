@@ -4,7 +4,7 @@ ghost use Rattle.std.specs.Prelude.{◌≡◌, ◌++◌, codes, decimal, IfSome}
 ghost use Rattle.kernel_model.specs.declared.RawRow.{RawRow as Row};
 ghost use Rattle.kernel_model.specs.Text.{line, row_text};
 ghost use Rattle.kernel_core.specs.PlacedSections.{row_found, IsRow};
-ghost use Rattle.kernel_steps.specs.Views.{placed_of, IsRunning};
+ghost use Rattle.running_kernel.specs.Views.{placed_of, IsRunning};
 
 use crate::AllCalls;
 use graft_points::Policy;

@@ -85,6 +85,32 @@ fn write_lines<B: Policy, K: Sink>(reader: &ScriptRun<B>, out: &mut K) -> Result
     }
 }
 
+/// A line that stands whole in what was read is run, and what it writes is written.
+fn run_whole<B: Policy, K: Sink, D: Disk>(
+    alloc: Global,
+    keys: &Keys,
+    reader: &mut ScriptRun<B>,
+    text: &[u8],
+    out: &mut K,
+    disk: &mut D,
+) -> Result<(), Stop>
+    requires can { CanTake (D.seen disk.old).size 1 reader.old }
+    requires fresh { reader.old.line ≡ [] }
+    requires short { length text.now ≤ LINE_BYTES }
+    ensures within { IsSessionWithin (D.seen disk.new).size reader.new.session }
+    ensures taken { TakesOrStops (place keys.now (D.seen disk.old).size) text.now
+        (moment reader.old (K.seen out.old) (D.seen disk.old))
+        (moment reader.new (K.seen out.new) (D.seen disk.new)) result }
+{
+    if let Err(_) = reader
+        .session
+        .run_line(alloc, keys, text, disk, &mut reader.out)
+    {
+        return Err(Stop::NoMemory);
+    }
+    write_lines(reader, out)
+}
+
 /// The line has ended: it is run, and what it writes is written.
 fn end_line<B: Policy, K: Sink, D: Disk>(
     alloc: Global,
@@ -157,7 +183,8 @@ fn behind(bytes: &[u8], at: usize) -> &[u8]
     &bytes[at..]
 }
 
-/// Some bytes of the script: those of a line at once, and what ends it.
+/// Some bytes of the script. A line that stands whole among them is run from where it stands; of
+/// others the bytes are put to the line at once, and then comes what ends it.
 fn feed<B: Policy, K: Sink, D: Disk>(
     alloc: Global,
     keys: &Keys,
@@ -174,7 +201,16 @@ fn feed<B: Policy, K: Sink, D: Disk>(
 {
     let mut at = 0;
     while at < bytes.len() {
-        at += reader.line.put_plain(behind(bytes, at));
+        let rest = behind(bytes, at);
+        if let Some(end) = reader.line.next_whole(rest) {
+            let text = &rest[..end];
+            if let Err(stop) = run_whole(alloc, keys, reader, text, out, disk) {
+                return Err(stop);
+            }
+            at += end + 1;
+            continue;
+        }
+        at += reader.line.put_plain(rest);
         if at == bytes.len() {
             continue;
         }

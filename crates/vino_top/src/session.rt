@@ -13,7 +13,7 @@ ghost use Rattle.kernel_model.specs.Images as images;
 ghost use Rattle.kernel_model.specs.Kernel.{Kernel as Abstract};
 ghost use Rattle.kernel_model.specs.AllCalls.{all_calls};
 ghost use Rattle.kernel_model.specs.Sound.{IsAtRest};
-ghost use Rattle.kernel_steps.specs.Views.{placed_of, IsRunning, HasAbstraction};
+ghost use Rattle.running_kernel.specs.Views.{placed_of, IsRunning, HasAbstraction};
 ghost use Rattle.placed_laws.specs.Stands as kernels;
 ghost use Rattle.kernel_core.specs.declared.images.ImageRefusal.TheVariants.{Unloaded};
 ghost use Rattle.kernel_core.specs.AddedImages.{slot_refused, has_memory, image_said, ImageIsAdded};
@@ -140,14 +140,15 @@ impl<B: Policy> Session<B> {
         if self.refused {
             return Ok(());
         }
-        match parse_line(text, self.booted, &mut out.bytes) {
+        let parsed = parse_line(text, self.booted, &mut out.bytes);
+        match &parsed {
             Err(fault) => {
                 self.lines += 1;
-                self.refuse(fault_code(fault), out);
+                self.refuse(fault_code(*fault), out);
             }
             Ok(entry) => {
                 self.lines += 1;
-                if let Err(lacks) = self.run_entry(alloc, keys, &entry, disk, out) {
+                if let Err(lacks) = self.run_entry(alloc, keys, entry, disk, out) {
                     // A line that wanted memory isn't counted.
                     self.lines -= 1;
                     return Err(lacks);
@@ -410,7 +411,7 @@ fn say_boot(note: BootNote, text: &mut Text)
 {
     match note {
         BootNote::Up(frames, size, files) => print_boot(frames, size, u32::from(files), text),
-        BootNote::Fault => print_note(BareNote::Refused(0, Refusal::DiskFault), &[], text),
+        BootNote::Fault => print_note(&BareNote::Refused(0, Refusal::DiskFault), &[], text),
     }
 }
 

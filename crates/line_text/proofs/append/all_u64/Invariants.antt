@@ -4,6 +4,6 @@ use Rattle.line_text.proofs.append.all_u64.Given as goal
 
 abbrev pub invariant-loop-n : goal.invariant-loop-n
 invariant-loop-n l = record {
-  text : l.out.items ≡ l.initial.out.items ++ all_spaced (take l.n-index l.ns);
-  len : length l.out.items ≤ length l.initial.out.items + 21 * l.n-index;
+  text : l.out ≡ l.initial.out ++ all_spaced (take l.n-index l.ns);
+  len : length l.out ≤ length l.initial.out + 21 * l.n-index;
 }

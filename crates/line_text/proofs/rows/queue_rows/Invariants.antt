@@ -4,6 +4,6 @@ use Rattle.line_text.proofs.rows.queue_rows.Given as goal
 
 abbrev pub invariant-loop-r : goal.invariant-loop-r
 invariant-loop-r l = record {
-  text : l.out.items ≡ l.initial.out.items ++ flat_map queue_text (take l.r-index l.rows);
-  len : length l.out.items ≤ length l.initial.out.items + 19 * l.r-index;
+  text : l.out ≡ l.initial.out ++ flat_map queue_text (take l.r-index l.rows);
+  len : length l.out ≤ length l.initial.out + 19 * l.r-index;
 }

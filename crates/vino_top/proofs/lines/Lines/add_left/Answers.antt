@@ -1,6 +1,6 @@
 -- The lines of one process more.
 use Rattle.std.proofs.Common.{arith}
-use Rattle.kernel_steps.specs.Views.{placed_of}
+use Rattle.running_kernel.specs.Views.{placed_of}
 use Rattle.vino_top.proofs.RowLemmas.{left_more, left_all}
 use Rattle.vino_top.proofs.lines.Lines.add_left.Goals as goal
 

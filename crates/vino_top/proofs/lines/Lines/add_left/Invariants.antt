@@ -1,7 +1,7 @@
 -- The lines of the calls of the processes before the place.
 use Rattle.std.proofs.Common.{◌≡◌, ◌≤◌, ◌*◌, length, map}
 use Rattle.std.specs.List.{concat, range_with_len}
-use Rattle.kernel_steps.specs.Views.{placed_of}
+use Rattle.running_kernel.specs.Views.{placed_of}
 use Rattle.vino_top.specs.Standing.{placed_left_line}
 use Rattle.vino_top.proofs.lines.Lines.add_left.Given as goal
 

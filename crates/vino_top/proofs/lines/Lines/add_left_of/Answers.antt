@@ -1,6 +1,6 @@
 -- A call is left, or none.
 use Rattle.std.proofs.Common.{◌∙◌, ◌++◌, ap, sym, append-nil}
-use Rattle.kernel_steps.specs.Views.{placed_of}
+use Rattle.running_kernel.specs.Views.{placed_of}
 use Rattle.vino_top.proofs.RowLemmas.{left_some, left_none}
 use Rattle.vino_top.proofs.lines.Lines.add_left_of.Goals as goal
 

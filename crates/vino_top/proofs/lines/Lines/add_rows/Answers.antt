@@ -2,7 +2,7 @@
 use Rattle.std.proofs.Common.{ap, arith}
 use Rattle.kernel_model.specs.Text.{row_lines}
 use Rattle.placed_laws.specs.PlacedRows.{placed_rows}
-use Rattle.kernel_steps.specs.Views.{placed_of}
+use Rattle.running_kernel.specs.Views.{placed_of}
 use Rattle.kernel_core.specs.PlacedSections.{most_left, row_found, row_if_found, rows_at, rows_left}
 use Rattle.vino_top.proofs.RowLemmas.{found_fewer, found_more, no_bytes, row_end, row_first, some_row}
 use Rattle.vino_top.proofs.lines.Lines.add_rows.Goals as goal

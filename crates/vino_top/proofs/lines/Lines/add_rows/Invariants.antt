@@ -2,7 +2,7 @@
 use Rattle.std.proofs.Common.{◌≡◌, ◌≤◌, ◌+◌, ◌*◌, ◌++◌, length}
 use Rattle.kernel_model.specs.Text.{row_lines}
 use Rattle.placed_laws.specs.PlacedRows.{placed_rows}
-use Rattle.kernel_steps.specs.Views.{placed_of}
+use Rattle.running_kernel.specs.Views.{placed_of}
 use Rattle.kernel_core.specs.PlacedSections.{most_left, rows_left}
 use Rattle.vino_top.proofs.lines.Lines.add_rows.Given as goal
 

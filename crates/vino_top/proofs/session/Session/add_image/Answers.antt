@@ -1,7 +1,7 @@
 use Rattle.std.proofs.Common.{◌≡◌, ℕ, List, Result, true, sym, subst, ◌∙◌}
 use Rattle.kernel_model.specs.Images.{load}
 use Rattle.kernel_model.specs.AllCalls.{all_calls}
-use Rattle.kernel_steps.specs.Views.{placed_of}
+use Rattle.running_kernel.specs.Views.{placed_of}
 use Rattle.kernel_core.specs.declared.images.ImageRefusal.{ImageRefusal}
 use Rattle.kernel_core.specs.AddedImages.{has_memory, image_said, ImageIsAdded}
 use Rattle.vino_top.proofs.session.Session.add_image.Goals as goal

@@ -1,6 +1,6 @@
 -- The kernel begins as the opening one does, and the note of its boot is written.
 use Rattle.std.proofs.Common.{◌≡◌, [], length, ◌∙◌, ap, sym, arith}
-use Rattle.kernel_steps.specs.Views.{placed_of}
+use Rattle.running_kernel.specs.Views.{placed_of}
 use Rattle.vino_top.specs.Run.{place}
 use Rattle.vino_top.specs.Standing.{seen_of}
 use Rattle.vino_top.proofs.SessionLemmas.{boot_runs, up_is_down}

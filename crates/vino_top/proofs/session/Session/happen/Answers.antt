@@ -3,7 +3,7 @@ use Rattle.std.proofs.Common.{arith, refl, sym, ap, ◌∙◌}
 use Rattle.kernel_model.specs.Bare.{event_with}
 use Rattle.kernel_model.specs.Script.{Happens}
 use Rattle.kernel_model.specs.World.{World}
-use Rattle.kernel_steps.specs.Views.{placed_of}
+use Rattle.running_kernel.specs.Views.{placed_of}
 use Rattle.vino_top.specs.Run.{place}
 use Rattle.vino_top.specs.Standing.{seen_of}
 use Rattle.vino_top.proofs.SessionLemmas.{event_runs, silent_event, unbooted_runs, up_is_down}

@@ -1,7 +1,7 @@
 -- The line of an image: before `boot`; want of memory; and what is said of the image.
 use Rattle.std.proofs.Common.{◌≡◌, ◌+◌, arith, refl, ap, ◌∙◌}
 use Rattle.kernel_model.specs.Script.{Loads}
-use Rattle.kernel_steps.specs.Views.{placed_of}
+use Rattle.running_kernel.specs.Views.{placed_of}
 use Rattle.kernel_core.specs.AddedImages.{image_said}
 use Rattle.vino_top.specs.Run.{place}
 use Rattle.vino_top.specs.Standing.{seen_of}
