@@ -1,5 +1,5 @@
 -- The forms of the lines that are written, as the words at their places.
-use Rattle.std.specs.Prelude.{ℕ, Bool, true, false, ◌&&◌, nat_le, List, [], ◌∷◌, ◌++◌, length, Option, Some, None, is_some, find, position, codes, ◌==◌}
+use Rattle.std.specs.Prelude.{ℕ, Bool, true, false, ◌&&◌, nat_le, List, [], ◌∷◌, ◌++◌, length, Option, Some, None, is_some, find, position, codes, slice_index_or, ◌==◌}
 use Rattle.std.specs.List.{list_all, slice_split}
 use Rattle.kernel_model.specs.Bytes.{is_digit, hex_value}
 use Rattle.kernel_model.specs.World.{same_bytes}
@@ -78,6 +78,16 @@ words_fit [] [] = true
 words_fit [] (w ∷ ws) = false
 words_fit (s ∷ ss) [] = false
 words_fit (s ∷ ss) (w ∷ ws) = slot_fits s w && words_fit ss ws
+
+-- the second word of a line; nothing where it has one word
+abbrev pub second_word : List ℕ → List ℕ
+second_word line = slice_index_or (slice_split (λ b. b == 32) line) 1 []
+
+-- the second slot, if there is one, is one for this word
+abbrev pub second_fits : List Slot → List ℕ → Bool
+second_fits [] word = true
+second_fits (s ∷ []) word = true
+second_fits (s ∷ t ∷ ss) word = slot_fits t word
 
 -- ---- forms of lines
 

@@ -1,12 +1,12 @@
 //! The forms of the lines that the program writes.
 
-ghost use Rattle.std.specs.Prelude.{◌≡◌, ◌++◌, ◌&&◌, List, [], Some, IfSome, is_some, find};
+ghost use Rattle.std.specs.Prelude.{◌≡◌, ◌==◌, ◌++◌, ◌&&◌, List, [], Some, IfSome, is_some, find};
 ghost use Rattle.lab_forms.specs.declared.slot.Slot.{Slot};
 ghost use Rattle.lab_forms.specs.Forms as spec;
 
 use crate::beside::{words_before, words_behind};
-use crate::slot::{Slot, Verb, slot_fits};
-use lab_codes::{CODES, Code};
+use crate::slot::{Slot, Verb, is_number, slot_fits};
+use lab_codes::{CODES, Code, RewriterCode, text_of};
 use text_words::Parts;
 
 /// The form of a line. The words beside it are those of `docs/FORMATS.md`.
@@ -131,24 +131,87 @@ fn has_form(line: &[u8], form: Form) -> bool
     }
 }
 
-/// The first of these forms that a line has.
+/// The second word of a line; nothing where it has one word.
+fn second_word(line: &[u8]) -> &[u8]
+    ensures { result.now ≡ spec.second_word line.now }
+{
+    let mut words = Parts::new(line, b' ');
+    let _ = words.next();
+    match words.next() {
+        Some(word) => word,
+        None => [].as_slice(),
+    }
+}
+
+/// Whether the second word of a line may be that of a line of this code.
+fn may_have_code(second: &[u8], code: Code) -> bool
+    ensures { result ≡ spec.second_fits (spec.words_of_form (Form.Coded code)) second.now }
+{
+    match code {
+        Code::Script(_) | Code::Assembler(_) | Code::Language(_) => is_number(second),
+        Code::Call(_) | Code::Image(_) => text_of(code) == second,
+        Code::Drop(_) => b"drop".as_slice() == second,
+        Code::Rewriter(RewriterCode::End) | Code::Rewriter(RewriterCode::TooLarge) => true,
+        Code::Rewriter(_) => is_number(second),
+        Code::Input(_) | Code::Status(_) => true,
+    }
+}
+
+/// Whether the second word of a line may be that of a line of this form.
+fn may_have_form(second: &[u8], form: Form) -> bool
+    ensures { result ≡ spec.second_fits (spec.words_of_form form) second.now }
+{
+    match form {
+        Form::Booted => b"boot".as_slice() == second,
+        Form::Ticked => b"tick".as_slice() == second,
+        Form::Done | Form::Answered | Form::Loaded => b"ok".as_slice() == second,
+        Form::GaveNothing | Form::Gave => b"data".as_slice() == second,
+        Form::Ran => b"ran".as_slice() == second,
+        Form::Waits => b"waits".as_slice() == second,
+        Form::InGraft => b"graft".as_slice() == second,
+        Form::Left => is_number(second),
+        Form::Coded(code) => may_have_code(second, code),
+    }
+}
+
+#[tactic(auto, using(crate::proofs::Fits::unfit))]
+/// Whether a line with this second word has a form.
+fn has_form_at(line: &[u8], second: &[u8], form: Form) -> bool
+    requires { second.now ≡ spec.second_word line.now }
+    ensures { result ≡ spec.line_fits line.now form }
+{
+    may_have_form(second, form) && has_form(line, form)
+}
+
+#[tactic(auto, using(crate::proofs::Fits::unfit))]
+/// Whether a line with this second word is one of a code.
+fn has_code_at(line: &[u8], second: &[u8], code: Code) -> bool
+    requires { second.now ≡ spec.second_word line.now }
+    ensures { result ≡ spec.line_fits line.now (Form.Coded code) }
+{
+    may_have_code(second, code) && has_code(line, code)
+}
+
+/// The first of these forms that a line has. Most are ruled out by its second word.
 fn find_form(forms: &[Form], line: &[u8]) -> Option<Form>
     ensures { result ≡ find (spec.line_fits line.now) forms.now }
 {
+    let second = second_word(line);
     for form in forms {
-        if has_form(line, *form) {
+        if has_form_at(line, second, *form) {
             return Some(*form);
         }
     }
     None
 }
 
-/// The first of these codes whose line it is.
+/// The first of these codes whose line it is. Most are ruled out by its second word.
 fn find_coded(codes: &[Code], line: &[u8]) -> Option<Code>
     ensures { result ≡ find (λ c. spec.line_fits line.now (Form.Coded c)) codes.now }
 {
+    let second = second_word(line);
     for code in codes {
-        if has_code(line, *code) {
+        if has_code_at(line, second, *code) {
             return Some(*code);
         }
     }

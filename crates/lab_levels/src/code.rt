@@ -1,5 +1,8 @@
 //! Which instruction stands where, and which line of the lab file wrote it.
 
+ghost use Rattle.std.specs.Prelude.{◌≡◌, true};
+ghost use Rattle.kernel_model.specs.Instructions.{fits};
+
 use gm_asm::disassemble;
 use gm_isa::{Instr, access_mask};
 use graft_loader::Loaded;
@@ -62,22 +65,20 @@ fn append_written(out: &mut Vec<u8>, graft: &Graft, k: usize) -> Result<(), NoMe
     Ok(())
 }
 
-/// Appends the text of an instruction of an image.
-fn append_text(
-    alloc: Global,
-    out: &mut Vec<u8>,
-    image: &Loaded,
-    place: usize,
-) -> Result<(), NoMemory> {
-    let Ok(code) = Vec::from_slice(alloc, image.code().code()) else {
+/// Appends the text of an instruction.
+fn append_text(alloc: Global, out: &mut Vec<u8>, instr: Instr) -> Result<(), NoMemory>
+    requires { fits instr ≡ true }
+{
+    let Ok(code) = Vec::from_slice(alloc, &[instr]) else {
         return Err(NoMemory);
     };
     let text = disassemble(alloc, &RawImage::new(code, Vec::new(alloc)))?;
-    let mut lines = Parts::new(text.as_slice(), b'\n');
-    for _ in 0..place {
-        let _ = lines.next();
-    }
-    append(out, lines.next().unwrap_or(b"".as_slice()))
+    append(
+        out,
+        Parts::new(text.as_slice(), b'\n')
+            .next()
+            .unwrap_or(b"".as_slice()),
+    )
 }
 
 /// The number of an instruction as it was written.
@@ -115,6 +116,7 @@ fn append_origin(
     }
 }
 
+#[tactic(auto, using(crate::proofs::Fitting::get_passes))]
 /// Appends an instruction of an image: where it was written, if that is known, and else its text;
 /// both for a part of an access.
 pub fn append_instruction(
@@ -136,5 +138,8 @@ pub fn append_instruction(
     if out.len() > from {
         append(out, b"  as ")?;
     }
-    append_text(alloc, out, image, place)
+    match image.code().code().get(place) {
+        Some(instr) => append_text(alloc, out, *instr),
+        None => Ok(()),
+    }
 }

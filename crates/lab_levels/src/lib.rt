@@ -8,7 +8,7 @@ mod view;
 mod words;
 
 pub use crate::code::{Origin, append_instruction};
-pub use crate::outside::Outside;
+pub use crate::outside::{Outside, segment_in};
 pub use crate::seats::{LEVELS, Seat, Seats};
-pub use crate::view::{LevelRow, PROCESSES, REGISTERS, SEGMENT_BYTES, View};
+pub use crate::view::{LevelRow, PROCESSES, REGISTERS, View};
 pub use crate::words::{append_level, standing_of};

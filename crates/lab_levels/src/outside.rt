@@ -1,15 +1,18 @@
-//! Memory outside the segment of a level, before and after its instructions.
+//! Memory: the segment of a level, and what is outside it before and after its instructions.
 
-ghost use Rattle.std.specs.Prelude.{◌≡◌, ◌≤◌, length};
+ghost use Rattle.std.specs.Prelude.{◌≡◌, ◌≤◌, ◌++◌, length, take, drop, slice_range};
 ghost use Rattle.lab_levels.specs.Outside as spec;
 
-use crate::view::{LevelRow, SEGMENT_BYTES};
+use crate::view::LevelRow;
 use kernel_model::NoMemory;
 use lab_weave::{append, append_with};
 use std::alloc::Global;
 
 /// Where the first segment begins in memory.
 const FIRST_SEGMENT: usize = 262_144;
+
+/// The bytes of a segment.
+pub(crate) const SEGMENT_BYTES: usize = 4096;
 
 /// Whether two memories are the same before one place, and from another place on.
 fn same_outside(before: &[u8], after: &[u8], from: usize, to: usize) -> bool
@@ -22,9 +25,36 @@ fn same_outside(before: &[u8], after: &[u8], from: usize, to: usize) -> bool
 }
 
 /// Where the segment of a level begins in memory.
-fn segment_begin(level: &LevelRow) -> usize {
+fn segment_begin(level: &LevelRow) -> usize
+    ensures { result ≡ spec.segment_begin level.now.process level.now.depth }
+{
     let segment = 4 * usize::from(level.process) + usize::from(level.depth);
     FIRST_SEGMENT + SEGMENT_BYTES * segment
+}
+
+/// The segment of a level in a memory; no byte where the memory ends before.
+pub fn segment_in<'a>(memory: &'a [u8], level: &LevelRow) -> &'a [u8]
+    ensures { result.now
+        ≡ spec.segment_in memory.now (spec.segment_begin level.now.process level.now.depth) }
+{
+    let from = segment_begin(level);
+    let to = from + SEGMENT_BYTES;
+    if to <= memory.len() {
+        &memory[from..to]
+    } else {
+        &[]
+    }
+}
+
+/// Takes over the bytes between two places of a memory.
+fn take_over(kept: &mut [u8], memory: &[u8], from: usize, to: usize)
+    requires order { from ≤ to }
+    requires kept { to ≤ length kept.old }
+    requires memory { to ≤ length memory.now }
+    ensures { kept.new
+        ≡ take from kept.old ++ slice_range memory.now from to ++ drop to kept.old }
+{
+    kept[from..to].copy_from_slice(&memory[from..to]);
 }
 
 /// Whether a level took an instruction between two moments, and went on.
@@ -37,6 +67,8 @@ fn has_gone_on(before: &LevelRow, after: &LevelRow) -> bool {
 #[derive(Drop)]
 pub struct Outside {
     memory: Vec<u8>,
+    /// Whether nothing was run since `memory` was the memory.
+    is_current: bool,
     compared: u32,
     changing: u32,
 }
@@ -46,6 +78,7 @@ impl Outside {
     pub fn new(alloc: Global) -> Outside {
         Outside {
             memory: Vec::new(alloc),
+            is_current: false,
             compared: 0,
             changing: 0,
         }
@@ -53,8 +86,16 @@ impl Outside {
 
     /// Keeps these bytes of the memory.
     pub fn see(&mut self, memory: &[u8]) -> Result<(), NoMemory> {
+        if self.is_current && self.memory.len() == memory.len() {
+            return Ok(());
+        }
         self.memory.clear();
         append(&mut self.memory, memory)
+    }
+
+    /// Something was run, so the memory may be another one.
+    pub fn pass(&mut self) {
+        self.is_current = false;
     }
 
     /// Compares the memory with what was seen last, if the innermost level of a process took an
@@ -67,15 +108,19 @@ impl Outside {
         }
     }
 
-    /// Compares the memory outside the segment of a level with what was seen last.
+    /// Compares the memory outside the segment of a level with what was seen last. Where that is the
+    /// same, the segment alone is taken over.
     fn compare_level(&mut self, level: &LevelRow, memory: &[u8]) {
         let from = segment_begin(level);
-        let to = from.saturating_add(SEGMENT_BYTES);
+        let to = from + SEGMENT_BYTES;
         if to > self.memory.len() || to > memory.len() {
             return;
         }
         self.compared = self.compared.saturating_add(1);
-        if !same_outside(self.memory.as_slice(), memory, from, to) {
+        if same_outside(self.memory.as_slice(), memory, from, to) {
+            take_over(&mut self.memory, memory, from, to);
+            self.is_current = true;
+        } else {
             self.changing = self.changing.saturating_add(1);
         }
     }

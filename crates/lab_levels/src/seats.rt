@@ -224,6 +224,13 @@ impl Seats {
         Ok(())
     }
 
+    /// Whether the kept bytes of a level are these.
+    fn has_kept(&self, p: u8, depth: u8, segment: &[u8]) -> bool {
+        let from = 4096 * seat_number(p, depth);
+        let to = from.saturating_add(segment.len());
+        to <= self.bytes.len() && &self.bytes[from..to] == segment
+    }
+
     /// Appends the bytes of an innermost level's segment that changed, at most 16 of them, and
     /// keeps them.
     pub fn append_bytes(
@@ -232,6 +239,9 @@ impl Seats {
         level: &LevelRow,
         segment: &[u8],
     ) -> Result<(), NoMemory> {
+        if self.has_kept(level.process, level.depth, segment) {
+            return Ok(());
+        }
         let mut count: usize = 0;
         for (at, byte) in segment.iter().enumerate() {
             if self.keep_byte(level.process, level.depth, at, *byte) {

@@ -1,7 +1,6 @@
-//! What is seen of a kernel at a moment: its rows, and the registers and segments of the innermost
-//! levels.
+//! What is seen of a kernel at a moment: its rows, and the registers of the innermost levels.
 
-use kernel_model::RawRow;
+use kernel_model::{NoMemory, RawRow};
 use std::alloc::Global;
 
 /// The processes.
@@ -9,9 +8,6 @@ pub const PROCESSES: u8 = 16;
 
 /// The registers of a machine.
 pub const REGISTERS: u8 = 16;
-
-/// The bytes of a segment.
-pub const SEGMENT_BYTES: usize = 4096;
 
 /// A level of a call in flight: a run of the graft that `owner` installed at `point`.
 #[derive(Clone, Copy)]
@@ -28,16 +24,37 @@ pub struct LevelRow {
     pub count: u32,
 }
 
-/// The rows of a kernel, and of each process's innermost level the registers, 16 behind 16, and the
-/// segment.
+/// The rows of a kernel, and of each process's innermost level the registers, 16 behind 16.
 #[derive(Drop)]
 pub struct View {
     /// The rows that show the whole state.
-    pub rows: Vec<RawRow>,
+    rows: Vec<RawRow>,
+    /// The levels among them, as they are looked for often.
+    levels: Vec<LevelRow>,
     /// The registers.
-    pub registers: Vec<u32>,
-    /// The segments.
-    pub segments: Vec<u8>,
+    registers: Vec<u32>,
+}
+
+/// The level that a row shows, if it is the row of one.
+fn level_of(row: &RawRow) -> Option<LevelRow> {
+    match row {
+        RawRow::Level(process, depth, owner, point, count) => Some(LevelRow {
+            process: *process,
+            depth: *depth,
+            owner: *owner,
+            point: *point,
+            count: *count,
+        }),
+        _ => None,
+    }
+}
+
+/// Puts an item behind others.
+fn put<T: Drop>(items: &mut Vec<T>, item: T) -> Result<(), NoMemory> {
+    match items.push(item) {
+        Ok(()) => Ok(()),
+        Err(_) => Err(NoMemory),
+    }
 }
 
 impl View {
@@ -45,24 +62,34 @@ impl View {
     pub fn new(alloc: Global) -> View {
         View {
             rows: Vec::new(alloc),
+            levels: Vec::new(alloc),
             registers: Vec::new(alloc),
-            segments: Vec::new(alloc),
         }
+    }
+
+    /// A row more is seen.
+    pub fn add_row(&mut self, row: RawRow) -> Result<(), NoMemory> {
+        if let Some(level) = level_of(&row) {
+            put(&mut self.levels, level)?;
+        }
+        put(&mut self.rows, row)
+    }
+
+    /// A register more is seen.
+    pub fn add_register(&mut self, value: u32) -> Result<(), NoMemory> {
+        put(&mut self.registers, value)
+    }
+
+    /// The rows that were seen.
+    pub fn rows(&self) -> &[RawRow] {
+        self.rows.as_slice()
     }
 
     /// The level of a process at a depth.
     pub fn level(&self, p: u8, depth: u8) -> Option<LevelRow> {
-        for row in &self.rows {
-            if let RawRow::Level(process, d, owner, point, count) = row {
-                if *process == p && *d == depth {
-                    return Some(LevelRow {
-                        process: p,
-                        depth,
-                        owner: *owner,
-                        point: *point,
-                        count: *count,
-                    });
-                }
+        for level in &self.levels {
+            if level.process == p && level.depth == depth {
+                return Some(*level);
             }
         }
         None
@@ -97,17 +124,6 @@ impl View {
         match self.registers.get(at) {
             Some(value) => *value,
             None => 0,
-        }
-    }
-
-    /// The segment of a process's innermost level; no byte where it wasn't seen.
-    pub fn segment(&self, p: u8) -> &[u8] {
-        let from = SEGMENT_BYTES * usize::from(p);
-        let to = from + SEGMENT_BYTES;
-        if to <= self.segments.len() {
-            &self.segments[from..to]
-        } else {
-            &[]
         }
     }
 }

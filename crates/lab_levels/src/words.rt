@@ -97,7 +97,7 @@ fn append_row(out: &mut Vec<u8>, row: &RawRow) -> Result<(), NoMemory> {
 /// What is held, what waits, what runs and what would be put back, a line each.
 pub fn standing_of(alloc: Global, view: &View) -> Result<Vec<u8>, NoMemory> {
     let mut out = Vec::new(alloc);
-    for row in &view.rows {
+    for row in view.rows() {
         append_row(&mut out, row)?;
     }
     Ok(out)

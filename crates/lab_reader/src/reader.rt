@@ -13,7 +13,9 @@ use crate::lab::Lab;
 use crate::settings::Settings;
 use kernel_model::NoMemory;
 use lab_sheet::{Graft, Sheet, begun_of};
-use lab_tokens::{LabFault, LabKind, Text, code_of, left_of, put, text_of, wanted_of};
+use lab_tokens::{
+    LabFault, LabKind, Text, code_of, is_code, is_left, left_of, put, text_of, wanted_of,
+};
 use std::alloc::Global;
 use std::mem;
 use text_words::Parts;
@@ -177,6 +179,9 @@ impl Lab {
     fn add_outside(&mut self, alloc: Global, n: usize, code: &[u8]) -> Result<(), LabFault>
         ensures { StepsAs result self.new (spec.outside_code n self.old code.now) }
     {
+        if is_left(code) {
+            return self.add_left(alloc, n, code);
+        }
         let left = left_of(alloc, code)?;
         let wanted = wanted_of(alloc, code)?;
         match self.add_left(alloc, n, left.as_slice()) {
@@ -222,6 +227,9 @@ impl Lab {
         if is_passed_over(line) {
             self.sheet.add_blank(text_of(alloc, line)?)?;
             return Ok(());
+        }
+        if is_code(line) {
+            return self.add_outside(alloc, n, line);
         }
         let code = code_of(alloc, line)?;
         self.add_outside(alloc, n, code.as_slice())

@@ -1,7 +1,7 @@
 //! Reading a run: its script lines and what they wrote.
 
 use crate::marks::{number_at, read_line};
-use crate::story::{Bar, Column, End, Kind, NO_TEXT, Story, keep, put};
+use crate::story::{Bar, Column, End, Kind, NO_TEXT, Story, go_on, keep, put};
 use kernel_model::NoMemory;
 use lab_events::{Row, is_event};
 use lab_words::word_at;
@@ -49,15 +49,6 @@ fn read_written<'a>(story: &mut Story<'a>, event: u32, written: &'a [u8]) -> Res
         read_line(story, event, line)?;
     }
     Ok(())
-}
-
-/// Bars that haven't ended go on to the last event.
-fn go_on(bars: &mut [Bar], event: u32) {
-    for bar in bars {
-        if bar.end == End::Open {
-            bar.to = event;
-        }
-    }
 }
 
 /// The story of a run.

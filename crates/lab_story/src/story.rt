@@ -1,5 +1,8 @@
 //! What a run comes to as a picture: bars, marks, arrows and ticks, by the number of their event.
 
+ghost use Rattle.std.specs.Prelude.{◌≡◌, [], ◌∷◌, ◌++◌, length, map, IfOk, OnOk};
+ghost use Rattle.lab_story.specs.Bars as spec;
+
 use kernel_model::NoMemory;
 use std::alloc::Global;
 
@@ -145,7 +148,9 @@ impl<'a> Story<'a> {
 }
 
 /// Keeps a text: its number.
-pub fn keep<'a>(story: &mut Story<'a>, text: &'a [u8]) -> Result<usize, NoMemory> {
+pub fn keep<'a>(story: &mut Story<'a>, text: &'a [u8]) -> Result<usize, NoMemory>
+    ensures { IfOk result (λ number. number ≡ length story.old.texts.items) }
+{
     let number = story.texts.len();
     put(&mut story.texts, text)?;
     Ok(number)
@@ -163,25 +168,70 @@ pub fn text_of_number<'a>(texts: &[&'a [u8]], number: usize) -> &'a [u8] {
 pub const NO_TEXT: usize = usize::MAX;
 
 /// Puts an item behind others.
-pub fn put<T: Drop>(items: &mut Vec<T>, item: T) -> Result<(), NoMemory> {
+pub fn put<T: Drop>(items: &mut Vec<T>, item: T) -> Result<(), NoMemory>
+    ensures { OnOk result (items.new.items ≡ items.old.items ++ item ∷ []) }
+{
     match items.push(item) {
         Ok(()) => Ok(()),
         Err(_) => Err(NoMemory),
     }
 }
 
-/// Ends the open bars of a call that stand at a level and above. Calls are level 0.
-pub fn end_bars(bars: &mut [Bar], call: u32, level: u32, event: u32, end: End) {
-    for bar in bars {
-        if bar.call == call && bar.end == End::Open && level_of(bar.kind) >= level {
-            bar.to = event;
-            bar.end = end;
+/// A bar that ends here, where it is an open one of a call that stands at a level or above.
+fn ended(bar: Bar, call: u32, level: u32, event: u32, end: End) -> Bar
+    ensures { result ≡ spec.ended call level event end bar }
+{
+    if bar.call == call && is_open(bar.end) && level_of(bar.kind) >= level {
+        Bar {
+            to: event,
+            end,
+            ..bar
         }
+    } else {
+        bar
     }
 }
 
+/// Ends the open bars of a call that stand at a level and above. Calls are level 0.
+pub fn end_bars(bars: &mut [Bar], call: u32, level: u32, event: u32, end: End)
+    ensures { bars.new ≡ map (spec.ended call level event end) bars.old }
+{
+    for bar in bars.iter_mut() {
+        *bar = ended(*bar, call, level, event, end);
+    }
+}
+
+/// A bar that goes on to an event, where it hasn't ended.
+fn gone_on(bar: Bar, event: u32) -> Bar
+    ensures { result ≡ spec.gone_on event bar }
+{
+    if is_open(bar.end) {
+        Bar { to: event, ..bar }
+    } else {
+        bar
+    }
+}
+
+/// Bars that haven't ended go on to this event.
+pub fn go_on(bars: &mut [Bar], event: u32)
+    ensures { bars.new ≡ map (spec.gone_on event) bars.old }
+{
+    for bar in bars.iter_mut() {
+        *bar = gone_on(*bar, event);
+    }
+}
+
+/// Whether a bar hasn't ended yet.
+fn is_open(end: End) -> bool
+    ensures { result ≡ spec.is_open end }
+{
+    matches!(end, End::Open)
+}
+
 /// The level of a bar: a wait goes with the innermost.
-pub fn level_of(kind: Kind) -> u32 {
+pub fn level_of(kind: Kind) -> u32
+    ensures { result ≡ spec.level_of kind }
+{
     match kind {
         Kind::Call => 0,
         Kind::Wait => WAIT_LEVEL,

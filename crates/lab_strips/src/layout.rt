@@ -1,5 +1,8 @@
 //! Where things stand in a picture. All lengths are in units of a picture that is 1,000 wide.
 
+ghost use Rattle.std.specs.Prelude.{◌≡◌};
+ghost use Rattle.lab_strips.specs.Strips as spec;
+
 use lab_story::{Bar, Kind, Story};
 
 /// The events beside each other before the picture goes on below.
@@ -90,12 +93,16 @@ impl Strip {
     }
 
     /// Whether an event is one of the strip.
-    pub fn has(&self, event: u32) -> bool {
+    pub fn has(&self, event: u32) -> bool
+        ensures { result ≡ spec.has self.now.first self.now.last event }
+    {
         event >= self.first && event <= self.last
     }
 
     /// Whether a part of a bar stands in the strip.
-    pub fn shows(&self, bar: &Bar) -> bool {
+    pub fn shows(&self, bar: &Bar) -> bool
+        ensures { result ≡ spec.shows self.now.first self.now.last bar.now }
+    {
         bar.from <= self.last && bar.to >= self.first
     }
 

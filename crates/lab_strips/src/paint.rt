@@ -1,5 +1,8 @@
 //! Drawing a strip of a story.
 
+ghost use Rattle.std.specs.Prelude.{◌≡◌};
+ghost use Rattle.lab_strips.specs.Strips as spec;
+
 use crate::layout::{BAR, COLUMN, HEADER, LEFT, LEVEL, NOTES, RECORDS, Strip, TEXT, count_records};
 use crate::records::append_record;
 use kernel_model::NoMemory;
@@ -91,7 +94,9 @@ fn paint_lanes(out: &mut Vec<u8>, strip: &Strip) -> Result<(), NoMemory> {
 }
 
 /// The class of a bar.
-fn class_of(bar: &Bar) -> &'static [u8] {
+fn class_of(bar: &Bar) -> &'static [u8]
+    ensures { result.now ≡ spec.class_of bar.now.kind bar.now.end }
+{
     match (bar.kind, bar.end) {
         (Kind::Call, End::Refused) => b"refused",
         (Kind::Call, _) => b"call",

@@ -1,5 +1,5 @@
 -- The words of a line of a lab file.
-use Rattle.std.specs.Prelude.{ℕ, ◌+◌, ◌*◌, ◌%◌, ◌==◌, Bool, true, false, cond, not, ◌||◌, nat_lt, is_some, List, [], ◌∷◌, ◌++◌, length, map, filter, take, drop, decimal, codes, Option, None, Some}
+use Rattle.std.specs.Prelude.{ℕ, ◌+◌, ◌*◌, ◌%◌, ◌==◌, Bool, true, false, cond, not, ◌||◌, nat_lt, is_some, List, [], ◌∷◌, ◌++◌, length, map, take, drop, decimal, codes, Option, None, Some}
 use Rattle.std.specs.List.{list_all, slice_split}
 use Rattle.kernel_model.specs.Script.{IMAGE_DIGITS}
 use Rattle.kernel_model.specs.Bytes.{hex_value, number_of}
@@ -52,6 +52,11 @@ joined words = joined_after [] words
 -- what a line says without its remark, one space between two words
 abbrev pub code_of : List ℕ → List ℕ
 code_of line = joined (words_before (parts_of line))
+
+-- a line that begins with a word, or is empty
+abbrev pub starts_with_word : List ℕ → Bool
+starts_with_word [] = true
+starts_with_word (c ∷ cs) = not (c == 32)
 
 -- the word of a list of one
 abbrev pub one_word_of : List (List ℕ) → Option (List ℕ)

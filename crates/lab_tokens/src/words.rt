@@ -1,6 +1,6 @@
 //! The words of a line of a lab file.
 
-ghost use Rattle.std.specs.Prelude.{◌≡◌, ◌≤◌, ◌^◌, ◌<◌, ◌++◌, [], ◌∷◌, length, map, OnOk, IfOk, IfSome, OnSome, MatchOption, option_map};
+ghost use Rattle.std.specs.Prelude.{◌≡◌, ◌≤◌, ◌^◌, ◌<◌, ◌++◌, [], ◌∷◌, length, map, OnOk, IfOk, IfSome, None, OnSome, MatchOption, option_map, true};
 ghost use Rattle.std.specs.Option.{option_copied};
 ghost use Rattle.std.specs.List.{list_all};
 ghost use Rattle.kernel_model.specs.Bytes as model;
@@ -70,6 +70,56 @@ pub fn code_of(alloc: Global, line: &[u8]) -> Result<Vec<u8>, NoMemory>
         add_word(&mut code, word)?;
     }
     Ok(code)
+}
+
+/// Whether a line begins with a word, or is empty.
+fn starts_with_word(line: &[u8]) -> bool
+    ensures { result ≡ spec.starts_with_word line.now }
+{
+    line.is_empty() || line[0] != b' '
+}
+
+/// Whether there are words alone between spaces, none of them a remark.
+fn are_words(line: &[u8]) -> bool
+    ensures { result ≡ true → spec.words_before (spec.parts_of line.now) ≡ spec.parts_of line.now }
+{
+    let mut parts = Parts::new(line, b' ');
+    while let Some(word) = parts.next() {
+        if word.is_empty() || word[0] == b'#' {
+            return false;
+        }
+    }
+    true
+}
+
+/// Whether a line is what it says: with one space between two words, and no remark.
+pub fn is_code(line: &[u8]) -> bool
+    ensures { result ≡ true → spec.code_of line.now ≡ line.now }
+{
+    starts_with_word(line) && are_words(line)
+}
+
+/// Whether no word is the sign before a wanted line.
+fn has_no_sign(code: &[u8]) -> bool
+    ensures left { result ≡ true → spec.words_left (spec.parts_of code.now)
+        ≡ spec.parts_of code.now }
+    ensures wanted { result ≡ true → spec.wanted_of code.now ≡ None }
+{
+    let mut parts = Parts::new(code, b' ');
+    while let Some(word) = parts.next() {
+        if is_sign(word) {
+            return false;
+        }
+    }
+    true
+}
+
+/// Whether all of a line is what the script says, and no line is wanted.
+pub fn is_left(code: &[u8]) -> bool
+    ensures left { result ≡ true → spec.left_of code.now ≡ code.now }
+    ensures wanted { result ≡ true → spec.wanted_of code.now ≡ None }
+{
+    starts_with_word(code) && has_no_sign(code)
 }
 
 /// Whether a word is the sign before a wanted line.

@@ -2,6 +2,7 @@
 #![tactic(auto)]
 
 mod looks;
+mod seen;
 mod slow;
 mod steps;
 mod watch;

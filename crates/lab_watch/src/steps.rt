@@ -3,15 +3,12 @@
 ghost use Rattle.std.specs.Prelude.{◌≡◌, ◌<◌, IfSome};
 ghost use Rattle.vino_top.specs.Bounds.{IsSessionWithin};
 
-use crate::looks::{memory_of, view_of};
+use crate::looks::{images_of, memory_of, view_of};
 use crate::slow::Slow;
 use crate::watch::Watch;
-use gm_isa::Instr;
-use graft_loader::Loaded;
 use graft_points::Policy;
 use kernel_model::NoMemory;
-use lab_levels::{LEVELS, LevelRow, PROCESSES, View, append_instruction, append_level};
-use lab_weave::{append, append_with};
+use lab_weave::append_with;
 use lab_words::word_at;
 use std::alloc::Global;
 use text_words::{Parts, number_of};
@@ -19,92 +16,6 @@ use vino_base::Disk;
 
 /// The most instructions of a line that are told one by one.
 const MOST_STEPS: u32 = 512;
-
-/// The slot of a level's image, and that image.
-fn image_of<'a, B: Policy, D: Disk + Drop>(
-    watch: &Watch,
-    slow: &'a Slow<B, D>,
-    level: &LevelRow,
-) -> Option<(u32, &'a Loaded)> {
-    let slot = watch.view.slot(level.owner, level.point)?;
-    let image = slow.session.kernel.running.images.get(slot)?;
-    Some((slot, image))
-}
-
-/// The instruction at which a level was last seen, if that is known.
-fn instr_of<B: Policy, D: Disk + Drop>(
-    watch: &Watch,
-    slow: &Slow<B, D>,
-    level: &LevelRow,
-) -> Option<Instr> {
-    let place = watch.seats.seat(level.process, level.depth).place?;
-    let (_, image) = image_of(watch, slow, level)?;
-    match image.code().code().get(place as usize) {
-        Some(instr) => Some(*instr),
-        None => None,
-    }
-}
-
-/// Follows the levels of a process.
-fn follow<B: Policy, D: Disk + Drop>(watch: &mut Watch, slow: &Slow<B, D>, p: u8) {
-    for depth in 0..LEVELS {
-        match watch.view.level(p, depth) {
-            None => watch.seats.leave(p, depth),
-            Some(level) => {
-                let taken = instr_of(watch, slow, &level);
-                if watch.seats.follow(&level, taken) {
-                    watch.seats.begin(p, depth, watch.view.segment(p));
-                }
-            }
-        }
-    }
-}
-
-/// This is seen of the kernel now: follows the levels, and tells what stands.
-fn see<B: Policy, D: Disk + Drop>(
-    alloc: Global,
-    watch: &mut Watch,
-    slow: &Slow<B, D>,
-    view: View,
-) -> Result<(), NoMemory> {
-    watch.view = view;
-    for p in 0..PROCESSES {
-        follow(watch, slow, p);
-    }
-    watch.tell_standing(alloc)
-}
-
-/// Tells the next instruction of a process, if it is in a graft and the place is known.
-fn tell_instruction<B: Policy, D: Disk + Drop>(
-    alloc: Global,
-    watch: &mut Watch,
-    slow: &Slow<B, D>,
-    p: u8,
-) -> Result<(), NoMemory> {
-    let Some(level) = watch.view.innermost(p) else {
-        return Ok(());
-    };
-    let Some(place) = watch.seats.seat(p, level.depth).place else {
-        return Ok(());
-    };
-    let Some((slot, image)) = image_of(watch, slow, &level) else {
-        return Ok(());
-    };
-    let mut text = Vec::new(alloc);
-    append_level(&mut text, p, level.depth)?;
-    append_with(&mut text, b", instruction ", level.count.saturating_add(1))?;
-    append(&mut text, b": ")?;
-    let origin = watch.origin(slot);
-    append_instruction(
-        alloc,
-        &mut text,
-        watch.lowered,
-        origin,
-        image,
-        place as usize,
-    )?;
-    watch.told.add(text.as_slice())
-}
 
 /// Whether a step took up an instruction: its line says `ran 1`.
 fn has_run(written: &[u8]) -> bool {
@@ -128,17 +39,26 @@ fn step<B: Policy, D: Disk + Drop>(
     requires within { IsSessionWithin (D.seen slow.old.disk).size slow.old.session }
     ensures { IsSessionWithin (D.seen slow.new.disk).size slow.new.session }
 {
-    watch.tell_changes(alloc, p)?;
-    tell_instruction(alloc, watch, slow, p)?;
-    let before = watch.view.innermost(p);
-    watch.outside.see(memory_of(slow))?;
+    watch.tell_before(alloc, images_of(slow), memory_of(slow), p)?;
     slow.run(alloc, line)?;
     let view = view_of(alloc, slow)?;
-    see(alloc, watch, slow, view)?;
-    let after = watch.view.innermost(p);
-    watch.outside.compare(before, after, memory_of(slow));
-    watch.tell_changes(alloc, p)?;
+    watch.tell_after(alloc, images_of(slow), memory_of(slow), view, p)?;
     Ok(has_run(slow.out.lines.as_slice()))
+}
+
+/// Runs a line, and tells what came to stand.
+fn run_seen<B: Policy, D: Disk + Drop>(
+    alloc: Global,
+    watch: &mut Watch,
+    slow: &mut Slow<B, D>,
+    line: &[u8],
+) -> Result<(), NoMemory>
+    requires within { IsSessionWithin (D.seen slow.old.disk).size slow.old.session }
+    ensures { IsSessionWithin (D.seen slow.new.disk).size slow.new.session }
+{
+    slow.run(alloc, line)?;
+    let view = view_of(alloc, slow)?;
+    watch.see(alloc, images_of(slow), memory_of(slow), view)
 }
 
 /// The line of so many steps of a process.
@@ -180,9 +100,7 @@ fn run_steps<B: Policy, D: Disk + Drop>(
     }
     let rest = step_line(alloc, p, count - MOST_STEPS)?;
     leave_out(watch, p)?;
-    slow.run(alloc, rest.as_slice())?;
-    let view = view_of(alloc, slow)?;
-    see(alloc, watch, slow, view)
+    run_seen(alloc, watch, slow, rest.as_slice())
 }
 
 /// The process and the count of a line `step P N`, where both are in their ranges.
@@ -221,9 +139,7 @@ pub(crate) fn watch_line<B: Policy, D: Disk + Drop>(
         }
         None => {
             watch.told.pass(written);
-            slow.run(alloc, line)?;
-            let view = view_of(alloc, slow)?;
-            see(alloc, watch, slow, view)
+            run_seen(alloc, watch, slow, line)
         }
     }
 }

@@ -4,12 +4,14 @@ ghost use Rattle.std.specs.Prelude.{◌≡◌, ◌<◌, IfOk, map};
 ghost use Rattle.vino_top.specs.Bounds.{IsSessionWithin, IsStock};
 ghost use Rattle.lab_weave.specs.Woven.{Weaves};
 
+use crate::looks::images_of;
 use crate::slow::Slow;
 use crate::steps::watch_line;
 use filters::read_keys;
+use graft_loader::Images;
 use graft_points::Policy;
 use kernel_model::NoMemory;
-use lab_levels::{LevelRow, Origin, Outside, Seats, View, append_level, standing_of};
+use lab_levels::{LevelRow, Origin, Outside, Seats, View, append_level, segment_in, standing_of};
 use lab_lines::{LineSink, Piece, pieces_of};
 use lab_text::{Item, Lowered};
 use lab_weave::{OwnLines, append, append_number, append_with, count_of, weave};
@@ -115,24 +117,28 @@ impl<'a> Watch<'a> {
         self.told.add(text.as_slice())
     }
 
-    /// Tells what changed in the innermost level of a process.
-    pub fn tell_changes(&mut self, alloc: Global, p: u8) -> Result<(), NoMemory> {
+    /// Tells what changed in the innermost level of a process, whose segment stands in this memory.
+    pub fn tell_changes(&mut self, alloc: Global, p: u8, memory: &[u8]) -> Result<(), NoMemory> {
         match self.view.innermost(p) {
             None => Ok(()),
-            Some(level) => self.tell_level(alloc, &level),
+            Some(level) => self.tell_level(alloc, &level, segment_in(memory, &level)),
         }
     }
 
     /// Tells the registers and bytes of an innermost level that changed.
-    fn tell_level(&mut self, alloc: Global, level: &LevelRow) -> Result<(), NoMemory> {
+    fn tell_level(
+        &mut self,
+        alloc: Global,
+        level: &LevelRow,
+        segment: &[u8],
+    ) -> Result<(), NoMemory> {
         let mut text = Vec::new(alloc);
         append(&mut text, b"  ")?;
         append_level(&mut text, level.process, level.depth)?;
         append(&mut text, b":")?;
         let from = text.len();
         self.seats.append_registers(&mut text, level, &self.view)?;
-        self.seats
-            .append_bytes(&mut text, level, self.view.segment(level.process))?;
+        self.seats.append_bytes(&mut text, level, segment)?;
         if text.len() > from {
             self.told.add(text.as_slice())?;
         }
@@ -190,11 +196,11 @@ fn written_by(pieces: &[Piece], first: usize, owner: usize) -> (usize, usize) {
 
 /// The slot that a line of the file loads an image into, if that is free, and what the image is made
 /// of.
-fn origin_of<B: Policy, D: Disk + Drop>(slow: &Slow<B, D>, item: &Item) -> Option<(u32, Origin)> {
+fn origin_of(images: &Images, item: &Item) -> Option<(u32, Origin)> {
     match item {
         Item::Plain(_) => None,
         Item::Sealed { slot, graft, raw } => {
-            if slow.session.kernel.running.images.get(*slot).is_some() {
+            if images.get(*slot).is_some() {
                 return None;
             }
             let origin = Origin {
@@ -227,7 +233,7 @@ fn watch_lines<B: Policy, D: Disk + Drop>(
         }
         let number = i.saturating_add(1);
         watch.tell_line(alloc, number, item)?;
-        let origin = origin_of(slow, item);
+        let origin = origin_of(images_of(slow), item);
         let (written, next) = written_by(pieces, first, number);
         watch_line(alloc, watch, slow, line, written)?;
         watch.keep_origin(origin);

@@ -1,6 +1,7 @@
 //! A written line in words.
 
-ghost use Rattle.std.specs.Prelude.{◌≡◌, is_some, IfOk};
+ghost use Rattle.std.specs.Prelude.{◌≡◌, ◌==◌, [], is_some, slice_index_or, IfOk};
+ghost use Rattle.std.specs.List.{slice_split};
 ghost use Rattle.lab_forms.specs.Forms as spec;
 
 use kernel_model::NoMemory;
@@ -10,13 +11,21 @@ use lab_forms::{Form, before_parenthesis, told_form};
 use std::alloc::Global;
 use text_words::Parts;
 
+/// The bytes that most sentences have room in.
+const SENTENCE_BYTES: usize = 160;
+
 /// The k-th word of a line, from 0; nothing past their end.
-pub fn word_at(line: &[u8], k: usize) -> &[u8] {
+pub fn word_at(line: &[u8], k: usize) -> &[u8]
+    ensures { result.now ≡ slice_index_or (slice_split (λ b. b == 32) line.now) k [] }
+{
     part_at(line, b' ', k)
 }
 
+#[tactic(auto, using(crate::proofs::Passing::taken, crate::proofs::Passing::past))]
 /// The k-th part of a text between separators; nothing past their end.
-fn part_at(text: &[u8], separator: u8, k: usize) -> &[u8] {
+fn part_at(text: &[u8], separator: u8, k: usize) -> &[u8]
+    ensures { result.now ≡ slice_index_or (slice_split (λ b. b == separator) text.now) k [] }
+{
     let mut parts = Parts::new(text, separator);
     for _ in 0..k {
         let _ = parts.next();
@@ -242,6 +251,14 @@ fn tell_form(out: &mut Vec<u8>, form: Form, line: &[u8]) -> Result<(), NoMemory>
     }
 }
 
+/// An empty text with room for most sentences.
+fn room_of(alloc: Global) -> Result<Vec<u8>, NoMemory> {
+    match Vec::with_capacity(alloc, SENTENCE_BYTES) {
+        Ok(out) => Ok(out),
+        Err(_) => Err(NoMemory),
+    }
+}
+
 /// A written line without its newline in words, as `DROPPED: the graft of process 1 at point 5
 /// divided by zero; undone`. None for a line that has no form, and for one that says it itself
 /// (`form_is_told`).
@@ -251,7 +268,7 @@ pub fn tell(alloc: Global, line: &[u8]) -> Result<Option<Vec<u8>>, NoMemory>
     match told_form(line) {
         None => Ok(None),
         Some(form) => {
-            let mut out = Vec::new(alloc);
+            let mut out = room_of(alloc)?;
             tell_form(&mut out, form, line)?;
             Ok(Some(out))
         }
