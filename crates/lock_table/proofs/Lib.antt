@@ -1,7 +1,10 @@
-mod ObjectNumbers
+pub mod ObjectNumbers
 mod MaskLemmas
 mod Used
 mod NotedLemmas
 mod Places
 mod Views
-mod Ends
+mod ProcessMasks
+mod HoldingLemmas
+mod Hindering
+mod TakerLemmas

@@ -1,10 +1,10 @@
 -- Lemmas on the numbers of objects.
-use Rattle.std.proofs.Common.{◌≡◌, ℕ, ◌+◌, ◌-◌, ◌*◌, ◌/◌, ◌%◌, ◌<◌, Bool, true, false, ◌≤◌, nat_lt, refl, arith, ◌∙◌}
+use Rattle.std.proofs.Common.{◌≡◌, ℕ, ◌+◌, ◌-◌, ◌/◌, ◌%◌, ◌<◌, Bool, true, false, ◌≤◌, nat_lt, refl, arith, ◌∙◌}
 use Rattle.std.proofs.lemmas.Bool.Decides.{nat_tests}
 use Rattle.kernel_model.specs.declared.Object.{Object}
 use Rattle.kernel_model.specs.declared.Object.TheVariants.{Graft, Acct, Cell, OpenFile, Queue, Cache, Lock, Pol}
 use Rattle.kernel_model.specs.Laws.{IsInRange}
-use Rattle.lock_table.specs.Numbers.{number_of, is_in_range, NumbersTellApart, NumbersAreBelow}
+use Rattle.lock_table.specs.Numbers.{number_of, is_in_range, NumbersTellApart, NumbersAreBelow, TestIsRange}
 
 pub below : NumbersAreBelow
 unfolding number_of
@@ -28,6 +28,9 @@ in_range o h = grind (arith, nat_tests)
 pub ranged : (o : Object) → is_in_range o ≡ true → IsInRange o
 unfolding is_in_range
 ranged o h = grind (arith, nat_tests)
+
+pub test_is_range : TestIsRange
+test_is_range o = (ranged o, in_range o)
 
 -- an object that has a number
 pub record Numbered (n : ℕ) : Type 0 where

@@ -1,5 +1,5 @@
 -- Lemmas on the view of the table.
-use Rattle.std.proofs.Common.{◌≡◌, ◌≢◌, ℕ, ◌<◌, Bool, true, false, cond, ◌&&◌, ◌==◌, nat_lt, List, [], length, set, find, refl, arith, ◌∙◌, sym, ap}
+use Rattle.std.proofs.Common.{◌≡◌, ◌≢◌, ℕ, ◌<◌, ◌≤◌, Bool, true, false, cond, ◌&&◌, ◌==◌, nat_lt, List, [], length, not, is_some, set, find, refl, arith, ◌∙◌, sym, ap}
 use mathlib.Core.Path.{fun_ext}
 use Rattle.std.proofs.lemmas.Bool.Decides.{nat_tests}
 use Rattle.std.proofs.lemmas.List.{get_or-set_same, get_or-set_other}
@@ -13,7 +13,7 @@ use Rattle.kernel_model.specs.World.{processes}
 use Rattle.kernel_model.specs.Locks.{Touched, touch, no_locks, with_touch, merge_level, release_from, stronger, held_as, outermost_holding, lowest_holder}
 use Rattle.lock_table.specs.declared.Holds.{Holds}
 use Rattle.lock_table.specs.Numbers.{number_of, is_in_range}
-use Rattle.lock_table.specs.Masks.{held, levels_at, masks_of, merged, released, conflicting_level, is_other_hindering}
+use Rattle.lock_table.specs.Masks.{held, levels_at, masks_of, merged, released, conflicting_level}
 use Rattle.lock_table.proofs.ObjectNumbers.{tell_apart, in_range, ranged}
 
 -- nothing is held
@@ -96,12 +96,15 @@ touch_view calls masks p d o mode lt size ho h = fun_ext (λ q. fun_ext (λ e. f
     said : (q e : ℕ) (a : Object) → held (set calls p masks) q e a ≡ cond (q == p && e == d) (touch o mode (held calls p d) a) (held calls q e a)
     said q e a = go q e a (q == p) refl (is_in_range a) refl
 
--- what hinders by the masks hinders by the view
 -- how one level holds an object
 pub holding_view : (calls : List (List Holds)) (p d : ℕ) (o : Object) → p < 16 → IsInRange o → levels_at (masks_of calls p) (number_of o) d ≡ held calls p d o
 holding_view calls p d o lt ho =
     let on : (nat_lt p 16 && is_in_range o) ≡ true = rw (in_range o ho) (grind (arith, nat_tests)) in
     rw on refl
+
+-- a process from 16 on holds nothing
+pub nothing_beyond : (calls : List (List Holds)) (p d : ℕ) (o : Object) → 16 ≤ p → held calls p d o ≡ Held.Free
+nothing_beyond calls p d o le = let out : (nat_lt p 16 && is_in_range o) ≡ false = grind (arith, nat_tests, le) in rw out refl
 
 pub level_view : (calls : List (List Holds)) (p : ℕ) (o : Object) (mode : Mode) → p < 16 → IsInRange o
     → conflicting_level (masks_of calls p) (number_of o) mode ≡ outermost_holding o mode (held calls p)
@@ -109,6 +112,12 @@ level_view calls p o mode lt ho =
     let on : (nat_lt p 16 && is_in_range o) ≡ true = rw (in_range o ho) (grind (arith, nat_tests)) in
     rw on refl
 
+-- process q isn't p, and some level of it hinders
+abbrev pub is_other_hindering : List (List Holds) → (p n : ℕ) → Mode → ℕ → Bool
+is_other_hindering calls p n mode q =
+    not (q == p) && is_some (conflicting_level (masks_of calls q) n mode)
+
+-- what hinders by the masks hinders by the view
 pub ask_view : (calls : List (List Holds)) (p : ℕ) (o : Object) (mode : Mode) → IsInRange o
     → find (is_other_hindering calls p (number_of o) mode) processes ≡ lowest_holder (held calls) p o mode
 ask_view calls p o mode ho = rw (in_range o ho) refl

@@ -1,5 +1,5 @@
 -- The table of holds as masks, and what each level of each process holds by them.
-use Rattle.std.specs.Prelude.{◌≡◌, ◌≤◌, ◌<◌, ℕ, ◌-◌, Bool, true, cond, not, ◌&&◌, ◌||◌, ◌==◌, nat_lt, nat_le, List, [], ◌∷◌, slice_index_or, Option, find, is_some}
+use Rattle.std.specs.Prelude.{◌≡◌, ◌<◌, ℕ, ◌-◌, Bool, true, cond, ◌&&◌, ◌||◌, ◌==◌, nat_lt, nat_le, List, [], ◌∷◌, slice_index_or, Option, find}
 use Rattle.std.specs.Int.{bit_at}
 use Rattle.kernel_model.specs.declared.Held.{Held}
 use Rattle.kernel_model.specs.declared.Mode.{Mode}
@@ -58,23 +58,8 @@ abbrev pub conflicting_level : List Holds → ℕ → Mode → Option ℕ
 conflicting_level masks n mode =
     find (λ d. conflicts (levels_at masks n d) mode) (0 ∷ 1 ∷ 2 ∷ 3 ∷ [])
 
--- process q isn't p, and some level of it hinders
-abbrev pub is_other_hindering : List (List Holds) → (p n : ℕ) → Mode → ℕ → Bool
-is_other_hindering calls p n mode q =
-    not (q == p) && is_some (conflicting_level (masks_of calls q) n mode)
-
--- from process p on, the calls of the processes hold nothing
-pub record IsFreeFrom (p : ℕ) (calls : List (List Holds)) : Type 0 where
-  pub free : (q n e : ℕ) → p ≤ q → levels_at (masks_of calls q) n e ≡ Held.Free
-
 -- the call of a process holds something: the object with this number
 pub record HoldsSome (masks : List Holds) : Type 0 where
   pub number : ℕ
   pub below : number < 421
   pub used : is_used (holds_at masks number) ≡ true
-
--- the processes below `end` are all of which the calls hold something, up to the last one of them
-pub record IsEnd (end : ℕ) (calls : List (List Holds)) : Type 0 where
-  pub most : end ≤ 16
-  pub free : IsFreeFrom end calls
-  pub last : 0 < end → HoldsSome (masks_of calls (end - 1))

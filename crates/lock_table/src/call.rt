@@ -4,12 +4,12 @@ ghost use Rattle.std.specs.Prelude.{◌≡◌, ℕ, ◌<◌, ◌&&◌, ◌==◌,
 ghost use Rattle.kernel_model.specs.Locks.{held_as, stronger};
 ghost use Rattle.kernel_model.specs.declared.Held.TheVariants.{Free};
 
-use crate::Holds;
-use crate::holder::Depth;
+use crate::holder::{Depth, Holder};
 use crate::rows::{
     OBJECTS, conflicting_at, forget_unused, holding_at, merge_all, note, nothing_held, release_all,
     touch_at,
 };
+use crate::{Holds, Takers};
 use arrayvec::ArrayVec;
 use kernel_model::Mode;
 use std::alloc::{AllocError, Global};
@@ -38,6 +38,7 @@ impl Model for CallHolds {
 }
 
 impl CallHolds {
+    ghost use Rattle.lock_table.specs.Takers.{AreOthersSame, HasTaker};
     ghost use Rattle.lock_table.specs.Masks.{HoldsSome, conflicting_level, holds_at, levels_at, merged, released};
 
     /// Nothing is held.
@@ -94,12 +95,17 @@ impl CallHolds {
         merge_all(&mut self.masks, &self.numbers, depth);
     }
 
-    /// A level and those further inward let go.
-    pub(crate) fn release_from(&mut self, depth: Depth)
-        ensures { (n e : ℕ) →
-            levels_at self.new n e ≡ released depth.level (levels_at self.old n) e }
+    /// A level of a process and those further inward let go, of what the masks of processes say
+    /// too.
+    pub(crate) fn release_from(&mut self, takers: &mut [Takers], by: Holder)
+        requires size { length takers.old ≡ 421 }
+        requires taker { HasTaker takers.old by.process self.old }
+        ensures released { (n e : ℕ) →
+            levels_at self.new n e ≡ released by.level (levels_at self.old n) e }
+        ensures taker { HasTaker takers.new by.process self.new }
+        ensures others { AreOthersSame by.process takers.old takers.new }
     {
-        release_all(&mut self.masks, &self.numbers, depth);
+        release_all(&mut self.masks, &self.numbers, takers, by);
         forget_unused(&mut self.numbers, &self.masks);
     }
 }

@@ -1,4 +1,4 @@
-//! The laws of the objects' numbers. A call of one brings its statement into a proof.
+//! The laws of the objects' numbers.
 
 ghost use Rattle.lock_table.specs.Numbers.{NumbersTellApart, NumbersAreBelow, TestIsRange};
 

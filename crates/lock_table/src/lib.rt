@@ -8,8 +8,10 @@ pub mod laws;
 mod levels;
 mod masks;
 mod numbers;
+mod process_masks;
 mod rows;
 mod table;
+mod taking;
 #[cfg(test)]
 mod tests;
 
@@ -24,4 +26,12 @@ pub use table::LockTable;
 pub struct Holds {
     shared: u8,
     exclusive: u8,
+}
+
+/// The processes that hold one object: a mask of sixteen bits of those of which some level holds
+/// it, and one of those of which some level holds it exclusively, process 0's lowest.
+#[derive(Clone, Copy)]
+pub(crate) struct Takers {
+    holding: u16,
+    exclusive: u16,
 }

@@ -5,10 +5,12 @@ ghost use Rattle.std.specs.Prelude.{◌≡◌, ℕ, ◌<◌, ◌++◌, ◌&&◌,
 ghost use Rattle.kernel_model.specs.Locks.{held_as, stronger};
 ghost use Rattle.lock_table.specs.Masks.{conflicting_level, holds_at, is_used, levels_at, merged, no_holds, released};
 ghost use Rattle.lock_table.specs.Noted.{IsNoted};
+ghost use Rattle.lock_table.specs.Takers.{AreOthersSame, HasTaker};
 
-use crate::Holds;
-use crate::holder::Depth;
+use crate::holder::{Depth, Holder};
 use crate::levels::{NO_HOLDS, any_holds, conflicting, merged_out, released_from, touched};
+use crate::taking::holding_so;
+use crate::{Holds, Takers};
 use arrayvec::ArrayVec;
 use kernel_model::Mode;
 use std::alloc::{AllocError, Global};
@@ -80,14 +82,23 @@ pub(crate) fn merge_all(masks: &mut [Holds], numbers: &[u16], depth: Depth)
     }
 }
 
-/// A level and those further inward let go. All that is held is noted.
-pub(crate) fn release_all(masks: &mut [Holds], numbers: &[u16], depth: Depth)
+/// A level of a process and those further inward let go, of what the masks of processes say too.
+/// All that is held is noted.
+pub(crate) fn release_all(masks: &mut [Holds], numbers: &[u16], takers: &mut [Takers], by: Holder)
     requires noted { IsNoted masks.old numbers.now }
-    ensures { (n e : ℕ) → levels_at masks.new n e ≡ released depth.level (levels_at masks.old n) e }
+    requires size { length takers.old ≡ length masks.old }
+    requires taker { HasTaker takers.old by.process masks.old }
+    ensures released { (n e : ℕ) →
+        levels_at masks.new n e ≡ released by.level (levels_at masks.old n) e }
+    ensures taker { HasTaker takers.new by.process masks.new }
+    ensures others { AreOthersSame by.process takers.old takers.new }
 {
     for number in numbers {
         let holds = &mut masks[*number as usize];
-        *holds = released_from(*holds, depth);
+        let kept = released_from(*holds, Depth { level: by.level });
+        *holds = kept;
+        let taker = &mut takers[*number as usize];
+        *taker = holding_so(*taker, by, kept);
     }
 }
 

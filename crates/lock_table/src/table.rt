@@ -1,17 +1,20 @@
 //! `LockTable`.
 
-ghost use Rattle.std.specs.Prelude.{◌≡◌, ℕ, ◌<◌, ◌≤◌, ◌↔◌, true, length, find, is_some, IfOk};
+ghost use Rattle.std.specs.Prelude.{◌≡◌, ℕ, ◌<◌, ◌↔◌, true, length, IfOk};
 ghost use Rattle.kernel_model.specs.World.{processes};
 ghost use Rattle.kernel_model.specs.Laws.{IsInRange};
 ghost use Rattle.kernel_model.specs.Locks.{is_held, no_locks, lowest_holder, outermost_holding, with_touch, merge_level as level_merged, release_from as released_inward};
 ghost use Rattle.kernel_model.specs.declared.Held.TheVariants.{Free};
-ghost use Rattle.lock_table.specs.Masks.{conflicting_level, held_by, is_other_hindering, levels_at, masks_of, IsEnd, IsFreeFrom};
+ghost use Rattle.lock_table.specs.Masks.{held_by, levels_at, masks_of};
 
-use crate::Holds;
 use crate::call::CallHolds;
 use crate::holder::{Depth, Holder};
 use crate::levels::{NO_HOLDS, is_holding};
 use crate::numbers::object_number;
+use crate::process_masks::{is_empty, marked, with};
+use crate::rows::OBJECTS;
+use crate::taking::{lowest_other, nobody, take_at};
+use crate::{Holds, Takers};
 use kernel_model::{Mode, NoMemory, Object, PROCESSES};
 use std::alloc::{AllocError, Global};
 use std::marker::Model;
@@ -23,21 +26,23 @@ use std::marker::Model;
 #[derive(Drop)]
 pub struct LockTable {
     calls: Vec<CallHolds>,
-    /// Only the calls of the processes below this one hold something, so no other is looked at. It
-    /// is 0 exactly where nothing is held.
-    end: u8,
+    /// What the masks of the calls say, object by object.
+    takers: Vec<Takers>,
+    /// The processes whose calls hold something, as a mask.
+    holding: u16,
 }
 
 impl Model for LockTable {
     ghost use Rattle.std.specs.Prelude.{◌≡◌, List, length};
     ghost use Rattle.lock_table.specs.declared.Holds.{Holds};
-    ghost use Rattle.lock_table.specs.Masks.{IsEnd};
+    ghost use Rattle.lock_table.specs.Takers.{AreHolding, AreTakers};
 
     ghost Value = { List (List Holds) };
 
     ghost view = { λ t. t.calls.items };
 
-    ghost invariant = { λ t. (length t.calls.items ≡ 16) × IsEnd t.end t.calls.items };
+    ghost invariant = { λ t. (length t.calls.items ≡ 16) × AreHolding t.holding t.calls.items
+        × (length t.takers.items ≡ 421) × AreTakers t.takers.items t.calls.items };
 }
 
 /// So many calls that hold nothing.
@@ -52,48 +57,6 @@ fn no_calls(alloc: Global, count: usize) -> Result<Vec<CallHolds>, AllocError>
     Ok(calls)
 }
 
-/// Whether the hold of some level of process q conflicts with a mode.
-fn hinders(calls: &[CallHolds], q: u8, number: u16, mode: Mode) -> bool
-    requires process { q < length calls.now }
-    requires number { number < 421 }
-    ensures { result ≡ is_some (conflicting_level (masks_of calls.now q) number mode) }
-{
-    calls[q as usize].level_of(number, mode).is_some()
-}
-
-/// The lowest process but one of which some level hinders, where those from `end` on hold nothing.
-fn lowest_other(calls: &[CallHolds], end: u8, p: u8, number: u16, mode: Mode) -> Option<u8>
-    requires size { length calls.now ≡ 16 }
-    requires end { end ≤ 16 }
-    requires free { IsFreeFrom end calls.now }
-    requires number { number < 421 }
-    ensures { result ≡ find (is_other_hindering calls.now p number mode) processes }
-{
-    for q in 0..end {
-        if q != p && hinders(calls, q, number, mode) {
-            return Some(q);
-        }
-    }
-    None
-}
-
-/// The end of the processes that hold something, of which none from `end` on does.
-fn end_of(calls: &[CallHolds], end: u8) -> u8
-    requires size { length calls.now ≡ 16 }
-    requires end { end ≤ 16 }
-    requires free { IsFreeFrom end calls.now }
-    ensures { IsEnd result calls.now }
-{
-    let mut least = end;
-    while least > 0 {
-        if !calls[least as usize - 1].is_free() {
-            return least;
-        }
-        least -= 1;
-    }
-    least
-}
-
 impl LockTable {
     ghost use Rattle.lock_table.specs.Masks.{held};
 
@@ -101,26 +64,33 @@ impl LockTable {
     pub fn new(alloc: Global) -> Result<LockTable, NoMemory>
         ensures { IfOk result (λ t. held t ≡ no_locks) }
     {
-        match no_calls(alloc, PROCESSES) {
-            Ok(calls) => Ok(LockTable { calls, end: 0 }),
+        let Ok(calls) = no_calls(alloc, PROCESSES) else {
+            return Err(NoMemory);
+        };
+        match nobody(alloc, OBJECTS) {
+            Ok(takers) => Ok(LockTable {
+                calls,
+                takers,
+                holding: 0,
+            }),
             Err(_) => Err(NoMemory),
         }
     }
 
-    /// Whether nothing is held. Looks at none of the masks.
+    /// Whether nothing is held. Looks at one mask of processes.
     pub fn is_free(&self) -> bool
         ensures { (result ≡ true) ↔ (held self.now ≡ no_locks) }
     {
-        self.end == 0
+        is_empty(self.holding)
     }
 
-    /// The lowest other process whose hold on an object conflicts with a mode. Looks at one pair of
-    /// masks of each process up to the last one that holds something.
+    /// The lowest other process whose hold on an object conflicts with a mode. Looks at one mask of
+    /// processes.
     pub fn ask(&self, p: u8, o: Object, mode: Mode) -> Option<u8>
         requires range { IsInRange o }
         ensures { result ≡ lowest_holder (held self.now) p o mode }
     {
-        lowest_other(&self.calls, self.end, p, object_number(&o), mode)
+        lowest_other(&self.takers, object_number(&o), p, mode)
     }
 
     /// The outermost level of process p whose hold on an object conflicts with a mode.
@@ -159,9 +129,11 @@ impl LockTable {
         requires range { IsInRange o }
         ensures { held self.new ≡ with_touch by.process by.level o mode (held self.old) }
     {
+        let number = object_number(&o);
         let call = &mut self.calls[by.process as usize];
-        call.touch(object_number(&o), Depth { level: by.level }, mode);
-        self.end = self.end.max(by.process + 1);
+        call.touch(number, Depth { level: by.level }, mode);
+        take_at(&mut self.takers, number, by, mode);
+        self.holding = with(self.holding, by);
     }
 
     /// What a level above level 0 holds goes to the level outside it. Where both hold an object,
@@ -179,7 +151,8 @@ impl LockTable {
         ensures { held self.new ≡ released_inward by.process by.level (held self.old) }
     {
         let call = &mut self.calls[by.process as usize];
-        call.release_from(Depth { level: by.level });
-        self.end = end_of(&self.calls, self.end);
+        call.release_from(&mut self.takers, by);
+        let holds_some = !call.is_free();
+        self.holding = marked(self.holding, by, holds_some);
     }
 }
