@@ -19,7 +19,7 @@ of_segment : (base i : ℕ) (memory : ℕ → ℕ) → i < 4096 → segment_of b
 of_segment base i memory less = grind (arith, nat_tests)
 
 -- a range has as many bytes as lie between its places
-range_long : (xs : List ℕ) (a n : ℕ) → a + n ≤ length xs → length (slice_range xs a (a + n)) ≡ n
+pub range_long : (xs : List ℕ) (a n : ℕ) → a + n ≤ length xs → length (slice_range xs a (a + n)) ≡ n
 range_long xs a n inside =
     let count : (a + n) - a ≡ n = omega arith in
     let behind : n ≤ length (drop a xs) = omega (arith, length-drop a xs) in
@@ -74,6 +74,10 @@ row_bytes : (ram : List ℕ) (f : ℕ) (row : Option FrameRow) → is_some row �
     → (elim (frame_value ram f row) [ None ↦ [] | Some r ↦ r.bytes ]) ≡ frame_bytes ram f
 row_bytes ram f None used = cc
 row_bytes ram f (Some r) used = refl
+
+-- they are 512 bytes of memory
+pub bytes_of_frame : (c : Frames) (ram : List ℕ) (f : ℕ) → in_use f c ≡ true → bytes_of (cache_value c ram) f ≡ slice_range ram (512 * f) (512 * f + 512)
+bytes_of_frame c ram f used = row_bytes ram f (row_at c.rows f) used
 
 -- bytes off to off + len of it
 pub bytes_in_frame : (c : Frames) (ram : List ℕ) (f off len : ℕ) → in_use f c ≡ true → off + len ≤ 512

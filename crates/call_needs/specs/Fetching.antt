@@ -1,5 +1,5 @@
 -- How a block comes into the cache: what a fetch needs, and what came of it.
-use Rattle.std.specs.Prelude.{◌≡◌, ℕ, ◌<◌, ◌≤◌, Bool, true, false, List, ◌++◌, length, slice_index, is_some, Option, Result, Ok, Err, IfOk, IfErr}
+use Rattle.std.specs.Prelude.{◌≡◌, ℕ, ◌≤◌, Bool, true, false, List, ◌++◌, length, slice_index, is_some, Option, Result, Ok, Err, IfOk, IfErr}
 use Rattle.std.specs.List.{list_any}
 use Rattle.std.specs.Option.{IfSome}
 use Rattle.kernel_model.specs.World.{World, Blocks}
@@ -74,11 +74,10 @@ has_failed io = list_any (λ failed. failed) io
 abbrev pub NamesFrame : {B : Type 0} {P : _} → Store B P → Option (List ℕ) → Type 0
 NamesFrame s answer = IfSome answer (λ a. is_some ((cache_of s).frame (slice_index a 0)) ≡ true)
 
--- block b may be fetched for process p with this answer, once these calls of the disk were made
-pub record FetchReady {B : Type 0} {P : _} (m : Moment (Store B P)) (p b : ℕ)
+-- a block may be fetched for process p with this answer, once these calls of the disk were made
+pub record FetchReady {B : Type 0} {P : _} (m : Moment (Store B P)) (p : ℕ)
     (answer : Option (List ℕ)) (calls : List Bool) : Type 0 where
   pub alive : lives (queue_of m.store) p ≡ true
-  pub block : b < m.store.size
   pub disk : m.store.size ≡ m.disk.size
   pub right : NamesFrame m.store answer
   pub made : m.log ≡ calls

@@ -1,4 +1,5 @@
 pub mod Works
 pub mod Masks
 pub mod Needing
+pub mod Planning
 pub mod Fetching

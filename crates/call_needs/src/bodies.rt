@@ -1,7 +1,7 @@
 //! Bytes in memory: those that the answer of a graft gives, which stand in the segment of the
 //! outermost level of its call, and those of a frame.
 
-ghost use Rattle.std.specs.Prelude.{◌≡◌, ◌+◌, ◌<◌, ◌≤◌, true, length, min, slice_index, slice_range};
+ghost use Rattle.std.specs.Prelude.{◌≡◌, ◌+◌, ◌*◌, ◌<◌, ◌≤◌, true, length, min, slice_index, slice_range};
 ghost use Rattle.kernel_model.specs.Fetch.{bytes_of};
 ghost use Rattle.kernel_model.specs.Levels.{base_of};
 ghost use Rattle.kernel_model.specs.Machine.{FED_AT};
@@ -12,7 +12,7 @@ use arrayvec::ArrayVec;
 use graft_points::Policy;
 use kernel_model::BLOCK_BYTES;
 use kernel_state::Store;
-use ram_space::{RAM_BYTES, Ram};
+use ram_space::RAM_BYTES;
 
 /// Where the segment of the outermost level of process 0 begins.
 const FIRST_SEGMENT: u32 = 262_144;
@@ -49,7 +49,7 @@ pub fn copy_body<B: Policy>(
     requires process { p < 16 }
     ensures { to.new.items ≡ body_at store.now.ram p answer }
 {
-    copy_from(&store.ram, body_place(p), body_len(answer), to);
+    take_bytes(to, store.ram.bytes(body_place(p), body_len(answer)));
 }
 
 /// Bytes off to off + len of frame f, which is in use, take the place of what a list had.
@@ -64,17 +64,44 @@ pub fn copy_bytes_of<B: Policy>(
     requires inside { off + len ≤ 512 }
     ensures { to.new.items ≡ slice_range (bytes_of (cache_of store.now) f) off (off + len) }
 {
-    store.cache.lru();
-    copy_from(&store.ram, BLOCK_BYTES as u32 * u32::from(f) + off, len, to);
+    take_bytes(to, frame_range(store, f, off, len));
 }
 
-/// So many bytes of memory, the first from an address, take the place of what a list had.
-fn copy_from(ram: &Ram, a: u32, count: u32, to: &mut ArrayVec<u8, BLOCK_BYTES>)
-    requires few { count ≤ 512 }
-    requires inside { a + count ≤ RAM_BYTES }
-    ensures items { to.new.items ≡ slice_range ram.now a (a + count) }
-    ensures size { length ram.now ≡ RAM_BYTES }
+/// Bytes off to off + len of frame f, which is in use, where they stand.
+pub(crate) fn frame_range<B: Policy>(store: &Store<B>, f: u8, off: u32, len: u32) -> &[u8]
+    requires in_cache { in_use f store.now.cache ≡ true }
+    requires inside { off + len ≤ 512 }
+    ensures value { result.now
+        ≡ slice_range (bytes_of (cache_of store.now) f) off (off + len) }
+    ensures few { length result.now ≤ 512 }
+{
+    store.ram.bytes(start_of(f) + off, len)
+}
+
+/// Where in memory the bytes of a frame begin.
+fn start_of(f: u8) -> u32
+    ensures { result ≡ 512 * f }
+{
+    BLOCK_BYTES as u32 * u32::from(f)
+}
+
+/// The bytes of frame f, which is in use, where they stand.
+pub fn frame_bytes<B: Policy>(store: &Store<B>, f: u8) -> &[u8; BLOCK_BYTES]
+    requires { in_use f store.now.cache ≡ true }
+    ensures { result.now ≡ bytes_of (cache_of store.now) f }
+{
+    let bytes = store.ram.bytes(start_of(f), BLOCK_BYTES as u32);
+    match bytes.as_array() {
+        Some(bytes) => bytes,
+        None => unreachable!(),
+    }
+}
+
+/// These bytes take the place of what a list had.
+fn take_bytes(to: &mut ArrayVec<u8, BLOCK_BYTES>, bytes: &[u8])
+    requires { length bytes.now ≤ 512 }
+    ensures { to.new.items ≡ bytes.now }
 {
     to.clear();
-    let _ = to.try_extend_from_slice(ram.bytes(a, count));
+    let _ = to.try_extend_from_slice(bytes);
 }

@@ -1,79 +1,68 @@
 //! How a block comes into the cache.
 
-ghost use Rattle.std.specs.Prelude.{◌≡◌, true, false, [], ◌∷◌, None, ⊤};
+ghost use Rattle.std.specs.Prelude.{◌≡◌, ◌<◌, true, false, [], ◌∷◌, None, ⊤};
 ghost use Rattle.kernel_model.specs.Needs.{frame_of_block};
 ghost use Rattle.kernel_model.specs.Fetch.{chosen_by};
 ghost use Rattle.buffer_cache.specs.Frames.{in_use};
 ghost use Rattle.kernel_state.specs.Stores.{cache_of};
 ghost use Rattle.call_needs.specs.Fetching.{FetchReady, FetchDone, PlaceDone, NamesFrame, moment, fetch_of, fetch_ahead_of, load_of, place_of, evict_of};
+ghost use Rattle.call_needs.specs.Planning.{HasRoomFrame, IsPlan, IsRoomIn};
 
+use crate::bodies::frame_bytes;
+use crate::plans::{Place, Plan, Room};
 use disk_log::DiskLog;
 use graft_points::Policy;
 use kernel_model::BLOCK_BYTES;
 use kernel_state::Store;
 use vino_base::{Disk, Failed};
 
-/// Block b for process p: the frame that holds it becomes the newest, or the block is read into a
-/// frame. An answer names the frame in use that is to be evicted where none is free.
+/// The block of a plan, for process p: the frame that holds it becomes the newest, or the block is
+/// read into the frame that the plan has for it. An answer names the frame in use that is evicted
+/// in place of the candidate.
 pub fn fetch<B: Policy, D: Disk>(
     store: &mut Store<B>,
     disk: &mut D,
     log: &mut DiskLog,
     p: u8,
-    b: u32,
+    plan: Plan,
     answer: Option<[u32; 4]>,
 ) -> Result<u8, Failed>
-    requires { FetchReady (moment store.old (D.seen disk.old) log.old) p b answer [] }
-    ensures { FetchDone (fetch_of store.old p b answer) (moment store.old (D.seen disk.old) log.old)
+    requires ready { FetchReady (moment store.old (D.seen disk.old) log.old) p answer [] }
+    requires plan { IsPlan store.old plan }
+    ensures { FetchDone (fetch_of store.old p plan.block answer)
+        (moment store.old (D.seen disk.old) log.old)
         (moment store.new (D.seen disk.new) log.new) result }
 {
-    match store.find(b) {
-        Some(f) => {
+    let b = plan.block;
+    match plan.place {
+        Place::Held(f) => {
             store.touch(f);
             Ok(f)
         }
-        None => load(store, disk, log, p, b, answer),
+        Place::Missing(room) => load(store, disk, log, Wanted { p, b, answer }, room),
     }
 }
 
-/// Block b, ahead of a read of process p: where a frame holds it already, nothing changes.
+/// The block of a plan, ahead of a read of process p: where a frame holds it already, nothing
+/// changes.
 pub fn fetch_ahead<B: Policy, D: Disk>(
     store: &mut Store<B>,
     disk: &mut D,
     log: &mut DiskLog,
     p: u8,
-    b: u32,
+    plan: Plan,
     answer: Option<[u32; 4]>,
 ) -> Result<u8, Failed>
-    requires { FetchReady (moment store.old (D.seen disk.old) log.old) p b answer [] }
-    ensures { FetchDone (fetch_ahead_of store.old p b answer)
+    requires ready { FetchReady (moment store.old (D.seen disk.old) log.old) p answer [] }
+    requires plan { IsPlan store.old plan }
+    ensures { FetchDone (fetch_ahead_of store.old p plan.block answer)
         (moment store.old (D.seen disk.old) log.old)
         (moment store.new (D.seen disk.new) log.new) result }
 {
-    match store.find(b) {
-        Some(f) => Ok(f),
-        None => load(store, disk, log, p, b, answer),
-    }
-}
-
-/// Reads block b, which no frame holds, into a frame.
-fn load<B: Policy, D: Disk>(
-    store: &mut Store<B>,
-    disk: &mut D,
-    log: &mut DiskLog,
-    p: u8,
-    b: u32,
-    answer: Option<[u32; 4]>,
-) -> Result<u8, Failed>
-    requires ready { FetchReady (moment store.old (D.seen disk.old) log.old) p b answer [] }
-    requires missing { frame_of_block (cache_of store.old) b ≡ None }
-    ensures { FetchDone (load_of store.old p b answer) (moment store.old (D.seen disk.old) log.old)
-        (moment store.new (D.seen disk.new) log.new) result }
-{
-    let mut bytes = [0; BLOCK_BYTES];
-    match log.read(disk, b, &mut bytes) {
-        Ok(()) => place(store, disk, log, Wanted { p, b, answer }, &bytes),
-        Err(failed) => Err(failed),
+    let b = plan.block;
+    match plan.place {
+        Place::Held(f) => Ok(f),
+        Place::Missing(room) => load(store, disk, log, Wanted { p, b, answer }, room),
     }
 }
 
@@ -85,32 +74,59 @@ struct Wanted {
     answer: Option<[u32; 4]>,
 }
 
-/// Puts a block that no frame holds, with these bytes, into the lowest free frame, or else into the
-/// one that the answer chooses, or by default into the candidate.
+/// Reads a block that no frame holds into a frame.
+fn load<B: Policy, D: Disk>(
+    store: &mut Store<B>,
+    disk: &mut D,
+    log: &mut DiskLog,
+    w: Wanted,
+    room: Room,
+) -> Result<u8, Failed>
+    requires ready { FetchReady (moment store.old (D.seen disk.old) log.old) w.p w.answer [] }
+    requires block { w.b < store.old.size }
+    requires missing { frame_of_block (cache_of store.old) w.b ≡ None }
+    requires room { IsRoomIn store.old room }
+    requires frame { HasRoomFrame store.old.cache room }
+    ensures { FetchDone (load_of store.old w.p w.b w.answer)
+        (moment store.old (D.seen disk.old) log.old)
+        (moment store.new (D.seen disk.new) log.new) result }
+{
+    let mut bytes = [0; BLOCK_BYTES];
+    match log.read(disk, w.b, &mut bytes) {
+        Ok(()) => place(store, disk, log, w, room, &bytes),
+        Err(failed) => Err(failed),
+    }
+}
+
+/// Puts a block that no frame holds, with these bytes, into the free frame that there is for it, or
+/// else into the one that the answer chooses, or by default into the candidate.
 fn place<B: Policy, D: Disk>(
     store: &mut Store<B>,
     disk: &mut D,
     log: &mut DiskLog,
     w: Wanted,
+    room: Room,
     bytes: &[u8; 512],
 ) -> Result<u8, Failed>
-    requires ready { FetchReady (moment store.old (D.seen disk.old) log.old) w.p w.b w.answer
+    requires ready { FetchReady (moment store.old (D.seen disk.old) log.old) w.p w.answer
         (false ∷ []) }
+    requires block { w.b < store.old.size }
     requires missing { frame_of_block (cache_of store.old) w.b ≡ None }
+    requires room { IsRoomIn store.old room }
+    requires frame { HasRoomFrame store.old.cache room }
     ensures { PlaceDone (place_of store.old w.p w.b w.answer) (λ blocks. blocks w.b ≡ bytes.now)
         (moment store.old (D.seen disk.old) log.old)
         (moment store.new (D.seen disk.new) log.new) result }
 {
-    if let Some(f) = store.free() {
-        store.fill(f, w.p, w.b, bytes);
-        return Ok(f);
-    }
-    match store.candidate() {
-        Some(candidate) => {
+    match room {
+        Room::Free(f) => {
+            store.fill(f, w.p, w.b, bytes);
+            Ok(f)
+        }
+        Room::Candidate(candidate) => {
             let frame = chosen(store, w.answer, candidate);
             evict(store, disk, log, w, Victim { frame, candidate }, bytes)
         }
-        None => unreachable!(),
     }
 }
 
@@ -144,8 +160,9 @@ fn evict<B: Policy, D: Disk>(
     v: Victim,
     bytes: &[u8; 512],
 ) -> Result<u8, Failed>
-    requires ready { FetchReady (moment store.old (D.seen disk.old) log.old) w.p w.b w.answer
+    requires ready { FetchReady (moment store.old (D.seen disk.old) log.old) w.p w.answer
         (false ∷ []) }
+    requires block { w.b < store.old.size }
     requires missing { frame_of_block (cache_of store.old) w.b ≡ None }
     requires frame { in_use v.frame store.old.cache ≡ true }
     requires candidate { in_use v.candidate store.old.cache ≡ true }
@@ -155,15 +172,11 @@ fn evict<B: Policy, D: Disk>(
 {
     match store.dirty_block(v.frame) {
         Some(old) => {
-            let mut evicted = [0; BLOCK_BYTES];
-            store.copy_frame(v.frame, &mut evicted);
-            match log.write(disk, old, &evicted) {
-                Ok(()) => {
-                    store.replace(v.frame, v.candidate, w.p, w.b, bytes);
-                    Ok(v.frame)
-                }
-                Err(failed) => Err(failed),
+            if let Err(failed) = log.write(disk, old, frame_bytes(store, v.frame)) {
+                return Err(failed);
             }
+            store.replace(v.frame, v.candidate, w.p, w.b, bytes);
+            Ok(v.frame)
         }
         None => {
             store.replace(v.frame, v.candidate, w.p, w.b, bytes);

@@ -5,7 +5,7 @@ ghost use Rattle.kernel_model.specs.Fetch.{bytes_of};
 ghost use Rattle.buffer_cache.specs.Frames.{in_use};
 ghost use Rattle.kernel_state.specs.Stores.{body_at, cache_of};
 
-use crate::bodies::{body_len, body_place};
+use crate::bodies::{body_len, body_place, frame_range};
 use graft_points::Policy;
 use kernel_model::BLOCK_BYTES;
 use kernel_state::Store;
@@ -17,18 +17,17 @@ use std::marker::Model;
 pub struct Gift {
     given: bool,
     block: [u8; BLOCK_BYTES],
-    start: usize,
-    end: usize,
+    count: usize,
 }
 
 impl Model for Gift {
-    ghost use Rattle.std.specs.Prelude.{ℕ, ◌≤◌, List, Option, Some, None, cond, slice_range};
+    ghost use Rattle.std.specs.Prelude.{ℕ, ◌≤◌, List, Option, Some, None, cond, take};
 
     ghost Value = { Option (List ℕ) };
 
-    ghost view = { λ g. cond g.given (Some (slice_range g.block g.start g.end)) None };
+    ghost view = { λ g. cond g.given (Some (take g.count g.block)) None };
 
-    ghost invariant = { λ g. (g.start ≤ g.end) × (g.end ≤ 512) };
+    ghost invariant = { λ g. g.count ≤ 512 };
 }
 
 impl Gift {
@@ -39,8 +38,7 @@ impl Gift {
         Gift {
             given: false,
             block: [0; BLOCK_BYTES],
-            start: 0,
-            end: 0,
+            count: 0,
         }
     }
 
@@ -58,7 +56,7 @@ impl Gift {
         ensures few { IfSome result (λ b. length b.now ≤ 512) }
     {
         if self.given {
-            Some(&self.block[self.start..self.end])
+            Some(&self.block[..self.count])
         } else {
             None
         }
@@ -71,8 +69,7 @@ impl Gift {
     {
         put_first(&mut self.block, bytes);
         self.given = true;
-        self.start = 0;
-        self.end = bytes.len();
+        self.count = bytes.len();
     }
 
     /// Gives the bytes that an answer of process p gives.
@@ -83,16 +80,13 @@ impl Gift {
         self.give_bytes(store.ram.bytes(body_place(p), body_len(answer)));
     }
 
-    /// Gives bytes off to off + len of frame f, which is in use.
+    /// Gives bytes off to off + len of frame f, which is in use. No other byte is copied.
     pub fn give<B: Policy>(&mut self, store: &Store<B>, f: u8, off: u32, len: u32)
         requires in_cache { in_use f store.now.cache ≡ true }
         requires inside { off + len ≤ 512 }
         ensures { self.new ≡ Some (slice_range (bytes_of (cache_of store.now) f) off (off + len)) }
     {
-        store.copy_frame(f, &mut self.block);
-        self.given = true;
-        self.start = off as usize;
-        self.end = (off + len) as usize;
+        self.give_bytes(frame_range(store, f, off, len));
     }
 }
 

@@ -13,16 +13,19 @@ mod begin;
 mod bodies;
 mod fetches;
 mod gifts;
+pub mod laws;
 mod needs;
+mod plans;
 mod points;
 
 use arrayvec::ArrayVec;
 pub use begin::{TOP_POINT, early_upto, refusal_upto};
-pub use bodies::{copy_body, copy_bytes_of};
+pub use bodies::{copy_body, copy_bytes_of, frame_bytes};
 pub use fetches::{fetch, fetch_ahead};
 pub use gifts::Gift;
 use kernel_model::{BLOCK_BYTES, BareCall};
 pub use needs::{NEEDS, Needs, need};
+pub use plans::{Place, Plan, Room, plan_ahead, plan_block};
 pub use points::{asks, block_ask};
 
 /// The most handlers that one `serve` asks: those of a port.

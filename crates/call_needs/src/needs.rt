@@ -10,8 +10,10 @@ ghost use Rattle.buffer_cache.specs.Frames.{in_use};
 ghost use Rattle.kernel_state.specs.Places.{HasDescriptor};
 ghost use Rattle.kernel_state.specs.Stores.{world_of_store, objects_of, cache_of, queue_of, policies_of};
 ghost use Rattle.call_needs.specs.Needing.{all_of, block_meant, fetch_needs_of};
+ghost use Rattle.call_needs.specs.Planning.{IsPlan};
 ghost use Rattle.call_needs.specs.Works.{IsPlainDue, call_of, stage_of};
 
+use crate::plans::{Plan, plan_ahead, plan_block};
 use crate::{Access, Work};
 use arrayvec::ArrayVec;
 use graft_points::Policy;
@@ -150,14 +152,15 @@ impl Needs {
         }
     }
 
-    /// The cache, and where a frame must be chosen for block b the policy and the point of the
-    /// candidate's owner.
-    fn fetch<B: Policy>(&mut self, store: &Store<B>, b: u32)
+    /// The cache, and where a frame must be chosen for the block of a plan the policy and the point
+    /// of the candidate's owner.
+    fn fetch<B: Policy>(&mut self, store: &Store<B>, plan: Plan)
+        requires plan { IsPlan store.now plan }
         requires room { length self.old + 4 ≤ NEEDS }
-        ensures { self.new ≡ self.old ++ fetch_needs_of store.now (Ok b) }
+        ensures { self.new ≡ self.old ++ fetch_needs_of store.now (Ok plan.block) }
     {
         self.exclusive(Object::Cache);
-        if let Some(f) = candidate_for(store, b) {
+        if let Some(f) = plan.candidate() {
             self.shared(Object::Pol(1));
             self.point(store, store.owner(f), 4);
         }
@@ -170,8 +173,8 @@ impl Needs {
         ensures { self.new ≡ self.old
             ++ fetch_needs_of store.now (block_meant store.now r.p r.fd r.i r.off r.len) }
     {
-        if let Ok(b) = store.block_of(r.p, r.fd as u8, r.i, r.off, r.len) {
-            self.fetch(store, b);
+        if let Ok(plan) = plan_block(store, r.p, r.fd as u8, r.i, r.off, r.len) {
+            self.fetch(store, plan);
         }
     }
 
@@ -185,22 +188,9 @@ impl Needs {
             ((objects_of store.now).things.file p fd)) }
     {
         if let Some(opened) = store.file(p, fd) {
-            self.fetch(store, store.block_ahead(&opened));
+            self.fetch(store, plan_ahead(store, &opened));
         }
     }
-}
-
-/// The candidate for eviction, where a frame must be chosen for block b: no frame holds it, and
-/// none is free.
-pub(crate) fn candidate_for<B: Policy>(store: &Store<B>, b: u32) -> Option<u8>
-    ensures value { result ≡ spec.candidate_for (world_of_store store.now) (policies_of store.now 1)
-        (cache_of store.now) b }
-    ensures in_cache { IfSome result (λ f. in_use f store.now.cache ≡ true) }
-{
-    if store.find(b).is_some() || store.free().is_some() {
-        return None;
-    }
-    store.candidate()
 }
 
 /// The objects that the next piece of a call needs, in order. They take the place of what the list
@@ -338,7 +328,6 @@ fn give_needs<B: Policy>(store: &Store<B>, p: u8, q: u8, kind: Kind, n: u32, nee
     if !store.living(u32::from(q)) {
         return;
     }
-    store.procs.rows();
     needs.exclusive(Object::Acct(p));
     if store.accounts.balance(p, kind) >= u64::from(n) {
         needs.exclusive(Object::Acct(q));

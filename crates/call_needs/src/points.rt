@@ -8,9 +8,10 @@ ghost use Rattle.buffer_cache.specs.Frames.{in_use};
 ghost use Rattle.kernel_state.specs.Places.{HasDescriptor};
 ghost use Rattle.kernel_state.specs.Stores.{world_of_store, objects_of, cache_of, queue_of, policies_of};
 ghost use Rattle.call_needs.specs.Needing.{block_meant, fetch_ask_of};
+ghost use Rattle.call_needs.specs.Planning.{IsPlan};
 ghost use Rattle.call_needs.specs.Works.{IsPlainDue, call_of, stage_of};
 
-use crate::needs::candidate_for;
+use crate::plans::{Plan, plan_ahead, plan_block};
 use crate::{Access, Work};
 use graft_points::Policy;
 use kernel_model::{BareCall, Point};
@@ -76,7 +77,7 @@ fn read_ask<B: Policy>(piece: u8, store: &Store<B>, r: Access) -> Option<Point>
         0 => block_ask(store, p, fd, r.i, r.off, r.len),
         1 => file_ask(store, p, fd),
         _ => match store.file(p, fd) {
-            Some(opened) => victim_ask(store, store.block_ahead(&opened)),
+            Some(opened) => victim_ask(store, plan_ahead(store, &opened)),
             None => None,
         },
     }
@@ -116,22 +117,23 @@ pub fn block_ask<B: Policy>(
     requires { HasDescriptor (queue_of store.now) p fd }
     ensures { result ≡ fetch_ask_of store.now (block_meant store.now p fd i off len) }
 {
-    match store.block_of(p, fd, i, off, len) {
-        Ok(b) => victim_ask(store, b),
+    match plan_block(store, p, fd, i, off, len) {
+        Ok(plan) => victim_ask(store, plan),
         Err(_) => None,
     }
 }
 
-/// The point of the owner of the candidate, where a frame must be chosen for block b.
-fn victim_ask<B: Policy>(store: &Store<B>, b: u32) -> Option<Point>
-    ensures { result ≡ fetch_ask_of store.now (Ok b) }
+/// The point of the owner of the candidate, where a frame must be chosen for the block of a plan.
+fn victim_ask<B: Policy>(store: &Store<B>, plan: Plan) -> Option<Point>
+    requires { IsPlan store.now plan }
+    ensures { result ≡ fetch_ask_of store.now (Ok plan.block) }
 {
-    let f = candidate_for(store, b)?;
+    let f = plan.candidate()?;
     let owner = store.owner(f);
     let frames = store.owned_count(owner);
     Some(Point {
         installer: owner,
         point: 4,
-        args: [u32::from(f), b, frames, 0],
+        args: [u32::from(f), plan.block, frames, 0],
     })
 }

@@ -21,6 +21,7 @@ ghost use Rattle.call_pieces.specs.Queues.{queue_yielded, next_of};
 ghost use Rattle.call_pieces.specs.Matching.{PieceMatches, comes_after, is_fault, goes_on};
 
 use crate::Next;
+use call_needs::laws::living_are_numbered;
 use graft_points::Policy;
 use kernel_model::{OpenRow, Refusal, Reply};
 use kernel_state::Store;
@@ -57,7 +58,7 @@ fn turn<B: Policy>(store: &Store<B>, answer: Option<[u32; 4]>) -> u8
         ≡ chosen_by answer (next_of (policies_of store.now 2) (queue_of store.now)) }
     ensures lives { lives (queue_of store.now) result ≡ true }
 {
-    store.procs.rows();
+    living_are_numbered(store);
     match answer {
         Some(a) => a[0] as u8,
         None => store.next(),

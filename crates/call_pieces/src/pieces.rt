@@ -50,9 +50,8 @@ pub fn piece<B: Policy, D: Disk>(
         HasContinued work.old work.new (objects_of store.old) (objects_of store.new) }
     ensures calls { Made (D.seen disk.old) (D.seen disk.new) log.new }
 {
-    let next = bare_piece(work, store, answer, disk, log, gave);
     work.carry_nothing();
-    next
+    bare_piece(work, store, answer, disk, log, gave)
 }
 
 /// The same, but for what the call carries, which stays.
@@ -75,6 +74,7 @@ fn bare_piece<B: Policy, D: Disk>(
         (moment store.new (D.seen disk.new) log.new) gave.new result (bare_stage_of work.new) }
     ensures gone { goes_on result ≡ true →
         HasContinued work.old work.new (objects_of store.old) (objects_of store.new) }
+    ensures carries { work.new ≡ record (work.old) { piece = work.new.piece } }
 {
     gave.clear();
     let p = work.caller;

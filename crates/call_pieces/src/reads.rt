@@ -16,7 +16,7 @@ ghost use Rattle.call_pieces.specs.Shared.{AccessReady, ComesAtOnce, Serves, rea
 ghost use Rattle.call_pieces.specs.Matching.{ReadContinues, goes_on};
 
 use crate::Next;
-use call_needs::{Access, Gift, fetch, fetch_ahead};
+use call_needs::{Access, Gift, fetch, fetch_ahead, plan_ahead, plan_block};
 use disk_log::DiskLog;
 use graft_points::Policy;
 use kernel_model::{OpenRow, Refusal, Reply};
@@ -81,11 +81,11 @@ fn first<B: Policy, D: Disk>(
     ensures next { goes_on result ≡ true →
         ReadContinues 0 1 (Some opened) ((objects_of store.new).things.file r.p r.fd) }
 {
-    let b = match store.block_of(r.p, r.fd as u8, r.i, r.off, r.len) {
-        Ok(b) => b,
+    let plan = match plan_block(store, r.p, r.fd as u8, r.i, r.off, r.len) {
+        Ok(plan) => plan,
         Err(refusal) => return Next::Fails(refusal),
     };
-    let Ok(f) = fetch(store, disk, log, r.p, b, r.answer) else {
+    let Ok(f) = fetch(store, disk, log, r.p, plan, r.answer) else {
         return Next::Fails(Refusal::DiskFault);
     };
     let row = OpenRow {
@@ -161,8 +161,8 @@ fn later<B: Policy, D: Disk>(
     ensures next { goes_on result ≡ true →
         ReadContinues 2 2 (Some opened) ((objects_of store.new).things.file r.p r.fd) }
 {
-    let b = store.block_ahead(&opened);
-    let Ok(_) = fetch_ahead(store, disk, log, r.p, b, r.answer) else {
+    let plan = plan_ahead(store, &opened);
+    let Ok(_) = fetch_ahead(store, disk, log, r.p, plan, r.answer) else {
         return Next::Fails(Refusal::DiskFault);
     };
     let row = OpenRow {

@@ -13,9 +13,10 @@ ghost use Rattle.call_needs.specs.Fetching.{moment};
 ghost use Rattle.call_pieces.specs.Shared.{DiskReady, ServesLast, sync_of};
 
 use crate::Next;
+use call_needs::frame_bytes;
 use disk_log::DiskLog;
 use graft_points::Policy;
-use kernel_model::{BLOCK_BYTES, Refusal, Reply};
+use kernel_model::{Refusal, Reply};
 use kernel_state::Store;
 use vino_base::{Disk, Failed};
 
@@ -71,9 +72,7 @@ fn write_back<B: Policy, D: Disk>(
     ensures few { length log.new ≤ 256 }
     ensures ram { store.new.ram ≡ store.old.ram }
 {
-    let mut bytes = [0; BLOCK_BYTES];
-    store.copy_frame(f, &mut bytes);
-    if let Err(failed) = log.write(disk, b, &bytes) {
+    if let Err(failed) = log.write(disk, b, frame_bytes(store, f)) {
         return Err(failed);
     }
     store.clean(f);

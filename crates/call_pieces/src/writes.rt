@@ -8,7 +8,7 @@ ghost use Rattle.call_needs.specs.Needing.{block_meant, fetch_ask_of};
 ghost use Rattle.call_pieces.specs.Shared.{AccessReady, ServesLast, write_of};
 
 use crate::Next;
-use call_needs::{Access, fetch};
+use call_needs::{Access, fetch, plan_block};
 use disk_log::DiskLog;
 use graft_points::Policy;
 use kernel_model::{Refusal, Reply};
@@ -31,11 +31,11 @@ pub fn write<B: Policy, D: Disk>(
         (moment store.old (D.seen disk.old) log.old)
         (moment store.new (D.seen disk.new) log.new) result }
 {
-    let b = match store.block_of(r.p, r.fd as u8, r.i, r.off, r.len) {
-        Ok(b) => b,
+    let plan = match plan_block(store, r.p, r.fd as u8, r.i, r.off, r.len) {
+        Ok(plan) => plan,
         Err(refusal) => return Next::Fails(refusal),
     };
-    match fetch(store, disk, log, r.p, b, r.answer) {
+    match fetch(store, disk, log, r.p, plan, r.answer) {
         Ok(f) => {
             store.patch(f, r.off, bytes);
             Next::Ends(Reply::Plain)

@@ -7,6 +7,7 @@ ghost use Rattle.kernel_model.specs.EventPoints.{handler_joins, handler_leaves};
 ghost use Rattle.kernel_state.specs.Stores.{objects_of, queue_of};
 ghost use Rattle.call_pieces.specs.Shared.{EndsAtOnce};
 
+use call_needs::laws::living_are_numbered;
 use call_pieces::Next;
 use graft_points::Policy;
 use kernel_model::{Refusal, Reply};
@@ -33,7 +34,7 @@ pub(crate) fn install<B: Policy>(
     if store.has_graft(p, pt as u8) {
         return Next::Fails(Refusal::Taken);
     }
-    store.procs.rows();
+    living_are_numbered(store);
     if !store.add_handler(p, pt as u8) {
         return Next::Fails(Refusal::PortFull);
     }

@@ -10,6 +10,7 @@ ghost use Rattle.call_pieces.specs.Matching.{comes_after, PieceMatches, Continue
 
 use crate::handlers::{install, remove};
 use crate::serving::serve;
+use call_needs::laws::living_are_numbered;
 use call_needs::{Gift, Work};
 use call_pieces::{Next, bill, fund};
 use graft_points::Policy;
@@ -40,7 +41,7 @@ pub(crate) fn piece<B: Policy>(
 {
     gave.clear();
     let p = work.caller;
-    store.procs.rows();
+    living_are_numbered(store);
     match work.call {
         BareCall::Serve(port) => serve(work, store, port, answer, gave),
         BareCall::Install(pt, image, limit) => install(store, p, pt, image, limit),

@@ -1,9 +1,9 @@
 //! The pieces of a `serve`.
 
-ghost use Rattle.std.specs.Prelude.{◌≡◌, ◌<◌, ◌≤◌, ◌+◌, ℕ, true, false, List, Option, length, option_map};
+ghost use Rattle.std.specs.Prelude.{◌≡◌, ◌<◌, ◌≤◌, ◌+◌, ℕ, true, false, List, Option, length, nat_lt, option_map};
 ghost use Rattle.std.specs.List.{list_all};
 ghost use Rattle.kernel_model.specs.World.{Blocks};
-ghost use Rattle.kernel_model.specs.Handlers.{handlers_at};
+ghost use Rattle.kernel_model.specs.Handlers.{AreHandlers, handlers_at};
 ghost use Rattle.kernel_model.specs.Meaning.{Answer};
 ghost use Rattle.kernel_model.specs.EventPoints as spec;
 ghost use Rattle.disk_log.specs.Calls.{Knows};
@@ -59,7 +59,7 @@ fn take_handlers<B: Policy>(work: &mut Work, store: &Store<B>, port: u32) -> Nex
     ensures few { length work.new.handlers.items ≤ 8 }
     ensures of_port { list_all (spec.is_of_port port) work.new.handlers.items ≡ true }
 {
-    store.procs.rows();
+    handlers_are_few(store);
     work.carry_nothing();
     copy_handlers(
         store.procs.handlers(),
@@ -68,6 +68,15 @@ fn take_handlers<B: Policy>(work: &mut Work, store: &Store<B>, port: u32) -> Nex
     );
     work.piece = 1;
     next_piece(work)
+}
+
+/// Few handlers stand at each point, and each is of a process. Does nothing: a law for proofs.
+fn handlers_are_few<B: Policy>(store: &Store<B>)
+    ensures few { AreHandlers (objects_of store.now).things.handlers }
+    ensures processes { list_all (λ (h : ℕ × ℕ). nat_lt h.0 16)
+        (objects_of store.now).things.handlers ≡ true }
+{
+    store.procs.rows();
 }
 
 /// The next handler had its piece, with an answer or by default.

@@ -1,19 +1,59 @@
 -- The pieces of a stream read and a stream write, by which of the two they are.
-use Rattle.std.proofs.Common.{◌≡◌, ℕ, zero, suc, Bool, List, Option, Some, length, refl, sym, ap, subst, ◌∙◌}
+use Rattle.std.proofs.Common.{◌≡◌, ℕ, ◌+◌, zero, suc, Bool, List, [], Option, Some, None, Ok, length, slice_range, refl, sym, ap, subst, ◌∙◌}
+use Rattle.kernel_model.specs.declared.SysCall.{SysCall}
 use Rattle.kernel_model.specs.declared.BareCall.{BareCall}
 use Rattle.kernel_model.specs.declared.BareCall.TheVariants as bare
 use Rattle.kernel_model.specs.Bare.{call_with}
 use Rattle.kernel_model.specs.World.{World, Blocks}
-use Rattle.kernel_model.specs.Objects.{Objects}
-use Rattle.kernel_model.specs.Meaning.{Stage, Answer, Piece, After, registers_of}
+use Rattle.kernel_model.specs.Objects.{Objects, CacheValue}
+use Rattle.kernel_model.specs.Meaning.{Stage, Answer, Piece, After, Continues, registers_of}
 use Rattle.kernel_model.specs.Needs.{file_block}
-use Rattle.kernel_model.specs.FilePieces.{leaves, well, write_piece}
-use Rattle.kernel_model.specs.StreamPoints.{through, stream_read_piece, stream_write_piece, stream_piece, stream_changed}
+use Rattle.kernel_model.specs.Fetch.{Fetched, Got, bytes_of}
+use Rattle.kernel_model.specs.FilePieces.{leaves, well, with_cache, write_piece}
+use Rattle.kernel_model.specs.StreamPoints.{through, stream_taken, stream_read_piece, stream_write_piece, stream_piece, stream_changed}
 use Rattle.call_needs.specs.declared.Work.{Work}
 use Rattle.call_needs.specs.Works.{call_of, stage_of, answer_seen, registers_seen}
-use Rattle.call_pieces.specs.Matching.{PieceMatches}
+use Rattle.call_needs.specs.Fetching.{FetchLeft, FetchMatches, blocks_after}
+use Rattle.call_pieces.specs.Matching.{PieceLeaves, PieceMatches}
 
 -- ---- stream reads
+
+-- a call after its first piece, which took these bytes into it
+abbrev pub taken_stage : SysCall → List ℕ → Stage
+taken_stage c bytes =
+    record { call = c; piece = 1; handlers = []; answers = 0; bytes = bytes }
+
+-- the first piece of a read, whose block was fetched, left this
+pub take_left : (c : SysCall) (s new : Objects) (blocks : Blocks) (off len f n : ℕ) (t : Stage)
+    (q : Fetched) (cache : CacheValue) → FetchLeft q blocks (Ok f) cache n →
+    new ≡ with_cache cache s →
+    t ≡ taken_stage c (slice_range (bytes_of cache f) off (off + len)) →
+    PieceLeaves (stream_taken c s blocks off len q) new None (Continues t) n
+take_left c s new blocks off len f n t q cache left cached taken =
+    let there : PieceLeaves (stream_taken c s blocks off len (Got cache (blocks_after q blocks) f n))
+    new None (Continues t) n =
+    record { objects = cached; bytes = refl; next = ap Continues taken; calls_made = refl } in
+    subst (λ (x : Fetched). PieceLeaves (stream_taken c s blocks off len x) new None (Continues t) n)
+    left there
+
+-- and so it came out, where the disk told its blocks
+pub take_came : (c : SysCall) (s new : Objects) (blocks : Blocks) (off len f n : ℕ) (t : Stage)
+    (q : Fetched) (cache : CacheValue) (known : Option (List (List ℕ))) →
+    FetchMatches q blocks (Ok f) cache known n → new ≡ with_cache cache s →
+    t ≡ taken_stage c (slice_range (bytes_of cache f) off (off + len)) →
+    PieceMatches (stream_taken c s blocks off len q) new known None (Continues t) n
+take_came c s new blocks off len f n t q cache known came cached taken =
+    let there : PieceMatches (stream_taken c s blocks off len (Got cache (blocks_after q blocks) f n))
+    new known None (Continues t) n =
+    record {
+      objects = cached;
+      blocks = came.tells;
+      bytes = refl;
+      next = ap Continues taken;
+      calls_made = refl;
+    } in
+    subst (λ (x : Fetched). PieceMatches (stream_taken c s blocks off len x) new known None
+    (Continues t) n) came.outcome there
 
 -- a later piece of a read gives what came out
 read_later : (n : ℕ) (t : Stage) (v : World) (s : Objects) (blocks : Blocks) (p fd i off len : ℕ)

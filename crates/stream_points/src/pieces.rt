@@ -11,6 +11,7 @@ ghost use Rattle.call_pieces.specs.Matching.{comes_after, PieceMatches, PieceMat
 ghost use Rattle.call_needs.specs.Fetching.{has_failed};
 
 use crate::streams::{Range, change, give_out, take_block};
+use call_needs::laws::living_are_numbered;
 use call_needs::{Access, Gift, Work};
 use call_pieces::{Next, piece as plain_piece, write};
 use disk_log::DiskLog;
@@ -60,7 +61,7 @@ pub(crate) fn piece<B: Policy, D: Disk>(
 {
     gave.clear();
     let p = work.caller;
-    store.procs.rows();
+    living_are_numbered(store);
     match work.call {
         BareCall::StreamRead(fd, i, off, len) if work.piece == 0 => {
             let range = Range { fd, i, off, len };

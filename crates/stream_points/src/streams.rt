@@ -17,7 +17,8 @@ ghost use Rattle.call_pieces.specs.Matching.{comes_after, PieceMatches, is_fault
 ghost use Rattle.stream_points.specs.Streams.{StreamContinues, block_read, taken_of, with_carried};
 
 use arrayvec::ArrayVec;
-use call_needs::{Gift, Work, copy_body, copy_bytes_of, fetch};
+use call_needs::laws::living_are_numbered;
+use call_needs::{Gift, Work, copy_body, copy_bytes_of, fetch, plan_block};
 use call_pieces::Next;
 use disk_log::DiskLog;
 use graft_points::Policy;
@@ -58,11 +59,11 @@ pub(crate) fn take_block<B: Policy, D: Disk>(
     ensures gone { goes_on result ≡ true → StreamContinues work.old work.new }
 {
     let p = work.caller;
-    let b = match store.block_of(p, r.fd as u8, r.i, r.off, r.len) {
-        Ok(b) => b,
+    let plan = match plan_block(store, p, r.fd as u8, r.i, r.off, r.len) {
+        Ok(plan) => plan,
         Err(refusal) => return Next::Fails(refusal),
     };
-    match fetch(store, disk, log, p, b, answer) {
+    match fetch(store, disk, log, p, plan, answer) {
         Ok(f) => {
             work.carry_nothing();
             copy_bytes_of(store, f, r.off, r.len, &mut work.carried);
@@ -118,7 +119,7 @@ pub(crate) fn change<B: Policy>(
     ensures gone { goes_on result ≡ true → StreamContinues work.old work.new }
     ensures no_fault { is_fault result ≡ false }
 {
-    store.procs.rows();
+    living_are_numbered(store);
     let p = work.caller;
     let len = work.bytes.as_slice().len() as u32;
     if let Err(refusal) = store.block_of(p, fd as u8, i, off, len) {

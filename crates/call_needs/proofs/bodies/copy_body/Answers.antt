@@ -8,7 +8,8 @@ pub returns : goal.returns
 returns g c =
     let ram = c.args.store.now.ram in
     let place = base_of c.args.p 0 + 2048 in
-    c.copy_from.ensures.items
+    c.take_bytes.ensures
+    ∙ c.bytes.ensures.value
     ∙ ap (λ a. slice_range ram a (a + c.body_len.result)) c.body_place.ensures.place
     ∙ ap (λ n. slice_range ram place (place + n)) c.body_len.ensures
-    ∙ sym (body_is ram c.args.p c.args.answer c.copy_from.ensures.size c.requires.process)
+    ∙ sym (body_is ram c.args.p c.args.answer c.bytes.ensures.size c.requires.process)

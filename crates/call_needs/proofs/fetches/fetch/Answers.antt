@@ -1,37 +1,43 @@
-use Rattle.std.proofs.Common.{ℕ, Option, Ok, rules, sym, ap, subst}
+use Rattle.std.proofs.Common.{◌≡◌, ℕ, Option, Some, None, Ok, rules, sym, ap, subst}
 use Rattle.kernel_model.specs.Objects.{Objects, CacheValue}
+use Rattle.kernel_model.specs.Needs.{frame_of_block}
 use Rattle.kernel_model.specs.Fetch.{fetch_by, used}
 use Rattle.kernel_state.specs.Stores.{world_of_store, cache_of, policies_of}
 use Rattle.disk_log.specs.Joined.{extends_none}
 use Rattle.call_needs.specs.Fetching.{FetchMatchesSome, FetchDone, fetch_of, moment}
+use Rattle.call_needs.specs.Planning.{IsPlaceOf}
 use Rattle.call_needs.proofs.FetchLaws.{fetch_held}
 use Rattle.call_needs.proofs.fetches.fetch.Goals as goal
 
-pub returns-in-Some : goal.returns-in-Some
-returns-in-Some g c =
+pub returns-in-Held : goal.returns-in-Held
+returns-in-Held g c =
     let s = c.args.store.now in
     let v = world_of_store s in
     let pol = policies_of s 1 in
-    let f = c.in-Some.f in
+    let f = c.in-Held.f in
+    let held : frame_of_block (cache_of s) c.args.plan.block ≡ Some f =
+    subst (λ x. IsPlaceOf s c.args.plan.block x) c.in-Held.is c.requires.plan.place in
     record {
       does = search rules;
-      some = subst (λ (x : CacheValue). FetchMatchesSome v (fetch_of s c.args.p c.args.b c.args.answer)
+      some = subst (λ (x : CacheValue). FetchMatchesSome v (fetch_of s c.args.p c.args.plan.block c.args.answer)
           (Ok f) x c.args.log.now)
           (sym (ap (λ (x : Objects). x.things.cache) c.touch.ensures.changed.objects))
-          (fetch_held v (fetch_of s c.args.p c.args.b c.args.answer) (used f (cache_of s)) f
-          c.args.log.now c.requires.made
-          (λ blocks w. ap (λ (x : Option ℕ). fetch_by x v pol c.args.p c.args.b c.args.answer
-          (cache_of s) blocks w) (sym c.in-Some.ensures.value)));
+          (fetch_held v (fetch_of s c.args.p c.args.plan.block c.args.answer) (used f (cache_of s)) f
+          c.args.log.now c.requires.ready.made
+          (λ blocks w. ap (λ (x : Option ℕ). fetch_by x v pol c.args.p c.args.plan.block c.args.answer
+          (cache_of s) blocks w) held));
       keeps = search rules;
       calls = extends_none (g.D.Disk.seen c.args.disk.now) c.args.log.now;
     }
 
-pub returns-in-None : goal.returns-in-None
-returns-in-None g c =
+pub returns-in-Missing : goal.returns-in-Missing
+returns-in-Missing g c =
     let s = c.args.store.now in
     let v = world_of_store s in
     let pol = policies_of s 1 in
-    subst (λ (x : Option ℕ). FetchDone (λ blocks w. fetch_by x v pol c.args.p c.args.b c.args.answer
+    let missing : frame_of_block (cache_of s) c.args.plan.block ≡ None =
+    (subst (λ x. IsPlaceOf s c.args.plan.block x) c.in-Missing.is c.requires.plan.place).0 in
+    subst (λ (x : Option ℕ). FetchDone (λ blocks w. fetch_by x v pol c.args.p c.args.plan.block c.args.answer
     (cache_of s) blocks w) (moment s (g.D.Disk.seen c.args.disk.now) c.args.log.now)
     (moment c.load.new.store (g.D.Disk.seen c.load.new.disk) c.load.new.log) c.load.result)
-    c.in-None.ensures.value c.load.ensures
+    (sym missing) c.load.ensures

@@ -15,7 +15,7 @@ returns-in-Ok g c =
     let pol = policies_of s 1 in
     let place = c.place in
     let bytes : List ℕ = c.read.new.to in
-    let is = λ (blocks : Blocks) (rest : List Bool). read_is v pol c.args.p c.args.b c.args.answer
+    let is = λ (blocks : Blocks) (rest : List Bool). read_is v pol c.args.w.p c.args.w.b c.args.w.answer
     (cache_of s) blocks (place.new.log ++ rest) (place.ensures.first rest) in
     record {
       does = λ blocks rest tells.
@@ -28,7 +28,7 @@ returns-in-Ok g c =
                 (blocks_after x blocks)) (sym (is blocks rest))
                 (place.ensures.tells blocks rest (sym read.1) read.0);
           };
-      some = fetch_alike v (load_of s c.args.p c.args.b c.args.answer) place.result
+      some = fetch_alike v (load_of s c.args.w.p c.args.w.b c.args.w.answer) place.result
           (cache_of place.new.store) place.new.log bytes c.read.array_long
           (λ rest.
           subst (λ (x : Fetched). FetchLeft x (λ b. bytes) place.result (cache_of place.new.store)
@@ -47,8 +47,8 @@ returns-in-Err g c =
     let pol = policies_of s 1 in
     record {
       does = search rules;
-      some = fetch_some v (load_of s c.args.p c.args.b c.args.answer) _ (cache_of s) c.read.new.self
-          (λ blocks rest. read_failed v pol c.args.p c.args.b c.args.answer (cache_of s) blocks
+      some = fetch_some v (load_of s c.args.w.p c.args.w.b c.args.w.answer) _ (cache_of s) c.read.new.self
+          (λ blocks rest. read_failed v pol c.args.w.p c.args.w.b c.args.w.answer (cache_of s) blocks
           c.in-Err.failed c.read.new.self rest
           (c.in-Err.ensures.noted ∙ ap (λ (w : List Bool). w ++ true ∷ []) c.requires.ready.made));
       keeps = search rules;

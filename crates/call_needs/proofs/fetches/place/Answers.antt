@@ -1,8 +1,8 @@
 use Rattle.std.proofs.Common.{rules}
 use Rattle.call_needs.proofs.fetches.place.Goals as goal
 
-pub returns : goal.returns
-returns g c =
+pub returns-in-Candidate : goal.returns-in-Candidate
+returns-in-Candidate g c =
     record {
       outcome = search rules;
       tells = search rules;

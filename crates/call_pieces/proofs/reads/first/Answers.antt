@@ -34,7 +34,7 @@ returns-in-Err-clause-done g c =
     let v = world_of_store s in
     let o = objects_of s in
     let block : Err c.in-Err.refusal ≡ file_block v (Some c.args.opened) r.i r.off r.len =
-    c.in-Err.ensures.value
+    c.in-Err.ensures.block
     ∙ ap (λ (x : Option OpenRow). file_block v x r.i r.off r.len) c.requires.file in
     serves_refused (first_of s r c.args.opened) s (g.D.Disk.seen c.args.disk.now) c.args.log.now
     c.in-Err.refusal (read_stage r 1) c.requires.ready.fresh
@@ -49,11 +49,11 @@ returns-in_default-clause-done g c =
     let r = c.args.r in
     let v = world_of_store s in
     let o = objects_of s in
-    let b = c.in-Ok.b in
+    let b = c.in-Ok.plan.block in
     let n = length c.fetch.new.log in
     let known = (g.D.Disk.seen c.fetch.new.disk).known in
     let block : Ok b ≡ file_block v (Some c.args.opened) r.i r.off r.len =
-    c.in-Ok.ensures.value
+    c.in-Ok.ensures.block
     ∙ ap (λ (x : Option OpenRow). file_block v x r.i r.off r.len) c.requires.file in
     let failed = c.in_default.ensures in
     record {
@@ -78,11 +78,11 @@ returns-clause-done g c =
     let r = c.args.r in
     let v = world_of_store s in
     let o = objects_of s in
-    let b = c.in-Ok.b in
+    let b = c.in-Ok.plan.block in
     let n = length c.fetch.new.log in
     let known = (g.D.Disk.seen c.fetch.new.disk).known in
     let block : Ok b ≡ file_block v (Some c.args.opened) r.i r.off r.len =
-    c.in-Ok.ensures.value
+    c.in-Ok.ensures.block
     ∙ ap (λ (x : Option OpenRow). file_block v x r.i r.off r.len) c.requires.file in
     let fetched = c.in-Ok-fetch.ensures in
     record {

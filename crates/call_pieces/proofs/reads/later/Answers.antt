@@ -21,7 +21,7 @@ returns-in_default-clause-done g c =
     let s = c.args.store.now in
     let v = world_of_store s in
     let o = objects_of s in
-    let b = c.block_ahead-b.result in
+    let b = c.plan_ahead-plan.result.block in
     let n = length c.fetch_ahead.new.log in
     let known = (g.D.Disk.seen c.fetch_ahead.new.disk).known in
     let failed = c.in_default.ensures in
@@ -30,7 +30,7 @@ returns-in_default-clause-done g c =
           let io = c.fetch_ahead.new.log ++ rest in
           third_block (ahead_block v (Some c.args.opened)) b v o (objects_of c.fetch_ahead.new.store)
           blocks r.p r.fd r.i r.off r.len n c.args.opened r.answer io known _ _
-          c.block_ahead-b.ensures.value
+          c.plan_ahead-plan.ensures.block
           (fetch_failed (read_third o blocks r.p r.fd r.i r.off r.len c.args.opened)
           (fetch_ahead_of s r.p b r.answer blocks io) o (objects_of c.fetch_ahead.new.store) blocks
           c.in_default.field-0 (cache_of c.fetch_ahead.new.store) known n refl
@@ -46,7 +46,7 @@ returns-then-row-eq0-clause-done g c =
     let s = c.args.store.now in
     let v = world_of_store s in
     let o = objects_of s in
-    let b = c.block_ahead-b.result in
+    let b = c.plan_ahead-plan.result.block in
     let n = length c.fetch_ahead.new.log in
     let known = (g.D.Disk.seen c.fetch_ahead.new.disk).known in
     let fetched = c.in-Ok.ensures in
@@ -55,7 +55,7 @@ returns-then-row-eq0-clause-done g c =
           let io = c.fetch_ahead.new.log ++ rest in
           third_block (ahead_block v (Some c.args.opened)) b v o (objects_of c.put_file.new.self)
           blocks r.p r.fd r.i r.off r.len n c.args.opened r.answer io known _ _
-          c.block_ahead-b.ensures.value
+          c.plan_ahead-plan.ensures.block
           (third_came o (objects_of c.fetch_ahead.new.store) (objects_of c.put_file.new.self) blocks
           r.p r.fd r.i r.off r.len c.in-Ok.field-0 n c.args.opened
           (fetch_ahead_of s r.p b r.answer blocks io) (cache_of c.fetch_ahead.new.store) known _
@@ -72,7 +72,7 @@ returns-clause-done g c =
     let s = c.args.store.now in
     let v = world_of_store s in
     let o = objects_of s in
-    let b = c.block_ahead-b.result in
+    let b = c.plan_ahead-plan.result.block in
     let n = length c.fetch_ahead.new.log in
     let known = (g.D.Disk.seen c.fetch_ahead.new.disk).known in
     let fetched = c.in-Ok.ensures in
@@ -81,7 +81,7 @@ returns-clause-done g c =
           let io = c.fetch_ahead.new.log ++ rest in
           third_block (ahead_block v (Some c.args.opened)) b v o (objects_of c.put_file.new.self)
           blocks r.p r.fd r.i r.off r.len n c.args.opened r.answer io known _ _
-          c.block_ahead-b.ensures.value
+          c.plan_ahead-plan.ensures.block
           (third_came o (objects_of c.fetch_ahead.new.store) (objects_of c.put_file.new.self) blocks
           r.p r.fd r.i r.off r.len c.in-Ok.field-0 n c.args.opened
           (fetch_ahead_of s r.p b r.answer blocks io) (cache_of c.fetch_ahead.new.store) known _

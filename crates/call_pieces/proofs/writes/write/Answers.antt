@@ -20,10 +20,10 @@ returns-in-Ok-fetch g c =
     record {
       does = λ t blocks rest tells.
           let io = c.fetch.new.log ++ rest in
-          write_at _ c.in-Ok.b (world_of_store s) o (objects_of c.patch.new.self) blocks r.p r.off n
-          bytes r.answer io known _ c.in-Ok.ensures.value
+          write_at _ c.in-Ok.plan.block (world_of_store s) o (objects_of c.patch.new.self) blocks r.p r.off n
+          bytes r.answer io known _ c.in-Ok.ensures.block
           (write_came o (objects_of c.fetch.new.store) (objects_of c.patch.new.self) blocks r.off
-          c.in-Ok-fetch.f n bytes (fetch_of s r.p c.in-Ok.b r.answer blocks io)
+          c.in-Ok-fetch.f n bytes (fetch_of s r.p c.in-Ok.plan.block r.answer blocks io)
           (cache_of c.fetch.new.store) known (fetched.does blocks rest tells) fetched.keeps.objects
           c.patch.ensures.objects);
       some = search rules;
@@ -44,10 +44,10 @@ returns-in-Err-fetch g c =
     record {
       does = λ t blocks rest tells.
           let io = c.fetch.new.log ++ rest in
-          write_at _ c.in-Ok.b (world_of_store s) o (objects_of c.fetch.new.store) blocks r.p r.off n
-          bytes r.answer io known _ c.in-Ok.ensures.value
+          write_at _ c.in-Ok.plan.block (world_of_store s) o (objects_of c.fetch.new.store) blocks r.p r.off n
+          bytes r.answer io known _ c.in-Ok.ensures.block
           (fetch_failed (write_fetched o blocks r.off bytes)
-          (fetch_of s r.p c.in-Ok.b r.answer blocks io) o (objects_of c.fetch.new.store) blocks
+          (fetch_of s r.p c.in-Ok.plan.block r.answer blocks io) o (objects_of c.fetch.new.store) blocks
           c.in-Err-fetch.field-0 (cache_of c.fetch.new.store) known n refl
           (failed.does blocks rest tells) failed.keeps.kept);
       some = search rules;
@@ -63,5 +63,5 @@ returns-in-Err g c =
     last_refused (write_of s r c.args.bytes.now) s (g.D.Disk.seen c.args.disk.now) c.args.log.now
     c.in-Err.refusal c.requires.ready.fresh
     (λ blocks w. ap (λ (x : Result ℕ Refusal). write_piece x (world_of_store s) (objects_of s) blocks
-    r.p r.off c.args.bytes.now r.answer w) (sym c.in-Err.ensures.value))
+    r.p r.off c.args.bytes.now r.answer w) (sym c.in-Err.ensures.block))
     (search rules)

@@ -10,4 +10,4 @@ returns-clause-of_port g c =
     let port = c.args.port in
     subst (λ hs. list_all (is_of_port port) hs ≡ true)
     (sym (c.copy_handlers.ensures ∙ ap (handlers_at (6 + port)) c.handlers.ensures.value))
-    (of_port port c.args.store.now.procs.handlers c.rows.ensures.sound.processes)
+    (of_port port c.args.store.now.procs.handlers c.handlers_are_few.ensures.processes)
