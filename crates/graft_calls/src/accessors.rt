@@ -25,9 +25,9 @@ use accessor_list::ids;
 use graft_accounts::GraftPoint;
 use graft_levels::answers::arguments;
 use graft_levels::charges::{charge_lock, charge_record};
+use graft_levels::laws::stores_are_whole;
 use graft_levels::{Chain, GraftLevel, Innermost, Levels, drop_innermost};
 use graft_points::Policy;
-use kernel_laws::undoing::inverses_undo;
 use kernel_model::{Cause, Inverse, Micro, Mode, Object};
 use kernel_state::Store;
 use lock_table::{Holder, LockTable};
@@ -145,8 +145,7 @@ fn change<B: Policy>(
     if !charge_record(&chain.undo, &mut store.accounts, at) {
         return drop_innermost(inner, chain, store, locks, Cause::SpentRecords);
     }
-    inverses_undo();
-    store.procs.rows();
+    stores_are_whole(store);
     store.apply(call.id, arguments(&level.machine), level.owner);
     record(&mut chain.undo, changed.inverse);
     let by = Holder {

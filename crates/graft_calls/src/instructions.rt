@@ -17,9 +17,10 @@ use accessor_list::early;
 use graft_accounts::GraftPoint;
 use graft_levels::answers::arguments;
 use graft_levels::charges::charge_step;
+use graft_levels::laws::stores_are_whole;
 use graft_levels::{Chain, Innermost, code_of, drop_innermost};
 use graft_loader::Images;
-use graft_machine::{Outcome, laws};
+use graft_machine::Outcome;
 use graft_points::Policy;
 use kernel_model::{Cause, LAST_CALLABLE, Micro};
 use kernel_state::Store;
@@ -121,12 +122,8 @@ fn run<B: Policy>(
     if !charge_step(level, &mut store.accounts) {
         return drop_innermost(inner, chain, store, locks, Cause::SpentSteps);
     }
-    laws::stays_inside();
-    store.cache.lru();
-    store.ram.byte(0);
-    code.code();
+    stores_are_whole(store);
     let done = inner.level.machine.step(&mut store.ram, code);
-    store.ram.byte(0);
     after_machine(done, inner, chain, store, locks, images)
 }
 

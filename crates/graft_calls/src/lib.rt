@@ -7,7 +7,9 @@
 mod accessors;
 mod asks;
 mod instructions;
+mod reads;
 mod returns;
+mod seat;
 mod stretches;
 
 pub use instructions::instruction;

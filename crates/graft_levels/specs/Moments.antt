@@ -1,5 +1,5 @@
 -- What a part of an instruction does in place: from one moment of a graft call to another.
-use Rattle.std.specs.Prelude.{◌≡◌, ℕ, ◌≢◌, ◌<◌, suc, List, length}
+use Rattle.std.specs.Prelude.{◌≡◌, ◌≢◌, ◌<◌, suc, List, length}
 use Rattle.kernel_model.specs.declared.Micro.{Micro}
 use Rattle.kernel_model.specs.Levels.{Level, Outcome}
 use Rattle.kernel_model.specs.Objects.{Objects}

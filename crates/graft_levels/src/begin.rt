@@ -18,6 +18,7 @@ ghost use Rattle.graft_levels.specs.Calls.{AreSound, AreInside, IsPlaced, IsInPl
 use crate::code::image_of as image_at;
 use crate::filling::{base_of, fill};
 use crate::keeping::first_bytes;
+use crate::laws::stores_are_whole;
 use crate::{Chain, GraftLevel};
 use graft_accounts::GraftPoint;
 use graft_loader::{Images, Loaded};
@@ -73,7 +74,7 @@ pub fn begin_level<B: Policy>(
     ensures memory { HasWrittenBegun p (length chain.old.levels)
         chain.new.levels store.old.ram store.new.ram }
 {
-    store.cache.lru();
+    stores_are_whole(store);
     let base = base_of(Holder {
         process: p,
         level: chain.levels.count(),
@@ -84,7 +85,6 @@ pub fn begin_level<B: Policy>(
     };
     let bytes = first_bytes(image, &store.kept, graft);
     fill(&mut store.ram, base, bytes, feed);
-    image.code();
     chain.undo.begin_level();
     chain.levels.push(GraftLevel {
         owner: at.installer,

@@ -1,6 +1,7 @@
 //! The image of a graft.
 
 ghost use Rattle.std.specs.Prelude.{◌≡◌, ◌<◌, Some, None, true, length, is_some, IfSome, IfNone};
+ghost use Rattle.kernel_model.specs.Boxed.{IsBoxed};
 ghost use Rattle.kernel_model.specs.Levels as model;
 ghost use Rattle.graft_accounts.specs.Table.{accounts_of};
 ghost use Rattle.graft_loader.specs.Slots.{table_of};
@@ -46,8 +47,9 @@ pub fn image_of<'a>(images: &'a Images, accounts: &Accounts, at: GraftPoint) -> 
 pub fn code_of<'a>(images: &'a Images, accounts: &Accounts, at: GraftPoint) -> &'a Verified
     requires { 0 < length
         (model.code_of (table_of images.now) (accounts_of accounts.now) at.process at.point) }
-    ensures { result.now
+    ensures value { result.now
         ≡ model.code_of (table_of images.now) (accounts_of accounts.now) at.process at.point }
+    ensures boxed { IsBoxed result.now }
 {
     image_of(images, accounts, at).code()
 }

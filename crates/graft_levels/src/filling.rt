@@ -23,41 +23,34 @@ pub fn base_of(of: Holder) -> u32
 
 /// Zeros from an address to another.
 fn clear(ram: &mut Ram, from: u32, to: u32)
+    requires whole { length ram.old ≡ 524288 }
     requires order { from ≤ to }
     requires inside { to ≤ 524288 }
-    ensures { (a : ℕ) → slice_index ram.new a
+    ensures value { (a : ℕ) → slice_index ram.new a
         ≡ cond (nat_le from a && nat_lt a to) 0 (slice_index ram.old a) }
+    ensures size { length ram.new ≡ 524288 }
 {
-    whole(ram);
     ram.clear(from, to);
-}
-
-/// The memory has all its bytes.
-fn whole(ram: &Ram)
-    ensures { length ram.now ≡ 524288 }
-{
-    ram.byte(0);
 }
 
 /// The segment at this base gets bytes, and zeros behind them. Every other byte stays.
 fn fill_data(ram: &mut Ram, base: u32, body: &[u8])
+    requires whole { length ram.old ≡ 524288 }
     requires inside { base + SEGMENT_BYTES ≤ 524288 }
     requires few { length body.now ≤ 4096 }
     ensures segment { (i : ℕ) → i < 4096 → slice_index ram.new (base + i) ≡ slice_index body.now i }
     ensures outside { (a : ℕ) → (a < base) ⊎ (base + 4096 ≤ a) →
         slice_index ram.new a ≡ slice_index ram.old a }
     ensures size { length ram.new ≡ 524288 }
-    ensures same_size { length ram.old ≡ 524288 }
 {
-    whole(ram);
     clear(ram, base, base + SEGMENT_BYTES);
-    whole(ram);
     ram.copy_in(base, body);
 }
 
 /// The segment at this base gets bytes, zeros behind them, and at their place the bytes that its
 /// level is fed. Every other byte stays.
 pub(crate) fn fill(ram: &mut Ram, base: u32, body: &[u8], feed: &[u8])
+    requires whole { length ram.old ≡ 524288 }
     requires inside { base + SEGMENT_BYTES ≤ 524288 }
     requires few { length body.now ≤ 4096 }
     requires short { length feed.now ≤ 512 }
@@ -66,7 +59,6 @@ pub(crate) fn fill(ram: &mut Ram, base: u32, body: &[u8], feed: &[u8])
     ensures outside { (a : ℕ) → (a < base) ⊎ (base + 4096 ≤ a) →
         slice_index ram.new a ≡ slice_index ram.old a }
     ensures size { length ram.new ≡ 524288 }
-    ensures same_size { length ram.old ≡ 524288 }
 {
     fill_data(ram, base, body);
     ram.copy_in(base + FED_AT, feed);

@@ -6,6 +6,7 @@ ghost use Rattle.kernel_model.specs.Charges.{funds};
 ghost use Rattle.kernel_model.specs.Levels as model;
 ghost use Rattle.kernel_model.specs.Levels.{keeps_in, segment_with};
 ghost use Rattle.graft_accounts.specs.Table.{accounts_of};
+ghost use Rattle.graft_loader.specs.Loading.{IsLoaded};
 ghost use Rattle.graft_loader.specs.Slots.{table_of};
 ghost use Rattle.kernel_state.specs.Stores.{world_of_store, objects_of, queue_of};
 ghost use Rattle.segments.specs.Tables.{by_place};
@@ -42,13 +43,15 @@ pub(crate) fn first_bytes<'a>(image: &'a Loaded, kept: &'a Segments, at: GraftPo
     ensures value { (i : ℕ) → slice_index result.now i ≡ segment_with
         (Some image.now) image.now.keep (by_place (kept_bytes kept.now at.process at.point)) i }
     ensures few { length result.now ≤ 4096 }
+    ensures usable { IsLoaded image.now }
 {
+    let data = image.body();
     if !image.keep() {
-        return image.body();
+        return data;
     }
     match kept.get(segment_number(at)) {
         Some(bytes) => bytes,
-        None => image.body(),
+        None => data,
     }
 }
 

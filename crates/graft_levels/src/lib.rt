@@ -15,6 +15,7 @@ mod code;
 mod drops;
 mod filling;
 mod keeping;
+pub mod laws;
 mod levels;
 mod needs;
 mod points;

@@ -14,6 +14,7 @@ use Rattle.kernel_state.specs.Accesses.{things_after}
 use Rattle.kernel_state.specs.Stores.{world_of_store, objects_of}
 use Rattle.graft_levels.specs.Chains.{came, level_of, outer_of}
 use Rattle.graft_levels.specs.Calls.{AreInside}
+use Rattle.kernel_laws.proofs.Laws.{inverses_undo}
 use Rattle.graft_calls.proofs.Charging.{not_recorded, is_recorded, uncharged}
 use Rattle.graft_levels.proofs.Conditions.{inside_if, loaded_if}
 use Rattle.graft_levels.proofs.Dropping.{pair, configs}
@@ -75,7 +76,7 @@ returns g c =
           c.apply.ensures.changed.objects
           ∙ ap (λ (xs : List ℕ). with_things (things_after (access c.args.call.id (slice_index xs 0) (slice_index xs 1) (slice_index xs 2) q w.things) w.things) (with_accounts (accounts_of c.charge_record.new.accounts) w)) c.arguments.ensures in
           let charged : accounts_of c.charge_record.new.accounts ≡ charge Records l.owner l.point w.accounts = c.if-not-charge_record.ensures.accounts in
-          let law = c.inverses_undo.ensures c.args.call.id (l.machine.regs 0) (l.machine.regs 1) (l.machine.regs 2) q w.things (stands_once q w.things.queue (c.rows.ensures.sound.queue.once q)) in
+          let law = inverses_undo c.args.call.id (l.machine.regs 0) (l.machine.regs 1) (l.machine.regs 2) q w.things (stands_once q w.things.queue (c.stores_are_whole.ensures.processes.queue.once q)) in
           let back : undo (bare_found c.args.changed.inverse) u.things ≡ w.things =
           ap (λ (x : Objects). undo (bare_found c.args.changed.inverse) x.things) state ∙ leads_back a c.args.changed.result c.args.changed.inverse w.things c.requires.answer law in
           is_recorded v w l ls l.machine c.args.call.id c.args.changed.result c.args.changed.inverse after spent same c.if-not-charge_record.ensures.answer

@@ -2,7 +2,7 @@ use Rattle.std.proofs.Common.{◌≡◌, false, ◌+◌, ◌*◌, ◌<◌, ◌==
 use Rattle.kernel_model.specs.declared.Kind.TheVariants.{Steps}
 use Rattle.kernel_model.specs.declared.Cause.TheVariants.{SpentSteps}
 use Rattle.kernel_model.specs.declared.Instr.{Instr}
-use Rattle.kernel_model.specs.Boxed.{IsInside, IsBoxed}
+use Rattle.kernel_model.specs.Boxed.{IsInside}
 use Rattle.kernel_model.specs.Charges.{charge, funds}
 use Rattle.kernel_model.specs.GraftStep.{after_machine, is_spent}
 use Rattle.kernel_model.specs.Levels.{Level, base_of, body_in_segment, code_of, limit_in, drop_innermost}
@@ -25,6 +25,7 @@ use Rattle.graft_levels.proofs.Conditions.{loaded_charged}
 use Rattle.graft_levels.proofs.Completing.{unanswered}
 use Rattle.graft_levels.proofs.Memory.{same_segment}
 use Rattle.graft_levels.proofs.Placing.{elsewhere_twice}
+use Rattle.graft_machine.proofs.Sandbox.{stays_inside}
 use Rattle.graft_calls.proofs.Stepping.{after_done, machine_inside, spent_step, paid_step, done_alone, beyond_outside, frames_outside, count_rises, stepped_sound, stepped_inside}
 use Rattle.graft_levels.proofs.Views.{levels_alike}
 use Rattle.graft_levels.proofs.Writing.{still_own}
@@ -63,7 +64,7 @@ pub step-done-requires : goal.step-done-requires
 step-done-requires g c =
     let h = c.requires.in_place.inside.0.inside c.args.store.now.ram in
     subst (λ (x : GraftLevel). x.machine.pc < length c.code_of-code.result.now) (sym c.if-not-charge_step.ensures.level)
-    (subst (λ (x : List Instr). c.args.inner.level.machine.pc < length x) (sym c.code_of-code.ensures) h.place)
+    (subst (λ (x : List Instr). c.args.inner.level.machine.pc < length x) (sym c.code_of-code.ensures.value) h.place)
 
 pub invariant_of-store-2-clause-fits : goal.invariant_of-store-2-clause-fits
 invariant_of-store-2-clause-fits g c = memory_fits c.args.store.now c.step-done.new.ram
@@ -81,9 +82,9 @@ after_machine-requires g c =
     let mem = c.step-done.new.ram in
     let inside : (ram : List ℕ) → IsInside code (4 * p + n) (machine_of now.machine ram) = λ ram.
     subst (λ (x : GraftLevel). IsInside code (4 * p + n) (machine_of x.machine ram)) (sym c.if-not-charge_step.ensures.level)
-    (subst (λ (x : List Instr). IsInside x (4 * p + n) (machine_of c.args.inner.level.machine ram)) (sym c.code_of-code.ensures) (c.requires.in_place.inside.0.inside ram)) in
+    (subst (λ (x : List Instr). IsInside x (4 * p + n) (machine_of c.args.inner.level.machine ram)) (sym c.code_of-code.ensures.value) (c.requires.in_place.inside.0.inside ram)) in
     let same : objects_over (record s { accounts = c.charge_step.new.accounts }) mem ≡ objects_of (record s { accounts = c.charge_step.new.accounts }) =
-    same_objects (record s { accounts = c.charge_step.new.accounts }) mem c.lru.ensures.sound c.byte.ensures.size c.byte-2.ensures.size
+    same_objects (record s { accounts = c.charge_step.new.accounts }) mem c.stores_are_whole.ensures.frames c.stores_are_whole.ensures.memory (c.step-done.ensures.size c.stores_are_whole.ensures.memory)
     (λ a lt. c.step-done.ensures.contained (4 * p + n) a (inside s.ram) (frames_outside (4 * p + n) a lt)) in
     let h = c.requires.in_place in
     let w = objects_of s in
@@ -99,7 +100,7 @@ after_machine-requires g c =
         };
         inside = stepped_inside images w.accounts (accounts_of c.charge_step.new.accounts) p c.args.inner.level now cpu _ _ gs c.if-not-charge_step.ensures.level c.if-not-charge_step.ensures.accounts
             (count_rises c.args.inner.level.count (limit_in (w.accounts.graft c.args.inner.level.owner c.args.inner.level.point)) (funds w.accounts c.args.inner.level.owner c.args.inner.level.point Steps == 0) c.if-not-charge_step.ensures.answer h.inside.0.count)
-            (λ ram. subst (λ (x : List Instr). IsInside x (4 * p + n) (machine_of cpu ram)) c.code_of-code.ensures
+            (λ ram. subst (λ (x : List Instr). IsInside x (4 * p + n) (machine_of cpu ram)) c.code_of-code.ensures.value
             (machine_inside code (4 * p + n) c.step-done.result now.machine cpu mem inside (c.step-done.ensures.inside (4 * p + n) (inside s.ram)) c.step-done.ensures.ended ram))
             h.inside;
         loaded = subst (ImagesAreLoaded images) (sym c.if-not-charge_step.ensures.accounts) (loaded_charged images Steps c.args.inner.level.owner c.args.inner.level.point w.accounts h.loaded);
@@ -119,9 +120,9 @@ returns-clause-step g c =
     let mem = c.step-done.new.ram in
     let inside : (ram : List ℕ) → IsInside code (4 * p + n) (machine_of now.machine ram) = λ ram.
     subst (λ (x : GraftLevel). IsInside code (4 * p + n) (machine_of x.machine ram)) (sym c.if-not-charge_step.ensures.level)
-    (subst (λ (x : List Instr). IsInside x (4 * p + n) (machine_of c.args.inner.level.machine ram)) (sym c.code_of-code.ensures) (c.requires.in_place.inside.0.inside ram)) in
+    (subst (λ (x : List Instr). IsInside x (4 * p + n) (machine_of c.args.inner.level.machine ram)) (sym c.code_of-code.ensures.value) (c.requires.in_place.inside.0.inside ram)) in
     let same : objects_over (record s { accounts = c.charge_step.new.accounts }) mem ≡ objects_of (record s { accounts = c.charge_step.new.accounts }) =
-    same_objects (record s { accounts = c.charge_step.new.accounts }) mem c.lru.ensures.sound c.byte.ensures.size c.byte-2.ensures.size
+    same_objects (record s { accounts = c.charge_step.new.accounts }) mem c.stores_are_whole.ensures.frames c.stores_are_whole.ensures.memory (c.step-done.ensures.size c.stores_are_whole.ensures.memory)
     (λ a lt. c.step-done.ensures.contained (4 * p + n) a (inside s.ram) (frames_outside (4 * p + n) a lt)) in
     let v = world_of_store s in
     let w = objects_of s in
@@ -141,13 +142,13 @@ returns-clause-step g c =
     let done = c.step-done.result in
     let two = level_in p n mem t (record now { machine = cpu }) is kept in
     let state : objects_over (record s { accounts = c.charge_step.new.accounts }) mem ≡ u = same ∙ ap (λ (x : Accounts). with_accounts x w) c.if-not-charge_step.ensures.accounts in
-    let alone = done_alone c.stays_inside.ensures code (4 * p + n) m k done (subst (λ (x : List Instr). IsBoxed x) c.code.ensures.code c.code.ensures.boxed) (inside s.ram) c.step-done.ensures.flat in
+    let alone = done_alone stays_inside code (4 * p + n) m k done c.code_of-code.ensures.boxed (inside s.ram) c.step-done.ensures.flat in
     let outside : ls ≡ levels_in p mem t gs (outer log) kept =
     sym (levels_alike p mem s.ram t t gs (outer log) kept (λ e lt. refl)
     (λ e x lt. same_segment p n e s.ram mem x (λ a out. c.step-done.ensures.contained (4 * p + n) a (inside s.ram) out) lt)) in
     paid_step v images p w l ls (is_spent w.accounts l) refl c.if-not-charge_step.ensures.answer
     ∙ ap (λ (x : GraftLevel). came (after_machine v images p u (level_in p n s.ram t x is kept) ls (seg_step (code_of images w.accounts q pt) (on_segment base (machine_of x.machine s.ram))))) (sym c.if-not-charge_step.ensures.level)
-    ∙ ap (λ (x : List Instr). came (after_machine v images p u one ls (seg_step x (on_segment base m)))) (sym c.code_of-code.ensures)
+    ∙ ap (λ (x : List Instr). came (after_machine v images p u one ls (seg_step x (on_segment base m)))) (sym c.code_of-code.ensures.value)
     ∙ ap (λ (x : Done). came (after_machine v images p u one ls x)) alone
     ∙ ap came (after_done v images p u one ls base k done (λ id called. ap by_place (c.step-done.ensures.called id called))
     (λ ended. ap (λ (x : Cpu). on_segment base (machine_of x mem)) (c.step-done.ensures.ended ended) ∙ ap (λ (x : List ℕ). on_segment base (machine_of now.machine x)) (c.step-done.ensures.memory ended)))
@@ -168,9 +169,9 @@ returns-clause-elsewhere g c =
     let mem = c.step-done.new.ram in
     let inside : (ram : List ℕ) → IsInside code (4 * p + n) (machine_of now.machine ram) = λ ram.
     subst (λ (x : GraftLevel). IsInside code (4 * p + n) (machine_of x.machine ram)) (sym c.if-not-charge_step.ensures.level)
-    (subst (λ (x : List Instr). IsInside x (4 * p + n) (machine_of c.args.inner.level.machine ram)) (sym c.code_of-code.ensures) (c.requires.in_place.inside.0.inside ram)) in
+    (subst (λ (x : List Instr). IsInside x (4 * p + n) (machine_of c.args.inner.level.machine ram)) (sym c.code_of-code.ensures.value) (c.requires.in_place.inside.0.inside ram)) in
     let same : objects_over (record s { accounts = c.charge_step.new.accounts }) mem ≡ objects_of (record s { accounts = c.charge_step.new.accounts }) =
-    same_objects (record s { accounts = c.charge_step.new.accounts }) mem c.lru.ensures.sound c.byte.ensures.size c.byte-2.ensures.size
+    same_objects (record s { accounts = c.charge_step.new.accounts }) mem c.stores_are_whole.ensures.frames c.stores_are_whole.ensures.memory (c.step-done.ensures.size c.stores_are_whole.ensures.memory)
     (λ a lt. c.step-done.ensures.contained (4 * p + n) a (inside s.ram) (frames_outside (4 * p + n) a lt)) in
     elsewhere_twice s _ c.after_machine.new.store c.args.locks.now c.args.locks.now c.after_machine.new.locks p
     (record {
@@ -204,5 +205,5 @@ returns-clause-memory g c =
     let now = c.charge_step.new.level in
     let inside : (ram : List ℕ) → IsInside code (4 * p + n) (machine_of now.machine ram) = λ ram.
     subst (λ (x : GraftLevel). IsInside code (4 * p + n) (machine_of x.machine ram)) (sym c.if-not-charge_step.ensures.level)
-    (subst (λ (x : List Instr). IsInside x (4 * p + n) (machine_of c.args.inner.level.machine ram)) (sym c.code_of-code.ensures) (c.requires.in_place.inside.0.inside ram)) in
+    (subst (λ (x : List Instr). IsInside x (4 * p + n) (machine_of c.args.inner.level.machine ram)) (sym c.code_of-code.ensures.value) (c.requires.in_place.inside.0.inside ram)) in
     λ a out apart. c.after_machine.ensures.kept.memory a apart ∙ c.step-done.ensures.contained (4 * p + n) a (inside s.ram) out

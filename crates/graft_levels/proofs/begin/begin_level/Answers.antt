@@ -10,7 +10,7 @@ use Rattle.graft_levels.proofs.begin.begin_level.Goals as goal
 
 pub returns-clause-objects : goal.returns-clause-objects
 returns-clause-objects g c =
-    same_objects c.args.store.now c.fill.new.ram c.lru.ensures.sound c.fill.ensures.same_size c.fill.ensures.size
+    same_objects c.args.store.now c.fill.new.ram c.stores_are_whole.ensures.frames c.stores_are_whole.ensures.memory c.fill.ensures.size
     (λ a lt. c.fill.ensures.outside a (inl (omega (arith, lt, c.base_of-base.ensures.low))))
 
 pub invariant_of-store-clause-fits : goal.invariant_of-store-clause-fits
@@ -31,7 +31,7 @@ returns-clause-levels g c = λ images t loaded.
 pub returns-clause-inside : goal.returns-clause-inside
 returns-clause-inside g c = λ images loaded h.
     begun_inside images c.args.image.now (accounts_of c.args.store.now.accounts) c.args.p c.base_of-base.result c.args.at.now.installer c.args.at.now.point c.args.at.now.args c.begin.result
-    c.args.chain.now.levels c.push.new.self _ _ c.push.ensures (c.base_of-base.ensures.value ∙ ap (base_of c.args.p) c.count.ensures.value) c.code.ensures.usable.boxed c.begin.ensures.inside loaded h
+    c.args.chain.now.levels c.push.new.self _ _ c.push.ensures (c.base_of-base.ensures.value ∙ ap (base_of c.args.p) c.count.ensures.value) c.first_bytes-bytes.ensures.usable.boxed c.begin.ensures.inside loaded h
 
 pub returns-clause-memory : goal.returns-clause-memory
 returns-clause-memory g c = λ a apart.

@@ -10,7 +10,7 @@ use Rattle.graft_levels.proofs.keeping.first_bytes.Goals as goal
 pub returns-then-not-keep-clause-value : goal.returns-then-not-keep-clause-value
 returns-then-not-keep-clause-value c = λ i.
     let image = c.args.image.now in
-    ap (λ (xs : List ℕ). slice_index xs i) c.body.ensures.body ∙ sym (byte_of image.body i)
+    ap (λ (xs : List ℕ). slice_index xs i) c.body-data.ensures.body ∙ sym (byte_of image.body i)
     ∙ ap (λ (b : Bool). segment_with (Some image) b (by_place (kept_bytes c.args.kept.now c.args.at.process c.args.at.point)) i) c.if-not-keep.ensures
 
 pub returns-in-None-clause-value : goal.returns-in-None-clause-value
@@ -18,6 +18,6 @@ returns-in-None-clause-value c = λ i.
     let image = c.args.image.now in
     let kept = c.args.kept.now in
     let none : None ≡ kept_bytes kept c.args.at.process c.args.at.point = c.in-None.ensures.value ∙ ap (λ n. slice_index_or kept n None) c.segment_number.ensures.value in
-    ap (λ (xs : List ℕ). slice_index xs i) c.body-in-None.ensures.body ∙ sym (byte_of image.body i)
+    ap (λ (xs : List ℕ). slice_index xs i) c.body-data.ensures.body ∙ sym (byte_of image.body i)
     ∙ ap (λ (o : Option (List ℕ)). segment_with (Some image) true (by_place o) i) none
     ∙ ap (λ (b : Bool). segment_with (Some image) b (by_place (kept_bytes kept c.args.at.process c.args.at.point)) i) c.if-not-keep.ensures
