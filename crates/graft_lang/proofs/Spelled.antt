@@ -1,5 +1,5 @@
 -- The tokens of an accepted text spell a program, whose code is short.
-use Rattle.std.specs.Prelude.{◌≡◌, ℕ, suc, ◌+◌, ◌-◌, ◌*◌, ◌<◌, ◌≤◌, Bool, true, false, cond, nat_lt, List, []}
+use Rattle.std.specs.Prelude.{◌≡◌, ℕ, suc, ◌+◌, ◌-◌, ◌<◌, ◌≤◌, Bool, true, false, cond, nat_lt, List, []}
 use Rattle.std.specs.Prelude.{◌∷◌, ◌++◌, length, Option, None, Some, Result, Ok, Err}
 use Rattle.std.proofs.Common.{arith, refl, subst, sym, ap, ◌∙◌}
 use Rattle.std.proofs.lemmas.Bool.Decides.{nat_tests}
@@ -20,9 +20,10 @@ use Rattle.kernel_model.specs.LanguageReading.{refused}
 use Rattle.kernel_model.specs.LanguageMeaning as l
 use Rattle.kernel_model.specs.LanguageImages.{Behaves, IsCompiled}
 use Rattle.graft_syntax.specs.Laws.{IsMet}
+use Rattle.graft_syntax.proofs.Filling.{read_tokens_are_spelled}
 use Rattle.graft_lang.specs.Sizes.{program_tokens, semicolons}
 use Rattle.graft_lang.specs.Code.{puts, zeros_code, prologue, program_code}
-use Rattle.graft_lang.specs.Accepted.{AcceptedProgramsRun}
+use Rattle.graft_lang.specs.Accepted.{AcceptedProgramsRun, AcceptedTextsAreSpelled}
 use Rattle.graft_lang.specs.Writing.{Writing, HasRoom, appended, IsWritten}
 use Rattle.graft_lang.proofs.Sizes.{programs_are_short, prologue_short, total, boxed_place-total}
 use Rattle.graft_lang.proofs.Accepted.{accepted, ends_in, program_counts}
@@ -141,6 +142,10 @@ accepted_is_met text s h = by (read_words first_reading (words text)) refl h
         at_end r (follows_words (words text) first_reading r e (record { goals_are = λ low. refl }))
         (is_met r.goals)
         (nat_lt 120 (length r.tokens)) refl refl k
+
+-- so it spells a program
+pub accepted_texts_are_spelled : AcceptedTextsAreSpelled
+accepted_texts_are_spelled text s h = read_tokens_are_spelled s.tokens (accepted_is_met text s h)
 
 -- ---- lengths
 

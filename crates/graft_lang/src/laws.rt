@@ -6,8 +6,6 @@ ghost use Rattle.graft_lang.specs.Behaves.{ProgramsRun};
 ghost use Rattle.graft_lang.specs.Sizes.{ProgramsAreShort, ProgramsAreBoxed};
 ghost use Rattle.graft_lang.specs.Accepted.{AcceptedProgramsRun, AcceptedTextsAreSpelled};
 
-use graft_syntax::laws::read_tokens_are_spelled;
-
 /// The code of an expression comes to its value, or divides by zero where it has none.
 pub fn expressions_run()
     ensures { ExpressionsRun }
@@ -42,6 +40,4 @@ pub fn accepted_programs_run()
 /// A text that is accepted spells a program.
 pub fn accepted_texts_are_spelled()
     ensures { AcceptedTextsAreSpelled }
-{
-    read_tokens_are_spelled();
-}
+{}

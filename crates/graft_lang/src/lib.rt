@@ -13,7 +13,6 @@ mod program;
 mod variables;
 mod writer;
 
-use crate::laws::{accepted_programs_run, accepted_texts_are_spelled};
 use crate::program::write_program;
 pub use gm_image::RawImage;
 use graft_syntax::read;
@@ -27,8 +26,6 @@ pub fn compile(alloc: Global, text: &[u8]) -> Result<RawImage, LangFault>
     ensures accepted { IfOk result (λ image. IsCompiled text.now image) }
     ensures refused { IfErr result (λ fault. Refuses fault (spec.read text.now)) }
 {
-    accepted_texts_are_spelled();
-    accepted_programs_run();
     match read(alloc, text) {
         Err(fault) => Err(fault),
         Ok(syntax) => match write_program(alloc, &syntax) {

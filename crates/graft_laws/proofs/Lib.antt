@@ -43,3 +43,4 @@ pub mod SettleSoundLemmas
 pub mod EventLemmas
 pub mod MoreImageLemmas
 pub mod SessionLemmas
+pub mod Laws

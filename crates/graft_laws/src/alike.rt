@@ -1,4 +1,4 @@
-//! Laws of two graft calls that are alike. A call of one brings its statement into a proof.
+//! Laws of two graft calls that are alike.
 
 ghost use Rattle.graft_laws.specs.Alike.{InstructionsAlike, DropsAlike, PointsStayHeld};
 

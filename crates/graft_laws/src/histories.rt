@@ -1,4 +1,4 @@
-//! Laws of where histories lead. A call of one brings its statement into a proof.
+//! Laws of where histories lead.
 
 ghost use Rattle.graft_laws.specs.Points.{HistoriesHoldAnswers};
 ghost use Rattle.graft_laws.specs.Histories.{BeginningsReplay, InstructionsReplay, HistoriesReplay, DropsReplay, HistoriesAlike};

@@ -1,4 +1,4 @@
-//! Laws of what keeps abstract kernels sound. A call of one brings its statement into a proof.
+//! Laws of what keeps abstract kernels sound.
 
 ghost use Rattle.graft_laws.specs.Kernels.{StepsStaySound, DropsStaySound, SettlingStaysSound, EventsStaySound, ImagesStaySound, CallsReplay};
 

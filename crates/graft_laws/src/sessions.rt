@@ -1,4 +1,4 @@
-//! A law of scripts. A call of it brings its statement into a proof.
+//! A law of scripts.
 
 ghost use Rattle.graft_laws.specs.Sessions.{LinesStaySound};
 

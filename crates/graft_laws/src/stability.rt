@@ -1,5 +1,4 @@
-//! Laws of what a call's steps and drops leave to the other calls. A call of one brings its
-//! statement into a proof.
+//! Laws of what a call's steps and drops leave to the other calls.
 
 ghost use Rattle.kernel_model.specs.Claims.{Stability};
 ghost use Rattle.graft_laws.specs.Stability.{CommitsWhatIsTaken};

@@ -36,3 +36,4 @@ pub mod TickLemmas
 pub mod TotalLemmas
 pub mod UndoableLemmas
 pub mod UndoneLemmas
+pub mod Laws

@@ -1,9 +1,7 @@
-//! Laws of the one store that holds what all calls in flight have done. A call of one brings its
-//! statement into a proof.
+//! Laws of the one store that holds what all calls in flight have done.
 
 ghost use Rattle.kernel_model.specs.Claims.{InPlaceReads, UndoneIsBelow};
 
-use kernel_laws::undoing;
 use kernel_model::Rules;
 
 /// The store in place has what a call holds exclusively as the call's replay has it, and what none
@@ -16,8 +14,4 @@ pub fn in_place_reads<R: Rules>()
 /// the store below the cut.
 pub fn undone_is_below<R: Rules>()
     ensures { UndoneIsBelow R.meaning }
-{
-    undoing::inverses_undo();
-    undoing::inverses_change_one_object();
-    undoing::changes_are_of_one_object();
-}
+{}

@@ -21,10 +21,8 @@ use crate::ticks::tick_event;
 use arrayvec::ArrayVec;
 use call_pieces::Calls;
 use graft_points::Policy;
-use history_laws::notes as few_notes;
 use kernel_model::{BLOCK_BYTES, BareEvent, BareNote, Refusal};
 use kernel_steps::{Request, Trace};
-use placed_laws::{agreeing, keeping};
 use running_kernel::Running;
 use vino_base::Disk;
 
@@ -45,8 +43,6 @@ fn begin<C: Calls, B: Policy>(
         (call_with request.entry.call request.entry.bytes.now.items)
         running.old running.new result }
 {
-    agreeing::same_shown::<C::Meaning>();
-    keeping::others_stand::<C::Meaning>();
     kernel_steps::begin(running, p, request)
 }
 
@@ -145,7 +141,7 @@ pub fn event<C: Calls, B: Policy, D: Disk>(
     requires first { 0 < number }
     requires room { number < 2 ^ 32 - 1 }
     requires kernel { IsKernel C.Meaning.meaning (number - 1) running.old }
-    requires disk { running.old.store.size ≡ (D.seen disk.old).size }
+    requires size { running.old.store.size ≡ (D.seen disk.old).size }
     requires no_notes { trace.old.notes ≡ [] }
     ensures happened { EventRefines C.Meaning.meaning (placed_of running.old)
         (placed_of running.new) number (event_with what bytes.now.items) trace.new.notes
@@ -153,8 +149,6 @@ pub fn event<C: Calls, B: Policy, D: Disk>(
     ensures kernel { IsKernel C.Meaning.meaning number running.new }
     ensures world { world_of_store running.new.store ≡ world_of_store running.old.store }
 {
-    keeping::events_stand::<C::Meaning>();
-    few_notes::events_leave_few_notes::<C::Meaning>();
     disk.size();
     match what {
         BareEvent::Tick => tick_event(running, number, disk, trace),

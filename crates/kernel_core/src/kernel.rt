@@ -31,12 +31,10 @@ use kernel_model::{BLOCK_BYTES, BareEvent, NoMemory, RawRow};
 use kernel_state::{Setup, Store};
 use kernel_steps::Trace;
 use mem_disk::{Directory, read_directory};
-use placed_laws::agreeing::same_shown;
 use ram_space::Ram;
 use running_kernel::Running;
 use segments::Segments;
 use std::alloc::Global;
-use undo_laws::undoing;
 use vino_base::Disk;
 
 /// How many segments can be kept: one for each point of each process.
@@ -176,7 +174,6 @@ impl<C: Calls, B: Policy> Kernel<C, B> {
         ensures world { world_of_store self.new.running.store
             ≡ world_of_store self.old.running.store }
     {
-        undoing::calls_undo_to_committed::<C::Meaning>();
         event(&mut self.running, number, what, bytes, disk, trace);
     }
 
@@ -190,7 +187,6 @@ impl<C: Calls, B: Policy> Kernel<C, B> {
             result ≡ slice_get (raw_rows C.Meaning.meaning k) i }
         ensures few { 1478 ≤ i → result ≡ None }
     {
-        same_shown::<C::Meaning>();
         let mut at = RowPlace::first();
         for before in 0..i {
             self.next_row(&mut at)?;

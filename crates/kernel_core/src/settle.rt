@@ -13,7 +13,6 @@ ghost use Rattle.kernel_steps.specs.Runs.{IsSoundOn, RefinesAndKeeps};
 use call_pieces::Calls;
 use graft_points::Policy;
 use kernel_steps::{Trace, step};
-use placed_laws::{agreeing, keeping};
 use running_kernel::Running;
 use vino_base::Disk;
 
@@ -27,7 +26,6 @@ fn rest<C: Calls, B: Policy>(running: &mut Running<C, B>)
         RefinesAndKeeps C.Meaning.meaning (placed_rested C.Meaning.meaning)
         (moment running.old kept d) (moment running.new kept d) }
 {
-    keeping::others_stand::<C::Meaning>();
     running.rest();
 }
 
@@ -42,7 +40,6 @@ fn next_or_rest<C: Calls, B: Policy>(running: &mut Running<C, B>) -> Option<u8>
         RefinesAndKeeps C.Meaning.meaning (placed_rested C.Meaning.meaning)
         (moment running.old kept d) (moment running.new kept d)) }
 {
-    keeping::others_stand::<C::Meaning>();
     match running.next_or_rest() {
         Some(p) => Some(p),
         None => None,
@@ -61,7 +58,6 @@ fn settle<C: Calls, B: Policy, D: Disk>(
         (moment running.old trace.old.notes (D.seen disk.old))
         (moment running.new trace.new.notes (D.seen disk.new)) }
 {
-    agreeing::same_shown::<C::Meaning>();
     if turns == 0 {
         return rest(running);
     }

@@ -20,7 +20,6 @@ use call_pieces::Calls;
 use graft_points::Policy;
 use kernel_model::BareNote;
 use kernel_steps::{Trace, step_in_graft};
-use placed_laws::{agreeing, keeping, resting};
 use running_kernel::Running;
 use vino_base::Disk;
 
@@ -34,7 +33,6 @@ fn join<C: Calls, B: Policy>(running: &mut Running<C, B>, p: u8)
         RefinesAndKeeps C.Meaning.meaning (placed_joins p)
         (moment running.old kept d) (moment running.new kept d) }
 {
-    keeping::others_stand::<C::Meaning>();
     kernel_steps::join(running, p);
 }
 
@@ -53,10 +51,6 @@ fn take_up<C: Calls, B: Policy, D: Disk>(
         (moment running.old trace.old.notes (D.seen disk.old))
         (moment running.new trace.new.notes (D.seen disk.new)) }
 {
-    agreeing::same_shown::<C::Meaning>();
-    keeping::steps_stand::<C::Meaning>();
-    keeping::others_stand::<C::Meaning>();
-    resting::resting::<C::Meaning>();
     if !running.in_graft(p) {
         return false;
     }

@@ -8,7 +8,6 @@ ghost use Rattle.running_kernel.specs.Views.{placed_of};
 
 use call_pieces::Calls;
 use graft_points::Policy;
-use placed_laws::{agreeing, stretching};
 use running_kernel::Running;
 
 /// A stretch of process p's call, where it is in a graft and doesn't wait: at most n quiet
@@ -21,8 +20,6 @@ pub(crate) fn stretch<C: Calls, B: Policy>(running: &mut Running<C, B>, p: u8, n
         (placed_of running.new) }
     ensures on { KeepsRunning C.Meaning.meaning running.old running.new }
 {
-    agreeing::same_shown::<C::Meaning>();
-    stretching::stretches::<C::Meaning>();
     if !running.in_graft(p) {
         return 0;
     }

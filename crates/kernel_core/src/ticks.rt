@@ -18,7 +18,6 @@ use call_pieces::Calls;
 use graft_points::Policy;
 use kernel_model::{BareNote, Cause, Refusal};
 use kernel_steps::{Notes, Trace, drop_level, end, tick};
-use placed_laws::{agreeing, keeping};
 use running_kernel::{Blocking, Running, Waiting};
 use vino_base::Disk;
 
@@ -42,7 +41,6 @@ fn refuse<C: Calls, B: Policy>(
         (λ r. placed_requeue p (placed_noted (Refused number why) (with_placed_call p None r)))
         (moment running.old notes.old d) (moment running.new notes.new d) }
 {
-    keeping::others_stand::<C::Meaning>();
     end(running, p, BareNote::Refused(number, why), notes);
 }
 
@@ -130,7 +128,6 @@ fn actions<C: Calls, B: Policy, D: Disk>(
         (moment running.old trace.old.notes (D.seen disk.old))
         (moment running.new trace.new.notes (D.seen disk.new)) }
 {
-    agreeing::same_shown::<C::Meaning>();
     if turns == 0 {
         return;
     }
@@ -149,7 +146,6 @@ fn raise<C: Calls, B: Policy>(running: &mut Running<C, B>, number: u32, notes: &
     ensures ticked { (d : DiskSeen) → RefinesAndTicks C.Meaning.meaning (placed_ticked number)
         (moment running.old notes.old d) (moment running.new notes.new d) }
 {
-    keeping::others_stand::<C::Meaning>();
     tick(running, number, notes);
 }
 

@@ -16,3 +16,4 @@ pub mod SoundConfigLemmas
 pub mod StepLemmas
 pub mod StoreLemmas
 pub mod UndoingLemmas
+pub mod Laws

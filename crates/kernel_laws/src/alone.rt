@@ -1,5 +1,4 @@
-//! Laws of a call that is alone in flight, where no graft stands. A call of one brings its
-//! statement into a proof.
+//! Laws of a call that is alone in flight, where no graft stands.
 
 ghost use Rattle.kernel_model.specs.Alone.{CallsRunAlone, OthersAreFree, NothingIsLeft};
 

@@ -1,4 +1,4 @@
-//! Laws of amounts. A call of one brings its statement into a proof.
+//! Laws of amounts.
 
 ghost use Rattle.kernel_model.specs.Claims.{LedgersStay};
 ghost use Rattle.kernel_laws.specs.Amounts.{GrantStays};

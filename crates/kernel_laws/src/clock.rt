@@ -1,4 +1,4 @@
-//! Laws of the clock. A call of one brings its statement into a proof.
+//! Laws of the clock.
 
 ghost use Rattle.kernel_laws.specs.Clock.{TicksRaiseTheClock, OthersLeaveTheClock};
 

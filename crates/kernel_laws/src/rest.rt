@@ -1,4 +1,4 @@
-//! Laws of rest. A call of one brings its statement into a proof.
+//! Laws of rest.
 
 ghost use Rattle.kernel_laws.specs.Rest.{SettlesToRest};
 

@@ -1,4 +1,4 @@
-//! Laws of what keeps states sound. A call of one brings its statement into a proof.
+//! Laws of what keeps states sound.
 
 ghost use Rattle.kernel_model.specs.Claims.{ChangesWhatIsHeld, ConfigsStaySound, EffectsStaySound, MoreImages};
 ghost use Rattle.kernel_model.specs.Laws.{RefusalsChangeNothing};

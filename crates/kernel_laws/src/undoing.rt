@@ -1,4 +1,4 @@
-//! Laws of what accessors change. A call of one brings its statement into a proof.
+//! Laws of what accessors change.
 
 ghost use Rattle.kernel_laws.specs.Undoing.{InversesCommute, InversesUndo, InversesChangeOneObject, ChangesAreOfOneObject, RecordsLeadBack};
 

@@ -37,3 +37,4 @@ pub mod StretchQuiet
 pub mod StretchReading
 pub mod StretchInstructions
 pub mod StretchIterating
+pub mod Laws

@@ -1,5 +1,4 @@
-//! Laws of what a kernel in place and the abstract kernel that it stands for have in common. A call
-//! of one brings its statement into a proof.
+//! Laws of what a kernel in place and the abstract kernel that it stands for have in common.
 
 ghost use Rattle.placed_laws.specs.Agreeing.{SameStages, SameBlockers, SameShown};
 

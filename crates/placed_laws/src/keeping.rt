@@ -1,5 +1,4 @@
-//! Laws that a kernel in place goes on to stand for the abstract kernel. A call of one brings its
-//! statement into a proof.
+//! Laws that a kernel in place goes on to stand for the abstract kernel.
 
 ghost use Rattle.placed_laws.specs.Keeping.{QuietKernelsStand, StepsStand, DropsStand, OthersStand, EventsStand, HeldStays, ImagesKeepRest};
 

@@ -1,5 +1,5 @@
 //! A law of the definitions of graft calls alone, for every table of calls: whose their levels and
-//! records are. A call of it brings its statement into a proof.
+//! records are.
 
 ghost use Rattle.placed_laws.specs.Owners.{OwnersStay};
 

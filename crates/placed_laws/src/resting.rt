@@ -1,4 +1,4 @@
-//! Laws of rest in place. A call of it brings its statement into a proof.
+//! Laws of rest in place.
 
 ghost use Rattle.placed_laws.specs.Resting.{Resting};
 

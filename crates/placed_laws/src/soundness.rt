@@ -1,4 +1,4 @@
-//! Laws of what is sound of a kernel in place. A call of one brings its statement into a proof.
+//! Laws of what is sound of a kernel in place.
 
 ghost use Rattle.placed_laws.specs.Soundness.{SoundInPlace, ReadyInPlace};
 

@@ -1,4 +1,4 @@
-//! The law of a stretch. A call of it brings its statement into a proof.
+//! The law of a stretch.
 
 ghost use Rattle.placed_laws.specs.Stretch.{Stretches};
 

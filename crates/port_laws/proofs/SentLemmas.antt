@@ -1,6 +1,6 @@
 -- Over any events of which one is a `serve` the notes tell its answers.
 use Rattle.std.specs.Prelude.{◌≡◌, ◌≢◌, ℕ, Bool, List, [], ◌∷◌, ◌++◌, length, Option, Some, None, Result, Ok, Err, map}
-use Rattle.std.proofs.Common.{refl, sym, ap, subst, ◌∙◌, inl, inr}
+use Rattle.std.proofs.Common.{arith, refl, sym, ap, subst, ◌∙◌, inl, inr}
 use Rattle.std.proofs.lemmas.Bool.{cases_eq}
 use Rattle.std.proofs.lemmas.List.{append-nil, append_assoc}
 use Rattle.kernel_model.specs.declared.Event.{Event}
@@ -16,11 +16,12 @@ use Rattle.kernel_model.specs.Meaning.{Meaning, Stage, Answer, stage}
 use Rattle.kernel_model.specs.Early.{begins_unless}
 use Rattle.kernel_model.specs.Kernel.{Call, Run, gave_note, after_note, finish}
 use Rattle.kernel_model.specs.Settle.{finish_on}
+use Rattle.kernel_model.specs.AllCalls.{all_calls}
 use Rattle.kernel_model.specs.EventPoints.{event_refusal}
 use Rattle.kernel_model.specs.Session.{first_io, later_io}
 use Rattle.port_laws.specs.Shown.{before_events, begins_on, with_event, events_on, events_show}
 use Rattle.port_laws.specs.Sent.{those, sent, step_answers, step_completed, step_taken}
-use Rattle.port_laws.specs.Served.{MeansServe, AreOthers, AreSomeOf, TellAnswers, EachServeTellsAnswers}
+use Rattle.port_laws.specs.Served.{MeansServe, AreOthers, AreSomeOf, TellAnswers, ServesTellAnswers, EachServeTellsAnswers}
 use Rattle.port_laws.proofs.PartLemmas.{all_are_some}
 use Rattle.port_laws.proofs.ShownLemmas.{Shown, nothing, and_then, then_nothing, then_then, takes, completes, new_call, event_shown}
 use Rattle.port_laws.proofs.KeptLemmas.{IsKept}
@@ -282,3 +283,15 @@ serves_tell_answers m serves k blocks before after ios n p port bytes unused fir
       completed = refl;
       taken = refl;
     })).told
+
+-- ---- of all calls
+
+pub all_calls_serve : MeansServe all_calls
+all_calls_serve = record {
+  early = λ v images p port bytes. refl;
+  asks = λ v s p t port bytes is. grind (arith, is);
+  piece = λ v images s blocks p t answer io port bytes is. grind (arith, is);
+}
+
+pub all_calls_tell_answers : ServesTellAnswers all_calls
+all_calls_tell_answers = serves_tell_answers all_calls all_calls_serve

@@ -1,4 +1,4 @@
-//! Laws of how events are answered. A call of one brings its statement into a proof.
+//! Laws of how events are answered.
 
 ghost use Rattle.session_laws.specs.Answers.{EventsAreAnswered, RunsAnswer};
 

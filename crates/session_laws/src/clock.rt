@@ -1,4 +1,4 @@
-//! Laws of the clock. A call of one brings its statement into a proof.
+//! Laws of the clock.
 
 ghost use Rattle.session_laws.specs.Clock.{ClockCountsTicks, ClockWithinEvents};
 

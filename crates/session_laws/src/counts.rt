@@ -1,4 +1,4 @@
-//! Laws of how many instructions a level takes. A call of one brings its statement into a proof.
+//! Laws of how many instructions a level takes.
 
 ghost use Rattle.session_laws.specs.Counts.{InstructionsKeepCounts, HistoriesKeepCounts, CallsKeepCounts};
 ghost use Rattle.session_laws.specs.Counts.{CallsFit, RunsFit};

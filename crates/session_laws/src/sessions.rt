@@ -1,4 +1,4 @@
-//! A law of soundness. A call of it brings its statement into a proof.
+//! A law of soundness.
 
 ghost use Rattle.session_laws.specs.Sessions.{RunsAreSound};
 

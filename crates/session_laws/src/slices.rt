@@ -1,4 +1,4 @@
-//! A law of slices. A call of it brings its statement into a proof.
+//! A law of slices.
 
 ghost use Rattle.session_laws.specs.Slices.{SlicesWithinEvents};
 

@@ -1,4 +1,4 @@
-//! A law of what instructions spend. A call of it brings its statement into a proof.
+//! A law of what instructions spend.
 
 ghost use Rattle.session_laws.specs.Spending.{InstructionsArePaidFor};
 

@@ -1,4 +1,4 @@
-//! A law of `sync`. A call of it brings its statement into a proof.
+//! A law of `sync`.
 
 ghost use Rattle.session_laws.specs.Syncs.{SyncsWriteBackAlone};
 

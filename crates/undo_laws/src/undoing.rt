@@ -1,25 +1,20 @@
-//! Laws of undoing in the one store. A call of one brings its statement into a proof.
+//! Laws of undoing in the one store.
 
 ghost use Rattle.undo_laws.specs.Undone.{UndoneInPlace, UndoneIsCommitted, CallsUndoToCommitted, DropsLeadToStoreBelow, DropsLeaveTheStoreBelow};
 
-use history_laws::store;
 use kernel_model::Rules;
 
 /// Undoing calls in the one store, newest records first, one call after another in any order, gives
 /// what the abstract kernel's store has below the cut.
 pub fn undone_in_place<R: Rules>()
     ensures { UndoneInPlace R.meaning }
-{
-    store::undone_is_below::<R>();
-}
+{}
 
 /// The drop of a level leaves each thing as the abstract kernel's store has it below that level, and
 /// takes out the level's graft.
 pub fn drops_undo<R: Rules>()
     ensures { DropsLeaveTheStoreBelow R.meaning }
-{
-    store::undone_is_below::<R>();
-}
+{}
 
 /// Undoing all calls in flight, each from its outermost level on, leads back to the committed things;
 /// accounts and grafts stay as they are.
@@ -31,15 +26,10 @@ pub fn undone_is_committed<R: Rules>()
 /// committed things; accounts and grafts stay as they are.
 pub fn calls_undo_to_committed<R: Rules>()
     ensures { CallsUndoToCommitted R.meaning }
-{
-    undone_in_place::<R>();
-    undone_is_committed::<R>();
-}
+{}
 
 /// What a drop leaves in the one store is the abstract kernel's store below the level, and the
 /// accounts, without the level's graft.
 pub fn drops_lead_to_store_below<R: Rules>()
     ensures { DropsLeadToStoreBelow R.meaning }
-{
-    drops_undo::<R>();
-}
+{}

@@ -1,5 +1,6 @@
 use Rattle.std.proofs.Common.{length, sym, subst, ◌≤◌}
-use Rattle.graft_lang.proofs.Spelled.{few_names, accepted_code_long, compiled}
+use Rattle.graft_lang.proofs.Accepted.{accepted_programs_run}
+use Rattle.graft_lang.proofs.Spelled.{accepted_texts_are_spelled, few_names, accepted_code_long, compiled}
 use Rattle.graft_lang.proofs.compile.Goals as goal
 
 pub write_program-requires-clause-names : goal.write_program-requires-clause-names
@@ -9,7 +10,7 @@ pub new-requires-in-Ok-write_program-clause-code_len :
     goal.new-requires-in-Ok-write_program-clause-code_len
 new-requires-in-Ok-write_program-clause-code_len c =
     let s = c.in-Ok.syntax in
-    let p = c.accepted_texts_are_spelled.ensures c.args.text.now s c.in-Ok.ensures.ok in
+    let p = accepted_texts_are_spelled c.args.text.now s c.in-Ok.ensures.ok in
     subst (λ xs. length xs ≤ 1024) (sym (c.in-Ok-write_program.ensures.written p.0 p.1))
     (accepted_code_long c.args.text.now s p.0 c.in-Ok.ensures.ok p.1)
 
@@ -18,6 +19,6 @@ returns-clause-accepted c =
     let s = c.in-Ok.syntax in
     compiled c.args.text.now s c.in-Ok-write_program.code.items c.new.result.items _
     c.in-Ok.ensures.ok
-    (c.accepted_texts_are_spelled.ensures c.args.text.now s c.in-Ok.ensures.ok)
+    (accepted_texts_are_spelled c.args.text.now s c.in-Ok.ensures.ok)
     c.in-Ok-write_program.ensures.written
-    c.new-in-Ok-write_program.ensures c.new.ensures.items c.accepted_programs_run.ensures
+    c.new-in-Ok-write_program.ensures c.new.ensures.items accepted_programs_run

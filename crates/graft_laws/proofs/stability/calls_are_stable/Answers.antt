@@ -1,4 +1,4 @@
-use Rattle.graft_laws.proofs.StabilityLemmas.{calls_are_stable}
+use Rattle.graft_laws.proofs.Laws.{calls_are_stable}
 use Rattle.graft_laws.proofs.stability.calls_are_stable.Goals as goal
 
 pub returns : goal.returns

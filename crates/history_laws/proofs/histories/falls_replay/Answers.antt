@@ -1,4 +1,4 @@
-use Rattle.history_laws.proofs.DropLemmas.{falls_replay}
+use Rattle.history_laws.proofs.Laws.{falls_replay}
 use Rattle.history_laws.proofs.histories.falls_replay.Goals as goal
 
 pub returns : goal.returns

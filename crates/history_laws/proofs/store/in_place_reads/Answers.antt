@@ -1,4 +1,4 @@
-use Rattle.history_laws.proofs.InPlaceLemmas.{in_place_reads}
+use Rattle.history_laws.proofs.Laws.{in_place_reads}
 use Rattle.history_laws.proofs.store.in_place_reads.Goals as goal
 
 pub returns : goal.returns

@@ -6,12 +6,13 @@ use Rattle.placed_laws.specs.Placed.{Placed, PlacedRun}
 use Rattle.placed_laws.specs.PlacedSteps.{placed_joins, with_placed_call}
 use Rattle.running_kernel.specs.WholeBlocks.{some_blocks}
 use Rattle.running_kernel.specs.Views.{placed_of, run_of}
+use Rattle.placed_laws.proofs.Laws.{same_shown, others_stand}
 use Rattle.kernel_core.proofs.EventLemmas.{starts_by, uncalled_unordered}
 use Rattle.kernel_core.proofs.WentLemmas.{run_at, stood_as, went_silently}
 use Rattle.kernel_core.proofs.events.begin.Goals as goal
 
 pub begin-requires-clause-new : goal.begin-requires-clause-new
-begin-requires-clause-new g c = let a = c.args in uncalled_unordered g.C.Meaning.Rules.meaning c.same_shown.ensures (placed_of a.running.now) a.p a.running.now.order c.requires.at.abstraction refl c.requires.none
+begin-requires-clause-new g c = let a = c.args in uncalled_unordered g.C.Meaning.Rules.meaning (same_shown g.C.Meaning.Rules.meaning g.C.Meaning.Rules.laws) (placed_of a.running.now) a.p a.running.now.order c.requires.at.abstraction refl c.requires.none
 
 pub returns : goal.returns
 returns g c =
@@ -31,6 +32,6 @@ returns g c =
       went = λ kept d.
           went_silently m (λ r. placed_joins a.p (with_placed_call a.p (Some (first_placed a.request.number t)) r)) a.running.now c.begin.new.running kept d (λ notes blocks io. h.value notes blocks io) h.running
           (stood_as m y (placed_joins a.p (with_placed_call a.p (Some (first_placed a.request.number t)) (run_of x some_blocks [] []))) (joins a.p (with_call a.p (Some (first_call a.request.number t)) (record { kernel = s.kernel; blocks = some_blocks; notes = []; io = [] })))
-          (c.others_stand.ensures.beginning (run_of x some_blocks [] []) (record { kernel = s.kernel; blocks = some_blocks; notes = []; io = [] }) a.p a.request.number call t (run_at m x s) c.requires.none c.requires.alive h.granted) here)
+          ((others_stand g.C.Meaning.Rules.meaning g.C.Meaning.Rules.laws).beginning (run_of x some_blocks [] []) (record { kernel = s.kernel; blocks = some_blocks; notes = []; io = [] }) a.p a.request.number call t (run_at m x s) c.requires.none c.requires.alive h.granted) here)
           (sym (ap (λ (z : Placed). z.world) here)) (sym (ap (λ (z : Placed). z.clock) here));
     })

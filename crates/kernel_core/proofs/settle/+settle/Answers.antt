@@ -1,6 +1,7 @@
 use Rattle.std.proofs.Common.{◌≡◌, ◌-◌, suc, ◌∙◌, sym, arith}
 use Rattle.placed_laws.specs.PlacedSteps.{placed_step}
 use Rattle.placed_laws.specs.PlacedEvents.{placed_rested, placed_settle}
+use Rattle.placed_laws.proofs.Laws.{same_shown}
 use Rattle.kernel_core.proofs.WentLemmas.{went_as, went_then}
 use Rattle.kernel_core.proofs.SettleLemmas.{called_still, can_run, free_called, free_small, free_unblocked, settle_blocked, settle_free, settle_none, unblocked_still, went_from}
 use Rattle.kernel_core.proofs.settle.+settle.Goals as goal
@@ -21,13 +22,13 @@ returns-in_default g κ c =
 pub step-requires-clause-at : goal.step-requires-clause-at
 step-requires-clause-at g κ c =
     can_run g.C.Meaning.Rules.meaning c.args.running.now c.next_or_rest.new.running (g.D.Disk.seen c.args.disk.now) c.in-Some.p (rw c.in-Some.is at c.next_or_rest.ensures.kept)
-    (free_small g.C.Meaning.Rules.meaning c.same_shown.ensures _ c.in-Some.p c.requires.abstraction (sym c.next_or_rest.ensures.next ∙ c.in-Some.is))
+    (free_small g.C.Meaning.Rules.meaning (same_shown g.C.Meaning.Rules.meaning g.C.Meaning.Rules.laws) _ c.in-Some.p c.requires.abstraction (sym c.next_or_rest.ensures.next ∙ c.in-Some.is))
     c.requires.running c.requires.abstraction c.requires.disk
 
 pub step-requires-clause-call : goal.step-requires-clause-call
 step-requires-clause-call g κ c =
     called_still c.args.running.now c.next_or_rest.new.running c.in-Some.p (rw c.in-Some.is at c.next_or_rest.ensures.kept)
-    (free_called g.C.Meaning.Rules.meaning c.same_shown.ensures _ c.in-Some.p c.requires.abstraction (sym c.next_or_rest.ensures.next ∙ c.in-Some.is))
+    (free_called g.C.Meaning.Rules.meaning (same_shown g.C.Meaning.Rules.meaning g.C.Meaning.Rules.laws) _ c.in-Some.p c.requires.abstraction (sym c.next_or_rest.ensures.next ∙ c.in-Some.is))
 
 pub step-requires-clause-free : goal.step-requires-clause-free
 step-requires-clause-free g κ c =

@@ -4,6 +4,7 @@ use Rattle.placed_laws.specs.Placed.{Placed, PlacedRun}
 use Rattle.placed_laws.specs.PlacedEvents.{placed_rested}
 use Rattle.running_kernel.specs.WholeBlocks.{some_blocks}
 use Rattle.running_kernel.specs.Views.{placed_of, run_of}
+use Rattle.placed_laws.proofs.Laws.{others_stand}
 use Rattle.kernel_core.proofs.WentLemmas.{run_at, stood_as, went_silently}
 use Rattle.kernel_core.proofs.settle.rest.Goals as goal
 
@@ -16,6 +17,6 @@ returns g c = record {
       let here = ap (λ (r : PlacedRun). r.placed) (c.rest.ensures.value [] some_blocks []) in
       went_silently g.C.Meaning.Rules.meaning (placed_rested g.C.Meaning.Rules.meaning) c.args.running.now c.rest.new.self kept d (λ notes blocks io. c.rest.ensures.value notes blocks io) c.rest.ensures.running
       (stood_as g.C.Meaning.Rules.meaning y (placed_rested g.C.Meaning.Rules.meaning (run_of x some_blocks [] [])) (rested g.C.Meaning.Rules.meaning (record { kernel = s.kernel; blocks = some_blocks; notes = []; io = [] }))
-      (c.others_stand.ensures.resting (run_of x some_blocks [] []) (record { kernel = s.kernel; blocks = some_blocks; notes = []; io = [] }) (run_at g.C.Meaning.Rules.meaning x s)) here)
+      ((others_stand g.C.Meaning.Rules.meaning g.C.Meaning.Rules.laws).resting (run_of x some_blocks [] []) (record { kernel = s.kernel; blocks = some_blocks; notes = []; io = [] }) (run_at g.C.Meaning.Rules.meaning x s)) here)
       (sym (ap (λ (z : Placed). z.world) here)) (sym (ap (λ (z : Placed). z.clock) here));
 }

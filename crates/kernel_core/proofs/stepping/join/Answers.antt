@@ -4,6 +4,7 @@ use Rattle.placed_laws.specs.Placed.{Placed, PlacedRun, placed_blocker}
 use Rattle.placed_laws.specs.PlacedSteps.{placed_joins}
 use Rattle.running_kernel.specs.WholeBlocks.{some_blocks}
 use Rattle.running_kernel.specs.Views.{placed_of, run_of}
+use Rattle.placed_laws.proofs.Laws.{others_stand}
 use Rattle.kernel_core.proofs.StepLemmas.{some_is}
 use Rattle.kernel_core.proofs.WentLemmas.{run_at, stood_as, went_silently}
 use Rattle.kernel_core.proofs.stepping.join.Goals as goal
@@ -18,6 +19,6 @@ returns g c = record {
       let b = some_is (placed_blocker g.C.Meaning.Rules.meaning x c.args.p) c.requires.blocked in
       went_silently g.C.Meaning.Rules.meaning (placed_joins c.args.p) c.args.running.now c.join.new.running kept d (λ notes blocks io. c.join.ensures.value notes blocks io) c.join.ensures.running
       (stood_as g.C.Meaning.Rules.meaning y (placed_joins c.args.p (run_of x some_blocks [] [])) (joins c.args.p (record { kernel = s.kernel; blocks = some_blocks; notes = []; io = [] }))
-      (c.others_stand.ensures.joining (run_of x some_blocks [] []) (record { kernel = s.kernel; blocks = some_blocks; notes = []; io = [] }) c.args.p b.0 (run_at g.C.Meaning.Rules.meaning x s) c.requires.level c.requires.new b.1) here)
+      ((others_stand g.C.Meaning.Rules.meaning g.C.Meaning.Rules.laws).joining (run_of x some_blocks [] []) (record { kernel = s.kernel; blocks = some_blocks; notes = []; io = [] }) c.args.p b.0 (run_at g.C.Meaning.Rules.meaning x s) c.requires.level c.requires.new b.1) here)
       (sym (ap (λ (z : Placed). z.world) here)) (sym (ap (λ (z : Placed). z.clock) here));
 }

@@ -5,6 +5,7 @@ use Rattle.placed_laws.specs.Placed.{has_some, placed_blocker}
 use Rattle.placed_laws.specs.PlacedSteps.{placed_joins, placed_step}
 use Rattle.placed_laws.specs.PlacedEvents.{placed_settled}
 use Rattle.kernel_steps.specs.Composing.{did_nothing, did_then}
+use Rattle.placed_laws.proofs.Laws.{same_shown, others_stand, steps_stand, resting}
 use Rattle.kernel_core.specs.EventParts.{taken_up}
 use Rattle.running_kernel.specs.Views.{placed_of}
 use Rattle.kernel_core.proofs.RestLemmas.{called, did_to_rest, rested_joined, rested_same, rested_stepped, rested_still}
@@ -45,7 +46,7 @@ returns-then-is_some-clause-went g c =
     record {
       refines = did_to_rest g.C.Meaning.Rules.meaning (taken_up g.C.Meaning.Rules.meaning a.p) (λ r. placed_settled g.C.Meaning.Rules.meaning (placed_joins a.p r)) (placed_of a.running.now) (placed_of c.settle_all.new.running) a.trace.now.notes c.settle_all.new.trace.notes (g.D.Disk.seen a.disk.now) (g.D.Disk.seen c.settle_all.new.disk)
           (did_then (placed_joins a.p) (placed_settled g.C.Meaning.Rules.meaning) (placed_of a.running.now) (placed_of c.join.new.running) (placed_of c.settle_all.new.running) a.trace.now.notes a.trace.now.notes c.settle_all.new.trace.notes (g.D.Disk.seen a.disk.now) (g.D.Disk.seen a.disk.now) (g.D.Disk.seen c.settle_all.new.disk) (c.join.ensures.went a.trace.now.notes (g.D.Disk.seen a.disk.now)).refines c.settle_all.ensures.refines)
-          (λ blocks notes io s is. rested_joined g.C.Meaning.Rules.meaning (placed_of a.running.now) c.others_stand.ensures c.resting.ensures a.p b.0 (sym c.in_graft.ensures ∙ c.if-not-in_graft.false) (sym c.waits.ensures ∙ c.if-waits.false) b.1
+          (λ blocks notes io s is. rested_joined g.C.Meaning.Rules.meaning (placed_of a.running.now) (others_stand g.C.Meaning.Rules.meaning g.C.Meaning.Rules.laws) (resting g.C.Meaning.Rules.meaning g.C.Meaning.Rules.laws) a.p b.0 (sym c.in_graft.ensures ∙ c.if-not-in_graft.false) (sym c.waits.ensures ∙ c.if-waits.false) b.1
           (taken_by g.C.Meaning.Rules.meaning (placed_of a.running.now) a.p (Some b.0) can b.1).1 blocks notes io s);
       on = record { running = w.running; abstraction = w.abstraction; world = w.world ∙ j.world; clock = w.clock ∙ j.clock };
     }
@@ -55,11 +56,11 @@ returns-then-step_in_graft-clause-went g c =
     let a = c.args in
     let can = can_step (has_some ((placed_of a.running.now).levels a.p)) (in_order a.p (placed_of a.running.now).order) (sym c.in_graft.ensures ∙ c.if-not-in_graft.false) (sym c.waits.ensures ∙ c.if-waits.false) in
     let none = no_blocker_told c.blocked_by.result (placed_blocker g.C.Meaning.Rules.meaning (placed_of a.running.now) a.p) c.blocked_by.ensures (sym c.is_some.ensures ∙ c.if-is_some.false) in
-    let call = called ((placed_of a.running.now).call a.p) (levels_called g.C.Meaning.Rules.meaning c.same_shown.ensures (placed_of a.running.now) a.p c.requires.abstraction (sym c.in_graft.ensures ∙ c.if-not-in_graft.false)) in
+    let call = called ((placed_of a.running.now).call a.p) (levels_called g.C.Meaning.Rules.meaning (same_shown g.C.Meaning.Rules.meaning g.C.Meaning.Rules.laws) (placed_of a.running.now) a.p c.requires.abstraction (sym c.in_graft.ensures ∙ c.if-not-in_graft.false)) in
     let s = c.step_in_graft.ensures.went in
     record {
       refines = did_to_rest g.C.Meaning.Rules.meaning (taken_up g.C.Meaning.Rules.meaning a.p) (placed_step g.C.Meaning.Rules.meaning a.p) (placed_of a.running.now) (placed_of c.step_in_graft.new.running) a.trace.now.notes c.step_in_graft.new.trace.notes (g.D.Disk.seen a.disk.now) (g.D.Disk.seen c.step_in_graft.new.disk) c.step_in_graft.ensures.went.refines
-          (rested_still g.C.Meaning.Rules.meaning (placed_of a.running.now) c.steps_stand.ensures c.resting.ensures a.p call.0 (placed_of c.step_in_graft.new.running) call.1 none (sym c.in_graft.ensures ∙ c.if-not-in_graft.false) (sym c.waits.ensures ∙ c.if-waits.false) (c.step_in_graft.ensures.kept c.if-step_in_graft.true)
+          (rested_still g.C.Meaning.Rules.meaning (placed_of a.running.now) (steps_stand g.C.Meaning.Rules.meaning g.C.Meaning.Rules.laws) (resting g.C.Meaning.Rules.meaning g.C.Meaning.Rules.laws) a.p call.0 (placed_of c.step_in_graft.new.running) call.1 none (sym c.in_graft.ensures ∙ c.if-not-in_graft.false) (sym c.waits.ensures ∙ c.if-waits.false) (c.step_in_graft.ensures.kept c.if-step_in_graft.true)
           (taken_by g.C.Meaning.Rules.meaning (placed_of a.running.now) a.p None can none).1);
       on = record { running = s.running; abstraction = s.abstraction; world = s.world; clock = s.clock };
     }
@@ -69,16 +70,16 @@ returns-clause-went g c =
     let a = c.args in
     let can = can_step (has_some ((placed_of a.running.now).levels a.p)) (in_order a.p (placed_of a.running.now).order) (sym c.in_graft.ensures ∙ c.if-not-in_graft.false) (sym c.waits.ensures ∙ c.if-waits.false) in
     let none = no_blocker_told c.blocked_by.result (placed_blocker g.C.Meaning.Rules.meaning (placed_of a.running.now) a.p) c.blocked_by.ensures (sym c.is_some.ensures ∙ c.if-is_some.false) in
-    let call = called ((placed_of a.running.now).call a.p) (levels_called g.C.Meaning.Rules.meaning c.same_shown.ensures (placed_of a.running.now) a.p c.requires.abstraction (sym c.in_graft.ensures ∙ c.if-not-in_graft.false)) in
+    let call = called ((placed_of a.running.now).call a.p) (levels_called g.C.Meaning.Rules.meaning (same_shown g.C.Meaning.Rules.meaning g.C.Meaning.Rules.laws) (placed_of a.running.now) a.p c.requires.abstraction (sym c.in_graft.ensures ∙ c.if-not-in_graft.false)) in
     let s = c.step_in_graft.ensures.went in
     let w = c.settle_all-2.ensures in
     record {
       refines = did_to_rest g.C.Meaning.Rules.meaning (taken_up g.C.Meaning.Rules.meaning a.p) (λ r. placed_settled g.C.Meaning.Rules.meaning (placed_step g.C.Meaning.Rules.meaning a.p r)) (placed_of a.running.now) (placed_of c.settle_all-2.new.running) a.trace.now.notes c.settle_all-2.new.trace.notes (g.D.Disk.seen a.disk.now) (g.D.Disk.seen c.settle_all-2.new.disk)
           (did_then (placed_step g.C.Meaning.Rules.meaning a.p) (placed_settled g.C.Meaning.Rules.meaning) (placed_of a.running.now) (placed_of c.step_in_graft.new.running) (placed_of c.settle_all-2.new.running) a.trace.now.notes c.step_in_graft.new.trace.notes c.settle_all-2.new.trace.notes (g.D.Disk.seen a.disk.now) (g.D.Disk.seen c.step_in_graft.new.disk) (g.D.Disk.seen c.settle_all-2.new.disk) c.step_in_graft.ensures.went.refines c.settle_all-2.ensures.refines)
-          (λ blocks notes io s is. rested_stepped g.C.Meaning.Rules.meaning (placed_of a.running.now) c.steps_stand.ensures c.resting.ensures a.p call.0 call.1 none (taken_by g.C.Meaning.Rules.meaning (placed_of a.running.now) a.p None can none).1 blocks notes io s);
+          (λ blocks notes io s is. rested_stepped g.C.Meaning.Rules.meaning (placed_of a.running.now) (steps_stand g.C.Meaning.Rules.meaning g.C.Meaning.Rules.laws) (resting g.C.Meaning.Rules.meaning g.C.Meaning.Rules.laws) a.p call.0 call.1 none (taken_by g.C.Meaning.Rules.meaning (placed_of a.running.now) a.p None can none).1 blocks notes io s);
       on = record { running = w.running; abstraction = w.abstraction; world = w.world ∙ s.world; clock = w.clock ∙ s.clock };
     }
 
 pub instruction_needs-needs-requires-clause-call : goal.instruction_needs-needs-requires-clause-call
 instruction_needs-needs-requires-clause-call g c =
-    levels_called g.C.Meaning.Rules.meaning c.same_shown.ensures (placed_of c.args.running.now) c.args.p c.requires.abstraction (sym c.in_graft.ensures ∙ c.if-not-in_graft.false)
+    levels_called g.C.Meaning.Rules.meaning (same_shown g.C.Meaning.Rules.meaning g.C.Meaning.Rules.laws) (placed_of c.args.running.now) c.args.p c.requires.abstraction (sym c.in_graft.ensures ∙ c.if-not-in_graft.false)

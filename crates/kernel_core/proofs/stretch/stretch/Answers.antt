@@ -1,5 +1,6 @@
 use Rattle.std.proofs.Common.{◌∙◌, sym}
 use Rattle.running_kernel.specs.Views.{placed_of}
+use Rattle.placed_laws.proofs.Laws.{same_shown, stretches}
 use Rattle.kernel_core.proofs.WentLemmas.{levels_called}
 use Rattle.kernel_core.proofs.RestLemmas.{called}
 use Rattle.kernel_core.proofs.StepLemmas.{leads_far, leads_none}
@@ -14,5 +15,5 @@ returns-then-waits-clause-leads g c = leads_none g.C.Meaning.Rules.meaning c.arg
 pub returns-clause-leads : goal.returns-clause-leads
 returns-clause-leads g c =
     let x = placed_of c.args.running.now in
-    let call = called (x.call c.args.p) (levels_called g.C.Meaning.Rules.meaning c.same_shown.ensures x c.args.p c.requires.abstraction (sym c.in_graft.ensures ∙ c.if-not-in_graft.false)) in
-    leads_far g.C.Meaning.Rules.meaning c.stretches.ensures x (placed_of c.stretch.new.running) call.0 c.args.p c.stretch.result call.1 (sym c.waits.ensures ∙ c.if-waits.false) c.stretch.ensures.is
+    let call = called (x.call c.args.p) (levels_called g.C.Meaning.Rules.meaning (same_shown g.C.Meaning.Rules.meaning g.C.Meaning.Rules.laws) x c.args.p c.requires.abstraction (sym c.in_graft.ensures ∙ c.if-not-in_graft.false)) in
+    leads_far g.C.Meaning.Rules.meaning (stretches g.C.Meaning.Rules.meaning g.C.Meaning.Rules.laws) x (placed_of c.stretch.new.running) call.0 c.args.p c.stretch.result call.1 (sym c.waits.ensures ∙ c.if-waits.false) c.stretch.ensures.is

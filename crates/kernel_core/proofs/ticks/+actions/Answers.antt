@@ -2,6 +2,7 @@ use Rattle.std.proofs.Common.{◌≡◌, ◌-◌, suc, ◌∙◌, ap, sym, arith
 use Rattle.std.specs.Prelude.{option_map}
 use Rattle.placed_laws.specs.PlacedEvents.{placed_actions, placed_entry_action, placed_settled}
 use Rattle.running_kernel.specs.Orders.{entry_of}
+use Rattle.placed_laws.proofs.Laws.{same_shown}
 use Rattle.kernel_core.proofs.TickLemmas.{actions_none, actions_some, actions_zero, expired_small}
 use Rattle.kernel_core.proofs.WentLemmas.{still_on, went_as, went_nothing, went_then}
 use Rattle.kernel_core.proofs.ticks.+actions.Goals as goal
@@ -19,7 +20,7 @@ returns-in_default g κ c =
     (actions_none g.C.Meaning.Rules.meaning a.turns _ (sym c.expired.ensures ∙ ap (option_map entry_of) c.in_default.is)) (went_nothing g.C.Meaning.Rules.meaning a.running.now a.trace.now.notes (g.D.Disk.seen a.disk.now) c.requires.running c.requires.abstraction)
 
 pub act-requires-clause-process : goal.act-requires-clause-process
-act-requires-clause-process g κ c = expired_small g.C.Meaning.Rules.meaning c.same_shown.ensures _ (entry_of c.in-Some.waiting) c.requires.abstraction (sym c.expired.ensures ∙ ap (option_map entry_of) c.in-Some.is)
+act-requires-clause-process g κ c = expired_small g.C.Meaning.Rules.meaning (same_shown g.C.Meaning.Rules.meaning g.C.Meaning.Rules.laws) _ (entry_of c.in-Some.waiting) c.requires.abstraction (sym c.expired.ensures ∙ ap (option_map entry_of) c.in-Some.is)
 
 pub settle_all-requires : goal.settle_all-requires
 settle_all-requires g κ c = still_on c.act.ensures c.requires.disk

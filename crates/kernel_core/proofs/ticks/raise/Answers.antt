@@ -6,6 +6,7 @@ use Rattle.placed_laws.specs.PlacedSteps.{placed_ticked}
 use Rattle.kernel_steps.specs.Composing.{did_purely}
 use Rattle.running_kernel.specs.WholeBlocks.{some_blocks}
 use Rattle.running_kernel.specs.Views.{placed_of, run_of}
+use Rattle.placed_laws.proofs.Laws.{others_stand}
 use Rattle.kernel_core.proofs.WentLemmas.{run_at, stood_as}
 use Rattle.kernel_core.proofs.ticks.raise.Goals as goal
 
@@ -21,7 +22,7 @@ returns g c = record {
       record {
         refines = did_purely (placed_ticked a.number) x y a.notes.now c.tick.new.notes (Ticked a.number (suc a.running.now.clock) ∷ []) d (λ blocks notes io. value.0 notes blocks io) value.1 refl;
         running = c.tick.ensures.running;
-        abstraction = stood_as g.C.Meaning.Rules.meaning y (placed_ticked a.number (run_of x some_blocks [] [])) (ticked a.number (record { kernel = s.kernel; blocks = some_blocks; notes = []; io = [] })) (c.others_stand.ensures.ticking (run_of x some_blocks [] []) (record { kernel = s.kernel; blocks = some_blocks; notes = []; io = [] }) a.number (run_at g.C.Meaning.Rules.meaning x s)) here;
+        abstraction = stood_as g.C.Meaning.Rules.meaning y (placed_ticked a.number (run_of x some_blocks [] [])) (ticked a.number (record { kernel = s.kernel; blocks = some_blocks; notes = []; io = [] })) ((others_stand g.C.Meaning.Rules.meaning g.C.Meaning.Rules.laws).ticking (run_of x some_blocks [] []) (record { kernel = s.kernel; blocks = some_blocks; notes = []; io = [] }) a.number (run_at g.C.Meaning.Rules.meaning x s)) here;
         world = sym (ap (λ (z : Placed). z.world) here);
         clock = sym (ap (λ (z : Placed). z.clock) here);
       };

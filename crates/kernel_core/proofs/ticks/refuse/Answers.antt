@@ -5,6 +5,7 @@ use Rattle.placed_laws.specs.Placed.{Placed, PlacedRun}
 use Rattle.placed_laws.specs.PlacedSteps.{placed_noted, placed_requeue, with_placed_call}
 use Rattle.running_kernel.specs.WholeBlocks.{some_blocks}
 use Rattle.running_kernel.specs.Views.{placed_of, run_of}
+use Rattle.placed_laws.proofs.Laws.{others_stand}
 use Rattle.kernel_core.proofs.EventLemmas.{refused_elsewise}
 use Rattle.kernel_core.proofs.TickLemmas.{number_call}
 use Rattle.kernel_core.proofs.WentLemmas.{run_at, stood_as, went_purely}
@@ -24,6 +25,6 @@ returns g c = record {
       went_purely g.C.Meaning.Rules.meaning (λ r. placed_requeue a.p (placed_noted n (with_placed_call a.p None r))) a.running.now c.end.new.running a.notes.now c.end.new.notes (n ∷ []) d
       (λ blocks notes io. value.0 notes blocks io) value.1 (refused_elsewise a.number a.why c.requires.why) c.end.ensures.running
       (stood_as g.C.Meaning.Rules.meaning y (placed_requeue a.p (placed_noted n (with_placed_call a.p None (run_of x some_blocks [] [])))) (requeue a.p (noted n (with_call a.p None (record { kernel = s.kernel; blocks = some_blocks; notes = []; io = [] }))))
-      (c.others_stand.ensures.ending (run_of x some_blocks [] []) (record { kernel = s.kernel; blocks = some_blocks; notes = []; io = [] }) a.p t.0 n (run_at g.C.Meaning.Rules.meaning x s) t.1 c.requires.none) here)
+      ((others_stand g.C.Meaning.Rules.meaning g.C.Meaning.Rules.laws).ending (run_of x some_blocks [] []) (record { kernel = s.kernel; blocks = some_blocks; notes = []; io = [] }) a.p t.0 n (run_at g.C.Meaning.Rules.meaning x s) t.1 c.requires.none) here)
       (sym (ap (λ (z : Placed). z.world) here)) (sym (ap (λ (z : Placed). z.clock) here));
 }

@@ -1,4 +1,4 @@
-use Rattle.kernel_laws.proofs.SettleLemmas.{settles_to_rest}
+use Rattle.kernel_laws.proofs.Laws.{settles_to_rest}
 use Rattle.kernel_laws.proofs.rest.settles_to_rest.Goals as goal
 
 pub returns : goal.returns

@@ -1,4 +1,4 @@
-use Rattle.kernel_laws.proofs.SoundConfigLemmas.{configs_stay_sound}
+use Rattle.kernel_laws.proofs.Laws.{configs_stay_sound}
 use Rattle.kernel_laws.proofs.soundness.configs_stay_sound.Goals as goal
 
 pub returns : goal.returns

@@ -1,4 +1,4 @@
-use Rattle.kernel_laws.proofs.SoundConfigLemmas.{drops_stay_sound}
+use Rattle.kernel_laws.proofs.Laws.{drops_stay_sound}
 use Rattle.kernel_laws.proofs.soundness.drops_stay_sound.Goals as goal
 
 pub returns : goal.returns

@@ -1,4 +1,4 @@
-use Rattle.kernel_laws.proofs.SoundConfigLemmas.{effects_stay_sound}
+use Rattle.kernel_laws.proofs.Laws.{effects_stay_sound}
 use Rattle.kernel_laws.proofs.soundness.effects_stay_sound.Goals as goal
 
 pub returns : goal.returns

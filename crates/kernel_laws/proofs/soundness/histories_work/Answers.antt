@@ -1,4 +1,4 @@
-use Rattle.kernel_laws.proofs.HistoryLemmas.{histories_work}
+use Rattle.kernel_laws.proofs.Laws.{histories_work}
 use Rattle.kernel_laws.proofs.soundness.histories_work.Goals as goal
 
 pub returns : goal.returns

@@ -1,4 +1,4 @@
-use Rattle.kernel_laws.proofs.InstructionLemmas.{instructions_work}
+use Rattle.kernel_laws.proofs.Laws.{instructions_work}
 use Rattle.kernel_laws.proofs.soundness.instructions_work.Goals as goal
 
 pub returns : goal.returns

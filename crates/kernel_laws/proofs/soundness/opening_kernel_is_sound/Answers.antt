@@ -1,4 +1,4 @@
-use Rattle.kernel_laws.proofs.OpeningLemmas.{opening_kernel_is_sound}
+use Rattle.kernel_laws.proofs.Laws.{opening_kernel_is_sound}
 use Rattle.kernel_laws.proofs.soundness.opening_kernel_is_sound.Goals as goal
 
 pub returns : goal.returns

@@ -1,4 +1,4 @@
-use Rattle.kernel_laws.proofs.UndoingLemmas.{inverses_change_one_object}
+use Rattle.kernel_laws.proofs.Laws.{inverses_change_one_object}
 use Rattle.kernel_laws.proofs.undoing.inverses_change_one_object.Goals as goal
 
 pub returns : goal.returns

@@ -1,4 +1,4 @@
-use Rattle.kernel_laws.proofs.UndoingLemmas.{inverses_undo}
+use Rattle.kernel_laws.proofs.Laws.{inverses_undo}
 use Rattle.kernel_laws.proofs.undoing.inverses_undo.Goals as goal
 
 pub returns : goal.returns

@@ -1,4 +1,4 @@
-use Rattle.placed_laws.proofs.BlockerLemmas.{same_blockers}
+use Rattle.placed_laws.proofs.Laws.{same_blockers}
 use Rattle.placed_laws.proofs.agreeing.same_blockers.Goals as goal
 
 pub returns : goal.returns

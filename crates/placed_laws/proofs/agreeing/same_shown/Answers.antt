@@ -1,4 +1,4 @@
-use Rattle.placed_laws.proofs.RowLemmas.{same_shown}
+use Rattle.placed_laws.proofs.Laws.{same_shown}
 use Rattle.placed_laws.proofs.agreeing.same_shown.Goals as goal
 
 pub returns : goal.returns

@@ -1,4 +1,4 @@
-use Rattle.placed_laws.proofs.BlockerLemmas.{same_stages}
+use Rattle.placed_laws.proofs.Laws.{same_stages}
 use Rattle.placed_laws.proofs.agreeing.same_stages.Goals as goal
 
 pub returns : goal.returns

@@ -1,4 +1,4 @@
-use Rattle.placed_laws.proofs.StandLemmas.{drops_stand}
+use Rattle.placed_laws.proofs.Laws.{drops_stand}
 use Rattle.placed_laws.proofs.keeping.drops_stand.Goals as goal
 
 pub returns : goal.returns

@@ -1,4 +1,4 @@
-use Rattle.placed_laws.proofs.EventLemmas.{events_stand}
+use Rattle.placed_laws.proofs.Laws.{events_stand}
 use Rattle.placed_laws.proofs.keeping.events_stand.Goals as goal
 
 pub returns : goal.returns

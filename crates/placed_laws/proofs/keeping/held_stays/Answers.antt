@@ -1,4 +1,4 @@
-use Rattle.placed_laws.proofs.HeldLemmas.{held_stays}
+use Rattle.placed_laws.proofs.Laws.{held_stays}
 use Rattle.placed_laws.proofs.keeping.held_stays.Goals as goal
 
 pub returns : goal.returns

@@ -1,4 +1,4 @@
-use Rattle.placed_laws.proofs.RestLemmas.{images_keep_rest}
+use Rattle.placed_laws.proofs.Laws.{images_keep_rest}
 use Rattle.placed_laws.proofs.keeping.images_keep_rest.Goals as goal
 
 pub returns : goal.returns

@@ -1,4 +1,4 @@
-use Rattle.placed_laws.proofs.OtherLemmas.{others_stand}
+use Rattle.placed_laws.proofs.Laws.{others_stand}
 use Rattle.placed_laws.proofs.keeping.others_stand.Goals as goal
 
 pub returns : goal.returns

@@ -1,4 +1,4 @@
-use Rattle.placed_laws.proofs.QuietLemmas.{quiet_kernels_stand}
+use Rattle.placed_laws.proofs.Laws.{quiet_kernels_stand}
 use Rattle.placed_laws.proofs.keeping.quiet_kernels_stand.Goals as goal
 
 pub returns : goal.returns

@@ -1,4 +1,4 @@
-use Rattle.placed_laws.proofs.StandLemmas.{steps_stand}
+use Rattle.placed_laws.proofs.Laws.{steps_stand}
 use Rattle.placed_laws.proofs.keeping.steps_stand.Goals as goal
 
 pub returns : goal.returns

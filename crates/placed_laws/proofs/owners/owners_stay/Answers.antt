@@ -1,4 +1,4 @@
-use Rattle.placed_laws.proofs.OwnerLemmas.{owners_stay}
+use Rattle.placed_laws.proofs.Laws.{owners_stay}
 use Rattle.placed_laws.proofs.owners.owners_stay.Goals as goal
 
 pub returns : goal.returns

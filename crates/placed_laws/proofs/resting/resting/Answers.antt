@@ -1,4 +1,4 @@
-use Rattle.placed_laws.proofs.RestingLemmas.{resting}
+use Rattle.placed_laws.proofs.Laws.{resting}
 use Rattle.placed_laws.proofs.resting.resting.Goals as goal
 
 pub returns : goal.returns

@@ -1,4 +1,4 @@
-use Rattle.placed_laws.proofs.SoundLemmas.{ready_in_place}
+use Rattle.placed_laws.proofs.Laws.{ready_in_place}
 use Rattle.placed_laws.proofs.soundness.ready_in_place.Goals as goal
 
 pub returns : goal.returns

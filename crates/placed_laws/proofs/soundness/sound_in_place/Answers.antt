@@ -1,4 +1,4 @@
-use Rattle.placed_laws.proofs.SoundLemmas.{sound_in_place}
+use Rattle.placed_laws.proofs.Laws.{sound_in_place}
 use Rattle.placed_laws.proofs.soundness.sound_in_place.Goals as goal
 
 pub returns : goal.returns

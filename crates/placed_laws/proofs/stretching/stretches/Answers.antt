@@ -1,4 +1,4 @@
-use Rattle.placed_laws.proofs.StretchIterating.{stretches}
+use Rattle.placed_laws.proofs.Laws.{stretches}
 use Rattle.placed_laws.proofs.stretching.stretches.Goals as goal
 
 pub returns : goal.returns

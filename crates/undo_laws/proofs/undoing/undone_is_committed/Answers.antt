@@ -1,4 +1,4 @@
-use Rattle.undo_laws.proofs.CommittedLemmas.{undone_is_committed}
+use Rattle.undo_laws.proofs.Laws.{undone_is_committed}
 use Rattle.undo_laws.proofs.undoing.undone_is_committed.Goals as goal
 
 pub returns : goal.returns

@@ -1,6 +1,7 @@
 -- The rows are passed one by one.
 use Rattle.std.proofs.Common.{◌∙◌, ap, arith, slice_get}
 use Rattle.running_kernel.specs.Views.{placed_of}
+use Rattle.placed_laws.proofs.Laws.{same_shown}
 use Rattle.kernel_core.proofs.RowPlaceLemmas.{behind_more, row_behind, row_past}
 use Rattle.kernel_core.proofs.kernel.Kernel.raw.Goals as goal
 
@@ -22,7 +23,7 @@ returns-in_err-next_row-clause-value g c =
 pub returns-in_err-next_row-clause-stands : goal.returns-in_err-next_row-clause-stands
 returns-in_err-next_row-clause-stands g c =
     λ k stands. returns-in_err-next_row-clause-value g c
-    ∙ ap (λ rows. slice_get rows c.args.i) (c.same_shown.ensures.rows (placed_of c.args.self.now.running) k stands)
+    ∙ ap (λ rows. slice_get rows c.args.i) ((same_shown g.C.Meaning.Rules.meaning g.C.Meaning.Rules.laws).rows (placed_of c.args.self.now.running) k stands)
 
 pub returns-clause-value : goal.returns-clause-value
 returns-clause-value g c =
@@ -32,4 +33,4 @@ returns-clause-value g c =
 pub returns-clause-stands : goal.returns-clause-stands
 returns-clause-stands g c =
     λ k stands. returns-clause-value g c
-    ∙ ap (λ rows. slice_get rows c.args.i) (c.same_shown.ensures.rows (placed_of c.args.self.now.running) k stands)
+    ∙ ap (λ rows. slice_get rows c.args.i) ((same_shown g.C.Meaning.Rules.meaning g.C.Meaning.Rules.laws).rows (placed_of c.args.self.now.running) k stands)
