@@ -146,11 +146,11 @@ pub fn requeue<C: Calls, B: Policy>(running: &mut Running<C, B>, p: u8)
     ensures { ChangesTo (placed_requeue p) running.old running.new }
 {
     let waits = running.is_at_piece(p);
-    running.order.leave(p);
-    if !waits {
+    if waits {
+        running.order.to_end(p);
         return;
     }
-    running.order.push(Waiting::joined(p));
+    running.order.leave(p);
 }
 
 /// The clock and the count of each entry rise by one.

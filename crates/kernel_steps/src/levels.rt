@@ -17,9 +17,7 @@ use call_pieces::Calls;
 use graft_calls::instruction;
 use graft_points::Policy;
 use kernel_model::{Cause, Micro, Point};
-use placed_laws::soundness;
 use running_kernel::Running;
-use undo_laws::undoing;
 
 /// Level d of process p's call is dropped, counted from the outermost: those further inward end
 /// with it. The store is what it was below that level, without the level's graft.
@@ -35,7 +33,6 @@ pub fn fall<C: Calls, B: Policy>(running: &mut Running<C, B>, p: u8, d: u8, caus
         (objects_of running.new.store) }
     ensures moved { Moved running.old running.new p }
 {
-    undoing::drops_lead_to_store_below::<C::Meaning>();
     let flight = &mut running.calls[p as usize];
     flight
         .chain
@@ -76,7 +73,6 @@ pub(crate) fn enter<C: Calls, B: Policy>(running: &mut Running<C, B>, p: u8, at:
         (fed_by C.Meaning.meaning (x.call p)) at.now) x }
     ensures moved { Moved running.old running.new p }
 {
-    soundness::sound_in_place::<C::Meaning>();
     let flight = &mut running.calls[p as usize];
     begin_graft::<C, B>(
         flight,

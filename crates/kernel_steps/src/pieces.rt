@@ -20,6 +20,7 @@ use vino_base::Disk;
 
 /// The next piece of a call in flight, with an answer to the point that it asks, or by default.
 /// Whether the call goes on; it ends with a note. The log has this piece's calls of the disk then.
+#[inline(always)]
 fn run_piece<C: Calls, B: Policy, D: Disk>(
     call: &mut InFlight,
     store: &mut Store<B>,
@@ -65,6 +66,7 @@ fn run_piece<C: Calls, B: Policy, D: Disk>(
 
 /// The next piece of the call in flight that stands here, with an answer to the point that it asks,
 /// or by default. The call goes on, or it ends with a note.
+#[inline(always)]
 pub(crate) fn do_piece<C: Calls, B: Policy, D: Disk>(
     slot: &mut Slot,
     store: &mut Store<B>,

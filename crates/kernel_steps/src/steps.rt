@@ -20,13 +20,13 @@ use crate::trace::Trace;
 use call_pieces::Calls;
 use graft_points::Policy;
 use kernel_model::{BareNote, Cause, Micro};
-use placed_laws::{agreeing, keeping, owners, soundness};
 use running_kernel::{Running, flight, number_of};
 use vino_base::Disk;
 
 /// The piece of process p's call, which has no level, is done: with an answer to the point that it
-/// asks, or by default.
-fn finish<C: Calls, B: Policy, D: Disk>(
+/// asks, or by default. It is inlined where most pieces are done.
+#[inline(always)]
+fn finish_inlined<C: Calls, B: Policy, D: Disk>(
     running: &mut Running<C, B>,
     p: u8,
     answer: Option<[u32; 4]>,
@@ -43,6 +43,26 @@ fn finish<C: Calls, B: Policy, D: Disk>(
 {
     let flight = &mut running.calls[p as usize];
     do_piece::<C, B, D>(&mut flight.call, &mut running.store, answer, disk, trace);
+}
+
+/// The same, called where fewer are done.
+#[inline(never)]
+fn finish<C: Calls, B: Policy, D: Disk>(
+    running: &mut Running<C, B>,
+    p: u8,
+    answer: Option<[u32; 4]>,
+    disk: &mut D,
+    trace: &mut Trace,
+)
+    requires alone { StepsAlone running.old p }
+    requires answer { CanFinish C.Meaning.meaning running.old p answer }
+    requires disk { running.old.store.size ≡ (D.seen disk.old).size }
+    ensures { CallStepDone (λ c. finishes C.Meaning.meaning p c
+        (answer_seen running.old.store.ram p answer)) p
+        (moment running.old trace.old.notes (D.seen disk.old))
+        (moment running.new trace.new.notes (D.seen disk.new)) }
+{
+    finish_inlined(running, p, answer, disk, trace);
 }
 
 /// Level d of process p's call was dropped, which is noted. With level 0 the default finishes the
@@ -122,15 +142,40 @@ fn graft_step<C: Calls, B: Policy, D: Disk>(
         (moment running.old trace.old.notes (D.seen disk.old))
         (moment running.new trace.new.notes (D.seen disk.new)) }
 {
-    soundness::ready_in_place::<C::Meaning>();
-    owners::owners_stay();
     let said = instruct(running, p);
     follow(running, p, said, disk, trace);
 }
 
 /// The next piece of process p's call, which is in no graft: where it asks a point at which a graft
-/// stands, the call enters that graft; else the piece is done by default. Where no graft stands
-/// anywhere, what it asks isn't looked for.
+/// stands, the call enters that graft; else the piece is done by default.
+#[inline(never)]
+fn asking_step<C: Calls, B: Policy, D: Disk>(
+    running: &mut Running<C, B>,
+    p: u8,
+    disk: &mut D,
+    trace: &mut Trace,
+)
+    requires at { CanRun C.Meaning.meaning running.old (D.seen disk.old) p }
+    requires none { (chain_of running.old p).levels ≡ [] }
+    ensures { CallStepDone (λ c. placed_call_step C.Meaning.meaning p (Some c)) p
+        (moment running.old trace.old.notes (D.seen disk.old))
+        (moment running.new trace.new.notes (D.seen disk.new)) }
+{
+    let flight = flight(&running.calls, p);
+    let Some(call) = flight.call.get() else {
+        return;
+    };
+    let Some(point) = C::asks(&call.work, &running.store) else {
+        return finish(running, p, None, disk, trace);
+    };
+    if !running.store.has_graft(point.installer, point.point) {
+        return finish(running, p, None, disk, trace);
+    }
+    enter(running, p, &point);
+}
+
+/// The next piece of process p's call, which is in no graft. Where no graft stands anywhere, it is
+/// done by default, and what it asks isn't looked for.
 fn piece_step<C: Calls, B: Policy, D: Disk>(
     running: &mut Running<C, B>,
     p: u8,
@@ -143,23 +188,10 @@ fn piece_step<C: Calls, B: Policy, D: Disk>(
         (moment running.old trace.old.notes (D.seen disk.old))
         (moment running.new trace.new.notes (D.seen disk.new)) }
 {
-    soundness::sound_in_place::<C::Meaning>();
-    soundness::ready_in_place::<C::Meaning>();
-    owners::owners_stay();
     if !running.store.has_grafts() {
-        return finish(running, p, None, disk, trace);
+        return finish_inlined(running, p, None, disk, trace);
     }
-    let flight = flight(&running.calls, p);
-    let Some(call) = flight.call.get() else {
-        return;
-    };
-    let Some(point) = C::asks(&call.work, &running.store) else {
-        return finish(running, p, None, disk, trace);
-    };
-    if !running.store.has_graft(point.installer, point.point) {
-        return finish(running, p, None, disk, trace);
-    }
-    enter(running, p, &point);
+    asking_step(running, p, disk, trace);
 }
 
 /// A step of process p's call, but for its place in the order.
@@ -197,9 +229,6 @@ pub fn step<C: Calls, B: Policy, D: Disk>(
         (moment running.old trace.old.notes (D.seen disk.old))
         (moment running.new trace.new.notes (D.seen disk.new)) }
 {
-    soundness::sound_in_place::<C::Meaning>();
-    keeping::steps_stand::<C::Meaning>();
-    keeping::held_stays::<C::Meaning>();
     step_call(running, p, disk, trace);
     requeue(running, p);
 }
@@ -220,8 +249,6 @@ fn drop_call<C: Calls, B: Policy, D: Disk>(
         (moment running.old trace.old.notes (D.seen disk.old))
         (moment running.new trace.new.notes (D.seen disk.new)) }
 {
-    soundness::ready_in_place::<C::Meaning>();
-    owners::owners_stay();
     let said = fall(running, p, d, cause);
     follow(running, p, said, disk, trace);
 }
@@ -242,10 +269,6 @@ pub fn drop_level<C: Calls, B: Policy, D: Disk>(
         (moment running.old trace.old.notes (D.seen disk.old))
         (moment running.new trace.new.notes (D.seen disk.new)) }
 {
-    agreeing::same_shown::<C::Meaning>();
-    soundness::sound_in_place::<C::Meaning>();
-    keeping::drops_stand::<C::Meaning>();
-    keeping::held_stays::<C::Meaning>();
     drop_call(running, p, d, cause, disk, trace);
     requeue(running, p);
 }

@@ -10,7 +10,6 @@ ghost use Rattle.running_kernel.specs.Views.{placed_of};
 
 use call_pieces::Calls;
 use graft_points::Policy;
-use placed_laws::{agreeing, stretching};
 use running_kernel::Running;
 
 /// A stretch of process p's call, which is in a graft and doesn't wait: at most n quiet
@@ -24,8 +23,6 @@ pub fn stretch<C: Calls, B: Policy>(running: &mut Running<C, B>, p: u8, n: u32) 
     ensures is { IsStretched (placed_of running.old) (placed_of running.new) p result }
     ensures on { KeepsRunning C.Meaning.meaning running.old running.new }
 {
-    agreeing::same_shown::<C::Meaning>();
-    stretching::stretches::<C::Meaning>();
     let flight = &mut running.calls[p as usize];
     graft_calls::stretch(
         &mut flight.chain,

@@ -1,5 +1,5 @@
 -- What hinders the step of a call, by its needs, is what hinders it in place.
-use Rattle.std.proofs.Common.{◌≡◌, ℕ, ◌<◌, true, cond, List, [], ◌∷◌, map, length, refl, ap, sym, subst, ◌∙◌, arith, Option, Some, None}
+use Rattle.std.proofs.Common.{◌≡◌, ℕ, ◌<◌, true, cond, List, [], ◌∷◌, map, length, drop, refl, ap, sym, subst, ◌∙◌, arith, Option, Some, None}
 use Rattle.std.specs.Prelude.{is_some, option_map, slice_index_or, Contains, All}
 use Rattle.std.proofs.lemmas.List.Elements.{All-contains_itself}
 use Rattle.kernel_model.specs.declared.Need.{Need}
@@ -169,3 +169,9 @@ pub blocking_in_place : {C B M : Type 0} {P : _} (x : Running C B M P) (h : Hind
     blocking_by x.calls.items h ≡ placed_blocker_from (placed_of x) (hindrance_of h)
 blocking_in_place x h =
     ap (λ (call : Option ℕ). record { object = h.object; holder = h.holder; call = cond h.by_user None call }) (numbers_same (flight_of x.calls.items h.holder).call)
+
+-- ---- the search over the needs
+
+-- the needs before number k hinder nothing
+pub record HasPassed (t : LockTable) (s : Objects) (p q : ℕ) (needs : List Need) (k : ℕ) : Type 0 where
+  pub rest : first_hindrance t s.things.lock p q (drop k needs) ≡ first_hindrance t s.things.lock p q needs

@@ -1,6 +1,6 @@
 //! What keeps a step from being taken.
 
-ghost use Rattle.std.specs.Prelude.{◌≡◌, ℕ, Contains, option_map, All, List};
+ghost use Rattle.std.specs.Prelude.{◌≡◌, ℕ, true, None, Contains, option_map, All, List};
 ghost use Rattle.kernel_model.specs.Bare.{call_with};
 ghost use Rattle.kernel_model.specs.GraftStep.{next_needs, lock_user};
 ghost use Rattle.kernel_model.specs.Objects.{Things};
@@ -31,7 +31,6 @@ use graft_points::Policy;
 use kernel_model::{BareCall, Need, Object};
 use kernel_state::Store;
 use lock_table::LockTable;
-use placed_laws::soundness;
 
 /// An object that a step needs, and what holds it.
 #[derive(Clone, Copy)]
@@ -88,7 +87,7 @@ fn hindrance_by_need<B: Policy>(
 }
 
 /// The first hindrance of a step of process p over its needs in order; user locks of q don't hinder
-/// it. Looks at one pair of masks of each process for each need.
+/// it. Looks at one mask of processes for each need.
 pub(crate) fn first_hindrance<B: Policy>(
     locks: &LockTable,
     store: &Store<B>,
@@ -99,13 +98,12 @@ pub(crate) fn first_hindrance<B: Policy>(
     requires range { All (λ (n : Needed). IsInRange n.object) needs.now }
     ensures { IsFirstHindrance (held locks.now) (objects_of store.now) p q needs.now result }
 {
-    let Some((need, rest)) = needs.split_first() else {
-        return None;
-    };
-    match hindrance_by_need(locks, store, p, q, *need) {
-        Some(found) => Some(found),
-        None => first_hindrance(locks, store, p, q, rest),
+    for need in needs {
+        if let Some(found) = hindrance_by_need(locks, store, p, q, *need) {
+            return Some(found);
+        }
     }
+    None
 }
 
 /// Whether the holder of a user lock may hinder a call: it hinders `lock` alone.
@@ -168,7 +166,9 @@ fn piece_hindrance<C: Calls, B: Policy>(
     hindrance_by_needs::<C, B>(locks, store, p, work)
 }
 
-/// What hinders the next instruction of a graft call of process p.
+/// What hinders the next instruction of a graft call of process p. It stands apart, so that less is
+/// done for a call that is in no graft.
+#[inline(never)]
 fn graft_hindrance<B: Policy>(
     locks: &LockTable,
     store: &Store<B>,
@@ -208,7 +208,6 @@ impl<C: Calls, B: Policy> Running<C, B> {
         requires { IsSoundFor C.Meaning.meaning self.now p }
         ensures { IsStepHindrance C.Meaning.meaning (placed_of self.now) p result }
     {
-        soundness::sound_in_place::<C::Meaning>();
         let flight = flight(&self.calls, p);
         let Some(call) = flight.call.get() else {
             return None;
@@ -217,6 +216,26 @@ impl<C: Calls, B: Policy> Running<C, B> {
             return piece_hindrance::<C, B>(&self.locks, &self.store, p, &call.work);
         }
         graft_hindrance(&self.locks, &self.store, &self.images, p, &flight.chain)
+    }
+
+    /// Whether a glance shows that nothing blocks the next step of process p's call: it is a piece
+    /// that no user lock's holder may hinder, and nothing is held. Else it may be free as well.
+    pub(crate) fn is_clear(&self, p: u8) -> bool
+        requires at { IsSoundFor C.Meaning.meaning self.now p }
+        ensures { result ≡ true →
+            placed_blocker C.Meaning.meaning (placed_of self.now) p ≡ None }
+    {
+        if !self.locks.is_free() {
+            return false;
+        }
+        let flight = flight(&self.calls, p);
+        let Some(call) = flight.call.get() else {
+            return false;
+        };
+        if flight.chain.levels.count() == 0 {
+            return !waits_for_user(call.work.call);
+        }
+        false
     }
 
     /// What hinders the next instruction of process p's call, which is in a graft and needs this.

@@ -18,10 +18,8 @@ use crate::running::Running;
 use call_pieces::Calls;
 use graft_loader::Loaded;
 use graft_points::Policy;
-use kernel_laws::soundness;
 use kernel_state::Setup;
 use mem_disk::Directory;
-use placed_laws::keeping;
 
 impl<C: Calls, B: Policy> Running<C, B> {
     /// The kernel begins again, on a disk of this size with this directory: no call is in flight,
@@ -45,8 +43,6 @@ impl<C: Calls, B: Policy> Running<C, B> {
         ensures world { world_of_store self.new.store ≡ world_for setup size dir }
         ensures views { views_of self.new.store ≡ views_of self.old.store }
     {
-        soundness::opening_kernel_is_sound::<C::Meaning>();
-        keeping::quiet_kernels_stand::<C::Meaning>();
         self.store.restart(setup, size, dir);
         self.images.clear();
         self.clock = 0;
@@ -76,8 +72,6 @@ impl<C: Calls, B: Policy> Running<C, B> {
         ensures store { self.new.store ≡ self.old.store }
         ensures clock { self.new.clock ≡ self.old.clock }
     {
-        keeping::others_stand::<C::Meaning>();
-        keeping::images_keep_rest::<C::Meaning>();
         self.images.add(slot, image);
     }
 }

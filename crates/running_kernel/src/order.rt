@@ -105,6 +105,21 @@ fn drop_entries(list: &mut ArrayVec<Waiting, PROCESSES>, p: u8)
     list.retain(|waiting| is_others(waiting, p));
 }
 
+/// Takes out the entries of process p, and puts one that has just joined at the end. Mostly there is
+/// one entry, of p.
+fn move_to_end(list: &mut ArrayVec<Waiting, PROCESSES>, p: u8)
+    requires { length (filter (λ w. not (w.process == p)) list.old.items) < 16 }
+    ensures { list.new.items
+        ≡ filter (λ w. not (w.process == p)) list.old.items ++ joined p ∷ [] }
+{
+    if list.len() == 1 && !is_others(&list.as_slice()[0], p) {
+        put_at(list.as_mut_slice(), 0, Waiting::joined(p));
+        return;
+    }
+    drop_entries(list, p);
+    list.push(Waiting::joined(p));
+}
+
 /// Whether process p has one of these entries.
 fn is_among(list: &[Waiting], p: u8) -> bool
     ensures { result ≡ list_any (λ w. w.process == p) list.now }
@@ -158,6 +173,15 @@ impl Order {
         ensures { self.new ≡ filter (λ w. not (w.process == p)) self.old }
     {
         drop_entries(&mut self.list, p);
+    }
+
+    /// The entries of process p leave, and one that has just joined comes to the end. Fewer than 16
+    /// entries are of others.
+    pub fn to_end(&mut self, p: u8)
+        requires { length (filter (λ w. not (w.process == p)) self.old) < 16 }
+        ensures { self.new ≡ filter (λ w. not (w.process == p)) self.old ++ joined p ∷ [] }
+    {
+        move_to_end(&mut self.list, p);
     }
 
     /// Whether there is no entry.

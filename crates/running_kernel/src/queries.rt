@@ -19,8 +19,6 @@ use call_pieces::{Calls, Needs};
 use graft_levels::{GraftLevel, Needs as GraftNeeds};
 use graft_points::Policy;
 use kernel_model::{BareNote, Mode, Need, Object};
-use lock_table::laws;
-use placed_laws::soundness;
 
 /// Whether an object's numbers are in their ranges.
 #[tactic(auto, unfolding(lock_table::specs::Numbers::is_in_range))]
@@ -132,7 +130,6 @@ impl<C: Calls, B: Policy> Running<C, B> {
         requires { IsSoundFor C.Meaning.meaning self.now p }
         ensures { result ≡ wanted object (placed_needs C.Meaning.meaning (placed_of self.now) p) }
     {
-        soundness::sound_in_place::<C::Meaning>();
         let flight = flight(&self.calls, p);
         let Some(call) = flight.call.get() else {
             return Mode::Shared;
@@ -156,7 +153,6 @@ impl<C: Calls, B: Policy> Running<C, B> {
         ensures there { IfSome result (λ d. (holder < 16)
             × (d < length (chain_of self.now holder).levels)) }
     {
-        laws::test_is_range();
         let mode = self.wanted(p, object);
         if holder >= 16 {
             return None;

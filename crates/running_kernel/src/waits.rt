@@ -116,6 +116,7 @@ pub(crate) fn first_over(patience: &[u32; 8], entries: &[Waiting]) -> Option<Wai
 impl<C: Calls, B: Policy> Running<C, B> {
     /// The first of the entries from a place on that nothing blocks. Where all are blocked, each is
     /// told its blocker, once all were found.
+    #[inline(never)]
     fn next_from(&mut self, i: usize) -> Option<u8>
         requires sound { IsSound C.Meaning.meaning self.old }
         requires place { i ≤ length self.old.order }
@@ -158,6 +159,20 @@ impl<C: Calls, B: Policy> Running<C, B> {
         self.rest_behind(rest, done);
     }
 
+    /// The process of the first call in the order, where a glance shows that nothing blocks it.
+    fn clear_first(&self) -> Option<u8>
+        requires { IsSound C.Meaning.meaning self.now }
+        ensures { let x = placed_of self.now in
+            IfSome result (λ _. result ≡ placed_first_free C.Meaning.meaning x x.order) }
+    {
+        let (first, _) = self.order.entries().split_first()?;
+        let process = first.process;
+        if self.is_clear(process) {
+            return Some(process);
+        }
+        None
+    }
+
     /// The process of the first call in the order that nothing blocks. Where there is none, the
     /// order is told its blockers: each is looked for once.
     pub fn next_or_rest(&mut self) -> Option<u8>
@@ -173,6 +188,9 @@ impl<C: Calls, B: Policy> Running<C, B> {
     {
         if self.order.is_empty() {
             return None;
+        }
+        if let Some(process) = self.clear_first() {
+            return Some(process);
         }
         self.next_from(0)
     }

@@ -8,6 +8,7 @@ use Rattle.kernel_state.specs.Stores.{world_of_store, objects_of}
 use Rattle.graft_loader.specs.Slots.{table_of}
 use Rattle.running_kernel.specs.declared.running.Flight.{Flight}
 use Rattle.running_kernel.specs.declared.running.Running.{Running}
+use Rattle.placed_laws.proofs.Laws.{sound_in_place}
 use Rattle.kernel_steps.specs.Moves.{fed_by, needed_by}
 use Rattle.running_kernel.specs.Views.{placed_of, flight_of, call_in_place}
 use Rattle.kernel_steps.proofs.MoveLemmas.{fetched, moved_by, chain_by, placed_moved}
@@ -20,7 +21,7 @@ begin_graft-requires-clause-due g c =
     let fl : c.index_mut-flight.result.now ≡ flight_of x.calls.items c.args.p = fetched x.calls.items c.args.p c.index_mut-flight.result.now c.requires.at.running.sixteen c.requires.at.process c.index_mut-flight.ensures.value in
     let there = sym (ap (λ (l : Flight). l.call) fl) ∙ is in (
       table_of x.images,
-      c.sound_in_place.ensures.standing (placed_of x) c.requires.at.abstraction.kernel c.args.p (call_in_place f) c.requires.at.abstraction.stands (ap (option_map call_in_place) there),
+      (sound_in_place g.C.Meaning.Rules.meaning g.C.Meaning.Rules.laws).standing (placed_of x) c.requires.at.abstraction.kernel c.args.p (call_in_place f) c.requires.at.abstraction.stands (ap (option_map call_in_place) there),
     )
 
 pub returns-clause-config : goal.returns-clause-config

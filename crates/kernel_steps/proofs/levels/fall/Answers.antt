@@ -6,6 +6,7 @@ use Rattle.graft_loader.specs.Slots.{table_of}
 use Rattle.graft_levels.specs.Calls.{AreInside}
 use Rattle.placed_laws.specs.Placed.{Placed, placed_config}
 use Rattle.undo_laws.specs.Undone.{LeadsToStoreBelow}
+use Rattle.undo_laws.proofs.Laws.{drops_lead_to_store_below}
 use Rattle.kernel_steps.proofs.PartLemmas.{levels_many}
 use Rattle.running_kernel.specs.declared.running.Flight.{Flight}
 use Rattle.running_kernel.specs.declared.running.Running.{Running}
@@ -51,5 +52,5 @@ returns-clause-below g c =
     let x = placed_of c.args.running.now in
     let left = ap (λ (y : Placed). y.objects) (returns-clause-config g c) in
     subst (LeadsToStoreBelow g.C.Meaning.Rules.meaning x c.args.p c.args.d) (sym left)
-    (c.drops_lead_to_store_below.ensures x c.args.p c.args.d c.args.cause
+    ((drops_lead_to_store_below g.C.Meaning.Rules.meaning g.C.Meaning.Rules.laws) x c.args.p c.args.d c.args.cause
     (subst (λ n. c.args.d < n) (sym (levels_many c.args.running.now c.args.p)) c.requires.level))

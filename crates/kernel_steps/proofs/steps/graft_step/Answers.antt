@@ -6,6 +6,7 @@ use Rattle.kernel_state.specs.Stores.{world_of_store, objects_of}
 use Rattle.graft_loader.specs.Slots.{table_of}
 use Rattle.placed_laws.specs.Placed.{placed_config}
 use Rattle.running_kernel.specs.Views.{placed_of, call_in_place}
+use Rattle.placed_laws.proofs.Laws.{ready_in_place, owners_stay}
 use Rattle.kernel_steps.proofs.EndLemmas.{micro_ends}
 use Rattle.kernel_steps.proofs.PartLemmas.{micro_alone, micro_done, micro_ready, move_ends}
 use Rattle.kernel_steps.proofs.steps.graft_step.Goals as goal
@@ -13,7 +14,7 @@ use Rattle.kernel_steps.proofs.steps.graft_step.Goals as goal
 pub follow-requires-clause-alone : goal.follow-requires-clause-alone
 follow-requires-clause-alone g c =
     let x = c.args.running.now in
-    micro_alone c.owners_stay.ensures x c.instruct-said.new.running c.args.p c.requires.running c.requires.process c.instruct-said.ensures.moved c.instruct-said.ensures.config
+    micro_alone owners_stay x c.instruct-said.new.running c.args.p c.requires.running c.requires.process c.instruct-said.ensures.moved c.instruct-said.ensures.config
 
 pub follow-requires-clause-answer : goal.follow-requires-clause-answer
 follow-requires-clause-answer g c =
@@ -22,7 +23,7 @@ follow-requires-clause-answer g c =
     let o : Outcome = micro (world_of_store x.store) (table_of x.images) c.args.p (placed_config (placed_of x) c.args.p) in
     record {
       none = move_ends x c.instruct-said.new.running c.args.p o c.instruct-said.result answer c.instruct-said.ensures.config c.instruct-said.ensures.said (micro_ends (world_of_store x.store) (table_of x.images) c.args.p (objects_of x.store) (placed_config (placed_of x) c.args.p).levels) h;
-      ready = λ f is. micro_ready g.C.Meaning.Rules.meaning c.ready_in_place.ensures x c.instruct-said.new.running c.args.p f c.instruct-said.result answer c.requires.abstraction c.requires.level c.instruct-said.ensures.moved c.instruct-said.ensures.config c.instruct-said.ensures.said h c.instruct-said.ensures.answer is;
+      ready = λ f is. micro_ready g.C.Meaning.Rules.meaning (ready_in_place g.C.Meaning.Rules.meaning g.C.Meaning.Rules.laws) x c.instruct-said.new.running c.args.p f c.instruct-said.result answer c.requires.abstraction c.requires.level c.instruct-said.ensures.moved c.instruct-said.ensures.config c.instruct-said.ensures.said h c.instruct-said.ensures.answer is;
     }
 
 pub returns : goal.returns

@@ -3,6 +3,7 @@ use Rattle.std.specs.Vec.{with_item}
 use Rattle.running_kernel.specs.declared.running.Flight.{Flight}
 use Rattle.running_kernel.specs.declared.running.Running.{Running}
 use Rattle.running_kernel.specs.Views.{placed_of, flight_of}
+use Rattle.placed_laws.proofs.Laws.{same_shown, stretches}
 use Rattle.kernel_steps.proofs.MoveLemmas.{fetched, in_place_of, moved_by, chain_by}
 use Rattle.kernel_steps.proofs.StretchLemmas.{gone_by, some_chain, is_stretched, runs_stretched, stood_stretched}
 use Rattle.kernel_steps.proofs.stretches.stretch.Goals as goal
@@ -39,7 +40,7 @@ returns-clause-on g c =
     let gone = gone_by x y c.args.p c.stretch.result c.index_mut-flight.result.now c.stretch.new.chain fl (chain_by x y c.args.p c.index_mut-flight.result.now c.stretch.new.chain r.sixteen c.requires.at.process fl refl) e.went in
     record {
       running = runs_stretched x y c.args.p c.stretch.result r c.requires.at.process moved gone refl e.others;
-      abstraction = stood_stretched g.C.Meaning.Rules.meaning c.same_shown.ensures c.stretches.ensures (placed_of x) (placed_of y) c.args.p c.stretch.result c.requires.at.abstraction c.requires.level c.requires.away
+      abstraction = stood_stretched g.C.Meaning.Rules.meaning (same_shown g.C.Meaning.Rules.meaning g.C.Meaning.Rules.laws) (stretches g.C.Meaning.Rules.meaning g.C.Meaning.Rules.laws) (placed_of x) (placed_of y) c.args.p c.stretch.result c.requires.at.abstraction c.requires.level c.requires.away
           (is_stretched x y c.args.p c.stretch.result r c.requires.at.process moved gone refl e.others);
       world = c.stretch.ensures.elsewhere.world;
       clock = refl;

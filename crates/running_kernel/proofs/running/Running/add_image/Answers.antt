@@ -3,6 +3,7 @@ use Rattle.kernel_model.specs.World.{ImageTable}
 use Rattle.kernel_model.specs.Alike.{Extends}
 use Rattle.kernel_model.specs.Session as session
 use Rattle.graft_loader.specs.Slots.{table_of}
+use Rattle.placed_laws.proofs.Laws.{others_stand, images_keep_rest}
 use Rattle.running_kernel.specs.Views.{placed_of}
 use Rattle.running_kernel.proofs.OpeningLemmas.{extends_at, runs_with_more, stands_added, rests_added}
 use Rattle.running_kernel.proofs.running.Running.add_image.Goals as goal
@@ -10,12 +11,12 @@ use Rattle.running_kernel.proofs.running.Running.add_image.Goals as goal
 pub returns-clause-stands : goal.returns-clause-stands
 returns-clause-stands g c = λ k stands.
     let x = placed_of c.args.self.now in
-    stands_added g.C.Meaning.Rules.meaning c.others_stand.ensures x k c.args.slot c.args.image (table_of c.add.new.self) c.add.ensures.table c.requires.free stands
+    stands_added g.C.Meaning.Rules.meaning (others_stand g.C.Meaning.Rules.meaning g.C.Meaning.Rules.laws) x k c.args.slot c.args.image (table_of c.add.new.self) c.add.ensures.table c.requires.free stands
 
 pub returns-clause-rests : goal.returns-clause-rests
 returns-clause-rests g c = λ k stands rests.
     let x = placed_of c.args.self.now in
-    rests_added g.C.Meaning.Rules.meaning c.images_keep_rest.ensures x k c.args.slot c.args.image c.requires.free stands rests
+    rests_added g.C.Meaning.Rules.meaning (images_keep_rest g.C.Meaning.Rules.meaning g.C.Meaning.Rules.laws) x k c.args.slot c.args.image c.requires.free stands rests
 
 pub returns-clause-sound : goal.returns-clause-sound
 returns-clause-sound g c =
@@ -26,6 +27,6 @@ returns-clause-sound g c =
           (subst (λ (t : ImageTable). Extends (table_of c.args.self.now.images) t) (sym c.add.ensures.table) (extends_at c.args.slot c.args.image (table_of c.args.self.now.images) c.requires.free));
       abstraction = record {
         kernel = session.add_image c.args.slot c.args.image k;
-        stands = stands_added g.C.Meaning.Rules.meaning c.others_stand.ensures x k c.args.slot c.args.image (table_of c.add.new.self) c.add.ensures.table c.requires.free c.requires.sound.abstraction.stands;
+        stands = stands_added g.C.Meaning.Rules.meaning (others_stand g.C.Meaning.Rules.meaning g.C.Meaning.Rules.laws) x k c.args.slot c.args.image (table_of c.add.new.self) c.add.ensures.table c.requires.free c.requires.sound.abstraction.stands;
       };
     }

@@ -7,6 +7,7 @@ use Rattle.graft_loader.specs.Slots.{table_of}
 use Rattle.graft_levels.specs.Chains.{levels_in}
 use Rattle.kernel_state.specs.Stores.{world_of_store, objects_of}
 use Rattle.call_pieces.specs.Works.{stage_of}
+use Rattle.placed_laws.proofs.Laws.{sound_in_place}
 use Rattle.running_kernel.specs.declared.running.Flight.{Flight}
 use Rattle.running_kernel.specs.Views.{flight_of}
 use Rattle.running_kernel.proofs.HinderLemmas.{stands, may_come, piece_hindered, graft_hindered}
@@ -19,7 +20,7 @@ piece_hindrance-requires-clause-ready g c =
     let m = g.C.Meaning.Rules.meaning in
     let fl : c.flight-flight.result.now ≡ flight_of x.calls.items c.args.p = c.flight-flight.ensures ∙ ap (λ fs. flight_of fs c.args.p) c.deref.ensures.value in
     may_come m g.C.Meaning.Rules.laws (world_of_store x.store) (table_of x.images) (objects_of x.store) c.in-Some.call.now.work.caller (stage_of c.in-Some.call.now.work)
-    (stands m c.sound_in_place.ensures x c.args.p c.in-Some.call.now c.requires.running c.requires.abstraction
+    (stands m (sound_in_place m g.C.Meaning.Rules.laws) x c.args.p c.in-Some.call.now c.requires.running c.requires.abstraction
     (sym (ap (λ (f : Flight). f.call) fl) ∙ (sym c.get.ensures ∙ ap option_copied c.in-Some.is)))
 
 pub piece_hindrance-requires-clause-range : goal.piece_hindrance-requires-clause-range
@@ -28,7 +29,7 @@ piece_hindrance-requires-clause-range g c =
     let m = g.C.Meaning.Rules.meaning in
     let fl : c.flight-flight.result.now ≡ flight_of x.calls.items c.args.p = c.flight-flight.ensures ∙ ap (λ fs. flight_of fs c.args.p) c.deref.ensures.value in
     λ n has. g.C.Meaning.Rules.laws.need.ranges (world_of_store x.store) (table_of x.images) (objects_of x.store) c.in-Some.call.now.work.caller (stage_of c.in-Some.call.now.work) n
-    (stands m c.sound_in_place.ensures x c.args.p c.in-Some.call.now c.requires.running c.requires.abstraction
+    (stands m (sound_in_place m g.C.Meaning.Rules.laws) x c.args.p c.in-Some.call.now c.requires.running c.requires.abstraction
     (sym (ap (λ (f : Flight). f.call) fl) ∙ (sym c.get.ensures ∙ ap option_copied c.in-Some.is))) has
 
 pub returns-then-count-eq0 : goal.returns-then-count-eq0
@@ -60,6 +61,6 @@ piece_hindrance-requires-clause-user g c =
     let x = c.args.self.now in
     let m = g.C.Meaning.Rules.meaning in
     let fl : c.flight-flight.result.now ≡ flight_of x.calls.items c.args.p = c.flight-flight.ensures ∙ ap (λ fs. flight_of fs c.args.p) c.deref.ensures.value in
-    let stood = stands m c.sound_in_place.ensures x c.args.p c.in-Some.call.now c.requires.running c.requires.abstraction
+    let stood = stands m (sound_in_place m g.C.Meaning.Rules.laws) x c.args.p c.in-Some.call.now c.requires.running c.requires.abstraction
     (sym (ap (λ (f : Flight). f.call) fl) ∙ (sym c.get.ensures ∙ ap option_copied c.in-Some.is)) in
     λ n has. g.C.Meaning.Rules.laws.need.user (world_of_store x.store) (objects_of x.store) c.in-Some.call.now.work.caller (stage_of c.in-Some.call.now.work) n stood.fits has

@@ -3,6 +3,7 @@ use Rattle.kernel_model.specs.Locks.{outermost_holding}
 use Rattle.kernel_model.specs.Events.{wanted}
 use Rattle.lock_table.specs.Masks.{held}
 use Rattle.placed_laws.specs.Placed.{placed_needs}
+use Rattle.lock_table.proofs.ObjectNumbers.{test_is_range}
 use Rattle.running_kernel.specs.Views.{placed_of, chain_of}
 use Rattle.running_kernel.proofs.ViewLemmas.{holds_in_place}
 use Rattle.running_kernel.proofs.QueryLemmas.{level_is, level_there, none_in_the_way, nobody_in_the_way}
@@ -23,7 +24,7 @@ returns-then-not-is_in_range-clause-value g c =
     ∙ none_in_the_way x.locks c.args.holder c.args.object mode (sym c.is_in_range.ensures ∙ c.if-not-is_in_range.true))
 
 pub level_of-requires : goal.level_of-requires
-level_of-requires g c = record { range = (c.test_is_range.ensures c.args.object).0 (sym c.is_in_range.ensures ∙ c.if-not-is_in_range.false) }
+level_of-requires g c = record { range = (test_is_range c.args.object).0 (sym c.is_in_range.ensures ∙ c.if-not-is_in_range.false) }
 
 pub returns-clause-value : goal.returns-clause-value
 returns-clause-value g c =

@@ -7,6 +7,7 @@ use Rattle.graft_loader.specs.Slots.{table_of}
 use Rattle.graft_levels.specs.Chains.{levels_in}
 use Rattle.kernel_state.specs.Stores.{world_of_store, objects_of}
 use Rattle.call_pieces.specs.Works.{stage_of}
+use Rattle.placed_laws.proofs.Laws.{sound_in_place}
 use Rattle.running_kernel.specs.declared.running.Flight.{Flight}
 use Rattle.running_kernel.specs.Views.{flight_of}
 use Rattle.running_kernel.proofs.HinderLemmas.{stands, may_come, piece_needs, graft_needs_are}
@@ -19,7 +20,7 @@ need-requires g c =
     let call = c.in-Some.call.now in
     let fl : c.flight-flight.result.now ≡ flight_of x.calls.items c.args.p = c.flight-flight.ensures ∙ ap (λ fs. flight_of fs c.args.p) c.deref.ensures.value in
     let there = sym (ap (λ (f : Flight). f.call) fl) ∙ (sym c.get.ensures ∙ ap option_copied c.in-Some.is) in
-    record { ready = may_come g.C.Meaning.Rules.meaning g.C.Meaning.Rules.laws (world_of_store x.store) (table_of x.images) (objects_of x.store) call.work.caller (stage_of call.work) (stands g.C.Meaning.Rules.meaning c.sound_in_place.ensures x c.args.p call c.requires.running c.requires.abstraction there) }
+    record { ready = may_come g.C.Meaning.Rules.meaning g.C.Meaning.Rules.laws (world_of_store x.store) (table_of x.images) (objects_of x.store) call.work.caller (stage_of call.work) (stands g.C.Meaning.Rules.meaning (sound_in_place g.C.Meaning.Rules.meaning g.C.Meaning.Rules.laws) x c.args.p call c.requires.running c.requires.abstraction there) }
 
 pub returns-then-count-eq0 : goal.returns-then-count-eq0
 returns-then-count-eq0 g c =
