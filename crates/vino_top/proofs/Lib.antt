@@ -1,3 +1,4 @@
+pub mod CallLaws
 pub mod PlaceLemmas
 pub mod ParsedLemmas
 pub mod TextLawLemmas

@@ -1,11 +1,12 @@
 //! The lines that are written of an event.
 
-ghost use Rattle.std.specs.Prelude.{◌≡◌, ◌+◌, ◌*◌, ◌<◌, ◌≤◌, ◌++◌, [], length, IfOk};
-ghost use Rattle.kernel_model.specs.Bare.{given_count, notes_with};
-ghost use Rattle.kernel_model.specs.Text.{note_lines, row_lines};
+ghost use Rattle.std.specs.Prelude.{◌≡◌, ◌+◌, ◌*◌, ◌<◌, ◌≤◌, ◌++◌, [], length, vec_capacity, IfOk};
+ghost use Rattle.kernel_model.specs.Bare.{given_count, note_with, notes_with};
+ghost use Rattle.kernel_model.specs.Text.{line, note_lines, note_text, row_lines};
 ghost use Rattle.placed_laws.specs.PlacedRows.{placed_rows};
 ghost use Rattle.kernel_steps.specs.Noting.{AreGiven};
 ghost use Rattle.running_kernel.specs.Views.{placed_of, IsRunning};
+ghost use Rattle.vino_top.specs.Held.{first_or_all};
 ghost use Rattle.vino_top.specs.Standing.{placed_left_line, placed_left_lines};
 
 use crate::AllCalls;
@@ -22,19 +23,52 @@ use std::marker::Model;
 const LINES_BYTES: usize = 3_028_992;
 
 /// The bytes that are written at once. Contracts see their list. Memory is taken once.
+///
+/// Most events write one line, which stands where it was printed. It is copied to the others only
+/// when a second comes.
 #[derive(Drop)]
 pub struct Lines {
+    /// The first line, while there are no others.
+    first: Text,
+    /// All lines, where there are more; else none.
     bytes: Vec<u8>,
 }
 
 impl Model for Lines {
     ghost use Rattle.std.specs.Prelude.{List, ℕ, ◌≤◌, length, vec_capacity};
+    ghost use Rattle.vino_top.specs.Held.{first_or_all};
 
     ghost Value = { List ℕ };
 
-    ghost view = { λ l. l.bytes.items };
+    ghost view = { λ l. first_or_all l.first l.bytes.items };
 
     ghost invariant = { λ l. (length l.bytes.items ≤ 3028992) × (3028992 ≤ vec_capacity l.bytes) };
+}
+
+/// Puts a line behind the bytes of others. Where there are none, the first line comes before it.
+fn put_behind(bytes: &mut Vec<u8>, first: &Text, text: &Text)
+    requires room { length (first_or_all first.now bytes.old.items) + 2048 ≤ 3028992 }
+    requires capacity { 3028992 ≤ vec_capacity bytes.old }
+    ensures value { first_or_all first.now bytes.new.items
+        ≡ first_or_all first.now bytes.old.items ++ text.now }
+    ensures fits { length bytes.new.items ≤ 3028992 }
+    ensures capacity { 3028992 ≤ vec_capacity bytes.new }
+    ensures short { length text.now ≤ 2048 }
+{
+    if bytes.is_empty() {
+        let _ = bytes.extend_from_slice(first.as_slice());
+    }
+    let _ = bytes.extend_from_slice(text.as_slice());
+}
+
+/// Prints the line of a note, and nothing else.
+fn print_first(note: &BareNote, given: &[u8], first: &mut Text)
+    requires block { length given.now ≤ 512 }
+    ensures value { first.new ≡ line (note_text (note_with note.now given.now)) }
+    ensures fits { length first.new ≤ 2048 }
+{
+    print_note(note, given, first);
+    let _ = first.as_slice();
 }
 
 /// How many bytes a note gives.
@@ -53,7 +87,10 @@ impl Lines {
         ensures { IfOk result (λ l. l ≡ []) }
     {
         match Vec::with_capacity(alloc, LINES_BYTES) {
-            Ok(bytes) => Ok(Lines { bytes }),
+            Ok(bytes) => Ok(Lines {
+                first: Text::new(),
+                bytes,
+            }),
             Err(_) => Err(NoMemory),
         }
     }
@@ -62,6 +99,7 @@ impl Lines {
     pub fn clear(&mut self)
         ensures { self.new ≡ [] }
     {
+        self.first.clear();
         self.bytes.clear();
     }
 
@@ -70,6 +108,9 @@ impl Lines {
         ensures value { result.now ≡ self.now }
         ensures few { length result.now ≤ 3028992 }
     {
+        if self.bytes.is_empty() {
+            return self.first.as_slice();
+        }
         self.bytes.as_slice()
     }
 
@@ -79,7 +120,17 @@ impl Lines {
         ensures value { self.new ≡ self.old ++ text.now }
         ensures fits { length self.new ≤ length self.old + 2048 }
     {
-        let _ = self.bytes.extend_from_slice(text.as_slice());
+        put_behind(&mut self.bytes, &self.first, text);
+    }
+
+    /// The line of a note, where there is none yet.
+    fn add_first(&mut self, note: &BareNote, given: &[u8])
+        requires none { self.old ≡ [] }
+        requires block { length given.now ≤ 512 }
+        ensures value { self.new ≡ line (note_text (note_with note.now given.now)) }
+        ensures fits { length self.new ≤ 2048 }
+    {
+        print_first(note, given, &mut self.first);
     }
 
     /// The lines of the notes of an event.
@@ -88,7 +139,12 @@ impl Lines {
         ensures { self.new ≡ note_lines notes.now }
     {
         let (list, bytes) = notes.parts();
-        self.add_each(list, bytes, text);
+        let Some((note, rest)) = list.split_first() else {
+            return;
+        };
+        let (given, others) = bytes.split_at(count_given(*note));
+        self.add_first(note, given);
+        self.add_each(rest, others, text);
     }
 
     /// The lines of these notes, which gave these bytes, one behind the other.

@@ -30,7 +30,6 @@ use graft_points::Policy;
 use kernel_core::{BootNote, ImageRefusal, Kernel, Setup, Trace};
 use kernel_model::{BLOCK_BYTES, BareEvent, BareNote, NoMemory, Refusal};
 use line_text::{Text, print_boot, print_fault, print_note};
-use placed_laws::agreeing;
 use ram_space::Ram;
 use script_text::{Entry, ImageBytes, ScriptFault, parse_line};
 use std::alloc::Global;
@@ -140,8 +139,7 @@ impl<B: Policy> Session<B> {
         if self.refused {
             return Ok(());
         }
-        let parsed = parse_line(text, self.booted, &mut out.bytes);
-        match &parsed {
+        match &parse_line(text, self.booted, &mut out.bytes) {
             Err(fault) => {
                 self.lines += 1;
                 self.refuse(fault_code(*fault), out);
@@ -367,7 +365,6 @@ impl<B: Policy> Session<B> {
         ensures runs { (c : Place) (d : DiskSeen) →
             RunsEntry c Raw (seen_of self.old) (seen_of self.new) d d (left_in out.new) }
     {
-        agreeing::same_shown::<AllCalls>();
         if self.booted {
             self.events += 1;
             out.lines.add_rows(&self.kernel, self.events, &mut out.text);

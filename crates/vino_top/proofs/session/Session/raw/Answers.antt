@@ -1,7 +1,10 @@
 -- Nothing changes but the count of events.
 use Rattle.std.proofs.Common.{arith, refl, sym, ◌∙◌}
+use Rattle.kernel_model.specs.AllCalls.{all_calls}
 use Rattle.kernel_model.specs.Script.{Raw}
+use Rattle.placed_laws.proofs.Laws.{same_shown}
 use Rattle.vino_top.specs.Standing.{seen_of}
+use Rattle.vino_top.proofs.CallLaws.{laws_of_all_calls}
 use Rattle.vino_top.proofs.SessionLemmas.{raw_runs, unbooted_runs, up_is_down}
 use Rattle.vino_top.proofs.session.Session.raw.Goals as goal
 
@@ -13,7 +16,7 @@ add_rows-requires-clause-running g c = (c.requires.counted.1.within.kernel c.if-
 
 pub returns-then-self-clause-runs : goal.returns-then-self-clause-runs
 returns-then-self-clause-runs g c = λ place d.
-    raw_runs c.same_shown.ensures place (seen_of c.args.self.now) _ d c.if-self.true
+    raw_runs (same_shown all_calls laws_of_all_calls) place (seen_of c.args.self.now) _ d c.if-self.true
     (record { bytes_are = c.add_rows.ensures; no_notes = c.requires.empty.no_notes })
 
 pub returns-else-self-clause-runs : goal.returns-else-self-clause-runs
