@@ -53,6 +53,10 @@ shown (RowHead kind about) =
 shown End = codes " end" ++ 10 ∷ []
 shown (Wrote line words) = codes "        " ++ line ++ beside words ++ 10 ∷ []
 
+-- one line more is told
+abbrev pub Adds : (old new : List ℕ) → Told → Type 0
+Adds old new told = new ≡ old ++ shown told
+
 -- the line of the kernel that is told, if it is one
 abbrev pub written_in : Told → List (List ℕ)
 written_in (FileLine number text) = []

@@ -2,7 +2,7 @@
 
 ghost use Rattle.std.specs.Prelude.{◌≡◌, ◌++◌, ◌∷◌, [], drop, IfOk, None, OnOk, Some};
 ghost use Rattle.lab_lines.specs.Told as spec;
-ghost use Rattle.lab_lines.specs.Told.{End, FileLine, RowHead, Tells, TellsAll, Wrote, lines_in, lines_of};
+ghost use Rattle.lab_lines.specs.Told.{Adds, End, FileLine, RowHead, Tells, TellsAll, Wrote, lines_in, lines_of};
 
 use crate::pieces::{Piece, pieces_of};
 use crate::sink::LineSink;
@@ -22,7 +22,7 @@ fn one_line(text: &[u8]) -> &[u8]
 
 /// Appends a written line alone.
 fn add_alone(out: &mut Vec<u8>, line: &[u8]) -> Result<(), NoMemory>
-    ensures { OnOk result (out.new.items ≡ out.old.items ++ spec.shown (Wrote line.now None)) }
+    ensures { OnOk result (Adds out.old.items out.new.items (Wrote line.now None)) }
 {
     add(out, b"        ")?;
     add(out, line)?;
@@ -31,8 +31,7 @@ fn add_alone(out: &mut Vec<u8>, line: &[u8]) -> Result<(), NoMemory>
 
 /// Appends a written line with words beside it.
 fn add_with_words(out: &mut Vec<u8>, line: &[u8], words: &[u8]) -> Result<(), NoMemory>
-    ensures { OnOk result (out.new.items
-        ≡ out.old.items ++ spec.shown (Wrote line.now (Some words.now))) }
+    ensures { OnOk result (Adds out.old.items out.new.items (Wrote line.now (Some words.now))) }
 {
     add(out, b"        ")?;
     add(out, line)?;
@@ -105,8 +104,7 @@ fn add_head_of<'a>(out: &mut Vec<u8>, line: &'a [u8], above: &'a [u8]) -> Result
 
 /// Appends the head of the rows of a kind, with what stands behind the kind.
 fn add_row_head(out: &mut Vec<u8>, kind: &[u8], about: &[u8]) -> Result<(), NoMemory>
-    ensures { OnOk result (out.new.items
-        ≡ out.old.items ++ spec.shown (RowHead kind.now about.now)) }
+    ensures { OnOk result (Adds out.old.items out.new.items (RowHead kind.now about.now)) }
 {
     add(out, b"        -- ")?;
     add(out, one_line(kind))?;
@@ -192,7 +190,7 @@ fn add_rest(
 
 /// Appends what stands above the lines that belong to no line of the file.
 fn add_end(out: &mut Vec<u8>) -> Result<(), NoMemory>
-    ensures { OnOk result (out.new.items ≡ out.old.items ++ spec.shown End) }
+    ensures { OnOk result (Adds out.old.items out.new.items End) }
 {
     add(out, b" end\n")
 }
@@ -220,8 +218,7 @@ fn sealed_text(
 
 /// Appends a line of the file.
 fn add_file_line(out: &mut Vec<u8>, number: usize, text: &[u8]) -> Result<(), NoMemory>
-    ensures { OnOk result (out.new.items
-        ≡ out.old.items ++ spec.shown (FileLine number text.now)) }
+    ensures { OnOk result (Adds out.old.items out.new.items (FileLine number text.now)) }
 {
     add_number_right(out, number)?;
     add(out, b"  ")?;
