@@ -33,6 +33,20 @@ four_digits n least below =
     let three = three_digits (n / 10) (omega (arith, least)) (omega (arith, below)) in
     omega (arith, more, three)
 
+-- five digits
+pub five_digits : (n : ℕ) → 10000 ≤ n → n < 100000 → length (decimal n) ≡ 5
+five_digits n least below =
+    let more = digit_more n (omega (arith, least)) (omega (arith, below)) in
+    let four = four_digits (n / 10) (omega (arith, least)) (omega (arith, below)) in
+    omega (arith, more, four)
+
+-- six digits
+pub six_digits : (n : ℕ) → 100000 ≤ n → n < 1000000 → length (decimal n) ≡ 6
+six_digits n least below =
+    let more = digit_more n (omega (arith, least)) (omega (arith, below)) in
+    let five = five_digits (n / 10) (omega (arith, least)) (omega (arith, below)) in
+    omega (arith, more, five)
+
 -- four digits more than without the last four
 pub four_more : (n : ℕ) → 10000 ≤ n → n < 2 ^ 64 → length (decimal n) ≡ 4 + length (decimal (n / 10000))
 four_more n least most =

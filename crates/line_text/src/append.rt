@@ -6,9 +6,6 @@ ghost use Rattle.kernel_model.specs.Text.{spaced, after_colon, all_spaced, data_
 
 use crate::buffer::Buffer;
 
-/// The most hex digits of a note: those of a block.
-const DATA_DIGITS: usize = 1024;
-
 /// Bytes.
 pub(crate) fn add(out: &mut Buffer, bytes: &[u8])
     requires { length out.old + length bytes.now ≤ 2048 }
@@ -144,15 +141,11 @@ pub(crate) fn all_u64(out: &mut Buffer, ns: &[u64])
 
 /// Bytes as hex digits of lower case.
 pub(crate) fn hex_digits(out: &mut Buffer, bytes: &[u8])
-    requires room { length out.old + 2 * length bytes.now ≤ 2048 }
-    requires block { length bytes.now ≤ 512 }
+    requires { length out.old + 2 * length bytes.now ≤ 2048 }
     ensures text { out.new ≡ out.old ++ hex_text bytes.now }
     ensures len { length out.new ≡ length out.old + 2 * length bytes.now }
 {
-    let mut digits = [0; DATA_DIGITS];
-    let to = &mut digits[..2 * bytes.len()];
-    let _ = hex::encode_to_slice(bytes, to);
-    add(out, to);
+    out.add_hex(bytes);
 }
 
 /// A space and bytes as hex digits, or nothing where there are no bytes.

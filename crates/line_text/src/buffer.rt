@@ -1,6 +1,7 @@
 //! `Buffer`: the bytes of a text.
 
-ghost use Rattle.std.specs.Prelude.{◌≡◌, ◌≤◌, ◌+◌, ◌++◌, length, take, decimal};
+ghost use Rattle.std.specs.Prelude.{◌≡◌, ◌<◌, ◌≤◌, ◌+◌, ◌*◌, ◌++◌, length, take, decimal};
+ghost use Rattle.kernel_model.specs.Bytes.{hex_text};
 
 use crate::digits::count_digits;
 use std::marker::Model;
@@ -40,6 +41,16 @@ fn put(cells: &mut [u8], at: usize, bytes: &[u8])
     cells[at..at + bytes.len()].copy_from_slice(bytes);
 }
 
+/// Puts the hex digits of bytes behind the first ones of some cells.
+fn put_hex(cells: &mut [u8], at: usize, bytes: &[u8])
+    requires { at + 2 * length bytes.now ≤ length cells.old }
+    ensures value { take (at + 2 * length bytes.now) cells.new ≡ take at cells.old ++ hex_text bytes.now }
+    ensures size { length cells.new ≡ length cells.old }
+{
+    let to = &mut cells[at..at + 2 * bytes.len()];
+    let _ = hex::encode_to_slice(bytes, to);
+}
+
 /// Puts the digits of a number, which are so many, behind the first ones of some cells. It is
 /// always inlined: where their count is a constant, they are put without a loop.
 #[inline(always)]
@@ -54,9 +65,10 @@ fn put_digits(cells: &mut [u8], at: usize, n: u64, digits: usize) -> usize
     digits
 }
 
-/// Puts the digits of a number behind the first ones of some cells: how many they are.
+/// Puts the digits of a number, at most six, behind the first ones of some cells: how many they are.
 fn put_number(cells: &mut [u8], at: usize, n: u64) -> usize
-    requires { at + length (decimal n) ≤ length cells.old }
+    requires short { n < 1000000 }
+    requires room { at + length (decimal n) ≤ length cells.old }
     ensures count { result ≡ length (decimal n) }
     ensures value { take (at + result) cells.new ≡ take at cells.old ++ decimal n }
     ensures size { length cells.new ≡ length cells.old }
@@ -73,7 +85,10 @@ fn put_number(cells: &mut [u8], at: usize, n: u64) -> usize
     if n < 10_000 {
         return put_digits(cells, at, n, 4);
     }
-    put_digits(cells, at, n, count_digits(n))
+    if n < 100_000 {
+        return put_digits(cells, at, n, 5);
+    }
+    put_digits(cells, at, n, 6)
 }
 
 impl Buffer {
@@ -120,7 +135,31 @@ impl Buffer {
         ensures text { self.new ≡ self.old ++ decimal n }
         ensures len { length self.new ≡ length self.old + length (decimal n) }
     {
+        if n >= 1_000_000 {
+            return self.add_any_number(n);
+        }
         self.count += put_number(&mut self.cells, self.count, n);
+    }
+
+    /// The same, of a number of any length. It stands apart, so that a short one costs less.
+    #[inline(never)]
+    fn add_any_number(&mut self, n: u64)
+        requires { length self.old + length (decimal n) ≤ 2048 }
+        ensures text { self.new ≡ self.old ++ decimal n }
+        ensures len { length self.new ≡ length self.old + length (decimal n) }
+    {
+        let digits = count_digits(n);
+        self.count += put_digits(&mut self.cells, self.count, n, digits);
+    }
+
+    /// Appends bytes as hex digits of lower case.
+    pub(crate) fn add_hex(&mut self, bytes: &[u8])
+        requires { length self.old + 2 * length bytes.now ≤ 2048 }
+        ensures text { self.new ≡ self.old ++ hex_text bytes.now }
+        ensures len { length self.new ≡ length self.old + 2 * length bytes.now }
+    {
+        put_hex(&mut self.cells, self.count, bytes);
+        self.count += 2 * bytes.len();
     }
 
     /// Appends a byte. False, with nothing changed, exactly where there is no room.

@@ -59,10 +59,9 @@ impl Text {
         spaced_u64(&mut self.bytes, n);
     }
 
-    /// Appends at most 512 bytes as hex digits of lower case.
+    /// Appends bytes as hex digits of lower case.
     pub fn add_hex(&mut self, bytes: &[u8])
-        requires room { length self.old + 2 * length bytes.now ≤ 2048 }
-        requires block { length bytes.now ≤ 512 }
+        requires { length self.old + 2 * length bytes.now ≤ 2048 }
         ensures text { self.new ≡ self.old ++ hex_text bytes.now }
         ensures len { length self.new ≡ length self.old + 2 * length bytes.now }
     {

@@ -1,4 +1,7 @@
 pub mod Reading
 pub mod Decoding
 pub mod Lines
+mod Spelling
 mod Plain
+mod Newlines
+mod Numbers

@@ -1,7 +1,7 @@
 -- Where words begin and end in a line, and what becomes of a byte of a line.
 use Rattle.std.specs.Prelude.{ℕ, Bool, true, false, cond, ◌≡◌, ◌≤◌, ◌<◌, ◌==◌, get_or, nat_lt, List, [], ◌∷◌, ◌++◌, length, take, is_some, Option, Some, None, Result, Ok, Err}
 use Rattle.std.specs.List.{position_or_len}
-use Rattle.kernel_model.specs.Bytes.{hex_value}
+use Rattle.kernel_model.specs.Bytes.{hex_value, number_of}
 use Rattle.kernel_model.specs.declared.Form.{Form}
 use Rattle.kernel_model.specs.Script.{ScriptFault, BadWord, BadNumber, words_of, number_said, is_bad_word, LINE_BYTES}
 use Rattle.kernel_model.specs.Outcome.{lines_after, rest_after}
@@ -14,6 +14,10 @@ use Rattle.script_text.specs.declared.words.Reading.TheVariants as reading
 abbrev pub word_length : List ℕ → ℕ
 word_length text = position_or_len (λ byte. byte == 32) text
 
+-- the word that a text begins with
+abbrev pub front_word : List ℕ → List ℕ
+front_word text = take (word_length text) text
+
 -- the words that stand after a word, each after a space
 abbrev pub words_left : List ℕ → List (List ℕ)
 words_left [] = []
@@ -25,12 +29,19 @@ said reading.Said numbers last = Ok (numbers, last)
 said reading.BadNumber numbers last = Err BadNumber
 said reading.BadWord numbers last = Err BadWord
 
--- the first word of a text has one byte, and says this number
-pub record IsFirstNumber (form : Form) (text : List ℕ) (n : ℕ) : Type 0 where
-  pub some : 1 ≤ length text
-  pub one : 1 ≡ word_length text
-  pub good : is_bad_word form (take 1 text) ≡ false
-  pub says : number_said form (take 1 text) ≡ Some n
+-- the first word of a text has so many bytes, and is a number's digits
+pub record IsFirstNumber (text : List ℕ) (n size : ℕ) : Type 0 where
+  pub some : 1 ≤ size
+  pub within : size ≤ length text
+  pub word : size ≡ word_length text
+  pub says : number_of (take size text) ≡ Some n
+
+-- the first word of a text has so many bytes, and says this number
+pub record SaysFirst (form : Form) (text : List ℕ) (n size : ℕ) : Type 0 where
+  pub within : size ≤ length text
+  pub word : size ≡ word_length text
+  pub good : is_bad_word form (take size text) ≡ false
+  pub says : number_said form (take size text) ≡ Some n
 
 -- the refusal of a line with a word that is no number, which is the lesser one
 abbrev pub failed : Bool → Result (List ℕ × List ℕ) ScriptFault

@@ -1,19 +1,25 @@
 //! The commands of a script: their words, their places and the forms of their further words.
+//!
+//! The word of a command is compared where it stands in its line, so that its end isn't looked for
+//! before.
 
 ghost use Rattle.std.specs.Prelude.{◌≡◌, ◌≤◌, ◌∷◌, length, cond, Some, None};
 ghost use Rattle.kernel_model.specs.World.{same_bytes};
 ghost use Rattle.kernel_model.specs.declared.Command.TheVariants as command_is;
-ghost use Rattle.kernel_model.specs.Script.{command_named, is_setup, call_forms, forms_of};
+ghost use Rattle.kernel_model.specs.Script.{command_named, command_word, call_word, is_setup, call_forms, forms_of};
+ghost use Rattle.script_text.specs.Words.{word_length, front_word};
 
+use crate::digits::ends_at;
 use kernel_model::{CallName, Command, Form};
 
-/// Whether a word goes on like this. It is always inlined: an ending is a constant, and takes one
-/// comparison a byte then.
+/// Whether the word that a text begins with is this one. It is always inlined: an ending is a
+/// constant, and takes one comparison a byte then.
 #[inline(always)]
 fn goes_on(ending: &[u8], rest: &[u8]) -> bool
-    ensures { result ≡ same_bytes ending.now rest.now }
+    requires { word_length ending.now ≡ length ending.now }
+    ensures { result ≡ same_bytes ending.now (front_word rest.now) }
 {
-    if ending.len() != rest.len() {
+    if rest.len() < ending.len() {
         return false;
     }
     for i in 0..ending.len() {
@@ -21,12 +27,12 @@ fn goes_on(ending: &[u8], rest: &[u8]) -> bool
             return false;
         }
     }
-    true
+    ends_at(rest, ending.len())
 }
 
-/// The command of a word that is `b` and goes on like this.
+/// The command of a word that is `b` and goes on as this text begins.
 fn named_b(rest: &[u8]) -> Option<Command>
-    ensures { result ≡ command_named (98 ∷ rest.now) }
+    ensures { result ≡ command_named (98 ∷ front_word rest.now) }
 {
     if goes_on(b"oot".as_slice(), rest) {
         Some(Command::Boot)
@@ -37,9 +43,9 @@ fn named_b(rest: &[u8]) -> Option<Command>
     }
 }
 
-/// The command of a word that is `f` and goes on like this.
+/// The command of a word that is `f` and goes on as this text begins.
 fn named_f(rest: &[u8]) -> Option<Command>
-    ensures { result ≡ command_named (102 ∷ rest.now) }
+    ensures { result ≡ command_named (102 ∷ front_word rest.now) }
 {
     if goes_on(b"rames".as_slice(), rest) {
         Some(Command::Frames)
@@ -50,9 +56,9 @@ fn named_f(rest: &[u8]) -> Option<Command>
     }
 }
 
-/// The command of a word that is `g` and goes on like this.
+/// The command of a word that is `g` and goes on as this text begins.
 fn named_g(rest: &[u8]) -> Option<Command>
-    ensures { result ≡ command_named (103 ∷ rest.now) }
+    ensures { result ≡ command_named (103 ∷ front_word rest.now) }
 {
     if goes_on(b"rant".as_slice(), rest) {
         Some(Command::Grant)
@@ -63,9 +69,9 @@ fn named_g(rest: &[u8]) -> Option<Command>
     }
 }
 
-/// The command of a word that is `i` and goes on like this.
+/// The command of a word that is `i` and goes on as this text begins.
 fn named_i(rest: &[u8]) -> Option<Command>
-    ensures { result ≡ command_named (105 ∷ rest.now) }
+    ensures { result ≡ command_named (105 ∷ front_word rest.now) }
 {
     if goes_on(b"mage".as_slice(), rest) {
         Some(Command::Image)
@@ -76,9 +82,9 @@ fn named_i(rest: &[u8]) -> Option<Command>
     }
 }
 
-/// The command of a word that is `p` and goes on like this.
+/// The command of a word that is `p` and goes on as this text begins.
 fn named_p(rest: &[u8]) -> Option<Command>
-    ensures { result ≡ command_named (112 ∷ rest.now) }
+    ensures { result ≡ command_named (112 ∷ front_word rest.now) }
 {
     if goes_on(b"eek".as_slice(), rest) {
         Some(Command::Call(CallName::Peek))
@@ -91,9 +97,9 @@ fn named_p(rest: &[u8]) -> Option<Command>
     }
 }
 
-/// The command of a word that is `r` and goes on like this.
+/// The command of a word that is `r` and goes on as this text begins.
 fn named_r(rest: &[u8]) -> Option<Command>
-    ensures { result ≡ command_named (114 ∷ rest.now) }
+    ensures { result ≡ command_named (114 ∷ front_word rest.now) }
 {
     if goes_on(b"ead".as_slice(), rest) {
         Some(Command::Call(CallName::Read))
@@ -106,9 +112,9 @@ fn named_r(rest: &[u8]) -> Option<Command>
     }
 }
 
-/// The command of a word that is `s` and goes on like this.
+/// The command of a word that is `s` and goes on as this text begins.
 fn named_s(rest: &[u8]) -> Option<Command>
-    ensures { result ≡ command_named (115 ∷ rest.now) }
+    ensures { result ≡ command_named (115 ∷ front_word rest.now) }
 {
     if goes_on(b"tep".as_slice(), rest) {
         Some(Command::Step)
@@ -127,9 +133,9 @@ fn named_s(rest: &[u8]) -> Option<Command>
     }
 }
 
-/// The command of a word that is `t` and goes on like this.
+/// The command of a word that is `t` and goes on as this text begins.
 fn named_t(rest: &[u8]) -> Option<Command>
-    ensures { result ≡ command_named (116 ∷ rest.now) }
+    ensures { result ≡ command_named (116 ∷ front_word rest.now) }
 {
     if goes_on(b"ick".as_slice(), rest) {
         Some(Command::Tick)
@@ -143,7 +149,9 @@ fn named_t(rest: &[u8]) -> Option<Command>
 /// This call, where a word goes on as its word does.
 #[inline(always)]
 fn call_if(name: CallName, ending: &[u8], rest: &[u8]) -> Option<Command>
-    ensures { result ≡ cond (same_bytes ending.now rest.now) (Some (command_is.Call name)) None }
+    requires { word_length ending.now ≡ length ending.now }
+    ensures { result
+        ≡ cond (same_bytes ending.now (front_word rest.now)) (Some (command_is.Call name)) None }
 {
     if goes_on(ending, rest) {
         Some(Command::Call(name))
@@ -152,9 +160,9 @@ fn call_if(name: CallName, ending: &[u8], rest: &[u8]) -> Option<Command>
     }
 }
 
-/// The command of the word that begins with this byte and goes on like this.
+/// The command of the word that begins with this byte and goes on as this text begins.
 fn named_after(first: u8, rest: &[u8]) -> Option<Command>
-    ensures { result ≡ command_named (first ∷ rest.now) }
+    ensures { result ≡ command_named (first ∷ front_word rest.now) }
 {
     match first {
         b'b' => named_b(rest),
@@ -177,13 +185,54 @@ fn named_after(first: u8, rest: &[u8]) -> Option<Command>
     }
 }
 
-/// The command of a word.
-pub(crate) fn named(word: &[u8]) -> Option<Command>
-    ensures { result ≡ command_named word.now }
+/// The command of the word that a text begins with.
+pub(crate) fn named(text: &[u8]) -> Option<Command>
+    ensures { result ≡ command_named (front_word text.now) }
 {
-    match word.split_first() {
+    match text.split_first() {
         Some((first, rest)) => named_after(*first, rest),
         None => None,
+    }
+}
+
+/// How many bytes the word of a system call has.
+fn call_size(name: CallName) -> usize
+    ensures { result ≡ length (call_word name) }
+{
+    match name {
+        CallName::Exit
+        | CallName::Sync
+        | CallName::Open
+        | CallName::Read
+        | CallName::Lock
+        | CallName::Poke
+        | CallName::Peek
+        | CallName::Tune
+        | CallName::Give
+        | CallName::Fund
+        | CallName::Bill => 4,
+        CallName::Spawn
+        | CallName::Yield
+        | CallName::Close
+        | CallName::Write
+        | CallName::Serve
+        | CallName::StreamRead => 5,
+        CallName::Unlock | CallName::Remove | CallName::StreamWrite => 6,
+        CallName::Default | CallName::Install => 7,
+    }
+}
+
+/// How many bytes the word of a command has.
+pub(crate) fn word_size(command: Command) -> usize
+    ensures { result ≡ length (command_word command) }
+{
+    match command {
+        Command::Raw => 3,
+        Command::Boot | Command::Tick | Command::Step => 4,
+        Command::Grant | Command::Image => 5,
+        Command::Frames => 6,
+        Command::Patience => 8,
+        Command::Call(name) => call_size(name),
     }
 }
 

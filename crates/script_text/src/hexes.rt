@@ -33,14 +33,9 @@ pub(crate) fn written(word: &[u8], bytes: &mut ArrayVec<u8, BLOCK_BYTES>) -> boo
     if word.len() < 2 || word.len() > MOST_WRITTEN || word.len() % 2 == 1 {
         return false;
     }
-    let mut block = [0; BLOCK_BYTES];
-    let to = &mut block[..word.len() / 2];
-    if decode_all(word, to) {
-        put_bytes(to, bytes);
-        true
-    } else {
-        false
-    }
+    // As many bytes as the word has, to be written over: no block is cleared for them.
+    put_bytes(&word[..word.len() / 2], bytes);
+    decode_all(word, bytes.as_mut_slice())
 }
 
 /// Whether a byte is a hex digit of either case.

@@ -7,11 +7,11 @@ ghost use Rattle.kernel_model.specs.Bytes.{hex_word};
 ghost use Rattle.kernel_model.specs.Script.{WRITE_DIGITS, IMAGE_DIGITS, amount_at, name_word, open_by, write_by, serve_by, stream_write_by, call_of, happens_by, loads_by, entry_of, is_blank, parsed_line};
 ghost use Rattle.script_text.specs.Answers.{Answers, SetsWithin};
 
-use crate::commands::{forms, named, sets_up};
+use crate::commands::{forms, named, sets_up, word_size};
 use crate::digits::name;
 use crate::hexes::{loaded, written};
 use crate::image_bytes::ImageBytes;
-use crate::words::{Reading, WordsRead, read_words, skip, word_end};
+use crate::words::{Reading, WordsRead, read_words, skip};
 use arrayvec::ArrayVec;
 use kernel_model::{BLOCK_BYTES, BareCall, BareEvent, CallName, Command, Kind};
 
@@ -267,8 +267,7 @@ pub fn parse_line<'a>(
     if is_blank_line(line) {
         return Ok(Entry::Blank);
     }
-    let end = word_end(line);
-    let Some(command) = named(&line[..end]) else {
+    let Some(command) = named(line) else {
         return Err(ScriptFault::UnknownCommand);
     };
     if sets_up(command) == booted {
@@ -278,7 +277,7 @@ pub fn parse_line<'a>(
         numbers: ArrayVec::new(),
         last: &line[..0],
     };
-    match read_words(forms(command), skip(line, end), &mut words) {
+    match read_words(forms(command), skip(line, word_size(command)), &mut words) {
         Reading::BadWord => Err(ScriptFault::BadWord),
         Reading::BadNumber => Err(ScriptFault::BadNumber),
         Reading::Said => entry_said(command, words.numbers.as_slice(), words.last, bytes),

@@ -4,16 +4,14 @@ ghost use Rattle.std.specs.Prelude.{◌≡◌, ◌≤◌, ◌+◌, ◌==◌, ℕ
 ghost use Rattle.arrayvec.specs.ArrayVec.{array_vec_len};
 ghost use Rattle.kernel_model.specs.World.{same_bytes};
 ghost use Rattle.kernel_model.specs.Script.{object_kinds, amounts, number_said, is_unlisted, is_bad_word, is_well_formed, words_said};
-ghost use Rattle.script_text.specs.Words.{word_length, words_left, said, failed, IsFirstNumber};
+ghost use Rattle.script_text.specs.Words.{word_length, words_left, said, failed, SaysFirst};
 
-use crate::digits::read_number;
+use crate::digits::{SPACE, first_number, read_number};
 use arrayvec::ArrayVec;
 use kernel_model::Form;
 
 /// The most words of a command after its own.
 pub(crate) const WORDS: usize = 5;
-
-const SPACE: u8 = b' ';
 
 /// The words of a line that were read: the numbers that they say, and the last of them.
 #[derive(Drop)]
@@ -41,7 +39,7 @@ fn first_space(text: &[u8]) -> Option<usize>
 }
 
 /// Where the first word of a text ends.
-pub(crate) fn word_end(text: &[u8]) -> usize
+fn word_end(text: &[u8]) -> usize
     ensures value { result ≡ word_length text.now }
     ensures within { result ≤ length text.now }
 {
@@ -173,21 +171,15 @@ fn nothing_left(rest: &[u8]) -> Reading
     }
 }
 
-/// The digit that is the first word of a text, where that is to be a number and has one digit.
-fn one_digit(form: Form, text: &[u8]) -> Option<u32>
-    ensures { IfSome result (λ n. IsFirstNumber form text.now n) }
+/// The number that is the first word of a text, and how many digits it has, where that word is to
+/// be a number and is one.
+fn number_first(form: Form, text: &[u8]) -> Option<(u32, usize)>
+    ensures { IfSome result (λ read. SaysFirst form text.now read.0 read.1) }
 {
-    let Form::Number = form else {
-        return None;
-    };
-    if text.is_empty() {
-        return None;
+    match form {
+        Form::Number => first_number(text),
+        Form::ObjectKind | Form::Amount | Form::Text => None,
     }
-    let digit = text[0];
-    if digit < b'0' || digit > b'9' || (text.len() > 1 && text[1] != SPACE) {
-        return None;
-    }
-    Some(u32::from(digit - b'0'))
 }
 
 /// Reads the words that are left, and puts their numbers behind others, and the last word in the
@@ -204,10 +196,10 @@ pub(crate) fn read_words<'a>(forms: &[Form], rest: &'a [u8], words: &mut WordsRe
         return Reading::BadWord;
     }
     let text = skip(rest, 1);
-    if let Some(n) = one_digit(forms[0], text) {
+    if let Some((n, size)) = number_first(forms[0], text) {
         words.numbers.push(n);
-        words.last = &text[..1];
-        return read_words(skip(forms, 1), skip(text, 1), words);
+        words.last = &text[..size];
+        return read_words(skip(forms, 1), skip(text, size), words);
     }
     let end = word_end(text);
     let word = &text[..end];

@@ -1,8 +1,10 @@
 use Rattle.std.proofs.Common.{rules, ◌≡◌, ◌∷◌, ◌∙◌, ap, sym}
 use Rattle.kernel_model.specs.Script.{command_named}
+use Rattle.script_text.specs.Words.{front_word}
+use Rattle.script_text.proofs.Spelling.{named-first}
 use Rattle.script_text.proofs.commands.named.Goals as goal
 
 pub returns-in-Some : goal.returns-in-Some
 returns-in-Some c =
-    let is : c.args.word.now ≡ c.in-Some.first.now ∷ c.in-Some.rest.now = search rules in
-    c.named_after.ensures ∙ ap command_named (sym is)
+    let is : c.args.text.now ≡ c.in-Some.first.now ∷ c.in-Some.rest.now = search rules in
+    c.named_after.ensures ∙ named-first c.in-Some.first.now c.in-Some.rest.now ∙ ap (λ text. command_named (front_word text)) (sym is)

@@ -13,7 +13,7 @@ pub returns-in-None : goal.returns-in-None
 returns-in-None t c = grind (arith, said-none c.args.words.now.numbers.items c.args.words.now.last.now c.args.forms.now c.args.rest.now c.word_end-end.result Form.Number, c.refused.ensures c.args.words.now.numbers.items c.args.words.now.last.now)
 
 pub returns-in-Some : goal.returns-in-Some
-returns-in-Some t c = grind (arith, said-some c.args.words.now.numbers.items c.args.words.now.last.now c.args.forms.now c.args.rest.now 1 c.in-Some.n Form.Number)
+returns-in-Some t c = grind (arith, said-some c.args.words.now.numbers.items c.args.words.now.last.now c.args.forms.now c.args.rest.now c.in-Some.size c.in-Some.n Form.Number)
 
 pub returns-in-Some-number_in : goal.returns-in-Some-number_in
 returns-in-Some-number_in t c = grind (arith, said-some c.args.words.now.numbers.items c.args.words.now.last.now c.args.forms.now c.args.rest.now c.word_end-end.result c.in-Some-number_in.n Form.Number)
