@@ -8,6 +8,7 @@ ghost use Rattle.kernel_state.specs.Stores.{cache_of};
 ghost use Rattle.call_needs.specs.Fetching.{FetchReady, FetchDone, PlaceDone, NamesFrame, moment, fetch_of, fetch_ahead_of, load_of, place_of, evict_of};
 ghost use Rattle.call_needs.specs.Planning.{HasRoomFrame, IsPlan, IsRoomIn};
 
+use crate::Access;
 use crate::bodies::frame_bytes;
 use crate::plans::{Place, Plan, Room};
 use disk_log::DiskLog;
@@ -16,53 +17,58 @@ use kernel_model::BLOCK_BYTES;
 use kernel_state::Store;
 use vino_base::{Disk, Failed};
 
-/// The block of a plan, for process p: the frame that holds it becomes the newest, or the block is
-/// read into the frame that the plan has for it. An answer names the frame in use that is evicted
-/// in place of the candidate.
+/// The block of a plan, for an access: the frame that holds it becomes the newest, or the block is
+/// read, by way of the buffer, into the frame that the plan has for it. An answer names the frame in
+/// use that is evicted in place of the candidate. What stands in the buffer isn't looked at.
 pub fn fetch<B: Policy, D: Disk>(
     store: &mut Store<B>,
     disk: &mut D,
     log: &mut DiskLog,
-    p: u8,
+    buffer: &mut [u8; BLOCK_BYTES],
+    r: Access,
     plan: Plan,
-    answer: Option<[u32; 4]>,
 ) -> Result<u8, Failed>
-    requires ready { FetchReady (moment store.old (D.seen disk.old) log.old) p answer [] }
+    requires ready { FetchReady (moment store.old (D.seen disk.old) log.old) r.p r.answer [] }
     requires plan { IsPlan store.old plan }
-    ensures { FetchDone (fetch_of store.old p plan.block answer)
+    ensures { FetchDone (fetch_of store.old r.p plan.block r.answer)
         (moment store.old (D.seen disk.old) log.old)
         (moment store.new (D.seen disk.new) log.new) result }
 {
-    let b = plan.block;
     match plan.place {
         Place::Held(f) => {
             store.touch(f);
             Ok(f)
         }
-        Place::Missing(room) => load(store, disk, log, Wanted { p, b, answer }, room),
+        Place::Missing(room) => {
+            let Access { p, answer, .. } = r;
+            let b = plan.block;
+            load(store, disk, log, buffer, Wanted { p, b, answer }, room)
+        }
     }
 }
 
-/// The block of a plan, ahead of a read of process p: where a frame holds it already, nothing
-/// changes.
+/// The block of a plan, ahead of a read: where a frame holds it already, nothing changes.
 pub fn fetch_ahead<B: Policy, D: Disk>(
     store: &mut Store<B>,
     disk: &mut D,
     log: &mut DiskLog,
-    p: u8,
+    buffer: &mut [u8; BLOCK_BYTES],
+    r: Access,
     plan: Plan,
-    answer: Option<[u32; 4]>,
 ) -> Result<u8, Failed>
-    requires ready { FetchReady (moment store.old (D.seen disk.old) log.old) p answer [] }
+    requires ready { FetchReady (moment store.old (D.seen disk.old) log.old) r.p r.answer [] }
     requires plan { IsPlan store.old plan }
-    ensures { FetchDone (fetch_ahead_of store.old p plan.block answer)
+    ensures { FetchDone (fetch_ahead_of store.old r.p plan.block r.answer)
         (moment store.old (D.seen disk.old) log.old)
         (moment store.new (D.seen disk.new) log.new) result }
 {
-    let b = plan.block;
     match plan.place {
         Place::Held(f) => Ok(f),
-        Place::Missing(room) => load(store, disk, log, Wanted { p, b, answer }, room),
+        Place::Missing(room) => {
+            let Access { p, answer, .. } = r;
+            let b = plan.block;
+            load(store, disk, log, buffer, Wanted { p, b, answer }, room)
+        }
     }
 }
 
@@ -74,11 +80,12 @@ struct Wanted {
     answer: Option<[u32; 4]>,
 }
 
-/// Reads a block that no frame holds into a frame.
+/// Reads a block that no frame holds into a frame, by way of the buffer.
 fn load<B: Policy, D: Disk>(
     store: &mut Store<B>,
     disk: &mut D,
     log: &mut DiskLog,
+    buffer: &mut [u8; BLOCK_BYTES],
     w: Wanted,
     room: Room,
 ) -> Result<u8, Failed>
@@ -91,9 +98,8 @@ fn load<B: Policy, D: Disk>(
         (moment store.old (D.seen disk.old) log.old)
         (moment store.new (D.seen disk.new) log.new) result }
 {
-    let mut bytes = [0; BLOCK_BYTES];
-    match log.read(disk, w.b, &mut bytes) {
-        Ok(()) => place(store, disk, log, w, room, &bytes),
+    match log.read(disk, w.b, buffer) {
+        Ok(()) => place(store, disk, log, w, room, buffer),
         Err(failed) => Err(failed),
     }
 }

@@ -66,7 +66,8 @@ fn turn<B: Policy>(store: &Store<B>, answer: Option<[u32; 4]>) -> u8
 }
 
 /// Process p goes to the back of the queue; then the process that the answer chooses, or by default
-/// the policy, gets a slice.
+/// the policy, gets a slice. It is always inlined: a slot for an answer would be copied for it.
+#[inline(always)]
 pub(crate) fn yield_turn<B: Policy>(
     piece: &mut u8,
     store: &mut Store<B>,

@@ -98,20 +98,15 @@ fn bare_piece<B: Policy, D: Disk>(
         BareCall::Write(fd, i, off) => {
             let bytes = work.bytes.as_slice();
             let len = bytes.len() as u32;
-            write(
-                store,
-                disk,
-                log,
-                Access {
-                    p,
-                    fd,
-                    i,
-                    off,
-                    len,
-                    answer,
-                },
-                bytes,
-            )
+            let access = Access {
+                p,
+                fd,
+                i,
+                off,
+                len,
+                answer,
+            };
+            write(store, disk, log, gave.buffer(), access, bytes)
         }
         BareCall::Sync => sync(store, disk, log),
         BareCall::TakeLock(u) => take_lock(store, p, u),

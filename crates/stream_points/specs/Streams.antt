@@ -1,16 +1,15 @@
 -- What the pieces of stream calls make of a call in flight, and the pieces of the definitions on a
 -- store.
-use Rattle.std.specs.Prelude.{◌≡◌, ℕ, ◌<◌, ◌≤◌, Bool, true, List, [], Option, Result}
-use Rattle.kernel_model.specs.declared.Refusal.{Refusal}
+use Rattle.std.specs.Prelude.{◌≡◌, ℕ, ◌<◌, ◌≤◌, Bool, true, List, []}
 use Rattle.kernel_model.specs.World.{Blocks}
 use Rattle.kernel_model.specs.Meaning.{Piece}
 use Rattle.kernel_model.specs.StreamPoints.{stream_fetches, stream_fits, stream_left}
 use Rattle.kernel_state.specs.declared.Store.{Store}
 use Rattle.kernel_state.specs.Stores.{world_of_store, objects_of}
+use Rattle.call_needs.specs.declared.Access.{Access}
 use Rattle.call_needs.specs.declared.Work.{Work}
 use Rattle.call_needs.specs.Needing.{block_meant}
 use Rattle.call_needs.specs.Works.{call_of, stage_of, answer_seen}
-use Rattle.stream_points.specs.declared.streams.Range.{Range}
 
 -- a call after its first piece, which took these bytes into it
 abbrev pub with_carried : List ℕ → Work → Work
@@ -31,13 +30,9 @@ pub record StreamContinues (old new : Work) : Type 0 where
   pub some : 1 ≤ stream_left (call_of new) new.piece
   pub fewer : stream_left (call_of new) new.piece < stream_left (call_of old) old.piece
 
--- the block of the disk of which process p reads a range, or the refusal
-abbrev pub block_read : {B : Type 0} {P : _} → Store B P → (p : ℕ) → Range → Result ℕ Refusal
-block_read s p r = block_meant s p r.fd r.i r.off r.len
-
--- the definitions' first piece of a stream read of a range
-abbrev pub taken_of : {B : Type 0} {P : _} → Store B P → Work → Range → Option (List ℕ) →
-    Blocks → List Bool → Piece
-taken_of s w r answer =
-    λ blocks io. stream_fetches (block_read s w.caller r) (call_of w) (world_of_store s)
-    (objects_of s) blocks w.caller r.off r.len (answer_seen s.ram w.caller answer) io
+-- the definitions' first piece of a stream read, for an access
+abbrev pub taken_of : {B : Type 0} {P : _} → Store B P → Work → Access → Blocks → List Bool →
+    Piece
+taken_of s w r =
+    λ blocks io. stream_fetches (block_meant s r.p r.fd r.i r.off r.len) (call_of w)
+    (world_of_store s) (objects_of s) blocks r.p r.off r.len (answer_seen s.ram r.p r.answer) io

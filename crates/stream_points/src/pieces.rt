@@ -10,7 +10,7 @@ ghost use Rattle.call_needs.specs.Works.{IsDue, call_of, stage_of, answer_seen};
 ghost use Rattle.call_pieces.specs.Matching.{comes_after, PieceMatches, PieceMatchesSome, ContinuesFrom, is_fault, goes_on};
 ghost use Rattle.call_needs.specs.Fetching.{has_failed};
 
-use crate::streams::{Range, change, give_out, take_block};
+use crate::streams::{change, give_out, take_block};
 use call_needs::laws::living_are_numbered;
 use call_needs::{Access, Gift, Work};
 use call_pieces::{Next, piece as plain_piece, write};
@@ -64,8 +64,15 @@ pub(crate) fn piece<B: Policy, D: Disk>(
     living_are_numbered(store);
     match work.call {
         BareCall::StreamRead(fd, i, off, len) if work.piece == 0 => {
-            let range = Range { fd, i, off, len };
-            take_block(work, store, disk, log, range, answer)
+            let access = Access {
+                p,
+                fd,
+                i,
+                off,
+                len,
+                answer,
+            };
+            take_block(work, store, disk, log, gave.buffer(), access)
         }
         BareCall::StreamRead(_, _, _, _) => {
             give_out(gave, store, p, answer, work.carried.as_slice());
@@ -77,20 +84,15 @@ pub(crate) fn piece<B: Policy, D: Disk>(
         BareCall::StreamWrite(fd, i, off) => {
             let bytes = work.carried.as_slice();
             let len = bytes.len() as u32;
-            write(
-                store,
-                disk,
-                log,
-                Access {
-                    p,
-                    fd,
-                    i,
-                    off,
-                    len,
-                    answer,
-                },
-                bytes,
-            )
+            let access = Access {
+                p,
+                fd,
+                i,
+                off,
+                len,
+                answer,
+            };
+            write(store, disk, log, gave.buffer(), access, bytes)
         }
         _ => plain_piece(work, store, answer, disk, log, gave),
     }

@@ -14,11 +14,11 @@ ghost use Rattle.call_needs.specs.Needing.{block_meant};
 ghost use Rattle.call_needs.specs.Fetching.{moment};
 ghost use Rattle.call_needs.specs.Works.{call_of, stage_of, answer_seen};
 ghost use Rattle.call_pieces.specs.Matching.{comes_after, PieceMatches, is_fault, goes_on};
-ghost use Rattle.stream_points.specs.Streams.{StreamContinues, block_read, taken_of, with_carried};
+ghost use Rattle.stream_points.specs.Streams.{StreamContinues, taken_of, with_carried};
 
 use arrayvec::ArrayVec;
 use call_needs::laws::living_are_numbered;
-use call_needs::{Gift, Work, copy_body, copy_bytes_of, fetch, plan_block};
+use call_needs::{Access, Gift, Work, copy_body, copy_bytes_of, fetch, plan_block};
 use call_pieces::Next;
 use disk_log::DiskLog;
 use graft_points::Policy;
@@ -35,35 +35,35 @@ pub(crate) struct Range {
     pub len: u32,
 }
 
-/// The first piece of a stream read: the bytes go into the call, and the open file stays as it is.
+/// The first piece of a stream read: the bytes go into the call, and the open file stays as it is. The
+/// block comes to its frame by way of the buffer.
 pub(crate) fn take_block<B: Policy, D: Disk>(
     work: &mut Work,
     store: &mut Store<B>,
     disk: &mut D,
     log: &mut DiskLog,
-    r: Range,
-    answer: Option<[u32; 4]>,
+    buffer: &mut [u8; BLOCK_BYTES],
+    r: Access,
 ) -> Next
-    requires alive { lives (queue_of store.old) work.old.caller ≡ true }
+    requires alive { lives (queue_of store.old) r.p ≡ true }
     requires call { call_of work.old ≡ StreamRead r.fd r.i r.off r.len }
     requires first { work.old.piece ≡ 0 }
     requires descriptor { r.fd < 4 }
     requires inside { r.off + r.len ≤ 512 }
     requires right { IsRightAnswer (objects_of store.old) (fetch_ask (world_of_store store.old)
-        (objects_of store.old).things (block_read store.old work.old.caller r)) answer }
+        (objects_of store.old).things (block_meant store.old r.p r.fd r.i r.off r.len)) r.answer }
     requires disk { store.old.size ≡ (D.seen disk.old).size }
     requires fresh { log.old ≡ [] }
-    ensures done { Serves (taken_of store.old work.old r answer)
+    ensures done { Serves (taken_of store.old work.old r)
         (moment store.old (D.seen disk.old) log.old) (moment store.new (D.seen disk.new) log.new)
         None result (stage_of work.new) }
     ensures gone { goes_on result ≡ true → StreamContinues work.old work.new }
 {
-    let p = work.caller;
-    let plan = match plan_block(store, p, r.fd as u8, r.i, r.off, r.len) {
+    let plan = match plan_block(store, r.p, r.fd as u8, r.i, r.off, r.len) {
         Ok(plan) => plan,
         Err(refusal) => return Next::Fails(refusal),
     };
-    match fetch(store, disk, log, p, plan, answer) {
+    match fetch(store, disk, log, buffer, r, plan) {
         Ok(f) => {
             work.carry_nothing();
             copy_bytes_of(store, f, r.off, r.len, &mut work.carried);

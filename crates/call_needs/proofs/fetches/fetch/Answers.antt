@@ -19,12 +19,12 @@ returns-in-Held g c =
     subst (λ x. IsPlaceOf s c.args.plan.block x) c.in-Held.is c.requires.plan.place in
     record {
       does = search rules;
-      some = subst (λ (x : CacheValue). FetchMatchesSome v (fetch_of s c.args.p c.args.plan.block c.args.answer)
+      some = subst (λ (x : CacheValue). FetchMatchesSome v (fetch_of s c.args.r.p c.args.plan.block c.args.r.answer)
           (Ok f) x c.args.log.now)
           (sym (ap (λ (x : Objects). x.things.cache) c.touch.ensures.changed.objects))
-          (fetch_held v (fetch_of s c.args.p c.args.plan.block c.args.answer) (used f (cache_of s)) f
+          (fetch_held v (fetch_of s c.args.r.p c.args.plan.block c.args.r.answer) (used f (cache_of s)) f
           c.args.log.now c.requires.ready.made
-          (λ blocks w. ap (λ (x : Option ℕ). fetch_by x v pol c.args.p c.args.plan.block c.args.answer
+          (λ blocks w. ap (λ (x : Option ℕ). fetch_by x v pol c.args.r.p c.args.plan.block c.args.r.answer
           (cache_of s) blocks w) held));
       keeps = search rules;
       calls = extends_none (g.D.Disk.seen c.args.disk.now) c.args.log.now;
@@ -37,7 +37,7 @@ returns-in-Missing g c =
     let pol = policies_of s 1 in
     let missing : frame_of_block (cache_of s) c.args.plan.block ≡ None =
     (subst (λ x. IsPlaceOf s c.args.plan.block x) c.in-Missing.is c.requires.plan.place).0 in
-    subst (λ (x : Option ℕ). FetchDone (λ blocks w. fetch_by x v pol c.args.p c.args.plan.block c.args.answer
+    subst (λ (x : Option ℕ). FetchDone (λ blocks w. fetch_by x v pol c.args.r.p c.args.plan.block c.args.r.answer
     (cache_of s) blocks w) (moment s (g.D.Disk.seen c.args.disk.now) c.args.log.now)
     (moment c.load.new.store (g.D.Disk.seen c.load.new.disk) c.load.new.log) c.load.result)
     (sym missing) c.load.ensures

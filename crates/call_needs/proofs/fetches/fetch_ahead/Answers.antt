@@ -17,9 +17,9 @@ returns-in-Held g c =
     subst (λ x. IsPlaceOf s c.args.plan.block x) c.in-Held.is c.requires.plan.place in
     record {
       does = search rules;
-      some = fetch_held v (fetch_ahead_of s c.args.p c.args.plan.block c.args.answer) (cache_of s) c.in-Held.f
+      some = fetch_held v (fetch_ahead_of s c.args.r.p c.args.plan.block c.args.r.answer) (cache_of s) c.in-Held.f
           c.args.log.now c.requires.ready.made
-          (λ blocks w. ap (λ (x : Option ℕ). fetch_ahead_by x v pol c.args.p c.args.plan.block c.args.answer
+          (λ blocks w. ap (λ (x : Option ℕ). fetch_ahead_by x v pol c.args.r.p c.args.plan.block c.args.r.answer
           (cache_of s) blocks w) held);
       keeps = search rules;
       calls = extends_none (g.D.Disk.seen c.args.disk.now) c.args.log.now;
@@ -32,8 +32,8 @@ returns-in-Missing g c =
     let pol = policies_of s 1 in
     let missing : frame_of_block (cache_of s) c.args.plan.block ≡ None =
     (subst (λ x. IsPlaceOf s c.args.plan.block x) c.in-Missing.is c.requires.plan.place).0 in
-    subst (λ (x : Option ℕ). FetchDone (λ blocks w. fetch_ahead_by x v pol c.args.p c.args.plan.block
-    c.args.answer (cache_of s) blocks w)
+    subst (λ (x : Option ℕ). FetchDone (λ blocks w. fetch_ahead_by x v pol c.args.r.p c.args.plan.block
+    c.args.r.answer (cache_of s) blocks w)
     (moment s (g.D.Disk.seen c.args.disk.now) c.args.log.now)
     (moment c.load.new.store (g.D.Disk.seen c.load.new.disk) c.load.new.log) c.load.result)
     (sym missing) c.load.ensures
